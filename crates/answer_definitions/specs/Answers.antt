@@ -1,0 +1,64 @@
+-- The exit status and the error line of each answer.
+use Rattle.std.specs.Prelude.{ℕ, List, [], ◌++◌, codes}
+use Rattle.std.specs.Fmt.{decimal}
+use Rattle.answer_definitions.specs.declared.usage.UsageCause.{UsageCause}
+use Rattle.answer_definitions.specs.declared.usage.UsageCause.TheVariants as usage
+use Rattle.answer_definitions.specs.declared.answer.Answer.{Answer}
+use Rattle.answer_definitions.specs.declared.answer.Answer.TheVariants as answer
+use Rattle.stream_definitions.specs.declared.faults.HeaderFault.{HeaderFault}
+use Rattle.stream_definitions.specs.declared.faults.HeaderFault.TheVariants as header
+use Rattle.stream_definitions.specs.declared.faults.LineFault.{LineFault}
+use Rattle.stream_definitions.specs.declared.faults.LineFault.TheVariants as line
+use Rattle.stream_definitions.specs.declared.faults.InputCause.{InputCause}
+use Rattle.stream_definitions.specs.declared.faults.InputCause.TheVariants as input
+
+-- the exit status of an answer; 2, 6 and 8 have none yet
+abbrev pub status_of : Answer → ℕ
+status_of answer.Done = 0
+status_of (answer.Usage fault) = 1
+status_of (answer.Input page line cause) = 3
+status_of answer.NotBuilt = 3
+status_of answer.Read = 4
+status_of (answer.Write page) = 5
+status_of answer.Memory = 7
+
+-- a cause is printed by its name
+abbrev pub usage_name : UsageCause → List ℕ
+usage_name usage.NoCommand = codes "NoCommand"
+usage_name usage.UnknownCommand = codes "UnknownCommand"
+usage_name usage.NotKeyValue = codes "NotKeyValue"
+usage_name usage.UnknownKey = codes "UnknownKey"
+usage_name usage.RepeatedKey = codes "RepeatedKey"
+usage_name usage.BadValue = codes "BadValue"
+
+abbrev pub header_name : HeaderFault → List ℕ
+header_name header.NotPwg = codes "NotPwg"
+header_name header.Resolution = codes "Resolution"
+header_name header.Width = codes "Width"
+header_name header.Height = codes "Height"
+header_name header.Kind = codes "Kind"
+header_name header.BytesPerLine = codes "BytesPerLine"
+header_name header.Order = codes "Order"
+header_name header.Transform = codes "Transform"
+
+abbrev pub line_name : LineFault → List ℕ
+line_name line.RunPastLine = codes "RunPastLine"
+line_name line.GroupPastPage = codes "GroupPastPage"
+
+abbrev pub input_name : InputCause → List ℕ
+input_name input.BadSync = codes "BadSync"
+input_name input.Truncated = codes "Truncated"
+input_name input.TooManyPages = codes "TooManyPages"
+input_name (input.Header fault) = header_name fault
+input_name (input.Line fault) = line_name fault
+
+-- The line that an answer writes on the error sink; a run that did all writes none.
+abbrev pub line_of : Answer → List ℕ
+line_of answer.Done = []
+line_of (answer.Usage fault) = codes "usage: word " ++ decimal fault.word ++ codes ": " ++ usage_name fault.cause ++ codes "\n"
+line_of (answer.Input page line cause) =
+    codes "input: page " ++ decimal page ++ codes " line " ++ decimal line ++ codes ": " ++ input_name cause ++ codes "\n"
+line_of answer.NotBuilt = codes "input: page 0 line 0: NotBuilt\n"
+line_of answer.Read = codes "read failed\n"
+line_of (answer.Write page) = codes "write failed: page " ++ decimal page ++ codes "\n"
+line_of answer.Memory = codes "out of memory\n"

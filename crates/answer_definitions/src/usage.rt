@@ -1,0 +1,25 @@
+//! What is wrong with a command line.
+
+/// Why a word is refused.
+#[derive(Clone, Copy, Debug, PartialEq, Eq)]
+pub enum UsageCause {
+    /// There is no word.
+    NoCommand,
+    /// The first word is no command.
+    UnknownCommand,
+    /// A word is not `key=value`.
+    NotKeyValue,
+    /// The command has no such key.
+    UnknownKey,
+    /// The key was given before.
+    RepeatedKey,
+    /// The value is none that the key takes.
+    BadValue,
+}
+
+/// The first word that is refused, counted from 1, and why.
+#[derive(Clone, Copy, Debug, PartialEq, Eq)]
+pub struct UsageFault {
+    pub word: u32,
+    pub cause: UsageCause,
+}

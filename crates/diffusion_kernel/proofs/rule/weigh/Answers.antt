@@ -1,0 +1,23 @@
+use Rattle.std.proofs.Common.{lit≤}
+use Rattle.diffusion_kernel.proofs.Sums.{fits, near_sum, plus, share_is}
+use Rattle.diffusion_kernel.proofs.rule.weigh.Goals as goal
+
+pub overflow_add-result-2 : goal.overflow_add-result-2
+overflow_add-result-2 c =
+    let two = plus c.parts.ensures.in_range c.parts-2.ensures.in_range (lit≤ tt) in
+    fits (plus two c.row_parts.ensures.in_range (lit≤ tt)) (lit≤ tt)
+
+pub overflow_add-result-3 : goal.overflow_add-result-3
+overflow_add-result-3 c =
+    let two = plus c.parts.ensures.in_range c.parts-2.ensures.in_range (lit≤ tt) in
+    let three = plus two c.row_parts.ensures.in_range (lit≤ tt) in
+    fits (plus three c.row_parts-2.ensures.in_range (lit≤ tt)) (lit≤ tt)
+
+pub returns : goal.returns
+returns c =
+    near_sum _ _ _ _ _ _ _ _
+    c.parts.ensures.in_range c.parts-2.ensures.in_range c.row_parts.ensures.in_range c.row_parts-2.ensures.in_range
+    (share_is _ _ _ (c.requires.same 0) c.parts.ensures.parts)
+    (share_is _ _ _ (c.requires.same 1) c.parts-2.ensures.parts)
+    c.row_parts.ensures.parts
+    c.row_parts-2.ensures.parts

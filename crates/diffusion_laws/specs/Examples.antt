@@ -1,0 +1,37 @@
+-- Words for worked examples.
+use Rattle.std.specs.Prelude.{ℕ, ℤ, pos, suc, zero, ◌+◌, Bool, List, [], ◌∷◌, length, map, slice_index, slice_index_or}
+use Rattle.diffusion_definitions.specs.Diffusion.{Table, Plane, value, errors, no_top, on}
+
+-- the plane with these rows of amounts, each as long as the first
+abbrev pub plane_of : List (List ℕ) → Plane
+plane_of rows = record { width = length (slice_index_or rows 0 []); height = length rows; amount = λ y x. slice_index (slice_index_or rows y []) x }
+
+-- n numbers from i on
+abbrev pub counted : ℕ → ℕ → List ℕ
+counted i zero = []
+counted i (suc n) = i ∷ counted (i + 1) n
+
+-- the errors of row y of a page with this plane
+abbrev pub errors_of_row : Table → Plane → ℕ → List ℤ
+errors_of_row k p y = map (λ x. errors k p no_top (y + 2) (x + 4)) (counted 0 p.width)
+
+-- the dots of row y of a page with this plane
+abbrev pub dots_of_row : Table → Plane → ℕ → List Bool
+dots_of_row k p y = map (λ x. on k p (errors k p no_top) y x) (counted 0 p.width)
+
+-- error e at one place of a list, and none at the places before it
+abbrev pub only_at : ℤ → ℕ → List ℤ
+only_at e zero = e ∷ []
+only_at e (suc i) = pos 0 ∷ only_at e i
+
+-- what a pixel of amount 0 gets from an error e at x - 1 and at x - 2 of its row
+abbrev pub given_by_same : Table → ℤ → List ℤ
+given_by_same k e = map (λ i. value k 0 (only_at e i) [] []) (counted 0 2)
+
+-- what it gets from an error e at x - 2 to x + 2, one row above
+abbrev pub given_by_row : Table → ℤ → List ℤ
+given_by_row k e = map (λ i. value k 0 [] (only_at e i) []) (counted 0 5)
+
+-- likewise two rows above
+abbrev pub given_by_row2 : Table → ℤ → List ℤ
+given_by_row2 k e = map (λ i. value k 0 [] [] (only_at e i)) (counted 0 5)

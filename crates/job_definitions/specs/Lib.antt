@@ -1,0 +1,4 @@
+pub mod RowCode
+pub mod Commands
+pub mod Machine
+pub mod JobEnds

@@ -1,0 +1,50 @@
+//! Why a print job stops.
+
+/// Why bytes are no command.
+#[derive(Clone, Copy, Debug, PartialEq, Eq)]
+pub enum JobCause {
+    /// No command of the table goes on with this byte.
+    Unknown,
+    /// A length that is not the command's.
+    BadLength,
+    /// A number out of its range.
+    BadValue,
+    /// A control byte of a coded row that is refused, or that goes past its row.
+    RunCode,
+}
+
+/// Why the machine refuses a command.
+#[derive(Clone, Copy, Debug, PartialEq, Eq)]
+pub enum EmuFault {
+    /// A raster outside graphics mode.
+    NotGraphics,
+    /// A length or a position before any unit was set.
+    NoUnit,
+    /// A command that needs margins, or a page length, before these were set.
+    NoMargins,
+    /// A raster whose steps are not the printer's.
+    Density,
+    /// A raster with another number of rows than the printer has nozzles.
+    Rows,
+    /// Up the page, or back to its start under a printed sheet.
+    Backward,
+    /// A raster between the printer's columns or rows.
+    OffGrid,
+    /// A place that is not on the sheet.
+    OffSheet,
+    /// A dot where a dot of the same ink is already.
+    Overprint,
+}
+
+/// Why a job ends before its last byte.
+#[derive(Clone, Copy, Debug, PartialEq, Eq)]
+pub enum JobStop {
+    /// The bytes are no command.
+    Reader(JobCause),
+    /// The bytes end inside a command.
+    Cut,
+    /// The machine refuses a command.
+    Machine(EmuFault),
+    /// A byte stands past the greatest length that is taken.
+    TooLong,
+}

@@ -1,0 +1,54 @@
+-- The dots that a page wants.
+use Rattle.std.specs.Prelude.{ℕ, zero, suc, ◌+◌, ◌*◌, ◌/◌, Bool, if◌then◌else◌, List, [], ◌∷◌}
+use Rattle.std.specs.List.{flat_map}
+use Rattle.printer_definitions.specs.declared.inks.Ink.{Ink}
+use Rattle.printer_definitions.specs.Inks.{inks_of}
+use Rattle.printer_definitions.specs.Printer.{Printer}
+use Rattle.diffusion_definitions.specs.Diffusion.{Plane, Table, errors, no_top, on}
+use Rattle.job_definitions.specs.Machine.{Dot}
+use Rattle.separation_definitions.specs.declared.window.Window.{Window}
+use Rattle.separation_definitions.specs.Amounts.{ink_plane}
+use Rattle.separation_definitions.specs.Windows.{window_of}
+use Rattle.stream_definitions.specs.Stream.{Page}
+
+-- The dots of a window: whether an ink has one in row y at column x.
+pub record Halftone : Type 0 where
+  pub width : ℕ
+  pub height : ℕ
+  pub dot : Ink → ℕ → ℕ → Bool
+
+-- The dots that row-by-row diffusion of each ink's amounts sets in the window of a page.
+abbrev pub halftone : Page → Printer → Table → Halftone
+halftone page p k =
+    let window : Window = window_of page.form p in
+    record {
+      width = window.width;
+      height = window.height;
+      dot = λ ink y x. let plane : Plane = ink_plane page p ink in on k plane (errors k plane no_top) y x;
+    }
+
+-- so many numbers, from one on
+abbrev pub count_from : ℕ → ℕ → List ℕ
+count_from n zero = []
+count_from n (suc many) = n ∷ count_from (n + 1) many
+
+-- where the dot of an ink in row y at column x of the window stands on paper
+abbrev pub place_of : Printer → Ink → ℕ → ℕ → Dot
+place_of p ink y x = record { ink = ink; x = x * 3600 / p.hdpi; y = (p.top + y) * 3600 / p.vdpi }
+
+abbrev pub pixel_dots : Printer → Halftone → Ink → ℕ → ℕ → List Dot
+pixel_dots p h ink y x = if h.dot ink y x then place_of p ink y x ∷ [] else []
+
+abbrev pub row_wanted : Printer → Halftone → Ink → ℕ → List Dot
+row_wanted p h ink y = flat_map (pixel_dots p h ink y) (count_from 0 h.width)
+
+abbrev pub ink_wanted : Printer → Halftone → Ink → List Dot
+ink_wanted p h ink = flat_map (row_wanted p h ink) (count_from 0 h.height)
+
+-- The dots of a halftone on paper, each once: ink by ink, row by row, from the left.
+abbrev pub dots_wanted : Printer → Halftone → List Dot
+dots_wanted p h = flat_map (ink_wanted p h) (inks_of p.inks)
+
+-- The dots that a page wants.
+abbrev pub wanted : Page → Printer → Table → List Dot
+wanted page p k = dots_wanted p (halftone page p k)

@@ -1,0 +1,4 @@
+pub mod Dots
+pub mod Weave
+pub mod PageBytes
+pub mod Printing

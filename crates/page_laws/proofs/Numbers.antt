@@ -1,0 +1,83 @@
+-- Places on paper, for resolutions of 360 and 720.
+use Rattle.std.proofs.Common.{◌≡◌, ℕ, zero, suc, ◌+◌, ◌-◌, ◌*◌, ◌/◌, ◌%◌, ◌<◌, ◌≤◌, ◌⊎◌, inl, inr, refl, sym, ◌∙◌, ap, arith, subst}
+use Rattle.std.proofs.Math.Nat.{mul-le-mul_right}
+use Rattle.std.proofs.lemmas.Nat.{mod-mul-add}
+use Rattle.printer_definitions.specs.Printer.{Printer, column_step, head_rows, nozzle_step, row_step, row_units}
+use Rattle.page_laws.specs.CanPrint.{CanPrint}
+
+places : (dpi n : ℕ) → (dpi ≡ 360) ⊎ (dpi ≡ 720) → n * 3600 / dpi ≡ n * (3600 / dpi)
+places dpi n (inl e) =
+    let at : n * 3600 / 360 ≡ n * (3600 / 360) = omega arith in
+    ap (λ d. n * 3600 / d) e ∙ at ∙ sym (ap (λ d. n * (3600 / d)) e)
+places dpi n (inr e) =
+    let at : n * 3600 / 720 ≡ n * (3600 / 720) = omega arith in
+    ap (λ d. n * 3600 / d) e ∙ at ∙ sym (ap (λ d. n * (3600 / d)) e)
+
+steps : (dpi : ℕ) → (dpi ≡ 360) ⊎ (dpi ≡ 720) → 1 ≤ 3600 / dpi
+steps dpi (inl e) = let P : ℕ → Type 0 = λ d. 1 ≤ 3600 / d in subst P (sym e) (omega arith)
+steps dpi (inr e) = let P : ℕ → Type 0 = λ d. 1 ≤ 3600 / d in subst P (sym e) (omega arith)
+
+units : (dpi : ℕ) → (dpi ≡ 360) ⊎ (dpi ≡ 720) → 720 / dpi * 5 ≡ 3600 / dpi
+units dpi (inl e) = ap (λ d. 720 / d * 5) e ∙ sym (ap (λ d. 3600 / d) e)
+units dpi (inr e) = ap (λ d. 720 / d * 5) e ∙ sym (ap (λ d. 3600 / d) e)
+
+most : (dpi : ℕ) → (dpi ≡ 360) ⊎ (dpi ≡ 720) → 3600 / dpi ≤ 255
+most dpi (inl e) = let P : ℕ → Type 0 = λ d. 3600 / d ≤ 255 in subst P (sym e) (omega arith)
+most dpi (inr e) = let P : ℕ → Type 0 = λ d. 3600 / d ≤ 255 in subst P (sym e) (omega arith)
+
+-- a page of the greatest height is 22 inches long
+longest : (dpi n : ℕ) → (dpi ≡ 360) ⊎ (dpi ≡ 720) → n ≤ 15840 * dpi / 720 → n * (720 / dpi) ≤ 15840
+longest dpi n (inl e) h =
+    let P : ℕ → Type 0 = λ d. n ≤ 15840 * d / 720 in
+    let Q : ℕ → Type 0 = λ d. n * (720 / d) ≤ 15840 in
+    let low : n ≤ 15840 * 360 / 720 = subst P e h in
+    subst Q (sym e) (omega arith)
+longest dpi n (inr e) h =
+    let P : ℕ → Type 0 = λ d. n ≤ 15840 * d / 720 in
+    let Q : ℕ → Type 0 = λ d. n * (720 / d) ≤ 15840 in
+    let low : n ≤ 15840 * 720 / 720 = subst P e h in
+    subst Q (sym e) (omega arith)
+
+-- What follows for a printer.
+pub row_place : (p : Printer) (n : ℕ) → CanPrint p → n * 3600 / p.vdpi ≡ n * row_step p
+row_place p n c = places p.vdpi n c.down
+
+pub column_place : (p : Printer) (n : ℕ) → CanPrint p → n * 3600 / p.hdpi ≡ n * column_step p
+column_place p n c = places p.hdpi n c.across
+
+pub row_step-some : (p : Printer) → CanPrint p → 1 ≤ row_step p
+row_step-some p c = steps p.vdpi c.down
+
+pub column_step-some : (p : Printer) → CanPrint p → 1 ≤ column_step p
+column_step-some p c = steps p.hdpi c.across
+
+pub column_step-most : (p : Printer) → CanPrint p → column_step p ≤ 255
+column_step-most p c = most p.hdpi c.across
+
+pub row_units-is : (p : Printer) → CanPrint p → row_units p * 5 ≡ row_step p
+row_units-is p c = units p.vdpi c.down
+
+pub row_units-some : (p : Printer) → CanPrint p → 1 ≤ row_units p
+row_units-some p c = omega (arith, row_units-is p c, row_step-some p c)
+
+pub nozzle_step-is : (p : Printer) → CanPrint p → nozzle_step p ≡ p.pitch * row_step p
+nozzle_step-is p c = row_place p p.pitch c
+
+pub nozzle_step-some : (p : Printer) → CanPrint p → 1 ≤ nozzle_step p
+nozzle_step-some p c =
+    let product : 1 * row_step p ≤ p.pitch * row_step p = mul-le-mul_right (row_step p) c.some_pitch in
+    omega (arith, nozzle_step-is p c, row_step-some p c)
+
+pub sheet-longest : (p : Printer) (n : ℕ) → CanPrint p → n ≤ 15840 * p.vdpi / 720 → n * row_units p ≤ 15840
+sheet-longest p n c h = longest p.vdpi n c.down h
+
+-- whole steps are on the grid
+pub on_grid : (n step : ℕ) → 1 ≤ step → (n * step) % step ≡ 0
+on_grid n step some =
+    let same : n * step + 0 ≡ n * step = omega arith in
+    ap (λ m. m % step) (sym same) ∙ mod-mul-add n step 0 (omega arith)
+
+-- rows and columns stand in their order
+pub rises : (a b step : ℕ) → 1 ≤ step → a < b → a * step < b * step
+rises a b step some less =
+    let more : (a + 1) * step ≤ b * step = mul-le-mul_right step (omega arith) in omega arith

@@ -1,0 +1,201 @@
+-- The dots that a page wants are distinct.
+use Rattle.std.proofs.Common.{◌≡◌, ℕ, zero, suc, ◌+◌, ◌*◌, ◌/◌, ◌<◌, ◌≤◌, Bool, true, false, cond, ◌&&◌, ◌||◌, ◌==◌, if◌then◌else◌, List, [], ◌∷◌, ◌++◌, refl, sym, ◌∙◌, ap, arith, zero-add, subst, append_assoc}
+use Rattle.std.proofs.lemmas.Bool.{eqb-true}
+use Rattle.std.proofs.lemmas.Bool.Decides.{nat_tests}
+use Rattle.std.proofs.lemmas.List.Sums.{sum_by-append}
+use Rattle.std.specs.List.{list_any, count_by, flat_map, sum_by}
+use Rattle.printer_definitions.specs.declared.inks.Ink.{Ink}
+use Rattle.printer_definitions.specs.declared.inks.Ink.TheVariants.{Black, Cyan, Magenta, Yellow}
+use Rattle.printer_definitions.specs.declared.inks.InkSet.{InkSet}
+use Rattle.printer_definitions.specs.declared.inks.InkSet.TheVariants.{K, Cmy, Cmyk}
+use Rattle.printer_definitions.specs.Inks.{ink_place, inks_of, same_ink}
+use Rattle.printer_definitions.specs.Printer.{Printer, column_step, row_step}
+use Rattle.job_definitions.specs.Machine.{Dot, is_at}
+use Rattle.page_definitions.specs.Dots.{Halftone, count_from, dots_wanted, ink_wanted, pixel_dots, place_of, row_wanted}
+use Rattle.page_definitions.specs.Printing.{Exactly}
+use Rattle.page_laws.specs.CanPrint.{CanPrint}
+use Rattle.page_laws.proofs.Numbers.{column_place, column_step-some, rises, row_place, row_step-some}
+
+-- ---- counts
+
+pub count-append : {X : Type 0} (test : X → Bool) (xs ys : List X) → count_by test (xs ++ ys) ≡ count_by test xs + count_by test ys
+count-append test xs ys = sum_by-append (λ x. cond (test x) 1 0) xs ys
+
+pub count-cons : {X : Type 0} (test : X → Bool) (x : X) (xs : List X) → count_by test (x ∷ xs) ≡ cond (test x) 1 0 + count_by test xs
+count-cons test x xs =
+    let apart : count_by test (x ∷ xs) ≡ count_by test (x ∷ []) + count_by test xs = count-append test (x ∷ []) xs in
+    let single : count_by test (x ∷ []) ≡ cond (test x) 1 0 = zero-add _ in
+    apart ∙ ap (λ n. n + count_by test xs) single
+
+sum-cons : {X : Type 0} (g : X → ℕ) (x : X) (xs : List X) → sum_by g (x ∷ xs) ≡ g x + sum_by g xs
+sum-cons g x xs =
+    let apart : sum_by g (x ∷ xs) ≡ sum_by g (x ∷ []) + sum_by g xs = sum_by-append g (x ∷ []) xs in
+    let single : sum_by g (x ∷ []) ≡ g x = zero-add _ in
+    apart ∙ ap (λ n. n + sum_by g xs) single
+
+-- lists that are put together hold as much as their parts
+flat-most : {X Y : Type 0} (test : Y → Bool) (f : X → List Y) (g : X → ℕ) (xs : List X) → ((x : X) → count_by test (f x) ≤ g x)
+    → count_by test (flat_map f xs) ≤ sum_by g xs
+flat-most test f g [] each = omega arith
+flat-most test f g (x ∷ xs) each =
+    omega (arith, count-append test (f x) (flat_map f xs), sum-cons g x xs, each x, flat-most test f g xs each)
+
+flat-none : {X Y : Type 0} (test : Y → Bool) (f : X → List Y) (xs : List X) → ((x : X) → count_by test (f x) ≡ 0)
+    → count_by test (flat_map f xs) ≡ 0
+flat-none test f [] each = refl
+flat-none test f (x ∷ xs) each = omega (arith, count-append test (f x) (flat_map f xs), each x, flat-none test f xs each)
+
+-- where one is counted at most, the count says whether there is one
+few : {X : Type 0} (test : X → Bool) (xs : List X) → count_by test xs ≤ 1 → count_by test xs ≡ (if list_any test xs then 1 else 0)
+few test [] le = refl
+few test (x ∷ xs) le = by_head (test x) refl (few test xs)
+  where
+    by_head : (b : Bool) → test x ≡ b → (count_by test xs ≤ 1 → count_by test xs ≡ (if list_any test xs then 1 else 0)) → count_by test (x ∷ xs) ≡ (if list_any test (x ∷ xs) then 1 else 0)
+    by_head true e rest =
+        let count : count_by test (x ∷ xs) ≡ 1 + count_by test xs = count-cons test x xs ∙ ap (λ b. cond b 1 0 + count_by test xs) e in
+        let is_one : count_by test (x ∷ xs) ≡ 1 = omega arith in
+        is_one ∙ sym (ap (λ b. if b || list_any test xs then 1 else 0) e)
+    by_head false e rest =
+        let count : count_by test (x ∷ xs) ≡ 0 + count_by test xs = count-cons test x xs ∙ ap (λ b. cond b 1 0 + count_by test xs) e in
+        let same : count_by test (x ∷ xs) ≡ count_by test xs = omega arith in
+        same ∙ rest (omega arith) ∙ sym (ap (λ b. if b || list_any test xs then 1 else 0) e)
+
+-- ---- one number among rising ones
+
+past-all : (place : ℕ → ℕ) → ((a b : ℕ) → a < b → place a < place b) → (z n m : ℕ) → z < place n
+    → sum_by (λ i. cond (z == place i) 1 0) (count_from n m) ≡ 0
+past-all place up z n zero left = refl
+past-all place up z n (suc m) left =
+    let apart : (z == place n) ≡ false = grind (arith, nat_tests) in
+    let next : place n < place (n + 1) = up n (n + 1) (omega arith) in
+    sum-cons (λ i. cond (z == place i) 1 0) n (count_from (n + 1) m)
+    ∙ ap (λ b. cond b 1 0 + sum_by (λ i. cond (z == place i) 1 0) (count_from (n + 1) m)) apart
+    ∙ ap (λ k. 0 + k) (past-all place up z (n + 1) m (omega arith))
+
+at-most-one : (place : ℕ → ℕ) → ((a b : ℕ) → a < b → place a < place b) → (z n m : ℕ)
+    → sum_by (λ i. cond (z == place i) 1 0) (count_from n m) ≤ 1
+at-most-one place up z n zero = omega arith
+at-most-one place up z n (suc m) = by_place (z == place n) refl (at-most-one place up z (n + 1) m)
+  where
+    by_place : (b : Bool) → (z == place n) ≡ b → sum_by (λ i. cond (z == place i) 1 0) (count_from (n + 1) m) ≤ 1
+        → sum_by (λ i. cond (z == place i) 1 0) (count_from n (suc m)) ≤ 1
+    by_place true e le =
+        let same : z ≡ place n = eqb-true _ _ e in
+        let next : place n < place (n + 1) = up n (n + 1) (omega arith) in
+        let right : sum_by (λ i. cond (z == place i) 1 0) (count_from (n + 1) m) ≡ 0 = past-all place up z (n + 1) m (omega arith) in
+        let all : sum_by (λ i. cond (z == place i) 1 0) (count_from n (suc m)) ≡ 1 + sum_by (λ i. cond (z == place i) 1 0) (count_from (n + 1) m) =
+            sum-cons (λ i. cond (z == place i) 1 0) n (count_from (n + 1) m) ∙ ap (λ b. cond b 1 0 + sum_by (λ i. cond (z == place i) 1 0) (count_from (n + 1) m)) e in
+        omega arith
+    by_place false e le =
+        let all : sum_by (λ i. cond (z == place i) 1 0) (count_from n (suc m)) ≡ 0 + sum_by (λ i. cond (z == place i) 1 0) (count_from (n + 1) m) =
+            sum-cons (λ i. cond (z == place i) 1 0) n (count_from (n + 1) m) ∙ ap (λ b. cond b 1 0 + sum_by (λ i. cond (z == place i) 1 0) (count_from (n + 1) m)) e in
+        omega arith
+
+-- ---- the dots of a halftone
+
+-- a test of three parts counts no more than each of them
+part-most : (a b d : Bool) → record { first : cond (a && b && d) 1 0 ≤ cond a 1 0; second : cond (a && b && d) 1 0 ≤ cond b 1 0; third : cond (a && b && d) 1 0 ≤ cond d 1 0 }
+part-most true true true = record { first = omega arith; second = omega arith; third = omega arith }
+part-most true true false = record { first = omega arith; second = omega arith; third = omega arith }
+part-most true false true = record { first = omega arith; second = omega arith; third = omega arith }
+part-most true false false = record { first = omega arith; second = omega arith; third = omega arith }
+part-most false b d = record { first = omega arith; second = omega arith; third = omega arith }
+
+pixel-most : (p : Printer) (h : Halftone) (d : Dot) (ink : Ink) (y x : ℕ) → count_by (is_at d) (pixel_dots p h ink y x) ≤ cond (is_at d (place_of p ink y x)) 1 0
+pixel-most p h d ink y x = by_dot (h.dot ink y x)
+  where
+    by_dot : (b : Bool) → count_by (is_at d) (if b then place_of p ink y x ∷ [] else []) ≤ cond (is_at d (place_of p ink y x)) 1 0
+    by_dot true = omega (arith, count-cons (is_at d) (place_of p ink y x) [])
+    by_dot false = omega arith
+
+row-once : (p : Printer) (h : Halftone) (d : Dot) (ink : Ink) (y : ℕ) → CanPrint p → count_by (is_at d) (row_wanted p h ink y) ≤ 1
+row-once p h d ink y c =
+    let place : ℕ → ℕ = λ x. x * 3600 / p.hdpi in
+    let up : (a b : ℕ) → a < b → place a < place b = λ a b less.
+        let r : a * column_step p < b * column_step p = rises a b (column_step p) (column_step-some p c) less in
+        omega (arith, column_place p a c, column_place p b c) in
+    let sum : count_by (is_at d) (row_wanted p h ink y) ≤ sum_by (λ x. cond (d.x == place x) 1 0) (count_from 0 h.width) =
+        flat-most (is_at d) (pixel_dots p h ink y) (λ x. cond (d.x == place x) 1 0) (count_from 0 h.width)
+        (λ x. let e = pixel-most p h d ink y x in
+          let q = part-most (same_ink d.ink ink) (d.x == place x) (d.y == (p.top + y) * 3600 / p.vdpi) in omega (arith, e, q.second)) in
+    omega (arith, sum, at-most-one place up d.x 0 h.width)
+
+row-of : (p : Printer) (h : Halftone) (d : Dot) (ink : Ink) (y : ℕ) → CanPrint p
+    → count_by (is_at d) (row_wanted p h ink y) ≤ cond (d.y == (p.top + y) * 3600 / p.vdpi) 1 0
+row-of p h d ink y c = by_row (d.y == (p.top + y) * 3600 / p.vdpi) refl
+  where
+    by_row : (b : Bool) → (d.y == (p.top + y) * 3600 / p.vdpi) ≡ b → count_by (is_at d) (row_wanted p h ink y) ≤ cond b 1 0
+    by_row true e = row-once p h d ink y c
+    by_row false e =
+        let none : count_by (is_at d) (row_wanted p h ink y) ≡ 0 =
+            flat-none (is_at d) (pixel_dots p h ink y) (count_from 0 h.width)
+            (λ x. let f = pixel-most p h d ink y x in
+              let q = (part-most (same_ink d.ink ink) (d.x == x * 3600 / p.hdpi) (d.y == (p.top + y) * 3600 / p.vdpi)).third in
+              let one_if : Bool → ℕ = λ b. cond b 1 0 in
+              let off : one_if (d.y == (p.top + y) * 3600 / p.vdpi) ≡ 0 = ap one_if e in
+              omega (arith, f, q, off)) in
+        omega (arith, none)
+
+ink-once : (p : Printer) (h : Halftone) (d : Dot) (ink : Ink) → CanPrint p → count_by (is_at d) (ink_wanted p h ink) ≤ 1
+ink-once p h d ink c =
+    let place : ℕ → ℕ = λ y. (p.top + y) * 3600 / p.vdpi in
+    let up : (a b : ℕ) → a < b → place a < place b = λ a b less.
+        let r : (p.top + a) * row_step p < (p.top + b) * row_step p = rises (p.top + a) (p.top + b) (row_step p) (row_step-some p c) (omega arith) in
+        omega (arith, row_place p (p.top + a) c, row_place p (p.top + b) c) in
+    let sum : count_by (is_at d) (ink_wanted p h ink) ≤ sum_by (λ y. cond (d.y == place y) 1 0) (count_from 0 h.height) =
+        flat-most (is_at d) (row_wanted p h ink) (λ y. cond (d.y == place y) 1 0) (count_from 0 h.height) (λ y. row-of p h d ink y c) in
+    omega (arith, sum, at-most-one place up d.y 0 h.height)
+
+ink-of : (p : Printer) (h : Halftone) (d : Dot) (ink : Ink) → CanPrint p → count_by (is_at d) (ink_wanted p h ink) ≤ cond (same_ink d.ink ink) 1 0
+ink-of p h d ink c = by_same (same_ink d.ink ink) refl
+  where
+    by_same : (b : Bool) → same_ink d.ink ink ≡ b → count_by (is_at d) (ink_wanted p h ink) ≤ cond b 1 0
+    by_same true e = ink-once p h d ink c
+    by_same false e =
+        let none : count_by (is_at d) (ink_wanted p h ink) ≡ 0 =
+            flat-none (is_at d) (row_wanted p h ink) (count_from 0 h.height) (λ y.
+              flat-none (is_at d) (pixel_dots p h ink y) (count_from 0 h.width) (λ x.
+                let f = pixel-most p h d ink y x in
+                let q = (part-most (same_ink d.ink ink) (d.x == x * 3600 / p.hdpi) (d.y == (p.top + y) * 3600 / p.vdpi)).first in
+                let one_if : Bool → ℕ = λ b. cond b 1 0 in
+                let off : one_if (same_ink d.ink ink) ≡ 0 = ap one_if e in
+                omega (arith, f, q, off))) in
+        omega (arith, none)
+
+-- a set has an ink once
+set-most : (set : InkSet) (i : Ink) → sum_by (λ ink. cond (same_ink i ink) 1 0) (inks_of set) ≤ 1
+set-most K Black = omega arith
+set-most K Cyan = omega arith
+set-most K Magenta = omega arith
+set-most K Yellow = omega arith
+set-most Cmy Black = omega arith
+set-most Cmy Cyan = omega arith
+set-most Cmy Magenta = omega arith
+set-most Cmy Yellow = omega arith
+set-most Cmyk Black = omega arith
+set-most Cmyk Cyan = omega arith
+set-most Cmyk Magenta = omega arith
+set-most Cmyk Yellow = omega arith
+
+-- No dot stands twice in the list.
+abbrev pub Once : List Dot → Type 0
+Once dots = (d : Dot) → count_by (is_at d) dots ≤ 1
+
+pub wanted-once : (p : Printer) (h : Halftone) → CanPrint p → Once (dots_wanted p h)
+wanted-once p h c d =
+    let sum : count_by (is_at d) (dots_wanted p h) ≤ sum_by (λ ink. cond (same_ink d.ink ink) 1 0) (inks_of p.inks) =
+        flat-most (is_at d) (ink_wanted p h) (λ ink. cond (same_ink d.ink ink) 1 0) (inks_of p.inks) (λ ink. ink-of p h d ink c) in
+    omega (arith, sum, set-most p.inks d.ink)
+
+-- Dots that stand once are exactly themselves.
+pub exactly : (dots places : List Dot) → dots ≡ places → Once places → Exactly dots places
+exactly dots places e once = record { counts = λ d. ap (count_by (is_at d)) e ∙ few (is_at d) places (once d) }
+
+-- ---- dots among others
+
+pub once-front : (a b more : List Dot) → Once (a ++ (b ++ more)) → Once (a ++ b)
+once-front a b more once d =
+    omega (arith, once d, count-append (is_at d) a (b ++ more), count-append (is_at d) b more, count-append (is_at d) a b)
+
+pub once-regroup : (a b more : List Dot) → Once (a ++ (b ++ more)) → Once ((a ++ b) ++ more)
+once-regroup a b more once = let P : List Dot → Type 0 = λ ds. Once ds in subst P (sym (append_assoc a b more)) once

@@ -1,0 +1,102 @@
+-- Rows of dots that are packed into bytes are taken out again.
+use Rattle.std.proofs.Common.{◌≡◌, ℕ, zero, suc, ◌+◌, ◌*◌, ◌/◌, ◌-◌, ◌≤◌, Bool, true, false, ◌&&◌, List, [], ◌∷◌, ◌++◌, length, take, drop, refl, sym, ◌∙◌, ap, arith, length-drop}
+use Rattle.std.proofs.lemmas.List.{take_all}
+use Rattle.job_definitions.specs.Machine.{bits, byte_bits}
+use Rattle.page_definitions.specs.PageBytes.{at, packed, packed_byte, packed_bytes, worth}
+
+-- the byte of eight bits
+abbrev worths : Bool → Bool → Bool → Bool → Bool → Bool → Bool → Bool → ℕ
+worths a b d e f g h i = worth a 128 + worth b 64 + worth d 32 + worth e 16 + worth f 8 + worth g 4 + worth h 2 + worth i 1
+
+same_bits : List Bool → List Bool → Bool
+same_bits [] [] = true
+same_bits [] (y ∷ ys) = false
+same_bits (true ∷ xs) [] = false
+same_bits (false ∷ xs) [] = false
+same_bits (true ∷ xs) (true ∷ ys) = same_bits xs ys
+same_bits (true ∷ xs) (false ∷ ys) = false
+same_bits (false ∷ xs) (true ∷ ys) = false
+same_bits (false ∷ xs) (false ∷ ys) = same_bits xs ys
+
+same_bits-is : (xs ys : List Bool) → same_bits xs ys ≡ true → xs ≡ ys
+unfolding same_bits
+same_bits-is [] [] e = refl
+same_bits-is [] (y ∷ ys) e = cc
+same_bits-is (true ∷ xs) [] e = cc
+same_bits-is (false ∷ xs) [] e = cc
+same_bits-is (true ∷ xs) (true ∷ ys) e = ap (λ zs. true ∷ zs) (same_bits-is xs ys e)
+same_bits-is (true ∷ xs) (false ∷ ys) e = cc
+same_bits-is (false ∷ xs) (true ∷ ys) e = cc
+same_bits-is (false ∷ xs) (false ∷ ys) e = ap (λ zs. false ∷ zs) (same_bits-is xs ys e)
+
+-- a test of both truth values
+abbrev both : (Bool → Bool) → Bool
+both test = test true && test false
+
+both-at : (test : Bool → Bool) → both test ≡ true → (b : Bool) → test b ≡ true
+both-at test e true = first (test true) (test false) e
+  where
+    first : (x y : Bool) → x && y ≡ true → x ≡ true
+    first true y e = refl
+    first false y e = e
+both-at test e false = second (test true) (test false) e
+  where
+    second : (x y : Bool) → x && y ≡ true → y ≡ true
+    second true y e = e
+    second false true e = refl
+    second false false e = e
+
+test_byte : Bool → Bool → Bool → Bool → Bool → Bool → Bool → Bool → Bool
+test_byte a b d e f g h i = same_bits (byte_bits (worths a b d e f g h i)) (a ∷ b ∷ d ∷ e ∷ f ∷ g ∷ h ∷ i ∷ [])
+
+all_bytes : both (λ a. both (λ b. both (λ d. both (λ e. both (λ f. both (λ g. both (λ h. both (λ i. test_byte a b d e f g h i)))))))) ≡ true
+unfolding test_byte same_bits
+all_bytes = refl
+
+pub byte_bits-worths : (a b d e f g h i : Bool) → byte_bits (worths a b d e f g h i) ≡ a ∷ b ∷ d ∷ e ∷ f ∷ g ∷ h ∷ i ∷ []
+unfolding test_byte
+byte_bits-worths a b d e f g h i =
+    let from_h : Bool → Bool = λ x. both (λ z. test_byte a b d e f g x z) in
+    let from_g : Bool → Bool = λ x. both (λ y. both (λ z. test_byte a b d e f x y z)) in
+    let from_f : Bool → Bool = λ x. both (λ w. both (λ y. both (λ z. test_byte a b d e x w y z))) in
+    let from_e : Bool → Bool = λ x. both (λ v. both (λ w. both (λ y. both (λ z. test_byte a b d x v w y z)))) in
+    let from_d : Bool → Bool = λ x. both (λ u. both (λ v. both (λ w. both (λ y. both (λ z. test_byte a b x u v w y z))))) in
+    let from_b : Bool → Bool = λ x. both (λ t. both (λ u. both (λ v. both (λ w. both (λ y. both (λ z. test_byte a x t u v w y z)))))) in
+    let from_a : Bool → Bool = λ x. both (λ s. both (λ t. both (λ u. both (λ v. both (λ w. both (λ y. both (λ z. test_byte x s t u v w y z))))))) in
+    same_bits-is _ _ (both-at (test_byte a b d e f g h) (both-at from_h (both-at from_g (both-at from_f (both-at from_e (both-at from_d (both-at from_b (both-at from_a all_bytes a) b) d) e) f) g) h) i)
+
+-- the first byte of a row, as it is taken out
+front : (n : ℕ) (row : List Bool) → take (length row) (bits (packed_bytes (suc n) row))
+    ≡ take (length row) (at row 0 ∷ at row 1 ∷ at row 2 ∷ at row 3 ∷ at row 4 ∷ at row 5 ∷ at row 6 ∷ at row 7 ∷ bits (packed_bytes n (drop 8 row)))
+front n row = ap (λ bs. take (length row) (bs ++ bits (packed_bytes n (drop 8 row))))
+    (byte_bits-worths (at row 0) (at row 1) (at row 2) (at row 3) (at row 4) (at row 5) (at row 6) (at row 7))
+
+-- the packed bytes hold the row, and blanks behind it
+pub bits-packed_bytes : (n : ℕ) (row : List Bool) → length row ≤ n * 8 → take (length row) (bits (packed_bytes n row)) ≡ row
+bits-packed_bytes zero [] fits = refl
+bits-packed_bytes zero (a ∷ row) fits = absurd (omega arith)
+bits-packed_bytes (suc n) [] fits = refl
+bits-packed_bytes (suc n) (a ∷ []) fits = front n (a ∷ [])
+bits-packed_bytes (suc n) (a ∷ b ∷ []) fits = front n (a ∷ b ∷ [])
+bits-packed_bytes (suc n) (a ∷ b ∷ d ∷ []) fits = front n (a ∷ b ∷ d ∷ [])
+bits-packed_bytes (suc n) (a ∷ b ∷ d ∷ e ∷ []) fits = front n (a ∷ b ∷ d ∷ e ∷ [])
+bits-packed_bytes (suc n) (a ∷ b ∷ d ∷ e ∷ f ∷ []) fits = front n (a ∷ b ∷ d ∷ e ∷ f ∷ [])
+bits-packed_bytes (suc n) (a ∷ b ∷ d ∷ e ∷ f ∷ g ∷ []) fits = front n (a ∷ b ∷ d ∷ e ∷ f ∷ g ∷ [])
+bits-packed_bytes (suc n) (a ∷ b ∷ d ∷ e ∷ f ∷ g ∷ h ∷ []) fits = front n (a ∷ b ∷ d ∷ e ∷ f ∷ g ∷ h ∷ [])
+bits-packed_bytes (suc n) (a ∷ b ∷ d ∷ e ∷ f ∷ g ∷ h ∷ i ∷ row) fits =
+    front n (a ∷ b ∷ d ∷ e ∷ f ∷ g ∷ h ∷ i ∷ row)
+    ∙ ap (λ rest. a ∷ b ∷ d ∷ e ∷ f ∷ g ∷ h ∷ i ∷ rest) (bits-packed_bytes n row (omega arith))
+
+pub packed_bytes-len : (n : ℕ) (row : List Bool) → length (packed_bytes n row) ≡ n
+packed_bytes-len zero row = refl
+packed_bytes-len (suc n) row = ap suc (packed_bytes-len n (drop 8 row))
+
+-- a row of dots, packed, is taken out whole
+pub row-packed : (width : ℕ) (row : List Bool) → length row ≡ width → take width (bits (take ((width + 7) / 8) (packed row))) ≡ row
+row-packed width row e =
+    let bytes : ℕ = (length row + 7) / 8 in
+    let fits : length row ≤ bytes * 8 = omega arith in
+    let whole : take bytes (packed row) ≡ packed row = take_all bytes (packed row) (omega (arith, packed_bytes-len bytes row)) in
+    ap (λ w. take w (bits (take ((w + 7) / 8) (packed row)))) (sym e)
+    ∙ ap (λ bs. take (length row) (bits bs)) whole
+    ∙ bits-packed_bytes bytes row fits

@@ -1,0 +1,2 @@
+pub mod Inks
+pub mod Printer

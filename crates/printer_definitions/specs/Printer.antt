@@ -1,0 +1,65 @@
+-- A printer, and what follows from its numbers. Places on paper are in 1/3600 inch.
+use Rattle.std.specs.Prelude.{ℕ, ◌+◌, ◌-◌, ◌*◌, ◌/◌, List, [], ◌∷◌, slice_index}
+use Rattle.printer_definitions.specs.declared.inks.Ink.{Ink}
+use Rattle.printer_definitions.specs.declared.inks.InkSet.{InkSet}
+use Rattle.printer_definitions.specs.declared.inks.InkSet.TheVariants.{K}
+use Rattle.printer_definitions.specs.Inks.{ink_place}
+
+-- A printer: its resolutions, its head, its inks and its margins.
+pub record Printer : Type 0 where
+  -- dots an inch across the page, and rows an inch down it
+  pub hdpi : ℕ
+  pub vdpi : ℕ
+  -- nozzles of each ink, and rows from one nozzle to the next
+  pub nozzles : ℕ
+  pub pitch : ℕ
+  pub inks : InkSet
+  -- the least darkness of a colour page that is moved into black
+  pub black_start : ℕ
+  -- the greatest amounts of black, cyan, magenta and yellow
+  pub limits : List ℕ
+  -- the margins, in pixels of the page
+  pub left : ℕ
+  pub right : ℕ
+  pub top : ℕ
+  pub bottom : ℕ
+
+-- from one column of dots to the next
+abbrev pub column_step : Printer → ℕ
+column_step p = 3600 / p.hdpi
+
+-- from one row of dots to the next
+abbrev pub row_step : Printer → ℕ
+row_step p = 3600 / p.vdpi
+
+-- from one nozzle to the next
+abbrev pub nozzle_step : Printer → ℕ
+nozzle_step p = p.pitch * 3600 / p.vdpi
+
+-- a row of dots in units of 5/3600 inch
+abbrev pub row_units : Printer → ℕ
+row_units p = 720 / p.vdpi
+
+-- how many rows the first nozzle stands above the last
+abbrev pub head_rows : Printer → ℕ
+head_rows p = (p.nozzles - 1) * p.pitch
+
+-- the greatest amount of an ink
+abbrev pub limit_of : Printer → Ink → ℕ
+limit_of p ink = slice_index p.limits (ink_place ink)
+
+-- the built-in printer `tiny1`: 360 dots an inch, one nozzle, black, no margins
+abbrev pub tiny1 : Printer
+tiny1 = record {
+  hdpi = 360;
+  vdpi = 360;
+  nozzles = 1;
+  pitch = 1;
+  inks = K;
+  black_start = 0;
+  limits = 255 ∷ 255 ∷ 255 ∷ 255 ∷ [];
+  left = 0;
+  right = 0;
+  top = 0;
+  bottom = 0;
+}

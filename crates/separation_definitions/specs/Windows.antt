@@ -1,0 +1,26 @@
+-- The part of a page that a printer prints, and the pages that it takes.
+use Rattle.std.specs.Prelude.{ℕ, ◌+◌, ◌-◌, ◌*◌, ◌/◌}
+use Rattle.printer_definitions.specs.Printer.{Printer}
+use Rattle.separation_definitions.specs.declared.window.Window.{Window}
+use Rattle.stream_definitions.specs.declared.pages.PageForm.{PageForm}
+use Rattle.stream_definitions.specs.declared.pages.Wanted.{Wanted}
+
+-- the page without its four margins
+abbrev pub window_of : PageForm → Printer → Window
+window_of form p = record {
+  left = p.left;
+  top = p.top;
+  width = form.width - (p.left + p.right);
+  height = form.height - (p.top + p.bottom);
+}
+
+-- The pages that a printer takes: a pixel at least inside its margins, 8,191 columns and 22 inches at most.
+abbrev pub wanted_by : Printer → Wanted
+wanted_by p = record {
+  hdpi = p.hdpi;
+  vdpi = p.vdpi;
+  least_width = p.left + p.right + 1;
+  most_width = 8191;
+  least_height = p.top + p.bottom + 1;
+  most_height = 15840 * p.vdpi / 720;
+}

@@ -1,0 +1,46 @@
+//! Why a stream is refused.
+
+/// Why a page header is refused. The variants stand in the order in which the checks are made.
+#[derive(Clone, Copy, Debug, PartialEq, Eq)]
+pub enum HeaderFault {
+    /// It does not begin with `PwgRaster`.
+    NotPwg,
+    /// Its resolution is not the wanted one.
+    Resolution,
+    /// It is too narrow or too wide.
+    Width,
+    /// It is too short or too tall.
+    Height,
+    /// Its bits and colour space are no row of the table of kinds.
+    Kind,
+    /// Its bytes a line are not those that its width takes.
+    BytesPerLine,
+    /// Its colours do not stand side by side.
+    Order,
+    /// One of its transforms is neither 0 nor 1.
+    Transform,
+}
+
+/// Why a group of lines is refused.
+#[derive(Clone, Copy, Debug, PartialEq, Eq)]
+pub enum LineFault {
+    /// A packet has more units than are left in the line.
+    RunPastLine,
+    /// The line is to stand more often than there are lines left in the page.
+    GroupPastPage,
+}
+
+/// Why a stream is refused.
+#[derive(Clone, Copy, Debug, PartialEq, Eq)]
+pub enum InputCause {
+    /// It does not begin with the sync word `RaS2`.
+    BadSync,
+    /// It ends inside a page.
+    Truncated,
+    /// More bytes follow page 9,999.
+    TooManyPages,
+    /// A page's header is refused.
+    Header(HeaderFault),
+    /// A group of lines is refused.
+    Line(LineFault),
+}

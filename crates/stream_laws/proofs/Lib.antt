@@ -1,0 +1,5 @@
+pub mod Packets
+pub mod GroupLaws
+pub mod GroupFaults
+pub mod PageLaws
+pub mod HeaderLaws

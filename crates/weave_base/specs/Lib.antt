@@ -1,0 +1,4 @@
+pub mod Causes
+pub mod InMemory
+pub mod Parts
+pub mod Words

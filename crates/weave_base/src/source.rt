@@ -1,0 +1,25 @@
+//! Where bytes come from.
+ghost use Rattle.std.specs.Io.{ReadsAtMost};
+ghost use Rattle.std.specs.Io.KnownBytes.{ReadConsumes};
+ghost use Rattle.std.specs.Prelude.{List, Option, ℕ};
+ghost use Rattle.weave_base.specs.Causes.{HasCause};
+
+use crate::Failed;
+
+/// Bytes, read from the front.
+pub trait Source {
+    /// The bytes that are left, where the source tells them.
+    ghost left: { Self → Option (List ℕ) };
+
+    /// How many reads failed. The count never falls, and may stand still at the last value of 64 bits.
+    ghost faults: { Self → ℕ };
+
+    /// Reads the next bytes into the front of `buf` and says how many. What `buf` holds behind them is left open.
+    ///
+    /// A buffer that is not empty gets no byte only at the end. `Err` takes no byte, and comes only where the count
+    /// of faults rose; the source may be read again.
+    fn read(&mut self, buf: &mut [u8]) -> Result<usize, Failed>
+        ensures bound { ReadsAtMost result buf.new }
+        ensures bytes { ReadConsumes (left self.old) (left self.new) result buf.new }
+        ensures cause { HasCause (faults self.old) (faults self.new) result };
+}
