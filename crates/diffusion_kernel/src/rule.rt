@@ -27,7 +27,7 @@ pub struct Dot {
     pub err: i16,
 }
 
-/// The parts of an error that make a share.
+/// A share of an error, in parts.
 #[inline]
 fn parts(share: u8, err: i16) -> i32
     requires { InRange err }
@@ -37,7 +37,7 @@ fn parts(share: u8, err: i16) -> i32
     i32::from(share) * i32::from(err)
 }
 
-/// The parts that a row above gives: its errors from right to left, by the shares from left to right.
+/// What a row above gives, in parts: its errors from the right, by the shares from the left.
 #[inline]
 fn row_parts(shares: &[u8; 5], errs: &[i16; 5]) -> i32
     requires { EachInRange errs.now }
@@ -51,7 +51,7 @@ fn row_parts(shares: &[u8; 5], errs: &[i16; 5]) -> i32
         + parts(shares[4], errs[0])
 }
 
-/// The parts that the errors near a pixel give to it.
+/// What the errors near a pixel give to it, in parts.
 #[inline]
 fn weigh(shares: &Shares, errs: &Near) -> i32
     requires same { EachInRange errs.now.same }
@@ -103,8 +103,7 @@ impl Kernel {
         }
     }
 
-    /// What a pixel of amount `a` shows among the errors near it. Pixels beside the plane and rows above it have the
-    /// error 0.
+    /// What a pixel of amount `a` shows among the errors near it. Beside the plane and above the page they are 0.
     #[inline]
     #[tactic(auto, unfolding(diffusion_definitions::specs::Diffusion::value))]
     pub fn pixel(self, a: u8, errs: &Near) -> Dot

@@ -1,7 +1,6 @@
 -- Errors stay in range: those of a row below two rows in range are, and so are those of a plane below such a top.
-use Rattle.std.proofs.Common.{ℕ, ℤ, pos, suc, zero, ◌≡◌, ◌<◌, ◌≤◌, ◌+◌, List, [], ◌∷◌, arith}
+use Rattle.std.proofs.Common.{ℕ, ℤ, suc, zero, ◌<◌, ◌≤◌, ◌+◌}
 use Rattle.std.proofs.lemmas.Bool.{cond_both}
-use Rattle.std.proofs.lemmas.Int.{ints}
 use Rattle.std.specs.Prelude.{nat_lt}
 use Rattle.diffusion_definitions.specs.Diffusion.{Table, Plane, Errors, divisor, errors, row_errors, row_width, five, InRange, EachInRange, HasAmounts, TopInRange}
 use Rattle.diffusion_definitions.proofs.Ranges.{five_in, none_in, pixel_in, two_in}

@@ -1,4 +1,5 @@
 pub mod InPlane
+pub mod Places
 pub mod Slab
 pub mod SlabDots
 pub mod Solve

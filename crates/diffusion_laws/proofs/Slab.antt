@@ -1,14 +1,14 @@
 -- The errors of a plane from row s on are those of its rest below the errors of rows s-2 and s-1.
-use Rattle.std.proofs.Common.{ℕ, ℤ, pos, suc, zero, ◌≡◌, ◌+◌, ◌-◌, ◌<◌, ◌≤◌, ◌∙◌, Bool, true, false, cond, ltb, ap, refl, sym, arith, inl, inr}
+use Rattle.std.proofs.Common.{ℕ, ℤ, suc, zero, ◌≡◌, ◌+◌, ◌-◌, ◌<◌, ◌≤◌, ◌∙◌, cond, ltb, ap, refl, sym, arith, inl, inr}
 use Rattle.std.proofs.lemmas.Bool.{cases_lt, lt-ltb, le-ltb}
 use Rattle.diffusion_definitions.specs.Diffusion.{Table, Plane, Errors, errors, row_errors, row_width, rest, cut}
 
 -- row y of the rest is row s + y of the plane
 pub same_high : (p : Plane) (s y : ℕ) → ltb y (p.height - s) ≡ ltb (s + y) p.height
 same_high p s y = elim (cases_lt (s + y) p.height) [
-    inl in_plane ↦ lt-ltb y (p.height - s) (omega arith) ∙ sym (lt-ltb (s + y) p.height in_plane)
-    | inr below ↦ le-ltb y (p.height - s) (omega arith) ∙ sym (le-ltb (s + y) p.height below)
-  ]
+  | inl in_plane ↦ lt-ltb y (p.height - s) (omega arith) ∙ sym (lt-ltb (s + y) p.height in_plane)
+  | inr below ↦ le-ltb y (p.height - s) (omega arith) ∙ sym (le-ltb (s + y) p.height below)
+]
 
 same_width : (p : Plane) (s y : ℕ) → row_width (rest s p) y ≡ row_width p (s + y)
 same_width p s y = ap (λ b. cond b p.width 0) (same_high p s y)

@@ -1,7 +1,7 @@
 -- The errors by recursion solve the rule, and they are its one solution.
-use Rattle.std.proofs.Common.{ℕ, ℤ, pos, suc, zero, ◌≡◌, ◌+◌, ◌<◌, ◌≤◌, ◌∙◌, Bool, true, false, cond, ltb, ap, refl, sym, arith, List, [], ◌∷◌}
+use Rattle.std.proofs.Common.{ℕ, ℤ, pos, suc, zero, ◌≡◌, ◌+◌, ◌<◌, ◌≤◌, ◌∙◌, true, false, cond, ltb, ap, refl, sym, arith, [], ◌∷◌}
 use Rattle.std.proofs.lemmas.Bool.{lt-ltb, le-ltb}
-use Rattle.diffusion_definitions.specs.Diffusion.{Table, Plane, Errors, errors, row_errors, row_width, five, value, value_at, error_of, Solves}
+use Rattle.diffusion_definitions.specs.Diffusion.{Table, Plane, Errors, errors, row_errors, row_width, five, value, error_of, Solves}
 
 width_in : (p : Plane) (y : ℕ) → y < p.height → row_width p y ≡ p.width
 width_in p y h = ap (λ b. cond b p.width 0) (lt-ltb y p.height h)
@@ -68,15 +68,15 @@ errors_solve k p top =
     let e : Errors = errors k p top in
     record {
       pixel = λ y x inside wide.
-        let row : ℕ → ℕ → ℤ = λ w. row_errors k (e y) (e (y + 1)) w (p.amount y) in
-        let same : e (y + 2) ≡ row p.width = row_of k p top y ∙ ap row (width_in p y inside) in
-        let at : (ℕ → ℤ) → ℤ = λ r. error_of (value k (p.amount y x) (r (x + 3) ∷ r (x + 2) ∷ []) (five (e (y + 1)) (x + 2)) (five (e y) (x + 2))) in
-        at_place _ _ (x + 4) same ∙ row_pixel k (e y) (e (y + 1)) p.width (p.amount y) x wide ∙ ap at (sym same);
+          let row : ℕ → ℕ → ℤ = λ w. row_errors k (e y) (e (y + 1)) w (p.amount y) in
+          let same : e (y + 2) ≡ row p.width = row_of k p top y ∙ ap row (width_in p y inside) in
+          let at : (ℕ → ℤ) → ℤ = λ r. error_of (value k (p.amount y x) (r (x + 3) ∷ r (x + 2) ∷ []) (five (e (y + 1)) (x + 2)) (five (e y) (x + 2))) in
+          at_place _ _ (x + 4) same ∙ row_pixel k (e y) (e (y + 1)) p.width (p.amount y) x wide ∙ ap at (sym same);
       left = λ y n few. at_place _ _ n (row_of k p top y) ∙ row_left k (e y) (e (y + 1)) (row_width p y) (p.amount y) n few;
       right = λ y x far.
-        let small : row_width p y ≤ x = width_most p y x far in
-        at_place _ _ (x + 4) (row_of k p top y) ∙ row_right k (e y) (e (y + 1)) (row_width p y) (p.amount y) x small;
-      below = λ y n far. at_place _ _ n (row_of k p top y) ∙ row_none k (e y) (e (y + 1)) (row_width p y) (p.amount y) n (width_below p y far)
+          let small : row_width p y ≤ x = width_most p y x far in
+          at_place _ _ (x + 4) (row_of k p top y) ∙ row_right k (e y) (e (y + 1)) (row_width p y) (p.amount y) x small;
+      below = λ y n far. at_place _ _ n (row_of k p top y) ∙ row_none k (e y) (e (y + 1)) (row_width p y) (p.amount y) n (width_below p y far);
     }
 
 pub errors_top : (k : Table) (p : Plane) (top : Errors) → (n : ℕ) → (errors k p top 0 n ≡ top 0 n) × (errors k p top 1 n ≡ top 1 n)

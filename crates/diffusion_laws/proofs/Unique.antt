@@ -1,5 +1,5 @@
 -- Two tables that solve the rule below the same top are the same.
-use Rattle.std.proofs.Common.{ℕ, ℤ, pos, suc, zero, ◌≡◌, ◌+◌, ◌<◌, ◌≤◌, ◌∙◌, ap, refl, sym, arith, List, [], ◌∷◌, inl, inr}
+use Rattle.std.proofs.Common.{ℕ, ℤ, suc, zero, ◌≡◌, ◌+◌, ◌∙◌, ap, sym, arith, List, [], ◌∷◌, inl, inr}
 use Rattle.std.proofs.lemmas.Bool.{cases_lt}
 use Rattle.diffusion_definitions.specs.Diffusion.{Table, Plane, Errors, five, value, value_at, error_of, Solves}
 
@@ -29,12 +29,12 @@ row_same k p e f y s t up1 up2 (suc (suc (suc (suc x)))) =
     let h3 : e (y + 2) (x + 3) ≡ f (y + 2) (x + 3) = ap (e (y + 2)) three ∙ row_same k p e f y s t up1 up2 (suc (suc (suc x))) ∙ sym (ap (f (y + 2)) three) in
     let h2 : e (y + 2) (x + 2) ≡ f (y + 2) (x + 2) = ap (e (y + 2)) two ∙ row_same k p e f y s t up1 up2 (suc (suc x)) ∙ sym (ap (f (y + 2)) two) in
     ap (e (y + 2)) four ∙ elim (cases_lt y p.height) [
-        inl high ↦ elim (cases_lt x p.width) [
-            inl wide ↦ s.pixel y x high wide ∙ ap error_of (value_same k p e f y x h3 h2 up1 up2) ∙ sym (t.pixel y x high wide)
-            | inr far ↦ s.right y x far ∙ sym (t.right y x far)
-          ]
-        | inr below ↦ s.below y (x + 4) below ∙ sym (t.below y (x + 4) below)
-      ] ∙ sym (ap (f (y + 2)) four)
+      | inl high ↦ elim (cases_lt x p.width) [
+        | inl wide ↦ s.pixel y x high wide ∙ ap error_of (value_same k p e f y x h3 h2 up1 up2) ∙ sym (t.pixel y x high wide)
+        | inr far ↦ s.right y x far ∙ sym (t.right y x far)
+      ]
+      | inr below ↦ s.below y (x + 4) below ∙ sym (t.below y (x + 4) below)
+    ] ∙ sym (ap (f (y + 2)) four)
 
 pub unique : (k : Table) (p : Plane) (e f : Errors) → Solves k p e → Solves k p f
     → ((n : ℕ) → e 0 n ≡ f 0 n) → ((n : ℕ) → e 1 n ≡ f 1 n) → (y n : ℕ) → e y n ≡ f y n
@@ -44,5 +44,5 @@ unique k p e f s t top0 top1 (suc (suc y)) n =
     let two : suc (suc y) ≡ y + 2 = omega arith in
     let one : y + 1 ≡ suc y = omega arith in
     ap (λ m. e m n) two ∙ row_same k p e f y s t
-        (λ m. ap (λ q. e q m) one ∙ unique k p e f s t top0 top1 (suc y) m ∙ sym (ap (λ q. f q m) one))
-        (unique k p e f s t top0 top1 y) n ∙ sym (ap (λ m. f m n) two)
+    (λ m. ap (λ q. e q m) one ∙ unique k p e f s t top0 top1 (suc y) m ∙ sym (ap (λ q. f q m) one))
+    (unique k p e f s t top0 top1 y) n ∙ sym (ap (λ m. f m n) two)

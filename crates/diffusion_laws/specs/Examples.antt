@@ -1,10 +1,22 @@
 -- Words for worked examples.
-use Rattle.std.specs.Prelude.{ℕ, ℤ, pos, suc, zero, ◌+◌, Bool, List, [], ◌∷◌, length, map, slice_index, slice_index_or}
+use Rattle.std.specs.Prelude.{ℕ, ℤ, pos, suc, zero, ◌+◌, ◌-ℤ◌, Bool, List, [], ◌∷◌, length, map, replicate, slice_index, slice_index_or}
 use Rattle.diffusion_definitions.specs.Diffusion.{Table, Plane, value, errors, no_top, on}
 
 -- the plane with these rows of amounts, each as long as the first
 abbrev pub plane_of : List (List ℕ) → Plane
 plane_of rows = record { width = length (slice_index_or rows 0 []); height = length rows; amount = λ y x. slice_index (slice_index_or rows y []) x }
+
+-- one row of n pixels of amount 128
+abbrev pub row_of_halves : ℕ → Plane
+row_of_halves n = plane_of (replicate n 128 ∷ [])
+
+-- two rows of four pixels, of which only the second gets dots
+abbrev pub two_rows : Plane
+two_rows = plane_of ((46 ∷ 46 ∷ 46 ∷ 46 ∷ []) ∷ (96 ∷ 96 ∷ 96 ∷ 92 ∷ []) ∷ [])
+
+-- a number below 0
+abbrev pub minus : ℕ → ℤ
+minus n = pos 0 -ℤ pos n
 
 -- n numbers from i on
 abbrev pub counted : ℕ → ℕ → List ℕ

@@ -1,1 +1,2 @@
 pub mod CanPrint
+pub mod Examples

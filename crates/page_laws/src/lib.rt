@@ -1,6 +1,11 @@
-//! Laws of pages on paper: the dots that a page wants are distinct, and its bytes print them.
+//! Laws of pages on paper: the dots that a page wants are distinct, and its bytes print them; and worked pages.
 #![tactic(auto)]
 
+mod examples;
 mod laws;
 
+pub use examples::{
+    amounts_of_grey_128, black_page_with_margins, pages_that_are_taken, small_page_has_its_bytes,
+    small_page_is_printed, small_page_wants_two_dots, two_rows_are_fired, window_inside_margins,
+};
 pub use laws::{pages_are_printed, wanted_are_distinct};

@@ -24,9 +24,11 @@ fn begin(out: &mut [u8; HEADER_LEN])
     out[..10].copy_from_slice(b"PwgRaster\0");
 }
 
-/// Writes the header of a page of this form, at a resolution in dots an inch: one copy, one colour and no turning.
+/// Writes the header of a page of this form, at a resolution in dots an inch: one copy, and no turning.
 pub fn write_header(f: &PageForm, hdpi: u32, vdpi: u32, out: &mut [u8; HEADER_LEN])
     ensures bytes { out.new ≡ header_bytes f.now hdpi vdpi }
+
+    // Whoever wants this resolution and a page of this form accepts the header.
     ensures accepted { (want : Wanted) → want.hdpi ≡ hdpi → want.vdpi ≡ vdpi → IsWanted want f.now
         → check want (header_of out.new) ≡ Ok f.now }
 {

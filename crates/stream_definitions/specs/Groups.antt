@@ -80,7 +80,8 @@ units_of left n = if nat_lt n 128 then n + 1 else (if n == 128 then left else 25
 
 -- the first `count` of the bytes as a packet makes them, and the bytes after them
 abbrev pub packet_from : (List ℕ → Packet) → ℕ → List ℕ → PacketRead
-packet_from make count bytes = if nat_lt (length bytes) count then Short else One (make (take count bytes)) (drop count bytes)
+packet_from make count bytes =
+    if nat_lt (length bytes) count then Short else One (make (take count bytes)) (drop count bytes)
 
 -- the packet of this first byte
 abbrev pub packet_of : KindRow → ℕ → List ℕ → PacketRead
@@ -119,7 +120,8 @@ unfoldable pub line_at : KindRow → ℕ → ℕ → GroupFront → List ℕ →
 line_at row most zero front bytes = Group front.repeats front.line bytes
 line_at row zero (suc left) front bytes = Part
 line_at row (suc most) (suc left) front bytes = elim (packet_at row (suc left) bytes) [
-  | One p rest ↦ line_at row most (suc left - packet_units (suc left) p) (with_packet row (suc left) p front) rest
+  | One p rest ↦
+      line_at row most (suc left - packet_units (suc left) p) (with_packet row (suc left) p front) rest
   | Short ↦ Part
   | Long ↦ Wrong front.place RunPastLine
 ]

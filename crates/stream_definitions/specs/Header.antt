@@ -23,7 +23,14 @@ pub record KindRow : Type 0 where
 
 -- the row of a kind
 abbrev pub row_of : Kind → KindRow
-row_of Gray8 = record { kind = Gray8; color_space = 18; bits_per_color = 8; bits_per_pixel = 8; unit = 1; white = 255 ∷ [] }
+row_of Gray8 = record {
+  kind = Gray8;
+  color_space = 18;
+  bits_per_color = 8;
+  bits_per_pixel = 8;
+  unit = 1;
+  white = 255 ∷ [];
+}
 
 -- how many colours a pixel has
 abbrev pub colors_of : KindRow → ℕ
@@ -70,7 +77,9 @@ header_of bytes = record {
 
 -- whether a header names this kind
 abbrev pub has_kind : Header → KindRow → Bool
-has_kind h row = (h.color_space == row.color_space) && (h.bits_per_color == row.bits_per_color) && (h.bits_per_pixel == row.bits_per_pixel)
+has_kind h row =
+    (h.color_space == row.color_space) && (h.bits_per_color == row.bits_per_color)
+    && (h.bits_per_pixel == row.bits_per_pixel)
 
 -- the row of the kind that a header names
 abbrev pub kind_of : Header → Option KindRow
@@ -101,7 +110,12 @@ first_fault (test ∷ tests) = if test.0 then Some test.1 else first_fault tests
 -- the form of a page of this kind
 abbrev pub form_of : Header → Option KindRow → Result PageForm HeaderFault
 form_of h None = Err fault.Kind
-form_of h (Some row) = Ok (record { width = h.width; height = h.height; kind = row.kind; bytes_per_line = h.bytes_per_line })
+form_of h (Some row) = Ok (record {
+  width = h.width;
+  height = h.height;
+  kind = row.kind;
+  bytes_per_line = h.bytes_per_line;
+})
 
 -- a header's first fault, or the form of its page
 abbrev pub check : Wanted → Header → Result PageForm HeaderFault
@@ -126,12 +140,14 @@ abbrev pub with_numbers : List (ℕ × ℕ) → List ℕ → List ℕ
 with_numbers [] bytes = bytes
 with_numbers (field ∷ fields) bytes = with_numbers fields (with_bytes field.0 (to_be_bytes w32 field.1) bytes)
 
--- the numbers of a written header that are not 0, by their offsets
+-- the numbers of a written header by their offsets; all others are 0
 abbrev pub header_numbers : PageForm → KindRow → ℕ → ℕ → List (ℕ × ℕ)
 header_numbers form row hdpi vdpi =
     (276, hdpi) ∷ (280, vdpi) ∷ (340, 1) ∷ (372, form.width) ∷ (376, form.height) ∷ (384, row.bits_per_color)
-    ∷ (388, row.bits_per_pixel) ∷ (392, form.bytes_per_line) ∷ (400, row.color_space) ∷ (420, colors_of row) ∷ (456, 1) ∷ (460, 1) ∷ []
+    ∷ (388, row.bits_per_pixel) ∷ (392, form.bytes_per_line) ∷ (400, row.color_space) ∷ (420, colors_of row)
+    ∷ (456, 1) ∷ (460, 1) ∷ []
 
 -- the header that a writer makes: 1,796 bytes, 00 but for `PwgRaster` and these numbers
 unfoldable pub header_bytes : PageForm → ℕ → ℕ → List ℕ
-header_bytes form hdpi vdpi = with_numbers (header_numbers form (row_of form.kind) hdpi vdpi) (with_bytes 0 pwg_raster (replicate 1796 0))
+header_bytes form hdpi vdpi =
+    with_numbers (header_numbers form (row_of form.kind) hdpi vdpi) (with_bytes 0 pwg_raster (replicate 1796 0))

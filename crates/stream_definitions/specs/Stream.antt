@@ -44,7 +44,8 @@ unfoldable pub lines_at : KindRow → ℕ → ℕ → ℕ → ℕ → List ℕ �
 lines_at row units height most zero bytes = Lines [] bytes
 lines_at row units height zero (suc left) bytes = Stop (height - suc left + 1) cause.Truncated
 lines_at row units height (suc most) (suc left) bytes = elim (group_at row units (suc left) bytes) [
-  | Group repeats line rest ↦ with_lines (replicate repeats line) (lines_at row units height most (suc left - repeats) rest)
+  | Group repeats line rest ↦
+      with_lines (replicate repeats line) (lines_at row units height most (suc left - repeats) rest)
   | Part ↦ Stop (height - suc left + 1) cause.Truncated
   | Wrong place fault ↦ Stop (height - suc left + 1) (cause.Line fault)
 ]
@@ -63,7 +64,8 @@ page_of form (Stop line cause) = Broken line cause
 
 -- the lines of a page of this form
 abbrev pub lines_of : PageForm → List ℕ → LinesRead
-lines_of form bytes = lines_at (row_of form.kind) (line_units (row_of form.kind) form.width) form.height form.height form.height bytes
+lines_of form bytes =
+    let row = row_of form.kind in lines_at row (line_units row form.width) form.height form.height form.height bytes
 
 -- the page behind a header that was checked
 abbrev pub page_behind : Result PageForm HeaderFault → List ℕ → PageRead

@@ -49,6 +49,8 @@ check-wanted want h form accepted = by_fault (first_fault (header_tests want h))
     by_kind passes None is e = absurd (let never : form_of h None ≡ Ok form = e in cc)
     by_kind passes (Some row) is e =
         let made : PageForm = record { width = h.width; height = h.height; kind = row.kind; bytes_per_line = h.bytes_per_line } in
+        let same : Ok made ≡ Ok form = e in
+        let is_form : made ≡ form = cc in
         let known : row_of row.kind ≡ row = find-among (λ r. row_of r.kind ≡ r) (has_kind h) kinds row (refl, tt) is in
         let named : has_kind h row ≡ true = find-passes (has_kind h) kinds row is in
         let bits : h.bits_per_pixel ≡ row.bits_per_pixel = eqb-true _ _ (and_parts _ _ named).1 in
@@ -62,8 +64,6 @@ check-wanted want h form accepted = by_fault (first_fault (header_tests want h))
           most_height = ltb-false _ _ height.1;
           bytes_per_line = bytes ∙ ap (line_bytes h.width) bits ∙ ap (λ (r : KindRow). line_bytes h.width r.bits_per_pixel) (sym known);
         } in
-        let same : Ok made ≡ Ok form = e in
-        let is_form : made ≡ form = cc in
         subst (IsWanted want) is_form wanted
 
     by_fault : (o : Option HeaderFault) → first_fault (header_tests want h) ≡ o

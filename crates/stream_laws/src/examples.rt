@@ -1,51 +1,56 @@
 //! Streams, headers and groups, with what they are read as.
-ghost use Rattle.std.specs.Prelude.{Err, Ok, [], false, length, take, drop, replicate, ◌++◌, ◌∷◌, ◌≡◌};
+#![tactic(auto, unfolding(stream_definitions::specs::Groups::line_at, stream_definitions::specs::Header::header_bytes, stream_definitions::specs::Stream::lines_at, stream_definitions::specs::Stream::pages_from, stream_definitions::specs::Stream::stream))]
+
+ghost use Rattle.std.specs.Prelude.{Err, Ok, [], drop, false, length, replicate, take, ◌++◌, ◌∷◌, ◌≡◌};
 ghost use Rattle.stream_definitions.specs.Groups.GroupRead.{Group, Part, Wrong};
-ghost use Rattle.stream_definitions.specs.Header.{check, header_of};
+ghost use Rattle.stream_definitions.specs.Header.{header_of};
 ghost use Rattle.stream_definitions.specs.Stream.StreamEnd.{Done, Fault};
-ghost use Rattle.stream_definitions.specs.Stream.{pages_from, stream, sync_word};
+ghost use Rattle.stream_definitions.specs.Stream.{pages_from, stream};
 ghost use Rattle.stream_definitions.specs.declared.faults.HeaderFault.TheVariants as fault;
 ghost use Rattle.stream_definitions.specs.declared.faults.InputCause.TheVariants as cause;
 ghost use Rattle.stream_definitions.specs.declared.faults.LineFault.TheVariants.{GroupPastPage, RunPastLine};
-ghost use Rattle.stream_laws.specs.Examples.{checked, form_sized, good, grey_group, header_sized, small_bytes, small_form, small_front, small_header, small_page, wants};
+ghost use Rattle.stream_laws.specs.Examples.{checked, form_sized, good, grey_group, header_sized, wants};
+ghost use Rattle.stream_laws.specs.Examples.{pages_then, read, small_bytes, small_form, small_front, small_header, small_page};
 
 /// Where a written header has what, in bytes.
-#[tactic(auto, unfolding(stream_definitions::specs::Header::header_bytes))]
 pub fn header_layout()
     ensures len { length small_header ≡ 1796 }
-    ensures text { take 10 small_header ≡ 0x50 ∷ 0x77 ∷ 0x67 ∷ 0x52 ∷ 0x61 ∷ 0x73 ∷ 0x74 ∷ 0x65 ∷ 0x72 ∷ 0x00 ∷ [] }
+    ensures text { take 10 small_header
+        ≡ 0x50 ∷ 0x77 ∷ 0x67 ∷ 0x52 ∷ 0x61 ∷ 0x73 ∷ 0x74 ∷ 0x65 ∷ 0x72 ∷ 0x00 ∷ [] }
     ensures resolution { take 8 (drop 276 small_header) ≡ 0 ∷ 0 ∷ 0x01 ∷ 0x68 ∷ 0 ∷ 0 ∷ 0x01 ∷ 0x68 ∷ [] }
     ensures copies { take 4 (drop 340 small_header) ≡ 0 ∷ 0 ∷ 0 ∷ 1 ∷ [] }
-    ensures size { take 12 (drop 372 small_header) ≡ 0 ∷ 0 ∷ 0 ∷ 4 ∷ 0 ∷ 0 ∷ 0 ∷ 2 ∷ 0 ∷ 0 ∷ 0 ∷ 0 ∷ [] }
-    ensures bits { take 12 (drop 384 small_header) ≡ 0 ∷ 0 ∷ 0 ∷ 8 ∷ 0 ∷ 0 ∷ 0 ∷ 8 ∷ 0 ∷ 0 ∷ 0 ∷ 4 ∷ [] }
-    ensures colour { take 28 (drop 396 small_header) ≡ 0 ∷ 0 ∷ 0 ∷ 0 ∷ 0 ∷ 0 ∷ 0 ∷ 18 ∷ replicate 16 0 ++ (0 ∷ 0 ∷ 0 ∷ 1 ∷ []) }
+    ensures size { take 8 (drop 372 small_header) ≡ 0 ∷ 0 ∷ 0 ∷ 4 ∷ 0 ∷ 0 ∷ 0 ∷ 2 ∷ [] }
+    ensures bits { take 8 (drop 384 small_header) ≡ 0 ∷ 0 ∷ 0 ∷ 8 ∷ 0 ∷ 0 ∷ 0 ∷ 8 ∷ [] }
+    ensures line { take 4 (drop 392 small_header) ≡ 0 ∷ 0 ∷ 0 ∷ 4 ∷ [] }
+    ensures colour { take 8 (drop 396 small_header) ≡ 0 ∷ 0 ∷ 0 ∷ 0 ∷ 0 ∷ 0 ∷ 0 ∷ 18 ∷ [] }
+    ensures colours { take 20 (drop 404 small_header) ≡ replicate 16 0 ++ (0 ∷ 0 ∷ 0 ∷ 1 ∷ []) }
     ensures transforms { drop 456 small_header ≡ 0 ∷ 0 ∷ 0 ∷ 1 ∷ 0 ∷ 0 ∷ 0 ∷ 1 ∷ replicate 1332 0 }
     ensures fields { header_of small_header ≡ good }
 {}
 
 /// A stream of a page of 4 by 2 pixels, and streams that stop short of it.
-#[tactic(auto, unfolding(stream_definitions::specs::Header::header_bytes, stream_definitions::specs::Groups::line_at, stream_definitions::specs::Stream::lines_at, stream_definitions::specs::Stream::pages_from, stream_definitions::specs::Stream::stream))]
 pub fn small_streams()
-    ensures whole { stream wants (sync_word ++ small_bytes) ≡ record { pages = small_page ∷ []; end = Done } }
-    ensures twice { stream wants (sync_word ++ (small_bytes ++ small_bytes)) ≡ record { pages = small_page ∷ small_page ∷ []; end = Done } }
-    ensures cut { stream wants (sync_word ++ small_front) ≡ record { pages = []; end = Fault 1 2 cause.Truncated } }
-    ensures cut_header { stream wants (sync_word ++ take 1795 small_header) ≡ record { pages = []; end = Fault 1 0 cause.Truncated } }
-    ensures cut_second { stream wants (sync_word ++ (small_bytes ++ 0x50 ∷ [])) ≡ record { pages = small_page ∷ []; end = Fault 2 0 cause.Truncated } }
-    ensures no_lines { stream wants (sync_word ++ small_header) ≡ record { pages = []; end = Fault 1 1 cause.Truncated } }
-    ensures no_page { stream wants sync_word ≡ record { pages = []; end = Done } }
-    ensures no_sync { stream wants (0x52 ∷ 0x61 ∷ 0x53 ∷ []) ≡ record { pages = []; end = Fault 0 0 cause.BadSync } }
-    ensures other_sync { stream wants (0x52 ∷ 0x61 ∷ 0x53 ∷ 0x33 ∷ small_bytes) ≡ record { pages = []; end = Fault 0 0 cause.BadSync } }
-    ensures empty { stream wants [] ≡ record { pages = []; end = Fault 0 0 cause.BadSync } }
-    ensures refused { stream wants (sync_word ++ replicate 1796 0) ≡ record { pages = []; end = Fault 1 0 (cause.Header fault.NotPwg) } }
-    ensures long_group { stream wants (sync_word ++ (small_header ++ 0x02 ∷ [])) ≡ record { pages = []; end = Fault 1 1 (cause.Line GroupPastPage) } }
-    ensures long_run { stream wants (sync_word ++ (small_header ++ (0x00 ∷ 0x80 ∷ 0x00 ∷ 0x04 ∷ []))) ≡ record { pages = []; end = Fault 1 2 (cause.Line RunPastLine) } }
+    ensures whole { read small_bytes ≡ pages_then (small_page ∷ []) Done }
+    ensures twice { read (small_bytes ++ small_bytes) ≡ pages_then (small_page ∷ small_page ∷ []) Done }
+    ensures no_page { read [] ≡ pages_then [] Done }
+    ensures cut { read small_front ≡ pages_then [] (Fault 1 2 cause.Truncated) }
+    ensures cut_header { read (take 1795 small_header) ≡ pages_then [] (Fault 1 0 cause.Truncated) }
+    ensures cut_second { read (small_bytes ++ 0x50 ∷ []) ≡ pages_then (small_page ∷ []) (Fault 2 0 cause.Truncated) }
+    ensures no_lines { read small_header ≡ pages_then [] (Fault 1 1 cause.Truncated) }
+    ensures no_sync { stream wants (0x52 ∷ 0x61 ∷ 0x53 ∷ []) ≡ pages_then [] (Fault 0 0 cause.BadSync) }
+    ensures other_sync { stream wants (0x52 ∷ 0x61 ∷ 0x53 ∷ 0x33 ∷ small_bytes) ≡ pages_then [] (Fault 0 0 cause.BadSync) }
+    ensures nothing { stream wants [] ≡ pages_then [] (Fault 0 0 cause.BadSync) }
+    ensures refused { read (replicate 1796 0) ≡ pages_then [] (Fault 1 0 (cause.Header fault.NotPwg)) }
+    ensures long_group { read (small_header ++ 0x02 ∷ []) ≡ pages_then [] (Fault 1 1 (cause.Line GroupPastPage)) }
+    ensures long_run { read (small_header ++ (0x00 ∷ 0x80 ∷ 0x00 ∷ 0x04 ∷ []))
+        ≡ pages_then [] (Fault 1 2 (cause.Line RunPastLine)) }
 {}
 
 /// A page's number is at most 9,999.
-#[tactic(auto, unfolding(stream_definitions::specs::Header::header_bytes, stream_definitions::specs::Groups::line_at, stream_definitions::specs::Stream::lines_at, stream_definitions::specs::Stream::pages_from))]
 pub fn last_page()
-    ensures last { pages_from wants 1 9999 small_bytes ≡ record { pages = small_page ∷ []; end = Done } }
-    ensures more { pages_from wants 1 9999 (small_bytes ++ 0x00 ∷ []) ≡ record { pages = small_page ∷ []; end = Fault 10000 0 cause.TooManyPages } }
+    ensures last { pages_from wants 1 9999 small_bytes ≡ pages_then (small_page ∷ []) Done }
+    ensures more { pages_from wants 1 9999 (small_bytes ++ 0x00 ∷ [])
+        ≡ pages_then (small_page ∷ []) (Fault 10000 0 cause.TooManyPages) }
 {}
 
 /// Sizes at the bounds, and the transforms.
@@ -85,17 +90,19 @@ pub fn header_fault_order()
     ensures width { checked (record good { width = 0; height = 0 }) ≡ Err fault.Width }
     ensures height { checked (record good { height = 0; color_space = 19 }) ≡ Err fault.Height }
     ensures kind { checked (record good { color_space = 19; bytes_per_line = 5 }) ≡ Err fault.Kind }
-    ensures bytes_per_line { checked (record good { bytes_per_line = 5; color_order = 1 }) ≡ Err fault.BytesPerLine }
+    ensures line { checked (record good { bytes_per_line = 5; color_order = 1 }) ≡ Err fault.BytesPerLine }
     ensures order { checked (record good { color_order = 1; cross_transform = 2 }) ≡ Err fault.Order }
 {}
 
-/// Groups of lines of eight units, and of one.
-#[tactic(auto, unfolding(stream_definitions::specs::Groups::line_at))]
+/// Groups of a page in grey: the units of a line, the lines left, and the bytes.
 pub fn groups()
     ensures white { grey_group 8 1 (0x00 ∷ 0x80 ∷ []) ≡ Group 1 (replicate 8 0xFF) [] }
-    ensures run_then_white { grey_group 8 1 (0x00 ∷ 0x02 ∷ 0x05 ∷ 0x80 ∷ 0x01 ∷ []) ≡ Group 1 (0x05 ∷ 0x05 ∷ 0x05 ∷ replicate 5 0xFF) (0x01 ∷ []) }
+    ensures run_then_white { grey_group 8 1 (0x00 ∷ 0x02 ∷ 0x05 ∷ 0x80 ∷ 0x01 ∷ [])
+        ≡ Group 1 (0x05 ∷ 0x05 ∷ 0x05 ∷ replicate 5 0xFF) (0x01 ∷ []) }
     ensures longest_run { grey_group 128 1 (0x00 ∷ 0x7F ∷ 0x11 ∷ []) ≡ Group 1 (replicate 128 0x11) [] }
-    ensures literal { grey_group 4 2 (0x01 ∷ 0xFD ∷ 0x01 ∷ 0x02 ∷ 0x03 ∷ 0x04 ∷ []) ≡ Group 2 (0x01 ∷ 0x02 ∷ 0x03 ∷ 0x04 ∷ []) [] }
+    ensures longest_literal { grey_group 128 1 (0x00 ∷ 0x81 ∷ replicate 128 0x11) ≡ Group 1 (replicate 128 0x11) [] }
+    ensures literal { grey_group 4 2 (0x01 ∷ 0xFD ∷ 0x01 ∷ 0x02 ∷ 0x03 ∷ 0x04 ∷ [])
+        ≡ Group 2 (0x01 ∷ 0x02 ∷ 0x03 ∷ 0x04 ∷ []) [] }
     ensures literal_past_line { grey_group 3 2 (0x01 ∷ 0xFD ∷ []) ≡ Wrong 1 RunPastLine }
     ensures most_repeats { grey_group 8 256 (0xFF ∷ 0x07 ∷ 0x00 ∷ []) ≡ Group 256 (replicate 8 0x00) [] }
     ensures past_page { grey_group 8 255 (0xFF ∷ 0x07 ∷ 0x00 ∷ []) ≡ Wrong 0 GroupPastPage }

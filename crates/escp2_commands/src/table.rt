@@ -1,0 +1,27 @@
+//! The ranges of the command table.
+ghost use Rattle.job_definitions.specs.Commands.{in_table as in_table_of};
+ghost use Rattle.std.specs.Prelude.{◌≡◌};
+
+use crate::Command;
+
+/// Whether the command's numbers are in the ranges of the command table (ESC/P Reference Manual, graphics commands; the
+/// ranges are this project's own). A command without numbers always is. The rows of a raster are not looked at.
+pub fn in_table(c: &Command) -> bool
+    ensures { result ≡ in_table_of c.now }
+{
+    match *c {
+        Command::Init | Command::Graphics | Command::Return | Command::Eject => true,
+        Command::Colour { .. } => true,
+        Command::Unit { m } => m >= 1,
+        Command::MicroWeave { n } => n == 0,
+        Command::OneWay { n } => n <= 1,
+        Command::Length { n } => 1 <= n && n <= 32_767,
+        Command::Margins { top, bottom } => top < bottom && bottom <= 32_767,
+        Command::DownTo { n } | Command::DownBy { n } | Command::Across { n } => n <= 32_767,
+        Command::Raster { head } => {
+            let is_stepped = head.v >= 1 && head.h >= 1;
+            let is_sized = head.m >= 1 && 1 <= head.n && head.n <= 8_191;
+            head.c <= 1 && is_stepped && is_sized
+        }
+    }
+}

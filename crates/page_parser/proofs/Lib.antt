@@ -1,0 +1,2 @@
+pub mod PacketSteps
+pub mod LineSteps

@@ -1,0 +1,6 @@
+use Rattle.std.proofs.Common.{◌≡◌, ◌-◌, ◌++◌, length, take}
+use Rattle.page_definitions.specs.PageBytes.{packed, packed_bytes}
+use Rattle.row_diffusion.proofs.packing.pack_row.Given as goal
+
+abbrev pub invariant-loop-byte : goal.invariant-loop-byte
+invariant-loop-byte l = packed l.fn.row ≡ take l.byte-index l.out ++ packed_bytes (length l.out - l.byte-index) l.rest
