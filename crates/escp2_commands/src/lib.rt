@@ -6,6 +6,5 @@ mod table;
 pub use job_definitions::{Command, RasterHead};
 pub use table::in_table;
 
-
 #[cfg(test)]
 mod tests;

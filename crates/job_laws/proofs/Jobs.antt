@@ -1,9 +1,9 @@
 -- Spelled commands, one after another, are a job of these commands.
-use Rattle.std.proofs.Common.{◌≡◌, ℕ, zero, suc, ◌+◌, ◌≤◌, List, [], ◌∷◌, ◌++◌, length, drop, refl, sym, ◌∙◌, ap, arith, length-append}
+use Rattle.std.proofs.Common.{◌≡◌, ℕ, zero, suc, ◌+◌, ◌≤◌, List, [], ◌∷◌, ◌++◌, length, drop, refl, ◌∙◌, ap, arith, length-append}
 use Rattle.std.proofs.lemmas.List.{drop_at}
 use Rattle.job_definitions.specs.declared.command.Command.{Command}
 use Rattle.job_definitions.specs.declared.command.Command.TheVariants as c
-use Rattle.job_definitions.specs.Commands.{CommandList, Entry, Heard, ListEnd, Spells, command_at, command_bytes, commands, commands_from, with_entry}
+use Rattle.job_definitions.specs.Commands.{Entry, Heard, Spells, command_at, command_bytes, commands, commands_from, with_entry}
 use Rattle.job_definitions.specs.Commands.Heard.{One, Part, Wrong}
 use Rattle.job_definitions.specs.Commands.ListEnd.{Whole, Cut, Fault}
 use Rattle.job_laws.specs.Said.{AllSaid, Said, entries_of, said_bytes}

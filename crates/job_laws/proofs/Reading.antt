@@ -1,15 +1,14 @@
 -- What is spelled is read.
-use Rattle.std.proofs.Common.{◌≡◌, ℕ, zero, suc, ◌+◌, ◌*◌, ◌/◌, ◌%◌, ◌<◌, ◌≤◌, Bool, true, false, List, [], ◌∷◌, ◌++◌, length, refl, sym, ◌∙◌, ap, arith, subst, ◌&&◌, if◌then◌else◌, ◌==◌, length-append, append_assoc, append-nil}
+use Rattle.std.proofs.Common.{◌≡◌, ℕ, ◌+◌, ◌*◌, ◌/◌, ◌%◌, Bool, true, false, List, [], ◌∷◌, ◌++◌, length, refl, sym, ◌∙◌, ap, arith, subst, ◌&&◌, if◌then◌else◌, ◌==◌, length-append, append-nil}
 use Rattle.std.specs.Prelude.{MatchBool}
 use Rattle.printer_definitions.specs.declared.inks.Ink.TheVariants.{Black, Cyan, Magenta, Yellow}
 use Rattle.job_definitions.specs.declared.stops.JobCause.TheVariants.{BadValue}
 use Rattle.job_definitions.specs.declared.command.RasterHead.{RasterHead}
 use Rattle.job_definitions.specs.declared.command.Command.{Command}
 use Rattle.job_definitions.specs.declared.command.Command.TheVariants as c
-use Rattle.job_definitions.specs.RowCode.{RowsCode, RowsRead, plain_at, rows_at}
-use Rattle.job_definitions.specs.RowCode.RowsRead.{RowsAre, RowsPart, RowsWrong}
-use Rattle.job_definitions.specs.Commands.{Heard, Spells, command_at, command_bytes, in_table, is_bottom, is_length, is_off, is_position, is_some, is_switch, is_width, number, raster_at, raster_rows, row_bytes, rows_len, two_bytes, whole, wide_number, with_rows}
-use Rattle.job_definitions.specs.Commands.Heard.{One, Part, Wrong}
+use Rattle.job_definitions.specs.RowCode.{RowsCode, plain_at, rows_at}
+use Rattle.job_definitions.specs.Commands.{Heard, Spells, command_at, command_bytes, in_table, is_bottom, is_length, is_off, is_position, is_some, is_switch, is_width, number, raster_at, raster_rows, row_bytes, two_bytes, whole, wide_number, with_rows}
+use Rattle.job_definitions.specs.Commands.Heard.{One, Wrong}
 use Rattle.job_laws.proofs.Rows.{plain-reads, rows-read}
 
 no_rows : (rows : List ℕ) → length rows ≡ 0 → rows ≡ []
@@ -104,8 +103,8 @@ by_command (c.Length n) rows text rest s e =
     plain (c.Length n) rows text rest s.rows_fit (sym e ∙ s.rows_are) (λ more. wide-reads is_length 5 n (λ n. whole (c.Length n) 7) more s.in_range)
 by_command (c.Margins top bottom) rows text rest s e =
     plain (c.Margins top bottom) rows text rest s.rows_fit (sym e ∙ s.rows_are) (λ more.
-      wide-reads is_position 5 top (λ top. wide_number (is_bottom top) 7 (λ bottom. whole (c.Margins top bottom) 9)) (two_bytes bottom ++ more) (and-left _ _ s.in_range)
-      ∙ wide-reads (is_bottom top) 7 bottom (λ bottom. whole (c.Margins top bottom) 9) more (and-right _ _ s.in_range))
+    wide-reads is_position 5 top (λ top. wide_number (is_bottom top) 7 (λ bottom. whole (c.Margins top bottom) 9)) (two_bytes bottom ++ more) (and-left _ _ s.in_range)
+    ∙ wide-reads (is_bottom top) 7 bottom (λ bottom. whole (c.Margins top bottom) 9) more (and-right _ _ s.in_range))
 by_command (c.DownTo n) rows text rest s e =
     plain (c.DownTo n) rows text rest s.rows_fit (sym e ∙ s.rows_are) (λ more. wide-reads is_position 5 n (λ n. whole (c.DownTo n) 7) more s.in_range)
 by_command (c.DownBy n) rows text rest s e =
@@ -127,7 +126,7 @@ pub command_at-spelled : (command : Command) (rows bytes rest : List ℕ) → Sp
 command_at-spelled command rows bytes rest s =
     let text : List ℕ = s.text in
     let same : Spells command rows (command_bytes command ++ text) =
-        record { in_range = s.in_range; rows_fit = s.rows_fit; text = text; rows_are = s.rows_are; spelled = refl } in
+    record { in_range = s.in_range; rows_fit = s.rows_fit; text = text; rows_are = s.rows_are; spelled = refl } in
     ap (λ bs. command_at (bs ++ rest)) s.spelled
     ∙ by_command command rows text rest same refl
     ∙ ap (λ bs. One command rows (length bs)) (sym s.spelled)

@@ -1,5 +1,5 @@
 -- The rows of a raster that are written are read.
-use Rattle.std.proofs.Common.{◌≡◌, ℕ, zero, suc, ◌+◌, ◌-◌, ◌<◌, ◌≤◌, Bool, true, false, nat_lt, ◌==◌, if◌then◌else◌, List, [], ◌∷◌, ◌++◌, length, take, drop, replicate, refl, sym, ◌∙◌, ap, arith, subst, length-append, append_assoc, flat_map}
+use Rattle.std.proofs.Common.{◌≡◌, ℕ, zero, suc, ◌+◌, ◌-◌, ◌<◌, ◌≤◌, false, nat_lt, ◌==◌, if◌then◌else◌, List, [], ◌∷◌, ◌++◌, length, take, drop, replicate, sym, ◌∙◌, ap, arith, length-append, append_assoc, flat_map}
 use Rattle.std.specs.List.{AllByRecursion}
 use Rattle.std.proofs.lemmas.Bool.{le-ltb, lt-ltb}
 use Rattle.std.proofs.lemmas.Bool.Decides.{nat_tests}
@@ -116,10 +116,10 @@ rows-read (suc m) width at code rows rest is =
     let codes : List ℕ = is.2 in
     let row_code : RowCode front row = is.7 in
     let first : row_at width width at (front ++ (codes ++ rest)) ≡ RowsAre row (at + length front) =
-        ap (λ c. row_at width width at (c ++ (codes ++ rest))) row_code.coded
-        ∙ row-reads row_code.packets width width at (codes ++ rest) row_code.allowed (sym (ap length row_code.gives) ∙ is.6) (omega arith)
-        ∙ ap (λ r. RowsAre r (at + length (flat_map packet_code row_code.packets))) (sym row_code.gives)
-        ∙ ap (λ c. RowsAre row (at + length c)) (sym row_code.coded) in
+    ap (λ c. row_at width width at (c ++ (codes ++ rest))) row_code.coded
+    ∙ row-reads row_code.packets width width at (codes ++ rest) row_code.allowed (sym (ap length row_code.gives) ∙ is.6) (omega arith)
+    ∙ ap (λ r. RowsAre r (at + length (flat_map packet_code row_code.packets))) (sym row_code.gives)
+    ∙ ap (λ c. RowsAre row (at + length c)) (sym row_code.coded) in
     ap (λ c. rows_at (suc m) width at (c ++ rest)) is.4
     ∙ ap (rows_at (suc m) width at) (append_assoc front codes rest)
     ∙ rows-step m width at front (codes ++ rest) row first

@@ -10,19 +10,16 @@ ghost use Rattle.std.specs.Prelude.{List, [], length, ℕ, ◌++◌, ◌≡◌};
 pub fn spelled_is_read()
     ensures { (command : Command) (rows bytes rest : List ℕ) → Spells command rows bytes
         → command_at (bytes ++ rest) ≡ One command rows (length bytes) }
-{
-}
+{}
 
 /// No spelling of a command is a proper beginning of another's.
 pub fn no_spelling_begins_another()
     ensures { (one other : Command) (rows other_rows bytes more : List ℕ) → Spells one rows bytes
         → Spells other other_rows (bytes ++ more) → more ≡ [] }
-{
-}
+{}
 
 /// Spelled commands, one after another, are a whole job of these commands.
 pub fn job_is_its_commands()
     ensures { (job : List Said) → AllSaid job
         → commands (said_bytes job) ≡ record { entries = entries_of 0 job; end = Whole } }
-{
-}
+{}

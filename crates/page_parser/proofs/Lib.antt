@@ -1,2 +1,3 @@
 pub mod PacketSteps
 pub mod LineSteps
+pub mod PageSteps

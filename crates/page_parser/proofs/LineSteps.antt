@@ -1,5 +1,5 @@
 -- Lines and groups that were read so far.
-use Rattle.std.proofs.Common.{◌≡◌, ℕ, zero, suc, ◌+◌, ◌-◌, ◌*◌, ◌/◌, ◌<◌, ◌≤◌, nat_lt, Bool, true, false, if◌then◌else◌, List, [], ◌∷◌, ◌++◌, length, replicate, refl, sym, ◌∙◌, ap, arith, append_assoc, append-nil, flat_map}
+use Rattle.std.proofs.Common.{◌≡◌, ℕ, zero, suc, ◌+◌, ◌-◌, ◌*◌, ◌/◌, ◌<◌, ◌≤◌, nat_lt, Bool, true, false, if◌then◌else◌, List, [], ◌∷◌, ◌++◌, length, replicate, refl, sym, ◌∙◌, ap, arith, append_assoc, append-nil, flat_map, subst, length-append}
 use Rattle.std.proofs.lemmas.Bool.{le-ltb, lt-ltb}
 use Rattle.stream_definitions.specs.declared.faults.LineFault.{LineFault}
 use Rattle.stream_definitions.specs.declared.faults.LineFault.TheVariants.{GroupPastPage}
@@ -11,6 +11,7 @@ use Rattle.stream_definitions.specs.Groups.PacketRead.{One, Short, Long}
 use Rattle.stream_definitions.specs.Stream.{LinesRead, lines_at, with_lines}
 use Rattle.stream_definitions.specs.Stream.LinesRead.{Lines, Stop}
 use Rattle.stream_laws.proofs.GroupLaws.{line_at-long, line_at-one, line_at-short}
+use Rattle.stream_laws.proofs.Packets.{packet_at-one}
 use Rattle.page_parser.specs.Parsed.{AreLines, AreNoLines, IsNoGroup, IsNoPacket, IsPushed, gray, joined}
 
 -- ---- a line
@@ -29,11 +30,19 @@ pub record LineSoFar (width : ℕ) (bytes : List ℕ) (left : ℕ) (line rest : 
 pub line_begin : (width : ℕ) (bytes : List ℕ) → LineSoFar width bytes width [] bytes
 line_begin width bytes = record { most = width; enough = omega arith; place = 1; long = omega arith; is = λ repeats. refl }
 
+pub line_begin_as : (width : ℕ) (bytes line : List ℕ) → line ≡ [] → LineSoFar width bytes width line bytes
+line_begin_as width bytes line e = let P : List ℕ → Type 0 = λ ls. LineSoFar width bytes width ls bytes in subst P (sym e) (line_begin width bytes)
+
 -- one more packet
 pub line_step : (width : ℕ) (bytes line line' rest rest' : List ℕ) (left units : ℕ) → 0 < left → LineSoFar width bytes left line rest
-    → IsPushed left (packet_at gray left rest) line line' units rest' → length line' ≡ length line + units → LineSoFar width bytes (left - units) line' rest'
-line_step width bytes line line' rest rest' left units some so_far pushed grown = by_sizes left so_far.most refl refl
+    → IsPushed left (packet_at gray left rest) line line' units rest' → LineSoFar width bytes (left - units) line' rest'
+line_step width bytes line line' rest rest' left units some so_far pushed = by_sizes left so_far.most refl refl
   where
+    grown : length line' ≡ length line + units
+    grown =
+        let given : length (packet_gives gray left pushed.packet) ≡ packet_units left pushed.packet * 1 = (packet_at-one gray left rest pushed.packet rest' pushed.is).gives refl in
+        ap length pushed.line ∙ length-append line (packet_gives gray left pushed.packet) ∙ (let sum : length line + length (packet_gives gray left pushed.packet) ≡ length line + units = omega (arith, given, pushed.units_are) in sum)
+
     by_sizes : (l m : ℕ) → left ≡ l → so_far.most ≡ m → LineSoFar width bytes (left - units) line' rest'
     by_sizes zero m el em = absurd (omega arith)
     by_sizes (suc l) zero el em = absurd (omega (arith, so_far.enough))
@@ -41,7 +50,7 @@ line_step width bytes line line' rest rest' left units some so_far pushed grown 
       most = m;
       enough = omega (arith, so_far.enough, pushed.some);
       place = so_far.place + length (packet_spelling pushed.packet);
-      long = omega (arith, so_far.long, pushed.most);
+      long = omega (arith, so_far.long, pushed.most, grown);
       is = λ repeats.
         let here : packet_at gray (suc l) rest ≡ One pushed.packet rest' = ap (λ k. packet_at gray k rest) (sym el) ∙ pushed.is in
         let front : GroupFront = front_of repeats line so_far.place in
@@ -211,7 +220,8 @@ lines_end width height bytes lines rest left none so_far =
 -- one more copy of a line
 pub copies_more : (old lines line : List ℕ) (i : ℕ) → lines ≡ old ++ joined (replicate i line) → lines ++ line ≡ old ++ joined (replicate (i + 1) line)
 copies_more old lines line i e =
-    ap (λ bs. bs ++ line) e ∙ append_assoc old (joined (replicate i line)) line ∙ ap (λ bs. old ++ bs) (last i ∙ ap (λ k. joined (replicate k line)) (omega arith))
+    let next : suc i ≡ i + 1 = omega arith in
+    ap (λ bs. bs ++ line) e ∙ append_assoc old (joined (replicate i line)) line ∙ ap (λ bs. old ++ bs) (last i ∙ ap (λ k. joined (replicate k line)) next)
   where
     last : (n : ℕ) → joined (replicate n line) ++ line ≡ joined (replicate (suc n) line)
     last zero = sym (append-nil line)
