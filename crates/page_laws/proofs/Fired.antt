@@ -1,12 +1,12 @@
 -- The dots that the rasters of a page fire.
-use Rattle.std.proofs.Common.{◌≡◌, ℕ, zero, suc, ◌+◌, ◌-◌, ◌*◌, ◌/◌, ◌<◌, ◌≤◌, Bool, true, false, nat_lt, nat_le, ◌&&◌, ◌||◌, if◌then◌else◌, List, [], ◌∷◌, ◌++◌, length, take, drop, map, replicate, Option, None, Some, refl, sym, ◌∙◌, ap, arith, append-nil, cond}
+use Rattle.std.proofs.Common.{◌≡◌, ℕ, zero, suc, ◌+◌, ◌*◌, ◌/◌, ◌<◌, ◌≤◌, Bool, true, false, nat_le, ◌||◌, if◌then◌else◌, List, [], ◌∷◌, ◌++◌, length, take, drop, map, replicate, Option, None, Some, refl, sym, ◌∙◌, ap, arith, append-nil, cond}
 use Rattle.std.specs.List.{count_by, list_any, flat_map, AllByRecursion}
 use Rattle.std.proofs.lemmas.Bool.{and_from, eq-eqb}
 use Rattle.std.proofs.lemmas.Bool.Decides.{nat_tests}
 use Rattle.std.proofs.lemmas.List.{take_at, drop_at, length-map, length-replicate}
 use Rattle.printer_definitions.specs.declared.inks.Ink.{Ink}
 use Rattle.printer_definitions.specs.Inks.{ink_place}
-use Rattle.printer_definitions.specs.Printer.{Printer, column_step, head_rows, nozzle_step, row_step, row_units}
+use Rattle.printer_definitions.specs.Printer.{Printer, column_step, nozzle_step}
 use Rattle.job_definitions.specs.declared.command.RasterHead.{RasterHead}
 use Rattle.job_definitions.specs.Commands.{row_bytes}
 use Rattle.job_definitions.specs.Machine.{Dot, bits, is_at, overprints, row_dots, rows_dots}
@@ -41,7 +41,7 @@ rows_dots-fired head ink y (row ∷ rows) wide =
     let front : take (row_bytes head) (packed row ++ more) ≡ packed row = take_at (packed row) more (row_bytes head) len in
     let behind : drop (row_bytes head) (packed row ++ more) ≡ more = drop_at (packed row) more (row_bytes head) len in
     let whole : take head.n (bits (packed row)) ≡ row =
-        ap (λ bs. take head.n (bits bs)) (sym (take_all_of (packed row) (row_bytes head) len)) ∙ row-packed head.n row wide.0 in
+    ap (λ bs. take head.n (bits bs)) (sym (take_all_of (packed row) (row_bytes head) len)) ∙ row-packed head.n row wide.0 in
     ap (λ bs. row_dots ink 0 head.h y (take head.n (bits bs)) ++ rows_dots (length rows) head ink 0 (y + head.v) (drop (row_bytes head) (packed row ++ more))) front
     ∙ ap (λ bs. row_dots ink 0 head.h y (take head.n (bits (packed row))) ++ rows_dots (length rows) head ink 0 (y + head.v) bs) behind
     ∙ ap (λ r. row_dots ink 0 head.h y r ++ rows_dots (length rows) head ink 0 (y + head.v) more) whole
@@ -138,16 +138,16 @@ pass-fired p h ink row i zero place c at = refl
 pass-fired p h ink row i (suc many) place c at =
     let v : ℕ = nozzle_step p in
     let here : row_dots ink 0 (column_step p) place (fired_row h ink (row i)) ≡ nozzle_wanted p h ink (row i) =
-        nozzle-fired p h ink (row i) place c (λ y e.
-          let none : i + 0 ≡ i = omega arith in
-          let first : place ≡ place + 0 * v = omega arith in
-          first ∙ at 0 y (ap row none ∙ e)) in
+    nozzle-fired p h ink (row i) place c (λ y e.
+    let none : i + 0 ≡ i = omega arith in
+    let first : place ≡ place + 0 * v = omega arith in
+    first ∙ at 0 y (ap row none ∙ e)) in
     ap (λ ds. ds ++ rows_fired ink (column_step p) v (place + v) (map (λ i. fired_row h ink (row i)) (count_from (i + 1) many))) here
     ∙ ap (λ ds. nozzle_wanted p h ink (row i) ++ ds)
     (pass-fired p h ink row (i + 1) many (place + v) c (λ j y e.
-      let same : i + (j + 1) ≡ i + 1 + j = omega arith in
-      let moved : place + v + j * v ≡ place + (j + 1) * v = omega arith in
-      moved ∙ at (j + 1) y (ap row same ∙ e)))
+    let same : i + (j + 1) ≡ i + 1 + j = omega arith in
+    let moved : place + v + j * v ≡ place + (j + 1) * v = omega arith in
+    moved ∙ at (j + 1) y (ap row same ∙ e)))
 
 -- ---- blank rows
 
@@ -199,10 +199,10 @@ on_sheet p h ink row bottom is above =
     by_nozzle None over = refl
     by_nozzle (Some y) over =
         none-flat (λ d. nat_le bottom d.y) (pixel_dots p h ink y) (count_from 0 h.width) (λ x.
-          let place : ℕ = (p.top + y) * 3600 / p.vdpi in
-          let low : place < bottom = over y refl in
-          let apart : nat_le bottom place ≡ false = grind (arith, nat_tests) in
-          pixel-none p h ink y x (λ d. nat_le bottom d.y) apart)
+        let place : ℕ = (p.top + y) * 3600 / p.vdpi in
+        let low : place < bottom = over y refl in
+        let apart : nat_le bottom place ≡ false = grind (arith, nat_tests) in
+        pixel-none p h ink y x (λ d. nat_le bottom d.y) apart)
 
 -- ---- no dot is fired twice
 

@@ -1,5 +1,5 @@
 -- The bytes of pages print the pages.
-use Rattle.std.proofs.Common.{◌≡◌, ℕ, zero, suc, ◌+◌, ◌-◌, ◌*◌, ◌/◌, ◌<◌, ◌≤◌, Bool, true, false, ◌&&◌, nat_le, if◌then◌else◌, cond, List, [], ◌∷◌, ◌++◌, length, map, refl, sym, ◌∙◌, ap, arith, append-nil, append_assoc, Some, None, Option, length-append, filter, flat_map, subst}
+use Rattle.std.proofs.Common.{◌≡◌, ℕ, zero, suc, ◌+◌, ◌-◌, ◌*◌, ◌/◌, ◌<◌, ◌≤◌, Bool, true, false, ◌&&◌, nat_le, if◌then◌else◌, cond, List, [], ◌∷◌, ◌++◌, length, map, refl, sym, ◌∙◌, ap, arith, append_assoc, None, length-append, filter, flat_map, subst}
 use Rattle.std.specs.List.{AllByRecursion}
 use Rattle.std.proofs.Math.Nat.{mul-le-mul_right}
 use Rattle.std.proofs.lemmas.Bool.{and_from, le-leb}
@@ -8,14 +8,13 @@ use Rattle.printer_definitions.specs.declared.inks.InkSet.TheVariants.{K}
 use Rattle.printer_definitions.specs.Inks.{inks_of}
 use Rattle.printer_definitions.specs.Printer.{Printer, column_step, head_rows, nozzle_step, row_units}
 use Rattle.diffusion_definitions.specs.Diffusion.{Table}
-use Rattle.job_definitions.specs.declared.command.Command.{Command}
 use Rattle.job_definitions.specs.declared.command.Command.TheVariants as c
-use Rattle.job_definitions.specs.Commands.{CommandList, Spells, command_bytes, commands, is_between, row_bytes}
+use Rattle.job_definitions.specs.Commands.{CommandList, Spells, command_bytes, commands, is_between}
 use Rattle.job_definitions.specs.Commands.ListEnd.{Whole}
 use Rattle.job_definitions.specs.Machine.{Dot, Printed, Sheet, execute, execute_from, start, with_sheets}
-use Rattle.job_laws.specs.Said.{AllSaid, Said, entries_of, said_bytes}
+use Rattle.job_laws.specs.Said.{AllSaid, said_bytes}
 use Rattle.job_laws.proofs.Jobs.{commands-said}
-use Rattle.separation_definitions.specs.Windows.{wanted_by, window_of}
+use Rattle.separation_definitions.specs.Windows.{wanted_by}
 use Rattle.stream_definitions.specs.Stream.{IsPage, Page}
 use Rattle.page_definitions.specs.Dots.{Halftone, count_from, dots_wanted, halftone}
 use Rattle.page_definitions.specs.PageBytes.{Spoken, bytes_of, down_by, fired_passes, fires, has_dot, ink_pass, packed, page_bytes, page_commands, pass_commands, pass_inks, pass_rows, prologue, raster_head, say}
@@ -98,7 +97,7 @@ ink-spoken p h t ink can some narrow = by_dot (has_dot (pass_rows p h ink t))
         let hs : (nat_le 0 1 && nat_le 1 (nozzle_step p) && nat_le 1 (column_step p)) ≡ true = and_from _ _ v (le-leb 1 (column_step p) (column_step-some p can)) in
         let m : (nat_le 0 1 && nat_le 1 (nozzle_step p) && nat_le 1 (column_step p) && nat_le 1 p.nozzles) ≡ true = and_from _ _ hs (le-leb 1 p.nozzles can.some_nozzles) in
         let fits : length (flat_map packed (pass_rows p h ink t)) ≡ p.nozzles * ((h.width + 7) / 8) =
-            rows-len h.width (pass_rows p h ink t) (pass_rows-wide p h ink t) ∙ ap (λ n. n * ((h.width + 7) / 8)) (pass_rows-len p h ink t) in (
+        rows-len h.width (pass_rows p h ink t) (pass_rows-wide p h ink t) ∙ ap (λ n. n * ((h.width + 7) / 8)) (pass_rows-len p h ink t) in (
           record { in_range = refl; rows_fit = refl; text = []; rows_are = refl; spelled = refl },
           (
             record { in_range = refl; rows_fit = refl; text = []; rows_are = refl; spelled = refl },
@@ -139,8 +138,7 @@ page-spoken p h tall can some narrow one low short =
     let last : (p.top + h.height) * row_units p ≤ tall * row_units p = mul-le-mul_right (row_units p) low in
     spoken-append (prologue p h (tall * row_units p)) _ (prologue-spoken p h (tall * row_units p) can one last short)
     (spoken-append (pass_commands p h 0 (fired_passes p h)) _
-    (passes-spoken p h tall (pass_count p.nozzles p.pitch h.height) 0 0 can some narrow low short (omega arith))
-    (
+    (passes-spoken p h tall (pass_count p.nozzles p.pitch h.height) 0 0 can some narrow low short (omega arith)) (
       record { in_range = refl; rows_fit = refl; text = []; rows_are = refl; spelled = refl },
       (record { in_range = refl; rows_fit = refl; text = []; rows_are = refl; spelled = refl }, tt),
     ))
@@ -173,7 +171,7 @@ job-spoken p k (page ∷ pages) can are =
     let s = sized p k page can are.0 in
     spoken-append (page_job p k page) _ (page-spoken p (halftone page p k) page.form.height can s.some_width s.most_width s.some_height s.low s.short) (job-spoken p k pages can are.1)
 
-bytes-append : (xs ys : List Spoken) → bytes_of (xs ++ ys) ≡ bytes_of xs ++ bytes_of ys
+pub bytes-append : (xs ys : List Spoken) → bytes_of (xs ++ ys) ≡ bytes_of xs ++ bytes_of ys
 bytes-append [] ys = refl
 bytes-append (x ∷ xs) ys = ap (λ bs. (command_bytes x.command ++ x.rows) ++ bs) (bytes-append xs ys) ∙ sym (append_assoc (command_bytes x.command ++ x.rows) (bytes_of xs) (bytes_of ys))
 
@@ -210,7 +208,7 @@ printed p k pages can are same =
     let bytes : List ℕ = flat_map (λ page. page_bytes page p k) pages in
     let list : CommandList = record { entries = entries 0 job; end = Whole } in
     let read : commands bytes ≡ list =
-        ap commands (bytes-are p k pages ∙ sym (said_bytes-is job)) ∙ commands-said (map said job) (spoken-said job (job-spoken p k pages can are)) in
+    ap commands (bytes-are p k pages ∙ sym (said_bytes-is job)) ∙ commands-said (map said job) (spoken-said job (job-spoken p k pages can are)) in
     let run = pages-run p k pages 0 can are same in
     let all : execute p (commands bytes).entries ≡ record { sheets = run.0; refused = None } = ap (λ (j : CommandList). execute p j.entries) read ∙ run.2 in
     let P : List Sheet → Type 0 = λ sheets. AreSheets p k pages sheets in

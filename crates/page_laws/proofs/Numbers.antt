@@ -1,8 +1,8 @@
 -- Places on paper, for resolutions of 360 and 720.
-use Rattle.std.proofs.Common.{◌≡◌, ℕ, zero, suc, ◌+◌, ◌-◌, ◌*◌, ◌/◌, ◌%◌, ◌<◌, ◌≤◌, ◌⊎◌, inl, inr, refl, sym, ◌∙◌, ap, arith, subst}
+use Rattle.std.proofs.Common.{◌≡◌, ℕ, ◌+◌, ◌*◌, ◌/◌, ◌%◌, ◌<◌, ◌≤◌, ◌⊎◌, inl, inr, sym, ◌∙◌, ap, arith, subst}
 use Rattle.std.proofs.Math.Nat.{mul-le-mul_right}
 use Rattle.std.proofs.lemmas.Nat.{mod-mul-add}
-use Rattle.printer_definitions.specs.Printer.{Printer, column_step, head_rows, nozzle_step, row_step, row_units}
+use Rattle.printer_definitions.specs.Printer.{Printer, column_step, nozzle_step, row_step, row_units}
 use Rattle.page_laws.specs.CanPrint.{CanPrint}
 
 places : (dpi n : ℕ) → (dpi ≡ 360) ⊎ (dpi ≡ 720) → n * 3600 / dpi ≡ n * (3600 / dpi)

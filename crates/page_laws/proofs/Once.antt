@@ -8,7 +8,7 @@ use Rattle.printer_definitions.specs.declared.inks.Ink.{Ink}
 use Rattle.printer_definitions.specs.declared.inks.Ink.TheVariants.{Black, Cyan, Magenta, Yellow}
 use Rattle.printer_definitions.specs.declared.inks.InkSet.{InkSet}
 use Rattle.printer_definitions.specs.declared.inks.InkSet.TheVariants.{K, Cmy, Cmyk}
-use Rattle.printer_definitions.specs.Inks.{ink_place, inks_of, same_ink}
+use Rattle.printer_definitions.specs.Inks.{inks_of, same_ink}
 use Rattle.printer_definitions.specs.Printer.{Printer, column_step, row_step}
 use Rattle.job_definitions.specs.Machine.{Dot, is_at}
 use Rattle.page_definitions.specs.Dots.{Halftone, count_from, dots_wanted, ink_wanted, pixel_dots, place_of, row_wanted}
@@ -84,11 +84,11 @@ at-most-one place up z n (suc m) = by_place (z == place n) refl (at-most-one pla
         let next : place n < place (n + 1) = up n (n + 1) (omega arith) in
         let right : sum_by (λ i. cond (z == place i) 1 0) (count_from (n + 1) m) ≡ 0 = past-all place up z (n + 1) m (omega arith) in
         let all : sum_by (λ i. cond (z == place i) 1 0) (count_from n (suc m)) ≡ 1 + sum_by (λ i. cond (z == place i) 1 0) (count_from (n + 1) m) =
-            sum-cons (λ i. cond (z == place i) 1 0) n (count_from (n + 1) m) ∙ ap (λ b. cond b 1 0 + sum_by (λ i. cond (z == place i) 1 0) (count_from (n + 1) m)) e in
+        sum-cons (λ i. cond (z == place i) 1 0) n (count_from (n + 1) m) ∙ ap (λ b. cond b 1 0 + sum_by (λ i. cond (z == place i) 1 0) (count_from (n + 1) m)) e in
         omega arith
     by_place false e le =
         let all : sum_by (λ i. cond (z == place i) 1 0) (count_from n (suc m)) ≡ 0 + sum_by (λ i. cond (z == place i) 1 0) (count_from (n + 1) m) =
-            sum-cons (λ i. cond (z == place i) 1 0) n (count_from (n + 1) m) ∙ ap (λ b. cond b 1 0 + sum_by (λ i. cond (z == place i) 1 0) (count_from (n + 1) m)) e in
+        sum-cons (λ i. cond (z == place i) 1 0) n (count_from (n + 1) m) ∙ ap (λ b. cond b 1 0 + sum_by (λ i. cond (z == place i) 1 0) (count_from (n + 1) m)) e in
         omega arith
 
 -- ---- the dots of a halftone
@@ -112,12 +112,12 @@ row-once : (p : Printer) (h : Halftone) (d : Dot) (ink : Ink) (y : ℕ) → CanP
 row-once p h d ink y c =
     let place : ℕ → ℕ = λ x. x * 3600 / p.hdpi in
     let up : (a b : ℕ) → a < b → place a < place b = λ a b less.
-        let r : a * column_step p < b * column_step p = rises a b (column_step p) (column_step-some p c) less in
-        omega (arith, column_place p a c, column_place p b c) in
+    let r : a * column_step p < b * column_step p = rises a b (column_step p) (column_step-some p c) less in
+    omega (arith, column_place p a c, column_place p b c) in
     let sum : count_by (is_at d) (row_wanted p h ink y) ≤ sum_by (λ x. cond (d.x == place x) 1 0) (count_from 0 h.width) =
-        flat-most (is_at d) (pixel_dots p h ink y) (λ x. cond (d.x == place x) 1 0) (count_from 0 h.width)
-        (λ x. let e = pixel-most p h d ink y x in
-          let q = part-most (same_ink d.ink ink) (d.x == place x) (d.y == (p.top + y) * 3600 / p.vdpi) in omega (arith, e, q.second)) in
+    flat-most (is_at d) (pixel_dots p h ink y) (λ x. cond (d.x == place x) 1 0) (count_from 0 h.width)
+    (λ x. let e = pixel-most p h d ink y x in
+    let q = part-most (same_ink d.ink ink) (d.x == place x) (d.y == (p.top + y) * 3600 / p.vdpi) in omega (arith, e, q.second)) in
     omega (arith, sum, at-most-one place up d.x 0 h.width)
 
 row-of : (p : Printer) (h : Halftone) (d : Dot) (ink : Ink) (y : ℕ) → CanPrint p
@@ -128,22 +128,22 @@ row-of p h d ink y c = by_row (d.y == (p.top + y) * 3600 / p.vdpi) refl
     by_row true e = row-once p h d ink y c
     by_row false e =
         let none : count_by (is_at d) (row_wanted p h ink y) ≡ 0 =
-            flat-none (is_at d) (pixel_dots p h ink y) (count_from 0 h.width)
-            (λ x. let f = pixel-most p h d ink y x in
-              let q = (part-most (same_ink d.ink ink) (d.x == x * 3600 / p.hdpi) (d.y == (p.top + y) * 3600 / p.vdpi)).third in
-              let one_if : Bool → ℕ = λ b. cond b 1 0 in
-              let off : one_if (d.y == (p.top + y) * 3600 / p.vdpi) ≡ 0 = ap one_if e in
-              omega (arith, f, q, off)) in
+        flat-none (is_at d) (pixel_dots p h ink y) (count_from 0 h.width)
+        (λ x. let f = pixel-most p h d ink y x in
+        let q = (part-most (same_ink d.ink ink) (d.x == x * 3600 / p.hdpi) (d.y == (p.top + y) * 3600 / p.vdpi)).third in
+        let one_if : Bool → ℕ = λ b. cond b 1 0 in
+        let off : one_if (d.y == (p.top + y) * 3600 / p.vdpi) ≡ 0 = ap one_if e in
+        omega (arith, f, q, off)) in
         omega (arith, none)
 
 ink-once : (p : Printer) (h : Halftone) (d : Dot) (ink : Ink) → CanPrint p → count_by (is_at d) (ink_wanted p h ink) ≤ 1
 ink-once p h d ink c =
     let place : ℕ → ℕ = λ y. (p.top + y) * 3600 / p.vdpi in
     let up : (a b : ℕ) → a < b → place a < place b = λ a b less.
-        let r : (p.top + a) * row_step p < (p.top + b) * row_step p = rises (p.top + a) (p.top + b) (row_step p) (row_step-some p c) (omega arith) in
-        omega (arith, row_place p (p.top + a) c, row_place p (p.top + b) c) in
+    let r : (p.top + a) * row_step p < (p.top + b) * row_step p = rises (p.top + a) (p.top + b) (row_step p) (row_step-some p c) (omega arith) in
+    omega (arith, row_place p (p.top + a) c, row_place p (p.top + b) c) in
     let sum : count_by (is_at d) (ink_wanted p h ink) ≤ sum_by (λ y. cond (d.y == place y) 1 0) (count_from 0 h.height) =
-        flat-most (is_at d) (row_wanted p h ink) (λ y. cond (d.y == place y) 1 0) (count_from 0 h.height) (λ y. row-of p h d ink y c) in
+    flat-most (is_at d) (row_wanted p h ink) (λ y. cond (d.y == place y) 1 0) (count_from 0 h.height) (λ y. row-of p h d ink y c) in
     omega (arith, sum, at-most-one place up d.y 0 h.height)
 
 ink-of : (p : Printer) (h : Halftone) (d : Dot) (ink : Ink) → CanPrint p → count_by (is_at d) (ink_wanted p h ink) ≤ cond (same_ink d.ink ink) 1 0
@@ -153,13 +153,13 @@ ink-of p h d ink c = by_same (same_ink d.ink ink) refl
     by_same true e = ink-once p h d ink c
     by_same false e =
         let none : count_by (is_at d) (ink_wanted p h ink) ≡ 0 =
-            flat-none (is_at d) (row_wanted p h ink) (count_from 0 h.height) (λ y.
-              flat-none (is_at d) (pixel_dots p h ink y) (count_from 0 h.width) (λ x.
-                let f = pixel-most p h d ink y x in
-                let q = (part-most (same_ink d.ink ink) (d.x == x * 3600 / p.hdpi) (d.y == (p.top + y) * 3600 / p.vdpi)).first in
-                let one_if : Bool → ℕ = λ b. cond b 1 0 in
-                let off : one_if (same_ink d.ink ink) ≡ 0 = ap one_if e in
-                omega (arith, f, q, off))) in
+        flat-none (is_at d) (row_wanted p h ink) (count_from 0 h.height) (λ y.
+        flat-none (is_at d) (pixel_dots p h ink y) (count_from 0 h.width) (λ x.
+        let f = pixel-most p h d ink y x in
+        let q = (part-most (same_ink d.ink ink) (d.x == x * 3600 / p.hdpi) (d.y == (p.top + y) * 3600 / p.vdpi)).first in
+        let one_if : Bool → ℕ = λ b. cond b 1 0 in
+        let off : one_if (same_ink d.ink ink) ≡ 0 = ap one_if e in
+        omega (arith, f, q, off))) in
         omega (arith, none)
 
 -- a set has an ink once
@@ -184,7 +184,7 @@ Once dots = (d : Dot) → count_by (is_at d) dots ≤ 1
 pub wanted-once : (p : Printer) (h : Halftone) → CanPrint p → Once (dots_wanted p h)
 wanted-once p h c d =
     let sum : count_by (is_at d) (dots_wanted p h) ≤ sum_by (λ ink. cond (same_ink d.ink ink) 1 0) (inks_of p.inks) =
-        flat-most (is_at d) (ink_wanted p h) (λ ink. cond (same_ink d.ink ink) 1 0) (inks_of p.inks) (λ ink. ink-of p h d ink c) in
+    flat-most (is_at d) (ink_wanted p h) (λ ink. cond (same_ink d.ink ink) 1 0) (inks_of p.inks) (λ ink. ink-of p h d ink c) in
     omega (arith, sum, set-most p.inks d.ink)
 
 -- Dots that stand once are exactly themselves.

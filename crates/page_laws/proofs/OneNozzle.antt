@@ -1,5 +1,5 @@
 -- A head with one nozzle and black ink fires the window row by row.
-use Rattle.std.proofs.Common.{◌≡◌, ℕ, zero, suc, ◌+◌, ◌-◌, ◌*◌, ◌/◌, ◌<◌, ◌≤◌, Bool, true, false, ◌&&◌, nat_lt, nat_le, if◌then◌else◌, List, [], ◌∷◌, ◌++◌, Option, None, Some, refl, sym, ◌∙◌, ap, arith, append-nil, flat_map}
+use Rattle.std.proofs.Common.{◌≡◌, ℕ, zero, suc, ◌+◌, ◌-◌, ◌*◌, ◌/◌, ◌<◌, ◌&&◌, nat_lt, nat_le, if◌then◌else◌, List, ◌++◌, Option, None, Some, refl, sym, ◌∙◌, ap, arith, append-nil, flat_map}
 use Rattle.std.proofs.lemmas.Bool.{and_from, le-leb, lt-ltb}
 use Rattle.printer_definitions.specs.declared.inks.Ink.{Ink}
 use Rattle.printer_definitions.specs.declared.inks.Ink.TheVariants.{Black}
@@ -8,13 +8,12 @@ use Rattle.printer_definitions.specs.Inks.{inks_of}
 use Rattle.printer_definitions.specs.Printer.{Printer}
 use Rattle.job_definitions.specs.Machine.{Dot}
 use Rattle.page_definitions.specs.Dots.{Halftone, count_from, dots_wanted, ink_wanted, row_wanted}
-use Rattle.page_definitions.specs.PageBytes.{fired_passes}
 use Rattle.page_definitions.specs.Weave.{nozzle_row, pass_count}
 use Rattle.page_laws.specs.CanPrint.{CanPrint}
 use Rattle.page_laws.proofs.Fired.{nozzle_wanted, pass_wanted}
 use Rattle.page_laws.proofs.Pages.{inks_wanted, passes_all, passes_wanted}
 
-one-row : (pitch height t : ℕ) → t < height → nozzle_row 1 pitch height t 0 ≡ Some t
+pub one-row : (pitch height t : ℕ) → t < height → nozzle_row 1 pitch height t 0 ≡ Some t
 one-row pitch height t low =
     let row : ℕ → ℕ → Option ℕ = λ first place. if nat_le first place && nat_lt (place - first) height then Some (place - first) else None in
     let first : 0 * pitch ≡ 0 = omega arith in
@@ -37,7 +36,7 @@ flat-same f g n (suc many) same =
     ap (λ xs. xs ++ flat_map f (count_from (n + 1) many)) (same n (omega arith))
     ∙ ap (λ xs. g n ++ xs) (flat-same f g (n + 1) many (λ i low. same i (omega arith)))
 
-one-count : (n pitch height : ℕ) → n ≡ 1 → pass_count n pitch height ≡ height
+pub one-count : (n pitch height : ℕ) → n ≡ 1 → pass_count n pitch height ≡ height
 one-count n pitch height e =
     let plain : (height + 0 * pitch + 0) / 1 ≡ height = let none : height + 0 * pitch + 0 ≡ height = omega arith in ap (λ m. m / 1) none ∙ omega arith in
     ap (λ n. (height + (n - 1) * pitch + (n - 1)) / n) e ∙ plain
@@ -46,7 +45,7 @@ pub row_by_row : (p : Printer) (h : Halftone) → CanPrint p → p.nozzles ≡ 1
 row_by_row p h can e k =
     let rows : ℕ → List Dot = row_wanted p h Black in
     let black : (t : ℕ) → t < 0 + h.height → inks_wanted p h t ≡ rows t =
-        λ t low. ap (λ set. flat_map (pass_wanted p h t) (inks_of set)) k ∙ append-nil (pass_wanted p h t Black) ∙ one-pass p h Black t e (omega arith) in
+    λ t low. ap (λ set. flat_map (pass_wanted p h t) (inks_of set)) k ∙ append-nil (pass_wanted p h t Black) ∙ one-pass p h Black t e (omega arith) in
     passes_all p h (count_from 0 (pass_count p.nozzles p.pitch h.height)) can
     ∙ ap (λ n. flat_map (inks_wanted p h) (count_from 0 n)) (one-count p.nozzles p.pitch h.height e)
     ∙ flat-same (inks_wanted p h) rows 0 h.height black

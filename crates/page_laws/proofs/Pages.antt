@@ -1,24 +1,23 @@
 -- The passes of a page, and its whole job.
-use Rattle.std.proofs.Common.{◌≡◌, ℕ, zero, suc, ◌+◌, ◌-◌, ◌*◌, ◌/◌, ◌%◌, ◌<◌, ◌≤◌, Bool, true, false, ◌&&◌, ◌||◌, nat_lt, nat_le, if◌then◌else◌, cond, List, [], ◌∷◌, ◌++◌, length, map, Option, None, Some, refl, sym, ◌∙◌, ap, arith, append_assoc, append-nil, filter, flat_map, subst}
+use Rattle.std.proofs.Common.{◌≡◌, ℕ, zero, suc, ◌+◌, ◌-◌, ◌*◌, ◌/◌, ◌%◌, ◌<◌, ◌≤◌, Bool, true, false, ◌&&◌, ◌||◌, nat_lt, nat_le, if◌then◌else◌, cond, List, [], ◌∷◌, ◌++◌, Option, None, Some, refl, sym, ◌∙◌, ap, arith, append_assoc, filter, flat_map}
 use Rattle.std.specs.List.{list_any}
 use Rattle.std.proofs.Math.Nat.{mul-le-mul_right, div-mul-le_self}
 use Rattle.std.proofs.lemmas.Bool.{leb-true, ltb-true}
 use Rattle.printer_definitions.specs.declared.inks.Ink.{Ink}
 use Rattle.printer_definitions.specs.declared.inks.Ink.TheVariants.{Black}
 use Rattle.printer_definitions.specs.Inks.{inks_of}
-use Rattle.printer_definitions.specs.Printer.{Printer, column_step, head_rows, nozzle_step, row_step, row_units}
+use Rattle.printer_definitions.specs.Printer.{Printer, head_rows, nozzle_step, row_step, row_units}
 use Rattle.job_definitions.specs.declared.command.Command.TheVariants as c
 use Rattle.job_definitions.specs.declared.stops.EmuFault.{EmuFault}
-use Rattle.job_definitions.specs.Commands.{Entry}
-use Rattle.job_definitions.specs.Machine.{Dot, Machine, Printed, Refused, Sheet, after, execute_from, first_fault, given, refusals, start, with_sheets}
+use Rattle.job_definitions.specs.Machine.{Dot, Machine, Sheet, after, execute_from, first_fault, given, refusals, start, with_sheets}
 use Rattle.page_definitions.specs.Dots.{Halftone, count_from}
-use Rattle.page_definitions.specs.PageBytes.{Spoken, down_by, fired_passes, fires, has_dot, ink_pass, page_commands, pass_commands, pass_inks, pass_rows, prologue, say}
+use Rattle.page_definitions.specs.PageBytes.{Spoken, down_by, fired_passes, fires, has_dot, page_commands, pass_commands, pass_inks, pass_rows, prologue, say}
 use Rattle.page_definitions.specs.Weave.{nozzle_row, pass_count}
 use Rattle.page_laws.specs.CanPrint.{CanPrint}
 use Rattle.page_laws.proofs.Numbers.{nozzle_step-is, on_grid, rises, row_place, row_step-some, row_units-is}
 use Rattle.page_laws.proofs.Once.{Once, once-front, once-regroup}
 use Rattle.page_laws.proofs.Fired.{pass_wanted}
-use Rattle.page_laws.proofs.Running.{Comes, Goes, Stands, blank-pass, comes-then, down-run, entries, goes-as, goes-here, goes-then, inks-run, one, paused, prologue-run}
+use Rattle.page_laws.proofs.Running.{Goes, Stands, blank-pass, down-run, entries, goes-as, goes-here, goes-then, inks-run, paused, prologue-run}
 
 -- ---- where a pass stands
 
@@ -81,14 +80,14 @@ stands p h t can =
     record {
       on_grid = ap (λ n. n % s) (place-is p t can) ∙ on_grid (a + t * p.nozzles) s (row_step-some p can);
       over = λ i y e.
-        ap (λ n. n + i * nozzle_step p) (place-is p t can)
-        ∙ ap (λ v. (a + t * p.nozzles) * s + i * v) (nozzle_step-is p can)
-        ∙ over-is a t p.nozzles i p.pitch s (head_rows p) y p.top room (nozzle_row-is p.nozzles p.pitch h.height t i y e).sum
-        ∙ sym (row_place p (p.top + y) can);
+          ap (λ n. n + i * nozzle_step p) (place-is p t can)
+          ∙ ap (λ v. (a + t * p.nozzles) * s + i * v) (nozzle_step-is p can)
+          ∙ over-is a t p.nozzles i p.pitch s (head_rows p) y p.top room (nozzle_row-is p.nozzles p.pitch h.height t i y e).sum
+          ∙ sym (row_place p (p.top + y) can);
       above = λ i y e.
-        let low : y < h.height = (nozzle_row-is p.nozzles p.pitch h.height t i y e).low in
-        let less : (p.top + y) * s < (p.top + h.height) * s = rises (p.top + y) (p.top + h.height) s (row_step-some p can) (omega arith) in
-        omega (arith, row_place p (p.top + y) can, in_steps (p.top + h.height) (row_units p) s (row_units-is p can), less);
+          let low : y < h.height = (nozzle_row-is p.nozzles p.pitch h.height t i y e).low in
+          let less : (p.top + y) * s < (p.top + h.height) * s = rises (p.top + y) (p.top + h.height) s (row_step-some p can) (omega arith) in
+          omega (arith, row_place p (p.top + y) can, in_steps (p.top + h.height) (row_units p) s (row_units-is p can), less);
     }
 
 -- a pass is on the sheet
@@ -136,11 +135,11 @@ passes-run p h tall (suc many) t0 t dots job can narrow low le here once =
     by_pass : (b : Bool)
         → Once (dots ++ flat_map (inks_wanted p h) (cond b (t ∷ filter (fires p h) (count_from (t + 1) many)) (filter (fires p h) (count_from (t + 1) many))))
         → (Once (dots ++ flat_map (inks_wanted p h) (filter (fires p h) (count_from (t + 1) many)))
-          → (down : ℕ) × Goes p (tall * row_units p) (top_of p) (bottom_of p h) (down_of p t0) dots (pass_commands p h t0 (filter (fires p h) (count_from (t + 1) many)) ++ job)
-          down (dots ++ flat_map (inks_wanted p h) (filter (fires p h) (count_from (t + 1) many))) job)
+        → (down : ℕ) × Goes p (tall * row_units p) (top_of p) (bottom_of p h) (down_of p t0) dots (pass_commands p h t0 (filter (fires p h) (count_from (t + 1) many)) ++ job)
+        down (dots ++ flat_map (inks_wanted p h) (filter (fires p h) (count_from (t + 1) many))) job)
         → (Once ((dots ++ inks_wanted p h t) ++ flat_map (inks_wanted p h) (filter (fires p h) (count_from (t + 1) many)))
-          → (down : ℕ) × Goes p (tall * row_units p) (top_of p) (bottom_of p h) (down_of p t) (dots ++ inks_wanted p h t) (pass_commands p h t (filter (fires p h) (count_from (t + 1) many)) ++ job)
-          down ((dots ++ inks_wanted p h t) ++ flat_map (inks_wanted p h) (filter (fires p h) (count_from (t + 1) many))) job)
+        → (down : ℕ) × Goes p (tall * row_units p) (top_of p) (bottom_of p h) (down_of p t) (dots ++ inks_wanted p h t) (pass_commands p h t (filter (fires p h) (count_from (t + 1) many)) ++ job)
+        down ((dots ++ inks_wanted p h t) ++ flat_map (inks_wanted p h) (filter (fires p h) (count_from (t + 1) many))) job)
         → (down : ℕ) × Goes p (tall * row_units p) (top_of p) (bottom_of p h) (down_of p t0) dots (pass_commands p h t0 (cond b (t ∷ filter (fires p h) (count_from (t + 1) many)) (filter (fires p h) (count_from (t + 1) many))) ++ job)
         down (dots ++ flat_map (inks_wanted p h) (cond b (t ∷ filter (fires p h) (count_from (t + 1) many)) (filter (fires p h) (count_from (t + 1) many)))) job
     by_pass false once skipped fired = skipped once
@@ -203,10 +202,10 @@ page-run p h tall job at can narrow low short once =
     let last : Machine = paused len (top_of p) (bottom_of p h) passes.0 gone.0 gone.1 gone.2 (passes_wanted p h) in
     let ended = eject-run p last job fired.0 refl in
     let regrouped : (prologue p h len ++ (fire ++ (say c.Eject ∷ say c.Init ∷ []))) ++ job ≡ prologue p h len ++ (fire ++ tail) =
-        append_assoc (prologue p h len) (fire ++ (say c.Eject ∷ say c.Init ∷ [])) job ∙ ap (λ j. prologue p h len ++ j) (append_assoc fire (say c.Eject ∷ say c.Init ∷ []) job) in
+    append_assoc (prologue p h len) (fire ++ (say c.Eject ∷ say c.Init ∷ [])) job ∙ ap (λ j. prologue p h len ++ j) (append_assoc fire (say c.Eject ∷ say c.Init ∷ []) job) in
     let from_top : down_of p 0 ≡ 0 = omega arith in
     let start_down : execute_from p (paused len (top_of p) (bottom_of p h) 0 0 1 Black []) (entries begun.0 (fire ++ tail)) ≡ execute_from p (paused len (top_of p) (bottom_of p h) (down_of p 0) 0 1 Black []) (entries begun.0 (fire ++ tail)) =
-        ap (λ d. execute_from p (paused len (top_of p) (bottom_of p h) d 0 1 Black []) (entries begun.0 (fire ++ tail))) (sym from_top) in (
+    ap (λ d. execute_from p (paused len (top_of p) (bottom_of p h) d 0 1 Black []) (entries begun.0 (fire ++ tail))) (sym from_top) in (
       _,
       ended.0,
       refl,

@@ -1,27 +1,24 @@
 -- What the machine makes of the commands of a page.
-use Rattle.std.proofs.Common.{◌≡◌, ℕ, zero, suc, ◌+◌, ◌-◌, ◌*◌, ◌/◌, ◌%◌, ◌<◌, ◌≤◌, Bool, true, false, not, ◌&&◌, ◌||◌, ◌==◌, nat_lt, nat_le, if◌then◌else◌, cond, List, [], ◌∷◌, ◌++◌, length, map, Option, None, Some, refl, sym, ◌∙◌, ap, arith, append_assoc, append-nil, filter, flat_map, subst}
+use Rattle.std.proofs.Common.{◌≡◌, ℕ, zero, suc, ◌+◌, ◌-◌, ◌*◌, ◌/◌, ◌%◌, ◌<◌, ◌≤◌, Bool, true, false, not, ◌||◌, ◌==◌, nat_lt, nat_le, if◌then◌else◌, List, [], ◌∷◌, ◌++◌, length, map, Option, None, Some, refl, sym, ◌∙◌, ap, arith, append_assoc, append-nil, flat_map}
 use Rattle.std.specs.List.{list_any}
-use Rattle.std.proofs.Math.Nat.{mul-le-mul_right, div-lt_iff_lt-mul}
-use Rattle.std.proofs.lemmas.Bool.{and_from, eq-eqb, le-ltb, lt-ltb, ltb-true, leb-true}
+use Rattle.std.proofs.lemmas.Bool.{eq-eqb, le-ltb}
 use Rattle.printer_definitions.specs.declared.inks.Ink.{Ink}
 use Rattle.printer_definitions.specs.declared.inks.Ink.TheVariants.{Black}
-use Rattle.printer_definitions.specs.Inks.{inks_of}
 use Rattle.printer_definitions.specs.Printer.{Printer, column_step, head_rows, nozzle_step, row_step, row_units}
-use Rattle.job_definitions.specs.declared.command.RasterHead.{RasterHead}
 use Rattle.job_definitions.specs.declared.command.Command.{Command}
 use Rattle.job_definitions.specs.declared.command.Command.TheVariants as c
 use Rattle.job_definitions.specs.declared.stops.EmuFault.{EmuFault}
 use Rattle.job_definitions.specs.declared.stops.EmuFault.TheVariants.{NotGraphics, NoUnit, NoMargins, Density, Rows, Backward, OffGrid, OffSheet, Overprint}
 use Rattle.job_definitions.specs.Commands.{Entry, command_bytes}
-use Rattle.job_definitions.specs.Machine.{Dot, Machine, Printed, Refusal, Sheet, after, execute_from, first_fault, given, is_off_grid, is_off_sheet, is_other_density, overprints, raster_dots, refusals, refuse, rows_dots, start, with_sheets}
+use Rattle.job_definitions.specs.Machine.{Dot, Machine, after, execute_from, first_fault, given, is_off_grid, is_off_sheet, is_other_density, overprints, raster_dots, refusals, refuse, rows_dots, start, with_sheets}
 use Rattle.job_laws.specs.Said.{Said, entries_of}
 use Rattle.page_definitions.specs.Dots.{Halftone, count_from}
-use Rattle.page_definitions.specs.PageBytes.{Spoken, down_by, fired_passes, fires, has_dot, ink_pass, packed, page_commands, pass_commands, pass_inks, pass_rows, prologue, raster_head, say}
-use Rattle.page_definitions.specs.Weave.{nozzle_row, pass_count}
+use Rattle.page_definitions.specs.PageBytes.{Spoken, down_by, has_dot, ink_pass, packed, pass_rows, prologue, raster_head, say}
+use Rattle.page_definitions.specs.Weave.{nozzle_row}
 use Rattle.page_laws.specs.CanPrint.{CanPrint}
-use Rattle.page_laws.proofs.Numbers.{nozzle_step-is, on_grid, column_step-some, rises, row_place, row_step-some, row_units-is}
+use Rattle.page_laws.proofs.Numbers.{column_step-some}
 use Rattle.page_laws.proofs.Once.{Once, once-front, once-regroup}
-use Rattle.page_laws.proofs.Fired.{blank-rows, not_twice, on_sheet, pass-fired, pass_rows-len, pass_rows-wide, pass_wanted, rows_dots-fired, rows_fired}
+use Rattle.page_laws.proofs.Fired.{blank-rows, not_twice, on_sheet, pass-fired, pass_rows-len, pass_rows-wide, pass_wanted, rows_dots-fired}
 
 -- ---- one command
 
@@ -225,17 +222,17 @@ raster-accepted p h t len top bottom down columns ink dots can stands narrow onc
     let is : fired ≡ wanted = new-dots p h t ink (top + down) bottom can stands in
     let zeros = zero-over (column_step p) (column_step-some p can) in
     let density : is_other_density p (raster_head p h) ≡ false =
-        neither _ _ (ap not (eq-eqb (column_step p) (column_step p) refl)) (ap not (eq-eqb (nozzle_step p) (nozzle_step p) refl)) in
+    neither _ _ (ap not (eq-eqb (column_step p) (column_step p) refl)) (ap not (eq-eqb (nozzle_step p) (nozzle_step p) refl)) in
     let nozzles : not (p.nozzles == p.nozzles) ≡ false = ap not (eq-eqb p.nozzles p.nozzles refl) in
     let grid : is_off_grid p s ≡ false = neither _ _ (ap not (eq-eqb _ _ zeros.rest)) (ap not (eq-eqb _ _ stands.on_grid)) in
     let columns_fit : nat_lt 8191 (0 / column_step p + h.width) ≡ false = le-ltb _ _ (omega (arith, zeros.over)) in
     let rows_fit : list_any (λ d. nat_le bottom d.y) fired ≡ false =
-        ap (list_any (λ d. nat_le bottom d.y)) is ∙ on_sheet p h ink (λ i. nozzle_row p.nozzles p.pitch h.height t i) bottom (count_from 0 p.nozzles) stands.above in
+    ap (list_any (λ d. nat_le bottom d.y)) is ∙ on_sheet p h ink (λ i. nozzle_row p.nozzles p.pitch h.height t i) bottom (count_from 0 p.nozzles) stands.above in
     let sheet : is_off_sheet p s (raster_head p h) fired ≡ false = neither _ _ columns_fit rows_fit in
     let over : overprints dots fired ≡ false = ap (overprints dots) is ∙ not_twice dots wanted once in
     let faults : Bool → Bool → Bool → Bool → Bool → Option EmuFault = λ density nozzles grid sheet over.
-        first_fault (refuse false NotGraphics ∷ refuse false NoUnit ∷ refuse false NoMargins ∷ refuse density Density ∷ refuse nozzles Rows
-        ∷ refuse grid OffGrid ∷ refuse sheet OffSheet ∷ refuse over Overprint ∷ []) in
+    first_fault (refuse false NotGraphics ∷ refuse false NoUnit ∷ refuse false NoMargins ∷ refuse density Density ∷ refuse nozzles Rows
+    ∷ refuse grid OffGrid ∷ refuse sheet OffSheet ∷ refuse over Overprint ∷ []) in
     ap (λ b. faults b (not (p.nozzles == p.nozzles)) (is_off_grid p s) (is_off_sheet p s (raster_head p h) fired) (overprints dots fired)) density
     ∙ ap (λ b. faults false b (is_off_grid p s) (is_off_sheet p s (raster_head p h) fired) (overprints dots fired)) nozzles
     ∙ ap (λ b. faults false false b (is_off_sheet p s (raster_head p h) fired) (overprints dots fired)) grid

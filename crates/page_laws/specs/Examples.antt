@@ -1,7 +1,10 @@
 -- Worked pages.
-use Rattle.std.specs.Prelude.{ℕ, List, [], ◌∷◌}
+use Rattle.std.specs.Prelude.{ℕ, List, [], ◌∷◌, map}
 use Rattle.printer_definitions.specs.declared.inks.Ink.TheVariants.{Black}
+use Rattle.printer_definitions.specs.declared.inks.InkSet.{InkSet}
+use Rattle.printer_definitions.specs.Inks.{inks_of}
 use Rattle.printer_definitions.specs.Printer.{Printer, tiny1}
+use Rattle.separation_definitions.specs.Amounts.{amount}
 use Rattle.job_definitions.specs.Machine.{Dot}
 use Rattle.page_definitions.specs.Weave.{Firing}
 use Rattle.stream_definitions.specs.declared.pages.Kind.TheVariants.{Gray8}
@@ -12,7 +15,7 @@ use Rattle.stream_definitions.specs.Stream.{Page}
 abbrev pub grey : ℕ → ℕ → PageForm
 grey width height = record { width = width; height = height; kind = Gray8; bytes_per_line = width }
 
--- two lines of grey: the first is light, the second darker
+-- two lines of grey, a light one and a darker one
 abbrev pub small_page : Page
 small_page = record {
   form = grey 4 2;
@@ -73,3 +76,15 @@ black_dot x y = record { ink = Black; x = x; y = y }
 -- a nozzle of a pass, and the row that it fires
 abbrev pub fires_row : ℕ → ℕ → ℕ → Firing
 fires_row pass nozzle row = record { pass = pass; nozzle = nozzle; row = row }
+
+-- the printer with one nozzle of each ink of a set
+abbrev pub with_inks : InkSet → Printer
+with_inks inks = record tiny1 { inks = inks }
+
+-- the printer with one nozzle and these greatest amounts
+abbrev pub with_limits : ℕ → Printer
+with_limits limit = record tiny1 { limits = limit ∷ limit ∷ limit ∷ limit ∷ [] }
+
+-- the amounts of a printer's inks for a grey of 128, which is a darkness of 127
+abbrev pub amounts_of_128 : Printer → List ℕ
+amounts_of_128 p = map (amount p Gray8 (128 ∷ [])) (inks_of p.inks)

@@ -14,13 +14,11 @@ ghost use Rattle.stream_definitions.specs.Stream.{Page};
 /// The dots that a page wants are distinct.
 pub fn wanted_are_distinct()
     ensures { (page : Page) (p : Printer) (k : Table) → CanPrint p → (d : Dot) → count_by (is_at d) (wanted page p k) ≤ 1 }
-{
-}
+{}
 
 /// The bytes of pages, one after another, are a job that prints them: a sheet for each page, with each dot that the
 /// page wants once, and no other. For a head of one nozzle with black ink.
 pub fn pages_are_printed()
     ensures { (p : Printer) (k : Table) (pages : List Page) → CanPrint p → p.nozzles ≡ 1 → p.inks ≡ K → ArePages p pages
         → Prints p k pages (flat_map (λ page. page_bytes page p k) pages) }
-{
-}
+{}

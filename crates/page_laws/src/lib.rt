@@ -5,7 +5,8 @@ mod examples;
 mod laws;
 
 pub use examples::{
-    amounts_of_grey_128, black_page_with_margins, pages_that_are_taken, small_page_has_its_bytes,
-    small_page_is_printed, small_page_wants_two_dots, two_rows_are_fired, window_inside_margins,
+    black_page_with_margins, grey_128_has_its_amounts, pages_that_are_taken,
+    small_page_has_its_bytes, small_page_is_printed, small_page_wants_two_dots, two_rows_are_fired,
+    window_inside_margins,
 };
 pub use laws::{pages_are_printed, wanted_are_distinct};

@@ -1,9 +1,10 @@
 //! A stream of one page.
-ghost use Rattle.page_parser.specs.Parsed.{IsNotOnePage, IsParsed};
-ghost use Rattle.std.specs.Prelude.{IfOk, MatchOption, ◌≤◌};
+ghost use Rattle.page_parser.specs.Pages.{page_of};
+ghost use Rattle.page_parser.specs.Parsed.{IsNotOnePage, IsOnePage};
+ghost use Rattle.std.specs.Prelude.{IfOk, MatchOption, drop, length, take, ◌<◌, ◌≡◌, ◌≤◌};
 
 use crate::groups::read_lines;
-use pwg_header::{PageForm, Wanted, check, read_header};
+use pwg_header::{HEADER_LEN, PageForm, Wanted, check, read_header};
 use std::alloc::{AllocError, Global};
 
 /// A page of 8-bit grey.
@@ -15,23 +16,26 @@ pub struct GreyPage {
     pub lines: Vec<u8>,
 }
 
+// A header, and the bytes behind it.
+fn split_header(pages: &[u8]) -> Option<(&[u8; HEADER_LEN], &[u8])>
+    ensures { MatchOption result (length pages.now < 1796) (λ r. (r.0.now ≡ take 1796 pages.now) × (r.1.now ≡ drop 1796 pages.now) × (1796 ≤ length pages.now)) }
+{
+    pages.split_first_chunk()
+}
+
 /// The one page of a stream: `None` exactly where the stream is not one whole page that is wanted, and nothing more.
-#[tactic(auto, unfolding(stream_definitions::specs::Stream::stream, stream_definitions::specs::Stream::pages_from))]
 pub fn read_one_page(
     alloc: Global,
     bytes: &[u8],
     want: Wanted,
 ) -> Result<Option<GreyPage>, AllocError>
     requires { want.most_width ≤ 8191 }
-    ensures { IfOk result (λ o. MatchOption o (IsNotOnePage want bytes.now) (λ page. IsParsed want bytes.now page.form page.lines.items)) }
+    ensures { IfOk result (λ o. MatchOption o (IsNotOnePage want bytes.now) (λ page. IsOnePage want bytes.now (page_of page))) }
 {
-    let Some((sync, pages)) = bytes.split_first_chunk::<4>() else {
-        return Ok(None);
-    };
-    if sync != b"RaS2" {
+    if !bytes.starts_with(b"RaS2") {
         return Ok(None);
     }
-    let Some((header, body)) = pages.split_first_chunk::<1796>() else {
+    let Some((header, body)) = split_header(&bytes[4..]) else {
         return Ok(None);
     };
     let Ok(form) = check(&read_header(header), want) else {

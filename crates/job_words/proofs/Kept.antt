@@ -1,0 +1,72 @@
+-- What is kept of each key, as words are read.
+use Rattle.std.proofs.Common.{◌≡◌, ℕ, ◌<◌, ◌+◌, Bool, true, false, ◌||◌, cond, List, [], ◌∷◌, ◌++◌, length, Option, Some, None, is_some, refl, ap, sym, ◌∙◌, arith, rules}
+use Rattle.std.specs.List.{find, list_any, position_from}
+use Rattle.std.specs.Option.{option_map, option_and_then, option_or}
+use Rattle.std.proofs.lemmas.Bool.Decides.{nat_tests}
+use Rattle.std.proofs.lemmas.List.Folds.{find-append, list_any-append}
+use Rattle.job_words.specs.Values.{is_text, kernel_named, worker_count}
+use Rattle.job_words.specs.Table.{KeyRow, profile_key, kernel_key, workers_key}
+use Rattle.job_words.specs.Meaning.{gives, given, value_of, profile_word, given_kernel, given_workers}
+use Rattle.job_words.specs.Reading.{IsKept}
+
+-- how the value of a key comes from the word that gives it, and its number
+pub record IsValue {T : Type 0} (key : KeyRow) (value : List (List ℕ) → Option T) (read : ℕ → List ℕ → Option T) : Type 0 where
+  pub other : (words : List (List ℕ)) (word : List ℕ) → gives key word ≡ false → value (words ++ word ∷ []) ≡ value words
+  pub first : (words : List (List ℕ)) (word : List ℕ) → list_any (gives key) words ≡ false → gives key word ≡ true → value (words ++ word ∷ []) ≡ read (length words + 2) word
+
+-- a word with another key
+pub kept_other : {T : Type 0} {key : KeyRow} {value : List (List ℕ) → Option T} {read : ℕ → List ℕ → Option T} (is_value : IsValue key value read) (words : List (List ℕ)) (word : List ℕ) (kept : Option T) → IsKept key value words kept → gives key word ≡ false → IsKept key value (words ++ word ∷ []) kept
+kept_other {key = key} is_value words word kept h apart = record {
+  same = h.same ∙ sym (is_value.other words word apart);
+  once = h.once ∙ sym (rw (list_any-append, apart) (grind (arith, nat_tests)));
+}
+
+-- the first word with this key
+pub kept_first : {T : Type 0} {key : KeyRow} {value : List (List ℕ) → Option T} {read : ℕ → List ℕ → Option T} (is_value : IsValue key value read) (words : List (List ℕ)) (word : List ℕ) (old new : Option T) → IsKept key value words old → is_some old ≡ false → gives key word ≡ true → new ≡ read (length words + 2) word → is_some new ≡ true → IsKept key value (words ++ word ∷ []) new
+kept_first {key = key} is_value words word old new h none here is taken = record {
+  same = is ∙ sym (is_value.first words word (sym h.once ∙ none) here);
+  once = taken ∙ sym (rw (list_any-append, here) (grind (arith, nat_tests)));
+}
+
+-- none is found where none passes
+find_none : {X : Type 0} (p : X → Bool) (xs : List X) → list_any p xs ≡ false → find p xs ≡ None
+find_none p [] h = refl
+find_none p (x ∷ xs) h = grind (arith, nat_tests, find_none p xs)
+
+or_none : {X : Type 0} (o : Option X) → option_or o None ≡ o
+or_none None = refl
+or_none (Some x) = refl
+
+given_value : {T : Type 0} (key : KeyRow) (read : List ℕ → Option T) → IsValue key (λ words. option_and_then read (given key words)) (λ n word. read (value_of word))
+given_value key read = record {
+  other = λ words word apart.
+    let same : find (gives key) (words ++ word ∷ []) ≡ find (gives key) words = rw (find-append, apart) (or_none (find (gives key) words)) in
+    ap (λ found. option_and_then read (option_map value_of found)) same;
+  first = λ words word none here.
+    let this : find (gives key) (words ++ word ∷ []) ≡ Some word = rw (find-append, find_none (gives key) words none, here) refl in
+    ap (λ found. option_and_then read (option_map value_of found)) this;
+}
+
+pub kernel_value : IsValue kernel_key given_kernel (λ n word. kernel_named (value_of word))
+kernel_value = given_value kernel_key kernel_named
+
+pub workers_value : IsValue workers_key given_workers (λ n word. worker_count (value_of word))
+workers_value = given_value workers_key worker_count
+
+-- the place of the first that passes, in a list with one more
+position_push : {X : Type 0} (p : X → Bool) (n : ℕ) (xs : List X) (x : X) → position_from p n (xs ++ x ∷ []) ≡ option_or (position_from p n xs) (cond (p x) (Some (n + length xs)) None)
+position_push p n [] x = ap (λ k. cond (p x) (Some k) None) (omega arith)
+position_push p n (y ∷ xs) x = by_test (p y) (position_push p (n + 1) xs x) where
+  by_test : (test : Bool) → position_from p (n + 1) (xs ++ x ∷ []) ≡ option_or (position_from p (n + 1) xs) (cond (p x) (Some (n + 1 + length xs)) None) → cond test (Some n) (position_from p (n + 1) (xs ++ x ∷ [])) ≡ option_or (cond test (Some n) (position_from p (n + 1) xs)) (cond (p x) (Some (n + length (y ∷ xs))) None)
+  by_test true later = refl
+  by_test false later = later ∙ ap (λ k. option_or (position_from p (n + 1) xs) (cond (p x) (Some k) None)) (omega arith)
+
+no_position : {X : Type 0} (p : X → Bool) (n : ℕ) (xs : List X) → list_any p xs ≡ false → position_from p n xs ≡ None
+no_position p n [] h = refl
+no_position p n (x ∷ xs) h = grind (arith, nat_tests, no_position p (n + 1) xs)
+
+pub profile_value : IsValue profile_key profile_word (λ n word. Some n)
+profile_value = record {
+  other = λ words word apart. position_push (gives profile_key) 2 words word ∙ rw apart (or_none (profile_word words));
+  first = λ words word none here. position_push (gives profile_key) 2 words word ∙ rw (no_position (gives profile_key) 2 words none, here) (ap Some (omega arith));
+}

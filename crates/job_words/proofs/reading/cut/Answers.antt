@@ -1,0 +1,6 @@
+use Rattle.job_words.proofs.Faults.{parts_of}
+use Rattle.job_words.proofs.Kept.{kernel_value}
+use Rattle.job_words.proofs.reading.cut.Goals as goal
+
+pub returns : goal.returns
+returns c = parts_of _ _ c.split_once.ensures.cases

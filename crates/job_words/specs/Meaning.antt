@@ -1,0 +1,100 @@
+-- What the words of a command line ask for, and which of them is refused.
+use Rattle.std.specs.Prelude.{ℕ, Bool, ◌==◌, ◌+◌, if◌then◌else◌, List, [], ◌∷◌, ◌++◌, codes, drop, length, find, Option, Some, None, Result, Ok, Err, unwrap_or}
+use Rattle.std.specs.List.{before_first, after_first, list_any, position_from}
+use Rattle.std.specs.Option.{option_and_then, option_map}
+use Rattle.answer_definitions.specs.declared.usage.UsageCause.{UsageCause}
+use Rattle.answer_definitions.specs.declared.usage.UsageCause.TheVariants.{NoCommand, UnknownCommand, NotKeyValue, UnknownKey, RepeatedKey, BadValue}
+use Rattle.answer_definitions.specs.declared.usage.UsageFault.{UsageFault}
+use Rattle.diffusion_kernel.specs.declared.tables.Kernel.{Kernel}
+use Rattle.diffusion_kernel.specs.declared.tables.Kernel.TheVariants.{Floyd}
+use Rattle.job_words.specs.Values.{is_text, kernel_named, worker_count}
+use Rattle.job_words.specs.Table.{KeyRow, CommandRow, command_named, key_named, profile_key, kernel_key, workers_key}
+use Rattle.job_words.specs.declared.reading.Job.{Job}
+
+-- A word is a key and a value, cut at its first `=`.
+abbrev pub is_equals_sign : ℕ → Bool
+is_equals_sign byte = byte == 61
+
+abbrev pub is_key_value : List ℕ → Bool
+is_key_value word = list_any is_equals_sign word
+
+abbrev pub key_of : List ℕ → List ℕ
+key_of word = before_first is_equals_sign word
+
+abbrev pub value_of : List ℕ → List ℕ
+value_of word = after_first is_equals_sign word
+
+-- whether a word gives this key
+abbrev pub gives : KeyRow → List ℕ → Bool
+gives key word = is_text (key_of word) key.name
+
+-- why a word with a key of the command is refused: the key was given before, or does not take the value
+abbrev pub value_fault : Bool → Bool → Option UsageCause
+value_fault repeated taken = if repeated then Some RepeatedKey else if taken then None else Some BadValue
+
+-- why a word with this key is refused
+abbrev pub key_fault : List (List ℕ) → List ℕ → Option KeyRow → Option UsageCause
+key_fault earlier word None = Some UnknownKey
+key_fault earlier word (Some key) = value_fault (list_any (gives key) earlier) (key.takes (value_of word))
+
+-- Why a word behind the command is refused; `earlier` are the words between.
+unfoldable pub word_fault : List KeyRow → List (List ℕ) → List ℕ → Option UsageCause
+word_fault keys earlier word =
+    if is_key_value word then key_fault earlier word (key_named keys (key_of word)) else Some NotKeyValue
+
+-- a fault at the word of this number
+abbrev pub fault_at : ℕ → UsageCause → UsageFault
+fault_at number cause = record { word = number; cause = cause }
+
+abbrev pub faults_at : ℕ → Option UsageCause → List UsageFault
+faults_at number None = []
+faults_at number (Some cause) = fault_at number cause ∷ []
+
+-- All words behind the command that are refused, and why; `earlier` are those that were looked at.
+unfoldable pub refused : List KeyRow → List (List ℕ) → List (List ℕ) → List UsageFault
+refused keys [] earlier = []
+refused keys (word ∷ words) earlier =
+    faults_at (length earlier + 2) (word_fault keys earlier word) ++ refused keys words (earlier ++ word ∷ [])
+
+-- the value that the words behind the command give a key
+abbrev pub given : KeyRow → List (List ℕ) → Option (List ℕ)
+given key words = option_map value_of (find (gives key) words)
+
+-- the number of the word that gives the profile
+abbrev pub profile_word : List (List ℕ) → Option ℕ
+profile_word words = position_from (gives profile_key) 2 words
+
+-- the kernel that the words give
+abbrev pub given_kernel : List (List ℕ) → Option Kernel
+given_kernel words = option_and_then kernel_named (given kernel_key words)
+
+-- the count of workers that the words give
+abbrev pub given_workers : List (List ℕ) → Option ℕ
+given_workers words = option_and_then worker_count (given workers_key words)
+
+-- The job of a command and the words behind it: each key's value, or its default.
+abbrev pub job_of : CommandRow → List (List ℕ) → Job
+job_of command words = record {
+  verb = command.verb;
+  profile_word = unwrap_or (profile_word words) 0;
+  kernel = unwrap_or (given_kernel words) Floyd;
+  workers = unwrap_or (given_workers words) 1;
+}
+
+-- The first fault, where there is one, and else the job.
+abbrev pub job_unless : List UsageFault → Job → Result Job UsageFault
+job_unless [] job = Ok job
+job_unless (fault ∷ faults) job = Err fault
+
+abbrev pub command_meaning : List (List ℕ) → Option CommandRow → Result Job UsageFault
+command_meaning words None = Err (fault_at 1 UnknownCommand)
+command_meaning words (Some command) = job_unless (refused command.keys words []) (job_of command words)
+
+-- What a command line means.
+unfoldable pub job_meaning : List (List ℕ) → Result Job UsageFault
+job_meaning [] = Err (fault_at 1 NoCommand)
+job_meaning (name ∷ words) = command_meaning words (command_named name)
+
+-- The profile's name: the built-in one where no word gives it.
+abbrev pub profile_named : List (List ℕ) → List ℕ
+profile_named words = unwrap_or (given profile_key (drop 1 words)) (codes "p360cmyk")

@@ -1,0 +1,48 @@
+-- The table of commands and keys.
+use Rattle.std.specs.Prelude.{ℕ, Bool, nat_le, ◌&&◌, List, [], ◌∷◌, codes, length, find, is_some, Option}
+use Rattle.job_words.specs.Values.{is_text, kernel_named, worker_count}
+use Rattle.job_words.specs.declared.table.Verb.{Verb}
+use Rattle.job_words.specs.declared.table.Verb.TheVariants.{Print, Profile}
+
+-- a key: its name, and the values that it takes
+pub record KeyRow : Type 0 where
+  pub name : List ℕ
+  pub takes : List ℕ → Bool
+
+-- a command: its name, and its keys
+pub record CommandRow : Type 0 where
+  pub verb : Verb
+  pub name : List ℕ
+  pub keys : List KeyRow
+
+-- the profile's name, of 1 to 255 bytes
+abbrev pub profile_key : KeyRow
+profile_key = record { name = codes "profile"; takes = λ value. nat_le 1 (length value) && nat_le (length value) 255 }
+
+-- the kernel of error diffusion
+abbrev pub kernel_key : KeyRow
+kernel_key = record { name = codes "kernel"; takes = λ value. is_some (kernel_named value) }
+
+-- how many workers there are, from 1 to 64
+abbrev pub workers_key : KeyRow
+workers_key = record { name = codes "workers"; takes = λ value. is_some (worker_count value) }
+
+-- the command that prints the pages of a stream
+abbrev pub print_command : CommandRow
+print_command = record { verb = Print; name = codes "print"; keys = profile_key ∷ kernel_key ∷ workers_key ∷ [] }
+
+-- the command that shows a profile
+abbrev pub profile_command : CommandRow
+profile_command = record { verb = Profile; name = codes "profile"; keys = profile_key ∷ [] }
+
+-- all commands
+abbrev pub command_table : List CommandRow
+command_table = print_command ∷ profile_command ∷ []
+
+-- the command of a name
+abbrev pub command_named : List ℕ → Option CommandRow
+command_named name = find (λ command. is_text name command.name) command_table
+
+-- the key of a name
+abbrev pub key_named : List KeyRow → List ℕ → Option KeyRow
+key_named keys name = find (λ key. is_text name key.name) keys

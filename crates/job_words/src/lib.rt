@@ -1,0 +1,15 @@
+//! What the words of a command line ask for: the command, and a value for each of its keys.
+#![tactic(auto)]
+
+mod reading;
+mod table;
+mod values;
+
+pub use answer_definitions::{UsageCause, UsageFault};
+pub use diffusion_kernel::Kernel;
+pub use reading::{Job, profile_name, read_words};
+pub use table::Verb;
+pub use weave_base::Words;
+
+#[cfg(test)]
+mod tests;

@@ -1,0 +1,142 @@
+//! Reading the words of a command line.
+ghost use Rattle.job_words.specs.Meaning.{is_key_value, job_meaning, key_of, profile_named, refused, value_fault, value_of, word_fault};
+ghost use Rattle.job_words.specs.Reading.{IsGiven};
+ghost use Rattle.job_words.specs.Rows.{command_row};
+ghost use Rattle.job_words.specs.Table.{profile_key};
+ghost use Rattle.std.specs.Prelude.{IfErr, IfOk, List, MatchOption, OnOk, [], drop, false, is_some, length, slice_get, true, ℕ, ◌+◌, ◌++◌, ◌∷◌, ◌≡◌, if◌then◌else◌};
+ghost use Rattle.std.specs.Result.{result_err};
+
+use crate::table::{Key, Verb};
+use crate::values::{kernel_named, worker_count};
+use answer_definitions::{UsageCause, UsageFault};
+use diffusion_kernel::Kernel;
+use weave_base::Words;
+
+/// What a command line asks for.
+#[derive(Clone, Copy, Debug, PartialEq, Eq)]
+pub struct Job {
+    /// The command.
+    pub verb: Verb,
+    /// The number of the word `profile=..`, counted from 1, or 0 where there is none: the built-in profile.
+    pub profile_word: u32,
+    /// The kernel of error diffusion.
+    pub kernel: Kernel,
+    /// How many workers there are: 1 to 64.
+    pub workers: u8,
+}
+
+// What the words so far give.
+#[derive(Clone, Copy)]
+struct Given {
+    profile_word: Option<u32>,
+    kernel: Option<Kernel>,
+    workers: Option<u8>,
+}
+
+// Keeps a key's value, unless the key has one.
+fn keep<T: Copy>(kept: &mut Option<T>, value: Option<T>) -> Result<(), UsageCause>
+    ensures cause { result_err result ≡ value_fault (is_some kept.old) (is_some value) }
+    ensures kept { OnOk result (kept.new ≡ value) }
+{
+    if kept.is_some() {
+        return Err(UsageCause::RepeatedKey);
+    }
+    *kept = Some(value.ok_or(UsageCause::BadValue)?);
+    Ok(())
+}
+
+// The key and the value of a word.
+fn cut(word: &str) -> Option<(&str, &str)>
+    ensures { MatchOption result (is_key_value word.now ≡ false) (λ parts. (is_key_value word.now ≡ true) × (parts.0.now ≡ key_of word.now) × (parts.1.now ≡ value_of word.now)) }
+{
+    word.split_once('=')
+}
+
+// The number of the word that gives the profile, if the profile takes its value.
+fn profile_at(number: u32, value: &str) -> Option<u32>
+    ensures { result ≡ (if profile_key.takes value.now then Some number else None) }
+{
+    if 1 <= value.len() && value.len() <= 255 {
+        Some(number)
+    } else {
+        None
+    }
+}
+
+impl Given {
+    // Takes in the word of this number.
+    fn take(&mut self, verb: Verb, number: u32, word: &str) -> Result<(), UsageCause>
+        ensures cause { (earlier : List (List ℕ)) → IsGiven earlier self.old
+            → result_err result ≡ word_fault (command_row verb).keys earlier word.now }
+        ensures given { (earlier : List (List ℕ)) → IsGiven earlier self.old → length earlier + 2 ≡ number
+            → OnOk result (IsGiven (earlier ++ word.now ∷ []) self.new) }
+    {
+        let Some((name, value)) = cut(word) else {
+            return Err(UsageCause::NotKeyValue);
+        };
+        match verb.key(name) {
+            Some(Key::Profile) => keep(&mut self.profile_word, profile_at(number, value)),
+            Some(Key::Kernel) => keep(&mut self.kernel, kernel_named(value)),
+            Some(Key::Workers) => keep(&mut self.workers, worker_count(value)),
+            None => Err(UsageCause::UnknownKey),
+        }
+    }
+}
+
+// What the words behind the command give.
+fn read_keys(verb: Verb, words: &Words) -> Result<Given, UsageFault>
+    ensures accepted { OnOk result (refused (command_row verb).keys (drop 1 words.now) [] ≡ []) }
+    ensures given { IfOk result (IsGiven (drop 1 words.now)) }
+    ensures fault { IfErr result (λ fault. slice_get (refused (command_row verb).keys (drop 1 words.now) []) 0 ≡ Some fault) }
+{
+    let mut given = Given {
+        profile_word: None,
+        kernel: None,
+        workers: None,
+    };
+    for i in 1..words.len() {
+        let number = i + 1;
+        if let Err(cause) = given.take(verb, number, words.get(i)) {
+            return Err(UsageFault { word: number, cause });
+        }
+    }
+    Ok(given)
+}
+
+/// Reads the words of a command line as a job. The first word that is refused counts, and on one word the first cause
+/// in the order of `UsageCause`.
+pub fn read_words(words: &Words) -> Result<Job, UsageFault>
+    ensures { result ≡ job_meaning words.now }
+{
+    if words.is_empty() {
+        return Err(UsageFault {
+            word: 1,
+            cause: UsageCause::NoCommand,
+        });
+    }
+    let verb = Verb::named(words.get(0)).ok_or(UsageFault {
+        word: 1,
+        cause: UsageCause::UnknownCommand,
+    })?;
+    let given = read_keys(verb, words)?;
+    Ok(Job {
+        verb,
+        profile_word: given.profile_word.unwrap_or(0),
+        kernel: given.kernel.unwrap_or(Kernel::Floyd),
+        workers: given.workers.unwrap_or(1),
+    })
+}
+
+/// The name of the job's profile.
+pub fn profile_name<'a>(words: &'a Words, job: &Job) -> &'a str
+    requires { job_meaning words.now ≡ Ok job.now }
+    ensures { result.now ≡ profile_named words.now }
+{
+    if job.profile_word == 0 {
+        return "p360cmyk";
+    }
+    match cut(words.get(job.profile_word - 1)) {
+        Some((_, value)) => value,
+        None => "",
+    }
+}

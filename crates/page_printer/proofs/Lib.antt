@@ -1,0 +1,3 @@
+pub mod RowSteps
+pub mod PassBytes
+pub mod Printing

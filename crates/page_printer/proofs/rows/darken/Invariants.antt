@@ -1,0 +1,6 @@
+use Rattle.std.proofs.Common.{◌≡◌, map, take}
+use Rattle.page_printer.specs.Rows.{darkness}
+use Rattle.page_printer.proofs.rows.darken.Given as goal
+
+abbrev pub invariant-loop-x : goal.invariant-loop-x
+invariant-loop-x l = take l.x l.amounts ≡ map darkness (take l.x l.line)

@@ -1,0 +1,162 @@
+-- The calls of a reader: what is read of a piece so far.
+use Rattle.std.proofs.Common.{◌≡◌, ℕ, zero, suc, ◌+◌, ◌-◌, ◌<◌, ◌≤◌, nat_lt, true, false, if◌then◌else◌, List, [], ◌∷◌, ◌++◌, length, take, drop, Option, Some, None, refl, sym, ◌∙◌, ap, subst, arith, append_assoc, length-append, length-drop}
+use Rattle.std.proofs.lemmas.Bool.{lt-ltb}
+use Rattle.std.proofs.lemmas.List.{append-nil, length-take-le, take_all}
+use Rattle.std.proofs.Math.Seq.{take-add}
+use Rattle.stream_definitions.specs.declared.faults.LineFault.{LineFault}
+use Rattle.stream_definitions.specs.Header.{KindRow, line_units, row_of}
+use Rattle.stream_definitions.specs.Groups.{GroupRead, group_at, line_at}
+use Rattle.stream_definitions.specs.Groups.GroupRead.{Group, Part, Wrong}
+use Rattle.pwg_lines.specs.declared.reader.LineReader.{LineReader}
+use Rattle.pwg_lines.specs.declared.reader.State.{State}
+use Rattle.pwg_lines.specs.declared.reader.State.TheVariants as state
+use Rattle.pwg_lines.specs.declared.reader.Fill.{Fill}
+use Rattle.pwg_lines.specs.declared.reader.Fill.TheVariants as fill
+use Rattle.pwg_lines.specs.States.{IsAt, IsOpen, Stands, pending, read_on}
+use Rattle.pwg_lines.specs.Reading.{Ends, IsFault, IsLine, IsMore, StandsFor, Takes, fault_in, fault_of, line_of, next_group}
+use Rattle.pwg_lines.proofs.Steps.{front_of, in_state}
+
+-- So many bytes of the piece are read.
+pub record FedSoFar (old now : LineReader) (piece : List ℕ) (used : ℕ) : Type 0 where
+  pub within : used ≤ length piece
+  pub takes : Takes old now (take used piece)
+  pub again : (fault : LineFault) → fault_of old ≡ Some fault → (used ≡ 0) × (now ≡ old)
+
+pub feed_begin : (old : LineReader) (piece : List ℕ) → FedSoFar old old piece 0
+feed_begin old piece = record {
+  within = omega arith;
+  takes = record {
+    form = refl;
+    lines_left = refl;
+    stands = λ sofar so_far. let P : List ℕ → Type 0 = StandsFor old in subst P (sym (append-nil sofar)) so_far;
+  };
+  again = λ fault e. (refl, refl);
+}
+
+open-no_fault : (s : State) (fault : LineFault) → IsOpen s → fault_in s ≡ Some fault → ⊥
+open-no_fault state.Start fault is e = cc
+open-no_fault state.Packet fault is e = cc
+open-no_fault (state.Run units) fault is e = cc
+open-no_fault (state.Literal units) fault is e = cc
+open-no_fault state.Full fault is e = is
+open-no_fault (state.Failed other) fault is e = is
+
+pub still_open : (s : State) → (s ≡ state.Full → ⊥) → ((fault : LineFault) → s ≡ state.Failed fault → ⊥) → IsOpen s
+still_open state.Start full failed = tt
+still_open state.Packet full failed = tt
+still_open (state.Run units) full failed = tt
+still_open (state.Literal units) full failed = tt
+still_open state.Full full failed = full refl
+still_open (state.Failed fault) full failed = failed fault refl
+
+-- so many bytes more
+pub feed_step : (old now new : LineReader) (piece : List ℕ) (used more : ℕ) → FedSoFar old now piece used → IsOpen now.state
+    → more ≤ length (drop used piece) → Takes now new (take more (drop used piece)) → FedSoFar old new piece (used + more)
+feed_step old now new piece used more so_far is_open fits takes = record {
+  within = omega (arith, so_far.within, length-drop used piece);
+  takes = record {
+    form = takes.form ∙ so_far.takes.form;
+    lines_left = takes.lines_left ∙ so_far.takes.lines_left;
+    stands = λ sofar stood.
+      let joined : (sofar ++ take used piece) ++ take more (drop used piece) ≡ sofar ++ take (used + more) piece =
+          append_assoc sofar (take used piece) (take more (drop used piece)) ∙ ap (λ bs. sofar ++ bs) (sym (take-add used more piece)) in
+      let P : List ℕ → Type 0 = StandsFor new in
+      subst P joined (takes.stands (sofar ++ take used piece) (so_far.takes.stands sofar stood));
+  };
+  again = λ fault e. absurd (open-no_fault now.state fault is_open (ap fault_of (so_far.again fault e).1 ∙ e));
+}
+
+-- nothing is known from no bytes
+read_on-nothing : (s : State) (row : KindRow) (units lines most left repeats : ℕ) (line : List ℕ) (place : ℕ) (sofar : List ℕ)
+    → IsOpen s → IsAt s left sofar → read_on s row units lines most left (front_of repeats line place) [] ≡ Part
+unfolding line_at
+read_on-nothing state.Start row units lines most left repeats line place sofar is at = refl
+read_on-nothing state.Packet row units lines most zero repeats line place sofar is at = absurd (omega arith)
+read_on-nothing state.Packet row units lines zero (suc left) repeats line place sofar is at = refl
+read_on-nothing state.Packet row units lines (suc most) (suc left) repeats line place sofar is at = refl
+read_on-nothing (state.Run n) row units lines most left repeats line place sofar is at = refl
+read_on-nothing (state.Literal n) row units lines most left repeats line place sofar is at =
+    ap (λ b. if b then Part else read_on state.Packet row units lines most (left - n) (front_of repeats (line ++ take n []) (place + n)) (drop n [])) (lt-ltb 0 n at)
+read_on-nothing state.Full row units lines most left repeats line place sofar is at = absurd is
+read_on-nothing (state.Failed fault) row units lines most left repeats line place sofar is at = absurd is
+
+-- the group is read as its reader reads it, in a page of the same form
+same_group : (old now : LineReader) (bytes : List ℕ) → now.form ≡ old.form → now.lines_left ≡ old.lines_left → next_group old bytes ≡ next_group now bytes
+same_group old now bytes form lines =
+    ap (λ f. group_at (row_of f.kind) (line_units (row_of f.kind) f.width) old.lines_left bytes) (sym form)
+    ∙ ap (λ k. group_at (row_of now.form.kind) (line_units (row_of now.form.kind) now.form.width) k bytes) (sym lines)
+
+pub feed_more : (old now : LineReader) (piece : List ℕ) (used : ℕ) → FedSoFar old now piece used → IsOpen now.state → used ≡ length piece
+    → IsMore old now piece used
+feed_more old now piece used so_far is_open all = record {
+  all = all;
+  lines_left = so_far.takes.lines_left;
+  part = part;
+  stands = stands;
+}
+  where
+    stands : (sofar : List ℕ) → StandsFor old sofar → StandsFor now (sofar ++ piece)
+    stands sofar stood = let P : List ℕ → Type 0 = λ bs. StandsFor now (sofar ++ bs) in
+        subst P (take_all used piece (omega arith)) (so_far.takes.stands sofar stood)
+
+    part : (sofar : List ℕ) → StandsFor old sofar → next_group old (sofar ++ piece) ≡ Part
+    part sofar stood =
+        let here : StandsFor now (sofar ++ piece) = stands sofar stood in
+        same_group old now (sofar ++ piece) so_far.takes.form so_far.takes.lines_left
+        ∙ ap (next_group now) (sym (append-nil (sofar ++ piece)))
+        ∙ here.is []
+        ∙ read_on-nothing now.state _ _ _ _ _ _ _ _ (sofar ++ piece) is_open here.at
+
+pub feed_fault : (old now : LineReader) (piece : List ℕ) (used : ℕ) (fault : LineFault) → FedSoFar old now piece used → now.state ≡ state.Failed fault
+    → IsFault old now piece used fault
+feed_fault old now piece used fault so_far failed = record {
+  failed = ap fault_in failed;
+  lines_left = so_far.takes.lines_left;
+  wrong = wrong;
+  stands = so_far.takes.stands;
+}
+  where
+    wrong : (sofar rest : List ℕ) → StandsFor old sofar → (place : ℕ) × (length sofar + used ≡ place + 1)
+        × (next_group old (sofar ++ take used piece ++ rest) ≡ Wrong place fault)
+    wrong sofar rest stood =
+        let read : List ℕ = sofar ++ take used piece in
+        let here : Stands _ _ _ (state.Failed fault) _ _ _ read = in_state _ _ _ _ _ _ _ _ _ failed (so_far.takes.stands sofar stood) in
+        let sized : length read ≡ length sofar + used = length-append sofar (take used piece) ∙ ap (λ k. length sofar + k) (length-take-le used piece so_far.within) in
+        (length read - 1, omega (arith, here.at), same_group old now (read ++ rest) so_far.takes.form so_far.takes.lines_left ∙ here.is rest)
+
+pub feed_line : (old now new : LineReader) (answer : Fill) (piece : List ℕ) (used : ℕ) → FedSoFar old now piece used → now.state ≡ state.Full → Ends now new answer
+    → IsLine old new piece used now.repeats
+feed_line old now new answer piece used so_far full ends = record {
+  some = ends.some;
+  fall = ends.fall ∙ so_far.takes.lines_left;
+  group = group;
+  anew = ends.anew;
+}
+  where
+    group : (sofar rest : List ℕ) → StandsFor old sofar → next_group old (sofar ++ take used piece ++ rest) ≡ Group now.repeats (line_of new) rest
+    group sofar rest stood =
+        let read : List ℕ = sofar ++ take used piece in
+        let here : Stands _ _ _ state.Full _ _ _ read = in_state _ _ _ _ _ _ _ _ _ full (so_far.takes.stands sofar stood) in
+        let whole : take now.filled now.line.items ≡ now.line.items = take_all now.filled now.line.items (omega (arith, here.at)) in
+        same_group old now (read ++ rest) so_far.takes.form so_far.takes.lines_left
+        ∙ here.is rest
+        ∙ ap (λ bs. Group now.repeats bs rest) (whole ∙ sym ends.line)
+
+-- a reader that is full has met no fault
+pub again-full : (old now : LineReader) (piece : List ℕ) (used : ℕ) (fault : LineFault) → FedSoFar old now piece used → now.state ≡ state.Full
+    → fault_of old ≡ Some fault → ⊥
+again-full old now piece used fault so_far full e =
+    let same : fault_in now.state ≡ Some fault = ap fault_of (so_far.again fault e).1 ∙ e in
+    let none : fault_in now.state ≡ None = ap fault_in full in cc
+
+pub again-open : (old now : LineReader) (piece : List ℕ) (used : ℕ) (fault : LineFault) → FedSoFar old now piece used → IsOpen now.state
+    → fault_of old ≡ Some fault → ⊥
+again-open old now piece used fault so_far is_open e = open-no_fault now.state fault is_open (ap fault_of (so_far.again fault e).1 ∙ e)
+
+pub again-failed : (old now : LineReader) (piece : List ℕ) (used : ℕ) (met fault : LineFault) → FedSoFar old now piece used → now.state ≡ state.Failed met
+    → fault_of old ≡ Some fault → (used ≡ 0) × (met ≡ fault) × (now ≡ old)
+again-failed old now piece used met fault so_far failed e =
+    let same : fault_in now.state ≡ Some fault = ap fault_of (so_far.again fault e).1 ∙ e in
+    let is_met : fault_in now.state ≡ Some met = ap fault_in failed in
+    let both : Some met ≡ Some fault = sym is_met ∙ same in
+    ((so_far.again fault e).0, cc, (so_far.again fault e).1)

@@ -1,0 +1,106 @@
+-- What a reader of lines stands for, and what its calls tell.
+use Rattle.std.specs.Prelude.{◌≡◌, ℕ, ◌+◌, ◌-◌, ◌≤◌, List, [], ◌∷◌, ◌++◌, length, take, Option, Some, None}
+use Rattle.stream_definitions.specs.declared.pages.PageForm.{PageForm}
+use Rattle.stream_definitions.specs.declared.faults.LineFault.{LineFault}
+use Rattle.stream_definitions.specs.Header.{line_units, row_of}
+use Rattle.stream_definitions.specs.Groups.{GroupRead, group_at}
+use Rattle.stream_definitions.specs.Groups.GroupRead.{Group, Part, Wrong}
+use Rattle.pwg_lines.specs.declared.reader.LineReader.{LineReader}
+use Rattle.pwg_lines.specs.declared.reader.State.{State}
+use Rattle.pwg_lines.specs.declared.reader.State.TheVariants as state
+use Rattle.pwg_lines.specs.declared.reader.Fill.{Fill}
+use Rattle.pwg_lines.specs.declared.reader.Fill.TheVariants.{More, Line, Fault}
+use Rattle.pwg_lines.specs.States.{Stands}
+
+-- the form of the page whose lines are read
+abbrev pub form_of : LineReader → PageForm
+form_of reader = reader.form
+
+-- how many lines of the page are not yet given
+abbrev pub lines_left_of : LineReader → ℕ
+lines_left_of reader = reader.lines_left
+
+-- the bytes of the line of the last group
+abbrev pub line_of : LineReader → List ℕ
+line_of reader = reader.line.items
+
+abbrev pub fault_in : State → Option LineFault
+fault_in state.Start = None
+fault_in state.Packet = None
+fault_in (state.Run units) = None
+fault_in (state.Literal units) = None
+fault_in state.Full = None
+fault_in (state.Failed fault) = Some fault
+
+-- the fault that was met
+abbrev pub fault_of : LineReader → Option LineFault
+fault_of reader = fault_in reader.state
+
+-- what the bytes are read as where a group of the page of this reader stands next
+abbrev pub next_group : LineReader → List ℕ → GroupRead
+next_group reader bytes =
+    let row = row_of (form_of reader).kind in group_at row (line_units row (form_of reader).width) (lines_left_of reader) bytes
+
+-- The reader has read these bytes of a group.
+abbrev pub StandsFor : LineReader → List ℕ → Type 0
+StandsFor reader sofar =
+    let row = row_of reader.form.kind in
+    Stands row (line_units row reader.form.width) reader.lines_left reader.state reader.repeats
+        (take reader.filled reader.line.items) (length reader.line.items - reader.filled) sofar
+
+-- The reader has read these bytes behind those before.
+pub record Takes (old new : LineReader) (bytes : List ℕ) : Type 0 where
+  pub form : new.form ≡ old.form
+  pub lines_left : new.lines_left ≡ old.lines_left
+  pub stands : (sofar : List ℕ) → StandsFor old sofar → StandsFor new (sofar ++ bytes)
+
+-- The reader gives the line of the group that is read, and stands before the next.
+pub record Ends (old new : LineReader) (answer : Fill) : Type 0 where
+  pub answer_is : answer ≡ Line old.repeats
+  pub some : 1 ≤ old.repeats
+  pub fall : new.lines_left + old.repeats ≡ old.lines_left
+  pub form : new.form ≡ old.form
+  pub line : new.line.items ≡ old.line.items
+  pub anew : StandsFor new []
+
+-- ---- answers
+
+-- a fact for each answer of `feed`
+abbrev pub OnMore : Fill → Type 0 → Type 0
+OnMore More P = P
+OnMore (Line repeats) P = Unit {0}
+OnMore (Fault fault) P = Unit {0}
+
+abbrev pub OnLine : Fill → (ℕ → Type 0) → Type 0
+OnLine More P = Unit {0}
+OnLine (Line repeats) P = P repeats
+OnLine (Fault fault) P = Unit {0}
+
+abbrev pub OnFault : Fill → (LineFault → Type 0) → Type 0
+OnFault More P = Unit {0}
+OnFault (Line repeats) P = Unit {0}
+OnFault (Fault fault) P = P fault
+
+-- The piece is read as a whole, and the group does not end in it.
+pub record IsMore (old new : LineReader) (piece : List ℕ) (used : ℕ) : Type 0 where
+  pub all : used ≡ length piece
+  pub lines_left : lines_left_of new ≡ lines_left_of old
+  pub part : (sofar : List ℕ) → StandsFor old sofar → next_group old (sofar ++ piece) ≡ Part
+  pub stands : (sofar : List ℕ) → StandsFor old sofar → StandsFor new (sofar ++ piece)
+
+-- The group ends with the last byte that was used, whatever comes after it; the reader stands before the next one.
+pub record IsLine (old new : LineReader) (piece : List ℕ) (used repeats : ℕ) : Type 0 where
+  pub some : 1 ≤ repeats
+  pub fall : lines_left_of new + repeats ≡ lines_left_of old
+  pub group : (sofar rest : List ℕ) → StandsFor old sofar
+      → next_group old (sofar ++ take used piece ++ rest) ≡ Group repeats (line_of new) rest
+  pub anew : StandsFor new []
+
+-- The group has this fault at the last byte that was used, whatever comes after it.
+pub record IsFault (old new : LineReader) (piece : List ℕ) (used : ℕ) (fault : LineFault) : Type 0 where
+  pub failed : fault_of new ≡ Some fault
+  pub lines_left : lines_left_of new ≡ lines_left_of old
+  pub wrong : (sofar rest : List ℕ) → StandsFor old sofar
+      → (place : ℕ) × (length sofar + used ≡ place + 1)
+      × (next_group old (sofar ++ take used piece ++ rest) ≡ Wrong place fault)
+  pub stands : (sofar : List ℕ) → StandsFor old sofar → StandsFor new (sofar ++ take used piece)

@@ -1,0 +1,9 @@
+//! The run-coded lines of a page of PWG Raster (PWG 5102.4, section 4.4): groups of equal lines read from pieces of
+//! any length, and written.
+#![tactic(auto)]
+
+mod buffer;
+mod reader;
+
+pub use reader::{Fed, Fill, LineReader};
+pub use stream_definitions::{Kind, LineFault, PageForm};

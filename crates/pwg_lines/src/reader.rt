@@ -1,0 +1,261 @@
+//! A reader of the groups of a page's lines, piece by piece.
+ghost use Rattle.pwg_lines.specs.States.{behind_packet, least_pending, least_repeats, pending};
+ghost use Rattle.std.specs.Prelude.{[], length, min, take, ◌+◌, ◌<◌, ◌∷◌, ◌≡◌, ◌≤◌};
+ghost use Rattle.stream_definitions.specs.Groups as groups;
+ghost use Rattle.stream_definitions.specs.Header.{line_bytes, line_units, row_of};
+
+use crate::buffer::{fill_bytes, fill_run};
+use std::alloc::Global;
+use stream_definitions::{LineFault, PageForm};
+use weave_base::Memory;
+
+/// What a call of `LineReader::feed` comes to.
+#[derive(Clone, Copy, Debug, PartialEq, Eq)]
+pub enum Fill {
+    /// The piece ends before the group does.
+    More,
+    /// A group is read; its line, which `LineReader::line` gives, stands so many times.
+    Line { repeats: u32 },
+    /// The group is refused, and with it the rest of the page.
+    Fault(LineFault),
+}
+
+/// How much of a piece was read, and what it came to.
+#[derive(Clone, Copy, Debug, PartialEq, Eq)]
+pub struct Fed {
+    /// Bytes of the piece, from its front.
+    pub used: usize,
+    pub state: Fill,
+}
+
+/// Where in a group a reader stands.
+#[derive(Clone, Copy)]
+enum State {
+    /// Before the group's count.
+    Start,
+    /// Before a packet, with units of the line left.
+    Packet,
+    /// Before the unit that a run repeats so many times.
+    Run(usize),
+    /// Before so many bytes of a literal, one or more.
+    Literal(usize),
+    /// Behind the group's last byte.
+    Full,
+    /// Behind the byte with the fault.
+    Failed(LineFault),
+}
+
+/// Reads the groups of the lines of one page from pieces of any length.
+#[derive(Drop)]
+pub struct LineReader {
+    form: PageForm,
+    lines_left: u32,
+    repeats: u32,
+    line: Vec<u8>,
+    filled: usize,
+    state: State,
+    ghost sized: { length line.items ≡ line_units (row_of form.kind) form.width },
+    ghost some: { 0 < length line.items },
+    ghost fits: { filled + pending state ≤ length line.items },
+    ghost begun: { least_pending state ≤ pending state },
+    ghost counted: { least_repeats state ≤ repeats },
+    ghost within: { repeats ≤ lines_left },
+}
+
+impl LineReader {
+    ghost use Rattle.pwg_lines.specs.Reading.{Ends, IsFault, IsLine, IsMore, OnFault, OnLine, OnMore, StandsFor, Takes, fault_of, form_of, line_of, lines_left_of};
+    ghost use Rattle.pwg_lines.specs.States.{IsOpen};
+    ghost use Rattle.std.specs.Prelude.{IfOk, Some};
+    ghost use Rattle.stream_definitions.specs.declared.faults.LineFault.{LineFault};
+
+    /// A reader of all lines of a page of this form. The bytes of one line are allocated here.
+    pub fn begin(alloc: Global, form: PageForm) -> Result<LineReader, Memory>
+        requires narrowest { 1 ≤ form.width }
+        requires widest { form.width ≤ 8191 }
+        requires lowest { 1 ≤ form.height }
+        requires tallest { form.height ≤ 15840 }
+        requires bytes { form.bytes_per_line ≡ line_bytes form.width (row_of form.kind).bits_per_pixel }
+        ensures form { IfOk result (λ reader. form_of reader ≡ form) }
+        ensures lines_left { IfOk result (λ reader. lines_left_of reader ≡ form.height) }
+        ensures anew { IfOk result (λ reader. StandsFor reader []) }
+    {
+        let Ok(line) = vec![in alloc; 0; form.bytes_per_line as usize] else {
+            return Err(Memory);
+        };
+        Ok(LineReader {
+            form,
+            lines_left: form.height,
+            repeats: 0,
+            line,
+            filled: 0,
+            state: State::Start,
+        })
+    }
+
+    /// Reads the next bytes of the page. It stops behind a group, or behind the byte with a fault; each later call
+    /// then tells the fault again.
+    pub fn feed(&mut self, piece: &[u8]) -> Fed
+        ensures used { result.used ≤ length piece.now }
+        ensures form { form_of self.new ≡ form_of self.old }
+        ensures more { OnMore result.state (IsMore self.old self.new piece.now result.used) }
+        ensures line { OnLine result.state (λ repeats. IsLine self.old self.new piece.now result.used repeats) }
+        ensures fault { OnFault result.state (λ fault. IsFault self.old self.new piece.now result.used fault) }
+        ensures again { (fault : LineFault) → fault_of self.old ≡ Some fault
+            → (result ≡ record { used = 0; state = Fill.Fault fault }) × (self.new ≡ self.old) }
+    {
+        let mut used = 0;
+        'steps: loop {
+            match self.state {
+                State::Full => {
+                    return Fed {
+                        used,
+                        state: self.end_group(),
+                    };
+                }
+                State::Failed(fault) => {
+                    return Fed {
+                        used,
+                        state: Fill::Fault(fault),
+                    };
+                }
+                _ => {
+                    if used == piece.len() {
+                        return Fed {
+                            used,
+                            state: Fill::More,
+                        };
+                    }
+                    used += self.step(&piece[used..]);
+                }
+            }
+        }
+    }
+
+    /// How many lines of the page are not yet given.
+    pub fn lines_left(&self) -> u32
+        ensures { result ≡ lines_left_of self.now }
+    {
+        self.lines_left
+    }
+
+    /// The bytes of the line of the group, after a call of `feed` that answered `Fill::Line`.
+    pub fn line(&self) -> &[u8]
+        ensures { result.now ≡ line_of self.now }
+    {
+        &self.line
+    }
+
+    /// Gives the line of the group that is read, and begins the next group.
+    fn end_group(&mut self) -> Fill
+        requires { self.old.state ≡ State.Full }
+        ensures { Ends self.old self.new result }
+    {
+        let repeats = self.repeats;
+        self.lines_left -= repeats;
+        self.repeats = 0;
+        self.state = State::Start;
+        Fill::Line { repeats }
+    }
+
+    /// Reads one part of a group, at least a byte, and gives the number of its bytes.
+    fn step(&mut self, bytes: &[u8]) -> usize
+        requires some { 0 < length bytes.now }
+        requires is_open { IsOpen self.old.state }
+        ensures least { 0 < result }
+        ensures most { result ≤ length bytes.now }
+        ensures takes { Takes self.old self.new (take result bytes.now) }
+    {
+        match self.state {
+            State::Start => self.feed_start(bytes[0]),
+            State::Packet => self.feed_packet(bytes[0]),
+            State::Run(units) => self.feed_run(units, bytes[0]),
+            State::Literal(wanted) => return self.feed_literal(wanted, bytes),
+            State::Full | State::Failed(_) => {}
+        }
+        1
+    }
+
+    /// Reads a group's count.
+    fn feed_start(&mut self, count: u8)
+        requires { self.old.state ≡ State.Start }
+        ensures { Takes self.old self.new (count ∷ []) }
+    {
+        let repeats = u32::from(count) + 1;
+        if self.lines_left < repeats {
+            self.state = State::Failed(LineFault::GroupPastPage);
+            return;
+        }
+        self.repeats = repeats;
+        self.filled = 0;
+        self.state = State::Packet;
+    }
+
+    /// Reads the first byte of a packet.
+    fn feed_packet(&mut self, first: u8)
+        requires { self.old.state ≡ State.Packet }
+        ensures { Takes self.old self.new (first ∷ []) }
+    {
+        let left = self.line.len() - self.filled;
+        let units = units_of(left, first);
+        if left < units {
+            self.state = State::Failed(LineFault::RunPastLine);
+            return;
+        }
+        if first < 128 {
+            self.state = State::Run(units);
+            return;
+        }
+        if first > 128 {
+            self.state = State::Literal(units);
+            return;
+        }
+        fill_run(&mut self.line, self.filled, left, 255);
+        self.filled += left;
+        self.state = State::Full;
+    }
+
+    /// Reads the unit of a run.
+    fn feed_run(&mut self, units: usize, unit: u8)
+        requires { self.old.state ≡ State.Run units }
+        ensures { Takes self.old self.new (unit ∷ []) }
+    {
+        fill_run(&mut self.line, self.filled, units, unit);
+        self.filled += units;
+        self.state = state_behind(self.line.len() - self.filled);
+    }
+
+    /// Reads bytes of a literal, as many as there are and are wanted, and gives their number.
+    fn feed_literal(&mut self, wanted: usize, bytes: &[u8]) -> usize
+        requires { self.old.state ≡ State.Literal wanted }
+        ensures count { result ≡ min (length bytes.now) wanted }
+        ensures takes { Takes self.old self.new (take result bytes.now) }
+    {
+        let count = bytes.len().min(wanted);
+        fill_bytes(&mut self.line, self.filled, &bytes[..count]);
+        self.filled += count;
+        self.state = if count < wanted {
+            State::Literal(wanted - count)
+        } else {
+            state_behind(self.line.len() - self.filled)
+        };
+        count
+    }
+}
+
+/// How many units the packet of this first byte gives.
+fn units_of(left: usize, first: u8) -> usize
+    ensures { result ≡ groups.units_of left first }
+{
+    match first {
+        0..=127 => usize::from(first) + 1,
+        128 => left,
+        _ => 257 - usize::from(first),
+    }
+}
+
+/// Where a reader stands behind a packet, with so many units of the line left.
+fn state_behind(left: usize) -> State
+    ensures { result ≡ behind_packet left }
+{
+    if left == 0 { State::Full } else { State::Packet }
+}
