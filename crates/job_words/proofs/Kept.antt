@@ -4,10 +4,13 @@ use Rattle.std.specs.List.{find, list_any, position_from}
 use Rattle.std.specs.Option.{option_map, option_and_then, option_or}
 use Rattle.std.proofs.lemmas.Bool.Decides.{nat_tests}
 use Rattle.std.proofs.lemmas.List.Folds.{find-append, list_any-append}
+use Rattle.std.proofs.lemmas.Slice.Eq.{bytes_eq-Decides}
 use Rattle.job_words.specs.Values.{is_text, kernel_named, worker_count}
 use Rattle.job_words.specs.Table.{KeyRow, profile_key, kernel_key, workers_key}
-use Rattle.job_words.specs.Meaning.{gives, given, value_of, profile_word, given_kernel, given_workers}
-use Rattle.job_words.specs.Reading.{IsKept}
+use Rattle.job_words.specs.Meaning.{gives, given, key_of, value_of, profile_word, given_kernel, given_workers}
+use Rattle.job_words.specs.Reading.{IsKept, IsGiven}
+use Rattle.job_words.specs.declared.reading.Given.{Given}
+use Rattle.diffusion_kernel.specs.declared.tables.Kernel.{Kernel}
 
 -- how the value of a key comes from the word that gives it, and its number
 pub record IsValue {T : Type 0} (key : KeyRow) (value : List (List ℕ) → Option T) (read : ℕ → List ℕ → Option T) : Type 0 where
@@ -69,4 +72,30 @@ pub profile_value : IsValue profile_key profile_word (λ n word. Some n)
 profile_value = record {
   other = λ words word apart. position_push (gives profile_key) 2 words word ∙ rw apart (or_none (profile_word words));
   first = λ words word none here. position_push (gives profile_key) 2 words word ∙ rw (no_position (gives profile_key) 2 words none, here) (ap Some (omega arith));
+}
+
+-- a word gives one key alone
+one_key : (one other : KeyRow) (word : List ℕ) → is_text one.name other.name ≡ false → gives one word ≡ true → gives other word ≡ false
+one_key one other word apart here = let is : key_of word ≡ one.name = (bytes_eq-Decides (key_of word) one.name).0 here in rw is apart
+
+-- each key's word, read
+pub profile_given : (words : List (List ℕ)) (word : List ℕ) (given : Given) (new : Option ℕ) → IsGiven words given → gives profile_key word ≡ true → is_some given.profile_word ≡ false → new ≡ Some (length words + 2) → IsGiven (words ++ word ∷ []) (record given { profile_word = new })
+profile_given words word given new h here none is = record {
+  profile = kept_first profile_value words word _ _ h.profile none here is (ap is_some is);
+  kernel = kept_other kernel_value words word _ h.kernel (one_key profile_key kernel_key word refl here);
+  workers = kept_other workers_value words word _ h.workers (one_key profile_key workers_key word refl here);
+}
+
+pub kernel_given : (words : List (List ℕ)) (word : List ℕ) (given : Given) (new : Option Kernel) → IsGiven words given → gives kernel_key word ≡ true → is_some given.kernel ≡ false → new ≡ kernel_named (value_of word) → is_some new ≡ true → IsGiven (words ++ word ∷ []) (record given { kernel = new })
+kernel_given words word given new h here none is taken = record {
+  profile = kept_other profile_value words word _ h.profile (one_key kernel_key profile_key word refl here);
+  kernel = kept_first kernel_value words word _ _ h.kernel none here is taken;
+  workers = kept_other workers_value words word _ h.workers (one_key kernel_key workers_key word refl here);
+}
+
+pub workers_given : (words : List (List ℕ)) (word : List ℕ) (given : Given) (new : Option ℕ) → IsGiven words given → gives workers_key word ≡ true → is_some given.workers ≡ false → new ≡ worker_count (value_of word) → is_some new ≡ true → IsGiven (words ++ word ∷ []) (record given { workers = new })
+workers_given words word given new h here none is taken = record {
+  profile = kept_other profile_value words word _ h.profile (one_key workers_key profile_key word refl here);
+  kernel = kept_other kernel_value words word _ h.kernel (one_key workers_key kernel_key word refl here);
+  workers = kept_first workers_value words word _ _ h.workers none here is taken;
 }

@@ -1,3 +1,6 @@
 pub mod Faults
 pub mod Kept
+pub mod Meanings
 pub mod Numbers
+pub mod Profiles
+pub mod Steps

@@ -1,6 +1,7 @@
-//! What the words of a command line ask for: the command, and a value for each of its keys.
+//! What the words of a command line ask for: a command, and a value for each of its keys.
 #![tactic(auto)]
 
+pub mod examples;
 mod reading;
 mod table;
 mod values;

@@ -1,5 +1,5 @@
 //! Reading the words of a command line.
-ghost use Rattle.job_words.specs.Meaning.{is_key_value, job_meaning, key_of, profile_named, refused, value_fault, value_of, word_fault};
+ghost use Rattle.job_words.specs.Meaning.{is_key_value, job_meaning, key_of, profile_named, refused, value_fault, value_of as value_in, word_fault};
 ghost use Rattle.job_words.specs.Reading.{IsGiven};
 ghost use Rattle.job_words.specs.Rows.{command_row};
 ghost use Rattle.job_words.specs.Table.{profile_key};
@@ -47,9 +47,19 @@ fn keep<T: Copy>(kept: &mut Option<T>, value: Option<T>) -> Result<(), UsageCaus
 
 // The key and the value of a word.
 fn cut(word: &str) -> Option<(&str, &str)>
-    ensures { MatchOption result (is_key_value word.now ≡ false) (λ parts. (is_key_value word.now ≡ true) × (parts.0.now ≡ key_of word.now) × (parts.1.now ≡ value_of word.now)) }
+    ensures { MatchOption result (is_key_value word.now ≡ false) (λ parts. (is_key_value word.now ≡ true) × (parts.0.now ≡ key_of word.now) × (parts.1.now ≡ value_in word.now)) }
 {
     word.split_once('=')
+}
+
+// The value of a word, and nothing where it has none.
+fn value_of(word: &str) -> &str
+    ensures { result.now ≡ value_in word.now }
+{
+    match cut(word) {
+        Some((_, value)) => value,
+        None => "",
+    }
 }
 
 // The number of the word that gives the profile, if the profile takes its value.
@@ -114,10 +124,12 @@ pub fn read_words(words: &Words) -> Result<Job, UsageFault>
             cause: UsageCause::NoCommand,
         });
     }
-    let verb = Verb::named(words.get(0)).ok_or(UsageFault {
-        word: 1,
-        cause: UsageCause::UnknownCommand,
-    })?;
+    let Some(verb) = Verb::named(words.get(0)) else {
+        return Err(UsageFault {
+            word: 1,
+            cause: UsageCause::UnknownCommand,
+        });
+    };
     let given = read_keys(verb, words)?;
     Ok(Job {
         verb,
@@ -135,8 +147,5 @@ pub fn profile_name<'a>(words: &'a Words, job: &Job) -> &'a str
     if job.profile_word == 0 {
         return "p360cmyk";
     }
-    match cut(words.get(job.profile_word - 1)) {
-        Some((_, value)) => value,
-        None => "",
-    }
+    value_of(words.get(job.profile_word - 1))
 }

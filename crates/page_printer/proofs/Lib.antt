@@ -1,3 +1,4 @@
 pub mod RowSteps
 pub mod PassBytes
 pub mod Printing
+pub mod Whole

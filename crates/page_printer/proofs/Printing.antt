@@ -31,7 +31,7 @@ use Rattle.page_printer.specs.Pages.{IsTinyPage, rows_bytes, tiny_dots, tiny_pla
 
 -- ---- a line of the page
 
-pub page_errors : GreyPage → Errors
+abbrev pub page_errors : GreyPage → Errors
 page_errors page = errors floyd (tiny_plane page) no_top
 
 -- the first line of those that are left
@@ -155,13 +155,18 @@ printed_begin page before rows is ready width top none = record {
   width = width;
   reached = record {
     up2 = record { at = λ n. top.up2.at n ∙ sym (errors_top floyd (tiny_plane page) no_top n).0 };
-    up1 = record { at = λ n. top.up1.at n ∙ sym (errors_top floyd (tiny_plane page) no_top n).1 };
+    up1 = record { at = λ n. top.up1.at n ∙ sym (errors_top floyd (tiny_plane page) no_top n).1 ∙ ap (λ m. page_errors page m n) one };
   };
   done = [];
   appended = none;
   total = ap (λ n. bytes_of (pass_commands tiny1 (tiny_dots page) 0 (filter (fires tiny1 (tiny_dots page)) (count_from 0 n)))) (one-count 1 1 (tiny_dots page).height refl ∙ tiny_height page);
 }
-unfolding page_errors
+  where
+    one : 1 ≡ 0 + 1
+    one = omega arith
+
+pub begun : (page : GreyPage) (before : Option (List ℕ)) (rest rest' : List ℕ) (rows : Rows) → rest' ≡ rest → Printed page before before 0 0 rest rows → Printed page before before 0 0 rest' rows
+begun page before rest rest' rows e p = let P : List ℕ → Type 0 = λ r. Printed page before before 0 0 r rows in subst P (sym e) p
 
 -- What is known of the next line.
 pub record Line (page : GreyPage) (y left : ℕ) (line behind : List ℕ) : Type 0 where
@@ -193,3 +198,154 @@ pub line_room : (page : GreyPage) (before now : Option (List ℕ)) (y last : ℕ
     → page.form.width ≤ length rest
 line_room page before now y last rest rows low so_far =
     omega (arith, (next_line page before now y last rest rows low so_far).len, length-take page.form.width rest)
+
+-- ---- what the rows say of a line
+
+-- The next line was diffused.
+pub record Diffused (page : GreyPage) (y : ℕ) (behind : List ℕ) (rows rows' : Rows) (left : ℕ) (some : Bool) (line : List ℕ) : Type 0 where
+  pub known : Line page y left line behind
+  pub ready : IsReady rows'
+  pub width : rows'.width ≡ rows.width
+  pub reached : IsReached rows' (page_errors page) (y + 1)
+  pub packed_is : drop 19 rows'.piece.items ≡ packed (dot_row (tiny_dots page) Black y)
+  pub any : some ≡ list_any (λ on. on) (dot_row (tiny_dots page) Black y)
+
+dot_row-len : (page : GreyPage) (y len : ℕ) → len ≡ page.form.width
+    → map (on floyd (tiny_plane page) (page_errors page) y) (count_from 0 len) ≡ dot_row (tiny_dots page) Black y
+dot_row-len page y len wide = ap (λ n. map (on floyd (tiny_plane page) (page_errors page) y) (count_from 0 n)) (wide ∙ sym (tiny_width page))
+
+pub diffused : (page : GreyPage) (before now : Option (List ℕ)) (y last : ℕ) (rest line behind : List ℕ) (rows rows' : Rows) (some : Bool) → y < page.form.height
+    → (so_far : Printed page before now y last rest rows) → line ≡ take rows.width rest → behind ≡ drop rows.width rest
+    → IsReady rows' → rows'.width ≡ rows.width
+    → ((p : Plane) (e : Errors) (z : ℕ) → HasRow p z (map darkness line) → Solves floyd p e → IsReached rows e z → IsReached rows' e (z + 1))
+    → ((p : Plane) (e : Errors) (z : ℕ) → HasRow p z (map darkness line) → Solves floyd p e → IsReached rows e z → drop 19 rows'.piece.items ≡ packed (map (on floyd p e z) (count_from 0 (length line))))
+    → ((p : Plane) (e : Errors) (z : ℕ) → HasRow p z (map darkness line) → Solves floyd p e → IsReached rows e z → some ≡ list_any (λ on. on) (map (on floyd p e z) (count_from 0 (length line))))
+    → Diffused page y behind rows rows' so_far.left some line
+diffused page before now y last rest line behind rows rows' some low so_far front back ready width reached packs any =
+    let P : List ℕ → Type 0 = λ l. Line page y so_far.left l behind in
+    let Q : List ℕ → Type 0 = λ b. Line page y so_far.left (take page.form.width rest) b in
+    let line_is : line ≡ take page.form.width rest = front ∙ ap (λ n. take n rest) so_far.width in
+    let behind_is : behind ≡ drop page.form.width rest = back ∙ ap (λ n. drop n rest) so_far.width in
+    let known : Line page y so_far.left line behind = subst P (sym line_is) (subst Q (sym behind_is) (next_line page before now y last rest rows low so_far)) in
+    let plane : Plane = tiny_plane page in
+    let solved : Solves floyd plane (page_errors page) = errors_solve floyd plane no_top in
+    let dots : map (on floyd plane (page_errors page) y) (count_from 0 (length line)) ≡ dot_row (tiny_dots page) Black y = dot_row-len page y (length line) known.len in
+    record {
+      known = known;
+      ready = ready;
+      width = width;
+      reached = reached plane (page_errors page) y known.row solved so_far.reached;
+      packed_is = packs plane (page_errors page) y known.row solved so_far.reached ∙ ap packed dots;
+      any = any plane (page_errors page) y known.row solved so_far.reached ∙ ap (list_any (λ on. on)) dots;
+    }
+
+-- ---- steps
+
+-- a line without a dot
+pub printed_blank : (page : GreyPage) (before now : Option (List ℕ)) (y last : ℕ) (rest behind : List ℕ) (rows rows' : Rows) (some : Bool) (front : List ℕ) → y < page.form.height
+    → (so_far : Printed page before now y last rest rows) → Diffused page y behind rows rows' so_far.left some front → some ≡ false
+    → Printed page before now (y + 1) last behind rows'
+printed_blank page before now y last rest behind rows rows' some front low so_far row none =
+    let line : Line page y so_far.left front behind = row.known in
+    let h : Halftone = tiny_dots page in
+    let inside : y < h.height = omega (arith, tiny_height page) in
+    let skipped : fires tiny1 h y ≡ false = tiny_fires h y inside ∙ sym row.any ∙ none in
+    record {
+      left = line.more;
+      sum = omega (arith, so_far.sum, line.many);
+      low = omega (arith, so_far.low);
+      lines = line.others;
+      wide = line.wide;
+      ready = row.ready;
+      width = row.width ∙ so_far.width;
+      reached = row.reached;
+      done = so_far.done;
+      appended = so_far.appended;
+      total = so_far.total
+          ∙ ap (λ n. so_far.done ++ bytes_of (pass_commands tiny1 h last (filter (fires tiny1 h) (count_from y n)))) line.many
+          ∙ ap (λ b. so_far.done ++ bytes_of (pass_commands tiny1 h last (cond b (y ∷ filter (fires tiny1 h) (count_from (y + 1) line.more)) (filter (fires tiny1 h) (count_from (y + 1) line.more))))) skipped;
+    }
+
+-- the bytes of a line with a dot
+fired_total : (page : GreyPage) (before now : Option (List ℕ)) (y last : ℕ) (rest front behind : List ℕ) (rows : Rows) → y < page.form.height
+    → (so_far : Printed page before now y last rest rows) → (line : Line page y so_far.left front behind)
+    → list_any (λ on. on) (dot_row (tiny_dots page) Black y) ≡ true
+    → rows_bytes page ≡ so_far.done ++ (pass_bytes (y - last) page.form.width (packed (dot_row (tiny_dots page) Black y))
+    ++ bytes_of (pass_commands tiny1 (tiny_dots page) y (filter (fires tiny1 (tiny_dots page)) (count_from (y + 1) line.more))))
+fired_total page before now y last rest front behind rows low so_far line some =
+    let h : Halftone = tiny_dots page in
+    let inside : y < h.height = omega (arith, tiny_height page) in
+    let fired : fires tiny1 h y ≡ true = tiny_fires h y inside ∙ some in
+    let others : List ℕ = filter (fires tiny1 h) (count_from (y + 1) line.more) in
+    so_far.total
+    ∙ ap (λ n. so_far.done ++ bytes_of (pass_commands tiny1 h last (filter (fires tiny1 h) (count_from y n)))) line.many
+    ∙ ap (λ b. so_far.done ++ bytes_of (pass_commands tiny1 h last (cond b (y ∷ others) others))) fired
+    ∙ ap (λ bs. so_far.done ++ bs) (tiny_pass h page.form.width y last others (tiny_width page) inside some)
+
+-- a line with a dot, which was written
+pub printed_fired : (page : GreyPage) (before now after : Option (List ℕ)) (y last : ℕ) (rest behind : List ℕ) (rows rows' : Rows) (some : Bool) (front : List ℕ) → y < page.form.height
+    → (so_far : Printed page before now y last rest rows) → Diffused page y behind rows rows' so_far.left some front → some ≡ true
+    → Appends now after (pass_bytes (y - last) page.form.width (drop 19 rows'.piece.items)) → (rows'' : Rows) → IsReady rows'' → rows''.width ≡ rows'.width → IsReached rows'' (page_errors page) (y + 1)
+    → Printed page before after (y + 1) y behind rows''
+printed_fired page before now after y last rest behind rows rows' some front low so_far row fired wrote rows'' ready width reached =
+    let line : Line page y so_far.left front behind = row.known in
+    let h : Halftone = tiny_dots page in
+    let pass : List ℕ = pass_bytes (y - last) page.form.width (packed (dot_row h Black y)) in
+    let more : List ℕ = bytes_of (pass_commands tiny1 h y (filter (fires tiny1 h) (count_from (y + 1) line.more))) in
+    let P : List ℕ → Type 0 = λ r. Appends now after (pass_bytes (y - last) page.form.width r) in
+    record {
+      left = line.more;
+      sum = omega (arith, so_far.sum, line.many);
+      low = omega arith;
+      lines = line.others;
+      wide = line.wide;
+      ready = ready;
+      width = width ∙ row.width ∙ so_far.width;
+      reached = reached;
+      done = so_far.done ++ pass;
+      appended = Appends-trans before now after so_far.done pass so_far.appended (subst P row.packed_is wrote);
+      total = fired_total page before now y last rest front behind rows low so_far line (sym row.any ∙ fired) ∙ sym (append_assoc so_far.done pass more);
+    }
+
+-- a line with a dot, of which a part was written
+pub printed_part : (page : GreyPage) (before now after : Option (List ℕ)) (y last : ℕ) (rest behind : List ℕ) (rows rows' : Rows) (some : Bool) (front : List ℕ) → y < page.form.height
+    → (so_far : Printed page before now y last rest rows) → Diffused page y behind rows rows' so_far.left some front → some ≡ true
+    → AppendsPart now after (pass_bytes (y - last) page.form.width (drop 19 rows'.piece.items)) → AppendsPart before after (rows_bytes page)
+printed_part page before now after y last rest behind rows rows' some front low so_far row fired wrote =
+    let line : Line page y so_far.left front behind = row.known in
+    let h : Halftone = tiny_dots page in
+    let pass : List ℕ = pass_bytes (y - last) page.form.width (packed (dot_row h Black y)) in
+    let more : List ℕ = bytes_of (pass_commands tiny1 h y (filter (fires tiny1 h) (count_from (y + 1) line.more))) in
+    let P : List ℕ → Type 0 = λ r. AppendsPart now after (pass_bytes (y - last) page.form.width r) in
+    let Q : List ℕ → Type 0 = λ bs. AppendsPart before after bs in
+    subst Q (sym (fired_total page before now y last rest front behind rows low so_far line (sym row.any ∙ fired)))
+    (part_behind before now after so_far.done (pass ++ more) so_far.appended (part_of_front now after pass more (subst P row.packed_is wrote)))
+
+-- a pass of these numbers
+pub pass_as : (a b : Option (List ℕ)) (gap gap' width width' : ℕ) (row row' : List ℕ) → gap ≡ gap' → width ≡ width' → row ≡ row' → Appends a b (pass_bytes gap width row) → Appends a b (pass_bytes gap' width' row')
+pass_as a b gap gap' width width' row row' e f r h =
+    let P : List ℕ → Type 0 = λ bs. Appends a b bs in
+    subst P (ap (λ n. pass_bytes n width row) e ∙ ap (λ n. pass_bytes gap' n row) f ∙ ap (pass_bytes gap' width') r) h
+
+pub pass_part_as : (a b : Option (List ℕ)) (gap gap' width width' : ℕ) (row row' : List ℕ) → gap ≡ gap' → width ≡ width' → row ≡ row' → AppendsPart a b (pass_bytes gap width row) → AppendsPart a b (pass_bytes gap' width' row')
+pass_part_as a b gap gap' width width' row row' e f r h =
+    let P : List ℕ → Type 0 = λ bs. AppendsPart a b bs in
+    subst P (ap (λ n. pass_bytes n width row) e ∙ ap (λ n. pass_bytes gap' n row) f ∙ ap (pass_bytes gap' width') r) h
+
+-- the same with other memory
+pub printed_as : (page : GreyPage) (before now now' : Option (List ℕ)) (y last last' : ℕ) (rest : List ℕ) (rows rows' : Rows) → now' ≡ now → last' ≡ last → rows' ≡ rows
+    → Printed page before now y last rest rows → Printed page before now' y last' rest rows'
+printed_as page before now now' y last last' rest rows rows' a b d p =
+    let P : Option (List ℕ) → Type 0 = λ n. Printed page before n y last rest rows in
+    let Q : ℕ → Type 0 = λ l. Printed page before now' y l rest rows in
+    let R : Rows → Type 0 = λ r. Printed page before now' y last' rest r in
+    subst R (sym d) (subst Q (sym b) (subst P (sym a) p))
+
+-- all rows were printed
+pub printed_end : (page : GreyPage) (before now : Option (List ℕ)) (y last : ℕ) (rest : List ℕ) (rows : Rows) → page.form.height ≤ y → Printed page before now y last rest rows
+    → Appends before now (rows_bytes page)
+printed_end page before now y last rest rows past so_far =
+    let h : Halftone = tiny_dots page in
+    let none : so_far.left ≡ 0 = omega (arith, so_far.sum) in
+    let P : List ℕ → Type 0 = λ bs. Appends before now bs in
+    subst P (sym (so_far.total ∙ ap (λ n. so_far.done ++ bytes_of (pass_commands tiny1 h last (filter (fires tiny1 h) (count_from y n)))) none ∙ append-nil so_far.done)) so_far.appended

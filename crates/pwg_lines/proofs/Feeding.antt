@@ -50,16 +50,17 @@ still_open state.Full full failed = full refl
 still_open (state.Failed fault) full failed = failed fault refl
 
 -- so many bytes more
-pub feed_step : (old now new : LineReader) (piece : List ℕ) (used more : ℕ) → FedSoFar old now piece used → IsOpen now.state
-    → more ≤ length (drop used piece) → Takes now new (take more (drop used piece)) → FedSoFar old new piece (used + more)
-feed_step old now new piece used more so_far is_open fits takes = record {
-  within = omega (arith, so_far.within, length-drop used piece);
+pub feed_step : (old now new : LineReader) (piece rest : List ℕ) (used more : ℕ) → FedSoFar old now piece used → IsOpen now.state
+    → rest ≡ drop used piece → more ≤ length rest → Takes now new (take more rest) → FedSoFar old new piece (used + more)
+feed_step old now new piece rest used more so_far is_open behind fits takes = record {
+  within = omega (arith, so_far.within, length-drop used piece, ap length behind);
   takes = record {
     form = takes.form ∙ so_far.takes.form;
     lines_left = takes.lines_left ∙ so_far.takes.lines_left;
     stands = λ sofar stood.
-      let joined : (sofar ++ take used piece) ++ take more (drop used piece) ≡ sofar ++ take (used + more) piece =
-          append_assoc sofar (take used piece) (take more (drop used piece)) ∙ ap (λ bs. sofar ++ bs) (sym (take-add used more piece)) in
+      let joined : (sofar ++ take used piece) ++ take more rest ≡ sofar ++ take (used + more) piece =
+          append_assoc sofar (take used piece) (take more rest) ∙ ap (λ bs. sofar ++ (take used piece ++ take more bs)) behind
+          ∙ ap (λ bs. sofar ++ bs) (sym (take-add used more piece)) in
       let P : List ℕ → Type 0 = StandsFor new in
       subst P joined (takes.stands (sofar ++ take used piece) (so_far.takes.stands sofar stood));
   };

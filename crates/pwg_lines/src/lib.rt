@@ -4,6 +4,8 @@
 
 mod buffer;
 mod reader;
+mod writer;
 
 pub use reader::{Fed, Fill, LineReader};
 pub use stream_definitions::{Kind, LineFault, PageForm};
+pub use writer::code_line;

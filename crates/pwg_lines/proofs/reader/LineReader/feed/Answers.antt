@@ -1,5 +1,8 @@
-use Rattle.std.proofs.Common.{absurd}
-use Rattle.pwg_lines.proofs.Feeding.{again-open, feed_fault, feed_more, feed_step, still_open}
+use Rattle.pwg_lines.specs.declared.reader.Fill.{Fill}
+use Rattle.pwg_lines.specs.Reading.{IsLine, OnLine}
+use Rattle.std.proofs.Common.{arith, length-drop, subst, sym}
+use Rattle.std.proofs.lemmas.List.{take_all}
+use Rattle.pwg_lines.proofs.Feeding.{again-open, feed_fault, feed_line, feed_more, feed_step, still_open}
 use Rattle.pwg_lines.proofs.reader.LineReader.feed.Goals as goal
 
 pub returns-in-Failed-clause-fault : goal.returns-in-Failed-clause-fault
@@ -14,5 +17,11 @@ returns-then-used-piece-clause-again c = λ fault e. absurd
     (again-open _ _ _ _ fault c.steps.invariant (still_open c.steps.self.state c.in_default.not-Full c.in_default.not-Failed) e)
 
 pub steps-preserved : goal.steps-preserved
-steps-preserved c = let h = c.step-used.ensures in
-    feed_step _ _ _ _ _ _ c.steps.invariant (still_open c.steps.self.state c.in_default.not-Full c.in_default.not-Failed) c.step-used.ensures.most c.step-used.ensures.takes
+steps-preserved c =
+    feed_step _ _ _ _ _ _ _ c.steps.invariant (still_open c.steps.self.state c.in_default.not-Full c.in_default.not-Failed)
+    (take_all _ _ (omega (arith, length-drop c.steps.used c.args.piece.now))) c.step-used.ensures.most c.step-used.ensures.takes
+
+pub returns-in-Full-clause-line : goal.returns-in-Full-clause-line
+returns-in-Full-clause-line c =
+    let P : Fill → Type 0 = λ answer. OnLine answer (λ repeats. IsLine c.args.self.now c.end_group.new.self c.args.piece.now c.steps.used repeats) in
+    subst P (sym c.end_group.ensures.answer_is) (feed_line _ _ _ _ _ _ c.steps.invariant c.in-Full.is c.end_group.ensures)

@@ -13,7 +13,7 @@ returns-clause-takes c =
     let count : length (take c.min-count.result c.args.bytes.now) ≡ c.min-count.result =
         length-take-le c.min-count.result c.args.bytes.now (omega (arith, c.min-count.ensures)) in
     let grown : take (c.args.self.now.filled + c.min-count.result) new ≡ take c.args.self.now.filled c.args.self.now.line.items ++ take c.min-count.result c.args.bytes.now =
-        ap (λ k. take (c.args.self.now.filled + k) new) (sym count) ∙ written-more _ _ _ _ _ _ _ sized c.deref_mut.ensures.value c.fill_bytes.ensures in
+        ap (λ k. take (c.args.self.now.filled + k) new) (sym count) ∙ written-more _ _ _ _ (take c.min-count.result c.args.bytes.now) c.args.self.now.filled _ sized c.deref_mut.ensures.value c.fill_bytes.ensures in
     record {
       form = refl;
       lines_left = refl;

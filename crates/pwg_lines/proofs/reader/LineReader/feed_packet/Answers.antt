@@ -46,6 +46,6 @@ returns c =
       lines_left = refl;
       stands = λ sofar so_far. packet-white _ _ _ _ _ _ sofar c.args.first _ _ (omega arith) (omega (arith, whole))
         (white-one c.args.self.now.form.kind) (in_state _ _ _ _ _ _ _ _ sofar c.requires so_far)
-        (written-more _ _ _ _ _ _ _ sized c.deref_mut.ensures.value c.fill_run.ensures
+        (written-more _ _ _ _ (replicate (c.len.result - c.args.self.now.filled) 255) c.args.self.now.filled _ sized c.deref_mut.ensures.value c.fill_run.ensures
         ∙ ap (λ k. take c.args.self.now.filled c.args.self.now.line.items ++ replicate k 255) left_is);
     }

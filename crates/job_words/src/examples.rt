@@ -1,0 +1,49 @@
+//! Command lines worked by hand: each function does nothing, and the checker computes its contract.
+#![tactic(auto, unfolding(crate::specs::Meaning::job_meaning, crate::specs::Meaning::refused, crate::specs::Meaning::word_fault, crate::specs::Values::number_within))]
+
+ghost use Rattle.answer_definitions.specs.declared.usage.UsageCause.TheVariants.{BadValue, NoCommand, NotKeyValue, RepeatedKey, UnknownCommand, UnknownKey};
+ghost use Rattle.diffusion_kernel.specs.declared.tables.Kernel.TheVariants.{Floyd, Jarvis, Stucki};
+ghost use Rattle.job_words.specs.Meaning.{fault_at, job_meaning, profile_named};
+ghost use Rattle.job_words.specs.Values.{number_within};
+ghost use Rattle.job_words.specs.declared.table.Verb.TheVariants as verb;
+ghost use Rattle.std.specs.Prelude.{Err, None, Ok, Some, [], codes, ◌∷◌, ◌≡◌};
+
+/// Jobs, and the profile's name.
+pub fn jobs()
+    ensures bare { job_meaning (codes "print" ∷ [])
+        ≡ Ok (record { verb = verb.Print; profile_word = 0; kernel = Floyd; workers = 1 }) }
+    ensures whole { job_meaning (codes "print" ∷ codes "profile=a=b" ∷ codes "kernel=stucki" ∷ codes "workers=64" ∷ [])
+        ≡ Ok (record { verb = verb.Print; profile_word = 2; kernel = Stucki; workers = 64 }) }
+    ensures turned { job_meaning (codes "print" ∷ codes "workers=10" ∷ codes "kernel=jjn" ∷ codes "profile=c" ∷ [])
+        ≡ Ok (record { verb = verb.Print; profile_word = 4; kernel = Jarvis; workers = 10 }) }
+    ensures profile { job_meaning (codes "profile" ∷ codes "profile=c" ∷ [])
+        ≡ Ok (record { verb = verb.Profile; profile_word = 2; kernel = Floyd; workers = 1 }) }
+    ensures built_in { profile_named (codes "print" ∷ []) ≡ codes "p360cmyk" }
+    ensures named { profile_named (codes "print" ∷ codes "kernel=fs" ∷ codes "profile=a=b" ∷ []) ≡ codes "a=b" }
+{}
+
+/// Each cause, at the word that has it.
+pub fn refused_lines()
+    ensures no_command { job_meaning [] ≡ Err (fault_at 1 NoCommand) }
+    ensures unknown_command { job_meaning (codes "plot" ∷ []) ≡ Err (fault_at 1 UnknownCommand) }
+    ensures not_key_value { job_meaning (codes "print" ∷ codes "x" ∷ []) ≡ Err (fault_at 2 NotKeyValue) }
+    ensures unknown_key { job_meaning (codes "print" ∷ codes "cap=1" ∷ []) ≡ Err (fault_at 2 UnknownKey) }
+    ensures key_of_another { job_meaning (codes "profile" ∷ codes "kernel=fs" ∷ []) ≡ Err (fault_at 2 UnknownKey) }
+    ensures repeated { job_meaning (codes "print" ∷ codes "kernel=fs" ∷ codes "kernel=fs" ∷ []) ≡ Err (fault_at 3 RepeatedKey) }
+    ensures bad_value { job_meaning (codes "print" ∷ codes "workers=0" ∷ []) ≡ Err (fault_at 2 BadValue) }
+    ensures repeated_first { job_meaning (codes "print" ∷ codes "workers=1" ∷ codes "workers=0" ∷ []) ≡ Err (fault_at 3 RepeatedKey) }
+    ensures first_counts { job_meaning (codes "print" ∷ codes "workers=0" ∷ codes "x" ∷ []) ≡ Err (fault_at 2 BadValue) }
+{}
+
+/// Which texts are numbers.
+pub fn numbers()
+    ensures zero { number_within 0 64 (codes "0") ≡ Some 0 }
+    ensures high { number_within 1 64 (codes "64") ≡ Some 64 }
+    ensures past { number_within 1 64 (codes "65") ≡ None }
+    ensures below { number_within 1 64 (codes "0") ≡ None }
+    ensures leading_zero { number_within 1 64 (codes "01") ≡ None }
+    ensures sign { number_within 1 64 (codes "+1") ≡ None }
+    ensures blank { number_within 1 64 (codes " 1") ≡ None }
+    ensures letter { number_within 1 64 (codes "1x") ≡ None }
+    ensures nothing { number_within 0 64 [] ≡ None }
+{}

@@ -1,0 +1,93 @@
+-- The table of keys.
+use Rattle.std.specs.Prelude.{ℕ, Bool, true, false, List, [], ◌∷◌, codes, find, slice_index, slice_set, Option, Some, None, Result, Ok, Err}
+use Rattle.std.specs.Fmt.{decimal}
+use Rattle.std.specs.Option.{option_map}
+use Rattle.std.specs.Str.{bytes_eq}
+use Rattle.printer_definitions.specs.declared.inks.InkSet.TheVariants.{K}
+use Rattle.printer_profile.specs.declared.fields.Profile.{Profile}
+use Rattle.printer_profile.specs.declared.keys.Key.{Key}
+use Rattle.printer_profile.specs.declared.keys.Key.TheVariants as key
+use Rattle.printer_profile.specs.declared.setting.SetFault.{SetFault}
+use Rattle.printer_profile.specs.declared.setting.SetFault.TheVariants.{UnknownKey, BadValue}
+use Rattle.printer_profile.specs.Values.{ink_set_name, ink_set_named, number_within}
+
+-- A key: its place, counted from 1, its name, whether a text must have it, the profile with the value that a text
+-- gives it, if it takes that, and the text of its value.
+pub record Row : Type 0 where
+  pub place : ℕ
+  pub name : List ℕ
+  pub required : Bool
+  pub put : List ℕ → Profile → Option Profile
+  pub text : Profile → List ℕ
+
+-- a key whose value is a number up to `most`
+abbrev pub number_row : ℕ → List ℕ → Bool → ℕ → (Profile → ℕ) → (Profile → ℕ → Profile) → Row
+number_row place name required most field with_field = record {
+  place = place;
+  name = name;
+  required = required;
+  put = λ text p. option_map (with_field p) (number_within most text);
+  text = λ p. decimal (field p);
+}
+
+-- the key of an ink's greatest amount, by the ink's place among black, cyan, magenta and yellow
+abbrev pub limit_row : ℕ → List ℕ → ℕ → Row
+limit_row place name ink =
+    number_row place name false 255 (λ p. slice_index p.limits ink) (λ p n. record p { limits = slice_set p.limits ink n })
+
+abbrev pub inks_row : Row
+inks_row = record {
+  place = 5;
+  name = codes "inks";
+  required = true;
+  put = λ text p. option_map (λ inks. record p { inks = inks }) (ink_set_named text);
+  text = λ p. ink_set_name p.inks;
+}
+
+-- the row of a key
+abbrev pub row_of : Key → Row
+row_of key.Hdpi = number_row 1 (codes "hdpi") true 65535 (λ p. p.hdpi) (λ p n. record p { hdpi = n })
+row_of key.Vdpi = number_row 2 (codes "vdpi") true 65535 (λ p. p.vdpi) (λ p n. record p { vdpi = n })
+row_of key.Nozzles = number_row 3 (codes "nozzles") true 255 (λ p. p.nozzles) (λ p n. record p { nozzles = n })
+row_of key.Pitch = number_row 4 (codes "pitch") true 255 (λ p. p.pitch) (λ p n. record p { pitch = n })
+row_of key.Inks = inks_row
+row_of key.BlackStart =
+    number_row 6 (codes "black_start") false 255 (λ p. p.black_start) (λ p n. record p { black_start = n })
+row_of key.LimitBlack = limit_row 7 (codes "limit_k") 0
+row_of key.LimitCyan = limit_row 8 (codes "limit_c") 1
+row_of key.LimitMagenta = limit_row 9 (codes "limit_m") 2
+row_of key.LimitYellow = limit_row 10 (codes "limit_y") 3
+row_of key.Left = number_row 11 (codes "left") false 65535 (λ p. p.left) (λ p n. record p { left = n })
+row_of key.Right = number_row 12 (codes "right") false 65535 (λ p. p.right) (λ p n. record p { right = n })
+row_of key.Top = number_row 13 (codes "top") false 65535 (λ p. p.top) (λ p n. record p { top = n })
+row_of key.Bottom = number_row 14 (codes "bottom") false 65535 (λ p. p.bottom) (λ p n. record p { bottom = n })
+
+-- the keys in the order of the table
+abbrev pub all_keys : List Key
+all_keys =
+    key.Hdpi ∷ key.Vdpi ∷ key.Nozzles ∷ key.Pitch ∷ key.Inks ∷ key.BlackStart ∷ key.LimitBlack ∷ key.LimitCyan
+    ∷ key.LimitMagenta ∷ key.LimitYellow ∷ key.Left ∷ key.Right ∷ key.Top ∷ key.Bottom ∷ []
+
+-- the key of a name
+abbrev pub key_named : List ℕ → Option Key
+key_named name = find (λ key. bytes_eq (row_of key).name name) all_keys
+
+-- the profile before any key is given: the defaults, and 0 and `k` where there is none
+abbrev pub unset : Profile
+unset = record {
+  hdpi = 0; vdpi = 0; nozzles = 0; pitch = 0; inks = K; black_start = 0;
+  limits = 255 ∷ 255 ∷ 255 ∷ 255 ∷ []; left = 0; right = 0; top = 0; bottom = 0;
+}
+
+-- the profile with a value put, where the key took it
+abbrev pub put_or_fault : Option Profile → Result Profile SetFault
+put_or_fault None = Err BadValue
+put_or_fault (Some p) = Ok p
+
+abbrev pub set_found : List ℕ → Profile → Option Key → Result Profile SetFault
+set_found value p None = Err UnknownKey
+set_found value p (Some key) = put_or_fault ((row_of key).put value p)
+
+-- the profile with the value that a text gives the key of a name
+abbrev pub set_key : List ℕ → List ℕ → Profile → Result Profile SetFault
+set_key name value p = set_found value p (key_named name)

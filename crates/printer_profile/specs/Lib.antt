@@ -1,0 +1,4 @@
+pub mod Keys
+pub mod Profiles
+pub mod Validity
+pub mod Values

@@ -1,0 +1,72 @@
+-- Profiles as printers, and the table of the built-in ones.
+use Rattle.std.specs.Prelude.{ℕ, Bool, List, [], ◌∷◌, codes, find, Option}
+use Rattle.std.specs.Option.{option_map}
+use Rattle.std.specs.Str.{bytes_eq}
+use Rattle.printer_definitions.specs.Printer.{Printer}
+use Rattle.printer_definitions.specs.declared.inks.InkSet.TheVariants.{K, Cmyk}
+use Rattle.printer_profile.specs.declared.fields.Profile.{Profile}
+
+-- the printer that a profile describes
+abbrev pub printer_of : Profile → Printer
+printer_of p = record {
+  hdpi = p.hdpi;
+  vdpi = p.vdpi;
+  nozzles = p.nozzles;
+  pitch = p.pitch;
+  inks = p.inks;
+  black_start = p.black_start;
+  limits = p.limits;
+  left = p.left;
+  right = p.right;
+  top = p.top;
+  bottom = p.bottom;
+}
+
+-- A profile with a name.
+pub record Named : Type 0 where
+  pub name : List ℕ
+  pub profile : Profile
+
+abbrev pub tiny1 : Profile
+tiny1 = record {
+  hdpi = 360; vdpi = 360; nozzles = 1; pitch = 1; inks = K; black_start = 0;
+  limits = 255 ∷ 255 ∷ 255 ∷ 255 ∷ []; left = 0; right = 0; top = 0; bottom = 0;
+}
+
+abbrev pub tiny : Profile
+tiny = record {
+  hdpi = 360; vdpi = 360; nozzles = 3; pitch = 2; inks = K; black_start = 0;
+  limits = 255 ∷ 255 ∷ 255 ∷ 255 ∷ []; left = 0; right = 0; top = 4; bottom = 0;
+}
+
+abbrev pub p360k : Profile
+p360k = record {
+  hdpi = 360; vdpi = 360; nozzles = 31; pitch = 4; inks = K; black_start = 0;
+  limits = 255 ∷ 255 ∷ 255 ∷ 255 ∷ []; left = 45; right = 45; top = 120; bottom = 60;
+}
+
+abbrev pub p360cmyk : Profile
+p360cmyk = record {
+  hdpi = 360; vdpi = 360; nozzles = 15; pitch = 4; inks = Cmyk; black_start = 0;
+  limits = 255 ∷ 255 ∷ 255 ∷ 255 ∷ []; left = 45; right = 45; top = 60; bottom = 60;
+}
+
+abbrev pub p720cmyk : Profile
+p720cmyk = record {
+  hdpi = 720; vdpi = 720; nozzles = 31; pitch = 8; inks = Cmyk; black_start = 64;
+  limits = 255 ∷ 224 ∷ 224 ∷ 224 ∷ []; left = 90; right = 90; top = 240; bottom = 120;
+}
+
+-- the table of the built-in profiles
+abbrev pub built_ins : List Named
+built_ins =
+    record { name = codes "tiny1"; profile = tiny1 }
+    ∷ record { name = codes "tiny"; profile = tiny }
+    ∷ record { name = codes "p360k"; profile = p360k }
+    ∷ record { name = codes "p360cmyk"; profile = p360cmyk }
+    ∷ record { name = codes "p720cmyk"; profile = p720cmyk }
+    ∷ []
+
+-- the built-in profile of a name
+abbrev pub built_in : List ℕ → Option Profile
+built_in name = option_map (λ entry. entry.profile) (find (λ entry. bytes_eq name entry.name) built_ins)

@@ -1,0 +1,64 @@
+//! What a profile says of a printer, and what follows for its pages.
+ghost use Rattle.separation_definitions.specs.Windows.{wanted_by, window_of};
+ghost use Rattle.std.specs.Prelude.{◌≡◌};
+ghost use Rattle.stream_definitions.specs.Header.{IsWanted};
+
+use printer_definitions::InkSet;
+use separation_definitions::Window;
+use stream_definitions::{PageForm, Wanted};
+
+/// A printer. Nothing ties the fields together: `check` says whether they make sense.
+#[derive(Clone, Copy, Debug, PartialEq, Eq)]
+pub struct Profile {
+    /// Dots an inch across the page.
+    pub hdpi: u16,
+    /// Rows of dots an inch down the page.
+    pub vdpi: u16,
+    /// Nozzles of each ink.
+    pub nozzles: u8,
+    /// Rows from one nozzle to the next.
+    pub pitch: u8,
+    pub inks: InkSet,
+    /// The least darkness of a colour page that is moved into black.
+    pub black_start: u8,
+    /// The greatest amounts of black, cyan, magenta and yellow, of 255.
+    pub limits: [u8; 4],
+    /// The left margin, in pixels of the page, as the other three.
+    pub left: u16,
+    pub right: u16,
+    pub top: u16,
+    pub bottom: u16,
+}
+
+impl Profile {
+    ghost use Rattle.printer_profile.specs.Profiles.{printer_of};
+
+    /// The pages that the printer takes: its resolution, and sizes in pixels that leave one inside the margins.
+    pub fn wanted(&self) -> Wanted
+        ensures { result ≡ wanted_by (printer_of self.now) }
+    {
+        Wanted {
+            hdpi: u32::from(self.hdpi),
+            vdpi: u32::from(self.vdpi),
+            least_width: u32::from(self.left) + u32::from(self.right) + 1,
+            most_width: 8191,
+            least_height: u32::from(self.top) + u32::from(self.bottom) + 1,
+            most_height: 15840 * u32::from(self.vdpi) / 720,
+        }
+    }
+
+    /// The part of a page inside the margins, in pixels.
+    pub fn window(&self, f: PageForm) -> Window
+        requires { IsWanted (wanted_by (printer_of self.now)) f }
+        ensures { result ≡ window_of f (printer_of self.now) }
+    {
+        let left = u32::from(self.left);
+        let top = u32::from(self.top);
+        Window {
+            left,
+            top,
+            width: f.width - (left + u32::from(self.right)),
+            height: f.height - (top + u32::from(self.bottom)),
+        }
+    }
+}

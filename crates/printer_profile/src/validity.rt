@@ -1,0 +1,83 @@
+//! Whether a profile makes sense.
+ghost use Rattle.printer_profile.specs.Validity.{gcd_of, is_resolution as is_resolution_of};
+ghost use Rattle.std.specs.Prelude.{◌≡◌, ◌<◌};
+
+use crate::fields::Profile;
+use thiserror::Error;
+
+/// Why a profile makes no sense. The variants stand in the order in which the checks are made.
+#[derive(Clone, Copy, Debug, PartialEq, Eq, Error)]
+pub enum ProfileFault {
+    #[error("a resolution is neither 360 nor 720 dots an inch")]
+    Resolution,
+    #[error("the head has no nozzles")]
+    Nozzles,
+    #[error("the nozzles are no rows apart")]
+    Pitch,
+    /// Passes of equal steps reach every row once only where nozzles and pitch have no common divisor.
+    #[error("the nozzles and the pitch have the common divisor {gcd}")]
+    NotCoprime { gcd: u8 },
+    /// The distance of two nozzles, in 1/3600 inch, is a byte of the raster command.
+    #[error("the nozzles are more than 255/3600 inch apart")]
+    RowStep,
+    /// The first rows of a page lie below the first nozzle by up to the head's length, in rows.
+    #[error("the top margin is below {needs}")]
+    TopMargin { needs: u32 },
+    #[error("no darkness is moved into black")]
+    BlackStart,
+}
+
+/// The greatest common divisor.
+fn gcd(a: u8, b: u8) -> u8
+    requires { 0 < a }
+    ensures { result ≡ gcd_of a b }
+{
+    let mut divided = a;
+    let mut divisor = b;
+    'euclid: while divisor != 0 {
+        let remainder = divided % divisor;
+        divided = divisor;
+        divisor = remainder;
+    }
+    divided
+}
+
+fn is_resolution(dpi: u16) -> bool
+    ensures { result ≡ is_resolution_of dpi }
+{
+    dpi == 360 || dpi == 720
+}
+
+impl Profile {
+    ghost use Rattle.printer_profile.specs.Validity.{check as check_of};
+
+    /// Whether the fields make sense together: the first fault, in the order of `ProfileFault`.
+    pub fn check(&self) -> Result<(), ProfileFault>
+        ensures { result ≡ check_of self.now }
+    {
+        if !is_resolution(self.hdpi) || !is_resolution(self.vdpi) {
+            return Err(ProfileFault::Resolution);
+        }
+        if self.nozzles == 0 {
+            return Err(ProfileFault::Nozzles);
+        }
+        if self.pitch == 0 {
+            return Err(ProfileFault::Pitch);
+        }
+        let gcd = gcd(self.nozzles, self.pitch);
+        if gcd > 1 {
+            return Err(ProfileFault::NotCoprime { gcd });
+        }
+        if u32::from(self.pitch) * 3600 / u32::from(self.vdpi) > 255 {
+            return Err(ProfileFault::RowStep);
+        }
+        let needs = (u32::from(self.nozzles) - 1) * u32::from(self.pitch);
+        if u32::from(self.top) < needs {
+            return Err(ProfileFault::TopMargin { needs });
+        }
+        if self.black_start == 255 {
+            return Err(ProfileFault::BlackStart);
+        }
+        Ok(())
+    }
+}

@@ -1,0 +1,266 @@
+-- The canonical spelling, step by step.
+use Rattle.std.proofs.Common.{◌≡◌, ℕ, zero, suc, ◌+◌, ◌-◌, ◌*◌, ◌/◌, ◌%◌, ◌<◌, ◌≤◌, ◌==◌, nat_eq, nat_lt, Bool, true, false, if◌then◌else◌, List, [], ◌∷◌, ◌++◌, length, take, drop, refl, sym, ◌∙◌, ap, subst, arith, append_assoc, length-append, length-drop}
+use Rattle.std.specs.List.{flat_map, starts_with}
+use Rattle.std.proofs.lemmas.Bool.{ltb-true, ltb-false}
+use Rattle.std.proofs.lemmas.List.{append-nil, drop-drop, length-take-le, take-append-drop}
+use Rattle.std.proofs.lemmas.Bool.Decides.{Decides-eqb}
+use Rattle.std.proofs.lemmas.Slice.Eq.{starts_is}
+use Rattle.std.proofs.Math.Nat.{le_of_mul-le-mul_right}
+use Rattle.stream_definitions.specs.Groups.{Packet, copies, packet_spelling, packet_units}
+use Rattle.stream_definitions.specs.Groups.Packet.{Run, Clear, Literal}
+use Rattle.pwg_lines.specs.Canonical.{as_they_are, canonical, copies_at, next_packet, packets_from, unequal_at}
+
+-- ---- counting units
+
+-- So many copies of the unit are counted.
+pub record CopiesSoFar (most : ℕ) (unit line : List ℕ) (count : ℕ) (rest : List ℕ) : Type 0 where
+  pub within : count ≤ most
+  pub is : copies_at most unit line ≡ count + copies_at (most - count) unit rest
+
+pub copies_begin : (most : ℕ) (unit line : List ℕ) → CopiesSoFar most unit line 0 line
+copies_begin most unit line = record {
+  within = omega arith;
+  is = ap (λ k. copies_at k unit line) (let e : most ≡ most - 0 = omega arith in e) ∙ (let e : copies_at (most - 0) unit line ≡ 0 + copies_at (most - 0) unit line = omega arith in e);
+}
+
+copies-more : (left : ℕ) (unit rest : List ℕ) → 0 < left → starts_with nat_eq rest unit ≡ true
+    → copies_at left unit rest ≡ 1 + copies_at (left - 1) unit (drop (length unit) rest)
+unfolding copies_at
+copies-more zero unit rest some e = absurd (omega arith)
+copies-more (suc left) unit rest some e =
+    ap (λ b. if b then 1 + copies_at left unit (drop (length unit) rest) else 0) e
+    ∙ ap (λ k. 1 + copies_at k unit (drop (length unit) rest)) (let same : left ≡ suc left - 1 = omega arith in same)
+
+copies-other : (left : ℕ) (unit rest : List ℕ) → starts_with nat_eq rest unit ≡ false → copies_at left unit rest ≡ 0
+unfolding copies_at
+copies-other zero unit rest e = refl
+copies-other (suc left) unit rest e = ap (λ b. if b then 1 + copies_at left unit (drop (length unit) rest) else 0) e
+
+copies-none : (left : ℕ) (unit rest : List ℕ) → left ≡ 0 → copies_at left unit rest ≡ 0
+unfolding copies_at
+copies-none left unit rest none = ap (λ k. copies_at k unit rest) none
+
+pub copies_step : (most : ℕ) (unit line : List ℕ) (count : ℕ) (rest : List ℕ) → CopiesSoFar most unit line count rest → count < most
+    → starts_with nat_eq rest unit ≡ true → CopiesSoFar most unit line (count + 1) (drop (length unit) rest)
+copies_step most unit line count rest so_far less e = record {
+  within = omega arith;
+  is =
+    let fewer : most - count - 1 ≡ most - (count + 1) = omega arith in
+    let same : copies_at (most - count - 1) unit (drop (length unit) rest) ≡ copies_at (most - (count + 1)) unit (drop (length unit) rest) =
+        ap (λ k. copies_at k unit (drop (length unit) rest)) fewer in
+    omega (arith, so_far.is, copies-more (most - count) unit rest (omega arith) e, same);
+}
+
+pub copies_stop : (most : ℕ) (unit line : List ℕ) (count : ℕ) (rest : List ℕ) → CopiesSoFar most unit line count rest
+    → starts_with nat_eq rest unit ≡ false → count ≡ copies_at most unit line
+copies_stop most unit line count rest so_far e = omega (arith, so_far.is, copies-other (most - count) unit rest e)
+
+pub copies_end : (most : ℕ) (unit line : List ℕ) (count : ℕ) (rest : List ℕ) → CopiesSoFar most unit line count rest
+    → most ≤ count → count ≡ copies_at most unit line
+copies_end most unit line count rest so_far all = omega (arith, so_far.is, copies-none (most - count) unit rest (omega arith))
+
+-- So many unequal units are counted, and the rest is whole units.
+pub record UnequalSoFar (most unit : ℕ) (line : List ℕ) (count : ℕ) (rest : List ℕ) : Type 0 where
+  pub within : count ≤ most
+  pub units : ℕ
+  pub whole : length rest ≡ units * unit
+  pub is : unequal_at most unit line ≡ count + unequal_at (most - count) unit rest
+
+-- so many units are in it
+pub units_in : (unit len : ℕ) → 1 ≤ unit → len % unit ≡ 0 → len ≡ len / unit * unit
+units_in unit len some whole = omega arith
+
+pub unequal_begin : (most unit : ℕ) (line : List ℕ) → 1 ≤ unit → length line % unit ≡ 0 → UnequalSoFar most unit line 0 line
+unequal_begin most unit line some whole = record {
+  within = omega arith;
+  units = length line / unit;
+  whole = units_in unit (length line) some whole;
+  is = ap (λ k. unequal_at k unit line) (let e : most ≡ most - 0 = omega arith in e) ∙ (let e : unequal_at (most - 0) unit line ≡ 0 + unequal_at (most - 0) unit line = omega arith in e);
+}
+
+-- where there is a byte, there is a unit
+pub one_unit : (units unit len : ℕ) → len ≡ units * unit → 0 < len → unit ≤ len
+one_unit zero unit len e some = omega arith
+one_unit (suc units) unit len e some = omega (arith, e)
+
+unequal-more : (left unit : ℕ) (rest : List ℕ) → 0 < left → 0 < length rest → starts_with nat_eq (drop unit rest) (take unit rest) ≡ false
+    → unequal_at left unit rest ≡ 1 + unequal_at (left - 1) unit (drop unit rest)
+unfolding unequal_at
+unequal-more zero unit rest some one e = absurd (omega arith)
+unequal-more (suc left) unit [] some one e = absurd (omega arith)
+unequal-more (suc left) unit (b ∷ rest) some one e =
+    ap (λ t. if t then 0 else 1 + unequal_at left unit (drop unit (b ∷ rest))) e
+    ∙ ap (λ k. 1 + unequal_at k unit (drop unit (b ∷ rest))) (let same : left ≡ suc left - 1 = omega arith in same)
+
+unequal-equal : (left unit : ℕ) (rest : List ℕ) → starts_with nat_eq (drop unit rest) (take unit rest) ≡ true → unequal_at left unit rest ≡ 0
+unfolding unequal_at
+unequal-equal zero unit rest e = refl
+unequal-equal (suc left) unit [] e = refl
+unequal-equal (suc left) unit (b ∷ rest) e = ap (λ t. if t then 0 else 1 + unequal_at left unit (drop unit (b ∷ rest))) e
+
+unequal-none : (left unit : ℕ) (rest : List ℕ) → left ≡ 0 → unequal_at left unit rest ≡ 0
+unfolding unequal_at
+unequal-none left unit rest none = ap (λ k. unequal_at k unit rest) none
+
+unequal-nothing : (left unit : ℕ) (rest : List ℕ) → length rest ≡ 0 → unequal_at left unit rest ≡ 0
+unfolding unequal_at
+unequal-nothing zero unit rest none = refl
+unequal-nothing (suc left) unit [] none = refl
+unequal-nothing (suc left) unit (b ∷ rest) none = absurd (omega arith)
+
+pub unequal_step : (most unit : ℕ) (line : List ℕ) (count : ℕ) (rest : List ℕ) → UnequalSoFar most unit line count rest → count < most → 0 < length rest
+    → starts_with nat_eq (drop unit rest) (take unit rest) ≡ false → UnequalSoFar most unit line (count + 1) (drop unit rest)
+unequal_step most unit line count rest so_far less some e = record {
+  within = omega arith;
+  units = so_far.units - 1;
+  whole = fewer_units so_far.units so_far.whole;
+  is =
+    let fewer : most - count - 1 ≡ most - (count + 1) = omega arith in
+    let same : unequal_at (most - count - 1) unit (drop unit rest) ≡ unequal_at (most - (count + 1)) unit (drop unit rest) =
+        ap (λ k. unequal_at k unit (drop unit rest)) fewer in
+    omega (arith, so_far.is, unequal-more (most - count) unit rest (omega arith) some e, same);
+}
+  where
+    fewer_units : (units : ℕ) → length rest ≡ units * unit → length (drop unit rest) ≡ (units - 1) * unit
+    fewer_units zero whole = absurd (omega (arith, whole))
+    fewer_units (suc units) whole =
+        let less : suc units - 1 ≡ units = omega arith in
+        length-drop unit rest ∙ (let e : length rest - unit ≡ units * unit = omega (arith, whole) in e) ∙ ap (λ k. k * unit) (sym less)
+
+pub unequal_stop : (most unit : ℕ) (line : List ℕ) (count : ℕ) (rest : List ℕ) → UnequalSoFar most unit line count rest
+    → starts_with nat_eq (drop unit rest) (take unit rest) ≡ true → count ≡ unequal_at most unit line
+unequal_stop most unit line count rest so_far e = omega (arith, so_far.is, unequal-equal (most - count) unit rest e)
+
+pub unequal_full : (most unit : ℕ) (line : List ℕ) (count : ℕ) (rest : List ℕ) → UnequalSoFar most unit line count rest
+    → most ≤ count → count ≡ unequal_at most unit line
+unequal_full most unit line count rest so_far all = omega (arith, so_far.is, unequal-none (most - count) unit rest (omega arith))
+
+pub unequal_end : (most unit : ℕ) (line : List ℕ) (count : ℕ) (rest : List ℕ) → UnequalSoFar most unit line count rest
+    → length rest ≡ 0 → count ≡ unequal_at most unit line
+unequal_end most unit line count rest so_far none = omega (arith, so_far.is, unequal-nothing (most - count) unit rest none)
+
+-- a test of the units at the front, made on their parts
+pub parts_tested : (rest front behind : List ℕ) (unit : ℕ) (result b : Bool) → front ≡ take unit rest → behind ≡ drop unit rest
+    → result ≡ starts_with nat_eq behind front → result ≡ b → starts_with nat_eq (drop unit rest) (take unit rest) ≡ b
+parts_tested rest front behind unit result b front_is behind_is tested is =
+    ap (starts_with nat_eq (drop unit rest)) (sym front_is) ∙ ap (λ bs. starts_with nat_eq bs front) (sym behind_is) ∙ sym tested ∙ is
+
+-- ---- what stands at the front
+
+-- what begins with some bytes is these and the rest
+begins-is : (bytes unit : List ℕ) → starts_with nat_eq bytes unit ≡ true → bytes ≡ unit ++ drop (length unit) bytes
+begins-is bytes unit e = (starts_is Decides-eqb bytes unit true (sym e)).0 refl
+
+begins-front : (unit : ℕ) (bytes : List ℕ) → starts_with nat_eq bytes (take unit bytes) ≡ true
+begins-front unit bytes = (starts_is Decides-eqb bytes (take unit bytes) (starts_with nat_eq bytes (take unit bytes)) refl).1 (drop unit bytes) (sym (take-append-drop unit bytes))
+
+pub copies_at-most : (most : ℕ) (unit bytes : List ℕ) → copies_at most unit bytes ≤ most
+unfolding copies_at
+copies_at-most zero unit bytes = omega arith
+copies_at-most (suc most) unit bytes = by_test (copies_at-most most unit (drop (length unit) bytes)) (starts_with nat_eq bytes unit)
+  where
+    by_test : copies_at most unit (drop (length unit) bytes) ≤ most → (b : Bool) → (if b then 1 + copies_at most unit (drop (length unit) bytes) else 0) ≤ suc most
+    by_test after true = omega (arith, after)
+    by_test after false = omega arith
+
+pub copies_at-front : (most : ℕ) (unit bytes : List ℕ) → bytes ≡ copies (copies_at most unit bytes) unit ++ drop (copies_at most unit bytes * length unit) bytes
+unfolding copies_at
+copies_at-front zero unit bytes = ap (λ k. drop k bytes) (let none : 0 ≡ 0 * length unit = omega arith in none)
+copies_at-front (suc most) unit bytes = by_test (copies_at-front most unit (drop (length unit) bytes)) (starts_with nat_eq bytes unit) refl
+  where
+    behind : List ℕ
+    behind = drop (length unit) bytes
+
+    by_test : behind ≡ copies (copies_at most unit behind) unit ++ drop (copies_at most unit behind * length unit) behind
+        → (b : Bool) → starts_with nat_eq bytes unit ≡ b
+        → bytes ≡ copies (if b then 1 + copies_at most unit behind else 0) unit ++ drop ((if b then 1 + copies_at most unit behind else 0) * length unit) bytes
+    by_test after true e =
+        let n : ℕ = copies_at most unit behind in
+        let more : suc n ≡ 1 + n = omega arith in
+        let longer : length unit + n * length unit ≡ suc n * length unit = omega arith in
+        begins-is bytes unit e
+        ∙ ap (λ bs. unit ++ bs) after
+        ∙ ap (λ bs. unit ++ (copies n unit ++ bs)) (drop-drop (n * length unit) (length unit) bytes ∙ ap (λ k. drop k bytes) longer)
+        ∙ sym (append_assoc unit (copies n unit) (drop (suc n * length unit) bytes))
+        ∙ ap (λ k. copies k unit ++ drop (k * length unit) bytes) more
+    by_test after false e = ap (λ k. drop k bytes) (let none : 0 ≡ 0 * length unit = omega arith in none)
+
+length-copies : (n : ℕ) (unit : List ℕ) → length (copies n unit) ≡ n * length unit
+length-copies zero unit = omega arith
+length-copies (suc n) unit = length-append unit (copies n unit) ∙ ap (λ k. length unit + k) (length-copies n unit) ∙ omega arith
+
+pub copies_at-within : (most : ℕ) (unit bytes : List ℕ) → copies_at most unit bytes * length unit ≤ length bytes
+copies_at-within most unit bytes =
+    let n : ℕ = copies_at most unit bytes in
+    let sized : length bytes ≡ length (copies n unit) + length (drop (n * length unit) bytes) =
+        ap length (copies_at-front most unit bytes) ∙ length-append (copies n unit) (drop (n * length unit) bytes) in
+    omega (arith, sized, length-copies n unit)
+
+pub unequal_at-most : (most unit : ℕ) (bytes : List ℕ) → unequal_at most unit bytes ≤ most
+unfolding unequal_at
+unequal_at-most zero unit bytes = omega arith
+unequal_at-most (suc most) unit [] = omega arith
+unequal_at-most (suc most) unit (b ∷ bytes) = by_test (unequal_at-most most unit (drop unit (b ∷ bytes))) (starts_with nat_eq (drop unit (b ∷ bytes)) (take unit (b ∷ bytes)))
+  where
+    by_test : unequal_at most unit (drop unit (b ∷ bytes)) ≤ most → (t : Bool) → (if t then 0 else 1 + unequal_at most unit (drop unit (b ∷ bytes))) ≤ suc most
+    by_test after true = omega arith
+    by_test after false = omega (arith, after)
+
+pub unequal_at-within : (most unit : ℕ) (bytes : List ℕ) (units : ℕ) → length bytes ≡ units * unit → unequal_at most unit bytes ≤ units
+unfolding unequal_at
+unequal_at-within zero unit bytes units whole = omega arith
+unequal_at-within (suc most) unit [] units whole = omega arith
+unequal_at-within (suc most) unit (b ∷ bytes) zero whole = absurd (let none : length (b ∷ bytes) ≡ 0 = whole ∙ omega arith in omega (arith, none))
+unequal_at-within (suc most) unit (b ∷ bytes) (suc units) whole =
+    by_test (unequal_at-within most unit (drop unit (b ∷ bytes)) units (length-drop unit (b ∷ bytes) ∙ omega (arith, whole))) (starts_with nat_eq (drop unit (b ∷ bytes)) (take unit (b ∷ bytes)))
+  where
+    by_test : unequal_at most unit (drop unit (b ∷ bytes)) ≤ units → (t : Bool) → (if t then 0 else 1 + unequal_at most unit (drop unit (b ∷ bytes))) ≤ suc units
+    by_test after true = omega arith
+    by_test after false = omega (arith, after)
+
+-- The counts at the front of a line of whole units, of which there is one or more.
+pub record IsCounted (unit : ℕ) (line : List ℕ) (units : ℕ) : Type 0 where
+  pub few_equal : copies_at 128 (take unit line) line ≤ 128
+  pub equal_within : copies_at 128 (take unit line) line ≤ units
+  pub few_unequal : unequal_at 128 unit line ≤ 128
+  pub unequal_within : unequal_at 128 unit line ≤ units
+  pub unequal_some : copies_at 128 (take unit line) line ≤ 1 → 1 ≤ unequal_at 128 unit line
+
+-- where none is unequal, two are equal
+two_equal : (most unit : ℕ) (line : List ℕ) → 1 ≤ most → 0 < length line → length (take unit line) ≡ unit → unequal_at most unit line ≡ 0
+    → starts_with nat_eq (drop unit line) (take unit line) ≡ true
+unfolding unequal_at
+two_equal zero unit line some one sized none = absurd (omega arith)
+two_equal (suc most) unit [] some one sized none = absurd (omega arith)
+two_equal (suc most) unit (b ∷ line) some one sized none = by_test (starts_with nat_eq (drop unit (b ∷ line)) (take unit (b ∷ line))) none
+  where
+    by_test : (t : Bool) → (if t then 0 else 1 + unequal_at most unit (drop unit (b ∷ line))) ≡ 0 → t ≡ true
+    by_test true e = refl
+    by_test false e = absurd (omega (arith, e))
+
+pub counted : (unit : ℕ) (line : List ℕ) (units : ℕ) → 1 ≤ unit → length line ≡ units * unit → 0 < length line → IsCounted unit line units
+counted unit line units some whole one = record {
+  few_equal = copies_at-most 128 (take unit line) line;
+  equal_within =
+    let within : copies_at 128 (take unit line) line * unit ≤ units * unit =
+        (let P : ℕ → Type 0 = λ k. copies_at 128 (take unit line) line * k ≤ units * unit in
+        subst P sized (let h : copies_at 128 (take unit line) line * length (take unit line) ≤ length line = copies_at-within 128 (take unit line) line in omega (arith, h, whole))) in
+    le_of_mul-le-mul_right within some;
+  few_unequal = unequal_at-most 128 unit line;
+  unequal_within = unequal_at-within 128 unit line units whole;
+  unequal_some = λ few. by_count few (unequal_at 128 unit line) refl;
+}
+  where
+    sized : length (take unit line) ≡ unit
+    sized = length-take-le unit line (one_unit units unit (length line) whole one)
+
+    by_count : copies_at 128 (take unit line) line ≤ 1 → (n : ℕ) → unequal_at 128 unit line ≡ n → 1 ≤ n
+    by_count few (suc n) e = omega arith
+    by_count few zero e =
+        let first : copies_at 128 (take unit line) line ≡ 1 + copies_at 127 (take unit line) (drop (length (take unit line)) line) =
+            copies-more 128 (take unit line) line (omega arith) (begins-front unit line) in
+        let second : starts_with nat_eq (drop (length (take unit line)) line) (take unit line) ≡ true =
+            ap (λ k. starts_with nat_eq (drop k line) (take unit line)) sized ∙ two_equal 128 unit line (omega arith) one sized e in
+        let then : copies_at 127 (take unit line) (drop (length (take unit line)) line) ≡ 1 + copies_at 126 (take unit line) (drop (length (take unit line)) (drop (length (take unit line)) line)) =
+            copies-more 127 (take unit line) (drop (length (take unit line)) line) (omega arith) second in
+        absurd (omega (arith, few, first, then))

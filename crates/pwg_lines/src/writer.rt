@@ -1,0 +1,112 @@
+//! The groups of a page's lines as bytes.
+ghost use Rattle.pwg_lines.specs.Canonical.{canonical, copies_at, next_packet, unequal_at};
+ghost use Rattle.std.specs.Prelude.{List, OnErr, OnOk, IfOk, length, take, ℕ, ◌%◌, ◌*◌, ◌++◌, ◌+◌, ◌<◌, ◌∷◌, ◌≡◌, ◌≤◌};
+ghost use Rattle.stream_definitions.specs.Groups.{packet_spelling, packet_units};
+
+use std::alloc::AllocError;
+use weave_base::Memory;
+
+/// The most units of a packet.
+const MOST_UNITS: usize = 128;
+
+/// Appends the group of a line that stands so many times, in its canonical spelling. A unit is the bytes of a pixel,
+/// or one byte where a pixel has less. After `Memory` the output is as it was.
+pub fn code_line(line: &[u8], unit: usize, repeats: u32, out: &mut Vec<u8>) -> Result<(), Memory>
+    requires unit { 1 ≤ unit }
+    requires whole { length line.now % unit ≡ 0 }
+    requires some { 1 ≤ repeats }
+    requires most { repeats ≤ 256 }
+    ensures ok { OnOk result (out.new.items ≡ out.old.items ++ canonical unit repeats line.now) }
+    ensures err { OnErr result (out.new.items ≡ out.old.items) }
+{
+    let before = out.len();
+    if push_group(line, unit, (repeats - 1) as u8, out).is_err() {
+        out.truncate(before);
+        return Err(Memory);
+    }
+    Ok(())
+}
+
+/// Appends the group, or a part of it.
+fn push_group(line: &[u8], unit: usize, more: u8, out: &mut Vec<u8>) -> Result<(), AllocError>
+    requires unit { 1 ≤ unit }
+    requires whole { length line.now % unit ≡ 0 }
+    ensures ok { OnOk result (out.new.items ≡ out.old.items ++ canonical unit (more + 1) line.now) }
+    ensures part { (part : List ℕ) × (out.new.items ≡ out.old.items ++ part) }
+{
+    out.push(more)?;
+    let mut rest = line;
+    'packets: while !rest.is_empty() {
+        let units = push_packet(rest, unit, out)?;
+        rest = &rest[units * unit..];
+    }
+    Ok(())
+}
+
+/// Appends the packet at the front of a line, or a part of it, and gives the number of its units.
+fn push_packet(line: &[u8], unit: usize, out: &mut Vec<u8>) -> Result<usize, AllocError>
+    requires unit { 1 ≤ unit }
+    requires whole { length line.now % unit ≡ 0 }
+    requires some { 0 < length line.now }
+    ensures ok { OnOk result (out.new.items ≡ out.old.items ++ packet_spelling (next_packet unit line.now)) }
+    ensures units { IfOk result (λ units. units ≡ packet_units 0 (next_packet unit line.now)) }
+    ensures some { IfOk result (λ units. 1 ≤ units) }
+    ensures within { IfOk result (λ units. units * unit ≤ length line.now) }
+    ensures part { (part : List ℕ) × (out.new.items ≡ out.old.items ++ part) }
+{
+    let run = equal_units(line, unit);
+    if run > 1 {
+        push_part((run - 1) as u8, &line[..unit], out)?;
+        return Ok(run);
+    }
+    let alone = unequal_units(line, unit);
+    let first = if alone == 1 { 0 } else { (257 - alone) as u8 };
+    push_part(first, &line[..alone * unit], out)?;
+    Ok(alone)
+}
+
+/// Appends the first byte of a packet and the bytes behind it, or the first byte alone.
+fn push_part(first: u8, bytes: &[u8], out: &mut Vec<u8>) -> Result<(), AllocError>
+    ensures ok { OnOk result (out.new.items ≡ out.old.items ++ first ∷ bytes.now) }
+    ensures part { (part : List ℕ) × (out.new.items ≡ out.old.items ++ part) }
+{
+    out.push(first)?;
+    out.extend_from_slice(bytes)
+}
+
+/// How many units from the front on are equal, up to `MOST_UNITS`.
+fn equal_units(line: &[u8], unit: usize) -> usize
+    requires { unit ≤ length line.now }
+    ensures { result ≡ copies_at MOST_UNITS (take unit line.now) line.now }
+{
+    let first = &line[..unit];
+    let mut count = 0;
+    let mut rest = line;
+    'units: while count < MOST_UNITS {
+        if !rest.starts_with(first) {
+            return count;
+        }
+        count += 1;
+        rest = &rest[unit..];
+    }
+    count
+}
+
+/// How many units stand before the first two that are equal, or before the end, up to `MOST_UNITS`.
+fn unequal_units(line: &[u8], unit: usize) -> usize
+    requires unit { 1 ≤ unit }
+    requires whole { length line.now % unit ≡ 0 }
+    ensures { result ≡ unequal_at MOST_UNITS unit line.now }
+{
+    let mut count = 0;
+    let mut rest = line;
+    'units: while count < MOST_UNITS && !rest.is_empty() {
+        let (front, behind) = rest.split_at(unit);
+        if behind.starts_with(front) {
+            return count;
+        }
+        count += 1;
+        rest = behind;
+    }
+    count
+}
