@@ -1,6 +1,6 @@
 -- Why a word is refused, from its parts.
-use Rattle.std.proofs.Common.{◌≡◌, ℕ, ◌<◌, ◌≤◌, ◌+◌, Bool, true, false, ◌||◌, not, ltb, eqb, cond, List, [], ◌∷◌, length, Option, Some, None, is_some, MatchOption, Result, Ok, Err, OnOk, refl, ap, sym, ◌∙◌, arith, rules}
-use Rattle.std.specs.List.{find, list_any, position_or_len}
+use Rattle.std.proofs.Common.{◌≡◌, ℕ, ◌≤◌, Bool, true, false, ltb, cond, List, [], ◌∷◌, length, Option, Some, None, is_some, MatchOption, Result, Ok, Err, OnOk, refl, ap, sym, ◌∙◌, arith}
+use Rattle.std.specs.List.{list_any, position_or_len}
 use Rattle.std.specs.Result.{result_err}
 use Rattle.std.proofs.Math.ListN.{drop_of_length-le}
 use Rattle.std.proofs.lemmas.Bool.Decides.{nat_tests}
@@ -10,7 +10,7 @@ use Rattle.answer_definitions.specs.declared.usage.UsageCause.{UsageCause}
 use Rattle.answer_definitions.specs.declared.usage.UsageCause.TheVariants.{NotKeyValue, UnknownKey}
 use Rattle.job_words.specs.Values.{is_text}
 use Rattle.job_words.specs.Table.{KeyRow, key_named}
-use Rattle.job_words.specs.Meaning.{is_equals_sign, is_key_value, key_of, value_of, gives, value_fault, key_fault, word_fault}
+use Rattle.job_words.specs.Meaning.{is_equals_sign, is_key_value, key_of, value_of, gives, value_fault, word_fault}
 
 -- an element passes just where the first that does stands within
 some_place : {X : Type 0} (p : X → Bool) (xs : List X) → list_any p xs ≡ ltb (position_or_len p xs) (length xs)

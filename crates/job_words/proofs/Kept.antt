@@ -1,5 +1,5 @@
 -- What is kept of each key, as words are read.
-use Rattle.std.proofs.Common.{◌≡◌, ℕ, ◌<◌, ◌+◌, Bool, true, false, ◌||◌, cond, List, [], ◌∷◌, ◌++◌, length, Option, Some, None, is_some, refl, ap, sym, ◌∙◌, arith, rules}
+use Rattle.std.proofs.Common.{◌≡◌, ℕ, ◌+◌, Bool, true, false, cond, List, [], ◌∷◌, ◌++◌, length, Option, Some, None, is_some, refl, ap, sym, ◌∙◌, arith}
 use Rattle.std.specs.List.{find, list_any, position_from}
 use Rattle.std.specs.Option.{option_map, option_and_then, option_or}
 use Rattle.std.proofs.lemmas.Bool.Decides.{nat_tests}
@@ -7,7 +7,7 @@ use Rattle.std.proofs.lemmas.List.Folds.{find-append, list_any-append}
 use Rattle.std.proofs.lemmas.Slice.Eq.{bytes_eq-Decides}
 use Rattle.job_words.specs.Values.{is_text, kernel_named, worker_count}
 use Rattle.job_words.specs.Table.{KeyRow, profile_key, kernel_key, workers_key}
-use Rattle.job_words.specs.Meaning.{gives, given, key_of, value_of, profile_word, given_kernel, given_workers}
+use Rattle.job_words.specs.Meaning.{gives, given, key_of, value_of, given_profile_word, given_kernel, given_workers}
 use Rattle.job_words.specs.Reading.{IsKept, IsGiven}
 use Rattle.job_words.specs.declared.reading.Given.{Given}
 use Rattle.diffusion_kernel.specs.declared.tables.Kernel.{Kernel}
@@ -43,11 +43,11 @@ or_none (Some x) = refl
 given_value : {T : Type 0} (key : KeyRow) (read : List ℕ → Option T) → IsValue key (λ words. option_and_then read (given key words)) (λ n word. read (value_of word))
 given_value key read = record {
   other = λ words word apart.
-    let same : find (gives key) (words ++ word ∷ []) ≡ find (gives key) words = rw (find-append, apart) (or_none (find (gives key) words)) in
-    ap (λ found. option_and_then read (option_map value_of found)) same;
+      let same : find (gives key) (words ++ word ∷ []) ≡ find (gives key) words = rw (find-append, apart) (or_none (find (gives key) words)) in
+      ap (λ found. option_and_then read (option_map value_of found)) same;
   first = λ words word none here.
-    let this : find (gives key) (words ++ word ∷ []) ≡ Some word = rw (find-append, find_none (gives key) words none, here) refl in
-    ap (λ found. option_and_then read (option_map value_of found)) this;
+      let this : find (gives key) (words ++ word ∷ []) ≡ Some word = rw (find-append, find_none (gives key) words none, here) refl in
+      ap (λ found. option_and_then read (option_map value_of found)) this;
 }
 
 pub kernel_value : IsValue kernel_key given_kernel (λ n word. kernel_named (value_of word))
@@ -68,9 +68,9 @@ no_position : {X : Type 0} (p : X → Bool) (n : ℕ) (xs : List X) → list_any
 no_position p n [] h = refl
 no_position p n (x ∷ xs) h = grind (arith, nat_tests, no_position p (n + 1) xs)
 
-pub profile_value : IsValue profile_key profile_word (λ n word. Some n)
+pub profile_value : IsValue profile_key given_profile_word (λ n word. Some n)
 profile_value = record {
-  other = λ words word apart. position_push (gives profile_key) 2 words word ∙ rw apart (or_none (profile_word words));
+  other = λ words word apart. position_push (gives profile_key) 2 words word ∙ rw apart (or_none (given_profile_word words));
   first = λ words word none here. position_push (gives profile_key) 2 words word ∙ rw (no_position (gives profile_key) 2 words none, here) (ap Some (omega arith));
 }
 

@@ -1,10 +1,9 @@
 -- The words of a command line, one after the other.
-use Rattle.std.proofs.Common.{◌≡◌, ℕ, ◌<◌, ◌≤◌, ◌+◌, ◌-◌, List, [], ◌∷◌, ◌++◌, length, take, drop, get_or, Option, Some, None, Result, Ok, Err, slice_get, suc, zero, sub-one, refl, ap, sym, ◌∙◌, arith, rules}
+use Rattle.std.proofs.Common.{◌≡◌, ℕ, ◌<◌, ◌≤◌, ◌+◌, ◌-◌, List, [], ◌∷◌, ◌++◌, length, take, drop, Option, Some, None, slice_get, suc, zero, sub-one, refl, ap, ◌∙◌, arith}
 use Rattle.std.proofs.Math.ListN.{drop_of_length-le}
 use Rattle.std.proofs.lemmas.List.{take_all, take_more, drop_more, length-take-le}
 use Rattle.std.proofs.lemmas.Option.{get_or_from_slice_get, slice_get_within}
 use Rattle.answer_definitions.specs.declared.usage.UsageCause.{UsageCause}
-use Rattle.answer_definitions.specs.declared.usage.UsageFault.{UsageFault}
 use Rattle.job_words.specs.Table.{KeyRow}
 use Rattle.job_words.specs.Meaning.{refused, word_fault, faults_at, fault_at}
 use Rattle.job_words.specs.Reading.{IsGiven}

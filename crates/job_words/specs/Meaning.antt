@@ -11,16 +11,19 @@ use Rattle.job_words.specs.Values.{is_text, kernel_named, worker_count}
 use Rattle.job_words.specs.Table.{KeyRow, CommandRow, command_named, key_named, profile_key, kernel_key, workers_key}
 use Rattle.job_words.specs.declared.reading.Job.{Job}
 
--- A word is a key and a value, cut at its first `=`.
+-- A word behind the command is a key and a value, cut at its first `=`.
 abbrev pub is_equals_sign : ℕ → Bool
 is_equals_sign byte = byte == 61
 
+-- whether a word has a `=`
 abbrev pub is_key_value : List ℕ → Bool
 is_key_value word = list_any is_equals_sign word
 
+-- what stands before the first `=`
 abbrev pub key_of : List ℕ → List ℕ
 key_of word = before_first is_equals_sign word
 
+-- what stands behind it
 abbrev pub value_of : List ℕ → List ℕ
 value_of word = after_first is_equals_sign word
 
@@ -28,16 +31,16 @@ value_of word = after_first is_equals_sign word
 abbrev pub gives : KeyRow → List ℕ → Bool
 gives key word = is_text (key_of word) key.name
 
--- why a word with a key of the command is refused: the key was given before, or does not take the value
+-- why a word with a key of the command is refused: the key was given before, else it does not take the value
 abbrev pub value_fault : Bool → Bool → Option UsageCause
 value_fault repeated taken = if repeated then Some RepeatedKey else if taken then None else Some BadValue
 
--- why a word with this key is refused
+-- why a word is refused whose key has this row in the table
 abbrev pub key_fault : List (List ℕ) → List ℕ → Option KeyRow → Option UsageCause
 key_fault earlier word None = Some UnknownKey
 key_fault earlier word (Some key) = value_fault (list_any (gives key) earlier) (key.takes (value_of word))
 
--- Why a word behind the command is refused; `earlier` are the words between.
+-- Why a word behind the command is refused, if it is; `earlier` are the words between the two.
 unfoldable pub word_fault : List KeyRow → List (List ℕ) → List ℕ → Option UsageCause
 word_fault keys earlier word =
     if is_key_value word then key_fault earlier word (key_named keys (key_of word)) else Some NotKeyValue
@@ -46,11 +49,13 @@ word_fault keys earlier word =
 abbrev pub fault_at : ℕ → UsageCause → UsageFault
 fault_at number cause = record { word = number; cause = cause }
 
+-- the same as a list, of one fault or none
 abbrev pub faults_at : ℕ → Option UsageCause → List UsageFault
 faults_at number None = []
 faults_at number (Some cause) = fault_at number cause ∷ []
 
--- All words behind the command that are refused, and why; `earlier` are those that were looked at.
+-- All words behind the command that are refused, and why. Words are numbered from 1, the command, so the first of
+-- these is word 2; `earlier` are those that stand before `words`.
 unfoldable pub refused : List KeyRow → List (List ℕ) → List (List ℕ) → List UsageFault
 refused keys [] earlier = []
 refused keys (word ∷ words) earlier =
@@ -61,8 +66,8 @@ abbrev pub given : KeyRow → List (List ℕ) → Option (List ℕ)
 given key words = option_map value_of (find (gives key) words)
 
 -- the number of the word that gives the profile
-abbrev pub profile_word : List (List ℕ) → Option ℕ
-profile_word words = position_from (gives profile_key) 2 words
+abbrev pub given_profile_word : List (List ℕ) → Option ℕ
+given_profile_word words = position_from (gives profile_key) 2 words
 
 -- the kernel that the words give
 abbrev pub given_kernel : List (List ℕ) → Option Kernel
@@ -76,7 +81,7 @@ given_workers words = option_and_then worker_count (given workers_key words)
 abbrev pub job_of : CommandRow → List (List ℕ) → Job
 job_of command words = record {
   verb = command.verb;
-  profile_word = unwrap_or (profile_word words) 0;
+  profile_word = unwrap_or (given_profile_word words) 0;
   kernel = unwrap_or (given_kernel words) Floyd;
   workers = unwrap_or (given_workers words) 1;
 }
@@ -86,11 +91,12 @@ abbrev pub job_unless : List UsageFault → Job → Result Job UsageFault
 job_unless [] job = Ok job
 job_unless (fault ∷ faults) job = Err fault
 
+-- the meaning where the first word names this command, if it names one
 abbrev pub command_meaning : List (List ℕ) → Option CommandRow → Result Job UsageFault
 command_meaning words None = Err (fault_at 1 UnknownCommand)
 command_meaning words (Some command) = job_unless (refused command.keys words []) (job_of command words)
 
--- What a command line means.
+-- What a command line means: its job, or the first word that is refused and why.
 unfoldable pub job_meaning : List (List ℕ) → Result Job UsageFault
 job_meaning [] = Err (fault_at 1 NoCommand)
 job_meaning (name ∷ words) = command_meaning words (command_named name)

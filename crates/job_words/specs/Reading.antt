@@ -1,10 +1,8 @@
 -- What has been read of a command line, against what its words give.
-use Rattle.std.specs.Prelude.{◌≡◌, ℕ, List, Bool, false, true, Option, MatchOption, is_some}
+use Rattle.std.specs.Prelude.{◌≡◌, ℕ, List, Option, is_some}
 use Rattle.std.specs.List.{list_any}
-
-use Rattle.diffusion_kernel.specs.declared.tables.Kernel.{Kernel}
 use Rattle.job_words.specs.Table.{KeyRow, profile_key, kernel_key, workers_key}
-use Rattle.job_words.specs.Meaning.{gives, profile_word, given_kernel, given_workers}
+use Rattle.job_words.specs.Meaning.{gives, given_profile_word, given_kernel, given_workers}
 use Rattle.job_words.specs.declared.reading.Given.{Given}
 
 -- a key's value so far is kept, and there is one just where a word gives the key
@@ -14,6 +12,6 @@ pub record IsKept {T : Type 0} (key : KeyRow) (value : List (List ℕ) → Optio
 
 -- what the words give is kept
 pub record IsGiven (words : List (List ℕ)) (given : Given) : Type 0 where
-  pub profile : IsKept profile_key profile_word words given.profile_word
+  pub profile : IsKept profile_key given_profile_word words given.profile_word
   pub kernel : IsKept kernel_key given_kernel words given.kernel
   pub workers : IsKept workers_key given_workers words given.workers

@@ -1,5 +1,5 @@
 -- The values that keys take.
-use Rattle.std.specs.Prelude.{ℕ, Bool, true, false, nat_le, nat_eq, ◌==◌, ◌&&◌, if◌then◌else◌, List, [], ◌∷◌, length, codes, Option, Some, None}
+use Rattle.std.specs.Prelude.{ℕ, Bool, false, nat_le, nat_eq, ◌==◌, ◌&&◌, if◌then◌else◌, List, [], ◌∷◌, length, codes, Option, Some, None}
 use Rattle.std.specs.Char.{is_ascii_digit}
 use Rattle.std.specs.Cmp.Lexicographic.{pointwise}
 use Rattle.std.specs.List.{list_all}
@@ -14,7 +14,9 @@ is_text word text = pointwise nat_eq word text
 -- whether a text is a number: `0`, or digits of which the first is 1 to 9
 abbrev pub is_number : List ℕ → Bool
 is_number [] = false
-is_number (first ∷ digits) = if first == 48 then nat_eq (length digits) 0 else is_ascii_digit first && list_all is_ascii_digit digits
+is_number (first ∷ digits) =
+    if first == 48 then nat_eq (length digits) 0
+    else is_ascii_digit first && list_all is_ascii_digit digits
 
 -- the number that a text writes, where it is one from `low` to `high`
 unfoldable pub number_within : ℕ → ℕ → List ℕ → Option ℕ

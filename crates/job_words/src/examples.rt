@@ -45,5 +45,6 @@ pub fn numbers()
     ensures sign { number_within 1 64 (codes "+1") ≡ None }
     ensures blank { number_within 1 64 (codes " 1") ≡ None }
     ensures letter { number_within 1 64 (codes "1x") ≡ None }
+    ensures long { number_within 1 64 (codes "1000000000000000000000000000000000000001") ≡ None }
     ensures nothing { number_within 0 64 [] ≡ None }
 {}

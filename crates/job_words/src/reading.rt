@@ -47,7 +47,8 @@ fn keep<T: Copy>(kept: &mut Option<T>, value: Option<T>) -> Result<(), UsageCaus
 
 // The key and the value of a word.
 fn cut(word: &str) -> Option<(&str, &str)>
-    ensures { MatchOption result (is_key_value word.now ≡ false) (λ parts. (is_key_value word.now ≡ true) × (parts.0.now ≡ key_of word.now) × (parts.1.now ≡ value_in word.now)) }
+    ensures { MatchOption result (is_key_value word.now ≡ false) (λ parts. (is_key_value word.now ≡ true)
+        × (parts.0.now ≡ key_of word.now) × (parts.1.now ≡ value_in word.now)) }
 {
     word.split_once('=')
 }
@@ -97,7 +98,8 @@ impl Given {
 fn read_keys(verb: Verb, words: &Words) -> Result<Given, UsageFault>
     ensures accepted { OnOk result (refused (command_row verb).keys (drop 1 words.now) [] ≡ []) }
     ensures given { IfOk result (IsGiven (drop 1 words.now)) }
-    ensures fault { IfErr result (λ fault. slice_get (refused (command_row verb).keys (drop 1 words.now) []) 0 ≡ Some fault) }
+    ensures fault { IfErr result (λ fault.
+        slice_get (refused (command_row verb).keys (drop 1 words.now) []) 0 ≡ Some fault) }
 {
     let mut given = Given {
         profile_word: None,
@@ -107,14 +109,17 @@ fn read_keys(verb: Verb, words: &Words) -> Result<Given, UsageFault>
     for i in 1..words.len() {
         let number = i + 1;
         if let Err(cause) = given.take(verb, number, words.get(i)) {
-            return Err(UsageFault { word: number, cause });
+            return Err(UsageFault {
+                word: number,
+                cause,
+            });
         }
     }
     Ok(given)
 }
 
-/// Reads the words of a command line as a job. The first word that is refused counts, and on one word the first cause
-/// in the order of `UsageCause`.
+/// Reads the words of a command line as a job: the command, and behind it `key=value` in any order. Words are numbered
+/// from 1. The first word that is refused counts, and on one word the first cause in the order of `UsageCause`.
 pub fn read_words(words: &Words) -> Result<Job, UsageFault>
     ensures { result ≡ job_meaning words.now }
 {
@@ -139,7 +144,8 @@ pub fn read_words(words: &Words) -> Result<Job, UsageFault>
     })
 }
 
-/// The name of the job's profile.
+/// The name of the job's profile, of 1 to 255 bytes: `p360cmyk`, which is built in, where no word gives one. The job is
+/// to be the one that was read of these words.
 pub fn profile_name<'a>(words: &'a Words, job: &Job) -> &'a str
     requires { job_meaning words.now ≡ Ok job.now }
     ensures { result.now ≡ profile_named words.now }

@@ -1,18 +1,16 @@
 -- A page that is printed so far.
-use Rattle.std.proofs.Common.{◌≡◌, ℕ, zero, suc, ◌+◌, ◌-◌, ◌*◌, ◌/◌, ◌<◌, ◌≤◌, Bool, true, false, ◌||◌, if◌then◌else◌, cond, List, [], ◌∷◌, ◌++◌, length, take, drop, map, filter, flat_map, get_or, Option, None, Some, Result, OnOk, OnErr, refl, sym, ◌∙◌, ap, arith, append_assoc, append-nil, subst}
+use Rattle.std.proofs.Common.{◌≡◌, ℕ, zero, suc, ◌+◌, ◌-◌, ◌*◌, ◌/◌, ◌<◌, ◌≤◌, Bool, true, false, ◌||◌, if◌then◌else◌, cond, List, [], ◌∷◌, ◌++◌, length, take, drop, map, filter, flat_map, get_or, Option, refl, sym, ◌∙◌, ap, arith, append_assoc, append-nil, subst}
 use Rattle.std.specs.List.{list_any, AllByRecursion}
 use Rattle.std.specs.Io.KnownBytes.{Appends}
 use Rattle.std.proofs.KnownBytes.{Appends-trans}
 use Rattle.std.proofs.lemmas.List.{length-map, length-take}
-use Rattle.printer_definitions.specs.declared.inks.Ink.{Ink}
 use Rattle.printer_definitions.specs.declared.inks.Ink.TheVariants.{Black}
 use Rattle.printer_definitions.specs.Printer.{tiny1}
 use Rattle.diffusion_definitions.specs.Diffusion.{Errors, Plane, Solves, errors, floyd, no_top, on}
 use Rattle.diffusion_laws.proofs.Solve.{errors_solve, errors_top}
 use Rattle.job_definitions.specs.declared.command.Command.TheVariants as c
 use Rattle.page_definitions.specs.Dots.{Halftone, count_from}
-use Rattle.page_definitions.specs.PageBytes.{Spoken, bytes_of, dot_row, down_by, fired_passes, fired_row, fires, has_dot, ink_pass, packed, pass_commands, pass_inks, pass_rows, raster_head, say}
-use Rattle.page_definitions.specs.Weave.{nozzle_row, pass_count}
+use Rattle.page_definitions.specs.PageBytes.{Spoken, bytes_of, dot_row, down_by, fired_row, fires, has_dot, ink_pass, packed, pass_commands, pass_inks, pass_rows, raster_head, say}
 use Rattle.page_laws.proofs.Headline.{bytes-append}
 use Rattle.page_laws.proofs.OneNozzle.{one-count, one-row}
 use Rattle.page_parser.specs.declared.page.GreyPage.{GreyPage}
@@ -23,7 +21,7 @@ use Rattle.stream_definitions.specs.declared.pages.Kind.TheVariants.{Gray8}
 use Rattle.stream_definitions.specs.Header.{line_bytes, row_of}
 use Rattle.row_diffusion.specs.Rows.{HasRow}
 use Rattle.weave_base.specs.Parts.{AppendsPart}
-use Rattle.weave_base.proofs.Parting.{on_err_anyway, part_behind, part_of_front}
+use Rattle.weave_base.proofs.Parting.{part_behind, part_of_front}
 use Rattle.page_printer.specs.declared.rows.Rows.{Rows}
 use Rattle.page_printer.specs.Rows.{IsReached, IsReady, darkness}
 use Rattle.page_printer.specs.Passes.{fire_bytes, pass_bytes}
@@ -65,13 +63,13 @@ line_row page y line others low wide e = record {
   inside = omega arith;
   wide = length-map line darkness ∙ (let same : length line ≡ page.form.width - 0 = omega arith in same);
   are = λ x inside.
-    let within : x < length line = omega arith in
-    let row : get_or (page_of page).lines (0 + y) [] ≡ line =
-        (let none : 0 + y ≡ y = omega arith in ap (λ n. get_or (page_of page).lines n []) none) ∙ first_line (page_of page).lines y [] line others e in
-    let place : 0 + x ≡ x = omega arith in
-    get_or-darkness line x within ∙ dark (get_or line x 0) ∙ kind_amount page.form.kind line x
-    ∙ ap (λ n. amount tiny1 page.form.kind (pixel_at page.form.kind line n) Black) (sym place)
-    ∙ ap (λ l. amount tiny1 page.form.kind (pixel_at page.form.kind l (0 + x)) Black) (sym row);
+      let within : x < length line = omega arith in
+      let row : get_or (page_of page).lines (0 + y) [] ≡ line =
+      (let none : 0 + y ≡ y = omega arith in ap (λ n. get_or (page_of page).lines n []) none) ∙ first_line (page_of page).lines y [] line others e in
+      let place : 0 + x ≡ x = omega arith in
+      get_or-darkness line x within ∙ dark (get_or line x 0) ∙ kind_amount page.form.kind line x
+      ∙ ap (λ n. amount tiny1 page.form.kind (pixel_at page.form.kind line n) Black) (sym place)
+      ∙ ap (λ l. amount tiny1 page.form.kind (pixel_at page.form.kind l (0 + x)) Black) (sym row);
 }
 
 -- ---- a pass of the page

@@ -1,5 +1,5 @@
 -- One more row of a page.
-use Rattle.std.proofs.Common.{◌≡◌, ℕ, ℤ, pos, zero, suc, ◌+◌, ◌-◌, ◌<◌, ◌≤◌, Bool, false, List, [], ◌∷◌, ◌++◌, length, take, drop, map, set, get_or, refl, sym, ◌∙◌, ap, arith, subst}
+use Rattle.std.proofs.Common.{◌≡◌, ℕ, ℤ, pos, zero, suc, ◌+◌, ◌-◌, ◌<◌, Bool, false, List, [], ◌∷◌, ◌++◌, length, take, drop, map, set, get_or, refl, sym, ◌∙◌, ap, arith, subst}
 use Rattle.std.proofs.lemmas.List.{map_more, take_at, take_more_set}
 use Rattle.diffusion_definitions.specs.Diffusion.{Errors, Plane}
 use Rattle.page_definitions.specs.Dots.{count_from}
@@ -33,5 +33,5 @@ dots_are (x ∷ xs) f n (suc many) len at =
     let first : n + 0 ≡ n = omega arith in
     ap (λ b. b ∷ xs) (at 0 (omega arith) ∙ ap f first)
     ∙ ap (λ bs. f n ∷ bs) (dots_are xs f (n + 1) many (omega arith) (λ i low.
-      let next : n + suc i ≡ n + 1 + i = omega arith in
-      at (suc i) (omega arith) ∙ ap f next))
+    let next : n + suc i ≡ n + 1 + i = omega arith in
+    at (suc i) (omega arith) ∙ ap f next))

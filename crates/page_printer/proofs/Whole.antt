@@ -1,5 +1,5 @@
 -- The three parts of a page's bytes.
-use Rattle.std.proofs.Common.{◌≡◌, ℕ, ◌+◌, ◌-◌, ◌*◌, List, [], ◌∷◌, ◌++◌, refl, sym, ◌∙◌, ap, arith}
+use Rattle.std.proofs.Common.{◌≡◌, ℕ, ◌+◌, ◌*◌, List, [], ◌∷◌, ◌++◌, ◌∙◌, ap, arith}
 use Rattle.printer_definitions.specs.Printer.{tiny1}
 use Rattle.job_definitions.specs.declared.command.Command.TheVariants as c
 use Rattle.page_definitions.specs.Dots.{Halftone}
@@ -11,7 +11,7 @@ use Rattle.page_printer.specs.Pages.{begin_bytes, rows_bytes, tiny_bytes, tiny_d
 begin_is : (h : Halftone) (height len : ℕ) → h.height ≡ height → len ≡ 2 * height → bytes_of (prologue tiny1 h len) ≡ begin_bytes height
 begin_is h height len e f =
     let P : ℕ → ℕ → List ℕ = λ bottom l. bytes_of (
-        say c.Init ∷ say c.Graphics ∷ say (c.Unit 5) ∷ say (c.MicroWeave 0) ∷ say (c.OneWay 1) ∷ say (c.Length l) ∷ say (c.Margins 0 bottom) ∷ say (c.DownTo 0) ∷ []) in
+    say c.Init ∷ say c.Graphics ∷ say (c.Unit 5) ∷ say (c.MicroWeave 0) ∷ say (c.OneWay 1) ∷ say (c.Length l) ∷ say (c.Margins 0 bottom) ∷ say (c.DownTo 0) ∷ []) in
     let bottom : (0 + h.height) * 2 ≡ 2 * height = omega (arith, e) in
     ap (λ l. P ((0 + h.height) * 2) l) f ∙ ap (λ b. P b (2 * height)) bottom
 

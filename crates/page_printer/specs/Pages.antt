@@ -1,5 +1,5 @@
 -- The bytes of a page for the printer with one nozzle.
-use Rattle.std.specs.Prelude.{ℕ, ◌*◌, List, [], ◌∷◌, ◌++◌}
+use Rattle.std.specs.Prelude.{ℕ, ◌*◌, List, [], ◌∷◌}
 use Rattle.printer_definitions.specs.declared.inks.Ink.TheVariants.{Black}
 use Rattle.printer_definitions.specs.Printer.{tiny1}
 use Rattle.diffusion_definitions.specs.Diffusion.{Plane, floyd}
@@ -25,8 +25,8 @@ tiny_plane page = ink_plane (page_of page) tiny1 Black
 -- the commands before the first pass of a page of this height
 abbrev pub begin_bytes : ℕ → List ℕ
 begin_bytes height = bytes_of (
-  say c.Init ∷ say c.Graphics ∷ say (c.Unit 5) ∷ say (c.MicroWeave 0) ∷ say (c.OneWay 1) ∷ say (c.Length (2 * height))
-  ∷ say (c.Margins 0 (2 * height)) ∷ say (c.DownTo 0) ∷ [])
+    say c.Init ∷ say c.Graphics ∷ say (c.Unit 5) ∷ say (c.MicroWeave 0) ∷ say (c.OneWay 1) ∷ say (c.Length (2 * height))
+    ∷ say (c.Margins 0 (2 * height)) ∷ say (c.DownTo 0) ∷ [])
 
 -- the passes
 abbrev pub rows_bytes : GreyPage → List ℕ

@@ -1,8 +1,8 @@
 -- The bytes of the passes of a head with one nozzle.
-use Rattle.std.specs.Prelude.{ℕ, zero, suc, ◌*◌, ◌/◌, ◌%◌, List, [], ◌∷◌, ◌++◌}
+use Rattle.std.specs.Prelude.{ℕ, ◌*◌, List, ◌++◌}
 use Rattle.printer_definitions.specs.declared.inks.Ink.TheVariants.{Black}
 use Rattle.job_definitions.specs.declared.command.Command.TheVariants as c
-use Rattle.job_definitions.specs.Commands.{command_bytes, two_bytes}
+use Rattle.job_definitions.specs.Commands.{command_bytes}
 use Rattle.page_definitions.specs.PageBytes.{bytes_of, down_by}
 
 -- the commands of a pass before the rows of its raster, but for the step down

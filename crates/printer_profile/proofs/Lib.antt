@@ -1,1 +1,5 @@
 pub mod Divisors
+pub mod LineParts
+pub mod Numbers
+pub mod Printed
+pub mod TextLemmas

@@ -1,4 +1,6 @@
 pub mod Keys
+pub mod Lines
 pub mod Profiles
+pub mod Text
 pub mod Validity
 pub mod Values

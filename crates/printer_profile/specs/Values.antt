@@ -1,5 +1,5 @@
 -- The values of keys.
-use Rattle.std.specs.Prelude.{ℕ, Bool, true, false, nat_le, ◌==◌, ◌&&◌, if◌then◌else◌, List, [], ◌∷◌, length, codes, find, Option, Some, None}
+use Rattle.std.specs.Prelude.{ℕ, Bool, not, nat_le, nat_lt, slice_index, ◌==◌, ◌&&◌, if◌then◌else◌, List, [], ◌∷◌, length, codes, find, Option, Some, None}
 use Rattle.std.specs.Char.{is_ascii_digit}
 use Rattle.std.specs.List.{list_all}
 use Rattle.std.specs.Str.{bytes_eq}
@@ -7,10 +7,12 @@ use Rattle.std.specs.Str.Parse.{digits_value}
 use Rattle.printer_definitions.specs.declared.inks.InkSet.{InkSet}
 use Rattle.printer_definitions.specs.declared.inks.InkSet.TheVariants.{K, Cmy, Cmyk}
 
--- whether a text is a number: `0`, or digits of which the first is 1 to 9
+abbrev pub has_leading_zero : List ℕ → Bool
+has_leading_zero text = nat_lt 1 (length text) && (slice_index text 0 == 48)
+
+-- whether a text is a number: some digits, with no leading zero
 abbrev pub is_number : List ℕ → Bool
-is_number [] = false
-is_number (first ∷ digits) = if first == 48 then length digits == 0 else is_ascii_digit first && list_all is_ascii_digit digits
+is_number text = list_all is_ascii_digit text && (nat_lt 0 (length text) && not (has_leading_zero text))
 
 -- the number that a text writes, where it is one up to `most`
 unfoldable pub number_within : ℕ → List ℕ → Option ℕ

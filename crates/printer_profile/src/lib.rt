@@ -4,6 +4,9 @@
 mod built_ins;
 mod fields;
 mod keys;
+mod lines;
+mod printing;
+mod reading;
 mod setting;
 #[cfg(test)]
 mod tests;
@@ -14,6 +17,7 @@ pub use built_ins::built_in;
 pub use fields::Profile;
 pub use printer_definitions::InkSet;
 pub use separation_definitions::Window;
+pub use reading::{TextCause, TextFault, read};
 pub use setting::SetFault;
 pub use stream_definitions::{PageForm, Wanted};
 pub use validity::ProfileFault;

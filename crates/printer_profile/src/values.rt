@@ -1,8 +1,14 @@
 //! The values of keys.
-ghost use Rattle.printer_profile.specs.Values.{ink_set_name as ink_set_name_of, ink_set_named as ink_set_of, number_within};
+ghost use Rattle.printer_profile.specs.Values.{has_leading_zero as has_leading_zero_of, ink_set_name as ink_set_name_of, ink_set_named as ink_set_of, number_within};
 ghost use Rattle.std.specs.Prelude.{IfSome, ◌≡◌, ◌≤◌, length};
 
 use printer_definitions::InkSet;
+
+fn has_leading_zero(text: &[u8]) -> bool
+    ensures { result ≡ has_leading_zero_of text.now }
+{
+    text.len() > 1 && text[0] == b'0'
+}
 
 // The number that the text writes, up to `most`: no sign, no blank, no leading zero.
 fn number_up_to(most: u32, text: &[u8]) -> Option<u32>
@@ -10,7 +16,7 @@ fn number_up_to(most: u32, text: &[u8]) -> Option<u32>
     ensures number { result ≡ number_within most text.now }
     ensures most { IfSome result (λ number. number ≤ most) }
 {
-    if text.is_empty() || text[0] == b'0' && text.len() > 1 {
+    if text.is_empty() || has_leading_zero(text) {
         return None;
     }
     let mut number = 0;

@@ -1,18 +1,17 @@
 -- The calls of a reader: what is read of a piece so far.
-use Rattle.std.proofs.Common.{◌≡◌, ℕ, zero, suc, ◌+◌, ◌-◌, ◌<◌, ◌≤◌, nat_lt, true, false, if◌then◌else◌, List, [], ◌∷◌, ◌++◌, length, take, drop, Option, Some, None, refl, sym, ◌∙◌, ap, subst, arith, append_assoc, length-append, length-drop}
+use Rattle.std.proofs.Common.{◌≡◌, ℕ, zero, suc, ◌+◌, ◌-◌, ◌≤◌, if◌then◌else◌, List, [], ◌++◌, length, take, drop, Some, None, refl, sym, ◌∙◌, ap, subst, arith, append_assoc, length-append, length-drop}
 use Rattle.std.proofs.lemmas.Bool.{lt-ltb}
 use Rattle.std.proofs.lemmas.List.{append-nil, length-take-le, take_all}
 use Rattle.std.proofs.Math.Seq.{take-add}
 use Rattle.stream_definitions.specs.declared.faults.LineFault.{LineFault}
 use Rattle.stream_definitions.specs.Header.{KindRow, line_units, row_of}
-use Rattle.stream_definitions.specs.Groups.{GroupRead, group_at, line_at}
+use Rattle.stream_definitions.specs.Groups.{group_at, line_at}
 use Rattle.stream_definitions.specs.Groups.GroupRead.{Group, Part, Wrong}
 use Rattle.pwg_lines.specs.declared.reader.LineReader.{LineReader}
 use Rattle.pwg_lines.specs.declared.reader.State.{State}
 use Rattle.pwg_lines.specs.declared.reader.State.TheVariants as state
 use Rattle.pwg_lines.specs.declared.reader.Fill.{Fill}
-use Rattle.pwg_lines.specs.declared.reader.Fill.TheVariants as fill
-use Rattle.pwg_lines.specs.States.{IsAt, IsOpen, Stands, pending, read_on}
+use Rattle.pwg_lines.specs.States.{IsAt, IsOpen, Stands, read_on}
 use Rattle.pwg_lines.specs.Reading.{Ends, IsFault, IsLine, IsMore, StandsFor, Takes, fault_in, fault_of, line_of, next_group}
 use Rattle.pwg_lines.proofs.Steps.{front_of, in_state}
 
@@ -58,11 +57,11 @@ feed_step old now new piece rest used more so_far is_open behind fits takes = re
     form = takes.form ∙ so_far.takes.form;
     lines_left = takes.lines_left ∙ so_far.takes.lines_left;
     stands = λ sofar stood.
-      let joined : (sofar ++ take used piece) ++ take more rest ≡ sofar ++ take (used + more) piece =
-          append_assoc sofar (take used piece) (take more rest) ∙ ap (λ bs. sofar ++ (take used piece ++ take more bs)) behind
-          ∙ ap (λ bs. sofar ++ bs) (sym (take-add used more piece)) in
-      let P : List ℕ → Type 0 = StandsFor new in
-      subst P joined (takes.stands (sofar ++ take used piece) (so_far.takes.stands sofar stood));
+        let joined : (sofar ++ take used piece) ++ take more rest ≡ sofar ++ take (used + more) piece =
+        append_assoc sofar (take used piece) (take more rest) ∙ ap (λ bs. sofar ++ (take used piece ++ take more bs)) behind
+        ∙ ap (λ bs. sofar ++ bs) (sym (take-add used more piece)) in
+        let P : List ℕ → Type 0 = StandsFor new in
+        subst P joined (takes.stands (sofar ++ take used piece) (so_far.takes.stands sofar stood));
   };
   again = λ fault e. absurd (open-no_fault now.state fault is_open (ap fault_of (so_far.again fault e).1 ∙ e));
 }

@@ -1,20 +1,20 @@
 -- Each step of a reader: what it stands for behind the bytes that it takes.
 use Rattle.std.proofs.Common.{◌≡◌, ℕ, zero, suc, ◌+◌, ◌-◌, ◌*◌, ◌<◌, ◌≤◌, ◌==◌, nat_lt, Bool, true, false, if◌then◌else◌, List, [], ◌∷◌, ◌++◌, length, take, drop, replicate, refl, sym, ◌∙◌, ap, subst, arith, append_assoc, length-append}
-use Rattle.std.proofs.lemmas.Bool.{ltb-true, ltb-false, lt-ltb, le-ltb, eqb-true, eqb-false, ne_eqb}
+use Rattle.std.proofs.lemmas.Bool.{ltb-true, ltb-false, lt-ltb, le-ltb, ne_eqb}
 use Rattle.std.proofs.lemmas.List.{append-nil, length-take-le, take_at}
 use Rattle.std.proofs.Math.Seq.{take-append-add, drop-append-add}
 use Rattle.stream_definitions.specs.declared.faults.LineFault.TheVariants.{RunPastLine, GroupPastPage}
 use Rattle.stream_definitions.specs.Header.{KindRow, row_of}
 use Rattle.stream_definitions.specs.declared.pages.Kind.{Kind}
 use Rattle.stream_definitions.specs.declared.pages.Kind.TheVariants.{Gray8}
-use Rattle.stream_definitions.specs.Groups.{GroupFront, GroupRead, PacketRead, copies, group_at, line_at, packet_at, packet_from, packet_of, units_of, with_packet}
+use Rattle.stream_definitions.specs.Groups.{GroupFront, GroupRead, copies, group_at, line_at, packet_at, packet_from, packet_of, units_of}
 use Rattle.stream_definitions.specs.Groups.GroupRead.{Group, Part, Wrong}
 use Rattle.stream_definitions.specs.Groups.PacketRead.{One, Short, Long}
 use Rattle.stream_definitions.specs.Groups.Packet.{Run, Clear, Literal}
 use Rattle.stream_laws.proofs.GroupLaws.{line_at-long, line_at-one, line_at-short}
 use Rattle.pwg_lines.specs.declared.reader.State.{State}
 use Rattle.pwg_lines.specs.declared.reader.State.TheVariants as state
-use Rattle.pwg_lines.specs.States.{Stands, behind_packet, longer, pending, read_on}
+use Rattle.pwg_lines.specs.States.{Stands, behind_packet, longer, read_on}
 
 abbrev pub front_of : ℕ → List ℕ → ℕ → GroupFront
 front_of repeats line place = record { repeats = repeats; line = line; place = place }
@@ -91,10 +91,10 @@ start-count row units lines repeats line left sofar c repeats' line' left' so_fa
       most = units;
       enough = omega arith;
       is = λ rest.
-        ap (λ b. if b then Wrong 0 GroupPastPage else line_at row units units (front_of (c + 1) [] 1) rest) (le-ltb lines (c + 1) fits)
-        ∙ ap (λ k. line_at row units k (front_of (c + 1) [] 1) rest) (sym whole)
-        ∙ ap (λ k. line_at row units left' (front_of k [] 1) rest) (sym is_count)
-        ∙ ap (λ bs. line_at row units left' (front_of repeats' bs 1) rest) (sym none);
+          ap (λ b. if b then Wrong 0 GroupPastPage else line_at row units units (front_of (c + 1) [] 1) rest) (le-ltb lines (c + 1) fits)
+          ∙ ap (λ k. line_at row units k (front_of (c + 1) [] 1) rest) (sym whole)
+          ∙ ap (λ k. line_at row units left' (front_of k [] 1) rest) (sym is_count)
+          ∙ ap (λ bs. line_at row units left' (front_of repeats' bs 1) rest) (sym none);
     })
 
 -- ---- a packet's first byte
@@ -144,14 +144,14 @@ packet-past row units lines repeats line left sofar n repeats' line' left' so_fa
     let at_last : length sofar ≡ length (Snoc sofar n) - 1 = omega (arith, length-snoc sofar n) in
     let one_left : left ≡ suc (left - 1) = omega (arith, so_far.at) in
     let is_past : (rest : List ℕ) → packet_at row (suc (left - 1)) (n ∷ rest) ≡ Long =
-        λ rest. ap (λ k. packet_at row k (n ∷ rest)) (sym one_left) ∙ ap (λ b. if b then Long else packet_of row n rest) (lt-ltb left (units_of left n) past) in
+    λ rest. ap (λ k. packet_at row k (n ∷ rest)) (sym one_left) ∙ ap (λ b. if b then Long else packet_of row n rest) (lt-ltb left (units_of left n) past) in
     record {
       at = omega (arith, length-snoc sofar n);
       most = left';
       enough = omega arith;
       is = λ rest. with_first row units lines repeats line left sofar so_far n rest
-        ∙ line_at-long row (so_far.most - 1) (left - 1) (front_of repeats line (length sofar)) (n ∷ rest) (is_past rest)
-        ∙ ap (λ k. Wrong k RunPastLine) at_last;
+          ∙ line_at-long row (so_far.most - 1) (left - 1) (front_of repeats line (length sofar)) (n ∷ rest) (is_past rest)
+          ∙ ap (λ k. Wrong k RunPastLine) at_last;
     }
 
 copies-one : (n b : ℕ) → copies n (b ∷ []) ≡ replicate n b
@@ -183,7 +183,7 @@ packet-run row units lines repeats line left sofar n unit so_far small fits = re
     is (u ∷ rest) =
         let enough : nat_lt (length (u ∷ rest)) 1 ≡ false = le-ltb _ _ (omega arith) in
         let one : packet_from (Run (n + 1)) 1 (u ∷ rest) ≡ One (Run (n + 1) (u ∷ [])) rest =
-            ap (λ b. if b then Short else One (Run (n + 1) (u ∷ [])) rest) enough in
+        ap (λ b. if b then Short else One (Run (n + 1) (u ∷ [])) rest) enough in
         with_first row units lines repeats line left sofar so_far n (u ∷ rest)
         ∙ line_at-one row (so_far.most - 1) (left - 1) front (n ∷ u ∷ rest) (Run (n + 1) (u ∷ [])) rest (read (u ∷ rest) ∙ one)
         ∙ ap (λ k. line_at row (so_far.most - 1) (k - (n + 1)) (front_of repeats (line ++ copies (n + 1) (u ∷ [])) (length sofar + 2)) rest) (sym one_left)
@@ -244,16 +244,16 @@ packet-white row units lines repeats line left sofar n line' left' is_white none
     let one_left : left ≡ suc (left - 1) = omega (arith, so_far.at) in
     let none : suc (left - 1) - suc (left - 1) ≡ 0 = omega arith in
     let filled : line ++ copies (suc (left - 1)) row.white ≡ line' =
-        ap (λ k. line ++ copies k row.white) (sym one_left) ∙ ap (λ bs. line ++ copies left bs) white ∙ ap (λ bs. line ++ bs) (copies-one left 255) ∙ sym grown in
+    ap (λ k. line ++ copies k row.white) (sym one_left) ∙ ap (λ bs. line ++ copies left bs) white ∙ ap (λ bs. line ++ bs) (copies-one left 255) ∙ sym grown in
     record {
       at = none_left;
       most = left';
       enough = omega arith;
       is = λ rest. ap (λ k. group_at row units lines (Snoc sofar k ++ rest)) is_white
-        ∙ with_first row units lines repeats line left sofar so_far 128 rest
-        ∙ line_at-one row (so_far.most - 1) (left - 1) (front_of repeats line (length sofar)) (128 ∷ rest) Clear rest (packet_at-white row (suc (left - 1)) rest)
-        ∙ line_at-full row (so_far.most - 1) (suc (left - 1) - suc (left - 1)) repeats (line ++ copies (suc (left - 1)) row.white) (length sofar + 1) rest none
-        ∙ ap (λ bs. Group repeats bs rest) filled;
+          ∙ with_first row units lines repeats line left sofar so_far 128 rest
+          ∙ line_at-one row (so_far.most - 1) (left - 1) (front_of repeats line (length sofar)) (128 ∷ rest) Clear rest (packet_at-white row (suc (left - 1)) rest)
+          ∙ line_at-full row (so_far.most - 1) (suc (left - 1) - suc (left - 1)) repeats (line ++ copies (suc (left - 1)) row.white) (length sofar + 1) rest none
+          ∙ ap (λ bs. Group repeats bs rest) filled;
     }
 
 -- ---- the bytes of a packet
@@ -276,9 +276,9 @@ pub run-unit : (row : KindRow) (units lines repeats : ℕ) (line : List ℕ) (le
 run-unit row units lines repeats line left sofar n u line' left' so_far grown less =
     between row units lines repeats line' left' so_far.most (Snoc sofar u) (omega (arith, so_far.enough))
     (λ rest. with_byte row units lines (state.Run n) repeats line left sofar so_far u rest
-      ∙ ap (λ k. line_at row so_far.most k (front_of repeats (line ++ replicate n u) (length sofar + 1)) rest) (sym less)
-      ∙ ap (λ bs. line_at row so_far.most left' (front_of repeats bs (length sofar + 1)) rest) (sym grown)
-      ∙ ap (λ k. line_at row so_far.most left' (front_of repeats line' k) rest) (sym (length-snoc sofar u)))
+    ∙ ap (λ k. line_at row so_far.most k (front_of repeats (line ++ replicate n u) (length sofar + 1)) rest) (sym less)
+    ∙ ap (λ bs. line_at row so_far.most left' (front_of repeats bs (length sofar + 1)) rest) (sym grown)
+    ∙ ap (λ k. line_at row so_far.most left' (front_of repeats line' k) rest) (sym (length-snoc sofar u)))
 
 -- the rest of a literal
 literal-on : (row : KindRow) (units lines repeats : ℕ) (line : List ℕ) (left : ℕ) (sofar : List ℕ) (n : ℕ) (bytes line' : List ℕ) (left' more : ℕ)
@@ -332,7 +332,7 @@ pub literal-end : (row : KindRow) (units lines repeats : ℕ) (line : List ℕ) 
 literal-end row units lines repeats line left sofar n bytes line' left' so_far whole grown less =
     between row units lines repeats line' left' so_far.most (sofar ++ bytes) (omega (arith, so_far.enough))
     (λ rest. literal-on row units lines repeats line left sofar n bytes line' left' 0 so_far (omega arith) grown less rest
-      ∙ ap (λ b. if b then Part else line_at row so_far.most (left' - 0) (front_of repeats (line' ++ []) (length (sofar ++ bytes) + 0)) rest) (le-ltb (length rest) 0 (omega arith))
-      ∙ ap (λ k. line_at row so_far.most k (front_of repeats (line' ++ []) (length (sofar ++ bytes) + 0)) rest) (let p : left' - 0 ≡ left' = omega arith in p)
-      ∙ ap (λ bs. line_at row so_far.most left' (front_of repeats bs (length (sofar ++ bytes) + 0)) rest) (append-nil line')
-      ∙ ap (λ k. line_at row so_far.most left' (front_of repeats line' k) rest) (let p : length (sofar ++ bytes) + 0 ≡ length (sofar ++ bytes) = omega arith in p))
+    ∙ ap (λ b. if b then Part else line_at row so_far.most (left' - 0) (front_of repeats (line' ++ []) (length (sofar ++ bytes) + 0)) rest) (le-ltb (length rest) 0 (omega arith))
+    ∙ ap (λ k. line_at row so_far.most k (front_of repeats (line' ++ []) (length (sofar ++ bytes) + 0)) rest) (let p : left' - 0 ≡ left' = omega arith in p)
+    ∙ ap (λ bs. line_at row so_far.most left' (front_of repeats bs (length (sofar ++ bytes) + 0)) rest) (append-nil line')
+    ∙ ap (λ k. line_at row so_far.most left' (front_of repeats line' k) rest) (let p : length (sofar ++ bytes) + 0 ≡ length (sofar ++ bytes) = omega arith in p))

@@ -1,14 +1,12 @@
 -- The canonical spelling, step by step.
-use Rattle.std.proofs.Common.{◌≡◌, ℕ, zero, suc, ◌+◌, ◌-◌, ◌*◌, ◌/◌, ◌%◌, ◌<◌, ◌≤◌, ◌==◌, nat_eq, nat_lt, Bool, true, false, if◌then◌else◌, List, [], ◌∷◌, ◌++◌, length, take, drop, refl, sym, ◌∙◌, ap, subst, arith, append_assoc, length-append, length-drop}
+use Rattle.std.proofs.Common.{◌≡◌, ℕ, zero, suc, ◌+◌, ◌-◌, ◌*◌, ◌/◌, ◌%◌, ◌<◌, ◌≤◌, nat_eq, Bool, true, false, if◌then◌else◌, List, [], ◌∷◌, ◌++◌, length, take, drop, refl, sym, ◌∙◌, ap, subst, arith, append_assoc, length-append, length-drop}
 use Rattle.std.specs.List.{flat_map, starts_with}
-use Rattle.std.proofs.lemmas.Bool.{ltb-true, ltb-false}
 use Rattle.std.proofs.lemmas.List.{append-nil, drop-drop, length-take-le, take-append-drop}
 use Rattle.std.proofs.lemmas.Bool.Decides.{Decides-eqb}
 use Rattle.std.proofs.lemmas.Slice.Eq.{starts_is}
-use Rattle.std.proofs.Math.Nat.{le_of_mul-le-mul_right}
+use Rattle.std.proofs.Math.Nat.{le-mul_of_pos_right, le_of_mul-le-mul_right, mul-le-mul_right, mul-mod_left, mul-sub}
 use Rattle.stream_definitions.specs.Groups.{Packet, copies, packet_spelling, packet_units}
-use Rattle.stream_definitions.specs.Groups.Packet.{Run, Clear, Literal}
-use Rattle.pwg_lines.specs.Canonical.{as_they_are, canonical, copies_at, next_packet, packets_from, unequal_at}
+use Rattle.pwg_lines.specs.Canonical.{canonical, copies_at, next_packet, packets_from, unequal_at}
 
 -- ---- counting units
 
@@ -45,10 +43,10 @@ pub copies_step : (most : ℕ) (unit line : List ℕ) (count : ℕ) (rest : List
 copies_step most unit line count rest so_far less e = record {
   within = omega arith;
   is =
-    let fewer : most - count - 1 ≡ most - (count + 1) = omega arith in
-    let same : copies_at (most - count - 1) unit (drop (length unit) rest) ≡ copies_at (most - (count + 1)) unit (drop (length unit) rest) =
-        ap (λ k. copies_at k unit (drop (length unit) rest)) fewer in
-    omega (arith, so_far.is, copies-more (most - count) unit rest (omega arith) e, same);
+      let fewer : most - count - 1 ≡ most - (count + 1) = omega arith in
+      let same : copies_at (most - count - 1) unit (drop (length unit) rest) ≡ copies_at (most - (count + 1)) unit (drop (length unit) rest) =
+      ap (λ k. copies_at k unit (drop (length unit) rest)) fewer in
+      omega (arith, so_far.is, copies-more (most - count) unit rest (omega arith) e, same);
 }
 
 pub copies_stop : (most : ℕ) (unit line : List ℕ) (count : ℕ) (rest : List ℕ) → CopiesSoFar most unit line count rest
@@ -115,10 +113,10 @@ unequal_step most unit line count rest so_far less some e = record {
   units = so_far.units - 1;
   whole = fewer_units so_far.units so_far.whole;
   is =
-    let fewer : most - count - 1 ≡ most - (count + 1) = omega arith in
-    let same : unequal_at (most - count - 1) unit (drop unit rest) ≡ unequal_at (most - (count + 1)) unit (drop unit rest) =
-        ap (λ k. unequal_at k unit (drop unit rest)) fewer in
-    omega (arith, so_far.is, unequal-more (most - count) unit rest (omega arith) some e, same);
+      let fewer : most - count - 1 ≡ most - (count + 1) = omega arith in
+      let same : unequal_at (most - count - 1) unit (drop unit rest) ≡ unequal_at (most - (count + 1)) unit (drop unit rest) =
+      ap (λ k. unequal_at k unit (drop unit rest)) fewer in
+      omega (arith, so_far.is, unequal-more (most - count) unit rest (omega arith) some e, same);
 }
   where
     fewer_units : (units : ℕ) → length rest ≡ units * unit → length (drop unit rest) ≡ (units - 1) * unit
@@ -193,7 +191,7 @@ pub copies_at-within : (most : ℕ) (unit bytes : List ℕ) → copies_at most u
 copies_at-within most unit bytes =
     let n : ℕ = copies_at most unit bytes in
     let sized : length bytes ≡ length (copies n unit) + length (drop (n * length unit) bytes) =
-        ap length (copies_at-front most unit bytes) ∙ length-append (copies n unit) (drop (n * length unit) bytes) in
+    ap length (copies_at-front most unit bytes) ∙ length-append (copies n unit) (drop (n * length unit) bytes) in
     omega (arith, sized, length-copies n unit)
 
 pub unequal_at-most : (most unit : ℕ) (bytes : List ℕ) → unequal_at most unit bytes ≤ most
@@ -242,10 +240,10 @@ pub counted : (unit : ℕ) (line : List ℕ) (units : ℕ) → 1 ≤ unit → le
 counted unit line units some whole one = record {
   few_equal = copies_at-most 128 (take unit line) line;
   equal_within =
-    let within : copies_at 128 (take unit line) line * unit ≤ units * unit =
-        (let P : ℕ → Type 0 = λ k. copies_at 128 (take unit line) line * k ≤ units * unit in
-        subst P sized (let h : copies_at 128 (take unit line) line * length (take unit line) ≤ length line = copies_at-within 128 (take unit line) line in omega (arith, h, whole))) in
-    le_of_mul-le-mul_right within some;
+      let within : copies_at 128 (take unit line) line * unit ≤ units * unit =
+      (let P : ℕ → Type 0 = λ k. copies_at 128 (take unit line) line * k ≤ units * unit in
+      subst P sized (let h : copies_at 128 (take unit line) line * length (take unit line) ≤ length line = copies_at-within 128 (take unit line) line in omega (arith, h, whole))) in
+      le_of_mul-le-mul_right within some;
   few_unequal = unequal_at-most 128 unit line;
   unequal_within = unequal_at-within 128 unit line units whole;
   unequal_some = λ few. by_count few (unequal_at 128 unit line) refl;
@@ -258,9 +256,110 @@ counted unit line units some whole one = record {
     by_count few (suc n) e = omega arith
     by_count few zero e =
         let first : copies_at 128 (take unit line) line ≡ 1 + copies_at 127 (take unit line) (drop (length (take unit line)) line) =
-            copies-more 128 (take unit line) line (omega arith) (begins-front unit line) in
+        copies-more 128 (take unit line) line (omega arith) (begins-front unit line) in
         let second : starts_with nat_eq (drop (length (take unit line)) line) (take unit line) ≡ true =
-            ap (λ k. starts_with nat_eq (drop k line) (take unit line)) sized ∙ two_equal 128 unit line (omega arith) one sized e in
-        let then : copies_at 127 (take unit line) (drop (length (take unit line)) line) ≡ 1 + copies_at 126 (take unit line) (drop (length (take unit line)) (drop (length (take unit line)) line)) =
-            copies-more 127 (take unit line) (drop (length (take unit line)) line) (omega arith) second in
-        absurd (omega (arith, few, first, then))
+        ap (λ k. starts_with nat_eq (drop k line) (take unit line)) sized ∙ two_equal 128 unit line (omega arith) one sized e in
+        let third : copies_at 127 (take unit line) (drop (length (take unit line)) line) ≡ 1 + copies_at 126 (take unit line) (drop (length (take unit line)) (drop (length (take unit line)) line)) =
+        copies-more 127 (take unit line) (drop (length (take unit line)) line) (omega arith) second in
+        absurd (omega (arith, few, first, third))
+
+-- The counts at the front of a line that is not empty, in units and in bytes.
+pub record IsCountedLine (unit : ℕ) (line : List ℕ) : Type 0 where
+  pub few_equal : copies_at 128 (take unit line) line ≤ 128
+  pub equal_bytes : copies_at 128 (take unit line) line * unit ≤ length line
+  pub few_unequal : unequal_at 128 unit line ≤ 128
+  pub unequal_bytes : unequal_at 128 unit line * unit ≤ length line
+  pub unequal_some : copies_at 128 (take unit line) line ≤ 1 → 1 ≤ unequal_at 128 unit line
+
+pub counted_line : (unit : ℕ) (line : List ℕ) → 1 ≤ unit → length line % unit ≡ 0 → 0 < length line → IsCountedLine unit line
+counted_line unit line some whole one =
+    let units_are : length line ≡ length line / unit * unit = units_in unit (length line) some whole in
+    let counts : IsCounted unit line (length line / unit) = counted unit line (length line / unit) some units_are one in
+    record {
+      few_equal = counts.few_equal;
+      equal_bytes = omega (arith, units_are, mul-le-mul_right unit counts.equal_within);
+      few_unequal = counts.few_unequal;
+      unequal_bytes = omega (arith, units_are, mul-le-mul_right unit counts.unequal_within);
+      unequal_some = counts.unequal_some;
+    }
+
+-- so many units in bytes
+pub scaled : (n m unit len : ℕ) → n ≡ m → m * unit ≤ len → n * unit ≤ len
+scaled n m unit len same within = let P : ℕ → Type 0 = λ k. k * unit ≤ len in subst P (sym same) within
+
+-- ---- a group
+
+packets_spelled : (most unit : ℕ) (rest : List ℕ) → 0 < length rest → length rest ≤ most → flat_map packet_spelling (packets_from most unit rest)
+    ≡ packet_spelling (next_packet unit rest) ++ flat_map packet_spelling (packets_from (most - 1) unit (drop (packet_units 0 (next_packet unit rest) * unit) rest))
+unfolding packets_from
+packets_spelled most unit [] one enough = absurd (omega arith)
+packets_spelled zero unit (b ∷ rest) one enough = absurd (omega arith)
+packets_spelled (suc most) unit (b ∷ rest) one enough =
+    let packet : Packet = next_packet unit (b ∷ rest) in
+    ap (λ k. packet_spelling packet ++ flat_map packet_spelling (packets_from k unit (drop (packet_units 0 packet * unit) (b ∷ rest))))
+    (let same : most ≡ suc most - 1 = omega arith in same)
+
+packets-nothing : (most unit : ℕ) (rest : List ℕ) → length rest ≡ 0 → packets_from most unit rest ≡ []
+unfolding packets_from
+packets-nothing most unit [] none = refl
+packets-nothing most unit (b ∷ rest) none = absurd (omega arith)
+
+-- Packets are appended for the front of the line, and whole units are left.
+pub record GroupSoFar (unit more : ℕ) (line old now rest : List ℕ) : Type 0 where
+  pub units : ℕ
+  pub whole : length rest ≡ units * unit
+  pub shorter : length rest ≤ length line
+  pub most : ℕ
+  pub enough : length rest ≤ most
+  pub is : now ++ flat_map packet_spelling (packets_from most unit rest) ≡ old ++ canonical unit (more + 1) line
+  pub part : (part : List ℕ) × (now ≡ old ++ part)
+
+pub group_begin : (unit more : ℕ) (line old now : List ℕ) → 1 ≤ unit → length line % unit ≡ 0 → now ≡ old ++ more ∷ []
+    → GroupSoFar unit more line old now line
+group_begin unit more line old now some whole begun = record {
+  units = length line / unit;
+  whole = units_in unit (length line) some whole;
+  shorter = omega arith;
+  most = length line;
+  enough = omega arith;
+  is =
+      let body : List ℕ = flat_map packet_spelling (packets_from (length line) unit line) in
+      ap (λ bs. bs ++ body) begun ∙ append_assoc old (more ∷ []) body
+      ∙ ap (λ k. old ++ k ∷ body) (let same : more ≡ more + 1 - 1 = omega arith in same);
+  part = (more ∷ [], begun);
+}
+
+pub whole_units : (units unit len : ℕ) → len ≡ units * unit → len % unit ≡ 0
+whole_units units unit len whole = ap (λ k. k % unit) whole ∙ mul-mod_left units unit
+
+-- one packet more
+pub group_step : (unit more : ℕ) (line old now rest now' rest' : List ℕ) (n : ℕ) → 1 ≤ unit → GroupSoFar unit more line old now rest → 0 < length rest
+    → now' ≡ now ++ packet_spelling (next_packet unit rest) → n ≡ packet_units 0 (next_packet unit rest) → 1 ≤ n → n * unit ≤ length rest
+    → rest' ≡ drop (n * unit) rest → GroupSoFar unit more line old now' rest'
+group_step unit more line old now rest now' rest' n some so_far one grown count one_more within behind = record {
+  units = so_far.units - n;
+  whole = ap length behind ∙ length-drop (n * unit) rest ∙ ap (λ k. k - n * unit) so_far.whole ∙ units_less;
+  shorter = omega (arith, ap length behind, length-drop (n * unit) rest, so_far.shorter);
+  most = so_far.most - 1;
+  enough = omega (arith, ap length behind, length-drop (n * unit) rest, so_far.enough, le-mul_of_pos_right {m = unit} n some);
+  is = ap (λ bs. now' ++ flat_map packet_spelling (packets_from (so_far.most - 1) unit bs)) (behind ∙ ap (λ k. drop (k * unit) rest) count)
+      ∙ ap (λ bs. bs ++ behind_spelled) grown
+      ∙ append_assoc now (packet_spelling (next_packet unit rest)) behind_spelled
+      ∙ ap (λ bs. now ++ bs) (sym (packets_spelled so_far.most unit rest one so_far.enough))
+      ∙ so_far.is;
+  part = (
+    so_far.part.0 ++ packet_spelling (next_packet unit rest),
+    grown ∙ ap (λ bs. bs ++ packet_spelling (next_packet unit rest)) so_far.part.1 ∙ append_assoc old so_far.part.0 (packet_spelling (next_packet unit rest)),
+  );
+}
+  where
+    units_less : so_far.units * unit - n * unit ≡ (so_far.units - n) * unit
+    units_less = omega (arith, mul-sub unit so_far.units n)
+
+    behind_spelled : List ℕ
+    behind_spelled = flat_map packet_spelling (packets_from (so_far.most - 1) unit (drop (packet_units 0 (next_packet unit rest) * unit) rest))
+
+pub group_end : (unit more : ℕ) (line old now rest : List ℕ) → GroupSoFar unit more line old now rest → length rest ≡ 0
+    → now ≡ old ++ canonical unit (more + 1) line
+group_end unit more line old now rest so_far none =
+    sym (ap (λ bs. now ++ flat_map packet_spelling bs) (packets-nothing so_far.most unit rest none) ∙ append-nil now) ∙ so_far.is

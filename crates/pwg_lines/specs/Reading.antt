@@ -1,5 +1,5 @@
 -- What a reader of lines stands for, and what its calls tell.
-use Rattle.std.specs.Prelude.{◌≡◌, ℕ, ◌+◌, ◌-◌, ◌≤◌, List, [], ◌∷◌, ◌++◌, length, take, Option, Some, None}
+use Rattle.std.specs.Prelude.{◌≡◌, ℕ, ◌+◌, ◌-◌, ◌≤◌, List, [], ◌++◌, length, take, Option, Some, None}
 use Rattle.stream_definitions.specs.declared.pages.PageForm.{PageForm}
 use Rattle.stream_definitions.specs.declared.faults.LineFault.{LineFault}
 use Rattle.stream_definitions.specs.Header.{line_units, row_of}
@@ -46,7 +46,7 @@ abbrev pub StandsFor : LineReader → List ℕ → Type 0
 StandsFor reader sofar =
     let row = row_of reader.form.kind in
     Stands row (line_units row reader.form.width) reader.lines_left reader.state reader.repeats
-        (take reader.filled reader.line.items) (length reader.line.items - reader.filled) sofar
+    (take reader.filled reader.line.items) (length reader.line.items - reader.filled) sofar
 
 -- The reader has read these bytes behind those before.
 pub record Takes (old new : LineReader) (bytes : List ℕ) : Type 0 where

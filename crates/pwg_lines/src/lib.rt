@@ -3,9 +3,14 @@
 #![tactic(auto)]
 
 mod buffer;
+mod laws;
 mod reader;
 mod writer;
 
+pub use laws::canonical_spells;
 pub use reader::{Fed, Fill, LineReader};
 pub use stream_definitions::{Kind, LineFault, PageForm};
 pub use writer::code_line;
+
+#[cfg(test)]
+mod tests;

@@ -257,5 +257,9 @@ fn units_of(left: usize, first: u8) -> usize
 fn state_behind(left: usize) -> State
     ensures { result ≡ behind_packet left }
 {
-    if left == 0 { State::Full } else { State::Packet }
+    if left == 0 {
+        State::Full
+    } else {
+        State::Packet
+    }
 }

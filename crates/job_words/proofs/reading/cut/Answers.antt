@@ -1,5 +1,4 @@
 use Rattle.job_words.proofs.Faults.{parts_of}
-use Rattle.job_words.proofs.Kept.{kernel_value}
 use Rattle.job_words.proofs.reading.cut.Goals as goal
 
 pub returns : goal.returns

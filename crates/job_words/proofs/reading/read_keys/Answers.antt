@@ -1,4 +1,4 @@
-use Rattle.std.proofs.Common.{◌≡◌, ◌+◌, ◌-◌, length, drop, length-drop, arith}
+use Rattle.std.proofs.Common.{◌≡◌, ◌+◌, ◌-◌, drop, length-drop, arith}
 use Rattle.job_words.proofs.Steps.{behind, count_taken, so_far_more, so_far_fault, so_far_all}
 use Rattle.job_words.proofs.reading.read_keys.Goals as goal
 

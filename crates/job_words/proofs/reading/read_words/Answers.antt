@@ -1,4 +1,3 @@
-use Rattle.std.proofs.Common.{sym, ◌∙◌, ap}
 use Rattle.std.proofs.lemmas.Result.{err_from_is_err_and}
 use Rattle.job_words.specs.Rows.{command_row}
 use Rattle.job_words.proofs.Meanings.{no_words, no_command, refused_words, accepted_words}

@@ -1,4 +1,4 @@
-use Rattle.std.proofs.Common.{◌≡◌, ◌<◌, ◌∙◌, arith, drop, length, sym}
+use Rattle.std.proofs.Common.{◌<◌, ◌∙◌, arith}
 use Rattle.std.proofs.lemmas.List.{length-take-le}
 use Rattle.page_printer.proofs.PassBytes.{head_len, level_piece, ok_as, part_as, whole_pass}
 use Rattle.page_printer.proofs.passes.put_pass.Goals as goal

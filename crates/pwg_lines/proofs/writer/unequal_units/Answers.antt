@@ -1,4 +1,4 @@
-use Rattle.std.proofs.Common.{◌≡◌, ◌+◌, ◌<◌, length, sym, ◌∙◌, subst, arith, List, ℕ}
+use Rattle.std.proofs.Common.{◌+◌, ◌<◌, length, sym, ◌∙◌, subst, arith, List, ℕ}
 use Rattle.std.proofs.lemmas.Bool.{eqb-false, eqb-true}
 use Rattle.pwg_lines.proofs.Writing.{UnequalSoFar, parts_tested, unequal_begin, unequal_end, unequal_full, unequal_step, unequal_stop}
 use Rattle.pwg_lines.proofs.writer.unequal_units.Goals as goal

@@ -1,6 +1,5 @@
-use Rattle.std.proofs.Common.{◌≡◌, Some, is_some, ap, sym, ◌∙◌}
-use Rattle.job_words.specs.Table.{profile_key, kernel_key, workers_key, key_named}
-use Rattle.job_words.specs.Rows.{command_row}
+use Rattle.std.proofs.Common.{Some, is_some, ap, sym, ◌∙◌}
+use Rattle.job_words.specs.Table.{profile_key, kernel_key, workers_key}
 use Rattle.job_words.specs.Values.{kernel_named, worker_count}
 use Rattle.job_words.proofs.Faults.{no_key_value, no_key, fault_of_value, accepted, gives_found, is_some-cond, taken_is}
 use Rattle.job_words.proofs.Kept.{profile_given, kernel_given, workers_given}

@@ -1,4 +1,4 @@
-use Rattle.std.proofs.Common.{◌≡◌, ◌+◌, ◌∙◌, ap, arith, length, map, refl, sym, ℕ, List}
+use Rattle.std.proofs.Common.{◌≡◌, ◌+◌, ◌∙◌, ap, arith, length, map, refl, sym}
 use Rattle.std.proofs.lemmas.List.{length-map}
 use Rattle.diffusion_definitions.specs.Diffusion.{floyd, on}
 use Rattle.page_printer.specs.Rows.{darkness}
@@ -33,5 +33,5 @@ returns-clause-dots c = λ p e y has s reached.
     let many : length c.diffuse_row.new.dots ≡ length c.args.line.now = omega (arith, dots_len, self.dots.ok.0, c.requires.ready.dots_len, c.requires.line) in
     written _ self.dots.items _ dots_len
     ∙ dots_are c.diffuse_row.new.dots (on floyd p e y) 0 (length c.args.line.now) many (λ x low.
-      let place : x ≡ 0 + x = omega arith in
-      told x (omega (arith, wide)) ∙ ap (on floyd p e y) place)
+    let place : x ≡ 0 + x = omega arith in
+    told x (omega (arith, wide)) ∙ ap (on floyd p e y) place)

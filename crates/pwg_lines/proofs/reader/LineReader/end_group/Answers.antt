@@ -1,4 +1,4 @@
-use Rattle.std.proofs.Common.{refl, arith, zero, ap, subst, ◌≤◌, ℕ, length}
+use Rattle.std.proofs.Common.{refl, arith, subst, ◌≤◌, length}
 use Rattle.pwg_lines.specs.declared.reader.State.{State}
 use Rattle.pwg_lines.specs.States.{least_repeats}
 use Rattle.pwg_lines.proofs.reader.LineReader.end_group.Goals as goal

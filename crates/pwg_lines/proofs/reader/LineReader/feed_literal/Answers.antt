@@ -1,4 +1,4 @@
-use Rattle.std.proofs.Common.{◌≡◌, ℕ, ◌+◌, ◌-◌, ◌++◌, length, take, min, refl, sym, ◌∙◌, ap, arith}
+use Rattle.std.proofs.Common.{◌≡◌, ◌+◌, ◌-◌, ◌++◌, length, take, refl, sym, ◌∙◌, ap, arith}
 use Rattle.std.proofs.lemmas.List.{length-take-le}
 use Rattle.pwg_lines.specs.States.{behind_packet}
 use Rattle.pwg_lines.proofs.Steps.{in_state, literal-end, literal-part, written, written-is, written-more}
@@ -11,9 +11,9 @@ returns-clause-takes c =
     let new : _ = written c.args.self.now.line.len c.args.self.now.line.items c.fill_bytes.new.line in
     let whole : length new ≡ c.args.self.now.line.len = ap length (written-is c.args.self.now.line.len c.args.self.now.line.items c.fill_bytes.new.line sized) ∙ sized in
     let count : length (take c.min-count.result c.args.bytes.now) ≡ c.min-count.result =
-        length-take-le c.min-count.result c.args.bytes.now (omega (arith, c.min-count.ensures)) in
+    length-take-le c.min-count.result c.args.bytes.now (omega (arith, c.min-count.ensures)) in
     let grown : take (c.args.self.now.filled + c.min-count.result) new ≡ take c.args.self.now.filled c.args.self.now.line.items ++ take c.min-count.result c.args.bytes.now =
-        ap (λ k. take (c.args.self.now.filled + k) new) (sym count) ∙ written-more _ _ _ _ (take c.min-count.result c.args.bytes.now) c.args.self.now.filled _ sized c.deref_mut.ensures.value c.fill_bytes.ensures in
+    ap (λ k. take (c.args.self.now.filled + k) new) (sym count) ∙ written-more _ _ _ _ (take c.min-count.result c.args.bytes.now) c.args.self.now.filled _ sized c.deref_mut.ensures.value c.fill_bytes.ensures in
     record {
       form = refl;
       lines_left = refl;

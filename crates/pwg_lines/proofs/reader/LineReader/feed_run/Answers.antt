@@ -1,4 +1,4 @@
-use Rattle.std.proofs.Common.{◌≡◌, ℕ, ◌+◌, ◌-◌, length, replicate, refl, sym, ◌∙◌, ap, arith}
+use Rattle.std.proofs.Common.{◌≡◌, ◌+◌, ◌-◌, length, replicate, refl, sym, ◌∙◌, ap, arith}
 use Rattle.pwg_lines.specs.States.{behind_packet}
 use Rattle.pwg_lines.proofs.Steps.{in_state, run-unit, written, written-is, written-more}
 use Rattle.pwg_lines.proofs.reader.LineReader.feed_run.Goals as goal
@@ -13,6 +13,6 @@ returns c =
       form = refl;
       lines_left = refl;
       stands = λ sofar so_far. in_state _ _ _ _ _ _ _ _ _ (ap behind_packet left_is ∙ sym c.state_behind-self.ensures)
-        (run-unit _ _ _ _ _ _ sofar c.args.units c.args.unit _ _ (in_state _ _ _ _ _ _ _ _ sofar c.requires so_far)
-        (written-more _ _ _ _ (replicate c.args.units c.args.unit) c.args.self.now.filled _ sized c.deref_mut.ensures.value c.fill_run.ensures) (omega (arith, whole, c.args.self.now.line.ok.0)));
+          (run-unit _ _ _ _ _ _ sofar c.args.units c.args.unit _ _ (in_state _ _ _ _ _ _ _ _ sofar c.requires so_far)
+          (written-more _ _ _ _ (replicate c.args.units c.args.unit) c.args.self.now.filled _ sized c.deref_mut.ensures.value c.fill_run.ensures) (omega (arith, whole, c.args.self.now.line.ok.0)));
     }

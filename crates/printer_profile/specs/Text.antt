@@ -1,0 +1,102 @@
+-- The text of a profile.
+use Rattle.std.specs.Prelude.{ℕ, ◌+◌, ◌-◌, ◌^◌, min, Bool, false, true, not, ◌==◌, ◌&&◌, if◌then◌else◌, List, [], ◌∷◌, ◌++◌, codes, find, replicate, slice_index_or, slice_set, Option, Some, None, Result, Ok, Err}
+use Rattle.std.specs.Char.{is_ascii}
+use Rattle.std.specs.List.{after_first, before_first, flat_map, list_all, list_any}
+use Rattle.std.specs.Str.{bytes_eq}
+use Rattle.std.specs.Str.Lines.{lines}
+use Rattle.printer_profile.specs.declared.fields.Profile.{Profile}
+use Rattle.printer_profile.specs.declared.keys.Key.{Key}
+use Rattle.printer_profile.specs.declared.reading.Given.{Given}
+use Rattle.printer_profile.specs.declared.reading.TextCause.{TextCause}
+use Rattle.printer_profile.specs.declared.reading.TextCause.TheVariants.{BadHead, NotAscii, NoEquals, UnknownKey, RepeatedKey, BadValue, Missing}
+use Rattle.printer_profile.specs.declared.reading.TextFault.{TextFault}
+use Rattle.printer_profile.specs.Keys.{all_keys, key_named, row_of, unset}
+
+-- the first line
+abbrev pub head : List ℕ
+head = codes "escp2-profile 1"
+
+-- ---- printed
+
+-- a key's line, with its end
+abbrev pub key_line : Profile → Key → List ℕ
+key_line p key = (row_of key).name ++ codes "=" ++ (row_of key).text p ++ codes "\n"
+
+-- The canonical text: the head, and a line of each key in the order of the table.
+unfoldable pub profile_text_of : Profile → List ℕ
+profile_text_of p = head ++ codes "\n" ++ flat_map (key_line p) all_keys
+
+-- ---- read
+
+-- an empty line or a comment
+abbrev pub is_skipped : List ℕ → Bool
+is_skipped [] = true
+is_skipped (first ∷ line) = first == 35
+
+abbrev pub is_equals_sign : ℕ → Bool
+is_equals_sign byte = byte == 61
+
+-- before the first line behind the head
+abbrev pub nothing : Given
+nothing = record { profile = unset; keys = replicate 14 false }
+
+-- whether a key was given
+abbrev pub is_given : Given → Key → Bool
+is_given given key = slice_index_or given.keys ((row_of key).place - 1) false
+
+-- with a value that a key takes
+abbrev pub with_value : Given → Key → Option Profile → Result Given TextCause
+with_value given key None = Err BadValue
+with_value given key (Some profile) =
+    Ok (record { profile = profile; keys = slice_set given.keys ((row_of key).place - 1) true })
+
+-- with a value for the key of a name
+abbrev pub with_key : Given → List ℕ → Option Key → Result Given TextCause
+with_key given value None = Err UnknownKey
+with_key given value (Some key) =
+    if is_given given key then Err RepeatedKey else with_value given key ((row_of key).put value given.profile)
+
+-- with a line behind the head
+unfoldable pub with_line : Given → List ℕ → Result Given TextCause
+with_line given line =
+    if is_skipped line then Ok given
+    else if not (list_all is_ascii line) then Err NotAscii
+    else if not (list_any is_equals_sign line) then Err NoEquals
+    else with_key given (after_first is_equals_sign line) (key_named (before_first is_equals_sign line))
+
+-- the number of the next line, of which 32 bits hold no more
+abbrev pub next_line : ℕ → ℕ
+next_line line = min (line + 1) (2 ^ 32 - 1)
+
+abbrev pub fault_at : ℕ → TextCause → TextFault
+fault_at line cause = record { line = line; cause = cause }
+
+-- with these lines, of which the first has this number
+unfoldable pub with_lines : ℕ → Given → List (List ℕ) → Result Given TextFault
+with_lines number given [] = Ok given
+with_lines number given (line ∷ rest) = elim (with_line given line) [
+  | Ok more ↦ with_lines (next_line number) more rest
+  | Err cause ↦ Err (fault_at number cause)
+]
+
+-- the first required key that is absent
+abbrev pub missing : Given → Option Key
+missing given = find (λ key. (row_of key).required && not (is_given given key)) all_keys
+
+-- the profile, if no required key is absent
+abbrev pub profile_unless : Given → Option Key → Result Profile TextFault
+profile_unless given None = Ok given.profile
+profile_unless given (Some key) = Err (fault_at 0 (Missing (row_of key).place))
+
+abbrev pub profile_given : Result Given TextFault → Result Profile TextFault
+profile_given (Err fault) = Err fault
+profile_given (Ok given) = profile_unless given (missing given)
+
+abbrev pub profile_of_lines : List (List ℕ) → Result Profile TextFault
+profile_of_lines [] = Err (fault_at 1 BadHead)
+profile_of_lines (first ∷ rest) =
+    if bytes_eq first head then profile_given (with_lines 2 nothing rest) else Err (fault_at 1 BadHead)
+
+-- What a text says: a profile, or the first fault.
+unfoldable pub profile_text : List ℕ → Result Profile TextFault
+profile_text text = profile_of_lines (lines text)

@@ -1,0 +1,88 @@
+//! A profile as a text.
+ghost use Rattle.arrayvec.specs.ArrayString.{array_string_len};
+ghost use Rattle.printer_profile.specs.Text.{key_line, profile_text_of};
+ghost use Rattle.printer_profile.specs.Keys.{row_of};
+ghost use Rattle.std.specs.Fmt.{decimal};
+ghost use Rattle.std.specs.Prelude.{◌+◌, ◌++◌, ◌≡◌, ◌≤◌, OnErr, OnOk, []};
+
+use crate::fields::Profile;
+use crate::keys::Key;
+use crate::values::ink_set_name;
+use arrayvec::ArrayString;
+use itoa::Buffer;
+use weave_base::Memory;
+
+/// The first line of a profile's text.
+pub(crate) const HEAD: &str = "escp2-profile 1";
+
+// At least the bytes of any profile's text: 16 of its head, and at most 18 of each key's line.
+const ROOM: usize = 272;
+
+fn push_number(n: u16, out: &mut ArrayString<ROOM>)
+    requires { array_string_len out.old + 5 ≤ 272 }
+    ensures bytes { out.new.bytes ≡ out.old.bytes ++ decimal n }
+    ensures len { array_string_len out.new ≤ array_string_len out.old + 5 }
+{
+    let mut buffer = Buffer::new();
+    out.push_str(buffer.format(n));
+}
+
+fn push_value(p: &Profile, key: Key, out: &mut ArrayString<ROOM>)
+    requires { array_string_len out.old + 5 ≤ 272 }
+    ensures bytes { out.new.bytes ≡ out.old.bytes ++ (row_of key).text p.now }
+    ensures len { array_string_len out.new ≤ array_string_len out.old + 5 }
+{
+    match key {
+        Key::Hdpi => push_number(p.hdpi, out),
+        Key::Vdpi => push_number(p.vdpi, out),
+        Key::Nozzles => push_number(u16::from(p.nozzles), out),
+        Key::Pitch => push_number(u16::from(p.pitch), out),
+        Key::Inks => out.push_str(ink_set_name(p.inks)),
+        Key::BlackStart => push_number(u16::from(p.black_start), out),
+        Key::LimitBlack => push_number(u16::from(p.limits[0]), out),
+        Key::LimitCyan => push_number(u16::from(p.limits[1]), out),
+        Key::LimitMagenta => push_number(u16::from(p.limits[2]), out),
+        Key::LimitYellow => push_number(u16::from(p.limits[3]), out),
+        Key::Left => push_number(p.left, out),
+        Key::Right => push_number(p.right, out),
+        Key::Top => push_number(p.top, out),
+        Key::Bottom => push_number(p.bottom, out),
+    }
+}
+
+fn push_line(p: &Profile, key: Key, out: &mut ArrayString<ROOM>)
+    requires { array_string_len out.old + 18 ≤ 272 }
+    ensures bytes { out.new.bytes ≡ out.old.bytes ++ key_line p.now key }
+    ensures len { array_string_len out.new ≤ array_string_len out.old + 18 }
+{
+    out.push_str(key.name());
+    out.push_str("=");
+    push_value(p, key, out);
+    out.push_str("\n");
+}
+
+fn push_text(p: &Profile, out: &mut ArrayString<ROOM>)
+    requires { out.old.bytes ≡ [] }
+    ensures { out.new.bytes ≡ profile_text_of p.now }
+{
+    out.push_str(HEAD);
+    out.push_str("\n");
+    'keys: for key in Key::ALL {
+        push_line(p, key, out);
+    }
+}
+
+impl Profile {
+    /// Appends the profile's text, with every key, to the bytes: what `read` gives the profile back for.
+    pub fn print(&self, out: &mut Vec<u8>) -> Result<(), Memory>
+        ensures ok { OnOk result (out.new.items ≡ out.old.items ++ profile_text_of self.now) }
+        ensures err { OnErr result (out.new.items ≡ out.old.items) }
+    {
+        let mut text = ArrayString::new();
+        push_text(self, &mut text);
+        match out.extend_from_slice(text.as_str().as_bytes()) {
+            Ok(()) => Ok(()),
+            Err(_) => Err(Memory),
+        }
+    }
+}

@@ -1,0 +1,184 @@
+//! A profile from a text.
+ghost use Rattle.printer_profile.specs.Text.{nothing, is_skipped as is_skipped_of, missing as missing_of, profile_text, profile_unless, with_lines};
+ghost use Rattle.std.specs.List.{list_all};
+ghost use Rattle.std.specs.Str.Lines.{lines};
+ghost use Rattle.std.specs.Char.{is_ascii};
+ghost use Rattle.std.specs.Prelude.{Some, ◌≡◌};
+
+use crate::fields::Profile;
+use crate::keys::Key;
+use crate::lines::{cut_at, first_line};
+use crate::printing::HEAD;
+use printer_definitions::InkSet;
+use thiserror::Error;
+
+/// Why a text is no profile. On one line the first cause counts, in the order of these variants.
+#[derive(Clone, Copy, Debug, PartialEq, Eq, Error)]
+pub enum TextCause {
+    #[error("not `escp2-profile 1`")]
+    BadHead,
+    #[error("a byte outside of ASCII")]
+    NotAscii,
+    #[error("not `key=value`")]
+    NoEquals,
+    #[error("there is no such key")]
+    UnknownKey,
+    #[error("the key stands above")]
+    RepeatedKey,
+    #[error("the key does not take this value")]
+    BadValue,
+    /// The key's place in the table of keys, counted from 1.
+    #[error("key {key} of the table is missing")]
+    Missing { key: u8 },
+}
+
+/// The first fault of a text.
+#[derive(Clone, Copy, Debug, PartialEq, Eq, Error)]
+#[error("line {line}: {cause}")]
+pub struct TextFault {
+    /// The line, counted from 1, or 0 where the fault is none of a line. Lines from 4,294,967,295 on have that number.
+    pub line: u32,
+    pub cause: TextCause,
+}
+
+// What the lines so far give: the profile, and for each key whether it was given.
+#[derive(Clone, Copy)]
+struct Given {
+    profile: Profile,
+    keys: [bool; 14],
+}
+
+fn is_skipped(line: &[u8]) -> bool
+    ensures { result ≡ is_skipped_of line.now }
+{
+    match line {
+        [] => true,
+        [first, ..] => *first == b'#',
+    }
+}
+
+fn is_text(line: &[u8]) -> bool
+    ensures { result ≡ list_all is_ascii line.now }
+{
+    line.iter().all(|byte| byte.is_ascii())
+}
+
+impl Given {
+    ghost use Rattle.printer_profile.specs.Text.{with_key, with_line};
+
+    fn nothing() -> Given
+        ensures { result ≡ nothing }
+    {
+        Given {
+            profile: Profile {
+                hdpi: 0,
+                vdpi: 0,
+                nozzles: 0,
+                pitch: 0,
+                inks: InkSet::K,
+                black_start: 0,
+                limits: [255, 255, 255, 255],
+                left: 0,
+                right: 0,
+                top: 0,
+                bottom: 0,
+            },
+            keys: [false; 14],
+        }
+    }
+
+    // With a value for a key.
+    fn with_key(self, key: Key, value: &[u8]) -> Result<Given, TextCause>
+        ensures { result ≡ with_key self value.now (Some key) }
+    {
+        let place = usize::from(key.place()) - 1;
+        if self.keys[place] {
+            return Err(TextCause::RepeatedKey);
+        }
+        let Some(profile) = self.profile.with_value(key, value) else {
+            return Err(TextCause::BadValue);
+        };
+        let mut keys = self.keys;
+        keys[place] = true;
+        Ok(Given { profile, keys })
+    }
+
+    // With a line.
+    fn with_line(self, line: &[u8]) -> Result<Given, TextCause>
+        ensures { result ≡ with_line self line.now }
+    {
+        if is_skipped(line) {
+            return Ok(self);
+        }
+        if !is_text(line) {
+            return Err(TextCause::NotAscii);
+        }
+        match cut_at(b'=', line) {
+            None => Err(TextCause::NoEquals),
+            Some((name, value)) => match Key::named(name) {
+                None => Err(TextCause::UnknownKey),
+                Some(key) => self.with_key(key, value),
+            },
+        }
+    }
+
+    // The first required key that is absent.
+    fn missing(&self) -> Option<Key>
+        ensures { result ≡ missing_of self.now }
+    {
+        Key::ALL
+            .iter()
+            .copied()
+            .find(|key| key.is_required() && !self.keys[usize::from(key.place()) - 1])
+    }
+
+    fn profile(&self) -> Result<Profile, TextFault>
+        ensures { result ≡ profile_unless self.now (missing_of self.now) }
+    {
+        match self.missing() {
+            None => Ok(self.profile),
+            Some(key) => Err(TextFault {
+                line: 0,
+                cause: TextCause::Missing { key: key.place() },
+            }),
+        }
+    }
+}
+
+// What the lines of a text give, of which the first has this number.
+fn read_lines(text: &[u8]) -> Result<Given, TextFault>
+    ensures { result ≡ with_lines 2 nothing (lines text.now) }
+{
+    let mut given = Given::nothing();
+    let mut number: u32 = 2;
+    let mut rest = text;
+    'lines: while !rest.is_empty() {
+        let (line, behind) = first_line(rest);
+        given = match given.with_line(line) {
+            Ok(more) => more,
+            Err(cause) => return Err(TextFault { line: number, cause }),
+        };
+        number = number.saturating_add(1);
+        rest = behind;
+    }
+    Ok(given)
+}
+
+/// Reads a profile's text: a head, and lines `key=value`. The first line that is refused counts, and after all lines
+/// the first required key that is absent.
+pub fn read(text: &[u8]) -> Result<Profile, TextFault>
+    ensures { result ≡ profile_text text.now }
+{
+    let bad_head = TextFault {
+        line: 1,
+        cause: TextCause::BadHead,
+    };
+    if text.is_empty() {
+        return Err(bad_head);
+    }
+    let (head, rest) = first_line(text);
+    if head != HEAD.as_bytes() {
+        return Err(bad_head);
+    }
+    read_lines(rest)?.profile()
+}

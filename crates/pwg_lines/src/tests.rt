@@ -1,0 +1,128 @@
+//! Groups fed whole, in two pieces and byte by byte, and groups written.
+ghost use Rattle.std.specs.Prelude.{◌≤◌};
+
+use crate::{Fill, Kind, LineFault, LineReader, PageForm, code_line};
+use std::alloc::Global;
+use std::test::Fail;
+
+/// A reader of a grey page.
+fn grey(alloc: Global, width: u32, height: u32) -> Result<LineReader, Fail>
+    requires narrowest { 1 ≤ width }
+    requires widest { width ≤ 8191 }
+    requires lowest { 1 ≤ height }
+    requires tallest { height ≤ 15840 }
+{
+    let form = PageForm {
+        width,
+        height,
+        kind: Kind::Gray8,
+        bytes_per_line: width,
+    };
+    Ok(LineReader::begin(alloc, form)?)
+}
+
+#[test]
+fn byte_128_fills_the_line_with_white(rt: HostRuntime) -> Result<(), Fail> {
+    let mut reader = grey(rt.alloc(), 8, 1)?;
+    let fed = reader.feed(&[0x00, 0x80]);
+    assert_eq!(rt; fed.used, 2);
+    assert_eq!(rt; fed.state, Fill::Line { repeats: 1 });
+    assert_eq!(rt; reader.line(), [0xFF; 8].as_slice());
+    assert_eq!(rt; reader.lines_left(), 0);
+    Ok(())
+}
+
+#[test]
+fn a_group_past_the_page_is_refused_at_its_count(rt: HostRuntime) -> Result<(), Fail> {
+    let mut whole = grey(rt.alloc(), 8, 256)?;
+    let fed = whole.feed(&[0xFF, 0x07, 0x00]);
+    assert_eq!(rt; fed.used, 3);
+    assert_eq!(rt; fed.state, Fill::Line { repeats: 256 });
+    let mut short = grey(rt.alloc(), 8, 255)?;
+    let fed = short.feed(&[0xFF, 0x07, 0x00]);
+    assert_eq!(rt; fed.used, 1);
+    assert_eq!(rt; fed.state, Fill::Fault(LineFault::GroupPastPage));
+    let again = short.feed(&[0x00]);
+    assert_eq!(rt; again.used, 0);
+    assert_eq!(rt; again.state, Fill::Fault(LineFault::GroupPastPage));
+    Ok(())
+}
+
+/// The bytes of a page of three groups of lines of four pixels.
+const PAGE: [u8; 14] = [
+    0x01, 0xFD, 0x01, 0x02, 0x03, 0x04, 0x00, 0x01, 0x05, 0x80, 0x02, 0x03, 0x07, 0x99,
+];
+
+/// Feeds a piece, and appends each line that it ends and how often the line stands.
+fn feed_all(reader: &mut LineReader, piece: &[u8], read: &mut Vec<u8>) -> Result<(), Fail> {
+    let mut rest = piece;
+    for _ in 0..4 {
+        if reader.lines_left() == 0 {
+            return Ok(());
+        }
+        let fed = reader.feed(rest);
+        rest = &rest[fed.used..];
+        if let Fill::Line { repeats } = fed.state {
+            read.extend_from_slice(reader.line())?;
+            read.push(u8::try_from(repeats).unwrap_or(0))?;
+        }
+    }
+    Ok(())
+}
+
+#[test]
+fn each_cut_gives_the_same_lines(rt: HostRuntime) -> Result<(), Fail> {
+    let alloc = rt.alloc();
+    let wanted = [1, 2, 3, 4, 2, 5, 5, 255, 255, 1, 7, 7, 7, 7, 3];
+    let mut reader = grey(alloc, 4, 6)?;
+    let mut whole = Vec::new(alloc);
+    feed_all(&mut reader, &PAGE, &mut whole)?;
+    assert_eq!(rt; whole.as_slice(), wanted.as_slice());
+    for cut in 0..PAGE.len() {
+        let mut reader = grey(alloc, 4, 6)?;
+        let mut read = Vec::new(alloc);
+        feed_all(&mut reader, &PAGE[..cut], &mut read)?;
+        feed_all(&mut reader, &PAGE[cut..], &mut read)?;
+        assert_eq!(rt; read.as_slice(), wanted.as_slice());
+    }
+    let mut reader = grey(alloc, 4, 6)?;
+    let mut read = Vec::new(alloc);
+    for byte in PAGE {
+        feed_all(&mut reader, &[byte], &mut read)?;
+    }
+    assert_eq!(rt; read.as_slice(), wanted.as_slice());
+    Ok(())
+}
+
+#[test]
+fn code_line_writes_the_canonical_group(rt: HostRuntime) -> Result<(), Fail> {
+    let mut runs = Vec::new(rt.alloc());
+    code_line(&[0x05, 0x05, 0x05, 0x07, 0x09, 0x09], 1, 2, &mut runs)?;
+    assert_eq!(rt;
+        runs.as_slice(),
+        [0x01, 0x02, 0x05, 0x00, 0x07, 0x01, 0x09].as_slice()
+    );
+    let mut literal = Vec::new(rt.alloc());
+    code_line(&[0x01, 0x02, 0x03], 1, 1, &mut literal)?;
+    assert_eq!(rt;
+        literal.as_slice(),
+        [0x00, 0xFE, 0x01, 0x02, 0x03].as_slice()
+    );
+    Ok(())
+}
+
+#[test]
+fn code_line_counts_units_of_three_bytes(rt: HostRuntime) -> Result<(), Fail> {
+    let mut out = Vec::new(rt.alloc());
+    code_line(
+        &[0x01, 0x02, 0x03, 0x01, 0x02, 0x03, 0x04, 0x05, 0x06],
+        3,
+        1,
+        &mut out,
+    )?;
+    assert_eq!(rt;
+        out.as_slice(),
+        [0x00, 0x01, 0x01, 0x02, 0x03, 0x00, 0x04, 0x05, 0x06].as_slice()
+    );
+    Ok(())
+}
