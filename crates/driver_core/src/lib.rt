@@ -6,5 +6,5 @@ mod running;
 mod words;
 
 pub use answer_definitions::{Answer, UsageCause, UsageFault};
-pub use running::run;
+pub use running::{run, tell};
 

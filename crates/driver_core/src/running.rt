@@ -68,8 +68,8 @@ fn print_page<S: Source, K: Sink>(
     }
 }
 
-// Tells the error sink an answer's line.
-fn tell<E: Sink>(answer: &Answer, err: &mut E)
+/// Tells a sink an answer's error line, as much of it as the sink takes.
+pub fn tell<E: Sink>(answer: &Answer, err: &mut E)
     ensures { Told (record { before = E.held err.old; now = E.held err.new; faults_before = E.faults err.old; faults_now = E.faults err.new }) answer.now }
 {
     let mut line = ArrayString::new();

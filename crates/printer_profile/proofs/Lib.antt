@@ -2,4 +2,5 @@ pub mod Divisors
 pub mod LineParts
 pub mod Numbers
 pub mod Printed
+pub mod RoundTrip
 pub mod TextLemmas

@@ -32,7 +32,7 @@ pub cut_none : (p : ℕ → Bool) (text : List ℕ) → None ≡ position p text
 cut_none p text found = some_place p text ∙ found_none _ _ found
 
 -- the line before a part that is not the last
-line_before : (line : List ℕ) (parts : List (List ℕ)) (n : ℕ) → length parts ≡ n + 1 → lines_of_parts (line ∷ parts) ≡ strip_carriage_return line ∷ lines_of_parts parts
+pub line_before : (line : List ℕ) (parts : List (List ℕ)) (n : ℕ) → length parts ≡ n + 1 → lines_of_parts (line ∷ parts) ≡ strip_carriage_return line ∷ lines_of_parts parts
 line_before line [] n h = absurd (omega arith)
 line_before line (part ∷ parts) n h = refl
 

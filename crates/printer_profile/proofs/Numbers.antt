@@ -23,7 +23,7 @@ digit_fails digits some small value h = grind (arith, nat_tests)
 value_fails : (good : Bool) (value most : ℕ) → most < value → None ≡ cond (good && leb value most) (Some value) None
 value_fails good value most h = grind (arith, nat_tests)
 
-all_pass : (digits zero : Bool) (len n value most : ℕ) → digits ≡ true → (len ≡ 0 → ⊥) → zero ≡ false → n ≡ value → n ≤ most → Some n ≡ cond ((digits && (ltb 0 len && not zero)) && leb value most) (Some value) None
+pub all_pass : (digits zero : Bool) (len n value most : ℕ) → digits ≡ true → (len ≡ 0 → ⊥) → zero ≡ false → n ≡ value → n ≤ most → Some n ≡ cond ((digits && (ltb 0 len && not zero)) && leb value most) (Some value) None
 all_pass digits zero len n value most all some no_zero is small = grind (arith, nat_tests)
 
 -- a text that writes no number

@@ -1,5 +1,6 @@
 //! Profiles by their names, their checks and their texts.
 use super::*;
+use std::test::Fail;
 
 const GOOD: Profile = Profile {
     hdpi: 720,
@@ -72,4 +73,61 @@ fn a_page_is_printed_inside_its_margins(rt: HostRuntime) {
     assert_eq!(rt; wanted.least_width, 181);
     assert_eq!(rt; wanted.least_height, 361);
     assert_eq!(rt; wanted.most_height, 15840);
+}
+
+const TINY: &[u8] = b"escp2-profile 1\nhdpi=360\nvdpi=360\nnozzles=3\npitch=2\ninks=k\nblack_start=0\nlimit_k=255\nlimit_c=255\nlimit_m=255\nlimit_y=255\nleft=0\nright=0\ntop=4\nbottom=0\n";
+
+#[test]
+fn a_profile_is_printed_behind_what_stands(rt: HostRuntime) -> Result<(), Fail> {
+    let mut out = vec![in rt.alloc(); b'!']?;
+    let tiny = built_in("tiny").ok_or("tiny")?;
+    assert_eq!(rt; tiny.print(&mut out), Ok(()));
+    let (front, text) = out.as_slice().split_at(1);
+    assert_eq!(rt; front, b"!".as_slice());
+    assert_eq!(rt; text, TINY);
+    assert_eq!(rt; read(text), Ok(tiny));
+    Ok(())
+}
+
+#[test]
+fn keys_are_set_by_their_names(rt: HostRuntime) {
+    let mut profile = GOOD;
+    assert_eq!(rt; profile.set("limit_y", "7"), Ok(()));
+    assert_eq!(rt; profile.limits, [255, 224, 224, 7]);
+    assert_eq!(rt; profile.set("inks", "cmy"), Ok(()));
+    assert_eq!(rt; profile.inks, InkSet::Cmy);
+    assert_eq!(rt; profile.set("top", "65536"), Err(SetFault::BadValue));
+    assert_eq!(rt; profile.set("Top", "6"), Err(SetFault::UnknownKey));
+    assert_eq!(rt; profile.top, 240);
+}
+
+#[test]
+fn a_text_is_refused_at_its_first_fault(rt: HostRuntime) {
+    let cases: [(&[u8], u32, TextCause); 16] = [
+        (b"", 1, TextCause::BadHead),
+        (b"\nescp2-profile 1\n", 1, TextCause::BadHead),
+        (b"escp2-profile 1\r", 1, TextCause::BadHead),
+        (b"escp2-profile 1\xff\n", 1, TextCause::BadHead),
+        (b"escp2-profile 1\nhdpi\xff\n", 2, TextCause::NotAscii),
+        (b"escp2-profile 1\n# \xff\n\r\nhdpi\n", 4, TextCause::NoEquals),
+        (b"escp2-profile 1\n #\n", 2, TextCause::NoEquals),
+        (b"escp2-profile 1\ndpi=360\n", 2, TextCause::UnknownKey),
+        (b"escp2-profile 1\nhdpi=9\nhdpi=x\n", 3, TextCause::RepeatedKey),
+        (b"escp2-profile 1\nhdpi=0360\n", 2, TextCause::BadValue),
+        (b"escp2-profile 1\nhdpi=65536\n", 2, TextCause::BadValue),
+        (b"escp2-profile 1\npitch=99999999999999999999999\n", 2, TextCause::BadValue),
+        (b"escp2-profile 1\ninks=cmyk=\n", 2, TextCause::BadValue),
+        (b"escp2-profile 1\r\ntop=4\r", 2, TextCause::BadValue),
+        (b"escp2-profile 1\nhdpi=360\npitch=1", 0, TextCause::Missing { key: 2 }),
+        (b"escp2-profile 1", 0, TextCause::Missing { key: 1 }),
+    ];
+    for (text, line, cause) in cases {
+        assert_eq!(rt; read(text), Err(TextFault { line, cause }));
+    }
+}
+
+#[test]
+fn a_text_may_leave_out_what_has_a_default(rt: HostRuntime) {
+    let text = b"escp2-profile 1\r\n# a printer\n\npitch=1\r\nnozzles=1\ninks=k\nvdpi=360\nhdpi=360".as_slice();
+    assert_eq!(rt; read(text).ok(), built_in("tiny1"));
 }

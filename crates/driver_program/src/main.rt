@@ -1,0 +1,44 @@
+//! The driver as a program: words from the command line, the page from standard input, the job to standard output, the
+//! error line to standard error, and the status as the exit code.
+#![tactic(auto)]
+
+mod command_line;
+mod help;
+
+use command_line::read_words;
+use driver_core::{Answer, run, tell};
+use help::text_of;
+use std::io::Write;
+use std::process::ExitCode;
+use weave_base::{StdSink, StdSource, Words, put_all};
+
+// Shows a text instead of a run.
+fn show<W: Write>(text: &str, out: &mut StdSink<W>) -> Answer {
+    match put_all(out, text.as_bytes()) {
+        Ok(()) => Answer::Done,
+        Err(_) => Answer::Write { page: 0 },
+    }
+}
+
+// Runs the words, or shows the text that the first of them asks for.
+fn run_words(rt: &HostRuntime, words: &Words) -> u8 {
+    let mut input = StdSource::make(rt.stdin());
+    let mut out = StdSink::make(rt.stdout());
+    let mut err = StdSink::make(rt.stderr());
+    let Some(text) = text_of(words) else {
+        return run(rt.alloc(), words, &mut input, &mut out, &mut err);
+    };
+    let answer = show(text, &mut out);
+    tell(&answer, &mut err);
+    answer.status()
+}
+
+fn main(rt: HostRuntime) -> ExitCode {
+    match read_words(&rt) {
+        Ok(words) => ExitCode::from(run_words(&rt, &words)),
+        Err(answer) => {
+            tell(&answer, &mut StdSink::make(rt.stderr()));
+            ExitCode::from(answer.status())
+        }
+    }
+}
