@@ -28,7 +28,9 @@ pub enum Answer {
     /// A read failed.
     Read,
     /// A write failed, in this page.
-    Write { page: u32 },
+    Write {
+        page: u32,
+    },
     /// Memory ran out.
     Memory,
 }

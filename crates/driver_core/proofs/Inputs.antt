@@ -33,7 +33,13 @@ page_is bytes page is =
 
 tiny_can_print : CanPrint tiny1
 tiny_can_print = record {
-  across = inl refl; down = inl refl; some_nozzles = omega arith; most_nozzles = omega arith; some_pitch = omega arith; small_step = omega arith; head_room = omega arith;
+  across = inl refl;
+  down = inl refl;
+  some_nozzles = omega arith;
+  most_nozzles = omega arith;
+  some_pitch = omega arith;
+  small_step = omega arith;
+  head_room = omega arith;
 }
 
 pub job_prints : (bytes : List ℕ) (page : Page) → IsOnePage bytes page → Prints tiny1 floyd (page ∷ []) (job_of page)

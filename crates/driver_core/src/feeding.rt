@@ -20,11 +20,7 @@ pub enum Stop {
 }
 
 // Reads a source to its end, a buffer at a time.
-fn read_by<S: Source>(
-    alloc: Global,
-    buffer: &mut [u8],
-    input: &mut S,
-) -> Result<Vec<u8>, Stop>
+fn read_by<S: Source>(alloc: Global, buffer: &mut [u8], input: &mut S) -> Result<Vec<u8>, Stop>
     requires { 1 ≤ length buffer.old }
     ensures bytes { IfOk result (λ v. IfSome (S.left input.old) (λ bytes. v.items ≡ bytes)) }
     ensures end { OnOk result (IsAtEnd (S.left input.new)) }

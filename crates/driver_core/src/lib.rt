@@ -8,3 +8,5 @@ mod words;
 pub use answer_definitions::{Answer, UsageCause, UsageFault};
 pub use running::{run, tell};
 
+#[cfg(test)]
+mod tests;

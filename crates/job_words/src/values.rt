@@ -6,12 +6,14 @@ ghost use Rattle.job_words.specs.Values.{is_number as writes_number, kernel_name
 
 use diffusion_kernel::Kernel;
 
+// Whether each byte is a digit.
 fn are_digits(bytes: &[u8]) -> bool
     ensures { result ≡ list_all is_ascii_digit bytes.now }
 {
     bytes.iter().all(|byte| byte.is_ascii_digit())
 }
 
+// Whether the text is a number: `0`, or digits of which the first is 1 to 9.
 fn is_number(text: &str) -> bool
     ensures { result ≡ writes_number text.now }
 {
@@ -42,6 +44,7 @@ fn number_within(low: u64, high: u64, text: &str) -> Option<u64>
     }
 }
 
+/// The kernel of a name.
 pub fn kernel_named(text: &str) -> Option<Kernel>
     ensures { result ≡ kernel_of text.now }
 {
@@ -53,6 +56,7 @@ pub fn kernel_named(text: &str) -> Option<Kernel>
     }
 }
 
+/// A count of workers: 1 to 64.
 pub fn worker_count(text: &str) -> Option<u8>
     ensures { result ≡ workers_of text.now }
 {

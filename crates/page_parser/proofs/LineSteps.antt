@@ -52,16 +52,16 @@ line_step width bytes line line' rest rest' left units some so_far pushed = by_s
       place = so_far.place + length (packet_spelling pushed.packet);
       long = omega (arith, so_far.long, pushed.most, grown);
       is = λ repeats.
-        let here : packet_at gray (suc l) rest ≡ One pushed.packet rest' = ap (λ k. packet_at gray k rest) (sym el) ∙ pushed.is in
-        let front : GroupFront = front_of repeats line so_far.place in
-        let units_is : suc l - packet_units (suc l) pushed.packet ≡ left - units = ap (λ k. k - packet_units k pushed.packet) (sym el) ∙ ap (λ u. left - u) pushed.units_are in
-        let line_is : line ++ packet_gives gray (suc l) pushed.packet ≡ line' = ap (λ k. line ++ packet_gives gray k pushed.packet) (sym el) ∙ sym pushed.line in
-        so_far.is repeats
-        ∙ ap (λ k. line_at gray k left front rest) em
-        ∙ ap (λ k. line_at gray (suc m) k front rest) el
-        ∙ line_at-one gray m l front rest pushed.packet rest' here
-        ∙ ap (λ k. line_at gray m k (with_packet gray (suc l) pushed.packet front) rest') units_is
-        ∙ ap (λ ls. line_at gray m (left - units) (front_of repeats ls (so_far.place + length (packet_spelling pushed.packet))) rest') line_is;
+          let here : packet_at gray (suc l) rest ≡ One pushed.packet rest' = ap (λ k. packet_at gray k rest) (sym el) ∙ pushed.is in
+          let front : GroupFront = front_of repeats line so_far.place in
+          let units_is : suc l - packet_units (suc l) pushed.packet ≡ left - units = ap (λ k. k - packet_units k pushed.packet) (sym el) ∙ ap (λ u. left - u) pushed.units_are in
+          let line_is : line ++ packet_gives gray (suc l) pushed.packet ≡ line' = ap (λ k. line ++ packet_gives gray k pushed.packet) (sym el) ∙ sym pushed.line in
+          so_far.is repeats
+          ∙ ap (λ k. line_at gray k left front rest) em
+          ∙ ap (λ k. line_at gray (suc m) k front rest) el
+          ∙ line_at-one gray m l front rest pushed.packet rest' here
+          ∙ ap (λ k. line_at gray m k (with_packet gray (suc l) pushed.packet front) rest') units_is
+          ∙ ap (λ ls. line_at gray m (left - units) (front_of repeats ls (so_far.place + length (packet_spelling pushed.packet))) rest') line_is;
     }
 
 -- no packet, no group
@@ -80,7 +80,7 @@ line_broken width repeats bytes line rest left some so_far none = by_sizes left 
     by_sizes (suc l) zero el em = absurd (omega (arith, so_far.enough))
     by_sizes (suc l) (suc m) el em = record {
       no = λ n ls bs f. broken l m el em (packet_at gray (suc l) rest) refl n ls bs
-        (sym (so_far.is repeats ∙ ap (λ k. line_at gray k left (front_of repeats line so_far.place) rest) em ∙ ap (λ k. line_at gray (suc m) k (front_of repeats line so_far.place) rest) el) ∙ f);
+          (sym (so_far.is repeats ∙ ap (λ k. line_at gray k left (front_of repeats line so_far.place) rest) em ∙ ap (λ k. line_at gray (suc m) k (front_of repeats line so_far.place) rest) el) ∙ f);
     }
 
 -- the line is full
@@ -102,16 +102,16 @@ group_is width left count body line rest fits e =
 pub group_past : (width left count : ℕ) (body : List ℕ) → left < count + 1 → IsNoGroup (group_at gray width left (count ∷ body))
 group_past width left count body more = record {
   no = λ n ls bs e.
-    let f : Wrong 0 GroupPastPage ≡ Group n ls bs =
-        sym (ap (λ b. if b then Wrong 0 GroupPastPage else line_at gray width width (front_of (count + 1) [] 1) body) (lt-ltb left (count + 1) more)) ∙ e in
-    cc;
+      let f : Wrong 0 GroupPastPage ≡ Group n ls bs =
+      sym (ap (λ b. if b then Wrong 0 GroupPastPage else line_at gray width width (front_of (count + 1) [] 1) body) (lt-ltb left (count + 1) more)) ∙ e in
+      cc;
 }
 
 pub group_broken : (width left count : ℕ) (body : List ℕ) → count + 1 ≤ left → IsNoGroup (line_at gray width width (front_of (count + 1) [] 1) body)
     → IsNoGroup (group_at gray width left (count ∷ body))
 group_broken width left count body fits none = record {
   no = λ n ls bs e. none.no n ls bs
-    (sym (ap (λ b. if b then Wrong 0 GroupPastPage else line_at gray width width (front_of (count + 1) [] 1) body) (le-ltb left (count + 1) fits)) ∙ e);
+      (sym (ap (λ b. if b then Wrong 0 GroupPastPage else line_at gray width width (front_of (count + 1) [] 1) body) (le-ltb left (count + 1) fits)) ∙ e);
 }
 
 -- ---- lines
@@ -163,12 +163,12 @@ lines_step width height bytes lines lines' line rest rest' left n some so_far re
       done = so_far.done ++ replicate n line;
       are = grown ∙ ap (λ bs. bs ++ joined (replicate n line)) so_far.are ∙ sym (joined-append so_far.done (replicate n line));
       is =
-        so_far.is
-        ∙ ap (λ k. with_lines so_far.done (lines_at gray width height k left rest)) em
-        ∙ ap (λ k. with_lines so_far.done (lines_at gray width height (suc m) k rest)) el
-        ∙ ap (with_lines so_far.done) (lines_at-group width height m l rest n line rest' (ap (λ k. group_at gray width k rest) (sym el) ∙ read))
-        ∙ with-both so_far.done (replicate n line) (lines_at gray width height m (suc l - n) rest')
-        ∙ ap (λ k. with_lines (so_far.done ++ replicate n line) (lines_at gray width height m (k - n) rest')) (sym el);
+          so_far.is
+          ∙ ap (λ k. with_lines so_far.done (lines_at gray width height k left rest)) em
+          ∙ ap (λ k. with_lines so_far.done (lines_at gray width height (suc m) k rest)) el
+          ∙ ap (with_lines so_far.done) (lines_at-group width height m l rest n line rest' (ap (λ k. group_at gray width k rest) (sym el) ∙ read))
+          ∙ with-both so_far.done (replicate n line) (lines_at gray width height m (suc l - n) rest')
+          ∙ ap (λ k. with_lines (so_far.done ++ replicate n line) (lines_at gray width height m (k - n) rest')) (sym el);
     }
 
 lines_at-none : (width height most left : ℕ) (bytes : List ℕ) → IsNoGroup (group_at gray width (suc left) bytes)
@@ -202,7 +202,7 @@ lines_broken width height bytes lines rest left some so_far none = by_sizes left
         let broken : AreNoLines (with_lines so_far.done (lines_at gray width height (suc m) (suc l) rest)) = with-none so_far.done _ (lines_at-none width height m l rest there) in
         record {
           no = λ ls bs e. broken.no ls bs (sym (so_far.is ∙ ap (λ k. with_lines so_far.done (lines_at gray width height k left rest)) em
-            ∙ ap (λ k. with_lines so_far.done (lines_at gray width height (suc m) k rest)) el) ∙ e);
+              ∙ ap (λ k. with_lines so_far.done (lines_at gray width height (suc m) k rest)) el) ∙ e);
         }
 
 -- all lines are read

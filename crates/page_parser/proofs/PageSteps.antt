@@ -71,29 +71,29 @@ pub unsynced_stream : (want : Wanted) (bytes : List ℕ) → starts_with nat_eq 
 unfolding stream
 unsynced_stream want bytes e = record {
   no = λ page one.
-    let is : Stream = record { pages = []; end = Fault 0 0 cause.BadSync } in
-    let none : stream want bytes ≡ is = ap (λ b. if b then pages_from want 9999 1 (drop 4 bytes) else is) e in
-    let same : page ∷ [] ≡ [] = ap (λ (s : Stream). s.pages) (sym one ∙ none) in
-    cc;
+      let is : Stream = record { pages = []; end = Fault 0 0 cause.BadSync } in
+      let none : stream want bytes ≡ is = ap (λ b. if b then pages_from want 9999 1 (drop 4 bytes) else is) e in
+      let same : page ∷ [] ≡ [] = ap (λ (s : Stream). s.pages) (sym one ∙ none) in
+      cc;
 }
 
 pub broken_stream : (want : Wanted) (bytes : List ℕ) (line : ℕ) (why : InputCause) → starts_with nat_eq bytes sync_word ≡ true → page_at want (drop 4 bytes) ≡ Broken line why
     → IsNotOnePage want bytes
 broken_stream want bytes line why sync broken = record {
   no = λ page one.
-    let none : (pages_from want 9999 1 (drop 4 bytes)).pages ≡ [] = pages-broken want 9998 1 (drop 4 bytes) line why broken in
-    let same : page ∷ [] ≡ [] = ap (λ (s : Stream). s.pages) (sym one ∙ synced want bytes sync) ∙ none in
-    cc;
+      let none : (pages_from want 9999 1 (drop 4 bytes)).pages ≡ [] = pages-broken want 9998 1 (drop 4 bytes) line why broken in
+      let same : page ∷ [] ≡ [] = ap (λ (s : Stream). s.pages) (sym one ∙ synced want bytes sync) ∙ none in
+      cc;
 }
 
 pub more_stream : (want : Wanted) (bytes : List ℕ) (p : Page) (rest : List ℕ) → starts_with nat_eq bytes sync_word ≡ true → page_at want (drop 4 bytes) ≡ Whole p rest → 0 < length rest
     → IsNotOnePage want bytes
 more_stream want bytes p rest sync whole some = record {
   no = λ page one.
-    let others : Stream = pages_from want 9998 2 rest in
-    let same : with_page p others ≡ record { pages = page ∷ []; end = Done } = sym (synced want bytes sync ∙ pages-whole want 9998 1 (drop 4 bytes) p rest whole) ∙ one in
-    let none : others.pages ≡ [] = tail_of p page others.pages (ap (λ (s : Stream). s.pages) same) in
-    not_done want 9998 2 rest some none (ap (λ (s : Stream). s.end) same);
+      let others : Stream = pages_from want 9998 2 rest in
+      let same : with_page p others ≡ record { pages = page ∷ []; end = Done } = sym (synced want bytes sync ∙ pages-whole want 9998 1 (drop 4 bytes) p rest whole) ∙ one in
+      let none : others.pages ≡ [] = tail_of p page others.pages (ap (λ (s : Stream). s.pages) same) in
+      not_done want 9998 2 rest some none (ap (λ (s : Stream). s.end) same);
 }
   where
     tail_of : (p q : Page) (ps : List Page) → p ∷ ps ≡ q ∷ [] → ps ≡ []
@@ -261,7 +261,7 @@ parsed_is want bytes form lines parsed =
     let wide : AllByRecursion (λ line. length line ≡ page.form.width) page.lines = as_wide page.form.bytes_per_line page.form.width width page.lines is.wide in
     let of_form : PageForm → Page = λ f. record { form = f; lines = cut_lines f.height f.width lines } in
     let cut : cut_lines page.form.height page.form.width lines ≡ page.lines =
-        ap (cut_lines page.form.height page.form.width) parsed.lines_are ∙ cut-joined page.form.width page.form.height page.lines is.height wide in
+    ap (cut_lines page.form.height page.form.width) parsed.lines_are ∙ cut-joined page.form.width page.form.height page.lines is.height wide in
     parsed.is ∙ ap (λ ls. record { pages = record { form = page.form; lines = ls } ∷ []; end = Done }) (sym cut)
     ∙ ap (λ f. record { pages = of_form f ∷ []; end = Done }) parsed.form_is
   where

@@ -4,6 +4,7 @@
 mod built_ins;
 mod fields;
 mod keys;
+mod laws;
 mod lines;
 mod printing;
 mod reading;
@@ -14,6 +15,7 @@ mod validity;
 mod values;
 
 pub use built_ins::built_in;
+pub use laws::printed_is_read;
 pub use fields::Profile;
 pub use printer_definitions::InkSet;
 pub use separation_definitions::Window;

@@ -24,6 +24,7 @@ lines_left_of reader = reader.lines_left
 abbrev pub line_of : LineReader → List ℕ
 line_of reader = reader.line.items
 
+-- the fault that a state keeps
 abbrev pub fault_in : State → Option LineFault
 fault_in state.Start = None
 fault_in state.Packet = None
@@ -65,17 +66,19 @@ pub record Ends (old new : LineReader) (answer : Fill) : Type 0 where
 
 -- ---- answers
 
--- a fact for each answer of `feed`
+-- a fact where the group is not yet read
 abbrev pub OnMore : Fill → Type 0 → Type 0
 OnMore More P = P
 OnMore (Line repeats) P = Unit {0}
 OnMore (Fault fault) P = Unit {0}
 
+-- a fact where a line is read, of how often it stands
 abbrev pub OnLine : Fill → (ℕ → Type 0) → Type 0
 OnLine More P = Unit {0}
 OnLine (Line repeats) P = P repeats
 OnLine (Fault fault) P = Unit {0}
 
+-- a fact where a fault is met, of the fault
 abbrev pub OnFault : Fill → (LineFault → Type 0) → Type 0
 OnFault More P = Unit {0}
 OnFault (Line repeats) P = Unit {0}

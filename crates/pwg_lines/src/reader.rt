@@ -55,6 +55,7 @@ pub struct LineReader {
     filled: usize,
     state: State,
     ghost sized: { length line.items ≡ line_units (row_of form.kind) form.width },
+    ghost whole: { length line.items ≡ form.bytes_per_line },
     ghost some: { 0 < length line.items },
     ghost fits: { filled + pending state ≤ length line.items },
     ghost begun: { least_pending state ≤ pending state },
@@ -68,7 +69,7 @@ impl LineReader {
     ghost use Rattle.std.specs.Prelude.{IfOk, Some};
     ghost use Rattle.stream_definitions.specs.declared.faults.LineFault.{LineFault};
 
-    /// A reader of all lines of a page of this form. The bytes of one line are allocated here.
+    /// A reader of the lines of a page of this form. The bytes of one line are allocated here, and no other memory.
     pub fn begin(alloc: Global, form: PageForm) -> Result<LineReader, Memory>
         requires narrowest { 1 ≤ form.width }
         requires widest { form.width ≤ 8191 }
@@ -92,14 +93,17 @@ impl LineReader {
         })
     }
 
-    /// Reads the next bytes of the page. It stops behind a group, or behind the byte with a fault; each later call
-    /// then tells the fault again.
+    /// Reads the next bytes of the page's lines, of any number, and takes no memory. It stops behind the last byte of
+    /// a group, or behind the byte that has a fault: a count past the page, or the first byte of a packet with more
+    /// units than the line has left. What of the piece is not used is for the next call.
     pub fn feed(&mut self, piece: &[u8]) -> Fed
         ensures used { result.used ≤ length piece.now }
         ensures form { form_of self.new ≡ form_of self.old }
         ensures more { OnMore result.state (IsMore self.old self.new piece.now result.used) }
-        ensures line { OnLine result.state (λ repeats. IsLine self.old self.new piece.now result.used repeats) }
-        ensures fault { OnFault result.state (λ fault. IsFault self.old self.new piece.now result.used fault) }
+        ensures line { OnLine result.state (λ repeats.
+            IsLine self.old self.new piece.now result.used repeats) }
+        ensures fault { OnFault result.state (λ fault.
+            IsFault self.old self.new piece.now result.used fault) }
         ensures again { (fault : LineFault) → fault_of self.old ≡ Some fault
             → (result ≡ record { used = 0; state = Fill.Fault fault }) × (self.new ≡ self.old) }
     {
@@ -138,9 +142,11 @@ impl LineReader {
         self.lines_left
     }
 
-    /// The bytes of the line of the group, after a call of `feed` that answered `Fill::Line`.
+    /// The bytes of the line of the group that was read last, where the last call of `feed` answered `Fill::Line`;
+    /// after another answer they are of no use.
     pub fn line(&self) -> &[u8]
-        ensures { result.now ≡ line_of self.now }
+        ensures line { result.now ≡ line_of self.now }
+        ensures sized { length result.now ≡ (form_of self.now).bytes_per_line }
     {
         &self.line
     }

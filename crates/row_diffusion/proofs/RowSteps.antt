@@ -14,28 +14,28 @@ none_yet k p e y xs s b = record { at = λ n h. b.left n (omega arith) ∙ sym (
 
 pub all_done : (k : Table) (p : Plane) (e : Errors) (y x : ℕ) (xs : List ℤ) → Solves k p e → IsBordered p.width xs → p.width ≤ x → RowUpTo e (y + 2) x xs → RowIs e (y + 2) xs
 all_done k p e y x xs s b all f = record {
-    at = λ n. elim (cases_lt n (p.width + 4)) [
-        inl inside ↦ f.at n (omega arith)
-        | inr past ↦
-            let m : ℕ = n - 4 in
-            let place : n ≡ m + 4 = omega arith in
-            b.right n past ∙ sym (ap (e (y + 2)) place ∙ s.right y m (omega arith))
-      ]
-  }
+  at = λ n. elim (cases_lt n (p.width + 4)) [
+    | inl inside ↦ f.at n (omega arith)
+    | inr past ↦
+        let m : ℕ = n - 4 in
+        let place : n ≡ m + 4 = omega arith in
+        b.right n past ∙ sym (ap (e (y + 2)) place ∙ s.right y m (omega arith))
+  ];
+}
 
 pub bordered_more : (width x : ℕ) (xs : List ℤ) (v : ℤ) → x < width → IsBordered width xs → IsBordered width (set xs (x + 4) v)
 bordered_more width x xs v inside b = record {
-    left = λ n h. let else : n ≢ x + 4 = omega arith in get_or-set_other xs (x + 4) n v (pos 0) else ∙ b.left n h;
-    right = λ n h. let else : n ≢ x + 4 = omega arith in get_or-set_other xs (x + 4) n v (pos 0) else ∙ b.right n h
-  }
+  left = λ n h. let else : n ≢ x + 4 = omega arith in get_or-set_other xs (x + 4) n v (pos 0) else ∙ b.left n h;
+  right = λ n h. let else : n ≢ x + 4 = omega arith in get_or-set_other xs (x + 4) n v (pos 0) else ∙ b.right n h;
+}
 
 pub row_more : (e : Errors) (y x : ℕ) (xs : List ℤ) (v : ℤ) → x + 4 < length xs → v ≡ e y (x + 4) → RowUpTo e y x xs → RowUpTo e y (x + 1) (set xs (x + 4) v)
 row_more e y x xs v room is f = record {
-    at = λ n h. elim (cases_eq n (x + 4)) [
-        inl here ↦ ap (λ m. get_or (set xs (x + 4) v) m (pos 0)) here ∙ get_or-set_same xs (x + 4) v (pos 0) room ∙ is ∙ ap (e y) (sym here)
-        | inr else ↦ get_or-set_other xs (x + 4) n v (pos 0) else ∙ f.at n (omega arith)
-      ]
-  }
+  at = λ n h. elim (cases_eq n (x + 4)) [
+    | inl here ↦ ap (λ m. get_or (set xs (x + 4) v) m (pos 0)) here ∙ get_or-set_same xs (x + 4) v (pos 0) room ∙ is ∙ ap (e y) (sym here)
+    | inr else ↦ get_or-set_other xs (x + 4) n v (pos 0) else ∙ f.at n (omega arith)
+  ];
+}
 
 five_of : (f : ℕ → ℤ) (xs : List ℤ) (x : ℕ) → ((n : ℕ) → get_or xs n (pos 0) ≡ f n)
     → (get_or xs (x + 2) (pos 0) ∷ get_or xs (x + 3) (pos 0) ∷ get_or xs (x + 4) (pos 0) ∷ get_or xs (x + 5) (pos 0) ∷ get_or xs (x + 6) (pos 0) ∷ []) ≡ five f (x + 2)
@@ -67,24 +67,24 @@ pixel_here k p e y x row up1 up2 same first second err dot s high wide f is_up1 
     let in_plane : inside p y x ≡ true = and_from _ _ (lt-ltb x p.width wide) (lt-ltb y p.height high) in
     record {
       err = is_err ∙ ap error_of here ∙ sym (s.pixel y x high wide);
-      on = is_on ∙ ap is_dot here ∙ ap (λ b. b && is_dot (value_at k p e y x)) (sym in_plane)
+      on = is_on ∙ ap is_dot here ∙ ap (λ b. b && is_dot (value_at k p e y x)) (sym in_plane);
     }
 
 pub dots_more : (dots : List Bool) (x : ℕ) (b : Bool) (f : ℕ → Bool) → x < length dots → ((i : ℕ) → i < x → get_or dots i false ≡ f i)
     → b ≡ f x → (i : ℕ) → i < x + 1 → get_or (set dots x b) i false ≡ f i
 dots_more dots x b f room old is i below = elim (cases_eq i x) [
-    inl here ↦ ap (λ m. get_or (set dots x b) m false) here ∙ get_or-set_same dots x b false room ∙ is ∙ ap f (sym here)
-    | inr else ↦ get_or-set_other dots x i b false else ∙ old i (omega arith)
-  ]
+  | inl here ↦ ap (λ m. get_or (set dots x b) m false) here ∙ get_or-set_same dots x b false room ∙ is ∙ ap f (sym here)
+  | inr else ↦ get_or-set_other dots x i b false else ∙ old i (omega arith)
+]
 
 pub in_range_more : (xs : List ℤ) (at : ℕ) (v : ℤ) → EachInRange xs → InRange v → EachInRange (set xs at v)
 in_range_more xs at v all fits i = elim (cases_lt at (length xs)) [
-    inl room ↦ elim (cases_eq i at) [
-        inl here ↦ let P : ℤ → Type 0 = λ z. InRange z in subst P (sym (ap (λ m. get_or (set xs at v) m (pos 0)) here ∙ get_or-set_same xs at v (pos 0) room)) fits
-        | inr else ↦ let P : ℤ → Type 0 = λ z. InRange z in subst P (sym (get_or-set_other xs at i v (pos 0) else)) (all i)
-      ]
-    | inr past ↦ let P : List ℤ → Type 0 = λ ys. InRange (get_or ys i (pos 0)) in subst P (sym (set_past xs at v past)) (all i)
+  | inl room ↦ elim (cases_eq i at) [
+    | inl here ↦ let P : ℤ → Type 0 = λ z. InRange z in subst P (sym (ap (λ m. get_or (set xs at v) m (pos 0)) here ∙ get_or-set_same xs at v (pos 0) room)) fits
+    | inr else ↦ let P : ℤ → Type 0 = λ z. InRange z in subst P (sym (get_or-set_other xs at i v (pos 0) else)) (all i)
   ]
+  | inr past ↦ let P : List ℤ → Type 0 = λ ys. InRange (get_or ys i (pos 0)) in subst P (sym (set_past xs at v past)) (all i)
+]
 
 -- the errors near a pixel are in range
 pub pair_fits : (a b : ℤ) → InRange a → InRange b → EachInRange (a ∷ b ∷ [])

@@ -1,5 +1,6 @@
+use Rattle.std.proofs.Common.{rules}
 use Rattle.job_words.proofs.Faults.{parts_of}
 use Rattle.job_words.proofs.reading.cut.Goals as goal
 
 pub returns : goal.returns
-returns c = parts_of _ _ c.split_once.ensures.cases
+returns c = search (rules, parts_of)

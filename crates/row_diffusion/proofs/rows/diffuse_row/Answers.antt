@@ -29,12 +29,12 @@ loop-x-preserved c =
     let kept : err ≡ to_z w16 (of_z w16 err) = omega (arith, ints) in
     let P : ℤ → Type 0 = λ z. InRange z in
     let here = λ (p : Plane) (e : Errors) (y : ℕ) (has : HasRow p y c.args.amounts.now) (s : Solves k p e) (u2 : RowIs e y c.args.up2.now) (u1 : RowIs e (y + 1) c.args.up1.now).
-        let wide : x < p.width = omega (arith, has.wide, c.loop-x-test.true) in
-        let amount = has.are x wide in
-        pixel_here k p e y x c.loop-x.row c.args.up1.now c.args.up2.now near.same near.up1 near.up2 err c.pixel-dot.result.on s has.inside wide (v.row p e y has s u2 u1) u1 u2
-            (n.same ∙ (let a = v.left1 in let b = v.left2 in cc)) n.up1 n.up2
-            (d.err ∙ ap (λ a. error_of (value k a near.same near.up1 near.up2)) amount)
-            (d.on ∙ ap (λ a. is_dot (value k a near.same near.up1 near.up2)) amount) in
+    let wide : x < p.width = omega (arith, has.wide, c.loop-x-test.true) in
+    let amount = has.are x wide in
+    pixel_here k p e y x c.loop-x.row c.args.up1.now c.args.up2.now near.same near.up1 near.up2 err c.pixel-dot.result.on s has.inside wide (v.row p e y has s u2 u1) u1 u2
+    (n.same ∙ (let a = v.left1 in let b = v.left2 in cc)) n.up1 n.up2
+    (d.err ∙ ap (λ a. error_of (value k a near.same near.up1 near.up2)) amount)
+    (d.on ∙ ap (λ a. is_dot (value k a near.same near.up1 near.up2)) amount) in
     record {
       in_range = in_range_more _ _ _ v.in_range (subst P kept fits);
       bordered = bordered_more _ _ _ _ c.loop-x-test.true v.bordered;
