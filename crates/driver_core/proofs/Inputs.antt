@@ -1,8 +1,7 @@
 -- What the bytes that were read say of the input.
-use Rattle.std.proofs.Common.{◌≡◌, ℕ, List, [], ◌∷◌, ◌++◌, Option, None, Some, IfSome, refl, sym, ◌∙◌, ap, append-nil, arith, subst, ◌⊎◌, inl, inr}
-use Rattle.std.specs.List.{AllByRecursion, flat_map}
+use Rattle.std.proofs.Common.{◌≡◌, ℕ, List, [], ◌∷◌, Option, None, Some, IfSome, refl, sym, ◌∙◌, ap, append-nil, arith, subst, ◌⊎◌, inl, inr}
+use Rattle.std.specs.List.{AllByRecursion}
 use Rattle.diffusion_definitions.specs.Diffusion.{floyd}
-use Rattle.page_definitions.specs.PageBytes.{page_bytes}
 use Rattle.page_definitions.specs.Printing.{Prints}
 use Rattle.page_laws.proofs.Headline.{one_nozzle-prints}
 use Rattle.page_laws.specs.CanPrint.{CanPrint}
@@ -10,7 +9,6 @@ use Rattle.page_parser.specs.Parsed.{IsNotOnePage}
 use Rattle.printer_definitions.specs.Printer.{tiny1}
 use Rattle.separation_definitions.specs.Windows.{wanted_by}
 use Rattle.stream_definitions.specs.Stream.{IsPage, Page, Stream, stream}
-use Rattle.stream_definitions.specs.Stream.StreamEnd.{Done}
 use Rattle.stream_laws.proofs.PageLaws.{stream-pages}
 use Rattle.answer_definitions.specs.declared.answer.Answer.{Answer}
 use Rattle.answer_definitions.specs.declared.answer.Answer.TheVariants as answer

@@ -6,3 +6,6 @@ mod packets;
 mod page;
 
 pub use page::{GreyPage, read_one_page};
+
+#[cfg(test)]
+mod tests;

@@ -1,5 +1,5 @@
 -- The calls of a reader: what is read of a piece so far.
-use Rattle.std.proofs.Common.{◌≡◌, ℕ, zero, suc, ◌+◌, ◌-◌, ◌≤◌, if◌then◌else◌, List, [], ◌++◌, length, take, drop, Some, None, refl, sym, ◌∙◌, ap, subst, arith, append_assoc, length-append, length-drop}
+use Rattle.std.proofs.Common.{◌≡◌, ℕ, zero, suc, ◌+◌, ◌-◌, ◌≤◌, if◌then◌else◌, List, [], ◌++◌, length, take, drop, Some, refl, sym, ◌∙◌, ap, subst, arith, append_assoc, length-append, length-drop}
 use Rattle.std.proofs.lemmas.Bool.{lt-ltb}
 use Rattle.std.proofs.lemmas.List.{append-nil, length-take-le, take_all}
 use Rattle.std.proofs.Math.Seq.{take-add}
@@ -20,17 +20,6 @@ pub record FedSoFar (old now : LineReader) (piece : List ℕ) (used : ℕ) : Typ
   pub within : used ≤ length piece
   pub takes : Takes old now (take used piece)
   pub again : (fault : LineFault) → fault_of old ≡ Some fault → (used ≡ 0) × (now ≡ old)
-
-pub feed_begin : (old : LineReader) (piece : List ℕ) → FedSoFar old old piece 0
-feed_begin old piece = record {
-  within = omega arith;
-  takes = record {
-    form = refl;
-    lines_left = refl;
-    stands = λ sofar so_far. let P : List ℕ → Type 0 = StandsFor old in subst P (sym (append-nil sofar)) so_far;
-  };
-  again = λ fault e. (refl, refl);
-}
 
 open-no_fault : (s : State) (fault : LineFault) → IsOpen s → fault_in s ≡ Some fault → ⊥
 open-no_fault state.Start fault is e = cc
@@ -142,21 +131,6 @@ feed_line old now new answer piece used so_far full ends = record {
         ∙ here.is rest
         ∙ ap (λ bs. Group now.repeats bs rest) (whole ∙ sym ends.line)
 
--- a reader that is full has met no fault
-pub again-full : (old now : LineReader) (piece : List ℕ) (used : ℕ) (fault : LineFault) → FedSoFar old now piece used → now.state ≡ state.Full
-    → fault_of old ≡ Some fault → ⊥
-again-full old now piece used fault so_far full e =
-    let same : fault_in now.state ≡ Some fault = ap fault_of (so_far.again fault e).1 ∙ e in
-    let none : fault_in now.state ≡ None = ap fault_in full in cc
-
 pub again-open : (old now : LineReader) (piece : List ℕ) (used : ℕ) (fault : LineFault) → FedSoFar old now piece used → IsOpen now.state
     → fault_of old ≡ Some fault → ⊥
 again-open old now piece used fault so_far is_open e = open-no_fault now.state fault is_open (ap fault_of (so_far.again fault e).1 ∙ e)
-
-pub again-failed : (old now : LineReader) (piece : List ℕ) (used : ℕ) (met fault : LineFault) → FedSoFar old now piece used → now.state ≡ state.Failed met
-    → fault_of old ≡ Some fault → (used ≡ 0) × (met ≡ fault) × (now ≡ old)
-again-failed old now piece used met fault so_far failed e =
-    let same : fault_in now.state ≡ Some fault = ap fault_of (so_far.again fault e).1 ∙ e in
-    let is_met : fault_in now.state ≡ Some met = ap fault_in failed in
-    let both : Some met ≡ Some fault = sym is_met ∙ same in
-    ((so_far.again fault e).0, cc, (so_far.again fault e).1)

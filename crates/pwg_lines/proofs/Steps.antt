@@ -3,7 +3,7 @@ use Rattle.std.proofs.Common.{◌≡◌, ℕ, zero, suc, ◌+◌, ◌-◌, ◌*�
 use Rattle.std.proofs.lemmas.Bool.{ltb-true, ltb-false, lt-ltb, le-ltb, ne_eqb}
 use Rattle.std.proofs.lemmas.List.{append-nil, length-take-le, take_at}
 use Rattle.std.proofs.Math.Seq.{take-append-add, drop-append-add}
-use Rattle.stream_definitions.specs.declared.faults.LineFault.TheVariants.{RunPastLine, GroupPastPage}
+use Rattle.stream_definitions.specs.declared.faults.LineFault.TheVariants.{RunPastLine}
 use Rattle.stream_definitions.specs.Header.{KindRow, row_of}
 use Rattle.stream_definitions.specs.declared.pages.Kind.{Kind}
 use Rattle.stream_definitions.specs.declared.pages.Kind.TheVariants.{Gray8}
@@ -20,10 +20,10 @@ abbrev pub front_of : ℕ → List ℕ → ℕ → GroupFront
 front_of repeats line place = record { repeats = repeats; line = line; place = place }
 
 -- one more byte
-abbrev pub Snoc : List ℕ → ℕ → List ℕ
-Snoc sofar b = sofar ++ b ∷ []
+abbrev pub snoc : List ℕ → ℕ → List ℕ
+snoc sofar b = sofar ++ b ∷ []
 
-length-snoc : (sofar : List ℕ) (b : ℕ) → length (Snoc sofar b) ≡ length sofar + 1
+length-snoc : (sofar : List ℕ) (b : ℕ) → length (snoc sofar b) ≡ length sofar + 1
 length-snoc sofar b = length-append sofar (b ∷ [])
 
 -- the same reader, whose state has another name
@@ -67,47 +67,17 @@ units-literal l n u is large =
     let other : (n == 128) ≡ false = ne_eqb n 128 (λ e. omega arith) in
     is ∙ ap (λ b. if b then n + 1 else (if n == 128 then l else 257 - n)) is_large ∙ ap (λ b. if b then l else 257 - n) other
 
--- ---- the count
-
-pub start-past : (row : KindRow) (units lines repeats : ℕ) (line : List ℕ) (left : ℕ) (sofar : List ℕ) (c : ℕ) (repeats' : ℕ) (line' : List ℕ) (left' : ℕ)
-    → Stands row units lines state.Start repeats line left sofar → lines < c + 1
-    → Stands row units lines (state.Failed GroupPastPage) repeats' line' left' (Snoc sofar c)
-start-past row units lines repeats line left sofar c repeats' line' left' so_far past =
-    let P : List ℕ → Type 0 = λ s. Stands row units lines (state.Failed GroupPastPage) repeats' line' left' (Snoc s c) in
-    subst P (sym so_far.at) (record {
-      at = omega arith;
-      most = left';
-      enough = omega arith;
-      is = λ rest. ap (λ b. if b then Wrong 0 GroupPastPage else line_at row units units (front_of (c + 1) [] 1) rest) (lt-ltb lines (c + 1) past);
-    })
-
-pub start-count : (row : KindRow) (units lines repeats : ℕ) (line : List ℕ) (left : ℕ) (sofar : List ℕ) (c repeats' : ℕ) (line' : List ℕ) (left' : ℕ)
-    → Stands row units lines state.Start repeats line left sofar → c + 1 ≤ lines → repeats' ≡ c + 1 → line' ≡ [] → left' ≡ units → 1 ≤ units
-    → Stands row units lines state.Packet repeats' line' left' (Snoc sofar c)
-start-count row units lines repeats line left sofar c repeats' line' left' so_far fits is_count none whole some =
-    let P : List ℕ → Type 0 = λ s. Stands row units lines state.Packet repeats' line' left' (Snoc s c) in
-    subst P (sym so_far.at) (record {
-      at = omega arith;
-      most = units;
-      enough = omega arith;
-      is = λ rest.
-          ap (λ b. if b then Wrong 0 GroupPastPage else line_at row units units (front_of (c + 1) [] 1) rest) (le-ltb lines (c + 1) fits)
-          ∙ ap (λ k. line_at row units k (front_of (c + 1) [] 1) rest) (sym whole)
-          ∙ ap (λ k. line_at row units left' (front_of k [] 1) rest) (sym is_count)
-          ∙ ap (λ bs. line_at row units left' (front_of repeats' bs 1) rest) (sym none);
-    })
-
 -- ---- a packet's first byte
 
 -- the bytes behind one more byte
 with_byte : (row : KindRow) (units lines : ℕ) (s : State) (repeats : ℕ) (line : List ℕ) (left : ℕ) (sofar : List ℕ) (so_far : Stands row units lines s repeats line left sofar) (b : ℕ) (rest : List ℕ)
-    → group_at row units lines (Snoc sofar b ++ rest) ≡ read_on s row units lines so_far.most left (front_of repeats line (length sofar)) (b ∷ rest)
+    → group_at row units lines (snoc sofar b ++ rest) ≡ read_on s row units lines so_far.most left (front_of repeats line (length sofar)) (b ∷ rest)
 with_byte row units lines s repeats line left sofar so_far b rest =
     ap (group_at row units lines) (append_assoc sofar (b ∷ []) rest) ∙ so_far.is (b ∷ rest)
 
 -- a packet is read where a unit is left
 with_first : (row : KindRow) (units lines repeats : ℕ) (line : List ℕ) (left : ℕ) (sofar : List ℕ) (so_far : Stands row units lines state.Packet repeats line left sofar) (n : ℕ) (rest : List ℕ)
-    → group_at row units lines (Snoc sofar n ++ rest)
+    → group_at row units lines (snoc sofar n ++ rest)
     ≡ line_at row (suc (so_far.most - 1)) (suc (left - 1)) (front_of repeats line (length sofar)) (n ∷ rest)
 with_first row units lines repeats line left sofar so_far n rest =
     let front : GroupFront = front_of repeats line (length sofar) in
@@ -139,9 +109,9 @@ packet_at-white row left bytes = ap (λ b. if b then Long else One Clear bytes) 
 -- more units than are left
 pub packet-past : (row : KindRow) (units lines repeats : ℕ) (line : List ℕ) (left : ℕ) (sofar : List ℕ) (n repeats' : ℕ) (line' : List ℕ) (left' : ℕ)
     → Stands row units lines state.Packet repeats line left sofar → left < units_of left n
-    → Stands row units lines (state.Failed RunPastLine) repeats' line' left' (Snoc sofar n)
+    → Stands row units lines (state.Failed RunPastLine) repeats' line' left' (snoc sofar n)
 packet-past row units lines repeats line left sofar n repeats' line' left' so_far past =
-    let at_last : length sofar ≡ length (Snoc sofar n) - 1 = omega (arith, length-snoc sofar n) in
+    let at_last : length sofar ≡ length (snoc sofar n) - 1 = omega (arith, length-snoc sofar n) in
     let one_left : left ≡ suc (left - 1) = omega (arith, so_far.at) in
     let is_past : (rest : List ℕ) → packet_at row (suc (left - 1)) (n ∷ rest) ≡ Long =
     λ rest. ap (λ k. packet_at row k (n ∷ rest)) (sym one_left) ∙ ap (λ b. if b then Long else packet_of row n rest) (lt-ltb left (units_of left n) past) in
@@ -160,7 +130,7 @@ copies-one (suc n) b = ap (λ bs. b ∷ bs) (copies-one n b)
 
 pub packet-run : (row : KindRow) (units lines repeats : ℕ) (line : List ℕ) (left : ℕ) (sofar : List ℕ) (n : ℕ)
     → row.unit ≡ 1 → Stands row units lines state.Packet repeats line left sofar → n < 128 → n + 1 ≤ left
-    → Stands row units lines (state.Run (n + 1)) repeats line left (Snoc sofar n)
+    → Stands row units lines (state.Run (n + 1)) repeats line left (snoc sofar n)
 packet-run row units lines repeats line left sofar n unit so_far small fits = record {
   at = tt;
   most = so_far.most - 1;
@@ -177,8 +147,8 @@ packet-run row units lines repeats line left sofar n unit so_far small fits = re
     read : (rest : List ℕ) → packet_at row (suc (left - 1)) (n ∷ rest) ≡ packet_from (Run (n + 1)) 1 rest
     read rest = ap (λ k. packet_at row k (n ∷ rest)) (sym one_left) ∙ packet_at-run row left n rest unit small fits
 
-    is : (rest : List ℕ) → group_at row units lines (Snoc sofar n ++ rest)
-        ≡ read_on (state.Run (n + 1)) row units lines (so_far.most - 1) left (front_of repeats line (length (Snoc sofar n))) rest
+    is : (rest : List ℕ) → group_at row units lines (snoc sofar n ++ rest)
+        ≡ read_on (state.Run (n + 1)) row units lines (so_far.most - 1) left (front_of repeats line (length (snoc sofar n))) rest
     is [] = with_first row units lines repeats line left sofar so_far n [] ∙ line_at-short row (so_far.most - 1) (left - 1) front (n ∷ []) (read [])
     is (u ∷ rest) =
         let enough : nat_lt (length (u ∷ rest)) 1 ≡ false = le-ltb _ _ (omega arith) in
@@ -189,11 +159,11 @@ packet-run row units lines repeats line left sofar n unit so_far small fits = re
         ∙ ap (λ k. line_at row (so_far.most - 1) (k - (n + 1)) (front_of repeats (line ++ copies (n + 1) (u ∷ [])) (length sofar + 2)) rest) (sym one_left)
         ∙ ap (λ bs. line_at row (so_far.most - 1) (left - (n + 1)) (front_of repeats (line ++ bs) (length sofar + 2)) rest) (copies-one (n + 1) u)
         ∙ ap (λ k. line_at row (so_far.most - 1) (left - (n + 1)) (front_of repeats (line ++ replicate (n + 1) u) k) rest)
-        (let p : length sofar + 2 ≡ length (Snoc sofar n) + 1 = omega (arith, length-snoc sofar n) in p)
+        (let p : length sofar + 2 ≡ length (snoc sofar n) + 1 = omega (arith, length-snoc sofar n) in p)
 
 pub packet-literal : (row : KindRow) (units lines repeats : ℕ) (line : List ℕ) (left : ℕ) (sofar : List ℕ) (n : ℕ)
     → row.unit ≡ 1 → Stands row units lines state.Packet repeats line left sofar → 128 < n → n < 256 → 257 - n ≤ left
-    → Stands row units lines (state.Literal (257 - n)) repeats line left (Snoc sofar n)
+    → Stands row units lines (state.Literal (257 - n)) repeats line left (snoc sofar n)
 packet-literal row units lines repeats line left sofar n unit so_far large byte fits = record {
   at = omega arith;
   most = so_far.most - 1;
@@ -213,24 +183,24 @@ packet-literal row units lines repeats line left sofar n unit so_far large byte 
     read : (rest : List ℕ) → packet_at row (suc (left - 1)) (n ∷ rest) ≡ packet_from (Literal count) count rest
     read rest = ap (λ k. packet_at row k (n ∷ rest)) (sym one_left) ∙ packet_at-literal row left n rest unit large fits
 
-    by_length : (rest : List ℕ) (b : Bool) → nat_lt (length rest) count ≡ b → group_at row units lines (Snoc sofar n ++ rest)
+    by_length : (rest : List ℕ) (b : Bool) → nat_lt (length rest) count ≡ b → group_at row units lines (snoc sofar n ++ rest)
         ≡ (if nat_lt (length rest) count then Part
-        else line_at row (so_far.most - 1) (left - count) (longer (front_of repeats line (length (Snoc sofar n))) (take count rest) count) (drop count rest))
+        else line_at row (so_far.most - 1) (left - count) (longer (front_of repeats line (length (snoc sofar n))) (take count rest) count) (drop count rest))
     by_length rest true e =
         with_first row units lines repeats line left sofar so_far n rest
         ∙ line_at-short row (so_far.most - 1) (left - 1) front (n ∷ rest)
         (read rest ∙ ap (λ b. if b then Short else One (Literal count (take count rest)) (drop count rest)) e)
-        ∙ ap (λ b. if b then Part else line_at row (so_far.most - 1) (left - count) (longer (front_of repeats line (length (Snoc sofar n))) (take count rest) count) (drop count rest)) (sym e)
+        ∙ ap (λ b. if b then Part else line_at row (so_far.most - 1) (left - count) (longer (front_of repeats line (length (snoc sofar n))) (take count rest) count) (drop count rest)) (sym e)
     by_length rest false e =
         let enough : count ≤ length rest = ltb-false _ _ e in
         let sized : length (take count rest) ≡ count = length-take-le count rest enough in
-        let place : length sofar + suc (length (take count rest)) ≡ length (Snoc sofar n) + count = omega (arith, length-snoc sofar n) in
+        let place : length sofar + suc (length (take count rest)) ≡ length (snoc sofar n) + count = omega (arith, length-snoc sofar n) in
         with_first row units lines repeats line left sofar so_far n rest
         ∙ line_at-one row (so_far.most - 1) (left - 1) front (n ∷ rest) (Literal count (take count rest)) (drop count rest)
         (read rest ∙ ap (λ b. if b then Short else One (Literal count (take count rest)) (drop count rest)) e)
         ∙ ap (λ k. line_at row (so_far.most - 1) (k - count) (front_of repeats (line ++ take count rest) (length sofar + suc (length (take count rest)))) (drop count rest)) (sym one_left)
         ∙ ap (λ k. line_at row (so_far.most - 1) (left - count) (front_of repeats (line ++ take count rest) k) (drop count rest)) place
-        ∙ ap (λ b. if b then Part else line_at row (so_far.most - 1) (left - count) (longer (front_of repeats line (length (Snoc sofar n))) (take count rest) count) (drop count rest)) (sym e)
+        ∙ ap (λ b. if b then Part else line_at row (so_far.most - 1) (left - count) (longer (front_of repeats line (length (snoc sofar n))) (take count rest) count) (drop count rest)) (sym e)
 
 line_at-full : (row : KindRow) (most left repeats : ℕ) (line : List ℕ) (place : ℕ) (rest : List ℕ) → left ≡ 0
     → line_at row most left (front_of repeats line place) rest ≡ Group repeats line rest
@@ -239,7 +209,7 @@ line_at-full row most left repeats line place rest none = ap (λ k. line_at row 
 
 pub packet-white : (row : KindRow) (units lines repeats : ℕ) (line : List ℕ) (left : ℕ) (sofar : List ℕ) (n : ℕ) (line' : List ℕ) (left' : ℕ)
     → n ≡ 128 → left' ≡ 0 → row.white ≡ 255 ∷ [] → Stands row units lines state.Packet repeats line left sofar → line' ≡ line ++ replicate left 255
-    → Stands row units lines state.Full repeats line' left' (Snoc sofar n)
+    → Stands row units lines state.Full repeats line' left' (snoc sofar n)
 packet-white row units lines repeats line left sofar n line' left' is_white none_left white so_far grown =
     let one_left : left ≡ suc (left - 1) = omega (arith, so_far.at) in
     let none : suc (left - 1) - suc (left - 1) ≡ 0 = omega arith in
@@ -249,7 +219,7 @@ packet-white row units lines repeats line left sofar n line' left' is_white none
       at = none_left;
       most = left';
       enough = omega arith;
-      is = λ rest. ap (λ k. group_at row units lines (Snoc sofar k ++ rest)) is_white
+      is = λ rest. ap (λ k. group_at row units lines (snoc sofar k ++ rest)) is_white
           ∙ with_first row units lines repeats line left sofar so_far 128 rest
           ∙ line_at-one row (so_far.most - 1) (left - 1) (front_of repeats line (length sofar)) (128 ∷ rest) Clear rest (packet_at-white row (suc (left - 1)) rest)
           ∙ line_at-full row (so_far.most - 1) (suc (left - 1) - suc (left - 1)) repeats (line ++ copies (suc (left - 1)) row.white) (length sofar + 1) rest none
@@ -272,9 +242,9 @@ between row units lines repeats line (suc left) most sofar enough is = record { 
 
 pub run-unit : (row : KindRow) (units lines repeats : ℕ) (line : List ℕ) (left : ℕ) (sofar : List ℕ) (n u : ℕ) (line' : List ℕ) (left' : ℕ)
     → Stands row units lines (state.Run n) repeats line left sofar → line' ≡ line ++ replicate n u → left' ≡ left - n
-    → Stands row units lines (behind_packet left') repeats line' left' (Snoc sofar u)
+    → Stands row units lines (behind_packet left') repeats line' left' (snoc sofar u)
 run-unit row units lines repeats line left sofar n u line' left' so_far grown less =
-    between row units lines repeats line' left' so_far.most (Snoc sofar u) (omega (arith, so_far.enough))
+    between row units lines repeats line' left' so_far.most (snoc sofar u) (omega (arith, so_far.enough))
     (λ rest. with_byte row units lines (state.Run n) repeats line left sofar so_far u rest
     ∙ ap (λ k. line_at row so_far.most k (front_of repeats (line ++ replicate n u) (length sofar + 1)) rest) (sym less)
     ∙ ap (λ bs. line_at row so_far.most left' (front_of repeats bs (length sofar + 1)) rest) (sym grown)

@@ -15,12 +15,6 @@ pub record CopiesSoFar (most : ℕ) (unit line : List ℕ) (count : ℕ) (rest :
   pub within : count ≤ most
   pub is : copies_at most unit line ≡ count + copies_at (most - count) unit rest
 
-pub copies_begin : (most : ℕ) (unit line : List ℕ) → CopiesSoFar most unit line 0 line
-copies_begin most unit line = record {
-  within = omega arith;
-  is = ap (λ k. copies_at k unit line) (let e : most ≡ most - 0 = omega arith in e) ∙ (let e : copies_at (most - 0) unit line ≡ 0 + copies_at (most - 0) unit line = omega arith in e);
-}
-
 copies-more : (left : ℕ) (unit rest : List ℕ) → 0 < left → starts_with nat_eq rest unit ≡ true
     → copies_at left unit rest ≡ 1 + copies_at (left - 1) unit (drop (length unit) rest)
 unfolding copies_at

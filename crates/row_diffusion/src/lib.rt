@@ -6,3 +6,6 @@ mod rows;
 
 pub use packing::pack_row;
 pub use rows::diffuse_row;
+
+#[cfg(test)]
+mod tests;

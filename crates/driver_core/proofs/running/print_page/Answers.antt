@@ -1,4 +1,4 @@
-use Rattle.std.proofs.Common.{◌≡◌, ◌∙◌, ap, refl, rules, sym}
+use Rattle.std.proofs.Common.{rules}
 use Rattle.page_parser.specs.Pages.{page_of}
 use Rattle.driver_core.proofs.Inputs.{input_is, input_refused, job_prints, page_is}
 use Rattle.driver_core.proofs.running.print_page.Goals as goal
