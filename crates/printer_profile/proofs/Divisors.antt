@@ -27,14 +27,14 @@ unfolding greatest_divisor
 greatest zero a b g is some within = absurd (omega arith)
 greatest (suc most) a b g is some within =
     by_test (divides_both (suc most) a b) refl (greatest most a b g is some) where
-  by_test : (test : Bool) → divides_both (suc most) a b ≡ test → (g ≤ most → greatest_divisor most a b ≡ g) → cond test (suc most) (greatest_divisor most a b) ≡ g
-  by_test true passed below =
-      let both = divides (suc most) a b passed in
-      let least : suc most ≤ g = le_from_IsGcd a b g (suc most) is some both.0 both.1 in omega arith
-  by_test false failed below =
-      let here : divides_both g a b ≡ true = passes g a b is.0 is.1 in
-      let apart : g ≡ suc most → ⊥ = λ same. cc (rw same at here) in
-      below (omega arith)
+      by_test : (test : Bool) → divides_both (suc most) a b ≡ test → (g ≤ most → greatest_divisor most a b ≡ g) → cond test (suc most) (greatest_divisor most a b) ≡ g
+      by_test true passed below =
+          let both = divides (suc most) a b passed in
+          let least : suc most ≤ g = le_from_IsGcd a b g (suc most) is some both.0 both.1 in omega arith
+      by_test false failed below =
+          let here : divides_both g a b ≡ true = passes g a b is.0 is.1 in
+          let apart : g ≡ suc most → ⊥ = λ same. cc in
+          below (omega arith)
 
 positive : (a g : ℕ) → 0 < a → g ∣ a → 0 < g
 positive a zero some h = let none : a ≡ 0 = eq-zero_of_zero-dvd h in absurd (omega arith)

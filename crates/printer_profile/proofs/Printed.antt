@@ -1,11 +1,7 @@
 -- The lines of the keys, one after another.
-use Rattle.std.proofs.Common.{◌≡◌, ℕ, ◌+◌, ◌<◌, ◌≤◌, List, [], ◌∷◌, ◌++◌, length, take, get_or, codes, refl, ap, sym, ◌∙◌, arith}
+use Rattle.std.proofs.Common.{◌≡◌, ℕ, ◌+◌, ◌<◌, ◌≤◌, List, ◌++◌, length, take, get_or, ap, sym, ◌∙◌}
 use Rattle.std.specs.List.{flat_map}
 use Rattle.std.proofs.lemmas.List.{flat_map_more, take_all, take_more}
-use Rattle.printer_profile.specs.declared.fields.Profile.{Profile}
-use Rattle.printer_profile.specs.declared.keys.Key.{Key}
-use Rattle.printer_profile.specs.Keys.{all_keys}
-use Rattle.printer_profile.specs.Text.{head, key_line, profile_text_of}
 
 -- one piece more
 pub pieces_more : {X : Type 0} (piece : X → List ℕ) (front : List ℕ) (xs : List X) (i : ℕ) (d : X) (old new : List ℕ) → i < length xs → old ≡ front ++ flat_map piece (take i xs) → new ≡ old ++ piece (get_or xs i d) → new ≡ front ++ flat_map piece (take (i + 1) xs)

@@ -1,5 +1,5 @@
 -- What one line gives, and what the lines and the text then give.
-use Rattle.std.proofs.Common.{◌≡◌, ℕ, ◌+◌, Bool, true, false, List, [], ◌∷◌, length, Option, Some, None, Result, Ok, Err, refl, ap, sym, ◌∙◌, arith}
+use Rattle.std.proofs.Common.{◌≡◌, ℕ, true, false, List, [], ◌∷◌, length, Option, Result, Ok, Err, refl, ap, sym, ◌∙◌, arith}
 use Rattle.std.specs.Char.{is_ascii}
 use Rattle.std.specs.List.{after_first, before_first, list_all, list_any}
 use Rattle.std.specs.Str.{bytes_eq}

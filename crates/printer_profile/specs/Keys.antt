@@ -75,8 +75,17 @@ key_named name = find (λ key. bytes_eq (row_of key).name name) all_keys
 -- the profile before any key is given: the defaults, and 0 and `k` where there is none
 abbrev pub unset : Profile
 unset = record {
-  hdpi = 0; vdpi = 0; nozzles = 0; pitch = 0; inks = K; black_start = 0;
-  limits = 255 ∷ 255 ∷ 255 ∷ 255 ∷ []; left = 0; right = 0; top = 0; bottom = 0;
+  hdpi = 0;
+  vdpi = 0;
+  nozzles = 0;
+  pitch = 0;
+  inks = K;
+  black_start = 0;
+  limits = 255 ∷ 255 ∷ 255 ∷ 255 ∷ [];
+  left = 0;
+  right = 0;
+  top = 0;
+  bottom = 0;
 }
 
 -- the profile with a value put, where the key took it

@@ -1,5 +1,5 @@
 -- Profiles as printers, and the table of the built-in ones.
-use Rattle.std.specs.Prelude.{ℕ, Bool, List, [], ◌∷◌, codes, find, Option}
+use Rattle.std.specs.Prelude.{ℕ, List, [], ◌∷◌, codes, find, Option}
 use Rattle.std.specs.Option.{option_map}
 use Rattle.std.specs.Str.{bytes_eq}
 use Rattle.printer_definitions.specs.Printer.{Printer}
@@ -29,32 +29,77 @@ pub record Named : Type 0 where
 
 abbrev pub tiny1 : Profile
 tiny1 = record {
-  hdpi = 360; vdpi = 360; nozzles = 1; pitch = 1; inks = K; black_start = 0;
-  limits = 255 ∷ 255 ∷ 255 ∷ 255 ∷ []; left = 0; right = 0; top = 0; bottom = 0;
+  hdpi = 360;
+  vdpi = 360;
+  nozzles = 1;
+  pitch = 1;
+  inks = K;
+  black_start = 0;
+  limits = 255 ∷ 255 ∷ 255 ∷ 255 ∷ [];
+  left = 0;
+  right = 0;
+  top = 0;
+  bottom = 0;
 }
 
 abbrev pub tiny : Profile
 tiny = record {
-  hdpi = 360; vdpi = 360; nozzles = 3; pitch = 2; inks = K; black_start = 0;
-  limits = 255 ∷ 255 ∷ 255 ∷ 255 ∷ []; left = 0; right = 0; top = 4; bottom = 0;
+  hdpi = 360;
+  vdpi = 360;
+  nozzles = 3;
+  pitch = 2;
+  inks = K;
+  black_start = 0;
+  limits = 255 ∷ 255 ∷ 255 ∷ 255 ∷ [];
+  left = 0;
+  right = 0;
+  top = 4;
+  bottom = 0;
 }
 
 abbrev pub p360k : Profile
 p360k = record {
-  hdpi = 360; vdpi = 360; nozzles = 31; pitch = 4; inks = K; black_start = 0;
-  limits = 255 ∷ 255 ∷ 255 ∷ 255 ∷ []; left = 45; right = 45; top = 120; bottom = 60;
+  hdpi = 360;
+  vdpi = 360;
+  nozzles = 31;
+  pitch = 4;
+  inks = K;
+  black_start = 0;
+  limits = 255 ∷ 255 ∷ 255 ∷ 255 ∷ [];
+  left = 45;
+  right = 45;
+  top = 120;
+  bottom = 60;
 }
 
 abbrev pub p360cmyk : Profile
 p360cmyk = record {
-  hdpi = 360; vdpi = 360; nozzles = 15; pitch = 4; inks = Cmyk; black_start = 0;
-  limits = 255 ∷ 255 ∷ 255 ∷ 255 ∷ []; left = 45; right = 45; top = 60; bottom = 60;
+  hdpi = 360;
+  vdpi = 360;
+  nozzles = 15;
+  pitch = 4;
+  inks = Cmyk;
+  black_start = 0;
+  limits = 255 ∷ 255 ∷ 255 ∷ 255 ∷ [];
+  left = 45;
+  right = 45;
+  top = 60;
+  bottom = 60;
 }
 
 abbrev pub p720cmyk : Profile
 p720cmyk = record {
-  hdpi = 720; vdpi = 720; nozzles = 31; pitch = 8; inks = Cmyk; black_start = 64;
-  limits = 255 ∷ 224 ∷ 224 ∷ 224 ∷ []; left = 90; right = 90; top = 240; bottom = 120;
+  hdpi = 720;
+  vdpi = 720;
+  nozzles = 31;
+  pitch = 8;
+  inks = Cmyk;
+  black_start = 64;
+  limits = 255 ∷ 224 ∷ 224 ∷ 224 ∷ [];
+  left = 90;
+  right = 90;
+  top = 240;
+  bottom = 120;
 }
 
 -- the table of the built-in profiles

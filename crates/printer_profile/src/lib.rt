@@ -15,11 +15,11 @@ mod validity;
 mod values;
 
 pub use built_ins::built_in;
-pub use laws::printed_is_read;
 pub use fields::Profile;
+pub use laws::printed_is_read;
 pub use printer_definitions::InkSet;
-pub use separation_definitions::Window;
 pub use reading::{TextCause, TextFault, read};
+pub use separation_definitions::Window;
 pub use setting::SetFault;
 pub use stream_definitions::{PageForm, Wanted};
 pub use validity::ProfileFault;

@@ -126,10 +126,8 @@ impl Given {
     fn missing(&self) -> Option<Key>
         ensures { result ≡ missing_of self.now }
     {
-        Key::ALL
-            .iter()
-            .copied()
-            .find(|key| key.is_required() && !self.keys[usize::from(key.place()) - 1])
+        Key::ALL.iter().copied().find(|key| key.is_required()
+            && !self.keys[usize::from(key.place()) - 1])
     }
 
     fn profile(&self) -> Result<Profile, TextFault>
@@ -156,7 +154,10 @@ fn read_lines(text: &[u8]) -> Result<Given, TextFault>
         let (line, behind) = first_line(rest);
         given = match given.with_line(line) {
             Ok(more) => more,
-            Err(cause) => return Err(TextFault { line: number, cause }),
+            Err(cause) => return Err(TextFault {
+                line: number,
+                cause,
+            }),
         };
         number = number.saturating_add(1);
         rest = behind;

@@ -75,7 +75,8 @@ fn a_page_is_printed_inside_its_margins(rt: HostRuntime) {
     assert_eq!(rt; wanted.most_height, 15840);
 }
 
-const TINY: &[u8] = b"escp2-profile 1\nhdpi=360\nvdpi=360\nnozzles=3\npitch=2\ninks=k\nblack_start=0\nlimit_k=255\nlimit_c=255\nlimit_m=255\nlimit_y=255\nleft=0\nright=0\ntop=4\nbottom=0\n";
+const TINY: &[u8] =
+    b"escp2-profile 1\nhdpi=360\nvdpi=360\nnozzles=3\npitch=2\ninks=k\nblack_start=0\nlimit_k=255\nlimit_c=255\nlimit_m=255\nlimit_y=255\nleft=0\nright=0\ntop=4\nbottom=0\n";
 
 #[test]
 fn a_profile_is_printed_behind_what_stands(rt: HostRuntime) -> Result<(), Fail> {
@@ -109,16 +110,32 @@ fn a_text_is_refused_at_its_first_fault(rt: HostRuntime) {
         (b"escp2-profile 1\r", 1, TextCause::BadHead),
         (b"escp2-profile 1\xff\n", 1, TextCause::BadHead),
         (b"escp2-profile 1\nhdpi\xff\n", 2, TextCause::NotAscii),
-        (b"escp2-profile 1\n# \xff\n\r\nhdpi\n", 4, TextCause::NoEquals),
+        (
+            b"escp2-profile 1\n# \xff\n\r\nhdpi\n",
+            4,
+            TextCause::NoEquals,
+        ),
         (b"escp2-profile 1\n #\n", 2, TextCause::NoEquals),
         (b"escp2-profile 1\ndpi=360\n", 2, TextCause::UnknownKey),
-        (b"escp2-profile 1\nhdpi=9\nhdpi=x\n", 3, TextCause::RepeatedKey),
+        (
+            b"escp2-profile 1\nhdpi=9\nhdpi=x\n",
+            3,
+            TextCause::RepeatedKey,
+        ),
         (b"escp2-profile 1\nhdpi=0360\n", 2, TextCause::BadValue),
         (b"escp2-profile 1\nhdpi=65536\n", 2, TextCause::BadValue),
-        (b"escp2-profile 1\npitch=99999999999999999999999\n", 2, TextCause::BadValue),
+        (
+            b"escp2-profile 1\npitch=99999999999999999999999\n",
+            2,
+            TextCause::BadValue,
+        ),
         (b"escp2-profile 1\ninks=cmyk=\n", 2, TextCause::BadValue),
         (b"escp2-profile 1\r\ntop=4\r", 2, TextCause::BadValue),
-        (b"escp2-profile 1\nhdpi=360\npitch=1", 0, TextCause::Missing { key: 2 }),
+        (
+            b"escp2-profile 1\nhdpi=360\npitch=1",
+            0,
+            TextCause::Missing { key: 2 },
+        ),
         (b"escp2-profile 1", 0, TextCause::Missing { key: 1 }),
     ];
     for (text, line, cause) in cases {
@@ -128,6 +145,7 @@ fn a_text_is_refused_at_its_first_fault(rt: HostRuntime) {
 
 #[test]
 fn a_text_may_leave_out_what_has_a_default(rt: HostRuntime) {
-    let text = b"escp2-profile 1\r\n# a printer\n\npitch=1\r\nnozzles=1\ninks=k\nvdpi=360\nhdpi=360".as_slice();
+    let text =
+        b"escp2-profile 1\r\n# a printer\n\npitch=1\r\nnozzles=1\ninks=k\nvdpi=360\nhdpi=360".as_slice();
     assert_eq!(rt; read(text).ok(), built_in("tiny1"));
 }

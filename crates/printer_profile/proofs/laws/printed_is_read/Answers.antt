@@ -1,18 +1,18 @@
-use Rattle.std.proofs.Common.{arith, rules}
-use Rattle.printer_profile.proofs.RoundTrip.{InRange, printed_text}
+use Rattle.std.proofs.Common.{arith}
+use Rattle.printer_profile.proofs.RoundTrip.{printed_text}
 use Rattle.printer_profile.proofs.laws.printed_is_read.Goals as goal
 
 pub returns : goal.returns
-returns c = let t = c.well_formed.0 in printed_text c.args.p (record {
-  hdpi = omega (arith, t.0);
-  vdpi = let v = t.1 in ?;
-  nozzles = let v = t.2 in ?;
-  pitch = omega (arith, t.0.0);
+returns c = printed_text c.args.p (record {
+  hdpi = omega arith;
+  vdpi = omega arith;
+  nozzles = omega arith;
+  pitch = omega arith;
   black_start = omega arith;
-  limit = λ i. let v = t.0.6 in ?;
-  limits = let v = t.6 in ?;
-  left = search rules;
-  right = let v = t.0.0 in ?;
-  top = let v = t.0.0.0 in ?;
-  bottom = omega (arith, t.0);
+  limit = c.are_bytes.ensures;
+  limits = omega arith;
+  left = omega arith;
+  right = omega arith;
+  top = omega arith;
+  bottom = omega arith;
 })

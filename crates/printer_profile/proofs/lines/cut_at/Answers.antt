@@ -1,4 +1,4 @@
-use Rattle.std.proofs.Common.{ℕ, Bool, eqb, refl, sym, ◌∙◌}
+use Rattle.std.proofs.Common.{eqb, refl, sym, ◌∙◌}
 use Rattle.printer_profile.proofs.LineParts.{cut_found, cut_none}
 use Rattle.printer_profile.proofs.lines.cut_at.Goals as goal
 

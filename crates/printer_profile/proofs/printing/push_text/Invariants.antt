@@ -1,4 +1,4 @@
-use Rattle.std.proofs.Common.{◌≡◌, ◌≤◌, ◌+◌, ◌*◌, ◌++◌, codes, take, length}
+use Rattle.std.proofs.Common.{◌≡◌, ◌≤◌, ◌+◌, ◌*◌, ◌++◌, codes, take}
 use Rattle.arrayvec.specs.ArrayString.{array_string_len}
 use Rattle.std.specs.List.{flat_map}
 use Rattle.printer_profile.specs.Keys.{all_keys}

@@ -1,6 +1,6 @@
 use Rattle.std.proofs.Common.{◌≡◌, length, refl, ap, sym, ◌∙◌, arith}
 use Rattle.std.proofs.lemmas.Bool.Decides.{nat_tests}
-use Rattle.printer_profile.specs.Text.{nothing, with_lines}
+use Rattle.printer_profile.specs.Text.{with_lines}
 use Rattle.printer_profile.proofs.TextLemmas.{lines_more, lines_fault, lines_done}
 use Rattle.printer_profile.proofs.reading.read_lines.Goals as goal
 

@@ -1,6 +1,4 @@
-use Rattle.std.proofs.Common.{◌≡◌, ◌∙◌, ◌+◌, ◌*◌, length, sym, refl, arith, rules}
-use Rattle.std.specs.Str.Parse.{digits_value}
-use Rattle.std.proofs.Common.{take}
+use Rattle.std.proofs.Common.{◌∙◌, ◌+◌, sym, arith, rules}
 use Rattle.std.proofs.lemmas.Bool.Decides.{nat_tests}
 use Rattle.printer_profile.proofs.Numbers.{no_length, leading_zero, no_digit, too_great, next_value, next_digit, whole_value}
 use Rattle.printer_profile.proofs.values.number_up_to.Goals as goal
