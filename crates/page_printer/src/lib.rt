@@ -8,3 +8,6 @@ mod passes;
 mod rows;
 
 pub use page::{Halt, send_page};
+
+#[cfg(test)]
+mod tests;

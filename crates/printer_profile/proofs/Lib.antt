@@ -1,3 +1,4 @@
+pub mod CheckedProfiles
 pub mod Divisors
 pub mod LineParts
 pub mod Numbers

@@ -64,7 +64,7 @@ with_line given line =
     else if not (list_any is_equals_sign line) then Err NoEquals
     else with_key given (after_first is_equals_sign line) (key_named (before_first is_equals_sign line))
 
--- the number of the next line, of which 32 bits hold no more
+-- the number of the next line, as far as 32 bits count
 abbrev pub next_line : ℕ → ℕ
 next_line line = min (line + 1) (2 ^ 32 - 1)
 

@@ -1,6 +1,9 @@
 //! What holds of all profiles.
+ghost use Rattle.page_laws.specs.CanPrint.{CanPrint};
+ghost use Rattle.printer_profile.specs.Profiles.{printer_of};
 ghost use Rattle.printer_profile.specs.Text.{profile_text, profile_text_of};
-ghost use Rattle.std.specs.Prelude.{ℕ, ◌≡◌, ◌≤◌, slice_index};
+ghost use Rattle.printer_profile.specs.Validity.{check};
+ghost use Rattle.std.specs.Prelude.{IsOk, ℕ, ◌≡◌, ◌≤◌, slice_index};
 
 use crate::fields::Profile;
 
@@ -14,3 +17,8 @@ pub fn printed_is_read(p: Profile)
 {
     are_bytes(&p.limits);
 }
+
+/// A printer that passes its checks can print: what the laws of the page ask of a printer.
+pub fn checked_can_print(p: Profile)
+    ensures { IsOk (check p) → CanPrint (printer_of p) }
+{}

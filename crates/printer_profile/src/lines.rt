@@ -13,7 +13,8 @@ fn place_of(byte: u8, text: &[u8]) -> Option<usize>
 
 /// What stands before the first such byte, and what stands behind it.
 pub fn cut_at(byte: u8, text: &[u8]) -> Option<(&[u8], &[u8])>
-    ensures { IsCut (λ b. b == byte) text.now (option_map (λ parts. (parts.0.now, parts.1.now)) result) }
+    ensures { IsCut (λ b. b == byte) text.now
+        (option_map (λ parts. (parts.0.now, parts.1.now)) result) }
 {
     match place_of(byte, text) {
         Some(place) => Some((&text[..place], &text[place + 1..])),

@@ -3,7 +3,8 @@ ghost use Rattle.arrayvec.specs.ArrayString.{array_string_len};
 ghost use Rattle.printer_profile.specs.Text.{key_line, profile_text_of};
 ghost use Rattle.printer_profile.specs.Keys.{row_of};
 ghost use Rattle.std.specs.Fmt.{decimal};
-ghost use Rattle.std.specs.Prelude.{◌+◌, ◌++◌, ◌≡◌, ◌≤◌, OnErr, OnOk, []};
+ghost use Rattle.std.specs.Prelude.{◌+◌, ◌++◌, ◌≡◌, ◌≤◌, OnErr, OnOk, [], ◌<◌, length};
+ghost use Rattle.std.specs.Vec.{vec_capacity, vec_len};
 
 use crate::fields::Profile;
 use crate::keys::Key;
@@ -77,6 +78,7 @@ impl Profile {
     pub fn print(&self, out: &mut Vec<u8>) -> Result<(), Memory>
         ensures ok { OnOk result (out.new.items ≡ out.old.items ++ profile_text_of self.now) }
         ensures err { OnErr result (out.new.items ≡ out.old.items) }
+        ensures full { OnErr result (vec_capacity out.old < vec_len out.old + length (profile_text_of self.now)) }
     {
         let mut text = ArrayString::new();
         push_text(self, &mut text);

@@ -1,6 +1,7 @@
 //! Profiles by their names, their checks and their texts.
 use super::*;
 use std::test::Fail;
+use stream_definitions::Kind;
 
 const GOOD: Profile = Profile {
     hdpi: 720,
@@ -73,6 +74,15 @@ fn a_page_is_printed_inside_its_margins(rt: HostRuntime) {
     assert_eq!(rt; wanted.least_width, 181);
     assert_eq!(rt; wanted.least_height, 361);
     assert_eq!(rt; wanted.most_height, 15840);
+    let page = PageForm {
+        width: 5950,
+        height: 8410,
+        kind: Kind::Gray8,
+        bytes_per_line: 5950,
+    };
+    let window = GOOD.window(page);
+    assert_eq!(rt; (window.left, window.top), (90, 240));
+    assert_eq!(rt; (window.width, window.height), (5770, 8050));
 }
 
 const TINY: &[u8] =

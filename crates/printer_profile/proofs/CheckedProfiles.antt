@@ -1,0 +1,49 @@
+-- What a profile that passes its checks can do.
+use Rattle.std.proofs.Common.{◌≡◌, ℕ, ◌≤◌, ◌⊎◌, Bool, true, false, not, cond, ◌||◌, eqb, ltb, Result, Err, inl, inr, refl, arith}
+use Rattle.std.specs.Prelude.{IsOk}
+use Rattle.std.proofs.lemmas.Bool.Decides.{nat_tests}
+use Rattle.page_laws.specs.CanPrint.{CanPrint}
+use Rattle.printer_definitions.specs.Printer.{head_rows, nozzle_step}
+use Rattle.printer_profile.specs.declared.fields.Profile.{Profile}
+use Rattle.printer_profile.specs.declared.validity.ProfileFault.{ProfileFault}
+use Rattle.printer_profile.specs.Profiles.{printer_of}
+use Rattle.printer_profile.specs.Validity.{check, is_resolution}
+
+-- where no fault comes, a test fails
+passed : (test : Bool) (fault : ProfileFault) (rest : Result (Unit {0}) ProfileFault) → IsOk (cond test (Err fault) rest) → (test ≡ false) × IsOk rest
+passed true fault rest h = absurd (cc)
+passed false fault rest h = (refl, h)
+
+both_fail : (a b : Bool) → (not a || not b) ≡ false → (a ≡ true) × (b ≡ true)
+both_fail a b h = (grind (arith, nat_tests), grind (arith, nat_tests))
+
+one_of : (dpi : ℕ) → is_resolution dpi ≡ true → (dpi ≡ 360) ⊎ (dpi ≡ 720)
+one_of dpi h = by_test (eqb dpi 360) refl h where
+  by_test : (test : Bool) → eqb dpi 360 ≡ test → (test || eqb dpi 720) ≡ true → (dpi ≡ 360) ⊎ (dpi ≡ 720)
+  by_test true same h = inl (grind (arith, nat_tests))
+  by_test false other h = inr (grind (arith, nat_tests))
+
+some : (n : ℕ) → eqb n 0 ≡ false → 1 ≤ n
+some n h = grind (arith, nat_tests)
+
+at_most : (most n : ℕ) → ltb most n ≡ false → n ≤ most
+at_most most n h = grind (arith, nat_tests)
+
+pub can_print : (p : Profile) → p.nozzles ≤ 255 → IsOk (check p) → CanPrint (printer_of p)
+can_print p small h =
+    let resolution = passed _ _ _ h in
+    let nozzles = passed _ _ _ resolution.1 in
+    let pitch = passed _ _ _ nozzles.1 in
+    let coprime = passed _ _ _ pitch.1 in
+    let step = passed _ _ _ coprime.1 in
+    let margin = passed _ _ _ step.1 in
+    let both = both_fail (is_resolution p.hdpi) (is_resolution p.vdpi) resolution.0 in
+    record {
+      across = one_of p.hdpi both.0;
+      down = one_of p.vdpi both.1;
+      some_nozzles = some p.nozzles nozzles.0;
+      most_nozzles = small;
+      some_pitch = some p.pitch pitch.0;
+      small_step = at_most 255 (nozzle_step (printer_of p)) step.0;
+      head_room = at_most p.top (head_rows (printer_of p)) margin.0;
+    }

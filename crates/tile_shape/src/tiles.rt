@@ -1,0 +1,108 @@
+//! The tiles of a window: where each pixel's is, what a tile needs, and what it gives.
+
+/// The place of a tile.
+#[derive(Clone, Copy, Debug, PartialEq, Eq)]
+pub struct Place {
+    /// The column, counted from 0 at the left.
+    pub c: u32,
+    /// The band, counted from 0 at the top.
+    pub j: u32,
+}
+
+/// The size of a window.
+#[derive(Clone, Copy, Debug, PartialEq, Eq)]
+pub struct Shape {
+    /// In pixels: 1 to 8,191.
+    pub width: u32,
+    /// In pixels: 1 to 15,840.
+    pub height: u32,
+}
+
+/// Which edges of other tiles a tile needs.
+#[derive(Clone, Copy, Debug, PartialEq, Eq)]
+pub struct Needs {
+    /// The right edge of the tile to its left.
+    pub left: bool,
+    /// The bottom edge of the tile one column to the right, in the band above.
+    pub above: bool,
+    /// The corner edge of the tile above.
+    pub corner: bool,
+}
+
+/// An edge of a tile: errors that it hands to another tile, each at a row 0 to 31 and an offset 0 to 63.
+#[derive(Clone, Copy, Debug, PartialEq, Eq)]
+pub enum Dir {
+    /// Offsets 58 to 63 of every row, for the tile to the right.
+    Right,
+    /// Rows 30 and 31, for the tile one column to the left in the band below.
+    Bottom,
+    /// Offsets 58 to 63 of rows 30 and 31, for the tile below.
+    Corner,
+}
+
+impl Shape {
+    ghost use Rattle.tile_shape.specs.Geometry.{IsIn, IsNeeded, IsPixel, IsReceiver, IsShape, IsTile, bands_of, columns_of};
+    ghost use Rattle.std.specs.Prelude.{IfNone, IfSome, IsTrue, ◌↔◌, ◌≡◌};
+
+    /// How many columns of tiles each band has: 1 to 129. A tile may have no pixel.
+    pub fn columns(&self) -> u32
+        requires { IsShape self.now }
+        ensures { result ≡ columns_of self.now }
+    {
+        (self.width + 62).div_ceil(64)
+    }
+
+    /// How many bands there are: 1 to 495.
+    pub fn bands(&self) -> u32
+        requires { IsShape self.now }
+        ensures { result ≡ bands_of self.now }
+    {
+        self.height.div_ceil(32)
+    }
+
+    /// The tile that has the pixel in column x and row y, which are counted from 0. No other tile has it.
+    pub fn tile_of(&self, x: u32, y: u32) -> Place
+        requires shape { IsShape self.now }
+        requires pixel { IsPixel self.now x y }
+        ensures tile { IsTile self.now result }
+        ensures has { IsIn self.now result x y }
+        ensures no_other { (other : Place) → IsIn self.now other x y → other ≡ result }
+    {
+        let row = y % 32;
+        Place {
+            c: (x + 2 * row) / 64,
+            j: y / 32,
+        }
+    }
+
+    /// Which edges a tile needs: those whose `next` it is.
+    pub fn needs(&self, p: Place) -> Needs
+        requires shape { IsShape self.now }
+        requires tile { IsTile self.now p }
+        ensures left { IsTrue result.left ↔ IsNeeded self.now Dir.Right p }
+        ensures above { IsTrue result.above ↔ IsNeeded self.now Dir.Bottom p }
+        ensures corner { IsTrue result.corner ↔ IsNeeded self.now Dir.Corner p }
+    {
+        Needs {
+            left: p.c > 0,
+            above: p.j > 0 && p.c + 1 < self.columns(),
+            corner: p.j > 0,
+        }
+    }
+
+    /// The tile that receives an edge of tile p, or `None` where the window has no such tile.
+    pub fn next(&self, p: Place, d: Dir) -> Option<Place>
+        requires shape { IsShape self.now }
+        requires tile { IsTile self.now p }
+        ensures receiver { IfSome result (λ to. IsTile self.now to × IsReceiver d p to) }
+        ensures none { IfNone result ((to : Place) → IsTile self.now to → ¬ IsReceiver d p to) }
+    {
+        let Place { c, j } = p;
+        match d {
+            Dir::Right if c + 1 < self.columns() => Some(Place { c: c + 1, j }),
+            Dir::Bottom if c > 0 && j + 1 < self.bands() => Some(Place { c: c - 1, j: j + 1 }),
+            Dir::Corner if j + 1 < self.bands() => Some(Place { c, j: j + 1 }),
+            _ => None,
+        }
+    }
+}
