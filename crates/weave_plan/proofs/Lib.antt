@@ -1,0 +1,3 @@
+pub mod Firings
+pub mod Rounds
+pub mod Rows
