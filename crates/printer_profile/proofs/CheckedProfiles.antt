@@ -7,7 +7,9 @@ use Rattle.printer_definitions.specs.Printer.{head_rows, nozzle_step}
 use Rattle.printer_profile.specs.declared.fields.Profile.{Profile}
 use Rattle.printer_profile.specs.declared.validity.ProfileFault.{ProfileFault}
 use Rattle.printer_profile.specs.Profiles.{printer_of}
-use Rattle.printer_profile.specs.Validity.{check, is_resolution}
+use Rattle.printer_profile.specs.Validity.{check, gcd_of, is_resolution}
+use Rattle.printer_profile.proofs.Divisors.{coprime_is}
+use Rattle.std.specs.Int.{IsGcd}
 
 -- where no fault comes, a test fails
 passed : (test : Bool) (fault : ProfileFault) (rest : Result (Unit {0}) ProfileFault) → IsOk (cond test (Err fault) rest) → (test ≡ false) × IsOk rest
@@ -47,3 +49,11 @@ can_print p small h =
       small_step = at_most 255 (nozzle_step (printer_of p)) step.0;
       head_room = at_most p.top (head_rows (printer_of p)) margin.0;
     }
+
+pub is_coprime : (p : Profile) → IsOk (check p) → IsGcd p.nozzles p.pitch 1
+is_coprime p h =
+    let resolution = passed _ _ _ h in
+    let nozzles = passed _ _ _ resolution.1 in
+    let pitch = passed _ _ _ nozzles.1 in
+    let coprime = passed _ _ _ pitch.1 in
+    coprime_is p.nozzles p.pitch (some p.nozzles nozzles.0) (at_most 1 (gcd_of p.nozzles p.pitch) coprime.0)

@@ -1,10 +1,10 @@
 -- The greatest common divisor, and the one that Euclid's steps find.
-use Rattle.std.proofs.Common.{◌≡◌, ℕ, zero, suc, ◌<◌, ◌≤◌, ◌%◌, Bool, true, false, cond, eqb, ◌&&◌, refl, sym, arith}
+use Rattle.std.proofs.Common.{◌≡◌, ℕ, zero, suc, ◌<◌, ◌≤◌, ◌%◌, Bool, true, false, cond, eqb, ◌&&◌, refl, sym, arith, subst}
 use Prim.Native.Nat.{◌∣◌}
 use Rattle.std.specs.Int.{IsGcd}
-use Rattle.std.proofs.Math.Nat.{eq-zero_of_zero-dvd}
+use Rattle.std.proofs.Math.Nat.{eq-zero_of_zero-dvd, one-dvd}
 use Rattle.std.proofs.lemmas.Bool.Decides.{nat_tests}
-use Rattle.std.proofs.lemmas.Nat.Gcd.{dvd_of_mod-eq-zero, mod-eq-zero_of_dvd, le_from_IsGcd, le_of_dvd}
+use Rattle.std.proofs.lemmas.Nat.Gcd.{dvd_of_mod-eq-zero, dvd_refl, mod-eq-zero_of_dvd, le_from_IsGcd, le_of_dvd}
 use Rattle.printer_profile.specs.Validity.{divides_both, greatest_divisor, gcd_of}
 
 -- two remainders, and the test of both
@@ -43,3 +43,24 @@ positive a (suc g) some h = omega arith
 -- the greatest common divisor of two numbers, of which the first is not 0
 pub gcd_is : (a b g : ℕ) → 0 < a → IsGcd a b g → g ≡ gcd_of a b
 gcd_is a b g some is = sym (greatest a a b g is (positive a g some is.0) (le_of_dvd some is.0))
+
+-- each common divisor is at most the greatest
+most_common : (most a b d : ℕ) → d ≤ most → d ∣ a → d ∣ b → d ≤ greatest_divisor most a b
+unfolding greatest_divisor
+most_common zero a b d within in_a in_b = within
+most_common (suc most) a b d within in_a in_b =
+    by_test (divides_both (suc most) a b) refl (λ below. most_common most a b d below in_a in_b) where
+      by_test : (test : Bool) → divides_both (suc most) a b ≡ test → (d ≤ most → d ≤ greatest_divisor most a b) → d ≤ cond test (suc most) (greatest_divisor most a b)
+      by_test true passed below = within
+      by_test false failed below =
+          let here : divides_both d a b ≡ true = passes d a b in_a in_b in
+          let apart : d ≡ suc most → ⊥ = λ same. cc in
+          below (omega arith)
+
+-- where the greatest common divisor is at most 1, it is 1
+pub coprime_is : (a b : ℕ) → 0 < a → gcd_of a b ≤ 1 → IsGcd a b 1
+coprime_is a b some low = (one-dvd a, one-dvd b, λ d p q. is_one d p (omega (arith, most_common a a b d (le_of_dvd some p) p q)))
+  where
+    is_one : (d : ℕ) → d ∣ a → d ≤ 1 → d ∣ 1
+    is_one zero p le = let none : a ≡ 0 = eq-zero_of_zero-dvd p in absurd (omega arith)
+    is_one (suc d) p le = let one : suc d ≡ 1 = omega arith in subst (λ n. n ∣ 1) (sym one) (dvd_refl 1)

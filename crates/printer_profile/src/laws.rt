@@ -3,6 +3,7 @@ ghost use Rattle.page_laws.specs.CanPrint.{CanPrint};
 ghost use Rattle.printer_profile.specs.Profiles.{printer_of};
 ghost use Rattle.printer_profile.specs.Text.{profile_text, profile_text_of};
 ghost use Rattle.printer_profile.specs.Validity.{check};
+ghost use Rattle.std.specs.Int.{IsGcd};
 ghost use Rattle.std.specs.Prelude.{IsOk, ℕ, ◌≡◌, ◌≤◌, slice_index};
 
 use crate::fields::Profile;
@@ -21,4 +22,10 @@ pub fn printed_is_read(p: Profile)
 /// A printer that passes its checks can print: what the laws of the page ask of a printer.
 pub fn checked_can_print(p: Profile)
     ensures { IsOk (check p) → CanPrint (printer_of p) }
+{}
+
+/// The nozzles and the pitch of a printer that passes its checks have no common divisor, so that its passes fire each
+/// row once.
+pub fn checked_is_coprime(p: Profile)
+    ensures { IsOk (check p) → IsGcd p.nozzles p.pitch 1 }
 {}
