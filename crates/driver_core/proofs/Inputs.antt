@@ -4,7 +4,7 @@ use Rattle.std.specs.List.{AllByRecursion}
 use Rattle.diffusion_definitions.specs.Diffusion.{floyd}
 use Rattle.page_definitions.specs.Printing.{Prints}
 use Rattle.page_laws.proofs.Headline.{one_nozzle-prints}
-use Rattle.page_laws.specs.CanPrint.{CanPrint}
+use Rattle.separation_definitions.specs.CanPrint.{CanPrint}
 use Rattle.page_parser.specs.Parsed.{IsNotOnePage}
 use Rattle.printer_definitions.specs.Printer.{tiny1}
 use Rattle.separation_definitions.specs.Windows.{wanted_by}

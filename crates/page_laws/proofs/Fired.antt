@@ -13,7 +13,7 @@ use Rattle.job_definitions.specs.Machine.{Dot, bits, is_at, overprints, row_dots
 use Rattle.page_definitions.specs.Dots.{Halftone, count_from, pixel_dots, place_of, row_wanted}
 use Rattle.page_definitions.specs.PageBytes.{dot_row, fired_row, has_dot, packed, pass_rows}
 use Rattle.page_definitions.specs.Weave.{nozzle_row}
-use Rattle.page_laws.specs.CanPrint.{CanPrint}
+use Rattle.separation_definitions.specs.CanPrint.{CanPrint}
 use Rattle.page_laws.proofs.Numbers.{column_place}
 use Rattle.page_laws.proofs.Once.{Once, count-append, count-cons}
 use Rattle.page_laws.proofs.Packing.{packed_bytes-len, row-packed}

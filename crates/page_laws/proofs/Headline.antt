@@ -20,7 +20,7 @@ use Rattle.page_definitions.specs.Dots.{Halftone, count_from, dots_wanted, halft
 use Rattle.page_definitions.specs.PageBytes.{Spoken, bytes_of, down_by, fired_passes, fires, has_dot, ink_pass, packed, page_bytes, page_commands, pass_commands, pass_inks, pass_rows, prologue, raster_head, say}
 use Rattle.page_definitions.specs.Printing.{AreSheets, Exactly, Prints}
 use Rattle.page_definitions.specs.Weave.{pass_count}
-use Rattle.page_laws.specs.CanPrint.{ArePages, CanPrint}
+use Rattle.separation_definitions.specs.CanPrint.{ArePages, CanPrint}
 use Rattle.page_laws.proofs.Numbers.{column_step-some, nozzle_step-some, rises, row_units-some, sheet-longest}
 use Rattle.page_laws.proofs.Once.{Once, exactly, wanted-once}
 use Rattle.page_laws.proofs.Fired.{packed-len, pass_rows-len, pass_rows-wide, AllWide}

@@ -13,7 +13,7 @@ use Rattle.printer_definitions.specs.Printer.{Printer, column_step, row_step}
 use Rattle.job_definitions.specs.Machine.{Dot, is_at}
 use Rattle.page_definitions.specs.Dots.{Halftone, count_from, dots_wanted, ink_wanted, pixel_dots, place_of, row_wanted}
 use Rattle.page_definitions.specs.Printing.{Exactly}
-use Rattle.page_laws.specs.CanPrint.{CanPrint}
+use Rattle.separation_definitions.specs.CanPrint.{CanPrint}
 use Rattle.page_laws.proofs.Numbers.{column_place, column_step-some, rises, row_place, row_step-some}
 
 -- ---- counts

@@ -9,7 +9,7 @@ use Rattle.printer_definitions.specs.Printer.{Printer}
 use Rattle.job_definitions.specs.Machine.{Dot}
 use Rattle.page_definitions.specs.Dots.{Halftone, count_from, dots_wanted, ink_wanted, row_wanted}
 use Rattle.page_definitions.specs.Weave.{nozzle_row, pass_count}
-use Rattle.page_laws.specs.CanPrint.{CanPrint}
+use Rattle.separation_definitions.specs.CanPrint.{CanPrint}
 use Rattle.page_laws.proofs.Fired.{nozzle_wanted, pass_wanted}
 use Rattle.page_laws.proofs.Pages.{inks_wanted, passes_all, passes_wanted}
 

@@ -13,7 +13,7 @@ use Rattle.job_definitions.specs.Machine.{Dot, Machine, Sheet, after, execute_fr
 use Rattle.page_definitions.specs.Dots.{Halftone, count_from}
 use Rattle.page_definitions.specs.PageBytes.{Spoken, down_by, fired_passes, fires, has_dot, page_commands, pass_commands, pass_inks, pass_rows, prologue, say}
 use Rattle.page_definitions.specs.Weave.{nozzle_row, pass_count}
-use Rattle.page_laws.specs.CanPrint.{CanPrint}
+use Rattle.separation_definitions.specs.CanPrint.{CanPrint}
 use Rattle.page_laws.proofs.Numbers.{nozzle_step-is, on_grid, rises, row_place, row_step-some, row_units-is}
 use Rattle.page_laws.proofs.Once.{Once, once-front, once-regroup}
 use Rattle.page_laws.proofs.Fired.{pass_wanted}

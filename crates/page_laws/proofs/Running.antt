@@ -15,7 +15,7 @@ use Rattle.job_laws.specs.Said.{Said, entries_of}
 use Rattle.page_definitions.specs.Dots.{Halftone, count_from}
 use Rattle.page_definitions.specs.PageBytes.{Spoken, down_by, has_dot, ink_pass, packed, pass_rows, prologue, raster_head, say}
 use Rattle.page_definitions.specs.Weave.{nozzle_row}
-use Rattle.page_laws.specs.CanPrint.{CanPrint}
+use Rattle.separation_definitions.specs.CanPrint.{CanPrint}
 use Rattle.page_laws.proofs.Numbers.{column_step-some}
 use Rattle.page_laws.proofs.Once.{Once, once-front, once-regroup}
 use Rattle.page_laws.proofs.Fired.{blank-rows, not_twice, on_sheet, pass-fired, pass_rows-len, pass_rows-wide, pass_wanted, rows_dots-fired}

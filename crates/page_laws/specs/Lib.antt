@@ -1,2 +1,1 @@
-pub mod CanPrint
 pub mod Examples

@@ -4,7 +4,7 @@ ghost use Rattle.job_definitions.specs.Machine.{Dot, is_at};
 ghost use Rattle.page_definitions.specs.Dots.{wanted};
 ghost use Rattle.page_definitions.specs.PageBytes.{page_bytes};
 ghost use Rattle.page_definitions.specs.Printing.{Prints};
-ghost use Rattle.page_laws.specs.CanPrint.{ArePages, CanPrint};
+ghost use Rattle.separation_definitions.specs.CanPrint.{ArePages, CanPrint};
 ghost use Rattle.printer_definitions.specs.declared.inks.InkSet.TheVariants.{K};
 ghost use Rattle.printer_definitions.specs.Printer.{Printer};
 ghost use Rattle.std.specs.List.{flat_map};

@@ -1,5 +1,5 @@
 //! What holds of all profiles.
-ghost use Rattle.page_laws.specs.CanPrint.{CanPrint};
+ghost use Rattle.separation_definitions.specs.CanPrint.{CanPrint};
 ghost use Rattle.printer_profile.specs.Profiles.{printer_of};
 ghost use Rattle.printer_profile.specs.Text.{profile_text, profile_text_of};
 ghost use Rattle.printer_profile.specs.Validity.{check};
