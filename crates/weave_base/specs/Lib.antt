@@ -1,4 +1,6 @@
 pub mod Causes
 pub mod InMemory
 pub mod Parts
+pub mod Shelf
+pub mod Shelved
 pub mod Words

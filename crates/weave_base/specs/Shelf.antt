@@ -1,0 +1,46 @@
+-- Texts by their names, and what a read of one answers.
+use Rattle.std.specs.Prelude.{◌≡◌, ℕ, ◌<◌, ◌≤◌, Bool, true, false, List, length, find, Option, Some, None, Result, Ok, Err, vec_len}
+use Rattle.std.specs.Option.{option_map, IsSomeAnd}
+use Rattle.std.specs.Str.{bytes_eq}
+use Rattle.weave_base.specs.Causes.{Rose}
+use Rattle.weave_base.specs.declared.shelf.Found.{Found}
+use Rattle.weave_base.specs.declared.shelf.Found.TheVariants as found
+use Rattle.weave_base.specs.declared.shelf.ShelfStop.{ShelfStop}
+use Rattle.weave_base.specs.declared.shelf.ShelfStop.TheVariants as stop
+
+-- A text of a shelf: its name, and its bytes.
+pub record NamedText : Type 0 where
+  pub name : List ℕ
+  pub bytes : List ℕ
+
+-- the bytes of the first text of this name
+unfoldable pub text_named : List ℕ → List NamedText → Option (List ℕ)
+text_named name files = option_map (λ f. f.bytes) (find (λ f. bytes_eq f.name name) files)
+
+-- what a read of at most `most` bytes answers where these are the bytes of the name, or there is none
+abbrev pub Shows : Option (List ℕ) → ℕ → Found → Type 0
+Shows held most (found.Text text) = held ≡ Some text.items
+Shows held most found.Absent = held ≡ None
+Shows held most found.TooLong = IsSomeAnd held (λ bytes. most < length bytes)
+
+-- the same of the text of this name, where the texts are told
+abbrev pub Finds : Option (List NamedText) → List ℕ → ℕ → Found → Type 0
+Finds None name most answer = Unit {0}
+Finds (Some files) name most answer = Shows (text_named name files) most answer
+
+-- a text that is given has at most `most` bytes
+abbrev pub IsWithin : ℕ → Found → Type 0
+IsWithin most (found.Text text) = vec_len text ≤ most
+IsWithin most found.Absent = Unit {0}
+IsWithin most found.TooLong = Unit {0}
+
+-- whether the shelf failed
+abbrev pub is_failed : {T : Type 0} → Result T ShelfStop → Bool
+is_failed (Ok answer) = false
+is_failed (Err stop.Failed) = true
+is_failed (Err stop.Memory) = false
+
+-- The count of faults never falls, and the shelf fails only where it rose. Want of memory is no fault.
+pub record StopHasCause {T : Type 0} (before now : ℕ) (result : Result T ShelfStop) : Type 0 where
+  pub later : before ≤ now
+  pub failed : result ≡ Err stop.Failed → Rose before now

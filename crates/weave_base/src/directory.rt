@@ -1,0 +1,91 @@
+//! The files of the current folder as a shelf, which tells no content.
+ghost use Rattle.std.specs.Prelude.{IfOk, IsTrue, vec_len, ◌≤◌};
+ghost use Rattle.weave_base.specs.Shelf.{IsWithin};
+
+use crate::{Found, Shelf, ShelfStop};
+use std::alloc::Global;
+use std::io::{ErrorKind, Read};
+use std::marker::Model;
+use std::rt::Files;
+use std::{fs, io};
+
+/// The files of the current folder by their names. Contracts see the count of faults.
+#[derive(Drop)]
+pub struct DirShelf<R: Files> {
+    rt: R,
+    faults: u64,
+}
+
+impl<R: Files> Model for DirShelf<R> {
+    ghost use Rattle.std.specs.Prelude.{ℕ};
+
+    ghost Value = { ℕ };
+
+    ghost view = { λ s. s.faults };
+}
+
+impl<R: Files> DirShelf<R> {
+    ghost use Rattle.std.specs.Prelude.{◌≡◌};
+
+    /// A shelf of the files that the runtime reaches, as they are when they are read.
+    pub fn make(rt: R) -> DirShelf<R>
+        ensures { result ≡ 0 }
+    {
+        DirShelf { rt, faults: 0 }
+    }
+}
+
+impl<R: Files> Shelf for DirShelf<R> {
+    ghost use Rattle.std.specs.Prelude.{IfOk, None, if◌then◌else◌, ◌≡◌};
+    ghost use Rattle.weave_base.specs.Causes.{next_count};
+    ghost use Rattle.weave_base.specs.Shelf.{Finds, IsWithin, StopHasCause, is_failed};
+
+    ghost files = { λ s. None };
+
+    ghost faults = { λ s. s };
+
+    /// A name that leads out of the folder, or to the folder itself, is absent without a look at the disk. What is
+    /// there and is no file that can be read is a fault.
+    fn read_text(&mut self, alloc: Global, name: &str, most: usize) -> Result<Found, ShelfStop>
+        ensures within { IfOk result (IsWithin most) }
+        ensures found { IfOk result (Finds None name.now most) }
+        ensures cause { StopHasCause self.old self.new result }
+        ensures faults { self.new ≡ (if is_failed result then next_count self.old else self.old) }
+    {
+        if !is_plain(name) {
+            return Ok(Found::Absent);
+        }
+        match read_file(&self.rt, alloc, name, most) {
+            Ok(found) => Ok(found),
+            Err(error) if error.kind() == ErrorKind::OutOfMemory => Err(ShelfStop::Memory),
+            Err(_) => {
+                self.faults = self.faults.saturating_add(1);
+                Err(ShelfStop::Failed)
+            }
+        }
+    }
+}
+
+/// Whether a name may be that of a file of the folder.
+fn is_plain(name: &str) -> bool {
+    !name.is_empty() && name != "." && name != ".." && !name.as_bytes().contains(&b'/')
+}
+
+/// Reads a file, or so much of it that shows that it is too long.
+fn read_file<R: Files>(rt: &R, alloc: Global, name: &str, most: usize) -> io::Result<Found>
+    ensures { IfOk result (IsWithin most) }
+{
+    let file = match fs::open(rt, name) {
+        Ok(file) => file,
+        Err(error) if error.kind() == ErrorKind::NotFound => return Ok(Found::Absent),
+        Err(error) => return Err(error),
+    };
+    let mut text = Vec::new(alloc);
+    let limit = (most as u64).saturating_add(1);
+    file.take(limit).read_to_end(&mut text)?;
+    Ok(if text.len() > most {
+        Found::TooLong
+    } else {
+        Found::Text(text)
+    })
+}

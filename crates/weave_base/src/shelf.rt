@@ -1,0 +1,43 @@
+//! Where texts are found by their names.
+use std::alloc::Global;
+
+/// What a shelf has for a name.
+#[derive(Debug, PartialEq, Eq, Drop)]
+pub enum Found {
+    /// The whole text.
+    Text(Vec<u8>),
+    /// No text has the name.
+    Absent,
+    /// The text is longer than was wanted.
+    TooLong,
+}
+
+/// Why a shelf gives no answer.
+#[derive(Clone, Copy, Debug, PartialEq, Eq)]
+pub enum ShelfStop {
+    /// The shelf failed, and counts its faults.
+    Failed,
+    /// The allocator refused memory.
+    Memory,
+}
+
+/// Texts by their names.
+pub trait Shelf {
+    ghost use Rattle.std.specs.Prelude.{IfOk, List, Option, ℕ, ◌≡◌};
+    ghost use Rattle.weave_base.specs.Shelf.{Finds, IsWithin, NamedText, StopHasCause};
+
+    /// The texts, where the shelf tells them: of two of one name the first counts.
+    ghost files: { Self → Option (List NamedText) };
+
+    /// How many reads failed. The count never falls, and may stand still at the last value of 64 bits.
+    ghost faults: { Self → ℕ };
+
+    /// Gives a copy of the text of this name, where it has at most `most` bytes.
+    ///
+    /// `ShelfStop::Failed` comes only where the count of faults rose. After either stop the shelf may be asked again.
+    fn read_text(&mut self, alloc: Global, name: &str, most: usize) -> Result<Found, ShelfStop>
+        ensures within { IfOk result (IsWithin most) }
+        ensures found { IfOk result (Finds (files self.old) name.now most) }
+        ensures cause { StopHasCause (faults self.old) (faults self.new) result }
+        ensures stay { files self.new ≡ files self.old };
+}
