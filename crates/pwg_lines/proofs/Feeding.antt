@@ -1,5 +1,5 @@
 -- The calls of a reader: what is read of a piece so far.
-use Rattle.std.proofs.Common.{◌≡◌, ℕ, zero, suc, ◌+◌, ◌-◌, ◌≤◌, if◌then◌else◌, List, [], ◌++◌, length, take, drop, Some, refl, sym, ◌∙◌, ap, subst, arith, append_assoc, length-append, length-drop}
+use Rattle.std.proofs.Common.{◌≡◌, ℕ, zero, suc, ◌+◌, ◌-◌, ◌≤◌, if◌then◌else◌, IsTrue, List, [], ◌++◌, length, take, drop, Some, refl, sym, ◌∙◌, ap, subst, arith, append_assoc, length-append, length-drop}
 use Rattle.std.proofs.lemmas.Bool.{lt-ltb}
 use Rattle.std.proofs.lemmas.List.{append-nil, length-take-le, take_all}
 use Rattle.std.proofs.Math.Seq.{take-add}
@@ -12,8 +12,21 @@ use Rattle.pwg_lines.specs.declared.reader.State.{State}
 use Rattle.pwg_lines.specs.declared.reader.State.TheVariants as state
 use Rattle.pwg_lines.specs.declared.reader.Fill.{Fill}
 use Rattle.pwg_lines.specs.States.{IsAt, IsOpen, Stands, read_on}
-use Rattle.pwg_lines.specs.Reading.{Ends, IsFault, IsLine, IsMore, StandsFor, Takes, fault_in, fault_of, line_of, next_group}
+use Rattle.pwg_lines.specs.Reading.{Ends, IsAnew, IsFault, IsLine, IsMore, StandsFor, Takes, fault_in, fault_of, is_start, line_of, next_group}
 use Rattle.pwg_lines.proofs.Steps.{front_of, in_state}
+
+-- a reader before a group stands for no bytes
+pub anew_stands : (reader : LineReader) → IsAnew reader → StandsFor reader []
+anew_stands reader fresh = in_state _ _ _ _ _ _ _ _ _ (sym (is_start-is reader.state fresh))
+    (record { at = refl; most = length reader.line.items; enough = omega arith; is = λ rest. refl })
+  where
+    is_start-is : (s : State) → IsTrue (is_start s) → s ≡ state.Start
+    is_start-is state.Start e = refl
+    is_start-is state.Packet e = cc
+    is_start-is (state.Run units) e = cc
+    is_start-is (state.Literal units) e = cc
+    is_start-is state.Full e = cc
+    is_start-is (state.Failed fault) e = cc
 
 -- So many bytes of the piece are read.
 pub record FedSoFar (old now : LineReader) (piece : List ℕ) (used : ℕ) : Type 0 where
@@ -119,7 +132,8 @@ feed_line old now new answer piece used so_far full ends = record {
   some = ends.some;
   fall = ends.fall ∙ so_far.takes.lines_left;
   group = group;
-  anew = ends.anew;
+  anew = anew_stands new ends.fresh;
+  fresh = ends.fresh;
 }
   where
     group : (sofar rest : List ℕ) → StandsFor old sofar → next_group old (sofar ++ take used piece ++ rest) ≡ Group now.repeats (line_of new) rest

@@ -1,5 +1,5 @@
 -- What a reader of lines stands for, and what its calls tell.
-use Rattle.std.specs.Prelude.{◌≡◌, ℕ, ◌+◌, ◌-◌, ◌≤◌, List, [], ◌++◌, length, take, Option, Some, None}
+use Rattle.std.specs.Prelude.{◌≡◌, ℕ, ◌+◌, ◌-◌, ◌≤◌, Bool, true, false, IsTrue, List, [], ◌++◌, length, take, Option, Some, None}
 use Rattle.stream_definitions.specs.declared.pages.PageForm.{PageForm}
 use Rattle.stream_definitions.specs.declared.faults.LineFault.{LineFault}
 use Rattle.stream_definitions.specs.Header.{line_units, row_of}
@@ -49,6 +49,28 @@ StandsFor reader sofar =
     Stands row (line_units row reader.form.width) reader.lines_left reader.state reader.repeats
     (take reader.filled reader.line.items) (length reader.line.items - reader.filled) sofar
 
+-- whether a state is that before a group
+abbrev pub is_start : State → Bool
+is_start state.Start = true
+is_start state.Packet = false
+is_start (state.Run units) = false
+is_start (state.Literal units) = false
+is_start state.Full = false
+is_start (state.Failed fault) = false
+
+-- The reader stands before a group, and has read none of it. It has one proof at most, so that a ghost field may keep it.
+abbrev pub IsAnew : LineReader → Type 0
+IsAnew reader = IsTrue (is_start reader.state)
+
+-- The reader is as it was.
+pub record IsSame (old new : LineReader) : Type 0 where
+  pub form : form_of new ≡ form_of old
+  pub lines_left : lines_left_of new ≡ lines_left_of old
+  pub line : line_of new ≡ line_of old
+  pub fault : fault_of new ≡ fault_of old
+  pub stands : (sofar : List ℕ) → StandsFor old sofar → StandsFor new sofar
+  pub fresh : IsAnew old → IsAnew new
+
 -- The reader has read these bytes behind those before.
 pub record Takes (old new : LineReader) (bytes : List ℕ) : Type 0 where
   pub form : new.form ≡ old.form
@@ -62,7 +84,7 @@ pub record Ends (old new : LineReader) (answer : Fill) : Type 0 where
   pub fall : new.lines_left + old.repeats ≡ old.lines_left
   pub form : new.form ≡ old.form
   pub line : new.line.items ≡ old.line.items
-  pub anew : StandsFor new []
+  pub fresh : IsAnew new
 
 -- ---- answers
 
@@ -98,6 +120,7 @@ pub record IsLine (old new : LineReader) (piece : List ℕ) (used repeats : ℕ)
   pub group : (sofar rest : List ℕ) → StandsFor old sofar
       → next_group old (sofar ++ take used piece ++ rest) ≡ Group repeats (line_of new) rest
   pub anew : StandsFor new []
+  pub fresh : IsAnew new
 
 -- The group has this fault at the last byte that was used, whatever comes after it.
 pub record IsFault (old new : LineReader) (piece : List ℕ) (used : ℕ) (fault : LineFault) : Type 0 where

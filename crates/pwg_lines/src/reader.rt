@@ -64,9 +64,9 @@ pub struct LineReader {
 }
 
 impl LineReader {
-    ghost use Rattle.pwg_lines.specs.Reading.{Ends, IsFault, IsLine, IsMore, OnFault, OnLine, OnMore, StandsFor, Takes, fault_of, form_of, line_of, lines_left_of};
+    ghost use Rattle.pwg_lines.specs.Reading.{Ends, IsAnew, IsFault, IsLine, IsMore, IsSame, OnFault, OnLine, OnMore, StandsFor, Takes, fault_of, form_of, line_of, lines_left_of};
     ghost use Rattle.pwg_lines.specs.States.{IsOpen};
-    ghost use Rattle.std.specs.Prelude.{IfOk, Some};
+    ghost use Rattle.std.specs.Prelude.{IfOk, OnErr, OnOk, Some};
     ghost use Rattle.stream_definitions.specs.declared.faults.LineFault.{LineFault};
 
     /// A reader of the lines of a page of this form. The bytes of one line are allocated here, and no other memory.
@@ -79,6 +79,7 @@ impl LineReader {
         ensures form { IfOk result (λ reader. form_of reader ≡ form) }
         ensures lines_left { IfOk result (λ reader. lines_left_of reader ≡ form.height) }
         ensures anew { IfOk result (λ reader. StandsFor reader []) }
+        ensures fresh { IfOk result IsAnew }
     {
         let Ok(line) = vec![in alloc; 0; form.bytes_per_line as usize] else {
             return Err(Memory);
@@ -91,6 +92,31 @@ impl LineReader {
             filled: 0,
             state: State::Start,
         })
+    }
+
+    /// Begins the lines of another page, of this form, wherever the reader stands. Memory is taken only where a line of
+    /// the new page is longer than any before; where there is none, the reader is as it was.
+    pub fn restart(&mut self, form: PageForm) -> Result<(), Memory>
+        requires narrowest { 1 ≤ form.width }
+        requires widest { form.width ≤ 8191 }
+        requires lowest { 1 ≤ form.height }
+        requires tallest { form.height ≤ 15840 }
+        requires bytes { form.bytes_per_line ≡ line_bytes form.width (row_of form.kind).bits_per_pixel }
+        ensures form { OnOk result (form_of self.new ≡ form) }
+        ensures lines_left { OnOk result (lines_left_of self.new ≡ form.height) }
+        ensures anew { OnOk result (StandsFor self.new []) }
+        ensures fresh { OnOk result (IsAnew self.new) }
+        ensures err { OnErr result (IsSame self.old self.new) }
+    {
+        if self.line.resize(form.bytes_per_line as usize, 0).is_err() {
+            return Err(Memory);
+        }
+        self.form = form;
+        self.lines_left = form.height;
+        self.repeats = 0;
+        self.filled = 0;
+        self.state = State::Start;
+        Ok(())
     }
 
     /// Reads the next bytes of the page's lines, of any number, and takes no memory. It stops behind the last byte of

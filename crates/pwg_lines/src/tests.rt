@@ -22,6 +22,24 @@ fn grey(alloc: Global, width: u32, height: u32) -> Result<LineReader, Fail>
 }
 
 #[test]
+fn a_reader_begins_another_page_in_the_middle_of_a_group(rt: HostRuntime) -> Result<(), Fail> {
+    let mut reader = grey(rt.alloc(), 4, 1)?;
+    assert_eq!(rt; reader.feed(&[0x00, 0x01]).state, Fill::More);
+    let form = PageForm {
+        width: 8,
+        height: 2,
+        kind: Kind::Gray8,
+        bytes_per_line: 8,
+    };
+    assert_eq!(rt; reader.restart(form), Ok(()));
+    assert_eq!(rt; reader.lines_left(), 2);
+    let fed = reader.feed(&[0x01, 0x07, 0x05]);
+    assert_eq!(rt; fed.state, Fill::Line { repeats: 2 });
+    assert_eq!(rt; reader.line(), [0x05; 8].as_slice());
+    Ok(())
+}
+
+#[test]
 fn byte_128_fills_the_line_with_white(rt: HostRuntime) -> Result<(), Fail> {
     let mut reader = grey(rt.alloc(), 8, 1)?;
     let fed = reader.feed(&[0x00, 0x80]);

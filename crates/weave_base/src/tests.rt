@@ -1,8 +1,12 @@
 //! What no contract says: that each call can succeed, and that std's readers and writers are reached.
-use crate::{Failed, MemSink, MemSource, Sink, Source, StdSink, StdSource, Words, put_all};
-use std::io;
+use crate::{
+    DirShelf, Failed, Found, MemShelf, MemSink, MemSource, Shelf, ShelfFile, ShelfStop, Sink,
+    Source, StdSink, StdSource, Words, put_all,
+};
+use std::alloc::Global;
 use std::io::{ErrorKind, Read, Write};
 use std::test::Fail;
+use std::{fs, io};
 
 #[test]
 fn a_source_gives_one_byte_a_call(rt: HostRuntime) -> Result<(), Fail> {
@@ -122,4 +126,83 @@ fn words_are_read_back(rt: HostRuntime) {
     assert_eq!(rt; words.len(), 2);
     assert_eq!(rt; words.get(0), "print");
     assert_eq!(rt; words.get(1), "");
+}
+
+/// A file of a shelf in memory.
+fn file(alloc: Global, name: &str, bytes: &[u8]) -> Result<ShelfFile, Fail> {
+    Ok(ShelfFile {
+        name: String::from_str(alloc, name)?,
+        bytes: Vec::from_slice(alloc, bytes)?,
+    })
+}
+
+/// A text that was found.
+fn text(alloc: Global, bytes: &[u8]) -> Result<Result<Found, ShelfStop>, Fail> {
+    Ok(Ok(Found::Text(Vec::from_slice(alloc, bytes)?)))
+}
+
+#[test]
+fn a_shelf_gives_the_first_text_of_a_name(rt: HostRuntime) -> Result<(), Fail> {
+    let alloc = rt.alloc();
+    let mut files = Vec::new(alloc);
+    files.push(file(alloc, "a", &[1])?)?;
+    files.push(file(alloc, "b", &[7, 8])?)?;
+    files.push(file(alloc, "b", &[9])?)?;
+    let mut shelf = MemShelf::make(files, Vec::new(alloc));
+    assert_eq!(rt; shelf.read_text(alloc, "b", 2), text(alloc, &[7, 8])?);
+    assert_eq!(rt; shelf.read_text(alloc, "b", 1), Ok(Found::TooLong));
+    assert_eq!(rt; shelf.read_text(alloc, "c", 2), Ok(Found::Absent));
+    Ok(())
+}
+
+#[test]
+fn a_shelf_fails_its_second_call(rt: HostRuntime) -> Result<(), Fail> {
+    let alloc = rt.alloc();
+    let mut files = Vec::new(alloc);
+    files.push(file(alloc, "a", &[1])?)?;
+    let mut shelf = MemShelf::make(files, vec![in alloc; 2]?);
+    assert_eq!(rt; shelf.read_text(alloc, "a", 1), text(alloc, &[1])?);
+    assert_eq!(rt; shelf.read_text(alloc, "a", 1), Err(ShelfStop::Failed));
+    assert_eq!(rt; shelf.read_text(alloc, "a", 1), text(alloc, &[1])?);
+    Ok(())
+}
+
+#[test]
+fn a_folder_gives_its_files(rt: HostRuntime) -> Result<(), Fail> {
+    let alloc = rt.alloc();
+    let name = "shelf_test_file";
+    fs::write(&rt, name, [7u8, 8].as_slice())?;
+    let mut shelf = DirShelf::make(&rt);
+    assert_eq!(rt; shelf.read_text(alloc, name, 2), text(alloc, &[7, 8])?);
+    assert_eq!(rt; shelf.read_text(alloc, name, 1), Ok(Found::TooLong));
+    assert_eq!(rt;
+        shelf.read_text(alloc, "./shelf_test_file", 2),
+        Ok(Found::Absent)
+    );
+    fs::remove_file(&rt, name)?;
+    assert_eq!(rt; shelf.read_text(alloc, name, 2), Ok(Found::Absent));
+    Ok(())
+}
+
+#[test]
+fn a_folder_in_the_place_of_a_file_is_a_fault(rt: HostRuntime) -> Result<(), Fail> {
+    let name = "shelf_test_folder";
+    fs::create_dir(&rt, name)?;
+    let mut shelf = DirShelf::make(&rt);
+    assert_eq!(rt;
+        shelf.read_text(rt.alloc(), name, 2),
+        Err(ShelfStop::Failed)
+    );
+    fs::remove_dir(&rt, name)?;
+    Ok(())
+}
+
+#[test]
+fn names_that_leave_the_folder_are_absent(rt: HostRuntime) {
+    let alloc = rt.alloc();
+    let mut shelf = DirShelf::make(&rt);
+    assert_eq!(rt; shelf.read_text(alloc, "", 2), Ok(Found::Absent));
+    assert_eq!(rt; shelf.read_text(alloc, ".", 2), Ok(Found::Absent));
+    assert_eq!(rt; shelf.read_text(alloc, "..", 2), Ok(Found::Absent));
+    assert_eq!(rt; shelf.read_text(alloc, "/dev/null", 2), Ok(Found::Absent));
 }

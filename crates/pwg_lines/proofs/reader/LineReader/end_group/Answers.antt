@@ -1,4 +1,4 @@
-use Rattle.std.proofs.Common.{refl, arith, subst, ◌≤◌, length}
+use Rattle.std.proofs.Common.{refl, arith, subst, ◌≤◌}
 use Rattle.pwg_lines.specs.declared.reader.State.{State}
 use Rattle.pwg_lines.specs.States.{least_repeats}
 use Rattle.pwg_lines.proofs.reader.LineReader.end_group.Goals as goal
@@ -10,5 +10,5 @@ returns c = record {
   fall = omega (arith, c.args.self.now.within);
   form = refl;
   line = refl;
-  anew = record { at = refl; most = length c.args.self.now.line.items; enough = omega arith; is = λ rest. refl };
+  fresh = refl;
 }
