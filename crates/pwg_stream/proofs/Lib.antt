@@ -1,0 +1,6 @@
+pub mod Filling
+pub mod Texts
+pub mod GroupSizes
+pub mod Grouping
+pub mod Fronts
+pub mod Faults

@@ -1,0 +1,37 @@
+-- A group of a page's lines that comes from a source (PWG 5102.4, section 4.4).
+use Rattle.std.specs.Prelude.{◌≡◌, ℕ, ◌+◌, ◌≤◌, List, ◌++◌, Option, Result, Ok, Err}
+use Rattle.std.specs.Io.KnownBytes.{Consumes}
+use Rattle.stream_definitions.specs.declared.faults.LineFault.{LineFault}
+use Rattle.stream_definitions.specs.declared.faults.InputCause.{InputCause}
+use Rattle.stream_definitions.specs.declared.faults.InputCause.TheVariants as cause
+use Rattle.stream_definitions.specs.Groups.{GroupRead}
+use Rattle.stream_definitions.specs.Groups.GroupRead.{Group, Part, Wrong}
+use Rattle.pwg_lines.specs.declared.reader.LineReader.{LineReader}
+use Rattle.pwg_lines.specs.Reading.{line_of, lines_left_of, next_group}
+use Rattle.pwg_stream.specs.declared.groups.GroupStop.{GroupStop}
+use Rattle.pwg_stream.specs.declared.groups.GroupStop.TheVariants as stop
+
+-- The next bytes of the text are a group, whatever comes after them, and were used; its line stands so many times.
+pub record GivesLine (old new : LineReader) (before now : Option (List ℕ)) (repeats : ℕ) : Type 0 where
+  pub some : 1 ≤ repeats
+  pub fall : lines_left_of new + repeats ≡ lines_left_of old
+  pub bytes : List ℕ
+  pub used : Consumes before now bytes
+  pub group : (rest : List ℕ) → next_group old (bytes ++ rest) ≡ Group repeats (line_of new) rest
+
+-- what stands at the front is no group, for this cause
+abbrev pub IsNoGroup : GroupRead → InputCause → Type 0
+IsNoGroup read why = (read ≡ Part) × (why ≡ cause.Truncated)
+
+-- what stands at the front is a group with this fault
+pub record IsBadGroup (read : GroupRead) (why : InputCause) : Type 0 where
+  pub place : ℕ
+  pub fault : LineFault
+  pub wrong : read ≡ Wrong place fault
+  pub why_is : why ≡ cause.Line fault
+
+-- a fact where no group stands there, of the cause
+abbrev pub OnNoGroup : {T : Type 0} → Result T GroupStop → (InputCause → Type 0) → Type 0
+OnNoGroup (Ok x) P = Unit {0}
+OnNoGroup (Err (stop.Input why)) P = P why
+OnNoGroup (Err stop.Read) P = Unit {0}

@@ -1,0 +1,5 @@
+pub mod Text
+pub mod Groups
+pub mod Stops
+pub mod Pages
+pub mod Reading

@@ -1,0 +1,60 @@
+//! A group of lines, from as many pieces as it comes in.
+ghost use Rattle.pwg_lines.specs.Reading.{IsAnew, form_of, lines_left_of, next_group};
+ghost use Rattle.pwg_stream.specs.Groups.{GivesLine, IsBadGroup, IsNoGroup, OnNoGroup};
+ghost use Rattle.pwg_stream.specs.Text.{UsesSome, text_behind};
+ghost use Rattle.pwg_stream.specs.declared.groups.GroupStop.TheVariants as stop;
+ghost use Rattle.std.specs.Prelude.{IfOk, IfSome, IsErrOf, OnErr, OnOk, ◌≡◌, ◌≤◌, ◌⊎◌};
+ghost use Rattle.weave_base.specs.Causes.{Rose};
+
+use crate::unread::Unread;
+use pwg_lines::{Fill, LineReader};
+use stream_definitions::InputCause;
+use weave_base::Source;
+
+/// Why a group is not given.
+#[derive(Clone, Copy, Debug, PartialEq, Eq)]
+pub enum GroupStop {
+    /// None stands there, for this cause.
+    Input(InputCause),
+    /// A read failed.
+    Read,
+}
+
+/// Reads the next group of a page, whose line the reader of lines has then, and gives how often the line stands.
+pub fn read_group<S: Source>(
+    unread: &mut Unread,
+    lines: &mut LineReader,
+    s: &mut S,
+) -> Result<u32, GroupStop>
+    requires { IsAnew lines.old }
+    ensures form { form_of lines.new ≡ form_of lines.old }
+    ensures line { IfOk result (GivesLine lines.old lines.new (text_behind unread.old (S.left s.old)) (text_behind unread.new (S.left s.new))) }
+    ensures fresh { OnOk result (IsAnew lines.new) }
+    ensures lines { OnErr result (lines_left_of lines.new ≡ lines_left_of lines.old) }
+    ensures input { OnNoGroup result (λ why. IfSome (text_behind unread.old (S.left s.old)) (λ text.
+        IsNoGroup (next_group lines.old text) why ⊎ IsBadGroup (next_group lines.old text) why)) }
+    ensures read { IsErrOf result stop.Read → Rose (S.faults s.old) (S.faults s.new) }
+    ensures used { UsesSome (text_behind unread.old (S.left s.old)) (text_behind unread.new (S.left s.new)) }
+    ensures later { S.faults s.old ≤ S.faults s.new }
+{
+    // a group has a count, and at most a byte and a unit for each unit of its line
+    let most = 2 * lines.line().len() as u128 + 1;
+    'pieces: for turn in 0..most + 2 {
+        let fed = lines.feed(unread.bytes());
+        unread.use_up(fed.used);
+        match fed.state {
+            Fill::Line { repeats } => return Ok(repeats),
+            Fill::Fault(fault) => return Err(GroupStop::Input(InputCause::Line(fault))),
+            Fill::More => {}
+        }
+        match unread.more(s) {
+            Err(_) => return Err(GroupStop::Read),
+            Ok(count) => {
+                if count == 0 {
+                    return Err(GroupStop::Input(InputCause::Truncated));
+                }
+            }
+        }
+    }
+    unreachable!()
+}

@@ -1,0 +1,78 @@
+//! The headers of pages (PWG 5102.4, section 4.3).
+ghost use Rattle.pwg_stream.specs.Pages.{GivesHeader};
+ghost use Rattle.pwg_stream.specs.Stops.{OnInput};
+ghost use Rattle.pwg_stream.specs.Text.{UsesSome, text_behind};
+ghost use Rattle.pwg_stream.specs.declared.stops.StreamStop.TheVariants as stop;
+ghost use Rattle.std.specs.Io.KnownBytes.{IsAtEnd};
+ghost use Rattle.std.specs.Prelude.{IfNone, IfOk, IfSome, IsErrOf, IsSome, MatchOption, [], drop, length, take, ◌+◌, ◌-◌, ◌<◌, ◌≡◌, ◌≤◌};
+ghost use Rattle.stream_definitions.specs.Stream.StreamEnd.{Fault};
+ghost use Rattle.stream_definitions.specs.Stream.{pages_from};
+ghost use Rattle.weave_base.specs.Causes.{Rose};
+
+use crate::stops::StreamStop;
+use crate::unread::Unread;
+use pwg_header::{HEADER_LEN, PageForm, Wanted, check, read_header};
+use stream_definitions::InputCause;
+use weave_base::Source;
+
+/// The most pages of a stream.
+const MOST_PAGES: u32 = 9999;
+
+// A fault of a page's header.
+fn refuse<T>(page: u32, cause: InputCause) -> Result<T, StreamStop>
+    ensures { result ≡ Err (stop.Input page 0 cause) }
+{
+    Err(StreamStop::Input {
+        page,
+        line: 0,
+        cause,
+    })
+}
+
+// The header at the front of the bytes, if they are as many.
+fn first_header(bytes: &[u8]) -> Option<&[u8; HEADER_LEN]>
+    ensures { MatchOption result (length bytes.now < 1796) (λ header. (header.now ≡ take 1796 bytes.now) × (1796 ≤ length bytes.now)) }
+{
+    let (header, _behind) = bytes.split_first_chunk()?;
+    Some(header)
+}
+
+/// Reads the header of the page behind so many pages, where one follows. Nothing follows only at the end of the source.
+pub fn read_front<S: Source>(
+    unread: &mut Unread,
+    s: &mut S,
+    pages: u32,
+    want: Wanted,
+) -> Result<Option<PageForm>, StreamStop>
+    requires { pages ≤ 9999 }
+    ensures form { IfOk result (λ o. IfSome o (GivesHeader want (text_behind unread.old (S.left s.old)) (text_behind unread.new (S.left s.new)))) }
+    ensures number { IfOk result (λ o. IsSome o → pages < 9999) }
+    ensures none { IfOk result (λ o. IfNone o (IsAtEnd (text_behind unread.old (S.left s.old)) × IsAtEnd (text_behind unread.new (S.left s.new)))) }
+    ensures input { OnInput result (λ page line cause. IfSome (text_behind unread.old (S.left s.old)) (λ text.
+        pages_from want (9999 - pages) (pages + 1) text ≡ record { pages = []; end = Fault page line cause })) }
+    ensures place { OnInput result (λ page line cause. (page ≡ pages + 1) × (line ≡ 0)) }
+    ensures read { IsErrOf result stop.Read → Rose (S.faults s.old) (S.faults s.new) }
+    ensures memory { IsErrOf result stop.Memory → ⊥ }
+    ensures used { UsesSome (text_behind unread.old (S.left s.old)) (text_behind unread.new (S.left s.new)) }
+    ensures later { S.faults s.old ≤ S.faults s.new }
+{
+    unread.fill(s, 1)?;
+    if unread.bytes().len() == 0 {
+        return Ok(None);
+    }
+    if pages == MOST_PAGES {
+        return refuse(pages + 1, InputCause::TooManyPages);
+    }
+    unread.fill(s, HEADER_LEN)?;
+    let checked = match first_header(unread.bytes()) {
+        None => return refuse(pages + 1, InputCause::Truncated),
+        Some(header) => check(&read_header(header), want),
+    };
+    match checked {
+        Ok(form) => {
+            unread.use_up(HEADER_LEN);
+            Ok(Some(form))
+        }
+        Err(fault) => refuse(pages + 1, InputCause::Header(fault)),
+    }
+}

@@ -1,0 +1,242 @@
+//! A reader of the pages of a stream.
+ghost use Rattle.pwg_lines.specs.Reading.{IsAnew, form_of as form_of_lines, lines_left_of as lines_left_of_lines};
+ghost use Rattle.pwg_stream.specs.Stops.{line_stop};
+ghost use Rattle.std.specs.Option.{ForSome};
+ghost use Rattle.std.specs.Prelude.{None, ◌+◌, ◌≡◌, ◌≤◌};
+
+use crate::groups::{GroupStop, read_group};
+use crate::headers::read_front;
+use crate::stops::StreamStop;
+use crate::sync::read_sync;
+use crate::unread::Unread;
+use pwg_header::{PageForm, Wanted};
+use pwg_lines::LineReader;
+use std::alloc::Global;
+use weave_base::{Memory, Source};
+
+/// Reads the pages of a stream, line by line. It does not hold the source: each call is lent the same one.
+///
+/// It keeps 64 KiB of the stream and one line, whatever the number of pages.
+#[derive(Drop)]
+pub struct PageReader {
+    alloc: Global,
+    unread: Unread,
+    page: u32,
+    lines: Option<LineReader>,
+    given: u32,
+    at_end: bool,
+    stop: Option<StreamStop>,
+    ghost last: { page ≤ 9999 },
+    ghost fresh: { ForSome lines (λ r. stop ≡ None → IsAnew r) },
+    ghost counted: { ForSome lines (λ r. given + lines_left_of_lines r ≡ (form_of_lines r).height) },
+}
+
+// The stop at a line of a page.
+fn stop_at(page: u32, line: u32, fault: GroupStop) -> StreamStop
+    ensures { result ≡ line_stop page line fault }
+{
+    match fault {
+        GroupStop::Input(cause) => StreamStop::Input { page, line, cause },
+        GroupStop::Read => StreamStop::Read,
+    }
+}
+
+impl PageReader {
+    ghost use Rattle.pwg_stream.specs.Reading.{BeginsPage, GivesLines, HasLineFault, form_of, has_ended, line_of, lines_left_of, page_of, stop_of, text_of};
+    ghost use Rattle.pwg_stream.specs.Stops.{OnInput};
+    ghost use Rattle.pwg_stream.specs.Text.{UsesSome};
+    ghost use Rattle.pwg_stream.specs.declared.stops.StreamStop.{StreamStop};
+    ghost use Rattle.pwg_stream.specs.declared.stops.StreamStop.TheVariants as stop;
+    ghost use Rattle.std.specs.Io.KnownBytes.{Consumes, IsAtEnd};
+    ghost use Rattle.std.specs.Prelude.{IfErr, IfNone, IfOk, IfSome, IsErrOf, OnErr, OnOk, Some, [], false, true, ◌<◌, ◌-◌};
+    ghost use Rattle.stream_definitions.specs.Header.{line_bytes, row_of};
+    ghost use Rattle.stream_definitions.specs.Stream.StreamEnd.{Fault};
+    ghost use Rattle.stream_definitions.specs.Stream.{pages_from, stream, sync_word};
+    ghost use Rattle.stream_definitions.specs.declared.pages.Wanted.{Wanted};
+    ghost use Rattle.weave_base.specs.Causes.{Rose};
+
+    /// A reader of the source's pages: it allocates its buffer and reads the sync word.
+    pub fn begin<S: Source>(alloc: Global, s: &mut S) -> Result<PageReader, StreamStop>
+        ensures sync { IfOk result (λ reader. Consumes (S.left s.old) (text_of reader (S.left s.new)) sync_word) }
+        ensures none { IfOk result (λ reader. (page_of reader ≡ 0) × (lines_left_of reader ≡ 0) × (has_ended reader ≡ false)) }
+        ensures going { IfOk result (λ reader. stop_of reader ≡ None) }
+        ensures input { OnInput result (λ page line cause. IfSome (S.left s.old) (λ bytes.
+            (want : Wanted) → stream want bytes ≡ record { pages = []; end = Fault page line cause })) }
+        ensures place { OnInput result (λ page line cause. (page ≡ 0) × (line ≡ 0)) }
+        ensures read { IsErrOf result stop.Read → Rose (S.faults s.old) (S.faults s.new) }
+        ensures used { OnErr result (UsesSome (S.left s.old) (S.left s.new)) }
+        ensures later { S.faults s.old ≤ S.faults s.new }
+    {
+        let mut unread = Unread::make(alloc)?;
+        read_sync(&mut unread, s)?;
+        Ok(PageReader {
+            alloc,
+            unread,
+            page: 0,
+            lines: None,
+            given: 0,
+            at_end: false,
+            stop: None,
+        })
+    }
+
+    /// The form of the next page, or none at the end of the source. The page before must be given to its last line.
+    pub fn next_page<S: Source>(
+        &mut self,
+        s: &mut S,
+        want: Wanted,
+    ) -> Result<Option<PageForm>, StreamStop>
+        requires whole { lines_left_of self.old ≡ 0 }
+        requires narrowest { 1 ≤ want.least_width }
+        requires widest { want.most_width ≤ 8191 }
+        requires lowest { 1 ≤ want.least_height }
+        requires tallest { want.most_height ≤ 15840 }
+
+        ensures page { IfOk result (λ o. IfSome o (BeginsPage want self.old self.new (S.left s.old) (S.left s.new))) }
+        ensures none { has_ended self.old ≡ false → IfOk result (λ o. IfNone o (IsAtEnd (text_of self.old (S.left s.old)) × IsAtEnd (text_of self.new (S.left s.new)))) }
+        ensures input { stop_of self.old ≡ None → OnInput result (λ page line cause. IfSome (text_of self.old (S.left s.old)) (λ text.
+            pages_from want (9999 - page_of self.old) (page_of self.old + 1) text ≡ record { pages = []; end = Fault page line cause })) }
+        ensures place { stop_of self.old ≡ None → OnInput result (λ page line cause. (page ≡ page_of self.old + 1) × (line ≡ 0)) }
+        ensures read { stop_of self.old ≡ None → IsErrOf result stop.Read → Rose (S.faults s.old) (S.faults s.new) }
+
+        ensures used { UsesSome (text_of self.old (S.left s.old)) (text_of self.new (S.left s.new)) }
+        ensures later { S.faults s.old ≤ S.faults s.new }
+
+        // A stop is answered by each later call, and so is the end.
+        ensures going { OnOk result (stop_of self.new ≡ None) }
+        ensures stop { IfErr result (λ stop. stop_of self.new ≡ Some stop) }
+        ensures again { (stop : StreamStop) → stop_of self.old ≡ Some stop → (result ≡ Err stop) × (self.new ≡ self.old) × (s.new ≡ s.old) }
+        ensures end { IfOk result (λ o. IfNone o (has_ended self.new ≡ true)) }
+        ensures end_again { has_ended self.old ≡ true → stop_of self.old ≡ None → (result ≡ Ok None) × (self.new ≡ self.old) × (s.new ≡ s.old) }
+    {
+        if let Some(stop) = self.stop {
+            return Err(stop);
+        }
+        if self.at_end {
+            return Ok(None);
+        }
+        match self.begin_page(s, want) {
+            Err(stop) => {
+                self.stop = Some(stop);
+                Err(stop)
+            }
+            Ok(None) => {
+                self.at_end = true;
+                Ok(None)
+            }
+            Ok(Some(form)) => Ok(Some(form)),
+        }
+    }
+
+    // Begins the next page, where one follows.
+    fn begin_page<S: Source>(
+        &mut self,
+        s: &mut S,
+        want: Wanted,
+    ) -> Result<Option<PageForm>, StreamStop>
+        requires going { stop_of self.old ≡ None }
+        requires narrowest { 1 ≤ want.least_width }
+        requires widest { want.most_width ≤ 8191 }
+        requires lowest { 1 ≤ want.least_height }
+        requires tallest { want.most_height ≤ 15840 }
+        ensures page { IfOk result (λ o. IfSome o (BeginsPage want self.old self.new (S.left s.old) (S.left s.new))) }
+        ensures none { IfOk result (λ o. IfNone o (IsAtEnd (text_of self.old (S.left s.old)) × IsAtEnd (text_of self.new (S.left s.new)))) }
+        ensures going { stop_of self.new ≡ None }
+        ensures input { OnInput result (λ page line cause. IfSome (text_of self.old (S.left s.old)) (λ text.
+            pages_from want (9999 - page_of self.old) (page_of self.old + 1) text ≡ record { pages = []; end = Fault page line cause })) }
+        ensures place { OnInput result (λ page line cause. (page ≡ page_of self.old + 1) × (line ≡ 0)) }
+        ensures read { IsErrOf result stop.Read → Rose (S.faults s.old) (S.faults s.new) }
+        ensures used { UsesSome (text_of self.old (S.left s.old)) (text_of self.new (S.left s.new)) }
+        ensures later { S.faults s.old ≤ S.faults s.new }
+    {
+        match read_front(&mut self.unread, s, self.page, want)? {
+            None => Ok(None),
+            Some(form) => {
+                self.begin_lines(form)?;
+                self.page += 1;
+                Ok(Some(form))
+            }
+        }
+    }
+
+    // Begins the lines of a page of this form, in the memory of the page before where that is enough.
+    fn begin_lines(&mut self, form: PageForm) -> Result<(), Memory>
+        requires going { stop_of self.old ≡ None }
+        requires narrowest { 1 ≤ form.width }
+        requires widest { form.width ≤ 8191 }
+        requires lowest { 1 ≤ form.height }
+        requires tallest { form.height ≤ 15840 }
+        requires bytes { form.bytes_per_line ≡ line_bytes form.width (row_of form.kind).bits_per_pixel }
+        ensures form { OnOk result (form_of self.new ≡ Some form) }
+        ensures lines { OnOk result (lines_left_of self.new ≡ form.height) }
+        ensures unread { self.new.unread ≡ self.old.unread }
+        ensures page { page_of self.new ≡ page_of self.old }
+        ensures going { stop_of self.new ≡ None }
+    {
+        match &mut self.lines {
+            Some(lines) => lines.restart(form)?,
+            None => self.lines = Some(LineReader::begin(self.alloc, form)?),
+        }
+        self.given = 0;
+        Ok(())
+    }
+
+    /// Reads the next group of the page's lines, which are equal, and gives how many they are; `line` is their line.
+    ///
+    /// It never answers `StreamStop::Memory` but where an earlier call did.
+    pub fn next_line<S: Source>(&mut self, s: &mut S) -> Result<u32, StreamStop>
+        requires { 0 < lines_left_of self.old }
+
+        ensures lines { IfOk result (GivesLines self.old self.new (S.left s.old) (S.left s.new)) }
+        ensures input { stop_of self.old ≡ None → OnInput result (HasLineFault self.old (S.left s.old)) }
+        ensures read { stop_of self.old ≡ None → IsErrOf result stop.Read → Rose (S.faults s.old) (S.faults s.new) }
+        ensures memory { stop_of self.old ≡ None → IsErrOf result stop.Memory → ⊥ }
+
+        ensures used { UsesSome (text_of self.old (S.left s.old)) (text_of self.new (S.left s.new)) }
+        ensures later { S.faults s.old ≤ S.faults s.new }
+        ensures left { OnErr result (lines_left_of self.new ≡ lines_left_of self.old) }
+
+        // A stop is answered by each later call.
+        ensures going { OnOk result (stop_of self.new ≡ None) }
+        ensures stop { IfErr result (λ stop. stop_of self.new ≡ Some stop) }
+        ensures again { (stop : StreamStop) → stop_of self.old ≡ Some stop → (result ≡ Err stop) × (self.new ≡ self.old) × (s.new ≡ s.old) }
+    {
+        if let Some(stop) = self.stop {
+            return Err(stop);
+        }
+        match &mut self.lines {
+            None => unreachable!(),
+            Some(lines) => match read_group(&mut self.unread, lines, s) {
+                Ok(repeats) => {
+                    self.given += repeats;
+                    Ok(repeats)
+                }
+                Err(fault) => {
+                    let stop = stop_at(self.page, self.given + 1, fault);
+                    self.stop = Some(stop);
+                    Err(stop)
+                }
+            },
+        }
+    }
+
+    /// How many lines of the page are not yet given.
+    pub fn lines_left(&self) -> u32
+        ensures { result ≡ lines_left_of self.now }
+    {
+        match &self.lines {
+            Some(lines) => lines.lines_left(),
+            None => 0,
+        }
+    }
+
+    /// The bytes of the line that `next_line` gave last, where no other call came after it.
+    pub fn line(&self) -> &[u8]
+        ensures { result.now ≡ line_of self.now }
+    {
+        match &self.lines {
+            Some(lines) => lines.line(),
+            None => &[],
+        }
+    }
+}

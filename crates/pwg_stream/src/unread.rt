@@ -1,0 +1,104 @@
+//! The bytes that were taken of a source and are not yet used.
+ghost use Rattle.pwg_stream.specs.Text.{Grows, text_behind};
+ghost use Rattle.std.specs.Io.KnownBytes.{IsAtEnd, Keeps};
+ghost use Rattle.std.specs.Prelude.{IfOk, List, OnErr, OnOk, [], drop, length, take, vec_len, ℕ, ◌-◌, ◌<◌, ◌≡◌, ◌≤◌};
+ghost use Rattle.stream_definitions.specs.Groups.{IsBytes};
+ghost use Rattle.weave_base.specs.Causes.{HasCause};
+
+use std::alloc::Global;
+use std::marker::Model;
+use weave_base::{Failed, Memory, Source};
+
+/// How many bytes are kept at most.
+pub const ROOM: usize = 65536;
+
+/// The bytes that were taken of a source and are not yet used, in a buffer of fixed size. Contracts see their list.
+#[derive(Drop)]
+pub struct Unread {
+    buffer: Vec<u8>,
+    start: usize,
+    end: usize,
+}
+
+impl Model for Unread {
+    ghost Value = { List ℕ };
+
+    ghost view = { λ u. take (u.end - u.start) (drop u.start u.buffer.items) };
+
+    ghost invariant = { λ u. (u.start ≤ u.end) × (u.end ≤ 65536) × (vec_len u.buffer ≡ 65536) };
+}
+
+// The bytes of a buffer from one place to another.
+fn between(buffer: &[u8], start: usize, end: usize) -> &[u8]
+    requires ordered { start ≤ end }
+    requires inside { end ≤ length buffer.now }
+    ensures bytes { result.now ≡ take (end - start) (drop start buffer.now) }
+    ensures are { IsBytes result.now }
+{
+    &buffer[start..end]
+}
+
+impl Unread {
+    /// No bytes. The buffer is allocated here, and no other memory.
+    pub fn make(alloc: Global) -> Result<Unread, Memory>
+        ensures { IfOk result (λ u. u ≡ []) }
+    {
+        let Ok(buffer) = vec![in alloc; 0; ROOM] else {
+            return Err(Memory);
+        };
+        Ok(Unread {
+            buffer,
+            start: 0,
+            end: 0,
+        })
+    }
+
+    /// The bytes, at most `ROOM`.
+    pub fn bytes(&self) -> &[u8]
+        ensures bytes { result.now ≡ self.now }
+        ensures most { length result.now ≤ ROOM }
+        ensures are { IsBytes result.now }
+    {
+        between(&self.buffer, self.start, self.end)
+    }
+
+    /// Lets the first ones go.
+    pub fn use_up(&mut self, count: usize)
+        requires { count ≤ length self.old }
+        ensures { self.new ≡ drop count self.old }
+    {
+        self.start += count;
+    }
+
+    /// Reads once, behind the bytes, and gives how many came: none only at the end of the source.
+    pub fn more<S: Source>(&mut self, s: &mut S) -> Result<usize, Failed>
+        requires { length self.old < ROOM }
+        ensures grown { IfOk result (Grows self.old self.new) }
+        ensures end { IfOk result (λ count. count ≡ 0 → IsAtEnd (S.left s.new)) }
+        ensures same { OnErr result (self.new ≡ self.old) }
+        ensures text { Keeps (text_behind self.old (S.left s.old)) (text_behind self.new (S.left s.new)) }
+        ensures cause { HasCause (S.faults s.old) (S.faults s.new) result }
+    {
+        self.buffer.copy_within(self.start..self.end, 0);
+        self.end -= self.start;
+        self.start = 0;
+        let count = s.read(&mut self.buffer[self.end..])?;
+        self.end += count;
+        Ok(count)
+    }
+
+    /// Reads until so many bytes are there, or the source is at its end.
+    pub fn fill<S: Source>(&mut self, s: &mut S, need: usize) -> Result<(), Failed>
+        requires { need ≤ ROOM }
+        ensures end { OnOk result (length self.new < need → IsAtEnd (S.left s.new)) }
+        ensures text { Keeps (text_behind self.old (S.left s.old)) (text_behind self.new (S.left s.new)) }
+        ensures cause { HasCause (S.faults s.old) (S.faults s.new) result }
+    {
+        'reads: while self.bytes().len() < need {
+            if self.more(s)? == 0 {
+                return Ok(());
+            }
+        }
+        Ok(())
+    }
+}
