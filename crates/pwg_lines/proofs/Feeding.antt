@@ -1,30 +1,30 @@
 -- The calls of a reader: what is read of a piece so far.
-use Rattle.std.proofs.Common.{◌≡◌, ℕ, zero, suc, ◌+◌, ◌-◌, ◌≤◌, if◌then◌else◌, IsTrue, List, [], ◌++◌, length, take, drop, Some, refl, sym, ◌∙◌, ap, subst, arith, append_assoc, length-append, length-drop}
+use Rattle.std.proofs.Common.{◌≡◌, ℕ, zero, suc, ◌+◌, ◌-◌, ◌*◌, ◌≤◌, if◌then◌else◌, IsTrue, List, [], ◌++◌, length, take, drop, Some, refl, sym, ◌∙◌, ap, subst, arith, append_assoc, length-append, length-drop}
 use Rattle.std.proofs.lemmas.Bool.{lt-ltb}
 use Rattle.std.proofs.lemmas.List.{append-nil, length-take-le, take_all}
 use Rattle.std.proofs.Math.Seq.{take-add}
 use Rattle.stream_definitions.specs.declared.faults.LineFault.{LineFault}
 use Rattle.stream_definitions.specs.Header.{KindRow, line_units, row_of}
-use Rattle.stream_definitions.specs.Groups.{group_at, line_at}
+use Rattle.stream_definitions.specs.Groups.{GroupFront, copies, group_at, line_at}
 use Rattle.stream_definitions.specs.Groups.GroupRead.{Group, Part, Wrong}
 use Rattle.pwg_lines.specs.declared.reader.LineReader.{LineReader}
 use Rattle.pwg_lines.specs.declared.reader.State.{State}
 use Rattle.pwg_lines.specs.declared.reader.State.TheVariants as state
 use Rattle.pwg_lines.specs.declared.reader.Fill.{Fill}
-use Rattle.pwg_lines.specs.States.{IsAt, IsOpen, Stands, read_on}
+use Rattle.pwg_lines.specs.States.{IsAt, IsOpen, Stands, longer, pending, read_behind, read_on}
 use Rattle.pwg_lines.specs.Reading.{Ends, IsAnew, IsFault, IsLine, IsMore, StandsFor, Takes, fault_in, fault_of, is_start, line_of, next_group}
 use Rattle.pwg_lines.proofs.Steps.{front_of, in_state}
 
 -- a reader before a group stands for no bytes
 pub anew_stands : (reader : LineReader) → IsAnew reader → StandsFor reader []
-anew_stands reader fresh = in_state _ _ _ _ _ _ _ _ _ (sym (is_start-is reader.state fresh))
-    (record { at = refl; most = length reader.line.items; enough = omega arith; is = λ rest. refl })
+anew_stands reader fresh = in_state _ _ _ _ _ _ _ _ _ _ (sym (is_start-is reader.state fresh))
+    (record { at = refl; most = reader.left; enough = omega arith; is = λ rest. refl })
   where
     is_start-is : (s : State) → IsTrue (is_start s) → s ≡ state.Start
     is_start-is state.Start e = refl
     is_start-is state.Packet e = cc
-    is_start-is (state.Run units) e = cc
-    is_start-is (state.Literal units) e = cc
+    is_start-is (state.Run units read) e = cc
+    is_start-is (state.Literal bytes) e = cc
     is_start-is state.Full e = cc
     is_start-is (state.Failed fault) e = cc
 
@@ -37,16 +37,16 @@ pub record FedSoFar (old now : LineReader) (piece : List ℕ) (used : ℕ) : Typ
 open-no_fault : (s : State) (fault : LineFault) → IsOpen s → fault_in s ≡ Some fault → ⊥
 open-no_fault state.Start fault is e = cc
 open-no_fault state.Packet fault is e = cc
-open-no_fault (state.Run units) fault is e = cc
-open-no_fault (state.Literal units) fault is e = cc
+open-no_fault (state.Run units read) fault is e = cc
+open-no_fault (state.Literal bytes) fault is e = cc
 open-no_fault state.Full fault is e = is
 open-no_fault (state.Failed other) fault is e = is
 
 pub still_open : (s : State) → (s ≡ state.Full → ⊥) → ((fault : LineFault) → s ≡ state.Failed fault → ⊥) → IsOpen s
 still_open state.Start full failed = tt
 still_open state.Packet full failed = tt
-still_open (state.Run units) full failed = tt
-still_open (state.Literal units) full failed = tt
+still_open (state.Run units read) full failed = tt
+still_open (state.Literal bytes) full failed = tt
 still_open state.Full full failed = full refl
 still_open (state.Failed fault) full failed = failed fault refl
 
@@ -68,19 +68,25 @@ feed_step old now new piece rest used more so_far is_open behind fits takes = re
   again = λ fault e. absurd (open-no_fault now.state fault is_open (ap fault_of (so_far.again fault e).1 ∙ e));
 }
 
+nothing_behind : (row : KindRow) (most left : ℕ) (front : GroupFront) (makes : List ℕ → List ℕ) (count : ℕ) → 1 ≤ count
+    → read_behind row most left front makes count [] ≡ Part
+nothing_behind row most left front makes count some =
+    ap (λ b. if b then Part else line_at row most left (longer front (makes (take count [])) count) (drop count [])) (lt-ltb 0 count some)
+
 -- nothing is known from no bytes
-read_on-nothing : (s : State) (row : KindRow) (units lines most left repeats : ℕ) (line : List ℕ) (place : ℕ) (sofar : List ℕ)
-    → IsOpen s → IsAt s left sofar → read_on s row units lines most left (front_of repeats line place) [] ≡ Part
+read_on-nothing : (s : State) (row : KindRow) (units lines most left repeats : ℕ) (line : List ℕ) (place : ℕ) (part sofar : List ℕ)
+    → IsOpen s → IsAt s row left sofar → read_on s row units lines most left (front_of repeats line place) part [] ≡ Part
 unfolding line_at
-read_on-nothing state.Start row units lines most left repeats line place sofar is at = refl
-read_on-nothing state.Packet row units lines most zero repeats line place sofar is at = absurd (omega arith)
-read_on-nothing state.Packet row units lines zero (suc left) repeats line place sofar is at = refl
-read_on-nothing state.Packet row units lines (suc most) (suc left) repeats line place sofar is at = refl
-read_on-nothing (state.Run n) row units lines most left repeats line place sofar is at = refl
-read_on-nothing (state.Literal n) row units lines most left repeats line place sofar is at =
-    ap (λ b. if b then Part else read_on state.Packet row units lines most (left - n) (front_of repeats (line ++ take n []) (place + n)) (drop n [])) (lt-ltb 0 n at)
-read_on-nothing state.Full row units lines most left repeats line place sofar is at = absurd is
-read_on-nothing (state.Failed fault) row units lines most left repeats line place sofar is at = absurd is
+read_on-nothing state.Start row units lines most left repeats line place part sofar is at = refl
+read_on-nothing state.Packet row units lines most zero repeats line place part sofar is at = absurd (omega arith)
+read_on-nothing state.Packet row units lines zero (suc left) repeats line place part sofar is at = refl
+read_on-nothing state.Packet row units lines (suc most) (suc left) repeats line place part sofar is at = refl
+read_on-nothing (state.Run n read) row units lines most left repeats line place part sofar is at =
+    nothing_behind row most left (front_of repeats line place) (λ bytes. copies n (part ++ bytes)) (row.unit - read) (omega arith)
+read_on-nothing (state.Literal n) row units lines most left repeats line place part sofar is at =
+    nothing_behind row most left (front_of repeats line place) (λ bytes. bytes) n at
+read_on-nothing state.Full row units lines most left repeats line place part sofar is at = absurd is
+read_on-nothing (state.Failed fault) row units lines most left repeats line place part sofar is at = absurd is
 
 -- the group is read as its reader reads it, in a page of the same form
 same_group : (old now : LineReader) (bytes : List ℕ) → now.form ≡ old.form → now.lines_left ≡ old.lines_left → next_group old bytes ≡ next_group now bytes
@@ -107,7 +113,7 @@ feed_more old now piece used so_far is_open all = record {
         same_group old now (sofar ++ piece) so_far.takes.form so_far.takes.lines_left
         ∙ ap (next_group now) (sym (append-nil (sofar ++ piece)))
         ∙ here.is []
-        ∙ read_on-nothing now.state _ _ _ _ _ _ _ _ (sofar ++ piece) is_open here.at
+        ∙ read_on-nothing now.state _ _ _ _ _ _ _ _ _ (sofar ++ piece) is_open here.at
 
 pub feed_fault : (old now : LineReader) (piece : List ℕ) (used : ℕ) (fault : LineFault) → FedSoFar old now piece used → now.state ≡ state.Failed fault
     → IsFault old now piece used fault
@@ -122,9 +128,16 @@ feed_fault old now piece used fault so_far failed = record {
         × (next_group old (sofar ++ take used piece ++ rest) ≡ Wrong place fault)
     wrong sofar rest stood =
         let read : List ℕ = sofar ++ take used piece in
-        let here : Stands _ _ _ (state.Failed fault) _ _ _ read = in_state _ _ _ _ _ _ _ _ _ failed (so_far.takes.stands sofar stood) in
+        let here : Stands _ _ _ (state.Failed fault) _ _ _ _ read = in_state _ _ _ _ _ _ _ _ _ _ failed (so_far.takes.stands sofar stood) in
         let sized : length read ≡ length sofar + used = length-append sofar (take used piece) ∙ ap (λ k. length sofar + k) (length-take-le used piece so_far.within) in
         (length read - 1, omega (arith, here.at), same_group old now (read ++ rest) so_far.takes.form so_far.takes.lines_left ∙ here.is rest)
+
+-- where no unit is left, the line is filled
+full_line : (now : LineReader) → now.state ≡ state.Full → now.left ≡ 0 → length now.line.items ≤ now.filled
+full_line now full none =
+    let none_pending : pending (row_of now.form.kind) now.state ≡ 0 = ap (pending (row_of now.form.kind)) full in
+    let none_left : now.left * (row_of now.form.kind).unit ≡ 0 = ap (λ k. k * (row_of now.form.kind).unit) none ∙ omega arith in
+    omega (arith, now.fits, none_pending, none_left)
 
 pub feed_line : (old now new : LineReader) (answer : Fill) (piece : List ℕ) (used : ℕ) → FedSoFar old now piece used → now.state ≡ state.Full → Ends now new answer
     → IsLine old new piece used now.repeats
@@ -139,8 +152,8 @@ feed_line old now new answer piece used so_far full ends = record {
     group : (sofar rest : List ℕ) → StandsFor old sofar → next_group old (sofar ++ take used piece ++ rest) ≡ Group now.repeats (line_of new) rest
     group sofar rest stood =
         let read : List ℕ = sofar ++ take used piece in
-        let here : Stands _ _ _ state.Full _ _ _ read = in_state _ _ _ _ _ _ _ _ _ full (so_far.takes.stands sofar stood) in
-        let whole : take now.filled now.line.items ≡ now.line.items = take_all now.filled now.line.items (omega (arith, here.at)) in
+        let here : Stands _ _ _ state.Full _ _ _ _ read = in_state _ _ _ _ _ _ _ _ _ _ full (so_far.takes.stands sofar stood) in
+        let whole : take now.filled now.line.items ≡ now.line.items = take_all now.filled now.line.items (omega (arith, full_line now full here.at)) in
         same_group old now (read ++ rest) so_far.takes.form so_far.takes.lines_left
         ∙ here.is rest
         ∙ ap (λ bs. Group now.repeats bs rest) (whole ∙ sym ends.line)

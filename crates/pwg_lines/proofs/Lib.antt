@@ -1,4 +1,7 @@
+pub mod Filling
+pub mod KindTable
 pub mod Steps
 pub mod Feeding
+pub mod Within
 pub mod Writing
 pub mod Spelling

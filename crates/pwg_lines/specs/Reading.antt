@@ -1,5 +1,5 @@
 -- What a reader of lines stands for, and what its calls tell.
-use Rattle.std.specs.Prelude.{◌≡◌, ℕ, ◌+◌, ◌-◌, ◌≤◌, Bool, true, false, IsTrue, List, [], ◌++◌, length, take, Option, Some, None}
+use Rattle.std.specs.Prelude.{◌≡◌, ℕ, ◌+◌, ◌≤◌, Bool, true, false, IsTrue, List, [], ◌++◌, length, take, drop, Option, Some, None}
 use Rattle.stream_definitions.specs.declared.pages.PageForm.{PageForm}
 use Rattle.stream_definitions.specs.declared.faults.LineFault.{LineFault}
 use Rattle.stream_definitions.specs.Header.{line_units, row_of}
@@ -10,7 +10,7 @@ use Rattle.pwg_lines.specs.declared.reader.State.{State}
 use Rattle.pwg_lines.specs.declared.reader.State.TheVariants as state
 use Rattle.pwg_lines.specs.declared.reader.Fill.{Fill}
 use Rattle.pwg_lines.specs.declared.reader.Fill.TheVariants.{More, Line, Fault}
-use Rattle.pwg_lines.specs.States.{Stands}
+use Rattle.pwg_lines.specs.States.{Stands, read_in}
 
 -- the form of the page whose lines are read
 abbrev pub form_of : LineReader → PageForm
@@ -28,8 +28,8 @@ line_of reader = reader.line.items
 abbrev pub fault_in : State → Option LineFault
 fault_in state.Start = None
 fault_in state.Packet = None
-fault_in (state.Run units) = None
-fault_in (state.Literal units) = None
+fault_in (state.Run units read) = None
+fault_in (state.Literal bytes) = None
 fault_in state.Full = None
 fault_in (state.Failed fault) = Some fault
 
@@ -47,14 +47,14 @@ abbrev pub StandsFor : LineReader → List ℕ → Type 0
 StandsFor reader sofar =
     let row = row_of reader.form.kind in
     Stands row (line_units row reader.form.width) reader.lines_left reader.state reader.repeats
-    (take reader.filled reader.line.items) (length reader.line.items - reader.filled) sofar
+    (take reader.filled reader.line.items) (take (read_in reader.state) (drop reader.filled reader.line.items)) reader.left sofar
 
 -- whether a state is that before a group
 abbrev pub is_start : State → Bool
 is_start state.Start = true
 is_start state.Packet = false
-is_start (state.Run units) = false
-is_start (state.Literal units) = false
+is_start (state.Run units read) = false
+is_start (state.Literal bytes) = false
 is_start state.Full = false
 is_start (state.Failed fault) = false
 

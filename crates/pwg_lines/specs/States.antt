@@ -1,35 +1,62 @@
 -- Where in a group a reader stands, and what it makes of the bytes to come.
-use Rattle.std.specs.Prelude.{◌≡◌, ℕ, zero, suc, ◌+◌, ◌-◌, ◌≤◌, nat_lt, if◌then◌else◌, List, [], ◌∷◌, ◌++◌, length, take, drop, replicate}
+use Rattle.std.specs.Prelude.{◌≡◌, ℕ, zero, suc, ◌+◌, ◌-◌, ◌*◌, ◌<◌, ◌≤◌, nat_lt, if◌then◌else◌, List, [], ◌++◌, length, take, drop}
 use Rattle.stream_definitions.specs.Header.{KindRow}
-use Rattle.stream_definitions.specs.Groups.{GroupFront, GroupRead, group_at, line_at}
+use Rattle.stream_definitions.specs.Groups.{GroupFront, GroupRead, copies, group_at, line_at}
 use Rattle.stream_definitions.specs.Groups.GroupRead.{Group, Part, Wrong}
 use Rattle.pwg_lines.specs.declared.reader.State.{State}
 use Rattle.pwg_lines.specs.declared.reader.State.TheVariants.{Start, Packet, Run, Literal, Full, Failed}
 
--- how many units of the line the packet that is begun still gives
-abbrev pub pending : State → ℕ
-pending Start = 0
-pending Packet = 0
-pending (Run units) = units
-pending (Literal units) = units
-pending Full = 0
-pending (Failed fault) = 0
+-- how many bytes of the line the packet that is begun still gives
+abbrev pub pending : KindRow → State → ℕ
+pending row Start = 0
+pending row Packet = 0
+pending row (Run units read) = units * row.unit
+pending row (Literal bytes) = bytes
+pending row Full = 0
+pending row (Failed fault) = 0
+
+-- how many units the run that is begun gives, or how many bytes the literal
+abbrev pub gives : State → ℕ
+gives Start = 0
+gives Packet = 0
+gives (Run units read) = units
+gives (Literal bytes) = bytes
+gives Full = 0
+gives (Failed fault) = 0
 
 -- and at least so many
-abbrev pub least_pending : State → ℕ
-least_pending Start = 0
-least_pending Packet = 0
-least_pending (Run units) = 1
-least_pending (Literal units) = 1
-least_pending Full = 0
-least_pending (Failed fault) = 0
+abbrev pub least_gives : State → ℕ
+least_gives Start = 0
+least_gives Packet = 0
+least_gives (Run units read) = 1
+least_gives (Literal bytes) = 1
+least_gives Full = 0
+least_gives (Failed fault) = 0
+
+-- how many bytes of the unit of a run are read; they stand behind the filled bytes of the line
+abbrev pub read_in : State → ℕ
+read_in Start = 0
+read_in Packet = 0
+read_in (Run units read) = read
+read_in (Literal bytes) = 0
+read_in Full = 0
+read_in (Failed fault) = 0
+
+-- how many units of the line at least are behind the packet that is begun
+abbrev pub least_left : State → ℕ
+least_left Start = 0
+least_left Packet = 1
+least_left (Run units read) = 0
+least_left (Literal bytes) = 0
+least_left Full = 0
+least_left (Failed fault) = 0
 
 -- how often the line of a group stands at least, where its count is read
 abbrev pub least_repeats : State → ℕ
 least_repeats Start = 0
 least_repeats Packet = 1
-least_repeats (Run units) = 1
-least_repeats (Literal units) = 1
+least_repeats (Run units read) = 1
+least_repeats (Literal bytes) = 1
 least_repeats Full = 1
 least_repeats (Failed fault) = 0
 
@@ -37,8 +64,8 @@ least_repeats (Failed fault) = 0
 abbrev pub IsOpen : State → Type 0
 IsOpen Start = Unit {0}
 IsOpen Packet = Unit {0}
-IsOpen (Run units) = Unit {0}
-IsOpen (Literal units) = Unit {0}
+IsOpen (Run units read) = Unit {0}
+IsOpen (Literal bytes) = Unit {0}
 IsOpen Full = ⊥
 IsOpen (Failed fault) = ⊥
 
@@ -55,32 +82,38 @@ longer front more count = record {
   place = front.place + count;
 }
 
--- What the bytes to come are read as where the group so far lacks `left` units of its line; units have one byte.
-abbrev pub read_on : State → KindRow → ℕ → ℕ → ℕ → ℕ → GroupFront → List ℕ → GroupRead
-read_on Start row units lines most left front rest = group_at row units lines rest
-read_on Packet row units lines most left front rest = line_at row most left front rest
-read_on (Run n) row units lines most left front [] = Part
-read_on (Run n) row units lines most left front (unit ∷ rest) =
-    line_at row most (left - n) (longer front (replicate n unit) 1) rest
-read_on (Literal n) row units lines most left front rest =
-    if nat_lt (length rest) n then Part
-    else line_at row most (left - n) (longer front (take n rest) n) (drop n rest)
-read_on Full row units lines most left front rest = Group front.repeats front.line rest
-read_on (Failed fault) row units lines most left front rest = Wrong (front.place - 1) fault
+-- What the bytes to come are read as where the group so far waits for so many bytes, which make these more of its line,
+-- and `left` units of the line are behind them.
+abbrev pub read_behind : KindRow → ℕ → ℕ → GroupFront → (List ℕ → List ℕ) → ℕ → List ℕ → GroupRead
+read_behind row most left front makes count rest =
+    if nat_lt (length rest) count then Part
+    else line_at row most left (longer front (makes (take count rest)) count) (drop count rest)
+
+-- What the bytes to come are read as where `left` units of the line of the group so far are behind the packet that is
+-- begun, and `part` is what is read of the unit of a run.
+abbrev pub read_on : State → KindRow → ℕ → ℕ → ℕ → ℕ → GroupFront → List ℕ → List ℕ → GroupRead
+read_on Start row units lines most left front part rest = group_at row units lines rest
+read_on Packet row units lines most left front part rest = line_at row most left front rest
+read_on (Run n read) row units lines most left front part rest =
+    read_behind row most left front (λ bytes. copies n (part ++ bytes)) (row.unit - read) rest
+read_on (Literal n) row units lines most left front part rest = read_behind row most left front (λ bytes. bytes) n rest
+read_on Full row units lines most left front part rest = Group front.repeats front.line rest
+read_on (Failed fault) row units lines most left front part rest = Wrong (front.place - 1) fault
 
 -- A group has no bytes before its start, and something is to come in each other state but the last ones.
-abbrev pub IsAt : State → ℕ → List ℕ → Type 0
-IsAt Start left sofar = sofar ≡ []
-IsAt Packet left sofar = 1 ≤ left
-IsAt (Run n) left sofar = Unit {0}
-IsAt (Literal n) left sofar = 1 ≤ n
-IsAt Full left sofar = left ≡ 0
-IsAt (Failed fault) left sofar = 1 ≤ length sofar
+abbrev pub IsAt : State → KindRow → ℕ → List ℕ → Type 0
+IsAt Start row left sofar = sofar ≡ []
+IsAt Packet row left sofar = 1 ≤ left
+IsAt (Run n read) row left sofar = read < row.unit
+IsAt (Literal n) row left sofar = 1 ≤ n
+IsAt Full row left sofar = left ≡ 0
+IsAt (Failed fault) row left sofar = 1 ≤ length sofar
 
--- A reader in this state, with this much of the line, reads what follows as the whole group would be read.
-pub record Stands (row : KindRow) (units lines : ℕ) (state : State) (repeats : ℕ) (line : List ℕ) (left : ℕ) (sofar : List ℕ) : Type 0 where
-  pub at : IsAt state left sofar
+-- A reader in this state, with this much of the line and of the unit of a run, reads what follows as the whole group
+-- would be read.
+pub record Stands (row : KindRow) (units lines : ℕ) (state : State) (repeats : ℕ) (line part : List ℕ) (left : ℕ) (sofar : List ℕ) : Type 0 where
+  pub at : IsAt state row left sofar
   pub most : ℕ
-  pub enough : left - pending state ≤ most
+  pub enough : left ≤ most
   pub is : (rest : List ℕ) → group_at row units lines (sofar ++ rest)
-      ≡ read_on state row units lines most left (record { repeats = repeats; line = line; place = length sofar }) rest
+      ≡ read_on state row units lines most left (record { repeats = repeats; line = line; place = length sofar }) part rest

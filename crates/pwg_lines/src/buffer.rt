@@ -1,13 +1,6 @@
 //! The bytes of a line, of which the first ones are filled.
-ghost use Rattle.std.specs.Prelude.{length, replicate, take, ◌++◌, ◌+◌, ◌≡◌, ◌≤◌};
-
-/// Puts the byte so many times behind the filled ones.
-pub fn fill_run(line: &mut [u8], filled: usize, count: usize, byte: u8)
-    requires { filled + count ≤ length line.old }
-    ensures { take (filled + count) line.new ≡ take filled line.old ++ replicate count byte }
-{
-    line[filled..filled + count].fill(byte);
-}
+ghost use Rattle.std.specs.Prelude.{drop, length, take, ◌*◌, ◌++◌, ◌+◌, ◌≡◌, ◌≤◌};
+ghost use Rattle.stream_definitions.specs.Groups.{copies};
 
 /// Puts the bytes behind the filled ones.
 pub fn fill_bytes(line: &mut [u8], filled: usize, bytes: &[u8])
@@ -15,4 +8,36 @@ pub fn fill_bytes(line: &mut [u8], filled: usize, bytes: &[u8])
     ensures { take (filled + length bytes.now) line.new ≡ take filled line.old ++ bytes.now }
 {
     line[filled..filled + bytes.len()].copy_from_slice(bytes);
+}
+
+/// Puts a unit so many times behind the filled bytes. Of the unit so many bytes stand there already, and the others are
+/// given.
+pub fn fill_units(line: &mut [u8], filled: usize, read: usize, others: &[u8], count: usize)
+    requires some { 1 ≤ count }
+    requires fits { filled + count * (read + length others.now) ≤ length line.old }
+    ensures { take (filled + count * (read + length others.now)) line.new
+        ≡ take filled line.old ++ copies count (take read (drop filled line.old) ++ others.now) }
+{
+    if let (0, [byte]) = (read, others) {
+        line[filled..filled + count].fill(*byte);
+        return;
+    }
+    let unit = read + others.len();
+    line[filled + read..filled + unit].copy_from_slice(others);
+    repeat_unit(&mut line[filled..filled + count * unit], unit, count);
+}
+
+/// Fills the bytes with their first unit.
+fn repeat_unit(bytes: &mut [u8], unit: usize, count: usize)
+    requires some { 1 ≤ count }
+    requires whole { length bytes.old ≡ count * unit }
+    ensures { bytes.new ≡ copies count (take unit bytes.old) }
+{
+    let mut times = 1;
+    'doublings: while times < count {
+        let more = times.min(count - times);
+        let (front, behind) = bytes.split_at_mut(times * unit);
+        behind[..more * unit].copy_from_slice(&front[..more * unit]);
+        times += more;
+    }
 }

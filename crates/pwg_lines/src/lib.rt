@@ -5,6 +5,7 @@
 mod buffer;
 mod laws;
 mod reader;
+mod unit;
 mod writer;
 
 pub use laws::canonical_spells;

@@ -1,10 +1,11 @@
 //! A reader of the groups of a page's lines, piece by piece.
-ghost use Rattle.pwg_lines.specs.States.{behind_packet, least_pending, least_repeats, pending};
-ghost use Rattle.std.specs.Prelude.{[], length, min, take, ◌+◌, ◌<◌, ◌∷◌, ◌≡◌, ◌≤◌};
+ghost use Rattle.pwg_lines.specs.States.{behind_packet, gives, least_gives, least_left, least_repeats, pending, read_in};
+ghost use Rattle.std.specs.Prelude.{[], length, min, take, ◌*◌, ◌+◌, ◌-◌, ◌<◌, ◌∷◌, ◌≡◌, ◌≤◌};
 ghost use Rattle.stream_definitions.specs.Groups as groups;
 ghost use Rattle.stream_definitions.specs.Header.{line_bytes, line_units, row_of};
 
-use crate::buffer::{fill_bytes, fill_run};
+use crate::buffer::{fill_bytes, fill_units};
+use crate::unit::{unit_of, white_of};
 use std::alloc::Global;
 use stream_definitions::{LineFault, PageForm};
 use weave_base::Memory;
@@ -33,10 +34,10 @@ pub struct Fed {
 enum State {
     /// Before the group's count.
     Start,
-    /// Before a packet, with units of the line left.
+    /// Before a packet, with a unit of the line left or more.
     Packet,
-    /// Before the unit that a run repeats so many times.
-    Run(usize),
+    /// Within the unit that a run repeats so many times, of which so many bytes are read.
+    Run { units: usize, read: usize },
     /// Before so many bytes of a literal, one or more.
     Literal(usize),
     /// Behind the group's last byte.
@@ -52,13 +53,18 @@ pub struct LineReader {
     lines_left: u32,
     repeats: u32,
     line: Vec<u8>,
+    // bytes of the line before the packet that is read
     filled: usize,
+    // units of the line behind it
+    left: usize,
     state: State,
-    ghost sized: { length line.items ≡ line_units (row_of form.kind) form.width },
+    ghost sized: { length line.items ≡ line_units (row_of form.kind) form.width * (row_of form.kind).unit },
     ghost whole: { length line.items ≡ form.bytes_per_line },
     ghost some: { 0 < length line.items },
-    ghost fits: { filled + pending state ≤ length line.items },
-    ghost begun: { least_pending state ≤ pending state },
+    ghost fits: { filled + pending (row_of form.kind) state + left * (row_of form.kind).unit ≡ length line.items },
+    ghost unfilled: { least_left state ≤ left },
+    ghost begun: { least_gives state ≤ gives state },
+    ghost within_unit: { read_in state < (row_of form.kind).unit },
     ghost counted: { least_repeats state ≤ repeats },
     ghost within: { repeats ≤ lines_left },
 }
@@ -90,6 +96,7 @@ impl LineReader {
             repeats: 0,
             line,
             filled: 0,
+            left: form.bytes_per_line as usize / unit_of(form.kind),
             state: State::Start,
         })
     }
@@ -115,6 +122,7 @@ impl LineReader {
         self.lines_left = form.height;
         self.repeats = 0;
         self.filled = 0;
+        self.left = self.line.len() / unit_of(form.kind);
         self.state = State::Start;
         Ok(())
     }
@@ -200,7 +208,7 @@ impl LineReader {
         match self.state {
             State::Start => self.feed_start(bytes[0]),
             State::Packet => self.feed_packet(bytes[0]),
-            State::Run(units) => self.feed_run(units, bytes[0]),
+            State::Run { units, read } => return self.feed_run(units, read, bytes),
             State::Literal(wanted) => return self.feed_literal(wanted, bytes),
             State::Full | State::Failed(_) => {}
         }
@@ -219,6 +227,7 @@ impl LineReader {
         }
         self.repeats = repeats;
         self.filled = 0;
+        self.left = self.line.len() / unit_of(self.form.kind);
         self.state = State::Packet;
     }
 
@@ -227,33 +236,53 @@ impl LineReader {
         requires { self.old.state ≡ State.Packet }
         ensures { Takes self.old self.new (first ∷ []) }
     {
-        let left = self.line.len() - self.filled;
-        let units = units_of(left, first);
-        if left < units {
+        let units = units_of(self.left, first);
+        if self.left < units {
             self.state = State::Failed(LineFault::RunPastLine);
             return;
         }
-        if first < 128 {
-            self.state = State::Run(units);
+        if first == 128 {
+            self.fill_white();
             return;
         }
-        if first > 128 {
-            self.state = State::Literal(units);
-            return;
-        }
-        fill_run(&mut self.line, self.filled, left, 255);
-        self.filled += left;
+        self.left -= units;
+        self.state = if first < 128 {
+            State::Run { units, read: 0 }
+        } else {
+            State::Literal(units * unit_of(self.form.kind))
+        };
+    }
+
+    /// Ends the line with white.
+    fn fill_white(&mut self)
+        requires { self.old.state ≡ State.Packet }
+        ensures { Takes self.old self.new (128 ∷ []) }
+    {
+        let white = white_of(self.form.kind);
+        fill_units(&mut self.line, self.filled, 0, white, self.left);
+        self.filled = self.line.len();
+        self.left = 0;
         self.state = State::Full;
     }
 
-    /// Reads the unit of a run.
-    fn feed_run(&mut self, units: usize, unit: u8)
-        requires { self.old.state ≡ State.Run units }
-        ensures { Takes self.old self.new (unit ∷ []) }
+    /// Reads bytes of the unit of a run, as many as there are and are wanted, and gives their number.
+    fn feed_run(&mut self, units: usize, read: usize, bytes: &[u8]) -> usize
+        requires { self.old.state ≡ State.Run units read }
+        ensures count { result ≡ min (length bytes.now) ((row_of self.old.form.kind).unit - read) }
+        ensures takes { Takes self.old self.new (take result bytes.now) }
     {
-        fill_run(&mut self.line, self.filled, units, unit);
-        self.filled += units;
-        self.state = state_behind(self.line.len() - self.filled);
+        let unit = unit_of(self.form.kind);
+        let wanted = unit - read;
+        if bytes.len() < wanted {
+            fill_bytes(&mut self.line, self.filled + read, bytes);
+            let read = read + bytes.len();
+            self.state = State::Run { units, read };
+            return bytes.len();
+        }
+        fill_units(&mut self.line, self.filled, read, &bytes[..wanted], units);
+        self.filled += units * unit;
+        self.state = state_behind(self.left);
+        wanted
     }
 
     /// Reads bytes of a literal, as many as there are and are wanted, and gives their number.
@@ -268,13 +297,13 @@ impl LineReader {
         self.state = if count < wanted {
             State::Literal(wanted - count)
         } else {
-            state_behind(self.line.len() - self.filled)
+            state_behind(self.left)
         };
         count
     }
 }
 
-/// How many units the packet of this first byte gives.
+/// How many units the packet of this first byte gives, where so many units of the line are left.
 fn units_of(left: usize, first: u8) -> usize
     ensures { result ≡ groups.units_of left first }
 {

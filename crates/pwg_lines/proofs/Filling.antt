@@ -1,0 +1,128 @@
+-- Copies of a unit in a line.
+use Rattle.std.proofs.Common.{◌≡◌, ℕ, zero, suc, ◌+◌, ◌-◌, ◌*◌, ◌<◌, ◌≤◌, get_or, List, [], ◌∷◌, ◌++◌, length, take, drop, replicate, refl, sym, ◌∙◌, ap, arith, append_assoc, length-append, length-drop}
+use Rattle.std.proofs.lemmas.List.{drop_at, length-replicate, length-take-le, take-take, take_at}
+use Rattle.std.proofs.lemmas.Slice.{take-put_mid}
+use borrow.Rule.Slice.PartMut.{post_of, put_mid}
+use Rattle.std.proofs.Math.Nat.{mul-le-mul_right}
+use Rattle.std.proofs.Math.Seq.{take-add, take-append_seam}
+use Rattle.stream_definitions.specs.Groups.{copies}
+
+pub length-copies : (n : ℕ) (unit : List ℕ) → length (copies n unit) ≡ n * length unit
+length-copies zero unit = omega arith
+length-copies (suc n) unit = length-append unit (copies n unit) ∙ ap (λ k. length unit + k) (length-copies n unit) ∙ omega arith
+
+pub copies-one_byte : (n b : ℕ) → copies n (b ∷ []) ≡ replicate n b
+copies-one_byte zero b = refl
+copies-one_byte (suc n) b = ap (λ bs. b ∷ bs) (copies-one_byte n b)
+
+copies-add : (m n : ℕ) (unit : List ℕ) → copies (m + n) unit ≡ copies m unit ++ copies n unit
+copies-add zero n unit = ap (λ k. copies k unit) (let e : 0 + n ≡ n = omega arith in e)
+copies-add (suc m) n unit =
+    ap (λ k. copies k unit) (let e : suc m + n ≡ suc (m + n) = omega arith in e)
+    ∙ ap (λ bs. unit ++ bs) (copies-add m n unit) ∙ sym (append_assoc unit (copies m unit) (copies n unit))
+
+-- the front of many copies is fewer
+take-copies : (m len : ℕ) (unit rest : List ℕ) → length unit ≡ len → take (m * len) (copies m unit ++ rest) ≡ copies m unit
+take-copies m len unit rest sized =
+    ap (λ k. take k (copies m unit ++ rest)) (ap (λ k. m * k) (sym sized) ∙ sym (length-copies m unit)) ∙ take-append_seam (copies m unit) rest
+
+-- a first unit is whole
+pub first_unit : (count unit : ℕ) (bytes : List ℕ) → 1 ≤ count → length bytes ≡ count * unit → length (take unit bytes) ≡ unit
+first_unit count unit bytes some whole = length-take-le unit bytes (omega (arith, whole, mul-le-mul_right unit some))
+
+-- so many units more are within the bytes
+pub more_within : (count unit times more len : ℕ) → len + times * unit ≡ count * unit → more + times ≤ count → more * unit ≤ len
+more_within count unit times more len sized most = omega (arith, sized, mul-le-mul_right unit most)
+
+pub fewer : (unit more times len : ℕ) → more ≤ times → len ≡ times * unit → more * unit ≤ len
+fewer unit more times len few is = omega (arith, is, mul-le-mul_right unit few)
+
+-- behind copies come as many of them again, or fewer
+pub copies_more : (times more len : ℕ) (unit front copied rest : List ℕ) → length unit ≡ len → front ≡ copies times unit → more ≤ times
+    → copied ≡ take (more * len) front → take ((times + more) * len) (front ++ (copied ++ rest)) ≡ copies (times + more) unit
+copies_more times more len unit front copied rest sized is few again =
+    let parted : copies times unit ≡ copies more unit ++ copies (times - more) unit =
+    ap (λ k. copies k unit) (let e : times ≡ more + (times - more) = omega arith in e) ∙ copies-add more (times - more) unit in
+    let copied_is : copied ≡ copies more unit =
+    again ∙ ap (take (more * len)) (is ∙ parted) ∙ take-copies more len unit (copies (times - more) unit) sized in
+    let joined : front ++ (copied ++ rest) ≡ copies (times + more) unit ++ rest =
+    sym (append_assoc front copied rest) ∙ ap (λ bs. (bs ++ copied) ++ rest) is ∙ ap (λ bs. (copies times unit ++ bs) ++ rest) copied_is
+    ∙ ap (λ bs. bs ++ rest) (sym (copies-add times more unit)) in
+    ap (take ((times + more) * len)) joined ∙ take-copies (times + more) len unit rest sized
+
+-- ---- bytes behind the filled ones
+
+-- more bytes of a unit behind those that are read: the filled bytes stay, and the unit grows
+pub unit_grows : (filled read : ℕ) (old new others : List ℕ) → filled + read ≤ length old → filled ≤ length new
+    → take (filled + (read + length others)) new ≡ take (filled + read) old ++ others
+    → (take filled new ≡ take filled old) × (take (read + length others) (drop filled new) ≡ take read (drop filled old) ++ others)
+unit_grows filled read old new others within within' e = (
+  sym (take_at _ _ filled new_sized) ∙ ap (take filled) parted ∙ take_at _ _ filled old_sized,
+  sym (drop_at _ _ filled new_sized) ∙ ap (drop filled) parted ∙ drop_at _ _ filled old_sized,
+)
+  where
+    new_sized : length (take filled new) ≡ filled
+    new_sized = length-take-le filled new within'
+
+    old_sized : length (take filled old) ≡ filled
+    old_sized = length-take-le filled old (omega arith)
+
+    parted : take filled new ++ take (read + length others) (drop filled new) ≡ take filled old ++ (take read (drop filled old) ++ others)
+    parted = sym (take-add filled (read + length others) new) ∙ e ∙ ap (λ bs. bs ++ others) (take-add filled read old)
+        ∙ append_assoc (take filled old) (take read (drop filled old)) others
+
+-- a unit whose last bytes are put behind the first, and then all the copies of it
+pub units_filled : (filled read count total : ℕ) (line others new first copied : List ℕ) (k k' : ℕ)
+    → 1 ≤ count → filled + count * (read + length others) ≤ length line → total ≡ count * (read + length others)
+    → new ≡ others → first ≡ put_mid (filled + read) k line new
+    → copied ≡ copies count (take (read + length others) (take total (drop filled first)))
+    → take (filled + count * (read + length others)) (put_mid filled k' first copied)
+    ≡ take filled line ++ copies count (take read (drop filled line) ++ others)
+units_filled filled read count total line others new first copied k k' some fits total_is new_is first_is is =
+    take-put_mid filled k' first copied (filled + count * (read + length others)) (ap (λ n. filled + n) (sym sized)) in_first
+    ∙ ap (λ bs. bs ++ copied) grown.0 ∙ ap (λ bs. take filled line ++ bs) copied_is
+  where
+    unit : ℕ
+    unit = read + length others
+
+    one_fits : unit ≤ count * unit
+    one_fits = omega (arith, mul-le-mul_right unit some)
+
+    in_line : filled + read ≤ length line
+    in_line = omega (arith, one_fits)
+
+    put : put_mid (filled + read) k line others ≡ first
+    put = ap (λ bs. put_mid (filled + read) k line bs) (sym new_is) ∙ sym first_is
+
+    in_first : filled ≤ length first
+    in_first = omega (arith, ap length put, length-take-le (filled + read) line in_line, length-append (take (filled + read) line) (others ++ post_of (filled + read) k line))
+
+    grown : (take filled first ≡ take filled line) × (take unit (drop filled first) ≡ take read (drop filled line) ++ others)
+    grown = unit_grows filled read line first others in_line in_first
+        (ap (take (filled + unit)) (sym put) ∙ take-put_mid (filled + read) k line others (filled + unit) (omega arith) in_line)
+
+    copied_is : copied ≡ copies count (take read (drop filled line) ++ others)
+    copied_is = is ∙ ap (copies count) (take-take unit total (drop filled first) (omega (arith, one_fits, total_is)) ∙ grown.1)
+
+    sized : length copied ≡ count * unit
+    sized = ap length copied_is ∙ length-copies count (take read (drop filled line) ++ others)
+        ∙ ap (λ n. count * n) (length-append (take read (drop filled line)) others
+        ∙ ap (λ n. n + length others) (length-take-le read (drop filled line) (omega (arith, in_line, length-drop filled line))))
+
+-- a unit of one byte so many times
+pub byte_filled : (filled read count : ℕ) (line others new : List ℕ) (k : ℕ) → read ≡ 0 → 1 ≤ length others → length others < 2
+    → filled + count * (read + length others) ≤ length line
+    → new ≡ replicate (length (take (filled + count - filled) (drop filled line))) (get_or others 0 0)
+    → take (filled + count * (read + length others)) (put_mid filled k line new)
+    ≡ take filled line ++ copies count (take read (drop filled line) ++ others)
+byte_filled filled read count line [] new k none some one fits is = absurd (omega arith)
+byte_filled filled read count line (b ∷ []) new k none some one fits is =
+    let count_is : count * (read + 1) ≡ count = ap (λ n. count * (n + 1)) none ∙ omega arith in
+    let sized : length (take (filled + count - filled) (drop filled line)) ≡ count =
+    ap (λ n. length (take n (drop filled line))) (let e : filled + count - filled ≡ count = omega arith in e)
+    ∙ length-take-le count (drop filled line) (omega (arith, length-drop filled line, count_is)) in
+    let new_is : new ≡ replicate count b = is ∙ ap (λ n. replicate n b) sized in
+    take-put_mid filled k line new (filled + count * (read + 1)) (ap (λ n. filled + n) (count_is ∙ sym (ap length new_is ∙ length-replicate count b))) (omega arith)
+    ∙ ap (λ bs. take filled line ++ bs) (new_is ∙ sym (copies-one_byte count b))
+    ∙ ap (λ n. take filled line ++ copies count (take n (drop filled line) ++ (b ∷ []))) (sym none)
+byte_filled filled read count line (b ∷ b' ∷ others) new k none some one fits is = absurd (omega arith)

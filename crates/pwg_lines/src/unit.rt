@@ -1,0 +1,26 @@
+//! The units of a page's lines: the bytes that a run repeats, and of which a line has a whole number.
+ghost use Rattle.std.specs.Prelude.{length, ◌^◌, ◌<◌, ◌≡◌, ◌≤◌};
+ghost use Rattle.stream_definitions.specs.Header.{row_of};
+
+use stream_definitions::Kind;
+
+/// How many bytes a unit has.
+pub fn unit_of(kind: Kind) -> usize
+    ensures value { result ≡ (row_of kind).unit }
+    ensures some { 1 ≤ result }
+    ensures few { result < 2 ^ 8 }
+{
+    match kind {
+        Kind::Gray8 => 1,
+    }
+}
+
+/// A white unit.
+pub fn white_of(kind: Kind) -> &'static [u8]
+    ensures value { result.now ≡ (row_of kind).white }
+    ensures sized { length result.now ≡ (row_of kind).unit }
+{
+    match kind {
+        Kind::Gray8 => &[255],
+    }
+}
