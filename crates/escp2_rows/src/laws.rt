@@ -1,0 +1,20 @@
+//! Laws of the code of rows. Each function has no code: it is a contract with its proof.
+ghost use Rattle.escp2_rows.specs.Canonical.{canonical_row};
+ghost use Rattle.job_definitions.specs.RowCode.{RowCode, RowsCode};
+ghost use Rattle.std.specs.Prelude.{List, [], length, ℕ, ◌*◌, ◌++◌, ◌≡◌, ◌≤◌};
+
+/// The canonical code of a row is a code of the row.
+pub fn canonical_is_a_code()
+    ensures { (row : List ℕ) → RowCode (canonical_row row) row }
+{}
+
+/// The canonical code has at most twice as many bytes as its row.
+pub fn canonical_is_short()
+    ensures { (row : List ℕ) → length (canonical_row row) ≤ 2 * length row }
+{}
+
+/// No code of so many rows of one width is a proper beginning of another, and a code is of one list of rows.
+pub fn no_code_begins_another()
+    ensures { (m width : ℕ) (code more rows other_rows : List ℕ) → RowsCode m width code rows
+        → RowsCode m width (code ++ more) other_rows → (more ≡ []) × (rows ≡ other_rows) }
+{}

@@ -1,0 +1,9 @@
+//! The code of raster rows (ESC/P Reference Manual, run length encoding of `ESC .`): rows read from pieces of any
+//! length, and the one code of a row that is written.
+#![tactic(auto)]
+
+mod laws;
+mod writer;
+
+pub use laws::{canonical_is_a_code, canonical_is_short, no_code_begins_another};
+pub use writer::{CodedRow, code_row};
