@@ -1,2 +1,4 @@
 pub mod Writing
 pub mod Spelling
+pub mod Steps
+pub mod Feeding

@@ -2,8 +2,14 @@
 //! length, and the one code of a row that is written.
 #![tactic(auto)]
 
+mod buffer;
 mod laws;
+mod reader;
 mod writer;
 
 pub use laws::{canonical_is_a_code, canonical_is_short, no_code_begins_another};
+pub use reader::{RowFed, RowReader, RowState};
 pub use writer::{CodedRow, code_row};
+
+#[cfg(test)]
+mod tests;
