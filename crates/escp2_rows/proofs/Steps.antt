@@ -58,7 +58,7 @@ packet-passes : (left at : ℕ) (bytes row : List ℕ) (next : ℕ) → packet_a
 packet-passes left at [] row next e = absurd (let no : RowsPart ≡ RowsAre row next = e in cc)
 packet-passes left at (n ∷ bytes) row next e = controlled-passes (control_of n) left at bytes row next e
 
-row-step : (most left at : ℕ) (bytes front : List ℕ) (next : ℕ) → packet_at (suc left) at bytes ≡ RowsAre front next
+pub row-step : (most left at : ℕ) (bytes front : List ℕ) (next : ℕ) → packet_at (suc left) at bytes ≡ RowsAre front next
     → row_at (suc most) (suc left) at bytes ≡ with_front front (row_at most (suc left - length front) next (drop (next - at) bytes))
 unfolding row_at
 row-step most left at bytes front next e = ap (λ (r : RowsRead). elim r [
@@ -67,7 +67,7 @@ row-step most left at bytes front next e = ap (λ (r : RowsRead). elim r [
   | RowsWrong place ↦ RowsWrong place
 ]) e
 
-row-part : (most left at : ℕ) (bytes : List ℕ) → packet_at (suc left) at bytes ≡ RowsPart → row_at (suc most) (suc left) at bytes ≡ RowsPart
+pub row-part : (most left at : ℕ) (bytes : List ℕ) → packet_at (suc left) at bytes ≡ RowsPart → row_at (suc most) (suc left) at bytes ≡ RowsPart
 unfolding row_at
 row-part most left at bytes e = ap (λ (r : RowsRead). elim r [
   | RowsAre front next ↦ with_front front (row_at most (suc left - length front) next (drop (next - at) bytes))
@@ -75,7 +75,7 @@ row-part most left at bytes e = ap (λ (r : RowsRead). elim r [
   | RowsWrong place ↦ RowsWrong place
 ]) e
 
-row-wrong : (most left at : ℕ) (bytes : List ℕ) (place : ℕ) → packet_at (suc left) at bytes ≡ RowsWrong place → row_at (suc most) (suc left) at bytes ≡ RowsWrong place
+pub row-wrong : (most left at : ℕ) (bytes : List ℕ) (place : ℕ) → packet_at (suc left) at bytes ≡ RowsWrong place → row_at (suc most) (suc left) at bytes ≡ RowsWrong place
 unfolding row_at
 row-wrong most left at bytes place e = ap (λ (r : RowsRead). elim r [
   | RowsAre front next ↦ with_front front (row_at most (suc left - length front) next (drop (next - at) bytes))

@@ -37,6 +37,7 @@ least_pending (Literal n) = 1
 least_pending (Repeated n) = 1
 least_pending Failed = 0
 
+-- a control byte was refused
 abbrev pub is_failed : Place → Bool
 is_failed Packet = false
 is_failed (Literal n) = false

@@ -1,7 +1,8 @@
 //! Laws of the code of rows. Each function has no code: it is a contract with its proof.
 ghost use Rattle.escp2_rows.specs.Canonical.{canonical_row};
-ghost use Rattle.job_definitions.specs.RowCode.{RowCode, RowsCode};
-ghost use Rattle.std.specs.Prelude.{List, [], length, ℕ, ◌*◌, ◌++◌, ◌≡◌, ◌≤◌};
+ghost use Rattle.job_definitions.specs.RowCode.{RowCode, RowsCode, rows_at};
+ghost use Rattle.job_definitions.specs.RowCode.RowsRead.{RowsAre};
+ghost use Rattle.std.specs.Prelude.{List, [], length, slice_index, take, ℕ, ◌*◌, ◌++◌, ◌<◌, ◌≡◌, ◌≤◌};
 
 /// The canonical code of a row is a code of the row.
 pub fn canonical_is_a_code()
@@ -17,4 +18,10 @@ pub fn canonical_is_short()
 pub fn no_code_begins_another()
     ensures { (m width : ℕ) (code more rows other_rows : List ℕ) → RowsCode m width code rows
         → RowsCode m width (code ++ more) other_rows → (more ≡ []) × (rows ≡ other_rows) }
+{}
+
+/// What is read as whole rows is a code of these rows, up to the place behind them.
+pub fn what_is_read_is_a_code()
+    ensures { (m width : ℕ) (bytes rows : List ℕ) (next : ℕ) → ((k : ℕ) → slice_index bytes k < 256)
+        → rows_at m width 0 bytes ≡ RowsAre rows next → RowsCode m width (take next bytes) rows }
 {}

@@ -93,8 +93,7 @@ impl RowReader {
     }
 
     /// Reads the next bytes of the rows, of any number, and appends the bytes of rows that they give. It takes no
-    /// memory. It stops behind the last row, or behind a control byte that is refused; what of the piece is not used
-    /// is not of these rows.
+    /// memory. It stops behind the last row, or behind a control byte that is refused.
     pub fn feed(&mut self, piece: &[u8], out: &mut Vec<u8>) -> RowFed
         requires is_open { is_done_of self.old ≡ false }
         requires room { vec_len out.old + bytes_left_of self.old ≤ vec_capacity out.old }
