@@ -57,3 +57,7 @@ rows_alone m width code more rows other_rows one other =
 
     equals : (rs ss : List ℕ) (j k : ℕ) → RowsAre rs j ≡ RowsAre ss k → rs ≡ ss
     equals rs ss j k e = cc
+
+pub code_read : (m width : ℕ) (code rest rows : List ℕ) → RowsCode m width code rows → rows_at m width 0 (code ++ rest) ≡ RowsAre rows (length code)
+code_read m width code rest rows is =
+    rows-read m width 0 code rows rest is ∙ ap (RowsAre rows) (let p : 0 + length code ≡ length code = omega arith in p)

@@ -20,6 +20,12 @@ pub fn no_code_begins_another()
         → RowsCode m width (code ++ more) other_rows → (more ≡ []) × (rows ≡ other_rows) }
 {}
 
+/// A code of rows is read as these rows, whatever follows it. So where a control byte is refused, no code stands.
+pub fn code_is_read()
+    ensures { (m width : ℕ) (code rest rows : List ℕ) → RowsCode m width code rows
+        → rows_at m width 0 (code ++ rest) ≡ RowsAre rows (length code) }
+{}
+
 /// What is read as whole rows is a code of these rows, up to the place behind them.
 pub fn what_is_read_is_a_code()
     ensures { (m width : ℕ) (bytes rows : List ℕ) (next : ℕ) → ((k : ℕ) → slice_index bytes k < 256)
