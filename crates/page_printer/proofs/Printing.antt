@@ -32,7 +32,7 @@ use Rattle.page_printer.specs.declared.rows.Room.{Room}
 use Rattle.page_printer.specs.Rows.{IsReached, IsReady, darkness}
 use Rattle.page_printer.specs.Passes.{fire_bytes, pass_bytes, raster_of}
 use Rattle.page_printer.specs.Pages.{Takes, rows_bytes}
-use Rattle.page_printer.proofs.Sheets.{bytes_are}
+use Rattle.page_printer.proofs.TakenPages.{bytes_are}
 
 -- ---- a line of the page
 
@@ -273,7 +273,7 @@ printed_blank p k page before now y last room room' some takes low so_far row no
 fired_total : (p : Printer) (k : Table) (page : Page) (before now : Option (List ℕ)) (y last : ℕ) (room : Room) → Takes p page → y < (window_of page.form p).height
     → (so_far : Printed p k page before now y last room) → list_any (λ on. on) (dot_row (halftone page p k) Black y) ≡ true
     → rows_bytes page p k ≡ so_far.done ++ (pass_bytes ((y - last) * row_units p) (raster_of p (window_of page.form p).width) (packed (dot_row (halftone page p k) Black y))
-        ++ bytes_of (pass_commands p (halftone page p k) y (filter (fires p (halftone page p k)) (count_from (y + 1) (so_far.left - 1)))))
+    ++ bytes_of (pass_commands p (halftone page p k) y (filter (fires p (halftone page p k)) (count_from (y + 1) (so_far.left - 1)))))
 fired_total p k page before now y last room takes low so_far some =
     let h : Halftone = halftone page p k in
     let more : ℕ = so_far.left - 1 in

@@ -38,15 +38,15 @@ fn put_prologue<K: Sink>(sheet: Sheet, k: &mut K) -> Result<(), Failed>
     ensures part { OnErr result (AppendsPart (K.held k.old) (K.held k.new) (begin_bytes sheet.length sheet.top sheet.bottom)) }
     ensures cause { HasCause (K.faults k.old) (K.faults k.new) result }
 {
-    let [length_low, length_high] = [low(sheet.length), high(sheet.length)];
+    let [len_low, len_high] = [low(sheet.length), high(sheet.length)];
     let [top_low, top_high] = [low(sheet.top), high(sheet.top)];
-    let [bottom_low, bottom_high] = [low(sheet.bottom), high(sheet.bottom)];
+    let [end_low, end_high] = [low(sheet.bottom), high(sheet.bottom)];
     put_all(
         k,
         &[
             0x1B, 0x40, 0x1B, 0x28, 0x47, 1, 0, 1, 0x1B, 0x28, 0x55, 1, 0, 5, 0x1B, 0x28, 0x69, 1,
-            0, 0, 0x1B, 0x55, 1, 0x1B, 0x28, 0x43, 2, 0, length_low, length_high, 0x1B, 0x28, 0x63,
-            4, 0, top_low, top_high, bottom_low, bottom_high, 0x1B, 0x28, 0x56, 2, 0, 0, 0,
+            0, 0, 0x1B, 0x55, 1, 0x1B, 0x28, 0x43, 2, 0, len_low, len_high, 0x1B, 0x28, 0x63, 4, 0,
+            top_low, top_high, end_low, end_high, 0x1B, 0x28, 0x56, 2, 0, 0, 0,
         ],
     )
 }

@@ -1,4 +1,4 @@
-use Rattle.std.proofs.Common.{◌≡◌, ◌<◌, ◌∙◌, ap, arith, drop, length, refl, subst}
+use Rattle.std.proofs.Common.{◌≡◌, ◌<◌, ◌∙◌, ap, arith, drop, length, refl}
 use Rattle.std.proofs.KnownBytes.{Appends-nil}
 use Rattle.diffusion_kernel.specs.Tables.{table_of}
 use Rattle.printer_definitions.specs.Printer.{Printer}

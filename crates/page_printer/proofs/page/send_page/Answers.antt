@@ -1,4 +1,4 @@
-use Rattle.page_printer.proofs.Sheets.{takes}
+use Rattle.page_printer.proofs.TakenPages.{takes}
 use Rattle.page_printer.proofs.page.send_page.Goals as goal
 
 pub put_page-requires-clause-takes : goal.put_page-requires-clause-takes
