@@ -1,5 +1,5 @@
 pub mod RowSteps
 pub mod PassBytes
+pub mod TakenPages
 pub mod Printing
 pub mod Whole
-pub mod Tiny

@@ -1,5 +1,5 @@
 -- One more row of a page.
-use Rattle.std.proofs.Common.{◌≡◌, ℕ, ℤ, pos, zero, suc, ◌+◌, ◌-◌, ◌<◌, Bool, false, List, [], ◌∷◌, ◌++◌, length, take, drop, map, set, get_or, refl, sym, ◌∙◌, ap, arith, subst}
+use Rattle.std.proofs.Common.{◌≡◌, ℕ, ℤ, pos, zero, suc, ◌+◌, ◌-◌, ◌*◌, ◌<◌, ◌≤◌, Bool, false, List, [], ◌∷◌, ◌++◌, length, take, drop, map, set, get_or, refl, sym, ◌∙◌, ap, arith, subst}
 use Rattle.std.proofs.lemmas.List.{map_more, take_at, take_more_set}
 use Rattle.diffusion_definitions.specs.Diffusion.{Errors, Plane}
 use Rattle.page_definitions.specs.Dots.{count_from}
@@ -7,12 +7,19 @@ use Rattle.row_diffusion.specs.Rows.{HasRow, RowIs}
 use Rattle.page_printer.specs.Rows.{darkness}
 
 -- one more amount
-pub darken_more : (amounts line : List ℕ) (x : ℕ) → x < length amounts → x < length line → take x amounts ≡ map darkness (take x line)
-    → take (x + 1) (set amounts x (255 - get_or line x 0)) ≡ map darkness (take (x + 1) line)
-darken_more amounts line x room inside so_far =
-    take_more_set amounts x (255 - get_or line x 0) room
-    ∙ ap (λ front. front ++ (255 - get_or line x 0) ∷ []) so_far
-    ∙ sym (map_more darkness line x 0 inside)
+pub darken_more : (limit : ℕ) (amounts line : List ℕ) (x : ℕ) → x < length amounts → x < length line → take x amounts ≡ map (darkness limit) (take x line)
+    → take (x + 1) (set amounts x (darkness limit (get_or line x 0))) ≡ map (darkness limit) (take (x + 1) line)
+darken_more limit amounts line x room inside so_far =
+    take_more_set amounts x (darkness limit (get_or line x 0)) room
+    ∙ ap (λ front. front ++ darkness limit (get_or line x 0) ∷ []) so_far
+    ∙ sym (map_more (darkness limit) line x 0 inside)
+
+-- a byte times a byte, and its 255th part
+pub product_fits : (dark limit : ℕ) → dark ≤ 255 → limit ≤ 255 → dark * limit ≤ 65025
+product_fits dark limit low most = grind arith
+
+pub darkness_fits : (limit grey : ℕ) → limit ≤ 255 → darkness limit grey ≤ 255
+darkness_fits limit grey most = let small : (255 - grey) * limit ≤ 65025 = product_fits (255 - grey) limit (omega arith) most in omega arith
 
 -- a vector whose elements were all written
 pub written : {X : Type 0} (new old : List X) (len : ℕ) → length new ≡ len → take len (new ++ drop (length new) old) ≡ new

@@ -1,25 +1,33 @@
 -- The three parts of a page's bytes.
-use Rattle.std.proofs.Common.{◌≡◌, ℕ, ◌+◌, ◌*◌, List, [], ◌∷◌, ◌++◌, ◌∙◌, ap, arith}
-use Rattle.printer_definitions.specs.Printer.{tiny1}
+use Rattle.std.proofs.Common.{◌≡◌, ℕ, ◌+◌, ◌-◌, ◌*◌, List, [], ◌∷◌, ◌++◌, sym, ◌∙◌, ap, arith}
+use Rattle.printer_definitions.specs.Printer.{Printer, head_rows, row_units}
+use Rattle.diffusion_definitions.specs.Diffusion.{Table}
 use Rattle.job_definitions.specs.declared.command.Command.TheVariants as c
-use Rattle.page_definitions.specs.Dots.{Halftone}
+use Rattle.page_definitions.specs.Dots.{Halftone, halftone}
 use Rattle.page_definitions.specs.PageBytes.{bytes_of, fired_passes, page_bytes, pass_commands, prologue, say}
 use Rattle.page_laws.proofs.Headline.{bytes-append}
-use Rattle.page_parser.specs.declared.page.GreyPage.{GreyPage}
-use Rattle.page_printer.specs.Pages.{begin_bytes, rows_bytes, tiny_bytes, tiny_dots}
+use Rattle.separation_definitions.specs.Windows.{window_of}
+use Rattle.stream_definitions.specs.Stream.{Page}
+use Rattle.page_printer.specs.Pages.{Takes, begin_bytes, rows_bytes}
 
-begin_is : (h : Halftone) (height len : ℕ) → h.height ≡ height → len ≡ 2 * height → bytes_of (prologue tiny1 h len) ≡ begin_bytes height
-begin_is h height len e f =
-    let P : ℕ → ℕ → List ℕ = λ bottom l. bytes_of (
-    say c.Init ∷ say c.Graphics ∷ say (c.Unit 5) ∷ say (c.MicroWeave 0) ∷ say (c.OneWay 1) ∷ say (c.Length l) ∷ say (c.Margins 0 bottom) ∷ say (c.DownTo 0) ∷ []) in
-    let bottom : (0 + h.height) * 2 ≡ 2 * height = omega (arith, e) in
-    ap (λ l. P ((0 + h.height) * 2) l) f ∙ ap (λ b. P b (2 * height)) bottom
+-- the first row that may be printed is below the top margin, since one nozzle has no head above it
+top_is : (p : Printer) → p.nozzles ≡ 1 → (p.top - head_rows p) * row_units p ≡ p.top * row_units p
+top_is p one =
+    let none : (1 - 1) * p.pitch ≡ 0 = omega arith in
+    let same : p.top - head_rows p ≡ p.top = ap (λ n. p.top - (n - 1) * p.pitch) one ∙ ap (λ n. p.top - n) none ∙ (let all : p.top - 0 ≡ p.top = omega arith in all) in
+    ap (λ n. n * row_units p) same
 
-pub three_parts : (page : GreyPage) → tiny_bytes page ≡ begin_bytes page.form.height ++ (rows_bytes page ++ (0x0C ∷ 0x1B ∷ 0x40 ∷ []))
+pub three_parts : (p : Printer) (k : Table) (page : Page) (len top bottom : ℕ) → Takes p page
+    → len ≡ page.form.height * row_units p → top ≡ p.top * row_units p → bottom ≡ (p.top + (window_of page.form p).height) * row_units p
+    → page_bytes page p k ≡ begin_bytes len top bottom ++ (rows_bytes page p k ++ (0x0C ∷ 0x1B ∷ 0x40 ∷ []))
 unfolding page_bytes
-three_parts page =
-    let h : Halftone = tiny_dots page in
-    let len : ℕ = page.form.height * 2 in
-    bytes-append (prologue tiny1 h len) _
-    ∙ ap (λ bs. bs ++ bytes_of (pass_commands tiny1 h 0 (fired_passes tiny1 h) ++ (say c.Eject ∷ say c.Init ∷ []))) (begin_is h page.form.height len (omega arith) (omega arith))
-    ∙ ap (λ bs. begin_bytes page.form.height ++ bs) (bytes-append (pass_commands tiny1 h 0 (fired_passes tiny1 h)) (say c.Eject ∷ say c.Init ∷ []))
+three_parts p k page len top bottom takes is_len is_top is_bottom =
+    let h : Halftone = halftone page p k in
+    let height : ℕ = page.form.height * row_units p in
+    let below : ℕ = (p.top + h.height) * row_units p in
+    let others : List ℕ = bytes_of (pass_commands p h 0 (fired_passes p h) ++ (say c.Eject ∷ say c.Init ∷ [])) in
+    bytes-append (prologue p h height) _
+    ∙ ap (λ n. begin_bytes height n below ++ others) (top_is p takes.one ∙ sym is_top)
+    ∙ ap (λ n. begin_bytes n top below ++ others) (sym is_len)
+    ∙ ap (λ n. begin_bytes len top n ++ others) (sym is_bottom)
+    ∙ ap (λ bs. begin_bytes len top bottom ++ bs) (bytes-append (pass_commands p h 0 (fired_passes p h)) (say c.Eject ∷ say c.Init ∷ []))

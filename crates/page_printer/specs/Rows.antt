@@ -1,15 +1,15 @@
 -- Rows of a page on the way.
-use Rattle.std.specs.Prelude.{◌≡◌, ℕ, ◌+◌, ◌-◌, ◌/◌, ◌≤◌, length}
+use Rattle.std.specs.Prelude.{◌≡◌, ℕ, ◌+◌, ◌-◌, ◌*◌, ◌/◌, ◌≤◌, length}
 use Rattle.diffusion_definitions.specs.Diffusion.{EachInRange, Errors}
 use Rattle.row_diffusion.specs.Rows.{IsBordered, RowIs}
-use Rattle.page_printer.specs.declared.rows.Rows.{Rows}
+use Rattle.page_printer.specs.declared.rows.Room.{Room}
 
--- how much black a grey wants
-abbrev pub darkness : ℕ → ℕ
-darkness grey = 255 - grey
+-- how much black a grey wants, of this greatest amount
+abbrev pub darkness : ℕ → ℕ → ℕ
+darkness limit grey = (255 - grey) * limit / 255
 
--- The rows have room for one width, and their errors are in range and have their borders.
-pub record IsReady (r : Rows) : Type 0 where
+-- The room is for rows of one width, and its errors are in range and have their borders.
+pub record IsReady (r : Room) : Type 0 where
   pub some : 1 ≤ r.width
   pub most : r.width ≤ 8191
   pub amounts_len : length r.amounts.items ≡ r.width
@@ -26,6 +26,6 @@ pub record IsReady (r : Rows) : Type 0 where
   pub row_bordered : IsBordered r.width r.row.items
 
 -- the two rows of errors are those above row y of a plane
-pub record IsReached (r : Rows) (e : Errors) (y : ℕ) : Type 0 where
+pub record IsReached (r : Room) (e : Errors) (y : ℕ) : Type 0 where
   pub up2 : RowIs e y r.up2.items
   pub up1 : RowIs e (y + 1) r.up1.items

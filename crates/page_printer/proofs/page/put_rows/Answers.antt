@@ -1,6 +1,11 @@
-use Rattle.std.proofs.Common.{◌≡◌, ◌∙◌, ap, arith, drop, length, refl}
+use Rattle.std.proofs.Common.{◌≡◌, ◌<◌, ◌∙◌, ap, arith, drop, length, refl}
 use Rattle.std.proofs.KnownBytes.{Appends-nil}
-use Rattle.page_printer.proofs.Printing.{diffused, line_room, pass_as, pass_part_as, printed_as, begun, printed_begin, printed_blank, printed_end, printed_fired, printed_part}
+use Rattle.diffusion_kernel.specs.Tables.{table_of}
+use Rattle.printer_definitions.specs.Printer.{Printer}
+use Rattle.printer_profile.specs.Profiles.{printer_of}
+use Rattle.separation_definitions.specs.Windows.{window_of}
+use Rattle.page_printer.specs.Passes.{raster_of}
+use Rattle.page_printer.proofs.Printing.{diffused, part_is, part_len, pass_as, pass_part_as, printed_as, printed_begin, printed_end, printed_fired, printed_part, printed_blank, window_is}
 use Rattle.page_printer.proofs.RowSteps.{written}
 use Rattle.page_printer.proofs.page.put_rows.Goals.{then-next+in_ok-put_pass, else-next}
 use Rattle.page_printer.proofs.page.put_rows.Goals as goal
@@ -8,20 +13,20 @@ use Rattle.weave_base.proofs.Parting.{on_err_anyway}
 
 pub loop-y-init : goal.loop-y-init
 loop-y-init g c = record {
-  so_far =
-      begun _ _ _ _ _ c.deref-rest.ensures.value (printed_begin _ _ _ c.requires.page c.requires.ready c.requires.width c.requires.top (Appends-nil _));
+  so_far = printed_begin _ _ _ _ _ c.requires.takes c.requires.ready c.requires.width c.requires.top (Appends-nil _);
   later = omega arith;
 }
 
-pub split_at-requires : goal.split_at-requires
-split_at-requires g c =
-    omega (arith, line_room _ _ _ _ _ _ _ c.loop-y-test.true c.loop-y.invariant.so_far, c.loop-y.invariant.so_far.width)
-
 pub loop-y-preserved : goal.loop-y-preserved
 loop-y-preserved g c =
+    let p : Printer = printer_of c.args.profile.now in
     let so_far = c.loop-y.invariant.so_far in
     let a = c.next.ensures in
-    let row = diffused _ _ _ _ _ _ _ _ _ _ _ c.loop-y-test.true so_far c.split_at.ensures.front c.split_at.ensures.back a.ready a.width a.errors a.packed a.any in
+    let window = window_is p c.args.page.now _ _ c.form.ensures c.window-window.ensures in
+    let low : c.loop-y.y < (window_of c.args.page.now.form p).height = omega (arith, window.height, c.loop-y-test.true) in
+    let part = part_is p c.args.page.now c.loop-y.y _ _ _ _ _ c.from-left.ensures c.from-top.ensures c.from.ensures so_far.width c.line-line.ensures.line in
+    let len = part_len p c.args.page.now _ _ _ c.requires.takes c.from-left.ensures so_far.width c.line-line.ensures.wide in
+    let row = diffused p (table_of c.args.kernel) c.args.page.now _ _ _ _ _ _ _ _ _ c.requires.takes low refl len part so_far a.ready a.width a.errors a.packed a.any in
     record {
       so_far = elim c.if-next.branch [
         | then-next+in_ok-put_pass w ↦
@@ -30,9 +35,9 @@ loop-y-preserved g c =
             let piece = c.next.new.self.piece in
             let full : length w.put_pass.new.piece ≡ piece.len = omega (arith, len, piece.ok.0) in
             let wrote = w.in_ok-put_pass.ensures.ok in
-            printed_as _ _ _ _ _ _ _ _ _ _ (ap g.K.Sink.held w.k-is) w.last-is w.rows-is
-            (printed_fired _ _ _ _ _ _ _ _ _ _ _ _ c.loop-y-test.true so_far row w.if-next.true
-            (pass_as _ _ _ _ _ _ _ _ refl refl (ap (drop 19) w.deref_mut.ensures.value) wrote)
+            printed_as _ _ _ _ _ _ _ _ _ _ _ (ap g.K.Sink.held w.k-is) w.last-is w.room-is
+            (printed_fired _ _ _ _ _ _ _ _ _ _ _ c.requires.takes low so_far row w.if-next.true
+            (pass_as p _ _ _ _ _ _ _ _ c.row_units-units.ensures (c.raster_of-raster.ensures ∙ ap (raster_of p) window.width) (ap (drop 19) w.deref_mut.ensures.value) wrote)
             _ (record {
               some = ready.some;
               most = ready.most;
@@ -49,19 +54,26 @@ loop-y-preserved g c =
               up1_bordered = ready.up1_bordered;
               row_bordered = ready.row_bordered;
             }) refl (record { up2 = row.reached.up2; up1 = row.reached.up1 }))
-        | else-next w ↦ printed_as _ _ _ _ _ _ _ _ _ _ (ap g.K.Sink.held w.k-is) w.last-is w.rows-is (printed_blank _ _ _ _ _ _ _ _ _ _ _ c.loop-y-test.true so_far row w.if-next.false)
+        | else-next w ↦ printed_as _ _ _ _ _ _ _ _ _ _ _ (ap g.K.Sink.held w.k-is) w.last-is w.room-is (printed_blank _ _ _ _ _ _ _ _ _ _ c.requires.takes low so_far row w.if-next.false)
       ];
       later = elim c.if-next.branch [ then-next+in_ok-put_pass w ↦ omega (arith, ap g.K.Sink.faults w.k-is, w.in_ok-put_pass.ensures.cause.later, c.loop-y.invariant.later) | else-next w ↦ omega (arith, ap g.K.Sink.faults w.k-is, c.loop-y.invariant.later) ];
     }
 
 pub returns-in_err-put_pass-clause-part : goal.returns-in_err-put_pass-clause-part
 returns-in_err-put_pass-clause-part g c =
+    let p : Printer = printer_of c.args.profile.now in
     let so_far = c.loop-y.invariant.so_far in
     let a = c.next.ensures in
-    let row = diffused _ _ _ _ _ _ _ _ _ _ _ c.loop-y-test.true so_far c.split_at.ensures.front c.split_at.ensures.back a.ready a.width a.errors a.packed a.any in
+    let window = window_is p c.args.page.now _ _ c.form.ensures c.window-window.ensures in
+    let low : c.loop-y.y < (window_of c.args.page.now.form p).height = omega (arith, window.height, c.loop-y-test.true) in
+    let part = part_is p c.args.page.now c.loop-y.y _ _ _ _ _ c.from-left.ensures c.from-top.ensures c.from.ensures so_far.width c.line-line.ensures.line in
+    let len = part_len p c.args.page.now _ _ _ c.requires.takes c.from-left.ensures so_far.width c.line-line.ensures.wide in
+    let row = diffused p (table_of c.args.kernel) c.args.page.now _ _ _ _ _ _ _ _ _ c.requires.takes low refl len part so_far a.ready a.width a.errors a.packed a.any in
     on_err_anyway _
-    (printed_part _ _ _ _ _ _ _ _ _ _ _ _ c.loop-y-test.true so_far row c.if-next.true
-    (pass_part_as _ _ _ _ _ _ _ _ refl refl (ap (drop 19) c.deref_mut.ensures.value) c.in_err-put_pass.ensures.part))
+    (printed_part _ _ _ _ _ _ _ _ _ _ _ c.requires.takes low so_far row c.if-next.true
+    (pass_part_as p _ _ _ _ _ _ _ _ c.row_units-units.ensures (c.raster_of-raster.ensures ∙ ap (raster_of p) window.width) (ap (drop 19) c.deref_mut.ensures.value) c.in_err-put_pass.ensures.part))
 
 pub returns-clause-ok : goal.returns-clause-ok
-returns-clause-ok g c = printed_end _ _ _ _ _ _ _ (omega arith) c.loop-y.invariant.so_far
+returns-clause-ok g c =
+    let window = window_is (printer_of c.args.profile.now) c.args.page.now _ _ c.form.ensures c.window-window.ensures in
+    printed_end _ _ _ _ _ _ _ _ (omega (arith, window.height, c.loop-y-test.false)) c.loop-y.invariant.so_far
