@@ -6,5 +6,6 @@ mod answer;
 mod names;
 mod usage;
 
-pub use answer::Answer;
+pub use answer::{Answer, ProfileCause};
+pub use printer_profile::{ProfileFault, TextCause};
 pub use usage::{UsageCause, UsageFault};

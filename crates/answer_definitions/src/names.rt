@@ -1,8 +1,9 @@
 //! The names of causes, as the error line prints them.
-ghost use Rattle.answer_definitions.specs.Answers.{header_name as header_name_of, input_name as input_name_of, line_name as line_name_of, usage_name as usage_name_of};
+ghost use Rattle.answer_definitions.specs.Answers.{check_name as check_name_of, header_name as header_name_of, input_name as input_name_of, line_name as line_name_of, text_name as text_name_of, usage_name as usage_name_of};
 ghost use Rattle.std.specs.Prelude.{◌≡◌, ◌≤◌, length};
 
 use crate::usage::UsageCause;
+use printer_profile::{ProfileFault, TextCause};
 use stream_definitions::{HeaderFault, InputCause, LineFault};
 
 pub fn usage_name(cause: UsageCause) -> &'static str
@@ -55,5 +56,35 @@ pub fn input_name(cause: InputCause) -> &'static str
         InputCause::TooManyPages => "TooManyPages",
         InputCause::Header(fault) => header_name(fault),
         InputCause::Line(fault) => line_name(fault),
+    }
+}
+
+pub fn text_name(cause: TextCause) -> &'static str
+    ensures name { result.now ≡ text_name_of cause }
+    ensures len { length result.now ≤ 11 }
+{
+    match cause {
+        TextCause::BadHead => "BadHead",
+        TextCause::NotAscii => "NotAscii",
+        TextCause::NoEquals => "NoEquals",
+        TextCause::UnknownKey => "UnknownKey",
+        TextCause::RepeatedKey => "RepeatedKey",
+        TextCause::BadValue => "BadValue",
+        TextCause::Missing { .. } => "Missing",
+    }
+}
+
+pub fn check_name(fault: ProfileFault) -> &'static str
+    ensures name { result.now ≡ check_name_of fault }
+    ensures len { length result.now ≤ 10 }
+{
+    match fault {
+        ProfileFault::Resolution => "Resolution",
+        ProfileFault::Nozzles => "Nozzles",
+        ProfileFault::Pitch => "Pitch",
+        ProfileFault::NotCoprime { .. } => "NotCoprime",
+        ProfileFault::RowStep => "RowStep",
+        ProfileFault::TopMargin { .. } => "TopMargin",
+        ProfileFault::BlackStart => "BlackStart",
     }
 }

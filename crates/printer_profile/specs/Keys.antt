@@ -1,5 +1,5 @@
 -- The table of keys.
-use Rattle.std.specs.Prelude.{ℕ, Bool, true, false, List, [], ◌∷◌, codes, find, slice_index, slice_set, Option, Some, None, Result, Ok, Err}
+use Rattle.std.specs.Prelude.{ℕ, Bool, true, false, ◌==◌, List, [], ◌∷◌, codes, find, slice_index, slice_set, Option, Some, None, Result, Ok, Err}
 use Rattle.std.specs.Fmt.{decimal}
 use Rattle.std.specs.Option.{option_map}
 use Rattle.std.specs.Str.{bytes_eq}
@@ -71,6 +71,18 @@ all_keys =
 -- the key of a name
 abbrev pub key_named : List ℕ → Option Key
 key_named name = find (λ key. bytes_eq (row_of key).name name) all_keys
+
+-- the key at a place of the table
+abbrev pub key_at : ℕ → Option Key
+key_at place = find (λ key. (row_of key).place == place) all_keys
+
+abbrev pub name_of : Option Key → List ℕ
+name_of None = []
+name_of (Some key) = (row_of key).name
+
+-- its name; nothing at any other place
+abbrev pub name_at : ℕ → List ℕ
+name_at place = name_of (key_at place)
 
 -- the profile before any key is given: the defaults, and 0 and `k` where there is none
 abbrev pub unset : Profile

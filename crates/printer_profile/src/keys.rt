@@ -1,4 +1,5 @@
 //! The keys of a profile's text, in one table: place, name, and whether a text must have them.
+ghost use Rattle.printer_profile.specs.Keys.{name_at};
 ghost use Rattle.std.specs.Prelude.{◌≡◌, ◌≤◌, length};
 
 /// A key of a profile's text.
@@ -21,7 +22,7 @@ pub(crate) enum Key {
 }
 
 impl Key {
-    ghost use Rattle.printer_profile.specs.Keys.{key_named, row_of};
+    ghost use Rattle.printer_profile.specs.Keys.{key_at, key_named, row_of};
 
     /// All keys, in the order of the table.
     pub(crate) const ALL: [Key; 14] = [
@@ -97,6 +98,16 @@ impl Key {
         }
     }
 
+    // The key at a place of the table.
+    fn at(place: u8) -> Option<Key>
+        ensures { result ≡ key_at place }
+    {
+        Key::ALL
+            .iter()
+            .copied()
+            .find(|key| key.place() == place)
+    }
+
     // The key of a name.
     pub(crate) fn named(name: &[u8]) -> Option<Key>
         ensures { result ≡ key_named name.now }
@@ -105,5 +116,16 @@ impl Key {
             .iter()
             .copied()
             .find(|key| key.name().as_bytes() == name)
+    }
+}
+
+/// The name of the key at a place of the table, counted from 1; nothing at any other place.
+pub fn key_name(place: u8) -> &'static str
+    ensures name { result.now ≡ name_at place }
+    ensures len { length result.now ≤ 11 }
+{
+    match Key::at(place) {
+        Some(key) => key.name(),
+        None => "",
     }
 }

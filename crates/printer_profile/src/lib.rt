@@ -23,6 +23,7 @@ mod values;
 
 pub use built_ins::built_in;
 pub use fields::Profile;
+pub use keys::key_name;
 pub use laws::{checked_can_print, checked_is_coprime, printed_is_read};
 pub use printer_definitions::InkSet;
 pub use reading::{TextCause, TextFault, read};
