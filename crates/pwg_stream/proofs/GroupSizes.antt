@@ -4,7 +4,7 @@ use Rattle.std.proofs.lemmas.Bool.{ltb-true, ltb-false}
 use Rattle.std.proofs.Math.Nat.{mul-le-mul_right}
 use Rattle.stream_definitions.specs.declared.pages.Kind.{Kind}
 use Rattle.stream_definitions.specs.declared.pages.Kind.TheVariants.{Gray8}
-use Rattle.stream_definitions.specs.Header.{KindRow, line_units, row_of}
+use Rattle.stream_definitions.specs.Header.{KindRow, row_of}
 use Rattle.stream_definitions.specs.Groups.{GroupFront, IsBytes, Packet, PacketRead, group_at, line_at, packet_at, packet_from, packet_units, units_of, with_packet}
 use Rattle.stream_definitions.specs.Groups.Packet.{Run, Clear, Literal}
 use Rattle.stream_definitions.specs.Groups.PacketRead.{One, Short, Long}
@@ -104,6 +104,3 @@ group_at-part row units left (count ∷ bytes) some are e = by_count (nat_lt lef
 
 pub unit-some : (kind : Kind) → 1 ≤ (row_of kind).unit
 unit-some Gray8 = omega arith
-
-pub line-fits : (kind : Kind) (width long : ℕ) → long ≡ line_units (row_of kind) width → line_units (row_of kind) width * (row_of kind).unit ≤ long
-line-fits Gray8 width long is = omega (arith, is)
