@@ -1,5 +1,5 @@
 -- What a reader of pages shows, and what its calls give.
-use Rattle.std.specs.Prelude.{◌≡◌, ℕ, ◌+◌, ◌≤◌, Bool, List, [], ◌++◌, Option, Some, None, IfSome}
+use Rattle.std.specs.Prelude.{◌≡◌, ℕ, ◌+◌, ◌≤◌, Bool, false, List, [], ◌++◌, Option, Some, None, IfSome}
 use Rattle.std.specs.Io.KnownBytes.{Consumes}
 use Rattle.stream_definitions.specs.declared.faults.InputCause.{InputCause}
 use Rattle.stream_definitions.specs.declared.pages.PageForm.{PageForm}
@@ -73,6 +73,7 @@ pub record BeginsPage (want : Wanted) (old new : PageReader) (before now : Optio
   pub last : page_of new ≤ 9999
   pub form_is : form_of new ≡ Some form
   pub lines : lines_left_of new ≡ form.height
+  pub unended : has_ended new ≡ false
 
 -- The next bytes of the text were a group of lines of the page in hand; its line stands so many times.
 pub record GivesLines (old new : PageReader) (before now : Option (List ℕ)) (repeats : ℕ) : Type 0 where
@@ -80,6 +81,7 @@ pub record GivesLines (old new : PageReader) (before now : Option (List ℕ)) (r
   pub fall : lines_left_of new + repeats ≡ lines_left_of old
   pub page : page_of new ≡ page_of old
   pub form_is : form_of new ≡ form_of old
+  pub unended : has_ended new ≡ has_ended old
   pub bytes : List ℕ
   pub used : Consumes (text_of old before) (text_of new now) bytes
   pub group : (form : PageForm) → form_of old ≡ Some form → (rest : List ℕ)

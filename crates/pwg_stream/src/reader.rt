@@ -135,6 +135,7 @@ impl PageReader {
         want: Wanted,
     ) -> Result<Option<PageForm>, StreamStop>
         requires going { stop_of self.old ≡ None }
+        requires unended { has_ended self.old ≡ false }
         requires narrowest { 1 ≤ want.least_width }
         requires widest { want.most_width ≤ 8191 }
         requires lowest { 1 ≤ want.least_height }
@@ -171,6 +172,7 @@ impl PageReader {
         ensures lines { OnOk result (lines_left_of self.new ≡ form.height) }
         ensures unread { self.new.unread ≡ self.old.unread }
         ensures page { page_of self.new ≡ page_of self.old }
+        ensures unended { has_ended self.new ≡ has_ended self.old }
         ensures going { stop_of self.new ≡ None }
     {
         match &mut self.lines {

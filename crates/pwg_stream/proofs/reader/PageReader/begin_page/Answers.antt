@@ -1,4 +1,4 @@
-use Rattle.std.proofs.Common.{arith, refl}
+use Rattle.std.proofs.Common.{arith, refl, ◌∙◌}
 use Rattle.stream_definitions.specs.Header.{header_of}
 use Rattle.stream_laws.proofs.HeaderLaws.{check-wanted}
 use Rattle.pwg_stream.proofs.reader.PageReader.begin_page.Goals as goal
@@ -29,4 +29,5 @@ returns-in_ok-begin_lines-in-Some-clause-page g c =
       last = omega (arith, c.begin_lines.ensures.page, some refl);
       form_is = c.in_ok-begin_lines-in-Some.ensures.form;
       lines = c.in_ok-begin_lines-in-Some.ensures.lines;
+      unended = c.begin_lines.ensures.unended ∙ c.requires.unended;
     }
