@@ -1,8 +1,5 @@
 //! A page by its lines.
-ghost use Rattle.std.specs.Prelude.{[], ◌≡◌};
-
 use super::*;
-use std::alloc::Global;
 use std::test::Fail;
 
 const WIDE: PageForm = PageForm {
@@ -19,21 +16,12 @@ const NARROW: PageForm = PageForm {
     bytes_per_line: 2,
 };
 
-fn begun(alloc: Global, form: PageForm) -> GreyPage
-    ensures { result ≡ record { form = form; lines = [] } }
-{
-    let mut page = GreyPage::make(alloc);
-    match page.begin(form) {
-        Ok(()) => page,
-        Err(_) => page,
-    }
-}
-
 #[test]
 fn lines_are_kept_in_order(rt: HostRuntime) -> Result<(), Fail> {
-    let mut page = begun(rt.alloc(), WIDE);
-    page.push(&[1, 2, 3], 2).ok().ok_or("no memory")?;
-    page.push(&[4, 5, 6], 1).ok().ok_or("no memory")?;
+    let mut page = GreyPage::make(rt.alloc());
+    page.begin(WIDE)?;
+    page.push(&[1, 2, 3], 2)?;
+    page.push(&[4, 5, 6], 1)?;
     assert_eq!(rt; page.form(), WIDE);
     assert_eq!(rt; page.line(0), [1, 2, 3].as_slice());
     assert_eq!(rt; page.line(1), [1, 2, 3].as_slice());
@@ -42,12 +30,16 @@ fn lines_are_kept_in_order(rt: HostRuntime) -> Result<(), Fail> {
 }
 
 #[test]
-fn a_page_begins_without_the_lines_before_it(rt: HostRuntime) -> Result<(), Fail> {
-    let mut page = begun(rt.alloc(), WIDE);
-    page.push(&[1, 2, 3], 4).ok().ok_or("no memory")?;
-    page.begin(NARROW).ok().ok_or("no memory")?;
-    page.push(&[7, 8], 1).ok().ok_or("no memory")?;
+fn pages_begin_without_the_lines_before_them(rt: HostRuntime) -> Result<(), Fail> {
+    let mut page = GreyPage::make(rt.alloc());
+    page.begin(NARROW)?;
+    page.push(&[7, 8], 1)?;
+    page.begin(WIDE)?;
+    page.push(&[1, 2, 3], 4)?;
+    assert_eq!(rt; page.line(3), [1, 2, 3].as_slice());
+    page.begin(NARROW)?;
+    page.push(&[9, 10], 1)?;
     assert_eq!(rt; page.form(), NARROW);
-    assert_eq!(rt; page.line(0), [7, 8].as_slice());
+    assert_eq!(rt; page.line(0), [9, 10].as_slice());
     Ok(())
 }
