@@ -1,1 +1,3 @@
-pub mod Inputs
+pub mod Lines
+pub mod PageSteps
+pub mod StreamSteps

@@ -1,1 +1,3 @@
+pub mod Outside
+pub mod Pages
 pub mod Run

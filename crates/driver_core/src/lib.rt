@@ -1,12 +1,11 @@
 //! The whole run of the driver: words and bytes in, bytes, a status and an error line out.
 #![tactic(auto)]
 
-mod feeding;
+mod pages;
+mod printing;
 mod running;
-mod words;
+mod showing;
 
-pub use answer_definitions::{Answer, UsageCause, UsageFault};
+pub use answer_definitions::{Answer, ProfileCause, UsageCause, UsageFault};
 pub use running::{run, tell};
 
-#[cfg(test)]
-mod tests;

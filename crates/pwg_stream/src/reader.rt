@@ -48,10 +48,11 @@ impl PageReader {
     ghost use Rattle.pwg_stream.specs.declared.stops.StreamStop.{StreamStop};
     ghost use Rattle.pwg_stream.specs.declared.stops.StreamStop.TheVariants as stop;
     ghost use Rattle.std.specs.Io.KnownBytes.{Consumes, IsAtEnd};
-    ghost use Rattle.std.specs.Prelude.{IfErr, IfNone, IfOk, IfSome, IsErrOf, OnErr, OnOk, Some, [], false, true, ◌<◌, ◌-◌};
+    ghost use Rattle.std.specs.Prelude.{IfErr, IfNone, IfOk, IfSome, IsErrOf, OnErr, OnOk, Some, [], false, length, true, ◌<◌, ◌-◌};
     ghost use Rattle.stream_definitions.specs.Header.{line_bytes, row_of};
     ghost use Rattle.stream_definitions.specs.Stream.StreamEnd.{Fault};
     ghost use Rattle.stream_definitions.specs.Stream.{pages_from, stream, sync_word};
+    ghost use Rattle.stream_definitions.specs.declared.pages.PageForm.{PageForm};
     ghost use Rattle.stream_definitions.specs.declared.pages.Wanted.{Wanted};
     ghost use Rattle.weave_base.specs.Causes.{Rose};
 
@@ -234,7 +235,8 @@ impl PageReader {
 
     /// The bytes of the line that `next_line` gave last, where no other call came after it.
     pub fn line(&self) -> &[u8]
-        ensures { result.now ≡ line_of self.now }
+        ensures line { result.now ≡ line_of self.now }
+        ensures sized { (form : PageForm) → form_of self.now ≡ Some form → length result.now ≡ form.bytes_per_line }
     {
         match &self.lines {
             Some(lines) => lines.line(),

@@ -1,0 +1,51 @@
+-- The pages of a stream that a run reads, and the bytes that it makes of them.
+use Rattle.std.specs.Prelude.{◌≡◌, ℕ, ◌+◌, ◌≤◌, List, [], ◌∷◌, ◌++◌, Option, None, IfSome}
+use Rattle.std.specs.List.{flat_map}
+use Rattle.std.specs.Io.KnownBytes.{Consumes, IsAtEnd}
+use Rattle.diffusion_definitions.specs.Diffusion.{Table}
+use Rattle.page_definitions.specs.PageBytes.{page_bytes}
+use Rattle.printer_definitions.specs.Printer.{Printer}
+use Rattle.pwg_stream.specs.declared.reader.PageReader.{PageReader}
+use Rattle.pwg_stream.specs.Reading.{has_ended, lines_left_of, page_of, stop_of, text_of}
+use Rattle.separation_definitions.specs.Windows.{wanted_by}
+use Rattle.stream_definitions.specs.declared.pages.Wanted.{Wanted}
+use Rattle.stream_definitions.specs.Stream.{Page, Stream, StreamEnd, page_at, stream}
+use Rattle.stream_definitions.specs.Stream.PageRead.{Whole}
+use Rattle.stream_definitions.specs.Stream.StreamEnd.{Done}
+use Rattle.driver_core.specs.Outside.{Outside}
+
+-- the job of pages: their bytes, one page after another
+abbrev pub job_bytes : Printer → Table → List Page → List ℕ
+job_bytes p k pages = flat_map (λ page. page_bytes page p k) pages
+
+-- the input, where it is told, is a stream of these pages that ends so
+abbrev pub IsStream : Printer → Option (List ℕ) → List Page → StreamEnd → Type 0
+IsStream p before pages end = IfSome before (λ bytes. stream (wanted_by p) bytes ≡ record { pages = pages; end = end })
+
+-- The input was read to its end, and is a stream of these pages with a clean end.
+pub record ReadsStream (p : Printer) (input : Outside) (pages : List Page) : Type 0 where
+  pub bytes : List ℕ
+  pub taken : Consumes input.before input.now bytes
+  pub end : IsAtEnd input.now
+  pub is : stream (wanted_by p) bytes ≡ record { pages = pages; end = Done }
+
+-- The first pages of what was taken of the input are these.
+pub record TakesPages (p : Printer) (input : Outside) (pages : List Page) : Type 0 where
+  pub bytes : List ℕ
+  pub taken : Consumes input.before input.now bytes
+  pub others : List Page
+  pub are : (stream (wanted_by p) bytes).pages ≡ pages ++ others
+
+-- The next bytes of the text are this page, whatever comes after them, and were used.
+pub record ReadsPage (want : Wanted) (old new : PageReader) (before now : Option (List ℕ)) (page : Page) : Type 0 where
+  pub bytes : List ℕ
+  pub used : Consumes (text_of old before) (text_of new now) bytes
+  pub is : (rest : List ℕ) → page_at want (bytes ++ rest) ≡ Whole page rest
+  pub number : page_of new ≡ page_of old + 1
+  pub last : page_of new ≤ 9999
+  pub unended : has_ended new ≡ has_ended old
+
+-- The reader stands before a page.
+pub record IsBetween (reader : PageReader) : Type 0 where
+  pub whole : lines_left_of reader ≡ 0
+  pub going : stop_of reader ≡ None

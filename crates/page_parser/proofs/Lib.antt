@@ -1,3 +1,0 @@
-pub mod PacketSteps
-pub mod LineSteps
-pub mod PageSteps
