@@ -21,7 +21,7 @@ copies-add (suc m) n unit =
     ap (λ k. copies k unit) (let e : suc m + n ≡ suc (m + n) = omega arith in e)
     ∙ ap (λ bs. unit ++ bs) (copies-add m n unit) ∙ sym (append_assoc unit (copies m unit) (copies n unit))
 
--- the front of many copies is fewer
+-- the front of copies and more bytes
 take-copies : (m len : ℕ) (unit rest : List ℕ) → length unit ≡ len → take (m * len) (copies m unit ++ rest) ≡ copies m unit
 take-copies m len unit rest sized =
     ap (λ k. take k (copies m unit ++ rest)) (ap (λ k. m * k) (sym sized) ∙ sym (length-copies m unit)) ∙ take-append_seam (copies m unit) rest
@@ -34,6 +34,7 @@ first_unit count unit bytes some whole = length-take-le unit bytes (omega (arith
 pub more_within : (count unit times more len : ℕ) → len + times * unit ≡ count * unit → more + times ≤ count → more * unit ≤ len
 more_within count unit times more len sized most = omega (arith, sized, mul-le-mul_right unit most)
 
+-- fewer units are within the copies
 pub fewer : (unit more times len : ℕ) → more ≤ times → len ≡ times * unit → more * unit ≤ len
 fewer unit more times len few is = omega (arith, is, mul-le-mul_right unit few)
 

@@ -6,6 +6,7 @@ use Rattle.std.proofs.lemmas.Bool.Decides.{Decides-eqb}
 use Rattle.std.proofs.lemmas.Slice.Eq.{starts_is}
 use Rattle.std.proofs.Math.Nat.{le-mul_of_pos_right, le_of_mul-le-mul_right, mul-le-mul_right, mul-mod_left, mul-sub}
 use Rattle.stream_definitions.specs.Groups.{Packet, copies, packet_spelling, packet_units}
+use Rattle.pwg_lines.proofs.Filling.{length-copies}
 use Rattle.pwg_lines.specs.Canonical.{canonical, copies_at, next_packet, packets_from, unequal_at}
 
 -- ---- counting units
@@ -176,10 +177,6 @@ copies_at-front (suc most) unit bytes = by_test (copies_at-front most unit (drop
         ∙ sym (append_assoc unit (copies n unit) (drop (suc n * length unit) bytes))
         ∙ ap (λ k. copies k unit ++ drop (k * length unit) bytes) more
     by_test after false e = ap (λ k. drop k bytes) (let none : 0 ≡ 0 * length unit = omega arith in none)
-
-length-copies : (n : ℕ) (unit : List ℕ) → length (copies n unit) ≡ n * length unit
-length-copies zero unit = omega arith
-length-copies (suc n) unit = length-append unit (copies n unit) ∙ ap (λ k. length unit + k) (length-copies n unit) ∙ omega arith
 
 pub copies_at-within : (most : ℕ) (unit bytes : List ℕ) → copies_at most unit bytes * length unit ≤ length bytes
 copies_at-within most unit bytes =

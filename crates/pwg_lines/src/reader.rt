@@ -72,7 +72,7 @@ pub struct LineReader {
 impl LineReader {
     ghost use Rattle.pwg_lines.specs.Reading.{Ends, IsAnew, IsFault, IsLine, IsMore, IsSame, OnFault, OnLine, OnMore, StandsFor, Takes, fault_of, form_of, line_of, lines_left_of};
     ghost use Rattle.pwg_lines.specs.States.{IsOpen};
-    ghost use Rattle.std.specs.Prelude.{IfOk, OnErr, OnOk, Some};
+    ghost use Rattle.std.specs.Prelude.{IfOk, IsOk, OnErr, OnOk, Some};
     ghost use Rattle.stream_definitions.specs.declared.faults.LineFault.{LineFault};
 
     /// A reader of the lines of a page of this form. The bytes of one line are allocated here, and no other memory.
@@ -101,8 +101,8 @@ impl LineReader {
         })
     }
 
-    /// Begins the lines of another page, of this form, wherever the reader stands. Memory is taken only where a line of
-    /// the new page is longer than any before; where there is none, the reader is as it was.
+    /// Begins the lines of another page, of this form, wherever the reader stands. The line that it has serves where the
+    /// new one is no longer; for want of memory the reader is as it was.
     pub fn restart(&mut self, form: PageForm) -> Result<(), Memory>
         requires narrowest { 1 ≤ form.width }
         requires widest { form.width ≤ 8191 }
@@ -114,6 +114,7 @@ impl LineReader {
         ensures anew { OnOk result (StandsFor self.new []) }
         ensures fresh { OnOk result (IsAnew self.new) }
         ensures err { OnErr result (IsSame self.old self.new) }
+        ensures fits { form.bytes_per_line ≤ (form_of self.old).bytes_per_line → IsOk result }
     {
         if self.line.resize(form.bytes_per_line as usize, 0).is_err() {
             return Err(Memory);
