@@ -8,4 +8,3 @@ mod showing;
 
 pub use answer_definitions::{Answer, ProfileCause, UsageCause, UsageFault};
 pub use running::{run, tell};
-
