@@ -4,16 +4,28 @@ use weave_base::Words;
 const HELP: &str = "\
 jinthbao - prints PWG Raster pages as ESC/P2 jobs
 
-usage: driver_program print profile=tiny1 < page.pwg > job.prn
+usage: driver_program print [profile=NAME] [kernel=NAME] [workers=NUMBER] < pages.pwg > job.prn
+       driver_program profile [profile=NAME]
+       driver_program --help | --version
 
-print profile=tiny1  reads one page of 8-bit grey at 360 dots an inch from standard
-                     input, diffuses it (Floyd and Steinberg), and writes its job for
-                     a printer with one black nozzle to standard output
---help               shows this text
---version            shows the version
+print    reads pages of 8-bit grey from standard input (PWG Raster, PWG 5102.4), diffuses each, and
+         writes their job to standard output. Today it prints for profiles of one nozzle and black ink.
+profile  writes the text of a profile to standard output
 
-exit status: 0 done, 1 a word is refused, 3 the input is refused, 4 a read failed,
-5 a write failed, 7 out of memory. Each but 0 has one line on standard error.
+profile=NAME    tiny1, tiny, p360k, p360cmyk, p720cmyk, or a file of the current folder
+                (default p360cmyk)
+kernel=NAME     fs (Floyd and Steinberg), jjn (Jarvis, Judice and Ninke) or stucki (default fs)
+workers=NUMBER  1 to 64 (default 1); one thread does the work today, whatever the number
+                Keys stand in any order, each at most once.
+
+exit status and line on standard error:
+0  none                              done
+1  usage: word N: CAUSE              a word of the command line is refused
+2  profile: line N: CAUSE            the profile is refused, at line 0 as a whole
+3  input: page N line N: CAUSE       the input is refused
+4  read failed                       a read of the input or of the profile's file failed
+5  write failed: page N              a write failed
+7  out of memory                     memory ran out
 ";
 
 const VERSION: &str = "jinthbao 0.1.0\n";

@@ -1,5 +1,5 @@
-//! The driver as a program: words from the command line, the page from standard input, the job to standard output, the
-//! error line to standard error, and the status as the exit code.
+//! The driver as a program: words from the command line, pages from standard input, the job to standard output, the error
+//! line to standard error, profiles from the files of the current folder, and the status as the exit code.
 #![tactic(auto)]
 
 mod command_line;
@@ -10,7 +10,7 @@ use driver_core::{Answer, run, tell};
 use help::text_of;
 use std::io::Write;
 use std::process::ExitCode;
-use weave_base::{StdSink, StdSource, Words, put_all};
+use weave_base::{DirShelf, StdSink, StdSource, Words, put_all};
 
 // Shows a text instead of a run.
 fn show<W: Write>(text: &str, out: &mut StdSink<W>) -> Answer {
@@ -26,7 +26,15 @@ fn run_words(rt: &HostRuntime, words: &Words) -> u8 {
     let mut out = StdSink::make(rt.stdout());
     let mut err = StdSink::make(rt.stderr());
     let Some(text) = text_of(words) else {
-        return run(rt.alloc(), words, &mut input, &mut out, &mut err);
+        let mut shelf = DirShelf::make(rt);
+        return run(
+            rt.alloc(),
+            words,
+            &mut input,
+            &mut out,
+            &mut err,
+            &mut shelf,
+        );
     };
     let answer = show(text, &mut out);
     tell(&answer, &mut err);
