@@ -168,8 +168,14 @@ pub fn front(bytes: &[u8], count: usize) -> &[u8] {
     }
 }
 
-/// Runs words that are refused, with an input and a shelf that fail, so that neither was asked.
-pub fn is_refused<R: Abort>(rt: &R, alloc: Global, texts: &[&str], status: u8, line: &[u8]) -> Result<(), Fail> {
+/// Runs words over an input and a shelf whose first calls fail, and asserts the answer.
+pub fn is_refused<R: Abort>(
+    rt: &R,
+    alloc: Global,
+    texts: &[&str],
+    status: u8,
+    line: &[u8],
+) -> Result<(), Fail> {
     let input = MemSource::make(Vec::new(alloc), Vec::new(alloc), vec![in alloc; 1]?);
     let shelf = MemShelf::make(Vec::new(alloc), vec![in alloc; 1]?);
     let out = roomy(alloc)?;

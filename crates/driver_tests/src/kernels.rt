@@ -10,7 +10,13 @@ fn print_by(alloc: Global, kernel: &str, workers: &str) -> Result<Left, Memory> 
         return Err(Memory);
     };
     let texts = ["print", "profile=tiny1", kernel, workers];
-    run_over(alloc, &texts, plain(alloc, bytes), roomy(alloc)?, no_files(alloc))
+    run_over(
+        alloc,
+        &texts,
+        plain(alloc, bytes),
+        roomy(alloc)?,
+        no_files(alloc),
+    )
 }
 
 #[test]
@@ -34,7 +40,13 @@ fn words_come_in_any_order(rt: HostRuntime) -> Result<(), Fail> {
     let alloc = rt.alloc();
     let bytes = one_page(alloc, 200, 70, &[0x45, 0x7F, 0x9B, 0x47, 0x9B])?;
     let texts = ["print", "workers=3", "kernel=jjn", "profile=tiny1"];
-    let left = run_over(alloc, &texts, plain(alloc, bytes), roomy(alloc)?, no_files(alloc))?;
+    let left = run_over(
+        alloc,
+        &texts,
+        plain(alloc, bytes),
+        roomy(alloc)?,
+        no_files(alloc),
+    )?;
     left.hashes_to(&rt, 3122, 0xAE47_5828_D3C6_B041);
     Ok(())
 }

@@ -9,6 +9,7 @@ use weave_base::{MemSink, MemSource};
 
 // The lengths of the job of one page, and of two.
 const ONE: usize = 69;
+
 const TWO: usize = 138;
 
 // The job of two pages of grey.
@@ -22,7 +23,15 @@ fn two_jobs(alloc: Global) -> Result<Vec<u8>, Fail> {
 fn a_failing_read_keeps_the_pages_before_it(rt: HostRuntime) -> Result<(), Fail> {
     let alloc = rt.alloc();
     let jobs = two_jobs(alloc)?;
-    for (call, length) in [(1, 0), (4, 0), (1808, 0), (1809, ONE), (3000, ONE), (3612, ONE), (3613, TWO)] {
+    for (call, length) in [
+        (1, 0),
+        (4, 0),
+        (1808, 0),
+        (1809, ONE),
+        (3000, ONE),
+        (3612, ONE),
+        (3613, TWO),
+    ] {
         let one = vec![in alloc; 1]?;
         let input = MemSource::make(two_pages(alloc)?, one, vec![in alloc; call]?);
         let left = run_over(alloc, &PRINT, input, roomy(alloc)?, no_files(alloc))?;
@@ -84,14 +93,25 @@ fn a_sink_of_short_writes_gets_the_job(rt: HostRuntime) -> Result<(), Fail> {
 #[test]
 fn a_deaf_error_sink_leaves_the_status(rt: HostRuntime) -> Result<(), Fail> {
     let alloc = rt.alloc();
-    let cases: [(usize, &[u8]); 3] = [(0, b""), (5, b"input"), (100, b"input: page 1 line 2: Truncated\n")];
+    let cases: [(usize, &[u8]); 3] = [
+        (0, b""),
+        (5, b"input"),
+        (100, b"input: page 1 line 2: Truncated\n"),
+    ];
     for (room, line) in cases {
         let bytes = two_pages(alloc)?;
         let mut input = plain(alloc, front(&bytes, GREY_STREAM - 1).to_vec(alloc)?);
         let mut out = roomy(alloc)?;
         let mut err = MemSink::make(alloc, room, Vec::new(alloc), Vec::new(alloc))?;
         let mut shelf = no_files(alloc);
-        let status = run(alloc, &words(alloc, &PRINT)?, &mut input, &mut out, &mut err, &mut shelf);
+        let status = run(
+            alloc,
+            &words(alloc, &PRINT)?,
+            &mut input,
+            &mut out,
+            &mut err,
+            &mut shelf,
+        );
         assert_eq!(rt; status, 3);
         assert_eq!(rt; out.bytes(), b"".as_slice());
         assert_eq!(rt; err.bytes(), line);

@@ -1,5 +1,7 @@
 //! Pages printed by printers of one nozzle that differ from the plainest in one value.
-use crate::fixture::{Left, add_header, begin, no_files, one_file, one_page, plain, roomy, run_over};
+use crate::fixture::{
+    Left, add_header, begin, no_files, one_file, one_page, plain, roomy, run_over,
+};
 use std::alloc::Global;
 use std::test::Fail;
 use weave_base::Memory;
@@ -10,7 +12,13 @@ const PLAIN: &[u8] = b"escp2-profile 1\nhdpi=360\nvdpi=360\nnozzles=1\npitch=1\n
 // Prints these bytes by the printer of this text.
 fn print_by(alloc: Global, text: &[u8], bytes: Vec<u8>) -> Result<Left, Memory> {
     let shelf = one_file(alloc, "m1.txt", text)?;
-    run_over(alloc, &["print", "profile=m1.txt"], plain(alloc, bytes), roomy(alloc)?, shelf)
+    run_over(
+        alloc,
+        &["print", "profile=m1.txt"],
+        plain(alloc, bytes),
+        roomy(alloc)?,
+        shelf,
+    )
 }
 
 // The text of the plainest printer, and these lines.
@@ -55,7 +63,11 @@ fn each_value_of_a_printer_has_its_place_in_the_job(rt: HostRuntime) -> Result<(
     let cases: [(&[u8], usize, u64); 5] = [
         (b"limit_k=100\n", 122, 0xEA96_5801_A200_52DB),
         (b"limit_c=0\nblack_start=254\n", 122, 0x9E0B_661F_C147_67AB),
-        (b"left=1\nright=1\ntop=1\nbottom=1\n", 82, 0x00F5_0C66_62B5_63A7),
+        (
+            b"left=1\nright=1\ntop=1\nbottom=1\n",
+            82,
+            0x00F5_0C66_62B5_63A7,
+        ),
         (b"right=2\n", 122, 0x5CCC_6C76_DA27_2C83),
         (b"limit_k=0\n", 49, 0xA9DE_C6EE_CBE2_92C6),
     ];
@@ -70,10 +82,30 @@ fn each_value_of_a_printer_has_its_place_in_the_job(rt: HostRuntime) -> Result<(
 fn pitch_and_dots_an_inch_set_the_steps(rt: HostRuntime) -> Result<(), Fail> {
     let alloc = rt.alloc();
     let cases: [(&[u8], (u32, u32), usize, u64); 4] = [
-        (b"escp2-profile 1\nhdpi=360\nvdpi=360\nnozzles=1\npitch=3\ninks=k\n", (360, 360), 122, 0x9E00_BEE7_FCDD_38AB),
-        (b"escp2-profile 1\nhdpi=720\nvdpi=360\nnozzles=1\npitch=1\ninks=k\n", (720, 360), 122, 0x50A3_1315_3C09_4263),
-        (b"escp2-profile 1\nhdpi=360\nvdpi=720\nnozzles=1\npitch=1\ninks=k\n", (360, 720), 122, 0xF257_4420_E9E9_F6D8),
-        (b"escp2-profile 1\nhdpi=720\nvdpi=720\nnozzles=1\npitch=51\ninks=k\ntop=1\nleft=1\n", (720, 720), 102, 0x5252_C4D7_DEAA_B324),
+        (
+            b"escp2-profile 1\nhdpi=360\nvdpi=360\nnozzles=1\npitch=3\ninks=k\n",
+            (360, 360),
+            122,
+            0x9E00_BEE7_FCDD_38AB,
+        ),
+        (
+            b"escp2-profile 1\nhdpi=720\nvdpi=360\nnozzles=1\npitch=1\ninks=k\n",
+            (720, 360),
+            122,
+            0x50A3_1315_3C09_4263,
+        ),
+        (
+            b"escp2-profile 1\nhdpi=360\nvdpi=720\nnozzles=1\npitch=1\ninks=k\n",
+            (360, 720),
+            122,
+            0xF257_4420_E9E9_F6D8,
+        ),
+        (
+            b"escp2-profile 1\nhdpi=720\nvdpi=720\nnozzles=1\npitch=51\ninks=k\ntop=1\nleft=1\n",
+            (720, 720),
+            102,
+            0x5252_C4D7_DEAA_B324,
+        ),
     ];
     for (text, resolution, length, hash) in cases {
         let left = print_by(alloc, text, black(alloc, resolution)?)?;
@@ -89,7 +121,13 @@ fn a_page_can_be_printed_by_a_text_or_by_its_name(rt: HostRuntime) -> Result<(),
     let alloc = rt.alloc();
     let by_text = print_by(alloc, PLAIN, black(alloc, (360, 360))?)?;
     let input = plain(alloc, black(alloc, (360, 360))?);
-    let by_name = run_over(alloc, &["print", "profile=tiny1"], input, roomy(alloc)?, no_files(alloc))?;
+    let by_name = run_over(
+        alloc,
+        &["print", "profile=tiny1"],
+        input,
+        roomy(alloc)?,
+        no_files(alloc),
+    )?;
     by_text.is(&rt, 0, by_name.out.bytes(), b"");
     Ok(())
 }

@@ -183,7 +183,11 @@ fn every_front_of_a_stream_has_its_answer(rt: HostRuntime) -> Result<(), Fail> {
     for count in 0..GREY_STREAM + 1 {
         let left = print_bytes(alloc, front(&whole, count).to_vec(alloc)?)?;
         let (status, line) = answer_to_front(count);
-        let job = if count < GREY_STREAM { b"".as_slice() } else { GREY_JOB.as_slice() };
+        let job = if count < GREY_STREAM {
+            b"".as_slice()
+        } else {
+            GREY_JOB.as_slice()
+        };
         left.is(&rt, status, job, line);
     }
     Ok(())
