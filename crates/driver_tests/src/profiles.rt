@@ -197,7 +197,7 @@ fn a_bad_text_is_refused_at_its_line(rt: HostRuntime) -> Result<(), Fail> {
 // The text of a profile with a remark behind it, of so many bytes.
 fn text_of(alloc: Global, length: usize) -> Result<Vec<u8>, Fail> {
     let mut text = JUST_ENOUGH.to_vec(alloc)?;
-    while text.len() < length {
+    for _ in text.len()..length {
         text.push(b'#')?;
     }
     Ok(text)
