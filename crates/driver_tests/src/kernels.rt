@@ -34,19 +34,3 @@ fn tiles_give_the_row_by_row_page(rt: HostRuntime) -> Result<(), Fail> {
     }
     Ok(())
 }
-
-#[test]
-fn words_come_in_any_order(rt: HostRuntime) -> Result<(), Fail> {
-    let alloc = rt.alloc();
-    let bytes = one_page(alloc, 200, 70, &[0x45, 0x7F, 0x9B, 0x47, 0x9B])?;
-    let texts = ["print", "workers=3", "kernel=jjn", "profile=tiny1"];
-    let left = run_over(
-        alloc,
-        &texts,
-        plain(alloc, bytes),
-        roomy(alloc)?,
-        no_files(alloc),
-    )?;
-    left.hashes_to(&rt, 3122, 0xAE47_5828_D3C6_B041);
-    Ok(())
-}

@@ -4,6 +4,7 @@ use crate::fixture::{
     print_bytes, roomy, run_over, two_pages,
 };
 use std::alloc::Global;
+use std::process::Abort;
 use std::test::Fail;
 use weave_base::{MemSource, Memory};
 
@@ -150,13 +151,31 @@ fn prints_both(alloc: Global, first: u32) -> Result<bool, Memory> {
     Ok(left.status == 0 && one == GREY_JOB.as_slice() && two == GREY_JOB.as_slice())
 }
 
-#[test]
-fn every_cut_of_a_stream_gives_its_job(rt: HostRuntime) -> Result<(), Fail> {
-    let alloc = rt.alloc();
-    assert_eq!(rt; two_pages(alloc)?.len(), 3612);
-    for first in 1..3613 {
+// Asserts that each of these cuts leaves the job of two pages of grey as it is.
+fn try_cuts<R: Abort>(rt: &R, alloc: Global, from: u32, to: u32) -> Result<(), Memory> {
+    for first in from..to {
         assert!(rt; prints_both(alloc, first)?, "cut at {first}");
     }
+    Ok(())
+}
+
+#[test]
+fn every_cut_in_the_first_page_gives_the_job(rt: HostRuntime) -> Result<(), Fail> {
+    try_cuts(&rt, rt.alloc(), 1, 1808)?;
+    Ok(())
+}
+
+#[test]
+fn every_cut_in_the_second_page_gives_the_job(rt: HostRuntime) -> Result<(), Fail> {
+    let alloc = rt.alloc();
+    assert_eq!(rt; two_pages(alloc)?.len(), 3612);
+    try_cuts(&rt, alloc, 1808, 3613)?;
+    Ok(())
+}
+
+#[test]
+fn a_stream_byte_by_byte_gives_the_job(rt: HostRuntime) -> Result<(), Fail> {
+    let alloc = rt.alloc();
     let input = MemSource::make(two_pages(alloc)?, vec![in alloc; 1]?, Vec::new(alloc));
     let left = run_over(alloc, &PRINT, input, roomy(alloc)?, no_files(alloc))?;
     left.hashes_to(&rt, 138, 0x87F8_4D36_737C_6565);
