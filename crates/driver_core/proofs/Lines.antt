@@ -1,6 +1,5 @@
 -- The lines of a page, group by group.
-use Rattle.std.proofs.Common.{◌≡◌, ℕ, zero, suc, ◌+◌, ◌-◌, ◌<◌, ◌≤◌, List, [], ◌∷◌, ◌++◌, length, replicate, refl, sym, ◌∙◌, ap, arith, append_assoc, append-nil}
-use Rattle.stream_definitions.specs.declared.faults.InputCause.{InputCause}
+use Rattle.std.proofs.Common.{◌≡◌, ℕ, zero, suc, ◌+◌, ◌-◌, ◌≤◌, List, [], ◌++◌, length, replicate, refl, sym, ◌∙◌, ap, arith, append_assoc}
 use Rattle.stream_definitions.specs.declared.faults.InputCause.TheVariants as cause
 use Rattle.stream_definitions.specs.declared.pages.Kind.{Kind}
 use Rattle.stream_definitions.specs.declared.pages.Kind.TheVariants.{Gray8}

@@ -1,6 +1,6 @@
 -- A page that is read, group by group.
-use Rattle.std.proofs.Common.{◌≡◌, ℕ, zero, suc, ◌+◌, ◌-◌, ◌<◌, ◌≤◌, nat_lt, Bool, true, false, if◌then◌else◌, List, [], ◌∷◌, ◌++◌, length, take, drop, replicate, Option, None, Some, IfSome, Result, Ok, Err, refl, sym, ◌∙◌, ap, subst, arith, append_assoc, append-nil, length-append}
-use Rattle.std.specs.Io.KnownBytes.{Consumes, IsAtEnd, Keeps}
+use Rattle.std.proofs.Common.{◌≡◌, ℕ, zero, suc, ◌+◌, ◌-◌, ◌<◌, ◌≤◌, nat_lt, false, if◌then◌else◌, List, [], ◌∷◌, ◌++◌, length, take, drop, replicate, Option, None, Some, IfSome, Result, Ok, Err, refl, sym, ◌∙◌, ap, arith, append_assoc, append-nil, length-append}
+use Rattle.std.specs.Io.KnownBytes.{Consumes}
 use Rattle.std.proofs.KnownBytes.{Consumes-trans}
 use Rattle.std.proofs.lemmas.Bool.{le-ltb}
 use Rattle.std.proofs.lemmas.List.{drop_at, take_at}
@@ -12,18 +12,17 @@ use Rattle.stream_definitions.specs.declared.pages.Wanted.{Wanted}
 use Rattle.stream_definitions.specs.Header.{check, header_of, line_units, row_of}
 use Rattle.stream_definitions.specs.Groups.{group_at}
 use Rattle.stream_definitions.specs.Groups.GroupRead.{Group}
-use Rattle.stream_definitions.specs.Stream.{LinesRead, Page, PageRead, Stream, StreamEnd, lines_at, page_at, page_behind, page_of as page_of_lines, pages_from, with_lines, with_page}
+use Rattle.stream_definitions.specs.Stream.{LinesRead, Page, PageRead, lines_at, page_at, page_behind, page_of as page_of_lines, pages_from, with_lines, with_page}
 use Rattle.stream_definitions.specs.Stream.StreamEnd.{Fault}
-use Rattle.stream_definitions.specs.Stream.LinesRead.{Lines, Stop}
+use Rattle.stream_definitions.specs.Stream.LinesRead.{Stop}
 use Rattle.stream_definitions.specs.Stream.PageRead.{Whole, Broken}
 use Rattle.pwg_stream.specs.declared.reader.PageReader.{PageReader}
-use Rattle.pwg_stream.specs.Pages.{GivesHeader}
 use Rattle.pwg_stream.specs.Reading.{BeginsPage, GivesLines, HasLineFault, form_of, has_ended, line_of, lines_left_of, lines_of, page_of, stop_of, text_of}
 use Rattle.pwg_stream.specs.Stops.{OnInput}
 use Rattle.pwg_stream.specs.Text.{UsesSome}
 use Rattle.pwg_stream.specs.declared.stops.StreamStop.{StreamStop}
 use Rattle.pwg_stream.specs.declared.stops.StreamStop.TheVariants as stop
-use Rattle.driver_core.specs.Pages.{IsBetween, ReadsPage}
+use Rattle.driver_core.specs.Pages.{ReadsPage}
 use Rattle.driver_core.proofs.Lines.{lines_at-enough, lines_at-none, lines_at-read, white-unit, with-both, with-none}
 
 -- what the rest of a page is read as, of which so many lines are left
@@ -158,8 +157,8 @@ page_fault want old now before left page number line why so_far bad = told (text
         let fuel : 9999 - page_of old ≡ suc (9998 - page_of old) = omega (arith, so_far.number, so_far.last) in
         let at : page_of old + 1 ≡ number = omega (arith, so_far.number, bad.page_is) in
         let stops : page_at want (so_far.bytes ++ ys) ≡ Broken line why =
-            so_far.is ys
-            ∙ ap (λ r. page_of_lines page.form (with_lines page.lines r)) (lines_at-enough row units page.form.height so_far.most (lines_left_of now) (lines_left_of now) ys (white-unit page.form.kind) so_far.enough (omega arith) ∙ h) in
+        so_far.is ys
+        ∙ ap (λ r. page_of_lines page.form (with_lines page.lines r)) (lines_at-enough row units page.form.height so_far.most (lines_left_of now) (lines_left_of now) ys (white-unit page.form.kind) so_far.enough (omega arith) ∙ h) in
         ap (pages_from want (9999 - page_of old) (page_of old + 1)) uses
         ∙ ap (λ k. pages_from want k (page_of old + 1) (so_far.bytes ++ ys)) fuel
         ∙ pages-read want (9998 - page_of old) (page_of old + 1) (so_far.bytes ++ ys) (Broken line why) (omega (arith, so_far.some, length-append so_far.bytes ys)) stops

@@ -1,26 +1,19 @@
 -- A stream that is read page by page, and printed.
-use Rattle.std.proofs.Common.{◌≡◌, ℕ, zero, suc, ◌+◌, ◌-◌, ◌<◌, ◌≤◌, Bool, true, false, if◌then◌else◌, List, [], ◌∷◌, ◌++◌, length, drop, Option, None, Some, IfSome, refl, sym, ◌∙◌, ap, subst, arith, append_assoc, append-nil, length-append, flat_map}
-use Rattle.std.specs.List.{AllByRecursion, starts_with}
-use Rattle.std.specs.Prelude.{nat_eq}
-use Rattle.std.specs.Io.KnownBytes.{Appends, Consumes, IsAtEnd, Keeps}
+use Rattle.std.proofs.Common.{◌≡◌, ℕ, suc, ◌+◌, ◌-◌, ◌≤◌, false, List, [], ◌∷◌, ◌++◌, length, Option, refl, sym, ◌∙◌, ap, subst, arith, append_assoc, append-nil, length-append}
+use Rattle.std.specs.Io.KnownBytes.{Appends, Consumes}
 use Rattle.std.proofs.KnownBytes.{Appends-nil, Appends-trans, Consumes-trans}
 use Rattle.diffusion_definitions.specs.Diffusion.{Table}
 use Rattle.page_definitions.specs.PageBytes.{page_bytes}
 use Rattle.printer_definitions.specs.Printer.{Printer}
 use Rattle.separation_definitions.specs.Windows.{wanted_by}
-use Rattle.stream_definitions.specs.declared.faults.InputCause.{InputCause}
 use Rattle.stream_definitions.specs.declared.faults.InputCause.TheVariants as cause
 use Rattle.stream_definitions.specs.declared.pages.Wanted.{Wanted}
-use Rattle.stream_definitions.specs.Stream.{IsPage, Page, PageRead, Stream, StreamEnd, page_at, pages_from, stream, sync_word, with_page}
+use Rattle.stream_definitions.specs.Stream.{Page, Stream, page_at, pages_from, stream, sync_word, with_page}
 use Rattle.stream_definitions.specs.Stream.PageRead.{Whole, Broken}
-use Rattle.stream_definitions.specs.Stream.StreamEnd.{Done, Fault}
-use Rattle.stream_laws.proofs.PageLaws.{stream-pages}
 use Rattle.pwg_stream.specs.declared.reader.PageReader.{PageReader}
-use Rattle.pwg_stream.specs.Reading.{has_ended, page_of, stop_of, text_of}
-use Rattle.pwg_stream.specs.Text.{UsesSome, text_behind}
-use Rattle.driver_core.specs.Outside.{Outside}
-use Rattle.driver_core.specs.Pages.{IsBetween, IsStream, ReadsPage, ReadsStream, TakesPages, job_bytes}
-use Rattle.driver_core.proofs.PageSteps.{EndsSo, pages-read}
+use Rattle.pwg_stream.specs.Reading.{has_ended, page_of, text_of}
+use Rattle.driver_core.specs.Pages.{IsBetween, ReadsPage, job_bytes}
+use Rattle.driver_core.proofs.PageSteps.{pages-read}
 
 -- the stream with these pages before it
 abbrev pub with_pages : List Page → Stream → Stream
@@ -99,7 +92,7 @@ stream_read p k before left left' held now old new number page so_far reads betw
       ∙ so_far.is (reads.bytes ++ rest)
       ∙ ap (λ m. with_pages so_far.done (pages_from want m (n + 1) (reads.bytes ++ rest))) fuel
       ∙ ap (with_pages so_far.done) (pages-read want (9998 - n) (n + 1) (reads.bytes ++ rest) (Whole page rest)
-          (omega (arith, page-some want reads.bytes page reads.is, length-append reads.bytes rest)) (reads.is rest))
+      (omega (arith, page-some want reads.bytes page reads.is, length-append reads.bytes rest)) (reads.is rest))
       ∙ with_pages-append so_far.done page (pages_from want (9998 - n) (n + 1 + 1) rest)
       ∙ ap (λ m. with_pages (so_far.done ++ page ∷ []) (pages_from want (9998 - n) m rest)) next;
   written = so_far.written;
@@ -131,3 +124,10 @@ stream_written p k before left held now now' reader number page read wrote =
       between = read.between;
       unended = read.unended;
     }
+
+-- a stream that begins with this page
+pub pages-first : (want : Wanted) (bytes : List ℕ) (page : Page) → ((rest : List ℕ) → page_at want (bytes ++ rest) ≡ Whole page rest)
+    → stream want (sync_word ++ (bytes ++ [])) ≡ with_page page (pages_from want 9998 2 [])
+pages-first want bytes page is =
+    stream-synced want (bytes ++ [])
+    ∙ pages-read want 9998 1 (bytes ++ []) (Whole page []) (omega (arith, page-some want bytes page is, length-append bytes [])) (is [])

@@ -3,6 +3,10 @@ use Rattle.std.specs.Prelude.{ℕ, List, Option}
 use Rattle.weave_base.specs.Causes.{Rose}
 use Rattle.weave_base.specs.Shelf.{NamedText}
 
+-- the count of faults did not rise
+abbrev pub IsCalm : ℕ → ℕ → Type 0
+IsCalm before now = Rose before now → ⊥
+
 -- A source or a sink at the call and at the return: its bytes, where it tells them, and its count of faults.
 pub record Outside : Type 0 where
   pub before : Option (List ℕ)

@@ -1,5 +1,5 @@
 -- The pages of a stream that a run reads, and the bytes that it makes of them.
-use Rattle.std.specs.Prelude.{◌≡◌, ℕ, ◌+◌, ◌≤◌, List, [], ◌∷◌, ◌++◌, Option, None, IfSome}
+use Rattle.std.specs.Prelude.{◌≡◌, ℕ, ◌+◌, ◌≤◌, List, ◌++◌, Option, None, IfSome}
 use Rattle.std.specs.List.{flat_map}
 use Rattle.std.specs.Io.KnownBytes.{Consumes, IsAtEnd}
 use Rattle.diffusion_definitions.specs.Diffusion.{Table}
@@ -9,10 +9,9 @@ use Rattle.pwg_stream.specs.declared.reader.PageReader.{PageReader}
 use Rattle.pwg_stream.specs.Reading.{has_ended, lines_left_of, page_of, stop_of, text_of}
 use Rattle.separation_definitions.specs.Windows.{wanted_by}
 use Rattle.stream_definitions.specs.declared.pages.Wanted.{Wanted}
-use Rattle.stream_definitions.specs.Stream.{Page, Stream, StreamEnd, page_at, stream}
+use Rattle.stream_definitions.specs.Stream.{Page, StreamEnd, page_at, stream}
 use Rattle.stream_definitions.specs.Stream.PageRead.{Whole}
 use Rattle.stream_definitions.specs.Stream.StreamEnd.{Done}
-use Rattle.driver_core.specs.Outside.{Outside}
 
 -- the job of pages: their bytes, one page after another
 abbrev pub job_bytes : Printer → Table → List Page → List ℕ
@@ -23,16 +22,16 @@ abbrev pub IsStream : Printer → Option (List ℕ) → List Page → StreamEnd 
 IsStream p before pages end = IfSome before (λ bytes. stream (wanted_by p) bytes ≡ record { pages = pages; end = end })
 
 -- The input was read to its end, and is a stream of these pages with a clean end.
-pub record ReadsStream (p : Printer) (input : Outside) (pages : List Page) : Type 0 where
+pub record ReadsStream (p : Printer) (before now : Option (List ℕ)) (pages : List Page) : Type 0 where
   pub bytes : List ℕ
-  pub taken : Consumes input.before input.now bytes
-  pub end : IsAtEnd input.now
+  pub taken : Consumes before now bytes
+  pub end : IsAtEnd now
   pub is : stream (wanted_by p) bytes ≡ record { pages = pages; end = Done }
 
 -- The first pages of what was taken of the input are these.
-pub record TakesPages (p : Printer) (input : Outside) (pages : List Page) : Type 0 where
+pub record TakesPages (p : Printer) (before now : Option (List ℕ)) (pages : List Page) : Type 0 where
   pub bytes : List ℕ
-  pub taken : Consumes input.before input.now bytes
+  pub taken : Consumes before now bytes
   pub others : List Page
   pub are : (stream (wanted_by p) bytes).pages ≡ pages ++ others
 

@@ -32,24 +32,24 @@ abbrev pub Untouched : Outside → Outside → Type 0
 Untouched input out = Keeps input.before input.now × Keeps out.before out.now
 
 -- the jobs of these pages were written, and a part of the next one's
-pub record StopsInPage (p : Printer) (k : Table) (out : Outside) (pages : List Page) (page : Page) : Type 0 where
+pub record StopsInPage (p : Printer) (k : Table) (before now : Option (List ℕ)) (pages : List Page) (page : Page) : Type 0 where
   pub between : Option (List ℕ)
-  pub whole : Appends out.before between (job_bytes p k pages)
-  pub part : AppendsPart between out.now (page_bytes page p k)
+  pub whole : Appends before between (job_bytes p k pages)
+  pub part : AppendsPart between now (page_bytes page p k)
 
 -- What printing comes to, for a printer and a kernel: when each answer comes, and what was then read and written.
 abbrev pub PrintOutcome : Printer → Table → Outside → Outside → Answer → Type 0
-PrintOutcome p k input out answer.Done = (pages : List Page) × ReadsStream p input pages
+PrintOutcome p k input out answer.Done = (pages : List Page) × ReadsStream p input.before input.now pages
     × Appends out.before out.now (job_bytes p k pages) × Prints p k pages (job_bytes p k pages)
 PrintOutcome p k input out (answer.Usage fault) = ⊥
 PrintOutcome p k input out (answer.Profile line cause) = ⊥
 PrintOutcome p k input out (answer.Input page line cause) = (pages : List Page) × IsStream p input.before pages (Fault page line cause)
     × Appends out.before out.now (job_bytes p k pages)
-PrintOutcome p k input out answer.Read = HasRisen input × (pages : List Page) × TakesPages p input pages
+PrintOutcome p k input out answer.Read = HasRisen input × (pages : List Page) × TakesPages p input.before input.now pages
     × Appends out.before out.now (job_bytes p k pages)
 PrintOutcome p k input out (answer.Write number) = HasRisen out × (pages : List Page) × (page : Page)
-    × TakesPages p input (pages ++ page ∷ []) × (number ≡ length pages + 1) × StopsInPage p k out pages page
-PrintOutcome p k input out answer.Memory = (pages : List Page) × TakesPages p input pages
+    × TakesPages p input.before input.now (pages ++ page ∷ []) × (number ≡ length pages + 1) × StopsInPage p k out.before out.now pages page
+PrintOutcome p k input out answer.Memory = (pages : List Page) × TakesPages p input.before input.now pages
     × Appends out.before out.now (job_bytes p k pages)
 
 -- What showing a profile comes to.
@@ -94,6 +94,12 @@ Outcome words shelf input out a = LineOutcome (job_meaning words) (profile_named
 -- the profile of a command is this one, or refused so, whatever a shelf that does not tell its texts has
 abbrev pub ProfileIs : Option (List NamedText) → Verb → List ℕ → Result Profile Refusal → Type 0
 ProfileIs told command name r = (other : Result Profile Refusal) → IsJobProfile told command name other → other ≡ r
+
+-- The words ask for this command, with a profile that is this one or is refused so.
+pub record AsksFor (words : List (List ℕ)) (told : Option (List NamedText)) (command : Verb) (job : Job) (r : Result Profile Refusal) : Type 0 where
+  pub means : job_meaning words ≡ Ok job
+  pub command_is : job.verb ≡ command
+  pub profile_is : ProfileIs told command (profile_named words) r
 
 -- The answer's line, whole or a part of it; whole where the count did not rise.
 abbrev pub Told : Outside → Answer → Type 0

@@ -9,3 +9,5 @@ mod showing;
 pub use answer_definitions::{Answer, ProfileCause, UsageCause, UsageFault};
 pub use running::{run, tell};
 
+#[cfg(test)]
+mod tests;

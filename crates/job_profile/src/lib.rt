@@ -2,6 +2,8 @@
 #![tactic(auto)]
 
 mod finding;
+#[cfg(test)]
+mod tests;
 
 pub use answer_definitions::ProfileCause;
 pub use finding::{ProfileStop, find_profile};

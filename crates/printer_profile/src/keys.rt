@@ -102,10 +102,7 @@ impl Key {
     fn at(place: u8) -> Option<Key>
         ensures { result ≡ key_at place }
     {
-        Key::ALL
-            .iter()
-            .copied()
-            .find(|key| key.place() == place)
+        Key::ALL.iter().copied().find(|key| key.place() == place)
     }
 
     // The key of a name.

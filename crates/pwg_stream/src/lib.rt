@@ -6,6 +6,8 @@ mod headers;
 mod reader;
 mod stops;
 mod sync;
+#[cfg(test)]
+mod tests;
 mod unread;
 
 pub use reader::PageReader;

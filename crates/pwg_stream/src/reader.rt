@@ -103,6 +103,10 @@ impl PageReader {
         ensures used { UsesSome (text_of self.old (S.left s.old)) (text_of self.new (S.left s.new)) }
         ensures later { S.faults s.old ≤ S.faults s.new }
 
+        // Where no page is begun, none is in hand with lines to give.
+        ensures none_left { IfOk result (λ o. IfNone o (lines_left_of self.new ≡ 0)) }
+        ensures left { OnErr result (lines_left_of self.new ≡ 0) }
+
         // A stop is answered by each later call, and so is the end.
         ensures going { OnOk result (stop_of self.new ≡ None) }
         ensures stop { IfErr result (λ stop. stop_of self.new ≡ Some stop) }
@@ -150,6 +154,8 @@ impl PageReader {
         ensures read { IsErrOf result stop.Read → Rose (S.faults s.old) (S.faults s.new) }
         ensures used { UsesSome (text_of self.old (S.left s.old)) (text_of self.new (S.left s.new)) }
         ensures later { S.faults s.old ≤ S.faults s.new }
+        ensures none_left { IfOk result (λ o. IfNone o (lines_left_of self.new ≡ lines_left_of self.old)) }
+        ensures left { OnErr result (lines_left_of self.new ≡ lines_left_of self.old) }
     {
         match read_front(&mut self.unread, s, self.page, want)? {
             None => Ok(None),
@@ -171,6 +177,7 @@ impl PageReader {
         requires bytes { form.bytes_per_line ≡ line_bytes form.width (row_of form.kind).bits_per_pixel }
         ensures form { OnOk result (form_of self.new ≡ Some form) }
         ensures lines { OnOk result (lines_left_of self.new ≡ form.height) }
+        ensures left { OnErr result (lines_left_of self.new ≡ lines_left_of self.old) }
         ensures unread { self.new.unread ≡ self.old.unread }
         ensures page { page_of self.new ≡ page_of self.old }
         ensures unended { has_ended self.new ≡ has_ended self.old }

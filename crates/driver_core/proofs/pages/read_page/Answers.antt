@@ -1,9 +1,5 @@
-use Rattle.std.proofs.Common.{arith, ap, sym, ◌∙◌, ◌++◌, replicate, subst, Bool}
-use Rattle.std.proofs.Common.{rules}
-use Rattle.stream_definitions.specs.Stream.{Page}
-use Rattle.pwg_stream.specs.Reading.{GivesLines}
-use Rattle.pwg_stream.specs.Text.{UsesSome}
-use Rattle.driver_core.proofs.PageSteps.{PageSoFar, fault_in_page, page_begin, page_end, page_step, uses_more}
+use Rattle.std.proofs.Common.{arith, ◌∙◌, Bool}
+use Rattle.driver_core.proofs.PageSteps.{fault_in_page, page_begin, page_end, page_step, uses_more}
 use Rattle.driver_core.proofs.pages.read_page.Goals as goal
 
 pub groups-init : goal.groups-init
