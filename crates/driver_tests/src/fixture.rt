@@ -1,0 +1,185 @@
+//! Streams, words and runs in memory.
+use driver_core::run;
+use pwg_header::{Kind, PageForm, write_header};
+use std::alloc::{AllocError, Global};
+use std::process::Abort;
+use std::test::Fail;
+use weave_base::{MemShelf, MemSink, MemSource, Memory, ShelfFile, Words};
+
+/// Two lines of grey, of which the second has two dots, on a page of four columns.
+pub const GREY_BODY: [u8; 8] = [0, 3, 0xD1, 0, 2, 0x9F, 0, 0xA3];
+
+/// The job of the page of grey.
+pub const GREY_JOB: [u8; 69] = [
+    0x1B, 0x40, 0x1B, 0x28, 0x47, 1, 0, 1, 0x1B, 0x28, 0x55, 1, 0, 5, 0x1B, 0x28, 0x69, 1, 0, 0,
+    0x1B, 0x55, 1, 0x1B, 0x28, 0x43, 2, 0, 4, 0, 0x1B, 0x28, 0x63, 4, 0, 0, 0, 4, 0, 0x1B, 0x28,
+    0x56, 2, 0, 0, 0, 0x1B, 0x28, 0x76, 2, 0, 2, 0, 0x1B, 0x72, 0, 0x0D, 0x1B, 0x2E, 0, 10, 10, 1,
+    4, 0, 0x50, 0x0C, 0x1B, 0x40,
+];
+
+/// The bytes of a stream of one page of grey.
+pub const GREY_STREAM: usize = 1808;
+
+/// The words that most runs have.
+pub const PRINT: [&str; 2] = ["print", "profile=tiny1"];
+
+/// What a run left: its status, its output and its error line.
+#[derive(Drop)]
+pub struct Left {
+    pub status: u8,
+    pub out: MemSink,
+    pub err: MemSink,
+}
+
+/// The words of a command line, at most nine of them.
+pub fn words(alloc: Global, texts: &[&str]) -> Result<Words, Memory> {
+    let mut made = Words::make(alloc);
+    for text in texts {
+        if made.len() < 9 {
+            made.push(text)?;
+        }
+    }
+    Ok(made)
+}
+
+/// A sink that never fails.
+pub fn roomy(alloc: Global) -> Result<MemSink, Memory> {
+    MemSink::make(alloc, 70_000, Vec::new(alloc), Vec::new(alloc))
+}
+
+/// A source that gives as much as it is asked for.
+pub fn plain(alloc: Global, bytes: Vec<u8>) -> MemSource {
+    MemSource::make(bytes, Vec::new(alloc), Vec::new(alloc))
+}
+
+/// A shelf without a file.
+pub fn no_files(alloc: Global) -> MemShelf {
+    MemShelf::make(Vec::new(alloc), Vec::new(alloc))
+}
+
+/// A shelf of one file.
+pub fn one_file(alloc: Global, name: &str, text: &[u8]) -> Result<MemShelf, Memory> {
+    let mut files = Vec::new(alloc);
+    let (Ok(name), Ok(bytes)) = (String::from_str(alloc, name), text.to_vec(alloc)) else {
+        return Err(Memory);
+    };
+    match files.push(ShelfFile { name, bytes }) {
+        Ok(()) => Ok(MemShelf::make(files, Vec::new(alloc))),
+        Err(_) => Err(Memory),
+    }
+}
+
+/// Appends the first bytes of a stream.
+pub fn begin(alloc: Global) -> Result<Vec<u8>, AllocError> {
+    b"RaS2".to_vec(alloc)
+}
+
+/// Appends the header of a grey page for a printer of these dots an inch.
+pub fn add_header(
+    bytes: &mut Vec<u8>,
+    (hdpi, vdpi): (u32, u32),
+    (width, height): (u32, u32),
+) -> Result<(), AllocError> {
+    let form = PageForm {
+        width,
+        height,
+        kind: Kind::Gray8,
+        bytes_per_line: width,
+    };
+    let mut header = [0; 1796];
+    write_header(&form, hdpi, vdpi, &mut header);
+    bytes.extend_from_slice(&header)
+}
+
+/// A stream of one page for a printer of 360 dots an inch.
+pub fn one_page(
+    alloc: Global,
+    width: u32,
+    height: u32,
+    body: &[u8],
+) -> Result<Vec<u8>, AllocError> {
+    let mut bytes = begin(alloc)?;
+    add_header(&mut bytes, (360, 360), (width, height))?;
+    bytes.extend_from_slice(body)?;
+    Ok(bytes)
+}
+
+/// A stream of two pages of grey.
+pub fn two_pages(alloc: Global) -> Result<Vec<u8>, AllocError> {
+    let mut bytes = one_page(alloc, 4, 2, &GREY_BODY)?;
+    add_header(&mut bytes, (360, 360), (4, 2))?;
+    bytes.extend_from_slice(&GREY_BODY)?;
+    Ok(bytes)
+}
+
+/// Runs these words.
+pub fn run_over(
+    alloc: Global,
+    texts: &[&str],
+    mut input: MemSource,
+    mut out: MemSink,
+    mut shelf: MemShelf,
+) -> Result<Left, Memory> {
+    let words = words(alloc, texts)?;
+    let mut err = roomy(alloc)?;
+    let status = run(alloc, &words, &mut input, &mut out, &mut err, &mut shelf);
+    Ok(Left { status, out, err })
+}
+
+/// Prints these bytes by the plainest printer.
+pub fn print_bytes(alloc: Global, bytes: Vec<u8>) -> Result<Left, Memory> {
+    let input = plain(alloc, bytes);
+    let out = roomy(alloc)?;
+    run_over(alloc, &PRINT, input, out, no_files(alloc))
+}
+
+impl Left {
+    /// Asserts what the run left.
+    pub fn is<R: Abort>(&self, rt: &R, status: u8, out: &[u8], line: &[u8]) {
+        assert_eq!(rt; self.err.bytes(), line);
+        assert_eq!(rt; self.status, status);
+        assert_eq!(rt; self.out.bytes(), out);
+    }
+
+    /// Asserts that the run went well, and the length and the hash of its output.
+    pub fn hashes_to<R: Abort>(&self, rt: &R, length: usize, hash: u64) {
+        assert_eq!(rt; self.err.bytes(), b"".as_slice());
+        assert_eq!(rt; self.status, 0);
+        assert_eq!(rt; self.out.bytes().len(), length);
+        assert_eq!(rt; hash_of(self.out.bytes()), hash);
+    }
+}
+
+/// The FNV-1a hash of 64 bits.
+pub fn hash_of(bytes: &[u8]) -> u64 {
+    let mut hash: u64 = 0xCBF2_9CE4_8422_2325;
+    for byte in bytes {
+        hash = (hash ^ u64::from(*byte)).wrapping_mul(0x100_0000_01B3);
+    }
+    hash
+}
+
+/// A front of some bytes, of all where there are fewer.
+pub fn front(bytes: &[u8], count: usize) -> &[u8] {
+    if count < bytes.len() {
+        &bytes[..count]
+    } else {
+        bytes
+    }
+}
+
+/// Runs words over an input and a shelf whose first calls fail, and asserts the answer.
+pub fn is_refused<R: Abort>(
+    rt: &R,
+    alloc: Global,
+    texts: &[&str],
+    status: u8,
+    line: &[u8],
+) -> Result<(), Fail> {
+    let input = MemSource::make(Vec::new(alloc), Vec::new(alloc), vec![in alloc; 1]?);
+    let shelf = MemShelf::make(Vec::new(alloc), vec![in alloc; 1]?);
+    let out = roomy(alloc)?;
+    let left = run_over(alloc, texts, input, out, shelf)?;
+    left.is(rt, status, b"", line);
+    Ok(())
+}

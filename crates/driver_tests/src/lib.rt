@@ -1,0 +1,17 @@
+//! Tests of whole runs of the driver: pages and profiles in, jobs and error lines out.
+//!
+//! What they expect was worked out apart from the driver: by hand, or by a slow program over the definitions.
+#![tactic(auto)]
+
+#[cfg(test)]
+mod fixture;
+#[cfg(test)]
+mod kernels;
+#[cfg(test)]
+mod outside;
+#[cfg(test)]
+mod printers;
+#[cfg(test)]
+mod profiles;
+#[cfg(test)]
+mod runs;
