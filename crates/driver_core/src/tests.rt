@@ -21,7 +21,10 @@ fn a_stream_of_no_page_is_a_job_of_no_bytes(rt: HostRuntime) -> Result<(), Fail>
     let mut err = MemSink::make(alloc, 4096, Vec::new(alloc), Vec::new(alloc))?;
     let mut shelf = MemShelf::make(Vec::new(alloc), Vec::new(alloc));
     let words = words(alloc, "print")?;
-    assert_eq!(rt; run(alloc, &words, &mut input, &mut out, &mut err, &mut shelf), 0);
+    assert_eq!(rt;
+        run(alloc, &words, &mut input, &mut out, &mut err, &mut shelf),
+        0
+    );
     assert_eq!(rt; out.bytes(), b"".as_slice());
     assert_eq!(rt; err.bytes(), b"".as_slice());
     Ok(())
