@@ -18,7 +18,7 @@ ghost use Rattle.printer_profile.specs.Text.{profile_text_of};
 ghost use Rattle.printer_profile.specs.declared.fields.Profile.{Profile};
 ghost use Rattle.separation_definitions.specs.Windows.{wanted_by};
 ghost use Rattle.std.specs.Io.KnownBytes.{Appends, IsAtEnd, Keeps};
-ghost use Rattle.std.specs.Prelude.{Err, IsErr, List, None, Ok, Some, [], ◌∷◌, ◌++◌, ℕ, ◌+◌, length, ◌↔◌, ◌≡◌, ◌⊎◌};
+ghost use Rattle.std.specs.Prelude.{Err, IsErr, IsSome, List, None, Ok, Some, [], ◌∷◌, ◌++◌, ℕ, ◌+◌, length, ◌↔◌, ◌≡◌, ◌⊎◌};
 ghost use Rattle.stream_definitions.specs.Stream.StreamEnd.{Done, Fault};
 ghost use Rattle.stream_definitions.specs.Stream.{Page, stream};
 ghost use Rattle.stream_definitions.specs.declared.faults.InputCause.{InputCause};
@@ -42,10 +42,11 @@ fn answer_words<S: Source, K: Sink, F: Shelf>(
     out: &mut K,
     shelf: &mut F,
 ) -> Answer
-    ensures { Outcome words.now
+    ensures outcome { Outcome words.now
         (record { told = F.files shelf.old; faults_before = F.faults shelf.old; faults_now = F.faults shelf.new })
         (record { before = S.left input.old; now = S.left input.new; faults_before = S.faults input.old; faults_now = S.faults input.new })
         (record { before = K.held out.old; now = K.held out.new; faults_before = K.faults out.old; faults_now = K.faults out.new }) result }
+    ensures unasked { IsSome (built_in (profile_named words.now)) → (shelf.new ≡ shelf.old) }
 {
     let job = match read_words(words) {
         Ok(job) => job,
@@ -130,6 +131,7 @@ pub fn run<S: Source, K: Sink, E: Sink, F: Shelf>(
         → (result ≡ 3) ⊎ (result ≡ 7) }
     ensures read { result ≡ 4 → Rose (S.faults input.old) (S.faults input.new)
         ⊎ (Rose (F.faults shelf.old) (F.faults shelf.new) × (built_in (profile_named words.now) ≡ None)) }
+    ensures unasked { IsSome (built_in (profile_named words.now)) → (shelf.new ≡ shelf.old) }
     ensures write { result ≡ 5 → Rose (K.faults out.old) (K.faults out.new) }
     ensures range { (result ≡ 0) ⊎ (result ≡ 1) ⊎ (result ≡ 2) ⊎ (result ≡ 3) ⊎ (result ≡ 4) ⊎ (result ≡ 5) ⊎ (result ≡ 7) }
 

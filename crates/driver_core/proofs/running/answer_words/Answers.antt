@@ -8,7 +8,7 @@ pub print_pages-requires-clause-checked : goal.print_pages-requires-clause-check
 print_pages-requires-clause-checked g c =
     (job_profile-ready (g.F.Shelf.files c.args.shelf.now) c.profile_name.result.now c.in-Ok-find_profile.profile (rw c.in-Print.is at c.in-Ok-find_profile.ensures.found)).checked
 
-pub returns-in-Profile : goal.returns-in-Profile
-returns-in-Profile g c =
+pub returns-in-Profile-clause-outcome : goal.returns-in-Profile-clause-outcome
+returns-in-Profile-clause-outcome g c =
     profiled c.args.words.now c.profile_name.result.now c.in-Ok.job verb.Profile c.in-Ok-find_profile.profile _ _ _ _
     (sym c.read_words.ensures ∙ c.in-Ok.is) c.profile_name.ensures c.in-Profile.is c.in-Ok-find_profile.ensures.found (keeps (g.S.Source.left c.args.input.now), c.show_profile.ensures.outcome)
