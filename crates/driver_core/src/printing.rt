@@ -11,12 +11,9 @@ use answer_definitions::Answer;
 use grey_page::GreyPage;
 use page_printer::{Halt, Kernel, Room, send_page};
 use printer_profile::Profile;
-use pwg_stream::{PageReader, StreamStop};
+use pwg_stream::{MOST_PAGES, PageReader, StreamStop};
 use std::alloc::Global;
 use weave_base::{Sink, Source};
-
-/// The most pages of a stream.
-const MOST_PAGES: u32 = 9999;
 
 // The answer to a stop of the stream.
 fn stopped(stop: StreamStop) -> Answer

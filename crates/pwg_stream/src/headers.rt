@@ -16,7 +16,7 @@ use stream_definitions::InputCause;
 use weave_base::Source;
 
 /// The most pages of a stream.
-const MOST_PAGES: u32 = 9999;
+pub const MOST_PAGES: u32 = 9999;
 
 // A fault of a page's header.
 fn refuse<T>(page: u32, cause: InputCause) -> Result<T, StreamStop>

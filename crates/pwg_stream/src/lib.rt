@@ -10,5 +10,6 @@ mod sync;
 mod tests;
 mod unread;
 
+pub use headers::MOST_PAGES;
 pub use reader::PageReader;
 pub use stops::StreamStop;
