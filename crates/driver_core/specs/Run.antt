@@ -75,7 +75,7 @@ NoProfile command name shelf (answer.Profile line cause) = IsJobProfile shelf.to
 NoProfile command name shelf (answer.Input page line cause) = ⊥
 NoProfile command name shelf answer.Read = HasFailed shelf × (built_in name ≡ None)
 NoProfile command name shelf (answer.Write number) = ⊥
-NoProfile command name shelf answer.Memory = Unit {0}
+NoProfile command name shelf answer.Memory = built_in name ≡ None
 
 -- What a job comes to: it has no profile, or this one.
 abbrev pub JobOutcome : Job → List ℕ → Texts → Outside → Outside → Answer → Type 0

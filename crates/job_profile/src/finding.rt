@@ -106,6 +106,7 @@ pub fn find_profile<F: Shelf>(
     // The shelf is not asked for a built-in profile.
     ensures built_in { IsSome (built_in_of name.now) → (shelf.new ≡ shelf.old) }
     ensures unasked { IsSome (built_in_of name.now) → IsErrOf result stop.Failed → ⊥ }
+    ensures no_memory { IsSome (built_in_of name.now) → IsErrOf result stop.Memory → ⊥ }
     ensures later { F.faults shelf.old ≤ F.faults shelf.new }
     ensures stay { F.files shelf.new ≡ F.files shelf.old }
 {
