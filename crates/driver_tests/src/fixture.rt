@@ -1,4 +1,5 @@
 //! Streams, words and runs in memory.
+pub use crate::bytes::{begin, front};
 use driver_core::run;
 use pwg_header::{Kind, PageForm, write_header};
 use std::alloc::{AllocError, Global};
@@ -67,11 +68,6 @@ pub fn one_file(alloc: Global, name: &str, text: &[u8]) -> Result<MemShelf, Memo
         Ok(()) => Ok(MemShelf::make(files, Vec::new(alloc))),
         Err(_) => Err(Memory),
     }
-}
-
-/// Appends the first bytes of a stream.
-pub fn begin(alloc: Global) -> Result<Vec<u8>, AllocError> {
-    b"RaS2".to_vec(alloc)
 }
 
 /// Appends the header of a grey page for a printer of these dots an inch.
@@ -157,15 +153,6 @@ pub fn hash_of(bytes: &[u8]) -> u64 {
         hash = (hash ^ u64::from(*byte)).wrapping_mul(0x100_0000_01B3);
     }
     hash
-}
-
-/// A front of some bytes, of all where there are fewer.
-pub fn front(bytes: &[u8], count: usize) -> &[u8] {
-    if count < bytes.len() {
-        &bytes[..count]
-    } else {
-        bytes
-    }
 }
 
 /// Runs words over an input and a shelf whose first calls fail, and asserts the answer.

@@ -3,6 +3,7 @@
 //! What they expect was worked out apart from the driver: by hand, or by a slow program over the definitions.
 #![tactic(auto)]
 
+pub mod bytes;
 #[cfg(test)]
 mod fixture;
 #[cfg(test)]

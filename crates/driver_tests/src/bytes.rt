@@ -1,0 +1,23 @@
+//! The bytes that streams begin with, and fronts of streams.
+ghost use Rattle.std.specs.Prelude.{IfOk, take, ◌≡◌};
+ghost use Rattle.stream_definitions.specs.Stream.{sync_word};
+
+use std::alloc::{AllocError, Global};
+
+/// The first bytes of a stream, without a page (PWG 5102.4, section 4.1).
+pub fn begin(alloc: Global) -> Result<Vec<u8>, AllocError>
+    ensures { IfOk result (λ bytes. bytes.items ≡ sync_word) }
+{
+    b"RaS2".to_vec(alloc)
+}
+
+/// A front of some bytes, of all where there are fewer.
+pub fn front(bytes: &[u8], count: usize) -> &[u8]
+    ensures { result.now ≡ take count bytes.now }
+{
+    if count < bytes.len() {
+        &bytes[..count]
+    } else {
+        bytes
+    }
+}
