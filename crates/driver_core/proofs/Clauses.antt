@@ -2,11 +2,11 @@
 use Rattle.std.proofs.Common.{◌≡◌, ℕ, ◌+◌, ◌⊎◌, List, [], ◌∷◌, ◌++◌, length, Option, None, Some, IsErr, Result, Ok, Err, inl, inr, refl, sym, ◌∙◌, ap, subst, append-nil}
 use Rattle.std.specs.Io.KnownBytes.{Appends, Consumes, IsAtEnd, Keeps}
 use Rattle.std.proofs.KnownBytes.{Appends-nil}
-use Rattle.answer_definitions.specs.declared.answer.Answer.{Answer}
-use Rattle.answer_definitions.specs.declared.answer.Answer.TheVariants as answer
-use Rattle.answer_definitions.specs.declared.answer.ProfileCause.{ProfileCause}
-use Rattle.answer_definitions.specs.declared.usage.UsageFault.{UsageFault}
-use Rattle.answer_definitions.specs.Answers.{line_of, status_of}
+use Rattle.driver_answer.specs.declared.answer.Answer.{Answer}
+use Rattle.driver_answer.specs.declared.answer.Answer.TheVariants as answer
+use Rattle.driver_answer.specs.declared.answer.ProfileCause.{ProfileCause}
+use Rattle.driver_answer.specs.declared.usage.UsageFault.{UsageFault}
+use Rattle.driver_answer.specs.Answers.{line_of, status_of}
 use Rattle.diffusion_definitions.specs.Diffusion.{Table}
 use Rattle.diffusion_kernel.specs.Tables.{table_of}
 use Rattle.job_profile.specs.Named.{IsJobProfile, Refusal, refused_at}
@@ -20,9 +20,9 @@ use Rattle.printer_profile.specs.declared.fields.Profile.{Profile}
 use Rattle.printer_profile.specs.Profiles.{built_in, printer_of}
 use Rattle.printer_profile.specs.Text.{profile_text_of}
 use Rattle.separation_definitions.specs.Windows.{wanted_by}
-use Rattle.stream_definitions.specs.declared.faults.InputCause.{InputCause}
-use Rattle.stream_definitions.specs.Stream.{Page, Stream, StreamEnd, stream}
-use Rattle.stream_definitions.specs.Stream.StreamEnd.{Done, Fault}
+use Rattle.pwg_definitions.specs.declared.faults.InputCause.{InputCause}
+use Rattle.pwg_definitions.specs.Stream.{Page, Stream, StreamEnd, stream}
+use Rattle.pwg_definitions.specs.Stream.StreamEnd.{Done, Fault}
 use Rattle.weave_base.specs.Parts.{AppendsPart}
 use Rattle.driver_core.specs.Outside.{HasFailed, HasRisen, IsCalm, Outside, Texts}
 use Rattle.driver_core.specs.Pages.{IsStream, ReadsStream, TakesPages, job_bytes}

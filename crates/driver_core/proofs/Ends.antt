@@ -3,19 +3,19 @@ use Rattle.std.proofs.Common.{◌≡◌, ℕ, ◌+◌, ◌-◌, ◌*◌, ◌/◌
 use Rattle.std.specs.List.{AllByRecursion}
 use Rattle.std.specs.Io.KnownBytes.{Appends, Consumes, IsAtEnd, Keeps}
 use Rattle.std.proofs.KnownBytes.{Appends-nil, Consumes-nil, Consumes-trans}
-use Rattle.answer_definitions.specs.declared.answer.Answer.TheVariants as answer
+use Rattle.driver_answer.specs.declared.answer.Answer.TheVariants as answer
 use Rattle.diffusion_definitions.specs.Diffusion.{Table}
-use Rattle.page_definitions.specs.PageBytes.{page_bytes}
+use Rattle.page_definitions.specs.OldPageBytes.{page_bytes}
 use Rattle.page_laws.proofs.Headline.{one_nozzle-prints}
 use Rattle.printer_definitions.specs.declared.inks.InkSet.TheVariants.{K}
 use Rattle.printer_definitions.specs.Printer.{Printer}
 use Rattle.separation_definitions.specs.CanPrint.{CanPrint}
 use Rattle.separation_definitions.specs.Windows.{wanted_by}
-use Rattle.stream_definitions.specs.declared.pages.Wanted.{Wanted}
-use Rattle.stream_definitions.specs.Stream.{IsPage, Page, Stream, page_at, pages_from, stream, sync_word}
-use Rattle.stream_definitions.specs.Stream.PageRead.{Whole}
-use Rattle.stream_definitions.specs.Stream.StreamEnd.{Done, Fault}
-use Rattle.stream_laws.proofs.PageLaws.{stream-pages}
+use Rattle.pwg_definitions.specs.declared.pages.Wanted.{Wanted}
+use Rattle.pwg_definitions.specs.Stream.{IsPage, Page, Stream, page_at, pages_from, stream, sync_word}
+use Rattle.pwg_definitions.specs.Stream.PageRead.{Whole}
+use Rattle.pwg_definitions.specs.Stream.StreamEnd.{Done, Fault}
+use Rattle.pwg_laws.proofs.PageLaws.{stream-pages}
 use Rattle.pwg_stream.specs.declared.reader.PageReader.{PageReader}
 use Rattle.pwg_stream.specs.declared.stops.StreamStop.{StreamStop}
 use Rattle.pwg_stream.specs.declared.stops.StreamStop.TheVariants as stop

@@ -1,14 +1,14 @@
 -- The lines of a page, group by group.
 use Rattle.std.proofs.Common.{◌≡◌, ℕ, zero, suc, ◌+◌, ◌-◌, ◌≤◌, List, [], ◌++◌, length, replicate, refl, sym, ◌∙◌, ap, arith, append_assoc}
-use Rattle.stream_definitions.specs.declared.faults.InputCause.TheVariants as cause
-use Rattle.stream_definitions.specs.declared.pages.Kind.{Kind}
-use Rattle.stream_definitions.specs.declared.pages.Kind.TheVariants.{Gray8}
-use Rattle.stream_definitions.specs.Header.{KindRow, row_of}
-use Rattle.stream_definitions.specs.Groups.{GroupRead, group_at}
-use Rattle.stream_definitions.specs.Groups.GroupRead.{Group, Part, Wrong}
-use Rattle.stream_definitions.specs.Stream.{LinesRead, lines_at, with_lines}
-use Rattle.stream_definitions.specs.Stream.LinesRead.{Lines, Stop}
-use Rattle.stream_laws.proofs.PageLaws.{group_at-sized}
+use Rattle.pwg_definitions.specs.declared.faults.InputCause.TheVariants as cause
+use Rattle.pwg_definitions.specs.declared.pages.Kind.{Kind}
+use Rattle.pwg_definitions.specs.declared.pages.Kind.TheVariants.{Gray8}
+use Rattle.pwg_definitions.specs.Header.{KindRow, row_of}
+use Rattle.pwg_definitions.specs.Groups.{GroupRead, group_at}
+use Rattle.pwg_definitions.specs.Groups.GroupRead.{Group, Part, Wrong}
+use Rattle.pwg_definitions.specs.Stream.{LinesRead, lines_at, with_lines}
+use Rattle.pwg_definitions.specs.Stream.LinesRead.{Lines, Stop}
+use Rattle.pwg_laws.proofs.PageLaws.{group_at-sized}
 
 pub with-none : (r : LinesRead) → with_lines [] r ≡ r
 with-none (Lines lines rest) = refl

@@ -1,11 +1,11 @@
 -- What a run comes to, put together and taken apart.
 use Rattle.std.proofs.Common.{◌≡◌, ℕ, ◌⊎◌, List, Option, None, Some, Result, Ok, Err, inl, inr, refl, sym, subst}
 use Rattle.std.specs.Io.KnownBytes.{Appends, Keeps}
-use Rattle.answer_definitions.specs.declared.answer.Answer.{Answer}
-use Rattle.answer_definitions.specs.declared.answer.Answer.TheVariants as answer
-use Rattle.answer_definitions.specs.declared.answer.ProfileCause.{ProfileCause}
-use Rattle.answer_definitions.specs.declared.usage.UsageFault.{UsageFault}
-use Rattle.answer_definitions.specs.Answers.{line_of, status_of}
+use Rattle.driver_answer.specs.declared.answer.Answer.{Answer}
+use Rattle.driver_answer.specs.declared.answer.Answer.TheVariants as answer
+use Rattle.driver_answer.specs.declared.answer.ProfileCause.{ProfileCause}
+use Rattle.driver_answer.specs.declared.usage.UsageFault.{UsageFault}
+use Rattle.driver_answer.specs.Answers.{line_of, status_of}
 use Rattle.diffusion_kernel.specs.Tables.{table_of}
 use Rattle.job_profile.specs.Named.{IsJobProfile, Refusal, refused_at}
 use Rattle.job_words.specs.declared.reading.Job.{Job}
@@ -13,7 +13,7 @@ use Rattle.job_words.specs.declared.table.Verb.{Verb}
 use Rattle.job_words.specs.Meaning.{job_meaning, profile_named}
 use Rattle.printer_profile.specs.declared.fields.Profile.{Profile}
 use Rattle.printer_profile.specs.Profiles.{built_in}
-use Rattle.stream_definitions.specs.declared.faults.InputCause.{InputCause}
+use Rattle.pwg_definitions.specs.declared.faults.InputCause.{InputCause}
 use Rattle.driver_core.specs.Outside.{HasFailed, IsCalm, Outside, Texts}
 use Rattle.driver_core.specs.Run.{AsksFor, JobOutcome, LineOutcome, NoProfile, Outcome, Told, Untouched, VerbOutcome}
 

@@ -4,18 +4,18 @@ use Rattle.std.specs.Io.KnownBytes.{Consumes}
 use Rattle.std.proofs.KnownBytes.{Consumes-trans}
 use Rattle.std.proofs.lemmas.Bool.{le-ltb}
 use Rattle.std.proofs.lemmas.List.{drop_at, take_at}
-use Rattle.stream_definitions.specs.declared.faults.HeaderFault.{HeaderFault}
-use Rattle.stream_definitions.specs.declared.faults.InputCause.{InputCause}
-use Rattle.stream_definitions.specs.declared.faults.InputCause.TheVariants as cause
-use Rattle.stream_definitions.specs.declared.pages.PageForm.{PageForm}
-use Rattle.stream_definitions.specs.declared.pages.Wanted.{Wanted}
-use Rattle.stream_definitions.specs.Header.{check, header_of, line_units, row_of}
-use Rattle.stream_definitions.specs.Groups.{group_at}
-use Rattle.stream_definitions.specs.Groups.GroupRead.{Group}
-use Rattle.stream_definitions.specs.Stream.{LinesRead, Page, PageRead, lines_at, page_at, page_behind, page_of as page_of_lines, pages_from, with_lines, with_page}
-use Rattle.stream_definitions.specs.Stream.StreamEnd.{Fault}
-use Rattle.stream_definitions.specs.Stream.LinesRead.{Stop}
-use Rattle.stream_definitions.specs.Stream.PageRead.{Whole, Broken}
+use Rattle.pwg_definitions.specs.declared.faults.HeaderFault.{HeaderFault}
+use Rattle.pwg_definitions.specs.declared.faults.InputCause.{InputCause}
+use Rattle.pwg_definitions.specs.declared.faults.InputCause.TheVariants as cause
+use Rattle.pwg_definitions.specs.declared.pages.PageForm.{PageForm}
+use Rattle.pwg_definitions.specs.declared.pages.Wanted.{Wanted}
+use Rattle.pwg_definitions.specs.Header.{check, header_of, line_units, row_of}
+use Rattle.pwg_definitions.specs.Groups.{group_at}
+use Rattle.pwg_definitions.specs.Groups.GroupRead.{Group}
+use Rattle.pwg_definitions.specs.Stream.{LinesRead, Page, PageRead, lines_at, page_at, page_behind, page_of as page_of_lines, pages_from, with_lines, with_page}
+use Rattle.pwg_definitions.specs.Stream.StreamEnd.{Fault}
+use Rattle.pwg_definitions.specs.Stream.LinesRead.{Stop}
+use Rattle.pwg_definitions.specs.Stream.PageRead.{Whole, Broken}
 use Rattle.pwg_stream.specs.declared.reader.PageReader.{PageReader}
 use Rattle.pwg_stream.specs.Reading.{BeginsPage, GivesLines, HasLineFault, form_of, has_ended, line_of, lines_left_of, lines_of, page_of, stop_of, text_of}
 use Rattle.pwg_stream.specs.Stops.{OnInput}

@@ -8,7 +8,7 @@ use Rattle.printer_profile.specs.declared.validity.ProfileFault.{ProfileFault}
 use Rattle.printer_profile.specs.Profiles.{built_in}
 use Rattle.printer_profile.specs.Validity.{check}
 use Rattle.job_profile.specs.Named.{IsJobProfile, Refusal, is_black, is_built, named_result, refused_at, sensible_result, used_result}
-use Rattle.answer_definitions.specs.declared.answer.ProfileCause.TheVariants as cause
+use Rattle.driver_answer.specs.declared.answer.ProfileCause.TheVariants as cause
 use Rattle.job_words.specs.declared.table.Verb.TheVariants as verb
 use Rattle.weave_base.specs.Shelf.{NamedText}
 

@@ -3,13 +3,13 @@ use Rattle.std.proofs.Common.{◌≡◌, ℕ, suc, ◌+◌, ◌-◌, ◌≤◌, 
 use Rattle.std.specs.Io.KnownBytes.{Appends, Consumes}
 use Rattle.std.proofs.KnownBytes.{Appends-nil, Appends-trans, Consumes-trans}
 use Rattle.diffusion_definitions.specs.Diffusion.{Table}
-use Rattle.page_definitions.specs.PageBytes.{page_bytes}
+use Rattle.page_definitions.specs.OldPageBytes.{page_bytes}
 use Rattle.printer_definitions.specs.Printer.{Printer}
 use Rattle.separation_definitions.specs.Windows.{wanted_by}
-use Rattle.stream_definitions.specs.declared.faults.InputCause.TheVariants as cause
-use Rattle.stream_definitions.specs.declared.pages.Wanted.{Wanted}
-use Rattle.stream_definitions.specs.Stream.{Page, Stream, page_at, pages_from, stream, sync_word, with_page}
-use Rattle.stream_definitions.specs.Stream.PageRead.{Whole, Broken}
+use Rattle.pwg_definitions.specs.declared.faults.InputCause.TheVariants as cause
+use Rattle.pwg_definitions.specs.declared.pages.Wanted.{Wanted}
+use Rattle.pwg_definitions.specs.Stream.{Page, Stream, page_at, pages_from, stream, sync_word, with_page}
+use Rattle.pwg_definitions.specs.Stream.PageRead.{Whole, Broken}
 use Rattle.pwg_stream.specs.declared.reader.PageReader.{PageReader}
 use Rattle.pwg_stream.specs.Reading.{has_ended, page_of, text_of}
 use Rattle.driver_core.specs.Pages.{IsBetween, ReadsPage, job_bytes}

@@ -1,10 +1,10 @@
 -- What a run does, by its answer.
 use Rattle.std.specs.Prelude.{◌≡◌, ℕ, ◌+◌, ◌⊎◌, List, [], ◌∷◌, ◌++◌, length, Option, None, Result, Ok, Err}
 use Rattle.std.specs.Io.KnownBytes.{Appends, Keeps}
-use Rattle.answer_definitions.specs.declared.answer.Answer.{Answer}
-use Rattle.answer_definitions.specs.declared.answer.Answer.TheVariants as answer
-use Rattle.answer_definitions.specs.declared.usage.UsageFault.{UsageFault}
-use Rattle.answer_definitions.specs.Answers.{line_of}
+use Rattle.driver_answer.specs.declared.answer.Answer.{Answer}
+use Rattle.driver_answer.specs.declared.answer.Answer.TheVariants as answer
+use Rattle.driver_answer.specs.declared.usage.UsageFault.{UsageFault}
+use Rattle.driver_answer.specs.Answers.{line_of}
 use Rattle.diffusion_definitions.specs.Diffusion.{Table}
 use Rattle.diffusion_kernel.specs.Tables.{table_of}
 use Rattle.job_profile.specs.Named.{IsJobProfile, Refusal, refused_at}
@@ -12,7 +12,7 @@ use Rattle.job_words.specs.declared.reading.Job.{Job}
 use Rattle.job_words.specs.declared.table.Verb.{Verb}
 use Rattle.job_words.specs.declared.table.Verb.TheVariants as verb
 use Rattle.job_words.specs.Meaning.{job_meaning, profile_named}
-use Rattle.page_definitions.specs.PageBytes.{page_bytes}
+use Rattle.page_definitions.specs.OldPageBytes.{page_bytes}
 use Rattle.page_definitions.specs.Printing.{Prints}
 use Rattle.printer_definitions.specs.Printer.{Printer}
 use Rattle.printer_profile.specs.declared.fields.Profile.{Profile}
@@ -20,8 +20,8 @@ use Rattle.printer_profile.specs.Profiles.{built_in, printer_of}
 use Rattle.printer_profile.specs.Text.{profile_text_of}
 use Rattle.pwg_stream.specs.declared.stops.StreamStop.{StreamStop}
 use Rattle.pwg_stream.specs.declared.stops.StreamStop.TheVariants as stop
-use Rattle.stream_definitions.specs.Stream.{Page}
-use Rattle.stream_definitions.specs.Stream.StreamEnd.{Fault}
+use Rattle.pwg_definitions.specs.Stream.{Page}
+use Rattle.pwg_definitions.specs.Stream.StreamEnd.{Fault}
 use Rattle.weave_base.specs.Parts.{AppendsPart}
 use Rattle.weave_base.specs.Shelf.{NamedText}
 use Rattle.driver_core.specs.Outside.{HasFailed, HasRisen, Outside, Texts}

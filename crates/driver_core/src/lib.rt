@@ -6,7 +6,7 @@ mod printing;
 mod running;
 mod showing;
 
-pub use answer_definitions::{Answer, ProfileCause, UsageCause, UsageFault};
+pub use driver_answer::{Answer, ProfileCause, UsageCause, UsageFault};
 pub use running::{run, tell};
 
 #[cfg(test)]

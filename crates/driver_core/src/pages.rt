@@ -6,13 +6,13 @@ ghost use Rattle.pwg_stream.specs.Text.{UsesSome};
 ghost use Rattle.pwg_stream.specs.declared.stops.StreamStop.TheVariants as stop;
 ghost use Rattle.std.specs.Io.KnownBytes.{IsAtEnd};
 ghost use Rattle.std.specs.Prelude.{IfSome, IsErrOf, Ok, [], false, true, ◌+◌, ◌-◌, ◌≡◌, ◌≤◌};
-ghost use Rattle.stream_definitions.specs.Stream.StreamEnd.{Fault};
-ghost use Rattle.stream_definitions.specs.Stream.{pages_from};
+ghost use Rattle.pwg_definitions.specs.Stream.StreamEnd.{Fault};
+ghost use Rattle.pwg_definitions.specs.Stream.{pages_from};
 ghost use Rattle.weave_base.specs.Causes.{Rose};
 
 use grey_page::GreyPage;
 use pwg_stream::{PageReader, StreamStop};
-use stream_definitions::Wanted;
+use pwg_definitions::Wanted;
 use weave_base::Source;
 
 /// Reads the next page with all its lines, and tells whether there was one.

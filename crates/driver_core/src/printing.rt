@@ -7,7 +7,7 @@ ghost use Rattle.printer_profile.specs.Validity.{check};
 ghost use Rattle.std.specs.Prelude.{IsOk, ◌≡◌, ◌≤◌};
 
 use crate::pages::read_page;
-use answer_definitions::Answer;
+use driver_answer::Answer;
 use grey_page::GreyPage;
 use page_printer::{Halt, Kernel, Room, send_page};
 use printer_profile::Profile;

@@ -1,8 +1,8 @@
 //! The run.
-ghost use Rattle.answer_definitions.specs.Answers.{line_of, status_of};
-ghost use Rattle.answer_definitions.specs.declared.answer.Answer.TheVariants as answer;
-ghost use Rattle.answer_definitions.specs.declared.answer.Answer.{Answer};
-ghost use Rattle.answer_definitions.specs.declared.answer.ProfileCause.{ProfileCause};
+ghost use Rattle.driver_answer.specs.Answers.{line_of, status_of};
+ghost use Rattle.driver_answer.specs.declared.answer.Answer.TheVariants as answer;
+ghost use Rattle.driver_answer.specs.declared.answer.Answer.{Answer};
+ghost use Rattle.driver_answer.specs.declared.answer.ProfileCause.{ProfileCause};
 ghost use Rattle.diffusion_kernel.specs.Tables.{table_of};
 ghost use Rattle.driver_core.specs.Outside.{IsCalm};
 ghost use Rattle.driver_core.specs.Pages.{IsStream, TakesPages, job_bytes};
@@ -19,15 +19,15 @@ ghost use Rattle.printer_profile.specs.declared.fields.Profile.{Profile};
 ghost use Rattle.separation_definitions.specs.Windows.{wanted_by};
 ghost use Rattle.std.specs.Io.KnownBytes.{Appends, IsAtEnd, Keeps};
 ghost use Rattle.std.specs.Prelude.{Err, IsErr, IsSome, List, None, Ok, Some, [], ◌∷◌, ◌++◌, ℕ, ◌+◌, length, ◌↔◌, ◌≡◌, ◌⊎◌};
-ghost use Rattle.stream_definitions.specs.Stream.StreamEnd.{Done, Fault};
-ghost use Rattle.stream_definitions.specs.Stream.{Page, stream};
-ghost use Rattle.stream_definitions.specs.declared.faults.InputCause.{InputCause};
+ghost use Rattle.pwg_definitions.specs.Stream.StreamEnd.{Done, Fault};
+ghost use Rattle.pwg_definitions.specs.Stream.{Page, stream};
+ghost use Rattle.pwg_definitions.specs.declared.faults.InputCause.{InputCause};
 ghost use Rattle.weave_base.specs.Causes.{Rose};
 ghost use Rattle.weave_base.specs.Parts.{AppendsPart};
 
 use crate::printing::print_pages;
 use crate::showing::show_profile;
-use answer_definitions::Answer;
+use driver_answer::Answer;
 use arrayvec::ArrayString;
 use job_profile::{ProfileStop, find_profile};
 use job_words::{Verb, profile_name, read_words};

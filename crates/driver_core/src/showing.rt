@@ -2,7 +2,7 @@
 ghost use Rattle.driver_core.specs.Run.{ShowOutcome};
 ghost use Rattle.std.specs.Prelude.{◌≤◌};
 
-use answer_definitions::Answer;
+use driver_answer::Answer;
 use printer_profile::Profile;
 use std::alloc::Global;
 use weave_base::{Sink, put_all};

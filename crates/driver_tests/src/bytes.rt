@@ -1,6 +1,6 @@
 //! The bytes that streams begin with, and fronts of streams.
 ghost use Rattle.std.specs.Prelude.{IfOk, take, ◌≡◌};
-ghost use Rattle.stream_definitions.specs.Stream.{sync_word};
+ghost use Rattle.pwg_definitions.specs.Stream.{sync_word};
 
 use std::alloc::{AllocError, Global};
 

@@ -3,7 +3,7 @@
 
 mod table;
 
-pub use job_definitions::{Command, RasterHead};
+pub use escp2_definitions::{Command, RasterHead};
 pub use table::in_table;
 
 #[cfg(test)]

@@ -1,5 +1,5 @@
 //! The ranges of the command table.
-ghost use Rattle.job_definitions.specs.Commands.{in_table as in_table_of};
+ghost use Rattle.escp2_definitions.specs.Commands.{in_table as in_table_of};
 ghost use Rattle.std.specs.Prelude.{◌≡◌};
 
 use crate::Command;

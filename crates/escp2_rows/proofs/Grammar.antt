@@ -3,10 +3,10 @@ use Rattle.std.proofs.Common.{◌≡◌, ℕ, zero, suc, ◌+◌, ◌-◌, ◌<�
 use Rattle.std.specs.List.{flat_map, AllByRecursion}
 use Rattle.std.proofs.lemmas.Bool.{ltb-true, ltb-false, eqb-false}
 use Rattle.std.proofs.lemmas.List.{drop-drop, get_or-drop, length-replicate, length-take-le, take_at, take-append-drop}
-use Rattle.job_definitions.specs.RowCode.{IsRowPacket, RowPacket, RowsCode, RowsRead, again_at, controlled, packet_at, packet_code, packet_row, plain_at, row_at, rows_at, with_front}
-use Rattle.job_definitions.specs.RowCode.Control.{Follow, Again, Refused}
-use Rattle.job_definitions.specs.RowCode.RowPacket.{Bytes, Repeat}
-use Rattle.job_definitions.specs.RowCode.RowsRead.{RowsAre, RowsPart, RowsWrong}
+use Rattle.escp2_definitions.specs.RowCode.{IsRowPacket, RowPacket, RowsCode, RowsRead, again_at, controlled, packet_at, packet_code, packet_row, plain_at, row_at, rows_at, with_front}
+use Rattle.escp2_definitions.specs.RowCode.Control.{Follow, Again, Refused}
+use Rattle.escp2_definitions.specs.RowCode.RowPacket.{Bytes, Repeat}
+use Rattle.escp2_definitions.specs.RowCode.RowsRead.{RowsAre, RowsPart, RowsWrong}
 use Rattle.escp2_rows.proofs.Steps.{row-part, row-step, row-wrong}
 
 abbrev AreBytes : List ℕ → Type 0

@@ -1,10 +1,10 @@
 -- The canonical code is a code of its row, and no code of rows begins another.
 use Rattle.std.proofs.Common.{◌≡◌, ℕ, zero, suc, ◌+◌, ◌*◌, ◌≤◌, List, [], ◌∷◌, ◌++◌, length, drop, refl, sym, ◌∙◌, ap, arith, length-append, length-drop, append-nil}
 use Rattle.std.specs.List.{flat_map, AllByRecursion}
-use Rattle.job_definitions.specs.RowCode.{IsRowPacket, RowCode, RowPacket, RowsCode, packet_code, packet_row, rows_at}
-use Rattle.job_definitions.specs.RowCode.RowsRead.{RowsAre}
-use Rattle.job_laws.proofs.Rows.{rows-read}
-use Rattle.escp2_rows.specs.Canonical.{canonical_row, next_packet, packets_from}
+use Rattle.escp2_definitions.specs.RowCode.{IsRowPacket, RowCode, RowPacket, RowsCode, packet_code, packet_row, rows_at}
+use Rattle.escp2_definitions.specs.RowCode.RowsRead.{RowsAre}
+use Rattle.escp2_laws.proofs.Rows.{rows-read}
+use Rattle.escp2_definitions.specs.Canonical.{canonical_row, next_packet, packets_from}
 use Rattle.escp2_rows.proofs.Writing.{IsFront, front-next}
 
 -- Packets that are a row, in at most twice as many bytes.

@@ -4,9 +4,9 @@ use Rattle.std.specs.List.{flat_map, take_while}
 use Rattle.std.proofs.lemmas.Bool.{eqb-true, ltb-true, ltb-false, le-ltb, lt-ltb}
 use Rattle.std.proofs.lemmas.List.{append-nil, length-replicate, length-take, length-take-le, take-append-drop, take_all}
 use Rattle.std.proofs.lemmas.List.Sums.{take_while-cons}
-use Rattle.job_definitions.specs.RowCode.{IsRowPacket, RowPacket, packet_code, packet_row}
-use Rattle.job_definitions.specs.RowCode.RowPacket.{Bytes, Repeat}
-use Rattle.escp2_rows.specs.Canonical.{apart_at, canonical_row, equal_at, next_packet, packets_from}
+use Rattle.escp2_definitions.specs.RowCode.{IsRowPacket, RowPacket, packet_code, packet_row}
+use Rattle.escp2_definitions.specs.RowCode.RowPacket.{Bytes, Repeat}
+use Rattle.escp2_definitions.specs.Canonical.{apart_at, canonical_row, equal_at, next_packet, packets_from}
 
 -- ---- equal bytes
 

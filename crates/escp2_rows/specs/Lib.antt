@@ -1,3 +1,2 @@
-pub mod Canonical
 pub mod Places
 pub mod Reading

@@ -1,8 +1,8 @@
 -- Where in a row a reader stands, and what it makes of the bytes to come.
 use Rattle.std.specs.Prelude.{◌≡◌, ℕ, ◌+◌, ◌-◌, ◌*◌, ◌≤◌, ◌==◌, nat_lt, if◌then◌else◌, Bool, true, false, List, [], ◌∷◌, ◌++◌, length, take, drop, replicate}
-use Rattle.job_definitions.specs.RowCode.{Control, RowsRead, plain_at, row_at, rows_at, with_front}
-use Rattle.job_definitions.specs.RowCode.Control.{Follow, Again, Refused}
-use Rattle.job_definitions.specs.RowCode.RowsRead.{RowsAre, RowsPart, RowsWrong}
+use Rattle.escp2_definitions.specs.RowCode.{Control, RowsRead, plain_at, row_at, rows_at, with_front}
+use Rattle.escp2_definitions.specs.RowCode.Control.{Follow, Again, Refused}
+use Rattle.escp2_definitions.specs.RowCode.RowsRead.{RowsAre, RowsPart, RowsWrong}
 use Rattle.escp2_rows.specs.declared.reader.Place.{Place}
 use Rattle.escp2_rows.specs.declared.reader.Place.TheVariants.{Packet, Literal, Repeated, Failed}
 

@@ -1,6 +1,6 @@
 -- What a reader of rows stands for, and what its calls tell.
 use Rattle.std.specs.Prelude.{◌≡◌, ℕ, ◌+◌, ◌-◌, ◌*◌, ◌≤◌, ◌==◌, ◌||◌, Bool, true, false, List, ◌++◌, length, take, drop}
-use Rattle.job_definitions.specs.RowCode.RowsRead.{RowsAre, RowsPart, RowsWrong}
+use Rattle.escp2_definitions.specs.RowCode.RowsRead.{RowsAre, RowsPart, RowsWrong}
 use Rattle.escp2_rows.specs.declared.reader.RowReader.{RowReader}
 use Rattle.escp2_rows.specs.declared.reader.Place.TheVariants as place
 use Rattle.escp2_rows.specs.declared.reader.RowState.{RowState}

@@ -1,7 +1,7 @@
 //! Laws of the code of rows. Each function has no code: it is a contract with its proof.
-ghost use Rattle.escp2_rows.specs.Canonical.{canonical_row};
-ghost use Rattle.job_definitions.specs.RowCode.{RowCode, RowsCode, rows_at};
-ghost use Rattle.job_definitions.specs.RowCode.RowsRead.{RowsAre};
+ghost use Rattle.escp2_definitions.specs.Canonical.{canonical_row};
+ghost use Rattle.escp2_definitions.specs.RowCode.{RowCode, RowsCode, rows_at};
+ghost use Rattle.escp2_definitions.specs.RowCode.RowsRead.{RowsAre};
 ghost use Rattle.std.specs.Prelude.{List, [], length, slice_index, take, ℕ, ◌*◌, ◌++◌, ◌<◌, ◌≡◌, ◌≤◌};
 
 /// The canonical code of a row is a code of the row.

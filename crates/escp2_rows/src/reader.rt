@@ -1,6 +1,6 @@
 //! A reader of a raster's rows, piece by piece.
 ghost use Rattle.escp2_rows.specs.Places.{behind_control, is_failed, least_pending, pending};
-ghost use Rattle.job_definitions.specs.RowCode.{control_of};
+ghost use Rattle.escp2_definitions.specs.RowCode.{control_of};
 ghost use Rattle.std.specs.Prelude.{[], false, length, min, replicate, take, vec_capacity, vec_len, ℕ, ◌*◌, ◌++◌, ◌+◌, ◌<◌, ◌∷◌, ◌≡◌, ◌≤◌};
 
 use crate::buffer::{push_bytes, push_run};

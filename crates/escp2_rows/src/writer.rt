@@ -1,7 +1,7 @@
 //! Rows as bytes of their code.
 ghost use Rattle.arrayvec.specs.ArrayVec.{array_vec_len};
-ghost use Rattle.escp2_rows.specs.Canonical.{apart_at, canonical_row, equal_at, next_packet};
-ghost use Rattle.job_definitions.specs.RowCode.{packet_code, packet_row};
+ghost use Rattle.escp2_definitions.specs.Canonical.{apart_at, canonical_row, equal_at, next_packet};
+ghost use Rattle.escp2_definitions.specs.RowCode.{packet_code, packet_row};
 ghost use Rattle.std.specs.Prelude.{[], length, take_while, ◌==◌, ◌*◌, ◌++◌, ◌+◌, ◌<◌, ◌≡◌, ◌≤◌};
 
 use arrayvec::ArrayVec;

@@ -1,6 +1,6 @@
 //! The bytes of each command, written here by hand, and sinks that fail or come short.
 ghost use Rattle.escp2_writer.specs.Plain.{IsPlain};
-ghost use Rattle.job_definitions.specs.Commands.{in_table, rows_len};
+ghost use Rattle.escp2_definitions.specs.Commands.{in_table, rows_len};
 ghost use Rattle.std.specs.Prelude.{length, true, ◌≡◌};
 
 use crate::{Command, RasterHead, put};

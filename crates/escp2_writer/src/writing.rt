@@ -1,6 +1,6 @@
 //! The bytes of commands.
 ghost use Rattle.escp2_writer.specs.Plain.{IsPlain};
-ghost use Rattle.job_definitions.specs.Commands.{Spells, colour_code as colour_code_of, command_bytes, in_table, rows_len};
+ghost use Rattle.escp2_definitions.specs.Commands.{Spells, colour_code as colour_code_of, command_bytes, in_table, rows_len};
 ghost use Rattle.std.specs.Io.KnownBytes.{Appends};
 ghost use Rattle.std.specs.Prelude.{OnErr, OnOk, length, true, ◌%◌, ◌++◌, ◌/◌, ◌≡◌};
 ghost use Rattle.weave_base.specs.Causes.{HasCause};

@@ -1,7 +1,7 @@
 -- Lines cut off bytes.
 use Rattle.std.proofs.Common.{◌≡◌, ℕ, zero, suc, ◌+◌, ◌-◌, ◌*◌, ◌<◌, ◌≤◌, List, [], ◌∷◌, ◌++◌, length, length-append, take, drop, get_or, flat_map, replicate, sym, ◌∙◌, ap, arith, refl}
 use Rattle.std.proofs.lemmas.List.{drop-append-le, drop-drop, drop_at, flat_map_more, length-drop, length-take-le, replicate_more, take-append-le, take_at}
-use Rattle.stream_definitions.specs.Stream.{Page}
+use Rattle.pwg_definitions.specs.Stream.{Page}
 use Rattle.grey_page.specs.declared.page.GreyPage.TheInside.{Inside}
 use Rattle.grey_page.specs.Lines.{AreLines, cut_lines, page_of}
 

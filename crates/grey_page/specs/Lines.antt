@@ -1,6 +1,6 @@
 -- Lines that stand one after another in bytes.
 use Rattle.std.specs.Prelude.{◌≡◌, ℕ, zero, suc, ◌*◌, List, [], ◌∷◌, length, take, drop}
-use Rattle.stream_definitions.specs.Stream.{Page}
+use Rattle.pwg_definitions.specs.Stream.{Page}
 use Rattle.grey_page.specs.declared.page.GreyPage.TheInside.{Inside}
 
 -- so many lines of this many bytes, cut off the bytes one after another

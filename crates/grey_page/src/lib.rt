@@ -4,7 +4,7 @@
 mod page;
 
 pub use page::GreyPage;
-pub use stream_definitions::{Kind, PageForm};
+pub use pwg_definitions::{Kind, PageForm};
 
 #[cfg(test)]
 mod tests;

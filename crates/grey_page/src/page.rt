@@ -4,7 +4,7 @@ ghost use Rattle.std.specs.List.{flat_map};
 
 use std::alloc::{AllocError, Global};
 use std::marker::Model;
-use stream_definitions::{Kind, PageForm};
+use pwg_definitions::{Kind, PageForm};
 use weave_base::Memory;
 
 /// A page with the lines that were pushed so far, all as long as its form says.
@@ -17,7 +17,7 @@ pub struct GreyPage {
 }
 
 impl Model for GreyPage {
-    ghost use Rattle.stream_definitions.specs.Stream.{Page};
+    ghost use Rattle.pwg_definitions.specs.Stream.{Page};
 
     ghost Value = { Page };
 

@@ -3,7 +3,7 @@ use Rattle.std.proofs.Common.{◌≡◌, ℕ, ◌<◌, ◌≤◌, if◌then◌el
 use Rattle.std.proofs.lemmas.List.{length-replicate}
 use Rattle.std.specs.Option.{IsSomeAnd}
 use Rattle.std.proofs.lemmas.Bool.{le-ltb, lt-ltb}
-use Rattle.answer_definitions.specs.declared.answer.ProfileCause.TheVariants as cause
+use Rattle.driver_answer.specs.declared.answer.ProfileCause.TheVariants as cause
 use Rattle.printer_profile.specs.declared.fields.Profile.{Profile}
 use Rattle.std.specs.declared.alloc.Global.{Global}
 use Rattle.std.specs.Vec.{vec_len}

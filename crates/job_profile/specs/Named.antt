@@ -1,7 +1,7 @@
 -- The profile that a command uses.
 use Rattle.std.specs.Prelude.{◌≡◌, ℕ, Bool, true, false, nat_lt, ◌==◌, ◌&&◌, if◌then◌else◌, List, length, Option, Some, None, IfSome, Result, Ok, Err}
-use Rattle.answer_definitions.specs.declared.answer.ProfileCause.{ProfileCause}
-use Rattle.answer_definitions.specs.declared.answer.ProfileCause.TheVariants as cause
+use Rattle.driver_answer.specs.declared.answer.ProfileCause.{ProfileCause}
+use Rattle.driver_answer.specs.declared.answer.ProfileCause.TheVariants as cause
 use Rattle.job_words.specs.declared.table.Verb.{Verb}
 use Rattle.job_words.specs.declared.table.Verb.TheVariants as verb
 use Rattle.printer_definitions.specs.declared.inks.InkSet.{InkSet}

@@ -7,7 +7,7 @@ ghost use Rattle.std.specs.Prelude.{Err, IfOk, IfSome, IsErrOf, IsSome, None, Ok
 ghost use Rattle.weave_base.specs.Causes.{Rose};
 ghost use Rattle.weave_base.specs.Shelf.{text_named};
 
-use answer_definitions::ProfileCause;
+use driver_answer::ProfileCause;
 use job_words::Verb;
 use printer_profile::{InkSet, Profile, built_in, read};
 use std::alloc::Global;

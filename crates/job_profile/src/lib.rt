@@ -5,7 +5,7 @@ mod finding;
 #[cfg(test)]
 mod tests;
 
-pub use answer_definitions::ProfileCause;
+pub use driver_answer::ProfileCause;
 pub use finding::{ProfileStop, find_profile};
 pub use job_words::Verb;
 pub use printer_profile::Profile;

@@ -6,8 +6,8 @@ use Rattle.std.proofs.Math.ListN.{drop_of_length-le}
 use Rattle.std.proofs.lemmas.Bool.Decides.{nat_tests}
 use Rattle.std.proofs.lemmas.Str.Pattern.{IsSplitOnceResult, split_once_first}
 use denote.Ref.{Bor}
-use Rattle.answer_definitions.specs.declared.usage.UsageCause.{UsageCause}
-use Rattle.answer_definitions.specs.declared.usage.UsageCause.TheVariants.{NotKeyValue, UnknownKey}
+use Rattle.driver_answer.specs.declared.usage.UsageCause.{UsageCause}
+use Rattle.driver_answer.specs.declared.usage.UsageCause.TheVariants.{NotKeyValue, UnknownKey}
 use Rattle.job_words.specs.Values.{is_text}
 use Rattle.job_words.specs.Table.{KeyRow, key_named}
 use Rattle.job_words.specs.Meaning.{is_equals_sign, is_key_value, key_of, value_of, gives, value_fault, word_fault}

@@ -2,9 +2,9 @@
 use Rattle.std.specs.Prelude.{ℕ, Bool, ◌==◌, ◌+◌, if◌then◌else◌, List, [], ◌∷◌, ◌++◌, codes, drop, length, find, Option, Some, None, Result, Ok, Err, unwrap_or}
 use Rattle.std.specs.List.{before_first, after_first, list_any, position_from}
 use Rattle.std.specs.Option.{option_and_then, option_map}
-use Rattle.answer_definitions.specs.declared.usage.UsageCause.{UsageCause}
-use Rattle.answer_definitions.specs.declared.usage.UsageCause.TheVariants.{NoCommand, UnknownCommand, NotKeyValue, UnknownKey, RepeatedKey, BadValue}
-use Rattle.answer_definitions.specs.declared.usage.UsageFault.{UsageFault}
+use Rattle.driver_answer.specs.declared.usage.UsageCause.{UsageCause}
+use Rattle.driver_answer.specs.declared.usage.UsageCause.TheVariants.{NoCommand, UnknownCommand, NotKeyValue, UnknownKey, RepeatedKey, BadValue}
+use Rattle.driver_answer.specs.declared.usage.UsageFault.{UsageFault}
 use Rattle.diffusion_kernel.specs.declared.tables.Kernel.{Kernel}
 use Rattle.diffusion_kernel.specs.declared.tables.Kernel.TheVariants.{Floyd}
 use Rattle.job_words.specs.Values.{is_text, kernel_named, worker_count}

@@ -1,7 +1,7 @@
 //! Command lines worked by hand: each function does nothing, and the checker computes its contract.
 #![tactic(auto, unfolding(crate::specs::Meaning::job_meaning, crate::specs::Meaning::refused, crate::specs::Meaning::word_fault, crate::specs::Values::number_within))]
 
-ghost use Rattle.answer_definitions.specs.declared.usage.UsageCause.TheVariants.{BadValue, NoCommand, NotKeyValue, RepeatedKey, UnknownCommand, UnknownKey};
+ghost use Rattle.driver_answer.specs.declared.usage.UsageCause.TheVariants.{BadValue, NoCommand, NotKeyValue, RepeatedKey, UnknownCommand, UnknownKey};
 ghost use Rattle.diffusion_kernel.specs.declared.tables.Kernel.TheVariants.{Floyd, Jarvis, Stucki};
 ghost use Rattle.job_words.specs.Meaning.{fault_at, job_meaning, profile_named};
 ghost use Rattle.job_words.specs.Values.{number_within};

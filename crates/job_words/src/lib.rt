@@ -6,7 +6,7 @@ mod reading;
 mod table;
 mod values;
 
-pub use answer_definitions::{UsageCause, UsageFault};
+pub use driver_answer::{UsageCause, UsageFault};
 pub use diffusion_kernel::Kernel;
 pub use reading::{Job, profile_name, read_words};
 pub use table::Verb;

@@ -8,7 +8,7 @@ ghost use Rattle.std.specs.Result.{result_err};
 
 use crate::table::{Key, Verb};
 use crate::values::{kernel_named, worker_count};
-use answer_definitions::{UsageCause, UsageFault};
+use driver_answer::{UsageCause, UsageFault};
 use diffusion_kernel::Kernel;
 use weave_base::Words;
 

@@ -1,15 +1,16 @@
 -- The dots that a page wants.
-use Rattle.std.specs.Prelude.{ℕ, zero, suc, ◌+◌, ◌*◌, ◌/◌, Bool, if◌then◌else◌, List, [], ◌∷◌}
+use Rattle.std.specs.Prelude.{ℕ, ◌+◌, ◌*◌, ◌/◌, Bool, if◌then◌else◌, List, [], ◌∷◌}
 use Rattle.std.specs.List.{flat_map}
 use Rattle.printer_definitions.specs.declared.inks.Ink.{Ink}
 use Rattle.printer_definitions.specs.Inks.{inks_of}
 use Rattle.printer_definitions.specs.Printer.{Printer}
 use Rattle.diffusion_definitions.specs.Diffusion.{Plane, Table, errors, no_top, on}
-use Rattle.job_definitions.specs.Machine.{Dot}
+use Rattle.escp2_definitions.specs.Machine.{Dot}
 use Rattle.separation_definitions.specs.declared.window.Window.{Window}
 use Rattle.separation_definitions.specs.Amounts.{ink_plane}
 use Rattle.separation_definitions.specs.Windows.{window_of}
-use Rattle.stream_definitions.specs.Stream.{Page}
+use Rattle.pwg_definitions.specs.Stream.{Page}
+use Rattle.weave_definitions.specs.Weave.{count_from}
 
 -- The dots of a window: whether an ink has one in row y at column x.
 pub record Halftone : Type 0 where
@@ -26,11 +27,6 @@ halftone page p k =
       height = window.height;
       dot = λ ink y x. let plane : Plane = ink_plane page p ink in on k plane (errors k plane no_top) y x;
     }
-
--- so many numbers, from one on
-abbrev pub count_from : ℕ → ℕ → List ℕ
-count_from n zero = []
-count_from n (suc many) = n ∷ count_from (n + 1) many
 
 -- where the dot of an ink in row y at column x of the window stands on paper
 abbrev pub place_of : Printer → Ink → ℕ → ℕ → Dot

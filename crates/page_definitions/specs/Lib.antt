@@ -1,4 +1,6 @@
 pub mod Dots
-pub mod Weave
+pub mod Exact
+pub mod Strokes
 pub mod PageBytes
+pub mod OldPageBytes
 pub mod Printing

@@ -1,51 +1,13 @@
--- The bytes of the job that prints a page (commands of the ESC/P Reference Manual; their order is this project's own).
-use Rattle.std.specs.Prelude.{ℕ, zero, suc, ◌+◌, ◌-◌, ◌*◌, ◌/◌, Bool, true, false, if◌then◌else◌, List, [], ◌∷◌, ◌++◌, length, drop, map, filter, replicate, slice_index_or, Option, Some, None}
-use Rattle.std.specs.List.{flat_map, list_any}
+-- The bytes of the job that prints a page: the interleaved passes of the head over its window, as strokes.
+use Rattle.std.specs.Prelude.{ℕ, ◌*◌, Bool, false, List, map, replicate, Option, Some, None}
 use Rattle.printer_definitions.specs.declared.inks.Ink.{Ink}
-use Rattle.printer_definitions.specs.Inks.{inks_of}
-use Rattle.printer_definitions.specs.Printer.{Printer, column_step, nozzle_step, row_units, head_rows}
+use Rattle.printer_definitions.specs.Printer.{Printer, row_units, head_rows}
 use Rattle.diffusion_definitions.specs.Diffusion.{Table}
-use Rattle.job_definitions.specs.declared.command.RasterHead.{RasterHead}
-use Rattle.job_definitions.specs.declared.command.Command.{Command}
-use Rattle.job_definitions.specs.declared.command.Command.TheVariants as c
-use Rattle.job_definitions.specs.Commands.{command_bytes}
-use Rattle.page_definitions.specs.Dots.{Halftone, count_from, halftone}
-use Rattle.page_definitions.specs.Weave.{nozzle_row, pass_count}
-use Rattle.stream_definitions.specs.Stream.{Page}
-
--- ---- packed rows
-
-abbrev pub worth : Bool → ℕ → ℕ
-worth true n = n
-worth false n = 0
-
--- the dot at a place of a row, none behind its end
-abbrev pub at : List Bool → ℕ → Bool
-at row k = slice_index_or row k false
-
--- eight dots in a byte, the first in its highest bit
-abbrev pub packed_byte : List Bool → ℕ
-packed_byte row =
-    worth (at row 0) 128 + worth (at row 1) 64 + worth (at row 2) 32 + worth (at row 3) 16
-    + worth (at row 4) 8 + worth (at row 5) 4 + worth (at row 6) 2 + worth (at row 7) 1
-
-abbrev pub packed_bytes : ℕ → List Bool → List ℕ
-packed_bytes zero row = []
-packed_bytes (suc n) row = packed_byte row ∷ packed_bytes n (drop 8 row)
-
--- A row of dots in bytes; bits behind the row are 0.
-abbrev pub packed : List Bool → List ℕ
-packed row = packed_bytes ((length row + 7) / 8) row
-
--- ---- commands
-
--- A command, and the rows of a raster.
-pub record Spoken : Type 0 where
-  pub command : Command
-  pub rows : List ℕ
-
-abbrev pub say : Command → Spoken
-say command = record { command = command; rows = [] }
+use Rattle.escp2_definitions.specs.Written.{Coding, canonical}
+use Rattle.page_definitions.specs.Dots.{Halftone, halftone}
+use Rattle.page_definitions.specs.Strokes.{Stroke, Strokes, strokes_bytes}
+use Rattle.pwg_definitions.specs.Stream.{Page}
+use Rattle.weave_definitions.specs.Weave.{count_from, nozzle_row, pass_count}
 
 -- a row of an ink's dots
 abbrev pub dot_row : Halftone → Ink → ℕ → List Bool
@@ -57,61 +19,25 @@ fired_row h ink (Some y) = dot_row h ink y
 fired_row h ink None = replicate h.width false
 
 -- the rows of an ink in pass t, one for each nozzle
-abbrev pub pass_rows : Printer → Halftone → Ink → ℕ → List (List Bool)
-pass_rows p h ink t = map (λ i. fired_row h ink (nozzle_row p.nozzles p.pitch h.height t i)) (count_from 0 p.nozzles)
+abbrev pub pass_rows : Printer → Halftone → ℕ → Ink → List (List Bool)
+pass_rows p h t ink = map (λ i. fired_row h ink (nozzle_row p.nozzles p.pitch h.height t i)) (count_from 0 p.nozzles)
 
-abbrev pub has_dot : List (List Bool) → Bool
-has_dot rows = list_any (list_any (λ on. on)) rows
+-- pass t: the head moves down by as many rows as it has nozzles after each pass
+abbrev pub pass_stroke : Printer → Halftone → ℕ → Stroke
+pass_stroke p h t = record { start = t * p.nozzles; rows = pass_rows p h t }
 
--- the head of a raster with plain rows
-abbrev pub raster_head : Printer → Halftone → RasterHead
-raster_head p h = record { c = 0; v = nozzle_step p; h = column_step p; m = p.nozzles; n = h.width }
+-- The passes over a window. In the first one the last nozzle stands on the window's first row.
+abbrev pub weave : Printer → Halftone → Strokes
+weave p h = record { above = head_rows p; list = map (pass_stroke p h) (count_from 0 (pass_count p.nozzles p.pitch h.height)) }
 
--- one ink of a pass: nothing where it has no dot, else its colour, back to the left margin, and its rows
-abbrev pub ink_pass : Printer → Halftone → ℕ → Ink → List Spoken
-ink_pass p h t ink =
-    let rows : List (List Bool) = pass_rows p h ink t in
-    if has_dot rows
-    then say (c.Colour ink) ∷ say c.Return ∷ record { command = c.Raster (raster_head p h); rows = flat_map packed rows } ∷ []
-    else []
+-- how the rows of pages are written
+abbrev pub page_coding : Coding
+page_coding = canonical
 
--- a pass: its inks in the order of their set
-abbrev pub pass_inks : Printer → Halftone → ℕ → List Spoken
-pass_inks p h t = flat_map (ink_pass p h t) (inks_of p.inks)
-
--- whether some ink has a dot in pass t
-abbrev pub fires : Printer → Halftone → ℕ → Bool
-fires p h t = list_any (λ ink. has_dot (pass_rows p h ink t)) (inks_of p.inks)
-
--- the passes that have a dot
-abbrev pub fired_passes : Printer → Halftone → List ℕ
-fired_passes p h = filter (fires p h) (count_from 0 (pass_count p.nozzles p.pitch h.height))
-
--- down by so many units, left out where there are none
-abbrev pub down_by : ℕ → List Spoken
-down_by zero = []
-down_by (suc n) = say (c.DownBy (suc n)) ∷ []
-
--- These passes, where the one before them was t0: each steps down from the one before by as many rows as the head has
--- nozzles.
-abbrev pub pass_commands : Printer → Halftone → ℕ → List ℕ → List Spoken
-pass_commands p h t0 [] = []
-pass_commands p h t0 (t ∷ ts) = down_by ((t - t0) * p.nozzles * row_units p) ++ (pass_inks p h t ++ pass_commands p h t ts)
-
--- the commands before the passes, on a sheet of this length in units
-abbrev pub prologue : Printer → Halftone → ℕ → List Spoken
-prologue p h len =
-    say c.Init ∷ say c.Graphics ∷ say (c.Unit 5) ∷ say (c.MicroWeave 0) ∷ say (c.OneWay 1) ∷ say (c.Length len)
-    ∷ say (c.Margins ((p.top - head_rows p) * row_units p) ((p.top + h.height) * row_units p)) ∷ say (c.DownTo 0) ∷ []
-
--- The commands that print the dots of a window, on a sheet of this length in units.
-abbrev pub page_commands : Printer → Halftone → ℕ → List Spoken
-page_commands p h len = prologue p h len ++ (pass_commands p h 0 (fired_passes p h) ++ (say c.Eject ∷ say c.Init ∷ []))
-
--- plain bytes of commands
-abbrev pub bytes_of : List Spoken → List ℕ
-bytes_of job = flat_map (λ s. command_bytes s.command ++ s.rows) job
+-- The bytes that print a halftone, on a sheet of this length in units.
+unfoldable pub halftone_bytes : Printer → Halftone → ℕ → List ℕ
+halftone_bytes p h len = strokes_bytes page_coding p h.width h.height len (weave p h)
 
 -- The bytes that print a page.
 unfoldable pub page_bytes : Page → Printer → Table → List ℕ
-page_bytes page p k = bytes_of (page_commands p (halftone page p k) (page.form.height * row_units p))
+page_bytes page p k = halftone_bytes p (halftone page p k) (page.form.height * row_units p)

@@ -1,17 +1,19 @@
 -- What it is to print pages.
-use Rattle.std.specs.Prelude.{◌≡◌, ℕ, if◌then◌else◌, List, [], ◌∷◌, count_by, None}
-use Rattle.std.specs.List.{list_any}
+use Rattle.std.specs.Prelude.{◌≡◌, ℕ, ◌≤◌, List, [], ◌∷◌, None}
+use Rattle.std.specs.List.{AllByRecursion}
+use Rattle.printer_definitions.specs.declared.inks.Ink.{Ink}
 use Rattle.printer_definitions.specs.Printer.{Printer}
 use Rattle.diffusion_definitions.specs.Diffusion.{Table}
-use Rattle.job_definitions.specs.Commands.{commands}
-use Rattle.job_definitions.specs.Commands.ListEnd.{Whole}
-use Rattle.job_definitions.specs.Machine.{Dot, Sheet, execute, is_at}
+use Rattle.escp2_definitions.specs.Commands.{commands}
+use Rattle.escp2_definitions.specs.Commands.ListEnd.{Whole}
+use Rattle.escp2_definitions.specs.Machine.{Dot, Machine, Printed, Sheet, execute, execute_from}
+use Rattle.escp2_definitions.specs.Rasters.{ink_rasters}
 use Rattle.page_definitions.specs.Dots.{wanted}
-use Rattle.stream_definitions.specs.Stream.{Page}
-
--- Each of the places has one dot, and no other place has one.
-pub record Exactly (dots places : List Dot) : Type 0 where
-  pub counts : (d : Dot) → count_by (is_at d) dots ≡ (if list_any (is_at d) places then 1 else 0)
+use Rattle.page_definitions.specs.Exact.{Exactly}
+use Rattle.page_definitions.specs.PageBytes.{page_bytes}
+use Rattle.separation_definitions.specs.Windows.{window_of}
+use Rattle.weave_definitions.specs.Weave.{pass_count}
+use Rattle.pwg_definitions.specs.Stream.{Page}
 
 -- There are as many sheets as pages, and each has exactly the dots that its page wants.
 abbrev pub AreSheets : Printer → Table → List Page → List Sheet → Type 0
@@ -25,3 +27,23 @@ pub record Prints (p : Printer) (k : Table) (pages : List Page) (bytes : List �
   pub whole : (commands bytes).end ≡ Whole
   pub accepted : (execute p (commands bytes).entries).refused ≡ None
   pub sheets : AreSheets p k pages (execute p (commands bytes).entries).sheets
+
+-- One sheet with exactly these dots, and no refusal.
+pub record IsOneSheet (run : Printed) (dots : List Dot) : Type 0 where
+  pub sheet : Sheet
+  pub is : run ≡ record { sheets = sheet ∷ []; refused = None }
+  pub exactly : Exactly sheet.dots dots
+
+-- The bytes are whole commands, and from any state of the machine whose sheet has no dot they give one sheet with
+-- exactly these dots.
+pub record GivesSheet (p : Printer) (bytes : List ℕ) (dots : List Dot) : Type 0 where
+  pub whole : (commands bytes).end ≡ Whole
+  pub gives : (m : Machine) → m.dots ≡ [] → IsOneSheet (execute_from p m (commands bytes).entries) dots
+
+-- The job of a page has no more rasters of an ink than the head takes passes over the page's window.
+pub record HasPasses (p : Printer) (k : Table) (page : Page) : Type 0 where
+  pub rasters : (ink : Ink) → ink_rasters ink (commands (page_bytes page p k)).entries ≤ pass_count p.nozzles p.pitch (window_of page.form p).height
+
+-- so for each of the pages
+abbrev pub HavePasses : Printer → Table → List Page → Type 0
+HavePasses p k pages = AllByRecursion (HasPasses p k) pages

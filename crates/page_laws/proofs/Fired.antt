@@ -7,12 +7,13 @@ use Rattle.std.proofs.lemmas.List.{take_at, drop_at, length-map, length-replicat
 use Rattle.printer_definitions.specs.declared.inks.Ink.{Ink}
 use Rattle.printer_definitions.specs.Inks.{ink_place}
 use Rattle.printer_definitions.specs.Printer.{Printer, column_step, nozzle_step}
-use Rattle.job_definitions.specs.declared.command.RasterHead.{RasterHead}
-use Rattle.job_definitions.specs.Commands.{row_bytes}
-use Rattle.job_definitions.specs.Machine.{Dot, bits, is_at, overprints, row_dots, rows_dots}
-use Rattle.page_definitions.specs.Dots.{Halftone, count_from, pixel_dots, place_of, row_wanted}
-use Rattle.page_definitions.specs.PageBytes.{dot_row, fired_row, has_dot, packed, pass_rows}
-use Rattle.page_definitions.specs.Weave.{nozzle_row}
+use Rattle.escp2_definitions.specs.declared.command.RasterHead.{RasterHead}
+use Rattle.escp2_definitions.specs.Commands.{row_bytes}
+use Rattle.escp2_definitions.specs.Machine.{Dot, bits, is_at, overprints, row_dots, rows_dots}
+use Rattle.page_definitions.specs.Dots.{Halftone, pixel_dots, place_of, row_wanted}
+use Rattle.escp2_definitions.specs.Packed.{packed}
+use Rattle.page_definitions.specs.OldPageBytes.{dot_row, fired_row, has_dot, pass_rows}
+use Rattle.weave_definitions.specs.Weave.{count_from, nozzle_row}
 use Rattle.separation_definitions.specs.CanPrint.{CanPrint}
 use Rattle.page_laws.proofs.Numbers.{column_place}
 use Rattle.page_laws.proofs.Once.{Once, count-append, count-cons}

@@ -8,18 +8,20 @@ use Rattle.printer_definitions.specs.declared.inks.InkSet.TheVariants.{K}
 use Rattle.printer_definitions.specs.Inks.{inks_of}
 use Rattle.printer_definitions.specs.Printer.{Printer, column_step, head_rows, nozzle_step, row_units}
 use Rattle.diffusion_definitions.specs.Diffusion.{Table}
-use Rattle.job_definitions.specs.declared.command.Command.TheVariants as c
-use Rattle.job_definitions.specs.Commands.{CommandList, Spells, command_bytes, commands, is_between}
-use Rattle.job_definitions.specs.Commands.ListEnd.{Whole}
-use Rattle.job_definitions.specs.Machine.{Dot, Printed, Sheet, execute, execute_from, start, with_sheets}
-use Rattle.job_laws.specs.Said.{AllSaid, said_bytes}
-use Rattle.job_laws.proofs.Jobs.{commands-said}
+use Rattle.escp2_definitions.specs.declared.command.Command.TheVariants as c
+use Rattle.escp2_definitions.specs.Commands.{CommandList, Spells, command_bytes, commands, is_between}
+use Rattle.escp2_definitions.specs.Commands.ListEnd.{Whole}
+use Rattle.escp2_definitions.specs.Machine.{Dot, Printed, Sheet, execute, execute_from, start, with_sheets}
+use Rattle.escp2_laws.specs.Said.{AllSaid, said_bytes}
+use Rattle.escp2_laws.proofs.Jobs.{commands-said}
 use Rattle.separation_definitions.specs.Windows.{wanted_by}
-use Rattle.stream_definitions.specs.Stream.{IsPage, Page}
-use Rattle.page_definitions.specs.Dots.{Halftone, count_from, dots_wanted, halftone}
-use Rattle.page_definitions.specs.PageBytes.{Spoken, bytes_of, down_by, fired_passes, fires, has_dot, ink_pass, packed, page_bytes, page_commands, pass_commands, pass_inks, pass_rows, prologue, raster_head, say}
-use Rattle.page_definitions.specs.Printing.{AreSheets, Exactly, Prints}
-use Rattle.page_definitions.specs.Weave.{pass_count}
+use Rattle.pwg_definitions.specs.Stream.{IsPage, Page}
+use Rattle.page_definitions.specs.Dots.{Halftone, dots_wanted, halftone}
+use Rattle.escp2_definitions.specs.Packed.{packed}
+use Rattle.page_definitions.specs.OldPageBytes.{Spoken, bytes_of, down_by, fired_passes, fires, has_dot, ink_pass, page_bytes, page_commands, pass_commands, pass_inks, pass_rows, prologue, raster_head, say}
+use Rattle.page_definitions.specs.Exact.{Exactly}
+use Rattle.page_definitions.specs.Printing.{AreSheets, Prints}
+use Rattle.weave_definitions.specs.Weave.{count_from, pass_count}
 use Rattle.separation_definitions.specs.CanPrint.{ArePages, CanPrint}
 use Rattle.page_laws.proofs.Numbers.{column_step-some, nozzle_step-some, rises, row_units-some, sheet-longest}
 use Rattle.page_laws.proofs.Once.{Once, exactly, wanted-once}

@@ -10,11 +10,12 @@ use Rattle.printer_definitions.specs.declared.inks.InkSet.{InkSet}
 use Rattle.printer_definitions.specs.declared.inks.InkSet.TheVariants.{K, Cmy, Cmyk}
 use Rattle.printer_definitions.specs.Inks.{inks_of, same_ink}
 use Rattle.printer_definitions.specs.Printer.{Printer, column_step, row_step}
-use Rattle.job_definitions.specs.Machine.{Dot, is_at}
-use Rattle.page_definitions.specs.Dots.{Halftone, count_from, dots_wanted, ink_wanted, pixel_dots, place_of, row_wanted}
-use Rattle.page_definitions.specs.Printing.{Exactly}
+use Rattle.escp2_definitions.specs.Machine.{Dot, is_at}
+use Rattle.page_definitions.specs.Dots.{Halftone, dots_wanted, ink_wanted, pixel_dots, place_of, row_wanted}
+use Rattle.page_definitions.specs.Exact.{Exactly}
 use Rattle.separation_definitions.specs.CanPrint.{CanPrint}
 use Rattle.page_laws.proofs.Numbers.{column_place, column_step-some, rises, row_place, row_step-some}
+use Rattle.weave_definitions.specs.Weave.{count_from}
 
 -- ---- counts
 

@@ -6,9 +6,9 @@ use Rattle.printer_definitions.specs.declared.inks.Ink.TheVariants.{Black}
 use Rattle.printer_definitions.specs.declared.inks.InkSet.TheVariants.{K}
 use Rattle.printer_definitions.specs.Inks.{inks_of}
 use Rattle.printer_definitions.specs.Printer.{Printer}
-use Rattle.job_definitions.specs.Machine.{Dot}
-use Rattle.page_definitions.specs.Dots.{Halftone, count_from, dots_wanted, ink_wanted, row_wanted}
-use Rattle.page_definitions.specs.Weave.{nozzle_row, pass_count}
+use Rattle.escp2_definitions.specs.Machine.{Dot}
+use Rattle.page_definitions.specs.Dots.{Halftone, dots_wanted, ink_wanted, row_wanted}
+use Rattle.weave_definitions.specs.Weave.{count_from, nozzle_row, pass_count}
 use Rattle.separation_definitions.specs.CanPrint.{CanPrint}
 use Rattle.page_laws.proofs.Fired.{nozzle_wanted, pass_wanted}
 use Rattle.page_laws.proofs.Pages.{inks_wanted, passes_all, passes_wanted}

@@ -1,8 +1,8 @@
 -- Rows of dots that are packed into bytes are taken out again.
 use Rattle.std.proofs.Common.{◌≡◌, ℕ, zero, suc, ◌+◌, ◌*◌, ◌/◌, ◌≤◌, Bool, true, false, ◌&&◌, List, [], ◌∷◌, ◌++◌, length, take, drop, refl, sym, ◌∙◌, ap, arith}
 use Rattle.std.proofs.lemmas.List.{take_all}
-use Rattle.job_definitions.specs.Machine.{bits, byte_bits}
-use Rattle.page_definitions.specs.PageBytes.{at, packed, packed_bytes, worth}
+use Rattle.escp2_definitions.specs.Machine.{bits, byte_bits}
+use Rattle.escp2_definitions.specs.Packed.{at, packed, packed_bytes, worth}
 
 -- the byte of eight bits
 abbrev worths : Bool → Bool → Bool → Bool → Bool → Bool → Bool → Bool → ℕ

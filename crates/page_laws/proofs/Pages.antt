@@ -7,12 +7,12 @@ use Rattle.printer_definitions.specs.declared.inks.Ink.{Ink}
 use Rattle.printer_definitions.specs.declared.inks.Ink.TheVariants.{Black}
 use Rattle.printer_definitions.specs.Inks.{inks_of}
 use Rattle.printer_definitions.specs.Printer.{Printer, head_rows, nozzle_step, row_step, row_units}
-use Rattle.job_definitions.specs.declared.command.Command.TheVariants as c
-use Rattle.job_definitions.specs.declared.stops.EmuFault.{EmuFault}
-use Rattle.job_definitions.specs.Machine.{Dot, Machine, Sheet, after, execute_from, first_fault, given, refusals, start, with_sheets}
-use Rattle.page_definitions.specs.Dots.{Halftone, count_from}
-use Rattle.page_definitions.specs.PageBytes.{Spoken, down_by, fired_passes, fires, has_dot, page_commands, pass_commands, pass_inks, pass_rows, prologue, say}
-use Rattle.page_definitions.specs.Weave.{nozzle_row, pass_count}
+use Rattle.escp2_definitions.specs.declared.command.Command.TheVariants as c
+use Rattle.escp2_definitions.specs.declared.stops.EmuFault.{EmuFault}
+use Rattle.escp2_definitions.specs.Machine.{Dot, Machine, Sheet, after, execute_from, first_fault, given, refusals, start, with_sheets}
+use Rattle.page_definitions.specs.Dots.{Halftone}
+use Rattle.page_definitions.specs.OldPageBytes.{Spoken, down_by, fired_passes, fires, has_dot, page_commands, pass_commands, pass_inks, pass_rows, prologue, say}
+use Rattle.weave_definitions.specs.Weave.{count_from, nozzle_row, pass_count}
 use Rattle.separation_definitions.specs.CanPrint.{CanPrint}
 use Rattle.page_laws.proofs.Numbers.{nozzle_step-is, on_grid, rises, row_place, row_step-some, row_units-is}
 use Rattle.page_laws.proofs.Once.{Once, once-front, once-regroup}

@@ -5,16 +5,17 @@ use Rattle.std.proofs.lemmas.Bool.{eq-eqb, le-ltb}
 use Rattle.printer_definitions.specs.declared.inks.Ink.{Ink}
 use Rattle.printer_definitions.specs.declared.inks.Ink.TheVariants.{Black}
 use Rattle.printer_definitions.specs.Printer.{Printer, column_step, head_rows, nozzle_step, row_step, row_units}
-use Rattle.job_definitions.specs.declared.command.Command.{Command}
-use Rattle.job_definitions.specs.declared.command.Command.TheVariants as c
-use Rattle.job_definitions.specs.declared.stops.EmuFault.{EmuFault}
-use Rattle.job_definitions.specs.declared.stops.EmuFault.TheVariants.{NotGraphics, NoUnit, NoMargins, Density, Rows, Backward, OffGrid, OffSheet, Overprint}
-use Rattle.job_definitions.specs.Commands.{Entry, command_bytes}
-use Rattle.job_definitions.specs.Machine.{Dot, Machine, after, execute_from, first_fault, given, is_off_grid, is_off_sheet, is_other_density, overprints, raster_dots, refusals, refuse, rows_dots, start, with_sheets}
-use Rattle.job_laws.specs.Said.{Said, entries_of}
-use Rattle.page_definitions.specs.Dots.{Halftone, count_from}
-use Rattle.page_definitions.specs.PageBytes.{Spoken, down_by, has_dot, ink_pass, packed, pass_rows, prologue, raster_head, say}
-use Rattle.page_definitions.specs.Weave.{nozzle_row}
+use Rattle.escp2_definitions.specs.declared.command.Command.{Command}
+use Rattle.escp2_definitions.specs.declared.command.Command.TheVariants as c
+use Rattle.escp2_definitions.specs.declared.stops.EmuFault.{EmuFault}
+use Rattle.escp2_definitions.specs.declared.stops.EmuFault.TheVariants.{NotGraphics, NoUnit, NoMargins, Density, Rows, Backward, OffGrid, OffSheet, Overprint}
+use Rattle.escp2_definitions.specs.Commands.{Entry, command_bytes}
+use Rattle.escp2_definitions.specs.Machine.{Dot, Machine, after, execute_from, first_fault, given, is_off_grid, is_off_sheet, is_other_density, overprints, raster_dots, refusals, refuse, rows_dots, start, with_sheets}
+use Rattle.escp2_laws.specs.Said.{Said, entries_of}
+use Rattle.page_definitions.specs.Dots.{Halftone}
+use Rattle.escp2_definitions.specs.Packed.{packed}
+use Rattle.page_definitions.specs.OldPageBytes.{Spoken, down_by, has_dot, ink_pass, pass_rows, prologue, raster_head, say}
+use Rattle.weave_definitions.specs.Weave.{count_from, nozzle_row}
 use Rattle.separation_definitions.specs.CanPrint.{CanPrint}
 use Rattle.page_laws.proofs.Numbers.{column_step-some}
 use Rattle.page_laws.proofs.Once.{Once, once-front, once-regroup}

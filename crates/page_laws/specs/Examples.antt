@@ -5,11 +5,11 @@ use Rattle.printer_definitions.specs.declared.inks.InkSet.{InkSet}
 use Rattle.printer_definitions.specs.Inks.{inks_of}
 use Rattle.printer_definitions.specs.Printer.{Printer, tiny1}
 use Rattle.separation_definitions.specs.Amounts.{amount}
-use Rattle.job_definitions.specs.Machine.{Dot}
-use Rattle.page_definitions.specs.Weave.{Firing}
-use Rattle.stream_definitions.specs.declared.pages.Kind.TheVariants.{Gray8}
-use Rattle.stream_definitions.specs.declared.pages.PageForm.{PageForm}
-use Rattle.stream_definitions.specs.Stream.{Page}
+use Rattle.escp2_definitions.specs.Machine.{Dot}
+use Rattle.weave_definitions.specs.Weave.{Firing}
+use Rattle.pwg_definitions.specs.declared.pages.Kind.TheVariants.{Gray8}
+use Rattle.pwg_definitions.specs.declared.pages.PageForm.{PageForm}
+use Rattle.pwg_definitions.specs.Stream.{Page}
 
 -- a grey page of this many columns and rows
 abbrev pub grey : ℕ → ℕ → PageForm

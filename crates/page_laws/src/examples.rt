@@ -1,11 +1,11 @@
 //! Worked pages: each function does nothing, and the checker computes its contract. They hold the definitions against
 //! results that were worked by hand.
 ghost use Rattle.diffusion_definitions.specs.Diffusion.{floyd};
-ghost use Rattle.job_definitions.specs.Commands.{commands};
-ghost use Rattle.job_definitions.specs.Machine.{execute};
+ghost use Rattle.escp2_definitions.specs.Commands.{commands};
+ghost use Rattle.escp2_definitions.specs.Machine.{execute};
 ghost use Rattle.page_definitions.specs.Dots.{wanted};
-ghost use Rattle.page_definitions.specs.PageBytes.{page_bytes};
-ghost use Rattle.page_definitions.specs.Weave.{pass_count, passes};
+ghost use Rattle.page_definitions.specs.OldPageBytes.{page_bytes};
+ghost use Rattle.weave_definitions.specs.Weave.{pass_count, passes};
 ghost use Rattle.page_laws.specs.Examples.{amounts_of_128, black_dot, black_page, black_page_bytes, fires_row, grey, small_page, small_page_bytes, with_inks, with_limits, with_margins};
 ghost use Rattle.printer_definitions.specs.Printer.{tiny1};
 ghost use Rattle.printer_definitions.specs.declared.inks.InkSet.TheVariants.{Cmy, Cmyk, K};
@@ -19,14 +19,14 @@ pub fn small_page_wants_two_dots()
 {}
 
 /// The bytes of its job.
-#[tactic(auto, unfolding(page_definitions::specs::PageBytes::page_bytes, diffusion_definitions::specs::Diffusion::value, diffusion_definitions::specs::Diffusion::row_errors, diffusion_definitions::specs::Diffusion::errors))]
+#[tactic(auto, unfolding(page_definitions::specs::OldPageBytes::page_bytes, diffusion_definitions::specs::Diffusion::value, diffusion_definitions::specs::Diffusion::row_errors, diffusion_definitions::specs::Diffusion::errors))]
 pub fn small_page_has_its_bytes()
     ensures len { length small_page_bytes ≡ 69 }
     ensures bytes { page_bytes small_page tiny1 floyd ≡ small_page_bytes }
 {}
 
 /// What the printer makes of these bytes.
-#[tactic(auto, unfolding(job_definitions::specs::Commands::command_at, job_definitions::specs::Commands::commands_from, job_definitions::specs::Machine::execute_from, job_definitions::specs::Machine::rows_dots))]
+#[tactic(auto, unfolding(escp2_definitions::specs::Commands::command_at, escp2_definitions::specs::Commands::commands_from, escp2_definitions::specs::Machine::execute_from, escp2_definitions::specs::Machine::rows_dots))]
 pub fn small_page_is_printed()
     ensures { execute tiny1 (commands small_page_bytes).entries ≡ record {
       sheets = record { rows = 2; columns = 4; dots = black_dot 10 10 ∷ black_dot 30 10 ∷ [] } ∷ [];
@@ -35,7 +35,7 @@ pub fn small_page_is_printed()
 {}
 
 /// A black page with margins: its window, and the bytes of its job.
-#[tactic(auto, unfolding(page_definitions::specs::PageBytes::page_bytes, diffusion_definitions::specs::Diffusion::value, diffusion_definitions::specs::Diffusion::row_errors, diffusion_definitions::specs::Diffusion::errors))]
+#[tactic(auto, unfolding(page_definitions::specs::OldPageBytes::page_bytes, diffusion_definitions::specs::Diffusion::value, diffusion_definitions::specs::Diffusion::row_errors, diffusion_definitions::specs::Diffusion::errors))]
 pub fn black_page_with_margins()
     ensures window { window_of black_page.form with_margins ≡ record { left = 1; top = 1; width = 3; height = 1 } }
     ensures len { length black_page_bytes ≡ 62 }

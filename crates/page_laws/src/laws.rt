@@ -1,15 +1,15 @@
 //! Each function does nothing; its contract is a law.
 ghost use Rattle.diffusion_definitions.specs.Diffusion.{Table};
-ghost use Rattle.job_definitions.specs.Machine.{Dot, is_at};
+ghost use Rattle.escp2_definitions.specs.Machine.{Dot, is_at};
 ghost use Rattle.page_definitions.specs.Dots.{wanted};
-ghost use Rattle.page_definitions.specs.PageBytes.{page_bytes};
+ghost use Rattle.page_definitions.specs.OldPageBytes.{page_bytes};
 ghost use Rattle.page_definitions.specs.Printing.{Prints};
 ghost use Rattle.separation_definitions.specs.CanPrint.{ArePages, CanPrint};
 ghost use Rattle.printer_definitions.specs.declared.inks.InkSet.TheVariants.{K};
 ghost use Rattle.printer_definitions.specs.Printer.{Printer};
 ghost use Rattle.std.specs.List.{flat_map};
 ghost use Rattle.std.specs.Prelude.{List, count_by, ◌≡◌, ◌≤◌};
-ghost use Rattle.stream_definitions.specs.Stream.{Page};
+ghost use Rattle.pwg_definitions.specs.Stream.{Page};
 
 /// The dots that a page wants are distinct.
 pub fn wanted_are_distinct()

@@ -3,10 +3,10 @@ use Rattle.std.proofs.Common.{◌≡◌, ℕ, zero, suc, ◌-◌, ◌<◌, List,
 use Rattle.std.proofs.lemmas.List.{take_all}
 use Rattle.std.specs.Io.KnownBytes.{Appends}
 use Rattle.weave_base.specs.Parts.{AppendsPart}
-use Rattle.job_definitions.specs.declared.command.RasterHead.{RasterHead}
-use Rattle.job_definitions.specs.declared.command.Command.TheVariants as c
-use Rattle.job_definitions.specs.Commands.{command_bytes}
-use Rattle.page_definitions.specs.PageBytes.{bytes_of, down_by}
+use Rattle.escp2_definitions.specs.declared.command.RasterHead.{RasterHead}
+use Rattle.escp2_definitions.specs.declared.command.Command.TheVariants as c
+use Rattle.escp2_definitions.specs.Commands.{command_bytes}
+use Rattle.page_definitions.specs.OldPageBytes.{bytes_of, down_by}
 use Rattle.page_printer.specs.Passes.{fire_bytes, head_bytes, pass_bytes}
 
 down-bytes : (n : ℕ) → 0 < n → bytes_of (down_by n) ≡ command_bytes (c.DownBy n)

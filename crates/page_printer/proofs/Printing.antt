@@ -11,20 +11,21 @@ use Rattle.printer_definitions.specs.Inks.{inks_of}
 use Rattle.printer_definitions.specs.Printer.{Printer, row_units}
 use Rattle.diffusion_definitions.specs.Diffusion.{Errors, Plane, Solves, Table, errors, no_top, on}
 use Rattle.diffusion_laws.proofs.Solve.{errors_solve, errors_top}
-use Rattle.job_definitions.specs.declared.command.RasterHead.{RasterHead}
-use Rattle.job_definitions.specs.declared.command.Command.TheVariants as c
-use Rattle.page_definitions.specs.Dots.{Halftone, count_from, halftone}
-use Rattle.page_definitions.specs.PageBytes.{Spoken, bytes_of, dot_row, down_by, fired_row, fires, has_dot, ink_pass, packed, pass_commands, pass_inks, pass_rows, raster_head, say}
-use Rattle.page_definitions.specs.Weave.{nozzle_row}
+use Rattle.escp2_definitions.specs.declared.command.RasterHead.{RasterHead}
+use Rattle.escp2_definitions.specs.declared.command.Command.TheVariants as c
+use Rattle.page_definitions.specs.Dots.{Halftone, halftone}
+use Rattle.escp2_definitions.specs.Packed.{packed}
+use Rattle.page_definitions.specs.OldPageBytes.{Spoken, bytes_of, dot_row, down_by, fired_row, fires, has_dot, ink_pass, pass_commands, pass_inks, pass_rows, raster_head, say}
+use Rattle.weave_definitions.specs.Weave.{count_from, nozzle_row}
 use Rattle.page_laws.proofs.Headline.{bytes-append}
 use Rattle.page_laws.proofs.OneNozzle.{one-count, one-row}
 use Rattle.separation_definitions.specs.declared.window.Window.{Window}
 use Rattle.separation_definitions.specs.Amounts.{amount, grey_ink, ink_plane, pixel_at}
 use Rattle.separation_definitions.specs.Windows.{window_of}
-use Rattle.stream_definitions.specs.declared.pages.Kind.{Kind}
-use Rattle.stream_definitions.specs.declared.pages.Kind.TheVariants.{Gray8}
-use Rattle.stream_definitions.specs.declared.pages.PageForm.{PageForm}
-use Rattle.stream_definitions.specs.Stream.{Page}
+use Rattle.pwg_definitions.specs.declared.pages.Kind.{Kind}
+use Rattle.pwg_definitions.specs.declared.pages.Kind.TheVariants.{Gray8}
+use Rattle.pwg_definitions.specs.declared.pages.PageForm.{PageForm}
+use Rattle.pwg_definitions.specs.Stream.{Page}
 use Rattle.row_diffusion.specs.Rows.{HasRow}
 use Rattle.weave_base.specs.Parts.{AppendsPart}
 use Rattle.weave_base.proofs.Parting.{part_behind, part_of_front}

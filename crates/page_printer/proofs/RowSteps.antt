@@ -2,7 +2,7 @@
 use Rattle.std.proofs.Common.{◌≡◌, ℕ, ℤ, pos, zero, suc, ◌+◌, ◌-◌, ◌*◌, ◌<◌, ◌≤◌, Bool, false, List, [], ◌∷◌, ◌++◌, length, take, drop, map, set, get_or, refl, sym, ◌∙◌, ap, arith, subst}
 use Rattle.std.proofs.lemmas.List.{map_more, take_at, take_more_set}
 use Rattle.diffusion_definitions.specs.Diffusion.{Errors, Plane}
-use Rattle.page_definitions.specs.Dots.{count_from}
+use Rattle.weave_definitions.specs.Weave.{count_from}
 use Rattle.row_diffusion.specs.Rows.{HasRow, RowIs}
 use Rattle.page_printer.specs.Rows.{darkness}
 

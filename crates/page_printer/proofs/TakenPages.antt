@@ -8,10 +8,10 @@ use Rattle.printer_profile.specs.Profiles.{printer_of}
 use Rattle.printer_profile.specs.Validity.{check}
 use Rattle.printer_profile.proofs.CheckedProfiles.{can_print}
 use Rattle.separation_definitions.specs.Windows.{wanted_by}
-use Rattle.stream_definitions.specs.declared.pages.Kind.{Kind}
-use Rattle.stream_definitions.specs.declared.pages.Kind.TheVariants.{Gray8}
-use Rattle.stream_definitions.specs.Header.{line_bytes, row_of}
-use Rattle.stream_definitions.specs.Stream.{IsPage, Page}
+use Rattle.pwg_definitions.specs.declared.pages.Kind.{Kind}
+use Rattle.pwg_definitions.specs.declared.pages.Kind.TheVariants.{Gray8}
+use Rattle.pwg_definitions.specs.Header.{line_bytes, row_of}
+use Rattle.pwg_definitions.specs.Stream.{IsPage, Page}
 use Rattle.page_printer.specs.Pages.{Takes}
 
 pub takes : (profile : Profile) (page : Page) → IsOk (check profile) → profile.nozzles ≡ 1 → profile.inks ≡ K → IsPage (wanted_by (printer_of profile)) page → Takes (printer_of profile) page

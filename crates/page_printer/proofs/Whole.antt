@@ -2,12 +2,12 @@
 use Rattle.std.proofs.Common.{◌≡◌, ℕ, ◌+◌, ◌-◌, ◌*◌, List, [], ◌∷◌, ◌++◌, sym, ◌∙◌, ap, arith}
 use Rattle.printer_definitions.specs.Printer.{Printer, head_rows, row_units}
 use Rattle.diffusion_definitions.specs.Diffusion.{Table}
-use Rattle.job_definitions.specs.declared.command.Command.TheVariants as c
+use Rattle.escp2_definitions.specs.declared.command.Command.TheVariants as c
 use Rattle.page_definitions.specs.Dots.{Halftone, halftone}
-use Rattle.page_definitions.specs.PageBytes.{bytes_of, fired_passes, page_bytes, pass_commands, prologue, say}
+use Rattle.page_definitions.specs.OldPageBytes.{bytes_of, fired_passes, page_bytes, pass_commands, prologue, say}
 use Rattle.page_laws.proofs.Headline.{bytes-append}
 use Rattle.separation_definitions.specs.Windows.{window_of}
-use Rattle.stream_definitions.specs.Stream.{Page}
+use Rattle.pwg_definitions.specs.Stream.{Page}
 use Rattle.page_printer.specs.Pages.{Takes, begin_bytes, rows_bytes}
 
 -- the first row that may be printed is below the top margin, since one nozzle has no head above it

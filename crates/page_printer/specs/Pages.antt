@@ -3,12 +3,12 @@ use Rattle.std.specs.Prelude.{◌≡◌, ℕ, List, [], ◌∷◌}
 use Rattle.printer_definitions.specs.declared.inks.InkSet.TheVariants.{K}
 use Rattle.printer_definitions.specs.Printer.{Printer}
 use Rattle.diffusion_definitions.specs.Diffusion.{Table}
-use Rattle.job_definitions.specs.declared.command.Command.TheVariants as c
+use Rattle.escp2_definitions.specs.declared.command.Command.TheVariants as c
 use Rattle.page_definitions.specs.Dots.{Halftone, halftone}
-use Rattle.page_definitions.specs.PageBytes.{bytes_of, fired_passes, pass_commands, say}
+use Rattle.page_definitions.specs.OldPageBytes.{bytes_of, fired_passes, pass_commands, say}
 use Rattle.separation_definitions.specs.CanPrint.{CanPrint}
 use Rattle.separation_definitions.specs.Windows.{wanted_by}
-use Rattle.stream_definitions.specs.Stream.{IsPage, Page}
+use Rattle.pwg_definitions.specs.Stream.{IsPage, Page}
 
 -- The printer can print, has one nozzle of black, and takes the page.
 pub record Takes (p : Printer) (page : Page) : Type 0 where

@@ -2,10 +2,10 @@
 use Rattle.std.specs.Prelude.{ℕ, List, ◌++◌}
 use Rattle.printer_definitions.specs.declared.inks.Ink.TheVariants.{Black}
 use Rattle.printer_definitions.specs.Printer.{Printer, column_step, nozzle_step}
-use Rattle.job_definitions.specs.declared.command.RasterHead.{RasterHead}
-use Rattle.job_definitions.specs.declared.command.Command.TheVariants as c
-use Rattle.job_definitions.specs.Commands.{command_bytes}
-use Rattle.page_definitions.specs.PageBytes.{bytes_of, down_by}
+use Rattle.escp2_definitions.specs.declared.command.RasterHead.{RasterHead}
+use Rattle.escp2_definitions.specs.declared.command.Command.TheVariants as c
+use Rattle.escp2_definitions.specs.Commands.{command_bytes}
+use Rattle.page_definitions.specs.OldPageBytes.{bytes_of, down_by}
 
 -- the raster of a pass over so many columns
 abbrev pub raster_of : Printer → ℕ → RasterHead

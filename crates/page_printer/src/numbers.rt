@@ -8,7 +8,7 @@ ghost use Rattle.separation_definitions.specs.Windows.{window_of};
 ghost use Rattle.std.specs.Prelude.{◌*◌, ◌+◌, ◌≡◌};
 
 use grey_page::GreyPage;
-use job_definitions::RasterHead;
+use escp2_definitions::RasterHead;
 use printer_profile::Profile;
 
 /// Places on a sheet from its top, in units.

@@ -1,7 +1,7 @@
 //! A whole page.
 ghost use Rattle.diffusion_definitions.specs.Diffusion.{no_top};
 ghost use Rattle.diffusion_kernel.specs.Tables.{table_of};
-ghost use Rattle.page_definitions.specs.PageBytes.{page_bytes};
+ghost use Rattle.page_definitions.specs.OldPageBytes.{page_bytes};
 ghost use Rattle.page_printer.specs.Pages.{Takes, begin_bytes, rows_bytes};
 ghost use Rattle.page_printer.specs.Rows.{IsReached, IsReady};
 ghost use Rattle.page_printer.specs.declared.page.Halt.TheVariants as halt;
@@ -11,7 +11,7 @@ ghost use Rattle.printer_profile.specs.Validity.{check};
 ghost use Rattle.separation_definitions.specs.Windows.{wanted_by, window_of};
 ghost use Rattle.std.specs.Io.KnownBytes.{Appends, Keeps};
 ghost use Rattle.std.specs.Prelude.{IsErrOf, IsOk, OnErr, OnOk, ◌≡◌, ◌≤◌};
-ghost use Rattle.stream_definitions.specs.Stream.{IsPage};
+ghost use Rattle.pwg_definitions.specs.Stream.{IsPage};
 ghost use Rattle.weave_base.specs.Causes.{HasCause, Rose};
 ghost use Rattle.weave_base.specs.Parts.{AppendsPart};
 

@@ -6,7 +6,7 @@ ghost use Rattle.weave_base.specs.Causes.{HasCause};
 ghost use Rattle.weave_base.specs.Parts.{AppendsPart};
 
 use crate::rows::HEAD_LEN;
-use job_definitions::RasterHead;
+use escp2_definitions::RasterHead;
 use weave_base::{Failed, Sink, put_all};
 
 /// The bytes of a step down, which is left out where the pass before was over the same row.

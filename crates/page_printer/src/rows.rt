@@ -1,8 +1,8 @@
 //! The rows of a page, diffused one after another.
 ghost use Rattle.diffusion_definitions.specs.Diffusion.{EachInRange, Errors, Plane, Solves, no_top, on};
 ghost use Rattle.diffusion_kernel.specs.Tables.{table_of};
-ghost use Rattle.page_definitions.specs.Dots.{count_from};
-ghost use Rattle.page_definitions.specs.PageBytes.{packed};
+ghost use Rattle.weave_definitions.specs.Weave.{count_from};
+ghost use Rattle.escp2_definitions.specs.Packed.{packed};
 ghost use Rattle.page_printer.specs.Rows.{IsReached, IsReady, darkness};
 ghost use Rattle.row_diffusion.specs.Rows.{HasRow, IsBordered, RowIs};
 ghost use Rattle.std.specs.List.{list_any};

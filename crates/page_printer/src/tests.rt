@@ -2,7 +2,7 @@
 ghost use Rattle.printer_profile.specs.Profiles.{printer_of};
 ghost use Rattle.separation_definitions.specs.Windows.{wanted_by};
 ghost use Rattle.std.specs.Prelude.{IfOk, length, ◌≡◌};
-ghost use Rattle.stream_definitions.specs.Stream.{IsPage};
+ghost use Rattle.pwg_definitions.specs.Stream.{IsPage};
 
 use super::*;
 use grey_page::Kind;

@@ -1,11 +1,11 @@
 //! What a profile says of a printer, and what follows for its pages.
 ghost use Rattle.separation_definitions.specs.Windows.{wanted_by, window_of};
 ghost use Rattle.std.specs.Prelude.{◌≡◌};
-ghost use Rattle.stream_definitions.specs.Header.{IsWanted};
+ghost use Rattle.pwg_definitions.specs.Header.{IsWanted};
 
 use printer_definitions::InkSet;
 use separation_definitions::Window;
-use stream_definitions::{PageForm, Wanted};
+use pwg_definitions::{PageForm, Wanted};
 
 /// A printer. Nothing ties the fields together: `check` says whether they make sense.
 #[derive(Clone, Copy, Debug, PartialEq, Eq)]

@@ -29,5 +29,5 @@ pub use printer_definitions::InkSet;
 pub use reading::{TextCause, TextFault, read};
 pub use separation_definitions::Window;
 pub use setting::SetFault;
-pub use stream_definitions::{PageForm, Wanted};
+pub use pwg_definitions::{PageForm, Wanted};
 pub use validity::ProfileFault;

@@ -1,7 +1,7 @@
 //! Profiles by their names, their checks and their texts.
 use super::*;
 use std::test::Fail;
-use stream_definitions::Kind;
+use pwg_definitions::Kind;
 
 const GOOD: Profile = Profile {
     hdpi: 720,

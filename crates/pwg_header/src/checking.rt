@@ -1,7 +1,7 @@
 //! Whether a header is that of a wanted page.
 ghost use Rattle.std.specs.Prelude.{◌≡◌};
-ghost use Rattle.stream_definitions.specs.Header.{check as check_of};
-ghost use Rattle.stream_definitions.specs.Header.{is_outside as is_outside_of, line_bytes as line_bytes_of};
+ghost use Rattle.pwg_definitions.specs.Header.{check as check_of};
+ghost use Rattle.pwg_definitions.specs.Header.{is_outside as is_outside_of, line_bytes as line_bytes_of};
 
 use crate::kinds::kind_of;
 use crate::{Header, HeaderFault, PageForm, Wanted};

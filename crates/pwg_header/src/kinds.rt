@@ -1,7 +1,7 @@
 //! The table of kinds.
 ghost use Rattle.std.specs.Option.{option_map};
 ghost use Rattle.std.specs.Prelude.{◌≡◌};
-ghost use Rattle.stream_definitions.specs.Header.{colors_of, kind_of as kind_row_of, row_of};
+ghost use Rattle.pwg_definitions.specs.Header.{colors_of, kind_of as kind_row_of, row_of};
 
 use crate::{Header, Kind};
 

@@ -10,7 +10,7 @@ mod writing;
 
 pub use checking::check;
 pub use reading::read_header;
-pub use stream_definitions::{Header, HeaderFault, Kind, PageForm, Wanted};
+pub use pwg_definitions::{Header, HeaderFault, Kind, PageForm, Wanted};
 pub use writing::write_header;
 
 /// The bytes of a page header.

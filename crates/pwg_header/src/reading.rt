@@ -1,6 +1,6 @@
 //! The fields of a header.
 ghost use Rattle.std.specs.Prelude.{◌+◌, ◌≡◌, ◌≤◌};
-ghost use Rattle.stream_definitions.specs.Header.{header_of, number_at};
+ghost use Rattle.pwg_definitions.specs.Header.{header_of, number_at};
 
 use crate::{HEADER_LEN, Header};
 use byteorder::{BigEndian, ByteOrder};

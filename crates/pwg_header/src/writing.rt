@@ -1,8 +1,8 @@
 //! A written header.
 ghost use Rattle.std.specs.Int.{to_be_bytes, w32};
 ghost use Rattle.std.specs.Prelude.{Ok, replicate, ◌+◌, ◌≡◌, ◌≤◌};
-ghost use Rattle.stream_definitions.specs.Header.{IsWanted, check, header_bytes, header_of, pwg_raster, with_bytes};
-ghost use Rattle.stream_definitions.specs.declared.pages.Wanted.{Wanted};
+ghost use Rattle.pwg_definitions.specs.Header.{IsWanted, check, header_bytes, header_of, pwg_raster, with_bytes};
+ghost use Rattle.pwg_definitions.specs.declared.pages.Wanted.{Wanted};
 
 use crate::kinds::numbers_of;
 use crate::{HEADER_LEN, PageForm};

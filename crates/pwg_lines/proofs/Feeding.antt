@@ -3,10 +3,10 @@ use Rattle.std.proofs.Common.{◌≡◌, ℕ, zero, suc, ◌+◌, ◌-◌, ◌*�
 use Rattle.std.proofs.lemmas.Bool.{lt-ltb}
 use Rattle.std.proofs.lemmas.List.{append-nil, length-take-le, take_all}
 use Rattle.std.proofs.Math.Seq.{take-add}
-use Rattle.stream_definitions.specs.declared.faults.LineFault.{LineFault}
-use Rattle.stream_definitions.specs.Header.{KindRow, line_units, row_of}
-use Rattle.stream_definitions.specs.Groups.{GroupFront, copies, group_at, line_at}
-use Rattle.stream_definitions.specs.Groups.GroupRead.{Group, Part, Wrong}
+use Rattle.pwg_definitions.specs.declared.faults.LineFault.{LineFault}
+use Rattle.pwg_definitions.specs.Header.{KindRow, line_units, row_of}
+use Rattle.pwg_definitions.specs.Groups.{GroupFront, copies, group_at, line_at}
+use Rattle.pwg_definitions.specs.Groups.GroupRead.{Group, Part, Wrong}
 use Rattle.pwg_lines.specs.declared.reader.LineReader.{LineReader}
 use Rattle.pwg_lines.specs.declared.reader.State.{State}
 use Rattle.pwg_lines.specs.declared.reader.State.TheVariants as state

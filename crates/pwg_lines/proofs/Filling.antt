@@ -5,7 +5,7 @@ use Rattle.std.proofs.lemmas.Slice.{take-put_mid}
 use borrow.Rule.Slice.PartMut.{post_of, put_mid}
 use Rattle.std.proofs.Math.Nat.{mul-le-mul_right}
 use Rattle.std.proofs.Math.Seq.{take-add, take-append_seam}
-use Rattle.stream_definitions.specs.Groups.{copies}
+use Rattle.pwg_definitions.specs.Groups.{copies}
 
 pub length-copies : (n : ℕ) (unit : List ℕ) → length (copies n unit) ≡ n * length unit
 length-copies zero unit = omega arith

@@ -3,9 +3,9 @@ use Rattle.std.proofs.Common.{◌≡◌, ℕ, zero, suc, ◌-◌, ◌*◌, ◌<�
 use Rattle.std.proofs.lemmas.Bool.{eqb-false, eqb-true, ltb-true, ltb-false}
 use Rattle.std.proofs.lemmas.List.{append-nil, length-take-le, take-append-drop}
 use Rattle.std.proofs.Math.Nat.{le-mul_of_pos_right, mul-le-mul_right, mul-sub}
-use Rattle.stream_definitions.specs.Header.{KindRow}
-use Rattle.stream_definitions.specs.Groups.{IsPacket, Packet, SpellsGroup, SpellsLine, copies, line_gives, packet_gives, packet_units}
-use Rattle.stream_definitions.specs.Groups.Packet.{Run, Literal}
+use Rattle.pwg_definitions.specs.Header.{KindRow}
+use Rattle.pwg_definitions.specs.Groups.{IsPacket, Packet, SpellsGroup, SpellsLine, copies, line_gives, packet_gives, packet_units}
+use Rattle.pwg_definitions.specs.Groups.Packet.{Run, Literal}
 use Rattle.pwg_lines.specs.Canonical.{as_they_are, canonical, copies_at, next_packet, packets_from, unequal_at}
 use Rattle.pwg_lines.proofs.Writing.{IsCounted, copies_at-front, counted, one_unit}
 

@@ -3,13 +3,13 @@ use Rattle.std.proofs.Common.{◌≡◌, ℕ, zero, suc, ◌+◌, ◌-◌, ◌*�
 use Rattle.std.proofs.lemmas.Bool.{ltb-true, ltb-false, lt-ltb, le-ltb, ne_eqb}
 use Rattle.std.proofs.lemmas.List.{append-nil, length-take-le, take_at}
 use Rattle.std.proofs.Math.Seq.{take-append-add, drop-append-add}
-use Rattle.stream_definitions.specs.declared.faults.LineFault.TheVariants.{RunPastLine}
-use Rattle.stream_definitions.specs.Header.{KindRow}
-use Rattle.stream_definitions.specs.Groups.{GroupFront, GroupRead, Packet, copies, group_at, line_at, packet_at, packet_from, packet_gives, packet_of, packet_spelling, packet_units, units_of, with_packet}
-use Rattle.stream_definitions.specs.Groups.GroupRead.{Group, Part, Wrong}
-use Rattle.stream_definitions.specs.Groups.PacketRead.{One, Short, Long}
-use Rattle.stream_definitions.specs.Groups.Packet.{Run, Clear, Literal}
-use Rattle.stream_laws.proofs.GroupLaws.{line_at-long, line_at-one, line_at-short}
+use Rattle.pwg_definitions.specs.declared.faults.LineFault.TheVariants.{RunPastLine}
+use Rattle.pwg_definitions.specs.Header.{KindRow}
+use Rattle.pwg_definitions.specs.Groups.{GroupFront, GroupRead, Packet, copies, group_at, line_at, packet_at, packet_from, packet_gives, packet_of, packet_spelling, packet_units, units_of, with_packet}
+use Rattle.pwg_definitions.specs.Groups.GroupRead.{Group, Part, Wrong}
+use Rattle.pwg_definitions.specs.Groups.PacketRead.{One, Short, Long}
+use Rattle.pwg_definitions.specs.Groups.Packet.{Run, Clear, Literal}
+use Rattle.pwg_laws.proofs.GroupLaws.{line_at-long, line_at-one, line_at-short}
 use Rattle.pwg_lines.specs.declared.reader.State.{State}
 use Rattle.pwg_lines.specs.declared.reader.State.TheVariants as state
 use Rattle.pwg_lines.specs.States.{Stands, behind_packet, read_behind, read_in, read_on}

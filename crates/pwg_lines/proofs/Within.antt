@@ -1,7 +1,7 @@
 -- What of a line a reader has room for.
 use Rattle.std.proofs.Common.{◌≡◌, ℕ, ◌+◌, ◌*◌, ◌<◌, ◌≤◌, length, subst, arith}
 use Rattle.std.proofs.Math.Nat.{mul-le-mul_right}
-use Rattle.stream_definitions.specs.Header.{row_of}
+use Rattle.pwg_definitions.specs.Header.{row_of}
 use Rattle.pwg_lines.specs.declared.reader.LineReader.{LineReader}
 use Rattle.pwg_lines.specs.declared.reader.State.{State}
 use Rattle.pwg_lines.specs.declared.reader.State.TheVariants as state

@@ -5,7 +5,7 @@ use Rattle.std.proofs.lemmas.List.{append-nil, drop-drop, length-take-le, take-a
 use Rattle.std.proofs.lemmas.Bool.Decides.{Decides-eqb}
 use Rattle.std.proofs.lemmas.Slice.Eq.{starts_is}
 use Rattle.std.proofs.Math.Nat.{le-mul_of_pos_right, le_of_mul-le-mul_right, mul-le-mul_right, mul-mod_left, mul-sub}
-use Rattle.stream_definitions.specs.Groups.{Packet, copies, packet_spelling, packet_units}
+use Rattle.pwg_definitions.specs.Groups.{Packet, copies, packet_spelling, packet_units}
 use Rattle.pwg_lines.proofs.Filling.{length-copies}
 use Rattle.pwg_lines.specs.Canonical.{canonical, copies_at, next_packet, packets_from, unequal_at}
 

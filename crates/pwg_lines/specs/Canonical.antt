@@ -2,8 +2,8 @@
 -- between them. White to the end of the line is never written.
 use Rattle.std.specs.Prelude.{ℕ, zero, suc, ◌+◌, ◌-◌, ◌*◌, ◌==◌, nat_eq, nat_lt, if◌then◌else◌, List, [], ◌∷◌, length, take, drop}
 use Rattle.std.specs.List.{flat_map, starts_with}
-use Rattle.stream_definitions.specs.Groups.{Packet, packet_spelling, packet_units}
-use Rattle.stream_definitions.specs.Groups.Packet.{Run, Literal}
+use Rattle.pwg_definitions.specs.Groups.{Packet, packet_spelling, packet_units}
+use Rattle.pwg_definitions.specs.Groups.Packet.{Run, Literal}
 
 -- how many times the unit stands at the front, up to `most`
 unfoldable pub copies_at : ℕ → List ℕ → List ℕ → ℕ

@@ -1,10 +1,10 @@
 -- What a reader of lines stands for, and what its calls tell.
 use Rattle.std.specs.Prelude.{◌≡◌, ℕ, ◌+◌, ◌≤◌, Bool, true, false, IsTrue, List, [], ◌++◌, length, take, drop, Option, Some, None}
-use Rattle.stream_definitions.specs.declared.pages.PageForm.{PageForm}
-use Rattle.stream_definitions.specs.declared.faults.LineFault.{LineFault}
-use Rattle.stream_definitions.specs.Header.{line_units, row_of}
-use Rattle.stream_definitions.specs.Groups.{GroupRead, group_at}
-use Rattle.stream_definitions.specs.Groups.GroupRead.{Group, Part, Wrong}
+use Rattle.pwg_definitions.specs.declared.pages.PageForm.{PageForm}
+use Rattle.pwg_definitions.specs.declared.faults.LineFault.{LineFault}
+use Rattle.pwg_definitions.specs.Header.{line_units, row_of}
+use Rattle.pwg_definitions.specs.Groups.{GroupRead, group_at}
+use Rattle.pwg_definitions.specs.Groups.GroupRead.{Group, Part, Wrong}
 use Rattle.pwg_lines.specs.declared.reader.LineReader.{LineReader}
 use Rattle.pwg_lines.specs.declared.reader.State.{State}
 use Rattle.pwg_lines.specs.declared.reader.State.TheVariants as state

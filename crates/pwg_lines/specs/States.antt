@@ -1,8 +1,8 @@
 -- Where in a group a reader stands, and what it makes of the bytes to come.
 use Rattle.std.specs.Prelude.{◌≡◌, ℕ, zero, suc, ◌+◌, ◌-◌, ◌*◌, ◌<◌, ◌≤◌, nat_lt, if◌then◌else◌, List, [], ◌++◌, length, take, drop}
-use Rattle.stream_definitions.specs.Header.{KindRow}
-use Rattle.stream_definitions.specs.Groups.{GroupFront, GroupRead, copies, group_at, line_at}
-use Rattle.stream_definitions.specs.Groups.GroupRead.{Group, Part, Wrong}
+use Rattle.pwg_definitions.specs.Header.{KindRow}
+use Rattle.pwg_definitions.specs.Groups.{GroupFront, GroupRead, copies, group_at, line_at}
+use Rattle.pwg_definitions.specs.Groups.GroupRead.{Group, Part, Wrong}
 use Rattle.pwg_lines.specs.declared.reader.State.{State}
 use Rattle.pwg_lines.specs.declared.reader.State.TheVariants.{Start, Packet, Run, Literal, Full, Failed}
 

@@ -1,6 +1,6 @@
 //! The bytes of a line, of which the first ones are filled.
 ghost use Rattle.std.specs.Prelude.{drop, length, take, ◌*◌, ◌++◌, ◌+◌, ◌≡◌, ◌≤◌};
-ghost use Rattle.stream_definitions.specs.Groups.{copies};
+ghost use Rattle.pwg_definitions.specs.Groups.{copies};
 
 /// Puts the bytes behind the filled ones.
 pub fn fill_bytes(line: &mut [u8], filled: usize, bytes: &[u8])

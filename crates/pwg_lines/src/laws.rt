@@ -1,8 +1,8 @@
 //! The law of the canonical spelling. Its function has no code: it is a contract with its proof.
 ghost use Rattle.pwg_lines.specs.Canonical.{canonical};
 ghost use Rattle.std.specs.Prelude.{List, length, ℕ, ◌*◌, ◌≡◌, ◌≤◌};
-ghost use Rattle.stream_definitions.specs.Groups.{SpellsGroup};
-ghost use Rattle.stream_definitions.specs.Header.{KindRow};
+ghost use Rattle.pwg_definitions.specs.Groups.{SpellsGroup};
+ghost use Rattle.pwg_definitions.specs.Header.{KindRow};
 
 /// The canonical bytes of a group spell the group.
 pub fn canonical_spells()

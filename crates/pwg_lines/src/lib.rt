@@ -10,7 +10,7 @@ mod writer;
 
 pub use laws::canonical_spells;
 pub use reader::{Fed, Fill, LineReader};
-pub use stream_definitions::{Kind, LineFault, PageForm};
+pub use pwg_definitions::{Kind, LineFault, PageForm};
 pub use writer::code_line;
 
 #[cfg(test)]

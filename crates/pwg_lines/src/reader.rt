@@ -1,13 +1,13 @@
 //! A reader of the groups of a page's lines, piece by piece.
 ghost use Rattle.pwg_lines.specs.States.{behind_packet, gives, least_gives, least_left, least_repeats, pending, read_in};
 ghost use Rattle.std.specs.Prelude.{[], length, min, take, ◌*◌, ◌+◌, ◌-◌, ◌<◌, ◌∷◌, ◌≡◌, ◌≤◌};
-ghost use Rattle.stream_definitions.specs.Groups as groups;
-ghost use Rattle.stream_definitions.specs.Header.{line_bytes, line_units, row_of};
+ghost use Rattle.pwg_definitions.specs.Groups as groups;
+ghost use Rattle.pwg_definitions.specs.Header.{line_bytes, line_units, row_of};
 
 use crate::buffer::{fill_bytes, fill_units};
 use crate::unit::{unit_of, white_of};
 use std::alloc::Global;
-use stream_definitions::{LineFault, PageForm};
+use pwg_definitions::{LineFault, PageForm};
 use weave_base::Memory;
 
 /// What a call of `LineReader::feed` comes to.
@@ -73,7 +73,7 @@ impl LineReader {
     ghost use Rattle.pwg_lines.specs.Reading.{Ends, IsAnew, IsFault, IsLine, IsMore, IsSame, OnFault, OnLine, OnMore, StandsFor, Takes, fault_of, form_of, line_of, lines_left_of};
     ghost use Rattle.pwg_lines.specs.States.{IsOpen};
     ghost use Rattle.std.specs.Prelude.{IfOk, IsOk, OnErr, OnOk, Some};
-    ghost use Rattle.stream_definitions.specs.declared.faults.LineFault.{LineFault};
+    ghost use Rattle.pwg_definitions.specs.declared.faults.LineFault.{LineFault};
 
     /// A reader of the lines of a page of this form. The bytes of one line are allocated here, and no other memory.
     pub fn begin(alloc: Global, form: PageForm) -> Result<LineReader, Memory>

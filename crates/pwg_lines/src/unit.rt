@@ -1,8 +1,8 @@
 //! The units of a page's lines: the bytes that a run repeats, and of which a line has a whole number.
 ghost use Rattle.std.specs.Prelude.{length, ◌^◌, ◌<◌, ◌≡◌, ◌≤◌};
-ghost use Rattle.stream_definitions.specs.Header.{row_of};
+ghost use Rattle.pwg_definitions.specs.Header.{row_of};
 
-use stream_definitions::Kind;
+use pwg_definitions::Kind;
 
 /// How many bytes a unit has.
 pub fn unit_of(kind: Kind) -> usize

@@ -1,7 +1,7 @@
 //! The groups of a page's lines as bytes.
 ghost use Rattle.pwg_lines.specs.Canonical.{canonical, copies_at, next_packet, unequal_at};
 ghost use Rattle.std.specs.Prelude.{List, OnErr, OnOk, IfOk, length, take, ℕ, ◌%◌, ◌*◌, ◌++◌, ◌+◌, ◌<◌, ◌∷◌, ◌≡◌, ◌≤◌};
-ghost use Rattle.stream_definitions.specs.Groups.{packet_spelling, packet_units};
+ghost use Rattle.pwg_definitions.specs.Groups.{packet_spelling, packet_units};
 
 use std::alloc::AllocError;
 use weave_base::Memory;

@@ -1,13 +1,13 @@
 -- A fault in the lines of a page, as the rest of the page is read.
 use Rattle.std.proofs.Common.{◌≡◌, ℕ, zero, suc, ◌+◌, ◌-◌, ◌<◌, ◌≤◌, List, replicate, Option, None, Some, IfSome, Err, refl, sym, ◌∙◌, ap, arith, ◌⊎◌, inl, inr}
-use Rattle.stream_definitions.specs.declared.faults.InputCause.{InputCause}
-use Rattle.stream_definitions.specs.declared.faults.InputCause.TheVariants as cause
-use Rattle.stream_definitions.specs.declared.pages.PageForm.{PageForm}
-use Rattle.stream_definitions.specs.Header.{KindRow, line_units, row_of}
-use Rattle.stream_definitions.specs.Groups.{GroupRead, group_at}
-use Rattle.stream_definitions.specs.Groups.GroupRead.{Group, Part, Wrong}
-use Rattle.stream_definitions.specs.Stream.{lines_at, with_lines}
-use Rattle.stream_definitions.specs.Stream.LinesRead.{Stop}
+use Rattle.pwg_definitions.specs.declared.faults.InputCause.{InputCause}
+use Rattle.pwg_definitions.specs.declared.faults.InputCause.TheVariants as cause
+use Rattle.pwg_definitions.specs.declared.pages.PageForm.{PageForm}
+use Rattle.pwg_definitions.specs.Header.{KindRow, line_units, row_of}
+use Rattle.pwg_definitions.specs.Groups.{GroupRead, group_at}
+use Rattle.pwg_definitions.specs.Groups.GroupRead.{Group, Part, Wrong}
+use Rattle.pwg_definitions.specs.Stream.{lines_at, with_lines}
+use Rattle.pwg_definitions.specs.Stream.LinesRead.{Stop}
 use Rattle.pwg_lines.specs.declared.reader.LineReader.{LineReader}
 use Rattle.pwg_lines.specs.Reading as lines
 use Rattle.pwg_stream.specs.declared.groups.GroupStop.{GroupStop}

@@ -9,15 +9,15 @@ use Rattle.std.proofs.lemmas.Bool.{le-ltb, lt-ltb, ltb-false, ltb-true}
 use Rattle.std.proofs.lemmas.Bool.Decides.{Decides-eqb}
 use Rattle.std.proofs.lemmas.List.{take-append-le}
 use Rattle.std.proofs.lemmas.Slice.Eq.{starts_is}
-use Rattle.stream_definitions.specs.declared.pages.PageForm.{PageForm}
-use Rattle.stream_definitions.specs.declared.pages.Wanted.{Wanted}
-use Rattle.stream_definitions.specs.declared.faults.HeaderFault.{HeaderFault}
-use Rattle.stream_definitions.specs.declared.faults.InputCause.{InputCause}
-use Rattle.stream_definitions.specs.declared.faults.InputCause.TheVariants as cause
-use Rattle.stream_definitions.specs.Header.{check, header_of}
-use Rattle.stream_definitions.specs.Stream.{PageRead, page_at, page_behind, pages_from, stream, sync_word, with_page}
-use Rattle.stream_definitions.specs.Stream.PageRead.{Whole, Broken}
-use Rattle.stream_definitions.specs.Stream.StreamEnd.{Fault}
+use Rattle.pwg_definitions.specs.declared.pages.PageForm.{PageForm}
+use Rattle.pwg_definitions.specs.declared.pages.Wanted.{Wanted}
+use Rattle.pwg_definitions.specs.declared.faults.HeaderFault.{HeaderFault}
+use Rattle.pwg_definitions.specs.declared.faults.InputCause.{InputCause}
+use Rattle.pwg_definitions.specs.declared.faults.InputCause.TheVariants as cause
+use Rattle.pwg_definitions.specs.Header.{check, header_of}
+use Rattle.pwg_definitions.specs.Stream.{PageRead, page_at, page_behind, pages_from, stream, sync_word, with_page}
+use Rattle.pwg_definitions.specs.Stream.PageRead.{Whole, Broken}
+use Rattle.pwg_definitions.specs.Stream.StreamEnd.{Fault}
 use Rattle.pwg_stream.specs.Pages.{GivesHeader}
 use Rattle.pwg_stream.specs.Text.{UsesSome, text_behind}
 use Rattle.pwg_stream.proofs.Texts.{text_fed}

@@ -2,16 +2,16 @@
 use Rattle.std.proofs.Common.{◌≡◌, ℕ, zero, suc, ◌+◌, ◌-◌, ◌*◌, ◌<◌, ◌≤◌, ◌==◌, nat_lt, Bool, true, false, if◌then◌else◌, List, [], ◌∷◌, length, take, drop, refl, sym, ◌∙◌, ap, subst, arith, length-drop}
 use Rattle.std.proofs.lemmas.Bool.{ltb-true, ltb-false}
 use Rattle.std.proofs.Math.Nat.{mul-le-mul_right}
-use Rattle.stream_definitions.specs.declared.pages.Kind.{Kind}
-use Rattle.stream_definitions.specs.declared.pages.Kind.TheVariants.{Gray8}
-use Rattle.stream_definitions.specs.Header.{KindRow, row_of}
-use Rattle.stream_definitions.specs.Groups.{GroupFront, IsBytes, Packet, PacketRead, group_at, line_at, packet_at, packet_from, packet_units, units_of, with_packet}
-use Rattle.stream_definitions.specs.Groups.Packet.{Run, Clear, Literal}
-use Rattle.stream_definitions.specs.Groups.PacketRead.{One, Short, Long}
-use Rattle.stream_definitions.specs.Groups.GroupRead.{Group, Part, Wrong}
-use Rattle.stream_definitions.specs.declared.faults.LineFault.TheVariants.{GroupPastPage, RunPastLine}
-use Rattle.stream_laws.proofs.GroupLaws.{IsBytes-behind, line_at-long, line_at-one}
-use Rattle.stream_laws.proofs.Packets.{packet_at-one}
+use Rattle.pwg_definitions.specs.declared.pages.Kind.{Kind}
+use Rattle.pwg_definitions.specs.declared.pages.Kind.TheVariants.{Gray8}
+use Rattle.pwg_definitions.specs.Header.{KindRow, row_of}
+use Rattle.pwg_definitions.specs.Groups.{GroupFront, IsBytes, Packet, PacketRead, group_at, line_at, packet_at, packet_from, packet_units, units_of, with_packet}
+use Rattle.pwg_definitions.specs.Groups.Packet.{Run, Clear, Literal}
+use Rattle.pwg_definitions.specs.Groups.PacketRead.{One, Short, Long}
+use Rattle.pwg_definitions.specs.Groups.GroupRead.{Group, Part, Wrong}
+use Rattle.pwg_definitions.specs.declared.faults.LineFault.TheVariants.{GroupPastPage, RunPastLine}
+use Rattle.pwg_laws.proofs.GroupLaws.{IsBytes-behind, line_at-long, line_at-one}
+use Rattle.pwg_laws.proofs.Packets.{packet_at-one}
 
 -- what the bytes before a packet's end take at most
 abbrev pub TakesFew : KindRow → ℕ → List ℕ → PacketRead → Type 0

@@ -3,12 +3,12 @@ use Rattle.std.proofs.Common.{◌≡◌, ℕ, zero, suc, ◌+◌, ◌*◌, ◌<�
 use Rattle.std.proofs.lemmas.List.{take_all}
 use Rattle.std.specs.Io.KnownBytes.{Consumes, IsAtEnd, Keeps}
 use Rattle.std.proofs.KnownBytes.{Consumes-kept, Consumes-nil, Consumes-trans, Consumes-whole}
-use Rattle.stream_definitions.specs.declared.faults.LineFault.{LineFault}
-use Rattle.stream_definitions.specs.declared.faults.InputCause.TheVariants as cause
-use Rattle.stream_definitions.specs.declared.pages.PageForm.{PageForm}
-use Rattle.stream_definitions.specs.Header.{line_units, row_of}
-use Rattle.stream_definitions.specs.Groups.{IsBytes, group_at}
-use Rattle.stream_definitions.specs.Groups.GroupRead.{Part}
+use Rattle.pwg_definitions.specs.declared.faults.LineFault.{LineFault}
+use Rattle.pwg_definitions.specs.declared.faults.InputCause.TheVariants as cause
+use Rattle.pwg_definitions.specs.declared.pages.PageForm.{PageForm}
+use Rattle.pwg_definitions.specs.Header.{line_units, row_of}
+use Rattle.pwg_definitions.specs.Groups.{IsBytes, group_at}
+use Rattle.pwg_definitions.specs.Groups.GroupRead.{Part}
 use Rattle.pwg_lines.specs.declared.reader.LineReader.{LineReader}
 use Rattle.pwg_lines.specs.Reading.{IsAnew, IsFault, IsLine, IsMore, StandsFor, form_of, lines_left_of, next_group}
 use Rattle.pwg_lines.proofs.Feeding.{anew_stands}

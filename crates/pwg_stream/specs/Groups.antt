@@ -1,11 +1,11 @@
 -- A group of a page's lines that comes from a source (PWG 5102.4, section 4.4).
 use Rattle.std.specs.Prelude.{◌≡◌, ℕ, ◌+◌, ◌≤◌, List, ◌++◌, Option, Result, Ok, Err}
 use Rattle.std.specs.Io.KnownBytes.{Consumes}
-use Rattle.stream_definitions.specs.declared.faults.LineFault.{LineFault}
-use Rattle.stream_definitions.specs.declared.faults.InputCause.{InputCause}
-use Rattle.stream_definitions.specs.declared.faults.InputCause.TheVariants as cause
-use Rattle.stream_definitions.specs.Groups.{GroupRead}
-use Rattle.stream_definitions.specs.Groups.GroupRead.{Group, Part, Wrong}
+use Rattle.pwg_definitions.specs.declared.faults.LineFault.{LineFault}
+use Rattle.pwg_definitions.specs.declared.faults.InputCause.{InputCause}
+use Rattle.pwg_definitions.specs.declared.faults.InputCause.TheVariants as cause
+use Rattle.pwg_definitions.specs.Groups.{GroupRead}
+use Rattle.pwg_definitions.specs.Groups.GroupRead.{Group, Part, Wrong}
 use Rattle.pwg_lines.specs.declared.reader.LineReader.{LineReader}
 use Rattle.pwg_lines.specs.Reading.{line_of, lines_left_of, next_group}
 use Rattle.pwg_stream.specs.declared.groups.GroupStop.{GroupStop}

@@ -1,14 +1,14 @@
 -- What a reader of pages shows, and what its calls give.
 use Rattle.std.specs.Prelude.{◌≡◌, ℕ, ◌+◌, ◌≤◌, Bool, false, List, [], ◌++◌, Option, Some, None, IfSome}
 use Rattle.std.specs.Io.KnownBytes.{Consumes}
-use Rattle.stream_definitions.specs.declared.faults.InputCause.{InputCause}
-use Rattle.stream_definitions.specs.declared.pages.PageForm.{PageForm}
-use Rattle.stream_definitions.specs.declared.pages.Wanted.{Wanted}
-use Rattle.stream_definitions.specs.Header.{line_units, row_of}
-use Rattle.stream_definitions.specs.Groups.{GroupRead, group_at}
-use Rattle.stream_definitions.specs.Groups.GroupRead.{Group}
-use Rattle.stream_definitions.specs.Stream.{LinesRead, lines_at}
-use Rattle.stream_definitions.specs.Stream.LinesRead.{Stop}
+use Rattle.pwg_definitions.specs.declared.faults.InputCause.{InputCause}
+use Rattle.pwg_definitions.specs.declared.pages.PageForm.{PageForm}
+use Rattle.pwg_definitions.specs.declared.pages.Wanted.{Wanted}
+use Rattle.pwg_definitions.specs.Header.{line_units, row_of}
+use Rattle.pwg_definitions.specs.Groups.{GroupRead, group_at}
+use Rattle.pwg_definitions.specs.Groups.GroupRead.{Group}
+use Rattle.pwg_definitions.specs.Stream.{LinesRead, lines_at}
+use Rattle.pwg_definitions.specs.Stream.LinesRead.{Stop}
 use Rattle.pwg_lines.specs.declared.reader.LineReader.{LineReader}
 use Rattle.pwg_lines.specs.Reading as lines
 use Rattle.pwg_stream.specs.declared.reader.PageReader.{PageReader}

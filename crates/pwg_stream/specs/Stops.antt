@@ -1,6 +1,6 @@
 -- Why a reader of pages stops.
 use Rattle.std.specs.Prelude.{ℕ, Result, Ok, Err}
-use Rattle.stream_definitions.specs.declared.faults.InputCause.{InputCause}
+use Rattle.pwg_definitions.specs.declared.faults.InputCause.{InputCause}
 use Rattle.pwg_stream.specs.declared.groups.GroupStop.{GroupStop}
 use Rattle.pwg_stream.specs.declared.groups.GroupStop.TheVariants as fault
 use Rattle.pwg_stream.specs.declared.stops.StreamStop.{StreamStop}

@@ -8,7 +8,7 @@ ghost use Rattle.weave_base.specs.Causes.{Rose};
 
 use crate::unread::Unread;
 use pwg_lines::{Fill, LineReader};
-use stream_definitions::InputCause;
+use pwg_definitions::InputCause;
 use weave_base::Source;
 
 /// Why a group is not given.

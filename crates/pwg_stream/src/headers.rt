@@ -5,14 +5,14 @@ ghost use Rattle.pwg_stream.specs.Text.{UsesSome, text_behind};
 ghost use Rattle.pwg_stream.specs.declared.stops.StreamStop.TheVariants as stop;
 ghost use Rattle.std.specs.Io.KnownBytes.{IsAtEnd};
 ghost use Rattle.std.specs.Prelude.{IfNone, IfOk, IfSome, IsErrOf, IsSome, MatchOption, [], drop, length, take, ◌+◌, ◌-◌, ◌<◌, ◌≡◌, ◌≤◌};
-ghost use Rattle.stream_definitions.specs.Stream.StreamEnd.{Fault};
-ghost use Rattle.stream_definitions.specs.Stream.{pages_from};
+ghost use Rattle.pwg_definitions.specs.Stream.StreamEnd.{Fault};
+ghost use Rattle.pwg_definitions.specs.Stream.{pages_from};
 ghost use Rattle.weave_base.specs.Causes.{Rose};
 
 use crate::stops::StreamStop;
 use crate::unread::Unread;
 use pwg_header::{HEADER_LEN, PageForm, Wanted, check, read_header};
-use stream_definitions::InputCause;
+use pwg_definitions::InputCause;
 use weave_base::Source;
 
 /// The most pages of a stream.

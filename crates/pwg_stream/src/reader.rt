@@ -49,11 +49,11 @@ impl PageReader {
     ghost use Rattle.pwg_stream.specs.declared.stops.StreamStop.TheVariants as stop;
     ghost use Rattle.std.specs.Io.KnownBytes.{Consumes, IsAtEnd};
     ghost use Rattle.std.specs.Prelude.{IfErr, IfNone, IfOk, IfSome, IsErrOf, OnErr, OnOk, Some, [], false, length, true, ◌<◌, ◌-◌};
-    ghost use Rattle.stream_definitions.specs.Header.{line_bytes, row_of};
-    ghost use Rattle.stream_definitions.specs.Stream.StreamEnd.{Fault};
-    ghost use Rattle.stream_definitions.specs.Stream.{pages_from, stream, sync_word};
-    ghost use Rattle.stream_definitions.specs.declared.pages.PageForm.{PageForm};
-    ghost use Rattle.stream_definitions.specs.declared.pages.Wanted.{Wanted};
+    ghost use Rattle.pwg_definitions.specs.Header.{line_bytes, row_of};
+    ghost use Rattle.pwg_definitions.specs.Stream.StreamEnd.{Fault};
+    ghost use Rattle.pwg_definitions.specs.Stream.{pages_from, stream, sync_word};
+    ghost use Rattle.pwg_definitions.specs.declared.pages.PageForm.{PageForm};
+    ghost use Rattle.pwg_definitions.specs.declared.pages.Wanted.{Wanted};
     ghost use Rattle.weave_base.specs.Causes.{Rose};
 
     /// A reader of the source's pages: it allocates its buffer and reads the sync word.

@@ -2,7 +2,7 @@
 ghost use Rattle.pwg_stream.specs.declared.stops.StreamStop.TheVariants as stop;
 ghost use Rattle.std.specs.Prelude.{◌≡◌};
 
-use stream_definitions::InputCause;
+use pwg_definitions::InputCause;
 use weave_base::{Failed, Memory};
 
 /// Why no page or no line is given.

@@ -4,14 +4,14 @@ ghost use Rattle.pwg_stream.specs.Text.{UsesSome, text_behind};
 ghost use Rattle.pwg_stream.specs.declared.stops.StreamStop.TheVariants as stop;
 ghost use Rattle.std.specs.Io.KnownBytes.{Consumes};
 ghost use Rattle.std.specs.Prelude.{IfSome, IsErrOf, OnOk, [], ◌≡◌, ◌≤◌};
-ghost use Rattle.stream_definitions.specs.Stream.StreamEnd.{Fault};
-ghost use Rattle.stream_definitions.specs.Stream.{stream, sync_word};
-ghost use Rattle.stream_definitions.specs.declared.pages.Wanted.{Wanted};
+ghost use Rattle.pwg_definitions.specs.Stream.StreamEnd.{Fault};
+ghost use Rattle.pwg_definitions.specs.Stream.{stream, sync_word};
+ghost use Rattle.pwg_definitions.specs.declared.pages.Wanted.{Wanted};
 ghost use Rattle.weave_base.specs.Causes.{Rose};
 
 use crate::stops::StreamStop;
 use crate::unread::Unread;
-use stream_definitions::InputCause;
+use pwg_definitions::InputCause;
 use weave_base::Source;
 
 /// Reads the sync word.

@@ -6,7 +6,7 @@ use pwg_header::{HEADER_LEN, Kind, PageForm, Wanted, write_header};
 use std::alloc::Global;
 use std::process::Abort;
 use std::test::Fail;
-use stream_definitions::{InputCause, LineFault};
+use pwg_definitions::{InputCause, LineFault};
 use weave_base::MemSource;
 
 const WANT: Wanted = Wanted {

@@ -2,7 +2,7 @@
 ghost use Rattle.pwg_stream.specs.Text.{Grows, text_behind};
 ghost use Rattle.std.specs.Io.KnownBytes.{IsAtEnd, Keeps};
 ghost use Rattle.std.specs.Prelude.{IfOk, List, OnErr, OnOk, [], drop, length, take, vec_len, ℕ, ◌-◌, ◌<◌, ◌≡◌, ◌≤◌};
-ghost use Rattle.stream_definitions.specs.Groups.{IsBytes};
+ghost use Rattle.pwg_definitions.specs.Groups.{IsBytes};
 ghost use Rattle.weave_base.specs.Causes.{HasCause};
 
 use std::alloc::Global;

@@ -1,5 +1,5 @@
 -- How much of each ink a pixel takes.
-use Rattle.std.specs.Prelude.{ℕ, ◌+◌, ◌-◌, ◌*◌, ◌/◌, List, [], ◌∷◌, slice_index, slice_index_or}
+use Rattle.std.specs.Prelude.{ℕ, ◌+◌, ◌-◌, ◌*◌, ◌/◌, nat_lt, if◌then◌else◌, min, List, [], ◌∷◌, slice_index, slice_index_or}
 use Rattle.printer_definitions.specs.declared.inks.Ink.{Ink}
 use Rattle.printer_definitions.specs.declared.inks.Ink.TheVariants.{Black, Cyan, Magenta, Yellow}
 use Rattle.printer_definitions.specs.declared.inks.InkSet.{InkSet}
@@ -8,9 +8,11 @@ use Rattle.printer_definitions.specs.Printer.{Printer, limit_of}
 use Rattle.diffusion_definitions.specs.Diffusion.{Plane}
 use Rattle.separation_definitions.specs.declared.window.Window.{Window}
 use Rattle.separation_definitions.specs.Windows.{window_of}
-use Rattle.stream_definitions.specs.declared.pages.Kind.{Kind}
-use Rattle.stream_definitions.specs.declared.pages.Kind.TheVariants.{Gray8}
-use Rattle.stream_definitions.specs.Stream.{Page}
+use Rattle.pwg_definitions.specs.declared.pages.Kind.{Kind}
+use Rattle.pwg_definitions.specs.declared.pages.Kind.TheVariants.{Gray8, Black8, Rgb8}
+use Rattle.pwg_definitions.specs.Stream.{Page}
+
+-- ---- pixels without colour
 
 -- what a grey of this darkness gives to an ink: black where there is black, else cyan, magenta and yellow alike
 abbrev pub grey_ink : InkSet → Ink → ℕ → ℕ
@@ -21,13 +23,63 @@ grey_ink Cmyk Cyan d = 0
 grey_ink Cmyk Magenta d = 0
 grey_ink Cmyk Yellow d = 0
 
+-- ---- pixels of red, green and blue
+
+-- A colour of red, green and blue.
+pub record Colour : Type 0 where
+  pub red : ℕ
+  pub green : ℕ
+  pub blue : ℕ
+
+-- how dark a colour is as a grey: the weights sum to 256
+abbrev pub darkness : Colour → ℕ
+darkness colour = 255 - (77 * colour.red + 150 * colour.green + 29 * colour.blue) / 256
+
+-- what a colour lacks: red of cyan, green of magenta, blue of yellow; nothing is lacking of black
+abbrev pub complement : Colour → Ink → ℕ
+complement colour Black = 0
+complement colour Cyan = 255 - colour.red
+complement colour Magenta = 255 - colour.green
+complement colour Yellow = 255 - colour.blue
+
+-- the darkness that cyan, magenta and yellow have in common
+abbrev pub common_darkness : Colour → ℕ
+common_darkness colour = min (min (255 - colour.red) (255 - colour.green)) (255 - colour.blue)
+
+-- Black generation: the darkness that is moved into black, none below the least, and all of it at 255.
+abbrev pub moved_to_black : ℕ → ℕ → ℕ
+moved_to_black least q = if nat_lt q least then 0 else (q - least) * 255 / (255 - least)
+
+-- what a colour gives to an ink where there is black besides cyan, magenta and yellow
+abbrev pub four_inks : ℕ → Colour → Ink → ℕ
+four_inks least colour Black = moved_to_black least (common_darkness colour)
+four_inks least colour Cyan = complement colour Cyan - moved_to_black least (common_darkness colour)
+four_inks least colour Magenta = complement colour Magenta - moved_to_black least (common_darkness colour)
+four_inks least colour Yellow = complement colour Yellow - moved_to_black least (common_darkness colour)
+
+-- what a colour gives to an ink of a set
+abbrev pub colour_ink : InkSet → ℕ → Colour → Ink → ℕ
+colour_ink K least colour ink = darkness colour
+colour_ink Cmy least colour ink = complement colour ink
+colour_ink Cmyk least colour ink = four_inks least colour ink
+
+-- ---- amounts
+
 -- the bytes of the pixel at x of a line
 abbrev pub pixel_at : Kind → List ℕ → ℕ → List ℕ
 pixel_at Gray8 line x = slice_index line x ∷ []
+pixel_at Black8 line x = slice_index line x ∷ []
+pixel_at Rgb8 line x = slice_index line (3 * x) ∷ slice_index line (3 * x + 1) ∷ slice_index line (3 * x + 2) ∷ []
 
--- what a pixel gives to an ink, before the ink's limit (in Gray8 a 0 is black)
+-- the colour of a pixel's three bytes
+abbrev pub colour_of : List ℕ → Colour
+colour_of pixel = record { red = slice_index pixel 0; green = slice_index pixel 1; blue = slice_index pixel 2 }
+
+-- what a pixel gives to an ink, before the ink's limit: in Gray8 a 0 is black, in Black8 a 255
 abbrev pub pixel_ink : Printer → Kind → List ℕ → Ink → ℕ
 pixel_ink p Gray8 pixel ink = grey_ink p.inks ink (255 - slice_index pixel 0)
+pixel_ink p Black8 pixel ink = grey_ink p.inks ink (slice_index pixel 0)
+pixel_ink p Rgb8 pixel ink = colour_ink p.inks p.black_start (colour_of pixel) ink
 
 -- The amount of an ink at a pixel: 0 to 255, by the ink's limit.
 abbrev pub amount : Printer → Kind → List ℕ → Ink → ℕ

@@ -1,6 +1,5 @@
 -- What a plan is for, and what it keeps.
-use Rattle.std.specs.Prelude.{◌≡◌, ◌==◌, ℕ, ◌*◌, ◌%◌, ◌≤◌, List, count_by, if◌then◌else◌, nat_lt}
-use Rattle.page_definitions.specs.Weave.{Firing}
+use Rattle.std.specs.Prelude.{◌≡◌, ℕ, ◌*◌, ◌%◌, ◌≤◌}
 
 -- A head of so many nozzles that stand `pitch` rows apart, over a window of `height` rows.
 pub record Weaving : Type 0 where
@@ -14,7 +13,3 @@ pub record IsPlan (nozzles pitch height inverse : ℕ) : Type 0 where
   pub some_nozzles : 1 ≤ nozzles
   pub most_rows : height ≤ 15840
   pub is_inverse : inverse * pitch % nozzles ≡ 1 % nozzles
-
--- Each row of a window of so many rows stands in the list once, and no other row does.
-abbrev pub FiresEachRowOnce : ℕ → List Firing → Type 0
-FiresEachRowOnce height firings = (row : ℕ) → count_by (λ (f : Firing). f.row == row) firings ≡ (if nat_lt row height then 1 else 0)

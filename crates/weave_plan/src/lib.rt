@@ -3,10 +3,8 @@
 #![tactic(auto)]
 
 mod inverse;
-mod laws;
 #[cfg(test)]
 mod tests;
 mod weaving;
 
-pub use laws::each_row_is_fired_once;
 pub use weaving::{PassPlace, Plan};

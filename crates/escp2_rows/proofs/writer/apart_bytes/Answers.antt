@@ -1,7 +1,7 @@
 use Rattle.std.proofs.Common.{◌<◌, ◌≤◌, ◌+◌, length, sym, ◌∙◌, subst, arith, List, ℕ, length-drop}
 use Rattle.std.proofs.lemmas.Bool.{eqb-false, eqb-true}
 use Rattle.std.proofs.lemmas.List.{take_all}
-use Rattle.escp2_rows.specs.Canonical.{equal_at}
+use Rattle.escp2_definitions.specs.Canonical.{equal_at}
 use Rattle.escp2_rows.proofs.Writing.{ApartSoFar, apart_begin, apart_end, apart_full, apart_step, apart_stop}
 use Rattle.escp2_rows.proofs.writer.apart_bytes.Goals as goal
 

@@ -1,12 +1,12 @@
 use Rattle.std.proofs.Common.{◌≡◌, ℕ, true, List, [], ◌∷◌, ◌++◌, length, replicate, Ok, refl, sym, ◌∙◌, ap, subst, lit≤}
 use Rattle.separation_definitions.specs.Windows.{wanted_by}
 use Rattle.printer_profile.specs.Profiles.{printer_of}
-use Rattle.stream_definitions.specs.declared.pages.Kind.TheVariants.{Gray8}
-use Rattle.stream_definitions.specs.declared.pages.PageForm.{PageForm}
-use Rattle.stream_definitions.specs.declared.pages.Header.{Header}
-use Rattle.stream_definitions.specs.declared.pages.Wanted.{Wanted}
-use Rattle.stream_definitions.specs.Header.{IsWanted, check}
-use Rattle.stream_definitions.specs.Stream.{IsPage, Page}
+use Rattle.pwg_definitions.specs.declared.pages.Kind.TheVariants.{Gray8}
+use Rattle.pwg_definitions.specs.declared.pages.PageForm.{PageForm}
+use Rattle.pwg_definitions.specs.declared.pages.Header.{Header}
+use Rattle.pwg_definitions.specs.declared.pages.Wanted.{Wanted}
+use Rattle.pwg_definitions.specs.Header.{IsWanted, check}
+use Rattle.pwg_definitions.specs.Stream.{IsPage, Page}
 use Rattle.page_printer.specs.declared.tests.TheConstants.{FINE, LOWER_RIGHT, PLAIN}
 use Rattle.page_printer.proofs.tests.page_of.Goals as goal
 

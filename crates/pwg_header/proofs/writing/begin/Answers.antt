@@ -1,5 +1,5 @@
 use Rattle.std.proofs.Common.{ℕ, List, ◌++◌, drop, replicate, ◌∙◌, ap}
-use Rattle.stream_definitions.specs.Header.{pwg_raster}
+use Rattle.pwg_definitions.specs.Header.{pwg_raster}
 use Rattle.pwg_header.proofs.writing.begin.Goals as goal
 
 pub returns : goal.returns

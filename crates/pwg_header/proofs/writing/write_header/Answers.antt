@@ -1,7 +1,7 @@
 use Rattle.std.proofs.Common.{ℕ, ◌<◌, ◌^◌, List, sym, ◌∙◌, ap, arith}
 use Rattle.std.specs.Int.{to_be_bytes, w32}
-use Rattle.stream_definitions.specs.Header.{check, header_bytes, header_of, with_bytes}
-use Rattle.stream_laws.proofs.HeaderLaws.{check-header_bytes}
+use Rattle.pwg_definitions.specs.Header.{check, header_bytes, header_of, with_bytes}
+use Rattle.pwg_laws.proofs.HeaderLaws.{check-header_bytes}
 use Rattle.pwg_header.proofs.writing.write_header.Goals as goal
 
 pub returns-clause-bytes : goal.returns-clause-bytes

@@ -1,5 +1,5 @@
 use Rattle.std.proofs.Common.{◌≡◌, ◌*◌, ◌-◌, ◌≤◌, take}
-use Rattle.stream_definitions.specs.Groups.{copies}
+use Rattle.pwg_definitions.specs.Groups.{copies}
 use Rattle.pwg_lines.proofs.buffer.repeat_unit.Given as goal
 
 abbrev pub invariant-doublings : goal.invariant-doublings

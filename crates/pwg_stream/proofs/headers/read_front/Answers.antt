@@ -1,6 +1,6 @@
 use Rattle.std.proofs.Common.{◌<◌, ◌≤◌, length, arith, ap, sym, ◌∙◌, take}
 use Rattle.std.proofs.KnownBytes.{Keeps-trans}
-use Rattle.stream_definitions.specs.Header.{check, header_of}
+use Rattle.pwg_definitions.specs.Header.{check, header_of}
 use Rattle.pwg_stream.proofs.Fronts.{bad_header, cut_header, good_header, too_many, uses-none}
 use Rattle.pwg_stream.proofs.headers.read_front.Goals as goal
 

@@ -1,5 +1,5 @@
 use Rattle.std.proofs.Common.{◌∙◌, ap, sym}
-use Rattle.stream_definitions.specs.Stream.{Page}
+use Rattle.pwg_definitions.specs.Stream.{Page}
 use Rattle.grey_page.proofs.LineLemmas.{more_lines, pushed}
 use Rattle.grey_page.proofs.page.GreyPage.push.Goals as goal
 

@@ -1,5 +1,5 @@
 use Rattle.std.proofs.Common.{◌≡◌, ◌+◌, ◌-◌, ◌*◌, refl, sym, ◌∙◌, ap, arith}
-use Rattle.stream_definitions.specs.Header.{row_of}
+use Rattle.pwg_definitions.specs.Header.{row_of}
 use Rattle.pwg_lines.specs.declared.reader.State.TheVariants as state
 use Rattle.pwg_lines.proofs.KindTable.{unit_some}
 use Rattle.pwg_lines.proofs.Steps.{in_state, packet-literal, packet-past, packet-run, units-literal, units-past, units-run}

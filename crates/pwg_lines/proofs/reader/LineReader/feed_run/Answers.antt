@@ -1,7 +1,7 @@
 use Rattle.std.proofs.Common.{◌≡◌, ◌+◌, ◌-◌, ◌*◌, ◌++◌, length, take, drop, refl, sym, ◌∙◌, ap, arith}
 use Rattle.std.proofs.Math.Seq.{take-length}
 use Rattle.std.proofs.lemmas.List.{length-take-le}
-use Rattle.stream_definitions.specs.Groups.{copies}
+use Rattle.pwg_definitions.specs.Groups.{copies}
 use Rattle.pwg_lines.proofs.Filling.{unit_grows}
 use Rattle.pwg_lines.proofs.Steps.{in_state, run-end, run-part, written, written-front, written-is}
 use Rattle.pwg_lines.proofs.Within.{RunFits, run_fits}

@@ -1,6 +1,6 @@
 use Rattle.std.proofs.Common.{◌≡◌, ◌+◌, ◌*◌, ◌++◌, length, take, refl, ◌∙◌, ap, arith}
-use Rattle.stream_definitions.specs.Groups.{copies}
-use Rattle.stream_definitions.specs.Header.{row_of}
+use Rattle.pwg_definitions.specs.Groups.{copies}
+use Rattle.pwg_definitions.specs.Header.{row_of}
 use Rattle.pwg_lines.specs.States.{pending}
 use Rattle.pwg_lines.proofs.Steps.{in_state, packet-white, written, written-front}
 use Rattle.pwg_lines.proofs.reader.LineReader.fill_white.Goals as goal

@@ -1,6 +1,6 @@
 use Rattle.std.proofs.Common.{arith, refl, ◌∙◌}
-use Rattle.stream_definitions.specs.Header.{header_of}
-use Rattle.stream_laws.proofs.HeaderLaws.{check-wanted}
+use Rattle.pwg_definitions.specs.Header.{header_of}
+use Rattle.pwg_laws.proofs.HeaderLaws.{check-wanted}
 use Rattle.pwg_stream.proofs.reader.PageReader.begin_page.Goals as goal
 
 pub begin_lines-requires : goal.begin_lines-requires

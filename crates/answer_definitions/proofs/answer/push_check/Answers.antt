@@ -1,7 +1,0 @@
-use Rattle.std.proofs.Common.{append_assoc}
-use Rattle.answer_definitions.proofs.answer.push_check.Goals as goal
-
-pub returns-in-NotCoprime-clause-bytes : goal.returns-in-NotCoprime-clause-bytes
-returns-in-NotCoprime-clause-bytes c =
-    rw (c.push_number.ensures.bytes, c.push_str-in-NotCoprime.ensures.bytes, c.push_str.ensures.bytes, c.check_name.ensures.name, c.in-NotCoprime.is, c.from.ensures)
-    (simp append_assoc)

@@ -1,0 +1,191 @@
+//! The answers of a run.
+ghost use Rattle.driver_answer.specs.Answers.{check_words, input_name as input_name_of, profile_words, text_words, usage_name as usage_name_of};
+ghost use Rattle.arrayvec.specs.ArrayString.{array_string_len};
+ghost use Rattle.std.specs.Fmt.{decimal};
+ghost use Rattle.std.specs.Prelude.{codes, ◌+◌, ◌++◌, ◌≡◌, ◌≤◌, []};
+
+use crate::names::{check_name, input_name, text_name, usage_name};
+use crate::usage::UsageFault;
+use arrayvec::ArrayString;
+use itoa::Buffer;
+use printer_profile::{ProfileFault, TextCause, key_name};
+use pwg_definitions::InputCause;
+
+/// What a run of the driver came to. Pages and lines are counted from 1; page 0 is the sync word, line 0 a header.
+#[derive(Clone, Copy, Debug, PartialEq, Eq)]
+pub enum Answer {
+    /// The command did all.
+    Done,
+    /// A word is refused.
+    Usage(UsageFault),
+    /// The profile is refused: at this line of its text, or at line 0 as a whole.
+    Profile {
+        line: u32,
+        cause: ProfileCause,
+    },
+    /// The input is refused here.
+    Input {
+        page: u32,
+        line: u32,
+        cause: InputCause,
+    },
+    /// A read failed.
+    Read,
+    /// A write failed, in this page.
+    Write {
+        page: u32,
+    },
+    /// Memory ran out.
+    Memory,
+}
+
+/// Why a profile is refused.
+#[derive(Clone, Copy, Debug, PartialEq, Eq)]
+pub enum ProfileCause {
+    /// It is no built-in profile, and the shelf has no text of its name.
+    Absent,
+    /// Its text is longer than 65,536 bytes.
+    TooLong,
+    /// Its text is refused.
+    Text(TextCause),
+    /// Its text is read, and makes no sense.
+    Check(ProfileFault),
+    /// It has more than one nozzle, or inks other than black, which is not built yet.
+    NotBuilt,
+}
+
+// Appends a number in decimal.
+fn push_number(n: u32, out: &mut ArrayString<160>)
+    requires { array_string_len out.old + 10 ≤ 160 }
+    ensures bytes { out.new.bytes ≡ out.old.bytes ++ decimal n }
+    ensures len { array_string_len out.new ≤ array_string_len out.old + 10 }
+{
+    let mut buffer = Buffer::new();
+    out.push_str(buffer.format(n));
+}
+
+// Appends a check's fault, and the number that it carries.
+fn push_check(fault: ProfileFault, out: &mut ArrayString<160>)
+    requires { array_string_len out.old + 21 ≤ 160 }
+    ensures bytes { out.new.bytes ≡ out.old.bytes ++ check_words fault }
+    ensures len { array_string_len out.new ≤ array_string_len out.old + 21 }
+{
+    out.push_str(check_name(fault));
+    match fault {
+        ProfileFault::NotCoprime { gcd } => {
+            out.push_str(" ");
+            push_number(u32::from(gcd), out);
+        }
+        ProfileFault::TopMargin { needs } => {
+            out.push_str(" ");
+            push_number(needs, out);
+        }
+        _ => {}
+    }
+}
+
+// Appends a text's fault, and the name of the key that is missing.
+fn push_text(cause: TextCause, out: &mut ArrayString<160>)
+    requires { array_string_len out.old + 22 ≤ 160 }
+    ensures bytes { out.new.bytes ≡ out.old.bytes ++ text_words cause }
+    ensures len { array_string_len out.new ≤ array_string_len out.old + 22 }
+{
+    out.push_str(text_name(cause));
+    if let TextCause::Missing { key } = cause {
+        out.push_str(" ");
+        out.push_str(key_name(key));
+    }
+}
+
+fn push_profile_cause(cause: ProfileCause, out: &mut ArrayString<160>)
+    requires { array_string_len out.old + 22 ≤ 160 }
+    ensures bytes { out.new.bytes ≡ out.old.bytes ++ profile_words cause }
+    ensures len { array_string_len out.new ≤ array_string_len out.old + 22 }
+{
+    match cause {
+        ProfileCause::Absent => out.push_str("Absent"),
+        ProfileCause::TooLong => out.push_str("TooLong"),
+        ProfileCause::Text(cause) => push_text(cause, out),
+        ProfileCause::Check(fault) => push_check(fault, out),
+        ProfileCause::NotBuilt => out.push_str("NotBuilt"),
+    }
+}
+
+fn push_usage(fault: UsageFault, out: &mut ArrayString<160>)
+    requires { array_string_len out.old ≡ 0 }
+    ensures { out.new.bytes ≡ out.old.bytes ++ (codes "usage: word " ++ decimal fault.word ++ codes ": " ++ usage_name_of fault.cause ++ codes "\n") }
+{
+    out.push_str("usage: word ");
+    push_number(fault.word, out);
+    out.push_str(": ");
+    out.push_str(usage_name(fault.cause));
+    out.push_str("\n");
+}
+
+fn push_profile(line: u32, cause: ProfileCause, out: &mut ArrayString<160>)
+    requires { array_string_len out.old ≡ 0 }
+    ensures { out.new.bytes ≡ out.old.bytes ++ (codes "profile: line " ++ decimal line ++ codes ": " ++ profile_words cause ++ codes "\n") }
+{
+    out.push_str("profile: line ");
+    push_number(line, out);
+    out.push_str(": ");
+    push_profile_cause(cause, out);
+    out.push_str("\n");
+}
+
+fn push_input(page: u32, line: u32, cause: InputCause, out: &mut ArrayString<160>)
+    requires { array_string_len out.old ≡ 0 }
+    ensures { out.new.bytes ≡ out.old.bytes ++ (codes "input: page " ++ decimal page ++ codes " line " ++ decimal line ++ codes ": " ++ input_name_of cause ++ codes "\n") }
+{
+    out.push_str("input: page ");
+    push_number(page, out);
+    out.push_str(" line ");
+    push_number(line, out);
+    out.push_str(": ");
+    out.push_str(input_name(cause));
+    out.push_str("\n");
+}
+
+fn push_write(page: u32, out: &mut ArrayString<160>)
+    requires { array_string_len out.old ≡ 0 }
+    ensures { out.new.bytes ≡ out.old.bytes ++ (codes "write failed: page " ++ decimal page ++ codes "\n") }
+{
+    out.push_str("write failed: page ");
+    push_number(page, out);
+    out.push_str("\n");
+}
+
+impl Answer {
+    ghost use Rattle.driver_answer.specs.Answers.{line_of, status_of};
+
+    /// The exit status: 0 to 8.
+    pub fn status(&self) -> u8
+        ensures { result ≡ status_of self.now }
+    {
+        match *self {
+            Answer::Done => 0,
+            Answer::Usage(_) => 1,
+            Answer::Profile { .. } => 2,
+            Answer::Input { .. } => 3,
+            Answer::Read => 4,
+            Answer::Write { .. } => 5,
+            Answer::Memory => 7,
+        }
+    }
+
+    /// Writes the answer's error line into an empty text: nothing for `Done`, else one line with its end.
+    pub fn text(&self, out: &mut ArrayString<160>)
+        requires { out.old.bytes ≡ [] }
+        ensures { out.new.bytes ≡ line_of self.now }
+    {
+        match *self {
+            Answer::Done => {}
+            Answer::Usage(fault) => push_usage(fault, out),
+            Answer::Profile { line, cause } => push_profile(line, cause, out),
+            Answer::Input { page, line, cause } => push_input(page, line, cause, out),
+            Answer::Read => out.push_str("read failed\n"),
+            Answer::Write { page } => push_write(page, out),
+            Answer::Memory => out.push_str("out of memory\n"),
+        }
+    }
+}

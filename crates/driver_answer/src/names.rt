@@ -1,0 +1,90 @@
+//! The names of causes, as the error line prints them.
+ghost use Rattle.driver_answer.specs.Answers.{check_name as check_name_of, header_name as header_name_of, input_name as input_name_of, line_name as line_name_of, text_name as text_name_of, usage_name as usage_name_of};
+ghost use Rattle.std.specs.Prelude.{◌≡◌, ◌≤◌, length};
+
+use crate::usage::UsageCause;
+use printer_profile::{ProfileFault, TextCause};
+use pwg_definitions::{HeaderFault, InputCause, LineFault};
+
+pub fn usage_name(cause: UsageCause) -> &'static str
+    ensures name { result.now ≡ usage_name_of cause }
+    ensures len { length result.now ≤ 16 }
+{
+    match cause {
+        UsageCause::NoCommand => "NoCommand",
+        UsageCause::UnknownCommand => "UnknownCommand",
+        UsageCause::NotKeyValue => "NotKeyValue",
+        UsageCause::UnknownKey => "UnknownKey",
+        UsageCause::RepeatedKey => "RepeatedKey",
+        UsageCause::BadValue => "BadValue",
+    }
+}
+
+fn header_name(fault: HeaderFault) -> &'static str
+    ensures name { result.now ≡ header_name_of fault }
+    ensures len { length result.now ≤ 16 }
+{
+    match fault {
+        HeaderFault::NotPwg => "NotPwg",
+        HeaderFault::Resolution => "Resolution",
+        HeaderFault::Width => "Width",
+        HeaderFault::Height => "Height",
+        HeaderFault::Kind => "Kind",
+        HeaderFault::BytesPerLine => "BytesPerLine",
+        HeaderFault::Order => "Order",
+        HeaderFault::Transform => "Transform",
+    }
+}
+
+fn line_name(fault: LineFault) -> &'static str
+    ensures name { result.now ≡ line_name_of fault }
+    ensures len { length result.now ≤ 16 }
+{
+    match fault {
+        LineFault::RunPastLine => "RunPastLine",
+        LineFault::GroupPastPage => "GroupPastPage",
+    }
+}
+
+pub fn input_name(cause: InputCause) -> &'static str
+    ensures name { result.now ≡ input_name_of cause }
+    ensures len { length result.now ≤ 16 }
+{
+    match cause {
+        InputCause::BadSync => "BadSync",
+        InputCause::Truncated => "Truncated",
+        InputCause::TooManyPages => "TooManyPages",
+        InputCause::Header(fault) => header_name(fault),
+        InputCause::Line(fault) => line_name(fault),
+    }
+}
+
+pub fn text_name(cause: TextCause) -> &'static str
+    ensures name { result.now ≡ text_name_of cause }
+    ensures len { length result.now ≤ 11 }
+{
+    match cause {
+        TextCause::BadHead => "BadHead",
+        TextCause::NotAscii => "NotAscii",
+        TextCause::NoEquals => "NoEquals",
+        TextCause::UnknownKey => "UnknownKey",
+        TextCause::RepeatedKey => "RepeatedKey",
+        TextCause::BadValue => "BadValue",
+        TextCause::Missing { .. } => "Missing",
+    }
+}
+
+pub fn check_name(fault: ProfileFault) -> &'static str
+    ensures name { result.now ≡ check_name_of fault }
+    ensures len { length result.now ≤ 10 }
+{
+    match fault {
+        ProfileFault::Resolution => "Resolution",
+        ProfileFault::Nozzles => "Nozzles",
+        ProfileFault::Pitch => "Pitch",
+        ProfileFault::NotCoprime { .. } => "NotCoprime",
+        ProfileFault::RowStep => "RowStep",
+        ProfileFault::TopMargin { .. } => "TopMargin",
+        ProfileFault::BlackStart => "BlackStart",
+    }
+}

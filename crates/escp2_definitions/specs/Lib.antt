@@ -1,0 +1,8 @@
+pub mod RowCode
+pub mod Canonical
+pub mod Packed
+pub mod Commands
+pub mod Written
+pub mod Machine
+pub mod JobEnds
+pub mod Rasters

@@ -1,0 +1,24 @@
+-- Rows of dots in bytes, as the rows of a raster have them (ESC/P Reference Manual, `ESC .`).
+use Rattle.std.specs.Prelude.{ℕ, zero, suc, ◌+◌, ◌/◌, Bool, true, false, List, [], ◌∷◌, length, drop, slice_index_or}
+
+abbrev pub worth : Bool → ℕ → ℕ
+worth true n = n
+worth false n = 0
+
+-- the dot at a place of a row, none behind its end
+abbrev pub at : List Bool → ℕ → Bool
+at row k = slice_index_or row k false
+
+-- eight dots in a byte, the first in its highest bit
+abbrev pub packed_byte : List Bool → ℕ
+packed_byte row =
+    worth (at row 0) 128 + worth (at row 1) 64 + worth (at row 2) 32 + worth (at row 3) 16
+    + worth (at row 4) 8 + worth (at row 5) 4 + worth (at row 6) 2 + worth (at row 7) 1
+
+abbrev pub packed_bytes : ℕ → List Bool → List ℕ
+packed_bytes zero row = []
+packed_bytes (suc n) row = packed_byte row ∷ packed_bytes n (drop 8 row)
+
+-- A row of dots in bytes; bits behind the row are 0.
+abbrev pub packed : List Bool → List ℕ
+packed row = packed_bytes ((length row + 7) / 8) row

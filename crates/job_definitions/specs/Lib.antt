@@ -1,4 +1,0 @@
-pub mod RowCode
-pub mod Commands
-pub mod Machine
-pub mod JobEnds

@@ -1,5 +1,0 @@
-use Rattle.job_laws.proofs.Reading.{alone}
-use Rattle.job_laws.proofs.laws.no_spelling_begins_another.Goals as goal
-
-pub returns : goal.returns
-returns c = alone

@@ -1,0 +1,66 @@
+//! What a page's header says of it, and what a driver wants of it.
+
+/// A kind of pixel, one row of the table of kinds.
+#[derive(Clone, Copy, Debug, PartialEq, Eq)]
+pub enum Kind {
+    /// Grey of 8 bits (sGray), 0 black and 255 white.
+    Gray8,
+    /// Black of 8 bits, 0 white and 255 black.
+    Black8,
+    /// Red, green and blue of 8 bits each (sRGB), side by side.
+    Rgb8,
+}
+
+/// What stays the same over a page: its size in pixels, its kind, and the bytes of one of its lines.
+#[derive(Clone, Copy, Debug, PartialEq, Eq)]
+pub struct PageForm {
+    /// Pixels across the page.
+    pub width: u32,
+    /// Lines down the page.
+    pub height: u32,
+    pub kind: Kind,
+    /// Bytes of a line, the pixels of which are packed without gaps.
+    pub bytes_per_line: u32,
+}
+
+/// The fields of a page header that decide how its page is read (PWG 5102.4, section 4.3).
+#[derive(Clone, Copy, Debug, PartialEq, Eq)]
+pub struct Header {
+    /// Whether the header begins with the text `PwgRaster`, ended by 00.
+    pub is_pwg: bool,
+    /// HWResolution across the page, in dots an inch.
+    pub hres: u32,
+    /// HWResolution down the page, in dots an inch.
+    pub vres: u32,
+    /// Width, in pixels.
+    pub width: u32,
+    /// Height, in lines.
+    pub height: u32,
+    /// BitsPerColor.
+    pub bits_per_color: u32,
+    /// BitsPerPixel.
+    pub bits_per_pixel: u32,
+    /// BytesPerLine.
+    pub bytes_per_line: u32,
+    /// ColorOrder: 0 where the colours of a pixel stand side by side.
+    pub color_order: u32,
+    /// ColorSpace: 18 for grey, 3 for black, 19 for red, green and blue.
+    pub color_space: u32,
+    /// CrossFeedTransform: 0 or 1.
+    pub cross_transform: u32,
+    /// FeedTransform: 0 or 1.
+    pub feed_transform: u32,
+}
+
+/// What a driver wants of each page: its resolution in dots an inch, and the bounds of its size in pixels.
+#[derive(Clone, Copy, Debug, PartialEq, Eq)]
+pub struct Wanted {
+    /// Dots an inch across the page.
+    pub hdpi: u32,
+    /// Dots an inch down the page.
+    pub vdpi: u32,
+    pub least_width: u32,
+    pub most_width: u32,
+    pub least_height: u32,
+    pub most_height: u32,
+}

@@ -1,5 +1,0 @@
-use Rattle.stream_laws.proofs.GroupLaws.{group_at-read}
-use Rattle.stream_laws.proofs.groups.read_is_spelled.Goals as goal
-
-pub returns : goal.returns
-returns c = group_at-read

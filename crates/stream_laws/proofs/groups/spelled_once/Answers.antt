@@ -1,5 +1,0 @@
-use Rattle.stream_laws.proofs.GroupLaws.{group-spelled_once}
-use Rattle.stream_laws.proofs.groups.spelled_once.Goals as goal
-
-pub returns : goal.returns
-returns c = group-spelled_once

@@ -1,5 +1,0 @@
-use Rattle.stream_laws.proofs.PageLaws.{stream-pages}
-use Rattle.stream_laws.proofs.pages.pages_are_wanted.Goals as goal
-
-pub returns : goal.returns
-returns c = stream-pages
