@@ -1,8 +1,8 @@
 -- The dots that a page wants.
-use Rattle.std.specs.Prelude.{ℕ, ◌+◌, ◌*◌, ◌/◌, Bool, if◌then◌else◌, List, [], ◌∷◌}
+use Rattle.std.specs.Prelude.{◌≡◌, ◌<◌, count_by, length, slice_get, Some, ℕ, ◌+◌, ◌*◌, ◌/◌, Bool, if◌then◌else◌, List, [], ◌∷◌}
 use Rattle.std.specs.List.{flat_map}
 use Rattle.printer_definitions.specs.declared.inks.Ink.{Ink}
-use Rattle.printer_definitions.specs.Inks.{inks_of}
+use Rattle.printer_definitions.specs.Inks.{inks_of, same_ink}
 use Rattle.printer_definitions.specs.Printer.{Printer}
 use Rattle.diffusion_definitions.specs.Diffusion.{Plane, Table, errors, no_top, on}
 use Rattle.escp2_definitions.specs.Machine.{Dot}
@@ -48,3 +48,14 @@ dots_wanted p h = flat_map (ink_wanted p h) (inks_of p.inks)
 -- The dots that a page wants.
 abbrev pub wanted : Page → Printer → Table → List Dot
 wanted page p k = dots_wanted p (halftone page p k)
+
+-- How many dots of an ink a page wants.
+abbrev pub ink_count : Page → Printer → Table → Ink → ℕ
+ink_count page p k ink = count_by (λ (d : Dot). same_ink ink d.ink) (wanted page p k)
+
+-- A table of dots, by the ink's place in the printer's set, the row and the column, has the dots of a halftone.
+pub record HasDots (p : Printer) (h : Halftone) (width rows inks : ℕ) (dot : ℕ → ℕ → ℕ → Bool) : Type 0 where
+  pub width_is : width ≡ h.width
+  pub rows_is : rows ≡ h.height
+  pub inks_is : inks ≡ length (inks_of p.inks)
+  pub dots : (i y x : ℕ) (ink : Ink) → slice_get (inks_of p.inks) i ≡ Some ink → y < h.height → x < h.width → dot i y x ≡ h.dot ink y x

@@ -31,6 +31,14 @@ some n h = grind (arith, nat_tests)
 at_most : (most n : ℕ) → ltb most n ≡ false → n ≤ most
 at_most most n h = grind (arith, nat_tests)
 
+pub is_coprime : (p : Profile) → IsOk (check p) → IsGcd p.nozzles p.pitch 1
+is_coprime p h =
+    let resolution = passed _ _ _ h in
+    let nozzles = passed _ _ _ resolution.1 in
+    let pitch = passed _ _ _ nozzles.1 in
+    let coprime = passed _ _ _ pitch.1 in
+    coprime_is p.nozzles p.pitch (some p.nozzles nozzles.0) (at_most 1 (gcd_of p.nozzles p.pitch) coprime.0)
+
 pub can_print : (p : Profile) → p.nozzles ≤ 255 → IsOk (check p) → CanPrint (printer_of p)
 can_print p small h =
     let resolution = passed _ _ _ h in
@@ -46,14 +54,7 @@ can_print p small h =
       some_nozzles = some p.nozzles nozzles.0;
       most_nozzles = small;
       some_pitch = some p.pitch pitch.0;
+      coprime = is_coprime p h;
       small_step = at_most 255 (nozzle_step (printer_of p)) step.0;
       head_room = at_most p.top (head_rows (printer_of p)) margin.0;
     }
-
-pub is_coprime : (p : Profile) → IsOk (check p) → IsGcd p.nozzles p.pitch 1
-is_coprime p h =
-    let resolution = passed _ _ _ h in
-    let nozzles = passed _ _ _ resolution.1 in
-    let pitch = passed _ _ _ nozzles.1 in
-    let coprime = passed _ _ _ pitch.1 in
-    coprime_is p.nozzles p.pitch (some p.nozzles nozzles.0) (at_most 1 (gcd_of p.nozzles p.pitch) coprime.0)

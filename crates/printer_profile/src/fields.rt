@@ -4,8 +4,8 @@ ghost use Rattle.std.specs.Prelude.{◌≡◌};
 ghost use Rattle.pwg_definitions.specs.Header.{IsWanted};
 
 use printer_definitions::InkSet;
-use separation_definitions::Window;
 use pwg_definitions::{PageForm, Wanted};
+use separation_definitions::Window;
 
 /// A printer. Nothing ties the fields together: `check` says whether they make sense.
 #[derive(Clone, Copy, Debug, PartialEq, Eq)]

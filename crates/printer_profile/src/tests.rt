@@ -1,7 +1,7 @@
 //! Profiles by their names, their checks and their texts.
 use super::*;
-use std::test::Fail;
 use pwg_definitions::Kind;
+use std::test::Fail;
 
 const GOOD: Profile = Profile {
     hdpi: 720,
