@@ -1,6 +1,6 @@
 use Rattle.std.proofs.Common.{eqb, refl, sym, ◌∙◌}
-use Rattle.printer_profile.proofs.LineParts.{cut_found, cut_none}
-use Rattle.printer_profile.proofs.lines.cut_at.Goals as goal
+use Rattle.key_values.proofs.Cuts.{cut_found, cut_none}
+use Rattle.key_values.proofs.pairs.cut_at.Goals as goal
 
 pub returns-in-Some : goal.returns-in-Some
 returns-in-Some c =
