@@ -4,6 +4,7 @@
 
 mod answer;
 mod names;
+mod stops;
 
 pub use answer::Answer;
 pub use job_profile::ProfileCause;
