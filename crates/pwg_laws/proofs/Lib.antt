@@ -1,3 +1,4 @@
+pub mod KindRows
 pub mod Packets
 pub mod GroupLaws
 pub mod GroupFaults
