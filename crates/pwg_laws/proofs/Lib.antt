@@ -4,3 +4,5 @@ pub mod GroupLaws
 pub mod GroupFaults
 pub mod PageLaws
 pub mod HeaderLaws
+pub mod PageSpelling
+pub mod PageReading
