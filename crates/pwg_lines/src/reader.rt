@@ -3,6 +3,7 @@ ghost use Rattle.pwg_lines.specs.States.{behind_packet, gives, least_gives, leas
 ghost use Rattle.std.specs.Prelude.{[], length, min, take, ◌*◌, ◌+◌, ◌-◌, ◌<◌, ◌∷◌, ◌≡◌, ◌≤◌};
 ghost use Rattle.pwg_definitions.specs.Groups as groups;
 ghost use Rattle.pwg_definitions.specs.Header.{line_bytes, line_units, row_of};
+ghost use Rattle.pwg_definitions.specs.Limits.{most_columns, most_rows};
 
 use crate::buffer::{fill_bytes, fill_units};
 use crate::unit::{unit_of, white_of};
@@ -78,9 +79,9 @@ impl LineReader {
     /// A reader of the lines of a page of this form. The bytes of one line are allocated here, and no other memory.
     pub fn begin(alloc: Global, form: PageForm) -> Result<LineReader, Memory>
         requires narrowest { 1 ≤ form.width }
-        requires widest { form.width ≤ 8191 }
+        requires widest { form.width ≤ most_columns }
         requires lowest { 1 ≤ form.height }
-        requires tallest { form.height ≤ 15840 }
+        requires tallest { form.height ≤ most_rows }
         requires bytes { form.bytes_per_line ≡ line_bytes form.width (row_of form.kind).bits_per_pixel }
         ensures form { IfOk result (λ reader. form_of reader ≡ form) }
         ensures lines_left { IfOk result (λ reader. lines_left_of reader ≡ form.height) }
@@ -105,9 +106,9 @@ impl LineReader {
     /// new one is no longer; for want of memory the reader is as it was.
     pub fn restart(&mut self, form: PageForm) -> Result<(), Memory>
         requires narrowest { 1 ≤ form.width }
-        requires widest { form.width ≤ 8191 }
+        requires widest { form.width ≤ most_columns }
         requires lowest { 1 ≤ form.height }
-        requires tallest { form.height ≤ 15840 }
+        requires tallest { form.height ≤ most_rows }
         requires bytes { form.bytes_per_line ≡ line_bytes form.width (row_of form.kind).bits_per_pixel }
         ensures form { OnOk result (form_of self.new ≡ form) }
         ensures lines_left { OnOk result (lines_left_of self.new ≡ form.height) }
