@@ -4,6 +4,7 @@
 mod codes;
 mod examples;
 mod laws;
+mod standing;
 
 pub use codes::{
     canonical_is_a_code, canonical_is_short, code_is_read, no_code_begins_another,
@@ -15,3 +16,6 @@ pub use examples::{
     pages_are_limited, widest_row_is_read,
 };
 pub use laws::{job_is_its_commands, no_spelling_begins_another, spelled_is_read, written_is_spelled};
+pub use standing::{
+    a_command_stands, a_fault_ends_a_job, a_fault_stands, a_prefix_is_incomplete, heard_is_spelled,
+};
