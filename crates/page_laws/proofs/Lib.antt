@@ -4,3 +4,6 @@ pub mod Once
 pub mod Packing
 pub mod Fired
 pub mod Running
+pub mod Firing
+pub mod Pages
+pub mod Spelled
