@@ -7,3 +7,4 @@ pub mod Running
 pub mod Firing
 pub mod Pages
 pub mod Spelled
+pub mod Printed

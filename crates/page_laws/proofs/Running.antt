@@ -56,11 +56,11 @@ begins w = prologue w.printer w.above w.height (len_of w)
 -- ---- one command
 
 -- a command with the bytes that are written for it
-abbrev pub said : Layout → Spoken → Said
-said w s = record { command = s.command; rows = s.rows; bytes = written w.coding.code s.command s.rows }
+abbrev pub said : (List ℕ → List ℕ) → Spoken → Said
+said code s = record { command = s.command; rows = s.rows; bytes = written code s.command s.rows }
 
 abbrev pub entries : Layout → ℕ → List Spoken → List Entry
-entries w at job = entries_of at (map (said w) job)
+entries w at job = entries_of at (map (said w.coding.code) job)
 
 -- From one state the machine comes to another with the rest of a job, and gives no sheet on the way.
 abbrev pub Comes : Layout → Machine → List Spoken → Machine → List Spoken → Type 0
