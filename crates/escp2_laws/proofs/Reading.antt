@@ -11,7 +11,8 @@ use Rattle.escp2_definitions.specs.Commands.{Heard, Spells, command_at, command_
 use Rattle.escp2_definitions.specs.Commands.Heard.{One, Wrong}
 use Rattle.escp2_laws.proofs.Rows.{plain-reads, rows-read}
 
-no_rows : (rows : List ℕ) → length rows ≡ 0 → rows ≡ []
+-- rows of no byte
+pub no_rows : (rows : List ℕ) → length rows ≡ 0 → rows ≡ []
 no_rows [] e = refl
 no_rows (r ∷ rows) e = absurd (omega arith)
 

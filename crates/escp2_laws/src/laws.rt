@@ -1,10 +1,12 @@
 //! Each function does nothing; its contract is a law.
+ghost use Rattle.escp2_laws.specs.Coded.{HasCoding};
 ghost use Rattle.escp2_laws.specs.Said.{AllSaid, Said, entries_of, said_bytes};
-ghost use Rattle.escp2_definitions.specs.Commands.{Spells, command_at, commands};
+ghost use Rattle.escp2_definitions.specs.Commands.{Spells, command_at, commands, in_table, rows_len};
+ghost use Rattle.escp2_definitions.specs.Written.{Coding, IsCoding, written};
 ghost use Rattle.escp2_definitions.specs.Commands.Heard.{One};
 ghost use Rattle.escp2_definitions.specs.Commands.ListEnd.{Whole};
 ghost use Rattle.escp2_definitions.specs.declared.command.Command.{Command};
-ghost use Rattle.std.specs.Prelude.{List, [], length, ℕ, ◌++◌, ◌≡◌};
+ghost use Rattle.std.specs.Prelude.{List, [], length, ℕ, true, ◌++◌, ◌≡◌};
 
 /// A spelled command is read back, with its rows, whatever follows it.
 pub fn spelled_is_read()
@@ -16,6 +18,13 @@ pub fn spelled_is_read()
 pub fn no_spelling_begins_another()
     ensures { (one other : Command) (rows other_rows bytes more : List ℕ) → Spells one rows bytes
         → Spells other other_rows (bytes ++ more) → more ≡ [] }
+{}
+
+/// What is written of a command of the table and its rows spells them, where a raster says how its rows are written.
+pub fn written_is_spelled()
+    ensures { (coding : Coding) (command : Command) (rows : List ℕ) → IsCoding coding → HasCoding coding command
+        → in_table command ≡ true → length rows ≡ rows_len command
+        → Spells command rows (written coding.code command rows) }
 {}
 
 /// Spelled commands, one after another, are a whole job of these commands.

@@ -6,6 +6,7 @@ use Rattle.std.proofs.Math.Seq.{take-append-add, drop-append-add}
 use Rattle.escp2_definitions.specs.RowCode.{Control, RowsRead, again_at, control_of, controlled, packet_at, plain_at, row_at, rows_at, with_front}
 use Rattle.escp2_definitions.specs.RowCode.Control.{Follow, Again, Refused}
 use Rattle.escp2_definitions.specs.RowCode.RowsRead.{RowsAre, RowsPart, RowsWrong}
+use Rattle.escp2_laws.proofs.Grammar.{row-part, row-step, row-wrong}
 use Rattle.escp2_rows.specs.declared.reader.Place.{Place}
 use Rattle.escp2_rows.specs.declared.reader.Place.TheVariants.{Packet, Literal, Repeated, Failed}
 use Rattle.escp2_rows.specs.Places.{RowsForm, Stands, behind_control, is_failed, least_pending, pending, read_on, rest_at, rows_read, then_rows}
@@ -57,31 +58,6 @@ controlled-passes Refused left at bytes row next e = absurd (let no : RowsWrong 
 packet-passes : (left at : ℕ) (bytes row : List ℕ) (next : ℕ) → packet_at left at bytes ≡ RowsAre row next → at ≤ next
 packet-passes left at [] row next e = absurd (let no : RowsPart ≡ RowsAre row next = e in cc)
 packet-passes left at (n ∷ bytes) row next e = controlled-passes (control_of n) left at bytes row next e
-
-pub row-step : (most left at : ℕ) (bytes front : List ℕ) (next : ℕ) → packet_at (suc left) at bytes ≡ RowsAre front next
-    → row_at (suc most) (suc left) at bytes ≡ with_front front (row_at most (suc left - length front) next (drop (next - at) bytes))
-unfolding row_at
-row-step most left at bytes front next e = ap (λ (r : RowsRead). elim r [
-  | RowsAre front next ↦ with_front front (row_at most (suc left - length front) next (drop (next - at) bytes))
-  | RowsPart ↦ RowsPart
-  | RowsWrong place ↦ RowsWrong place
-]) e
-
-pub row-part : (most left at : ℕ) (bytes : List ℕ) → packet_at (suc left) at bytes ≡ RowsPart → row_at (suc most) (suc left) at bytes ≡ RowsPart
-unfolding row_at
-row-part most left at bytes e = ap (λ (r : RowsRead). elim r [
-  | RowsAre front next ↦ with_front front (row_at most (suc left - length front) next (drop (next - at) bytes))
-  | RowsPart ↦ RowsPart
-  | RowsWrong place ↦ RowsWrong place
-]) e
-
-pub row-wrong : (most left at : ℕ) (bytes : List ℕ) (place : ℕ) → packet_at (suc left) at bytes ≡ RowsWrong place → row_at (suc most) (suc left) at bytes ≡ RowsWrong place
-unfolding row_at
-row-wrong most left at bytes place e = ap (λ (r : RowsRead). elim r [
-  | RowsAre front next ↦ with_front front (row_at most (suc left - length front) next (drop (next - at) bytes))
-  | RowsPart ↦ RowsPart
-  | RowsWrong place ↦ RowsWrong place
-]) e
 
 row_at-passes : (most left at : ℕ) (bytes row : List ℕ) (next : ℕ) → row_at most left at bytes ≡ RowsAre row next → at ≤ next
 unfolding row_at

@@ -3,14 +3,9 @@
 #![tactic(auto)]
 
 mod buffer;
-mod laws;
 mod reader;
 mod writer;
 
-pub use laws::{
-    canonical_is_a_code, canonical_is_short, code_is_read, no_code_begins_another,
-    what_is_read_is_a_code,
-};
 pub use reader::{RowFed, RowReader, RowState};
 pub use writer::{CodedRow, code_row};
 

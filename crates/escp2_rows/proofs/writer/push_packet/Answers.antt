@@ -1,7 +1,8 @@
 use Rattle.std.proofs.Common.{◌≤◌, sym, arith}
 use Rattle.std.proofs.lemmas.List.{length-take-le}
 use Rattle.escp2_definitions.specs.Canonical.{equal_at}
-use Rattle.escp2_rows.proofs.Writing.{IsCounted, bytes_coded, bytes_counted, counted}
+use Rattle.escp2_laws.proofs.Packets.{IsCounted, counted}
+use Rattle.escp2_rows.proofs.Writing.{bytes_coded, bytes_counted}
 use Rattle.escp2_rows.proofs.writer.push_packet.Goals as goal
 
 pub overflow_sub-equal : goal.overflow_sub-equal

@@ -1,4 +1,4 @@
-//! Laws of the code of rows. Each function has no code: it is a contract with its proof.
+//! Laws of the code of rows. Each function does nothing; its contract is a law.
 ghost use Rattle.escp2_definitions.specs.Canonical.{canonical_row};
 ghost use Rattle.escp2_definitions.specs.RowCode.{RowCode, RowsCode, rows_at};
 ghost use Rattle.escp2_definitions.specs.RowCode.RowsRead.{RowsAre};

@@ -7,7 +7,6 @@ use Rattle.escp2_definitions.specs.RowCode.{IsRowPacket, RowPacket, RowsCode, Ro
 use Rattle.escp2_definitions.specs.RowCode.Control.{Follow, Again, Refused}
 use Rattle.escp2_definitions.specs.RowCode.RowPacket.{Bytes, Repeat}
 use Rattle.escp2_definitions.specs.RowCode.RowsRead.{RowsAre, RowsPart, RowsWrong}
-use Rattle.escp2_rows.proofs.Steps.{row-part, row-step, row-wrong}
 
 abbrev AreBytes : List ℕ → Type 0
 AreBytes bytes = (k : ℕ) → get_or bytes k 0 < 256
@@ -121,6 +120,32 @@ packet-read left at (n ∷ bytes) row next are is = by_low (nat_lt n 128) refl i
     by_low false e is = by_128 (ltb-false _ _ e) (n == 128) refl is
 
 -- ---- a row
+
+-- a row is read by its next packet
+pub row-step : (most left at : ℕ) (bytes front : List ℕ) (next : ℕ) → packet_at (suc left) at bytes ≡ RowsAre front next
+    → row_at (suc most) (suc left) at bytes ≡ with_front front (row_at most (suc left - length front) next (drop (next - at) bytes))
+unfolding row_at
+row-step most left at bytes front next e = ap (λ (r : RowsRead). elim r [
+  | RowsAre front next ↦ with_front front (row_at most (suc left - length front) next (drop (next - at) bytes))
+  | RowsPart ↦ RowsPart
+  | RowsWrong place ↦ RowsWrong place
+]) e
+
+pub row-part : (most left at : ℕ) (bytes : List ℕ) → packet_at (suc left) at bytes ≡ RowsPart → row_at (suc most) (suc left) at bytes ≡ RowsPart
+unfolding row_at
+row-part most left at bytes e = ap (λ (r : RowsRead). elim r [
+  | RowsAre front next ↦ with_front front (row_at most (suc left - length front) next (drop (next - at) bytes))
+  | RowsPart ↦ RowsPart
+  | RowsWrong place ↦ RowsWrong place
+]) e
+
+pub row-wrong : (most left at : ℕ) (bytes : List ℕ) (place : ℕ) → packet_at (suc left) at bytes ≡ RowsWrong place → row_at (suc most) (suc left) at bytes ≡ RowsWrong place
+unfolding row_at
+row-wrong most left at bytes place e = ap (λ (r : RowsRead). elim r [
+  | RowsAre front next ↦ with_front front (row_at most (suc left - length front) next (drop (next - at) bytes))
+  | RowsPart ↦ RowsPart
+  | RowsWrong place ↦ RowsWrong place
+]) e
 
 -- Packets that are read as the rest of a row.
 record ReadRow (left at : ℕ) (bytes row : List ℕ) (next : ℕ) : Type 0 where

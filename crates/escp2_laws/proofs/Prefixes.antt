@@ -1,0 +1,28 @@
+-- No code of rows begins another.
+use Rattle.std.proofs.Common.{◌≡◌, ℕ, ◌+◌, List, [], ◌∷◌, ◌++◌, length, refl, sym, ◌∙◌, ap, arith, length-append, append-nil}
+use Rattle.escp2_definitions.specs.RowCode.{RowsCode, rows_at}
+use Rattle.escp2_definitions.specs.RowCode.RowsRead.{RowsAre}
+use Rattle.escp2_laws.proofs.Rows.{rows-read}
+
+nothing_left : (bytes more : List ℕ) → length bytes ≡ length (bytes ++ more) → more ≡ []
+nothing_left bytes [] e = refl
+nothing_left bytes (b ∷ more) e = absurd (omega (arith, length-append bytes (b ∷ more)))
+
+pub rows_alone : (m width : ℕ) (code more rows other_rows : List ℕ) → RowsCode m width code rows → RowsCode m width (code ++ more) other_rows
+    → (more ≡ []) × (rows ≡ other_rows)
+rows_alone m width code more rows other_rows one other =
+    let first : rows_at m width 0 (code ++ more) ≡ RowsAre rows (0 + length code) = rows-read m width 0 code rows more one in
+    let second : rows_at m width 0 ((code ++ more) ++ []) ≡ RowsAre other_rows (0 + length (code ++ more)) = rows-read m width 0 (code ++ more) other_rows [] other in
+    let same : RowsAre rows (0 + length code) ≡ RowsAre other_rows (0 + length (code ++ more)) =
+    sym first ∙ ap (rows_at m width 0) (sym (append-nil (code ++ more))) ∙ second in
+    (nothing_left code more (omega (arith, lengths _ _ _ _ same)), equals _ _ _ _ same)
+  where
+    lengths : (rs ss : List ℕ) (j k : ℕ) → RowsAre rs j ≡ RowsAre ss k → j ≡ k
+    lengths rs ss j k e = cc
+
+    equals : (rs ss : List ℕ) (j k : ℕ) → RowsAre rs j ≡ RowsAre ss k → rs ≡ ss
+    equals rs ss j k e = cc
+
+pub code_read : (m width : ℕ) (code rest rows : List ℕ) → RowsCode m width code rows → rows_at m width 0 (code ++ rest) ≡ RowsAre rows (length code)
+code_read m width code rest rows is =
+    rows-read m width 0 code rows rest is ∙ ap (RowsAre rows) (let p : 0 + length code ≡ length code = omega arith in p)

@@ -1,5 +1,0 @@
-use Rattle.escp2_rows.proofs.Grammar.{read_codes}
-use Rattle.escp2_rows.proofs.laws.what_is_read_is_a_code.Goals as goal
-
-pub returns : goal.returns
-returns c = read_codes
