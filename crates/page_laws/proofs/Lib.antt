@@ -1,8 +1,10 @@
+pub mod Counts
 pub mod Numbers
 pub mod Once
 pub mod Packing
 pub mod Fired
 pub mod Running
+pub mod Firing
 pub mod Pages
-pub mod OneNozzle
-pub mod Headline
+pub mod Spelled
+pub mod Printed

@@ -9,4 +9,4 @@ pub use examples::{
     small_page_has_its_bytes, small_page_is_printed, small_page_wants_two_dots, two_rows_are_fired,
     window_inside_margins,
 };
-pub use laws::{pages_are_printed, wanted_are_distinct};
+pub use laws::wanted_are_distinct;
