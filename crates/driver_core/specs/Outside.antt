@@ -27,12 +27,11 @@ pub record Texts : Type 0 where
 abbrev pub HasFailed : Texts → Type 0
 HasFailed shelf = Rose shelf.faults_before shelf.faults_now
 
--- All that is outside of a run.
+-- What a run reads and writes, but for the error sink.
 pub record Outsides : Type 0 where
   pub shelf : Texts
   pub input : Outside
   pub out : Outside
-  pub err : Outside
 
 -- nothing was taken of the input, and nothing written
 abbrev pub Untouched : Outsides → Type 0

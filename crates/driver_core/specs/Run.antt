@@ -100,15 +100,15 @@ pub record AsksFor (words : List (List ℕ)) (told : Option (List NamedText)) (c
 -- ---- what a run promises
 
 -- The status is that of an answer whose cause holds, and the error sink was told that answer.
-pub record IsAnswered (words : List (List ℕ)) (o : Outsides) (status : ℕ) : Type 0 where
+pub record IsAnswered (words : List (List ℕ)) (o : Outsides) (err : Outside) (status : ℕ) : Type 0 where
   pub a : Answer
   pub status_is : status ≡ status_of a
   pub outcome : Outcome words o a
-  pub told : Told o.err a
+  pub told : Told err a
 
--- What a run promises, of its words, of what is outside, and of the status that it returns.
-pub record Promises (words : List (List ℕ)) (o : Outsides) (status : ℕ) : Type 0 where
-  pub answered : IsAnswered words o status
+-- What a run promises, of its words, of what is outside, of the error sink and of the status that it returns.
+pub record Promises (words : List (List ℕ)) (o : Outsides) (err : Outside) (status : ℕ) : Type 0 where
+  pub answered : IsAnswered words o err status
 
   -- A valid job prints, unless something outside fails or memory runs out.
   pub valid : (job : Job) (p : Profile) (bytes : List ℕ) (pages : List Page) → AsksFor words o.shelf.told verb.Print job (Ok p)
@@ -120,7 +120,7 @@ pub record Promises (words : List (List ℕ)) (o : Outsides) (status : ℕ) : Ty
   -- A refused page is told, and only the pages before it stand whole.
   pub input : (job : Job) (p : Profile) → AsksFor words o.shelf.told verb.Print job (Ok p) → status ≡ 3
       → (page line : ℕ) × (cause : InputCause) × MeetsFault (printer_of p) (table_of job.kernel) o.input o.out page line cause
-      × Tells o.err (answer.Input page line cause)
+      × Tells err (answer.Input page line cause)
   pub refused : (job : Job) (p : Profile) (bytes : List ℕ) (pages : List Page) (page line : ℕ) (cause : InputCause)
       → AsksFor words o.shelf.told verb.Print job (Ok p)
       → o.input.before ≡ Some bytes → stream (wanted_by (printer_of p)) bytes ≡ record { pages = pages; end = Fault page line cause }
@@ -130,7 +130,7 @@ pub record Promises (words : List (List ℕ)) (o : Outsides) (status : ℕ) : Ty
       → PrintsSome (printer_of p) (table_of job.kernel) o.input o.out
   -- On 5 a prefix of the named page stands after the pages before it.
   pub part : (job : Job) (p : Profile) → AsksFor words o.shelf.told verb.Print job (Ok p) → status ≡ 5
-      → (number : ℕ) × StopsInPage (printer_of p) (table_of job.kernel) o.input o.out number × Tells o.err (answer.Write number)
+      → (number : ℕ) × StopsInPage (printer_of p) (table_of job.kernel) o.input o.out number × Tells err (answer.Write number)
 
   -- The command `profile` writes the profile's text, and takes nothing of the input.
   pub valid_profile : (job : Job) (p : Profile) → AsksFor words o.shelf.told verb.Profile job (Ok p)
@@ -138,7 +138,7 @@ pub record Promises (words : List (List ℕ)) (o : Outsides) (status : ℕ) : Ty
   pub shown : (job : Job) (p : Profile) → AsksFor words o.shelf.told verb.Profile job (Ok p) → status ≡ 0
       → Appends o.out.before o.out.now (profile_text_of p)
   pub part_shown : (job : Job) (p : Profile) → AsksFor words o.shelf.told verb.Profile job (Ok p) → status ≡ 5
-      → AppendsPart o.out.before o.out.now (profile_text_of p) × Tells o.err (answer.Write 0)
+      → AppendsPart o.out.before o.out.now (profile_text_of p) × Tells err (answer.Write 0)
   pub none_shown : (job : Job) (p : Profile) → AsksFor words o.shelf.told verb.Profile job (Ok p) → (status ≡ 4) ⊎ (status ≡ 7)
       → Keeps o.out.before o.out.now
   pub unread : (job : Job) → job_meaning words ≡ Ok job → job.verb ≡ verb.Profile → Keeps o.input.before o.input.now
@@ -146,7 +146,7 @@ pub record Promises (words : List (List ℕ)) (o : Outsides) (status : ℕ) : Ty
   -- Each other status has its cause: the words first, then the profile, then the input.
   pub usage : (status ≡ 1) ↔ IsErr (job_meaning words)
   pub profile : status ≡ 2 → (job : Job) × (line : ℕ) × (cause : ProfileCause) × (job_meaning words ≡ Ok job)
-      × IsJobProfile o.shelf.told (profile_named words) (Err (refused_at line cause)) × Tells o.err (answer.Profile line cause)
+      × IsJobProfile o.shelf.told (profile_named words) (Err (refused_at line cause)) × Tells err (answer.Profile line cause)
   pub refused_profile : (command : Verb) (job : Job) (refusal : Refusal) → AsksFor words o.shelf.told command job (Err refusal)
       → (HasFailed o.shelf → ⊥) → (status ≡ 2) ⊎ (status ≡ 7)
   pub read : status ≡ 4 → HasRisen o.input ⊎ (HasFailed o.shelf × (built_in (profile_named words) ≡ None))
@@ -155,5 +155,5 @@ pub record Promises (words : List (List ℕ)) (o : Outsides) (status : ℕ) : Ty
   pub nothing : (status ≡ 1) ⊎ (status ≡ 2) → Untouched o
 
   -- The error line.
-  pub silent : status ≡ 0 → Keeps o.err.before o.err.now
-  pub line : IsCalm o.err → (a : Answer) × (status ≡ status_of a) × Appends o.err.before o.err.now (line_of a)
+  pub silent : status ≡ 0 → Keeps err.before err.now
+  pub line : IsCalm err → (a : Answer) × (status ≡ status_of a) × Appends err.before err.now (line_of a)
