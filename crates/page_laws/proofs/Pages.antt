@@ -44,8 +44,8 @@ begins-low p above height stroke on e =
     omega (arith, ((on ink.0).row row.0 row.1).1)
 
 -- the strokes with a dot lie on the window
-pub all-lie : (w : Layout) (strokes : List Stroke) → AllByRecursion (λ stroke. (ink : Ink) → IsWhole w.printer.nozzles w.width (stroke.rows ink)) strokes
-    → AllByRecursion (λ stroke. (ink : Ink) → IsOnWindow w.printer.pitch w.above w.height stroke.start (stroke.rows ink)) strokes
+pub all-lie : (w : Layout) (strokes : List Stroke) → AllByRecursion (λ stroke. (ink : Ink) → IsWhole w.printer.nozzles w.halftone.width (stroke.rows ink)) strokes
+    → AllByRecursion (λ stroke. (ink : Ink) → IsOnWindow w.printer.pitch w.above w.halftone.height stroke.start (stroke.rows ink)) strokes
     → AllByRecursion (Lies w) (filter (fires w.printer) strokes)
 all-lie w [] whole on = tt
 all-lie w (stroke ∷ strokes) whole on = by_stroke (fires w.printer stroke) refl (all-lie w strokes whole.1 on.1)
@@ -53,7 +53,7 @@ all-lie w (stroke ∷ strokes) whole on = by_stroke (fires w.printer stroke) ref
     by_stroke : (b : Bool) → fires w.printer stroke ≡ b → AllByRecursion (Lies w) (filter (fires w.printer) strokes)
         → AllByRecursion (Lies w) (cond b (stroke ∷ filter (fires w.printer) strokes) (filter (fires w.printer) strokes))
     by_stroke true e rest =
-        (record { whole = whole.0; on_window = on.0; low = begins-low w.printer w.above w.height stroke on.0 e }, rest)
+        (record { whole = whole.0; on_window = on.0; low = begins-low w.printer w.above w.halftone.height stroke on.0 e }, rest)
     by_stroke false e rest = rest
 
 -- strokes that rise from a row rise from one above it
@@ -98,7 +98,7 @@ abbrev pub strokes_dots : Layout → List Stroke → List Dot
 strokes_dots w strokes = flat_map (stroke_fired w.printer w.above) strokes
 
 abbrev pub fires_strokes : Layout → ℕ → List Stroke → List Spoken
-fires_strokes w last strokes = strokes_commands w.printer w.width w.coding.c last strokes
+fires_strokes w last strokes = strokes_commands w.printer w.halftone.width w.coding.c last strokes
 
 -- strokes fire their dots, one after another
 pub strokes-run : (w : Layout) (strokes : List Stroke) (last : ℕ) (dots : List Dot) (job : List Spoken) → IsLayout w

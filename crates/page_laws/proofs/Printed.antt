@@ -18,24 +18,12 @@ use Rattle.page_laws.proofs.Once.{exactly-once}
 use Rattle.page_laws.proofs.Running.{IsLayout, Layout, entries, said}
 use Rattle.page_laws.proofs.Firing.{Lies}
 use Rattle.page_laws.proofs.Pages.{all-lie, page-run, page_says}
-use Rattle.page_laws.proofs.Spelled.{AllSpoken, page-spoken}
+use Rattle.page_laws.proofs.Spelled.{AllSpoken, page-sayable, sayable-spoken}
 
 -- ---- the page of a halftone
 
 abbrev pub layout_of : Printer → Halftone → Coding → ℕ → ℕ → Layout
-layout_of p h coding above tall = record { printer = p; coding = coding; above = above; width = h.width; height = h.height; tall = tall }
-
--- a halftone of this size can be printed
-pub is-layout : (p : Printer) (h : Halftone) (coding : Coding) (above tall : ℕ) → CanPrint p → Sized p h tall → above ≤ p.top → IsLayout (layout_of p h coding above tall)
-is-layout p h coding above tall can size room = record {
-  can = can;
-  some_width = size.some_width;
-  most_width = size.most_width;
-  some_height = size.some_height;
-  low = size.low;
-  short = size.short;
-  room = room;
-}
+layout_of p h coding above tall = record { printer = p; coding = coding; above = above; halftone = h; tall = tall }
 
 -- its strokes lie on its window
 pub strokes-lie : (p : Printer) (h : Halftone) (coding : Coding) (tall : ℕ) (strokes : Strokes) → Fires p h strokes
@@ -44,7 +32,7 @@ strokes-lie p h coding tall strokes fire = all-lie (layout_of p h coding strokes
 
 -- ---- the bytes are read as the commands
 
-spoken-said : (w : Layout) (job : List Spoken) → AllSpoken w job → AllSaid (map (said w.coding.code) job)
+spoken-said : (w : Layout) (job : List Spoken) → AllSpoken w.coding job → AllSaid (map (said w.coding.code) job)
 spoken-said w [] all = tt
 spoken-said w (s ∷ job) all = (all.0, spoken-said w job all.1)
 
@@ -53,7 +41,7 @@ said_bytes-is w [] = refl
 said_bytes-is w (s ∷ job) = ap (λ bs. written w.coding.code s.command s.rows ++ bs) (said_bytes-is w job)
 
 -- what the bytes of commands say
-pub read : (w : Layout) (job : List Spoken) → AllSpoken w job → commands (bytes_of w.coding.code job) ≡ record { entries = entries w 0 job; end = Whole }
+pub read : (w : Layout) (job : List Spoken) → AllSpoken w.coding job → commands (bytes_of w.coding.code job) ≡ record { entries = entries w 0 job; end = Whole }
 read w job all = ap commands (said_bytes-is w job) ∙ commands-said (map (said w.coding.code) job) (spoken-said w job all)
 
 -- the bytes of two jobs, one after the other
@@ -70,12 +58,12 @@ pub strokes-print : (p : Printer) (h : Halftone) (coding : Coding) (strokes : St
 unfolding execute_from
 strokes-print p h coding strokes tall can is_coding size fire =
     let w : Layout = layout_of p h coding strokes.above tall in
-    let is : IsLayout w = is-layout p h coding strokes.above tall can size fire.room in
+    let is : IsLayout w = record { can = can; coding = is_coding; size = size; room = fire.room } in
     let lie : AllByRecursion (Lies w) (filter (fires p) strokes.list) = strokes-lie p h coding tall strokes fire in
     let job : List Spoken = page_says w strokes.list in
     let list : CommandList = record { entries = entries w 0 job; end = Whole } in
     let bytes : List ℕ = strokes_bytes coding p h.width h.height (tall * row_units p) strokes in
-    let reads : commands bytes ≡ list = read w job (page-spoken w strokes.list is is_coding lie) in
+    let reads : commands bytes ≡ list = read w job (sayable-spoken coding job is_coding (page-sayable w strokes.list is lie)) in
     record {
       whole = ap (λ (j : CommandList). j.end) reads;
       gives = λ m blank.
