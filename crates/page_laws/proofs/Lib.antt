@@ -8,3 +8,4 @@ pub mod Firing
 pub mod Pages
 pub mod Spelled
 pub mod Printed
+pub mod Hits
