@@ -13,7 +13,7 @@ use Rattle.page_definitions.specs.Exact.{Exactly}
 use Rattle.page_definitions.specs.Strokes.{IsOnWindow, IsWhole, Stroke, Strokes, fired, row_fired, rows_fired, stroke_fired}
 use Rattle.separation_definitions.specs.CanPrint.{CanPrint}
 use Rattle.weave_definitions.specs.Weave.{count_from}
-use Rattle.page_laws.proofs.Counts.{count-append, count-cons, count-flat, each-from, each-of, sum-none, sum-one, sum-plus, sum-same}
+use Rattle.page_laws.proofs.Counts.{count-append, count-cons, count-flat, each-from, each-of, if-none, if-plus, sum-none, sum-one, sum-plus, sum-same}
 use Rattle.page_laws.proofs.Fired.{AllWide, on_window-first, on_window-next}
 use Rattle.page_laws.proofs.Once.{exactly, wanted-once}
 
@@ -49,11 +49,7 @@ pub total-none : (test : ℕ → ℕ → Bool) (height width : ℕ) (f : ℕ →
 total-none test height width f none =
     sum-none (λ y. sum_by (λ x. cond (test y x) (f y x) 0) (count_from 0 width)) (count_from 0 height)
     (each-of (λ y. sum_by (λ x. cond (test y x) (f y x) 0) (count_from 0 width) ≡ 0) (count_from 0 height)
-    (λ y. sum-none (λ x. cond (test y x) (f y x) 0) (count_from 0 width) (each-of (λ x. cond (test y x) (f y x) 0 ≡ 0) (count_from 0 width) (λ x. by_test y x (test y x)))))
-  where
-    by_test : (y x : ℕ) (b : Bool) → cond b (f y x) 0 ≡ 0
-    by_test y x true = none y x
-    by_test y x false = refl
+    (λ y. sum-none (λ x. cond (test y x) (f y x) 0) (count_from 0 width) (each-of (λ x. cond (test y x) (f y x) 0 ≡ 0) (count_from 0 width) (λ x. if-none (test y x) (f y x) (none y x)))))
 
 -- the sum of sums of two numbers
 pub total-plus : (test : ℕ → ℕ → Bool) (height width : ℕ) (f g : ℕ → ℕ → ℕ)
@@ -63,13 +59,9 @@ total-plus test height width f g =
     sum-same (of (λ y x. f y x + g y x)) (λ y. of f y + of g y) (count_from 0 height)
     (each-of (λ y. of (λ y x. f y x + g y x) y ≡ of f y + of g y) (count_from 0 height) (λ y.
     sum-same (λ x. cond (test y x) (f y x + g y x) 0) (λ x. cond (test y x) (f y x) 0 + cond (test y x) (g y x) 0) (count_from 0 width)
-    (each-of (λ x. cond (test y x) (f y x + g y x) 0 ≡ cond (test y x) (f y x) 0 + cond (test y x) (g y x) 0) (count_from 0 width) (λ x. by_test (test y x) (f y x) (g y x)))
+    (each-of (λ x. cond (test y x) (f y x + g y x) 0 ≡ cond (test y x) (f y x) 0 + cond (test y x) (g y x) 0) (count_from 0 width) (λ x. sym (if-plus (test y x) (f y x) (g y x))))
     ∙ sum-plus (λ x. cond (test y x) (f y x) 0) (λ x. cond (test y x) (g y x) 0) (count_from 0 width)))
     ∙ sum-plus (of f) (of g) (count_from 0 height)
-  where
-    by_test : (b : Bool) (m n : ℕ) → cond b (m + n) 0 ≡ cond b m 0 + cond b n 0
-    by_test true m n = refl
-    by_test false m n = omega arith
 
 -- ---- one row
 
@@ -118,15 +110,11 @@ row-total p d ink height width y row wide low =
     of : ℕ → ℕ
     of y' = sum_by (λ x. cond (test y' x) (cond ((y == y') && at row x) 1 0) 0) (count_from 0 width)
 
-    empty : (b : Bool) (n : ℕ) → n ≡ 0 → cond b n 0 ≡ 0
-    empty true n e = e
-    empty false n e = refl
-
     other : (y' : ℕ) → y' ≢ y → of y' ≡ 0
     other y' apart =
         sum-none (λ x. cond (test y' x) (cond ((y == y') && at row x) 1 0) 0) (count_from 0 width)
         (each-of (λ x. cond (test y' x) (cond ((y == y') && at row x) 1 0) 0 ≡ 0) (count_from 0 width) (λ x.
-        empty (test y' x) (cond ((y == y') && at row x) 1 0) (ap (λ b. cond (b && at row x) 1 0) (ne_eqb y y' (λ e. apart (sym e))))))
+        if-none (test y' x) (cond ((y == y') && at row x) 1 0) (ap (λ b. cond (b && at row x) 1 0) (ne_eqb y y' (λ e. apart (sym e))))))
 
     by_row : (b : Bool) → list_any (λ on. on) row ≡ b → sum_by (λ x. cond (test y x) (cond (at row x) 1 0) 0) (count_from 0 width) ≡ sum_by of (count_from 0 height)
     by_row true e =
@@ -138,7 +126,7 @@ row-total p d ink height width y row wide low =
         let blank : (y' x : ℕ) → one_if ((y == y') && at row x) ≡ 0 = λ y' x. ap one_if (and_right (y == y') (at row x) (blank-at row x e)) in
         sum-none (λ x. cond (test y x) (cond (at row x) 1 0) 0) (count_from 0 width)
         (each-of (λ x. cond (test y x) (cond (at row x) 1 0) 0 ≡ 0) (count_from 0 width)
-        (λ x. empty (test y x) (cond (at row x) 1 0) (ap (λ b. cond b 1 0) (blank-at row x e))))
+        (λ x. if-none (test y x) (cond (at row x) 1 0) (ap (λ b. cond b 1 0) (blank-at row x e))))
         ∙ sym (total-none test height width (λ y' x. cond ((y == y') && at row x) 1 0) blank)
 
 -- ---- the rows of a stroke

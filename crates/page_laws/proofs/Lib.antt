@@ -9,3 +9,4 @@ pub mod Pages
 pub mod Spelled
 pub mod Printed
 pub mod Hits
+pub mod Weaving
