@@ -10,3 +10,4 @@ pub mod Spelled
 pub mod Printed
 pub mod Hits
 pub mod Weaving
+pub mod Headline

@@ -134,7 +134,7 @@ page_says w strokes = begins w ++ (fires_strokes w 0 (filter (fires w.printer) s
 pub page-run : (w : Layout) (strokes : List Stroke) (m : Machine) (job : List Spoken) (at : ℕ) → IsLayout w → m.dots ≡ []
     → IsRising 0 strokes → AllByRecursion (Lies w) (filter (fires w.printer) strokes) → Once (strokes_dots w strokes)
     → (sheet : Sheet) × (at' : ℕ) × (sheet.dots ≡ strokes_dots w strokes)
-    × (execute_from w.printer m (entries w at (page_says w strokes ++ job)) ≡ with_sheets (sheet ∷ []) (execute_from w.printer start (entries w at' job)))
+    × (execute_from w.printer m (entries w.coding.code at (page_says w strokes ++ job)) ≡ with_sheets (sheet ∷ []) (execute_from w.printer start (entries w.coding.code at' job)))
 page-run w strokes m job at is blank rising lie once =
     let p : Printer = w.printer in
     let fired : List Stroke = filter (fires p) strokes in
@@ -155,5 +155,5 @@ page-run w strokes m job at is blank rising lie once =
       _,
       reset.0,
       strokes-all p w.above strokes,
-      ap (λ j. execute_from p m (entries w at j)) regrouped ∙ begun.1 ∙ ended.1 ∙ ejected.1 ∙ ap (with_sheets (_ ∷ [])) reset.1,
+      ap (λ j. execute_from p m (entries w.coding.code at j)) regrouped ∙ begun.1 ∙ ended.1 ∙ ejected.1 ∙ ap (with_sheets (_ ∷ [])) reset.1,
     )

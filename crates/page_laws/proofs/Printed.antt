@@ -32,17 +32,17 @@ strokes-lie p h coding tall strokes fire = all-lie (layout_of p h coding strokes
 
 -- ---- the bytes are read as the commands
 
-spoken-said : (w : Layout) (job : List Spoken) → AllSpoken w.coding job → AllSaid (map (said w.coding.code) job)
-spoken-said w [] all = tt
-spoken-said w (s ∷ job) all = (all.0, spoken-said w job all.1)
+spoken-said : (coding : Coding) (job : List Spoken) → AllSpoken coding job → AllSaid (map (said coding.code) job)
+spoken-said coding [] all = tt
+spoken-said coding (s ∷ job) all = (all.0, spoken-said coding job all.1)
 
-said_bytes-is : (w : Layout) (job : List Spoken) → bytes_of w.coding.code job ≡ said_bytes (map (said w.coding.code) job)
-said_bytes-is w [] = refl
-said_bytes-is w (s ∷ job) = ap (λ bs. written w.coding.code s.command s.rows ++ bs) (said_bytes-is w job)
+said_bytes-is : (code : List ℕ → List ℕ) (job : List Spoken) → bytes_of code job ≡ said_bytes (map (said code) job)
+said_bytes-is code [] = refl
+said_bytes-is code (s ∷ job) = ap (λ bs. written code s.command s.rows ++ bs) (said_bytes-is code job)
 
 -- what the bytes of commands say
-pub read : (w : Layout) (job : List Spoken) → AllSpoken w.coding job → commands (bytes_of w.coding.code job) ≡ record { entries = entries w 0 job; end = Whole }
-read w job all = ap commands (said_bytes-is w job) ∙ commands-said (map (said w.coding.code) job) (spoken-said w job all)
+pub read : (coding : Coding) (job : List Spoken) → AllSpoken coding job → commands (bytes_of coding.code job) ≡ record { entries = entries coding.code 0 job; end = Whole }
+read coding job all = ap commands (said_bytes-is coding.code job) ∙ commands-said (map (said coding.code) job) (spoken-said coding job all)
 
 -- the bytes of two jobs, one after the other
 pub bytes-append : (code : List ℕ → List ℕ) (xs ys : List Spoken) → bytes_of code (xs ++ ys) ≡ bytes_of code xs ++ bytes_of code ys
@@ -61,9 +61,9 @@ strokes-print p h coding strokes tall can is_coding size fire =
     let is : IsLayout w = record { can = can; coding = is_coding; size = size; room = fire.room } in
     let lie : AllByRecursion (Lies w) (filter (fires p) strokes.list) = strokes-lie p h coding tall strokes fire in
     let job : List Spoken = page_says w strokes.list in
-    let list : CommandList = record { entries = entries w 0 job; end = Whole } in
+    let list : CommandList = record { entries = entries coding.code 0 job; end = Whole } in
     let bytes : List ℕ = strokes_bytes coding p h.width h.height (tall * row_units p) strokes in
-    let reads : commands bytes ≡ list = read w job (sayable-spoken coding job is_coding (page-sayable w strokes.list is lie)) in
+    let reads : commands bytes ≡ list = read coding job (sayable-spoken coding job is_coding (page-sayable w strokes.list is lie)) in
     record {
       whole = ap (λ (j : CommandList). j.end) reads;
       gives = λ m blank.
@@ -73,7 +73,7 @@ strokes-print p h coding strokes tall can is_coding size fire =
           let E : List Dot → Type 0 = λ ds. Exactly ds (dots_wanted p h) in
           record {
             sheet = sheet;
-            is = ap (λ (j : CommandList). execute_from p m j.entries) reads ∙ ap (λ j. execute_from p m (entries w 0 j)) (sym (append-nil job)) ∙ run.3;
+            is = ap (λ (j : CommandList). execute_from p m j.entries) reads ∙ ap (λ j. execute_from p m (entries coding.code 0 j)) (sym (append-nil job)) ∙ run.3;
             exactly = subst E (sym run.2) fire.once;
           };
     }

@@ -57,12 +57,12 @@ begins w = prologue w.printer w.above w.halftone.height (len_of w)
 abbrev pub said : (List ℕ → List ℕ) → Spoken → Said
 said code s = record { command = s.command; rows = s.rows; bytes = written code s.command s.rows }
 
-abbrev pub entries : Layout → ℕ → List Spoken → List Entry
-entries w at job = entries_of at (map (said w.coding.code) job)
+abbrev pub entries : (List ℕ → List ℕ) → ℕ → List Spoken → List Entry
+entries code at job = entries_of at (map (said code) job)
 
 -- From one state the machine comes to another with the rest of a job, and gives no sheet on the way.
 abbrev pub Comes : Layout → Machine → List Spoken → Machine → List Spoken → Type 0
-Comes w s job s' job' = (at : ℕ) → (at' : ℕ) × (execute_from w.printer s (entries w at job) ≡ execute_from w.printer s' (entries w at' job'))
+Comes w s job s' job' = (at : ℕ) → (at' : ℕ) × (execute_from w.printer s (entries w.coding.code at job) ≡ execute_from w.printer s' (entries w.coding.code at' job'))
 
 pub comes-here : (w : Layout) (s : Machine) (job : List Spoken) → Comes w s job s job
 comes-here w s job at = (at, refl)
@@ -73,17 +73,17 @@ comes-then w s1 s2 s3 job1 job2 job3 f g at = let a = f at in let b = g a.0 in (
 -- the same states and jobs by other names
 pub comes-as : (w : Layout) (s1 s2 t2 : Machine) (job1 job job2 : List Spoken) → job1 ≡ job → s2 ≡ t2 → Comes w s1 job s2 job2 → Comes w s1 job1 t2 job2
 comes-as w s1 s2 t2 job1 job job2 e f comes at =
-    let a = comes at in (a.0, ap (λ j. execute_from w.printer s1 (entries w at j)) e ∙ a.1 ∙ ap (λ s. execute_from w.printer s (entries w a.0 job2)) f)
+    let a = comes at in (a.0, ap (λ j. execute_from w.printer s1 (entries w.coding.code at j)) e ∙ a.1 ∙ ap (λ s. execute_from w.printer s (entries w.coding.code a.0 job2)) f)
 
 -- a command that is accepted
 pub one-runs : (w : Layout) (s : Machine) (command : Command) (rows : List ℕ) (job : List Spoken) (at : ℕ)
     → first_fault (refusals w.printer s command rows) ≡ None
-    → (at' : ℕ) × (execute_from w.printer s (entries w at (record { command = command; rows = rows } ∷ job))
-    ≡ with_sheets (given w.printer s command) (execute_from w.printer (after w.printer s command rows) (entries w at' job)))
+    → (at' : ℕ) × (execute_from w.printer s (entries w.coding.code at (record { command = command; rows = rows } ∷ job))
+    ≡ with_sheets (given w.printer s command) (execute_from w.printer (after w.printer s command rows) (entries w.coding.code at' job)))
 unfolding execute_from
 one-runs w s command rows job at accepted =
     let next : ℕ = at + length (written w.coding.code command rows) in
-    let rest : List Entry = entries w next job in (
+    let rest : List Entry = entries w.coding.code next job in (
       next,
       ap (λ (found : Option EmuFault). elim found [
         | Some fault ↦ record { sheets = []; refused = Some (record { at = at; fault = fault }) }
@@ -97,7 +97,7 @@ pub one : (w : Layout) (s : Machine) (command : Command) (rows : List ℕ) (job 
     → Comes w s (record { command = command; rows = rows } ∷ job) (after w.printer s command rows) job
 one w s command rows job accepted no_sheet at =
     let run = one-runs w s command rows job at accepted in
-    (run.0, run.1 ∙ ap (λ sheets. with_sheets sheets (execute_from w.printer (after w.printer s command rows) (entries w run.0 job))) no_sheet)
+    (run.0, run.1 ∙ ap (λ sheets. with_sheets sheets (execute_from w.printer (after w.printer s command rows) (entries w.coding.code run.0 job))) no_sheet)
 
 -- ---- the states of a page
 

@@ -133,6 +133,10 @@ page-sayable w strokes is lie =
 abbrev pub AllSpoken : Coding → List Spoken → Type 0
 AllSpoken coding job = AllByRecursion (λ s. Spells s.command s.rows (written coding.code s.command s.rows)) job
 
+pub spoken-append : (coding : Coding) (xs ys : List Spoken) → AllSpoken coding xs → AllSpoken coding ys → AllSpoken coding (xs ++ ys)
+spoken-append coding [] ys p q = q
+spoken-append coding (x ∷ xs) ys p q = (p.0, spoken-append coding xs ys p.1 q)
+
 -- what is written of commands of the table spells them
 pub sayable-spoken : (coding : Coding) (job : List Spoken) → IsCoding coding → AllSayable coding job → AllSpoken coding job
 sayable-spoken coding [] codes all = tt
