@@ -72,6 +72,16 @@ blank-at (true ∷ row) x e = cc
 blank-at (false ∷ row) zero e = refl
 blank-at (false ∷ row) (suc x) e = blank-at row x e
 
+-- a dot, where there is one, passes a test or does not
+dot-count : (test : Dot → Bool) (d : Dot) (b : Bool) → count_by test (if b then d ∷ [] else []) ≡ cond (test d) (cond b 1 0) 0
+dot-count test d b = by_dot b (test d) (count-cons test d [])
+  where
+    by_dot : (b t : Bool) → count_by test (d ∷ []) ≡ cond t 1 0 + 0 → count_by test (if b then d ∷ [] else []) ≡ cond t (cond b 1 0) 0
+    by_dot true true e = omega arith
+    by_dot true false e = omega arith
+    by_dot false true e = refl
+    by_dot false false e = refl
+
 -- the dots of a row at a place on paper, column by column
 row-count : (p : Printer) (d : Dot) (ink : Ink) (y x : ℕ) (on : ℕ → Bool) (row : List Bool) → ((j : ℕ) → at row j ≡ on (x + j))
     → count_by (is_at d) (row_fired p ink y x row) ≡ sum_by (λ j. cond (is_at d (place_of p ink y j)) (cond (on j) 1 0) 0) (count_from x (length row))
@@ -81,20 +91,13 @@ row-count p d ink y x on (b ∷ row) same =
     let none : x + 0 ≡ x = omega arith in
     let here : b ≡ on x = same 0 ∙ ap on none in
     let head : count_by (is_at d) (if b then place_of p ink y x ∷ [] else []) ≡ term x =
-    by_dot b (is_at d (place_of p ink y x)) (count-cons (is_at d) (place_of p ink y x) []) ∙ ap (λ c. cond (is_at d (place_of p ink y x)) (cond c 1 0) 0) here in
+    dot-count (is_at d) (place_of p ink y x) b ∙ ap (λ c. cond (is_at d (place_of p ink y x)) (cond c 1 0) 0) here in
     let rest : count_by (is_at d) (row_fired p ink y (x + 1) row) ≡ sum_by term (count_from (x + 1) (length row)) =
     row-count p d ink y (x + 1) on row (λ j. let next : x + suc j ≡ x + 1 + j = omega arith in same (suc j) ∙ ap on next) in
     count-append (is_at d) (if b then place_of p ink y x ∷ [] else []) (row_fired p ink y (x + 1) row)
     ∙ ap (λ n. n + count_by (is_at d) (row_fired p ink y (x + 1) row)) head
     ∙ ap (λ n. term x + n) rest
     ∙ sym (sum_by-cons term x (count_from (x + 1) (length row)))
-  where
-    by_dot : (b t : Bool) → count_by (is_at d) (place_of p ink y x ∷ []) ≡ cond t 1 0 + 0
-        → count_by (is_at d) (if b then place_of p ink y x ∷ [] else []) ≡ cond t (cond b 1 0) 0
-    by_dot true true e = omega arith
-    by_dot true false e = omega arith
-    by_dot false true e = refl
-    by_dot false false e = refl
 
 -- the same as a sum over the window, in which the row is the only one with dots
 row-total : (p : Printer) (d : Dot) (ink : Ink) (height width y : ℕ) (row : List Bool) → length row ≡ width → (list_any (λ on. on) row ≡ true → y < height)
@@ -182,34 +185,26 @@ strokes-total p d above height width (stroke ∷ strokes) whole on =
 
 -- ---- the dots of a halftone
 
--- the dots of a halftone at a place on paper, ink by ink
-pub wanted-total : (p : Printer) (h : Halftone) (d : Dot)
-    → count_by (is_at d) (dots_wanted p h)
-    ≡ sum_by (λ ink. total (λ y x. is_at d (place_of p ink y x)) h.height h.width (λ y x. cond (h.dot ink y x) 1 0)) (inks_of p.inks)
-wanted-total p h d =
-    count-flat (is_at d) (ink_wanted p h) (inks_of p.inks)
-    ∙ sum-same (λ ink. count_by (is_at d) (ink_wanted p h ink)) of (inks_of p.inks)
-    (each-of (λ ink. count_by (is_at d) (ink_wanted p h ink) ≡ of ink) (inks_of p.inks) (λ ink.
-    count-flat (is_at d) (row_wanted p h ink) (count_from 0 h.height)
-    ∙ sum-same (λ y. count_by (is_at d) (row_wanted p h ink y)) (λ y. sum_by (term ink y) (count_from 0 h.width)) (count_from 0 h.height)
-    (each-of (λ y. count_by (is_at d) (row_wanted p h ink y) ≡ sum_by (term ink y) (count_from 0 h.width)) (count_from 0 h.height) (λ y.
-    count-flat (is_at d) (pixel_dots p h ink y) (count_from 0 h.width)
-    ∙ sum-same (λ x. count_by (is_at d) (pixel_dots p h ink y x)) (term ink y) (count_from 0 h.width)
-    (each-of (λ x. count_by (is_at d) (pixel_dots p h ink y x) ≡ term ink y x) (count_from 0 h.width)
-    (λ x. by_dot ink y x (h.dot ink y x) (is_at d (place_of p ink y x)) (count-cons (is_at d) (place_of p ink y x) [])))))))
+-- the dots of a halftone that pass a test, ink by ink
+pub wanted-total : (p : Printer) (h : Halftone) (test : Dot → Bool)
+    → count_by test (dots_wanted p h) ≡ sum_by (λ ink. total (λ y x. test (place_of p ink y x)) h.height h.width (λ y x. cond (h.dot ink y x) 1 0)) (inks_of p.inks)
+wanted-total p h test =
+    count-flat test (ink_wanted p h) (inks_of p.inks)
+    ∙ sum-same (λ ink. count_by test (ink_wanted p h ink)) of (inks_of p.inks)
+    (each-of (λ ink. count_by test (ink_wanted p h ink) ≡ of ink) (inks_of p.inks) (λ ink.
+    count-flat test (row_wanted p h ink) (count_from 0 h.height)
+    ∙ sum-same (λ y. count_by test (row_wanted p h ink y)) (λ y. sum_by (term ink y) (count_from 0 h.width)) (count_from 0 h.height)
+    (each-of (λ y. count_by test (row_wanted p h ink y) ≡ sum_by (term ink y) (count_from 0 h.width)) (count_from 0 h.height) (λ y.
+    count-flat test (pixel_dots p h ink y) (count_from 0 h.width)
+    ∙ sum-same (λ x. count_by test (pixel_dots p h ink y x)) (term ink y) (count_from 0 h.width)
+    (each-of (λ x. count_by test (pixel_dots p h ink y x) ≡ term ink y x) (count_from 0 h.width)
+    (λ x. dot-count test (place_of p ink y x) (h.dot ink y x)))))))
   where
     term : Ink → ℕ → ℕ → ℕ
-    term ink y x = cond (is_at d (place_of p ink y x)) (cond (h.dot ink y x) 1 0) 0
+    term ink y x = cond (test (place_of p ink y x)) (cond (h.dot ink y x) 1 0) 0
 
     of : Ink → ℕ
-    of ink = total (λ y x. is_at d (place_of p ink y x)) h.height h.width (λ y x. cond (h.dot ink y x) 1 0)
-
-    by_dot : (ink : Ink) (y x : ℕ) (b t : Bool) → count_by (is_at d) (place_of p ink y x ∷ []) ≡ cond t 1 0 + 0
-        → count_by (is_at d) (if b then place_of p ink y x ∷ [] else []) ≡ cond t (cond b 1 0) 0
-    by_dot ink y x true true e = omega arith
-    by_dot ink y x true false e = omega arith
-    by_dot ink y x false true e = refl
-    by_dot ink y x false false e = refl
+    of ink = total (λ y x. test (place_of p ink y x)) h.height h.width (λ y x. cond (h.dot ink y x) 1 0)
 
 -- Each place of the window is fired as often as it has a dot.
 abbrev pub FiresEachDot : Printer → Halftone → Strokes → Type 0
@@ -228,7 +223,7 @@ fires-exactly p h strokes can whole on each =
     ∙ sum-same (λ ink. total (λ y x. is_at d (place_of p ink y x)) h.height h.width (λ y x. hits p strokes.above strokes.list ink y x))
     (λ ink. total (λ y x. is_at d (place_of p ink y x)) h.height h.width (λ y x. cond (h.dot ink y x) 1 0)) (inks_of p.inks)
     (by_ink d (inks_of p.inks) each)
-    ∙ sym (wanted-total p h d)) (wanted-once p h can)
+    ∙ sym (wanted-total p h (is_at d))) (wanted-once p h can)
   where
     by_ink : (d : Dot) (inks : List Ink) → AllByRecursion (λ ink. (y x : ℕ) → y < h.height → x < h.width → hits p strokes.above strokes.list ink y x ≡ cond (h.dot ink y x) 1 0) inks
         → AllByRecursion (λ ink. total (λ y x. is_at d (place_of p ink y x)) h.height h.width (λ y x. hits p strokes.above strokes.list ink y x)

@@ -11,3 +11,6 @@ pub mod Printed
 pub mod Hits
 pub mod Weaving
 pub mod Headline
+pub mod Rasters
+pub mod Planes
+pub mod Lengths

@@ -22,7 +22,7 @@ use Rattle.page_laws.proofs.Hits.{FiresEachDot, fires-exactly, hits, rows_hits}
 
 -- ---- lists of numbers
 
-count_from-len : (n many : ℕ) → length (count_from n many) ≡ many
+pub count_from-len : (n many : ℕ) → length (count_from n many) ≡ many
 count_from-len n zero = refl
 count_from-len n (suc many) = ap suc (count_from-len (n + 1) many)
 
@@ -193,7 +193,7 @@ weave-rises p h last t zero le = tt
 weave-rises p h last t (suc many) le = (le, weave-rises p h (t * p.nozzles) (t + 1) many (omega arith))
 
 -- what holds of each pass holds of each stroke
-each-pass : (p : Printer) (h : Halftone) (P : Stroke → Type 0) (ts : List ℕ) → ((t : ℕ) → P (pass_stroke p h t)) → AllByRecursion P (map (pass_stroke p h) ts)
+pub each-pass : (p : Printer) (h : Halftone) (P : Stroke → Type 0) (ts : List ℕ) → ((t : ℕ) → P (pass_stroke p h t)) → AllByRecursion P (map (pass_stroke p h) ts)
 each-pass p h P [] every = tt
 each-pass p h P (t ∷ ts) every = (every t, each-pass p h P ts every)
 
