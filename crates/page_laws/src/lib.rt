@@ -9,4 +9,7 @@ pub use examples::{
     small_page_has_its_bytes, small_page_is_printed, small_page_wants_two_dots, two_rows_are_fired,
     window_inside_margins,
 };
-pub use laws::wanted_are_distinct;
+pub use laws::{
+    counts_of_planes, page_is_short, pages_are_printed, pages_have_passes, rows_are_coded,
+    strokes_are_printed, strokes_have_rasters, wanted_are_distinct, weave_fires,
+};
