@@ -1,2 +1,3 @@
 pub mod Sized
 pub mod Examples
+pub mod Shingles
