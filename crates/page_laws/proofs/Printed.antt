@@ -18,7 +18,7 @@ use Rattle.page_laws.proofs.Once.{exactly-once}
 use Rattle.page_laws.proofs.Running.{IsLayout, Layout, entries, said}
 use Rattle.page_laws.proofs.Firing.{Lies}
 use Rattle.page_laws.proofs.Pages.{all-lie, page-run, page_says}
-use Rattle.page_laws.proofs.Spelled.{AllSpoken, page-sayable, sayable-spoken}
+use Rattle.page_laws.proofs.Spelled.{AllSayable, AllSpoken, page-sayable, sayable-spoken}
 
 -- ---- the page of a halftone
 
@@ -29,6 +29,19 @@ layout_of p h coding above tall = record { printer = p; coding = coding; above =
 pub strokes-lie : (p : Printer) (h : Halftone) (coding : Coding) (tall : ℕ) (strokes : Strokes) → Fires p h strokes
     → AllByRecursion (Lies (layout_of p h coding strokes.above tall)) (filter (fires p) strokes.list)
 strokes-lie p h coding tall strokes fire = all-lie (layout_of p h coding strokes.above tall) strokes.list fire.whole fire.on_window
+
+-- Each command of strokes that print a halftone is in the table.
+pub commands-sayable : (p : Printer) (h : Halftone) (coding : Coding) (tall : ℕ) (strokes : Strokes) → CanPrint p → IsCoding coding → Sized p h tall → Fires p h strokes
+    → AllSayable coding (page_commands p h.width h.height coding.c (tall * row_units p) strokes)
+commands-sayable p h coding tall strokes can is_coding size fire =
+    page-sayable (layout_of p h coding strokes.above tall) strokes.list (record { can = can; coding = is_coding; size = size; room = fire.room })
+    (strokes-lie p h coding tall strokes fire)
+
+-- It is spelled by its bytes.
+pub commands-spoken : (p : Printer) (h : Halftone) (coding : Coding) (tall : ℕ) (strokes : Strokes) → CanPrint p → IsCoding coding → Sized p h tall → Fires p h strokes
+    → AllSpoken coding (page_commands p h.width h.height coding.c (tall * row_units p) strokes)
+commands-spoken p h coding tall strokes can is_coding size fire =
+    sayable-spoken coding (page_commands p h.width h.height coding.c (tall * row_units p) strokes) is_coding (commands-sayable p h coding tall strokes can is_coding size fire)
 
 -- ---- the bytes are read as the commands
 
@@ -60,10 +73,10 @@ strokes-print p h coding strokes tall can is_coding size fire =
     let w : Layout = layout_of p h coding strokes.above tall in
     let is : IsLayout w = record { can = can; coding = is_coding; size = size; room = fire.room } in
     let lie : AllByRecursion (Lies w) (filter (fires p) strokes.list) = strokes-lie p h coding tall strokes fire in
-    let job : List Spoken = page_says w strokes.list in
+    let job : List Spoken = page_commands p h.width h.height coding.c (tall * row_units p) strokes in
     let list : CommandList = record { entries = entries coding.code 0 job; end = Whole } in
     let bytes : List ℕ = strokes_bytes coding p h.width h.height (tall * row_units p) strokes in
-    let reads : commands bytes ≡ list = read coding job (sayable-spoken coding job is_coding (page-sayable w strokes.list is lie)) in
+    let reads : commands bytes ≡ list = read coding job (commands-spoken p h coding tall strokes can is_coding size fire) in
     record {
       whole = ap (λ (j : CommandList). j.end) reads;
       gives = λ m blank.

@@ -18,9 +18,9 @@ use Rattle.separation_definitions.specs.CanPrint.{ArePages, CanPrint}
 use Rattle.separation_definitions.specs.Windows.{wanted_by}
 use Rattle.pwg_definitions.specs.Stream.{IsPage, Page}
 use Rattle.page_definitions.specs.Dots.{Halftone, halftone}
-use Rattle.page_definitions.specs.PageBytes.{page_bytes, page_coding, pass_stroke, weave}
+use Rattle.page_definitions.specs.PageBytes.{halftone_bytes, page_bytes, page_coding, pass_stroke, weave}
 use Rattle.page_definitions.specs.Printing.{HasPasses, HavePasses}
-use Rattle.page_definitions.specs.Strokes.{Fires, Spoken, Stroke, Strokes, down_by, fires, has_dot, say, strokes_bytes}
+use Rattle.page_definitions.specs.Strokes.{Fires, Spoken, Stroke, Strokes, down_by, fires, has_dot, page_commands, say, strokes_bytes}
 use Rattle.weave_definitions.specs.Weave.{count_from, pass_count}
 use Rattle.page_laws.specs.Sized.{Sized}
 use Rattle.page_laws.proofs.Counts.{count-cons}
@@ -28,10 +28,9 @@ use Rattle.page_laws.proofs.Running.{Layout, begins, entries}
 use Rattle.escp2_definitions.specs.Packed.{packed}
 use Rattle.page_laws.proofs.Firing.{fires_ink, head_of}
 use Rattle.page_laws.proofs.Pages.{fires_strokes, page_says}
-use Rattle.page_laws.proofs.Spelled.{page-sayable, sayable-spoken}
-use Rattle.page_laws.proofs.Printed.{layout_of, read, strokes-lie}
-use Rattle.page_laws.proofs.Headline.{job-spoken, page_bytes-are, page_job}
-use Rattle.page_laws.proofs.Weaving.{count_from-len}
+use Rattle.page_laws.proofs.Printed.{commands-spoken, layout_of, read}
+use Rattle.page_laws.proofs.Headline.{canonical-coding, page-sized}
+use Rattle.page_laws.proofs.Weaving.{count_from-len, weave-fires}
 
 -- ---- the rasters of commands
 
@@ -150,22 +149,19 @@ page-rasters w strokes ink =
 pub strokes-have : (p : Printer) (h : Halftone) (coding : Coding) (strokes : Strokes) (tall : ℕ) → CanPrint p → IsCoding coding → Sized p h tall → Fires p h strokes
     → (ink : Ink) → ink_rasters ink (commands (strokes_bytes coding p h.width h.height (tall * row_units p) strokes)).entries ≤ count_by (fires_with ink) strokes.list
 strokes-have p h coding strokes tall can is_coding size fire ink =
-    let w : Layout = layout_of p h coding strokes.above tall in
-    let job : List Spoken = page_says w strokes.list in
-    let spoken = sayable-spoken coding job is_coding (page-sayable w strokes.list (record { can = can; coding = is_coding; size = size; room = fire.room }) (strokes-lie p h coding tall strokes fire)) in
-    let reads = ap (λ (j : CommandList). ink_rasters ink j.entries) (read coding job spoken) in
-    omega (arith, reads, entries-rasters ink Black coding.code 0 job, page-rasters w strokes.list ink)
+    let job : List Spoken = page_commands p h.width h.height coding.c (tall * row_units p) strokes in
+    let reads = ap (λ (j : CommandList). ink_rasters ink j.entries) (read coding job (commands-spoken p h coding tall strokes can is_coding size fire)) in
+    omega (arith, reads, entries-rasters ink Black coding.code 0 job, page-rasters (layout_of p h coding strokes.above tall) strokes.list ink)
 
 -- A page takes no more rasters of an ink than passes.
 pub page-has : (p : Printer) (k : Table) (page : Page) → CanPrint p → IsPage (wanted_by p) page → HasPasses p k page
+unfolding page_bytes halftone_bytes
 page-has p k page can is = record {
   rasters = λ ink.
       let h : Halftone = halftone page p k in
-      let job : List Spoken = page_job p k page in
       let passes : ℕ = pass_count p.nozzles p.pitch h.height in
-      let reads = ap (λ (j : CommandList). ink_rasters ink j.entries) (ap commands (page_bytes-are p k page) ∙ read page_coding job (job-spoken p k page can is)) in
       let many : length (weave p h).list ≡ passes = length-map (count_from 0 passes) (pass_stroke p h) ∙ count_from-len 0 passes in
-      omega (arith, reads, entries-rasters ink Black page_coding.code 0 job, page-rasters (layout_of p h page_coding (head_rows p) page.form.height) (weave p h).list ink,
+      omega (arith, strokes-have p h page_coding (weave p h) page.form.height can canonical-coding (page-sized p k page can is) (weave-fires p h can) ink,
           count_by-le-length (fires_with ink) (weave p h).list, many);
 }
 

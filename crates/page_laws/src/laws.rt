@@ -9,6 +9,7 @@ ghost use Rattle.page_definitions.specs.PageBytes.{halftone_bytes, page_bytes, w
 ghost use Rattle.page_definitions.specs.Printing.{GivesSheet, HasPasses, HavePasses, Prints};
 ghost use Rattle.page_definitions.specs.Strokes.{Fires, Strokes, has_dot, strokes_bytes};
 ghost use Rattle.page_laws.specs.Sized.{Sized};
+ghost use Rattle.page_laws.specs.Stroked.{FirePages, stroked_bytes};
 ghost use Rattle.printer_definitions.specs.Inks.{inks_of, same_ink};
 ghost use Rattle.printer_definitions.specs.Printer.{Printer, row_units};
 ghost use Rattle.printer_definitions.specs.declared.inks.Ink.{Ink};
@@ -49,6 +50,14 @@ pub fn rows_are_coded()
 pub fn pages_are_printed()
     ensures { (p : Printer) (k : Table) (pages : List Page) → CanPrint p → ArePages p pages
         → Prints p k pages (flat_map (λ page. page_bytes page p k) pages) }
+{}
+
+/// So are the bytes of pages that are printed by other strokes, and with other codes of their rows: by strokes that are
+/// chosen for each halftone, where they print the halftone of each page that the printer takes.
+pub fn stroked_pages_are_printed()
+    ensures { (coding : Coding) (strokes : Halftone → Strokes) (p : Printer) (k : Table) (pages : List Page)
+        → CanPrint p → IsCoding coding → FirePages p k strokes → ArePages p pages
+        → Prints p k pages (flat_map (λ page. stroked_bytes coding strokes page p k) pages) }
 {}
 
 /// Strokes that print a halftone take no more rasters of an ink than there are strokes with a dot of it.

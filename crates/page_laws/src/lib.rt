@@ -15,7 +15,8 @@ pub use examples::{
 };
 pub use laws::{
     counts_of_planes, page_is_short, pages_are_printed, pages_have_passes, rows_are_coded,
-    strokes_are_printed, strokes_have_rasters, wanted_are_distinct, weave_fires,
+    stroked_pages_are_printed, strokes_are_printed, strokes_have_rasters, wanted_are_distinct,
+    weave_fires,
 };
 pub use shingles::{
     made_up_rows_are_printed, rows_of_a_dead_nozzle_are_made_up, shingled_rows_are_printed,
