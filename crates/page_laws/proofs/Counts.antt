@@ -44,6 +44,18 @@ sum-one f one n (suc many) from below others =
       | inr apart ↦ omega (arith, sum_by-cons f n (count_from (n + 1) many), others n apart, sum-one f one (n + 1) many (omega (arith, apart)) (omega arith) others)
     ]
 
+-- ---- numbers that count where a test holds
+
+-- a number that is 0 counts 0
+pub if-none : (b : Bool) (n : ℕ) → n ≡ 0 → cond b n 0 ≡ 0
+if-none true n e = e
+if-none false n e = refl
+
+-- the sum of two such numbers
+pub if-plus : (b : Bool) (m n : ℕ) → cond b m 0 + cond b n 0 ≡ cond b (m + n) 0
+if-plus true m n = refl
+if-plus false m n = omega arith
+
 -- ---- counts
 
 pub count-append : {X : Type 0} (test : X → Bool) (xs ys : List X) → count_by test (xs ++ ys) ≡ count_by test xs + count_by test ys

@@ -20,13 +20,13 @@ use Rattle.page_laws.proofs.Running.{Comes, Goes, IsLayout, Layout, comes-as, co
 
 -- A stroke that fires within the window: its rows are whole, and the head stands above the window's end.
 pub record Lies (w : Layout) (stroke : Stroke) : Type 0 where
-  pub whole : (ink : Ink) → IsWhole w.printer.nozzles w.width (stroke.rows ink)
-  pub on_window : (ink : Ink) → IsOnWindow w.printer.pitch w.above w.height stroke.start (stroke.rows ink)
-  pub low : stroke.start < w.above + w.height
+  pub whole : (ink : Ink) → IsWhole w.printer.nozzles w.halftone.width (stroke.rows ink)
+  pub on_window : (ink : Ink) → IsOnWindow w.printer.pitch w.above w.halftone.height stroke.start (stroke.rows ink)
+  pub low : stroke.start < w.above + w.halftone.height
 
 -- the head of the page's rasters
 abbrev pub head_of : Layout → RasterHead
-head_of w = raster_head w.printer w.width w.coding.c
+head_of w = raster_head w.printer w.halftone.width w.coding.c
 
 -- the dots of an ink of a stroke, and those of its inks
 abbrev pub ink_fired : Layout → Stroke → Ink → List Dot
@@ -34,7 +34,7 @@ ink_fired w stroke ink = rows_fired w.printer w.above ink stroke.start (stroke.r
 
 -- the commands of an ink of a stroke
 abbrev pub fires_ink : Layout → Stroke → Ink → List Spoken
-fires_ink w stroke ink = ink_commands w.printer w.width w.coding.c stroke ink
+fires_ink w stroke ink = ink_commands w.printer w.halftone.width w.coding.c stroke ink
 
 -- ---- one ink
 
@@ -46,7 +46,7 @@ new-dots w stroke ink is lies =
     let rows : List (List Bool) = stroke.rows ink in
     ap (λ m. rows_dots m (head_of w) ink 0 y (flat_map packed rows)) (sym (lies.whole ink).many)
     ∙ rows_dots-fired (head_of w) ink y rows (lies.whole ink).wide
-    ∙ rows-are w.printer w.above w.height ink stroke.start y rows is.can is.room (lies.on_window ink) (place-is w stroke.start is)
+    ∙ rows-are w.printer w.above w.halftone.height ink stroke.start y rows is.can is.room (lies.on_window ink) (place-is w stroke.start is)
 
 neither : (a b : Bool) → a ≡ false → b ≡ false → (a || b) ≡ false
 neither true b e f = e
@@ -68,19 +68,19 @@ raster-accepted w stroke ink columns dots is lies once =
     let same : fired ≡ wanted = new-dots w stroke ink is lies in
     let across : ℕ = column_step w.printer in
     let zeros = zero-over across (column_step-some w.printer is.can) in
-    let bottom_is : bottom ≡ (w.printer.top + w.height) * row_step w.printer =
-    (let grouped : (w.printer.top + w.height) * row_units w.printer * 5 ≡ (w.printer.top + w.height) * (row_units w.printer * 5) = omega arith in
-    grouped ∙ ap (λ u. (w.printer.top + w.height) * u) (row_units-is w.printer is.can)) in
+    let bottom_is : bottom ≡ (w.printer.top + w.halftone.height) * row_step w.printer =
+    (let grouped : (w.printer.top + w.halftone.height) * row_units w.printer * 5 ≡ (w.printer.top + w.halftone.height) * (row_units w.printer * 5) = omega arith in
+    grouped ∙ ap (λ u. (w.printer.top + w.halftone.height) * u) (row_units-is w.printer is.can)) in
     let at_row : at % row_step w.printer ≡ 0 =
     ap (λ n. n % row_step w.printer) (place-is w stroke.start is) ∙ on_grid (w.printer.top - w.above + stroke.start) (row_step w.printer) (row_step-some w.printer is.can) in
     let density : is_other_density w.printer (head_of w) ≡ false =
     neither _ _ (ap not (eq-eqb across across refl)) (ap not (eq-eqb (nozzle_step w.printer) (nozzle_step w.printer) refl)) in
     let nozzles : not (w.printer.nozzles == w.printer.nozzles) ≡ false = ap not (eq-eqb w.printer.nozzles w.printer.nozzles refl) in
     let grid : is_off_grid w.printer s ≡ false = neither _ _ (ap not (eq-eqb _ _ zeros.rest)) (ap not (eq-eqb _ _ at_row)) in
-    let columns_fit : nat_lt 8191 (0 / across + w.width) ≡ false = le-ltb _ _ (omega (arith, zeros.over, is.most_width)) in
+    let columns_fit : nat_lt 8191 (0 / across + w.halftone.width) ≡ false = le-ltb _ _ (omega (arith, zeros.over, is.size.most_width)) in
     let rows_fit : list_any (λ d. nat_le bottom d.y) fired ≡ false =
     ap (list_any (λ d. nat_le bottom d.y)) same
-    ∙ on_sheet w.printer w.above w.height ink stroke.start bottom (stroke.rows ink) is.can (lies.on_window ink) bottom_is in
+    ∙ on_sheet w.printer w.above w.halftone.height ink stroke.start bottom (stroke.rows ink) is.can (lies.on_window ink) bottom_is in
     let sheet : is_off_sheet w.printer s (head_of w) fired ≡ false = neither _ _ columns_fit rows_fit in
     let over : overprints dots fired ≡ false = ap (overprints dots) same ∙ not_twice dots wanted once in
     let faults : Bool → Bool → Bool → Bool → Bool → Option EmuFault = λ density nozzles grid sheet over.

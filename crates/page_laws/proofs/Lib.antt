@@ -8,3 +8,9 @@ pub mod Firing
 pub mod Pages
 pub mod Spelled
 pub mod Printed
+pub mod Hits
+pub mod Weaving
+pub mod Headline
+pub mod Rasters
+pub mod Planes
+pub mod Lengths

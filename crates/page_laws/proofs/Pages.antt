@@ -7,11 +7,11 @@ use Rattle.printer_definitions.specs.declared.inks.Ink.TheVariants.{Black}
 use Rattle.printer_definitions.specs.Inks.{inks_of}
 use Rattle.printer_definitions.specs.Printer.{Printer, row_units}
 use Rattle.escp2_definitions.specs.declared.command.Command.TheVariants as c
-use Rattle.escp2_definitions.specs.Machine.{Dot, Machine, Sheet, execute_from, start, with_sheets}
+use Rattle.escp2_definitions.specs.Machine.{Dot, Machine, Sheet, execute_from, given, start, with_sheets}
 use Rattle.page_definitions.specs.Strokes.{IsOnWindow, IsRising, IsWhole, Spoken, Stroke, down_by, fires, has_dot, rows_fired, say, stroke_fired, strokes_commands}
 use Rattle.page_laws.proofs.Once.{Once, once-front, once-regroup}
 use Rattle.page_laws.proofs.Fired.{blank-rows, or-false}
-use Rattle.page_laws.proofs.Running.{Goes, IsLayout, Layout, begins, down-run, entries, goes-as, goes-here, goes-then, one, one-runs, paused, prologue-run}
+use Rattle.page_laws.proofs.Running.{Comes, Goes, IsLayout, Layout, begins, comes-then, down-run, entries, goes-as, goes-here, goes-then, one, one-runs, paused, prologue-run}
 use Rattle.page_laws.proofs.Firing.{Lies, fires_ink, ink_fired, inks-run}
 
 -- ---- the strokes that have a dot
@@ -44,8 +44,8 @@ begins-low p above height stroke on e =
     omega (arith, ((on ink.0).row row.0 row.1).1)
 
 -- the strokes with a dot lie on the window
-pub all-lie : (w : Layout) (strokes : List Stroke) → AllByRecursion (λ stroke. (ink : Ink) → IsWhole w.printer.nozzles w.width (stroke.rows ink)) strokes
-    → AllByRecursion (λ stroke. (ink : Ink) → IsOnWindow w.printer.pitch w.above w.height stroke.start (stroke.rows ink)) strokes
+pub all-lie : (w : Layout) (strokes : List Stroke) → AllByRecursion (λ stroke. (ink : Ink) → IsWhole w.printer.nozzles w.halftone.width (stroke.rows ink)) strokes
+    → AllByRecursion (λ stroke. (ink : Ink) → IsOnWindow w.printer.pitch w.above w.halftone.height stroke.start (stroke.rows ink)) strokes
     → AllByRecursion (Lies w) (filter (fires w.printer) strokes)
 all-lie w [] whole on = tt
 all-lie w (stroke ∷ strokes) whole on = by_stroke (fires w.printer stroke) refl (all-lie w strokes whole.1 on.1)
@@ -53,7 +53,7 @@ all-lie w (stroke ∷ strokes) whole on = by_stroke (fires w.printer stroke) ref
     by_stroke : (b : Bool) → fires w.printer stroke ≡ b → AllByRecursion (Lies w) (filter (fires w.printer) strokes)
         → AllByRecursion (Lies w) (cond b (stroke ∷ filter (fires w.printer) strokes) (filter (fires w.printer) strokes))
     by_stroke true e rest =
-        (record { whole = whole.0; on_window = on.0; low = begins-low w.printer w.above w.height stroke on.0 e }, rest)
+        (record { whole = whole.0; on_window = on.0; low = begins-low w.printer w.above w.halftone.height stroke on.0 e }, rest)
     by_stroke false e rest = rest
 
 -- strokes that rise from a row rise from one above it
@@ -98,7 +98,7 @@ abbrev pub strokes_dots : Layout → List Stroke → List Dot
 strokes_dots w strokes = flat_map (stroke_fired w.printer w.above) strokes
 
 abbrev pub fires_strokes : Layout → ℕ → List Stroke → List Spoken
-fires_strokes w last strokes = strokes_commands w.printer w.width w.coding.c last strokes
+fires_strokes w last strokes = strokes_commands w.printer w.halftone.width w.coding.c last strokes
 
 -- strokes fire their dots, one after another
 pub strokes-run : (w : Layout) (strokes : List Stroke) (last : ℕ) (dots : List Dot) (job : List Spoken) → IsLayout w
@@ -130,30 +130,40 @@ strokes-run w (stroke ∷ strokes) last dots job is rising lie once =
 abbrev pub page_says : Layout → List Stroke → List Spoken
 page_says w strokes = begins w ++ (fires_strokes w 0 (filter (fires w.printer) strokes) ++ (say c.Eject ∷ say c.Init ∷ []))
 
+-- A job that comes to the end of a page gives the sheet in hand, and leaves the machine as it was at the start.
+ends : (w : Layout) (m : Machine) (first : List Spoken) (row across columns : ℕ) (ink : Ink) (dots : List Dot) (job : List Spoken) (at : ℕ)
+    → Comes w m first (paused w row across columns ink dots) (say c.Eject ∷ say c.Init ∷ job)
+    → (sheet : Sheet) × (at' : ℕ) × (sheet.dots ≡ dots)
+    × (execute_from w.printer m (entries w.coding.code at first) ≡ with_sheets (sheet ∷ []) (execute_from w.printer start (entries w.coding.code at' job)))
+ends w m first row across columns ink dots job at comes =
+    let last : Machine = paused w row across columns ink dots in
+    let empty : Machine = record last { columns = 1; dots = []; down = 0; across = 0 } in
+    let there = comes at in
+    let ejected = one-runs w last c.Eject [] (say c.Init ∷ job) there.0 refl in
+    let reset = one w empty c.Init [] job refl refl ejected.0 in
+    (_, reset.0, refl, there.1 ∙ ejected.1 ∙ ap (with_sheets (given w.printer last c.Eject)) reset.1)
+
 -- The job of a page gives one sheet, with the dots that its strokes fire, and leaves the machine as it was at the start.
 pub page-run : (w : Layout) (strokes : List Stroke) (m : Machine) (job : List Spoken) (at : ℕ) → IsLayout w → m.dots ≡ []
     → IsRising 0 strokes → AllByRecursion (Lies w) (filter (fires w.printer) strokes) → Once (strokes_dots w strokes)
     → (sheet : Sheet) × (at' : ℕ) × (sheet.dots ≡ strokes_dots w strokes)
-    × (execute_from w.printer m (entries w at (page_says w strokes ++ job)) ≡ with_sheets (sheet ∷ []) (execute_from w.printer start (entries w at' job)))
+    × (execute_from w.printer m (entries w.coding.code at (page_says w strokes ++ job)) ≡ with_sheets (sheet ∷ []) (execute_from w.printer start (entries w.coding.code at' job)))
 page-run w strokes m job at is blank rising lie once =
-    let p : Printer = w.printer in
-    let fired : List Stroke = filter (fires p) strokes in
+    let fired : List Stroke = filter (fires w.printer) strokes in
     let dots : List Dot = strokes_dots w fired in
     let tail : List Spoken = say c.Eject ∷ say c.Init ∷ job in
     let fire : List Spoken = fires_strokes w 0 fired in
     let P : List Dot → Type 0 = λ ds. Once ds in
-    let begun = prologue-run w m (fire ++ tail) is blank at in
-    let passed = strokes-run w fired 0 [] tail is (rising-some (fires p) 0 strokes rising) lie (subst P (sym (strokes-all p w.above strokes)) once) in
+    let passed = strokes-run w fired 0 [] tail is (rising-some (fires w.printer) 0 strokes rising) lie (subst P (sym (strokes-all w.printer w.above strokes)) once) in
     let gone = passed.1 0 1 Black in
-    let ended = gone.3 begun.0 in
     let last : Machine = paused w passed.0 gone.0 gone.1 gone.2 dots in
-    let ejected = one-runs w last c.Eject [] (say c.Init ∷ job) ended.0 refl in
-    let empty : Machine = record last { columns = 1; dots = []; down = 0; across = 0 } in
-    let reset = one w empty c.Init [] job refl refl ejected.0 in
+    let comes : Comes w m (begins w ++ (fire ++ tail)) last tail =
+    comes-then w m (paused w 0 0 1 Black []) last (begins w ++ (fire ++ tail)) (fire ++ tail) tail (prologue-run w m (fire ++ tail) is blank) gone.3 in
+    let ended = ends w m (begins w ++ (fire ++ tail)) passed.0 gone.0 gone.1 gone.2 dots job at comes in
     let regrouped : (begins w ++ (fire ++ (say c.Eject ∷ say c.Init ∷ []))) ++ job ≡ begins w ++ (fire ++ tail) =
     append_assoc (begins w) (fire ++ (say c.Eject ∷ say c.Init ∷ [])) job ∙ ap (λ j. begins w ++ j) (append_assoc fire (say c.Eject ∷ say c.Init ∷ []) job) in (
-      _,
-      reset.0,
-      strokes-all p w.above strokes,
-      ap (λ j. execute_from p m (entries w at j)) regrouped ∙ begun.1 ∙ ended.1 ∙ ejected.1 ∙ ap (with_sheets (_ ∷ [])) reset.1,
+      ended.0,
+      ended.1,
+      ended.2 ∙ strokes-all w.printer w.above strokes,
+      ap (λ j. execute_from w.printer m (entries w.coding.code at j)) regrouped ∙ ended.3,
     )

@@ -18,43 +18,44 @@ use Rattle.page_laws.proofs.Once.{exactly-once}
 use Rattle.page_laws.proofs.Running.{IsLayout, Layout, entries, said}
 use Rattle.page_laws.proofs.Firing.{Lies}
 use Rattle.page_laws.proofs.Pages.{all-lie, page-run, page_says}
-use Rattle.page_laws.proofs.Spelled.{AllSpoken, page-spoken}
+use Rattle.page_laws.proofs.Spelled.{AllSayable, AllSpoken, page-sayable, sayable-spoken}
 
 -- ---- the page of a halftone
 
 abbrev pub layout_of : Printer → Halftone → Coding → ℕ → ℕ → Layout
-layout_of p h coding above tall = record { printer = p; coding = coding; above = above; width = h.width; height = h.height; tall = tall }
-
--- a halftone of this size can be printed
-pub is-layout : (p : Printer) (h : Halftone) (coding : Coding) (above tall : ℕ) → CanPrint p → Sized p h tall → above ≤ p.top → IsLayout (layout_of p h coding above tall)
-is-layout p h coding above tall can size room = record {
-  can = can;
-  some_width = size.some_width;
-  most_width = size.most_width;
-  some_height = size.some_height;
-  low = size.low;
-  short = size.short;
-  room = room;
-}
+layout_of p h coding above tall = record { printer = p; coding = coding; above = above; halftone = h; tall = tall }
 
 -- its strokes lie on its window
 pub strokes-lie : (p : Printer) (h : Halftone) (coding : Coding) (tall : ℕ) (strokes : Strokes) → Fires p h strokes
     → AllByRecursion (Lies (layout_of p h coding strokes.above tall)) (filter (fires p) strokes.list)
 strokes-lie p h coding tall strokes fire = all-lie (layout_of p h coding strokes.above tall) strokes.list fire.whole fire.on_window
 
+-- Each command of strokes that print a halftone is in the table.
+pub commands-sayable : (p : Printer) (h : Halftone) (coding : Coding) (tall : ℕ) (strokes : Strokes) → CanPrint p → IsCoding coding → Sized p h tall → Fires p h strokes
+    → AllSayable coding (page_commands p h.width h.height coding.c (tall * row_units p) strokes)
+commands-sayable p h coding tall strokes can is_coding size fire =
+    page-sayable (layout_of p h coding strokes.above tall) strokes.list (record { can = can; coding = is_coding; size = size; room = fire.room })
+    (strokes-lie p h coding tall strokes fire)
+
+-- It is spelled by its bytes.
+pub commands-spoken : (p : Printer) (h : Halftone) (coding : Coding) (tall : ℕ) (strokes : Strokes) → CanPrint p → IsCoding coding → Sized p h tall → Fires p h strokes
+    → AllSpoken coding (page_commands p h.width h.height coding.c (tall * row_units p) strokes)
+commands-spoken p h coding tall strokes can is_coding size fire =
+    sayable-spoken coding (page_commands p h.width h.height coding.c (tall * row_units p) strokes) is_coding (commands-sayable p h coding tall strokes can is_coding size fire)
+
 -- ---- the bytes are read as the commands
 
-spoken-said : (w : Layout) (job : List Spoken) → AllSpoken w job → AllSaid (map (said w.coding.code) job)
-spoken-said w [] all = tt
-spoken-said w (s ∷ job) all = (all.0, spoken-said w job all.1)
+spoken-said : (coding : Coding) (job : List Spoken) → AllSpoken coding job → AllSaid (map (said coding.code) job)
+spoken-said coding [] all = tt
+spoken-said coding (s ∷ job) all = (all.0, spoken-said coding job all.1)
 
-said_bytes-is : (w : Layout) (job : List Spoken) → bytes_of w.coding.code job ≡ said_bytes (map (said w.coding.code) job)
-said_bytes-is w [] = refl
-said_bytes-is w (s ∷ job) = ap (λ bs. written w.coding.code s.command s.rows ++ bs) (said_bytes-is w job)
+said_bytes-is : (code : List ℕ → List ℕ) (job : List Spoken) → bytes_of code job ≡ said_bytes (map (said code) job)
+said_bytes-is code [] = refl
+said_bytes-is code (s ∷ job) = ap (λ bs. written code s.command s.rows ++ bs) (said_bytes-is code job)
 
 -- what the bytes of commands say
-pub read : (w : Layout) (job : List Spoken) → AllSpoken w job → commands (bytes_of w.coding.code job) ≡ record { entries = entries w 0 job; end = Whole }
-read w job all = ap commands (said_bytes-is w job) ∙ commands-said (map (said w.coding.code) job) (spoken-said w job all)
+pub read : (coding : Coding) (job : List Spoken) → AllSpoken coding job → commands (bytes_of coding.code job) ≡ record { entries = entries coding.code 0 job; end = Whole }
+read coding job all = ap commands (said_bytes-is coding.code job) ∙ commands-said (map (said coding.code) job) (spoken-said coding job all)
 
 -- the bytes of two jobs, one after the other
 pub bytes-append : (code : List ℕ → List ℕ) (xs ys : List Spoken) → bytes_of code (xs ++ ys) ≡ bytes_of code xs ++ bytes_of code ys
@@ -70,12 +71,12 @@ pub strokes-print : (p : Printer) (h : Halftone) (coding : Coding) (strokes : St
 unfolding execute_from
 strokes-print p h coding strokes tall can is_coding size fire =
     let w : Layout = layout_of p h coding strokes.above tall in
-    let is : IsLayout w = is-layout p h coding strokes.above tall can size fire.room in
+    let is : IsLayout w = record { can = can; coding = is_coding; size = size; room = fire.room } in
     let lie : AllByRecursion (Lies w) (filter (fires p) strokes.list) = strokes-lie p h coding tall strokes fire in
-    let job : List Spoken = page_says w strokes.list in
-    let list : CommandList = record { entries = entries w 0 job; end = Whole } in
+    let job : List Spoken = page_commands p h.width h.height coding.c (tall * row_units p) strokes in
+    let list : CommandList = record { entries = entries coding.code 0 job; end = Whole } in
     let bytes : List ℕ = strokes_bytes coding p h.width h.height (tall * row_units p) strokes in
-    let reads : commands bytes ≡ list = read w job (page-spoken w strokes.list is is_coding lie) in
+    let reads : commands bytes ≡ list = read coding job (commands-spoken p h coding tall strokes can is_coding size fire) in
     record {
       whole = ap (λ (j : CommandList). j.end) reads;
       gives = λ m blank.
@@ -85,7 +86,7 @@ strokes-print p h coding strokes tall can is_coding size fire =
           let E : List Dot → Type 0 = λ ds. Exactly ds (dots_wanted p h) in
           record {
             sheet = sheet;
-            is = ap (λ (j : CommandList). execute_from p m j.entries) reads ∙ ap (λ j. execute_from p m (entries w 0 j)) (sym (append-nil job)) ∙ run.3;
+            is = ap (λ (j : CommandList). execute_from p m j.entries) reads ∙ ap (λ j. execute_from p m (entries coding.code 0 j)) (sym (append-nil job)) ∙ run.3;
             exactly = subst E (sym run.2) fire.once;
           };
     }

@@ -11,21 +11,22 @@ use Rattle.escp2_definitions.specs.declared.stops.EmuFault.{EmuFault}
 use Rattle.escp2_definitions.specs.declared.stops.EmuFault.TheVariants.{NoUnit, NoMargins, Backward, OffSheet}
 use Rattle.escp2_definitions.specs.Commands.{Entry}
 use Rattle.escp2_definitions.specs.Machine.{Dot, Machine, after, execute_from, first_fault, given, refusals, refuse, start, with_sheets}
-use Rattle.escp2_definitions.specs.Written.{Coding, written}
+use Rattle.escp2_definitions.specs.Written.{Coding, IsCoding, written}
 use Rattle.escp2_laws.specs.Said.{Said, entries_of}
 use Rattle.page_definitions.specs.Strokes.{Spoken, down_by, prologue, say}
+use Rattle.page_definitions.specs.Dots.{Halftone}
+use Rattle.page_laws.specs.Sized.{Sized}
 use Rattle.separation_definitions.specs.CanPrint.{CanPrint}
-use Rattle.page_laws.proofs.Numbers.{row_units-is}
+use Rattle.page_laws.proofs.Numbers.{margins-fit, row_units-is}
 
 -- ---- a page
 
--- A window on a sheet of so many rows, how far above it the head begins, and how the rows of its rasters are written.
+-- A halftone on a sheet of so many rows, how far above its window the head begins, and how the rows of its rasters are written.
 pub record Layout : Type 0 where
   pub printer : Printer
   pub coding : Coding
   pub above : ℕ
-  pub width : ℕ
-  pub height : ℕ
+  pub halftone : Halftone
   pub tall : ℕ
 
 -- the sheet's length in units
@@ -35,11 +36,8 @@ len_of w = w.tall * row_units w.printer
 -- The page can be printed.
 pub record IsLayout (w : Layout) : Type 0 where
   pub can : CanPrint w.printer
-  pub some_width : 1 ≤ w.width
-  pub most_width : w.width ≤ 8191
-  pub some_height : 1 ≤ w.height
-  pub low : w.printer.top + w.height ≤ w.tall
-  pub short : len_of w ≤ 15840
+  pub coding : IsCoding w.coding
+  pub size : Sized w.printer w.halftone w.tall
   pub room : w.above ≤ w.printer.top
 
 -- the margins in units, the top one where the head begins
@@ -47,11 +45,11 @@ abbrev pub first_of : Layout → ℕ
 first_of w = (w.printer.top - w.above) * row_units w.printer
 
 abbrev pub last_of : Layout → ℕ
-last_of w = (w.printer.top + w.height) * row_units w.printer
+last_of w = (w.printer.top + w.halftone.height) * row_units w.printer
 
 -- the prologue of the page
 abbrev pub begins : Layout → List Spoken
-begins w = prologue w.printer w.above w.height (len_of w)
+begins w = prologue w.printer w.above w.halftone.height (len_of w)
 
 -- ---- one command
 
@@ -59,12 +57,12 @@ begins w = prologue w.printer w.above w.height (len_of w)
 abbrev pub said : (List ℕ → List ℕ) → Spoken → Said
 said code s = record { command = s.command; rows = s.rows; bytes = written code s.command s.rows }
 
-abbrev pub entries : Layout → ℕ → List Spoken → List Entry
-entries w at job = entries_of at (map (said w.coding.code) job)
+abbrev pub entries : (List ℕ → List ℕ) → ℕ → List Spoken → List Entry
+entries code at job = entries_of at (map (said code) job)
 
 -- From one state the machine comes to another with the rest of a job, and gives no sheet on the way.
 abbrev pub Comes : Layout → Machine → List Spoken → Machine → List Spoken → Type 0
-Comes w s job s' job' = (at : ℕ) → (at' : ℕ) × (execute_from w.printer s (entries w at job) ≡ execute_from w.printer s' (entries w at' job'))
+Comes w s job s' job' = (at : ℕ) → (at' : ℕ) × (execute_from w.printer s (entries w.coding.code at job) ≡ execute_from w.printer s' (entries w.coding.code at' job'))
 
 pub comes-here : (w : Layout) (s : Machine) (job : List Spoken) → Comes w s job s job
 comes-here w s job at = (at, refl)
@@ -75,17 +73,17 @@ comes-then w s1 s2 s3 job1 job2 job3 f g at = let a = f at in let b = g a.0 in (
 -- the same states and jobs by other names
 pub comes-as : (w : Layout) (s1 s2 t2 : Machine) (job1 job job2 : List Spoken) → job1 ≡ job → s2 ≡ t2 → Comes w s1 job s2 job2 → Comes w s1 job1 t2 job2
 comes-as w s1 s2 t2 job1 job job2 e f comes at =
-    let a = comes at in (a.0, ap (λ j. execute_from w.printer s1 (entries w at j)) e ∙ a.1 ∙ ap (λ s. execute_from w.printer s (entries w a.0 job2)) f)
+    let a = comes at in (a.0, ap (λ j. execute_from w.printer s1 (entries w.coding.code at j)) e ∙ a.1 ∙ ap (λ s. execute_from w.printer s (entries w.coding.code a.0 job2)) f)
 
 -- a command that is accepted
 pub one-runs : (w : Layout) (s : Machine) (command : Command) (rows : List ℕ) (job : List Spoken) (at : ℕ)
     → first_fault (refusals w.printer s command rows) ≡ None
-    → (at' : ℕ) × (execute_from w.printer s (entries w at (record { command = command; rows = rows } ∷ job))
-    ≡ with_sheets (given w.printer s command) (execute_from w.printer (after w.printer s command rows) (entries w at' job)))
+    → (at' : ℕ) × (execute_from w.printer s (entries w.coding.code at (record { command = command; rows = rows } ∷ job))
+    ≡ with_sheets (given w.printer s command) (execute_from w.printer (after w.printer s command rows) (entries w.coding.code at' job)))
 unfolding execute_from
 one-runs w s command rows job at accepted =
     let next : ℕ = at + length (written w.coding.code command rows) in
-    let rest : List Entry = entries w next job in (
+    let rest : List Entry = entries w.coding.code next job in (
       next,
       ap (λ (found : Option EmuFault). elim found [
         | Some fault ↦ record { sheets = []; refused = Some (record { at = at; fault = fault }) }
@@ -99,7 +97,7 @@ pub one : (w : Layout) (s : Machine) (command : Command) (rows : List ℕ) (job 
     → Comes w s (record { command = command; rows = rows } ∷ job) (after w.printer s command rows) job
 one w s command rows job accepted no_sheet at =
     let run = one-runs w s command rows job at accepted in
-    (run.0, run.1 ∙ ap (λ sheets. with_sheets sheets (execute_from w.printer (after w.printer s command rows) (entries w run.0 job))) no_sheet)
+    (run.0, run.1 ∙ ap (λ sheets. with_sheets sheets (execute_from w.printer (after w.printer s command rows) (entries w.coding.code run.0 job))) no_sheet)
 
 -- ---- the states of a page
 
@@ -158,13 +156,6 @@ goes-as w row row' dots dots' ends job1 job job2 e f goes across columns ink =
 
 -- ---- the prologue
 
--- the margins are on the sheet
-pub last-fits : (w : Layout) → IsLayout w → last_of w ≤ len_of w
-last-fits w is = mul-le-mul_right (row_units w.printer) is.low
-
-pub first-fits : (w : Layout) → IsLayout w → first_of w ≤ len_of w
-first-fits w is = mul-le-mul_right (row_units w.printer) (omega (arith, is.low))
-
 -- From a machine whose sheet has no dot, the prologue leads to the head's first place.
 pub prologue-run : (w : Layout) (m : Machine) (job : List Spoken) → IsLayout w → m.dots ≡ [] → Comes w m (begins w ++ job) (paused w 0 0 1 Black []) job
 prologue-run w m job is blank =
@@ -175,10 +166,12 @@ prologue-run w m job is blank =
     let s2 : Machine = record s1 { unit = Some 5 } in
     let s3 : Machine = record s2 { page = Some (len * 5) } in
     let s4 : Machine = record s3 { margins = Some (record { top = first * 5; bottom = last * 5 }) } in
+    let fits_sheet = margins-fit w.printer w.halftone w.above w.tall is.can is.size in
+    let on_sheet : last ≤ len = mul-le-mul_right (row_units w.printer) is.size.low in
     let no_dots : nat_lt 0 (length m.dots) ≡ false = ap (λ ds. nat_lt 0 (length ds)) blank in
-    let length_fits : nat_lt 79200 (len * 5) ≡ false = le-ltb _ _ (omega (arith, is.short)) in
-    let margins_fit : nat_lt (len * 5) (last * 5) ≡ false = le-ltb _ _ (omega (arith, last-fits w is)) in
-    let top_fits : nat_lt (len * 5) (first * 5 + 0 * 5) ≡ false = le-ltb _ _ (omega (arith, first-fits w is)) in
+    let length_fits : nat_lt 79200 (len * 5) ≡ false = le-ltb _ _ (omega (arith, is.size.short)) in
+    let margins_fit : nat_lt (len * 5) (last * 5) ≡ false = le-ltb _ _ (omega (arith, on_sheet)) in
+    let top_fits : nat_lt (len * 5) (first * 5 + 0 * 5) ≡ false = le-ltb _ _ (omega (arith, on_sheet, fits_sheet.0)) in
     let j8 : List Spoken = job in
     let j7 : List Spoken = say (c.DownTo 0) ∷ j8 in
     let j6 : List Spoken = say (c.Margins first last) ∷ j7 in
@@ -213,7 +206,7 @@ place-is w row is =
     grouped ∙ ap (λ s. (a + row) * s) (row_units-is w.printer is.can)
 
 -- a step from one row down to another that is on the sheet
-pub down-run : (w : Layout) (last row : ℕ) (dots : List Dot) (job : List Spoken) → IsLayout w → last ≤ row → row < w.above + w.height
+pub down-run : (w : Layout) (last row : ℕ) (dots : List Dot) (job : List Spoken) → IsLayout w → last ≤ row → row < w.above + w.halftone.height
     → Goes w last dots (down_by ((row - last) * row_units w.printer) ++ job) row dots job
 down-run w last row dots job is le low = by_units ((row - last) * row_units w.printer) refl
   where
@@ -228,7 +221,7 @@ down-run w last row dots job is le low = by_units ((row - last) * row_units w.pr
 
     fits : first_of w * 5 + row * u * 5 ≤ len_of w * 5
     fits =
-        let under : (w.printer.top - w.above + row) * u ≤ w.tall * u = mul-le-mul_right u (omega (arith, is.room, is.low)) in
+        let under : (w.printer.top - w.above + row) * u ≤ w.tall * u = mul-le-mul_right u (omega (arith, is.room, is.size.low)) in
         omega (arith, under)
 
     by_units : (n : ℕ) → (row - last) * u ≡ n → Goes w last dots (down_by n ++ job) row dots job
