@@ -2,14 +2,17 @@
 //! any length, and written.
 #![tactic(auto)]
 
+mod answers;
 mod buffer;
 mod laws;
 mod reader;
+mod states;
 mod unit;
 mod writer;
 
 pub use laws::canonical_spells;
-pub use reader::{Fed, Fill, LineReader};
+pub use answers::{Fed, Fill};
+pub use reader::LineReader;
 pub use pwg_definitions::{Kind, LineFault, PageForm};
 pub use writer::code_line;
 
