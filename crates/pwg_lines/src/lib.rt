@@ -10,10 +10,10 @@ mod states;
 mod unit;
 mod writer;
 
-pub use laws::canonical_spells;
 pub use answers::{Fed, Fill};
-pub use reader::LineReader;
+pub use laws::canonical_spells;
 pub use pwg_definitions::{Kind, LineFault, PageForm};
+pub use reader::LineReader;
 pub use writer::code_line;
 
 #[cfg(test)]

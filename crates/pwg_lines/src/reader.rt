@@ -9,8 +9,8 @@ mod steps;
 use crate::answers::{Fed, Fill};
 use crate::states::State;
 use crate::unit::unit_of;
-use std::alloc::Global;
 use pwg_definitions::PageForm;
+use std::alloc::Global;
 use weave_base::Memory;
 
 /// Reads the groups of the lines of one page from pieces of any length.
