@@ -1,5 +1,5 @@
 -- What holds of each kind of pixel.
-use Rattle.std.proofs.Common.{◌≡◌, ℕ, ◌+◌, ◌*◌, ◌<◌, ◌≤◌, ◌^◌, List, length, Some, refl, arith, lit<}
+use Rattle.std.proofs.Common.{◌≡◌, ℕ, ◌*◌, ◌<◌, ◌≤◌, ◌^◌, length, Some, refl, arith, lit<}
 use Rattle.pwg_definitions.specs.declared.pages.Kind.{Kind}
 use Rattle.pwg_definitions.specs.declared.pages.Kind.TheVariants.{Gray8, Black8, Rgb8}
 use Rattle.pwg_definitions.specs.declared.pages.Header.{Header}
@@ -19,7 +19,6 @@ pub record IsKindRow (kind : Kind) (row : KindRow) : Type 0 where
   pub some : 1 ≤ row.unit
   pub white_sized : length row.white ≡ row.unit
   pub whole : (width : ℕ) → line_units row width * row.unit ≡ line_bytes width row.bits_per_pixel
-  pub narrow : (width : ℕ) → width ≤ line_bytes width row.bits_per_pixel
   pub named : (h : Header) → kind_of (named_by row h) ≡ Some row
   pub space_fits : row.color_space < 2 ^ 32
   pub bits_fit : row.bits_per_color < 2 ^ 32
@@ -31,7 +30,6 @@ kind_row Gray8 = record {
   some = omega arith;
   white_sized = refl;
   whole = λ width. omega arith;
-  narrow = λ width. omega arith;
   named = λ h. refl;
   space_fits = lit< tt;
   bits_fit = lit< tt;
@@ -42,7 +40,6 @@ kind_row Black8 = record {
   some = omega arith;
   white_sized = refl;
   whole = λ width. omega arith;
-  narrow = λ width. omega arith;
   named = λ h. refl;
   space_fits = lit< tt;
   bits_fit = lit< tt;
@@ -53,7 +50,6 @@ kind_row Rgb8 = record {
   some = omega arith;
   white_sized = refl;
   whole = λ width. omega arith;
-  narrow = λ width. omega arith;
   named = λ h. refl;
   space_fits = lit< tt;
   bits_fit = lit< tt;

@@ -10,7 +10,7 @@ use Rattle.pwg_definitions.specs.declared.faults.HeaderFault.{HeaderFault}
 use Rattle.pwg_definitions.specs.declared.faults.InputCause.TheVariants as cause
 use Rattle.pwg_definitions.specs.declared.faults.LineFault.TheVariants.{RunPastLine, GroupPastPage}
 use Rattle.pwg_definitions.specs.Limits.{header_length, most_pages}
-use Rattle.pwg_definitions.specs.Header.{IsWanted, KindRow, check, header_of, line_bytes, line_units, row_of}
+use Rattle.pwg_definitions.specs.Header.{IsWanted, KindRow, check, header_of, line_units, row_of}
 use Rattle.pwg_definitions.specs.Groups.{GroupFront, GroupRead, PacketRead, group_at, line_at, packet_at, packet_gives, packet_units, with_packet}
 use Rattle.pwg_definitions.specs.Groups.GroupRead.{Group, Part, Wrong}
 use Rattle.pwg_definitions.specs.Groups.PacketRead.{One, Short, Long}

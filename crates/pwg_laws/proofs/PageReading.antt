@@ -8,14 +8,13 @@ use Rattle.std.proofs.lemmas.Slice.Eq.{starts_is}
 use Rattle.pwg_definitions.specs.declared.pages.PageForm.{PageForm}
 use Rattle.pwg_definitions.specs.declared.pages.Wanted.{Wanted}
 use Rattle.pwg_definitions.specs.declared.faults.HeaderFault.{HeaderFault}
-use Rattle.pwg_definitions.specs.declared.faults.InputCause.{InputCause}
 use Rattle.pwg_definitions.specs.declared.faults.InputCause.TheVariants as cause
 use Rattle.pwg_definitions.specs.Limits.{header_length, most_pages}
 use Rattle.pwg_definitions.specs.Header.{KindRow, check, header_of, line_units, row_of}
 use Rattle.pwg_definitions.specs.Groups.{GroupRead, IsBytes, SpellsGroup, group_at}
 use Rattle.pwg_definitions.specs.Groups.GroupRead.{Group, Part, Wrong}
 use Rattle.pwg_definitions.specs.Spelling.{LineGroup, SpellsLines, SpellsPage, SpellsPages, SpellsStream, groups_bytes, groups_lines}
-use Rattle.pwg_definitions.specs.Stream.{LinesRead, Page, PageRead, Stream, StreamEnd, lines_at, lines_of, page_at, page_behind, page_of, pages_from, stream, sync_word, with_lines, with_page}
+use Rattle.pwg_definitions.specs.Stream.{LinesRead, Page, PageRead, Stream, lines_at, lines_of, page_at, page_behind, page_of, pages_from, stream, sync_word, with_lines, with_page}
 use Rattle.pwg_definitions.specs.Stream.LinesRead.{Lines, Stop}
 use Rattle.pwg_definitions.specs.Stream.PageRead.{Whole, Broken}
 use Rattle.pwg_definitions.specs.Stream.StreamEnd.{Done, Fault}

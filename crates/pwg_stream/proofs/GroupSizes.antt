@@ -2,7 +2,7 @@
 use Rattle.std.proofs.Common.{◌≡◌, ℕ, zero, suc, ◌+◌, ◌-◌, ◌*◌, ◌<◌, ◌≤◌, ◌==◌, nat_lt, Bool, true, false, if◌then◌else◌, List, [], ◌∷◌, length, take, drop, refl, sym, ◌∙◌, ap, subst, arith, length-drop}
 use Rattle.std.proofs.lemmas.Bool.{ltb-true, ltb-false}
 use Rattle.std.proofs.Math.Nat.{mul-le-mul_right}
-use Rattle.pwg_definitions.specs.Header.{KindRow, row_of}
+use Rattle.pwg_definitions.specs.Header.{KindRow}
 use Rattle.pwg_definitions.specs.Groups.{GroupFront, IsBytes, Packet, PacketRead, group_at, line_at, packet_at, packet_from, packet_units, units_of, with_packet}
 use Rattle.pwg_definitions.specs.Groups.Packet.{Run, Clear, Literal}
 use Rattle.pwg_definitions.specs.Groups.PacketRead.{One, Short, Long}

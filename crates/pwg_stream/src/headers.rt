@@ -12,8 +12,8 @@ ghost use Rattle.weave_base.specs.Causes.{Rose};
 
 use crate::stops::StreamStop;
 use crate::unread::Unread;
-use pwg_header::{HEADER_LEN, PageForm, Wanted, check, read_header};
 use pwg_definitions::InputCause;
+use pwg_header::{HEADER_LEN, PageForm, Wanted, check, read_header};
 use weave_base::Source;
 
 /// The most pages of a stream.

@@ -1,5 +1,5 @@
 -- The part of a page that a printer prints, and the pages that it takes.
-use Rattle.std.specs.Prelude.{ℕ, ◌+◌, ◌-◌, ◌*◌, ◌/◌}
+use Rattle.std.specs.Prelude.{◌+◌, ◌-◌, ◌*◌, ◌/◌}
 use Rattle.printer_definitions.specs.Printer.{Printer}
 use Rattle.separation_definitions.specs.declared.window.Window.{Window}
 use Rattle.pwg_definitions.specs.declared.pages.PageForm.{PageForm}

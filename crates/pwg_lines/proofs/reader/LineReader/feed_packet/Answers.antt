@@ -1,6 +1,6 @@
 use Rattle.std.proofs.Common.{◌≡◌, ◌+◌, ◌-◌, ◌*◌, refl, sym, ◌∙◌, ap, arith}
 use Rattle.pwg_definitions.specs.Header.{row_of}
-use Rattle.pwg_lines.specs.declared.reader.State.TheVariants as state
+use Rattle.pwg_lines.specs.declared.states.State.TheVariants as state
 use Rattle.pwg_laws.proofs.KindRows.{kind_row}
 use Rattle.pwg_lines.proofs.Steps.{in_state, packet-literal, packet-past, packet-run, units-literal, units-past, units-run}
 use Rattle.pwg_lines.proofs.reader.LineReader.feed_packet.Goals as goal
