@@ -1,7 +1,7 @@
 -- Tables of dots and of amounts: ink by ink in the order of a printer's set, row by row, from the left.
-use Rattle.std.specs.Prelude.{◌≡◌, ℕ, ◌+◌, ◌*◌, ◌/◌, ◌%◌, ◌<◌, ◌≤◌, ◌⊎◌, ◌≢◌, Bool, false, List, length, take, drop, slice_index}
+use Rattle.std.specs.Prelude.{◌≡◌, ℕ, ◌+◌, ◌*◌, ◌/◌, ◌%◌, ◌<◌, ◌≤◌, ◌⊎◌, ◌≢◌, Bool, true, List, length, take, drop, slice_index}
 use Rattle.escp2_definitions.specs.Machine.{bit_at}
-use Rattle.escp2_definitions.specs.Packed.{packed}
+use Rattle.escp2_definitions.specs.Packed.{at, packed}
 
 -- ---- dots
 
@@ -44,6 +44,18 @@ pub record IsPackedRow (width : ℕ) (row : List ℕ) : Type 0 where
   pub width_is : length dots ≡ width
   pub is : row ≡ packed dots
 
+-- An ink gets a dot in row y at column x, and all others stay.
+pub record TurnsOn (old new : DotTable) (i y x : ℕ) : Type 0 where
+  pub size : HasSizeOf old new
+  pub on : dot new i y x ≡ true
+  pub others : (j r c : ℕ) → (j ≢ i) ⊎ ((r ≢ y) ⊎ (c ≢ x)) → r < old.rows → dot new j r c ≡ dot old j r c
+
+-- A row of an ink gets the dots of a packed row, and all other rows stay.
+pub record PutsRow (old new : DotTable) (i y : ℕ) (bytes : List ℕ) : Type 0 where
+  pub size : HasSizeOf old new
+  pub row : (dots : List Bool) → length dots ≡ old.width → bytes ≡ packed dots → (x : ℕ) → dot new i y x ≡ at dots x
+  pub others : (j r : ℕ) → (j ≢ i) ⊎ (r ≢ y) → r < old.rows → (x : ℕ) → dot new j r x ≡ dot old j r x
+
 -- ---- amounts
 
 -- Amounts of inks, a byte each.
@@ -67,11 +79,14 @@ pub record HasSizeAs (old new : AmountTable) : Type 0 where
   pub rows : new.rows ≡ old.rows
   pub inks : new.inks ≡ old.inks
 
--- ---- places
+-- Amounts of an ink in row y are set from column x on, and all others stay.
+pub record Sets (old new : AmountTable) (i y x : ℕ) (amounts : List ℕ) : Type 0 where
+  pub size : HasSizeAs old new
+  pub part : (k : ℕ) → k < length amounts → amount new i y (x + k) ≡ slice_index amounts k
+  pub beside : (c : ℕ) → (c < x) ⊎ (x + length amounts ≤ c) → amount new i y c ≡ amount old i y c
+  pub others : (j r : ℕ) → (j ≢ i) ⊎ (r ≢ y) → r < old.rows → (c : ℕ) → amount new j r c ≡ amount old j r c
 
--- not the same row of the same ink
-abbrev pub IsOtherRow : ℕ → ℕ → ℕ → ℕ → Type 0
-IsOtherRow ink y i r = (i ≢ ink) ⊎ (r ≢ y)
+-- ---- sizes
 
 -- The tables that are made: a row of 8,191 columns, 15,840 rows and four inks at most.
 pub record IsSize (width rows inks : ℕ) : Type 0 where

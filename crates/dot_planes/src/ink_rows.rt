@@ -1,8 +1,8 @@
 //! Rows of amounts.
-ghost use Rattle.dot_planes.specs.Tables.{HasSizeAs, IsOtherRow, IsSize, amount, amount_row};
-ghost use Rattle.std.specs.Prelude.{IfOk, length, slice_index, ℕ, ◌+◌, ◌-◌, ◌<◌, ◌≡◌, ◌≢◌, ◌≤◌, ◌⊎◌};
+ghost use Rattle.dot_planes.specs.Tables.{IsSize, Sets, amount};
+ghost use Rattle.std.specs.Prelude.{IfOk, [], length, slice_index, ℕ, ◌+◌, ◌<◌, ◌∷◌, ◌≡◌, ◌≤◌};
 
-use crate::places::row_start;
+use crate::places::{row_of, row_start};
 use std::alloc::Global;
 use std::marker::Model;
 use weave_base::Memory;
@@ -79,8 +79,8 @@ impl InkRows {
         ensures amounts { (x : ℕ) → slice_index result.now x ≡ amount self.now ink y x }
     {
         let len = self.width as usize;
-        let start = row_start(self.rows, len, ink, y);
-        &self.bytes[start..start + len]
+        let start = row_start(self.inks, self.rows, len, ink, y);
+        row_of(&self.bytes, len, start)
     }
 
     /// The amount of an ink in row y at column x.
@@ -98,9 +98,7 @@ impl InkRows {
         requires ink { ink < self.old.inks }
         requires x { x < self.old.width }
         requires y { y < self.old.rows }
-        ensures size { HasSizeAs self.old self.new }
-        ensures set { amount self.new ink y x ≡ a }
-        ensures others { (i r c : ℕ) → (i ≢ ink) ⊎ ((r ≢ y) ⊎ (c ≢ x)) → i < self.old.inks → r < self.old.rows → amount self.new i r c ≡ amount self.old i r c }
+        ensures { Sets self.old self.new ink y x (a ∷ []) }
     {
         self.put_part(ink, x, y, &[a]);
     }
@@ -110,12 +108,10 @@ impl InkRows {
         requires ink { ink < self.old.inks }
         requires y { y < self.old.rows }
         requires part { x + length part.now ≤ self.old.width }
-        ensures size { HasSizeAs self.old self.new }
-        ensures part { (k : ℕ) → k < length part.now → amount self.new ink y (x + k) ≡ slice_index part.now k }
-        ensures beside { (c : ℕ) → (c < x) ⊎ (x + length part.now ≤ c) → amount self.new ink y c ≡ amount self.old ink y c }
-        ensures others { (i r : ℕ) → IsOtherRow ink y i r → i < self.old.inks → r < self.old.rows → (c : ℕ) → amount self.new i r c ≡ amount self.old i r c }
+        ensures { Sets self.old self.new ink y x part.now }
     {
-        let start = row_start(self.rows, self.width as usize, ink, y) + x as usize;
+        let row = row_start(self.inks, self.rows, self.width as usize, ink, y);
+        let start = row + x as usize;
         self.bytes[start..start + part.len()].copy_from_slice(part);
     }
 }

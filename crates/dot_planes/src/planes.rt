@@ -1,11 +1,11 @@
 //! Packed planes of dots.
-ghost use Rattle.dot_planes.specs.Tables.{HasSizeOf, IsOtherRow, IsPackedRow, IsSize, dot, row_len as row_len_of};
-ghost use Rattle.escp2_definitions.specs.Packed.{at, packed};
+ghost use Rattle.dot_planes.specs.Tables.{IsPackedRow, IsSize, PutsRow, TurnsOn, dot, row_len as row_len_of};
+ghost use Rattle.escp2_definitions.specs.Packed.{packed};
 ghost use Rattle.std.specs.List.{count_by, sum_by};
-ghost use Rattle.std.specs.Prelude.{Bool, IfOk, List, count_ones, false, length, map, true, ℕ, ◌<◌, ◌≡◌, ◌≢◌, ◌≤◌, ◌⊎◌};
+ghost use Rattle.std.specs.Prelude.{IfOk, count_ones, false, length, map, ℕ, ◌<◌, ◌≡◌, ◌≤◌};
 ghost use Rattle.weave_definitions.specs.Weave.{count_from};
 
-use crate::places::row_start;
+use crate::places::{row_of, row_start};
 use std::alloc::Global;
 use std::marker::Model;
 use weave_base::Memory;
@@ -83,8 +83,8 @@ impl Planes {
         ensures { result.now ≡ packed (map (dot self.now ink y) (count_from 0 self.now.width)) }
     {
         let len = row_len(self.width);
-        let start = row_start(self.rows, len, ink, y);
-        &self.bytes[start..start + len]
+        let start = row_start(self.inks, self.rows, len, ink, y);
+        row_of(&self.bytes, len, start)
     }
 
     /// Whether an ink has a dot in row y at column x.
@@ -94,8 +94,8 @@ impl Planes {
         requires y { y < self.now.rows }
         ensures { result ≡ dot self.now ink y x }
     {
-        let at = row_start(self.rows, row_len(self.width), ink, y) + x as usize / 8;
-        self.bytes[at] >> (7 - x % 8) & 1 == 1
+        let start = row_start(self.inks, self.rows, row_len(self.width), ink, y);
+        self.bytes[start + x as usize / 8] >> (7 - x % 8) & 1 == 1
     }
 
     /// Gives an ink a dot in row y at column x, where it may have had one. All other dots stay.
@@ -103,12 +103,10 @@ impl Planes {
         requires ink { ink < self.old.inks }
         requires x { x < self.old.width }
         requires y { y < self.old.rows }
-        ensures size { HasSizeOf self.old self.new }
-        ensures on { dot self.new ink y x ≡ true }
-        ensures others { (i r c : ℕ) → (i ≢ ink) ⊎ ((r ≢ y) ⊎ (c ≢ x)) → i < self.old.inks → r < self.old.rows → dot self.new i r c ≡ dot self.old i r c }
+        ensures { TurnsOn self.old self.new ink y x }
     {
-        let at = row_start(self.rows, row_len(self.width), ink, y) + x as usize / 8;
-        self.bytes[at] |= 1 << (7 - x % 8);
+        let start = row_start(self.inks, self.rows, row_len(self.width), ink, y);
+        self.bytes[start + x as usize / 8] |= 1 << (7 - x % 8);
     }
 
     /// Gives row y of an ink these dots, packed. All other rows stay.
@@ -116,12 +114,10 @@ impl Planes {
         requires ink { ink < self.old.inks }
         requires y { y < self.old.rows }
         requires row { IsPackedRow self.old.width row.now }
-        ensures size { HasSizeOf self.old self.new }
-        ensures row { (dots : List Bool) → length dots ≡ self.old.width → row.now ≡ packed dots → (x : ℕ) → dot self.new ink y x ≡ at dots x }
-        ensures others { (i r : ℕ) → IsOtherRow ink y i r → i < self.old.inks → r < self.old.rows → (x : ℕ) → dot self.new i r x ≡ dot self.old i r x }
+        ensures { PutsRow self.old self.new ink y row.now }
     {
         let len = row_len(self.width);
-        let start = row_start(self.rows, len, ink, y);
+        let start = row_start(self.inks, self.rows, len, ink, y);
         self.bytes[start..start + len].copy_from_slice(row);
     }
 
