@@ -1,10 +1,10 @@
 -- What is read of a command stands, whatever follows.
-use Rattle.std.proofs.Common.{◌≡◌, ℕ, zero, suc, ◌+◌, ◌-◌, ◌<◌, ◌≤◌, List, [], ◌∷◌, ◌++◌, length, take, drop, get_or, refl, sym, ◌∙◌, ap, subst, arith, append_assoc, length-append, length-drop}
+use Rattle.std.proofs.Common.{◌≡◌, ℕ, zero, suc, ◌+◌, ◌-◌, ◌<◌, ◌≤◌, List, [], ◌∷◌, ◌++◌, length, take, drop, refl, sym, ◌∙◌, ap, subst, arith, append_assoc, length-append, length-drop}
 use Rattle.std.proofs.lemmas.List.{drop-append-le, length-take, take_at, take-append-drop}
 use Rattle.std.proofs.Math.Seq.{take-append-add}
 use Rattle.escp2_definitions.specs.declared.command.Command.{Command}
 use Rattle.escp2_definitions.specs.declared.stops.JobCause.{JobCause}
-use Rattle.escp2_definitions.specs.Commands.{CommandList, Heard, ListEnd, Spells, command_at, commands, commands_from, with_entry}
+use Rattle.escp2_definitions.specs.Commands.{CommandList, Heard, Spells, command_at, commands, commands_from, with_entry}
 use Rattle.escp2_definitions.specs.Commands.Heard.{One, Part, Wrong}
 use Rattle.escp2_definitions.specs.Commands.ListEnd.{Whole, Cut, Fault}
 use Rattle.escp2_laws.proofs.Grammar.{AreBytes}

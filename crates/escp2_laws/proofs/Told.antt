@@ -1,6 +1,6 @@
 -- What is read of a command is told by the first bytes, whatever follows them, and what is whole is spelled: the parts
 -- of a command, one behind another.
-use Rattle.std.proofs.Common.{◌≡◌, ℕ, zero, suc, ◌+◌, ◌*◌, ◌/◌, ◌%◌, ◌<◌, ◌≤◌, ◌==◌, Bool, true, false, if◌then◌else◌, List, [], ◌∷◌, ◌++◌, length, get_or, refl, sym, ◌∙◌, ap, subst, arith, append_assoc, length-append}
+use Rattle.std.proofs.Common.{◌≡◌, ℕ, suc, ◌+◌, ◌*◌, ◌/◌, ◌%◌, ◌<◌, ◌≤◌, ◌==◌, Bool, true, false, if◌then◌else◌, List, [], ◌∷◌, ◌++◌, length, refl, sym, ◌∙◌, ap, subst, arith, append_assoc, length-append}
 use Rattle.std.proofs.lemmas.Bool.{eqb-true}
 use Rattle.escp2_definitions.specs.declared.command.Command.{Command}
 use Rattle.escp2_definitions.specs.declared.stops.JobCause.{JobCause}
@@ -155,7 +155,7 @@ told-sized len next before (low ∷ bytes) there after = by_low (low == len) ref
     by_high e high rest true zero_is =
         let step : (more : List ℕ) → sized len next (low ∷ high ∷ more) ≡ next more =
         λ more. ap (λ b. if b then (if high == 0 then next more else Wrong 4 BadLength) else Wrong 3 BadLength) e
-            ∙ ap (λ b. if b then next more else Wrong 4 BadLength) zero_is in
+        ∙ ap (λ b. if b then next more else Wrong 4 BadLength) zero_is in
         let P : Heard → Type 0 = Told (sized len next) before (low ∷ high ∷ rest) in
         let same : low ∷ high ∷ [] ≡ len ∷ 0 ∷ [] = ap (λ n. n ∷ high ∷ []) (eqb-true low len e) ∙ ap (λ n. len ∷ n ∷ []) (eqb-true high 0 zero_is) in
         subst P (sym (step rest))
@@ -163,7 +163,7 @@ told-sized len next before (low ∷ bytes) there after = by_low (low == len) ref
     by_high e high rest false not_zero =
         let wrong : (more : List ℕ) → sized len next (low ∷ high ∷ more) ≡ Wrong 4 BadLength =
         λ more. ap (λ b. if b then (if high == 0 then next more else Wrong 4 BadLength) else Wrong 3 BadLength) e
-            ∙ ap (λ b. if b then next more else Wrong 4 BadLength) not_zero in
+        ∙ ap (λ b. if b then next more else Wrong 4 BadLength) not_zero in
         let P : Heard → Type 0 = Told (sized len next) before (low ∷ high ∷ rest) in
         subst P (sym (wrong rest))
         (record { front = low ∷ high ∷ []; rest = rest; is = refl; least = omega (arith, there); most = omega (arith, there); told = wrong })
