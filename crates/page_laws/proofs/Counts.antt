@@ -39,8 +39,13 @@ pub sum-one : (f : ℕ → ℕ) (one n many : ℕ) → n ≤ one → one < n + m
 sum-one f one n zero from below others = absurd (omega arith)
 sum-one f one n (suc many) from below others =
     elim (cases_eq n one) [
-      | inl e ↦ omega (arith, sum_by-cons f n (count_from (n + 1) many), ap f e, sum-none f (count_from (n + 1) many)
-          (each-from (λ k. f k ≡ 0) (n + 1) many (λ k after inside. others k (λ same. omega (arith, same, e, after)))))
+      | inl e ↦ omega (
+        arith,
+        sum_by-cons f n (count_from (n + 1) many),
+        ap f e,
+        sum-none f (count_from (n + 1) many)
+            (each-from (λ k. f k ≡ 0) (n + 1) many (λ k after inside. others k (λ same. omega (arith, same, e, after)))),
+      )
       | inr apart ↦ omega (arith, sum_by-cons f n (count_from (n + 1) many), others n apart, sum-one f one (n + 1) many (omega (arith, apart)) (omega arith) others)
     ]
 

@@ -1,6 +1,6 @@
 -- What the machine makes of the inks of a stroke.
-use Rattle.std.proofs.Common.{◌≡◌, ℕ, ◌+◌, ◌-◌, ◌*◌, ◌/◌, ◌%◌, ◌<◌, ◌≤◌, Bool, true, false, not, ◌||◌, ◌==◌, nat_lt, nat_le, if◌then◌else◌, List, [], ◌∷◌, ◌++◌, length, Option, None, refl, sym, ◌∙◌, ap, arith, append_assoc, flat_map}
-use Rattle.std.specs.List.{list_any, AllByRecursion}
+use Rattle.std.proofs.Common.{◌≡◌, ℕ, ◌+◌, ◌-◌, ◌*◌, ◌/◌, ◌%◌, ◌<◌, ◌≤◌, Bool, true, false, not, ◌||◌, ◌==◌, nat_lt, nat_le, if◌then◌else◌, List, [], ◌∷◌, ◌++◌, Option, None, refl, sym, ◌∙◌, ap, arith, append_assoc, flat_map}
+use Rattle.std.specs.List.{list_any}
 use Rattle.std.proofs.lemmas.Bool.{eq-eqb, le-ltb}
 use Rattle.printer_definitions.specs.declared.inks.Ink.{Ink}
 use Rattle.printer_definitions.specs.Printer.{column_step, nozzle_step, row_step, row_units}
@@ -13,8 +13,10 @@ use Rattle.escp2_definitions.specs.Packed.{packed}
 use Rattle.page_definitions.specs.Strokes.{IsOnWindow, IsWhole, Spoken, Stroke, has_dot, ink_commands, raster_head, rows_fired, say}
 use Rattle.page_laws.proofs.Numbers.{column_step-some, on_grid, row_step-some, row_units-is}
 use Rattle.page_laws.proofs.Once.{Once, once-front, once-regroup}
-use Rattle.page_laws.proofs.Fired.{blank-rows, not_twice, on_sheet, rows-are, rows_dots-fired}
-use Rattle.page_laws.proofs.Running.{Comes, Goes, IsLayout, Layout, comes-as, comes-then, first_of, goes-as, goes-here, goes-then, last_of, one, paused, place-is}
+use Rattle.page_laws.proofs.Fired.{blank-rows, on_sheet, rows-are, rows_dots-fired}
+use Rattle.page_laws.proofs.Twice.{not_twice}
+use Rattle.page_laws.proofs.Running.{Goes, IsLayout, Layout, comes-as, comes-then, first_of, goes-as, goes-here, goes-then, last_of, one, paused}
+use Rattle.page_laws.proofs.Prologue.{place-is}
 
 -- ---- strokes of a page
 

@@ -1,5 +1,5 @@
 -- The bytes of pages print the pages.
-use Rattle.std.proofs.Common.{◌≡◌, ℕ, ◌+◌, ◌*◌, ◌≤◌, inr, List, [], ◌∷◌, ◌++◌, refl, sym, ◌∙◌, ap, arith, None, flat_map, subst}
+use Rattle.std.proofs.Common.{◌≡◌, ℕ, ◌*◌, inr, List, [], ◌∷◌, ◌++◌, refl, sym, ◌∙◌, ap, arith, None, flat_map, subst}
 use Rattle.printer_definitions.specs.Printer.{Printer, row_units}
 use Rattle.diffusion_definitions.specs.Diffusion.{Table}
 use Rattle.escp2_definitions.specs.Commands.{CommandList, commands}

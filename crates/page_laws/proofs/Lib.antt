@@ -3,12 +3,16 @@ pub mod Numbers
 pub mod Once
 pub mod Packing
 pub mod Fired
+pub mod Twice
 pub mod Running
+pub mod Prologue
 pub mod Firing
 pub mod Pages
 pub mod Spelled
 pub mod Printed
+pub mod Totals
 pub mod Hits
+pub mod Passes
 pub mod Weaving
 pub mod Headline
 pub mod Rasters

@@ -1,23 +1,23 @@
 -- The bytes of strokes print them on one sheet.
-use Rattle.std.proofs.Common.{◌≡◌, ℕ, ◌+◌, ◌*◌, ◌≤◌, List, [], ◌∷◌, ◌++◌, map, None, refl, sym, ◌∙◌, ap, arith, subst, append-nil, append_assoc, filter}
+use Rattle.std.proofs.Common.{◌≡◌, ℕ, ◌*◌, List, [], ◌∷◌, ◌++◌, map, None, refl, sym, ◌∙◌, ap, subst, append-nil, append_assoc, filter}
 use Rattle.std.specs.List.{AllByRecursion}
 use Rattle.printer_definitions.specs.Printer.{Printer, row_units}
 use Rattle.escp2_definitions.specs.Commands.{CommandList, commands}
 use Rattle.escp2_definitions.specs.Commands.ListEnd.{Whole}
-use Rattle.escp2_definitions.specs.Machine.{Dot, Machine, Printed, Sheet, execute_from, start, with_sheets}
+use Rattle.escp2_definitions.specs.Machine.{Dot, Printed, Sheet, execute_from}
 use Rattle.escp2_definitions.specs.Written.{Coding, IsCoding, written}
 use Rattle.escp2_laws.specs.Said.{AllSaid, said_bytes}
 use Rattle.escp2_laws.proofs.Jobs.{commands-said}
 use Rattle.separation_definitions.specs.CanPrint.{CanPrint}
 use Rattle.page_definitions.specs.Dots.{Halftone, dots_wanted}
 use Rattle.page_definitions.specs.Exact.{Exactly}
-use Rattle.page_definitions.specs.Printing.{GivesSheet, IsOneSheet}
+use Rattle.page_definitions.specs.Printing.{GivesSheet}
 use Rattle.page_definitions.specs.Strokes.{Fires, Spoken, Strokes, bytes_of, fires, page_commands, strokes_bytes}
 use Rattle.page_laws.specs.Sized.{Sized}
 use Rattle.page_laws.proofs.Once.{exactly-once}
 use Rattle.page_laws.proofs.Running.{IsLayout, Layout, entries, said}
 use Rattle.page_laws.proofs.Firing.{Lies}
-use Rattle.page_laws.proofs.Pages.{all-lie, page-run, page_says}
+use Rattle.page_laws.proofs.Pages.{all-lie, page-run}
 use Rattle.page_laws.proofs.Spelled.{AllSayable, AllSpoken, page-sayable, sayable-spoken}
 
 -- ---- the page of a halftone
