@@ -63,9 +63,11 @@ if-plus false m n = omega arith
 
 -- ---- counts
 
+-- the count of two lists, one after the other
 pub count-append : {X : Type 0} (test : X → Bool) (xs ys : List X) → count_by test (xs ++ ys) ≡ count_by test xs + count_by test ys
 count-append test xs ys = sum_by-append (λ x. cond (test x) 1 0) xs ys
 
+-- the count of a list with one element before it
 pub count-cons : {X : Type 0} (test : X → Bool) (x : X) (xs : List X) → count_by test (x ∷ xs) ≡ cond (test x) 1 0 + count_by test xs
 count-cons test x xs = sum_by-cons (λ x. cond (test x) 1 0) x xs
 

@@ -17,6 +17,7 @@ use Rattle.page_laws.proofs.Packing.{packed_bytes-len, row-packed}
 
 -- ---- packed rows are fired as they are
 
+-- rows that are each as wide as this
 abbrev pub AllWide : ℕ → List (List Bool) → Type 0
 AllWide width rows = AllByRecursion (λ row. length row ≡ width) rows
 
@@ -51,6 +52,7 @@ rows_dots-fired head ink y (row ∷ rows) wide =
 
 -- ---- blank rows
 
+-- what is false of two is false of each
 pub or-false : (a b : Bool) → (a || b) ≡ false → record { left : a ≡ false; right : b ≡ false }
 or-false true b e = record { left = e; right = absurd (let no : ⊥ = cc in no) }
 or-false false b e = record { left = refl; right = e }
@@ -133,9 +135,11 @@ rows-are p above height ink start place (row ∷ rows) can room is e =
 
 -- ---- the dots are on the sheet
 
+-- where none passes and the element before does not either
 pub none-of : {X : Type 0} (test : X → Bool) (x : X) (xs : List X) → test x ≡ false → list_any test xs ≡ false → list_any test (x ∷ xs) ≡ false
 none-of test x xs e f = ap (λ b. b || list_any test xs) e ∙ f
 
+-- where none of two lists passes, none of both does
 none-both : {X : Type 0} (test : X → Bool) (xs ys : List X) → list_any test xs ≡ false → list_any test ys ≡ false → list_any test (xs ++ ys) ≡ false
 none-both test [] ys e f = f
 none-both test (x ∷ xs) ys e f =

@@ -50,10 +50,12 @@ new-dots w stroke ink is lies =
     ∙ rows_dots-fired (head_of w) ink y rows (lies.whole ink).wide
     ∙ rows-are w.printer w.above w.halftone.height ink stroke.start y rows is.can is.room (lies.on_window ink) (place-is w stroke.start is)
 
+-- what is false of each is false of both
 neither : (a b : Bool) → a ≡ false → b ≡ false → (a || b) ≡ false
 neither true b e f = e
 neither false b e f = f
 
+-- 0 divided by a step
 zero-over : (n : ℕ) → 1 ≤ n → record { rest : 0 % n ≡ 0; over : 0 / n ≡ 0 }
 zero-over n some = record { rest = omega arith; over = omega arith }
 

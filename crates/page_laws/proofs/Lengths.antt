@@ -56,6 +56,7 @@ most_ink p width = 12 + 2 * (p.nozzles * ((width + 7) / 8))
 abbrev pub most_stroke : Printer → ℕ → ℕ
 most_stroke p width = 7 + length (inks_of p.inks) * most_ink p width
 
+-- the bytes of an ink of a stroke
 ink-short : (code : List ℕ → List ℕ) (p : Printer) (width coded : ℕ) (stroke : Stroke) (ink : Ink) → IsShortCode code → IsWhole p.nozzles width (stroke.rows ink)
     → length (bytes_of code (ink_commands p width coded stroke ink)) ≤ most_ink p width
 ink-short code p width coded stroke ink short whole = by_dot (has_dot (stroke.rows ink))
@@ -77,6 +78,7 @@ ink-short code p width coded stroke ink short whole = by_dot (has_dot (stroke.ro
         let few : length text ≤ 2 * (p.nozzles * bytes) = rows-short code (coded == 0) p.nozzles bytes rows short fits in
         omega (arith, few, length-append text [])
 
+-- the bytes of the inks of a stroke
 inks-short : (code : List ℕ → List ℕ) (p : Printer) (width coded : ℕ) (stroke : Stroke) (inks : List Ink) → IsShortCode code
     → ((ink : Ink) → IsWhole p.nozzles width (stroke.rows ink))
     → length (bytes_of code (flat_map (ink_commands p width coded stroke) inks)) ≤ length inks * most_ink p width
@@ -94,10 +96,12 @@ inks-short code p width coded stroke (ink ∷ inks) short whole =
       inks-short code p width coded stroke inks short whole,
     )
 
+-- the bytes of a step down
 down-short : (code : List ℕ → List ℕ) (n : ℕ) → length (bytes_of code (down_by n)) ≤ 7
 down-short code zero = omega arith
 down-short code (suc n) = omega arith
 
+-- the bytes of strokes
 strokes-short : (code : List ℕ → List ℕ) (p : Printer) (width coded last : ℕ) (strokes : List Stroke) → IsShortCode code
     → AllByRecursion (λ stroke. (ink : Ink) → IsWhole p.nozzles width (stroke.rows ink)) strokes
     → length (bytes_of code (strokes_commands p width coded last strokes)) ≤ length strokes * most_stroke p width

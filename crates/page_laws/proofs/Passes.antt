@@ -15,6 +15,7 @@ use Rattle.page_laws.proofs.Fired.{AllWide}
 
 -- ---- lists of numbers
 
+-- so many numbers
 pub count_from-len : (n many : ℕ) → length (count_from n many) ≡ many
 count_from-len n zero = refl
 count_from-len n (suc many) = ap suc (count_from-len (n + 1) many)
@@ -25,11 +26,13 @@ at-counted on n zero x low = absurd (omega arith)
 at-counted on n (suc many) zero low = ap on (let same : n ≡ n + 0 = omega arith in same)
 at-counted on n (suc many) (suc x) low = at-counted on (n + 1) many x (omega arith) ∙ ap on (let same : n + 1 + x ≡ n + suc x = omega arith in same)
 
+-- a blank row has no dot
 pub no-dot : (n x : ℕ) → at (replicate n false) x ≡ false
 no-dot zero x = refl
 no-dot (suc n) zero = refl
 no-dot (suc n) (suc x) = no-dot n x
 
+-- a blank row is told blank
 blank : (n : ℕ) → list_any (λ on. on) (replicate n false) ≡ false
 blank zero = refl
 blank (suc n) = blank n
@@ -59,10 +62,12 @@ nozzle_row-is n pitch height t i y e = by_test (nat_le first place) (nat_lt (pla
 
 -- ---- the rows of a pass
 
+-- a row that is fired is as wide as the window
 fired_row-len : (h : Halftone) (ink : Ink) (row : Option ℕ) → length (fired_row h ink row) ≡ h.width
 fired_row-len h ink None = length-replicate {A = Bool} h.width false
 fired_row-len h ink (Some y) = length-map (count_from 0 h.width) (h.dot ink y) ∙ count_from-len 0 h.width
 
+-- so are the rows of nozzles
 all-wide : (h : Halftone) (ink : Ink) (row : ℕ → Option ℕ) (is : List ℕ) → AllWide h.width (map (λ i. fired_row h ink (row i)) is)
 all-wide h ink row [] = tt
 all-wide h ink row (i ∷ is) = (fired_row-len h ink (row i), all-wide h ink row is)

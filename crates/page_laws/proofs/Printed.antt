@@ -22,6 +22,7 @@ use Rattle.page_laws.proofs.Spelled.{AllSayable, AllSpoken, page-sayable, sayabl
 
 -- ---- the page of a halftone
 
+-- a halftone on a sheet
 abbrev pub layout_of : Printer → Halftone → Coding → ℕ → ℕ → Layout
 layout_of p h coding above tall = record { printer = p; coding = coding; above = above; halftone = h; tall = tall }
 
@@ -45,10 +46,12 @@ commands-spoken p h coding tall strokes can is_coding size fire =
 
 -- ---- the bytes are read as the commands
 
+-- spelled commands, as a job
 spoken-said : (coding : Coding) (job : List Spoken) → AllSpoken coding job → AllSaid (map (said coding.code) job)
 spoken-said coding [] all = tt
 spoken-said coding (s ∷ job) all = (all.0, spoken-said coding job all.1)
 
+-- the bytes of a job are those of its commands
 said_bytes-is : (code : List ℕ → List ℕ) (job : List Spoken) → bytes_of code job ≡ said_bytes (map (said code) job)
 said_bytes-is code [] = refl
 said_bytes-is code (s ∷ job) = ap (λ bs. written code s.command s.rows ++ bs) (said_bytes-is code job)

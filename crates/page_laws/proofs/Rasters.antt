@@ -47,6 +47,7 @@ entries-rasters ink colour code at (s ∷ job) =
     ap (λ n. (if same_ink ink colour then raster_count s.command else 0) + n)
     (entries-rasters ink (colour_after colour s.command) code (at + length (written code s.command s.rows)) job)
 
+-- no raster, whatever the colour
 none : (b : Bool) → record { is : (if b then 0 else 0) ≡ 0 + 0 }
 none true = record { is = omega arith }
 none false = record { is = omega arith }
@@ -170,6 +171,7 @@ page-has p k page can is = record {
       );
 }
 
+-- so for each of the pages
 pub pages-have : (p : Printer) (k : Table) (pages : List Page) → CanPrint p → ArePages p pages → HavePasses p k pages
 pages-have p k [] can are = tt
 pages-have p k (page ∷ pages) can are = (page-has p k page can are.0, pages-have p k pages can are.1)

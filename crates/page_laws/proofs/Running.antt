@@ -51,6 +51,7 @@ begins w = prologue w.printer w.above w.halftone.height (len_of w)
 abbrev pub said : (List ℕ → List ℕ) → Spoken → Said
 said code s = record { command = s.command; rows = s.rows; bytes = written code s.command s.rows }
 
+-- the entries of a job whose first byte stands at a place
 abbrev pub entries : (List ℕ → List ℕ) → ℕ → List Spoken → List Entry
 entries code at job = entries_of at (map (said code) job)
 
@@ -58,9 +59,11 @@ entries code at job = entries_of at (map (said code) job)
 abbrev pub Comes : Layout → Machine → List Spoken → Machine → List Spoken → Type 0
 Comes w s job s' job' = (at : ℕ) → (at' : ℕ) × (execute_from w.printer s (entries w.coding.code at job) ≡ execute_from w.printer s' (entries w.coding.code at' job'))
 
+-- the machine stays where it is
 pub comes-here : (w : Layout) (s : Machine) (job : List Spoken) → Comes w s job s job
 comes-here w s job at = (at, refl)
 
+-- it comes there by way of another state
 pub comes-then : (w : Layout) (s1 s2 s3 : Machine) (job1 job2 job3 : List Spoken) → Comes w s1 job1 s2 job2 → Comes w s2 job2 s3 job3 → Comes w s1 job1 s3 job3
 comes-then w s1 s2 s3 job1 job2 job3 f g at = let a = f at in let b = g a.0 in (b.0, a.1 ∙ b.1)
 
@@ -115,6 +118,7 @@ Goes w row dots job row' dots' job' =
     (across columns : ℕ) (ink : Ink) → (across' columns' : ℕ) × (ink' : Ink)
     × Comes w (paused w row across columns ink dots) job (paused w row' across' columns' ink' dots') job'
 
+-- it goes there by way of another row
 pub goes-then : (w : Layout) (r1 r2 r3 : ℕ) (dots1 dots2 dots3 : List Dot) (job1 job2 job3 : List Spoken)
     → Goes w r1 dots1 job1 r2 dots2 job2 → Goes w r2 dots2 job2 r3 dots3 job3 → Goes w r1 dots1 job1 r3 dots3 job3
 goes-then w r1 r2 r3 dots1 dots2 dots3 job1 job2 job3 f g across columns ink =
@@ -126,6 +130,7 @@ goes-then w r1 r2 r3 dots1 dots2 dots3 job1 job2 job3 f g across columns ink =
       comes-then w (paused w r1 across columns ink dots1) (paused w r2 a.0 a.1 a.2 dots2) (paused w r3 b.0 b.1 b.2 dots3) job1 job2 job3 a.3 b.3,
     )
 
+-- it stays on its row
 pub goes-here : (w : Layout) (row : ℕ) (dots more : List Dot) (job : List Spoken) → more ≡ [] → Goes w row dots job row (dots ++ more) job
 goes-here w row dots more job none across columns ink = (
   across,

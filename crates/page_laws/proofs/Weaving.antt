@@ -19,6 +19,7 @@ use Rattle.page_laws.proofs.Passes.{at-counted, no-dot, nozzle_row-is, pass-on_w
 
 -- ---- how often the passes fire a place
 
+-- whether a firing is of a row
 of_row : ℕ → Firing → Bool
 of_row y f = f.row == y
 
