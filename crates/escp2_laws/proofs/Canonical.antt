@@ -1,5 +1,5 @@
 -- The canonical code is a code of its row, and a short one.
-use Rattle.std.proofs.Common.{◌≡◌, ℕ, zero, suc, ◌+◌, ◌*◌, ◌≤◌, List, [], ◌∷◌, ◌++◌, length, drop, refl, ◌∙◌, ap, arith, length-append, length-drop}
+use Rattle.std.proofs.Common.{◌≡◌, ℕ, zero, suc, ◌*◌, ◌≤◌, List, [], ◌∷◌, ◌++◌, length, drop, refl, ◌∙◌, ap, arith, length-append, length-drop}
 use Rattle.std.specs.List.{flat_map, AllByRecursion}
 use Rattle.escp2_definitions.specs.RowCode.{IsRowPacket, RowCode, RowPacket, packet_code, packet_row}
 use Rattle.escp2_definitions.specs.Canonical.{canonical_row, next_packet, packets_from}

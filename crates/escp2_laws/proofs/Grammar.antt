@@ -8,16 +8,16 @@ use Rattle.escp2_definitions.specs.RowCode.Control.{Follow, Again, Refused}
 use Rattle.escp2_definitions.specs.RowCode.RowPacket.{Bytes, Repeat}
 use Rattle.escp2_definitions.specs.RowCode.RowsRead.{RowsAre, RowsPart, RowsWrong}
 
-abbrev AreBytes : List ℕ → Type 0
+abbrev pub AreBytes : List ℕ → Type 0
 AreBytes bytes = (k : ℕ) → get_or bytes k 0 < 256
 
 bytes-drop : (n : ℕ) (bytes : List ℕ) → AreBytes bytes → AreBytes (drop n bytes)
 bytes-drop n bytes are k = let P : ℕ → Type 0 = λ b. b < 256 in subst P (sym (get_or-drop n bytes k 0)) (are (n + k))
 
 -- The code stands at the front of the bytes, between these places.
-record Front (bytes code : List ℕ) (at next : ℕ) : Type 0 where
-  place : next ≡ at + length code
-  is : bytes ≡ code ++ drop (next - at) bytes
+pub record Front (bytes code : List ℕ) (at next : ℕ) : Type 0 where
+  pub place : next ≡ at + length code
+  pub is : bytes ≡ code ++ drop (next - at) bytes
 
 -- one code behind another
 front-join : (bytes code more : List ℕ) (at next last : ℕ) → Front bytes code at next → Front (drop (next - at) bytes) more next last
@@ -206,10 +206,10 @@ row-read (suc most) (suc left) at bytes row next are is =
 -- ---- rows
 
 -- A code of rows that is read.
-record ReadRows (m width at : ℕ) (bytes rows : List ℕ) (next : ℕ) : Type 0 where
-  code : List ℕ
-  codes : RowsCode m width code rows
-  front : Front bytes code at next
+pub record ReadRows (m width at : ℕ) (bytes rows : List ℕ) (next : ℕ) : Type 0 where
+  pub code : List ℕ
+  pub codes : RowsCode m width code rows
+  pub front : Front bytes code at next
 
 rows-more : (m width at : ℕ) (bytes row : List ℕ) (next : ℕ) (rows : List ℕ) (last : ℕ) → ReadRow width at bytes row next
     → ReadRows m width next (drop (next - at) bytes) rows last → ReadRows (suc m) width at bytes (row ++ rows) last
@@ -229,14 +229,14 @@ rows-more m width at bytes row next rows last first rest = record {
   front = front-join bytes (flat_map packet_code first.packets) rest.code at next last first.front rest.front;
 }
 
-rows-read : (m width at : ℕ) (bytes rows : List ℕ) (next : ℕ) → AreBytes bytes → rows_at m width at bytes ≡ RowsAre rows next → ReadRows m width at bytes rows next
+pub rows-parsed : (m width at : ℕ) (bytes rows : List ℕ) (next : ℕ) → AreBytes bytes → rows_at m width at bytes ≡ RowsAre rows next → ReadRows m width at bytes rows next
 unfolding rows_at
-rows-read zero width at bytes rows next are is =
+rows-parsed zero width at bytes rows next are is =
     let none : ReadRow 0 at bytes rows next = none-read at bytes rows next is in
     let passed : 0 ≡ next - at = omega (arith, places-same _ _ _ _ is) in
     record { code = []; codes = (refl, sym (rows-same _ _ _ _ is)); front = record { place = omega (arith, places-same _ _ _ _ is); is = ap (λ k. drop k bytes) passed } }
-rows-read (suc m) width at bytes rows next are is =
-    by_row (λ at bytes rows next are is. rows-read m width at bytes rows next are is) (row_at width width at bytes) refl is
+rows-parsed (suc m) width at bytes rows next are is =
+    by_row (λ at bytes rows next are is. rows-parsed m width at bytes rows next are is) (row_at width width at bytes) refl is
   where
     by_rest : (row : List ℕ) (place : ℕ) (r : RowsRead) → ReadRow width at bytes row place
         → ((rows : List ℕ) (last : ℕ) → r ≡ RowsAre rows last → ReadRows m width place (drop (place - at) bytes) rows last)
@@ -263,7 +263,7 @@ rows-read (suc m) width at bytes rows next are is =
 pub read_codes : (m width : ℕ) (bytes rows : List ℕ) (next : ℕ) → AreBytes bytes → rows_at m width 0 bytes ≡ RowsAre rows next
     → RowsCode m width (take next bytes) rows
 read_codes m width bytes rows next are is =
-    let read : ReadRows m width 0 bytes rows next = rows-read m width 0 bytes rows next are is in
+    let read : ReadRows m width 0 bytes rows next = rows-parsed m width 0 bytes rows next are is in
     let front : take next bytes ≡ read.code = ap (take next) read.front.is ∙ take_at read.code (drop (next - 0) bytes) next (omega (arith, read.front.place)) in
     let P : List ℕ → Type 0 = λ code. RowsCode m width code rows in
     subst P (sym front) read.codes

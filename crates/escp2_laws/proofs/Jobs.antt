@@ -28,7 +28,8 @@ command_len (c.Raster head) = omega arith
 spelled_len : (command : Command) (rows bytes : List ℕ) → Spells command rows bytes → 1 ≤ length bytes
 spelled_len command rows bytes s = omega (arith, ap length s.spelled, length-append (command_bytes command) s.text, command_len command)
 
-step : (most at : ℕ) (bytes : List ℕ) (command : Command) (rows : List ℕ) (len : ℕ) → command_at bytes ≡ One command rows len
+-- a job begins with its first command
+pub step : (most at : ℕ) (bytes : List ℕ) (command : Command) (rows : List ℕ) (len : ℕ) → command_at bytes ≡ One command rows len
     → commands_from (suc most) at bytes ≡ with_entry (record { at = at; command = command; rows = rows }) (commands_from most (at + len) (drop len bytes))
 unfolding commands_from command_at
 step most at [] command rows len e = cc

@@ -3,6 +3,11 @@ pub mod Packets
 pub mod Canonical
 pub mod Prefixes
 pub mod Grammar
+pub mod RowsTold
 pub mod Reading
+pub mod Told
+pub mod RasterTold
+pub mod Heard
+pub mod Stands
 pub mod Jobs
 pub mod Written

@@ -14,7 +14,7 @@ use Rattle.escp2_definitions.specs.Canonical.{apart_at, equal_at, next_packet}
 abbrev pub same : ℕ → List ℕ → ℕ
 same byte row = length (take_while (λ other. other == byte) row)
 
-same-cons : (byte b : ℕ) (row : List ℕ) → same byte (b ∷ row) ≡ (if b == byte then 1 + same byte row else 0)
+pub same-cons : (byte b : ℕ) (row : List ℕ) → same byte (b ∷ row) ≡ (if b == byte then 1 + same byte row else 0)
 same-cons byte b row = ap length (take_while-cons (λ other. other == byte) b row) ∙ by_test (b == byte)
   where
     by_test : (t : Bool) → length (if t then b ∷ take_while (λ other. other == byte) row else []) ≡ (if t then 1 + same byte row else 0)

@@ -1,8 +1,7 @@
 -- What is written of a command spells it.
-use Rattle.std.proofs.Common.{◌≡◌, ℕ, zero, suc, ◌+◌, ◌*◌, Bool, true, false, ◌==◌, if◌then◌else◌, List, [], ◌∷◌, ◌++◌, length, take, drop, refl, sym, ◌∙◌, ap, subst, arith, length-drop, ◌⊎◌, inl, inr, eq-eqb}
+use Rattle.std.proofs.Common.{◌≡◌, ℕ, zero, suc, ◌+◌, ◌*◌, Bool, true, false, ◌==◌, if◌then◌else◌, List, length, take, drop, refl, sym, ◌∙◌, arith, length-drop, ◌⊎◌, inl, inr, eq-eqb}
 use Rattle.std.specs.Prelude.{MatchBool}
 use Rattle.std.specs.List.{flat_map}
-use Rattle.std.proofs.lemmas.Bool.{ne_eqb}
 use Rattle.std.proofs.lemmas.List.{length-take-le, take-append-drop}
 use Rattle.escp2_definitions.specs.declared.command.RasterHead.{RasterHead}
 use Rattle.escp2_definitions.specs.declared.command.Command.{Command}
@@ -20,8 +19,7 @@ pub apart-codes : (code : List ℕ → List ℕ) (m width : ℕ) (rows : List �
     → RowsCode m width (flat_map code (rows_apart m width rows)) rows
 apart-codes code zero width rows codes fits = (refl, no_rows rows (omega arith))
 apart-codes code (suc m) width rows codes fits =
-    let enough : suc m * width ≡ width + m * width = omega arith in
-    (
+    let enough : suc m * width ≡ width + m * width = omega arith in (
       code (take width rows),
       take width rows,
       flat_map code (rows_apart m width (drop width rows)),

@@ -1,3 +1,4 @@
 pub mod Examples
+pub mod Machines
 pub mod Said
 pub mod Coded

@@ -7,7 +7,7 @@ mod reader;
 mod writer;
 
 pub use reader::{RowFed, RowReader, RowState};
-pub use writer::{CodedRow, code_row};
+pub use writer::code_row;
 
 #[cfg(test)]
 mod tests;
