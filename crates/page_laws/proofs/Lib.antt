@@ -18,3 +18,4 @@ pub mod Headline
 pub mod Rasters
 pub mod Planes
 pub mod Lengths
+pub mod Worked

@@ -20,5 +20,5 @@ pub use laws::{
 };
 pub use shingles::{
     made_up_rows_are_printed, rows_of_a_dead_nozzle_are_made_up, shingled_rows_are_printed,
-    shingled_rows_fire_even_and_odd_columns,
+    shingled_rows_fire_even_and_odd_columns, worked_strokes_fire,
 };
