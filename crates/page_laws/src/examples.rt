@@ -63,7 +63,7 @@ pub fn one_nozzle_prints_three_rasters()
 /// Six black rows of eight columns, of which two are in the window of a head with three nozzles two rows apart: 92
 /// bytes, with two rasters.
 #[tactic(auto, unfolding(page_definitions::specs::PageBytes::page_bytes, page_definitions::specs::PageBytes::halftone_bytes, escp2_definitions::specs::Canonical::canonical_row, escp2_definitions::specs::Canonical::packets_from, escp2_definitions::specs::Canonical::apart_at, escp2_definitions::specs::Canonical::equal_at, diffusion_definitions::specs::Diffusion::value, diffusion_definitions::specs::Diffusion::row_errors, diffusion_definitions::specs::Diffusion::errors, escp2_definitions::specs::Commands::command_at, escp2_definitions::specs::Commands::commands_from, escp2_definitions::specs::RowCode::row_at, escp2_definitions::specs::RowCode::rows_at))]
-pub fn three_nozzles_print_ninety_two_bytes()
+pub fn tiny_prints_ninety_two_bytes()
     ensures bytes { page_bytes six_rows three_nozzles floyd ≡ listing }
     ensures rasters { ink_rasters Black (commands listing).entries ≡ 2 }
 {}

@@ -10,7 +10,7 @@ pub use examples::{
     black_page_with_margins, colours_have_their_amounts, grey_128_has_its_amounts,
     inks_go_in_the_order_of_their_set, one_nozzle_prints_three_rasters, pages_that_are_taken,
     resolutions_differ_across_and_down, small_page_has_its_bytes, small_page_is_printed,
-    small_page_wants_two_dots, three_nozzles_print_ninety_two_bytes, two_rows_are_fired,
+    small_page_wants_two_dots, tiny_prints_ninety_two_bytes, two_rows_are_fired,
     white_page_takes_no_stroke, window_inside_margins,
 };
 pub use laws::{
