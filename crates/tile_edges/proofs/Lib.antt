@@ -1,0 +1,4 @@
+pub mod Places
+pub mod EdgeLaws
+pub mod TopLaws
+pub mod AtHand
