@@ -2,11 +2,24 @@
 use Rattle.std.proofs.Common.{ℕ, ℤ, ◌≡◌, ◌+◌, ◌-◌, ◌*◌, ◌<◌, ◌≤◌, ◌∙◌, arith, List, inl, inr}
 use Rattle.std.proofs.lemmas.Bool.{cases_lt}
 use Rattle.diffusion_definitions.specs.Diffusion.{Errors, Table}
-use Rattle.tile_shape.specs.Geometry.{IsAt}
+use Rattle.tile_shape.specs.Geometry.{IsAt, Reads}
 use Rattle.tile_shape.specs.declared.tiles.Place.{Place}
 use Rattle.tile_edges.specs.Edges.{IsAbove, IsCorner, IsLeft, skewed}
 use Rattle.tile_edges.specs.Reads.{HasError, IsAtHand, IsOwnBefore, ReadsAt}
 use Rattle.tile_edges.proofs.Places.{moved}
+
+-- the errors of pixels that are read
+pub reads_at : (x y a b : ℕ) → Reads x y a b → ReadsAt x y (b + 2) (a + 4)
+reads_at x y a b reads = elim reads [
+  | inl same ↦ inl (omega arith, omega arith, omega arith)
+  | inr above ↦ inr (omega arith, omega arith, omega arith, omega arith)
+]
+
+pub reads_of : (x y a b : ℕ) → ReadsAt x y (b + 2) (a + 4) → Reads x y a b
+reads_of x y a b reads = elim reads [
+  | inl same ↦ inl (omega arith, omega arith, omega arith)
+  | inr above ↦ inr (omega arith, omega arith, omega arith, omega arith)
+]
 
 -- What both kinds of error have in common.
 record IsNear (x y m n : ℕ) : Type 0 where

@@ -2,3 +2,4 @@ pub mod Places
 pub mod EdgeLaws
 pub mod TopLaws
 pub mod AtHand
+pub mod Kernels

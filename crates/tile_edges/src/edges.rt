@@ -1,8 +1,8 @@
 //! The errors at a tile's places, and the edges that one tile hands to another.
-ghost use Rattle.std.specs.Prelude.{List, pos, replicate, ℕ, ℤ, ◌*◌, ◌+◌, ◌-◌, ◌<◌, ◌≡◌, ◌↔◌};
+ghost use Rattle.std.specs.Prelude.{List, pos, replicate, slice_index_or, ℕ, ℤ, ◌*◌, ◌+◌, ◌-◌, ◌<◌, ◌≡◌, ◌≤◌, ◌↔◌};
 ghost use Rattle.diffusion_definitions.specs.Diffusion.{Errors, Plane, Solves, Table};
 ghost use Rattle.tile_edges.specs.Edges.{IsGiven, IsOnBoard, IsPlaneOf, IsTaken, edge_length, skewed};
-ghost use Rattle.tile_shape.specs.Geometry.{IsAt, IsNeeded, IsPixel, IsReceiver, IsTile};
+ghost use Rattle.tile_shape.specs.Geometry.{IsAt, IsNeeded, IsPixel, IsReceiver, IsTile, first_offset, first_row};
 ghost use Rattle.tile_shape.specs.declared.tiles.Dir.{Dir};
 ghost use Rattle.tile_shape.specs.declared.tiles.Place.{Place};
 ghost use Rattle.tile_shape.specs.declared.tiles.Shape.{Shape};
@@ -15,6 +15,14 @@ pub fn each_place_has_its_error()
         → Solves k plane e → IsPlaneOf s plane → row < 32 → offset < 64
         → ((x y : ℕ) → IsAt p row offset x y → ¬ IsPixel s x y)
         → skewed e p.j (row + 2) (64 * p.c + offset + 6) ≡ pos 0 }
+{}
+
+/// An edge has the errors of its tile from its first row and its first offset on, row by row.
+pub fn an_edge_has_its_rows_and_offsets()
+    ensures { (e : Errors) (d : Dir) (p : Place) (xs : List ℤ) → (IsGiven e d p xs ↔ ((row offset : ℕ)
+        → first_row d ≤ row → row < 32 → first_offset d ≤ offset → offset < 64
+        → slice_index_or xs ((64 - first_offset d) * (row - first_row d) + (offset - first_offset d)) (pos 0)
+        ≡ skewed e p.j (row + 2) (64 * p.c + offset + 6))) }
 {}
 
 /// An edge handed on is the edge handed in.
