@@ -1,11 +1,11 @@
 -- Which errors a pixel reads, and that its tile has them.
-use Rattle.std.proofs.Common.{ℕ, ℤ, ◌≡◌, ◌+◌, ◌-◌, ◌*◌, ◌<◌, ◌≤◌, ◌∙◌, arith, List, inl, inr}
+use Rattle.std.proofs.Common.{ℕ, ℤ, ◌≡◌, ◌+◌, ◌-◌, ◌*◌, ◌≤◌, ◌∙◌, arith, List, inl, inr}
 use Rattle.std.proofs.lemmas.Bool.{cases_lt}
-use Rattle.diffusion_definitions.specs.Diffusion.{Errors, Table}
+use Rattle.diffusion_definitions.specs.Diffusion.{Errors}
 use Rattle.tile_shape.specs.Geometry.{IsAt, Reads}
 use Rattle.tile_shape.specs.declared.tiles.Place.{Place}
-use Rattle.tile_edges.specs.Edges.{IsAbove, IsCorner, IsLeft, skewed}
-use Rattle.tile_edges.specs.Reads.{HasError, IsAtHand, IsOwnBefore, ReadsAt}
+use Rattle.tile_edges.specs.Edges.{IsAbove, IsCorner, IsLeft}
+use Rattle.tile_edges.specs.Reads.{IsAtHand, ReadsAt}
 use Rattle.tile_edges.proofs.Places.{moved}
 
 -- the errors of pixels that are read

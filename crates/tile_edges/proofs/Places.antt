@@ -1,5 +1,5 @@
 -- The places of tiles in a table of errors.
-use Rattle.std.proofs.Common.{ℕ, ℤ, pos, suc, zero, ◌≡◌, ◌+◌, ◌-◌, ◌*◌, ◌<◌, ◌≤◌, ◌∙◌, ap, refl, arith, List, get_or, replicate, inl, inr}
+use Rattle.std.proofs.Common.{ℕ, ℤ, pos, suc, zero, ◌≡◌, ◌+◌, ◌-◌, ◌*◌, ◌<◌, ◌∙◌, ap, refl, arith, List, get_or, replicate, inl, inr}
 use Rattle.std.proofs.lemmas.Bool.{cases_lt}
 use Rattle.diffusion_definitions.specs.Diffusion.{Errors, Plane, Solves, Table}
 use Rattle.tile_shape.specs.Geometry.{IsAt, IsPixel}

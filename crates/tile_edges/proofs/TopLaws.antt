@@ -1,5 +1,5 @@
 -- The edges of the first band are the top's, and the bottom edges of a band are the top of the rows below it.
-use Rattle.std.proofs.Common.{ℕ, ℤ, pos, ◌≡◌, ◌+◌, ◌-◌, ◌*◌, ◌/◌, ◌%◌, ◌<◌, ◌≤◌, ◌∙◌, Bool, ap, refl, sym, arith, List, [], length, get_or, inl, inr}
+use Rattle.std.proofs.Common.{ℕ, ℤ, pos, ◌≡◌, ◌+◌, ◌-◌, ◌*◌, ◌/◌, ◌%◌, ◌<◌, ◌∙◌, ap, refl, sym, arith, List, [], get_or, inl, inr}
 use Rattle.std.proofs.lemmas.Bool.{cases_lt}
 use Rattle.std.proofs.lemmas.List.{get_or_past}
 use Rattle.diffusion_definitions.specs.Diffusion.{Errors, Plane, Solves, Table, errors, on, rest}

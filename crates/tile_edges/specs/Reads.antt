@@ -1,5 +1,5 @@
 -- Which errors a pixel reads, and where a tile has them.
-use Rattle.std.specs.Prelude.{ℕ, ℤ, pos, ◌≡◌, ◌+◌, ◌-◌, ◌*◌, ◌<◌, ◌≤◌, ◌⊎◌, List, slice_index, slice_index_or}
+use Rattle.std.specs.Prelude.{ℕ, ℤ, pos, ◌≡◌, ◌+◌, ◌*◌, ◌<◌, ◌≤◌, ◌⊎◌, List, slice_index, slice_index_or}
 use Rattle.diffusion_definitions.specs.Diffusion.{Errors, Table}
 use Rattle.tile_shape.specs.declared.tiles.Place.{Place}
 use Rattle.tile_edges.specs.Edges.{skewed}
