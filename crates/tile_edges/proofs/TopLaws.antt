@@ -1,5 +1,5 @@
 -- The edges of the first band are the top's, and the bottom edges of a band are the top of the rows below it.
-use Rattle.std.proofs.Common.{ℕ, ℤ, pos, ◌≡◌, ◌+◌, ◌-◌, ◌*◌, ◌/◌, ◌%◌, ◌<◌, ◌∙◌, ap, refl, sym, arith, List, [], get_or, inl, inr}
+use Rattle.std.proofs.Common.{ℕ, ℤ, pos, ◌≡◌, ◌+◌, ◌-◌, ◌*◌, ◌/◌, ◌%◌, ◌<◌, ◌∙◌, ap, refl, sym, arith, List, [], get_or, replicate, inl, inr}
 use Rattle.std.proofs.lemmas.Bool.{cases_lt}
 use Rattle.std.proofs.lemmas.List.{get_or_past}
 use Rattle.diffusion_definitions.specs.Diffusion.{Errors, Plane, Solves, Table, errors, on, rest}
@@ -11,7 +11,7 @@ use Rattle.tile_shape.specs.Geometry.{columns_of}
 use Rattle.tile_shape.specs.declared.tiles.Shape.{Shape}
 use Rattle.tile_edges.specs.Edges.{IsAbove, IsCorner, IsPlaneOf}
 use Rattle.tile_edges.specs.Tops.{AreBottoms, IsBelow, IsCut, top_of}
-use Rattle.tile_edges.proofs.Places.{moved}
+use Rattle.tile_edges.proofs.Places.{moved, nothing}
 
 -- an error of a top, by its column and offset
 top_at : (edges : List (List ℤ)) (t n c o : ℕ) → n + 56 + 2 * t ≡ 64 * c + o → o < 64
@@ -39,6 +39,20 @@ top_corner e edges c xs below cut = record {
       ∙ ap (λ m. get_or (get_or edges c []) m (pos 0)) (let same : 64 * t + 58 + i ≡ 64 * t + (58 + i) = omega arith in same)
       ∙ sym (moved e _ t _ n (omega arith) (omega arith) ∙ below t n a ∙ top_at edges t n c (58 + i) (omega arith) (omega arith));
 }
+
+-- where the top has no edge, its errors are 0
+pub no_top_above : (e : Errors) (edges : List (List ℤ)) (c : ℕ) → IsBelow edges e → get_or edges (c + 1) [] ≡ []
+    → IsAbove e (record { c = c; j = 0 }) (replicate 128 (pos 0))
+no_top_above e edges c below none = record {
+  at = λ t i a b.
+      nothing 128 (64 * t + i) ∙ ap (λ xs. get_or xs (64 * t + i) (pos 0)) (sym none) ∙ (top_above e edges c below).at t i a b;
+}
+
+pub no_top_corner : (e : Errors) (edges : List (List ℤ)) (c : ℕ) → IsBelow edges e → get_or edges c [] ≡ []
+    → IsCorner e (record { c = c; j = 0 }) (replicate 12 (pos 0))
+no_top_corner e edges c below none = top_corner e edges c (replicate 12 (pos 0)) below (record {
+  at = λ t i a b. nothing 12 (6 * t + i) ∙ ap (λ xs. get_or xs (64 * t + 58 + i) (pos 0)) (sym none);
+})
 
 -- the bottom edges of band j are the two rows above band j + 1
 pub bottoms_are_top : (k : Table) (p : Plane) (e : Errors) (s : Shape) (edges : List (List ℤ)) (j : ℕ) → Solves k p e → IsPlaneOf s p

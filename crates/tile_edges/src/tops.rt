@@ -1,5 +1,5 @@
 //! The errors above a board of tiles: those of a page's top, or the bottom edges of the band before it.
-ghost use Rattle.std.specs.Prelude.{List, [], pos, slice_index_or, ℕ, ℤ, ◌*◌, ◌+◌, ◌≡◌};
+ghost use Rattle.std.specs.Prelude.{List, [], pos, replicate, slice_index_or, ℕ, ℤ, ◌*◌, ◌+◌, ◌≡◌};
 ghost use Rattle.diffusion_definitions.specs.Diffusion.{Errors, Plane, Solves, Table, errors, on, rest};
 ghost use Rattle.tile_edges.specs.Edges.{IsAbove, IsCorner, IsPlaneOf};
 ghost use Rattle.tile_edges.specs.Tops.{AreBottoms, IsBelow, IsCut, top_of};
@@ -12,6 +12,14 @@ pub fn the_first_band_has_the_edges_of_the_top()
         → IsAbove e (record { c = c; j = 0 }) (slice_index_or edges (c + 1) []) }
     ensures corner { (e : Errors) (edges : List (List ℤ)) (c : ℕ) (xs : List ℤ) → IsBelow edges e
         → IsCut (slice_index_or edges c []) xs → IsCorner e (record { c = c; j = 0 }) xs }
+{}
+
+/// Where the top has no edge, what it hands to the first band is 0.
+pub fn an_edge_that_the_top_has_not_is_zero()
+    ensures above { (e : Errors) (edges : List (List ℤ)) (c : ℕ) → IsBelow edges e → slice_index_or edges (c + 1) [] ≡ []
+        → IsAbove e (record { c = c; j = 0 }) (replicate 128 (pos 0)) }
+    ensures corner { (e : Errors) (edges : List (List ℤ)) (c : ℕ) → IsBelow edges e → slice_index_or edges c [] ≡ []
+        → IsCorner e (record { c = c; j = 0 }) (replicate 12 (pos 0)) }
 {}
 
 /// The errors above a page are 0.
