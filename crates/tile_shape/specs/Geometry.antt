@@ -2,6 +2,7 @@
 -- columns that this makes are a tile: so what a pixel reads in its own band stands in its own column or left of it.
 use Rattle.std.specs.Prelude.{ℕ, ◌≡◌, ◌+◌, ◌*◌, ◌<◌, ◌≤◌, ◌⊎◌}
 use Rattle.std.specs.Int.{div_ceil}
+use Rattle.pwg_definitions.specs.Limits.{most_columns, most_rows}
 use Rattle.tile_shape.specs.declared.tiles.Dir.{Dir}
 use Rattle.tile_shape.specs.declared.tiles.Dir.TheVariants.{Right, Bottom, Corner}
 use Rattle.tile_shape.specs.declared.tiles.Place.{Place}
@@ -10,9 +11,9 @@ use Rattle.tile_shape.specs.declared.tiles.Shape.{Shape}
 -- the sizes that a window may have
 pub record IsShape (s : Shape) : Type 0 where
   pub some_width : 1 ≤ s.width
-  pub most_width : s.width ≤ 8191
+  pub most_width : s.width ≤ most_columns
   pub some_height : 1 ≤ s.height
-  pub most_height : s.height ≤ 15840
+  pub most_height : s.height ≤ most_rows
 
 -- how many columns of tiles a band has: the last row of a band is moved right by 62 pixels
 abbrev pub columns_of : Shape → ℕ

@@ -1,0 +1,5 @@
+pub mod Places
+pub mod EdgeLaws
+pub mod TopLaws
+pub mod AtHand
+pub mod Kernels
