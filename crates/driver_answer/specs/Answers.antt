@@ -1,12 +1,12 @@
 -- The exit status and the error line of each answer.
 use Rattle.std.specs.Prelude.{ℕ, List, [], ◌++◌, codes}
 use Rattle.std.specs.Fmt.{decimal}
-use Rattle.driver_answer.specs.declared.usage.UsageCause.{UsageCause}
-use Rattle.driver_answer.specs.declared.usage.UsageCause.TheVariants as usage
+use Rattle.job_words.specs.declared.usage.UsageCause.{UsageCause}
+use Rattle.job_words.specs.declared.usage.UsageCause.TheVariants as usage
 use Rattle.driver_answer.specs.declared.answer.Answer.{Answer}
 use Rattle.driver_answer.specs.declared.answer.Answer.TheVariants as answer
-use Rattle.driver_answer.specs.declared.answer.ProfileCause.{ProfileCause}
-use Rattle.driver_answer.specs.declared.answer.ProfileCause.TheVariants as profile
+use Rattle.job_profile.specs.declared.stops.ProfileCause.{ProfileCause}
+use Rattle.job_profile.specs.declared.stops.ProfileCause.TheVariants as profile
 use Rattle.printer_profile.specs.declared.reading.TextCause.{TextCause}
 use Rattle.printer_profile.specs.declared.reading.TextCause.TheVariants as text
 use Rattle.printer_profile.specs.declared.validity.ProfileFault.{ProfileFault}
@@ -101,7 +101,6 @@ profile_words profile.Absent = codes "Absent"
 profile_words profile.TooLong = codes "TooLong"
 profile_words (profile.Text cause) = text_words cause
 profile_words (profile.Check fault) = check_words fault
-profile_words profile.NotBuilt = codes "NotBuilt"
 
 -- The line that an answer writes on the error sink; a run that did all writes none.
 abbrev pub line_of : Answer → List ℕ

@@ -5,9 +5,10 @@ ghost use Rattle.std.specs.Fmt.{decimal};
 ghost use Rattle.std.specs.Prelude.{codes, ◌+◌, ◌++◌, ◌≡◌, ◌≤◌, []};
 
 use crate::names::{check_name, input_name, text_name, usage_name};
-use crate::usage::UsageFault;
 use arrayvec::ArrayString;
 use itoa::Buffer;
+use job_profile::ProfileCause;
+use job_words::UsageFault;
 use printer_profile::{ProfileFault, TextCause, key_name};
 use pwg_definitions::InputCause;
 
@@ -37,21 +38,6 @@ pub enum Answer {
     },
     /// Memory ran out.
     Memory,
-}
-
-/// Why a profile is refused.
-#[derive(Clone, Copy, Debug, PartialEq, Eq)]
-pub enum ProfileCause {
-    /// It is no built-in profile, and the shelf has no text of its name.
-    Absent,
-    /// Its text is longer than 65,536 bytes.
-    TooLong,
-    /// Its text is refused.
-    Text(TextCause),
-    /// Its text is read, and makes no sense.
-    Check(ProfileFault),
-    /// It has more than one nozzle, or inks other than black, which is not built yet.
-    NotBuilt,
 }
 
 // Appends a number in decimal.
@@ -107,7 +93,6 @@ fn push_profile_cause(cause: ProfileCause, out: &mut ArrayString<160>)
         ProfileCause::TooLong => out.push_str("TooLong"),
         ProfileCause::Text(cause) => push_text(cause, out),
         ProfileCause::Check(fault) => push_check(fault, out),
-        ProfileCause::NotBuilt => out.push_str("NotBuilt"),
     }
 }
 

@@ -1,11 +1,12 @@
-//! What a run of the driver answers: its answers, the exit status and the error line of each, and what is wrong with a
-//! command line. `driver_core` re-exports the types.
+//! What a run of the driver answers: its answers, and the exit status and the error line of each. `driver_core` re-exports
+//! the types.
 #![tactic(auto)]
 
 mod answer;
 mod names;
-mod usage;
+mod stops;
 
-pub use answer::{Answer, ProfileCause};
+pub use answer::Answer;
+pub use job_profile::ProfileCause;
+pub use job_words::{UsageCause, UsageFault};
 pub use printer_profile::{ProfileFault, TextCause};
-pub use usage::{UsageCause, UsageFault};

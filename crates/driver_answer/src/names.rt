@@ -2,7 +2,7 @@
 ghost use Rattle.driver_answer.specs.Answers.{check_name as check_name_of, header_name as header_name_of, input_name as input_name_of, line_name as line_name_of, text_name as text_name_of, usage_name as usage_name_of};
 ghost use Rattle.std.specs.Prelude.{◌≡◌, ◌≤◌, length};
 
-use crate::usage::UsageCause;
+use job_words::UsageCause;
 use printer_profile::{ProfileFault, TextCause};
 use pwg_definitions::{HeaderFault, InputCause, LineFault};
 

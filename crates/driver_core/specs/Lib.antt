@@ -1,3 +1,5 @@
 pub mod Outside
 pub mod Pages
+pub mod Printing
+pub mod Showing
 pub mod Run

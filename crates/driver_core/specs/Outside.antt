@@ -1,11 +1,8 @@
 -- What is outside of a run, at the call and at the return.
 use Rattle.std.specs.Prelude.{ℕ, List, Option}
+use Rattle.std.specs.Io.KnownBytes.{Keeps}
 use Rattle.weave_base.specs.Causes.{Rose}
 use Rattle.weave_base.specs.Shelf.{NamedText}
-
--- the count of faults did not rise
-abbrev pub IsCalm : ℕ → ℕ → Type 0
-IsCalm before now = Rose before now → ⊥
 
 -- A source or a sink at the call and at the return: its bytes, where it tells them, and its count of faults.
 pub record Outside : Type 0 where
@@ -17,6 +14,10 @@ pub record Outside : Type 0 where
 abbrev pub HasRisen : Outside → Type 0
 HasRisen s = Rose s.faults_before s.faults_now
 
+-- its count of faults did not rise
+abbrev pub IsCalm : Outside → Type 0
+IsCalm s = HasRisen s → ⊥
+
 -- A shelf: its texts, where it tells them, and its count of faults at the call and at the return.
 pub record Texts : Type 0 where
   pub told : Option (List NamedText)
@@ -25,3 +26,19 @@ pub record Texts : Type 0 where
 
 abbrev pub HasFailed : Texts → Type 0
 HasFailed shelf = Rose shelf.faults_before shelf.faults_now
+
+-- What a run reads and writes, but for the error sink.
+pub record Outsides : Type 0 where
+  pub shelf : Texts
+  pub input : Outside
+  pub out : Outside
+
+-- nothing was taken of the input, and nothing written
+abbrev pub Untouched : Outsides → Type 0
+Untouched o = Keeps o.input.before o.input.now × Keeps o.out.before o.out.now
+
+-- nothing outside failed
+pub record NothingFailed (o : Outsides) : Type 0 where
+  pub shelf : HasFailed o.shelf → ⊥
+  pub input : IsCalm o.input
+  pub out : IsCalm o.out

@@ -3,7 +3,7 @@ use Rattle.std.specs.Prelude.{◌≡◌, ℕ, ◌+◌, ◌≤◌, List, ◌++◌
 use Rattle.std.specs.List.{flat_map}
 use Rattle.std.specs.Io.KnownBytes.{Consumes, IsAtEnd}
 use Rattle.diffusion_definitions.specs.Diffusion.{Table}
-use Rattle.page_definitions.specs.OldPageBytes.{page_bytes}
+use Rattle.page_definitions.specs.PageBytes.{page_bytes}
 use Rattle.printer_definitions.specs.Printer.{Printer}
 use Rattle.pwg_stream.specs.declared.reader.PageReader.{PageReader}
 use Rattle.pwg_stream.specs.Reading.{has_ended, lines_left_of, page_of, stop_of, text_of}
@@ -35,16 +35,3 @@ pub record TakesPages (p : Printer) (before now : Option (List ℕ)) (pages : Li
   pub others : List Page
   pub are : (stream (wanted_by p) bytes).pages ≡ pages ++ others
 
--- The next bytes of the text are this page, whatever comes after them, and were used.
-pub record ReadsPage (want : Wanted) (old new : PageReader) (before now : Option (List ℕ)) (page : Page) : Type 0 where
-  pub bytes : List ℕ
-  pub used : Consumes (text_of old before) (text_of new now) bytes
-  pub is : (rest : List ℕ) → page_at want (bytes ++ rest) ≡ Whole page rest
-  pub number : page_of new ≡ page_of old + 1
-  pub last : page_of new ≤ 9999
-  pub unended : has_ended new ≡ has_ended old
-
--- The reader stands before a page.
-pub record IsBetween (reader : PageReader) : Type 0 where
-  pub whole : lines_left_of reader ≡ 0
-  pub going : stop_of reader ≡ None

@@ -1,112 +1,159 @@
--- What a run does, by its answer.
-use Rattle.std.specs.Prelude.{◌≡◌, ℕ, ◌+◌, ◌⊎◌, List, [], ◌∷◌, ◌++◌, length, Option, None, Result, Ok, Err}
-use Rattle.std.specs.Io.KnownBytes.{Appends, Keeps}
-use Rattle.driver_answer.specs.declared.answer.Answer.{Answer}
-use Rattle.driver_answer.specs.declared.answer.Answer.TheVariants as answer
-use Rattle.driver_answer.specs.declared.usage.UsageFault.{UsageFault}
-use Rattle.driver_answer.specs.Answers.{line_of}
+-- What a run comes to.
+use Rattle.std.specs.Prelude.{◌≡◌, ℕ, ◌⊎◌, ◌↔◌, List, Option, Some, None, IsErr, Result, Ok, Err}
+use Rattle.std.specs.Io.KnownBytes.{Appends, IsAtEnd, Keeps}
 use Rattle.diffusion_definitions.specs.Diffusion.{Table}
 use Rattle.diffusion_kernel.specs.Tables.{table_of}
+use Rattle.driver_answer.specs.declared.answer.Answer.{Answer}
+use Rattle.driver_answer.specs.declared.answer.Answer.TheVariants as answer
+use Rattle.driver_answer.specs.Answers.{line_of, status_of}
+use Rattle.driver_answer.specs.Stops.{profile_answer}
+use Rattle.job_profile.specs.declared.stops.ProfileCause.{ProfileCause}
+use Rattle.job_profile.specs.declared.stops.ProfileStop.{ProfileStop}
+use Rattle.job_profile.specs.declared.stops.ProfileStop.TheVariants as profile
 use Rattle.job_profile.specs.Named.{IsJobProfile, Refusal, refused_at}
 use Rattle.job_words.specs.declared.reading.Job.{Job}
 use Rattle.job_words.specs.declared.table.Verb.{Verb}
 use Rattle.job_words.specs.declared.table.Verb.TheVariants as verb
+use Rattle.job_words.specs.declared.usage.UsageFault.{UsageFault}
 use Rattle.job_words.specs.Meaning.{job_meaning, profile_named}
-use Rattle.page_definitions.specs.OldPageBytes.{page_bytes}
-use Rattle.page_definitions.specs.Printing.{Prints}
 use Rattle.printer_definitions.specs.Printer.{Printer}
 use Rattle.printer_profile.specs.declared.fields.Profile.{Profile}
 use Rattle.printer_profile.specs.Profiles.{built_in, printer_of}
 use Rattle.printer_profile.specs.Text.{profile_text_of}
-use Rattle.pwg_stream.specs.declared.stops.StreamStop.{StreamStop}
-use Rattle.pwg_stream.specs.declared.stops.StreamStop.TheVariants as stop
-use Rattle.pwg_definitions.specs.Stream.{Page}
-use Rattle.pwg_definitions.specs.Stream.StreamEnd.{Fault}
+use Rattle.pwg_definitions.specs.declared.faults.InputCause.{InputCause}
+use Rattle.pwg_definitions.specs.Stream.{Page, stream}
+use Rattle.pwg_definitions.specs.Stream.StreamEnd.{Done, Fault}
+use Rattle.separation_definitions.specs.Windows.{wanted_by}
 use Rattle.weave_base.specs.Parts.{AppendsPart}
 use Rattle.weave_base.specs.Shelf.{NamedText}
-use Rattle.driver_core.specs.Outside.{HasFailed, HasRisen, Outside, Texts}
-use Rattle.driver_core.specs.Pages.{IsStream, ReadsStream, TakesPages, job_bytes}
+use Rattle.driver_core.specs.declared.stops.PrintStop.{PrintStop}
+use Rattle.driver_core.specs.declared.stops.ShowStop.{ShowStop}
+use Rattle.driver_core.specs.Outside.{HasFailed, HasRisen, IsCalm, NothingFailed, Outside, Outsides, Texts, Untouched}
+use Rattle.driver_core.specs.Printing.{MeetsFault, PrintOutcome, PrintsAll, PrintsSome, StopsInPage, print_answer}
+use Rattle.driver_core.specs.Showing.{ShowOutcome, show_answer}
 
--- nothing was taken of the input, and nothing written
-abbrev pub Untouched : Outside → Outside → Type 0
-Untouched input out = Keeps input.before input.now × Keeps out.before out.now
+-- ---- what a run comes to, by the meaning of its words
 
--- the jobs of these pages were written, and a part of the next one's
-pub record StopsInPage (p : Printer) (k : Table) (before now : Option (List ℕ)) (pages : List Page) (page : Page) : Type 0 where
-  pub between : Option (List ℕ)
-  pub whole : Appends before between (job_bytes p k pages)
-  pub part : AppendsPart between now (page_bytes page p k)
+-- The answer where a command ends well or stops so.
+abbrev pub answer_of : {E : Type 0} → (E → Answer) → Result (Unit {0}) E → Answer
+answer_of why (Ok u) = answer.Done
+answer_of why (Err stop) = why stop
 
--- What printing comes to, for a printer and a kernel: when each answer comes, and what was then read and written.
-abbrev pub PrintOutcome : Printer → Table → Outside → Outside → Answer → Type 0
-PrintOutcome p k input out answer.Done = (pages : List Page) × ReadsStream p input.before input.now pages
-    × Appends out.before out.now (job_bytes p k pages) × Prints p k pages (job_bytes p k pages)
-PrintOutcome p k input out (answer.Usage fault) = ⊥
-PrintOutcome p k input out (answer.Profile line cause) = ⊥
-PrintOutcome p k input out (answer.Input page line cause) = (pages : List Page) × IsStream p input.before pages (Fault page line cause)
-    × Appends out.before out.now (job_bytes p k pages)
-PrintOutcome p k input out answer.Read = HasRisen input × (pages : List Page) × TakesPages p input.before input.now pages
-    × Appends out.before out.now (job_bytes p k pages)
-PrintOutcome p k input out (answer.Write number) = HasRisen out × (pages : List Page) × (page : Page)
-    × TakesPages p input.before input.now (pages ++ page ∷ []) × (number ≡ length pages + 1) × StopsInPage p k out.before out.now pages page
-PrintOutcome p k input out answer.Memory = (pages : List Page) × TakesPages p input.before input.now pages
-    × Appends out.before out.now (job_bytes p k pages)
-
--- What showing a profile comes to.
-abbrev pub ShowOutcome : Profile → Outside → Answer → Type 0
-ShowOutcome p out answer.Done = Appends out.before out.now (profile_text_of p)
-ShowOutcome p out (answer.Usage fault) = ⊥
-ShowOutcome p out (answer.Profile line cause) = ⊥
-ShowOutcome p out (answer.Input page line cause) = ⊥
-ShowOutcome p out answer.Read = ⊥
-ShowOutcome p out (answer.Write number) = HasRisen out × (number ≡ 0) × AppendsPart out.before out.now (profile_text_of p)
-ShowOutcome p out answer.Memory = Keeps out.before out.now
+-- The command did this, which is answered so.
+pub record Did (E : Type 0) (outcome : Result (Unit {0}) E → Type 0) (why : E → Answer) (a : Answer) : Type 0 where
+  pub end : Result (Unit {0}) E
+  pub does : outcome end
+  pub answered : a ≡ answer_of why end
 
 -- what a command comes to with its profile
-abbrev pub VerbOutcome : Verb → Table → Profile → Outside → Outside → Answer → Type 0
-VerbOutcome verb.Print k p input out a = PrintOutcome (printer_of p) k input out a
-VerbOutcome verb.Profile k p input out a = Keeps input.before input.now × ShowOutcome p out a
+abbrev pub VerbOutcome : Verb → Table → Profile → Outsides → Answer → Type 0
+VerbOutcome verb.Print k p o a = Did PrintStop (PrintOutcome (printer_of p) k o.input o.out) print_answer a
+VerbOutcome verb.Profile k p o a = Keeps o.input.before o.input.now × Did ShowStop (ShowOutcome p o.out) show_answer a
 
--- why a command has no profile
-abbrev pub NoProfile : Verb → List ℕ → Texts → Answer → Type 0
-NoProfile command name shelf answer.Done = ⊥
-NoProfile command name shelf (answer.Usage fault) = ⊥
-NoProfile command name shelf (answer.Profile line cause) = IsJobProfile shelf.told command name (Err (refused_at line cause))
-NoProfile command name shelf (answer.Input page line cause) = ⊥
-NoProfile command name shelf answer.Read = HasFailed shelf × (built_in name ≡ None)
-NoProfile command name shelf (answer.Write number) = ⊥
-NoProfile command name shelf answer.Memory = built_in name ≡ None
+-- why there is no profile of a name
+abbrev pub ProfileStopped : List ℕ → Texts → ProfileStop → Type 0
+ProfileStopped name shelf (profile.Refused line cause) = IsJobProfile shelf.told name (Err (refused_at line cause))
+ProfileStopped name shelf profile.Failed = HasFailed shelf × (built_in name ≡ None)
+ProfileStopped name shelf profile.Memory = built_in name ≡ None
 
--- What a job comes to: it has no profile, or this one.
-abbrev pub JobOutcome : Job → List ℕ → Texts → Outside → Outside → Answer → Type 0
-JobOutcome job name shelf input out a =
-    (NoProfile job.verb name shelf a × Untouched input out)
-    ⊎ ((p : Profile) × IsJobProfile shelf.told job.verb name (Ok p) × VerbOutcome job.verb (table_of job.kernel) p input out a)
+-- There is no profile, which is answered so.
+pub record NoProfile (name : List ℕ) (o : Outsides) (a : Answer) : Type 0 where
+  pub why : ProfileStop
+  pub stopped : ProfileStopped name o.shelf why
+  pub answered : a ≡ profile_answer why
+  pub untouched : Untouched o
 
--- What a command line comes to, by its meaning.
-abbrev pub LineOutcome : Result Job UsageFault → List ℕ → Texts → Outside → Outside → Answer → Type 0
-LineOutcome (Err fault) name shelf input out a = (a ≡ answer.Usage fault) × Untouched input out
-LineOutcome (Ok job) name shelf input out a = JobOutcome job name shelf input out a
+-- There is this profile, and the command did its work with it.
+pub record WithProfile (name : List ℕ) (job : Job) (o : Outsides) (a : Answer) : Type 0 where
+  pub p : Profile
+  pub is : IsJobProfile o.shelf.told name (Ok p)
+  pub outcome : VerbOutcome job.verb (table_of job.kernel) p o a
 
-abbrev pub Outcome : List (List ℕ) → Texts → Outside → Outside → Answer → Type 0
-Outcome words shelf input out a = LineOutcome (job_meaning words) (profile_named words) shelf input out a
+-- What a command line comes to: refused words, no profile, or the command's work.
+abbrev pub LineOutcome : Result Job UsageFault → List ℕ → Outsides → Answer → Type 0
+LineOutcome (Err fault) name o a = (a ≡ answer.Usage fault) × Untouched o
+LineOutcome (Ok job) name o a = NoProfile name o a ⊎ WithProfile name job o a
 
--- the profile of a command is this one, or refused so, whatever a shelf that does not tell its texts has
-abbrev pub ProfileIs : Option (List NamedText) → Verb → List ℕ → Result Profile Refusal → Type 0
-ProfileIs told command name r = (other : Result Profile Refusal) → IsJobProfile told command name other → other ≡ r
+abbrev pub Outcome : List (List ℕ) → Outsides → Answer → Type 0
+Outcome words o a = LineOutcome (job_meaning words) (profile_named words) o a
+
+-- The error sink got the answer's line, whole, or a proper prefix of it and its count rose.
+abbrev pub Told : Outside → Answer → Type 0
+Told err a = Appends err.before err.now (line_of a) ⊎ (HasRisen err × AppendsPart err.before err.now (line_of a))
+
+-- where the error sink did not fail, it got exactly this answer's line
+abbrev pub Tells : Outside → Answer → Type 0
+Tells err a = IsCalm err → Appends err.before err.now (line_of a)
+
+-- ---- how a promise speaks of a command line
+
+-- the profile of a name is this one, or refused so, whatever a shelf that does not tell its texts has
+abbrev pub ProfileIs : Option (List NamedText) → List ℕ → Result Profile Refusal → Type 0
+ProfileIs told name r = (other : Result Profile Refusal) → IsJobProfile told name other → other ≡ r
 
 -- The words ask for this command, with a profile that is this one or is refused so.
 pub record AsksFor (words : List (List ℕ)) (told : Option (List NamedText)) (command : Verb) (job : Job) (r : Result Profile Refusal) : Type 0 where
   pub means : job_meaning words ≡ Ok job
   pub command_is : job.verb ≡ command
-  pub profile_is : ProfileIs told command (profile_named words) r
+  pub profile_is : ProfileIs told (profile_named words) r
 
--- The answer's line, whole or a part of it; whole where the count did not rise.
-abbrev pub Told : Outside → Answer → Type 0
-Told err a = Appends err.before err.now (line_of a) ⊎ (HasRisen err × AppendsPart err.before err.now (line_of a))
+-- ---- what a run promises
 
--- what a stop of the stream is answered with
-abbrev pub answer_to : StreamStop → Answer
-answer_to (stop.Input page line cause) = answer.Input page line cause
-answer_to stop.Read = answer.Read
-answer_to stop.Memory = answer.Memory
+-- The status is that of an answer whose cause holds, and the error sink was told that answer.
+pub record IsAnswered (words : List (List ℕ)) (o : Outsides) (err : Outside) (status : ℕ) : Type 0 where
+  pub a : Answer
+  pub status_is : status ≡ status_of a
+  pub outcome : Outcome words o a
+  pub told : Told err a
+
+-- What a run promises, of its words, of what is outside, of the error sink and of the status that it returns.
+pub record Promises (words : List (List ℕ)) (o : Outsides) (err : Outside) (status : ℕ) : Type 0 where
+  pub answered : IsAnswered words o err status
+
+  -- A valid job prints, unless something outside fails or memory runs out.
+  pub valid : (job : Job) (p : Profile) (bytes : List ℕ) (pages : List Page) → AsksFor words o.shelf.told verb.Print job (Ok p)
+      → o.input.before ≡ Some bytes → stream (wanted_by (printer_of p)) bytes ≡ record { pages = pages; end = Done }
+      → NothingFailed o → (status ≡ 0) ⊎ (status ≡ 7)
+  -- On 0 all pages of the input are printed: their bytes mean their dots.
+  pub printed : (job : Job) (p : Profile) → AsksFor words o.shelf.told verb.Print job (Ok p) → status ≡ 0
+      → PrintsAll (printer_of p) (table_of job.kernel) o.input o.out
+  -- A refused page is told, and only the pages before it stand whole.
+  pub input : (job : Job) (p : Profile) → AsksFor words o.shelf.told verb.Print job (Ok p) → status ≡ 3
+      → (page line : ℕ) × (cause : InputCause) × MeetsFault (printer_of p) (table_of job.kernel) o.input o.out page line cause
+      × Tells err (answer.Input page line cause)
+  pub refused : (job : Job) (p : Profile) (bytes : List ℕ) (pages : List Page) (page line : ℕ) (cause : InputCause)
+      → AsksFor words o.shelf.told verb.Print job (Ok p)
+      → o.input.before ≡ Some bytes → stream (wanted_by (printer_of p)) bytes ≡ record { pages = pages; end = Fault page line cause }
+      → NothingFailed o → (status ≡ 3) ⊎ (status ≡ 7)
+  -- On 4 and 7 some first pages of what was taken stand whole, and nothing besides.
+  pub stopped : (job : Job) (p : Profile) → AsksFor words o.shelf.told verb.Print job (Ok p) → (status ≡ 4) ⊎ (status ≡ 7)
+      → PrintsSome (printer_of p) (table_of job.kernel) o.input o.out
+  -- On 5 a prefix of the named page stands after the pages before it.
+  pub part : (job : Job) (p : Profile) → AsksFor words o.shelf.told verb.Print job (Ok p) → status ≡ 5
+      → (number : ℕ) × StopsInPage (printer_of p) (table_of job.kernel) o.input o.out number × Tells err (answer.Write number)
+
+  -- The command `profile` writes the profile's text, and takes nothing of the input.
+  pub valid_profile : (job : Job) (p : Profile) → AsksFor words o.shelf.told verb.Profile job (Ok p)
+      → (HasFailed o.shelf → ⊥) → IsCalm o.out → (status ≡ 0) ⊎ (status ≡ 7)
+  pub shown : (job : Job) (p : Profile) → AsksFor words o.shelf.told verb.Profile job (Ok p) → status ≡ 0
+      → Appends o.out.before o.out.now (profile_text_of p)
+  pub part_shown : (job : Job) (p : Profile) → AsksFor words o.shelf.told verb.Profile job (Ok p) → status ≡ 5
+      → AppendsPart o.out.before o.out.now (profile_text_of p) × Tells err (answer.Write 0)
+  pub none_shown : (job : Job) (p : Profile) → AsksFor words o.shelf.told verb.Profile job (Ok p) → (status ≡ 4) ⊎ (status ≡ 7)
+      → Keeps o.out.before o.out.now
+  pub unread : (job : Job) → job_meaning words ≡ Ok job → job.verb ≡ verb.Profile → Keeps o.input.before o.input.now
+
+  -- Each other status has its cause: the words first, then the profile, then the input.
+  pub usage : (status ≡ 1) ↔ IsErr (job_meaning words)
+  pub profile : status ≡ 2 → (job : Job) × (line : ℕ) × (cause : ProfileCause) × (job_meaning words ≡ Ok job)
+      × IsJobProfile o.shelf.told (profile_named words) (Err (refused_at line cause)) × Tells err (answer.Profile line cause)
+  pub refused_profile : (command : Verb) (job : Job) (refusal : Refusal) → AsksFor words o.shelf.told command job (Err refusal)
+      → (HasFailed o.shelf → ⊥) → (status ≡ 2) ⊎ (status ≡ 7)
+  pub read : status ≡ 4 → HasRisen o.input ⊎ (HasFailed o.shelf × (built_in (profile_named words) ≡ None))
+  pub write : status ≡ 5 → HasRisen o.out
+  pub range : (status ≡ 0) ⊎ (status ≡ 1) ⊎ (status ≡ 2) ⊎ (status ≡ 3) ⊎ (status ≡ 4) ⊎ (status ≡ 5) ⊎ (status ≡ 7)
+  pub nothing : (status ≡ 1) ⊎ (status ≡ 2) → Untouched o
+
+  -- The error line.
+  pub silent : status ≡ 0 → Keeps err.before err.now
+  pub line : IsCalm err → (a : Answer) × (status ≡ status_of a) × Appends err.before err.now (line_of a)

@@ -1,10 +1,10 @@
 //! The whole run of the driver: words and bytes in, bytes, a status and an error line out.
 #![tactic(auto)]
 
-mod pages;
 mod printing;
 mod running;
 mod showing;
+mod stops;
 
 pub use driver_answer::{Answer, ProfileCause, UsageCause, UsageFault};
 pub use running::{run, tell};

@@ -1,5 +1,5 @@
 //! Streams, words and runs in memory.
-pub use crate::bytes::{begin, front};
+pub use crate::bytes::{begin, prefix};
 use driver_core::run;
 use pwg_header::{Kind, PageForm, write_header};
 use std::alloc::{AllocError, Global};
@@ -11,11 +11,11 @@ use weave_base::{MemShelf, MemSink, MemSource, Memory, ShelfFile, Words};
 pub const GREY_BODY: [u8; 8] = [0, 3, 0xD1, 0, 2, 0x9F, 0, 0xA3];
 
 /// The job of the page of grey.
-pub const GREY_JOB: [u8; 69] = [
+pub const GREY_JOB: [u8; 70] = [
     0x1B, 0x40, 0x1B, 0x28, 0x47, 1, 0, 1, 0x1B, 0x28, 0x55, 1, 0, 5, 0x1B, 0x28, 0x69, 1, 0, 0,
     0x1B, 0x55, 1, 0x1B, 0x28, 0x43, 2, 0, 4, 0, 0x1B, 0x28, 0x63, 4, 0, 0, 0, 4, 0, 0x1B, 0x28,
-    0x56, 2, 0, 0, 0, 0x1B, 0x28, 0x76, 2, 0, 2, 0, 0x1B, 0x72, 0, 0x0D, 0x1B, 0x2E, 0, 10, 10, 1,
-    4, 0, 0x50, 0x0C, 0x1B, 0x40,
+    0x56, 2, 0, 0, 0, 0x1B, 0x28, 0x76, 2, 0, 2, 0, 0x1B, 0x72, 0, 0x0D, 0x1B, 0x2E, 1, 10, 10, 1,
+    4, 0, 0, 0x50, 0x0C, 0x1B, 0x40,
 ];
 
 /// The bytes of a stream of one page of grey.
@@ -73,14 +73,28 @@ pub fn one_file(alloc: Global, name: &str, text: &[u8]) -> Result<MemShelf, Memo
 /// Appends the header of a grey page for a printer of these dots an inch.
 pub fn add_header(
     bytes: &mut Vec<u8>,
+    resolution: (u32, u32),
+    size: (u32, u32),
+) -> Result<(), AllocError> {
+    add_header_of(bytes, Kind::Gray8, resolution, size)
+}
+
+/// Appends the header of a page of this kind for a printer of these dots an inch.
+pub fn add_header_of(
+    bytes: &mut Vec<u8>,
+    kind: Kind,
     (hdpi, vdpi): (u32, u32),
     (width, height): (u32, u32),
 ) -> Result<(), AllocError> {
+    let bytes_per_line = match kind {
+        Kind::Gray8 | Kind::Black8 => width,
+        Kind::Rgb8 => width.wrapping_mul(3),
+    };
     let form = PageForm {
         width,
         height,
-        kind: Kind::Gray8,
-        bytes_per_line: width,
+        kind,
+        bytes_per_line,
     };
     let mut header = [0; 1796];
     write_header(&form, hdpi, vdpi, &mut header);

@@ -22,14 +22,14 @@ fn print_by(alloc: Global, kernel: &str, workers: &str) -> Result<Left, Memory> 
 #[test]
 fn tiles_give_the_row_by_row_page(rt: HostRuntime) -> Result<(), Fail> {
     let alloc = rt.alloc();
-    let cases: [(&str, u64); 3] = [
-        ("kernel=fs", 0x0C20_E911_9112_9E34),
-        ("kernel=jjn", 0xAE47_5828_D3C6_B041),
-        ("kernel=stucki", 0xEBC7_1099_A3BF_6CA5),
+    let cases: [(&str, usize, u64); 3] = [
+        ("kernel=fs", 3192, 0x1AE9_8C03_27DA_88F0),
+        ("kernel=jjn", 3094, 0x6675_D5C2_1BF2_E860),
+        ("kernel=stucki", 3192, 0x354F_B3FA_36DD_A5A9),
     ];
-    for (kernel, hash) in cases {
+    for (kernel, length, hash) in cases {
         for workers in ["workers=1", "workers=2", "workers=64"] {
-            print_by(alloc, kernel, workers)?.hashes_to(&rt, 3122, hash);
+            print_by(alloc, kernel, workers)?.hashes_to(&rt, length, hash);
         }
     }
     Ok(())

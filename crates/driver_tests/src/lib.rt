@@ -5,6 +5,8 @@
 
 pub mod bytes;
 #[cfg(test)]
+mod colours;
+#[cfg(test)]
 mod fixture;
 #[cfg(test)]
 mod kernels;
@@ -16,3 +18,5 @@ mod printers;
 mod profiles;
 #[cfg(test)]
 mod runs;
+#[cfg(test)]
+mod weave;

@@ -1,6 +1,6 @@
 //! Runs whose reads or writes fail.
 use crate::fixture::{
-    GREY_JOB, GREY_STREAM, PRINT, front, no_files, plain, roomy, run_over, two_pages, words,
+    GREY_JOB, GREY_STREAM, PRINT, no_files, plain, prefix, roomy, run_over, two_pages, words,
 };
 use driver_core::run;
 use std::alloc::Global;
@@ -8,9 +8,9 @@ use std::test::Fail;
 use weave_base::{MemSink, MemSource};
 
 // The lengths of the job of one page, and of two.
-const ONE: usize = 69;
+const ONE: usize = 70;
 
-const TWO: usize = 138;
+const TWO: usize = 140;
 
 // The job of two pages of grey.
 fn two_jobs(alloc: Global) -> Result<Vec<u8>, Fail> {
@@ -35,7 +35,7 @@ fn a_failing_read_keeps_the_pages_before_it(rt: HostRuntime) -> Result<(), Fail>
         let one = vec![in alloc; 1]?;
         let input = MemSource::make(two_pages(alloc)?, one, vec![in alloc; call]?);
         let left = run_over(alloc, &PRINT, input, roomy(alloc)?, no_files(alloc))?;
-        left.is(&rt, 4, front(&jobs, length), b"read failed\n");
+        left.is(&rt, 4, prefix(&jobs, length), b"read failed\n");
     }
     Ok(())
 }
@@ -53,25 +53,25 @@ fn line_after(count: usize) -> &'static [u8] {
 fn every_failing_write_leaves_what_was_taken(rt: HostRuntime) -> Result<(), Fail> {
     let alloc = rt.alloc();
     let job = two_jobs(alloc)?;
-    for call in 1..139 {
+    for call in 1..141 {
         let taken = call as usize - 1;
         let out = MemSink::make(alloc, TWO, vec![in alloc; 1]?, vec![in alloc; call]?)?;
         let input = plain(alloc, two_pages(alloc)?);
         let left = run_over(alloc, &PRINT, input, out, no_files(alloc))?;
-        left.is(&rt, 5, front(&job, taken), line_after(taken));
+        left.is(&rt, 5, prefix(&job, taken), line_after(taken));
     }
     Ok(())
 }
 
 #[test]
-fn a_full_sink_keeps_a_front_of_the_job(rt: HostRuntime) -> Result<(), Fail> {
+fn a_full_sink_keeps_a_prefix_of_the_job(rt: HostRuntime) -> Result<(), Fail> {
     let alloc = rt.alloc();
     let job = two_jobs(alloc)?;
     for room in 0..TWO {
         let out = MemSink::make(alloc, room, Vec::new(alloc), Vec::new(alloc))?;
         let input = plain(alloc, two_pages(alloc)?);
         let left = run_over(alloc, &PRINT, input, out, no_files(alloc))?;
-        left.is(&rt, 5, front(&job, room), line_after(room));
+        left.is(&rt, 5, prefix(&job, room), line_after(room));
     }
     let out = MemSink::make(alloc, TWO, Vec::new(alloc), Vec::new(alloc))?;
     let input = plain(alloc, two_pages(alloc)?);
@@ -100,7 +100,7 @@ fn a_deaf_error_sink_leaves_the_status(rt: HostRuntime) -> Result<(), Fail> {
     ];
     for (room, line) in cases {
         let bytes = two_pages(alloc)?;
-        let mut input = plain(alloc, front(&bytes, GREY_STREAM - 1).to_vec(alloc)?);
+        let mut input = plain(alloc, prefix(&bytes, GREY_STREAM - 1).to_vec(alloc)?);
         let mut out = roomy(alloc)?;
         let mut err = MemSink::make(alloc, room, Vec::new(alloc), Vec::new(alloc))?;
         let mut shelf = no_files(alloc);

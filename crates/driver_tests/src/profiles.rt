@@ -224,19 +224,3 @@ fn a_text_of_65537_bytes_is_too_long(rt: HostRuntime) -> Result<(), Fail> {
     )?;
     Ok(())
 }
-
-#[test]
-fn a_profile_for_later_is_refused_before_any_input(rt: HostRuntime) -> Result<(), Fail> {
-    let alloc = rt.alloc();
-    let line = b"profile: line 0: NotBuilt\n";
-    is_refused(&rt, alloc, &["print"], 2, line)?;
-    for word in [
-        "profile=tiny",
-        "profile=p360k",
-        "profile=p360cmyk",
-        "profile=p720cmyk",
-    ] {
-        is_refused(&rt, alloc, &["print", word], 2, line)?;
-    }
-    Ok(())
-}

@@ -3,14 +3,14 @@ use Rattle.std.proofs.Common.{◌≡◌, ℕ, ◌<◌, ◌≤◌, if◌then◌el
 use Rattle.std.proofs.lemmas.List.{length-replicate}
 use Rattle.std.specs.Option.{IsSomeAnd}
 use Rattle.std.proofs.lemmas.Bool.{le-ltb, lt-ltb}
-use Rattle.driver_answer.specs.declared.answer.ProfileCause.TheVariants as cause
+use Rattle.job_profile.specs.declared.stops.ProfileCause.TheVariants as cause
 use Rattle.printer_profile.specs.declared.fields.Profile.{Profile}
 use Rattle.std.specs.declared.alloc.Global.{Global}
 use Rattle.std.specs.Vec.{vec_len}
 use Rattle.weave_base.specs.Shelf.{Finds, IsWithin, NamedText, text_named}
 use Rattle.weave_base.specs.declared.shelf.Found.{Found}
-use Rattle.job_profile.specs.declared.finding.ProfileStop.{ProfileStop}
-use Rattle.job_profile.specs.declared.finding.ProfileStop.TheVariants as stop
+use Rattle.job_profile.specs.declared.stops.ProfileStop.{ProfileStop}
+use Rattle.job_profile.specs.declared.stops.ProfileStop.TheVariants as stop
 use Rattle.job_profile.specs.Stops.{OnRefused}
 use Rattle.weave_base.specs.declared.shelf.Found.TheVariants as found
 use Rattle.job_profile.specs.Named.{Refusal, refused_at, shelf_result, text_result}

@@ -1,11 +1,7 @@
--- The profile that a command uses.
-use Rattle.std.specs.Prelude.{◌≡◌, ℕ, Bool, true, false, nat_lt, ◌==◌, ◌&&◌, if◌then◌else◌, List, length, Option, Some, None, IfSome, Result, Ok, Err}
-use Rattle.driver_answer.specs.declared.answer.ProfileCause.{ProfileCause}
-use Rattle.driver_answer.specs.declared.answer.ProfileCause.TheVariants as cause
-use Rattle.job_words.specs.declared.table.Verb.{Verb}
-use Rattle.job_words.specs.declared.table.Verb.TheVariants as verb
-use Rattle.printer_definitions.specs.declared.inks.InkSet.{InkSet}
-use Rattle.printer_definitions.specs.declared.inks.InkSet.TheVariants.{K, Cmy, Cmyk}
+-- The profile of a name.
+use Rattle.std.specs.Prelude.{◌≡◌, ℕ, nat_lt, if◌then◌else◌, List, length, Option, Some, None, IfSome, Result, Ok, Err}
+use Rattle.job_profile.specs.declared.stops.ProfileCause.{ProfileCause}
+use Rattle.job_profile.specs.declared.stops.ProfileCause.TheVariants as cause
 use Rattle.printer_profile.specs.declared.fields.Profile.{Profile}
 use Rattle.printer_profile.specs.Profiles.{built_in}
 use Rattle.printer_profile.specs.Text.{profile_text}
@@ -38,34 +34,20 @@ abbrev pub named_result : Option Profile → Option (List ℕ) → Result Profil
 named_result (Some p) held = Ok p
 named_result None held = shelf_result held
 
-abbrev pub is_black : InkSet → Bool
-is_black K = true
-is_black Cmy = false
-is_black Cmyk = false
-
--- whether pages are printed for the profile today: one nozzle, and black alone
-abbrev pub is_built : Profile → Bool
-is_built p = (p.nozzles == 1) && is_black p.inks
-
--- a profile that makes sense, for a command: pages are not printed for each yet
-abbrev pub sensible_result : Verb → Profile → Result Profile Refusal
-sensible_result verb.Print p = if is_built p then Ok p else Err (refused_at 0 cause.NotBuilt)
-sensible_result verb.Profile p = Ok p
-
 -- a profile, if it makes sense
-abbrev pub checked_result : Verb → Profile → Result Profile Refusal
-checked_result command p = elim (check p) [ Ok u ↦ sensible_result command p | Err fault ↦ Err (refused_at 0 (cause.Check fault)) ]
+abbrev pub checked_result : Profile → Result Profile Refusal
+checked_result p = elim (check p) [ Ok u ↦ Ok p | Err fault ↦ Err (refused_at 0 (cause.Check fault)) ]
 
-abbrev pub used_result : Verb → Result Profile Refusal → Result Profile Refusal
-used_result command (Ok p) = checked_result command p
-used_result command (Err refusal) = Err refusal
+abbrev pub used_result : Result Profile Refusal → Result Profile Refusal
+used_result (Ok p) = checked_result p
+used_result (Err refusal) = Err refusal
 
--- What a command makes of the name of a profile and of the shelf's text of this name, if there is one.
-abbrev pub job_profile : Verb → List ℕ → Option (List ℕ) → Result Profile Refusal
-job_profile command name held = used_result command (named_result (built_in name) held)
+-- What is made of the name of a profile and of the shelf's text of this name, if there is one.
+abbrev pub job_profile : List ℕ → Option (List ℕ) → Result Profile Refusal
+job_profile name held = used_result (named_result (built_in name) held)
 
 -- The same of the text that the shelf has where it tells its texts, and of some text or none where it does not.
-pub record IsJobProfile (told : Option (List NamedText)) (command : Verb) (name : List ℕ) (result : Result Profile Refusal) : Type 0 where
+pub record IsJobProfile (told : Option (List NamedText)) (name : List ℕ) (result : Result Profile Refusal) : Type 0 where
   pub held : Option (List ℕ)
   pub told_is : IfSome told (λ files. held ≡ text_named name files)
-  pub is : job_profile command name held ≡ result
+  pub is : job_profile name held ≡ result

@@ -1,8 +1,15 @@
--- Why a command has no profile.
+-- Why there is no profile.
 use Rattle.std.specs.Prelude.{Result, Ok, Err}
-use Rattle.job_profile.specs.declared.finding.ProfileStop.{ProfileStop}
-use Rattle.job_profile.specs.declared.finding.ProfileStop.TheVariants as stop
+use Rattle.job_profile.specs.declared.stops.ProfileStop.{ProfileStop}
+use Rattle.job_profile.specs.declared.stops.ProfileStop.TheVariants as stop
 use Rattle.job_profile.specs.Named.{Refusal, refused_at}
+use Rattle.weave_base.specs.declared.shelf.ShelfStop.{ShelfStop}
+use Rattle.weave_base.specs.declared.shelf.ShelfStop.TheVariants as shelf
+
+-- the same for a shelf that failed
+abbrev pub stop_of : ShelfStop → ProfileStop
+stop_of shelf.Failed = stop.Failed
+stop_of shelf.Memory = stop.Memory
 
 -- a fact where the profile is refused, of the refusal
 abbrev pub OnRefused : {T : Type 0} → Result T ProfileStop → (Refusal → Type 0) → Type 0

@@ -2,10 +2,10 @@
 #![tactic(auto)]
 
 mod finding;
+mod stops;
 #[cfg(test)]
 mod tests;
 
-pub use driver_answer::ProfileCause;
-pub use finding::{ProfileStop, find_profile};
-pub use job_words::Verb;
+pub use finding::find_profile;
 pub use printer_profile::Profile;
+pub use stops::{ProfileCause, ProfileStop};

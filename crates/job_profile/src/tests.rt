@@ -1,5 +1,5 @@
 //! Profiles by their names, on a shelf in memory.
-use crate::{Profile, ProfileCause, ProfileStop, Verb, find_profile};
+use crate::{Profile, ProfileCause, ProfileStop, find_profile};
 use printer_profile::{ProfileFault, TextCause, built_in};
 use std::alloc::Global;
 use std::test::Fail;
@@ -17,10 +17,10 @@ fn shelf(alloc: Global, name: &str, bytes: Vec<u8>, fails: Vec<u32>) -> Result<M
     Ok(MemShelf::make(files, fails))
 }
 
-/// What `print` finds for the name `own` where the shelf has this text.
+/// What is found for the name `own` where the shelf has this text.
 fn own(alloc: Global, text: Vec<u8>) -> Result<Result<Profile, ProfileStop>, Fail> {
     let mut shelf = shelf(alloc, "own", text, Vec::new(alloc))?;
-    Ok(find_profile(alloc, &mut shelf, Verb::Print, "own"))
+    Ok(find_profile(alloc, &mut shelf, "own"))
 }
 
 fn refused(line: u32, cause: ProfileCause) -> Result<Profile, ProfileStop> {
@@ -33,18 +33,18 @@ fn the_shelf_is_asked_for_what_is_not_built_in(rt: HostRuntime) -> Result<(), Fa
     let tiny1 = built_in("tiny1").ok_or("tiny1")?;
     let text = Vec::from_slice(alloc, b"no profile")?;
     let mut shelf = shelf(alloc, "tiny1", text, vec![in alloc; 1]?)?;
-    for command in [Verb::Print, Verb::Profile] {
+    for command in [Verb::Profile] {
         assert_eq!(rt;
-            find_profile(alloc, &mut shelf, command, "tiny1"),
+            find_profile(alloc, &mut shelf, "tiny1"),
             Ok(tiny1)
         );
     }
     assert_eq!(rt;
-        find_profile(alloc, &mut shelf, Verb::Print, "own"),
+        find_profile(alloc, &mut shelf, "own"),
         Err(ProfileStop::Failed)
     );
     assert_eq!(rt;
-        find_profile(alloc, &mut shelf, Verb::Print, "own"),
+        find_profile(alloc, &mut shelf, "own"),
         refused(0, ProfileCause::Absent)
     );
     Ok(())
@@ -55,7 +55,7 @@ fn a_text_is_read_and_checked(rt: HostRuntime) -> Result<(), Fail> {
     let alloc = rt.alloc();
     let text = Vec::from_slice(alloc, TINY1)?;
     assert_eq!(rt; own(alloc, text)?.ok(), built_in("tiny1"));
-    let cases: [(&[u8], u32, ProfileCause); 3] = [
+    let cases: [(&[u8], u32, ProfileCause); 2] = [
         (
             b"escp2-profile 1\n\npitch=0360\n",
             3,
@@ -65,11 +65,6 @@ fn a_text_is_read_and_checked(rt: HostRuntime) -> Result<(), Fail> {
             b"escp2-profile 1\nhdpi=360\nvdpi=360\nnozzles=0\npitch=1\ninks=k\n",
             0,
             ProfileCause::Check(ProfileFault::Nozzles),
-        ),
-        (
-            b"escp2-profile 1\nhdpi=360\nvdpi=360\nnozzles=1\npitch=1\ninks=cmy\n",
-            0,
-            ProfileCause::NotBuilt,
         ),
     ];
     for (text, line, cause) in cases {
@@ -87,21 +82,5 @@ fn a_text_has_at_most_65536_bytes(rt: HostRuntime) -> Result<(), Fail> {
     assert_eq!(rt; own(alloc, text.clone()?)?.ok(), built_in("tiny1"));
     text.push(b'\n')?;
     assert_eq!(rt; own(alloc, text)?, refused(0, ProfileCause::TooLong));
-    Ok(())
-}
-
-#[test]
-fn more_nozzles_are_shown_and_not_yet_printed(rt: HostRuntime) -> Result<(), Fail> {
-    let alloc = rt.alloc();
-    let p360k = built_in("p360k").ok_or("p360k")?;
-    let mut shelf = MemShelf::make(Vec::new(alloc), Vec::new(alloc));
-    assert_eq!(rt;
-        find_profile(alloc, &mut shelf, Verb::Print, "p360k"),
-        refused(0, ProfileCause::NotBuilt)
-    );
-    assert_eq!(rt;
-        find_profile(alloc, &mut shelf, Verb::Profile, "p360k"),
-        Ok(p360k)
-    );
     Ok(())
 }

@@ -6,33 +6,12 @@ use Rattle.std.proofs.Math.ListN.{drop_of_length-le}
 use Rattle.std.proofs.lemmas.Bool.Decides.{nat_tests}
 use Rattle.std.proofs.lemmas.Str.Pattern.{IsSplitOnceResult, split_once_first}
 use denote.Ref.{Bor}
-use Rattle.driver_answer.specs.declared.usage.UsageCause.{UsageCause}
-use Rattle.driver_answer.specs.declared.usage.UsageCause.TheVariants.{NotKeyValue, UnknownKey}
+use Rattle.job_words.specs.declared.usage.UsageCause.{UsageCause}
+use Rattle.job_words.specs.declared.usage.UsageCause.TheVariants.{NotKeyValue, UnknownKey}
 use Rattle.job_words.specs.Values.{is_text}
 use Rattle.job_words.specs.Table.{KeyRow, key_named}
-use Rattle.job_words.specs.Meaning.{is_equals_sign, is_key_value, key_of, value_of, gives, value_fault, word_fault}
-
--- an element passes just where the first that does stands within
-some_place : {X : Type 0} (p : X → Bool) (xs : List X) → list_any p xs ≡ ltb (position_or_len p xs) (length xs)
-some_place p [] = refl
-some_place p (x ∷ xs) = grind (arith, nat_tests, some_place p xs)
-
--- the two parts of a word, round its first `=`
-pub parts_of : (word : List ℕ) (parts : Option (Bor (List ℕ) × Bor (List ℕ))) → IsSplitOnceResult 61 word parts → MatchOption parts (is_key_value word ≡ false) (λ x. (is_key_value word ≡ true) × (x.0.now ≡ key_of word) × (x.1.now ≡ value_of word))
-parts_of word None split =
-    let none = split_once_first 61 word None split (omega arith) in
-    let past : ltb (position_or_len is_equals_sign word) (length word) ≡ false = grind (arith, nat_tests) in
-    some_place is_equals_sign word ∙ past
-parts_of word (Some x) split =
-    let some = split_once_first 61 word (Some x) split (omega arith) in
-    let within : ltb (position_or_len is_equals_sign word) (length word) ≡ true = grind (arith, nat_tests) in
-    (some_place is_equals_sign word ∙ within, some.1, some.2)
-
-pub no_value : (word : List ℕ) → is_key_value word ≡ false → [] ≡ value_of word
-no_value word h =
-    let outside : ltb (position_or_len is_equals_sign word) (length word) ≡ false = sym (some_place is_equals_sign word) ∙ h in
-    let past : length word ≤ position_or_len is_equals_sign word = grind (arith, nat_tests) in
-    sym (drop_of_length-le word (omega arith))
+use Rattle.key_values.specs.Pairs.{is_key_value, key_of, value_of}
+use Rattle.job_words.specs.Meaning.{gives, value_fault, word_fault}
 
 -- a key that is found has the name
 found_key : (keys : List KeyRow) (name : List ℕ) (key : KeyRow) → key_named keys name ≡ Some key → is_text name key.name ≡ true

@@ -7,7 +7,8 @@ use Rattle.std.proofs.lemmas.List.Folds.{find-append, list_any-append}
 use Rattle.std.proofs.lemmas.Slice.Eq.{bytes_eq-Decides}
 use Rattle.job_words.specs.Values.{is_text, kernel_named, worker_count}
 use Rattle.job_words.specs.Table.{KeyRow, profile_key, kernel_key, workers_key}
-use Rattle.job_words.specs.Meaning.{gives, given, key_of, value_of, given_profile_word, given_kernel, given_workers}
+use Rattle.key_values.specs.Pairs.{key_of, value_of}
+use Rattle.job_words.specs.Meaning.{gives, given, given_profile_word, given_kernel, given_workers}
 use Rattle.job_words.specs.Reading.{IsKept, IsGiven}
 use Rattle.job_words.specs.declared.reading.Given.{Given}
 use Rattle.diffusion_kernel.specs.declared.tables.Kernel.{Kernel}

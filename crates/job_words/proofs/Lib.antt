@@ -1,6 +1,5 @@
 pub mod Faults
 pub mod Kept
 pub mod Meanings
-pub mod Numbers
 pub mod Profiles
 pub mod Steps

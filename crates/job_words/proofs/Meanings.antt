@@ -1,7 +1,7 @@
 -- What a command line means, from what was read of it.
 use Rattle.std.proofs.Common.{◌≡◌, ℕ, List, [], ◌∷◌, drop, Some, None, Ok, Err, unwrap_or, slice_get, refl, ap, sym}
-use Rattle.driver_answer.specs.declared.usage.UsageCause.TheVariants.{NoCommand, UnknownCommand}
-use Rattle.driver_answer.specs.declared.usage.UsageFault.{UsageFault}
+use Rattle.job_words.specs.declared.usage.UsageCause.TheVariants.{NoCommand, UnknownCommand}
+use Rattle.job_words.specs.declared.usage.UsageFault.{UsageFault}
 use Rattle.diffusion_kernel.specs.declared.tables.Kernel.TheVariants.{Floyd}
 use Rattle.job_words.specs.Table.{CommandRow, command_named}
 use Rattle.job_words.specs.Rows.{command_row}

@@ -2,9 +2,10 @@
 use Rattle.std.proofs.Common.{◌≡◌, ℕ, ◌<◌, ◌≤◌, ◌+◌, ◌-◌, Bool, true, false, cond, List, [], ◌∷◌, length, drop, codes, Option, Some, None, Ok, unwrap_or, slice_get, suc, add-one, length-drop, refl, ap, sym, ◌∙◌, arith}
 use Rattle.std.specs.List.{find, position_from}
 use Rattle.std.specs.Option.{option_map}
-use Rattle.driver_answer.specs.declared.usage.UsageFault.{UsageFault}
+use Rattle.job_words.specs.declared.usage.UsageFault.{UsageFault}
 use Rattle.job_words.specs.Table.{CommandRow, command_named, profile_key}
-use Rattle.job_words.specs.Meaning.{gives, given, value_of, refused, given_profile_word, job_of, job_unless, command_meaning, job_meaning, profile_named}
+use Rattle.key_values.specs.Pairs.{value_of}
+use Rattle.job_words.specs.Meaning.{gives, given, refused, given_profile_word, job_of, job_unless, command_meaning, job_meaning, profile_named}
 use Rattle.job_words.specs.declared.reading.Job.{Job}
 
 -- a job has the number of the profile's word

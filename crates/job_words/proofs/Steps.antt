@@ -3,7 +3,7 @@ use Rattle.std.proofs.Common.{◌≡◌, ℕ, ◌<◌, ◌≤◌, ◌+◌, ◌-�
 use Rattle.std.proofs.Math.ListN.{drop_of_length-le}
 use Rattle.std.proofs.lemmas.List.{take_all, take_more, drop_more, length-take-le}
 use Rattle.std.proofs.lemmas.Option.{get_or_from_slice_get, slice_get_within}
-use Rattle.driver_answer.specs.declared.usage.UsageCause.{UsageCause}
+use Rattle.job_words.specs.declared.usage.UsageCause.{UsageCause}
 use Rattle.job_words.specs.Table.{KeyRow}
 use Rattle.job_words.specs.Meaning.{refused, word_fault, faults_at, fault_at}
 use Rattle.job_words.specs.Reading.{IsGiven}

@@ -1,31 +1,16 @@
 -- What the words of a command line ask for, and which of them is refused.
-use Rattle.std.specs.Prelude.{ℕ, Bool, ◌==◌, ◌+◌, if◌then◌else◌, List, [], ◌∷◌, ◌++◌, codes, drop, length, find, Option, Some, None, Result, Ok, Err, unwrap_or}
-use Rattle.std.specs.List.{before_first, after_first, list_any, position_from}
+use Rattle.std.specs.Prelude.{ℕ, Bool, ◌+◌, if◌then◌else◌, List, [], ◌∷◌, ◌++◌, codes, drop, length, find, Option, Some, None, Result, Ok, Err, unwrap_or}
+use Rattle.std.specs.List.{list_any, position_from}
 use Rattle.std.specs.Option.{option_and_then, option_map}
-use Rattle.driver_answer.specs.declared.usage.UsageCause.{UsageCause}
-use Rattle.driver_answer.specs.declared.usage.UsageCause.TheVariants.{NoCommand, UnknownCommand, NotKeyValue, UnknownKey, RepeatedKey, BadValue}
-use Rattle.driver_answer.specs.declared.usage.UsageFault.{UsageFault}
+use Rattle.job_words.specs.declared.usage.UsageCause.{UsageCause}
+use Rattle.job_words.specs.declared.usage.UsageCause.TheVariants.{NoCommand, UnknownCommand, NotKeyValue, UnknownKey, RepeatedKey, BadValue}
+use Rattle.job_words.specs.declared.usage.UsageFault.{UsageFault}
 use Rattle.diffusion_kernel.specs.declared.tables.Kernel.{Kernel}
 use Rattle.diffusion_kernel.specs.declared.tables.Kernel.TheVariants.{Floyd}
+use Rattle.key_values.specs.Pairs.{is_key_value, key_of, value_of}
 use Rattle.job_words.specs.Values.{is_text, kernel_named, worker_count}
 use Rattle.job_words.specs.Table.{KeyRow, CommandRow, command_named, key_named, profile_key, kernel_key, workers_key}
 use Rattle.job_words.specs.declared.reading.Job.{Job}
-
--- A word behind the command is a key and a value, cut at its first `=`.
-abbrev pub is_equals_sign : ℕ → Bool
-is_equals_sign byte = byte == 61
-
--- whether a word has a `=`
-abbrev pub is_key_value : List ℕ → Bool
-is_key_value word = list_any is_equals_sign word
-
--- what stands before the first `=`
-abbrev pub key_of : List ℕ → List ℕ
-key_of word = before_first is_equals_sign word
-
--- what stands behind it
-abbrev pub value_of : List ℕ → List ℕ
-value_of word = after_first is_equals_sign word
 
 -- whether a word gives this key
 abbrev pub gives : KeyRow → List ℕ → Bool

@@ -1,10 +1,10 @@
 //! Command lines worked by hand: each function does nothing, and the checker computes its contract.
-#![tactic(auto, unfolding(crate::specs::Meaning::job_meaning, crate::specs::Meaning::refused, crate::specs::Meaning::word_fault, crate::specs::Values::number_within))]
+#![tactic(auto, unfolding(crate::specs::Meaning::job_meaning, crate::specs::Meaning::refused, crate::specs::Meaning::word_fault, key_values::specs::Numbers::number_within))]
 
-ghost use Rattle.driver_answer.specs.declared.usage.UsageCause.TheVariants.{BadValue, NoCommand, NotKeyValue, RepeatedKey, UnknownCommand, UnknownKey};
+ghost use Rattle.job_words.specs.declared.usage.UsageCause.TheVariants.{BadValue, NoCommand, NotKeyValue, RepeatedKey, UnknownCommand, UnknownKey};
 ghost use Rattle.diffusion_kernel.specs.declared.tables.Kernel.TheVariants.{Floyd, Jarvis, Stucki};
 ghost use Rattle.job_words.specs.Meaning.{fault_at, job_meaning, profile_named};
-ghost use Rattle.job_words.specs.Values.{number_within};
+ghost use Rattle.key_values.specs.Numbers.{number_within};
 ghost use Rattle.job_words.specs.declared.table.Verb.TheVariants as verb;
 ghost use Rattle.std.specs.Prelude.{Err, None, Ok, Some, [], codes, ◌∷◌, ◌≡◌};
 

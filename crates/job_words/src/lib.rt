@@ -4,12 +4,13 @@
 pub mod examples;
 mod reading;
 mod table;
+mod usage;
 mod values;
 
-pub use driver_answer::{UsageCause, UsageFault};
 pub use diffusion_kernel::Kernel;
 pub use reading::{Job, profile_name, read_words};
 pub use table::Verb;
+pub use usage::{UsageCause, UsageFault};
 pub use weave_base::Words;
 
 #[cfg(test)]

@@ -1,15 +1,17 @@
 //! Reading the words of a command line.
-ghost use Rattle.job_words.specs.Meaning.{is_key_value, job_meaning, key_of, profile_named, refused, value_fault, value_of as value_in, word_fault};
+ghost use Rattle.job_words.specs.Meaning.{job_meaning, profile_named, refused, value_fault, word_fault};
+ghost use Rattle.key_values.specs.Pairs.{value_of as value_in};
 ghost use Rattle.job_words.specs.Reading.{IsGiven};
 ghost use Rattle.job_words.specs.Rows.{command_row};
 ghost use Rattle.job_words.specs.Table.{profile_key};
-ghost use Rattle.std.specs.Prelude.{IfErr, IfOk, List, MatchOption, OnOk, [], drop, false, is_some, length, slice_get, true, ℕ, ◌+◌, ◌++◌, ◌∷◌, ◌≡◌, if◌then◌else◌};
+ghost use Rattle.std.specs.Prelude.{IfErr, IfOk, List, OnOk, [], drop,  is_some, length, slice_get, ℕ, ◌+◌, ◌++◌, ◌∷◌, ◌≡◌, if◌then◌else◌};
 ghost use Rattle.std.specs.Result.{result_err};
 
 use crate::table::{Key, Verb};
 use crate::values::{kernel_named, worker_count};
-use driver_answer::{UsageCause, UsageFault};
+use crate::usage::{UsageCause, UsageFault};
 use diffusion_kernel::Kernel;
+use key_values::cut_word;
 use weave_base::Words;
 
 /// What a command line asks for.
@@ -45,19 +47,11 @@ fn keep<T: Copy>(kept: &mut Option<T>, value: Option<T>) -> Result<(), UsageCaus
     Ok(())
 }
 
-// The key and the value of a word.
-fn cut(word: &str) -> Option<(&str, &str)>
-    ensures { MatchOption result (is_key_value word.now ≡ false) (λ parts. (is_key_value word.now ≡ true)
-        × (parts.0.now ≡ key_of word.now) × (parts.1.now ≡ value_in word.now)) }
-{
-    word.split_once('=')
-}
-
 // The value of a word, and nothing where it has none.
 fn value_of(word: &str) -> &str
     ensures { result.now ≡ value_in word.now }
 {
-    match cut(word) {
+    match cut_word(word) {
         Some((_, value)) => value,
         None => "",
     }
@@ -82,7 +76,7 @@ impl Given {
         ensures given { (earlier : List (List ℕ)) → IsGiven earlier self.old → length earlier + 2 ≡ number
             → OnOk result (IsGiven (earlier ++ word.now ∷ []) self.new) }
     {
-        let Some((name, value)) = cut(word) else {
+        let Some((name, value)) = cut_word(word) else {
             return Err(UsageCause::NotKeyValue);
         };
         match verb.key(name) {

@@ -2,5 +2,4 @@ pub mod Dots
 pub mod Exact
 pub mod Strokes
 pub mod PageBytes
-pub mod OldPageBytes
 pub mod Printing

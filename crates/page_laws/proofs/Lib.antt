@@ -1,8 +1,16 @@
+pub mod Counts
 pub mod Numbers
 pub mod Once
 pub mod Packing
 pub mod Fired
 pub mod Running
+pub mod Firing
 pub mod Pages
-pub mod OneNozzle
+pub mod Spelled
+pub mod Printed
+pub mod Hits
+pub mod Weaving
 pub mod Headline
+pub mod Rasters
+pub mod Planes
+pub mod Lengths

@@ -1,8 +1,10 @@
--- Places on paper, for resolutions of 360 and 720.
-use Rattle.std.proofs.Common.{◌≡◌, ℕ, ◌+◌, ◌*◌, ◌/◌, ◌%◌, ◌<◌, ◌≤◌, ◌⊎◌, inl, inr, sym, ◌∙◌, ap, arith, subst}
-use Rattle.std.proofs.Math.Nat.{mul-le-mul_right}
+-- Places on paper, for resolutions of 360 and 720, and the largest numbers of a page's commands.
+use Rattle.std.proofs.Common.{◌≡◌, ℕ, ◌+◌, ◌-◌, ◌*◌, ◌/◌, ◌%◌, ◌<◌, ◌≤◌, ◌⊎◌, inl, inr, sym, ◌∙◌, ap, arith, subst}
+use Rattle.std.proofs.Math.Nat.{mul-le-mul, mul-le-mul_right}
 use Rattle.std.proofs.lemmas.Nat.{mod-mul-add}
 use Rattle.printer_definitions.specs.Printer.{Printer, column_step, nozzle_step, row_step, row_units}
+use Rattle.page_definitions.specs.Dots.{Halftone}
+use Rattle.page_laws.specs.Sized.{Sized}
 use Rattle.separation_definitions.specs.CanPrint.{CanPrint}
 
 places : (dpi n : ℕ) → (dpi ≡ 360) ⊎ (dpi ≡ 720) → n * 3600 / dpi ≡ n * (3600 / dpi)
@@ -81,3 +83,28 @@ on_grid n step some =
 pub rises : (a b step : ℕ) → 1 ≤ step → a < b → a * step < b * step
 rises a b step some less =
     let more : (a + 1) * step ≤ b * step = mul-le-mul_right step (omega arith) in omega arith
+
+-- ---- the numbers of commands fit their ranges
+
+-- the sheet's length in units
+pub length-fits : (p : Printer) (h : Halftone) (tall : ℕ) → CanPrint p → Sized p h tall → (1 ≤ tall * row_units p) × (tall * row_units p ≤ 32767)
+length-fits p h tall can size =
+    let some : 1 ≤ tall = omega (arith, size.some_height, size.low) in
+    let rows : 1 * 1 ≤ tall * row_units p = mul-le-mul some (row_units-some p can) in
+    (omega (arith, rows), omega (arith, size.short))
+
+-- the margins of a window stand in their order, and on the sheet
+pub margins-fit : (p : Printer) (h : Halftone) (above tall : ℕ) → CanPrint p → Sized p h tall
+    → ((p.top - above) * row_units p < (p.top + h.height) * row_units p) × ((p.top + h.height) * row_units p ≤ 15840)
+margins-fit p h above tall can size =
+    let on_sheet : (p.top + h.height) * row_units p ≤ tall * row_units p = mul-le-mul_right (row_units p) size.low in (
+      rises (p.top - above) (p.top + h.height) (row_units p) (row_units-some p can) (omega (arith, size.some_height)),
+      omega (arith, on_sheet, size.short),
+    )
+
+-- a step down from one row to another above the window's end is no longer than the sheet
+pub step-fits : (p : Printer) (h : Halftone) (above tall last row : ℕ) → Sized p h tall → above ≤ p.top → row < above + h.height
+    → (row - last) * row_units p ≤ 15840
+step-fits p h above tall last row size room low =
+    let on_sheet : (row - last) * row_units p ≤ tall * row_units p = mul-le-mul_right (row_units p) (omega (arith, room, size.low)) in
+    omega (arith, on_sheet, size.short)

@@ -1,8 +1,8 @@
 -- The dots that a page wants are distinct.
-use Rattle.std.proofs.Common.{◌≡◌, ℕ, zero, suc, ◌+◌, ◌*◌, ◌/◌, ◌<◌, ◌≤◌, Bool, true, false, cond, ◌&&◌, ◌||◌, ◌==◌, if◌then◌else◌, List, [], ◌∷◌, ◌++◌, refl, sym, ◌∙◌, ap, arith, zero-add, subst, append_assoc}
+use Rattle.std.proofs.Common.{◌≡◌, ℕ, zero, suc, ◌+◌, ◌*◌, ◌/◌, ◌<◌, ◌≤◌, Bool, true, false, cond, ◌&&◌, ◌||◌, ◌==◌, if◌then◌else◌, List, [], ◌∷◌, ◌++◌, refl, sym, ◌∙◌, ap, arith, subst, append_assoc}
 use Rattle.std.proofs.lemmas.Bool.{eqb-true}
 use Rattle.std.proofs.lemmas.Bool.Decides.{nat_tests}
-use Rattle.std.proofs.lemmas.List.Sums.{sum_by-append}
+use Rattle.std.proofs.lemmas.List.Sums.{sum_by-cons}
 use Rattle.std.specs.List.{list_any, count_by, flat_map, sum_by}
 use Rattle.printer_definitions.specs.declared.inks.Ink.{Ink}
 use Rattle.printer_definitions.specs.declared.inks.Ink.TheVariants.{Black, Cyan, Magenta, Yellow}
@@ -14,52 +14,9 @@ use Rattle.escp2_definitions.specs.Machine.{Dot, is_at}
 use Rattle.page_definitions.specs.Dots.{Halftone, dots_wanted, ink_wanted, pixel_dots, place_of, row_wanted}
 use Rattle.page_definitions.specs.Exact.{Exactly}
 use Rattle.separation_definitions.specs.CanPrint.{CanPrint}
+use Rattle.page_laws.proofs.Counts.{count-append, count-cons, few, flat-most, flat-none}
 use Rattle.page_laws.proofs.Numbers.{column_place, column_step-some, rises, row_place, row_step-some}
 use Rattle.weave_definitions.specs.Weave.{count_from}
-
--- ---- counts
-
-pub count-append : {X : Type 0} (test : X → Bool) (xs ys : List X) → count_by test (xs ++ ys) ≡ count_by test xs + count_by test ys
-count-append test xs ys = sum_by-append (λ x. cond (test x) 1 0) xs ys
-
-pub count-cons : {X : Type 0} (test : X → Bool) (x : X) (xs : List X) → count_by test (x ∷ xs) ≡ cond (test x) 1 0 + count_by test xs
-count-cons test x xs =
-    let apart : count_by test (x ∷ xs) ≡ count_by test (x ∷ []) + count_by test xs = count-append test (x ∷ []) xs in
-    let single : count_by test (x ∷ []) ≡ cond (test x) 1 0 = zero-add _ in
-    apart ∙ ap (λ n. n + count_by test xs) single
-
-sum-cons : {X : Type 0} (g : X → ℕ) (x : X) (xs : List X) → sum_by g (x ∷ xs) ≡ g x + sum_by g xs
-sum-cons g x xs =
-    let apart : sum_by g (x ∷ xs) ≡ sum_by g (x ∷ []) + sum_by g xs = sum_by-append g (x ∷ []) xs in
-    let single : sum_by g (x ∷ []) ≡ g x = zero-add _ in
-    apart ∙ ap (λ n. n + sum_by g xs) single
-
--- lists that are put together hold as much as their parts
-flat-most : {X Y : Type 0} (test : Y → Bool) (f : X → List Y) (g : X → ℕ) (xs : List X) → ((x : X) → count_by test (f x) ≤ g x)
-    → count_by test (flat_map f xs) ≤ sum_by g xs
-flat-most test f g [] each = omega arith
-flat-most test f g (x ∷ xs) each =
-    omega (arith, count-append test (f x) (flat_map f xs), sum-cons g x xs, each x, flat-most test f g xs each)
-
-flat-none : {X Y : Type 0} (test : Y → Bool) (f : X → List Y) (xs : List X) → ((x : X) → count_by test (f x) ≡ 0)
-    → count_by test (flat_map f xs) ≡ 0
-flat-none test f [] each = refl
-flat-none test f (x ∷ xs) each = omega (arith, count-append test (f x) (flat_map f xs), each x, flat-none test f xs each)
-
--- where one is counted at most, the count says whether there is one
-few : {X : Type 0} (test : X → Bool) (xs : List X) → count_by test xs ≤ 1 → count_by test xs ≡ (if list_any test xs then 1 else 0)
-few test [] le = refl
-few test (x ∷ xs) le = by_head (test x) refl (few test xs)
-  where
-    by_head : (b : Bool) → test x ≡ b → (count_by test xs ≤ 1 → count_by test xs ≡ (if list_any test xs then 1 else 0)) → count_by test (x ∷ xs) ≡ (if list_any test (x ∷ xs) then 1 else 0)
-    by_head true e rest =
-        let count : count_by test (x ∷ xs) ≡ 1 + count_by test xs = count-cons test x xs ∙ ap (λ b. cond b 1 0 + count_by test xs) e in
-        let is_one : count_by test (x ∷ xs) ≡ 1 = omega arith in
-        is_one ∙ sym (ap (λ b. if b || list_any test xs then 1 else 0) e)
-    by_head false e rest =
-        let count : count_by test (x ∷ xs) ≡ 0 + count_by test xs = count-cons test x xs ∙ ap (λ b. cond b 1 0 + count_by test xs) e in
-        let same : count_by test (x ∷ xs) ≡ count_by test xs = omega arith in
-        same ∙ rest (omega arith) ∙ sym (ap (λ b. if b || list_any test xs then 1 else 0) e)
 
 -- ---- one number among rising ones
 
@@ -69,7 +26,7 @@ past-all place up z n zero left = refl
 past-all place up z n (suc m) left =
     let apart : (z == place n) ≡ false = grind (arith, nat_tests) in
     let next : place n < place (n + 1) = up n (n + 1) (omega arith) in
-    sum-cons (λ i. cond (z == place i) 1 0) n (count_from (n + 1) m)
+    sum_by-cons (λ i. cond (z == place i) 1 0) n (count_from (n + 1) m)
     ∙ ap (λ b. cond b 1 0 + sum_by (λ i. cond (z == place i) 1 0) (count_from (n + 1) m)) apart
     ∙ ap (λ k. 0 + k) (past-all place up z (n + 1) m (omega arith))
 
@@ -85,11 +42,11 @@ at-most-one place up z n (suc m) = by_place (z == place n) refl (at-most-one pla
         let next : place n < place (n + 1) = up n (n + 1) (omega arith) in
         let right : sum_by (λ i. cond (z == place i) 1 0) (count_from (n + 1) m) ≡ 0 = past-all place up z (n + 1) m (omega arith) in
         let all : sum_by (λ i. cond (z == place i) 1 0) (count_from n (suc m)) ≡ 1 + sum_by (λ i. cond (z == place i) 1 0) (count_from (n + 1) m) =
-        sum-cons (λ i. cond (z == place i) 1 0) n (count_from (n + 1) m) ∙ ap (λ b. cond b 1 0 + sum_by (λ i. cond (z == place i) 1 0) (count_from (n + 1) m)) e in
+        sum_by-cons (λ i. cond (z == place i) 1 0) n (count_from (n + 1) m) ∙ ap (λ b. cond b 1 0 + sum_by (λ i. cond (z == place i) 1 0) (count_from (n + 1) m)) e in
         omega arith
     by_place false e le =
         let all : sum_by (λ i. cond (z == place i) 1 0) (count_from n (suc m)) ≡ 0 + sum_by (λ i. cond (z == place i) 1 0) (count_from (n + 1) m) =
-        sum-cons (λ i. cond (z == place i) 1 0) n (count_from (n + 1) m) ∙ ap (λ b. cond b 1 0 + sum_by (λ i. cond (z == place i) 1 0) (count_from (n + 1) m)) e in
+        sum_by-cons (λ i. cond (z == place i) 1 0) n (count_from (n + 1) m) ∙ ap (λ b. cond b 1 0 + sum_by (λ i. cond (z == place i) 1 0) (count_from (n + 1) m)) e in
         omega arith
 
 -- ---- the dots of a halftone
@@ -188,9 +145,17 @@ wanted-once p h c d =
     flat-most (is_at d) (ink_wanted p h) (λ ink. cond (same_ink d.ink ink) 1 0) (inks_of p.inks) (λ ink. ink-of p h d ink c) in
     omega (arith, sum, set-most p.inks d.ink)
 
--- Dots that stand once are exactly themselves.
-pub exactly : (dots places : List Dot) → dots ≡ places → Once places → Exactly dots places
-exactly dots places e once = record { counts = λ d. ap (count_by (is_at d)) e ∙ few (is_at d) places (once d) }
+-- Dots that are counted as places are that stand once are exactly these.
+pub exactly : (dots places : List Dot) → ((d : Dot) → count_by (is_at d) dots ≡ count_by (is_at d) places) → Once places → Exactly dots places
+exactly dots places same once = record { counts = λ d. same d ∙ few (is_at d) places (once d) }
+
+-- Dots that are exactly these places stand once.
+pub exactly-once : (dots places : List Dot) → Exactly dots places → Once dots
+exactly-once dots places is d = by_any (list_any (is_at d) places) (is.counts d)
+  where
+    by_any : (b : Bool) → count_by (is_at d) dots ≡ (if b then 1 else 0) → count_by (is_at d) dots ≤ 1
+    by_any true e = omega arith
+    by_any false e = omega arith
 
 -- ---- dots among others
 

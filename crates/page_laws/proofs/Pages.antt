@@ -1,238 +1,169 @@
--- The passes of a page, and its whole job.
-use Rattle.std.proofs.Common.{◌≡◌, ℕ, zero, suc, ◌+◌, ◌-◌, ◌*◌, ◌/◌, ◌%◌, ◌<◌, ◌≤◌, Bool, true, false, ◌&&◌, ◌||◌, nat_lt, nat_le, if◌then◌else◌, cond, List, [], ◌∷◌, ◌++◌, Option, None, Some, refl, sym, ◌∙◌, ap, arith, append_assoc, filter, flat_map}
-use Rattle.std.specs.List.{list_any}
-use Rattle.std.proofs.Math.Nat.{mul-le-mul_right, div-mul-le_self}
-use Rattle.std.proofs.lemmas.Bool.{leb-true, ltb-true}
+-- What the machine makes of the strokes of a page.
+use Rattle.std.proofs.Common.{◌≡◌, ℕ, ◌+◌, ◌-◌, ◌*◌, ◌<◌, ◌≤◌, Bool, true, false, ◌||◌, if◌then◌else◌, cond, List, [], ◌∷◌, ◌++◌, suc, refl, sym, ◌∙◌, ap, arith, subst, append_assoc, filter, flat_map}
+use Rattle.std.specs.List.{list_any, AllByRecursion}
+use Rattle.std.specs.Prelude.{slice_index_or}
 use Rattle.printer_definitions.specs.declared.inks.Ink.{Ink}
 use Rattle.printer_definitions.specs.declared.inks.Ink.TheVariants.{Black}
 use Rattle.printer_definitions.specs.Inks.{inks_of}
-use Rattle.printer_definitions.specs.Printer.{Printer, head_rows, nozzle_step, row_step, row_units}
+use Rattle.printer_definitions.specs.Printer.{Printer, row_units}
 use Rattle.escp2_definitions.specs.declared.command.Command.TheVariants as c
-use Rattle.escp2_definitions.specs.declared.stops.EmuFault.{EmuFault}
-use Rattle.escp2_definitions.specs.Machine.{Dot, Machine, Sheet, after, execute_from, first_fault, given, refusals, start, with_sheets}
-use Rattle.page_definitions.specs.Dots.{Halftone}
-use Rattle.page_definitions.specs.OldPageBytes.{Spoken, down_by, fired_passes, fires, has_dot, page_commands, pass_commands, pass_inks, pass_rows, prologue, say}
-use Rattle.weave_definitions.specs.Weave.{count_from, nozzle_row, pass_count}
-use Rattle.separation_definitions.specs.CanPrint.{CanPrint}
-use Rattle.page_laws.proofs.Numbers.{nozzle_step-is, on_grid, rises, row_place, row_step-some, row_units-is}
+use Rattle.escp2_definitions.specs.Machine.{Dot, Machine, Sheet, execute_from, given, start, with_sheets}
+use Rattle.page_definitions.specs.Strokes.{IsOnWindow, IsRising, IsWhole, Spoken, Stroke, down_by, fires, has_dot, rows_fired, say, stroke_fired, strokes_commands}
 use Rattle.page_laws.proofs.Once.{Once, once-front, once-regroup}
-use Rattle.page_laws.proofs.Fired.{pass_wanted}
-use Rattle.page_laws.proofs.Running.{Goes, Stands, blank-pass, down-run, entries, goes-as, goes-here, goes-then, inks-run, paused, prologue-run}
+use Rattle.page_laws.proofs.Fired.{blank-rows, or-false}
+use Rattle.page_laws.proofs.Running.{Comes, Goes, IsLayout, Layout, begins, comes-then, down-run, entries, goes-as, goes-here, goes-then, one, one-runs, paused, prologue-run}
+use Rattle.page_laws.proofs.Firing.{Lies, fires_ink, ink_fired, inks-run}
 
--- ---- where a pass stands
+-- ---- the strokes that have a dot
 
--- the row of the window under a nozzle
-pub nozzle_row-is : (n pitch height t i y : ℕ) → nozzle_row n pitch height t i ≡ Some y
-    → record { sum : t * n + i * pitch ≡ (n - 1) * pitch + y; low : y < height }
-nozzle_row-is n pitch height t i y e = by_test (nat_le first place) (nat_lt (place - first) height) refl refl e
+-- A list of which one passes has one that passes.
+passes : {X : Type 0} (test : X → Bool) (xs : List X) → list_any test xs ≡ true → (x : X) × (test x ≡ true)
+passes {X = X} test [] e = absurd (let no : ⊥ = cc in no)
+passes {X = X} test (x ∷ xs) e = by_head (test x) refl (passes test xs)
   where
-    place : ℕ
-    place = t * n + i * pitch
+    by_head : (b : Bool) → test x ≡ b → (list_any test xs ≡ true → (y : X) × (test y ≡ true)) → (y : X) × (test y ≡ true)
+    by_head true f rest = (x, f)
+    by_head false f rest = rest (ap (λ b. b || list_any test xs) (sym f) ∙ e)
 
-    first : ℕ
-    first = (n - 1) * pitch
-
-    by_test : (a b : Bool) → nat_le first place ≡ a → nat_lt (place - first) height ≡ b → (if a && b then Some (place - first) else None) ≡ Some y
-        → record { sum : place ≡ first + y; low : y < height }
-    by_test true true ea eb e =
-        let row : place - first ≡ y = cc in
-        let reached : first ≤ place = leb-true first place ea in
-        let inside : place - first < height = ltb-true (place - first) height eb in
-        record { sum = omega arith; low = omega arith }
-    by_test true false ea eb e = cc
-    by_test false b ea eb e = cc
-
--- the top margin, and the place of pass t from it
-abbrev pub top_of : Printer → ℕ
-top_of p = (p.top - head_rows p) * row_units p * 5
-
-abbrev pub down_of : Printer → ℕ → ℕ
-down_of p t = t * p.nozzles * row_units p * 5
-
-abbrev pub bottom_of : Printer → Halftone → ℕ
-bottom_of p h = (p.top + h.height) * row_units p * 5
-
-in_steps : (n units step : ℕ) → units * 5 ≡ step → n * units * 5 ≡ n * step
-in_steps n units step e = let regroup : n * units * 5 ≡ n * (units * 5) = omega arith in regroup ∙ ap (λ s. n * s) e
-
-place-is : (p : Printer) (t : ℕ) → CanPrint p → top_of p + down_of p t ≡ (p.top - head_rows p + t * p.nozzles) * row_step p
-place-is p t can =
-    let a : ℕ = p.top - head_rows p in
-    let b : ℕ = t * p.nozzles in
-    let s : ℕ = row_step p in
-    let first : top_of p ≡ a * s = in_steps a (row_units p) s (row_units-is p can) in
-    let second : down_of p t ≡ b * s = in_steps b (row_units p) s (row_units-is p can) in
-    let both : a * s + b * s ≡ (a + b) * s = omega arith in
-    ap (λ x. x + down_of p t) first ∙ ap (λ x. a * s + x) second ∙ both
-
-over-is : (a t n i pitch step first y top : ℕ) → a + first ≡ top → t * n + i * pitch ≡ first + y
-    → (a + t * n) * step + i * (pitch * step) ≡ (top + y) * step
-over-is a t n i pitch step first y top room sum =
-    let grouped : (a + t * n) * step + i * (pitch * step) ≡ (a + (t * n + i * pitch)) * step = omega arith in
-    let same : a + (t * n + i * pitch) ≡ top + y = omega (arith, sum, room) in
-    grouped ∙ ap (λ z. z * step) same
-
-pub stands : (p : Printer) (h : Halftone) (t : ℕ) → CanPrint p → Stands p h t (top_of p + down_of p t) (bottom_of p h)
-stands p h t can =
-    let a : ℕ = p.top - head_rows p in
-    let s : ℕ = row_step p in
-    let room : a + head_rows p ≡ p.top = omega (arith, can.head_room) in
-    record {
-      on_grid = ap (λ n. n % s) (place-is p t can) ∙ on_grid (a + t * p.nozzles) s (row_step-some p can);
-      over = λ i y e.
-          ap (λ n. n + i * nozzle_step p) (place-is p t can)
-          ∙ ap (λ v. (a + t * p.nozzles) * s + i * v) (nozzle_step-is p can)
-          ∙ over-is a t p.nozzles i p.pitch s (head_rows p) y p.top room (nozzle_row-is p.nozzles p.pitch h.height t i y e).sum
-          ∙ sym (row_place p (p.top + y) can);
-      above = λ i y e.
-          let low : y < h.height = (nozzle_row-is p.nozzles p.pitch h.height t i y e).low in
-          let less : (p.top + y) * s < (p.top + h.height) * s = rises (p.top + y) (p.top + h.height) s (row_step-some p can) (omega arith) in
-          omega (arith, row_place p (p.top + y) can, in_steps (p.top + h.height) (row_units p) s (row_units-is p can), less);
-    }
-
--- a pass is on the sheet
-pub pass_low : (n pitch height t : ℕ) → 1 ≤ n → t < pass_count n pitch height → t * n < height + (n - 1) * pitch
-pass_low n pitch height t some less =
-    let all : ℕ = height + (n - 1) * pitch + (n - 1) in
-    let product : (t + 1) * n ≤ all / n * n = mul-le-mul_right n (omega arith) in
-    let most : all / n * n ≤ all = div-mul-le_self all n in
-    let expanded : (t + 1) * n ≡ t * n + n = omega arith in
-    omega (arith, product, most, expanded)
-
-fits_sheet : (p : Printer) (h : Halftone) (t tall : ℕ) → CanPrint p → t < pass_count p.nozzles p.pitch h.height → p.top + h.height ≤ tall
-    → top_of p + down_of p t ≤ tall * row_units p * 5
-fits_sheet p h t tall can less low =
-    let s : ℕ = row_step p in
-    let row : t * p.nozzles < h.height + head_rows p = pass_low p.nozzles p.pitch h.height t can.some_nozzles less in
-    let under : (p.top - head_rows p + t * p.nozzles) * s ≤ tall * s = mul-le-mul_right s (omega (arith, can.head_room, row)) in
-    omega (arith, place-is p t can, in_steps tall (row_units p) s (row_units-is p can), under)
-
--- ---- the passes
-
--- the dots that a pass wants
-abbrev pub inks_wanted : Printer → Halftone → ℕ → List Dot
-inks_wanted p h t = flat_map (pass_wanted p h t) (inks_of p.inks)
-
-step_down : (t0 t n units : ℕ) → t0 ≤ t → t0 * n * units * 5 + (t - t0) * n * units * 5 ≡ t * n * units * 5
-step_down t0 t n units le =
-    let gap : ℕ = t - t0 in
-    let whole : t0 + gap ≡ t = omega arith in
-    let summed : t0 * n * units * 5 + gap * n * units * 5 ≡ (t0 + gap) * n * units * 5 = omega arith in
-    summed ∙ ap (λ k. k * n * units * 5) whole
-
-pub passes-run : (p : Printer) (h : Halftone) (tall : ℕ) (many t0 t : ℕ) (dots : List Dot) (job : List Spoken) → CanPrint p
-    → h.width ≤ 8191 → p.top + h.height ≤ tall → t0 ≤ t → t + many ≡ pass_count p.nozzles p.pitch h.height
-    → Once (dots ++ flat_map (inks_wanted p h) (filter (fires p h) (count_from t many)))
-    → (down : ℕ) × Goes p (tall * row_units p) (top_of p) (bottom_of p h) (down_of p t0) dots (pass_commands p h t0 (filter (fires p h) (count_from t many)) ++ job)
-    down (dots ++ flat_map (inks_wanted p h) (filter (fires p h) (count_from t many))) job
-passes-run p h tall zero t0 t dots job can narrow low le here once =
-    (down_of p t0, goes-here p (tall * row_units p) (top_of p) (bottom_of p h) (down_of p t0) dots [] job refl)
-passes-run p h tall (suc many) t0 t dots job can narrow low le here once =
-    by_pass (fires p h t) once
-    (passes-run p h tall many t0 (t + 1) dots job can narrow low (omega arith) (omega arith))
-    (passes-run p h tall many t (t + 1) (dots ++ inks_wanted p h t) job can narrow low (omega arith) (omega arith))
+-- Rows with a dot have a place where a row has one.
+row-passes : (rows : List (List Bool)) → has_dot rows ≡ true → (i : ℕ) × (list_any (λ on. on) (slice_index_or rows i []) ≡ true)
+row-passes [] e = absurd (let no : ⊥ = cc in no)
+row-passes (row ∷ rows) e = by_row (list_any (λ on. on) row) refl (row-passes rows)
   where
-    by_pass : (b : Bool)
-        → Once (dots ++ flat_map (inks_wanted p h) (cond b (t ∷ filter (fires p h) (count_from (t + 1) many)) (filter (fires p h) (count_from (t + 1) many))))
-        → (Once (dots ++ flat_map (inks_wanted p h) (filter (fires p h) (count_from (t + 1) many)))
-        → (down : ℕ) × Goes p (tall * row_units p) (top_of p) (bottom_of p h) (down_of p t0) dots (pass_commands p h t0 (filter (fires p h) (count_from (t + 1) many)) ++ job)
-        down (dots ++ flat_map (inks_wanted p h) (filter (fires p h) (count_from (t + 1) many))) job)
-        → (Once ((dots ++ inks_wanted p h t) ++ flat_map (inks_wanted p h) (filter (fires p h) (count_from (t + 1) many)))
-        → (down : ℕ) × Goes p (tall * row_units p) (top_of p) (bottom_of p h) (down_of p t) (dots ++ inks_wanted p h t) (pass_commands p h t (filter (fires p h) (count_from (t + 1) many)) ++ job)
-        down ((dots ++ inks_wanted p h t) ++ flat_map (inks_wanted p h) (filter (fires p h) (count_from (t + 1) many))) job)
-        → (down : ℕ) × Goes p (tall * row_units p) (top_of p) (bottom_of p h) (down_of p t0) dots (pass_commands p h t0 (cond b (t ∷ filter (fires p h) (count_from (t + 1) many)) (filter (fires p h) (count_from (t + 1) many))) ++ job)
-        down (dots ++ flat_map (inks_wanted p h) (cond b (t ∷ filter (fires p h) (count_from (t + 1) many)) (filter (fires p h) (count_from (t + 1) many)))) job
-    by_pass false once skipped fired = skipped once
-    by_pass true once skipped fired =
-        let rest : List ℕ = filter (fires p h) (count_from (t + 1) many) in
-        let now : List Dot = inks_wanted p h t in
-        let later : List Dot = flat_map (inks_wanted p h) rest in
-        let n : ℕ = (t - t0) * p.nozzles * row_units p in
-        let say_down : List Spoken = down_by n in
-        let say_pass : List Spoken = pass_inks p h t in
-        let say_rest : List Spoken = pass_commands p h t rest in
-        let len : ℕ = tall * row_units p in
-        let top : ℕ = top_of p in
-        let bottom : ℕ = bottom_of p h in
-        let after_it = fired (once-regroup dots now later once) in
-        let fits : top + down_of p t ≤ len * 5 = fits_sheet p h t tall can (omega arith) low in
-        let down = down-run p len top bottom (down_of p t0) (down_of p t) n dots (say_pass ++ (say_rest ++ job)) (step_down t0 t p.nozzles (row_units p) le) fits in
-        let inks = inks-run p h t len top bottom (down_of p t) (inks_of p.inks) dots (say_rest ++ job) can (stands p h t can) narrow (once-front dots now later once) in
-        let regrouped : (say_down ++ (say_pass ++ say_rest)) ++ job ≡ say_down ++ (say_pass ++ (say_rest ++ job)) = simp append_assoc in (
-          after_it.0,
-          goes-as p len top bottom (down_of p t0) after_it.0 dots ((dots ++ now) ++ later) (dots ++ (now ++ later)) ((say_down ++ (say_pass ++ say_rest)) ++ job) (say_down ++ (say_pass ++ (say_rest ++ job))) job
-              regrouped (append_assoc dots now later)
-              (goes-then p len top bottom (down_of p t0) (down_of p t) after_it.0 dots dots ((dots ++ now) ++ later) (say_down ++ (say_pass ++ (say_rest ++ job))) (say_pass ++ (say_rest ++ job)) job
-              down
-              (goes-then p len top bottom (down_of p t) (down_of p t) after_it.0 dots (dots ++ now) ((dots ++ now) ++ later) (say_pass ++ (say_rest ++ job)) (say_rest ++ job) job inks after_it.1)),
-        )
+    by_row : (b : Bool) → list_any (λ on. on) row ≡ b → (has_dot rows ≡ true → (i : ℕ) × (list_any (λ on. on) (slice_index_or rows i []) ≡ true))
+        → (i : ℕ) × (list_any (λ on. on) (slice_index_or (row ∷ rows) i []) ≡ true)
+    by_row true f rest = (0, f)
+    by_row false f rest = let below = rest (ap (λ b. b || has_dot rows) (sym f) ∙ e) in (suc below.0, below.1)
+
+-- a stroke with a dot begins above the window's end
+pub begins-low : (p : Printer) (above height : ℕ) (stroke : Stroke) → ((ink : Ink) → IsOnWindow p.pitch above height stroke.start (stroke.rows ink))
+    → fires p stroke ≡ true → stroke.start < above + height
+begins-low p above height stroke on e =
+    let ink = passes (λ ink. has_dot (stroke.rows ink)) (inks_of p.inks) e in
+    let row = row-passes (stroke.rows ink.0) ink.1 in
+    omega (arith, ((on ink.0).row row.0 row.1).1)
+
+-- the strokes with a dot lie on the window
+pub all-lie : (w : Layout) (strokes : List Stroke) → AllByRecursion (λ stroke. (ink : Ink) → IsWhole w.printer.nozzles w.halftone.width (stroke.rows ink)) strokes
+    → AllByRecursion (λ stroke. (ink : Ink) → IsOnWindow w.printer.pitch w.above w.halftone.height stroke.start (stroke.rows ink)) strokes
+    → AllByRecursion (Lies w) (filter (fires w.printer) strokes)
+all-lie w [] whole on = tt
+all-lie w (stroke ∷ strokes) whole on = by_stroke (fires w.printer stroke) refl (all-lie w strokes whole.1 on.1)
+  where
+    by_stroke : (b : Bool) → fires w.printer stroke ≡ b → AllByRecursion (Lies w) (filter (fires w.printer) strokes)
+        → AllByRecursion (Lies w) (cond b (stroke ∷ filter (fires w.printer) strokes) (filter (fires w.printer) strokes))
+    by_stroke true e rest =
+        (record { whole = whole.0; on_window = on.0; low = begins-low w.printer w.above w.halftone.height stroke on.0 e }, rest)
+    by_stroke false e rest = rest
+
+-- strokes that rise from a row rise from one above it
+rising-from : (last higher : ℕ) (strokes : List Stroke) → higher ≤ last → IsRising last strokes → IsRising higher strokes
+rising-from last higher [] le rising = tt
+rising-from last higher (stroke ∷ strokes) le rising = (omega (arith, rising.0), rising.1)
+
+-- some of the strokes rise as all of them do
+pub rising-some : (test : Stroke → Bool) (last : ℕ) (strokes : List Stroke) → IsRising last strokes → IsRising last (filter test strokes)
+rising-some test last [] rising = tt
+rising-some test last (stroke ∷ strokes) rising = by_stroke (test stroke) (rising-some test stroke.start strokes rising.1)
+  where
+    by_stroke : (b : Bool) → IsRising stroke.start (filter test strokes) → IsRising last (cond b (stroke ∷ filter test strokes) (filter test strokes))
+    by_stroke true rest = (rising.0, rest)
+    by_stroke false rest = rising-from stroke.start last (filter test strokes) rising.0 rest
+
+-- inks without a dot fire none
+none-each : (p : Printer) (above : ℕ) (stroke : Stroke) (inks : List Ink) → list_any (λ ink. has_dot (stroke.rows ink)) inks ≡ false
+    → flat_map (λ ink. rows_fired p above ink stroke.start (stroke.rows ink)) inks ≡ []
+none-each p above stroke [] e = refl
+none-each p above stroke (ink ∷ inks) e =
+    let both = or-false (has_dot (stroke.rows ink)) (list_any (λ ink. has_dot (stroke.rows ink)) inks) e in
+    ap (λ ds. ds ++ flat_map (λ ink. rows_fired p above ink stroke.start (stroke.rows ink)) inks) (blank-rows p above ink stroke.start (stroke.rows ink) both.left)
+    ∙ none-each p above stroke inks both.right
+
+-- The strokes with a dot fire all that the strokes fire.
+pub strokes-all : (p : Printer) (above : ℕ) (strokes : List Stroke)
+    → flat_map (stroke_fired p above) (filter (fires p) strokes) ≡ flat_map (stroke_fired p above) strokes
+strokes-all p above [] = refl
+strokes-all p above (stroke ∷ strokes) = by_stroke (fires p stroke) refl (strokes-all p above strokes)
+  where
+    by_stroke : (b : Bool) → fires p stroke ≡ b → flat_map (stroke_fired p above) (filter (fires p) strokes) ≡ flat_map (stroke_fired p above) strokes
+        → flat_map (stroke_fired p above) (cond b (stroke ∷ filter (fires p) strokes) (filter (fires p) strokes))
+        ≡ stroke_fired p above stroke ++ flat_map (stroke_fired p above) strokes
+    by_stroke true e rest = ap (λ ds. stroke_fired p above stroke ++ ds) rest
+    by_stroke false e rest = rest ∙ ap (λ ds. ds ++ flat_map (stroke_fired p above) strokes) (sym (none-each p above stroke (inks_of p.inks) e))
+
+-- ---- the strokes, one after another
+
+-- the dots and the commands of strokes
+abbrev pub strokes_dots : Layout → List Stroke → List Dot
+strokes_dots w strokes = flat_map (stroke_fired w.printer w.above) strokes
+
+abbrev pub fires_strokes : Layout → ℕ → List Stroke → List Spoken
+fires_strokes w last strokes = strokes_commands w.printer w.halftone.width w.coding.c last strokes
+
+-- strokes fire their dots, one after another
+pub strokes-run : (w : Layout) (strokes : List Stroke) (last : ℕ) (dots : List Dot) (job : List Spoken) → IsLayout w
+    → IsRising last strokes → AllByRecursion (Lies w) strokes → Once (dots ++ strokes_dots w strokes)
+    → (row : ℕ) × Goes w last dots (fires_strokes w last strokes ++ job) row (dots ++ strokes_dots w strokes) job
+strokes-run w [] last dots job is rising lie once = (last, goes-here w last dots [] job refl)
+strokes-run w (stroke ∷ strokes) last dots job is rising lie once =
+    let at : ℕ = stroke.start in
+    let now : List Dot = stroke_fired w.printer w.above stroke in
+    let later : List Dot = strokes_dots w strokes in
+    let say_down : List Spoken = down_by ((at - last) * row_units w.printer) in
+    let say_inks : List Spoken = flat_map (fires_ink w stroke) (inks_of w.printer.inks) in
+    let say_rest : List Spoken = fires_strokes w at strokes in
+    let after_it = strokes-run w strokes at (dots ++ now) job is rising.1 lie.1 (once-regroup dots now later once) in
+    let down = down-run w last at dots (say_inks ++ (say_rest ++ job)) is rising.0 lie.0.low in
+    let inks = inks-run w stroke (inks_of w.printer.inks) dots (say_rest ++ job) is lie.0 (once-front dots now later once) in
+    let regrouped : (say_down ++ (say_inks ++ say_rest)) ++ job ≡ say_down ++ (say_inks ++ (say_rest ++ job)) = simp append_assoc in (
+      after_it.0,
+      goes-as w last after_it.0 dots ((dots ++ now) ++ later) (dots ++ (now ++ later)) ((say_down ++ (say_inks ++ say_rest)) ++ job) (say_down ++ (say_inks ++ (say_rest ++ job))) job
+          regrouped (append_assoc dots now later)
+          (goes-then w last at after_it.0 dots dots ((dots ++ now) ++ later) (say_down ++ (say_inks ++ (say_rest ++ job))) (say_inks ++ (say_rest ++ job)) job
+          down
+          (goes-then w at at after_it.0 dots (dots ++ now) ((dots ++ now) ++ later) (say_inks ++ (say_rest ++ job)) (say_rest ++ job) job inks after_it.1)),
+    )
 
 -- ---- a whole page
 
--- the dots that the passes of a page want
-abbrev pub passes_wanted : Printer → Halftone → List Dot
-passes_wanted p h = flat_map (inks_wanted p h) (fired_passes p h)
+-- the commands of a page of these strokes
+abbrev pub page_says : Layout → List Stroke → List Spoken
+page_says w strokes = begins w ++ (fires_strokes w 0 (filter (fires w.printer) strokes) ++ (say c.Eject ∷ say c.Init ∷ []))
 
-eject-run : (p : Printer) (s : Machine) (job : List Spoken) (at : ℕ) → first_fault (refusals p s c.Eject []) ≡ None
-    → (at' : ℕ) × (execute_from p s (entries at (say c.Eject ∷ say c.Init ∷ job)) ≡ with_sheets (given p s c.Eject) (execute_from p start (entries at' job)))
-unfolding execute_from
-eject-run p s job at accepted = (
-  at + 1 + 2,
-  ap (λ (found : Option EmuFault). elim found [
-    | Some fault ↦ record { sheets = []; refused = Some (record { at = at; fault = fault }) }
-    | None ↦ with_sheets (given p s c.Eject) (execute_from p (after p s c.Eject []) (entries (at + 1) (say c.Init ∷ job)))
-  ]) accepted,
-)
+-- A job that comes to the end of a page gives the sheet in hand, and leaves the machine as it was at the start.
+ends : (w : Layout) (m : Machine) (first : List Spoken) (row across columns : ℕ) (ink : Ink) (dots : List Dot) (job : List Spoken) (at : ℕ)
+    → Comes w m first (paused w row across columns ink dots) (say c.Eject ∷ say c.Init ∷ job)
+    → (sheet : Sheet) × (at' : ℕ) × (sheet.dots ≡ dots)
+    × (execute_from w.printer m (entries w.coding.code at first) ≡ with_sheets (sheet ∷ []) (execute_from w.printer start (entries w.coding.code at' job)))
+ends w m first row across columns ink dots job at comes =
+    let last : Machine = paused w row across columns ink dots in
+    let empty : Machine = record last { columns = 1; dots = []; down = 0; across = 0 } in
+    let there = comes at in
+    let ejected = one-runs w last c.Eject [] (say c.Init ∷ job) there.0 refl in
+    let reset = one w empty c.Init [] job refl refl ejected.0 in
+    (_, reset.0, refl, there.1 ∙ ejected.1 ∙ ap (with_sheets (given w.printer last c.Eject)) reset.1)
 
--- The job of a page gives one sheet, with the dots that its passes want, and leaves the machine as it was at the start.
-pub page-run : (p : Printer) (h : Halftone) (tall : ℕ) (job : List Spoken) (at : ℕ) → CanPrint p → h.width ≤ 8191
-    → p.top + h.height ≤ tall → tall * row_units p ≤ 15840 → Once (passes_wanted p h)
-    → (sheet : Sheet) × (at' : ℕ) × (sheet.dots ≡ passes_wanted p h)
-    × (execute_from p start (entries at (page_commands p h (tall * row_units p) ++ job)) ≡ with_sheets (sheet ∷ []) (execute_from p start (entries at' job)))
-page-run p h tall job at can narrow low short once =
-    let len : ℕ = tall * row_units p in
+-- The job of a page gives one sheet, with the dots that its strokes fire, and leaves the machine as it was at the start.
+pub page-run : (w : Layout) (strokes : List Stroke) (m : Machine) (job : List Spoken) (at : ℕ) → IsLayout w → m.dots ≡ []
+    → IsRising 0 strokes → AllByRecursion (Lies w) (filter (fires w.printer) strokes) → Once (strokes_dots w strokes)
+    → (sheet : Sheet) × (at' : ℕ) × (sheet.dots ≡ strokes_dots w strokes)
+    × (execute_from w.printer m (entries w.coding.code at (page_says w strokes ++ job)) ≡ with_sheets (sheet ∷ []) (execute_from w.printer start (entries w.coding.code at' job)))
+page-run w strokes m job at is blank rising lie once =
+    let fired : List Stroke = filter (fires w.printer) strokes in
+    let dots : List Dot = strokes_dots w fired in
     let tail : List Spoken = say c.Eject ∷ say c.Init ∷ job in
-    let fire : List Spoken = pass_commands p h 0 (fired_passes p h) in
-    let bottom_fits : (p.top + h.height) * row_units p ≤ len = mul-le-mul_right (row_units p) low in
-    let top_fits : (p.top - head_rows p) * row_units p ≤ len = mul-le-mul_right (row_units p) (omega arith) in
-    let begun = prologue-run p h len (fire ++ tail) short bottom_fits top_fits at in
-    let passes = passes-run p h tall (pass_count p.nozzles p.pitch h.height) 0 0 [] tail can narrow low (omega arith) (omega arith) once in
-    let gone = passes.1 0 1 Black in
-    let fired = gone.3 begun.0 in
-    let last : Machine = paused len (top_of p) (bottom_of p h) passes.0 gone.0 gone.1 gone.2 (passes_wanted p h) in
-    let ended = eject-run p last job fired.0 refl in
-    let regrouped : (prologue p h len ++ (fire ++ (say c.Eject ∷ say c.Init ∷ []))) ++ job ≡ prologue p h len ++ (fire ++ tail) =
-    append_assoc (prologue p h len) (fire ++ (say c.Eject ∷ say c.Init ∷ [])) job ∙ ap (λ j. prologue p h len ++ j) (append_assoc fire (say c.Eject ∷ say c.Init ∷ []) job) in
-    let from_top : down_of p 0 ≡ 0 = omega arith in
-    let start_down : execute_from p (paused len (top_of p) (bottom_of p h) 0 0 1 Black []) (entries begun.0 (fire ++ tail)) ≡ execute_from p (paused len (top_of p) (bottom_of p h) (down_of p 0) 0 1 Black []) (entries begun.0 (fire ++ tail)) =
-    ap (λ d. execute_from p (paused len (top_of p) (bottom_of p h) d 0 1 Black []) (entries begun.0 (fire ++ tail))) (sym from_top) in (
-      _,
+    let fire : List Spoken = fires_strokes w 0 fired in
+    let P : List Dot → Type 0 = λ ds. Once ds in
+    let passed = strokes-run w fired 0 [] tail is (rising-some (fires w.printer) 0 strokes rising) lie (subst P (sym (strokes-all w.printer w.above strokes)) once) in
+    let gone = passed.1 0 1 Black in
+    let last : Machine = paused w passed.0 gone.0 gone.1 gone.2 dots in
+    let comes : Comes w m (begins w ++ (fire ++ tail)) last tail =
+    comes-then w m (paused w 0 0 1 Black []) last (begins w ++ (fire ++ tail)) (fire ++ tail) tail (prologue-run w m (fire ++ tail) is blank) gone.3 in
+    let ended = ends w m (begins w ++ (fire ++ tail)) passed.0 gone.0 gone.1 gone.2 dots job at comes in
+    let regrouped : (begins w ++ (fire ++ (say c.Eject ∷ say c.Init ∷ []))) ++ job ≡ begins w ++ (fire ++ tail) =
+    append_assoc (begins w) (fire ++ (say c.Eject ∷ say c.Init ∷ [])) job ∙ ap (λ j. begins w ++ j) (append_assoc fire (say c.Eject ∷ say c.Init ∷ []) job) in (
       ended.0,
-      refl,
-      ap (λ j. execute_from p start (entries at j)) regrouped ∙ begun.1 ∙ start_down ∙ fired.1 ∙ ended.1,
+      ended.1,
+      ended.2 ∙ strokes-all w.printer w.above strokes,
+      ap (λ j. execute_from w.printer m (entries w.coding.code at j)) regrouped ∙ ended.3,
     )
-
--- ---- every pass counts
-
-none-each : (p : Printer) (h : Halftone) (t : ℕ) (inks : List Ink) → CanPrint p → list_any (λ ink. has_dot (pass_rows p h ink t)) inks ≡ false
-    → flat_map (pass_wanted p h t) inks ≡ []
-none-each p h t [] can e = refl
-none-each p h t (ink ∷ inks) can e = by_ink (has_dot (pass_rows p h ink t)) refl e (none-each p h t inks can)
-  where
-    by_ink : (b : Bool) → has_dot (pass_rows p h ink t) ≡ b → (b || list_any (λ ink. has_dot (pass_rows p h ink t)) inks) ≡ false
-        → (list_any (λ ink. has_dot (pass_rows p h ink t)) inks ≡ false → flat_map (pass_wanted p h t) inks ≡ [])
-        → pass_wanted p h t ink ++ flat_map (pass_wanted p h t) inks ≡ []
-    by_ink true f e others = cc
-    by_ink false f e others =
-        ap (λ ds. ds ++ flat_map (pass_wanted p h t) inks) (blank-pass p h t ink (top_of p + down_of p t) (bottom_of p h) can (stands p h t can) f)
-        ∙ others e
-
--- passes that are left out want nothing
-pub passes_all : (p : Printer) (h : Halftone) (ts : List ℕ) → CanPrint p → flat_map (inks_wanted p h) (filter (fires p h) ts) ≡ flat_map (inks_wanted p h) ts
-passes_all p h [] can = refl
-passes_all p h (t ∷ ts) can = by_pass (fires p h t) refl (passes_all p h ts can)
-  where
-    by_pass : (b : Bool) → fires p h t ≡ b → flat_map (inks_wanted p h) (filter (fires p h) ts) ≡ flat_map (inks_wanted p h) ts
-        → flat_map (inks_wanted p h) (cond b (t ∷ filter (fires p h) ts) (filter (fires p h) ts)) ≡ inks_wanted p h t ++ flat_map (inks_wanted p h) ts
-    by_pass true e rest = ap (λ ds. inks_wanted p h t ++ ds) rest
-    by_pass false e rest = rest ∙ ap (λ ds. ds ++ flat_map (inks_wanted p h) ts) (sym (none-each p h t (inks_of p.inks) can e))

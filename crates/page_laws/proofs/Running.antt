@@ -1,139 +1,177 @@
--- What the machine makes of the commands of a page.
-use Rattle.std.proofs.Common.{◌≡◌, ℕ, zero, suc, ◌+◌, ◌-◌, ◌*◌, ◌/◌, ◌%◌, ◌<◌, ◌≤◌, Bool, true, false, not, ◌||◌, ◌==◌, nat_lt, nat_le, if◌then◌else◌, List, [], ◌∷◌, ◌++◌, length, map, Option, None, Some, refl, sym, ◌∙◌, ap, arith, append_assoc, append-nil, flat_map}
-use Rattle.std.specs.List.{list_any}
-use Rattle.std.proofs.lemmas.Bool.{eq-eqb, le-ltb}
+-- What the machine makes of single commands, of the prologue, and of a step down.
+use Rattle.std.proofs.Common.{◌≡◌, ℕ, zero, suc, ◌+◌, ◌-◌, ◌*◌, ◌<◌, ◌≤◌, Bool, true, false, nat_lt, List, [], ◌∷◌, ◌++◌, length, map, Option, None, Some, refl, sym, ◌∙◌, ap, arith, append-nil}
+use Rattle.std.proofs.lemmas.Bool.{le-ltb}
+use Rattle.std.proofs.Math.Nat.{mul-le-mul_right}
 use Rattle.printer_definitions.specs.declared.inks.Ink.{Ink}
 use Rattle.printer_definitions.specs.declared.inks.Ink.TheVariants.{Black}
-use Rattle.printer_definitions.specs.Printer.{Printer, column_step, head_rows, nozzle_step, row_step, row_units}
+use Rattle.printer_definitions.specs.Printer.{Printer, row_step, row_units}
 use Rattle.escp2_definitions.specs.declared.command.Command.{Command}
 use Rattle.escp2_definitions.specs.declared.command.Command.TheVariants as c
 use Rattle.escp2_definitions.specs.declared.stops.EmuFault.{EmuFault}
-use Rattle.escp2_definitions.specs.declared.stops.EmuFault.TheVariants.{NotGraphics, NoUnit, NoMargins, Density, Rows, Backward, OffGrid, OffSheet, Overprint}
-use Rattle.escp2_definitions.specs.Commands.{Entry, command_bytes}
-use Rattle.escp2_definitions.specs.Machine.{Dot, Machine, after, execute_from, first_fault, given, is_off_grid, is_off_sheet, is_other_density, overprints, raster_dots, refusals, refuse, rows_dots, start, with_sheets}
+use Rattle.escp2_definitions.specs.declared.stops.EmuFault.TheVariants.{NoUnit, NoMargins, Backward, OffSheet}
+use Rattle.escp2_definitions.specs.Commands.{Entry}
+use Rattle.escp2_definitions.specs.Machine.{Dot, Machine, after, execute_from, first_fault, given, refusals, refuse, start, with_sheets}
+use Rattle.escp2_definitions.specs.Written.{Coding, IsCoding, written}
 use Rattle.escp2_laws.specs.Said.{Said, entries_of}
+use Rattle.page_definitions.specs.Strokes.{Spoken, down_by, prologue, say}
 use Rattle.page_definitions.specs.Dots.{Halftone}
-use Rattle.escp2_definitions.specs.Packed.{packed}
-use Rattle.page_definitions.specs.OldPageBytes.{Spoken, down_by, has_dot, ink_pass, pass_rows, prologue, raster_head, say}
-use Rattle.weave_definitions.specs.Weave.{count_from, nozzle_row}
+use Rattle.page_laws.specs.Sized.{Sized}
 use Rattle.separation_definitions.specs.CanPrint.{CanPrint}
-use Rattle.page_laws.proofs.Numbers.{column_step-some}
-use Rattle.page_laws.proofs.Once.{Once, once-front, once-regroup}
-use Rattle.page_laws.proofs.Fired.{blank-rows, not_twice, on_sheet, pass-fired, pass_rows-len, pass_rows-wide, pass_wanted, rows_dots-fired}
+use Rattle.page_laws.proofs.Numbers.{margins-fit, row_units-is}
+
+-- ---- a page
+
+-- A halftone on a sheet of so many rows, how far above its window the head begins, and how the rows of its rasters are written.
+pub record Layout : Type 0 where
+  pub printer : Printer
+  pub coding : Coding
+  pub above : ℕ
+  pub halftone : Halftone
+  pub tall : ℕ
+
+-- the sheet's length in units
+abbrev pub len_of : Layout → ℕ
+len_of w = w.tall * row_units w.printer
+
+-- The page can be printed.
+pub record IsLayout (w : Layout) : Type 0 where
+  pub can : CanPrint w.printer
+  pub coding : IsCoding w.coding
+  pub size : Sized w.printer w.halftone w.tall
+  pub room : w.above ≤ w.printer.top
+
+-- the margins in units, the top one where the head begins
+abbrev pub first_of : Layout → ℕ
+first_of w = (w.printer.top - w.above) * row_units w.printer
+
+abbrev pub last_of : Layout → ℕ
+last_of w = (w.printer.top + w.halftone.height) * row_units w.printer
+
+-- the prologue of the page
+abbrev pub begins : Layout → List Spoken
+begins w = prologue w.printer w.above w.halftone.height (len_of w)
 
 -- ---- one command
 
--- a command with the bytes that spell it, its rows plain
-abbrev pub said : Spoken → Said
-said s = record { command = s.command; rows = s.rows; bytes = command_bytes s.command ++ s.rows }
+-- a command with the bytes that are written for it
+abbrev pub said : (List ℕ → List ℕ) → Spoken → Said
+said code s = record { command = s.command; rows = s.rows; bytes = written code s.command s.rows }
 
-abbrev pub entries : ℕ → List Spoken → List Entry
-entries at job = entries_of at (map said job)
+abbrev pub entries : (List ℕ → List ℕ) → ℕ → List Spoken → List Entry
+entries code at job = entries_of at (map (said code) job)
 
 -- From one state the machine comes to another with the rest of a job, and gives no sheet on the way.
-abbrev pub Comes : Printer → Machine → List Spoken → Machine → List Spoken → Type 0
-Comes p s job s' job' = (at : ℕ) → (at' : ℕ) × (execute_from p s (entries at job) ≡ execute_from p s' (entries at' job'))
+abbrev pub Comes : Layout → Machine → List Spoken → Machine → List Spoken → Type 0
+Comes w s job s' job' = (at : ℕ) → (at' : ℕ) × (execute_from w.printer s (entries w.coding.code at job) ≡ execute_from w.printer s' (entries w.coding.code at' job'))
 
-comes-here : (p : Printer) (s : Machine) (job : List Spoken) → Comes p s job s job
-comes-here p s job at = (at, refl)
+pub comes-here : (w : Layout) (s : Machine) (job : List Spoken) → Comes w s job s job
+comes-here w s job at = (at, refl)
 
-pub comes-then : (p : Printer) (s1 s2 s3 : Machine) (job1 job2 job3 : List Spoken) → Comes p s1 job1 s2 job2 → Comes p s2 job2 s3 job3 → Comes p s1 job1 s3 job3
-comes-then p s1 s2 s3 job1 job2 job3 f g at = let a = f at in let b = g a.0 in (b.0, a.1 ∙ b.1)
+pub comes-then : (w : Layout) (s1 s2 s3 : Machine) (job1 job2 job3 : List Spoken) → Comes w s1 job1 s2 job2 → Comes w s2 job2 s3 job3 → Comes w s1 job1 s3 job3
+comes-then w s1 s2 s3 job1 job2 job3 f g at = let a = f at in let b = g a.0 in (b.0, a.1 ∙ b.1)
 
 -- the same states and jobs by other names
-comes-as : (p : Printer) (s1 s2 t2 : Machine) (job1 job job2 : List Spoken) → job1 ≡ job → s2 ≡ t2 → Comes p s1 job s2 job2 → Comes p s1 job1 t2 job2
-comes-as p s1 s2 t2 job1 job job2 e f comes at =
-    let a = comes at in (a.0, ap (λ j. execute_from p s1 (entries at j)) e ∙ a.1 ∙ ap (λ s. execute_from p s (entries a.0 job2)) f)
+pub comes-as : (w : Layout) (s1 s2 t2 : Machine) (job1 job job2 : List Spoken) → job1 ≡ job → s2 ≡ t2 → Comes w s1 job s2 job2 → Comes w s1 job1 t2 job2
+comes-as w s1 s2 t2 job1 job job2 e f comes at =
+    let a = comes at in (a.0, ap (λ j. execute_from w.printer s1 (entries w.coding.code at j)) e ∙ a.1 ∙ ap (λ s. execute_from w.printer s (entries w.coding.code a.0 job2)) f)
 
--- a command that is accepted and gives no sheet
-pub one : (p : Printer) (s : Machine) (command : Command) (rows : List ℕ) (job : List Spoken)
-    → first_fault (refusals p s command rows) ≡ None → given p s command ≡ []
-    → Comes p s (record { command = command; rows = rows } ∷ job) (after p s command rows) job
+-- a command that is accepted
+pub one-runs : (w : Layout) (s : Machine) (command : Command) (rows : List ℕ) (job : List Spoken) (at : ℕ)
+    → first_fault (refusals w.printer s command rows) ≡ None
+    → (at' : ℕ) × (execute_from w.printer s (entries w.coding.code at (record { command = command; rows = rows } ∷ job))
+    ≡ with_sheets (given w.printer s command) (execute_from w.printer (after w.printer s command rows) (entries w.coding.code at' job)))
 unfolding execute_from
-one p s command rows job accepted no_sheet at =
-    let next : ℕ = at + length (command_bytes command ++ rows) in
-    let rest : List Entry = entries next job in (
+one-runs w s command rows job at accepted =
+    let next : ℕ = at + length (written w.coding.code command rows) in
+    let rest : List Entry = entries w.coding.code next job in (
       next,
       ap (λ (found : Option EmuFault). elim found [
         | Some fault ↦ record { sheets = []; refused = Some (record { at = at; fault = fault }) }
-        | None ↦ with_sheets (given p s command) (execute_from p (after p s command rows) rest)
-      ]) accepted
-          ∙ ap (λ sheets. with_sheets sheets (execute_from p (after p s command rows) rest)) no_sheet,
+        | None ↦ with_sheets (given w.printer s command) (execute_from w.printer (after w.printer s command rows) rest)
+      ]) accepted,
     )
+
+-- a command that is accepted and gives no sheet
+pub one : (w : Layout) (s : Machine) (command : Command) (rows : List ℕ) (job : List Spoken)
+    → first_fault (refusals w.printer s command rows) ≡ None → given w.printer s command ≡ []
+    → Comes w s (record { command = command; rows = rows } ∷ job) (after w.printer s command rows) job
+one w s command rows job accepted no_sheet at =
+    let run = one-runs w s command rows job at accepted in
+    (run.0, run.1 ∙ ap (λ sheets. with_sheets sheets (execute_from w.printer (after w.printer s command rows) (entries w.coding.code run.0 job))) no_sheet)
 
 -- ---- the states of a page
 
--- After the prologue, with the margins and the position in 1/3600 inch.
-abbrev pub paused : ℕ → ℕ → ℕ → ℕ → ℕ → ℕ → Ink → List Dot → Machine
-paused len top bottom down across columns ink dots = record {
+-- After the prologue, so many rows below the head's first place.
+abbrev pub paused : Layout → ℕ → ℕ → ℕ → Ink → List Dot → Machine
+paused w row across columns ink dots = record {
   graphics = true;
   unit = Some 5;
-  page = Some (len * 5);
-  margins = Some (record { top = top; bottom = bottom });
+  page = Some (len_of w * 5);
+  margins = Some (record { top = first_of w * 5; bottom = last_of w * 5 });
   colour = ink;
-  down = down;
+  down = row * row_units w.printer * 5;
   across = across;
   columns = columns;
   dots = dots;
 }
 
--- From a position with these dots the machine comes to another with more, whatever its ink, column and columns.
-abbrev pub Goes : Printer → ℕ → ℕ → ℕ → ℕ → List Dot → List Spoken → ℕ → List Dot → List Spoken → Type 0
-Goes p len top bottom down dots job down' dots' job' =
+-- From a row with these dots the machine comes to another with more, whatever its ink, column and columns.
+abbrev pub Goes : Layout → ℕ → List Dot → List Spoken → ℕ → List Dot → List Spoken → Type 0
+Goes w row dots job row' dots' job' =
     (across columns : ℕ) (ink : Ink) → (across' columns' : ℕ) × (ink' : Ink)
-    × Comes p (paused len top bottom down across columns ink dots) job (paused len top bottom down' across' columns' ink' dots') job'
+    × Comes w (paused w row across columns ink dots) job (paused w row' across' columns' ink' dots') job'
 
-pub goes-then : (p : Printer) (len top bottom d1 d2 d3 : ℕ) (dots1 dots2 dots3 : List Dot) (job1 job2 job3 : List Spoken)
-    → Goes p len top bottom d1 dots1 job1 d2 dots2 job2 → Goes p len top bottom d2 dots2 job2 d3 dots3 job3
-    → Goes p len top bottom d1 dots1 job1 d3 dots3 job3
-goes-then p len top bottom d1 d2 d3 dots1 dots2 dots3 job1 job2 job3 f g across columns ink =
+pub goes-then : (w : Layout) (r1 r2 r3 : ℕ) (dots1 dots2 dots3 : List Dot) (job1 job2 job3 : List Spoken)
+    → Goes w r1 dots1 job1 r2 dots2 job2 → Goes w r2 dots2 job2 r3 dots3 job3 → Goes w r1 dots1 job1 r3 dots3 job3
+goes-then w r1 r2 r3 dots1 dots2 dots3 job1 job2 job3 f g across columns ink =
     let a = f across columns ink in
     let b = g a.0 a.1 a.2 in (
       b.0,
       b.1,
       b.2,
-      comes-then p (paused len top bottom d1 across columns ink dots1) (paused len top bottom d2 a.0 a.1 a.2 dots2) (paused len top bottom d3 b.0 b.1 b.2 dots3) job1 job2 job3 a.3 b.3,
+      comes-then w (paused w r1 across columns ink dots1) (paused w r2 a.0 a.1 a.2 dots2) (paused w r3 b.0 b.1 b.2 dots3) job1 job2 job3 a.3 b.3,
     )
 
-pub goes-here : (p : Printer) (len top bottom down : ℕ) (dots more : List Dot) (job : List Spoken) → more ≡ []
-    → Goes p len top bottom down dots job down (dots ++ more) job
-goes-here p len top bottom down dots more job none across columns ink = (
+pub goes-here : (w : Layout) (row : ℕ) (dots more : List Dot) (job : List Spoken) → more ≡ [] → Goes w row dots job row (dots ++ more) job
+goes-here w row dots more job none across columns ink = (
   across,
   columns,
   ink,
-  comes-as p (paused len top bottom down across columns ink dots) (paused len top bottom down across columns ink dots) (paused len top bottom down across columns ink (dots ++ more)) job job job refl
-      (ap (λ ds. paused len top bottom down across columns ink ds) (sym (append-nil dots) ∙ ap (λ m. dots ++ m) (sym none)))
-      (comes-here p (paused len top bottom down across columns ink dots) job),
+  comes-as w (paused w row across columns ink dots) (paused w row across columns ink dots) (paused w row across columns ink (dots ++ more)) job job job refl
+      (ap (λ ds. paused w row across columns ink ds) (sym (append-nil dots) ∙ ap (λ m. dots ++ m) (sym none)))
+      (comes-here w (paused w row across columns ink dots) job),
 )
 
 -- a job by another name
-pub goes-as : (p : Printer) (len top bottom down down' : ℕ) (dots dots' ends : List Dot) (job1 job job2 : List Spoken) → job1 ≡ job → dots' ≡ ends
-    → Goes p len top bottom down dots job down' dots' job2 → Goes p len top bottom down dots job1 down' ends job2
-goes-as p len top bottom down down' dots dots' ends job1 job job2 e f goes across columns ink =
+pub goes-as : (w : Layout) (row row' : ℕ) (dots dots' ends : List Dot) (job1 job job2 : List Spoken) → job1 ≡ job → dots' ≡ ends
+    → Goes w row dots job row' dots' job2 → Goes w row dots job1 row' ends job2
+goes-as w row row' dots dots' ends job1 job job2 e f goes across columns ink =
     let a = goes across columns ink in (
       a.0,
       a.1,
       a.2,
-      comes-as p (paused len top bottom down across columns ink dots) (paused len top bottom down' a.0 a.1 a.2 dots') (paused len top bottom down' a.0 a.1 a.2 ends) job1 job job2 e
-          (ap (λ ds. paused len top bottom down' a.0 a.1 a.2 ds) f) a.3,
+      comes-as w (paused w row across columns ink dots) (paused w row' a.0 a.1 a.2 dots') (paused w row' a.0 a.1 a.2 ends) job1 job job2 e
+          (ap (λ ds. paused w row' a.0 a.1 a.2 ds) f) a.3,
     )
 
 -- ---- the prologue
 
-pub prologue-run : (p : Printer) (h : Halftone) (len : ℕ) (job : List Spoken) → len ≤ 15840
-    → (p.top + h.height) * row_units p ≤ len → (p.top - head_rows p) * row_units p ≤ len
-    → Comes p start (prologue p h len ++ job)
-    (paused len ((p.top - head_rows p) * row_units p * 5) ((p.top + h.height) * row_units p * 5) 0 0 1 Black []) job
-prologue-run p h len job short low high =
-    let first : ℕ = (p.top - head_rows p) * row_units p in
-    let last : ℕ = (p.top + h.height) * row_units p in
+-- From a machine whose sheet has no dot, the prologue leads to the head's first place.
+pub prologue-run : (w : Layout) (m : Machine) (job : List Spoken) → IsLayout w → m.dots ≡ [] → Comes w m (begins w ++ job) (paused w 0 0 1 Black []) job
+prologue-run w m job is blank =
+    let len : ℕ = len_of w in
+    let first : ℕ = first_of w in
+    let last : ℕ = last_of w in
     let s1 : Machine = record start { graphics = true } in
     let s2 : Machine = record s1 { unit = Some 5 } in
     let s3 : Machine = record s2 { page = Some (len * 5) } in
     let s4 : Machine = record s3 { margins = Some (record { top = first * 5; bottom = last * 5 }) } in
-    let length_fits : nat_lt 79200 (len * 5) ≡ false = le-ltb _ _ (omega arith) in
-    let margins_fit : nat_lt (len * 5) (last * 5) ≡ false = le-ltb _ _ (omega arith) in
-    let top_fits : nat_lt (len * 5) (first * 5 + 0 * 5) ≡ false = le-ltb _ _ (omega arith) in
+    let fits_sheet = margins-fit w.printer w.halftone w.above w.tall is.can is.size in
+    let on_sheet : last ≤ len = mul-le-mul_right (row_units w.printer) is.size.low in
+    let no_dots : nat_lt 0 (length m.dots) ≡ false = ap (λ ds. nat_lt 0 (length ds)) blank in
+    let length_fits : nat_lt 79200 (len * 5) ≡ false = le-ltb _ _ (omega (arith, is.size.short)) in
+    let margins_fit : nat_lt (len * 5) (last * 5) ≡ false = le-ltb _ _ (omega (arith, on_sheet)) in
+    let top_fits : nat_lt (len * 5) (first * 5 + 0 * 5) ≡ false = le-ltb _ _ (omega (arith, on_sheet, fits_sheet.0)) in
     let j8 : List Spoken = job in
     let j7 : List Spoken = say (c.DownTo 0) ∷ j8 in
     let j6 : List Spoken = say (c.Margins first last) ∷ j7 in
@@ -143,151 +181,66 @@ prologue-run p h len job short low high =
     let j2 : List Spoken = say (c.Unit 5) ∷ j3 in
     let j1 : List Spoken = say c.Graphics ∷ j2 in
     let j0 : List Spoken = say c.Init ∷ j1 in
+    let may_begin : Bool → Option EmuFault = λ b. first_fault (refuse b Backward ∷ []) in
     let fits : Bool → Option EmuFault = λ b. first_fault (refuse false NoUnit ∷ refuse false Backward ∷ refuse b OffSheet ∷ []) in
     let fits_margins : Bool → Option EmuFault = λ b. first_fault (refuse false NoUnit ∷ refuse false NoMargins ∷ refuse false Backward ∷ refuse b OffSheet ∷ []) in
-    comes-then p start start s4 j0 j1 j8 (one p start c.Init [] j1 refl refl)
-    (comes-then p start s1 s4 j1 j2 j8 (one p start c.Graphics [] j2 refl refl)
-    (comes-then p s1 s2 s4 j2 j3 j8 (one p s1 (c.Unit 5) [] j3 refl refl)
-    (comes-then p s2 s2 s4 j3 j4 j8 (one p s2 (c.MicroWeave 0) [] j4 refl refl)
-    (comes-then p s2 s2 s4 j4 j5 j8 (one p s2 (c.OneWay 1) [] j5 refl refl)
-    (comes-then p s2 s3 s4 j5 j6 j8 (one p s2 (c.Length len) [] j6 (ap fits length_fits) refl)
-    (comes-then p s3 s4 s4 j6 j7 j8 (one p s3 (c.Margins first last) [] j7 (ap fits_margins margins_fit) refl)
-    (one p s4 (c.DownTo 0) [] j8 (ap fits_margins top_fits) refl)))))))
+    let from_top : 0 * 5 ≡ 0 * row_units w.printer * 5 = omega arith in
+    comes-as w m s4 (paused w 0 0 1 Black []) j0 j0 j8 refl (ap (λ d. record s4 { down = d }) from_top)
+    (comes-then w m start s4 j0 j1 j8 (one w m c.Init [] j1 (ap may_begin no_dots) refl)
+    (comes-then w start s1 s4 j1 j2 j8 (one w start c.Graphics [] j2 refl refl)
+    (comes-then w s1 s2 s4 j2 j3 j8 (one w s1 (c.Unit 5) [] j3 refl refl)
+    (comes-then w s2 s2 s4 j3 j4 j8 (one w s2 (c.MicroWeave 0) [] j4 refl refl)
+    (comes-then w s2 s2 s4 j4 j5 j8 (one w s2 (c.OneWay 1) [] j5 refl refl)
+    (comes-then w s2 s3 s4 j5 j6 j8 (one w s2 (c.Length len) [] j6 (ap fits length_fits) refl)
+    (comes-then w s3 s4 s4 j6 j7 j8 (one w s3 (c.Margins first last) [] j7 (ap fits_margins margins_fit) refl)
+    (one w s4 (c.DownTo 0) [] j8 (ap fits_margins top_fits) refl))))))))
 
 -- ---- going down
 
-pub down-run : (p : Printer) (len top bottom down down' n : ℕ) (dots : List Dot) (job : List Spoken) → down + n * 5 ≡ down' → top + down' ≤ len * 5
-    → Goes p len top bottom down dots (down_by n ++ job) down' dots job
-down-run p len top bottom down down' zero dots job e fits across columns ink =
-    let same : down ≡ down' = omega arith in (
-      across,
-      columns,
-      ink,
-      comes-as p (paused len top bottom down across columns ink dots) (paused len top bottom down across columns ink dots) (paused len top bottom down' across columns ink dots) job job job refl
-          (ap (λ d. paused len top bottom d across columns ink dots) same) (comes-here p (paused len top bottom down across columns ink dots) job),
-    )
-down-run p len top bottom down down' (suc n) dots job e fits across columns ink =
-    let s : Machine = paused len top bottom down across columns ink dots in
-    let low : nat_lt (len * 5) (top + down + suc n * 5) ≡ false = le-ltb _ _ (omega arith) in
-    let accepted : Bool → Option EmuFault = λ b. first_fault (refuse false NoUnit ∷ refuse false NoMargins ∷ refuse b OffSheet ∷ []) in (
-      across,
-      columns,
-      ink,
-      comes-as p s (after p s (c.DownBy (suc n)) []) (paused len top bottom down' across columns ink dots) (say (c.DownBy (suc n)) ∷ job) (say (c.DownBy (suc n)) ∷ job) job refl
-          (ap (λ d. paused len top bottom d across columns ink dots) e) (one p s (c.DownBy (suc n)) [] job (ap accepted low) refl),
-    )
+-- where a row stands on paper, counted from the head's first place
+pub place-is : (w : Layout) (row : ℕ) → IsLayout w → first_of w * 5 + row * row_units w.printer * 5 ≡ (w.printer.top - w.above + row) * row_step w.printer
+place-is w row is =
+    let a : ℕ = w.printer.top - w.above in
+    let u : ℕ = row_units w.printer in
+    let grouped : a * u * 5 + row * u * 5 ≡ (a + row) * (u * 5) = omega arith in
+    grouped ∙ ap (λ s. (a + row) * s) (row_units-is w.printer is.can)
 
--- ---- one ink of a pass
-
--- where a pass stands, and that its nozzles are over the rows of the window
-pub record Stands (p : Printer) (h : Halftone) (t place bottom : ℕ) : Type 0 where
-  pub on_grid : place % row_step p ≡ 0
-  pub over : (i y : ℕ) → nozzle_row p.nozzles p.pitch h.height t i ≡ Some y → place + i * nozzle_step p ≡ (p.top + y) * 3600 / p.vdpi
-  pub above : (i y : ℕ) → nozzle_row p.nozzles p.pitch h.height t i ≡ Some y → (p.top + y) * 3600 / p.vdpi < bottom
-
-from_zero : (j : ℕ) → j ≡ 0 + j
-from_zero j = omega arith
-
--- the dots that the raster of a pass fires
-new-dots : (p : Printer) (h : Halftone) (t : ℕ) (ink : Ink) (place bottom : ℕ) → CanPrint p → Stands p h t place bottom
-    → rows_dots p.nozzles (raster_head p h) ink 0 place (flat_map packed (pass_rows p h ink t)) ≡ pass_wanted p h t ink
-new-dots p h t ink place bottom can stands =
-    ap (λ m. rows_dots m (raster_head p h) ink 0 place (flat_map packed (pass_rows p h ink t))) (sym (pass_rows-len p h ink t))
-    ∙ rows_dots-fired (raster_head p h) ink place (pass_rows p h ink t) (pass_rows-wide p h ink t)
-    ∙ pass-fired p h ink (λ i. nozzle_row p.nozzles p.pitch h.height t i) 0 p.nozzles place can
-    (λ j y e. stands.over j y (ap (nozzle_row p.nozzles p.pitch h.height t) (from_zero j) ∙ e))
-
--- a pass that has no dots of an ink wants none
-pub blank-pass : (p : Printer) (h : Halftone) (t : ℕ) (ink : Ink) (place bottom : ℕ) → CanPrint p → Stands p h t place bottom
-    → has_dot (pass_rows p h ink t) ≡ false → pass_wanted p h t ink ≡ []
-blank-pass p h t ink place bottom can stands e =
-    sym (pass-fired p h ink (λ i. nozzle_row p.nozzles p.pitch h.height t i) 0 p.nozzles place can
-    (λ j y f. stands.over j y (ap (nozzle_row p.nozzles p.pitch h.height t) (from_zero j) ∙ f)))
-    ∙ blank-rows ink (column_step p) (nozzle_step p) place (pass_rows p h ink t) e
-
-neither : (a b : Bool) → a ≡ false → b ≡ false → (a || b) ≡ false
-neither true b e f = e
-neither false b e f = f
-
-zero-over : (n : ℕ) → 1 ≤ n → record { rest : 0 % n ≡ 0; over : 0 / n ≡ 0 }
-zero-over n some = record { rest = omega arith; over = omega arith }
-
-raster-accepted : (p : Printer) (h : Halftone) (t len top bottom down columns : ℕ) (ink : Ink) (dots : List Dot) → CanPrint p
-    → Stands p h t (top + down) bottom → h.width ≤ 8191 → Once (dots ++ pass_wanted p h t ink)
-    → first_fault (refusals p (paused len top bottom down 0 columns ink dots) (c.Raster (raster_head p h)) (flat_map packed (pass_rows p h ink t))) ≡ None
-raster-accepted p h t len top bottom down columns ink dots can stands narrow once =
-    let s : Machine = paused len top bottom down 0 columns ink dots in
-    let rows : List ℕ = flat_map packed (pass_rows p h ink t) in
-    let fired : List Dot = raster_dots s (raster_head p h) rows in
-    let wanted : List Dot = pass_wanted p h t ink in
-    let is : fired ≡ wanted = new-dots p h t ink (top + down) bottom can stands in
-    let zeros = zero-over (column_step p) (column_step-some p can) in
-    let density : is_other_density p (raster_head p h) ≡ false =
-    neither _ _ (ap not (eq-eqb (column_step p) (column_step p) refl)) (ap not (eq-eqb (nozzle_step p) (nozzle_step p) refl)) in
-    let nozzles : not (p.nozzles == p.nozzles) ≡ false = ap not (eq-eqb p.nozzles p.nozzles refl) in
-    let grid : is_off_grid p s ≡ false = neither _ _ (ap not (eq-eqb _ _ zeros.rest)) (ap not (eq-eqb _ _ stands.on_grid)) in
-    let columns_fit : nat_lt 8191 (0 / column_step p + h.width) ≡ false = le-ltb _ _ (omega (arith, zeros.over)) in
-    let rows_fit : list_any (λ d. nat_le bottom d.y) fired ≡ false =
-    ap (list_any (λ d. nat_le bottom d.y)) is ∙ on_sheet p h ink (λ i. nozzle_row p.nozzles p.pitch h.height t i) bottom (count_from 0 p.nozzles) stands.above in
-    let sheet : is_off_sheet p s (raster_head p h) fired ≡ false = neither _ _ columns_fit rows_fit in
-    let over : overprints dots fired ≡ false = ap (overprints dots) is ∙ not_twice dots wanted once in
-    let faults : Bool → Bool → Bool → Bool → Bool → Option EmuFault = λ density nozzles grid sheet over.
-    first_fault (refuse false NotGraphics ∷ refuse false NoUnit ∷ refuse false NoMargins ∷ refuse density Density ∷ refuse nozzles Rows
-    ∷ refuse grid OffGrid ∷ refuse sheet OffSheet ∷ refuse over Overprint ∷ []) in
-    ap (λ b. faults b (not (p.nozzles == p.nozzles)) (is_off_grid p s) (is_off_sheet p s (raster_head p h) fired) (overprints dots fired)) density
-    ∙ ap (λ b. faults false b (is_off_grid p s) (is_off_sheet p s (raster_head p h) fired) (overprints dots fired)) nozzles
-    ∙ ap (λ b. faults false false b (is_off_sheet p s (raster_head p h) fired) (overprints dots fired)) grid
-    ∙ ap (λ b. faults false false false b (overprints dots fired)) sheet
-    ∙ ap (faults false false false false) over
-
-ink-run : (p : Printer) (h : Halftone) (t len top bottom down : ℕ) (ink : Ink) (dots : List Dot) (job : List Spoken) → CanPrint p
-    → Stands p h t (top + down) bottom → h.width ≤ 8191 → Once (dots ++ pass_wanted p h t ink)
-    → Goes p len top bottom down dots (ink_pass p h t ink ++ job) down (dots ++ pass_wanted p h t ink) job
-ink-run p h t len top bottom down ink dots job can stands narrow once = by_dots (has_dot (pass_rows p h ink t)) refl
+-- a step from one row down to another that is on the sheet
+pub down-run : (w : Layout) (last row : ℕ) (dots : List Dot) (job : List Spoken) → IsLayout w → last ≤ row → row < w.above + w.halftone.height
+    → Goes w last dots (down_by ((row - last) * row_units w.printer) ++ job) row dots job
+down-run w last row dots job is le low = by_units ((row - last) * row_units w.printer) refl
   where
-    by_dots : (b : Bool) → has_dot (pass_rows p h ink t) ≡ b
-        → Goes p len top bottom down dots (ink_pass p h t ink ++ job) down (dots ++ pass_wanted p h t ink) job
-    by_dots false e =
-        let rows : List (List Bool) = pass_rows p h ink t in
-        let fire : List Spoken = say (c.Colour ink) ∷ say c.Return ∷ record { command = c.Raster (raster_head p h); rows = flat_map packed rows } ∷ [] in
-        let none : pass_wanted p h t ink ≡ [] = blank-pass p h t ink (top + down) bottom can stands e in
-        goes-as p len top bottom down down dots (dots ++ pass_wanted p h t ink) (dots ++ pass_wanted p h t ink) (ink_pass p h t ink ++ job) job job
-        (ap (λ b. (if b then fire else []) ++ job) e) refl
-        (goes-here p len top bottom down dots (pass_wanted p h t ink) job none)
-    by_dots true e =
-        λ across columns old.
-        let rows : List (List Bool) = pass_rows p h ink t in
-        let text : List ℕ = flat_map packed rows in
-        let raster : Spoken = record { command = c.Raster (raster_head p h); rows = text } in
-        let fire : List Spoken = say (c.Colour ink) ∷ say c.Return ∷ raster ∷ [] in
-        let s0 : Machine = paused len top bottom down across columns old dots in
-        let s1 : Machine = paused len top bottom down across columns ink dots in
-        let s2 : Machine = paused len top bottom down 0 columns ink dots in
-        let s3 : Machine = after p s2 (c.Raster (raster_head p h)) text in
-        let ends : Machine = record s3 { dots = dots ++ pass_wanted p h t ink } in (
-          s3.across,
-          s3.columns,
+    u : ℕ
+    u = row_units w.printer
+
+    down : (n : ℕ) → (row - last) * u ≡ n → last * u * 5 + n * 5 ≡ row * u * 5
+    down n e =
+        let whole : last + (row - last) ≡ row = omega arith in
+        let summed : last * u * 5 + (row - last) * u * 5 ≡ (last + (row - last)) * u * 5 = omega arith in
+        ap (λ m. last * u * 5 + m * 5) (sym e) ∙ summed ∙ ap (λ m. m * u * 5) whole
+
+    fits : first_of w * 5 + row * u * 5 ≤ len_of w * 5
+    fits =
+        let under : (w.printer.top - w.above + row) * u ≤ w.tall * u = mul-le-mul_right u (omega (arith, is.room, is.size.low)) in
+        omega (arith, under)
+
+    by_units : (n : ℕ) → (row - last) * u ≡ n → Goes w last dots (down_by n ++ job) row dots job
+    by_units zero e across columns ink = (
+      across,
+      columns,
+      ink,
+      comes-as w (paused w last across columns ink dots) (paused w last across columns ink dots) (paused w row across columns ink dots) job job job refl
+          (ap (λ d. record (paused w last across columns ink dots) { down = d }) (let same : last * u * 5 ≡ row * u * 5 = omega (arith, down zero e) in same))
+          (comes-here w (paused w last across columns ink dots) job),
+    )
+    by_units (suc n) e across columns ink =
+        let s : Machine = paused w last across columns ink dots in
+        let on_sheet : nat_lt (len_of w * 5) (first_of w * 5 + last * u * 5 + suc n * 5) ≡ false = le-ltb _ _ (omega (arith, fits, down (suc n) e)) in
+        let accepted : Bool → Option EmuFault = λ b. first_fault (refuse false NoUnit ∷ refuse false NoMargins ∷ refuse b OffSheet ∷ []) in (
+          across,
+          columns,
           ink,
-          comes-as p s0 s3 ends (ink_pass p h t ink ++ job) (fire ++ job) job (ap (λ b. (if b then fire else []) ++ job) e)
-              (ap (λ ds. paused len top bottom down s3.across s3.columns ink (dots ++ ds)) (new-dots p h t ink (top + down) bottom can stands))
-              (comes-then p s0 s1 s3 (fire ++ job) (say c.Return ∷ raster ∷ job) job (one p s0 (c.Colour ink) [] (say c.Return ∷ raster ∷ job) refl refl)
-              (comes-then p s1 s2 s3 (say c.Return ∷ raster ∷ job) (raster ∷ job) job (one p s1 c.Return [] (raster ∷ job) refl refl)
-              (one p s2 (c.Raster (raster_head p h)) text job (raster-accepted p h t len top bottom down columns ink dots can stands narrow once) refl))),
+          comes-as w s (after w.printer s (c.DownBy (suc n)) []) (paused w row across columns ink dots) (say (c.DownBy (suc n)) ∷ job) (say (c.DownBy (suc n)) ∷ job) job refl
+              (ap (λ d. record (paused w last across columns ink dots) { down = d }) (down (suc n) e))
+              (one w s (c.DownBy (suc n)) [] job (ap accepted on_sheet) refl),
         )
-
--- ---- the inks of a pass
-
-pub inks-run : (p : Printer) (h : Halftone) (t len top bottom down : ℕ) (inks : List Ink) (dots : List Dot) (job : List Spoken) → CanPrint p
-    → Stands p h t (top + down) bottom → h.width ≤ 8191 → Once (dots ++ flat_map (pass_wanted p h t) inks)
-    → Goes p len top bottom down dots (flat_map (ink_pass p h t) inks ++ job) down (dots ++ flat_map (pass_wanted p h t) inks) job
-inks-run p h t len top bottom down [] dots job can stands narrow once = goes-here p len top bottom down dots [] job refl
-inks-run p h t len top bottom down (ink ∷ inks) dots job can stands narrow once =
-    let first : List Dot = pass_wanted p h t ink in
-    let others : List Dot = flat_map (pass_wanted p h t) inks in
-    let said_first : List Spoken = ink_pass p h t ink in
-    let said_others : List Spoken = flat_map (ink_pass p h t) inks in
-    goes-as p len top bottom down down dots ((dots ++ first) ++ others) (dots ++ (first ++ others)) ((said_first ++ said_others) ++ job) (said_first ++ (said_others ++ job)) job
-    (append_assoc said_first said_others job) (append_assoc dots first others)
-    (goes-then p len top bottom down down down dots (dots ++ first) ((dots ++ first) ++ others) (said_first ++ (said_others ++ job)) (said_others ++ job) job
-    (ink-run p h t len top bottom down ink dots (said_others ++ job) can stands narrow (once-front dots first others once))
-    (inks-run p h t len top bottom down inks (dots ++ first) job can stands narrow (once-regroup dots first others once)))

@@ -1,1 +1,4 @@
+pub mod Sized
+pub mod Stroked
 pub mod Examples
+pub mod Shingles

@@ -3,14 +3,17 @@
 ghost use Rattle.diffusion_definitions.specs.Diffusion.{floyd};
 ghost use Rattle.escp2_definitions.specs.Commands.{commands};
 ghost use Rattle.escp2_definitions.specs.Machine.{execute};
+ghost use Rattle.escp2_definitions.specs.Rasters.{ink_rasters};
+ghost use Rattle.escp2_laws.specs.Examples.{listing, three_nozzles};
 ghost use Rattle.page_definitions.specs.Dots.{wanted};
-ghost use Rattle.page_definitions.specs.OldPageBytes.{page_bytes};
-ghost use Rattle.weave_definitions.specs.Weave.{pass_count, passes};
-ghost use Rattle.page_laws.specs.Examples.{amounts_of_128, black_dot, black_page, black_page_bytes, fires_row, grey, small_page, small_page_bytes, with_inks, with_limits, with_margins};
+ghost use Rattle.page_definitions.specs.PageBytes.{page_bytes};
+ghost use Rattle.page_laws.specs.Examples.{amounts_of, amounts_of_128, black_column, black_column_bytes, black_dot, black_line, black_page, black_page_bytes, black_pixel_bytes, fine_across, fine_across_bytes, fine_down, fine_down_bytes, fires_row, grey, pixel, red_pixel_bytes, six_rows, small_page, small_page_bytes, with_black_start, with_inks, with_limits, with_margins};
 ghost use Rattle.printer_definitions.specs.Printer.{tiny1};
+ghost use Rattle.printer_definitions.specs.declared.inks.Ink.TheVariants.{Black, Cyan, Magenta, Yellow};
 ghost use Rattle.printer_definitions.specs.declared.inks.InkSet.TheVariants.{Cmy, Cmyk, K};
 ghost use Rattle.separation_definitions.specs.Windows.{wanted_by, window_of};
 ghost use Rattle.std.specs.Prelude.{None, [], length, ◌∷◌, ◌≡◌};
+ghost use Rattle.weave_definitions.specs.Weave.{pass_count, passes};
 
 /// The dots of a page of four columns and two rows.
 #[tactic(auto, unfolding(diffusion_definitions::specs::Diffusion::value, diffusion_definitions::specs::Diffusion::row_errors, diffusion_definitions::specs::Diffusion::errors))]
@@ -19,14 +22,14 @@ pub fn small_page_wants_two_dots()
 {}
 
 /// The bytes of its job.
-#[tactic(auto, unfolding(page_definitions::specs::OldPageBytes::page_bytes, diffusion_definitions::specs::Diffusion::value, diffusion_definitions::specs::Diffusion::row_errors, diffusion_definitions::specs::Diffusion::errors))]
+#[tactic(auto, unfolding(page_definitions::specs::PageBytes::page_bytes, page_definitions::specs::PageBytes::halftone_bytes, escp2_definitions::specs::Canonical::canonical_row, escp2_definitions::specs::Canonical::packets_from, escp2_definitions::specs::Canonical::apart_at, escp2_definitions::specs::Canonical::equal_at, diffusion_definitions::specs::Diffusion::value, diffusion_definitions::specs::Diffusion::row_errors, diffusion_definitions::specs::Diffusion::errors))]
 pub fn small_page_has_its_bytes()
-    ensures len { length small_page_bytes ≡ 69 }
+    ensures len { length small_page_bytes ≡ 70 }
     ensures bytes { page_bytes small_page tiny1 floyd ≡ small_page_bytes }
 {}
 
 /// What the printer makes of these bytes.
-#[tactic(auto, unfolding(escp2_definitions::specs::Commands::command_at, escp2_definitions::specs::Commands::commands_from, escp2_definitions::specs::Machine::execute_from, escp2_definitions::specs::Machine::rows_dots))]
+#[tactic(auto, unfolding(escp2_definitions::specs::Commands::command_at, escp2_definitions::specs::Commands::commands_from, escp2_definitions::specs::Machine::execute_from, escp2_definitions::specs::Machine::rows_dots, escp2_definitions::specs::RowCode::row_at, escp2_definitions::specs::RowCode::rows_at))]
 pub fn small_page_is_printed()
     ensures { execute tiny1 (commands small_page_bytes).entries ≡ record {
       sheets = record { rows = 2; columns = 4; dots = black_dot 10 10 ∷ black_dot 30 10 ∷ [] } ∷ [];
@@ -35,11 +38,49 @@ pub fn small_page_is_printed()
 {}
 
 /// A black page with margins: its window, and the bytes of its job.
-#[tactic(auto, unfolding(page_definitions::specs::OldPageBytes::page_bytes, diffusion_definitions::specs::Diffusion::value, diffusion_definitions::specs::Diffusion::row_errors, diffusion_definitions::specs::Diffusion::errors))]
+#[tactic(auto, unfolding(page_definitions::specs::PageBytes::page_bytes, page_definitions::specs::PageBytes::halftone_bytes, escp2_definitions::specs::Canonical::canonical_row, escp2_definitions::specs::Canonical::packets_from, escp2_definitions::specs::Canonical::apart_at, escp2_definitions::specs::Canonical::equal_at, diffusion_definitions::specs::Diffusion::value, diffusion_definitions::specs::Diffusion::row_errors, diffusion_definitions::specs::Diffusion::errors))]
 pub fn black_page_with_margins()
     ensures window { window_of black_page.form with_margins ≡ record { left = 1; top = 1; width = 3; height = 1 } }
-    ensures len { length black_page_bytes ≡ 62 }
+    ensures len { length black_page_bytes ≡ 63 }
     ensures bytes { page_bytes black_page with_margins floyd ≡ black_page_bytes }
+{}
+
+/// Three black rows of a column take one nozzle three rasters.
+#[tactic(auto, unfolding(page_definitions::specs::PageBytes::page_bytes, page_definitions::specs::PageBytes::halftone_bytes, escp2_definitions::specs::Canonical::canonical_row, escp2_definitions::specs::Canonical::packets_from, escp2_definitions::specs::Canonical::apart_at, escp2_definitions::specs::Canonical::equal_at, diffusion_definitions::specs::Diffusion::value, diffusion_definitions::specs::Diffusion::row_errors, diffusion_definitions::specs::Diffusion::errors, escp2_definitions::specs::Commands::command_at, escp2_definitions::specs::Commands::commands_from, escp2_definitions::specs::RowCode::row_at, escp2_definitions::specs::RowCode::rows_at))]
+pub fn one_nozzle_prints_three_rasters()
+    ensures len { length black_column_bytes ≡ 105 }
+    ensures bytes { page_bytes black_column tiny1 floyd ≡ black_column_bytes }
+    ensures rasters { ink_rasters Black (commands black_column_bytes).entries ≡ 3 }
+{}
+
+/// Six black rows of eight columns, of which two are in the window of a head with three nozzles two rows apart: 92
+/// bytes, with two rasters.
+#[tactic(auto, unfolding(page_definitions::specs::PageBytes::page_bytes, page_definitions::specs::PageBytes::halftone_bytes, escp2_definitions::specs::Canonical::canonical_row, escp2_definitions::specs::Canonical::packets_from, escp2_definitions::specs::Canonical::apart_at, escp2_definitions::specs::Canonical::equal_at, diffusion_definitions::specs::Diffusion::value, diffusion_definitions::specs::Diffusion::row_errors, diffusion_definitions::specs::Diffusion::errors, escp2_definitions::specs::Commands::command_at, escp2_definitions::specs::Commands::commands_from, escp2_definitions::specs::RowCode::row_at, escp2_definitions::specs::RowCode::rows_at))]
+pub fn three_nozzles_print_ninety_two_bytes()
+    ensures bytes { page_bytes six_rows three_nozzles floyd ≡ listing }
+    ensures rasters { ink_rasters Black (commands listing).entries ≡ 2 }
+{}
+
+/// The inks of a pass go in the order of their set: a black pixel takes black alone, a red one magenta and yellow.
+#[tactic(auto, unfolding(page_definitions::specs::PageBytes::page_bytes, page_definitions::specs::PageBytes::halftone_bytes, escp2_definitions::specs::Canonical::canonical_row, escp2_definitions::specs::Canonical::packets_from, escp2_definitions::specs::Canonical::apart_at, escp2_definitions::specs::Canonical::equal_at, diffusion_definitions::specs::Diffusion::value, diffusion_definitions::specs::Diffusion::row_errors, diffusion_definitions::specs::Diffusion::errors, escp2_definitions::specs::Commands::command_at, escp2_definitions::specs::Commands::commands_from, escp2_definitions::specs::RowCode::row_at, escp2_definitions::specs::RowCode::rows_at))]
+pub fn inks_go_in_the_order_of_their_set()
+    ensures black_len { length black_pixel_bytes ≡ 63 }
+    ensures black { page_bytes (pixel 0 0 0) (with_inks Cmyk) floyd ≡ black_pixel_bytes }
+    ensures red_len { length red_pixel_bytes ≡ 77 }
+    ensures red { page_bytes (pixel 255 0 0) (with_inks Cmyk) floyd ≡ red_pixel_bytes }
+    ensures no_black { ink_rasters Black (commands red_pixel_bytes).entries ≡ 0 }
+    ensures no_cyan { ink_rasters Cyan (commands red_pixel_bytes).entries ≡ 0 }
+    ensures one_magenta { ink_rasters Magenta (commands red_pixel_bytes).entries ≡ 1 }
+    ensures one_yellow { ink_rasters Yellow (commands red_pixel_bytes).entries ≡ 1 }
+{}
+
+/// A black line at 720 dots an inch across the page or down it: the steps of its raster, and the units of its sheet.
+#[tactic(auto, unfolding(page_definitions::specs::PageBytes::page_bytes, page_definitions::specs::PageBytes::halftone_bytes, escp2_definitions::specs::Canonical::canonical_row, escp2_definitions::specs::Canonical::packets_from, escp2_definitions::specs::Canonical::apart_at, escp2_definitions::specs::Canonical::equal_at, diffusion_definitions::specs::Diffusion::value, diffusion_definitions::specs::Diffusion::row_errors, diffusion_definitions::specs::Diffusion::errors))]
+pub fn resolutions_differ_across_and_down()
+    ensures across_dots { wanted black_line fine_across floyd ≡ black_dot 0 0 ∷ black_dot 5 0 ∷ black_dot 10 0 ∷ black_dot 15 0 ∷ [] }
+    ensures across { page_bytes black_line fine_across floyd ≡ fine_across_bytes }
+    ensures down_dots { wanted black_line fine_down floyd ≡ black_dot 0 0 ∷ black_dot 10 0 ∷ black_dot 20 0 ∷ black_dot 30 0 ∷ [] }
+    ensures down { page_bytes black_line fine_down floyd ≡ fine_down_bytes }
 {}
 
 /// Which nozzles fire two rows, by 15 nozzles that stand four rows apart and by three that stand two rows apart.
@@ -58,6 +99,22 @@ pub fn grey_128_has_its_amounts()
     ensures three_inks { amounts_of_128 (with_inks Cmy) ≡ 127 ∷ 127 ∷ 127 ∷ [] }
     // 12,700 / 255, rounded down
     ensures limited { amounts_of_128 (with_limits 100) ≡ 49 ∷ [] }
+{}
+
+/// The amounts of each ink for colours.
+pub fn colours_have_their_amounts()
+    // the darkness of 155 is moved into black whole, or in part above a darkness of 128
+    ensures whole { amounts_of (with_black_start 0) 100 100 100 ≡ 155 ∷ 0 ∷ 0 ∷ 0 ∷ [] }
+    ensures part { amounts_of (with_black_start 128) 100 100 100 ≡ 54 ∷ 101 ∷ 101 ∷ 101 ∷ [] }
+    // what is darker than nothing, but not than 128, stays in the colours
+    ensures light { amounts_of (with_black_start 128) 200 200 200 ≡ 0 ∷ 55 ∷ 55 ∷ 55 ∷ [] }
+    ensures red { amounts_of (with_inks Cmy) 255 0 0 ≡ 0 ∷ 255 ∷ 255 ∷ [] }
+    // red as a grey, and the weights of green and blue
+    ensures grey_red { amounts_of tiny1 255 0 0 ≡ 179 ∷ [] }
+    ensures grey_green { amounts_of tiny1 0 255 0 ≡ 106 ∷ [] }
+    ensures grey_blue { amounts_of tiny1 0 0 255 ≡ 227 ∷ [] }
+    // 101 * 224 / 255, rounded down
+    ensures limited { amounts_of (record (with_inks Cmy) { limits = 224 ∷ 224 ∷ 224 ∷ 224 ∷ [] }) 154 154 154 ≡ 88 ∷ 88 ∷ 88 ∷ [] }
 {}
 
 /// The window inside four different margins.

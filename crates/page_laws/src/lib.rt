@@ -1,12 +1,24 @@
-//! Laws of pages on paper: the dots that a page wants are distinct, and its bytes print them; and worked pages.
+//! Laws of pages on paper: the dots that a page wants are distinct, strokes that fire them print them, and the bytes of
+//! pages print the pages; and worked pages.
 #![tactic(auto)]
 
 mod examples;
 mod laws;
+mod shingles;
 
 pub use examples::{
-    black_page_with_margins, grey_128_has_its_amounts, pages_that_are_taken,
-    small_page_has_its_bytes, small_page_is_printed, small_page_wants_two_dots, two_rows_are_fired,
+    black_page_with_margins, colours_have_their_amounts, grey_128_has_its_amounts,
+    inks_go_in_the_order_of_their_set, one_nozzle_prints_three_rasters, pages_that_are_taken,
+    resolutions_differ_across_and_down, small_page_has_its_bytes, small_page_is_printed,
+    small_page_wants_two_dots, three_nozzles_print_ninety_two_bytes, two_rows_are_fired,
     window_inside_margins,
 };
-pub use laws::{pages_are_printed, wanted_are_distinct};
+pub use laws::{
+    counts_of_planes, page_is_short, pages_are_printed, pages_have_passes, rows_are_coded,
+    stroked_pages_are_printed, strokes_are_printed, strokes_have_rasters, wanted_are_distinct,
+    weave_fires,
+};
+pub use shingles::{
+    made_up_rows_are_printed, rows_of_a_dead_nozzle_are_made_up, shingled_rows_are_printed,
+    shingled_rows_fire_even_and_odd_columns,
+};

@@ -1,7 +1,6 @@
 pub mod CheckedProfiles
 pub mod Divisors
 pub mod LineParts
-pub mod Numbers
 pub mod Printed
 pub mod RoundTrip
 pub mod TextLemmas

@@ -19,29 +19,11 @@ use Rattle.printer_profile.specs.declared.keys.Key.TheVariants as key
 use Rattle.printer_profile.specs.declared.reading.Given.{Given}
 use Rattle.printer_profile.specs.Keys.{all_keys, row_of}
 use Rattle.printer_profile.specs.Text.{head, is_given, key_line, nothing, profile_given, profile_text, profile_text_of, with_key, with_line, with_lines}
-use Rattle.printer_profile.specs.Values.{has_leading_zero, ink_set_name, ink_set_named, number_within}
+use Rattle.key_values.specs.Numbers.{number_within}
+use Rattle.printer_profile.specs.Values.{ink_set_name, ink_set_named}
 use Rattle.printer_profile.proofs.LineParts.{line_before}
-use Rattle.printer_profile.proofs.Numbers.{all_pass}
+use Rattle.key_values.proofs.Digits.{number_of_decimal, own}
 use Rattle.printer_profile.proofs.TextLemmas.{line_of_key, lines_more, lines_done, text_with_head}
-
--- ---- numbers
-
-own : IsNumeralModel (λ ds. list_all is_ascii_digit ds ≡ true) (digits_value 10)
-own = numerals_by_value _ (search rules)
-
-no_zero_before : (bytes : List ℕ) → 48 < get_or bytes 0 0 → has_leading_zero bytes ≡ false
-no_zero_before bytes h = grind (arith, nat_tests)
-
-no_leading_zero : (n : ℕ) → n < 2 ^ 64 → has_leading_zero (decimal n) ≡ false
-no_leading_zero zero h = rw (decimal_digit 0 (omega arith)) refl
-no_leading_zero (suc n) h = no_zero_before (decimal (suc n)) (first_decimal (suc n) (omega arith) h)
-
--- a number's text is read as the number
-pub number_of_decimal : (most n : ℕ) → n ≤ most → n < 2 ^ 64 → number_within most (decimal n) ≡ Some n
-unfolding number_within
-number_of_decimal most n small fits =
-    let some : 0 < length (decimal n) = decimal_nonempty n fits in
-    sym (all_pass _ (has_leading_zero (decimal n)) (length (decimal n)) n (digits_value 10 (decimal n)) most (digits_decimal own n fits) (λ none. omega arith) (no_leading_zero n fits) (sym (digits_value-decimal own n fits)) small)
 
 -- ---- lines
 
@@ -112,8 +94,8 @@ copy_key p key.Right q = record q { right = p.right }
 copy_key p key.Top q = record q { top = p.top }
 copy_key p key.Bottom q = record q { bottom = p.bottom }
 
-number_put : (most n : ℕ) (with_field : ℕ → Profile) → n ≤ most → most < 2 ^ 64 → option_map with_field (number_within most (decimal n)) ≡ Some (with_field n)
-number_put most n with_field small fits = ap (option_map with_field) (number_of_decimal most n small (omega arith))
+number_put : (most n : ℕ) (with_field : ℕ → Profile) → n ≤ most → most < 2 ^ 64 → option_map with_field (number_within 0 most (decimal n)) ≡ Some (with_field n)
+number_put most n with_field small fits = ap (option_map with_field) (number_of_decimal 0 most n (omega arith) small fits)
 
 ink_set_read : (inks : InkSet) → ink_set_named (ink_set_name inks) ≡ Some inks
 ink_set_read K = refl

@@ -11,7 +11,8 @@ use Rattle.printer_profile.specs.declared.reading.TextCause.{TextCause}
 use Rattle.printer_profile.specs.declared.reading.TextCause.TheVariants.{BadHead, NotAscii, NoEquals}
 use Rattle.printer_profile.specs.declared.reading.TextFault.{TextFault}
 use Rattle.printer_profile.specs.Keys.{key_named}
-use Rattle.printer_profile.specs.Text.{fault_at, head, is_equals_sign, is_skipped, next_line, nothing, profile_given, profile_of_lines, profile_text, with_key, with_line, with_lines}
+use Rattle.key_values.specs.Pairs.{is_equals_sign}
+use Rattle.printer_profile.specs.Text.{fault_at, head, is_skipped, next_line, nothing, profile_given, profile_of_lines, profile_text, with_key, with_line, with_lines}
 
 -- ---- one line
 

@@ -9,7 +9,8 @@ use Rattle.printer_profile.specs.declared.keys.Key.{Key}
 use Rattle.printer_profile.specs.declared.keys.Key.TheVariants as key
 use Rattle.printer_profile.specs.declared.setting.SetFault.{SetFault}
 use Rattle.printer_profile.specs.declared.setting.SetFault.TheVariants.{UnknownKey, BadValue}
-use Rattle.printer_profile.specs.Values.{ink_set_name, ink_set_named, number_within}
+use Rattle.key_values.specs.Numbers.{number_within}
+use Rattle.printer_profile.specs.Values.{ink_set_name, ink_set_named}
 
 -- A key: its place, counted from 1, its name, whether a text must have it, the profile with the value that a text
 -- gives it, if it takes that, and the text of its value.
@@ -26,7 +27,7 @@ number_row place name required most field with_field = record {
   place = place;
   name = name;
   required = required;
-  put = λ text p. option_map (with_field p) (number_within most text);
+  put = λ text p. option_map (with_field p) (number_within 0 most text);
   text = λ p. decimal (field p);
 }
 

@@ -1,5 +1,4 @@
 pub mod Keys
-pub mod Lines
 pub mod Profiles
 pub mod Text
 pub mod Validity

@@ -1,9 +1,10 @@
 -- The text of a profile.
 use Rattle.std.specs.Prelude.{ℕ, ◌+◌, ◌-◌, ◌^◌, min, Bool, false, true, not, ◌==◌, ◌&&◌, if◌then◌else◌, List, [], ◌∷◌, ◌++◌, codes, find, replicate, slice_index_or, slice_set, Option, Some, None, Result, Ok, Err}
 use Rattle.std.specs.Char.{is_ascii}
-use Rattle.std.specs.List.{after_first, before_first, flat_map, list_all, list_any}
+use Rattle.std.specs.List.{flat_map, list_all}
 use Rattle.std.specs.Str.{bytes_eq}
 use Rattle.std.specs.Str.Lines.{lines}
+use Rattle.key_values.specs.Pairs.{is_key_value, key_of, value_of}
 use Rattle.printer_profile.specs.declared.fields.Profile.{Profile}
 use Rattle.printer_profile.specs.declared.keys.Key.{Key}
 use Rattle.printer_profile.specs.declared.reading.Given.{Given}
@@ -33,9 +34,6 @@ abbrev pub is_skipped : List ℕ → Bool
 is_skipped [] = true
 is_skipped (first ∷ line) = first == 35
 
-abbrev pub is_equals_sign : ℕ → Bool
-is_equals_sign byte = byte == 61
-
 -- before the first line behind the head
 abbrev pub nothing : Given
 nothing = record { profile = unset; keys = replicate 14 false }
@@ -61,8 +59,8 @@ unfoldable pub with_line : Given → List ℕ → Result Given TextCause
 with_line given line =
     if is_skipped line then Ok given
     else if not (list_all is_ascii line) then Err NotAscii
-    else if not (list_any is_equals_sign line) then Err NoEquals
-    else with_key given (after_first is_equals_sign line) (key_named (before_first is_equals_sign line))
+    else if not (is_key_value line) then Err NoEquals
+    else with_key given (value_of line) (key_named (key_of line))
 
 -- the number of the next line, as far as 32 bits count
 abbrev pub next_line : ℕ → ℕ

@@ -7,8 +7,9 @@ ghost use Rattle.std.specs.Prelude.{Some, ◌≡◌};
 
 use crate::fields::Profile;
 use crate::keys::Key;
-use crate::lines::{cut_at, first_line};
+use crate::lines::first_line;
 use crate::printing::HEAD;
+use key_values::cut_at;
 use printer_definitions::InkSet;
 use thiserror::Error;
 

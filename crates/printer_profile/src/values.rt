@@ -1,50 +1,24 @@
 //! The values of keys.
-ghost use Rattle.printer_profile.specs.Values.{has_leading_zero as has_leading_zero_of, ink_set_name as ink_set_name_of, ink_set_named as ink_set_of, number_within};
-ghost use Rattle.std.specs.Prelude.{IfSome, ◌≡◌, ◌≤◌, length};
+ghost use Rattle.key_values.specs.Numbers.{number_within as number_of};
+ghost use Rattle.printer_profile.specs.Values.{ink_set_name as ink_set_name_of, ink_set_named as ink_set_of};
+ghost use Rattle.std.specs.Prelude.{◌≡◌, ◌≤◌, length};
 
+use key_values::number_within;
 use printer_definitions::InkSet;
-
-fn has_leading_zero(text: &[u8]) -> bool
-    ensures { result ≡ has_leading_zero_of text.now }
-{
-    text.len() > 1 && text[0] == b'0'
-}
-
-// The number that the text writes, up to `most`: no sign, no blank, no leading zero.
-fn number_up_to(most: u32, text: &[u8]) -> Option<u32>
-    requires { most ≤ 65535 }
-    ensures number { result ≡ number_within most text.now }
-    ensures most { IfSome result (λ number. number ≤ most) }
-{
-    if text.is_empty() || has_leading_zero(text) {
-        return None;
-    }
-    let mut number = 0;
-    'digits: for byte in text {
-        if !byte.is_ascii_digit() {
-            return None;
-        }
-        number = number * 10 + u32::from(*byte - b'0');
-        if number > most {
-            return None;
-        }
-    }
-    Some(number)
-}
 
 /// A number from 0 to 65535.
 pub fn pixels_of(text: &[u8]) -> Option<u16>
-    ensures { result ≡ number_within 65535 text.now }
+    ensures { result ≡ number_of 0 65535 text.now }
 {
-    let number = number_up_to(65535, text)?;
+    let number = number_within(0, 65535, text)?;
     Some(number as u16)
 }
 
 /// A number from 0 to 255.
 pub fn byte_of(text: &[u8]) -> Option<u8>
-    ensures { result ≡ number_within 255 text.now }
+    ensures { result ≡ number_of 0 255 text.now }
 {
-    let number = number_up_to(255, text)?;
+    let number = number_within(0, 255, text)?;
     Some(number as u8)
 }
 

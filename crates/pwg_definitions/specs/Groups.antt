@@ -3,6 +3,7 @@ use Rattle.std.specs.Prelude.{◌≡◌, ℕ, zero, suc, ◌+◌, ◌-◌, ◌*�
 use Rattle.std.specs.List.{flat_map}
 use Rattle.pwg_definitions.specs.declared.faults.LineFault.{LineFault}
 use Rattle.pwg_definitions.specs.declared.faults.LineFault.TheVariants.{RunPastLine, GroupPastPage}
+use Rattle.pwg_definitions.specs.Limits.{most_repeats, most_units}
 use Rattle.pwg_definitions.specs.Header.{KindRow}
 
 -- ---- spelling
@@ -38,9 +39,9 @@ packet_gives row left (Literal n bytes) = bytes
 
 -- a packet of 1 to 128 units, or 2 to 128 as they are, that may stand where `left` units of the line are left
 abbrev pub IsPacket : KindRow → ℕ → Packet → Type 0
-IsPacket row left (Run n unit) = (1 ≤ n) × (n ≤ 128) × (n ≤ left) × (length unit ≡ row.unit)
+IsPacket row left (Run n unit) = (1 ≤ n) × (n ≤ most_units) × (n ≤ left) × (length unit ≡ row.unit)
 IsPacket row left Clear = 1 ≤ left
-IsPacket row left (Literal n bytes) = (2 ≤ n) × (n ≤ 128) × (n ≤ left) × (length bytes ≡ n * row.unit)
+IsPacket row left (Literal n bytes) = (2 ≤ n) × (n ≤ most_units) × (n ≤ left) × (length bytes ≡ n * row.unit)
 
 -- the packets are a line of `left` units
 abbrev pub SpellsLine : KindRow → ℕ → List Packet → Type 0
@@ -57,7 +58,7 @@ pub record SpellsGroup (row : KindRow) (units left : ℕ) (bytes : List ℕ) (re
   pub packets : List Packet
   pub spelling : bytes ≡ (repeats - 1) ∷ flat_map packet_spelling packets
   pub some : 1 ≤ repeats
-  pub most : repeats ≤ 256
+  pub most : repeats ≤ most_repeats
   pub within : repeats ≤ left
   pub full : SpellsLine row units packets
   pub gives : line ≡ line_gives row units packets

@@ -9,6 +9,7 @@ use Rattle.pwg_definitions.specs.declared.pages.Header.{Header}
 use Rattle.pwg_definitions.specs.declared.pages.Wanted.{Wanted}
 use Rattle.pwg_definitions.specs.declared.faults.HeaderFault.{HeaderFault}
 use Rattle.pwg_definitions.specs.declared.faults.HeaderFault.TheVariants as fault
+use Rattle.pwg_definitions.specs.Limits.{header_length}
 
 -- ---- kinds of pixel
 
@@ -166,4 +167,4 @@ header_numbers form row hdpi vdpi =
 -- the header that a writer makes: 1,796 bytes, 00 but for `PwgRaster` and these numbers
 unfoldable pub header_bytes : PageForm → ℕ → ℕ → List ℕ
 header_bytes form hdpi vdpi =
-    with_numbers (header_numbers form (row_of form.kind) hdpi vdpi) (with_bytes 0 pwg_raster (replicate 1796 0))
+    with_numbers (header_numbers form (row_of form.kind) hdpi vdpi) (with_bytes 0 pwg_raster (replicate header_length 0))

@@ -1,3 +1,5 @@
+pub mod Limits
 pub mod Header
 pub mod Groups
 pub mod Stream
+pub mod Spelling

@@ -7,6 +7,7 @@ use Rattle.pwg_definitions.specs.declared.pages.Wanted.{Wanted}
 use Rattle.pwg_definitions.specs.declared.faults.HeaderFault.{HeaderFault}
 use Rattle.pwg_definitions.specs.declared.faults.InputCause.{InputCause}
 use Rattle.pwg_definitions.specs.declared.faults.InputCause.TheVariants as cause
+use Rattle.pwg_definitions.specs.Limits.{header_length, most_pages}
 use Rattle.pwg_definitions.specs.Header.{IsWanted, KindRow, check, header_of, line_units, row_of}
 use Rattle.pwg_definitions.specs.Groups.{group_at}
 use Rattle.pwg_definitions.specs.Groups.GroupRead.{Group, Part, Wrong}
@@ -75,8 +76,8 @@ page_behind (Ok form) bytes = page_of form (lines_of form bytes)
 -- the next page
 abbrev pub page_at : Wanted → List ℕ → PageRead
 page_at want bytes =
-    if nat_lt (length bytes) 1796 then Broken 0 cause.Truncated
-    else page_behind (check want (header_of (take 1796 bytes))) (drop 1796 bytes)
+    if nat_lt (length bytes) header_length then Broken 0 cause.Truncated
+    else page_behind (check want (header_of (take header_length bytes))) (drop header_length bytes)
 
 -- the stream with this page before it
 abbrev pub with_page : Page → Stream → Stream
@@ -98,7 +99,7 @@ sync_word = 82 ∷ 97 ∷ 83 ∷ 50 ∷ []
 -- what the bytes of a stream are: the sync word, and at most 9,999 pages
 unfoldable pub stream : Wanted → List ℕ → Stream
 stream want bytes =
-    if starts_with nat_eq bytes sync_word then pages_from want 9999 1 (drop 4 bytes)
+    if starts_with nat_eq bytes sync_word then pages_from want most_pages 1 (drop 4 bytes)
     else record { pages = []; end = Fault 0 0 cause.BadSync }
 
 -- A page of a stream: its form is that of an accepted header, and its lines are as many and as long as the form says.

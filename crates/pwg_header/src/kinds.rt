@@ -5,6 +5,13 @@ ghost use Rattle.pwg_definitions.specs.Header.{colors_of, kind_of as kind_row_of
 
 use crate::{Header, Kind};
 
+/// ColorSpace of black, 0 white.
+const BLACK: u32 = 3;
+/// ColorSpace of grey (sGray).
+const GREY: u32 = 18;
+/// ColorSpace of red, green and blue (sRGB).
+const RED_GREEN_BLUE: u32 = 19;
+
 /// The numbers by which a header names a kind.
 #[derive(Clone, Copy)]
 pub struct KindNumbers {
@@ -23,10 +30,22 @@ pub fn numbers_of(kind: Kind) -> KindNumbers
 {
     match kind {
         Kind::Gray8 => KindNumbers {
-            color_space: 18,
+            color_space: GREY,
             bits_per_color: 8,
             bits_per_pixel: 8,
             colors: 1,
+        },
+        Kind::Black8 => KindNumbers {
+            color_space: BLACK,
+            bits_per_color: 8,
+            bits_per_pixel: 8,
+            colors: 1,
+        },
+        Kind::Rgb8 => KindNumbers {
+            color_space: RED_GREEN_BLUE,
+            bits_per_color: 8,
+            bits_per_pixel: 24,
+            colors: 3,
         },
     }
 }
@@ -36,7 +55,9 @@ pub fn kind_of(h: &Header) -> Option<Kind>
     ensures { result ≡ option_map (λ row. row.kind) (kind_row_of h.now) }
 {
     match (h.color_space, h.bits_per_color, h.bits_per_pixel) {
-        (18, 8, 8) => Some(Kind::Gray8),
+        (GREY, 8, 8) => Some(Kind::Gray8),
+        (BLACK, 8, 8) => Some(Kind::Black8),
+        (RED_GREEN_BLUE, 8, 24) => Some(Kind::Rgb8),
         _ => None,
     }
 }

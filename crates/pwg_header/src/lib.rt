@@ -2,6 +2,7 @@
 #![tactic(auto)]
 
 mod checking;
+mod fields;
 mod kinds;
 mod reading;
 #[cfg(test)]
@@ -9,8 +10,8 @@ mod tests;
 mod writing;
 
 pub use checking::check;
-pub use reading::read_header;
 pub use pwg_definitions::{Header, HeaderFault, Kind, PageForm, Wanted};
+pub use reading::read_header;
 pub use writing::write_header;
 
 /// The bytes of a page header.

@@ -2,7 +2,7 @@
 ghost use Rattle.std.specs.Prelude.{◌+◌, ◌≡◌, ◌≤◌};
 ghost use Rattle.pwg_definitions.specs.Header.{header_of, number_at};
 
-use crate::{HEADER_LEN, Header};
+use crate::{HEADER_LEN, Header, fields};
 use byteorder::{BigEndian, ByteOrder};
 
 /// The number in the four bytes from an offset on.
@@ -19,16 +19,16 @@ pub fn read_header(b: &[u8; HEADER_LEN]) -> Header
 {
     Header {
         is_pwg: b.starts_with(b"PwgRaster\0"),
-        hres: number(b, 276),
-        vres: number(b, 280),
-        width: number(b, 372),
-        height: number(b, 376),
-        bits_per_color: number(b, 384),
-        bits_per_pixel: number(b, 388),
-        bytes_per_line: number(b, 392),
-        color_order: number(b, 396),
-        color_space: number(b, 400),
-        cross_transform: number(b, 456),
-        feed_transform: number(b, 460),
+        hres: number(b, fields::CROSS_RESOLUTION),
+        vres: number(b, fields::FEED_RESOLUTION),
+        width: number(b, fields::WIDTH),
+        height: number(b, fields::HEIGHT),
+        bits_per_color: number(b, fields::BITS_PER_COLOR),
+        bits_per_pixel: number(b, fields::BITS_PER_PIXEL),
+        bytes_per_line: number(b, fields::BYTES_PER_LINE),
+        color_order: number(b, fields::COLOR_ORDER),
+        color_space: number(b, fields::COLOR_SPACE),
+        cross_transform: number(b, fields::CROSS_FEED_TRANSFORM),
+        feed_transform: number(b, fields::FEED_TRANSFORM),
     }
 }

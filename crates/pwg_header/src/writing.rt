@@ -5,7 +5,7 @@ ghost use Rattle.pwg_definitions.specs.Header.{IsWanted, check, header_bytes, he
 ghost use Rattle.pwg_definitions.specs.declared.pages.Wanted.{Wanted};
 
 use crate::kinds::numbers_of;
-use crate::{HEADER_LEN, PageForm};
+use crate::{HEADER_LEN, PageForm, fields};
 use byteorder::{BigEndian, ByteOrder};
 
 /// Writes a number into the four bytes from an offset on.
@@ -34,16 +34,16 @@ pub fn write_header(f: &PageForm, hdpi: u32, vdpi: u32, out: &mut [u8; HEADER_LE
 {
     let kind = numbers_of(f.kind);
     begin(out);
-    put_number(out, 276, hdpi);
-    put_number(out, 280, vdpi);
-    put_number(out, 340, 1);
-    put_number(out, 372, f.width);
-    put_number(out, 376, f.height);
-    put_number(out, 384, kind.bits_per_color);
-    put_number(out, 388, kind.bits_per_pixel);
-    put_number(out, 392, f.bytes_per_line);
-    put_number(out, 400, kind.color_space);
-    put_number(out, 420, kind.colors);
-    put_number(out, 456, 1);
-    put_number(out, 460, 1);
+    put_number(out, fields::CROSS_RESOLUTION, hdpi);
+    put_number(out, fields::FEED_RESOLUTION, vdpi);
+    put_number(out, fields::COPIES, 1);
+    put_number(out, fields::WIDTH, f.width);
+    put_number(out, fields::HEIGHT, f.height);
+    put_number(out, fields::BITS_PER_COLOR, kind.bits_per_color);
+    put_number(out, fields::BITS_PER_PIXEL, kind.bits_per_pixel);
+    put_number(out, fields::BYTES_PER_LINE, f.bytes_per_line);
+    put_number(out, fields::COLOR_SPACE, kind.color_space);
+    put_number(out, fields::COLORS, kind.colors);
+    put_number(out, fields::CROSS_FEED_TRANSFORM, 1);
+    put_number(out, fields::FEED_TRANSFORM, 1);
 }

@@ -3,25 +3,25 @@ use Rattle.std.proofs.Common.{◌≡◌, ℕ, zero, suc, ◌+◌, ◌-◌, ◌*�
 use Rattle.std.specs.List.{AllByRecursion, starts_with}
 use Rattle.std.proofs.lemmas.Bool.{ltb-false}
 use Rattle.std.proofs.lemmas.List.{length-replicate}
-use Rattle.pwg_definitions.specs.declared.pages.Kind.{Kind}
-use Rattle.pwg_definitions.specs.declared.pages.Kind.TheVariants.{Gray8}
 use Rattle.pwg_definitions.specs.declared.pages.PageForm.{PageForm}
 use Rattle.pwg_definitions.specs.declared.pages.Header.{Header}
 use Rattle.pwg_definitions.specs.declared.pages.Wanted.{Wanted}
 use Rattle.pwg_definitions.specs.declared.faults.HeaderFault.{HeaderFault}
 use Rattle.pwg_definitions.specs.declared.faults.InputCause.TheVariants as cause
 use Rattle.pwg_definitions.specs.declared.faults.LineFault.TheVariants.{RunPastLine, GroupPastPage}
-use Rattle.pwg_definitions.specs.Header.{IsWanted, KindRow, check, header_of, line_bytes, line_units, row_of}
+use Rattle.pwg_definitions.specs.Limits.{header_length, most_pages}
+use Rattle.pwg_definitions.specs.Header.{IsWanted, KindRow, check, header_of, line_units, row_of}
 use Rattle.pwg_definitions.specs.Groups.{GroupFront, GroupRead, PacketRead, group_at, line_at, packet_at, packet_gives, packet_units, with_packet}
 use Rattle.pwg_definitions.specs.Groups.GroupRead.{Group, Part, Wrong}
 use Rattle.pwg_definitions.specs.Groups.PacketRead.{One, Short, Long}
-use Rattle.pwg_definitions.specs.Stream.{IsPage, LinesRead, PageRead, Stream, lines_at, lines_of, page_at, page_behind, page_of, pages_from, stream, with_lines, with_page}
+use Rattle.pwg_definitions.specs.Stream.{IsPage, LinesRead, PageRead, Stream, lines_at, lines_of, page_at, page_behind, page_of, pages_from, stream, sync_word, with_lines, with_page}
 use Rattle.pwg_definitions.specs.Stream.LinesRead.{Lines, Stop}
 use Rattle.pwg_definitions.specs.Stream.PageRead.{Whole, Broken}
 use Rattle.pwg_definitions.specs.Stream.StreamEnd.{Fault}
 use Rattle.pwg_laws.proofs.Packets.{IsRead, packet_at-one}
 use Rattle.pwg_laws.proofs.GroupLaws.{line_at-long, line_at-one, line_at-short}
 use Rattle.pwg_laws.proofs.HeaderLaws.{check-wanted}
+use Rattle.pwg_laws.proofs.KindRows.{kind_row}
 
 -- ---- a line
 
@@ -133,13 +133,6 @@ lines_at-sized row units height (suc most) (suc left) bytes white =
 
 -- ---- a page
 
-white_sized : (kind : Kind) → length (row_of kind).white ≡ (row_of kind).unit
-white_sized Gray8 = refl
-
--- the units of a line are its bytes
-line_units-whole : (kind : Kind) (width : ℕ) → line_units (row_of kind) width * (row_of kind).unit ≡ line_bytes width (row_of kind).bits_per_pixel
-line_units-whole Gray8 width = omega arith
-
 abbrev PageFacts : Wanted → PageRead → Type 0
 PageFacts want (Whole page rest) = IsPage want page
 PageFacts want (Broken line why) = Unit {0}
@@ -150,7 +143,7 @@ page_of-facts want h form (Stop line why) accepted sized = tt
 page_of-facts want h form (Lines lines rest) accepted sized =
     let wanted : IsWanted want form = check-wanted want h form accepted in
     let bytes : line_units (row_of form.kind) form.width * (row_of form.kind).unit ≡ form.bytes_per_line =
-    line_units-whole form.kind form.width ∙ sym wanted.bytes_per_line in
+    (kind_row form.kind).whole form.width ∙ sym wanted.bytes_per_line in
     record {
       header = h;
       accepted = accepted;
@@ -160,16 +153,16 @@ page_of-facts want h form (Lines lines rest) accepted sized =
     }
 
 page_at-facts : (want : Wanted) (bytes : List ℕ) → PageFacts want (page_at want bytes)
-page_at-facts want bytes = by_length (nat_lt (length bytes) 1796)
+page_at-facts want bytes = by_length (nat_lt (length bytes) header_length)
   where
-    by_check : (r : Result PageForm HeaderFault) → check want (header_of (take 1796 bytes)) ≡ r → PageFacts want (page_behind r (drop 1796 bytes))
+    by_check : (r : Result PageForm HeaderFault) → check want (header_of (take header_length bytes)) ≡ r → PageFacts want (page_behind r (drop header_length bytes))
     by_check (Err fault) is = tt
-    by_check (Ok form) is = page_of-facts want (header_of (take 1796 bytes)) form (lines_of form (drop 1796 bytes)) is
-        (lines_at-sized (row_of form.kind) (line_units (row_of form.kind) form.width) form.height form.height form.height (drop 1796 bytes) (white_sized form.kind))
+    by_check (Ok form) is = page_of-facts want (header_of (take header_length bytes)) form (lines_of form (drop header_length bytes)) is
+        (lines_at-sized (row_of form.kind) (line_units (row_of form.kind) form.width) form.height form.height form.height (drop header_length bytes) (kind_row form.kind).white_sized)
 
-    by_length : (b : Bool) → PageFacts want (if b then Broken 0 cause.Truncated else page_behind (check want (header_of (take 1796 bytes))) (drop 1796 bytes))
+    by_length : (b : Bool) → PageFacts want (if b then Broken 0 cause.Truncated else page_behind (check want (header_of (take header_length bytes))) (drop header_length bytes))
     by_length true = tt
-    by_length false = by_check (check want (header_of (take 1796 bytes))) refl
+    by_length false = by_check (check want (header_of (take header_length bytes))) refl
 
 -- ---- the pages of a stream
 
@@ -192,8 +185,8 @@ pages_from-pages want (suc most) page (b ∷ bytes) =
 -- Each page of a stream is a wanted page with its lines.
 pub stream-pages : (want : Wanted) (bytes : List ℕ) → AllByRecursion (IsPage want) (stream want bytes).pages
 unfolding stream
-stream-pages want bytes = by_sync (starts_with nat_eq bytes (82 ∷ 97 ∷ 83 ∷ 50 ∷ []))
+stream-pages want bytes = by_sync (starts_with nat_eq bytes sync_word)
   where
-    by_sync : (b : Bool) → AllByRecursion (IsPage want) (if b then pages_from want 9999 1 (drop 4 bytes) else record { pages = []; end = Fault 0 0 cause.BadSync }).pages
-    by_sync true = pages_from-pages want 9999 1 (drop 4 bytes)
+    by_sync : (b : Bool) → AllByRecursion (IsPage want) (if b then pages_from want most_pages 1 (drop 4 bytes) else record { pages = []; end = Fault 0 0 cause.BadSync }).pages
+    by_sync true = pages_from-pages want most_pages 1 (drop 4 bytes)
     by_sync false = tt

@@ -1,5 +1,6 @@
 -- The values that the examples share.
 use Rattle.std.specs.Prelude.{ℕ, List, [], ◌∷◌, ◌++◌, true, Result}
+use Rattle.pwg_definitions.specs.declared.pages.Kind.{Kind}
 use Rattle.pwg_definitions.specs.declared.pages.Kind.TheVariants.{Gray8}
 use Rattle.pwg_definitions.specs.declared.pages.PageForm.{PageForm}
 use Rattle.pwg_definitions.specs.declared.pages.Header.{Header}
@@ -70,6 +71,18 @@ good = header_sized 4 2
 abbrev pub checked : Header → Result PageForm HeaderFault
 checked h = check wants h
 
--- a group of a page in grey
+-- the same header with the numbers of another kind
+abbrev pub of_kind : ℕ → ℕ → ℕ → ℕ → Header
+of_kind color_space bits_per_color bits_per_pixel bytes_per_line = record good {
+  color_space = color_space;
+  bits_per_color = bits_per_color;
+  bits_per_pixel = bits_per_pixel;
+  bytes_per_line = bytes_per_line;
+}
+
+-- a group of a page of this kind
+abbrev pub group_of : Kind → ℕ → ℕ → List ℕ → GroupRead
+group_of kind units left bytes = group_at (row_of kind) units left bytes
+
 abbrev pub grey_group : ℕ → ℕ → List ℕ → GroupRead
-grey_group units left bytes = group_at (row_of Gray8) units left bytes
+grey_group units left bytes = group_of Gray8 units left bytes

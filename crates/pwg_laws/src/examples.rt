@@ -9,7 +9,8 @@ ghost use Rattle.pwg_definitions.specs.Stream.{pages_from, stream};
 ghost use Rattle.pwg_definitions.specs.declared.faults.HeaderFault.TheVariants as fault;
 ghost use Rattle.pwg_definitions.specs.declared.faults.InputCause.TheVariants as cause;
 ghost use Rattle.pwg_definitions.specs.declared.faults.LineFault.TheVariants.{GroupPastPage, RunPastLine};
-ghost use Rattle.pwg_laws.specs.Examples.{checked, form_sized, good, grey_group, header_sized, wants};
+ghost use Rattle.pwg_definitions.specs.declared.pages.Kind.TheVariants.{Black8, Rgb8};
+ghost use Rattle.pwg_laws.specs.Examples.{checked, form_sized, good, grey_group, group_of, header_sized, of_kind, wants};
 ghost use Rattle.pwg_laws.specs.Examples.{pages_then, read, small_bytes, small_form, small_front, small_header, small_page};
 
 /// Where a written header has what, in bytes.
@@ -70,6 +71,18 @@ pub fn header_bounds()
     ensures feed { checked (record good { feed_transform = 2 }) ≡ Err fault.Transform }
 {}
 
+/// The kinds of pixel: the numbers of one kind are not those of another.
+pub fn header_kinds()
+    ensures black { checked (of_kind 3 8 8 4) ≡ Ok (record small_form { kind = Black8 }) }
+    ensures colours { checked (of_kind 19 8 24 12) ≡ Ok (record small_form { kind = Rgb8; bytes_per_line = 12 }) }
+    ensures colours_in_a_byte { checked (of_kind 19 8 8 4) ≡ Err fault.Kind }
+    ensures deep_colours { checked (of_kind 19 16 48 24) ≡ Err fault.Kind }
+    ensures deep_black { checked (of_kind 3 16 16 8) ≡ Err fault.Kind }
+    ensures short_colours { checked (of_kind 19 8 24 4) ≡ Err fault.BytesPerLine }
+    ensures grey_of_colours { checked (of_kind 18 8 24 12) ≡ Err fault.Kind }
+    ensures no_space { checked (of_kind 0 8 8 4) ≡ Err fault.Kind }
+{}
+
 /// Each fault of a header by itself.
 pub fn header_faults()
     ensures text { checked (record good { is_pwg = false }) ≡ Err fault.NotPwg }
@@ -111,4 +124,17 @@ pub fn groups()
     ensures no_unit { grey_group 8 1 (0x00 ∷ 0x07 ∷ []) ≡ Part }
     ensures no_packet { grey_group 8 1 (0x00 ∷ []) ≡ Part }
     ensures nothing { grey_group 8 1 [] ≡ Part }
+{}
+
+/// Groups of a page in black and in colours, whose units have three bytes.
+pub fn groups_of_kinds()
+    ensures black_white { group_of Black8 8 1 (0x00 ∷ 0x80 ∷ []) ≡ Group 1 (replicate 8 0x00) [] }
+    ensures colour_white { group_of Rgb8 2 1 (0x00 ∷ 0x80 ∷ []) ≡ Group 1 (replicate 6 0xFF) [] }
+    ensures run { group_of Rgb8 2 1 (0x00 ∷ 0x01 ∷ 0x01 ∷ 0x02 ∷ 0x03 ∷ [])
+        ≡ Group 1 (0x01 ∷ 0x02 ∷ 0x03 ∷ 0x01 ∷ 0x02 ∷ 0x03 ∷ []) [] }
+    ensures literal { group_of Rgb8 2 1 (0x00 ∷ 0xFF ∷ 0x01 ∷ 0x02 ∷ 0x03 ∷ 0x04 ∷ 0x05 ∷ 0x06 ∷ 0x99 ∷ [])
+        ≡ Group 1 (0x01 ∷ 0x02 ∷ 0x03 ∷ 0x04 ∷ 0x05 ∷ 0x06 ∷ []) (0x99 ∷ []) }
+    ensures cut_unit { group_of Rgb8 2 1 (0x00 ∷ 0x01 ∷ 0x01 ∷ 0x02 ∷ []) ≡ Part }
+    ensures past_line { group_of Rgb8 2 1 (0x00 ∷ 0x02 ∷ []) ≡ Wrong 1 RunPastLine }
+    ensures past_page { group_of Rgb8 2 1 (0x01 ∷ []) ≡ Wrong 0 GroupPastPage }
 {}

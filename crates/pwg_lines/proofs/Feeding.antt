@@ -8,9 +8,9 @@ use Rattle.pwg_definitions.specs.Header.{KindRow, line_units, row_of}
 use Rattle.pwg_definitions.specs.Groups.{GroupFront, copies, group_at, line_at}
 use Rattle.pwg_definitions.specs.Groups.GroupRead.{Group, Part, Wrong}
 use Rattle.pwg_lines.specs.declared.reader.LineReader.{LineReader}
-use Rattle.pwg_lines.specs.declared.reader.State.{State}
-use Rattle.pwg_lines.specs.declared.reader.State.TheVariants as state
-use Rattle.pwg_lines.specs.declared.reader.Fill.{Fill}
+use Rattle.pwg_lines.specs.declared.states.State.{State}
+use Rattle.pwg_lines.specs.declared.states.State.TheVariants as state
+use Rattle.pwg_lines.specs.declared.answers.Fill.{Fill}
 use Rattle.pwg_lines.specs.States.{IsAt, IsOpen, Stands, longer, pending, read_behind, read_on}
 use Rattle.pwg_lines.specs.Reading.{Ends, IsAnew, IsFault, IsLine, IsMore, StandsFor, Takes, fault_in, fault_of, is_start, line_of, next_group}
 use Rattle.pwg_lines.proofs.Steps.{front_of, in_state}

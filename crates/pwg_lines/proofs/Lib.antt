@@ -1,5 +1,4 @@
 pub mod Filling
-pub mod KindTable
 pub mod Steps
 pub mod Feeding
 pub mod Within

@@ -10,8 +10,8 @@ use Rattle.pwg_definitions.specs.Groups.GroupRead.{Group, Part, Wrong}
 use Rattle.pwg_definitions.specs.Groups.PacketRead.{One, Short, Long}
 use Rattle.pwg_definitions.specs.Groups.Packet.{Run, Clear, Literal}
 use Rattle.pwg_laws.proofs.GroupLaws.{line_at-long, line_at-one, line_at-short}
-use Rattle.pwg_lines.specs.declared.reader.State.{State}
-use Rattle.pwg_lines.specs.declared.reader.State.TheVariants as state
+use Rattle.pwg_lines.specs.declared.states.State.{State}
+use Rattle.pwg_lines.specs.declared.states.State.TheVariants as state
 use Rattle.pwg_lines.specs.States.{Stands, behind_packet, read_behind, read_in, read_on}
 
 abbrev pub front_of : ℕ → List ℕ → ℕ → GroupFront

@@ -3,8 +3,8 @@ use Rattle.std.proofs.Common.{◌≡◌, ℕ, ◌+◌, ◌*◌, ◌<◌, ◌≤�
 use Rattle.std.proofs.Math.Nat.{mul-le-mul_right}
 use Rattle.pwg_definitions.specs.Header.{row_of}
 use Rattle.pwg_lines.specs.declared.reader.LineReader.{LineReader}
-use Rattle.pwg_lines.specs.declared.reader.State.{State}
-use Rattle.pwg_lines.specs.declared.reader.State.TheVariants as state
+use Rattle.pwg_lines.specs.declared.states.State.{State}
+use Rattle.pwg_lines.specs.declared.states.State.TheVariants as state
 use Rattle.pwg_lines.specs.States.{gives, least_gives, pending, read_in}
 
 -- Within the unit of a run that is repeated so many times, of which so many bytes are read: all of the run fits the line.

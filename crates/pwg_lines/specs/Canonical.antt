@@ -2,6 +2,7 @@
 -- between them. White to the end of the line is never written.
 use Rattle.std.specs.Prelude.{ℕ, zero, suc, ◌+◌, ◌-◌, ◌*◌, ◌==◌, nat_eq, nat_lt, if◌then◌else◌, List, [], ◌∷◌, length, take, drop}
 use Rattle.std.specs.List.{flat_map, starts_with}
+use Rattle.pwg_definitions.specs.Limits.{most_units}
 use Rattle.pwg_definitions.specs.Groups.{Packet, packet_spelling, packet_units}
 use Rattle.pwg_definitions.specs.Groups.Packet.{Run, Literal}
 
@@ -26,8 +27,8 @@ as_they_are n bytes = if n == 1 then Run 1 bytes else Literal n bytes
 -- the packet at the front of a line: a run of two units or more, else a literal up to the next run
 abbrev pub next_packet : ℕ → List ℕ → Packet
 next_packet unit line =
-    let run = copies_at 128 (take unit line) line in
-    let alone = unequal_at 128 unit line in
+    let run = copies_at most_units (take unit line) line in
+    let alone = unequal_at most_units unit line in
     if nat_lt 1 run then Run run (take unit line) else as_they_are alone (take (alone * unit) line)
 
 -- the packets of a line, of which there may be `most`

@@ -6,10 +6,10 @@ use Rattle.pwg_definitions.specs.Header.{line_units, row_of}
 use Rattle.pwg_definitions.specs.Groups.{GroupRead, group_at}
 use Rattle.pwg_definitions.specs.Groups.GroupRead.{Group, Part, Wrong}
 use Rattle.pwg_lines.specs.declared.reader.LineReader.{LineReader}
-use Rattle.pwg_lines.specs.declared.reader.State.{State}
-use Rattle.pwg_lines.specs.declared.reader.State.TheVariants as state
-use Rattle.pwg_lines.specs.declared.reader.Fill.{Fill}
-use Rattle.pwg_lines.specs.declared.reader.Fill.TheVariants.{More, Line, Fault}
+use Rattle.pwg_lines.specs.declared.states.State.{State}
+use Rattle.pwg_lines.specs.declared.states.State.TheVariants as state
+use Rattle.pwg_lines.specs.declared.answers.Fill.{Fill}
+use Rattle.pwg_lines.specs.declared.answers.Fill.TheVariants.{More, Line, Fault}
 use Rattle.pwg_lines.specs.States.{Stands, read_in}
 
 -- the form of the page whose lines are read

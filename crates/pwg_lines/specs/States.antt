@@ -3,8 +3,8 @@ use Rattle.std.specs.Prelude.{◌≡◌, ℕ, zero, suc, ◌+◌, ◌-◌, ◌*�
 use Rattle.pwg_definitions.specs.Header.{KindRow}
 use Rattle.pwg_definitions.specs.Groups.{GroupFront, GroupRead, copies, group_at, line_at}
 use Rattle.pwg_definitions.specs.Groups.GroupRead.{Group, Part, Wrong}
-use Rattle.pwg_lines.specs.declared.reader.State.{State}
-use Rattle.pwg_lines.specs.declared.reader.State.TheVariants.{Start, Packet, Run, Literal, Full, Failed}
+use Rattle.pwg_lines.specs.declared.states.State.{State}
+use Rattle.pwg_lines.specs.declared.states.State.TheVariants.{Start, Packet, Run, Literal, Full, Failed}
 
 -- how many bytes of the line the packet that is begun still gives
 abbrev pub pending : KindRow → State → ℕ

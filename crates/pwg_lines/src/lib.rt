@@ -2,15 +2,18 @@
 //! any length, and written.
 #![tactic(auto)]
 
+mod answers;
 mod buffer;
 mod laws;
 mod reader;
+mod states;
 mod unit;
 mod writer;
 
+pub use answers::{Fed, Fill};
 pub use laws::canonical_spells;
-pub use reader::{Fed, Fill, LineReader};
 pub use pwg_definitions::{Kind, LineFault, PageForm};
+pub use reader::LineReader;
 pub use writer::code_line;
 
 #[cfg(test)]

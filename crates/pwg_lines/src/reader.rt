@@ -1,50 +1,17 @@
 //! A reader of the groups of a page's lines, piece by piece.
-ghost use Rattle.pwg_lines.specs.States.{behind_packet, gives, least_gives, least_left, least_repeats, pending, read_in};
-ghost use Rattle.std.specs.Prelude.{[], length, min, take, ◌*◌, ◌+◌, ◌-◌, ◌<◌, ◌∷◌, ◌≡◌, ◌≤◌};
-ghost use Rattle.pwg_definitions.specs.Groups as groups;
+ghost use Rattle.pwg_lines.specs.States.{gives, least_gives, least_left, least_repeats, pending, read_in};
+ghost use Rattle.std.specs.Prelude.{[], length, ◌*◌, ◌+◌, ◌<◌, ◌≡◌, ◌≤◌};
 ghost use Rattle.pwg_definitions.specs.Header.{line_bytes, line_units, row_of};
+ghost use Rattle.pwg_definitions.specs.Limits.{most_columns, most_rows};
 
-use crate::buffer::{fill_bytes, fill_units};
-use crate::unit::{unit_of, white_of};
+mod steps;
+
+use crate::answers::{Fed, Fill};
+use crate::states::State;
+use crate::unit::unit_of;
+use pwg_definitions::PageForm;
 use std::alloc::Global;
-use pwg_definitions::{LineFault, PageForm};
 use weave_base::Memory;
-
-/// What a call of `LineReader::feed` comes to.
-#[derive(Clone, Copy, Debug, PartialEq, Eq)]
-pub enum Fill {
-    /// The piece ends before the group does.
-    More,
-    /// A group is read; its line, which `LineReader::line` gives, stands so many times.
-    Line { repeats: u32 },
-    /// The group is refused, and with it the rest of the page.
-    Fault(LineFault),
-}
-
-/// How much of a piece was read, and what it came to.
-#[derive(Clone, Copy, Debug, PartialEq, Eq)]
-pub struct Fed {
-    /// Bytes of the piece, from its front.
-    pub used: usize,
-    pub state: Fill,
-}
-
-/// Where in a group a reader stands.
-#[derive(Clone, Copy)]
-enum State {
-    /// Before the group's count.
-    Start,
-    /// Before a packet, with a unit of the line left or more.
-    Packet,
-    /// Within the unit that a run repeats so many times, of which so many bytes are read.
-    Run { units: usize, read: usize },
-    /// Before so many bytes of a literal, one or more.
-    Literal(usize),
-    /// Behind the group's last byte.
-    Full,
-    /// Behind the byte with the fault.
-    Failed(LineFault),
-}
 
 /// Reads the groups of the lines of one page from pieces of any length.
 #[derive(Drop)]
@@ -70,17 +37,16 @@ pub struct LineReader {
 }
 
 impl LineReader {
-    ghost use Rattle.pwg_lines.specs.Reading.{Ends, IsAnew, IsFault, IsLine, IsMore, IsSame, OnFault, OnLine, OnMore, StandsFor, Takes, fault_of, form_of, line_of, lines_left_of};
-    ghost use Rattle.pwg_lines.specs.States.{IsOpen};
+    ghost use Rattle.pwg_lines.specs.Reading.{Ends, IsAnew, IsFault, IsLine, IsMore, IsSame, OnFault, OnLine, OnMore, StandsFor, fault_of, form_of, line_of, lines_left_of};
     ghost use Rattle.std.specs.Prelude.{IfOk, IsOk, OnErr, OnOk, Some};
     ghost use Rattle.pwg_definitions.specs.declared.faults.LineFault.{LineFault};
 
     /// A reader of the lines of a page of this form. The bytes of one line are allocated here, and no other memory.
     pub fn begin(alloc: Global, form: PageForm) -> Result<LineReader, Memory>
         requires narrowest { 1 ≤ form.width }
-        requires widest { form.width ≤ 8191 }
+        requires widest { form.width ≤ most_columns }
         requires lowest { 1 ≤ form.height }
-        requires tallest { form.height ≤ 15840 }
+        requires tallest { form.height ≤ most_rows }
         requires bytes { form.bytes_per_line ≡ line_bytes form.width (row_of form.kind).bits_per_pixel }
         ensures form { IfOk result (λ reader. form_of reader ≡ form) }
         ensures lines_left { IfOk result (λ reader. lines_left_of reader ≡ form.height) }
@@ -105,9 +71,9 @@ impl LineReader {
     /// new one is no longer; for want of memory the reader is as it was.
     pub fn restart(&mut self, form: PageForm) -> Result<(), Memory>
         requires narrowest { 1 ≤ form.width }
-        requires widest { form.width ≤ 8191 }
+        requires widest { form.width ≤ most_columns }
         requires lowest { 1 ≤ form.height }
-        requires tallest { form.height ≤ 15840 }
+        requires tallest { form.height ≤ most_rows }
         requires bytes { form.bytes_per_line ≡ line_bytes form.width (row_of form.kind).bits_per_pixel }
         ensures form { OnOk result (form_of self.new ≡ form) }
         ensures lines_left { OnOk result (lines_left_of self.new ≡ form.height) }
@@ -196,132 +162,5 @@ impl LineReader {
         self.repeats = 0;
         self.state = State::Start;
         Fill::Line { repeats }
-    }
-
-    /// Reads one part of a group, at least a byte, and gives the number of its bytes.
-    fn step(&mut self, bytes: &[u8]) -> usize
-        requires some { 0 < length bytes.now }
-        requires is_open { IsOpen self.old.state }
-        ensures least { 0 < result }
-        ensures most { result ≤ length bytes.now }
-        ensures takes { Takes self.old self.new (take result bytes.now) }
-    {
-        match self.state {
-            State::Start => self.feed_start(bytes[0]),
-            State::Packet => self.feed_packet(bytes[0]),
-            State::Run { units, read } => return self.feed_run(units, read, bytes),
-            State::Literal(wanted) => return self.feed_literal(wanted, bytes),
-            State::Full | State::Failed(_) => {}
-        }
-        1
-    }
-
-    /// Reads a group's count.
-    fn feed_start(&mut self, count: u8)
-        requires { self.old.state ≡ State.Start }
-        ensures { Takes self.old self.new (count ∷ []) }
-    {
-        let repeats = u32::from(count) + 1;
-        if self.lines_left < repeats {
-            self.state = State::Failed(LineFault::GroupPastPage);
-            return;
-        }
-        self.repeats = repeats;
-        self.filled = 0;
-        self.left = self.line.len() / unit_of(self.form.kind);
-        self.state = State::Packet;
-    }
-
-    /// Reads the first byte of a packet.
-    fn feed_packet(&mut self, first: u8)
-        requires { self.old.state ≡ State.Packet }
-        ensures { Takes self.old self.new (first ∷ []) }
-    {
-        let units = units_of(self.left, first);
-        if self.left < units {
-            self.state = State::Failed(LineFault::RunPastLine);
-            return;
-        }
-        if first == 128 {
-            self.fill_white();
-            return;
-        }
-        self.left -= units;
-        self.state = if first < 128 {
-            State::Run { units, read: 0 }
-        } else {
-            State::Literal(units * unit_of(self.form.kind))
-        };
-    }
-
-    /// Ends the line with white.
-    fn fill_white(&mut self)
-        requires { self.old.state ≡ State.Packet }
-        ensures { Takes self.old self.new (128 ∷ []) }
-    {
-        let white = white_of(self.form.kind);
-        fill_units(&mut self.line, self.filled, 0, white, self.left);
-        self.filled = self.line.len();
-        self.left = 0;
-        self.state = State::Full;
-    }
-
-    /// Reads bytes of the unit of a run, as many as there are and are wanted, and gives their number.
-    fn feed_run(&mut self, units: usize, read: usize, bytes: &[u8]) -> usize
-        requires { self.old.state ≡ State.Run units read }
-        ensures count { result ≡ min (length bytes.now) ((row_of self.old.form.kind).unit - read) }
-        ensures takes { Takes self.old self.new (take result bytes.now) }
-    {
-        let unit = unit_of(self.form.kind);
-        let wanted = unit - read;
-        if bytes.len() < wanted {
-            fill_bytes(&mut self.line, self.filled + read, bytes);
-            let read = read + bytes.len();
-            self.state = State::Run { units, read };
-            return bytes.len();
-        }
-        fill_units(&mut self.line, self.filled, read, &bytes[..wanted], units);
-        self.filled += units * unit;
-        self.state = state_behind(self.left);
-        wanted
-    }
-
-    /// Reads bytes of a literal, as many as there are and are wanted, and gives their number.
-    fn feed_literal(&mut self, wanted: usize, bytes: &[u8]) -> usize
-        requires { self.old.state ≡ State.Literal wanted }
-        ensures count { result ≡ min (length bytes.now) wanted }
-        ensures takes { Takes self.old self.new (take result bytes.now) }
-    {
-        let count = bytes.len().min(wanted);
-        fill_bytes(&mut self.line, self.filled, &bytes[..count]);
-        self.filled += count;
-        self.state = if count < wanted {
-            State::Literal(wanted - count)
-        } else {
-            state_behind(self.left)
-        };
-        count
-    }
-}
-
-/// How many units the packet of this first byte gives, where so many units of the line are left.
-fn units_of(left: usize, first: u8) -> usize
-    ensures { result ≡ groups.units_of left first }
-{
-    match first {
-        0..=127 => usize::from(first) + 1,
-        128 => left,
-        _ => 257 - usize::from(first),
-    }
-}
-
-/// Where a reader stands behind a packet, with so many units of the line left.
-fn state_behind(left: usize) -> State
-    ensures { result ≡ behind_packet left }
-{
-    if left == 0 {
-        State::Full
-    } else {
-        State::Packet
     }
 }

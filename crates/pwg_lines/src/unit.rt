@@ -11,7 +11,8 @@ pub fn unit_of(kind: Kind) -> usize
     ensures few { result < 2 ^ 8 }
 {
     match kind {
-        Kind::Gray8 => 1,
+        Kind::Gray8 | Kind::Black8 => 1,
+        Kind::Rgb8 => 3,
     }
 }
 
@@ -22,5 +23,7 @@ pub fn white_of(kind: Kind) -> &'static [u8]
 {
     match kind {
         Kind::Gray8 => &[255],
+        Kind::Black8 => &[0],
+        Kind::Rgb8 => &[255, 255, 255],
     }
 }

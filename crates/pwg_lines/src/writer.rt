@@ -2,6 +2,7 @@
 ghost use Rattle.pwg_lines.specs.Canonical.{canonical, copies_at, next_packet, unequal_at};
 ghost use Rattle.std.specs.Prelude.{List, OnErr, OnOk, IfOk, length, take, ℕ, ◌%◌, ◌*◌, ◌++◌, ◌+◌, ◌<◌, ◌∷◌, ◌≡◌, ◌≤◌};
 ghost use Rattle.pwg_definitions.specs.Groups.{packet_spelling, packet_units};
+ghost use Rattle.pwg_definitions.specs.Limits.{most_repeats};
 
 use std::alloc::AllocError;
 use weave_base::Memory;
@@ -15,7 +16,7 @@ pub fn code_line(line: &[u8], unit: usize, repeats: u32, out: &mut Vec<u8>) -> R
     requires unit { 1 ≤ unit }
     requires whole { length line.now % unit ≡ 0 }
     requires some { 1 ≤ repeats }
-    requires most { repeats ≤ 256 }
+    requires most { repeats ≤ most_repeats }
     ensures ok { OnOk result (out.new.items ≡ out.old.items ++ canonical unit repeats line.now) }
     ensures err { OnErr result (out.new.items ≡ out.old.items) }
 {

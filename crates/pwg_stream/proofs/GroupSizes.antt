@@ -2,9 +2,7 @@
 use Rattle.std.proofs.Common.{◌≡◌, ℕ, zero, suc, ◌+◌, ◌-◌, ◌*◌, ◌<◌, ◌≤◌, ◌==◌, nat_lt, Bool, true, false, if◌then◌else◌, List, [], ◌∷◌, length, take, drop, refl, sym, ◌∙◌, ap, subst, arith, length-drop}
 use Rattle.std.proofs.lemmas.Bool.{ltb-true, ltb-false}
 use Rattle.std.proofs.Math.Nat.{mul-le-mul_right}
-use Rattle.pwg_definitions.specs.declared.pages.Kind.{Kind}
-use Rattle.pwg_definitions.specs.declared.pages.Kind.TheVariants.{Gray8}
-use Rattle.pwg_definitions.specs.Header.{KindRow, row_of}
+use Rattle.pwg_definitions.specs.Header.{KindRow}
 use Rattle.pwg_definitions.specs.Groups.{GroupFront, IsBytes, Packet, PacketRead, group_at, line_at, packet_at, packet_from, packet_units, units_of, with_packet}
 use Rattle.pwg_definitions.specs.Groups.Packet.{Run, Clear, Literal}
 use Rattle.pwg_definitions.specs.Groups.PacketRead.{One, Short, Long}
@@ -99,8 +97,3 @@ group_at-part row units left (count ∷ bytes) some are e = by_count (nat_lt lef
     by_count : (b : Bool) → (if b then Wrong 0 GroupPastPage else line_at row units units front bytes) ≡ Part → suc (length bytes) ≤ 2 * (units * row.unit) + 1
     by_count true f = absurd (let never : Wrong 0 GroupPastPage ≡ Part = f in cc)
     by_count false f = omega (arith, line_at-part row units units front bytes some (omega arith) (λ k. are (suc k)) f)
-
--- ---- the units of a kind
-
-pub unit-some : (kind : Kind) → 1 ≤ (row_of kind).unit
-unit-some Gray8 = omega arith

@@ -4,6 +4,7 @@ use Rattle.std.specs.Io.KnownBytes.{Consumes}
 use Rattle.pwg_definitions.specs.declared.faults.InputCause.{InputCause}
 use Rattle.pwg_definitions.specs.declared.pages.PageForm.{PageForm}
 use Rattle.pwg_definitions.specs.declared.pages.Wanted.{Wanted}
+use Rattle.pwg_definitions.specs.Limits.{most_pages}
 use Rattle.pwg_definitions.specs.Header.{line_units, row_of}
 use Rattle.pwg_definitions.specs.Groups.{GroupRead, group_at}
 use Rattle.pwg_definitions.specs.Groups.GroupRead.{Group}
@@ -70,7 +71,7 @@ lines_of form left bytes = let row = row_of form.kind in lines_at row (line_unit
 pub record BeginsPage (want : Wanted) (old new : PageReader) (before now : Option (List ℕ)) (form : PageForm) : Type 0 where
   pub header : GivesHeader want (text_of old before) (text_of new now) form
   pub page : page_of new ≡ page_of old + 1
-  pub last : page_of new ≤ 9999
+  pub last : page_of new ≤ most_pages
   pub form_is : form_of new ≡ Some form
   pub lines : lines_left_of new ≡ form.height
   pub unended : has_ended new ≡ false

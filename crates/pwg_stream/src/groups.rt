@@ -7,8 +7,8 @@ ghost use Rattle.std.specs.Prelude.{IfOk, IfSome, IsErrOf, OnErr, OnOk, ◌≡�
 ghost use Rattle.weave_base.specs.Causes.{Rose};
 
 use crate::unread::Unread;
-use pwg_lines::{Fill, LineReader};
 use pwg_definitions::InputCause;
+use pwg_lines::{Fill, LineReader};
 use weave_base::Source;
 
 /// Why a group is not given.

@@ -7,12 +7,13 @@ ghost use Rattle.std.specs.Io.KnownBytes.{IsAtEnd};
 ghost use Rattle.std.specs.Prelude.{IfNone, IfOk, IfSome, IsErrOf, IsSome, MatchOption, [], drop, length, take, ◌+◌, ◌-◌, ◌<◌, ◌≡◌, ◌≤◌};
 ghost use Rattle.pwg_definitions.specs.Stream.StreamEnd.{Fault};
 ghost use Rattle.pwg_definitions.specs.Stream.{pages_from};
+ghost use Rattle.pwg_definitions.specs.Limits.{header_length, most_pages};
 ghost use Rattle.weave_base.specs.Causes.{Rose};
 
 use crate::stops::StreamStop;
 use crate::unread::Unread;
-use pwg_header::{HEADER_LEN, PageForm, Wanted, check, read_header};
 use pwg_definitions::InputCause;
+use pwg_header::{HEADER_LEN, PageForm, Wanted, check, read_header};
 use weave_base::Source;
 
 /// The most pages of a stream.
@@ -31,7 +32,7 @@ fn refuse<T>(page: u32, cause: InputCause) -> Result<T, StreamStop>
 
 // The header at the front of the bytes, if they are as many.
 fn first_header(bytes: &[u8]) -> Option<&[u8; HEADER_LEN]>
-    ensures { MatchOption result (length bytes.now < 1796) (λ header. (header.now ≡ take 1796 bytes.now) × (1796 ≤ length bytes.now)) }
+    ensures { MatchOption result (length bytes.now < header_length) (λ header. (header.now ≡ take header_length bytes.now) × (header_length ≤ length bytes.now)) }
 {
     let (header, _behind) = bytes.split_first_chunk()?;
     Some(header)
@@ -44,12 +45,12 @@ pub fn read_front<S: Source>(
     pages: u32,
     want: Wanted,
 ) -> Result<Option<PageForm>, StreamStop>
-    requires { pages ≤ 9999 }
+    requires { pages ≤ most_pages }
     ensures form { IfOk result (λ o. IfSome o (GivesHeader want (text_behind unread.old (S.left s.old)) (text_behind unread.new (S.left s.new)))) }
-    ensures number { IfOk result (λ o. IsSome o → pages < 9999) }
+    ensures number { IfOk result (λ o. IsSome o → pages < most_pages) }
     ensures none { IfOk result (λ o. IfNone o (IsAtEnd (text_behind unread.old (S.left s.old)) × IsAtEnd (text_behind unread.new (S.left s.new)))) }
     ensures input { OnInput result (λ page line cause. IfSome (text_behind unread.old (S.left s.old)) (λ text.
-        pages_from want (9999 - pages) (pages + 1) text ≡ record { pages = []; end = Fault page line cause })) }
+        pages_from want (most_pages - pages) (pages + 1) text ≡ record { pages = []; end = Fault page line cause })) }
     ensures place { OnInput result (λ page line cause. (page ≡ pages + 1) × (line ≡ 0)) }
     ensures read { IsErrOf result stop.Read → Rose (S.faults s.old) (S.faults s.new) }
     ensures memory { IsErrOf result stop.Memory → ⊥ }

@@ -1,5 +1,6 @@
 //! A reader of the pages of a stream.
 ghost use Rattle.pwg_lines.specs.Reading.{IsAnew, form_of as form_of_lines, lines_left_of as lines_left_of_lines};
+ghost use Rattle.pwg_definitions.specs.Limits.{most_columns, most_pages, most_rows};
 ghost use Rattle.pwg_stream.specs.Stops.{line_stop};
 ghost use Rattle.std.specs.Option.{ForSome};
 ghost use Rattle.std.specs.Prelude.{None, ◌+◌, ◌≡◌, ◌≤◌};
@@ -26,7 +27,7 @@ pub struct PageReader {
     given: u32,
     at_end: bool,
     stop: Option<StreamStop>,
-    ghost last: { page ≤ 9999 },
+    ghost last: { page ≤ most_pages },
     ghost fresh: { ForSome lines (λ r. stop ≡ None → IsAnew r) },
     ghost counted: { ForSome lines (λ r. given + lines_left_of_lines r ≡ (form_of_lines r).height) },
 }
@@ -89,14 +90,14 @@ impl PageReader {
     ) -> Result<Option<PageForm>, StreamStop>
         requires whole { lines_left_of self.old ≡ 0 }
         requires narrowest { 1 ≤ want.least_width }
-        requires widest { want.most_width ≤ 8191 }
+        requires widest { want.most_width ≤ most_columns }
         requires lowest { 1 ≤ want.least_height }
-        requires tallest { want.most_height ≤ 15840 }
+        requires tallest { want.most_height ≤ most_rows }
 
         ensures page { IfOk result (λ o. IfSome o (BeginsPage want self.old self.new (S.left s.old) (S.left s.new))) }
         ensures none { has_ended self.old ≡ false → IfOk result (λ o. IfNone o (IsAtEnd (text_of self.old (S.left s.old)) × IsAtEnd (text_of self.new (S.left s.new)))) }
         ensures input { stop_of self.old ≡ None → OnInput result (λ page line cause. IfSome (text_of self.old (S.left s.old)) (λ text.
-            pages_from want (9999 - page_of self.old) (page_of self.old + 1) text ≡ record { pages = []; end = Fault page line cause })) }
+            pages_from want (most_pages - page_of self.old) (page_of self.old + 1) text ≡ record { pages = []; end = Fault page line cause })) }
         ensures place { stop_of self.old ≡ None → OnInput result (λ page line cause. (page ≡ page_of self.old + 1) × (line ≡ 0)) }
         ensures read { stop_of self.old ≡ None → IsErrOf result stop.Read → Rose (S.faults s.old) (S.faults s.new) }
 
@@ -142,14 +143,14 @@ impl PageReader {
         requires going { stop_of self.old ≡ None }
         requires unended { has_ended self.old ≡ false }
         requires narrowest { 1 ≤ want.least_width }
-        requires widest { want.most_width ≤ 8191 }
+        requires widest { want.most_width ≤ most_columns }
         requires lowest { 1 ≤ want.least_height }
-        requires tallest { want.most_height ≤ 15840 }
+        requires tallest { want.most_height ≤ most_rows }
         ensures page { IfOk result (λ o. IfSome o (BeginsPage want self.old self.new (S.left s.old) (S.left s.new))) }
         ensures none { IfOk result (λ o. IfNone o (IsAtEnd (text_of self.old (S.left s.old)) × IsAtEnd (text_of self.new (S.left s.new)))) }
         ensures going { stop_of self.new ≡ None }
         ensures input { OnInput result (λ page line cause. IfSome (text_of self.old (S.left s.old)) (λ text.
-            pages_from want (9999 - page_of self.old) (page_of self.old + 1) text ≡ record { pages = []; end = Fault page line cause })) }
+            pages_from want (most_pages - page_of self.old) (page_of self.old + 1) text ≡ record { pages = []; end = Fault page line cause })) }
         ensures place { OnInput result (λ page line cause. (page ≡ page_of self.old + 1) × (line ≡ 0)) }
         ensures read { IsErrOf result stop.Read → Rose (S.faults s.old) (S.faults s.new) }
         ensures used { UsesSome (text_of self.old (S.left s.old)) (text_of self.new (S.left s.new)) }
@@ -171,9 +172,9 @@ impl PageReader {
     fn begin_lines(&mut self, form: PageForm) -> Result<(), Memory>
         requires going { stop_of self.old ≡ None }
         requires narrowest { 1 ≤ form.width }
-        requires widest { form.width ≤ 8191 }
+        requires widest { form.width ≤ most_columns }
         requires lowest { 1 ≤ form.height }
-        requires tallest { form.height ≤ 15840 }
+        requires tallest { form.height ≤ most_rows }
         requires bytes { form.bytes_per_line ≡ line_bytes form.width (row_of form.kind).bits_per_pixel }
         ensures form { OnOk result (form_of self.new ≡ Some form) }
         ensures lines { OnOk result (lines_left_of self.new ≡ form.height) }

@@ -1,4 +1,4 @@
-use Rattle.job_words.proofs.Faults.{no_value}
+use Rattle.key_values.proofs.Cuts.{no_value}
 use Rattle.job_words.proofs.reading.value_of.Goals as goal
 
 pub returns-in-None : goal.returns-in-None

@@ -1,6 +1,6 @@
 use Rattle.std.proofs.Common.{arith, ap, length, length-append}
 use Rattle.pwg_lines.specs.Reading.{form_of}
-use Rattle.pwg_stream.proofs.GroupSizes.{unit-some}
+use Rattle.pwg_laws.proofs.KindRows.{kind_row}
 use Rattle.pwg_stream.proofs.Grouping.{group_begin, group_ends, group_fed, group_refused, group_turn, group_whole, uses_fed, uses_kept}
 use Rattle.pwg_stream.proofs.Texts.{text_fed}
 use Rattle.pwg_stream.proofs.groups.read_group.Goals as goal
@@ -42,7 +42,7 @@ pieces-preserved g c =
     }
 
 pub unreachable-requires : goal.unreachable-requires
-unreachable-requires g c = group_ends _ _ _ _ _ _ (length c.line.result.now) c.pieces.invariant.group (unit-some (form_of c.args.lines.now).kind) (omega (arith, c.line.ensures.sized, c.args.lines.now.whole, c.args.lines.now.sized)) c.pieces-test.false
+unreachable-requires g c = group_ends _ _ _ _ _ _ (length c.line.result.now) c.pieces.invariant.group (kind_row (form_of c.args.lines.now).kind).some (omega (arith, c.line.ensures.sized, c.args.lines.now.whole, c.args.lines.now.sized)) c.pieces-test.false
 
 pub pieces-init : goal.pieces-init
 pieces-init g c = record {

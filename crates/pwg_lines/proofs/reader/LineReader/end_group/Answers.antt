@@ -1,5 +1,5 @@
 use Rattle.std.proofs.Common.{refl, arith, subst, ◌≤◌}
-use Rattle.pwg_lines.specs.declared.reader.State.{State}
+use Rattle.pwg_lines.specs.declared.states.State.{State}
 use Rattle.pwg_lines.specs.States.{least_repeats}
 use Rattle.pwg_lines.proofs.reader.LineReader.end_group.Goals as goal
 

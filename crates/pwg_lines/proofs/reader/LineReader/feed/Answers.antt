@@ -1,4 +1,4 @@
-use Rattle.pwg_lines.specs.declared.reader.Fill.{Fill}
+use Rattle.pwg_lines.specs.declared.answers.Fill.{Fill}
 use Rattle.pwg_lines.specs.Reading.{IsLine, OnLine}
 use Rattle.std.proofs.Common.{arith, length-drop, subst, sym}
 use Rattle.std.proofs.lemmas.List.{take_all}

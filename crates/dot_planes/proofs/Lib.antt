@@ -1,0 +1,6 @@
+pub mod Bits
+pub mod RowBytes
+pub mod Writes
+pub mod PutAmounts
+pub mod PackedRows
+pub mod PutDots

@@ -1,0 +1,98 @@
+-- Tables of dots and of amounts: ink by ink in the order of a printer's set, row by row, from the left.
+use Rattle.std.specs.Prelude.{◌≡◌, ℕ, ◌+◌, ◌*◌, ◌/◌, ◌%◌, ◌<◌, ◌≤◌, ◌⊎◌, ◌≢◌, Bool, true, List, length, take, drop, slice_index}
+use Rattle.escp2_definitions.specs.Machine.{bit_at}
+use Rattle.escp2_definitions.specs.Packed.{at, packed}
+
+-- ---- dots
+
+-- Dots of inks, eight a byte, the first in its highest bit. Each row begins with a byte of its own.
+pub record DotTable : Type 0 where
+  pub width : ℕ
+  pub rows : ℕ
+  pub inks : ℕ
+  pub bytes : List ℕ
+
+-- the bytes of a row
+abbrev pub row_len : ℕ → ℕ
+row_len width = (width + 7) / 8
+
+-- one row of the bytes of rows, which are as long as each other
+abbrev pub row_at : ℕ → List ℕ → ℕ → List ℕ
+row_at len bytes n = take len (drop (n * len) bytes)
+
+-- row y of an ink, packed
+abbrev pub packed_row : DotTable → ℕ → ℕ → List ℕ
+packed_row t ink y = row_at (row_len t.width) t.bytes (ink * t.rows + y)
+
+-- the dot at a place of a packed row, none behind its end
+abbrev pub row_dot : List ℕ → ℕ → Bool
+row_dot row x = bit_at (slice_index row (x / 8)) (x % 8)
+
+-- the dot of an ink in row y at column x
+unfoldable pub dot : DotTable → ℕ → ℕ → ℕ → Bool
+dot t ink y x = row_dot (packed_row t ink y) x
+
+-- the two tables have one size
+pub record HasSizeOf (old new : DotTable) : Type 0 where
+  pub width : new.width ≡ old.width
+  pub rows : new.rows ≡ old.rows
+  pub inks : new.inks ≡ old.inks
+
+-- a row of so many dots, packed
+pub record IsPackedRow (width : ℕ) (row : List ℕ) : Type 0 where
+  pub dots : List Bool
+  pub width_is : length dots ≡ width
+  pub is : row ≡ packed dots
+
+-- An ink gets a dot in row y at column x, and all others stay.
+pub record TurnsOn (old new : DotTable) (i y x : ℕ) : Type 0 where
+  pub size : HasSizeOf old new
+  pub on : dot new i y x ≡ true
+  pub others : (j r c : ℕ) → (j ≢ i) ⊎ ((r ≢ y) ⊎ (c ≢ x)) → r < old.rows → dot new j r c ≡ dot old j r c
+
+-- A row of an ink gets the dots of a packed row, and all other rows stay.
+pub record PutsRow (old new : DotTable) (i y : ℕ) (bytes : List ℕ) : Type 0 where
+  pub size : HasSizeOf old new
+  pub row : (dots : List Bool) → length dots ≡ old.width → bytes ≡ packed dots → (x : ℕ) → dot new i y x ≡ at dots x
+  pub others : (j r : ℕ) → (j ≢ i) ⊎ (r ≢ y) → r < old.rows → (x : ℕ) → dot new j r x ≡ dot old j r x
+
+-- ---- amounts
+
+-- Amounts of inks, a byte each.
+pub record AmountTable : Type 0 where
+  pub width : ℕ
+  pub rows : ℕ
+  pub inks : ℕ
+  pub bytes : List ℕ
+
+-- row y of an ink
+abbrev pub amount_row : AmountTable → ℕ → ℕ → List ℕ
+amount_row t ink y = row_at t.width t.bytes (ink * t.rows + y)
+
+-- the amount of an ink in row y at column x
+unfoldable pub amount : AmountTable → ℕ → ℕ → ℕ → ℕ
+amount t ink y x = slice_index (amount_row t ink y) x
+
+-- the two tables have one size
+pub record HasSizeAs (old new : AmountTable) : Type 0 where
+  pub width : new.width ≡ old.width
+  pub rows : new.rows ≡ old.rows
+  pub inks : new.inks ≡ old.inks
+
+-- Amounts of an ink in row y are set from column x on, and all others stay.
+pub record Sets (old new : AmountTable) (i y x : ℕ) (amounts : List ℕ) : Type 0 where
+  pub size : HasSizeAs old new
+  pub part : (k : ℕ) → k < length amounts → amount new i y (x + k) ≡ slice_index amounts k
+  pub beside : (c : ℕ) → (c < x) ⊎ (x + length amounts ≤ c) → amount new i y c ≡ amount old i y c
+  pub others : (j r : ℕ) → (j ≢ i) ⊎ (r ≢ y) → r < old.rows → (c : ℕ) → amount new j r c ≡ amount old j r c
+
+-- ---- sizes
+
+-- The tables that are made: a row of 8,191 columns, 15,840 rows and four inks at most.
+pub record IsSize (width rows inks : ℕ) : Type 0 where
+  pub some_columns : 1 ≤ width
+  pub most_columns : width ≤ 8191
+  pub some_rows : 1 ≤ rows
+  pub most_rows : rows ≤ 15840
+  pub some_inks : 1 ≤ inks
+  pub most_inks : inks ≤ 4

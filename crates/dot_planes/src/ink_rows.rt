@@ -1,0 +1,117 @@
+//! Rows of amounts.
+ghost use Rattle.dot_planes.specs.Tables.{IsSize, Sets, amount};
+ghost use Rattle.std.specs.Prelude.{IfOk, [], length, slice_index, ℕ, ◌+◌, ◌<◌, ◌∷◌, ◌≡◌, ◌≤◌};
+
+use crate::places::{row_of, row_start};
+use std::alloc::Global;
+use std::marker::Model;
+use weave_base::Memory;
+
+/// Amounts of inks over rows, 0 to 255, ink by ink in the order of the printer's set. Contracts see a table of
+/// amounts.
+#[derive(Drop)]
+pub struct InkRows {
+    width: u32,
+    rows: u32,
+    inks: u8,
+    bytes: Vec<u8>,
+}
+
+impl Model for InkRows {
+    ghost use Rattle.dot_planes.specs.Tables.{AmountTable};
+
+    ghost Value = { AmountTable };
+
+    ghost use Rattle.dot_planes.specs.InkRows.{IsTable, table_of};
+
+    ghost view = { table_of };
+
+    ghost invariant = { IsTable };
+}
+
+impl InkRows {
+    /// Rows of amount 0: 1 to 8,191 columns, 1 to 15,840 rows, 1 to 4 inks.
+    pub fn make(alloc: Global, width: u32, rows: u32, inks: u8) -> Result<InkRows, Memory>
+        requires { IsSize width rows inks }
+        ensures width { IfOk result (λ t. t.width ≡ width) }
+        ensures rows { IfOk result (λ t. t.rows ≡ rows) }
+        ensures inks { IfOk result (λ t. t.inks ≡ inks) }
+        ensures none { IfOk result (λ t. (i y x : ℕ) → amount t i y x ≡ 0) }
+    {
+        let len = width as usize * rows as usize * usize::from(inks);
+        match vec![in alloc; 0; len] {
+            Ok(bytes) => Ok(InkRows {
+                width,
+                rows,
+                inks,
+                bytes,
+            }),
+            Err(_) => Err(Memory),
+        }
+    }
+
+    /// Columns.
+    pub fn width(&self) -> u32
+        ensures { result ≡ self.now.width }
+    {
+        self.width
+    }
+
+    /// Rows of each ink.
+    pub fn rows(&self) -> u32
+        ensures { result ≡ self.now.rows }
+    {
+        self.rows
+    }
+
+    /// How many inks there are.
+    pub fn inks(&self) -> u8
+        ensures { result ≡ self.now.inks }
+    {
+        self.inks
+    }
+
+    /// The amounts of an ink in row y, from the left.
+    pub fn row(&self, ink: u8, y: u32) -> &[u8]
+        requires ink { ink < self.now.inks }
+        requires y { y < self.now.rows }
+        ensures len { length result.now ≡ self.now.width }
+        ensures amounts { (x : ℕ) → slice_index result.now x ≡ amount self.now ink y x }
+    {
+        let len = self.width as usize;
+        let start = row_start(self.inks, self.rows, len, ink, y);
+        row_of(&self.bytes, len, start)
+    }
+
+    /// The amount of an ink in row y at column x.
+    pub fn get(&self, ink: u8, x: u32, y: u32) -> u8
+        requires ink { ink < self.now.inks }
+        requires x { x < self.now.width }
+        requires y { y < self.now.rows }
+        ensures { result ≡ amount self.now ink y x }
+    {
+        self.row(ink, y)[x as usize]
+    }
+
+    /// Sets the amount of an ink in row y at column x. All others stay.
+    pub fn set(&mut self, ink: u8, x: u32, y: u32, a: u8)
+        requires ink { ink < self.old.inks }
+        requires x { x < self.old.width }
+        requires y { y < self.old.rows }
+        ensures { Sets self.old self.new ink y x (a ∷ []) }
+    {
+        self.put_part(ink, x, y, &[a]);
+    }
+
+    /// Sets the amounts of an ink in row y from column x on. All others stay.
+    pub fn put_part(&mut self, ink: u8, x: u32, y: u32, part: &[u8])
+        requires ink { ink < self.old.inks }
+        requires y { y < self.old.rows }
+        requires part { x + length part.now ≤ self.old.width }
+        ensures { Sets self.old self.new ink y x part.now }
+    {
+        let row = row_start(self.inks, self.rows, self.width as usize, ink, y);
+        let start = row + x as usize;
+        self.bytes[start..start + part.len()].copy_from_slice(part);
+    }
+}

@@ -1,0 +1,159 @@
+//! Packed planes of dots.
+ghost use Rattle.dot_planes.specs.Tables.{IsPackedRow, IsSize, PutsRow, TurnsOn, dot, row_len as row_len_of};
+ghost use Rattle.escp2_definitions.specs.Packed.{packed};
+ghost use Rattle.std.specs.List.{count_by, sum_by};
+ghost use Rattle.std.specs.Prelude.{IfOk, count_ones, false, length, map, ℕ, ◌<◌, ◌≡◌, ◌≤◌};
+ghost use Rattle.weave_definitions.specs.Weave.{count_from};
+
+use crate::places::{row_of, row_start};
+use std::alloc::Global;
+use std::marker::Model;
+use weave_base::Memory;
+
+/// The dots of a window, ink by ink in the order of the printer's set. Contracts see a table of dots.
+///
+/// A plane is packed: eight dots a byte, the first in its highest bit, rows of (width + 7) / 8 bytes one after
+/// another, and no dot behind a row's end.
+#[derive(Drop)]
+pub struct Planes {
+    width: u32,
+    rows: u32,
+    inks: u8,
+    bytes: Vec<u8>,
+}
+
+impl Model for Planes {
+    ghost use Rattle.dot_planes.specs.Tables.{DotTable};
+
+    ghost Value = { DotTable };
+
+    ghost use Rattle.dot_planes.specs.Planes.{IsTable, table_of};
+
+    ghost view = { table_of };
+
+    ghost invariant = { IsTable };
+}
+
+impl Planes {
+    /// Planes of no dots: 1 to 8,191 columns, 1 to 15,840 rows, 1 to 4 inks.
+    pub fn make(alloc: Global, width: u32, rows: u32, inks: u8) -> Result<Planes, Memory>
+        requires { IsSize width rows inks }
+        ensures width { IfOk result (λ t. t.width ≡ width) }
+        ensures rows { IfOk result (λ t. t.rows ≡ rows) }
+        ensures inks { IfOk result (λ t. t.inks ≡ inks) }
+        ensures blank { IfOk result (λ t. (i y x : ℕ) → dot t i y x ≡ false) }
+    {
+        let len = row_len(width) * rows as usize * usize::from(inks);
+        match vec![in alloc; 0; len] {
+            Ok(bytes) => Ok(Planes {
+                width,
+                rows,
+                inks,
+                bytes,
+            }),
+            Err(_) => Err(Memory),
+        }
+    }
+
+    /// Columns.
+    pub fn width(&self) -> u32
+        ensures { result ≡ self.now.width }
+    {
+        self.width
+    }
+
+    /// Rows of each ink.
+    pub fn rows(&self) -> u32
+        ensures { result ≡ self.now.rows }
+    {
+        self.rows
+    }
+
+    /// How many inks there are.
+    pub fn inks(&self) -> u8
+        ensures { result ≡ self.now.inks }
+    {
+        self.inks
+    }
+
+    /// A row of an ink, packed.
+    pub fn row(&self, ink: u8, y: u32) -> &[u8]
+        requires ink { ink < self.now.inks }
+        requires y { y < self.now.rows }
+        ensures { result.now ≡ packed (map (dot self.now ink y) (count_from 0 self.now.width)) }
+    {
+        let len = row_len(self.width);
+        let start = row_start(self.inks, self.rows, len, ink, y);
+        row_of(&self.bytes, len, start)
+    }
+
+    /// Whether an ink has a dot in row y at column x.
+    pub fn dot(&self, ink: u8, x: u32, y: u32) -> bool
+        requires ink { ink < self.now.inks }
+        requires x { x < self.now.width }
+        requires y { y < self.now.rows }
+        ensures { result ≡ dot self.now ink y x }
+    {
+        let start = row_start(self.inks, self.rows, row_len(self.width), ink, y);
+        self.bytes[start + x as usize / 8] >> (7 - x % 8) & 1 == 1
+    }
+
+    /// Gives an ink a dot in row y at column x, where it may have had one. All other dots stay.
+    pub fn turn_on(&mut self, ink: u8, x: u32, y: u32)
+        requires ink { ink < self.old.inks }
+        requires x { x < self.old.width }
+        requires y { y < self.old.rows }
+        ensures { TurnsOn self.old self.new ink y x }
+    {
+        let start = row_start(self.inks, self.rows, row_len(self.width), ink, y);
+        self.bytes[start + x as usize / 8] |= 1 << (7 - x % 8);
+    }
+
+    /// Gives row y of an ink these dots, packed. All other rows stay.
+    pub fn put_row(&mut self, ink: u8, y: u32, row: &[u8])
+        requires ink { ink < self.old.inks }
+        requires y { y < self.old.rows }
+        requires row { IsPackedRow self.old.width row.now }
+        ensures { PutsRow self.old self.new ink y row.now }
+    {
+        let len = row_len(self.width);
+        let start = row_start(self.inks, self.rows, len, ink, y);
+        self.bytes[start..start + len].copy_from_slice(row);
+    }
+
+    /// How many dots an ink has.
+    pub fn count(&self, ink: u8) -> u64
+        requires { ink < self.now.inks }
+        ensures { result ≡ sum_by (λ y. count_by (λ x. dot self.now ink y x) (count_from 0 self.now.width)) (count_from 0 self.now.rows) }
+    {
+        let mut dots = 0u64;
+        for y in 0..self.rows {
+            dots += u64::from(count_row(self.row(ink, y)));
+        }
+        dots
+    }
+}
+
+// The bytes of a row.
+#[inline]
+fn row_len(width: u32) -> usize
+    requires { width ≤ 8191 }
+    ensures is { result ≡ row_len_of width }
+    ensures most { result ≤ 1024 }
+{
+    (width as usize + 7) / 8
+}
+
+// How many dots a packed row has.
+#[inline]
+fn count_row(row: &[u8]) -> u32
+    requires { length row.now ≤ 1024 }
+    ensures is { result ≡ sum_by count_ones row.now }
+    ensures most { result ≤ 8192 }
+{
+    let mut dots = 0;
+    for byte in row {
+        dots += byte.count_ones();
+    }
+    dots
+}

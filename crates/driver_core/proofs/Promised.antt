@@ -1,0 +1,468 @@
+-- What a run promises, from the answer that it comes to.
+use Rattle.std.proofs.Common.{◌≡◌, ℕ, ◌+◌, ◌⊎◌, List, [], ◌∷◌, ◌++◌, length, Option, None, Some, Result, Ok, Err, IsErr, inl, inr, refl, sym, ◌∙◌, ap, subst, arith, append-nil}
+use Rattle.std.specs.Io.KnownBytes.{Appends, Consumes, IsAtEnd, Keeps}
+use Rattle.std.proofs.KnownBytes.{Appends-nil}
+use Rattle.diffusion_definitions.specs.Diffusion.{Table}
+use Rattle.diffusion_kernel.specs.Tables.{table_of}
+use Rattle.driver_answer.specs.declared.answer.Answer.{Answer}
+use Rattle.driver_answer.specs.declared.answer.Answer.TheVariants as answer
+use Rattle.driver_answer.specs.Answers.{line_of, status_of}
+use Rattle.driver_answer.specs.Stops.{profile_answer}
+use Rattle.job_profile.specs.declared.stops.ProfileCause.{ProfileCause}
+use Rattle.job_profile.specs.declared.stops.ProfileStop.{ProfileStop}
+use Rattle.job_profile.specs.declared.stops.ProfileStop.TheVariants as profile
+use Rattle.job_profile.specs.Named.{IsJobProfile, Refusal, refused_at}
+use Rattle.job_words.specs.declared.reading.Job.{Job}
+use Rattle.job_words.specs.declared.table.Verb.{Verb}
+use Rattle.job_words.specs.declared.table.Verb.TheVariants as verb
+use Rattle.job_words.specs.declared.usage.UsageFault.{UsageFault}
+use Rattle.job_words.specs.Meaning.{job_meaning, profile_named}
+use Rattle.printer_definitions.specs.Printer.{Printer}
+use Rattle.printer_profile.specs.declared.fields.Profile.{Profile}
+use Rattle.printer_profile.specs.Profiles.{built_in, printer_of}
+use Rattle.printer_profile.specs.Text.{profile_text_of}
+use Rattle.pwg_definitions.specs.declared.faults.InputCause.{InputCause}
+use Rattle.pwg_definitions.specs.Stream.{Page, Stream, StreamEnd, stream}
+use Rattle.pwg_definitions.specs.Stream.StreamEnd.{Done, Fault}
+use Rattle.separation_definitions.specs.Windows.{wanted_by}
+use Rattle.weave_base.specs.Parts.{AppendsPart}
+use Rattle.driver_core.specs.declared.stops.PrintStop.{PrintStop}
+use Rattle.driver_core.specs.declared.stops.PrintStop.TheVariants as print
+use Rattle.driver_core.specs.declared.stops.ShowStop.{ShowStop}
+use Rattle.driver_core.specs.declared.stops.ShowStop.TheVariants as show
+use Rattle.driver_core.specs.Outside.{HasFailed, HasRisen, IsCalm, NothingFailed, Outside, Outsides, Untouched}
+use Rattle.driver_core.specs.Pages.{IsStream, TakesPages, job_bytes}
+use Rattle.driver_core.specs.Printing.{MeetsFault, PrintOutcome, PrintsAll, PrintsSome, StopsInPage, print_answer}
+use Rattle.driver_core.specs.Run.{AsksFor, Did, IsAnswered, LineOutcome, NoProfile, Outcome, Promises, ProfileStopped, Tells, Told, VerbOutcome, WithProfile, answer_of}
+use Rattle.driver_core.specs.Showing.{ShowOutcome, show_answer}
+use Rattle.driver_core.proofs.Asked.{Asked, HasProfile, NoShelf, asked, has_profile, told_line}
+use Rattle.driver_core.proofs.Asked.Asked.{WithoutShelf, IsRefused, Works}
+use Rattle.driver_core.proofs.Asked.HasProfile.{HasNone, Does}
+use Rattle.driver_core.proofs.Asked.NoShelf.{ShelfFailed, ShelfFull}
+
+-- ---- a command at work
+
+-- without a shelf the status is 4 or 7
+no_shelf : (words : List (List ℕ)) (o : Outsides) (a : Answer) (s : ℕ) → s ≡ status_of a → NoShelf words o a → (s ≡ 4) ⊎ (s ≡ 7)
+no_shelf words o a s is (ShelfFailed e failed none) = inl (is ∙ ap status_of e)
+no_shelf words o a s is (ShelfFull e) = inr (is ∙ ap status_of e)
+
+-- on every other status the command did its work
+at_work : (words : List (List ℕ)) (command : Verb) (job : Job) (p : Profile) (o : Outsides) (a : Answer) (s : ℕ) → s ≡ status_of a → (s ≡ 4 → ⊥) → (s ≡ 7 → ⊥)
+    → AsksFor words o.shelf.told command job (Ok p) → Outcome words o a → VerbOutcome command (table_of job.kernel) p o a
+at_work words command job p o a s is not_read not_full asks outcome = by_case (has_profile words command job p o a asks outcome)
+  where
+    by_status : (s ≡ 4) ⊎ (s ≡ 7) → VerbOutcome command (table_of job.kernel) p o a
+    by_status (inl four) = absurd (not_read four)
+    by_status (inr seven) = absurd (not_full seven)
+
+    by_case : HasProfile words command job p o a → VerbOutcome command (table_of job.kernel) p o a
+    by_case (HasNone none untouched) = by_status (no_shelf words o a s is none)
+    by_case (Does does) = does
+
+-- nothing failed, so a command that did not work found no memory
+calm_work : (words : List (List ℕ)) (command : Verb) (job : Job) (p : Profile) (o : Outsides) (a : Answer) (s : ℕ) → s ≡ status_of a → (HasFailed o.shelf → ⊥)
+    → AsksFor words o.shelf.told command job (Ok p) → Outcome words o a → (s ≡ 7) ⊎ VerbOutcome command (table_of job.kernel) p o a
+calm_work words command job p o a s is calm asks outcome = by_case (has_profile words command job p o a asks outcome)
+  where
+    by_case : HasProfile words command job p o a → (s ≡ 7) ⊎ VerbOutcome command (table_of job.kernel) p o a
+    by_case (HasNone (ShelfFailed e failed none) untouched) = absurd (calm failed)
+    by_case (HasNone (ShelfFull e) untouched) = inl (is ∙ ap status_of e)
+    by_case (Does does) = inr does
+
+-- ---- what printing comes to, by the status
+
+print_done : (p : Printer) (k : Table) (input out : Outside) (s : ℕ) (end : Result (Unit {0}) PrintStop) → PrintOutcome p k input out end → s ≡ status_of (answer_of print_answer end) → s ≡ 0 → PrintsAll p k input out
+print_done p k input out s (Ok u) does e zero = does
+print_done p k input out s (Err (print.Input page line cause)) does e zero = absurd (omega arith)
+print_done p k input out s (Err print.Read) does e zero = absurd (omega arith)
+print_done p k input out s (Err (print.Write number)) does e zero = absurd (omega arith)
+print_done p k input out s (Err print.Memory) does e zero = absurd (omega arith)
+
+-- the fault of an input, and its answer
+print_fault : (p : Printer) (k : Table) (input out : Outside) (s : ℕ) (end : Result (Unit {0}) PrintStop) → PrintOutcome p k input out end → s ≡ status_of (answer_of print_answer end) → s ≡ 3
+    → (page line : ℕ) × (cause : InputCause) × MeetsFault p k input out page line cause × (answer_of print_answer end ≡ answer.Input page line cause)
+print_fault p k input out s (Ok u) does e three = absurd (omega arith)
+print_fault p k input out s (Err (print.Input page line cause)) does e three = (page, line, cause, does, refl)
+print_fault p k input out s (Err print.Read) does e three = absurd (omega arith)
+print_fault p k input out s (Err (print.Write number)) does e three = absurd (omega arith)
+print_fault p k input out s (Err print.Memory) does e three = absurd (omega arith)
+
+print_some : (p : Printer) (k : Table) (input out : Outside) (s : ℕ) (end : Result (Unit {0}) PrintStop) → PrintOutcome p k input out end → s ≡ status_of (answer_of print_answer end) → (s ≡ 4) ⊎ (s ≡ 7) → PrintsSome p k input out
+print_some p k input out s (Ok u) does e (inl four) = absurd (omega arith)
+print_some p k input out s (Ok u) does e (inr seven) = absurd (omega arith)
+print_some p k input out s (Err (print.Input page line cause)) does e (inl four) = absurd (omega arith)
+print_some p k input out s (Err (print.Input page line cause)) does e (inr seven) = absurd (omega arith)
+print_some p k input out s (Err print.Read) does e which = does.1
+print_some p k input out s (Err (print.Write number)) does e (inl four) = absurd (omega arith)
+print_some p k input out s (Err (print.Write number)) does e (inr seven) = absurd (omega arith)
+print_some p k input out s (Err print.Memory) does e which = does
+
+print_part : (p : Printer) (k : Table) (input out : Outside) (s : ℕ) (end : Result (Unit {0}) PrintStop) → PrintOutcome p k input out end → s ≡ status_of (answer_of print_answer end) → s ≡ 5
+    → (number : ℕ) × StopsInPage p k input out number × HasRisen out × (answer_of print_answer end ≡ answer.Write number)
+print_part p k input out s (Ok u) does e five = absurd (omega arith)
+print_part p k input out s (Err (print.Input page line cause)) does e five = absurd (omega arith)
+print_part p k input out s (Err print.Read) does e five = absurd (omega arith)
+print_part p k input out s (Err (print.Write number)) does e five = (number, does.1, does.0, refl)
+print_part p k input out s (Err print.Memory) does e five = absurd (omega arith)
+
+-- a printing that read fails only where the input did
+print_read : (p : Printer) (k : Table) (input out : Outside) (s : ℕ) (end : Result (Unit {0}) PrintStop) → PrintOutcome p k input out end → s ≡ status_of (answer_of print_answer end) → s ≡ 4 → HasRisen input
+print_read p k input out s (Ok u) does e four = absurd (omega arith)
+print_read p k input out s (Err (print.Input page line cause)) does e four = absurd (omega arith)
+print_read p k input out s (Err print.Read) does e four = does.0
+print_read p k input out s (Err (print.Write number)) does e four = absurd (omega arith)
+print_read p k input out s (Err print.Memory) does e four = absurd (omega arith)
+
+-- the two ends of one stream
+one_end : (p : Printer) (before : Option (List ℕ)) (bytes : List ℕ) (pages pages' : List Page) (end end' : StreamEnd) → before ≡ Some bytes → stream (wanted_by p) bytes ≡ record { pages = pages; end = end }
+    → IsStream p before pages' end' → end ≡ end'
+one_end p before bytes pages pages' end end' told is other =
+    let S : Option (List ℕ) → Type 0 = λ b. IsStream p b pages' end' in
+    ap (λ (s : Stream). s.end) (sym is ∙ subst S told other)
+
+-- nothing failed: a stream with a clean end is printed, and a faulty one is refused
+print_calm : (p : Printer) (k : Table) (input out : Outside) (s : ℕ) (end : Result (Unit {0}) PrintStop) (bytes : List ℕ) (pages : List Page) → PrintOutcome p k input out end → s ≡ status_of (answer_of print_answer end)
+    → input.before ≡ Some bytes → stream (wanted_by p) bytes ≡ record { pages = pages; end = Done } → IsCalm input → IsCalm out → (s ≡ 0) ⊎ (s ≡ 7)
+print_calm p k input out s (Ok u) bytes pages does e told is calm_in calm_out = inl e
+print_calm p k input out s (Err (print.Input page line cause)) bytes pages does e told is calm_in calm_out =
+    absurd (let never : Done ≡ Fault page line cause = one_end p input.before bytes pages does.pages Done (Fault page line cause) told is does.told in cc)
+print_calm p k input out s (Err print.Read) bytes pages does e told is calm_in calm_out = absurd (calm_in does.0)
+print_calm p k input out s (Err (print.Write number)) bytes pages does e told is calm_in calm_out = absurd (calm_out does.0)
+print_calm p k input out s (Err print.Memory) bytes pages does e told is calm_in calm_out = inr e
+
+print_bad : (p : Printer) (k : Table) (input out : Outside) (s : ℕ) (end : Result (Unit {0}) PrintStop) (bytes : List ℕ) (pages : List Page) (page line : ℕ) (cause : InputCause) → PrintOutcome p k input out end
+    → s ≡ status_of (answer_of print_answer end) → input.before ≡ Some bytes → stream (wanted_by p) bytes ≡ record { pages = pages; end = Fault page line cause } → IsCalm input → IsCalm out → (s ≡ 3) ⊎ (s ≡ 7)
+print_bad p k input out s (Ok u) bytes pages page line cause does e told is calm_in calm_out =
+    absurd (let never : Fault page line cause ≡ Done = one_end p input.before bytes pages does.pages (Fault page line cause) Done told is does.told in cc)
+print_bad p k input out s (Err (print.Input page' line' cause')) bytes pages page line cause does e told is calm_in calm_out = inl e
+print_bad p k input out s (Err print.Read) bytes pages page line cause does e told is calm_in calm_out = absurd (calm_in does.0)
+print_bad p k input out s (Err (print.Write number)) bytes pages page line cause does e told is calm_in calm_out = absurd (calm_out does.0)
+print_bad p k input out s (Err print.Memory) bytes pages page line cause does e told is calm_in calm_out = inr e
+
+-- nothing taken and nothing written are the first no pages
+consumes_none : (a b : Option (List ℕ)) → Keeps a b → Consumes a b []
+consumes_none None b kept = tt
+consumes_none (Some x) None kept = absurd kept
+consumes_none (Some x) (Some y) kept = sym kept
+
+appends_none : (a b : Option (List ℕ)) → Keeps a b → Appends a b []
+appends_none None b kept = tt
+appends_none (Some x) None kept = absurd kept
+appends_none (Some x) (Some y) kept = kept ∙ sym (append-nil x)
+
+pub prints_none : (p : Printer) (k : Table) (input out : Outside) → Keeps input.before input.now → Keeps out.before out.now → PrintsSome p k input out
+prints_none p k input out unread unwritten = record {
+  pages = [];
+  taken = record { bytes = []; taken = consumes_none input.before input.now unread; others = (stream (wanted_by p) []).pages; are = refl };
+  writes = appends_none out.before out.now unwritten;
+}
+
+-- ---- what showing comes to, by the status
+
+show_done : (p : Profile) (out : Outside) (s : ℕ) (end : Result (Unit {0}) ShowStop) → ShowOutcome p out end → s ≡ status_of (answer_of show_answer end) → s ≡ 0 → Appends out.before out.now (profile_text_of p)
+show_done p out s (Ok u) does e zero = does
+show_done p out s (Err show.Write) does e zero = absurd (omega arith)
+show_done p out s (Err show.Memory) does e zero = absurd (omega arith)
+
+show_part : (p : Profile) (out : Outside) (s : ℕ) (end : Result (Unit {0}) ShowStop) → ShowOutcome p out end → s ≡ status_of (answer_of show_answer end) → s ≡ 5
+    → AppendsPart out.before out.now (profile_text_of p) × HasRisen out × (answer_of show_answer end ≡ answer.Write 0)
+show_part p out s (Ok u) does e five = absurd (omega arith)
+show_part p out s (Err show.Write) does e five = (does.1, does.0, refl)
+show_part p out s (Err show.Memory) does e five = absurd (omega arith)
+
+show_none : (p : Profile) (out : Outside) (s : ℕ) (end : Result (Unit {0}) ShowStop) → ShowOutcome p out end → s ≡ status_of (answer_of show_answer end) → (s ≡ 4) ⊎ (s ≡ 7) → Keeps out.before out.now
+show_none p out s (Ok u) does e (inl four) = absurd (omega arith)
+show_none p out s (Ok u) does e (inr seven) = absurd (omega arith)
+show_none p out s (Err show.Write) does e (inl four) = absurd (omega arith)
+show_none p out s (Err show.Write) does e (inr seven) = absurd (omega arith)
+show_none p out s (Err show.Memory) does e which = does
+
+show_calm : (p : Profile) (out : Outside) (s : ℕ) (end : Result (Unit {0}) ShowStop) → ShowOutcome p out end → s ≡ status_of (answer_of show_answer end) → IsCalm out → (s ≡ 0) ⊎ (s ≡ 7)
+show_calm p out s (Ok u) does e calm = inl e
+show_calm p out s (Err show.Write) does e calm = absurd (calm does.0)
+show_calm p out s (Err show.Memory) does e calm = inr e
+
+-- a profile is shown without a read, so that 4 is not its status
+show_reads_none : (p : Profile) (out : Outside) (s : ℕ) (end : Result (Unit {0}) ShowStop) → ShowOutcome p out end → s ≡ status_of (answer_of show_answer end) → s ≡ 4 → ⊥
+show_reads_none p out s (Ok u) does e four = omega arith
+show_reads_none p out s (Err show.Write) does e four = omega arith
+show_reads_none p out s (Err show.Memory) does e four = omega arith
+
+-- ---- the statuses that a command itself does not give
+
+verb_refuses_none : (v : Verb) (k : Table) (p : Profile) (o : Outsides) (a : Answer) (s : ℕ) → VerbOutcome v k p o a → s ≡ status_of a → (s ≡ 1) ⊎ (s ≡ 2) → ⊥
+verb_refuses_none verb.Print k p o a s does is which = by_end does.end (is ∙ ap status_of does.answered) which
+  where
+    by_end : (end : Result (Unit {0}) PrintStop) → s ≡ status_of (answer_of print_answer end) → (s ≡ 1) ⊎ (s ≡ 2) → ⊥
+    by_end (Ok u) e (inl one) = omega arith
+    by_end (Ok u) e (inr two) = omega arith
+    by_end (Err (print.Input page line cause)) e (inl one) = omega arith
+    by_end (Err (print.Input page line cause)) e (inr two) = omega arith
+    by_end (Err print.Read) e (inl one) = omega arith
+    by_end (Err print.Read) e (inr two) = omega arith
+    by_end (Err (print.Write number)) e (inl one) = omega arith
+    by_end (Err (print.Write number)) e (inr two) = omega arith
+    by_end (Err print.Memory) e (inl one) = omega arith
+    by_end (Err print.Memory) e (inr two) = omega arith
+verb_refuses_none verb.Profile k p o a s does is which = by_end does.1.end (is ∙ ap status_of does.1.answered) which
+  where
+    by_end : (end : Result (Unit {0}) ShowStop) → s ≡ status_of (answer_of show_answer end) → (s ≡ 1) ⊎ (s ≡ 2) → ⊥
+    by_end (Ok u) e (inl one) = omega arith
+    by_end (Ok u) e (inr two) = omega arith
+    by_end (Err show.Write) e (inl one) = omega arith
+    by_end (Err show.Write) e (inr two) = omega arith
+    by_end (Err show.Memory) e (inl one) = omega arith
+    by_end (Err show.Memory) e (inr two) = omega arith
+
+-- ---- words and profiles
+
+usage_status : (words : List (List ℕ)) (o : Outsides) (a : Answer) (s : ℕ) → Outcome words o a → s ≡ status_of a → (s ≡ 1) → IsErr (job_meaning words)
+usage_status words o a s outcome is one = by_meaning (job_meaning words) outcome
+  where
+    by_stop : (why : ProfileStop) → s ≡ status_of (profile_answer why) → ⊥
+    by_stop (profile.Refused line cause) e = omega arith
+    by_stop profile.Failed e = omega arith
+    by_stop profile.Memory e = omega arith
+
+    by_meaning : (r : Result Job UsageFault) → LineOutcome r (profile_named words) o a → IsErr r
+    by_meaning (Err fault) did = refl
+    by_meaning (Ok job) (inl none) = absurd (by_stop none.why (is ∙ ap status_of none.answered))
+    by_meaning (Ok job) (inr has) = absurd (verb_refuses_none job.verb (table_of job.kernel) has.p o a s has.outcome is (inl one))
+
+usage_means : (words : List (List ℕ)) (o : Outsides) (a : Answer) (s : ℕ) → Outcome words o a → s ≡ status_of a → IsErr (job_meaning words) → s ≡ 1
+usage_means words o a s outcome is bad = by_meaning (job_meaning words) bad outcome
+  where
+    by_meaning : (r : Result Job UsageFault) → IsErr r → LineOutcome r (profile_named words) o a → s ≡ 1
+    by_meaning (Err fault) bad did = is ∙ ap status_of did.0
+    by_meaning (Ok job) bad did = absurd (cc)
+
+-- the profile was refused
+profile_status : (words : List (List ℕ)) (o : Outsides) (err : Outside) (a : Answer) (s : ℕ) → Outcome words o a → Told err a → s ≡ status_of a → s ≡ 2
+    → (job : Job) × (line : ℕ) × (cause : ProfileCause) × (job_meaning words ≡ Ok job)
+    × IsJobProfile o.shelf.told (profile_named words) (Err (refused_at line cause)) × Tells err (answer.Profile line cause)
+profile_status words o err a s outcome told is two = by_meaning (job_meaning words) refl outcome
+  where
+    by_stop : (job : Job) → job_meaning words ≡ Ok job → (why : ProfileStop) → ProfileStopped (profile_named words) o.shelf why → a ≡ profile_answer why
+        → (job : Job) × (line : ℕ) × (cause : ProfileCause) × (job_meaning words ≡ Ok job)
+        × IsJobProfile o.shelf.told (profile_named words) (Err (refused_at line cause)) × Tells err (answer.Profile line cause)
+    by_stop job means (profile.Refused line cause) stopped e =
+        let T : Answer → Type 0 = λ b. Told err b in
+        (job, line, cause, means, stopped, told_line err (answer.Profile line cause) (subst T e told))
+    by_stop job means profile.Failed stopped e = absurd (let four : s ≡ 4 = is ∙ ap status_of e in omega arith)
+    by_stop job means profile.Memory stopped e = absurd (let seven : s ≡ 7 = is ∙ ap status_of e in omega arith)
+
+    by_meaning : (r : Result Job UsageFault) → job_meaning words ≡ r → LineOutcome r (profile_named words) o a
+        → (job : Job) × (line : ℕ) × (cause : ProfileCause) × (job_meaning words ≡ Ok job)
+        × IsJobProfile o.shelf.told (profile_named words) (Err (refused_at line cause)) × Tells err (answer.Profile line cause)
+    by_meaning (Err fault) means did = absurd (let one : s ≡ 1 = is ∙ ap status_of did.0 in omega arith)
+    by_meaning (Ok job) means (inl none) = by_stop job means none.why none.stopped none.answered
+    by_meaning (Ok job) means (inr has) = absurd (verb_refuses_none job.verb (table_of job.kernel) has.p o a s has.outcome is (inr two))
+
+untouched_status : (words : List (List ℕ)) (o : Outsides) (a : Answer) (s : ℕ) → Outcome words o a → s ≡ status_of a → (s ≡ 1) ⊎ (s ≡ 2) → Untouched o
+untouched_status words o a s outcome is which = by_meaning (job_meaning words) outcome
+  where
+    by_meaning : (r : Result Job UsageFault) → LineOutcome r (profile_named words) o a → Untouched o
+    by_meaning (Err fault) did = did.1
+    by_meaning (Ok job) (inl none) = none.untouched
+    by_meaning (Ok job) (inr has) = absurd (verb_refuses_none job.verb (table_of job.kernel) has.p o a s has.outcome is which)
+
+refused_status : (words : List (List ℕ)) (command : Verb) (job : Job) (refusal : Refusal) (o : Outsides) (a : Answer) (s : ℕ) → Outcome words o a → s ≡ status_of a
+    → AsksFor words o.shelf.told command job (Err refusal) → (HasFailed o.shelf → ⊥) → (s ≡ 2) ⊎ (s ≡ 7)
+refused_status words command job refusal o a s outcome is asks calm = by_case (asked words command job (Err refusal) o a asks outcome)
+  where
+    by_case : Asked words command job (Err refusal) o a → (s ≡ 2) ⊎ (s ≡ 7)
+    by_case (WithoutShelf (ShelfFailed e failed none) untouched) = absurd (calm failed)
+    by_case (WithoutShelf (ShelfFull e) untouched) = inr (is ∙ ap status_of e)
+    by_case (IsRefused line cause same e untouched) = inl (is ∙ ap status_of e)
+    by_case (Works p same does) = absurd (let never : ◌≡◌ {A = Result Profile Refusal} (Err refusal) (Ok p) = same in cc)
+
+-- ---- causes outside
+
+read_status : (words : List (List ℕ)) (o : Outsides) (a : Answer) (s : ℕ) → Outcome words o a → s ≡ status_of a → s ≡ 4
+    → HasRisen o.input ⊎ (HasFailed o.shelf × (built_in (profile_named words) ≡ None))
+read_status words o a s outcome is four = by_meaning (job_meaning words) outcome
+  where
+    by_stop : (why : ProfileStop) → ProfileStopped (profile_named words) o.shelf why → s ≡ status_of (profile_answer why) → HasFailed o.shelf × (built_in (profile_named words) ≡ None)
+    by_stop (profile.Refused line cause) stopped e = absurd (omega arith)
+    by_stop profile.Failed stopped e = stopped
+    by_stop profile.Memory stopped e = absurd (omega arith)
+
+    by_verb : (v : Verb) (k : Table) (p : Profile) → VerbOutcome v k p o a → HasRisen o.input
+    by_verb verb.Print k p does = print_read (printer_of p) k o.input o.out s does.end does.does (is ∙ ap status_of does.answered) four
+    by_verb verb.Profile k p does = absurd (show_reads_none p o.out s does.1.end does.1.does (is ∙ ap status_of does.1.answered) four)
+
+    by_meaning : (r : Result Job UsageFault) → LineOutcome r (profile_named words) o a → HasRisen o.input ⊎ (HasFailed o.shelf × (built_in (profile_named words) ≡ None))
+    by_meaning (Err fault) did = absurd (let one : s ≡ 1 = is ∙ ap status_of did.0 in omega arith)
+    by_meaning (Ok job) (inl none) = inr (by_stop none.why none.stopped (is ∙ ap status_of none.answered))
+    by_meaning (Ok job) (inr has) = inl (by_verb job.verb (table_of job.kernel) has.p has.outcome)
+
+write_status : (words : List (List ℕ)) (o : Outsides) (a : Answer) (s : ℕ) → Outcome words o a → s ≡ status_of a → s ≡ 5 → HasRisen o.out
+write_status words o a s outcome is five = by_meaning (job_meaning words) outcome
+  where
+    by_stop : (why : ProfileStop) → s ≡ status_of (profile_answer why) → ⊥
+    by_stop (profile.Refused line cause) e = omega arith
+    by_stop profile.Failed e = omega arith
+    by_stop profile.Memory e = omega arith
+
+    by_verb : (v : Verb) (k : Table) (p : Profile) → VerbOutcome v k p o a → HasRisen o.out
+    by_verb verb.Print k p does = (print_part (printer_of p) k o.input o.out s does.end does.does (is ∙ ap status_of does.answered) five).2
+    by_verb verb.Profile k p does = (show_part p o.out s does.1.end does.1.does (is ∙ ap status_of does.1.answered) five).1
+
+    by_meaning : (r : Result Job UsageFault) → LineOutcome r (profile_named words) o a → HasRisen o.out
+    by_meaning (Err fault) did = absurd (let one : s ≡ 1 = is ∙ ap status_of did.0 in omega arith)
+    by_meaning (Ok job) (inl none) = absurd (by_stop none.why (is ∙ ap status_of none.answered))
+    by_meaning (Ok job) (inr has) = by_verb job.verb (table_of job.kernel) has.p has.outcome
+
+unread_profile : (words : List (List ℕ)) (job : Job) (o : Outsides) (a : Answer) → Outcome words o a → job_meaning words ≡ Ok job → job.verb ≡ verb.Profile → Keeps o.input.before o.input.now
+unread_profile words job o a outcome means command_is =
+    let L : Result Job UsageFault → Type 0 = λ r. LineOutcome r (profile_named words) o a in
+    by_case (subst L means outcome)
+  where
+    by_case : NoProfile (profile_named words) o a ⊎ WithProfile (profile_named words) job o a → Keeps o.input.before o.input.now
+    by_case (inl none) = none.untouched.0
+    by_case (inr has) =
+        let V : Verb → Type 0 = λ v. VerbOutcome v (table_of job.kernel) has.p o a in
+        (subst V command_is has.outcome).0
+
+-- ---- the line
+
+silent_status : (err : Outside) (a : Answer) (s : ℕ) → Told err a → s ≡ status_of a → s ≡ 0 → Keeps err.before err.now
+silent_status err a s told is zero = by_answer a (sym zero ∙ is) told
+  where
+    whole : (x y : Option (List ℕ)) → Appends x y [] → Keeps x y
+    whole None y grown = tt
+    whole (Some x) None grown = absurd grown
+    whole (Some x) (Some y) grown = grown ∙ append-nil x
+
+    no_part : (x y : Option (List ℕ)) → AppendsPart x y [] → ⊥
+    no_part x y part = omega (arith, part.proper)
+
+    silent : Told err answer.Done → Keeps err.before err.now
+    silent (inl grown) = whole err.before err.now grown
+    silent (inr part) = absurd (no_part err.before err.now part.1)
+
+    by_answer : (b : Answer) → 0 ≡ status_of b → Told err b → Keeps err.before err.now
+    by_answer answer.Done e told = silent told
+    by_answer (answer.Usage fault) e told = absurd (cc)
+    by_answer (answer.Profile line cause) e told = absurd (cc)
+    by_answer (answer.Input page line cause) e told = absurd (cc)
+    by_answer answer.Read e told = absurd (cc)
+    by_answer (answer.Write page) e told = absurd (cc)
+    by_answer answer.Memory e told = absurd (cc)
+
+in_range : (a : Answer) (s : ℕ) → s ≡ status_of a → (s ≡ 0) ⊎ (s ≡ 1) ⊎ (s ≡ 2) ⊎ (s ≡ 3) ⊎ (s ≡ 4) ⊎ (s ≡ 5) ⊎ (s ≡ 7)
+in_range answer.Done s is = inl is
+in_range (answer.Usage fault) s is = inr (inl is)
+in_range (answer.Profile line cause) s is = inr (inr (inl is))
+in_range (answer.Input page line cause) s is = inr (inr (inr (inl is)))
+in_range answer.Read s is = inr (inr (inr (inr (inl is))))
+in_range (answer.Write page) s is = inr (inr (inr (inr (inr (inl is)))))
+in_range answer.Memory s is = inr (inr (inr (inr (inr (inr is)))))
+
+-- ---- the promises of `print` with a good profile
+
+print_zero : (words : List (List ℕ)) (o : Outsides) (a : Answer) (s : ℕ) (job : Job) (p : Profile) → Outcome words o a → s ≡ status_of a → AsksFor words o.shelf.told verb.Print job (Ok p) → s ≡ 0
+    → PrintsAll (printer_of p) (table_of job.kernel) o.input o.out
+print_zero words o a s job p outcome is asks zero =
+    let does = at_work words verb.Print job p o a s is (λ e. omega arith) (λ e. omega arith) asks outcome in
+    print_done (printer_of p) (table_of job.kernel) o.input o.out s does.end does.does (is ∙ ap status_of does.answered) zero
+
+print_three : (words : List (List ℕ)) (o : Outsides) (err : Outside) (a : Answer) (s : ℕ) (job : Job) (p : Profile) → Outcome words o a → Told err a → s ≡ status_of a → AsksFor words o.shelf.told verb.Print job (Ok p) → s ≡ 3
+    → (page line : ℕ) × (cause : InputCause) × MeetsFault (printer_of p) (table_of job.kernel) o.input o.out page line cause × Tells err (answer.Input page line cause)
+print_three words o err a s job p outcome told is asks three =
+    let does = at_work words verb.Print job p o a s is (λ e. omega arith) (λ e. omega arith) asks outcome in
+    let fault = print_fault (printer_of p) (table_of job.kernel) o.input o.out s does.end does.does (is ∙ ap status_of does.answered) three in
+    let T : Answer → Type 0 = λ b. Told err b in
+    (fault.0, fault.1, fault.2, fault.3, told_line err (answer.Input fault.0 fault.1 fault.2) (subst T (does.answered ∙ fault.4) told))
+
+print_five : (words : List (List ℕ)) (o : Outsides) (err : Outside) (a : Answer) (s : ℕ) (job : Job) (p : Profile) → Outcome words o a → Told err a → s ≡ status_of a → AsksFor words o.shelf.told verb.Print job (Ok p) → s ≡ 5
+    → (number : ℕ) × StopsInPage (printer_of p) (table_of job.kernel) o.input o.out number × Tells err (answer.Write number)
+print_five words o err a s job p outcome told is asks five =
+    let does = at_work words verb.Print job p o a s is (λ e. omega arith) (λ e. omega arith) asks outcome in
+    let part = print_part (printer_of p) (table_of job.kernel) o.input o.out s does.end does.does (is ∙ ap status_of does.answered) five in
+    let T : Answer → Type 0 = λ b. Told err b in
+    (part.0, part.1, told_line err (answer.Write part.0) (subst T (does.answered ∙ part.3) told))
+
+print_stopped : (words : List (List ℕ)) (o : Outsides) (a : Answer) (s : ℕ) (job : Job) (p : Profile) → Outcome words o a → s ≡ status_of a → AsksFor words o.shelf.told verb.Print job (Ok p) → (s ≡ 4) ⊎ (s ≡ 7)
+    → PrintsSome (printer_of p) (table_of job.kernel) o.input o.out
+print_stopped words o a s job p outcome is asks which = by_case (has_profile words verb.Print job p o a asks outcome)
+  where
+    by_case : HasProfile words verb.Print job p o a → PrintsSome (printer_of p) (table_of job.kernel) o.input o.out
+    by_case (HasNone none untouched) = prints_none (printer_of p) (table_of job.kernel) o.input o.out untouched.0 untouched.1
+    by_case (Does does) = print_some (printer_of p) (table_of job.kernel) o.input o.out s does.end does.does (is ∙ ap status_of does.answered) which
+
+print_valid : (words : List (List ℕ)) (o : Outsides) (a : Answer) (s : ℕ) (job : Job) (p : Profile) (bytes : List ℕ) (pages : List Page) → Outcome words o a → s ≡ status_of a → AsksFor words o.shelf.told verb.Print job (Ok p)
+    → o.input.before ≡ Some bytes → stream (wanted_by (printer_of p)) bytes ≡ record { pages = pages; end = Done } → NothingFailed o → (s ≡ 0) ⊎ (s ≡ 7)
+print_valid words o a s job p bytes pages outcome is asks told valid calm = by_case (calm_work words verb.Print job p o a s is calm.shelf asks outcome)
+  where
+    by_case : (s ≡ 7) ⊎ Did PrintStop (PrintOutcome (printer_of p) (table_of job.kernel) o.input o.out) print_answer a → (s ≡ 0) ⊎ (s ≡ 7)
+    by_case (inl seven) = inr seven
+    by_case (inr does) = print_calm (printer_of p) (table_of job.kernel) o.input o.out s does.end bytes pages does.does (is ∙ ap status_of does.answered) told valid calm.input calm.out
+
+print_refused : (words : List (List ℕ)) (o : Outsides) (a : Answer) (s : ℕ) (job : Job) (p : Profile) (bytes : List ℕ) (pages : List Page) (page line : ℕ) (cause : InputCause) → Outcome words o a → s ≡ status_of a
+    → AsksFor words o.shelf.told verb.Print job (Ok p) → o.input.before ≡ Some bytes → stream (wanted_by (printer_of p)) bytes ≡ record { pages = pages; end = Fault page line cause } → NothingFailed o → (s ≡ 3) ⊎ (s ≡ 7)
+print_refused words o a s job p bytes pages page line cause outcome is asks told bad calm = by_case (calm_work words verb.Print job p o a s is calm.shelf asks outcome)
+  where
+    by_case : (s ≡ 7) ⊎ Did PrintStop (PrintOutcome (printer_of p) (table_of job.kernel) o.input o.out) print_answer a → (s ≡ 3) ⊎ (s ≡ 7)
+    by_case (inl seven) = inr seven
+    by_case (inr does) = print_bad (printer_of p) (table_of job.kernel) o.input o.out s does.end bytes pages page line cause does.does (is ∙ ap status_of does.answered) told bad calm.input calm.out
+
+-- ---- the promises of `profile` with a good profile
+
+show_valid : (words : List (List ℕ)) (o : Outsides) (a : Answer) (s : ℕ) (job : Job) (p : Profile) → Outcome words o a → s ≡ status_of a → AsksFor words o.shelf.told verb.Profile job (Ok p)
+    → (HasFailed o.shelf → ⊥) → IsCalm o.out → (s ≡ 0) ⊎ (s ≡ 7)
+show_valid words o a s job p outcome is asks calm calm_out = by_case (calm_work words verb.Profile job p o a s is calm asks outcome)
+  where
+    by_case : (s ≡ 7) ⊎ (Keeps o.input.before o.input.now × Did ShowStop (ShowOutcome p o.out) show_answer a) → (s ≡ 0) ⊎ (s ≡ 7)
+    by_case (inl seven) = inr seven
+    by_case (inr does) = show_calm p o.out s does.1.end does.1.does (is ∙ ap status_of does.1.answered) calm_out
+
+show_zero : (words : List (List ℕ)) (o : Outsides) (a : Answer) (s : ℕ) (job : Job) (p : Profile) → Outcome words o a → s ≡ status_of a → AsksFor words o.shelf.told verb.Profile job (Ok p) → s ≡ 0
+    → Appends o.out.before o.out.now (profile_text_of p)
+show_zero words o a s job p outcome is asks zero =
+    let does = at_work words verb.Profile job p o a s is (λ e. omega arith) (λ e. omega arith) asks outcome in
+    show_done p o.out s does.1.end does.1.does (is ∙ ap status_of does.1.answered) zero
+
+show_five : (words : List (List ℕ)) (o : Outsides) (err : Outside) (a : Answer) (s : ℕ) (job : Job) (p : Profile) → Outcome words o a → Told err a → s ≡ status_of a → AsksFor words o.shelf.told verb.Profile job (Ok p) → s ≡ 5
+    → AppendsPart o.out.before o.out.now (profile_text_of p) × Tells err (answer.Write 0)
+show_five words o err a s job p outcome told is asks five =
+    let does = at_work words verb.Profile job p o a s is (λ e. omega arith) (λ e. omega arith) asks outcome in
+    let part = show_part p o.out s does.1.end does.1.does (is ∙ ap status_of does.1.answered) five in
+    let T : Answer → Type 0 = λ b. Told err b in
+    (part.0, told_line err (answer.Write 0) (subst T (does.1.answered ∙ part.2) told))
+
+show_stopped : (words : List (List ℕ)) (o : Outsides) (a : Answer) (s : ℕ) (job : Job) (p : Profile) → Outcome words o a → s ≡ status_of a → AsksFor words o.shelf.told verb.Profile job (Ok p) → (s ≡ 4) ⊎ (s ≡ 7)
+    → Keeps o.out.before o.out.now
+show_stopped words o a s job p outcome is asks which = by_case (has_profile words verb.Profile job p o a asks outcome)
+  where
+    by_case : HasProfile words verb.Profile job p o a → Keeps o.out.before o.out.now
+    by_case (HasNone none untouched) = untouched.1
+    by_case (Does does) = show_none p o.out s does.1.end does.1.does (is ∙ ap status_of does.1.answered) which
+
+-- ---- all of them
+
+pub promises : (words : List (List ℕ)) (o : Outsides) (err : Outside) (a : Answer) (s : ℕ) → Outcome words o a → Told err a → s ≡ status_of a → Promises words o err s
+promises words o err a s outcome told is = record {
+  answered = record { a = a; status_is = is; outcome = outcome; told = told };
+  valid = λ job p bytes pages asks before valid calm. print_valid words o a s job p bytes pages outcome is asks before valid calm;
+  printed = λ job p asks zero. print_zero words o a s job p outcome is asks zero;
+  input = λ job p asks three. print_three words o err a s job p outcome told is asks three;
+  refused = λ job p bytes pages page line cause asks before bad calm. print_refused words o a s job p bytes pages page line cause outcome is asks before bad calm;
+  stopped = λ job p asks which. print_stopped words o a s job p outcome is asks which;
+  part = λ job p asks five. print_five words o err a s job p outcome told is asks five;
+  valid_profile = λ job p asks calm calm_out. show_valid words o a s job p outcome is asks calm calm_out;
+  shown = λ job p asks zero. show_zero words o a s job p outcome is asks zero;
+  part_shown = λ job p asks five. show_five words o err a s job p outcome told is asks five;
+  none_shown = λ job p asks which. show_stopped words o a s job p outcome is asks which;
+  unread = λ job means command_is. unread_profile words job o a outcome means command_is;
+  usage = (λ one. usage_status words o a s outcome is one, λ bad. usage_means words o a s outcome is bad);
+  profile = λ two. profile_status words o err a s outcome told is two;
+  refused_profile = λ command job refusal asks calm. refused_status words command job refusal o a s outcome is asks calm;
+  read = λ four. read_status words o a s outcome is four;
+  write = λ five. write_status words o a s outcome is five;
+  range = in_range a s is;
+  nothing = λ which. untouched_status words o a s outcome is which;
+  silent = λ zero. silent_status err a s told is zero;
+  line = λ calm. (a, is, told_line err a told calm);
+}

@@ -1,0 +1,78 @@
+-- What printing the pages of a stream comes to: what was read and written, by why it stopped.
+use Rattle.std.specs.Prelude.{◌≡◌, ℕ, ◌+◌, List, [], ◌∷◌, ◌++◌, length, Option, Result, Ok, Err}
+use Rattle.std.specs.Io.KnownBytes.{Appends}
+use Rattle.diffusion_definitions.specs.Diffusion.{Table}
+use Rattle.driver_answer.specs.declared.answer.Answer.{Answer}
+use Rattle.driver_answer.specs.declared.answer.Answer.TheVariants as answer
+use Rattle.page_definitions.specs.PageBytes.{page_bytes}
+use Rattle.page_definitions.specs.Printing.{HavePasses, Prints}
+use Rattle.printer_definitions.specs.Printer.{Printer}
+use Rattle.pwg_definitions.specs.declared.faults.InputCause.{InputCause}
+use Rattle.pwg_definitions.specs.Stream.{Page}
+use Rattle.pwg_definitions.specs.Stream.StreamEnd.{Done, Fault}
+use Rattle.pwg_stream.specs.declared.stops.StreamStop.{StreamStop}
+use Rattle.pwg_stream.specs.declared.stops.StreamStop.TheVariants as stream
+use Rattle.weave_base.specs.Parts.{AppendsPart}
+use Rattle.driver_core.specs.declared.stops.PrintStop.{PrintStop}
+use Rattle.driver_core.specs.declared.stops.PrintStop.TheVariants as stop
+use Rattle.driver_core.specs.Outside.{HasRisen, Outside}
+use Rattle.driver_core.specs.Pages.{IsStream, ReadsStream, TakesPages, job_bytes}
+
+-- All pages of the input were printed: it is a stream with a clean end that was read to it; the job of its pages was
+-- written, prints them, and has no more rasters of an ink than the head takes passes over a page.
+pub record PrintsAll (p : Printer) (k : Table) (input out : Outside) : Type 0 where
+  pub pages : List Page
+  pub reads : ReadsStream p input.before input.now pages
+  pub told : IsStream p input.before pages Done
+  pub writes : Appends out.before out.now (job_bytes p k pages)
+  pub prints : Prints p k pages (job_bytes p k pages)
+  pub passes : HavePasses p k pages
+
+-- The input is a stream of some pages that ends with this fault; the job of these pages was written.
+pub record MeetsFault (p : Printer) (k : Table) (input out : Outside) (page line : ℕ) (cause : InputCause) : Type 0 where
+  pub pages : List Page
+  pub told : IsStream p input.before pages (Fault page line cause)
+  pub writes : Appends out.before out.now (job_bytes p k pages)
+
+-- The job of some first pages of what was taken was written.
+pub record PrintsSome (p : Printer) (k : Table) (input out : Outside) : Type 0 where
+  pub pages : List Page
+  pub taken : TakesPages p input.before input.now pages
+  pub writes : Appends out.before out.now (job_bytes p k pages)
+
+-- The jobs of the pages before the one of this number were written, and a proper prefix of its own. All of them are
+-- first pages of what was taken.
+pub record StopsInPage (p : Printer) (k : Table) (input out : Outside) (number : ℕ) : Type 0 where
+  pub pages : List Page
+  pub page : Page
+  pub taken : TakesPages p input.before input.now (pages ++ page ∷ [])
+  pub number_is : number ≡ length pages + 1
+  pub between : Option (List ℕ)
+  pub whole : Appends out.before between (job_bytes p k pages)
+  pub part : AppendsPart between out.now (page_bytes page p k)
+
+-- what was read and written, by why printing stopped
+abbrev pub PrintStopped : Printer → Table → Outside → Outside → PrintStop → Type 0
+PrintStopped p k input out (stop.Input page line cause) = MeetsFault p k input out page line cause
+PrintStopped p k input out stop.Read = HasRisen input × PrintsSome p k input out
+PrintStopped p k input out (stop.Write number) = HasRisen out × StopsInPage p k input out number
+PrintStopped p k input out stop.Memory = PrintsSome p k input out
+
+-- What printing comes to.
+abbrev pub PrintOutcome : Printer → Table → Outside → Outside → Result (Unit {0}) PrintStop → Type 0
+PrintOutcome p k input out (Ok u) = PrintsAll p k input out
+PrintOutcome p k input out (Err why) = PrintStopped p k input out why
+
+-- ---- answers
+
+-- why printing stopped, where the stream did
+abbrev pub stream_stop : StreamStop → PrintStop
+stream_stop (stream.Input page line cause) = stop.Input page line cause
+stream_stop stream.Read = stop.Read
+stream_stop stream.Memory = stop.Memory
+
+abbrev pub print_answer : PrintStop → Answer
+print_answer (stop.Input page line cause) = answer.Input page line cause
+print_answer stop.Read = answer.Read
+print_answer (stop.Write page) = answer.Write page
+print_answer stop.Memory = answer.Memory

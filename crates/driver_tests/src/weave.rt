@@ -1,0 +1,161 @@
+//! Pages printed by heads of several nozzles, and a run without a word for the profile.
+use crate::fixture::{
+    Left, add_header, add_header_of, begin, no_files, one_page, plain, prefix, roomy, run_over,
+};
+use pwg_header::Kind;
+use std::alloc::Global;
+use std::test::Fail;
+use weave_base::Memory;
+
+// Prints these bytes by a built-in printer.
+fn print_by(alloc: Global, profile: &str, bytes: Vec<u8>) -> Result<Left, Memory> {
+    run_over(
+        alloc,
+        &["print", profile],
+        plain(alloc, bytes),
+        roomy(alloc)?,
+        no_files(alloc),
+    )
+}
+
+// A page of eight columns and six lines, all black, without its header.
+const BLACK_BODY: [u8; 3] = [5, 7, 0];
+
+// Its job by three nozzles that stand two rows apart: the window has two rows, which two passes fire.
+const TINY_JOB: [u8; 92] = [
+    0x1B, 0x40, 0x1B, 0x28, 0x47, 1, 0, 1, 0x1B, 0x28, 0x55, 1, 0, 5, 0x1B, 0x28, 0x69, 1, 0, 0,
+    0x1B, 0x55, 1, 0x1B, 0x28, 0x43, 2, 0, 0x0C, 0, 0x1B, 0x28, 0x63, 4, 0, 0, 0, 0x0C, 0, 0x1B,
+    0x28, 0x56, 2, 0, 0, 0, 0x1B, 0x72, 0, 0x0D, 0x1B, 0x2E, 1, 20, 10, 3, 8, 0, 0, 0, 0, 0, 0,
+    0xFF, 0x1B, 0x28, 0x76, 2, 0, 6, 0, 0x1B, 0x72, 0, 0x0D, 0x1B, 0x2E, 1, 20, 10, 3, 8, 0, 0, 0,
+    0, 0xFF, 0, 0, 0x0C, 0x1B, 0x40,
+];
+
+#[test]
+fn tiny_prints_ninety_two_bytes(rt: HostRuntime) -> Result<(), Fail> {
+    let alloc = rt.alloc();
+    let left = print_by(alloc, "profile=tiny", one_page(alloc, 8, 6, &BLACK_BODY)?)?;
+    left.is(&rt, 0, &TINY_JOB, b"");
+    Ok(())
+}
+
+#[test]
+fn a_stream_without_a_page_prints_nothing(rt: HostRuntime) -> Result<(), Fail> {
+    let alloc = rt.alloc();
+    let left = print_by(alloc, "profile=tiny", begin(alloc)?)?;
+    left.is(&rt, 0, b"", b"");
+    Ok(())
+}
+
+#[test]
+fn a_short_input_is_bad_sync(rt: HostRuntime) -> Result<(), Fail> {
+    let alloc = rt.alloc();
+    for bytes in [b"".as_slice(), b"Ra".as_slice()] {
+        let input = plain(alloc, bytes.to_vec(alloc)?);
+        let left = run_over(alloc, &["print"], input, roomy(alloc)?, no_files(alloc))?;
+        left.is(&rt, 3, b"", b"input: page 0 line 0: BadSync\n");
+    }
+    Ok(())
+}
+
+// Three rasters of one dot.
+const THREE_RASTERS: [u8; 105] = [
+    0x1B, 0x40, 0x1B, 0x28, 0x47, 1, 0, 1, 0x1B, 0x28, 0x55, 1, 0, 5, 0x1B, 0x28, 0x69, 1, 0, 0,
+    0x1B, 0x55, 1, 0x1B, 0x28, 0x43, 2, 0, 6, 0, 0x1B, 0x28, 0x63, 4, 0, 0, 0, 6, 0, 0x1B, 0x28,
+    0x56, 2, 0, 0, 0, 0x1B, 0x72, 0, 0x0D, 0x1B, 0x2E, 1, 10, 10, 1, 1, 0, 0, 0x80, 0x1B, 0x28,
+    0x76, 2, 0, 2, 0, 0x1B, 0x72, 0, 0x0D, 0x1B, 0x2E, 1, 10, 10, 1, 1, 0, 0, 0x80, 0x1B, 0x28,
+    0x76, 2, 0, 2, 0, 0x1B, 0x72, 0, 0x0D, 0x1B, 0x2E, 1, 10, 10, 1, 1, 0, 0, 0x80, 0x0C, 0x1B,
+    0x40,
+];
+
+#[test]
+fn one_nozzle_prints_three_rasters(rt: HostRuntime) -> Result<(), Fail> {
+    let alloc = rt.alloc();
+    let left = print_by(alloc, "profile=tiny1", one_page(alloc, 1, 3, &[2, 0, 0])?)?;
+    left.is(&rt, 0, &THREE_RASTERS, b"");
+    Ok(())
+}
+
+#[test]
+fn a_run_past_its_line_is_refused_at_its_byte(rt: HostRuntime) -> Result<(), Fail> {
+    let alloc = rt.alloc();
+    let left = print_by(alloc, "profile=tiny", one_page(alloc, 8, 6, &[0, 8, 0])?)?;
+    left.is(&rt, 3, b"", b"input: page 1 line 1: RunPastLine\n");
+    Ok(())
+}
+
+#[test]
+fn a_cut_third_header_leaves_two_pages(rt: HostRuntime) -> Result<(), Fail> {
+    let alloc = rt.alloc();
+    let mut bytes = one_page(alloc, 8, 6, &BLACK_BODY)?;
+    for _ in 0..2 {
+        add_header(&mut bytes, (360, 360), (8, 6))?;
+        bytes.extend_from_slice(&BLACK_BODY)?;
+    }
+    let cut = prefix(&bytes, 5397).to_vec(alloc)?;
+    let left = print_by(alloc, "profile=tiny", cut)?;
+    let mut jobs = TINY_JOB.to_vec(alloc)?;
+    jobs.extend_from_slice(&TINY_JOB)?;
+    left.is(&rt, 3, &jobs, b"input: page 3 line 0: Truncated\n");
+    Ok(())
+}
+
+#[test]
+fn sixteen_bits_and_a_short_page_are_refused(rt: HostRuntime) -> Result<(), Fail> {
+    let alloc = rt.alloc();
+    let mut wide = one_page(alloc, 8, 6, &BLACK_BODY)?;
+    assert_eq!(rt; wide.len(), 1803);
+    wide[391] = 16;
+    wide[395] = 16;
+    wide[399] = 16;
+    let left = print_by(alloc, "profile=tiny", wide)?;
+    left.is(&rt, 3, b"", b"input: page 1 line 0: Kind\n");
+    let short = print_by(alloc, "profile=tiny", one_page(alloc, 8, 4, &[3, 7, 0])?)?;
+    short.is(&rt, 3, b"", b"input: page 1 line 0: Height\n");
+    Ok(())
+}
+
+#[test]
+fn errors_cross_the_slab_at_row_256(rt: HostRuntime) -> Result<(), Fail> {
+    let alloc = rt.alloc();
+    let body = [0xFF, 0, 0x9B, 0, 0, 0x9B];
+    let left = print_by(alloc, "profile=tiny1", one_page(alloc, 1, 257, &body)?)?;
+    left.hashes_to(&rt, 1855, 0xB1BB_344A_C3B2_09A4);
+    Ok(())
+}
+
+// An A4 page of red, green and blue at 360 dots an inch, all of one unit.
+fn a4(alloc: Global, byte: u8) -> Result<Vec<u8>, Fail> {
+    let mut bytes = begin(alloc)?;
+    add_header_of(&mut bytes, Kind::Rgb8, (360, 360), (2976, 4209))?;
+    for group in 0..17 {
+        bytes.push(if group < 16 { 255 } else { 112 })?;
+        for packet in 0..24 {
+            let run = if packet < 23 { 127 } else { 31 };
+            bytes.extend_from_slice(&[run, byte, byte, byte])?;
+        }
+    }
+    Ok(bytes)
+}
+
+#[test]
+fn a_black_a4_takes_277_rasters(rt: HostRuntime) -> Result<(), Fail> {
+    let alloc = rt.alloc();
+    let bytes = a4(alloc, 0)?;
+    assert_eq!(rt; bytes.len(), 3449);
+    let left = print_by(alloc, "profile=p360cmyk", bytes)?;
+    left.hashes_to(&rt, 38_413, 0xAC5A_E1A3_CCA8_296C);
+    Ok(())
+}
+
+#[test]
+fn a_white_a4_is_forty_nine_bytes(rt: HostRuntime) -> Result<(), Fail> {
+    let alloc = rt.alloc();
+    let left = print_by(alloc, "profile=p360cmyk", a4(alloc, 0xFF)?)?;
+    let job: [u8; 49] = [
+        0x1B, 0x40, 0x1B, 0x28, 0x47, 1, 0, 1, 0x1B, 0x28, 0x55, 1, 0, 5, 0x1B, 0x28, 0x69, 1, 0,
+        0, 0x1B, 0x55, 1, 0x1B, 0x28, 0x43, 2, 0, 0xE2, 0x20, 0x1B, 0x28, 0x63, 4, 0, 8, 0, 0x6A,
+        0x20, 0x1B, 0x28, 0x56, 2, 0, 0, 0, 0x0C, 0x1B, 0x40,
+    ];
+    left.is(&rt, 0, &job, b"");
+    Ok(())
+}

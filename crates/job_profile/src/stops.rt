@@ -1,0 +1,72 @@
+//! Why there is no profile.
+ghost use Rattle.job_profile.specs.declared.stops.ProfileCause.TheVariants as cause;
+ghost use Rattle.job_profile.specs.declared.stops.ProfileStop.TheVariants as stop;
+ghost use Rattle.std.specs.Prelude.{◌≡◌};
+ghost use Rattle.weave_base.specs.declared.shelf.ShelfStop.TheVariants as shelf;
+
+use printer_profile::{ProfileFault, TextCause, TextFault};
+use weave_base::ShelfStop;
+
+/// Why a profile is refused.
+#[derive(Clone, Copy, Debug, PartialEq, Eq)]
+pub enum ProfileCause {
+    /// It is no built-in profile, and the shelf has no text of its name.
+    Absent,
+    /// Its text is longer than 65,536 bytes.
+    TooLong,
+    /// Its text is refused.
+    Text(TextCause),
+    /// Its text is read, and makes no sense.
+    Check(ProfileFault),
+}
+
+/// Why there is no profile.
+#[derive(Clone, Copy, Debug, PartialEq, Eq)]
+pub enum ProfileStop {
+    /// It is refused: at this line of its text, or at line 0 as a whole.
+    Refused { line: u32, cause: ProfileCause },
+    /// The shelf failed.
+    Failed,
+    /// Memory ran out.
+    Memory,
+}
+
+impl From<ProfileCause> for ProfileStop {
+    ghost from_gives = { λ why e. e ≡ stop.Refused 0 why };
+
+    fn from(cause: ProfileCause) -> ProfileStop {
+        ProfileStop::Refused { line: 0, cause }
+    }
+}
+
+impl From<TextFault> for ProfileStop {
+    ghost from_gives = { λ fault e. e ≡ stop.Refused fault.line (cause.Text fault.cause) };
+
+    fn from(fault: TextFault) -> ProfileStop {
+        ProfileStop::Refused {
+            line: fault.line,
+            cause: ProfileCause::Text(fault.cause),
+        }
+    }
+}
+
+impl From<ProfileFault> for ProfileStop {
+    ghost from_gives = { λ fault e. e ≡ stop.Refused 0 (cause.Check fault) };
+
+    fn from(fault: ProfileFault) -> ProfileStop {
+        ProfileStop::from(ProfileCause::Check(fault))
+    }
+}
+
+impl From<ShelfStop> for ProfileStop {
+    ghost use Rattle.job_profile.specs.Stops.{stop_of};
+
+    ghost from_gives = { λ why e. e ≡ stop_of why };
+
+    fn from(stop: ShelfStop) -> ProfileStop {
+        match stop {
+            ShelfStop::Failed => ProfileStop::Failed,
+            ShelfStop::Memory => ProfileStop::Memory,
+        }
+    }
+}

@@ -1,0 +1,14 @@
+//! Texts of the form `key=value`, and decimal numbers within bounds: the words of a command line and the lines of a
+//! printer profile are made of them.
+#![tactic(auto)]
+
+mod laws;
+mod numbers;
+mod pairs;
+
+pub use laws::written_number_is_read;
+pub use numbers::number_within;
+pub use pairs::{cut_at, cut_word};
+
+#[cfg(test)]
+mod tests;

@@ -1,0 +1,30 @@
+//! Texts that are cut in two.
+ghost use Rattle.key_values.specs.Pairs.{IsCut, is_key_value, key_of, value_of};
+ghost use Rattle.std.specs.List.{position};
+ghost use Rattle.std.specs.Option.{option_map};
+ghost use Rattle.std.specs.Prelude.{MatchOption, false, true, ◌==◌, ◌≡◌};
+
+fn place_of(byte: u8, text: &[u8]) -> Option<usize>
+    ensures { result ≡ position (λ b. b == byte) text.now }
+{
+    text.iter().position(|b| *b == byte)
+}
+
+/// What stands before the first such byte of a text, and what stands behind it; `None` where there is none.
+pub fn cut_at(byte: u8, text: &[u8]) -> Option<(&[u8], &[u8])>
+    ensures { IsCut (λ b. b == byte) text.now
+        (option_map (λ parts. (parts.0.now, parts.1.now)) result) }
+{
+    match place_of(byte, text) {
+        Some(place) => Some((&text[..place], &text[place + 1..])),
+        None => None,
+    }
+}
+
+/// The key and the value of a word, cut at its first `=`; `None` where it has none.
+pub fn cut_word(word: &str) -> Option<(&str, &str)>
+    ensures { MatchOption result (is_key_value word.now ≡ false) (λ parts. (is_key_value word.now ≡ true)
+        × (parts.0.now ≡ key_of word.now) × (parts.1.now ≡ value_of word.now)) }
+{
+    word.split_once('=')
+}

@@ -1,0 +1,140 @@
+-- How long the bytes of strokes are.
+use Rattle.std.proofs.Common.{◌≡◌, ℕ, zero, suc, ◌+◌, ◌-◌, ◌*◌, ◌/◌, ◌≤◌, Bool, true, false, cond, ◌==◌, if◌then◌else◌, List, [], ◌∷◌, ◌++◌, length, map, take, drop, refl, sym, ◌∙◌, ap, arith, length-append, length-drop, filter, flat_map}
+use Rattle.std.specs.List.{AllByRecursion}
+use Rattle.std.proofs.lemmas.List.{length-map, length-take-le}
+use Rattle.std.proofs.lemmas.List.Sums.{count_by-le-length, length-filter}
+use Rattle.std.proofs.Math.Nat.{mul-le-mul_right}
+use Rattle.printer_definitions.specs.declared.inks.Ink.{Ink}
+use Rattle.printer_definitions.specs.Inks.{inks_of}
+use Rattle.printer_definitions.specs.Printer.{Printer, head_rows, row_units}
+use Rattle.escp2_definitions.specs.declared.command.Command.TheVariants as c
+use Rattle.escp2_definitions.specs.Packed.{packed}
+use Rattle.escp2_definitions.specs.Written.{Coding, rows_apart, written, written_rows}
+use Rattle.escp2_laws.proofs.Canonical.{canonical-short}
+use Rattle.page_definitions.specs.Dots.{Halftone}
+use Rattle.page_definitions.specs.PageBytes.{halftone_bytes, page_coding, pass_rows, pass_stroke, weave}
+use Rattle.page_definitions.specs.Strokes.{IsWhole, Spoken, Stroke, Strokes, bytes_of, down_by, fires, has_dot, ink_commands, inks_commands, prologue, raster_head, say, strokes_bytes, strokes_commands}
+use Rattle.weave_definitions.specs.Weave.{count_from, pass_count}
+use Rattle.page_laws.proofs.Spelled.{rows-len}
+use Rattle.page_laws.proofs.Printed.{bytes-append}
+use Rattle.page_laws.proofs.Weaving.{count_from-len, each-pass, pass-whole}
+
+-- a code gives at most twice the bytes of its row
+abbrev pub IsShortCode : (List ℕ → List ℕ) → Type 0
+IsShortCode code = (row : List ℕ) → length (code row) ≤ 2 * length row
+
+-- rows that are coded one by one
+apart-short : (code : List ℕ → List ℕ) (m width : ℕ) (rows : List ℕ) → IsShortCode code → length rows ≡ m * width
+    → length (flat_map code (rows_apart m width rows)) ≤ 2 * (m * width)
+apart-short code zero width rows short fits = omega arith
+apart-short code (suc m) width rows short fits =
+    let split : suc m * width ≡ width + m * width = omega arith in
+    let front : length (take width rows) ≡ width = length-take-le width rows (omega (arith, split)) in
+    let behind : length (drop width rows) ≡ m * width = omega (arith, length-drop width rows, split) in
+    omega (arith, split, short (take width rows), front, length-append (code (take width rows)) (flat_map code (rows_apart m width (drop width rows))),
+        apart-short code m width (drop width rows) short behind)
+
+-- the rows of a raster as they are written
+rows-short : (code : List ℕ → List ℕ) (plain : Bool) (m width : ℕ) (rows : List ℕ) → IsShortCode code → length rows ≡ m * width
+    → length (if plain then rows else flat_map code (rows_apart m width rows)) ≤ 2 * (m * width)
+rows-short code true m width rows short fits = omega arith
+rows-short code false m width rows short fits = apart-short code m width rows short fits
+
+-- ---- the commands of strokes
+
+-- the most bytes of one ink of a stroke, and of a stroke
+abbrev pub most_ink : Printer → ℕ → ℕ
+most_ink p width = 12 + 2 * (p.nozzles * ((width + 7) / 8))
+
+abbrev pub most_stroke : Printer → ℕ → ℕ
+most_stroke p width = 7 + length (inks_of p.inks) * most_ink p width
+
+ink-short : (code : List ℕ → List ℕ) (p : Printer) (width coded : ℕ) (stroke : Stroke) (ink : Ink) → IsShortCode code → IsWhole p.nozzles width (stroke.rows ink)
+    → length (bytes_of code (ink_commands p width coded stroke ink)) ≤ most_ink p width
+ink-short code p width coded stroke ink short whole = by_dot (has_dot (stroke.rows ink))
+  where
+    rows : List ℕ
+    rows = flat_map packed (stroke.rows ink)
+
+    raster : Spoken
+    raster = record { command = c.Raster (raster_head p width coded); rows = rows }
+
+    bytes : ℕ
+    bytes = (width + 7) / 8
+
+    by_dot : (b : Bool) → length (bytes_of code (if b then say (c.Colour ink) ∷ say c.Return ∷ raster ∷ [] else [])) ≤ most_ink p width
+    by_dot false = omega arith
+    by_dot true =
+        let text : List ℕ = written_rows code (c.Raster (raster_head p width coded)) rows in
+        let fits : length rows ≡ p.nozzles * bytes = rows-len width (stroke.rows ink) whole.wide ∙ ap (λ n. n * bytes) whole.many in
+        let few : length text ≤ 2 * (p.nozzles * bytes) = rows-short code (coded == 0) p.nozzles bytes rows short fits in
+        omega (arith, few, length-append text [])
+
+inks-short : (code : List ℕ → List ℕ) (p : Printer) (width coded : ℕ) (stroke : Stroke) (inks : List Ink) → IsShortCode code
+    → ((ink : Ink) → IsWhole p.nozzles width (stroke.rows ink))
+    → length (bytes_of code (flat_map (ink_commands p width coded stroke) inks)) ≤ length inks * most_ink p width
+inks-short code p width coded stroke [] short whole = omega arith
+inks-short code p width coded stroke (ink ∷ inks) short whole =
+    let first : List Spoken = ink_commands p width coded stroke ink in
+    let others : List Spoken = flat_map (ink_commands p width coded stroke) inks in
+    let split : suc (length inks) * most_ink p width ≡ most_ink p width + length inks * most_ink p width = omega arith in
+    omega (arith, split, ap length (bytes-append code first others), length-append (bytes_of code first) (bytes_of code others),
+        ink-short code p width coded stroke ink short (whole ink), inks-short code p width coded stroke inks short whole)
+
+down-short : (code : List ℕ → List ℕ) (n : ℕ) → length (bytes_of code (down_by n)) ≤ 7
+down-short code zero = omega arith
+down-short code (suc n) = omega arith
+
+strokes-short : (code : List ℕ → List ℕ) (p : Printer) (width coded last : ℕ) (strokes : List Stroke) → IsShortCode code
+    → AllByRecursion (λ stroke. (ink : Ink) → IsWhole p.nozzles width (stroke.rows ink)) strokes
+    → length (bytes_of code (strokes_commands p width coded last strokes)) ≤ length strokes * most_stroke p width
+strokes-short code p width coded last [] short whole = omega arith
+strokes-short code p width coded last (stroke ∷ strokes) short whole =
+    let down : List Spoken = down_by ((stroke.start - last) * row_units p) in
+    let inks : List Spoken = inks_commands p width coded stroke in
+    let later : List Spoken = strokes_commands p width coded stroke.start strokes in
+    let split : suc (length strokes) * most_stroke p width ≡ most_stroke p width + length strokes * most_stroke p width = omega arith in
+    omega (arith, split, ap length (bytes-append code down (inks ++ later)), length-append (bytes_of code down) (bytes_of code (inks ++ later)),
+        ap length (bytes-append code inks later), length-append (bytes_of code inks) (bytes_of code later),
+        down-short code ((stroke.start - last) * row_units p), inks-short code p width coded stroke (inks_of p.inks) short whole.0,
+        strokes-short code p width coded stroke.start strokes short whole.1)
+
+-- strokes that are left out make the job no longer
+filter-whole : {X : Type 0} (P : X → Type 0) (test : X → Bool) (xs : List X) → AllByRecursion P xs → AllByRecursion P (filter test xs)
+filter-whole P test [] all = tt
+filter-whole {X = X} P test (x ∷ xs) all = by_head (test x) (filter-whole P test xs all.1)
+  where
+    by_head : (b : Bool) → AllByRecursion P (filter test xs) → AllByRecursion P (cond b (x ∷ filter test xs) (filter test xs))
+    by_head true rest = (all.0, rest)
+    by_head false rest = rest
+
+-- Strokes of whole rows, by a code that gives at most twice the bytes of its row, make a job of at most so many bytes.
+pub bytes-short : (coding : Coding) (p : Printer) (width height len : ℕ) (strokes : Strokes) → IsShortCode coding.code
+    → AllByRecursion (λ stroke. (ink : Ink) → IsWhole p.nozzles width (stroke.rows ink)) strokes.list
+    → length (strokes_bytes coding p width height len strokes) ≤ 49 + length strokes.list * most_stroke p width
+bytes-short coding p width height len strokes short whole =
+    let code : List ℕ → List ℕ = coding.code in
+    let first : List Spoken = prologue p strokes.above height len in
+    let fired : List Stroke = filter (fires p) strokes.list in
+    let middle : List Spoken = strokes_commands p width coding.c 0 fired in
+    let last : List Spoken = say c.Eject ∷ say c.Init ∷ [] in
+    let few : length fired * most_stroke p width ≤ length strokes.list * most_stroke p width = mul-le-mul_right (most_stroke p width) (omega (arith, length-filter (fires p) strokes.list, count_by-le-length (fires p) strokes.list)) in
+    let all : AllByRecursion (λ stroke. (ink : Ink) → IsWhole p.nozzles width (stroke.rows ink)) fired =
+    filter-whole (λ (stroke : Stroke). (ink : Ink) → IsWhole p.nozzles width (stroke.rows ink)) (fires p) strokes.list whole in
+    omega (arith, few, ap length (bytes-append code first (middle ++ last)), length-append (bytes_of code first) (bytes_of code (middle ++ last)),
+        ap length (bytes-append code middle last), length-append (bytes_of code middle) (bytes_of code last),
+        strokes-short code p width coding.c 0 fired short all)
+
+-- The bytes of a halftone's passes.
+pub halftone-short : (p : Printer) (h : Halftone) (len : ℕ)
+    → length (halftone_bytes p h len)
+    ≤ 49 + pass_count p.nozzles p.pitch h.height * (7 + length (inks_of p.inks) * (12 + 2 * p.nozzles * ((h.width + 7) / 8)))
+unfolding halftone_bytes
+halftone-short p h len =
+    let passes : ℕ = pass_count p.nozzles p.pitch h.height in
+    let many : length (weave p h).list ≡ passes = length-map (count_from 0 passes) (pass_stroke p h) ∙ count_from-len 0 passes in
+    let whole = each-pass p h (λ stroke. (ink : Ink) → IsWhole p.nozzles h.width (stroke.rows ink)) (count_from 0 passes) (pass-whole p h) in
+    let all : length (halftone_bytes p h len) ≤ 49 + length (weave p h).list * most_stroke p h.width =
+    bytes-short page_coding p h.width h.height len (weave p h) canonical-short whole in
+    let grouped : 2 * (p.nozzles * ((h.width + 7) / 8)) ≡ 2 * p.nozzles * ((h.width + 7) / 8) = omega arith in
+    omega (arith, all, ap (λ n. n * most_stroke p h.width) many, ap (λ n. passes * (7 + length (inks_of p.inks) * (12 + n))) grouped)

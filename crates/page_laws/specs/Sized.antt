@@ -1,0 +1,13 @@
+-- The size of a window and of its sheet.
+use Rattle.std.specs.Prelude.{ℕ, ◌+◌, ◌*◌, ◌≤◌}
+use Rattle.printer_definitions.specs.Printer.{Printer, row_units}
+use Rattle.page_definitions.specs.Dots.{Halftone}
+
+-- The window of a halftone has a dot's room at least and 8,191 columns at most, and ends on a sheet of so many rows,
+-- which is 22 inches long at most.
+pub record Sized (p : Printer) (h : Halftone) (tall : ℕ) : Type 0 where
+  pub some_width : 1 ≤ h.width
+  pub most_width : h.width ≤ 8191
+  pub some_height : 1 ≤ h.height
+  pub low : p.top + h.height ≤ tall
+  pub short : tall * row_units p ≤ 15840

@@ -1,0 +1,27 @@
+-- The limits of a stream of pages. A page's size and a stream's pages are bounded by this project; the other numbers
+-- are those of PWG 5102.4.
+use Rattle.std.specs.Prelude.{ℕ}
+
+-- the most columns of a page, as many as one raster command prints
+abbrev pub most_columns : ℕ
+most_columns = 8191
+
+-- the most rows of a page: 22 inches at 720 dots an inch
+abbrev pub most_rows : ℕ
+most_rows = 15840
+
+-- the most pages of a stream
+abbrev pub most_pages : ℕ
+most_pages = 9999
+
+-- the bytes of a page header (section 4.3)
+abbrev pub header_length : ℕ
+header_length = 1796
+
+-- how often the line of a group stands at most (section 4.4)
+abbrev pub most_repeats : ℕ
+most_repeats = 256
+
+-- the most units of a packet (section 4.4)
+abbrev pub most_units : ℕ
+most_units = 128

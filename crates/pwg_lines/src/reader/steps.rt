@@ -1,0 +1,118 @@
+//! The steps of a reader of lines: a count, the first byte of a packet, or bytes of a unit or a literal.
+ghost use Rattle.pwg_lines.specs.Reading.{Takes};
+ghost use Rattle.pwg_lines.specs.States.{IsOpen};
+ghost use Rattle.std.specs.Prelude.{[], length, min, take, ◌-◌, ◌<◌, ◌∷◌, ◌≡◌, ◌≤◌};
+ghost use Rattle.pwg_definitions.specs.Header.{row_of};
+
+use crate::buffer::{fill_bytes, fill_units};
+use crate::reader::LineReader;
+use crate::states::{State, state_behind, units_of};
+use crate::unit::{unit_of, white_of};
+use pwg_definitions::LineFault;
+
+impl LineReader {
+    /// Reads one part of a group, at least a byte, and gives the number of its bytes.
+    pub(crate) fn step(&mut self, bytes: &[u8]) -> usize
+        requires some { 0 < length bytes.now }
+        requires is_open { IsOpen self.old.state }
+        ensures least { 0 < result }
+        ensures most { result ≤ length bytes.now }
+        ensures takes { Takes self.old self.new (take result bytes.now) }
+    {
+        match self.state {
+            State::Start => self.feed_start(bytes[0]),
+            State::Packet => self.feed_packet(bytes[0]),
+            State::Run { units, read } => return self.feed_run(units, read, bytes),
+            State::Literal(wanted) => return self.feed_literal(wanted, bytes),
+            State::Full | State::Failed(_) => {}
+        }
+        1
+    }
+
+    /// Reads a group's count.
+    fn feed_start(&mut self, count: u8)
+        requires { self.old.state ≡ State.Start }
+        ensures { Takes self.old self.new (count ∷ []) }
+    {
+        let repeats = u32::from(count) + 1;
+        if self.lines_left < repeats {
+            self.state = State::Failed(LineFault::GroupPastPage);
+            return;
+        }
+        self.repeats = repeats;
+        self.filled = 0;
+        self.left = self.line.len() / unit_of(self.form.kind);
+        self.state = State::Packet;
+    }
+
+    /// Reads the first byte of a packet.
+    fn feed_packet(&mut self, first: u8)
+        requires { self.old.state ≡ State.Packet }
+        ensures { Takes self.old self.new (first ∷ []) }
+    {
+        let units = units_of(self.left, first);
+        if self.left < units {
+            self.state = State::Failed(LineFault::RunPastLine);
+            return;
+        }
+        if first == 128 {
+            self.fill_white();
+            return;
+        }
+        self.left -= units;
+        self.state = if first < 128 {
+            State::Run { units, read: 0 }
+        } else {
+            State::Literal(units * unit_of(self.form.kind))
+        };
+    }
+
+    /// Ends the line with white.
+    fn fill_white(&mut self)
+        requires { self.old.state ≡ State.Packet }
+        ensures { Takes self.old self.new (128 ∷ []) }
+    {
+        let white = white_of(self.form.kind);
+        fill_units(&mut self.line, self.filled, 0, white, self.left);
+        self.filled = self.line.len();
+        self.left = 0;
+        self.state = State::Full;
+    }
+
+    /// Reads bytes of the unit of a run, as many as there are and are wanted, and gives their number.
+    fn feed_run(&mut self, units: usize, read: usize, bytes: &[u8]) -> usize
+        requires { self.old.state ≡ State.Run units read }
+        ensures count { result ≡ min (length bytes.now) ((row_of self.old.form.kind).unit - read) }
+        ensures takes { Takes self.old self.new (take result bytes.now) }
+    {
+        let unit = unit_of(self.form.kind);
+        let wanted = unit - read;
+        if bytes.len() < wanted {
+            fill_bytes(&mut self.line, self.filled + read, bytes);
+            let read = read + bytes.len();
+            self.state = State::Run { units, read };
+            return bytes.len();
+        }
+        fill_units(&mut self.line, self.filled, read, &bytes[..wanted], units);
+        self.filled += units * unit;
+        self.state = state_behind(self.left);
+        wanted
+    }
+
+    /// Reads bytes of a literal, as many as there are and are wanted, and gives their number.
+    fn feed_literal(&mut self, wanted: usize, bytes: &[u8]) -> usize
+        requires { self.old.state ≡ State.Literal wanted }
+        ensures count { result ≡ min (length bytes.now) wanted }
+        ensures takes { Takes self.old self.new (take result bytes.now) }
+    {
+        let count = bytes.len().min(wanted);
+        fill_bytes(&mut self.line, self.filled, &bytes[..count]);
+        self.filled += count;
+        self.state = if count < wanted {
+            State::Literal(wanted - count)
+        } else {
+            state_behind(self.left)
+        };
+        count
+    }
+}
