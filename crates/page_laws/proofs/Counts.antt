@@ -39,8 +39,13 @@ pub sum-one : (f : ℕ → ℕ) (one n many : ℕ) → n ≤ one → one < n + m
 sum-one f one n zero from below others = absurd (omega arith)
 sum-one f one n (suc many) from below others =
     elim (cases_eq n one) [
-      | inl e ↦ omega (arith, sum_by-cons f n (count_from (n + 1) many), ap f e, sum-none f (count_from (n + 1) many)
-          (each-from (λ k. f k ≡ 0) (n + 1) many (λ k after inside. others k (λ same. omega (arith, same, e, after)))))
+      | inl e ↦ omega (
+        arith,
+        sum_by-cons f n (count_from (n + 1) many),
+        ap f e,
+        sum-none f (count_from (n + 1) many)
+            (each-from (λ k. f k ≡ 0) (n + 1) many (λ k after inside. others k (λ same. omega (arith, same, e, after)))),
+      )
       | inr apart ↦ omega (arith, sum_by-cons f n (count_from (n + 1) many), others n apart, sum-one f one (n + 1) many (omega (arith, apart)) (omega arith) others)
     ]
 
@@ -58,9 +63,11 @@ if-plus false m n = omega arith
 
 -- ---- counts
 
+-- the count of two lists, one after the other
 pub count-append : {X : Type 0} (test : X → Bool) (xs ys : List X) → count_by test (xs ++ ys) ≡ count_by test xs + count_by test ys
 count-append test xs ys = sum_by-append (λ x. cond (test x) 1 0) xs ys
 
+-- the count of a list with one element before it
 pub count-cons : {X : Type 0} (test : X → Bool) (x : X) (xs : List X) → count_by test (x ∷ xs) ≡ cond (test x) 1 0 + count_by test xs
 count-cons test x xs = sum_by-cons (λ x. cond (test x) 1 0) x xs
 

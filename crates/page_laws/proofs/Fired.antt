@@ -1,27 +1,23 @@
 -- The dots that a raster of a stroke fires.
-use Rattle.std.proofs.Common.{◌≡◌, ℕ, zero, suc, ◌+◌, ◌-◌, ◌*◌, ◌/◌, ◌<◌, ◌≤◌, Bool, true, false, nat_le, ◌||◌, if◌then◌else◌, List, [], ◌∷◌, ◌++◌, length, take, drop, refl, sym, ◌∙◌, ap, arith, append-nil, cond}
-use Rattle.std.specs.List.{count_by, list_any, flat_map, AllByRecursion}
-use Rattle.std.specs.Prelude.{slice_index_or}
-use Rattle.std.proofs.lemmas.Bool.{and_from, eq-eqb}
+use Rattle.std.proofs.Common.{◌≡◌, ℕ, suc, ◌+◌, ◌-◌, ◌*◌, ◌/◌, ◌<◌, ◌≤◌, Bool, true, false, nat_le, ◌||◌, List, [], ◌∷◌, ◌++◌, length, take, drop, refl, sym, ◌∙◌, ap, arith, append-nil}
+use Rattle.std.specs.List.{list_any, flat_map, AllByRecursion}
 use Rattle.std.proofs.lemmas.Bool.Decides.{nat_tests}
 use Rattle.std.proofs.lemmas.List.{take_at, drop_at}
 use Rattle.printer_definitions.specs.declared.inks.Ink.{Ink}
-use Rattle.printer_definitions.specs.Inks.{ink_place}
-use Rattle.printer_definitions.specs.Printer.{Printer, column_step, nozzle_step, row_step, row_units}
+use Rattle.printer_definitions.specs.Printer.{Printer, column_step, nozzle_step, row_step}
 use Rattle.escp2_definitions.specs.declared.command.RasterHead.{RasterHead}
 use Rattle.escp2_definitions.specs.Commands.{row_bytes}
-use Rattle.escp2_definitions.specs.Machine.{Dot, bits, is_at, overprints, row_dots, rows_dots}
+use Rattle.escp2_definitions.specs.Machine.{Dot, bits, row_dots, rows_dots}
 use Rattle.escp2_definitions.specs.Packed.{packed}
 use Rattle.page_definitions.specs.Dots.{place_of}
 use Rattle.page_definitions.specs.Strokes.{IsOnWindow, has_dot, row_fired, rows_fired}
 use Rattle.separation_definitions.specs.CanPrint.{CanPrint}
-use Rattle.page_laws.proofs.Counts.{count-append, count-cons}
-use Rattle.page_laws.proofs.Numbers.{column_place, nozzle_step-is, rises, row_place, row_step-some, row_units-is}
-use Rattle.page_laws.proofs.Once.{Once}
+use Rattle.page_laws.proofs.Numbers.{column_place, nozzle_step-is, rises, row_place, row_step-some}
 use Rattle.page_laws.proofs.Packing.{packed_bytes-len, row-packed}
 
 -- ---- packed rows are fired as they are
 
+-- rows that are each as wide as this
 abbrev pub AllWide : ℕ → List (List Bool) → Type 0
 AllWide width rows = AllByRecursion (λ row. length row ≡ width) rows
 
@@ -56,6 +52,7 @@ rows_dots-fired head ink y (row ∷ rows) wide =
 
 -- ---- blank rows
 
+-- what is false of two is false of each
 pub or-false : (a b : Bool) → (a || b) ≡ false → record { left : a ≡ false; right : b ≡ false }
 or-false true b e = record { left = e; right = absurd (let no : ⊥ = cc in no) }
 or-false false b e = record { left = refl; right = e }
@@ -138,9 +135,11 @@ rows-are p above height ink start place (row ∷ rows) can room is e =
 
 -- ---- the dots are on the sheet
 
-none-of : {X : Type 0} (test : X → Bool) (x : X) (xs : List X) → test x ≡ false → list_any test xs ≡ false → list_any test (x ∷ xs) ≡ false
+-- where none passes and the element before does not either
+pub none-of : {X : Type 0} (test : X → Bool) (x : X) (xs : List X) → test x ≡ false → list_any test xs ≡ false → list_any test (x ∷ xs) ≡ false
 none-of test x xs e f = ap (λ b. b || list_any test xs) e ∙ f
 
+-- where none of two lists passes, none of both does
 none-both : {X : Type 0} (test : X → Bool) (xs ys : List X) → list_any test xs ≡ false → list_any test ys ≡ false → list_any test (xs ++ ys) ≡ false
 none-both test [] ys e f = f
 none-both test (x ∷ xs) ys e f =
@@ -173,30 +172,3 @@ on_sheet p above height ink start bottom (row ∷ rows) can is e =
         let s : ℕ = row_step p in
         let less : (p.top + y) * s < (p.top + height) * s = rises (p.top + y) (p.top + height) s (row_step-some p can) (omega (arith, on.0, on.1)) in
         row-low p ink y 0 bottom row (omega (arith, row_place p (p.top + y) can, e, less))
-
--- ---- no dot is fired twice
-
-is_at-itself : (d : Dot) → is_at d d ≡ true
-is_at-itself d = and_from _ _ (and_from _ _ (eq-eqb (ink_place d.ink) (ink_place d.ink) refl) (eq-eqb d.x d.x refl)) (eq-eqb d.y d.y refl)
-
-free : (d : Dot) (old : List Dot) → count_by (is_at d) old ≡ 0 → list_any (is_at d) old ≡ false
-free d [] e = refl
-free d (o ∷ old) e = by_head (is_at d o) refl (free d old)
-  where
-    by_head : (b : Bool) → is_at d o ≡ b → (count_by (is_at d) old ≡ 0 → list_any (is_at d) old ≡ false) → list_any (is_at d) (o ∷ old) ≡ false
-    by_head true f rest =
-        let count : count_by (is_at d) (o ∷ old) ≡ 1 + count_by (is_at d) old = count-cons (is_at d) o old ∙ ap (λ b. cond b 1 0 + count_by (is_at d) old) f in
-        absurd (omega arith)
-    by_head false f rest =
-        let count : count_by (is_at d) (o ∷ old) ≡ 0 + count_by (is_at d) old = count-cons (is_at d) o old ∙ ap (λ b. cond b 1 0 + count_by (is_at d) old) f in
-        none-of (is_at d) o old f (rest (omega arith))
-
-none-over : (old new : List Dot) → ((d : Dot) → count_by (is_at d) old + count_by (is_at d) new ≤ 1) → overprints old new ≡ false
-none-over old [] few = refl
-none-over old (d ∷ new) few =
-    let here : count_by (is_at d) (d ∷ new) ≡ 1 + count_by (is_at d) new = count-cons (is_at d) d new ∙ ap (λ b. cond b 1 0 + count_by (is_at d) new) (is_at-itself d) in
-    none-of (λ d. list_any (is_at d) old) d new (free d old (omega (arith, few d)))
-    (none-over old new (λ e. omega (arith, few e, count-cons (is_at e) d new)))
-
-pub not_twice : (old new : List Dot) → Once (old ++ new) → overprints old new ≡ false
-not_twice old new once = none-over old new (λ d. omega (arith, once d, count-append (is_at d) old new))

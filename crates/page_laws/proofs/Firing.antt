@@ -1,6 +1,6 @@
 -- What the machine makes of the inks of a stroke.
-use Rattle.std.proofs.Common.{◌≡◌, ℕ, ◌+◌, ◌-◌, ◌*◌, ◌/◌, ◌%◌, ◌<◌, ◌≤◌, Bool, true, false, not, ◌||◌, ◌==◌, nat_lt, nat_le, if◌then◌else◌, List, [], ◌∷◌, ◌++◌, length, Option, None, refl, sym, ◌∙◌, ap, arith, append_assoc, flat_map}
-use Rattle.std.specs.List.{list_any, AllByRecursion}
+use Rattle.std.proofs.Common.{◌≡◌, ℕ, ◌+◌, ◌-◌, ◌*◌, ◌/◌, ◌%◌, ◌<◌, ◌≤◌, Bool, true, false, not, ◌||◌, ◌==◌, nat_lt, nat_le, if◌then◌else◌, List, [], ◌∷◌, ◌++◌, Option, None, refl, sym, ◌∙◌, ap, arith, append_assoc, flat_map}
+use Rattle.std.specs.List.{list_any}
 use Rattle.std.proofs.lemmas.Bool.{eq-eqb, le-ltb}
 use Rattle.printer_definitions.specs.declared.inks.Ink.{Ink}
 use Rattle.printer_definitions.specs.Printer.{column_step, nozzle_step, row_step, row_units}
@@ -13,8 +13,10 @@ use Rattle.escp2_definitions.specs.Packed.{packed}
 use Rattle.page_definitions.specs.Strokes.{IsOnWindow, IsWhole, Spoken, Stroke, has_dot, ink_commands, raster_head, rows_fired, say}
 use Rattle.page_laws.proofs.Numbers.{column_step-some, on_grid, row_step-some, row_units-is}
 use Rattle.page_laws.proofs.Once.{Once, once-front, once-regroup}
-use Rattle.page_laws.proofs.Fired.{blank-rows, not_twice, on_sheet, rows-are, rows_dots-fired}
-use Rattle.page_laws.proofs.Running.{Comes, Goes, IsLayout, Layout, comes-as, comes-then, first_of, goes-as, goes-here, goes-then, last_of, one, paused, place-is}
+use Rattle.page_laws.proofs.Fired.{blank-rows, on_sheet, rows-are, rows_dots-fired}
+use Rattle.page_laws.proofs.Twice.{not_twice}
+use Rattle.page_laws.proofs.Running.{Goes, IsLayout, Layout, comes-as, comes-then, first_of, goes-as, goes-here, goes-then, last_of, one, paused}
+use Rattle.page_laws.proofs.Prologue.{place-is}
 
 -- ---- strokes of a page
 
@@ -48,10 +50,12 @@ new-dots w stroke ink is lies =
     ∙ rows_dots-fired (head_of w) ink y rows (lies.whole ink).wide
     ∙ rows-are w.printer w.above w.halftone.height ink stroke.start y rows is.can is.room (lies.on_window ink) (place-is w stroke.start is)
 
+-- what is false of each is false of both
 neither : (a b : Bool) → a ≡ false → b ≡ false → (a || b) ≡ false
 neither true b e f = e
 neither false b e f = f
 
+-- 0 divided by a step
 zero-over : (n : ℕ) → 1 ≤ n → record { rest : 0 % n ≡ 0; over : 0 / n ≡ 0 }
 zero-over n some = record { rest = omega arith; over = omega arith }
 

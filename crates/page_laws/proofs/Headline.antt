@@ -1,5 +1,5 @@
 -- The bytes of pages print the pages.
-use Rattle.std.proofs.Common.{◌≡◌, ℕ, ◌+◌, ◌*◌, ◌≤◌, inr, List, [], ◌∷◌, ◌++◌, refl, sym, ◌∙◌, ap, arith, None, flat_map, subst}
+use Rattle.std.proofs.Common.{◌≡◌, ℕ, ◌*◌, inr, List, [], ◌∷◌, ◌++◌, refl, sym, ◌∙◌, ap, None, flat_map, subst}
 use Rattle.printer_definitions.specs.Printer.{Printer, row_units}
 use Rattle.diffusion_definitions.specs.Diffusion.{Table}
 use Rattle.escp2_definitions.specs.Commands.{CommandList, commands}
@@ -17,7 +17,7 @@ use Rattle.page_definitions.specs.Printing.{AreSheets, Prints}
 use Rattle.page_definitions.specs.Strokes.{Fires, Spoken, Strokes, bytes_of, page_commands}
 use Rattle.page_laws.specs.Sized.{Sized}
 use Rattle.page_laws.specs.Stroked.{FirePages, stroked_bytes}
-use Rattle.page_laws.proofs.Numbers.{sheet-longest}
+use Rattle.page_laws.proofs.Numbers.{form-sized}
 use Rattle.page_laws.proofs.Once.{exactly-once}
 use Rattle.page_laws.proofs.Running.{IsLayout, Layout, entries}
 use Rattle.page_laws.proofs.Pages.{page-run}
@@ -31,13 +31,7 @@ canonical-coding = inr (refl, canonical-codes)
 
 -- the window of a page has a size that can be printed
 pub page-sized : (p : Printer) (k : Table) (page : Page) → CanPrint p → IsPage (wanted_by p) page → Sized p (halftone page p k) page.form.height
-page-sized p k page can is = record {
-  some_width = omega (arith, is.wanted.least_width);
-  most_width = omega (arith, is.wanted.most_width);
-  some_height = omega (arith, is.wanted.least_height);
-  low = omega (arith, is.wanted.least_height);
-  short = sheet-longest p page.form.height can is.wanted.most_height;
-}
+page-sized p k page can is = form-sized p (halftone page p k) page.form can is.wanted refl refl
 
 -- ---- the jobs of pages
 
@@ -46,6 +40,7 @@ abbrev page_job : Coding → (Halftone → Strokes) → Printer → Table → Pa
 page_job coding strokes p k page =
     let h : Halftone = halftone page p k in page_commands p h.width h.height coding.c (page.form.height * row_units p) (strokes h)
 
+-- the commands of pages are spelled by their bytes
 jobs-spoken : (coding : Coding) (strokes : Halftone → Strokes) (p : Printer) (k : Table) (pages : List Page) → CanPrint p → IsCoding coding
     → FirePages p k strokes → ArePages p pages → AllSpoken coding (flat_map (page_job coding strokes p k) pages)
 jobs-spoken coding strokes p k [] can is_coding fire are = tt

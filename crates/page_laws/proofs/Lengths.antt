@@ -1,23 +1,24 @@
 -- How long the bytes of strokes are.
-use Rattle.std.proofs.Common.{◌≡◌, ℕ, zero, suc, ◌+◌, ◌-◌, ◌*◌, ◌/◌, ◌≤◌, Bool, true, false, cond, ◌==◌, if◌then◌else◌, List, [], ◌∷◌, ◌++◌, length, map, take, drop, refl, sym, ◌∙◌, ap, arith, length-append, length-drop, filter, flat_map}
+use Rattle.std.proofs.Common.{◌≡◌, ℕ, zero, suc, ◌+◌, ◌-◌, ◌*◌, ◌/◌, ◌≤◌, Bool, true, false, cond, ◌==◌, if◌then◌else◌, List, [], ◌∷◌, ◌++◌, length, take, drop, ◌∙◌, ap, arith, length-append, length-drop, filter, flat_map}
 use Rattle.std.specs.List.{AllByRecursion}
 use Rattle.std.proofs.lemmas.List.{length-map, length-take-le}
 use Rattle.std.proofs.lemmas.List.Sums.{count_by-le-length, length-filter}
 use Rattle.std.proofs.Math.Nat.{mul-le-mul_right}
 use Rattle.printer_definitions.specs.declared.inks.Ink.{Ink}
 use Rattle.printer_definitions.specs.Inks.{inks_of}
-use Rattle.printer_definitions.specs.Printer.{Printer, head_rows, row_units}
+use Rattle.printer_definitions.specs.Printer.{Printer, row_units}
 use Rattle.escp2_definitions.specs.declared.command.Command.TheVariants as c
 use Rattle.escp2_definitions.specs.Packed.{packed}
-use Rattle.escp2_definitions.specs.Written.{Coding, rows_apart, written, written_rows}
+use Rattle.escp2_definitions.specs.Written.{Coding, rows_apart, written_rows}
 use Rattle.escp2_laws.proofs.Canonical.{canonical-short}
 use Rattle.page_definitions.specs.Dots.{Halftone}
-use Rattle.page_definitions.specs.PageBytes.{halftone_bytes, page_coding, pass_rows, pass_stroke, weave}
+use Rattle.page_definitions.specs.PageBytes.{halftone_bytes, page_coding, pass_stroke, weave}
 use Rattle.page_definitions.specs.Strokes.{IsWhole, Spoken, Stroke, Strokes, bytes_of, down_by, fires, has_dot, ink_commands, inks_commands, prologue, raster_head, say, strokes_bytes, strokes_commands}
 use Rattle.weave_definitions.specs.Weave.{count_from, pass_count}
 use Rattle.page_laws.proofs.Spelled.{rows-len}
 use Rattle.page_laws.proofs.Printed.{bytes-append}
-use Rattle.page_laws.proofs.Weaving.{count_from-len, each-pass, pass-whole}
+use Rattle.page_laws.proofs.Passes.{count_from-len, pass-whole}
+use Rattle.page_laws.proofs.Weaving.{each-pass}
 
 -- a code gives at most twice the bytes of its row
 abbrev pub IsShortCode : (List ℕ → List ℕ) → Type 0
@@ -31,8 +32,14 @@ apart-short code (suc m) width rows short fits =
     let split : suc m * width ≡ width + m * width = omega arith in
     let front : length (take width rows) ≡ width = length-take-le width rows (omega (arith, split)) in
     let behind : length (drop width rows) ≡ m * width = omega (arith, length-drop width rows, split) in
-    omega (arith, split, short (take width rows), front, length-append (code (take width rows)) (flat_map code (rows_apart m width (drop width rows))),
-        apart-short code m width (drop width rows) short behind)
+    omega (
+      arith,
+      split,
+      short (take width rows),
+      front,
+      length-append (code (take width rows)) (flat_map code (rows_apart m width (drop width rows))),
+      apart-short code m width (drop width rows) short behind,
+    )
 
 -- the rows of a raster as they are written
 rows-short : (code : List ℕ → List ℕ) (plain : Bool) (m width : ℕ) (rows : List ℕ) → IsShortCode code → length rows ≡ m * width
@@ -49,6 +56,7 @@ most_ink p width = 12 + 2 * (p.nozzles * ((width + 7) / 8))
 abbrev pub most_stroke : Printer → ℕ → ℕ
 most_stroke p width = 7 + length (inks_of p.inks) * most_ink p width
 
+-- the bytes of an ink of a stroke
 ink-short : (code : List ℕ → List ℕ) (p : Printer) (width coded : ℕ) (stroke : Stroke) (ink : Ink) → IsShortCode code → IsWhole p.nozzles width (stroke.rows ink)
     → length (bytes_of code (ink_commands p width coded stroke ink)) ≤ most_ink p width
 ink-short code p width coded stroke ink short whole = by_dot (has_dot (stroke.rows ink))
@@ -70,6 +78,7 @@ ink-short code p width coded stroke ink short whole = by_dot (has_dot (stroke.ro
         let few : length text ≤ 2 * (p.nozzles * bytes) = rows-short code (coded == 0) p.nozzles bytes rows short fits in
         omega (arith, few, length-append text [])
 
+-- the bytes of the inks of a stroke
 inks-short : (code : List ℕ → List ℕ) (p : Printer) (width coded : ℕ) (stroke : Stroke) (inks : List Ink) → IsShortCode code
     → ((ink : Ink) → IsWhole p.nozzles width (stroke.rows ink))
     → length (bytes_of code (flat_map (ink_commands p width coded stroke) inks)) ≤ length inks * most_ink p width
@@ -78,13 +87,21 @@ inks-short code p width coded stroke (ink ∷ inks) short whole =
     let first : List Spoken = ink_commands p width coded stroke ink in
     let others : List Spoken = flat_map (ink_commands p width coded stroke) inks in
     let split : suc (length inks) * most_ink p width ≡ most_ink p width + length inks * most_ink p width = omega arith in
-    omega (arith, split, ap length (bytes-append code first others), length-append (bytes_of code first) (bytes_of code others),
-        ink-short code p width coded stroke ink short (whole ink), inks-short code p width coded stroke inks short whole)
+    omega (
+      arith,
+      split,
+      ap length (bytes-append code first others),
+      length-append (bytes_of code first) (bytes_of code others),
+      ink-short code p width coded stroke ink short (whole ink),
+      inks-short code p width coded stroke inks short whole,
+    )
 
+-- the bytes of a step down
 down-short : (code : List ℕ → List ℕ) (n : ℕ) → length (bytes_of code (down_by n)) ≤ 7
 down-short code zero = omega arith
 down-short code (suc n) = omega arith
 
+-- the bytes of strokes
 strokes-short : (code : List ℕ → List ℕ) (p : Printer) (width coded last : ℕ) (strokes : List Stroke) → IsShortCode code
     → AllByRecursion (λ stroke. (ink : Ink) → IsWhole p.nozzles width (stroke.rows ink)) strokes
     → length (bytes_of code (strokes_commands p width coded last strokes)) ≤ length strokes * most_stroke p width
@@ -94,10 +111,17 @@ strokes-short code p width coded last (stroke ∷ strokes) short whole =
     let inks : List Spoken = inks_commands p width coded stroke in
     let later : List Spoken = strokes_commands p width coded stroke.start strokes in
     let split : suc (length strokes) * most_stroke p width ≡ most_stroke p width + length strokes * most_stroke p width = omega arith in
-    omega (arith, split, ap length (bytes-append code down (inks ++ later)), length-append (bytes_of code down) (bytes_of code (inks ++ later)),
-        ap length (bytes-append code inks later), length-append (bytes_of code inks) (bytes_of code later),
-        down-short code ((stroke.start - last) * row_units p), inks-short code p width coded stroke (inks_of p.inks) short whole.0,
-        strokes-short code p width coded stroke.start strokes short whole.1)
+    omega (
+      arith,
+      split,
+      ap length (bytes-append code down (inks ++ later)),
+      length-append (bytes_of code down) (bytes_of code (inks ++ later)),
+      ap length (bytes-append code inks later),
+      length-append (bytes_of code inks) (bytes_of code later),
+      down-short code ((stroke.start - last) * row_units p),
+      inks-short code p width coded stroke (inks_of p.inks) short whole.0,
+      strokes-short code p width coded stroke.start strokes short whole.1,
+    )
 
 -- strokes that are left out make the job no longer
 filter-whole : {X : Type 0} (P : X → Type 0) (test : X → Bool) (xs : List X) → AllByRecursion P xs → AllByRecursion P (filter test xs)
@@ -121,9 +145,15 @@ bytes-short coding p width height len strokes short whole =
     let few : length fired * most_stroke p width ≤ length strokes.list * most_stroke p width = mul-le-mul_right (most_stroke p width) (omega (arith, length-filter (fires p) strokes.list, count_by-le-length (fires p) strokes.list)) in
     let all : AllByRecursion (λ stroke. (ink : Ink) → IsWhole p.nozzles width (stroke.rows ink)) fired =
     filter-whole (λ (stroke : Stroke). (ink : Ink) → IsWhole p.nozzles width (stroke.rows ink)) (fires p) strokes.list whole in
-    omega (arith, few, ap length (bytes-append code first (middle ++ last)), length-append (bytes_of code first) (bytes_of code (middle ++ last)),
-        ap length (bytes-append code middle last), length-append (bytes_of code middle) (bytes_of code last),
-        strokes-short code p width coding.c 0 fired short all)
+    omega (
+      arith,
+      few,
+      ap length (bytes-append code first (middle ++ last)),
+      length-append (bytes_of code first) (bytes_of code (middle ++ last)),
+      ap length (bytes-append code middle last),
+      length-append (bytes_of code middle) (bytes_of code last),
+      strokes-short code p width coding.c 0 fired short all,
+    )
 
 -- The bytes of a halftone's passes.
 pub halftone-short : (p : Printer) (h : Halftone) (len : ℕ)

@@ -1,12 +1,17 @@
 -- Places on paper, for resolutions of 360 and 720, and the largest numbers of a page's commands.
 use Rattle.std.proofs.Common.{◌≡◌, ℕ, ◌+◌, ◌-◌, ◌*◌, ◌/◌, ◌%◌, ◌<◌, ◌≤◌, ◌⊎◌, inl, inr, sym, ◌∙◌, ap, arith, subst}
-use Rattle.std.proofs.Math.Nat.{mul-le-mul, mul-le-mul_right}
+use Rattle.std.proofs.Math.Nat.{div-mul-le_self, mul-le-mul, mul-le-mul_right}
 use Rattle.std.proofs.lemmas.Nat.{mod-mul-add}
 use Rattle.printer_definitions.specs.Printer.{Printer, column_step, nozzle_step, row_step, row_units}
 use Rattle.page_definitions.specs.Dots.{Halftone}
 use Rattle.page_laws.specs.Sized.{Sized}
 use Rattle.separation_definitions.specs.CanPrint.{CanPrint}
+use Rattle.separation_definitions.specs.Windows.{wanted_by, window_of}
+use Rattle.pwg_definitions.specs.declared.pages.PageForm.{PageForm}
+use Rattle.pwg_definitions.specs.Header.{IsWanted}
+use Rattle.weave_definitions.specs.Weave.{pass_count}
 
+-- a place on paper is so many whole steps
 places : (dpi n : ℕ) → (dpi ≡ 360) ⊎ (dpi ≡ 720) → n * 3600 / dpi ≡ n * (3600 / dpi)
 places dpi n (inl e) =
     let at : n * 3600 / 360 ≡ n * (3600 / 360) = omega arith in
@@ -15,17 +20,15 @@ places dpi n (inr e) =
     let at : n * 3600 / 720 ≡ n * (3600 / 720) = omega arith in
     ap (λ d. n * 3600 / d) e ∙ at ∙ sym (ap (λ d. n * (3600 / d)) e)
 
+-- a step is 1 at least
 steps : (dpi : ℕ) → (dpi ≡ 360) ⊎ (dpi ≡ 720) → 1 ≤ 3600 / dpi
 steps dpi (inl e) = let P : ℕ → Type 0 = λ d. 1 ≤ 3600 / d in subst P (sym e) (omega arith)
 steps dpi (inr e) = let P : ℕ → Type 0 = λ d. 1 ≤ 3600 / d in subst P (sym e) (omega arith)
 
+-- a row in units of 5/3600 inch
 units : (dpi : ℕ) → (dpi ≡ 360) ⊎ (dpi ≡ 720) → 720 / dpi * 5 ≡ 3600 / dpi
 units dpi (inl e) = ap (λ d. 720 / d * 5) e ∙ sym (ap (λ d. 3600 / d) e)
 units dpi (inr e) = ap (λ d. 720 / d * 5) e ∙ sym (ap (λ d. 3600 / d) e)
-
-most : (dpi : ℕ) → (dpi ≡ 360) ⊎ (dpi ≡ 720) → 3600 / dpi ≤ 255
-most dpi (inl e) = let P : ℕ → Type 0 = λ d. 3600 / d ≤ 255 in subst P (sym e) (omega arith)
-most dpi (inr e) = let P : ℕ → Type 0 = λ d. 3600 / d ≤ 255 in subst P (sym e) (omega arith)
 
 -- a page of the greatest height is 22 inches long
 longest : (dpi n : ℕ) → (dpi ≡ 360) ⊎ (dpi ≡ 720) → n ≤ 15840 * dpi / 720 → n * (720 / dpi) ≤ 15840
@@ -44,24 +47,25 @@ longest dpi n (inr e) h =
 pub row_place : (p : Printer) (n : ℕ) → CanPrint p → n * 3600 / p.vdpi ≡ n * row_step p
 row_place p n c = places p.vdpi n c.down
 
+-- columns and rows stand whole steps apart
 pub column_place : (p : Printer) (n : ℕ) → CanPrint p → n * 3600 / p.hdpi ≡ n * column_step p
 column_place p n c = places p.hdpi n c.across
 
+-- steps and units are 1 at least
 pub row_step-some : (p : Printer) → CanPrint p → 1 ≤ row_step p
 row_step-some p c = steps p.vdpi c.down
 
 pub column_step-some : (p : Printer) → CanPrint p → 1 ≤ column_step p
 column_step-some p c = steps p.hdpi c.across
 
-pub column_step-most : (p : Printer) → CanPrint p → column_step p ≤ 255
-column_step-most p c = most p.hdpi c.across
-
+-- units and steps of a row
 pub row_units-is : (p : Printer) → CanPrint p → row_units p * 5 ≡ row_step p
 row_units-is p c = units p.vdpi c.down
 
 pub row_units-some : (p : Printer) → CanPrint p → 1 ≤ row_units p
 row_units-some p c = omega (arith, row_units-is p c, row_step-some p c)
 
+-- from one nozzle to the next are as many rows as the pitch
 pub nozzle_step-is : (p : Printer) → CanPrint p → nozzle_step p ≡ p.pitch * row_step p
 nozzle_step-is p c = row_place p p.pitch c
 
@@ -70,6 +74,7 @@ nozzle_step-some p c =
     let product : 1 * row_step p ≤ p.pitch * row_step p = mul-le-mul_right (row_step p) c.some_pitch in
     omega (arith, nozzle_step-is p c, row_step-some p c)
 
+-- a page of the greatest height is 22 inches long
 pub sheet-longest : (p : Printer) (n : ℕ) → CanPrint p → n ≤ 15840 * p.vdpi / 720 → n * row_units p ≤ 15840
 sheet-longest p n c h = longest p.vdpi n c.down h
 
@@ -108,3 +113,23 @@ pub step-fits : (p : Printer) (h : Halftone) (above tall last row : ℕ) → Siz
 step-fits p h above tall last row size room low =
     let on_sheet : (row - last) * row_units p ≤ tall * row_units p = mul-le-mul_right (row_units p) (omega (arith, room, size.low)) in
     omega (arith, on_sheet, size.short)
+
+-- the window of a page that the printer takes has a size that can be printed
+pub form-sized : (p : Printer) (h : Halftone) (form : PageForm) → CanPrint p → IsWanted (wanted_by p) form
+    → h.width ≡ (window_of form p).width → h.height ≡ (window_of form p).height → Sized p h form.height
+form-sized p h form can is width height = record {
+  some_width = omega (arith, width, is.least_width);
+  most_width = omega (arith, width, is.most_width);
+  some_height = omega (arith, height, is.least_height);
+  low = omega (arith, height, is.least_height);
+  short = sheet-longest p form.height can is.most_height;
+}
+
+-- the first nozzle stands above the window's end in each pass
+pub pass-low : (n pitch height t : ℕ) → 1 ≤ n → t < pass_count n pitch height → t * n < (n - 1) * pitch + height
+pass-low n pitch height t some less =
+    let all : ℕ = height + (n - 1) * pitch + (n - 1) in
+    let product : (t + 1) * n ≤ all / n * n = mul-le-mul_right n (omega arith) in
+    let most : all / n * n ≤ all = div-mul-le_self all n in
+    let expanded : (t + 1) * n ≡ t * n + n = omega arith in
+    omega (arith, product, most, expanded)

@@ -1,9 +1,9 @@
 -- The dots that a page wants are distinct.
-use Rattle.std.proofs.Common.{◌≡◌, ℕ, zero, suc, ◌+◌, ◌*◌, ◌/◌, ◌<◌, ◌≤◌, Bool, true, false, cond, ◌&&◌, ◌||◌, ◌==◌, if◌then◌else◌, List, [], ◌∷◌, ◌++◌, refl, sym, ◌∙◌, ap, arith, subst, append_assoc}
+use Rattle.std.proofs.Common.{◌≡◌, ℕ, zero, suc, ◌+◌, ◌*◌, ◌/◌, ◌<◌, ◌≤◌, Bool, true, false, cond, ◌&&◌, ◌==◌, if◌then◌else◌, List, [], ◌∷◌, ◌++◌, refl, sym, ◌∙◌, ap, arith, subst, append_assoc}
 use Rattle.std.proofs.lemmas.Bool.{eqb-true}
 use Rattle.std.proofs.lemmas.Bool.Decides.{nat_tests}
 use Rattle.std.proofs.lemmas.List.Sums.{sum_by-cons}
-use Rattle.std.specs.List.{list_any, count_by, flat_map, sum_by}
+use Rattle.std.specs.List.{list_any, count_by, sum_by}
 use Rattle.printer_definitions.specs.declared.inks.Ink.{Ink}
 use Rattle.printer_definitions.specs.declared.inks.Ink.TheVariants.{Black, Cyan, Magenta, Yellow}
 use Rattle.printer_definitions.specs.declared.inks.InkSet.{InkSet}
@@ -20,6 +20,7 @@ use Rattle.weave_definitions.specs.Weave.{count_from}
 
 -- ---- one number among rising ones
 
+-- a number below the next place is none of the places to come
 past-all : (place : ℕ → ℕ) → ((a b : ℕ) → a < b → place a < place b) → (z n m : ℕ) → z < place n
     → sum_by (λ i. cond (z == place i) 1 0) (count_from n m) ≡ 0
 past-all place up z n zero left = refl
@@ -30,6 +31,7 @@ past-all place up z n (suc m) left =
     ∙ ap (λ b. cond b 1 0 + sum_by (λ i. cond (z == place i) 1 0) (count_from (n + 1) m)) apart
     ∙ ap (λ k. 0 + k) (past-all place up z (n + 1) m (omega arith))
 
+-- a number is one of rising places at most
 at-most-one : (place : ℕ → ℕ) → ((a b : ℕ) → a < b → place a < place b) → (z n m : ℕ)
     → sum_by (λ i. cond (z == place i) 1 0) (count_from n m) ≤ 1
 at-most-one place up z n zero = omega arith
@@ -59,6 +61,7 @@ part-most true false true = record { first = omega arith; second = omega arith; 
 part-most true false false = record { first = omega arith; second = omega arith; third = omega arith }
 part-most false b d = record { first = omega arith; second = omega arith; third = omega arith }
 
+-- a pixel has one dot at most, at its place
 pixel-most : (p : Printer) (h : Halftone) (d : Dot) (ink : Ink) (y x : ℕ) → count_by (is_at d) (pixel_dots p h ink y x) ≤ cond (is_at d (place_of p ink y x)) 1 0
 pixel-most p h d ink y x = by_dot (h.dot ink y x)
   where
@@ -66,6 +69,7 @@ pixel-most p h d ink y x = by_dot (h.dot ink y x)
     by_dot true = omega (arith, count-cons (is_at d) (place_of p ink y x) [])
     by_dot false = omega arith
 
+-- a row has a dot once
 row-once : (p : Printer) (h : Halftone) (d : Dot) (ink : Ink) (y : ℕ) → CanPrint p → count_by (is_at d) (row_wanted p h ink y) ≤ 1
 row-once p h d ink y c =
     let place : ℕ → ℕ = λ x. x * 3600 / p.hdpi in
@@ -78,6 +82,7 @@ row-once p h d ink y c =
     let q = part-most (same_ink d.ink ink) (d.x == place x) (d.y == (p.top + y) * 3600 / p.vdpi) in omega (arith, e, q.second)) in
     omega (arith, sum, at-most-one place up d.x 0 h.width)
 
+-- a row has its dots in its place alone
 row-of : (p : Printer) (h : Halftone) (d : Dot) (ink : Ink) (y : ℕ) → CanPrint p
     → count_by (is_at d) (row_wanted p h ink y) ≤ cond (d.y == (p.top + y) * 3600 / p.vdpi) 1 0
 row-of p h d ink y c = by_row (d.y == (p.top + y) * 3600 / p.vdpi) refl
@@ -94,6 +99,7 @@ row-of p h d ink y c = by_row (d.y == (p.top + y) * 3600 / p.vdpi) refl
         omega (arith, f, q, off)) in
         omega (arith, none)
 
+-- an ink has a dot once
 ink-once : (p : Printer) (h : Halftone) (d : Dot) (ink : Ink) → CanPrint p → count_by (is_at d) (ink_wanted p h ink) ≤ 1
 ink-once p h d ink c =
     let place : ℕ → ℕ = λ y. (p.top + y) * 3600 / p.vdpi in
@@ -104,6 +110,7 @@ ink-once p h d ink c =
     flat-most (is_at d) (row_wanted p h ink) (λ y. cond (d.y == place y) 1 0) (count_from 0 h.height) (λ y. row-of p h d ink y c) in
     omega (arith, sum, at-most-one place up d.y 0 h.height)
 
+-- an ink has its own dots alone
 ink-of : (p : Printer) (h : Halftone) (d : Dot) (ink : Ink) → CanPrint p → count_by (is_at d) (ink_wanted p h ink) ≤ cond (same_ink d.ink ink) 1 0
 ink-of p h d ink c = by_same (same_ink d.ink ink) refl
   where
@@ -139,6 +146,7 @@ set-most Cmyk Yellow = omega arith
 abbrev pub Once : List Dot → Type 0
 Once dots = (d : Dot) → count_by (is_at d) dots ≤ 1
 
+-- the dots of a halftone are distinct
 pub wanted-once : (p : Printer) (h : Halftone) → CanPrint p → Once (dots_wanted p h)
 wanted-once p h c d =
     let sum : count_by (is_at d) (dots_wanted p h) ≤ sum_by (λ ink. cond (same_ink d.ink ink) 1 0) (inks_of p.inks) =
@@ -159,9 +167,11 @@ exactly-once dots places is d = by_any (list_any (is_at d) places) (is.counts d)
 
 -- ---- dots among others
 
+-- dots that stand once in a list stand once in a prefix of it
 pub once-front : (a b more : List Dot) → Once (a ++ (b ++ more)) → Once (a ++ b)
 once-front a b more once d =
     omega (arith, once d, count-append (is_at d) a (b ++ more), count-append (is_at d) b more, count-append (is_at d) a b)
 
+-- the same list, grouped in another way
 pub once-regroup : (a b more : List Dot) → Once (a ++ (b ++ more)) → Once ((a ++ b) ++ more)
 once-regroup a b more once = let P : List Dot → Type 0 = λ ds. Once ds in subst P (sym (append_assoc a b more)) once

@@ -8,6 +8,7 @@ use Rattle.escp2_definitions.specs.Packed.{at, packed, packed_bytes, worth}
 abbrev worths : Bool → Bool → Bool → Bool → Bool → Bool → Bool → Bool → ℕ
 worths a b d e f g h i = worth a 128 + worth b 64 + worth d 32 + worth e 16 + worth f 8 + worth g 4 + worth h 2 + worth i 1
 
+-- whether two rows are equal
 same_bits : List Bool → List Bool → Bool
 same_bits [] [] = true
 same_bits [] (y ∷ ys) = false
@@ -18,6 +19,7 @@ same_bits (true ∷ xs) (false ∷ ys) = false
 same_bits (false ∷ xs) (true ∷ ys) = false
 same_bits (false ∷ xs) (false ∷ ys) = same_bits xs ys
 
+-- rows that are told equal are equal
 same_bits-is : (xs ys : List Bool) → same_bits xs ys ≡ true → xs ≡ ys
 unfolding same_bits
 same_bits-is [] [] e = refl
@@ -33,6 +35,7 @@ same_bits-is (false ∷ xs) (false ∷ ys) e = ap (λ zs. false ∷ zs) (same_bi
 abbrev both : (Bool → Bool) → Bool
 both test = test true && test false
 
+-- a test that both truth values pass
 both-at : (test : Bool → Bool) → both test ≡ true → (b : Bool) → test b ≡ true
 both-at test e true = first (test true) (test false) e
   where
@@ -46,13 +49,16 @@ both-at test e false = second (test true) (test false) e
     second false true e = refl
     second false false e = e
 
+-- whether the bits of a packed byte are taken out again
 test_byte : Bool → Bool → Bool → Bool → Bool → Bool → Bool → Bool → Bool
 test_byte a b d e f g h i = same_bits (byte_bits (worths a b d e f g h i)) (a ∷ b ∷ d ∷ e ∷ f ∷ g ∷ h ∷ i ∷ [])
 
+-- those of each byte are
 all_bytes : both (λ a. both (λ b. both (λ d. both (λ e. both (λ f. both (λ g. both (λ h. both (λ i. test_byte a b d e f g h i)))))))) ≡ true
 unfolding test_byte same_bits
 all_bytes = refl
 
+-- the bits of a packed byte
 pub byte_bits-worths : (a b d e f g h i : Bool) → byte_bits (worths a b d e f g h i) ≡ a ∷ b ∷ d ∷ e ∷ f ∷ g ∷ h ∷ i ∷ []
 unfolding test_byte
 byte_bits-worths a b d e f g h i =
@@ -87,6 +93,7 @@ bits-packed_bytes (suc n) (a ∷ b ∷ d ∷ e ∷ f ∷ g ∷ h ∷ i ∷ row) 
     front n (a ∷ b ∷ d ∷ e ∷ f ∷ g ∷ h ∷ i ∷ row)
     ∙ ap (λ rest. a ∷ b ∷ d ∷ e ∷ f ∷ g ∷ h ∷ i ∷ rest) (bits-packed_bytes n row (omega arith))
 
+-- the bytes of a packed row
 pub packed_bytes-len : (n : ℕ) (row : List Bool) → length (packed_bytes n row) ≡ n
 packed_bytes-len zero row = refl
 packed_bytes-len (suc n) row = ap suc (packed_bytes-len n (drop 8 row))

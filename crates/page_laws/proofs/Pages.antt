@@ -1,5 +1,5 @@
 -- What the machine makes of the strokes of a page.
-use Rattle.std.proofs.Common.{◌≡◌, ℕ, ◌+◌, ◌-◌, ◌*◌, ◌<◌, ◌≤◌, Bool, true, false, ◌||◌, if◌then◌else◌, cond, List, [], ◌∷◌, ◌++◌, suc, refl, sym, ◌∙◌, ap, arith, subst, append_assoc, filter, flat_map}
+use Rattle.std.proofs.Common.{◌≡◌, ℕ, ◌+◌, ◌-◌, ◌*◌, ◌<◌, ◌≤◌, Bool, true, false, ◌||◌, cond, List, [], ◌∷◌, ◌++◌, suc, refl, sym, ◌∙◌, ap, arith, subst, append_assoc, filter, flat_map}
 use Rattle.std.specs.List.{list_any, AllByRecursion}
 use Rattle.std.specs.Prelude.{slice_index_or}
 use Rattle.printer_definitions.specs.declared.inks.Ink.{Ink}
@@ -11,8 +11,9 @@ use Rattle.escp2_definitions.specs.Machine.{Dot, Machine, Sheet, execute_from, g
 use Rattle.page_definitions.specs.Strokes.{IsOnWindow, IsRising, IsWhole, Spoken, Stroke, down_by, fires, has_dot, rows_fired, say, stroke_fired, strokes_commands}
 use Rattle.page_laws.proofs.Once.{Once, once-front, once-regroup}
 use Rattle.page_laws.proofs.Fired.{blank-rows, or-false}
-use Rattle.page_laws.proofs.Running.{Comes, Goes, IsLayout, Layout, begins, comes-then, down-run, entries, goes-as, goes-here, goes-then, one, one-runs, paused, prologue-run}
-use Rattle.page_laws.proofs.Firing.{Lies, fires_ink, ink_fired, inks-run}
+use Rattle.page_laws.proofs.Running.{Comes, Goes, IsLayout, Layout, begins, comes-then, entries, goes-as, goes-here, goes-then, one, one-runs, paused}
+use Rattle.page_laws.proofs.Prologue.{down-run, prologue-run}
+use Rattle.page_laws.proofs.Firing.{Lies, fires_ink, inks-run}
 
 -- ---- the strokes that have a dot
 

@@ -1,5 +1,5 @@
 -- The dots of an ink are those of its plane in a table of dots.
-use Rattle.std.proofs.Common.{◌≡◌, ℕ, zero, suc, ◌+◌, ◌<◌, Bool, true, false, cond, ◌||◌, List, [], ◌∷◌, Some, refl, sym, ◌∙◌, ap, arith}
+use Rattle.std.proofs.Common.{◌≡◌, ℕ, zero, suc, Bool, true, false, cond, List, [], ◌∷◌, Some, refl, sym, ◌∙◌, ap, arith}
 use Rattle.std.specs.Prelude.{slice_get}
 use Rattle.std.specs.List.{count_by, list_any, sum_by}
 use Rattle.std.proofs.lemmas.List.Sums.{sum_by-cons}
@@ -15,7 +15,7 @@ use Rattle.weave_definitions.specs.Weave.{count_from}
 use Rattle.std.proofs.lemmas.Bool.{eq-eqb}
 use Rattle.page_laws.proofs.Counts.{each-from, each-of, sum-none, sum-same}
 use Rattle.page_laws.proofs.Fired.{or-false}
-use Rattle.page_laws.proofs.Hits.{total, wanted-total}
+use Rattle.page_laws.proofs.Totals.{total, wanted-total}
 
 -- a sum over a set, of which one ink counts
 only : (set : InkSet) (i : ℕ) (ink : Ink) (f : Ink → ℕ) → slice_get (inks_of set) i ≡ Some ink → ((other : Ink) → same_ink ink other ≡ false → f other ≡ 0)

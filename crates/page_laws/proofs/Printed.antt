@@ -1,27 +1,28 @@
 -- The bytes of strokes print them on one sheet.
-use Rattle.std.proofs.Common.{◌≡◌, ℕ, ◌+◌, ◌*◌, ◌≤◌, List, [], ◌∷◌, ◌++◌, map, None, refl, sym, ◌∙◌, ap, arith, subst, append-nil, append_assoc, filter}
+use Rattle.std.proofs.Common.{◌≡◌, ℕ, ◌*◌, List, [], ◌∷◌, ◌++◌, map, None, refl, sym, ◌∙◌, ap, subst, append-nil, append_assoc, filter}
 use Rattle.std.specs.List.{AllByRecursion}
 use Rattle.printer_definitions.specs.Printer.{Printer, row_units}
 use Rattle.escp2_definitions.specs.Commands.{CommandList, commands}
 use Rattle.escp2_definitions.specs.Commands.ListEnd.{Whole}
-use Rattle.escp2_definitions.specs.Machine.{Dot, Machine, Printed, Sheet, execute_from, start, with_sheets}
+use Rattle.escp2_definitions.specs.Machine.{Dot, Printed, Sheet, execute_from}
 use Rattle.escp2_definitions.specs.Written.{Coding, IsCoding, written}
 use Rattle.escp2_laws.specs.Said.{AllSaid, said_bytes}
 use Rattle.escp2_laws.proofs.Jobs.{commands-said}
 use Rattle.separation_definitions.specs.CanPrint.{CanPrint}
 use Rattle.page_definitions.specs.Dots.{Halftone, dots_wanted}
 use Rattle.page_definitions.specs.Exact.{Exactly}
-use Rattle.page_definitions.specs.Printing.{GivesSheet, IsOneSheet}
+use Rattle.page_definitions.specs.Printing.{GivesSheet}
 use Rattle.page_definitions.specs.Strokes.{Fires, Spoken, Strokes, bytes_of, fires, page_commands, strokes_bytes}
 use Rattle.page_laws.specs.Sized.{Sized}
 use Rattle.page_laws.proofs.Once.{exactly-once}
 use Rattle.page_laws.proofs.Running.{IsLayout, Layout, entries, said}
 use Rattle.page_laws.proofs.Firing.{Lies}
-use Rattle.page_laws.proofs.Pages.{all-lie, page-run, page_says}
+use Rattle.page_laws.proofs.Pages.{all-lie, page-run}
 use Rattle.page_laws.proofs.Spelled.{AllSayable, AllSpoken, page-sayable, sayable-spoken}
 
 -- ---- the page of a halftone
 
+-- a halftone on a sheet
 abbrev pub layout_of : Printer → Halftone → Coding → ℕ → ℕ → Layout
 layout_of p h coding above tall = record { printer = p; coding = coding; above = above; halftone = h; tall = tall }
 
@@ -45,10 +46,12 @@ commands-spoken p h coding tall strokes can is_coding size fire =
 
 -- ---- the bytes are read as the commands
 
+-- spelled commands, as a job
 spoken-said : (coding : Coding) (job : List Spoken) → AllSpoken coding job → AllSaid (map (said coding.code) job)
 spoken-said coding [] all = tt
 spoken-said coding (s ∷ job) all = (all.0, spoken-said coding job all.1)
 
+-- the bytes of a job are those of its commands
 said_bytes-is : (code : List ℕ → List ℕ) (job : List Spoken) → bytes_of code job ≡ said_bytes (map (said code) job)
 said_bytes-is code [] = refl
 said_bytes-is code (s ∷ job) = ap (λ bs. written code s.command s.rows ++ bs) (said_bytes-is code job)

@@ -1,6 +1,6 @@
 -- How many rasters of an ink the strokes of a page take.
-use Rattle.std.proofs.Common.{◌≡◌, ℕ, zero, suc, ◌+◌, ◌-◌, ◌*◌, ◌≤◌, Bool, true, false, cond, if◌then◌else◌, List, [], ◌∷◌, ◌++◌, length, map, refl, sym, ◌∙◌, ap, arith, append_assoc, filter, flat_map}
-use Rattle.std.specs.List.{AllByRecursion, count_by, sum_by}
+use Rattle.std.proofs.Common.{◌≡◌, ℕ, zero, suc, ◌+◌, ◌-◌, ◌*◌, ◌≤◌, Bool, true, false, cond, if◌then◌else◌, List, [], ◌∷◌, ◌++◌, length, refl, ◌∙◌, ap, arith, append_assoc, filter, flat_map}
+use Rattle.std.specs.List.{count_by, sum_by}
 use Rattle.std.proofs.lemmas.List.{length-map}
 use Rattle.std.proofs.lemmas.List.Sums.{count_by-le-length, sum_by-cons}
 use Rattle.printer_definitions.specs.declared.inks.Ink.{Ink}
@@ -8,7 +8,7 @@ use Rattle.printer_definitions.specs.declared.inks.Ink.TheVariants.{Black, Cyan,
 use Rattle.printer_definitions.specs.declared.inks.InkSet.{InkSet}
 use Rattle.printer_definitions.specs.declared.inks.InkSet.TheVariants.{K, Cmy, Cmyk}
 use Rattle.printer_definitions.specs.Inks.{inks_of, same_ink}
-use Rattle.printer_definitions.specs.Printer.{Printer, head_rows, row_units}
+use Rattle.printer_definitions.specs.Printer.{Printer, row_units}
 use Rattle.diffusion_definitions.specs.Diffusion.{Table}
 use Rattle.escp2_definitions.specs.declared.command.Command.TheVariants as c
 use Rattle.escp2_definitions.specs.Commands.{CommandList, commands}
@@ -24,13 +24,14 @@ use Rattle.page_definitions.specs.Strokes.{Fires, Spoken, Stroke, Strokes, down_
 use Rattle.weave_definitions.specs.Weave.{count_from, pass_count}
 use Rattle.page_laws.specs.Sized.{Sized}
 use Rattle.page_laws.proofs.Counts.{count-cons}
-use Rattle.page_laws.proofs.Running.{Layout, begins, entries}
+use Rattle.page_laws.proofs.Running.{Layout, entries}
 use Rattle.escp2_definitions.specs.Packed.{packed}
 use Rattle.page_laws.proofs.Firing.{fires_ink, head_of}
 use Rattle.page_laws.proofs.Pages.{fires_strokes, page_says}
 use Rattle.page_laws.proofs.Printed.{commands-spoken, layout_of, read}
 use Rattle.page_laws.proofs.Headline.{canonical-coding, page-sized}
-use Rattle.page_laws.proofs.Weaving.{count_from-len, weave-fires}
+use Rattle.page_laws.proofs.Passes.{count_from-len}
+use Rattle.page_laws.proofs.Weaving.{weave-fires}
 
 -- ---- the rasters of commands
 
@@ -46,6 +47,7 @@ entries-rasters ink colour code at (s ∷ job) =
     ap (λ n. (if same_ink ink colour then raster_count s.command else 0) + n)
     (entries-rasters ink (colour_after colour s.command) code (at + length (written code s.command s.rows)) job)
 
+-- no raster, whatever the colour
 none : (b : Bool) → record { is : (if b then 0 else 0) ≡ 0 + 0 }
 none true = record { is = omega arith }
 none false = record { is = omega arith }
@@ -161,10 +163,15 @@ page-has p k page can is = record {
       let h : Halftone = halftone page p k in
       let passes : ℕ = pass_count p.nozzles p.pitch h.height in
       let many : length (weave p h).list ≡ passes = length-map (count_from 0 passes) (pass_stroke p h) ∙ count_from-len 0 passes in
-      omega (arith, strokes-have p h page_coding (weave p h) page.form.height can canonical-coding (page-sized p k page can is) (weave-fires p h can) ink,
-          count_by-le-length (fires_with ink) (weave p h).list, many);
+      omega (
+        arith,
+        strokes-have p h page_coding (weave p h) page.form.height can canonical-coding (page-sized p k page can is) (weave-fires p h can) ink,
+        count_by-le-length (fires_with ink) (weave p h).list,
+        many,
+      );
 }
 
+-- so for each of the pages
 pub pages-have : (p : Printer) (k : Table) (pages : List Page) → CanPrint p → ArePages p pages → HavePasses p k pages
 pages-have p k [] can are = tt
 pages-have p k (page ∷ pages) can are = (page-has p k page can are.0, pages-have p k pages can are.1)

@@ -1,5 +1,5 @@
 -- The commands of a page are in the command table, so that what is written of them spells them.
-use Rattle.std.proofs.Common.{◌≡◌, ℕ, zero, suc, ◌+◌, ◌-◌, ◌*◌, ◌/◌, ◌<◌, ◌≤◌, ◌⊎◌, inl, inr, Bool, true, false, ◌&&◌, nat_le, if◌then◌else◌, List, [], ◌∷◌, ◌++◌, length, refl, sym, ◌∙◌, ap, arith, length-append, filter, flat_map}
+use Rattle.std.proofs.Common.{◌≡◌, ℕ, zero, suc, ◌+◌, ◌-◌, ◌*◌, ◌/◌, ◌≤◌, inl, inr, Bool, true, false, ◌&&◌, nat_le, if◌then◌else◌, List, [], ◌∷◌, ◌++◌, length, refl, ◌∙◌, ap, arith, length-append, filter, flat_map}
 use Rattle.std.specs.List.{AllByRecursion}
 use Rattle.std.proofs.lemmas.Bool.{and_from, le-leb}
 use Rattle.printer_definitions.specs.declared.inks.Ink.{Ink}
@@ -26,22 +26,27 @@ pub record IsSayable (coding : Coding) (s : Spoken) : Type 0 where
   pub rows_fit : length s.rows ≡ rows_len s.command
   pub coded : HasCoding coding s.command
 
+-- a job of such commands
 abbrev pub AllSayable : Coding → List Spoken → Type 0
 AllSayable coding job = AllByRecursion (IsSayable coding) job
 
+-- two jobs, one after the other
 pub sayable-append : (coding : Coding) (xs ys : List Spoken) → AllSayable coding xs → AllSayable coding ys → AllSayable coding (xs ++ ys)
 sayable-append coding [] ys p q = q
 sayable-append coding (x ∷ xs) ys p q = (p.0, sayable-append coding xs ys p.1 q)
 
 -- ---- the commands of a page
 
+-- a number in a range
 between : (low high n : ℕ) → low ≤ n → n ≤ high → is_between low high n ≡ true
 between low high n p q = and_from _ _ (le-leb low n p) (le-leb n high q)
 
+-- a step down
 down-sayable : (coding : Coding) (n : ℕ) → n ≤ 32767 → AllSayable coding (down_by n)
 down-sayable coding zero low = tt
 down-sayable coding (suc n) low = (record { in_range = le-leb (suc n) 32767 low; rows_fit = refl; coded = tt }, tt)
 
+-- the prologue
 prologue-sayable : (w : Layout) → IsLayout w → AllSayable w.coding (begins w)
 prologue-sayable w is =
     let length_fits = length-fits w.printer w.halftone w.tall is.can is.size in
@@ -84,6 +89,7 @@ coding-says : (coding : Coding) → IsCoding coding → nat_le coding.c 1 ≡ tr
 coding-says coding (inl e) = le-leb coding.c 1 (omega (arith, e))
 coding-says coding (inr e) = le-leb coding.c 1 (omega (arith, e.0))
 
+-- an ink of a stroke
 ink-sayable : (w : Layout) (stroke : Stroke) (ink : Ink) → IsLayout w → Lies w stroke → AllSayable w.coding (fires_ink w stroke ink)
 ink-sayable w stroke ink is lies = by_dot (has_dot (stroke.rows ink))
   where
@@ -107,11 +113,13 @@ ink-sayable w stroke ink is lies = by_dot (has_dot (stroke.rows ink))
           ),
         )
 
+-- the inks of a stroke
 inks-sayable : (w : Layout) (stroke : Stroke) (inks : List Ink) → IsLayout w → Lies w stroke → AllSayable w.coding (flat_map (fires_ink w stroke) inks)
 inks-sayable w stroke [] is lies = tt
 inks-sayable w stroke (ink ∷ inks) is lies =
     sayable-append w.coding (fires_ink w stroke ink) _ (ink-sayable w stroke ink is lies) (inks-sayable w stroke inks is lies)
 
+-- strokes
 strokes-sayable : (w : Layout) (strokes : List Stroke) (last : ℕ) → IsLayout w → AllByRecursion (Lies w) strokes → AllSayable w.coding (fires_strokes w last strokes)
 strokes-sayable w [] last is lie = tt
 strokes-sayable w (stroke ∷ strokes) last is lie =
@@ -133,6 +141,7 @@ page-sayable w strokes is lie =
 abbrev pub AllSpoken : Coding → List Spoken → Type 0
 AllSpoken coding job = AllByRecursion (λ s. Spells s.command s.rows (written coding.code s.command s.rows)) job
 
+-- two jobs, one after the other
 pub spoken-append : (coding : Coding) (xs ys : List Spoken) → AllSpoken coding xs → AllSpoken coding ys → AllSpoken coding (xs ++ ys)
 spoken-append coding [] ys p q = q
 spoken-append coding (x ∷ xs) ys p q = (p.0, spoken-append coding xs ys p.1 q)

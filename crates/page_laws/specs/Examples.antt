@@ -50,7 +50,13 @@ small_page = record {
   lines = (0xD1 ∷ 0xD1 ∷ 0xD1 ∷ 0xD1 ∷ []) ∷ (0x9F ∷ 0x9F ∷ 0x9F ∷ 0xA3 ∷ []) ∷ [];
 }
 
--- a page that is all black
+-- a page that is all white, and one that is all black
+abbrev pub white_page : Page
+white_page = record {
+  form = grey 4 2;
+  lines = (0xFF ∷ 0xFF ∷ 0xFF ∷ 0xFF ∷ []) ∷ (0xFF ∷ 0xFF ∷ 0xFF ∷ 0xFF ∷ []) ∷ [];
+}
+
 abbrev pub black_page : Page
 black_page = record {
   form = grey 4 2;
@@ -108,6 +114,10 @@ end_bytes = 0x0C ∷ 0x1B ∷ 0x40 ∷ []
 -- the small page for one nozzle: its second row alone has dots
 abbrev pub small_page_bytes : List ℕ
 small_page_bytes = prologue_bytes 0x04 0x00 0x04 ++ down_bytes 0x02 ++ raster_bytes 0x00 0x0A 0x0A 0x01 0x04 (0x00 ∷ 0x50 ∷ []) ++ end_bytes
+
+-- the white page: no stroke
+abbrev pub white_page_bytes : List ℕ
+white_page_bytes = prologue_bytes 0x04 0x00 0x04 ++ end_bytes
 
 -- the black page inside its margins: three dots of one row
 abbrev pub black_page_bytes : List ℕ

@@ -1,6 +1,7 @@
 -- Worked strokes for a head of three nozzles two rows apart, over two black rows of eight columns.
 use Rattle.std.specs.Prelude.{ℕ, ◌*◌, Bool, true, false, List, [], ◌∷◌, ◌++◌, map}
 use Rattle.escp2_definitions.specs.Machine.{Dot}
+use Rattle.page_definitions.specs.Dots.{Halftone}
 use Rattle.page_definitions.specs.Strokes.{Stroke, Strokes}
 use Rattle.page_laws.specs.Examples.{black_dot, down_bytes, end_bytes, prologue_bytes, raster_bytes}
 
@@ -17,6 +18,10 @@ even = true ∷ false ∷ true ∷ false ∷ true ∷ false ∷ true ∷ false �
 
 abbrev pub odd : List Bool
 odd = false ∷ true ∷ false ∷ true ∷ false ∷ true ∷ false ∷ true ∷ []
+
+-- a window that is all dots
+abbrev pub two_black_rows : Halftone
+two_black_rows = record { width = 8; height = 2; dot = λ ink y x. true }
 
 -- a stroke that fires these rows with each ink
 abbrev pub stroke : ℕ → List (List Bool) → Stroke

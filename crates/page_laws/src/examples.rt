@@ -7,7 +7,7 @@ ghost use Rattle.escp2_definitions.specs.Rasters.{ink_rasters};
 ghost use Rattle.escp2_laws.specs.Examples.{listing, three_nozzles};
 ghost use Rattle.page_definitions.specs.Dots.{wanted};
 ghost use Rattle.page_definitions.specs.PageBytes.{page_bytes};
-ghost use Rattle.page_laws.specs.Examples.{amounts_of, amounts_of_128, black_column, black_column_bytes, black_dot, black_line, black_page, black_page_bytes, black_pixel_bytes, fine_across, fine_across_bytes, fine_down, fine_down_bytes, fires_row, grey, pixel, red_pixel_bytes, six_rows, small_page, small_page_bytes, with_black_start, with_inks, with_limits, with_margins};
+ghost use Rattle.page_laws.specs.Examples.{amounts_of, amounts_of_128, black_column, black_column_bytes, black_dot, black_line, black_page, black_page_bytes, black_pixel_bytes, fine_across, fine_across_bytes, fine_down, fine_down_bytes, fires_row, grey, pixel, red_pixel_bytes, six_rows, small_page, small_page_bytes, white_page, white_page_bytes, with_black_start, with_inks, with_limits, with_margins};
 ghost use Rattle.printer_definitions.specs.Printer.{tiny1};
 ghost use Rattle.printer_definitions.specs.declared.inks.Ink.TheVariants.{Black, Cyan, Magenta, Yellow};
 ghost use Rattle.printer_definitions.specs.declared.inks.InkSet.TheVariants.{Cmy, Cmyk, K};
@@ -37,6 +37,13 @@ pub fn small_page_is_printed()
     } }
 {}
 
+/// A page without dots takes 49 bytes.
+#[tactic(auto, unfolding(page_definitions::specs::PageBytes::page_bytes, page_definitions::specs::PageBytes::halftone_bytes, diffusion_definitions::specs::Diffusion::value, diffusion_definitions::specs::Diffusion::row_errors, diffusion_definitions::specs::Diffusion::errors))]
+pub fn white_page_takes_no_stroke()
+    ensures len { length white_page_bytes ≡ 49 }
+    ensures bytes { page_bytes white_page tiny1 floyd ≡ white_page_bytes }
+{}
+
 /// A black page with margins: its window, and the bytes of its job.
 #[tactic(auto, unfolding(page_definitions::specs::PageBytes::page_bytes, page_definitions::specs::PageBytes::halftone_bytes, escp2_definitions::specs::Canonical::canonical_row, escp2_definitions::specs::Canonical::packets_from, escp2_definitions::specs::Canonical::apart_at, escp2_definitions::specs::Canonical::equal_at, diffusion_definitions::specs::Diffusion::value, diffusion_definitions::specs::Diffusion::row_errors, diffusion_definitions::specs::Diffusion::errors))]
 pub fn black_page_with_margins()
@@ -56,7 +63,7 @@ pub fn one_nozzle_prints_three_rasters()
 /// Six black rows of eight columns, of which two are in the window of a head with three nozzles two rows apart: 92
 /// bytes, with two rasters.
 #[tactic(auto, unfolding(page_definitions::specs::PageBytes::page_bytes, page_definitions::specs::PageBytes::halftone_bytes, escp2_definitions::specs::Canonical::canonical_row, escp2_definitions::specs::Canonical::packets_from, escp2_definitions::specs::Canonical::apart_at, escp2_definitions::specs::Canonical::equal_at, diffusion_definitions::specs::Diffusion::value, diffusion_definitions::specs::Diffusion::row_errors, diffusion_definitions::specs::Diffusion::errors, escp2_definitions::specs::Commands::command_at, escp2_definitions::specs::Commands::commands_from, escp2_definitions::specs::RowCode::row_at, escp2_definitions::specs::RowCode::rows_at))]
-pub fn three_nozzles_print_ninety_two_bytes()
+pub fn tiny_prints_ninety_two_bytes()
     ensures bytes { page_bytes six_rows three_nozzles floyd ≡ listing }
     ensures rasters { ink_rasters Black (commands listing).entries ≡ 2 }
 {}

@@ -10,8 +10,8 @@ pub use examples::{
     black_page_with_margins, colours_have_their_amounts, grey_128_has_its_amounts,
     inks_go_in_the_order_of_their_set, one_nozzle_prints_three_rasters, pages_that_are_taken,
     resolutions_differ_across_and_down, small_page_has_its_bytes, small_page_is_printed,
-    small_page_wants_two_dots, three_nozzles_print_ninety_two_bytes, two_rows_are_fired,
-    window_inside_margins,
+    small_page_wants_two_dots, tiny_prints_ninety_two_bytes, two_rows_are_fired,
+    white_page_takes_no_stroke, window_inside_margins,
 };
 pub use laws::{
     counts_of_planes, page_is_short, pages_are_printed, pages_have_passes, rows_are_coded,
@@ -20,5 +20,5 @@ pub use laws::{
 };
 pub use shingles::{
     made_up_rows_are_printed, rows_of_a_dead_nozzle_are_made_up, shingled_rows_are_printed,
-    shingled_rows_fire_even_and_odd_columns,
+    shingled_rows_fire_even_and_odd_columns, worked_strokes_fire,
 };

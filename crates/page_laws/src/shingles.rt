@@ -3,9 +3,15 @@ ghost use Rattle.escp2_definitions.specs.Commands.{commands};
 ghost use Rattle.escp2_definitions.specs.Machine.{execute};
 ghost use Rattle.escp2_definitions.specs.Written.{canonical};
 ghost use Rattle.escp2_laws.specs.Examples.{three_nozzles};
-ghost use Rattle.page_definitions.specs.Strokes.{fired, strokes_bytes};
-ghost use Rattle.page_laws.specs.Shingles.{made_up, made_up_bytes, made_up_dots, shingles, shingles_bytes, shingles_dots};
+ghost use Rattle.page_definitions.specs.Strokes.{Fires, fired, strokes_bytes};
+ghost use Rattle.page_laws.specs.Shingles.{made_up, made_up_bytes, made_up_dots, shingles, shingles_bytes, shingles_dots, two_black_rows};
 ghost use Rattle.std.specs.Prelude.{None, [], length, ◌∷◌, ◌≡◌};
+
+/// Rows that are fired twice, and rows that are made up for a nozzle that fires nothing, print their window.
+pub fn worked_strokes_fire()
+    ensures shingled_rows { Fires three_nozzles two_black_rows shingles }
+    ensures made_up_rows { Fires three_nozzles two_black_rows made_up }
+{}
 
 /// The bytes of rows that are fired twice, and the dots of their strokes.
 #[tactic(auto, unfolding(escp2_definitions::specs::Canonical::canonical_row, escp2_definitions::specs::Canonical::packets_from, escp2_definitions::specs::Canonical::apart_at, escp2_definitions::specs::Canonical::equal_at))]
