@@ -1,0 +1,88 @@
+-- How many of the first bits of a row are 1.
+use Rattle.std.proofs.Common.{◌≡◌, ℕ, zero, suc, ◌+◌, ◌-◌, ◌*◌, ◌/◌, ◌%◌, ◌^◌, ◌<◌, ◌≤◌, Bool, true, false, ◌&&◌, eqb, cond, List, [], ◌∷◌, ◌++◌, length, take, get_or, count_by, count_ones, sum_by, refl, sym, ◌∙◌, ap, arith, inl, inr}
+use Rattle.std.proofs.lemmas.Bool.{cases_lt, eqb-true}
+use Rattle.std.proofs.lemmas.List.{take-append-le, take_more}
+use Rattle.std.proofs.lemmas.List.Sums.{sum_by-append, sum_by-cons, sum_by_more}
+use Rattle.std.proofs.Math.Seq.{take-append-add}
+use lib.Count.{ones, ones_in}
+use Rattle.escp2_definitions.specs.Machine.{bits, byte_bits}
+
+abbrev pub on_count : List Bool → ℕ
+on_count row = count_by (λ on. on) row
+
+-- ---- one byte
+
+both-first : (x y : Bool) → x && y ≡ true → x ≡ true
+both-first true y e = refl
+both-first false y e = e
+
+both-second : (x y : Bool) → x && y ≡ true → y ≡ true
+both-second true y e = e
+both-second false true e = refl
+both-second false false e = e
+
+-- a test of all numbers below one
+all_below : (ℕ → Bool) → ℕ → Bool
+all_below test zero = true
+all_below test (suc n) = test n && all_below test n
+
+all_below-at : (test : ℕ → Bool) (n m : ℕ) → all_below test n ≡ true → m < n → test m ≡ true
+unfolding all_below
+all_below-at test zero m e below = absurd (omega arith)
+all_below-at test (suc n) m e below = elim (cases_lt m n) [
+  | inl less ↦ all_below-at test n m (both-second (test n) (all_below test n) e) less
+  | inr not_less ↦ let here : m ≡ n = omega arith in ap test here ∙ both-first (test n) (all_below test n) e
+]
+
+-- the first r bits of a byte are as many as the bits of what is left when the others are shifted out
+test_first : ℕ → ℕ → Bool
+test_first r byte = eqb (on_count (take r (byte_bits byte))) (count_ones (byte / 2 ^ (8 - r)))
+
+all_first : all_below (λ r. all_below (test_first r) 256) 9 ≡ true
+unfolding all_below test_first ones ones_in
+all_first = refl
+
+pub first_bits : (r byte : ℕ) → r ≤ 8 → byte < 256 → on_count (take r (byte_bits byte)) ≡ count_ones (byte / 2 ^ (8 - r))
+unfolding test_first
+first_bits r byte few low = eqb-true _ _ (all_below-at (test_first r) 256 byte (all_below-at (λ r. all_below (test_first r) 256) 9 r all_first (omega arith)) low)
+
+-- ---- a row
+
+abbrev pub AreBytes : List ℕ → Type 0
+AreBytes row = (k : ℕ) → get_or row k 0 < 256
+
+count-append : (xs ys : List Bool) → on_count (xs ++ ys) ≡ on_count xs + on_count ys
+count-append xs ys = sum_by-append (λ on. cond on 1 0) xs ys
+
+-- the first bits of a row: whole bytes, and the first bits of the next
+pub row_bits : (row : List ℕ) (w r : ℕ) → AreBytes row → w < length row → r ≤ 8
+    → on_count (take (8 * w + r) (bits row)) ≡ sum_by count_ones (take w row) + count_ones (get_or row w 0 / 2 ^ (8 - r))
+row_bits [] w r are in_row few = absurd (omega arith)
+row_bits (b ∷ row) zero r are in_row few =
+    let none : 8 * 0 + r ≡ r = omega arith in
+    ap (λ n. on_count (take n (byte_bits b ++ bits row))) none
+    ∙ ap on_count (take-append-le r (byte_bits b) (bits row) few)
+    ∙ first_bits r b few (are 0)
+    ∙ omega arith
+row_bits (b ∷ row) (suc w) r are in_row few =
+    let more : 8 * suc w + r ≡ 8 + (8 * w + r) = omega arith in
+    let rest : on_count (take (8 * w + r) (bits row)) ≡ sum_by count_ones (take w row) + count_ones (get_or row w 0 / 2 ^ (8 - r)) =
+    row_bits row w r (λ k. are (suc k)) (omega arith) few in
+    let this : on_count (byte_bits b) ≡ count_ones b = first_bits 8 b (omega arith) (are 0) ∙ ap count_ones (omega arith) in
+    let first : sum_by count_ones (take (suc w) (b ∷ row)) ≡ count_ones b + sum_by count_ones (take w row) = sum_by-cons count_ones b (take w row) in
+    ap (λ n. on_count (take n (byte_bits b ++ bits row))) more
+    ∙ ap on_count (take-append-add (byte_bits b) (bits row) (8 * w + r))
+    ∙ count-append (byte_bits b) (take (8 * w + r) (bits row))
+    ∙ omega (arith, rest, this, first)
+
+-- whole bytes alone
+pub whole_bits : (row : List ℕ) (w : ℕ) → AreBytes row → w ≤ length row → on_count (take (8 * w) (bits row)) ≡ sum_by count_ones (take w row)
+whole_bits row zero are in_row = refl
+whole_bits row (suc w) are in_row =
+    let last : 8 * suc w ≡ 8 * w + 8 = omega arith in
+    let one : suc w ≡ w + 1 = omega arith in
+    let all : get_or row w 0 / 2 ^ (8 - 8) ≡ get_or row w 0 = omega arith in
+    ap (λ n. on_count (take n (bits row))) last
+    ∙ row_bits row w 8 are (omega arith) (omega arith)
+    ∙ ap (λ b. sum_by count_ones (take w row) + count_ones b) all
+    ∙ sym (ap (λ n. sum_by count_ones (take n row)) one ∙ sum_by_more count_ones row w 0 (omega arith))
