@@ -14,7 +14,10 @@ fn refusal(error: &io::Error) -> Answer {
     }
 }
 
-/// The words behind the program's name. A word that is not UTF-8 is refused as word 0.
+/// The most words that a run takes.
+const MOST_WORDS: u32 = 0x7FFF_FFFF;
+
+/// The words behind the program's name, the first 2,147,483,647 of them. A word that is not UTF-8 is refused as word 0.
 pub fn read_words(rt: &HostRuntime) -> Result<Words, Answer> {
     let line = match env::args(rt) {
         Ok(line) => line,
@@ -22,7 +25,10 @@ pub fn read_words(rt: &HostRuntime) -> Result<Words, Answer> {
     };
     let mut words = Words::make(rt.alloc());
     for word in line.skip(1) {
-        if words.len() == 0x7FFF_FFFF || words.push(&word).is_err() {
+        if words.len() == MOST_WORDS {
+            break;
+        }
+        if words.push(&word).is_err() {
             return Err(Answer::Memory);
         }
     }

@@ -44,6 +44,8 @@ fn run_words(rt: &HostRuntime, words: &Words) -> u8 {
 fn main(rt: HostRuntime) -> ExitCode {
     match read_words(&rt) {
         Ok(words) => ExitCode::from(run_words(&rt, &words)),
+        // nothing is written where the words find no memory
+        Err(Answer::Memory) => ExitCode::from(Answer::Memory.status()),
         Err(answer) => {
             tell(&answer, &mut StdSink::make(rt.stderr()));
             ExitCode::from(answer.status())
