@@ -1,0 +1,3 @@
+pub mod Elements
+pub mod InkSteps
+pub mod Lines

@@ -1,0 +1,11 @@
+use Rattle.std.proofs.Common.{◌≡◌, ◌+◌, ◌++◌, List, ℕ, replicate}
+use Rattle.page_halftoner.specs.Halftones.{HasAmountsOf, IsSamePage, StandsFor}
+use Rattle.page_halftoner.proofs.halftoner.Halftoner.lines.Given as goal
+
+abbrev pub invariant-loop : goal.invariant-loop
+invariant-loop l = record {
+  page : IsSamePage l.fn.self l.self;
+  count : l.self.count ≡ l.fn.self.count + l.counter;
+  amounts : HasAmountsOf l.self l.line;
+  stands : (lines : List (List ℕ)) → StandsFor l.fn.self lines → StandsFor l.self (lines ++ replicate l.counter l.line);
+}

@@ -1,0 +1,3 @@
+pub mod Halftones
+pub mod Rows
+pub mod Kept

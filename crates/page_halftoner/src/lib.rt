@@ -1,0 +1,7 @@
+//! Halftones of pages: lines of pixels become packed planes of dots, row by row as the lines come.
+#![tactic(auto)]
+
+mod halftoner;
+mod inks;
+
+pub use halftoner::Halftoner;
