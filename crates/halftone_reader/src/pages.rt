@@ -1,0 +1,65 @@
+//! Pages that are read and halftoned.
+ghost use Rattle.diffusion_kernel.specs.Tables.{table_of};
+ghost use Rattle.halftone_reader.specs.Reading.{IsBetween, ReadsHalftone};
+ghost use Rattle.printer_profile.specs.Profiles.{printer_of};
+ghost use Rattle.printer_profile.specs.Validity.{check};
+ghost use Rattle.pwg_definitions.specs.Stream.StreamEnd.{Fault};
+ghost use Rattle.pwg_definitions.specs.Stream.{pages_from};
+ghost use Rattle.pwg_stream.specs.Reading.{has_ended, page_of, text_of};
+ghost use Rattle.pwg_stream.specs.Stops.{OnInput};
+ghost use Rattle.pwg_stream.specs.Text.{UsesSome};
+ghost use Rattle.pwg_stream.specs.declared.stops.StreamStop.TheVariants as stop;
+ghost use Rattle.separation_definitions.specs.Windows.{wanted_by};
+ghost use Rattle.std.specs.Io.KnownBytes.{IsAtEnd};
+ghost use Rattle.std.specs.Prelude.{IfNone, IfOk, IfSome, IsErrOf, IsOk, [], false, ◌+◌, ◌-◌, ◌≡◌, ◌≤◌};
+ghost use Rattle.weave_base.specs.Causes.{Rose};
+
+use diffusion_kernel::Kernel;
+use dot_planes::Planes;
+use page_halftoner::Halftoner;
+use printer_profile::Profile;
+use pwg_definitions::PageForm;
+use pwg_stream::{PageReader, StreamStop};
+use std::alloc::Global;
+use weave_base::Source;
+
+/// A page that was read: its form, and the dots of its halftone inside the margins.
+#[derive(Drop)]
+pub struct HalftonedPage {
+    pub form: PageForm,
+    pub planes: Planes,
+}
+
+/// Reads the next page with all its lines, and halftones each line when it comes. `None` at the end of the stream.
+pub fn read_page<S: Source>(
+    alloc: Global,
+    reader: &mut PageReader,
+    profile: &Profile,
+    kernel: Kernel,
+    s: &mut S,
+) -> Result<Option<HalftonedPage>, StreamStop>
+    requires checked { IsOk (check profile.now) }
+    requires between { IsBetween reader.old }
+    requires unended { has_ended reader.old ≡ false }
+    ensures page { IfOk result (λ o. IfSome o (λ page.
+        ReadsHalftone (printer_of profile.now) (table_of kernel) reader.old reader.new (S.left s.old) (S.left s.new) page.form page.planes)) }
+    ensures none { IfOk result (λ o. IfNone o (IsAtEnd (text_of reader.old (S.left s.old)) × IsAtEnd (text_of reader.new (S.left s.new)))) }
+    ensures between { IfOk result (λ o. IfSome o (λ page. IsBetween reader.new)) }
+    ensures input { OnInput result (λ number line cause. IfSome (text_of reader.old (S.left s.old)) (λ text.
+        pages_from (wanted_by (printer_of profile.now)) (9999 - page_of reader.old) (page_of reader.old + 1) text
+        ≡ record { pages = []; end = Fault number line cause })) }
+    ensures read { IsErrOf result stop.Read → Rose (S.faults s.old) (S.faults s.new) }
+    ensures used { UsesSome (text_of reader.old (S.left s.old)) (text_of reader.new (S.left s.new)) }
+    ensures later { S.faults s.old ≤ S.faults s.new }
+{
+    let Some(form) = reader.next_page(s, profile.wanted())? else {
+        return Ok(None);
+    };
+    let mut halftoner = Halftoner::begin(alloc, profile, form, kernel)?;
+    'groups: while reader.lines_left() > 0 {
+        let repeats = reader.next_line(s)?;
+        halftoner.lines(reader.line(), repeats)?;
+    }
+    let planes = halftoner.finish();
+    Ok(Some(HalftonedPage { form, planes }))
+}
