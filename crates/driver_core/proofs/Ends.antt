@@ -1,17 +1,19 @@
 -- What printing comes to, at each of its ends.
-use Rattle.std.proofs.Common.{◌≡◌, ℕ, ◌+◌, ◌-◌, ◌*◌, ◌/◌, Bool, ◌⊎◌, inl, inr, ◌≤◌, List, [], ◌∷◌, ◌++◌, length, Option, None, Some, IfSome, Err, IsErrOf, refl, sym, ◌∙◌, ap, subst, arith, append_assoc, append-nil}
+use Rattle.std.proofs.Common.{◌≡◌, ℕ, ◌+◌, ◌-◌, ◌*◌, ◌/◌, ◌⊎◌, inl, inr, ◌≤◌, List, [], ◌∷◌, ◌++◌, length, Option, None, Some, IfNone, IfSome, Err, IsErrOf, refl, sym, ◌∙◌, ap, subst, arith, append_assoc, append-nil}
 use Rattle.std.specs.List.{AllByRecursion}
 use Rattle.std.specs.Io.KnownBytes.{Appends, Consumes, IsAtEnd, Keeps}
 use Rattle.std.proofs.KnownBytes.{Appends-nil, Consumes-nil, Consumes-trans}
-use Rattle.driver_answer.specs.declared.answer.Answer.TheVariants as answer
 use Rattle.diffusion_definitions.specs.Diffusion.{Table}
-use Rattle.page_definitions.specs.PageBytes.{page_bytes}
-use Rattle.page_laws.proofs.Headline.{one_nozzle-prints}
-use Rattle.printer_definitions.specs.declared.inks.InkSet.TheVariants.{K}
-use Rattle.printer_definitions.specs.Printer.{Printer}
+use Rattle.page_definitions.specs.Dots.{halftone}
+use Rattle.page_definitions.specs.PageBytes.{halftone_bytes, page_bytes}
+use Rattle.page_laws.proofs.Headline.{pages-print}
+use Rattle.page_laws.proofs.Rasters.{pages-have}
+use Rattle.printer_definitions.specs.Printer.{Printer, row_units}
 use Rattle.separation_definitions.specs.CanPrint.{CanPrint}
 use Rattle.separation_definitions.specs.Windows.{wanted_by}
+use Rattle.pwg_definitions.specs.declared.pages.PageForm.{PageForm}
 use Rattle.pwg_definitions.specs.declared.pages.Wanted.{Wanted}
+use Rattle.pwg_definitions.specs.Header.{IsWanted}
 use Rattle.pwg_definitions.specs.Stream.{IsPage, Page, Stream, page_at, pages_from, stream, sync_word}
 use Rattle.pwg_definitions.specs.Stream.PageRead.{Whole}
 use Rattle.pwg_definitions.specs.Stream.StreamEnd.{Done, Fault}
@@ -24,17 +26,28 @@ use Rattle.pwg_stream.specs.Stops.{OnInput}
 use Rattle.pwg_stream.specs.Text.{UsesSome, text_behind}
 use Rattle.weave_base.specs.Causes.{Rose}
 use Rattle.weave_base.specs.Parts.{AppendsPart}
+use Rattle.driver_core.specs.declared.stops.PrintStop.TheVariants as print
+use Rattle.driver_core.specs.Outside.{Outside}
 use Rattle.driver_core.specs.Pages.{IsStream, TakesPages, job_bytes}
-use Rattle.driver_core.specs.Run.{PrintOutcome, answer_to}
+use Rattle.driver_core.specs.Printing.{PrintStopped, PrintsAll, PrintsSome, stream_stop}
 use Rattle.halftone_reader.proofs.PageSteps.{EndsSo}
 use Rattle.driver_core.proofs.StreamSteps.{StreamRead, StreamSoFar, with_pages, pages-first}
 
 -- ---- pages are pages
 
-pub page-is : (want : Wanted) (bytes : List ℕ) (page : Page) → ((rest : List ℕ) → page_at want (bytes ++ rest) ≡ Whole page rest) → IsPage want page
+page-is : (want : Wanted) (bytes : List ℕ) (page : Page) → ((rest : List ℕ) → page_at want (bytes ++ rest) ≡ Whole page rest) → IsPage want page
 page-is want bytes page is =
     let P : List Page → Type 0 = AllByRecursion (IsPage want) in
     (subst P (ap (λ (s : Stream). s.pages) (pages-first want bytes page is)) (stream-pages want (sync_word ++ (bytes ++ [])))).0
+
+-- a page that was read is one that the printer takes
+pub page-wanted : (want : Wanted) (bytes : List ℕ) (page : Page) (form : PageForm) → form ≡ page.form → ((rest : List ℕ) → page_at want (bytes ++ rest) ≡ Whole page rest) → IsWanted want form
+page-wanted want bytes page form e is = subst (IsWanted want) (sym e) (page-is want bytes page is).wanted
+
+-- what holds where there is none
+pub if-none : {T : Type 0} {P : Type 0} (o : Option T) → ((x : T) → o ≡ Some x → ⊥) → IfNone o P → P
+if-none None never h = h
+if-none (Some x) never h = absurd (never x refl)
 
 -- ---- what was taken
 
@@ -87,26 +100,46 @@ taken_pages p before text left unread bytes pages most number uses is more = rec
   are = ap (λ bs. (stream (wanted_by p) bs).pages) (append_assoc bytes more.bytes unread) ∙ ap (λ (s : Stream). s.pages) (is (more.bytes ++ unread));
 }
 
+-- no page was printed
+none_printed : (p : Printer) (k : Table) (before left held : Option (List ℕ)) (f0 f1 g0 g1 : ℕ) → UsesSome before left
+    → PrintsSome p k (record { before = before; now = left; faults_before = f0; faults_now = f1 }) (record { before = held; now = held; faults_before = g0; faults_now = g1 })
+none_printed p k before left held f0 f1 g0 g1 more = record {
+  pages = [];
+  taken = record { bytes = more.bytes; taken = more.is; others = (stream (wanted_by p) more.bytes).pages; are = refl };
+  writes = Appends-nil held;
+}
+
+-- the pages that were read so far were printed, and no other
+some_printed : (p : Printer) (k : Table) (before left left' held now : Option (List ℕ)) (old new : PageReader) (number f0 f2 g0 g1 : ℕ)
+    → StreamSoFar p k before left held now old number → UsesSome (text_of old left) (text_of new left')
+    → PrintsSome p k (record { before = before; now = left'; faults_before = f0; faults_now = f2 }) (record { before = held; now = now; faults_before = g0; faults_now = g1 })
+some_printed p k before left left' held now old new number f0 f2 g0 g1 so_far more = record {
+  pages = so_far.done;
+  taken = taken_pages p before (text_of old left) left' new.unread so_far.bytes so_far.done _ _ so_far.used so_far.is more;
+  writes = so_far.written;
+}
+
+-- the stream does not begin as one
 pub no_sync : (p : Printer) (k : Table) (before left held : Option (List ℕ)) (f0 f1 g0 g1 : ℕ) (why : StreamStop)
     → OnInput {T = PageReader} (Err why) (λ page line cause. IfSome before (λ bytes. (want : Wanted) → stream want bytes ≡ record { pages = []; end = Fault page line cause }))
     → (IsErrOf {T = PageReader} (Err why) stop.Read → Rose f0 f1) → UsesSome before left
-    → PrintOutcome p k (record { before = before; now = left; faults_before = f0; faults_now = f1 }) (record { before = held; now = held; faults_before = g0; faults_now = g1 }) (answer_to why)
-no_sync p k before left held f0 f1 g0 g1 (stop.Input page line cause) bad cause_is more = ([], some before bad, Appends-nil held)
+    → PrintStopped p k (record { before = before; now = left; faults_before = f0; faults_now = f1 }) (record { before = held; now = held; faults_before = g0; faults_now = g1 }) (stream_stop why)
+no_sync p k before left held f0 f1 g0 g1 (stop.Input page line cause) bad cause_is more = record { pages = []; told = some before bad; writes = Appends-nil held }
   where
     some : (o : Option (List ℕ)) → IfSome o (λ bytes. (want : Wanted) → stream want bytes ≡ record { pages = []; end = Fault page line cause }) → IsStream p o [] (Fault page line cause)
     some None h = tt
     some (Some bytes) h = h (wanted_by p)
 no_sync p k before left held f0 f1 g0 g1 stop.Read bad cause_is more =
-    (cause_is refl, [], record { bytes = more.bytes; taken = more.is; others = (stream (wanted_by p) more.bytes).pages; are = refl }, Appends-nil held)
+    (cause_is refl, none_printed p k before left held f0 f1 g0 g1 more)
 no_sync p k before left held f0 f1 g0 g1 stop.Memory bad cause_is more =
-    ([], record { bytes = more.bytes; taken = more.is; others = (stream (wanted_by p) more.bytes).pages; are = refl }, Appends-nil held)
+    none_printed p k before left held f0 f1 g0 g1 more
 
-pub page_stopped : (p : Printer) (k : Table) (before left left' held now : Option (List ℕ)) (old new : PageReader) (number f0 f1 f2 g0 g1 : ℕ) (why : StreamStop)
-    → StreamSoFar p k before left held now old number → OnInput {T = Bool} (Err why) (EndsSo (wanted_by p) old left)
-    → f0 ≤ f1 → (IsErrOf {T = Bool} (Err why) stop.Read → Rose f1 f2) → UsesSome (text_of old left) (text_of new left')
-    → PrintOutcome p k (record { before = before; now = left'; faults_before = f0; faults_now = f2 }) (record { before = held; now = now; faults_before = g0; faults_now = g1 }) (answer_to why)
-page_stopped p k before left left' held now old new number f0 f1 f2 g0 g1 (stop.Input page line cause) so_far bad later cause_is more =
-    (so_far.done, told before (text_of old left) so_far.used bad, so_far.written)
+pub page_stopped : (T : Type 0) (p : Printer) (k : Table) (before left left' held now : Option (List ℕ)) (old new : PageReader) (number f0 f1 f2 g0 g1 : ℕ) (why : StreamStop)
+    → StreamSoFar p k before left held now old number → OnInput {T = T} (Err why) (EndsSo (wanted_by p) old left)
+    → f0 ≤ f1 → (IsErrOf {T = T} (Err why) stop.Read → Rose f1 f2) → UsesSome (text_of old left) (text_of new left')
+    → PrintStopped p k (record { before = before; now = left'; faults_before = f0; faults_now = f2 }) (record { before = held; now = now; faults_before = g0; faults_now = g1 }) (stream_stop why)
+page_stopped T p k before left left' held now old new number f0 f1 f2 g0 g1 (stop.Input page line cause) so_far bad later cause_is more =
+    record { pages = so_far.done; told = told before (text_of old left) so_far.used bad; writes = so_far.written }
   where
     told : (a b : Option (List ℕ)) → Consumes a b so_far.bytes
         → IfSome b (λ text. pages_from (wanted_by p) (9999 - page_of old) (page_of old + 1) text ≡ record { pages = []; end = Fault page line cause }) → IsStream p a so_far.done (Fault page line cause)
@@ -118,72 +151,77 @@ page_stopped p k before left left' held now old new number f0 f1 f2 g0 g1 (stop.
         ∙ ap (λ n. with_pages so_far.done (pages_from (wanted_by p) (9999 - n) (n + 1) ys)) (sym so_far.many)
         ∙ ap (with_pages so_far.done) h
         ∙ ap (λ ps. record { pages = ps; end = Fault page line cause }) (append-nil so_far.done)
-page_stopped p k before left left' held now old new number f0 f1 f2 g0 g1 stop.Read so_far bad later cause_is more = (
-  rose_from f0 f1 f2 later (cause_is refl),
-  so_far.done,
-  taken_pages p before (text_of old left) left' new.unread so_far.bytes so_far.done _ _ so_far.used so_far.is more,
-  so_far.written,
-)
-page_stopped p k before left left' held now old new number f0 f1 f2 g0 g1 stop.Memory so_far bad later cause_is more = (
-  so_far.done,
-  taken_pages p before (text_of old left) left' new.unread so_far.bytes so_far.done _ _ so_far.used so_far.is more,
-  so_far.written,
-)
+page_stopped T p k before left left' held now old new number f0 f1 f2 g0 g1 stop.Read so_far bad later cause_is more =
+    (rose_from f0 f1 f2 later (cause_is refl), some_printed p k before left left' held now old new number f0 f2 g0 g1 so_far more)
+page_stopped T p k before left left' held now old new number f0 f1 f2 g0 g1 stop.Memory so_far bad later cause_is more =
+    some_printed p k before left left' held now old new number f0 f2 g0 g1 so_far more
 
 pages-none : (want : Wanted) (most number : ℕ) → pages_from want most number [] ≡ record { pages = []; end = Done }
 unfolding pages_from
 pages-none want most number = refl
 
+-- the stream ended
 pub stream_done : (p : Printer) (k : Table) (before left left' held now : Option (List ℕ)) (old new : PageReader) (number f0 f2 g0 g1 : ℕ)
-    → CanPrint p → p.nozzles ≡ 1 → p.inks ≡ K → StreamSoFar p k before left held now old number
+    → CanPrint p → StreamSoFar p k before left held now old number
     → IsAtEnd (text_of old left) → IsAtEnd (text_of new left') → UsesSome (text_of old left) (text_of new left')
-    → PrintOutcome p k (record { before = before; now = left'; faults_before = f0; faults_now = f2 }) (record { before = held; now = now; faults_before = g0; faults_now = g1 }) answer.Done
-stream_done p k before left left' held now old new number f0 f2 g0 g1 can one black so_far end end' more =
+    → PrintsAll p k (record { before = before; now = left'; faults_before = f0; faults_now = f2 }) (record { before = held; now = now; faults_before = g0; faults_now = g1 })
+stream_done p k before left left' held now old new number f0 f2 g0 g1 can so_far end end' more =
     let is : stream (wanted_by p) so_far.bytes ≡ record { pages = so_far.done; end = Done } =
     ap (stream (wanted_by p)) (sym (append-nil so_far.bytes))
     ∙ so_far.is []
     ∙ ap (with_pages so_far.done) (pages-none (wanted_by p) (9999 - length so_far.done) (length so_far.done + 1))
     ∙ ap (λ ps. record { pages = ps; end = Done }) (append-nil so_far.done) in
     let P : List Page → Type 0 = AllByRecursion (IsPage (wanted_by p)) in
-    let are : P so_far.done = subst P (ap (λ (s : Stream). s.pages) is) (stream-pages (wanted_by p) so_far.bytes) in (
-      so_far.done,
-      record {
+    let are : P so_far.done = subst P (ap (λ (s : Stream). s.pages) is) (stream-pages (wanted_by p) so_far.bytes) in
+    record {
+      pages = so_far.done;
+      reads = record {
         bytes = so_far.bytes;
         taken = text_ended before (text_of old left) left' new.unread so_far.bytes so_far.used end more end';
         end = left_end left' new.unread end';
         is = is;
-      },
-      so_far.written,
-      one_nozzle-prints p k so_far.done can one black are,
-    )
+      };
+      told = told before (text_of old left) so_far.used is end;
+      writes = so_far.written;
+      prints = pages-print p k so_far.done can are;
+      passes = pages-have p k so_far.done can are;
+    }
+  where
+    told : (a b : Option (List ℕ)) → Consumes a b so_far.bytes → stream (wanted_by p) so_far.bytes ≡ record { pages = so_far.done; end = Done } → IsAtEnd b → IsStream p a so_far.done Done
+    told None b uses is end = tt
+    told (Some xs) None uses is end = absurd uses
+    told (Some xs) (Some ys) uses is end = ap (stream (wanted_by p)) (uses ∙ ap (λ bs. so_far.bytes ++ bs) end ∙ append-nil so_far.bytes) ∙ is
 
+-- a page was read, and a part of its job written
 pub page_not_written : (p : Printer) (k : Table) (before left held now now' : Option (List ℕ)) (reader : PageReader) (number f0 f2 g0 g1 g2 : ℕ) (page : Page)
     → StreamRead p k before left held now reader number page → AppendsPart now now' (page_bytes page p k) → g0 ≤ g1 → Rose g1 g2
-    → PrintOutcome p k (record { before = before; now = left; faults_before = f0; faults_now = f2 }) (record { before = held; now = now'; faults_before = g0; faults_now = g2 }) (answer.Write number)
+    → PrintStopped p k (record { before = before; now = left; faults_before = f0; faults_now = f2 }) (record { before = held; now = now'; faults_before = g0; faults_now = g2 }) (print.Write number)
 page_not_written p k before left held now now' reader number f0 f2 g0 g1 g2 page read part later rose = (
   rose_from g0 g1 g2 later rose,
-  read.done,
-  page,
-  taken_pages p before (text_of reader left) left reader.unread read.bytes (read.done ++ page ∷ []) _ _ read.used read.is (record { bytes = []; is = Consumes-nil (text_of reader left) }),
-  read.next,
-  record { between = now; whole = read.written; part = part },
+  record {
+    pages = read.done;
+    page = page;
+    taken = taken_pages p before (text_of reader left) left reader.unread read.bytes (read.done ++ page ∷ []) _ _ read.used read.is (record { bytes = []; is = Consumes-nil (text_of reader left) });
+    number_is = read.next;
+    between = now;
+    whole = read.written;
+    part = part;
+  },
 )
 
+-- a page was read, and nothing of its job written
 pub page_without_room : (p : Printer) (k : Table) (before left held now now' : Option (List ℕ)) (reader : PageReader) (number f0 f2 g0 g2 : ℕ) (page : Page)
     → StreamRead p k before left held now reader number page → Keeps now now'
-    → PrintOutcome p k (record { before = before; now = left; faults_before = f0; faults_now = f2 }) (record { before = held; now = now'; faults_before = g0; faults_now = g2 }) answer.Memory
+    → PrintsSome p k (record { before = before; now = left; faults_before = f0; faults_now = f2 }) (record { before = held; now = now'; faults_before = g0; faults_now = g2 })
 page_without_room p k before left held now now' reader number f0 f2 g0 g2 page read kept =
-    let all = taken_pages p before (text_of reader left) left reader.unread read.bytes (read.done ++ page ∷ []) _ _ read.used read.is (record { bytes = []; is = Consumes-nil (text_of reader left) }) in (
-      read.done,
-      record { bytes = all.bytes; taken = all.taken; others = page ∷ all.others; are = all.are ∙ append_assoc read.done (page ∷ []) all.others },
-      appends_kept held now now' (job_bytes p k read.done) read.written kept,
-    )
+    let all = taken_pages p before (text_of reader left) left reader.unread read.bytes (read.done ++ page ∷ []) _ _ read.used read.is (record { bytes = []; is = Consumes-nil (text_of reader left) }) in
+    record {
+      pages = read.done;
+      taken = record { bytes = all.bytes; taken = all.taken; others = page ∷ all.others; are = all.are ∙ append_assoc read.done (page ∷ []) all.others };
+      writes = appends_kept held now now' (job_bytes p k read.done) read.written kept;
+    }
 
--- ---- the pages that a printer takes are no taller than 22 inches
-
-pub most_height-low : (p : Printer) → CanPrint p → (wanted_by p).most_height ≤ 15840
-most_height-low p can = by_vdpi can.down
-  where
-    by_vdpi : (p.vdpi ≡ 360) ⊎ (p.vdpi ≡ 720) → 15840 * p.vdpi / 720 ≤ 15840
-    by_vdpi (inl e) = let low : 15840 * p.vdpi / 720 ≡ 7920 = ap (λ v. 15840 * v / 720) e in omega arith
-    by_vdpi (inr e) = let low : 15840 * p.vdpi / 720 ≡ 15840 = ap (λ v. 15840 * v / 720) e in omega arith
+-- the bytes of a page are those of its halftone
+pub page-bytes-is : (p : Printer) (k : Table) (page : Page) (form : PageForm) → form ≡ page.form → halftone_bytes p (halftone page p k) (form.height * row_units p) ≡ page_bytes page p k
+unfolding page_bytes
+page-bytes-is p k page form e = ap (λ (f : PageForm). halftone_bytes p (halftone page p k) (f.height * row_units p)) e

@@ -1,2 +1,4 @@
+pub mod StreamSteps
+pub mod Ends
 pub mod Asked
 pub mod Promised

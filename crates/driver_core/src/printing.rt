@@ -7,7 +7,10 @@ ghost use Rattle.std.specs.Prelude.{IsOk, ◌≡◌, ◌≤◌};
 
 use crate::stops::PrintStop;
 use diffusion_kernel::Kernel;
+use halftone_reader::read_page;
+use page_writer::{WriteStop, write_page};
 use printer_profile::Profile;
+use pwg_stream::{MOST_PAGES, PageReader};
 use std::alloc::Global;
 use weave_base::{Sink, Source};
 
@@ -24,10 +27,17 @@ pub fn print_pages<S: Source, K: Sink>(
         (record { before = S.left input.old; now = S.left input.new; faults_before = S.faults input.old; faults_now = S.faults input.new })
         (record { before = K.held out.old; now = K.held out.new; faults_before = K.faults out.old; faults_now = K.faults out.new }) result }
 {
-    let _allocator = alloc;
-    let _kernel = kernel;
-    let _nozzles = profile.nozzles;
-    let _read = input.read(&mut []);
-    let _wrote = out.write(&[]);
-    Err(PrintStop::Memory)
+    prove!(profile.nozzles <= 255);
+    let mut reader = PageReader::begin(alloc, input)?;
+    'pages: for number in 1..MOST_PAGES + 2 {
+        let Some(page) = read_page(alloc, &mut reader, profile, kernel, input)? else {
+            return Ok(());
+        };
+        match write_page(alloc, profile, page.form, &page.planes, out) {
+            Err(WriteStop::Write) => return Err(PrintStop::Write { page: number }),
+            Err(WriteStop::Memory) => return Err(PrintStop::Memory),
+            Ok(_) => {}
+        }
+    }
+    unreachable!()
 }

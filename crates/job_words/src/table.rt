@@ -6,10 +6,6 @@ ghost use Rattle.std.specs.Prelude.{◌≡◌};
 pub enum Verb {
     /// Prints the pages of a stream.
     Print,
-    /// Shows the dots of a job as images.
-    Dots,
-    /// Lists the commands of a job.
-    List,
     /// Shows a profile.
     Profile,
 }
@@ -20,8 +16,6 @@ pub(crate) enum Key {
     Profile,
     Kernel,
     Workers,
-    Cap,
-    Most,
 }
 
 impl Verb {
@@ -35,8 +29,6 @@ impl Verb {
     {
         match name {
             "print" => Some(Verb::Print),
-            "dots" => Some(Verb::Dots),
-            "list" => Some(Verb::List),
             "profile" => Some(Verb::Profile),
             _ => None,
         }
@@ -47,11 +39,9 @@ impl Verb {
         ensures { option_map key_row result ≡ key_named (command_row self).keys name.now }
     {
         match (self, name) {
-            (Verb::Print | Verb::Dots | Verb::Profile, "profile") => Some(Key::Profile),
+            (Verb::Print | Verb::Profile, "profile") => Some(Key::Profile),
             (Verb::Print, "kernel") => Some(Key::Kernel),
             (Verb::Print, "workers") => Some(Key::Workers),
-            (Verb::Print, "cap") => Some(Key::Cap),
-            (Verb::Dots | Verb::List, "most") => Some(Key::Most),
             _ => None,
         }
     }

@@ -32,7 +32,7 @@ fn each_bad_word_has_its_cause(rt: HostRuntime) -> Result<(), Fail> {
     assert_eq!(rt; read_words(&repeated), refused(3, UsageCause::RepeatedKey));
     let no_key = words_of(rt.alloc(), &["print", "x"])?;
     assert_eq!(rt; read_words(&no_key), refused(2, UsageCause::NotKeyValue));
-    let key = words_of(rt.alloc(), &["print", "most=1"])?;
+    let key = words_of(rt.alloc(), &["print", "cap=1"])?;
     assert_eq!(rt; read_words(&key), refused(2, UsageCause::UnknownKey));
     let key_of_print = words_of(rt.alloc(), &["profile", "kernel=fs"])?;
     assert_eq!(rt;
@@ -55,9 +55,7 @@ fn a_line_is_read_as_a_job(rt: HostRuntime) -> Result<(), Fail> {
             verb: Verb::Print,
             profile_word: 2,
             kernel: Kernel::Stucki,
-            workers: 64,
-            cap: None,
-            most: 17_179_869_184,
+            workers: 64
         }
     );
     assert_eq!(rt; profile_name(&words, &job), "a=b");
@@ -81,10 +79,6 @@ fn each_value_is_taken_or_refused_at_word_2_and_at_word_3(rt: HostRuntime) -> Re
             "workers=1000000000000000000000000000000000000001",
             Some(UsageCause::BadValue),
         ),
-        ("cap=0", None),
-        ("cap=18446744073709551615", None),
-        ("cap=18446744073709551616", Some(UsageCause::BadValue)),
-        ("cap=", Some(UsageCause::BadValue)),
         ("kernel=fs", None),
         ("kernel=jjn", None),
         ("kernel=stucki", None),
@@ -145,9 +139,7 @@ fn no_profile_is_the_built_in_one(rt: HostRuntime) -> Result<(), Fail> {
             verb: Verb::Profile,
             profile_word: 0,
             kernel: Kernel::Floyd,
-            workers: 1,
-            cap: None,
-            most: 17_179_869_184,
+            workers: 1
         }
     );
     assert_eq!(rt; profile_name(&words, &job), "p360cmyk");
