@@ -1,0 +1,3 @@
+pub mod Dotless
+pub mod Nozzles
+pub mod Fires
