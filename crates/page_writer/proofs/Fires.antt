@@ -1,5 +1,5 @@
 -- What an ink fires in a pass, row by row.
-use Rattle.std.proofs.Common.{◌≡◌, ℕ, zero, suc, ◌+◌, ◌-◌, ◌*◌, ◌/◌, ◌≤◌, ◌==◌, Bool, true, false, if◌then◌else◌, List, [], ◌∷◌, ◌++◌, length, map, take, drop, Option, Some, None, refl, sym, ◌∙◌, ap, arith, append_assoc, append-nil, subst}
+use Rattle.std.proofs.Common.{◌≡◌, ℕ, zero, suc, ◌+◌, ◌-◌, ◌*◌, ◌/◌, ◌≤◌, ◌==◌, nat_lt, Bool, true, false, if◌then◌else◌, List, [], ◌∷◌, ◌++◌, length, map, take, drop, Option, Some, None, refl, sym, ◌∙◌, ap, arith, append_assoc, append-nil, subst}
 use Rattle.std.specs.List.{AllByRecursion, flat_map}
 use Rattle.std.proofs.lemmas.List.{drop_at, length-map, length-replicate, take_at}
 use Rattle.dot_planes.specs.Tables.{DotTable, dot}
@@ -16,6 +16,7 @@ use Rattle.printer_definitions.specs.declared.inks.Ink.{Ink}
 use Rattle.weave_definitions.specs.Weave.{count_from, nozzle_row}
 use Rattle.weave_plan.specs.Weaving.{Weaving}
 use Rattle.page_writer.specs.Rows.{nozzle_plane_row, plane_row, plane_rows, rows_commands}
+use Rattle.page_writer.specs.Sums.{rasters_in}
 
 -- ---- rows as wide as their planes
 
@@ -131,3 +132,25 @@ pub none_fired : (head : RasterHead) (ink : Ink) (rows : List (List Bool)) (old 
 none_fired head ink rows old none =
     let raster : Spoken = record { command = c.Raster head; rows = flat_map packed rows } in
     sym (ap (λ b. old ++ bytes_of canonical_row (if b then say (c.Colour ink) ∷ say c.Return ∷ raster ∷ [] else [])) none ∙ append-nil old)
+
+-- the rasters of an ink
+pub none_counted : (head : RasterHead) (ink : Ink) (rows : List (List Bool)) → has_dot rows ≡ false → 0 ≡ rasters_in (rows_commands head ink rows)
+none_counted head ink rows none =
+    let raster : Spoken = record { command = c.Raster head; rows = flat_map packed rows } in
+    sym (ap (λ b. rasters_in (if b then say (c.Colour ink) ∷ say c.Return ∷ raster ∷ [] else [])) none)
+
+pub one_counted : (head : RasterHead) (ink : Ink) (rows : List (List Bool)) → has_dot rows ≡ true → 1 ≡ rasters_in (rows_commands head ink rows)
+one_counted head ink rows fires =
+    let raster : Spoken = record { command = c.Raster head; rows = flat_map packed rows } in
+    sym (ap (λ b. rasters_in (if b then say (c.Colour ink) ∷ say c.Return ∷ raster ∷ [] else [])) fires)
+
+-- they tell whether it has a dot
+pub rasters_tell : (head : RasterHead) (ink : Ink) (rows : List (List Bool)) → nat_lt 0 (rasters_in (rows_commands head ink rows)) ≡ has_dot rows
+rasters_tell head ink rows = by_dot (has_dot rows)
+  where
+    raster : Spoken
+    raster = record { command = c.Raster head; rows = flat_map packed rows }
+
+    by_dot : (b : Bool) → nat_lt 0 (rasters_in (if b then say (c.Colour ink) ∷ say c.Return ∷ raster ∷ [] else [])) ≡ b
+    by_dot true = refl
+    by_dot false = refl

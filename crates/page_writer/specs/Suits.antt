@@ -16,7 +16,12 @@ pub record Suits (p : Printer) (plan : Weaving) (t : DotTable) : Type 0 where
   pub inks : t.inks ≡ length (inks_of p.inks)
   pub some_columns : 1 ≤ t.width
   pub most_columns : t.width ≤ 8191
+  pub some_rows : 1 ≤ t.rows
   pub most_rows : t.rows ≤ 15840
+
+-- the plan of a printer's passes over planes
+abbrev pub plan_of : Printer → DotTable → Weaving
+plan_of p t = record { nozzles = p.nozzles; pitch = p.pitch; height = t.rows }
 
 -- the planes have the dots of a halftone
 abbrev pub Shows : Printer → DotTable → Halftone → Type 0

@@ -2,7 +2,7 @@ use Rattle.std.proofs.Common.{◌≡◌, ◌-◌, ◌+◌, ◌*◌, ◌/◌, ◌
 use Rattle.escp2_definitions.specs.Commands.{command_bytes}
 use Rattle.escp2_definitions.specs.declared.command.Command.TheVariants as c
 use Rattle.page_writer.specs.Rows.{plane_rows}
-use Rattle.page_writer.proofs.Fires.{none_fired, room_more, room_one, row-len, rows_begin, rows_end, rows_step}
+use Rattle.page_writer.proofs.Fires.{none_counted, none_fired, one_counted, room_more, room_one, row-len, rows_begin, rows_end, rows_step}
 use Rattle.page_writer.proofs.ink.append_ink.Goals as goal
 
 pub rows-init : goal.rows-init
@@ -46,3 +46,9 @@ pub returns-clause-items : goal.returns-clause-items
 returns-clause-items k =
     let none : k.args.head.m - k.rows.nozzle ≡ 0 = omega arith in
     rows_end _ _ _ _ _ _ _ _ k.rows.invariant.so_far none
+
+pub returns-then-not-has_fire-clause-rasters : goal.returns-then-not-has_fire-clause-rasters
+returns-then-not-has_fire-clause-rasters k = none_counted k.args.head k.args.ink (plane_rows k.args.planes.now k.args.plan.now k.args.place k.args.pass) (sym k.has_fire.ensures ∙ k.if-not-has_fire.true)
+
+pub returns-clause-rasters : goal.returns-clause-rasters
+returns-clause-rasters k = one_counted k.args.head k.args.ink (plane_rows k.args.planes.now k.args.plan.now k.args.place k.args.pass) (sym k.has_fire.ensures ∙ k.if-not-has_fire.false)
