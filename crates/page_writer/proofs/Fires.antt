@@ -1,0 +1,156 @@
+-- What an ink fires in a pass, row by row.
+use Rattle.std.proofs.Common.{◌≡◌, ℕ, zero, suc, ◌+◌, ◌-◌, ◌*◌, ◌/◌, ◌≤◌, ◌==◌, nat_lt, Bool, true, false, if◌then◌else◌, List, [], ◌∷◌, ◌++◌, length, map, take, drop, Option, Some, None, refl, sym, ◌∙◌, ap, arith, append_assoc, append-nil, subst}
+use Rattle.std.specs.List.{AllByRecursion, flat_map}
+use Rattle.std.proofs.lemmas.List.{drop_at, length-map, length-replicate, take_at}
+use Rattle.dot_planes.specs.Tables.{DotTable, dot}
+use Rattle.escp2_definitions.specs.Canonical.{canonical_row}
+use Rattle.escp2_definitions.specs.Commands.{command_bytes, row_bytes}
+use Rattle.escp2_definitions.specs.Packed.{packed}
+use Rattle.escp2_definitions.specs.Written.{rows_apart}
+use Rattle.escp2_definitions.specs.declared.command.Command.TheVariants as c
+use Rattle.escp2_definitions.specs.declared.command.RasterHead.{RasterHead}
+use Rattle.page_definitions.specs.Strokes.{Spoken, bytes_of, has_dot, say}
+use Rattle.page_laws.proofs.Fired.{AllWide, packed-len}
+use Rattle.page_laws.proofs.Passes.{count_from-len}
+use Rattle.printer_definitions.specs.declared.inks.Ink.{Ink}
+use Rattle.weave_definitions.specs.Weave.{count_from, nozzle_row}
+use Rattle.weave_plan.specs.Weaving.{Weaving}
+use Rattle.page_writer.specs.Rows.{nozzle_plane_row, plane_row, plane_rows, rows_commands}
+use Rattle.page_writer.specs.Sums.{rasters_in}
+
+-- ---- rows as wide as their planes
+
+plane_row-len : (t : DotTable) (place : ℕ) (row : Option ℕ) → length (plane_row t place row) ≡ t.width
+plane_row-len t place None = length-replicate {A = Bool} t.width false
+plane_row-len t place (Some y) = length-map (count_from 0 t.width) (dot t place y) ∙ count_from-len 0 t.width
+
+-- the bytes of a row
+pub row-len : (t : DotTable) (plan : Weaving) (place pass nozzle : ℕ) → length (packed (nozzle_plane_row t plan place pass nozzle)) ≡ (t.width + 7) / 8
+row-len t plan place pass nozzle =
+    packed-len t.width (nozzle_plane_row t plan place pass nozzle) (plane_row-len t place (nozzle_row plan.nozzles plan.pitch plan.height pass nozzle))
+
+rows-wide : (t : DotTable) (plan : Weaving) (place pass : ℕ) (nozzles : List ℕ) → AllWide t.width (map (nozzle_plane_row t plan place pass) nozzles)
+rows-wide t plan place pass [] = tt
+rows-wide t plan place pass (nozzle ∷ nozzles) =
+    (plane_row-len t place (nozzle_row plan.nozzles plan.pitch plan.height pass nozzle), rows-wide t plan place pass nozzles)
+
+-- ---- the codes of rows
+
+-- the codes of rows, one by one
+abbrev pub codes_of : List (List Bool) → List ℕ
+codes_of rows = flat_map (λ row. canonical_row (packed row)) rows
+
+-- rows of one width, one behind another, are the rows again
+codes-apart : (width : ℕ) (rows : List (List Bool)) → AllWide width rows
+    → flat_map canonical_row (rows_apart (length rows) ((width + 7) / 8) (flat_map packed rows)) ≡ codes_of rows
+codes-apart width [] wide = refl
+codes-apart width (row ∷ rows) wide =
+    let bytes : ℕ = (width + 7) / 8 in
+    let more : List ℕ = flat_map packed rows in
+    let len : length (packed row) ≡ bytes = packed-len width row wide.0 in
+    ap (λ bs. canonical_row bs ++ flat_map canonical_row (rows_apart (length rows) bytes (drop bytes (packed row ++ more)))) (take_at (packed row) more bytes len)
+    ∙ ap (λ bs. canonical_row (packed row) ++ flat_map canonical_row (rows_apart (length rows) bytes bs)) (drop_at (packed row) more bytes len)
+    ∙ ap (λ bs. canonical_row (packed row) ++ bs) (codes-apart width rows wide.1)
+
+-- ---- the commands of an ink
+
+-- the bytes of its commands before its rows
+abbrev pub head_of : RasterHead → Ink → List ℕ
+head_of head ink = (command_bytes (c.Colour ink) ++ command_bytes c.Return) ++ command_bytes (c.Raster head)
+
+-- an ink that has a dot to fire
+fired-bytes : (head : RasterHead) (ink : Ink) (rows : List (List Bool)) → has_dot rows ≡ true → head.c ≡ 1 → length rows ≡ head.m → AllWide head.n rows
+    → bytes_of canonical_row (rows_commands head ink rows) ≡ head_of head ink ++ codes_of rows
+fired-bytes head ink rows fires coded many wide =
+    let raster : Spoken = record { command = c.Raster head; rows = flat_map packed rows } in
+    let is_coded : (head.c == 0) ≡ false = ap (λ n. n == 0) coded in
+    let text : List ℕ = flat_map canonical_row (rows_apart head.m (row_bytes head) (flat_map packed rows)) in
+    let codes : text ≡ codes_of rows =
+    ap (λ n. flat_map canonical_row (rows_apart n (row_bytes head) (flat_map packed rows))) (sym many) ∙ codes-apart head.n rows wide in
+    ap (λ b. bytes_of canonical_row (if b then say (c.Colour ink) ∷ say c.Return ∷ raster ∷ [] else [])) fires
+    ∙ ap (λ b. head_of head ink ++ ((if b then flat_map packed rows else text) ++ [])) is_coded
+    ∙ ap (λ bs. head_of head ink ++ bs) (append-nil text ∙ codes)
+
+-- ---- the rows of an ink, one after another
+
+-- So many rows are left to append, from a nozzle on, of bytes that are to become the whole.
+pub record RowsSoFar (t : DotTable) (plan : Weaving) (place pass : ℕ) (whole out : List ℕ) (nozzle left : ℕ) : Type 0 where
+  pub is : whole ≡ out ++ codes_of (map (nozzle_plane_row t plan place pass) (count_from nozzle left))
+
+pub rows_begin : (t : DotTable) (plan : Weaving) (place pass : ℕ) (head : RasterHead) (ink : Ink) (old out : List ℕ) (left : ℕ)
+    → has_dot (plane_rows t plan place pass) ≡ true → head.c ≡ 1 → head.m ≡ plan.nozzles → head.n ≡ t.width → left ≡ plan.nozzles
+    → out ≡ old ++ head_of head ink
+    → RowsSoFar t plan place pass (old ++ bytes_of canonical_row (rows_commands head ink (plane_rows t plan place pass))) out 0 left
+rows_begin t plan place pass head ink old out left fires coded nozzles columns all begun =
+    let rows : List (List Bool) = plane_rows t plan place pass in
+    let many : length rows ≡ head.m = length-map (count_from 0 plan.nozzles) (nozzle_plane_row t plan place pass) ∙ count_from-len 0 plan.nozzles ∙ sym nozzles in
+    let P : ℕ → Type 0 = λ n. AllWide n rows in
+    let wide : AllWide head.n rows = subst P (sym columns) (rows-wide t plan place pass (count_from 0 plan.nozzles)) in
+    record {
+      is = ap (λ bs. old ++ bs) (fired-bytes head ink rows fires coded many wide)
+          ∙ sym (append_assoc old (head_of head ink) (codes_of rows))
+          ∙ ap (λ bs. bs ++ codes_of rows) (sym begun)
+          ∙ ap (λ n. out ++ codes_of (map (nozzle_plane_row t plan place pass) (count_from 0 n))) (sym all);
+    }
+
+pub rows_step : (t : DotTable) (plan : Weaving) (place pass : ℕ) (whole out out' row : List ℕ) (nozzle left next : ℕ)
+    → RowsSoFar t plan place pass whole out nozzle left → left ≡ suc next → row ≡ packed (nozzle_plane_row t plan place pass nozzle)
+    → out' ≡ out ++ canonical_row row → RowsSoFar t plan place pass whole out' (nozzle + 1) next
+rows_step t plan place pass whole out out' row nozzle left next so_far more is appended =
+    let f : ℕ → List Bool = nozzle_plane_row t plan place pass in
+    let later : List ℕ = codes_of (map f (count_from (nozzle + 1) next)) in
+    record {
+      is = so_far.is
+          ∙ ap (λ n. out ++ codes_of (map f (count_from nozzle n))) more
+          ∙ ap (λ bs. out ++ (canonical_row bs ++ later)) (sym is)
+          ∙ sym (append_assoc out (canonical_row row) later)
+          ∙ ap (λ bs. bs ++ later) (sym appended);
+    }
+
+pub rows_end : (t : DotTable) (plan : Weaving) (place pass : ℕ) (whole out : List ℕ) (nozzle left : ℕ) → RowsSoFar t plan place pass whole out nozzle left
+    → left ≡ 0 → out ≡ whole
+rows_end t plan place pass whole out nozzle left so_far none =
+    sym (so_far.is ∙ ap (λ n. out ++ codes_of (map (nozzle_plane_row t plan place pass) (count_from nozzle n))) none ∙ append-nil out)
+
+-- ---- room for rows
+
+-- room for so many rows is room for one
+pub room_one : (len most left next bytes : ℕ) → left ≡ suc next → len + 2 * left * bytes ≤ most → len + 2 * bytes ≤ most
+room_one len most left next bytes more room =
+    let rows : 2 * suc next * bytes ≡ 2 * bytes + 2 * next * bytes = omega arith in
+    omega (arith, room, rows, ap (λ n. 2 * n * bytes) more)
+
+-- and for the rows behind it
+pub room_more : (len len' most left next bytes : ℕ) → left ≡ suc next → len + 2 * left * bytes ≤ most → len' ≤ len + 2 * bytes → len' + 2 * next * bytes ≤ most
+room_more len len' most left next bytes more room taken =
+    let rows : 2 * suc next * bytes ≡ 2 * bytes + 2 * next * bytes = omega arith in
+    omega (arith, room, taken, rows, ap (λ n. 2 * n * bytes) more)
+
+-- the commands of an ink that has no dot
+pub none_fired : (head : RasterHead) (ink : Ink) (rows : List (List Bool)) (old : List ℕ) → has_dot rows ≡ false
+    → old ≡ old ++ bytes_of canonical_row (rows_commands head ink rows)
+none_fired head ink rows old none =
+    let raster : Spoken = record { command = c.Raster head; rows = flat_map packed rows } in
+    sym (ap (λ b. old ++ bytes_of canonical_row (if b then say (c.Colour ink) ∷ say c.Return ∷ raster ∷ [] else [])) none ∙ append-nil old)
+
+-- the rasters of an ink
+pub none_counted : (head : RasterHead) (ink : Ink) (rows : List (List Bool)) → has_dot rows ≡ false → 0 ≡ rasters_in (rows_commands head ink rows)
+none_counted head ink rows none =
+    let raster : Spoken = record { command = c.Raster head; rows = flat_map packed rows } in
+    sym (ap (λ b. rasters_in (if b then say (c.Colour ink) ∷ say c.Return ∷ raster ∷ [] else [])) none)
+
+pub one_counted : (head : RasterHead) (ink : Ink) (rows : List (List Bool)) → has_dot rows ≡ true → 1 ≡ rasters_in (rows_commands head ink rows)
+one_counted head ink rows fires =
+    let raster : Spoken = record { command = c.Raster head; rows = flat_map packed rows } in
+    sym (ap (λ b. rasters_in (if b then say (c.Colour ink) ∷ say c.Return ∷ raster ∷ [] else [])) fires)
+
+-- they tell whether it has a dot
+pub rasters_tell : (head : RasterHead) (ink : Ink) (rows : List (List Bool)) → nat_lt 0 (rasters_in (rows_commands head ink rows)) ≡ has_dot rows
+rasters_tell head ink rows = by_dot (has_dot rows)
+  where
+    raster : Spoken
+    raster = record { command = c.Raster head; rows = flat_map packed rows }
+
+    by_dot : (b : Bool) → nat_lt 0 (rasters_in (if b then say (c.Colour ink) ∷ say c.Return ∷ raster ∷ [] else [])) ≡ b
+    by_dot true = refl
+    by_dot false = refl

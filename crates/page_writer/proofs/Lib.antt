@@ -1,0 +1,7 @@
+pub mod Dotless
+pub mod Nozzles
+pub mod Fires
+pub mod Inks
+pub mod PassBytes
+pub mod Strokes
+pub mod Whole

@@ -1,0 +1,32 @@
+-- What a pass of the head takes.
+use Rattle.std.specs.Prelude.{◌≡◌, ℕ, ◌*◌, Bool, nat_lt, if◌then◌else◌, List, [], ◌++◌, filter, length}
+use Rattle.escp2_definitions.specs.Canonical.{canonical_row}
+use Rattle.page_definitions.specs.Dots.{Halftone}
+use Rattle.page_definitions.specs.PageBytes.{pass_stroke, weave}
+use Rattle.page_definitions.specs.Strokes.{Spoken, bytes_of, down_by, fires, inks_commands, strokes_commands}
+use Rattle.page_writer.specs.Sums.{rasters_in}
+use Rattle.page_writer.specs.declared.sums.PageSum.{PageSum}
+use Rattle.printer_definitions.specs.Printer.{Printer, row_units}
+
+-- Behind bytes stand those of what the inks fire in a pass, with so many rasters: one at least where they fire a dot.
+pub record IsPass (p : Printer) (h : Halftone) (pass : ℕ) (old new : List ℕ) (rasters : ℕ) : Type 0 where
+  pub items : new ≡ old ++ bytes_of canonical_row (inks_commands p h.width 1 (pass_stroke p h pass))
+  pub rasters_are : rasters ≡ rasters_in (inks_commands p h.width 1 (pass_stroke p h pass))
+  pub fire : nat_lt 0 rasters ≡ fires p (pass_stroke p h pass)
+
+-- the bytes of a pass, so many rows below the one before; none where no ink has a dot in it
+abbrev pub pass_bytes : Printer → Halftone → ℕ → ℕ → List ℕ
+pass_bytes p h pass down =
+    if fires p (pass_stroke p h pass)
+    then bytes_of canonical_row (down_by (down * row_units p)) ++ bytes_of canonical_row (inks_commands p h.width 1 (pass_stroke p h pass))
+    else []
+
+-- A pass took its bytes, and so many rasters.
+pub record IsPassSum (p : Printer) (h : Halftone) (pass down : ℕ) (sum : PageSum) : Type 0 where
+  pub bytes : sum.bytes ≡ length (pass_bytes p h pass down)
+  pub rasters : sum.rasters ≡ rasters_in (inks_commands p h.width 1 (pass_stroke p h pass))
+  pub fire : nat_lt 0 sum.rasters ≡ fires p (pass_stroke p h pass)
+
+-- the commands of the passes that have a dot
+abbrev pub fired_strokes : Printer → Halftone → List Spoken
+fired_strokes p h = strokes_commands p h.width 1 0 (filter (fires p) (weave p h).list)

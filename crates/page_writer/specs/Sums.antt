@@ -1,0 +1,31 @@
+-- What a page takes.
+use Rattle.std.specs.Prelude.{◌≡◌, ℕ, ◌+◌, ◌*◌, ◌/◌, List, [], ◌∷◌, length}
+use Rattle.escp2_definitions.specs.Rasters.{raster_count}
+use Rattle.page_definitions.specs.Dots.{Halftone}
+use Rattle.page_definitions.specs.PageBytes.{halftone_bytes, page_coding, weave}
+use Rattle.page_definitions.specs.Strokes.{Spoken, page_commands}
+use Rattle.page_writer.specs.declared.sums.PageSum.{PageSum}
+use Rattle.printer_definitions.specs.Inks.{inks_of}
+use Rattle.printer_definitions.specs.Printer.{Printer}
+use Rattle.weave_definitions.specs.Weave.{pass_count}
+
+-- how many of the commands are rasters
+abbrev pub rasters_in : List Spoken → ℕ
+rasters_in [] = 0
+rasters_in (spoken ∷ job) = raster_count spoken.command + rasters_in job
+
+-- the commands that print a halftone, on a sheet of this length in units
+abbrev pub halftone_commands : Printer → Halftone → ℕ → List Spoken
+halftone_commands p h len = page_commands p h.width h.height page_coding.c len (weave p h)
+
+-- A page took the bytes and the rasters that print a halftone.
+pub record SumsUp (p : Printer) (h : Halftone) (len : ℕ) (sum : PageSum) : Type 0 where
+  pub bytes : sum.bytes ≡ length (halftone_bytes p h len)
+  pub rasters : sum.rasters ≡ rasters_in (halftone_commands p h len)
+
+-- the most bytes of one pass over so many columns, and of a page
+abbrev pub most_of_pass : Printer → ℕ → ℕ
+most_of_pass p width = 7 + length (inks_of p.inks) * (12 + 2 * p.nozzles * ((width + 7) / 8))
+
+abbrev pub most_of_page : Printer → ℕ → ℕ → ℕ
+most_of_page p width height = 49 + pass_count p.nozzles p.pitch height * most_of_pass p width

@@ -1,0 +1,44 @@
+//! The commands before the passes of a page, and behind them.
+ghost use Rattle.escp2_definitions.specs.Canonical.{canonical_row};
+ghost use Rattle.escp2_definitions.specs.declared.command.Command.TheVariants as c;
+ghost use Rattle.page_definitions.specs.Strokes.{bytes_of, say};
+ghost use Rattle.std.specs.Prelude.{[], vec_capacity, vec_len, ◌++◌, ◌+◌, ◌∷◌, ◌≡◌, ◌≤◌};
+
+use crate::numbers::Sheet;
+use escp2_writer::{Command, append_head};
+
+/// Appends the commands before the passes, 46 bytes.
+pub fn append_prologue(sheet: Sheet, out: &mut Vec<u8>)
+    requires { vec_len out.old + 46 ≤ vec_capacity out.old }
+    ensures items { out.new.items ≡ out.old.items ++ bytes_of canonical_row (
+        say c.Init ∷ say c.Graphics ∷ say (c.Unit 5) ∷ say (c.MicroWeave 0) ∷ say (c.OneWay 1)
+        ∷ say (c.Length sheet.length) ∷ say (c.Margins sheet.top sheet.bottom) ∷ say (c.DownTo 0) ∷ []) }
+    ensures len { vec_len out.new ≡ vec_len out.old + 46 }
+    ensures capacity { vec_capacity out.old ≤ vec_capacity out.new }
+{
+    append_head(&Command::Init, out);
+    append_head(&Command::Graphics, out);
+    append_head(&Command::Unit { m: 5 }, out);
+    append_head(&Command::MicroWeave { n: 0 }, out);
+    append_head(&Command::OneWay { n: 1 }, out);
+    append_head(&Command::Length { n: sheet.length }, out);
+    append_head(
+        &Command::Margins {
+            top: sheet.top,
+            bottom: sheet.bottom,
+        },
+        out,
+    );
+    append_head(&Command::DownTo { n: 0 }, out);
+}
+
+/// Appends the commands behind the passes, 3 bytes.
+pub fn append_end(out: &mut Vec<u8>)
+    requires { vec_len out.old + 3 ≤ vec_capacity out.old }
+    ensures items { out.new.items ≡ out.old.items ++ bytes_of canonical_row (say c.Eject ∷ say c.Init ∷ []) }
+    ensures len { vec_len out.new ≡ vec_len out.old + 3 }
+    ensures capacity { vec_capacity out.old ≤ vec_capacity out.new }
+{
+    append_head(&Command::Eject, out);
+    append_head(&Command::Init, out);
+}

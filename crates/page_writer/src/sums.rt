@@ -1,0 +1,50 @@
+//! What a page takes.
+ghost use Rattle.page_writer.specs.Sums.{most_of_page, most_of_pass as most_of_pass_of};
+ghost use Rattle.printer_definitions.specs.Inks.{inks_of};
+ghost use Rattle.printer_profile.specs.Profiles.{printer_of};
+ghost use Rattle.separation_definitions.specs.CanPrint.{CanPrint};
+ghost use Rattle.std.specs.Prelude.{length, ◌*◌, ◌+◌, ◌/◌, ◌≡◌, ◌≤◌};
+
+use printer_profile::{Profile, Window};
+use weave_plan::Plan;
+
+/// What was written of a page.
+#[derive(Clone, Copy, Debug, PartialEq, Eq)]
+pub struct PageSum {
+    /// Bytes of its job.
+    pub bytes: u64,
+    /// Rasters among its commands: for each ink one at most in each pass.
+    pub rasters: u32,
+}
+
+/// The most bytes of an ink in a pass: its colour, back to the left margin, and a raster whose rows' codes are twice as
+/// long as the rows.
+fn most_of_ink(nozzles: u8, width: u32) -> u64
+    requires { width ≤ 8191 }
+    ensures is { result ≡ 12 + 2 * nozzles * ((width + 7) / 8) }
+    ensures most { result ≤ 522252 }
+{
+    12 + 2 * u64::from(nozzles) * ((u64::from(width) + 7) / 8)
+}
+
+/// The most bytes of a pass over so many columns: a step down, and each of its inks.
+pub(crate) fn most_of_pass(p: &Profile, width: u32) -> u64
+    requires { width ≤ 8191 }
+    ensures is { result ≡ most_of_pass_of (printer_of p.now) width }
+    ensures most { result ≤ 2089015 }
+{
+    7 + u64::from(p.inks.count()) * most_of_ink(p.nozzles, width)
+}
+
+/// The most bytes that `write_page` writes of a page with this window: 49 and, for each pass of the head, 7 and for each
+/// ink 12 and twice those of a row for each nozzle.
+pub fn most_bytes(p: &Profile, w: Window) -> u64
+    requires can { CanPrint (printer_of p.now) }
+    requires width { w.width ≤ 8191 }
+    requires some_rows { 1 ≤ w.height }
+    requires most_rows { w.height ≤ 15840 }
+    ensures { result ≡ most_of_page (printer_of p.now) w.width w.height }
+{
+    let plan = Plan::make(p.nozzles, p.pitch, w.height);
+    49 + u64::from(plan.passes()) * most_of_pass(p, w.width)
+}

@@ -1,0 +1,68 @@
+//! What no contract says: whole pages worked by hand, how many writes a page takes, and sinks that fail.
+use crate::{PageForm, PageSum, Planes, Profile, Window, WriteStop, most_bytes, write_page};
+use printer_profile::{InkSet, built_in};
+use pwg_definitions::Kind;
+use std::alloc::Global;
+use std::process::Abort;
+use std::test::Fail;
+use weave_base::{MemSink, Memory};
+
+/// A head of three nozzles two rows apart, under a margin of four rows.
+const TINY: Profile = Profile {
+    hdpi: 360,
+    vdpi: 360,
+    nozzles: 3,
+    pitch: 2,
+    inks: InkSet::K,
+    black_start: 0,
+    limits: [255, 255, 255, 255],
+    left: 0,
+    right: 0,
+    top: 4,
+    bottom: 0,
+};
+
+/// Eight columns and six rows, of which two are inside the margins.
+const FORM: PageForm = PageForm {
+    width: 8,
+    height: 6,
+    kind: Kind::Gray8,
+    bytes_per_line: 8,
+};
+
+/// Its window black: two passes of three coded rows.
+const BLACK_JOB: [u8; 92] = [
+    0x1B, 0x40, 0x1B, 0x28, 0x47, 0x01, 0x00, 0x01, 0x1B, 0x28, 0x55, 0x01, 0x00, 0x05, 0x1B, 0x28,
+    0x69, 0x01, 0x00, 0x00, 0x1B, 0x55, 0x01, 0x1B, 0x28, 0x43, 0x02, 0x00, 0x0C, 0x00, 0x1B, 0x28,
+    0x63, 0x04, 0x00, 0x00, 0x00, 0x0C, 0x00, 0x1B, 0x28, 0x56, 0x02, 0x00, 0x00, 0x00, 0x1B, 0x72,
+    0x00, 0x0D, 0x1B, 0x2E, 0x01, 0x14, 0x0A, 0x03, 0x08, 0x00, 0x00, 0x00, 0x00, 0x00, 0x00, 0xFF,
+    0x1B, 0x28, 0x76, 0x02, 0x00, 0x06, 0x00, 0x1B, 0x72, 0x00, 0x0D, 0x1B, 0x2E, 0x01, 0x14, 0x0A,
+    0x03, 0x08, 0x00, 0x00, 0x00, 0x00, 0xFF, 0x00, 0x00, 0x0C, 0x1B, 0x40,
+];
+
+/// The planes of a black window of eight columns and two rows.
+fn black_planes(alloc: Global) -> Result<Planes, Memory> {
+    let mut planes = Planes::make(alloc, 8, 2, 1)?;
+    for x in 0..8 {
+        planes.turn_on(0, x, 0);
+        planes.turn_on(0, x, 1);
+    }
+    Ok(planes)
+}
+
+#[test]
+fn tiny_prints_ninety_two_bytes(rt: HostRuntime) -> Result<(), Fail> {
+    let alloc = rt.alloc();
+    assert_eq!(rt; TINY.check(), Ok(()));
+    let planes = black_planes(alloc)?;
+    let mut sink = MemSink::make(alloc, 100, Vec::new(alloc), Vec::new(alloc))?;
+    assert_eq!(rt;
+        write_page(alloc, &TINY, FORM, &planes, &mut sink),
+        Ok(PageSum {
+            bytes: 92,
+            rasters: 2,
+        })
+    );
+    assert_eq!(rt; sink.bytes(), BLACK_JOB.as_slice());
+    Ok(())
+}
