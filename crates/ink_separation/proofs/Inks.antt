@@ -1,5 +1,5 @@
 -- What greys and colours give to each ink.
-use Rattle.std.proofs.Common.{◌≡◌, ℕ, ◌+◌, length, min, ◌-◌, ◌*◌, ◌/◌, ◌<◌, ◌≤◌, List, get_or, ltb, cond, true, false, refl, sym, ◌∙◌, ap, arith, subst}
+use Rattle.std.proofs.Common.{◌≡◌, ℕ, ◌+◌, length, min, ◌-◌, ◌*◌, ◌/◌, ◌<◌, ◌≤◌, List, get_or, sym, ◌∙◌, ap, arith}
 use Rattle.std.proofs.lemmas.Bool.Decides.{nat_tests}
 use Rattle.printer_definitions.specs.declared.inks.Ink.{Ink}
 use Rattle.printer_definitions.specs.declared.inks.Ink.TheVariants.{Black, Cyan, Magenta, Yellow}

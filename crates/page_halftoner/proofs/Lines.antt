@@ -1,12 +1,12 @@
 -- One more line of a page.
-use Rattle.std.proofs.Common.{◌≡◌, ◌≢◌, ◌⊎◌, ℕ, ◌+◌, ◌-◌, ◌<◌, ◌≤◌, List, [], ◌∷◌, ◌++◌, Bool, Some, slice_get, length, get_or, min, refl, sym, ◌∙◌, ap, arith, inl, inr, subst, append_assoc, length-append, replicate, suc, zero}
+use Rattle.std.proofs.Common.{◌≡◌, ◌⊎◌, ℕ, ◌+◌, ◌<◌, ◌≤◌, List, [], ◌∷◌, ◌++◌, Some, slice_get, length, get_or, refl, sym, ◌∙◌, ap, arith, inl, inr, subst, append_assoc, length-append, replicate, suc, zero}
 use Rattle.std.proofs.lemmas.Bool.{cases_eq}
 use Rattle.std.proofs.lemmas.List.{append-nil, get_or_at}
 use Rattle.std.proofs.lemmas.Option.{slice_get-get_or, slice_get_cases, slice_get_within}
 use Rattle.diffusion_definitions.specs.Diffusion.{Errors, Plane, Solves, Table, errors, no_top, on}
 use Rattle.diffusion_laws.proofs.Solve.{errors_solve}
 use Rattle.diffusion_kernel.specs.Tables.{table_of}
-use Rattle.dot_planes.specs.Tables.{AmountTable, DotTable, amount, dot}
+use Rattle.dot_planes.specs.Tables.{AmountTable, DotTable, dot}
 use Rattle.printer_definitions.specs.Inks.{inks_of}
 use Rattle.printer_definitions.specs.declared.inks.Ink.{Ink}
 use Rattle.printer_profile.specs.Profiles.{printer_of}
@@ -14,7 +14,6 @@ use Rattle.printer_profile.specs.declared.fields.Profile.{Profile}
 use Rattle.pwg_definitions.specs.declared.pages.PageForm.{PageForm}
 use Rattle.row_diffusion.specs.Errors.{IsReached, TwoRows}
 use Rattle.separation_definitions.specs.Amounts.{amount as amount_of, pixel_at}
-use Rattle.separation_definitions.specs.declared.window.Window.{Window}
 use Rattle.page_halftoner.specs.Halftones.{Halftoning, HasAmountsOf, IsSamePage, IsUpTo, StandsFor, plane_of, rows_done, window}
 use Rattle.page_definitions.specs.Dots.{HasDots, halftone}
 use Rattle.page_halftoner.specs.Rows.{HasInkRow, IsRowDone}

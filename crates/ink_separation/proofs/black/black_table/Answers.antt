@@ -1,4 +1,4 @@
-use Rattle.std.proofs.Common.{◌≡◌, ℕ, ◌-◌, ◌*◌, ◌/◌, ◌<◌, ◌∙◌, ap, arith, get_or, length-set, refl}
+use Rattle.std.proofs.Common.{◌≡◌, ℕ, ◌-◌, ◌*◌, ◌/◌, ◌∙◌, ap, arith, length-set, refl}
 use Rattle.std.proofs.lemmas.List.{get_or-replicate}
 use Rattle.separation_definitions.specs.Amounts.{moved_to_black}
 use Rattle.ink_separation.proofs.Filled.{filled_more}

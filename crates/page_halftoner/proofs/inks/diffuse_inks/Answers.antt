@@ -1,12 +1,12 @@
-use Rattle.std.proofs.Common.{◌≡◌, ◌≢◌, ℕ, ◌+◌, ◌<◌, ◌≤◌, Some, slice_get, get_or, map, length, sym, ◌∙◌, ap, arith, inl, inr, set, length-set, subst}
+use Rattle.std.proofs.Common.{◌≡◌, ℕ, ◌+◌, ◌<◌, Some, slice_get, get_or, map, length, sym, ◌∙◌, ap, arith, inl, inr, set, length-set, subst}
 use Rattle.std.proofs.lemmas.Bool.{cases_eq}
 use Rattle.std.proofs.lemmas.Option.{same_Some, slice_get-get_or, slice_get_within}
-use Rattle.diffusion_definitions.specs.Diffusion.{Errors, Plane, Solves, Table, on}
+use Rattle.diffusion_definitions.specs.Diffusion.{Plane, Table, on}
 use Rattle.diffusion_kernel.specs.Tables.{table_of}
 use Rattle.dot_planes.specs.Tables.{amount, dot}
 use Rattle.escp2_definitions.specs.Packed.{packed}
 use Rattle.weave_definitions.specs.Weave.{count_from}
-use Rattle.row_diffusion.specs.Errors.{IsReached, TwoRows}
+use Rattle.row_diffusion.specs.Errors.{TwoRows}
 use Rattle.row_diffusion.specs.Rows.{HasRow}
 use Rattle.page_halftoner.specs.Rows.{HasInkRow}
 use Rattle.page_halftoner.proofs.Elements.{set_beside, set_is}
