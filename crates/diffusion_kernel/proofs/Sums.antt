@@ -1,10 +1,10 @@
 -- What the code's sums are, whose numbers are held in 16 and 32 bits.
-use Rattle.std.proofs.Common.{ℕ, ℤ, pos, ◌≡◌, ◌<◌, ◌≤◌, ◌+◌, ◌-◌, ◌*◌, ◌/◌, ◌%◌, ◌-ℤ◌, negsuc, nat_abs, ◌+ℤ◌, ◌*ℤ◌, to_z, of_z, w16, w32, FitsSigned, arith, ap, ◌∙◌, lit≤, List, subst, sym}
+use Rattle.std.proofs.Common.{ℕ, ℤ, pos, ◌≡◌, ◌<◌, ◌≤◌, ◌+◌, ◌-◌, ◌*◌, ◌/◌, ◌%◌, ◌-ℤ◌, negsuc, nat_abs, ◌+ℤ◌, ◌*ℤ◌, to_z, of_z, w16, w32, FitsSigned, arith, ap, ◌∙◌, lit≤, subst, sym}
 use Rattle.std.proofs.lemmas.Int.{ints}
 use Rattle.std.proofs.lemmas.Nat.{div-mul-add}
 use Rattle.std.proofs.Math.Nat.{add-mul-div_left, div-lt_iff_lt-mul}
 use Rattle.std.specs.Int.{int_div_euclid}
-use Rattle.diffusion_definitions.specs.Diffusion.{EachInRange, InRange, IsParts, Table, divisor, weighted}
+use Rattle.diffusion_definitions.specs.Diffusion.{InRange, IsParts}
 use Rattle.diffusion_definitions.proofs.Ranges.{quotient_in}
 
 -- a number as 32 bits hold it

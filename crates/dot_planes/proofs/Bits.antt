@@ -1,8 +1,8 @@
 -- The eight dots of a byte.
-use Rattle.std.proofs.Common.{◌≡◌, ℕ, zero, suc, ◌+◌, ◌<◌, ◌≤◌, ◌==◌, Bool, true, false, ◌&&◌, List, [], ◌∷◌, get_or, refl, sym, ◌∙◌, ap, arith, inl, inr, count_ones, eqb}
+use Rattle.std.proofs.Common.{◌≡◌, ℕ, zero, suc, ◌+◌, ◌<◌, Bool, true, false, ◌&&◌, refl, ◌∙◌, ap, arith, inl, inr, count_ones, eqb}
 use Rattle.std.proofs.lemmas.Bool.{cases_lt, eqb-true}
 use lib.Count.{ones, ones_in}
-use Rattle.escp2_definitions.specs.Machine.{bit_at, byte_bits}
+use Rattle.escp2_definitions.specs.Machine.{bit_at}
 use Rattle.escp2_definitions.specs.Packed.{worth}
 
 -- the byte of eight dots

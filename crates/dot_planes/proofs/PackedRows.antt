@@ -7,7 +7,7 @@ use Rattle.escp2_definitions.specs.Machine.{bit_at}
 use Rattle.escp2_definitions.specs.Packed.{at, packed, packed_byte, packed_bytes, worth}
 use Rattle.weave_definitions.specs.Weave.{count_from}
 use Rattle.dot_planes.specs.Tables.{row_dot, row_len}
-use Rattle.dot_planes.proofs.Bits.{byte_of, byte_of-bits, byte_of-says, how_many}
+use Rattle.dot_planes.proofs.Bits.{byte_of, byte_of-bits, byte_of-says}
 
 -- ---- numbers in a row
 

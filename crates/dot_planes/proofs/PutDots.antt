@@ -1,12 +1,11 @@
 -- Dots of packed planes are written.
-use Rattle.std.proofs.Common.{◌≡◌, ◌≢◌, ◌⊎◌, ℕ, ◌+◌, ◌-◌, ◌*◌, ◌/◌, ◌%◌, ◌^◌, ◌==◌, ◌<◌, ◌≤◌, Bool, true, false, List, length, get_or, set, sym, ◌∙◌, ap, arith, inl, inr, refl, subst, bit_or, get_or-set_other, get_or-set_same}
+use Rattle.std.proofs.Common.{◌≡◌, ◌≢◌, ◌⊎◌, ℕ, ◌+◌, ◌-◌, ◌*◌, ◌/◌, ◌%◌, ◌^◌, ◌==◌, ◌<◌, ◌≤◌, true, false, List, length, get_or, set, sym, ◌∙◌, ap, arith, inl, inr, refl, subst, bit_or, get_or-set_other, get_or-set_same}
 use Rattle.std.proofs.lemmas.Bool.{cases_eq, cases_lt}
 use Rattle.std.proofs.lemmas.List.{get_or_past}
 use Rattle.std.proofs.lemmas.Nat.Bits.{bit_at_set_other, bit_at_set_same}
 use Rattle.std.specs.Int.{w8}
 use borrow.Rule.Slice.PartMut.{put_mid}
 use Rattle.escp2_definitions.specs.Machine.{bit_at}
-use Rattle.escp2_definitions.specs.Packed.{at, packed}
 use Rattle.dot_planes.specs.Tables.{DotTable, IsPackedRow, PutsRow, TurnsOn, dot, row_at, row_dot, row_len}
 use Rattle.dot_planes.proofs.PackedRows.{dot_of_packed, packed-len}
 use Rattle.dot_planes.proofs.RowBytes.{apart, bytes_inside, no_byte, row_byte, row_inside, row_kept, rows_differ}

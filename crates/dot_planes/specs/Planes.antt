@@ -1,5 +1,5 @@
 -- What stands in planes.
-use Rattle.std.specs.Prelude.{◌≡◌, ℕ, ◌*◌, ◌<◌, ◌≤◌, Bool, false, length}
+use Rattle.std.specs.Prelude.{◌≡◌, ℕ, ◌*◌, ◌<◌, ◌≤◌, false, length}
 use Rattle.dot_planes.specs.Tables.{DotTable, IsSize, row_at, row_dot, row_len}
 use Rattle.dot_planes.specs.declared.planes.Planes.TheInside.{Inside}
 

@@ -51,19 +51,23 @@ cut_out-is line left width x many u unit e inside fits =
     let P : ℕ → Type 0 = λ n. IsChunk line (cut_out line left x many u) n (left + x) many in
     subst P e (record {
       at = λ i low.
-        let place : left * u + (x * u + i) ≡ (left + x) * u + i = omega arith in
-        get_or-take (x * u + many * u - x * u) (drop (x * u) (take (length line - left * u) (drop (left * u) line))) i 0 (omega arith)
-        ∙ get_or-drop (x * u) (take (length line - left * u) (drop (left * u) line)) i 0
-        ∙ get_or-take (length line - left * u) (drop (left * u) line) (x * u + i) 0 (omega arith)
-        ∙ get_or-drop (left * u) line (x * u + i) 0
-        ∙ ap (λ n. get_or line n 0) place;
+          let place : left * u + (x * u + i) ≡ (left + x) * u + i = omega arith in
+          get_or-take (x * u + many * u - x * u) (drop (x * u) (take (length line - left * u) (drop (left * u) line))) i 0 (omega arith)
+          ∙ get_or-drop (x * u) (take (length line - left * u) (drop (left * u) line)) i 0
+          ∙ get_or-take (length line - left * u) (drop (left * u) line) (x * u + i) 0 (omega arith)
+          ∙ get_or-drop (left * u) line (x * u + i) 0
+          ∙ ap (λ n. get_or line n 0) place;
     })
 
 pub cut_out-len : (line : List ℕ) (left width x many u unit : ℕ) → u ≡ unit → x + many ≤ width → (left + width) * u ≤ length line
     → many * unit ≤ length (cut_out line left x many u)
 cut_out-len line left width x many u unit e inside fits =
-    omega (arith, room line left width x many u inside fits, ap (λ n. many * n) e,
-    length-take (x * u + many * u - x * u) (drop (x * u) (take (length line - left * u) (drop (left * u) line))),
-    length-drop (x * u) (take (length line - left * u) (drop (left * u) line)),
-    length-take (length line - left * u) (drop (left * u) line),
-    length-drop (left * u) line)
+    omega (
+      arith,
+      room line left width x many u inside fits,
+      ap (λ n. many * n) e,
+      length-take (x * u + many * u - x * u) (drop (x * u) (take (length line - left * u) (drop (left * u) line))),
+      length-drop (x * u) (take (length line - left * u) (drop (left * u) line)),
+      length-take (length line - left * u) (drop (left * u) line),
+      length-drop (left * u) line,
+    )

@@ -1,5 +1,5 @@
 -- What greys and colours give to each ink.
-use Rattle.std.proofs.Common.{◌≡◌, ℕ, ◌+◌, length, min, ◌-◌, ◌*◌, ◌/◌, ◌<◌, ◌≤◌, List, get_or, ltb, cond, true, false, refl, sym, ◌∙◌, ap, arith, subst}
+use Rattle.std.proofs.Common.{◌≡◌, ℕ, ◌+◌, length, min, ◌-◌, ◌*◌, ◌/◌, ◌<◌, ◌≤◌, List, get_or, sym, ◌∙◌, ap, arith}
 use Rattle.std.proofs.lemmas.Bool.Decides.{nat_tests}
 use Rattle.printer_definitions.specs.declared.inks.Ink.{Ink}
 use Rattle.printer_definitions.specs.declared.inks.Ink.TheVariants.{Black, Cyan, Magenta, Yellow}
@@ -52,14 +52,14 @@ black_is_moved inks least pixels table common wanted given is moved few wants co
     let low : x < 64 = omega arith in
     let lacks : (i : Ink) → get_or (given_to wanted i) x 0 ≡ complement colour i = λ i. wants i x inside in
     let q : get_or common x 0 ≡ common_darkness colour =
-        commons x low ∙ ap (λ n. min (min n (get_or wanted.magenta x 0)) (get_or wanted.yellow x 0)) (lacks Cyan)
-        ∙ ap (λ n. min (min (complement colour Cyan) n) (get_or wanted.yellow x 0)) (lacks Magenta)
-        ∙ ap (λ n. min (min (complement colour Cyan) (complement colour Magenta)) n) (lacks Yellow) in
+    commons x low ∙ ap (λ n. min (min n (get_or wanted.magenta x 0)) (get_or wanted.yellow x 0)) (lacks Cyan)
+    ∙ ap (λ n. min (min (complement colour Cyan) n) (get_or wanted.yellow x 0)) (lacks Magenta)
+    ∙ ap (λ n. min (min (complement colour Cyan) (complement colour Magenta)) n) (lacks Yellow) in
     let byte : common_darkness colour < 256 = omega arith in
     let k : get_or given.black x 0 ≡ moved_to_black least (common_darkness colour) =
-        black x low ∙ ap (λ n. get_or table n 0) q ∙ moved.at (common_darkness colour) byte in
+    black x low ∙ ap (λ n. get_or table n 0) q ∙ moved.at (common_darkness colour) byte in
     let rest : (value : ℕ) (i : Ink) → value ≡ get_or (given_to wanted i) x 0 - get_or given.black x 0 → value ≡ complement colour i - moved_to_black least (common_darkness colour) =
-        λ value i e. e ∙ ap (λ n. n - get_or given.black x 0) (lacks i) ∙ ap (λ n. complement colour i - n) k in
+    λ value i e. e ∙ ap (λ n. n - get_or given.black x 0) (lacks i) ∙ ap (λ n. complement colour i - n) k in
     let four : get_or (given_to given ink) x 0 ≡ four_inks least colour ink = elim ink as (λ i. get_or (given_to given i) x 0 ≡ four_inks least colour i) [
       | Black ↦ k
       | Cyan ↦ rest _ Cyan (cyan x low)

@@ -8,8 +8,8 @@ ghost use Rattle.std.specs.Prelude.{length, slice_index, ℕ, ◌*◌, ◌+◌, 
 
 use crate::black::{BlackTable, black_of};
 use crate::pixels::{PIXELS, Values, complements, darkness_of, inverted, least_of, less, same};
-use printer_profile::{InkSet, Profile};
 use printer_definitions::Ink;
+use printer_profile::{InkSet, Profile};
 use pwg_definitions::Kind;
 
 /// What up to 64 pixels give to each ink. An ink that the printer does not carry may have any values.

@@ -9,5 +9,5 @@ mod pixels;
 
 pub use lines::amounts;
 
-
-
+#[cfg(test)]
+mod tests;

@@ -1,5 +1,5 @@
 -- Elements of a list, one of which is set.
-use Rattle.std.proofs.Common.{◌≡◌, ◌≢◌, ℕ, zero, suc, ◌<◌, List, [], ◌∷◌, Option, Some, slice_get, length, set, get_or, refl, sym, ◌∙◌, ap, arith, ◌++◌, ◌⊎◌, inl, inr, length-set, get_or-set_same}
+use Rattle.std.proofs.Common.{◌≡◌, ◌≢◌, ℕ, zero, suc, ◌<◌, List, [], ◌∷◌, Some, slice_get, length, set, refl, sym, ◌∙◌, ap, arith, ◌++◌, ◌⊎◌, inl, inr, length-set, get_or-set_same}
 use Rattle.std.proofs.lemmas.Option.{none-some, same_Some, slice_get-get_or}
 
 pub set_at : {X : Type 0} (xs : List X) (i : ℕ) (x : X) → i < length xs → slice_get (set xs i x) i ≡ Some x

@@ -1,10 +1,9 @@
 -- A row of one ink more.
-use Rattle.std.proofs.Common.{◌≡◌, ◌≢◌, ℕ, ◌+◌, ◌<◌, ◌≤◌, List, Bool, Some, slice_get, length, map, get_or, refl, sym, ◌∙◌, ap, arith, inl, inr, subst}
-use Rattle.std.proofs.lemmas.Bool.{cases_eq}
-use Rattle.diffusion_definitions.specs.Diffusion.{Errors, Plane, Solves, Table, on}
+use Rattle.std.proofs.Common.{◌≡◌, ℕ, ◌+◌, ◌<◌, List, Bool, length, map, get_or, ◌∙◌, ap, arith, subst}
+use Rattle.diffusion_definitions.specs.Diffusion.{Errors, Plane}
 use Rattle.dot_planes.specs.Tables.{AmountTable, DotTable, PutsRow, amount, dot}
 use Rattle.dot_planes.proofs.PackedRows.{counted-at, counted-len}
-use Rattle.escp2_definitions.specs.Packed.{at, packed}
+use Rattle.escp2_definitions.specs.Packed.{packed}
 use Rattle.row_diffusion.specs.Errors.{IsReached, TwoRows}
 use Rattle.row_diffusion.specs.Rows.{HasRow}
 use Rattle.weave_definitions.specs.Weave.{count_from}

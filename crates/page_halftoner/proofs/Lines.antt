@@ -1,12 +1,12 @@
 -- One more line of a page.
-use Rattle.std.proofs.Common.{◌≡◌, ◌≢◌, ◌⊎◌, ℕ, ◌+◌, ◌-◌, ◌<◌, ◌≤◌, List, [], ◌∷◌, ◌++◌, Bool, Some, slice_get, length, get_or, min, refl, sym, ◌∙◌, ap, arith, inl, inr, subst, append_assoc, length-append, replicate, suc, zero}
+use Rattle.std.proofs.Common.{◌≡◌, ◌⊎◌, ℕ, ◌+◌, ◌<◌, ◌≤◌, List, [], ◌∷◌, ◌++◌, Some, slice_get, length, get_or, refl, sym, ◌∙◌, ap, arith, inl, inr, subst, append_assoc, length-append, replicate, suc, zero}
 use Rattle.std.proofs.lemmas.Bool.{cases_eq}
 use Rattle.std.proofs.lemmas.List.{append-nil, get_or_at}
 use Rattle.std.proofs.lemmas.Option.{slice_get-get_or, slice_get_cases, slice_get_within}
 use Rattle.diffusion_definitions.specs.Diffusion.{Errors, Plane, Solves, Table, errors, no_top, on}
 use Rattle.diffusion_laws.proofs.Solve.{errors_solve}
 use Rattle.diffusion_kernel.specs.Tables.{table_of}
-use Rattle.dot_planes.specs.Tables.{AmountTable, DotTable, amount, dot}
+use Rattle.dot_planes.specs.Tables.{AmountTable, DotTable, dot}
 use Rattle.printer_definitions.specs.Inks.{inks_of}
 use Rattle.printer_definitions.specs.declared.inks.Ink.{Ink}
 use Rattle.printer_profile.specs.Profiles.{printer_of}
@@ -14,7 +14,6 @@ use Rattle.printer_profile.specs.declared.fields.Profile.{Profile}
 use Rattle.pwg_definitions.specs.declared.pages.PageForm.{PageForm}
 use Rattle.row_diffusion.specs.Errors.{IsReached, TwoRows}
 use Rattle.separation_definitions.specs.Amounts.{amount as amount_of, pixel_at}
-use Rattle.separation_definitions.specs.declared.window.Window.{Window}
 use Rattle.page_halftoner.specs.Halftones.{Halftoning, HasAmountsOf, IsSamePage, IsUpTo, StandsFor, plane_of, rows_done, window}
 use Rattle.page_definitions.specs.Dots.{HasDots, halftone}
 use Rattle.page_halftoner.specs.Rows.{HasInkRow, IsRowDone}
@@ -49,9 +48,9 @@ in_margin h line lines margin s =
     record {
       count = count_more lines line h.count s.count;
       inks = λ i ink rows more is at.
-        let Q : List (List ℕ) → Type 0 = λ ls. IsUpTo (table_of h.kernel) (plane_of h ink ls) (rows_done (window h) h.count) rows (dot h.planes i) in
-        let R : ℕ → Type 0 = λ n. IsUpTo (table_of h.kernel) (plane_of h ink ((lines ++ line ∷ []) ++ more)) n rows (dot h.planes i) in
-        subst R rows_same (subst Q (sym (behind lines line more)) (s.inks i ink rows (line ∷ more) is at));
+          let Q : List (List ℕ) → Type 0 = λ ls. IsUpTo (table_of h.kernel) (plane_of h ink ls) (rows_done (window h) h.count) rows (dot h.planes i) in
+          let R : ℕ → Type 0 = λ n. IsUpTo (table_of h.kernel) (plane_of h ink ((lines ++ line ∷ []) ++ more)) n rows (dot h.planes i) in
+          subst R rows_same (subst Q (sym (behind lines line more)) (s.inks i ink rows (line ∷ more) is at));
     }
 
 -- The amounts in hand are those of the row that the line is.
@@ -93,16 +92,16 @@ in_window h line lines y errs planes place low wide tall done amounts s =
     record {
       count = count_more lines line h.count s.count;
       inks = λ i ink rows more is at.
-        let inside : i < length h.errors = omega (arith, done.len, slice_get_within errs i rows at) in
-        let before : TwoRows = get_or h.errors i rows in
-        let before_at : slice_get h.errors i ≡ Some before = slice_get-get_or h.errors i rows inside in
-        let p : Plane = plane_of h ink (lines ++ (line ∷ more)) in
-        let has : HasInkRow h.amounts i p y = has_ink_row h line lines more i y ink amounts s.count place low wide is in
-        let up : IsUpTo k p y before (dot h.planes i) = (let P : ℕ → Type 0 = λ n. IsUpTo k p n before (dot h.planes i) in subst P rows_old (s.inks i ink before (line ∷ more) is before_at)) in
-        let now : IsUpTo k p (y + 1) rows (dot planes i) = row_more k p y h.amounts i before rows h.errors errs h.planes planes done has (omega arith) before_at at up in
-        let Q : List (List ℕ) → Type 0 = λ ls. IsUpTo k (plane_of h ink ls) (y + 1) rows (dot planes i) in
-        let R : ℕ → Type 0 = λ n. IsUpTo k (plane_of h ink ((lines ++ line ∷ []) ++ more)) n rows (dot planes i) in
-        subst R rows_new (subst Q (sym (behind lines line more)) now);
+          let inside : i < length h.errors = omega (arith, done.len, slice_get_within errs i rows at) in
+          let before : TwoRows = get_or h.errors i rows in
+          let before_at : slice_get h.errors i ≡ Some before = slice_get-get_or h.errors i rows inside in
+          let p : Plane = plane_of h ink (lines ++ (line ∷ more)) in
+          let has : HasInkRow h.amounts i p y = has_ink_row h line lines more i y ink amounts s.count place low wide is in
+          let up : IsUpTo k p y before (dot h.planes i) = (let P : ℕ → Type 0 = λ n. IsUpTo k p n before (dot h.planes i) in subst P rows_old (s.inks i ink before (line ∷ more) is before_at)) in
+          let now : IsUpTo k p (y + 1) rows (dot planes i) = row_more k p y h.amounts i before rows h.errors errs h.planes planes done has (omega arith) before_at at up in
+          let Q : List (List ℕ) → Type 0 = λ ls. IsUpTo k (plane_of h ink ls) (y + 1) rows (dot planes i) in
+          let R : ℕ → Type 0 = λ n. IsUpTo k (plane_of h ink ((lines ++ line ∷ []) ++ more)) n rows (dot planes i) in
+          subst R rows_new (subst Q (sym (behind lines line more)) now);
     }
 
 -- Before the first line no row is reached.
@@ -113,13 +112,13 @@ at_top h none top =
     record {
       count = sym none;
       inks = λ i ink rows more is at.
-        let k : Table = table_of h.kernel in
-        let p : Plane = plane_of h ink more in
-        let up = top i rows at in
-        let first : IsReached rows (errors k p no_top) 0 = record { up2 = record { at = up.up2.at }; up1 = record { at = up.up1.at } } in
-        let start : IsUpTo k p 0 rows (dot h.planes i) = record { reached = first; dots_are = λ r x below inside. absurd (omega arith) } in
-        let R : ℕ → Type 0 = λ n. IsUpTo k p n rows (dot h.planes i) in
-        subst R rows_none start;
+          let k : Table = table_of h.kernel in
+          let p : Plane = plane_of h ink more in
+          let up = top i rows at in
+          let first : IsReached rows (errors k p no_top) 0 = record { up2 = record { at = up.up2.at }; up1 = record { at = up.up1.at } } in
+          let start : IsUpTo k p 0 rows (dot h.planes i) = record { reached = first; dots_are = λ r x below inside. absurd (omega arith) } in
+          let R : ℕ → Type 0 = λ n. IsUpTo k p n rows (dot h.planes i) in
+          subst R rows_none start;
     }
 
 -- the amounts in hand do not depend on lines and dots
@@ -150,12 +149,12 @@ whole_page h lines s all wide tall inks errors_len = record {
   rows_is = tall;
   inks_is = inks;
   dots = λ i y x ink is low inside.
-    let below : i < length h.errors = omega (arith, errors_len, slice_get_within (inks_of h.profile.inks) i ink is) in
-    elim ((slice_get_cases h.errors i).1) [
-      | inl found ↦
-          let up = s.inks i ink found.0 [] is found.2 in
-          let Q : List (List ℕ) → Type 0 = λ ls. dot h.planes i y x ≡ on (table_of h.kernel) (plane_of h ink ls) (errors (table_of h.kernel) (plane_of h ink ls) no_top) y x in
-          subst Q (append-nil lines) (up.dots_are y x (omega (arith, all)) inside)
-      | inr past ↦ absurd (omega (arith, past.0))
-    ];
+      let below : i < length h.errors = omega (arith, errors_len, slice_get_within (inks_of h.profile.inks) i ink is) in
+      elim ((slice_get_cases h.errors i).1) [
+        | inl found ↦
+            let up = s.inks i ink found.0 [] is found.2 in
+            let Q : List (List ℕ) → Type 0 = λ ls. dot h.planes i y x ≡ on (table_of h.kernel) (plane_of h ink ls) (errors (table_of h.kernel) (plane_of h ink ls) no_top) y x in
+            subst Q (append-nil lines) (up.dots_are y x (omega (arith, all)) inside)
+        | inr past ↦ absurd (omega (arith, past.0))
+      ];
 }

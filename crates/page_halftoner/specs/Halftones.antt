@@ -8,7 +8,6 @@ use Rattle.printer_definitions.specs.Inks.{inks_of}
 use Rattle.printer_definitions.specs.declared.inks.Ink.{Ink}
 use Rattle.printer_profile.specs.Profiles.{printer_of}
 use Rattle.printer_profile.specs.declared.fields.Profile.{Profile}
-use Rattle.pwg_definitions.specs.Stream.{Page}
 use Rattle.pwg_definitions.specs.declared.pages.PageForm.{PageForm}
 use Rattle.row_diffusion.specs.Errors.{IsReached, TwoRows}
 use Rattle.separation_definitions.specs.Amounts.{amount as amount_of, ink_plane, pixel_at}

@@ -5,3 +5,6 @@ mod halftoner;
 mod inks;
 
 pub use halftoner::Halftoner;
+
+#[cfg(test)]
+mod tests;

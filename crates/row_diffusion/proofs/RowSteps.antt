@@ -1,9 +1,9 @@
 -- One more pixel of a row.
-use Rattle.std.proofs.Common.{ℕ, ℤ, pos, ◌≡◌, ◌≢◌, ◌+◌, ◌-◌, ◌*◌, ◌<◌, ◌≤◌, ◌∙◌, Bool, true, false, ap, refl, sym, arith, inl, inr, List, [], ◌∷◌, get_or, set, length, get_or-set_same, get_or-set_other, ◌&&◌, replicate, zero, suc, subst}
+use Rattle.std.proofs.Common.{ℕ, ℤ, pos, ◌≡◌, ◌≢◌, ◌+◌, ◌-◌, ◌<◌, ◌≤◌, ◌∙◌, Bool, true, false, ap, sym, arith, inl, inr, List, [], ◌∷◌, get_or, set, length, get_or-set_same, get_or-set_other, ◌&&◌, zero, suc, subst}
 use Rattle.std.proofs.lemmas.Bool.{cases_eq, cases_lt, lt-ltb, and_from}
 use Rattle.std.proofs.lemmas.List.{set_past}
 use Rattle.diffusion_definitions.specs.Diffusion.{EachInRange, Errors, InRange, Plane, Solves, Table, error_of, five, inside, is_dot, on, value, value_at}
-use Rattle.row_diffusion.specs.Rows.{HasRow, IsBordered, RowIs}
+use Rattle.row_diffusion.specs.Rows.{IsBordered, RowIs}
 
 -- The row is right left of x.
 pub record RowUpTo (e : Errors) (y x : ℕ) (xs : List ℤ) : Type 0 where

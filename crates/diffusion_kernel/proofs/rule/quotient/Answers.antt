@@ -1,5 +1,4 @@
-use Rattle.std.proofs.Common.{pos, sym, subst}
-use Rattle.std.specs.Int.{int_div_euclid}
+use Rattle.std.proofs.Common.{sym, subst}
 use Rattle.diffusion_definitions.specs.Diffusion.{InRange}
 use Rattle.diffusion_definitions.proofs.Ranges.{quotient_in}
 use Rattle.diffusion_kernel.proofs.Sums.{quotient_is}

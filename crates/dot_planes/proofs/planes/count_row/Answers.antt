@@ -1,5 +1,4 @@
-use Rattle.std.proofs.Common.{◌≡◌, ◌+◌, ◌<◌, ◌≤◌, ◌∙◌, ap, sym, get_or, take, count_ones, arith, length}
-use Rattle.std.specs.List.{sum_by}
+use Rattle.std.proofs.Common.{◌+◌, ◌<◌, ◌≤◌, ◌∙◌, ap, sym, get_or, count_ones, arith, length}
 use Rattle.std.proofs.lemmas.List.Sums.{sum_by_more}
 use lib.Count.{ones-le}
 use Rattle.dot_planes.proofs.planes.count_row.Goals as goal

@@ -1,4 +1,4 @@
-use Rattle.std.proofs.Common.{ℕ, arith}
+use Rattle.std.proofs.Common.{ℕ}
 use Rattle.std.proofs.lemmas.List.{get_or-replicate}
 use Rattle.ink_separation.proofs.Inks.{complements_are}
 use Rattle.ink_separation.proofs.given.complements_given.Goals as goal

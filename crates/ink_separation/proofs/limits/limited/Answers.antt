@@ -1,4 +1,4 @@
-use Rattle.std.proofs.Common.{ℕ, ◌*◌, ◌/◌, arith, get_or, ◌∙◌, length-set}
+use Rattle.std.proofs.Common.{◌*◌, ◌/◌, arith, get_or, ◌∙◌, length-set}
 use Rattle.ink_separation.proofs.Filled.{filled_more}
 use Rattle.ink_separation.proofs.limits.limited.Goals as goal
 

@@ -1,4 +1,4 @@
-use Rattle.std.proofs.Common.{ℕ, arith, ◌∙◌, length-set}
+use Rattle.std.proofs.Common.{arith, ◌∙◌, length-set}
 use Rattle.separation_definitions.specs.Amounts.{darkness}
 use Rattle.ink_separation.specs.Given.{colour_at}
 use Rattle.ink_separation.proofs.Filled.{filled_more}

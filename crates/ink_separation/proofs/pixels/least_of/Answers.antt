@@ -1,4 +1,4 @@
-use Rattle.std.proofs.Common.{ℕ, ap, arith, get_or, min, ◌∙◌, length-set}
+use Rattle.std.proofs.Common.{ap, arith, get_or, min, ◌∙◌, length-set}
 use Rattle.ink_separation.proofs.Filled.{filled_more}
 use Rattle.ink_separation.proofs.pixels.least_of.Goals as goal
 

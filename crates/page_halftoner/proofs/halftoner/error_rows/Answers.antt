@@ -1,4 +1,4 @@
-use Rattle.std.proofs.Common.{◌≡◌, ◌++◌, ◌∷◌, [], ◌+◌, List, ap, arith, length, length-append, slice_get, Some, sym, ◌∙◌, inl, inr}
+use Rattle.std.proofs.Common.{◌≡◌, ◌++◌, ◌∷◌, [], List, ap, arith, length, length-append, slice_get, sym, ◌∙◌, inl, inr}
 use Rattle.row_diffusion.specs.Errors.{TwoRows}
 use Rattle.page_halftoner.proofs.Elements.{push_cases}
 use Rattle.page_halftoner.proofs.InkSteps.{reached_as}

@@ -1,4 +1,4 @@
-use Rattle.std.proofs.Common.{◌≡◌, ◌≤◌, length}
+use Rattle.std.proofs.Common.{◌≡◌, length}
 use Rattle.page_halftoner.specs.Rows.{AreAtTop, AreWide}
 use Rattle.page_halftoner.proofs.halftoner.error_rows.Given as goal
 

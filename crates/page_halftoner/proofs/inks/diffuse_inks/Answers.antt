@@ -1,12 +1,12 @@
-use Rattle.std.proofs.Common.{◌≡◌, ◌≢◌, ℕ, ◌+◌, ◌<◌, ◌≤◌, Some, slice_get, get_or, map, length, sym, ◌∙◌, ap, arith, inl, inr, set, length-set, subst}
+use Rattle.std.proofs.Common.{◌≡◌, ℕ, ◌+◌, ◌<◌, Some, slice_get, get_or, map, length, sym, ◌∙◌, ap, arith, inl, inr, set, length-set, subst}
 use Rattle.std.proofs.lemmas.Bool.{cases_eq}
 use Rattle.std.proofs.lemmas.Option.{same_Some, slice_get-get_or, slice_get_within}
-use Rattle.diffusion_definitions.specs.Diffusion.{Errors, Plane, Solves, Table, on}
+use Rattle.diffusion_definitions.specs.Diffusion.{Plane, Table, on}
 use Rattle.diffusion_kernel.specs.Tables.{table_of}
 use Rattle.dot_planes.specs.Tables.{amount, dot}
 use Rattle.escp2_definitions.specs.Packed.{packed}
 use Rattle.weave_definitions.specs.Weave.{count_from}
-use Rattle.row_diffusion.specs.Errors.{IsReached, TwoRows}
+use Rattle.row_diffusion.specs.Errors.{TwoRows}
 use Rattle.row_diffusion.specs.Rows.{HasRow}
 use Rattle.page_halftoner.specs.Rows.{HasInkRow}
 use Rattle.page_halftoner.proofs.Elements.{set_beside, set_is}
@@ -26,12 +26,12 @@ loop-i-preserved c =
     let puts = c.put_row.ensures in
     let found : slice_get c.loop-i.errors n ≡ Some before = slice_get-get_or c.loop-i.errors n c.index-errors-from.result room in
     let was : (rows : TwoRows) → slice_get c.args.errors.now n ≡ Some rows → rows ≡ before =
-        λ rows at. same_Some rows before (sym at ∙ sym (v.rest n (omega arith)) ∙ found) in
+    λ rows at. same_Some rows before (sym at ∙ sym (v.rest n (omega arith)) ∙ found) in
     let wide : c.loop-i.planes.width ≡ c.args.planes.now.width = v.size.width in
     let before_wide : before.width ≡ c.args.planes.now.width = v.wide n before found in
     let low : y < c.loop-i.planes.rows = omega (arith, v.size.rows) in
     let row : (p : Plane) → HasInkRow c.args.amounts.now n p y → HasRow p y c.row.result.now =
-        λ p has. has_row c.args.amounts.now n c.row.result.now p y c.row.ensures.len (λ x. c.row.ensures.amounts x ∙ ap (λ m. amount c.args.amounts.now m 0 x) (sym place)) has in
+    λ p has. has_row c.args.amounts.now n c.row.result.now p y c.row.ensures.len (λ x. c.row.ensures.amounts x ∙ ap (λ m. amount c.args.amounts.now m 0 x) (sym place)) has in
     record {
       len = length-set c.loop-i.errors n after ∙ v.len;
       wide = λ i rows at. elim (cases_eq i n) [

@@ -1,4 +1,4 @@
-use Rattle.std.proofs.Common.{ℕ, ℤ, ◌≡◌, ◌+◌, ◌<◌, ◌≤◌, ◌∙◌, ap, refl, sym, subst, arith, length, pos, to_z, of_z, w16, List}
+use Rattle.std.proofs.Common.{ℕ, ℤ, ◌≡◌, ◌+◌, ◌<◌, ◌∙◌, ap, sym, subst, arith, to_z, of_z, w16}
 use Rattle.std.proofs.lemmas.Int.{ints}
 use Rattle.diffusion_definitions.specs.Diffusion.{Errors, InRange, Plane, Solves, Table, error_of, is_dot, on, value}
 use Rattle.diffusion_kernel.specs.Tables.{table_of}
@@ -51,6 +51,6 @@ returns c =
       fits = v.in_range;
       bordered = v.bordered;
       errors = λ p e y has s u2 u1.
-        all_done (table_of c.args.k) p e y c.loop-x.x _ s (bordered_as _ _ _ has.wide v.bordered) (omega (arith, has.wide, c.loop-x-test.false)) (v.row p e y has s u2 u1);
+          all_done (table_of c.args.k) p e y c.loop-x.x _ s (bordered_as _ _ _ has.wide v.bordered) (omega (arith, has.wide, c.loop-x-test.false)) (v.row p e y has s u2 u1);
       on_dots = λ p e y has s u2 u1 x low. v.dots p e y has s u2 u1 x (omega (arith, c.loop-x-test.false));
     }

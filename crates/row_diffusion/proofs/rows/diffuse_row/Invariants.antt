@@ -1,5 +1,5 @@
 use Rattle.std.proofs.Common.{ℕ, ◌+◌, ◌<◌, ◌≡◌, false, get_or, length, pos}
-use Rattle.diffusion_definitions.specs.Diffusion.{EachInRange, Errors, InRange, Plane, Solves, on}
+use Rattle.diffusion_definitions.specs.Diffusion.{EachInRange, Errors, Plane, Solves, on}
 use Rattle.diffusion_kernel.specs.Tables.{table_of}
 use Rattle.row_diffusion.specs.Rows.{HasRow, IsBordered, RowIs}
 use Rattle.row_diffusion.proofs.RowSteps.{RowUpTo}

@@ -1,4 +1,4 @@
-use Rattle.std.proofs.Common.{ℕ, ◌+◌, ◌*◌}
+use Rattle.std.proofs.Common.{◌+◌, ◌*◌}
 use Rattle.dot_planes.specs.Tables.{amount}
 use Rattle.dot_planes.proofs.RowBytes.{blank_row}
 use Rattle.dot_planes.proofs.ink_rows.InkRows.make.Goals as goal

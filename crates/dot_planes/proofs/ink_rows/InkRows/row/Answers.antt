@@ -1,4 +1,4 @@
-use Rattle.std.proofs.Common.{◌≡◌, ◌+◌, ◌*◌, ℕ, List, ap, ◌∙◌, get_or}
+use Rattle.std.proofs.Common.{◌+◌, ◌*◌, ℕ, List, ap, ◌∙◌, get_or}
 use Rattle.dot_planes.specs.Tables.{AmountTable, amount, row_at}
 use Rattle.dot_planes.proofs.ink_rows.InkRows.row.Goals as goal
 

@@ -1,5 +1,4 @@
-use Rattle.std.proofs.Common.{◌≡◌, ◌+◌, ℕ, ap, arith, map, length, ◌∙◌, sym, sum_by, count_by, List, Bool}
-use Rattle.escp2_definitions.specs.Packed.{packed, packed_bytes}
+use Rattle.std.proofs.Common.{◌≡◌, ◌+◌, ℕ, ap, arith, map, length, ◌∙◌, sum_by, count_by, List, Bool}
 use Rattle.weave_definitions.specs.Weave.{count_from}
 use Rattle.dot_planes.specs.Tables.{DotTable, dot, row_len}
 use Rattle.dot_planes.proofs.PackedRows.{counted-len, packed-len, row_count, sum_counted}

@@ -1,4 +1,4 @@
-use Rattle.std.proofs.Common.{ℕ, ◌+◌, ◌*◌, ◌/◌, ◌%◌, ap, ◌∙◌}
+use Rattle.std.proofs.Common.{◌+◌, ◌*◌, ◌/◌, ◌%◌, ap, ◌∙◌}
 use Rattle.escp2_definitions.specs.Machine.{bit_at}
 use Rattle.dot_planes.specs.Tables.{dot, row_len}
 use Rattle.dot_planes.proofs.PackedRows.{no_bit}

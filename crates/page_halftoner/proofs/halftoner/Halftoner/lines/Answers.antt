@@ -12,6 +12,6 @@ loop-preserved c =
       count = omega (arith, next.count, v.count);
       amounts = amounts_kept c.loop.self c.next_line.new.self c.args.line.now next.page next.amounts v.amounts;
       stands = λ lines stands.
-        let Q : List (List ℕ) → Type 0 = λ ls. StandsFor c.next_line.new.self ls in
-        subst Q (repeats_more lines c.loop.counter c.args.line.now) (next.stands c.args.line.now v.amounts (lines ++ replicate c.loop.counter c.args.line.now) (v.stands lines stands));
+          let Q : List (List ℕ) → Type 0 = λ ls. StandsFor c.next_line.new.self ls in
+          subst Q (repeats_more lines c.loop.counter c.args.line.now) (next.stands c.args.line.now v.amounts (lines ++ replicate c.loop.counter c.args.line.now) (v.stands lines stands));
     }

@@ -1,4 +1,4 @@
-use Rattle.std.proofs.Common.{◌≡◌, ◌⊎◌, ◌+◌, ◌≤◌, ◌<◌, ℕ, List, ◌++◌, ◌∷◌, [], ap, arith, drop, length, sym, subst, take, ◌∙◌}
+use Rattle.std.proofs.Common.{◌≡◌, ◌⊎◌, ◌+◌, ◌≤◌, ◌<◌, ℕ, List, ap, arith, length, sym, subst, ◌∙◌}
 use Rattle.diffusion_kernel.specs.Tables.{table_of}
 use Rattle.row_diffusion.specs.Errors.{TwoRows}
 use Rattle.row_diffusion.proofs.KeptRows.{written}

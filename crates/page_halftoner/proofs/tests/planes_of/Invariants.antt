@@ -1,0 +1,5 @@
+use Rattle.std.proofs.Common.{◌≡◌}
+use Rattle.page_halftoner.proofs.tests.planes_of.Given as goal
+
+abbrev pub invariant-loop-y : goal.invariant-loop-y
+invariant-loop-y l = record { form : l.h.form ≡ l.f; count : l.h.count ≡ l.y }
