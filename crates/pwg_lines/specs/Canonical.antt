@@ -6,7 +6,7 @@ use Rattle.pwg_definitions.specs.Limits.{most_units}
 use Rattle.pwg_definitions.specs.Groups.{Packet, packet_spelling, packet_units}
 use Rattle.pwg_definitions.specs.Groups.Packet.{Run, Literal}
 
--- how many times the unit stands at the front, up to `most`
+-- how many times the bytes begin with the unit, one after another, up to `most`
 unfoldable pub copies_at : ℕ → List ℕ → List ℕ → ℕ
 copies_at zero unit bytes = 0
 copies_at (suc most) unit bytes =
@@ -24,7 +24,7 @@ unequal_at (suc most) unit (b ∷ bytes) =
 abbrev pub as_they_are : ℕ → List ℕ → Packet
 as_they_are n bytes = if n == 1 then Run 1 bytes else Literal n bytes
 
--- the packet at the front of a line: a run of two units or more, else a literal up to the next run
+-- the first packet of a line: a run of two units or more, else a literal up to the next run
 abbrev pub next_packet : ℕ → List ℕ → Packet
 next_packet unit line =
     let run = copies_at most_units (take unit line) line in

@@ -15,7 +15,7 @@ pub enum Fill {
 /// How much of a piece was read, and what it came to.
 #[derive(Clone, Copy, Debug, PartialEq, Eq)]
 pub struct Fed {
-    /// Bytes of the piece, from its front.
+    /// Bytes of the piece that were read, from its first on.
     pub used: usize,
     pub state: Fill,
 }

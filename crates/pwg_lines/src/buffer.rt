@@ -27,7 +27,8 @@ pub fn fill_units(line: &mut [u8], filled: usize, read: usize, others: &[u8], co
     repeat_unit(&mut line[filled..filled + count * unit], unit, count);
 }
 
-/// Fills the bytes with their first unit.
+/// Fills the bytes with their first unit. Kept apart from the reader's loop, which is faster without it.
+#[inline(never)]
 fn repeat_unit(bytes: &mut [u8], unit: usize, count: usize)
     requires some { 1 ≤ count }
     requires whole { length bytes.old ≡ count * unit }

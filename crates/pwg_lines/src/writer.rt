@@ -44,7 +44,7 @@ fn push_group(line: &[u8], unit: usize, more: u8, out: &mut Vec<u8>) -> Result<(
     Ok(())
 }
 
-/// Appends the packet at the front of a line, or a part of it, and gives the number of its units.
+/// Appends the first packet of a line, or a part of it, and gives the number of its units.
 fn push_packet(line: &[u8], unit: usize, out: &mut Vec<u8>) -> Result<usize, AllocError>
     requires unit { 1 ≤ unit }
     requires whole { length line.now % unit ≡ 0 }
@@ -75,7 +75,7 @@ fn push_part(first: u8, bytes: &[u8], out: &mut Vec<u8>) -> Result<(), AllocErro
     out.extend_from_slice(bytes)
 }
 
-/// How many units from the front on are equal, up to `MOST_UNITS`.
+/// How many units from the first on are equal, up to `MOST_UNITS`.
 fn equal_units(line: &[u8], unit: usize) -> usize
     requires { unit ≤ length line.now }
     ensures { result ≡ copies_at MOST_UNITS (take unit line.now) line.now }

@@ -19,11 +19,11 @@ pub record GivesLine (old new : LineReader) (before now : Option (List ℕ)) (re
   pub used : Consumes before now bytes
   pub group : (rest : List ℕ) → next_group old (bytes ++ rest) ≡ Group repeats (line_of new) rest
 
--- what stands at the front is no group, for this cause
+-- the text begins with no group, for this cause
 abbrev pub IsNoGroup : GroupRead → InputCause → Type 0
 IsNoGroup read why = (read ≡ Part) × (why ≡ cause.Truncated)
 
--- what stands at the front is a group with this fault
+-- the text begins with a group that has this fault
 pub record IsBadGroup (read : GroupRead) (why : InputCause) : Type 0 where
   pub place : ℕ
   pub fault : LineFault

@@ -30,7 +30,7 @@ fn refuse<T>(page: u32, cause: InputCause) -> Result<T, StreamStop>
     })
 }
 
-// The header at the front of the bytes, if they are as many.
+// The header that the bytes begin with, if they are as many.
 fn first_header(bytes: &[u8]) -> Option<&[u8; HEADER_LEN]>
     ensures { MatchOption result (length bytes.now < header_length) (λ header. (header.now ≡ take header_length bytes.now) × (header_length ≤ length bytes.now)) }
 {
@@ -39,7 +39,7 @@ fn first_header(bytes: &[u8]) -> Option<&[u8; HEADER_LEN]>
 }
 
 /// Reads the header of the page behind so many pages, where one follows. Nothing follows only at the end of the source.
-pub fn read_front<S: Source>(
+pub fn read_page_header<S: Source>(
     unread: &mut Unread,
     s: &mut S,
     pages: u32,

@@ -6,7 +6,7 @@ ghost use Rattle.std.specs.Option.{ForSome};
 ghost use Rattle.std.specs.Prelude.{None, ◌+◌, ◌≡◌, ◌≤◌};
 
 use crate::groups::{GroupStop, read_group};
-use crate::headers::read_front;
+use crate::headers::read_page_header;
 use crate::stops::StreamStop;
 use crate::sync::read_sync;
 use crate::unread::Unread;
@@ -158,7 +158,7 @@ impl PageReader {
         ensures none_left { IfOk result (λ o. IfNone o (lines_left_of self.new ≡ lines_left_of self.old)) }
         ensures left { OnErr result (lines_left_of self.new ≡ lines_left_of self.old) }
     {
-        match read_front(&mut self.unread, s, self.page, want)? {
+        match read_page_header(&mut self.unread, s, self.page, want)? {
             None => Ok(None),
             Some(form) => {
                 self.begin_lines(form)?;

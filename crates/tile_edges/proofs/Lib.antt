@@ -3,3 +3,4 @@ pub mod EdgeLaws
 pub mod TopLaws
 pub mod AtHand
 pub mod Kernels
+pub mod HandedLaws

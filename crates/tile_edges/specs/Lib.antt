@@ -1,3 +1,4 @@
 pub mod Edges
 pub mod Tops
 pub mod Reads
+pub mod Handed

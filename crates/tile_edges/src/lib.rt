@@ -3,5 +3,6 @@
 #![tactic(auto)]
 
 pub mod edges;
+pub mod handed;
 pub mod reading;
 pub mod tops;

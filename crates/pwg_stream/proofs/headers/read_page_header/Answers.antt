@@ -3,7 +3,7 @@ use Rattle.std.proofs.KnownBytes.{Keeps-trans}
 use Rattle.pwg_definitions.specs.Limits.{header_length}
 use Rattle.pwg_definitions.specs.Header.{check, header_of}
 use Rattle.pwg_stream.proofs.Fronts.{bad_header, cut_header, good_header, too_many, uses-none}
-use Rattle.pwg_stream.proofs.headers.read_front.Goals as goal
+use Rattle.pwg_stream.proofs.headers.read_page_header.Goals as goal
 
 pub returns-then-pages-eq-MOST_PAGES-clause-input : goal.returns-then-pages-eq-MOST_PAGES-clause-input
 returns-then-pages-eq-MOST_PAGES-clause-input g c =
