@@ -5,13 +5,29 @@
 
 pub mod bytes;
 #[cfg(test)]
+mod calls;
+#[cfg(test)]
 mod colours;
 #[cfg(test)]
 mod fixture;
 #[cfg(test)]
+mod grid;
+#[cfg(test)]
+mod heads;
+#[cfg(test)]
+mod job_bytes;
+#[cfg(test)]
 mod kernels;
 #[cfg(test)]
+mod machine;
+#[cfg(test)]
 mod outside;
+#[cfg(test)]
+mod pages;
+#[cfg(test)]
+mod pictures;
+#[cfg(test)]
+mod plain;
 #[cfg(test)]
 mod printers;
 #[cfg(test)]

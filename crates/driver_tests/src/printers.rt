@@ -80,44 +80,6 @@ fn each_value_of_a_printer_has_its_place_in_the_job(rt: HostRuntime) -> Result<(
 }
 
 #[test]
-fn pitch_and_dots_an_inch_set_the_steps(rt: HostRuntime) -> Result<(), Fail> {
-    let alloc = rt.alloc();
-    let cases: [(&[u8], (u32, u32), usize, u64); 4] = [
-        (
-            b"escp2-profile 1\nhdpi=360\nvdpi=360\nnozzles=1\npitch=3\ninks=k\n",
-            (360, 360),
-            126,
-            0xDE14_330F_6B93_B043,
-        ),
-        (
-            b"escp2-profile 1\nhdpi=720\nvdpi=360\nnozzles=1\npitch=1\ninks=k\n",
-            (720, 360),
-            126,
-            0xF33F_DF0F_9A6C_EFAF,
-        ),
-        (
-            b"escp2-profile 1\nhdpi=360\nvdpi=720\nnozzles=1\npitch=1\ninks=k\n",
-            (360, 720),
-            126,
-            0x5B77_CE3E_7A07_E188,
-        ),
-        (
-            b"escp2-profile 1\nhdpi=720\nvdpi=720\nnozzles=1\npitch=51\ninks=k\ntop=1\nleft=1\n",
-            (720, 720),
-            105,
-            0x4F8E_319D_01BD_EF95,
-        ),
-    ];
-    for (text, resolution, length, hash) in cases {
-        let left = print_by(alloc, text, black(alloc, resolution)?)?;
-        left.hashes_to(&rt, length, hash);
-    }
-    let other = print_by(alloc, PLAIN, black(alloc, (720, 360))?)?;
-    other.is(&rt, 3, b"", b"input: page 1 line 0: Resolution\n");
-    Ok(())
-}
-
-#[test]
 fn a_page_can_be_printed_by_a_text_or_by_its_name(rt: HostRuntime) -> Result<(), Fail> {
     let alloc = rt.alloc();
     let by_text = print_by(alloc, PLAIN, black(alloc, (360, 360))?)?;

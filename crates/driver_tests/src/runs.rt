@@ -1,42 +1,18 @@
 //! Streams of pages, whole and refused.
 use crate::fixture::{
-    GREY_BODY, GREY_JOB, GREY_STREAM, PRINT, add_header, begin, no_files, one_page, prefix,
-    print_bytes, roomy, run_over, two_pages,
+    GREY_BODY, GREY_JOB, GREY_STREAM, PRINT, add_header, no_files, one_page, prefix, print_bytes,
+    roomy, run_over, two_pages,
 };
 use std::alloc::Global;
 use std::process::Abort;
 use std::test::Fail;
 use weave_base::{MemSource, Memory};
 
-// A page of eight columns and six lines, all black, without its header.
-const BLACK_BODY: [u8; 3] = [5, 7, 0];
-
 #[test]
 fn the_first_path_prints_one_grey_page(rt: HostRuntime) -> Result<(), Fail> {
     let alloc = rt.alloc();
     let left = print_bytes(alloc, one_page(alloc, 4, 2, &GREY_BODY)?)?;
     left.is(&rt, 0, &GREY_JOB, b"");
-    Ok(())
-}
-
-#[test]
-fn a_stream_without_a_page_prints_nothing(rt: HostRuntime) -> Result<(), Fail> {
-    let alloc = rt.alloc();
-    let left = print_bytes(alloc, begin(alloc)?)?;
-    left.is(&rt, 0, b"", b"");
-    Ok(())
-}
-
-#[test]
-fn a_short_input_is_bad_sync(rt: HostRuntime) -> Result<(), Fail> {
-    let alloc = rt.alloc();
-    let line = b"input: page 0 line 0: BadSync\n";
-    let empty = print_bytes(alloc, Vec::new(alloc))?;
-    empty.is(&rt, 3, b"", line);
-    let short = print_bytes(alloc, b"Ra".to_vec(alloc)?)?;
-    short.is(&rt, 3, b"", line);
-    let other = print_bytes(alloc, b"RaS3".to_vec(alloc)?)?;
-    other.is(&rt, 3, b"", line);
     Ok(())
 }
 
@@ -62,23 +38,6 @@ fn a_group_past_the_page_is_refused_at_its_count(rt: HostRuntime) -> Result<(), 
     whole.is(&rt, 3, b"", line);
     let cut = print_bytes(alloc, one_page(alloc, 8, 255, &[0xFF])?)?;
     cut.is(&rt, 3, b"", line);
-    Ok(())
-}
-
-#[test]
-fn a_cut_third_header_leaves_two_pages(rt: HostRuntime) -> Result<(), Fail> {
-    let alloc = rt.alloc();
-    let mut bytes = one_page(alloc, 8, 6, &BLACK_BODY)?;
-    add_header(&mut bytes, (360, 360), (8, 6))?;
-    bytes.extend_from_slice(&BLACK_BODY)?;
-    add_header(&mut bytes, (360, 360), (8, 6))?;
-    bytes.truncate(5397);
-    let one = print_bytes(alloc, one_page(alloc, 8, 6, &BLACK_BODY)?)?;
-    one.hashes_to(&rt, 168, 0x1047_BD6E_5452_4ED1);
-    let mut twice = one.out.bytes().to_vec(alloc)?;
-    twice.extend_from_slice(one.out.bytes())?;
-    let left = print_bytes(alloc, bytes)?;
-    left.is(&rt, 3, &twice, b"input: page 3 line 0: Truncated\n");
     Ok(())
 }
 
@@ -113,19 +72,6 @@ fn a_refused_header_is_told_by_its_cause(rt: HostRuntime) -> Result<(), Fail> {
         let left = print_bytes(alloc, changed(alloc, at, byte)?)?;
         left.is(&rt, 3, b"", line);
     }
-    Ok(())
-}
-
-#[test]
-fn sixteen_bits_are_refused(rt: HostRuntime) -> Result<(), Fail> {
-    let alloc = rt.alloc();
-    let mut bytes = one_page(alloc, 8, 6, &BLACK_BODY)?;
-    assert_eq!(rt; bytes.len(), 1803);
-    bytes[391] = 16;
-    bytes[395] = 16;
-    bytes[399] = 16;
-    let left = print_bytes(alloc, bytes)?;
-    left.is(&rt, 3, b"", b"input: page 1 line 0: Kind\n");
     Ok(())
 }
 

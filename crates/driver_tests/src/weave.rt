@@ -2,10 +2,12 @@
 use crate::fixture::{
     Left, add_header, add_header_of, begin, no_files, one_page, plain, prefix, roomy, run_over,
 };
+use crate::machine::execute;
+use crate::pictures::{PLAINEST, Printer};
 use pwg_header::Kind;
 use std::alloc::Global;
 use std::test::Fail;
-use weave_base::Memory;
+use weave_base::{InkSet, Memory};
 
 // Prints these bytes by a built-in printer.
 fn print_by(alloc: Global, profile: &str, bytes: Vec<u8>) -> Result<Left, Memory> {
@@ -49,7 +51,7 @@ fn a_stream_without_a_page_prints_nothing(rt: HostRuntime) -> Result<(), Fail> {
 #[test]
 fn a_short_input_is_bad_sync(rt: HostRuntime) -> Result<(), Fail> {
     let alloc = rt.alloc();
-    for bytes in [b"".as_slice(), b"Ra".as_slice()] {
+    for bytes in [b"".as_slice(), b"Ra".as_slice(), b"RaS3".as_slice()] {
         let input = plain(alloc, bytes.to_vec(alloc)?);
         let left = run_over(alloc, &["print"], input, roomy(alloc)?, no_files(alloc))?;
         left.is(&rt, 3, b"", b"input: page 0 line 0: BadSync\n");
@@ -72,14 +74,6 @@ fn one_nozzle_prints_three_rasters(rt: HostRuntime) -> Result<(), Fail> {
     let alloc = rt.alloc();
     let left = print_by(alloc, "profile=tiny1", one_page(alloc, 1, 3, &[2, 0, 0])?)?;
     left.is(&rt, 0, &THREE_RASTERS, b"");
-    Ok(())
-}
-
-#[test]
-fn a_run_past_its_line_is_refused_at_its_byte(rt: HostRuntime) -> Result<(), Fail> {
-    let alloc = rt.alloc();
-    let left = print_by(alloc, "profile=tiny", one_page(alloc, 8, 6, &[0, 8, 0])?)?;
-    left.is(&rt, 3, b"", b"input: page 1 line 1: RunPastLine\n");
     Ok(())
 }
 
@@ -123,6 +117,18 @@ fn errors_cross_the_slab_at_row_256(rt: HostRuntime) -> Result<(), Fail> {
     Ok(())
 }
 
+// The printer of that name.
+const P360CMYK: Printer = Printer {
+    nozzles: 15,
+    pitch: 4,
+    inks: InkSet::Cmyk,
+    left: 45,
+    right: 45,
+    top: 60,
+    bottom: 60,
+    ..PLAINEST
+};
+
 // An A4 page of red, green and blue at 360 dots an inch, all of one unit.
 fn a4(alloc: Global, byte: u8) -> Result<Vec<u8>, Fail> {
     let mut bytes = begin(alloc)?;
@@ -144,6 +150,13 @@ fn a_black_a4_takes_277_rasters(rt: HostRuntime) -> Result<(), Fail> {
     assert_eq!(rt; bytes.len(), 3449);
     let left = print_by(alloc, "profile=p360cmyk", bytes)?;
     left.hashes_to(&rt, 38_413, 0xAC5A_E1A3_CCA8_296C);
+    let printed = execute(alloc, &P360CMYK, (2886, 4089), left.out.bytes())?;
+    assert_eq!(rt; printed.rasters, 277);
+    let [black, cyan, magenta, yellow] = &printed.dots;
+    assert_eq!(rt; black.sum(), 11_800_854);
+    for colour in [cyan, magenta, yellow] {
+        assert_eq!(rt; colour.sum(), 0);
+    }
     Ok(())
 }
 

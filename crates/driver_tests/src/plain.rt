@@ -1,0 +1,192 @@
+//! The dots that a page wants, straight from the written definitions: slow, and apart from the driver.
+use crate::grid::Grid;
+use crate::pictures::{Picture, Printer};
+use pwg_header::Kind;
+use std::alloc::Global;
+use weave_base::{Ink, InkSet, Memory};
+
+/// The inks, in the order in which a printer fires them.
+pub const INKS: [Ink; 4] = [Ink::Black, Ink::Cyan, Ink::Magenta, Ink::Yellow];
+
+/// A kernel: its word of the command line, and the shares of an error, each with how far to the right and down it goes.
+#[derive(Clone, Copy)]
+pub struct Kernel {
+    pub word: &'static str,
+    pub shares: &'static [(i64, i64, i64)],
+}
+
+/// The three kernels.
+pub const KERNELS: [Kernel; 3] = [
+    Kernel {
+        word: "kernel=fs",
+        shares: &[(1, 0, 7), (-1, 1, 3), (0, 1, 5), (1, 1, 1)],
+    },
+    Kernel {
+        word: "kernel=jjn",
+        shares: &[
+            (1, 0, 7),
+            (2, 0, 5),
+            (-2, 1, 3),
+            (-1, 1, 5),
+            (0, 1, 7),
+            (1, 1, 5),
+            (2, 1, 3),
+            (-2, 2, 1),
+            (-1, 2, 3),
+            (0, 2, 5),
+            (1, 2, 3),
+            (2, 2, 1),
+        ],
+    },
+    Kernel {
+        word: "kernel=stucki",
+        shares: &[
+            (1, 0, 8),
+            (2, 0, 4),
+            (-2, 1, 2),
+            (-1, 1, 4),
+            (0, 1, 8),
+            (1, 1, 4),
+            (2, 1, 2),
+            (-2, 2, 1),
+            (-1, 2, 2),
+            (0, 2, 4),
+            (1, 2, 2),
+            (2, 2, 1),
+        ],
+    },
+];
+
+/// Whether a set has an ink.
+pub fn has_ink(inks: InkSet, ink: Ink) -> bool {
+    match inks {
+        InkSet::K => ink == Ink::Black,
+        InkSet::Cmy => ink != Ink::Black,
+        InkSet::Cmyk => true,
+    }
+}
+
+// What a grey of this darkness gives to an ink of the set.
+fn of_grey(inks: InkSet, ink: Ink, darkness: u8) -> u8 {
+    match (inks, ink) {
+        (InkSet::Cmyk, Ink::Cyan | Ink::Magenta | Ink::Yellow) => 0,
+        _ => darkness,
+    }
+}
+
+// What a colour lacks of an ink.
+fn complement((red, green, blue): (u8, u8, u8), ink: Ink) -> u8 {
+    match ink {
+        Ink::Black => 0,
+        Ink::Cyan => 255 - red,
+        Ink::Magenta => 255 - green,
+        Ink::Yellow => 255 - blue,
+    }
+}
+
+// How much of a darkness goes into black, where less than the least stays in the colours.
+fn moved_to_black(least: u8, darkness: u8) -> u8 {
+    if darkness < least {
+        return 0;
+    }
+    let above = u32::from(darkness.saturating_sub(least)).wrapping_mul(255);
+    let most = u32::from(255 - least);
+    u8::try_from(above.checked_div(most).unwrap_or(0)).unwrap_or(255)
+}
+
+// What a colour gives to an ink of the set.
+fn of_colour(printer: &Printer, ink: Ink, colour: (u8, u8, u8)) -> u8 {
+    let (red, green, blue) = colour;
+    let lacking = complement(colour, ink);
+    let black = moved_to_black(
+        printer.black_start,
+        (255 - red).min(255 - green).min(255 - blue),
+    );
+    let grey = (77 * u32::from(red) + 150 * u32::from(green) + 29 * u32::from(blue)) / 256;
+    match (printer.inks, ink) {
+        (InkSet::K, _) => 255 - u8::try_from(grey).unwrap_or(255),
+        (InkSet::Cmy, _) => lacking,
+        (InkSet::Cmyk, Ink::Black) => black,
+        (InkSet::Cmyk, _) => lacking.saturating_sub(black),
+    }
+}
+
+// The amount of an ink at a pixel of a picture.
+fn amount(printer: &Printer, picture: &Picture, ink: Ink, x: i64, y: i64) -> i64 {
+    let first = picture.byte(x, y, 0);
+    let given = match picture.kind {
+        Kind::Gray8 => of_grey(printer.inks, ink, 255 - first),
+        Kind::Black8 => of_grey(printer.inks, ink, first),
+        Kind::Rgb8 => of_colour(
+            printer,
+            ink,
+            (first, picture.byte(x, y, 1), picture.byte(x, y, 2)),
+        ),
+    };
+    i64::from(given) * i64::from(printer.limit(ink)) / 255
+}
+
+// What the errors near a pixel give to it, in sixteenths of an amount.
+fn given(kernel: &Kernel, errors: &Grid, x: i64, y: i64) -> i64 {
+    let mut sum: i64 = 0;
+    let mut parts: i64 = 0;
+    for (right, down, share) in kernel.shares {
+        let error = errors.get(x.wrapping_sub(*right), y.wrapping_sub(*down));
+        sum = sum.wrapping_add(share.wrapping_mul(error));
+        parts = parts.wrapping_add(*share);
+    }
+    sum.checked_div_euclid(parts).unwrap_or(0)
+}
+
+// Diffuses a row, below the errors of the rows above.
+fn diffuse_row(kernel: &Kernel, amounts: &Grid, y: i64, errors: &mut Grid, dots: &mut Grid) {
+    for x in 0..amounts.width {
+        let value = amounts
+            .get(x, y)
+            .wrapping_mul(16)
+            .wrapping_add(given(kernel, errors, x, y));
+        if value >= 2040 {
+            dots.set(x, y, 1);
+            errors.set(x, y, value.wrapping_sub(4080));
+        } else {
+            errors.set(x, y, value);
+        }
+    }
+}
+
+// The dots of a plane of amounts: 1 where there is one.
+fn diffuse(alloc: Global, kernel: &Kernel, amounts: &Grid) -> Result<Grid, Memory> {
+    let mut errors = Grid::make(alloc, amounts.width, amounts.height)?;
+    let mut dots = Grid::make(alloc, amounts.width, amounts.height)?;
+    for y in 0..amounts.height {
+        diffuse_row(kernel, amounts, y, &mut errors, &mut dots);
+    }
+    Ok(dots)
+}
+
+// The amounts of an ink in a row of the window.
+fn weigh_row(printer: &Printer, picture: &Picture, ink: Ink, y: i64, amounts: &mut Grid) {
+    for x in 0..amounts.width {
+        let across = x.wrapping_add(i64::from(printer.left));
+        let down = y.wrapping_add(i64::from(printer.top));
+        amounts.set(x, y, amount(printer, picture, ink, across, down));
+    }
+}
+
+/// The dots of an ink over the window of a picture: 1 where there is one, and none of an ink that the printer lacks.
+pub fn wanted(
+    alloc: Global,
+    printer: &Printer,
+    picture: &Picture,
+    kernel: &Kernel,
+    ink: Ink,
+) -> Result<Grid, Memory> {
+    let (width, height) = printer.window(picture);
+    let mut amounts = Grid::make(alloc, width, height)?;
+    if has_ink(printer.inks, ink) {
+        for y in 0..height {
+            weigh_row(printer, picture, ink, y, &mut amounts);
+        }
+    }
+    diffuse(alloc, kernel, &amounts)
+}
