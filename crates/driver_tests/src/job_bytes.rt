@@ -17,7 +17,7 @@ pub enum JobFault {
     NoSheet,
     /// A raster has other steps or rows than the printer, or begins between its columns or rows.
     OffGrid,
-    /// A dot is outside of the window.
+    /// A dot is outside of the window, or at the bottom margin or below.
     OffWindow,
     /// A dot is fired a second time.
     FiredTwice,

@@ -3,6 +3,8 @@
 //! What they expect was worked out apart from the driver: by hand, or by a slow program over the definitions.
 #![tactic(auto)]
 
+#[cfg(test)]
+mod any_printer;
 pub mod bytes;
 #[cfg(test)]
 mod calls;
@@ -28,6 +30,8 @@ mod pages;
 mod pictures;
 #[cfg(test)]
 mod plain;
+#[cfg(test)]
+mod printed;
 #[cfg(test)]
 mod printers;
 #[cfg(test)]

@@ -1,20 +1,8 @@
 //! A plain machine: it executes a job of one page by the command table, and marks each dot that the job fires.
-use crate::grid::Grid;
+use crate::any_printer::Printer;
 use crate::job_bytes::{JobBytes, JobFault};
-use crate::pictures::Printer;
+use crate::printed::Printed;
 use std::alloc::Global;
-use weave_base::Memory;
-
-/// What a job printed.
-#[derive(Drop)]
-pub struct Printed {
-    /// The dots of black, cyan, magenta and yellow over the window: 1 where there is one.
-    pub dots: [Grid; 4],
-    /// How many rasters were fired.
-    pub rasters: u32,
-    /// How many sheets were ejected.
-    pub sheets: u32,
-}
 
 // The numbers of a raster.
 #[derive(Clone, Copy)]
@@ -33,7 +21,6 @@ struct Machine<'a> {
     bytes: JobBytes<'a>,
     has_graphics: bool,
     unit: u8,
-    length: i64,
     top: i64,
     bottom: i64,
     down: i64,
@@ -92,7 +79,7 @@ impl Machine<'_> {
             (0x69, 1) => {
                 self.bytes.one_of(&[0])?;
             }
-            (0x43, 2) => self.length = self.place()?,
+            (0x43, 2) => self.printed.length = self.place()?,
             (0x63, 4) => self.margins()?,
             (0x56, 2) => self.down = self.place()?,
             (0x76, 2) => self.down = self.down.wrapping_add(self.place()?),
@@ -105,7 +92,7 @@ impl Machine<'_> {
         self.top = self.place()?;
         self.bottom = self.place()?;
         self.down = 0;
-        if self.top < self.bottom && self.bottom <= self.length {
+        if self.top < self.bottom && self.bottom <= self.printed.length {
             Ok(())
         } else {
             Err(JobFault::Number)
@@ -145,12 +132,17 @@ impl Machine<'_> {
         Ok(())
     }
 
+    // From one of the printer's rows to the next.
+    fn row_step(&self) -> i64 {
+        i64::from(3600u16.checked_div(self.printer.vdpi).unwrap_or(0))
+    }
+
     // The column and the row of the window where a raster begins; a row above the window is below 0.
     fn corner(&self, raster: Raster) -> Result<(i64, i64), JobFault> {
         if !self.has_graphics || self.unit == 0 || self.bottom == 0 || self.printed.sheets > 0 {
             return Err(JobFault::NoSheet);
         }
-        let row_step = i64::from(3600u16.checked_div(self.printer.vdpi).unwrap_or(0));
+        let row_step = self.row_step();
         let is_printers = u16::from(raster.column_step).checked_mul(self.printer.hdpi) == Some(3600)
             && i64::from(raster.row_step) == row_step.wrapping_mul(i64::from(self.printer.pitch))
             && raster.rows == self.printer.nozzles;
@@ -174,53 +166,19 @@ impl Machine<'_> {
         } else {
             self.bytes.plain_row(alloc, width)?
         };
+        let from_top = y
+            .wrapping_add(i64::from(self.printer.top))
+            .wrapping_mul(self.row_step());
+        if from_top >= self.bottom && bytes.iter().any(|byte| *byte != 0) {
+            return Err(JobFault::OffWindow);
+        }
         let mut column = x;
         for byte in bytes.iter() {
-            self.fire(*byte, column, y)?;
+            self.printed.fire(self.ink, *byte, column, y)?;
             column = column.wrapping_add(8);
         }
         Ok(())
     }
-
-    // Fires the dots of a byte of a row, of which the highest bit is the first.
-    fn fire(&mut self, byte: u8, x: i64, y: i64) -> Result<(), JobFault> {
-        let mut column = x;
-        for mask in [0x80, 0x40, 0x20, 0x10, 8, 4, 2, 1] {
-            if byte & mask != 0 {
-                self.dot(column, y)?;
-            }
-            column = column.wrapping_add(1);
-        }
-        Ok(())
-    }
-
-    fn dot(&mut self, x: i64, y: i64) -> Result<(), JobFault> {
-        let Some(dots) = self.printed.dots.get_mut(self.ink) else {
-            return Err(JobFault::Number);
-        };
-        if x < 0 || x >= dots.width || y < 0 || y >= dots.height {
-            return Err(JobFault::OffWindow);
-        }
-        if dots.get(x, y) != 0 {
-            return Err(JobFault::FiredTwice);
-        }
-        dots.set(x, y, 1);
-        Ok(())
-    }
-}
-
-// What a machine has before a job, over a window of so many columns and rows.
-fn nothing(alloc: Global, (width, height): (i64, i64)) -> Result<Printed, Memory> {
-    Ok(Printed {
-        dots: [
-            Grid::make(alloc, width, height)?,
-            Grid::make(alloc, width, height)?,
-            Grid::make(alloc, width, height)?,
-            Grid::make(alloc, width, height)?,
-        ],
-        rasters: 0,
-        sheets: 0,
-    })
 }
 
 /// What a job of one page prints over a window of so many columns and rows.
@@ -235,13 +193,12 @@ pub fn execute(
         bytes: JobBytes { rest: job },
         has_graphics: false,
         unit: 0,
-        length: 0,
         top: 0,
         bottom: 0,
         down: 0,
         across: 0,
         ink: 0,
-        printed: nothing(alloc, window)?,
+        printed: Printed::make(alloc, window)?,
     };
     for _ in 0..job.len() {
         if !machine.bytes.rest.is_empty() {

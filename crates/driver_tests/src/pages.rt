@@ -1,5 +1,6 @@
 //! Pages of each kind of pixel, for each set of inks by each kernel: the job fires exactly the dots that a page wants.
-use crate::pictures::{PLAINEST, Picture, Printer, prints_its_dots};
+use crate::any_printer::{PLAINEST, Printer};
+use crate::pictures::{Picture, prints_its_dots};
 use crate::plain::KERNELS;
 use pwg_header::Kind;
 use std::alloc::Global;

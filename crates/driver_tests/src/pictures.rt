@@ -1,4 +1,5 @@
-//! Printers of any head, and pictures of pseudo-random pixels.
+//! Pictures of pseudo-random pixels, and their prints.
+use crate::any_printer::Printer;
 use crate::fixture::{Left, add_header_of, begin, one_file, plain, roomy, run_over};
 use crate::machine::execute;
 use crate::plain::{INKS, Kernel, wanted};
@@ -6,83 +7,6 @@ use pwg_header::Kind;
 use std::alloc::{AllocError, Global};
 use std::process::Abort;
 use std::test::Fail;
-use weave_base::{Ink, InkSet};
-
-/// A printer as the text of its profile gives it: dots an inch, its head, its inks, and margins in pixels.
-#[derive(Clone, Copy)]
-pub struct Printer {
-    pub hdpi: u16,
-    pub vdpi: u16,
-    pub nozzles: u8,
-    pub pitch: u8,
-    pub inks: InkSet,
-    pub black_start: u8,
-    /// Of black, cyan, magenta and yellow.
-    pub limits: (u8, u8, u8, u8),
-    pub left: u16,
-    pub right: u16,
-    pub top: u16,
-    pub bottom: u16,
-}
-
-/// The plainest printer.
-pub const PLAINEST: Printer = Printer {
-    hdpi: 360,
-    vdpi: 360,
-    nozzles: 1,
-    pitch: 1,
-    inks: InkSet::K,
-    black_start: 0,
-    limits: (255, 255, 255, 255),
-    left: 0,
-    right: 0,
-    top: 0,
-    bottom: 0,
-};
-
-impl Printer {
-    /// The text of its profile.
-    pub fn text(&self, alloc: Global) -> Result<String, Fail> {
-        let inks = match self.inks {
-            InkSet::K => "k",
-            InkSet::Cmy => "cmy",
-            InkSet::Cmyk => "cmyk",
-        };
-        let (k, c, m, y) = self.limits;
-        let head = format!(in alloc;
-            "escp2-profile 1\nhdpi={}\nvdpi={}\nnozzles={}\npitch={}\n",
-            self.hdpi, self.vdpi, self.nozzles, self.pitch
-        )?;
-        let colours = format!(in alloc;
-            "inks={}\nblack_start={}\nlimit_k={}\nlimit_c={}\nlimit_m={}\nlimit_y={}\n",
-            inks, self.black_start, k, c, m, y
-        )?;
-        let margins = format!(in alloc;
-            "left={}\nright={}\ntop={}\nbottom={}\n",
-            self.left, self.right, self.top, self.bottom
-        )?;
-        Ok(format!(in alloc; "{}{}{}", head, colours, margins)?)
-    }
-
-    /// The greatest amount of an ink.
-    pub fn limit(&self, ink: Ink) -> u8 {
-        let (k, c, m, y) = self.limits;
-        match ink {
-            Ink::Black => k,
-            Ink::Cyan => c,
-            Ink::Magenta => m,
-            Ink::Yellow => y,
-        }
-    }
-
-    /// The columns and rows that are left of a picture inside the margins.
-    pub fn window(&self, picture: &Picture) -> (i64, i64) {
-        (
-            i64::from(picture.width) - i64::from(self.left) - i64::from(self.right),
-            i64::from(picture.height) - i64::from(self.top) - i64::from(self.bottom),
-        )
-    }
-}
 
 /// A page of pixels, line by line.
 #[derive(Drop)]
@@ -241,8 +165,11 @@ pub fn prints_its_dots<R: Abort>(
     let left = print_picture(alloc, printer, picture, kernel)?;
     assert_eq!(rt; left.err.bytes(), b"".as_slice());
     assert_eq!(rt; left.status, 0);
-    let printed = execute(alloc, printer, printer.window(picture), left.out.bytes())?;
+    let window = printer.window(picture.width, picture.height);
+    let printed = execute(alloc, printer, window, left.out.bytes())?;
     assert_eq!(rt; printed.sheets, 1);
+    let length = printed.length.checked_mul(i64::from(printer.vdpi));
+    assert_eq!(rt; length, i64::from(picture.height).checked_mul(3600));
     for (ink, dots) in INKS.iter().zip(printed.dots.iter()) {
         let wanted = wanted(alloc, printer, picture, kernel, *ink)?;
         assert_eq!(rt; dots.cells(), wanted.cells());

@@ -1,6 +1,7 @@
 //! The dots that a page wants, straight from the written definitions: slow, and apart from the driver.
+use crate::any_printer::Printer;
 use crate::grid::Grid;
-use crate::pictures::{Picture, Printer};
+use crate::pictures::Picture;
 use pwg_header::Kind;
 use std::alloc::Global;
 use weave_base::{Ink, InkSet, Memory};
@@ -181,7 +182,7 @@ pub fn wanted(
     kernel: &Kernel,
     ink: Ink,
 ) -> Result<Grid, Memory> {
-    let (width, height) = printer.window(picture);
+    let (width, height) = printer.window(picture.width, picture.height);
     let mut amounts = Grid::make(alloc, width, height)?;
     if has_ink(printer.inks, ink) {
         for y in 0..height {

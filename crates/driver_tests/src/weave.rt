@@ -1,9 +1,9 @@
 //! Pages printed by heads of several nozzles, and a run without a word for the profile.
+use crate::any_printer::{PLAINEST, Printer};
 use crate::fixture::{
     Left, add_header, add_header_of, begin, no_files, one_page, plain, prefix, roomy, run_over,
 };
 use crate::machine::execute;
-use crate::pictures::{PLAINEST, Printer};
 use pwg_header::Kind;
 use std::alloc::Global;
 use std::test::Fail;

@@ -1,0 +1,82 @@
+//! A printer of any head.
+use std::alloc::Global;
+use std::test::Fail;
+use weave_base::{Ink, InkSet};
+
+/// A printer as the text of its profile gives it: dots an inch, its head, its inks, and margins in pixels.
+#[derive(Clone, Copy)]
+pub struct Printer {
+    pub hdpi: u16,
+    pub vdpi: u16,
+    pub nozzles: u8,
+    pub pitch: u8,
+    pub inks: InkSet,
+    pub black_start: u8,
+    /// Of black, cyan, magenta and yellow.
+    pub limits: (u8, u8, u8, u8),
+    pub left: u16,
+    pub right: u16,
+    pub top: u16,
+    pub bottom: u16,
+}
+
+/// The plainest printer.
+pub const PLAINEST: Printer = Printer {
+    hdpi: 360,
+    vdpi: 360,
+    nozzles: 1,
+    pitch: 1,
+    inks: InkSet::K,
+    black_start: 0,
+    limits: (255, 255, 255, 255),
+    left: 0,
+    right: 0,
+    top: 0,
+    bottom: 0,
+};
+
+impl Printer {
+    /// The text of its profile.
+    pub fn text(&self, alloc: Global) -> Result<String, Fail> {
+        let inks = match self.inks {
+            InkSet::K => "k",
+            InkSet::Cmy => "cmy",
+            InkSet::Cmyk => "cmyk",
+        };
+        let (k, c, m, y) = self.limits;
+        let head = format!(in alloc;
+            "escp2-profile 1\nhdpi={}\nvdpi={}\nnozzles={}\npitch={}\n",
+            self.hdpi, self.vdpi, self.nozzles, self.pitch
+        )?;
+        let colours = format!(in alloc;
+            "inks={}\nblack_start={}\nlimit_k={}\nlimit_c={}\nlimit_m={}\nlimit_y={}\n",
+            inks, self.black_start, k, c, m, y
+        )?;
+        let margins = format!(in alloc;
+            "left={}\nright={}\ntop={}\nbottom={}\n",
+            self.left, self.right, self.top, self.bottom
+        )?;
+        Ok(format!(in alloc; "{}{}{}", head, colours, margins)?)
+    }
+
+    /// The greatest amount of an ink.
+    pub fn limit(&self, ink: Ink) -> u8 {
+        let (k, c, m, y) = self.limits;
+        match ink {
+            Ink::Black => k,
+            Ink::Cyan => c,
+            Ink::Magenta => m,
+            Ink::Yellow => y,
+        }
+    }
+
+    /// The columns and rows that are left of a page of this size inside the margins.
+    pub fn window(&self, width: u32, height: u32) -> (i64, i64) {
+        let beside = i64::from(self.left).wrapping_add(i64::from(self.right));
+        let above_and_below = i64::from(self.top).wrapping_add(i64::from(self.bottom));
+        (
+            i64::from(width).wrapping_sub(beside),
+            i64::from(height).wrapping_sub(above_and_below),
+        )
+    }
+}
