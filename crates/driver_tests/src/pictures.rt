@@ -172,7 +172,14 @@ pub fn prints_its_dots<R: Abort>(
     assert_eq!(rt; length, i64::from(picture.height).checked_mul(3600));
     for (ink, dots) in INKS.iter().zip(printed.dots.iter()) {
         let wanted = wanted(alloc, printer, picture, kernel, *ink)?;
-        assert_eq!(rt; dots.cells(), wanted.cells());
+        assert_eq!(rt;
+            dots.cells(),
+            wanted.cells(),
+            "{ink:?} by {} nozzles, pitch {}, {}",
+            printer.nozzles,
+            printer.pitch,
+            kernel.word
+        );
     }
     Ok(())
 }
