@@ -48,10 +48,10 @@ pass_rows-are p plan t h place pass ink suits shows is =
     let tall : h.height ≡ plan.height = sym shows.rows_is ∙ sym suits.height in
     let same : (i : ℕ) → fired_row h ink (nozzle_row p.nozzles p.pitch h.height pass i) ≡ nozzle_plane_row t plan place pass i =
     λ i. plane_row-is p t h place ink shows is (nozzle_row p.nozzles p.pitch h.height pass i)
-        (λ y e. (nozzle_row-is p.nozzles p.pitch h.height pass i y e).low)
-        ∙ ap (λ n. plane_row t place (nozzle_row n p.pitch h.height pass i)) (sym suits.nozzles)
-        ∙ ap (λ n. plane_row t place (nozzle_row plan.nozzles n h.height pass i)) (sym suits.pitch)
-        ∙ ap (λ n. plane_row t place (nozzle_row plan.nozzles plan.pitch n pass i)) tall in
+    (λ y e. (nozzle_row-is p.nozzles p.pitch h.height pass i y e).low)
+    ∙ ap (λ n. plane_row t place (nozzle_row n p.pitch h.height pass i)) (sym suits.nozzles)
+    ∙ ap (λ n. plane_row t place (nozzle_row plan.nozzles n h.height pass i)) (sym suits.pitch)
+    ∙ ap (λ n. plane_row t place (nozzle_row plan.nozzles plan.pitch n pass i)) tall in
     map-counted (λ i. fired_row h ink (nozzle_row p.nozzles p.pitch h.height pass i)) (nozzle_plane_row t plan place pass) 0 p.nozzles (λ i low. same i)
     ∙ ap (λ n. map (nozzle_plane_row t plan place pass) (count_from 0 n)) (sym suits.nozzles)
 

@@ -88,7 +88,7 @@ pub page_sums : (p : Printer) (h : Halftone) (len length' top bottom : ℕ) (sum
 page_sums p h len length' top bottom sum bytes is strokes all rasters = record {
   bytes = omega (arith, all, strokes, ap length is, length-append (begin_bytes length' top bottom) (strokes_bytes p h ++ end_bytes), length-append (strokes_bytes p h) end_bytes);
   rasters = rasters ∙ (let none : rasters_in (fired_strokes p h) ≡ rasters_in (halftone_commands p h len) =
-  omega (arith, rasters-append (prologue p (head_rows p) h.height len) (fired_strokes p h ++ end_commands), rasters-append (fired_strokes p h) end_commands) in none);
+      omega (arith, rasters-append (prologue p (head_rows p) h.height len) (fired_strokes p h ++ end_commands), rasters-append (fired_strokes p h) end_commands) in none);
 }
 
 -- ---- a page that the printer takes
