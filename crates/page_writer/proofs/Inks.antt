@@ -1,14 +1,13 @@
 -- What the inks fire in a pass, one after another.
-use Rattle.std.proofs.Common.{◌≡◌, ℕ, zero, suc, ◌+◌, ◌-◌, ◌*◌, ◌/◌, ◌<◌, ◌≤◌, ◌||◌, nat_lt, Bool, true, false, if◌then◌else◌, List, [], ◌∷◌, ◌++◌, length, map, drop, replicate, Option, Some, None, refl, sym, ◌∙◌, ap, arith, append_assoc, append-nil}
+use Rattle.std.proofs.Common.{◌≡◌, ℕ, zero, suc, ◌+◌, ◌*◌, ◌/◌, ◌<◌, ◌≤◌, ◌||◌, nat_lt, Bool, true, false, List, [], ◌∷◌, ◌++◌, length, map, drop, replicate, Option, Some, None, refl, sym, ◌∙◌, ap, arith, append_assoc, append-nil}
 use Rattle.std.specs.Prelude.{slice_get}
 use Rattle.std.specs.List.{flat_map, list_any}
 use Rattle.std.proofs.lemmas.Bool.{lt-ltb}
 use Rattle.dot_planes.specs.Tables.{DotTable, dot}
 use Rattle.escp2_definitions.specs.Canonical.{canonical_row}
 use Rattle.escp2_definitions.specs.declared.command.RasterHead.{RasterHead}
-use Rattle.escp2_definitions.specs.Rasters.{raster_count}
 use Rattle.page_definitions.specs.Dots.{Halftone}
-use Rattle.page_definitions.specs.PageBytes.{dot_row, fired_row, pass_rows, pass_stroke}
+use Rattle.page_definitions.specs.PageBytes.{fired_row, pass_rows, pass_stroke}
 use Rattle.page_definitions.specs.Strokes.{Spoken, bytes_of, fires, has_dot, ink_commands, inks_commands, raster_head}
 use Rattle.page_laws.proofs.Passes.{nozzle_row-is}
 use Rattle.page_laws.proofs.Printed.{bytes-append}

@@ -1,5 +1,5 @@
 -- A page, from its prologue to its end.
-use Rattle.std.proofs.Common.{◌≡◌, ℕ, zero, suc, ◌+◌, ◌-◌, ◌*◌, ◌/◌, ◌≤◌, ◌⊎◌, inl, inr, ◌==◌, Bool, if◌then◌else◌, List, [], ◌∷◌, ◌++◌, length, Option, Some, refl, sym, ◌∙◌, ap, subst, arith, length-append}
+use Rattle.std.proofs.Common.{◌≡◌, ℕ, zero, suc, ◌+◌, ◌-◌, ◌*◌, ◌≤◌, if◌then◌else◌, List, [], ◌∷◌, ◌++◌, length, Option, Some, refl, sym, ◌∙◌, ap, subst, arith, length-append}
 use Rattle.std.specs.Prelude.{slice_get}
 use Rattle.std.specs.Io.KnownBytes.{Appends}
 use Rattle.std.proofs.KnownBytes.{Appends-trans}
@@ -8,7 +8,7 @@ use Rattle.dot_planes.specs.Tables.{DotTable, dot}
 use Rattle.escp2_definitions.specs.Canonical.{canonical_row}
 use Rattle.escp2_definitions.specs.declared.command.Command.TheVariants as c
 use Rattle.page_definitions.specs.Dots.{Halftone}
-use Rattle.page_definitions.specs.PageBytes.{halftone_bytes, weave}
+use Rattle.page_definitions.specs.PageBytes.{halftone_bytes}
 use Rattle.page_definitions.specs.Strokes.{Spoken, bytes_of, prologue, say}
 use Rattle.page_laws.specs.Sized.{Sized}
 use Rattle.page_laws.proofs.Lengths.{halftone-short}
@@ -26,7 +26,6 @@ use Rattle.separation_definitions.specs.CanPrint.{CanPrint}
 use Rattle.separation_definitions.specs.Windows.{wanted_by, window_of}
 use Rattle.weave_base.specs.Parts.{AppendsPart}
 use Rattle.weave_base.proofs.Parting.{part_behind, part_of_front}
-use Rattle.weave_definitions.specs.Weave.{pass_count}
 use Rattle.page_writer.specs.Passes.{fired_strokes}
 use Rattle.page_writer.specs.Suits.{Shows, Suits, plan_of}
 use Rattle.page_writer.specs.Sums.{SumsUp, halftone_commands, most_of_page, rasters_in}

@@ -1,4 +1,4 @@
-use Rattle.std.proofs.Common.{◌≡◌, ◌-◌, ◌+◌, ◌*◌, ◌<◌, ◌≤◌, suc, nat_lt, if◌then◌else◌, ap, ◌∙◌, sym, arith, subst, length}
+use Rattle.std.proofs.Common.{◌≡◌, ◌-◌, ◌+◌, ◌*◌, ◌≤◌, suc, nat_lt, if◌then◌else◌, ap, ◌∙◌, sym, arith, subst}
 use Rattle.weave_base.proofs.Parting.{on_err_anyway}
 use Rattle.printer_definitions.specs.Printer.{row_units}
 use Rattle.printer_profile.specs.Profiles.{printer_of}
