@@ -34,6 +34,7 @@ map-counted f g n (suc many) same =
     ap (λ x. x ∷ map f (count_from (n + 1) many)) (same n (omega arith))
     ∙ ap (λ xs. g n ∷ xs) (map-counted f g (n + 1) many (λ x low. same x (omega arith)))
 
+-- a row that a nozzle fires
 plane_row-is : (p : Printer) (t : DotTable) (h : Halftone) (place : ℕ) (ink : Ink) → Shows p t h → slice_get (inks_of p.inks) place ≡ Some ink
     → (row : Option ℕ) → ((y : ℕ) → row ≡ Some y → y < h.height) → fired_row h ink row ≡ plane_row t place row
 plane_row-is p t h place ink shows is None on = ap (λ n. replicate n false) (sym shows.width_is)
@@ -41,6 +42,7 @@ plane_row-is p t h place ink shows is (Some y) on =
     ap (λ n. map (h.dot ink y) (count_from 0 n)) (sym shows.width_is)
     ∙ map-counted (h.dot ink y) (dot t place y) 0 t.width (λ x low. sym (shows.dots place y x ink is (on y refl) (omega (arith, low, shows.width_is))))
 
+-- the rows of an ink in a pass
 pub pass_rows-are : (p : Printer) (plan : Weaving) (t : DotTable) (h : Halftone) (place pass : ℕ) (ink : Ink) → Suits p plan t → Shows p t h
     → slice_get (inks_of p.inks) place ≡ Some ink → pass_rows p h pass ink ≡ plane_rows t plan place pass
 pass_rows-are p plan t h place pass ink suits shows is =
@@ -56,6 +58,7 @@ pass_rows-are p plan t h place pass ink suits shows is =
 
 -- ---- lists of commands
 
+-- the rasters of commands and of those behind them
 pub rasters-append : (xs ys : List Spoken) → rasters_in (xs ++ ys) ≡ rasters_in xs + rasters_in ys
 rasters-append [] ys = omega arith
 rasters-append (x ∷ xs) ys = omega (arith, rasters-append xs ys)
@@ -76,14 +79,17 @@ pub record InksSoFar (p : Printer) (h : Halftone) (pass : ℕ) (old out : List �
       ≡ rasters + rasters_in (flat_map (ink_commands p h.width 1 (pass_stroke p h pass)) (drop place (inks_of p.inks)))
   pub fire : fires p (pass_stroke p h pass) ≡ (nat_lt 0 rasters || list_any (λ ink. has_dot (pass_rows p h pass ink)) (drop place (inks_of p.inks)))
 
+-- no ink is appended
 pub inks_begin : (p : Printer) (h : Halftone) (pass : ℕ) (old : List ℕ) → InksSoFar p h pass old old 0 0
 inks_begin p h pass old = record { items = refl; rasters_are = omega arith; fire = refl }
 
+-- a sum is above 0 where one of its parts is
 lt-add : (m n : ℕ) (rest : Bool) → (nat_lt 0 m || (nat_lt 0 n || rest)) ≡ (nat_lt 0 (m + n) || rest)
 lt-add zero n rest = ap (λ k. nat_lt 0 k || rest) (let e : n ≡ 0 + n = omega arith in e)
 lt-add (suc m) n rest =
     ap (λ b. b || (nat_lt 0 n || rest)) (lt-ltb 0 (suc m) (omega arith)) ∙ sym (ap (λ b. b || rest) (lt-ltb 0 (suc m + n) (omega arith)))
 
+-- one more ink is appended
 pub inks_step : (p : Printer) (plan : Weaving) (t : DotTable) (h : Halftone) (pass : ℕ) (old out out' : List ℕ) (head : RasterHead) (ink : Ink) (rasters place one : ℕ)
     → InksSoFar p h pass old out rasters place → Suits p plan t → Shows p t h → slice_get (inks_of p.inks) place ≡ Some ink → head ≡ raster_head p t.width 1
     → out' ≡ out ++ bytes_of canonical_row (rows_commands head ink (plane_rows t plan place pass))
@@ -116,16 +122,19 @@ inks_step p plan t h pass old out out' head ink rasters place one so_far suits s
           ∙ lt-add rasters one has;
     }
 
+-- a test, or none
 or-false : (b : Bool) → (b || false) ≡ b
 or-false true = refl
 or-false false = refl
 
+-- no ink is left
 drop-all : (inks : List Ink) (place : ℕ) → length inks ≤ place → drop place inks ≡ []
 drop-all [] zero all = refl
 drop-all [] (suc place) all = refl
 drop-all (i ∷ inks) zero all = absurd (omega arith)
 drop-all (i ∷ inks) (suc place) all = drop-all inks place (omega arith)
 
+-- all inks are appended
 pub inks_end : (p : Printer) (h : Halftone) (pass : ℕ) (old out : List ℕ) (rasters place : ℕ) → InksSoFar p h pass old out rasters place → length (inks_of p.inks) ≤ place
     → IsPass p h pass old out rasters
 inks_end p h pass old out rasters place so_far all =
@@ -156,6 +165,7 @@ ink_most p head width columns is same = ap (λ (h : RasterHead). 12 + 2 * h.m * 
 
 -- ---- the most bytes
 
+-- a set has four inks at most
 inks_few : (set : InkSet) → length (inks_of set) ≤ 4
 inks_few K = omega arith
 inks_few Cmy = omega arith
