@@ -1,9 +1,11 @@
 -- What the code's sums are, whose numbers are held in 16 and 32 bits.
-use Rattle.std.proofs.Common.{ℕ, ℤ, pos, ◌≡◌, ◌<◌, ◌≤◌, ◌+◌, ◌+ℤ◌, ◌*ℤ◌, to_z, of_z, w16, w32, FitsSigned, arith, ap, ◌∙◌, lit≤, List, subst, sym}
+use Rattle.std.proofs.Common.{ℕ, ℤ, pos, ◌≡◌, ◌<◌, ◌≤◌, ◌+◌, ◌-◌, ◌*◌, ◌/◌, ◌%◌, ◌-ℤ◌, negsuc, nat_abs, ◌+ℤ◌, ◌*ℤ◌, to_z, of_z, w16, w32, FitsSigned, arith, ap, ◌∙◌, lit≤, List, subst, sym}
 use Rattle.std.proofs.lemmas.Int.{ints}
+use Rattle.std.proofs.lemmas.Nat.{div-mul-add}
+use Rattle.std.proofs.Math.Nat.{add-mul-div_left, div-lt_iff_lt-mul}
 use Rattle.std.specs.Int.{int_div_euclid}
 use Rattle.diffusion_definitions.specs.Diffusion.{EachInRange, InRange, IsParts, Table, divisor, weighted}
-use Rattle.diffusion_definitions.proofs.Ranges.{carried_in, weighted_in}
+use Rattle.diffusion_definitions.proofs.Ranges.{quotient_in}
 
 -- a number as 32 bits hold it
 abbrev pub fixed : ℤ → ℤ
@@ -75,11 +77,38 @@ near_sum r0 r1 r2 r3 y0 y1 y2 y3 h0 h1 h2 h3 e0 e1 e2 e3 =
     let flat = in_groups y0 y1 y2 y3 in
     cc
 
--- what the errors near a pixel give to it is in range
-pub carried_fits : (k : Table) (same_row up1 up2 : List ℤ) (s q : ℤ) → 0 < divisor k → divisor k ≤ 4000 → EachInRange same_row → EachInRange up1 → EachInRange up2
-    → s ≡ weighted k same_row up1 up2 → q ≡ int_div_euclid (fixed s) (pos (divisor k)) → InRange (fixed q)
-carried_fits k same_row up1 up2 s q some few h h1 h2 is_sum is_quotient =
-    let parts : IsParts (divisor k) s = subst (IsParts (divisor k)) (sym is_sum) (weighted_in k same_row up1 up2 h h1 h2) in
-    let exact : q ≡ int_div_euclid (weighted k same_row up1 up2) (pos (divisor k)) = is_quotient ∙ ap (λ z. int_div_euclid z (pos (divisor k))) (same parts few ∙ is_sum) in
-    let range : InRange q = subst InRange (sym exact) (carried_in k same_row up1 up2 some h h1 h2) in
-    record { low = omega (arith, ints); high = omega (arith, ints) }
+pub parts_as : (m : ℕ) (y z : ℤ) → y ≡ z → IsParts m z → IsParts m y
+parts_as m y z e h = subst (IsParts m) (sym e) h
+
+-- a division of a number that is raised to 0 or above
+pub raised_quotient : (z : ℤ) (d n : ℕ) → 1 ≤ d → IsParts d z → pos n ≡ z +ℤ pos (2040 * d) → pos (n / d) -ℤ pos 2040 ≡ int_div_euclid z (pos d)
+raised_quotient (pos a) d n some parts is =
+    let sum : n ≡ a + d * 2040 = omega (arith, ints) in
+    let part : n / d ≡ a / d + 2040 = ap (λ m. m / d) sum ∙ add-mul-div_left a 2040 some in
+    omega (arith, ints)
+raised_quotient (negsuc a) d n some parts is =
+    let q : ℕ = a / d in
+    let r : ℕ = a % d in
+    let whole : d * q + r ≡ a = omega arith in
+    let left : r < d = omega arith in
+    let low : a < 2040 * d = omega (arith, ints, parts.low) in
+    let few : q < 2040 = (div-lt_iff_lt-mul some).1 low in
+    let s : ℕ = 2039 - q in
+    let both : s + q ≡ 2039 = omega arith in
+    let split : (s + q) * d ≡ 2039 * d = ap (λ m. m * d) both in
+    let sum : n ≡ s * d + (d - 1 - r) = omega (arith, ints) in
+    let part : n / d ≡ s = ap (λ m. m / d) sum ∙ div-mul-add s d (d - 1 - r) (omega arith) in
+    omega (arith, ints)
+
+-- parts of errors, raised to 0 or above, as 32 bits hold them
+abbrev pub raised : ℤ → ℕ → ℤ
+raised z d = fixed (fixed z +ℤ fixed (pos 2040 *ℤ to_z w32 d))
+
+-- the quotient that the code computes
+pub quotient_is : (z : ℤ) (d : ℕ) → 1 ≤ d → d ≤ 48 → IsParts d z → fixed (to_z w32 (nat_abs (raised z d) / d) -ℤ pos 2040) ≡ int_div_euclid z (pos d)
+quotient_is z d some few parts =
+    let n : ℕ = nat_abs (raised z d) in
+    let is : pos n ≡ z +ℤ pos (2040 * d) = omega (arith, ints, parts.low, parts.high) in
+    let q = raised_quotient z d n some parts is in
+    let range : InRange (int_div_euclid z (pos d)) = quotient_in z d some parts in
+    omega (arith, ints, q, range.low, range.high)

@@ -3,7 +3,7 @@ ghost use Rattle.diffusion_definitions.specs.Diffusion.{EachInRange, InRange, Is
 ghost use Rattle.diffusion_kernel.specs.Rows.{five_of, table_from};
 ghost use Rattle.diffusion_kernel.specs.Tables.{table_of};
 ghost use Rattle.std.specs.Int.{int_div_euclid};
-ghost use Rattle.std.specs.Prelude.{◌*ℤ◌, ◌+ℤ◌, ◌≡◌, ◌≤ℤ◌, negsuc, pos};
+ghost use Rattle.std.specs.Prelude.{negsuc, pos, ◌*ℤ◌, ◌+ℤ◌, ◌≡◌, ◌≤ℤ◌, ◌≤◌};
 
 use crate::tables::{FLOYD, JARVIS, Kernel, STUCKI, Shares};
 
@@ -57,12 +57,27 @@ fn weigh(shares: &Shares, errs: &Near) -> i32
     requires same { EachInRange errs.now.same }
     requires up1 { EachInRange errs.now.up1 }
     requires up2 { EachInRange errs.now.up2 }
-    ensures { result ≡ weighted (table_from shares.now) errs.now.same errs.now.up1 errs.now.up2 }
+    ensures parts { result ≡ weighted (table_from shares.now) errs.now.same errs.now.up1 errs.now.up2 }
+    ensures in_range { IsParts (divisor (table_from shares.now)) result }
 {
     parts(shares.right[0], errs.same[0])
         + parts(shares.right[1], errs.same[1])
         + row_parts(&shares.below, &errs.up1)
         + row_parts(&shares.below2, &errs.up2)
+}
+
+/// Parts of errors divided by the sum of all shares, rounded down.
+#[inline]
+fn quotient(parts: i32, divisor: u32) -> i32
+    requires parts { IsParts divisor parts }
+    requires some { 1 ≤ divisor }
+    requires most { divisor ≤ 48 }
+    ensures floor { result ≡ int_div_euclid parts (pos divisor) }
+    ensures in_range { InRange result }
+{
+    // the least error is -2040, so that no sign is left for the division to look at
+    let raised = (parts + 2040 * divisor as i32) as u32;
+    (raised / divisor) as i32 - 2040
 }
 
 /// The dot of a value in sixteenths of an amount.
@@ -97,9 +112,9 @@ impl Kernel {
         ensures in_range { InRange result }
     {
         match self {
-            Kernel::Floyd => weigh(&FLOYD, errs).div_euclid(16),
-            Kernel::Jarvis => weigh(&JARVIS, errs).div_euclid(48),
-            Kernel::Stucki => weigh(&STUCKI, errs).div_euclid(42),
+            Kernel::Floyd => quotient(weigh(&FLOYD, errs), 16),
+            Kernel::Jarvis => quotient(weigh(&JARVIS, errs), 48),
+            Kernel::Stucki => quotient(weigh(&STUCKI, errs), 42),
         }
     }
 

@@ -12,11 +12,14 @@ fn dots_stand_from_the_highest_bit_on(rt: HostRuntime) {
     planes.turn_on(1, 0, 1);
     planes.turn_on(1, 9, 1);
     planes.turn_on(2, 3, 0);
-    assert_eq!(rt; planes.row(1, 1), [0x80, 0x40]);
-    assert_eq!(rt; planes.row(2, 0), [0x10, 0x00]);
-    assert_eq!(rt; planes.row(1, 0), [0x00, 0x00]);
+    assert_eq!(rt; planes.row(1, 1), [0x80, 0x40].as_slice());
+    assert_eq!(rt; planes.row(2, 0), [0x10, 0x00].as_slice());
+    assert_eq!(rt; planes.row(1, 0), [0x00, 0x00].as_slice());
     assert!(rt; planes.dot(1, 9, 1) && !planes.dot(1, 8, 1));
-    assert_eq!(rt; (planes.count(0), planes.count(1), planes.count(2)), (0, 2, 1));
+    assert_eq!(rt;
+        (planes.count(0), planes.count(1), planes.count(2)),
+        (0, 2, 1)
+    );
 }
 
 #[test]
@@ -28,7 +31,7 @@ fn amounts_are_kept_ink_by_ink(rt: HostRuntime) {
     assert_eq!(rt; (rows.width(), rows.rows(), rows.inks()), (3, 2, 4));
     rows.set(3, 2, 1, 7);
     rows.put_part(2, 1, 1, &[5, 6]);
-    assert_eq!(rt; rows.row(3, 1), [0, 0, 7]);
-    assert_eq!(rt; rows.row(2, 1), [0, 5, 6]);
+    assert_eq!(rt; rows.row(3, 1), [0, 0, 7].as_slice());
+    assert_eq!(rt; rows.row(2, 1), [0, 5, 6].as_slice());
     assert_eq!(rt; (rows.get(2, 1, 1), rows.get(3, 0, 0)), (5, 0));
 }

@@ -31,7 +31,8 @@ wide-reads in_range at n next rest ok =
     ap (λ k. if in_range k then next k rest else Wrong at BadValue) (two_bytes-is n)
     ∙ ap (λ b. if b then next n rest else Wrong at BadValue) ok
 
-and-left : (a b : Bool) → a && b ≡ true → a ≡ true
+-- the first of two tests that hold
+pub and-left : (a b : Bool) → a && b ≡ true → a ≡ true
 and-left true b e = refl
 and-left false b e = e
 

@@ -1,16 +1,18 @@
 -- What is written of a command spells it.
-use Rattle.std.proofs.Common.{◌≡◌, ℕ, zero, suc, ◌+◌, ◌*◌, Bool, true, false, ◌==◌, if◌then◌else◌, List, length, take, drop, refl, sym, ◌∙◌, arith, length-drop, ◌⊎◌, inl, inr, eq-eqb}
+use Rattle.std.proofs.Common.{◌≡◌, ℕ, zero, suc, ◌+◌, ◌*◌, ◌≤◌, Bool, true, false, ◌==◌, if◌then◌else◌, List, length, take, drop, refl, sym, ◌∙◌, arith, length-drop, ◌⊎◌, inl, inr, eq-eqb, leb-true}
 use Rattle.std.specs.Prelude.{MatchBool}
 use Rattle.std.specs.List.{flat_map}
 use Rattle.std.proofs.lemmas.List.{length-take-le, take-append-drop}
 use Rattle.escp2_definitions.specs.declared.command.RasterHead.{RasterHead}
 use Rattle.escp2_definitions.specs.declared.command.Command.{Command}
 use Rattle.escp2_definitions.specs.declared.command.Command.TheVariants as c
-use Rattle.escp2_definitions.specs.Commands.{Spells, in_table, row_bytes, rows_len}
+use Rattle.escp2_definitions.specs.Commands.{Spells, in_table, is_switch, row_bytes, rows_len}
 use Rattle.escp2_definitions.specs.RowCode.{RowCode, RowsCode}
 use Rattle.escp2_definitions.specs.Written.{Coding, IsCoding, rows_apart, written, written_rows}
+use Rattle.escp2_definitions.specs.Canonical.{canonical_row}
 use Rattle.escp2_laws.specs.Coded.{HasCoding}
-use Rattle.escp2_laws.proofs.Reading.{no_rows}
+use Rattle.escp2_laws.proofs.Canonical.{canonical-codes}
+use Rattle.escp2_laws.proofs.Reading.{and-left, no_rows}
 
 -- ---- rows one by one
 
@@ -59,3 +61,16 @@ written-spells coding (c.Raster head) rows codes has ok fits = record {
   spelled = refl;
 }
 written-spells coding other rows codes has ok fits = record { in_range = ok; rows_fit = fits; text = rows; rows_are = refl; spelled = refl }
+
+-- the canonical code, where the rows are coded
+switch-is : (k : ℕ) → is_switch k ≡ true → IsCoding (record { c = k; code = canonical_row })
+switch-is zero ok = inl refl
+switch-is (suc zero) ok = inr (refl, canonical-codes)
+switch-is (suc (suc k)) ok = absurd (let high : suc (suc k) ≤ 1 = leb-true (suc (suc k)) 1 ok in omega arith)
+
+pub canonical-spells : (command : Command) (rows : List ℕ) → in_table command ≡ true → length rows ≡ rows_len command
+    → Spells command rows (written canonical_row command rows)
+canonical-spells (c.Raster head) rows ok fits =
+    let coded : is_switch head.c ≡ true = and-left _ _ (and-left _ _ (and-left _ _ (and-left _ _ ok))) in
+    written-spells (record { c = head.c; code = canonical_row }) (c.Raster head) rows (switch-is head.c coded) refl ok fits
+canonical-spells other rows ok fits = record { in_range = ok; rows_fit = fits; text = rows; rows_are = refl; spelled = refl }

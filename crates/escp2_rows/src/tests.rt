@@ -18,7 +18,10 @@ fn equal_bytes_are_written_as_one(rt: HostRuntime) -> Result<(), Fail> {
 fn other_bytes_are_written_as_they_are(rt: HostRuntime) -> Result<(), Fail> {
     let mut out = [0; 16];
     let len = code_row(&[1, 2, 2, 3, 4, 4, 4, 5], &mut out);
-    assert_eq!(rt; &out[..len], [0x03, 1, 2, 2, 3, 0xFE, 4, 0x00, 5].as_slice());
+    assert_eq!(rt;
+        &out[..len],
+        [0x03, 1, 2, 2, 3, 0xFE, 4, 0x00, 5].as_slice()
+    );
     Ok(())
 }
 

@@ -1,9 +1,8 @@
 //! The bytes of each command, written here by hand, and sinks that fail or come short.
-ghost use Rattle.escp2_writer.specs.Plain.{IsPlain};
 ghost use Rattle.escp2_definitions.specs.Commands.{in_table, rows_len};
 ghost use Rattle.std.specs.Prelude.{length, true, ◌≡◌};
 
-use crate::{Command, RasterHead, put};
+use crate::{Command, RasterHead, append, put};
 use std::alloc::Global;
 use std::test::Fail;
 use weave_base::{Failed, Ink, MemSink};
@@ -12,7 +11,6 @@ use weave_base::{Failed, Ink, MemSink};
 fn written(alloc: Global, c: &Command, rows: &[u8]) -> Result<MemSink, Fail>
     requires in_range { in_table c.now ≡ true }
     requires rows_fit { length rows.now ≡ rows_len c.now }
-    requires plain { IsPlain c.now }
 {
     let mut sink = MemSink::make(alloc, 16, Vec::new(alloc), Vec::new(alloc))?;
     put(c, rows, &mut sink)?;
@@ -114,6 +112,44 @@ const RASTER_BYTES: [u8; 12] = [
 fn the_rows_of_a_raster_follow_its_numbers(rt: HostRuntime) -> Result<(), Fail> {
     let sink = written(rt.alloc(), &RASTER, &ROWS)?;
     assert_eq!(rt; sink.bytes(), RASTER_BYTES.as_slice());
+    Ok(())
+}
+
+/// A coded raster of three rows of 24 columns.
+const CODED: Command = Command::Raster {
+    head: RasterHead {
+        c: 1,
+        v: 20,
+        h: 10,
+        m: 3,
+        n: 24,
+    },
+};
+
+const CODED_ROWS: [u8; 9] = [0, 0, 0, 1, 2, 3, 7, 7, 7];
+
+const CODED_BYTES: [u8; 16] = [
+    0x1B, 0x2E, 0x01, 0x14, 0x0A, 0x03, 0x18, 0x00, 0xFE, 0x00, 0x02, 0x01, 0x02, 0x03, 0xFE, 0x07,
+];
+
+#[test]
+fn coded_rows_take_one_write(rt: HostRuntime) -> Result<(), Fail> {
+    let alloc = rt.alloc();
+    let mut sink = MemSink::make(alloc, 16, Vec::new(alloc), vec![in alloc; 2]?)?;
+    assert_eq!(rt; put(&CODED, &CODED_ROWS, &mut sink), Ok(()));
+    assert_eq!(rt; sink.bytes(), CODED_BYTES.as_slice());
+    Ok(())
+}
+
+#[test]
+fn commands_are_appended(rt: HostRuntime) -> Result<(), Fail> {
+    let mut out = vec![in rt.alloc(); 0x99]?;
+    assert_eq!(rt; append(&CODED, &CODED_ROWS, &mut out), Ok(()));
+    assert_eq!(rt; append(&Command::Eject, &[], &mut out), Ok(()));
+    assert_eq!(rt; out.len(), 18);
+    assert_eq!(rt; out[0], 0x99);
+    assert_eq!(rt; &out[1..17], CODED_BYTES.as_slice());
+    assert_eq!(rt; out[17], 0x0C);
     Ok(())
 }
 

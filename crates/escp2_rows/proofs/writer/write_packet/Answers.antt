@@ -1,5 +1,4 @@
-use Rattle.std.proofs.Common.{◌≤◌, sym, ap, ◌∙◌, arith, take, ◌≡◌, refl, subst, ◌-◌, set}
-use Rattle.escp2_definitions.specs.Canonical.{equal_at}
+use Rattle.std.proofs.Common.{arith}
 use Rattle.escp2_rows.proofs.Writing.{bytes_coded, repeat_coded}
 use Rattle.escp2_rows.proofs.writer.write_packet.Goals as goal
 

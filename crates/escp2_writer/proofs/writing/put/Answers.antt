@@ -1,10 +1,14 @@
-use Rattle.weave_base.proofs.Parting.{on_err_anyway, on_err_behind, part_of_front}
+use Rattle.std.proofs.Common.{rules}
+use Rattle.weave_base.proofs.Parting.{two_part}
+use Rattle.escp2_laws.proofs.Written.{canonical-spells}
 use Rattle.escp2_writer.proofs.writing.put.Goals as goal
+use Rattle.escp2_writer.proofs.writing.put.Goals.{in_default-via-in-Raster+else-head-ne0, in_default-via-in_default}
 
--- the head is written, and the rows in part
-pub returns-clause-part : goal.returns-clause-part
-returns-clause-part g c = on_err_behind _ _ _ _ _ _ c.in_ok-put_head.ensures.ok c.put_all.ensures.part
+pub returns-in-Raster-clause-spelled : goal.returns-in-Raster-clause-spelled
+returns-in-Raster-clause-spelled g c = canonical-spells _ _ c.requires.in_range c.requires.rows_fit
 
--- the head is written in part
-pub returns-in_err-put_head-clause-part : goal.returns-in_err-put_head-clause-part
-returns-in_err-put_head-clause-part g c = on_err_anyway _ (part_of_front _ _ _ _ c.in_err-put_head.ensures.part)
+pub returns-in_ok-put_all-in_default-clause-part : goal.returns-in_ok-put_all-in_default-clause-part
+returns-in_ok-put_all-in_default-clause-part g c = elim c.in_default.branch [
+  | in_default-via-in-Raster+else-head-ne0 w ↦ two_part _ _ _ _ _ _ _ (search rules) c.in_ok-put_all-in_default.ensures.ok c.put_all-in_default.ensures.part
+  | in_default-via-in_default w ↦ two_part _ _ _ _ _ _ _ (search rules) c.in_ok-put_all-in_default.ensures.ok c.put_all-in_default.ensures.part
+]

@@ -1,0 +1,102 @@
+//! The bytes of commands, without the rows of rasters.
+ghost use Rattle.arrayvec.specs.ArrayVec.{array_vec_len};
+ghost use Rattle.escp2_definitions.specs.Commands.{colour_code as colour_code_of, command_bytes, row_bytes as row_bytes_of, two_bytes};
+ghost use Rattle.std.specs.Prelude.{[], length, ◌%◌, ◌++◌, ◌/◌, ◌∷◌, ◌≡◌, ◌≤◌};
+
+use crate::{Command, RasterHead};
+use arrayvec::ArrayVec;
+use weave_base::Ink;
+
+/// The bytes of a command without the rows of a raster.
+pub type HeadBytes = ArrayVec<u8, 9>;
+
+const ESC: u8 = 0x1B;
+
+fn colour_code(ink: Ink) -> u8
+    ensures { result ≡ colour_code_of ink }
+{
+    match ink {
+        Ink::Black => 0,
+        Ink::Magenta => 1,
+        Ink::Cyan => 2,
+        Ink::Yellow => 4,
+    }
+}
+
+/// A number in two bytes, the low one first.
+fn two(n: u16) -> [u8; 2]
+    ensures { result ≡ two_bytes n }
+{
+    [(n % 256) as u8, (n / 256) as u8]
+}
+
+/// A command of one byte.
+fn single(byte: u8) -> HeadBytes
+    ensures { result.items ≡ byte ∷ [] }
+{
+    let mut bytes = HeadBytes::new();
+    bytes.push(byte);
+    bytes
+}
+
+/// `ESC`, a letter, and numbers.
+fn escaped(letter: u8, numbers: &[u8]) -> HeadBytes
+    requires { length numbers.now ≤ 6 }
+    ensures items { result.items ≡ 0x1B ∷ letter ∷ numbers.now }
+{
+    let mut bytes = HeadBytes::new();
+    bytes.push(ESC);
+    bytes.push(letter);
+    bytes.try_extend_from_slice(numbers).unwrap();
+    bytes
+}
+
+/// `ESC (`, a letter, how many bytes follow, and these.
+fn sized(letter: u8, numbers: &[u8]) -> HeadBytes
+    requires { length numbers.now ≤ 4 }
+    ensures { result.items ≡ 0x1B ∷ 0x28 ∷ letter ∷ length numbers.now ∷ 0 ∷ numbers.now }
+{
+    let mut bytes = escaped(b'(', &[letter, numbers.len() as u8, 0]);
+    bytes.try_extend_from_slice(numbers).unwrap();
+    bytes
+}
+
+/// The bytes of one row of a raster.
+pub(crate) fn row_bytes(head: RasterHead) -> usize
+    ensures is { result ≡ row_bytes_of head }
+    ensures most { result ≤ 8192 }
+{
+    (usize::from(head.n) + 7) / 8
+}
+
+/// The bytes of a command (ESC/P Reference Manual, graphics commands), for a raster without its rows. This is the one
+/// place where commands are spelled.
+pub fn head_bytes(c: &Command) -> HeadBytes
+    ensures { result.items ≡ command_bytes c.now }
+{
+    match *c {
+        Command::Init => escaped(b'@', &[]),
+        Command::Graphics => sized(b'G', &[1]),
+        Command::Unit { m } => sized(b'U', &[m]),
+        Command::MicroWeave { n } => sized(b'i', &[n]),
+        Command::OneWay { n } => escaped(b'U', &[n]),
+        Command::Length { n } => sized(b'C', &two(n)),
+        Command::Margins { top, bottom } => {
+            let [top_low, top_high] = two(top);
+            let [bottom_low, bottom_high] = two(bottom);
+            sized(b'c', &[top_low, top_high, bottom_low, bottom_high])
+        }
+        Command::DownTo { n } => sized(b'V', &two(n)),
+        Command::DownBy { n } => sized(b'v', &two(n)),
+        Command::Across { n } => escaped(b'$', &two(n)),
+        Command::Return => single(b'\r'),
+        Command::Eject => single(0x0C),
+        Command::Colour { ink } => escaped(b'r', &[colour_code(ink)]),
+        Command::Raster {
+            head: RasterHead { c, v, h, m, n },
+        } => {
+            let [low, high] = two(n);
+            escaped(b'.', &[c, v, h, m, low, high])
+        }
+    }
+}

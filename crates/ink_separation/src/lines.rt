@@ -1,0 +1,93 @@
+//! The amounts of the pixels of a line.
+ghost use Rattle.dot_planes.specs.Tables.{HasSizeAs, amount};
+ghost use Rattle.ink_separation.specs.Given.{given_to};
+ghost use Rattle.printer_definitions.specs.Inks.{inks_of};
+ghost use Rattle.printer_definitions.specs.Printer.{limit_of as limit_of_printer};
+ghost use Rattle.printer_definitions.specs.declared.inks.Ink.{Ink};
+ghost use Rattle.printer_profile.specs.Profiles.{printer_of};
+ghost use Rattle.printer_profile.specs.Validity.{check};
+ghost use Rattle.pwg_definitions.specs.Header.{row_of};
+ghost use Rattle.separation_definitions.specs.Amounts.{amount as amount_of, pixel_at};
+ghost use Rattle.std.specs.Prelude.{IsOk, Some, length, slice_get, slice_index, ℕ, ◌*◌, ◌+◌, ◌/◌, ◌<◌, ◌≡◌, ◌≢◌, ◌≤◌, ◌⊎◌};
+
+use crate::black::black_table;
+use crate::given::Given;
+use crate::limits::limited;
+use crate::pixels::PIXELS;
+use dot_planes::InkRows;
+use printer_definitions::Ink;
+use printer_profile::Profile;
+use pwg_definitions::Kind;
+use separation_definitions::Window;
+
+/// Sets the amounts of all inks of the profile in row `at` from the pixels of a line that the window has. Amounts of
+/// other rows stay.
+///
+/// Column x of the window is pixel left + x of the line. `out` is as wide as the window, and has the inks of the
+/// profile's set in their order.
+pub fn amounts(p: &Profile, kind: Kind, line: &[u8], w: Window, at: u32, out: &mut InkRows)
+    requires checked { IsOk (check p.now) }
+    requires wide { w.width ≤ 8191 }
+    requires inside { (w.left + w.width) * (row_of kind).unit ≤ length line.now }
+    requires width { out.old.width ≡ w.width }
+    requires inks { out.old.inks ≡ length (inks_of p.now.inks) }
+    requires at { at < out.old.rows }
+    ensures size { HasSizeAs out.old out.new }
+    ensures amounts { (i : ℕ) (ink : Ink) → slice_get (inks_of p.now.inks) i ≡ Some ink → (x : ℕ) → x < w.width
+        → amount out.new i at x ≡ amount_of (printer_of p.now) kind (pixel_at kind line.now (w.left + x)) ink }
+    ensures others { (i y x : ℕ) → y ≢ at → y < out.old.rows → amount out.new i y x ≡ amount out.old i y x }
+{
+    let table = black_table(p.black_start);
+    let unit = unit_of(kind);
+    let pixels = &line[w.left as usize * unit..];
+    for n in 0..w.width.div_ceil(64) {
+        let x = n * 64;
+        let many = (w.width - x).min(64) as usize;
+        let first = x as usize * unit;
+        let given = Given::make(p, kind, &pixels[first..first + many * unit], &table);
+        put(p, &given, many, x, at, out);
+    }
+}
+
+// The bytes of a pixel.
+fn unit_of(kind: Kind) -> usize
+    ensures is { result ≡ (row_of kind).unit }
+    ensures some { 1 ≤ result }
+    ensures most { result ≤ 3 }
+{
+    match kind {
+        Kind::Gray8 | Kind::Black8 => 1,
+        Kind::Rgb8 => 3,
+    }
+}
+
+// The greatest amount of an ink.
+fn limit_of(p: &Profile, ink: Ink) -> u8
+    ensures { result ≡ limit_of_printer (printer_of p.now) ink }
+{
+    match ink {
+        Ink::Black => p.limits[0],
+        Ink::Cyan => p.limits[1],
+        Ink::Magenta => p.limits[2],
+        Ink::Yellow => p.limits[3],
+    }
+}
+
+// Sets the amounts of each ink in row `at` from column x on to what so many pixels give, under the ink's limit.
+fn put(p: &Profile, given: &Given, many: usize, x: u32, at: u32, out: &mut InkRows)
+    requires many { many ≤ 64 }
+    requires inside { x + many ≤ out.old.width }
+    requires inks { out.old.inks ≡ length (inks_of p.now.inks) }
+    requires at { at < out.old.rows }
+    ensures size { HasSizeAs out.old out.new }
+    ensures put { (i : ℕ) (ink : Ink) → slice_get (inks_of p.now.inks) i ≡ Some ink → (k : ℕ) → k < many
+        → amount out.new i at (x + k) ≡ slice_index (given_to given.now ink) k * limit_of_printer (printer_of p.now) ink / 255 }
+    ensures beside { (i c : ℕ) → (c < x) ⊎ (x + many ≤ c) → amount out.new i at c ≡ amount out.old i at c }
+    ensures others { (i y c : ℕ) → y ≢ at → y < out.old.rows → amount out.new i y c ≡ amount out.old i y c }
+{
+    for i in 0..p.inks.count() {
+        let ink = p.inks.at(i);
+        let amounts = limited(given.to(ink), limit_of(p, ink));
+        out.put_part(i, x, at, &amounts[..many]);
+    }
+}

@@ -1,0 +1,90 @@
+//! What up to 64 pixels want, before inks are told apart.
+ghost use Rattle.ink_separation.specs.Given.{colour_at};
+ghost use Rattle.separation_definitions.specs.Amounts.{darkness};
+ghost use Rattle.std.specs.Prelude.{length, min, slice_index, ℕ, ◌*◌, ◌+◌, ◌-◌, ◌<◌, ◌≡◌, ◌≤◌};
+
+/// How many pixels are separated at a time.
+pub(crate) const PIXELS: usize = 64;
+
+/// A value for each pixel.
+pub(crate) type Values = [u8; PIXELS];
+
+/// The bytes as they are.
+#[inline]
+pub(crate) fn same(bytes: &[u8]) -> Values
+    requires { length bytes.now ≤ 64 }
+    ensures { (x : ℕ) → x < length bytes.now → slice_index result x ≡ slice_index bytes.now x }
+{
+    let mut values = [0; PIXELS];
+    for x in 0..bytes.len() {
+        values[x] = bytes[x];
+    }
+    values
+}
+
+/// The bytes, turned over.
+#[inline]
+pub(crate) fn inverted(bytes: &[u8]) -> Values
+    requires { length bytes.now ≤ 64 }
+    ensures { (x : ℕ) → x < length bytes.now → slice_index result x ≡ 255 - slice_index bytes.now x }
+{
+    let mut values = [0; PIXELS];
+    for x in 0..bytes.len() {
+        values[x] = 255 - bytes[x];
+    }
+    values
+}
+
+/// How much one of the three colours of each pixel lacks.
+#[inline]
+pub(crate) fn complements(pixels: &[u8], colour: usize) -> Values
+    requires pixels { length pixels.now ≤ 192 }
+    requires colour { colour < 3 }
+    ensures { (x : ℕ) → 3 * x + 3 ≤ length pixels.now → slice_index result x ≡ 255 - slice_index pixels.now (3 * x + colour) }
+{
+    let mut values = [0; PIXELS];
+    for x in 0..pixels.len() / 3 {
+        values[x] = 255 - pixels[3 * x + colour];
+    }
+    values
+}
+
+/// How dark each pixel of red, green and blue is as a grey.
+#[inline]
+pub(crate) fn darkness_of(pixels: &[u8]) -> Values
+    requires { length pixels.now ≤ 192 }
+    ensures { (x : ℕ) → 3 * x + 3 ≤ length pixels.now → slice_index result x ≡ darkness (colour_at pixels.now x) }
+{
+    let mut values = [0; PIXELS];
+    for x in 0..pixels.len() / 3 {
+        let red = u16::from(pixels[3 * x]);
+        let green = u16::from(pixels[3 * x + 1]);
+        let blue = u16::from(pixels[3 * x + 2]);
+        values[x] = 255 - ((77 * red + 150 * green + 29 * blue) / 256) as u8;
+    }
+    values
+}
+
+/// The least of three values at each pixel.
+#[inline]
+pub(crate) fn least_of(a: &Values, b: &Values, c: &Values) -> Values
+    ensures { (x : ℕ) → x < 64 → slice_index result x ≡ min (min (slice_index a.now x) (slice_index b.now x)) (slice_index c.now x) }
+{
+    let mut values = [0; PIXELS];
+    for x in 0..PIXELS {
+        values[x] = a[x].min(b[x]).min(c[x]);
+    }
+    values
+}
+
+/// The values less others, where a value below 0 is 0.
+#[inline]
+pub(crate) fn less(values: &Values, taken: &Values) -> Values
+    ensures { (x : ℕ) → x < 64 → slice_index result x ≡ slice_index values.now x - slice_index taken.now x }
+{
+    let mut rest = [0; PIXELS];
+    for x in 0..PIXELS {
+        rest[x] = values[x].saturating_sub(taken[x]);
+    }
+    rest
+}
