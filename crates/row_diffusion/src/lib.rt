@@ -1,11 +1,11 @@
-//! One row of error diffusion, and its dots packed into bytes.
+//! Error diffusion row by row: a row of amounts becomes a packed row of dots.
 #![tactic(auto)]
 
+mod errors;
 mod packing;
 mod rows;
 
-pub use packing::pack_row;
-pub use rows::diffuse_row;
+pub use errors::ErrorRows;
 
 #[cfg(test)]
 mod tests;

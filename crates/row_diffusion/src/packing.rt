@@ -39,7 +39,7 @@ fn behind_eight(row: &[bool]) -> &[bool]
 }
 
 /// Packs a row of dots, eight a byte, the first in the highest bit. Bits behind the row are 0.
-pub fn pack_row(row: &[bool], out: &mut [u8])
+pub(crate) fn pack_row(row: &[bool], out: &mut [u8])
     requires { length out.old ≡ (length row.now + 7) / 8 }
     ensures { out.new ≡ packed row.now }
 {

@@ -1,8 +1,7 @@
 //! A row of a plane, from the left.
-ghost use Rattle.diffusion_definitions.specs.Diffusion.{EachInRange, Errors, InRange, Plane, Solves, on};
 ghost use Rattle.diffusion_kernel.specs.Tables.{table_of};
-ghost use Rattle.row_diffusion.specs.Rows.{HasRow, IsBordered, RowIs};
-ghost use Rattle.std.specs.Prelude.{[], false, length, pos, slice_index_or, ℕ, ◌+◌, ◌<◌, ◌≡◌, ◌∷◌};
+ghost use Rattle.row_diffusion.specs.Rows.{AreRows, IsDiffused};
+ghost use Rattle.std.specs.Prelude.{[], length, pos, slice_index_or, ◌+◌, ◌<◌, ◌≡◌, ◌∷◌};
 
 use diffusion_kernel::{Kernel, Near};
 
@@ -25,9 +24,10 @@ fn near_at(up2: &[i16], up1: &[i16], left1: i16, left2: i16, x: usize) -> Near
 
 /// Diffuses a row of amounts below the errors of the two rows above it, and gives its errors and its dots.
 ///
-/// A row of errors has the error of column x at place x + 4, and zeros at its four first and two last places, so
-/// that no pixel needs a test for the row's ends. What `row` holds between them at the call is of no account.
-pub fn diffuse_row(
+/// A row of errors has zeros at its four first and two last places, so that no pixel needs a test for the row's ends.
+/// What `row` holds between them at the call is of no account.
+#[inline]
+pub(crate) fn diffuse_row(
     k: Kernel,
     amounts: &[u8],
     up2: &[i16],
@@ -35,23 +35,8 @@ pub fn diffuse_row(
     row: &mut [i16],
     dots: &mut [bool],
 )
-    requires width { length amounts.now < 8192 }
-    requires up2_len { length up2.now ≡ length amounts.now + 6 }
-    requires up1_len { length up1.now ≡ length amounts.now + 6 }
-    requires row_len { length row.old ≡ length amounts.now + 6 }
-    requires dots_len { length dots.old ≡ length amounts.now }
-    requires up2_fits { EachInRange up2.now }
-    requires up1_fits { EachInRange up1.now }
-    requires row_fits { EachInRange row.old }
-    requires bordered { IsBordered (length amounts.now) row.old }
-    ensures in_range { EachInRange row.new }
-    ensures bordered { IsBordered (length amounts.now) row.new }
-
-    // For the row of any plane, below its errors in the two rows above.
-    ensures row { (p : Plane) (e : Errors) (y : ℕ) → HasRow p y amounts.now → Solves (table_of k) p e → RowIs e y up2.now → RowIs e (y + 1) up1.now
-        → RowIs e (y + 2) row.new }
-    ensures dots { (p : Plane) (e : Errors) (y : ℕ) → HasRow p y amounts.now → Solves (table_of k) p e → RowIs e y up2.now → RowIs e (y + 1) up1.now
-        → (x : ℕ) → x < length amounts.now → slice_index_or dots.new x false ≡ on (table_of k) p e y x }
+    requires { AreRows (length amounts.now) up2.now up1.now row.old (length dots.old) }
+    ensures { IsDiffused (table_of k) amounts.now up2.now up1.now row.new dots.new }
 {
     let mut left1 = 0i16;
     let mut left2 = 0i16;

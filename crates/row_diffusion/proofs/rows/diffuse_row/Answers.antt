@@ -44,6 +44,13 @@ loop-x-preserved c =
       dots = λ p e y has s u2 u1. dots_more _ x _ (on k p e y) (omega arith) (v.dots p e y has s u2 u1) (here p e y has s u2 u1).on;
     }
 
-pub returns-clause-row : goal.returns-clause-row
-returns-clause-row c = λ p e y has s u2 u1.
-    all_done (table_of c.args.k) p e y c.loop-x.x _ s (bordered_as _ _ _ has.wide c.loop-x.invariant.bordered) (omega (arith, has.wide, c.loop-x-test.false)) (c.loop-x.invariant.row p e y has s u2 u1)
+pub returns : goal.returns
+returns c =
+    let v = c.loop-x.invariant in
+    record {
+      fits = v.in_range;
+      bordered = v.bordered;
+      errors = λ p e y has s u2 u1.
+        all_done (table_of c.args.k) p e y c.loop-x.x _ s (bordered_as _ _ _ has.wide v.bordered) (omega (arith, has.wide, c.loop-x-test.false)) (v.row p e y has s u2 u1);
+      on_dots = λ p e y has s u2 u1 x low. v.dots p e y has s u2 u1 x (omega (arith, c.loop-x-test.false));
+    }
