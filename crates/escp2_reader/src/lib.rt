@@ -1,0 +1,8 @@
+//! Commands read from the bytes of a print job, in pieces of any length.
+#![tactic(auto)]
+
+mod heads;
+mod sized;
+
+pub use escp2_commands::{Command, RasterHead};
+pub use escp2_definitions::JobCause;
