@@ -1,5 +1,5 @@
 //! The bytes of a command before the rows of a raster (ESC/P Reference Manual, graphics commands).
-ghost use Rattle.escp2_definitions.specs.Commands.{command_at, escape, is_between, raster_at};
+ghost use Rattle.escp2_definitions.specs.Commands.{command_at, escape, is_between};
 ghost use Rattle.escp2_reader.specs.Heads.{IsRead};
 ghost use Rattle.std.specs.Prelude.{◌∷◌, ◌≡◌};
 
@@ -116,7 +116,7 @@ fn colour(bytes: &[u8]) -> HeadState
 
 /// The numbers of a raster.
 fn raster(bytes: &[u8]) -> HeadState
-    ensures { IsRead result 2 raster_at bytes.now }
+    ensures { IsRead result 1 escape (0x2E ∷ bytes.now) }
 {
     let [c, rest @ ..] = bytes else {
         return HeadState::Part;

@@ -2,7 +2,9 @@
 #![tactic(auto)]
 
 mod heads;
+mod reader;
 mod sized;
 
 pub use escp2_commands::{Command, RasterHead};
 pub use escp2_definitions::JobCause;
+pub use reader::{Cut, Heard, HeardState, JobReader};

@@ -1,5 +1,5 @@
 //! The commands that tell their length: `ESC (`, a letter, how many bytes follow, and these.
-ghost use Rattle.escp2_definitions.specs.Commands.{paren};
+ghost use Rattle.escp2_definitions.specs.Commands.{escape};
 ghost use Rattle.escp2_reader.specs.Heads.{IsLength, IsRead};
 ghost use Rattle.std.specs.Prelude.{◌∷◌, ◌≡◌};
 
@@ -19,7 +19,7 @@ enum LengthState<'a> {
 
 /// What `ESC (` goes on with.
 pub(crate) fn after_paren(bytes: &[u8]) -> HeadState
-    ensures { IsRead result 2 paren bytes.now }
+    ensures { IsRead result 1 escape (0x28 ∷ bytes.now) }
 {
     match bytes {
         [] => HeadState::Part,
@@ -62,7 +62,7 @@ fn bad_length(place: u8) -> HeadState
 }
 
 fn graphics(bytes: &[u8]) -> HeadState
-    ensures { IsRead result 2 paren (0x47 ∷ bytes.now) }
+    ensures { IsRead result 1 escape (0x28 ∷ 0x47 ∷ bytes.now) }
 {
     match length_of(1, bytes) {
         LengthState::Part => HeadState::Part,
@@ -74,7 +74,7 @@ fn graphics(bytes: &[u8]) -> HeadState
 }
 
 fn unit(bytes: &[u8]) -> HeadState
-    ensures { IsRead result 2 paren (0x55 ∷ bytes.now) }
+    ensures { IsRead result 1 escape (0x28 ∷ 0x55 ∷ bytes.now) }
 {
     match length_of(1, bytes) {
         LengthState::Part => HeadState::Part,
@@ -86,7 +86,7 @@ fn unit(bytes: &[u8]) -> HeadState
 }
 
 fn micro_weave(bytes: &[u8]) -> HeadState
-    ensures { IsRead result 2 paren (0x69 ∷ bytes.now) }
+    ensures { IsRead result 1 escape (0x28 ∷ 0x69 ∷ bytes.now) }
 {
     match length_of(1, bytes) {
         LengthState::Part => HeadState::Part,
@@ -98,7 +98,7 @@ fn micro_weave(bytes: &[u8]) -> HeadState
 }
 
 fn page_length(bytes: &[u8]) -> HeadState
-    ensures { IsRead result 2 paren (0x43 ∷ bytes.now) }
+    ensures { IsRead result 1 escape (0x28 ∷ 0x43 ∷ bytes.now) }
 {
     match length_of(2, bytes) {
         LengthState::Part => HeadState::Part,
@@ -115,7 +115,7 @@ fn page_length(bytes: &[u8]) -> HeadState
 }
 
 fn down_to(bytes: &[u8]) -> HeadState
-    ensures { IsRead result 2 paren (0x56 ∷ bytes.now) }
+    ensures { IsRead result 1 escape (0x28 ∷ 0x56 ∷ bytes.now) }
 {
     match length_of(2, bytes) {
         LengthState::Part => HeadState::Part,
@@ -132,7 +132,7 @@ fn down_to(bytes: &[u8]) -> HeadState
 }
 
 fn down_by(bytes: &[u8]) -> HeadState
-    ensures { IsRead result 2 paren (0x76 ∷ bytes.now) }
+    ensures { IsRead result 1 escape (0x28 ∷ 0x76 ∷ bytes.now) }
 {
     match length_of(2, bytes) {
         LengthState::Part => HeadState::Part,
@@ -149,7 +149,7 @@ fn down_by(bytes: &[u8]) -> HeadState
 }
 
 fn margins(bytes: &[u8]) -> HeadState
-    ensures { IsRead result 2 paren (0x63 ∷ bytes.now) }
+    ensures { IsRead result 1 escape (0x28 ∷ 0x63 ∷ bytes.now) }
 {
     let rest = match length_of(4, bytes) {
         LengthState::Part => return HeadState::Part,
