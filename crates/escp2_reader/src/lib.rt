@@ -8,3 +8,6 @@ mod sized;
 pub use escp2_commands::{Command, RasterHead};
 pub use escp2_definitions::JobCause;
 pub use reader::{Cut, Heard, HeardState, JobReader};
+
+#[cfg(test)]
+mod tests;

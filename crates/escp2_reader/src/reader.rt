@@ -107,6 +107,7 @@ impl JobReader {
     pub fn feed(&mut self, piece: &[u8]) -> Heard
         requires { fed_of self.old + length piece.now < 2 ^ 63 }
         ensures used { result.used ≤ length piece.now }
+        ensures some { is_failed_of self.old ≡ false → 0 < length piece.now → 0 < result.used }
         ensures fed { fed_of self.new ≡ fed_of self.old + result.used }
         ensures failed { is_failed_of self.new ≡ shows_fault result.state }
         ensures all { OnMore result.state (result.used ≡ length piece.now) }
@@ -155,6 +156,7 @@ impl JobReader {
         requires idle { (len : ℕ) → room_at self.old.stage len ≡ 0 }
         requires room { self.old.next + length piece.now < 2 ^ 63 }
         ensures used { result.used ≤ length piece.now }
+        ensures some { 0 < length piece.now → 0 < result.used }
         ensures fed { self.new.next ≡ self.old.next + result.used }
         ensures failed { is_failed_of self.new ≡ shows_fault result.state }
         ensures all { OnMore result.state (result.used ≡ length piece.now) }
@@ -189,8 +191,10 @@ impl JobReader {
         requires none { self.old.rows.items ≡ [] }
         requires idle { (len : ℕ) → room_at self.old.stage len ≡ 0 }
         requires room { self.old.next + length piece.now < 2 ^ 63 }
+        requires first { 0 < used }
         requires within { used ≤ length piece.now }
         ensures used { result.used ≤ length piece.now }
+        ensures some { 0 < length piece.now → 0 < result.used }
         ensures fed { self.new.next ≡ self.old.next + result.used }
         ensures failed { is_failed_of self.new ≡ shows_fault result.state }
         ensures all { OnMore result.state (result.used ≡ length piece.now) }
@@ -216,6 +220,7 @@ impl JobReader {
         requires idle { (len : ℕ) → room_at self.old.stage len ≡ 0 }
         requires room { self.old.next + length piece.now < 2 ^ 63 }
         ensures used { result.used ≤ length piece.now }
+        ensures some { 0 < length piece.now → 0 < result.used }
         ensures fed { self.new.next ≡ self.old.next + result.used }
         ensures failed { is_failed_of self.new ≡ shows_fault result.state }
         ensures all { OnMore result.state (result.used ≡ length piece.now) }

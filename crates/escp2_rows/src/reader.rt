@@ -101,6 +101,7 @@ impl RowReader {
         ensures takes { Takes self.old self.new (take result.used piece.now) out.old.items out.new.items }
         ensures room { vec_len out.new + bytes_left_of self.new ≤ vec_capacity out.new }
         ensures capacity { vec_capacity out.old ≤ vec_capacity out.new }
+        ensures some { 0 < length piece.now → 0 < result.used }
         ensures more { OnMore result.state (IsMore self.old self.new piece.now result.used) }
         ensures whole { OnWhole result.state
             (IsWhole self.old self.new piece.now result.used out.old.items out.new.items) }

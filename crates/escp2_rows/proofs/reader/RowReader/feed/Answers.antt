@@ -7,6 +7,7 @@ pub steps-init : goal.steps-init
 steps-init c = record {
   fed = fed_begin _ _ _ _ _ c.requires.is_open c.requires.room;
   kept = omega arith;
+  some = λ none. c.requires.is_open;
 }
 
 pub returns-then-used-piece-clause-more : goal.returns-then-used-piece-clause-more
@@ -18,6 +19,7 @@ steps-preserved c = record {
       (take_all _ _ (omega (arith, length-drop c.steps.used c.args.piece.now))) c.step-used.ensures.least c.step-used.ensures.most c.step-used.ensures.takes
       c.step-used.ensures.room;
   kept = omega arith;
+  some = λ none. absurd (omega (arith, c.step-used.ensures.least));
 }
 
 pub returns-in-Failed-clause-fault : goal.returns-in-Failed-clause-fault
