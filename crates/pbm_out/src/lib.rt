@@ -5,3 +5,6 @@ mod image;
 mod piece;
 
 pub use image::write_plane;
+
+#[cfg(test)]
+mod tests;
