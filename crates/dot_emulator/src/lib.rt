@@ -1,6 +1,10 @@
 //! The sheets that print jobs make, dot by dot.
 #![tactic(auto)]
 
+mod refusals;
 mod sheet;
+mod state;
 
+pub use escp2_commands::{Command, RasterHead};
+pub use escp2_definitions::EmuFault;
 pub use sheet::Sheet;
