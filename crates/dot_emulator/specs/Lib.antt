@@ -1,3 +1,4 @@
 pub mod Sheets
 pub mod Margins
+pub mod Steps
 pub mod States

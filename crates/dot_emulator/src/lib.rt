@@ -1,9 +1,10 @@
 //! The sheets that print jobs make, dot by dot.
 #![tactic(auto)]
 
-mod refusals;
+mod raster;
 mod sheet;
 mod state;
+mod steps;
 
 pub use escp2_commands::{Command, RasterHead};
 pub use escp2_definitions::EmuFault;

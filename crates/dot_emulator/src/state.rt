@@ -1,7 +1,7 @@
 //! What the machine keeps besides the dots of its sheet.
 ghost use Rattle.dot_emulator.specs.Margins.{top_of};
-ghost use Rattle.escp2_definitions.specs.Machine.{Dot, bottom_margin, page_length, start, top_margin, units};
-ghost use Rattle.std.specs.Prelude.{[], List, unwrap_or, ◌*◌, ◌≡◌, ◌≤◌};
+ghost use Rattle.escp2_definitions.specs.Machine.{bottom_margin, page_length, start, top_margin, units};
+ghost use Rattle.std.specs.Prelude.{[], unwrap_or, ◌*◌, ◌≡◌, ◌≤◌};
 
 use weave_base::Ink;
 
@@ -29,7 +29,7 @@ pub(crate) struct State {
     ghost page_most: { unwrap_or page 0 ≤ 79200 },
     ghost down_most: { down ≤ 79200 },
     ghost top_most: { top_of margins ≤ 79200 },
-    ghost across_most: { across ≤ 10000000 },
+    ghost across_most: { across ≤ 20000000 },
     ghost columns_most: { columns ≤ 8191 },
 }
 
@@ -38,7 +38,7 @@ impl State {
 
     /// The state at the start of a job.
     pub(crate) fn start() -> State
-        ensures { (dots : List Dot) → machine_of result dots ≡ record start { dots = dots } }
+        ensures { machine_of result [] ≡ start }
     {
         State {
             graphics: false,
