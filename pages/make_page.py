@@ -1,21 +1,24 @@
 #!/usr/bin/env python3
-"""Writes pages/sample.pwg, the small page that this repository prints to show that it works.
-
-The page is PWG Raster (PWG 5102.4), grey with 8 bits a pixel, 360 dots an inch. It shows a frame, a grey ramp and a disc.
+"""Writes the two small pages that this repository prints to show that it works, as PWG Raster (PWG 5102.4) at 360 dots
+an inch: sample.pwg, grey with 8 bits a pixel, a frame, a grey ramp and a disc; and colour.pwg, RGB with 24, eight colours
+from white to full, and a ramp of grey.
 """
 
 import struct
 from pathlib import Path
 
 WIDTH, HEIGHT, DPI = 200, 120, 360
-BLACK, WHITE = 0, 255
+COLOUR_WIDTH, COLOUR_HEIGHT = 314, 280
+BLACK, WHITE = b"\x00", b"\xff"
 SYNC_WORD = b"RaS2"
 HEADER_BYTES = 1796
-SGRAY = 18
+# ColorSpace, and the colours of a pixel
+SGRAY, SRGB = (18, 1), (19, 3)
 
 
-def page_header(width, height, dpi):
+def page_header(width, height, dpi, kind):
     """The 1,796 bytes before a page's lines. Every field that is not named here is 0."""
+    space, colours = kind
     header = bytearray(HEADER_BYTES)
     header[0:10] = b"PwgRaster\0"
     fields = {
@@ -25,11 +28,11 @@ def page_header(width, height, dpi):
         372: width,  # Width
         376: height,  # Height
         384: 8,  # BitsPerColor
-        388: 8,  # BitsPerPixel
-        392: width,  # BytesPerLine
+        388: 8 * colours,  # BitsPerPixel
+        392: width * colours,  # BytesPerLine
         396: 0,  # ColorOrder: the colours of a pixel together
-        400: SGRAY,  # ColorSpace
-        420: 1,  # NumColors
+        400: space,  # ColorSpace
+        420: colours,  # NumColors
         456: 1,  # CrossFeedTransform
         460: 1,  # FeedTransform
     }
@@ -52,14 +55,14 @@ def runs_of(line):
 def coded_line(line):
     """The packets of one line: a run of 2 to 128 like pixels, or a literal of 1 to 128 pixels."""
     packets = bytearray()
-    literal = bytearray()
+    literal = []
 
     def end_literal():
         while literal:
             part = literal[:128]
             # a literal of one pixel is written as a run of one
             packets.append(257 - len(part) if len(part) > 1 else 0)
-            packets.extend(part)
+            packets.extend(b"".join(part))
             del literal[:128]
 
     for count, pixel in runs_of(line):
@@ -68,7 +71,8 @@ def coded_line(line):
             continue
         end_literal()
         for start in range(0, count, 128):
-            packets += bytes([min(128, count - start) - 1, pixel])
+            packets.append(min(128, count - start) - 1)
+            packets += pixel
     end_literal()
     return bytes(packets)
 
@@ -88,20 +92,42 @@ def coded_lines(lines):
 
 
 def pixel_at(x, y):
-    """The grey at a place: 0 is black and 255 is white."""
+    """The grey at a place: 00 is black and FF is white."""
     if min(x, WIDTH - 1 - x, y, HEIGHT - 1 - y) < 3:
         return BLACK
     if (2 * x - 300) ** 2 + (2 * y - 119) ** 2 < 76**2:
-        return 96
+        return b"\x60"
     if 16 <= x < 96 and 16 <= y < 104:
-        return (x - 16) * 255 // 79
+        return bytes([(x - 16) * 255 // 79])
     return WHITE
 
 
+# red, yellow, green, cyan, blue, magenta, black and a brown, each as what it takes of white
+FIELDS = [(0, 255, 255), (0, 0, 255), (255, 0, 255), (255, 0, 0), (255, 255, 0), (0, 255, 0), (255, 255, 255), (80, 150, 210)]
+
+
+def colour_at(x, y):
+    """The red, green and blue at a place: fields that grow from white to full downwards, and below them a ramp of grey."""
+    across, down = (x - 61) // 24, (y - 76) // 4
+    if not 0 <= across < len(FIELDS):
+        return 3 * WHITE
+    if 0 <= down < 28:
+        return bytes(255 - taken * (down + 1) // 28 for taken in FIELDS[across])
+    if 30 <= down < 34:
+        return 3 * bytes([(x - 61) // 4 * 255 // 47])
+    return 3 * WHITE
+
+
+def write_page(name, size, kind, pixel):
+    width, height = size
+    lines = [[pixel(x, y) for x in range(width)] for y in range(height)]
+    page = SYNC_WORD + page_header(width, height, DPI, kind) + coded_lines(lines)
+    Path(__file__).with_name(name).write_bytes(page)
+
+
 def main():
-    lines = [bytes(pixel_at(x, y) for x in range(WIDTH)) for y in range(HEIGHT)]
-    page = SYNC_WORD + page_header(WIDTH, HEIGHT, DPI) + coded_lines(lines)
-    Path(__file__).with_name("sample.pwg").write_bytes(page)
+    write_page("sample.pwg", (WIDTH, HEIGHT), SGRAY, pixel_at)
+    write_page("colour.pwg", (COLOUR_WIDTH, COLOUR_HEIGHT), SRGB, colour_at)
 
 
 if __name__ == "__main__":

@@ -34,4 +34,3 @@ pub record TakesPages (p : Printer) (before now : Option (List ℕ)) (pages : Li
   pub taken : Consumes before now bytes
   pub others : List Page
   pub are : (stream (wanted_by p) bytes).pages ≡ pages ++ others
-

@@ -109,7 +109,6 @@ pub record IsAnswered (words : List (List ℕ)) (o : Outsides) (err : Outside) (
 -- What a run promises, of its words, of what is outside, of the error sink and of the status that it returns.
 pub record Promises (words : List (List ℕ)) (o : Outsides) (err : Outside) (status : ℕ) : Type 0 where
   pub answered : IsAnswered words o err status
-
   -- A valid job prints, unless something outside fails or memory runs out.
   pub valid : (job : Job) (p : Profile) (bytes : List ℕ) (pages : List Page) → AsksFor words o.shelf.told verb.Print job (Ok p)
       → o.input.before ≡ Some bytes → stream (wanted_by (printer_of p)) bytes ≡ record { pages = pages; end = Done }
@@ -131,7 +130,6 @@ pub record Promises (words : List (List ℕ)) (o : Outsides) (err : Outside) (st
   -- On 5 a prefix of the named page stands after the pages before it.
   pub part : (job : Job) (p : Profile) → AsksFor words o.shelf.told verb.Print job (Ok p) → status ≡ 5
       → (number : ℕ) × StopsInPage (printer_of p) (table_of job.kernel) o.input o.out number × Tells err (answer.Write number)
-
   -- The command `profile` writes the profile's text, and takes nothing of the input.
   pub valid_profile : (job : Job) (p : Profile) → AsksFor words o.shelf.told verb.Profile job (Ok p)
       → (HasFailed o.shelf → ⊥) → IsCalm o.out → (status ≡ 0) ⊎ (status ≡ 7)
@@ -142,7 +140,6 @@ pub record Promises (words : List (List ℕ)) (o : Outsides) (err : Outside) (st
   pub none_shown : (job : Job) (p : Profile) → AsksFor words o.shelf.told verb.Profile job (Ok p) → (status ≡ 4) ⊎ (status ≡ 7)
       → Keeps o.out.before o.out.now
   pub unread : (job : Job) → job_meaning words ≡ Ok job → job.verb ≡ verb.Profile → Keeps o.input.before o.input.now
-
   -- Each other status has its cause: the words first, then the profile, then the input.
   pub usage : (status ≡ 1) ↔ IsErr (job_meaning words)
   pub profile : status ≡ 2 → (job : Job) × (line : ℕ) × (cause : ProfileCause) × (job_meaning words ≡ Ok job)
@@ -153,7 +150,6 @@ pub record Promises (words : List (List ℕ)) (o : Outsides) (err : Outside) (st
   pub write : status ≡ 5 → HasRisen o.out
   pub range : (status ≡ 0) ⊎ (status ≡ 1) ⊎ (status ≡ 2) ⊎ (status ≡ 3) ⊎ (status ≡ 4) ⊎ (status ≡ 5) ⊎ (status ≡ 7)
   pub nothing : (status ≡ 1) ⊎ (status ≡ 2) → Untouched o
-
   -- The error line.
   pub silent : status ≡ 0 → Keeps err.before err.now
   pub line : IsCalm err → (a : Answer) × (status ≡ status_of a) × Appends err.before err.now (line_of a)

@@ -7,6 +7,7 @@ mod showing;
 mod stops;
 
 pub use driver_answer::{Answer, ProfileCause, UsageCause, UsageFault};
+pub use page_halftoner::Halftoner;
 pub use running::{run, tell};
 
 #[cfg(test)]

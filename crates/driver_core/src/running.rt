@@ -1,8 +1,8 @@
 //! The run.
 ghost use Rattle.driver_core.specs.Run.{Outcome, Promises, Told, answer_of};
-ghost use Rattle.job_words.specs.Meaning.{profile_named};
+ghost use Rattle.job_words.specs.Meaning.{job_meaning, profile_named};
 ghost use Rattle.printer_profile.specs.Profiles.{built_in};
-ghost use Rattle.std.specs.Prelude.{IsSome, ◌≡◌};
+ghost use Rattle.std.specs.Prelude.{IsErr, IsSome, ◌≡◌};
 
 use crate::printing::print_pages;
 use crate::showing::show_profile;
@@ -28,6 +28,7 @@ fn work<S: Source, K: Sink, F: Shelf>(
           out = record { before = K.held out.old; now = K.held out.new; faults_before = K.faults out.old; faults_now = K.faults out.new };
         }) (answer_of (λ a. a) result) }
     ensures unasked { IsSome (built_in (profile_named words.now)) → (shelf.new ≡ shelf.old) }
+    ensures refused_unasked { IsErr (job_meaning words.now) → (shelf.new ≡ shelf.old) }
 {
     let job = read_words(words)?;
     let profile = find_profile(alloc, shelf, profile_name(words, &job))?;
@@ -77,8 +78,9 @@ pub fn run<S: Source, K: Sink, E: Sink, F: Shelf>(
           out = record { before = K.held out.old; now = K.held out.new; faults_before = K.faults out.old; faults_now = K.faults out.new };
         })
         (record { before = E.held err.old; now = E.held err.new; faults_before = E.faults err.old; faults_now = E.faults err.new }) result }
-    // The shelf is not asked for a built-in profile.
+    // The shelf is asked neither for a built-in profile, nor where a word is refused.
     ensures unasked { IsSome (built_in (profile_named words.now)) → (shelf.new ≡ shelf.old) }
+    ensures refused_unasked { IsErr (job_meaning words.now) → (shelf.new ≡ shelf.old) }
 {
     let answer = answer_to(work(alloc, words, input, out, shelf));
     tell(&answer, err);

@@ -18,7 +18,9 @@ pub enum PrintStop {
     /// A read failed.
     Read,
     /// A write failed, in this page.
-    Write { page: u32 },
+    Write {
+        page: u32,
+    },
     /// Memory ran out.
     Memory,
 }

@@ -8,8 +8,8 @@ usage: driver_program print [profile=NAME] [kernel=NAME] [workers=NUMBER] < page
        driver_program profile [profile=NAME]
        driver_program --help | --version
 
-print    reads pages of 8-bit grey from standard input (PWG Raster, PWG 5102.4), diffuses each, and
-         writes their job to standard output. Today it prints for profiles of one nozzle and black ink.
+print    reads pages from standard input (PWG Raster, PWG 5102.4; 8-bit grey, 8-bit black, 8-bit RGB),
+         separates and diffuses each, and writes their job to standard output
 profile  writes the text of a profile to standard output
 
 profile=NAME    tiny1, tiny, p360k, p360cmyk, p720cmyk, or a file of the current folder

@@ -11,6 +11,7 @@ record IsRow (row : List ℕ) (packets : List RowPacket) : Type 0 where
   gives : row ≡ flat_map packet_row packets
   short : length (flat_map packet_code packets) ≤ 2 * length row
 
+-- the packets from the beginning of a row on are the row
 packets_from-row : (most : ℕ) (row : List ℕ) → length row ≤ most → IsRow row (packets_from most row)
 unfolding packets_from
 packets_from-row most [] enough = record { allowed = tt; gives = refl; short = omega arith }
@@ -27,12 +28,14 @@ packets_from-row (suc most) (b ∷ row) enough =
       short = omega (arith, length-append (packet_code packet) (flat_map packet_code (packets_from most rest)), front.short, front.within, after.short, length-drop n (b ∷ row));
     }
 
+-- the canonical code is a code
 pub canonical-codes : (row : List ℕ) → RowCode (canonical_row row) row
 unfolding canonical_row
 canonical-codes row =
     let is : IsRow row (packets_from (length row) row) = packets_from-row (length row) row (omega arith) in
     record { packets = packets_from (length row) row; allowed = is.allowed; coded = refl; gives = is.gives }
 
+-- of at most twice as many bytes
 pub canonical-short : (row : List ℕ) → length (canonical_row row) ≤ 2 * length row
 unfolding canonical_row
 canonical-short row = (packets_from-row (length row) row (omega arith)).short

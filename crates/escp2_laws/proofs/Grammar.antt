@@ -8,9 +8,11 @@ use Rattle.escp2_definitions.specs.RowCode.Control.{Follow, Again, Refused}
 use Rattle.escp2_definitions.specs.RowCode.RowPacket.{Bytes, Repeat}
 use Rattle.escp2_definitions.specs.RowCode.RowsRead.{RowsAre, RowsPart, RowsWrong}
 
+-- each number is below 256
 abbrev pub AreBytes : List ℕ → Type 0
 AreBytes bytes = (k : ℕ) → get_or bytes k 0 < 256
 
+-- so are those behind a place
 bytes-drop : (n : ℕ) (bytes : List ℕ) → AreBytes bytes → AreBytes (drop n bytes)
 bytes-drop n bytes are k = let P : ℕ → Type 0 = λ b. b < 256 in subst P (sym (get_or-drop n bytes k 0)) (are (n + k))
 
@@ -41,12 +43,15 @@ record ReadPacket (left at : ℕ) (bytes row : List ℕ) (next : ℕ) : Type 0 w
   gives : row ≡ packet_row packet
   front : Front bytes (packet_code packet) at next
 
+-- equal answers have equal rows
 rows-same : (rs ss : List ℕ) (j k : ℕ) → RowsAre rs j ≡ RowsAre ss k → rs ≡ ss
 rows-same rs ss j k e = cc
 
+-- and equal places
 places-same : (rs ss : List ℕ) (j k : ℕ) → RowsAre rs j ≡ RowsAre ss k → j ≡ k
 places-same rs ss j k e = cc
 
+-- bytes as they are
 literal-read : (count left at n : ℕ) (bytes row : List ℕ) (next : ℕ) → n + 1 ≡ count → count ≤ 128 → count ≤ left
     → plain_at count (at + 1) bytes ≡ RowsAre row next → ReadPacket left at (n ∷ bytes) row next
 literal-read count left at n bytes row next one few fits = by_test (nat_lt (length bytes) count) refl
@@ -73,6 +78,7 @@ literal-read count left at n bytes row next one few fits = by_test (nat_lt (leng
           };
         }
 
+-- a repeated byte
 repeat-read : (count left at n : ℕ) (bytes row : List ℕ) (next : ℕ) → 257 - n ≡ count → 2 ≤ count → count ≤ 128 → count ≤ left
     → again_at count (at + 1) bytes ≡ RowsAre row next → ReadPacket left at (n ∷ bytes) row next
 repeat-read count left at n [] row next control some few fits is = absurd (let part : RowsPart ≡ RowsAre row next = is in cc)
@@ -92,6 +98,7 @@ repeat-read count left at n (b ∷ bytes) row next control some few fits is =
       };
     }
 
+-- a packet that is read may stand there
 packet-read : (left at : ℕ) (bytes row : List ℕ) (next : ℕ) → AreBytes bytes → packet_at left at bytes ≡ RowsAre row next → ReadPacket left at bytes row next
 packet-read left at [] row next are is = absurd (let part : RowsPart ≡ RowsAre row next = is in cc)
 packet-read left at (n ∷ bytes) row next are is = by_low (nat_lt n 128) refl is
@@ -131,6 +138,7 @@ row-step most left at bytes front next e = ap (λ (r : RowsRead). elim r [
   | RowsWrong place ↦ RowsWrong place
 ]) e
 
+-- a row is a part where its next packet is
 pub row-part : (most left at : ℕ) (bytes : List ℕ) → packet_at (suc left) at bytes ≡ RowsPart → row_at (suc most) (suc left) at bytes ≡ RowsPart
 unfolding row_at
 row-part most left at bytes e = ap (λ (r : RowsRead). elim r [
@@ -139,6 +147,7 @@ row-part most left at bytes e = ap (λ (r : RowsRead). elim r [
   | RowsWrong place ↦ RowsWrong place
 ]) e
 
+-- a row is refused where its next packet is
 pub row-wrong : (most left at : ℕ) (bytes : List ℕ) (place : ℕ) → packet_at (suc left) at bytes ≡ RowsWrong place → row_at (suc most) (suc left) at bytes ≡ RowsWrong place
 unfolding row_at
 row-wrong most left at bytes place e = ap (λ (r : RowsRead). elim r [
@@ -155,6 +164,7 @@ record ReadRow (left at : ℕ) (bytes row : List ℕ) (next : ℕ) : Type 0 wher
   sized : length row ≡ left
   front : Front bytes (flat_map packet_code packets) at next
 
+-- nothing is left of a row
 none-read : (at : ℕ) (bytes row : List ℕ) (next : ℕ) → RowsAre [] at ≡ RowsAre row next → ReadRow 0 at bytes row next
 none-read at bytes row next is =
     let none : row ≡ [] = sym (rows-same _ _ _ _ is) in
@@ -168,6 +178,7 @@ none-read at bytes row next is =
       front = record { place = omega arith; is = ap (λ k. drop k bytes) passed };
     }
 
+-- a packet, and the rest of the row
 more-read : (left at : ℕ) (bytes first : List ℕ) (next : ℕ) (rows : List ℕ) (last : ℕ) → ReadPacket (suc left) at bytes first next
     → ReadRow (suc left - length first) next (drop (next - at) bytes) rows last → ReadRow (suc left) at bytes (first ++ rows) last
 more-read left at bytes first next rows last packet rest = record {
@@ -178,6 +189,7 @@ more-read left at bytes first next rows last packet rest = record {
   front = front-join bytes (packet_code packet.packet) (flat_map packet_code rest.packets) at next last packet.front rest.front;
 }
 
+-- a row that is read has packets
 row-read : (most left at : ℕ) (bytes row : List ℕ) (next : ℕ) → AreBytes bytes → row_at most left at bytes ≡ RowsAre row next → ReadRow left at bytes row next
 unfolding row_at
 row-read most zero at bytes row next are is = none-read at bytes row next is
@@ -211,6 +223,7 @@ pub record ReadRows (m width at : ℕ) (bytes rows : List ℕ) (next : ℕ) : Ty
   pub codes : RowsCode m width code rows
   pub front : Front bytes code at next
 
+-- a row, and those behind it
 rows-more : (m width at : ℕ) (bytes row : List ℕ) (next : ℕ) (rows : List ℕ) (last : ℕ) → ReadRow width at bytes row next
     → ReadRows m width next (drop (next - at) bytes) rows last → ReadRows (suc m) width at bytes (row ++ rows) last
 rows-more m width at bytes row next rows last first rest = record {
@@ -229,6 +242,7 @@ rows-more m width at bytes row next rows last first rest = record {
   front = front-join bytes (flat_map packet_code first.packets) rest.code at next last first.front rest.front;
 }
 
+-- rows that are read have a code
 pub rows-parsed : (m width at : ℕ) (bytes rows : List ℕ) (next : ℕ) → AreBytes bytes → rows_at m width at bytes ≡ RowsAre rows next → ReadRows m width at bytes rows next
 unfolding rows_at
 rows-parsed zero width at bytes rows next are is =
@@ -260,6 +274,7 @@ rows-parsed (suc m) width at bytes rows next are is =
     by_row rest_read RowsPart first same = absurd (let part : RowsPart ≡ RowsAre rows next = same in cc)
     by_row rest_read (RowsWrong k) first same = absurd (let wrong : RowsWrong k ≡ RowsAre rows next = same in cc)
 
+-- which is the bytes up to the place behind them
 pub read_codes : (m width : ℕ) (bytes rows : List ℕ) (next : ℕ) → AreBytes bytes → rows_at m width 0 bytes ≡ RowsAre rows next
     → RowsCode m width (take next bytes) rows
 read_codes m width bytes rows next are is =

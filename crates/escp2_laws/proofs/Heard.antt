@@ -12,6 +12,7 @@ use Rattle.escp2_laws.proofs.Told.{Told, told-branch, told-number, told-sized, t
 
 -- ---- colours
 
+-- the ink of a colour code has that code
 colour-is : (n : ℕ) → is_colour n ≡ true → colour_code (ink_of n) ≡ n
 colour-is n ok = by_black (n == 0) refl
   where
@@ -29,6 +30,7 @@ colour-is n ok = by_black (n == 0) refl
 
 -- ---- what follows `ESC (`
 
+-- each byte of the table behind `ESC (`
 paren-told : (bytes : List ℕ) → Told paren (0x1B ∷ 0x28 ∷ []) bytes (paren bytes)
 paren-told [] = tt
 paren-told (b ∷ rest) = by_graphics (b == 0x47) refl
@@ -103,6 +105,7 @@ paren-told (b ∷ rest) = by_graphics (b == 0x47) refl
 
 -- ---- what follows `ESC`
 
+-- each byte of the table behind `ESC`
 escape-told : (bytes : List ℕ) → Told escape (0x1B ∷ []) bytes (escape bytes)
 escape-told [] = tt
 escape-told (b ∷ rest) = by_init (b == 0x40) refl
@@ -154,6 +157,7 @@ escape-told (b ∷ rest) = by_init (b == 0x40) refl
 
 -- ---- commands
 
+-- each first byte of the table
 pub command-told : (bytes : List ℕ) → Told command_at [] bytes (command_at bytes)
 unfolding command_at
 command-told [] = tt

@@ -9,6 +9,7 @@ use Rattle.escp2_definitions.specs.Commands.ListEnd.{Whole, Cut, Fault}
 use Rattle.escp2_laws.specs.Said.{AllSaid, Said, entries_of, said_bytes}
 use Rattle.escp2_laws.proofs.Reading.{command_at-spelled}
 
+-- a command has a byte at least
 command_len : (command : Command) → 1 ≤ length (command_bytes command)
 command_len c.Init = omega arith
 command_len c.Graphics = omega arith
@@ -25,6 +26,7 @@ command_len c.Eject = omega arith
 command_len (c.Colour ink) = omega arith
 command_len (c.Raster head) = omega arith
 
+-- so has its spelling
 spelled_len : (command : Command) (rows bytes : List ℕ) → Spells command rows bytes → 1 ≤ length bytes
 spelled_len command rows bytes s = omega (arith, ap length s.spelled, length-append (command_bytes command) s.text, command_len command)
 
@@ -40,6 +42,7 @@ step most at (b ∷ bytes) command rows len e =
       | Wrong place cause ↦ record { entries = []; end = Fault (at + place) cause }
     ]) e
 
+-- spelled commands are read one after another
 pub commands_from-said : (job : List Said) (most at : ℕ) → AllSaid job → length (said_bytes job) ≤ most
     → commands_from most at (said_bytes job) ≡ record { entries = entries_of at job; end = Whole }
 unfolding commands_from
@@ -53,5 +56,6 @@ commands_from-said (s ∷ job) (suc most) at all fits =
     ∙ ap (λ bs. with_entry entry (commands_from most (at + length s.bytes) bs)) (drop_at s.bytes (said_bytes job) (length s.bytes) refl)
     ∙ ap (with_entry entry) (commands_from-said job most (at + length s.bytes) all.1 bound)
 
+-- from the beginning of the job
 pub commands-said : (job : List Said) → AllSaid job → commands (said_bytes job) ≡ record { entries = entries_of 0 job; end = Whole }
 commands-said job all = commands_from-said job (length (said_bytes job)) 0 all (omega arith)

@@ -14,6 +14,7 @@ use Rattle.escp2_definitions.specs.Canonical.{apart_at, equal_at, next_packet}
 abbrev pub same : ℕ → List ℕ → ℕ
 same byte row = length (take_while (λ other. other == byte) row)
 
+-- one more byte
 pub same-cons : (byte b : ℕ) (row : List ℕ) → same byte (b ∷ row) ≡ (if b == byte then 1 + same byte row else 0)
 same-cons byte b row = ap length (take_while-cons (λ other. other == byte) b row) ∙ by_test (b == byte)
   where
@@ -21,6 +22,7 @@ same-cons byte b row = ap length (take_while-cons (λ other. other == byte) b ro
     by_test true = omega arith
     by_test false = refl
 
+-- no more are equal than there are
 same-within : (byte : ℕ) (row : List ℕ) → same byte row ≤ length row
 same-within byte [] = omega arith
 same-within byte (b ∷ row) = by_test (b == byte) (same-cons byte b row) (same-within byte row)
@@ -57,6 +59,7 @@ record IsEqual (row : List ℕ) (n : ℕ) : Type 0 where
   within : n ≤ length row
   front : row ≡ replicate n (get_or row 0 0) ++ drop n row
 
+-- the equal bytes at the front
 equal-is : (row : List ℕ) → 0 < length row → IsEqual row (equal_at row)
 unfolding equal_at
 equal-is [] some = absurd (omega arith)
@@ -73,6 +76,7 @@ equal-is (b ∷ row) some = record {
 
 -- ---- bytes up to a place of equal ones
 
+-- a byte that is not the first of three equal ones
 pub apart-more : (left : ℕ) (rest : List ℕ) → 0 < left → 0 < length rest → equal_at rest ≤ 2 → apart_at left rest ≡ 1 + apart_at (left - 1) (drop 1 rest)
 unfolding apart_at
 apart-more zero rest some one few = absurd (omega arith)
@@ -81,6 +85,7 @@ apart-more (suc left) (b ∷ rest) some one few =
     ap (λ t. if t then 0 else 1 + apart_at left rest) (le-ltb _ _ few)
     ∙ ap (λ k. 1 + apart_at k rest) (let same : left ≡ suc left - 1 = omega arith in same)
 
+-- no more bytes are counted than are wanted, and than there are
 apart-bounds : (most : ℕ) (row : List ℕ) → (apart_at most row ≤ most) × (apart_at most row ≤ length row)
 unfolding apart_at
 apart-bounds zero row = (omega arith, omega arith)
@@ -100,6 +105,7 @@ pub record IsCounted (row : List ℕ) : Type 0 where
   pub few_apart : apart_at 128 row ≤ 128
   pub apart_within : apart_at 128 row ≤ length row
 
+-- the counts of a row
 pub counted : (row : List ℕ) → 0 < length row → IsCounted row
 counted row some =
     let equal : IsEqual row (equal_at row) = equal-is row some in
@@ -121,6 +127,7 @@ pub record IsFront (row : List ℕ) (packet : RowPacket) : Type 0 where
   pub gives : row ≡ packet_row packet ++ drop (length (packet_row packet)) row
   pub short : length (packet_code packet) ≤ 2 * length (packet_row packet)
 
+-- a repeated byte may stand at the front
 front-repeat : (row : List ℕ) (n : ℕ) → IsEqual row n → 2 < n → IsFront row (Repeat n (get_or row 0 0))
 front-repeat row n equal many =
     let len : length (replicate n (get_or row 0 0)) ≡ n = length-replicate {A = ℕ} n (get_or row 0 0) in
@@ -132,6 +139,7 @@ front-repeat row n equal many =
       short = omega (arith, len);
     }
 
+-- so may bytes as they are
 front-bytes : (row : List ℕ) (n : ℕ) → 1 ≤ n → n ≤ 128 → n ≤ length row → IsFront row (Bytes (take n row))
 front-bytes row n some few within =
     let len : length (take n row) ≡ n = length-take-le n row within in
@@ -143,6 +151,7 @@ front-bytes row n some few within =
       short = omega (arith, len);
     }
 
+-- so may the next packet
 pub front-next : (row : List ℕ) → 0 < length row → IsFront row (next_packet row)
 front-next row some = by_test (nat_lt 2 (equal_at row)) refl
   where

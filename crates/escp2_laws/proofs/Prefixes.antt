@@ -4,10 +4,12 @@ use Rattle.escp2_definitions.specs.RowCode.{RowsCode, rows_at}
 use Rattle.escp2_definitions.specs.RowCode.RowsRead.{RowsAre}
 use Rattle.escp2_laws.proofs.Rows.{rows-read}
 
+-- bytes that are no longer than their beginning end with it
 nothing_left : (bytes more : List ℕ) → length bytes ≡ length (bytes ++ more) → more ≡ []
 nothing_left bytes [] e = refl
 nothing_left bytes (b ∷ more) e = absurd (omega (arith, length-append bytes (b ∷ more)))
 
+-- no code of rows begins another
 pub rows_alone : (m width : ℕ) (code more rows other_rows : List ℕ) → RowsCode m width code rows → RowsCode m width (code ++ more) other_rows
     → (more ≡ []) × (rows ≡ other_rows)
 rows_alone m width code more rows other_rows one other =
@@ -23,6 +25,7 @@ rows_alone m width code more rows other_rows one other =
     equals : (rs ss : List ℕ) (j k : ℕ) → RowsAre rs j ≡ RowsAre ss k → rs ≡ ss
     equals rs ss j k e = cc
 
+-- a code is read, whatever follows
 pub code_read : (m width : ℕ) (code rest rows : List ℕ) → RowsCode m width code rows → rows_at m width 0 (code ++ rest) ≡ RowsAre rows (length code)
 code_read m width code rest rows is =
     rows-read m width 0 code rows rest is ∙ ap (RowsAre rows) (let p : 0 + length code ≡ length code = omega arith in p)

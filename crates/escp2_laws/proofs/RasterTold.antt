@@ -13,9 +13,11 @@ use Rattle.escp2_laws.proofs.Told.{Told, told-number, told-wide}
 
 -- ---- rows of a raster
 
+-- equal answers have equal rows
 rows-same : (rs ss : List ℕ) (j k : ℕ) → RowsAre rs j ≡ RowsAre ss k → rs ≡ ss
 rows-same rs ss j k e = cc
 
+-- and equal places
 places-same : (rs ss : List ℕ) (j k : ℕ) → RowsAre rs j ≡ RowsAre ss k → j ≡ k
 places-same rs ss j k e = cc
 
@@ -24,6 +26,7 @@ record AreRows (head : RasterHead) (rows text : List ℕ) : Type 0 where
   fits : length rows ≡ head.m * row_bytes head
   are : IsRowsText (c.Raster head) rows text
 
+-- plain rows are their bytes
 plain-are : (head : RasterHead) (rows text : List ℕ) (next : ℕ) → (head.c == 0) ≡ true → next ≡ 8 + length text
     → plain_at (head.m * row_bytes head) 8 (text ++ []) ≡ RowsAre rows next → AreRows head rows text
 plain-are head rows text next is_plain there = by_test (nat_lt (length (text ++ [])) n)
@@ -46,6 +49,7 @@ codes-len (suc m) width code rows codes =
     let each : suc m * width ≡ width + m * width = omega arith in
     omega (arith, ap length codes.5, length-append codes.1 codes.3, codes.6, codes-len m width codes.2 codes.3 codes.8)
 
+-- coded rows are what their code gives
 coded-are : (head : RasterHead) (rows text : List ℕ) (next : ℕ) → (head.c == 0) ≡ false → next ≡ 8 + length text → AreBytes text
     → rows_at head.m (row_bytes head) 8 (text ++ []) ≡ RowsAre rows next → AreRows head rows text
 coded-are head rows text next is_coded there are e =
@@ -83,6 +87,7 @@ raster-told head read bytes ok is rows_are (RowsWrong place) t = record {
   told = λ more. is (t.front ++ more) ∙ ap (with_rows head) (t.told more);
 }
 
+-- the rows behind the numbers of a raster
 rows-of-raster : (head : RasterHead) (bytes : List ℕ) → in_table (c.Raster head) ≡ true
     → Told (raster_rows head) (command_bytes (c.Raster head)) bytes (raster_rows head bytes)
 rows-of-raster head bytes ok = by_form (head.c == 0) refl
@@ -112,6 +117,7 @@ rows-of-raster head bytes ok = by_form (head.c == 0) refl
 pub both : (a b : Bool) → a ≡ true → b ≡ true → a && b ≡ true
 both a b e f = ap (λ t. t && b) e ∙ f
 
+-- the numbers of a raster, one after another
 pub raster_at-told : (bytes : List ℕ) → Told raster_at (0x1B ∷ 0x2E ∷ []) bytes (raster_at bytes)
 raster_at-told bytes =
     told-number is_switch 2 (λ c. number is_some 3 (λ v. number is_some 4 (λ h. number is_some 5 (λ m.

@@ -18,13 +18,16 @@ no_rows (r ∷ rows) e = absurd (omega arith)
 
 -- ---- numbers
 
+-- a number in its range is read
 number-reads : (in_range : ℕ → Bool) (at n : ℕ) (next : ℕ → List ℕ → Heard) (rest : List ℕ) → in_range n ≡ true
     → number in_range at next (n ∷ rest) ≡ next n rest
 number-reads in_range at n next rest ok = ap (λ b. if b then next n rest else Wrong at BadValue) ok
 
+-- two bytes are a number
 two_bytes-is : (n : ℕ) → n % 256 + 256 * (n / 256) ≡ n
 two_bytes-is n = omega arith
 
+-- a number of two bytes in its range is read
 wide-reads : (in_range : ℕ → Bool) (at n : ℕ) (next : ℕ → List ℕ → Heard) (rest : List ℕ) → in_range n ≡ true
     → wide_number in_range at next (two_bytes n ++ rest) ≡ next n rest
 wide-reads in_range at n next rest ok =
@@ -36,6 +39,7 @@ pub and-left : (a b : Bool) → a && b ≡ true → a ≡ true
 and-left true b e = refl
 and-left false b e = e
 
+-- the second of two tests that hold
 and-right : (a b : Bool) → a && b ≡ true → b ≡ true
 and-right true b e = e
 and-right false true e = refl
@@ -43,6 +47,7 @@ and-right false false e = e
 
 -- ---- rasters
 
+-- rows in either form are read
 by_form : (b : Bool) (head : RasterHead) (rows text rest : List ℕ) → length rows ≡ head.m * row_bytes head
     → MatchBool b (text ≡ rows) (RowsCode head.m (row_bytes head) text rows)
     → with_rows head (if b then plain_at (head.m * row_bytes head) 8 (text ++ rest) else rows_at head.m (row_bytes head) 8 (text ++ rest))
@@ -54,6 +59,7 @@ by_form true head rows text rest fits is =
     ∙ ap (λ k. One (c.Raster head) rows (8 + k)) (sym fits ∙ sym (ap length is))
 by_form false head rows text rest fits is = ap (with_rows head) (rows-read head.m (row_bytes head) 8 text rows rest is)
 
+-- a raster is read with its rows
 raster-reads : (head : RasterHead) (rows text rest : List ℕ) → in_table (c.Raster head) ≡ true → length rows ≡ head.m * row_bytes head
     → MatchBool (head.c == 0) (text ≡ rows) (RowsCode head.m (row_bytes head) text rows)
     → raster_at (head.c ∷ head.v ∷ head.h ∷ head.m ∷ (two_bytes head.n ++ (text ++ rest))) ≡ One (c.Raster head) rows (8 + length text)
@@ -89,6 +95,7 @@ plain command rows text rest fits is reads =
     ∙ ap (λ r. One command r (length (command_bytes command))) (sym none)
     ∙ ap (λ bs. One command rows (length bs)) (sym (ap (λ t. command_bytes command ++ t) no_text ∙ append-nil (command_bytes command)))
 
+-- each command is read from its bytes
 by_command : (command : Command) (rows text rest : List ℕ) (spelled : Spells command rows (command_bytes command ++ text))
     → spelled.text ≡ text
     → command_at ((command_bytes command ++ text) ++ rest) ≡ One command rows (length (command_bytes command ++ text))
@@ -123,6 +130,7 @@ by_command (c.Raster head) rows text rest s e =
     let P : List ℕ → Type 0 = λ t. MatchBool (head.c == 0) (t ≡ rows) (RowsCode head.m (row_bytes head) t rows) in
     raster-reads head rows text rest s.in_range s.rows_fit (subst P e s.rows_are) ∙ ap (One (c.Raster head) rows) (omega arith)
 
+-- what is spelled is read, whatever follows
 pub command_at-spelled : (command : Command) (rows bytes rest : List ℕ) → Spells command rows bytes
     → command_at (bytes ++ rest) ≡ One command rows (length bytes)
 command_at-spelled command rows bytes rest s =
@@ -137,6 +145,7 @@ command_at-spelled command rows bytes rest s =
 nothing_left : (bytes more : List ℕ) → length bytes ≡ length (bytes ++ more) → more ≡ []
 nothing_left bytes more e = no_rows more (omega (arith, length-append bytes more))
 
+-- no spelling begins another
 pub alone : (one other : Command) (rows other_rows bytes more : List ℕ) → Spells one rows bytes → Spells other other_rows (bytes ++ more) → more ≡ []
 alone one other rows other_rows bytes more s t =
     let first : command_at (bytes ++ more) ≡ One one rows (length bytes) = command_at-spelled one rows bytes more s in

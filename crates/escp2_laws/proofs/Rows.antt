@@ -11,6 +11,7 @@ use Rattle.escp2_definitions.specs.RowCode.RowsRead.{RowsAre, RowsPart, RowsWron
 
 -- ---- plain rows
 
+-- so many bytes are read as they are
 pub plain-reads : (bytes rest : List ℕ) (n at : ℕ) → length bytes ≡ n → plain_at n at (bytes ++ rest) ≡ RowsAre bytes (at + n)
 plain-reads bytes rest n at e =
     let enough : nat_lt (length (bytes ++ rest)) n ≡ false = le-ltb _ _ (omega (arith, length-append bytes rest)) in
@@ -19,9 +20,11 @@ plain-reads bytes rest n at e =
 
 -- ---- one packet
 
+-- a control byte below 128
 follow-control : (n : ℕ) → n < 128 → control_of n ≡ Follow (n + 1)
 follow-control n few = ap (λ b. if b then Follow (n + 1) else (if n == 128 then Refused else Again (257 - n))) (lt-ltb n 128 few)
 
+-- a control byte above 128
 again-control : (n : ℕ) → 2 ≤ n → n ≤ 128 → control_of (257 - n) ≡ Again n
 again-control n some few =
     let high : nat_lt (257 - n) 128 ≡ false = le-ltb _ _ (omega arith) in
@@ -31,6 +34,7 @@ again-control n some few =
     ∙ ap (λ b. if b then Refused else Again (257 - (257 - n))) apart
     ∙ ap Again back
 
+-- a packet is read from its code
 packet-reads : (p : RowPacket) (left at : ℕ) (more : List ℕ) → IsRowPacket p → length (packet_row p) ≤ left
     → packet_at left at (packet_code p ++ more) ≡ RowsAre (packet_row p) (at + length (packet_code p))
 packet-reads (Bytes bytes) left at more allowed fits =
@@ -48,6 +52,7 @@ packet-reads (Repeat n byte) left at more allowed fits =
     ∙ ap (λ b. if b then RowsWrong at else again_at n (at + 1) (byte ∷ more)) within
     ∙ ap (RowsAre (replicate n byte)) (omega arith)
 
+-- a packet gives a byte at least
 packet-some : (p : RowPacket) → IsRowPacket p → 1 ≤ length (packet_row p)
 packet-some (Bytes bytes) allowed = allowed.0
 packet-some (Repeat n byte) allowed =
@@ -55,6 +60,7 @@ packet-some (Repeat n byte) allowed =
 
 -- ---- one row
 
+-- a row is read by its next packet
 row-step : (most left at : ℕ) (code more row : List ℕ) → packet_at (suc left) at (code ++ more) ≡ RowsAre row (at + length code)
     → row_at (suc most) (suc left) at (code ++ more) ≡ with_front row (row_at most (suc left - length row) (at + length code) more)
 unfolding row_at
@@ -67,6 +73,7 @@ row-step most left at code more row e =
     ]) e
     ∙ ap (λ bs. with_front row (row_at most (suc left - length row) (at + length code) bs)) passed
 
+-- a row is read from its packets
 row-reads : (packets : List RowPacket) (most left at : ℕ) (rest : List ℕ) → AllByRecursion IsRowPacket packets
     → length (flat_map packet_row packets) ≡ left → left ≤ most
     → row_at most left at (flat_map packet_code packets ++ rest) ≡ RowsAre (flat_map packet_row packets) (at + length (flat_map packet_code packets))
@@ -92,6 +99,7 @@ row-reads (p ∷ packets) (suc most) (suc left) at rest allowed e fits =
 
 -- ---- the rows of a raster
 
+-- rows are read by the next row
 rows-step : (m width at : ℕ) (code more row : List ℕ) → row_at width width at (code ++ more) ≡ RowsAre row (at + length code)
     → rows_at (suc m) width at (code ++ more) ≡ with_front row (rows_at m width (at + length code) more)
 unfolding rows_at
@@ -104,6 +112,7 @@ rows-step m width at code more row e =
     ]) e
     ∙ ap (λ bs. with_front row (rows_at m width (at + length code) bs)) passed
 
+-- rows are read from their code
 pub rows-read : (m width at : ℕ) (code rows rest : List ℕ) → RowsCode m width code rows
     → rows_at m width at (code ++ rest) ≡ RowsAre rows (at + length code)
 unfolding rows_at

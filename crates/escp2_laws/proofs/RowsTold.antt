@@ -44,6 +44,7 @@ join read next_read at next row code rest bytes is there step (RowsWrong place) 
 
 -- ---- plain bytes
 
+-- so many bytes as they are
 pub plain-told : (n at : ℕ) (bytes : List ℕ) → RowsTold (plain_at n at) at bytes (plain_at n at bytes)
 plain-told n at bytes = by_test (nat_lt (length bytes) n) refl
   where
@@ -61,6 +62,7 @@ plain-told n at bytes = by_test (nat_lt (length bytes) n) refl
 
 -- ---- a packet
 
+-- a packet is told by its control byte and what that controls
 packet-told : (left at : ℕ) (bytes : List ℕ) → RowsTold (packet_at left at) at bytes (packet_at left at bytes)
 packet-told left at [] = tt
 packet-told left at (n ∷ bytes) = by_control (control_of n) refl
@@ -125,6 +127,7 @@ packet-told left at (n ∷ bytes) = by_control (control_of n) refl
 passed : (at next : ℕ) (code rest bytes : List ℕ) → bytes ≡ code ++ rest → next ≡ at + length code → drop (next - at) bytes ≡ rest
 passed at next code rest bytes is there = ap (drop (next - at)) is ∙ drop_at code rest (next - at) (omega (arith, there))
 
+-- the rest of a row, packet by packet
 row-told : (most left at : ℕ) (bytes : List ℕ) → RowsTold (row_at most left at) at bytes (row_at most left at bytes)
 unfolding row_at
 row-told most zero at bytes = record { front = []; rest = bytes; is = refl; there = omega arith; told = λ more. refl }
@@ -171,6 +174,7 @@ rows-next m width at bytes r e = ap (λ (r : RowsRead). elim r [
   | RowsWrong place ↦ RowsWrong place
 ]) e
 
+-- rows, one after another
 pub rows-told : (m width at : ℕ) (bytes : List ℕ) → RowsTold (rows_at m width at) at bytes (rows_at m width at bytes)
 unfolding rows_at
 rows-told zero width at bytes = record { front = []; rest = bytes; is = refl; there = omega arith; told = λ more. refl }

@@ -27,6 +27,7 @@ wrong-told bytes at cause e = let P : Heard → Type 0 = Told command_at [] byte
 
 -- ---- a whole command
 
+-- a whole command is spelled by its bytes
 pub heard-spelled : (bytes : List ℕ) (command : Command) (rows : List ℕ) (len : ℕ) → AreBytes bytes → command_at bytes ≡ One command rows len
     → Spells command rows (take len bytes)
 heard-spelled bytes command rows len are e =
@@ -35,6 +36,7 @@ heard-spelled bytes command rows len are e =
     let front_are : AreBytes t.front = let Q : List ℕ → Type 0 = AreBytes in bytes-front t.front t.rest (subst Q t.is are) in
     subst P (sym (take_at t.front t.rest len (omega (arith, t.there))) ∙ ap (take len) (sym t.is)) (t.spells front_are)
 
+-- it is read from them, whatever follows
 pub one-stands : (bytes rest : List ℕ) (command : Command) (rows : List ℕ) (len : ℕ) → command_at bytes ≡ One command rows len
     → command_at (take len bytes ++ rest) ≡ One command rows len
 one-stands bytes rest command rows len e =
@@ -51,6 +53,7 @@ one-stands_behind bytes rest command rows len e =
 
 -- ---- a fault
 
+-- a fault stands with all of the bytes before
 wrong-stands_behind : (bytes rest : List ℕ) (at : ℕ) (cause : JobCause) → command_at bytes ≡ Wrong at cause → command_at (bytes ++ rest) ≡ Wrong at cause
 wrong-stands_behind bytes rest at cause e =
     let t : TellsWrong command_at [] bytes at cause = wrong-told bytes at cause e in
@@ -76,6 +79,7 @@ before-fault front rest at cause short e (Wrong place other) is =
     places : (j k : ℕ) (a b : JobCause) → Wrong j a ≡ Wrong k b → j ≡ k
     places j k a b e = cc
 
+-- a fault is known by the bytes up to it
 pub fault-stands : (bytes : List ℕ) (at : ℕ) (cause : JobCause) → command_at bytes ≡ Wrong at cause → FaultStands bytes at cause
 fault-stands bytes at cause e =
     let t : TellsWrong command_at [] bytes at cause = wrong-told bytes at cause e in
@@ -92,6 +96,7 @@ fault-stands bytes at cause e =
 
 -- ---- less than a whole command
 
+-- bytes at the beginning of a part are a part
 pub part-of_part : (bytes rest : List ℕ) → command_at (bytes ++ rest) ≡ Part → command_at bytes ≡ Part
 part-of_part bytes rest e = by_heard (command_at bytes) refl
   where
@@ -119,6 +124,7 @@ after (One command rows len) most at bytes = with_entry (record { at = at; comma
 after Part most at bytes = record { entries = []; end = Cut at }
 after (Wrong place cause) most at bytes = record { entries = []; end = Fault (at + place) cause }
 
+-- a job is its first command and what that leaves
 first-of : (most at b : ℕ) (bytes : List ℕ) → commands_from (suc most) at (b ∷ bytes) ≡ after (command_at (b ∷ bytes)) most at (b ∷ bytes)
 unfolding commands_from
 first-of most at b bytes = by_heard (command_at (b ∷ bytes))
@@ -132,6 +138,7 @@ first-of most at b bytes = by_heard (command_at (b ∷ bytes))
     by_heard Part = refl
     by_heard (Wrong place cause) = refl
 
+-- a fault ends the commands from a place on
 fault-from : (most more at : ℕ) (bytes rest : List ℕ) (place : ℕ) (cause : JobCause) → length bytes ≤ most → length (bytes ++ rest) ≤ more
     → (commands_from most at bytes).end ≡ Fault place cause → commands_from more at (bytes ++ rest) ≡ commands_from most at bytes
 unfolding commands_from
@@ -163,6 +170,7 @@ fault-from (suc most) (suc more) at (b ∷ bytes) rest place cause few fits e =
     by_heard behind (Wrong k other) is =
         ap (λ h. after h more at (b ∷ (bytes ++ rest))) (wrong-stands_behind (b ∷ bytes) rest k other is) ∙ sym (ap (λ h. after h most at (b ∷ bytes)) is)
 
+-- and those of a job
 pub fault-stays : (bytes rest : List ℕ) (at : ℕ) (cause : JobCause) → (commands bytes).end ≡ Fault at cause → commands (bytes ++ rest) ≡ commands bytes
 fault-stays bytes rest at cause e =
     fault-from (length bytes) (length (bytes ++ rest)) 0 bytes rest at cause (omega arith) (omega arith) e

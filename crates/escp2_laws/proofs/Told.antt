@@ -28,6 +28,7 @@ pub record TellsWrong (read : List ℕ → Heard) (before bytes : List ℕ) (pla
   pub most : length before + length front ≤ place + 2
   pub told : (more : List ℕ) → read (front ++ more) ≡ Wrong place cause
 
+-- the first bytes tell what is read, a whole command or a fault
 abbrev pub Told : (List ℕ → Heard) → List ℕ → List ℕ → Heard → Type 0
 Told read before bytes (One command rows len) = TellsOne read before bytes command rows len
 Told read before bytes Part = Unit {0}
@@ -92,6 +93,7 @@ pub wrong-byte : (read : List ℕ → Heard) (before : List ℕ) (n : ℕ) (rest
 wrong-byte read before n rest place cause there wrong =
     record { front = n ∷ []; rest = rest; is = refl; least = omega (arith, there); most = omega (arith, there); told = wrong }
 
+-- a number of one byte
 pub told-number : (in_range : ℕ → Bool) (at : ℕ) (next : ℕ → List ℕ → Heard) (before bytes : List ℕ) → at ≡ length before
     → ((n : ℕ) → in_range n ≡ true → (rest : List ℕ) → Told (next n) (before ++ n ∷ []) rest (next n rest))
     → Told (number in_range at next) before bytes (number in_range at next bytes)
@@ -114,6 +116,7 @@ two-same low high byte =
     let high_is : high ≡ (low + 256 * high) / 256 = omega arith in
     ap (λ n. n ∷ high ∷ []) low_is ∙ ap (λ n. (low + 256 * high) % 256 ∷ n ∷ []) high_is
 
+-- a number of two bytes
 pub told-wide : (in_range : ℕ → Bool) (at : ℕ) (next : ℕ → List ℕ → Heard) (before bytes : List ℕ) → at ≡ length before
     → ((n : ℕ) → in_range n ≡ true → (rest : List ℕ) → Told (next n) (before ++ two_bytes n) rest (next n rest))
     → Told (wide_number in_range at next) before bytes (wide_number in_range at next bytes)
@@ -141,6 +144,7 @@ told-wide in_range at next before (low ∷ high ∷ rest) there after = by_test 
 
 -- ---- lengths
 
+-- the two bytes of a length
 pub told-sized : (len : ℕ) (next : List ℕ → Heard) (before bytes : List ℕ) → 3 ≡ length before
     → ((rest : List ℕ) → Told next (before ++ len ∷ 0 ∷ []) rest (next rest)) → Told (sized len next) before bytes (sized len next bytes)
 told-sized len next before [] there after = tt

@@ -51,6 +51,7 @@ plain_or_coded coding head (inr coded) is = inr coded.1
 
 -- ---- commands
 
+-- what is written of a command of the table spells it
 pub written-spells : (coding : Coding) (command : Command) (rows : List ℕ) → IsCoding coding → HasCoding coding command
     → in_table command ≡ true → length rows ≡ rows_len command → Spells command rows (written coding.code command rows)
 written-spells coding (c.Raster head) rows codes has ok fits = record {
@@ -68,6 +69,7 @@ switch-is zero ok = inl refl
 switch-is (suc zero) ok = inr (refl, canonical-codes)
 switch-is (suc (suc k)) ok = absurd (let high : suc (suc k) ≤ 1 = leb-true (suc (suc k)) 1 ok in omega arith)
 
+-- so does what is written with canonical codes
 pub canonical-spells : (command : Command) (rows : List ℕ) → in_table command ≡ true → length rows ≡ rows_len command
     → Spells command rows (written canonical_row command rows)
 canonical-spells (c.Raster head) rows ok fits =

@@ -17,9 +17,11 @@ fault_of s command rows = first_fault (refusals tiny1 s command rows)
 abbrev pub in_graphics : Machine
 in_graphics = record start { graphics = true }
 
+-- with a unit, and no page
 abbrev pub with_unit : Machine
 with_unit = record in_graphics { unit = Some 5 }
 
+-- on a sheet of six rows
 abbrev pub on_sheet : Machine
 on_sheet = record with_unit { page = Some 60; margins = Some (record { top = 0; bottom = 60 }) }
 
@@ -27,6 +29,7 @@ on_sheet = record with_unit { page = Some 60; margins = Some (record { top = 0; 
 abbrev pub off_column : Machine
 off_column = record on_sheet { across = 5 }
 
+-- with a dot in the last column but one
 abbrev pub with_dot : Machine
 with_dot = record on_sheet { across = 81900; dots = record { ink = Black; x = 81900; y = 0 } ∷ [] }
 
@@ -42,5 +45,6 @@ sheet_begins = said 0 c.Graphics ∷ said 1 (c.Unit 5) ∷ said 2 (c.Length 12) 
 abbrev pub row_of : ℕ → List ℕ → Entry
 row_of n row = record { at = 4; command = raster 10 10 1 n; rows = row }
 
+-- what the sheet becomes
 abbrev pub printed_by : List Entry → Printed
 printed_by entries = execute tiny1 (sheet_begins ++ entries)

@@ -10,9 +10,11 @@ pub record Said : Type 0 where
   pub rows : List ℕ
   pub bytes : List ℕ
 
+-- each is spelled by its bytes
 abbrev pub AllSaid : List Said → Type 0
 AllSaid job = AllByRecursion (λ s. Spells s.command s.rows s.bytes) job
 
+-- their bytes, one behind another
 abbrev pub said_bytes : List Said → List ℕ
 said_bytes job = flat_map (λ s. s.bytes) job
 

@@ -24,10 +24,12 @@ neither : (a b : Bool) → a || b ≡ false → (a ≡ false) × (b ≡ false)
 neither true b e = absurd (let no : true ≡ false = e in cc)
 neither false b e = (refl, e)
 
+-- a test of two that holds, where the first does not
 either : (a b : Bool) → a || b ≡ true → a ≡ false → b ≡ true
 either true b e first = absurd (let both : true ≡ false = first in cc)
 either false b e first = e
 
+-- nothing is read
 pub fed_begin : (reader : RowReader) (piece bytes : List ℕ) (len capacity : ℕ) → is_done_of reader ≡ false → len + bytes_left_of reader ≤ capacity
     → FedSoFar reader reader piece 0 bytes bytes len capacity
 fed_begin reader piece bytes len capacity is_open room = record {
@@ -47,6 +49,7 @@ fed_begin reader piece bytes len capacity is_open room = record {
   room = room;
 }
 
+-- one more part is read
 pub fed_step : (old now new : RowReader) (piece rest : List ℕ) (used more : ℕ) (before middle after : List ℕ) (len capacity len' capacity' : ℕ)
     → FedSoFar old now piece used before middle len capacity → rest ≡ drop used piece → 0 < more → more ≤ length rest
     → Takes now new (take more rest) middle after → len' + bytes_left_of new ≤ capacity' → FedSoFar old new piece (used + more) before after len' capacity'
@@ -94,6 +97,7 @@ read_on-nothing (Literal n) most left m width at still some begun enough =
 read_on-nothing (Repeated n) most left m width at still some begun enough = refl
 read_on-nothing Failed most left m width at still some begun enough = absurd (let no : true ≡ false = still in cc)
 
+-- the piece ends
 pub fed_more : (old now : RowReader) (piece : List ℕ) (used : ℕ) (before after : List ℕ) (len capacity : ℕ)
     → FedSoFar old now piece used before after len capacity → is_done_of now ≡ false → used ≡ length piece → IsMore old now piece used
 fed_more old now piece used before after len capacity so_far is_open all = record {
@@ -129,12 +133,14 @@ read_on-end (Literal n) most left m width at rest still none no_rows fits begun 
 read_on-end (Repeated n) most left m width at rest still none no_rows fits begun = absurd (omega arith)
 read_on-end Failed most left m width at rest still none no_rows fits begun = absurd (let no : true ≡ false = still in cc)
 
+-- a place that is not that of a fault
 not-failed : (place : Place) → (place ≡ Failed → ⊥) → is_failed place ≡ false
 not-failed Packet not = refl
 not-failed (Literal n) not = refl
 not-failed (Repeated n) not = refl
 not-failed Failed not = absurd (not refl)
 
+-- the rows end
 pub fed_whole : (old now : RowReader) (piece : List ℕ) (used : ℕ) (before after : List ℕ) (len capacity : ℕ)
     → FedSoFar old now piece used before after len capacity → is_done_of now ≡ true → (now.place ≡ Failed → ⊥) → IsWhole old now piece used before after
 fed_whole old now piece used before after len capacity so_far done not = record {
@@ -163,13 +169,16 @@ fed_whole old now piece used before after len capacity so_far done not = record 
     none_in_row : now.row_left ≡ 0
     none_in_row = omega (arith, none)
 
+-- the place of a fault
 failed-is : (place : Place) → place ≡ Failed → is_failed place ≡ true
 failed-is place is = ap is_failed is
 
+-- a test of two holds where the first does
 or-left : (a b : Bool) → a ≡ true → a || b ≡ true
 or-left true b e = refl
 or-left false b e = absurd (let no : false ≡ true = e in cc)
 
+-- a fault is met
 pub fed_fault : (old now : RowReader) (piece : List ℕ) (used : ℕ) (before after : List ℕ) (len capacity : ℕ)
     → FedSoFar old now piece used before after len capacity → now.place ≡ Failed → IsFault old now piece used (used - 1)
 fed_fault old now piece used before after len capacity so_far failed = record {
@@ -187,7 +196,3 @@ fed_fault old now piece used before after len capacity so_far failed = record {
   where
     some : 1 ≤ used
     some = so_far.begun (failed-is now.place failed)
-
-pub fed_some : (old now : RowReader) (piece : List ℕ) (used : ℕ) (before after : List ℕ) (len capacity : ℕ)
-    → FedSoFar old now piece used before after len capacity → now.place ≡ Failed → 1 ≤ used
-fed_some old now piece used before after len capacity so_far failed = so_far.begun (failed-is now.place failed)

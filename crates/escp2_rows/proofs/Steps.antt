@@ -13,11 +13,13 @@ use Rattle.escp2_rows.specs.Places.{RowsForm, Stands, behind_control, is_failed,
 
 -- ---- bytes in front of what is read
 
+-- no bytes in front
 front-nil : (r : RowsRead) → with_front [] r ≡ r
 front-nil (RowsAre rows at) = refl
 front-nil RowsPart = refl
 front-nil (RowsWrong at) = refl
 
+-- bytes in front of bytes in front
 front-append : (a b : List ℕ) (r : RowsRead) → with_front a (with_front b r) ≡ with_front (a ++ b) r
 front-append a b (RowsAre rows at) = ap (λ bs. RowsAre bs at) (sym (append_assoc a b rows))
 front-append a b RowsPart = refl
@@ -25,6 +27,7 @@ front-append a b (RowsWrong at) = refl
 
 -- ---- what is read ends behind its place
 
+-- bytes as they are
 plain-passes : (count at : ℕ) (bytes row : List ℕ) (next : ℕ) → plain_at count at bytes ≡ RowsAre row next → at ≤ next
 plain-passes count at bytes row next = by_test (nat_lt (length bytes) count)
   where
@@ -35,6 +38,7 @@ plain-passes count at bytes row next = by_test (nat_lt (length bytes) count)
         places : (rs ss : List ℕ) (j k : ℕ) → RowsAre rs j ≡ RowsAre ss k → j ≡ k
         places rs ss j k e = cc
 
+-- a repeated byte
 again-passes : (count at : ℕ) (bytes row : List ℕ) (next : ℕ) → again_at count at bytes ≡ RowsAre row next → at ≤ next
 again-passes count at [] row next e = absurd (let no : RowsPart ≡ RowsAre row next = e in cc)
 again-passes count at (b ∷ bytes) row next e = omega (arith, places _ _ _ _ e)
@@ -42,6 +46,7 @@ again-passes count at (b ∷ bytes) row next e = omega (arith, places _ _ _ _ e)
     places : (rs ss : List ℕ) (j k : ℕ) → RowsAre rs j ≡ RowsAre ss k → j ≡ k
     places rs ss j k e = cc
 
+-- what a control byte stands for
 controlled-passes : (c : Control) (left at : ℕ) (bytes row : List ℕ) (next : ℕ) → controlled c left at bytes ≡ RowsAre row next → at ≤ next
 controlled-passes (Follow n) left at bytes row next e = by_test (nat_lt left n) e
   where
@@ -55,10 +60,12 @@ controlled-passes (Again n) left at bytes row next e = by_test (nat_lt left n) e
     by_test false e = omega (arith, again-passes n (at + 1) bytes row next e)
 controlled-passes Refused left at bytes row next e = absurd (let no : RowsWrong at ≡ RowsAre row next = e in cc)
 
+-- a packet
 packet-passes : (left at : ℕ) (bytes row : List ℕ) (next : ℕ) → packet_at left at bytes ≡ RowsAre row next → at ≤ next
 packet-passes left at [] row next e = absurd (let no : RowsPart ≡ RowsAre row next = e in cc)
 packet-passes left at (n ∷ bytes) row next e = controlled-passes (control_of n) left at bytes row next e
 
+-- the rest of a row
 row_at-passes : (most left at : ℕ) (bytes row : List ℕ) (next : ℕ) → row_at most left at bytes ≡ RowsAre row next → at ≤ next
 unfolding row_at
 row_at-passes most zero at bytes row next e = omega (arith, places _ _ _ _ e)
@@ -88,6 +95,7 @@ row_at-passes (suc most) (suc left) at bytes row next e =
 
 -- ---- the rest of the rows
 
+-- the rest of rows is read by the next packet
 pub rest-step : (most left m width at : ℕ) (bytes front : List ℕ) (next : ℕ) → packet_at (suc left) at bytes ≡ RowsAre front next
     → rest_at (suc most) (suc left) m width at bytes ≡ with_front front (rest_at most (suc left - length front) m width next (drop (next - at) bytes))
 unfolding rest_at
@@ -106,10 +114,12 @@ rest-step most left m width at bytes front next e =
     by_rest RowsPart is = refl
     by_rest (RowsWrong place) is = refl
 
+-- it is a part where the next packet is
 pub rest-part : (most left m width at : ℕ) (bytes : List ℕ) → packet_at (suc left) at bytes ≡ RowsPart → rest_at (suc most) (suc left) m width at bytes ≡ RowsPart
 unfolding rest_at
 rest-part most left m width at bytes e = ap (then_rows m width at bytes) (row-part most left at bytes e)
 
+-- it is refused where the next packet is
 pub rest-wrong : (most left m width at : ℕ) (bytes : List ℕ) (place : ℕ) → packet_at (suc left) at bytes ≡ RowsWrong place
     → rest_at (suc most) (suc left) m width at bytes ≡ RowsWrong place
 unfolding rest_at
@@ -144,6 +154,7 @@ rest-next most m width at bytes =
 
 -- ---- a control byte
 
+-- what is read behind a control byte
 control-read : (c : Control) (most left m width at n : ℕ) (bytes : List ℕ) → control_of n ≡ c
     → rest_at (suc most) (suc left) m width at (n ∷ bytes) ≡ read_on (behind_control c (suc left)) most (suc left) m width (at + 1) bytes
 control-read (Follow k) most left m width at n bytes is = by_left (nat_lt (suc left) k) refl
@@ -202,6 +213,7 @@ pub record Moves (place : Place) (left m width : ℕ) (bytes gave : List ℕ) (p
       × ((at : ℕ) (rest : List ℕ) → read_on place most left m width at (bytes ++ rest)
       ≡ with_front gave (read_on place' most' left' m' width' (at + length bytes) rest))
 
+-- a reader stands behind what it moved over
 pub stands_moved : (form : RowsForm) (place place' : Place) (left m width left' m' width' : ℕ) (bytes gave sofar given : List ℕ)
     → Moves place left m width bytes gave place' left' m' width' → Stands form place left m width sofar given
     → Stands form place' left' m' width' (sofar ++ bytes) (given ++ gave)
@@ -235,6 +247,7 @@ never-packet (Again n) left e = by_test (nat_lt left n) e
     by_test false e = let no : Repeated n ≡ Packet = e in cc
 never-packet Refused left e = let no : Failed ≡ Packet = e in cc
 
+-- fewer bytes than are pending leave one
 begun-fewer : (place : Place) (left most : ℕ) → (place ≡ Packet → ⊥) → least_pending place ≤ pending place → left ≤ most
     → is_failed place ≡ false → suc left - pending place ≤ most
 begun-fewer Packet left most never begun enough open_ = absurd (never refl)
@@ -284,6 +297,7 @@ literal-read n left m width more most at bytes rest whole = by_length (nat_lt (l
         ∙ ap (λ bs. with_front (bytes ++ take more rest) (rest_at most (left - length bytes - more) m width (at + length bytes + more) bs)) (drop-append-add bytes rest more)
         ∙ sym (front-append bytes (take more rest) (rest_at most (left - length bytes - more) m width (at + length bytes + more) (drop more rest)))
 
+-- bytes as they are, up to the last
 pub literal_moves : (n left m width more : ℕ) (bytes : List ℕ) → length bytes + more ≡ n
     → Moves (Literal n) left m width bytes bytes (Literal more) (left - length bytes) m width
 literal_moves n left m width more bytes whole = record {
@@ -347,9 +361,11 @@ row_follows left m m' width none more most enough = (
       ∙ rest-next most m' width at bytes,
 )
 
+-- what is left where a row ends
 pub next_left : (left m width count m' : ℕ) → count ≡ left → m ≡ suc m' → width + m' * width + count ≡ left + m * width
 next_left left m width count m' all more = omega (arith, ap (λ k. k * width) more)
 
+-- bytes as they are, before the last
 pub literal_part : (n left m width more left' : ℕ) (bytes : List ℕ) → length bytes + more ≡ n → left' ≡ left - length bytes
     → Moves (Literal n) left m width bytes bytes (Literal more) left' m width
 literal_part n left m width more left' bytes whole less =
@@ -379,6 +395,7 @@ plain_begins form n width plain count = record {
         ∙ ap (with_front (take n rest)) (sym (rest-none n width (form.at + 0 + n) (drop n rest)))
         ∙ ap (λ k. with_front (take n rest) (rest_at n k 0 width (form.at + 0 + n) (drop n rest))) (let p : 0 ≡ n - n = omega arith in p)
 
+-- coded rows begin before a control byte
 pub coded_begins : (form : RowsForm) (m width : ℕ) → (form.c ≡ 0 → ⊥) → form.rows ≡ suc m → form.width ≡ width → Stands form Packet width m width [] []
 coded_begins form m width coded rows wide = record {
   most = width;

@@ -84,6 +84,7 @@ pub record ApartSoFar (most : ℕ) (row : List ℕ) (count : ℕ) : Type 0 where
   pub within : count ≤ most
   pub is : apart_at most row ≡ count + apart_at (most - count) (drop count row)
 
+-- nothing is counted
 pub apart_begin : (most : ℕ) (row : List ℕ) → ApartSoFar most row 0
 apart_begin most row = record {
   within = omega arith;
@@ -91,22 +92,26 @@ apart_begin most row = record {
       ∙ (let e : apart_at (most - 0) row ≡ 0 + apart_at (most - 0) row = omega arith in e);
 }
 
+-- nothing stands before three equal bytes
 apart-equal : (left : ℕ) (rest : List ℕ) → nat_lt 2 (equal_at rest) ≡ true → apart_at left rest ≡ 0
 unfolding apart_at
 apart-equal zero rest many = refl
 apart-equal (suc left) [] many = refl
 apart-equal (suc left) (b ∷ rest) many = ap (λ t. if t then 0 else 1 + apart_at left rest) many
 
+-- nothing is counted where nothing is wanted
 apart-none : (left : ℕ) (rest : List ℕ) → left ≡ 0 → apart_at left rest ≡ 0
 unfolding apart_at
 apart-none left rest none = ap (λ k. apart_at k rest) none
 
+-- nor at the end of a row
 apart-nothing : (left : ℕ) (rest : List ℕ) → length rest ≡ 0 → apart_at left rest ≡ 0
 unfolding apart_at
 apart-nothing zero rest none = refl
 apart-nothing (suc left) [] none = refl
 apart-nothing (suc left) (b ∷ rest) none = absurd (omega arith)
 
+-- one more byte is counted
 pub apart_step : (most : ℕ) (row : List ℕ) (count : ℕ) (begins : Bool) (rest : List ℕ) → ApartSoFar most row count → count < min (length row) most
     → begins ≡ nat_lt 2 (equal_at rest) → rest ≡ drop count row → begins ≡ false → ApartSoFar most row (count + 1)
 apart_step most row count begins rest so_far less test behind apart = record {
@@ -120,12 +125,14 @@ apart_step most row count begins rest so_far less test behind apart = record {
       omega (arith, so_far.is, apart-more (most - count) (drop count row) (omega arith) (omega (arith, length-drop count row)) (ltb-false _ _ few), same);
 }
 
+-- the count ends at three equal bytes
 pub apart_stop : (most : ℕ) (row : List ℕ) (count : ℕ) (begins : Bool) (rest : List ℕ) → ApartSoFar most row count
     → begins ≡ nat_lt 2 (equal_at rest) → rest ≡ drop count row → begins ≡ true → count ≡ apart_at most row
 apart_stop most row count begins rest so_far test behind equal =
     let many : nat_lt 2 (equal_at (drop count row)) ≡ true = sym (ap (λ bs. nat_lt 2 (equal_at bs)) behind) ∙ sym test ∙ equal in
     omega (arith, so_far.is, apart-equal (most - count) (drop count row) many)
 
+-- or at its end
 pub apart_end : (most : ℕ) (row : List ℕ) (count end : ℕ) → ApartSoFar most row count → end ≡ min (length row) most → end ≤ count → count ≤ end
     → end ≡ apart_at most row
 apart_end most row count end so_far is all within = by_length (nat_lt (length row) most) refl
@@ -134,6 +141,7 @@ apart_end most row count end so_far is all within = by_length (nat_lt (length ro
     by_length true e = omega (arith, so_far.is, ltb-true _ _ e, apart-nothing (most - count) (drop count row) (omega (arith, ltb-true _ _ e, length-drop count row)))
     by_length false e = omega (arith, so_far.is, ltb-false _ _ e, apart-none (most - count) (drop count row) (omega (arith, ltb-false _ _ e)))
 
+-- a byte is counted where the row begins with no three equal ones
 pub apart_some : (row : List ℕ) (count : ℕ) → count ≡ apart_at 128 row → 0 < length row → equal_at row ≤ 2 → 1 ≤ count
 apart_some row count is some few = omega (arith, is, (counted row some).apart_some few)
 
@@ -143,6 +151,7 @@ apart_some row count is some few = omega (arith, is, (counted row some).apart_so
 pub repeat-is : (row : List ℕ) → 2 < equal_at row → next_packet row ≡ Repeat (equal_at row) (get_or row 0 0)
 repeat-is row many = ap (λ t. if t then Repeat (equal_at row) (get_or row 0 0) else Bytes (take (apart_at 128 row) row)) (lt-ltb _ _ many)
 
+-- the packet of bytes, where no three are equal
 pub bytes-is : (row : List ℕ) → equal_at row ≤ 2 → next_packet row ≡ Bytes (take (apart_at 128 row) row)
 bytes-is row few = ap (λ t. if t then Repeat (equal_at row) (get_or row 0 0) else Bytes (take (apart_at 128 row) row)) (le-ltb _ _ few)
 
@@ -176,6 +185,7 @@ pub record RowSoFar (row out : List ℕ) (len : ℕ) (rest : List ℕ) : Type 0 
   pub enough : length rest ≤ most
   pub is : canonical_row row ≡ take len out ++ flat_map packet_code (packets_from most rest)
 
+-- nothing is coded
 pub row_begin : (row out : List ℕ) → 2 * length row ≤ length out → RowSoFar row out 0 row
 unfolding canonical_row
 row_begin row out room = record {
@@ -186,6 +196,7 @@ row_begin row out room = record {
   is = refl;
 }
 
+-- the packets begin with the next one
 packets-more : (most : ℕ) (rest : List ℕ) → 0 < length rest
     → packets_from (suc most) rest ≡ next_packet rest ∷ packets_from most (drop (length (packet_row (next_packet rest))) rest)
 unfolding packets_from
@@ -206,6 +217,7 @@ put_mid-end : (out part : List ℕ) (len k : ℕ) → k ≡ length out - len →
 put_mid-end out part len k all =
     ap (λ bs. take len out ++ (part ++ bs)) (drop_all k (drop len out) (omega (arith, length-drop len out))) ∙ ap (λ bs. take len out ++ bs) (append-nil part)
 
+-- one more packet is coded
 row-more : (row out part part' out' rest : List ℕ) (len count code : ℕ) → RowSoFar row out len rest → 0 < length rest
     → IsWritten rest part part' count code → length part ≡ length out - len → out' ≡ take len out ++ part' → RowSoFar row out' (len + code) (drop count rest)
 row-more row out part part' out' rest len count code so_far some written part_len put =
@@ -231,6 +243,7 @@ row-more row out part part' out' rest len count code so_far some written part_le
           ∙ ap (λ bs. bs ++ codes) (sym front);
     }
 
+-- the same, as it is written
 pub row_step : (row out part part' rest rest' : List ℕ) (len count code : ℕ) → RowSoFar row out len rest → 0 < length rest
     → IsWritten rest part part' count code → length part ≡ length out - len → rest' ≡ drop count rest
     → RowSoFar row (put_mid len (length out - len) out part') (len + code) rest'
@@ -240,6 +253,7 @@ row_step row out part part' rest rest' len count code so_far some written part_l
     let P : List ℕ → Type 0 = RowSoFar row out' (len + code) in
     subst P (sym behind) (row-more row out part part' out' rest len count code so_far some written part_len put)
 
+-- the row is coded
 pub row_end : (row out rest : List ℕ) (len : ℕ) → RowSoFar row out len rest → length rest ≡ 0 → take len out ≡ canonical_row row
 unfolding packets_from
 row_end row out [] len so_far none = sym (so_far.is ∙ append-nil (take len out))

@@ -93,13 +93,15 @@ impl RowReader {
     }
 
     /// Reads the next bytes of the rows, of any number, and appends the bytes of rows that they give. It takes no
-    /// memory. It stops behind the last row, or behind a control byte that is refused.
+    /// memory, and room is kept. It stops behind the last row, or behind a control byte that is refused.
     pub fn feed(&mut self, piece: &[u8], out: &mut Vec<u8>) -> RowFed
         requires is_open { is_done_of self.old ≡ false }
         requires room { vec_len out.old + bytes_left_of self.old ≤ vec_capacity out.old }
         ensures used { result.used ≤ length piece.now }
         ensures takes { Takes self.old self.new (take result.used piece.now) out.old.items out.new.items }
         ensures room { vec_len out.new + bytes_left_of self.new ≤ vec_capacity out.new }
+        ensures capacity { vec_capacity out.old ≤ vec_capacity out.new }
+        ensures some { 0 < length piece.now → 0 < result.used }
         ensures more { OnMore result.state (IsMore self.old self.new piece.now result.used) }
         ensures whole { OnWhole result.state
             (IsWhole self.old self.new piece.now result.used out.old.items out.new.items) }
@@ -150,6 +152,7 @@ impl RowReader {
         ensures most { result ≤ length bytes.now }
         ensures takes { Takes self.old self.new (take result bytes.now) out.old.items out.new.items }
         ensures room { vec_len out.new + bytes_left_of self.new ≤ vec_capacity out.new }
+        ensures capacity { vec_capacity out.old ≤ vec_capacity out.new }
     {
         match self.place {
             Place::Packet => self.feed_control(bytes[0]),
@@ -177,6 +180,7 @@ impl RowReader {
         ensures appended { out.new.items ≡ out.old.items ++ take result bytes.now }
         ensures gives { Gives self.old self.new (take result bytes.now) (take result bytes.now) }
         ensures room { vec_len out.new + bytes_left_of self.new ≤ vec_capacity out.new }
+        ensures capacity { vec_capacity out.old ≤ vec_capacity out.new }
     {
         let count = bytes.len().min(wanted);
         push_bytes(out, &bytes[..count]);
@@ -196,6 +200,7 @@ impl RowReader {
         ensures appended { out.new.items ≡ out.old.items ++ replicate count byte }
         ensures gives { Gives self.old self.new (byte ∷ []) (replicate count byte) }
         ensures room { vec_len out.new + bytes_left_of self.new ≤ vec_capacity out.new }
+        ensures capacity { vec_capacity out.old ≤ vec_capacity out.new }
     {
         push_run(out, count, byte);
         self.end_packet(count);

@@ -16,6 +16,7 @@ use Rattle.escp2_writer.specs.Pieces.{Passes}
 abbrev pub codes : ℕ → ℕ → List ℕ → List ℕ
 codes m width rows = flat_map canonical_row (rows_apart m width rows)
 
+-- the code of the next row comes first
 codes-next : (m n width : ℕ) (rows : List ℕ) → m ≡ suc n → codes m width rows ≡ canonical_row (take width rows) ++ codes n width (drop width rows)
 codes-next m n width rows e = ap (λ k. codes k width rows) e
 
@@ -36,12 +37,14 @@ pub record AppendsSoFar (whole out rest : List ℕ) (m width : ℕ) : Type 0 whe
   pub left : length rest ≡ m * width
   pub is : whole ≡ out ++ codes m width rest
 
+-- no row is appended
 pub appends_begin : (out rows : List ℕ) (m n width : ℕ) → length rows ≡ m * width → m ≡ n → AppendsSoFar (out ++ codes m width rows) out rows n width
 appends_begin out rows m n width fits same = record {
   left = fits ∙ ap (λ k. k * width) same;
   is = ap (λ k. out ++ codes k width rows) same;
 }
 
+-- one more row is appended
 pub appends_step : (whole out out' rest rest' : List ℕ) (m n width : ℕ) → AppendsSoFar whole out rest m width → m ≡ suc n
     → out' ≡ out ++ canonical_row (take width rest) → rest' ≡ drop width rest → AppendsSoFar whole out' rest' n width
 appends_step whole out out' rest rest' m n width so_far more appended behind =
@@ -73,6 +76,7 @@ pub record PutsSoFar (old now : Option (List ℕ)) (whole piece rest : List ℕ)
   pub appends : Appends old now sent
   pub is : whole ≡ sent ++ (piece ++ codes m width rest)
 
+-- no row is written
 pub puts_begin : (held : Option (List ℕ)) (front piece rows : List ℕ) (m n width : ℕ) → piece ≡ front → length rows ≡ m * width → m ≡ n
     → PutsSoFar held held (front ++ codes m width rows) piece rows n width
 puts_begin held front piece rows m n width begun fits same = record {
@@ -82,6 +86,7 @@ puts_begin held front piece rows m n width begun fits same = record {
   is = ap (λ k. front ++ codes k width rows) same ∙ ap (λ bs. bs ++ codes n width rows) (sym begun);
 }
 
+-- one more row is gathered
 pub puts_step : (old now now' : Option (List ℕ)) (whole piece kept piece' rest rest' : List ℕ) (m n width : ℕ) → PutsSoFar old now whole piece rest m width
     → m ≡ suc n → Passes now now' piece kept → piece' ≡ kept ++ canonical_row (take width rest) → rest' ≡ drop width rest
     → PutsSoFar old now' whole piece' rest' n width

@@ -64,7 +64,7 @@ halftone_step profile kernel form old now next before left left' h h' repeats so
 pub halftone_end : (profile : Profile) (kernel : Kernel) (form : PageForm) (old now : PageReader) (before left : Option (List ℕ)) (h : Halftoning) (planes : DotTable)
     → HalftonedSoFar profile kernel form old now before left h → lines_left_of now ≤ 0
     → ((lines : List (List ℕ)) → StandsFor h lines
-        → HasDots (printer_of h.profile) (halftone (record { form = h.form; lines = lines }) (printer_of h.profile) (table_of h.kernel)) planes.width planes.rows planes.inks (dot planes))
+    → HasDots (printer_of h.profile) (halftone (record { form = h.form; lines = lines }) (printer_of h.profile) (table_of h.kernel)) planes.width planes.rows planes.inks (dot planes))
     → ReadsHalftone (printer_of profile) (table_of kernel) old now before left form planes
 halftone_end profile kernel form old now before left h planes so_far none dots =
     let Has : Profile → PageForm → Kernel → Type 0 =

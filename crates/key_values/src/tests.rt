@@ -21,7 +21,10 @@ fn numbers_are_digits_within_bounds(rt: HostRuntime) {
         assert_eq!(rt; number_within(0, 64, text), number, "{text:?}");
     }
     assert_eq!(rt; number_within(1, 64, b"0"), None);
-    assert_eq!(rt; number_within(0, u64::MAX, b"18446744073709551615"), Some(u64::MAX));
+    assert_eq!(rt;
+        number_within(0, u64::MAX, b"18446744073709551615"),
+        Some(u64::MAX)
+    );
     assert_eq!(rt; number_within(0, u64::MAX, b"18446744073709551616"), None);
 }
 

@@ -4,10 +4,12 @@ ghost use Rattle.pwg_definitions.specs.Header.{IsWanted};
 ghost use Rattle.separation_definitions.specs.Windows.{wanted_by};
 ghost use Rattle.std.specs.Prelude.{IsTrue};
 
+mod definition;
+
 use crate::Halftoner;
+use definition::{byte_at, wrong_dots};
 use diffusion_kernel::Kernel;
 use dot_planes::Planes;
-use printer_definitions::Ink;
 use printer_profile::{InkSet, PageForm, Profile};
 use pwg_definitions::Kind;
 use std::alloc::Global;
@@ -26,15 +28,6 @@ fn is_taken(p: &Profile, f: PageForm) -> bool
         && wanted.least_height <= f.height
         && f.height <= wanted.most_height
         && u64::from(f.bytes_per_line) == bytes
-}
-
-// The byte of colour c at a pixel: numbers that jump about.
-fn byte_at(x: u32, y: u32, c: u32) -> u8 {
-    let n = x
-        .wrapping_mul(73)
-        .wrapping_add(y.wrapping_mul(151))
-        .wrapping_add(c.wrapping_mul(199));
-    (n % 256) as u8
 }
 
 // A printer with these inks, limits and margins.
@@ -65,114 +58,6 @@ fn form(kind: Kind, width: u32, height: u32) -> PageForm {
         kind,
         bytes_per_line: width.wrapping_mul(unit),
     }
-}
-
-// What a pixel of red, green and blue lacks of an ink.
-fn lack_at(ink: Ink, x: u32, y: u32) -> i32 {
-    match ink {
-        Ink::Black => 0,
-        Ink::Cyan => i32::from(!byte_at(x, y, 0)),
-        Ink::Magenta => i32::from(!byte_at(x, y, 1)),
-        Ink::Yellow => i32::from(!byte_at(x, y, 2)),
-    }
-}
-
-// How dark a pixel of red, green and blue is as a grey.
-fn darkness_at(x: u32, y: u32) -> i32 {
-    let red = i32::from(byte_at(x, y, 0)).wrapping_mul(77);
-    let green = i32::from(byte_at(x, y, 1)).wrapping_mul(150);
-    let blue = i32::from(byte_at(x, y, 2)).wrapping_mul(29);
-    255i32.wrapping_sub(red.wrapping_add(green).wrapping_add(blue) / 256)
-}
-
-// What is moved into black, from 64 on.
-fn black_at(x: u32, y: u32) -> i32 {
-    let magenta = lack_at(Ink::Magenta, x, y);
-    let yellow = lack_at(Ink::Yellow, x, y);
-    let q = lack_at(Ink::Cyan, x, y).min(magenta).min(yellow);
-    if q < 64 {
-        0
-    } else {
-        q.wrapping_sub(64).wrapping_mul(255) / 191
-    }
-}
-
-// What a pixel gives to an ink.
-fn given_at(inks: InkSet, kind: Kind, ink: Ink, x: u32, y: u32) -> i32 {
-    let grey = match kind {
-        Kind::Gray8 => i32::from(!byte_at(x, y, 0)),
-        Kind::Black8 => i32::from(byte_at(x, y, 0)),
-        Kind::Rgb8 => darkness_at(x, y),
-    };
-    match inks {
-        InkSet::K => grey,
-        InkSet::Cmy if kind == Kind::Rgb8 => lack_at(ink, x, y),
-        InkSet::Cmy => grey,
-        InkSet::Cmyk if kind == Kind::Rgb8 && ink == Ink::Black => black_at(x, y),
-        InkSet::Cmyk if kind == Kind::Rgb8 => lack_at(ink, x, y).wrapping_sub(black_at(x, y)),
-        InkSet::Cmyk if ink == Ink::Black => grey,
-        InkSet::Cmyk => 0,
-    }
-}
-
-// The amount of an ink at a pixel of the page, by the definition.
-fn amount_at(p: &Profile, kind: Kind, ink: Ink, x: u32, y: u32) -> i32 {
-    let limit = match ink {
-        Ink::Black => 255,
-        Ink::Cyan => 224,
-        Ink::Magenta => 200,
-        Ink::Yellow => 180,
-    };
-    given_at(p.inks, kind, ink, x, y).wrapping_mul(limit) / 255
-}
-
-// An error of a window of this width, 0 beside it and above it.
-fn error_at(errors: &[i32], width: u32, x: i64, y: i64) -> i32 {
-    if x < 0 || y < 0 || x >= i64::from(width) {
-        return 0;
-    }
-    let at = (y as usize)
-        .wrapping_mul(width as usize)
-        .wrapping_add(x as usize);
-    errors.get(at).copied().unwrap_or(0)
-}
-
-// What the errors near a pixel give to it, in parts of the kernel's divisor.
-fn given(kernel: Kernel, errors: &[i32], width: u32, x: u32, y: u32) -> i32 {
-    let mut parts = 0i32;
-    for weight in kernel.weights() {
-        let from_x = i64::from(x) - i64::from(weight.dx);
-        let from_y = i64::from(y) - i64::from(weight.dy);
-        let error = error_at(errors, width, from_x, from_y);
-        parts = parts.wrapping_add(i32::from(weight.share).wrapping_mul(error));
-    }
-    match kernel {
-        Kernel::Floyd => parts.div_euclid(16),
-        Kernel::Jarvis => parts.div_euclid(48),
-        Kernel::Stucki => parts.div_euclid(42),
-    }
-}
-
-// How many pixels of the window have a dot where there should be none, or none where there should be one.
-fn wrong_dots(p: &Profile, f: PageForm, kernel: Kernel, planes: &Planes, i: u8, ink: Ink) -> u32 {
-    let mut errors = [0i32; 256];
-    let mut wrong = 0u32;
-    let width = planes.width();
-    for y in 0..planes.rows() {
-        for x in 0..width {
-            let amount = amount_at(p, f.kind, ink, x.wrapping_add(2), y.wrapping_add(1));
-            let value = amount
-                .wrapping_mul(16)
-                .wrapping_add(given(kernel, &errors, width, x, y));
-            let on = value >= 2040;
-            let at = (y.wrapping_mul(width).wrapping_add(x) % 256) as usize;
-            errors[at] = if on { value.wrapping_sub(4080) } else { value };
-            if i >= planes.inks() || planes.dot(i, x, y) != on {
-                wrong = wrong.wrapping_add(1);
-            }
-        }
-    }
-    wrong
 }
 
 // A line of the page, and bytes behind it.

@@ -1,6 +1,5 @@
 -- Packed rows without dots.
 use Rattle.std.proofs.Common.{◌≡◌, ℕ, zero, suc, ◌+◌, ◌-◌, ◌*◌, ◌/◌, ◌≤◌, ◌<◌, max, Bool, true, false, not, ◌&&◌, ◌||◌, ◌==◌, List, [], ◌∷◌, length, take, drop, replicate, get_or, refl, sym, ◌∙◌, ap, arith, length-drop}
-use Rattle.std.specs.Prelude.{slice_index_or}
 use Rattle.std.specs.List.{list_all, list_any}
 use Rattle.std.proofs.lemmas.Bool.Decides.{nat_tests}
 use Rattle.std.proofs.lemmas.List.{drop-drop, drop-replicate, length-replicate}
@@ -10,11 +9,13 @@ use Rattle.page_laws.proofs.Passes.{no-dot}
 
 -- ---- the greatest byte
 
+-- the greater of two numbers is 0 where both are
 max-zero : (m n : ℕ) → (max m n == 0) ≡ ((m == 0) && (n == 0))
 max-zero zero zero = refl
 max-zero zero (suc n) = grind (arith, nat_tests)
 max-zero (suc m) n = grind (arith, nat_tests)
 
+-- one more byte
 pub blank_more : (row : List ℕ) (most i : ℕ) → i < length row → (most == 0) ≡ list_all (λ byte. byte == 0) (take i row)
     → (max most (get_or row i 0) == 0) ≡ list_all (λ byte. byte == 0) (take (i + 1) row)
 blank_more row most i low so_far =
@@ -22,6 +23,7 @@ blank_more row most i low so_far =
 
 -- ---- a blank row
 
+-- so many bytes of no dots
 blank-bytes : (n width : ℕ) → packed_bytes n (replicate width false) ≡ replicate n 0
 blank-bytes zero width = refl
 blank-bytes (suc n) width =
@@ -42,21 +44,25 @@ blank-bytes (suc n) width =
     ∙ ap (λ row. 0 ∷ packed_bytes n row) (drop-replicate 8 width false)
     ∙ ap (λ bs. 0 ∷ bs) (blank-bytes n (width - 8))
 
+-- a blank row is packed as zeros
 pub packed-blank : (width : ℕ) → packed (replicate width false) ≡ replicate ((width + 7) / 8) 0
 packed-blank width =
     ap (λ n. packed_bytes ((n + 7) / 8) (replicate width false)) (length-replicate {A = Bool} width false) ∙ blank-bytes ((width + 7) / 8) width
 
 -- ---- a row with dots
 
+-- a row has a dot at its first place or behind it
 any-first : (row : List Bool) → list_any (λ on. on) row ≡ (at row 0 || list_any (λ on. on) (drop 1 row))
 any-first [] = refl
 any-first (b ∷ row) = refl
 
+-- the first place behind others
 at-behind : (row : List Bool) (k : ℕ) → at (drop k row) 0 ≡ at row k
 at-behind row zero = refl
 at-behind [] (suc k) = refl
 at-behind (b ∷ row) (suc k) = at-behind row k
 
+-- a row has a dot at a place or behind it
 any-behind : (row : List Bool) (k : ℕ) → list_any (λ on. on) (drop k row) ≡ (at row k || list_any (λ on. on) (drop (1 + k) row))
 any-behind row k =
     any-first (drop k row)
@@ -70,6 +76,7 @@ sum-zero zero false n some = refl
 sum-zero (suc s) true n some = grind (arith, nat_tests)
 sum-zero (suc s) false n some = grind (arith, nat_tests)
 
+-- eight dots and the rest, by what is off
 bits-tell : (b0 b1 b2 b3 b4 b5 b6 b7 rest : Bool)
     → (b0 || (b1 || (b2 || (b3 || (b4 || (b5 || (b6 || (b7 || not rest))))))))
     ≡ not ((((((((not b0 && not b1) && not b2) && not b3) && not b4) && not b5) && not b6) && not b7) && rest)
@@ -83,16 +90,19 @@ bits-tell false false false false false false true b7 rest = refl
 bits-tell false false false false false false false true rest = refl
 bits-tell false false false false false false false false rest = refl
 
+-- a bit is worth 0 where it is off
 worth-zero : (b : Bool) (n : ℕ) → 1 ≤ n → (worth b n == 0) ≡ not b
 worth-zero true n some = grind (arith, nat_tests)
 worth-zero false n some = refl
 
+-- a byte is 0 where its eight bits are off
 eight-zero : (b0 b1 b2 b3 b4 b5 b6 b7 : Bool)
     → (worth b0 128 + worth b1 64 + worth b2 32 + worth b3 16 + worth b4 8 + worth b5 4 + worth b6 2 + worth b7 1 == 0)
     ≡ (((((((not b0 && not b1) && not b2) && not b3) && not b4) && not b5) && not b6) && not b7)
 eight-zero b0 b1 b2 b3 b4 b5 b6 b7 =
     sum-zero (worth b0 128 + worth b1 64 + worth b2 32 + worth b3 16 + worth b4 8 + worth b5 4 + worth b6 2) b7 1 (omega arith) ∙ ap (λ t. t && not b7) (sum-zero (worth b0 128 + worth b1 64 + worth b2 32 + worth b3 16 + worth b4 8 + worth b5 4) b6 2 (omega arith) ∙ ap (λ t. t && not b6) (sum-zero (worth b0 128 + worth b1 64 + worth b2 32 + worth b3 16 + worth b4 8) b5 4 (omega arith) ∙ ap (λ t. t && not b5) (sum-zero (worth b0 128 + worth b1 64 + worth b2 32 + worth b3 16) b4 8 (omega arith) ∙ ap (λ t. t && not b4) (sum-zero (worth b0 128 + worth b1 64 + worth b2 32) b3 16 (omega arith) ∙ ap (λ t. t && not b3) (sum-zero (worth b0 128 + worth b1 64) b2 32 (omega arith) ∙ ap (λ t. t && not b2) (sum-zero (worth b0 128) b1 64 (omega arith) ∙ ap (λ t. t && not b1) (worth-zero b0 128 (omega arith))))))))
 
+-- a row has a dot where one of its bytes is not 0
 any-bytes : (n : ℕ) (row : List Bool) → length row ≤ 8 * n → list_any (λ on. on) row ≡ not (list_all (λ byte. byte == 0) (packed_bytes n row))
 any-bytes zero [] few = refl
 any-bytes zero (b ∷ row) few = absurd (omega arith)

@@ -1,6 +1,6 @@
 -- What an ink fires in a pass, row by row.
-use Rattle.std.proofs.Common.{◌≡◌, ℕ, zero, suc, ◌+◌, ◌-◌, ◌*◌, ◌/◌, ◌≤◌, ◌==◌, nat_lt, Bool, true, false, if◌then◌else◌, List, [], ◌∷◌, ◌++◌, length, map, take, drop, Option, Some, None, refl, sym, ◌∙◌, ap, arith, append_assoc, append-nil, subst}
-use Rattle.std.specs.List.{AllByRecursion, flat_map}
+use Rattle.std.proofs.Common.{◌≡◌, ℕ, suc, ◌+◌, ◌*◌, ◌/◌, ◌≤◌, ◌==◌, nat_lt, Bool, true, false, if◌then◌else◌, List, [], ◌∷◌, ◌++◌, length, map, drop, Option, Some, None, refl, sym, ◌∙◌, ap, arith, append_assoc, append-nil, subst}
+use Rattle.std.specs.List.{flat_map}
 use Rattle.std.proofs.lemmas.List.{drop_at, length-map, length-replicate, take_at}
 use Rattle.dot_planes.specs.Tables.{DotTable, dot}
 use Rattle.escp2_definitions.specs.Canonical.{canonical_row}
@@ -20,6 +20,7 @@ use Rattle.page_writer.specs.Sums.{rasters_in}
 
 -- ---- rows as wide as their planes
 
+-- a row is as wide as its plane
 plane_row-len : (t : DotTable) (place : ℕ) (row : Option ℕ) → length (plane_row t place row) ≡ t.width
 plane_row-len t place None = length-replicate {A = Bool} t.width false
 plane_row-len t place (Some y) = length-map (count_from 0 t.width) (dot t place y) ∙ count_from-len 0 t.width
@@ -29,6 +30,7 @@ pub row-len : (t : DotTable) (plan : Weaving) (place pass nozzle : ℕ) → leng
 row-len t plan place pass nozzle =
     packed-len t.width (nozzle_plane_row t plan place pass nozzle) (plane_row-len t place (nozzle_row plan.nozzles plan.pitch plan.height pass nozzle))
 
+-- so is each of the rows
 rows-wide : (t : DotTable) (plan : Weaving) (place pass : ℕ) (nozzles : List ℕ) → AllWide t.width (map (nozzle_plane_row t plan place pass) nozzles)
 rows-wide t plan place pass [] = tt
 rows-wide t plan place pass (nozzle ∷ nozzles) =
@@ -77,6 +79,7 @@ fired-bytes head ink rows fires coded many wide =
 pub record RowsSoFar (t : DotTable) (plan : Weaving) (place pass : ℕ) (whole out : List ℕ) (nozzle left : ℕ) : Type 0 where
   pub is : whole ≡ out ++ codes_of (map (nozzle_plane_row t plan place pass) (count_from nozzle left))
 
+-- no row is appended
 pub rows_begin : (t : DotTable) (plan : Weaving) (place pass : ℕ) (head : RasterHead) (ink : Ink) (old out : List ℕ) (left : ℕ)
     → has_dot (plane_rows t plan place pass) ≡ true → head.c ≡ 1 → head.m ≡ plan.nozzles → head.n ≡ t.width → left ≡ plan.nozzles
     → out ≡ old ++ head_of head ink
@@ -93,6 +96,7 @@ rows_begin t plan place pass head ink old out left fires coded nozzles columns a
           ∙ ap (λ n. out ++ codes_of (map (nozzle_plane_row t plan place pass) (count_from 0 n))) (sym all);
     }
 
+-- one more row is appended
 pub rows_step : (t : DotTable) (plan : Weaving) (place pass : ℕ) (whole out out' row : List ℕ) (nozzle left next : ℕ)
     → RowsSoFar t plan place pass whole out nozzle left → left ≡ suc next → row ≡ packed (nozzle_plane_row t plan place pass nozzle)
     → out' ≡ out ++ canonical_row row → RowsSoFar t plan place pass whole out' (nozzle + 1) next
@@ -107,6 +111,7 @@ rows_step t plan place pass whole out out' row nozzle left next so_far more is a
           ∙ ap (λ bs. bs ++ later) (sym appended);
     }
 
+-- all rows are appended
 pub rows_end : (t : DotTable) (plan : Weaving) (place pass : ℕ) (whole out : List ℕ) (nozzle left : ℕ) → RowsSoFar t plan place pass whole out nozzle left
     → left ≡ 0 → out ≡ whole
 rows_end t plan place pass whole out nozzle left so_far none =
@@ -139,6 +144,7 @@ none_counted head ink rows none =
     let raster : Spoken = record { command = c.Raster head; rows = flat_map packed rows } in
     sym (ap (λ b. rasters_in (if b then say (c.Colour ink) ∷ say c.Return ∷ raster ∷ [] else [])) none)
 
+-- one raster, where it has a dot
 pub one_counted : (head : RasterHead) (ink : Ink) (rows : List (List Bool)) → has_dot rows ≡ true → 1 ≡ rasters_in (rows_commands head ink rows)
 one_counted head ink rows fires =
     let raster : Spoken = record { command = c.Raster head; rows = flat_map packed rows } in

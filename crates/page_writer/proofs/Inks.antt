@@ -1,14 +1,13 @@
 -- What the inks fire in a pass, one after another.
-use Rattle.std.proofs.Common.{◌≡◌, ℕ, zero, suc, ◌+◌, ◌-◌, ◌*◌, ◌/◌, ◌<◌, ◌≤◌, ◌||◌, nat_lt, Bool, true, false, if◌then◌else◌, List, [], ◌∷◌, ◌++◌, length, map, drop, replicate, Option, Some, None, refl, sym, ◌∙◌, ap, arith, append_assoc, append-nil}
+use Rattle.std.proofs.Common.{◌≡◌, ℕ, zero, suc, ◌+◌, ◌*◌, ◌/◌, ◌<◌, ◌≤◌, ◌||◌, nat_lt, Bool, true, false, List, [], ◌∷◌, ◌++◌, length, map, drop, replicate, Option, Some, None, refl, sym, ◌∙◌, ap, arith, append_assoc, append-nil}
 use Rattle.std.specs.Prelude.{slice_get}
 use Rattle.std.specs.List.{flat_map, list_any}
 use Rattle.std.proofs.lemmas.Bool.{lt-ltb}
 use Rattle.dot_planes.specs.Tables.{DotTable, dot}
 use Rattle.escp2_definitions.specs.Canonical.{canonical_row}
 use Rattle.escp2_definitions.specs.declared.command.RasterHead.{RasterHead}
-use Rattle.escp2_definitions.specs.Rasters.{raster_count}
 use Rattle.page_definitions.specs.Dots.{Halftone}
-use Rattle.page_definitions.specs.PageBytes.{dot_row, fired_row, pass_rows, pass_stroke}
+use Rattle.page_definitions.specs.PageBytes.{fired_row, pass_rows, pass_stroke}
 use Rattle.page_definitions.specs.Strokes.{Spoken, bytes_of, fires, has_dot, ink_commands, inks_commands, raster_head}
 use Rattle.page_laws.proofs.Passes.{nozzle_row-is}
 use Rattle.page_laws.proofs.Printed.{bytes-append}
@@ -35,6 +34,7 @@ map-counted f g n (suc many) same =
     ap (λ x. x ∷ map f (count_from (n + 1) many)) (same n (omega arith))
     ∙ ap (λ xs. g n ∷ xs) (map-counted f g (n + 1) many (λ x low. same x (omega arith)))
 
+-- a row that a nozzle fires
 plane_row-is : (p : Printer) (t : DotTable) (h : Halftone) (place : ℕ) (ink : Ink) → Shows p t h → slice_get (inks_of p.inks) place ≡ Some ink
     → (row : Option ℕ) → ((y : ℕ) → row ≡ Some y → y < h.height) → fired_row h ink row ≡ plane_row t place row
 plane_row-is p t h place ink shows is None on = ap (λ n. replicate n false) (sym shows.width_is)
@@ -42,21 +42,23 @@ plane_row-is p t h place ink shows is (Some y) on =
     ap (λ n. map (h.dot ink y) (count_from 0 n)) (sym shows.width_is)
     ∙ map-counted (h.dot ink y) (dot t place y) 0 t.width (λ x low. sym (shows.dots place y x ink is (on y refl) (omega (arith, low, shows.width_is))))
 
+-- the rows of an ink in a pass
 pub pass_rows-are : (p : Printer) (plan : Weaving) (t : DotTable) (h : Halftone) (place pass : ℕ) (ink : Ink) → Suits p plan t → Shows p t h
     → slice_get (inks_of p.inks) place ≡ Some ink → pass_rows p h pass ink ≡ plane_rows t plan place pass
 pass_rows-are p plan t h place pass ink suits shows is =
     let tall : h.height ≡ plan.height = sym shows.rows_is ∙ sym suits.height in
     let same : (i : ℕ) → fired_row h ink (nozzle_row p.nozzles p.pitch h.height pass i) ≡ nozzle_plane_row t plan place pass i =
     λ i. plane_row-is p t h place ink shows is (nozzle_row p.nozzles p.pitch h.height pass i)
-        (λ y e. (nozzle_row-is p.nozzles p.pitch h.height pass i y e).low)
-        ∙ ap (λ n. plane_row t place (nozzle_row n p.pitch h.height pass i)) (sym suits.nozzles)
-        ∙ ap (λ n. plane_row t place (nozzle_row plan.nozzles n h.height pass i)) (sym suits.pitch)
-        ∙ ap (λ n. plane_row t place (nozzle_row plan.nozzles plan.pitch n pass i)) tall in
+    (λ y e. (nozzle_row-is p.nozzles p.pitch h.height pass i y e).low)
+    ∙ ap (λ n. plane_row t place (nozzle_row n p.pitch h.height pass i)) (sym suits.nozzles)
+    ∙ ap (λ n. plane_row t place (nozzle_row plan.nozzles n h.height pass i)) (sym suits.pitch)
+    ∙ ap (λ n. plane_row t place (nozzle_row plan.nozzles plan.pitch n pass i)) tall in
     map-counted (λ i. fired_row h ink (nozzle_row p.nozzles p.pitch h.height pass i)) (nozzle_plane_row t plan place pass) 0 p.nozzles (λ i low. same i)
     ∙ ap (λ n. map (nozzle_plane_row t plan place pass) (count_from 0 n)) (sym suits.nozzles)
 
 -- ---- lists of commands
 
+-- the rasters of commands and of those behind them
 pub rasters-append : (xs ys : List Spoken) → rasters_in (xs ++ ys) ≡ rasters_in xs + rasters_in ys
 rasters-append [] ys = omega arith
 rasters-append (x ∷ xs) ys = omega (arith, rasters-append xs ys)
@@ -77,14 +79,17 @@ pub record InksSoFar (p : Printer) (h : Halftone) (pass : ℕ) (old out : List �
       ≡ rasters + rasters_in (flat_map (ink_commands p h.width 1 (pass_stroke p h pass)) (drop place (inks_of p.inks)))
   pub fire : fires p (pass_stroke p h pass) ≡ (nat_lt 0 rasters || list_any (λ ink. has_dot (pass_rows p h pass ink)) (drop place (inks_of p.inks)))
 
+-- no ink is appended
 pub inks_begin : (p : Printer) (h : Halftone) (pass : ℕ) (old : List ℕ) → InksSoFar p h pass old old 0 0
 inks_begin p h pass old = record { items = refl; rasters_are = omega arith; fire = refl }
 
+-- a sum is above 0 where one of its parts is
 lt-add : (m n : ℕ) (rest : Bool) → (nat_lt 0 m || (nat_lt 0 n || rest)) ≡ (nat_lt 0 (m + n) || rest)
 lt-add zero n rest = ap (λ k. nat_lt 0 k || rest) (let e : n ≡ 0 + n = omega arith in e)
 lt-add (suc m) n rest =
     ap (λ b. b || (nat_lt 0 n || rest)) (lt-ltb 0 (suc m) (omega arith)) ∙ sym (ap (λ b. b || rest) (lt-ltb 0 (suc m + n) (omega arith)))
 
+-- one more ink is appended
 pub inks_step : (p : Printer) (plan : Weaving) (t : DotTable) (h : Halftone) (pass : ℕ) (old out out' : List ℕ) (head : RasterHead) (ink : Ink) (rasters place one : ℕ)
     → InksSoFar p h pass old out rasters place → Suits p plan t → Shows p t h → slice_get (inks_of p.inks) place ≡ Some ink → head ≡ raster_head p t.width 1
     → out' ≡ out ++ bytes_of canonical_row (rows_commands head ink (plane_rows t plan place pass))
@@ -117,16 +122,19 @@ inks_step p plan t h pass old out out' head ink rasters place one so_far suits s
           ∙ lt-add rasters one has;
     }
 
+-- a test, or none
 or-false : (b : Bool) → (b || false) ≡ b
 or-false true = refl
 or-false false = refl
 
+-- no ink is left
 drop-all : (inks : List Ink) (place : ℕ) → length inks ≤ place → drop place inks ≡ []
 drop-all [] zero all = refl
 drop-all [] (suc place) all = refl
 drop-all (i ∷ inks) zero all = absurd (omega arith)
 drop-all (i ∷ inks) (suc place) all = drop-all inks place (omega arith)
 
+-- all inks are appended
 pub inks_end : (p : Printer) (h : Halftone) (pass : ℕ) (old out : List ℕ) (rasters place : ℕ) → InksSoFar p h pass old out rasters place → length (inks_of p.inks) ≤ place
     → IsPass p h pass old out rasters
 inks_end p h pass old out rasters place so_far all =
@@ -157,6 +165,7 @@ ink_most p head width columns is same = ap (λ (h : RasterHead). 12 + 2 * h.m * 
 
 -- ---- the most bytes
 
+-- a set has four inks at most
 inks_few : (set : InkSet) → length (inks_of set) ≤ 4
 inks_few K = omega arith
 inks_few Cmy = omega arith

@@ -1,5 +1,5 @@
 -- The bytes of a pass.
-use Rattle.std.proofs.Common.{◌≡◌, ℕ, zero, suc, ◌*◌, nat_lt, true, false, if◌then◌else◌, List, [], ◌++◌, length, Option, refl, sym, ◌∙◌, ap, arith, subst, Result, Ok, Err, OnErr, OnOk}
+use Rattle.std.proofs.Common.{◌≡◌, ℕ, ◌*◌, nat_lt, true, false, if◌then◌else◌, List, [], ◌++◌, Option, sym, ◌∙◌, ap, arith, subst}
 use Rattle.std.specs.Io.KnownBytes.{Appends}
 use Rattle.std.proofs.KnownBytes.{Appends-nil}
 use Rattle.std.proofs.lemmas.Bool.{lt-ltb}

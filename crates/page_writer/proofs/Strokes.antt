@@ -39,6 +39,7 @@ record NextPass (p : Printer) (h : Halftone) (last pass next behind : ℕ) : Typ
       ≡ (if fires p (pass_stroke p h pass) then rasters_in (inks_commands p h.width 1 (pass_stroke p h pass)) else 0)
       + rasters_in (strokes_from p h behind (pass + 1) next)
 
+-- each pass is the next of those from it on
 next-pass : (p : Printer) (h : Halftone) (last pass next behind : ℕ) → behind ≡ (if fires p (pass_stroke p h pass) then pass * p.nozzles else last)
     → NextPass p h last pass next behind
 next-pass p h last pass next behind is = by_fire (fires p (pass_stroke p h pass)) refl
@@ -107,6 +108,7 @@ pub record PassesSoFar (old now : Option (List ℕ)) (p : Printer) (h : Halftone
   pub is : bytes_of canonical_row (fired_strokes p h) ≡ sent ++ bytes_of canonical_row (strokes_from p h last pass left)
   pub rasters_are : rasters_in (fired_strokes p h) ≡ rasters + rasters_in (strokes_from p h last pass left)
 
+-- no pass is written
 pub passes_begin : (held : Option (List ℕ)) (p : Printer) (h : Halftone) (left : ℕ) → left ≡ pass_count p.nozzles p.pitch h.height → PassesSoFar held held p h 0 0 0 0 left
 passes_begin held p h left all = record {
   sent = [];
@@ -116,6 +118,7 @@ passes_begin held p h left all = record {
   rasters_are = ap (λ n. rasters_in (strokes_from p h 0 0 n)) (sym all) ∙ omega arith;
 }
 
+-- one more pass is written
 pub passes_step : (old now now' : Option (List ℕ)) (p : Printer) (h : Halftone) (bytes rasters last pass left next behind down : ℕ) (done : PageSum)
     → PassesSoFar old now p h bytes rasters last pass left → left ≡ suc next → Appends now now' (pass_bytes p h pass down) → IsPassSum p h pass down done
     → down ≡ pass * p.nozzles - last → behind ≡ (if nat_lt 0 done.rasters then pass * p.nozzles else last)

@@ -1,5 +1,5 @@
 -- A page, from its prologue to its end.
-use Rattle.std.proofs.Common.{◌≡◌, ℕ, zero, suc, ◌+◌, ◌-◌, ◌*◌, ◌/◌, ◌≤◌, ◌⊎◌, inl, inr, ◌==◌, Bool, if◌then◌else◌, List, [], ◌∷◌, ◌++◌, length, Option, Some, refl, sym, ◌∙◌, ap, subst, arith, length-append}
+use Rattle.std.proofs.Common.{◌≡◌, ℕ, zero, suc, ◌+◌, ◌-◌, ◌*◌, ◌≤◌, if◌then◌else◌, List, [], ◌∷◌, ◌++◌, length, Option, Some, refl, sym, ◌∙◌, ap, subst, arith, length-append}
 use Rattle.std.specs.Prelude.{slice_get}
 use Rattle.std.specs.Io.KnownBytes.{Appends}
 use Rattle.std.proofs.KnownBytes.{Appends-trans}
@@ -8,7 +8,7 @@ use Rattle.dot_planes.specs.Tables.{DotTable, dot}
 use Rattle.escp2_definitions.specs.Canonical.{canonical_row}
 use Rattle.escp2_definitions.specs.declared.command.Command.TheVariants as c
 use Rattle.page_definitions.specs.Dots.{Halftone}
-use Rattle.page_definitions.specs.PageBytes.{halftone_bytes, weave}
+use Rattle.page_definitions.specs.PageBytes.{halftone_bytes}
 use Rattle.page_definitions.specs.Strokes.{Spoken, bytes_of, prologue, say}
 use Rattle.page_laws.specs.Sized.{Sized}
 use Rattle.page_laws.proofs.Lengths.{halftone-short}
@@ -26,7 +26,6 @@ use Rattle.separation_definitions.specs.CanPrint.{CanPrint}
 use Rattle.separation_definitions.specs.Windows.{wanted_by, window_of}
 use Rattle.weave_base.specs.Parts.{AppendsPart}
 use Rattle.weave_base.proofs.Parting.{part_behind, part_of_front}
-use Rattle.weave_definitions.specs.Weave.{pass_count}
 use Rattle.page_writer.specs.Passes.{fired_strokes}
 use Rattle.page_writer.specs.Suits.{Shows, Suits, plan_of}
 use Rattle.page_writer.specs.Sums.{SumsUp, halftone_commands, most_of_page, rasters_in}
@@ -49,9 +48,11 @@ end_commands = say c.Eject ∷ say c.Init ∷ []
 abbrev pub strokes_bytes : Printer → Halftone → List ℕ
 strokes_bytes p h = bytes_of canonical_row (fired_strokes p h)
 
+-- the bytes behind the passes
 abbrev pub end_bytes : List ℕ
 end_bytes = bytes_of canonical_row (say c.Eject ∷ say c.Init ∷ [])
 
+-- the bytes of a page are those of its parts
 pub page_is : (p : Printer) (h : Halftone) (len length top bottom : ℕ) → length ≡ len → top ≡ (p.top - head_rows p) * row_units p → bottom ≡ (p.top + h.height) * row_units p
     → halftone_bytes p h len ≡ begin_bytes length top bottom ++ (strokes_bytes p h ++ end_bytes)
 unfolding halftone_bytes
@@ -65,30 +66,35 @@ page_is p h len length top bottom length_is top_is bottom_is =
 
 -- ---- what a page leaves in a sink
 
+-- all three were appended
 pub all_appended : (a b d e : Option (List ℕ)) (whole xs ys zs : List ℕ) → whole ≡ xs ++ (ys ++ zs) → Appends a b xs → Appends b d ys → Appends d e zs → Appends a e whole
 all_appended a b d e whole xs ys zs is p q s =
     let P : List ℕ → Type 0 = Appends a e in subst P (sym is) (Appends-trans a b e xs (ys ++ zs) p (Appends-trans b d e ys zs q s))
 
+-- the first was appended in part
 pub first_part : (a b : Option (List ℕ)) (whole xs ys : List ℕ) → whole ≡ xs ++ ys → AppendsPart a b xs → AppendsPart a b whole
 first_part a b whole xs ys is p = let P : List ℕ → Type 0 = AppendsPart a b in subst P (sym is) (part_of_front a b xs ys p)
 
+-- the second was appended in part
 pub middle_part : (a b d : Option (List ℕ)) (whole xs ys zs : List ℕ) → whole ≡ xs ++ (ys ++ zs) → Appends a b xs → AppendsPart b d ys → AppendsPart a d whole
 middle_part a b d whole xs ys zs is p q =
     let P : List ℕ → Type 0 = AppendsPart a d in subst P (sym is) (part_behind a b d xs (ys ++ zs) p (part_of_front b d ys zs q))
 
+-- the third was appended in part
 pub last_part : (a b d e : Option (List ℕ)) (whole xs ys zs : List ℕ) → whole ≡ xs ++ (ys ++ zs) → Appends a b xs → Appends b d ys → AppendsPart d e zs → AppendsPart a e whole
 last_part a b d e whole xs ys zs is p q s =
     let P : List ℕ → Type 0 = AppendsPart a e in subst P (sym is) (part_behind a b e xs (ys ++ zs) p (part_behind b d e ys zs q s))
 
 -- ---- what a page takes
 
+-- the sums of a page are those of its parts
 pub page_sums : (p : Printer) (h : Halftone) (len length' top bottom : ℕ) (sum : PageSum) (bytes : ℕ)
     → halftone_bytes p h len ≡ begin_bytes length' top bottom ++ (strokes_bytes p h ++ end_bytes)
     → bytes ≡ length (strokes_bytes p h) → sum.bytes ≡ 49 + bytes → sum.rasters ≡ rasters_in (fired_strokes p h) → SumsUp p h len sum
 page_sums p h len length' top bottom sum bytes is strokes all rasters = record {
   bytes = omega (arith, all, strokes, ap length is, length-append (begin_bytes length' top bottom) (strokes_bytes p h ++ end_bytes), length-append (strokes_bytes p h) end_bytes);
   rasters = rasters ∙ (let none : rasters_in (fired_strokes p h) ≡ rasters_in (halftone_commands p h len) =
-  omega (arith, rasters-append (prologue p (head_rows p) h.height len) (fired_strokes p h ++ end_commands), rasters-append (fired_strokes p h) end_commands) in none);
+      omega (arith, rasters-append (prologue p (head_rows p) h.height len) (fired_strokes p h ++ end_commands), rasters-append (fired_strokes p h) end_commands) in none);
 }
 
 -- ---- a page that the printer takes
@@ -106,6 +112,7 @@ on_sheet p t f can wanted width rows =
     let less : (p.top + t.rows) * row_units p ≤ f.height * row_units p = mul-le-mul_right (row_units p) size.low in
     omega (arith, less, size.short)
 
+-- planes of the window suit the printer
 pub planes_suit : (p : Printer) (t : DotTable) (f : PageForm) → CanPrint p → IsWanted (wanted_by p) f → t.width ≡ (window_of f p).width → t.rows ≡ (window_of f p).height
     → t.inks ≡ length (inks_of p.inks) → Suits p (plan_of p t) t
 planes_suit p t f can wanted width rows inks =
@@ -149,6 +156,7 @@ place_is Cmyk (suc (suc (suc (suc place)))) ink is = absurd (let no : ⊥ = cc i
 shown : Printer → DotTable → Halftone
 shown p t = record { width = t.width; height = t.rows; dot = λ ink y x. dot t (place_in (inks_of p.inks) ink) y x }
 
+-- the planes have the dots of that halftone
 planes_show : (p : Printer) (t : DotTable) → t.inks ≡ length (inks_of p.inks) → Shows p t (shown p t)
 unfolding shown
 planes_show p t inks = record {

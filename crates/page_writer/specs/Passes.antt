@@ -1,5 +1,5 @@
 -- What a pass of the head takes.
-use Rattle.std.specs.Prelude.{◌≡◌, ℕ, ◌*◌, Bool, nat_lt, if◌then◌else◌, List, [], ◌++◌, filter, length}
+use Rattle.std.specs.Prelude.{◌≡◌, ℕ, ◌*◌, nat_lt, if◌then◌else◌, List, [], ◌++◌, filter, length}
 use Rattle.escp2_definitions.specs.Canonical.{canonical_row}
 use Rattle.page_definitions.specs.Dots.{Halftone}
 use Rattle.page_definitions.specs.PageBytes.{pass_stroke, weave}

@@ -27,5 +27,6 @@ pub record SumsUp (p : Printer) (h : Halftone) (len : ℕ) (sum : PageSum) : Typ
 abbrev pub most_of_pass : Printer → ℕ → ℕ
 most_of_pass p width = 7 + length (inks_of p.inks) * (12 + 2 * p.nozzles * ((width + 7) / 8))
 
+-- the most bytes of a page over a window of this size
 abbrev pub most_of_page : Printer → ℕ → ℕ → ℕ
 most_of_page p width height = 49 + pass_count p.nozzles p.pitch height * most_of_pass p width

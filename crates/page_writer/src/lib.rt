@@ -12,10 +12,8 @@ mod sums;
 
 pub use dot_planes::Planes;
 pub use page::{WriteStop, write_page};
-
 pub use printer_profile::{PageForm, Profile, Window};
 pub use sums::{PageSum, most_bytes};
-
 
 #[cfg(test)]
 mod tests;

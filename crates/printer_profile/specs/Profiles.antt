@@ -2,7 +2,7 @@
 use Rattle.std.specs.Prelude.{ℕ, List, [], ◌∷◌, codes, find, Option}
 use Rattle.std.specs.Option.{option_map}
 use Rattle.std.specs.Str.{bytes_eq}
-use Rattle.printer_definitions.specs.Printer.{Printer}
+use Rattle.printer_definitions.specs.Printer.{Printer, tiny1 as plainest}
 use Rattle.printer_definitions.specs.declared.inks.InkSet.TheVariants.{K, Cmyk}
 use Rattle.printer_profile.specs.declared.fields.Profile.{Profile}
 
@@ -27,20 +27,24 @@ pub record Named : Type 0 where
   pub name : List ℕ
   pub profile : Profile
 
-abbrev pub tiny1 : Profile
-tiny1 = record {
-  hdpi = 360;
-  vdpi = 360;
-  nozzles = 1;
-  pitch = 1;
-  inks = K;
-  black_start = 0;
-  limits = 255 ∷ 255 ∷ 255 ∷ 255 ∷ [];
-  left = 0;
-  right = 0;
-  top = 0;
-  bottom = 0;
+-- the profile of a printer
+abbrev pub profile_of : Printer → Profile
+profile_of p = record {
+  hdpi = p.hdpi;
+  vdpi = p.vdpi;
+  nozzles = p.nozzles;
+  pitch = p.pitch;
+  inks = p.inks;
+  black_start = p.black_start;
+  limits = p.limits;
+  left = p.left;
+  right = p.right;
+  top = p.top;
+  bottom = p.bottom;
 }
+
+abbrev pub tiny1 : Profile
+tiny1 = profile_of plainest
 
 abbrev pub tiny : Profile
 tiny = record {

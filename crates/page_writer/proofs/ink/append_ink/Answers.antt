@@ -34,7 +34,7 @@ rows-preserved k =
     record {
       so_far = rows_step _ _ _ _ _ _ _ _ _ _ _ k.rows.invariant.so_far left k.fired_row.ensures k.append_row.ensures.items;
       room = let room : vec_len k.append_row.new.out + 2 * (k.args.head.m - (k.rows.nozzle + 1)) * ((k.args.head.n + 7) / 8) ≤ vec_capacity k.rows.out =
-      room_more _ _ _ _ _ _ left k.rows.invariant.room (omega (arith, k.append_row.ensures.most, len)) in omega (arith, room, k.append_row.ensures.capacity);
+          room_more _ _ _ _ _ _ left k.rows.invariant.room (omega (arith, k.append_row.ensures.most, len)) in omega (arith, room, k.append_row.ensures.capacity);
       most = room_more _ _ _ _ _ _ left k.rows.invariant.most (omega (arith, k.append_row.ensures.most, len));
       capacity = omega (arith, k.rows.invariant.capacity, k.append_row.ensures.capacity);
     }

@@ -1,4 +1,4 @@
-use Rattle.std.proofs.Common.{◌≡◌, ◌-◌, ◌+◌, ◌*◌, ◌<◌, ◌≤◌, suc, nat_lt, if◌then◌else◌, ap, ◌∙◌, sym, arith, subst, length}
+use Rattle.std.proofs.Common.{◌≡◌, ◌-◌, ◌+◌, ◌*◌, ◌≤◌, suc, nat_lt, if◌then◌else◌, ap, ◌∙◌, sym, arith, subst}
 use Rattle.weave_base.proofs.Parting.{on_err_anyway}
 use Rattle.printer_definitions.specs.Printer.{row_units}
 use Rattle.printer_profile.specs.Profiles.{printer_of}
@@ -43,7 +43,7 @@ returns-in_err-done-clause-part g c = λ h shows.
     let many : c.passes-pass-end.result ≡ pass_count c.args.p.now.nozzles c.args.p.now.pitch c.args.planes.now.rows =
     c.passes-pass-end.ensures ∙ ap (λ (v : Weaving). pass_count v.nozzles v.pitch v.height) c.make-plan.ensures ∙ ap (pass_count c.args.p.now.nozzles c.args.p.now.pitch) c.rows.ensures in
     let left : pass_count c.args.p.now.nozzles c.args.p.now.pitch c.args.planes.now.rows - c.passes.pass
-        ≡ suc (pass_count c.args.p.now.nozzles c.args.p.now.pitch c.args.planes.now.rows - (c.passes.pass + 1)) = omega (arith, many, c.passes-test.true) in
+    ≡ suc (pass_count c.args.p.now.nozzles c.args.p.now.pitch c.args.planes.now.rows - (c.passes.pass + 1)) = omega (arith, many, c.passes-test.true) in
     on_err_anyway _
     (passes_part _ _ _ _ _ _ _ _ _ _ _ _ (c.passes.invariant.so_far h shows) left (ap (λ n. c.passes.pass * n - c.passes.last) c.from.ensures) (c.in_err-done.ensures.part h shows))
 
@@ -52,7 +52,7 @@ passes-preserved g c =
     let many : c.passes-pass-end.result ≡ pass_count c.args.p.now.nozzles c.args.p.now.pitch c.args.planes.now.rows =
     c.passes-pass-end.ensures ∙ ap (λ (v : Weaving). pass_count v.nozzles v.pitch v.height) c.make-plan.ensures ∙ ap (pass_count c.args.p.now.nozzles c.args.p.now.pitch) c.rows.ensures in
     let left : pass_count c.args.p.now.nozzles c.args.p.now.pitch c.args.planes.now.rows - c.passes.pass
-        ≡ suc (pass_count c.args.p.now.nozzles c.args.p.now.pitch c.args.planes.now.rows - (c.passes.pass + 1)) = omega (arith, many, c.passes-test.true) in
+    ≡ suc (pass_count c.args.p.now.nozzles c.args.p.now.pitch c.args.planes.now.rows - (c.passes.pass + 1)) = omega (arith, many, c.passes-test.true) in
     let begin : c.passes.pass * c.from.result ≡ c.passes.pass * c.args.p.now.nozzles = ap (λ n. c.passes.pass * n) c.from.ensures in
     record {
       so_far = λ h shows. passes_step _ _ _ _ _ _ _ _ _ _ _ _ _ c.in_ok-done.done (c.passes.invariant.so_far h shows) left (c.in_ok-done.ensures.ok h shows) (c.in_ok-done.ensures.sum h shows)

@@ -1,4 +1,4 @@
-use Rattle.std.proofs.Common.{◌≡◌, ◌-◌, ◌+◌, ◌*◌, ◌≤◌, vec_capacity}
+use Rattle.std.proofs.Common.{◌-◌, ◌*◌, ◌≤◌, vec_capacity}
 use Rattle.page_definitions.specs.Dots.{Halftone}
 use Rattle.page_writer.specs.Suits.{Shows}
 use Rattle.page_writer.proofs.Strokes.{PassesSoFar}

@@ -1,4 +1,4 @@
-use Rattle.std.proofs.Common.{◌≡◌, ◌-◌, ◌+◌, ◌*◌, ◌/◌, ◌≤◌, suc, ap, ◌∙◌, sym, arith, vec_capacity, vec_len}
+use Rattle.std.proofs.Common.{◌≡◌, ◌-◌, ◌+◌, ◌*◌, ◌/◌, ◌≤◌, suc, ap, ◌∙◌, arith, vec_capacity, vec_len}
 use Rattle.page_definitions.specs.Strokes.{raster_head}
 use Rattle.printer_profile.specs.Profiles.{printer_of}
 use Rattle.page_writer.proofs.Inks.{inks_begin, inks_end, ink_most, inks_room_more, inks_room_one, inks_step}
@@ -30,7 +30,7 @@ inks-preserved c =
           (c.raster_head-head.ensures ∙ ap (λ n. raster_head (printer_of c.args.p.now) n 1) c.width.ensures) c.append_ink-rasters.ensures.items c.append_ink-rasters.ensures.rasters;
       few = omega (arith, c.inks.invariant.few, c.append_ink-rasters.ensures.few);
       room = let room : vec_len c.append_ink-rasters.new.out + (c.args.planes.now.inks - (c.inks.place + 1)) * (12 + 2 * c.args.p.now.nozzles * ((c.args.planes.now.width + 7) / 8)) ≤ vec_capacity c.inks.out =
-      inks_room_more _ _ _ _ _ _ left c.inks.invariant.room taken in omega (arith, room, c.append_ink-rasters.ensures.capacity);
+          inks_room_more _ _ _ _ _ _ left c.inks.invariant.room taken in omega (arith, room, c.append_ink-rasters.ensures.capacity);
       most = inks_room_more _ _ _ _ _ _ left c.inks.invariant.most taken;
       capacity = omega (arith, c.inks.invariant.capacity, c.append_ink-rasters.ensures.capacity);
     }

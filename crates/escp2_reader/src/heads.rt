@@ -1,0 +1,159 @@
+//! The bytes of a command before the rows of a raster (ESC/P Reference Manual, graphics commands).
+ghost use Rattle.escp2_definitions.specs.Commands.{command_at, escape, is_between};
+ghost use Rattle.escp2_reader.specs.Heads.{IsRead};
+ghost use Rattle.std.specs.Prelude.{◌∷◌, ◌≡◌};
+
+use crate::sized::after_paren;
+use crate::{Command, JobCause, RasterHead};
+use weave_base::Ink;
+
+/// What gathered bytes of a command come to.
+#[derive(Clone, Copy)]
+pub(crate) enum HeadState {
+    /// Less than a command, or than the numbers of a raster.
+    Part,
+    Whole(Command),
+    /// A raster, whose rows follow.
+    Rows(RasterHead),
+    /// A fault, at this place of the command.
+    Fault { place: u8, cause: JobCause },
+}
+
+/// No command goes on with the byte at this place.
+pub(crate) fn unknown(place: u8) -> HeadState
+    ensures { result ≡ HeadState.Fault place JobCause.Unknown }
+{
+    HeadState::Fault {
+        place,
+        cause: JobCause::Unknown,
+    }
+}
+
+/// A number at this place is out of its range.
+pub(crate) fn bad_value(place: u8) -> HeadState
+    ensures { result ≡ HeadState.Fault place JobCause.BadValue }
+{
+    HeadState::Fault {
+        place,
+        cause: JobCause::BadValue,
+    }
+}
+
+pub(crate) fn is_in(low: u16, high: u16, n: u16) -> bool
+    ensures { result ≡ is_between low high n }
+{
+    low <= n && n <= high
+}
+
+/// What the bytes of a command come to, gathered so far.
+#[tactic(auto, unfolding(escp2_definitions::specs::Commands::command_at))]
+pub(crate) fn head_of(bytes: &[u8]) -> HeadState
+    ensures { IsRead result 0 command_at bytes.now }
+{
+    match bytes {
+        [] => HeadState::Part,
+        [0x1B, rest @ ..] => after_escape(rest),
+        [b'\r', ..] => HeadState::Whole(Command::Return),
+        [0x0C, ..] => HeadState::Whole(Command::Eject),
+        _ => unknown(0),
+    }
+}
+
+/// What `ESC` goes on with.
+fn after_escape(bytes: &[u8]) -> HeadState
+    ensures { IsRead result 1 escape bytes.now }
+{
+    match bytes {
+        [] => HeadState::Part,
+        [b'@', ..] => HeadState::Whole(Command::Init),
+        [b'U', rest @ ..] => one_way(rest),
+        [b'$', rest @ ..] => across(rest),
+        [b'r', rest @ ..] => colour(rest),
+        [b'.', rest @ ..] => raster(rest),
+        [b'(', rest @ ..] => after_paren(rest),
+        _ => unknown(1),
+    }
+}
+
+fn one_way(bytes: &[u8]) -> HeadState
+    ensures { IsRead result 1 escape (0x55 ∷ bytes.now) }
+{
+    let [n, ..] = *bytes else {
+        return HeadState::Part;
+    };
+    if n > 1 {
+        return bad_value(2);
+    }
+    HeadState::Whole(Command::OneWay { n })
+}
+
+fn across(bytes: &[u8]) -> HeadState
+    ensures { IsRead result 1 escape (0x24 ∷ bytes.now) }
+{
+    let [low, high, ..] = *bytes else {
+        return HeadState::Part;
+    };
+    let n = u16::from_le_bytes([low, high]);
+    if n > 32_767 {
+        return bad_value(2);
+    }
+    HeadState::Whole(Command::Across { n })
+}
+
+fn colour(bytes: &[u8]) -> HeadState
+    ensures { IsRead result 1 escape (0x72 ∷ bytes.now) }
+{
+    let ink = match bytes {
+        [] => return HeadState::Part,
+        [0, ..] => Ink::Black,
+        [1, ..] => Ink::Magenta,
+        [2, ..] => Ink::Cyan,
+        [4, ..] => Ink::Yellow,
+        _ => return bad_value(2),
+    };
+    HeadState::Whole(Command::Colour { ink })
+}
+
+/// The numbers of a raster.
+fn raster(bytes: &[u8]) -> HeadState
+    ensures { IsRead result 1 escape (0x2E ∷ bytes.now) }
+{
+    let [c, rest @ ..] = bytes else {
+        return HeadState::Part;
+    };
+    if *c > 1 {
+        return bad_value(2);
+    }
+    let [v, rest @ ..] = rest else {
+        return HeadState::Part;
+    };
+    if *v == 0 {
+        return bad_value(3);
+    }
+    let [h, rest @ ..] = rest else {
+        return HeadState::Part;
+    };
+    if *h == 0 {
+        return bad_value(4);
+    }
+    let [m, rest @ ..] = rest else {
+        return HeadState::Part;
+    };
+    if *m == 0 {
+        return bad_value(5);
+    }
+    let [low, high, ..] = rest else {
+        return HeadState::Part;
+    };
+    let n = u16::from_le_bytes([*low, *high]);
+    if !is_in(1, 8_191, n) {
+        return bad_value(6);
+    }
+    HeadState::Rows(RasterHead {
+        c: *c,
+        v: *v,
+        h: *h,
+        m: *m,
+        n,
+    })
+}

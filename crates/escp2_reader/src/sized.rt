@@ -1,0 +1,174 @@
+//! The commands that tell their length: `ESC (`, a letter, how many bytes follow, and these.
+ghost use Rattle.escp2_definitions.specs.Commands.{escape};
+ghost use Rattle.escp2_reader.specs.Heads.{IsLength, IsRead};
+ghost use Rattle.std.specs.Prelude.{◌∷◌, ◌≡◌};
+
+use crate::heads::{HeadState, bad_value, is_in, unknown};
+use crate::{Command, JobCause};
+
+/// What stands where a command tells its length, in two bytes.
+#[derive(Clone, Copy)]
+enum LengthState<'a> {
+    /// A part of it.
+    Part,
+    /// Another length than the command's, seen at this place of the command.
+    Wrong(u8),
+    /// The command's length, and the bytes behind it.
+    Right(&'a [u8]),
+}
+
+/// What `ESC (` goes on with.
+pub(crate) fn after_paren(bytes: &[u8]) -> HeadState
+    ensures { IsRead result 1 escape (0x28 ∷ bytes.now) }
+{
+    match bytes {
+        [] => HeadState::Part,
+        [b'G', rest @ ..] => graphics(rest),
+        [b'U', rest @ ..] => unit(rest),
+        [b'i', rest @ ..] => micro_weave(rest),
+        [b'C', rest @ ..] => page_length(rest),
+        [b'c', rest @ ..] => margins(rest),
+        [b'V', rest @ ..] => down_to(rest),
+        [b'v', rest @ ..] => down_by(rest),
+        _ => unknown(2),
+    }
+}
+
+fn length_of(len: u8, bytes: &[u8]) -> LengthState
+    ensures { IsLength result len bytes.now }
+{
+    let [low, rest @ ..] = bytes else {
+        return LengthState::Part;
+    };
+    if *low != len {
+        return LengthState::Wrong(3);
+    }
+    let [high, rest @ ..] = rest else {
+        return LengthState::Part;
+    };
+    if *high != 0 {
+        return LengthState::Wrong(4);
+    }
+    LengthState::Right(rest)
+}
+
+fn bad_length(place: u8) -> HeadState
+    ensures { result ≡ HeadState.Fault place JobCause.BadLength }
+{
+    HeadState::Fault {
+        place,
+        cause: JobCause::BadLength,
+    }
+}
+
+fn graphics(bytes: &[u8]) -> HeadState
+    ensures { IsRead result 1 escape (0x28 ∷ 0x47 ∷ bytes.now) }
+{
+    match length_of(1, bytes) {
+        LengthState::Part => HeadState::Part,
+        LengthState::Wrong(place) => bad_length(place),
+        LengthState::Right([]) => HeadState::Part,
+        LengthState::Right([1, ..]) => HeadState::Whole(Command::Graphics),
+        LengthState::Right(_) => bad_value(5),
+    }
+}
+
+fn unit(bytes: &[u8]) -> HeadState
+    ensures { IsRead result 1 escape (0x28 ∷ 0x55 ∷ bytes.now) }
+{
+    match length_of(1, bytes) {
+        LengthState::Part => HeadState::Part,
+        LengthState::Wrong(place) => bad_length(place),
+        LengthState::Right([]) => HeadState::Part,
+        LengthState::Right([0, ..]) => bad_value(5),
+        LengthState::Right([m, ..]) => HeadState::Whole(Command::Unit { m: *m }),
+    }
+}
+
+fn micro_weave(bytes: &[u8]) -> HeadState
+    ensures { IsRead result 1 escape (0x28 ∷ 0x69 ∷ bytes.now) }
+{
+    match length_of(1, bytes) {
+        LengthState::Part => HeadState::Part,
+        LengthState::Wrong(place) => bad_length(place),
+        LengthState::Right([]) => HeadState::Part,
+        LengthState::Right([0, ..]) => HeadState::Whole(Command::MicroWeave { n: 0 }),
+        LengthState::Right(_) => bad_value(5),
+    }
+}
+
+fn page_length(bytes: &[u8]) -> HeadState
+    ensures { IsRead result 1 escape (0x28 ∷ 0x43 ∷ bytes.now) }
+{
+    match length_of(2, bytes) {
+        LengthState::Part => HeadState::Part,
+        LengthState::Wrong(place) => bad_length(place),
+        LengthState::Right([low, high, ..]) => {
+            let n = u16::from_le_bytes([*low, *high]);
+            if !is_in(1, 32_767, n) {
+                return bad_value(5);
+            }
+            HeadState::Whole(Command::Length { n })
+        }
+        LengthState::Right(_) => HeadState::Part,
+    }
+}
+
+fn down_to(bytes: &[u8]) -> HeadState
+    ensures { IsRead result 1 escape (0x28 ∷ 0x56 ∷ bytes.now) }
+{
+    match length_of(2, bytes) {
+        LengthState::Part => HeadState::Part,
+        LengthState::Wrong(place) => bad_length(place),
+        LengthState::Right([low, high, ..]) => {
+            let n = u16::from_le_bytes([*low, *high]);
+            if n > 32_767 {
+                return bad_value(5);
+            }
+            HeadState::Whole(Command::DownTo { n })
+        }
+        LengthState::Right(_) => HeadState::Part,
+    }
+}
+
+fn down_by(bytes: &[u8]) -> HeadState
+    ensures { IsRead result 1 escape (0x28 ∷ 0x76 ∷ bytes.now) }
+{
+    match length_of(2, bytes) {
+        LengthState::Part => HeadState::Part,
+        LengthState::Wrong(place) => bad_length(place),
+        LengthState::Right([low, high, ..]) => {
+            let n = u16::from_le_bytes([*low, *high]);
+            if n > 32_767 {
+                return bad_value(5);
+            }
+            HeadState::Whole(Command::DownBy { n })
+        }
+        LengthState::Right(_) => HeadState::Part,
+    }
+}
+
+fn margins(bytes: &[u8]) -> HeadState
+    ensures { IsRead result 1 escape (0x28 ∷ 0x63 ∷ bytes.now) }
+{
+    let rest = match length_of(4, bytes) {
+        LengthState::Part => return HeadState::Part,
+        LengthState::Wrong(place) => return bad_length(place),
+        LengthState::Right(rest) => rest,
+    };
+    let [low, high, rest @ ..] = rest else {
+        return HeadState::Part;
+    };
+    let top = u16::from_le_bytes([*low, *high]);
+    if top > 32_767 {
+        return bad_value(5);
+    }
+    let [low, high, ..] = rest else {
+        return HeadState::Part;
+    };
+    let bottom = u16::from_le_bytes([*low, *high]);
+    if !is_in(top + 1, 32_767, bottom) {
+        return bad_value(7);
+    }
+    HeadState::Whole(Command::Margins { top, bottom })
+}
