@@ -33,9 +33,7 @@ fn the_shelf_is_asked_for_what_is_not_built_in(rt: HostRuntime) -> Result<(), Fa
     let tiny1 = built_in("tiny1").ok_or("tiny1")?;
     let text = Vec::from_slice(alloc, b"no profile")?;
     let mut shelf = shelf(alloc, "tiny1", text, vec![in alloc; 1]?)?;
-    for command in [Verb::Profile] {
-        assert_eq!(rt; find_profile(alloc, &mut shelf, "tiny1"), Ok(tiny1));
-    }
+    assert_eq!(rt; find_profile(alloc, &mut shelf, "tiny1"), Ok(tiny1));
     assert_eq!(rt;
         find_profile(alloc, &mut shelf, "own"),
         Err(ProfileStop::Failed)
