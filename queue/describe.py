@@ -1,0 +1,207 @@
+#!/usr/bin/python3
+"""Describes a printer to CUPS: reads the text of a profile on standard input and writes a description on standard output.
+
+    driver_program profile profile=NAME | describe.py ppd NAME [paper|labels]
+    driver_program profile profile=NAME | describe.py attributes NAME [paper|labels]
+
+`ppd` writes a PPD for a queue, in which the text of the profile stands, `attributes` the attributes of an IPP printer for
+`ippeveprinter -a`. Resolution, margins and colours are those of the profile. NAME is what users see. The last word chooses the sizes of
+sheets that are offered, of which those that the driver takes at the profile's resolution are kept.
+"""
+import math
+import sys
+from collections import namedtuple
+
+MOST_COLUMNS = 8191
+MOST_INCHES = 22
+SHORTEST = 36  # points of a custom sheet inside the margins
+
+# The name in a PPD, the text that users see, the name in IPP, and the width and height in millimetres
+Sheet = namedtuple("Sheet", "name text ipp_name width height")
+SHEETS = {
+    "paper": [
+        Sheet("A4", "A4", "iso_a4_210x297mm", 210, 297),
+        Sheet("A3", "A3", "iso_a3_297x420mm", 297, 420),
+        Sheet("A5", "A5", "iso_a5_148x210mm", 148, 210),
+        Sheet("A6", "A6", "iso_a6_105x148mm", 105, 148),
+        Sheet("Letter", "US Letter", "na_letter_8.5x11in", 215.9, 279.4),
+        Sheet("Legal", "US Legal", "na_legal_8.5x14in", 215.9, 355.6),
+        Sheet("4x6", "Photo 4 x 6 inch", "na_index-4x6_4x6in", 101.6, 152.4),
+    ],
+    "labels": [
+        Sheet("w176h82", "Label 62 x 29 mm", "om_label-62x29_62x29mm", 62, 29),
+        Sheet("w176h283", "Label 62 x 100 mm", "om_label-62x100_62x100mm", 62, 100),
+        Sheet("w82h255", "Label 29 x 90 mm", "om_label-29x90_29x90mm", 29, 90),
+        Sheet("4x6", "Label 4 x 6 inch", "na_index-4x6_4x6in", 101.6, 152.4),
+    ],
+}
+
+PIXELS = {
+    "Gray": ("Grayscale", 18),
+    "RGB": ("Color", 19),
+}
+
+KERNELS = [("fs", "Floyd and Steinberg"), ("jjn", "Jarvis, Judice and Ninke"), ("stucki", "Stucki")]
+
+
+class Profile:
+    """A profile as `driver_program profile` prints it: each key is there, each number is valid."""
+
+    def __init__(self, text):
+        pairs = dict(line.split("=", 1) for line in text.splitlines() if "=" in line)
+        self.text = text
+        self.across, self.down = int(pairs["hdpi"]), int(pairs["vdpi"])
+        self.left, self.right = (int(pairs[key]) / self.across for key in ("left", "right"))  # inches
+        self.top, self.bottom = (int(pairs[key]) / self.down for key in ("top", "bottom"))
+        self.models = ["Gray"] if pairs["inks"] == "k" else ["RGB", "Gray"]
+
+    def takes(self, sheet):
+        return sheet.width / 25.4 * self.across <= MOST_COLUMNS and sheet.height / 25.4 <= MOST_INCHES
+
+
+def points(millimetres):
+    return round(millimetres * 72 / 25.4)
+
+
+def ppd(profile, name, sheets):
+    """The PPD, in which no line *PWGRaster stands: with that line, options of a job would override ColorModel and Resolution."""
+    return "\n".join([
+        ppd_head(profile, name), ppd_filters(), ppd_profile(profile), ppd_sheets(profile, sheets), ppd_custom_sheet(profile),
+        ppd_choices(profile), '*DefaultFont: Courier\n*Font Courier: Standard "(1.05)" Standard ROM', ""])
+
+
+def ppd_head(profile, name):
+    colour = profile.models[0] == "RGB"
+    return f'''*PPD-Adobe: "4.3"
+*FormatVersion: "4.3"
+*FileVersion: "1.0"
+*LanguageVersion: English
+*LanguageEncoding: ISOLatin1
+*PCFileName: "{name[:8].upper()}.PPD"
+*Product: "(Jinthbao {name})"
+*Manufacturer: "Jinthbao"
+*ModelName: "Jinthbao {name}"
+*ShortNickName: "Jinthbao {name}"
+*NickName: "Jinthbao {name}, PWG Raster to ESC/P2"
+*PSVersion: "(3010.000) 0"
+*LanguageLevel: "3"
+*ColorDevice: {colour}
+*DefaultColorSpace: {"RGB" if colour else "Gray"}
+*FileSystem: False
+*Throughput: "1"
+*LandscapeOrientation: Plus90
+*TTRasterizer: Type42
+*cupsVersion: 2.4
+*cupsLanguages: "en"'''
+
+
+def ppd_filters():
+    """The costs steer CUPS: a PDF goes by CUPS Raster, for 0 is below 10, and a PWG file comes as it is, for 10 is below 197, the
+    cost of the way by a PDF. The filters before this one make the copies."""
+    return '''*cupsFilter2: "application/vnd.cups-raster application/vnd.cups-raw 0 rastertojinthbao"
+*cupsFilter2: "image/pwg-raster application/vnd.cups-raw 10 rastertojinthbao"
+*cupsManualCopies: True'''
+
+
+def ppd_profile(profile):
+    return f'*jinthbaoProfile: "\n{profile.text.strip()}\n"\n*End'
+
+
+def ppd_option(key, text, choices, order):
+    """An option whose first choice is the default; a choice is its name, its text and its PostScript."""
+    lines = [f"*OpenUI *{key}/{text}: PickOne", f"*OrderDependency: {order} AnySetup *{key}", f"*Default{key}: {choices[0][0]}"]
+    lines += [f'*{key} {name}/{shown}: "{code}"' for name, shown, code in choices]
+    return "\n".join(lines + [f"*CloseUI: *{key}"])
+
+
+def ppd_sheets(profile, sheets):
+    choices = [(sheet.name, sheet.text,
+                f"<</PageSize[{points(sheet.width)} {points(sheet.height)}]/ImagingBBox null>>setpagedevice") for sheet in sheets]
+    lines = [ppd_option("PageSize", "Media Size", choices, 10), ppd_option("PageRegion", "Media Size", choices, 10)]
+    lines += [f"*DefaultImageableArea: {sheets[0].name}", f"*DefaultPaperDimension: {sheets[0].name}"]
+    for sheet in sheets:
+        width, height = points(sheet.width), points(sheet.height)
+        left, bottom, right, top = profile.left * 72, profile.bottom * 72, width - profile.right * 72, height - profile.top * 72
+        lines.append(f'*ImageableArea {sheet.name}/{sheet.text}: "{left:g} {bottom:g} {right:g} {top:g}"')
+        lines.append(f'*PaperDimension {sheet.name}/{sheet.text}: "{width} {height}"')
+    return "\n".join(lines)
+
+
+def ppd_custom_sheet(profile):
+    left, bottom, right, top = (72 * margin for margin in (profile.left, profile.bottom, profile.right, profile.top))
+    widest, longest = MOST_COLUMNS * 72 // profile.across, MOST_INCHES * 72
+    return f'''*MaxMediaWidth: "{widest}"
+*MaxMediaHeight: "{longest}"
+*HWMargins: {left:g} {bottom:g} {right:g} {top:g}
+*CustomPageSize True: "pop pop pop <</PageSize[5 -2 roll]/ImagingBBox null>>setpagedevice"
+*ParamCustomPageSize Width: 1 points {math.ceil(left + right) + SHORTEST} {widest}
+*ParamCustomPageSize Height: 2 points {math.ceil(top + bottom) + SHORTEST} {longest}
+*ParamCustomPageSize WidthOffset: 3 points 0 0
+*ParamCustomPageSize HeightOffset: 4 points 0 0
+*ParamCustomPageSize Orientation: 5 int 0 0'''
+
+
+def ppd_choices(profile):
+    resolution = resolution_of(profile)
+    models = [(model, PIXELS[model][0], f"<</cupsColorSpace {PIXELS[model][1]}/cupsColorOrder 0/cupsBitsPerColor 8>>setpagedevice")
+              for model in profile.models]
+    return "\n".join([
+        ppd_option("Resolution", "Resolution", [(resolution, resolution.replace("dpi", " DPI"),
+                   f"<</HWResolution[{profile.across} {profile.down}]>>setpagedevice")], 10),
+        ppd_option("ColorModel", "Color Mode", models, 10),
+        ppd_option("Kernel", "Error Diffusion", [(name, text, "") for name, text in KERNELS], 20)])
+
+
+def resolution_of(profile):
+    return f"{profile.across}dpi" if profile.across == profile.down else f"{profile.across}x{profile.down}dpi"
+
+
+def attributes(profile, name, sheets):
+    """The attributes; lengths are in hundredths of a millimetre, and margins are rounded up."""
+    colour = profile.models[0] == "RGB"
+    names = ",".join(sheet.ipp_name for sheet in sheets)
+    mode = "color" if colour else "monochrome"
+    resolution = resolution_of(profile)
+    lines = [
+        f'ATTR text printer-make-and-model "Jinthbao {name}"',
+        f"ATTR boolean color-supported {str(colour).lower()}",
+        f"ATTR keyword print-color-mode-default {mode}",
+        f"ATTR keyword print-color-mode-supported {'color,monochrome' if colour else mode}",
+        "ATTR integer copies-default 1", "ATTR rangeOfInteger copies-supported 1-999",
+        "ATTR keyword sides-default one-sided", "ATTR keyword sides-supported one-sided",
+        "ATTR enum print-quality-default 4", "ATTR enum print-quality-supported 4",
+        f"ATTR resolution printer-resolution-default {resolution}", f"ATTR resolution printer-resolution-supported {resolution}",
+        f"ATTR resolution pwg-raster-document-resolution-supported {resolution}",
+        "ATTR keyword pwg-raster-document-sheet-back normal",
+        f"ATTR keyword pwg-raster-document-type-supported {'srgb_8,sgray_8' if colour else 'sgray_8'}",
+        f"ATTR keyword media-default {sheets[0].ipp_name}", f"ATTR keyword media-supported {names}",
+        f"ATTR keyword media-ready {sheets[0].ipp_name}"]
+    lines += [f"ATTR integer media-{side}-margin-supported {margin}" for side, margin in ipp_margins(profile)]
+    lines.append("ATTR collection media-size-supported " + ",".join(ipp_size(sheet) for sheet in sheets))
+    lines.append(f"ATTR collection media-col-default {{ MEMBER collection media-size {ipp_size(sheets[0])}")
+    lines += [f"    MEMBER integer media-{side}-margin {margin}" for side, margin in ipp_margins(profile)]
+    return "\n".join(lines + ["}", ""])
+
+
+def ipp_margins(profile):
+    return [(side, math.ceil(getattr(profile, side) * 2540)) for side in ("bottom", "left", "right", "top")]
+
+
+def ipp_size(sheet):
+    return f"{{ MEMBER integer x-dimension {round(sheet.width * 100)} MEMBER integer y-dimension {round(sheet.height * 100)} }}"
+
+
+def main(words):
+    descriptions = {"ppd": ppd, "attributes": attributes}
+    if len(words) not in (2, 3) or words[0] not in descriptions or words[2:] not in ([], ["paper"], ["labels"]):
+        sys.exit(__doc__)
+    text = sys.stdin.read()
+    if not text.startswith("escp2-profile 1\n"):
+        sys.exit("describe.py: standard input is not the text of a profile")
+    profile = Profile(text)
+    sheets = [sheet for sheet in SHEETS[(words[2:] or ["paper"])[0]] if profile.takes(sheet)]
+    sys.stdout.write(descriptions[words[0]](profile, words[1], sheets))
+
+
+if __name__ == "__main__":
+    main(sys.argv[1:])
