@@ -7,7 +7,7 @@ use std::process::Abort;
 use std::test::Fail;
 
 #[test]
-fn equal_bytes_are_written_as_one(rt: HostRuntime) -> Result<(), Fail> {
+fn a_blank_row_in_both_codes(rt: HostRuntime) -> Result<(), Fail> {
     let mut out = [0; 260];
     let len = code_row(&[0; 130], &mut out);
     assert_eq!(rt; &out[..len], [0x81, 0x00, 0x01, 0x00, 0x00].as_slice());

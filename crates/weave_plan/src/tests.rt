@@ -20,6 +20,19 @@ fn three_nozzles_two_rows_apart_fire_two_rows(rt: HostRuntime) {
     assert_eq!(rt; plan.place_of(1), PassPlace { pass: 1, nozzle: 1 });
 }
 
+#[test]
+fn the_plan_fires_rows_zero_and_one(rt: HostRuntime) {
+    let plan = Plan::make(15, 4, 2);
+    assert_eq!(rt;
+        plan.place_of(0),
+        PassPlace {
+            pass: 0,
+            nozzle: 14
+        }
+    );
+    assert_eq!(rt; plan.place_of(1), PassPlace { pass: 3, nozzle: 3 });
+}
+
 /// Seeks each row of a window among all passes and nozzles, and finds it once, where the plan says.
 fn seek_each_row(rt: &impl Abort, nozzles: u8, pitch: u8, height: u32)
     requires some_nozzles { 1 ≤ nozzles }
