@@ -1,0 +1,12 @@
+-- Pieces of unread bytes.
+use Rattle.std.proofs.Common.{◌≡◌, ℕ, ◌≤◌, List, ◌++◌, length, take, drop, sym, ap, ◌∙◌, arith, take-append-drop, length-take}
+use lib.Seq.{take-take}
+
+-- what was used of a piece is the front of the bytes
+pub piece_used : (unread piece rest : List ℕ) (room used : ℕ) → piece ≡ take room unread → rest ≡ drop used unread → used ≤ length piece
+    → unread ≡ take used piece ++ rest
+piece_used unread piece rest room used is left within =
+    let most : used ≤ room = omega (arith, ap length is, length-take room unread) in
+    sym (take-append-drop used unread)
+    ∙ ap (λ xs. xs ++ drop used unread) (sym (take-take used room unread most) ∙ ap (take used) (sym is))
+    ∙ ap (λ xs. take used piece ++ xs) (sym left)

@@ -1,0 +1,14 @@
+use Rattle.std.proofs.Common.{◌≡◌, ◌≤◌, ◌-◌}
+use Rattle.job_feed.specs.Feeding.{text_of}
+use Rattle.job_feed.proofs.Feeding.{GoesOn}
+use Rattle.job_feed.proofs.feed.JobFeed.next.Given as goal
+
+abbrev pub invariant-pieces : goal.invariant-pieces
+invariant-pieces g l = record {
+  goes : GoesOn l.fn.self l.self.reader l.self.fed l.self.most (text_of l.fn.self (g.S.Source.left l.fn.s)) (text_of l.self (g.S.Source.left l.s));
+  at : l.at ≡ l.fn.self.fed;
+  later : g.S.Source.faults l.fn.s ≤ g.S.Source.faults l.s;
+}
+
+abbrev pub decreases-pieces : goal.decreases-pieces
+decreases-pieces g l = l.self.most - l.self.fed

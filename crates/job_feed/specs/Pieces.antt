@@ -1,0 +1,14 @@
+-- A piece of a job that goes to the reader.
+use Rattle.std.specs.Prelude.{◌≡◌, ℕ, ◌+◌, ◌≤◌, List, ◌++◌, length}
+use Rattle.escp2_reader.specs.declared.reader.HeardState.{HeardState}
+use Rattle.escp2_reader.specs.Reading.{IsHeard, StandsFor, is_failed_of, shows_fault}
+use Rattle.job_feed.specs.declared.feed.JobFeed.{JobFeed}
+
+-- The first of the unread bytes went to the reader, one at least, and it heard this.
+pub record FeedsSome (old new : JobFeed) (state : HeardState) : Type 0 where
+  pub bytes : List ℕ
+  pub some : 1 ≤ length bytes
+  pub is : old.unread ≡ bytes ++ new.unread
+  pub fed : new.fed ≡ old.fed + length bytes
+  pub failed : is_failed_of new.reader ≡ shows_fault state
+  pub heard : (sofar : List ℕ) → StandsFor old.reader sofar → IsHeard state old.reader.begin new.reader (sofar ++ bytes)
