@@ -119,13 +119,13 @@ one-len bytes command rows len e =
     some (b ∷ front) told there = omega (arith, there)
 
 -- what the first command leaves of a job
-abbrev after : Heard → ℕ → ℕ → List ℕ → CommandList
+abbrev pub after : Heard → ℕ → ℕ → List ℕ → CommandList
 after (One command rows len) most at bytes = with_entry (record { at = at; command = command; rows = rows }) (commands_from most (at + len) (drop len bytes))
 after Part most at bytes = record { entries = []; end = Cut at }
 after (Wrong place cause) most at bytes = record { entries = []; end = Fault (at + place) cause }
 
 -- a job is its first command and what that leaves
-first-of : (most at b : ℕ) (bytes : List ℕ) → commands_from (suc most) at (b ∷ bytes) ≡ after (command_at (b ∷ bytes)) most at (b ∷ bytes)
+pub first-of : (most at b : ℕ) (bytes : List ℕ) → commands_from (suc most) at (b ∷ bytes) ≡ after (command_at (b ∷ bytes)) most at (b ∷ bytes)
 unfolding commands_from
 first-of most at b bytes = by_heard (command_at (b ∷ bytes))
   where

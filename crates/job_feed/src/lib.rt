@@ -2,6 +2,7 @@
 #![tactic(auto)]
 
 mod feed;
+pub mod laws;
 
 pub use escp2_definitions::{Command, JobStop};
 pub use feed::{FeedStop, JobFeed, PlacedCommand};

@@ -1,0 +1,20 @@
+-- Bytes that are gathered before they are written.
+use Rattle.std.specs.Prelude.{◌≡◌, ℕ, List, ◌++◌, take, Option}
+use Rattle.std.specs.Io.KnownBytes.{Appends}
+use Rattle.gathered_bytes.specs.declared.gathered.Gathered.{Gathered}
+
+-- the bytes that are gathered
+abbrev pub gathered : Gathered → List ℕ
+gathered g = take g.len g.bytes
+
+-- What a sink takes of bytes that are gathered, and what is left of them.
+pub record Passes (old new : Option (List ℕ)) (before after : List ℕ) : Type 0 where
+  pub sent : List ℕ
+  pub appends : Appends old new sent
+  pub is : before ≡ sent ++ after
+
+-- Of bytes that are gathered and these behind them a sink took some, and the rest is gathered.
+pub record Writes (old new : Option (List ℕ)) (before after bytes : List ℕ) : Type 0 where
+  pub sent : List ℕ
+  pub appends : Appends old new sent
+  pub is : before ++ bytes ≡ sent ++ after

@@ -1,0 +1,100 @@
+-- The listing of the commands that a feed gave.
+use Rattle.std.proofs.Common.{◌≡◌, ℕ, ◌≤◌, List, Option, Err, [], ◌∷◌, ◌++◌, sym, ◌∙◌, ap, subst, arith, append-nil}
+use Rattle.std.proofs.lemmas.List.Concat.{flat_map-append}
+use Rattle.std.specs.Io.KnownBytes.{Appends, Consumes}
+use Rattle.escp2_definitions.specs.Commands.{Entry}
+use Rattle.gathered_bytes.specs.declared.gathered.Gathered.{Gathered}
+use Rattle.gathered_bytes.specs.Gathering.{Writes, gathered}
+use Rattle.gathered_bytes.proofs.Writing.{GathersSoFar, gathers_all, gathers_more, gathers_none, gathers_part}
+use Rattle.job_feed.specs.declared.feed.FeedStop.{FeedStop}
+use Rattle.job_feed.specs.declared.feed.FeedStop.TheVariants as feed_is
+use Rattle.job_feed.specs.declared.feed.JobFeed.{JobFeed}
+use Rattle.job_feed.specs.declared.feed.PlacedCommand.{PlacedCommand}
+use Rattle.job_feed.specs.Feeding.{HasEnded, IsStopped, TakesCommand, at_of, heard_of, most_of, text_of}
+use Rattle.job_feed.proofs.Jobs.{GaveCommands, entry_of, gave_more, gave_none, job_ended, job_refused, rose_within, takes_gave}
+use Rattle.job_listing.specs.Listing.{line_of, listing}
+use Rattle.job_lister.specs.declared.lister.ListStop.{ListStop}
+use Rattle.job_lister.specs.declared.lister.ListStop.TheVariants as stop
+use Rattle.job_lister.specs.Lines.{feed_stop}
+use Rattle.job_lister.specs.Outcome.{ListOutcome, ListsAll}
+use Rattle.outside_definitions.specs.Outside.{Outside}
+use Rattle.weave_base.specs.Causes.{Rose}
+use Rattle.weave_base.specs.Parts.{AppendsPart}
+
+-- The commands that were given are listed: their lines were written, or are gathered.
+pub record ListsSoFar (feed : JobFeed) (g : Gathered) (before text held now : Option (List ℕ)) : Type 0 where
+  pub entries : List Entry
+  pub gave : GaveCommands feed before text entries
+  pub gathers : GathersSoFar held now (listing entries) (gathered g)
+
+pub lists_none : (feed : JobFeed) (g : Gathered) (left held : Option (List ℕ)) → at_of feed ≡ 0 → feed.unread ≡ [] → gathered g ≡ []
+    → ListsSoFar feed g left (text_of feed left) held held
+lists_none feed g left held at unread none = record {
+  entries = [];
+  gave = gave_none feed left at unread;
+  gathers = gathers_none held (gathered g) none;
+}
+
+pub lists_more : (old new : JobFeed) (g after : Gathered) (before text left held now now' : Option (List ℕ)) (placed : PlacedCommand) → ListsSoFar old g before text held now
+    → TakesCommand old new text (text_of new left) placed → Writes now now' (gathered g) (gathered after) (line_of placed.at placed.command (heard_of new))
+    → ListsSoFar new after before (text_of new left) held now'
+lists_more old new g after before text left held now now' placed so_far takes writes =
+    let line : List ℕ = line_of placed.at placed.command (heard_of new) in
+    let P : List ℕ → Type 0 = λ text. GathersSoFar held now' text (gathered after) in
+    record {
+      entries = so_far.entries ++ entry_of new placed ∷ [];
+      gave = gave_more old new before text (text_of new left) so_far.entries placed so_far.gave takes;
+      gathers = subst P (sym (flat_map-append (λ entry. line_of entry.at entry.command entry.rows) so_far.entries (entry_of new placed ∷ []) ∙ ap (λ bs. listing so_far.entries ++ bs) (append-nil line)))
+          (gathers_more held now now' (listing so_far.entries) (gathered g) (gathered after) line so_far.gathers writes);
+    }
+
+-- a write failed before the line of what was taken last
+pub lists_part : (feed new : JobFeed) (g : Gathered) (before text left held now now' : Option (List ℕ)) (bytes : List ℕ) (f0 f1 g0 g1 g2 : ℕ) → ListsSoFar feed g before text held now
+    → Consumes text (text_of new left) bytes → AppendsPart now now' (gathered g) → g0 ≤ g1 → Rose g1 g2
+    → ListOutcome (most_of feed) (record { before = before; now = left; faults_before = f0; faults_now = f1 })
+    (record { before = held; now = now'; faults_before = g0; faults_now = g2 }) (Err stop.Write)
+lists_part feed new g before text left held now now' bytes f0 f1 g0 g1 g2 so_far takes part later rose = (
+  rose_within g0 g1 g2 g2 later rose (omega arith),
+  record {
+    entries = so_far.entries;
+    takes = takes_gave feed new before text left so_far.entries bytes so_far.gave takes;
+    writes = gathers_part held now now' (listing so_far.entries) (gathered g) so_far.gathers part;
+  },
+)
+
+pub lists_all : (feed new : JobFeed) (g : Gathered) (before text left held now now' : Option (List ℕ)) (f0 f1 g0 g1 : ℕ) → ListsSoFar feed g before text held now
+    → HasEnded text (text_of new left) → Appends now now' (gathered g)
+    → ListsAll (most_of feed) (record { before = before; now = left; faults_before = f0; faults_now = f1 }) (record { before = held; now = now'; faults_before = g0; faults_now = g1 })
+lists_all feed new g before text left held now now' f0 f1 g0 g1 so_far ended all = record {
+  entries = so_far.entries;
+  takes = job_ended feed new before text left so_far.entries so_far.gave ended;
+  writes = gathers_all held now now' (listing so_far.entries) (gathered g) so_far.gathers all;
+}
+
+pub lists_to_stop : (most : ℕ) (feed new : JobFeed) (g : Gathered) (before text left held now now' : Option (List ℕ)) (f0 f1 f2 g0 g1 : ℕ) (why : FeedStop) (answer : ListStop)
+    → ListsSoFar feed g before text held now → IsStopped feed text (text_of new left) f1 f2 why → f0 ≤ f1 → Appends now now' (gathered g) → most_of feed ≡ most → answer ≡ feed_stop why
+    → ListOutcome most (record { before = before; now = left; faults_before = f0; faults_now = f2 })
+    (record { before = held; now = now'; faults_before = g0; faults_now = g1 }) (Err answer)
+lists_to_stop most feed new g before text left held now now' f0 f1 f2 g0 g1 why answer so_far stopped later all most_is is =
+    let input : Outside = record { before = before; now = left; faults_before = f0; faults_now = f2 } in
+    let out : Outside = record { before = held; now = now'; faults_before = g0; faults_now = g1 } in
+    let P : ℕ → Type 0 = λ n. ListOutcome n input out (Err answer) in
+    let Q : ListStop → Type 0 = λ stop. ListOutcome (most_of feed) input out (Err stop) in
+    subst P most_is (subst Q (sym is) (by_stop why stopped))
+  where
+    by_stop : (why : FeedStop) → IsStopped feed text (text_of new left) f1 f2 why
+        → ListOutcome (most_of feed) (record { before = before; now = left; faults_before = f0; faults_now = f2 })
+        (record { before = held; now = now'; faults_before = g0; faults_now = g1 }) (Err (feed_stop why))
+    by_stop (feed_is.Job offset cause) stopped = record {
+      entries = so_far.entries;
+      meets = job_refused feed before text (text_of new left) so_far.entries offset cause so_far.gave stopped;
+      writes = gathers_all held now now' (listing so_far.entries) (gathered g) so_far.gathers all;
+    }
+    by_stop feed_is.Read failed = (
+      rose_within f0 f1 f2 f2 later failed.rose (omega arith),
+      record {
+        entries = so_far.entries;
+        takes = takes_gave feed new before text left so_far.entries failed.bytes so_far.gave failed.takes.taken;
+        writes = gathers_all held now now' (listing so_far.entries) (gathered g) so_far.gathers all;
+      },
+    )

@@ -1,0 +1,43 @@
+-- What listing a job comes to.
+use Rattle.std.specs.Prelude.{ℕ, List, Result, Ok, Err}
+use Rattle.std.specs.Io.KnownBytes.{Appends, Keeps}
+use Rattle.escp2_definitions.specs.declared.stops.JobStop.{JobStop}
+use Rattle.escp2_definitions.specs.Commands.{Entry}
+use Rattle.job_feed.specs.Jobs.{MeetsStop, TakesCommands, TakesJob}
+use Rattle.job_listing.specs.Listing.{listing}
+use Rattle.job_lister.specs.declared.lister.ListStop.{ListStop}
+use Rattle.job_lister.specs.declared.lister.ListStop.TheVariants as stop
+use Rattle.outside_definitions.specs.Outside.{HasRisen, Outside}
+use Rattle.weave_base.specs.Parts.{AppendsPart}
+
+-- The job was taken whole, and all its commands are listed.
+pub record ListsAll (most : ℕ) (input out : Outside) : Type 0 where
+  pub entries : List Entry
+  pub takes : TakesJob most input.before input.now entries
+  pub writes : Appends out.before out.now (listing entries)
+
+-- The job is refused at this offset, and the commands before it are listed.
+pub record ListsToStop (most : ℕ) (input out : Outside) (offset : ℕ) (cause : JobStop) : Type 0 where
+  pub entries : List Entry
+  pub meets : MeetsStop most input.before entries offset cause
+  pub writes : Appends out.before out.now (listing entries)
+
+-- Some first commands of what was taken are listed.
+pub record ListsSome (most : ℕ) (input out : Outside) : Type 0 where
+  pub entries : List Entry
+  pub takes : TakesCommands most input.before input.now entries
+  pub writes : Appends out.before out.now (listing entries)
+
+-- A proper prefix of the listing of what was taken was written.
+pub record ListsPart (most : ℕ) (input out : Outside) : Type 0 where
+  pub entries : List Entry
+  pub takes : TakesCommands most input.before input.now entries
+  pub writes : AppendsPart out.before out.now (listing entries)
+
+-- What listing a job of at most so many bytes comes to.
+abbrev pub ListOutcome : ℕ → Outside → Outside → Result (Unit {0}) ListStop → Type 0
+ListOutcome most input out (Ok u) = ListsAll most input out
+ListOutcome most input out (Err (stop.Job offset cause)) = ListsToStop most input out offset cause
+ListOutcome most input out (Err stop.Read) = HasRisen input × ListsSome most input out
+ListOutcome most input out (Err stop.Write) = HasRisen out × ListsPart most input out
+ListOutcome most input out (Err stop.Memory) = Keeps out.before out.now
