@@ -4,3 +4,7 @@ pub mod Writes
 pub mod PutAmounts
 pub mod PackedRows
 pub mod PutDots
+pub mod Bytes
+pub mod TileBytes
+pub mod TileRows
+pub mod PutTiles

@@ -50,7 +50,7 @@ row_kept len n m old new same other k = elim (cases_lt k len) [
   | inr past ↦ no_byte len m k new past ∙ sym (no_byte len m k old past)
 ]
 
-zero_at : (many i : ℕ) → get_or (replicate {A = ℕ} many 0) i 0 ≡ 0
+pub zero_at : (many i : ℕ) → get_or (replicate {A = ℕ} many 0) i 0 ≡ 0
 zero_at many i = elim (cases_lt i many) [
   | inl low ↦ get_or-replicate {A = ℕ} many i 0 0 low
   | inr high ↦ get_or_past (replicate {A = ℕ} many 0) i 0 (omega (arith, length-replicate {A = ℕ} many 0))

@@ -1,3 +1,6 @@
 pub mod Tables
 pub mod Planes
 pub mod InkRows
+pub mod Tiles
+pub mod TileBits
+pub mod Lending

@@ -4,9 +4,12 @@
 mod ink_rows;
 mod places;
 mod planes;
+mod tile_rows;
+mod tiles;
 
 pub use ink_rows::InkRows;
 pub use planes::Planes;
+pub use tiles::{TileBits, TileDots};
 
 #[cfg(test)]
 mod tests;

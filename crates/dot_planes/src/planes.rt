@@ -1,14 +1,17 @@
 //! Packed planes of dots.
 ghost use Rattle.dot_planes.specs.Tables.{IsPackedRow, IsSize, PutsRow, TurnsOn, dot, row_len as row_len_of};
+ghost use Rattle.dot_planes.specs.Tiles.{PutsTileRow};
 ghost use Rattle.escp2_definitions.specs.Packed.{packed};
 ghost use Rattle.pwg_definitions.specs.Limits.{most_columns};
 ghost use Rattle.std.specs.List.{count_by, sum_by};
-ghost use Rattle.std.specs.Prelude.{IfOk, count_ones, false, length, map, ℕ, ◌<◌, ◌≡◌, ◌≤◌};
+ghost use Rattle.std.specs.Prelude.{IfOk, count_ones, false, length, map, ℕ, ◌*◌, ◌+◌, ◌<◌, ◌≡◌, ◌≤◌};
 ghost use Rattle.weave_definitions.specs.Weave.{count_from};
 
 use crate::places::{row_of, row_start};
+use crate::tile_rows::put_dots;
 use std::alloc::Global;
 use std::marker::Model;
+use tile_shape::Place;
 use weave_base::Memory;
 
 /// The dots of a window, ink by ink in the order of the printer's set. Contracts see a table of dots.
@@ -108,6 +111,22 @@ impl Planes {
     {
         let start = row_start(self.inks, self.rows, row_len(self.width), ink, y);
         self.bytes[start + x as usize / 8] |= 1 << (7 - x % 8);
+    }
+
+    // Gives an ink the dots of row r of a tile, eight bytes of them, in a slab that begins at row `at`. All other dots
+    // stay.
+    pub(crate) fn put_tile_row(&mut self, ink: u8, at: u32, place: Place, r: u32, dots: &[u8])
+        requires ink { ink < self.old.inks }
+        requires row { at + (32 * place.j + r) < self.old.rows }
+        requires column { 64 * place.c < self.old.width + 62 }
+        requires r { r < 32 }
+        requires dots { length dots.now ≡ 8 }
+        ensures { PutsTileRow self.old self.new ink (at + (32 * place.j + r)) place.c r dots.now }
+    {
+        let len = row_len(self.width);
+        let start = row_start(self.inks, self.rows, len, ink, at + (32 * place.j + r));
+        let row = &mut self.bytes[start..start + len];
+        put_dots(row, self.width as usize, place.c as usize, r as usize, dots);
     }
 
     /// Gives row y of an ink these dots, packed. All other rows stay.

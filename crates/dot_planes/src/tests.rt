@@ -1,5 +1,8 @@
 //! Dots and amounts by hand.
-use super::{InkRows, Planes};
+ghost use Rattle.std.specs.Prelude.{length, ◌<◌, ◌≡◌};
+
+use super::{InkRows, Planes, TileBits, TileDots};
+use tile_shape::Place;
 use weave_base::Memory;
 
 #[test]
@@ -34,4 +37,113 @@ fn amounts_are_kept_ink_by_ink(rt: HostRuntime) {
     assert_eq!(rt; rows.row(3, 1), [0, 0, 7].as_slice());
     assert_eq!(rt; rows.row(2, 1), [0, 5, 6].as_slice());
     assert_eq!(rt; (rows.get(2, 1, 1), rows.get(3, 0, 0)), (5, 0));
+}
+
+// A byte of a tile's dots in the tests, and a dot that the planes have before.
+fn tile_byte(ink: usize, n: usize) -> u8
+    requires ink { ink < 4 }
+    requires n { n < 256 }
+{
+    ((37 * n + 91 * ink + 5) % 251) as u8
+}
+
+fn had_dot(ink: usize, x: u32, y: u32) -> bool
+    requires ink { ink < 4 }
+    requires x { x < 100 }
+    requires y { y < 100 }
+{
+    (7 * x + 3 * y + ink as u32) % 5 == 0
+}
+
+// The dot of a tile at (x, y) of a slab, by the rule of tiles, or `None` where it is another tile's.
+fn tile_dot(place: Place, ink: usize, x: u32, y: u32) -> Option<bool>
+    requires ink { ink < 4 }
+    requires x { x < 100 }
+    requires y { y < 100 }
+{
+    let row = y % 32;
+    let u = x + 2 * row;
+    if y / 32 != place.j || u / 64 != place.c {
+        return None;
+    }
+    let offset = u % 64;
+    let byte = tile_byte(ink, (8 * row + offset / 8) as usize);
+    Some(byte >> (7 - offset % 8) & 1 == 1)
+}
+
+// Gives an ink of planes of 70 columns and 44 rows the dots of `had_dot`.
+fn fill(planes: &mut Planes, ink: u8)
+    requires width { planes.old.width ≡ 70 }
+    requires rows { planes.old.rows ≡ 44 }
+    requires inks { planes.old.inks ≡ 2 }
+    requires ink { ink < 2 }
+    ensures width { planes.new.width ≡ 70 }
+    ensures rows { planes.new.rows ≡ 44 }
+    ensures inks { planes.new.inks ≡ 2 }
+{
+    for y in 0..44 {
+        for x in 0..70 {
+            if had_dot(usize::from(ink), x, y) {
+                planes.turn_on(ink, x, y);
+            }
+        }
+    }
+}
+
+fn fill_tile(bits: &mut TileBits, ink: u8)
+    requires ink { ink < 2 }
+    requires inks { length bits.old ≡ 2 }
+    ensures { length bits.new ≡ 2 }
+{
+    let bytes = bits.ink_mut(ink);
+    for n in 0..256 {
+        bytes[n] = tile_byte(usize::from(ink), n);
+    }
+}
+
+// Whether rows 5 to 39 have the tile's pixels, and every other dot is as it was.
+fn has_tile(planes: &Planes, place: Place, ink: u8) -> bool
+    requires width { planes.now.width ≡ 70 }
+    requires rows { planes.now.rows ≡ 44 }
+    requires inks { planes.now.inks ≡ 2 }
+    requires ink { ink < 2 }
+{
+    for y in 0..44 {
+        for x in 0..70 {
+            let before = had_dot(usize::from(ink), x, y);
+            let wanted = if y >= 5 && y < 40 {
+                tile_dot(place, usize::from(ink), x, y - 5).unwrap_or(before)
+            } else {
+                before
+            };
+            if planes.dot(ink, x, y) != wanted {
+                return false;
+            }
+        }
+    }
+    true
+}
+
+#[test]
+fn each_tile_of_a_slab_sets_its_pixels_and_no_others(rt: HostRuntime) {
+    // Row 5 begins a slab of 35 rows and three columns of tiles.
+    for j in 0..2 {
+        for c in 0..3 {
+            let Ok(mut planes) = Planes::make(rt.alloc(), 70, 44, 2) else {
+                assert!(rt; false);
+                return;
+            };
+            let Ok(mut bits) = TileBits::make(rt.alloc(), 2) else {
+                assert!(rt; false);
+                return;
+            };
+            fill(&mut planes, 0);
+            fill(&mut planes, 1);
+            fill_tile(&mut bits, 0);
+            fill_tile(&mut bits, 1);
+            let place = Place { c, j };
+            planes.put_tile(5, 35, &TileDots { place, bits });
+            assert!(rt; has_tile(&planes, place, 0) && has_tile(&planes, place, 1));
+        }
+    }
 }

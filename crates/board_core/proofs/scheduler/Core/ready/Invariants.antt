@@ -1,0 +1,9 @@
+use Rattle.std.proofs.Common.{ℕ, ◌<◌}
+use Rattle.tile_shape.specs.Geometry.{IsTile}
+use Rattle.tile_shape.specs.declared.tiles.Place.{Place}
+use Rattle.board_core.specs.States.{number}
+use Rattle.board_core.specs.Steps.{IsReadyTile}
+use Rattle.board_core.proofs.scheduler.Core.ready.Given as goal
+
+abbrev pub invariant-loop-n : goal.invariant-loop-n
+invariant-loop-n l = (q : Place) → number l.self.shape q < l.n → ¬ IsReadyTile l.self q

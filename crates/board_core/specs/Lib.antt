@@ -1,0 +1,5 @@
+pub mod States
+pub mod Steps
+pub mod Legal
+pub mod Records
+pub mod Inside

@@ -1,0 +1,284 @@
+//! Events by hand, and by a plain program of their rules.
+use crate::{Core, CoreFault, Event};
+use tile_shape::{Dir, Place, Shape};
+
+// A window of five columns and three bands.
+const SHAPE: Shape = Shape {
+    width: 200,
+    height: 70,
+};
+
+fn take(c: u32, j: u32, seat: u32) -> Event {
+    Event::Take {
+        place: Place { c, j },
+        seat,
+    }
+}
+
+fn send(c: u32, j: u32, dir: Dir, seat: u32) -> Event {
+    Event::Send {
+        place: Place { c, j },
+        dir,
+        seat,
+    }
+}
+
+fn post(c: u32, j: u32, seat: u32) -> Event {
+    Event::Post {
+        place: Place { c, j },
+        seat,
+    }
+}
+
+#[test]
+fn the_core_refuses_in_order(rt: HostRuntime) {
+    let Ok(mut core) = Core::make(rt.alloc(), SHAPE) else {
+        assert!(rt; false);
+        return;
+    };
+    assert_eq!(rt; core.ready(), Some(Place { c: 0, j: 0 }));
+    assert_eq!(rt; core.step(take(0, 1, 1)), Err(CoreFault::NotReady));
+    assert_eq!(rt; core.step(take(0, 0, 1)), Ok(()));
+    assert_eq!(rt; core.step(take(0, 0, 2)), Err(CoreFault::Taken));
+    assert_eq!(rt; core.ready(), None);
+    assert_eq!(rt; core.step(post(0, 0, 2)), Err(CoreFault::NotYours));
+    assert_eq!(rt; core.step(post(0, 0, 1)), Err(CoreFault::Unsent));
+    assert_eq!(rt; core.step(send(0, 0, Dir::Right, 1)), Ok(()));
+    assert_eq!(rt; core.step(send(0, 0, Dir::Right, 1)), Err(CoreFault::Sent));
+    assert_eq!(rt;
+        core.step(send(0, 0, Dir::Bottom, 1)),
+        Err(CoreFault::NoSuchTile)
+    );
+}
+
+// A tile in the plain program: 0 waits, 1 is taken, 2 is posted.
+#[derive(Clone, Copy)]
+struct Tile {
+    work: u8,
+    seat: u32,
+    sent: [bool; 3],
+}
+
+const WAITING: Tile = Tile {
+    work: 0,
+    seat: 0,
+    sent: [false; 3],
+};
+
+fn way(dir: Dir) -> usize
+    ensures { result < 3 }
+{
+    match dir {
+        Dir::Right => 0,
+        Dir::Bottom => 1,
+        Dir::Corner => 2,
+    }
+}
+
+// Whether the window has a tile that receives this edge.
+fn goes(c: usize, j: usize, dir: Dir) -> bool {
+    match dir {
+        Dir::Right => c < 4,
+        Dir::Bottom => c > 0 && j < 2,
+        Dir::Corner => j < 2,
+    }
+}
+
+fn lacks(tiles: &[Tile; 15], c: usize, j: usize) -> bool
+    requires c { c < 5 }
+    requires j { j < 3 }
+{
+    let n = 5 * j + c;
+    c > 0 && !tiles[n - 1].sent[0]
+        || j > 0 && c < 4 && !tiles[n - 4].sent[1]
+        || j > 0 && !tiles[n - 5].sent[2]
+}
+
+fn owes(tile: &Tile, c: usize, j: usize) -> bool {
+    goes(c, j, Dir::Right) && !tile.sent[0]
+        || goes(c, j, Dir::Bottom) && !tile.sent[1]
+        || goes(c, j, Dir::Corner) && !tile.sent[2]
+}
+
+fn plain_step(tiles: &mut [Tile; 15], e: Event) -> Result<(), CoreFault> {
+    let (Event::Take { place, seat }
+    | Event::Send { place, seat, .. }
+    | Event::Post { place, seat }) = e;
+    let (c, j) = (place.c as usize, place.j as usize);
+    if c >= 5 || j >= 3 {
+        return Err(CoreFault::NoSuchTile);
+    }
+    let tile = tiles[5 * j + c];
+    let yours = tile.work == 1 && tile.seat == seat;
+    match e {
+        Event::Take { .. } if tile.work != 0 => Err(CoreFault::Taken),
+        Event::Take { .. } if lacks(tiles, c, j) => Err(CoreFault::NotReady),
+        Event::Take { .. } => {
+            tiles[5 * j + c].work = 1;
+            tiles[5 * j + c].seat = seat;
+            Ok(())
+        }
+        Event::Send { dir, .. } if !goes(c, j, dir) => Err(CoreFault::NoSuchTile),
+        Event::Send { .. } | Event::Post { .. } if !yours => Err(CoreFault::NotYours),
+        Event::Send { dir, .. } if tile.sent[way(dir)] => Err(CoreFault::Sent),
+        Event::Send { dir, .. } => {
+            tiles[5 * j + c].sent[way(dir)] = true;
+            Ok(())
+        }
+        Event::Post { .. } if owes(&tile, c, j) => Err(CoreFault::Unsent),
+        Event::Post { .. } => {
+            tiles[5 * j + c].work = 2;
+            Ok(())
+        }
+    }
+}
+
+fn plain_ready(tiles: &[Tile; 15]) -> Option<Place> {
+    for j in 0..3 {
+        for c in 0..5 {
+            if tiles[5 * j + c].work == 0 && !lacks(tiles, c, j) {
+                return Some(Place {
+                    c: c as u32,
+                    j: j as u32,
+                });
+            }
+        }
+    }
+    None
+}
+
+// The next of a row of numbers that look random.
+fn drawn(last: u32) -> u32
+    ensures { result < 65537 }
+{
+    (last % 65537 * 75 + 74) % 65537
+}
+
+fn event_of(kind: u32, at: u32) -> Event {
+    let (c, j, seat) = (at % 6, at / 6 % 4, at / 24 % 2);
+    match kind % 6 {
+        0 => take(c, j, seat),
+        1 => post(c, j, seat),
+        2 => send(c, j, Dir::Right, seat),
+        3 => send(c, j, Dir::Bottom, seat),
+        _ => send(c, j, Dir::Corner, seat),
+    }
+}
+
+#[test]
+fn events_at_random_go_as_the_plain_program_says(rt: HostRuntime) {
+    let Ok(mut core) = Core::make(rt.alloc(), SHAPE) else {
+        assert!(rt; false);
+        return;
+    };
+    let mut tiles = [WAITING; 15];
+    let mut number = 1;
+    for _ in 0..20_000 {
+        let kind = drawn(number);
+        number = drawn(kind);
+        let e = event_of(kind, number);
+        assert_eq!(rt; core.step(e), plain_step(&mut tiles, e));
+        assert_eq!(rt; core.ready(), plain_ready(&tiles));
+    }
+    for tile in &tiles {
+        assert_eq!(rt; tile.work, 2);
+    }
+}
+
+// How many tiles of each band an order of bands has, before place `end` of it. Each band goes from the left.
+fn tiles_of(order: &[usize; 15], end: usize) -> [usize; 3]
+    requires { end ≤ 15 }
+{
+    let mut done = [0usize; 3];
+    for band in &order[..end] {
+        done[band % 3] = done[band % 3].saturating_add(1);
+    }
+    done
+}
+
+// Whether the next tile of a band may be taken, where so many of each band are done.
+fn may_follow(done: &[usize; 3], band: usize) -> bool
+    requires { band < 3 }
+{
+    done[band] < 5 && (band == 0 || done[band - 1] >= done[band].saturating_add(2).min(5))
+}
+
+fn first_band(done: &[usize; 3]) -> usize
+    ensures { result < 3 }
+{
+    for band in 0..3 {
+        if may_follow(done, band) {
+            return band;
+        }
+    }
+    0
+}
+
+// Goes on from a place of the order with the uppermost band that may follow.
+fn fill(order: &mut [usize; 15], from: usize)
+    requires { from ≤ 15 }
+{
+    for k in from..15 {
+        order[k] = first_band(&tiles_of(order, k));
+    }
+}
+
+// Makes the order the next one, from the uppermost bands to the lowest, or answers false at the last.
+fn advance(order: &mut [usize; 15]) -> bool {
+    for k in (0..15).rev() {
+        let done = tiles_of(order, k);
+        for band in 0..3 {
+            if band > order[k] && may_follow(&done, band) {
+                order[k] = band;
+                fill(order, k + 1);
+                return true;
+            }
+        }
+    }
+    false
+}
+
+// Whether the core takes the tiles in this order, and finds the first ready one at each place.
+fn is_taken(core: &mut Core, order: &[usize; 15]) -> bool {
+    for k in 0..15 {
+        let done = tiles_of(order, k);
+        let first = first_band(&done);
+        let ready = Place {
+            c: done[first].min(5) as u32,
+            j: first as u32,
+        };
+        let band = order[k] % 3;
+        let (c, j, seat) = (done[band].min(5) as u32, band as u32, k as u32 % 2);
+        if core.ready() != Some(ready) || core.step(take(c, j, seat)).is_err() {
+            return false;
+        }
+        for dir in [Dir::Corner, Dir::Bottom, Dir::Right] {
+            if core.step(send(c, j, dir, seat)).is_ok() != goes(c as usize, band, dir) {
+                return false;
+            }
+        }
+        if core.step(post(c, j, seat)).is_err() {
+            return false;
+        }
+    }
+    true
+}
+
+#[test]
+fn each_of_the_290_orders_of_15_tiles_is_taken(rt: HostRuntime) {
+    let mut order = [0; 15];
+    fill(&mut order, 0);
+    let mut orders = 0;
+    for _ in 0..1000 {
+        let Ok(mut core) = Core::make(rt.alloc(), SHAPE) else {
+            assert!(rt; false);
+            return;
+        };
+        assert!(rt; is_taken(&mut core, &order));
+        orders += 1;
+        if !advance(&mut order) {
+            break;
+        }
+    }
+    assert_eq!(rt; orders, 290);
+}

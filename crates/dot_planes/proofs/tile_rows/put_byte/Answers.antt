@@ -1,0 +1,50 @@
+use Rattle.std.proofs.Common.{◌∙◌, arith, inl, inr}
+use Rattle.dot_planes.proofs.TileBytes.{IsByte, IsMoved, not_taken, taken_dot, taken_from, taken_to}
+use Rattle.dot_planes.proofs.tile_rows.put_byte.Goals as goal
+use Rattle.dot_planes.proofs.tile_rows.put_byte.Goals.{then-n-gt0, else-n-gt0, then-n-lt8, else-n-lt8, then-n-gt0-2, else-n-gt0-2, then-n-lt8-2, else-n-lt8-2}
+
+is_byte : (c : goal.After-splice) → IsByte c.args.dots.now c.args.n c.args.shift c.if-n-gt0.left c.if-n-lt8.right c.if-n-gt0-2.from c.if-n-lt8-2.to
+is_byte c = record {
+  few = c.requires.n;
+  low = c.requires.shift;
+  left_is = elim c.if-n-gt0.branch [
+    | then-n-gt0 w ↦ λ _. w.left-is
+    | else-n-gt0 w ↦ λ later. absurd (omega (arith, w.if-n-gt0.false))
+  ];
+  right_is = elim c.if-n-lt8.branch [
+    | then-n-lt8 w ↦ λ _. w.right-is
+    | else-n-lt8 w ↦ λ earlier. absurd (omega (arith, w.if-n-lt8.false))
+  ];
+  from_is = elim c.if-n-gt0-2.branch [
+    | then-n-gt0-2 w ↦ λ _. w.from-is
+    | else-n-gt0-2 w ↦ λ later. absurd (omega (arith, w.if-n-gt0-2.false))
+  ];
+  first_from = elim c.if-n-gt0-2.branch [
+    | then-n-gt0-2 w ↦ λ first. absurd (omega (arith, w.if-n-gt0-2.true))
+    | else-n-gt0-2 w ↦ λ _. w.from-is
+  ];
+  to_is = elim c.if-n-lt8-2.branch [
+    | then-n-lt8-2 w ↦ λ _. w.to-is
+    | else-n-lt8-2 w ↦ λ earlier. absurd (omega (arith, w.if-n-lt8-2.false))
+  ];
+  last_to = elim c.if-n-lt8-2.branch [
+    | then-n-lt8-2 w ↦ λ last. absurd (omega (arith, w.if-n-lt8-2.true))
+    | else-n-lt8-2 w ↦ λ _. w.to-is
+  ];
+}
+
+is_moved : (c : goal.After-splice) → IsMoved c.if-n-gt0.left c.if-n-lt8.right c.args.shift c.eight_from.result
+is_moved c = record { at_left = c.eight_from.ensures.left; at_right = c.eight_from.ensures.right }
+
+pub returns-clause-pixels : goal.returns-clause-pixels
+returns-clause-pixels c = λ k offset low before inside here.
+    c.splice.ensures.inside k (taken_from _ _ _ _ _ _ _ k offset (is_byte c) here)
+    (omega (arith, c.min.ensures, taken_to _ _ _ _ _ _ _ k offset (is_byte c) low inside here))
+    ∙ taken_dot _ _ _ _ _ _ _ _ k offset (is_byte c) (is_moved c) low inside here
+
+pub returns-clause-others : goal.returns-clause-others
+returns-clause-others c = λ k low none.
+    c.splice.ensures.outside k low (elim (not_taken _ _ _ _ _ _ _ c.args.most k (is_byte c) low none) [
+      | inl before ↦ inl before
+      | inr past ↦ inr (omega (arith, c.min.ensures))
+    ])

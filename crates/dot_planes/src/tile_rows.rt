@@ -1,0 +1,68 @@
+//! A row of a tile's dots, moved to its columns of a packed row.
+ghost use Rattle.dot_planes.specs.Tables.{row_dot, row_len};
+ghost use Rattle.dot_planes.specs.Tiles.{PutsDots};
+ghost use Rattle.escp2_definitions.specs.Machine.{bit_at};
+ghost use Rattle.std.specs.Prelude.{length, slice_index, ℕ, ◌*◌, ◌+◌, ◌-◌, ◌<◌, ◌≡◌, ◌≤◌, ◌⊎◌};
+
+/// Gives a packed row of so many columns the dots of row r of a tile in column c, eight bytes of them, where both have
+/// a pixel. All other dots stay.
+pub(crate) fn put_dots(row: &mut [u8], width: usize, c: usize, r: usize, dots: &[u8])
+    requires width { width ≤ 8191 }
+    requires row { length row.old ≡ row_len width }
+    requires c { c < 1024 }
+    requires r { r < 32 }
+    requires dots { length dots.now ≡ 8 }
+    ensures dots { PutsDots width c r width dots.now row.old row.new }
+    ensures bytes { (k : ℕ) → slice_index row.new k < 256 }
+{
+    // Byte b has the tile's offsets from 8 (b + skip - 8 c) + shift on.
+    let skip = r / 4;
+    let shift = 2 * (r % 4);
+    let start = (8 * c).saturating_sub(skip + 1);
+    let end = (8 * c + 8 - skip).min(row.len());
+    for b in start..end {
+        row[b] = put_byte(row[b], dots, b + skip + 1 - 8 * c, shift, width - 8 * b);
+    }
+}
+
+// A byte of a row whose first dot has the tile's offset 8 n + shift - 8, with the tile's dots before place `most`.
+#[inline]
+fn put_byte(old: u8, dots: &[u8], n: usize, shift: usize, most: usize) -> u8
+    requires dots { length dots.now ≡ 8 }
+    requires n { n ≤ 8 }
+    requires shift { shift < 8 }
+    ensures pixels { (k offset : ℕ) → k < 8 → k < most → offset < 64 → 8 * n + shift + k ≡ offset + 8 → bit_at result k ≡ row_dot dots.now offset }
+    ensures others { (k : ℕ) → k < 8 → ((offset : ℕ) → k < most → offset < 64 → ¬ (8 * n + shift + k ≡ offset + 8)) → bit_at result k ≡ bit_at old k }
+{
+    let left = if n > 0 { dots[n - 1] } else { 0 };
+    let right = if n < 8 { dots[n] } else { 0 };
+    let from = if n > 0 { 0 } else { 8 - shift };
+    let to = if n < 8 { 8 } else { 8 - shift };
+    splice(old, eight_from(left, right, shift), from, to.min(most))
+}
+
+// The eight dots from a place on in two bytes.
+#[inline]
+fn eight_from(left: u8, right: u8, shift: usize) -> u8
+    requires { shift < 8 }
+    ensures left { (k : ℕ) → k + shift < 8 → bit_at result k ≡ bit_at left (k + shift) }
+    ensures right { (k : ℕ) → k < 8 → 8 ≤ k + shift → bit_at result k ≡ bit_at right (k + shift - 8) }
+{
+    let both = u16::from(left) * 256 + u16::from(right);
+    ((both >> (8 - shift)) % 256) as u8
+}
+
+// A byte with the dots from one place to before another taken from a second byte.
+#[inline]
+fn splice(old: u8, new: u8, from: usize, to: usize) -> u8
+    requires from { from ≤ 8 }
+    requires to { to ≤ 8 }
+    ensures inside { (k : ℕ) → from ≤ k → k < to → bit_at result k ≡ bit_at new k }
+    ensures outside { (k : ℕ) → k < 8 → (k < from) ⊎ (to ≤ k) → bit_at result k ≡ bit_at old k }
+{
+    if from == 0 && to == 8 {
+        return new;
+    }
+    let mask = (255u16 >> from) as u8 & !((255u16 >> to) as u8);
+    old & !mask | new & mask
+}
