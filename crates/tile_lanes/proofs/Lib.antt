@@ -1,0 +1,4 @@
+pub mod RowCells
+pub mod Blocks
+pub mod Bits
+pub mod RowTile

@@ -1,6 +1,6 @@
 -- One ink of a tile: what it is diffused from, and what it gives.
-use Rattle.std.specs.Prelude.{ℕ, ℤ, ◌≡◌, ◌+◌, ◌*◌, ◌<◌, Bool, false, List}
-use Rattle.diffusion_definitions.specs.Diffusion.{EachInRange, Errors, Plane, Solves, Table, on}
+use Rattle.std.specs.Prelude.{ℕ, ℤ, ◌≡◌, ◌+◌, ◌*◌, ◌<◌, false, List}
+use Rattle.diffusion_definitions.specs.Diffusion.{Errors, Plane, Table, on}
 use Rattle.dot_planes.specs.Tables.{AmountTable, amount, row_dot}
 use Rattle.tile_shape.specs.Geometry.{IsAt}
 use Rattle.tile_shape.specs.declared.tiles.Place.{Place}

@@ -5,12 +5,19 @@ ghost use Rattle.std.specs.Prelude.{◌<◌};
 ghost use Rattle.tile_lanes.specs.Done.{IsDone, IsReady, plane_of, window_of};
 ghost use Rattle.tile_shape.specs.Geometry.{IsTile};
 
+mod edges;
+mod packing;
+mod row;
+
 use diffusion_kernel::Kernel;
 use dot_planes::InkRows;
+use edges::{put_above, put_corner, put_left, take_bottom, take_lower_corner, take_right};
+use packing::pack_row;
+use row::diffuse_row;
 use tile_shape::Place;
 
-/// The plain, slow program of what `diffuse_tile` promises: the pixels one by one, row by row, with which tests compare
-/// it.
+/// The plain, slow program of what `diffuse_tile` promises, with which tests compare it: the pixels one by one, row by
+/// row.
 pub fn diffuse_tile_plainly(
     kernel: Kernel,
     place: Place,
@@ -32,4 +39,17 @@ pub fn diffuse_tile_plainly(
     ensures done { (e : Errors) → Solves (table_of kernel) (plane_of rows.now ink) e
         → IsReady e place side.old band.old corner.old
         → IsDone (table_of kernel) (plane_of rows.now ink) e place side.new band.new corner.new dots.new }
-{}
+{
+    let mut field = [0i16; 2380];
+    put_left(&mut field, side);
+    put_above(&mut field, band);
+    put_corner(&mut field, corner);
+    let mut row_dots = [false; 64];
+    for r in 0..32 {
+        diffuse_row(kernel, place, rows, ink, r, &mut field, &mut row_dots);
+        pack_row(&row_dots, r, dots);
+    }
+    take_right(&field, side);
+    take_bottom(&field, band);
+    take_lower_corner(&field, corner);
+}
