@@ -2,3 +2,8 @@ pub mod RowCells
 pub mod Blocks
 pub mod Bits
 pub mod RowTile
+pub mod HeldValues
+pub mod LaneSteps
+pub mod LaneBits
+pub mod LaneAmounts
+pub mod HeldBlocks

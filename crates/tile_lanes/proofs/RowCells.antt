@@ -18,10 +18,10 @@ cell e c j r o xs f p l n y x band small is_n visited is_y is_x =
     ∙ ap (λ m. e m (64 * c + l + 2 - 2 * p)) (sym is_y)
     ∙ ap (e y) (omega arith)
 
-two : {a b c d : ℤ} → a ≡ c → b ≡ d → (a ∷ b ∷ []) ≡ (c ∷ d ∷ [])
+pub two : {a b c d : ℤ} → a ≡ c → b ≡ d → (a ∷ b ∷ []) ≡ (c ∷ d ∷ [])
 two {a} {b} {c} {d} h i = ap (λ (x : ℤ). x ∷ b ∷ []) h ∙ ap (λ (x : ℤ). c ∷ x ∷ []) i
 
-five_are : {a b c d e a1 b1 c1 d1 e1 : ℤ} → a ≡ a1 → b ≡ b1 → c ≡ c1 → d ≡ d1 → e ≡ e1
+pub five_are : {a b c d e a1 b1 c1 d1 e1 : ℤ} → a ≡ a1 → b ≡ b1 → c ≡ c1 → d ≡ d1 → e ≡ e1
     → (a ∷ b ∷ c ∷ d ∷ e ∷ []) ≡ (a1 ∷ b1 ∷ c1 ∷ d1 ∷ e1 ∷ [])
 five_are h1 h2 h3 h4 h5 = cc
 

@@ -2,6 +2,7 @@
 //! takes memory.
 #![tactic(auto)]
 
+mod lanes;
 mod plain;
 mod tile;
 
