@@ -79,6 +79,7 @@ stucki_is a v f o1 o2 b0 b1 b2 b3 b4 d0 d1 d2 d3 d4 q w is_v is_q is_w is_f =
     let here : 2 * w + f ≡ t / 42 = ap (λ g. 2 * w + g) is_f ∙ stucki_part s8 s4 s2 s1 q w _ is_q is_w refl in
     let same : 16 * v + 2 * w + f ≡ 16 * a + t / 42 = omega (arith, is_v, here) in
     ap error_held same ∙ all ∙ ap (λ q. pos (16 * a) +ℤ q) (sym part)
+
 -- a sixteenth of a sum, rounded down, with sixteen times 2040 added to the sum
 pub shifted : (z : ℤ) (t : ℕ) → z ≡ error_held t +ℤ negsuc 30599 → int_div_euclid z (pos 16) ≡ error_held (t / 16)
 shifted (pos a) t h = omega (arith, ints)

@@ -43,9 +43,9 @@ value_kept k amount xs old at bound near far kept =
     let cell = λ (d : ℕ) (h : 34 ≤ d) (i : d ≤ 274). let there : at - d < bound = omega arith in ap error_held (kept (at - d) there) in
     let same : same_in xs at ≡ same_in old at = two (cell 34 (omega arith) (omega arith)) (cell 68 (omega arith) (omega arith)) in
     let up1 : up1_in xs at ≡ up1_in old at =
-        five_are (cell 171 (omega arith) (omega arith)) (cell 137 (omega arith) (omega arith)) (cell 103 (omega arith) (omega arith)) (cell 69 (omega arith) (omega arith)) (cell 35 (omega arith) (omega arith)) in
+    five_are (cell 171 (omega arith) (omega arith)) (cell 137 (omega arith) (omega arith)) (cell 103 (omega arith) (omega arith)) (cell 69 (omega arith) (omega arith)) (cell 35 (omega arith) (omega arith)) in
     let up2 : up2_in xs at ≡ up2_in old at =
-        five_are (cell 274 (omega arith) (omega arith)) (cell 240 (omega arith) (omega arith)) (cell 206 (omega arith) (omega arith)) (cell 172 (omega arith) (omega arith)) (cell 138 (omega arith) (omega arith)) in
+    five_are (cell 274 (omega arith) (omega arith)) (cell 240 (omega arith) (omega arith)) (cell 206 (omega arith) (omega arith)) (cell 172 (omega arith) (omega arith)) (cell 138 (omega arith) (omega arith)) in
     ap (λ s. value k amount s (up1_in xs at) (up2_in xs at)) same ∙ ap (λ u. value k amount (same_in old at) u (up2_in xs at)) up1 ∙ ap (value k amount (same_in old at) (up1_in old at)) up2
 
 pub step_more : (k : Table) (amounts : List ℕ) (step n at v d f : ℕ) (on : Bool) (z : ℤ) (old old_dots xs dots : List ℕ)
@@ -55,8 +55,8 @@ pub step_more : (k : Table) (amounts : List ℕ) (step n at v d f : ℕ) (on : B
     → IsStep k amounts step n old old_dots xs dots → IsStep k amounts step (n + 1) old old_dots (set xs at v) (set dots n d)
 step_more k amounts step n at v d f on z old old_dots xs dots is_at small late room more is_z is_v is_d is_f is_on s =
     let here : z ≡ value_in_row k amounts step old n =
-        is_z ∙ value_kept k (get_or amounts (32 * (step - 8) + n) 0) xs old at (34 * step + 2) (omega arith) (omega arith) s.before
-        ∙ ap (value_in k (get_or amounts (32 * (step - 8) + n) 0) old) is_at in
+    is_z ∙ value_kept k (get_or amounts (32 * (step - 8) + n) 0) xs old at (34 * step + 2) (omega arith) (omega arith) s.before
+    ∙ ap (value_in k (get_or amounts (32 * (step - 8) + n) 0) old) is_at in
     let bit : f ≡ bit_of (is_dot (value_in_row k amounts step old n)) = is_f ∙ bit_is on ∙ ap bit_of (is_on ∙ ap is_dot here) in
     let rest : get_or dots n 0 ≡ get_or old_dots n 0 = s.rest n (omega arith) in
     record {

@@ -7,3 +7,5 @@ pub mod LaneSteps
 pub mod LaneBits
 pub mod LaneAmounts
 pub mod HeldBlocks
+pub mod LaneCells
+pub mod LaneTile

@@ -5,7 +5,7 @@ ghost use Rattle.std.specs.Prelude.{◌<◌};
 ghost use Rattle.tile_lanes.specs.Done.{IsDone, IsReady, plane_of, window_of};
 ghost use Rattle.tile_shape.specs.Geometry.{IsTile};
 
-use crate::plain::diffuse_tile_plainly;
+use crate::lanes::diffuse_lanes;
 use diffusion_kernel::Kernel;
 use dot_planes::InkRows;
 use tile_shape::Place;
@@ -43,5 +43,10 @@ pub fn diffuse_tile(
         → IsReady e place side.old band.old corner.old
         → IsDone (table_of kernel) (plane_of rows.now ink) e place side.new band.new corner.new dots.new }
 {
-    diffuse_tile_plainly(kernel, place, rows, ink, side, band, corner, dots);
+    // each kernel has a call of its own, which is compiled for its shares
+    match kernel {
+        Kernel::Floyd => diffuse_lanes(Kernel::Floyd, place, rows, ink, side, band, corner, dots),
+        Kernel::Jarvis => diffuse_lanes(Kernel::Jarvis, place, rows, ink, side, band, corner, dots),
+        Kernel::Stucki => diffuse_lanes(Kernel::Stucki, place, rows, ink, side, band, corner, dots),
+    }
 }

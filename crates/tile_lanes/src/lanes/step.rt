@@ -70,7 +70,13 @@ fn lacks_pixel(place: Place, rows: &InkRows, ink: u8, r: usize, step: usize) -> 
     ensures some { result ≡ false → (o : ℕ) → o + r + 8 ≡ step → is_place (plane_of rows.now ink) place.j r (64 * place.c + o) ≡ true }
 {
     r + 8 <= step
-        && !has_pixel(rows, ink, place.j, r, 64 * place.c as usize + (step - 8 - r))
+        && !has_pixel(
+            rows,
+            ink,
+            place.j,
+            r,
+            64 * place.c as usize + (step - 8 - r),
+        )
 }
 
 /// Takes back what a step gave to pixels that do not exist.

@@ -25,10 +25,10 @@ loop-r-preserved c =
                 (omega arith) room more (c.lacks_pixel.ensures.none w.if-lacks_pixel.true) refl v.cleared);
           }
       | else-lacks_pixel w ↦ record {
-          long = c.if-lacks_pixel.array_long;
-          dots_long = c.if-lacks_pixel.array_long2;
-          in_range = rw w.field-is v.in_range;
-          cleared = rw (w.field-is, w.dots-is) (kept_more _ c.args.place.c c.args.place.j c.args.step r _ _ c.loop-r.field c.loop-r.dots
-              (c.lacks_pixel.ensures.some w.if-lacks_pixel.false) v.cleared);
-        }
+        long = c.if-lacks_pixel.array_long;
+        dots_long = c.if-lacks_pixel.array_long2;
+        in_range = rw w.field-is v.in_range;
+        cleared = rw (w.field-is, w.dots-is) (kept_more _ c.args.place.c c.args.place.j c.args.step r _ _ c.loop-r.field c.loop-r.dots
+            (c.lacks_pixel.ensures.some w.if-lacks_pixel.false) v.cleared);
+      }
     ]
