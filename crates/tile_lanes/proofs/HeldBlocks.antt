@@ -49,9 +49,9 @@ pub record IsTaken (at : ℕ → ℕ) (n len : ℕ) (xs : List ℕ) (out : List 
 pub none_taken : (at : ℕ → ℕ) (len : ℕ) (xs : List ℕ) (out : List ℤ) → length out ≡ len → IsTaken at 0 len xs out
 none_taken at len xs out long = record { long = long; there = λ i h. let no : ⊥ = omega arith in absurd no }
 
-pub take_more : (at : ℕ → ℕ) (n len : ℕ) (v : ℤ) (xs : List ℕ) (out : List ℤ) → n < len → InRange v → v ≡ error_held (get_or xs (at n) 0)
-    → IsTaken at n len xs out → IsTaken at (n + 1) len xs (set out n (to_z w16 (of_z w16 v)))
-take_more at n len v xs out room fits is f =
+pub take_more : (at : ℕ → ℕ) (n m len : ℕ) (v : ℤ) (xs : List ℕ) (out : List ℤ) → m ≡ n + 1 → n < len → InRange v → v ≡ error_held (get_or xs (at n) 0)
+    → IsTaken at n len xs out → IsTaken at m len xs (set out n (to_z w16 (of_z w16 v)))
+take_more at n m len v xs out next room fits is f =
     let same : to_z w16 (of_z w16 v) ≡ v = omega (arith, ints) in
     let inside : n < length out = omega (arith, f.long) in
     record {

@@ -75,8 +75,10 @@ pub(crate) fn take_right(field: &[u16; 3502], right: &mut [i16; 192])
     ensures in_range { EachInRange right.new }
     ensures there { (n : ℕ) → n < 192 → slice_index_or right.new n (pos 0) ≡ error_held (slice_index field.now (34 * (66 + n % 6 + n / 6) + 2 + n / 6)) }
 {
-    for n in 0..192 {
-        right[n] = release(field[34 * (66 + n % 6 + n / 6) + 2 + n / 6]);
+    for t in 0..32 {
+        for i in 0..6 {
+            right[6 * t + i] = release(field[34 * (66 + i + t) + 2 + t]);
+        }
     }
 }
 
@@ -87,8 +89,10 @@ pub(crate) fn take_bottom(field: &[u16; 3502], bottom: &mut [i16; 128])
     ensures in_range { EachInRange bottom.new }
     ensures there { (n : ℕ) → n < 128 → slice_index_or bottom.new n (pos 0) ≡ error_held (slice_index field.now (34 * (38 + n % 64 + n / 64) + 32 + n / 64)) }
 {
-    for n in 0..128 {
-        bottom[n] = release(field[34 * (38 + n % 64 + n / 64) + 32 + n / 64]);
+    for t in 0..2 {
+        for i in 0..64 {
+            bottom[64 * t + i] = release(field[34 * (38 + i + t) + 32 + t]);
+        }
     }
 }
 
@@ -99,7 +103,9 @@ pub(crate) fn take_lower_corner(field: &[u16; 3502], corner: &mut [i16; 12])
     ensures in_range { EachInRange corner.new }
     ensures there { (n : ℕ) → n < 12 → slice_index_or corner.new n (pos 0) ≡ error_held (slice_index field.now (34 * (96 + n % 6 + n / 6) + 32 + n / 6)) }
 {
-    for n in 0..12 {
-        corner[n] = release(field[34 * (96 + n % 6 + n / 6) + 32 + n / 6]);
+    for t in 0..2 {
+        for i in 0..6 {
+            corner[6 * t + i] = release(field[34 * (96 + i + t) + 32 + t]);
+        }
     }
 }
