@@ -1,5 +1,5 @@
 -- Amounts by steps.
-use Rattle.std.proofs.Common.{ℕ, true, ◌≡◌, ◌≢◌, ◌+◌, ◌-◌, ◌*◌, ◌<◌, ◌≤◌, ◌∙◌, ap, refl, sym, arith, inl, inr, List, get_or, set, length, length-set, get_or-set_same, get_or-set_other}
+use Rattle.std.proofs.Common.{ℕ, true, ◌≡◌, ◌≢◌, ◌+◌, ◌-◌, ◌*◌, ◌<◌, ◌≤◌, ◌∙◌, ap, sym, arith, inl, inr, List, get_or, set, length, length-set, get_or-set_same, get_or-set_other}
 use Rattle.std.proofs.lemmas.Bool.{cases_eq}
 use Rattle.diffusion_definitions.specs.Diffusion.{Plane}
 use Rattle.tile_lanes.specs.Lanes.{HasAmounts}

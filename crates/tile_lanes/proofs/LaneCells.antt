@@ -1,12 +1,12 @@
 -- The cells of a field are right after a step, and so are the dots.
-use Rattle.std.proofs.Common.{ℕ, ℤ, pos, Bool, true, false, ◌≡◌, ◌≢◌, ◌+◌, ◌-◌, ◌*◌, ◌/◌, ◌%◌, ◌^◌, ◌<◌, ◌≤◌, ◌∙◌, ◌&&◌, ap, refl, sym, arith, inl, inr, zero, suc, List, [], ◌∷◌, get_or, ltb, leb}
+use Rattle.std.proofs.Common.{ℕ, ℤ, pos, Bool, true, false, ◌≡◌, ◌≢◌, ◌+◌, ◌-◌, ◌*◌, ◌/◌, ◌%◌, ◌^◌, ◌<◌, ◌≤◌, ◌∙◌, ◌&&◌, ap, refl, sym, arith, inl, inr, zero, suc, List, [], ◌∷◌, get_or}
 use Rattle.std.proofs.lemmas.Bool.{both_ways, cases_lt, cases_Bool}
 use Rattle.diffusion_definitions.specs.Diffusion.{Errors, Plane, Solves, Table, error_of, five, is_dot, value, value_at}
 use Rattle.tile_edges.specs.Edges.{Holds, skewed}
 use Rattle.tile_lanes.specs.Held.{error_held, same_in, up1_in, up2_in, value_in_row}
 use Rattle.tile_lanes.specs.Lanes.{HasAmounts, HasBits, HasLastDots, IsCleared, IsFilled, IsStep, IsStepped, IsWhole}
 use Rattle.tile_lanes.specs.Rows.{bit, bit_of, is_place, shown}
-use Rattle.tile_lanes.proofs.RowCells.{five_are, no_pixel, none_right, place_inside, two}
+use Rattle.tile_lanes.proofs.RowCells.{five_are, none_right, place_inside, two}
 
 -- A cell that is right, by its place of the plane.
 cell : (e : Errors) (c j t : ℕ) (xs : List ℕ) → IsFilled e c j t xs → (p l n y x : ℕ)
@@ -74,37 +74,36 @@ dot_right k p e c j t r o amounts xs h f row small is_t place =
 -- ---- a step
 
 -- nothing is cleared in a tile that has all its pixels
-pub whole_cleared : (p : Plane) (c j step : ℕ) (xs dots : List ℕ) → IsWhole p c j → IsCleared p c j step 32 xs dots xs dots
+pub whole_cleared : (p : Plane) (c j step : ℕ) (xs dots : List ℕ) → IsWhole p c j → IsCleared p c j step xs dots xs dots
 whole_cleared p c j step xs dots whole = record {
   none = λ r o row small at gone. absurd (both_ways _ gone (whole.at r o row small));
   no_dot = λ r o row small at gone. absurd (both_ways _ gone (whole.at r o row small));
   pixel = λ r o row small at there. refl;
   dot = λ r o row small at there. refl;
-  others = λ m h. refl;
+  before = λ m h. refl;
   after = λ m h. refl;
   dots = λ r. inl refl;
-  rest = λ r h. refl;
 }
 
 -- the cells of earlier groups and of the two rows above stay
 pub step_kept : (k : Table) (p : Plane) (e : Errors) (c j t : ℕ) (amounts f0 d0 f1 d1 f2 d2 : List ℕ)
-    → IsFilled e c j t f0 → IsStep k amounts t 32 f0 d0 f1 d1 → IsCleared p c j t 32 f1 d1 f2 d2 → IsFilled e c j t f2
+    → IsFilled e c j t f0 → IsStep k amounts t 32 f0 d0 f1 d1 → IsCleared p c j t f1 d1 f2 d2 → IsFilled e c j t f2
 step_kept k p e c j t amounts f0 d0 f1 d1 f2 d2 f s g = record {
   before = λ q l band small visited.
       let m : ℕ = 34 * (l + q) + q in
       let low : m < 34 * t + 2 = omega arith in
-      ap error_held (g.others m low ∙ s.before m low) ∙ f.before q l band small visited;
+      ap error_held (g.before m low ∙ s.before m low) ∙ f.before q l band small visited;
   above = λ q l up small.
       let m : ℕ = 34 * (l + q) + q in
       ap error_held (elim (cases_lt m (34 * t + 2)) [
-        | inl low ↦ g.others m low ∙ s.before m low
-        | inr high ↦ let past : 34 * t + 2 + 32 ≤ m = omega arith in g.after m past ∙ s.after m past
+        | inl low ↦ g.before m low ∙ s.before m low
+        | inr high ↦ g.after m (omega arith) ∙ s.after m (omega arith)
       ]) ∙ f.above q l up small;
 }
 
 pub step_right : (k : Table) (p : Plane) (e : Errors) (c j t : ℕ) (amounts f0 d0 f1 d1 f2 d2 : List ℕ)
     → Solves k p e → HasAmounts p c j 32 amounts
-    → IsFilled e c j t f0 → IsStep k amounts t 32 f0 d0 f1 d1 → IsCleared p c j t 32 f1 d1 f2 d2 → IsStepped e c j t f2
+    → IsFilled e c j t f0 → IsStep k amounts t 32 f0 d0 f1 d1 → IsCleared p c j t f1 d1 f2 d2 → IsStepped e c j t f2
 step_right k p e c j t amounts f0 d0 f1 d1 f2 d2 solves h f s g = record {
   filled = step_kept k p e c j t amounts f0 d0 f1 d1 f2 d2 f s g;
   pixels = λ r o row small is_t. elim (cases_Bool (is_place p j r (64 * c + o))) [
@@ -143,7 +142,7 @@ higher d new (suc (suc (suc (suc (suc (suc (suc (suc (suc (suc (suc (suc (suc (s
 higher d new (suc (suc (suc (suc (suc (suc (suc (suc (suc (suc (suc (suc (suc (suc (suc i))))))))))))))) h is = let no : ⊥ = omega arith in absurd no
 
 pub dots_right : (k : Table) (p : Plane) (e : Errors) (c j t : ℕ) (amounts f0 d0 f1 d1 f2 d2 : List ℕ)
-    → HasAmounts p c j 32 amounts → IsFilled e c j t f0 → IsStep k amounts t 32 f0 d0 f1 d1 → IsCleared p c j t 32 f1 d1 f2 d2
+    → HasAmounts p c j 32 amounts → IsFilled e c j t f0 → IsStep k amounts t 32 f0 d0 f1 d1 → IsCleared p c j t f1 d1 f2 d2
     → HasLastDots k p e c j t d0 → HasLastDots k p e c j (t + 1) d2
 dots_right k p e c j t amounts f0 d0 f1 d1 f2 d2 h f s g last = record { at = go }
   where

@@ -1,13 +1,13 @@
 -- One more row of a step.
 use mir.Val.{bool_byte}
-use Rattle.std.proofs.Common.{ℕ, ℤ, pos, Bool, true, false, ◌%◌, ◌≡◌, ◌≢◌, ◌+◌, ◌-◌, ◌*◌, ◌<◌, ◌≤◌, ◌∙◌, ap, refl, sym, subst, arith, inl, inr, List, [], ◌∷◌, get_or, set, length, get_or-set_same, get_or-set_other}
+use Rattle.std.proofs.Common.{ℕ, ℤ, Bool, true, false, ◌%◌, ◌≡◌, ◌≢◌, ◌+◌, ◌-◌, ◌*◌, ◌<◌, ◌≤◌, ◌∙◌, ap, refl, sym, arith, inl, inr, List, get_or, set, length, get_or-set_same, get_or-set_other}
 use Rattle.std.proofs.lemmas.Bool.{both_ways, cases_eq, cases_lt}
 use Rattle.std.proofs.lemmas.List.{set_past}
 use Rattle.diffusion_definitions.specs.Diffusion.{Plane, Table, error_of, is_dot, value}
 use Rattle.tile_lanes.specs.Held.{HeldInRange, error_held, same_in, up1_in, up2_in, value_in, value_in_row}
-use Rattle.tile_lanes.specs.Lanes.{IsCleared, IsStep}
+use Rattle.tile_lanes.specs.Lanes.{AreCleared, IsCleared, IsStep}
 use Rattle.tile_lanes.specs.Rows.{bit_of, is_place}
-use Rattle.tile_lanes.proofs.RowCells.{two, five_are}
+use Rattle.tile_lanes.proofs.RowCells.{five_are, two}
 use Rattle.tile_lanes.proofs.Bits.{bit_is}
 
 pub held_more : (xs : List ℕ) (at v : ℕ) → HeldInRange xs → v ≤ 4079 → HeldInRange (set xs at v)
@@ -84,83 +84,86 @@ step_more k amounts step n at v d f on z old old_dots xs dots is_at small late r
 
 -- ---- pixels that do not exist
 
-pub none_cleared : (p : Plane) (c j step : ℕ) (xs dots : List ℕ) → IsCleared p c j step 0 xs dots xs dots
-none_cleared p c j step xs dots = record {
-  none = λ r o h. let no : ⊥ = omega arith in absurd no;
-  no_dot = λ r o h. let no : ⊥ = omega arith in absurd no;
-  pixel = λ r o h. let no : ⊥ = omega arith in absurd no;
-  dot = λ r o h. let no : ⊥ = omega arith in absurd no;
-  others = λ m h. refl;
+pub none_cleared : (step first : ℕ) (xs dots : List ℕ) → AreCleared step first first xs dots xs dots
+none_cleared step first xs dots = record {
+  none = λ r h g. let no : ⊥ = omega arith in absurd no;
+  no_dot = λ r h g. let no : ⊥ = omega arith in absurd no;
+  before = λ m h. refl;
   after = λ m h. refl;
-  dots = λ r. inl refl;
-  rest = λ r h. refl;
+  dots_before = λ r h. refl;
+  dots_after = λ r h. refl;
 }
 
-pub kept_more : (p : Plane) (c j step n : ℕ) (old old_dots xs dots : List ℕ)
-    → ((o : ℕ) → o + n + 8 ≡ step → is_place p j n (64 * c + o) ≡ true)
-    → IsCleared p c j step n old old_dots xs dots → IsCleared p c j step (n + 1) old old_dots xs dots
-kept_more p c j step n old old_dots xs dots has s = record {
-  none = λ r o h small at gone. elim (cases_eq r n) [
-    | inl last ↦ absurd (both_ways _ (ap (λ m. is_place p j m (64 * c + o)) (sym last) ∙ gone) (has o (omega arith)))
-    | inr not ↦ s.none r o (omega arith) small at gone
-  ];
-  no_dot = λ r o h small at gone. elim (cases_eq r n) [
-    | inl last ↦ absurd (both_ways _ (ap (λ m. is_place p j m (64 * c + o)) (sym last) ∙ gone) (has o (omega arith)))
-    | inr not ↦ s.no_dot r o (omega arith) small at gone
-  ];
-  pixel = λ r o h small at there. elim (cases_eq r n) [
-    | inl last ↦ s.after (34 * step + 2 + r) (omega arith)
-    | inr not ↦ s.pixel r o (omega arith) small at there
-  ];
-  dot = λ r o h small at there. elim (cases_eq r n) [
-    | inl last ↦ s.rest r (omega arith)
-    | inr not ↦ s.dot r o (omega arith) small at there
-  ];
-  others = s.others;
-  after = λ m h. s.after m (omega arith);
-  dots = s.dots;
-  rest = λ r h. s.rest r (omega arith);
-}
-
-pub cleared_more : (p : Plane) (c j step n at d : ℕ) (old old_dots xs dots : List ℕ)
-    → at ≡ 34 * step + 2 + n → n < 32 → at < length xs → n < length dots
-    → ((o : ℕ) → o + n + 8 ≡ step → is_place p j n (64 * c + o) ≡ false)
-    → d ≡ get_or dots n 0 - get_or dots n 0 % 2
-    → IsCleared p c j step n old old_dots xs dots → IsCleared p c j step (n + 1) old old_dots (set xs at 2040) (set dots n d)
-cleared_more p c j step n at d old old_dots xs dots is_at small room more lacks is_d s =
-    let rest : get_or dots n 0 ≡ get_or old_dots n 0 = s.rest n (omega arith) in
+pub cleared_more : (step first n at d : ℕ) (old old_dots xs dots : List ℕ)
+    → at ≡ 34 * step + 2 + n → first ≤ n → at < length xs → n < length dots → d ≡ get_or dots n 0 - get_or dots n 0 % 2
+    → AreCleared step first n old old_dots xs dots → AreCleared step first (n + 1) old old_dots (set xs at 2040) (set dots n d)
+cleared_more step first n at d old old_dots xs dots is_at started room more is_d s =
+    let rest : get_or dots n 0 ≡ get_or old_dots n 0 = s.dots_after n (omega arith) in
     let new : d ≡ get_or old_dots n 0 - get_or old_dots n 0 % 2 = is_d ∙ ap (λ m. m - m % 2) rest in
     record {
-      none = λ r o h few place gone. elim (cases_eq r n) [
+      none = λ r h g. elim (cases_eq r n) [
         | inl last ↦
             let here : 34 * step + 2 + r ≡ at = omega arith in
             ap (λ m. get_or (set xs at 2040) m 0) here ∙ get_or-set_same xs at 2040 0 room
         | inr not ↦
             let other : 34 * step + 2 + r ≢ at = omega arith in
-            get_or-set_other xs at (34 * step + 2 + r) 2040 0 other ∙ s.none r o (omega arith) few place gone
+            get_or-set_other xs at (34 * step + 2 + r) 2040 0 other ∙ s.none r h (omega arith)
       ];
-      no_dot = λ r o h few place gone. elim (cases_eq r n) [
+      no_dot = λ r h g. elim (cases_eq r n) [
         | inl last ↦ ap (λ m. get_or (set dots n d) m 0) last ∙ get_or-set_same dots n d 0 more ∙ new ∙ ap (λ m. get_or old_dots m 0 - get_or old_dots m 0 % 2) (sym last)
-        | inr not ↦ get_or-set_other dots n r d 0 not ∙ s.no_dot r o (omega arith) few place gone
+        | inr not ↦ get_or-set_other dots n r d 0 not ∙ s.no_dot r h (omega arith)
       ];
-      pixel = λ r o h few place there. elim (cases_eq r n) [
-        | inl last ↦ absurd (both_ways _ (ap (λ m. is_place p j m (64 * c + o)) last ∙ lacks o (omega arith)) there)
-        | inr not ↦
-            let other : 34 * step + 2 + r ≢ at = omega arith in
-            get_or-set_other xs at (34 * step + 2 + r) 2040 0 other ∙ s.pixel r o (omega arith) few place there
-      ];
-      dot = λ r o h few place there. elim (cases_eq r n) [
-        | inl last ↦ absurd (both_ways _ (ap (λ m. is_place p j m (64 * c + o)) last ∙ lacks o (omega arith)) there)
-        | inr not ↦ get_or-set_other dots n r d 0 not ∙ s.dot r o (omega arith) few place there
-      ];
-      others = λ m h. let other : m ≢ at = omega arith in get_or-set_other xs at m 2040 0 other ∙ s.others m h;
+      before = λ m h. let other : m ≢ at = omega arith in get_or-set_other xs at m 2040 0 other ∙ s.before m h;
       after = λ m h. let other : m ≢ at = omega arith in get_or-set_other xs at m 2040 0 other ∙ s.after m (omega arith);
-      dots = λ r. elim (cases_eq r n) [
-        | inl last ↦ inr (ap (λ m. get_or (set dots n d) m 0) last ∙ get_or-set_same dots n d 0 more ∙ new ∙ ap (λ m. get_or old_dots m 0 - get_or old_dots m 0 % 2) (sym last))
-        | inr not ↦ elim (s.dots r) [
-          | inl same ↦ inl (get_or-set_other dots n r d 0 not ∙ same)
-          | inr less ↦ inr (get_or-set_other dots n r d 0 not ∙ less)
-        ]
-      ];
-      rest = λ r h. let other : r ≢ n = omega arith in get_or-set_other dots n r d 0 other ∙ s.rest r (omega arith);
+      dots_before = λ r h. let other : r ≢ n = omega arith in get_or-set_other dots n r d 0 other ∙ s.dots_before r h;
+      dots_after = λ r h. let other : r ≢ n = omega arith in get_or-set_other dots n r d 0 other ∙ s.dots_after r (omega arith);
     }
+
+-- Rows from the top and rows to the last are cleared, which have no pixel; those between them have one.
+pub both_cleared : (p : Plane) (c j step first end : ℕ) (f0 d0 f1 d1 f2 d2 : List ℕ) → first ≤ end → end ≤ 32
+    → ((r o : ℕ) → first ≤ r → r < end → o + r + 8 ≡ step → is_place p j r (64 * c + o) ≡ true)
+    → ((r o : ℕ) → r < first → o + r + 8 ≡ step → is_place p j r (64 * c + o) ≡ false)
+    → ((r o : ℕ) → end ≤ r → r < 32 → o + r + 8 ≡ step → is_place p j r (64 * c + o) ≡ false)
+    → AreCleared step 0 first f0 d0 f1 d1 → AreCleared step end 32 f1 d1 f2 d2 → IsCleared p c j step f0 d0 f2 d2
+both_cleared p c j step first end f0 d0 f1 d1 f2 d2 order most inside above below a b = record {
+  none = λ r o row small at gone. elim (cases_lt r first) [
+    | inl up ↦ b.before (34 * step + 2 + r) (omega arith) ∙ a.none r (omega arith) up
+    | inr from ↦ elim (cases_lt r end) [
+      | inl here ↦ absurd (both_ways _ gone (inside r o from here at))
+      | inr down ↦ b.none r down row
+    ]
+  ];
+  no_dot = λ r o row small at gone. elim (cases_lt r first) [
+    | inl up ↦ b.dots_before r (omega arith) ∙ a.no_dot r (omega arith) up
+    | inr from ↦ elim (cases_lt r end) [
+      | inl here ↦ absurd (both_ways _ gone (inside r o from here at))
+      | inr down ↦ b.no_dot r down row ∙ ap (λ m. m - m % 2) (a.dots_after r from)
+    ]
+  ];
+  pixel = λ r o row small at there. elim (cases_lt r first) [
+    | inl up ↦ absurd (both_ways _ (above r o up at) there)
+    | inr from ↦ elim (cases_lt r end) [
+      | inl here ↦ b.before (34 * step + 2 + r) (omega arith) ∙ a.after (34 * step + 2 + r) (omega arith)
+      | inr down ↦ absurd (both_ways _ (below r o down row at) there)
+    ]
+  ];
+  dot = λ r o row small at there. elim (cases_lt r first) [
+    | inl up ↦ absurd (both_ways _ (above r o up at) there)
+    | inr from ↦ elim (cases_lt r end) [
+      | inl here ↦ b.dots_before r here ∙ a.dots_after r from
+      | inr down ↦ absurd (both_ways _ (below r o down row at) there)
+    ]
+  ];
+  before = λ m h. b.before m (omega arith) ∙ a.before m (omega arith);
+  after = λ m h. b.after m (omega arith) ∙ a.after m (omega arith);
+  dots = λ r. elim (cases_lt r first) [
+    | inl up ↦ inr (b.dots_before r (omega arith) ∙ a.no_dot r (omega arith) up)
+    | inr from ↦ elim (cases_lt r end) [
+      | inl here ↦ inl (b.dots_before r here ∙ a.dots_after r from)
+      | inr down ↦ elim (cases_lt r 32) [
+        | inl row ↦ inr (b.no_dot r down row ∙ ap (λ m. m - m % 2) (a.dots_after r from))
+        | inr past ↦ inl (b.dots_after r past ∙ a.dots_after r from)
+      ]
+    ]
+  ];
+}

@@ -1,5 +1,5 @@
 -- A tile with its rows in step, from its edges to its edges.
-use Rattle.std.proofs.Common.{ℕ, ℤ, pos, ◌≡◌, ◌≢◌, ◌+◌, ◌-◌, ◌*◌, ◌/◌, ◌%◌, ◌<◌, ◌≤◌, ◌∙◌, ap, arith, inl, inr, List, get_or, replicate, zero, suc}
+use Rattle.std.proofs.Common.{ℕ, ℤ, pos, ◌≡◌, ◌≢◌, ◌+◌, ◌-◌, ◌*◌, ◌/◌, ◌%◌, ◌<◌, ◌∙◌, ap, arith, inl, inr, List, get_or, replicate, zero, suc}
 use Rattle.std.proofs.lemmas.Bool.{cases_lt}
 use Rattle.diffusion_definitions.specs.Diffusion.{Errors, Plane, Table}
 use Rattle.tile_edges.specs.Edges.{Holds, skewed}

@@ -23,20 +23,29 @@ pub record IsStep (k : Table) (amounts : List ℕ) (step n : ℕ) (old old_dots 
   pub dots : (r : ℕ) → r < n → slice_index new_dots r ≡ (2 * slice_index old_dots r + bit_of (is_dot (value_in_row k amounts step old r))) % 65536
   pub rest : (r : ℕ) → n ≤ r → slice_index new_dots r ≡ slice_index old_dots r
 
--- The first n rows of a step have no error and no dot where they have no pixel, and all else is as it was.
-pub record IsCleared (p : Plane) (c j step n : ℕ) (old old_dots new new_dots : List ℕ) : Type 0 where
-  pub none : (r o : ℕ) → r < n → o < 64 → o + r + 8 ≡ step → is_place p j r (64 * c + o) ≡ false
+-- Rows of a step have no error and no dot any more, and all else is as it was.
+pub record AreCleared (step first end : ℕ) (old old_dots new new_dots : List ℕ) : Type 0 where
+  pub none : (r : ℕ) → first ≤ r → r < end → slice_index new (34 * step + 2 + r) ≡ 2040
+  pub no_dot : (r : ℕ) → first ≤ r → r < end → slice_index new_dots r ≡ slice_index old_dots r - slice_index old_dots r % 2
+  pub before : (m : ℕ) → m < 34 * step + 2 + first → slice_index new m ≡ slice_index old m
+  pub after : (m : ℕ) → 34 * step + 2 + end ≤ m → slice_index new m ≡ slice_index old m
+  pub dots_before : (r : ℕ) → r < first → slice_index new_dots r ≡ slice_index old_dots r
+  pub dots_after : (r : ℕ) → end ≤ r → slice_index new_dots r ≡ slice_index old_dots r
+
+-- The rows of a step have no error and no dot where they have no pixel, and all else is as it was. A dot is taken back or
+-- not also where a row has left the tile.
+pub record IsCleared (p : Plane) (c j step : ℕ) (old old_dots new new_dots : List ℕ) : Type 0 where
+  pub none : (r o : ℕ) → r < 32 → o < 64 → o + r + 8 ≡ step → is_place p j r (64 * c + o) ≡ false
       → slice_index new (34 * step + 2 + r) ≡ 2040
-  pub no_dot : (r o : ℕ) → r < n → o < 64 → o + r + 8 ≡ step → is_place p j r (64 * c + o) ≡ false
+  pub no_dot : (r o : ℕ) → r < 32 → o < 64 → o + r + 8 ≡ step → is_place p j r (64 * c + o) ≡ false
       → slice_index new_dots r ≡ slice_index old_dots r - slice_index old_dots r % 2
-  pub pixel : (r o : ℕ) → r < n → o < 64 → o + r + 8 ≡ step → is_place p j r (64 * c + o) ≡ true
+  pub pixel : (r o : ℕ) → r < 32 → o < 64 → o + r + 8 ≡ step → is_place p j r (64 * c + o) ≡ true
       → slice_index new (34 * step + 2 + r) ≡ slice_index old (34 * step + 2 + r)
-  pub dot : (r o : ℕ) → r < n → o < 64 → o + r + 8 ≡ step → is_place p j r (64 * c + o) ≡ true
+  pub dot : (r o : ℕ) → r < 32 → o < 64 → o + r + 8 ≡ step → is_place p j r (64 * c + o) ≡ true
       → slice_index new_dots r ≡ slice_index old_dots r
-  pub others : (m : ℕ) → m < 34 * step + 2 → slice_index new m ≡ slice_index old m
-  pub after : (m : ℕ) → 34 * step + 2 + n ≤ m → slice_index new m ≡ slice_index old m
+  pub before : (m : ℕ) → m < 34 * step + 2 → slice_index new m ≡ slice_index old m
+  pub after : (m : ℕ) → 34 * step + 34 ≤ m → slice_index new m ≡ slice_index old m
   pub dots : (r : ℕ) → (slice_index new_dots r ≡ slice_index old_dots r) ⊎ (slice_index new_dots r ≡ slice_index old_dots r - slice_index old_dots r % 2)
-  pub rest : (r : ℕ) → n ≤ r → slice_index new_dots r ≡ slice_index old_dots r
 
 -- All errors of the groups before a step are right, for the tile in column c of band j, and so are those above it.
 pub record IsFilled (e : Errors) (c j step : ℕ) (xs : List ℕ) : Type 0 where

@@ -3,7 +3,7 @@
 //! so those of one group are taken in one step.
 ghost use Rattle.diffusion_definitions.specs.Diffusion.{EachInRange, Errors, Solves};
 ghost use Rattle.diffusion_kernel.specs.Tables.{table_of};
-ghost use Rattle.std.specs.Prelude.{true, ◌<◌, ◌≡◌};
+ghost use Rattle.std.specs.Prelude.{true, ◌<◌, ◌≡◌, ◌≤◌};
 ghost use Rattle.tile_edges.specs.Edges.{IsLeft};
 ghost use Rattle.tile_lanes.specs.Done.{IsDone, IsReady, plane_of, window_of};
 ghost use Rattle.tile_lanes.specs.Held.{HeldInRange};
@@ -45,10 +45,11 @@ fn clear_missing(
     step: usize,
 )
     requires whole { whole ≡ true → IsWhole (plane_of rows.now ink) place.c place.j }
+    requires low { 8 ≤ step }
     requires high { step < 103 }
     requires in_range { HeldInRange field.old }
     ensures in_range { HeldInRange field.new }
-    ensures cleared { IsCleared (plane_of rows.now ink) place.c place.j step 32 field.old dots.old field.new dots.new }
+    ensures cleared { IsCleared (plane_of rows.now ink) place.c place.j step field.old dots.old field.new dots.new }
 {
     if !whole {
         clear_step(place, rows, ink, field, dots, step);

@@ -14,7 +14,6 @@ use dot_planes::InkRows;
 use edges::{put_above, put_corner, put_left, take_bottom, take_lower_corner, take_right};
 use packing::pack_row;
 use row::diffuse_row;
-pub(crate) use row::has_pixel;
 use tile_shape::Place;
 
 /// The plain, slow program of what `diffuse_tile` promises, with which tests compare it: the pixels one by one, row by

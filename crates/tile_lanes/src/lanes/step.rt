@@ -3,11 +3,10 @@ ghost use Rattle.std.specs.Prelude.{slice_index, true, false, ◌%◌, ◌*◌, 
 ghost use Rattle.diffusion_kernel.specs.Tables.{table_of};
 ghost use Rattle.tile_lanes.specs.Done.{plane_of};
 ghost use Rattle.tile_lanes.specs.Held.{HeldInRange, IsHeld, same_in, same_of, up1_in, up1_of, up2_in, up2_of};
-ghost use Rattle.tile_lanes.specs.Lanes.{IsCleared, IsStep};
+ghost use Rattle.tile_lanes.specs.Lanes.{AreCleared, IsCleared, IsStep};
 ghost use Rattle.tile_lanes.specs.Rows.{is_place};
 
 use super::value::{Around, held_error, held_value, shows_dot};
-use crate::plain::has_pixel;
 use diffusion_kernel::Kernel;
 use dot_planes::InkRows;
 use tile_shape::Place;
@@ -62,21 +61,49 @@ pub(crate) fn diffuse_step(
     }
 }
 
-// Whether there is no pixel in row r at a step.
-fn lacks_pixel(place: Place, rows: &InkRows, ink: u8, r: usize, step: usize) -> bool
-    requires r { r < 32 }
-    requires step { step < 103 }
-    ensures none { result ≡ true → (o : ℕ) → o + r + 8 ≡ step → is_place (plane_of rows.now ink) place.j r (64 * place.c + o) ≡ false }
-    ensures some { result ≡ false → (o : ℕ) → o + r + 8 ≡ step → is_place (plane_of rows.now ink) place.j r (64 * place.c + o) ≡ true }
+// The rows of a step from the first that has a pixel, and to the last.
+#[derive(Clone, Copy)]
+struct Span {
+    first: usize,
+    end: usize,
+}
+
+// Which rows of a step have a pixel: rows above them are right of the window, and rows below them left of it or below it.
+fn span_of(place: Place, rows: &InkRows, ink: u8, step: usize) -> Span
+    requires low { 8 ≤ step }
+    requires high { step < 103 }
+    ensures order { result.first ≤ result.end }
+    ensures most { result.end ≤ 32 }
+    ensures inside { (r o : ℕ) → result.first ≤ r → r < result.end → o + r + 8 ≡ step
+        → is_place (plane_of rows.now ink) place.j r (64 * place.c + o) ≡ true }
+    ensures before { (r o : ℕ) → r < result.first → o + r + 8 ≡ step → is_place (plane_of rows.now ink) place.j r (64 * place.c + o) ≡ false }
+    ensures after { (r o : ℕ) → result.end ≤ r → r < 32 → o + r + 8 ≡ step
+        → is_place (plane_of rows.now ink) place.j r (64 * place.c + o) ≡ false }
 {
-    r + 8 <= step
-        && !has_pixel(
-            rows,
-            ink,
-            place.j,
-            r,
-            64 * place.c as usize + (step - 8 - r),
-        )
+    // the pixel of row 0, if rows above the band went on
+    let x = 64 * place.c as usize + (step - 8);
+    let high = (rows.rows() as usize).saturating_sub(32 * place.j as usize);
+    let end = (x / 3 + 1).min(high).min(32);
+    let past = (x + 3).saturating_sub(rows.width() as usize) / 3;
+    Span {
+        first: past.min(end),
+        end,
+    }
+}
+
+// Takes back the errors and dots of rows of a step.
+fn clear_rows(field: &mut [u16; 3502], dots: &mut [u16; 32], step: usize, first: usize, end: usize)
+    requires high { step < 103 }
+    requires order { first ≤ end }
+    requires most { end ≤ 32 }
+    requires in_range { HeldInRange field.old }
+    ensures in_range { HeldInRange field.new }
+    ensures cleared { AreCleared step first end field.old dots.old field.new dots.new }
+{
+    for r in first..end {
+        field[34 * step + 2 + r] = 2040;
+        dots[r] -= dots[r] % 2;
+    }
 }
 
 /// Takes back what a step gave to pixels that do not exist.
@@ -88,15 +115,13 @@ pub(crate) fn clear_step(
     dots: &mut [u16; 32],
     step: usize,
 )
+    requires low { 8 ≤ step }
     requires high { step < 103 }
     requires in_range { HeldInRange field.old }
     ensures in_range { HeldInRange field.new }
-    ensures cleared { IsCleared (plane_of rows.now ink) place.c place.j step 32 field.old dots.old field.new dots.new }
+    ensures cleared { IsCleared (plane_of rows.now ink) place.c place.j step field.old dots.old field.new dots.new }
 {
-    for r in 0..32 {
-        if lacks_pixel(place, rows, ink, r, step) {
-            field[34 * step + 2 + r] = 2040;
-            dots[r] -= dots[r] % 2;
-        }
-    }
+    let span = span_of(place, rows, ink, step);
+    clear_rows(field, dots, step, 0, span.first);
+    clear_rows(field, dots, step, span.end, 32);
 }

@@ -42,7 +42,7 @@ fn near_of(field: &[i16; 2380], at: usize) -> Near
 }
 
 // Whether there is a pixel in row r of band j at u, which is x + 2 r.
-pub(crate) fn has_pixel(rows: &InkRows, ink: u8, j: u32, r: usize, u: usize) -> bool
+fn has_pixel(rows: &InkRows, ink: u8, j: u32, r: usize, u: usize) -> bool
     requires r { r < 32 }
     ensures is { result ≡ is_place (plane_of rows.now ink) j r u }
     ensures across { result ≡ true → u - 2 * r < 4294967296 }

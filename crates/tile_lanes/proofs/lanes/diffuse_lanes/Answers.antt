@@ -1,5 +1,3 @@
-use Rattle.diffusion_kernel.specs.Tables.{table_of}
-use Rattle.tile_lanes.specs.Done.{plane_of}
 use Rattle.tile_lanes.proofs.LaneTile.{all_bits, bottom_of, corner_of, loaded_above, right_of, zeros_held}
 use Rattle.tile_lanes.proofs.RowTile.{dots_done}
 use Rattle.tile_lanes.proofs.lanes.diffuse_lanes.Goals as goal

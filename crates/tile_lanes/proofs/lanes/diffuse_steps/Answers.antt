@@ -2,7 +2,7 @@ use Rattle.std.proofs.Common.{ℕ, ◌≡◌, arith, subst}
 use Rattle.diffusion_definitions.specs.Diffusion.{Plane, Table}
 use Rattle.diffusion_kernel.specs.Tables.{table_of}
 use Rattle.tile_lanes.specs.Done.{plane_of}
-use Rattle.tile_lanes.specs.Lanes.{HasBits, IsFilled}
+use Rattle.tile_lanes.specs.Lanes.{HasBits}
 use Rattle.tile_lanes.proofs.LaneCells.{bits_more, dots_right, group_filled, step_right}
 use Rattle.tile_lanes.proofs.lanes.diffuse_steps.Goals as goal
 

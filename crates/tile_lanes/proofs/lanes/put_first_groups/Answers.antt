@@ -1,4 +1,4 @@
-use Rattle.std.proofs.Common.{arith, ◌<◌}
+use Rattle.std.proofs.Common.{arith}
 use Rattle.tile_lanes.proofs.LaneCells.{early, group_filled}
 use Rattle.tile_lanes.proofs.lanes.put_first_groups.Goals as goal
 

@@ -1,5 +1,5 @@
-use Rattle.std.proofs.Common.{arith, ◌%◌, ◌*◌, ◌+◌, ◌/◌, ◌<◌, ◌≤◌}
-use Rattle.tile_lanes.proofs.HeldBlocks.{IsPut, none_put, put_more}
+use Rattle.std.proofs.Common.{arith, ◌%◌, ◌*◌, ◌+◌, ◌/◌}
+use Rattle.tile_lanes.proofs.HeldBlocks.{none_put, put_more}
 use Rattle.tile_lanes.proofs.lanes.edges.put_corner.Goals as goal
 
 pub loop-n-init : goal.loop-n-init

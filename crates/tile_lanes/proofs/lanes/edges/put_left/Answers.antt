@@ -1,5 +1,5 @@
-use Rattle.std.proofs.Common.{arith, ◌-◌, ◌*◌, ◌+◌, ◌<◌, ◌≤◌, ◌≡◌, ap, get_or, pos, ◌∙◌}
-use Rattle.tile_lanes.proofs.HeldBlocks.{IsPut, none_put, put_more}
+use Rattle.std.proofs.Common.{arith, ◌-◌, ◌*◌, ◌+◌, ◌≡◌, ap, get_or, pos, ◌∙◌}
+use Rattle.tile_lanes.proofs.HeldBlocks.{none_put, put_more}
 use Rattle.tile_lanes.proofs.lanes.edges.put_left.Goals as goal
 
 pub loop-p-init : goal.loop-p-init

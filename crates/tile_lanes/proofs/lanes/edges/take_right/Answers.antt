@@ -1,4 +1,4 @@
-use Rattle.std.proofs.Common.{ℕ, ◌≡◌, arith, ap, get_or, ◌%◌, ◌*◌, ◌+◌, ◌/◌, ◌<◌, ◌≤◌, ◌∙◌, subst}
+use Rattle.std.proofs.Common.{ℕ, ◌≡◌, arith, ap, get_or, ◌%◌, ◌*◌, ◌+◌, ◌/◌, ◌∙◌, subst}
 use Rattle.tile_lanes.specs.Held.{error_held}
 use Rattle.tile_lanes.proofs.HeldBlocks.{IsTaken, none_taken, take_more, taken_in_range}
 use Rattle.tile_lanes.proofs.lanes.edges.take_right.Goals as goal

@@ -1,4 +1,4 @@
-use Rattle.std.proofs.Common.{arith, ◌∙◌, refl}
+use Rattle.std.proofs.Common.{arith}
 use Rattle.tile_lanes.proofs.LaneAmounts.{rows_more, rows_past}
 use Rattle.tile_lanes.proofs.lanes.gather.gather.Goals as goal
 use Rattle.tile_lanes.proofs.lanes.gather.gather.Goals.{then-y-rows, else-y-rows}

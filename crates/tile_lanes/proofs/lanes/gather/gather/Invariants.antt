@@ -1,4 +1,3 @@
-use Rattle.std.proofs.Common.{◌≡◌, length}
 use Rattle.tile_lanes.specs.Done.{plane_of}
 use Rattle.tile_lanes.specs.Lanes.{HasAmounts}
 use Rattle.tile_lanes.proofs.lanes.gather.gather.Given as goal

@@ -1,5 +1,5 @@
-use Rattle.std.proofs.Common.{ℕ, ◌<◌, ◌≡◌, ◌+◌, ◌-◌, ◌*◌, arith, refl}
-use Rattle.tile_lanes.proofs.LaneAmounts.{IsLaid, laid_more}
+use Rattle.std.proofs.Common.{arith, refl}
+use Rattle.tile_lanes.proofs.LaneAmounts.{laid_more}
 use Rattle.tile_lanes.proofs.lanes.gather.lay_row.Goals as goal
 
 pub loop-o-preserved : goal.loop-o-preserved

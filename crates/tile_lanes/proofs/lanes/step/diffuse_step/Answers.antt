@@ -1,4 +1,4 @@
-use Rattle.std.proofs.Common.{ℕ, List, ◌<◌, ◌+◌, ◌*◌, ◌-◌, arith, refl, sym, length, length-set, ◌∙◌}
+use Rattle.std.proofs.Common.{ℕ, ◌<◌, ◌+◌, ◌*◌, arith, refl, length, length-set, ◌∙◌}
 use Rattle.diffusion_kernel.specs.Tables.{table_of}
 use Rattle.tile_lanes.proofs.LaneSteps.{held_more, none_stepped, step_more, value_here}
 use Rattle.tile_lanes.proofs.lanes.step.diffuse_step.Goals as goal
