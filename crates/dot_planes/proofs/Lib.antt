@@ -4,3 +4,7 @@ pub mod Writes
 pub mod PutAmounts
 pub mod PackedRows
 pub mod PutDots
+pub mod MovedBits
+pub mod LaidBytes
+pub mod LaidRows
+pub mod PutLaid

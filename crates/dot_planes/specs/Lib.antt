@@ -1,3 +1,4 @@
 pub mod Tables
+pub mod Laying
 pub mod Planes
 pub mod InkRows

@@ -5,6 +5,8 @@ ghost use Rattle.std.specs.List.{count_by, sum_by};
 ghost use Rattle.std.specs.Prelude.{IfOk, count_ones, false, length, map, ℕ, ◌<◌, ◌≡◌, ◌≤◌};
 ghost use Rattle.weave_definitions.specs.Weave.{count_from};
 
+mod laying;
+
 use crate::places::{row_of, row_start};
 use std::alloc::Global;
 use std::marker::Model;
