@@ -8,3 +8,7 @@ pub mod Bytes
 pub mod TileBytes
 pub mod TileRows
 pub mod PutTiles
+pub mod MovedBits
+pub mod LaidBytes
+pub mod LaidRows
+pub mod PutLaid

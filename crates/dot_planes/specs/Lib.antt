@@ -1,4 +1,5 @@
 pub mod Tables
+pub mod Laying
 pub mod Planes
 pub mod InkRows
 pub mod Tiles

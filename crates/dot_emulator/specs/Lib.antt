@@ -1,0 +1,5 @@
+pub mod Sheets
+pub mod Margins
+pub mod Steps
+pub mod States
+pub mod Runs

@@ -1,0 +1,13 @@
+-- The margins of a page.
+use Rattle.std.specs.Prelude.{ℕ, Option, Some, None}
+use Rattle.escp2_definitions.specs.Machine.{PageMargins}
+use Rattle.dot_emulator.specs.declared.state.Margins.{Margins}
+
+abbrev pub margins_of : Option Margins → Option PageMargins
+margins_of None = None
+margins_of (Some margins) = Some (record { top = margins.top; bottom = margins.bottom })
+
+-- the top margin, or 0
+abbrev pub top_of : Option Margins → ℕ
+top_of None = 0
+top_of (Some margins) = margins.top

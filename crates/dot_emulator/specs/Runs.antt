@@ -1,0 +1,43 @@
+-- What the emulator is of the machine, and what it answers.
+use Rattle.std.specs.Prelude.{◌≡◌, ℕ, true, List, [], ◌∷◌, Option, Some, None, Result, Ok, Err}
+use Rattle.printer_definitions.specs.Printer.{Printer, column_step, row_step}
+use Rattle.escp2_definitions.specs.declared.command.Command.{Command}
+use Rattle.escp2_definitions.specs.Machine.{Machine, Sheet as PrintedSheet, after, first_fault, given, has_dots, refusals}
+use Rattle.dot_planes.specs.Tables.{DotTable}
+use Rattle.dot_emulator.specs.declared.emulator.Emulator.{Emulator}
+use Rattle.dot_emulator.specs.declared.emulator.EmuStop.{EmuStop}
+use Rattle.dot_emulator.specs.declared.emulator.EmuStop.TheVariants.{Refused, Memory}
+use Rattle.dot_emulator.specs.declared.sheet.Sheet.{Sheet}
+use Rattle.dot_emulator.specs.Sheets.{HasDots}
+use Rattle.dot_emulator.specs.States.{machine_of}
+use Rattle.dot_emulator.specs.Steps.{AreStepsOf}
+
+-- A sheet of the machine, dot by dot.
+pub record IsSheet (p : Printer) (s : PrintedSheet) (sheet : Sheet) : Type 0 where
+  pub rows : sheet.rows ≡ s.rows
+  pub columns : sheet.columns ≡ s.columns
+  pub dots : HasDots (column_step p) (row_step p) s.columns s.dots sheet.planes
+
+-- the planes of the sheet in hand, which are made for its first dot
+abbrev pub ShowsDots : Printer → Machine → Option DotTable → Type 0
+ShowsDots p m None = m.dots ≡ []
+ShowsDots p m (Some t) = (has_dots m ≡ true) × HasDots (column_step p) (row_step p) m.columns m.dots t
+
+-- The emulator stands for the machine in this state, on this printer.
+pub record Shows (p : Printer) (e : Emulator) (m : Machine) : Type 0 where
+  pub steps : AreStepsOf p e.steps
+  pub state : machine_of e.state m.dots ≡ m
+  pub dots : ShowsDots p m e.planes
+
+-- the sheet that a command gives
+abbrev pub IsGiven : Printer → List PrintedSheet → Option Sheet → Type 0
+IsGiven p sheets None = sheets ≡ []
+IsGiven p sheets (Some sheet) = (s : PrintedSheet) × (sheets ≡ s ∷ []) × IsSheet p s sheet
+
+-- What a command comes to where the emulator stands for a machine: the machine's next state and the sheet that it gives,
+-- or the machine's first refusal, or want of memory where there is none. After these two the emulator is unchanged.
+abbrev pub Runs : Printer → Machine → Command → List ℕ → Emulator → Emulator → Result (Option Sheet) EmuStop → Type 0
+Runs p m command rows old new (Ok sheet) =
+    (first_fault (refusals p m command rows) ≡ None) × IsGiven p (given p m command) sheet × Shows p new (after p m command rows)
+Runs p m command rows old new (Err (Refused fault)) = (first_fault (refusals p m command rows) ≡ Some fault) × (new ≡ old)
+Runs p m command rows old new (Err Memory) = (first_fault (refusals p m command rows) ≡ None) × (new ≡ old)

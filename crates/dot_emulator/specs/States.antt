@@ -1,0 +1,38 @@
+-- The machine, from what is kept of it.
+use Rattle.std.specs.Prelude.{◌≡◌, ◌==◌, not, List, [], ◌∷◌, Option, Some, None, Result, Ok, Err}
+use Rattle.escp2_definitions.specs.Machine.{Dot, Machine, after, first_fault, is_off_grid, is_other_density, no_margins, no_unit, refusals, refuse}
+use Rattle.escp2_definitions.specs.declared.command.Command.{Command}
+use Rattle.escp2_definitions.specs.declared.command.RasterHead.{RasterHead}
+use Rattle.escp2_definitions.specs.declared.stops.EmuFault.{EmuFault}
+use Rattle.escp2_definitions.specs.declared.stops.EmuFault.TheVariants.{NotGraphics, Density, Rows, OffGrid}
+use Rattle.printer_definitions.specs.Printer.{Printer}
+use Rattle.dot_emulator.specs.Margins.{margins_of}
+use Rattle.dot_emulator.specs.declared.state.State.{State}
+
+-- the machine with these dots on its sheet
+abbrev pub machine_of : State → List Dot → Machine
+machine_of s dots = record {
+  graphics = s.graphics;
+  unit = s.unit;
+  page = s.page;
+  margins = margins_of s.margins;
+  colour = s.colour;
+  down = s.down;
+  across = s.across;
+  columns = s.columns;
+  dots = dots;
+}
+
+-- A step of the machine that fires no dots: what it is refused for, or the state behind it.
+abbrev pub IsStep : Printer → Machine → Command → Result State EmuFault → Type 0
+IsStep p m command (Ok s) = (first_fault (refusals p m command []) ≡ None) × (machine_of s (after p m command []).dots ≡ after p m command [])
+IsStep p m command (Err fault) = first_fault (refusals p m command []) ≡ Some fault
+
+-- what a raster is refused for, whatever its dots
+abbrev pub early_fault : Printer → Machine → RasterHead → Option EmuFault
+early_fault p m head = first_fault (
+    refuse (not m.graphics) NotGraphics ∷ no_unit m ∷ no_margins m
+    ∷ refuse (is_other_density p head) Density
+    ∷ refuse (not (head.m == p.nozzles)) Rows
+    ∷ refuse (is_off_grid p m) OffGrid
+    ∷ [])

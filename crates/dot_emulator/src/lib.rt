@@ -1,0 +1,13 @@
+//! The sheets that print jobs make, dot by dot.
+#![tactic(auto)]
+
+mod emulator;
+mod raster;
+mod sheet;
+mod state;
+mod steps;
+
+pub use emulator::{EmuStop, Emulator};
+pub use escp2_commands::{Command, RasterHead};
+pub use escp2_definitions::EmuFault;
+pub use sheet::Sheet;

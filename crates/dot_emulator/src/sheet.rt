@@ -1,0 +1,21 @@
+//! Sheets with their dots.
+ghost use Rattle.dot_emulator.specs.Sheets.{IsBlankFrom};
+ghost use Rattle.std.specs.Prelude.{◌≡◌, ◌≤◌};
+
+use dot_planes::Planes;
+
+/// A sheet that was ejected. Its planes are black, cyan, magenta and yellow, and no column past its own has a dot.
+#[derive(Drop)]
+pub struct Sheet {
+    /// Rows of dots, as many as the page has.
+    pub rows: u32,
+    /// Columns of dots from the left margin on, up to the last that a raster has passed.
+    pub columns: u32,
+    pub planes: Planes,
+    ghost inks: { planes.inks ≡ 4 },
+    ghost height: { planes.rows ≡ rows },
+    ghost some: { 1 ≤ columns },
+    ghost most: { columns ≤ 8191 },
+    ghost width: { columns ≤ planes.width },
+    ghost blank: { IsBlankFrom columns planes },
+}

@@ -1,0 +1,92 @@
+//! What the machine keeps besides the dots of its sheet.
+ghost use Rattle.dot_emulator.specs.Margins.{top_of};
+ghost use Rattle.escp2_definitions.specs.Machine.{bottom_margin, page_length, start, top_margin, units};
+ghost use Rattle.std.specs.Prelude.{[], unwrap_or, ◌*◌, ◌≡◌, ◌≤◌};
+
+use weave_base::Ink;
+
+/// Margins from the paper's top, in 1/3600 inch.
+#[derive(Clone, Copy)]
+pub(crate) struct Margins {
+    pub(crate) top: u32,
+    pub(crate) bottom: u32,
+}
+
+/// The machine without its dots. Lengths and places are in 1/3600 inch.
+#[derive(Clone, Copy)]
+pub(crate) struct State {
+    pub(crate) graphics: bool,
+    pub(crate) unit: Option<u8>,
+    pub(crate) page: Option<u32>,
+    pub(crate) margins: Option<Margins>,
+    pub(crate) colour: Ink,
+    /// From the top margin.
+    pub(crate) down: u32,
+    /// From the left margin.
+    pub(crate) across: u32,
+    /// The columns of the sheet.
+    pub(crate) columns: u32,
+    ghost page_most: { unwrap_or page 0 ≤ 79200 },
+    ghost down_most: { down ≤ 79200 },
+    ghost top_most: { top_of margins ≤ 79200 },
+    ghost across_most: { across ≤ 20000000 },
+    ghost columns_most: { columns ≤ 8191 },
+}
+
+impl State {
+    ghost use Rattle.dot_emulator.specs.States.{machine_of};
+
+    /// The state at the start of a job.
+    pub(crate) fn start() -> State
+        ensures { machine_of result [] ≡ start }
+    {
+        State {
+            graphics: false,
+            unit: None,
+            page: None,
+            margins: None,
+            colour: Ink::Black,
+            down: 0,
+            across: 0,
+            columns: 1,
+        }
+    }
+
+    /// So many units.
+    pub(crate) fn units(&self, n: u16) -> u32
+        ensures is { result ≡ units (machine_of self.now []) n }
+        ensures most { result ≤ 65535 * 255 }
+    {
+        match self.unit {
+            Some(unit) => u32::from(n) * u32::from(unit),
+            None => 0,
+        }
+    }
+
+    /// The page's length, or 0.
+    pub(crate) fn page_length(&self) -> u32
+        ensures { result ≡ page_length (machine_of self.now []) }
+    {
+        self.page.unwrap_or(0)
+    }
+
+    /// The top margin, or 0.
+    pub(crate) fn top(&self) -> u32
+        ensures { result ≡ top_margin (machine_of self.now []) }
+    {
+        match self.margins {
+            Some(margins) => margins.top,
+            None => 0,
+        }
+    }
+
+    /// The bottom margin, or 0.
+    pub(crate) fn bottom(&self) -> u32
+        ensures { result ≡ bottom_margin (machine_of self.now []) }
+    {
+        match self.margins {
+            Some(margins) => margins.bottom,
+            None => 0,
+        }
+    }
+}

@@ -1,0 +1,248 @@
+//! Commands that fire no dots: what they are refused for, and the state behind them.
+ghost use Rattle.dot_emulator.specs.States.{IsStep, machine_of};
+ghost use Rattle.escp2_definitions.specs.Machine.{Dot, has_dots as is_dotted};
+ghost use Rattle.escp2_definitions.specs.declared.command.Command.TheVariants as c;
+ghost use Rattle.printer_definitions.specs.Printer.{Printer};
+ghost use Rattle.std.specs.Prelude.{List, Ok, ◌≡◌, ◌≤◌};
+
+use crate::EmuFault;
+use crate::state::{Margins, State};
+use weave_base::Ink;
+
+/// The longest page, in 1/3600 inch: 22 inches.
+const LONGEST_PAGE: u32 = 79_200;
+
+impl State {
+    /// Starts again, where the sheet has no dots.
+    pub(crate) fn init(&self, has_dots: bool) -> Result<State, EmuFault>
+        ensures { (p : Printer) (dots : List Dot) → has_dots ≡ is_dotted (machine_of self.now dots)
+            → IsStep p (machine_of self.now dots) c.Init result }
+    {
+        if has_dots {
+            return Err(EmuFault::Backward);
+        }
+        Ok(State::start())
+    }
+
+    pub(crate) fn graphics(&self) -> State
+        ensures { (p : Printer) (dots : List Dot) → IsStep p (machine_of self.now dots) c.Graphics (Ok result) }
+    {
+        State {
+            graphics: true,
+            unit: self.unit,
+            page: self.page,
+            margins: self.margins,
+            colour: self.colour,
+            down: self.down,
+            across: self.across,
+            columns: self.columns,
+        }
+    }
+
+    /// Sets the unit.
+    pub(crate) fn set_unit(&self, m: u8) -> State
+        ensures { (p : Printer) (dots : List Dot) → IsStep p (machine_of self.now dots) (c.Unit m) (Ok result) }
+    {
+        State {
+            graphics: self.graphics,
+            unit: Some(m),
+            page: self.page,
+            margins: self.margins,
+            colour: self.colour,
+            down: self.down,
+            across: self.across,
+            columns: self.columns,
+        }
+    }
+
+    /// Sets the page's length.
+    pub(crate) fn set_length(&self, n: u16, has_dots: bool) -> Result<State, EmuFault>
+        ensures { (p : Printer) (dots : List Dot) → has_dots ≡ is_dotted (machine_of self.now dots)
+            → IsStep p (machine_of self.now dots) (c.Length n) result }
+    {
+        if self.unit.is_none() {
+            return Err(EmuFault::NoUnit);
+        }
+        if has_dots {
+            return Err(EmuFault::Backward);
+        }
+        let length = self.units(n);
+        if length > LONGEST_PAGE {
+            return Err(EmuFault::OffSheet);
+        }
+        Ok(State {
+            graphics: self.graphics,
+            unit: self.unit,
+            page: Some(length),
+            margins: None,
+            colour: self.colour,
+            down: 0,
+            across: 0,
+            columns: self.columns,
+        })
+    }
+
+    /// Sets the margins.
+    pub(crate) fn set_margins(
+        &self,
+        top: u16,
+        bottom: u16,
+        has_dots: bool,
+    ) -> Result<State, EmuFault>
+        requires { top ≤ bottom }
+        ensures { (p : Printer) (dots : List Dot) → has_dots ≡ is_dotted (machine_of self.now dots)
+            → IsStep p (machine_of self.now dots) (c.Margins top bottom) result }
+    {
+        if self.unit.is_none() {
+            return Err(EmuFault::NoUnit);
+        }
+        if self.page.is_none() {
+            return Err(EmuFault::NoMargins);
+        }
+        if has_dots {
+            return Err(EmuFault::Backward);
+        }
+        let margins = Margins {
+            top: self.units(top),
+            bottom: self.units(bottom),
+        };
+        if margins.bottom > self.page_length() {
+            return Err(EmuFault::OffSheet);
+        }
+        Ok(State {
+            graphics: self.graphics,
+            unit: self.unit,
+            page: self.page,
+            margins: Some(margins),
+            colour: self.colour,
+            down: 0,
+            across: 0,
+            columns: self.columns,
+        })
+    }
+
+    /// Moves down to a position from the top margin.
+    pub(crate) fn down_to(&self, n: u16) -> Result<State, EmuFault>
+        ensures { (p : Printer) (dots : List Dot) → IsStep p (machine_of self.now dots) (c.DownTo n) result }
+    {
+        if self.unit.is_none() {
+            return Err(EmuFault::NoUnit);
+        }
+        if self.margins.is_none() {
+            return Err(EmuFault::NoMargins);
+        }
+        let down = self.units(n);
+        if down < self.down {
+            return Err(EmuFault::Backward);
+        }
+        if self.top() + down > self.page_length() {
+            return Err(EmuFault::OffSheet);
+        }
+        Ok(State {
+            graphics: self.graphics,
+            unit: self.unit,
+            page: self.page,
+            margins: self.margins,
+            colour: self.colour,
+            down,
+            across: self.across,
+            columns: self.columns,
+        })
+    }
+
+    /// Moves down.
+    pub(crate) fn down_by(&self, n: u16) -> Result<State, EmuFault>
+        ensures { (p : Printer) (dots : List Dot) → IsStep p (machine_of self.now dots) (c.DownBy n) result }
+    {
+        if self.unit.is_none() {
+            return Err(EmuFault::NoUnit);
+        }
+        if self.margins.is_none() {
+            return Err(EmuFault::NoMargins);
+        }
+        let down = self.down + self.units(n);
+        if self.top() + down > self.page_length() {
+            return Err(EmuFault::OffSheet);
+        }
+        Ok(State {
+            graphics: self.graphics,
+            unit: self.unit,
+            page: self.page,
+            margins: self.margins,
+            colour: self.colour,
+            down,
+            across: self.across,
+            columns: self.columns,
+        })
+    }
+
+    /// Moves to a position from the left margin.
+    pub(crate) fn across_to(&self, n: u16) -> Result<State, EmuFault>
+        ensures { (p : Printer) (dots : List Dot) → IsStep p (machine_of self.now dots) (c.Across n) result }
+    {
+        if self.unit.is_none() {
+            return Err(EmuFault::NoUnit);
+        }
+        Ok(State {
+            graphics: self.graphics,
+            unit: self.unit,
+            page: self.page,
+            margins: self.margins,
+            colour: self.colour,
+            down: self.down,
+            across: self.units(n),
+            columns: self.columns,
+        })
+    }
+
+    /// Moves back to the left margin.
+    pub(crate) fn return_left(&self) -> State
+        ensures { (p : Printer) (dots : List Dot) → IsStep p (machine_of self.now dots) c.Return (Ok result) }
+    {
+        State {
+            graphics: self.graphics,
+            unit: self.unit,
+            page: self.page,
+            margins: self.margins,
+            colour: self.colour,
+            down: self.down,
+            across: 0,
+            columns: self.columns,
+        }
+    }
+
+    /// Sets the ink that is fired.
+    pub(crate) fn set_colour(&self, ink: Ink) -> State
+        ensures { (p : Printer) (dots : List Dot) → IsStep p (machine_of self.now dots) (c.Colour ink) (Ok result) }
+    {
+        State {
+            graphics: self.graphics,
+            unit: self.unit,
+            page: self.page,
+            margins: self.margins,
+            colour: ink,
+            down: self.down,
+            across: self.across,
+            columns: self.columns,
+        }
+    }
+
+    /// Begins the next sheet.
+    pub(crate) fn eject(&self) -> Result<State, EmuFault>
+        ensures { (p : Printer) (dots : List Dot) → IsStep p (machine_of self.now dots) c.Eject result }
+    {
+        if self.margins.is_none() {
+            return Err(EmuFault::NoMargins);
+        }
+        Ok(State {
+            graphics: self.graphics,
+            unit: self.unit,
+            page: self.page,
+            margins: self.margins,
+            colour: self.colour,
+            down: 0,
+            across: 0,
+            columns: 1,
+        })
+    }
+}

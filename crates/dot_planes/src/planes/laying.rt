@@ -1,0 +1,40 @@
+//! Rows of dots laid over planes.
+ghost use Rattle.dot_planes.specs.Laying.{Lays, meets as meets_of};
+ghost use Rattle.dot_planes.specs.Tables.{row_len as row_len_of};
+ghost use Rattle.std.specs.Prelude.{length, ◌+◌, ◌<◌, ◌≡◌, ◌≤◌};
+
+use super::{Planes, row_len};
+use crate::bit_rows::{lay_row, row_meets};
+use crate::places::{row_of, row_start};
+
+impl Planes {
+    /// Whether one of the first `dots` dots of a packed row is on where an ink has a dot in row y, with the row's first
+    /// dot at column x. Bits of the row behind these are none.
+    pub fn meets(&self, ink: u8, y: u32, x: u32, row: &[u8], dots: u32) -> bool
+        requires ink { ink < self.now.inks }
+        requires y { y < self.now.rows }
+        requires inside { x + dots ≤ self.now.width }
+        requires row { length row.now ≡ row_len_of dots }
+        ensures { result ≡ meets_of self.now ink y x row.now dots }
+    {
+        let len = row_len(self.width);
+        let start = row_start(self.inks, self.rows, len, ink, y);
+        let other = row_of(&self.bytes, len, start);
+        row_meets(other, x as usize, row, dots as usize)
+    }
+
+    /// Gives row y of an ink the first `dots` dots of a packed row too, from column x on. All other dots stay, and bits of
+    /// the row behind these are none.
+    pub fn lay(&mut self, ink: u8, y: u32, x: u32, row: &[u8], dots: u32)
+        requires ink { ink < self.old.inks }
+        requires y { y < self.old.rows }
+        requires inside { x + dots ≤ self.old.width }
+        requires row { length row.now ≡ row_len_of dots }
+        ensures { Lays self.old self.new ink y x row.now dots }
+    {
+        let len = row_len(self.width);
+        let start = row_start(self.inks, self.rows, len, ink, y);
+        let over = &mut self.bytes[start..start + len];
+        lay_row(over, x as usize, row, dots as usize);
+    }
+}

@@ -1,0 +1,10 @@
+//! Sheets as images (plain PBM of kind P4, of the Netpbm formats).
+#![tactic(auto)]
+
+mod image;
+mod piece;
+
+pub use image::write_plane;
+
+#[cfg(test)]
+mod tests;

@@ -1,0 +1,69 @@
+//! Bytes that are gathered before they are written, so that an image takes few writes.
+ghost use Rattle.std.specs.Io.KnownBytes.{Appends};
+ghost use Rattle.std.specs.Prelude.{[], OnErr, OnOk, length, ◌++◌, ◌+◌, ◌≡◌, ◌≤◌};
+ghost use Rattle.weave_base.specs.Causes.{HasCause};
+ghost use Rattle.weave_base.specs.Parts.{AppendsPart};
+
+use weave_base::{Failed, Sink, put_all};
+
+/// Room for eight of the widest rows.
+const ROOM: usize = 8192;
+
+/// Bytes that are gathered before they are written. It takes no memory.
+#[derive(Drop)]
+pub struct Piece {
+    bytes: [u8; 8192],
+    len: usize,
+    ghost within: { len ≤ 8192 },
+}
+
+impl Piece {
+    ghost use Rattle.pbm_out.specs.Pieces.{Passes, gathered};
+
+    /// A piece of no bytes.
+    pub fn new() -> Piece
+        ensures is { gathered result ≡ [] }
+        ensures len { result.len ≡ 0 }
+    {
+        Piece {
+            bytes: [0; ROOM],
+            len: 0,
+        }
+    }
+
+    /// Appends bytes, for which there is room.
+    pub fn push(&mut self, bytes: &[u8])
+        requires { self.old.len + length bytes.now ≤ 8192 }
+        ensures is { gathered self.new ≡ gathered self.old ++ bytes.now }
+        ensures len { self.new.len ≡ self.old.len + length bytes.now }
+    {
+        let end = self.len + bytes.len();
+        self.bytes[self.len..end].copy_from_slice(bytes);
+        self.len = end;
+    }
+
+    /// Makes room for so many bytes: writes what is gathered, where there is less.
+    pub fn make_room<K: Sink>(&mut self, most: usize, k: &mut K) -> Result<(), Failed>
+        requires { most ≤ 8192 }
+        ensures ok { OnOk result (Passes (K.held k.old) (K.held k.new) (gathered self.old) (gathered self.new)) }
+        ensures room { OnOk result (self.new.len + most ≤ 8192) }
+        ensures part { OnErr result (AppendsPart (K.held k.old) (K.held k.new) (gathered self.old)) }
+        ensures cause { HasCause (K.faults k.old) (K.faults k.new) result }
+    {
+        if most <= ROOM - self.len {
+            return Ok(());
+        }
+        self.put(k)?;
+        self.len = 0;
+        Ok(())
+    }
+
+    /// Writes what is gathered.
+    pub fn put<K: Sink>(&self, k: &mut K) -> Result<(), Failed>
+        ensures ok { OnOk result (Appends (K.held k.old) (K.held k.new) (gathered self.now)) }
+        ensures part { OnErr result (AppendsPart (K.held k.old) (K.held k.new) (gathered self.now)) }
+        ensures cause { HasCause (K.faults k.old) (K.faults k.new) result }
+    {
+        put_all(k, &self.bytes[..self.len])
+    }
+}
