@@ -9,3 +9,4 @@ pub mod LaneAmounts
 pub mod HeldBlocks
 pub mod LaneCells
 pub mod LaneTile
+pub mod Squares

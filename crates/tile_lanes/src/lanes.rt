@@ -14,6 +14,7 @@ mod edges;
 mod gather;
 mod packing;
 mod step;
+mod transpose;
 mod value;
 
 use diffusion_kernel::Kernel;
