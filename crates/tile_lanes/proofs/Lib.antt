@@ -10,3 +10,4 @@ pub mod HeldBlocks
 pub mod LaneCells
 pub mod LaneTile
 pub mod Squares
+pub mod LaneSquares

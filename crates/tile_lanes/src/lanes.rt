@@ -13,6 +13,7 @@ ghost use Rattle.tile_shape.specs.Geometry.{IsTile};
 mod edges;
 mod gather;
 mod packing;
+mod squares;
 mod step;
 mod transpose;
 mod value;
@@ -91,7 +92,7 @@ fn diffuse_steps(
     ensures bits { (e : Errors) → Solves (table_of kernel) (plane_of rows.now ink) e → IsLeft e place side.now
         → IsFilled e place.c place.j 8 field.old → HasBits (table_of kernel) (plane_of rows.now ink) e place.c place.j 103 bits.new }
 {
-    let mut amounts = [0u8; 3040];
+    let mut amounts = [0u8; 3072];
     gather(place, rows, ink, &mut amounts);
     let whole = is_whole(place, rows, ink);
     let mut dots = [0u16; 32];

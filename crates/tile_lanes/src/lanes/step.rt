@@ -42,7 +42,7 @@ fn around(field: &[u16; 3502], at: usize) -> Around
 #[inline(always)]
 pub(crate) fn diffuse_step(
     kernel: Kernel,
-    amounts: &[u8; 3040],
+    amounts: &[u8; 3072],
     field: &mut [u16; 3502],
     dots: &mut [u16; 32],
     step: usize,

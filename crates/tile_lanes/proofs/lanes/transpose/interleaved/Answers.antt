@@ -1,4 +1,4 @@
-use Rattle.std.proofs.Common.{ℕ, ◌+◌, ◌++◌, get_or}
+use Rattle.std.proofs.Common.{◌+◌, ◌++◌, get_or}
 use Rattle.tile_lanes.proofs.Squares.{turns}
 use Rattle.tile_lanes.proofs.lanes.transpose.interleaved.Goals as goal
 

@@ -1,4 +1,4 @@
-use Rattle.std.proofs.Common.{arith, ◌*◌, ◌+◌, ◌<◌}
+use Rattle.std.proofs.Common.{arith}
 use Rattle.tile_lanes.proofs.Squares.{riffle_more, square_more}
 use Rattle.tile_lanes.proofs.lanes.transpose.riffle.Goals as goal
 
