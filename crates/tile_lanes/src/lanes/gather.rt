@@ -13,7 +13,8 @@ fn lay_row(row: &[u8], c: u32, r: usize, amounts: &mut [u8; 3072])
     requires r { r < 32 }
     ensures row { (o : ℕ) → o < 64 → 2 * r ≤ 64 * c + o → 64 * c + o - 2 * r < length row.now
         → slice_index amounts.new (32 * (o + r) + r) ≡ slice_index row.now (64 * c + o - 2 * r) }
-    ensures others { (s q : ℕ) → q < 32 → q ≢ r → slice_index amounts.new (32 * s + q) ≡ slice_index amounts.old (32 * s + q) }
+    ensures others { (s q : ℕ) → q < 32 → q ≢ r
+        → slice_index amounts.new (32 * s + q) ≡ slice_index amounts.old (32 * s + q) }
 {
     let start = 64 * c as usize;
     let first = (2 * r).saturating_sub(start);

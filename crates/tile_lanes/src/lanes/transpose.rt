@@ -22,7 +22,8 @@ fn interleaved(a: u8x16, b: u8x16) -> (u8x16, u8x16)
 fn riffle(x: &[u8x16; 16]) -> [u8x16; 16]
     requires { IsSquare x.now }
     ensures square { IsSquare result }
-    ensures lanes { (i m : ℕ) → i < 16 → m < 16 → lane result i m ≡ lane x.now (i / 2 + 8 * (m % 2)) (8 * (i % 2) + m / 2) }
+    ensures lanes { (i m : ℕ) → i < 16 → m < 16
+        → lane result i m ≡ lane x.now (i / 2 + 8 * (m % 2)) (8 * (i % 2) + m / 2) }
 {
     let mut y = *x;
     for i in 0..8 {
