@@ -20,7 +20,8 @@ pub record IsStep (k : Table) (amounts : List ℕ) (step n : ℕ) (old old_dots 
   pub errors : (r : ℕ) → r < n → error_held (slice_index new (34 * step + 2 + r)) ≡ error_of (value_in_row k amounts step old r)
   pub before : (m : ℕ) → m < 34 * step + 2 → slice_index new m ≡ slice_index old m
   pub after : (m : ℕ) → 34 * step + 2 + n ≤ m → slice_index new m ≡ slice_index old m
-  pub dots : (r : ℕ) → r < n → slice_index new_dots r ≡ (2 * slice_index old_dots r + bit_of (is_dot (value_in_row k amounts step old r))) % 65536
+  pub dots : (r : ℕ) → r < n → slice_index new_dots r
+      ≡ (2 * slice_index old_dots r + bit_of (is_dot (value_in_row k amounts step old r))) % 65536
   pub rest : (r : ℕ) → n ≤ r → slice_index new_dots r ≡ slice_index old_dots r
 
 -- Rows of a step have no error and no dot any more, and all else is as it was.
@@ -45,7 +46,8 @@ pub record IsCleared (p : Plane) (c j step : ℕ) (old old_dots new new_dots : L
       → slice_index new_dots r ≡ slice_index old_dots r
   pub before : (m : ℕ) → m < 34 * step + 2 → slice_index new m ≡ slice_index old m
   pub after : (m : ℕ) → 34 * step + 34 ≤ m → slice_index new m ≡ slice_index old m
-  pub dots : (r : ℕ) → (slice_index new_dots r ≡ slice_index old_dots r) ⊎ (slice_index new_dots r ≡ slice_index old_dots r - slice_index old_dots r % 2)
+  pub dots : (r : ℕ) → (slice_index new_dots r ≡ slice_index old_dots r) ⊎ (slice_index new_dots r
+      ≡ slice_index old_dots r - slice_index old_dots r % 2)
 
 -- All errors of the groups before a step are right, for the tile in column c of band j, and so are those above it.
 pub record IsFilled (e : Errors) (c j step : ℕ) (xs : List ℕ) : Type 0 where
@@ -55,11 +57,13 @@ pub record IsFilled (e : Errors) (c j step : ℕ) (xs : List ℕ) : Type 0 where
 -- and so are those of the step's pixels
 pub record IsStepped (e : Errors) (c j step : ℕ) (xs : List ℕ) : Type 0 where
   pub filled : IsFilled e c j step xs
-  pub pixels : (r o : ℕ) → r < 32 → o < 64 → o + r + 8 ≡ step → error_held (slice_index xs (34 * step + 2 + r)) ≡ skewed e j (r + 2) (64 * c + (6 + o))
+  pub pixels : (r o : ℕ) → r < 32 → o < 64 → o + r + 8 ≡ step
+      → error_held (slice_index xs (34 * step + 2 + r)) ≡ skewed e j (r + 2) (64 * c + (6 + o))
 
 -- The last sixteen dots of each row before a step, the last of all in the lowest bit.
 pub record HasLastDots (k : Table) (p : Plane) (e : Errors) (c j step : ℕ) (dots : List ℕ) : Type 0 where
-  pub at : (r o i : ℕ) → r < 32 → o < 64 → i < 16 → o + r + 9 + i ≡ step → slice_index dots r / 2 ^ i % 2 ≡ bit_of (shown k p e j r (64 * c + o))
+  pub at : (r o i : ℕ) → r < 32 → o < 64 → i < 16 → o + r + 9 + i ≡ step
+      → slice_index dots r / 2 ^ i % 2 ≡ bit_of (shown k p e j r (64 * c + o))
 
 -- The dots that stand among the bits before a step, sixteen of a row at a time.
 pub record HasBits (k : Table) (p : Plane) (e : Errors) (c j step : ℕ) (bits : List ℕ) : Type 0 where

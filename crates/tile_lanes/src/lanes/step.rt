@@ -42,7 +42,7 @@ fn around(field: &[u16; 3502], at: usize) -> Around
 #[inline(always)]
 pub(crate) fn diffuse_step(
     kernel: Kernel,
-    amounts: &[u8; 3040],
+    amounts: &[u8; 3072],
     field: &mut [u16; 3502],
     dots: &mut [u16; 32],
     step: usize,
@@ -61,14 +61,15 @@ pub(crate) fn diffuse_step(
     }
 }
 
-// The rows of a step from the first that has a pixel, and to the last.
+// Rows of a step, from the first to before the end.
 #[derive(Clone, Copy)]
 struct Span {
     first: usize,
     end: usize,
 }
 
-// Which rows of a step have a pixel: rows above them are right of the window, and rows below them left of it or below it.
+// Which rows of a step have a pixel: rows above them are right of the window, and rows below them are left of it or
+// below it.
 fn span_of(place: Place, rows: &InkRows, ink: u8, step: usize) -> Span
     requires low { 8 ≤ step }
     requires high { step < 103 }
@@ -76,7 +77,8 @@ fn span_of(place: Place, rows: &InkRows, ink: u8, step: usize) -> Span
     ensures most { result.end ≤ 32 }
     ensures inside { (r o : ℕ) → result.first ≤ r → r < result.end → o + r + 8 ≡ step
         → is_place (plane_of rows.now ink) place.j r (64 * place.c + o) ≡ true }
-    ensures before { (r o : ℕ) → r < result.first → o + r + 8 ≡ step → is_place (plane_of rows.now ink) place.j r (64 * place.c + o) ≡ false }
+    ensures before { (r o : ℕ) → r < result.first → o + r + 8 ≡ step
+        → is_place (plane_of rows.now ink) place.j r (64 * place.c + o) ≡ false }
     ensures after { (r o : ℕ) → result.end ≤ r → r < 32 → o + r + 8 ≡ step
         → is_place (plane_of rows.now ink) place.j r (64 * place.c + o) ≡ false }
 {

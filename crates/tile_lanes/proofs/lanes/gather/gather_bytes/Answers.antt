@@ -1,7 +1,7 @@
 use Rattle.std.proofs.Common.{arith}
 use Rattle.tile_lanes.proofs.LaneAmounts.{rows_more, rows_past}
-use Rattle.tile_lanes.proofs.lanes.gather.gather.Goals as goal
-use Rattle.tile_lanes.proofs.lanes.gather.gather.Goals.{then-y-rows, else-y-rows}
+use Rattle.tile_lanes.proofs.lanes.gather.gather_bytes.Goals as goal
+use Rattle.tile_lanes.proofs.lanes.gather.gather_bytes.Goals.{then-y-rows, else-y-rows}
 
 pub loop-r-preserved : goal.loop-r-preserved
 loop-r-preserved c = elim c.if-y-rows.branch [
