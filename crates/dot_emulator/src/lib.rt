@@ -2,6 +2,7 @@
 #![tactic(auto)]
 
 mod emulator;
+mod firing;
 mod raster;
 mod sheet;
 mod state;
