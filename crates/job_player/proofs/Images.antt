@@ -1,5 +1,5 @@
 -- The images of a sheet of the machine are those of its planes.
-use Rattle.std.proofs.Common.{◌≡◌, ℕ, zero, suc, ◌+◌, ◌-◌, ◌<◌, ◌≤◌, Bool, List, [], ◌∷◌, ◌++◌, length, map, Option, refl, sym, ◌∙◌, ap, subst, arith, append_assoc, append-nil}
+use Rattle.std.proofs.Common.{◌≡◌, ℕ, zero, suc, ◌+◌, ◌-◌, ◌<◌, ◌≤◌, Bool, List, [], ◌∷◌, ◌++◌, map, Option, refl, sym, ◌∙◌, ap, subst, arith, append_assoc, append-nil}
 use Rattle.std.specs.List.{flat_map}
 use Rattle.std.specs.Io.KnownBytes.{Appends}
 use Rattle.std.proofs.KnownBytes.{Appends-nil, Appends-trans}
@@ -8,7 +8,7 @@ use Rattle.dot_emulator.specs.Runs.{IsSheet}
 use Rattle.dot_planes.specs.Tables.{DotTable, dot}
 use Rattle.escp2_definitions.specs.Machine.{Sheet as PrintedSheet}
 use Rattle.escp2_definitions.specs.Packed.{packed}
-use Rattle.pbm_out.specs.Images.{image, image_head, image_row, image_rows}
+use Rattle.pbm_out.specs.Images.{image, image_head, image_row}
 use Rattle.printer_definitions.specs.declared.inks.Ink.{Ink}
 use Rattle.printer_definitions.specs.declared.inks.Ink.TheVariants.{Black, Cyan, Magenta, Yellow}
 use Rattle.printer_definitions.specs.Inks.{ink_place}
@@ -34,8 +34,8 @@ image-is : (p : Printer) (s : PrintedSheet) (sheet : Sheet) (ink : Ink) → IsSh
 image-is p s sheet ink is =
     let t : DotTable = sheet.planes in
     let rows : (y : ℕ) → y < sheet.rows → image_row sheet.columns t (ink_place ink) y ≡ sheet_row p s ink y =
-        λ y below. ap packed (same_map (dot t (ink_place ink) y) (has_dot p s ink y) (count_from 0 sheet.columns) (λ x. is.dots.places ink y x (omega (arith, below, sheet.height)))
-        ∙ ap (λ n. map (has_dot p s ink y) (count_from 0 n)) is.columns) in
+    λ y below. ap packed (same_map (dot t (ink_place ink) y) (has_dot p s ink y) (count_from 0 sheet.columns) (λ x. is.dots.places ink y x (omega (arith, below, sheet.height)))
+    ∙ ap (λ n. map (has_dot p s ink y) (count_from 0 n)) is.columns) in
     ap (λ bs. image_head sheet.columns sheet.rows ++ bs) (same_rows (image_row sheet.columns t (ink_place ink)) (sheet_row p s ink) 0 sheet.rows sheet.rows (omega arith) rows)
     ∙ ap (λ n. image_head n sheet.rows ++ flat_map (sheet_row p s ink) (count_from 0 sheet.rows)) is.columns
     ∙ ap (λ n. image_head s.columns n ++ flat_map (sheet_row p s ink) (count_from 0 n)) is.rows

@@ -1,12 +1,10 @@
 -- The machine over the commands that a feed gave.
-use Rattle.std.proofs.Common.{◌≡◌, ℕ, ◌+◌, ◌-◌, ◌≤◌, List, [], ◌∷◌, ◌++◌, length, take, drop, Option, None, Some, refl, sym, ◌∙◌, ap, subst, arith, append_assoc, append-nil}
-use Rattle.escp2_definitions.specs.declared.command.Command.{Command}
+use Rattle.std.proofs.Common.{◌≡◌, ℕ, List, [], ◌∷◌, ◌++◌, length, take, Option, None, Some, refl, sym, ◌∙◌, ap, append_assoc, append-nil}
 use Rattle.escp2_definitions.specs.declared.stops.EmuFault.{EmuFault}
-use Rattle.escp2_definitions.specs.declared.stops.JobStop.{JobStop}
 use Rattle.escp2_definitions.specs.declared.stops.JobStop.TheVariants as stop
-use Rattle.escp2_definitions.specs.Commands.{CommandList, Entry, commands}
+use Rattle.escp2_definitions.specs.Commands.{Entry, commands}
 use Rattle.escp2_definitions.specs.JobEnds.{Stopped, first_stop, job_end, list_stop, stopped}
-use Rattle.escp2_definitions.specs.Machine.{Machine, Printed, Refused, Sheet, after, execute, execute_from, first_fault, given, refusals, start, with_sheets}
+use Rattle.escp2_definitions.specs.Machine.{Machine, Printed, Sheet, after, execute, execute_from, first_fault, given, refusals, start, with_sheets}
 use Rattle.job_feed.specs.Jobs.{Ends}
 use Rattle.printer_definitions.specs.Printer.{Printer}
 
@@ -63,9 +61,10 @@ pub stops_as_bytes : (p : Printer) (most : ℕ) (bytes : List ℕ) (entries : Li
     → Ends most bytes entries why
     → ((execute p (commands (take most bytes)).entries).sheets ≡ sheets) × (job_end bytes most (Some p) ≡ why)
 stops_as_bytes p most bytes entries m sheets why so_far ends =
-    let run : execute p (commands (take most bytes)).entries ≡ record { sheets = sheets; refused = None } = ap (execute p) ends.are ∙ run_whole p entries m sheets so_far in
-    (ap (λ (r : Printed). r.sheets) run,
-    ap (λ (r : Printed). first_stop r.refused (list_stop (commands (take most bytes)).end most (length bytes))) run ∙ ends.stop_is)
+    let run : execute p (commands (take most bytes)).entries ≡ record { sheets = sheets; refused = None } = ap (execute p) ends.are ∙ run_whole p entries m sheets so_far in (
+      ap (λ (r : Printed). r.sheets) run,
+      ap (λ (r : Printed). first_stop r.refused (list_stop (commands (take most bytes)).end most (length bytes))) run ∙ ends.stop_is,
+    )
 
 -- a job of which a command is refused stops there, whatever follows
 pub stops_at_refusal : (p : Printer) (most : ℕ) (bytes : List ℕ) (entries others : List Entry) (entry : Entry) (m : Machine) (sheets : List Sheet) (fault : EmuFault)
@@ -74,9 +73,10 @@ pub stops_at_refusal : (p : Printer) (most : ℕ) (bytes : List ℕ) (entries ot
     → ((execute p (commands (take most bytes)).entries).sheets ≡ sheets) × (job_end bytes most (Some p) ≡ stopped entry.at (stop.Machine fault))
 stops_at_refusal p most bytes entries others entry m sheets fault so_far some are =
     let run : execute p (commands (take most bytes)).entries ≡ record { sheets = sheets; refused = Some (record { at = entry.at; fault = fault }) } =
-        ap (execute p) (are ∙ append_assoc entries (entry ∷ []) others)
-        ∙ so_far.is (entry ∷ others)
-        ∙ ap (with_sheets sheets) (refused p m entry others fault some)
-        ∙ ap (λ all. record { sheets = all; refused = Some (record { at = entry.at; fault = fault }) }) (append-nil sheets) in
-    (ap (λ (r : Printed). r.sheets) run,
-    ap (λ (r : Printed). first_stop r.refused (list_stop (commands (take most bytes)).end most (length bytes))) run)
+    ap (execute p) (are ∙ append_assoc entries (entry ∷ []) others)
+    ∙ so_far.is (entry ∷ others)
+    ∙ ap (with_sheets sheets) (refused p m entry others fault some)
+    ∙ ap (λ all. record { sheets = all; refused = Some (record { at = entry.at; fault = fault }) }) (append-nil sheets) in (
+      ap (λ (r : Printed). r.sheets) run,
+      ap (λ (r : Printed). first_stop r.refused (list_stop (commands (take most bytes)).end most (length bytes))) run,
+    )

@@ -1,5 +1,5 @@
 -- Sheets as images, one for each ink, in the order of black, cyan, magenta and yellow.
-use Rattle.std.specs.Prelude.{ℕ, Bool, List, [], ◌∷◌, ◌++◌, map}
+use Rattle.std.specs.Prelude.{ℕ, Bool, List, ◌++◌, map}
 use Rattle.std.specs.List.{flat_map, list_any}
 use Rattle.dot_emulator.specs.Sheets.{dot_at}
 use Rattle.dot_planes.specs.Tables.{DotTable}

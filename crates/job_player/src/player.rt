@@ -49,14 +49,17 @@ pub fn play_job<S: Source, K: Sink>(
         let Some(placed) = feed.next(input)? else {
             return Ok(());
         };
-        let sheet = match emulator.run(&placed.command, feed.rows()) {
-            Ok(Some(sheet)) => sheet,
-            Ok(None) => continue 'commands,
+        let given = match emulator.run(&placed.command, feed.rows()) {
+            Ok(given) => given,
             Err(stop) => return Err(refused_at(placed.at, stop)),
         };
+        let Some(sheet) = given else {
+            continue 'commands;
+        };
         sheets = sheets.saturating_add(1);
-        if write_sheet(&sheet, out).is_err() {
-            return Err(PlayStop::Write { sheet: sheets });
+        match write_sheet(&sheet, out) {
+            Ok(()) => {}
+            Err(_) => return Err(PlayStop::Write { sheet: sheets }),
         }
     }
 }
