@@ -1,0 +1,169 @@
+-- One more row of a step.
+use mir.Val.{bool_byte}
+use Rattle.std.proofs.Common.{ℕ, ℤ, Bool, true, false, ◌%◌, ◌≡◌, ◌≢◌, ◌+◌, ◌-◌, ◌*◌, ◌<◌, ◌≤◌, ◌∙◌, ap, refl, sym, arith, inl, inr, List, get_or, set, length, get_or-set_same, get_or-set_other}
+use Rattle.std.proofs.lemmas.Bool.{both_ways, cases_eq, cases_lt}
+use Rattle.std.proofs.lemmas.List.{set_past}
+use Rattle.diffusion_definitions.specs.Diffusion.{Plane, Table, error_of, is_dot, value}
+use Rattle.tile_lanes.specs.Held.{HeldInRange, error_held, same_in, up1_in, up2_in, value_in, value_in_row}
+use Rattle.tile_lanes.specs.Lanes.{AreCleared, IsCleared, IsStep}
+use Rattle.tile_lanes.specs.Rows.{bit_of, is_place}
+use Rattle.tile_lanes.proofs.RowCells.{five_are, two}
+use Rattle.tile_lanes.proofs.Bits.{bit_is}
+
+pub held_more : (xs : List ℕ) (at v : ℕ) → HeldInRange xs → v ≤ 4079 → HeldInRange (set xs at v)
+held_more xs at v all fits i = elim (cases_lt at (length xs)) [
+  | inl room ↦ elim (cases_eq i at) [
+    | inl here ↦ let is : get_or (set xs at v) i 0 ≡ v = ap (λ m. get_or (set xs at v) m 0) here ∙ get_or-set_same xs at v 0 room in omega (arith, is)
+    | inr other ↦ let is = get_or-set_other xs at i v 0 other in let old = all i in omega (arith, is, old)
+  ]
+  | inr past ↦ let old = all i in let is = ap (λ ys. get_or ys i 0) (set_past xs at v past) in omega (arith, is, old)
+]
+
+-- ---- a step
+
+pub none_stepped : (k : Table) (amounts : List ℕ) (step : ℕ) (xs dots : List ℕ) → IsStep k amounts step 0 xs dots xs dots
+none_stepped k amounts step xs dots = record {
+  errors = λ r h. let no : ⊥ = omega arith in absurd no;
+  before = λ m h. refl;
+  after = λ m h. refl;
+  dots = λ r h. let no : ⊥ = omega arith in absurd no;
+  rest = λ r h. refl;
+}
+
+-- a value among the errors of a field, from one among the errors that were read from it
+pub value_here : (k : Table) (amount v : ℕ) (same up1 up2 : List ℤ) (xs : List ℕ) (at : ℕ)
+    → same ≡ same_in xs at → up1 ≡ up1_in xs at → up2 ≡ up2_in xs at → error_held v ≡ value k amount same up1 up2 → error_held v ≡ value_in k amount xs at
+value_here k amount v same up1 up2 xs at is_same is_up1 is_up2 is =
+    is ∙ ap (λ s. value k amount s up1 up2) is_same ∙ ap (λ u. value k amount (same_in xs at) u up2) is_up1 ∙ ap (value k amount (same_in xs at) (up1_in xs at)) is_up2
+
+-- A field that is as before in all earlier groups gives the same value.
+pub value_kept : (k : Table) (amount : ℕ) (xs old : List ℕ) (at bound : ℕ) → at < bound + 34 → 274 ≤ at
+    → ((m : ℕ) → m < bound → get_or xs m 0 ≡ get_or old m 0) → value_in k amount xs at ≡ value_in k amount old at
+value_kept k amount xs old at bound near far kept =
+    let cell = λ (d : ℕ) (h : 34 ≤ d) (i : d ≤ 274). let there : at - d < bound = omega arith in ap error_held (kept (at - d) there) in
+    let same : same_in xs at ≡ same_in old at = two (cell 34 (omega arith) (omega arith)) (cell 68 (omega arith) (omega arith)) in
+    let up1 : up1_in xs at ≡ up1_in old at =
+    five_are (cell 171 (omega arith) (omega arith)) (cell 137 (omega arith) (omega arith)) (cell 103 (omega arith) (omega arith)) (cell 69 (omega arith) (omega arith)) (cell 35 (omega arith) (omega arith)) in
+    let up2 : up2_in xs at ≡ up2_in old at =
+    five_are (cell 274 (omega arith) (omega arith)) (cell 240 (omega arith) (omega arith)) (cell 206 (omega arith) (omega arith)) (cell 172 (omega arith) (omega arith)) (cell 138 (omega arith) (omega arith)) in
+    ap (λ s. value k amount s (up1_in xs at) (up2_in xs at)) same ∙ ap (λ u. value k amount (same_in old at) u (up2_in xs at)) up1 ∙ ap (value k amount (same_in old at) (up1_in old at)) up2
+
+pub step_more : (k : Table) (amounts : List ℕ) (step n at v d f : ℕ) (on : Bool) (z : ℤ) (old old_dots xs dots : List ℕ)
+    → at ≡ 34 * step + 2 + n → n < 32 → 8 ≤ step → at < length xs → n < length dots
+    → z ≡ value_in k (get_or amounts (32 * (step - 8) + n) 0) xs at → error_held v ≡ error_of z
+    → d ≡ (get_or dots n 0 * 2 % 65536 + f) % 65536 → f ≡ bool_byte on → on ≡ is_dot z
+    → IsStep k amounts step n old old_dots xs dots → IsStep k amounts step (n + 1) old old_dots (set xs at v) (set dots n d)
+step_more k amounts step n at v d f on z old old_dots xs dots is_at small late room more is_z is_v is_d is_f is_on s =
+    let here : z ≡ value_in_row k amounts step old n =
+    is_z ∙ value_kept k (get_or amounts (32 * (step - 8) + n) 0) xs old at (34 * step + 2) (omega arith) (omega arith) s.before
+    ∙ ap (value_in k (get_or amounts (32 * (step - 8) + n) 0) old) is_at in
+    let bit : f ≡ bit_of (is_dot (value_in_row k amounts step old n)) = is_f ∙ bit_is on ∙ ap bit_of (is_on ∙ ap is_dot here) in
+    let rest : get_or dots n 0 ≡ get_or old_dots n 0 = s.rest n (omega arith) in
+    record {
+      errors = λ r h. elim (cases_eq r n) [
+        | inl last ↦
+            let place : 34 * step + 2 + r ≡ at = omega arith in
+            ap (λ m. error_held (get_or (set xs at v) m 0)) place ∙ ap error_held (get_or-set_same xs at v 0 room) ∙ is_v
+            ∙ ap error_of here ∙ ap (λ m. error_of (value_in_row k amounts step old m)) (sym last)
+        | inr not ↦
+            let other : 34 * step + 2 + r ≢ at = omega arith in
+            ap error_held (get_or-set_other xs at (34 * step + 2 + r) v 0 other) ∙ s.errors r (omega arith)
+      ];
+      before = λ m h. let other : m ≢ at = omega arith in get_or-set_other xs at m v 0 other ∙ s.before m h;
+      after = λ m h. let other : m ≢ at = omega arith in get_or-set_other xs at m v 0 other ∙ s.after m (omega arith);
+      dots = λ r h. elim (cases_eq r n) [
+        | inl last ↦
+            ap (λ m. get_or (set dots n d) m 0) last ∙ get_or-set_same dots n d 0 more ∙ is_d
+            ∙ (let twice : (get_or dots n 0 * 2 % 65536 + f) % 65536 ≡ (2 * get_or old_dots n 0 + f) % 65536 = omega (arith, rest) in twice)
+            ∙ ap (λ g. (2 * get_or old_dots n 0 + g) % 65536) bit
+            ∙ ap (λ m. (2 * get_or old_dots m 0 + bit_of (is_dot (value_in_row k amounts step old m))) % 65536) (sym last)
+        | inr not ↦ get_or-set_other dots n r d 0 not ∙ s.dots r (omega arith)
+      ];
+      rest = λ r h. let other : r ≢ n = omega arith in get_or-set_other dots n r d 0 other ∙ s.rest r (omega arith);
+    }
+
+-- ---- pixels that do not exist
+
+pub none_cleared : (step first : ℕ) (xs dots : List ℕ) → AreCleared step first first xs dots xs dots
+none_cleared step first xs dots = record {
+  none = λ r h g. let no : ⊥ = omega arith in absurd no;
+  no_dot = λ r h g. let no : ⊥ = omega arith in absurd no;
+  before = λ m h. refl;
+  after = λ m h. refl;
+  dots_before = λ r h. refl;
+  dots_after = λ r h. refl;
+}
+
+pub cleared_more : (step first n at d : ℕ) (old old_dots xs dots : List ℕ)
+    → at ≡ 34 * step + 2 + n → first ≤ n → at < length xs → n < length dots → d ≡ get_or dots n 0 - get_or dots n 0 % 2
+    → AreCleared step first n old old_dots xs dots → AreCleared step first (n + 1) old old_dots (set xs at 2040) (set dots n d)
+cleared_more step first n at d old old_dots xs dots is_at started room more is_d s =
+    let rest : get_or dots n 0 ≡ get_or old_dots n 0 = s.dots_after n (omega arith) in
+    let new : d ≡ get_or old_dots n 0 - get_or old_dots n 0 % 2 = is_d ∙ ap (λ m. m - m % 2) rest in
+    record {
+      none = λ r h g. elim (cases_eq r n) [
+        | inl last ↦
+            let here : 34 * step + 2 + r ≡ at = omega arith in
+            ap (λ m. get_or (set xs at 2040) m 0) here ∙ get_or-set_same xs at 2040 0 room
+        | inr not ↦
+            let other : 34 * step + 2 + r ≢ at = omega arith in
+            get_or-set_other xs at (34 * step + 2 + r) 2040 0 other ∙ s.none r h (omega arith)
+      ];
+      no_dot = λ r h g. elim (cases_eq r n) [
+        | inl last ↦ ap (λ m. get_or (set dots n d) m 0) last ∙ get_or-set_same dots n d 0 more ∙ new ∙ ap (λ m. get_or old_dots m 0 - get_or old_dots m 0 % 2) (sym last)
+        | inr not ↦ get_or-set_other dots n r d 0 not ∙ s.no_dot r h (omega arith)
+      ];
+      before = λ m h. let other : m ≢ at = omega arith in get_or-set_other xs at m 2040 0 other ∙ s.before m h;
+      after = λ m h. let other : m ≢ at = omega arith in get_or-set_other xs at m 2040 0 other ∙ s.after m (omega arith);
+      dots_before = λ r h. let other : r ≢ n = omega arith in get_or-set_other dots n r d 0 other ∙ s.dots_before r h;
+      dots_after = λ r h. let other : r ≢ n = omega arith in get_or-set_other dots n r d 0 other ∙ s.dots_after r (omega arith);
+    }
+
+-- Rows from the top and rows to the last are cleared, which have no pixel; those between them have one.
+pub both_cleared : (p : Plane) (c j step first end : ℕ) (f0 d0 f1 d1 f2 d2 : List ℕ) → first ≤ end → end ≤ 32
+    → ((r o : ℕ) → first ≤ r → r < end → o + r + 8 ≡ step → is_place p j r (64 * c + o) ≡ true)
+    → ((r o : ℕ) → r < first → o + r + 8 ≡ step → is_place p j r (64 * c + o) ≡ false)
+    → ((r o : ℕ) → end ≤ r → r < 32 → o + r + 8 ≡ step → is_place p j r (64 * c + o) ≡ false)
+    → AreCleared step 0 first f0 d0 f1 d1 → AreCleared step end 32 f1 d1 f2 d2 → IsCleared p c j step f0 d0 f2 d2
+both_cleared p c j step first end f0 d0 f1 d1 f2 d2 order most inside above below a b = record {
+  none = λ r o row small at gone. elim (cases_lt r first) [
+    | inl up ↦ b.before (34 * step + 2 + r) (omega arith) ∙ a.none r (omega arith) up
+    | inr from ↦ elim (cases_lt r end) [
+      | inl here ↦ absurd (both_ways _ gone (inside r o from here at))
+      | inr down ↦ b.none r down row
+    ]
+  ];
+  no_dot = λ r o row small at gone. elim (cases_lt r first) [
+    | inl up ↦ b.dots_before r (omega arith) ∙ a.no_dot r (omega arith) up
+    | inr from ↦ elim (cases_lt r end) [
+      | inl here ↦ absurd (both_ways _ gone (inside r o from here at))
+      | inr down ↦ b.no_dot r down row ∙ ap (λ m. m - m % 2) (a.dots_after r from)
+    ]
+  ];
+  pixel = λ r o row small at there. elim (cases_lt r first) [
+    | inl up ↦ absurd (both_ways _ (above r o up at) there)
+    | inr from ↦ elim (cases_lt r end) [
+      | inl here ↦ b.before (34 * step + 2 + r) (omega arith) ∙ a.after (34 * step + 2 + r) (omega arith)
+      | inr down ↦ absurd (both_ways _ (below r o down row at) there)
+    ]
+  ];
+  dot = λ r o row small at there. elim (cases_lt r first) [
+    | inl up ↦ absurd (both_ways _ (above r o up at) there)
+    | inr from ↦ elim (cases_lt r end) [
+      | inl here ↦ b.dots_before r here ∙ a.dots_after r from
+      | inr down ↦ absurd (both_ways _ (below r o down row at) there)
+    ]
+  ];
+  before = λ m h. b.before m (omega arith) ∙ a.before m (omega arith);
+  after = λ m h. b.after m (omega arith) ∙ a.after m (omega arith);
+  dots = λ r. elim (cases_lt r first) [
+    | inl up ↦ inr (b.dots_before r (omega arith) ∙ a.no_dot r (omega arith) up)
+    | inr from ↦ elim (cases_lt r end) [
+      | inl here ↦ inl (b.dots_before r here ∙ a.dots_after r from)
+      | inr down ↦ elim (cases_lt r 32) [
+        | inl row ↦ inr (b.no_dot r down row ∙ ap (λ m. m - m % 2) (a.dots_after r from))
+        | inr past ↦ inl (b.dots_after r past ∙ a.dots_after r from)
+      ]
+    ]
+  ];
+}

@@ -1,0 +1,11 @@
+pub mod RowCells
+pub mod Blocks
+pub mod Bits
+pub mod RowTile
+pub mod HeldValues
+pub mod LaneSteps
+pub mod LaneBits
+pub mod LaneAmounts
+pub mod HeldBlocks
+pub mod LaneCells
+pub mod LaneTile

@@ -1,0 +1,9 @@
+use Rattle.std.proofs.Common.{◌%◌, ◌*◌, ◌+◌, ◌/◌}
+use Rattle.tile_lanes.proofs.HeldBlocks.{IsTaken}
+use Rattle.tile_lanes.proofs.lanes.edges.take_right.Given as goal
+
+abbrev pub invariant-loop-t : goal.invariant-loop-t
+invariant-loop-t l = IsTaken (λ n. 34 * (66 + n % 6 + n / 6) + 2 + n / 6) (6 * l.t) 192 l.field l.right
+
+abbrev pub invariant-loop-i : goal.invariant-loop-i
+invariant-loop-i l = IsTaken (λ n. 34 * (66 + n % 6 + n / 6) + 2 + n / 6) (6 * l.t + l.i) 192 l.field l.right

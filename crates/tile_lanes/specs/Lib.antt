@@ -1,0 +1,4 @@
+pub mod Done
+pub mod Rows
+pub mod Held
+pub mod Lanes

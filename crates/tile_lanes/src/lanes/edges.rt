@@ -1,0 +1,111 @@
+//! The edges of a tile, into its field and out of it.
+ghost use Rattle.diffusion_definitions.specs.Diffusion.{EachInRange, InRange};
+ghost use Rattle.std.specs.Prelude.{pos, slice_index, slice_index_or, ◌%◌, ◌*◌, ◌+◌, ◌-◌, ◌/◌, ◌<◌, ◌≡◌, ◌≢◌, ◌≤◌, ◌⊎◌, ℕ};
+ghost use Rattle.tile_lanes.specs.Held.{HeldInRange, error_held};
+
+// An error, held.
+#[inline(always)]
+fn hold(error: i16) -> u16
+    requires { InRange error }
+    ensures most { result ≤ 4079 }
+    ensures is { error_held result ≡ error }
+{
+    (error + 2040) as u16
+}
+
+// The error that is held.
+#[inline(always)]
+fn release(held: u16) -> i16
+    requires { held ≤ 4079 }
+    ensures in_range { InRange result }
+    ensures is { result ≡ error_held held }
+{
+    held as i16 - 2040
+}
+
+/// Puts the errors above the tile.
+#[inline(always)]
+pub(crate) fn put_above(field: &mut [u16; 3502], above: &[i16; 128])
+    requires field { HeldInRange field.old }
+    requires above { EachInRange above.now }
+    ensures in_range { HeldInRange field.new }
+    ensures there { (n : ℕ) → n < 128 → error_held (slice_index field.new (34 * (6 + n % 64 + n / 64) + n / 64)) ≡ slice_index_or above.now n (pos 0) }
+{
+    for n in 0..128 {
+        field[34 * (6 + n % 64 + n / 64) + n / 64] = hold(above[n]);
+    }
+}
+
+/// Puts the errors left of those.
+#[inline(always)]
+pub(crate) fn put_corner(field: &mut [u16; 3502], corner: &[i16; 12])
+    requires field { HeldInRange field.old }
+    requires corner { EachInRange corner.now }
+    ensures in_range { HeldInRange field.new }
+    ensures there { (n : ℕ) → n < 12 → error_held (slice_index field.new (34 * (n % 6 + n / 6) + n / 6)) ≡ slice_index_or corner.now n (pos 0) }
+    ensures kept { (m : ℕ) → ((n : ℕ) → n < 12 → m ≢ 34 * (n % 6 + n / 6) + n / 6) → slice_index field.new m ≡ slice_index field.old m }
+{
+    for n in 0..12 {
+        field[34 * (n % 6 + n / 6) + n / 6] = hold(corner[n]);
+    }
+}
+
+/// Puts those errors left of the tile that stand in a group.
+#[inline(always)]
+pub(crate) fn put_left(field: &mut [u16; 3502], left: &[i16; 192], group: usize)
+    requires field { HeldInRange field.old }
+    requires left { EachInRange left.now }
+    requires group { group < 103 }
+    ensures in_range { HeldInRange field.new }
+    ensures there { (p l : ℕ) → 2 ≤ p → p < 34 → l < 6 → l + p ≡ group
+        → error_held (slice_index field.new (34 * group + p)) ≡ slice_index_or left.now (6 * (p - 2) + l) (pos 0) }
+    ensures kept { (m : ℕ) → ((p l : ℕ) → 2 ≤ p → p < 34 → l < 6 → l + p ≡ group → m ≢ 34 * group + p) → slice_index field.new m ≡ slice_index field.old m }
+{
+    let first = group.saturating_sub(5).max(2);
+    let end = (group + 1).min(34).max(first);
+    for p in first..end {
+        field[34 * group + p] = hold(left[6 * (p - 2) + (group - p)]);
+    }
+}
+
+/// The right edge.
+#[inline(always)]
+pub(crate) fn take_right(field: &[u16; 3502], right: &mut [i16; 192])
+    requires field { HeldInRange field.now }
+    ensures in_range { EachInRange right.new }
+    ensures there { (n : ℕ) → n < 192 → slice_index_or right.new n (pos 0) ≡ error_held (slice_index field.now (34 * (66 + n % 6 + n / 6) + 2 + n / 6)) }
+{
+    for t in 0..32 {
+        for i in 0..6 {
+            right[6 * t + i] = release(field[34 * (66 + i + t) + 2 + t]);
+        }
+    }
+}
+
+/// The bottom edge.
+#[inline(always)]
+pub(crate) fn take_bottom(field: &[u16; 3502], bottom: &mut [i16; 128])
+    requires field { HeldInRange field.now }
+    ensures in_range { EachInRange bottom.new }
+    ensures there { (n : ℕ) → n < 128 → slice_index_or bottom.new n (pos 0) ≡ error_held (slice_index field.now (34 * (38 + n % 64 + n / 64) + 32 + n / 64)) }
+{
+    for t in 0..2 {
+        for i in 0..64 {
+            bottom[64 * t + i] = release(field[34 * (38 + i + t) + 32 + t]);
+        }
+    }
+}
+
+/// The end of the bottom edge.
+#[inline(always)]
+pub(crate) fn take_lower_corner(field: &[u16; 3502], corner: &mut [i16; 12])
+    requires field { HeldInRange field.now }
+    ensures in_range { EachInRange corner.new }
+    ensures there { (n : ℕ) → n < 12 → slice_index_or corner.new n (pos 0) ≡ error_held (slice_index field.now (34 * (96 + n % 6 + n / 6) + 32 + n / 6)) }
+{
+    for t in 0..2 {
+        for i in 0..6 {
+            corner[6 * t + i] = release(field[34 * (96 + i + t) + 32 + t]);
+        }
+    }
+}

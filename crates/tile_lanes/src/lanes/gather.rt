@@ -1,0 +1,37 @@
+//! Amounts by steps.
+ghost use Rattle.std.specs.Prelude.{slice_index, length, true, ◌%◌, ◌*◌, ◌+◌, ◌-◌, ◌<◌, ◌≡◌, ◌≢◌, ◌≤◌, ℕ};
+ghost use Rattle.tile_lanes.specs.Done.{plane_of};
+ghost use Rattle.tile_lanes.specs.Lanes.{HasAmounts};
+
+use dot_planes::InkRows;
+use tile_shape::Place;
+
+// Puts the amounts of row r of a tile in column c, which are at steps r to r + 63 of them.
+#[inline(always)]
+fn lay_row(row: &[u8], c: u32, r: usize, amounts: &mut [u8; 3040])
+    requires r { r < 32 }
+    ensures row { (o : ℕ) → o < 64 → 2 * r ≤ 64 * c + o → 64 * c + o - 2 * r < length row.now
+        → slice_index amounts.new (32 * (o + r) + r) ≡ slice_index row.now (64 * c + o - 2 * r) }
+    ensures others { (s q : ℕ) → q < 32 → q ≢ r → slice_index amounts.new (32 * s + q) ≡ slice_index amounts.old (32 * s + q) }
+{
+    let start = 64 * c as usize;
+    let first = (2 * r).saturating_sub(start);
+    let end = (row.len() + 2 * r).saturating_sub(start).min(64);
+    for o in first..end {
+        amounts[32 * (o + r) + r] = row[start + o - 2 * r];
+    }
+}
+
+/// Puts the amounts of a tile by steps: that of row r at offset o is the one of row r at step o + r.
+#[inline(always)]
+pub(crate) fn gather(place: Place, rows: &InkRows, ink: u8, amounts: &mut [u8; 3040])
+    requires ink { ink < rows.now.inks }
+    ensures { HasAmounts (plane_of rows.now ink) place.c place.j 32 amounts.new }
+{
+    for r in 0..32 {
+        let y = 32 * place.j as usize + r;
+        if y < rows.rows() as usize {
+            lay_row(rows.row(ink, y as u32), place.c, r, amounts);
+        }
+    }
+}

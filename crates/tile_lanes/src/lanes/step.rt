@@ -1,0 +1,127 @@
+//! One step of a tile: a pixel of each row, and none reads the error of another.
+ghost use Rattle.std.specs.Prelude.{slice_index, true, false, ◌%◌, ◌*◌, ◌+◌, ◌-◌, ◌<◌, ◌≡◌, ◌≤◌, ℕ};
+ghost use Rattle.diffusion_kernel.specs.Tables.{table_of};
+ghost use Rattle.tile_lanes.specs.Done.{plane_of};
+ghost use Rattle.tile_lanes.specs.Held.{HeldInRange, IsHeld, same_in, same_of, up1_in, up1_of, up2_in, up2_of};
+ghost use Rattle.tile_lanes.specs.Lanes.{AreCleared, IsCleared, IsStep};
+ghost use Rattle.tile_lanes.specs.Rows.{is_place};
+
+use super::value::{Around, held_error, held_value, shows_dot};
+use diffusion_kernel::Kernel;
+use dot_planes::InkRows;
+use tile_shape::Place;
+
+// The errors near the pixel whose own stands at a place of the field.
+#[inline(always)]
+fn around(field: &[u16; 3502], at: usize) -> Around
+    requires low { 274 ≤ at }
+    requires high { at < 3502 }
+    requires in_range { HeldInRange field.now }
+    ensures held { IsHeld result }
+    ensures same { same_of result ≡ same_in field.now at }
+    ensures up1 { up1_of result ≡ up1_in field.now at }
+    ensures up2 { up2_of result ≡ up2_in field.now at }
+{
+    Around {
+        left: field[at - 34],
+        left2: field[at - 68],
+        up_left2: field[at - 171],
+        up_left: field[at - 137],
+        up: field[at - 103],
+        up_right: field[at - 69],
+        up_right2: field[at - 35],
+        top_left2: field[at - 274],
+        top_left: field[at - 240],
+        top: field[at - 206],
+        top_right: field[at - 172],
+        top_right2: field[at - 138],
+    }
+}
+
+/// Diffuses the pixels of a step, those that do not exist too.
+#[inline(always)]
+pub(crate) fn diffuse_step(
+    kernel: Kernel,
+    amounts: &[u8; 3040],
+    field: &mut [u16; 3502],
+    dots: &mut [u16; 32],
+    step: usize,
+)
+    requires low { 8 ≤ step }
+    requires high { step < 103 }
+    requires in_range { HeldInRange field.old }
+    ensures in_range { HeldInRange field.new }
+    ensures step { IsStep (table_of kernel) amounts.now step 32 field.old dots.old field.new dots.new }
+{
+    for r in 0..32 {
+        let at = 34 * step + 2 + r;
+        let value = held_value(kernel, amounts[32 * (step - 8) + r], around(field, at));
+        field[at] = held_error(value);
+        dots[r] = (dots[r] << 1).wrapping_add(u16::from(shows_dot(value)));
+    }
+}
+
+// The rows of a step from the first that has a pixel, and to the last.
+#[derive(Clone, Copy)]
+struct Span {
+    first: usize,
+    end: usize,
+}
+
+// Which rows of a step have a pixel: rows above them are right of the window, and rows below them left of it or below it.
+fn span_of(place: Place, rows: &InkRows, ink: u8, step: usize) -> Span
+    requires low { 8 ≤ step }
+    requires high { step < 103 }
+    ensures order { result.first ≤ result.end }
+    ensures most { result.end ≤ 32 }
+    ensures inside { (r o : ℕ) → result.first ≤ r → r < result.end → o + r + 8 ≡ step
+        → is_place (plane_of rows.now ink) place.j r (64 * place.c + o) ≡ true }
+    ensures before { (r o : ℕ) → r < result.first → o + r + 8 ≡ step → is_place (plane_of rows.now ink) place.j r (64 * place.c + o) ≡ false }
+    ensures after { (r o : ℕ) → result.end ≤ r → r < 32 → o + r + 8 ≡ step
+        → is_place (plane_of rows.now ink) place.j r (64 * place.c + o) ≡ false }
+{
+    // the pixel of row 0, if rows above the band went on
+    let x = 64 * place.c as usize + (step - 8);
+    let high = (rows.rows() as usize).saturating_sub(32 * place.j as usize);
+    let end = (x / 3 + 1).min(high).min(32);
+    let past = (x + 3).saturating_sub(rows.width() as usize) / 3;
+    Span {
+        first: past.min(end),
+        end,
+    }
+}
+
+// Takes back the errors and dots of rows of a step.
+fn clear_rows(field: &mut [u16; 3502], dots: &mut [u16; 32], step: usize, first: usize, end: usize)
+    requires high { step < 103 }
+    requires order { first ≤ end }
+    requires most { end ≤ 32 }
+    requires in_range { HeldInRange field.old }
+    ensures in_range { HeldInRange field.new }
+    ensures cleared { AreCleared step first end field.old dots.old field.new dots.new }
+{
+    for r in first..end {
+        field[34 * step + 2 + r] = 2040;
+        dots[r] -= dots[r] % 2;
+    }
+}
+
+/// Takes back what a step gave to pixels that do not exist.
+pub(crate) fn clear_step(
+    place: Place,
+    rows: &InkRows,
+    ink: u8,
+    field: &mut [u16; 3502],
+    dots: &mut [u16; 32],
+    step: usize,
+)
+    requires low { 8 ≤ step }
+    requires high { step < 103 }
+    requires in_range { HeldInRange field.old }
+    ensures in_range { HeldInRange field.new }
+    ensures cleared { IsCleared (plane_of rows.now ink) place.c place.j step field.old dots.old field.new dots.new }
+{
+    let span = span_of(place, rows, ink, step);
+    clear_rows(field, dots, step, 0, span.first);
+    clear_rows(field, dots, step, span.end, 32);
+}
