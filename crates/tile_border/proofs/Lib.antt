@@ -1,0 +1,3 @@
+pub mod Zeros
+pub mod InkSteps
+pub mod Columns
