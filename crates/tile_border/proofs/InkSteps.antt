@@ -102,8 +102,8 @@ pub works_ink : (k : Kernel) (rows : AmountTable) (p : Place) (i at : ℕ) (s sv
     → WorksInk k rows p i (record { side = sv; band = bv; corner = qv; bits = d }) (record { side = set s at sx; band = set b at bx; corner = set q at qx; bits = set d i dx })
 works_ink k rows p i at s sv b bv q qv d sx so bx bo qx qo dx same room ws wb wq done = record {
   works = λ e solves ready. done_same k rows p i e sx _ bx _ qx _ dx _
-    (set_here s at i sx same ws.room) (set_here b at i bx same wb.room) (set_here q at i qx same wq.room) (set_here d i i dx refl room)
-    (done e solves (ready_same p e _ so _ bo _ qo
+      (set_here s at i sx same ws.room) (set_here b at i bx same wb.room) (set_here q at i qx same wq.room) (set_here d i i dx refl room)
+      (done e solves (ready_same p e _ so _ bo _ qo
       (sym (read_here s sv at i so ws.is same ws.room ws.read)) (sym (read_here b bv at i bo wb.is same wb.room wb.read)) (sym (read_here q qv at i qo wq.is same wq.room wq.read)) ready));
   others = λ j other. record {
     side = set_there s sv at i j sx ws.is same other;

@@ -6,7 +6,7 @@ use Rattle.std.proofs.lemmas.List.{get_or-replicate, get_or_past, length-replica
 use Rattle.diffusion_definitions.specs.Diffusion.{EachInRange, InRange}
 use Rattle.tile_border.specs.Inks.{AreInks, AreZeros, errors_of}
 
-some_zeros : (len n : ℕ) → get_or (replicate len (pos 0)) n (pos 0) ≡ pos 0
+pub some_zeros : (len n : ℕ) → get_or (replicate len (pos 0)) n (pos 0) ≡ pos 0
 some_zeros len n = elim (cases_lt n len) [
   | inl inside ↦ get_or-replicate len n (pos 0) (pos 0) inside
   | inr past ↦ get_or_past (replicate len (pos 0)) n (pos 0) (omega (arith, length-replicate len (pos 0)))

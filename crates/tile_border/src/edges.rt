@@ -1,6 +1,8 @@
 //! The edges of a tile, ink by ink.
-ghost use Rattle.std.specs.Prelude.{IfOk, [], length, slice_index_or, ◌<◌, ◌≡◌, ◌≤◌};
-ghost use Rattle.tile_border.specs.Inks.{AreZeros};
+ghost use Rattle.diffusion_definitions.specs.Diffusion.{EachInRange};
+ghost use Rattle.std.specs.Prelude.{IfOk, length, slice_set, ◌<◌, ◌≡◌, ◌≤◌};
+ghost use Rattle.tile_border.specs.Inks.{AreZeros, errors_of};
+ghost use Rattle.tile_edges.specs.Tops.{IsCut};
 
 use std::alloc::Global;
 use std::marker::Model;
@@ -52,9 +54,19 @@ impl RightEdge {
     /// The errors of an ink.
     pub fn ink(&self, ink: u8) -> &[i16; 192]
         requires { ink < length self.now }
-        ensures { result.now ≡ slice_index_or self.now ink [] }
+        ensures is { result.now ≡ errors_of self.now ink }
+        ensures fits { EachInRange result.now }
     {
         &self.inks[usize::from(ink)]
+    }
+
+    /// Sets the errors of an ink. All others stay.
+    pub fn put(&mut self, ink: u8, errors: &[i16; 192])
+        requires ink { ink < length self.old }
+        requires fits { EachInRange errors.now }
+        ensures { self.new ≡ slice_set self.old ink errors.now }
+    {
+        self.inks[usize::from(ink)] = *errors;
     }
 }
 
@@ -104,9 +116,33 @@ impl BottomEdge {
     /// The errors of an ink.
     pub fn ink(&self, ink: u8) -> &[i16; 128]
         requires { ink < length self.now }
-        ensures { result.now ≡ slice_index_or self.now ink [] }
+        ensures is { result.now ≡ errors_of self.now ink }
+        ensures fits { EachInRange result.now }
     {
         &self.inks[usize::from(ink)]
+    }
+
+    /// Sets the errors of an ink. All others stay.
+    pub fn put(&mut self, ink: u8, errors: &[i16; 128])
+        requires ink { ink < length self.old }
+        requires fits { EachInRange errors.now }
+        ensures { self.new ≡ slice_set self.old ink errors.now }
+    {
+        self.inks[usize::from(ink)] = *errors;
+    }
+
+    /// The ends of an ink's two rows: offsets 58 to 63, as a corner edge has them.
+    pub fn ends(&self, ink: u8) -> [i16; 12]
+        requires { ink < length self.now }
+        ensures is { IsCut (errors_of self.now ink) result }
+        ensures fits { EachInRange result }
+    {
+        let errors = self.ink(ink);
+        let mut ends = [0; 12];
+        for n in 0..12 {
+            ends[n] = errors[58 + 64 * (n / 6) + n % 6];
+        }
+        ends
     }
 }
 
@@ -156,8 +192,18 @@ impl CornerEdge {
     /// The errors of an ink.
     pub fn ink(&self, ink: u8) -> &[i16; 12]
         requires { ink < length self.now }
-        ensures { result.now ≡ slice_index_or self.now ink [] }
+        ensures is { result.now ≡ errors_of self.now ink }
+        ensures fits { EachInRange result.now }
     {
         &self.inks[usize::from(ink)]
+    }
+
+    /// Sets the errors of an ink. All others stay.
+    pub fn put(&mut self, ink: u8, errors: &[i16; 12])
+        requires ink { ink < length self.old }
+        requires fits { EachInRange errors.now }
+        ensures { self.new ≡ slice_set self.old ink errors.now }
+    {
+        self.inks[usize::from(ink)] = *errors;
     }
 }
