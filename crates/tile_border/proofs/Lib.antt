@@ -1,0 +1,5 @@
+pub mod Zeros
+pub mod InkSteps
+pub mod Columns
+pub mod Ends
+pub mod Worked
