@@ -1,5 +1,5 @@
 //! One step of a tile: a pixel of each row, and none reads the error of another.
-ghost use Rattle.std.specs.Prelude.{slice_index, true, false, ◌%◌, ◌*◌, ◌+◌, ◌-◌, ◌<◌, ◌≡◌, ◌≤◌, ℕ};
+ghost use Rattle.std.specs.Prelude.{true, false, ◌%◌, ◌*◌, ◌+◌, ◌-◌, ◌<◌, ◌≡◌, ◌≤◌, ℕ};
 ghost use Rattle.diffusion_kernel.specs.Tables.{table_of};
 ghost use Rattle.tile_lanes.specs.Done.{plane_of};
 ghost use Rattle.tile_lanes.specs.Held.{HeldInRange, IsHeld, same_in, same_of, up1_in, up1_of, up2_in, up2_of};
