@@ -5,10 +5,9 @@ ghost use Rattle.diffusion_definitions.specs.Diffusion.{EachInRange, Errors, Sol
 ghost use Rattle.diffusion_kernel.specs.Tables.{table_of};
 ghost use Rattle.std.specs.Prelude.{true, ◌<◌, ◌≡◌, ◌≤◌};
 ghost use Rattle.tile_edges.specs.Edges.{IsLeft};
-ghost use Rattle.tile_lanes.specs.Done.{IsDone, IsReady, plane_of, window_of};
+ghost use Rattle.tile_lanes.specs.Done.{IsDone, IsReady, plane_of};
 ghost use Rattle.tile_lanes.specs.Held.{HeldInRange};
 ghost use Rattle.tile_lanes.specs.Lanes.{HasBits, IsCleared, IsFilled, IsWhole};
-ghost use Rattle.tile_shape.specs.Geometry.{IsTile};
 
 mod edges;
 mod gather;

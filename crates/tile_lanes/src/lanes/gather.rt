@@ -1,5 +1,5 @@
 //! Amounts by steps.
-ghost use Rattle.std.specs.Prelude.{slice_index, length, true, ◌%◌, ◌*◌, ◌+◌, ◌-◌, ◌<◌, ◌≡◌, ◌≢◌, ◌≤◌, ℕ};
+ghost use Rattle.std.specs.Prelude.{slice_index, length, true, ◌*◌, ◌+◌, ◌-◌, ◌<◌, ◌≡◌, ◌≢◌, ◌≤◌, ℕ};
 ghost use Rattle.tile_lanes.specs.Done.{plane_of};
 ghost use Rattle.tile_lanes.specs.Lanes.{HasAmounts};
 

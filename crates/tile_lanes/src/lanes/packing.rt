@@ -1,5 +1,5 @@
 //! Dots of lanes, sixteen at a time, into the bits of a tile.
-ghost use Rattle.std.specs.Prelude.{slice_index, ◌%◌, ◌*◌, ◌+◌, ◌-◌, ◌/◌, ◌<◌, ◌^◌, ◌≡◌, ◌≢◌, ◌≤◌, ◌⊎◌, ℕ};
+ghost use Rattle.std.specs.Prelude.{slice_index, ◌%◌, ◌*◌, ◌+◌, ◌-◌, ◌/◌, ◌<◌, ◌^◌, ◌≡◌, ◌≢◌, ◌⊎◌, ℕ};
 ghost use Rattle.tile_lanes.specs.Rows.{bit};
 
 // Puts sixteen dots of row r, where a step is the last of theirs.

@@ -1,9 +1,8 @@
 //! Amounts of a tile by steps, sixteen rows and sixteen steps at a time.
-ghost use Rattle.dot_planes.specs.Tables.{amount};
-ghost use Rattle.std.specs.Prelude.{length, slice_index, ◌%◌, ◌*◌, ◌+◌, ◌-◌, ◌/◌, ◌<◌, ◌≡◌, ◌≤◌, ◌⊎◌, ℕ};
+ghost use Rattle.std.specs.Prelude.{length, ◌%◌, ◌*◌, ◌+◌, ◌-◌, ◌/◌, ◌<◌, ◌≡◌, ◌≤◌};
 ghost use Rattle.tile_lanes.specs.Done.{plane_of};
 ghost use Rattle.tile_lanes.specs.Lanes.{HasAmounts};
-ghost use Rattle.tile_lanes.specs.Square.{HasRows, IsPutInto, IsSquare, lane};
+ghost use Rattle.tile_lanes.specs.Square.{HasRows, IsPutInto, IsSquare};
 ghost use lib.Lanes.{chunk, put_chunk};
 
 use crate::lanes::transpose::transposed;

@@ -1,5 +1,5 @@
 //! One step of a tile: a pixel of each row, and none reads the error of another.
-ghost use Rattle.std.specs.Prelude.{slice_index, true, false, ◌%◌, ◌*◌, ◌+◌, ◌-◌, ◌<◌, ◌≡◌, ◌≤◌, ℕ};
+ghost use Rattle.std.specs.Prelude.{true, false, ◌%◌, ◌*◌, ◌+◌, ◌-◌, ◌<◌, ◌≡◌, ◌≤◌, ℕ};
 ghost use Rattle.diffusion_kernel.specs.Tables.{table_of};
 ghost use Rattle.tile_lanes.specs.Done.{plane_of};
 ghost use Rattle.tile_lanes.specs.Held.{HeldInRange, IsHeld, same_in, same_of, up1_in, up1_of, up2_in, up2_of};
@@ -38,7 +38,55 @@ fn around(field: &[u16; 3502], at: usize) -> Around
     }
 }
 
-/// Diffuses the pixels of a step, those that do not exist too.
+// Diffuses the pixels that sixteen rows have at a step, those that do not exist too.
+#[inline(always)]
+fn diffuse_rows(
+    kernel: Kernel,
+    amounts: &[u8; 3072],
+    field: &mut [u16; 3502],
+    dots: &mut [u16; 32],
+    step: usize,
+    first: usize,
+)
+    requires low { 8 ≤ step }
+    requires high { step < 103 }
+    requires first { first ≤ 16 }
+    requires in_range { HeldInRange field.old }
+    ensures in_range { HeldInRange field.new }
+    ensures step { IsStep (table_of kernel) amounts.now step first 16 field.old dots.old field.new dots.new }
+{
+    for i in 0..16 {
+        let r = first + i;
+        let at = 34 * step + 2 + r;
+        let value = held_value(kernel, amounts[32 * (step - 8) + r], around(field, at));
+        field[at] = held_error(value);
+        dots[r] = (dots[r] << 1).wrapping_add(u16::from(shows_dot(value)));
+    }
+}
+
+// The same, but nothing at steps before the rows enter the tile and after they leave it.
+#[inline(always)]
+fn diffuse_half(
+    kernel: Kernel,
+    amounts: &[u8; 3072],
+    field: &mut [u16; 3502],
+    dots: &mut [u16; 32],
+    step: usize,
+    first: usize,
+)
+    requires low { 8 ≤ step }
+    requires high { step < 103 }
+    requires first { first ≤ 16 }
+    requires in_range { HeldInRange field.old }
+    ensures in_range { HeldInRange field.new }
+    ensures step { IsStep (table_of kernel) amounts.now step first 16 field.old dots.old field.new dots.new }
+{
+    if first + 8 <= step && step < first + 87 {
+        diffuse_rows(kernel, amounts, field, dots, step, first);
+    }
+}
+
+/// Diffuses the pixels of a step.
 #[inline(always)]
 pub(crate) fn diffuse_step(
     kernel: Kernel,
@@ -51,14 +99,10 @@ pub(crate) fn diffuse_step(
     requires high { step < 103 }
     requires in_range { HeldInRange field.old }
     ensures in_range { HeldInRange field.new }
-    ensures step { IsStep (table_of kernel) amounts.now step 32 field.old dots.old field.new dots.new }
+    ensures step { IsStep (table_of kernel) amounts.now step 0 32 field.old dots.old field.new dots.new }
 {
-    for r in 0..32 {
-        let at = 34 * step + 2 + r;
-        let value = held_value(kernel, amounts[32 * (step - 8) + r], around(field, at));
-        field[at] = held_error(value);
-        dots[r] = (dots[r] << 1).wrapping_add(u16::from(shows_dot(value)));
-    }
+    diffuse_half(kernel, amounts, field, dots, step, 0);
+    diffuse_half(kernel, amounts, field, dots, step, 16);
 }
 
 // Rows of a step, from the first to before the end.
