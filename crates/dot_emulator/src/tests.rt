@@ -102,6 +102,11 @@ fn ejected(rt: &impl Abort, emulator: &mut Emulator) -> Result<Sheet, EmuStop> {
     sheet.ok_or(EmuStop::Memory)
 }
 
+fn dot(rt: &impl Abort, sheet: &Sheet, ink: u8, x: u32, y: u32) -> bool {
+    assert!(rt; ink < 4 && x < sheet.planes.width() && y < sheet.planes.rows());
+    sheet.planes.dot(ink, x, y)
+}
+
 #[test]
 fn a_raster_fired_twice_is_overprint(rt: HostRuntime) {
     let mut emulator = on_page(&rt, rt.alloc());
@@ -125,7 +130,7 @@ fn a_sheet_has_its_dots_and_the_next_is_blank(rt: HostRuntime) -> Result<(), Fai
     assert_eq!(rt; (sheet.rows, sheet.columns), (6, 8));
     assert_eq!(rt; (sheet.planes.count(0), sheet.planes.count(1)), (16, 0));
     assert_eq!(rt;
-        (sheet.planes.dot(0, 0, 4), sheet.planes.dot(0, 7, 5)),
+        (dot(&rt, &sheet, 0, 0, 4), dot(&rt, &sheet, 0, 7, 5)),
         (true, true)
     );
     let next = ejected(&rt, &mut emulator)?;
@@ -146,8 +151,9 @@ fn dots_stand_from_across_on_and_blank_rasters_widen_the_sheet(
     let sheet = ejected(&rt, &mut emulator)?;
     assert_eq!(rt; (sheet.rows, sheet.columns), (6, 13));
     assert_eq!(rt; sheet.planes.count(0), 3);
-    let first = &sheet.planes.row(0, 0)[..2];
-    assert_eq!(rt; first, [0x2A, 0x00].as_slice());
+    assert!(rt;
+        dot(&rt, &sheet, 0, 2, 0) && dot(&rt, &sheet, 0, 4, 0) && dot(&rt, &sheet, 0, 6, 0)
+    );
     Ok(())
 }
 
@@ -179,9 +185,14 @@ fn each_ink_has_a_plane(rt: HostRuntime) -> Result<(), Fail> {
         assert_eq!(rt; fire(&rt, &mut emulator, HEAD, &[rows[k], 0, 0]), None);
     }
     let sheet = ejected(&rt, &mut emulator)?;
-    let planes = &sheet.planes;
-    assert_eq!(rt; (planes.dot(0, 3, 0), planes.dot(1, 1, 0)), (true, true));
-    assert_eq!(rt; (planes.dot(2, 0, 0), planes.dot(3, 2, 0)), (true, true));
+    assert_eq!(rt;
+        (dot(&rt, &sheet, 0, 3, 0), dot(&rt, &sheet, 1, 1, 0)),
+        (true, true)
+    );
+    assert_eq!(rt;
+        (dot(&rt, &sheet, 2, 0, 0), dot(&rt, &sheet, 3, 2, 0)),
+        (true, true)
+    );
     Ok(())
 }
 
