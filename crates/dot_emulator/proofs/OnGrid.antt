@@ -18,9 +18,10 @@ all-append P (x ∷ xs) ys all all' = (all.0, all-append P xs ys all.1 all')
 pub wider : (column row columns columns' rows : ℕ) (dots : List Dot) → columns ≤ columns' → AllByRecursion (IsOnGrid column row columns rows) dots
     → AllByRecursion (IsOnGrid column row columns' rows) dots
 wider column row columns columns' rows [] more all = tt
-wider column row columns columns' rows (d ∷ dots) more all =
-    (record { in_column = all.0.in_column; in_columns = let low = all.0.in_columns in omega arith; in_row = all.0.in_row; in_rows = all.0.in_rows },
-    wider column row columns columns' rows dots more all.1)
+wider column row columns columns' rows (d ∷ dots) more all = (
+  record { in_column = all.0.in_column; in_columns = let low = all.0.in_columns in omega arith; in_row = all.0.in_row; in_rows = all.0.in_rows },
+  wider column row columns columns' rows dots more all.1,
+)
 
 on-grid : (g : Grid) (ink : Ink) (x y columns rows : ℕ) → 1 ≤ g.column → 1 ≤ g.row → x < columns → y < rows
     → IsOnGrid g.column g.row columns rows (record { ink = ink; x = x * g.column; y = y * g.row })

@@ -38,8 +38,8 @@ row-at : (g : Grid) (ink : Ink) (y x n : ℕ) (row : List ℕ) (ink' : Ink) (y' 
 row-at g ink y x n row ink' y' x' some some' long =
     row-any (is_at (dot_at g.column g.row ink' y' x')) ink x g.column (y * g.row) n row long
     ∙ any-same _ _ 0 n (λ k low.
-      ap (λ b. row_dot row (0 + k) && (same_ink ink' ink && b && (y' * g.row == y * g.row))) (eqb-times x' (x + (0 + k)) g.column some)
-      ∙ ap (λ b. row_dot row (0 + k) && (same_ink ink' ink && (x' == x + (0 + k)) && b)) (eqb-times y' y g.row some'))
+    ap (λ b. row_dot row (0 + k) && (same_ink ink' ink && b && (y' * g.row == y * g.row))) (eqb-times x' (x + (0 + k)) g.column some)
+    ∙ ap (λ b. row_dot row (0 + k) && (same_ink ink' ink && (x' == x + (0 + k)) && b)) (eqb-times y' y g.row some'))
 
 three-second : (a b d : Bool) → b ≡ false → (a && b && d) ≡ false
 three-second true b d none = ap (λ e. e && d) none
@@ -146,10 +146,10 @@ pub meets-code : (g : Grid) (dots : List Dot) (t : DotTable) (r : Raster) (rows 
 meets-code g dots t r rows i plane y n bytes b fits low inside has is tested =
     row-meets g dots t r.ink (sheet_row r i) r.x r.head.n (packed_row r rows i) (row-long r rows i fits low) (omega (arith, is.down)) has
     ∙ sym (tested
-        ∙ ap (λ p. meets t p y r.x bytes n) is.plane_is
-        ∙ ap (λ d. meets t (ink_place r.ink) d r.x bytes n) is.down
-        ∙ ap (λ (bs : List ℕ). meets t (ink_place r.ink) (sheet_row r i) r.x bs n) is.bytes_are
-        ∙ ap (meets t (ink_place r.ink) (sheet_row r i) r.x (packed_row r rows i)) is.wide)
+    ∙ ap (λ p. meets t p y r.x bytes n) is.plane_is
+    ∙ ap (λ d. meets t (ink_place r.ink) d r.x bytes n) is.down
+    ∙ ap (λ (bs : List ℕ). meets t (ink_place r.ink) (sheet_row r i) r.x bs n) is.bytes_are
+    ∙ ap (meets t (ink_place r.ink) (sheet_row r i) r.x (packed_row r rows i)) is.wide)
 
 -- The planes have the dots of the rows before row i too.
 pub record LaidSoFar (g : Grid) (r : Raster) (rows : List ℕ) (i : ℕ) (dots : List Dot) (t : DotTable) : Type 0 where
@@ -196,7 +196,7 @@ pub laid-all : (g : Grid) (r : Raster) (rows : List ℕ) (i : ℕ) (dots : List 
     → HasPlaces g.column g.row (dots ++ fired g r rows) t
 laid-all g r rows i dots t all so_far =
     places-same g t (dots ++ so_far.done) (dots ++ fired g r rows)
-        (ap (λ ds. dots ++ ds) (sym (so_far.is ∙ ap (λ ds. so_far.done ++ ds) (rest-none g r rows i all) ∙ append-nil so_far.done))) so_far.has
+    (ap (λ ds. dots ++ ds) (sym (so_far.is ∙ ap (λ ds. so_far.done ++ ds) (rest-none g r rows i all) ∙ append-nil so_far.done))) so_far.has
 
 -- a row that is laid leaves the dots behind it
 pub lays-past : (old new : DotTable) (i y x : ℕ) (row : List ℕ) (n : ℕ) (ink r c : ℕ) → Lays old new i y x row n → r < old.rows → x + n ≤ c

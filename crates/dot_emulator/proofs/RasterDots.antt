@@ -51,10 +51,10 @@ rest-next g r rows i stands low =
     let place : i * len + len ≡ (i + 1) * len = grind arith in
     ap (λ n. rows_dots n r.head r.ink (r.x * g.column) (sheet_row r i * g.row) (drop (i * len) rows)) more
     ∙ ap (λ h. row_dots r.ink (r.x * g.column) h (sheet_row r i * g.row) (take r.head.n (bits (packed_row r rows i)))
-        ++ rows_dots (r.head.m - (i + 1)) r.head r.ink (r.x * g.column) (sheet_row r i * g.row + r.head.v) (drop len (drop (i * len) rows))) stands.across
+    ++ rows_dots (r.head.m - (i + 1)) r.head r.ink (r.x * g.column) (sheet_row r i * g.row + r.head.v) (drop len (drop (i * len) rows))) stands.across
     ∙ ap (λ y. row_fired g r rows i ++ rows_dots (r.head.m - (i + 1)) r.head r.ink (r.x * g.column) y (drop len (drop (i * len) rows))) below
     ∙ ap (λ (bytes : List ℕ). row_fired g r rows i ++ rows_dots (r.head.m - (i + 1)) r.head r.ink (r.x * g.column) (sheet_row r (i + 1) * g.row) bytes)
-        (drop-drop len (i * len) rows ∙ ap (λ n. drop n rows) place)
+    (drop-drop len (i * len) rows ∙ ap (λ n. drop n rows) place)
 
 -- ---- a test of the dots
 
@@ -153,6 +153,6 @@ pub below-none : (g : Grid) (r : Raster) (rows : List ℕ) (i : ℕ) → Stands 
 below-none g r rows i stands fits low above below =
     let this = (above-next g r rows i stands low above).this in
     none-in (row_fired g r rows i) (
-        row-has-dot g r rows i fits low
-        ∙ sym (row-is-below g r rows i stands fits low ∙ ap (λ t. t && has_dot (packed_row r rows i) r.head.n) (le-leb r.end (sheet_row r i) below))
-        ∙ this)
+    row-has-dot g r rows i fits low
+    ∙ sym (row-is-below g r rows i stands fits low ∙ ap (λ t. t && has_dot (packed_row r rows i) r.head.n) (le-leb r.end (sheet_row r i) below))
+    ∙ this)

@@ -79,10 +79,10 @@ more-dots f ink x step y m b bools later = by_dot b
         ap (λ n. list_any f (row_dots ink n step y bools)) next
         ∙ later
         ∙ any-same _ _ (m + 1) (length bools) (λ k low.
-          let here : m + 1 + k - (m + 1) ≡ k = omega arith in
-          let behind : m + 1 + k - m ≡ suc k = omega arith in
-          ap (λ n. at bools n && f (record { ink = ink; x = x + (m + 1 + k) * step; y = y })) here
-          ∙ sym (ap (λ n. at (d ∷ bools) n && f (record { ink = ink; x = x + (m + 1 + k) * step; y = y })) behind))
+        let here : m + 1 + k - (m + 1) ≡ k = omega arith in
+        let behind : m + 1 + k - m ≡ suc k = omega arith in
+        ap (λ n. at bools n && f (record { ink = ink; x = x + (m + 1 + k) * step; y = y })) here
+        ∙ sym (ap (λ n. at (d ∷ bools) n && f (record { ink = ink; x = x + (m + 1 + k) * step; y = y })) behind))
 
     by_dot : (d : Bool) → list_any f (row_dots ink (x + m * step) step y (d ∷ bools)) ≡ list_any (λ k. at (d ∷ bools) (k - m) && f (record { ink = ink; x = x + k * step; y = y })) (count_from m (suc (length bools)))
     by_dot true =
@@ -109,13 +109,13 @@ row-any f ink x step y n row long =
     ∙ row-any-from f ink (x * step) step y 0 dots
     ∙ ap (λ m. list_any (λ k. at dots (k - 0) && f (record { ink = ink; x = x * step + k * step; y = y })) (count_from 0 m)) len
     ∙ any-same _ _ 0 n (λ k low.
-      let here : 0 + k - 0 ≡ k = omega arith in
-      let place : 0 + k ≡ k = omega arith in
-      let column : x * step + (0 + k) * step ≡ (x + (0 + k)) * step = grind arith in
-      ap (λ m. at dots m && f (record { ink = ink; x = x * step + (0 + k) * step; y = y })) here
-      ∙ ap (λ b. b && f (record { ink = ink; x = x * step + (0 + k) * step; y = y })) (get_or-take n (bits row) k false low ∙ bits-at row k)
-      ∙ ap (λ m. row_dot row m && f (record { ink = ink; x = x * step + (0 + k) * step; y = y })) (sym place)
-      ∙ ap (λ m. row_dot row (0 + k) && f (record { ink = ink; x = m; y = y })) column)
+    let here : 0 + k - 0 ≡ k = omega arith in
+    let place : 0 + k ≡ k = omega arith in
+    let column : x * step + (0 + k) * step ≡ (x + (0 + k)) * step = grind arith in
+    ap (λ m. at dots m && f (record { ink = ink; x = x * step + (0 + k) * step; y = y })) here
+    ∙ ap (λ b. b && f (record { ink = ink; x = x * step + (0 + k) * step; y = y })) (get_or-take n (bits row) k false low ∙ bits-at row k)
+    ∙ ap (λ m. row_dot row m && f (record { ink = ink; x = x * step + (0 + k) * step; y = y })) (sym place)
+    ∙ ap (λ m. row_dot row (0 + k) && f (record { ink = ink; x = m; y = y })) column)
 
 -- whether a packed row has a dot
 pub row-has : (ink : Ink) (x step y n : ℕ) (row : List ℕ) → n ≤ 8 * length row

@@ -183,13 +183,14 @@ laid-shows p m head r rows planes new height placed fits above shows is end_fits
     let n_is : r.head.n ≡ head.n = ap (λ (h : RasterHead). h.n) placed.head_is in
     let fits_columns : r.x + r.head.n ≤ m'.columns = omega (arith, placed.column, n_is) in
     subst S (sym laid.is) (
-        ap (λ (ds : List Dot). nat_lt 0 (length ds)) dots_are ∙ some-more m.dots (fired g r rows) some,
-        subst D (sym dots_are) (record {
-          places = laid.has;
-          inside = subst P (sym height_is) (all-append (IsOnGrid (column_step p) (row_step p) m'.columns height) m.dots (fired g r rows)
-              (old-inside p m m'.columns height planes shows is (omega arith))
-              (fired-on-grid g r rows m'.columns height placed.stands fits fits_columns end_fits above));
-        }))
+      ap (λ (ds : List Dot). nat_lt 0 (length ds)) dots_are ∙ some-more m.dots (fired g r rows) some,
+      subst D (sym dots_are) (record {
+        places = laid.has;
+        inside = subst P (sym height_is) (all-append (IsOnGrid (column_step p) (row_step p) m'.columns height) m.dots (fired g r rows)
+            (old-inside p m m'.columns height planes shows is (omega arith))
+            (fired-on-grid g r rows m'.columns height placed.stands fits fits_columns end_fits above));
+      }),
+    )
 
 -- a raster without dots
 pub blank-shows : (p : Printer) (m : Machine) (head : RasterHead) (r : Raster) (rows : List ℕ) (planes : Option DotTable) → Placed p m head r
@@ -202,9 +203,10 @@ blank-shows p m head r rows planes placed none shows = by_planes planes shows
     by_planes : (o : Option DotTable) → ShowsDots p m o → ShowsDots p (after p m (c.Raster head) rows) o
     by_planes None nothing = dots_are ∙ nothing
     by_planes (Some t) has =
-        let D : List Dot → Type 0 = λ ds. HasDots (column_step p) (row_step p) (after p m (c.Raster head) rows).columns ds t in
-        (ap (λ (ds : List Dot). nat_lt 0 (length ds)) dots_are ∙ has.0,
-        subst D (sym dots_are) (record { places = has.1.places; inside = wider (column_step p) (row_step p) m.columns _ t.rows m.dots (omega arith) has.1.inside }))
+        let D : List Dot → Type 0 = λ ds. HasDots (column_step p) (row_step p) (after p m (c.Raster head) rows).columns ds t in (
+          ap (λ (ds : List Dot). nat_lt 0 (length ds)) dots_are ∙ has.0,
+          subst D (sym dots_are) (record { places = has.1.places; inside = wider (column_step p) (row_step p) m.columns _ t.rows m.dots (omega arith) has.1.inside }),
+        )
 
 -- ---- planes that are taken
 
@@ -254,17 +256,23 @@ eject-runs p m rows old new sheet shows e =
     let step = subst P shows.state e.step in
     let S : Option DotTable → Type 0 = λ o. ShowsDots p (after p m c.Eject rows) o in
     let A : Steps → Type 0 = AreStepsOf p in
-    let page : old.state.page ≡ m.page = ap (λ (n : Machine). n.page) shows.state in
-    ((step rows).0,
-    (record { rows = (page_length m + row_step p - 1) / row_step p; columns = m.columns; dots = m.dots }, refl, record {
-      rows = e.rows ∙ ap (λ o. sheet_rows o old.steps.row) page ∙ ap (λ n. sheet_rows m.page n) shows.steps.row;
-      columns = e.columns ∙ ap (λ (n : Machine). n.columns) shows.state;
-      dots = has-taken p m old.planes sheet.planes e.taken shows.dots;
-    }), record {
-      steps = subst A (sym e.steps) shows.steps;
-      state = (step rows).1;
-      dots = subst S (sym e.none) refl;
-    })
+    let page : old.state.page ≡ m.page = ap (λ (n : Machine). n.page) shows.state in (
+      (step rows).0,
+      (
+        record { rows = (page_length m + row_step p - 1) / row_step p; columns = m.columns; dots = m.dots },
+        refl,
+        record {
+          rows = e.rows ∙ ap (λ o. sheet_rows o old.steps.row) page ∙ ap (λ n. sheet_rows m.page n) shows.steps.row;
+          columns = e.columns ∙ ap (λ (n : Machine). n.columns) shows.state;
+          dots = has-taken p m old.planes sheet.planes e.taken shows.dots;
+        },
+      ),
+      record {
+        steps = subst A (sym e.steps) shows.steps;
+        state = (step rows).1;
+        dots = subst S (sym e.none) refl;
+      },
+    )
 
 -- ---- a raster is fired
 

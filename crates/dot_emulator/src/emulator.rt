@@ -2,18 +2,18 @@
 ghost use Rattle.escp2_definitions.specs.Commands.{in_table, rows_len};
 ghost use Rattle.escp2_definitions.specs.Machine.{start};
 ghost use Rattle.printer_profile.specs.Profiles.{printer_of};
-ghost use Rattle.separation_definitions.specs.CanPrint.{CanPrint};
+ghost use Rattle.printer_profile.specs.Validity.{check};
 ghost use Rattle.dot_emulator.specs.Hands.{IsBlankBehind, inks_of, rows_or, width_of};
 ghost use Rattle.dot_emulator.specs.Pages.{sheet_rows};
 ghost use Rattle.dot_emulator.specs.declared.emulator.EmuStop.TheVariants as stop;
-ghost use Rattle.std.specs.Prelude.{length, true, ◌≡◌};
+ghost use Rattle.std.specs.Prelude.{IsOk, length, true, ◌≡◌};
 
 use crate::firing::Raster;
 use crate::raster::{MOST_COLUMNS, Steps};
 use crate::state::State;
 use crate::{Command, EmuFault, RasterHead, Sheet};
 use dot_planes::Planes;
-use printer_profile::Profile;
+use printer_profile::{Profile, checked_can_print};
 use std::alloc::Global;
 use weave_base::Memory;
 
@@ -70,11 +70,13 @@ impl Emulator {
     ghost use Rattle.std.specs.List.{list_any};
     ghost use Rattle.std.specs.Prelude.{IfOk, List, [], OnErr, OnOk, None, nat_le, ℕ, ◌∷◌, ◌*◌, ◌+◌, ◌/◌, ◌≤◌, unwrap_or};
 
-    /// The machine of a printer at the start of a job. It takes memory later, for the dots of a sheet.
+    /// The machine of a printer, whose profile passes its checks, at the start of a job. It takes memory later, for the
+    /// dots of a sheet.
     pub fn make(alloc: Global, p: &Profile) -> Emulator
-        requires { CanPrint (printer_of p.now) }
+        requires { IsOk (check p.now) }
         ensures { Shows (printer_of p.now) result start }
     {
+        checked_can_print(*p);
         Emulator {
             alloc,
             steps: Steps::of(p),
@@ -159,7 +161,7 @@ impl Emulator {
         requires on_page { raster.end ≤ sheet_rows self.now.state.page self.now.steps.row }
         ensures { (g : Grid) (dots : List Dot) → Stands g raster → PlanesHave g dots self.now.planes
             → result ≡ first_fault (refuse (list_any (λ d. nat_le g.bottom d.y) (fired g raster rows.now)) OffSheet
-                ∷ refuse (overprints dots (fired g raster rows.now)) Overprint ∷ []) }
+            ∷ refuse (overprints dots (fired g raster rows.now)) Overprint ∷ []) }
     {
         if raster.is_off_sheet(rows) {
             return Some(EmuFault::OffSheet);

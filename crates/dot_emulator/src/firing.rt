@@ -80,7 +80,9 @@ impl Raster {
     {
         let len = self.row_len();
         for i in 0..self.head.m {
-            if self.row_at(i) >= self.end && has_dot(row_of(rows, len, i), usize::from(self.head.n)) {
+            if self.row_at(i) >= self.end
+                && has_dot(row_of(rows, len, i), usize::from(self.head.n))
+            {
                 return true;
             }
         }

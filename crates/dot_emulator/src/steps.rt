@@ -6,8 +6,8 @@ ghost use Rattle.escp2_definitions.specs.declared.command.Command.TheVariants as
 ghost use Rattle.printer_definitions.specs.Printer.{Printer};
 ghost use Rattle.std.specs.Prelude.{IfOk, List, Ok, OnOk, true, unwrap_or, ◌<◌, ◌≡◌, ◌≤◌};
 
-use crate::{Command, EmuFault};
 use crate::state::{Margins, State};
+use crate::{Command, EmuFault};
 use weave_base::Ink;
 
 /// The longest page, in 1/3600 inch: 22 inches.

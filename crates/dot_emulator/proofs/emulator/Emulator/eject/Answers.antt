@@ -13,15 +13,15 @@ pub returns-in_err-state : goal.returns-in_err-state
 returns-in_err-state c =
     let error = err_from_is_err_and c.from_residual.result c.from_residual.ensures.1 in
     rw (error.1, error.2) (λ p m rows shows.
-        let P : Machine → Type 0 = λ n. IsStep p n command.Eject (Err c.in_err-state.field-0.0) in
-        (subst P shows.state (c.in_err-state.ensures.step p m.dots) rows, refl))
+    let P : Machine → Type 0 = λ n. IsStep p n command.Eject (Err c.in_err-state.field-0.0) in
+    (subst P shows.state (c.in_err-state.ensures.step p m.dots) rows, refl))
 
 pub returns-in_err-planes : goal.returns-in_err-planes
 returns-in_err-planes c =
     let error = err_from_is_err_and c.from_residual-in_err-planes.result c.from_residual-in_err-planes.ensures.1 in
     rw (error.1, error.2) (λ p m rows shows.
-        let P : Machine → Type 0 = λ n. IsStep p n command.Eject (Ok c.in_ok-state.state) in
-        ((subst P shows.state (c.in_ok-state.ensures.step p m.dots) rows).0, c.in_err-planes.ensures.unchanged))
+    let P : Machine → Type 0 = λ n. IsStep p n command.Eject (Ok c.in_ok-state.state) in
+    ((subst P shows.state (c.in_ok-state.ensures.step p m.dots) rows).0, c.in_err-planes.ensures.unchanged))
 
 pub invariant_of-sheet : goal.invariant_of-sheet
 invariant_of-sheet c =

@@ -21,18 +21,22 @@ use Rattle.dot_emulator.proofs.emulator.Emulator.fire.Goals.{then-has_dots+in_ok
 pub returns-in-Some : goal.returns-in-Some
 returns-in-Some c = λ p m shows.
     let P : Machine → Type 0 = λ n. Placed p n c.args.head c.in_ok-raster.raster in
-    let placed = subst P shows.state (c.in_ok-raster.ensures.placed p m.dots shows.steps) in
-    (late p m c.args.head c.in_ok-raster.raster c.args.rows.now placed
-    ∙ sym (c.refuses_dots.ensures (grid_of p m) m.dots placed.stands (planes-have p m c.args.self.now.planes shows.dots)) ∙ c.in-Some.is, refl)
+    let placed = subst P shows.state (c.in_ok-raster.ensures.placed p m.dots shows.steps) in (
+      late p m c.args.head c.in_ok-raster.raster c.args.rows.now placed
+          ∙ sym (c.refuses_dots.ensures (grid_of p m) m.dots placed.stands (planes-have p m c.args.self.now.planes shows.dots)) ∙ c.in-Some.is,
+      refl,
+    )
 
 pub returns-in_err-lay : goal.returns-in_err-lay
 returns-in_err-lay c =
     let error = err_from_is_err_and c.from_residual-in_err-lay.result c.from_residual-in_err-lay.ensures.1 in
     rw (error.1, error.2) (λ p m shows.
-        let P : Machine → Type 0 = λ n. Placed p n c.args.head c.in_ok-raster.raster in
-        let placed = subst P shows.state (c.in_ok-raster.ensures.placed p m.dots shows.steps) in
-        (late p m c.args.head c.in_ok-raster.raster c.args.rows.now placed
-        ∙ sym (c.refuses_dots.ensures (grid_of p m) m.dots placed.stands (planes-have p m c.args.self.now.planes shows.dots)) ∙ c.in_default.is, c.in_err-lay.ensures.unchanged))
+    let P : Machine → Type 0 = λ n. Placed p n c.args.head c.in_ok-raster.raster in
+    let placed = subst P shows.state (c.in_ok-raster.ensures.placed p m.dots shows.steps) in (
+      late p m c.args.head c.in_ok-raster.raster c.args.rows.now placed
+          ∙ sym (c.refuses_dots.ensures (grid_of p m) m.dots placed.stands (planes-have p m c.args.self.now.planes shows.dots)) ∙ c.in_default.is,
+      c.in_err-lay.ensures.unchanged,
+    ))
 
 pub returns : goal.returns
 returns c = λ p m shows.
@@ -55,15 +59,15 @@ returns c = λ p m shows.
           let laid = w.in_ok-lay.ensures.laid g m.dots placed.stands above (planes-have p m old.planes shows.dots) in
           let S : State → Type 0 = λ s. machine_of s (after p m (command.Raster c.args.head) rows).dots ≡ after p m (command.Raster c.args.head) rows in
           let height = w.lay.new.self.rows
-              ∙ ap (λ (s : State). sheet_rows s.page w.lay.new.self.steps.row) w.in_ok-lay.ensures.state
-              ∙ ap (λ o. sheet_rows o w.lay.new.self.steps.row) c.behind-behind.ensures.page
-              ∙ ap (λ (s : Steps). sheet_rows old.state.page s.row) w.in_ok-lay.ensures.steps in
+          ∙ ap (λ (s : State). sheet_rows s.page w.lay.new.self.steps.row) w.in_ok-lay.ensures.state
+          ∙ ap (λ o. sheet_rows o w.lay.new.self.steps.row) c.behind-behind.ensures.page
+          ∙ ap (λ (s : Steps). sheet_rows old.state.page s.row) w.in_ok-lay.ensures.steps in
           subst R (sym w.self-is) (fire-runs p m c.args.head r rows old w.lay.new.self shows
-              (record { placed = placed; fits = fits; none = none; steps = w.in_ok-lay.ensures.steps; step = subst S (sym w.in_ok-lay.ensures.state) step })
-              (laid-shows p m c.args.head r rows old.planes w.lay.new.self.planes (sheet_rows old.state.page old.steps.row) placed fits above shows.dots old.rows c.in_ok-raster.ensures.on_page
-                  _ height laid (sym (c.has_dots.ensures g placed.stands) ∙ w.if-has_dots.true)))
+          (record { placed = placed; fits = fits; none = none; steps = w.in_ok-lay.ensures.steps; step = subst S (sym w.in_ok-lay.ensures.state) step })
+          (laid-shows p m c.args.head r rows old.planes w.lay.new.self.planes (sheet_rows old.state.page old.steps.row) placed fits above shows.dots old.rows c.in_ok-raster.ensures.on_page
+          _ height laid (sym (c.has_dots.ensures g placed.stands) ∙ w.if-has_dots.true)))
       | else-has_dots w ↦
           subst R (sym w.self-is) (fire-runs p m c.args.head r rows old _ shows
-              (record { placed = placed; fits = fits; none = none; steps = refl; step = step })
-              (blank-shows p m c.args.head r rows old.planes placed (sym (c.has_dots.ensures g placed.stands) ∙ w.if-has_dots.false) shows.dots))
+          (record { placed = placed; fits = fits; none = none; steps = refl; step = step })
+          (blank-shows p m c.args.head r rows old.planes placed (sym (c.has_dots.ensures g placed.stands) ∙ w.if-has_dots.false) shows.dots))
     ]

@@ -22,9 +22,12 @@ invariant_of-self-2 c =
 pub returns : goal.returns
 returns c = λ p m rows shows.
     let P : Machine → Type 0 = λ n. IsStep p n c.args.command (Ok c.in_ok-self.field-0) in
-    let step = subst P shows.state (c.in_ok-self.ensures p m.dots (c.is_some.ensures ∙ shown-dots p m c.args.self.now.planes shows.dots)) in
-    ((step rows).0, plain-gives p m c.args.command c.requires.plain, record {
-      steps = shows.steps;
-      state = (step rows).1;
-      dots = plain-shows p m c.args.command rows c.args.self.now.planes c.requires.plain (step rows).0 shows.dots;
-    })
+    let step = subst P shows.state (c.in_ok-self.ensures p m.dots (c.is_some.ensures ∙ shown-dots p m c.args.self.now.planes shows.dots)) in (
+      (step rows).0,
+      plain-gives p m c.args.command c.requires.plain,
+      record {
+        steps = shows.steps;
+        state = (step rows).1;
+        dots = plain-shows p m c.args.command rows c.args.self.now.planes c.requires.plain (step rows).0 shows.dots;
+      },
+    )

@@ -43,12 +43,12 @@ loop-i-preserved c =
           elim c.if-y-self.branch [
             | then-y-self w ↦ subst L (sym w.planes-is)
                 (laid-next g c.args.self.now c.args.rows.now c.loop-i.i dots c.loop-i.planes w.lay.new.self c.plane_of-ink.result c.row_at-y.result c.from-dots.result w.row_of.result.now
-                    stands c.requires.rows c.loop-i-test.true so_far
-                    (record { plane_is = c.plane_of-ink.ensures.is; down = c.row_at-y.ensures; wide = c.from-dots.ensures; bytes_are = row-is c.args.self.now c.args.rows.now w.row_of.result.now c.loop-i.i c.row_len-len.result c.row_len-len.ensures.is w.row_of.ensures.is })
-                    w.lay.ensures)
+                stands c.requires.rows c.loop-i-test.true so_far
+                (record { plane_is = c.plane_of-ink.ensures.is; down = c.row_at-y.ensures; wide = c.from-dots.ensures; bytes_are = row-is c.args.self.now c.args.rows.now w.row_of.result.now c.loop-i.i c.row_len-len.result c.row_len-len.ensures.is w.row_of.ensures.is })
+                w.lay.ensures)
             | else-y-self w ↦ subst L (sym w.planes-is)
                 (laid-none g c.args.self.now c.args.rows.now c.loop-i.i dots c.loop-i.planes stands c.requires.rows c.loop-i-test.true (c.loop-i.invariant.above g stands above)
-                    (omega (arith, c.row_at-y.ensures, w.if-y-self.false)) so_far)
+                (omega (arith, c.row_at-y.ensures, w.if-y-self.false)) so_far)
           ];
     }
 
