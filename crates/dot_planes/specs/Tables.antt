@@ -1,4 +1,5 @@
 -- Tables of dots and of amounts: ink by ink in the order of a printer's set, row by row, from the left.
+use Rattle.pwg_definitions.specs.Limits.{most_columns, most_rows}
 use Rattle.std.specs.Prelude.{◌≡◌, ℕ, ◌+◌, ◌*◌, ◌/◌, ◌%◌, ◌<◌, ◌≤◌, ◌⊎◌, ◌≢◌, Bool, true, List, length, take, drop, slice_index}
 use Rattle.escp2_definitions.specs.Machine.{bit_at}
 use Rattle.escp2_definitions.specs.Packed.{at, packed}
@@ -91,8 +92,8 @@ pub record Sets (old new : AmountTable) (i y x : ℕ) (amounts : List ℕ) : Typ
 -- The tables that are made: a row of 8,191 columns, 15,840 rows and four inks at most.
 pub record IsSize (width rows inks : ℕ) : Type 0 where
   pub some_columns : 1 ≤ width
-  pub most_columns : width ≤ 8191
+  pub most_columns : width ≤ most_columns
   pub some_rows : 1 ≤ rows
-  pub most_rows : rows ≤ 15840
+  pub most_rows : rows ≤ most_rows
   pub some_inks : 1 ≤ inks
   pub most_inks : inks ≤ 4

@@ -1,13 +1,14 @@
 //! Where the rows of inks stand, one after another.
 ghost use Rattle.dot_planes.specs.Tables.{row_at};
+ghost use Rattle.pwg_definitions.specs.Limits.{most_columns, most_rows};
 ghost use Rattle.std.specs.Prelude.{length, slice_index, ◌*◌, ◌+◌, ◌<◌, ◌≡◌, ◌≤◌, ℕ};
 
 /// The place of the first byte of row y of an ink, in a table of so many inks with so many rows of `len` bytes each.
 #[inline]
 pub(crate) fn row_start(inks: u8, rows: u32, len: usize, ink: u8, y: u32) -> usize
     requires inks { inks ≤ 4 }
-    requires rows { rows ≤ 15840 }
-    requires len { len ≤ 8191 }
+    requires rows { rows ≤ most_rows }
+    requires len { len ≤ most_columns }
     requires ink { ink < inks }
     requires y { y < rows }
     ensures is { result ≡ (ink * rows + y) * len }

@@ -1,6 +1,7 @@
 //! Packed planes of dots.
 ghost use Rattle.dot_planes.specs.Tables.{IsPackedRow, IsSize, PutsRow, TurnsOn, dot, row_len as row_len_of};
 ghost use Rattle.escp2_definitions.specs.Packed.{packed};
+ghost use Rattle.pwg_definitions.specs.Limits.{most_columns};
 ghost use Rattle.std.specs.List.{count_by, sum_by};
 ghost use Rattle.std.specs.Prelude.{IfOk, count_ones, false, length, map, ℕ, ◌<◌, ◌≡◌, ◌≤◌};
 ghost use Rattle.weave_definitions.specs.Weave.{count_from};
@@ -137,7 +138,7 @@ impl Planes {
 // The bytes of a row.
 #[inline]
 fn row_len(width: u32) -> usize
-    requires { width ≤ 8191 }
+    requires { width ≤ most_columns }
     ensures is { result ≡ row_len_of width }
     ensures most { result ≤ 1024 }
 {

@@ -23,7 +23,7 @@ use Rattle.pwg_stream.specs.declared.stops.StreamStop.{StreamStop}
 use Rattle.pwg_stream.specs.declared.stops.StreamStop.TheVariants as stop
 use Rattle.pwg_stream.specs.Reading.{page_of, text_of}
 use Rattle.pwg_stream.specs.Stops.{OnInput}
-use Rattle.pwg_stream.specs.Text.{UsesSome, text_behind}
+use Rattle.unread_bytes.specs.Text.{UsesSome, text_behind}
 use Rattle.weave_base.specs.Causes.{Rose}
 use Rattle.weave_base.specs.Parts.{AppendsPart}
 use Rattle.driver_core.specs.declared.stops.PrintStop.TheVariants as print

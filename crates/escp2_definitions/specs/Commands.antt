@@ -36,8 +36,12 @@ is_position n = nat_le n 32767
 abbrev pub is_bottom : ℕ → ℕ → Bool
 is_bottom top n = is_between (top + 1) 32767 n
 
+-- the most columns of a sheet, and so of a raster's row
+abbrev pub last_column : ℕ
+last_column = 8191
+
 abbrev pub is_width : ℕ → Bool
-is_width n = is_between 1 8191 n
+is_width n = is_between 1 last_column n
 
 abbrev pub colour_code : Ink → ℕ
 colour_code Black = 0

@@ -10,7 +10,7 @@ use Rattle.escp2_definitions.specs.declared.command.Command.{Command}
 use Rattle.escp2_definitions.specs.declared.command.Command.TheVariants as c
 use Rattle.escp2_definitions.specs.declared.stops.EmuFault.{EmuFault}
 use Rattle.escp2_definitions.specs.declared.stops.EmuFault.TheVariants.{NotGraphics, NoUnit, NoMargins, Density, Rows, Backward, OffGrid, OffSheet, Overprint}
-use Rattle.escp2_definitions.specs.Commands.{Entry, row_bytes}
+use Rattle.escp2_definitions.specs.Commands.{Entry, last_column, row_bytes}
 
 -- A dot of an ink, at a place from the left margin and from the paper's top.
 pub record Dot : Type 0 where
@@ -136,7 +136,7 @@ is_off_grid p s = not (s.across % column_step p == 0) || not (from_top s % row_s
 
 -- whether a raster goes past the last column, or has a dot at or below the bottom margin
 abbrev pub is_off_sheet : Printer → Machine → RasterHead → List Dot → Bool
-is_off_sheet p s head new = nat_lt 8191 (s.across / column_step p + head.n) || list_any (λ d. nat_le (bottom_margin s) d.y) new
+is_off_sheet p s head new = nat_lt last_column (s.across / column_step p + head.n) || list_any (λ d. nat_le (bottom_margin s) d.y) new
 
 -- The refusals of a command, in the order in which they are tested.
 abbrev pub refusals : Printer → Machine → Command → List ℕ → List Refusal

@@ -3,7 +3,7 @@ use Rattle.std.specs.Prelude.{◌≡◌, ℕ, ◌+◌, ◌-◌, ◌≤◌, List,
 use Rattle.escp2_definitions.specs.declared.command.Command.{Command}
 use Rattle.escp2_definitions.specs.declared.command.RasterHead.{RasterHead}
 use Rattle.escp2_definitions.specs.declared.stops.JobCause.TheVariants.{BadLength}
-use Rattle.escp2_definitions.specs.Commands.{Heard, command_bytes, raster_rows, sized}
+use Rattle.escp2_definitions.specs.Commands.{Heard, command_bytes, last_column, raster_rows, sized}
 use Rattle.escp2_definitions.specs.Commands.Heard.{One, Part, Wrong}
 use Rattle.escp2_reader.specs.declared.heads.HeadState.{HeadState}
 use Rattle.escp2_reader.specs.declared.heads.HeadState.TheVariants as head
@@ -15,7 +15,7 @@ pub record HasRows (raster : RasterHead) : Type 0 where
   pub form : raster.c ≤ 1
   pub some : 1 ≤ raster.m
   pub narrowest : 1 ≤ raster.n
-  pub widest : raster.n ≤ 8191
+  pub widest : raster.n ≤ last_column
 
 -- Less than a command, or than the numbers of a raster: behind the first `at` bytes there are at most 8 in all, and 7 of a raster.
 pub record IsShort (at : ℕ) (bytes : List ℕ) : Type 0 where

@@ -1,4 +1,5 @@
 -- Pages that are read from a stream and halftoned.
+use Rattle.pwg_definitions.specs.Limits.{most_pages}
 use Rattle.std.specs.Prelude.{◌≡◌, ℕ, ◌+◌, ◌≤◌, List, ◌++◌, Option, None}
 use Rattle.std.specs.Io.KnownBytes.{Consumes}
 use Rattle.diffusion_definitions.specs.Diffusion.{Table}
@@ -19,7 +20,7 @@ pub record ReadsPage (want : Wanted) (old new : PageReader) (before now : Option
   pub used : Consumes (text_of old before) (text_of new now) bytes
   pub is : (rest : List ℕ) → page_at want (bytes ++ rest) ≡ Whole page rest
   pub number : page_of new ≡ page_of old + 1
-  pub last : page_of new ≤ 9999
+  pub last : page_of new ≤ most_pages
   pub unended : has_ended new ≡ has_ended old
 
 -- The next page was read, and the planes have the dots of its halftone.

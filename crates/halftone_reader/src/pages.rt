@@ -3,11 +3,12 @@ ghost use Rattle.diffusion_kernel.specs.Tables.{table_of};
 ghost use Rattle.halftone_reader.specs.Reading.{IsBetween, ReadsHalftone};
 ghost use Rattle.printer_profile.specs.Profiles.{printer_of};
 ghost use Rattle.printer_profile.specs.Validity.{check};
+ghost use Rattle.pwg_definitions.specs.Limits.{most_pages};
 ghost use Rattle.pwg_definitions.specs.Stream.StreamEnd.{Fault};
 ghost use Rattle.pwg_definitions.specs.Stream.{pages_from};
 ghost use Rattle.pwg_stream.specs.Reading.{has_ended, page_of, text_of};
 ghost use Rattle.pwg_stream.specs.Stops.{OnInput};
-ghost use Rattle.pwg_stream.specs.Text.{UsesSome};
+ghost use Rattle.unread_bytes.specs.Text.{UsesSome};
 ghost use Rattle.pwg_stream.specs.declared.stops.StreamStop.TheVariants as stop;
 ghost use Rattle.separation_definitions.specs.Windows.{wanted_by};
 ghost use Rattle.std.specs.Io.KnownBytes.{IsAtEnd};
@@ -46,7 +47,7 @@ pub fn read_page<S: Source>(
     ensures none { IfOk result (λ o. IfNone o (IsAtEnd (text_of reader.old (S.left s.old)) × IsAtEnd (text_of reader.new (S.left s.new)))) }
     ensures between { IfOk result (λ o. IfSome o (λ page. IsBetween reader.new)) }
     ensures input { OnInput result (λ number line cause. IfSome (text_of reader.old (S.left s.old)) (λ text.
-        pages_from (wanted_by (printer_of profile.now)) (9999 - page_of reader.old) (page_of reader.old + 1) text
+        pages_from (wanted_by (printer_of profile.now)) (most_pages - page_of reader.old) (page_of reader.old + 1) text
         ≡ record { pages = []; end = Fault number line cause })) }
     ensures read { IsErrOf result stop.Read → Rose (S.faults s.old) (S.faults s.new) }
     ensures used { UsesSome (text_of reader.old (S.left s.old)) (text_of reader.new (S.left s.new)) }

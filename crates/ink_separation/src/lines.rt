@@ -7,6 +7,7 @@ ghost use Rattle.printer_definitions.specs.declared.inks.Ink.{Ink};
 ghost use Rattle.printer_profile.specs.Profiles.{printer_of};
 ghost use Rattle.printer_profile.specs.Validity.{check};
 ghost use Rattle.pwg_definitions.specs.Header.{row_of};
+ghost use Rattle.pwg_definitions.specs.Limits.{most_columns};
 ghost use Rattle.separation_definitions.specs.Amounts.{amount as amount_of, pixel_at};
 ghost use Rattle.std.specs.Prelude.{IsOk, Some, length, slice_get, slice_index, ℕ, ◌*◌, ◌+◌, ◌/◌, ◌<◌, ◌≡◌, ◌≢◌, ◌≤◌, ◌⊎◌};
 
@@ -27,7 +28,7 @@ use separation_definitions::Window;
 /// profile's set in their order.
 pub fn amounts(p: &Profile, kind: Kind, line: &[u8], w: Window, at: u32, out: &mut InkRows)
     requires checked { IsOk (check p.now) }
-    requires wide { w.width ≤ 8191 }
+    requires wide { w.width ≤ most_columns }
     requires inside { (w.left + w.width) * (row_of kind).unit ≤ length line.now }
     requires width { out.old.width ≡ w.width }
     requires inks { out.old.inks ≡ length (inks_of p.now.inks) }

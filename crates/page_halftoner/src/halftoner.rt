@@ -7,6 +7,7 @@ ghost use Rattle.page_halftoner.specs.Rows.{AreAtTop, AreWide};
 ghost use Rattle.printer_profile.specs.Profiles.{printer_of};
 ghost use Rattle.printer_profile.specs.Validity.{check};
 ghost use Rattle.pwg_definitions.specs.Header.{IsWanted};
+ghost use Rattle.pwg_definitions.specs.Limits.{most_columns};
 ghost use Rattle.separation_definitions.specs.Windows.{wanted_by};
 ghost use Rattle.std.specs.Prelude.{IfNone, IfOk, IfSome, IsOk, List, OnOk, [], length, replicate, ℕ, ◌++◌, ◌+◌, ◌<◌, ◌∷◌, ◌≡◌, ◌≤◌, ◌⊎◌, ◌^◌};
 
@@ -69,7 +70,7 @@ fn row_of_line(window: Window, line: u32) -> Option<u32>
 // The errors of so many inks above a page.
 fn error_rows(alloc: Global, width: u32, inks: u8) -> Result<Vec<ErrorRows>, Memory>
     requires some { 1 ≤ width }
-    requires most { width ≤ 8191 }
+    requires most { width ≤ most_columns }
     ensures len { IfOk result (λ errors. length errors.items ≡ inks) }
     ensures wide { IfOk result (λ errors. AreWide width errors.items) }
     ensures top { IfOk result (λ errors. AreAtTop errors.items) }

@@ -1,4 +1,5 @@
 -- The size of a window and of its sheet.
+use Rattle.pwg_definitions.specs.Limits.{most_columns, most_rows}
 use Rattle.std.specs.Prelude.{ℕ, ◌+◌, ◌*◌, ◌≤◌}
 use Rattle.printer_definitions.specs.Printer.{Printer, row_units}
 use Rattle.page_definitions.specs.Dots.{Halftone}
@@ -7,7 +8,7 @@ use Rattle.page_definitions.specs.Dots.{Halftone}
 -- which is 22 inches long at most.
 pub record Sized (p : Printer) (h : Halftone) (tall : ℕ) : Type 0 where
   pub some_width : 1 ≤ h.width
-  pub most_width : h.width ≤ 8191
+  pub most_width : h.width ≤ most_columns
   pub some_height : 1 ≤ h.height
   pub low : p.top + h.height ≤ tall
-  pub short : tall * row_units p ≤ 15840
+  pub short : tall * row_units p ≤ most_rows

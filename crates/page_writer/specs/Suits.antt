@@ -1,4 +1,5 @@
 -- What belongs together while a page is written.
+use Rattle.pwg_definitions.specs.Limits.{most_columns, most_rows}
 use Rattle.std.specs.Prelude.{◌≡◌, ◌≤◌, length}
 use Rattle.dot_planes.specs.Tables.{DotTable, dot}
 use Rattle.page_definitions.specs.Dots.{Halftone, HasDots}
@@ -15,9 +16,9 @@ pub record Suits (p : Printer) (plan : Weaving) (t : DotTable) : Type 0 where
   pub height : plan.height ≡ t.rows
   pub inks : t.inks ≡ length (inks_of p.inks)
   pub some_columns : 1 ≤ t.width
-  pub most_columns : t.width ≤ 8191
+  pub most_columns : t.width ≤ most_columns
   pub some_rows : 1 ≤ t.rows
-  pub most_rows : t.rows ≤ 15840
+  pub most_rows : t.rows ≤ most_rows
 
 -- the plan of a printer's passes over planes
 abbrev pub plan_of : Printer → DotTable → Weaving

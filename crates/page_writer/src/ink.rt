@@ -3,6 +3,7 @@ ghost use Rattle.escp2_definitions.specs.Canonical.{canonical_row};
 ghost use Rattle.page_definitions.specs.Strokes.{bytes_of};
 ghost use Rattle.page_writer.specs.Rows.{plane_rows, rows_commands};
 ghost use Rattle.page_writer.specs.Sums.{rasters_in};
+ghost use Rattle.pwg_definitions.specs.Limits.{most_columns};
 ghost use Rattle.std.specs.Prelude.{length, vec_capacity, vec_len, ◌*◌, ◌++◌, ◌+◌, ◌/◌, ◌<◌, ◌≡◌, ◌≤◌};
 ghost use Rattle.weave_definitions.specs.Weave.{pass_count};
 
@@ -26,7 +27,7 @@ pub fn append_ink(
     requires place { place < planes.now.inks }
     requires pass { pass < pass_count plan.now.nozzles plan.now.pitch plan.now.height }
     requires rows { plan.now.height ≡ planes.now.rows }
-    requires width { planes.now.width ≤ 8191 }
+    requires width { planes.now.width ≤ most_columns }
     requires nozzles { head.m ≡ plan.now.nozzles }
     requires columns { head.n ≡ planes.now.width }
     requires coded { head.c ≡ 1 }

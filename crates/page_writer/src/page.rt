@@ -12,6 +12,7 @@ ghost use Rattle.printer_definitions.specs.Printer.{row_units as row_units_of};
 ghost use Rattle.printer_profile.specs.Profiles.{printer_of};
 ghost use Rattle.printer_profile.specs.Validity.{check};
 ghost use Rattle.pwg_definitions.specs.Header.{IsWanted};
+ghost use Rattle.pwg_definitions.specs.Limits.{most_rows};
 ghost use Rattle.separation_definitions.specs.Windows.{wanted_by, window_of};
 ghost use Rattle.std.specs.Io.KnownBytes.{Appends, Keeps};
 ghost use Rattle.std.specs.Prelude.{IfOk, IsErrOf, IsOk, OnErr, OnOk, [], if◌then◌else◌, length, nat_lt, vec_capacity, vec_len, ◌*◌, ◌+◌, ◌≡◌, ◌≤◌};
@@ -52,7 +53,7 @@ fn put_passes<K: Sink>(
     k: &mut K,
 ) -> Result<PageSum, Failed>
     requires suits { Suits (printer_of p.now) (plan_of (printer_of p.now) planes.now) planes.now }
-    requires sheet { (p.now.top + planes.now.rows) * row_units_of (printer_of p.now) ≤ 15840 }
+    requires sheet { (p.now.top + planes.now.rows) * row_units_of (printer_of p.now) ≤ most_rows }
     requires room { most_of_pass_of (printer_of p.now) planes.now.width ≤ vec_capacity out.old }
     ensures ok { (h : Halftone) → Shows (printer_of p.now) planes.now h → OnOk result
         (Appends (K.held k.old) (K.held k.new) (bytes_of canonical_row (fired_strokes (printer_of p.now) h))) }

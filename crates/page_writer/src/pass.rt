@@ -8,6 +8,7 @@ ghost use Rattle.page_writer.specs.Suits.{Shows, Suits};
 ghost use Rattle.page_writer.specs.Sums.{most_of_pass, rasters_in};
 ghost use Rattle.printer_definitions.specs.Printer.{row_units as row_units_of};
 ghost use Rattle.printer_profile.specs.Profiles.{printer_of};
+ghost use Rattle.pwg_definitions.specs.Limits.{most_rows};
 ghost use Rattle.std.specs.Io.KnownBytes.{Appends};
 ghost use Rattle.std.specs.Prelude.{IfOk, OnErr, OnOk, nat_lt, vec_capacity, vec_len, ◌*◌, ◌++◌, ◌+◌, ◌-◌, ◌/◌, ◌<◌, ◌≡◌, ◌≤◌};
 ghost use Rattle.weave_base.specs.Causes.{HasCause};
@@ -69,7 +70,7 @@ pub fn put_pass<K: Sink>(
 ) -> Result<PageSum, Failed>
     requires suits { Suits (printer_of p.now) plan.now planes.now }
     requires pass { pass < pass_count plan.now.nozzles plan.now.pitch plan.now.height }
-    requires down { down * row_units_of (printer_of p.now) ≤ 15840 }
+    requires down { down * row_units_of (printer_of p.now) ≤ most_rows }
     requires room { most_of_pass (printer_of p.now) planes.now.width ≤ vec_capacity out.old }
     ensures ok { (h : Halftone) → Shows (printer_of p.now) planes.now h → OnOk result
         (Appends (K.held k.old) (K.held k.new) (pass_bytes (printer_of p.now) h pass down)) }

@@ -2,6 +2,7 @@
 ghost use Rattle.escp2_definitions.specs.Packed.{packed};
 ghost use Rattle.page_definitions.specs.Strokes.{has_dot};
 ghost use Rattle.page_writer.specs.Rows.{nozzle_plane_row, plane_rows};
+ghost use Rattle.pwg_definitions.specs.Limits.{most_columns};
 ghost use Rattle.std.specs.Prelude.{◌<◌, ◌≡◌, ◌≤◌};
 ghost use Rattle.weave_definitions.specs.Weave.{pass_count};
 
@@ -16,7 +17,7 @@ pub fn fired_row<'a>(planes: &'a Planes, plan: &Plan, place: u8, pass: u32, nozz
     requires pass { pass < pass_count plan.now.nozzles plan.now.pitch plan.now.height }
     requires nozzle { nozzle < plan.now.nozzles }
     requires rows { plan.now.height ≡ planes.now.rows }
-    requires width { planes.now.width ≤ 8191 }
+    requires width { planes.now.width ≤ most_columns }
     ensures { result.now ≡ packed (nozzle_plane_row planes.now plan.now place pass nozzle) }
 {
     match plan.row(pass, nozzle) {
@@ -31,7 +32,7 @@ pub fn has_fire(planes: &Planes, plan: &Plan, place: u8, pass: u32, nozzles: u8)
     requires pass { pass < pass_count plan.now.nozzles plan.now.pitch plan.now.height }
     requires nozzles { nozzles ≡ plan.now.nozzles }
     requires rows { plan.now.height ≡ planes.now.rows }
-    requires width { planes.now.width ≤ 8191 }
+    requires width { planes.now.width ≤ most_columns }
     ensures { result ≡ has_dot (plane_rows planes.now plan.now place pass) }
 {
     for nozzle in 0..nozzles {

@@ -2,6 +2,7 @@
 ghost use Rattle.page_writer.specs.Sums.{most_of_page, most_of_pass as most_of_pass_of};
 ghost use Rattle.printer_definitions.specs.Inks.{inks_of};
 ghost use Rattle.printer_profile.specs.Profiles.{printer_of};
+ghost use Rattle.pwg_definitions.specs.Limits.{most_columns, most_rows};
 ghost use Rattle.separation_definitions.specs.CanPrint.{CanPrint};
 ghost use Rattle.std.specs.Prelude.{length, ◌*◌, ◌+◌, ◌/◌, ◌≡◌, ◌≤◌};
 
@@ -20,7 +21,7 @@ pub struct PageSum {
 /// The most bytes of an ink in a pass: its colour, back to the left margin, and a raster whose rows' codes are twice as
 /// long as the rows.
 fn most_of_ink(nozzles: u8, width: u32) -> u64
-    requires { width ≤ 8191 }
+    requires { width ≤ most_columns }
     ensures is { result ≡ 12 + 2 * nozzles * ((width + 7) / 8) }
     ensures most { result ≤ 522252 }
 {
@@ -29,7 +30,7 @@ fn most_of_ink(nozzles: u8, width: u32) -> u64
 
 /// The most bytes of a pass over so many columns: a step down, and each of its inks.
 pub(crate) fn most_of_pass(p: &Profile, width: u32) -> u64
-    requires { width ≤ 8191 }
+    requires { width ≤ most_columns }
     ensures is { result ≡ most_of_pass_of (printer_of p.now) width }
     ensures most { result ≤ 2089015 }
 {
@@ -40,9 +41,9 @@ pub(crate) fn most_of_pass(p: &Profile, width: u32) -> u64
 /// ink 12 and twice those of a row for each nozzle.
 pub fn most_bytes(p: &Profile, w: Window) -> u64
     requires can { CanPrint (printer_of p.now) }
-    requires width { w.width ≤ 8191 }
+    requires width { w.width ≤ most_columns }
     requires some_rows { 1 ≤ w.height }
-    requires most_rows { w.height ≤ 15840 }
+    requires most_rows { w.height ≤ most_rows }
     ensures { result ≡ most_of_page (printer_of p.now) w.width w.height }
 {
     let plan = Plan::make(p.nozzles, p.pitch, w.height);

@@ -4,7 +4,7 @@ ghost use Rattle.std.specs.Prelude.{◌≡◌};
 ghost use Rattle.pwg_definitions.specs.Header.{IsWanted};
 
 use printer_definitions::InkSet;
-use pwg_definitions::{PageForm, Wanted};
+use pwg_definitions::{MOST_COLUMNS, MOST_ROWS, PageForm, Wanted};
 use separation_definitions::Window;
 
 /// A printer. Nothing ties the fields together: `check` says whether they make sense.
@@ -41,9 +41,9 @@ impl Profile {
             hdpi: u32::from(self.hdpi),
             vdpi: u32::from(self.vdpi),
             least_width: u32::from(self.left) + u32::from(self.right) + 1,
-            most_width: 8191,
+            most_width: MOST_COLUMNS,
             least_height: u32::from(self.top) + u32::from(self.bottom) + 1,
-            most_height: 15840 * u32::from(self.vdpi) / 720,
+            most_height: MOST_ROWS * u32::from(self.vdpi) / 720,
         }
     }
 

@@ -3,7 +3,9 @@
 #![tactic(auto)]
 
 mod faults;
+mod limits;
 mod pages;
 
 pub use faults::{HeaderFault, InputCause, LineFault};
+pub use limits::{MOST_COLUMNS, MOST_ROWS};
 pub use pages::{Header, Kind, PageForm, Wanted};

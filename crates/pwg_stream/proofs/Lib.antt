@@ -1,5 +1,3 @@
-pub mod Filling
-pub mod Texts
 pub mod GroupSizes
 pub mod Grouping
 pub mod Fronts

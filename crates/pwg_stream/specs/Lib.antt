@@ -1,4 +1,3 @@
-pub mod Text
 pub mod Groups
 pub mod Stops
 pub mod Pages

@@ -15,7 +15,7 @@ use Rattle.pwg_lines.specs.Reading as lines
 use Rattle.pwg_stream.specs.declared.reader.PageReader.{PageReader}
 use Rattle.pwg_stream.specs.declared.stops.StreamStop.{StreamStop}
 use Rattle.pwg_stream.specs.Pages.{GivesHeader}
-use Rattle.pwg_stream.specs.Text.{text_behind}
+use Rattle.unread_bytes.specs.Text.{text_behind}
 
 -- The text that it still has before it, with what the source has left: the bytes that it took and did not use come first.
 abbrev pub text_of : PageReader → Option (List ℕ) → Option (List ℕ)

@@ -8,7 +8,6 @@ mod stops;
 mod sync;
 #[cfg(test)]
 mod tests;
-mod unread;
 
 pub use headers::MOST_PAGES;
 pub use reader::PageReader;

@@ -9,7 +9,7 @@ use crate::groups::{GroupStop, read_group};
 use crate::headers::read_page_header;
 use crate::stops::StreamStop;
 use crate::sync::read_sync;
-use crate::unread::Unread;
+use unread_bytes::Unread;
 use pwg_header::{PageForm, Wanted};
 use pwg_lines::LineReader;
 use std::alloc::Global;
@@ -45,7 +45,7 @@ fn stop_at(page: u32, line: u32, fault: GroupStop) -> StreamStop
 impl PageReader {
     ghost use Rattle.pwg_stream.specs.Reading.{BeginsPage, GivesLines, HasLineFault, form_of, has_ended, line_of, lines_left_of, page_of, stop_of, text_of};
     ghost use Rattle.pwg_stream.specs.Stops.{OnInput};
-    ghost use Rattle.pwg_stream.specs.Text.{UsesSome};
+    ghost use Rattle.unread_bytes.specs.Text.{UsesSome};
     ghost use Rattle.pwg_stream.specs.declared.stops.StreamStop.{StreamStop};
     ghost use Rattle.pwg_stream.specs.declared.stops.StreamStop.TheVariants as stop;
     ghost use Rattle.std.specs.Io.KnownBytes.{Consumes, IsAtEnd};

@@ -1,4 +1,5 @@
 -- What stands in kept rows of errors.
+use Rattle.pwg_definitions.specs.Limits.{most_columns}
 use Rattle.std.specs.Prelude.{◌≡◌, ◌+◌, ◌≤◌, length}
 use Rattle.diffusion_definitions.specs.Diffusion.{EachInRange}
 use Rattle.row_diffusion.specs.Errors.{TwoRows}
@@ -11,7 +12,7 @@ two_rows r = record { width = r.width; up2 = r.up2.items; up1 = r.up1.items }
 -- The rows have one width, their errors are in range, and beside them stand zeros.
 pub record IsReady (r : Inside) : Type 0 where
   pub some : 1 ≤ r.width
-  pub most : r.width ≤ 8191
+  pub most : r.width ≤ most_columns
   pub up2_len : length r.up2.items ≡ r.width + 6
   pub up1_len : length r.up1.items ≡ r.width + 6
   pub row_len : length r.row.items ≡ r.width + 6

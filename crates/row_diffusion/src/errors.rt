@@ -3,6 +3,7 @@ ghost use Rattle.diffusion_definitions.specs.Diffusion.{Errors, Plane, Solves, n
 ghost use Rattle.diffusion_kernel.specs.Tables.{table_of};
 ghost use Rattle.dot_planes.specs.Tables.{IsPackedRow};
 ghost use Rattle.escp2_definitions.specs.Packed.{packed as packed_of};
+ghost use Rattle.pwg_definitions.specs.Limits.{most_columns};
 ghost use Rattle.row_diffusion.specs.Errors.{IsReached};
 ghost use Rattle.row_diffusion.specs.Rows.{AreRows, HasRow, IsDiffused};
 ghost use Rattle.std.specs.Prelude.{IfOk, length, map, ℕ, ◌+◌, ◌/◌, ◌≡◌, ◌≤◌};
@@ -63,7 +64,7 @@ fn diffuse_by(
 // Rows of no errors.
 fn room(alloc: Global, width: usize) -> Result<ErrorRows, AllocError>
     requires some { 1 ≤ width }
-    requires most { width ≤ 8191 }
+    requires most { width ≤ most_columns }
     ensures width { IfOk result (λ rows. rows.width ≡ width) }
     ensures top { IfOk result (λ rows. IsReached rows no_top 0) }
 {
@@ -80,7 +81,7 @@ impl ErrorRows {
     /// The top of a page with 1 to 8,191 columns: no errors. Takes all the memory that the page's rows need.
     pub fn make(alloc: Global, width: u32) -> Result<ErrorRows, Memory>
         requires some { 1 ≤ width }
-        requires most { width ≤ 8191 }
+        requires most { width ≤ most_columns }
         ensures width { IfOk result (λ rows. rows.width ≡ width) }
         ensures top { IfOk result (λ rows. IsReached rows no_top 0) }
     {

@@ -1,4 +1,5 @@
 -- What a plan is for, and what it keeps.
+use Rattle.pwg_definitions.specs.Limits.{most_rows}
 use Rattle.std.specs.Prelude.{◌≡◌, ℕ, ◌*◌, ◌%◌, ◌≤◌}
 
 -- A head of so many nozzles that stand `pitch` rows apart, over a window of `height` rows.
@@ -11,5 +12,5 @@ pub record Weaving : Type 0 where
 -- counted round by the nozzles.
 pub record IsPlan (nozzles pitch height inverse : ℕ) : Type 0 where
   pub some_nozzles : 1 ≤ nozzles
-  pub most_rows : height ≤ 15840
+  pub most_rows : height ≤ most_rows
   pub is_inverse : inverse * pitch % nozzles ≡ 1 % nozzles

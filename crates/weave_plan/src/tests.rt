@@ -1,4 +1,5 @@
 //! What no contract says: heads whose rows were worked by hand, and both ways of a plan against a search.
+ghost use Rattle.pwg_definitions.specs.Limits.{most_rows};
 ghost use Rattle.std.specs.Int.{IsGcd};
 ghost use Rattle.std.specs.Prelude.{◌≡◌, ◌≤◌};
 
@@ -39,7 +40,7 @@ fn seek_each_row(rt: &impl Abort, nozzles: u8, pitch: u8, height: u32)
     requires some_pitch { 1 ≤ pitch }
     requires coprime { IsGcd nozzles pitch 1 }
     requires some_rows { 1 ≤ height }
-    requires most_rows { height ≤ 15840 }
+    requires most_rows { height ≤ most_rows }
 {
     let plan = Plan::make(nozzles, pitch, height);
     for row in 0..height {

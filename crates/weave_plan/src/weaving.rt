@@ -1,4 +1,5 @@
 //! A plan answers both ways: the row under a nozzle in a pass, and the pass and nozzle of a row.
+ghost use Rattle.pwg_definitions.specs.Limits.{most_rows};
 ghost use Rattle.weave_definitions.specs.Weave.{nozzle_row, pass_count};
 ghost use Rattle.std.specs.Int.{IsGcd};
 ghost use Rattle.std.specs.Prelude.{Some, ℕ, ◌*◌, ◌-◌, ◌<◌, ◌≡◌, ◌≤◌};
@@ -41,7 +42,7 @@ impl Plan {
         requires some_pitch { 1 ≤ pitch }
         requires coprime { IsGcd nozzles pitch 1 }
         requires some_rows { 1 ≤ height }
-        requires most_rows { height ≤ 15840 }
+        requires most_rows { height ≤ most_rows }
         ensures { result ≡ record { nozzles = nozzles; pitch = pitch; height = height } }
     {
         let inverse = inverse_of(pitch, nozzles);

@@ -1,6 +1,6 @@
 use Rattle.std.proofs.Common.{◌≡◌, List, ℕ, [], Option, None, Some, subst, sym, ◌++◌, append_assoc, ◌∙◌}
 use Rattle.weave_base.proofs.Parting.{on_err_anyway}
-use Rattle.pwg_stream.specs.Text.{UsesSome, text_behind}
+use Rattle.unread_bytes.specs.Text.{UsesSome, text_behind}
 use Rattle.pwg_stream.proofs.reader.PageReader.begin.Goals as goal
 
 uses_left : (before now : Option (List ℕ)) (unread unread' : List ℕ) → unread ≡ [] → UsesSome (text_behind unread before) (text_behind unread' now) → UsesSome before now

@@ -1,8 +1,7 @@
 //! The bytes that were taken of a source and are not yet used.
-ghost use Rattle.pwg_stream.specs.Text.{Grows, text_behind};
+ghost use Rattle.unread_bytes.specs.Text.{Grows, text_behind};
 ghost use Rattle.std.specs.Io.KnownBytes.{IsAtEnd, Keeps};
-ghost use Rattle.std.specs.Prelude.{IfOk, List, OnErr, OnOk, [], drop, length, take, vec_len, ℕ, ◌-◌, ◌<◌, ◌≡◌, ◌≤◌};
-ghost use Rattle.pwg_definitions.specs.Groups.{IsBytes};
+ghost use Rattle.std.specs.Prelude.{IfOk, List, OnErr, OnOk, [], drop, length, slice_index, take, vec_len, ℕ, ◌-◌, ◌<◌, ◌≡◌, ◌≤◌};
 ghost use Rattle.weave_base.specs.Causes.{HasCause};
 
 use std::alloc::Global;
@@ -33,7 +32,7 @@ fn between(buffer: &[u8], start: usize, end: usize) -> &[u8]
     requires ordered { start ≤ end }
     requires inside { end ≤ length buffer.now }
     ensures bytes { result.now ≡ take (end - start) (drop start buffer.now) }
-    ensures are { IsBytes result.now }
+    ensures are { (k : ℕ) → slice_index result.now k < 256 }
 {
     &buffer[start..end]
 }
@@ -57,7 +56,7 @@ impl Unread {
     pub fn bytes(&self) -> &[u8]
         ensures bytes { result.now ≡ self.now }
         ensures most { length result.now ≤ ROOM }
-        ensures are { IsBytes result.now }
+        ensures are { (k : ℕ) → slice_index result.now k < 256 }
     {
         between(&self.buffer, self.start, self.end)
     }
