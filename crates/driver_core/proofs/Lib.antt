@@ -1,3 +1,4 @@
+pub mod Counting
 pub mod StreamSteps
 pub mod Ends
 pub mod Asked

@@ -1,3 +1,4 @@
+pub mod Charging
 pub mod Outside
 pub mod Pages
 pub mod Printing

@@ -28,6 +28,10 @@ pub record ReadsStream (p : Printer) (before now : Option (List ℕ)) (pages : L
   pub end : IsAtEnd now
   pub is : stream (wanted_by p) bytes ≡ record { pages = pages; end = Done }
 
+-- the input, where it is told, is a stream that begins with these pages
+abbrev pub BeginsStream : Printer → Option (List ℕ) → List Page → Type 0
+BeginsStream p before pages = IfSome before (λ bytes. (others : List Page) × ((stream (wanted_by p) bytes).pages ≡ pages ++ others))
+
 -- The first pages of what was taken of the input are these.
 pub record TakesPages (p : Printer) (before now : Option (List ℕ)) (pages : List Page) : Type 0 where
   pub bytes : List ℕ
