@@ -37,10 +37,11 @@ use Rattle.driver_core.specs.declared.stops.PrintStop.{PrintStop}
 use Rattle.driver_core.specs.declared.stops.PrintStop.TheVariants as print
 use Rattle.driver_core.specs.declared.stops.ShowStop.{ShowStop}
 use Rattle.driver_core.specs.declared.stops.ShowStop.TheVariants as show
+use Rattle.driver_core.specs.Caps.{begun_by}
 use Rattle.driver_core.specs.Outside.{HasFailed, HasRisen, IsCalm, Meters, NothingFailed, Outside, Outsides, Untouched}
 use Rattle.driver_core.specs.Pages.{BeginsStream, IsStream, TakesPages, job_bytes}
 use Rattle.driver_core.specs.Printing.{CountsOneMore, CountsPages, GoesOver, MeetsFault, PrintOutcome, PrintsAll, PrintsSome, StopsInPage, print_answer}
-use Rattle.driver_core.specs.Run.{AsksFor, Did, IsAnswered, LineOutcome, NoProfile, Outcome, Promises, ProfileStopped, Tells, Told, VerbOutcome, WithProfile, answer_of, begun_by, metered}
+use Rattle.driver_core.specs.Run.{AsksFor, Did, IsAnswered, LineOutcome, NoProfile, Outcome, Promises, ProfileStopped, Tells, Told, VerbOutcome, WithProfile, answer_of, metered}
 use Rattle.driver_core.specs.Showing.{ShowOutcome, show_answer}
 use Rattle.driver_core.proofs.Asked.{Asked, HasProfile, NoShelf, asked, has_profile, told_line}
 use Rattle.driver_core.proofs.Asked.Asked.{WithoutShelf, IsRefused, Works}

@@ -1,3 +1,4 @@
+pub mod Caps
 pub mod Charging
 pub mod Outside
 pub mod Pages

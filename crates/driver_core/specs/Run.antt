@@ -1,5 +1,5 @@
 -- What a run comes to.
-use Rattle.std.specs.Prelude.{◌≡◌, ℕ, ◌⊎◌, ◌↔◌, List, [], ◌∷◌, ◌++◌, map, All, Option, Some, None, IsErr, Result, Ok, Err}
+use Rattle.std.specs.Prelude.{◌≡◌, ℕ, ◌⊎◌, ◌↔◌, List, [], ◌∷◌, ◌++◌, All, Option, Some, None, IsErr, Result, Ok, Err}
 use Rattle.std.specs.Io.KnownBytes.{Appends, IsAtEnd, Keeps}
 use Rattle.diffusion_definitions.specs.Diffusion.{Table}
 use Rattle.diffusion_kernel.specs.Tables.{table_of}
@@ -7,7 +7,7 @@ use Rattle.driver_answer.specs.declared.answer.Answer.{Answer}
 use Rattle.driver_answer.specs.declared.answer.Answer.TheVariants as answer
 use Rattle.driver_answer.specs.Answers.{line_of, status_of}
 use Rattle.driver_answer.specs.Stops.{profile_answer}
-use Rattle.ink_meter.specs.Accounts.{Account, HasRoom, capped}
+use Rattle.ink_meter.specs.Accounts.{Account, HasRoom}
 use Rattle.job_profile.specs.declared.stops.ProfileCause.{ProfileCause}
 use Rattle.job_profile.specs.declared.stops.ProfileStop.{ProfileStop}
 use Rattle.job_profile.specs.declared.stops.ProfileStop.TheVariants as profile
@@ -30,6 +30,7 @@ use Rattle.weave_base.specs.Parts.{AppendsPart}
 use Rattle.weave_base.specs.Shelf.{NamedText}
 use Rattle.driver_core.specs.declared.stops.PrintStop.{PrintStop}
 use Rattle.driver_core.specs.declared.stops.ShowStop.{ShowStop}
+use Rattle.driver_core.specs.Caps.{begun_by}
 use Rattle.driver_core.specs.Outside.{HasFailed, HasRisen, IsCalm, Meters, NothingFailed, Outside, Outsides, Texts, Untouched}
 use Rattle.driver_core.specs.Printing.{CountsOneMore, CountsPages, GoesOver, MeetsFault, PrintOutcome, PrintsAll, PrintsSome, StopsInPage, print_answer}
 use Rattle.driver_core.specs.Showing.{ShowOutcome, show_answer}
@@ -47,17 +48,7 @@ pub record Did (E : Type 0) (outcome : Result (Unit {0}) E → Type 0) (why : E 
   pub does : outcome end
   pub answered : a ≡ answer_of why end
 
--- the cap that a word sets on each meter
-abbrev pub with_cap : Option ℕ → List Account → List Account
-with_cap None accounts = accounts
-with_cap (Some cap) accounts = map (capped cap) accounts
-
--- the meters of a job before its first page: printing sets their caps where a word has one
-abbrev pub begun_by : Verb → Option ℕ → List Account → List Account
-begun_by verb.Print cap accounts = with_cap cap accounts
-begun_by verb.Profile cap accounts = accounts
-
--- the same, beside the meters at the return
+-- the meters of a job from where their caps were set
 abbrev pub metered : Job → Meters → Meters
 metered job meters = record { before = begun_by job.verb job.cap meters.before; now = meters.now }
 

@@ -1,6 +1,6 @@
 //! Pages on meters.
+ghost use Rattle.driver_core.specs.Caps.{begun_by};
 ghost use Rattle.driver_core.specs.Charging.{RefusesPage};
-ghost use Rattle.driver_core.specs.Run.{begun_by};
 ghost use Rattle.driver_core.specs.declared.stops.PrintStop.TheVariants as stop;
 ghost use Rattle.ink_meter.specs.Accounts.{HasRoom, added, all_inks};
 ghost use Rattle.std.specs.Prelude.{All, IfErr, OnErr, OnOk, map, ◌<◌, ◌^◌, ◌≡◌};
@@ -14,9 +14,11 @@ pub fn set_caps(job: &Job, meters: &mut Vec<Box<dyn Meter>>)
     ensures { map (λ meter. account meter) meters.new.items
         ≡ begun_by job.now.verb job.now.cap (map (λ meter. account meter) meters.old.items) }
 {
-    match (job.verb, job.cap) {
-        (Verb::Print, Some(cap)) => cap_all(meters, cap),
-        (Verb::Print, None) | (Verb::Profile, _) => {}
+    if job.verb != Verb::Print {
+        return;
+    }
+    if let Some(cap) = job.cap {
+        cap_all(meters, cap);
     }
 }
 
