@@ -96,7 +96,9 @@ pub fn add_all(meters: &mut Vec<Box<dyn Meter>>, n: &InkCounts)
 }
 
 /// Sets the cap of each meter.
+// The condition is what the type says. Without one, a call from another crate counts as one that makes meters of its own.
 pub fn cap_all(meters: &mut Vec<Box<dyn Meter>>, cap: u64)
+    requires { cap < 2 ^ 64 }
     ensures { map (λ meter. account meter) meters.new.items ≡ map (capped cap) (map (λ meter. account meter) meters.old.items) }
 {
     for i in 0..meters.len() {
