@@ -6,3 +6,6 @@ mod counts;
 pub use counts::count_dots;
 pub use dot_planes::Planes;
 pub use weave_base::{InkCounts, InkSet};
+
+#[cfg(test)]
+mod tests;
