@@ -1,19 +1,19 @@
 -- What a run comes to, where its words ask for a command and a profile.
-use Rattle.std.proofs.Common.{◌≡◌, ℕ, ◌⊎◌, List, Option, None, Some, Result, Ok, Err, inl, inr, refl, sym, ◌∙◌, subst}
+use Rattle.std.proofs.Common.{◌≡◌, ℕ, ◌⊎◌, List, Option, None, Some, Result, Ok, Err, inl, inr, refl, sym, subst}
 use Rattle.std.specs.Io.KnownBytes.{Appends, Keeps}
 use Rattle.driver_answer.specs.declared.answer.Answer.{Answer}
 use Rattle.driver_answer.specs.declared.answer.Answer.TheVariants as answer
-use Rattle.driver_answer.specs.Answers.{line_of, status_of}
+use Rattle.driver_answer.specs.Answers.{line_of}
 use Rattle.driver_answer.specs.Stops.{profile_answer}
 use Rattle.diffusion_kernel.specs.Tables.{table_of}
 use Rattle.job_profile.specs.declared.stops.ProfileCause.{ProfileCause}
 use Rattle.job_profile.specs.declared.stops.ProfileStop.{ProfileStop}
 use Rattle.job_profile.specs.declared.stops.ProfileStop.TheVariants as profile
-use Rattle.job_profile.specs.Named.{IsJobProfile, Refusal, refused_at}
+use Rattle.job_profile.specs.Named.{Refusal, refused_at}
 use Rattle.job_words.specs.declared.reading.Job.{Job}
 use Rattle.job_words.specs.declared.table.Verb.{Verb}
 use Rattle.job_words.specs.declared.usage.UsageFault.{UsageFault}
-use Rattle.job_words.specs.Meaning.{job_meaning, profile_named}
+use Rattle.job_words.specs.Meaning.{profile_named}
 use Rattle.printer_profile.specs.declared.fields.Profile.{Profile}
 use Rattle.printer_profile.specs.Profiles.{built_in}
 use Rattle.driver_core.specs.Outside.{HasFailed, IsCalm, Outside, Outsides, Untouched}

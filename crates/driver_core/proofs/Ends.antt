@@ -1,5 +1,5 @@
 -- What printing comes to, at each of its ends.
-use Rattle.std.proofs.Common.{◌≡◌, ℕ, ◌+◌, ◌-◌, ◌*◌, ◌/◌, ◌⊎◌, inl, inr, ◌≤◌, List, [], ◌∷◌, ◌++◌, length, Option, None, Some, IfNone, IfSome, Err, IsErrOf, refl, sym, ◌∙◌, ap, subst, arith, append_assoc, append-nil}
+use Rattle.std.proofs.Common.{◌≡◌, ℕ, ◌+◌, ◌-◌, ◌*◌, inl, inr, ◌≤◌, List, [], ◌∷◌, ◌++◌, length, Option, None, Some, IfNone, IfSome, Err, IsErrOf, refl, sym, ◌∙◌, ap, subst, arith, append_assoc, append-nil}
 use Rattle.std.specs.List.{AllByRecursion}
 use Rattle.std.specs.Io.KnownBytes.{Appends, Consumes, IsAtEnd, Keeps}
 use Rattle.std.proofs.KnownBytes.{Appends-nil, Consumes-nil, Consumes-trans}
@@ -35,7 +35,7 @@ use Rattle.driver_core.specs.declared.stops.PrintStop.TheVariants as print
 use Rattle.driver_core.specs.Charging.{RefusesPage}
 use Rattle.driver_core.specs.Outside.{Meters, Outside}
 use Rattle.driver_core.specs.Pages.{BeginsStream, IsStream, TakesPages, job_bytes}
-use Rattle.driver_core.specs.Printing.{CountsOneMore, CountsPages, PrintStopped, PrintsAll, PrintsSome, stream_stop}
+use Rattle.driver_core.specs.Printing.{CountsPages, PrintStopped, PrintsAll, PrintsSome, stream_stop}
 use Rattle.halftone_reader.proofs.PageSteps.{EndsSo}
 use Rattle.driver_core.proofs.Counting.{none_counted}
 use Rattle.driver_core.proofs.StreamSteps.{StreamRead, StreamSoFar, with_pages, pages-first}

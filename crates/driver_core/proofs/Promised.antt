@@ -1,14 +1,13 @@
 -- What a run promises, from the answer that it comes to.
-use Rattle.std.proofs.Common.{◌≡◌, ℕ, ◌+◌, ◌⊎◌, List, [], ◌∷◌, ◌++◌, length, Option, None, Some, Result, Ok, Err, IsErr, inl, inr, refl, sym, ◌∙◌, ap, subst, arith, append-nil, append_assoc, All}
+use Rattle.std.proofs.Common.{◌≡◌, ℕ, ◌⊎◌, List, [], ◌∷◌, ◌++◌, Option, None, Some, Result, Ok, Err, IsErr, inl, inr, refl, sym, ◌∙◌, ap, subst, arith, append-nil, append_assoc, All}
 use Rattle.std.proofs.lemmas.List.Elements.{All-get_or}
 use Rattle.std.proofs.lemmas.Option.{get_or_from_slice_get, slice_get_within}
-use Rattle.std.specs.Io.KnownBytes.{Appends, Consumes, IsAtEnd, Keeps}
-use Rattle.std.proofs.KnownBytes.{Appends-nil}
+use Rattle.std.specs.Io.KnownBytes.{Appends, Consumes, Keeps}
 use Rattle.diffusion_definitions.specs.Diffusion.{Table}
 use Rattle.diffusion_kernel.specs.Tables.{table_of}
 use Rattle.driver_answer.specs.declared.answer.Answer.{Answer}
 use Rattle.driver_answer.specs.declared.answer.Answer.TheVariants as answer
-use Rattle.driver_answer.specs.Answers.{line_of, status_of}
+use Rattle.driver_answer.specs.Answers.{status_of}
 use Rattle.driver_answer.specs.Stops.{profile_answer}
 use Rattle.ink_meter.specs.Accounts.{Account, HasRoom, IsFirstOver}
 use Rattle.ink_meter.specs.declared.meters.OverCap.{OverCap}
@@ -39,9 +38,9 @@ use Rattle.driver_core.specs.declared.stops.ShowStop.{ShowStop}
 use Rattle.driver_core.specs.declared.stops.ShowStop.TheVariants as show
 use Rattle.driver_core.specs.Caps.{begun_by}
 use Rattle.driver_core.specs.Outside.{HasFailed, HasRisen, IsCalm, Meters, NothingFailed, Outside, Outsides, Untouched}
-use Rattle.driver_core.specs.Pages.{BeginsStream, IsStream, TakesPages, job_bytes}
+use Rattle.driver_core.specs.Pages.{BeginsStream, IsStream}
 use Rattle.driver_core.specs.Printing.{CountsOneMore, CountsPages, GoesOver, MeetsFault, PrintOutcome, PrintsAll, PrintsSome, StopsInPage, print_answer}
-use Rattle.driver_core.specs.Run.{AsksFor, Did, IsAnswered, LineOutcome, NoProfile, Outcome, Promises, ProfileStopped, Tells, Told, VerbOutcome, WithProfile, answer_of, metered}
+use Rattle.driver_core.specs.Run.{AsksFor, Did, LineOutcome, NoProfile, Outcome, Promises, ProfileStopped, Tells, Told, VerbOutcome, WithProfile, answer_of, metered}
 use Rattle.driver_core.specs.Showing.{ShowOutcome, show_answer}
 use Rattle.driver_core.proofs.Asked.{Asked, HasProfile, NoShelf, asked, has_profile, told_line}
 use Rattle.driver_core.proofs.Asked.Asked.{WithoutShelf, IsRefused, Works}

@@ -1,5 +1,5 @@
 -- What a run comes to where there is a profile.
-use Rattle.std.proofs.Common.{◌≡◌, ℕ, List, Result, Ok, Err, inr, refl, sym, ap, subst}
+use Rattle.std.proofs.Common.{◌≡◌, ℕ, List, Result, Ok, inr, refl, sym, subst}
 use Rattle.std.specs.Io.KnownBytes.{Keeps}
 use Rattle.diffusion_kernel.specs.Tables.{table_of}
 use Rattle.driver_answer.specs.declared.answer.Answer.{Answer}
@@ -15,11 +15,10 @@ use Rattle.printer_profile.specs.Profiles.{printer_of}
 use Rattle.driver_core.specs.declared.stops.PrintStop.{PrintStop}
 use Rattle.driver_core.specs.declared.stops.ShowStop.{ShowStop}
 use Rattle.driver_core.specs.Caps.{begun_by}
-use Rattle.driver_core.specs.Outside.{Meters, Outsides}
+use Rattle.driver_core.specs.Outside.{Outsides}
 use Rattle.driver_core.specs.Printing.{PrintOutcome, print_answer}
 use Rattle.driver_core.specs.Run.{LineOutcome, Outcome, VerbOutcome, answer_of, metered}
 use Rattle.driver_core.specs.Showing.{ShowOutcome, show_answer}
-use Rattle.driver_core.proofs.Asked.{keeps}
 
 worked : (words : List (List ℕ)) (job : Job) (p : Profile) (o : Outsides) (a : Answer) → Ok job ≡ job_meaning words → IsJobProfile o.shelf.told (profile_named words) (Ok p)
     → VerbOutcome job.verb (table_of job.kernel) p o (metered job o.meters) a → Outcome words o a

@@ -1,16 +1,12 @@
 -- The pages of a stream that a run reads, and the bytes that it makes of them.
-use Rattle.std.specs.Prelude.{◌≡◌, ℕ, ◌+◌, ◌≤◌, List, ◌++◌, Option, None, IfSome}
+use Rattle.std.specs.Prelude.{◌≡◌, ℕ, List, ◌++◌, Option, IfSome}
 use Rattle.std.specs.List.{flat_map}
 use Rattle.std.specs.Io.KnownBytes.{Consumes, IsAtEnd}
 use Rattle.diffusion_definitions.specs.Diffusion.{Table}
 use Rattle.page_definitions.specs.PageBytes.{page_bytes}
 use Rattle.printer_definitions.specs.Printer.{Printer}
-use Rattle.pwg_stream.specs.declared.reader.PageReader.{PageReader}
-use Rattle.pwg_stream.specs.Reading.{has_ended, lines_left_of, page_of, stop_of, text_of}
 use Rattle.separation_definitions.specs.Windows.{wanted_by}
-use Rattle.pwg_definitions.specs.declared.pages.Wanted.{Wanted}
-use Rattle.pwg_definitions.specs.Stream.{Page, StreamEnd, page_at, stream}
-use Rattle.pwg_definitions.specs.Stream.PageRead.{Whole}
+use Rattle.pwg_definitions.specs.Stream.{Page, StreamEnd, stream}
 use Rattle.pwg_definitions.specs.Stream.StreamEnd.{Done}
 
 -- the job of pages: their bytes, one page after another

@@ -1,4 +1,5 @@
 //! A kind of meter that the driver does not know.
+ghost use Rattle.ink_meter.specs.Accounts.{Account};
 ghost use Rattle.std.specs.Prelude.{◌+◌, ◌<◌, ◌^◌, ◌≡◌};
 
 use ink_meter::{InkCounts, Meter};
@@ -13,8 +14,6 @@ pub struct Card {
 }
 
 impl Model for Card {
-    ghost use Rattle.ink_meter.specs.Accounts.{Account};
-
     ghost Value = { Account };
 
     ghost view = { λ card. record {

@@ -1,5 +1,4 @@
 use Rattle.std.proofs.Common.{map}
-use Rattle.driver_answer.specs.declared.answer.Answer.{Answer}
 use Rattle.driver_core.specs.Outside.{Outside, Outsides}
 use Rattle.driver_core.specs.Run.{Outcome}
 use Rattle.driver_core.proofs.Promised.{promises}
