@@ -19,7 +19,7 @@ use Rattle.pwg_definitions.specs.declared.faults.LineFault.TheVariants as line
 use Rattle.pwg_definitions.specs.declared.faults.InputCause.{InputCause}
 use Rattle.pwg_definitions.specs.declared.faults.InputCause.TheVariants as input
 
--- the exit status of an answer; 6 and 8 have none yet
+-- the exit status of an answer; 8 has none yet
 abbrev pub status_of : Answer → ℕ
 status_of answer.Done = 0
 status_of (answer.Usage fault) = 1
@@ -27,6 +27,7 @@ status_of (answer.Profile line cause) = 2
 status_of (answer.Input page line cause) = 3
 status_of answer.Read = 4
 status_of (answer.Write page) = 5
+status_of (answer.OverCap page total dots cap) = 6
 status_of answer.Memory = 7
 
 -- a cause is printed by its name
@@ -111,4 +112,7 @@ line_of (answer.Input page line cause) =
     codes "input: page " ++ decimal page ++ codes " line " ++ decimal line ++ codes ": " ++ input_name cause ++ codes "\n"
 line_of answer.Read = codes "read failed\n"
 line_of (answer.Write page) = codes "write failed: page " ++ decimal page ++ codes "\n"
+line_of (answer.OverCap page total dots cap) =
+    codes "over cap: page " ++ decimal page ++ codes ": total " ++ decimal total ++ codes ", page " ++ decimal dots
+    ++ codes ", cap " ++ decimal cap ++ codes "\n"
 line_of answer.Memory = codes "out of memory\n"

@@ -36,6 +36,13 @@ pub enum Answer {
     Write {
         page: u32,
     },
+    /// This page does not fit under the cap of a meter, which has counted `total` dots.
+    OverCap {
+        page: u32,
+        total: u64,
+        dots: u64,
+        cap: u64,
+    },
     /// Memory ran out.
     Memory,
 }
@@ -45,6 +52,16 @@ fn push_number(n: u32, out: &mut ArrayString<160>)
     requires { array_string_len out.old + 10 ≤ 160 }
     ensures bytes { out.new.bytes ≡ out.old.bytes ++ decimal n }
     ensures len { array_string_len out.new ≤ array_string_len out.old + 10 }
+{
+    let mut buffer = Buffer::new();
+    out.push_str(buffer.format(n));
+}
+
+// Appends a number of dots in decimal.
+fn push_dots(n: u64, out: &mut ArrayString<160>)
+    requires { array_string_len out.old + 20 ≤ 160 }
+    ensures bytes { out.new.bytes ≡ out.old.bytes ++ decimal n }
+    ensures len { array_string_len out.new ≤ array_string_len out.old + 20 }
 {
     let mut buffer = Buffer::new();
     out.push_str(buffer.format(n));
@@ -140,6 +157,21 @@ fn push_write(page: u32, out: &mut ArrayString<160>)
     out.push_str("\n");
 }
 
+fn push_over_cap(page: u32, total: u64, dots: u64, cap: u64, out: &mut ArrayString<160>)
+    requires { array_string_len out.old ≡ 0 }
+    ensures { out.new.bytes ≡ out.old.bytes ++ (codes "over cap: page " ++ decimal page ++ codes ": total " ++ decimal total ++ codes ", page " ++ decimal dots ++ codes ", cap " ++ decimal cap ++ codes "\n") }
+{
+    out.push_str("over cap: page ");
+    push_number(page, out);
+    out.push_str(": total ");
+    push_dots(total, out);
+    out.push_str(", page ");
+    push_dots(dots, out);
+    out.push_str(", cap ");
+    push_dots(cap, out);
+    out.push_str("\n");
+}
+
 impl Answer {
     ghost use Rattle.driver_answer.specs.Answers.{line_of, status_of};
 
@@ -154,6 +186,7 @@ impl Answer {
             Answer::Input { .. } => 3,
             Answer::Read => 4,
             Answer::Write { .. } => 5,
+            Answer::OverCap { .. } => 6,
             Answer::Memory => 7,
         }
     }
@@ -170,6 +203,12 @@ impl Answer {
             Answer::Input { page, line, cause } => push_input(page, line, cause, out),
             Answer::Read => out.push_str("read failed\n"),
             Answer::Write { page } => push_write(page, out),
+            Answer::OverCap {
+                page,
+                total,
+                dots,
+                cap,
+            } => push_over_cap(page, total, dots, cap, out),
             Answer::Memory => out.push_str("out of memory\n"),
         }
     }

@@ -1,3 +1,5 @@
+pub mod Caps
+pub mod Charging
 pub mod Outside
 pub mod Pages
 pub mod Printing

@@ -36,9 +36,9 @@ verb_of : (verb : Verb) → (command_row verb).verb ≡ verb
 verb_of Print = refl
 verb_of Profile = refl
 
-pub accepted_words : (words : List (List ℕ)) (name : List ℕ) (verb : Verb) (given : Given) → slice_get words 0 ≡ Some name → Some (command_row verb) ≡ command_named name → refused (command_row verb).keys (drop 1 words) [] ≡ [] → IsGiven (drop 1 words) given → Ok (record { verb = verb; profile_word = unwrap_or given.profile_word 0; kernel = unwrap_or given.kernel Floyd; workers = unwrap_or given.workers 1 }) ≡ job_meaning words
+pub accepted_words : (words : List (List ℕ)) (name : List ℕ) (verb : Verb) (given : Given) → slice_get words 0 ≡ Some name → Some (command_row verb) ≡ command_named name → refused (command_row verb).keys (drop 1 words) [] ≡ [] → IsGiven (drop 1 words) given → Ok (record { verb = verb; profile_word = unwrap_or given.profile_word 0; kernel = unwrap_or given.kernel Floyd; workers = unwrap_or given.workers 1; cap = given.cap }) ≡ job_meaning words
 unfolding job_meaning
 accepted_words [] name verb given here found none is = cc
 accepted_words (first ∷ words) name verb given here found none is =
     let same : first ≡ name = cc in
-    rw (same, ← found, none, is.profile.same, is.kernel.same, is.workers.same, verb_of verb) refl
+    rw (same, ← found, none, is.profile.same, is.kernel.same, is.workers.same, is.cap.same, verb_of verb) refl

@@ -1,5 +1,5 @@
 -- The rows of the table that the code's own commands and keys stand for.
-use Rattle.job_words.specs.Table.{CommandRow, KeyRow, print_command, profile_command, profile_key, kernel_key, workers_key}
+use Rattle.job_words.specs.Table.{CommandRow, KeyRow, print_command, profile_command, profile_key, kernel_key, workers_key, cap_key}
 use Rattle.job_words.specs.declared.table.Verb.{Verb}
 use Rattle.job_words.specs.declared.table.Verb.TheVariants as verb
 use Rattle.job_words.specs.declared.table.Key.{Key}
@@ -15,3 +15,4 @@ abbrev pub key_row : Key → KeyRow
 key_row key.Profile = profile_key
 key_row key.Kernel = kernel_key
 key_row key.Workers = workers_key
+key_row key.Cap = cap_key

@@ -1,6 +1,6 @@
 -- The table of commands and keys.
 use Rattle.std.specs.Prelude.{ℕ, Bool, nat_le, ◌&&◌, List, [], ◌∷◌, codes, length, find, is_some, Option}
-use Rattle.job_words.specs.Values.{is_text, kernel_named, worker_count}
+use Rattle.job_words.specs.Values.{is_text, cap_value, kernel_named, worker_count}
 use Rattle.job_words.specs.declared.table.Verb.{Verb}
 use Rattle.job_words.specs.declared.table.Verb.TheVariants.{Print, Profile}
 
@@ -27,9 +27,13 @@ kernel_key = record { name = codes "kernel"; takes = λ value. is_some (kernel_n
 abbrev pub workers_key : KeyRow
 workers_key = record { name = codes "workers"; takes = λ value. is_some (worker_count value) }
 
+-- the most dots that each meter may come to
+abbrev pub cap_key : KeyRow
+cap_key = record { name = codes "cap"; takes = λ value. is_some (cap_value value) }
+
 -- the command that prints the pages of a stream
 abbrev pub print_command : CommandRow
-print_command = record { verb = Print; name = codes "print"; keys = profile_key ∷ kernel_key ∷ workers_key ∷ [] }
+print_command = record { verb = Print; name = codes "print"; keys = profile_key ∷ kernel_key ∷ workers_key ∷ cap_key ∷ [] }
 
 -- the command that shows a profile
 abbrev pub profile_command : CommandRow

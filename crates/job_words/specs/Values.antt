@@ -1,5 +1,5 @@
 -- The values that keys take.
-use Rattle.std.specs.Prelude.{ℕ, Bool, nat_eq, if◌then◌else◌, List, codes, Option, Some, None}
+use Rattle.std.specs.Prelude.{ℕ, ◌-◌, ◌^◌, Bool, nat_eq, if◌then◌else◌, List, codes, Option, Some, None}
 use Rattle.std.specs.Cmp.Lexicographic.{pointwise}
 use Rattle.key_values.specs.Numbers.{number_within}
 use Rattle.diffusion_kernel.specs.declared.tables.Kernel.{Kernel}
@@ -20,3 +20,7 @@ kernel_named text =
 -- a count of workers
 abbrev pub worker_count : List ℕ → Option ℕ
 worker_count text = number_within 1 64 text
+
+-- the most dots that a meter may come to
+abbrev pub cap_value : List ℕ → Option ℕ
+cap_value text = number_within 0 (2 ^ 64 - 1) text

@@ -9,7 +9,7 @@ ghost use Rattle.std.specs.Result.{result_err};
 
 use crate::table::{Key, Verb};
 use crate::usage::{UsageCause, UsageFault};
-use crate::values::{kernel_named, worker_count};
+use crate::values::{cap_value, kernel_named, worker_count};
 use diffusion_kernel::Kernel;
 use key_values::cut_word;
 use weave_base::Words;
@@ -25,6 +25,8 @@ pub struct Job {
     pub kernel: Kernel,
     /// How many workers there are: 1 to 64.
     pub workers: u8,
+    /// The most dots that each meter may come to, where a word gives it.
+    pub cap: Option<u64>,
 }
 
 // What the words so far give.
@@ -33,6 +35,7 @@ struct Given {
     profile_word: Option<u32>,
     kernel: Option<Kernel>,
     workers: Option<u8>,
+    cap: Option<u64>,
 }
 
 // Keeps a key's value, unless the key has one.
@@ -83,6 +86,7 @@ impl Given {
             Some(Key::Profile) => keep(&mut self.profile_word, profile_at(number, value)),
             Some(Key::Kernel) => keep(&mut self.kernel, kernel_named(value)),
             Some(Key::Workers) => keep(&mut self.workers, worker_count(value)),
+            Some(Key::Cap) => keep(&mut self.cap, cap_value(value)),
             None => Err(UsageCause::UnknownKey),
         }
     }
@@ -99,6 +103,7 @@ fn read_keys(verb: Verb, words: &Words) -> Result<Given, UsageFault>
         profile_word: None,
         kernel: None,
         workers: None,
+        cap: None,
     };
     for i in 1..words.len() {
         let number = i + 1;
@@ -135,6 +140,7 @@ pub fn read_words(words: &Words) -> Result<Job, UsageFault>
         profile_word: given.profile_word.unwrap_or(0),
         kernel: given.kernel.unwrap_or(Kernel::Floyd),
         workers: given.workers.unwrap_or(1),
+        cap: given.cap,
     })
 }
 

@@ -16,6 +16,7 @@ pub(crate) enum Key {
     Profile,
     Kernel,
     Workers,
+    Cap,
 }
 
 impl Verb {
@@ -42,6 +43,7 @@ impl Verb {
             (Verb::Print | Verb::Profile, "profile") => Some(Key::Profile),
             (Verb::Print, "kernel") => Some(Key::Kernel),
             (Verb::Print, "workers") => Some(Key::Workers),
+            (Verb::Print, "cap") => Some(Key::Cap),
             _ => None,
         }
     }

@@ -32,7 +32,7 @@ fn each_bad_word_has_its_cause(rt: HostRuntime) -> Result<(), Fail> {
     assert_eq!(rt; read_words(&repeated), refused(3, UsageCause::RepeatedKey));
     let no_key = words_of(rt.alloc(), &["print", "x"])?;
     assert_eq!(rt; read_words(&no_key), refused(2, UsageCause::NotKeyValue));
-    let key = words_of(rt.alloc(), &["print", "cap=1"])?;
+    let key = words_of(rt.alloc(), &["print", "most=1"])?;
     assert_eq!(rt; read_words(&key), refused(2, UsageCause::UnknownKey));
     let key_of_print = words_of(rt.alloc(), &["profile", "kernel=fs"])?;
     assert_eq!(rt;
@@ -55,10 +55,30 @@ fn a_line_is_read_as_a_job(rt: HostRuntime) -> Result<(), Fail> {
             verb: Verb::Print,
             profile_word: 2,
             kernel: Kernel::Stucki,
-            workers: 64
+            workers: 64,
+            cap: None
         }
     );
     assert_eq!(rt; profile_name(&words, &job), "a=b");
+    Ok(())
+}
+
+#[test]
+fn a_cap_is_a_number_of_64_bits(rt: HostRuntime) -> Result<(), Fail> {
+    let words = words_of(rt.alloc(), &["print", "cap=18446744073709551615"])?;
+    assert_eq!(rt;
+        read_words(&words).map(|job| job.cap),
+        Ok(Some(18_446_744_073_709_551_615))
+    );
+    let past = words_of(
+        rt.alloc(),
+        &["print", "profile=tiny", "cap=18446744073709551616"],
+    )?;
+    let fault = UsageFault {
+        word: 3,
+        cause: UsageCause::BadValue,
+    };
+    assert_eq!(rt; read_words(&past), Err(fault));
     Ok(())
 }
 
@@ -79,6 +99,12 @@ fn each_value_is_taken_or_refused_at_word_2_and_at_word_3(rt: HostRuntime) -> Re
             "workers=1000000000000000000000000000000000000001",
             Some(UsageCause::BadValue),
         ),
+        ("cap=0", None),
+        ("cap=18446744073709551615", None),
+        ("cap=18446744073709551616", Some(UsageCause::BadValue)),
+        ("cap=00", Some(UsageCause::BadValue)),
+        ("cap=", Some(UsageCause::BadValue)),
+        ("cap=-1", Some(UsageCause::BadValue)),
         ("kernel=fs", None),
         ("kernel=jjn", None),
         ("kernel=stucki", None),

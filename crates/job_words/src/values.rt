@@ -1,6 +1,6 @@
 //! The values of keys.
 ghost use Rattle.std.specs.Prelude.{◌≡◌};
-ghost use Rattle.job_words.specs.Values.{kernel_named as kernel_of, worker_count as workers_of};
+ghost use Rattle.job_words.specs.Values.{cap_value as cap_of, kernel_named as kernel_of, worker_count as workers_of};
 
 use diffusion_kernel::Kernel;
 use key_values::number_within;
@@ -23,4 +23,11 @@ pub fn worker_count(text: &str) -> Option<u8>
 {
     let number = number_within(1, 64, text.as_bytes())?;
     Some(number as u8)
+}
+
+/// A cap: any number of 64 bits.
+pub fn cap_value(text: &str) -> Option<u64>
+    ensures { result ≡ cap_of text.now }
+{
+    number_within(0, u64::MAX, text.as_bytes())
 }
