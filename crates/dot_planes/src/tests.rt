@@ -146,6 +146,8 @@ fn each_tile_of_a_slab_sets_its_pixels_and_no_others(rt: HostRuntime) {
             assert!(rt; has_tile(&planes, place, 0) && has_tile(&planes, place, 1));
         }
     }
+}
+
 #[test]
 fn rows_are_laid_between_bytes(rt: HostRuntime) {
     let Ok(mut planes) = Planes::make(rt.alloc(), 20, 2, 4) else {
