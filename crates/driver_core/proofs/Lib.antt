@@ -4,3 +4,5 @@ pub mod Ends
 pub mod Asked
 pub mod Worked
 pub mod Promised
+pub mod JobEnds
+pub mod JobPromised

@@ -40,8 +40,9 @@ use Rattle.driver_core.specs.Caps.{begun_by}
 use Rattle.driver_core.specs.Outside.{HasFailed, HasRisen, IsCalm, Meters, NothingFailed, Outside, Outsides, Untouched}
 use Rattle.driver_core.specs.Pages.{BeginsStream, IsStream}
 use Rattle.driver_core.specs.Printing.{CountsOneMore, CountsPages, GoesOver, MeetsFault, PrintOutcome, PrintsAll, PrintsSome, StopsInPage, print_answer}
-use Rattle.driver_core.specs.Run.{AsksFor, Did, LineOutcome, NoProfile, Outcome, Promises, ProfileStopped, Tells, Told, VerbOutcome, WithProfile, answer_of, metered}
+use Rattle.driver_core.specs.Run.{AsksFor, Did, LineOutcome, ListsJob, NoProfile, Outcome, Promises, ProfileStopped, Tells, Told, VerbOutcome, WithProfile, answer_of, metered}
 use Rattle.driver_core.specs.Showing.{ShowOutcome, show_answer}
+use Rattle.driver_core.proofs.JobEnds.{list_part, list_read, list_statuses, play_part, play_read, play_statuses}
 use Rattle.driver_core.proofs.Asked.{Asked, HasProfile, NoShelf, asked, has_profile, told_line}
 use Rattle.driver_core.proofs.Asked.Asked.{WithoutShelf, IsRefused, Works}
 use Rattle.driver_core.proofs.Asked.HasProfile.{HasNone, Does}
@@ -50,29 +51,39 @@ use Rattle.driver_core.proofs.Asked.NoShelf.{ShelfFailed, ShelfFull}
 -- ---- a command at work
 
 -- without a shelf the status is 4 or 7
-no_shelf : (words : List (List ℕ)) (o : Outsides) (a : Answer) (s : ℕ) → s ≡ status_of a → NoShelf words o a → (s ≡ 4) ⊎ (s ≡ 7)
+pub no_shelf : (words : List (List ℕ)) (o : Outsides) (a : Answer) (s : ℕ) → s ≡ status_of a → NoShelf words o a → (s ≡ 4) ⊎ (s ≡ 7)
 no_shelf words o a s is (ShelfFailed e failed none) = inl (is ∙ ap status_of e)
 no_shelf words o a s is (ShelfFull e) = inr (is ∙ ap status_of e)
 
+-- the commands that are not the listing of a job
+print_is_none : verb.Print ≡ verb.List → ⊥
+print_is_none same = cc
+
+profile_is_none : verb.Profile ≡ verb.List → ⊥
+profile_is_none same = cc
+
+pub dots_is_none : verb.Dots ≡ verb.List → ⊥
+dots_is_none same = cc
+
 -- on every other status the command did its work
-at_work : (words : List (List ℕ)) (command : Verb) (job : Job) (p : Profile) (o : Outsides) (a : Answer) (s : ℕ) → s ≡ status_of a → (s ≡ 4 → ⊥) → (s ≡ 7 → ⊥)
-    → AsksFor words o.shelf.told command job (Ok p) → Outcome words o a → VerbOutcome command (table_of job.kernel) p o (metered job o.meters) a
-at_work words command job p o a s is not_read not_full asks outcome = by_case (has_profile words command job p o a asks outcome)
+pub at_work : (words : List (List ℕ)) (command : Verb) (job : Job) (p : Profile) (o : Outsides) (a : Answer) (s : ℕ) → s ≡ status_of a → (s ≡ 4 → ⊥) → (s ≡ 7 → ⊥) → (command ≡ verb.List → ⊥)
+    → AsksFor words o.shelf.told command job (Ok p) → Outcome words o a → VerbOutcome command job p o (metered job o.meters) a
+at_work words command job p o a s is not_read not_full other asks outcome = by_case (has_profile words command job p o a other asks outcome)
   where
-    by_status : (s ≡ 4) ⊎ (s ≡ 7) → VerbOutcome command (table_of job.kernel) p o (metered job o.meters) a
+    by_status : (s ≡ 4) ⊎ (s ≡ 7) → VerbOutcome command job p o (metered job o.meters) a
     by_status (inl four) = absurd (not_read four)
     by_status (inr seven) = absurd (not_full seven)
 
-    by_case : HasProfile words command job p o a → VerbOutcome command (table_of job.kernel) p o (metered job o.meters) a
+    by_case : HasProfile words command job p o a → VerbOutcome command job p o (metered job o.meters) a
     by_case (HasNone none untouched uncounted) = by_status (no_shelf words o a s is none)
     by_case (Does does) = does
 
 -- nothing failed, so a command that did not work found no memory
-calm_work : (words : List (List ℕ)) (command : Verb) (job : Job) (p : Profile) (o : Outsides) (a : Answer) (s : ℕ) → s ≡ status_of a → (HasFailed o.shelf → ⊥)
-    → AsksFor words o.shelf.told command job (Ok p) → Outcome words o a → (s ≡ 7) ⊎ VerbOutcome command (table_of job.kernel) p o (metered job o.meters) a
-calm_work words command job p o a s is calm asks outcome = by_case (has_profile words command job p o a asks outcome)
+pub calm_work : (words : List (List ℕ)) (command : Verb) (job : Job) (p : Profile) (o : Outsides) (a : Answer) (s : ℕ) → s ≡ status_of a → (HasFailed o.shelf → ⊥) → (command ≡ verb.List → ⊥)
+    → AsksFor words o.shelf.told command job (Ok p) → Outcome words o a → (s ≡ 7) ⊎ VerbOutcome command job p o (metered job o.meters) a
+calm_work words command job p o a s is calm other asks outcome = by_case (has_profile words command job p o a other asks outcome)
   where
-    by_case : HasProfile words command job p o a → (s ≡ 7) ⊎ VerbOutcome command (table_of job.kernel) p o (metered job o.meters) a
+    by_case : HasProfile words command job p o a → (s ≡ 7) ⊎ VerbOutcome command job p o (metered job o.meters) a
     by_case (HasNone (ShelfFailed e failed none) untouched uncounted) = absurd (calm failed)
     by_case (HasNone (ShelfFull e) untouched uncounted) = inl (is ∙ ap status_of e)
     by_case (Does does) = inr does
@@ -207,12 +218,12 @@ print_capped p k input out meters s (Err (print.OverCap page' total dots cap)) b
 print_capped p k input out meters s (Err print.Memory) bytes pages later page e' does e told is full calm_in calm_out = inr e
 
 -- nothing taken and nothing written are the first no pages
-consumes_none : (a b : Option (List ℕ)) → Keeps a b → Consumes a b []
+pub consumes_none : (a b : Option (List ℕ)) → Keeps a b → Consumes a b []
 consumes_none None b kept = tt
 consumes_none (Some x) None kept = absurd kept
 consumes_none (Some x) (Some y) kept = sym kept
 
-appends_none : (a b : Option (List ℕ)) → Keeps a b → Appends a b []
+pub appends_none : (a b : Option (List ℕ)) → Keeps a b → Appends a b []
 appends_none None b kept = tt
 appends_none (Some x) None kept = absurd kept
 appends_none (Some x) (Some y) kept = kept ∙ sym (append-nil x)
@@ -261,8 +272,8 @@ show_reads_none p out s (Err show.Memory) does e four = omega arith
 
 -- ---- the statuses that a command itself does not give
 
-verb_refuses_none : (v : Verb) (k : Table) (p : Profile) (o : Outsides) (meters : Meters) (a : Answer) (s : ℕ) → VerbOutcome v k p o meters a → s ≡ status_of a → (s ≡ 1) ⊎ (s ≡ 2) → ⊥
-verb_refuses_none verb.Print k p o meters a s does is which = by_end does.end (is ∙ ap status_of does.answered) which
+verb_refuses_none : (v : Verb) (job : Job) (p : Profile) (o : Outsides) (meters : Meters) (a : Answer) (s : ℕ) → VerbOutcome v job p o meters a → s ≡ status_of a → (s ≡ 1) ⊎ (s ≡ 2) → ⊥
+verb_refuses_none verb.Print job p o meters a s does is which = by_end does.end (is ∙ ap status_of does.answered) which
   where
     by_end : (end : Result (Unit {0}) PrintStop) → s ≡ status_of (answer_of print_answer end) → (s ≡ 1) ⊎ (s ≡ 2) → ⊥
     by_end (Ok u) e (inl one) = omega arith
@@ -277,7 +288,13 @@ verb_refuses_none verb.Print k p o meters a s does is which = by_end does.end (i
     by_end (Err (print.OverCap page total dots cap)) e (inr two) = omega arith
     by_end (Err print.Memory) e (inl one) = omega arith
     by_end (Err print.Memory) e (inr two) = omega arith
-verb_refuses_none verb.Profile k p o meters a s does is which = by_end does.2.end (is ∙ ap status_of does.2.answered) which
+verb_refuses_none verb.Dots job p o meters a s does is which = by_status (play_statuses s does.1.end (is ∙ ap status_of does.1.answered)) which
+  where
+    by_status : (s ≡ 0) ⊎ (s ≡ 4) ⊎ (s ≡ 5) ⊎ (s ≡ 7) ⊎ (s ≡ 8) → (s ≡ 1) ⊎ (s ≡ 2) → ⊥
+    by_status at (inl one) = omega (arith, at)
+    by_status at (inr two) = omega (arith, at)
+verb_refuses_none verb.List job p o meters a s does is which = absurd does
+verb_refuses_none verb.Profile job p o meters a s does is which = by_end does.2.end (is ∙ ap status_of does.2.answered) which
   where
     by_end : (end : Result (Unit {0}) ShowStop) → s ≡ status_of (answer_of show_answer end) → (s ≡ 1) ⊎ (s ≡ 2) → ⊥
     by_end (Ok u) e (inl one) = omega arith
@@ -286,6 +303,16 @@ verb_refuses_none verb.Profile k p o meters a s does is which = by_end does.2.en
     by_end (Err show.Write) e (inr two) = omega arith
     by_end (Err show.Memory) e (inl one) = omega arith
     by_end (Err show.Memory) e (inr two) = omega arith
+
+-- and that a listing does not give
+list_status : (job : Job) (o : Outsides) (a : Answer) (s : ℕ) → ListsJob job o a → s ≡ status_of a → (s ≡ 0) ⊎ (s ≡ 4) ⊎ (s ≡ 5) ⊎ (s ≡ 7) ⊎ (s ≡ 8)
+list_status job o a s lists is = list_statuses s lists.did.end (is ∙ ap status_of lists.did.answered)
+
+list_refuses_none : (job : Job) (o : Outsides) (a : Answer) (s : ℕ) → ListsJob job o a → s ≡ status_of a → (s ≡ 1) ⊎ (s ≡ 2) ⊎ (s ≡ 3) ⊎ (s ≡ 6) → ⊥
+list_refuses_none job o a s lists is which = by_status (list_status job o a s lists is) which
+  where
+    by_status : (s ≡ 0) ⊎ (s ≡ 4) ⊎ (s ≡ 5) ⊎ (s ≡ 7) ⊎ (s ≡ 8) → (s ≡ 1) ⊎ (s ≡ 2) ⊎ (s ≡ 3) ⊎ (s ≡ 6) → ⊥
+    by_status at which = omega (arith, at, which)
 
 -- ---- words and profiles
 
@@ -299,8 +326,9 @@ usage_status words o a s outcome is one = by_meaning (job_meaning words) outcome
 
     by_meaning : (r : Result Job UsageFault) → LineOutcome r (profile_named words) o a → IsErr r
     by_meaning (Err fault) did = refl
-    by_meaning (Ok job) (inl none) = absurd (by_stop none.why (is ∙ ap status_of none.answered))
-    by_meaning (Ok job) (inr has) = absurd (verb_refuses_none job.verb (table_of job.kernel) has.p o (metered job o.meters) a s has.outcome is (inl one))
+    by_meaning (Ok job) (inl lists) = absurd (list_refuses_none job o a s lists is (inl one))
+    by_meaning (Ok job) (inr (inl none)) = absurd (by_stop none.why (is ∙ ap status_of none.answered))
+    by_meaning (Ok job) (inr (inr has)) = absurd (verb_refuses_none job.verb job has.p o (metered job o.meters) a s has.outcome is (inl one))
 
 usage_means : (words : List (List ℕ)) (o : Outsides) (a : Answer) (s : ℕ) → Outcome words o a → s ≡ status_of a → IsErr (job_meaning words) → s ≡ 1
 usage_means words o a s outcome is bad = by_meaning (job_meaning words) bad outcome
@@ -328,20 +356,26 @@ profile_status words o err a s outcome told is two = by_meaning (job_meaning wor
         → (job : Job) × (line : ℕ) × (cause : ProfileCause) × (job_meaning words ≡ Ok job)
         × IsJobProfile o.shelf.told (profile_named words) (Err (refused_at line cause)) × Tells err (answer.Profile line cause)
     by_meaning (Err fault) means did = absurd (let one : s ≡ 1 = is ∙ ap status_of did.0 in omega arith)
-    by_meaning (Ok job) means (inl none) = by_stop job means none.why none.stopped none.answered
-    by_meaning (Ok job) means (inr has) = absurd (verb_refuses_none job.verb (table_of job.kernel) has.p o (metered job o.meters) a s has.outcome is (inr two))
+    by_meaning (Ok job) means (inl lists) = absurd (list_refuses_none job o a s lists is (inr (inl two)))
+    by_meaning (Ok job) means (inr (inl none)) = by_stop job means none.why none.stopped none.answered
+    by_meaning (Ok job) means (inr (inr has)) = absurd (verb_refuses_none job.verb job has.p o (metered job o.meters) a s has.outcome is (inr two))
+
+one_or_two : {s : ℕ} → (s ≡ 1) ⊎ (s ≡ 2) → (s ≡ 1) ⊎ (s ≡ 2) ⊎ (s ≡ 3) ⊎ (s ≡ 6)
+one_or_two (inl one) = inl one
+one_or_two (inr two) = inr (inl two)
 
 untouched_status : (words : List (List ℕ)) (o : Outsides) (a : Answer) (s : ℕ) → Outcome words o a → s ≡ status_of a → (s ≡ 1) ⊎ (s ≡ 2) → Untouched o
 untouched_status words o a s outcome is which = by_meaning (job_meaning words) outcome
   where
     by_meaning : (r : Result Job UsageFault) → LineOutcome r (profile_named words) o a → Untouched o
     by_meaning (Err fault) did = did.1
-    by_meaning (Ok job) (inl none) = none.untouched
-    by_meaning (Ok job) (inr has) = absurd (verb_refuses_none job.verb (table_of job.kernel) has.p o (metered job o.meters) a s has.outcome is which)
+    by_meaning (Ok job) (inl lists) = absurd (list_refuses_none job o a s lists is (one_or_two which))
+    by_meaning (Ok job) (inr (inl none)) = none.untouched
+    by_meaning (Ok job) (inr (inr has)) = absurd (verb_refuses_none job.verb job has.p o (metered job o.meters) a s has.outcome is which)
 
-refused_status : (words : List (List ℕ)) (command : Verb) (job : Job) (refusal : Refusal) (o : Outsides) (a : Answer) (s : ℕ) → Outcome words o a → s ≡ status_of a
+refused_status : (words : List (List ℕ)) (command : Verb) (job : Job) (refusal : Refusal) (o : Outsides) (a : Answer) (s : ℕ) → Outcome words o a → s ≡ status_of a → (command ≡ verb.List → ⊥)
     → AsksFor words o.shelf.told command job (Err refusal) → (HasFailed o.shelf → ⊥) → (s ≡ 2) ⊎ (s ≡ 7)
-refused_status words command job refusal o a s outcome is asks calm = by_case (asked words command job (Err refusal) o a asks outcome)
+refused_status words command job refusal o a s outcome is other asks calm = by_case (asked words command job (Err refusal) o a other asks outcome)
   where
     by_case : Asked words command job (Err refusal) o a → (s ≡ 2) ⊎ (s ≡ 7)
     by_case (WithoutShelf (ShelfFailed e failed none) untouched uncounted) = absurd (calm failed)
@@ -360,14 +394,17 @@ read_status words o a s outcome is four = by_meaning (job_meaning words) outcome
     by_stop profile.Failed stopped e = stopped
     by_stop profile.Memory stopped e = absurd (omega arith)
 
-    by_verb : (v : Verb) (k : Table) (p : Profile) (meters : Meters) → VerbOutcome v k p o meters a → HasRisen o.input
-    by_verb verb.Print k p meters does = (print_some (printer_of p) k o.input o.out meters s does.end does.does (is ∙ ap status_of does.answered) four).0
-    by_verb verb.Profile k p meters does = absurd (show_reads_none p o.out s does.2.end does.2.does (is ∙ ap status_of does.2.answered) four)
+    by_verb : (v : Verb) (job : Job) (p : Profile) (meters : Meters) → VerbOutcome v job p o meters a → HasRisen o.input
+    by_verb verb.Print job p meters does = (print_some (printer_of p) (table_of job.kernel) o.input o.out meters s does.end does.does (is ∙ ap status_of does.answered) four).0
+    by_verb verb.Dots job p meters does = play_read (printer_of p) job.most o.input o.out s does.1.end does.1.does (is ∙ ap status_of does.1.answered) four
+    by_verb verb.List job p meters does = absurd does
+    by_verb verb.Profile job p meters does = absurd (show_reads_none p o.out s does.2.end does.2.does (is ∙ ap status_of does.2.answered) four)
 
     by_meaning : (r : Result Job UsageFault) → LineOutcome r (profile_named words) o a → HasRisen o.input ⊎ (HasFailed o.shelf × (built_in (profile_named words) ≡ None))
     by_meaning (Err fault) did = absurd (let one : s ≡ 1 = is ∙ ap status_of did.0 in omega arith)
-    by_meaning (Ok job) (inl none) = inr (by_stop none.why none.stopped (is ∙ ap status_of none.answered))
-    by_meaning (Ok job) (inr has) = inl (by_verb job.verb (table_of job.kernel) has.p (metered job o.meters) has.outcome)
+    by_meaning (Ok job) (inl lists) = inl (list_read job.most o.input o.out s lists.did.end lists.did.does (is ∙ ap status_of lists.did.answered) four)
+    by_meaning (Ok job) (inr (inl none)) = inr (by_stop none.why none.stopped (is ∙ ap status_of none.answered))
+    by_meaning (Ok job) (inr (inr has)) = inl (by_verb job.verb job has.p (metered job o.meters) has.outcome)
 
 write_status : (words : List (List ℕ)) (o : Outsides) (a : Answer) (s : ℕ) → Outcome words o a → s ≡ status_of a → s ≡ 5 → HasRisen o.out
 write_status words o a s outcome is five = by_meaning (job_meaning words) outcome
@@ -377,25 +414,65 @@ write_status words o a s outcome is five = by_meaning (job_meaning words) outcom
     by_stop profile.Failed e = omega arith
     by_stop profile.Memory e = omega arith
 
-    by_verb : (v : Verb) (k : Table) (p : Profile) (meters : Meters) → VerbOutcome v k p o meters a → HasRisen o.out
-    by_verb verb.Print k p meters does = (print_part (printer_of p) k o.input o.out meters s does.end does.does (is ∙ ap status_of does.answered) five).3
-    by_verb verb.Profile k p meters does = (show_part p o.out s does.2.end does.2.does (is ∙ ap status_of does.2.answered) five).1
+    by_verb : (v : Verb) (job : Job) (p : Profile) (meters : Meters) → VerbOutcome v job p o meters a → HasRisen o.out
+    by_verb verb.Print job p meters does = (print_part (printer_of p) (table_of job.kernel) o.input o.out meters s does.end does.does (is ∙ ap status_of does.answered) five).3
+    by_verb verb.Dots job p meters does = (play_part (printer_of p) job.most o.input o.out s does.1.end does.1.does (is ∙ ap status_of does.1.answered) five).2
+    by_verb verb.List job p meters does = absurd does
+    by_verb verb.Profile job p meters does = (show_part p o.out s does.2.end does.2.does (is ∙ ap status_of does.2.answered) five).1
 
     by_meaning : (r : Result Job UsageFault) → LineOutcome r (profile_named words) o a → HasRisen o.out
     by_meaning (Err fault) did = absurd (let one : s ≡ 1 = is ∙ ap status_of did.0 in omega arith)
-    by_meaning (Ok job) (inl none) = absurd (by_stop none.why (is ∙ ap status_of none.answered))
-    by_meaning (Ok job) (inr has) = by_verb job.verb (table_of job.kernel) has.p (metered job o.meters) has.outcome
+    by_meaning (Ok job) (inl lists) = (list_part job.most o.input o.out s lists.did.end lists.did.does (is ∙ ap status_of lists.did.answered) five).1
+    by_meaning (Ok job) (inr (inl none)) = absurd (by_stop none.why (is ∙ ap status_of none.answered))
+    by_meaning (Ok job) (inr (inr has)) = by_verb job.verb job has.p (metered job o.meters) has.outcome
 
 unread_profile : (words : List (List ℕ)) (job : Job) (o : Outsides) (a : Answer) → Outcome words o a → job_meaning words ≡ Ok job → job.verb ≡ verb.Profile → Keeps o.input.before o.input.now
 unread_profile words job o a outcome means command_is =
     let L : Result Job UsageFault → Type 0 = λ r. LineOutcome r (profile_named words) o a in
     by_case (subst L means outcome)
   where
-    by_case : NoProfile (profile_named words) job o a ⊎ WithProfile (profile_named words) job o a → Keeps o.input.before o.input.now
-    by_case (inl none) = none.untouched.0
-    by_case (inr has) =
-        let V : Verb → Type 0 = λ v. VerbOutcome v (table_of job.kernel) has.p o (metered job o.meters) a in
+    by_case : ListsJob job o a ⊎ (NoProfile (profile_named words) job o a ⊎ WithProfile (profile_named words) job o a) → Keeps o.input.before o.input.now
+    by_case (inl lists) = absurd (profile_is_none (sym command_is ∙ lists.command_is))
+    by_case (inr (inl none)) = none.untouched.0
+    by_case (inr (inr has)) =
+        let V : Verb → Type 0 = λ v. VerbOutcome v job has.p o (metered job o.meters) a in
         (subst V command_is has.outcome).0
+
+-- 8 is the status of the commands that look at a job
+print_plays_none : (s : ℕ) (end : Result (Unit {0}) PrintStop) → s ≡ status_of (answer_of print_answer end) → s ≡ 8 → ⊥
+print_plays_none s (Ok u) e eight = omega arith
+print_plays_none s (Err (print.Input page line cause)) e eight = omega arith
+print_plays_none s (Err print.Read) e eight = omega arith
+print_plays_none s (Err (print.Write number)) e eight = omega arith
+print_plays_none s (Err (print.OverCap page total dots cap)) e eight = omega arith
+print_plays_none s (Err print.Memory) e eight = omega arith
+
+show_plays_none : (s : ℕ) (end : Result (Unit {0}) ShowStop) → s ≡ status_of (answer_of show_answer end) → s ≡ 8 → ⊥
+show_plays_none s (Ok u) e eight = omega arith
+show_plays_none s (Err show.Write) e eight = omega arith
+show_plays_none s (Err show.Memory) e eight = omega arith
+
+pub of_job_status : (words : List (List ℕ)) (o : Outsides) (a : Answer) (s : ℕ) → Outcome words o a → s ≡ status_of a → s ≡ 8
+    → (job : Job) × (job_meaning words ≡ Ok job) × ((job.verb ≡ verb.List) ⊎ (job.verb ≡ verb.Dots))
+of_job_status words o a s outcome is eight = by_meaning (job_meaning words) refl outcome
+  where
+    by_stop : (why : ProfileStop) → s ≡ status_of (profile_answer why) → ⊥
+    by_stop (profile.Refused line cause) e = omega arith
+    by_stop profile.Failed e = omega arith
+    by_stop profile.Memory e = omega arith
+
+    by_verb : (job : Job) (p : Profile) (v : Verb) → job.verb ≡ v → VerbOutcome v job p o (metered job o.meters) a → (job.verb ≡ verb.List) ⊎ (job.verb ≡ verb.Dots)
+    by_verb job p verb.Print command_is does = absurd (print_plays_none s does.end (is ∙ ap status_of does.answered) eight)
+    by_verb job p verb.Dots command_is does = inr command_is
+    by_verb job p verb.List command_is does = inl command_is
+    by_verb job p verb.Profile command_is does = absurd (show_plays_none s does.2.end (is ∙ ap status_of does.2.answered) eight)
+
+    by_meaning : (r : Result Job UsageFault) → job_meaning words ≡ r → LineOutcome r (profile_named words) o a
+        → (job : Job) × (job_meaning words ≡ Ok job) × ((job.verb ≡ verb.List) ⊎ (job.verb ≡ verb.Dots))
+    by_meaning (Err fault) means did = absurd (let one : s ≡ 1 = is ∙ ap status_of did.0 in omega arith)
+    by_meaning (Ok job) means (inl lists) = (job, means, inl lists.command_is)
+    by_meaning (Ok job) means (inr (inl none)) = absurd (by_stop none.why (is ∙ ap status_of none.answered))
+    by_meaning (Ok job) means (inr (inr has)) = (job, means, by_verb job has.p job.verb refl has.outcome)
 
 -- ---- the line
 
@@ -423,8 +500,9 @@ silent_status err a s told is zero = by_answer a (sym zero ∙ is) told
     by_answer (answer.Write page) e told = absurd (cc)
     by_answer (answer.OverCap page total dots cap) e told = absurd (cc)
     by_answer answer.Memory e told = absurd (cc)
+    by_answer (answer.Job offset cause) e told = absurd (cc)
 
-in_range : (a : Answer) (s : ℕ) → s ≡ status_of a → (s ≡ 0) ⊎ (s ≡ 1) ⊎ (s ≡ 2) ⊎ (s ≡ 3) ⊎ (s ≡ 4) ⊎ (s ≡ 5) ⊎ (s ≡ 6) ⊎ (s ≡ 7)
+in_range : (a : Answer) (s : ℕ) → s ≡ status_of a → (s ≡ 0) ⊎ (s ≡ 1) ⊎ (s ≡ 2) ⊎ (s ≡ 3) ⊎ (s ≡ 4) ⊎ (s ≡ 5) ⊎ (s ≡ 6) ⊎ (s ≡ 7) ⊎ (s ≡ 8)
 in_range answer.Done s is = inl is
 in_range (answer.Usage fault) s is = inr (inl is)
 in_range (answer.Profile line cause) s is = inr (inr (inl is))
@@ -432,21 +510,22 @@ in_range (answer.Input page line cause) s is = inr (inr (inr (inl is)))
 in_range answer.Read s is = inr (inr (inr (inr (inl is))))
 in_range (answer.Write page) s is = inr (inr (inr (inr (inr (inl is)))))
 in_range (answer.OverCap page total dots cap) s is = inr (inr (inr (inr (inr (inr (inl is))))))
-in_range answer.Memory s is = inr (inr (inr (inr (inr (inr (inr is))))))
+in_range answer.Memory s is = inr (inr (inr (inr (inr (inr (inr (inl is)))))))
+in_range (answer.Job offset cause) s is = inr (inr (inr (inr (inr (inr (inr (inr is)))))))
 
 -- ---- the promises of `print` with a good profile
 
 print_zero : (words : List (List ℕ)) (o : Outsides) (a : Answer) (s : ℕ) (job : Job) (p : Profile) → Outcome words o a → s ≡ status_of a → AsksFor words o.shelf.told verb.Print job (Ok p) → s ≡ 0
     → (all : PrintsAll (printer_of p) (table_of job.kernel) o.input o.out) × CountsPages (printer_of p) (table_of job.kernel) (metered job o.meters) all.pages
 print_zero words o a s job p outcome is asks zero =
-    let does = at_work words verb.Print job p o a s is (λ e. omega arith) (λ e. omega arith) asks outcome in
+    let does = at_work words verb.Print job p o a s is (λ e. omega arith) (λ e. omega arith) print_is_none asks outcome in
     print_done (printer_of p) (table_of job.kernel) o.input o.out (metered job o.meters) s does.end does.does (is ∙ ap status_of does.answered) zero
 
 print_three : (words : List (List ℕ)) (o : Outsides) (err : Outside) (a : Answer) (s : ℕ) (job : Job) (p : Profile) → Outcome words o a → Told err a → s ≡ status_of a → AsksFor words o.shelf.told verb.Print job (Ok p) → s ≡ 3
     → (page line : ℕ) × (cause : InputCause) × (meets : MeetsFault (printer_of p) (table_of job.kernel) o.input o.out page line cause)
     × CountsPages (printer_of p) (table_of job.kernel) (metered job o.meters) meets.pages × Tells err (answer.Input page line cause)
 print_three words o err a s job p outcome told is asks three =
-    let does = at_work words verb.Print job p o a s is (λ e. omega arith) (λ e. omega arith) asks outcome in
+    let does = at_work words verb.Print job p o a s is (λ e. omega arith) (λ e. omega arith) print_is_none asks outcome in
     let fault = print_fault (printer_of p) (table_of job.kernel) o.input o.out (metered job o.meters) s does.end does.does (is ∙ ap status_of does.answered) three in
     let T : Answer → Type 0 = λ b. Told err b in
     (fault.0, fault.1, fault.2, fault.3, fault.4, told_line err (answer.Input fault.0 fault.1 fault.2) (subst T (does.answered ∙ fault.5) told))
@@ -455,14 +534,14 @@ print_five : (words : List (List ℕ)) (o : Outsides) (err : Outside) (a : Answe
     → (number : ℕ) × (stops : StopsInPage (printer_of p) (table_of job.kernel) o.input o.out number)
     × CountsPages (printer_of p) (table_of job.kernel) (metered job o.meters) (stops.pages ++ stops.page ∷ []) × Tells err (answer.Write number)
 print_five words o err a s job p outcome told is asks five =
-    let does = at_work words verb.Print job p o a s is (λ e. omega arith) (λ e. omega arith) asks outcome in
+    let does = at_work words verb.Print job p o a s is (λ e. omega arith) (λ e. omega arith) print_is_none asks outcome in
     let part = print_part (printer_of p) (table_of job.kernel) o.input o.out (metered job o.meters) s does.end does.does (is ∙ ap status_of does.answered) five in
     let T : Answer → Type 0 = λ b. Told err b in
     (part.0, part.1, part.2, told_line err (answer.Write part.0) (subst T (does.answered ∙ part.4) told))
 
 print_four : (words : List (List ℕ)) (o : Outsides) (a : Answer) (s : ℕ) (job : Job) (p : Profile) → Outcome words o a → s ≡ status_of a → AsksFor words o.shelf.told verb.Print job (Ok p) → s ≡ 4
     → (some : PrintsSome (printer_of p) (table_of job.kernel) o.input o.out) × CountsPages (printer_of p) (table_of job.kernel) (metered job o.meters) some.pages
-print_four words o a s job p outcome is asks four = by_case (has_profile words verb.Print job p o a asks outcome)
+print_four words o a s job p outcome is asks four = by_case (has_profile words verb.Print job p o a print_is_none asks outcome)
   where
     by_case : HasProfile words verb.Print job p o a → (some : PrintsSome (printer_of p) (table_of job.kernel) o.input o.out) × CountsPages (printer_of p) (table_of job.kernel) (metered job o.meters) some.pages
     by_case (HasNone none untouched uncounted) = prints_none (printer_of p) (table_of job.kernel) o.input o.out (metered job o.meters) untouched.0 untouched.1 uncounted
@@ -471,7 +550,7 @@ print_four words o a s job p outcome is asks four = by_case (has_profile words v
 print_seven : (words : List (List ℕ)) (o : Outsides) (a : Answer) (s : ℕ) (job : Job) (p : Profile) → Outcome words o a → s ≡ status_of a → AsksFor words o.shelf.told verb.Print job (Ok p) → s ≡ 7
     → (some : PrintsSome (printer_of p) (table_of job.kernel) o.input o.out)
     × (CountsPages (printer_of p) (table_of job.kernel) (metered job o.meters) some.pages ⊎ CountsOneMore (printer_of p) (table_of job.kernel) (metered job o.meters) some.pages some.taken.others)
-print_seven words o a s job p outcome is asks seven = by_case (has_profile words verb.Print job p o a asks outcome)
+print_seven words o a s job p outcome is asks seven = by_case (has_profile words verb.Print job p o a print_is_none asks outcome)
   where
     by_case : HasProfile words verb.Print job p o a → (some : PrintsSome (printer_of p) (table_of job.kernel) o.input o.out)
         × (CountsPages (printer_of p) (table_of job.kernel) (metered job o.meters) some.pages ⊎ CountsOneMore (printer_of p) (table_of job.kernel) (metered job o.meters) some.pages some.taken.others)
@@ -481,7 +560,7 @@ print_seven words o a s job p outcome is asks seven = by_case (has_profile words
 print_valid : (words : List (List ℕ)) (o : Outsides) (a : Answer) (s : ℕ) (job : Job) (p : Profile) (bytes : List ℕ) (pages : List Page) → Outcome words o a → s ≡ status_of a → AsksFor words o.shelf.told verb.Print job (Ok p)
     → o.input.before ≡ Some bytes → stream (wanted_by (printer_of p)) bytes ≡ record { pages = pages; end = Done } → Admitted (printer_of p) (table_of job.kernel) pages (metered job o.meters).before → NothingFailed o
     → (s ≡ 0) ⊎ (s ≡ 7)
-print_valid words o a s job p bytes pages outcome is asks told valid admitted calm = by_case (calm_work words verb.Print job p o a s is calm.shelf asks outcome)
+print_valid words o a s job p bytes pages outcome is asks told valid admitted calm = by_case (calm_work words verb.Print job p o a s is calm.shelf print_is_none asks outcome)
   where
     by_case : (s ≡ 7) ⊎ Did PrintStop (PrintOutcome (printer_of p) (table_of job.kernel) o.input o.out (metered job o.meters)) print_answer a → (s ≡ 0) ⊎ (s ≡ 7)
     by_case (inl seven) = inr seven
@@ -490,7 +569,7 @@ print_valid words o a s job p bytes pages outcome is asks told valid admitted ca
 print_refused : (words : List (List ℕ)) (o : Outsides) (a : Answer) (s : ℕ) (job : Job) (p : Profile) (bytes : List ℕ) (pages : List Page) (page line : ℕ) (cause : InputCause) → Outcome words o a → s ≡ status_of a
     → AsksFor words o.shelf.told verb.Print job (Ok p) → o.input.before ≡ Some bytes → stream (wanted_by (printer_of p)) bytes ≡ record { pages = pages; end = Fault page line cause }
     → Admitted (printer_of p) (table_of job.kernel) pages (metered job o.meters).before → NothingFailed o → (s ≡ 3) ⊎ (s ≡ 7)
-print_refused words o a s job p bytes pages page line cause outcome is asks told bad admitted calm = by_case (calm_work words verb.Print job p o a s is calm.shelf asks outcome)
+print_refused words o a s job p bytes pages page line cause outcome is asks told bad admitted calm = by_case (calm_work words verb.Print job p o a s is calm.shelf print_is_none asks outcome)
   where
     by_case : (s ≡ 7) ⊎ Did PrintStop (PrintOutcome (printer_of p) (table_of job.kernel) o.input o.out (metered job o.meters)) print_answer a → (s ≡ 3) ⊎ (s ≡ 7)
     by_case (inl seven) = inr seven
@@ -500,7 +579,7 @@ print_refused words o a s job p bytes pages page line cause outcome is asks told
 print_full_up : (words : List (List ℕ)) (o : Outsides) (a : Answer) (s : ℕ) (job : Job) (p : Profile) (bytes : List ℕ) (pages later : List Page) (page : Page) (end : StreamEnd) → Outcome words o a → s ≡ status_of a
     → AsksFor words o.shelf.told verb.Print job (Ok p) → o.input.before ≡ Some bytes → stream (wanted_by (printer_of p)) bytes ≡ record { pages = pages ++ page ∷ later; end = end }
     → (All (HasRoom (page_dots page (printer_of p) (table_of job.kernel))) (counted (printer_of p) (table_of job.kernel) pages (metered job o.meters).before) → ⊥) → NothingFailed o → (s ≡ 6) ⊎ (s ≡ 7)
-print_full_up words o a s job p bytes pages later page end outcome is asks told has full calm = by_case (calm_work words verb.Print job p o a s is calm.shelf asks outcome)
+print_full_up words o a s job p bytes pages later page end outcome is asks told has full calm = by_case (calm_work words verb.Print job p o a s is calm.shelf print_is_none asks outcome)
   where
     by_case : (s ≡ 7) ⊎ Did PrintStop (PrintOutcome (printer_of p) (table_of job.kernel) o.input o.out (metered job o.meters)) print_answer a → (s ≡ 6) ⊎ (s ≡ 7)
     by_case (inl seven) = inr seven
@@ -528,34 +607,51 @@ over_status words o err a s outcome told is six = by_meaning (job_meaning words)
     by_stop profile.Failed e = omega arith
     by_stop profile.Memory e = omega arith
 
+    plays_under : (s ≡ 0) ⊎ (s ≡ 4) ⊎ (s ≡ 5) ⊎ (s ≡ 7) ⊎ (s ≡ 8) → ⊥
+    plays_under at = omega (arith, at, six)
+
     by_verb : (job : Job) (p : Profile) → job_meaning words ≡ Ok job → IsJobProfile o.shelf.told (profile_named words) (Ok p) → (v : Verb) → job.verb ≡ v
-        → VerbOutcome v (table_of job.kernel) p o (metered job o.meters) a → WentOver words o err
+        → VerbOutcome v job p o (metered job o.meters) a → WentOver words o err
     by_verb job p means has verb.Print command_is does =
         let over = print_over (printer_of p) (table_of job.kernel) o.input o.out (metered job o.meters) s does.end does.does (is ∙ ap status_of does.answered) six in
         let T : Answer → Type 0 = λ b. Told err b in
         (job, p, means, command_is, has, over.0, over.1, over.2, over.3, over.4, told_line err (answer.OverCap over.0 over.1 over.2 over.3) (subst T (does.answered ∙ over.5) told))
+    by_verb job p means has verb.Dots command_is does = absurd (plays_under (play_statuses s does.1.end (is ∙ ap status_of does.1.answered)))
+    by_verb job p means has verb.List command_is does = absurd does
     by_verb job p means has verb.Profile command_is does = absurd (show_counts_none p o.out s does.2.end does.2.does (is ∙ ap status_of does.2.answered) six)
 
     by_meaning : (r : Result Job UsageFault) → job_meaning words ≡ r → LineOutcome r (profile_named words) o a → WentOver words o err
     by_meaning (Err fault) means did = absurd (let one : s ≡ 1 = is ∙ ap status_of did.0 in omega arith)
-    by_meaning (Ok job) means (inl none) = absurd (by_stop none.why (is ∙ ap status_of none.answered))
-    by_meaning (Ok job) means (inr has) = by_verb job has.p means has.is job.verb refl has.outcome
+    by_meaning (Ok job) means (inl lists) = absurd (list_refuses_none job o a s lists is (inr (inr (inr six))))
+    by_meaning (Ok job) means (inr (inl none)) = absurd (by_stop none.why (is ∙ ap status_of none.answered))
+    by_meaning (Ok job) means (inr (inr has)) = by_verb job has.p means has.is job.verb refl has.outcome
 
 -- ---- meters that count nothing
 
-unmetered_profile : (words : List (List ℕ)) (job : Job) (o : Outsides) (a : Answer) → Outcome words o a → job_meaning words ≡ Ok job → job.verb ≡ verb.Profile → o.meters.now ≡ o.meters.before
-unmetered_profile words job o a outcome means command_is =
+unmetered_job : (words : List (List ℕ)) (job : Job) (o : Outsides) (a : Answer) → Outcome words o a → job_meaning words ≡ Ok job → (job.verb ≡ verb.Print → ⊥) → o.meters.now ≡ o.meters.before
+unmetered_job words job o a outcome means unprinted =
     let L : Result Job UsageFault → Type 0 = λ r. LineOutcome r (profile_named words) o a in
     by_case (subst L means outcome)
   where
-    before : (metered job o.meters).before ≡ o.meters.before
-    before = ap (λ v. begun_by v job.cap o.meters.before) command_is
+    begun : (v : Verb) → (v ≡ verb.Print → ⊥) → begun_by v job.cap o.meters.before ≡ o.meters.before
+    begun verb.Print other = absurd (other refl)
+    begun verb.Dots other = refl
+    begun verb.List other = refl
+    begun verb.Profile other = refl
 
-    by_case : NoProfile (profile_named words) job o a ⊎ WithProfile (profile_named words) job o a → o.meters.now ≡ o.meters.before
-    by_case (inl none) = none.uncounted ∙ before
-    by_case (inr has) =
-        let V : Verb → Type 0 = λ v. VerbOutcome v (table_of job.kernel) has.p o (metered job o.meters) a in
-        (subst V command_is has.outcome).1 ∙ before
+    before : (metered job o.meters).before ≡ o.meters.before
+    before = begun job.verb unprinted
+
+    by_verb : (v : Verb) (p : Profile) → (v ≡ verb.Print → ⊥) → VerbOutcome v job p o (metered job o.meters) a → o.meters.now ≡ (metered job o.meters).before
+    by_verb verb.Print p other does = absurd (other refl)
+    by_verb verb.Dots p other does = does.0
+    by_verb verb.List p other does = absurd does
+    by_verb verb.Profile p other does = does.1
+
+    by_case : ListsJob job o a ⊎ (NoProfile (profile_named words) job o a ⊎ WithProfile (profile_named words) job o a) → o.meters.now ≡ o.meters.before
+    by_case (inl lists) = lists.uncounted
+    by_case (inr (inl none)) = none.uncounted ∙ before
+    by_case (inr (inr has)) = by_verb job.verb has.p unprinted has.outcome ∙ before
 
 unmetered_usage : (words : List (List ℕ)) (o : Outsides) (a : Answer) (s : ℕ) → Outcome words o a → s ≡ status_of a → s ≡ 1 → o.meters.now ≡ o.meters.before
 unmetered_usage words o a s outcome is one = by_meaning (job_meaning words) (usage_status words o a s outcome is one) outcome
@@ -569,37 +665,38 @@ uncounted_status words job o a s outcome is means two =
     let L : Result Job UsageFault → Type 0 = λ r. LineOutcome r (profile_named words) o a in
     by_case (subst L means outcome)
   where
-    by_case : NoProfile (profile_named words) job o a ⊎ WithProfile (profile_named words) job o a → o.meters.now ≡ (metered job o.meters).before
-    by_case (inl none) = none.uncounted
-    by_case (inr has) = absurd (verb_refuses_none job.verb (table_of job.kernel) has.p o (metered job o.meters) a s has.outcome is (inr two))
+    by_case : ListsJob job o a ⊎ (NoProfile (profile_named words) job o a ⊎ WithProfile (profile_named words) job o a) → o.meters.now ≡ (metered job o.meters).before
+    by_case (inl lists) = absurd (list_refuses_none job o a s lists is (inr (inl two)))
+    by_case (inr (inl none)) = none.uncounted
+    by_case (inr (inr has)) = absurd (verb_refuses_none job.verb job has.p o (metered job o.meters) a s has.outcome is (inr two))
 
 -- ---- the promises of `profile` with a good profile
 
 show_valid : (words : List (List ℕ)) (o : Outsides) (a : Answer) (s : ℕ) (job : Job) (p : Profile) → Outcome words o a → s ≡ status_of a → AsksFor words o.shelf.told verb.Profile job (Ok p)
     → (HasFailed o.shelf → ⊥) → IsCalm o.out → (s ≡ 0) ⊎ (s ≡ 7)
-show_valid words o a s job p outcome is asks calm calm_out = by_case (calm_work words verb.Profile job p o a s is calm asks outcome)
+show_valid words o a s job p outcome is asks calm calm_out = by_case (calm_work words verb.Profile job p o a s is calm profile_is_none asks outcome)
   where
-    by_case : (s ≡ 7) ⊎ VerbOutcome verb.Profile (table_of job.kernel) p o (metered job o.meters) a → (s ≡ 0) ⊎ (s ≡ 7)
+    by_case : (s ≡ 7) ⊎ VerbOutcome verb.Profile job p o (metered job o.meters) a → (s ≡ 0) ⊎ (s ≡ 7)
     by_case (inl seven) = inr seven
     by_case (inr does) = show_calm p o.out s does.2.end does.2.does (is ∙ ap status_of does.2.answered) calm_out
 
 show_zero : (words : List (List ℕ)) (o : Outsides) (a : Answer) (s : ℕ) (job : Job) (p : Profile) → Outcome words o a → s ≡ status_of a → AsksFor words o.shelf.told verb.Profile job (Ok p) → s ≡ 0
     → Appends o.out.before o.out.now (profile_text_of p)
 show_zero words o a s job p outcome is asks zero =
-    let does = at_work words verb.Profile job p o a s is (λ e. omega arith) (λ e. omega arith) asks outcome in
+    let does = at_work words verb.Profile job p o a s is (λ e. omega arith) (λ e. omega arith) profile_is_none asks outcome in
     show_done p o.out s does.2.end does.2.does (is ∙ ap status_of does.2.answered) zero
 
 show_five : (words : List (List ℕ)) (o : Outsides) (err : Outside) (a : Answer) (s : ℕ) (job : Job) (p : Profile) → Outcome words o a → Told err a → s ≡ status_of a → AsksFor words o.shelf.told verb.Profile job (Ok p) → s ≡ 5
     → AppendsPart o.out.before o.out.now (profile_text_of p) × Tells err (answer.Write 0)
 show_five words o err a s job p outcome told is asks five =
-    let does = at_work words verb.Profile job p o a s is (λ e. omega arith) (λ e. omega arith) asks outcome in
+    let does = at_work words verb.Profile job p o a s is (λ e. omega arith) (λ e. omega arith) profile_is_none asks outcome in
     let part = show_part p o.out s does.2.end does.2.does (is ∙ ap status_of does.2.answered) five in
     let T : Answer → Type 0 = λ b. Told err b in
     (part.0, told_line err (answer.Write 0) (subst T (does.2.answered ∙ part.2) told))
 
 show_stopped : (words : List (List ℕ)) (o : Outsides) (a : Answer) (s : ℕ) (job : Job) (p : Profile) → Outcome words o a → s ≡ status_of a → AsksFor words o.shelf.told verb.Profile job (Ok p) → (s ≡ 4) ⊎ (s ≡ 7)
     → Keeps o.out.before o.out.now
-show_stopped words o a s job p outcome is asks which = by_case (has_profile words verb.Profile job p o a asks outcome)
+show_stopped words o a s job p outcome is asks which = by_case (has_profile words verb.Profile job p o a profile_is_none asks outcome)
   where
     by_case : HasProfile words verb.Profile job p o a → Keeps o.out.before o.out.now
     by_case (HasNone none untouched uncounted) = untouched.1
@@ -623,13 +720,13 @@ promises words o err a s outcome told is = record {
   shown = λ job p asks zero. show_zero words o a s job p outcome is asks zero;
   part_shown = λ job p asks five. show_five words o err a s job p outcome told is asks five;
   none_shown = λ job p asks which. show_stopped words o a s job p outcome is asks which;
-  unmetered = λ job means command_is. unmetered_profile words job o a outcome means command_is;
+  unmetered = λ job means unprinted. unmetered_job words job o a outcome means unprinted;
   untold = λ one. unmetered_usage words o a s outcome is one;
   uncounted = λ job means two. uncounted_status words job o a s outcome is means two;
   unread = λ job means command_is. unread_profile words job o a outcome means command_is;
   usage = (λ one. usage_status words o a s outcome is one, λ bad. usage_means words o a s outcome is bad);
   profile = λ two. profile_status words o err a s outcome told is two;
-  refused_profile = λ command job refusal asks calm. refused_status words command job refusal o a s outcome is asks calm;
+  refused_profile = λ command job refusal other asks calm. refused_status words command job refusal o a s outcome is other asks calm;
   read = λ four. read_status words o a s outcome is four;
   write = λ five. write_status words o a s outcome is five;
   range = in_range a s is;

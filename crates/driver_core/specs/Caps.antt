@@ -12,4 +12,6 @@ with_cap (Some cap) accounts = map (capped cap) accounts
 -- the meters of a job before its first page: printing sets their caps where a word has one
 abbrev pub begun_by : Verb → Option ℕ → List Account → List Account
 begun_by verb.Print cap accounts = with_cap cap accounts
+begun_by verb.Dots cap accounts = accounts
+begun_by verb.List cap accounts = accounts
 begun_by verb.Profile cap accounts = accounts

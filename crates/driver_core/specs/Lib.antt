@@ -5,3 +5,5 @@ pub mod Pages
 pub mod Printing
 pub mod Showing
 pub mod Run
+pub mod Jobs
+pub mod JobPromises

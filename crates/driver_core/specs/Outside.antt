@@ -4,20 +4,7 @@ use Rattle.std.specs.Io.KnownBytes.{Keeps}
 use Rattle.ink_meter.specs.Accounts.{Account}
 use Rattle.weave_base.specs.Causes.{Rose}
 use Rattle.weave_base.specs.Shelf.{NamedText}
-
--- A source or a sink at the call and at the return: its bytes, where it tells them, and its count of faults.
-pub record Outside : Type 0 where
-  pub before : Option (List ℕ)
-  pub now : Option (List ℕ)
-  pub faults_before : ℕ
-  pub faults_now : ℕ
-
-abbrev pub HasRisen : Outside → Type 0
-HasRisen s = Rose s.faults_before s.faults_now
-
--- its count of faults did not rise
-abbrev pub IsCalm : Outside → Type 0
-IsCalm s = HasRisen s → ⊥
+pub use Rattle.outside_definitions.specs.Outside.{HasRisen, IsCalm, Outside}
 
 -- A shelf: its texts, where it tells them, and its count of faults at the call and at the return.
 pub record Texts : Type 0 where

@@ -8,6 +8,10 @@ use Rattle.driver_answer.specs.declared.answer.Answer.TheVariants as answer
 use Rattle.driver_answer.specs.Answers.{line_of, status_of}
 use Rattle.driver_answer.specs.Stops.{profile_answer}
 use Rattle.ink_meter.specs.Accounts.{Account, HasRoom}
+use Rattle.job_lister.specs.declared.lister.ListStop.{ListStop}
+use Rattle.job_lister.specs.Outcome.{ListOutcome}
+use Rattle.job_player.specs.declared.player.PlayStop.{PlayStop}
+use Rattle.job_player.specs.Outcome.{PlayOutcome}
 use Rattle.job_profile.specs.declared.stops.ProfileCause.{ProfileCause}
 use Rattle.job_profile.specs.declared.stops.ProfileStop.{ProfileStop}
 use Rattle.job_profile.specs.declared.stops.ProfileStop.TheVariants as profile
@@ -30,6 +34,7 @@ use Rattle.weave_base.specs.Shelf.{NamedText}
 use Rattle.driver_core.specs.declared.stops.PrintStop.{PrintStop}
 use Rattle.driver_core.specs.declared.stops.ShowStop.{ShowStop}
 use Rattle.driver_core.specs.Caps.{begun_by}
+use Rattle.driver_core.specs.Jobs.{list_answer, play_answer}
 use Rattle.driver_core.specs.Outside.{HasFailed, HasRisen, IsCalm, Meters, NothingFailed, Outside, Outsides, Texts, Untouched}
 use Rattle.driver_core.specs.Printing.{CountsOneMore, CountsPages, GoesOver, MeetsFault, PrintOutcome, PrintsAll, PrintsSome, StopsInPage, print_answer}
 use Rattle.driver_core.specs.Showing.{ShowOutcome, show_answer}
@@ -52,9 +57,12 @@ abbrev pub metered : Job → Meters → Meters
 metered job meters = record { before = begun_by job.verb job.cap meters.before; now = meters.now }
 
 -- what a command comes to with its profile, on meters whose caps are set
-abbrev pub VerbOutcome : Verb → Table → Profile → Outsides → Meters → Answer → Type 0
-VerbOutcome verb.Print k p o meters a = Did PrintStop (PrintOutcome (printer_of p) k o.input o.out meters) print_answer a
-VerbOutcome verb.Profile k p o meters a =
+abbrev pub VerbOutcome : Verb → Job → Profile → Outsides → Meters → Answer → Type 0
+VerbOutcome verb.Print job p o meters a = Did PrintStop (PrintOutcome (printer_of p) (table_of job.kernel) o.input o.out meters) print_answer a
+VerbOutcome verb.Dots job p o meters a =
+    (meters.now ≡ meters.before) × Did PlayStop (PlayOutcome (printer_of p) job.most o.input o.out) play_answer a
+VerbOutcome verb.List job p o meters a = ⊥
+VerbOutcome verb.Profile job p o meters a =
     Keeps o.input.before o.input.now × (meters.now ≡ meters.before) × Did ShowStop (ShowOutcome p o.out) show_answer a
 
 -- why there is no profile of a name
@@ -70,17 +78,24 @@ pub record NoProfile (name : List ℕ) (job : Job) (o : Outsides) (a : Answer) :
   pub answered : a ≡ profile_answer why
   pub untouched : Untouched o
   pub uncounted : o.meters.now ≡ (metered job o.meters).before
+  pub needed : job.verb ≡ verb.List → ⊥
 
 -- There is this profile, and the command did its work with it.
 pub record WithProfile (name : List ℕ) (job : Job) (o : Outsides) (a : Answer) : Type 0 where
   pub p : Profile
   pub is : IsJobProfile o.shelf.told name (Ok p)
-  pub outcome : VerbOutcome job.verb (table_of job.kernel) p o (metered job o.meters) a
+  pub outcome : VerbOutcome job.verb job p o (metered job o.meters) a
 
--- What a command line comes to: refused words, no profile, or the command's work.
+-- The commands of the job that the input is were listed, for which no profile is needed.
+pub record ListsJob (job : Job) (o : Outsides) (a : Answer) : Type 0 where
+  pub command_is : job.verb ≡ verb.List
+  pub uncounted : o.meters.now ≡ o.meters.before
+  pub did : Did ListStop (ListOutcome job.most o.input o.out) list_answer a
+
+-- What a command line comes to: refused words, a job that is listed, no profile, or the command's work.
 abbrev pub LineOutcome : Result Job UsageFault → List ℕ → Outsides → Answer → Type 0
 LineOutcome (Err fault) name o a = (a ≡ answer.Usage fault) × Untouched o × (o.meters.now ≡ o.meters.before)
-LineOutcome (Ok job) name o a = NoProfile name job o a ⊎ WithProfile name job o a
+LineOutcome (Ok job) name o a = ListsJob job o a ⊎ (NoProfile name job o a ⊎ WithProfile name job o a)
 
 abbrev pub Outcome : List (List ℕ) → Outsides → Answer → Type 0
 Outcome words o a = LineOutcome (job_meaning words) (profile_named words) o a
@@ -174,7 +189,7 @@ pub record Promises (words : List (List ℕ)) (o : Outsides) (err : Outside) (st
   pub none_shown : (job : Job) (p : Profile) → AsksFor words o.shelf.told verb.Profile job (Ok p) → (status ≡ 4) ⊎ (status ≡ 7)
       → Keeps o.out.before o.out.now
   -- Only printing sets a cap and counts, and a refused word or profile counts nothing.
-  pub unmetered : (job : Job) → job_meaning words ≡ Ok job → job.verb ≡ verb.Profile → o.meters.now ≡ o.meters.before
+  pub unmetered : (job : Job) → job_meaning words ≡ Ok job → (job.verb ≡ verb.Print → ⊥) → o.meters.now ≡ o.meters.before
   pub untold : status ≡ 1 → o.meters.now ≡ o.meters.before
   pub uncounted : (job : Job) → job_meaning words ≡ Ok job → status ≡ 2 → o.meters.now ≡ (metered job o.meters).before
   pub unread : (job : Job) → job_meaning words ≡ Ok job → job.verb ≡ verb.Profile → Keeps o.input.before o.input.now
@@ -182,11 +197,12 @@ pub record Promises (words : List (List ℕ)) (o : Outsides) (err : Outside) (st
   pub usage : (status ≡ 1) ↔ IsErr (job_meaning words)
   pub profile : status ≡ 2 → (job : Job) × (line : ℕ) × (cause : ProfileCause) × (job_meaning words ≡ Ok job)
       × IsJobProfile o.shelf.told (profile_named words) (Err (refused_at line cause)) × Tells err (answer.Profile line cause)
-  pub refused_profile : (command : Verb) (job : Job) (refusal : Refusal) → AsksFor words o.shelf.told command job (Err refusal)
-      → (HasFailed o.shelf → ⊥) → (status ≡ 2) ⊎ (status ≡ 7)
+  pub refused_profile : (command : Verb) (job : Job) (refusal : Refusal) → (command ≡ verb.List → ⊥)
+      → AsksFor words o.shelf.told command job (Err refusal) → (HasFailed o.shelf → ⊥) → (status ≡ 2) ⊎ (status ≡ 7)
   pub read : status ≡ 4 → HasRisen o.input ⊎ (HasFailed o.shelf × (built_in (profile_named words) ≡ None))
   pub write : status ≡ 5 → HasRisen o.out
   pub range : (status ≡ 0) ⊎ (status ≡ 1) ⊎ (status ≡ 2) ⊎ (status ≡ 3) ⊎ (status ≡ 4) ⊎ (status ≡ 5) ⊎ (status ≡ 6) ⊎ (status ≡ 7)
+      ⊎ (status ≡ 8)
   pub nothing : (status ≡ 1) ⊎ (status ≡ 2) → Untouched o
   -- The error line.
   pub silent : status ≡ 0 → Keeps err.before err.now

@@ -1,4 +1,5 @@
 //! The run.
+ghost use Rattle.driver_core.specs.JobPromises.{JobPromises};
 ghost use Rattle.driver_core.specs.Run.{Outcome, Promises, Told, answer_of};
 ghost use Rattle.job_words.specs.Meaning.{job_meaning, profile_named};
 ghost use Rattle.printer_profile.specs.Profiles.{built_in};
@@ -10,6 +11,8 @@ use crate::showing::show_profile;
 use arrayvec::ArrayString;
 use driver_answer::Answer;
 use ink_meter::Meter;
+use job_lister::list_job;
+use job_player::play_job;
 use job_profile::find_profile;
 use job_words::{Verb, profile_name, read_words};
 use std::alloc::Global;
@@ -36,10 +39,16 @@ fn work<S: Source, K: Sink, F: Shelf>(
 {
     let job = read_words(words)?;
     set_caps(&job, meters);
+    if job.verb == Verb::List {
+        list_job(alloc, job.most, input, out)?;
+        return Ok(());
+    }
     let profile = find_profile(alloc, shelf, profile_name(words, &job))?;
     match job.verb {
         Verb::Print => print_pages(alloc, &profile, job.kernel, input, out, meters)?,
+        Verb::Dots => play_job(alloc, &profile, job.most, input, out)?,
         Verb::Profile => show_profile(alloc, &profile, out)?,
+        Verb::List => unreachable!(),
     }
     Ok(())
 }
@@ -64,11 +73,12 @@ pub fn tell<E: Sink>(answer: &Answer, err: &mut E)
 }
 
 /// Runs a command line: `print` prints the pages of the input (PWG Raster, PWG 5102.4) as a job of ESC/P2 commands on
-/// `out`, and `profile` writes a profile's text there.
+/// `out`, `dots` writes the sheets of the job that the input is as images there, `list` its commands as lines of text, and
+/// `profile` a profile's text.
 ///
 /// The answer is the exit status: 0 done, 1 a word is refused, 2 the profile is refused, 3 the input is refused, 4 a read
-/// of the input or of the shelf failed, 5 a write failed, 6 a page goes past the cap of a meter, 7 memory ran out. Each but
-/// 0 has one line on `err`.
+/// of the input or of the shelf failed, 5 a write failed, 6 a page goes past the cap of a meter, 7 memory ran out, 8 the
+/// job is refused. Each but 0 has one line on `err`.
 ///
 /// The word `cap=n` sets the cap of each meter right after the words were accepted. A page is asked of the meters after its
 /// last line was read and before its first byte is written; where all have room for its dots, all count them at once.
@@ -82,6 +92,14 @@ pub fn run<S: Source, K: Sink, E: Sink, F: Shelf>(
     meters: &mut Vec<Box<dyn Meter>>,
 ) -> u8
     ensures promises { Promises words.now
+        (record {
+          shelf = record { told = F.files shelf.old; faults_before = F.faults shelf.old; faults_now = F.faults shelf.new };
+          input = record { before = S.left input.old; now = S.left input.new; faults_before = S.faults input.old; faults_now = S.faults input.new };
+          out = record { before = K.held out.old; now = K.held out.new; faults_before = K.faults out.old; faults_now = K.faults out.new };
+          meters = record { before = map (λ meter. account meter) meters.old.items; now = map (λ meter. account meter) meters.new.items };
+        })
+        (record { before = E.held err.old; now = E.held err.new; faults_before = E.faults err.old; faults_now = E.faults err.new }) result }
+    ensures job_promises { JobPromises words.now
         (record {
           shelf = record { told = F.files shelf.old; faults_before = F.faults shelf.old; faults_now = F.faults shelf.new };
           input = record { before = S.left input.old; now = S.left input.new; faults_before = S.faults input.old; faults_now = S.faults input.new };

@@ -3,8 +3,8 @@ ghost use Rattle.job_player.specs.Outcome.{PlayOutcome};
 ghost use Rattle.job_player.specs.Stops.{emu_stop};
 ghost use Rattle.job_player.specs.declared.player.PlayStop.TheVariants as PlayStop;
 ghost use Rattle.printer_profile.specs.Profiles.{printer_of};
-ghost use Rattle.separation_definitions.specs.CanPrint.{CanPrint};
-ghost use Rattle.std.specs.Prelude.{◌<◌, ◌≡◌, ◌≤◌, ◌^◌};
+ghost use Rattle.printer_profile.specs.Validity.{check};
+ghost use Rattle.std.specs.Prelude.{IsOk, ◌<◌, ◌≡◌, ◌≤◌, ◌^◌};
 
 use crate::sheets::write_sheet;
 use dot_emulator::{EmuStop, Emulator};
@@ -36,7 +36,7 @@ pub fn play_job<S: Source, K: Sink>(
     input: &mut S,
     out: &mut K,
 ) -> Result<(), PlayStop>
-    requires printer { CanPrint (printer_of profile.now) }
+    requires checked { IsOk (check profile.now) }
     requires most { most < 2 ^ 63 }
     ensures { PlayOutcome (printer_of profile.now) most
         (record { before = S.left input.old; now = S.left input.new; faults_before = S.faults input.old; faults_now = S.faults input.new })

@@ -56,10 +56,29 @@ fn a_line_is_read_as_a_job(rt: HostRuntime) -> Result<(), Fail> {
             profile_word: 2,
             kernel: Kernel::Stucki,
             workers: 64,
-            cap: None
+            cap: None,
+            most: 17_179_869_184,
         }
     );
     assert_eq!(rt; profile_name(&words, &job), "a=b");
+    Ok(())
+}
+
+#[test]
+fn a_job_is_looked_at_by_most_of_its_bytes(rt: HostRuntime) -> Result<(), Fail> {
+    for (command, verb) in [("dots", Verb::Dots), ("list", Verb::List)] {
+        let words = words_of(rt.alloc(), &[command, "most=10"])?;
+        assert_eq!(rt;
+            read_words(&words).map(|job| (job.verb, job.most)),
+            Ok((verb, 10))
+        );
+    }
+    let past = words_of(rt.alloc(), &["list", "most=17179869185"])?;
+    let fault = UsageFault {
+        word: 2,
+        cause: UsageCause::BadValue,
+    };
+    assert_eq!(rt; read_words(&past), Err(fault));
     Ok(())
 }
 
@@ -165,7 +184,9 @@ fn no_profile_is_the_built_in_one(rt: HostRuntime) -> Result<(), Fail> {
             verb: Verb::Profile,
             profile_word: 0,
             kernel: Kernel::Floyd,
-            workers: 1
+            workers: 1,
+            cap: None,
+            most: 17_179_869_184,
         }
     );
     assert_eq!(rt; profile_name(&words, &job), "p360cmyk");
