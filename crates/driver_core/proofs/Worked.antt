@@ -22,7 +22,7 @@ use Rattle.driver_core.specs.Caps.{begun_by}
 use Rattle.driver_core.specs.Jobs.{list_answer, play_answer}
 use Rattle.driver_core.specs.Outside.{Outsides}
 use Rattle.driver_core.specs.Printing.{PrintOutcome, print_answer}
-use Rattle.driver_core.specs.Run.{LineOutcome, Outcome, VerbOutcome, answer_of, metered}
+use Rattle.driver_core.specs.Run.{Did, LineOutcome, Outcome, VerbOutcome, answer_of, metered}
 use Rattle.driver_core.specs.Showing.{ShowOutcome, show_answer}
 
 worked : (words : List (List ℕ)) (job : Job) (p : Profile) (o : Outsides) (a : Answer) → Ok job ≡ job_meaning words → IsJobProfile o.shelf.told (profile_named words) (Ok p)
@@ -46,16 +46,16 @@ shown words job p o end means command_is has unread is does =
     let V : Verb → Type 0 = λ v. VerbOutcome v job p o (metered job o.meters) (answer_of show_answer end) in
     worked words job p o (answer_of show_answer end) means has (subst V (sym command_is) (unread, is, record { end = end; does = does; answered = refl }))
 
-pub played : (words : List (List ℕ)) (job : Job) (p : Profile) (o : Outsides) (end : Result (Unit {0}) PlayStop) → Ok job ≡ job_meaning words → job.verb ≡ verb.Dots
+pub played : (words : List (List ℕ)) (job : Job) (p : Profile) (o : Outsides) (a : Answer) → Ok job ≡ job_meaning words → job.verb ≡ verb.Dots
     → IsJobProfile o.shelf.told (profile_named words) (Ok p) → o.meters.now ≡ begun_by job.verb job.cap o.meters.before
-    → PlayOutcome (printer_of p) job.most o.input o.out end → Outcome words o (answer_of play_answer end)
-played words job p o end means command_is has is does =
-    let V : Verb → Type 0 = λ v. VerbOutcome v job p o (metered job o.meters) (answer_of play_answer end) in
-    worked words job p o (answer_of play_answer end) means has (subst V (sym command_is) (is, record { end = end; does = does; answered = refl }))
+    → Did PlayStop (PlayOutcome (printer_of p) job.most o.input o.out) play_answer a → Outcome words o a
+played words job p o a means command_is has is did =
+    let V : Verb → Type 0 = λ v. VerbOutcome v job p o (metered job o.meters) a in
+    worked words job p o a means has (subst V (sym command_is) (is, did))
 
-pub listed : (words : List (List ℕ)) (job : Job) (o : Outsides) (end : Result (Unit {0}) ListStop) → Ok job ≡ job_meaning words → job.verb ≡ verb.List
-    → o.meters.now ≡ begun_by job.verb job.cap o.meters.before → ListOutcome job.most o.input o.out end → Outcome words o (answer_of list_answer end)
-listed words job o end means command_is is does =
-    let L : Result Job UsageFault → Type 0 = λ r. LineOutcome r (profile_named words) o (answer_of list_answer end) in
+pub listed : (words : List (List ℕ)) (job : Job) (o : Outsides) (a : Answer) → Ok job ≡ job_meaning words → job.verb ≡ verb.List
+    → o.meters.now ≡ begun_by job.verb job.cap o.meters.before → Did ListStop (ListOutcome job.most o.input o.out) list_answer a → Outcome words o a
+listed words job o a means command_is is did =
+    let L : Result Job UsageFault → Type 0 = λ r. LineOutcome r (profile_named words) o a in
     let none : begun_by job.verb job.cap o.meters.before ≡ o.meters.before = ap (λ v. begun_by v job.cap o.meters.before) command_is in
-    subst L means (inl (record { command_is = command_is; uncounted = is ∙ none; did = record { end = end; does = does; answered = refl } }))
+    subst L means (inl (record { command_is = command_is; uncounted = is ∙ none; did = did }))

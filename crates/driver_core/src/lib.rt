@@ -2,6 +2,7 @@
 #![tactic(auto)]
 
 mod charging;
+mod jobs;
 mod printing;
 mod running;
 mod showing;

@@ -6,13 +6,12 @@ ghost use Rattle.printer_profile.specs.Profiles.{built_in};
 ghost use Rattle.std.specs.Prelude.{IsErr, IsSome, map, ◌≡◌};
 
 use crate::charging::set_caps;
+use crate::jobs::{list, play};
 use crate::printing::print_pages;
 use crate::showing::show_profile;
 use arrayvec::ArrayString;
 use driver_answer::Answer;
 use ink_meter::Meter;
-use job_lister::list_job;
-use job_player::play_job;
 use job_profile::find_profile;
 use job_words::{Verb, profile_name, read_words};
 use std::alloc::Global;
@@ -39,14 +38,13 @@ fn work<S: Source, K: Sink, F: Shelf>(
 {
     let job = read_words(words)?;
     set_caps(&job, meters);
-    if job.verb == Verb::List {
-        list_job(alloc, job.most, input, out)?;
-        return Ok(());
+    if let Verb::List = job.verb {
+        return list(alloc, job.most, input, out);
     }
     let profile = find_profile(alloc, shelf, profile_name(words, &job))?;
     match job.verb {
         Verb::Print => print_pages(alloc, &profile, job.kernel, input, out, meters)?,
-        Verb::Dots => play_job(alloc, &profile, job.most, input, out)?,
+        Verb::Dots => return play(alloc, &profile, job.most, input, out),
         Verb::Profile => show_profile(alloc, &profile, out)?,
         Verb::List => unreachable!(),
     }

@@ -3,8 +3,6 @@ ghost use Rattle.driver_answer.specs.declared.answer.Answer.TheVariants as answe
 ghost use Rattle.std.specs.Prelude.{◌≡◌};
 
 use driver_answer::Answer;
-use job_lister::ListStop;
-use job_player::PlayStop;
 use pwg_definitions::InputCause;
 use pwg_stream::StreamStop;
 
@@ -92,36 +90,6 @@ impl From<ShowStop> for Answer {
         match stop {
             ShowStop::Write => Answer::Write { page: 0 },
             ShowStop::Memory => Answer::Memory,
-        }
-    }
-}
-
-impl From<ListStop> for Answer {
-    ghost use Rattle.driver_core.specs.Jobs.{list_answer};
-
-    ghost from_gives = { λ stop a. a ≡ list_answer stop };
-
-    fn from(stop: ListStop) -> Answer {
-        match stop {
-            ListStop::Job { offset, cause } => Answer::Job { offset, cause },
-            ListStop::Read => Answer::Read,
-            ListStop::Write => Answer::Write { page: 0 },
-            ListStop::Memory => Answer::Memory,
-        }
-    }
-}
-
-impl From<PlayStop> for Answer {
-    ghost use Rattle.driver_core.specs.Jobs.{play_answer};
-
-    ghost from_gives = { λ stop a. a ≡ play_answer stop };
-
-    fn from(stop: PlayStop) -> Answer {
-        match stop {
-            PlayStop::Job { offset, cause } => Answer::Job { offset, cause },
-            PlayStop::Read => Answer::Read,
-            PlayStop::Write { sheet } => Answer::Write { page: sheet },
-            PlayStop::Memory => Answer::Memory,
         }
     }
 }
