@@ -197,20 +197,22 @@ stream_done p k before left left' held now meters old new number f0 f2 g0 g1 can
     ∙ ap (with_pages so_far.done) (pages-none (wanted_by p) (9999 - length so_far.done) (length so_far.done + 1))
     ∙ ap (λ ps. record { pages = ps; end = Done }) (append-nil so_far.done) in
     let P : List Page → Type 0 = AllByRecursion (IsPage (wanted_by p)) in
-    let are : P so_far.done = subst P (ap (λ (s : Stream). s.pages) is) (stream-pages (wanted_by p) so_far.bytes) in
-    (record {
-      pages = so_far.done;
-      reads = record {
-        bytes = so_far.bytes;
-        taken = text_ended before (text_of old left) left' new.unread so_far.bytes so_far.used end more end';
-        end = left_end left' new.unread end';
-        is = is;
-      };
-      told = told before (text_of old left) so_far.used is end;
-      writes = so_far.written;
-      prints = pages-print p k so_far.done can are;
-      passes = pages-have p k so_far.done can are;
-    }, counts)
+    let are : P so_far.done = subst P (ap (λ (s : Stream). s.pages) is) (stream-pages (wanted_by p) so_far.bytes) in (
+      record {
+        pages = so_far.done;
+        reads = record {
+          bytes = so_far.bytes;
+          taken = text_ended before (text_of old left) left' new.unread so_far.bytes so_far.used end more end';
+          end = left_end left' new.unread end';
+          is = is;
+        };
+        told = told before (text_of old left) so_far.used is end;
+        writes = so_far.written;
+        prints = pages-print p k so_far.done can are;
+        passes = pages-have p k so_far.done can are;
+      },
+      counts,
+    )
   where
     told : (a b : Option (List ℕ)) → Consumes a b so_far.bytes → stream (wanted_by p) so_far.bytes ≡ record { pages = so_far.done; end = Done } → IsAtEnd b → IsStream p a so_far.done Done
     told None b uses is end = tt
@@ -240,12 +242,14 @@ pub page_without_room : (p : Printer) (k : Table) (before left held now now' : O
     → (read : StreamRead p k before left held now reader number page) → CountsPages p k meters (read.done ++ page ∷ []) → Keeps now now'
     → PrintStopped p k (record { before = before; now = left; faults_before = f0; faults_now = f2 }) (record { before = held; now = now'; faults_before = g0; faults_now = g2 }) meters print.Memory
 page_without_room p k before left held now now' meters reader number f0 f2 g0 g2 page read counts kept =
-    let all = taken_pages p before (text_of reader left) left reader.unread read.bytes (read.done ++ page ∷ []) _ _ read.used read.is (record { bytes = []; is = Consumes-nil (text_of reader left) }) in
-    (record {
-      pages = read.done;
-      taken = record { bytes = all.bytes; taken = all.taken; others = page ∷ all.others; are = all.are ∙ append_assoc read.done (page ∷ []) all.others };
-      writes = appends_kept held now now' (job_bytes p k read.done) read.written kept;
-    }, inr (record { page = page; later = all.others; next = refl; pages_counted = counts }))
+    let all = taken_pages p before (text_of reader left) left reader.unread read.bytes (read.done ++ page ∷ []) _ _ read.used read.is (record { bytes = []; is = Consumes-nil (text_of reader left) }) in (
+      record {
+        pages = read.done;
+        taken = record { bytes = all.bytes; taken = all.taken; others = page ∷ all.others; are = all.are ∙ append_assoc read.done (page ∷ []) all.others };
+        writes = appends_kept held now now' (job_bytes p k read.done) read.written kept;
+      },
+      inr (record { page = page; later = all.others; next = refl; pages_counted = counts }),
+    )
 
 -- the input begins with the pages that were read of it
 begins : (p : Printer) (before text : Option (List ℕ)) (bytes : List ℕ) (pages : List Page) (most number : ℕ) → Consumes before text bytes
@@ -262,7 +266,7 @@ pub page_over : (p : Printer) (k : Table) (before left held now : Option (List �
     (record { before = first; now = next }) why
 page_over p k before left held now first last next reader number f0 f2 g0 g1 page n why read counts are refuses kept =
     let S : PrintStop → Type 0 = λ stop. PrintStopped p k (record { before = before; now = left; faults_before = f0; faults_now = f2 }) (record { before = held; now = now; faults_before = g0; faults_now = g1 })
-        (record { before = first; now = next }) stop in
+    (record { before = first; now = next }) stop in
     let over : OverCap = record { index = refuses.index; total = refuses.total; cap = refuses.cap } in
     let F : InkCounts → Type 0 = λ m. IsFirstOver last m over in
     let M : List Account → Type 0 = λ accounts. IsFirstOver accounts (page_dots page p k) over in

@@ -23,7 +23,15 @@ fn a_stream_of_no_page_is_a_job_of_no_bytes(rt: HostRuntime) -> Result<(), Fail>
     let mut meters = Vec::new(alloc);
     let words = words(alloc, "print")?;
     assert_eq!(rt;
-        run(alloc, &words, &mut input, &mut out, &mut err, &mut shelf, &mut meters),
+        run(
+            alloc,
+            &words,
+            &mut input,
+            &mut out,
+            &mut err,
+            &mut shelf,
+            &mut meters
+        ),
         0
     );
     assert_eq!(rt; out.bytes(), b"".as_slice());
