@@ -7,8 +7,8 @@ mod help;
 
 use command_line::read_words;
 use driver_core::{Answer, run, tell};
-use ink_meter::{DotMeter, Meter, can_settle, settle};
 use help::text_of;
+use ink_meter::{DotMeter, Meter, can_settle, settle};
 use std::io::Write;
 use std::process::ExitCode;
 use weave_base::{DirShelf, StdSink, StdSource, Words, put_all};
