@@ -50,6 +50,19 @@ impl InkRows {
         }
     }
 
+    /// Keeps room for fewer rows. What amounts they have then is not said.
+    pub fn shorten(&mut self, rows: u32)
+        requires some { 1 ≤ rows }
+        requires most { rows ≤ self.old.rows }
+        ensures width { self.new.width ≡ self.old.width }
+        ensures rows { self.new.rows ≡ rows }
+        ensures inks { self.new.inks ≡ self.old.inks }
+    {
+        let len = self.width as usize * rows as usize * usize::from(self.inks);
+        self.bytes.truncate(len);
+        self.rows = rows;
+    }
+
     /// Columns.
     pub fn width(&self) -> u32
         ensures { result ≡ self.now.width }
