@@ -1,7 +1,7 @@
 -- A tile is changed, and what is legal stays so.
-use Rattle.std.proofs.Common.{◌≡◌, ◌≢◌, ◌⊎◌, ℕ, ◌<◌, Bool, true, false, ap, arith, inl, inr, refl, sym, ◌∙◌, subst, length-set}
+use Rattle.std.proofs.Common.{◌≡◌, ℕ, ◌<◌, Bool, true, false, ap, arith, inl, inr, refl, sym, ◌∙◌, subst, length-set}
 use Rattle.std.proofs.lemmas.Bool.{cases_lt}
-use Rattle.tile_shape.specs.Geometry.{IsTile, bands_of, columns_of}
+use Rattle.tile_shape.specs.Geometry.{IsTile}
 use Rattle.tile_shape.specs.declared.tiles.Dir.{Dir}
 use Rattle.tile_shape.specs.declared.tiles.Dir.TheVariants.{Right, Bottom, Corner}
 use Rattle.tile_shape.specs.declared.tiles.Place.{Place}
@@ -13,8 +13,8 @@ use Rattle.board_core.specs.declared.tiles.Status.{Status}
 use Rattle.board_core.specs.declared.tiles.Status.TheVariants.{Waiting, Taken, Posted}
 use Rattle.board_core.specs.declared.tiles.TileState.{TileState}
 use Rattle.board_core.specs.Legal.{Legal}
-use Rattle.board_core.specs.States.{CoreState, IsBegun, IsCore, has_sent, sent, tile_at}
-use Rattle.board_core.specs.Steps.{Gives, IsAccepted, IsKnown, after, with_sent, with_tile}
+use Rattle.board_core.specs.States.{CoreState, IsCore, has_sent, sent, tile_at}
+use Rattle.board_core.specs.Steps.{Gives, IsAccepted, after, with_sent, with_tile}
 use Rattle.board_core.proofs.Numbers.{changed}
 use Rattle.board_core.proofs.Once.{sent_once}
 

@@ -1,5 +1,5 @@
 -- Whatever tiles are begun, their dots and edges are right.
-use Rattle.std.proofs.Common.{◌≡◌, ℕ, zero, suc, ◌+◌, ◌<◌, List, arith, sym, subst}
+use Rattle.std.proofs.Common.{ℕ, zero, suc, ◌+◌, ◌<◌, List, arith, sym, subst}
 use Rattle.tile_shape.specs.Geometry.{IsShape, IsTile}
 use Rattle.tile_shape.specs.declared.tiles.Place.{Place}
 use Rattle.tile_shape.specs.declared.tiles.Shape.{Shape}

@@ -1,5 +1,5 @@
 -- After any accepted events from the start.
-use Rattle.std.proofs.Common.{◌≡◌, ℕ, ◌*◌, ◌<◌, Bool, true, false, List, [], ◌∷◌, replicate, ap, arith, refl, sym, ◌∙◌, subst, inl, inr}
+use Rattle.std.proofs.Common.{◌≡◌, ◌*◌, true, false, List, [], ◌∷◌, ap, arith, refl, sym, ◌∙◌, subst, inl, inr}
 use Rattle.std.proofs.lemmas.Bool.{cases_lt}
 use Rattle.std.proofs.lemmas.List.{get_or-replicate, get_or_past, length-replicate}
 use Rattle.tile_shape.specs.Geometry.{IsShape, bands_of, columns_of}
@@ -11,7 +11,7 @@ use Rattle.board_core.specs.declared.events.Event.{Event}
 use Rattle.board_core.specs.declared.tiles.TileState.{TileState}
 use Rattle.board_core.specs.Legal.{Legal}
 use Rattle.board_core.specs.States.{CoreState, IsCore, fresh, has_sent, number, start, tile_at}
-use Rattle.board_core.specs.Steps.{IsAccepted, Runs, after}
+use Rattle.board_core.specs.Steps.{Runs, after}
 use Rattle.board_core.proofs.Keeps.{legal_event, posted_waits, shape_kept, whole_event}
 use Rattle.board_core.proofs.Once.{sent_once}
 

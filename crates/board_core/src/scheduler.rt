@@ -137,14 +137,14 @@ impl Core {
         if !self.has_tile(place) || self.shape.next(place, dir).is_none() {
             return Err(CoreFault::NoSuchTile);
         }
-        let tile = self.tile(place);
-        if tile.status != Status::Taken(seat) {
+        let from = self.tile(place);
+        if from.status != Status::Taken(seat) {
             return Err(CoreFault::NotYours);
         }
-        if tile.has_sent(dir) {
+        if from.has_sent(dir) {
             return Err(CoreFault::Sent);
         }
-        self.put(place, tile.with_sent(dir));
+        self.put(place, from.with_sent(dir));
         Ok(())
     }
 

@@ -1,4 +1,6 @@
 //! Events by hand, and by a plain program of their rules.
+ghost use Rattle.std.specs.Prelude.{◌<◌, ◌≤◌};
+
 use crate::{Core, CoreFault, Event};
 use tile_shape::{Dir, Place, Shape};
 
@@ -268,17 +270,16 @@ fn is_taken(core: &mut Core, order: &[usize; 15]) -> bool {
 fn each_of_the_290_orders_of_15_tiles_is_taken(rt: HostRuntime) {
     let mut order = [0; 15];
     fill(&mut order, 0);
-    let mut orders = 0;
-    for _ in 0..1000 {
+    for orders in 1..1000 {
         let Ok(mut core) = Core::make(rt.alloc(), SHAPE) else {
             assert!(rt; false);
             return;
         };
         assert!(rt; is_taken(&mut core, &order));
-        orders += 1;
         if !advance(&mut order) {
-            break;
+            assert_eq!(rt; orders, 290);
+            return;
         }
     }
-    assert_eq!(rt; orders, 290);
+    assert!(rt; false);
 }

@@ -8,3 +8,6 @@ mod tile;
 
 pub use plain::diffuse_tile_plainly;
 pub use tile::diffuse_tile;
+
+#[cfg(test)]
+mod tests;

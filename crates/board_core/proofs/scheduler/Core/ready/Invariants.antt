@@ -1,5 +1,4 @@
-use Rattle.std.proofs.Common.{ℕ, ◌<◌}
-use Rattle.tile_shape.specs.Geometry.{IsTile}
+use Rattle.std.proofs.Common.{◌<◌}
 use Rattle.tile_shape.specs.declared.tiles.Place.{Place}
 use Rattle.board_core.specs.States.{number}
 use Rattle.board_core.specs.Steps.{IsReadyTile}

@@ -1,0 +1,4 @@
+pub mod Zeros
+pub mod InkSteps
+pub mod Columns
+pub mod Ends

@@ -1,0 +1,36 @@
+-- Edges of no errors.
+use Rattle.std.proofs.Common.{◌≡◌, ℕ, ℤ, pos, ◌<◌, ◌≤◌, List, [], get_or, length, replicate, ap, arith, inl, inr, refl, sym, ◌∙◌, subst}
+use Rattle.std.proofs.lemmas.Bool.{cases_lt}
+use Rattle.std.proofs.lemmas.Int.{ints}
+use Rattle.std.proofs.lemmas.List.{get_or-replicate, get_or_past, length-replicate}
+use Rattle.diffusion_definitions.specs.Diffusion.{EachInRange, InRange}
+use Rattle.tile_border.specs.Inks.{AreInks, AreZeros, errors_of}
+
+pub some_zeros : (len n : ℕ) → get_or (replicate len (pos 0)) n (pos 0) ≡ pos 0
+some_zeros len n = elim (cases_lt n len) [
+  | inl inside ↦ get_or-replicate len n (pos 0) (pos 0) inside
+  | inr past ↦ get_or_past (replicate len (pos 0)) n (pos 0) (omega (arith, length-replicate len (pos 0)))
+]
+
+pub zeros : (inks len : ℕ) (edge : List (List ℤ)) → edge ≡ replicate inks (replicate len (pos 0)) → AreZeros edge
+zeros inks len edge is = record {
+  at = λ ink n. ap (λ (e : List (List ℤ)). get_or (errors_of e ink) n (pos 0)) is ∙ elim (cases_lt ink inks) [
+    | inl inside ↦ ap (λ (e : List ℤ). get_or e n (pos 0)) (get_or-replicate inks ink (replicate len (pos 0)) [] inside) ∙ some_zeros len n
+    | inr past ↦ ap (λ (e : List ℤ). get_or e n (pos 0)) (get_or_past (replicate inks (replicate len (pos 0))) ink [] (omega (arith, length-replicate inks (replicate len (pos 0)))))
+  ];
+}
+
+zero_fits : InRange (pos 0)
+zero_fits = record { low = omega (arith, ints); high = omega (arith, ints) }
+
+zeros_are_inks : (edge : List (List ℤ)) → 1 ≤ length edge → length edge ≤ 4 → AreZeros edge → AreInks edge
+zeros_are_inks edge some most z = record {
+  some_inks = some;
+  most_inks = most;
+  in_range = λ ink n. let Q : ℤ → Type 0 = λ e. InRange e in subst Q (sym (z.at ink n)) zero_fits;
+}
+
+pub zero_inks : (inks len : ℕ) (edge : List (List ℤ)) → 1 ≤ inks → inks ≤ 4 → edge ≡ replicate inks (replicate len (pos 0)) → AreInks edge
+zero_inks inks len edge some most is =
+    let long : length edge ≡ inks = ap length is ∙ length-replicate inks (replicate len (pos 0)) in
+    zeros_are_inks edge (omega arith) (omega arith) (zeros inks len edge is)

@@ -1,0 +1,10 @@
+use Rattle.std.proofs.Common.{arith}
+use Rattle.tile_border.proofs.InkSteps.{done_more, rest_more, same_all}
+use Rattle.tile_border.proofs.task.work.Goals as goal
+
+pub loop-ink-preserved : goal.loop-ink-preserved
+loop-ink-preserved c = record {
+  inks = c.work_ink.ensures.inks _ c.loop-ink.invariant.inks;
+  done = done_more _ _ _ c.loop-ink.ink _ _ _ c.work_ink.ensures c.loop-ink.invariant.done c.loop-ink.invariant.rest;
+  rest = rest_more _ _ _ c.loop-ink.ink _ _ _ c.work_ink.ensures c.loop-ink.invariant.rest;
+}

@@ -1,0 +1,13 @@
+use Rattle.std.proofs.Common.{ℕ, ◌<◌, ◌≤◌}
+use Rattle.tile_border.specs.Works.{Border, HasInks, SameInk, Works}
+use Rattle.tile_border.proofs.task.work.Given as goal
+
+abbrev pub invariant-loop-ink : goal.invariant-loop-ink
+invariant-loop-ink l =
+    let old : Border = record { side = l.initial.right; band = l.initial.bottom; corner = l.initial.corner; bits = l.initial.bits } in
+    let now : Border = record { side = l.right; band = l.bottom; corner = l.corner; bits = l.bits } in
+    record {
+      inks : HasInks l.rows.inks now;
+      done : (i : ℕ) → i < l.ink → Works l.kernel l.rows l.place i old now;
+      rest : (i : ℕ) → l.ink ≤ i → SameInk i old now;
+    }

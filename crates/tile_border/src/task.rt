@@ -1,0 +1,111 @@
+//! One tile in all its inks.
+ghost use Rattle.std.specs.Prelude.{ℕ, ◌<◌, ◌≡◌};
+ghost use Rattle.tile_border.specs.Works.{HasInks, Works, WorksInk};
+ghost use Rattle.tile_lanes.specs.Done.{window_of};
+ghost use Rattle.tile_shape.specs.Geometry.{IsTile};
+
+use crate::edges::{BottomEdge, CornerEdge, RightEdge};
+use diffusion_kernel::Kernel;
+use dot_planes::{InkRows, TileBits, TileDots};
+use tile_lanes::diffuse_tile;
+use tile_shape::Place;
+
+/// A tile, and what it is handed.
+#[derive(Drop)]
+pub struct Task {
+    /// The tile.
+    pub place: Place,
+    /// The right edge of the tile at its left.
+    pub left: RightEdge,
+    /// The bottom edge of the tile one column to the right in the band above.
+    pub above: BottomEdge,
+    /// The corner edge of the tile above.
+    pub corner: CornerEdge,
+    /// Room for its dots.
+    pub dots: TileDots,
+}
+
+/// A tile, and what it hands on.
+#[derive(Drop)]
+pub struct Done {
+    /// The tile.
+    pub place: Place,
+    /// Its dots.
+    pub dots: TileDots,
+    /// Its right edge.
+    pub right: RightEdge,
+    /// Its bottom edge.
+    pub bottom: BottomEdge,
+    /// Its corner edge.
+    pub corner: CornerEdge,
+}
+
+/// Diffuses the pixels of a tile, in each ink of the rows. The edges and the dots of the task have as many inks.
+pub fn work(task: Task, rows: &InkRows, kernel: Kernel) -> Done
+    requires tile { IsTile (window_of rows.now) task.place }
+    requires inks { HasInks rows.now.inks (record { side = task.left; band = task.above; corner = task.corner; bits = task.dots.bits }) }
+    ensures place { result.place ≡ task.place }
+    ensures dots_place { result.dots.place ≡ task.place }
+    ensures inks { HasInks rows.now.inks (record { side = result.right; band = result.bottom; corner = result.corner; bits = result.dots.bits }) }
+    ensures works { (i : ℕ) → i < rows.now.inks → Works kernel rows.now task.place i
+        (record { side = task.left; band = task.above; corner = task.corner; bits = task.dots.bits })
+        (record { side = result.right; band = result.bottom; corner = result.corner; bits = result.dots.bits }) }
+{
+    let Task {
+        place,
+        left: mut right,
+        above: mut bottom,
+        mut corner,
+        dots: TileDots { mut bits, .. },
+    } = task;
+    for ink in 0..rows.inks() {
+        work_ink(
+            kernel,
+            place,
+            rows,
+            ink,
+            &mut right,
+            &mut bottom,
+            &mut corner,
+            &mut bits,
+        );
+    }
+    Done {
+        place,
+        dots: TileDots { place, bits },
+        right,
+        bottom,
+        corner,
+    }
+}
+
+// Diffuses one ink of a tile. What it is handed becomes what it hands on, and all other inks stay.
+fn work_ink(
+    kernel: Kernel,
+    place: Place,
+    rows: &InkRows,
+    ink: u8,
+    side: &mut RightEdge,
+    band: &mut BottomEdge,
+    corner: &mut CornerEdge,
+    bits: &mut TileBits,
+)
+    requires tile { IsTile (window_of rows.now) place }
+    requires ink { ink < rows.now.inks }
+    requires inks { HasInks rows.now.inks (record { side = side.old; band = band.old; corner = corner.old; bits = bits.old }) }
+    ensures { WorksInk kernel rows.now place ink
+        (record { side = side.old; band = band.old; corner = corner.old; bits = bits.old })
+        (record { side = side.new; band = band.new; corner = corner.new; bits = bits.new }) }
+{
+    let at = usize::from(ink);
+    diffuse_tile(
+        kernel,
+        place,
+        rows,
+        ink,
+        &mut side.inks[at],
+        &mut band.inks[at],
+        &mut corner.inks[at],
+        bits.ink_mut(ink),
+    );
+}

@@ -1,0 +1,336 @@
+//! Tiles against the rule over whole windows, and against the tile taken row by row.
+ghost use Rattle.diffusion_definitions.specs.Diffusion.{EachInRange, InRange};
+ghost use Rattle.std.specs.Prelude.{true, ◌<◌, ◌≡◌};
+ghost use Rattle.tile_lanes.specs.Done.{window_of};
+ghost use Rattle.tile_shape.specs.Geometry.{IsTile};
+
+mod definition;
+
+use crate::{diffuse_tile, diffuse_tile_plainly};
+use definition::{Definition, Fill, amount_at};
+use diffusion_kernel::Kernel;
+use dot_planes::InkRows;
+use std::alloc::Global;
+use tile_shape::Place;
+
+/// A block of errors of a tile: those of its first row and its first offset on, row by row, in each so many.
+#[derive(Clone, Copy)]
+struct Block {
+    row: i64,
+    offset: i64,
+    wide: usize,
+}
+
+const LEFT: Block = Block {
+    row: 0,
+    offset: -6,
+    wide: 6,
+};
+
+const ABOVE: Block = Block {
+    row: -2,
+    offset: 0,
+    wide: 64,
+};
+
+const CORNER: Block = Block {
+    row: -2,
+    offset: -6,
+    wide: 6,
+};
+
+const RIGHT: Block = Block {
+    row: 0,
+    offset: 58,
+    wide: 6,
+};
+
+const BOTTOM: Block = Block {
+    row: 30,
+    offset: 0,
+    wide: 64,
+};
+
+const LOWER_CORNER: Block = Block {
+    row: 30,
+    offset: 58,
+    wide: 6,
+};
+
+/// What a tile is handed, or hands on.
+#[derive(Clone, Copy, PartialEq, Eq)]
+struct Edges {
+    side: [i16; 192],
+    band: [i16; 128],
+    corner: [i16; 12],
+}
+
+fn error_of(known: &Definition, place: Place, block: Block, n: usize) -> i32 {
+    let wide = block.wide.max(1);
+    let row = block.row.wrapping_add((n / wide % 64) as i64);
+    let offset = block.offset.wrapping_add((n % wide % 64) as i64);
+    let y = i64::from(place.j).wrapping_mul(32).wrapping_add(row);
+    let x = i64::from(place.c).wrapping_mul(64).wrapping_add(offset);
+    known.error(x.wrapping_sub(row.wrapping_mul(2)), y)
+}
+
+fn error_in_range(error: i32) -> i16
+    ensures { InRange result }
+{
+    error.min(2039).max(-2040) as i16
+}
+
+/// Fills an edge with the errors of a block.
+fn fill(known: &Definition, place: Place, block: Block, edge: &mut [i16])
+    requires { EachInRange edge.old }
+    ensures { EachInRange edge.new }
+{
+    for n in 0..edge.len() {
+        edge[n] = error_in_range(error_of(known, place, block, n));
+    }
+}
+
+/// Fills an edge with one error.
+fn fill_all(edge: &mut [i16], error: i32)
+    requires { EachInRange edge.old }
+    ensures { EachInRange edge.new }
+{
+    for n in 0..edge.len() {
+        edge[n] = error_in_range(error);
+    }
+}
+
+/// No errors.
+fn no_edges() -> Edges
+    ensures side { EachInRange result.side }
+    ensures band { EachInRange result.band }
+    ensures corner { EachInRange result.corner }
+{
+    Edges {
+        side: [0; 192],
+        band: [0; 128],
+        corner: [0; 12],
+    }
+}
+
+/// What a tile is handed.
+fn handed(known: &Definition, place: Place) -> Edges
+    ensures side { EachInRange result.side }
+    ensures band { EachInRange result.band }
+    ensures corner { EachInRange result.corner }
+{
+    let mut edges = no_edges();
+    fill(known, place, LEFT, &mut edges.side);
+    fill(known, place, ABOVE, &mut edges.band);
+    fill(known, place, CORNER, &mut edges.corner);
+    edges
+}
+
+fn is_block(known: &Definition, place: Place, block: Block, edge: &[i16]) -> bool {
+    for n in 0..edge.len() {
+        if i32::from(edge[n]) != error_of(known, place, block, n) {
+            return false;
+        }
+    }
+    true
+}
+
+fn has_dots(known: &Definition, place: Place, dots: &[u8; 256]) -> bool {
+    for n in 0..2048 {
+        let row = (n / 64) as i64;
+        let y = i64::from(place.j).wrapping_mul(32).wrapping_add(row);
+        let x = i64::from(place.c)
+            .wrapping_mul(64)
+            .wrapping_add((n % 64) as i64);
+        let dot = dots[n / 8] & (128u8 >> (n % 8)) != 0;
+        if dot != known.dot(x.wrapping_sub(row.wrapping_mul(2)), y) {
+            return false;
+        }
+    }
+    true
+}
+
+fn is_tile(rows: &InkRows, place: Place) -> bool
+    ensures tile { result ≡ true → IsTile (window_of rows.now) place }
+    ensures ink { result ≡ true → 0 < rows.now.inks }
+{
+    rows.width() < 8192
+        && place.c < (rows.width() + 62).div_ceil(64)
+        && place.j < rows.rows().div_ceil(32)
+        && rows.inks() > 0
+}
+
+/// Whether a tile hands on what the definition says, by both bodies.
+fn is_right(known: &Definition, kernel: Kernel, place: Place, rows: &InkRows) -> bool {
+    if !is_tile(rows, place) {
+        return false;
+    }
+    let mut edges = handed(known, place);
+    let mut dots = [255u8; 256];
+    let mut plain_edges = edges;
+    let mut plain_dots = [0u8; 256];
+    diffuse_tile(
+        kernel,
+        place,
+        rows,
+        0,
+        &mut edges.side,
+        &mut edges.band,
+        &mut edges.corner,
+        &mut dots,
+    );
+    diffuse_tile_plainly(
+        kernel,
+        place,
+        rows,
+        0,
+        &mut plain_edges.side,
+        &mut plain_edges.band,
+        &mut plain_edges.corner,
+        &mut plain_dots,
+    );
+    is_block(known, place, RIGHT, &edges.side)
+        && is_block(known, place, BOTTOM, &edges.band)
+        && is_block(known, place, LOWER_CORNER, &edges.corner)
+        && has_dots(known, place, &dots)
+        && edges == plain_edges
+        && dots == plain_dots
+}
+
+fn set_amounts(rows: &mut InkRows, fill: Fill) {
+    for y in 0..rows.rows() {
+        for x in 0..rows.width() {
+            if x < rows.width() && y < rows.rows() && rows.inks() > 0 {
+                rows.set(0, x, y, amount_at(fill, i64::from(x), i64::from(y)));
+            }
+        }
+    }
+}
+
+/// How many tiles of a window are wrong, or `None` where there is no memory.
+fn wrong_tiles(alloc: Global, kernel: Kernel, fill: Fill, width: u32, height: u32) -> Option<u32> {
+    if width < 1 || width > 200 || height < 1 || height > 70 {
+        return None;
+    }
+    let known = Definition::make(alloc, kernel, fill, width, height)?;
+    let Ok(mut rows) = InkRows::make(alloc, width, height, 1) else {
+        return None;
+    };
+    set_amounts(&mut rows, fill);
+    let mut wrong = 0u32;
+    for j in 0..height.div_ceil(32) {
+        for c in 0..(width + 62).div_ceil(64) {
+            if !is_right(&known, kernel, Place { c, j }, &rows) {
+                wrong = wrong.wrapping_add(1);
+            }
+        }
+    }
+    Some(wrong)
+}
+
+#[test]
+fn tiles_of_every_cut_have_the_errors_and_dots_of_the_rule(rt: HostRuntime) {
+    for kernel in [Kernel::Floyd, Kernel::Jarvis, Kernel::Stucki] {
+        for width in [1, 2, 63, 64, 65, 130, 200] {
+            for height in [1, 31, 32, 33, 70] {
+                let wrong = wrong_tiles(rt.alloc(), kernel, Fill::Mixed, width, height);
+                assert_eq!(rt; wrong, Some(0), "{kernel:?} at {width} by {height}");
+            }
+        }
+    }
+}
+
+#[test]
+fn even_amounts_have_the_errors_and_dots_of_the_rule(rt: HostRuntime) {
+    for kernel in [Kernel::Floyd, Kernel::Jarvis, Kernel::Stucki] {
+        for amount in [0, 127, 128, 255] {
+            let wrong = wrong_tiles(rt.alloc(), kernel, Fill::All(amount), 199, 69);
+            assert_eq!(rt; wrong, Some(0), "{kernel:?} of {amount}");
+        }
+    }
+}
+
+/// Whether both bodies give one answer at a place, whose edges all have one error.
+fn agree(kernel: Kernel, place: Place, rows: &InkRows, error: i32) -> bool {
+    if !is_tile(rows, place) {
+        return false;
+    }
+    let mut edges = no_edges();
+    fill_all(&mut edges.side, error);
+    fill_all(&mut edges.band, error);
+    fill_all(&mut edges.corner, error);
+    let mut plain = edges;
+    let mut dots = [255u8; 256];
+    let mut plain_dots = [0u8; 256];
+    diffuse_tile(
+        kernel,
+        place,
+        rows,
+        0,
+        &mut edges.side,
+        &mut edges.band,
+        &mut edges.corner,
+        &mut dots,
+    );
+    diffuse_tile_plainly(
+        kernel,
+        place,
+        rows,
+        0,
+        &mut plain.side,
+        &mut plain.band,
+        &mut plain.corner,
+        &mut plain_dots,
+    );
+    edges == plain && dots == plain_dots
+}
+
+#[test]
+fn the_least_and_greatest_errors_give_one_answer(rt: HostRuntime) {
+    let Ok(mut rows) = InkRows::make(rt.alloc(), 150, 40, 1) else {
+        assert!(rt; false);
+        return;
+    };
+    for fill in [Fill::Mixed, Fill::All(0), Fill::All(255)] {
+        set_amounts(&mut rows, fill);
+        for kernel in [Kernel::Floyd, Kernel::Jarvis, Kernel::Stucki] {
+            for (c, j, error) in [
+                (0, 0, -2040),
+                (0, 1, 2039),
+                (1, 0, 2039),
+                (1, 0, -2040),
+                (2, 1, -2040),
+                (3, 0, 2039),
+            ] {
+                let same = agree(kernel, Place { c, j }, &rows, error);
+                assert!(rt; same, "{kernel:?} of {fill:?} at {c}, {j}");
+            }
+        }
+    }
+}
+
+#[test]
+fn four_halves_give_every_other_dot(rt: HostRuntime) {
+    let Ok(mut rows) = InkRows::make(rt.alloc(), 4, 1, 1) else {
+        assert!(rt; false);
+        return;
+    };
+    set_amounts(&mut rows, Fill::All(128));
+    let place = Place { c: 0, j: 0 };
+    assert!(rt; is_tile(&rows, place));
+    let mut edges = no_edges();
+    let mut dots = [255u8; 256];
+    diffuse_tile(
+        Kernel::Floyd,
+        place,
+        &rows,
+        0,
+        &mut edges.side,
+        &mut edges.band,
+        &mut edges.corner,
+        &mut dots,
+    );
+    let mut want = [0u8; 256];
+    want[0] = 0xA0;
+    assert!(rt; dots == want);
+}
