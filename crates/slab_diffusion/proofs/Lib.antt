@@ -1,0 +1,4 @@
+pub mod Tops
+pub mod Edges
+pub mod TileSteps
+pub mod BandSteps

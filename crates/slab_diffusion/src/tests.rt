@@ -1,0 +1,1 @@
+//! Slabs against row-by-row diffusion.
