@@ -2,3 +2,4 @@ pub mod Tops
 pub mod Edges
 pub mod TileSteps
 pub mod BandSteps
+pub mod OrderSteps

@@ -1,2 +1,3 @@
 pub mod Slabs
 pub mod Hands
+pub mod Order

@@ -1,11 +1,14 @@
 //! The tiles of a band.
 ghost use Rattle.diffusion_kernel.specs.Tables.{table_of};
+ghost use Rattle.slab_diffusion.specs.Order.{IsWorkedTo};
 ghost use Rattle.slab_diffusion.specs.Hands.{HasRoom, WorksBand, WorksTile};
-ghost use Rattle.std.specs.Prelude.{◌+◌, ◌<◌, ◌≡◌, ◌≤◌};
+ghost use Rattle.std.specs.Prelude.{◌*◌, ◌+◌, ◌<◌, ◌≡◌, ◌≤◌};
 ghost use Rattle.tile_lanes.specs.Done.{window_of};
-ghost use Rattle.tile_shape.specs.Geometry.{IsTile, bands_of};
+ghost use Rattle.tile_shape.specs.Geometry.{IsTile, bands_of, columns_of};
 
 use crate::hands::{Hand, clear_right, cut_ends, take_above};
+use crate::order::{give_all, take_next};
+use board_core::Core;
 use diffusion_kernel::Kernel;
 use dot_planes::{InkRows, Planes, TileDots};
 use tile_border::{Task, work};
@@ -14,6 +17,7 @@ use tile_shape::Place;
 /// Diffuses band j below the edges at hand, and puts its dots into the planes, where the slab begins at row `at`. The
 /// bottom edges of its tiles are at hand then.
 pub(crate) fn diffuse_band(
+    core: &mut Core,
     hand: Hand,
     rows: &InkRows,
     kernel: Kernel,
@@ -22,17 +26,22 @@ pub(crate) fn diffuse_band(
     at: u32,
 ) -> Hand
     requires band { j < bands_of (window_of rows.now) }
+    requires core { IsWorkedTo (window_of rows.now) (j * columns_of (window_of rows.now)) core.old }
     requires room { HasRoom rows.now hand }
     requires width { out.old.width ≡ rows.now.width }
     requires inks { out.old.inks ≡ rows.now.inks }
     requires at { at + rows.now.rows ≤ out.old.rows }
-    ensures { WorksBand (table_of kernel) rows.now j at hand result out.old out.new }
+    ensures core { IsWorkedTo (window_of rows.now) ((j + 1) * columns_of (window_of rows.now)) core.new }
+    ensures band { WorksBand (table_of kernel) rows.now j at hand result out.old out.new }
 {
+    let shape = rows.shape();
     let mut hand = hand;
     clear_right(&mut hand.right);
     cut_ends(hand.bottoms.at(0), &mut hand.corner);
-    for c in 0..rows.shape().columns() {
-        hand = diffuse_tile(hand, rows, kernel, Place { c, j }, out, at);
+    for c in 0..shape.columns() {
+        let place = take_next(core);
+        hand = diffuse_tile(hand, rows, kernel, place, out, at);
+        give_all(core, shape, place);
     }
     hand
 }

@@ -3,6 +3,7 @@
 
 mod bands;
 mod hands;
+mod order;
 mod slabs;
 
 pub use slabs::diffuse_slab;

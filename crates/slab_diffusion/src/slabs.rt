@@ -5,6 +5,7 @@ ghost use Rattle.std.specs.Prelude.{IfOk, OnErr, ◌+◌, ◌≡◌, ◌≤◌};
 
 use crate::bands::diffuse_band;
 use crate::hands::hand_of;
+use board_core::Core;
 use diffusion_kernel::Kernel;
 use dot_planes::{InkRows, Planes};
 use std::alloc::Global;
@@ -30,9 +31,11 @@ pub fn diffuse_slab(
     ensures slab { IfOk result (λ bottom. DiffusesSlab (table_of kernel) rows.now top bottom at out.old out.new) }
     ensures unchanged { OnErr result (out.new ≡ out.old) }
 {
+    let shape = rows.shape();
+    let mut core = Core::make(alloc, shape)?;
     let mut hand = hand_of(alloc, top)?;
-    for j in 0..rows.shape().bands() {
-        hand = diffuse_band(hand, rows, kernel, j, out, at);
+    for j in 0..shape.bands() {
+        hand = diffuse_band(&mut core, hand, rows, kernel, j, out, at);
     }
     Ok(hand.bottoms)
 }
