@@ -1,9 +1,12 @@
 -- The first ready tile, looked for by numbers.
-use Rattle.std.proofs.Common.{◌≡◌, ℕ, ◌+◌, ◌*◌, ◌/◌, ◌%◌, ◌<◌, arith, inl, inr, sym, ◌∙◌, subst}
+use Rattle.std.proofs.Common.{◌≡◌, ◌≢◌, ◌⊎◌, slice_index_or, ℕ, ◌+◌, ◌*◌, ◌/◌, ◌%◌, ◌<◌, ap, arith, inl, inr, sym, ◌∙◌, subst}
 use Rattle.std.proofs.lemmas.Bool.{cases_eq}
 use Rattle.tile_shape.specs.Geometry.{bands_of, columns_of}
 use Rattle.tile_shape.specs.declared.tiles.Place.{Place}
-use Rattle.board_core.specs.States.{CoreState, number}
+use Rattle.board_core.specs.Inside.{state_of}
+use Rattle.board_core.specs.States.{CoreState, fresh, number, tile_at}
+use Rattle.board_core.specs.declared.scheduler.Core.TheInside.{Inside}
+use Rattle.board_core.specs.declared.tiles.Status.TheVariants.{Waiting}
 use Rattle.board_core.specs.Steps.{IsFirstReady, IsReadyTile}
 use Rattle.board_core.proofs.Idle.{place_number, place_of, place_tile}
 use Rattle.board_core.proofs.Numbers.{before_less, number_inside, same_place}
@@ -35,3 +38,9 @@ none_more core columns n is none unready q low r = elim (cases_eq (number core.s
       unready (subst R (sym is) (subst Q same r))
   | inr earlier ↦ none q (omega arith) r
 ]
+
+-- where none of the first tiles waits, none of them is ready
+pub none_waiting : (core : Inside) (q : Place) → ((n : ℕ) → n < core.begun → (slice_index_or core.tiles.items n fresh).status ≢ Waiting)
+    → number core.shape q < core.begun → ¬ IsReadyTile (state_of core) q
+unfolding tile_at
+none_waiting core q none low r = none (number core.shape q) low r.waiting

@@ -3,7 +3,8 @@ ghost use Rattle.board_core.specs.States.{number, start, tile_at};
 ghost use Rattle.board_core.specs.Steps.{Gives, IsAccepted, IsFirst, IsFirstReady, IsReadyTile, Lacks, LacksEdge, Owes, OwesEdge, after, with_tile};
 ghost use Rattle.board_core.specs.declared.events.Event.{Event};
 ghost use Rattle.board_core.specs.declared.events.Event.TheVariants.{Post, Send, Take};
-ghost use Rattle.std.specs.Prelude.{IfErr, IfNone, IfOk, IfSome, IsTrue, OnErr, OnOk, length, ◌<◌, ◌≡◌, ◌↔◌};
+ghost use Rattle.board_core.specs.declared.tiles.Status.TheVariants.{Waiting};
+ghost use Rattle.std.specs.Prelude.{IfErr, IfNone, IfOk, IfSome, IsTrue, OnErr, OnOk, length, ◌<◌, ◌≡◌, ◌≢◌, ◌↔◌};
 ghost use Rattle.tile_shape.specs.Geometry.{IsShape, IsTile};
 ghost use Rattle.tile_shape.specs.declared.tiles.Place.{Place};
 
@@ -20,6 +21,8 @@ pub struct Core {
     shape: Shape,
     // by band and then column
     tiles: Vec<TileState>,
+    // none of so many first tiles waits
+    begun: usize,
 }
 
 impl Model for Core {
@@ -49,7 +52,11 @@ impl Core {
     {
         let count = shape.columns() as usize * shape.bands() as usize;
         match vec![in alloc; FRESH; count] {
-            Ok(tiles) => Ok(Core { shape, tiles }),
+            Ok(tiles) => Ok(Core {
+                shape,
+                tiles,
+                begun: 0,
+            }),
             Err(_) => Err(Memory),
         }
     }
@@ -74,7 +81,8 @@ impl Core {
         ensures none { IfNone result ((p : Place) → ¬ IsReadyTile self.now p) }
     {
         let columns = self.shape.columns();
-        for n in 0..self.shape.bands() * columns {
+        let count = self.shape.bands() * columns;
+        for n in self.begun as u32..count {
             let place = Place {
                 c: n % columns,
                 j: n / columns,
@@ -180,12 +188,17 @@ impl Core {
         self.tiles[self.number(place)]
     }
 
+    // Puts what is kept of a tile that does not wait any more.
     fn put(&mut self, place: Place, tile: TileState)
-        requires { IsTile self.old.shape place }
+        requires tile { IsTile self.old.shape place }
+        requires begun { tile.status ≢ Waiting }
         ensures { self.new ≡ with_tile self.old place tile }
     {
         let at = self.number(place);
         self.tiles[at] = tile;
+        if at == self.begun {
+            self.begun += 1;
+        }
     }
 
     // How many tiles stand before one.

@@ -1,10 +1,12 @@
 //! Rows of amounts.
 ghost use Rattle.dot_planes.specs.Tables.{IsSize, Sets, amount};
+ghost use Rattle.tile_shape.specs.Geometry.{IsShape};
 ghost use Rattle.std.specs.Prelude.{IfOk, [], length, slice_index, ℕ, ◌+◌, ◌<◌, ◌∷◌, ◌≡◌, ◌≤◌};
 
 use crate::places::{row_of, row_start};
 use std::alloc::Global;
 use std::marker::Model;
+use tile_shape::Shape;
 use weave_base::Memory;
 
 /// Amounts of inks over rows, 0 to 255, ink by ink in the order of the printer's set. Contracts see a table of
@@ -50,6 +52,19 @@ impl InkRows {
         }
     }
 
+    /// Keeps room for fewer rows. What amounts they have then is not said.
+    pub fn shorten(&mut self, rows: u32)
+        requires some { 1 ≤ rows }
+        requires most { rows ≤ self.old.rows }
+        ensures width { self.new.width ≡ self.old.width }
+        ensures rows { self.new.rows ≡ rows }
+        ensures inks { self.new.inks ≡ self.old.inks }
+    {
+        let len = self.width as usize * rows as usize * usize::from(self.inks);
+        self.bytes.truncate(len);
+        self.rows = rows;
+    }
+
     /// Columns.
     pub fn width(&self) -> u32
         ensures { result ≡ self.now.width }
@@ -62,6 +77,17 @@ impl InkRows {
         ensures { result ≡ self.now.rows }
     {
         self.rows
+    }
+
+    /// The window that the rows cover.
+    pub fn shape(&self) -> Shape
+        ensures is { result ≡ record { width = self.now.width; height = self.now.rows } }
+        ensures sizes { IsShape result }
+    {
+        Shape {
+            width: self.width,
+            height: self.rows,
+        }
     }
 
     /// How many inks there are.

@@ -1,3 +1,2 @@
-pub mod Elements
-pub mod InkSteps
+pub mod SlabSteps
 pub mod Lines

@@ -1,33 +1,39 @@
 -- One more line of a page.
-use Rattle.std.proofs.Common.{◌≡◌, ◌⊎◌, ℕ, ◌+◌, ◌<◌, ◌≤◌, List, [], ◌∷◌, ◌++◌, Some, slice_get, length, get_or, refl, sym, ◌∙◌, ap, arith, inl, inr, subst, append_assoc, length-append, replicate, suc, zero}
-use Rattle.std.proofs.lemmas.Bool.{cases_eq}
+use Rattle.std.proofs.Common.{◌≡◌, ◌⊎◌, ℕ, ℤ, ◌+◌, ◌-◌, ◌<◌, ◌≤◌, Bool, false, List, [], ◌∷◌, ◌++◌, Some, slice_get, length, get_or, refl, sym, ◌∙◌, ap, arith, inl, inr, subst, append_assoc, length-append, replicate, suc, zero, pos}
+use Rattle.std.proofs.lemmas.Bool.{cases_lt}
 use Rattle.std.proofs.lemmas.List.{append-nil, get_or_at}
-use Rattle.std.proofs.lemmas.Option.{slice_get-get_or, slice_get_cases, slice_get_within}
-use Rattle.diffusion_definitions.specs.Diffusion.{Errors, Plane, Solves, Table, errors, no_top, on}
-use Rattle.diffusion_laws.proofs.Solve.{errors_solve}
+use Rattle.std.proofs.lemmas.Option.{slice_get_within}
+use Rattle.diffusion_definitions.specs.Diffusion.{Errors, Plane, Table, errors, no_top, on}
+use Rattle.diffusion_laws.proofs.Solve.{errors_top}
 use Rattle.diffusion_kernel.specs.Tables.{table_of}
-use Rattle.dot_planes.specs.Tables.{AmountTable, DotTable, dot}
+use Rattle.dot_planes.specs.Tables.{AmountTable, DotTable, amount, dot}
 use Rattle.printer_definitions.specs.Inks.{inks_of}
 use Rattle.printer_definitions.specs.declared.inks.Ink.{Ink}
 use Rattle.printer_profile.specs.Profiles.{printer_of}
 use Rattle.printer_profile.specs.declared.fields.Profile.{Profile}
 use Rattle.pwg_definitions.specs.declared.pages.PageForm.{PageForm}
-use Rattle.row_diffusion.specs.Errors.{IsReached, TwoRows}
 use Rattle.separation_definitions.specs.Amounts.{amount as amount_of, pixel_at}
-use Rattle.page_halftoner.specs.Halftones.{Halftoning, HasAmountsOf, IsSamePage, IsUpTo, StandsFor, plane_of, rows_done, window}
+use Rattle.slab_diffusion.specs.Slabs.{DiffusesSlab}
+use Rattle.tile_border.specs.Tops.{edges_of}
+use Rattle.tile_edges.specs.Tops.{IsBelow, top_of}
+use Rattle.page_halftoner.specs.Halftones.{Halftoning, HasAmountsOf, IsSamePage, IsUpTo, StandsFor, held, plane_of, rows_done, window}
+use Rattle.page_halftoner.specs.Slabs.{PutsLine}
+use Rattle.page_halftoner.proofs.SlabSteps.{row_more, slab_more}
 use Rattle.page_definitions.specs.Dots.{HasDots, halftone}
-use Rattle.page_halftoner.specs.Rows.{HasInkRow, IsRowDone}
 
 -- the halftoning after a line
-abbrev pub after : Halftoning → List TwoRows → DotTable → Halftoning
-after h errs planes = record {
+abbrev pub after : Halftoning → ℕ → DotTable → List (List (List ℤ)) → AmountTable → Bool → Halftoning
+after h diffused planes top slab failed = record {
   profile = h.profile;
   form = h.form;
   kernel = h.kernel;
   count = h.count + 1;
-  amounts = h.amounts;
-  errors = errs;
+  line = h.line;
+  diffused = diffused;
   planes = planes;
+  top = top;
+  slab = slab;
+  failed = failed;
 }
 
 -- a line and those that follow it, behind the lines so far
@@ -39,95 +45,139 @@ count_more lines line n e = omega (arith, length-append lines (line ∷ []))
 
 -- A line in a margin changes no row.
 pub in_margin : (h : Halftoning) (line : List ℕ) (lines : List (List ℕ)) → (h.count < (window h).top) ⊎ ((window h).top + (window h).height ≤ h.count)
-    → StandsFor h lines → StandsFor (after h h.errors h.planes) (lines ++ line ∷ [])
+    → StandsFor h lines → StandsFor (after h h.diffused h.planes h.top h.slab h.failed) (lines ++ line ∷ [])
 in_margin h line lines margin s =
     let rows_same : rows_done (window h) h.count ≡ rows_done (window h) (h.count + 1) = elim margin [
       | inl above ↦ omega arith
       | inr below ↦ omega arith
     ] in
+    let held_same : held h ≡ rows_done (window h) (h.count + 1) - h.diffused = ap (λ n. n - h.diffused) rows_same in
     record {
       count = count_more lines line h.count s.count;
-      inks = λ i ink rows more is at.
-          let Q : List (List ℕ) → Type 0 = λ ls. IsUpTo (table_of h.kernel) (plane_of h ink ls) (rows_done (window h) h.count) rows (dot h.planes i) in
-          let R : ℕ → Type 0 = λ n. IsUpTo (table_of h.kernel) (plane_of h ink ((lines ++ line ∷ []) ++ more)) n rows (dot h.planes i) in
-          subst R rows_same (subst Q (sym (behind lines line more)) (s.inks i ink rows (line ∷ more) is at));
+      inks = λ i ink more is.
+          let Q : List (List ℕ) → Type 0 = λ ls. IsUpTo (table_of h.kernel) (plane_of h ink ls) i h.diffused (held h) h.planes h.top h.slab in
+          let R : ℕ → Type 0 = λ n. IsUpTo (table_of h.kernel) (plane_of h ink ((lines ++ line ∷ []) ++ more)) i h.diffused n h.planes h.top h.slab in
+          subst R held_same (subst Q (sym (behind lines line more)) (s.inks i ink (line ∷ more) is));
+      few = omega (arith, s.few);
+      blank = s.blank;
     }
 
--- The amounts in hand are those of the row that the line is.
-has_ink_row : (h : Halftoning) (line : List ℕ) (lines more : List (List ℕ)) (i y : ℕ) (ink : Ink) → HasAmountsOf h line → length lines ≡ h.count
-    → (window h).top + y ≡ h.count → y < (window h).height → h.amounts.width ≡ (window h).width → slice_get (inks_of h.profile.inks) i ≡ Some ink
-    → HasInkRow h.amounts i (plane_of h ink (lines ++ (line ∷ more))) y
-has_ink_row h line lines more i y ink amounts count place low wide is =
-    let line_at : get_or (lines ++ (line ∷ more)) ((window h).top + y) [] ≡ line = get_or_at lines line more [] ((window h).top + y) (omega arith) in
-    record {
-      inside = low;
-      wide = wide;
-      are = λ x inside. amounts.are i ink is x inside ∙ ap (λ l. amount_of (printer_of h.profile) h.form.kind (pixel_at h.form.kind l ((window h).left + x)) ink) (sym line_at);
-    }
+-- What is known where a line is the next row of the window, and was put behind the rows held.
+pub record IsNextRow (h : Halftoning) (line : List ℕ) (y : ℕ) (slab : AmountTable) : Type 0 where
+  pub place : (window h).top + y ≡ h.count
+  pub inside : y < (window h).height
+  pub amounts : HasAmountsOf h line
+  pub puts : PutsLine h.line (y - h.diffused) h.slab slab
+  pub from : h.diffused ≤ y
+  pub room : y < h.diffused + h.slab.rows
+  pub few : h.slab.rows ≤ 256
+  pub wide : h.slab.width ≡ (window h).width
+  pub inks : h.slab.inks ≡ length (inks_of h.profile.inks)
 
--- One row more of an ink.
-row_more : (k : Table) (p : Plane) (y : ℕ) (amounts : AmountTable) (i : ℕ) (before after_row : TwoRows) (errs errs' : List TwoRows) (old new : DotTable)
-    → IsRowDone k amounts y errs errs' old new → HasInkRow amounts i p y → y < old.rows → slice_get errs i ≡ Some before → slice_get errs' i ≡ Some after_row
-    → IsUpTo k p y before (dot old i) → IsUpTo k p (y + 1) after_row (dot new i)
-row_more k p y amounts i before after_row errs errs' old new done has low at at' up =
-    let e : Errors = errors k p no_top in
-    let solves : Solves k p e = errors_solve k p no_top in
-    record {
-      reached = done.reached i before after_row at at' p e has solves up.reached;
-      dots_are = λ r x below inside. elim (cases_eq r y) [
-        | inl here ↦ ap (λ m. dot new i m x) here ∙ done.dots i before at p e has solves up.reached x inside ∙ ap (λ m. on k p e m x) (sym here)
-        | inr other ↦ done.others i r x other (omega arith) ∙ up.dots_are r x (omega arith) inside
-      ];
-    }
+-- Then it is held too.
+held_more : (h : Halftoning) (line : List ℕ) (lines more : List (List ℕ)) (y i : ℕ) (ink : Ink) (slab : AmountTable) → IsNextRow h line y slab → StandsFor h lines
+    → slice_get (inks_of h.profile.inks) i ≡ Some ink
+    → IsUpTo (table_of h.kernel) (plane_of h ink ((lines ++ line ∷ []) ++ more)) i h.diffused (y - h.diffused + 1) h.planes h.top slab
+held_more h line lines more y i ink slab next s is =
+    let n : ℕ = y - h.diffused in
+    let ls : List (List ℕ) = lines ++ (line ∷ more) in
+    let held_is : held h ≡ n = omega (arith, next.place, next.inside, next.from) in
+    let row : h.diffused + n ≡ y = omega (arith, next.from) in
+    let line_at : get_or ls ((window h).top + y) [] ≡ line = get_or_at lines line more [] ((window h).top + y) (omega (arith, s.count, next.place)) in
+    let P : ℕ → Type 0 = λ m. IsUpTo (table_of h.kernel) (plane_of h ink ls) i h.diffused m h.planes h.top h.slab in
+    let up = subst P held_is (s.inks i ink (line ∷ more) is) in
+    let Q : List (List ℕ) → Type 0 = λ all. IsUpTo (table_of h.kernel) (plane_of h ink all) i h.diffused (n + 1) h.planes h.top slab in
+    subst Q (sym (behind lines line more)) (row_more (table_of h.kernel) (plane_of h ink ls) i h.diffused n h.planes h.top h.slab slab h.line up next.puts
+    (omega (arith, next.inks, slice_get_within (inks_of h.profile.inks) i ink is)) next.wide (omega (arith, next.from, next.room))
+    (λ x across. next.amounts.are i ink is x across
+    ∙ ap (λ l. amount_of (printer_of h.profile) h.form.kind (pixel_at h.form.kind l ((window h).left + x)) ink) (sym line_at)
+    ∙ ap (λ m. (plane_of h ink ls).amount m x) (sym row)))
 
--- A line in the window is the next row.
-pub in_window : (h : Halftoning) (line : List ℕ) (lines : List (List ℕ)) (y : ℕ) (errs : List TwoRows) (planes : DotTable)
-    → (window h).top + y ≡ h.count → y < (window h).height → h.amounts.width ≡ (window h).width → h.planes.rows ≡ (window h).height
-    → IsRowDone (table_of h.kernel) h.amounts y h.errors errs h.planes planes → HasAmountsOf h line
-    → StandsFor h lines → StandsFor (after h errs planes) (lines ++ line ∷ [])
-in_window h line lines y errs planes place low wide tall done amounts s =
-    let k : Table = table_of h.kernel in
-    let rows_old : rows_done (window h) h.count ≡ y = omega arith in
-    let rows_new : y + 1 ≡ rows_done (window h) (h.count + 1) = omega arith in
+-- A row is held in a slab that is not full.
+pub in_slab : (h : Halftoning) (line : List ℕ) (lines : List (List ℕ)) (y : ℕ) (slab : AmountTable) → IsNextRow h line y slab → StandsFor h lines
+    → StandsFor (after h h.diffused h.planes h.top slab h.failed) (lines ++ line ∷ [])
+in_slab h line lines y slab next s =
+    let held_is : y - h.diffused + 1 ≡ rows_done (window h) (h.count + 1) - h.diffused = omega (arith, next.place, next.inside, next.from) in
     record {
       count = count_more lines line h.count s.count;
-      inks = λ i ink rows more is at.
-          let inside : i < length h.errors = omega (arith, done.len, slice_get_within errs i rows at) in
-          let before : TwoRows = get_or h.errors i rows in
-          let before_at : slice_get h.errors i ≡ Some before = slice_get-get_or h.errors i rows inside in
-          let p : Plane = plane_of h ink (lines ++ (line ∷ more)) in
-          let has : HasInkRow h.amounts i p y = has_ink_row h line lines more i y ink amounts s.count place low wide is in
-          let up : IsUpTo k p y before (dot h.planes i) = (let P : ℕ → Type 0 = λ n. IsUpTo k p n before (dot h.planes i) in subst P rows_old (s.inks i ink before (line ∷ more) is before_at)) in
-          let now : IsUpTo k p (y + 1) rows (dot planes i) = row_more k p y h.amounts i before rows h.errors errs h.planes planes done has (omega arith) before_at at up in
-          let Q : List (List ℕ) → Type 0 = λ ls. IsUpTo k (plane_of h ink ls) (y + 1) rows (dot planes i) in
-          let R : ℕ → Type 0 = λ n. IsUpTo k (plane_of h ink ((lines ++ line ∷ []) ++ more)) n rows (dot planes i) in
-          subst R rows_new (subst Q (sym (behind lines line more)) now);
+      inks = λ i ink more is.
+          let R : ℕ → Type 0 = λ n. IsUpTo (table_of h.kernel) (plane_of h ink ((lines ++ line ∷ []) ++ more)) i h.diffused n h.planes h.top slab in
+          subst R held_is (held_more h line lines more y i ink slab next s is);
+      few = omega (arith, held_is, next.room, next.from, next.few);
+      blank = s.blank;
     }
 
--- Before the first line no row is reached.
-pub at_top : (h : Halftoning) → h.count ≡ 0 → ((i : ℕ) (rows : TwoRows) → slice_get h.errors i ≡ Some rows → IsReached rows no_top 0) → StandsFor h []
-unfolding errors
-at_top h none top =
-    let rows_none : 0 ≡ rows_done (window h) h.count = omega arith in
+-- What is known where this row fills the slab, and it is diffused.
+pub record IsFull (h : Halftoning) (y : ℕ) (rows : AmountTable) (top bottom : List (List (List ℤ))) (planes : DotTable) : Type 0 where
+  pub top_is : top ≡ h.top
+  pub full : y + 1 ≡ h.diffused + rows.rows
+  pub some : 1 ≤ rows.rows
+  pub whole : h.diffused + rows.rows < (window h).height → rows.rows ≡ 256
+  pub tall : h.planes.rows ≡ (window h).height
+  pub done : DiffusesSlab (table_of h.kernel) rows top bottom h.diffused h.planes planes
+
+-- Then no row is held.
+pub slab_full : (h : Halftoning) (line : List ℕ) (lines : List (List ℕ)) (y : ℕ) (rows rows' : AmountTable) (top bottom : List (List (List ℤ))) (planes : DotTable) (failed : Bool)
+    → IsNextRow h line y rows → IsFull h y rows top bottom planes → StandsFor h lines
+    → StandsFor (after h (y + 1) planes bottom rows' failed) (lines ++ line ∷ [])
+slab_full h line lines y rows rows' top bottom planes failed next all s =
+    let none : 0 ≡ rows_done (window h) (h.count + 1) - (y + 1) = omega (arith, next.place, next.inside) in
+    record {
+      count = count_more lines line h.count s.count;
+      inks = λ i ink more is.
+          let p : Plane = plane_of h ink ((lines ++ line ∷ []) ++ more) in
+          let full : y - h.diffused + 1 ≡ rows.rows = omega (arith, all.full, next.from) in
+          let P : ℕ → Type 0 = λ n. IsUpTo (table_of h.kernel) p i h.diffused n h.planes h.top rows in
+          let T : List (List (List ℤ)) → Type 0 = λ edges. IsUpTo (table_of h.kernel) p i h.diffused rows.rows h.planes edges rows in
+          let up = subst T (sym all.top_is) (subst P full (held_more h line lines more y i ink rows next s is)) in
+          let now = slab_more (table_of h.kernel) p i h.diffused rows rows' top bottom h.planes planes all.done up
+          (omega (arith, next.puts.size.inks, next.inks, slice_get_within (inks_of h.profile.inks) i ink is)) (next.puts.size.width ∙ next.wide) all.some
+          (omega (arith, all.full, next.inside)) all.tall all.whole in
+          let D : ℕ → Type 0 = λ n. IsUpTo (table_of h.kernel) p i n 0 planes bottom rows' in
+          let R : ℕ → Type 0 = λ n. IsUpTo (table_of h.kernel) p i (y + 1) n planes bottom rows' in
+          subst R none (subst D (sym all.full) now);
+      few = omega (arith, none);
+      blank = λ i r x low inside.
+          let size : planes.rows ≡ h.planes.rows = all.done.size.rows in
+          all.done.others i r x (omega (arith, size)) (inr (omega (arith, all.full))) ∙ s.blank i r x (omega (arith, next.from)) (omega (arith, size));
+    }
+
+-- Before the first line nothing is diffused or held.
+pub at_top : (h : Halftoning) → h.count ≡ 0 → h.diffused ≡ 0 → ((i t n : ℕ) → top_of (edges_of h.top i) t n ≡ pos 0) → ((i y x : ℕ) → dot h.planes i y x ≡ false)
+    → StandsFor h []
+at_top h none first zeros blank =
+    let held_none : 0 ≡ held h = omega (arith, none, first) in
     record {
       count = sym none;
-      inks = λ i ink rows more is at.
+      inks = λ i ink more is.
           let k : Table = table_of h.kernel in
           let p : Plane = plane_of h ink more in
-          let up = top i rows at in
-          let first : IsReached rows (errors k p no_top) 0 = record { up2 = record { at = up.up2.at }; up1 = record { at = up.up1.at } } in
-          let start : IsUpTo k p 0 rows (dot h.planes i) = record { reached = first; dots_are = λ r x below inside. absurd (omega arith) } in
-          let R : ℕ → Type 0 = λ n. IsUpTo k p n rows (dot h.planes i) in
-          subst R rows_none start;
+          let top : Errors → Type 0 = λ e. IsBelow (edges_of h.top i) e in
+          let start : IsUpTo k p i 0 0 h.planes h.top h.slab = record {
+            dots = λ y x low across. absurd (omega arith);
+            errors_are = λ some t n two. above k p t n two ∙ sym (zeros i t n);
+            amounts = λ y x low across. absurd (omega arith);
+          } in
+          let D : ℕ → Type 0 = λ n. IsUpTo k p i n 0 h.planes h.top h.slab in
+          let R : ℕ → Type 0 = λ n. IsUpTo k p i h.diffused n h.planes h.top h.slab in
+          subst R held_none (subst D (sym first) start);
+      few = omega (arith, held_none);
+      blank = λ i y x low inside. blank i y x;
     }
+  where
+    above : (k : Table) (p : Plane) (t n : ℕ) → t < 2 → errors k p no_top (0 + t) n ≡ pos 0
+    above k p zero n two = (errors_top k p no_top n).0
+    above k p (suc zero) n two = (errors_top k p no_top n).1
+    above k p (suc (suc t)) n two = absurd (omega arith)
 
 -- the amounts in hand do not depend on lines and dots
-pub amounts_kept : (h h' : Halftoning) (line : List ℕ) → IsSamePage h h' → h'.amounts ≡ h.amounts → HasAmountsOf h line → HasAmountsOf h' line
-amounts_kept h h' line same amounts_same a =
-    let by_profile : Profile → Type 0 = λ q. HasAmountsOf (record { profile = q; form = h.form; kernel = h.kernel; count = h.count; amounts = h.amounts; errors = h.errors; planes = h.planes }) line in
-    let by_form : PageForm → Type 0 = λ f. HasAmountsOf (record { profile = h'.profile; form = f; kernel = h.kernel; count = h.count; amounts = h.amounts; errors = h.errors; planes = h.planes }) line in
-    let by_amounts : AmountTable → Type 0 = λ t. HasAmountsOf (record { profile = h'.profile; form = h'.form; kernel = h.kernel; count = h.count; amounts = t; errors = h.errors; planes = h.planes }) line in
-    let now = subst by_amounts (sym amounts_same) (subst by_form (sym same.form) (subst by_profile (sym same.profile) (record { are = a.are }))) in
+pub amounts_kept : (h h' : Halftoning) (line : List ℕ) → IsSamePage h h' → h'.line ≡ h.line → HasAmountsOf h line → HasAmountsOf h' line
+amounts_kept h h' line same line_same a =
+    let with : Profile → PageForm → AmountTable → Halftoning = λ q f t. record { profile = q; form = f; kernel = h.kernel; count = h.count; line = t; diffused = h.diffused; planes = h.planes; top = h.top; slab = h.slab; failed = h.failed } in
+    let by_profile : Profile → Type 0 = λ q. HasAmountsOf (with q h.form h.line) line in
+    let by_form : PageForm → Type 0 = λ f. HasAmountsOf (with h'.profile f h.line) line in
+    let by_line : AmountTable → Type 0 = λ t. HasAmountsOf (with h'.profile h'.form t) line in
+    let now = subst by_line (sym line_same) (subst by_form (sym same.form) (subst by_profile (sym same.profile) (record { are = a.are }))) in
     record { are = now.are }
 
 -- a line once more behind its repeats
@@ -140,21 +190,16 @@ repeats_more lines n line =
     once_more zero = refl
     once_more (suc m) = ap (λ (ls : List (List ℕ)). line ∷ ls) (once_more m)
 
--- After the last line of the page each row of the window is reached.
-pub whole_page : (h : Halftoning) (lines : List (List ℕ)) → StandsFor h lines → rows_done (window h) h.count ≡ (window h).height
-    → h.planes.width ≡ (window h).width → h.planes.rows ≡ (window h).height → h.planes.inks ≡ length (inks_of h.profile.inks) → length h.errors ≡ length (inks_of h.profile.inks)
+-- After the last line of the page each row of the window is diffused.
+pub whole_page : (h : Halftoning) (lines : List (List ℕ)) → StandsFor h lines → h.diffused ≡ (window h).height
+    → h.planes.width ≡ (window h).width → h.planes.rows ≡ (window h).height → h.planes.inks ≡ length (inks_of h.profile.inks)
     → HasDots (printer_of h.profile) (halftone (record { form = h.form; lines = lines }) (printer_of h.profile) (table_of h.kernel)) h.planes.width h.planes.rows h.planes.inks (dot h.planes)
-whole_page h lines s all wide tall inks errors_len = record {
+whole_page h lines s all wide tall inks = record {
   width_is = wide;
   rows_is = tall;
   inks_is = inks;
   dots = λ i y x ink is low inside.
-      let below : i < length h.errors = omega (arith, errors_len, slice_get_within (inks_of h.profile.inks) i ink is) in
-      elim ((slice_get_cases h.errors i).1) [
-        | inl found ↦
-            let up = s.inks i ink found.0 [] is found.2 in
-            let Q : List (List ℕ) → Type 0 = λ ls. dot h.planes i y x ≡ on (table_of h.kernel) (plane_of h ink ls) (errors (table_of h.kernel) (plane_of h ink ls) no_top) y x in
-            subst Q (append-nil lines) (up.dots_are y x (omega (arith, all)) inside)
-        | inr past ↦ absurd (omega (arith, past.0))
-      ];
+      let up = s.inks i ink [] is in
+      let Q : List (List ℕ) → Type 0 = λ ls. dot h.planes i y x ≡ on (table_of h.kernel) (plane_of h ink ls) (errors (table_of h.kernel) (plane_of h ink ls) no_top) y x in
+      subst Q (append-nil lines) (up.dots y x (omega (arith, all)) inside);
 }

@@ -1,5 +1,5 @@
 -- Pages that are halftoned line by line.
-use Rattle.std.specs.Prelude.{◌≡◌, ℕ, ◌+◌, ◌-◌, ◌<◌, Bool, List, ◌++◌, Some, length, min, slice_get}
+use Rattle.std.specs.Prelude.{◌≡◌, ℕ, ℤ, ◌+◌, ◌-◌, ◌<◌, ◌≤◌, Bool, false, List, ◌++◌, Some, length, min, slice_get}
 use Rattle.diffusion_definitions.specs.Diffusion.{Plane, Table, errors, no_top, on}
 use Rattle.diffusion_kernel.specs.Tables.{table_of}
 use Rattle.diffusion_kernel.specs.declared.tables.Kernel.{Kernel}
@@ -9,21 +9,26 @@ use Rattle.printer_definitions.specs.declared.inks.Ink.{Ink}
 use Rattle.printer_profile.specs.Profiles.{printer_of}
 use Rattle.printer_profile.specs.declared.fields.Profile.{Profile}
 use Rattle.pwg_definitions.specs.declared.pages.PageForm.{PageForm}
-use Rattle.row_diffusion.specs.Errors.{IsReached, TwoRows}
 use Rattle.separation_definitions.specs.Amounts.{amount as amount_of, ink_plane, pixel_at}
 use Rattle.separation_definitions.specs.Windows.{window_of}
 use Rattle.separation_definitions.specs.declared.window.Window.{Window}
+use Rattle.tile_border.specs.Tops.{edges_of}
+use Rattle.tile_edges.specs.Tops.{IsBelow}
 
--- A page on the way: what it is printed by, how many lines there were, the amounts of the last of them, the errors of
--- each ink above the next row, and the dots so far.
+-- A page on the way: what it is printed by, how many lines there were, the amounts of the last of them, how many rows of
+-- the window were diffused, the dots so far, the bottom edges of the last diffused rows, the amounts of the rows after
+-- them, and whether memory was wanting.
 pub record Halftoning : Type 0 where
   pub profile : Profile
   pub form : PageForm
   pub kernel : Kernel
   pub count : ℕ
-  pub amounts : AmountTable
-  pub errors : List TwoRows
+  pub line : AmountTable
+  pub diffused : ℕ
   pub planes : DotTable
+  pub top : List (List (List ℤ))
+  pub slab : AmountTable
+  pub failed : Bool
 
 abbrev pub window : Halftoning → Window
 window h = window_of h.form (printer_of h.profile)
@@ -32,25 +37,36 @@ window h = window_of h.form (printer_of h.profile)
 abbrev pub rows_done : Window → ℕ → ℕ
 rows_done w count = min (count - w.top) w.height
 
+-- how many of them are held until they are diffused
+abbrev pub held : Halftoning → ℕ
+held h = rows_done (window h) h.count - h.diffused
+
 -- the amounts of an ink over the window, on a page with these lines
 abbrev pub plane_of : Halftoning → Ink → List (List ℕ) → Plane
 plane_of h ink lines = ink_plane (record { form = h.form; lines = lines }) (printer_of h.profile) ink
 
--- An ink's errors above row y of a plane, and its dots in the rows before it.
-pub record IsUpTo (k : Table) (p : Plane) (y : ℕ) (rows : TwoRows) (dots : ℕ → ℕ → Bool) : Type 0 where
-  pub reached : IsReached rows (errors k p no_top) y
-  pub dots_are : (r x : ℕ) → r < y → x < p.width → dots r x ≡ on k p (errors k p no_top) r x
+-- An ink of a plane, of which some rows were diffused and some are held behind them.
+pub record IsUpTo (k : Table) (p : Plane) (i diffused held : ℕ) (planes : DotTable) (top : List (List (List ℤ))) (slab : AmountTable) : Type 0 where
+  -- the dots of the diffused rows
+  pub dots : (y x : ℕ) → y < diffused → x < p.width → dot planes i y x ≡ on k p (errors k p no_top) y x
+  -- while rows are left, the top has the errors of the last two diffused rows, 0 above the first
+  pub errors_are : diffused < p.height → IsBelow (edges_of top i) (λ t. errors k p no_top (diffused + t))
+  -- the amounts of the rows held
+  pub amounts : (y x : ℕ) → y < held → x < p.width → amount slab i y x ≡ p.amount (diffused + y) x
 
--- The halftoning stands for the lines so far: whatever lines follow, each ink's errors and dots are those of the page.
+-- The halftoning stands for the lines so far: whatever lines follow, each ink's dots, errors and amounts are those of the
+-- page. At most 256 rows are held, and the other rows of the planes have no dots.
 pub record StandsFor (h : Halftoning) (lines : List (List ℕ)) : Type 0 where
   pub count : length lines ≡ h.count
-  pub inks : (i : ℕ) (ink : Ink) (rows : TwoRows) (more : List (List ℕ)) → slice_get (inks_of h.profile.inks) i ≡ Some ink → slice_get h.errors i ≡ Some rows
-      → IsUpTo (table_of h.kernel) (plane_of h ink (lines ++ more)) (rows_done (window h) h.count) rows (dot h.planes i)
+  pub inks : (i : ℕ) (ink : Ink) (more : List (List ℕ)) → slice_get (inks_of h.profile.inks) i ≡ Some ink
+      → IsUpTo (table_of h.kernel) (plane_of h ink (lines ++ more)) i h.diffused (held h) h.planes h.top h.slab
+  pub few : held h ≤ 256
+  pub blank : (i y x : ℕ) → h.diffused ≤ y → y < h.planes.rows → dot h.planes i y x ≡ false
 
 -- the amounts are those of a line
 pub record HasAmountsOf (h : Halftoning) (line : List ℕ) : Type 0 where
   pub are : (i : ℕ) (ink : Ink) → slice_get (inks_of h.profile.inks) i ≡ Some ink → (x : ℕ) → x < (window h).width
-      → amount h.amounts i 0 x ≡ amount_of (printer_of h.profile) h.form.kind (pixel_at h.form.kind line ((window h).left + x)) ink
+      → amount h.line i 0 x ≡ amount_of (printer_of h.profile) h.form.kind (pixel_at h.form.kind line ((window h).left + x)) ink
 
 -- the same printer, form and kernel
 pub record IsSamePage (old new : Halftoning) : Type 0 where

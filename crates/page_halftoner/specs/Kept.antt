@@ -1,13 +1,24 @@
 -- What stands in a halftoner.
-use Rattle.std.specs.Prelude.{◌≡◌, ◌+◌, ◌/◌, ◌≤◌, IsOk, length}
+use Rattle.std.specs.Prelude.{◌≡◌, ℕ, ℤ, ◌+◌, ◌<◌, ◌≤◌, Bool, true, false, IsOk, List, [], Option, Some, None, length}
 use Rattle.printer_definitions.specs.Inks.{inks_of}
 use Rattle.printer_profile.specs.Profiles.{printer_of}
 use Rattle.printer_profile.specs.Validity.{check}
 use Rattle.pwg_definitions.specs.Header.{IsWanted}
-use Rattle.separation_definitions.specs.Windows.{wanted_by}
-use Rattle.page_halftoner.specs.Halftones.{Halftoning, window}
-use Rattle.page_halftoner.specs.Rows.{AreWide}
+use Rattle.separation_definitions.specs.Windows.{wanted_by, window_of}
+use Rattle.separation_definitions.specs.declared.window.Window.{Window}
+use Rattle.slab_diffusion.specs.Slabs.{IsTopOf}
+use Rattle.page_halftoner.specs.Halftones.{Halftoning, rows_done}
 use Rattle.page_halftoner.specs.declared.halftoner.Halftoner.TheInside.{Inside}
+
+-- the edges of a top, where there is one
+abbrev pub edges_in : Option (List (List (List ℤ))) → List (List (List ℤ))
+edges_in None = []
+edges_in (Some top) = top
+
+-- a top is wanting
+abbrev pub is_wanting : Option (List (List (List ℤ))) → Bool
+is_wanting None = true
+is_wanting (Some top) = false
 
 abbrev pub halftoning : Inside → Halftoning
 halftoning h = record {
@@ -15,22 +26,36 @@ halftoning h = record {
   form = h.form;
   kernel = h.kernel;
   count = h.count;
-  amounts = h.amounts;
-  errors = h.errors.items;
+  line = h.line;
+  diffused = h.diffused;
   planes = h.planes;
+  top = edges_in h.top;
+  slab = h.slab;
+  failed = is_wanting h.top;
 }
 
--- The profile passes its checks, the printer takes the page, and there is room for the window's rows and all inks.
+abbrev pub window_in : Inside → Window
+window_in h = window_of h.form (printer_of h.profile)
+
+-- The profile passes its checks, the printer takes the page, and there is room for the window's rows in all inks.
 pub record IsReady (h : Inside) : Type 0 where
   pub checked : IsOk (check h.profile)
   pub wanted : IsWanted (wanted_by (printer_of h.profile)) h.form
   pub few : h.count ≤ h.form.height
-  pub amounts_width : h.amounts.width ≡ (window (halftoning h)).width
-  pub amounts_rows : h.amounts.rows ≡ 1
-  pub amounts_inks : h.amounts.inks ≡ length (inks_of h.profile.inks)
-  pub errors_len : length h.errors.items ≡ length (inks_of h.profile.inks)
-  pub errors_wide : AreWide (window (halftoning h)).width h.errors.items
-  pub packed_len : length h.packed.items ≡ ((window (halftoning h)).width + 7) / 8
-  pub planes_width : h.planes.width ≡ (window (halftoning h)).width
-  pub planes_rows : h.planes.rows ≡ (window (halftoning h)).height
+  pub line_width : h.line.width ≡ (window_in h).width
+  pub line_rows : h.line.rows ≡ 1
+  pub line_inks : h.line.inks ≡ length (inks_of h.profile.inks)
+  pub slab_width : h.slab.width ≡ (window_in h).width
+  pub slab_inks : h.slab.inks ≡ length (inks_of h.profile.inks)
+  -- a slab has 256 rows, or those that are left
+  pub slab_some : 1 ≤ h.slab.rows
+  pub slab_most : h.slab.rows ≤ 256
+  pub slab_in : h.diffused < (window_in h).height → h.diffused + h.slab.rows ≤ (window_in h).height
+  pub slab_whole : h.diffused + h.slab.rows < (window_in h).height → h.slab.rows ≡ 256
+  -- the rows so far are diffused, or held in a slab that is not full
+  pub from : h.diffused ≤ rows_done (window_in h) h.count
+  pub room : rows_done (window_in h) h.count < h.diffused + h.slab.rows
+  pub top_is : (top : List (List (List ℤ))) → h.top ≡ Some top → IsTopOf (window_in h).width (length (inks_of h.profile.inks)) top
+  pub planes_width : h.planes.width ≡ (window_in h).width
+  pub planes_rows : h.planes.rows ≡ (window_in h).height
   pub planes_inks : h.planes.inks ≡ length (inks_of h.profile.inks)

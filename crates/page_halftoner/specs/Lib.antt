@@ -1,3 +1,3 @@
 pub mod Halftones
-pub mod Rows
+pub mod Slabs
 pub mod Kept

@@ -2,43 +2,46 @@
 ghost use Rattle.diffusion_kernel.specs.Tables.{table_of};
 ghost use Rattle.dot_planes.specs.Tables.{dot};
 ghost use Rattle.page_definitions.specs.Dots.{HasDots, halftone};
-ghost use Rattle.page_halftoner.specs.Halftones.{HasAmountsOf, IsSamePage, StandsFor};
-ghost use Rattle.page_halftoner.specs.Rows.{AreAtTop, AreWide};
+ghost use Rattle.page_halftoner.specs.Halftones.{HasAmountsOf, IsSamePage, StandsFor, held};
 ghost use Rattle.printer_profile.specs.Profiles.{printer_of};
 ghost use Rattle.printer_profile.specs.Validity.{check};
 ghost use Rattle.pwg_definitions.specs.Header.{IsWanted};
-ghost use Rattle.pwg_definitions.specs.Limits.{most_columns};
 ghost use Rattle.separation_definitions.specs.Windows.{wanted_by};
-ghost use Rattle.std.specs.Prelude.{IfNone, IfOk, IfSome, IsOk, List, OnOk, [], length, replicate, ℕ, ◌++◌, ◌+◌, ◌<◌, ◌∷◌, ◌≡◌, ◌≤◌, ◌⊎◌, ◌^◌};
+ghost use Rattle.std.specs.Prelude.{IfNone, IfOk, IfSome, IsErr, IsOk, List, OnErr, OnOk, [], false, length, replicate, true, ℕ, ◌++◌, ◌+◌, ◌<◌, ◌∷◌, ◌≡◌, ◌≤◌, ◌⊎◌, ◌^◌};
 
-use crate::inks::diffuse_inks;
+use crate::slabs::{first_slab, next_slab, put_line};
 use diffusion_kernel::Kernel;
 use dot_planes::{InkRows, Planes};
 use ink_separation::amounts;
 use printer_profile::{PageForm, Profile};
-use row_diffusion::ErrorRows;
 use separation_definitions::Window;
+use slab_diffusion::diffuse_slab;
 use std::alloc::Global;
 use std::marker::Model;
+use tile_border::TopEdges;
 use weave_base::Memory;
 
 /// A page that is halftoned line by line. Contracts see the profile, the form, the kernel, how many lines there were,
-/// and which lists of lines it stands for.
+/// which lists of lines it stands for, and whether a call answered `Memory`.
 ///
-/// Neither lines nor amounts of the page are kept: beside the planes of dots it holds a row of amounts, and two rows of
-/// errors for each ink.
+/// No lines are kept, and beside the planes of dots only the amounts of a slab: 256 rows of the window, or those that
+/// are left. When it is full it is diffused, below the errors of the slab before.
 #[derive(Drop)]
 pub struct Halftoner {
+    alloc: Global,
     profile: Profile,
     form: PageForm,
     kernel: Kernel,
     /// How many lines of the page there were, those in the margins too.
     count: u32,
     /// The amounts of the line in hand, one row.
-    amounts: InkRows,
-    errors: Vec<ErrorRows>,
-    /// A row of dots in hand.
-    packed: Vec<u8>,
+    line: InkRows,
+    /// How many rows of the window were diffused.
+    diffused: u32,
+    /// Room for the next ones, of which some are held.
+    slab: InkRows,
+    /// The errors above these, or `None` from a call on that answered `Memory`.
+    top: Option<TopEdges>,
     planes: Planes,
 }
 
@@ -67,71 +70,61 @@ fn row_of_line(window: Window, line: u32) -> Option<u32>
     }
 }
 
-// The errors of so many inks above a page.
-fn error_rows(alloc: Global, width: u32, inks: u8) -> Result<Vec<ErrorRows>, Memory>
-    requires some { 1 ≤ width }
-    requires most { width ≤ most_columns }
-    ensures len { IfOk result (λ errors. length errors.items ≡ inks) }
-    ensures wide { IfOk result (λ errors. AreWide width errors.items) }
-    ensures top { IfOk result (λ errors. AreAtTop errors.items) }
-{
-    let mut errors = Vec::new(alloc);
-    for _ in 0..inks {
-        let rows = ErrorRows::make(alloc, width)?;
-        let Ok(()) = errors.push(rows) else {
-            return Err(Memory);
-        };
-    }
-    Ok(errors)
-}
-
 impl Halftoner {
-    /// Begins a page, and takes all the memory that it needs.
+    /// Begins a page, and takes the memory that it needs itself.
     pub fn begin(alloc: Global, p: &Profile, f: PageForm, k: Kernel) -> Result<Halftoner, Memory>
         requires checked { IsOk (check p.now) }
         requires wanted { IsWanted (wanted_by (printer_of p.now)) f }
         ensures page { IfOk result (λ h. (h.profile ≡ p.now) × (h.form ≡ f) × (h.kernel ≡ k)) }
         ensures count { IfOk result (λ h. h.count ≡ 0) }
         ensures stands { IfOk result (λ h. StandsFor h []) }
+        ensures working { IfOk result (λ h. h.failed ≡ false) }
     {
         let window = p.window(f);
         let inks = p.inks.count();
-        let amounts = InkRows::make(alloc, window.width, 1, inks)?;
-        let errors = error_rows(alloc, window.width, inks)?;
-        let Ok(packed) = vec![in alloc; 0; (window.width as usize + 7) / 8] else {
-            return Err(Memory);
-        };
+        let line = InkRows::make(alloc, window.width, 1, inks)?;
+        let (slab, top) = first_slab(alloc, window.width, window.height, inks)?;
         let planes = Planes::make(alloc, window.width, window.height, inks)?;
         Ok(Halftoner {
+            alloc,
             profile: *p,
             form: f,
             kernel: k,
             count: 0,
-            amounts,
-            errors,
-            packed,
+            line,
+            diffused: 0,
+            slab,
+            top: Some(top),
             planes,
         })
     }
 
-    /// Takes a line of the page that stands so often.
+    /// Takes a line of the page that stands so often. `Memory` comes where a slab can't be diffused for want of it, and
+    /// from then on.
     pub fn lines(&mut self, line: &[u8], repeats: u32) -> Result<(), Memory>
         requires line { length line.now ≡ self.old.form.bytes_per_line }
         requires repeats { self.old.count + repeats ≤ self.old.form.height }
         ensures page { OnOk result (IsSamePage self.old self.new) }
         ensures count { OnOk result (self.new.count ≡ self.old.count + repeats) }
         ensures stands { (lines : List (List ℕ)) → StandsFor self.old lines → OnOk result (StandsFor self.new (lines ++ replicate repeats line.now)) }
+        ensures working { OnOk result (self.new.failed ≡ false) }
+        ensures failed { OnErr result (self.new.failed ≡ true) }
+        ensures for_good { self.old.failed ≡ true → IsErr result }
     {
+        if self.top.is_none() {
+            return Err(Memory);
+        }
         self.separate(line);
         for _ in 0..repeats {
-            self.next_line();
+            self.next_line()?;
         }
         Ok(())
     }
 
     /// The dots of the whole page.
     pub fn finish(self) -> Planes
-        requires { self.count ≡ self.form.height }
+        requires count { self.count ≡ self.form.height }
+        requires working { self.failed ≡ false }
         ensures { (lines : List (List ℕ)) → StandsFor self lines
             → HasDots (printer_of self.profile) (halftone (record { form = self.form; lines = lines }) (printer_of self.profile) (table_of self.kernel)) result.width result.rows result.inks (dot result) }
     {
@@ -145,6 +138,7 @@ impl Halftoner {
         ensures count { self.new.count ≡ self.old.count }
         ensures amounts { HasAmountsOf self.new line.now }
         ensures stands { (lines : List (List ℕ)) → StandsFor self.old lines → StandsFor self.new lines }
+        ensures failed { self.new.failed ≡ self.old.failed }
     {
         let window = self.profile.window(self.form);
         amounts(
@@ -153,30 +147,46 @@ impl Halftoner {
             line,
             window,
             0,
-            &mut self.amounts,
+            &mut self.line,
         );
     }
 
     // Takes the line in hand once more.
-    fn next_line(&mut self)
-        requires { self.old.count < self.old.form.height }
+    fn next_line(&mut self) -> Result<(), Memory>
+        requires count { self.old.count < self.old.form.height }
         ensures page { IsSamePage self.old self.new }
-        ensures count { self.new.count ≡ self.old.count + 1 }
-        ensures amounts { self.new.amounts ≡ self.old.amounts }
-        ensures stands { (line : List ℕ) → HasAmountsOf self.old line → (lines : List (List ℕ)) → StandsFor self.old lines → StandsFor self.new (lines ++ line ∷ []) }
+        ensures count { OnOk result (self.new.count ≡ self.old.count + 1) }
+        ensures line { self.new.line ≡ self.old.line }
+        ensures stands { (line : List ℕ) → HasAmountsOf self.old line → (lines : List (List ℕ)) → StandsFor self.old lines
+            → OnOk result (StandsFor self.new (lines ++ line ∷ [])) }
+        ensures working { OnOk result (self.new.failed ≡ self.old.failed) }
+        ensures failed { OnErr result (self.new.failed ≡ true) }
     {
-        let Some(y) = row_of_line(self.profile.window(self.form), self.count) else {
+        let window = self.profile.window(self.form);
+        let Some(y) = row_of_line(window, self.count) else {
             self.count += 1;
-            return;
+            return Ok(());
         };
-        diffuse_inks(
+        put_line(&self.line, y - self.diffused, &mut self.slab);
+        if y + 1 < self.diffused + self.slab.rows() {
+            self.count += 1;
+            return Ok(());
+        }
+        let Some(top) = self.top.take() else {
+            return Err(Memory);
+        };
+        let bottom = diffuse_slab(
+            self.alloc,
+            &self.slab,
             self.kernel,
-            &self.amounts,
-            y,
-            &mut self.errors,
-            &mut self.packed,
+            top,
             &mut self.planes,
-        );
+            self.diffused,
+        )?;
+        self.top = Some(bottom);
+        self.diffused = y + 1;
         self.count += 1;
+        next_slab(&mut self.slab, window.height - self.diffused);
+        Ok(())
     }
 }

@@ -2,7 +2,7 @@
 #![tactic(auto)]
 
 mod halftoner;
-mod inks;
+mod slabs;
 
 pub use halftoner::Halftoner;
 

@@ -99,19 +99,55 @@ fn small_pages_have_the_dots_of_the_definition(rt: HostRuntime) {
             (InkSet::Cmy, Kernel::Jarvis),
             (InkSet::Cmyk, Kernel::Stucki),
         ] {
-            for width in [1, 7, 8, 9] {
+            for (width, height) in [(1, 5), (7, 256), (8, 257), (9, 515)] {
                 let p = printer(inks);
-                let f = form(kind, width + 3, 8);
+                let f = form(kind, width + 3, height + 3);
                 let Some(planes) = planes_of(rt.alloc(), &p, f, kernel) else {
                     assert!(rt; false, "no planes for {kind:?} {inks:?}");
                     return;
                 };
-                assert_eq!(rt; (planes.width(), planes.rows()), (width, 5));
+                assert_eq!(rt; (planes.width(), planes.rows()), (width, height));
                 for i in 0..inks.count() {
                     let wrong = wrong_dots(&p, f, kernel, &planes, i, inks.at(i));
-                    assert_eq!(rt; wrong, 0, "ink {i} of {kind:?} {inks:?} at {width}");
+                    assert_eq!(rt;
+                        wrong,
+                        0,
+                        "ink {i} of {kind:?} {inks:?} at {width} by {height}"
+                    );
                 }
             }
         }
     }
+}
+
+#[test]
+fn errors_cross_the_slab_at_row_256(rt: HostRuntime) {
+    let p = Profile {
+        inks: InkSet::K,
+        left: 0,
+        right: 0,
+        top: 0,
+        bottom: 0,
+        ..printer(InkSet::K)
+    };
+    let f = form(Kind::Gray8, 1, 257);
+    if p.check().is_err() || !is_taken(&p, f) || f.bytes_per_line != 1 || f.height != 257 {
+        assert!(rt; false);
+        return;
+    }
+    let Ok(mut h) = Halftoner::begin(rt.alloc(), &p, f, Kernel::Floyd) else {
+        assert!(rt; false);
+        return;
+    };
+    let Ok(()) = h.lines(&[0x9B], 257) else {
+        assert!(rt; false);
+        return;
+    };
+    let planes = h.finish();
+    for y in 0..257 {
+        if y < planes.rows() && planes.inks() > 0 && planes.width() > 0 {
+            assert_eq!(rt; planes.dot(0, 0, y), y % 3 == 1, "row {y}");
+        }
+    }
+    assert_eq!(rt; (planes.width(), planes.rows(), planes.inks()), (1, 257, 1));
 }

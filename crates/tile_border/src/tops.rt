@@ -5,6 +5,7 @@ ghost use Rattle.tile_border.specs.Tops.{IsZeroTop};
 use crate::edges::BottomEdge;
 use std::alloc::Global;
 use std::marker::Model;
+use std::mem;
 use weave_base::Memory;
 
 /// The bottom edges above the first band of a board, one for each column of tiles. Contracts see a list by columns, each
@@ -55,5 +56,14 @@ impl TopEdges {
         ensures { self.new ≡ slice_set self.old c e }
     {
         self.edges[c as usize] = e;
+    }
+
+    /// Exchanges the edge of a column for another. All others stay.
+    pub fn swap(&mut self, c: u32, e: &mut BottomEdge)
+        requires { c < length self.old }
+        ensures put { self.new ≡ slice_set self.old c e.old }
+        ensures taken { e.new ≡ slice_index_or self.old c [] }
+    {
+        mem::swap(&mut self.edges[c as usize], e);
     }
 }

@@ -73,7 +73,7 @@ fn amount_at(p: &Profile, kind: Kind, ink: Ink, x: u32, y: u32) -> i32 {
     given_at(p.inks, kind, ink, x, y).wrapping_mul(limit) / 255
 }
 
-// An error of a window of this width, 0 beside it and above it.
+// An error of a window of this width, 0 beside it and above it. Only the last 256 are kept.
 fn error_at(errors: &[i32], width: u32, x: i64, y: i64) -> i32 {
     if x < 0 || y < 0 || x >= i64::from(width) {
         return 0;
@@ -81,7 +81,7 @@ fn error_at(errors: &[i32], width: u32, x: i64, y: i64) -> i32 {
     let at = (y as usize)
         .wrapping_mul(width as usize)
         .wrapping_add(x as usize);
-    errors.get(at).copied().unwrap_or(0)
+    errors.get(at % 256).copied().unwrap_or(0)
 }
 
 // What the errors near a pixel give to it, in parts of the kernel's divisor.

@@ -19,6 +19,7 @@ groups-init g c =
     record {
       page = halftone_begin c.args.profile.now c.args.kernel c.in-Some.form c.args.reader.now c.next_page.new.self _ _ c.in_ok-halftoner.halftoner
           begins c.requires.unended c.in_ok-form.ensures.going c.in_ok-halftoner.ensures.page c.in_ok-halftoner.ensures.count c.in_ok-halftoner.ensures.stands;
+      working = c.in_ok-halftoner.ensures.working;
       later = c.next_page.ensures.later;
     }
 
@@ -38,6 +39,7 @@ groups-preserved g c =
       page = halftone_step c.args.profile.now c.args.kernel c.in-Some.form c.args.reader.now c.groups.reader c.next_line.new.self _ _ _ c.groups.halftoner c.lines.new.self c.in_ok-repeats.repeats
           c.groups.invariant.page (omega (arith, c.groups-test.true, c.lines_left.ensures)) gives c.in_ok-repeats.ensures.going
           c.in_ok-lines.ensures.page c.in_ok-lines.ensures.count (λ lines stands. rw c.line.ensures.line at c.in_ok-lines.ensures.stands lines stands);
+      working = c.in_ok-lines.ensures.working;
       later = omega (arith, c.groups.invariant.later, c.next_line.ensures.later);
     }
 

@@ -1,8 +1,9 @@
-use Rattle.std.proofs.Common.{◌≡◌, ◌*◌, ap, arith, refl, ◌∙◌}
+use Rattle.std.proofs.Common.{◌≡◌, ◌*◌, ◌<◌, ℕ, subst, ap, arith, refl, ◌∙◌}
 use Rattle.tile_shape.specs.Geometry.{bands_of, columns_of}
-use Rattle.board_core.specs.States.{CoreState}
+use Rattle.board_core.specs.States.{CoreState, number}
+use Rattle.board_core.specs.Steps.{IsReadyTile}
 use Rattle.board_core.proofs.Numbers.{number_inside}
-use Rattle.board_core.proofs.Ready.{first_ready, none_more}
+use Rattle.board_core.proofs.Ready.{first_ready, none_more, none_waiting}
 use Rattle.board_core.proofs.Runs.{false_true}
 use Rattle.board_core.proofs.scheduler.Core.ready.Goals as goal
 
@@ -23,3 +24,9 @@ returns-clause-none c = λ p r.
     let count : c.bands.result * c.columns-columns.result ≡ bands_of c.args.self.now.shape * columns_of c.args.self.now.shape =
     ap (λ n. n * c.columns-columns.result) bands ∙ ap (λ n. bands_of c.args.self.now.shape * n) columns in
     c.loop-n.invariant p (omega (arith, count, number_inside c.args.self.now.shape p r.tile)) r
+
+-- Before the tile that the scan begins with none waits.
+pub loop-n-init : goal.loop-n-init
+loop-n-init c = λ q low r.
+    let Q : CoreState → Type 0 = λ core. number core.shape q < c.self.inside.begun → IsReadyTile core q → ⊥ in
+    subst Q c.self.view_is (none_waiting c.self.inside q c.self.invariant.none_waits) low r

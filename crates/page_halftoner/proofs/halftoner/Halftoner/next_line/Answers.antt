@@ -1,12 +1,15 @@
-use Rattle.std.proofs.Common.{◌≡◌, ◌⊎◌, ◌+◌, ◌≤◌, ◌<◌, ℕ, List, ap, arith, length, sym, subst, ◌∙◌}
+use Rattle.std.proofs.Common.{◌≡◌, ◌⊎◌, ◌+◌, ◌-◌, ◌≤◌, ◌<◌, ℕ, ℤ, List, Some, ap, arith, length, min, sym, subst, ◌∙◌}
+use Rattle.std.proofs.lemmas.Option.{same_Some}
 use Rattle.diffusion_kernel.specs.Tables.{table_of}
-use Rattle.row_diffusion.specs.Errors.{TwoRows}
-use Rattle.row_diffusion.proofs.KeptRows.{written}
+use Rattle.dot_planes.specs.Tables.{AmountTable, DotTable}
+use Rattle.printer_definitions.specs.Inks.{inks_of}
 use Rattle.separation_definitions.specs.declared.window.Window.{Window}
+use Rattle.slab_diffusion.specs.Slabs.{IsTopOf}
 use Rattle.page_halftoner.specs.Halftones.{Halftoning, HasAmountsOf, StandsFor, window}
-use Rattle.page_halftoner.specs.Kept.{halftoning}
-use Rattle.page_halftoner.specs.Rows.{AreWide, IsRowDone}
-use Rattle.page_halftoner.proofs.Lines.{in_margin, in_window}
+use Rattle.page_halftoner.specs.Kept.{IsReady, edges_in, halftoning, window_in}
+use Rattle.page_halftoner.specs.Slabs.{PutsLine}
+use Rattle.page_halftoner.specs.declared.halftoner.Halftoner.TheInside.{Inside}
+use Rattle.page_halftoner.proofs.Lines.{IsFull, IsNextRow, in_margin, in_slab, slab_full}
 use Rattle.page_halftoner.proofs.halftoner.Halftoner.next_line.Goals as goal
 
 pub returns-in_default-clause-stands : goal.returns-in_default-clause-stands
@@ -14,27 +17,70 @@ returns-in_default-clause-stands c = λ line amounts lines stands.
     let h : Halftoning = halftoning c.self.inside in
     let Q : Halftoning → Type 0 = λ g. StandsFor g lines in
     let R : Window → Type 0 = λ w. (h.count < w.top) ⊎ (w.top + w.height ≤ h.count) in
-    in_margin h line lines (subst R c.window.ensures c.in_default.ensures.margin) (subst Q (sym c.self.view_is) stands)
+    in_margin h line lines (subst R c.window-window.ensures c.in_default.ensures.margin) (subst Q (sym c.self.view_is) stands)
+
+-- The line is the next row.
+next_row : (inside : Inside) (w : Window) (line : List ℕ) (y : ℕ) (slab : AmountTable) → IsReady inside → w ≡ window_in inside
+    → w.top + y ≡ inside.count → y < w.height → HasAmountsOf (halftoning inside) line → PutsLine inside.line (y - inside.diffused) inside.slab slab
+    → IsNextRow (halftoning inside) line y slab
+next_row inside w line y slab v is place low amounts puts =
+    let here : (window_in inside).top + y ≡ inside.count = ap (λ (g : Window). g.top + y) (sym is) ∙ place in
+    let in_window : y < (window_in inside).height = omega (arith, low, ap (λ (g : Window). g.height) is) in
+    record {
+      place = here;
+      inside = in_window;
+      amounts = amounts;
+      puts = puts;
+      from = omega (arith, here, in_window, v.from);
+      room = omega (arith, here, in_window, v.room);
+      few = v.slab_most;
+      wide = v.slab_width;
+      inks = v.slab_inks;
+    }
+
+pub returns-then-y-self-clause-stands : goal.returns-then-y-self-clause-stands
+returns-then-y-self-clause-stands c = λ line amounts lines stands.
+    let h : Halftoning = halftoning c.self.inside in
+    let Q : Halftoning → Type 0 = λ g. StandsFor g lines in
+    let A : Halftoning → Type 0 = λ g. HasAmountsOf g line in
+    let next = next_row c.self.inside c.window-window.result line c.in-Some.y c.put_line.new.slab c.self.invariant c.window-window.ensures
+    c.in-Some.ensures.row.0 c.in-Some.ensures.row.1 (subst A (sym c.self.view_is) amounts) c.put_line.ensures in
+    in_slab h line lines c.in-Some.y c.put_line.new.slab next (subst Q (sym c.self.view_is) stands)
 
 pub invariant_of-self-2 : goal.invariant_of-self-2
 invariant_of-self-2 c =
     let v = c.self.invariant in
-    let done = c.diffuse_inks.ensures in
-    let errors_len : length c.diffuse_inks.new.errors ≡ c.self.inside.errors.len = omega (arith, c.diffuse_inks.auto.errors, c.deref_mut.ensures.len, c.self.inside.errors.ok.0) in
-    let packed_len : length c.diffuse_inks.new.packed ≡ c.self.inside.packed.len = omega (arith, c.diffuse_inks.auto.packed, c.deref_mut-2.ensures.len, c.self.inside.packed.ok.0) in
-    let errors = written c.diffuse_inks.new.errors c.self.inside.errors.items _ errors_len in
-    let packed = written c.diffuse_inks.new.packed c.self.inside.packed.items _ packed_len in
-    let wide : AreWide (window (halftoning c.self.inside)).width c.diffuse_inks.new.errors = λ i rows at. done.wide i rows at ∙ v.planes_width in
+    let y : ℕ = c.in-Some.y in
+    let w : Window = window_in c.self.inside in
+    let size = c.put_line.ensures.size in
+    let next = c.next_slab.ensures in
+    let done = c.in_ok-bottom.ensures.slab in
+    let top : w.top + y ≡ c.self.inside.count = ap (λ (g : Window). g.top + y) (sym c.window-window.ensures) ∙ c.in-Some.ensures.row.0 in
+    let tall : c.window-window.result.height ≡ w.height = ap (λ (g : Window). g.height) c.window-window.ensures in
+    let inside : y < w.height = omega (arith, c.in-Some.ensures.row.1, tall) in
+    let full : y + 1 ≡ c.self.inside.diffused + c.self.inside.slab.rows = omega (arith, top, inside, v.room, v.from, c.if-y-self.false, c.rows.ensures, size.rows) in
+    let rows : y + 1 < w.height → c.next_slab.new.slab.rows ≡ min (w.height - (y + 1)) c.self.inside.slab.rows =
+    λ more. next.rows (omega (arith, tall)) ∙ ap (λ n. min (n - (y + 1)) c.put_line.new.slab.rows) tall ∙ ap (λ n. min (w.height - (y + 1)) n) size.rows in
+    let W : ℕ → Type 0 = λ n. IsTopOf n (length (inks_of c.self.inside.profile.inks)) c.in_ok-bottom.bottom in
+    let I : ℕ → Type 0 = λ n. IsTopOf c.put_line.new.slab.width n c.in_ok-bottom.bottom in
+    let is_top = subst W (size.width ∙ v.slab_width) (subst I (size.inks ∙ v.slab_inks) done.is_top) in
     record {
       checked = v.checked;
       wanted = v.wanted;
-      few = omega (arith, c.requires, ap (λ (h : Halftoning). h.count) c.self.view_is, ap (λ (h : Halftoning). h.form.height) c.self.view_is);
-      amounts_width = v.amounts_width;
-      amounts_rows = v.amounts_rows;
-      amounts_inks = v.amounts_inks;
-      errors_len = ap length errors ∙ done.len ∙ ap length c.deref_mut.ensures.value ∙ v.errors_len;
-      errors_wide = subst (AreWide (window (halftoning c.self.inside)).width) (sym errors) wide;
-      packed_len = ap length packed ∙ packed_len ∙ omega (arith, c.self.inside.packed.ok.0, v.packed_len);
+      few = omega (arith, c.requires.count, ap (λ (h : Halftoning). h.count) c.self.view_is, ap (λ (h : Halftoning). h.form.height) c.self.view_is);
+      line_width = v.line_width;
+      line_rows = v.line_rows;
+      line_inks = v.line_inks;
+      slab_width = next.width ∙ size.width ∙ v.slab_width;
+      slab_inks = next.inks ∙ size.inks ∙ v.slab_inks;
+      slab_some = next.some (omega (arith, size.rows, v.slab_some));
+      slab_most = omega (arith, next.most, size.rows, v.slab_most);
+      slab_in = λ more. omega (arith, rows more);
+      slab_whole = λ more. omega (arith, rows (omega arith), full, v.slab_whole);
+      from = omega (arith, top, inside);
+      room = omega (arith, top, inside, next.some (omega (arith, size.rows, v.slab_some)));
+      top_is = λ edges is. let T : List (List (List ℤ)) → Type 0 = λ t. IsTopOf w.width (length (inks_of c.self.inside.profile.inks)) t in
+          subst T (same_Some _ edges is) is_top;
       planes_width = done.size.width ∙ v.planes_width;
       planes_rows = done.size.rows ∙ v.planes_rows;
       planes_inks = done.size.inks ∙ v.planes_inks;
@@ -47,11 +93,17 @@ returns-clause-stands c = λ line amounts lines stands.
     let y : ℕ = c.in-Some.y in
     let Q : Halftoning → Type 0 = λ g. StandsFor g lines in
     let A : Halftoning → Type 0 = λ g. HasAmountsOf g line in
-    let place : (window h).top + y ≡ h.count = ap (λ (w : Window). w.top + y) (sym c.window.ensures) ∙ c.in-Some.ensures.row.0 in
-    let low : y < (window h).height = omega (arith, c.in-Some.ensures.row.1, ap (λ (w : Window). w.height) c.window.ensures) in
-    let errors_len : length c.diffuse_inks.new.errors ≡ c.self.inside.errors.len = omega (arith, c.diffuse_inks.auto.errors, c.deref_mut.ensures.len, c.self.inside.errors.ok.0) in
-    let errors = written c.diffuse_inks.new.errors c.self.inside.errors.items _ errors_len in
-    let from : List TwoRows → Type 0 = λ es. IsRowDone (table_of h.kernel) h.amounts y es c.diffuse_inks.new.errors h.planes c.diffuse_inks.new.planes in
-    let to : List TwoRows → Type 0 = λ es. IsRowDone (table_of h.kernel) h.amounts y h.errors es h.planes c.diffuse_inks.new.planes in
-    let done = subst to (sym errors) (subst from c.deref_mut.ensures.value c.diffuse_inks.ensures) in
-    in_window h line lines y _ c.diffuse_inks.new.planes place low v.amounts_width v.planes_rows done (subst A (sym c.self.view_is) amounts) (subst Q (sym c.self.view_is) stands)
+    let size = c.put_line.ensures.size in
+    let next = next_row c.self.inside c.window-window.result line y c.put_line.new.slab v c.window-window.ensures
+    c.in-Some.ensures.row.0 c.in-Some.ensures.row.1 (subst A (sym c.self.view_is) amounts) c.put_line.ensures in
+    let full : y + 1 ≡ h.diffused + c.put_line.new.slab.rows = omega (arith, next.room, size.rows, c.if-y-self.false, c.rows.ensures) in
+    let all : IsFull h y c.put_line.new.slab c.in-Some-take.top c.in_ok-bottom.bottom c.diffuse_slab.new.out = record {
+      top_is = ap edges_in (sym c.in-Some-take.is ∙ c.take.ensures.value);
+      full = full;
+      some = omega (arith, size.rows, v.slab_some);
+      whole = λ more. size.rows ∙ v.slab_whole (omega (arith, size.rows));
+      tall = v.planes_rows;
+      done = c.in_ok-bottom.ensures.slab;
+    } in
+    slab_full h line lines y c.put_line.new.slab c.next_slab.new.slab c.in-Some-take.top c.in_ok-bottom.bottom c.diffuse_slab.new.out _
+    next all (subst Q (sym c.self.view_is) stands)

@@ -1,0 +1,22 @@
+use Rattle.std.proofs.Common.{◌≡◌, ◌+◌, ◌*◌, ◌/◌, ◌%◌, ℕ, ℤ, List, get_or, pos, ap, arith, ◌∙◌}
+use Rattle.slab_diffusion.specs.Slabs.{columns_across}
+use Rattle.tile_shape.specs.Geometry.{columns_of}
+use Rattle.tile_shape.specs.declared.tiles.Shape.{Shape}
+use Rattle.slab_diffusion.proofs.Tops.{edge_at}
+use Rattle.page_halftoner.proofs.slabs.first_slab.Goals as goal
+
+pub returns : goal.returns
+returns c =
+    let slab = c.in_ok-slab.ensures in
+    let top = c.in_ok-top.ensures in
+    let columns : c.columns.result ≡ columns_across c.args.width = c.columns.ensures ∙ ap (λ (s : Shape). columns_of s) c.shape.ensures.is ∙ ap columns_across slab.width in
+    record {
+      width_is = slab.width;
+      rows_are = slab.rows ∙ c.min-rows.ensures;
+      inks_are = slab.inks;
+      is_top = record { columns = top.columns_are ∙ columns; edge_inks = λ column inside. top.inks_are column (omega (arith, inside, columns)) };
+      zeros = λ i t n.
+          let u : ℕ = n + 56 + 2 * t in
+          let m : ℕ = 64 * t + u % 64 in
+          ap (λ (xs : List ℤ). get_or xs m (pos 0)) (edge_at c.in_ok-top.top i (u / 64)) ∙ (top.zeros (u / 64)).at i m;
+    }

@@ -1,0 +1,28 @@
+-- The rows of a page that are held until they are diffused.
+use Rattle.std.specs.Prelude.{◌≡◌, ◌≢◌, ℕ, ℤ, pos, ◌<◌, ◌≤◌, List, min}
+use Rattle.dot_planes.specs.Tables.{AmountTable, HasSizeAs, amount}
+use Rattle.slab_diffusion.specs.Slabs.{IsTopOf}
+use Rattle.tile_border.specs.Tops.{edges_of}
+use Rattle.tile_edges.specs.Tops.{top_of}
+
+-- room for the first rows of a window: 256, or all where there are fewer. The errors above them are 0.
+pub record IsFirstSlab (width height inks : ℕ) (slab : AmountTable) (top : List (List (List ℤ))) : Type 0 where
+  pub width_is : slab.width ≡ width
+  pub rows_are : slab.rows ≡ min height 256
+  pub inks_are : slab.inks ≡ inks
+  pub is_top : IsTopOf width inks top
+  pub zeros : (i t n : ℕ) → top_of (edges_of top i) t n ≡ pos 0
+
+-- room for the rows that are left, or for as many as before
+pub record IsNextSlab (left : ℕ) (old new : AmountTable) : Type 0 where
+  pub width : new.width ≡ old.width
+  pub inks : new.inks ≡ old.inks
+  pub some : 1 ≤ old.rows → 1 ≤ new.rows
+  pub most : new.rows ≤ old.rows
+  pub rows : 0 < left → new.rows ≡ min left old.rows
+
+-- Row y of each ink becomes the one row of a line, and all other rows stay.
+pub record PutsLine (line : AmountTable) (y : ℕ) (old new : AmountTable) : Type 0 where
+  pub size : HasSizeAs old new
+  pub row : (i x : ℕ) → i < old.inks → x < old.width → amount new i y x ≡ amount line i 0 x
+  pub others : (i r x : ℕ) → r ≢ y → r < old.rows → amount new i r x ≡ amount old i r x

@@ -1,0 +1,93 @@
+-- The edges at hand, and those that tiles are handed.
+use Rattle.std.proofs.Common.{◌≡◌, ◌≢◌, ℕ, ℤ, zero, suc, ◌+◌, ◌-◌, ◌*◌, ◌/◌, ◌%◌, ◌<◌, ◌≤◌, List, [], get_or, set, length, replicate, pos, inl, inr, refl, sym, ◌∙◌, ap, arith, subst, get_or-set_other, get_or-set_same}
+use Rattle.std.proofs.lemmas.Bool.{cases_eq}
+use Rattle.std.proofs.lemmas.Int.{ints}
+use Rattle.tile_border.proofs.Zeros.{some_zeros}
+use Rattle.diffusion_definitions.specs.Diffusion.{EachInRange, Errors, InRange, Plane, Solves, Table}
+use Rattle.dot_planes.specs.Tables.{AmountTable}
+use Rattle.tile_border.specs.Inks.{errors_of}
+use Rattle.tile_edges.proofs.Places.{moved}
+use Rattle.tile_edges.specs.Edges.{IsAbove, IsBottom, IsCorner, IsLeft}
+use Rattle.tile_edges.specs.Tops.{IsBelow, IsCut}
+use Rattle.tile_lanes.specs.Done.{plane_of}
+use Rattle.slab_diffusion.specs.Hands.{AreErrorsOf, IsOver}
+use Rattle.slab_diffusion.specs.Slabs.{columns_across}
+
+-- ---- one ink of an edge is set
+
+pub put_at : (edge : List (List ℤ)) (i : ℕ) (xs : List ℤ) → i < length edge → errors_of (set edge i xs) i ≡ xs
+put_at edge i xs inside = get_or-set_same edge i xs [] inside
+
+pub put_beside : (edge : List (List ℤ)) (i j : ℕ) (xs : List ℤ) → j ≢ i → errors_of (set edge i xs) j ≡ errors_of edge j
+put_beside edge i j xs other = get_or-set_other edge i j xs [] other
+
+-- ---- bottom edges
+
+-- the edge above the tile to the right stands above a tile
+pub over_above : (e : Errors) (j c : ℕ) (xs : List ℤ) → IsOver e j (c + 1) xs → IsAbove e (record { c = c; j = j }) xs
+over_above e j c xs over = record { at = λ t o row in_row. over.at t o row in_row (omega arith) ∙ moved e _ _ _ _ (omega arith) (omega arith) }
+
+-- the ends of the edge above a tile's own column are its corner
+pub over_corner : (e : Errors) (j c : ℕ) (xs ends : List ℤ) → IsOver e j c xs → IsCut xs ends → IsCorner e (record { c = c; j = j }) ends
+over_corner e j c xs ends over cut = record {
+  at = λ t i row in_row.
+      let place : 64 * t + 58 + i ≡ 64 * t + (58 + i) = omega arith in
+      cut.at t i row in_row ∙ ap (λ n. get_or xs n (pos 0)) place ∙ over.at t (58 + i) row (omega arith) (omega arith) ∙ moved e _ _ _ _ (omega arith) (omega arith);
+}
+
+-- the bottom edge of a tile stands above the next band
+pub bottom_over : (e : Errors) (j c : ℕ) (xs : List ℤ) → IsBottom e (record { c = c; j = j }) xs → IsOver e (j + 1) c xs
+bottom_over e j c xs bottom = record { at = λ t o row in_row far. bottom.at t o row in_row ∙ moved e _ _ _ _ (omega arith) (omega arith) }
+
+-- the edges of a top stand above the first band
+pub below_over : (e : Errors) (edges : List (List ℤ)) (c : ℕ) → IsBelow edges e → IsOver e 0 c (get_or edges c [])
+below_over e edges c below = record {
+  at = λ t o row in_row far.
+      let n : ℕ = 64 * c + o - (56 + 2 * t) in
+      let u : ℕ = n + 56 + 2 * t in
+      let column : c ≡ u / 64 = omega arith in
+      let offset : o ≡ u % 64 = omega arith in
+      ap (λ m. get_or (get_or edges m []) (64 * t + o) (pos 0)) column
+      ∙ ap (λ m. get_or (get_or edges (u / 64) []) (64 * t + m) (pos 0)) offset
+      ∙ sym (below t n row) ∙ moved e _ _ _ _ (omega arith) (omega arith);
+}
+
+-- ---- no edge
+
+-- right of the last column the errors above a tile are 0
+pub zero_above : (k : Table) (rows : AmountTable) (i : ℕ) (e : Errors) (j c : ℕ) (xs : List ℤ) → AreErrorsOf k rows i e → columns_across rows.width ≤ c + 1
+    → ((n : ℕ) → get_or xs n (pos 0) ≡ pos 0) → IsAbove e (record { c = c; j = j }) xs
+zero_above k rows i e zero c xs are last zeros = record {
+  at = λ t o row in_row. zeros (64 * t + o) ∙ sym (are.beside t (64 * c + 8 + o - 2 * t) row (omega arith)) ∙ moved e _ _ _ _ (omega arith) (omega arith);
+}
+zero_above k rows i e (suc j) c xs are last zeros = record {
+  at = λ t o row in_row.
+      let x : ℕ = 64 * c + 4 + o - 2 * t in
+      let y : ℕ = 32 * j + 30 + t in
+      zeros (64 * t + o) ∙ sym (are.solves.right y x (omega arith)) ∙ moved e _ _ _ _ (omega arith) (omega arith);
+}
+
+-- left of the first column too
+pub zero_left : (k : Table) (p : Plane) (e : Errors) (j : ℕ) (xs : List ℤ) → Solves k p e → ((n : ℕ) → get_or xs n (pos 0) ≡ pos 0) → IsLeft e (record { c = 0; j = j }) xs
+zero_left k p e j xs solves zeros = record {
+  at = λ t i row in_row.
+      let n : ℕ = 64 * 0 + i + 2 - 2 * (2 + t) in
+      zeros (6 * t + i) ∙ sym (solves.left (32 * j + t) n (omega arith)) ∙ moved e _ _ _ _ (omega arith) refl;
+}
+
+-- ---- edges that are cleared
+
+zero_fits : InRange (pos 0)
+zero_fits = record { low = omega (arith, ints); high = omega (arith, ints) }
+
+pub zeros_fit : (len : ℕ) → EachInRange (replicate len (pos 0))
+zeros_fit len n = let Q : ℤ → Type 0 = λ e. InRange e in subst Q (sym (some_zeros len n)) zero_fits
+
+pub cleared_more : (edge : List (List ℤ)) (len ink i n : ℕ) → ink < length edge → ((j m : ℕ) → j < ink → get_or (errors_of edge j) m (pos 0) ≡ pos 0)
+    → i < ink + 1 → get_or (errors_of (set edge ink (replicate len (pos 0))) i) n (pos 0) ≡ pos 0
+cleared_more edge len ink i n inside before below = elim (cases_eq i ink) [
+  | inl here ↦
+      ap (λ m. get_or (errors_of (set edge ink (replicate len (pos 0))) m) n (pos 0)) here
+      ∙ ap (λ (xs : List ℤ). get_or xs n (pos 0)) (put_at edge ink (replicate len (pos 0)) inside) ∙ some_zeros len n
+  | inr other ↦ ap (λ (xs : List ℤ). get_or xs n (pos 0)) (put_beside edge ink i (replicate len (pos 0)) other) ∙ before i n (omega arith)
+]

@@ -1,0 +1,5 @@
+pub mod Tops
+pub mod Edges
+pub mod TileSteps
+pub mod BandSteps
+pub mod OrderSteps

@@ -1,0 +1,3 @@
+pub mod Slabs
+pub mod Hands
+pub mod Order

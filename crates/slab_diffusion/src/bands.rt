@@ -1,0 +1,94 @@
+//! The tiles of a band.
+ghost use Rattle.diffusion_kernel.specs.Tables.{table_of};
+ghost use Rattle.slab_diffusion.specs.Order.{IsWorkedTo};
+ghost use Rattle.slab_diffusion.specs.Hands.{HasRoom, WorksBand, WorksTile};
+ghost use Rattle.std.specs.Prelude.{◌*◌, ◌+◌, ◌<◌, ◌≡◌, ◌≤◌};
+ghost use Rattle.tile_lanes.specs.Done.{window_of};
+ghost use Rattle.tile_shape.specs.Geometry.{IsTile, bands_of, columns_of};
+
+use crate::hands::{Hand, clear_right, cut_ends, take_above};
+use crate::order::{give_all, take_next};
+use board_core::Core;
+use diffusion_kernel::Kernel;
+use dot_planes::{InkRows, Planes, TileDots};
+use tile_border::{Task, work};
+use tile_shape::Place;
+
+/// Diffuses band j below the edges at hand, and puts its dots into the planes, where the slab begins at row `at`. The
+/// bottom edges of its tiles are at hand then.
+pub(crate) fn diffuse_band(
+    core: &mut Core,
+    hand: Hand,
+    rows: &InkRows,
+    kernel: Kernel,
+    j: u32,
+    out: &mut Planes,
+    at: u32,
+) -> Hand
+    requires band { j < bands_of (window_of rows.now) }
+    requires core { IsWorkedTo (window_of rows.now) (j * columns_of (window_of rows.now)) core.old }
+    requires room { HasRoom rows.now hand }
+    requires width { out.old.width ≡ rows.now.width }
+    requires inks { out.old.inks ≡ rows.now.inks }
+    requires at { at + rows.now.rows ≤ out.old.rows }
+    ensures core { IsWorkedTo (window_of rows.now) ((j + 1) * columns_of (window_of rows.now)) core.new }
+    ensures band { WorksBand (table_of kernel) rows.now j at hand result out.old out.new }
+{
+    let shape = rows.shape();
+    let mut hand = hand;
+    clear_right(&mut hand.right);
+    cut_ends(hand.bottoms.at(0), &mut hand.corner);
+    for c in 0..shape.columns() {
+        let place = take_next(core);
+        hand = diffuse_tile(hand, rows, kernel, place, out, at);
+        give_all(core, shape, place);
+    }
+    hand
+}
+
+// Diffuses the next tile, and puts its dots into the planes.
+fn diffuse_tile(
+    hand: Hand,
+    rows: &InkRows,
+    kernel: Kernel,
+    place: Place,
+    out: &mut Planes,
+    at: u32,
+) -> Hand
+    requires tile { IsTile (window_of rows.now) place }
+    requires room { HasRoom rows.now hand }
+    requires width { out.old.width ≡ rows.now.width }
+    requires inks { out.old.inks ≡ rows.now.inks }
+    requires at { at + rows.now.rows ≤ out.old.rows }
+    ensures { WorksTile (table_of kernel) rows.now place at hand result out.old out.new }
+{
+    let Hand {
+        mut bottoms,
+        mut bottom,
+        right,
+        corner,
+        mut spare,
+        bits,
+    } = hand;
+    take_above(&mut bottoms, rows.shape().columns(), place.c, &mut bottom);
+    cut_ends(&bottom, &mut spare);
+    let task = Task {
+        place,
+        left: right,
+        above: bottom,
+        corner,
+        dots: TileDots { place, bits },
+    };
+    let done = work(task, rows, kernel);
+    out.put_tile(at, rows.rows(), &done.dots);
+    let mut bottom = done.bottom;
+    bottoms.swap(place.c, &mut bottom);
+    Hand {
+        bottoms,
+        bottom,
+        right: done.right,
+        corner: spare,
+        spare: done.corner,
+        bits: done.dots.bits,
+    }
+}

@@ -1,0 +1,157 @@
+//! Slabs of a window against the rule over the whole of it.
+ghost use Rattle.slab_diffusion.specs.Slabs.{IsTopOf};
+ghost use Rattle.std.specs.Prelude.{IfSome, ◌≡◌};
+
+mod definition;
+
+use crate::diffuse_slab;
+use definition::{Definition, amount_at};
+use diffusion_kernel::Kernel;
+use dot_planes::{InkRows, Planes};
+use std::alloc::Global;
+use tile_border::TopEdges;
+
+// Rows of the planes above the window, and below it.
+const ABOVE: u32 = 3;
+
+const BELOW: u32 = 2;
+
+// Whether a dot stands at a place before the window is diffused.
+fn was_on(x: u32, y: u32) -> bool {
+    x.wrapping_add(y) % 3 == 0
+}
+
+// Planes with some dots.
+fn spotted(alloc: Global, width: u32, height: u32, inks: u8) -> Option<Planes>
+    ensures width { IfSome result (λ planes. planes.width ≡ width) }
+    ensures inks { IfSome result (λ planes. planes.inks ≡ inks) }
+{
+    if width < 1 || width > 200 || height > 300 || inks < 1 || inks > 4 {
+        return None;
+    }
+    let Ok(mut planes) = Planes::make(alloc, width, ABOVE + height + BELOW, inks) else {
+        return None;
+    };
+    for i in 0..inks {
+        for y in 0..ABOVE + height + BELOW {
+            spot_row(&mut planes, i, y);
+        }
+    }
+    Some(planes)
+}
+
+fn spot_row(planes: &mut Planes, i: u8, y: u32)
+    ensures width { planes.new.width ≡ planes.old.width }
+    ensures inks { planes.new.inks ≡ planes.old.inks }
+{
+    for x in 0..planes.width() {
+        if was_on(x, y) && i < planes.inks() && y < planes.rows() && x < planes.width() {
+            planes.turn_on(i, x, y);
+        }
+    }
+}
+
+// The amounts of rows of the window from row `first` on.
+fn amounts(alloc: Global, width: u32, first: u32, height: u32, inks: u8) -> Option<InkRows> {
+    if width < 1 || width > 200 || height < 1 || height > 300 || inks < 1 || inks > 4 {
+        return None;
+    }
+    let Ok(mut rows) = InkRows::make(alloc, width, height, inks) else {
+        return None;
+    };
+    for i in 0..inks {
+        for y in 0..height {
+            for x in 0..width {
+                if i < rows.inks() && y < rows.rows() && x < rows.width() {
+                    rows.set(i, x, y, amount_at(i, x, first.wrapping_add(y)));
+                }
+            }
+        }
+    }
+    Some(rows)
+}
+
+// No errors above a window.
+fn no_errors(alloc: Global, width: u32, inks: u8) -> Option<TopEdges>
+    ensures { IfSome result (IsTopOf width inks) }
+{
+    if width > 200 || inks < 1 || inks > 4 {
+        return None;
+    }
+    match TopEdges::zero(alloc, (width + 62).div_ceil(64), inks) {
+        Ok(top) => Some(top),
+        Err(_) => None,
+    }
+}
+
+// Diffuses rows of the window from row `first` on, and gives the top of the rows below them.
+fn next_slab(
+    alloc: Global,
+    kernel: Kernel,
+    top: TopEdges,
+    first: u32,
+    height: u32,
+    planes: &mut Planes,
+) -> Option<TopEdges>
+    requires { IsTopOf planes.old.width planes.old.inks top }
+    ensures width { planes.new.width ≡ planes.old.width }
+    ensures inks { planes.new.inks ≡ planes.old.inks }
+    ensures top { IfSome result (IsTopOf planes.old.width planes.old.inks) }
+{
+    let rows = amounts(alloc, planes.width(), first, height, planes.inks())?;
+    let fits = first <= 300 && rows.rows() <= 300 && first + ABOVE + rows.rows() <= planes.rows();
+    if !fits || rows.width() != planes.width() || rows.inks() != planes.inks() {
+        return None;
+    }
+    match diffuse_slab(alloc, &rows, kernel, top, planes, first + ABOVE) {
+        Ok(bottom) => Some(bottom),
+        Err(_) => None,
+    }
+}
+
+// How many dots of an ink are not what they should be.
+fn wrong_dots(planes: &Planes, known: &Definition, i: u8, height: u32) -> u32 {
+    let mut wrong = 0u32;
+    for y in 0..planes.rows() {
+        for x in 0..planes.width() {
+            let wanted = if ABOVE <= y && y < height.wrapping_add(ABOVE) {
+                known.dot(i64::from(x), i64::from(y - ABOVE))
+            } else {
+                was_on(x, y)
+            };
+            let there = i < planes.inks()
+                && y < planes.rows()
+                && x < planes.width()
+                && planes.dot(i, x, y) == wanted;
+            if !there {
+                wrong = wrong.wrapping_add(1);
+            }
+        }
+    }
+    wrong
+}
+
+// How many dots of a window of three slabs, of 64, 32 and 39 rows, are not what they should be.
+fn wrong_in_slabs(alloc: Global, kernel: Kernel, width: u32, inks: u8) -> Option<u32> {
+    let mut planes = spotted(alloc, width, 135, inks)?;
+    let top = no_errors(alloc, width, inks)?;
+    let top = next_slab(alloc, kernel, top, 0, 64, &mut planes)?;
+    let top = next_slab(alloc, kernel, top, 64, 32, &mut planes)?;
+    next_slab(alloc, kernel, top, 96, 39, &mut planes)?;
+    let mut wrong = 0u32;
+    for i in 0..inks {
+        let known = Definition::make(alloc, kernel, i, width, 135)?;
+        wrong = wrong.wrapping_add(wrong_dots(&planes, &known, i, 135));
+    }
+    Some(wrong)
+}
+
+#[test]
+fn slabs_have_the_dots_of_the_whole_window(rt: HostRuntime) {
+    for kernel in [Kernel::Floyd, Kernel::Jarvis, Kernel::Stucki] {
+        for (width, inks) in [(1, 1), (2, 3), (63, 1), (66, 4), (130, 2), (200, 1)] {
+            let wrong = wrong_in_slabs(rt.alloc(), kernel, width, inks);
+            assert_eq!(rt; wrong, Some(0), "{kernel:?} at {width} of {inks} inks");
+        }
+    }
+}
