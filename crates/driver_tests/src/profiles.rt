@@ -11,7 +11,7 @@ fn each_bad_word_has_its_cause(rt: HostRuntime) -> Result<(), Fail> {
     let cases: [(&[&str], &[u8]); 13] = [
         (&[], b"usage: word 1: NoCommand\n"),
         (&["plot"], b"usage: word 1: UnknownCommand\n"),
-        (&["dots"], b"usage: word 1: UnknownCommand\n"),
+        (&["trial"], b"usage: word 1: UnknownCommand\n"),
         (&["Print"], b"usage: word 1: UnknownCommand\n"),
         (&["print", "workers=0"], b"usage: word 2: BadValue\n"),
         (&["print", "workers=65"], b"usage: word 2: BadValue\n"),

@@ -1,0 +1,124 @@
+//! The command `dots`.
+use crate::fixture::{JOB, run_on, sink};
+use std::test::Fail;
+
+/// The images of the job's sheet: black, and three without a dot.
+const IMAGES: [u8; 52] = [
+    0x50, 0x34, 0x0A, 0x38, 0x20, 0x36, 0x0A, 0, 0, 0, 0, 0xFF, 0xFF, 0x50, 0x34, 0x0A, 0x38, 0x20,
+    0x36, 0x0A, 0, 0, 0, 0, 0, 0, 0x50, 0x34, 0x0A, 0x38, 0x20, 0x36, 0x0A, 0, 0, 0, 0, 0, 0, 0x50,
+    0x34, 0x0A, 0x38, 0x20, 0x36, 0x0A, 0, 0, 0, 0, 0, 0,
+];
+
+#[test]
+fn dots_gives_four_images_of_a_sheet(rt: HostRuntime) -> Result<(), Fail> {
+    let alloc = rt.alloc();
+    for piece in [1, 50, 92] {
+        let left = run_on(
+            alloc,
+            &["dots", "profile=tiny"],
+            &JOB,
+            (piece, 0),
+            sink(alloc, 4096)?,
+        )?;
+        left.is(&rt, 0, &IMAGES, "");
+    }
+    Ok(())
+}
+
+#[test]
+fn a_raster_fired_twice_is_overprint(rt: HostRuntime) -> Result<(), Fail> {
+    let alloc = rt.alloc();
+    let mut job = Vec::new(alloc);
+    job.extend_from_slice(&JOB[..64])?;
+    job.push(0x0D)?;
+    job.extend_from_slice(&JOB[50..64])?;
+    let left = run_on(
+        alloc,
+        &["dots", "profile=tiny"],
+        &job,
+        (92, 0),
+        sink(alloc, 4096)?,
+    )?;
+    left.is(&rt, 8, &[], "job: offset 65: Overprint\n");
+    Ok(())
+}
+
+#[test]
+fn another_profile_is_density(rt: HostRuntime) -> Result<(), Fail> {
+    let alloc = rt.alloc();
+    let left = run_on(
+        alloc,
+        &["dots", "profile=tiny1"],
+        &JOB,
+        (92, 0),
+        sink(alloc, 4096)?,
+    )?;
+    left.is(&rt, 8, &[], "job: offset 50: Density\n");
+    Ok(())
+}
+
+#[test]
+fn sheets_before_a_stop_stand(rt: HostRuntime) -> Result<(), Fail> {
+    let alloc = rt.alloc();
+    let mut job = Vec::new(alloc);
+    job.extend_from_slice(&JOB)?;
+    job.extend_from_slice(&JOB[..60])?;
+    let cut = run_on(
+        alloc,
+        &["dots", "profile=tiny"],
+        &job,
+        (33, 0),
+        sink(alloc, 4096)?,
+    )?;
+    cut.is(&rt, 8, &IMAGES, "job: offset 142: Cut\n");
+    let read = run_on(
+        alloc,
+        &["dots", "profile=tiny"],
+        &job,
+        (50, 3),
+        sink(alloc, 4096)?,
+    )?;
+    read.is(&rt, 4, &IMAGES, "read failed\n");
+    let most = run_on(
+        alloc,
+        &["dots", "profile=tiny", "most=91"],
+        &JOB,
+        (50, 0),
+        sink(alloc, 4096)?,
+    )?;
+    most.is(&rt, 8, &IMAGES, "job: offset 91: TooLong\n");
+    Ok(())
+}
+
+#[test]
+fn a_full_sink_names_the_sheet(rt: HostRuntime) -> Result<(), Fail> {
+    let alloc = rt.alloc();
+    let mut job = Vec::new(alloc);
+    job.extend_from_slice(&JOB)?;
+    job.extend_from_slice(&JOB)?;
+    let left = run_on(
+        alloc,
+        &["dots", "profile=tiny"],
+        &job,
+        (92, 0),
+        sink(alloc, 60)?,
+    )?;
+    assert_eq!(rt; left.status, 5);
+    assert_eq!(rt; left.err.bytes(), b"write failed: page 2\n".as_slice());
+    assert_eq!(rt; left.out.bytes().len(), 60);
+    Ok(())
+}
+
+#[test]
+fn a_job_without_a_sheet_gives_nothing(rt: HostRuntime) -> Result<(), Fail> {
+    let alloc = rt.alloc();
+    let left = run_on(
+        alloc,
+        &["dots", "profile=tiny"],
+        &JOB[..50],
+        (92, 0),
+        sink(alloc, 64)?,
+    )?;
+    left.is(&rt, 0, &[], "");
+    Ok(())
+}

@@ -1,0 +1,68 @@
+//! The command `list`.
+use crate::fixture::{JOB, run_on, sink};
+use std::test::Fail;
+
+const LISTING: &str =
+    "0 INIT\n2 GRAPHICS\n8 UNIT 5\n14 MICROWEAVE 0\n20 ONEWAY 1\n23 LENGTH 12\n30 MARGINS 0 12\n\
+    39 DOWNTO 0\n46 COLOUR 0\n49 RETURN\n50 RASTER 1 20 10 3 8 8\n64 DOWNBY 6\n71 COLOUR 0\n74 RETURN\n\
+    75 RASTER 1 20 10 3 8 8\n89 EJECT\n90 INIT\n";
+
+#[test]
+fn list_gives_seventeen_lines(rt: HostRuntime) -> Result<(), Fail> {
+    let alloc = rt.alloc();
+    let left = run_on(alloc, &["list"], &JOB, (7, 0), sink(alloc, 4096)?)?;
+    left.is(&rt, 0, LISTING.as_bytes(), "");
+    Ok(())
+}
+
+#[test]
+fn list_names_each_reader_fault(rt: HostRuntime) -> Result<(), Fail> {
+    let alloc = rt.alloc();
+    let cases: [(&[u8], &str, usize, &str); 6] = [
+        (&JOB[..10], "most=99", 18, "job: offset 8: Cut\n"),
+        (&JOB[..11], "most=10", 18, "job: offset 10: TooLong\n"),
+        (&[0x1B, 0x41], "most=99", 0, "job: offset 1: Unknown\n"),
+        (
+            &[0x1B, 0x28, 0x47, 2, 0],
+            "most=99",
+            0,
+            "job: offset 3: BadLength\n",
+        ),
+        (&[0x1B, 0x72, 3], "most=99", 0, "job: offset 2: BadValue\n"),
+        (
+            &[0x1B, 0x2E, 1, 0x14, 0x0A, 3, 8, 0, 0x80],
+            "most=99",
+            0,
+            "job: offset 8: RunCode\n",
+        ),
+    ];
+    for (job, most, len, line) in cases {
+        let left = run_on(alloc, &["list", most], job, (3, 0), sink(alloc, 4096)?)?;
+        left.is(&rt, 8, &LISTING.as_bytes()[..len], line);
+    }
+    Ok(())
+}
+
+#[test]
+fn a_failed_read_and_a_full_sink_leave_what_was_listed(rt: HostRuntime) -> Result<(), Fail> {
+    let alloc = rt.alloc();
+    let read = run_on(alloc, &["list"], &JOB, (1, 9), sink(alloc, 4096)?)?;
+    read.is(&rt, 4, &LISTING.as_bytes()[..18], "read failed\n");
+    let full = run_on(alloc, &["list"], &JOB, (92, 0), sink(alloc, 30)?)?;
+    full.is(&rt, 5, &LISTING.as_bytes()[..30], "write failed: page 0\n");
+    Ok(())
+}
+
+#[test]
+fn list_takes_no_profile(rt: HostRuntime) -> Result<(), Fail> {
+    let alloc = rt.alloc();
+    let left = run_on(
+        alloc,
+        &["list", "profile=tiny"],
+        &JOB,
+        (92, 0),
+        sink(alloc, 64)?,
+    )?;
+    left.is(&rt, 1, &[], "usage: word 2: UnknownKey\n");
+    Ok(())
+}
