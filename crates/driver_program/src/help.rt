@@ -2,14 +2,19 @@
 use weave_base::Words;
 
 const HELP: &str = "\
-jinthbao - prints PWG Raster pages as ESC/P2 jobs
+jinthbao - prints PWG Raster pages as ESC/P2 jobs, and shows what such jobs print
 
 usage: driver_program print [profile=NAME] [kernel=NAME] [workers=NUMBER] [cap=NUMBER] < pages.pwg > job.prn
+       driver_program dots [profile=NAME] [most=NUMBER] < job.prn > images.pbm
+       driver_program list [most=NUMBER] < job.prn
        driver_program profile [profile=NAME]
        driver_program --help | --version
 
 print    reads pages from standard input (PWG Raster, PWG 5102.4; 8-bit grey, 8-bit black, 8-bit RGB),
          separates and diffuses each, and writes their job to standard output
+dots     reads a job from standard input, runs it on the profile's printer, and writes four plain images of each
+         sheet (PBM, kind P4): black, cyan, magenta and yellow
+list     reads a job from standard input, and writes a line for each command
 profile  writes the text of a profile to standard output
 
 profile=NAME    tiny1, tiny, p360k, p360cmyk, p720cmyk, or a file of the current folder
@@ -19,6 +24,7 @@ workers=NUMBER  1 to 64 (default 1); one thread does the work today, whatever th
 cap=NUMBER      the most dots that the job may print, all inks together (default: no limit): a kiosk's quota,
                 or what is left in a label desk's cartridge; a page that would go past it is not printed,
                 and ends the job
+most=NUMBER     the most bytes of a job that are taken, up to 17179869184 (the default)
                 Keys stand in any order, each at most once.
 
 exit status and line on standard error:
@@ -31,6 +37,7 @@ exit status and line on standard error:
 6  over cap: page N: total N, page N, cap N
                                      a page would go past the cap: the dots before it, its own, the cap
 7  out of memory                     memory ran out
+8  job: offset N: CAUSE              the job is no list of commands, or the printer refuses one
 ";
 
 const VERSION: &str = "jinthbao 0.1.0\n";
