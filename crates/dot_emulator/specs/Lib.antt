@@ -1,5 +1,9 @@
 pub mod Sheets
 pub mod Margins
+pub mod Pages
+pub mod Hands
+pub mod Firing
 pub mod Steps
 pub mod States
+pub mod Places
 pub mod Runs

@@ -11,3 +11,8 @@ margins_of (Some margins) = Some (record { top = margins.top; bottom = margins.b
 abbrev pub top_of : Option Margins → ℕ
 top_of None = 0
 top_of (Some margins) = margins.top
+
+-- the bottom margin, or another number where there is none
+abbrev pub bottom_or : ℕ → Option Margins → ℕ
+bottom_or n None = n
+bottom_or n (Some margins) = margins.bottom

@@ -1,14 +1,17 @@
 -- What the emulator is of the machine, and what it answers.
-use Rattle.std.specs.Prelude.{◌≡◌, ℕ, true, List, [], ◌∷◌, Option, Some, None, Result, Ok, Err}
+use Rattle.std.specs.Prelude.{◌≡◌, ℕ, true, false, List, [], ◌∷◌, ◌++◌, Option, Some, None, Result, Ok, Err}
 use Rattle.printer_definitions.specs.Printer.{Printer, column_step, row_step}
 use Rattle.escp2_definitions.specs.declared.command.Command.{Command}
-use Rattle.escp2_definitions.specs.Machine.{Machine, Sheet as PrintedSheet, after, first_fault, given, has_dots, refusals}
-use Rattle.dot_planes.specs.Tables.{DotTable}
+use Rattle.escp2_definitions.specs.Machine.{Dot, Machine, Sheet as PrintedSheet, after, first_fault, given, has_dots, refusals}
+use Rattle.dot_planes.specs.Tables.{DotTable, dot}
 use Rattle.dot_emulator.specs.declared.emulator.Emulator.{Emulator}
 use Rattle.dot_emulator.specs.declared.emulator.EmuStop.{EmuStop}
 use Rattle.dot_emulator.specs.declared.emulator.EmuStop.TheVariants.{Refused, Memory}
 use Rattle.dot_emulator.specs.declared.sheet.Sheet.{Sheet}
-use Rattle.dot_emulator.specs.Sheets.{HasDots}
+use Rattle.dot_emulator.specs.Sheets.{HasDots, HasPlaces}
+use Rattle.dot_emulator.specs.Firing.{Grid, fired}
+use Rattle.dot_emulator.specs.declared.firing.Raster.{Raster}
+use Rattle.weave_base.specs.declared.Memory.{Memory as MemoryOut}
 use Rattle.dot_emulator.specs.States.{machine_of}
 use Rattle.dot_emulator.specs.Steps.{AreStepsOf}
 
@@ -41,3 +44,30 @@ Runs p m command rows old new (Ok sheet) =
     (first_fault (refusals p m command rows) ≡ None) × IsGiven p (given p m command) sheet × Shows p new (after p m command rows)
 Runs p m command rows old new (Err (Refused fault)) = (first_fault (refusals p m command rows) ≡ Some fault) × (new ≡ old)
 Runs p m command rows old new (Err Memory) = (first_fault (refusals p m command rows) ≡ None) × (new ≡ old)
+
+-- ---- parts of a step
+
+-- planes without a dot
+abbrev pub IsBlank : DotTable → Type 0
+IsBlank t = (ink y x : ℕ) → dot t ink y x ≡ false
+
+-- planes are those in hand, or blank ones
+abbrev pub AreTaken : Option DotTable → DotTable → Type 0
+AreTaken None t = IsBlank t
+AreTaken (Some old) t = t ≡ old
+
+pub record Taken (rows : ℕ) (old : Option DotTable) (t : DotTable) : Type 0 where
+  pub inks : t.inks ≡ 4
+  pub width : t.width ≡ 8191
+  pub height : t.rows ≡ rows
+  pub taken : AreTaken old t
+
+abbrev pub TakesPlanes : ℕ → Option DotTable → Result DotTable MemoryOut → Type 0
+TakesPlanes rows old (Ok t) = Taken rows old t
+TakesPlanes rows old (Err out) = old ≡ None
+
+-- the planes in hand have the dots of a raster too
+pub record LaidIn (g : Grid) (r : Raster) (rows : List ℕ) (dots : List Dot) (new : Option DotTable) : Type 0 where
+  pub table : DotTable
+  pub is : new ≡ Some table
+  pub has : HasPlaces g.column g.row (dots ++ fired g r rows) table

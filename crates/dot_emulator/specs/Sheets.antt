@@ -10,6 +10,10 @@ use Rattle.dot_planes.specs.Tables.{DotTable, dot}
 abbrev pub IsBlankFrom : ℕ → DotTable → Type 0
 IsBlankFrom column t = (ink y x : ℕ) → ink < t.inks → y < t.rows → column ≤ x → dot t ink y x ≡ false
 
+-- the dots from a column on stay
+abbrev pub IsKeptFrom : ℕ → DotTable → DotTable → Type 0
+IsKeptFrom column old new = (ink y x : ℕ) → y < old.rows → column ≤ x → dot new ink y x ≡ dot old ink y x
+
 -- the dot of an ink in row y at column x, where these are the steps from column to column and from row to row
 abbrev pub dot_at : ℕ → ℕ → Ink → ℕ → ℕ → Dot
 dot_at column row ink y x = record { ink = ink; x = x * column; y = y * row }
@@ -21,8 +25,12 @@ pub record IsOnGrid (column row columns rows : ℕ) (d : Dot) : Type 0 where
   pub in_row : d.y % row ≡ 0
   pub in_rows : d.y / row < rows
 
--- The table has the dots of a list: each place of the table has a dot of an ink just where the list has one, and each dot
--- of the list has a place.
+-- each place of a table has a dot of an ink just where a list has one
+abbrev pub HasPlaces : ℕ → ℕ → List Dot → DotTable → Type 0
+HasPlaces column row dots t =
+    (ink : Ink) (y x : ℕ) → y < t.rows → dot t (ink_place ink) y x ≡ list_any (is_at (dot_at column row ink y x)) dots
+
+-- The table has the dots of a list: each place has a dot just where the list has one, and each dot of the list a place.
 pub record HasDots (column row columns : ℕ) (dots : List Dot) (t : DotTable) : Type 0 where
-  pub places : (ink : Ink) (y x : ℕ) → y < t.rows → dot t (ink_place ink) y x ≡ list_any (is_at (dot_at column row ink y x)) dots
+  pub places : HasPlaces column row dots t
   pub inside : AllByRecursion (IsOnGrid column row columns t.rows) dots

@@ -1,7 +1,8 @@
 -- The machine, from what is kept of it.
-use Rattle.std.specs.Prelude.{◌≡◌, ◌==◌, not, List, [], ◌∷◌, Option, Some, None, Result, Ok, Err}
+use Rattle.std.specs.Prelude.{◌≡◌, ℕ, ◌==◌, Bool, true, false, not, List, [], ◌∷◌, Option, Some, None, Result, Ok, Err}
 use Rattle.escp2_definitions.specs.Machine.{Dot, Machine, after, first_fault, is_off_grid, is_other_density, no_margins, no_unit, refusals, refuse}
 use Rattle.escp2_definitions.specs.declared.command.Command.{Command}
+use Rattle.escp2_definitions.specs.declared.command.Command.TheVariants as c
 use Rattle.escp2_definitions.specs.declared.command.RasterHead.{RasterHead}
 use Rattle.escp2_definitions.specs.declared.stops.EmuFault.{EmuFault}
 use Rattle.escp2_definitions.specs.declared.stops.EmuFault.TheVariants.{NotGraphics, Density, Rows, OffGrid}
@@ -25,8 +26,15 @@ machine_of s dots = record {
 
 -- A step of the machine that fires no dots: what it is refused for, or the state behind it.
 abbrev pub IsStep : Printer → Machine → Command → Result State EmuFault → Type 0
-IsStep p m command (Ok s) = (first_fault (refusals p m command []) ≡ None) × (machine_of s (after p m command []).dots ≡ after p m command [])
-IsStep p m command (Err fault) = first_fault (refusals p m command []) ≡ Some fault
+IsStep p m command (Ok s) =
+    (rows : List ℕ) → (first_fault (refusals p m command rows) ≡ None) × (machine_of s (after p m command rows).dots ≡ after p m command rows)
+IsStep p m command (Err fault) = (rows : List ℕ) → first_fault (refusals p m command rows) ≡ Some fault
+
+-- whether a command fires dots, or gives a sheet
+abbrev pub is_plain : Command → Bool
+is_plain (c.Raster head) = false
+is_plain c.Eject = false
+is_plain other = true
 
 -- what a raster is refused for, whatever its dots
 abbrev pub early_fault : Printer → Machine → RasterHead → Option EmuFault

@@ -2,15 +2,20 @@
 ghost use Rattle.escp2_definitions.specs.Commands.{in_table, rows_len};
 ghost use Rattle.escp2_definitions.specs.Machine.{start};
 ghost use Rattle.printer_profile.specs.Profiles.{printer_of};
-ghost use Rattle.separation_definitions.specs.CanPrint.{CanPrint};
-ghost use Rattle.std.specs.Prelude.{length, true, ◌≡◌};
+ghost use Rattle.printer_profile.specs.Validity.{check};
+ghost use Rattle.dot_emulator.specs.Hands.{IsBlankBehind, inks_of, rows_or, width_of};
+ghost use Rattle.dot_emulator.specs.Pages.{sheet_rows};
+ghost use Rattle.dot_emulator.specs.declared.emulator.EmuStop.TheVariants as stop;
+ghost use Rattle.std.specs.Prelude.{IsOk, length, true, ◌≡◌};
 
-use crate::raster::Steps;
+use crate::firing::Raster;
+use crate::raster::{MOST_COLUMNS, Steps};
 use crate::state::State;
-use crate::{Command, EmuFault, Sheet};
+use crate::{Command, EmuFault, RasterHead, Sheet};
 use dot_planes::Planes;
-use printer_profile::Profile;
+use printer_profile::{Profile, checked_can_print};
 use std::alloc::Global;
+use weave_base::Memory;
 
 /// Why the emulator does not run a command.
 #[derive(Clone, Copy, Debug, PartialEq, Eq)]
@@ -21,6 +26,22 @@ pub enum EmuStop {
     Memory,
 }
 
+impl From<EmuFault> for EmuStop {
+    ghost from_gives = { λ fault e. e ≡ stop.Refused fault };
+
+    fn from(fault: EmuFault) -> EmuStop {
+        EmuStop::Refused(fault)
+    }
+}
+
+impl From<Memory> for EmuStop {
+    ghost from_gives = { λ _ e. e ≡ stop.Memory };
+
+    fn from(_memory: Memory) -> EmuStop {
+        EmuStop::Memory
+    }
+}
+
 /// Runs the commands of a print job one by one, and puts their dots on sheets.
 #[derive(Drop)]
 pub struct Emulator {
@@ -29,18 +50,33 @@ pub struct Emulator {
     state: State,
     /// Of the sheet in hand, from its first dot on.
     planes: Option<Planes>,
+    ghost inks: { inks_of planes ≡ 4 },
+    ghost width: { width_of planes ≡ 8191 },
+    ghost blank: { IsBlankBehind state.columns planes },
+    ghost rows: { rows_or (sheet_rows state.page steps.row) planes ≡ sheet_rows state.page steps.row },
 }
 
 impl Emulator {
-    ghost use Rattle.dot_emulator.specs.Runs.{Runs, Shows};
-    ghost use Rattle.escp2_definitions.specs.Machine.{Machine};
+    ghost use Rattle.dot_emulator.specs.Firing.{Grid, HasRows, IsAbove, PlanesHave, Stands, fired};
+    ghost use Rattle.dot_emulator.specs.Places.{IsPlaced};
+    ghost use Rattle.dot_emulator.specs.Runs.{LaidIn, Runs, Shows, TakesPlanes};
+    ghost use Rattle.dot_emulator.specs.Sheets.{HasPlaces};
+    ghost use Rattle.dot_emulator.specs.Steps.{AreStepsOf};
+    ghost use Rattle.dot_emulator.specs.States.{is_plain, machine_of};
+    ghost use Rattle.escp2_definitions.specs.Machine.{Dot, Machine, first_fault, overprints, refuse};
+    ghost use Rattle.escp2_definitions.specs.declared.command.Command.TheVariants as c;
+    ghost use Rattle.escp2_definitions.specs.declared.stops.EmuFault.TheVariants.{OffSheet, Overprint};
     ghost use Rattle.printer_definitions.specs.Printer.{Printer};
+    ghost use Rattle.std.specs.List.{list_any};
+    ghost use Rattle.std.specs.Prelude.{IfOk, List, [], OnErr, OnOk, None, nat_le, ℕ, ◌∷◌, ◌*◌, ◌+◌, ◌/◌, ◌≤◌, unwrap_or};
 
-    /// The machine of a printer at the start of a job. It takes memory later, for the dots of a sheet.
+    /// The machine of a printer, whose profile passes its checks, at the start of a job. It takes memory later, for the
+    /// dots of a sheet.
     pub fn make(alloc: Global, p: &Profile) -> Emulator
-        requires { CanPrint (printer_of p.now) }
+        requires { IsOk (check p.now) }
         ensures { Shows (printer_of p.now) result start }
     {
+        checked_can_print(*p);
         Emulator {
             alloc,
             steps: Steps::of(p),
@@ -58,6 +94,120 @@ impl Emulator {
         requires rows_fit { length rows.now ≡ rows_len command.now }
         ensures { (p : Printer) (m : Machine) → Shows p self.old m → Runs p m command.now rows.now self.old self.new result }
     {
-        Err(EmuStop::Memory)
+        match *command {
+            Command::Raster { head } => self.fire(head, rows),
+            Command::Eject => self.eject(),
+            plain => self.set(plain),
+        }
+    }
+
+    // A command that fires no dots and gives no sheet.
+    fn set(&mut self, command: Command) -> Result<Option<Sheet>, EmuStop>
+        requires plain { is_plain command ≡ true }
+        requires in_range { in_table command ≡ true }
+        ensures { (p : Printer) (m : Machine) (rows : List ℕ) → Shows p self.old m → Runs p m command rows self.old self.new result }
+    {
+        self.state = self.state.after(command, self.planes.is_some())?;
+        Ok(None)
+    }
+
+    fn eject(&mut self) -> Result<Option<Sheet>, EmuStop>
+        ensures { (p : Printer) (m : Machine) (rows : List ℕ) → Shows p self.old m → Runs p m c.Eject rows self.old self.new result }
+    {
+        let state = self.state.eject()?;
+        let planes = self.take_planes()?;
+        let sheet = Sheet {
+            rows: planes.rows(),
+            columns: self.state.columns,
+            planes,
+        };
+        self.state = state;
+        Ok(Some(sheet))
+    }
+
+    fn fire(&mut self, head: RasterHead, rows: &[u8]) -> Result<Option<Sheet>, EmuStop>
+        requires in_range { in_table (c.Raster head) ≡ true }
+        requires rows_fit { length rows.now ≡ rows_len (c.Raster head) }
+        ensures { (p : Printer) (m : Machine) → Shows p self.old m → Runs p m (c.Raster head) rows.now self.old self.new result }
+    {
+        let raster = self.place(head)?;
+        if let Some(fault) = self.refuses_dots(raster, rows) {
+            return Err(EmuStop::Refused(fault));
+        }
+        let behind = self.state.behind(raster);
+        if raster.has_dots(rows) {
+            self.lay(raster, rows, behind)?;
+        } else {
+            self.state = behind;
+        }
+        Ok(None)
+    }
+
+    // Where a raster stands, or why it is refused whatever its dots.
+    fn place(&self, head: RasterHead) -> Result<Raster, EmuFault>
+        requires { head.n ≤ 8191 }
+        ensures placed { (p : Printer) (dots : List Dot) → AreStepsOf p self.now.steps → IsPlaced p (machine_of self.now.state dots) head result }
+        ensures page { OnOk result (1 ≤ unwrap_or self.now.state.page 0) }
+        ensures head { IfOk result (λ r. r.head ≡ head) }
+        ensures x { IfOk result (λ r. r.x ≡ self.now.state.across / head.h) }
+        ensures on_page { IfOk result (λ r. r.end ≤ sheet_rows self.now.state.page self.now.steps.row) }
+    {
+        self.state.place(self.steps, head)
+    }
+
+    // Why the dots of a raster are refused.
+    fn refuses_dots(&self, raster: Raster, rows: &[u8]) -> Option<EmuFault>
+        requires rows { HasRows raster rows.now }
+        requires on_page { raster.end ≤ sheet_rows self.now.state.page self.now.steps.row }
+        ensures { (g : Grid) (dots : List Dot) → Stands g raster → PlanesHave g dots self.now.planes
+            → result ≡ first_fault (refuse (list_any (λ d. nat_le g.bottom d.y) (fired g raster rows.now)) OffSheet
+            ∷ refuse (overprints dots (fired g raster rows.now)) Overprint ∷ []) }
+    {
+        if raster.is_off_sheet(rows) {
+            return Some(EmuFault::OffSheet);
+        }
+        match &self.planes {
+            Some(planes) if raster.overprints(rows, planes) => Some(EmuFault::Overprint),
+            _ => None,
+        }
+    }
+
+    // Lays the dots of a raster over the planes of the sheet in hand, which are made for the first.
+    fn lay(&mut self, raster: Raster, rows: &[u8], behind: State) -> Result<(), Memory>
+        requires rows { HasRows raster rows.now }
+        requires on_page { raster.end ≤ sheet_rows self.old.state.page self.old.steps.row }
+        requires some_page { 1 ≤ unwrap_or self.old.state.page 0 }
+        requires page { behind.page ≡ self.old.state.page }
+        requires columns { self.old.state.columns ≤ behind.columns }
+        requires end { raster.x + raster.head.n ≤ behind.columns }
+        ensures state { OnOk result (self.new.state ≡ behind) }
+        ensures steps { self.new.steps ≡ self.old.steps }
+        ensures laid { OnOk result ((g : Grid) (dots : List Dot) → Stands g raster → IsAbove g raster rows.now
+            → PlanesHave g dots self.old.planes → LaidIn g raster rows.now dots self.new.planes) }
+        ensures unchanged { OnErr result (self.new ≡ self.old) }
+    {
+        let mut planes = self.take_planes()?;
+        raster.lay(rows, &mut planes);
+        self.state = behind;
+        self.planes = Some(planes);
+        Ok(())
+    }
+
+    // The planes of the sheet in hand. A sheet without dots has them made.
+    fn take_planes(&mut self) -> Result<Planes, Memory>
+        requires { 1 ≤ unwrap_or self.old.state.page 0 }
+        ensures state { self.new.state ≡ self.old.state }
+        ensures steps { self.new.steps ≡ self.old.steps }
+        ensures taken { TakesPlanes (sheet_rows self.old.state.page self.old.steps.row) self.old.planes result }
+        ensures none { OnOk result (self.new.planes ≡ None) }
+        ensures unchanged { OnErr result (self.new ≡ self.old) }
+    {
+        match self.planes.take() {
+            Some(planes) => Ok(planes),
+            None => {
+                let rows = (self.state.page_length() + self.steps.row - 1) / self.steps.row;
+                Planes::make(self.alloc, MOST_COLUMNS, rows, 4)
+            }
+        }
     }
 }

@@ -2,6 +2,7 @@
 #![tactic(auto)]
 
 mod emulator;
+mod firing;
 mod raster;
 mod sheet;
 mod state;
@@ -11,3 +12,6 @@ pub use emulator::{EmuStop, Emulator};
 pub use escp2_commands::{Command, RasterHead};
 pub use escp2_definitions::EmuFault;
 pub use sheet::Sheet;
+
+#[cfg(test)]
+mod tests;

@@ -2,8 +2,10 @@
 ghost use Rattle.dot_emulator.specs.States.{early_fault, machine_of};
 ghost use Rattle.printer_definitions.specs.Printer.{column_step, nozzle_step, row_step};
 ghost use Rattle.printer_profile.specs.Profiles.{printer_of};
+ghost use Rattle.separation_definitions.specs.CanPrint.{CanPrint};
 ghost use Rattle.std.specs.Prelude.{[], ◌%◌, ◌*◌, ◌/◌, ◌<◌, ◌≡◌, ◌≤◌};
 
+use crate::firing::Raster;
 use crate::state::State;
 use crate::{EmuFault, RasterHead};
 use printer_profile::Profile;
@@ -18,6 +20,12 @@ pub(crate) struct Steps {
     /// From one nozzle to the next.
     pub(crate) nozzle: u32,
     pub(crate) nozzles: u8,
+    /// From one nozzle to the next, in rows.
+    pub(crate) pitch: u8,
+    ghost column_some: { 1 ≤ column },
+    ghost row_least: { 5 ≤ row },
+    ghost row_most: { row ≤ 3600 },
+    ghost nozzle_rows: { nozzle ≡ pitch * row },
 }
 
 impl Steps {
@@ -25,8 +33,7 @@ impl Steps {
 
     /// The steps of a printer.
     pub(crate) fn of(p: &Profile) -> Steps
-        requires hdpi { 0 < p.now.hdpi }
-        requires vdpi { 0 < p.now.vdpi }
+        requires { CanPrint (printer_of p.now) }
         ensures { AreStepsOf (printer_of p.now) result }
     {
         Steps {
@@ -34,19 +41,28 @@ impl Steps {
             row: 3600 / u32::from(p.vdpi),
             nozzle: u32::from(p.pitch) * 3600 / u32::from(p.vdpi),
             nozzles: p.nozzles,
+            pitch: p.pitch,
         }
     }
 }
 
+/// The columns of the widest sheet.
+pub(crate) const MOST_COLUMNS: u32 = 8191;
+
 impl State {
+    ghost use Rattle.dot_emulator.specs.Pages.{sheet_rows};
+    ghost use Rattle.dot_emulator.specs.Places.{IsPlaced, Placed};
+    ghost use Rattle.escp2_definitions.specs.Machine.{Dot, after};
+    ghost use Rattle.escp2_definitions.specs.declared.command.Command.TheVariants as c;
+    ghost use Rattle.std.specs.Prelude.{IfOk, List, None, OnOk, ◌+◌, unwrap_or, ℕ};
     ghost use Rattle.dot_emulator.specs.Steps.{AreStepsOf};
     ghost use Rattle.printer_definitions.specs.Printer.{Printer};
 
     /// Why a raster is refused, whatever its dots.
     pub(crate) fn refuses_raster(&self, steps: Steps, head: RasterHead) -> Option<EmuFault>
-        requires column { 0 < steps.column }
-        requires row { 0 < steps.row }
-        ensures { (p : Printer) → AreStepsOf p steps → result ≡ early_fault p (machine_of self.now []) head }
+        ensures is { (p : Printer) → AreStepsOf p steps → result ≡ early_fault p (machine_of self.now []) head }
+        ensures page { result ≡ None → 1 ≤ unwrap_or self.now.page 0 }
+        ensures column { result ≡ None → head.h ≡ steps.column }
     {
         if !self.graphics {
             return Some(EmuFault::NotGraphics);
@@ -67,5 +83,53 @@ impl State {
             return Some(EmuFault::OffGrid);
         }
         None
+    }
+
+    /// Where a raster stands, or why it is refused whatever its dots.
+    pub(crate) fn place(&self, steps: Steps, head: RasterHead) -> Result<Raster, EmuFault>
+        requires { head.n ≤ 8191 }
+        ensures placed { (p : Printer) (dots : List Dot) → AreStepsOf p steps → IsPlaced p (machine_of self.now dots) head result }
+        ensures page { OnOk result (1 ≤ unwrap_or self.now.page 0) }
+        ensures head { IfOk result (λ r. r.head ≡ head) }
+        ensures x { IfOk result (λ r. r.x ≡ self.now.across / head.h) }
+        ensures on_page { IfOk result (λ r. r.end ≤ sheet_rows self.now.page steps.row) }
+    {
+        if let Some(fault) = self.refuses_raster(steps, head) {
+            return Err(fault);
+        }
+        let x = self.across / steps.column;
+        if x + u32::from(head.n) > MOST_COLUMNS {
+            return Err(EmuFault::OffSheet);
+        }
+        Ok(Raster {
+            head,
+            ink: self.colour,
+            x,
+            y: (self.top() + self.down) / steps.row,
+            pitch: steps.pitch,
+            end: (self.bottom() + steps.row - 1) / steps.row,
+        })
+    }
+
+    /// Behind the raster.
+    pub(crate) fn behind(&self, raster: Raster) -> State
+        requires { raster.x ≡ self.now.across / raster.head.h }
+        ensures page { result.page ≡ self.now.page }
+        ensures columns { self.now.columns ≤ result.columns }
+        ensures end { raster.x + raster.head.n ≤ result.columns }
+        ensures step { (p : Printer) (dots : List Dot) (rows : List ℕ) → Placed p (machine_of self.now dots) raster.head raster
+            → machine_of result (after p (machine_of self.now dots) (c.Raster raster.head) rows).dots ≡ after p (machine_of self.now dots) (c.Raster raster.head) rows }
+    {
+        let end = raster.x + u32::from(raster.head.n);
+        State {
+            graphics: self.graphics,
+            unit: self.unit,
+            page: self.page,
+            margins: self.margins,
+            colour: self.colour,
+            down: self.down,
+            across: self.across + u32::from(raster.head.n) * u32::from(raster.head.h),
+            columns: self.columns.max(end),
+        }
     }
 }

@@ -1,5 +1,5 @@
 //! What the machine keeps besides the dots of its sheet.
-ghost use Rattle.dot_emulator.specs.Margins.{top_of};
+ghost use Rattle.dot_emulator.specs.Margins.{bottom_or, top_of};
 ghost use Rattle.escp2_definitions.specs.Machine.{bottom_margin, page_length, start, top_margin, units};
 ghost use Rattle.std.specs.Prelude.{[], unwrap_or, ◌*◌, ◌≡◌, ◌≤◌};
 
@@ -31,6 +31,10 @@ pub(crate) struct State {
     ghost top_most: { top_of margins ≤ 79200 },
     ghost across_most: { across ≤ 20000000 },
     ghost columns_most: { columns ≤ 8191 },
+    ghost columns_some: { 1 ≤ columns },
+    ghost unit_some: { 1 ≤ unwrap_or unit 1 },
+    ghost bottom_some: { 1 ≤ bottom_or 1 margins },
+    ghost bottom_on_page: { bottom_or 0 margins ≤ unwrap_or page 0 },
 }
 
 impl State {
@@ -82,7 +86,9 @@ impl State {
 
     /// The bottom margin, or 0.
     pub(crate) fn bottom(&self) -> u32
-        ensures { result ≡ bottom_margin (machine_of self.now []) }
+        ensures is { result ≡ bottom_margin (machine_of self.now []) }
+        ensures on_page { result ≤ unwrap_or self.now.page 0 }
+        ensures most { result ≤ 79200 }
     {
         match self.margins {
             Some(margins) => margins.bottom,

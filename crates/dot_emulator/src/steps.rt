@@ -1,12 +1,13 @@
 //! Commands that fire no dots: what they are refused for, and the state behind them.
-ghost use Rattle.dot_emulator.specs.States.{IsStep, machine_of};
+ghost use Rattle.dot_emulator.specs.States.{IsStep, is_plain, machine_of};
+ghost use Rattle.escp2_definitions.specs.Commands.{in_table};
 ghost use Rattle.escp2_definitions.specs.Machine.{Dot, has_dots as is_dotted};
 ghost use Rattle.escp2_definitions.specs.declared.command.Command.TheVariants as c;
 ghost use Rattle.printer_definitions.specs.Printer.{Printer};
-ghost use Rattle.std.specs.Prelude.{List, Ok, ◌≡◌, ◌≤◌};
+ghost use Rattle.std.specs.Prelude.{IfOk, List, Ok, OnOk, true, unwrap_or, ◌<◌, ◌≡◌, ◌≤◌};
 
-use crate::EmuFault;
 use crate::state::{Margins, State};
+use crate::{Command, EmuFault};
 use weave_base::Ink;
 
 /// The longest page, in 1/3600 inch: 22 inches.
@@ -41,6 +42,7 @@ impl State {
 
     /// Sets the unit.
     pub(crate) fn set_unit(&self, m: u8) -> State
+        requires { 1 ≤ m }
         ensures { (p : Printer) (dots : List Dot) → IsStep p (machine_of self.now dots) (c.Unit m) (Ok result) }
     {
         State {
@@ -89,7 +91,7 @@ impl State {
         bottom: u16,
         has_dots: bool,
     ) -> Result<State, EmuFault>
-        requires { top ≤ bottom }
+        requires { top < bottom }
         ensures { (p : Printer) (dots : List Dot) → has_dots ≡ is_dotted (machine_of self.now dots)
             → IsStep p (machine_of self.now dots) (c.Margins top bottom) result }
     {
@@ -229,7 +231,9 @@ impl State {
 
     /// Begins the next sheet.
     pub(crate) fn eject(&self) -> Result<State, EmuFault>
-        ensures { (p : Printer) (dots : List Dot) → IsStep p (machine_of self.now dots) c.Eject result }
+        ensures step { (p : Printer) (dots : List Dot) → IsStep p (machine_of self.now dots) c.Eject result }
+        ensures page { OnOk result (1 ≤ unwrap_or self.now.page 0) }
+        ensures same { IfOk result (λ s. s.page ≡ self.now.page) }
     {
         if self.margins.is_none() {
             return Err(EmuFault::NoMargins);
@@ -244,5 +248,27 @@ impl State {
             across: 0,
             columns: 1,
         })
+    }
+
+    /// The state behind a command that fires no dots and gives no sheet, or why it is refused.
+    pub(crate) fn after(&self, command: Command, has_dots: bool) -> Result<State, EmuFault>
+        requires plain { is_plain command ≡ true }
+        requires in_range { in_table command ≡ true }
+        ensures { (p : Printer) (dots : List Dot) → has_dots ≡ is_dotted (machine_of self.now dots)
+            → IsStep p (machine_of self.now dots) command result }
+    {
+        match command {
+            Command::Init => self.init(has_dots),
+            Command::Graphics => Ok(self.graphics()),
+            Command::Unit { m } => Ok(self.set_unit(m)),
+            Command::Length { n } => self.set_length(n, has_dots),
+            Command::Margins { top, bottom } => self.set_margins(top, bottom, has_dots),
+            Command::DownTo { n } => self.down_to(n),
+            Command::DownBy { n } => self.down_by(n),
+            Command::Across { n } => self.across_to(n),
+            Command::Return => Ok(self.return_left()),
+            Command::Colour { ink } => Ok(self.set_colour(ink)),
+            _ => Ok(*self),
+        }
     }
 }

@@ -1,7 +1,7 @@
 //! Dots and amounts by hand.
 ghost use Rattle.std.specs.Prelude.{length, ◌<◌, ◌≡◌};
 
-use super::{InkRows, Planes, TileBits, TileDots};
+use super::{InkRows, Planes, TileBits, TileDots, has_dot};
 use tile_shape::Place;
 use weave_base::Memory;
 
@@ -146,4 +146,20 @@ fn each_tile_of_a_slab_sets_its_pixels_and_no_others(rt: HostRuntime) {
             assert!(rt; has_tile(&planes, place, 0) && has_tile(&planes, place, 1));
         }
     }
+}
+
+#[test]
+fn rows_are_laid_between_bytes(rt: HostRuntime) {
+    let Ok(mut planes) = Planes::make(rt.alloc(), 20, 2, 4) else {
+        assert!(rt; false);
+        return;
+    };
+    planes.lay(2, 1, 3, &[0xA0, 0xFF], 9);
+    assert_eq!(rt; planes.row(2, 1), [0x14, 0x10, 0x00].as_slice());
+    assert_eq!(rt; (planes.count(0), planes.count(2)), (0, 3));
+    planes.lay(2, 1, 8, &[0x01], 8);
+    assert_eq!(rt; planes.row(2, 1), [0x14, 0x11, 0x00].as_slice());
+    assert!(rt; planes.meets(2, 1, 11, &[0x80], 1) && !planes.meets(2, 1, 12, &[0x80], 1));
+    assert!(rt; !planes.meets(2, 0, 11, &[0x80], 1) && !planes.meets(1, 1, 11, &[0x80], 1));
+    assert!(rt; has_dot(&[0x00, 0x80], 9) && !has_dot(&[0x00, 0x40], 9));
 }

@@ -5,6 +5,12 @@ use Rattle.job_words.specs.declared.usage.UsageCause.{UsageCause}
 use Rattle.job_words.specs.declared.usage.UsageCause.TheVariants as usage
 use Rattle.driver_answer.specs.declared.answer.Answer.{Answer}
 use Rattle.driver_answer.specs.declared.answer.Answer.TheVariants as answer
+use Rattle.escp2_definitions.specs.declared.stops.EmuFault.{EmuFault}
+use Rattle.escp2_definitions.specs.declared.stops.EmuFault.TheVariants as machine
+use Rattle.escp2_definitions.specs.declared.stops.JobCause.{JobCause}
+use Rattle.escp2_definitions.specs.declared.stops.JobCause.TheVariants as reader
+use Rattle.escp2_definitions.specs.declared.stops.JobStop.{JobStop}
+use Rattle.escp2_definitions.specs.declared.stops.JobStop.TheVariants as job
 use Rattle.job_profile.specs.declared.stops.ProfileCause.{ProfileCause}
 use Rattle.job_profile.specs.declared.stops.ProfileCause.TheVariants as profile
 use Rattle.printer_profile.specs.declared.reading.TextCause.{TextCause}
@@ -19,7 +25,7 @@ use Rattle.pwg_definitions.specs.declared.faults.LineFault.TheVariants as line
 use Rattle.pwg_definitions.specs.declared.faults.InputCause.{InputCause}
 use Rattle.pwg_definitions.specs.declared.faults.InputCause.TheVariants as input
 
--- the exit status of an answer; 6 and 8 have none yet
+-- the exit status of an answer
 abbrev pub status_of : Answer → ℕ
 status_of answer.Done = 0
 status_of (answer.Usage fault) = 1
@@ -27,7 +33,9 @@ status_of (answer.Profile line cause) = 2
 status_of (answer.Input page line cause) = 3
 status_of answer.Read = 4
 status_of (answer.Write page) = 5
+status_of (answer.OverCap page total dots cap) = 6
 status_of answer.Memory = 7
+status_of (answer.Job offset cause) = 8
 
 -- a cause is printed by its name
 abbrev pub usage_name : UsageCause → List ℕ
@@ -102,6 +110,29 @@ profile_words profile.TooLong = codes "TooLong"
 profile_words (profile.Text cause) = text_words cause
 profile_words (profile.Check fault) = check_words fault
 
+abbrev pub reader_name : JobCause → List ℕ
+reader_name reader.Unknown = codes "Unknown"
+reader_name reader.BadLength = codes "BadLength"
+reader_name reader.BadValue = codes "BadValue"
+reader_name reader.RunCode = codes "RunCode"
+
+abbrev pub machine_name : EmuFault → List ℕ
+machine_name machine.NotGraphics = codes "NotGraphics"
+machine_name machine.NoUnit = codes "NoUnit"
+machine_name machine.NoMargins = codes "NoMargins"
+machine_name machine.Density = codes "Density"
+machine_name machine.Rows = codes "Rows"
+machine_name machine.Backward = codes "Backward"
+machine_name machine.OffGrid = codes "OffGrid"
+machine_name machine.OffSheet = codes "OffSheet"
+machine_name machine.Overprint = codes "Overprint"
+
+abbrev pub job_name : JobStop → List ℕ
+job_name (job.Reader cause) = reader_name cause
+job_name job.Cut = codes "Cut"
+job_name (job.Machine fault) = machine_name fault
+job_name job.TooLong = codes "TooLong"
+
 -- The line that an answer writes on the error sink; a run that did all writes none.
 abbrev pub line_of : Answer → List ℕ
 line_of answer.Done = []
@@ -111,4 +142,8 @@ line_of (answer.Input page line cause) =
     codes "input: page " ++ decimal page ++ codes " line " ++ decimal line ++ codes ": " ++ input_name cause ++ codes "\n"
 line_of answer.Read = codes "read failed\n"
 line_of (answer.Write page) = codes "write failed: page " ++ decimal page ++ codes "\n"
+line_of (answer.OverCap page total dots cap) =
+    codes "over cap: page " ++ decimal page ++ codes ": total " ++ decimal total ++ codes ", page " ++ decimal dots
+    ++ codes ", cap " ++ decimal cap ++ codes "\n"
 line_of answer.Memory = codes "out of memory\n"
+line_of (answer.Job offset cause) = codes "job: offset " ++ decimal offset ++ codes ": " ++ job_name cause ++ codes "\n"

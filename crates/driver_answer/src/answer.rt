@@ -1,11 +1,12 @@
 //! The answers of a run.
-ghost use Rattle.driver_answer.specs.Answers.{check_words, input_name as input_name_of, profile_words, text_words, usage_name as usage_name_of};
+ghost use Rattle.driver_answer.specs.Answers.{check_words, input_name as input_name_of, job_name as job_name_of, profile_words, text_words, usage_name as usage_name_of};
 ghost use Rattle.arrayvec.specs.ArrayString.{array_string_len};
 ghost use Rattle.std.specs.Fmt.{decimal};
 ghost use Rattle.std.specs.Prelude.{codes, ◌+◌, ◌++◌, ◌≡◌, ◌≤◌, []};
 
-use crate::names::{check_name, input_name, text_name, usage_name};
+use crate::names::{check_name, input_name, job_name, text_name, usage_name};
 use arrayvec::ArrayString;
+use escp2_definitions::JobStop;
 use itoa::Buffer;
 use job_profile::ProfileCause;
 use job_words::UsageFault;
@@ -36,8 +37,20 @@ pub enum Answer {
     Write {
         page: u32,
     },
+    /// This page does not fit under the cap of a meter, which has counted `total` dots.
+    OverCap {
+        page: u32,
+        total: u64,
+        dots: u64,
+        cap: u64,
+    },
     /// Memory ran out.
     Memory,
+    /// The print job is refused at this offset.
+    Job {
+        offset: u64,
+        cause: JobStop,
+    },
 }
 
 // Appends a number in decimal.
@@ -45,6 +58,16 @@ fn push_number(n: u32, out: &mut ArrayString<160>)
     requires { array_string_len out.old + 10 ≤ 160 }
     ensures bytes { out.new.bytes ≡ out.old.bytes ++ decimal n }
     ensures len { array_string_len out.new ≤ array_string_len out.old + 10 }
+{
+    let mut buffer = Buffer::new();
+    out.push_str(buffer.format(n));
+}
+
+// Appends a number of 64 bits in decimal.
+fn push_wide(n: u64, out: &mut ArrayString<160>)
+    requires { array_string_len out.old + 20 ≤ 160 }
+    ensures bytes { out.new.bytes ≡ out.old.bytes ++ decimal n }
+    ensures len { array_string_len out.new ≤ array_string_len out.old + 20 }
 {
     let mut buffer = Buffer::new();
     out.push_str(buffer.format(n));
@@ -140,10 +163,36 @@ fn push_write(page: u32, out: &mut ArrayString<160>)
     out.push_str("\n");
 }
 
+fn push_over_cap(page: u32, total: u64, dots: u64, cap: u64, out: &mut ArrayString<160>)
+    requires { array_string_len out.old ≡ 0 }
+    ensures { out.new.bytes ≡ out.old.bytes ++ (codes "over cap: page " ++ decimal page ++ codes ": total " ++ decimal total ++ codes ", page " ++ decimal dots ++ codes ", cap " ++ decimal cap ++ codes "\n") }
+{
+    out.push_str("over cap: page ");
+    push_number(page, out);
+    out.push_str(": total ");
+    push_wide(total, out);
+    out.push_str(", page ");
+    push_wide(dots, out);
+    out.push_str(", cap ");
+    push_wide(cap, out);
+    out.push_str("\n");
+}
+
+fn push_job(offset: u64, cause: JobStop, out: &mut ArrayString<160>)
+    requires { array_string_len out.old ≡ 0 }
+    ensures { out.new.bytes ≡ out.old.bytes ++ (codes "job: offset " ++ decimal offset ++ codes ": " ++ job_name_of cause ++ codes "\n") }
+{
+    out.push_str("job: offset ");
+    push_wide(offset, out);
+    out.push_str(": ");
+    out.push_str(job_name(cause));
+    out.push_str("\n");
+}
+
 impl Answer {
     ghost use Rattle.driver_answer.specs.Answers.{line_of, status_of};
 
-    /// The exit status: 0 to 8.
+    /// The exit status: 0 to 8, in the order of the answers.
     pub fn status(&self) -> u8
         ensures { result ≡ status_of self.now }
     {
@@ -154,7 +203,9 @@ impl Answer {
             Answer::Input { .. } => 3,
             Answer::Read => 4,
             Answer::Write { .. } => 5,
+            Answer::OverCap { .. } => 6,
             Answer::Memory => 7,
+            Answer::Job { .. } => 8,
         }
     }
 
@@ -170,7 +221,14 @@ impl Answer {
             Answer::Input { page, line, cause } => push_input(page, line, cause, out),
             Answer::Read => out.push_str("read failed\n"),
             Answer::Write { page } => push_write(page, out),
+            Answer::OverCap {
+                page,
+                total,
+                dots,
+                cap,
+            } => push_over_cap(page, total, dots, cap, out),
             Answer::Memory => out.push_str("out of memory\n"),
+            Answer::Job { offset, cause } => push_job(offset, cause, out),
         }
     }
 }

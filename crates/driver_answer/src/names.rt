@@ -1,7 +1,8 @@
 //! The names of causes, as the error line prints them.
-ghost use Rattle.driver_answer.specs.Answers.{check_name as check_name_of, header_name as header_name_of, input_name as input_name_of, line_name as line_name_of, text_name as text_name_of, usage_name as usage_name_of};
+ghost use Rattle.driver_answer.specs.Answers.{check_name as check_name_of, header_name as header_name_of, input_name as input_name_of, job_name as job_name_of, line_name as line_name_of, machine_name as machine_name_of, reader_name as reader_name_of, text_name as text_name_of, usage_name as usage_name_of};
 ghost use Rattle.std.specs.Prelude.{◌≡◌, ◌≤◌, length};
 
+use escp2_definitions::{EmuFault, JobCause, JobStop};
 use job_words::UsageCause;
 use printer_profile::{ProfileFault, TextCause};
 use pwg_definitions::{HeaderFault, InputCause, LineFault};
@@ -86,5 +87,46 @@ pub fn check_name(fault: ProfileFault) -> &'static str
         ProfileFault::RowStep => "RowStep",
         ProfileFault::TopMargin { .. } => "TopMargin",
         ProfileFault::BlackStart => "BlackStart",
+    }
+}
+
+fn reader_name(cause: JobCause) -> &'static str
+    ensures name { result.now ≡ reader_name_of cause }
+    ensures len { length result.now ≤ 16 }
+{
+    match cause {
+        JobCause::Unknown => "Unknown",
+        JobCause::BadLength => "BadLength",
+        JobCause::BadValue => "BadValue",
+        JobCause::RunCode => "RunCode",
+    }
+}
+
+fn machine_name(fault: EmuFault) -> &'static str
+    ensures name { result.now ≡ machine_name_of fault }
+    ensures len { length result.now ≤ 16 }
+{
+    match fault {
+        EmuFault::NotGraphics => "NotGraphics",
+        EmuFault::NoUnit => "NoUnit",
+        EmuFault::NoMargins => "NoMargins",
+        EmuFault::Density => "Density",
+        EmuFault::Rows => "Rows",
+        EmuFault::Backward => "Backward",
+        EmuFault::OffGrid => "OffGrid",
+        EmuFault::OffSheet => "OffSheet",
+        EmuFault::Overprint => "Overprint",
+    }
+}
+
+pub fn job_name(cause: JobStop) -> &'static str
+    ensures name { result.now ≡ job_name_of cause }
+    ensures len { length result.now ≤ 16 }
+{
+    match cause {
+        JobStop::Reader(cause) => reader_name(cause),
+        JobStop::Cut => "Cut",
+        JobStop::Machine(fault) => machine_name(fault),
+        JobStop::TooLong => "TooLong",
     }
 }

@@ -1,13 +1,16 @@
 -- What printing comes to, at each of its ends.
-use Rattle.std.proofs.Common.{◌≡◌, ℕ, ◌+◌, ◌-◌, ◌*◌, ◌/◌, ◌⊎◌, inl, inr, ◌≤◌, List, [], ◌∷◌, ◌++◌, length, Option, None, Some, IfNone, IfSome, Err, IsErrOf, refl, sym, ◌∙◌, ap, subst, arith, append_assoc, append-nil}
+use Rattle.std.proofs.Common.{◌≡◌, ℕ, ◌+◌, ◌-◌, ◌*◌, inl, inr, ◌≤◌, List, [], ◌∷◌, ◌++◌, length, Option, None, Some, IfNone, IfSome, Err, IsErrOf, refl, sym, ◌∙◌, ap, subst, arith, append_assoc, append-nil}
 use Rattle.std.specs.List.{AllByRecursion}
 use Rattle.std.specs.Io.KnownBytes.{Appends, Consumes, IsAtEnd, Keeps}
 use Rattle.std.proofs.KnownBytes.{Appends-nil, Consumes-nil, Consumes-trans}
 use Rattle.diffusion_definitions.specs.Diffusion.{Table}
+use Rattle.ink_meter.specs.Accounts.{Account, IsFirstOver, all_inks}
+use Rattle.ink_meter.specs.declared.meters.OverCap.{OverCap}
 use Rattle.page_definitions.specs.Dots.{halftone}
 use Rattle.page_definitions.specs.PageBytes.{halftone_bytes, page_bytes}
 use Rattle.page_laws.proofs.Headline.{pages-print}
 use Rattle.page_laws.proofs.Rasters.{pages-have}
+use Rattle.page_meter.specs.Counts.{page_dots}
 use Rattle.printer_definitions.specs.Printer.{Printer, row_units}
 use Rattle.separation_definitions.specs.CanPrint.{CanPrint}
 use Rattle.separation_definitions.specs.Windows.{wanted_by}
@@ -24,13 +27,17 @@ use Rattle.pwg_stream.specs.declared.stops.StreamStop.TheVariants as stop
 use Rattle.pwg_stream.specs.Reading.{page_of, text_of}
 use Rattle.pwg_stream.specs.Stops.{OnInput}
 use Rattle.unread_bytes.specs.Text.{UsesSome, text_behind}
+use Rattle.weave_base.specs.declared.answers.InkCounts.{InkCounts}
 use Rattle.weave_base.specs.Causes.{Rose}
 use Rattle.weave_base.specs.Parts.{AppendsPart}
+use Rattle.driver_core.specs.declared.stops.PrintStop.{PrintStop}
 use Rattle.driver_core.specs.declared.stops.PrintStop.TheVariants as print
-use Rattle.driver_core.specs.Outside.{Outside}
-use Rattle.driver_core.specs.Pages.{IsStream, TakesPages, job_bytes}
-use Rattle.driver_core.specs.Printing.{PrintStopped, PrintsAll, PrintsSome, stream_stop}
+use Rattle.driver_core.specs.Charging.{RefusesPage}
+use Rattle.driver_core.specs.Outside.{Meters, Outside}
+use Rattle.driver_core.specs.Pages.{BeginsStream, IsStream, TakesPages, job_bytes}
+use Rattle.driver_core.specs.Printing.{CountsPages, PrintStopped, PrintsAll, PrintsSome, stream_stop}
 use Rattle.halftone_reader.proofs.PageSteps.{EndsSo}
+use Rattle.driver_core.proofs.Counting.{none_counted}
 use Rattle.driver_core.proofs.StreamSteps.{StreamRead, StreamSoFar, with_pages, pages-first}
 
 -- ---- pages are pages
@@ -100,46 +107,63 @@ taken_pages p before text left unread bytes pages most number uses is more = rec
   are = ap (λ bs. (stream (wanted_by p) bs).pages) (append_assoc bytes more.bytes unread) ∙ ap (λ (s : Stream). s.pages) (is (more.bytes ++ unread));
 }
 
+-- some pages were printed, and these were counted
+abbrev PrintsCounted : Printer → Table → Outside → Outside → Meters → Type 0
+PrintsCounted p k input out meters = (some : PrintsSome p k input out) × CountsPages p k meters some.pages
+
 -- no page was printed
-none_printed : (p : Printer) (k : Table) (before left held : Option (List ℕ)) (f0 f1 g0 g1 : ℕ) → UsesSome before left
-    → PrintsSome p k (record { before = before; now = left; faults_before = f0; faults_now = f1 }) (record { before = held; now = held; faults_before = g0; faults_now = g1 })
-none_printed p k before left held f0 f1 g0 g1 more = record {
-  pages = [];
-  taken = record { bytes = more.bytes; taken = more.is; others = (stream (wanted_by p) more.bytes).pages; are = refl };
-  writes = Appends-nil held;
-}
+none_printed : (p : Printer) (k : Table) (before left held : Option (List ℕ)) (accounts : List Account) (f0 f1 g0 g1 : ℕ) → UsesSome before left
+    → PrintsCounted p k (record { before = before; now = left; faults_before = f0; faults_now = f1 }) (record { before = held; now = held; faults_before = g0; faults_now = g1 })
+    (record { before = accounts; now = accounts })
+none_printed p k before left held accounts f0 f1 g0 g1 more = (
+  record {
+    pages = [];
+    taken = record { bytes = more.bytes; taken = more.is; others = (stream (wanted_by p) more.bytes).pages; are = refl };
+    writes = Appends-nil held;
+  },
+  none_counted p k accounts,
+)
 
 -- the pages that were read so far were printed, and no other
-some_printed : (p : Printer) (k : Table) (before left left' held now : Option (List ℕ)) (old new : PageReader) (number f0 f2 g0 g1 : ℕ)
-    → StreamSoFar p k before left held now old number → UsesSome (text_of old left) (text_of new left')
-    → PrintsSome p k (record { before = before; now = left'; faults_before = f0; faults_now = f2 }) (record { before = held; now = now; faults_before = g0; faults_now = g1 })
-some_printed p k before left left' held now old new number f0 f2 g0 g1 so_far more = record {
-  pages = so_far.done;
-  taken = taken_pages p before (text_of old left) left' new.unread so_far.bytes so_far.done _ _ so_far.used so_far.is more;
-  writes = so_far.written;
-}
+some_printed : (p : Printer) (k : Table) (before left left' held now : Option (List ℕ)) (meters : Meters) (old new : PageReader) (number f0 f2 g0 g1 : ℕ)
+    → (so_far : StreamSoFar p k before left held now old number) → CountsPages p k meters so_far.done → UsesSome (text_of old left) (text_of new left')
+    → PrintsCounted p k (record { before = before; now = left'; faults_before = f0; faults_now = f2 }) (record { before = held; now = now; faults_before = g0; faults_now = g1 }) meters
+some_printed p k before left left' held now meters old new number f0 f2 g0 g1 so_far counts more = (
+  record {
+    pages = so_far.done;
+    taken = taken_pages p before (text_of old left) left' new.unread so_far.bytes so_far.done _ _ so_far.used so_far.is more;
+    writes = so_far.written;
+  },
+  counts,
+)
+
+-- want of memory before the next page is counted
+full_before : (p : Printer) (k : Table) (input out : Outside) (meters : Meters) → PrintsCounted p k input out meters → PrintStopped p k input out meters print.Memory
+full_before p k input out meters printed = (printed.0, inl printed.1)
 
 -- the stream does not begin as one
-pub no_sync : (p : Printer) (k : Table) (before left held : Option (List ℕ)) (f0 f1 g0 g1 : ℕ) (why : StreamStop)
+pub no_sync : (p : Printer) (k : Table) (before left held : Option (List ℕ)) (accounts : List Account) (f0 f1 g0 g1 : ℕ) (why : StreamStop)
     → OnInput {T = PageReader} (Err why) (λ page line cause. IfSome before (λ bytes. (want : Wanted) → stream want bytes ≡ record { pages = []; end = Fault page line cause }))
     → (IsErrOf {T = PageReader} (Err why) stop.Read → Rose f0 f1) → UsesSome before left
-    → PrintStopped p k (record { before = before; now = left; faults_before = f0; faults_now = f1 }) (record { before = held; now = held; faults_before = g0; faults_now = g1 }) (stream_stop why)
-no_sync p k before left held f0 f1 g0 g1 (stop.Input page line cause) bad cause_is more = record { pages = []; told = some before bad; writes = Appends-nil held }
+    → PrintStopped p k (record { before = before; now = left; faults_before = f0; faults_now = f1 }) (record { before = held; now = held; faults_before = g0; faults_now = g1 })
+    (record { before = accounts; now = accounts }) (stream_stop why)
+no_sync p k before left held accounts f0 f1 g0 g1 (stop.Input page line cause) bad cause_is more =
+    (record { pages = []; told = some before bad; writes = Appends-nil held }, none_counted p k accounts)
   where
     some : (o : Option (List ℕ)) → IfSome o (λ bytes. (want : Wanted) → stream want bytes ≡ record { pages = []; end = Fault page line cause }) → IsStream p o [] (Fault page line cause)
     some None h = tt
     some (Some bytes) h = h (wanted_by p)
-no_sync p k before left held f0 f1 g0 g1 stop.Read bad cause_is more =
-    (cause_is refl, none_printed p k before left held f0 f1 g0 g1 more)
-no_sync p k before left held f0 f1 g0 g1 stop.Memory bad cause_is more =
-    none_printed p k before left held f0 f1 g0 g1 more
+no_sync p k before left held accounts f0 f1 g0 g1 stop.Read bad cause_is more =
+    let none = none_printed p k before left held accounts f0 f1 g0 g1 more in (cause_is refl, none.0, none.1)
+no_sync p k before left held accounts f0 f1 g0 g1 stop.Memory bad cause_is more =
+    full_before p k _ _ _ (none_printed p k before left held accounts f0 f1 g0 g1 more)
 
-pub page_stopped : (T : Type 0) (p : Printer) (k : Table) (before left left' held now : Option (List ℕ)) (old new : PageReader) (number f0 f1 f2 g0 g1 : ℕ) (why : StreamStop)
-    → StreamSoFar p k before left held now old number → OnInput {T = T} (Err why) (EndsSo (wanted_by p) old left)
+pub page_stopped : (T : Type 0) (p : Printer) (k : Table) (before left left' held now : Option (List ℕ)) (meters : Meters) (old new : PageReader) (number f0 f1 f2 g0 g1 : ℕ) (why : StreamStop)
+    → (so_far : StreamSoFar p k before left held now old number) → CountsPages p k meters so_far.done → OnInput {T = T} (Err why) (EndsSo (wanted_by p) old left)
     → f0 ≤ f1 → (IsErrOf {T = T} (Err why) stop.Read → Rose f1 f2) → UsesSome (text_of old left) (text_of new left')
-    → PrintStopped p k (record { before = before; now = left'; faults_before = f0; faults_now = f2 }) (record { before = held; now = now; faults_before = g0; faults_now = g1 }) (stream_stop why)
-page_stopped T p k before left left' held now old new number f0 f1 f2 g0 g1 (stop.Input page line cause) so_far bad later cause_is more =
-    record { pages = so_far.done; told = told before (text_of old left) so_far.used bad; writes = so_far.written }
+    → PrintStopped p k (record { before = before; now = left'; faults_before = f0; faults_now = f2 }) (record { before = held; now = now; faults_before = g0; faults_now = g1 }) meters (stream_stop why)
+page_stopped T p k before left left' held now meters old new number f0 f1 f2 g0 g1 (stop.Input page line cause) so_far counts bad later cause_is more =
+    (record { pages = so_far.done; told = told before (text_of old left) so_far.used bad; writes = so_far.written }, counts)
   where
     told : (a b : Option (List ℕ)) → Consumes a b so_far.bytes
         → IfSome b (λ text. pages_from (wanted_by p) (9999 - page_of old) (page_of old + 1) text ≡ record { pages = []; end = Fault page line cause }) → IsStream p a so_far.done (Fault page line cause)
@@ -151,41 +175,44 @@ page_stopped T p k before left left' held now old new number f0 f1 f2 g0 g1 (sto
         ∙ ap (λ n. with_pages so_far.done (pages_from (wanted_by p) (9999 - n) (n + 1) ys)) (sym so_far.many)
         ∙ ap (with_pages so_far.done) h
         ∙ ap (λ ps. record { pages = ps; end = Fault page line cause }) (append-nil so_far.done)
-page_stopped T p k before left left' held now old new number f0 f1 f2 g0 g1 stop.Read so_far bad later cause_is more =
-    (rose_from f0 f1 f2 later (cause_is refl), some_printed p k before left left' held now old new number f0 f2 g0 g1 so_far more)
-page_stopped T p k before left left' held now old new number f0 f1 f2 g0 g1 stop.Memory so_far bad later cause_is more =
-    some_printed p k before left left' held now old new number f0 f2 g0 g1 so_far more
+page_stopped T p k before left left' held now meters old new number f0 f1 f2 g0 g1 stop.Read so_far counts bad later cause_is more =
+    let some = some_printed p k before left left' held now meters old new number f0 f2 g0 g1 so_far counts more in (rose_from f0 f1 f2 later (cause_is refl), some.0, some.1)
+page_stopped T p k before left left' held now meters old new number f0 f1 f2 g0 g1 stop.Memory so_far counts bad later cause_is more =
+    full_before p k _ _ _ (some_printed p k before left left' held now meters old new number f0 f2 g0 g1 so_far counts more)
 
 pages-none : (want : Wanted) (most number : ℕ) → pages_from want most number [] ≡ record { pages = []; end = Done }
 unfolding pages_from
 pages-none want most number = refl
 
 -- the stream ended
-pub stream_done : (p : Printer) (k : Table) (before left left' held now : Option (List ℕ)) (old new : PageReader) (number f0 f2 g0 g1 : ℕ)
-    → CanPrint p → StreamSoFar p k before left held now old number
+pub stream_done : (p : Printer) (k : Table) (before left left' held now : Option (List ℕ)) (meters : Meters) (old new : PageReader) (number f0 f2 g0 g1 : ℕ)
+    → CanPrint p → (so_far : StreamSoFar p k before left held now old number) → CountsPages p k meters so_far.done
     → IsAtEnd (text_of old left) → IsAtEnd (text_of new left') → UsesSome (text_of old left) (text_of new left')
-    → PrintsAll p k (record { before = before; now = left'; faults_before = f0; faults_now = f2 }) (record { before = held; now = now; faults_before = g0; faults_now = g1 })
-stream_done p k before left left' held now old new number f0 f2 g0 g1 can so_far end end' more =
+    → (all : PrintsAll p k (record { before = before; now = left'; faults_before = f0; faults_now = f2 }) (record { before = held; now = now; faults_before = g0; faults_now = g1 }))
+    × CountsPages p k meters all.pages
+stream_done p k before left left' held now meters old new number f0 f2 g0 g1 can so_far counts end end' more =
     let is : stream (wanted_by p) so_far.bytes ≡ record { pages = so_far.done; end = Done } =
     ap (stream (wanted_by p)) (sym (append-nil so_far.bytes))
     ∙ so_far.is []
     ∙ ap (with_pages so_far.done) (pages-none (wanted_by p) (9999 - length so_far.done) (length so_far.done + 1))
     ∙ ap (λ ps. record { pages = ps; end = Done }) (append-nil so_far.done) in
     let P : List Page → Type 0 = AllByRecursion (IsPage (wanted_by p)) in
-    let are : P so_far.done = subst P (ap (λ (s : Stream). s.pages) is) (stream-pages (wanted_by p) so_far.bytes) in
-    record {
-      pages = so_far.done;
-      reads = record {
-        bytes = so_far.bytes;
-        taken = text_ended before (text_of old left) left' new.unread so_far.bytes so_far.used end more end';
-        end = left_end left' new.unread end';
-        is = is;
-      };
-      told = told before (text_of old left) so_far.used is end;
-      writes = so_far.written;
-      prints = pages-print p k so_far.done can are;
-      passes = pages-have p k so_far.done can are;
-    }
+    let are : P so_far.done = subst P (ap (λ (s : Stream). s.pages) is) (stream-pages (wanted_by p) so_far.bytes) in (
+      record {
+        pages = so_far.done;
+        reads = record {
+          bytes = so_far.bytes;
+          taken = text_ended before (text_of old left) left' new.unread so_far.bytes so_far.used end more end';
+          end = left_end left' new.unread end';
+          is = is;
+        };
+        told = told before (text_of old left) so_far.used is end;
+        writes = so_far.written;
+        prints = pages-print p k so_far.done can are;
+        passes = pages-have p k so_far.done can are;
+      },
+      counts,
+    )
   where
     told : (a b : Option (List ℕ)) → Consumes a b so_far.bytes → stream (wanted_by p) so_far.bytes ≡ record { pages = so_far.done; end = Done } → IsAtEnd b → IsStream p a so_far.done Done
     told None b uses is end = tt
@@ -193,10 +220,10 @@ stream_done p k before left left' held now old new number f0 f2 g0 g1 can so_far
     told (Some xs) (Some ys) uses is end = ap (stream (wanted_by p)) (uses ∙ ap (λ bs. so_far.bytes ++ bs) end ∙ append-nil so_far.bytes) ∙ is
 
 -- a page was read, and a part of its job written
-pub page_not_written : (p : Printer) (k : Table) (before left held now now' : Option (List ℕ)) (reader : PageReader) (number f0 f2 g0 g1 g2 : ℕ) (page : Page)
-    → StreamRead p k before left held now reader number page → AppendsPart now now' (page_bytes page p k) → g0 ≤ g1 → Rose g1 g2
-    → PrintStopped p k (record { before = before; now = left; faults_before = f0; faults_now = f2 }) (record { before = held; now = now'; faults_before = g0; faults_now = g2 }) (print.Write number)
-page_not_written p k before left held now now' reader number f0 f2 g0 g1 g2 page read part later rose = (
+pub page_not_written : (p : Printer) (k : Table) (before left held now now' : Option (List ℕ)) (meters : Meters) (reader : PageReader) (number f0 f2 g0 g1 g2 : ℕ) (page : Page)
+    → (read : StreamRead p k before left held now reader number page) → CountsPages p k meters (read.done ++ page ∷ []) → AppendsPart now now' (page_bytes page p k) → g0 ≤ g1 → Rose g1 g2
+    → PrintStopped p k (record { before = before; now = left; faults_before = f0; faults_now = f2 }) (record { before = held; now = now'; faults_before = g0; faults_now = g2 }) meters (print.Write number)
+page_not_written p k before left held now now' meters reader number f0 f2 g0 g1 g2 page read counts part later rose = (
   rose_from g0 g1 g2 later rose,
   record {
     pages = read.done;
@@ -207,19 +234,54 @@ page_not_written p k before left held now now' reader number f0 f2 g0 g1 g2 page
     whole = read.written;
     part = part;
   },
+  counts,
 )
 
 -- a page was read, and nothing of its job written
-pub page_without_room : (p : Printer) (k : Table) (before left held now now' : Option (List ℕ)) (reader : PageReader) (number f0 f2 g0 g2 : ℕ) (page : Page)
-    → StreamRead p k before left held now reader number page → Keeps now now'
-    → PrintsSome p k (record { before = before; now = left; faults_before = f0; faults_now = f2 }) (record { before = held; now = now'; faults_before = g0; faults_now = g2 })
-page_without_room p k before left held now now' reader number f0 f2 g0 g2 page read kept =
-    let all = taken_pages p before (text_of reader left) left reader.unread read.bytes (read.done ++ page ∷ []) _ _ read.used read.is (record { bytes = []; is = Consumes-nil (text_of reader left) }) in
-    record {
+pub page_without_room : (p : Printer) (k : Table) (before left held now now' : Option (List ℕ)) (meters : Meters) (reader : PageReader) (number f0 f2 g0 g2 : ℕ) (page : Page)
+    → (read : StreamRead p k before left held now reader number page) → CountsPages p k meters (read.done ++ page ∷ []) → Keeps now now'
+    → PrintStopped p k (record { before = before; now = left; faults_before = f0; faults_now = f2 }) (record { before = held; now = now'; faults_before = g0; faults_now = g2 }) meters print.Memory
+page_without_room p k before left held now now' meters reader number f0 f2 g0 g2 page read counts kept =
+    let all = taken_pages p before (text_of reader left) left reader.unread read.bytes (read.done ++ page ∷ []) _ _ read.used read.is (record { bytes = []; is = Consumes-nil (text_of reader left) }) in (
+      record {
+        pages = read.done;
+        taken = record { bytes = all.bytes; taken = all.taken; others = page ∷ all.others; are = all.are ∙ append_assoc read.done (page ∷ []) all.others };
+        writes = appends_kept held now now' (job_bytes p k read.done) read.written kept;
+      },
+      inr (record { page = page; later = all.others; next = refl; pages_counted = counts }),
+    )
+
+-- the input begins with the pages that were read of it
+begins : (p : Printer) (before text : Option (List ℕ)) (bytes : List ℕ) (pages : List Page) (most number : ℕ) → Consumes before text bytes
+    → ((rest : List ℕ) → stream (wanted_by p) (bytes ++ rest) ≡ with_pages pages (pages_from (wanted_by p) most number rest)) → BeginsStream p before pages
+begins p None text bytes pages most number uses is = tt
+begins p (Some xs) None bytes pages most number uses is = absurd uses
+begins p (Some xs) (Some ys) bytes pages most number uses is =
+    ((pages_from (wanted_by p) most number ys).pages, ap (λ bs. (stream (wanted_by p) bs).pages) uses ∙ ap (λ (s : Stream). s.pages) (is ys))
+
+-- a page was read, and goes past a cap
+pub page_over : (p : Printer) (k : Table) (before left held now : Option (List ℕ)) (first last next : List Account) (reader : PageReader) (number f0 f2 g0 g1 : ℕ) (page : Page) (n : InkCounts) (why : PrintStop)
+    → (read : StreamRead p k before left held now reader number page) → CountsPages p k (record { before = first; now = last }) read.done → n ≡ page_dots page p k → RefusesPage number n last why → next ≡ last
+    → PrintStopped p k (record { before = before; now = left; faults_before = f0; faults_now = f2 }) (record { before = held; now = now; faults_before = g0; faults_now = g1 })
+    (record { before = first; now = next }) why
+page_over p k before left held now first last next reader number f0 f2 g0 g1 page n why read counts are refuses kept =
+    let S : PrintStop → Type 0 = λ stop. PrintStopped p k (record { before = before; now = left; faults_before = f0; faults_now = f2 }) (record { before = held; now = now; faults_before = g0; faults_now = g1 })
+    (record { before = first; now = next }) stop in
+    let over : OverCap = record { index = refuses.index; total = refuses.total; cap = refuses.cap } in
+    let F : InkCounts → Type 0 = λ m. IsFirstOver last m over in
+    let M : List Account → Type 0 = λ accounts. IsFirstOver accounts (page_dots page p k) over in
+    subst S (sym refuses.is) (record {
       pages = read.done;
-      taken = record { bytes = all.bytes; taken = all.taken; others = page ∷ all.others; are = all.are ∙ append_assoc read.done (page ∷ []) all.others };
-      writes = appends_kept held now now' (job_bytes p k read.done) read.written kept;
-    }
+      page = page;
+      taken = taken_pages p before (text_of reader left) left reader.unread read.bytes (read.done ++ page ∷ []) _ _ read.used read.is (record { bytes = []; is = Consumes-nil (text_of reader left) });
+      told = begins p before (text_of reader left) read.bytes (read.done ++ page ∷ []) _ _ read.used read.is;
+      number_is = read.next;
+      writes = read.written;
+      pages_counted = record { admitted = counts.admitted; counts = kept ∙ counts.counts };
+      index = refuses.index;
+      first = subst M (sym kept) (subst F are refuses.first);
+      dots_are = ap all_inks are;
+    })
 
 -- the bytes of a page are those of its halftone
 pub page-bytes-is : (p : Printer) (k : Table) (page : Page) (form : PageForm) → form ≡ page.form → halftone_bytes p (halftone page p k) (form.height * row_units p) ≡ page_bytes page p k

@@ -12,7 +12,11 @@ use Rattle.pwg_definitions.specs.Stream.{Page, Stream, page_at, pages_from, stre
 use Rattle.pwg_definitions.specs.Stream.PageRead.{Whole, Broken}
 use Rattle.pwg_stream.specs.declared.reader.PageReader.{PageReader}
 use Rattle.pwg_stream.specs.Reading.{has_ended, page_of, text_of}
+use Rattle.ink_meter.specs.Accounts.{Account}
+use Rattle.driver_core.specs.Outside.{Meters}
 use Rattle.driver_core.specs.Pages.{job_bytes}
+use Rattle.driver_core.specs.Printing.{CountsPages}
+use Rattle.driver_core.proofs.Counting.{none_counted}
 use Rattle.halftone_reader.specs.Reading.{IsBetween, ReadsPage}
 use Rattle.halftone_reader.proofs.PageSteps.{pages-read}
 
@@ -132,3 +136,29 @@ pub pages-first : (want : Wanted) (bytes : List ℕ) (page : Page) → ((rest : 
 pages-first want bytes page is =
     stream-synced want (bytes ++ [])
     ∙ pages-read want 9998 1 (bytes ++ []) (Whole page []) (omega (arith, page-some want bytes page is, length-append bytes [])) (is [])
+
+-- ---- the same, on meters
+
+abbrev pub MeteredSoFar : (p : Printer) (k : Table) (before left held now : Option (List ℕ)) (meters : Meters) (reader : PageReader) (number : ℕ) → Type 0
+MeteredSoFar p k before left held now meters reader number = (so_far : StreamSoFar p k before left held now reader number) × CountsPages p k meters so_far.done
+
+abbrev pub MeteredRead : (p : Printer) (k : Table) (before left held now : Option (List ℕ)) (meters : Meters) (reader : PageReader) (number : ℕ) (page : Page) → Type 0
+MeteredRead p k before left held now meters reader number page = (read : StreamRead p k before left held now reader number page) × CountsPages p k meters read.done
+
+pub metered_begin : (p : Printer) (k : Table) (before left held : Option (List ℕ)) (accounts : List Account) (reader : PageReader) → Consumes before (text_of reader left) sync_word
+    → page_of reader ≡ 0 → IsBetween reader → has_ended reader ≡ false → MeteredSoFar p k before left held held (record { before = accounts; now = accounts }) reader 1
+unfolding stream_begin
+metered_begin p k before left held accounts reader sync none between unended =
+    (stream_begin p k before left held reader sync none between unended, none_counted p k accounts)
+
+pub metered_read : (p : Printer) (k : Table) (before left left' held now : Option (List ℕ)) (meters : Meters) (old new : PageReader) (number : ℕ) (page : Page) → MeteredSoFar p k before left held now meters old number
+    → ReadsPage (wanted_by p) old new left left' page → IsBetween new → MeteredRead p k before left' held now meters new number page
+unfolding stream_read
+metered_read p k before left left' held now meters old new number page so_far reads between =
+    (stream_read p k before left left' held now old new number page so_far.0 reads between, so_far.1)
+
+pub metered_written : (p : Printer) (k : Table) (before left held now now' : Option (List ℕ)) (meters : Meters) (reader : PageReader) (number : ℕ) (page : Page) → (read : StreamRead p k before left held now reader number page)
+    → CountsPages p k meters (read.done ++ page ∷ []) → Appends now now' (page_bytes page p k) → MeteredSoFar p k before left held now' meters reader (number + 1)
+unfolding stream_written
+metered_written p k before left held now now' meters reader number page read counts wrote =
+    (stream_written p k before left held now now' reader number page read wrote, counts)

@@ -1,5 +1,9 @@
+pub mod Caps
+pub mod Charging
 pub mod Outside
 pub mod Pages
 pub mod Printing
 pub mod Showing
 pub mod Run
+pub mod Jobs
+pub mod JobPromises

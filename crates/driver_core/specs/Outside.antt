@@ -1,22 +1,10 @@
 -- What is outside of a run, at the call and at the return.
 use Rattle.std.specs.Prelude.{ℕ, List, Option}
 use Rattle.std.specs.Io.KnownBytes.{Keeps}
+use Rattle.ink_meter.specs.Accounts.{Account}
 use Rattle.weave_base.specs.Causes.{Rose}
 use Rattle.weave_base.specs.Shelf.{NamedText}
-
--- A source or a sink at the call and at the return: its bytes, where it tells them, and its count of faults.
-pub record Outside : Type 0 where
-  pub before : Option (List ℕ)
-  pub now : Option (List ℕ)
-  pub faults_before : ℕ
-  pub faults_now : ℕ
-
-abbrev pub HasRisen : Outside → Type 0
-HasRisen s = Rose s.faults_before s.faults_now
-
--- its count of faults did not rise
-abbrev pub IsCalm : Outside → Type 0
-IsCalm s = HasRisen s → ⊥
+pub use Rattle.outside_definitions.specs.Outside.{HasRisen, IsCalm, Outside}
 
 -- A shelf: its texts, where it tells them, and its count of faults at the call and at the return.
 pub record Texts : Type 0 where
@@ -27,11 +15,17 @@ pub record Texts : Type 0 where
 abbrev pub HasFailed : Texts → Type 0
 HasFailed shelf = Rose shelf.faults_before shelf.faults_now
 
--- What a run reads and writes, but for the error sink.
+-- What meters have counted and may count, at the call and at the return.
+pub record Meters : Type 0 where
+  pub before : List Account
+  pub now : List Account
+
+-- What a run reads, writes and counts on, but for the error sink.
 pub record Outsides : Type 0 where
   pub shelf : Texts
   pub input : Outside
   pub out : Outside
+  pub meters : Meters
 
 -- nothing was taken of the input, and nothing written
 abbrev pub Untouched : Outsides → Type 0

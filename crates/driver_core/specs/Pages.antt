@@ -1,16 +1,12 @@
 -- The pages of a stream that a run reads, and the bytes that it makes of them.
-use Rattle.std.specs.Prelude.{◌≡◌, ℕ, ◌+◌, ◌≤◌, List, ◌++◌, Option, None, IfSome}
+use Rattle.std.specs.Prelude.{◌≡◌, ℕ, List, ◌++◌, Option, IfSome}
 use Rattle.std.specs.List.{flat_map}
 use Rattle.std.specs.Io.KnownBytes.{Consumes, IsAtEnd}
 use Rattle.diffusion_definitions.specs.Diffusion.{Table}
 use Rattle.page_definitions.specs.PageBytes.{page_bytes}
 use Rattle.printer_definitions.specs.Printer.{Printer}
-use Rattle.pwg_stream.specs.declared.reader.PageReader.{PageReader}
-use Rattle.pwg_stream.specs.Reading.{has_ended, lines_left_of, page_of, stop_of, text_of}
 use Rattle.separation_definitions.specs.Windows.{wanted_by}
-use Rattle.pwg_definitions.specs.declared.pages.Wanted.{Wanted}
-use Rattle.pwg_definitions.specs.Stream.{Page, StreamEnd, page_at, stream}
-use Rattle.pwg_definitions.specs.Stream.PageRead.{Whole}
+use Rattle.pwg_definitions.specs.Stream.{Page, StreamEnd, stream}
 use Rattle.pwg_definitions.specs.Stream.StreamEnd.{Done}
 
 -- the job of pages: their bytes, one page after another
@@ -27,6 +23,10 @@ pub record ReadsStream (p : Printer) (before now : Option (List ℕ)) (pages : L
   pub taken : Consumes before now bytes
   pub end : IsAtEnd now
   pub is : stream (wanted_by p) bytes ≡ record { pages = pages; end = Done }
+
+-- the input, where it is told, is a stream that begins with these pages
+abbrev pub BeginsStream : Printer → Option (List ℕ) → List Page → Type 0
+BeginsStream p before pages = IfSome before (λ bytes. (others : List Page) × ((stream (wanted_by p) bytes).pages ≡ pages ++ others))
 
 -- The first pages of what was taken of the input are these.
 pub record TakesPages (p : Printer) (before now : Option (List ℕ)) (pages : List Page) : Type 0 where

@@ -1,11 +1,13 @@
 -- What printing the pages of a stream comes to: what was read and written, by why it stopped.
-use Rattle.std.specs.Prelude.{◌≡◌, ℕ, ◌+◌, List, [], ◌∷◌, ◌++◌, length, Option, Result, Ok, Err}
+use Rattle.std.specs.Prelude.{◌≡◌, ℕ, ◌+◌, ◌⊎◌, List, [], ◌∷◌, ◌++◌, length, Option, Result, Ok, Err}
 use Rattle.std.specs.Io.KnownBytes.{Appends}
 use Rattle.diffusion_definitions.specs.Diffusion.{Table}
 use Rattle.driver_answer.specs.declared.answer.Answer.{Answer}
 use Rattle.driver_answer.specs.declared.answer.Answer.TheVariants as answer
+use Rattle.ink_meter.specs.Accounts.{IsFirstOver, all_inks}
 use Rattle.page_definitions.specs.PageBytes.{page_bytes}
 use Rattle.page_definitions.specs.Printing.{HavePasses, Prints}
+use Rattle.page_meter.specs.Counts.{Admitted, counted, page_dots}
 use Rattle.printer_definitions.specs.Printer.{Printer}
 use Rattle.pwg_definitions.specs.declared.faults.InputCause.{InputCause}
 use Rattle.pwg_definitions.specs.Stream.{Page}
@@ -15,8 +17,8 @@ use Rattle.pwg_stream.specs.declared.stops.StreamStop.TheVariants as stream
 use Rattle.weave_base.specs.Parts.{AppendsPart}
 use Rattle.driver_core.specs.declared.stops.PrintStop.{PrintStop}
 use Rattle.driver_core.specs.declared.stops.PrintStop.TheVariants as stop
-use Rattle.driver_core.specs.Outside.{HasRisen, Outside}
-use Rattle.driver_core.specs.Pages.{IsStream, ReadsStream, TakesPages, job_bytes}
+use Rattle.driver_core.specs.Outside.{HasRisen, Meters, Outside}
+use Rattle.driver_core.specs.Pages.{BeginsStream, IsStream, ReadsStream, TakesPages, job_bytes}
 
 -- All pages of the input were printed: it is a stream with a clean end that was read to it; the job of its pages was
 -- written, prints them, and has no more rasters of an ink than the head takes passes over a page.
@@ -51,17 +53,49 @@ pub record StopsInPage (p : Printer) (k : Table) (input out : Outside) (number :
   pub whole : Appends out.before between (job_bytes p k pages)
   pub part : AppendsPart between out.now (page_bytes page p k)
 
--- what was read and written, by why printing stopped
-abbrev pub PrintStopped : Printer → Table → Outside → Outside → PrintStop → Type 0
-PrintStopped p k input out (stop.Input page line cause) = MeetsFault p k input out page line cause
-PrintStopped p k input out stop.Read = HasRisen input × PrintsSome p k input out
-PrintStopped p k input out (stop.Write number) = HasRisen out × StopsInPage p k input out number
-PrintStopped p k input out stop.Memory = PrintsSome p k input out
+-- Each meter had room for each of these pages, and counted their dots and no others.
+pub record CountsPages (p : Printer) (k : Table) (meters : Meters) (pages : List Page) : Type 0 where
+  pub admitted : Admitted p k pages meters.before
+  pub counts : meters.now ≡ counted p k pages meters.before
+
+-- The meters counted these pages and the first of the others.
+pub record CountsOneMore (p : Printer) (k : Table) (meters : Meters) (pages others : List Page) : Type 0 where
+  pub page : Page
+  pub later : List Page
+  pub next : others ≡ page ∷ later
+  pub pages_counted : CountsPages p k meters (pages ++ page ∷ [])
+
+-- The page of this number was read whole, and the first meter without room for its dots has this total and this cap.
+-- The job of the pages before it was written, and these were counted.
+pub record GoesOver (p : Printer) (k : Table) (input out : Outside) (meters : Meters) (number total dots cap : ℕ) : Type 0 where
+  pub pages : List Page
+  pub page : Page
+  pub taken : TakesPages p input.before input.now (pages ++ page ∷ [])
+  pub told : BeginsStream p input.before (pages ++ page ∷ [])
+  pub number_is : number ≡ length pages + 1
+  pub writes : Appends out.before out.now (job_bytes p k pages)
+  pub pages_counted : CountsPages p k meters pages
+  pub index : ℕ
+  pub first : IsFirstOver meters.now (page_dots page p k) (record { index = index; total = total; cap = cap })
+  pub dots_are : dots ≡ all_inks (page_dots page p k)
+
+-- what was read, written and counted, by why printing stopped
+abbrev pub PrintStopped : Printer → Table → Outside → Outside → Meters → PrintStop → Type 0
+PrintStopped p k input out meters (stop.Input page line cause) =
+    (meets : MeetsFault p k input out page line cause) × CountsPages p k meters meets.pages
+PrintStopped p k input out meters stop.Read =
+    HasRisen input × (some : PrintsSome p k input out) × CountsPages p k meters some.pages
+PrintStopped p k input out meters (stop.Write number) =
+    HasRisen out × (stops : StopsInPage p k input out number) × CountsPages p k meters (stops.pages ++ stops.page ∷ [])
+PrintStopped p k input out meters (stop.OverCap number total dots cap) = GoesOver p k input out meters number total dots cap
+PrintStopped p k input out meters stop.Memory =
+    (some : PrintsSome p k input out)
+    × (CountsPages p k meters some.pages ⊎ CountsOneMore p k meters some.pages some.taken.others)
 
 -- What printing comes to.
-abbrev pub PrintOutcome : Printer → Table → Outside → Outside → Result (Unit {0}) PrintStop → Type 0
-PrintOutcome p k input out (Ok u) = PrintsAll p k input out
-PrintOutcome p k input out (Err why) = PrintStopped p k input out why
+abbrev pub PrintOutcome : Printer → Table → Outside → Outside → Meters → Result (Unit {0}) PrintStop → Type 0
+PrintOutcome p k input out meters (Ok u) = (all : PrintsAll p k input out) × CountsPages p k meters all.pages
+PrintOutcome p k input out meters (Err why) = PrintStopped p k input out meters why
 
 -- ---- answers
 
@@ -75,4 +109,5 @@ abbrev pub print_answer : PrintStop → Answer
 print_answer (stop.Input page line cause) = answer.Input page line cause
 print_answer stop.Read = answer.Read
 print_answer (stop.Write page) = answer.Write page
+print_answer (stop.OverCap page total dots cap) = answer.OverCap page total dots cap
 print_answer stop.Memory = answer.Memory

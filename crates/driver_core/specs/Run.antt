@@ -1,12 +1,17 @@
 -- What a run comes to.
-use Rattle.std.specs.Prelude.{◌≡◌, ℕ, ◌⊎◌, ◌↔◌, List, Option, Some, None, IsErr, Result, Ok, Err}
-use Rattle.std.specs.Io.KnownBytes.{Appends, IsAtEnd, Keeps}
+use Rattle.std.specs.Prelude.{◌≡◌, ℕ, ◌⊎◌, ◌↔◌, List, [], ◌∷◌, ◌++◌, All, Option, Some, None, IsErr, Result, Ok, Err}
+use Rattle.std.specs.Io.KnownBytes.{Appends, Keeps}
 use Rattle.diffusion_definitions.specs.Diffusion.{Table}
 use Rattle.diffusion_kernel.specs.Tables.{table_of}
 use Rattle.driver_answer.specs.declared.answer.Answer.{Answer}
 use Rattle.driver_answer.specs.declared.answer.Answer.TheVariants as answer
 use Rattle.driver_answer.specs.Answers.{line_of, status_of}
 use Rattle.driver_answer.specs.Stops.{profile_answer}
+use Rattle.ink_meter.specs.Accounts.{Account, HasRoom}
+use Rattle.job_lister.specs.declared.lister.ListStop.{ListStop}
+use Rattle.job_lister.specs.Outcome.{ListOutcome}
+use Rattle.job_player.specs.declared.player.PlayStop.{PlayStop}
+use Rattle.job_player.specs.Outcome.{PlayOutcome}
 use Rattle.job_profile.specs.declared.stops.ProfileCause.{ProfileCause}
 use Rattle.job_profile.specs.declared.stops.ProfileStop.{ProfileStop}
 use Rattle.job_profile.specs.declared.stops.ProfileStop.TheVariants as profile
@@ -16,20 +21,22 @@ use Rattle.job_words.specs.declared.table.Verb.{Verb}
 use Rattle.job_words.specs.declared.table.Verb.TheVariants as verb
 use Rattle.job_words.specs.declared.usage.UsageFault.{UsageFault}
 use Rattle.job_words.specs.Meaning.{job_meaning, profile_named}
-use Rattle.printer_definitions.specs.Printer.{Printer}
+use Rattle.page_meter.specs.Counts.{Admitted, counted, page_dots}
 use Rattle.printer_profile.specs.declared.fields.Profile.{Profile}
 use Rattle.printer_profile.specs.Profiles.{built_in, printer_of}
 use Rattle.printer_profile.specs.Text.{profile_text_of}
 use Rattle.pwg_definitions.specs.declared.faults.InputCause.{InputCause}
-use Rattle.pwg_definitions.specs.Stream.{Page, stream}
+use Rattle.pwg_definitions.specs.Stream.{Page, StreamEnd, stream}
 use Rattle.pwg_definitions.specs.Stream.StreamEnd.{Done, Fault}
 use Rattle.separation_definitions.specs.Windows.{wanted_by}
 use Rattle.weave_base.specs.Parts.{AppendsPart}
 use Rattle.weave_base.specs.Shelf.{NamedText}
 use Rattle.driver_core.specs.declared.stops.PrintStop.{PrintStop}
 use Rattle.driver_core.specs.declared.stops.ShowStop.{ShowStop}
-use Rattle.driver_core.specs.Outside.{HasFailed, HasRisen, IsCalm, NothingFailed, Outside, Outsides, Texts, Untouched}
-use Rattle.driver_core.specs.Printing.{MeetsFault, PrintOutcome, PrintsAll, PrintsSome, StopsInPage, print_answer}
+use Rattle.driver_core.specs.Caps.{begun_by}
+use Rattle.driver_core.specs.Jobs.{list_answer, play_answer}
+use Rattle.driver_core.specs.Outside.{HasFailed, HasRisen, IsCalm, Meters, NothingFailed, Outside, Outsides, Texts, Untouched}
+use Rattle.driver_core.specs.Printing.{CountsOneMore, CountsPages, GoesOver, MeetsFault, PrintOutcome, PrintsAll, PrintsSome, StopsInPage, print_answer}
 use Rattle.driver_core.specs.Showing.{ShowOutcome, show_answer}
 
 -- ---- what a run comes to, by the meaning of its words
@@ -45,10 +52,18 @@ pub record Did (E : Type 0) (outcome : Result (Unit {0}) E → Type 0) (why : E 
   pub does : outcome end
   pub answered : a ≡ answer_of why end
 
--- what a command comes to with its profile
-abbrev pub VerbOutcome : Verb → Table → Profile → Outsides → Answer → Type 0
-VerbOutcome verb.Print k p o a = Did PrintStop (PrintOutcome (printer_of p) k o.input o.out) print_answer a
-VerbOutcome verb.Profile k p o a = Keeps o.input.before o.input.now × Did ShowStop (ShowOutcome p o.out) show_answer a
+-- the meters of a job from where their caps were set
+abbrev pub metered : Job → Meters → Meters
+metered job meters = record { before = begun_by job.verb job.cap meters.before; now = meters.now }
+
+-- what a command comes to with its profile, on meters whose caps are set
+abbrev pub VerbOutcome : Verb → Job → Profile → Outsides → Meters → Answer → Type 0
+VerbOutcome verb.Print job p o meters a = Did PrintStop (PrintOutcome (printer_of p) (table_of job.kernel) o.input o.out meters) print_answer a
+VerbOutcome verb.Dots job p o meters a =
+    (meters.now ≡ meters.before) × Did PlayStop (PlayOutcome (printer_of p) job.most o.input o.out) play_answer a
+VerbOutcome verb.List job p o meters a = ⊥
+VerbOutcome verb.Profile job p o meters a =
+    Keeps o.input.before o.input.now × (meters.now ≡ meters.before) × Did ShowStop (ShowOutcome p o.out) show_answer a
 
 -- why there is no profile of a name
 abbrev pub ProfileStopped : List ℕ → Texts → ProfileStop → Type 0
@@ -57,22 +72,30 @@ ProfileStopped name shelf profile.Failed = HasFailed shelf × (built_in name ≡
 ProfileStopped name shelf profile.Memory = built_in name ≡ None
 
 -- There is no profile, which is answered so.
-pub record NoProfile (name : List ℕ) (o : Outsides) (a : Answer) : Type 0 where
+pub record NoProfile (name : List ℕ) (job : Job) (o : Outsides) (a : Answer) : Type 0 where
   pub why : ProfileStop
   pub stopped : ProfileStopped name o.shelf why
   pub answered : a ≡ profile_answer why
   pub untouched : Untouched o
+  pub uncounted : o.meters.now ≡ (metered job o.meters).before
+  pub needed : job.verb ≡ verb.List → ⊥
 
 -- There is this profile, and the command did its work with it.
 pub record WithProfile (name : List ℕ) (job : Job) (o : Outsides) (a : Answer) : Type 0 where
   pub p : Profile
   pub is : IsJobProfile o.shelf.told name (Ok p)
-  pub outcome : VerbOutcome job.verb (table_of job.kernel) p o a
+  pub outcome : VerbOutcome job.verb job p o (metered job o.meters) a
 
--- What a command line comes to: refused words, no profile, or the command's work.
+-- The commands of the job that the input is were listed, for which no profile is needed.
+pub record ListsJob (job : Job) (o : Outsides) (a : Answer) : Type 0 where
+  pub command_is : job.verb ≡ verb.List
+  pub uncounted : o.meters.now ≡ o.meters.before
+  pub did : Did ListStop (ListOutcome job.most o.input o.out) list_answer a
+
+-- What a command line comes to: refused words, a job that is listed, no profile, or the command's work.
 abbrev pub LineOutcome : Result Job UsageFault → List ℕ → Outsides → Answer → Type 0
-LineOutcome (Err fault) name o a = (a ≡ answer.Usage fault) × Untouched o
-LineOutcome (Ok job) name o a = NoProfile name o a ⊎ WithProfile name job o a
+LineOutcome (Err fault) name o a = (a ≡ answer.Usage fault) × Untouched o × (o.meters.now ≡ o.meters.before)
+LineOutcome (Ok job) name o a = ListsJob job o a ⊎ (NoProfile name job o a ⊎ WithProfile name job o a)
 
 abbrev pub Outcome : List (List ℕ) → Outsides → Answer → Type 0
 Outcome words o a = LineOutcome (job_meaning words) (profile_named words) o a
@@ -109,27 +132,53 @@ pub record IsAnswered (words : List (List ℕ)) (o : Outsides) (err : Outside) (
 -- What a run promises, of its words, of what is outside, of the error sink and of the status that it returns.
 pub record Promises (words : List (List ℕ)) (o : Outsides) (err : Outside) (status : ℕ) : Type 0 where
   pub answered : IsAnswered words o err status
-  -- A valid job prints, unless something outside fails or memory runs out.
+  -- A valid job prints, unless something outside fails or memory runs out: its stream ends well, and no page goes past
+  -- the cap of a meter.
   pub valid : (job : Job) (p : Profile) (bytes : List ℕ) (pages : List Page) → AsksFor words o.shelf.told verb.Print job (Ok p)
       → o.input.before ≡ Some bytes → stream (wanted_by (printer_of p)) bytes ≡ record { pages = pages; end = Done }
-      → NothingFailed o → (status ≡ 0) ⊎ (status ≡ 7)
-  -- On 0 all pages of the input are printed: their bytes mean their dots.
+      → Admitted (printer_of p) (table_of job.kernel) pages (metered job o.meters).before → NothingFailed o → (status ≡ 0) ⊎ (status ≡ 7)
+  -- On 0 all pages of the input are printed: their bytes mean their dots. Each meter counted them.
   pub printed : (job : Job) (p : Profile) → AsksFor words o.shelf.told verb.Print job (Ok p) → status ≡ 0
-      → PrintsAll (printer_of p) (table_of job.kernel) o.input o.out
-  -- A refused page is told, and only the pages before it stand whole.
+      → (all : PrintsAll (printer_of p) (table_of job.kernel) o.input o.out)
+      × CountsPages (printer_of p) (table_of job.kernel) (metered job o.meters) all.pages
+  -- A refused page is told, and only the pages before it stand whole and are counted.
   pub input : (job : Job) (p : Profile) → AsksFor words o.shelf.told verb.Print job (Ok p) → status ≡ 3
-      → (page line : ℕ) × (cause : InputCause) × MeetsFault (printer_of p) (table_of job.kernel) o.input o.out page line cause
+      → (page line : ℕ) × (cause : InputCause)
+      × (meets : MeetsFault (printer_of p) (table_of job.kernel) o.input o.out page line cause)
+      × CountsPages (printer_of p) (table_of job.kernel) (metered job o.meters) meets.pages
       × Tells err (answer.Input page line cause)
   pub refused : (job : Job) (p : Profile) (bytes : List ℕ) (pages : List Page) (page line : ℕ) (cause : InputCause)
       → AsksFor words o.shelf.told verb.Print job (Ok p)
       → o.input.before ≡ Some bytes → stream (wanted_by (printer_of p)) bytes ≡ record { pages = pages; end = Fault page line cause }
+      → Admitted (printer_of p) (table_of job.kernel) pages (metered job o.meters).before
       → NothingFailed o → (status ≡ 3) ⊎ (status ≡ 7)
-  -- On 4 and 7 some first pages of what was taken stand whole, and nothing besides.
-  pub stopped : (job : Job) (p : Profile) → AsksFor words o.shelf.told verb.Print job (Ok p) → (status ≡ 4) ⊎ (status ≡ 7)
-      → PrintsSome (printer_of p) (table_of job.kernel) o.input o.out
-  -- On 5 a prefix of the named page stands after the pages before it.
+  -- On 4 and 7 some first pages of what was taken stand whole, and nothing besides. On 4 these are counted; on 7 these, or
+  -- these and the next page.
+  pub stopped : (job : Job) (p : Profile) → AsksFor words o.shelf.told verb.Print job (Ok p) → status ≡ 4
+      → (some : PrintsSome (printer_of p) (table_of job.kernel) o.input o.out)
+      × CountsPages (printer_of p) (table_of job.kernel) (metered job o.meters) some.pages
+  pub full : (job : Job) (p : Profile) → AsksFor words o.shelf.told verb.Print job (Ok p) → status ≡ 7
+      → (some : PrintsSome (printer_of p) (table_of job.kernel) o.input o.out)
+      × (CountsPages (printer_of p) (table_of job.kernel) (metered job o.meters) some.pages
+      ⊎ CountsOneMore (printer_of p) (table_of job.kernel) (metered job o.meters) some.pages some.taken.others)
+  -- On 5 a prefix of the named page stands after the pages before it, and it is counted with them.
   pub part : (job : Job) (p : Profile) → AsksFor words o.shelf.told verb.Print job (Ok p) → status ≡ 5
-      → (number : ℕ) × StopsInPage (printer_of p) (table_of job.kernel) o.input o.out number × Tells err (answer.Write number)
+      → (number : ℕ) × (stops : StopsInPage (printer_of p) (table_of job.kernel) o.input o.out number)
+      × CountsPages (printer_of p) (table_of job.kernel) (metered job o.meters) (stops.pages ++ stops.page ∷ [])
+      × Tells err (answer.Write number)
+  -- On 6 the named page was read whole, and goes past the cap of the first meter that has no room for it. Only the pages
+  -- before it stand whole and are counted.
+  pub over : status ≡ 6 → (job : Job) × (p : Profile) × (job_meaning words ≡ Ok job) × (job.verb ≡ verb.Print)
+      × IsJobProfile o.shelf.told (profile_named words) (Ok p) × (page total dots cap : ℕ)
+      × GoesOver (printer_of p) (table_of job.kernel) o.input o.out (metered job o.meters) page total dots cap
+      × Tells err (answer.OverCap page total dots cap)
+  -- The first page that goes past a cap is refused, whatever stands behind it.
+  pub capped : (job : Job) (p : Profile) (bytes : List ℕ) (pages later : List Page) (page : Page) (end : StreamEnd)
+      → AsksFor words o.shelf.told verb.Print job (Ok p) → o.input.before ≡ Some bytes
+      → stream (wanted_by (printer_of p)) bytes ≡ record { pages = pages ++ page ∷ later; end = end }
+      → (let before : List Account = (metered job o.meters).before in
+      (All (HasRoom (page_dots page (printer_of p) (table_of job.kernel))) (counted (printer_of p) (table_of job.kernel) pages before) → ⊥))
+      → NothingFailed o → (status ≡ 6) ⊎ (status ≡ 7)
   -- The command `profile` writes the profile's text, and takes nothing of the input.
   pub valid_profile : (job : Job) (p : Profile) → AsksFor words o.shelf.told verb.Profile job (Ok p)
       → (HasFailed o.shelf → ⊥) → IsCalm o.out → (status ≡ 0) ⊎ (status ≡ 7)
@@ -139,16 +188,21 @@ pub record Promises (words : List (List ℕ)) (o : Outsides) (err : Outside) (st
       → AppendsPart o.out.before o.out.now (profile_text_of p) × Tells err (answer.Write 0)
   pub none_shown : (job : Job) (p : Profile) → AsksFor words o.shelf.told verb.Profile job (Ok p) → (status ≡ 4) ⊎ (status ≡ 7)
       → Keeps o.out.before o.out.now
+  -- Only printing sets a cap and counts, and a refused word or profile counts nothing.
+  pub unmetered : (job : Job) → job_meaning words ≡ Ok job → (job.verb ≡ verb.Print → ⊥) → o.meters.now ≡ o.meters.before
+  pub untold : status ≡ 1 → o.meters.now ≡ o.meters.before
+  pub uncounted : (job : Job) → job_meaning words ≡ Ok job → status ≡ 2 → o.meters.now ≡ (metered job o.meters).before
   pub unread : (job : Job) → job_meaning words ≡ Ok job → job.verb ≡ verb.Profile → Keeps o.input.before o.input.now
   -- Each other status has its cause: the words first, then the profile, then the input.
   pub usage : (status ≡ 1) ↔ IsErr (job_meaning words)
   pub profile : status ≡ 2 → (job : Job) × (line : ℕ) × (cause : ProfileCause) × (job_meaning words ≡ Ok job)
       × IsJobProfile o.shelf.told (profile_named words) (Err (refused_at line cause)) × Tells err (answer.Profile line cause)
-  pub refused_profile : (command : Verb) (job : Job) (refusal : Refusal) → AsksFor words o.shelf.told command job (Err refusal)
-      → (HasFailed o.shelf → ⊥) → (status ≡ 2) ⊎ (status ≡ 7)
+  pub refused_profile : (command : Verb) (job : Job) (refusal : Refusal) → (command ≡ verb.List → ⊥)
+      → AsksFor words o.shelf.told command job (Err refusal) → (HasFailed o.shelf → ⊥) → (status ≡ 2) ⊎ (status ≡ 7)
   pub read : status ≡ 4 → HasRisen o.input ⊎ (HasFailed o.shelf × (built_in (profile_named words) ≡ None))
   pub write : status ≡ 5 → HasRisen o.out
-  pub range : (status ≡ 0) ⊎ (status ≡ 1) ⊎ (status ≡ 2) ⊎ (status ≡ 3) ⊎ (status ≡ 4) ⊎ (status ≡ 5) ⊎ (status ≡ 7)
+  pub range : (status ≡ 0) ⊎ (status ≡ 1) ⊎ (status ≡ 2) ⊎ (status ≡ 3) ⊎ (status ≡ 4) ⊎ (status ≡ 5) ⊎ (status ≡ 6) ⊎ (status ≡ 7)
+      ⊎ (status ≡ 8)
   pub nothing : (status ≡ 1) ⊎ (status ≡ 2) → Untouched o
   -- The error line.
   pub silent : status ≡ 0 → Keeps err.before err.now

@@ -1,6 +1,8 @@
 //! The whole run of the driver: words and bytes in, bytes, a status and an error line out.
 #![tactic(auto)]
 
+mod charging;
+mod jobs;
 mod printing;
 mod running;
 mod showing;

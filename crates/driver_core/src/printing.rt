@@ -3,29 +3,34 @@ ghost use Rattle.diffusion_kernel.specs.Tables.{table_of};
 ghost use Rattle.driver_core.specs.Printing.{PrintOutcome};
 ghost use Rattle.printer_profile.specs.Profiles.{printer_of};
 ghost use Rattle.printer_profile.specs.Validity.{check};
-ghost use Rattle.std.specs.Prelude.{IsOk, ◌≡◌, ◌≤◌};
+ghost use Rattle.std.specs.Prelude.{IsOk, map, ◌≡◌, ◌≤◌};
 
+use crate::charging::charge;
 use crate::stops::PrintStop;
 use diffusion_kernel::Kernel;
 use halftone_reader::read_page;
+use ink_meter::Meter;
+use page_meter::count_dots;
 use page_writer::{WriteStop, write_page};
 use printer_profile::Profile;
 use pwg_stream::{MOST_PAGES, PageReader};
 use std::alloc::Global;
 use weave_base::{Sink, Source};
 
-/// Prints the pages of the input, each when it is read to its last line.
+/// Prints the pages of the input, each when it is read to its last line and every meter has room for it.
 pub fn print_pages<S: Source, K: Sink>(
     alloc: Global,
     profile: &Profile,
     kernel: Kernel,
     input: &mut S,
     out: &mut K,
+    meters: &mut Vec<Box<dyn Meter>>,
 ) -> Result<(), PrintStop>
     requires checked { IsOk (check profile.now) }
     ensures { PrintOutcome (printer_of profile.now) (table_of kernel)
         (record { before = S.left input.old; now = S.left input.new; faults_before = S.faults input.old; faults_now = S.faults input.new })
-        (record { before = K.held out.old; now = K.held out.new; faults_before = K.faults out.old; faults_now = K.faults out.new }) result }
+        (record { before = K.held out.old; now = K.held out.new; faults_before = K.faults out.old; faults_now = K.faults out.new })
+        (record { before = map (λ meter. account meter) meters.old.items; now = map (λ meter. account meter) meters.new.items }) result }
 {
     prove!(profile.nozzles <= 255);
     let mut reader = PageReader::begin(alloc, input)?;
@@ -33,6 +38,7 @@ pub fn print_pages<S: Source, K: Sink>(
         let Some(page) = read_page(alloc, &mut reader, profile, kernel, input)? else {
             return Ok(());
         };
+        charge(number, &count_dots(profile.inks, &page.planes), meters)?;
         match write_page(alloc, profile, page.form, &page.planes, out) {
             Err(WriteStop::Write) => return Err(PrintStop::Write { page: number }),
             Err(WriteStop::Memory) => return Err(PrintStop::Memory),

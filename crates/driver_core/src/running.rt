@@ -1,13 +1,17 @@
 //! The run.
+ghost use Rattle.driver_core.specs.JobPromises.{JobPromises};
 ghost use Rattle.driver_core.specs.Run.{Outcome, Promises, Told, answer_of};
 ghost use Rattle.job_words.specs.Meaning.{job_meaning, profile_named};
 ghost use Rattle.printer_profile.specs.Profiles.{built_in};
-ghost use Rattle.std.specs.Prelude.{IsErr, IsSome, ◌≡◌};
+ghost use Rattle.std.specs.Prelude.{IsErr, IsSome, map, ◌≡◌};
 
+use crate::charging::set_caps;
+use crate::jobs::{list, play};
 use crate::printing::print_pages;
 use crate::showing::show_profile;
 use arrayvec::ArrayString;
 use driver_answer::Answer;
+use ink_meter::Meter;
 use job_profile::find_profile;
 use job_words::{Verb, profile_name, read_words};
 use std::alloc::Global;
@@ -20,21 +24,29 @@ fn work<S: Source, K: Sink, F: Shelf>(
     input: &mut S,
     out: &mut K,
     shelf: &mut F,
+    meters: &mut Vec<Box<dyn Meter>>,
 ) -> Result<(), Answer>
     ensures outcome { Outcome words.now
         (record {
           shelf = record { told = F.files shelf.old; faults_before = F.faults shelf.old; faults_now = F.faults shelf.new };
           input = record { before = S.left input.old; now = S.left input.new; faults_before = S.faults input.old; faults_now = S.faults input.new };
           out = record { before = K.held out.old; now = K.held out.new; faults_before = K.faults out.old; faults_now = K.faults out.new };
+          meters = record { before = map (λ meter. account meter) meters.old.items; now = map (λ meter. account meter) meters.new.items };
         }) (answer_of (λ a. a) result) }
     ensures unasked { IsSome (built_in (profile_named words.now)) → (shelf.new ≡ shelf.old) }
     ensures refused_unasked { IsErr (job_meaning words.now) → (shelf.new ≡ shelf.old) }
 {
     let job = read_words(words)?;
+    set_caps(&job, meters);
+    if let Verb::List = job.verb {
+        return list(alloc, job.most, input, out);
+    }
     let profile = find_profile(alloc, shelf, profile_name(words, &job))?;
     match job.verb {
-        Verb::Print => print_pages(alloc, &profile, job.kernel, input, out)?,
+        Verb::Print => print_pages(alloc, &profile, job.kernel, input, out, meters)?,
+        Verb::Dots => return play(alloc, &profile, job.most, input, out),
         Verb::Profile => show_profile(alloc, &profile, out)?,
+        Verb::List => unreachable!(),
     }
     Ok(())
 }
@@ -59,10 +71,15 @@ pub fn tell<E: Sink>(answer: &Answer, err: &mut E)
 }
 
 /// Runs a command line: `print` prints the pages of the input (PWG Raster, PWG 5102.4) as a job of ESC/P2 commands on
-/// `out`, and `profile` writes a profile's text there.
+/// `out`, `dots` writes the sheets of the job that the input is as images there, `list` its commands as lines of text, and
+/// `profile` a profile's text.
 ///
 /// The answer is the exit status: 0 done, 1 a word is refused, 2 the profile is refused, 3 the input is refused, 4 a read
-/// of the input or of the shelf failed, 5 a write failed, 7 memory ran out. Each but 0 has one line on `err`.
+/// of the input or of the shelf failed, 5 a write failed, 6 a page goes past the cap of a meter, 7 memory ran out, 8 the
+/// job is refused. Each but 0 has one line on `err`.
+///
+/// The word `cap=n` sets the cap of each meter right after the words were accepted. A page is asked of the meters after its
+/// last line was read and before its first byte is written; where all have room for its dots, all count them at once.
 pub fn run<S: Source, K: Sink, E: Sink, F: Shelf>(
     alloc: Global,
     words: &Words,
@@ -70,19 +87,29 @@ pub fn run<S: Source, K: Sink, E: Sink, F: Shelf>(
     out: &mut K,
     err: &mut E,
     shelf: &mut F,
+    meters: &mut Vec<Box<dyn Meter>>,
 ) -> u8
     ensures promises { Promises words.now
         (record {
           shelf = record { told = F.files shelf.old; faults_before = F.faults shelf.old; faults_now = F.faults shelf.new };
           input = record { before = S.left input.old; now = S.left input.new; faults_before = S.faults input.old; faults_now = S.faults input.new };
           out = record { before = K.held out.old; now = K.held out.new; faults_before = K.faults out.old; faults_now = K.faults out.new };
+          meters = record { before = map (λ meter. account meter) meters.old.items; now = map (λ meter. account meter) meters.new.items };
+        })
+        (record { before = E.held err.old; now = E.held err.new; faults_before = E.faults err.old; faults_now = E.faults err.new }) result }
+    ensures job_promises { JobPromises words.now
+        (record {
+          shelf = record { told = F.files shelf.old; faults_before = F.faults shelf.old; faults_now = F.faults shelf.new };
+          input = record { before = S.left input.old; now = S.left input.new; faults_before = S.faults input.old; faults_now = S.faults input.new };
+          out = record { before = K.held out.old; now = K.held out.new; faults_before = K.faults out.old; faults_now = K.faults out.new };
+          meters = record { before = map (λ meter. account meter) meters.old.items; now = map (λ meter. account meter) meters.new.items };
         })
         (record { before = E.held err.old; now = E.held err.new; faults_before = E.faults err.old; faults_now = E.faults err.new }) result }
     // The shelf is asked neither for a built-in profile, nor where a word is refused.
     ensures unasked { IsSome (built_in (profile_named words.now)) → (shelf.new ≡ shelf.old) }
     ensures refused_unasked { IsErr (job_meaning words.now) → (shelf.new ≡ shelf.old) }
 {
-    let answer = answer_to(work(alloc, words, input, out, shelf));
+    let answer = answer_to(work(alloc, words, input, out, shelf, meters));
     tell(&answer, err);
     answer.status()
 }

@@ -21,6 +21,13 @@ pub enum PrintStop {
     Write {
         page: u32,
     },
+    /// The dots of this page go past the cap of a meter, which has counted `total`.
+    OverCap {
+        page: u32,
+        total: u64,
+        dots: u64,
+        cap: u64,
+    },
     /// Memory ran out.
     Memory,
 }
@@ -49,6 +56,17 @@ impl From<PrintStop> for Answer {
             PrintStop::Input { page, line, cause } => Answer::Input { page, line, cause },
             PrintStop::Read => Answer::Read,
             PrintStop::Write { page } => Answer::Write { page },
+            PrintStop::OverCap {
+                page,
+                total,
+                dots,
+                cap,
+            } => Answer::OverCap {
+                page,
+                total,
+                dots,
+                cap,
+            },
             PrintStop::Memory => Answer::Memory,
         }
     }

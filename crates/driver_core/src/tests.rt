@@ -20,9 +20,18 @@ fn a_stream_of_no_page_is_a_job_of_no_bytes(rt: HostRuntime) -> Result<(), Fail>
     let mut out = MemSink::make(alloc, 4096, Vec::new(alloc), Vec::new(alloc))?;
     let mut err = MemSink::make(alloc, 4096, Vec::new(alloc), Vec::new(alloc))?;
     let mut shelf = MemShelf::make(Vec::new(alloc), Vec::new(alloc));
+    let mut meters = Vec::new(alloc);
     let words = words(alloc, "print")?;
     assert_eq!(rt;
-        run(alloc, &words, &mut input, &mut out, &mut err, &mut shelf),
+        run(
+            alloc,
+            &words,
+            &mut input,
+            &mut out,
+            &mut err,
+            &mut shelf,
+            &mut meters
+        ),
         0
     );
     assert_eq!(rt; out.bytes(), b"".as_slice());

@@ -4,7 +4,7 @@ use weave_base::Words;
 const HELP: &str = "\
 jinthbao - prints PWG Raster pages as ESC/P2 jobs
 
-usage: driver_program print [profile=NAME] [kernel=NAME] [workers=NUMBER] < pages.pwg > job.prn
+usage: driver_program print [profile=NAME] [kernel=NAME] [workers=NUMBER] [cap=NUMBER] < pages.pwg > job.prn
        driver_program profile [profile=NAME]
        driver_program --help | --version
 
@@ -16,6 +16,9 @@ profile=NAME    tiny1, tiny, p360k, p360cmyk, p720cmyk, or a file of the current
                 (default p360cmyk)
 kernel=NAME     fs (Floyd and Steinberg), jjn (Jarvis, Judice and Ninke) or stucki (default fs)
 workers=NUMBER  1 to 64 (default 1); one thread does the work today, whatever the number
+cap=NUMBER      the most dots that the job may print, all inks together (default: no limit): a kiosk's quota,
+                or what is left in a label desk's cartridge; a page that would go past it is not printed,
+                and ends the job
                 Keys stand in any order, each at most once.
 
 exit status and line on standard error:
@@ -25,6 +28,8 @@ exit status and line on standard error:
 3  input: page N line N: CAUSE       the input is refused
 4  read failed                       a read of the input or of the profile's file failed
 5  write failed: page N              a write failed
+6  over cap: page N: total N, page N, cap N
+                                     a page would go past the cap: the dots before it, its own, the cap
 7  out of memory                     memory ran out
 ";
 

@@ -8,6 +8,7 @@ mod help;
 use command_line::read_words;
 use driver_core::{Answer, run, tell};
 use help::text_of;
+use ink_meter::{DotMeter, Meter, can_settle, settle};
 use std::io::Write;
 use std::process::ExitCode;
 use weave_base::{DirShelf, StdSink, StdSource, Words, put_all};
@@ -27,14 +28,27 @@ fn run_words(rt: &HostRuntime, words: &Words) -> u8 {
     let mut err = StdSink::make(rt.stderr());
     let Some(text) = text_of(words) else {
         let mut shelf = DirShelf::make(rt);
-        return run(
+        let mut meters: Vec<Box<dyn Meter>> = Vec::new(rt.alloc());
+        // nothing is written where the meter finds no memory
+        let Ok(meter) = Box::new(rt.alloc(), DotMeter::make()) else {
+            return Answer::Memory.status();
+        };
+        if meters.push(meter).is_err() {
+            return Answer::Memory.status();
+        }
+        let status = run(
             rt.alloc(),
             words,
             &mut input,
             &mut out,
             &mut err,
             &mut shelf,
+            &mut meters,
         );
+        if can_settle(&meters) {
+            settle(meters);
+        }
+        return status;
     };
     let answer = show(text, &mut out);
     tell(&answer, &mut err);

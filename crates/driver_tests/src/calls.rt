@@ -49,7 +49,15 @@ fn asks<R: Abort>(
     let mut input = plain(alloc, begin(alloc)?);
     let (mut out, mut err) = (roomy(alloc)?, roomy(alloc)?);
     let words = words(alloc, texts)?;
-    let answer = run(alloc, &words, &mut input, &mut out, &mut err, &mut shelf);
+    let answer = run(
+        alloc,
+        &words,
+        &mut input,
+        &mut out,
+        &mut err,
+        &mut shelf,
+        &mut Vec::new(alloc),
+    );
     assert_eq!(rt; answer, status);
     assert_eq!(rt; shelf.names.len(), names.len());
     for (asked, name) in shelf.names.iter().zip(names.iter()) {
@@ -102,7 +110,15 @@ fn a_pass_is_one_write(rt: HostRuntime) -> Result<(), Fail> {
     let words = words(alloc, &["print", "profile=p360cmyk"])?;
     let mut input = plain(alloc, bytes);
     let (mut err, mut shelf) = (roomy(alloc)?, no_files(alloc));
-    let status = run(alloc, &words, &mut input, &mut out, &mut err, &mut shelf);
+    let status = run(
+        alloc,
+        &words,
+        &mut input,
+        &mut out,
+        &mut err,
+        &mut shelf,
+        &mut Vec::new(alloc),
+    );
     assert_eq!(rt; err.bytes(), b"".as_slice());
     assert_eq!(rt; status, 0);
     assert!(rt; out.writes <= 24 + 2, "{} writes", out.writes);

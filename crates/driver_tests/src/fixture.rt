@@ -132,7 +132,15 @@ pub fn run_over(
 ) -> Result<Left, Memory> {
     let words = words(alloc, texts)?;
     let mut err = roomy(alloc)?;
-    let status = run(alloc, &words, &mut input, &mut out, &mut err, &mut shelf);
+    let status = run(
+        alloc,
+        &words,
+        &mut input,
+        &mut out,
+        &mut err,
+        &mut shelf,
+        &mut Vec::new(alloc),
+    );
     Ok(Left { status, out, err })
 }
 

@@ -111,6 +111,7 @@ fn a_deaf_error_sink_leaves_the_status(rt: HostRuntime) -> Result<(), Fail> {
             &mut out,
             &mut err,
             &mut shelf,
+            &mut Vec::new(alloc),
         );
         assert_eq!(rt; status, 3);
         assert_eq!(rt; out.bytes(), b"".as_slice());

@@ -26,7 +26,7 @@ fn each_bad_word_has_its_cause(rt: HostRuntime) -> Result<(), Fail> {
             b"usage: word 3: RepeatedKey\n",
         ),
         (&["print", "x"], b"usage: word 2: NotKeyValue\n"),
-        (&["print", "cap=1"], b"usage: word 2: UnknownKey\n"),
+        (&["print", "most=1"], b"usage: word 2: UnknownKey\n"),
         (&["profile", "kernel=fs"], b"usage: word 2: UnknownKey\n"),
     ];
     for (texts, line) in cases {

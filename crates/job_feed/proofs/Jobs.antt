@@ -290,3 +290,12 @@ stop_taken feed text now f g (feed_stop.Job offset stop.Cut) meets = (meets.byte
 stop_taken feed text now f g (feed_stop.Job offset (stop.Machine fault)) meets = absurd meets
 stop_taken feed text now f g (feed_stop.Job offset stop.TooLong) meets = (meets.bytes, meets.takes.taken)
 stop_taken feed text now f g feed_stop.Read failed = (failed.bytes, failed.takes.taken)
+
+-- a job that is told begins with the commands that were given
+pub gave_first : (feed : JobFeed) (before text : Option (List ℕ)) (entries : List Entry) → GaveCommands feed before text entries
+    → IfSome before (λ bytes. (others : List Entry) × ((commands (take (most_of feed) bytes)).entries ≡ entries ++ others))
+gave_first feed before text entries gave =
+    told _ before text text gave.done [] gave.taken (Consumes-nil text) (λ rest _. (
+      (commands_behind (length gave.done) (take (most_of feed - length gave.done) rest)).entries,
+      first_commands gave.done rest (most_of feed) entries gave.are (omega (arith, gave.at, feed.within)),
+    ))

@@ -1,8 +1,9 @@
 -- The listing of the commands that a feed gave.
-use Rattle.std.proofs.Common.{◌≡◌, ℕ, ◌≤◌, List, Option, Err, [], ◌∷◌, ◌++◌, sym, ◌∙◌, ap, subst, arith, append-nil}
+use Rattle.std.proofs.Common.{◌≡◌, ℕ, ◌≤◌, List, Option, Err, [], ◌∷◌, ◌++◌, sym, ◌∙◌, ap, subst, arith, append-nil, take, refl}
 use Rattle.std.proofs.lemmas.List.Concat.{flat_map-append}
 use Rattle.std.specs.Io.KnownBytes.{Appends, Consumes}
-use Rattle.escp2_definitions.specs.Commands.{Entry}
+use Rattle.std.proofs.KnownBytes.{Appends-nil, Consumes-nil}
+use Rattle.escp2_definitions.specs.Commands.{Entry, commands}
 use Rattle.gathered_bytes.specs.declared.gathered.Gathered.{Gathered}
 use Rattle.gathered_bytes.specs.Gathering.{Writes, gathered}
 use Rattle.gathered_bytes.proofs.Writing.{GathersSoFar, gathers_all, gathers_more, gathers_none, gathers_part}
@@ -98,3 +99,12 @@ lists_to_stop most feed new g before text left held now now' f0 f1 f2 g0 g1 why 
         writes = gathers_all held now now' (listing so_far.entries) (gathered g) so_far.gathers all;
       },
     )
+
+-- there is no memory to begin with
+pub lists_nothing : (most : ℕ) (left held : Option (List ℕ)) (f0 f1 g0 g1 : ℕ)
+    → ListOutcome most (record { before = left; now = left; faults_before = f0; faults_now = f1 }) (record { before = held; now = held; faults_before = g0; faults_now = g1 }) (Err stop.Memory)
+lists_nothing most left held f0 f1 g0 g1 = record {
+  entries = [];
+  takes = record { bytes = []; taken = Consumes-nil left; others = (commands (take most [])).entries; are = refl };
+  writes = Appends-nil held;
+}

@@ -1,6 +1,6 @@
 -- What listing a job comes to.
 use Rattle.std.specs.Prelude.{ℕ, List, Result, Ok, Err}
-use Rattle.std.specs.Io.KnownBytes.{Appends, Keeps}
+use Rattle.std.specs.Io.KnownBytes.{Appends}
 use Rattle.escp2_definitions.specs.declared.stops.JobStop.{JobStop}
 use Rattle.escp2_definitions.specs.Commands.{Entry}
 use Rattle.job_feed.specs.Jobs.{MeetsStop, TakesCommands, TakesJob}
@@ -40,4 +40,4 @@ ListOutcome most input out (Ok u) = ListsAll most input out
 ListOutcome most input out (Err (stop.Job offset cause)) = ListsToStop most input out offset cause
 ListOutcome most input out (Err stop.Read) = HasRisen input × ListsSome most input out
 ListOutcome most input out (Err stop.Write) = HasRisen out × ListsPart most input out
-ListOutcome most input out (Err stop.Memory) = Keeps out.before out.now
+ListOutcome most input out (Err stop.Memory) = ListsSome most input out

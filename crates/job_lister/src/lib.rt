@@ -5,3 +5,6 @@ mod lister;
 
 pub use escp2_definitions::JobStop;
 pub use lister::{ListStop, list_job};
+
+#[cfg(test)]
+mod tests;

@@ -5,10 +5,10 @@ use Rattle.std.specs.Option.{option_map, option_and_then, option_or}
 use Rattle.std.proofs.lemmas.Bool.Decides.{nat_tests}
 use Rattle.std.proofs.lemmas.List.Folds.{find-append, list_any-append}
 use Rattle.std.proofs.lemmas.Slice.Eq.{bytes_eq-Decides}
-use Rattle.job_words.specs.Values.{is_text, kernel_named, worker_count}
-use Rattle.job_words.specs.Table.{KeyRow, profile_key, kernel_key, workers_key}
+use Rattle.job_words.specs.Values.{cap_value, is_text, kernel_named, most_value, worker_count}
+use Rattle.job_words.specs.Table.{KeyRow, profile_key, kernel_key, workers_key, cap_key, most_key}
 use Rattle.key_values.specs.Pairs.{key_of, value_of}
-use Rattle.job_words.specs.Meaning.{gives, given, given_profile_word, given_kernel, given_workers}
+use Rattle.job_words.specs.Meaning.{gives, given, given_profile_word, given_kernel, given_workers, given_cap, given_most}
 use Rattle.job_words.specs.Reading.{IsKept, IsGiven}
 use Rattle.job_words.specs.declared.reading.Given.{Given}
 use Rattle.diffusion_kernel.specs.declared.tables.Kernel.{Kernel}
@@ -57,6 +57,12 @@ kernel_value = given_value kernel_key kernel_named
 pub workers_value : IsValue workers_key given_workers (λ n word. worker_count (value_of word))
 workers_value = given_value workers_key worker_count
 
+pub cap_is_value : IsValue cap_key given_cap (λ n word. cap_value (value_of word))
+cap_is_value = given_value cap_key cap_value
+
+pub most_is_value : IsValue most_key given_most (λ n word. most_value (value_of word))
+most_is_value = given_value most_key most_value
+
 -- the place of the first that passes, in a list with one more
 position_push : {X : Type 0} (p : X → Bool) (n : ℕ) (xs : List X) (x : X) → position_from p n (xs ++ x ∷ []) ≡ option_or (position_from p n xs) (cond (p x) (Some (n + length xs)) None)
 position_push p n [] x = ap (λ k. cond (p x) (Some k) None) (omega arith)
@@ -85,6 +91,8 @@ profile_given words word given new h here none is = record {
   profile = kept_first profile_value words word _ _ h.profile none here is (ap is_some is);
   kernel = kept_other kernel_value words word _ h.kernel (one_key profile_key kernel_key word refl here);
   workers = kept_other workers_value words word _ h.workers (one_key profile_key workers_key word refl here);
+  cap = kept_other cap_is_value words word _ h.cap (one_key profile_key cap_key word refl here);
+  most = kept_other most_is_value words word _ h.most (one_key profile_key most_key word refl here);
 }
 
 pub kernel_given : (words : List (List ℕ)) (word : List ℕ) (given : Given) (new : Option Kernel) → IsGiven words given → gives kernel_key word ≡ true → is_some given.kernel ≡ false → new ≡ kernel_named (value_of word) → is_some new ≡ true → IsGiven (words ++ word ∷ []) (record given { kernel = new })
@@ -92,6 +100,8 @@ kernel_given words word given new h here none is taken = record {
   profile = kept_other profile_value words word _ h.profile (one_key kernel_key profile_key word refl here);
   kernel = kept_first kernel_value words word _ _ h.kernel none here is taken;
   workers = kept_other workers_value words word _ h.workers (one_key kernel_key workers_key word refl here);
+  cap = kept_other cap_is_value words word _ h.cap (one_key kernel_key cap_key word refl here);
+  most = kept_other most_is_value words word _ h.most (one_key kernel_key most_key word refl here);
 }
 
 pub workers_given : (words : List (List ℕ)) (word : List ℕ) (given : Given) (new : Option ℕ) → IsGiven words given → gives workers_key word ≡ true → is_some given.workers ≡ false → new ≡ worker_count (value_of word) → is_some new ≡ true → IsGiven (words ++ word ∷ []) (record given { workers = new })
@@ -99,4 +109,24 @@ workers_given words word given new h here none is taken = record {
   profile = kept_other profile_value words word _ h.profile (one_key workers_key profile_key word refl here);
   kernel = kept_other kernel_value words word _ h.kernel (one_key workers_key kernel_key word refl here);
   workers = kept_first workers_value words word _ _ h.workers none here is taken;
+  cap = kept_other cap_is_value words word _ h.cap (one_key workers_key cap_key word refl here);
+  most = kept_other most_is_value words word _ h.most (one_key workers_key most_key word refl here);
+}
+
+pub cap_given : (words : List (List ℕ)) (word : List ℕ) (given : Given) (new : Option ℕ) → IsGiven words given → gives cap_key word ≡ true → is_some given.cap ≡ false → new ≡ cap_value (value_of word) → is_some new ≡ true → IsGiven (words ++ word ∷ []) (record given { cap = new })
+cap_given words word given new h here none is taken = record {
+  profile = kept_other profile_value words word _ h.profile (one_key cap_key profile_key word refl here);
+  kernel = kept_other kernel_value words word _ h.kernel (one_key cap_key kernel_key word refl here);
+  workers = kept_other workers_value words word _ h.workers (one_key cap_key workers_key word refl here);
+  cap = kept_first cap_is_value words word _ _ h.cap none here is taken;
+  most = kept_other most_is_value words word _ h.most (one_key cap_key most_key word refl here);
+}
+
+pub most_given : (words : List (List ℕ)) (word : List ℕ) (given : Given) (new : Option ℕ) → IsGiven words given → gives most_key word ≡ true → is_some given.most ≡ false → new ≡ most_value (value_of word) → is_some new ≡ true → IsGiven (words ++ word ∷ []) (record given { most = new })
+most_given words word given new h here none is taken = record {
+  profile = kept_other profile_value words word _ h.profile (one_key most_key profile_key word refl here);
+  kernel = kept_other kernel_value words word _ h.kernel (one_key most_key kernel_key word refl here);
+  workers = kept_other workers_value words word _ h.workers (one_key most_key workers_key word refl here);
+  cap = kept_other cap_is_value words word _ h.cap (one_key most_key cap_key word refl here);
+  most = kept_first most_is_value words word _ _ h.most none here is taken;
 }

@@ -3,3 +3,4 @@ pub mod Kept
 pub mod Meanings
 pub mod Profiles
 pub mod Steps
+pub mod Most

@@ -8,8 +8,8 @@ use Rattle.job_words.specs.declared.usage.UsageFault.{UsageFault}
 use Rattle.diffusion_kernel.specs.declared.tables.Kernel.{Kernel}
 use Rattle.diffusion_kernel.specs.declared.tables.Kernel.TheVariants.{Floyd}
 use Rattle.key_values.specs.Pairs.{is_key_value, key_of, value_of}
-use Rattle.job_words.specs.Values.{is_text, kernel_named, worker_count}
-use Rattle.job_words.specs.Table.{KeyRow, CommandRow, command_named, key_named, profile_key, kernel_key, workers_key}
+use Rattle.job_words.specs.Values.{cap_value, greatest_most, is_text, kernel_named, most_value, worker_count}
+use Rattle.job_words.specs.Table.{KeyRow, CommandRow, command_named, key_named, profile_key, kernel_key, workers_key, cap_key, most_key}
 use Rattle.job_words.specs.declared.reading.Job.{Job}
 
 -- whether a word gives this key
@@ -62,6 +62,14 @@ given_kernel words = option_and_then kernel_named (given kernel_key words)
 abbrev pub given_workers : List (List ℕ) → Option ℕ
 given_workers words = option_and_then worker_count (given workers_key words)
 
+-- the cap that the words give
+abbrev pub given_cap : List (List ℕ) → Option ℕ
+given_cap words = option_and_then cap_value (given cap_key words)
+
+-- the most bytes that the words give
+abbrev pub given_most : List (List ℕ) → Option ℕ
+given_most words = option_and_then most_value (given most_key words)
+
 -- The job of a command and the words behind it: each key's value, or its default.
 abbrev pub job_of : CommandRow → List (List ℕ) → Job
 job_of command words = record {
@@ -69,6 +77,8 @@ job_of command words = record {
   profile_word = unwrap_or (given_profile_word words) 0;
   kernel = unwrap_or (given_kernel words) Floyd;
   workers = unwrap_or (given_workers words) 1;
+  cap = given_cap words;
+  most = unwrap_or (given_most words) greatest_most;
 }
 
 -- The first fault, where there is one, and else the job.

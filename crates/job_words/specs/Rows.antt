@@ -1,5 +1,5 @@
 -- The rows of the table that the code's own commands and keys stand for.
-use Rattle.job_words.specs.Table.{CommandRow, KeyRow, print_command, profile_command, profile_key, kernel_key, workers_key}
+use Rattle.job_words.specs.Table.{CommandRow, KeyRow, cap_key, dots_command, kernel_key, list_command, most_key, print_command, profile_command, profile_key, workers_key}
 use Rattle.job_words.specs.declared.table.Verb.{Verb}
 use Rattle.job_words.specs.declared.table.Verb.TheVariants as verb
 use Rattle.job_words.specs.declared.table.Key.{Key}
@@ -8,6 +8,8 @@ use Rattle.job_words.specs.declared.table.Key.TheVariants as key
 -- the row of a command
 abbrev pub command_row : Verb → CommandRow
 command_row verb.Print = print_command
+command_row verb.Dots = dots_command
+command_row verb.List = list_command
 command_row verb.Profile = profile_command
 
 -- the row of a key
@@ -15,3 +17,5 @@ abbrev pub key_row : Key → KeyRow
 key_row key.Profile = profile_key
 key_row key.Kernel = kernel_key
 key_row key.Workers = workers_key
+key_row key.Cap = cap_key
+key_row key.Most = most_key

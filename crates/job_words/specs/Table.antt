@@ -1,8 +1,8 @@
 -- The table of commands and keys.
 use Rattle.std.specs.Prelude.{ℕ, Bool, nat_le, ◌&&◌, List, [], ◌∷◌, codes, length, find, is_some, Option}
-use Rattle.job_words.specs.Values.{is_text, kernel_named, worker_count}
+use Rattle.job_words.specs.Values.{cap_value, is_text, kernel_named, most_value, worker_count}
 use Rattle.job_words.specs.declared.table.Verb.{Verb}
-use Rattle.job_words.specs.declared.table.Verb.TheVariants.{Print, Profile}
+use Rattle.job_words.specs.declared.table.Verb.TheVariants as verb
 
 -- a key: its name, and the values that it takes
 pub record KeyRow : Type 0 where
@@ -27,17 +27,33 @@ kernel_key = record { name = codes "kernel"; takes = λ value. is_some (kernel_n
 abbrev pub workers_key : KeyRow
 workers_key = record { name = codes "workers"; takes = λ value. is_some (worker_count value) }
 
+-- the most dots that are counted of a job
+abbrev pub cap_key : KeyRow
+cap_key = record { name = codes "cap"; takes = λ value. is_some (cap_value value) }
+
+-- the most bytes that are taken of a job
+abbrev pub most_key : KeyRow
+most_key = record { name = codes "most"; takes = λ value. is_some (most_value value) }
+
 -- the command that prints the pages of a stream
 abbrev pub print_command : CommandRow
-print_command = record { verb = Print; name = codes "print"; keys = profile_key ∷ kernel_key ∷ workers_key ∷ [] }
+print_command = record { verb = verb.Print; name = codes "print"; keys = profile_key ∷ kernel_key ∷ workers_key ∷ cap_key ∷ [] }
+
+-- the command that shows the dots of a job as images
+abbrev pub dots_command : CommandRow
+dots_command = record { verb = verb.Dots; name = codes "dots"; keys = profile_key ∷ most_key ∷ [] }
+
+-- the command that lists the commands of a job
+abbrev pub list_command : CommandRow
+list_command = record { verb = verb.List; name = codes "list"; keys = most_key ∷ [] }
 
 -- the command that shows a profile
 abbrev pub profile_command : CommandRow
-profile_command = record { verb = Profile; name = codes "profile"; keys = profile_key ∷ [] }
+profile_command = record { verb = verb.Profile; name = codes "profile"; keys = profile_key ∷ [] }
 
 -- all commands
 abbrev pub command_table : List CommandRow
-command_table = print_command ∷ profile_command ∷ []
+command_table = print_command ∷ dots_command ∷ list_command ∷ profile_command ∷ []
 
 -- the command of a name
 abbrev pub command_named : List ℕ → Option CommandRow

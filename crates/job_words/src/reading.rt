@@ -9,7 +9,7 @@ ghost use Rattle.std.specs.Result.{result_err};
 
 use crate::table::{Key, Verb};
 use crate::usage::{UsageCause, UsageFault};
-use crate::values::{kernel_named, worker_count};
+use crate::values::{GREATEST_MOST, cap_value, kernel_named, most_value, worker_count};
 use diffusion_kernel::Kernel;
 use key_values::cut_word;
 use weave_base::Words;
@@ -25,6 +25,10 @@ pub struct Job {
     pub kernel: Kernel,
     /// How many workers there are: 1 to 64.
     pub workers: u8,
+    /// The most dots that the meters may count, where a word gives it.
+    pub cap: Option<u64>,
+    /// The most bytes of a job that are taken, up to 16 GiB.
+    pub most: u64,
 }
 
 // What the words so far give.
@@ -33,6 +37,8 @@ struct Given {
     profile_word: Option<u32>,
     kernel: Option<Kernel>,
     workers: Option<u8>,
+    cap: Option<u64>,
+    most: Option<u64>,
 }
 
 // Keeps a key's value, unless the key has one.
@@ -83,6 +89,8 @@ impl Given {
             Some(Key::Profile) => keep(&mut self.profile_word, profile_at(number, value)),
             Some(Key::Kernel) => keep(&mut self.kernel, kernel_named(value)),
             Some(Key::Workers) => keep(&mut self.workers, worker_count(value)),
+            Some(Key::Cap) => keep(&mut self.cap, cap_value(value)),
+            Some(Key::Most) => keep(&mut self.most, most_value(value)),
             None => Err(UsageCause::UnknownKey),
         }
     }
@@ -99,6 +107,8 @@ fn read_keys(verb: Verb, words: &Words) -> Result<Given, UsageFault>
         profile_word: None,
         kernel: None,
         workers: None,
+        cap: None,
+        most: None,
     };
     for i in 1..words.len() {
         let number = i + 1;
@@ -135,6 +145,8 @@ pub fn read_words(words: &Words) -> Result<Job, UsageFault>
         profile_word: given.profile_word.unwrap_or(0),
         kernel: given.kernel.unwrap_or(Kernel::Floyd),
         workers: given.workers.unwrap_or(1),
+        cap: given.cap,
+        most: given.most.unwrap_or(GREATEST_MOST),
     })
 }
 

@@ -6,6 +6,10 @@ ghost use Rattle.std.specs.Prelude.{◌≡◌};
 pub enum Verb {
     /// Prints the pages of a stream.
     Print,
+    /// Shows the dots of a job as images.
+    Dots,
+    /// Lists the commands of a job.
+    List,
     /// Shows a profile.
     Profile,
 }
@@ -16,6 +20,8 @@ pub(crate) enum Key {
     Profile,
     Kernel,
     Workers,
+    Cap,
+    Most,
 }
 
 impl Verb {
@@ -29,6 +35,8 @@ impl Verb {
     {
         match name {
             "print" => Some(Verb::Print),
+            "dots" => Some(Verb::Dots),
+            "list" => Some(Verb::List),
             "profile" => Some(Verb::Profile),
             _ => None,
         }
@@ -39,9 +47,11 @@ impl Verb {
         ensures { option_map key_row result ≡ key_named (command_row self).keys name.now }
     {
         match (self, name) {
-            (Verb::Print | Verb::Profile, "profile") => Some(Key::Profile),
+            (Verb::Print | Verb::Dots | Verb::Profile, "profile") => Some(Key::Profile),
             (Verb::Print, "kernel") => Some(Key::Kernel),
             (Verb::Print, "workers") => Some(Key::Workers),
+            (Verb::Print, "cap") => Some(Key::Cap),
+            (Verb::Dots | Verb::List, "most") => Some(Key::Most),
             _ => None,
         }
     }

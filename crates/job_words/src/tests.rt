@@ -32,7 +32,7 @@ fn each_bad_word_has_its_cause(rt: HostRuntime) -> Result<(), Fail> {
     assert_eq!(rt; read_words(&repeated), refused(3, UsageCause::RepeatedKey));
     let no_key = words_of(rt.alloc(), &["print", "x"])?;
     assert_eq!(rt; read_words(&no_key), refused(2, UsageCause::NotKeyValue));
-    let key = words_of(rt.alloc(), &["print", "cap=1"])?;
+    let key = words_of(rt.alloc(), &["print", "most=1"])?;
     assert_eq!(rt; read_words(&key), refused(2, UsageCause::UnknownKey));
     let key_of_print = words_of(rt.alloc(), &["profile", "kernel=fs"])?;
     assert_eq!(rt;
@@ -55,10 +55,49 @@ fn a_line_is_read_as_a_job(rt: HostRuntime) -> Result<(), Fail> {
             verb: Verb::Print,
             profile_word: 2,
             kernel: Kernel::Stucki,
-            workers: 64
+            workers: 64,
+            cap: None,
+            most: 17_179_869_184,
         }
     );
     assert_eq!(rt; profile_name(&words, &job), "a=b");
+    Ok(())
+}
+
+#[test]
+fn a_job_is_looked_at_by_most_of_its_bytes(rt: HostRuntime) -> Result<(), Fail> {
+    for (command, verb) in [("dots", Verb::Dots), ("list", Verb::List)] {
+        let words = words_of(rt.alloc(), &[command, "most=10"])?;
+        assert_eq!(rt;
+            read_words(&words).map(|job| (job.verb, job.most)),
+            Ok((verb, 10))
+        );
+    }
+    let past = words_of(rt.alloc(), &["list", "most=17179869185"])?;
+    let fault = UsageFault {
+        word: 2,
+        cause: UsageCause::BadValue,
+    };
+    assert_eq!(rt; read_words(&past), Err(fault));
+    Ok(())
+}
+
+#[test]
+fn a_cap_is_a_number_of_64_bits(rt: HostRuntime) -> Result<(), Fail> {
+    let words = words_of(rt.alloc(), &["print", "cap=18446744073709551615"])?;
+    assert_eq!(rt;
+        read_words(&words).map(|job| job.cap),
+        Ok(Some(18_446_744_073_709_551_615))
+    );
+    let past = words_of(
+        rt.alloc(),
+        &["print", "profile=tiny", "cap=18446744073709551616"],
+    )?;
+    let fault = UsageFault {
+        word: 3,
+        cause: UsageCause::BadValue,
+    };
+    assert_eq!(rt; read_words(&past), Err(fault));
     Ok(())
 }
 
@@ -79,6 +118,12 @@ fn each_value_is_taken_or_refused_at_word_2_and_at_word_3(rt: HostRuntime) -> Re
             "workers=1000000000000000000000000000000000000001",
             Some(UsageCause::BadValue),
         ),
+        ("cap=0", None),
+        ("cap=18446744073709551615", None),
+        ("cap=18446744073709551616", Some(UsageCause::BadValue)),
+        ("cap=00", Some(UsageCause::BadValue)),
+        ("cap=", Some(UsageCause::BadValue)),
+        ("cap=-1", Some(UsageCause::BadValue)),
         ("kernel=fs", None),
         ("kernel=jjn", None),
         ("kernel=stucki", None),
@@ -139,7 +184,9 @@ fn no_profile_is_the_built_in_one(rt: HostRuntime) -> Result<(), Fail> {
             verb: Verb::Profile,
             profile_word: 0,
             kernel: Kernel::Floyd,
-            workers: 1
+            workers: 1,
+            cap: None,
+            most: 17_179_869_184,
         }
     );
     assert_eq!(rt; profile_name(&words, &job), "p360cmyk");

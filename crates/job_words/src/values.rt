@@ -1,6 +1,6 @@
 //! The values of keys.
 ghost use Rattle.std.specs.Prelude.{◌≡◌};
-ghost use Rattle.job_words.specs.Values.{kernel_named as kernel_of, worker_count as workers_of};
+ghost use Rattle.job_words.specs.Values.{cap_value as cap_of, kernel_named as kernel_of, most_value as most_of, worker_count as workers_of};
 
 use diffusion_kernel::Kernel;
 use key_values::number_within;
@@ -15,6 +15,23 @@ pub fn kernel_named(text: &str) -> Option<Kernel>
         "stucki" => Some(Kernel::Stucki),
         _ => None,
     }
+}
+
+/// The most bytes of a job: 16 GiB.
+pub const GREATEST_MOST: u64 = 17_179_869_184;
+
+/// The most dots that are counted of a job.
+pub fn cap_value(text: &str) -> Option<u64>
+    ensures { result ≡ cap_of text.now }
+{
+    number_within(0, u64::MAX, text.as_bytes())
+}
+
+/// The most bytes that are taken of a job, up to 16 GiB.
+pub fn most_value(text: &str) -> Option<u64>
+    ensures { result ≡ most_of text.now }
+{
+    number_within(0, GREATEST_MOST, text.as_bytes())
 }
 
 /// A count of workers: 1 to 64.

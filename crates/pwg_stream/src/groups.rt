@@ -6,9 +6,9 @@ ghost use Rattle.pwg_stream.specs.declared.groups.GroupStop.TheVariants as stop;
 ghost use Rattle.std.specs.Prelude.{IfOk, IfSome, IsErrOf, OnErr, OnOk, ◌≡◌, ◌≤◌, ◌⊎◌};
 ghost use Rattle.weave_base.specs.Causes.{Rose};
 
-use unread_bytes::Unread;
 use pwg_definitions::InputCause;
 use pwg_lines::{Fill, LineReader};
+use unread_bytes::Unread;
 use weave_base::Source;
 
 /// Why a group is not given.

@@ -11,9 +11,9 @@ ghost use Rattle.pwg_definitions.specs.Limits.{header_length, most_pages};
 ghost use Rattle.weave_base.specs.Causes.{Rose};
 
 use crate::stops::StreamStop;
-use unread_bytes::Unread;
 use pwg_definitions::InputCause;
 use pwg_header::{HEADER_LEN, PageForm, Wanted, check, read_header};
+use unread_bytes::Unread;
 use weave_base::Source;
 
 /// The most pages of a stream.

@@ -9,10 +9,10 @@ use crate::groups::{GroupStop, read_group};
 use crate::headers::read_page_header;
 use crate::stops::StreamStop;
 use crate::sync::read_sync;
-use unread_bytes::Unread;
 use pwg_header::{PageForm, Wanted};
 use pwg_lines::LineReader;
 use std::alloc::Global;
+use unread_bytes::Unread;
 use weave_base::{Memory, Source};
 
 /// Reads the pages of a stream, line by line. It does not hold the source: each call is lent the same one.

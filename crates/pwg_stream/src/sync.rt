@@ -10,8 +10,8 @@ ghost use Rattle.pwg_definitions.specs.declared.pages.Wanted.{Wanted};
 ghost use Rattle.weave_base.specs.Causes.{Rose};
 
 use crate::stops::StreamStop;
-use unread_bytes::Unread;
 use pwg_definitions::InputCause;
+use unread_bytes::Unread;
 use weave_base::Source;
 
 /// Reads the sync word.

@@ -38,7 +38,7 @@ pub(crate) fn diffuse_band(
     let mut hand = hand;
     clear_right(&mut hand.right);
     cut_ends(hand.bottoms.at(0), &mut hand.corner);
-    for c in 0..shape.columns() {
+    for _ in 0..shape.columns() {
         let place = take_next(core);
         hand = diffuse_tile(hand, rows, kernel, place, out, at);
         give_all(core, shape, place);

@@ -1,9 +1,10 @@
 -- Top edges of no errors, column by column.
-use Rattle.std.proofs.Common.{◌≡◌, ℕ, ℤ, pos, ◌+◌, ◌-◌, ◌<◌, ◌≤◌, List, [], ◌∷◌, ◌++◌, get_or, length, length-append, ap, arith, inl, inr, refl, sym, ◌∙◌, subst}
+use Rattle.std.proofs.Common.{◌≡◌, ℕ, ℤ, pos, ◌+◌, ◌-◌, ◌<◌, List, [], ◌∷◌, ◌++◌, get_or, length, length-append, ap, arith, inl, inr, refl, replicate, sym, ◌∙◌, subst}
 use Rattle.std.proofs.lemmas.Bool.{cases_lt}
-use Rattle.std.proofs.lemmas.List.{get_or-append_right, get_or_append_left, get_or_past}
+use Rattle.std.proofs.lemmas.List.{get_or-append_right, get_or_append_left, get_or_past, length-replicate}
 use Rattle.tile_border.specs.Inks.{AreZeros}
 use Rattle.tile_border.specs.Tops.{IsZeroTop}
+use Rattle.tile_border.proofs.Zeros.{zeros}
 
 no_errors : AreZeros []
 no_errors = record { at = λ ink n. refl }
@@ -31,16 +32,17 @@ column_more P columns c top edge long before here past = elim (cases_lt c column
   ]
 ]
 
-pub columns_more : (columns inks : ℕ) (top new : List (List (List ℤ))) (edge : List (List ℤ)) → IsZeroTop columns inks top → length edge ≡ inks → AreZeros edge
+pub columns_more : (columns inks : ℕ) (top new : List (List (List ℤ))) (edge : List (List ℤ)) → IsZeroTop columns inks top → edge ≡ replicate inks (replicate 128 (pos 0))
     → new ≡ top ++ edge ∷ [] → IsZeroTop (columns + 1) inks new
-columns_more columns inks top new edge t long zeros is =
+columns_more columns inks top new edge t blank is =
+    let long : length edge ≡ inks = ap length blank ∙ length-replicate inks (replicate 128 (pos 0)) in
     let Q : List (List (List ℤ)) → Type 0 = λ es. IsZeroTop (columns + 1) inks es in
     let HasInks : List (List ℤ) → Type 0 = λ e. length e ≡ inks in
     let Zero : List (List ℤ) → Type 0 = λ e. AreZeros e in
     subst Q (sym is) (record {
       columns_are = length-append top (edge ∷ []) ∙ ap (λ n. n + 1) t.columns_are;
       inks_are = λ c low. column_more HasInks columns c top edge t.columns_are (t.inks_are c) (λ _. long) (λ past. absurd (omega arith));
-      zeros = λ c. column_more Zero columns c top edge t.columns_are (λ _. t.zeros c) (λ _. zeros) (λ _. no_errors);
+      zeros = λ c. column_more Zero columns c top edge t.columns_are (λ _. t.zeros c) (λ _. zeros inks 128 edge blank) (λ _. no_errors);
     })
 
 pub same_columns : (n columns inks : ℕ) (top : List (List (List ℤ))) → n ≡ columns → IsZeroTop n inks top → IsZeroTop columns inks top

@@ -1,13 +1,9 @@
 -- The ends of an edge's two rows, error by error.
-use Rattle.std.proofs.Common.{◌≡◌, ℕ, ℤ, pos, ◌+◌, ◌*◌, ◌/◌, ◌%◌, ◌<◌, ◌≤◌, List, get_or, length, length-set, set, ap, arith, inl, inr, refl, sym, ◌∙◌, subst, get_or-set_other, get_or-set_same, to_z, of_z, w16}
+use Rattle.std.proofs.Common.{◌≡◌, ℕ, ℤ, pos, ◌+◌, ◌*◌, ◌/◌, ◌%◌, ◌<◌, ◌≤◌, List, get_or, length, length-set, set, ap, arith, inl, inr, sym, ◌∙◌, subst, get_or-set_other, get_or-set_same, to_z, of_z, w16}
 use Rattle.std.proofs.lemmas.Bool.{cases_eq}
-use Rattle.std.proofs.lemmas.Int.{ints}
 use Rattle.diffusion_definitions.specs.Diffusion.{EachInRange, InRange}
 use Rattle.tile_edges.specs.Tops.{IsCut}
-
--- an error in range is kept in 16 bits
-kept : (e : ℤ) → InRange e → to_z w16 (of_z w16 e) ≡ e
-kept e fits = let low = fits.low in let high = fits.high in omega (arith, ints)
+use Rattle.tile_border.proofs.Zeros.{kept, set_fits, zero_fits}
 
 -- where the n-th of the twelve stands
 abbrev pub place_of : ℕ → ℕ
@@ -29,10 +25,7 @@ ends_more edge ends many low fits e =
         | inl here ↦ ap (λ m. get_or (set ends many error) m (pos 0)) here ∙ get_or-set_same ends many error (pos 0) room ∙ ap (λ m. get_or edge (place_of m) (pos 0)) (sym here)
         | inr other ↦ get_or-set_other ends many n error (pos 0) other ∙ e.are n (omega arith)
       ];
-      fits = λ n. let Q : ℤ → Type 0 = λ z. InRange z in elim (cases_eq n many) [
-        | inl here ↦ subst Q (sym (ap (λ m. get_or (set ends many error) m (pos 0)) here ∙ get_or-set_same ends many error (pos 0) room)) (fits (place_of many))
-        | inr other ↦ subst Q (sym (get_or-set_other ends many n error (pos 0) other)) (e.fits n)
-      ];
+      fits = set_fits ends many error room (fits (place_of many)) e.fits;
     }
 
 pub ends_cut : (edge other ends : List ℤ) (many : ℕ) → edge ≡ other → 12 ≤ many → AreEnds edge many ends → IsCut other ends
@@ -46,7 +39,7 @@ pub no_ends : (edge ends : List ℤ) → length ends ≡ 12 → ((n : ℕ) → g
 no_ends edge ends long zero = record {
   long = long;
   are = λ n below. absurd (omega arith);
-  fits = λ n. let Q : ℤ → Type 0 = λ z. InRange z in subst Q (sym (zero n)) (record { low = omega (arith, ints); high = omega (arith, ints) });
+  fits = λ n. let Q : ℤ → Type 0 = λ z. InRange z in subst Q (sym (zero n)) zero_fits;
 }
 
 -- the error as it was read

@@ -2,14 +2,14 @@
 use Rattle.std.proofs.Common.{◌≡◌, ◌≢◌, ℕ, ℤ, ◌+◌, ◌<◌, ◌≤◌, List, [], get_or, length, set, length-set, ap, arith, inl, inr, refl, sym, ◌∙◌, subst, get_or-set_other, get_or-set_same}
 use Rattle.std.proofs.lemmas.Bool.{cases_eq}
 use Rattle.std.proofs.lemmas.List.{get_or_read}
-use Rattle.diffusion_definitions.specs.Diffusion.{EachInRange, Errors, Solves, Table}
+use Rattle.diffusion_definitions.specs.Diffusion.{EachInRange, Errors, Solves}
 use Rattle.diffusion_kernel.specs.Tables.{table_of}
 use Rattle.diffusion_kernel.specs.declared.tables.Kernel.{Kernel}
 use Rattle.dot_planes.specs.Tables.{AmountTable}
 use Rattle.tile_lanes.specs.Done.{IsDone, IsReady, plane_of}
 use Rattle.tile_shape.specs.declared.tiles.Place.{Place}
 use Rattle.tile_border.specs.Inks.{AreInks, errors_of}
-use Rattle.tile_border.specs.Works.{Border, HasInks, SameInk, Works, WorksInk}
+use Rattle.tile_border.specs.Works.{Border, SameInk, Works, WorksInk}
 
 done_same : (k : Kernel) (rows : AmountTable) (p : Place) (i : ℕ) (e : Errors) (s s1 b b1 q q1 : List ℤ) (d d1 : List ℕ) → s1 ≡ s → b1 ≡ b → q1 ≡ q → d1 ≡ d
     → IsDone (table_of k) (plane_of rows i) e p s b q d → IsDone (table_of k) (plane_of rows i) e p s1 b1 q1 d1

@@ -1,3 +1,4 @@
 pub mod Inks
 pub mod Works
 pub mod Tops
+pub mod Worked

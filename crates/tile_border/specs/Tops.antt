@@ -1,5 +1,5 @@
 -- The top edges of a board.
-use Rattle.std.specs.Prelude.{◌≡◌, ℕ, ℤ, pos, ◌<◌, ◌≤◌, List, [], length, slice_index_or, map}
+use Rattle.std.specs.Prelude.{◌≡◌, ℕ, ℤ, ◌<◌, List, [], length, slice_index_or, map}
 use Rattle.tile_border.specs.Inks.{AreZeros, errors_of}
 use Rattle.tile_border.specs.declared.tops.TopEdges.TheInside.{Inside}
 

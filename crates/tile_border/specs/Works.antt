@@ -1,6 +1,6 @@
 -- What a tile gives for what it is handed.
-use Rattle.std.specs.Prelude.{◌≡◌, ◌≢◌, ℕ, ℤ, ◌<◌, List, [], length, slice_index_or}
-use Rattle.diffusion_definitions.specs.Diffusion.{Errors, Solves, Table}
+use Rattle.std.specs.Prelude.{◌≡◌, ◌≢◌, ℕ, ℤ, List, [], length, slice_index_or}
+use Rattle.diffusion_definitions.specs.Diffusion.{Errors, Solves}
 use Rattle.diffusion_kernel.specs.Tables.{table_of}
 use Rattle.diffusion_kernel.specs.declared.tables.Kernel.{Kernel}
 use Rattle.dot_planes.specs.Tables.{AmountTable}

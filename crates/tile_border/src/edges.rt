@@ -1,7 +1,7 @@
 //! The edges of a tile, ink by ink.
 ghost use Rattle.diffusion_definitions.specs.Diffusion.{EachInRange};
-ghost use Rattle.std.specs.Prelude.{IfOk, length, slice_set, ◌<◌, ◌≡◌, ◌≤◌};
-ghost use Rattle.tile_border.specs.Inks.{AreZeros, errors_of};
+ghost use Rattle.std.specs.Prelude.{IfOk, length, pos, replicate, slice_set, ◌<◌, ◌≡◌, ◌≤◌};
+ghost use Rattle.tile_border.specs.Inks.{errors_of};
 ghost use Rattle.tile_edges.specs.Tops.{IsCut};
 
 use std::alloc::Global;
@@ -33,8 +33,7 @@ impl RightEdge {
     pub fn zero(alloc: Global, inks: u8) -> Result<RightEdge, Memory>
         requires some { 1 ≤ inks }
         requires most { inks ≤ 4 }
-        ensures inks { IfOk result (λ edge. length edge ≡ inks) }
-        ensures zeros { IfOk result AreZeros }
+        ensures { IfOk result (λ edge. edge ≡ replicate inks (replicate 192 (pos 0))) }
     {
         match vec![in alloc; [0; 192]; usize::from(inks)] {
             Ok(inks) => Ok(RightEdge { inks }),
@@ -95,8 +94,7 @@ impl BottomEdge {
     pub fn zero(alloc: Global, inks: u8) -> Result<BottomEdge, Memory>
         requires some { 1 ≤ inks }
         requires most { inks ≤ 4 }
-        ensures inks { IfOk result (λ edge. length edge ≡ inks) }
-        ensures zeros { IfOk result AreZeros }
+        ensures { IfOk result (λ edge. edge ≡ replicate inks (replicate 128 (pos 0))) }
     {
         match vec![in alloc; [0; 128]; usize::from(inks)] {
             Ok(inks) => Ok(BottomEdge { inks }),
@@ -171,8 +169,7 @@ impl CornerEdge {
     pub fn zero(alloc: Global, inks: u8) -> Result<CornerEdge, Memory>
         requires some { 1 ≤ inks }
         requires most { inks ≤ 4 }
-        ensures inks { IfOk result (λ edge. length edge ≡ inks) }
-        ensures zeros { IfOk result AreZeros }
+        ensures { IfOk result (λ edge. edge ≡ replicate inks (replicate 12 (pos 0))) }
     {
         match vec![in alloc; [0; 12]; usize::from(inks)] {
             Ok(inks) => Ok(CornerEdge { inks }),

@@ -3,6 +3,7 @@
 #![tactic(auto)]
 
 mod edges;
+pub mod laws;
 mod task;
 mod tops;
 

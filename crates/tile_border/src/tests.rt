@@ -1,1 +1,135 @@
 //! Tiles by hand.
+ghost use Rattle.diffusion_definitions.specs.Diffusion.{InRange};
+ghost use Rattle.std.specs.Prelude.{IfOk, length, ◌<◌, ◌≡◌};
+ghost use Rattle.tile_border.specs.Works.{HasInks};
+
+use crate::{BottomEdge, CornerEdge, Done, RightEdge, Task, TopEdges, work};
+use diffusion_kernel::Kernel;
+use dot_planes::{InkRows, TileBits, TileDots};
+use std::alloc::Global;
+use tile_shape::Place;
+use weave_base::Memory;
+
+// A tile of two inks, handed errors 0.
+fn zero_task(alloc: Global, place: Place) -> Result<Task, Memory>
+    ensures place { IfOk result (λ t. t.place ≡ place) }
+    ensures inks { IfOk result (λ t. HasInks 2 (record { side = t.left; band = t.above; corner = t.corner; bits = t.dots.bits })) }
+{
+    let left = RightEdge::zero(alloc, 2)?;
+    let above = BottomEdge::zero(alloc, 2)?;
+    let corner = CornerEdge::zero(alloc, 2)?;
+    let bits = TileBits::make(alloc, 2)?;
+    Ok(Task {
+        place,
+        left,
+        above,
+        corner,
+        dots: TileDots { place, bits },
+    })
+}
+
+// Gives an ink one error everywhere in what a tile is handed.
+fn hand(task: &mut Task, ink: u8, error: i16)
+    requires inks { HasInks 2 (record { side = task.old.left; band = task.old.above; corner = task.old.corner; bits = task.old.dots.bits }) }
+    requires ink { ink < 2 }
+    requires error { InRange error }
+    ensures place { task.new.place ≡ task.old.place }
+    ensures inks { HasInks 2 (record { side = task.new.left; band = task.new.above; corner = task.new.corner; bits = task.new.dots.bits }) }
+{
+    task.left.put(ink, &[error; 192]);
+    task.above.put(ink, &[error; 128]);
+    task.corner.put(ink, &[error; 12]);
+}
+
+// 200 columns and 70 rows, of which the first ink has amounts 0 and the second 255.
+fn light_and_dark(alloc: Global) -> Result<InkRows, Memory>
+    ensures width { IfOk result (λ t. t.width ≡ 200) }
+    ensures rows { IfOk result (λ t. t.rows ≡ 70) }
+    ensures inks { IfOk result (λ t. t.inks ≡ 2) }
+{
+    let mut rows = InkRows::make(alloc, 200, 70, 2)?;
+    for y in 0..70 {
+        rows.put_part(1, 0, y, &[255; 200]);
+    }
+    Ok(rows)
+}
+
+fn is_all(errors: &[i16], error: i16) -> bool {
+    errors.iter().all(|e| *e == error)
+}
+
+// Whether an ink has one error in all that a tile hands on, and one byte in all its dots.
+fn gives(done: &Done, ink: u8, error: i16, dots: u8) -> bool
+    requires inks { HasInks 2 (record { side = done.now.right; band = done.now.bottom; corner = done.now.corner; bits = done.now.dots.bits }) }
+    requires ink { ink < 2 }
+{
+    is_all(done.right.ink(ink), error)
+        && is_all(done.bottom.ink(ink), error)
+        && is_all(done.corner.ink(ink), error)
+        && done.dots.bits.ink(ink).iter().all(|byte| *byte == dots)
+}
+
+// The shares of a kernel add up to its divisor, so where each error near a pixel is the same its value is that error
+// and 16 times its amount: 2039 is just too little for a dot, and 4080 - 2040 is just enough.
+#[test]
+fn the_greatest_and_the_least_error_stay_as_they_are(rt: HostRuntime) {
+    let place = Place { c: 1, j: 1 };
+    for kernel in [Kernel::Floyd, Kernel::Jarvis, Kernel::Stucki] {
+        let Ok(rows) = light_and_dark(rt.alloc()) else {
+            assert!(rt; false);
+            return;
+        };
+        let Ok(mut task) = zero_task(rt.alloc(), place) else {
+            assert!(rt; false);
+            return;
+        };
+        hand(&mut task, 0, 2039);
+        hand(&mut task, 1, -2040);
+        let done = work(task, &rows, kernel);
+        assert_eq!(rt; (done.place, done.dots.place), (place, place));
+        assert!(rt; gives(&done, 0, 2039, 0) && gives(&done, 1, -2040, 255));
+    }
+}
+
+#[test]
+fn a_window_of_one_pixel_has_a_dot_from_128_on(rt: HostRuntime) {
+    let Ok(mut rows) = InkRows::make(rt.alloc(), 1, 1, 2) else {
+        assert!(rt; false);
+        return;
+    };
+    rows.set(0, 0, 0, 127);
+    rows.set(1, 0, 0, 128);
+    let Ok(task) = zero_task(rt.alloc(), Place { c: 0, j: 0 }) else {
+        assert!(rt; false);
+        return;
+    };
+    let done = work(task, &rows, Kernel::Floyd);
+    assert!(rt; gives(&done, 0, 0, 0));
+    assert!(rt; is_all(done.right.ink(1), 0) && is_all(done.bottom.ink(1), 0));
+    assert_eq!(rt; done.dots.bits.ink(1)[0], 0x80);
+    for byte in &done.dots.bits.ink(1)[1..] {
+        assert_eq!(rt; *byte, 0);
+    }
+}
+
+#[test]
+fn top_edges_are_put_by_column(rt: HostRuntime) {
+    let Ok(mut top) = TopEdges::zero(rt.alloc(), 3, 2) else {
+        assert!(rt; false);
+        return;
+    };
+    let Ok(mut edge) = BottomEdge::zero(rt.alloc(), 2) else {
+        assert!(rt; false);
+        return;
+    };
+    let mut errors = [0; 128];
+    errors[58] = 5;
+    errors[127] = -7;
+    edge.put(1, &errors);
+    assert_eq!(rt; edge.inks(), 2);
+    assert_eq!(rt; edge.ends(1), [5, 0, 0, 0, 0, 0, 0, 0, 0, 0, 0, -7]);
+    top.put(1, edge);
+    assert!(rt; is_all(top.at(0).ink(1), 0) && is_all(top.at(2).ink(1), 0));
+    assert!(rt; is_all(top.at(1).ink(0), 0));
+    assert_eq!(rt; top.at(1).ink(1)[127], -7);
+}

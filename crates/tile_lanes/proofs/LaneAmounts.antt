@@ -8,7 +8,7 @@ use Rattle.tile_lanes.proofs.RowCells.{place_inside}
 
 -- The amounts of row r at offsets from `first` to before `end` stand at their steps; those of other rows are as before.
 pub record IsLaid (row : List ℕ) (c r first end : ℕ) (old new : List ℕ) : Type 0 where
-  pub long : length new ≡ 3040
+  pub long : length new ≡ 3072
   pub here : (o : ℕ) → first ≤ o → o < end → get_or new (32 * (o + r) + r) 0 ≡ get_or row (64 * c + o - 2 * r) 0
   pub others : (s q : ℕ) → q < 32 → q ≢ r → get_or new (32 * s + q) 0 ≡ get_or old (32 * s + q) 0
 

@@ -82,32 +82,31 @@ whole_cleared p c j step xs dots whole = record {
   dot = λ r o row small at there. refl;
   before = λ m h. refl;
   after = λ m h. refl;
-  dots = λ r. inl refl;
 }
 
 -- the cells of earlier groups and of the two rows above stay
 pub step_kept : (k : Table) (p : Plane) (e : Errors) (c j t : ℕ) (amounts f0 d0 f1 d1 f2 d2 : List ℕ)
-    → IsFilled e c j t f0 → IsStep k amounts t 32 f0 d0 f1 d1 → IsCleared p c j t f1 d1 f2 d2 → IsFilled e c j t f2
+    → IsFilled e c j t f0 → IsStep k amounts t 0 32 f0 d0 f1 d1 → IsCleared p c j t f1 d1 f2 d2 → IsFilled e c j t f2
 step_kept k p e c j t amounts f0 d0 f1 d1 f2 d2 f s g = record {
   before = λ q l band small visited.
       let m : ℕ = 34 * (l + q) + q in
       let low : m < 34 * t + 2 = omega arith in
-      ap error_held (g.before m low ∙ s.before m low) ∙ f.before q l band small visited;
+      ap error_held (g.before m low ∙ s.before m (omega arith)) ∙ f.before q l band small visited;
   above = λ q l up small.
       let m : ℕ = 34 * (l + q) + q in
       ap error_held (elim (cases_lt m (34 * t + 2)) [
-        | inl low ↦ g.before m low ∙ s.before m low
+        | inl low ↦ g.before m low ∙ s.before m (omega arith)
         | inr high ↦ g.after m (omega arith) ∙ s.after m (omega arith)
       ]) ∙ f.above q l up small;
 }
 
 pub step_right : (k : Table) (p : Plane) (e : Errors) (c j t : ℕ) (amounts f0 d0 f1 d1 f2 d2 : List ℕ)
     → Solves k p e → HasAmounts p c j 32 amounts
-    → IsFilled e c j t f0 → IsStep k amounts t 32 f0 d0 f1 d1 → IsCleared p c j t f1 d1 f2 d2 → IsStepped e c j t f2
+    → IsFilled e c j t f0 → IsStep k amounts t 0 32 f0 d0 f1 d1 → IsCleared p c j t f1 d1 f2 d2 → IsStepped e c j t f2
 step_right k p e c j t amounts f0 d0 f1 d1 f2 d2 solves h f s g = record {
   filled = step_kept k p e c j t amounts f0 d0 f1 d1 f2 d2 f s g;
   pixels = λ r o row small is_t. elim (cases_Bool (is_place p j r (64 * c + o))) [
-    | inl place ↦ ap error_held (g.pixel r o row small is_t place) ∙ s.errors r row ∙ error_right k p e c j t r o amounts f0 solves h f row small is_t place
+    | inl place ↦ ap error_held (g.pixel r o row small is_t place) ∙ s.errors r o (omega arith) row small is_t ∙ error_right k p e c j t r o amounts f0 solves h f row small is_t place
     | inr none ↦ ap error_held (g.none r o row small is_t none) ∙ (none_right k p e c j r o solves none).err
   ];
 }
@@ -142,22 +141,23 @@ higher d new (suc (suc (suc (suc (suc (suc (suc (suc (suc (suc (suc (suc (suc (s
 higher d new (suc (suc (suc (suc (suc (suc (suc (suc (suc (suc (suc (suc (suc (suc (suc i))))))))))))))) h is = let no : ⊥ = omega arith in absurd no
 
 pub dots_right : (k : Table) (p : Plane) (e : Errors) (c j t : ℕ) (amounts f0 d0 f1 d1 f2 d2 : List ℕ)
-    → HasAmounts p c j 32 amounts → IsFilled e c j t f0 → IsStep k amounts t 32 f0 d0 f1 d1 → IsCleared p c j t f1 d1 f2 d2
+    → HasAmounts p c j 32 amounts → IsFilled e c j t f0 → IsStep k amounts t 0 32 f0 d0 f1 d1 → IsCleared p c j t f1 d1 f2 d2
     → HasLastDots k p e c j t d0 → HasLastDots k p e c j (t + 1) d2
 dots_right k p e c j t amounts f0 d0 f1 d1 f2 d2 h f s g last = record { at = go }
   where
-    half : (r : ℕ) → get_or d2 r 0 / 2 ≡ get_or d1 r 0 / 2
-    half r = elim (g.dots r) [
-      | inl same ↦ ap (λ m. m / 2) same
-      | inr less ↦ omega (arith, less)
+    half : (r o : ℕ) → r < 32 → o < 64 → o + r + 8 ≡ t → get_or d2 r 0 / 2 ≡ get_or d1 r 0 / 2
+    half r o row small now = elim (cases_Bool (is_place p j r (64 * c + o))) [
+      | inl place ↦ ap (λ m. m / 2) (g.dot r o row small now place)
+      | inr none ↦ let less = g.no_dot r o row small now none in omega (arith, less)
     ]
 
-    go : (r o i : ℕ) → r < 32 → o < 64 → i < 16 → o + r + 9 + i ≡ t + 1 → get_or d2 r 0 / 2 ^ i % 2 ≡ bit_of (shown k p e j r (64 * c + o))
-    go r o zero row small few is_t =
+    go : (r o i : ℕ) → r < 32 → o < 64 → i < 16 → o + r + 9 + i ≡ t + 1 → t + 1 ≤ r + 72 → get_or d2 r 0 / 2 ^ i % 2 ≡ bit_of (shown k p e j r (64 * c + o))
+    go r o zero row small few is_t in_tile =
         let now : o + r + 8 ≡ t = omega arith in
         elim (cases_Bool (is_place p j r (64 * c + o))) [
           | inl place ↦
-              let low : get_or d1 r 0 % 2 ≡ bit_of (is_dot (value_in_row k amounts t f0 r)) = lowest (get_or d0 r 0) (get_or d1 r 0) _ (s.dots r row) in
+              let low : get_or d1 r 0 % 2 ≡ bit_of (is_dot (value_in_row k amounts t f0 r)) =
+              lowest (get_or d0 r 0) (get_or d1 r 0) _ (s.dots r o (omega arith) row small now) in
               let same = g.dot r o row small now place in
               let here : get_or d2 r 0 / 2 ^ 0 % 2 ≡ get_or d1 r 0 % 2 = omega (arith, same) in
               here ∙ low ∙ ap bit_of (dot_right k p e c j t r o amounts f0 h f row small now place)
@@ -166,11 +166,15 @@ dots_right k p e c j t amounts f0 d0 f1 d1 f2 d2 h f s g last = record { at = go
               let here : get_or d2 r 0 / 2 ^ 0 % 2 ≡ 0 = omega (arith, gone) in
               here ∙ ap (λ b. bit_of (b && is_dot (value_at k p e (32 * j + r) (64 * c + o - 2 * r)))) (sym none)
         ]
-    go r o (suc i) row small few is_t =
-        let moved : get_or d2 r 0 / 2 ≡ get_or d0 r 0 % 32768 = half r ∙ shifted (get_or d0 r 0) (get_or d1 r 0) _ (s.dots r row) in
+    go r o (suc i) row small few is_t in_tile =
+        let q : ℕ = o + i + 1 in
+        let now : q + r + 8 ≡ t = omega arith in
+        let inside : q < 64 = omega arith in
+        let moved : get_or d2 r 0 / 2 ≡ get_or d0 r 0 % 32768 =
+        half r q row inside now ∙ shifted (get_or d0 r 0) (get_or d1 r 0) _ (s.dots r q (omega arith) row inside now) in
         let next : suc i ≡ i + 1 = omega arith in
         ap (λ m. get_or d2 r 0 / 2 ^ m % 2) next
-        ∙ higher (get_or d0 r 0) (get_or d2 r 0) i (omega arith) moved ∙ last.at r o i row small (omega arith) (omega arith)
+        ∙ higher (get_or d0 r 0) (get_or d2 r 0) i (omega arith) moved ∙ last.at r o i row small (omega arith) (omega arith) (omega arith)
 
 -- sixteen dots of two rows go to the bits
 pub bits_more : (k : Table) (p : Plane) (e : Errors) (c j t : ℕ) (dots old new : List ℕ)
@@ -181,7 +185,7 @@ pub bits_more : (k : Table) (p : Plane) (e : Errors) (c j t : ℕ) (dots old new
 bits_more k p e c j t dots old new last f there kept = record {
   at = λ r o row small done. elim (cases_lt (16 * (o / 16) + r + 23) t) [
     | inl before ↦ let other : 16 * (o / 16) + r + 23 ≢ t = omega arith in kept r o row small other ∙ f.at r o row small (omega arith)
-    | inr from ↦ let now : 16 * (o / 16) + r + 23 ≡ t = omega arith in there r o row small now ∙ last.at r o (15 - o % 16) row small (omega arith) (omega arith)
+    | inr from ↦ let now : 16 * (o / 16) + r + 23 ≡ t = omega arith in there r o row small now ∙ last.at r o (15 - o % 16) row small (omega arith) (omega arith) (omega arith)
   ];
 }
 

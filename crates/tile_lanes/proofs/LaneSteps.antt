@@ -21,13 +21,14 @@ held_more xs at v all fits i = elim (cases_lt at (length xs)) [
 
 -- ---- a step
 
-pub none_stepped : (k : Table) (amounts : List ℕ) (step : ℕ) (xs dots : List ℕ) → IsStep k amounts step 0 xs dots xs dots
-none_stepped k amounts step xs dots = record {
-  errors = λ r h. let no : ⊥ = omega arith in absurd no;
+pub none_stepped : (k : Table) (amounts : List ℕ) (step first : ℕ) (xs dots : List ℕ) → IsStep k amounts step first 0 xs dots xs dots
+none_stepped k amounts step first xs dots = record {
+  errors = λ r o h g. let no : ⊥ = omega arith in absurd no;
+  dots = λ r o h g. let no : ⊥ = omega arith in absurd no;
   before = λ m h. refl;
   after = λ m h. refl;
-  dots = λ r h. let no : ⊥ = omega arith in absurd no;
-  rest = λ r h. refl;
+  dots_before = λ r h. refl;
+  dots_after = λ r h. refl;
 }
 
 -- a value among the errors of a field, from one among the errors that were read from it
@@ -48,39 +49,65 @@ value_kept k amount xs old at bound near far kept =
     five_are (cell 274 (omega arith) (omega arith)) (cell 240 (omega arith) (omega arith)) (cell 206 (omega arith) (omega arith)) (cell 172 (omega arith) (omega arith)) (cell 138 (omega arith) (omega arith)) in
     ap (λ s. value k amount s (up1_in xs at) (up2_in xs at)) same ∙ ap (λ u. value k amount (same_in old at) u (up2_in xs at)) up1 ∙ ap (value k amount (same_in old at) (up1_in old at)) up2
 
-pub step_more : (k : Table) (amounts : List ℕ) (step n at v d f : ℕ) (on : Bool) (z : ℤ) (old old_dots xs dots : List ℕ)
-    → at ≡ 34 * step + 2 + n → n < 32 → 8 ≤ step → at < length xs → n < length dots
-    → z ≡ value_in k (get_or amounts (32 * (step - 8) + n) 0) xs at → error_held v ≡ error_of z
-    → d ≡ (get_or dots n 0 * 2 % 65536 + f) % 65536 → f ≡ bool_byte on → on ≡ is_dot z
-    → IsStep k amounts step n old old_dots xs dots → IsStep k amounts step (n + 1) old old_dots (set xs at v) (set dots n d)
-step_more k amounts step n at v d f on z old old_dots xs dots is_at small late room more is_z is_v is_d is_f is_on s =
-    let here : z ≡ value_in_row k amounts step old n =
-    is_z ∙ value_kept k (get_or amounts (32 * (step - 8) + n) 0) xs old at (34 * step + 2) (omega arith) (omega arith) s.before
-    ∙ ap (value_in k (get_or amounts (32 * (step - 8) + n) 0) old) is_at in
-    let bit : f ≡ bit_of (is_dot (value_in_row k amounts step old n)) = is_f ∙ bit_is on ∙ ap bit_of (is_on ∙ ap is_dot here) in
-    let rest : get_or dots n 0 ≡ get_or old_dots n 0 = s.rest n (omega arith) in
+pub step_more : (k : Table) (amounts : List ℕ) (step first n at v d f : ℕ) (on : Bool) (z : ℤ) (old old_dots xs dots : List ℕ)
+    → at ≡ 34 * step + 2 + (first + n) → first + n < 32 → 8 ≤ step → at < length xs → first + n < length dots
+    → z ≡ value_in k (get_or amounts (32 * (step - 8) + (first + n)) 0) xs at → error_held v ≡ error_of z
+    → d ≡ (get_or dots (first + n) 0 * 2 % 65536 + f) % 65536 → f ≡ bool_byte on → on ≡ is_dot z
+    → IsStep k amounts step first n old old_dots xs dots
+    → IsStep k amounts step first (n + 1) old old_dots (set xs at v) (set dots (first + n) d)
+step_more k amounts step first n at v d f on z old old_dots xs dots is_at small late room more is_z is_v is_d is_f is_on s =
+    let q : ℕ = first + n in
+    let here : z ≡ value_in_row k amounts step old q =
+    is_z ∙ value_kept k (get_or amounts (32 * (step - 8) + q) 0) xs old at (34 * step + 2) (omega arith) (omega arith) (λ m h. s.before m (omega arith))
+    ∙ ap (value_in k (get_or amounts (32 * (step - 8) + q) 0) old) is_at in
+    let bit : f ≡ bit_of (is_dot (value_in_row k amounts step old q)) = is_f ∙ bit_is on ∙ ap bit_of (is_on ∙ ap is_dot here) in
+    let rest : get_or dots q 0 ≡ get_or old_dots q 0 = s.dots_after q (omega arith) in
     record {
-      errors = λ r h. elim (cases_eq r n) [
+      errors = λ r o h g few t. elim (cases_eq r q) [
         | inl last ↦
             let place : 34 * step + 2 + r ≡ at = omega arith in
             ap (λ m. error_held (get_or (set xs at v) m 0)) place ∙ ap error_held (get_or-set_same xs at v 0 room) ∙ is_v
             ∙ ap error_of here ∙ ap (λ m. error_of (value_in_row k amounts step old m)) (sym last)
         | inr not ↦
             let other : 34 * step + 2 + r ≢ at = omega arith in
-            ap error_held (get_or-set_other xs at (34 * step + 2 + r) v 0 other) ∙ s.errors r (omega arith)
+            ap error_held (get_or-set_other xs at (34 * step + 2 + r) v 0 other) ∙ s.errors r o h (omega arith) few t
+      ];
+      dots = λ r o h g few t. elim (cases_eq r q) [
+        | inl last ↦
+            ap (λ m. get_or (set dots q d) m 0) last ∙ get_or-set_same dots q d 0 more ∙ is_d
+            ∙ (let twice : (get_or dots q 0 * 2 % 65536 + f) % 65536 ≡ (2 * get_or old_dots q 0 + f) % 65536 = omega (arith, rest) in twice)
+            ∙ ap (λ b. (2 * get_or old_dots q 0 + b) % 65536) bit
+            ∙ ap (λ m. (2 * get_or old_dots m 0 + bit_of (is_dot (value_in_row k amounts step old m))) % 65536) (sym last)
+        | inr not ↦ get_or-set_other dots q r d 0 not ∙ s.dots r o h (omega arith) few t
       ];
       before = λ m h. let other : m ≢ at = omega arith in get_or-set_other xs at m v 0 other ∙ s.before m h;
       after = λ m h. let other : m ≢ at = omega arith in get_or-set_other xs at m v 0 other ∙ s.after m (omega arith);
-      dots = λ r h. elim (cases_eq r n) [
-        | inl last ↦
-            ap (λ m. get_or (set dots n d) m 0) last ∙ get_or-set_same dots n d 0 more ∙ is_d
-            ∙ (let twice : (get_or dots n 0 * 2 % 65536 + f) % 65536 ≡ (2 * get_or old_dots n 0 + f) % 65536 = omega (arith, rest) in twice)
-            ∙ ap (λ g. (2 * get_or old_dots n 0 + g) % 65536) bit
-            ∙ ap (λ m. (2 * get_or old_dots m 0 + bit_of (is_dot (value_in_row k amounts step old m))) % 65536) (sym last)
-        | inr not ↦ get_or-set_other dots n r d 0 not ∙ s.dots r (omega arith)
-      ];
-      rest = λ r h. let other : r ≢ n = omega arith in get_or-set_other dots n r d 0 other ∙ s.rest r (omega arith);
+      dots_before = λ r h. let other : r ≢ q = omega arith in get_or-set_other dots q r d 0 other ∙ s.dots_before r h;
+      dots_after = λ r h. let other : r ≢ q = omega arith in get_or-set_other dots q r d 0 other ∙ s.dots_after r (omega arith);
     }
+
+-- Sixteen rows, and then the others, among which are no errors that those read.
+pub both_stepped : (k : Table) (amounts : List ℕ) (step : ℕ) (f0 d0 f1 d1 f2 d2 : List ℕ) → 8 ≤ step
+    → IsStep k amounts step 0 16 f0 d0 f1 d1 → IsStep k amounts step 16 16 f1 d1 f2 d2 → IsStep k amounts step 0 32 f0 d0 f2 d2
+both_stepped k amounts step f0 d0 f1 d1 f2 d2 late a b = record {
+  errors = λ r o h g few t. elim (cases_lt r 16) [
+    | inl up ↦ ap error_held (b.before (34 * step + 2 + r) (omega arith)) ∙ a.errors r o h up few t
+    | inr down ↦ b.errors r o down (omega arith) few t ∙ ap error_of (same r g)
+  ];
+  dots = λ r o h g few t. elim (cases_lt r 16) [
+    | inl up ↦ b.dots_before r up ∙ a.dots r o h up few t
+    | inr down ↦
+        b.dots r o down (omega arith) few t ∙ ap (λ z. (2 * get_or d1 r 0 + bit_of (is_dot z)) % 65536) (same r g)
+        ∙ ap (λ d. (2 * d + bit_of (is_dot (value_in_row k amounts step f0 r))) % 65536) (a.dots_after r down)
+  ];
+  before = λ m h. b.before m (omega arith) ∙ a.before m h;
+  after = λ m h. b.after m (omega arith) ∙ a.after m (omega arith);
+  dots_before = λ r h. let no : ⊥ = omega arith in absurd no;
+  dots_after = λ r h. b.dots_after r h ∙ a.dots_after r (omega arith);
+}
+  where
+    same : (r : ℕ) → r < 32 → value_in_row k amounts step f1 r ≡ value_in_row k amounts step f0 r
+    same r small = value_kept k (get_or amounts (32 * (step - 8) + r) 0) f1 f0 (34 * step + 2 + r) (34 * step + 2) (omega arith) (omega arith) (λ m h. a.before m (omega arith))
 
 -- ---- pixels that do not exist
 
@@ -156,14 +183,4 @@ both_cleared p c j step first end f0 d0 f1 d1 f2 d2 order most inside above belo
   ];
   before = λ m h. b.before m (omega arith) ∙ a.before m (omega arith);
   after = λ m h. b.after m (omega arith) ∙ a.after m (omega arith);
-  dots = λ r. elim (cases_lt r first) [
-    | inl up ↦ inr (b.dots_before r (omega arith) ∙ a.no_dot r (omega arith) up)
-    | inr from ↦ elim (cases_lt r end) [
-      | inl here ↦ inl (b.dots_before r here ∙ a.dots_after r from)
-      | inr down ↦ elim (cases_lt r 32) [
-        | inl row ↦ inr (b.no_dot r down row ∙ ap (λ m. m - m % 2) (a.dots_after r from))
-        | inr past ↦ inl (b.dots_after r past ∙ a.dots_after r from)
-      ]
-    ]
-  ];
 }

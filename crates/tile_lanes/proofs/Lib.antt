@@ -9,3 +9,5 @@ pub mod LaneAmounts
 pub mod HeldBlocks
 pub mod LaneCells
 pub mod LaneTile
+pub mod Squares
+pub mod LaneSquares

@@ -1,6 +1,6 @@
 -- A tile with its rows in step. Row p, counted from two rows above the tile, and place l, counted from six left of it,
 -- stand in a field at 34 (l + p) + p, in group l + p. The pixel at row r and offset o is one of step o + r + 8.
-use Rattle.std.specs.Prelude.{ℕ, true, false, ◌≡◌, ◌⊎◌, ◌+◌, ◌-◌, ◌*◌, ◌/◌, ◌%◌, ◌^◌, ◌<◌, ◌≤◌, List, slice_index}
+use Rattle.std.specs.Prelude.{ℕ, true, false, ◌≡◌, ◌+◌, ◌-◌, ◌*◌, ◌/◌, ◌%◌, ◌^◌, ◌<◌, ◌≤◌, List, slice_index}
 use Rattle.diffusion_definitions.specs.Diffusion.{Errors, Plane, Table, error_of, is_dot}
 use Rattle.tile_edges.specs.Edges.{skewed}
 use Rattle.tile_lanes.specs.Held.{error_held, value_in_row}
@@ -15,13 +15,17 @@ pub record HasAmounts (p : Plane) (c j n : ℕ) (amounts : List ℕ) : Type 0 wh
 pub record IsWhole (p : Plane) (c j : ℕ) : Type 0 where
   pub at : (r o : ℕ) → r < 32 → o < 64 → is_place p j r (64 * c + o) ≡ true
 
--- The first n rows of a step have the errors and dots of their pixels, and all else is as it was.
-pub record IsStep (k : Table) (amounts : List ℕ) (step n : ℕ) (old old_dots new new_dots : List ℕ) : Type 0 where
-  pub errors : (r : ℕ) → r < n → error_held (slice_index new (34 * step + 2 + r)) ≡ error_of (value_in_row k amounts step old r)
-  pub before : (m : ℕ) → m < 34 * step + 2 → slice_index new m ≡ slice_index old m
-  pub after : (m : ℕ) → 34 * step + 2 + n ≤ m → slice_index new m ≡ slice_index old m
-  pub dots : (r : ℕ) → r < n → slice_index new_dots r ≡ (2 * slice_index old_dots r + bit_of (is_dot (value_in_row k amounts step old r))) % 65536
-  pub rest : (r : ℕ) → n ≤ r → slice_index new_dots r ≡ slice_index old_dots r
+-- The n rows of a step from row `first` on have the errors and dots of their pixels, where they are in the tile, and all
+-- else is as it was. A step gives a row one more dot, as the lowest bit.
+pub record IsStep (k : Table) (amounts : List ℕ) (step first n : ℕ) (old old_dots new new_dots : List ℕ) : Type 0 where
+  pub errors : (r o : ℕ) → first ≤ r → r < first + n → o < 64 → o + r + 8 ≡ step
+      → error_held (slice_index new (34 * step + 2 + r)) ≡ error_of (value_in_row k amounts step old r)
+  pub dots : (r o : ℕ) → first ≤ r → r < first + n → o < 64 → o + r + 8 ≡ step
+      → slice_index new_dots r ≡ (2 * slice_index old_dots r + bit_of (is_dot (value_in_row k amounts step old r))) % 65536
+  pub before : (m : ℕ) → m < 34 * step + 2 + first → slice_index new m ≡ slice_index old m
+  pub after : (m : ℕ) → 34 * step + 2 + first + n ≤ m → slice_index new m ≡ slice_index old m
+  pub dots_before : (r : ℕ) → r < first → slice_index new_dots r ≡ slice_index old_dots r
+  pub dots_after : (r : ℕ) → first + n ≤ r → slice_index new_dots r ≡ slice_index old_dots r
 
 -- Rows of a step have no error and no dot any more, and all else is as it was.
 pub record AreCleared (step first end : ℕ) (old old_dots new new_dots : List ℕ) : Type 0 where
@@ -32,8 +36,7 @@ pub record AreCleared (step first end : ℕ) (old old_dots new new_dots : List �
   pub dots_before : (r : ℕ) → r < first → slice_index new_dots r ≡ slice_index old_dots r
   pub dots_after : (r : ℕ) → end ≤ r → slice_index new_dots r ≡ slice_index old_dots r
 
--- The rows of a step have no error and no dot where they have no pixel, and all else is as it was. A dot is taken back or
--- not also where a row has left the tile.
+-- The rows of a step have no error and no dot where they have no pixel, and all else is as it was.
 pub record IsCleared (p : Plane) (c j step : ℕ) (old old_dots new new_dots : List ℕ) : Type 0 where
   pub none : (r o : ℕ) → r < 32 → o < 64 → o + r + 8 ≡ step → is_place p j r (64 * c + o) ≡ false
       → slice_index new (34 * step + 2 + r) ≡ 2040
@@ -45,7 +48,6 @@ pub record IsCleared (p : Plane) (c j step : ℕ) (old old_dots new new_dots : L
       → slice_index new_dots r ≡ slice_index old_dots r
   pub before : (m : ℕ) → m < 34 * step + 2 → slice_index new m ≡ slice_index old m
   pub after : (m : ℕ) → 34 * step + 34 ≤ m → slice_index new m ≡ slice_index old m
-  pub dots : (r : ℕ) → (slice_index new_dots r ≡ slice_index old_dots r) ⊎ (slice_index new_dots r ≡ slice_index old_dots r - slice_index old_dots r % 2)
 
 -- All errors of the groups before a step are right, for the tile in column c of band j, and so are those above it.
 pub record IsFilled (e : Errors) (c j step : ℕ) (xs : List ℕ) : Type 0 where
@@ -55,11 +57,13 @@ pub record IsFilled (e : Errors) (c j step : ℕ) (xs : List ℕ) : Type 0 where
 -- and so are those of the step's pixels
 pub record IsStepped (e : Errors) (c j step : ℕ) (xs : List ℕ) : Type 0 where
   pub filled : IsFilled e c j step xs
-  pub pixels : (r o : ℕ) → r < 32 → o < 64 → o + r + 8 ≡ step → error_held (slice_index xs (34 * step + 2 + r)) ≡ skewed e j (r + 2) (64 * c + (6 + o))
+  pub pixels : (r o : ℕ) → r < 32 → o < 64 → o + r + 8 ≡ step
+      → error_held (slice_index xs (34 * step + 2 + r)) ≡ skewed e j (r + 2) (64 * c + (6 + o))
 
--- The last sixteen dots of each row before a step, the last of all in the lowest bit.
+-- The last sixteen dots of each row before a step, the last of all in the lowest bit, until the row leaves the tile.
 pub record HasLastDots (k : Table) (p : Plane) (e : Errors) (c j step : ℕ) (dots : List ℕ) : Type 0 where
-  pub at : (r o i : ℕ) → r < 32 → o < 64 → i < 16 → o + r + 9 + i ≡ step → slice_index dots r / 2 ^ i % 2 ≡ bit_of (shown k p e j r (64 * c + o))
+  pub at : (r o i : ℕ) → r < 32 → o < 64 → i < 16 → o + r + 9 + i ≡ step → step ≤ r + 72
+      → slice_index dots r / 2 ^ i % 2 ≡ bit_of (shown k p e j r (64 * c + o))
 
 -- The dots that stand among the bits before a step, sixteen of a row at a time.
 pub record HasBits (k : Table) (p : Plane) (e : Errors) (c j step : ℕ) (bits : List ℕ) : Type 0 where

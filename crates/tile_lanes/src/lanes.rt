@@ -1,19 +1,20 @@
 //! A tile with its rows in step. A field is 103 groups of 34 errors. Row p, counted from two rows above the tile, has
-//! its error at place l, counted from six left of the tile, in group l + p. A pixel reads errors of earlier groups alone,
-//! so those of one group are taken in one step.
+//! its error at place l, counted from six left of the tile, in group l + p. A pixel reads errors of earlier groups
+//! alone, so those of one group are taken in one step.
 ghost use Rattle.diffusion_definitions.specs.Diffusion.{EachInRange, Errors, Solves};
 ghost use Rattle.diffusion_kernel.specs.Tables.{table_of};
 ghost use Rattle.std.specs.Prelude.{true, ◌<◌, ◌≡◌, ◌≤◌};
 ghost use Rattle.tile_edges.specs.Edges.{IsLeft};
-ghost use Rattle.tile_lanes.specs.Done.{IsDone, IsReady, plane_of, window_of};
+ghost use Rattle.tile_lanes.specs.Done.{IsDone, IsReady, plane_of};
 ghost use Rattle.tile_lanes.specs.Held.{HeldInRange};
 ghost use Rattle.tile_lanes.specs.Lanes.{HasBits, IsCleared, IsFilled, IsWhole};
-ghost use Rattle.tile_shape.specs.Geometry.{IsTile};
 
 mod edges;
 mod gather;
 mod packing;
+mod squares;
 mod step;
+mod transpose;
 mod value;
 
 use diffusion_kernel::Kernel;
@@ -88,9 +89,10 @@ fn diffuse_steps(
     ensures filled { (e : Errors) → Solves (table_of kernel) (plane_of rows.now ink) e → IsLeft e place side.now
         → IsFilled e place.c place.j 8 field.old → IsFilled e place.c place.j 103 field.new }
     ensures bits { (e : Errors) → Solves (table_of kernel) (plane_of rows.now ink) e → IsLeft e place side.now
-        → IsFilled e place.c place.j 8 field.old → HasBits (table_of kernel) (plane_of rows.now ink) e place.c place.j 103 bits.new }
+        → IsFilled e place.c place.j 8 field.old
+        → HasBits (table_of kernel) (plane_of rows.now ink) e place.c place.j 103 bits.new }
 {
-    let mut amounts = [0u8; 3040];
+    let mut amounts = [0u8; 3072];
     gather(place, rows, ink, &mut amounts);
     let whole = is_whole(place, rows, ink);
     let mut dots = [0u16; 32];

@@ -16,8 +16,8 @@ use packing::pack_row;
 use row::diffuse_row;
 use tile_shape::Place;
 
-/// The plain, slow program of what `diffuse_tile` promises, with which tests compare it: the pixels one by one, row by
-/// row.
+/// The plain, slow program of what `diffuse_tile` promises, with which tests compare it: the pixels one by one, row
+/// by row.
 pub fn diffuse_tile_plainly(
     kernel: Kernel,
     place: Place,

@@ -10,8 +10,8 @@ use diffusion_kernel::Kernel;
 use dot_planes::InkRows;
 use tile_shape::Place;
 
-/// Diffuses the pixels that one ink has in a tile. The errors of the tile's edges, each from -2040 to 2039, are handed
-/// in and handed on in the same room:
+/// Diffuses the pixels that one ink has in a tile. The errors of the tile's edges, each from -2040 to 2039, are
+/// handed in and handed on in the same room:
 ///
 /// - `side`: 32 rows of six, the left edge and then the right one;
 /// - `band`: two rows of 64, those above the tile and then the tile's last two;

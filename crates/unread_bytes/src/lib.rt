@@ -4,3 +4,6 @@
 mod unread;
 
 pub use unread::{ROOM, Unread};
+
+#[cfg(test)]
+mod tests;

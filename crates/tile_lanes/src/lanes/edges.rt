@@ -1,6 +1,6 @@
 //! The edges of a tile, into its field and out of it.
 ghost use Rattle.diffusion_definitions.specs.Diffusion.{EachInRange, InRange};
-ghost use Rattle.std.specs.Prelude.{pos, slice_index, slice_index_or, ◌%◌, ◌*◌, ◌+◌, ◌-◌, ◌/◌, ◌<◌, ◌≡◌, ◌≢◌, ◌≤◌, ◌⊎◌, ℕ};
+ghost use Rattle.std.specs.Prelude.{pos, slice_index, slice_index_or, ◌%◌, ◌*◌, ◌+◌, ◌-◌, ◌/◌, ◌<◌, ◌≡◌, ◌≢◌, ◌≤◌, ℕ};
 ghost use Rattle.tile_lanes.specs.Held.{HeldInRange, error_held};
 
 // An error, held.
@@ -29,7 +29,8 @@ pub(crate) fn put_above(field: &mut [u16; 3502], above: &[i16; 128])
     requires field { HeldInRange field.old }
     requires above { EachInRange above.now }
     ensures in_range { HeldInRange field.new }
-    ensures there { (n : ℕ) → n < 128 → error_held (slice_index field.new (34 * (6 + n % 64 + n / 64) + n / 64)) ≡ slice_index_or above.now n (pos 0) }
+    ensures there { (n : ℕ) → n < 128 → error_held (slice_index field.new (34 * (6 + n % 64 + n / 64) + n / 64))
+        ≡ slice_index_or above.now n (pos 0) }
 {
     for n in 0..128 {
         field[34 * (6 + n % 64 + n / 64) + n / 64] = hold(above[n]);
@@ -42,8 +43,10 @@ pub(crate) fn put_corner(field: &mut [u16; 3502], corner: &[i16; 12])
     requires field { HeldInRange field.old }
     requires corner { EachInRange corner.now }
     ensures in_range { HeldInRange field.new }
-    ensures there { (n : ℕ) → n < 12 → error_held (slice_index field.new (34 * (n % 6 + n / 6) + n / 6)) ≡ slice_index_or corner.now n (pos 0) }
-    ensures kept { (m : ℕ) → ((n : ℕ) → n < 12 → m ≢ 34 * (n % 6 + n / 6) + n / 6) → slice_index field.new m ≡ slice_index field.old m }
+    ensures there { (n : ℕ) → n < 12 → error_held (slice_index field.new (34 * (n % 6 + n / 6) + n / 6))
+        ≡ slice_index_or corner.now n (pos 0) }
+    ensures kept { (m : ℕ) → ((n : ℕ) → n < 12 → m ≢ 34 * (n % 6 + n / 6) + n / 6)
+        → slice_index field.new m ≡ slice_index field.old m }
 {
     for n in 0..12 {
         field[34 * (n % 6 + n / 6) + n / 6] = hold(corner[n]);
@@ -59,7 +62,8 @@ pub(crate) fn put_left(field: &mut [u16; 3502], left: &[i16; 192], group: usize)
     ensures in_range { HeldInRange field.new }
     ensures there { (p l : ℕ) → 2 ≤ p → p < 34 → l < 6 → l + p ≡ group
         → error_held (slice_index field.new (34 * group + p)) ≡ slice_index_or left.now (6 * (p - 2) + l) (pos 0) }
-    ensures kept { (m : ℕ) → ((p l : ℕ) → 2 ≤ p → p < 34 → l < 6 → l + p ≡ group → m ≢ 34 * group + p) → slice_index field.new m ≡ slice_index field.old m }
+    ensures kept { (m : ℕ) → ((p l : ℕ) → 2 ≤ p → p < 34 → l < 6 → l + p ≡ group → m ≢ 34 * group + p)
+        → slice_index field.new m ≡ slice_index field.old m }
 {
     let first = group.saturating_sub(5).max(2);
     let end = (group + 1).min(34).max(first);
@@ -73,7 +77,8 @@ pub(crate) fn put_left(field: &mut [u16; 3502], left: &[i16; 192], group: usize)
 pub(crate) fn take_right(field: &[u16; 3502], right: &mut [i16; 192])
     requires field { HeldInRange field.now }
     ensures in_range { EachInRange right.new }
-    ensures there { (n : ℕ) → n < 192 → slice_index_or right.new n (pos 0) ≡ error_held (slice_index field.now (34 * (66 + n % 6 + n / 6) + 2 + n / 6)) }
+    ensures there { (n : ℕ) → n < 192 → slice_index_or right.new n (pos 0)
+        ≡ error_held (slice_index field.now (34 * (66 + n % 6 + n / 6) + 2 + n / 6)) }
 {
     for t in 0..32 {
         for i in 0..6 {
@@ -87,7 +92,8 @@ pub(crate) fn take_right(field: &[u16; 3502], right: &mut [i16; 192])
 pub(crate) fn take_bottom(field: &[u16; 3502], bottom: &mut [i16; 128])
     requires field { HeldInRange field.now }
     ensures in_range { EachInRange bottom.new }
-    ensures there { (n : ℕ) → n < 128 → slice_index_or bottom.new n (pos 0) ≡ error_held (slice_index field.now (34 * (38 + n % 64 + n / 64) + 32 + n / 64)) }
+    ensures there { (n : ℕ) → n < 128 → slice_index_or bottom.new n (pos 0)
+        ≡ error_held (slice_index field.now (34 * (38 + n % 64 + n / 64) + 32 + n / 64)) }
 {
     for t in 0..2 {
         for i in 0..64 {
@@ -101,7 +107,8 @@ pub(crate) fn take_bottom(field: &[u16; 3502], bottom: &mut [i16; 128])
 pub(crate) fn take_lower_corner(field: &[u16; 3502], corner: &mut [i16; 12])
     requires field { HeldInRange field.now }
     ensures in_range { EachInRange corner.new }
-    ensures there { (n : ℕ) → n < 12 → slice_index_or corner.new n (pos 0) ≡ error_held (slice_index field.now (34 * (96 + n % 6 + n / 6) + 32 + n / 6)) }
+    ensures there { (n : ℕ) → n < 12 → slice_index_or corner.new n (pos 0)
+        ≡ error_held (slice_index field.now (34 * (96 + n % 6 + n / 6) + 32 + n / 6)) }
 {
     for t in 0..2 {
         for i in 0..6 {

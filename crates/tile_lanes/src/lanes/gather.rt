@@ -1,18 +1,20 @@
 //! Amounts by steps.
-ghost use Rattle.std.specs.Prelude.{slice_index, length, true, ◌%◌, ◌*◌, ◌+◌, ◌-◌, ◌<◌, ◌≡◌, ◌≢◌, ◌≤◌, ℕ};
+ghost use Rattle.std.specs.Prelude.{slice_index, length, true, ◌*◌, ◌+◌, ◌-◌, ◌<◌, ◌≡◌, ◌≢◌, ◌≤◌, ℕ};
 ghost use Rattle.tile_lanes.specs.Done.{plane_of};
 ghost use Rattle.tile_lanes.specs.Lanes.{HasAmounts};
 
+use crate::lanes::squares::gather_squares;
 use dot_planes::InkRows;
 use tile_shape::Place;
 
 // Puts the amounts of row r of a tile in column c, which are at steps r to r + 63 of them.
 #[inline(always)]
-fn lay_row(row: &[u8], c: u32, r: usize, amounts: &mut [u8; 3040])
+fn lay_row(row: &[u8], c: u32, r: usize, amounts: &mut [u8; 3072])
     requires r { r < 32 }
     ensures row { (o : ℕ) → o < 64 → 2 * r ≤ 64 * c + o → 64 * c + o - 2 * r < length row.now
         → slice_index amounts.new (32 * (o + r) + r) ≡ slice_index row.now (64 * c + o - 2 * r) }
-    ensures others { (s q : ℕ) → q < 32 → q ≢ r → slice_index amounts.new (32 * s + q) ≡ slice_index amounts.old (32 * s + q) }
+    ensures others { (s q : ℕ) → q < 32 → q ≢ r
+        → slice_index amounts.new (32 * s + q) ≡ slice_index amounts.old (32 * s + q) }
 {
     let start = 64 * c as usize;
     let first = (2 * r).saturating_sub(start);
@@ -22,9 +24,8 @@ fn lay_row(row: &[u8], c: u32, r: usize, amounts: &mut [u8; 3040])
     }
 }
 
-/// Puts the amounts of a tile by steps: that of row r at offset o is the one of row r at step o + r.
-#[inline(always)]
-pub(crate) fn gather(place: Place, rows: &InkRows, ink: u8, amounts: &mut [u8; 3040])
+// Puts the amounts of a tile byte by byte.
+fn gather_bytes(place: Place, rows: &InkRows, ink: u8, amounts: &mut [u8; 3072])
     requires ink { ink < rows.now.inks }
     ensures { HasAmounts (plane_of rows.now ink) place.c place.j 32 amounts.new }
 {
@@ -33,5 +34,30 @@ pub(crate) fn gather(place: Place, rows: &InkRows, ink: u8, amounts: &mut [u8; 3
         if y < rows.rows() as usize {
             lay_row(rows.row(ink, y as u32), place.c, r, amounts);
         }
+    }
+}
+
+// Whether squares of amounts that cover the tile are inside the window.
+fn has_squares(place: Place, rows: &InkRows) -> bool
+    ensures left { result ≡ true → 2 ≤ place.c }
+    ensures right { result ≡ true → 64 * place.c + 80 ≤ rows.now.width }
+    ensures down { result ≡ true → 32 * place.j + 32 ≤ rows.now.rows }
+    ensures small { result ≡ true → 32 * place.j + 32 < 4294967296 }
+{
+    place.c >= 2
+        && 64 * place.c as usize + 80 <= rows.width() as usize
+        && 32 * place.j as usize + 32 <= rows.rows() as usize
+}
+
+/// Puts the amounts of a tile by steps, 32 each: that of row r at offset o is the one of row r at step o + r.
+#[inline(always)]
+pub(crate) fn gather(place: Place, rows: &InkRows, ink: u8, amounts: &mut [u8; 3072])
+    requires ink { ink < rows.now.inks }
+    ensures { HasAmounts (plane_of rows.now ink) place.c place.j 32 amounts.new }
+{
+    if has_squares(place, rows) {
+        gather_squares(place, rows, ink, amounts);
+    } else {
+        gather_bytes(place, rows, ink, amounts);
     }
 }

@@ -1,5 +1,5 @@
 //! One step of a tile: a pixel of each row, and none reads the error of another.
-ghost use Rattle.std.specs.Prelude.{slice_index, true, false, ◌%◌, ◌*◌, ◌+◌, ◌-◌, ◌<◌, ◌≡◌, ◌≤◌, ℕ};
+ghost use Rattle.std.specs.Prelude.{true, false, ◌%◌, ◌*◌, ◌+◌, ◌-◌, ◌<◌, ◌≡◌, ◌≤◌, ℕ};
 ghost use Rattle.diffusion_kernel.specs.Tables.{table_of};
 ghost use Rattle.tile_lanes.specs.Done.{plane_of};
 ghost use Rattle.tile_lanes.specs.Held.{HeldInRange, IsHeld, same_in, same_of, up1_in, up1_of, up2_in, up2_of};
@@ -38,11 +38,59 @@ fn around(field: &[u16; 3502], at: usize) -> Around
     }
 }
 
-/// Diffuses the pixels of a step, those that do not exist too.
+// Diffuses the pixels that sixteen rows have at a step, those that do not exist too.
+#[inline(always)]
+fn diffuse_rows(
+    kernel: Kernel,
+    amounts: &[u8; 3072],
+    field: &mut [u16; 3502],
+    dots: &mut [u16; 32],
+    step: usize,
+    first: usize,
+)
+    requires low { 8 ≤ step }
+    requires high { step < 103 }
+    requires first { first ≤ 16 }
+    requires in_range { HeldInRange field.old }
+    ensures in_range { HeldInRange field.new }
+    ensures step { IsStep (table_of kernel) amounts.now step first 16 field.old dots.old field.new dots.new }
+{
+    for i in 0..16 {
+        let r = first + i;
+        let at = 34 * step + 2 + r;
+        let value = held_value(kernel, amounts[32 * (step - 8) + r], around(field, at));
+        field[at] = held_error(value);
+        dots[r] = (dots[r] << 1).wrapping_add(u16::from(shows_dot(value)));
+    }
+}
+
+// The same, but nothing at steps before the rows enter the tile and after they leave it.
+#[inline(always)]
+fn diffuse_half(
+    kernel: Kernel,
+    amounts: &[u8; 3072],
+    field: &mut [u16; 3502],
+    dots: &mut [u16; 32],
+    step: usize,
+    first: usize,
+)
+    requires low { 8 ≤ step }
+    requires high { step < 103 }
+    requires first { first ≤ 16 }
+    requires in_range { HeldInRange field.old }
+    ensures in_range { HeldInRange field.new }
+    ensures step { IsStep (table_of kernel) amounts.now step first 16 field.old dots.old field.new dots.new }
+{
+    if first + 8 <= step && step < first + 87 {
+        diffuse_rows(kernel, amounts, field, dots, step, first);
+    }
+}
+
+/// Diffuses the pixels of a step.
 #[inline(always)]
 pub(crate) fn diffuse_step(
     kernel: Kernel,
-    amounts: &[u8; 3040],
+    amounts: &[u8; 3072],
     field: &mut [u16; 3502],
     dots: &mut [u16; 32],
     step: usize,
@@ -51,24 +99,21 @@ pub(crate) fn diffuse_step(
     requires high { step < 103 }
     requires in_range { HeldInRange field.old }
     ensures in_range { HeldInRange field.new }
-    ensures step { IsStep (table_of kernel) amounts.now step 32 field.old dots.old field.new dots.new }
+    ensures step { IsStep (table_of kernel) amounts.now step 0 32 field.old dots.old field.new dots.new }
 {
-    for r in 0..32 {
-        let at = 34 * step + 2 + r;
-        let value = held_value(kernel, amounts[32 * (step - 8) + r], around(field, at));
-        field[at] = held_error(value);
-        dots[r] = (dots[r] << 1).wrapping_add(u16::from(shows_dot(value)));
-    }
+    diffuse_half(kernel, amounts, field, dots, step, 0);
+    diffuse_half(kernel, amounts, field, dots, step, 16);
 }
 
-// The rows of a step from the first that has a pixel, and to the last.
+// Rows of a step, from the first to before the end.
 #[derive(Clone, Copy)]
 struct Span {
     first: usize,
     end: usize,
 }
 
-// Which rows of a step have a pixel: rows above them are right of the window, and rows below them left of it or below it.
+// Which rows of a step have a pixel: rows above them are right of the window, and rows below them are left of it or
+// below it.
 fn span_of(place: Place, rows: &InkRows, ink: u8, step: usize) -> Span
     requires low { 8 ≤ step }
     requires high { step < 103 }
@@ -76,7 +121,8 @@ fn span_of(place: Place, rows: &InkRows, ink: u8, step: usize) -> Span
     ensures most { result.end ≤ 32 }
     ensures inside { (r o : ℕ) → result.first ≤ r → r < result.end → o + r + 8 ≡ step
         → is_place (plane_of rows.now ink) place.j r (64 * place.c + o) ≡ true }
-    ensures before { (r o : ℕ) → r < result.first → o + r + 8 ≡ step → is_place (plane_of rows.now ink) place.j r (64 * place.c + o) ≡ false }
+    ensures before { (r o : ℕ) → r < result.first → o + r + 8 ≡ step
+        → is_place (plane_of rows.now ink) place.j r (64 * place.c + o) ≡ false }
     ensures after { (r o : ℕ) → result.end ≤ r → r < 32 → o + r + 8 ≡ step
         → is_place (plane_of rows.now ink) place.j r (64 * place.c + o) ≡ false }
 {

@@ -23,8 +23,8 @@ pub(crate) struct Around {
     pub(crate) top_right2: u16,
 }
 
-// What a pixel has to show by the shares of Floyd and Steinberg. With 2040 added to each error a sixteenth of their sum
-// has 2040 added, too.
+// What a pixel has to show by the shares of Floyd and Steinberg. With 2040 added to each error, a sixteenth of their
+// sum has 2040 added, too.
 #[inline(always)]
 fn floyd_value(amount: u8, near: Around) -> u16
     requires { IsHeld near }

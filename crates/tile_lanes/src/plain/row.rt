@@ -1,10 +1,10 @@
-//! A row of a tile. A field is 34 rows of 70 errors: two rows above the tile and its 32; in each six errors left of the
-//! tile and its 64.
+//! A row of a tile. A field is 34 rows of 70 errors: two rows above the tile and its 32; in each six errors left of
+//! the tile and its 64.
 ghost use Rattle.diffusion_definitions.specs.Diffusion.{EachInRange, Errors, Solves};
 ghost use Rattle.diffusion_kernel.specs.Tables.{table_of};
-ghost use Rattle.std.specs.Prelude.{[], false, pos, true, slice_index_or, ◌*◌, ◌+◌, ◌-◌, ◌<◌, ◌≡◌, ◌≤◌, ◌∷◌, ℕ};
+ghost use Rattle.std.specs.Prelude.{false, slice_index_or, true, ◌*◌, ◌+◌, ◌-◌, ◌<◌, ◌≡◌, ◌≤◌, ℕ};
 ghost use Rattle.tile_lanes.specs.Done.{plane_of};
-ghost use Rattle.tile_lanes.specs.Rows.{Filled, is_place, shown};
+ghost use Rattle.tile_lanes.specs.Rows.{Filled, is_place, same_near, shown, up1_near, up2_near};
 
 use diffusion_kernel::{Kernel, Near};
 use dot_planes::InkRows;
@@ -15,9 +15,9 @@ fn near_of(field: &[i16; 2380], at: usize) -> Near
     requires low { 146 ≤ at }
     requires high { at < 2380 }
     requires field { EachInRange field.now }
-    ensures same { result.same ≡ slice_index_or field.now (at - 1) (pos 0) ∷ slice_index_or field.now (at - 2) (pos 0) ∷ [] }
-    ensures up1 { result.up1 ≡ slice_index_or field.now (at - 74) (pos 0) ∷ slice_index_or field.now (at - 73) (pos 0) ∷ slice_index_or field.now (at - 72) (pos 0) ∷ slice_index_or field.now (at - 71) (pos 0) ∷ slice_index_or field.now (at - 70) (pos 0) ∷ [] }
-    ensures up2 { result.up2 ≡ slice_index_or field.now (at - 146) (pos 0) ∷ slice_index_or field.now (at - 145) (pos 0) ∷ slice_index_or field.now (at - 144) (pos 0) ∷ slice_index_or field.now (at - 143) (pos 0) ∷ slice_index_or field.now (at - 142) (pos 0) ∷ [] }
+    ensures same { result.same ≡ same_near field.now at }
+    ensures up1 { result.up1 ≡ up1_near field.now at }
+    ensures up2 { result.up2 ≡ up2_near field.now at }
     ensures same_fits { EachInRange result.same }
     ensures up1_fits { EachInRange result.up1 }
     ensures up2_fits { EachInRange result.up2 }
@@ -65,8 +65,12 @@ pub(crate) fn diffuse_row(
     requires r { r < 32 }
     requires in_range { EachInRange field.old }
     ensures in_range { EachInRange field.new }
-    ensures filled { (e : Errors) → Solves (table_of kernel) (plane_of rows.now ink) e → Filled e place.c place.j r 0 field.old → Filled e place.c place.j (r + 1) 0 field.new }
-    ensures dots { (e : Errors) → Solves (table_of kernel) (plane_of rows.now ink) e → Filled e place.c place.j r 0 field.old → (o : ℕ) → o < 64 → slice_index_or dots.new o false ≡ shown (table_of kernel) (plane_of rows.now ink) e place.j r (64 * place.c + o) }
+    ensures filled { (e : Errors) → Solves (table_of kernel) (plane_of rows.now ink) e
+        → Filled e place.c place.j r 0 field.old → Filled e place.c place.j (r + 1) 0 field.new }
+    ensures dots { (e : Errors) → Solves (table_of kernel) (plane_of rows.now ink) e
+        → Filled e place.c place.j r 0 field.old → (o : ℕ) → o < 64
+        → slice_index_or dots.new o false
+        ≡ shown (table_of kernel) (plane_of rows.now ink) e place.j r (64 * place.c + o) }
 {
     for o in 0..64 {
         let u = 64 * place.c as usize + o;

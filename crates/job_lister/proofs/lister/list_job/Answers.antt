@@ -2,8 +2,13 @@ use Rattle.std.proofs.Common.{arith, sym, ◌∙◌, []}
 use Rattle.std.proofs.KnownBytes.{Consumes-kept, Consumes-nil}
 use Rattle.std.proofs.lemmas.Result.{err_from_is_err_and}
 use Rattle.job_feed.proofs.Jobs.{some_bytes, stop_taken}
-use Rattle.job_lister.proofs.Listing.{lists_all, lists_more, lists_none, lists_part, lists_to_stop}
+use Rattle.job_lister.proofs.Listing.{lists_all, lists_more, lists_none, lists_nothing, lists_part, lists_to_stop}
 use Rattle.job_lister.proofs.lister.list_job.Goals as goal
+
+pub returns-in_err-feed : goal.returns-in_err-feed
+returns-in_err-feed g c =
+    let error = err_from_is_err_and c.from_residual.result c.from_residual.ensures.1 in
+    rw (error.1, error.2) (lists_nothing c.args.most _ _ _ _ _ _)
 
 pub commands-init : goal.commands-init
 commands-init g c = record {

@@ -1,5 +1,4 @@
-use Rattle.std.proofs.Common.{arith}
-use Rattle.tile_border.proofs.InkSteps.{done_more, rest_more, same_all}
+use Rattle.tile_border.proofs.InkSteps.{done_more, rest_more}
 use Rattle.tile_border.proofs.task.work.Goals as goal
 
 pub loop-ink-preserved : goal.loop-ink-preserved

@@ -1,8 +1,8 @@
 use Rattle.std.proofs.Common.{Some, is_some, ap, sym, ◌∙◌}
-use Rattle.job_words.specs.Table.{profile_key, kernel_key, workers_key}
-use Rattle.job_words.specs.Values.{kernel_named, worker_count}
+use Rattle.job_words.specs.Table.{profile_key, kernel_key, workers_key, cap_key, most_key}
+use Rattle.job_words.specs.Values.{cap_value, kernel_named, most_value, worker_count}
 use Rattle.job_words.proofs.Faults.{no_key_value, no_key, fault_of_value, accepted, gives_found, is_some-cond, taken_is}
-use Rattle.job_words.proofs.Kept.{profile_given, kernel_given, workers_given}
+use Rattle.job_words.proofs.Kept.{profile_given, kernel_given, workers_given, cap_given, most_given}
 use Rattle.job_words.proofs.reading.Given.take.Goals as goal
 
 pub returns-in_default-clause-cause : goal.returns-in_default-clause-cause
@@ -53,3 +53,31 @@ returns-in-Some-Workers-clause-given c = λ earlier given number.
     let keep = c.keep-in-Some-Workers.ensures in
     accepted _ _ _ keep.cause keep.kept (λ once taken kept.
     workers_given earlier _ _ _ given (gives_found _ c.args.word.now _ workers_key parts.1 found) once (kept ∙ (c.worker_count.ensures ∙ ap worker_count parts.2)) (ap is_some kept ∙ taken))
+
+pub returns-in-Some-Cap-clause-cause : goal.returns-in-Some-Cap-clause-cause
+returns-in-Some-Cap-clause-cause c = λ earlier given.
+    let parts = c.in-Some.ensures in
+    let found = rw c.in-Some-Cap.field-0-is at c.in-Some-Cap.ensures in
+    fault_of_value _ earlier _ _ _ cap_key _ _ _ parts.0 parts.1 parts.2 found given.cap.once (ap is_some c.cap_value.ensures) c.keep-in-Some-Cap.ensures.cause
+
+pub returns-in-Some-Cap-clause-given : goal.returns-in-Some-Cap-clause-given
+returns-in-Some-Cap-clause-given c = λ earlier given number.
+    let parts = c.in-Some.ensures in
+    let found = rw c.in-Some-Cap.field-0-is at c.in-Some-Cap.ensures in
+    let keep = c.keep-in-Some-Cap.ensures in
+    accepted _ _ _ keep.cause keep.kept (λ once taken kept.
+    cap_given earlier _ _ _ given (gives_found _ c.args.word.now _ cap_key parts.1 found) once (kept ∙ (c.cap_value.ensures ∙ ap cap_value parts.2)) (ap is_some kept ∙ taken))
+
+pub returns-in-Some-Most-clause-cause : goal.returns-in-Some-Most-clause-cause
+returns-in-Some-Most-clause-cause c = λ earlier given.
+    let parts = c.in-Some.ensures in
+    let found = rw c.in-Some-Most.field-0-is at c.in-Some-Most.ensures in
+    fault_of_value _ earlier _ _ _ most_key _ _ _ parts.0 parts.1 parts.2 found given.most.once (ap is_some c.most_value.ensures) c.keep-in-Some-Most.ensures.cause
+
+pub returns-in-Some-Most-clause-given : goal.returns-in-Some-Most-clause-given
+returns-in-Some-Most-clause-given c = λ earlier given number.
+    let parts = c.in-Some.ensures in
+    let found = rw c.in-Some-Most.field-0-is at c.in-Some-Most.ensures in
+    let keep = c.keep-in-Some-Most.ensures in
+    accepted _ _ _ keep.cause keep.kept (λ once taken kept.
+    most_given earlier _ _ _ given (gives_found _ c.args.word.now _ most_key parts.1 found) once (kept ∙ (c.most_value.ensures ∙ ap most_value parts.2)) (ap is_some kept ∙ taken))

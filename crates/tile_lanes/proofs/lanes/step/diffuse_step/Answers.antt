@@ -1,24 +1,5 @@
-use Rattle.std.proofs.Common.{ℕ, ◌<◌, ◌+◌, ◌*◌, arith, refl, length, length-set, ◌∙◌}
-use Rattle.diffusion_kernel.specs.Tables.{table_of}
-use Rattle.tile_lanes.proofs.LaneSteps.{held_more, none_stepped, step_more, value_here}
+use Rattle.tile_lanes.proofs.LaneSteps.{both_stepped}
 use Rattle.tile_lanes.proofs.lanes.step.diffuse_step.Goals as goal
 
-pub loop-r-preserved : goal.loop-r-preserved
-loop-r-preserved c =
-    let v = c.loop-r.invariant in
-    let r : ℕ = c.loop-r.r in
-    let step : ℕ = c.args.step in
-    let at : ℕ = 34 * step + 2 + r in
-    let near = c.around.ensures in
-    let room : at < length c.loop-r.field = omega (arith, v.long) in
-    let value = value_here _ _ _ _ _ _ c.loop-r.field at near.same near.up1 near.up2 c.held_value-value.ensures.value in
-    record {
-      long = length-set _ _ _ ∙ v.long;
-      dots_long = length-set _ _ _ ∙ v.dots_long;
-      in_range = held_more _ at _ v.in_range c.held_error.ensures.most;
-      stepped = step_more (table_of c.args.kernel) c.args.amounts.now step r at _ _ _ _ _ _ _ _ _ refl (omega arith) (omega arith) room (omega (arith, v.dots_long))
-          value c.held_error.ensures.error refl c.from.ensures c.shows_dot.ensures v.stepped;
-    }
-
-pub loop-r-init : goal.loop-r-init
-loop-r-init c = record { long = omega arith; dots_long = omega arith; in_range = c.requires.in_range; stepped = none_stepped _ _ _ _ _ }
+pub returns-clause-step : goal.returns-clause-step
+returns-clause-step c = both_stepped _ _ c.args.step _ _ _ _ _ _ c.requires.low c.diffuse_half.ensures.step c.diffuse_half-2.ensures.step

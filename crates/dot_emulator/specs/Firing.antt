@@ -1,0 +1,39 @@
+-- The dots that a raster fires, from its place in columns and rows of dots.
+use Rattle.std.specs.Prelude.{◌≡◌, ℕ, ◌+◌, ◌*◌, ◌<◌, ◌≤◌, false, nat_le, List, length, Option, Some, None}
+use Rattle.std.specs.List.{list_any}
+use Rattle.escp2_definitions.specs.Commands.{row_bytes}
+use Rattle.escp2_definitions.specs.Machine.{Dot, rows_dots}
+use Rattle.dot_planes.specs.Tables.{DotTable}
+use Rattle.dot_emulator.specs.declared.firing.Raster.{Raster}
+use Rattle.dot_emulator.specs.Sheets.{HasPlaces}
+
+-- The steps from column to column and from row to row, and the bottom margin.
+pub record Grid : Type 0 where
+  pub column : ℕ
+  pub row : ℕ
+  pub bottom : ℕ
+
+-- the dots of a raster
+abbrev pub fired : Grid → Raster → List ℕ → List Dot
+fired g r rows = rows_dots r.head.m r.head r.ink (r.x * g.column) (r.y * g.row) rows
+
+-- A raster has the steps of a grid, and its rows from `end` on stand at or below the bottom margin.
+pub record Stands (g : Grid) (r : Raster) : Type 0 where
+  pub some_column : 1 ≤ g.column
+  pub some_row : 1 ≤ g.row
+  pub across : r.head.h ≡ g.column
+  pub down : r.head.v ≡ r.pitch * g.row
+  pub ends : (n : ℕ) → nat_le g.bottom (n * g.row) ≡ nat_le r.end n
+
+-- no dot of a raster stands at or below the bottom margin
+abbrev pub IsAbove : Grid → Raster → List ℕ → Type 0
+IsAbove g r rows = list_any (λ d. nat_le g.bottom d.y) (fired g r rows) ≡ false
+
+-- the rows of a raster are there
+abbrev pub HasRows : Raster → List ℕ → Type 0
+HasRows r rows = length rows ≡ r.head.m * row_bytes r.head
+
+-- the places of planes that are made for the first dot
+abbrev pub PlanesHave : Grid → List Dot → Option DotTable → Type 0
+PlanesHave g dots None = length dots ≡ 0
+PlanesHave g dots (Some t) = HasPlaces g.column g.row dots t

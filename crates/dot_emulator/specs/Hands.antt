@@ -1,0 +1,24 @@
+-- The planes in hand, which are there from the first dot on.
+use Rattle.std.specs.Prelude.{◌≡◌, ◌<◌, ◌≤◌, ℕ, Bool, false, Option, Some, None}
+use Rattle.dot_planes.specs.Tables.{DotTable, dot}
+
+abbrev pub inks_of : Option DotTable → ℕ
+inks_of None = 4
+inks_of (Some t) = t.inks
+
+abbrev pub width_of : Option DotTable → ℕ
+width_of None = 8191
+width_of (Some t) = t.width
+
+-- their rows, or another number where there are none
+abbrev pub rows_or : ℕ → Option DotTable → ℕ
+rows_or n None = n
+rows_or n (Some t) = t.rows
+
+abbrev pub dot_in : Option DotTable → ℕ → ℕ → ℕ → Bool
+dot_in None ink y x = false
+dot_in (Some t) ink y x = dot t ink y x
+
+-- none of their dots stands at a column or behind it
+abbrev pub IsBlankBehind : ℕ → Option DotTable → Type 0
+IsBlankBehind column planes = (ink y x : ℕ) → y < rows_or 0 planes → column ≤ x → dot_in planes ink y x ≡ false

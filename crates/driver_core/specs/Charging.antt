@@ -1,0 +1,15 @@
+-- A page that meters refuse.
+use Rattle.std.specs.Prelude.{◌≡◌, ℕ, List}
+use Rattle.ink_meter.specs.Accounts.{Account, IsFirstOver, all_inks}
+use Rattle.weave_base.specs.declared.answers.InkCounts.{InkCounts}
+use Rattle.driver_core.specs.declared.stops.PrintStop.{PrintStop}
+use Rattle.driver_core.specs.declared.stops.PrintStop.TheVariants as stop
+
+-- Printing stops at the page of this number, since the first of the meters that have no room for its dots has this total
+-- and this cap.
+pub record RefusesPage (number : ℕ) (n : InkCounts) (accounts : List Account) (why : PrintStop) : Type 0 where
+  pub index : ℕ
+  pub total : ℕ
+  pub cap : ℕ
+  pub first : IsFirstOver accounts n (record { index = index; total = total; cap = cap })
+  pub is : why ≡ stop.OverCap number total (all_inks n) cap

@@ -1,0 +1,77 @@
+//! A meter that counts and does nothing else.
+ghost use Rattle.ink_meter.specs.Accounts.{Account, HasRoom, added, all_inks, capped};
+ghost use Rattle.std.specs.Prelude.{IsTrue, ◌-◌, ◌<◌, ◌^◌, ◌↔◌, ◌≡◌};
+
+use crate::Meter;
+use std::marker::Model;
+use weave_base::InkCounts;
+
+/// A meter that counts and does nothing else. Contracts see its totals and its cap.
+#[derive(Drop)]
+pub struct DotMeter {
+    totals: InkCounts,
+    cap: u64,
+}
+
+impl Model for DotMeter {
+    ghost Value = { Account };
+
+    ghost view = { λ meter. record { totals = meter.totals; cap = meter.cap } };
+
+    ghost invariant = { λ meter. all_inks meter.totals < 2 ^ 64 };
+}
+
+impl DotMeter {
+    /// A meter that has counted nothing, with the greatest cap: 2^64 - 1 dots.
+    pub fn make() -> DotMeter
+        ensures { result ≡ record { totals = record { k = 0; c = 0; m = 0; y = 0 }; cap = 2 ^ 64 - 1 } }
+    {
+        DotMeter {
+            totals: InkCounts {
+                k: 0,
+                c: 0,
+                m: 0,
+                y: 0,
+            },
+            cap: u64::MAX,
+        }
+    }
+}
+
+// The dots of all inks.
+fn all_dots(n: &InkCounts) -> u128
+    ensures sum { result ≡ all_inks n.now }
+    ensures bound { result < 2 ^ 66 }
+{
+    [n.k, n.c, n.m, n.y]
+        .iter()
+        .map(|&count| u128::from(count))
+        .sum()
+}
+
+impl Meter for DotMeter {
+    ghost account = { λ meter. meter };
+
+    fn room(&self, n: &InkCounts) -> bool {
+        all_dots(&self.totals) + all_dots(n) <= u128::from(self.cap)
+    }
+
+    fn add(&mut self, n: &InkCounts) {
+        self.totals.k += n.k;
+        self.totals.c += n.c;
+        self.totals.m += n.m;
+        self.totals.y += n.y;
+    }
+
+    fn set_cap(&mut self, cap: u64) {
+        self.cap = cap;
+    }
+
+    fn total(&self) -> InkCounts {
+        self.totals
+    }
+
+    fn cap(&self) -> u64 {
+        self.cap
+    }
+}

@@ -1,0 +1,33 @@
+//! What a meter is.
+ghost use Rattle.ink_meter.specs.Accounts.{Account, HasRoom, added, all_inks, capped};
+ghost use Rattle.std.specs.Prelude.{IsTrue, ◌<◌, ◌^◌, ◌↔◌, ◌≡◌};
+
+use weave_base::InkCounts;
+
+/// Counts dots, ink by ink, up to a cap on all of them together.
+pub trait Meter: Drop {
+    /// Its totals and its cap.
+    ghost account: { Self → Account };
+
+    /// Whether the cap lets these dots be counted too. A tie is room.
+    fn room(&self, n: &InkCounts) -> bool
+        ensures { IsTrue result ↔ HasRoom n.now (account self.now) };
+
+    /// Counts these dots.
+    fn add(&mut self, n: &InkCounts)
+        requires { HasRoom n.now (account self.old) }
+        ensures { account self.new ≡ added n.now (account self.old) };
+
+    /// Sets the cap, which may be below what was counted: then there is room for nothing.
+    fn set_cap(&mut self, cap: u64)
+        ensures { account self.new ≡ capped cap (account self.old) };
+
+    /// The dots counted. All four together fit 64 bits.
+    fn total(&self) -> InkCounts
+        ensures is { result ≡ (account self.now).totals }
+        ensures fits { all_inks result < 2 ^ 64 };
+
+    /// The cap.
+    fn cap(&self) -> u64
+        ensures { result ≡ (account self.now).cap };
+}

@@ -1,0 +1,160 @@
+//! Several meters that count together.
+ghost use Rattle.ink_meter.specs.Accounts.{Fits, HasRoom, IsFirstOver, added, all_inks, capped, settled, together};
+ghost use Rattle.std.specs.Prelude.{All, IfErr, IfSome, IsNone, IsTrue, OnOk, map, ◌<◌, ◌^◌, ◌↔◌, ◌≡◌};
+
+use crate::Meter;
+use weave_base::InkCounts;
+
+// No dots of any ink.
+const NO_DOTS: InkCounts = InkCounts {
+    k: 0,
+    c: 0,
+    m: 0,
+    y: 0,
+};
+
+/// The meter that has no room.
+#[derive(Clone, Copy, Debug, PartialEq, Eq)]
+pub struct OverCap {
+    /// Its place in the list, from 0.
+    pub index: usize,
+    /// The dots of all inks that it has counted.
+    pub total: u64,
+    /// Its cap.
+    pub cap: u64,
+}
+
+// Whether a meter has room for these dots.
+#[inline]
+fn has_room(meter: &Box<dyn Meter>, n: &InkCounts) -> bool
+    ensures { IsTrue result ↔ HasRoom n.now (account meter.now) }
+{
+    meter.room(n)
+}
+
+// What a meter has counted.
+#[inline]
+fn total_of(meter: &Box<dyn Meter>) -> InkCounts
+    ensures is { result ≡ (account meter.now).totals }
+    ensures fits { all_inks result < 2 ^ 64 }
+{
+    meter.total()
+}
+
+// What there is to say of a meter without room, which stands at this place.
+fn over_cap(index: usize, meter: &Box<dyn Meter>) -> OverCap
+    ensures index { result.index ≡ index }
+    ensures total { result.total ≡ all_inks (account meter.now).totals }
+    ensures cap { result.cap ≡ (account meter.now).cap }
+{
+    let total = meter.total();
+    OverCap {
+        index,
+        total: total.k + total.c + total.m + total.y,
+        cap: meter.cap(),
+    }
+}
+
+/// Asks each meter for room for these dots, and changes none. The answer names the first meter without room.
+pub fn admit(meters: &[Box<dyn Meter>], n: &InkCounts) -> Result<(), OverCap>
+    ensures room { OnOk result (All (HasRoom n.now) (map (λ meter. account meter) meters.now)) }
+    ensures over { IfErr result (IsFirstOver (map (λ meter. account meter) meters.now) n.now) }
+{
+    for (index, meter) in meters.iter().enumerate() {
+        if !has_room(meter, n) {
+            return Err(over_cap(index, meter));
+        }
+    }
+    Ok(())
+}
+
+// One meter counts these dots.
+#[inline]
+fn add_one(meter: &mut Box<dyn Meter>, n: &InkCounts)
+    requires { HasRoom n.now (account meter.old) }
+    ensures { account meter.new ≡ added n.now (account meter.old) }
+{
+    meter.add(n);
+}
+
+// One meter's cap is set.
+#[inline]
+fn cap_one(meter: &mut Box<dyn Meter>, cap: u64)
+    ensures { account meter.new ≡ capped cap (account meter.old) }
+{
+    meter.set_cap(cap);
+}
+
+/// Counts these dots on each meter. Each has room for them, as `admit` tells.
+pub fn add_all(meters: &mut Vec<Box<dyn Meter>>, n: &InkCounts)
+    requires { All (HasRoom n.now) (map (λ meter. account meter) meters.old.items) }
+    ensures { map (λ meter. account meter) meters.new.items ≡ map (added n.now) (map (λ meter. account meter) meters.old.items) }
+{
+    for i in 0..meters.len() {
+        add_one(&mut meters[i], n);
+    }
+}
+
+/// Sets the cap of each meter.
+// The condition is what the type says. Without one, a call from another crate counts as one that makes meters of its own.
+pub fn cap_all(meters: &mut Vec<Box<dyn Meter>>, cap: u64)
+    requires { cap < 2 ^ 64 }
+    ensures { map (λ meter. account meter) meters.new.items ≡ map (capped cap) (map (λ meter. account meter) meters.old.items) }
+{
+    for i in 0..meters.len() {
+        cap_one(&mut meters[i], cap);
+    }
+}
+
+// Two counts, ink by ink.
+fn sum_of(a: InkCounts, b: InkCounts) -> InkCounts
+    requires { Fits (together a b) }
+    ensures { result ≡ together a b }
+{
+    InkCounts {
+        k: a.k + b.k,
+        c: a.c + b.c,
+        m: a.m + b.m,
+        y: a.y + b.y,
+    }
+}
+
+// Two counts, ink by ink, where each sum fits 64 bits.
+fn checked_sum(a: InkCounts, b: InkCounts) -> Option<InkCounts>
+    ensures some { IfSome result (λ sum. sum ≡ together a b) }
+    ensures fits { IfSome result Fits }
+    ensures none { IsNone result → Fits (together a b) → ⊥ }
+{
+    Some(InkCounts {
+        k: a.k.checked_add(b.k)?,
+        c: a.c.checked_add(b.c)?,
+        m: a.m.checked_add(b.m)?,
+        y: a.y.checked_add(b.y)?,
+    })
+}
+
+/// Whether `settle` may be called: what the meters counted together of each ink fits 64 bits.
+pub fn can_settle(meters: &[Box<dyn Meter>]) -> bool
+    ensures { IsTrue result ↔ Fits (settled (map (λ meter. account meter) meters.now)) }
+{
+    let mut sum = NO_DOTS;
+    for meter in meters {
+        let Some(next) = checked_sum(sum, total_of(meter)) else {
+            return false;
+        };
+        sum = next;
+    }
+    true
+}
+
+/// What the meters counted together, ink by ink; they are dropped. The sum of each ink is to fit 64 bits.
+pub fn settle(meters: Vec<Box<dyn Meter>>) -> InkCounts
+    requires { Fits (settled (map (λ meter. account meter) meters.items)) }
+    ensures { result ≡ settled (map (λ meter. account meter) meters.items) }
+{
+    let mut sum = NO_DOTS;
+    for meter in &meters {
+        sum = sum_of(sum, total_of(meter));
+    }
+    sum
+}

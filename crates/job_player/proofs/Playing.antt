@@ -1,0 +1,270 @@
+-- The sheets of the commands that a feed gave.
+use Rattle.std.proofs.Common.{◌≡◌, ℕ, ◌+◌, ◌-◌, ◌≤◌, ◌^◌, min, List, Option, Some, None, IfSome, IfNone, Err, Ok, [], ◌∷◌, ◌++◌, length, length-append, refl, sym, ◌∙◌, ap, subst, arith, append-nil}
+use Rattle.std.proofs.lemmas.List.Concat.{flat_map-append}
+use Rattle.std.specs.Io.KnownBytes.{Appends}
+use Rattle.std.proofs.KnownBytes.{Appends-nil, Appends-trans, Consumes-nil}
+use Rattle.dot_emulator.specs.declared.emulator.EmuStop.{EmuStop}
+use Rattle.dot_emulator.specs.declared.emulator.EmuStop.TheVariants as emu
+use Rattle.dot_emulator.specs.declared.emulator.Emulator.{Emulator}
+use Rattle.dot_emulator.specs.declared.sheet.Sheet.{Sheet}
+use Rattle.dot_emulator.specs.Runs.{IsSheet, Runs, Shows}
+use Rattle.escp2_definitions.specs.declared.stops.EmuFault.{EmuFault}
+use Rattle.escp2_definitions.specs.declared.stops.JobStop.TheVariants as job
+use Rattle.escp2_definitions.specs.Commands.{Entry}
+use Rattle.escp2_definitions.specs.JobEnds.{job_end}
+use Rattle.escp2_definitions.specs.Machine.{Machine, Sheet as PrintedSheet, after, execute, execute_from, given, start}
+use Rattle.job_feed.specs.declared.feed.FeedStop.{FeedStop}
+use Rattle.job_feed.specs.declared.feed.FeedStop.TheVariants as feed_is
+use Rattle.job_feed.specs.declared.feed.JobFeed.{JobFeed}
+use Rattle.job_feed.specs.declared.feed.PlacedCommand.{PlacedCommand}
+use Rattle.job_feed.specs.Feeding.{HasEnded, IsStopped, TakesCommand, at_of, heard_of, most_of, text_of}
+use Rattle.job_feed.specs.Jobs.{TakesCommands}
+use Rattle.job_feed.proofs.Jobs.{GaveCommands, entry_of, gave_first, gave_more, gave_none, job_ended, job_refused, rose_within, takes_gave}
+use Rattle.job_player.specs.declared.player.PlayStop.{PlayStop}
+use Rattle.job_player.specs.declared.player.PlayStop.TheVariants as stop
+use Rattle.job_player.specs.Outcome.{PlayOutcome, PlaysAll, TakesSheets, counted, sheets_of}
+use Rattle.job_player.specs.Pictures.{images, sheet_images, table_images}
+use Rattle.job_player.specs.Stops.{emu_stop, feed_stop}
+use Rattle.job_player.proofs.Images.{images_are}
+use Rattle.job_player.proofs.Running.{Executes, executes_more, executes_none, sheets_more, stops_as_bytes, stops_at_refusal}
+use Rattle.printer_definitions.specs.Printer.{Printer}
+use Rattle.weave_base.specs.Causes.{Rose}
+use Rattle.weave_base.specs.Parts.{AppendsPart}
+
+-- The commands that were given were run on the machine; these are the sheets that they gave.
+pub record RunsSoFar (p : Printer) (e : Emulator) (feed : JobFeed) (before text : Option (List ℕ)) (sheets : List PrintedSheet) : Type 0 where
+  pub entries : List Entry
+  pub gave : GaveCommands feed before text entries
+  pub m : Machine
+  pub executes : Executes p entries m sheets
+  pub shows : Shows p e m
+
+-- And their images were written.
+pub record PlaysSoFar (p : Printer) (e : Emulator) (feed : JobFeed) (before text held now : Option (List ℕ)) (number : ℕ) : Type 0 where
+  pub sheets : List PrintedSheet
+  pub runs : RunsSoFar p e feed before text sheets
+  pub writes : Appends held now (images p sheets)
+  pub number_is : number ≡ counted (length sheets)
+
+pub plays_none : (p : Printer) (e : Emulator) (feed : JobFeed) (left held : Option (List ℕ)) → at_of feed ≡ 0 → feed.unread ≡ [] → Shows p e start
+    → PlaysSoFar p e feed left (text_of feed left) held held 0
+plays_none p e feed left held at unread shows = record {
+  sheets = [];
+  runs = record { entries = []; gave = gave_none feed left at unread; m = start; executes = executes_none p; shows = shows };
+  writes = Appends-nil held;
+  number_is = refl;
+}
+
+-- ---- a command
+
+-- it was run
+ran : (p : Printer) (e e' : Emulator) (old new : JobFeed) (before text left : Option (List ℕ)) (placed : PlacedCommand) (sheets : List PrintedSheet) (sheet : Option Sheet)
+    (so_far : RunsSoFar p e old before text sheets) → TakesCommand old new text (text_of new left) placed
+    → Runs p so_far.m placed.command (heard_of new) e e' (Ok sheet)
+    → RunsSoFar p e' new before (text_of new left) (sheets ++ given p so_far.m placed.command)
+ran p e e' old new before text left placed sheets sheet so_far takes runs = record {
+  entries = so_far.entries ++ entry_of new placed ∷ [];
+  gave = gave_more old new before text (text_of new left) so_far.entries placed so_far.gave takes;
+  m = after p so_far.m placed.command (heard_of new);
+  executes = executes_more p so_far.entries (entry_of new placed) so_far.m sheets so_far.executes runs.0;
+  shows = runs.2;
+}
+
+-- it gave no sheet
+pub plays_more : (p : Printer) (e e' : Emulator) (old new : JobFeed) (before text left held now : Option (List ℕ)) (number : ℕ) (placed : PlacedCommand)
+    (so_far : PlaysSoFar p e old before text held now number) → TakesCommand old new text (text_of new left) placed
+    → Runs p so_far.runs.m placed.command (heard_of new) e e' (Ok None) → PlaysSoFar p e' new before (text_of new left) held now number
+plays_more p e e' old new before text left held now number placed so_far takes runs =
+    let all = ran p e e' old new before text left placed so_far.sheets None so_far.runs takes runs in
+    let P : List PrintedSheet → Type 0 = λ more. RunsSoFar p e' new before (text_of new left) (so_far.sheets ++ more) in
+    let Q : List PrintedSheet → Type 0 = RunsSoFar p e' new before (text_of new left) in
+    record {
+      sheets = so_far.sheets;
+      runs = subst Q (append-nil so_far.sheets) (subst P runs.1 all);
+      writes = so_far.writes;
+      number_is = so_far.number_is;
+    }
+
+-- It gave a sheet, whose images are to be written.
+pub record HasSheet (p : Printer) (e : Emulator) (feed : JobFeed) (before text held now : Option (List ℕ)) (number : ℕ) (sheet : Sheet) : Type 0 where
+  pub sheets : List PrintedSheet
+  pub printed : PrintedSheet
+  pub runs : RunsSoFar p e feed before text (sheets ++ printed ∷ [])
+  pub writes : Appends held now (images p sheets)
+  pub number_is : number ≡ counted (length sheets)
+  pub is : IsSheet p printed sheet
+
+pub gives_sheet : (p : Printer) (e e' : Emulator) (old new : JobFeed) (before text left held now : Option (List ℕ)) (number : ℕ) (placed : PlacedCommand) (sheet : Sheet)
+    (so_far : PlaysSoFar p e old before text held now number) → TakesCommand old new text (text_of new left) placed
+    → Runs p so_far.runs.m placed.command (heard_of new) e e' (Ok (Some sheet)) → HasSheet p e' new before (text_of new left) held now number sheet
+gives_sheet p e e' old new before text left held now number placed sheet so_far takes runs =
+    let all = ran p e e' old new before text left placed so_far.sheets (Some sheet) so_far.runs takes runs in
+    let gives = runs.1 in
+    let P : List PrintedSheet → Type 0 = λ more. RunsSoFar p e' new before (text_of new left) (so_far.sheets ++ more) in
+    record {
+      sheets = so_far.sheets;
+      printed = gives.0;
+      runs = subst P gives.1 all;
+      writes = so_far.writes;
+      number_is = so_far.number_is;
+      is = gives.2;
+    }
+
+counts_on : (n number : ℕ) → number ≡ counted n → min (number + 1) (2 ^ 32 - 1) ≡ counted (n + 1)
+counts_on n number is = omega (arith, is)
+
+pub sheet_written : (p : Printer) (e : Emulator) (feed : JobFeed) (before text held now now' : Option (List ℕ)) (number more : ℕ) (sheet : Sheet) → HasSheet p e feed before text held now number sheet
+    → Appends now now' (table_images sheet.columns sheet.rows sheet.planes) → more ≡ min (number + 1) (2 ^ 32 - 1) → PlaysSoFar p e feed before text held now' more
+sheet_written p e feed before text held now now' number more sheet has written more_is =
+    let P : List ℕ → Type 0 = Appends now now' in
+    let Q : List ℕ → Type 0 = Appends held now' in
+    record {
+      sheets = has.sheets ++ has.printed ∷ [];
+      runs = has.runs;
+      writes = subst Q (sym (flat_map-append (sheet_images p) has.sheets (has.printed ∷ []) ∙ ap (λ bs. images p has.sheets ++ bs) (append-nil (sheet_images p has.printed))))
+          (Appends-trans held now now' (images p has.sheets) (sheet_images p has.printed) has.writes (subst P (images_are p has.printed sheet has.is) written));
+      number_is = more_is ∙ counts_on (length has.sheets) number has.number_is ∙ ap counted (sym (length-append has.sheets (has.printed ∷ [])));
+    }
+
+-- ---- how playing ends
+
+takes_sheets : (p : Printer) (most : ℕ) (before now : Option (List ℕ)) (entries : List Entry) (m : Machine) (sheets : List PrintedSheet) → Executes p entries m sheets
+    → TakesCommands most before now entries → TakesSheets p most before now sheets
+takes_sheets p most before now entries m sheets executes takes = record {
+  bytes = takes.bytes;
+  taken = takes.taken;
+  others = (execute_from p m takes.others).sheets;
+  are = ap (λ es. (execute p es).sheets) takes.are ∙ sheets_more p entries takes.others m sheets executes;
+}
+
+mapped : (before : Option (List ℕ)) (P Q : List ℕ → Type 0) → ((bytes : List ℕ) → P bytes → Q bytes) → IfSome before P → IfSome before Q
+mapped None P Q f holds = tt
+mapped (Some bytes) P Q f holds = f bytes holds
+
+pub sheet_unwritten : (p : Printer) (most : ℕ) (e : Emulator) (feed : JobFeed) (before left held now now' : Option (List ℕ)) (number more f0 f1 g0 g1 g2 : ℕ) (sheet : Sheet)
+    → HasSheet p e feed before (text_of feed left) held now number sheet → AppendsPart now now' (table_images sheet.columns sheet.rows sheet.planes) → more ≡ min (number + 1) (2 ^ 32 - 1)
+    → most_of feed ≡ most → g0 ≤ g1 → Rose g1 g2
+    → PlayOutcome p most (record { before = before; now = left; faults_before = f0; faults_now = f1 }) (record { before = held; now = now'; faults_before = g0; faults_now = g2 }) (Err (stop.Write more))
+sheet_unwritten p most e feed before left held now now' number more f0 f1 g0 g1 g2 sheet has part more_is most_is later rose =
+    let P : List ℕ → Type 0 = AppendsPart now now' in
+    let Q : ℕ → Type 0 = λ n. TakesSheets p n before left (has.sheets ++ has.printed ∷ []) in (
+      rose_within g0 g1 g2 g2 later rose (omega arith),
+      record {
+        sheets = has.sheets;
+        sheet = has.printed;
+        takes = subst Q most_is (takes_sheets p (most_of feed) before left has.runs.entries has.runs.m (has.sheets ++ has.printed ∷ []) has.runs.executes
+            (takes_gave feed feed before (text_of feed left) left has.runs.entries [] has.runs.gave (Consumes-nil (text_of feed left))));
+        number_is = more_is ∙ counts_on (length has.sheets) number has.number_is;
+        between = now;
+        whole = has.writes;
+        part = subst P (images_are p has.printed sheet has.is) part;
+      },
+    )
+
+pub plays_all : (p : Printer) (most : ℕ) (e : Emulator) (feed new : JobFeed) (before text left held now : Option (List ℕ)) (number f0 f1 g0 g1 : ℕ) → PlaysSoFar p e feed before text held now number
+    → HasEnded text (text_of new left) → most_of feed ≡ most
+    → PlaysAll p most (record { before = before; now = left; faults_before = f0; faults_now = f1 }) (record { before = held; now = now; faults_before = g0; faults_now = g1 })
+plays_all p most e feed new before text left held now number f0 f1 g0 g1 so_far ended most_is =
+    let takes = job_ended feed new before text left so_far.runs.entries so_far.runs.gave ended in
+    let stops = stops_as_bytes p (most_of feed) takes.bytes so_far.runs.entries so_far.runs.m so_far.sheets None so_far.runs.executes takes.ends in
+    let P : ℕ → Type 0 = λ n. PlaysAll p n (record { before = before; now = left; faults_before = f0; faults_now = f1 }) (record { before = held; now = now; faults_before = g0; faults_now = g1 }) in
+    let Q : List PrintedSheet → Type 0 = λ sheets. Appends held now (images p sheets) in
+    subst P most_is (record {
+      bytes = takes.bytes;
+      taken = takes.taken;
+      end = takes.end;
+      whole = stops.1;
+      writes = subst Q (sym stops.0) so_far.writes;
+    })
+
+pub plays_to_stop : (p : Printer) (most : ℕ) (e : Emulator) (feed new : JobFeed) (before text left held now : Option (List ℕ)) (number f0 f1 f2 g0 g1 : ℕ) (why : FeedStop)
+    → PlaysSoFar p e feed before text held now number → IsStopped feed text (text_of new left) f1 f2 why → f0 ≤ f1 → most_of feed ≡ most
+    → PlayOutcome p most (record { before = before; now = left; faults_before = f0; faults_now = f2 }) (record { before = held; now = now; faults_before = g0; faults_now = g1 }) (Err (feed_stop why))
+plays_to_stop p most e feed new before text left held now number f0 f1 f2 g0 g1 (feed_is.Job offset cause) so_far stopped later most_is =
+    let P : ℕ → Type 0 = λ n. IfSome before (λ bytes. (sheets_of p n bytes ≡ so_far.sheets) × (job_end bytes n (Some p) ≡ Some (record { at = offset; why = cause }))) in
+    record {
+      sheets = so_far.sheets;
+      told = subst P most_is (mapped before _ _ (λ bytes ends. stops_as_bytes p (most_of feed) bytes so_far.runs.entries so_far.runs.m so_far.sheets _ so_far.runs.executes ends)
+          (job_refused feed before text (text_of new left) so_far.runs.entries offset cause so_far.runs.gave stopped));
+      writes = so_far.writes;
+    }
+plays_to_stop p most e feed new before text left held now number f0 f1 f2 g0 g1 feed_is.Read so_far failed later most_is =
+    let Q : ℕ → Type 0 = λ n. TakesSheets p n before left so_far.sheets in (
+      rose_within f0 f1 f2 f2 later failed.rose (omega arith),
+      record {
+        sheets = so_far.sheets;
+        takes = subst Q most_is (takes_sheets p (most_of feed) before left so_far.runs.entries so_far.runs.m so_far.sheets so_far.runs.executes
+            (takes_gave feed new before text left so_far.runs.entries failed.bytes so_far.runs.gave failed.takes.taken));
+        writes = so_far.writes;
+      },
+    )
+
+-- the machine refuses a command
+pub plays_to_refusal : (p : Printer) (most : ℕ) (e e' : Emulator) (old new : JobFeed) (before text left held now : Option (List ℕ)) (number f0 f1 g0 g1 : ℕ) (placed : PlacedCommand) (fault : EmuFault)
+    (so_far : PlaysSoFar p e old before text held now number) → TakesCommand old new text (text_of new left) placed
+    → Runs p so_far.runs.m placed.command (heard_of new) e e' (Err (emu.Refused fault)) → most_of new ≡ most
+    → PlayOutcome p most (record { before = before; now = left; faults_before = f0; faults_now = f1 }) (record { before = held; now = now; faults_before = g0; faults_now = g1 })
+    (Err (stop.Job placed.at (job.Machine fault)))
+plays_to_refusal p most e e' old new before text left held now number f0 f1 g0 g1 placed fault so_far takes runs most_is =
+    let entry : Entry = entry_of new placed in
+    let P : ℕ → Type 0 = λ n. IfSome before (λ bytes. (sheets_of p n bytes ≡ so_far.sheets) × (job_end bytes n (Some p) ≡ Some (record { at = placed.at; why = job.Machine fault }))) in
+    record {
+      sheets = so_far.sheets;
+      told = subst P most_is (mapped before _ _ (λ bytes first. stops_at_refusal p (most_of new) bytes so_far.runs.entries first.0 entry so_far.runs.m so_far.sheets fault so_far.runs.executes runs.0 first.1)
+          (gave_first new before (text_of new left) (so_far.runs.entries ++ entry ∷ []) (gave_more old new before text (text_of new left) so_far.runs.entries placed so_far.runs.gave takes)));
+      writes = so_far.writes;
+    }
+
+-- there is no memory for a sheet
+pub plays_without_room : (p : Printer) (most : ℕ) (e : Emulator) (old new : JobFeed) (before text left held now : Option (List ℕ)) (number f0 f1 g0 g1 : ℕ) (placed : PlacedCommand)
+    → PlaysSoFar p e old before text held now number → TakesCommand old new text (text_of new left) placed → most_of old ≡ most
+    → PlayOutcome p most (record { before = before; now = left; faults_before = f0; faults_now = f1 }) (record { before = held; now = now; faults_before = g0; faults_now = g1 }) (Err stop.Memory)
+plays_without_room p most e old new before text left held now number f0 f1 g0 g1 placed so_far takes most_is =
+    let Q : ℕ → Type 0 = λ n. TakesSheets p n before left so_far.sheets in
+    record {
+      sheets = so_far.sheets;
+      takes = subst Q most_is (takes_sheets p (most_of old) before left so_far.runs.entries so_far.runs.m so_far.sheets so_far.runs.executes
+          (takes_gave old new before text left so_far.runs.entries takes.bytes so_far.runs.gave takes.taken));
+      writes = so_far.writes;
+    }
+
+-- there is no memory to begin with
+pub plays_nothing : (p : Printer) (most : ℕ) (left held : Option (List ℕ)) (f0 f1 g0 g1 : ℕ)
+    → PlayOutcome p most (record { before = left; now = left; faults_before = f0; faults_now = f1 }) (record { before = held; now = held; faults_before = g0; faults_now = g1 }) (Err stop.Memory)
+plays_nothing p most left held f0 f1 g0 g1 = record {
+  sheets = [];
+  takes = record { bytes = []; taken = Consumes-nil left; others = sheets_of p most []; are = refl };
+  writes = Appends-nil held;
+}
+
+-- the emulator does not run a command
+pub plays_to_emu_stop : (p : Printer) (most : ℕ) (e e' : Emulator) (old new : JobFeed) (before text left held now : Option (List ℕ)) (number f0 f1 g0 g1 : ℕ) (placed : PlacedCommand) (why : EmuStop)
+    (answer : PlayStop) (so_far : PlaysSoFar p e old before text held now number) → TakesCommand old new text (text_of new left) placed
+    → Runs p so_far.runs.m placed.command (heard_of new) e e' (Err why) → most_of old ≡ most → answer ≡ emu_stop placed.at why
+    → PlayOutcome p most (record { before = before; now = left; faults_before = f0; faults_now = f1 }) (record { before = held; now = now; faults_before = g0; faults_now = g1 }) (Err answer)
+plays_to_emu_stop p most e e' old new before text left held now number f0 f1 g0 g1 placed why answer so_far takes runs most_is is =
+    let P : PlayStop → Type 0 = λ stop. PlayOutcome p most (record { before = before; now = left; faults_before = f0; faults_now = f1 }) (record { before = held; now = now; faults_before = g0; faults_now = g1 }) (Err stop) in
+    subst P (sym is) (by_stop why runs)
+  where
+    by_stop : (why : EmuStop) → Runs p so_far.runs.m placed.command (heard_of new) e e' (Err why)
+        → PlayOutcome p most (record { before = before; now = left; faults_before = f0; faults_now = f1 }) (record { before = held; now = now; faults_before = g0; faults_now = g1 }) (Err (emu_stop placed.at why))
+    by_stop (emu.Refused fault) runs = plays_to_refusal p most e e' old new before text left held now number f0 f1 g0 g1 placed fault so_far takes runs (takes.most ∙ most_is)
+    by_stop emu.Memory runs = plays_without_room p most e old new before text left held now number f0 f1 g0 g1 placed so_far takes most_is
+
+-- the feed stops
+pub plays_to_feed_stop : (p : Printer) (most : ℕ) (e : Emulator) (feed new : JobFeed) (before text left held now : Option (List ℕ)) (number f0 f1 f2 g0 g1 : ℕ) (why : FeedStop) (answer : PlayStop)
+    → PlaysSoFar p e feed before text held now number → IsStopped feed text (text_of new left) f1 f2 why → f0 ≤ f1 → most_of feed ≡ most → answer ≡ feed_stop why
+    → PlayOutcome p most (record { before = before; now = left; faults_before = f0; faults_now = f2 }) (record { before = held; now = now; faults_before = g0; faults_now = g1 }) (Err answer)
+plays_to_feed_stop p most e feed new before text left held now number f0 f1 f2 g0 g1 why answer so_far stopped later most_is is =
+    let P : PlayStop → Type 0 = λ stop. PlayOutcome p most (record { before = before; now = left; faults_before = f0; faults_now = f2 }) (record { before = held; now = now; faults_before = g0; faults_now = g1 }) (Err stop) in
+    subst P (sym is) (plays_to_stop p most e feed new before text left held now number f0 f1 f2 g0 g1 why so_far stopped later most_is)
+
+-- what holds of an option that is none
+pub if_none : {T : Type 0} (o : Option T) (P : Type 0) → ((x : T) → o ≡ Some x → ⊥) → IfNone o P → P
+if_none None P never holds = holds
+if_none (Some x) P never holds = absurd (never x refl)
+
+-- an option that is not some
+pub is_none : {T : Type 0} (o : Option T) → ((x : T) → o ≡ Some x → ⊥) → o ≡ None
+is_none None never = refl
+is_none (Some x) never = absurd (never x refl)

@@ -1,0 +1,19 @@
+-- Why playing a job stops, where its parts do.
+use Rattle.std.specs.Prelude.{ℕ}
+use Rattle.dot_emulator.specs.declared.emulator.EmuStop.{EmuStop}
+use Rattle.dot_emulator.specs.declared.emulator.EmuStop.TheVariants as emu
+use Rattle.escp2_definitions.specs.declared.stops.JobStop.TheVariants as job
+use Rattle.job_feed.specs.declared.feed.FeedStop.{FeedStop}
+use Rattle.job_feed.specs.declared.feed.FeedStop.TheVariants as feed
+use Rattle.job_player.specs.declared.player.PlayStop.{PlayStop}
+use Rattle.job_player.specs.declared.player.PlayStop.TheVariants as stop
+
+-- why it stops where the feed of its commands does
+abbrev pub feed_stop : FeedStop → PlayStop
+feed_stop (feed.Job offset cause) = stop.Job offset cause
+feed_stop feed.Read = stop.Read
+
+-- why it stops at a command that the emulator does not run
+abbrev pub emu_stop : ℕ → EmuStop → PlayStop
+emu_stop at (emu.Refused fault) = stop.Job at (job.Machine fault)
+emu_stop at emu.Memory = stop.Memory

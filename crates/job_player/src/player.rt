@@ -1,0 +1,99 @@
+//! A job's sheets.
+ghost use Rattle.job_player.specs.Outcome.{PlayOutcome};
+ghost use Rattle.job_player.specs.Stops.{emu_stop};
+ghost use Rattle.job_player.specs.declared.player.PlayStop.TheVariants as PlayStop;
+ghost use Rattle.printer_profile.specs.Profiles.{printer_of};
+ghost use Rattle.printer_profile.specs.Validity.{check};
+ghost use Rattle.std.specs.Prelude.{IsOk, ◌<◌, ◌≡◌, ◌≤◌, ◌^◌};
+
+use crate::sheets::write_sheet;
+use dot_emulator::{EmuStop, Emulator};
+use escp2_definitions::JobStop;
+use job_feed::{FeedStop, JobFeed};
+use printer_profile::Profile;
+use std::alloc::Global;
+use weave_base::{Memory, Sink, Source};
+
+/// Why a job is not played to its end.
+#[derive(Clone, Copy, Debug, PartialEq, Eq)]
+pub enum PlayStop {
+    /// The job is refused at this offset.
+    Job { offset: u64, cause: JobStop },
+    /// A read failed.
+    Read,
+    /// A write failed, in the images of this sheet. Sheets count from 1, and the count stands still at its last value.
+    Write { sheet: u32 },
+    /// Memory ran out.
+    Memory,
+}
+
+/// Runs the job that the input is on a printer, and writes the four images of each sheet when it is ejected. At most
+/// `most` bytes of the job are taken.
+pub fn play_job<S: Source, K: Sink>(
+    alloc: Global,
+    profile: &Profile,
+    most: u64,
+    input: &mut S,
+    out: &mut K,
+) -> Result<(), PlayStop>
+    requires checked { IsOk (check profile.now) }
+    requires most { most < 2 ^ 63 }
+    ensures { PlayOutcome (printer_of profile.now) most
+        (record { before = S.left input.old; now = S.left input.new; faults_before = S.faults input.old; faults_now = S.faults input.new })
+        (record { before = K.held out.old; now = K.held out.new; faults_before = K.faults out.old; faults_now = K.faults out.new }) result }
+{
+    let mut feed = JobFeed::make(alloc, most)?;
+    let mut emulator = Emulator::make(alloc, profile);
+    let mut sheets = 0u32;
+    'commands: loop {
+        let Some(placed) = feed.next(input)? else {
+            return Ok(());
+        };
+        let given = match emulator.run(&placed.command, feed.rows()) {
+            Ok(given) => given,
+            Err(stop) => return Err(refused_at(placed.at, stop)),
+        };
+        let Some(sheet) = given else {
+            continue 'commands;
+        };
+        sheets = sheets.saturating_add(1);
+        match write_sheet(&sheet, out) {
+            Ok(()) => {}
+            Err(_) => return Err(PlayStop::Write { sheet: sheets }),
+        }
+    }
+}
+
+// Why a job stops at a command that the emulator does not run.
+fn refused_at(at: u64, stop: EmuStop) -> PlayStop
+    ensures { result ≡ emu_stop at stop }
+{
+    match stop {
+        EmuStop::Refused(fault) => PlayStop::Job {
+            offset: at,
+            cause: JobStop::Machine(fault),
+        },
+        EmuStop::Memory => PlayStop::Memory,
+    }
+}
+
+impl From<FeedStop> for PlayStop {
+    ghost use Rattle.job_player.specs.Stops.{feed_stop};
+
+    ghost from_gives = { λ why stop. stop ≡ feed_stop why };
+
+    fn from(stop: FeedStop) -> PlayStop {
+        match stop {
+            FeedStop::Job { offset, cause } => PlayStop::Job { offset, cause },
+            FeedStop::Read => PlayStop::Read,
+        }
+    }
+}
+
+impl From<Memory> for PlayStop {
+    ghost from_gives = { λ _ stop. stop ≡ PlayStop.Memory };
+
+    fn from(_memory: Memory) -> PlayStop {
+        PlayStop::Memory
+    }
+}

@@ -1,0 +1,37 @@
+-- The dots of pages, and what meters come to by them.
+use Rattle.std.specs.Prelude.{ℕ, List, [], ◌∷◌, map, All, count_by}
+use Rattle.diffusion_definitions.specs.Diffusion.{Table}
+use Rattle.escp2_definitions.specs.Machine.{Dot}
+use Rattle.ink_meter.specs.Accounts.{Account, HasRoom, added}
+use Rattle.page_definitions.specs.Dots.{Halftone, dots_wanted, halftone}
+use Rattle.printer_definitions.specs.declared.inks.Ink.{Ink}
+use Rattle.printer_definitions.specs.declared.inks.Ink.TheVariants.{Black, Cyan, Magenta, Yellow}
+use Rattle.printer_definitions.specs.Inks.{same_ink}
+use Rattle.printer_definitions.specs.Printer.{Printer}
+use Rattle.pwg_definitions.specs.Stream.{Page}
+use Rattle.weave_base.specs.declared.answers.InkCounts.{InkCounts}
+
+-- the dots of an ink
+abbrev pub dots_of : List Dot → Ink → ℕ
+dots_of dots ink = count_by (λ (d : Dot). same_ink ink d.ink) dots
+
+-- The dots of each ink in a halftone.
+abbrev pub halftone_dots : Printer → Halftone → InkCounts
+halftone_dots p h =
+    let dots : List Dot = dots_wanted p h in
+    record { k = dots_of dots Black; c = dots_of dots Cyan; m = dots_of dots Magenta; y = dots_of dots Yellow }
+
+-- The dots of each ink that a page wants.
+unfoldable pub page_dots : Page → Printer → Table → InkCounts
+page_dots page p k = halftone_dots p (halftone page p k)
+
+-- Meters with these pages counted, one after another.
+abbrev pub counted : Printer → Table → List Page → List Account → List Account
+counted p k [] accounts = accounts
+counted p k (page ∷ pages) accounts = counted p k pages (map (added (page_dots page p k)) accounts)
+
+-- Each meter has room for each page, with the pages before it counted.
+abbrev pub Admitted : Printer → Table → List Page → List Account → Type 0
+Admitted p k [] accounts = Unit {0}
+Admitted p k (page ∷ pages) accounts =
+    All (HasRoom (page_dots page p k)) accounts × Admitted p k pages (map (added (page_dots page p k)) accounts)

@@ -1,0 +1,21 @@
+-- Sixteen vectors of sixteen lanes.
+use Rattle.std.specs.Prelude.{ℕ, ◌≡◌, ◌≢◌, ◌+◌, ◌-◌, ◌*◌, ◌<◌, List, [], length, slice_index, slice_index_or}
+use Rattle.diffusion_definitions.specs.Diffusion.{Plane}
+
+-- lane m of vector i
+abbrev pub lane : List (List ℕ) → ℕ → ℕ → ℕ
+lane xs i m = slice_index (slice_index_or xs i []) m
+
+-- sixteen vectors, of sixteen lanes each
+pub record IsSquare (xs : List (List ℕ)) : Type 0 where
+  pub vectors : length xs ≡ 16
+  pub lanes : (i : ℕ) → i < 16 → length (slice_index_or xs i []) ≡ 16
+
+-- The first n vectors are rows of a tile from row `first` on, each with its amounts at sixteen steps from `step` on.
+pub record HasRows (p : Plane) (c j first step n : ℕ) (xs : List (List ℕ)) : Type 0 where
+  pub at : (i m : ℕ) → i < n → m < 16 → lane xs i m ≡ p.amount (32 * j + (first + i)) (64 * c + step + m - 3 * (first + i))
+
+-- The first n vectors stand in steps of 32 amounts, from `step` on and in each from row `first` on.
+pub record IsPutInto (xs : List (List ℕ)) (first step n : ℕ) (old new : List ℕ) : Type 0 where
+  pub there : (i m : ℕ) → i < n → m < 16 → slice_index new (32 * (step + i) + (first + m)) ≡ lane xs i m
+  pub kept : (at : ℕ) → ((i m : ℕ) → i < n → m < 16 → at ≢ 32 * (step + i) + (first + m)) → slice_index new at ≡ slice_index old at

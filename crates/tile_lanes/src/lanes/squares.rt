@@ -1,0 +1,87 @@
+//! Amounts of a tile by steps, sixteen rows and sixteen steps at a time.
+ghost use Rattle.std.specs.Prelude.{length, ◌%◌, ◌*◌, ◌+◌, ◌-◌, ◌/◌, ◌<◌, ◌≡◌, ◌≤◌};
+ghost use Rattle.tile_lanes.specs.Done.{plane_of};
+ghost use Rattle.tile_lanes.specs.Lanes.{HasAmounts};
+ghost use Rattle.tile_lanes.specs.Square.{HasRows, IsPutInto, IsSquare};
+ghost use lib.Lanes.{chunk, put_chunk};
+
+use crate::lanes::transpose::transposed;
+use dot_planes::InkRows;
+use std::simd::prelude::*;
+use tile_shape::Place;
+
+// Sixteen amounts of a row.
+#[inline(always)]
+fn part_of(row: &[u8], x: usize) -> u8x16
+    requires { x + 16 ≤ length row.now }
+    ensures long { length result ≡ 16 }
+    ensures is { result ≡ chunk x 16 row.now }
+{
+    u8x16::from_slice(&row[x..])
+}
+
+// Puts sixteen amounts.
+#[inline(always)]
+fn put_part(amounts: &mut [u8], at: usize, part: u8x16)
+    requires at { at + 16 ≤ length amounts.old }
+    requires part { length part ≡ 16 }
+    ensures { amounts.new ≡ put_chunk at amounts.old part }
+{
+    part.copy_to_slice(&mut amounts[at..]);
+}
+
+// Sixteen rows of a tile from row `first` on, at sixteen steps from `step` on, where step 0 has offset 0 of row 0.
+#[inline(always)]
+fn square_of(place: Place, rows: &InkRows, ink: u8, first: usize, step: usize) -> [u8x16; 16]
+    requires ink { ink < rows.now.inks }
+    requires first { first ≤ 16 }
+    requires left { 3 * first + 45 ≤ 64 * place.c + step }
+    requires right { 64 * place.c + step + 16 ≤ rows.now.width + 3 * first }
+    requires down { 32 * place.j + first + 16 ≤ rows.now.rows }
+    requires small { 32 * place.j + first + 16 < 4294967296 }
+    ensures square { IsSquare result }
+    ensures rows { HasRows (plane_of rows.now ink) place.c place.j first step 16 result }
+{
+    let mut square = [u8x16::splat(0); 16];
+    for i in 0..16 {
+        let r = first + i;
+        let row = rows.row(ink, (32 * place.j as usize + r) as u32);
+        square[i] = part_of(row, 64 * place.c as usize + step - 3 * r);
+    }
+    square
+}
+
+// Puts sixteen steps of sixteen rows.
+#[inline(always)]
+fn put_square(amounts: &mut [u8; 3072], first: usize, step: usize, columns: &[u8x16; 16])
+    requires first { first ≤ 16 }
+    requires step { step ≤ 80 }
+    requires columns { IsSquare columns.now }
+    ensures { IsPutInto columns.now first step 16 amounts.old amounts.new }
+{
+    for i in 0..16 {
+        put_part(amounts, 32 * (step + i) + first, columns[i]);
+    }
+}
+
+/// Puts the amounts of a tile by steps, where the window goes on beside the tile.
+#[inline(always)]
+pub(crate) fn gather_squares(place: Place, rows: &InkRows, ink: u8, amounts: &mut [u8; 3072])
+    requires ink { ink < rows.now.inks }
+    requires left { 2 ≤ place.c }
+    requires right { 64 * place.c + 80 ≤ rows.now.width }
+    requires down { 32 * place.j + 32 ≤ rows.now.rows }
+    requires small { 32 * place.j + 32 < 4294967296 }
+    ensures { HasAmounts (plane_of rows.now ink) place.c place.j 32 amounts.new }
+{
+    for n in 0..10 {
+        let first = 16 * (n / 5);
+        let step = first + 16 * (n % 5);
+        put_square(
+            amounts,
+            first,
+            step,
+            &transposed(&square_of(place, rows, ink, first, step)),
+        );
+    }
+}

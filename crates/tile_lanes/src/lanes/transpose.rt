@@ -1,0 +1,45 @@
+//! Sixteen rows of sixteen amounts, turned into columns.
+ghost use Rattle.std.specs.Prelude.{length, slice_index, ◌%◌, ◌*◌, ◌+◌, ◌/◌, ◌++◌, ◌<◌, ◌≡◌, ℕ};
+ghost use Rattle.tile_lanes.specs.Square.{IsSquare, lane};
+
+use std::simd::prelude::*;
+
+// The lanes of two vectors, in turn.
+#[inline(always)]
+fn interleaved(a: u8x16, b: u8x16) -> (u8x16, u8x16)
+    requires a { length a ≡ 16 }
+    requires b { length b ≡ 16 }
+    ensures long { length result.0 ≡ 16 }
+    ensures long_high { length result.1 ≡ 16 }
+    ensures low { (m : ℕ) → m < 16 → slice_index result.0 m ≡ slice_index (a ++ b) (m / 2 + 16 * (m % 2)) }
+    ensures high { (m : ℕ) → m < 16 → slice_index result.1 m ≡ slice_index (a ++ b) (8 + (m / 2 + 16 * (m % 2))) }
+{
+    a.interleave(b)
+}
+
+// Each of the first eight rows interleaved with the one eight further on: four times over, rows are columns.
+#[inline(always)]
+fn riffle(x: &[u8x16; 16]) -> [u8x16; 16]
+    requires { IsSquare x.now }
+    ensures square { IsSquare result }
+    ensures lanes { (i m : ℕ) → i < 16 → m < 16
+        → lane result i m ≡ lane x.now (i / 2 + 8 * (m % 2)) (8 * (i % 2) + m / 2) }
+{
+    let mut y = *x;
+    for i in 0..8 {
+        let (low, high) = interleaved(x[i], x[i + 8]);
+        y[2 * i] = low;
+        y[2 * i + 1] = high;
+    }
+    y
+}
+
+/// Turns rows into columns.
+#[inline(always)]
+pub(crate) fn transposed(x: &[u8x16; 16]) -> [u8x16; 16]
+    requires { IsSquare x.now }
+    ensures square { IsSquare result }
+    ensures lanes { (i m : ℕ) → i < 16 → m < 16 → lane result i m ≡ lane x.now m i }
+{
+    riffle(&riffle(&riffle(&riffle(x))))
+}
