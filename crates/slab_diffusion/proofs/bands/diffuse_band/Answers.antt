@@ -43,8 +43,8 @@ pub take_next-place-requires : goal.take_next-place-requires
 take_next-place-requires c =
     let s : Shape = window_of c.args.rows.now in
     let t : Place = record { c = c.loop.counter; j = c.args.j } in
-    let columns : c.columns-counter-end.result ≡ columns_of s = c.columns-counter-end.ensures ∙ ap (λ (r : Shape). columns_of r) c.shape-shape.ensures.is in
-    (t, next_ready s c.loop.counterore t c.loop.invariant.core (tile_in c.args.rows.now c.args.j c.loop.counter c.columns-counter-end.result c.loop-test.true columns c.requires.band))
+    let columns : c.columns-end.result ≡ columns_of s = c.columns-end.ensures ∙ ap (λ (r : Shape). columns_of r) c.shape-shape.ensures.is in
+    (t, next_ready s c.loop.core t c.loop.invariant.core (tile_in c.args.rows.now c.args.j c.loop.counter c.columns-end.result c.loop-test.true columns c.requires.band))
 
 pub diffuse_tile-hand-requires-clause-tile : goal.diffuse_tile-hand-requires-clause-tile
 diffuse_tile-hand-requires-clause-tile c =
@@ -58,15 +58,15 @@ loop-preserved c =
     let s : Shape = window_of c.args.rows.now in
     let t : Place = record { c = c.loop.counter; j = c.args.j } in
     let p : Place = c.take_next-place.result in
-    let columns : c.columns-counter-end.result ≡ columns_of s = c.columns-counter-end.ensures ∙ ap (λ (r : Shape). columns_of r) c.shape-shape.ensures.is in
-    let inside = tile_in c.args.rows.now c.args.j c.loop.counter c.columns-counter-end.result c.loop-test.true columns c.requires.band in
-    let is : p ≡ t = next_is s c.loop.counterore t p v.core inside c.take_next-place.ensures.first in
+    let columns : c.columns-end.result ≡ columns_of s = c.columns-end.ensures ∙ ap (λ (r : Shape). columns_of r) c.shape-shape.ensures.is in
+    let inside = tile_in c.args.rows.now c.args.j c.loop.counter c.columns-end.result c.loop-test.true columns c.requires.band in
+    let is : p ≡ t = next_is s c.loop.core t p v.core inside c.take_next-place.ensures.first in
     let P : Place → Type 0 = λ q. WorksTile k c.args.rows.now q c.args.at c.loop.hand c.diffuse_tile-hand.result c.loop.out c.diffuse_tile-hand.new.out in
     let tile = subst P is c.diffuse_tile-hand.ensures in
     let place : c.args.j * columns_of s + c.loop.counter + 1 ≡ c.args.j * columns_of s + (c.loop.counter + 1) = omega arith in
     let W : ℕ → Type 0 = λ n. IsWorkedTo s n c.give_all.new.core in
     record {
-      core = subst W place (worked_more s c.loop.counterore c.take_next-place.new.core c.give_all.new.core t p v.core inside c.take_next-place.ensures c.give_all.ensures);
+      core = subst W place (worked_more s c.loop.core c.take_next-place.new.core c.give_all.new.core t p v.core inside c.take_next-place.ensures c.give_all.ensures);
       room = tile.room;
       stays = stays_more c.args.rows.now c.args.at c.args.out.now c.loop.out c.diffuse_tile-hand.new.out v.stays
           (tile_stays c.args.rows.now c.args.at t c.loop.out c.diffuse_tile-hand.new.out tile.bits tile.puts);
@@ -80,7 +80,7 @@ pub returns-clause-band : goal.returns-clause-band
 returns-clause-band c =
     let v = c.loop.invariant in
     let k = table_of c.args.kernel in
-    let columns : c.columns-counter-end.result ≡ columns_across c.args.rows.now.width = c.columns-counter-end.ensures ∙ ap (λ (s : Shape). columns_of s) c.shape-shape.ensures.is in
+    let columns : c.columns-end.result ≡ columns_across c.args.rows.now.width = c.columns-end.ensures ∙ ap (λ (s : Shape). columns_of s) c.shape-shape.ensures.is in
     let all : columns_across c.args.rows.now.width ≤ c.loop.counter = omega arith in
     record {
       room = v.room;
@@ -92,23 +92,23 @@ returns-clause-band c =
 pub returns-clause-core : goal.returns-clause-core
 returns-clause-core c =
     let s : Shape = window_of c.args.rows.now in
-    let columns : c.columns-counter-end.result ≡ columns_of s = c.columns-counter-end.ensures ∙ ap (λ (r : Shape). columns_of r) c.shape-shape.ensures.is in
+    let columns : c.columns-end.result ≡ columns_of s = c.columns-end.ensures ∙ ap (λ (r : Shape). columns_of r) c.shape-shape.ensures.is in
     let all : c.loop.counter ≡ columns_of s = omega arith in
     let rows : c.args.j * columns_of s + c.loop.counter ≡ (c.args.j + 1) * columns_of s = omega (arith, all) in
-    let W : ℕ → Type 0 = λ n. IsWorkedTo s n c.loop.counterore in
+    let W : ℕ → Type 0 = λ n. IsWorkedTo s n c.loop.core in
     subst W rows c.loop.invariant.core
 
 -- what is known of the tile that was taken
 pub give_all-requires-clause-taken : goal.give_all-requires-clause-taken
 give_all-requires-clause-taken c =
     let s : Shape = window_of c.args.rows.now in
-    let columns : c.columns-counter-end.result ≡ columns_of s = c.columns-counter-end.ensures ∙ ap (λ (r : Shape). columns_of r) c.shape-shape.ensures.is in
-    (taken_up s c.loop.counterore c.take_next-place.new.core (record { c = c.loop.counter; j = c.args.j }) c.take_next-place.result c.loop.invariant.core
-    (tile_in c.args.rows.now c.args.j c.loop.counter c.columns-counter-end.result c.loop-test.true columns c.requires.band) c.take_next-place.ensures).taken
+    let columns : c.columns-end.result ≡ columns_of s = c.columns-end.ensures ∙ ap (λ (r : Shape). columns_of r) c.shape-shape.ensures.is in
+    (taken_up s c.loop.core c.take_next-place.new.core (record { c = c.loop.counter; j = c.args.j }) c.take_next-place.result c.loop.invariant.core
+    (tile_in c.args.rows.now c.args.j c.loop.counter c.columns-end.result c.loop-test.true columns c.requires.band) c.take_next-place.ensures).taken
 
 pub give_all-requires-clause-none : goal.give_all-requires-clause-none
 give_all-requires-clause-none c =
     let s : Shape = window_of c.args.rows.now in
-    let columns : c.columns-counter-end.result ≡ columns_of s = c.columns-counter-end.ensures ∙ ap (λ (r : Shape). columns_of r) c.shape-shape.ensures.is in
-    (taken_up s c.loop.counterore c.take_next-place.new.core (record { c = c.loop.counter; j = c.args.j }) c.take_next-place.result c.loop.invariant.core
-    (tile_in c.args.rows.now c.args.j c.loop.counter c.columns-counter-end.result c.loop-test.true columns c.requires.band) c.take_next-place.ensures).none
+    let columns : c.columns-end.result ≡ columns_of s = c.columns-end.ensures ∙ ap (λ (r : Shape). columns_of r) c.shape-shape.ensures.is in
+    (taken_up s c.loop.core c.take_next-place.new.core (record { c = c.loop.counter; j = c.args.j }) c.take_next-place.result c.loop.invariant.core
+    (tile_in c.args.rows.now c.args.j c.loop.counter c.columns-end.result c.loop-test.true columns c.requires.band) c.take_next-place.ensures).none
