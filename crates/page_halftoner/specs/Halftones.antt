@@ -46,7 +46,8 @@ abbrev pub plane_of : Halftoning → Ink → List (List ℕ) → Plane
 plane_of h ink lines = ink_plane (record { form = h.form; lines = lines }) (printer_of h.profile) ink
 
 -- An ink of a plane, of which some rows were diffused and some are held behind them.
-pub record IsUpTo (k : Table) (p : Plane) (i diffused held : ℕ) (planes : DotTable) (top : List (List (List ℤ))) (slab : AmountTable) : Type 0 where
+pub record IsUpTo (k : Table) (p : Plane) (i diffused held : ℕ) (planes : DotTable)
+    (top : List (List (List ℤ))) (slab : AmountTable) : Type 0 where
   -- the dots of the diffused rows
   pub dots : (y x : ℕ) → y < diffused → x < p.width → dot planes i y x ≡ on k p (errors k p no_top) y x
   -- while rows are left, the top has the errors of the last two diffused rows, 0 above the first

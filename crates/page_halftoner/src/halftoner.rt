@@ -99,8 +99,8 @@ impl Halftoner {
         })
     }
 
-    /// Takes a line of the page that stands so often. `Memory` comes where a slab can't be diffused for want of it, and
-    /// from then on.
+    /// Takes a line of the page that stands so often. `Memory` comes where a slab can't be diffused for want of it,
+    /// and from then on.
     pub fn lines(&mut self, line: &[u8], repeats: u32) -> Result<(), Memory>
         requires line { length line.now ≡ self.old.form.bytes_per_line }
         requires repeats { self.old.count + repeats ≤ self.old.form.height }
@@ -157,8 +157,8 @@ impl Halftoner {
         ensures page { IsSamePage self.old self.new }
         ensures count { OnOk result (self.new.count ≡ self.old.count + 1) }
         ensures line { self.new.line ≡ self.old.line }
-        ensures stands { (line : List ℕ) → HasAmountsOf self.old line → (lines : List (List ℕ)) → StandsFor self.old lines
-            → OnOk result (StandsFor self.new (lines ++ line ∷ [])) }
+        ensures stands { (line : List ℕ) → HasAmountsOf self.old line
+            → (lines : List (List ℕ)) → StandsFor self.old lines → OnOk result (StandsFor self.new (lines ++ line ∷ [])) }
         ensures working { OnOk result (self.new.failed ≡ self.old.failed) }
         ensures failed { OnErr result (self.new.failed ≡ true) }
     {

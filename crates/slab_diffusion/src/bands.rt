@@ -14,8 +14,8 @@ use dot_planes::{InkRows, Planes, TileDots};
 use tile_border::{Task, work};
 use tile_shape::Place;
 
-/// Diffuses band j below the edges at hand, and puts its dots into the planes, where the slab begins at row `at`. The
-/// bottom edges of its tiles are at hand then.
+/// Diffuses the tiles of band j, which are the next ready ones, below the edges at hand, and puts their dots into the
+/// planes, where the slab begins at row `at`. Their bottom edges are at hand then.
 pub(crate) fn diffuse_band(
     core: &mut Core,
     hand: Hand,
@@ -38,7 +38,7 @@ pub(crate) fn diffuse_band(
     let mut hand = hand;
     clear_right(&mut hand.right);
     cut_ends(hand.bottoms.at(0), &mut hand.corner);
-    for c in 0..shape.columns() {
+    for _ in 0..shape.columns() {
         let place = take_next(core);
         hand = diffuse_tile(hand, rows, kernel, place, out, at);
         give_all(core, shape, place);

@@ -9,8 +9,8 @@ use std::alloc::Global;
 use tile_border::{BottomEdge, CornerEdge, RightEdge, TopEdges};
 use weave_base::Memory;
 
-/// What is at hand while the tiles of a slab are diffused, band by band and in each from the left: the edges that tiles
-/// gave and that no tile took, and room for those of one tile more. A corner edge is the end of a bottom edge.
+/// What is at hand while the tiles of a slab are diffused, band by band and in each from the left: the edges that
+/// tiles gave and that no tile took, and room for those of one tile more. A corner edge is the end of a bottom edge.
 #[derive(Drop)]
 pub(crate) struct Hand {
     /// By columns: in the columns to come those of the band above, in the others those of this band.
@@ -79,8 +79,8 @@ pub(crate) fn cut_ends(edge: &BottomEdge, corner: &mut CornerEdge)
     }
 }
 
-/// Takes the edge above the tile in column c of a band, and leaves what it is taken into in its place. Right of the last
-/// column there is none, and it becomes 0.
+/// Takes the edge above the tile in column c of a band, and leaves in its place what it is taken into. Right of the
+/// last column there is none, and it becomes 0.
 pub(crate) fn take_above(bottoms: &mut TopEdges, columns: u32, c: u32, edge: &mut BottomEdge)
     requires columns { length bottoms.old ≡ columns }
     requires c { c < columns }
