@@ -18,27 +18,28 @@ fn list_gives_seventeen_lines(rt: HostRuntime) -> Result<(), Fail> {
 #[test]
 fn list_names_each_reader_fault(rt: HostRuntime) -> Result<(), Fail> {
     let alloc = rt.alloc();
-    let cases: [(&[u8], &str, usize, &str); 6] = [
-        (&JOB[..10], "most=99", 18, "job: offset 8: Cut\n"),
-        (&JOB[..11], "most=10", 18, "job: offset 10: TooLong\n"),
-        (&[0x1B, 0x41], "most=99", 0, "job: offset 1: Unknown\n"),
+    let two = "0 INIT\n2 GRAPHICS\n";
+    let cases: [(&[u8], &str, &str, &str); 6] = [
+        (&JOB[..10], "most=99", two, "job: offset 8: Cut\n"),
+        (&JOB[..11], "most=10", two, "job: offset 10: TooLong\n"),
+        (&[0x1B, 0x41], "most=99", "", "job: offset 1: Unknown\n"),
         (
             &[0x1B, 0x28, 0x47, 2, 0],
             "most=99",
-            0,
+            "",
             "job: offset 3: BadLength\n",
         ),
-        (&[0x1B, 0x72, 3], "most=99", 0, "job: offset 2: BadValue\n"),
+        (&[0x1B, 0x72, 3], "most=99", "", "job: offset 2: BadValue\n"),
         (
             &[0x1B, 0x2E, 1, 0x14, 0x0A, 3, 8, 0, 0x80],
             "most=99",
-            0,
+            "",
             "job: offset 8: RunCode\n",
         ),
     ];
-    for (job, most, len, line) in cases {
+    for (job, most, listed, line) in cases {
         let left = run_on(alloc, &["list", most], job, (3, 0), sink(alloc, 4096)?)?;
-        left.is(&rt, 8, &LISTING.as_bytes()[..len], line);
+        left.is(&rt, 8, listed.as_bytes(), line);
     }
     Ok(())
 }
