@@ -4,3 +4,6 @@
 mod gathered;
 
 pub use gathered::{Gathered, ROOM};
+
+#[cfg(test)]
+mod tests;

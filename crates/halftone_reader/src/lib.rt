@@ -4,3 +4,6 @@
 mod pages;
 
 pub use pages::{HalftonedPage, read_page};
+
+#[cfg(test)]
+mod tests;

@@ -6,3 +6,6 @@ mod sheets;
 
 pub use escp2_definitions::JobStop;
 pub use player::{PlayStop, play_job};
+
+#[cfg(test)]
+mod tests;

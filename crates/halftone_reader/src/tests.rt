@@ -1,0 +1,97 @@
+//! A page of one black line and one white line, and a stream that ends inside it.
+use crate::{HalftonedPage, read_page};
+use diffusion_kernel::Kernel;
+use printer_profile::{InkSet, Profile};
+use pwg_definitions::InputCause;
+use pwg_stream::{PageReader, StreamStop};
+use std::alloc::Global;
+use std::process::Abort;
+use std::test::Fail;
+use weave_base::MemSource;
+
+/// One nozzle, black alone, and no margins.
+const ONE: Profile = Profile {
+    hdpi: 360,
+    vdpi: 360,
+    nozzles: 1,
+    pitch: 1,
+    inks: InkSet::K,
+    black_start: 0,
+    limits: [255, 255, 255, 255],
+    left: 0,
+    right: 0,
+    top: 0,
+    bottom: 0,
+};
+
+/// What is not 0 in the numbers of a header for eight columns and two lines of grey, by places in a stream, in which the
+/// header begins at byte 4 (PWG 5102.4, section 4.3).
+const NUMBERS: [(usize, u8); 14] = [
+    (282, 1),
+    (283, 0x68),
+    (286, 1),
+    (287, 0x68),
+    (347, 1),
+    (379, 8),
+    (383, 2),
+    (391, 8),
+    (395, 8),
+    (399, 8),
+    (407, 18),
+    (427, 1),
+    (463, 1),
+    (467, 1),
+];
+
+/// The sync word, the header, and these bytes of lines.
+fn stream(alloc: Global, lines: &[u8]) -> Result<MemSource, Fail> {
+    let mut bytes = Vec::from_slice(alloc, b"RaS2PwgRaster")?;
+    bytes.resize(1800, 0)?;
+    for (place, number) in NUMBERS {
+        if let Some(at) = bytes.get_mut(place) {
+            *at = number;
+        }
+    }
+    bytes.extend_from_slice(lines)?;
+    Ok(MemSource::make(bytes, Vec::new(alloc), Vec::new(alloc)))
+}
+
+/// Reads the first page of a stream.
+fn read(
+    rt: &impl Abort,
+    alloc: Global,
+    mut s: MemSource,
+) -> Result<Result<Option<HalftonedPage>, StreamStop>, Fail> {
+    assert_eq!(rt; ONE.check(), Ok(()));
+    let Ok(mut reader) = PageReader::begin(alloc, &mut s) else {
+        return Err("no sync word")?;
+    };
+    Ok(read_page(alloc, &mut reader, &ONE, Kernel::Floyd, &mut s))
+}
+
+#[test]
+fn a_black_line_is_all_dots_and_a_white_line_none(rt: HostRuntime) -> Result<(), Fail> {
+    let s = stream(rt.alloc(), &[0, 7, 0x00, 0, 7, 0xFF])?;
+    let Ok(Some(page)) = read(&rt, rt.alloc(), s)? else {
+        assert!(rt; false);
+        return Ok(());
+    };
+    assert!(rt; page.planes.inks() == 1 && page.planes.rows() == 2);
+    assert_eq!(rt; page.planes.width(), 8);
+    assert_eq!(rt; page.planes.row(0, 0), [0xFF].as_slice());
+    assert_eq!(rt; page.planes.row(0, 1), [0].as_slice());
+    Ok(())
+}
+
+#[test]
+fn a_stream_that_ends_in_a_page_stops_at_its_line(rt: HostRuntime) -> Result<(), Fail> {
+    let s = stream(rt.alloc(), &[0, 7, 0x00])?;
+    let stop = read(&rt, rt.alloc(), s)?.err();
+    let cut = StreamStop::Input {
+        page: 1,
+        line: 2,
+        cause: InputCause::Truncated,
+    };
+    assert_eq!(rt; stop, Some(cut));
+    Ok(())
+}
