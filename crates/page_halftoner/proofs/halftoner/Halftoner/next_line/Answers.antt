@@ -66,6 +66,7 @@ invariant_of-self-2 c =
     let is_top = subst W (size.width ∙ v.slab_width) (subst I (size.inks ∙ v.slab_inks) done.is_top) in
     record {
       checked = v.checked;
+      black = v.black;
       wanted = v.wanted;
       few = omega (arith, c.requires.count, ap (λ (h : Halftoning). h.count) c.self.view_is, ap (λ (h : Halftoning). h.form.height) c.self.view_is);
       line_width = v.line_width;
