@@ -6,7 +6,7 @@ use crate::inks::InkErrors;
 use crate::stages::Stage;
 use diffusion_kernel::Kernel;
 use dot_planes::InkRows;
-use ink_separation::amounts;
+use ink_separation::{BlackTable, amounts_by};
 use printer_profile::Profile;
 use pwg_definitions::{Kind, MOST_COLUMNS, PageForm};
 use separation_definitions::Window;
@@ -62,17 +62,19 @@ impl Lines {
     }
 
     /// Takes a line that stands so often.
-    pub fn take(&mut self, profile: &Profile, line: &[u8], repeats: u32)
+    pub fn take(&mut self, profile: &Profile, black: &BlackTable, line: &[u8], repeats: u32)
         requires checked { IsOk (check profile.now) }
+        requires black { black.now ≡ profile.now.black_start }
     {
         for _ in 0..repeats {
-            self.take_once(profile, line);
+            self.take_once(profile, black, line);
         }
     }
 
     // Takes a line. One in the margins is counted alone.
-    fn take_once(&mut self, profile: &Profile, line: &[u8])
+    fn take_once(&mut self, profile: &Profile, black: &BlackTable, line: &[u8])
         requires checked { IsOk (check profile.now) }
+        requires black { black.now ≡ profile.now.black_start }
     {
         let window = self.page.window;
         let top = u64::from(window.top);
@@ -81,7 +83,14 @@ impl Lines {
         if self.stage == Stage::Read || !printed {
             return;
         }
-        separate(profile, self.page.form.kind, line, window, &mut self.row);
+        separate(
+            profile,
+            black,
+            self.page.form.kind,
+            line,
+            window,
+            &mut self.row,
+        );
         if self.stage == Stage::Rows {
             self.diffuse();
         }
@@ -110,16 +119,21 @@ impl Lines {
 }
 
 // Separates a line into the amounts of a row, where the row is as wide as the window and has the profile's inks.
-fn separate(profile: &Profile, kind: Kind, line: &[u8], window: Window, row: &mut InkRows)
+fn separate(
+    profile: &Profile,
+    black: &BlackTable,
+    kind: Kind,
+    line: &[u8],
+    window: Window,
+    row: &mut InkRows,
+)
     requires checked { IsOk (check profile.now) }
+    requires black { black.now ≡ profile.now.black_start }
 {
     let unit = if kind == Kind::Rgb8 { 3 } else { 1 };
     let inside = (window.left as usize + window.width as usize) * unit <= line.len();
-    if inside
-        && row.width() == window.width
-        && row.inks() == profile.inks.count()
-        && row.rows() > 0
-    {
-        amounts(profile, kind, line, window, 0, row);
+    let fits = row.width() == window.width && row.inks() == profile.inks.count();
+    if inside && fits && row.rows() > 0 {
+        amounts_by(profile, black, kind, line, window, 0, row);
     }
 }
