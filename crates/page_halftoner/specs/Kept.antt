@@ -1,5 +1,5 @@
 -- What stands in a halftoner.
-use Rattle.std.specs.Prelude.{◌≡◌, ℕ, ℤ, ◌+◌, ◌<◌, ◌≤◌, Bool, true, false, IsOk, List, [], Option, Some, None, length}
+use Rattle.std.specs.Prelude.{◌≡◌, ℤ, ◌+◌, ◌<◌, ◌≤◌, Bool, true, false, IsOk, List, [], Option, Some, None, length}
 use Rattle.printer_definitions.specs.Inks.{inks_of}
 use Rattle.printer_profile.specs.Profiles.{printer_of}
 use Rattle.printer_profile.specs.Validity.{check}
