@@ -1,19 +1,16 @@
 -- A raster that is not refused for its place.
-use Rattle.std.proofs.Common.{◌≡◌, ℕ, ◌+◌, ◌-◌, ◌*◌, ◌/◌, ◌%◌, ◌==◌, ◌<◌, ◌≤◌, Bool, true, false, not, ◌||◌, nat_le, nat_lt, List, [], ◌∷◌, ◌++◌, refl, ◌∙◌, sym, ap, arith}
+use Rattle.std.proofs.Common.{◌≡◌, ◌+◌, ◌-◌, ◌*◌, ◌/◌, ◌%◌, ◌==◌, ◌≤◌, false, not, ◌||◌, nat_le, nat_lt, List, [], ◌∷◌, ◌∙◌, sym, ap, arith}
 use Rattle.std.specs.Prelude.{None}
 use Rattle.std.specs.List.{list_any}
 use Rattle.std.proofs.lemmas.Bool.{eqb-true, le-ltb, not-false, or_parts}
 use Rattle.printer_definitions.specs.Printer.{Printer, column_step, nozzle_step, row_step}
 use Rattle.escp2_definitions.specs.declared.command.RasterHead.{RasterHead}
-use Rattle.escp2_definitions.specs.declared.command.Command.TheVariants as c
 use Rattle.escp2_definitions.specs.declared.stops.EmuFault.TheVariants.{NotGraphics, Density, Rows, OffGrid, OffSheet, Overprint}
 use Rattle.escp2_definitions.specs.Commands.{last_column}
-use Rattle.escp2_definitions.specs.Machine.{Machine, Refusal, bottom_margin, first_fault, from_top, is_off_grid, is_other_density, no_margins, no_unit, overprints, page_length, raster_dots, refusals, refuse, rows_dots}
+use Rattle.escp2_definitions.specs.Machine.{Machine, Refusal, bottom_margin, first_fault, from_top, is_off_grid, is_other_density, no_margins, no_unit, overprints, page_length, raster_dots, refuse, rows_dots}
 use Rattle.dot_emulator.specs.declared.firing.Raster.{Raster}
 use Rattle.dot_emulator.specs.declared.raster.Steps.{Steps}
-use Rattle.dot_emulator.specs.Firing.{Stands, fired}
-use Rattle.dot_emulator.specs.Places.{Placed, grid_of, late_refusals}
-use Rattle.dot_emulator.specs.Pages.{sheet_rows}
+use Rattle.dot_emulator.specs.Places.{Placed}
 use Rattle.dot_emulator.specs.States.{early_fault}
 use Rattle.dot_emulator.specs.Steps.{AreStepsOf}
 use Rattle.dot_emulator.proofs.Refusals.{NoneOf, div-mono, ends-at, multiple, none-of}
