@@ -1,6 +1,6 @@
 -- Tiles by their numbers, and which tile receives an edge. Direction 0 is right, 1 bottom, 2 corner. Direction 3 is a
 -- tile's dots, which no tile receives.
-use Rattle.std.specs.Prelude.{ℕ, zero, suc, ◌+◌, ◌-◌, ◌*◌, ◌/◌, ◌%◌, ◌&&◌, Bool, true, false, Option, Some, None, nat_lt}
+use Rattle.std.specs.Prelude.{◌≡◌, ◌≢◌, ◌<◌, ℕ, zero, suc, ◌+◌, ◌-◌, ◌*◌, ◌/◌, ◌%◌, ◌&&◌, Bool, true, false, Option, Some, None, nat_lt}
 use Rattle.tile_shape.specs.Geometry.{bands_of, columns_of}
 use Rattle.tile_shape.specs.declared.tiles.Place.{Place}
 use Rattle.tile_shape.specs.declared.tiles.Shape.{Shape}
@@ -11,6 +11,12 @@ pub record Graph : Type 0 where
   pub tiles : ℕ
   pub next : ℕ → ℕ → Option ℕ
   pub from : ℕ → ℕ → Option ℕ
+
+-- An edge has one receiver at most, which gets the edge of that direction from no other tile and is not the tile itself,
+-- and there are three directions.
+pub record IsGraph (G : Graph) : Type 0 where
+  pub there : (t d p : ℕ) → t < G.tiles → G.next t d ≡ Some p → (p < G.tiles) × (p ≢ t) × (d < 3) × (G.from p d ≡ Some t)
+  pub back : (p d t : ℕ) → p < G.tiles → G.from p d ≡ Some t → (t < G.tiles) × (d < 3) × (G.next t d ≡ Some p)
 
 abbrev pub only_if : Bool → ℕ → Option ℕ
 only_if true x = Some x

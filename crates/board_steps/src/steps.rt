@@ -1,7 +1,7 @@
 //! The atomic steps.
 ghost use Rattle.std.specs.Prelude.{◌≡◌, ◌<◌, ◌≤◌, None, [], ℕ};
 ghost use Rattle.board_steps.specs.Rule.{setting_of};
-ghost use Rattle.board_steps.specs.Steps.{IsReadyFor, Looked, MayPost, MaySend, Posted, SentTo, Took, index_of, joined_view, kept_view, new_view};
+ghost use Rattle.board_steps.specs.Steps.{IsReadyFor, Looked, MayPost, MaySend, Posted, SentTo, Took, bit_of, index_of, joined_view, kept_view, new_view};
 
 use crate::rule::{Cuts, Joins, Looks, Posts, Seated, Sends, Takes, Words};
 use tile_shape::Dir;
@@ -13,7 +13,9 @@ const TAKEN: u64 = 8;
 const POSTED: u64 = 16;
 
 // The bit that says that the edge of a direction has arrived.
-fn arrival_bit(dir: Dir) -> u64 {
+fn arrival_bit(dir: Dir) -> u64
+    ensures { result ≡ bit_of (index_of dir) }
+{
     match dir {
         Dir::Right => 1,
         Dir::Bottom => 2,
