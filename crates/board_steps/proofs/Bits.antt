@@ -36,7 +36,7 @@ module _ (a b c t p x : ℕ) (h : Bits a b c t p x) where
 
 -- ---- a word below 32 is one of 32
 
-every : ℕ → (ℕ → Bool) → Bool
+abbrev every : ℕ → (ℕ → Bool) → Bool
 every zero f = true
 every (suc n) f = f n && every n f
 
@@ -63,14 +63,14 @@ or-other a b c d e n = step (eqb a b) refl
     step false f = eqb-true c d (ap (λ (z : Bool). z || eqb c d) (sym f) ∙ e)
 
 -- a bit that is clear is added
-adds : ℕ → ℕ → Bool
+abbrev adds : ℕ → ℕ → Bool
 adds b x = eqb (x / b % 2) 1 || eqb (bit_or x b) (x + b)
 
 added : (b : ℕ) → every 32 (adds b) ≡ true → (x : ℕ) → x < 32 → x / b % 2 ≡ 0 → bit_or x b ≡ x + b
 added b all x near clear = or-other (x / b % 2) 1 (bit_or x b) (x + b) (each 32 (adds b) all x near) (λ e. omega arith)
 
 -- and one that stands stays
-stays : ℕ → Bool
+abbrev stays : ℕ → Bool
 stays x = eqb (x / 8 % 2) 0 || eqb (bit_or x 8) x
 
 pub or_taken : (a b c p x : ℕ) → Bits a b c 0 p x → bit_or x 8 ≡ x + 8

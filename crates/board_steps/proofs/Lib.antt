@@ -5,3 +5,5 @@ pub mod Slots
 pub mod Moves
 pub mod Learning
 pub mod Taking
+pub mod Grid
+pub mod Told

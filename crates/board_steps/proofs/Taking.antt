@@ -25,14 +25,14 @@ pub some_same : {a b : ℕ} → Some a ≡ Some b → a ≡ b
 some_same h = cc
 
 -- what is at home once tile t is taken
-record Emptied (B : Setting) (t : ℕ) (hs hs' : Row) : Type 0 where
+pub record Emptied (B : Setting) (t : ℕ) (hs hs' : Row) : Type 0 where
   own : (d : ℕ) → d < 4 → get_elem? hs' (4 * t + d) ≡ some none
   ins : (q d : ℕ) → q < B.graph.tiles → B.graph.next q d ≡ Some t → get_elem? hs' (4 * q + d) ≡ some none
   others : (q d : ℕ) → d < 4 → q ≢ t → ¬ (B.graph.next q d ≡ Some t) → get_elem? hs' (4 * q + d) ≡ get_elem? hs (4 * q + d)
   long : length hs' ≡ length hs
 
 -- how often tiles are listed, posted and sent once tile t is taken
-record Counted (L L' P P' : ℕ → ℕ) (S S' : ℕ → ℕ → ℕ) (t : ℕ) : Type 0 where
+pub record Counted (L L' P P' : ℕ → ℕ) (S S' : ℕ → ℕ → ℕ) (t : ℕ) : Type 0 where
   here : L' t ≡ L t + 1
   else : (q : ℕ) → q ≢ t → L' q ≡ L q
   sent : (d q : ℕ) → S' q d ≡ S q d

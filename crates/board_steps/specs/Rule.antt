@@ -36,7 +36,11 @@ one_if false = 0
 
 -- the slab that a spent view names
 abbrev pub no_slab : Slab
-no_slab = record { rows = record { value = record { width = 0; rows = 0; inks = 0; bytes = [] } }; kernel = Floyd; top = record { value = [] } }
+no_slab = record {
+  rows = record { marker = record {}; value = record { width = 0; rows = 0; inks = 0; bytes = [] } };
+  kernel = Floyd;
+  top = record { marker = record {}; value = [] };
+}
 
 -- what a join leaves of the other pass
 abbrev pub spent : View
