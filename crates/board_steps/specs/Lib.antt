@@ -1,0 +1,4 @@
+pub mod Graph
+pub mod Content
+pub mod Rule
+pub mod Steps
