@@ -5,5 +5,6 @@ pub mod Slots
 pub mod Moves
 pub mod Learning
 pub mod Taking
+pub mod Sending
 pub mod Grid
 pub mod Told
