@@ -6,5 +6,7 @@ pub mod Moves
 pub mod Learning
 pub mod Taking
 pub mod Sending
+pub mod Posting
+pub mod Passes
 pub mod Grid
 pub mod Told

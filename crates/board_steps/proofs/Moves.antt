@@ -1,6 +1,6 @@
 -- What every step needs to keep the rule.
 use Rattle.std.proofs.Common.{◌≡◌, ◌≢◌, ℕ, zero, suc, ◌+◌, ◌*◌, ◌<◌, ◌≤◌, inl, inr, ⊎_elim, List, [], ◌∷◌, length, get_or, set, refl, sym, ap, ◌∙◌, subst, arith, length-set, get_or-set_same, get_or-set_other, Option, Some, None}
-use mathlib.Core.Option.{some, none}
+use mathlib.Core.Option.{some, some-ne-none}
 use mathlib.Core.Option as maybe
 use mathlib.Core.Logic.{dite}
 use native.Mathlib.Decide.{ℕ_discrete}
@@ -18,6 +18,11 @@ use Rattle.board_steps.proofs.Totals.{total_same, all_sends_lists, all_posts_sen
 
 abbrev pub Row : Type 0
 Row = List (maybe.Option Cell)
+
+pub at_below : {X : Type 0} (l : List X) (i : ℕ) (x : X) → get_elem? l i ≡ some x → i < length l
+at_below [] i x e = absurd (some-ne-none x (sym e))
+at_below (y ∷ ys) zero x e = omega arith
+at_below (y ∷ ys) (suc i) x e = let r = at_below ys i x e in omega arith
 
 at_word : (ws : List ℕ) (i : ℕ) → i < length ws → get_elem? ws i ≡ some (get_or ws i 0)
 at_word [] i h = absurd (omega arith)
