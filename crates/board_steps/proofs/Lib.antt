@@ -10,3 +10,4 @@ pub mod Posting
 pub mod Passes
 pub mod Grid
 pub mod Told
+pub mod Ending

@@ -10,6 +10,15 @@ use Rattle.board_steps.specs.declared.rule.Cell.TheVariants.{Empty}
 use Rattle.board_steps.specs.Graph.{Graph}
 use Rattle.board_steps.specs.Rule.{Setting, setting_of, arrived, has, lists, posts, sends, Within}
 
+-- ---- the start
+
+-- the slots of so many tiles that wait
+abbrev pub fresh_slots : (ℕ → Cell) → ℕ → List Cell
+fresh_slots fresh zero = []
+fresh_slots fresh (suc n) = fresh_slots fresh n ++ fresh 0 ∷ fresh 1 ∷ fresh 2 ∷ fresh 3 ∷ []
+
+-- ---- directions
+
 -- the number of a direction
 abbrev pub index_of : Dir → ℕ
 index_of dir.Right = 0

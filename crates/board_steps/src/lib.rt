@@ -3,8 +3,10 @@
 //! function of `steps` is one step, which keeps the rule `Tiles`.
 #![tactic(auto)]
 
+mod ends;
 mod rule;
 mod steps;
 
+pub use ends::{BoardTable, close, open};
 pub use rule::{Cell, Seated, Slab, Tiles, View, Words};
 pub use steps::{cut, look, post, send, take, unite};
