@@ -5,46 +5,46 @@ use Rattle.std.proofs.lemmas.Bool.{ltb-true, lt-ltb}
 use Rattle.std.proofs.lemmas.Nat.{div-mul-add, mul-add-lt}
 use Rattle.board_steps.specs.Graph.{IsGraph, only_if, next_of, from_of, next_in, from_in}
 
-only-inv : (b : Bool) (x p : ℕ) → only_if b x ≡ Some p → (b ≡ true) × (x ≡ p)
+pub only-inv : (b : Bool) (x p : ℕ) → only_if b x ≡ Some p → (b ≡ true) × (x ≡ p)
 only-inv true x p e = (refl, cc)
 only-inv false x p e = absurd (cc)
 
-only-yes : (b : Bool) (x p : ℕ) → b ≡ true → x ≡ p → only_if b x ≡ Some p
+pub only-yes : (b : Bool) (x p : ℕ) → b ≡ true → x ≡ p → only_if b x ≡ Some p
 only-yes b x p e f = ap₂ only_if e f
 
-both : (a b : Bool) → (a && b) ≡ true → (a ≡ true) × (b ≡ true)
+pub both : (a b : Bool) → (a && b) ≡ true → (a ≡ true) × (b ≡ true)
 both true b e = (refl, e)
 both false b e = absurd (cc)
 
-and-yes : (a b : Bool) → a ≡ true → b ≡ true → (a && b) ≡ true
+pub and-yes : (a b : Bool) → a ≡ true → b ≡ true → (a && b) ≡ true
 and-yes a b e f = ap₂ (λ (x y : Bool). x && y) e f
 
 -- the tile t stands in the column c and the band j
-record At (C B c j t : ℕ) : Type 0 where
-  is : t ≡ j * C + c
-  column : c < C
-  band : j < B
+pub record At (C B c j t : ℕ) : Type 0 where
+  pub is : t ≡ j * C + c
+  pub column : c < C
+  pub band : j < B
 
-at-div : (C B c j t : ℕ) → At C B c j t → t / C ≡ j
+pub at-div : (C B c j t : ℕ) → At C B c j t → t / C ≡ j
 at-div C B c j t a = ap (λ (x : ℕ). x / C) a.is ∙ div-mul-add j C c a.column
 
-at-mod : (C B c j t : ℕ) → At C B c j t → t % C ≡ c
+pub at-mod : (C B c j t : ℕ) → At C B c j t → t % C ≡ c
 at-mod C B c j t a = let d = at-div C B c j t a in let e = div-add-mod' t C in let f = a.is in let g : t / C * C ≡ j * C = ap (λ (x : ℕ). x * C) d in let u : ℕ = t / C * C in let w : ℕ = j * C in let h : u ≡ w = g in let e' : u + t % C ≡ t = e in let f' : t ≡ w + c = f in omega arith
 
-at-below : (C B c j t : ℕ) → At C B c j t → t < B * C
+pub at-below : (C B c j t : ℕ) → At C B c j t → t < B * C
 at-below C B c j t a = let m = mul-add-lt j C c B a.band a.column in let f = a.is in let k = mul_comm C B in let u : ℕ = C * B in let w : ℕ = B * C in let x : ℕ = j * C in let k' : u ≡ w = k in let m' : x + c < u = m in let f' : t ≡ x + c = f in let g : t < w = omega arith in g
 
-at-of : (C B t : ℕ) → 0 < C → t < B * C → At C B (t % C) (t / C) t
+pub at-of : (C B t : ℕ) → 0 < C → t < B * C → At C B (t % C) (t / C) t
 at-of C B t pos near = record { is = sym (div-add-mod' t C); column = mod-lt t pos; band = (div-lt_iff_lt-mul pos).1 near }
 
-next-at : (C B c j t d : ℕ) → At C B c j t → next_in C B t d ≡ next_of C B c j t d
+pub next-at : (C B c j t d : ℕ) → At C B c j t → next_in C B t d ≡ next_of C B c j t d
 next-at C B c j t d a = ap₂ (λ (x y : ℕ). next_of C B x y t d) (at-mod C B c j t a) (at-div C B c j t a)
 
 from-at : (C B c j t d : ℕ) → At C B c j t → from_in C B t d ≡ from_of C B c j t d
 from-at C B c j t d a = ap₂ (λ (x y : ℕ). from_of C B x y t d) (at-mod C B c j t a) (at-div C B c j t a)
 
 -- one band on
-row-more : (C j : ℕ) → (j + 1) * C ≡ j * C + C
+pub row-more : (C j : ℕ) → (j + 1) * C ≡ j * C + C
 row-more C j = grind (arith)
 
 abbrev There : ℕ → ℕ → ℕ → ℕ → ℕ → Type 0

@@ -9,5 +9,8 @@ pub mod Sending
 pub mod Posting
 pub mod Passes
 pub mod Grid
+pub mod Places
+pub mod Wording
+pub mod Statuses
 pub mod Told
 pub mod Ending

@@ -21,7 +21,7 @@ Numbered-append a [] m h k = k
 Numbered-append a (x ∷ xs) m h k = (h.0, Numbered-append a xs m h.1 k)
 
 -- a view is cut in two
-total_cut : (f : View → ℕ) (views : List View) (id : ℕ) (v l k : View) → get_elem? views id ≡ some v → f l + f k ≡ f v → total f (set views id l ++ k ∷ []) ≡ total f views
+pub total_cut : (f : View → ℕ) (views : List View) (id : ℕ) (v l k : View) → get_elem? views id ≡ some v → f l + f k ≡ f v → total f (set views id l ++ k ∷ []) ≡ total f views
 total_cut f views id v l k at e = let a = total_snoc f (set views id l) k in let b = total_set f views id v l at in omega arith
 
 at_end : {A : Type 0} (l : List A) (a b : A) (j : ℕ) → get_elem? (l ++ a ∷ []) j ≡ some b → (get_elem? l j ≡ some b) ⊎ ((j ≡ length l) × (a ≡ b))
@@ -57,7 +57,7 @@ splits B id v parts first s r at =
     }
 
 -- one view takes in another
-total_join : (f : View → ℕ) (views : List View) (id other : ℕ) (v u w : View) → get_elem? views id ≡ some v → get_elem? (set views id w) other ≡ some u → f w ≡ f v + f u → f spent ≡ 0 → total f (set (set views id w) other spent) ≡ total f views
+pub total_join : (f : View → ℕ) (views : List View) (id other : ℕ) (v u w : View) → get_elem? views id ≡ some v → get_elem? (set views id w) other ≡ some u → f w ≡ f v + f u → f spent ≡ 0 → total f (set (set views id w) other spent) ≡ total f views
 total_join f views id other v u w at at' e z = let a = total_set f views id v w at in let b = total_set f (set views id w) other u spent at' in omega arith
 
 -- two views have no more parts than all

@@ -18,10 +18,10 @@ use Rattle.board_steps.proofs.Moves.{mine}
 use Rattle.board_steps.proofs.Learning.{looks}
 use Rattle.board_steps.proofs.Taking.{takes_step}
 use Rattle.board_steps.proofs.Sending.{sends_step}
-use Rattle.board_steps.proofs.Grid.{grid}
+use Rattle.board_steps.proofs.Places.{window_graph}
 
 pub lawful : (b : Slab) → IsGraph (setting_of b).graph
-lawful b = grid (columns_of (window_of b.rows.value)) (bands_of (window_of b.rows.value)) (let w : ℕ = b.rows.value.width in omega arith)
+lawful b = window_graph (window_of b.rows.value)
 
 -- what the step tells of the rule's slab it tells of the view's, which is the same
 by_view : (b : Slab) (k id : ℕ) (me : Me Cell View) (t : ℕ) (f : ℕ → ℕ) (then : Slab → ℕ → Me Cell View → Type 0) → 1 ≤ me.0.parts

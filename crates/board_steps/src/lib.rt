@@ -4,6 +4,7 @@
 #![tactic(auto)]
 
 mod ends;
+pub mod laws;
 mod rule;
 mod steps;
 
