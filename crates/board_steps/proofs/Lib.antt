@@ -12,5 +12,11 @@ pub mod Grid
 pub mod Places
 pub mod Wording
 pub mod Statuses
+pub mod Showing
+pub mod Events
+pub mod TakeEvents
+pub mod SendEvents
+pub mod PostEvents
+pub mod OtherSteps
 pub mod Told
 pub mod Ending

@@ -20,12 +20,12 @@ use Rattle.board_steps.proofs.Wording.{total_two}
 -- a view that does not list the tile says nothing of it
 posted_none : (t : ℕ) (l : List (ℕ × ℕ)) (z : Status) → times t l ≡ 0 → posted_status t l z ≡ z
 posted_none t [] z e = refl
-posted_none t (x ∷ xs) z e = step (eqb x.0 t) refl
+posted_none t (x ∷ xs) z e = step (eqb x.0 t) refl (posted_none t xs z)
   where
-    step : (b : Bool) → eqb x.0 t ≡ b → cond (eqb x.0 t) (Posted x.1) (posted_status t xs z) ≡ z
-    step true f = let o : one_if (eqb x.0 t) ≡ 1 = ap one_if f in absurd (omega arith)
-    step false f = let o : one_if (eqb x.0 t) ≡ 0 = ap one_if f in
-        ap (λ (b : Bool). cond b (Posted x.1) (posted_status t xs z)) f ∙ posted_none t xs z (omega arith)
+    step : (b : Bool) → eqb x.0 t ≡ b → (times t xs ≡ 0 → posted_status t xs z ≡ z) → cond (eqb x.0 t) (Posted x.1) (posted_status t xs z) ≡ z
+    step true f rest = let o : one_if (eqb x.0 t) ≡ 1 = ap one_if f in absurd (omega arith)
+    step false f rest = let o : one_if (eqb x.0 t) ≡ 0 = ap one_if f in
+        ap (λ (b : Bool). cond b (Posted x.1) (posted_status t xs z)) f ∙ rest (omega arith)
 
 held_none : (t : ℕ) (o : Option ℕ) → is_held t o ≡ 0 → holds t o ≡ false
 held_none t None e = refl
