@@ -1,18 +1,10 @@
 -- Two states of the board, one step of a pass apart, and the cores that they show.
-use Rattle.std.proofs.Common.{◌≡◌, ◌≢◌, ℕ, zero, suc, ◌+◌, ◌<◌, ◌≤◌, eqb, Bool, true, false, List, [], ◌∷◌, ◌++◌, set, refl, sym, ap, ◌∙◌, subst, arith, Option, Some, None}
-use mathlib.Core.Option.{some}
-use mathlib.Core.Logic.{dite}
-use native.Mathlib.Decide.{ℕ_discrete}
-use lib.ListN.{get_elem?}
+use Rattle.std.proofs.Common.{◌≡◌, ◌≢◌, ℕ, ◌<◌, ◌≤◌, eqb, true, false, set, refl, sym, ap, ◌∙◌, arith, Option, Some}
 use Rattle.atomic_table.specs.Table.{State}
-use Rattle.atomic_table.proofs.Lists.{set_here, set_else}
-use Rattle.board_core.specs.States.{IsTakenBy, has_sent, IsWaiting, sent, tile_at}
-use Rattle.board_core.specs.Steps.{Applies, Gives, IsAccepted, with_sent}
-use Rattle.board_core.specs.declared.events.CoreFault.{CoreFault}
-use Rattle.board_core.specs.declared.events.CoreFault.TheVariants as fault
-use Rattle.board_core.specs.declared.events.Event.TheVariants as event
+use Rattle.board_core.specs.States.{IsTakenBy, has_sent, sent, tile_at}
+use Rattle.board_core.specs.Steps.{Gives, with_sent}
 use Rattle.board_core.specs.declared.tiles.Status.{Status}
-use Rattle.board_core.specs.declared.tiles.Status.TheVariants.{Waiting, Taken, Posted}
+use Rattle.board_core.specs.declared.tiles.Status.TheVariants.{Waiting, Taken}
 use Rattle.board_core.specs.declared.tiles.TileState.{TileState}
 use Rattle.tile_lanes.specs.Done.{window_of}
 use Rattle.tile_shape.specs.Geometry.{IsTile}
@@ -23,17 +15,15 @@ use Rattle.tile_shape.specs.declared.tiles.Shape.{Shape}
 use Rattle.board_steps.specs.declared.rule.View.{View}
 use Rattle.board_steps.specs.declared.rule.Slab.{Slab}
 use Rattle.board_steps.specs.declared.rule.Cell.{Cell}
-use Rattle.board_steps.specs.Graph.{Graph, IsGraph, number_of}
-use Rattle.board_steps.specs.Rule.{setting_of, Ruled, has, lists, sends, spent, total}
-use Rattle.board_steps.specs.Shown.{IsEvent, Joins, Moves, Splits, has_come, shown, shown_tile, status}
-use Rattle.board_steps.specs.Steps.{AllSent, index_of, joined_view, kept_view, looked, new_view, posted_view, sent_view, taken}
-use Rattle.board_steps.proofs.Totals.{total_same, total_more, total_at, all_sends_lists}
-use Rattle.board_steps.proofs.Views.{looked_sends, takes_here, takes_sends, send_here, send_else, send_other, send_lists, sent_sends, held_lists, one_same, post_lists, post_sends_sent, post_sends_else, cut_sends, joined_sends, spent_sends}
-use Rattle.board_steps.proofs.Passes.{total_cut, total_join}
-use Rattle.board_steps.proofs.Moves.{at_below}
-use Rattle.board_steps.proofs.Places.{gives_next, number_below, same_number, window_graph}
-use Rattle.board_steps.proofs.Statuses.{status_none, status_same, status_snoc, status_new, status_only, taken_own, taken_else, looked_own, sent_own, held_own, posted_own, posted_else, kept_own, new_own, joined_status}
-use Rattle.board_steps.proofs.Showing.{given, flag, flag_same, sent_is, tile_is, shown_same, shown_set}
+use Rattle.board_steps.specs.Graph.{Graph, number_of}
+use Rattle.board_steps.specs.Rule.{setting_of, lists, sends, total}
+use Rattle.board_steps.specs.Shown.{Moves, has_come, shown, shown_tile, status}
+use Rattle.board_steps.specs.Steps.{index_of}
+use Rattle.board_steps.proofs.Totals.{total_same}
+use Rattle.board_steps.proofs.Views.{held_lists, one_same}
+use Rattle.board_steps.proofs.Places.{gives_next, number_below}
+use Rattle.board_steps.proofs.Statuses.{status_only, held_own}
+use Rattle.board_steps.proofs.Showing.{given, sent_is, tile_is}
 
 pub true_false : true ≢ false
 true_false e = cc
@@ -126,4 +116,3 @@ module _ (b : Slab) (s s' : State Cell View) (id : ℕ) (v w : View) (m : Moves 
   held_status p tile held =
       let t : ℕ = number_of shape p in let hl = held_lists v t held t in let os = one_same t in
       status_is p (Taken v.number) tile (status_only t s.views id v m.at (few t (number_below shape p tile)) (omega arith) ∙ held_own v t Waiting held)
-

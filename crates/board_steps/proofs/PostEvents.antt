@@ -1,40 +1,33 @@
 -- A post is the core's event.
-use Rattle.std.proofs.Common.{◌≡◌, ◌≢◌, ℕ, zero, suc, ◌+◌, ◌<◌, ◌≤◌, eqb, Bool, true, false, List, [], ◌∷◌, ◌++◌, set, refl, sym, ap, ◌∙◌, subst, arith, Option, Some, None}
-use mathlib.Core.Option.{some}
+use Rattle.std.proofs.Common.{◌≡◌, ℕ, ◌<◌, true, List, set, sym, ap, ◌∙◌, subst, arith, Some}
 use mathlib.Core.Logic.{dite}
 use native.Mathlib.Decide.{ℕ_discrete}
-use lib.ListN.{get_elem?}
 use Rattle.atomic_table.specs.Table.{State}
-use Rattle.atomic_table.proofs.Lists.{set_here, set_else}
-use Rattle.board_core.specs.States.{IsTakenBy, has_sent, IsWaiting, sent, tile_at}
-use Rattle.board_core.specs.Steps.{Applies, Gives, IsAccepted, with_sent}
-use Rattle.board_core.specs.declared.events.CoreFault.{CoreFault}
+use Rattle.atomic_table.proofs.Lists.{set_here}
+use Rattle.board_core.specs.States.{sent}
+use Rattle.board_core.specs.Steps.{Gives, IsAccepted}
 use Rattle.board_core.specs.declared.events.CoreFault.TheVariants as fault
 use Rattle.board_core.specs.declared.events.Event.TheVariants as event
-use Rattle.board_core.specs.declared.tiles.Status.{Status}
-use Rattle.board_core.specs.declared.tiles.Status.TheVariants.{Waiting, Taken, Posted}
+use Rattle.board_core.specs.declared.tiles.Status.TheVariants.{Waiting, Posted}
 use Rattle.board_core.specs.declared.tiles.TileState.{TileState}
 use Rattle.tile_lanes.specs.Done.{window_of}
 use Rattle.tile_shape.specs.Geometry.{IsTile}
 use Rattle.tile_shape.specs.declared.tiles.Dir.{Dir}
-use Rattle.tile_shape.specs.declared.tiles.Dir.TheVariants.{Right, Bottom, Corner}
 use Rattle.tile_shape.specs.declared.tiles.Place.{Place}
-use Rattle.tile_shape.specs.declared.tiles.Shape.{Shape}
 use Rattle.board_steps.specs.declared.rule.View.{View}
 use Rattle.board_steps.specs.declared.rule.Slab.{Slab}
 use Rattle.board_steps.specs.declared.rule.Cell.{Cell}
-use Rattle.board_steps.specs.Graph.{Graph, IsGraph, number_of}
-use Rattle.board_steps.specs.Rule.{setting_of, Ruled, has, lists, sends, spent, total}
-use Rattle.board_steps.specs.Shown.{IsEvent, Joins, Moves, Splits, has_come, shown, shown_tile, status}
-use Rattle.board_steps.specs.Steps.{AllSent, index_of, joined_view, kept_view, looked, new_view, posted_view, sent_view, taken}
-use Rattle.board_steps.proofs.Totals.{total_same, total_more, total_at, all_sends_lists}
-use Rattle.board_steps.proofs.Views.{looked_sends, takes_here, takes_sends, send_here, send_else, send_other, send_lists, sent_sends, held_lists, one_same, post_lists, post_sends_sent, post_sends_else, cut_sends, joined_sends, spent_sends}
-use Rattle.board_steps.proofs.Passes.{total_cut, total_join}
+use Rattle.board_steps.specs.Graph.{number_of}
+use Rattle.board_steps.specs.Rule.{setting_of, lists, sends, total}
+use Rattle.board_steps.specs.Shown.{IsEvent, Moves, shown, status}
+use Rattle.board_steps.specs.Steps.{AllSent, index_of, posted_view}
+use Rattle.board_steps.proofs.Totals.{total_at, all_sends_lists}
+use Rattle.board_steps.proofs.Views.{sent_sends, held_lists, one_same, post_lists, post_sends_sent, post_sends_else}
 use Rattle.board_steps.proofs.Moves.{at_below}
-use Rattle.board_steps.proofs.Places.{gives_next, number_below, same_number, window_graph}
-use Rattle.board_steps.proofs.Statuses.{status_none, status_same, status_snoc, status_new, status_only, taken_own, taken_else, looked_own, sent_own, held_own, posted_own, posted_else, kept_own, new_own, joined_status}
-use Rattle.board_steps.proofs.Showing.{given, flag, flag_same, sent_is, tile_is, shown_same, shown_set}
-use Rattle.board_steps.proofs.Events.{true_false, index_same, flag_of, tile_by, sum_after, sum_same, few, few_after, is_sent, not_sent, status_is, held_status}
+use Rattle.board_steps.proofs.Places.{gives_next, number_below}
+use Rattle.board_steps.proofs.Statuses.{status_same, status_only, posted_own, posted_else}
+use Rattle.board_steps.proofs.Showing.{flag_same, tile_is, shown_set}
+use Rattle.board_steps.proofs.Events.{true_false, sum_same, few, few_after, is_sent, held_status}
 
 module _ (b : Slab) (s s' : State Cell View) (id : ℕ) (v : View) (p : Place) (tile : IsTile (window_of b.rows.value) p)
     (held : v.held ≡ Some (number_of (window_of b.rows.value) p)) (done : AllSent (setting_of b).graph (number_of (window_of b.rows.value) p) v)
@@ -82,12 +75,11 @@ module _ (b : Slab) (s s' : State Cell View) (id : ℕ) (v : View) (p : Place) (
       record {
         accepted = post_accepted;
         is = shown_set b s s' m.before m.after p _ tile (λ i. record {
-              status = (ap (status t) m.views ∙ posted_status_is) i;
-              right = (flag_same b s s' m.before m.after t 0 near (posts_stay t 0) ∙ ap (λ (x : TileState). x.right) at) i;
-              bottom = (flag_same b s s' m.before m.after t 1 near (posts_stay t 1) ∙ ap (λ (x : TileState). x.bottom) at) i;
-              corner = (flag_same b s s' m.before m.after t 2 near (posts_stay t 2) ∙ ap (λ (x : TileState). x.corner) at) i;
-            })
+          status = (ap (status t) m.views ∙ posted_status_is) i;
+          right = (flag_same b s s' m.before m.after t 0 near (posts_stay t 0) ∙ ap (λ (x : TileState). x.right) at) i;
+          bottom = (flag_same b s s' m.before m.after t 1 near (posts_stay t 1) ∙ ap (λ (x : TileState). x.bottom) at) i;
+          corner = (flag_same b s s' m.before m.after t 2 near (posts_stay t 2) ∙ ap (λ (x : TileState). x.corner) at) i;
+        })
             (λ n _ ne. ap (status n) m.views ∙ status_same n s.views id v w m.at (posted_else v t n held ne))
             (λ n d ne. posts_stay n d);
       }
-

@@ -1,25 +1,21 @@
 -- The core that a state shows, tile by tile.
-use Rattle.std.proofs.Common.{◌≡◌, ◌≢◌, ℕ, zero, suc, ◌+◌, ◌*◌, ◌/◌, ◌%◌, ◌<◌, ◌≤◌, eqb, Bool, true, false, List, [], ◌∷◌, get_or, set, refl, sym, ap, ap₂, ◌∙◌, arith, Option, Some, None}
-use mathlib.Core.Option.{some}
-use Rattle.std.specs.Prelude.{slice_index, slice_index_or, slice_set}
+use Rattle.std.proofs.Common.{◌≡◌, ◌≢◌, ℕ, zero, suc, ◌+◌, ◌<◌, ◌≤◌, eqb, Bool, false, List, ◌∷◌, get_or, set, refl, sym, ap, ap₂, ◌∙◌, arith, Option, Some, None}
 use Rattle.atomic_table.specs.Table.{State}
-use Rattle.board_core.specs.States.{CoreState, fresh, has_sent, number, sent, tile_at}
+use Rattle.board_core.specs.States.{fresh, sent, tile_at}
 use Rattle.board_core.specs.Steps.{with_tile}
-use Rattle.board_core.specs.declared.tiles.Status.{Status}
 use Rattle.board_core.specs.declared.tiles.TileState.{TileState}
 use Rattle.tile_lanes.specs.Done.{window_of}
 use Rattle.tile_shape.specs.Geometry.{IsTile}
 use Rattle.tile_shape.specs.declared.tiles.Dir.{Dir}
 use Rattle.tile_shape.specs.declared.tiles.Dir.TheVariants.{Right, Bottom, Corner}
 use Rattle.tile_shape.specs.declared.tiles.Place.{Place}
-use Rattle.tile_shape.specs.declared.tiles.Shape.{Shape}
 use Rattle.board_steps.specs.declared.rule.View.{View}
 use Rattle.board_steps.specs.declared.rule.Slab.{Slab}
 use Rattle.board_steps.specs.declared.rule.Cell.{Cell}
 use Rattle.board_steps.specs.Graph.{Graph, IsGraph, number_of}
-use Rattle.board_steps.specs.Rule.{Setting, setting_of, Ruled, lists, sends, total}
+use Rattle.board_steps.specs.Rule.{setting_of, Ruled, sends, total}
 use Rattle.board_steps.specs.Shown.{each, has_come, shown, shown_tile, status}
-use Rattle.board_steps.specs.Steps.{bit_of, index_of}
+use Rattle.board_steps.specs.Steps.{index_of}
 use Rattle.board_steps.proofs.Places.{number_below, window_graph}
 use Rattle.board_steps.proofs.Wording.{edge_bit}
 

@@ -1,5 +1,5 @@
 -- The fetch-or of 8 keeps the rule.
-use Rattle.std.proofs.Common.{◌≡◌, ◌≢◌, ℕ, ◌+◌, ◌*◌, ◌<◌, ◌≤◌, inl, inr, lit<, lit≤, le_refl, zero-le, List, [], ◌∷◌, ◌++◌, length, set, refl, sym, ap, ◌∙◌, subst, arith, bit_or, length-set, get_or-set_same, get_or-set_other, Option, Some, None}
+use Rattle.std.proofs.Common.{◌≡◌, ◌≢◌, ℕ, ◌+◌, ◌*◌, ◌<◌, ◌≤◌, inl, inr, lit<, lit≤, le_refl, zero-le, List, [], ◌++◌, length, set, refl, sym, ap, ◌∙◌, subst, arith, bit_or, length-set, get_or-set_same, get_or-set_other, Option, Some, None}
 use mathlib.Core.Option.{some, none}
 use mathlib.Core.Logic.{dite}
 use native.Mathlib.Decide.{ℕ_discrete}
@@ -9,7 +9,7 @@ use Rattle.atomic_table.specs.Table.{State, Me, Allows, keeps}
 use Rattle.board_steps.specs.declared.rule.View.{View}
 use Rattle.board_steps.specs.declared.rule.Cell.{Cell}
 use Rattle.board_steps.specs.Graph.{IsGraph}
-use Rattle.board_steps.specs.Rule.{Setting, arrived, posts, sends, lists, total, Within, Inner, EdgeIs, TileOk, Ruled}
+use Rattle.board_steps.specs.Rule.{Setting, arrived, posts, sends, lists, total, Within, EdgeIs, TileOk, Ruled}
 use Rattle.board_steps.specs.Steps.{looked, taken, incoming, hand_in, HasNeeds, IsReadyFor, TookIn}
 use Rattle.board_steps.proofs.Bits.{Bits, bit_a, bit_b, bit_c, bit_t, or_taken, or_taken_again, Within-bits}
 use Rattle.board_steps.proofs.Totals.{total_same, total_more, all_sends_lists, all_posts_sends}

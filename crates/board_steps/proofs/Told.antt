@@ -1,11 +1,8 @@
 -- Each step on a board of a slab, told of the slab that the view names.
-use Rattle.std.proofs.Common.{◌≡◌, ℕ, ◌+◌, ◌*◌, ◌/◌, ◌<◌, ◌≤◌, [], zero, suc, refl, sym, ap, subst, arith, bit_or, None}
-use Rattle.std.proofs.lemmas.Nat.{div-mul-add}
-use Rattle.std.specs.Int.{div_ceil}
+use Rattle.std.proofs.Common.{◌≡◌, ℕ, ◌<◌, ◌≤◌, [], zero, suc, refl, sym, subst, arith, bit_or, None}
 use Rattle.std.specs.Prelude.{slice_index}
 use Rattle.atomic_table.specs.Table.{Me, Allows, carried_after}
 use Rattle.tile_lanes.specs.Done.{window_of}
-use Rattle.tile_shape.specs.Geometry.{columns_of, bands_of}
 use Rattle.tile_shape.specs.declared.tiles.Dir.{Dir}
 use Rattle.tile_shape.specs.declared.tiles.Dir.TheVariants.{Right, Bottom, Corner}
 use Rattle.board_steps.specs.declared.rule.View.{View}

@@ -10,8 +10,8 @@ use Rattle.board_steps.specs.declared.rule.View.{View}
 use Rattle.board_steps.specs.declared.rule.Slab.{Slab}
 use Rattle.board_steps.specs.declared.rule.Cell.{Cell}
 use Rattle.board_steps.specs.Graph.{IsGraph}
-use Rattle.board_steps.specs.Clauses.{Lists, HasSent, SomeView, WordClauses, OwnClauses, EdgeClauses, ViewClauses, Clauses}
-use Rattle.board_steps.specs.Rule.{Setting, setting_of, arrived, has, is_held, is_sent, times, lists, posts, sends, spent, total, EdgeIs, ViewOk, Ruled}
+use Rattle.board_steps.specs.Clauses.{Lists, HasSent, WordClauses, OwnClauses, EdgeClauses, ViewClauses, Clauses}
+use Rattle.board_steps.specs.Rule.{Setting, setting_of, arrived, has, is_held, is_sent, lists, posts, sends, spent, total, EdgeIs, ViewOk, Ruled}
 use Rattle.board_steps.specs.Steps.{bit_of}
 use Rattle.board_steps.proofs.Bits.{bit_a, bit_b, bit_c, bit_t, bit_p, small}
 use Rattle.board_steps.proofs.Totals.{total_at, all_sends_lists, all_posts_sends}

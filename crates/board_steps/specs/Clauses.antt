@@ -1,10 +1,9 @@
 -- The rule of the board in plain words, clause by clause.
-use Rattle.std.specs.Prelude.{◌≡◌, ◌≢◌, ℕ, ◌+◌, ◌*◌, ◌/◌, ◌%◌, ◌<◌, ◌≤◌, ◌⊎◌, true, List, length, Option, Some, None, slice_index}
+use Rattle.std.specs.Prelude.{◌≡◌, ◌≢◌, ℕ, ◌+◌, ◌*◌, ◌/◌, ◌%◌, ◌<◌, ◌≤◌, ◌⊎◌, true, length, Some, None, slice_index}
 use mathlib.Core.Option.{some, none}
 use lib.ListN.{get_elem?}
 use Rattle.atomic_table.specs.Table.{State}
 use Rattle.board_steps.specs.declared.rule.View.{View}
-use Rattle.board_steps.specs.declared.rule.Slab.{Slab}
 use Rattle.board_steps.specs.declared.rule.Cell.{Cell}
 use Rattle.board_steps.specs.Rule.{Setting, Home, Numbered, has, spent, times, total}
 use Rattle.board_steps.specs.Steps.{KnewIn, bit_of}

@@ -1,4 +1,4 @@
-use Rattle.std.proofs.Common.{rules, ◌∙◌, ◌≡◌, length, ap}
+use Rattle.std.proofs.Common.{rules}
 use Rattle.board_steps.proofs.Ending.{opened, opened_slots}
 use Rattle.board_steps.proofs.ends.open.Goals as goal
 
