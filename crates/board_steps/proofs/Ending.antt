@@ -30,7 +30,8 @@ closes B id v ws ys fin all =
     record {
       once = λ t h. (counts t h).0;
       gives = λ t d h small none. home (4 * t + d) (B.content t d)
-          ((subst (EdgeIs (λ q. total (lists q) s.views) (λ q. total (posts q) s.views) (total (sends t d) s.views) (B.fresh d) (B.content t d)
+          ((subst (EdgeIs (λ q. total (lists q) s.views)
+          (λ q. total (posts q) s.views) (total (sends t d) s.views) (B.fresh d) (B.content t d)
           (get_elem? s.homes (4 * t + d)) t) none ((r.tiles t h).edges d small)).done (counts t h).1);
     }
 
@@ -92,10 +93,12 @@ opens B =
     let n : ℕ = B.graph.tiles in let v : View = first_view B.slab in let vs : List View = v ∷ [] in
     let hs : Row = map some (fresh_slots B.fresh n) in
     let l : (t : ℕ) → total (lists t) vs ≡ 0 = λ t. only_total (lists t) v (first_lists B.slab t) in
-    let s : (t d : ℕ) → total (sends t d) vs ≡ 0 = λ t d. only_total (sends t d) v (let a = sends_lists t d v in let b = first_lists B.slab t in omega arith) in
+    let s : (t d : ℕ) → total (sends t d) vs ≡ 0 = λ t d. only_total (sends t d) v (let a = sends_lists t d v in
+    let b = first_lists B.slab t in omega arith) in
     let p : (t : ℕ) → total (posts t) vs ≡ 0 = λ t. only_total (posts t) v
     (let a = posts_sends t 0 v in let b = sends_lists t 0 v in let c = first_lists B.slab t in omega arith) in
-    let a : (d : ℕ) (o : Option ℕ) → arrived (λ q. total (sends q d) vs) o ≡ 0 = λ d o. none_arrived (λ q. total (sends q d) vs) (λ q. s q d) o in
+    let a : (d : ℕ) (o : Option ℕ) → arrived (λ q. total (sends q d) vs) o ≡ 0 = λ d o. none_arrived (λ q. total (sends q d) vs)
+    (λ q. s q d) o in
     record {
       wide = length-replicate n 0;
       roomy = length-map (fresh_slots B.fresh n) some ∙ fresh_long B.fresh n;
@@ -105,7 +108,8 @@ opens B =
         once = omega arith;
         needs = λ d q e. omega arith;
         edges = λ d small. edge (λ q. total (lists q) vs) (λ q. total (posts q) vs) (total (sends t d) vs) (B.fresh d) (B.content t d)
-            (get_elem? hs (4 * t + d)) t l p (s t d) (at_mapped (fresh_slots B.fresh n) (4 * t + d) (B.fresh d) (fresh_at B.fresh n t d near small)) (B.graph.next t d);
+            (get_elem? hs (4 * t + d)) t l p (s t d) (at_mapped (fresh_slots B.fresh n) (4 * t + d) (B.fresh d)
+            (fresh_at B.fresh n t d near small)) (B.graph.next t d);
       };
       parts = first_parts B.slab;
       views = λ k u e. first k u e;
@@ -127,14 +131,16 @@ opens B =
       done = λ i. absurd (omega arith);
     }
 
-    first : (k : ℕ) (u : View) → get_elem? (first_view B.slab ∷ []) k ≡ some u → (u ≡ spent) ⊎ ViewOk B.slab (replicate B.graph.tiles 0) 1 k u
+    first : (k : ℕ) (u : View) → get_elem? (first_view B.slab ∷ []) k ≡ some u
+        → (u ≡ spent) ⊎ ViewOk B.slab (replicate B.graph.tiles 0) 1 k u
     first zero u e = inr (subst (ViewOk B.slab (replicate B.graph.tiles 0) 1 0) (some-injective _ _ e)
         record { number = refl; made = λ _. refl; board = refl; some_part = lit≤ tt; numbers = tt; sees = tt })
     first (suc k) u e = absurd (some-ne-none u (sym e))
 
 pub opened : (b : Slab) (ws : List ℕ) (ss : List Cell) → ws ≡ replicate (setting_of b).graph.tiles 0
     → ss ≡ fresh_slots (setting_of b).fresh (setting_of b).graph.tiles → Ruled (setting_of b) (opening ws ss (first_view b))
-opened b ws ss f g = subst (λ (z : List ℕ × List Cell). Ruled (setting_of b) (opening z.0 z.1 (first_view b))) (λ i. (sym f i, sym g i)) (opens (setting_of b))
+opened b ws ss f g = subst (λ (z : List ℕ × List Cell). Ruled (setting_of b) (opening z.0 z.1 (first_view b)))
+    (λ i. (sym f i, sym g i)) (opens (setting_of b))
 
 pub opened_slots : (b : Slab) (ss : List Cell) (n : ℕ) → n ≡ length ss → ss ≡ fresh_slots (setting_of b).fresh (setting_of b).graph.tiles
     → n ≡ 4 * (setting_of b).graph.tiles

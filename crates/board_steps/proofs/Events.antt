@@ -41,7 +41,8 @@ index_same Bottom Corner e = absurd (omega arith)
 index_same Corner Right e = absurd (omega arith)
 index_same Corner Bottom e = absurd (omega arith)
 
-pub flag_of : (G : Graph) (s : State Cell View) (t : ℕ) (d : Dir) → has_sent (shown_tile G s t) d ≡ has_come s.words (index_of d) (G.next t (index_of d))
+pub flag_of : (G : Graph) (s : State Cell View) (t : ℕ) (d : Dir)
+    → has_sent (shown_tile G s t) d ≡ has_come s.words (index_of d) (G.next t (index_of d))
 flag_of G s t Right = refl
 flag_of G s t Bottom = refl
 flag_of G s t Corner = refl
@@ -100,12 +101,16 @@ module _ (b : Slab) (s s' : State Cell View) (id : ℕ) (v w : View) (m : Moves 
   few_after t near = (m.after.tiles t near).once
 
   -- an edge that was sent is sent in the core
-  pub is_sent : (p q : Place) (d : Dir) → Gives shape p d q → total (sends (number_of shape p) (index_of d)) s.views ≡ 1 → sent (shown b s) p d ≡ true
-  is_sent p q d g one = sent_is b s m.before p d g.source ∙ ap (λ (o : Option ℕ). given o (total (sends (number_of shape p) (index_of d)) s.views)) (gives_next shape p q d g)
+  pub is_sent : (p q : Place) (d : Dir) → Gives shape p d q → total (sends (number_of shape p) (index_of d)) s.views ≡ 1
+      → sent (shown b s) p d ≡ true
+  is_sent p q d g one = sent_is b s m.before p d g.source ∙ ap
+      (λ (o : Option ℕ). given o (total (sends (number_of shape p) (index_of d)) s.views)) (gives_next shape p q d g)
       ∙ ap (λ (n : ℕ). eqb n 1) one
 
-  pub not_sent : (p q : Place) (d : Dir) → Gives shape p d q → total (sends (number_of shape p) (index_of d)) s.views ≡ 0 → sent (shown b s) p d ≡ false
-  not_sent p q d g none = sent_is b s m.before p d g.source ∙ ap (λ (o : Option ℕ). given o (total (sends (number_of shape p) (index_of d)) s.views)) (gives_next shape p q d g)
+  pub not_sent : (p q : Place) (d : Dir) → Gives shape p d q → total (sends (number_of shape p) (index_of d)) s.views ≡ 0
+      → sent (shown b s) p d ≡ false
+  not_sent p q d g none = sent_is b s m.before p d g.source ∙ ap
+      (λ (o : Option ℕ). given o (total (sends (number_of shape p) (index_of d)) s.views)) (gives_next shape p q d g)
       ∙ ap (λ (n : ℕ). eqb n 1) none
 
   -- the status of a tile in the core
@@ -115,4 +120,5 @@ module _ (b : Slab) (s s' : State Cell View) (id : ℕ) (v w : View) (m : Moves 
   pub held_status : (p : Place) → IsTile shape p → v.held ≡ Some (number_of shape p) → IsTakenBy (shown b s) p v.number
   held_status p tile held =
       let t : ℕ = number_of shape p in let hl = held_lists v t held t in let os = one_same t in
-      status_is p (Taken v.number) tile (status_only t s.views id v m.at (few t (number_below shape p tile)) (omega arith) ∙ held_own v t Waiting held)
+      status_is p (Taken v.number) tile (status_only t s.views id v m.at (few t (number_below shape p tile)) (omega arith)
+      ∙ held_own v t Waiting held)

@@ -18,5 +18,6 @@ pub mod TakeEvents
 pub mod SendEvents
 pub mod PostEvents
 pub mod OtherSteps
+pub mod Legality
 pub mod Told
 pub mod Ending

@@ -14,18 +14,21 @@ use Rattle.board_steps.proofs.Statuses.{status_same, status_snoc, looked_own, ke
 use Rattle.board_steps.proofs.Showing.{shown_same}
 use Rattle.board_steps.proofs.Events.{sum_same}
 
-pub look_shows_nothing : (b : Slab) (s s' : State Cell View) (id : ℕ) (v : View) (t word : ℕ) → Moves b s s' id v (looked v t word) → shown b s' ≡ shown b s
+pub look_shows_nothing : (b : Slab) (s s' : State Cell View) (id : ℕ) (v : View) (t word : ℕ) → Moves b s s' id v (looked v t word)
+    → shown b s' ≡ shown b s
 look_shows_nothing b s s' id v t word m = shown_same b s s' m.before m.after
     (λ n _. ap (status n) m.views ∙ status_same n s.views id v (looked v t word) m.at (looked_own v t word n))
     (λ n d _ _. sum_same b s s' id v (looked v t word) m (sends n d) (looked_sends v t word n d))
 
-pub split_shows_nothing : (b : Slab) (s s' : State Cell View) (id : ℕ) (v : View) → Splits b s s' id v (kept_view v) (new_view v) → shown b s' ≡ shown b s
+pub split_shows_nothing : (b : Slab) (s s' : State Cell View) (id : ℕ) (v : View) → Splits b s s' id v (kept_view v) (new_view v)
+    → shown b s' ≡ shown b s
 split_shows_nothing b s s' id v m = shown_same b s s' m.before m.after
     (λ n _. ap (status n) m.views ∙ status_snoc n (set s.views id (kept_view v)) (new_view v) (new_own v n)
     ∙ status_same n s.views id v (kept_view v) m.at (kept_own v n))
     (λ n d _ _. ap (total (sends n d)) m.views ∙ total_cut (sends n d) s.views id v (kept_view v) (new_view v) m.at (cut_sends v n d))
 
-pub join_shows_nothing : (b : Slab) (s s' : State Cell View) (id other : ℕ) (v u : View) → u.held ≡ None → Joins b s s' id other v u (joined_view v u) spent
+pub join_shows_nothing : (b : Slab) (s s' : State Cell View) (id other : ℕ) (v u : View) → u.held ≡ None
+    → Joins b s s' id other v u (joined_view v u) spent
     → shown b s' ≡ shown b s
 join_shows_nothing b s s' id other v u idle m = shown_same b s s' m.before m.after
     (λ n near. ap (status n) m.views ∙ joined_status s.views id other v u n m.at m.there m.apart idle (m.before.tiles n near).once)

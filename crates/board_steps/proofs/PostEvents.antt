@@ -30,7 +30,8 @@ use Rattle.board_steps.proofs.Showing.{flag_same, tile_is, shown_set}
 use Rattle.board_steps.proofs.Events.{true_false, sum_same, few, few_after, is_sent, held_status}
 
 module _ (b : Slab) (s s' : State Cell View) (id : ℕ) (v : View) (p : Place) (tile : IsTile (window_of b.rows.value) p)
-    (held : v.held ≡ Some (number_of (window_of b.rows.value) p)) (done : AllSent (setting_of b).graph (number_of (window_of b.rows.value) p) v)
+    (held : v.held ≡ Some (number_of (window_of b.rows.value) p)) (done : AllSent (setting_of b).graph (number_of
+    (window_of b.rows.value) p) v)
     (m : Moves b s s' id v (posted_view v (number_of (window_of b.rows.value) p))) where
   abbrev t : ℕ
   t = number_of (window_of b.rows.value) p
@@ -50,7 +51,8 @@ module _ (b : Slab) (s s' : State Cell View) (id : ℕ) (v : View) (p : Place) (
 
   post_sent : (to : Place) (d : Dir) → Gives (window_of b.rows.value) p d to → sent (shown b s) p d ≡ true
   post_sent to d g =
-      let a = sent_sends v t (index_of d) held (done (index_of d) (number_of (window_of b.rows.value) to) (gives_next (window_of b.rows.value) p to d g)) t in
+      let a = sent_sends v t (index_of d) held (done (index_of d) (number_of (window_of b.rows.value) to) (gives_next
+      (window_of b.rows.value) p to d g)) t in
       let one = one_same t in let at_least = total_at (sends t (index_of d)) s.views id v m.at in
       let f = few b s s' id v w m t near in let l = all_sends_lists t (index_of d) s.views in
       is_sent b s s' id v w m p to d g (omega arith)
@@ -67,7 +69,8 @@ module _ (b : Slab) (s s' : State Cell View) (id : ℕ) (v : View) (p : Place) (
   posted_status_is =
       let lw = post_lists v t held t in let hl = held_lists v t held t in let os = one_same t in
       let after = ap (λ (l : List View). total (lists t) l) m.views in let f = few_after b s s' id v w m t near in
-      status_only t (set s.views id w) id w (set_here s.views id w (at_below s.views id v m.at)) (omega arith) (omega arith) ∙ posted_own v t Waiting
+      status_only t (set s.views id w) id w (set_here s.views id w (at_below s.views id v m.at)) (omega arith) (omega arith)
+      ∙ posted_own v t Waiting
 
   pub post_event : IsEvent b s s' (event.Post p v.number)
   post_event =

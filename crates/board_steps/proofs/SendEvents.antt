@@ -38,10 +38,12 @@ module _ (b : Slab) (s s' : State Cell View) (id : ℕ) (v : View) (p q : Place)
   near = number_below (window_of b.rows.value) p g.source
 
   more : total (sends t e) s'.views ≡ total (sends t e) s.views + 1
-  more = sum_after b s s' id v (sent_view v e) m (sends t e) ∙ total_more (sends t e) s.views id v (sent_view v e) m.at (send_here v t e held still)
+  more = sum_after b s s' id v (sent_view v e) m (sends t e)
+      ∙ total_more (sends t e) s.views id v (sent_view v e) m.at (send_here v t e held still)
 
   one_after : (total (sends t e) s'.views ≡ 1) × (total (sends t e) s.views ≡ 0)
-  one_after = let h = more in let f = few_after b s s' id v (sent_view v e) m t near in let l = all_sends_lists t e s'.views in (omega arith, omega arith)
+  one_after = let h = more in let f = few_after b s s' id v (sent_view v e) m t near in
+      let l = all_sends_lists t e s'.views in (omega arith, omega arith)
 
   -- all other edges
   send_stays : (n f : ℕ) → ¬ ((n ≡ t) × (f ≡ e)) → total (sends n f) s'.views ≡ total (sends n f) s.views
@@ -58,7 +60,8 @@ module _ (b : Slab) (s s' : State Cell View) (id : ℕ) (v : View) (p q : Place)
   send_accepted fault.Unsent h = h
 
   new_flag : has_come s'.words e ((setting_of b).graph.next t e) ≡ true
-  new_flag = flag b s' m.after t e near ∙ ap (λ (o : Option ℕ). given o (total (sends t e) s'.views)) (gives_next (window_of b.rows.value) p q d g)
+  new_flag = flag b s' m.after t e near ∙ ap
+      (λ (o : Option ℕ). given o (total (sends t e) s'.views)) (gives_next (window_of b.rows.value) p q d g)
       ∙ ap (λ (n : ℕ). eqb n 1) one_after.0
 
   sent_tile : shown_tile (setting_of b).graph s' t ≡ with_sent (tile_at (shown b s) p) d

@@ -43,7 +43,8 @@ module _ {X : Type 0} where
           (each_from f g (suc k) n (λ q lo hi. e q (omega arith) (omega arith)))
   each_set f g k (suc n) (suc t) h e =
       let z : k + suc t ≡ suc k + t = omega arith in
-      ap₂ (λ (x : X) (l : List X). x ∷ l) (e k (omega arith) (λ y. omega arith)) (each_set f g (suc k) n t (omega arith) (λ q hi ne. e q (omega arith) (λ y. ne (y ∙ z))))
+      ap₂ (λ (x : X) (l : List X). x ∷ l) (e k (omega arith) (λ y. omega arith)) (each_set f g (suc k) n t (omega arith)
+      (λ q hi ne. e q (omega arith) (λ y. ne (y ∙ z))))
       ∙ ap (λ (x : ℕ). f k ∷ set (each f (suc k) n) t (g x)) (sym z)
 
 -- ---- flags
@@ -70,14 +71,17 @@ module _ (b : Slab) (s : State Cell View) (r : Ruled (setting_of b) s) where
       at None e = refl
       at (Some p) e = let th = W.there t d p near e in ap (λ (x : ℕ). eqb x 1) (edge_bit (setting_of b) W s r p d t th.0 th.3)
 
-  pub tile_is : (p : Place) → IsTile (window_of b.rows.value) p → tile_at (shown b s) p ≡ shown_tile G s (number_of (window_of b.rows.value) p)
+  pub tile_is : (p : Place) → IsTile (window_of b.rows.value) p
+      → tile_at (shown b s) p ≡ shown_tile G s (number_of (window_of b.rows.value) p)
   unfolding tile_at
   tile_is p tile =
       let t : ℕ = number_of (window_of b.rows.value) p in
-      each_at (shown_tile G s) 0 G.tiles t fresh (number_below (window_of b.rows.value) p tile) ∙ ap (shown_tile G s) (let z : 0 + t ≡ t = omega arith in z)
+      each_at (shown_tile G s) 0 G.tiles t fresh (number_below (window_of b.rows.value) p tile)
+      ∙ ap (shown_tile G s) (let z : 0 + t ≡ t = omega arith in z)
 
   pub sent_is : (p : Place) (d : Dir) → IsTile (window_of b.rows.value) p
-      → sent (shown b s) p d ≡ given (G.next (number_of (window_of b.rows.value) p) (index_of d)) (S (number_of (window_of b.rows.value) p) (index_of d))
+      → sent (shown b s) p d ≡ given (G.next (number_of (window_of b.rows.value) p) (index_of d)) (S (number_of (window_of b.rows.value) p)
+      (index_of d))
   sent_is p Right tile = ap (λ (t : TileState). t.right) (tile_is p tile) ∙ flag _ 0 (number_below (window_of b.rows.value) p tile)
   sent_is p Bottom tile = ap (λ (t : TileState). t.bottom) (tile_is p tile) ∙ flag _ 1 (number_below (window_of b.rows.value) p tile)
   sent_is p Corner tile = ap (λ (t : TileState). t.corner) (tile_is p tile) ∙ flag _ 2 (number_below (window_of b.rows.value) p tile)
@@ -103,7 +107,8 @@ module _ (b : Slab) (s s' : State Cell View) (r : Ruled (setting_of b) s) (r' : 
       → has_come s'.words d ((setting_of b).graph.next t d) ≡ has_come s.words d ((setting_of b).graph.next t d)
   flag_same t d near e = flag b s' r' t d near ∙ given_same ((setting_of b).graph.next t d) _ _ e ∙ sym (flag b s r t d near)
 
-  pub tile_same : (t : ℕ) → t < (setting_of b).graph.tiles → status t s'.views ≡ status t s.views → ((d : ℕ) → KeepsSends t d) → Tile' t ≡ Tile t
+  pub tile_same : (t : ℕ) → t < (setting_of b).graph.tiles → status t s'.views ≡ status t s.views → ((d : ℕ) → KeepsSends t d)
+      → Tile' t ≡ Tile t
   tile_same t near e f = λ i. record {
     status = e i;
     right = flag_same t 0 near (f 0) i;

@@ -22,7 +22,8 @@ posted_none : (t : ℕ) (l : List (ℕ × ℕ)) (z : Status) → times t l ≡ 0
 posted_none t [] z e = refl
 posted_none t (x ∷ xs) z e = step (eqb x.0 t) refl (posted_none t xs z)
   where
-    step : (b : Bool) → eqb x.0 t ≡ b → (times t xs ≡ 0 → posted_status t xs z ≡ z) → cond (eqb x.0 t) (Posted x.1) (posted_status t xs z) ≡ z
+    step : (b : Bool) → eqb x.0 t ≡ b → (times t xs ≡ 0 → posted_status t xs z ≡ z)
+        → cond (eqb x.0 t) (Posted x.1) (posted_status t xs z) ≡ z
     step true f rest = let o : one_if (eqb x.0 t) ≡ 1 = ap one_if f in absurd (omega arith)
     step false f rest = let o : one_if (eqb x.0 t) ≡ 0 = ap one_if f in
         ap (λ (b : Bool). cond b (Posted x.1) (posted_status t xs z)) f ∙ rest (omega arith)
@@ -65,7 +66,8 @@ pub status_new : (t : ℕ) (vs : List View) (id : ℕ) (v w : View) (y : Status)
 unfolding status total
 status_new t [] id v w y at e f = absurd (some-ne-none v (sym at))
 status_new t (x ∷ xs) zero v w y at e f = f (status t xs)
-status_new t (x ∷ xs) (suc id) v w y at e f = own_none t x (status t (set xs id w)) (omega arith) ∙ status_new t xs id v w y at (omega arith) f
+status_new t (x ∷ xs) (suc id) v w y at e f = own_none t x (status t (set xs id w)) (omega arith)
+    ∙ status_new t xs id v w y at (omega arith) f
 
 -- the tile is listed by this view alone
 pub status_only : (t : ℕ) (vs : List View) (id : ℕ) (v : View) → get_elem? vs id ≡ some v → total (lists t) vs ≤ 1 → 1 ≤ lists t v
@@ -131,7 +133,8 @@ joined_own v u q idle z = ap (cond (holds q v.held) (Taken v.number)) (posted-ap
     ∙ ap (posted_status q v.mine) (sym (ap (λ (b : Bool). cond b (Taken u.number) (posted_status q u.mine z)) (ap (holds q) idle))))
 
 -- a tile that neither view lists, or one of them
-pub joined_status : (vs : List View) (id other : ℕ) (v u : View) (q : ℕ) → get_elem? vs id ≡ some v → get_elem? vs other ≡ some u → other ≢ id
+pub joined_status : (vs : List View) (id other : ℕ) (v u : View) (q : ℕ) → get_elem? vs id ≡ some v → get_elem? vs other ≡ some u
+    → other ≢ id
     → u.held ≡ None → total (lists q) vs ≤ 1 → status q (set (set vs id (joined_view v u)) other spent) ≡ status q vs
 joined_status vs id other v u q at there ne idle few =
     let w : View = joined_view v u in let v₁ : List View = set vs id w in let v₂ : List View = set v₁ other spent in
@@ -144,6 +147,7 @@ joined_status vs id other v u q at there ne idle few =
     dite (ℕ_discrete (lists q u) 0)
     (λ (z : lists q u ≡ 0). status_same q v₁ other u spent at' (λ y. own_none q spent y (spent_lists q) ∙ sym (own_none q u y z))
     ∙ status_same q vs id v w at (λ y. joined_own v u q idle y ∙ ap (own_status q v) (own_none q u y z)))
-    (λ (n : ¬ (lists q u ≡ 0)). let two = total_two (lists q) vs id other v u at there (λ e. ne (sym e)) in let none_v : lists q v ≡ 0 = omega arith in
+    (λ (n : ¬ (lists q u ≡ 0)). let two = total_two (lists q) vs id other v u at there (λ e. ne (sym e)) in
+    let none_v : lists q v ≡ 0 = omega arith in
     status_only q v₂ id w here (omega arith) (omega arith) ∙ joined_own v u q idle Waiting ∙ own_none q v (own_status q u Waiting) none_v
     ∙ sym (status_only q vs other u there few (omega arith)))

@@ -25,14 +25,16 @@ use Rattle.board_steps.proofs.Statuses.{status_none, status_same, status_new, ta
 use Rattle.board_steps.proofs.Showing.{flag_same, tile_is, shown_set}
 use Rattle.board_steps.proofs.Events.{true_false, sum_after, sum_same, few, few_after, is_sent, status_is}
 
-module _ (b : Slab) (s s' : State Cell View) (id : ℕ) (v : View) (p : Place) (tile : IsTile (window_of b.rows.value) p) (idle : v.held ≡ None)
+module _ (b : Slab) (s s' : State Cell View) (id : ℕ) (v : View) (p : Place) (tile : IsTile (window_of b.rows.value) p)
+    (idle : v.held ≡ None)
     (m : Moves b s s' id v (taken v (number_of (window_of b.rows.value) p))) where
   abbrev t : ℕ
   t = number_of (window_of b.rows.value) p
 
   free : total (lists t) s.views ≡ 0
   free =
-      let e = sum_after b s s' id v (taken v t) m (lists t) in let more = total_more (lists t) s.views id v (taken v t) m.at (takes_here v t idle) in
+      let e = sum_after b s s' id v (taken v t) m (lists t) in
+      let more = total_more (lists t) s.views id v (taken v t) m.at (takes_here v t idle) in
       let f = few_after b s s' id v (taken v t) m t (number_below (window_of b.rows.value) p tile) in omega arith
 
   sends_stay : (q d : ℕ) → total (sends q d) s'.views ≡ total (sends q d) s.views
@@ -47,7 +49,8 @@ module _ (b : Slab) (s s' : State Cell View) (id : ℕ) (v : View) (p : Place) (
       let n : ℕ = number_of (window_of b.rows.value) from in let near = number_below (window_of b.rows.value) from g.source in
       let th = (window_graph (window_of b.rows.value)).there n (index_of d) t near (gives_next (window_of b.rows.value) from p d g) in
       let need = (m.after.tiles t th.0).needs (index_of d) n th.3 in
-      let e = sum_after b s s' id v (taken v t) m (lists t) in let more = total_more (lists t) s.views id v (taken v t) m.at (takes_here v t idle) in
+      let e = sum_after b s s' id v (taken v t) m (lists t) in
+      let more = total_more (lists t) s.views id v (taken v t) m.at (takes_here v t idle) in
       let z = sends_stay n (index_of d) in let f = few b s s' id v (taken v t) m n near in let l = all_sends_lists n (index_of d) s.views in
       is_sent b s s' id v (taken v t) m from p d g (omega arith)
 

@@ -23,10 +23,10 @@ use Rattle.tile_lanes.specs.Done.{window_of}
 
 -- ---- one view of a sum
 
-abbrev One : (View → ℕ) → List View → Type 0
+abbrev pub One : (View → ℕ) → List View → Type 0
 One f vs = (k : ℕ) × (v : View) × (get_elem? vs k ≡ some v) × (1 ≤ f v)
 
-total_some : (f : View → ℕ) (vs : List View) → 1 ≤ total f vs → One f vs
+pub total_some : (f : View → ℕ) (vs : List View) → 1 ≤ total f vs → One f vs
 unfolding total
 total_some f [] h = absurd (omega arith)
 total_some f (x ∷ xs) h = dite (ℕ_discrete (f x) 0)
@@ -44,7 +44,8 @@ total_two f (x ∷ xs) (suc k) (suc l) v u a b ne = let r = total_two f xs k l v
 
 total_one : (f : View → ℕ) (vs : List View) (k l : ℕ) (v u : View) → get_elem? vs k ≡ some v → get_elem? vs l ≡ some u → 1 ≤ f v → 1 ≤ f u
     → total f vs ≤ 1 → k ≡ l
-total_one f vs k l v u a b h i few = dite (ℕ_discrete k l) (λ (e : k ≡ l). e) (λ ne. let t = total_two f vs k l v u a b ne in absurd (omega arith))
+total_one f vs k l v u a b h i few = dite (ℕ_discrete k l) (λ (e : k ≡ l). e)
+    (λ ne. let t = total_two f vs k l v u a b ne in absurd (omega arith))
 
 -- ---- counts of one view, in words
 
@@ -53,16 +54,18 @@ held_one t o e = ap (is_held t) e ∙ one_same t
 
 one_held : (t : ℕ) (o : Option ℕ) → 1 ≤ is_held t o → o ≡ Some t
 one_held t None h = absurd (omega arith)
-one_held t (Some q) h = dite (ℕ_discrete q t) (λ (e : q ≡ t). ap Some e) (λ ne. let z = one_other q t (λ e. ne (sym e)) in absurd (omega arith))
+one_held t (Some q) h = dite (ℕ_discrete q t) (λ (e : q ≡ t). ap Some e) (λ ne. let z = one_other q t
+    (λ e. ne (sym e)) in absurd (omega arith))
 
 lists_of : (v : View) (t : ℕ) → Lists v t → 1 ≤ lists t v
 unfolding lists
 lists_of v t (inl e) = let h = held_one t v.held e in omega arith
 lists_of v t (inr h) = omega arith
 
-of_lists : (v : View) (t : ℕ) → 1 ≤ lists t v → Lists v t
+pub of_lists : (v : View) (t : ℕ) → 1 ≤ lists t v → Lists v t
 unfolding lists
-of_lists v t h = dite (ℕ_discrete (is_held t v.held) 0) (λ (z : is_held t v.held ≡ 0). inr (omega arith)) (λ n. inl (one_held t v.held (omega arith)))
+of_lists v t h = dite (ℕ_discrete (is_held t v.held) 0) (λ (z : is_held t v.held ≡ 0). inr (omega arith))
+    (λ n. inl (one_held t v.held (omega arith)))
 
 sends_of : (v : View) (t d : ℕ) → HasSent v t d → 1 ≤ sends t d v
 unfolding sends
@@ -74,7 +77,8 @@ unfolding sends
 of_sends v t d h = by (has d v.sent) refl
   where
     by : (b : Bool) → has d v.sent ≡ b → HasSent v t d
-    by true e = let z : is_sent t v.held (has d v.sent) ≡ is_held t v.held = ap (is_sent t v.held) e in dite (ℕ_discrete (is_held t v.held) 0)
+    by true e = let z : is_sent t v.held (has d v.sent) ≡ is_held t v.held = ap (is_sent t v.held) e in dite (ℕ_discrete
+        (is_held t v.held) 0)
         (λ (n : is_held t v.held ≡ 0). inr (omega arith))
         (λ n. inl (one_held t v.held (omega arith), e))
     by false e = let z : is_sent t v.held (has d v.sent) ≡ 0 = ap (is_sent t v.held) e in inr (omega arith)
@@ -89,7 +93,8 @@ module _ (B : Setting) (W : IsGraph B.graph) (s : State Cell View) (r : Ruled B 
   bit_at t (suc (suc zero)) near h = bit_c _ _ _ _ _ (slice_index s.words t) (bits B W s r t near)
   bit_at t (suc (suc (suc d))) near h = absurd (omega arith)
 
-  pub edge_bit : (t d q : ℕ) → t < B.graph.tiles → B.graph.from t d ≡ Some q → slice_index s.words t / bit_of d % 2 ≡ total (sends q d) s.views
+  pub edge_bit : (t d q : ℕ) → t < B.graph.tiles → B.graph.from t d ≡ Some q
+      → slice_index s.words t / bit_of d % 2 ≡ total (sends q d) s.views
   edge_bit t d q near e = bit_at t d near (W.back t d q near e).1 ∙ ap (arrived (λ p. total (sends p d) s.views)) e
 
   few_sent : (q d : ℕ) → q < B.graph.tiles → total (sends q d) s.views ≤ 1
@@ -111,10 +116,13 @@ module _ (B : Setting) (W : IsGraph B.graph) (s : State Cell View) (r : Ruled B 
         one = λ k l v u a e h i. total_one (lists t) s.views k l v u a e (lists_of v t h) (lists_of u t i) once;
         once = λ k v a. let h = total_at (posts t) s.views k v a in let p = plain_posts t v in omega arith;
         apart = λ k v a e. let h = total_at (lists t) s.views k v a in let i = held_lists v t e t in let j = one_same t in omega arith;
-        arrived = λ d q e one. let i = edge_bit t d q near e in let o = total_some (sends q d) s.views (omega arith) in (o.0, o.1, o.2, of_sends o.1 q d o.3);
-        sent = λ d q e o. let i = edge_bit t d q near e in let h = sends_of o.1 q d o.3 in let a = total_at (sends q d) s.views o.0 o.1 o.2 in
+        arrived = λ d q e one. let i = edge_bit t d q near e in
+            let o = total_some (sends q d) s.views (omega arith) in (o.0, o.1, o.2, of_sends o.1 q d o.3);
+        sent = λ d q e o. let i = edge_bit t d q near e in let h = sends_of o.1 q d o.3 in
+            let a = total_at (sends q d) s.views o.0 o.1 o.2 in
             let f = few_sent q d (W.back t d q near e).0 in omega arith;
-        needs = λ d q one e. let i = edge_bit t d q near e in let n = c.needs d q e in let f = few_sent q d (W.back t d q near e).0 in omega arith;
+        needs = λ d q one e. let i = edge_bit t d q near e in let n = c.needs d q e in
+            let f = few_sent q d (W.back t d q near e).0 in omega arith;
       }
 
   abbrev Edge : ℕ → ℕ → Option ℕ → Type 0
@@ -152,7 +160,8 @@ module _ (B : Setting) (W : IsGraph B.graph) (s : State Cell View) (r : Ruled B 
         some_part = o.some_part;
         alone = λ all l u there ne. ⊎_elim (λ (e : u ≡ spent). e)
             (λ (z : ViewOk B.slab s.words (length s.views) l u).
-            let two = total_two (λ y. y.parts) s.views k l v u at there (λ e. ne (sym e)) in let p = z.some_part in let q = r.parts in absurd (omega arith))
+            let two = total_two (λ y. y.parts) s.views k l v u at there (λ e. ne (sym e)) in let p = z.some_part in
+            let q = r.parts in absurd (omega arith))
             (r.views l u there);
         board = o.board;
       })

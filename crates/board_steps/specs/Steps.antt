@@ -144,8 +144,10 @@ own_slot content t d (Some p) = []
 -- hold, and those of its edges that no tile receives.
 abbrev pub to_post_in : Setting → (ℕ → ℕ → Cell) → ℕ → List (ℕ × Cell)
 to_post_in B left t =
-    (4 * t + 3, B.content t 3) ∷ incoming left 0 (B.graph.from t 0) ++ (incoming left 1 (B.graph.from t 1) ++ (incoming left 2 (B.graph.from t 2)
-    ++ (own_slot B.content t 0 (B.graph.next t 0) ++ (own_slot B.content t 1 (B.graph.next t 1) ++ (own_slot B.content t 2 (B.graph.next t 2) ++ [])))))
+    (4 * t + 3, B.content t 3) ∷ incoming left 0 (B.graph.from t 0) ++ (incoming left 1 (B.graph.from t 1) ++ (incoming left 2
+    (B.graph.from t 2)
+    ++ (own_slot B.content t 0 (B.graph.next t 0) ++ (own_slot B.content t 1 (B.graph.next t 1) ++ (own_slot B.content t 2
+    (B.graph.next t 2) ++ [])))))
 
 abbrev pub to_post : Slab → (ℕ → ℕ → Cell) → ℕ → List (ℕ × Cell)
 to_post b = to_post_in (setting_of b)

@@ -15,8 +15,8 @@ use weave_base::Memory;
 /// The words and slots of a board, with their memory.
 pub type BoardTable = Table<Cell, View, Slab, Tiles, Global>;
 
-/// Lays out the words, which are 0, and the slots, which are blank. The pass that it gives is the first one, and has all
-/// parts.
+/// Lays out the words, which are 0, and the slots, which are blank. The seat that it gives is that of the first pass,
+/// which has all parts.
 pub fn open(
     alloc: Global,
     words: &[u64],

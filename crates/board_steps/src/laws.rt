@@ -1,6 +1,7 @@
 //! The laws of the rule, each as the contract of a function with an empty body.
 ghost use Rattle.std.specs.Prelude.{◌≡◌, ◌<◌, ◌↔◌, None, Some, false, ℕ};
 ghost use Rattle.atomic_table.specs.Table.{State};
+ghost use Rattle.board_core.specs.Legal.{Legal};
 ghost use Rattle.board_core.specs.Steps.{Gives};
 ghost use Rattle.board_core.specs.declared.events.Event.TheVariants.{Post, Send, Take};
 ghost use Rattle.tile_lanes.specs.Done.{window_of};
@@ -21,7 +22,8 @@ ghost use Rattle.board_steps.specs.declared.rule.View.{View};
 pub fn the_tiles_of_a_window_are_a_graph()
     ensures graph { (s : Shape) → IsGraph (graph_of s) }
     ensures number { (s : Shape) (p : Place) → IsTile s p → number_of s p < (graph_of s).tiles }
-    ensures place { (s : Shape) (t : ℕ) → t < (graph_of s).tiles → IsTile s (place_of s t) × (number_of s (place_of s t) ≡ t) }
+    ensures place { (s : Shape) (t : ℕ) → t < (graph_of s).tiles
+        → IsTile s (place_of s t) × (number_of s (place_of s t) ≡ t) }
     ensures gives { (s : Shape) (p q : Place) (d : Dir) → IsTile s p → IsTile s q
         → (Gives s p d q ↔ ((graph_of s).next (number_of s p) (index_of d) ≡ Some (number_of s q))) }
 {}
@@ -31,13 +33,19 @@ pub fn the_rule_in_plain_words()
     ensures { (b : Slab) (s : State Cell View) → Ruled (setting_of b) s → Clauses (setting_of b) s }
 {}
 
+/// What a state that meets the rule shows is a core as events make it.
+pub fn what_is_shown_is_legal()
+    ensures { (b : Slab) (s : State Cell View) → Ruled (setting_of b) s → Legal (shown b s) }
+{}
+
 /// A pass that takes a tile, sends an edge or posts is the core's event, which the core accepts.
 pub fn steps_are_events()
     ensures take { (b : Slab) (s : State Cell View) (s' : State Cell View) (id : ℕ) (v : View) (p : Place)
-        → IsTile (window_of b.rows.value) p → v.held ≡ None → Moves b s s' id v (taken v (number_of (window_of b.rows.value) p))
-        → IsEvent b s s' (Take p v.number) }
-    ensures send { (b : Slab) (s : State Cell View) (s' : State Cell View) (id : ℕ) (v : View) (p : Place) (q : Place) (d : Dir)
-        → Gives (window_of b.rows.value) p d q → v.held ≡ Some (number_of (window_of b.rows.value) p) → has (index_of d) v.sent ≡ false
+        → IsTile (window_of b.rows.value) p → v.held ≡ None
+        → Moves b s s' id v (taken v (number_of (window_of b.rows.value) p)) → IsEvent b s s' (Take p v.number) }
+    ensures send { (b : Slab) (s : State Cell View) (s' : State Cell View) (id : ℕ) (v : View) (p : Place) (q : Place)
+        (d : Dir) → Gives (window_of b.rows.value) p d q → v.held ≡ Some (number_of (window_of b.rows.value) p)
+        → has (index_of d) v.sent ≡ false
         → Moves b s s' id v (sent_view v (index_of d)) → IsEvent b s s' (Send p d v.number) }
     ensures post { (b : Slab) (s : State Cell View) (s' : State Cell View) (id : ℕ) (v : View) (p : Place)
         → IsTile (window_of b.rows.value) p → v.held ≡ Some (number_of (window_of b.rows.value) p)
