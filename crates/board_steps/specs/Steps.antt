@@ -25,7 +25,7 @@ index_of dir.Right = 0
 index_of dir.Bottom = 1
 index_of dir.Corner = 2
 
--- the arrival bit of a direction, and the direction of an arrival bit
+-- the arrival bit of a direction
 abbrev pub bit_of : ℕ → ℕ
 bit_of zero = 1
 bit_of (suc zero) = 2
@@ -121,11 +121,11 @@ pub record MaySend (B : Setting) (m : Me Cell View) (d to : ℕ) : Type 0 where
 abbrev pub sent_view : View → ℕ → View
 sent_view v d = record v { sent = d ∷ v.sent }
 
--- the edge in front goes home
+-- The edge in the direction d, which was in front, goes home.
 abbrev pub SentTo : ℕ → Me Cell View → Me Cell View → Type 0
 SentTo d m n = n ≡ (sent_view m.0 d, rest m.1)
 
--- by the arrival bit
+-- the same by the arrival bit of the direction
 abbrev pub Sent : ℕ → Me Cell View → Me Cell View → Type 0
 Sent bit m n = (d : ℕ) → d < 3 → bit ≡ bit_of d → SentTo d m n
 

@@ -1,7 +1,7 @@
 //! The rule of a board that passes share without a lock, and the atomic steps that they take on it. A board hands out
-//! the tiles of a slab. It has a word and four slots for each tile (`Words`), and a pass steps with its seat (`Seated`).
+//! the tiles of a slab. It has a word and four slots for each tile (`Words`), and a pass steps with its seat, `Seated`.
 //! Each of `look`, `take`, `send`, `post`, `cut` and `unite` is one atomic step, which keeps the rule `Tiles` whatever
-//! other passes do; `laws` says what the rule means.
+//! other passes do. `laws` says what the rule means.
 #![tactic(auto)]
 
 mod ends;
