@@ -1,0 +1,117 @@
+-- The bits of one word.
+use Rattle.std.proofs.Common.{◌≡◌, ℕ, zero, suc, ◌+◌, ◌*◌, ◌/◌, ◌%◌, ◌<◌, ◌≤◌, ◌&&◌, ◌||◌, Bool, true, false, eqb, refl, sym, ap, ◌∙◌, arith, bit_or}
+use Rattle.std.proofs.lemmas.Bool.{eqb-true}
+use mathlib.Core.Logic.{dite}
+use native.Mathlib.Decide.{ℕ_discrete}
+use Rattle.board_steps.specs.Rule.{Within}
+use Rattle.board_steps.specs.Steps.{bit_of}
+
+-- the word x has the arrival bits a, b and c, the taken bit t and the posted bit p
+pub record Bits (a b c t p x : ℕ) : Type 0 where
+  pub is : x ≡ a + 2 * b + 4 * c + 8 * t + 16 * p
+  pub few_a : a ≤ 1
+  pub few_b : b ≤ 1
+  pub few_c : c ≤ 1
+  pub few_t : t ≤ 1
+  pub few_p : p ≤ 1
+
+module _ (a b c t p x : ℕ) (h : Bits a b c t p x) where
+  pub bit_a : x % 2 ≡ a
+  bit_a = let e = h.is in let i = h.few_a in let j = h.few_b in let k = h.few_c in let l = h.few_t in let m = h.few_p in omega arith
+
+  pub bit_b : x / 2 % 2 ≡ b
+  bit_b = let e = h.is in let i = h.few_a in let j = h.few_b in let k = h.few_c in let l = h.few_t in let m = h.few_p in omega arith
+
+  pub bit_c : x / 4 % 2 ≡ c
+  bit_c = let e = h.is in let i = h.few_a in let j = h.few_b in let k = h.few_c in let l = h.few_t in let m = h.few_p in omega arith
+
+  pub bit_t : x / 8 % 2 ≡ t
+  bit_t = let e = h.is in let i = h.few_a in let j = h.few_b in let k = h.few_c in let l = h.few_t in let m = h.few_p in omega arith
+
+  pub bit_p : x / 16 % 2 ≡ p
+  bit_p = let e = h.is in let i = h.few_a in let j = h.few_b in let k = h.few_c in let l = h.few_t in let m = h.few_p in omega arith
+
+  pub small : x < 32
+  small = let e = h.is in let i = h.few_a in let j = h.few_b in let k = h.few_c in let l = h.few_t in let m = h.few_p in omega arith
+
+-- ---- a word below 32 is one of 32
+
+abbrev every : ℕ → (ℕ → Bool) → Bool
+every zero f = true
+every (suc n) f = f n && every n f
+
+and-left : (a b : Bool) → (a && b) ≡ true → a ≡ true
+and-left true b e = refl
+and-left false b e = e
+
+and-right : (a b : Bool) → (a && b) ≡ true → b ≡ true
+and-right true b e = e
+and-right false b e = absurd (cc)
+
+each : (n : ℕ) (f : ℕ → Bool) → every n f ≡ true → (x : ℕ) → x < n → f x ≡ true
+each zero f e x near = absurd (omega arith)
+each (suc n) f e x near = dite (ℕ_discrete x n)
+    (λ (same : x ≡ n). ap f same ∙ and-left (f n) (every n f) e)
+    (λ other. each n f (and-right (f n) (every n f) e) x (omega arith))
+
+-- one of two numbers, where it is not the other
+or-other : (a b c d : ℕ) → (eqb a b || eqb c d) ≡ true → ¬ (a ≡ b) → c ≡ d
+or-other a b c d e n = step (eqb a b) refl
+  where
+    step : (z : Bool) → eqb a b ≡ z → c ≡ d
+    step true f = absurd (n (eqb-true a b f))
+    step false f = eqb-true c d (ap (λ (z : Bool). z || eqb c d) (sym f) ∙ e)
+
+-- a bit that is clear is added
+abbrev adds : ℕ → ℕ → Bool
+adds b x = eqb (x / b % 2) 1 || eqb (bit_or x b) (x + b)
+
+added : (b : ℕ) → every 32 (adds b) ≡ true → (x : ℕ) → x < 32 → x / b % 2 ≡ 0 → bit_or x b ≡ x + b
+added b all x near clear = or-other (x / b % 2) 1 (bit_or x b) (x + b) (each 32 (adds b) all x near) (λ e. omega arith)
+
+-- and one that stands stays
+abbrev stays : ℕ → Bool
+stays x = eqb (x / 8 % 2) 0 || eqb (bit_or x 8) x
+
+pub or_taken : (a b c p x : ℕ) → Bits a b c 0 p x → bit_or x 8 ≡ x + 8
+or_taken a b c p x h = added 8 refl x (small a b c 0 p x h) (bit_t a b c 0 p x h)
+
+pub or_taken_again : (a b c p x : ℕ) → Bits a b c 1 p x → bit_or x 8 ≡ x
+or_taken_again a b c p x h = let e = bit_t a b c 1 p x h in
+    or-other (x / 8 % 2) 0 (bit_or x 8) x (each 32 stays refl x (small a b c 1 p x h)) (λ z. omega arith)
+
+pub or_posted : (a b c t x : ℕ) → Bits a b c t 0 x → bit_or x 16 ≡ x + 16
+or_posted a b c t x h = added 16 refl x (small a b c t 0 x h) (bit_p a b c t 0 x h)
+
+-- the arrival bit of a direction
+abbrev pub pick : ℕ → ℕ → ℕ → ℕ → ℕ
+pick zero a b c = a
+pick (suc zero) a b c = b
+pick (suc (suc d)) a b c = c
+
+pub or_bit : (d a b c t p x : ℕ) → Bits a b c t p x → pick d a b c ≡ 0 → bit_or x (bit_of d) ≡ x + bit_of d
+or_bit zero a b c t p x h e = added 1 refl x (small a b c t p x h) (let i = bit_a a b c t p x h in omega arith)
+or_bit (suc zero) a b c t p x h e = added 2 refl x (small a b c t p x h) (bit_b a b c t p x h ∙ e)
+or_bit (suc (suc d)) a b c t p x h e = added 4 refl x (small a b c t p x h) (bit_c a b c t p x h ∙ e)
+
+-- a word of greater bits
+module _ (a b c t p x a' b' c' t' p' y : ℕ) (h : Bits a b c t p x) (k : Bits a' b' c' t' p' y) where
+  pub Within-bits : a ≤ a' → b ≤ b' → c ≤ c' → t ≤ t' → p ≤ p' → Within x y
+  Within-bits l m n o q = record {
+    right = let i = bit_a a b c t p x h in let j = bit_a a' b' c' t' p' y k in omega arith;
+    bottom = let i = bit_b a b c t p x h in let j = bit_b a' b' c' t' p' y k in omega arith;
+    corner = let i = bit_c a b c t p x h in let j = bit_c a' b' c' t' p' y k in omega arith;
+    taken = let i = bit_t a b c t p x h in let j = bit_t a' b' c' t' p' y k in omega arith;
+    posted = let i = bit_p a b c t p x h in let j = bit_p a' b' c' t' p' y k in omega arith;
+  }
+
+pub grows_bit : (d a b c t p x : ℕ) → Bits a b c t p x → pick d a b c ≡ 0 → Within x (x + bit_of d)
+grows_bit zero a b c t p x h e = Within-bits a b c t p x 1 b c t p (x + 1) h
+    record { is = let i = h.is in omega arith; few_a = omega arith; few_b = h.few_b; few_c = h.few_c; few_t = h.few_t; few_p = h.few_p }
+    (omega arith) (omega arith) (omega arith) (omega arith) (omega arith)
+grows_bit (suc zero) a b c t p x h e = Within-bits a b c t p x a 1 c t p (x + 2) h
+    record { is = let i = h.is in omega arith; few_a = h.few_a; few_b = omega arith; few_c = h.few_c; few_t = h.few_t; few_p = h.few_p }
+    (omega arith) (omega arith) (omega arith) (omega arith) (omega arith)
+grows_bit (suc (suc d)) a b c t p x h e = Within-bits a b c t p x a b 1 t p (x + 4) h
+    record { is = let i = h.is in omega arith; few_a = h.few_a; few_b = h.few_b; few_c = omega arith; few_t = h.few_t; few_p = h.few_p }
+    (omega arith) (omega arith) (omega arith) (omega arith) (omega arith)

@@ -1,0 +1,33 @@
+-- What the slots of a tile hold: a blank of its kind while the tile waits, and what the tile gives once it is posted.
+use Rattle.std.specs.Prelude.{ℕ, ℤ, pos, zero, suc, ◌/◌, ◌%◌, List, replicate}
+use Rattle.diffusion_kernel.specs.declared.tables.Kernel.{Kernel}
+use Rattle.dot_planes.specs.Tables.{AmountTable}
+use Rattle.tile_lanes.specs.Done.{window_of}
+use Rattle.tile_shape.specs.Geometry.{columns_of}
+use Rattle.tile_shape.specs.declared.tiles.Place.{Place}
+use Rattle.tile_border.specs.Works.{Border}
+use Rattle.tile_content.specs.Content.{given}
+use Rattle.board_steps.specs.declared.rule.Cell.{Cell}
+use Rattle.board_steps.specs.declared.rule.Cell.TheVariants.{Right, Bottom, Corner, Dots}
+
+-- for so many inks: errors 0 and no dots
+abbrev pub fresh_of : ℕ → ℕ → Cell
+fresh_of inks zero = Right (replicate inks (replicate 192 (pos 0)))
+fresh_of inks (suc zero) = Bottom (replicate inks (replicate 128 (pos 0)))
+fresh_of inks (suc (suc zero)) = Corner (replicate inks (replicate 12 (pos 0)))
+fresh_of inks (suc (suc (suc d))) = Dots (replicate inks (replicate {A = ℕ} 256 0))
+
+-- a tile's edges by direction, and its dots
+abbrev pub cell_of : Border → ℕ → Cell
+cell_of b zero = Right b.side
+cell_of b (suc zero) = Bottom b.band
+cell_of b (suc (suc zero)) = Corner b.corner
+cell_of b (suc (suc (suc d))) = Dots b.bits
+
+-- the place of tile t
+abbrev pub place_of : AmountTable → ℕ → Place
+place_of rows t = let columns : ℕ = columns_of (window_of rows) in record { c = t % columns; j = t / columns }
+
+-- what tile t gives in the direction d
+unfoldable pub content_of : AmountTable → Kernel → List (List (List ℤ)) → ℕ → ℕ → Cell
+content_of rows kernel top t d = cell_of (given kernel rows top (place_of rows t)) d

@@ -1,0 +1,181 @@
+-- What each step tells.
+use Rattle.std.specs.Prelude.{min, ◌≡◌, ℕ, zero, suc, ◌+◌, ◌-◌, ◌*◌, ◌/◌, ◌%◌, ◌<◌, ◌≤◌, true, false, List, [], ◌∷◌, ◌++◌, Option, Some, None}
+use Rattle.atomic_table.specs.Table.{Me, rest}
+use Rattle.tile_shape.specs.declared.tiles.Dir.{Dir}
+use Rattle.tile_shape.specs.declared.tiles.Dir.TheVariants as dir
+use Rattle.board_steps.specs.declared.rule.View.{View}
+use Rattle.board_steps.specs.declared.rule.Slab.{Slab}
+use Rattle.board_steps.specs.declared.rule.Cell.{Cell}
+use Rattle.board_steps.specs.declared.rule.Cell.TheVariants.{Empty}
+use Rattle.board_steps.specs.Graph.{Graph}
+use Rattle.board_steps.specs.Rule.{Setting, setting_of, arrived, has, lists, posts, sends, Within}
+
+-- ---- the start
+
+-- the slots of so many tiles that wait
+abbrev pub fresh_slots : (ℕ → Cell) → ℕ → List Cell
+fresh_slots fresh zero = []
+fresh_slots fresh (suc n) = fresh_slots fresh n ++ fresh 0 ∷ fresh 1 ∷ fresh 2 ∷ fresh 3 ∷ []
+
+-- ---- directions
+
+-- the number of a direction
+abbrev pub index_of : Dir → ℕ
+index_of dir.Right = 0
+index_of dir.Bottom = 1
+index_of dir.Corner = 2
+
+-- the arrival bit of a direction
+abbrev pub bit_of : ℕ → ℕ
+bit_of zero = 1
+bit_of (suc zero) = 2
+bit_of (suc (suc d)) = 4
+
+-- ---- look
+
+-- the view once it has found a word
+abbrev pub looked : View → ℕ → ℕ → View
+looked v p word = record v { seen = Some (p, word); looks = v.looks + 1 }
+
+-- The word has every bit of the tile's word that the pass knew.
+pub record KnewIn (G : Graph) (v : View) (p word : ℕ) : Type 0 where
+  pub right : arrived (λ q. sends q 0 v) (G.from p 0) ≤ word % 2
+  pub bottom : arrived (λ q. sends q 1 v) (G.from p 1) ≤ word / 2 % 2
+  pub corner : arrived (λ q. sends q 2 v) (G.from p 2) ≤ word / 4 % 2
+  pub taken : lists p v ≤ word / 8 % 2
+  pub posted : posts p v ≤ word / 16 % 2
+  pub seen : (w : ℕ) → v.seen ≡ Some (p, w) → Within w word
+
+-- What the pass learns of a tile by its word. A pass that has all parts finds bit 8 exactly where it lists the tile itself.
+pub record FoundIn (G : Graph) (v : View) (p word : ℕ) : Type 0 where
+  pub knew : KnewIn G v p word
+  pub alone : v.parts ≡ 256 → word / 8 % 2 ≡ lists p v
+  pub few : word < 32
+
+abbrev pub LookedIn : Setting → ℕ → Me Cell View → ℕ → Me Cell View → Type 0
+LookedIn B t m r n = (n ≡ (looked m.0 t r, m.1)) × FoundIn B.graph m.0 t r
+
+abbrev pub Looked : Slab → ℕ → Me Cell View → ℕ → Me Cell View → Type 0
+Looked b = LookedIn (setting_of b)
+
+-- ---- take
+
+-- the word has the bits of all edges that come to the tile
+abbrev pub HasNeeds : Graph → ℕ → ℕ → Type 0
+HasNeeds G t word = ((q : ℕ) → G.from t 0 ≡ Some q → word % 2 ≡ 1) × ((q : ℕ) → G.from t 1 ≡ Some q → word / 2 % 2 ≡ 1)
+    × ((q : ℕ) → G.from t 2 ≡ Some q → word / 4 % 2 ≡ 1)
+
+-- the word that the pass last found is of this tile and has its needs
+pub record IsReadyFor (G : Graph) (t : ℕ) (v : View) : Type 0 where
+  pub word : ℕ
+  pub seen : v.seen ≡ Some (t, word)
+  pub needs : HasNeeds G t word
+
+-- the view once it has taken the tile
+abbrev pub taken : View → ℕ → View
+taken v p = record v { held = Some p; sent = [] }
+
+-- the slot of an edge that comes to a tile
+abbrev pub incoming : (ℕ → ℕ → Cell) → ℕ → Option ℕ → List (ℕ × Cell)
+incoming content d None = []
+incoming content d (Some q) = (4 * q + d, content q d) ∷ []
+
+-- A tile's own four slots, and then those of the edges that come to it.
+abbrev pub hand : Graph → (ℕ → Cell) → (ℕ → ℕ → Cell) → ℕ → List (ℕ × Cell)
+hand G own content t =
+    (4 * t + 0, own 0) ∷ (4 * t + 1, own 1) ∷ (4 * t + 2, own 2) ∷ (4 * t + 3, own 3)
+    ∷ incoming content 0 (G.from t 0) ++ (incoming content 1 (G.from t 1) ++ (incoming content 2 (G.from t 2) ++ []))
+
+-- the slots that come into hand with a tile
+abbrev pub hand_in : Setting → ℕ → List (ℕ × Cell)
+hand_in B t = hand B.graph B.fresh B.content t
+
+abbrev pub in_hand : Slab → ℕ → List (ℕ × Cell)
+in_hand b = hand_in (setting_of b)
+
+-- the same once all that they held is taken out
+abbrev pub emptied_hand : Slab → ℕ → List (ℕ × Cell)
+emptied_hand b t = hand (setting_of b).graph (λ d. Empty) (λ q d. Empty) t
+
+-- Where the word had no bit 8 the pass holds the tile, and else it has found the word.
+pub record TookIn (B : Setting) (t : ℕ) (m : Me Cell View) (r : ℕ) (n : Me Cell View) : Type 0 where
+  pub got : r / 8 % 2 ≡ 0 → n ≡ (taken m.0 t, hand_in B t)
+  pub gone : r / 8 % 2 ≡ 1 → n ≡ (looked m.0 t r, m.1)
+  pub found : FoundIn B.graph m.0 t r
+
+abbrev pub Took : Slab → ℕ → Me Cell View → ℕ → Me Cell View → Type 0
+Took b = TookIn (setting_of b)
+
+-- ---- send
+
+-- The pass holds a tile whose edge in the direction d goes to tile `to`. It has not sent it, and the edge is in front.
+pub record MaySend (B : Setting) (m : Me Cell View) (d to : ℕ) : Type 0 where
+  pub from : ℕ
+  pub inside : from < B.graph.tiles
+  pub holds : m.0.held ≡ Some from
+  pub unsent : has d m.0.sent ≡ false
+  pub goes : B.graph.next from d ≡ Some to
+  pub edge : m.1 ≡ (4 * from + d, B.content from d) ∷ rest m.1
+
+-- the view once the edge in the direction d is sent
+abbrev pub sent_view : View → ℕ → View
+sent_view v d = record v { sent = d ∷ v.sent }
+
+-- The edge in the direction d, which was in front, goes home.
+abbrev pub SentTo : ℕ → Me Cell View → Me Cell View → Type 0
+SentTo d m n = n ≡ (sent_view m.0 d, rest m.1)
+
+-- the same by the arrival bit of the direction
+abbrev pub Sent : ℕ → Me Cell View → Me Cell View → Type 0
+Sent bit m n = (d : ℕ) → d < 3 → bit ≡ bit_of d → SentTo d m n
+
+-- ---- post
+
+-- each edge of the tile that a tile receives is sent
+abbrev pub AllSent : Graph → ℕ → View → Type 0
+AllSent G t v = (d p : ℕ) → G.next t d ≡ Some p → has d v.sent ≡ true
+
+-- the slot of an edge that no tile receives
+abbrev pub own_slot : (ℕ → ℕ → Cell) → ℕ → ℕ → Option ℕ → List (ℕ × Cell)
+own_slot content t d None = (4 * t + d, content t d) ∷ []
+own_slot content t d (Some p) = []
+
+-- The slots that go home as the tile is posted: that of its dots, those of the edges that came to it, with whatever they
+-- hold, and those of its edges that no tile receives.
+abbrev pub to_post_in : Setting → (ℕ → ℕ → Cell) → ℕ → List (ℕ × Cell)
+to_post_in B left t =
+    (4 * t + 3, B.content t 3) ∷ incoming left 0 (B.graph.from t 0) ++ (incoming left 1 (B.graph.from t 1) ++ (incoming left 2
+    (B.graph.from t 2)
+    ++ (own_slot B.content t 0 (B.graph.next t 0) ++ (own_slot B.content t 1 (B.graph.next t 1) ++ (own_slot B.content t 2
+    (B.graph.next t 2) ++ [])))))
+
+abbrev pub to_post : Slab → (ℕ → ℕ → Cell) → ℕ → List (ℕ × Cell)
+to_post b = to_post_in (setting_of b)
+
+-- The pass holds the tile, has sent its edges, and has the rest in hand.
+pub record MayPost (B : Setting) (m : Me Cell View) (t : ℕ) : Type 0 where
+  pub inside : t < B.graph.tiles
+  pub holds : m.0.held ≡ Some t
+  pub sent : AllSent B.graph t m.0
+  pub left : ℕ → ℕ → Cell
+  pub hand : m.1 ≡ to_post_in B left t
+
+-- the view once the tile is posted
+abbrev pub posted_view : View → ℕ → View
+posted_view v t = record v { held = None; sent = []; mine = (t, v.number) ∷ v.mine }
+
+abbrev pub Posted : ℕ → Me Cell View → Me Cell View → Type 0
+Posted t m n = n ≡ (posted_view m.0 t, [])
+
+-- ---- split and join
+
+-- a pass is cut in two
+abbrev pub kept_view : View → View
+kept_view v = record v { parts = v.parts - 1; made = v.made + 1 }
+
+abbrev pub new_view : View → View
+new_view v = record { number = v.made; made = 0; seen = None; looks = 0; held = None; sent = []; mine = []; parts = 1; board = v.board }
+
+-- two passes become one
+abbrev pub joined_view : View → View → View
+joined_view v u = record v { mine = v.mine ++ u.mine; parts = min 256 (v.parts + u.parts) }

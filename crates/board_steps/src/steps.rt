@@ -1,0 +1,95 @@
+//! The atomic steps.
+ghost use Rattle.std.specs.Prelude.{◌≡◌, ◌<◌, ◌≤◌, None, [], ℕ};
+ghost use Rattle.board_steps.specs.Rule.{setting_of};
+ghost use Rattle.board_steps.specs.Steps.{IsReadyFor, Looked, MayPost, MaySend, Posted, SentTo, Took, bit_of, index_of, joined_view, kept_view, new_view};
+
+use crate::rule::{Cuts, Joins, Looks, Posts, Seated, Sends, Takes, Words};
+use tile_shape::Dir;
+
+/// The bit of a word that says that the tile is taken.
+const TAKEN: u64 = 8;
+
+/// The bit that says that it is posted.
+const POSTED: u64 = 16;
+
+// The bit that says that the edge of a direction has arrived.
+fn arrival_bit(dir: Dir) -> u64
+    ensures { result ≡ bit_of (index_of dir) }
+{
+    match dir {
+        Dir::Right => 1,
+        Dir::Bottom => 2,
+        Dir::Corner => 4,
+    }
+}
+
+/// Reads the word of tile `at`: 1, 2 and 4 where its edges have arrived, 8 where it is taken, 16 where it is posted.
+pub fn look(words: &Words, seat: &mut Seated, at: usize) -> u64
+    requires table { (seat.old.table_id ≡ words.now.table_id) × (at < words.now.table_id.words) }
+    requires inside { at < (setting_of words.now.key).graph.tiles }
+    requires part { 1 ≤ seat.old.me.0.parts }
+    ensures seat { (seat.new.table_id ≡ seat.old.table_id) × (seat.new.id ≡ seat.old.id) }
+    ensures looked { Looked seat.old.me.0.board at seat.old.me result seat.new.me }
+{
+    words.load::<Looks>(seat, at)
+}
+
+/// Takes tile `at`, where no pass has taken it, and answers its word as it was. The pass then has in hand the slots of
+/// the tile, and those of the edges that come to it.
+pub fn take(words: &Words, seat: &mut Seated, at: usize) -> u64
+    requires table { (seat.old.table_id ≡ words.now.table_id) × (at < words.now.table_id.words) }
+    requires inside { at < (setting_of words.now.key).graph.tiles }
+    requires part { 1 ≤ seat.old.me.0.parts }
+    requires idle { (seat.old.me.0.held ≡ None) × (seat.old.me.1 ≡ []) }
+    requires ready { IsReadyFor (setting_of words.now.key).graph at seat.old.me.0 }
+    ensures seat { (seat.new.table_id ≡ seat.old.table_id) × (seat.new.id ≡ seat.old.id) }
+    ensures took { Took seat.old.me.0.board at seat.old.me result seat.new.me }
+{
+    words.fetch_or::<Takes>(seat, at, TAKEN)
+}
+
+/// Sends the edge of the tile in hand in a direction to tile `to`. Its slot, which is in front, goes home.
+pub fn send(words: &Words, seat: &mut Seated, dir: Dir, to: usize)
+    requires table { (seat.old.table_id ≡ words.now.table_id) × (to < words.now.table_id.words) }
+    requires part { 1 ≤ seat.old.me.0.parts }
+    requires edge { MaySend (setting_of words.now.key) seat.old.me (index_of dir) to }
+    ensures seat { (seat.new.table_id ≡ seat.old.table_id) × (seat.new.id ≡ seat.old.id) }
+    ensures sent { SentTo (index_of dir) seat.old.me seat.new.me }
+{
+    words.fetch_or::<Sends>(seat, to, arrival_bit(dir));
+}
+
+/// Posts tile `at`, which the pass holds. All slots in hand go home.
+pub fn post(words: &Words, seat: &mut Seated, at: usize)
+    requires table { (seat.old.table_id ≡ words.now.table_id) × (at < words.now.table_id.words) }
+    requires part { 1 ≤ seat.old.me.0.parts }
+    requires done { MayPost (setting_of words.now.key) seat.old.me at }
+    ensures seat { (seat.new.table_id ≡ seat.old.table_id) × (seat.new.id ≡ seat.old.id) }
+    ensures posted { Posted at seat.old.me seat.new.me }
+{
+    words.fetch_or::<Posts>(seat, at, POSTED);
+}
+
+/// Cuts a pass of one part off the first pass.
+pub fn cut(words: &Words, seat: &mut Seated) -> Seated
+    requires table { (seat.old.table_id ≡ words.now.table_id) × (0 < words.now.table_id.words) }
+    requires parts { 2 ≤ seat.old.me.0.parts }
+    requires first { seat.old.me.0.number ≡ 0 }
+    ensures seat { (seat.new.table_id ≡ seat.old.table_id) × (seat.new.id ≡ seat.old.id) }
+    ensures old { seat.new.me ≡ (kept_view seat.old.me.0, seat.old.me.1) }
+    ensures new { (result.table_id ≡ seat.old.table_id) × (result.me ≡ (new_view seat.old.me.0, [])) }
+{
+    words.split_seat::<Cuts>(seat)
+}
+
+/// Joins another pass, which holds nothing, to a pass.
+pub fn unite(words: &Words, seat: &mut Seated, other: Seated)
+    requires table { (seat.old.table_id ≡ words.now.table_id) × (other.table_id ≡ words.now.table_id)
+        × (0 < words.now.table_id.words) }
+    requires parts { (1 ≤ seat.old.me.0.parts) × (1 ≤ other.me.0.parts) }
+    requires idle { (other.me.0.held ≡ None) × (other.me.1 ≡ []) }
+    ensures seat { (seat.new.table_id ≡ seat.old.table_id) × (seat.new.id ≡ seat.old.id) }
+    ensures joined { seat.new.me ≡ (joined_view seat.old.me.0 other.me.0, seat.old.me.1) }
+{
+    words.join_seat::<Joins>(seat, other);
+}

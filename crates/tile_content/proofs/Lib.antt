@@ -1,0 +1,5 @@
+pub mod Lists
+pub mod Blocks
+pub mod Bits
+pub mod Given
+pub mod Blanks

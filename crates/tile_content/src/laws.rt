@@ -1,0 +1,44 @@
+//! What follows from the definitions, each as the contract of an empty function.
+ghost use Rattle.std.specs.Prelude.{List, ◌<◌, ◌≡◌, ℕ, ℤ};
+ghost use Rattle.diffusion_kernel.specs.declared.tables.Kernel.{Kernel};
+ghost use Rattle.dot_planes.specs.Tables.{AmountTable};
+ghost use Rattle.tile_border.specs.Tops.{edges_of};
+ghost use Rattle.tile_border.specs.Works.{Border, HasInks, Works};
+ghost use Rattle.tile_content.specs.Content.{bottoms, errors_below, given};
+ghost use Rattle.tile_content.specs.Tiles.{AreDone, AreHanded, AreReady, IsWhole};
+ghost use Rattle.tile_edges.specs.Tops.{AreBottoms};
+ghost use Rattle.tile_lanes.specs.Done.{window_of};
+ghost use Rattle.tile_shape.specs.Geometry.{IsTile, columns_of};
+ghost use Rattle.tile_shape.specs.declared.tiles.Place.{Place};
+
+/// What a tile gives is right.
+pub fn what_is_given_is_right()
+    ensures inks { (k : Kernel) (rows : AmountTable) (top : List (List (List ℤ))) (p : Place) → HasInks rows.inks (given k rows top p) }
+    ensures done { (k : Kernel) (rows : AmountTable) (top : List (List (List ℤ))) (p : Place) → AreDone k rows top p (given k rows top p) }
+{}
+
+/// Nothing else is.
+pub fn what_is_right_is_given()
+    ensures { (k : Kernel) (rows : AmountTable) (top : List (List (List ℤ))) (p : Place) (b : Border)
+        → HasInks rows.inks b → IsWhole b → AreDone k rows top p b → b ≡ given k rows top p }
+{}
+
+/// Where the tiles before it gave what they give, what a tile is handed is right.
+pub fn what_is_handed_is_right()
+    ensures { (k : Kernel) (rows : AmountTable) (top : List (List (List ℤ))) (p : Place) (b : Border)
+        → IsTile (window_of rows) p → AreHanded k rows top p b → AreReady k rows top p b }
+{
+    tile_edges::handed::what_is_handed_is_right();
+}
+
+/// What `tile_border::work` gives for what is right is right.
+pub fn what_work_gives_is_right()
+    ensures { (k : Kernel) (rows : AmountTable) (top : List (List (List ℤ))) (p : Place) (old new : Border)
+        → ((i : ℕ) → i < rows.inks → Works k rows p i old new) → AreReady k rows top p old → AreDone k rows top p new }
+{}
+
+/// The bottom edges of a band are those that its tiles give.
+pub fn bottoms_are_given()
+    ensures { (k : Kernel) (rows : AmountTable) (top : List (List (List ℤ))) (j i : ℕ) → i < rows.inks
+        → AreBottoms (window_of rows) (errors_below k rows top i) j (edges_of (bottoms k rows top j (columns_of (window_of rows))) i) }
+{}
