@@ -8,6 +8,7 @@ use crate::diffuse_slab;
 use definition::{Definition, amount_at};
 use diffusion_kernel::Kernel;
 use dot_planes::{InkRows, Planes};
+use row_diffusion::ErrorRows;
 use std::alloc::Global;
 use tile_border::TopEdges;
 
@@ -51,8 +52,15 @@ fn spot_row(planes: &mut Planes, i: u8, y: u32)
     }
 }
 
-// The amounts of rows of the window from row `first` on.
-fn amounts(alloc: Global, width: u32, first: u32, height: u32, inks: u8) -> Option<InkRows> {
+// The amounts of rows of the window from row `first` on, which jump about where they are not all one.
+fn amounts(
+    alloc: Global,
+    all: Option<u8>,
+    width: u32,
+    first: u32,
+    height: u32,
+    inks: u8,
+) -> Option<InkRows> {
     if width < 1 || width > 200 || height < 1 || height > 300 || inks < 1 || inks > 4 {
         return None;
     }
@@ -63,7 +71,8 @@ fn amounts(alloc: Global, width: u32, first: u32, height: u32, inks: u8) -> Opti
         for y in 0..height {
             for x in 0..width {
                 if i < rows.inks() && y < rows.rows() && x < rows.width() {
-                    rows.set(i, x, y, amount_at(i, x, first.wrapping_add(y)));
+                    let jumping = amount_at(i, x, first.wrapping_add(y));
+                    rows.set(i, x, y, all.unwrap_or(jumping));
                 }
             }
         }
@@ -98,7 +107,7 @@ fn next_slab(
     ensures inks { planes.new.inks ≡ planes.old.inks }
     ensures top { IfSome result (IsTopOf planes.old.width planes.old.inks) }
 {
-    let rows = amounts(alloc, planes.width(), first, height, planes.inks())?;
+    let rows = amounts(alloc, None, planes.width(), first, height, planes.inks())?;
     let fits = first <= 300 && rows.rows() <= 300 && first + ABOVE + rows.rows() <= planes.rows();
     if !fits || rows.width() != planes.width() || rows.inks() != planes.inks() {
         return None;
@@ -152,6 +161,101 @@ fn slabs_have_the_dots_of_the_whole_window(rt: HostRuntime) {
         for (width, inks) in [(1, 1), (2, 3), (63, 1), (66, 4), (130, 2), (200, 1)] {
             let wrong = wrong_in_slabs(rt.alloc(), kernel, width, inks);
             assert_eq!(rt; wrong, Some(0), "{kernel:?} at {width} of {inks} inks");
+        }
+    }
+}
+
+// Whether a row has the dots that its amounts give below the errors of the rows above, which it adds to.
+fn is_next_row(
+    kernel: Kernel,
+    rows: &InkRows,
+    errors: &mut ErrorRows,
+    planes: &Planes,
+    i: u8,
+    y: u32,
+) -> bool
+    requires { errors.old.width ≡ rows.now.width }
+    ensures { errors.new.width ≡ rows.now.width }
+{
+    let there = i < planes.inks() && y < planes.rows();
+    if rows.width() > 200 || i >= rows.inks() || y >= rows.rows() || !there {
+        return false;
+    }
+    let mut packed = [0u8; 25];
+    let bytes = &mut packed[..(rows.width() as usize + 7) / 8];
+    errors.diffuse(kernel, rows.row(i, y), bytes);
+    planes.row(i, y) == bytes
+}
+
+// How many rows of an ink are not those of the diffusion row by row.
+fn wrong_rows(
+    alloc: Global,
+    kernel: Kernel,
+    rows: &InkRows,
+    planes: &Planes,
+    i: u8,
+) -> Option<u32> {
+    if rows.width() < 1 || rows.width() > 200 {
+        return None;
+    }
+    let Ok(mut errors) = ErrorRows::make(alloc, rows.width()) else {
+        return None;
+    };
+    let mut wrong = 0u32;
+    for y in 0..rows.rows() {
+        if !is_next_row(kernel, rows, &mut errors, planes, i, y) {
+            wrong = wrong.wrapping_add(1);
+        }
+    }
+    Some(wrong)
+}
+
+// The same of all inks of a slab.
+fn wrong_in_rows(
+    alloc: Global,
+    kernel: Kernel,
+    all: Option<u8>,
+    width: u32,
+    height: u32,
+    inks: u8,
+) -> Option<u32> {
+    let rows = amounts(alloc, all, width, 0, height, inks)?;
+    let Ok(mut planes) = Planes::make(alloc, rows.width(), rows.rows(), rows.inks()) else {
+        return None;
+    };
+    let top = no_errors(alloc, rows.width(), rows.inks())?;
+    let Ok(_) = diffuse_slab(alloc, &rows, kernel, top, &mut planes, 0) else {
+        return None;
+    };
+    let mut wrong = 0u32;
+    for i in 0..inks {
+        wrong = wrong.wrapping_add(wrong_rows(alloc, kernel, &rows, &planes, i)?);
+    }
+    Some(wrong)
+}
+
+#[test]
+fn slabs_have_the_dots_of_rows_one_after_another(rt: HostRuntime) {
+    for kernel in [Kernel::Floyd, Kernel::Jarvis, Kernel::Stucki] {
+        for (width, height, inks) in [
+            (1, 1, 1),
+            (3, 70, 4),
+            (31, 33, 2),
+            (64, 32, 1),
+            (65, 31, 3),
+            (127, 64, 1),
+            (128, 65, 2),
+            (191, 7, 1),
+            (199, 70, 1),
+        ] {
+            for all in [None, Some(0), Some(127), Some(128), Some(255)] {
+                let wrong = wrong_in_rows(rt.alloc(), kernel, all, width, height, inks);
+                assert_eq!(rt;
+                    wrong,
+                    Some(0),
+                    "{kernel:?} at {width} by {height}, {all:?}"
+                );
+            }
         }
     }
 }

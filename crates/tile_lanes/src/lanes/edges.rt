@@ -32,8 +32,10 @@ pub(crate) fn put_above(field: &mut [u16; 3502], above: &[i16; 128])
     ensures there { (n : ℕ) → n < 128 → error_held (slice_index field.new (34 * (6 + n % 64 + n / 64) + n / 64))
         ≡ slice_index_or above.now n (pos 0) }
 {
-    for n in 0..128 {
-        field[34 * (6 + n % 64 + n / 64) + n / 64] = hold(above[n]);
+    for t in 0..2 {
+        for i in 0..64 {
+            field[34 * (6 + i + t) + t] = hold(above[64 * t + i]);
+        }
     }
 }
 
@@ -64,8 +66,10 @@ pub(crate) fn put_left(field: &mut [u16; 3502], left: &[i16; 192])
     ensures kept { (m : ℕ) → ((n : ℕ) → n < 192 → m ≢ 34 * (2 + n % 6 + n / 6) + 2 + n / 6)
         → slice_index field.new m ≡ slice_index field.old m }
 {
-    for n in 0..192 {
-        field[34 * (2 + n % 6 + n / 6) + 2 + n / 6] = hold(left[n]);
+    for t in 0..32 {
+        for i in 0..6 {
+            field[34 * (2 + i + t) + 2 + t] = hold(left[6 * t + i]);
+        }
     }
 }
 
