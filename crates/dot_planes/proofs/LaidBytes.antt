@@ -11,10 +11,6 @@ pub or-nothing : (a : Bool) → (a || false) ≡ a
 or-nothing true = refl
 or-nothing false = refl
 
-or-both : (a b d : Bool) → ((a || b) || d) ≡ (a || (b || d))
-or-both true b d = refl
-or-both false b d = refl
-
 same_le : (a b c d : ℕ) → (a ≤ b → c ≤ d) → (c ≤ d → a ≤ b) → nat_le a b ≡ nat_le c d
 same_le a b c d there back = elim (cases_lt b a) [
   | inl less ↦ elim (cases_lt d c) [
@@ -50,7 +46,10 @@ pub pair-is : (bytes : List ℕ) (i by j a b : ℕ) → by ≤ 8 → j < 8
     → bit_at a j ≡ (nat_lt (j + by) 8 && bit_at (get_or bytes i 0) (j + by))
     → bit_at b j ≡ (nat_le 8 (j + by) && bit_at (get_or bytes (i + 1) 0) (j + by - 8))
     → bit_at (bit_or a b) j ≡ row_dot bytes (8 * i + by + j)
-pair-is bytes i by j a b few low first second = or-is a b j ∙ ap (λ d. d || bit_at b j) first ∙ ap (λ d. (nat_lt (j + by) 8 && bit_at (get_or bytes i 0) (j + by)) || d) second ∙ by_place (cases_lt (j + by) 8)
+pair-is bytes i by j a b few low first second =
+    or-is a b j ∙ ap (λ d. d || bit_at b j) first
+    ∙ ap (λ d. (nat_lt (j + by) 8 && bit_at (get_or bytes i 0) (j + by)) || d) second
+    ∙ by_place (cases_lt (j + by) 8)
   where
     by_place : (j + by < 8) ⊎ (8 ≤ j + by)
         → ((nat_lt (j + by) 8 && bit_at (get_or bytes i 0) (j + by)) || (nat_le 8 (j + by) && bit_at (get_or bytes (i + 1) 0) (j + by - 8))) ≡ row_dot bytes (8 * i + by + j)
@@ -140,7 +139,9 @@ pub laid-step : (old mid : List ℕ) (laid : ℕ → Bool) (from p v c : ℕ) �
     → row_dot mid c ≡ (row_dot old c || (is_in_bytes from p c && laid c))
     → row_dot (set mid p (bit_or (get_or mid p 0) v)) c ≡ (row_dot old c || (is_in_bytes from (p + 1) c && laid c))
 laid-step old mid laid from p v c order inside is so_far =
-    or_at mid p v c inside ∙ ap (λ b. b || ((c / 8 == p) && bit_at v (c % 8))) so_far ∙ or-three _ _ _ _ (more-laid laid from p v c order is)
+    or_at mid p v c inside
+    ∙ ap (λ b. b || ((c / 8 == p) && bit_at v (c % 8))) so_far
+    ∙ or-three _ _ _ _ (more-laid laid from p v c order is)
 
 -- a byte where none is laid
 pub none-more : (laid : ℕ → Bool) (from p c : ℕ) → (8 * p ≤ c → laid c ≡ false)
@@ -223,9 +224,6 @@ pub none-before : (row : List ℕ) (dots i : ℕ) → i ≡ 0 → IsPartBefore r
 none-before row dots i first = λ j low.
     no_bit j ∙ sym (ap (λ b. b && (nat_lt (8 * i + j - 8) dots && row_dot row (8 * i + j - 8))) (lt-leb 8 (8 * i + j) (omega arith)))
 
-pub no-part : (row : List ℕ) (dots i : ℕ) → dots ≤ 8 * i → IsPart row dots i 0
-no-part row dots i past = λ j low. no_bit j ∙ sym (ap (λ b. b && row_dot row (8 * i + j)) (le-ltb (8 * i + j) dots (omega arith)))
-
 -- a byte of a row that begins within byte 0
 pub laid_byte-is : (row : List ℕ) (dots before i j left here a b : ℕ) → before < 8 → j < 8
     → IsPartBefore row dots i left → IsPart row dots i here
@@ -233,7 +231,10 @@ pub laid_byte-is : (row : List ℕ) (dots before i j left here a b : ℕ) → be
     → bit_at b j ≡ (nat_le 8 (j + (8 - before)) && bit_at here (j + (8 - before) - 8))
     → bit_at (bit_or a b) j ≡ laid_dot row dots before (8 * i + j)
 laid_byte-is row dots before i j left here a b few low is_left is_here first second =
-    or-is a b j ∙ ap (λ d. d || bit_at b j) first ∙ ap (λ d. (nat_lt (j + (8 - before)) 8 && bit_at left (j + (8 - before))) || d) second ∙ by_place (cases_lt j before)
+    or-is a b j
+    ∙ ap (λ d. d || bit_at b j) first
+    ∙ ap (λ d. (nat_lt (j + (8 - before)) 8 && bit_at left (j + (8 - before))) || d) second
+    ∙ by_place (cases_lt j before)
   where
     by_place : (j < before) ⊎ (before ≤ j)
         → ((nat_lt (j + (8 - before)) 8 && bit_at left (j + (8 - before))) || (nat_le 8 (j + (8 - before)) && bit_at here (j + (8 - before) - 8))) ≡ laid_dot row dots before (8 * i + j)

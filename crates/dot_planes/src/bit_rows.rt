@@ -75,7 +75,7 @@ fn part_or_none(row: &[u8], dots: usize, i: usize) -> u8
     }
 }
 
-// Byte i of what a row of so many dots is when it begins within byte 0, behind so many others.
+// Byte i of a row of so many dots that begins within byte 0, behind so many others.
 #[inline]
 fn laid_byte(row: &[u8], dots: usize, before: usize, i: usize) -> u8
     requires before { before < 8 }
@@ -109,7 +109,8 @@ fn lay_part(over: &mut [u8], x: usize, row: &[u8], dots: usize, from: usize, to:
     }
 }
 
-// The same for so many bytes behind the first one. Each has eight dots of the row.
+// The same for so many bytes behind the first one, each with eight dots of the row. None waits for another, so that
+// many are laid at once.
 fn lay_whole(over: &mut [u8], x: usize, row: &[u8], dots: usize, many: usize)
     requires inside { x + dots ≤ 8 * length over.old }
     requires small { x + dots ≤ most_columns }
