@@ -31,6 +31,8 @@ mod pictures;
 #[cfg(test)]
 mod plain;
 #[cfg(test)]
+mod played;
+#[cfg(test)]
 mod printed;
 #[cfg(test)]
 mod printers;

@@ -1,0 +1,128 @@
+//! Pseudo-random jobs, whole, cut and with a byte changed: what the driver says of them is what plain programs say.
+use crate::fixture::{run_on, sink};
+use crate::plain_machine::Machine;
+use crate::plain_reader::{Front, Name, Said, Stop};
+use crate::random::{Random, random_job};
+use std::alloc::{AllocError, Global};
+use std::process::Abort;
+use std::test::Fail;
+
+/// What a job comes to: what is written, and where and why it stops.
+#[derive(Drop)]
+struct Outcome {
+    out: Vec<u8>,
+    stop: Option<(u64, &'static str)>,
+}
+
+impl Outcome {
+    /// Asserts that a command says the same of a job.
+    fn is<R: Abort>(
+        &self,
+        rt: &R,
+        alloc: Global,
+        words: &[&str],
+        job: &[u8],
+        piece: u32,
+    ) -> Result<(), Fail> {
+        let (status, line) = match self.stop {
+            Some((at, cause)) => (8, format!(in alloc; "job: offset {at}: {cause}\n")?),
+            None => (0, String::new(alloc)),
+        };
+        assert!(rt; words.len() <= 2);
+        let left = run_on(alloc, words, job, (piece, 0), sink(alloc, 70_000)?)?;
+        left.is(rt, status, self.out.as_slice(), line.as_str());
+        Ok(())
+    }
+}
+
+// Appends the line of a command.
+fn add_line(alloc: Global, at: u64, said: &Said, out: &mut Vec<u8>) -> Result<(), AllocError> {
+    let start = format!(in alloc; "{} {}", at, said.name.word())?;
+    out.extend_from_slice(start.as_bytes())?;
+    for number in said.numbers.iter() {
+        let number = format!(in alloc; " {}", number)?;
+        out.extend_from_slice(number.as_bytes())?;
+    }
+    if said.name == Name::Raster {
+        let dots = format!(in alloc; " {}", Machine::dot_count(alloc, said)?)?;
+        out.extend_from_slice(dots.as_bytes())?;
+    }
+    out.extend_from_slice(b"\n")
+}
+
+// The commands of a job up to a stop, each with its place, and the stop.
+fn read(
+    alloc: Global,
+    job: &[u8],
+) -> Result<(Vec<(u64, Said)>, Option<(u64, &'static str)>), AllocError> {
+    let mut said = Vec::new(alloc);
+    let mut front = Front {
+        rest: job,
+        at: 0,
+        alloc,
+    };
+    for _ in 0..job.len() {
+        if front.rest.is_empty() {
+            return Ok((said, None));
+        }
+        let at = front.at;
+        match front.command() {
+            Ok(command) => said.push((at, command))?,
+            Err(Stop::Cut) => return Ok((said, Some((at, "Cut")))),
+            Err(Stop::Fault { at, cause }) => return Ok((said, Some((at, cause)))),
+            Err(Stop::Memory) => return Err(AllocError),
+        }
+    }
+    Ok((said, None))
+}
+
+fn listed(alloc: Global, job: &[u8]) -> Result<Outcome, AllocError> {
+    let (commands, stop) = read(alloc, job)?;
+    let mut out = Vec::new(alloc);
+    for (at, said) in commands.iter() {
+        add_line(alloc, *at, said, &mut out)?;
+    }
+    Ok(Outcome { out, stop })
+}
+
+fn played(alloc: Global, job: &[u8]) -> Result<Outcome, AllocError> {
+    let (commands, stop) = read(alloc, job)?;
+    let mut machine = Machine::start(alloc);
+    let mut out = Vec::new(alloc);
+    for (at, said) in commands.iter() {
+        if let Some(fault) = machine.run(said, &mut out)? {
+            return Ok(Outcome {
+                out,
+                stop: Some((*at, fault)),
+            });
+        }
+    }
+    Ok(Outcome { out, stop })
+}
+
+// Asserts that the driver lists and plays a job, read in pieces of some length, as the plain programs do.
+fn is_alike<R: Abort>(rt: &R, alloc: Global, job: &[u8], piece: u32) -> Result<(), Fail> {
+    listed(alloc, job)?.is(rt, alloc, &["list"], job, piece)?;
+    played(alloc, job)?.is(rt, alloc, &["dots", "profile=tiny"], job, piece)
+}
+
+#[test]
+fn random_jobs_are_listed_and_played_as_plain_programs_do(rt: HostRuntime) -> Result<(), Fail> {
+    let alloc = rt.alloc();
+    let mut random = Random {
+        state: 0x9E37_79B9_7F4A_7C15,
+    };
+    for _ in 0..120 {
+        let mut job = random_job(alloc, &mut random)?;
+        let piece = 1 + u32::from(random.byte(200));
+        is_alike(&rt, alloc, &job, piece)?;
+        let len = job.len() as u64;
+        let cut = job.get(..random.below(len + 1) as usize);
+        is_alike(&rt, alloc, cut.unwrap_or(&[]), piece)?;
+        if let Some(byte) = job.get_mut(random.below(len + 1) as usize) {
+            *byte = random.any_byte();
+        }
+        is_alike(&rt, alloc, &job, piece)?;
+    }
+    Ok(())
+}
