@@ -5,3 +5,5 @@ pub mod Handed
 pub mod Worked
 pub mod Posts
 pub mod Claims
+pub mod Emptied
+pub mod Ending

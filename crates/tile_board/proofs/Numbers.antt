@@ -81,7 +81,7 @@ and-right true b e = e
 and-right false b e = refl
 
 -- one band on
-row-more : (C j : ℕ) → (j + 1) * C ≡ j * C + C
+pub row-more : (C j : ℕ) → (j + 1) * C ≡ j * C + C
 row-more C j = grind (arith)
 
 row-less : (C j : ℕ) → 0 < j → j * C ≡ (j - 1) * C + C

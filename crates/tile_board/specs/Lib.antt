@@ -5,3 +5,5 @@ pub mod Room
 pub mod Tasks
 pub mod Copies
 pub mod Board
+pub mod Closing
+pub mod Emptying

@@ -5,11 +5,9 @@ ghost use Rattle.tile_board.specs.Hand.{hand_of, held_number};
 ghost use Rattle.tile_board.specs.Slabs.{amounts_of, shape_of, top_edges};
 ghost use Rattle.tile_shape.specs.Geometry.{bands_of, columns_of};
 
-use atomic_table::Table;
-use board_steps::{Cell, Seated, Slab, Tiles, View};
+use board_steps::{BoardTable, Seated};
 use diffusion_kernel::Kernel;
 use dot_planes::{InkRows, TileDots};
-use std::alloc::Global;
 use tile_border::{Task, TopEdges};
 use tile_shape::Place;
 
@@ -19,7 +17,7 @@ pub struct Board<'a> {
     pub(crate) rows: &'a InkRows,
     pub(crate) kernel: Kernel,
     pub(crate) top: TopEdges,
-    pub(crate) table: Table<Cell, View, Slab, Tiles, Global>,
+    pub(crate) table: BoardTable,
     // Empty, with room for those of every tile, so that `close` takes no memory.
     pub(crate) dots: Vec<TileDots>,
     ghost made_for: { (amounts_of table.shared.key ≡ rows.now) × (table.shared.key.kernel ≡ kernel) × (top_edges table.shared.key ≡ top) },

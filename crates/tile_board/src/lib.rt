@@ -4,6 +4,8 @@
 #![tactic(auto)]
 
 mod board;
+mod emptying;
+mod ends;
 mod gives;
 mod kinds;
 mod receives;
