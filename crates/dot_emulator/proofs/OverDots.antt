@@ -1,7 +1,7 @@
 -- A row of a raster over the dots of a sheet.
-use Rattle.std.proofs.Common.{◌≡◌, ◌≢◌, ℕ, zero, suc, ◌+◌, ◌-◌, ◌*◌, ◌/◌, ◌==◌, ◌<◌, ◌≤◌, ◌⊎◌, Bool, true, false, ◌&&◌, ◌||◌, nat_le, nat_lt, List, [], ◌∷◌, ◌++◌, length, take, drop, refl, ◌∙◌, sym, ap, arith, inl, inr, subst, append_assoc, append-nil}
+use Rattle.std.proofs.Common.{◌≡◌, ◌≢◌, ℕ, ◌+◌, ◌-◌, ◌*◌, ◌==◌, ◌<◌, ◌≤◌, ◌⊎◌, Bool, true, false, ◌&&◌, ◌||◌, List, [], ◌++◌, length, take, refl, ◌∙◌, sym, ap, arith, inl, inr, subst, append_assoc, append-nil}
 use Rattle.std.specs.List.{list_any}
-use Rattle.std.proofs.lemmas.Bool.{cases_Bool, cases_eq, cases_lt, eq-eqb, eqb-true, false_from_ne_true, false≢true, and_parts, and_left, and_right, ne_eqb}
+use Rattle.std.proofs.lemmas.Bool.{cases_Bool, cases_eq, cases_lt, eq-eqb, and_right, ne_eqb}
 use Rattle.std.proofs.lemmas.List.Folds.{list_any-append}
 use Rattle.printer_definitions.specs.declared.inks.Ink.{Ink}
 use Rattle.printer_definitions.specs.Inks.{ink_place, same_ink}
@@ -11,7 +11,7 @@ use Rattle.dot_planes.specs.Laying.{Lays, meets}
 use Rattle.dot_planes.specs.Tables.{DotTable, dot, row_dot}
 use Rattle.dot_planes.proofs.LaidRows.{any-no, any-some}
 use Rattle.dot_emulator.specs.declared.firing.Raster.{Raster}
-use Rattle.dot_emulator.specs.Firing.{Grid, HasRows, IsAbove, Stands, fired}
+use Rattle.dot_emulator.specs.Firing.{Grid, HasRows, Stands, fired}
 use Rattle.dot_emulator.specs.Sheets.{HasPlaces, dot_at}
 use Rattle.dot_emulator.proofs.RasterDots.{IsAboveFrom, below-none, packed_row, rest, rest-first, rest-next, rest-none, row-long, row_fired, sheet_row}
 use Rattle.dot_emulator.proofs.RowDots.{any-same, eqb-times, row-any}

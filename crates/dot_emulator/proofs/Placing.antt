@@ -1,18 +1,16 @@
 -- A raster that is not refused for its place.
-use Rattle.std.proofs.Common.{◌≡◌, ℕ, ◌+◌, ◌-◌, ◌*◌, ◌/◌, ◌%◌, ◌==◌, ◌<◌, ◌≤◌, Bool, true, false, not, ◌||◌, nat_le, nat_lt, List, [], ◌∷◌, ◌++◌, refl, ◌∙◌, sym, ap, arith}
+use Rattle.std.proofs.Common.{◌≡◌, ◌+◌, ◌-◌, ◌*◌, ◌/◌, ◌%◌, ◌==◌, ◌≤◌, false, not, ◌||◌, nat_le, nat_lt, List, [], ◌∷◌, ◌∙◌, sym, ap, arith}
 use Rattle.std.specs.Prelude.{None}
 use Rattle.std.specs.List.{list_any}
 use Rattle.std.proofs.lemmas.Bool.{eqb-true, le-ltb, not-false, or_parts}
 use Rattle.printer_definitions.specs.Printer.{Printer, column_step, nozzle_step, row_step}
 use Rattle.escp2_definitions.specs.declared.command.RasterHead.{RasterHead}
-use Rattle.escp2_definitions.specs.declared.command.Command.TheVariants as c
 use Rattle.escp2_definitions.specs.declared.stops.EmuFault.TheVariants.{NotGraphics, Density, Rows, OffGrid, OffSheet, Overprint}
-use Rattle.escp2_definitions.specs.Machine.{Machine, Refusal, bottom_margin, first_fault, from_top, is_off_grid, is_other_density, no_margins, no_unit, overprints, page_length, raster_dots, refusals, refuse, rows_dots}
+use Rattle.escp2_definitions.specs.Commands.{last_column}
+use Rattle.escp2_definitions.specs.Machine.{Machine, Refusal, bottom_margin, first_fault, from_top, is_off_grid, is_other_density, no_margins, no_unit, overprints, page_length, raster_dots, refuse, rows_dots}
 use Rattle.dot_emulator.specs.declared.firing.Raster.{Raster}
 use Rattle.dot_emulator.specs.declared.raster.Steps.{Steps}
-use Rattle.dot_emulator.specs.Firing.{Stands, fired}
-use Rattle.dot_emulator.specs.Places.{Placed, grid_of, late_refusals}
-use Rattle.dot_emulator.specs.Pages.{sheet_rows}
+use Rattle.dot_emulator.specs.Places.{Placed}
 use Rattle.dot_emulator.specs.States.{early_fault}
 use Rattle.dot_emulator.specs.Steps.{AreStepsOf}
 use Rattle.dot_emulator.proofs.Refusals.{NoneOf, div-mono, ends-at, multiple, none-of}
@@ -30,7 +28,7 @@ early p m head =
 pub record IsMade (p : Printer) (m : Machine) (head : RasterHead) (s : Steps) (r : Raster) : Type 0 where
   pub steps : AreStepsOf p s
   pub passed : None ≡ early_fault p m head
-  pub fits : r.x + head.n ≤ 8191
+  pub fits : r.x + head.n ≤ last_column
   pub head_is : r.head ≡ head
   pub ink_is : r.ink ≡ m.colour
   pub x_is : r.x ≡ m.across / s.column
@@ -41,7 +39,7 @@ pub record IsMade (p : Printer) (m : Machine) (head : RasterHead) (s : Steps) (r
 
 pub placed : (p : Printer) (m : Machine) (head : RasterHead) (s : Steps) (r : Raster) → IsMade p m head s r → Placed p m head r
 placed p m head s r made = record {
-  left = λ rows. none.more (refuse (nat_lt 8191 (m.across / column_step p + head.n) || list_any (λ d. nat_le (bottom_margin m) d.y) (raster_dots m head rows)) OffSheet
+  left = λ rows. none.more (refuse (nat_lt last_column (m.across / column_step p + head.n) || list_any (λ d. nat_le (bottom_margin m) d.y) (raster_dots m head rows)) OffSheet
       ∷ refuse (overprints m.dots (raster_dots m head rows)) Overprint ∷ [])
       ∙ ap (λ b. first_fault (refuse (b || list_any (λ d. nat_le (bottom_margin m) d.y) (raster_dots m head rows)) OffSheet
       ∷ refuse (overprints m.dots (raster_dots m head rows)) Overprint ∷ [])) inside;
@@ -87,5 +85,5 @@ placed p m head s r made = record {
     down_is : r.y * row_step p ≡ from_top m
     down_is = ap (λ n. n * row_step p) y_is ∙ multiple (from_top m) (row_step p) (not-false _ off_grid.1)
 
-    inside : nat_lt 8191 (m.across / column_step p + head.n) ≡ false
-    inside = le-ltb 8191 _ (omega (arith, made.fits, x_is))
+    inside : nat_lt last_column (m.across / column_step p + head.n) ≡ false
+    inside = le-ltb last_column _ (omega (arith, made.fits, x_is))

@@ -1,11 +1,11 @@
 -- The dots of one row of a raster.
-use Rattle.std.proofs.Common.{◌≡◌, ◌≢◌, ℕ, zero, suc, ◌+◌, ◌-◌, ◌*◌, ◌/◌, ◌%◌, ◌==◌, ◌<◌, ◌≤◌, Bool, true, false, ◌&&◌, ◌||◌, nat_le, List, [], ◌∷◌, ◌++◌, length, take, refl, ◌∙◌, sym, ap, arith, inl, inr, length-append, length-take}
+use Rattle.std.proofs.Common.{◌≡◌, ℕ, zero, suc, ◌+◌, ◌-◌, ◌*◌, ◌/◌, ◌%◌, ◌==◌, ◌<◌, ◌≤◌, Bool, true, false, ◌&&◌, ◌||◌, nat_le, List, [], ◌∷◌, length, take, refl, ◌∙◌, sym, ap, arith, inl, inr, length-append, length-take}
 use Rattle.std.specs.List.{list_any}
 use Rattle.std.proofs.Math.Nat.{mul-div_cancel}
-use Rattle.std.proofs.lemmas.Bool.{cases_Bool, cases_eq, eq-eqb, ne_eqb}
+use Rattle.std.proofs.lemmas.Bool.{cases_eq, eq-eqb, ne_eqb}
 use Rattle.std.proofs.lemmas.List.{get_or-take}
 use Rattle.printer_definitions.specs.declared.inks.Ink.{Ink}
-use Rattle.escp2_definitions.specs.Machine.{Dot, bit_at, bits, byte_bits, row_dots}
+use Rattle.escp2_definitions.specs.Machine.{Dot, bits, byte_bits, row_dots}
 use Rattle.escp2_definitions.specs.Packed.{at}
 use Rattle.weave_definitions.specs.Weave.{count_from}
 use Rattle.dot_planes.specs.Laying.{has_dot}

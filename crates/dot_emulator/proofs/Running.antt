@@ -1,21 +1,20 @@
 -- What the emulator shows behind a command.
-use Rattle.std.proofs.Common.{◌≡◌, ℕ, zero, suc, ◌+◌, ◌-◌, ◌*◌, ◌/◌, ◌<◌, ◌≤◌, Bool, true, false, nat_le, nat_lt, List, [], ◌∷◌, ◌++◌, length, max, refl, ◌∙◌, sym, ap, arith, subst, append-nil, length-append}
-use Rattle.std.specs.Prelude.{Option, Some, None, Result, Ok, Err, is_some, is_none, unwrap_or, if◌then◌else◌}
+use Rattle.std.proofs.Common.{◌≡◌, ℕ, suc, ◌+◌, ◌-◌, ◌/◌, ◌≤◌, Bool, true, false, nat_le, nat_lt, List, [], ◌∷◌, ◌++◌, length, refl, ◌∙◌, sym, ap, arith, subst, append-nil, length-append}
+use Rattle.std.specs.Prelude.{Option, Some, None, Ok, is_some, is_none, if◌then◌else◌}
 use Rattle.std.specs.List.{AllByRecursion, list_any}
 use Rattle.std.proofs.lemmas.Bool.{false≢true, lt-ltb, ltb-false, ltb-true}
 use Rattle.printer_definitions.specs.Printer.{Printer, column_step, row_step}
 use Rattle.escp2_definitions.specs.declared.command.RasterHead.{RasterHead}
 use Rattle.escp2_definitions.specs.declared.command.Command.{Command}
 use Rattle.escp2_definitions.specs.declared.command.Command.TheVariants as c
-use Rattle.escp2_definitions.specs.declared.stops.EmuFault.{EmuFault}
 use Rattle.escp2_definitions.specs.declared.stops.EmuFault.TheVariants.{Backward, NoUnit, OffSheet, Overprint}
-use Rattle.escp2_definitions.specs.Machine.{Dot, Machine, after, bottom_margin, first_fault, given, has_dots, overprints, page_length, raster_dots, refusals, refuse}
+use Rattle.escp2_definitions.specs.Machine.{Dot, Machine, after, bottom_margin, first_fault, given, has_dots, overprints, page_length, refusals, refuse}
 use Rattle.dot_planes.specs.Tables.{DotTable}
 use Rattle.dot_emulator.specs.declared.state.State.{State}
 use Rattle.dot_emulator.specs.Hands.{IsBlankBehind, rows_or}
 use Rattle.dot_emulator.specs.Pages.{sheet_rows}
 use Rattle.dot_emulator.specs.declared.firing.Raster.{Raster}
-use Rattle.dot_emulator.specs.Firing.{Grid, HasRows, IsAbove, PlanesHave, Stands, fired}
+use Rattle.dot_emulator.specs.Firing.{Grid, HasRows, IsAbove, PlanesHave, fired}
 use Rattle.dot_emulator.specs.Places.{Placed, grid_of}
 use Rattle.dot_emulator.specs.Runs.{AreTaken, LaidIn, Runs, Shows, ShowsDots}
 use Rattle.dot_emulator.specs.declared.emulator.Emulator.{Emulator}

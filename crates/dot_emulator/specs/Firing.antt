@@ -1,5 +1,5 @@
 -- The dots that a raster fires, from its place in columns and rows of dots.
-use Rattle.std.specs.Prelude.{◌≡◌, ℕ, ◌+◌, ◌*◌, ◌<◌, ◌≤◌, false, nat_le, List, length, Option, Some, None}
+use Rattle.std.specs.Prelude.{◌≡◌, ℕ, ◌*◌, ◌≤◌, false, nat_le, List, length, Option, Some, None}
 use Rattle.std.specs.List.{list_any}
 use Rattle.escp2_definitions.specs.Commands.{row_bytes}
 use Rattle.escp2_definitions.specs.Machine.{Dot, rows_dots}

@@ -1,5 +1,6 @@
 -- The planes in hand, which are there from the first dot on.
 use Rattle.std.specs.Prelude.{◌≡◌, ◌<◌, ◌≤◌, ℕ, Bool, false, Option, Some, None}
+use Rattle.escp2_definitions.specs.Commands.{last_column}
 use Rattle.dot_planes.specs.Tables.{DotTable, dot}
 
 abbrev pub inks_of : Option DotTable → ℕ
@@ -7,7 +8,7 @@ inks_of None = 4
 inks_of (Some t) = t.inks
 
 abbrev pub width_of : Option DotTable → ℕ
-width_of None = 8191
+width_of None = last_column
 width_of (Some t) = t.width
 
 -- their rows, or another number where there are none

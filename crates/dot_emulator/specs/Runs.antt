@@ -1,6 +1,7 @@
 -- What the emulator is of the machine, and what it answers.
 use Rattle.std.specs.Prelude.{◌≡◌, ℕ, true, false, List, [], ◌∷◌, ◌++◌, Option, Some, None, Result, Ok, Err}
 use Rattle.printer_definitions.specs.Printer.{Printer, column_step, row_step}
+use Rattle.escp2_definitions.specs.Commands.{last_column}
 use Rattle.escp2_definitions.specs.declared.command.Command.{Command}
 use Rattle.escp2_definitions.specs.Machine.{Dot, Machine, Sheet as PrintedSheet, after, first_fault, given, has_dots, refusals}
 use Rattle.dot_planes.specs.Tables.{DotTable, dot}
@@ -58,7 +59,7 @@ AreTaken (Some old) t = t ≡ old
 
 pub record Taken (rows : ℕ) (old : Option DotTable) (t : DotTable) : Type 0 where
   pub inks : t.inks ≡ 4
-  pub width : t.width ≡ 8191
+  pub width : t.width ≡ last_column
   pub height : t.rows ≡ rows
   pub taken : AreTaken old t
 

@@ -1,5 +1,5 @@
 //! The machine with its sheet.
-ghost use Rattle.escp2_definitions.specs.Commands.{in_table, rows_len};
+ghost use Rattle.escp2_definitions.specs.Commands.{in_table, last_column, rows_len};
 ghost use Rattle.escp2_definitions.specs.Machine.{start};
 ghost use Rattle.printer_profile.specs.Profiles.{printer_of};
 ghost use Rattle.printer_profile.specs.Validity.{check};
@@ -9,11 +9,12 @@ ghost use Rattle.dot_emulator.specs.declared.emulator.EmuStop.TheVariants as sto
 ghost use Rattle.std.specs.Prelude.{IsOk, length, true, ◌≡◌};
 
 use crate::firing::Raster;
-use crate::raster::{MOST_COLUMNS, Steps};
+use crate::raster::Steps;
 use crate::state::State;
 use crate::{Command, EmuFault, RasterHead, Sheet};
 use dot_planes::Planes;
 use printer_profile::{Profile, checked_can_print};
+use pwg_definitions::MOST_COLUMNS;
 use std::alloc::Global;
 use weave_base::Memory;
 
@@ -51,7 +52,7 @@ pub struct Emulator {
     /// Of the sheet in hand, from its first dot on.
     planes: Option<Planes>,
     ghost inks: { inks_of planes ≡ 4 },
-    ghost width: { width_of planes ≡ 8191 },
+    ghost width: { width_of planes ≡ last_column },
     ghost blank: { IsBlankBehind state.columns planes },
     ghost rows: { rows_or (sheet_rows state.page steps.row) planes ≡ sheet_rows state.page steps.row },
 }
@@ -145,7 +146,7 @@ impl Emulator {
 
     // Where a raster stands, or why it is refused whatever its dots.
     fn place(&self, head: RasterHead) -> Result<Raster, EmuFault>
-        requires { head.n ≤ 8191 }
+        requires { head.n ≤ last_column }
         ensures placed { (p : Printer) (dots : List Dot) → AreStepsOf p self.now.steps → IsPlaced p (machine_of self.now.state dots) head result }
         ensures page { OnOk result (1 ≤ unwrap_or self.now.state.page 0) }
         ensures head { IfOk result (λ r. r.head ≡ head) }

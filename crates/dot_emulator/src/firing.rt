@@ -1,7 +1,8 @@
 //! The dots that a raster fires.
 ghost use Rattle.dot_planes.specs.Tables.{HasSizeOf};
-ghost use Rattle.escp2_definitions.specs.Commands.{row_bytes};
+ghost use Rattle.escp2_definitions.specs.Commands.{last_column, row_bytes};
 ghost use Rattle.printer_definitions.specs.Inks.{ink_place};
+ghost use Rattle.pwg_definitions.specs.Limits.{most_rows};
 ghost use Rattle.std.specs.Prelude.{drop, length, take, ◌*◌, ◌+◌, ◌<◌, ◌≡◌, ◌≤◌};
 
 use crate::RasterHead;
@@ -21,9 +22,9 @@ pub(crate) struct Raster {
     pub(crate) pitch: u8,
     /// The first row of the sheet at or below the bottom margin.
     pub(crate) end: u32,
-    ghost y_most: { y ≤ 40000 },
-    ghost end_most: { end ≤ 15840 },
-    ghost x_most: { x + head.n ≤ 8191 },
+    ghost y_most: { y ≤ 2 * most_rows },
+    ghost end_most: { end ≤ most_rows },
+    ghost x_most: { x + head.n ≤ last_column },
 }
 
 // The place of an ink among the planes of a sheet.
@@ -107,7 +108,7 @@ impl Raster {
     pub(crate) fn overprints(&self, rows: &[u8], planes: &Planes) -> bool
         requires rows { HasRows self.now rows.now }
         requires inks { planes.now.inks ≡ 4 }
-        requires width { planes.now.width ≡ 8191 }
+        requires width { planes.now.width ≡ last_column }
         requires height { self.now.end ≤ planes.now.rows }
         ensures { (g : Grid) (dots : List Dot) → Stands g self.now → IsAbove g self.now rows.now → HasPlaces g.column g.row dots planes.now
             → result ≡ overprints dots (fired g self.now rows.now) }
@@ -128,7 +129,7 @@ impl Raster {
     pub(crate) fn lay(&self, rows: &[u8], planes: &mut Planes)
         requires rows { HasRows self.now rows.now }
         requires inks { planes.old.inks ≡ 4 }
-        requires width { planes.old.width ≡ 8191 }
+        requires width { planes.old.width ≡ last_column }
         requires height { self.now.end ≤ planes.old.rows }
         ensures size { HasSizeOf planes.old planes.new }
         ensures beside { IsKeptFrom (self.now.x + self.now.head.n) planes.old planes.new }

@@ -1,5 +1,6 @@
 //! What a raster is refused for before its dots are looked at.
 ghost use Rattle.dot_emulator.specs.States.{early_fault, machine_of};
+ghost use Rattle.escp2_definitions.specs.Commands.{last_column};
 ghost use Rattle.printer_definitions.specs.Printer.{column_step, nozzle_step, row_step};
 ghost use Rattle.printer_profile.specs.Profiles.{printer_of};
 ghost use Rattle.separation_definitions.specs.CanPrint.{CanPrint};
@@ -9,6 +10,7 @@ use crate::firing::Raster;
 use crate::state::State;
 use crate::{EmuFault, RasterHead};
 use printer_profile::Profile;
+use pwg_definitions::MOST_COLUMNS;
 
 /// The steps of a printer, in 1/3600 inch, and its nozzles.
 #[derive(Clone, Copy)]
@@ -45,9 +47,6 @@ impl Steps {
         }
     }
 }
-
-/// The columns of the widest sheet.
-pub(crate) const MOST_COLUMNS: u32 = 8191;
 
 impl State {
     ghost use Rattle.dot_emulator.specs.Pages.{sheet_rows};
@@ -87,7 +86,7 @@ impl State {
 
     /// Where a raster stands, or why it is refused whatever its dots.
     pub(crate) fn place(&self, steps: Steps, head: RasterHead) -> Result<Raster, EmuFault>
-        requires { head.n ≤ 8191 }
+        requires { head.n ≤ last_column }
         ensures placed { (p : Printer) (dots : List Dot) → AreStepsOf p steps → IsPlaced p (machine_of self.now dots) head result }
         ensures page { OnOk result (1 ≤ unwrap_or self.now.page 0) }
         ensures head { IfOk result (λ r. r.head ≡ head) }

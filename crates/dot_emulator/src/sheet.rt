@@ -1,5 +1,6 @@
 //! Sheets with their dots.
 ghost use Rattle.dot_emulator.specs.Sheets.{IsBlankFrom};
+ghost use Rattle.escp2_definitions.specs.Commands.{last_column};
 ghost use Rattle.std.specs.Prelude.{◌≡◌, ◌≤◌};
 
 use dot_planes::Planes;
@@ -15,7 +16,7 @@ pub struct Sheet {
     ghost inks: { planes.inks ≡ 4 },
     ghost height: { planes.rows ≡ rows },
     ghost some: { 1 ≤ columns },
-    ghost most: { columns ≤ 8191 },
+    ghost most: { columns ≤ last_column },
     ghost width: { columns ≤ planes.width },
     ghost blank: { IsBlankFrom columns planes },
 }

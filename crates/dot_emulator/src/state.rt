@@ -1,5 +1,6 @@
 //! What the machine keeps besides the dots of its sheet.
 ghost use Rattle.dot_emulator.specs.Margins.{bottom_or, top_of};
+ghost use Rattle.escp2_definitions.specs.Commands.{last_column};
 ghost use Rattle.escp2_definitions.specs.Machine.{bottom_margin, page_length, start, top_margin, units};
 ghost use Rattle.std.specs.Prelude.{[], unwrap_or, ◌*◌, ◌≡◌, ◌≤◌};
 
@@ -30,7 +31,7 @@ pub(crate) struct State {
     ghost down_most: { down ≤ 79200 },
     ghost top_most: { top_of margins ≤ 79200 },
     ghost across_most: { across ≤ 20000000 },
-    ghost columns_most: { columns ≤ 8191 },
+    ghost columns_most: { columns ≤ last_column },
     ghost columns_some: { 1 ≤ columns },
     ghost unit_some: { 1 ≤ unwrap_or unit 1 },
     ghost bottom_some: { 1 ≤ bottom_or 1 margins },

@@ -1,11 +1,11 @@
 -- A byte of dots at any column of a packed row.
-use Rattle.std.proofs.Common.{◌≡◌, ℕ, ◌+◌, ◌-◌, ◌*◌, ◌/◌, ◌%◌, ◌^◌, ◌==◌, ◌<◌, ◌≤◌, Bool, true, false, ◌&&◌, ◌||◌, nat_le, nat_lt, List, length, get_or, set, refl, ◌∙◌, sym, ap, arith, bit_or, inl, inr, get_or-set_other, get_or-set_same, length-set, ◌⊎◌}
-use Rattle.std.proofs.lemmas.Bool.Decides.{nat_tests}
-use Rattle.std.proofs.lemmas.Bool.{true≢false, false≢true, cases_eq, cases_lt, false_from_ne_true, ltb-true, and_parts, lt-ltb, le-ltb, le-leb, lt-leb, eq-eqb, ne_eqb, eqb-true}
+use Rattle.std.proofs.Common.{◌≡◌, ℕ, suc, ◌+◌, ◌-◌, ◌*◌, ◌/◌, ◌%◌, ◌^◌, ◌==◌, ◌<◌, ◌≤◌, Bool, true, false, ◌&&◌, ◌||◌, nat_le, nat_lt, List, length, get_or, set, refl, ◌∙◌, sym, ap, arith, bit_or, inl, inr, get_or-set_other, get_or-set_same, ◌⊎◌}
+use Rattle.std.proofs.lemmas.Bool.{cases_eq, cases_lt, lt-ltb, le-ltb, le-leb, lt-leb, eq-eqb, ne_eqb}
 use Rattle.escp2_definitions.specs.Machine.{bit_at}
-use Rattle.dot_planes.specs.Laying.{byte_dot}
+use Rattle.dot_planes.specs.Laying.{is_in_bytes, laid_dot}
 use Rattle.dot_planes.specs.Tables.{row_dot}
 use Rattle.dot_planes.proofs.MovedBits.{cut-is, or-is}
+use Rattle.dot_planes.proofs.PackedRows.{no_bit}
 
 pub or-nothing : (a : Bool) → (a || false) ≡ a
 or-nothing true = refl
@@ -23,12 +23,6 @@ same_le a b c d there back = elim (cases_lt b a) [
   ]
   | inr more ↦ le-leb a b more ∙ sym (le-leb c d (there more))
 ]
-
-in_first : (p q l l' i d d' z : Bool) → p ≡ true → q ≡ false → l ≡ l' → i ≡ true → d ≡ d' → ((p && (l && d)) || (q && z)) ≡ (l' && (i && d'))
-in_first true false l l' true d d' z e1 e2 e3 e4 e5 = or-nothing (l && d) ∙ ap (λ b. b && d) e3 ∙ ap (λ b. l' && b) e5
-in_first false q l l' i d d' z e1 e2 e3 e4 e5 = absurd (false≢true e1)
-in_first true true l l' i d d' z e1 e2 e3 e4 e5 = absurd (true≢false e2)
-in_first true false l l' false d d' z e1 e2 e3 e4 e5 = absurd (false≢true e4)
 
 -- a dot by its byte and its place there
 pub row_dot-at : (row : List ℕ) (c i j : ℕ) → c ≡ 8 * i + j → j < 8 → row_dot row c ≡ bit_at (get_or row i 0) j
@@ -51,23 +45,31 @@ pub part-whole : (row : List ℕ) (dots i j : ℕ) → 8 ≤ dots - 8 * i → j 
 part-whole row dots i j many low =
     sym (ap (λ b. b && row_dot row (8 * i + j)) (lt-ltb (8 * i + j) dots (omega arith)) ∙ row_dot-at row (8 * i + j) i j refl low)
 
--- eight dots out of two bytes
+-- eight dots out of two bytes, from a place in the first on
+pub pair-is : (bytes : List ℕ) (i by j a b : ℕ) → by ≤ 8 → j < 8
+    → bit_at a j ≡ (nat_lt (j + by) 8 && bit_at (get_or bytes i 0) (j + by))
+    → bit_at b j ≡ (nat_le 8 (j + by) && bit_at (get_or bytes (i + 1) 0) (j + by - 8))
+    → bit_at (bit_or a b) j ≡ row_dot bytes (8 * i + by + j)
+pair-is bytes i by j a b few low first second = or-is a b j ∙ ap (λ d. d || bit_at b j) first ∙ ap (λ d. (nat_lt (j + by) 8 && bit_at (get_or bytes i 0) (j + by)) || d) second ∙ by_place (cases_lt (j + by) 8)
+  where
+    by_place : (j + by < 8) ⊎ (8 ≤ j + by)
+        → ((nat_lt (j + by) 8 && bit_at (get_or bytes i 0) (j + by)) || (nat_le 8 (j + by) && bit_at (get_or bytes (i + 1) 0) (j + by - 8))) ≡ row_dot bytes (8 * i + by + j)
+    by_place (inl here) =
+        ap (λ t. (t && bit_at (get_or bytes i 0) (j + by)) || (nat_le 8 (j + by) && bit_at (get_or bytes (i + 1) 0) (j + by - 8))) (lt-ltb (j + by) 8 here)
+        ∙ ap (λ t. bit_at (get_or bytes i 0) (j + by) || (t && bit_at (get_or bytes (i + 1) 0) (j + by - 8))) (lt-leb 8 (j + by) here)
+        ∙ or-nothing _ ∙ sym (row_dot-at bytes (8 * i + by + j) i (j + by) (omega arith) here)
+    by_place (inr next) =
+        ap (λ t. (t && bit_at (get_or bytes i 0) (j + by)) || (nat_le 8 (j + by) && bit_at (get_or bytes (i + 1) 0) (j + by - 8))) (le-ltb (j + by) 8 next)
+        ∙ ap (λ t. t && bit_at (get_or bytes (i + 1) 0) (j + by - 8)) (le-leb 8 (j + by) next)
+        ∙ sym (row_dot-at bytes (8 * i + by + j) (i + 1) (j + by - 8) (omega arith) (omega arith))
+
 pub window-is : (bytes : List ℕ) (x j a b : ℕ) → j < 8
     → bit_at a j ≡ (nat_lt (j + x % 8) 8 && bit_at (get_or bytes (x / 8) 0) (j + x % 8))
     → bit_at b j ≡ (nat_le 8 (j + x % 8) && bit_at (get_or bytes (x / 8 + 1) 0) (j + x % 8 - 8))
     → bit_at (bit_or a b) j ≡ row_dot bytes (x + j)
-window-is bytes x j a b low first second = or-is a b j ∙ ap (λ d. d || bit_at b j) first ∙ ap (λ d. (nat_lt (j + x % 8) 8 && bit_at (get_or bytes (x / 8) 0) (j + x % 8)) || d) second ∙ by_place (cases_lt (j + x % 8) 8)
-  where
-    by_place : (j + x % 8 < 8) ⊎ (8 ≤ j + x % 8)
-        → ((nat_lt (j + x % 8) 8 && bit_at (get_or bytes (x / 8) 0) (j + x % 8)) || (nat_le 8 (j + x % 8) && bit_at (get_or bytes (x / 8 + 1) 0) (j + x % 8 - 8))) ≡ row_dot bytes (x + j)
-    by_place (inl here) =
-        ap (λ t. (t && bit_at (get_or bytes (x / 8) 0) (j + x % 8)) || (nat_le 8 (j + x % 8) && bit_at (get_or bytes (x / 8 + 1) 0) (j + x % 8 - 8))) (lt-ltb (j + x % 8) 8 here)
-        ∙ ap (λ t. bit_at (get_or bytes (x / 8) 0) (j + x % 8) || (t && bit_at (get_or bytes (x / 8 + 1) 0) (j + x % 8 - 8))) (lt-leb 8 (j + x % 8) here)
-        ∙ or-nothing _ ∙ sym (row_dot-at bytes (x + j) (x / 8) (j + x % 8) (omega arith) here)
-    by_place (inr next) =
-        ap (λ t. (t && bit_at (get_or bytes (x / 8) 0) (j + x % 8)) || (nat_le 8 (j + x % 8) && bit_at (get_or bytes (x / 8 + 1) 0) (j + x % 8 - 8))) (le-ltb (j + x % 8) 8 next)
-        ∙ ap (λ t. t && bit_at (get_or bytes (x / 8 + 1) 0) (j + x % 8 - 8)) (le-leb 8 (j + x % 8) next)
-        ∙ sym (row_dot-at bytes (x + j) (x / 8 + 1) (j + x % 8 - 8) (omega arith) (omega arith))
+window-is bytes x j a b low first second =
+    let place : 8 * (x / 8) + x % 8 + j ≡ x + j = omega arith in
+    pair-is bytes (x / 8) (x % 8) j a b (omega arith) low first second ∙ ap (row_dot bytes) place
 
 -- ---- dots turned on
 
@@ -91,73 +93,162 @@ or_at bytes p v c inside = by_place (cases_eq (c / 8) p)
         ∙ sym (or-nothing _)
         ∙ ap (λ t. row_dot bytes c || (t && bit_at v (c % 8))) (sym (ne_eqb (c / 8) p there))
 
--- the two parts of a byte that is moved to a column
-pub record IsMoved (byte x front behind : ℕ) : Type 0 where
-  pub here : (j : ℕ) → j < 8 → bit_at front j ≡ (nat_le 8 (j + (8 - x % 8)) && bit_at byte (j + (8 - x % 8) - 8))
-  pub next : (j : ℕ) → j < 8 → bit_at behind j ≡ (nat_lt (j + (8 - x % 8)) 8 && bit_at byte (j + (8 - x % 8)))
+-- ---- rows that are laid byte by byte
 
--- a dot of the byte, or a dot of its parts
-moved-dot : (byte x front behind c : ℕ) → IsMoved byte x front behind
-    → (((c / 8 == x / 8) && bit_at front (c % 8)) || ((c / 8 == x / 8 + 1) && bit_at behind (c % 8))) ≡ byte_dot byte x c
-moved-dot byte x front behind c moved = first_step ∙ by_place (cases_eq (c / 8) (x / 8)) (cases_eq (c / 8) (x / 8 + 1))
+pub and-none : (a : Bool) → (a && false) ≡ false
+and-none true = refl
+and-none false = refl
+
+or-three : (a b d e : Bool) → (b || d) ≡ e → ((a || b) || d) ≡ (a || e)
+or-three true b d e is = refl
+or-three false b d e is = is
+
+pub outside-left : (from to c : ℕ) → c < 8 * from → is_in_bytes from to c ≡ false
+outside-left from to c left = ap (λ b. b && nat_lt c (8 * to)) (lt-leb (8 * from) c left)
+
+pub outside-right : (from to c : ℕ) → 8 * to ≤ c → is_in_bytes from to c ≡ false
+outside-right from to c right = ap (λ b. nat_le (8 * from) c && b) (le-ltb c (8 * to) right) ∙ and-none _
+
+pub inside-both : (from to c : ℕ) → 8 * from ≤ c → c < 8 * to → is_in_bytes from to c ≡ true
+inside-both from to c left right = ap (λ b. b && nat_lt c (8 * to)) (le-leb (8 * from) c left) ∙ lt-ltb c (8 * to) right
+
+-- no byte has no dot
+pub none-laid : (laid : ℕ → Bool) (from c : ℕ) → (is_in_bytes from from c && laid c) ≡ false
+none-laid laid from c = elim (cases_lt c (8 * from)) [
+  | inl left ↦ ap (λ b. b && laid c) (outside-left from from c left)
+  | inr right ↦ ap (λ b. b && laid c) (outside-right from from c right)
+]
+
+-- the dots of one byte more
+more-laid : (laid : ℕ → Bool) (from p v c : ℕ) → from ≤ p → ((j : ℕ) → j < 8 → bit_at v j ≡ laid (8 * p + j))
+    → ((is_in_bytes from p c && laid c) || ((c / 8 == p) && bit_at v (c % 8))) ≡ (is_in_bytes from (p + 1) c && laid c)
+more-laid laid from p v c order is = elim (cases_eq (c / 8) p) [
+  | inl here ↦
+      let place : 8 * p + c % 8 ≡ c = omega arith in
+      ap (λ b. (b && laid c) || ((c / 8 == p) && bit_at v (c % 8))) (outside-right from p c (omega arith))
+      ∙ ap (λ b. b && bit_at v (c % 8)) (eq-eqb (c / 8) p here)
+      ∙ is (c % 8) (omega arith) ∙ ap laid place
+      ∙ sym (ap (λ b. b && laid c) (inside-both from (p + 1) c (omega arith) (omega arith)))
+  | inr there ↦
+      ap (λ b. (is_in_bytes from p c && laid c) || (b && bit_at v (c % 8))) (ne_eqb (c / 8) p there)
+      ∙ or-nothing _
+      ∙ ap (λ b. (nat_le (8 * from) c && b) && laid c) (same_le (suc c) (8 * p) (suc c) (8 * (p + 1)) (λ le. omega arith) (λ le. omega arith))
+]
+
+pub laid-step : (old mid : List ℕ) (laid : ℕ → Bool) (from p v c : ℕ) → from ≤ p → p < length mid
+    → ((j : ℕ) → j < 8 → bit_at v j ≡ laid (8 * p + j))
+    → row_dot mid c ≡ (row_dot old c || (is_in_bytes from p c && laid c))
+    → row_dot (set mid p (bit_or (get_or mid p 0) v)) c ≡ (row_dot old c || (is_in_bytes from (p + 1) c && laid c))
+laid-step old mid laid from p v c order inside is so_far =
+    or_at mid p v c inside ∙ ap (λ b. b || ((c / 8 == p) && bit_at v (c % 8))) so_far ∙ or-three _ _ _ _ (more-laid laid from p v c order is)
+
+-- a byte where none is laid
+pub none-more : (laid : ℕ → Bool) (from p c : ℕ) → (8 * p ≤ c → laid c ≡ false)
+    → (is_in_bytes from p c && laid c) ≡ (is_in_bytes from (p + 1) c && laid c)
+none-more laid from p c none = elim (cases_lt c (8 * p)) [
+  | inl before ↦ ap (λ b. (nat_le (8 * from) c && b) && laid c) (lt-ltb c (8 * p) before ∙ sym (lt-ltb c (8 * (p + 1)) (omega arith)))
+  | inr behind ↦
+      ap (λ b. is_in_bytes from p c && b) (none behind) ∙ and-none _
+      ∙ sym (ap (λ b. is_in_bytes from (p + 1) c && b) (none behind) ∙ and-none _)
+]
+
+-- two stretches of bytes, one behind the other
+pub laid-joins : (laid : ℕ → Bool) (from mid to c : ℕ) → from ≤ mid → mid ≤ to
+    → ((is_in_bytes from mid c && laid c) || (is_in_bytes mid to c && laid c)) ≡ (is_in_bytes from to c && laid c)
+laid-joins laid from mid to c first second = elim (cases_lt c (8 * mid)) [
+  | inl left ↦
+      ap (λ b. (is_in_bytes from mid c && laid c) || (b && laid c)) (outside-left mid to c left) ∙ or-nothing _
+      ∙ ap (λ b. (nat_le (8 * from) c && b) && laid c) (lt-ltb c (8 * mid) left ∙ sym (lt-ltb c (8 * to) (omega arith)))
+  | inr right ↦
+      ap (λ b. (b && laid c) || (is_in_bytes mid to c && laid c)) (outside-right from mid c right)
+      ∙ ap (λ b. (b && nat_lt c (8 * to)) && laid c) (le-leb (8 * mid) c right ∙ sym (le-leb (8 * from) c (omega arith)))
+]
+
+pub laid-stretch : (old mid new : List ℕ) (laid : ℕ → Bool) (from at to c : ℕ) → from ≤ at → at ≤ to
+    → row_dot mid c ≡ (row_dot old c || (is_in_bytes from at c && laid c))
+    → row_dot new c ≡ (row_dot mid c || (is_in_bytes at to c && laid c))
+    → row_dot new c ≡ (row_dot old c || (is_in_bytes from to c && laid c))
+laid-stretch old mid new laid from at to c first second so_far step =
+    step ∙ ap (λ b. b || (is_in_bytes at to c && laid c)) so_far ∙ or-three _ _ _ _ (laid-joins laid from at to c first second)
+
+-- ---- a row that is laid
+
+-- no dot of a row is laid at or behind its end
+pub none-behind : (row : List ℕ) (dots x c : ℕ) → x + dots ≤ c → laid_dot row dots x c ≡ false
+none-behind row dots x c behind = ap (λ b. nat_le x c && (b && row_dot row (c - x))) (le-ltb (c - x) dots (omega arith)) ∙ and-none _
+
+-- all dots of a row stand in its bytes
+pub laid-all : (row : List ℕ) (dots x from to c : ℕ) → 8 * from ≤ x → x + dots ≤ 8 * to → (is_in_bytes from to c && laid_dot row dots x c) ≡ laid_dot row dots x c
+laid-all row dots x from to c first last = elim (cases_lt c x) [
+  | inl left ↦
+      let none : laid_dot row dots x c ≡ false = ap (λ b. b && (nat_lt (c - x) dots && row_dot row (c - x))) (lt-leb x c left) in
+      ap (λ b. is_in_bytes from to c && b) none ∙ and-none _ ∙ sym none
+  | inr right ↦ elim (cases_lt c (x + dots)) [
+    | inl inside ↦ ap (λ b. b && laid_dot row dots x c) (inside-both from to c (omega arith) (omega arith))
+    | inr behind ↦ ap (λ b. is_in_bytes from to c && b) (none-behind row dots x c behind) ∙ and-none _ ∙ sym (none-behind row dots x c behind)
+  ]
+]
+
+-- the same dot, counted from the byte where the row begins
+pub laid-from : (row : List ℕ) (dots x i j : ℕ) → laid_dot row dots (x % 8) (8 * i + j) ≡ laid_dot row dots x (8 * (x / 8 + i) + j)
+laid-from row dots x i j =
+    let place : 8 * i + j - x % 8 ≡ 8 * (x / 8 + i) + j - x = omega arith in
+    ap (λ b. b && (nat_lt (8 * i + j - x % 8) dots && row_dot row (8 * i + j - x % 8))) (same_le (x % 8) (8 * i + j) x (8 * (x / 8 + i) + j) (λ le. omega arith) (λ le. omega arith))
+    ∙ ap (λ n. nat_le x (8 * (x / 8 + i) + j) && (nat_lt n dots && row_dot row n)) place
+
+-- a dot that is laid in a byte which the row covers whole
+pub laid-whole : (row : List ℕ) (dots x i j : ℕ) → 8 * (i + 2) ≤ dots → j < 8
+    → row_dot row (8 * i + (8 - x % 8) + j) ≡ laid_dot row dots x (8 * (x / 8 + 1 + i) + j)
+laid-whole row dots x i j whole low =
+    let place : 8 * i + (8 - x % 8) + j ≡ 8 * (x / 8 + 1 + i) + j - x = omega arith in
+    ap (row_dot row) place
+    ∙ sym (ap (λ b. b && (nat_lt (8 * (x / 8 + 1 + i) + j - x) dots && row_dot row (8 * (x / 8 + 1 + i) + j - x))) (le-leb x (8 * (x / 8 + 1 + i) + j) (omega arith))
+    ∙ ap (λ b. b && row_dot row (8 * (x / 8 + 1 + i) + j - x)) (lt-ltb (8 * (x / 8 + 1 + i) + j - x) dots (omega arith)))
+
+-- the dots of a row of so many from a place on, in a byte
+abbrev pub IsPart : List ℕ → ℕ → ℕ → ℕ → Type 0
+IsPart row dots i part = (j : ℕ) → j < 8 → bit_at part j ≡ (nat_lt (8 * i + j) dots && row_dot row (8 * i + j))
+
+-- those of the byte before a byte, of which the first one has none
+abbrev pub IsPartBefore : List ℕ → ℕ → ℕ → ℕ → Type 0
+IsPartBefore row dots i part = (j : ℕ) → j < 8 → bit_at part j ≡ (nat_le 8 (8 * i + j) && (nat_lt (8 * i + j - 8) dots && row_dot row (8 * i + j - 8)))
+
+pub part-before : (row : List ℕ) (dots last i part : ℕ) → i ≡ last + 1 → IsPart row dots last part → IsPartBefore row dots i part
+part-before row dots last i part next is = λ j low.
+    let place : 8 * last + j ≡ 8 * i + j - 8 = omega arith in
+    is j low ∙ ap (λ n. nat_lt n dots && row_dot row n) place
+    ∙ sym (ap (λ b. b && (nat_lt (8 * i + j - 8) dots && row_dot row (8 * i + j - 8))) (le-leb 8 (8 * i + j) (omega arith)))
+
+pub none-before : (row : List ℕ) (dots i : ℕ) → i ≡ 0 → IsPartBefore row dots i 0
+none-before row dots i first = λ j low.
+    no_bit j ∙ sym (ap (λ b. b && (nat_lt (8 * i + j - 8) dots && row_dot row (8 * i + j - 8))) (lt-leb 8 (8 * i + j) (omega arith)))
+
+pub no-part : (row : List ℕ) (dots i : ℕ) → dots ≤ 8 * i → IsPart row dots i 0
+no-part row dots i past = λ j low. no_bit j ∙ sym (ap (λ b. b && row_dot row (8 * i + j)) (le-ltb (8 * i + j) dots (omega arith)))
+
+-- a byte of a row that begins within byte 0
+pub laid_byte-is : (row : List ℕ) (dots before i j left here a b : ℕ) → before < 8 → j < 8
+    → IsPartBefore row dots i left → IsPart row dots i here
+    → bit_at a j ≡ (nat_lt (j + (8 - before)) 8 && bit_at left (j + (8 - before)))
+    → bit_at b j ≡ (nat_le 8 (j + (8 - before)) && bit_at here (j + (8 - before) - 8))
+    → bit_at (bit_or a b) j ≡ laid_dot row dots before (8 * i + j)
+laid_byte-is row dots before i j left here a b few low is_left is_here first second =
+    or-is a b j ∙ ap (λ d. d || bit_at b j) first ∙ ap (λ d. (nat_lt (j + (8 - before)) 8 && bit_at left (j + (8 - before))) || d) second ∙ by_place (cases_lt j before)
   where
-    low : c % 8 < 8
-    low = omega arith
-
-    first_step : (((c / 8 == x / 8) && bit_at front (c % 8)) || ((c / 8 == x / 8 + 1) && bit_at behind (c % 8)))
-        ≡ (((c / 8 == x / 8) && (nat_le 8 (c % 8 + (8 - x % 8)) && bit_at byte (c % 8 + (8 - x % 8) - 8))) || ((c / 8 == x / 8 + 1) && (nat_lt (c % 8 + (8 - x % 8)) 8 && bit_at byte (c % 8 + (8 - x % 8)))))
-    first_step =
-        ap (λ b. ((c / 8 == x / 8) && b) || ((c / 8 == x / 8 + 1) && bit_at behind (c % 8))) (moved.here (c % 8) low)
-        ∙ ap (λ b. ((c / 8 == x / 8) && (nat_le 8 (c % 8 + (8 - x % 8)) && bit_at byte (c % 8 + (8 - x % 8) - 8))) || ((c / 8 == x / 8 + 1) && b)) (moved.next (c % 8) low)
-
-    by_place : (c / 8 ≡ x / 8) ⊎ (c / 8 ≡ x / 8 → ⊥) → (c / 8 ≡ x / 8 + 1) ⊎ (c / 8 ≡ x / 8 + 1 → ⊥)
-        → (((c / 8 == x / 8) && (nat_le 8 (c % 8 + (8 - x % 8)) && bit_at byte (c % 8 + (8 - x % 8) - 8))) || ((c / 8 == x / 8 + 1) && (nat_lt (c % 8 + (8 - x % 8)) 8 && bit_at byte (c % 8 + (8 - x % 8))))) ≡ byte_dot byte x c
-    by_place (inl here) (inl next) = absurd (omega arith)
-    by_place (inl here) (inr not_next) =
-        in_first _ _ _ _ _ _ _ (nat_lt (c % 8 + (8 - x % 8)) 8 && bit_at byte (c % 8 + (8 - x % 8))) (eq-eqb (c / 8) (x / 8) here) (ne_eqb (c / 8) (x / 8 + 1) not_next)
-        (same_le 8 (c % 8 + (8 - x % 8)) x c (λ le. omega arith) (λ le. omega arith)) (lt-ltb c (x + 8) (omega arith)) (ap (bit_at byte) (omega arith))
-    by_place (inr not_here) (inl next) =
-        let at_here = ne_eqb (c / 8) (x / 8) not_here in
-        let at_next = eq-eqb (c / 8) (x / 8 + 1) next in
-        let before : nat_lt (c % 8 + (8 - x % 8)) 8 ≡ nat_lt c (x + 8) = same_le _ _ _ _ (λ le. omega arith) (λ le. omega arith) in
-        let inside : nat_le x c ≡ true = le-leb x c (omega arith) in
-        let same : c % 8 + (8 - x % 8) ≡ c - x = omega arith in
-        let dot = ap (bit_at byte) same in
-        grind arith
-    by_place (inr not_here) (inr not_next) =
-        let at_here = ne_eqb (c / 8) (x / 8) not_here in
-        let at_next = ne_eqb (c / 8) (x / 8 + 1) not_next in
-        let outside : (nat_le x c && nat_lt c (x + 8)) ≡ false = grind (arith, nat_tests) in
-        grind arith
-
--- a byte of dots turned on at a column, in two bytes
-pub lays-byte : (bytes : List ℕ) (byte x front behind c : ℕ) → IsMoved byte x front behind → x / 8 + 1 < length bytes
-    → row_dot (set (set bytes (x / 8) (bit_or (get_or bytes (x / 8) 0) front)) (x / 8 + 1)
-    (bit_or (get_or (set bytes (x / 8) (bit_or (get_or bytes (x / 8) 0) front)) (x / 8 + 1) 0) behind)) c
-    ≡ (row_dot bytes c || byte_dot byte x c)
-lays-byte bytes byte x front behind c moved inside =
-    let once : List ℕ = set bytes (x / 8) (bit_or (get_or bytes (x / 8) 0) front) in
-    or_at once (x / 8 + 1) behind c (omega (arith, length-set bytes (x / 8) (bit_or (get_or bytes (x / 8) 0) front)))
-    ∙ ap (λ b. b || ((c / 8 == x / 8 + 1) && bit_at behind (c % 8))) (or_at bytes (x / 8) front c (omega arith))
-    ∙ or-both (row_dot bytes c) ((c / 8 == x / 8) && bit_at front (c % 8)) ((c / 8 == x / 8 + 1) && bit_at behind (c % 8))
-    ∙ ap (λ b. row_dot bytes c || b) (moved-dot byte x front behind c moved)
-
--- in one, where the row ends with it
-pub lays-last : (bytes : List ℕ) (byte x front behind c : ℕ) → IsMoved byte x front behind → x / 8 < length bytes → length bytes ≤ x / 8 + 1
-    → ((j : ℕ) → j < 8 → bit_at byte j ≡ true → x + j < 8 * length bytes)
-    → row_dot (set bytes (x / 8) (bit_or (get_or bytes (x / 8) 0) front)) c ≡ (row_dot bytes c || byte_dot byte x c)
-lays-last bytes byte x front behind c moved inside last fits =
-    or_at bytes (x / 8) front c inside
-    ∙ ap (λ b. row_dot bytes c || b) (sym (or-nothing _) ∙ ap (λ b. ((c / 8 == x / 8) && bit_at front (c % 8)) || b) (sym nothing) ∙ moved-dot byte x front behind c moved)
-  where
-    none : ((c / 8 == x / 8 + 1) && bit_at behind (c % 8)) ≡ true → ⊥
-    none on =
-        let parts = and_parts _ _ on in
-        let place : c / 8 ≡ x / 8 + 1 = eqb-true (c / 8) (x / 8 + 1) parts.0 in
-        let here = and_parts _ _ (sym (moved.next (c % 8) (omega arith)) ∙ parts.1) in
-        let low : c % 8 + (8 - x % 8) < 8 = ltb-true _ _ here.0 in
-        let in_row : x + (c % 8 + (8 - x % 8)) < 8 * length bytes = fits (c % 8 + (8 - x % 8)) low here.1 in
-        omega arith
-
-    nothing : ((c / 8 == x / 8 + 1) && bit_at behind (c % 8)) ≡ false
-    nothing = false_from_ne_true _ none
+    by_place : (j < before) ⊎ (before ≤ j)
+        → ((nat_lt (j + (8 - before)) 8 && bit_at left (j + (8 - before))) || (nat_le 8 (j + (8 - before)) && bit_at here (j + (8 - before) - 8))) ≡ laid_dot row dots before (8 * i + j)
+    by_place (inl less) =
+        let place : 8 * i + (j + (8 - before)) - 8 ≡ 8 * i + j - before = omega arith in
+        ap (λ t. (t && bit_at left (j + (8 - before))) || (nat_le 8 (j + (8 - before)) && bit_at here (j + (8 - before) - 8))) (lt-ltb (j + (8 - before)) 8 (omega arith))
+        ∙ ap (λ t. bit_at left (j + (8 - before)) || (t && bit_at here (j + (8 - before) - 8))) (lt-leb 8 (j + (8 - before)) (omega arith))
+        ∙ or-nothing _ ∙ is_left (j + (8 - before)) (omega arith)
+        ∙ ap (λ t. t && (nat_lt (8 * i + (j + (8 - before)) - 8) dots && row_dot row (8 * i + (j + (8 - before)) - 8)))
+        (same_le 8 (8 * i + (j + (8 - before))) before (8 * i + j) (λ le. omega arith) (λ le. omega arith))
+        ∙ ap (λ n. nat_le before (8 * i + j) && (nat_lt n dots && row_dot row n)) place
+    by_place (inr more) =
+        let place : 8 * i + (j + (8 - before) - 8) ≡ 8 * i + j - before = omega arith in
+        ap (λ t. (t && bit_at left (j + (8 - before))) || (nat_le 8 (j + (8 - before)) && bit_at here (j + (8 - before) - 8))) (le-ltb (j + (8 - before)) 8 (omega arith))
+        ∙ ap (λ t. t && bit_at here (j + (8 - before) - 8)) (le-leb 8 (j + (8 - before)) (omega arith))
+        ∙ is_here (j + (8 - before) - 8) (omega arith)
+        ∙ ap (λ n. nat_lt n dots && row_dot row n) place
+        ∙ sym (ap (λ t. t && (nat_lt (8 * i + j - before) dots && row_dot row (8 * i + j - before))) (le-leb before (8 * i + j) (omega arith)))

@@ -1,14 +1,14 @@
 -- A packed row at any column of another, byte by byte.
-use Rattle.std.proofs.Common.{◌≡◌, ◌≢◌, ℕ, zero, suc, ◌+◌, ◌-◌, ◌*◌, ◌==◌, ◌<◌, ◌≤◌, Bool, true, false, not, ◌&&◌, ◌||◌, nat_le, nat_lt, List, refl, ◌∙◌, sym, ap, arith, bit_and, inl, inr, min, ◌⊎◌}
+use Rattle.std.proofs.Common.{◌≡◌, ◌≢◌, ℕ, zero, suc, ◌+◌, ◌-◌, ◌*◌, ◌==◌, ◌<◌, ◌≤◌, Bool, true, false, not, ◌&&◌, ◌||◌, List, refl, ◌∙◌, sym, ap, arith, bit_and, bit_or, inl, inr, min, ◌⊎◌}
 use Rattle.std.specs.List.{list_any}
-use Rattle.std.proofs.lemmas.Bool.{agree_below_at, and_parts, cases_lt, false_from_ne_true, le-leb, le-ltb, lt-leb, lt-ltb, ltb-true, ne_eqb, or_cases, false≢true}
-use Rattle.std.proofs.lemmas.Nat.{and_le_l}
+use Rattle.std.proofs.lemmas.Bool.{agree_below_at, and_parts, cases_eq, cases_lt, false_from_ne_true, lt-ltb, ltb-true, ne_eqb, or_cases, false≢true}
+use Rattle.std.proofs.lemmas.Nat.{and_le_l, le_or_l, le_or_r}
+use Rattle.std.specs.Int.Bits.{or_zero_l}
 use Rattle.std.proofs.lemmas.Nat.Bits.{bit_at_and, bit_at-lt}
 use Rattle.weave_definitions.specs.Weave.{count_from}
 use Rattle.escp2_definitions.specs.Machine.{bit_at}
-use Rattle.dot_planes.specs.Laying.{byte_dot, laid_dot}
 use Rattle.dot_planes.specs.Tables.{row_dot}
-use Rattle.dot_planes.proofs.LaidBytes.{or-nothing}
+use Rattle.dot_planes.proofs.LaidBytes.{IsPart}
 use Rattle.dot_planes.proofs.PackedRows.{no_bit}
 
 -- ---- any of so many
@@ -33,6 +33,17 @@ any-some f n k low on = any-at f 0 n k low (ap f (omega arith) ∙ on)
 
 pub any-no : (f : ℕ → Bool) (n : ℕ) → ((k : ℕ) → k < n → f k ≡ false) → list_any f (count_from 0 n) ≡ false
 any-no f n none = any-none f 0 n (λ k low. ap f (omega arith) ∙ none k low)
+
+pub any-none-of : (f : ℕ → Bool) (n k : ℕ) → list_any f (count_from 0 n) ≡ false → k < n → f k ≡ false
+any-none-of f n k none low = false_from_ne_true _ (λ on. false≢true (sym none ∙ any-some f n k low on))
+
+-- any of fewer
+pub any-more : (f : ℕ → Bool) (m n : ℕ) → m ≤ n → list_any f (count_from 0 m) ≡ true → list_any f (count_from 0 n) ≡ true
+any-more f m n fewer some = by_value (list_any f (count_from 0 n)) refl
+  where
+    by_value : (b : Bool) → list_any f (count_from 0 n) ≡ b → list_any f (count_from 0 n) ≡ true
+    by_value true is = is
+    by_value false is = absurd (false≢true (sym (any-no f m (λ k low. any-none-of f n k is (omega arith))) ∙ some))
 
 -- ---- bits of a byte
 
@@ -79,10 +90,6 @@ and-is a b j = ap (λ n. n == 1) (bit_at_and a b (7 - j)) ∙ bit-and _ _ (bit_a
 
 -- ---- eight dots of a row
 
--- a byte has the dots of a row from a place on
-abbrev pub IsPart : List ℕ → ℕ → ℕ → ℕ → Type 0
-IsPart row dots i part = (j : ℕ) → j < 8 → bit_at part j ≡ (nat_lt (8 * i + j) dots && row_dot row (8 * i + j))
-
 -- a bit of a part is a dot of the row
 pub part-dot : (row : List ℕ) (dots i part j : ℕ) → IsPart row dots i part → j < 8 → bit_at part j ≡ true
     → (8 * i + j < dots) × (row_dot row (8 * i + j) ≡ true)
@@ -105,69 +112,11 @@ pub part-none : (row : List ℕ) (dots i part j : ℕ) → IsPart row dots i par
 part-none row dots i part j is none low in_row = false_from_ne_true _ (λ on. false≢true (
     sym (no_bit j) ∙ ap (λ b. bit_at b j) (sym none) ∙ is j low ∙ ap (λ b. b && row_dot row (8 * i + j)) (lt-ltb (8 * i + j) dots in_row) ∙ on))
 
--- ---- rows that are laid
-
-pub and-none : (a : Bool) → (a && false) ≡ false
-and-none true = refl
-and-none false = refl
-
-or-three : (a b d e : Bool) → (b || d) ≡ e → ((a || b) || d) ≡ (a || e)
-or-three true b d e is = refl
-or-three false b d e is = is
-
--- the dots of one part more
-more-laid : (row : List ℕ) (dots x i part c : ℕ) → IsPart row dots i part
-    → ((nat_lt (c - x) (8 * i) && laid_dot row dots x c) || byte_dot part (x + 8 * i) c) ≡ (nat_lt (c - x) (8 * (i + 1)) && laid_dot row dots x c)
-more-laid row dots x i part c is = by_place (cases_lt c x) (cases_lt c (x + 8 * i)) (cases_lt c (x + 8 * i + 8))
-  where
-    laid : Bool
-    laid = laid_dot row dots x c
-
-    by_place : (c < x) ⊎ (x ≤ c) → (c < x + 8 * i) ⊎ (x + 8 * i ≤ c) → (c < x + 8 * i + 8) ⊎ (x + 8 * i + 8 ≤ c)
-        → ((nat_lt (c - x) (8 * i) && laid_dot row dots x c) || byte_dot part (x + 8 * i) c) ≡ (nat_lt (c - x) (8 * (i + 1)) && laid_dot row dots x c)
-    by_place (inl left) other end =
-        let none : laid_dot row dots x c ≡ false = ap (λ b. b && (nat_lt (c - x) dots && row_dot row (c - x))) (lt-leb x c left) in
-        ap (λ b. (nat_lt (c - x) (8 * i) && b) || byte_dot part (x + 8 * i) c) none
-        ∙ ap (λ b. b || byte_dot part (x + 8 * i) c) (and-none _)
-        ∙ ap (λ b. b && (nat_lt c (x + 8 * i + 8) && bit_at part (c - (x + 8 * i)))) (lt-leb (x + 8 * i) c (omega arith))
-        ∙ sym (ap (λ b. nat_lt (c - x) (8 * (i + 1)) && b) none ∙ and-none _)
-    by_place (inr right) (inl before) end =
-        ap (λ b. (b && laid_dot row dots x c) || byte_dot part (x + 8 * i) c) (lt-ltb (c - x) (8 * i) (omega arith))
-        ∙ ap (λ b. laid_dot row dots x c || (b && (nat_lt c (x + 8 * i + 8) && bit_at part (c - (x + 8 * i))))) (lt-leb (x + 8 * i) c before)
-        ∙ or-nothing _
-        ∙ sym (ap (λ b. b && laid_dot row dots x c) (lt-ltb (c - x) (8 * (i + 1)) (omega arith)))
-    by_place (inr right) (inr behind) (inl inside) =
-        let place : 8 * i + (c - (x + 8 * i)) ≡ c - x = omega arith in
-        ap (λ b. (b && laid_dot row dots x c) || byte_dot part (x + 8 * i) c) (le-ltb (c - x) (8 * i) (omega arith))
-        ∙ ap (λ b. b && (nat_lt c (x + 8 * i + 8) && bit_at part (c - (x + 8 * i)))) (le-leb (x + 8 * i) c behind)
-        ∙ ap (λ b. b && bit_at part (c - (x + 8 * i))) (lt-ltb c (x + 8 * i + 8) inside)
-        ∙ is (c - (x + 8 * i)) (omega arith)
-        ∙ ap (λ n. nat_lt n dots && row_dot row n) place
-        ∙ sym (ap (λ b. b && laid_dot row dots x c) (lt-ltb (c - x) (8 * (i + 1)) (omega arith))
-        ∙ ap (λ b. b && (nat_lt (c - x) dots && row_dot row (c - x))) (le-leb x c right))
-    by_place (inr right) (inr behind) (inr past) =
-        ap (λ b. (b && laid_dot row dots x c) || byte_dot part (x + 8 * i) c) (le-ltb (c - x) (8 * i) (omega arith))
-        ∙ ap (λ b. b && (nat_lt c (x + 8 * i + 8) && bit_at part (c - (x + 8 * i)))) (le-leb (x + 8 * i) c behind)
-        ∙ ap (λ b. b && bit_at part (c - (x + 8 * i))) (le-ltb c (x + 8 * i + 8) past)
-        ∙ sym (ap (λ b. b && laid_dot row dots x c) (le-ltb (c - x) (8 * (i + 1)) (omega arith)))
-
-pub lays-next : (old mid new row : List ℕ) (dots x i part c : ℕ) → IsPart row dots i part
-    → row_dot mid c ≡ (row_dot old c || (nat_lt (c - x) (8 * i) && laid_dot row dots x c))
-    → row_dot new c ≡ (row_dot mid c || byte_dot part (x + 8 * i) c)
-    → row_dot new c ≡ (row_dot old c || (nat_lt (c - x) (8 * (i + 1)) && laid_dot row dots x c))
-lays-next old mid new row dots x i part c is so_far step =
-    step ∙ ap (λ b. b || byte_dot part (x + 8 * i) c) so_far ∙ or-three _ _ _ _ (more-laid row dots x i part c is)
-
--- all parts are the row
-pub lays-all : (row : List ℕ) (dots x i c : ℕ) → dots ≤ 8 * i → (nat_lt (c - x) (8 * i) && laid_dot row dots x c) ≡ laid_dot row dots x c
-lays-all row dots x i c all = elim (cases_lt (c - x) (8 * i)) [
-  | inl inside ↦ ap (λ b. b && laid_dot row dots x c) (lt-ltb (c - x) (8 * i) inside)
-  | inr outside ↦
-      ap (λ b. b && laid_dot row dots x c) (le-ltb (c - x) (8 * i) outside)
-      ∙ sym (ap (λ b. nat_le x c && (b && row_dot row (c - x))) (le-ltb (c - x) dots (omega arith)) ∙ and-none _)
-]
-
 -- ---- rows that meet
+
+-- a byte has the dots of the other row where a byte of the row is, of which the first dot is at column x
+abbrev pub IsSeen : List ℕ → ℕ → ℕ → ℕ → Type 0
+IsSeen other x i window = (j : ℕ) → j < 8 → bit_at window j ≡ row_dot other (x + 8 * i + j)
 
 -- A dot of a row that is on in the other row too.
 pub record Both (row other : List ℕ) (dots x : ℕ) : Type 0 where
@@ -176,7 +125,7 @@ pub record Both (row other : List ℕ) (dots x : ℕ) : Type 0 where
   pub on : (row_dot row at && row_dot other (x + at)) ≡ true
 
 pub both-dots : (row other : List ℕ) (dots x i part window : ℕ) → part < 256 → IsPart row dots i part
-    → ((j : ℕ) → j < 8 → bit_at window j ≡ row_dot other (x + 8 * i + j)) → bit_and part window ≢ 0 → Both row other dots x
+    → IsSeen other x i window → bit_and part window ≢ 0 → Both row other dots x
 both-dots row other dots x i part window fits is seen some =
     let bit : Bit (bit_and part window) = some-bit (bit_and part window) (omega (arith, and_le_l part window)) some in
     let parts = and_parts _ _ (sym (and-is part window bit.at) ∙ bit.on) in
@@ -189,7 +138,7 @@ both-dots row other dots x i part window fits is seen some =
     }
 
 pub none-both : (row other : List ℕ) (dots x i part window : ℕ) → IsPart row dots i part
-    → ((j : ℕ) → j < 8 → bit_at window j ≡ row_dot other (x + 8 * i + j)) → bit_and part window ≡ 0
+    → IsSeen other x i window → bit_and part window ≡ 0
     → (j : ℕ) → j < 8 → 8 * i + j < dots → (row_dot row (8 * i + j) && row_dot other (x + (8 * i + j))) ≡ false
 none-both row other dots x i part window is seen none j low in_row =
     let place : x + 8 * i + j ≡ x + (8 * i + j) = omega arith in
@@ -198,3 +147,13 @@ none-both row other dots x i part window is seen none j low in_row =
     ∙ sym (and-is part window j)
     ∙ ap (λ b. bit_at b j) none
     ∙ no_bit j
+
+-- a byte that may have dots, out of two
+pub or-some : (a b : ℕ) → bit_or a b ≢ 0 → (a ≢ 0) ⊎ (b ≢ 0)
+or-some a b some = elim (cases_eq a 0) [
+  | inl none ↦ inr (λ none'. some (ap (λ n. bit_or n b) none ∙ or_zero_l b ∙ none'))
+  | inr one ↦ inl one
+]
+
+pub or-none : (a b : ℕ) → bit_or a b ≡ 0 → (a ≡ 0) × (b ≡ 0)
+or-none a b none = (omega (arith, le_or_l a b), omega (arith, le_or_r a b))

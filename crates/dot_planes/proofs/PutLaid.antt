@@ -5,8 +5,7 @@ use Rattle.std.specs.List.{list_any}
 use Rattle.weave_definitions.specs.Weave.{count_from}
 use Rattle.dot_planes.specs.Laying.{Lays, laid_dot, meets}
 use Rattle.dot_planes.specs.Tables.{DotTable, IsPackedRow, PutsRow, dot, row_at, row_dot, row_len}
-use Rattle.dot_planes.proofs.LaidBytes.{or-nothing}
-use Rattle.dot_planes.proofs.LaidRows.{and-none}
+use Rattle.dot_planes.proofs.LaidBytes.{and-none, or-nothing}
 use Rattle.dot_planes.proofs.PackedRows.{counted-len, dot_of_packed, row_packed}
 use Rattle.dot_planes.proofs.PutDots.{IsRowPut, puts_row, with_bytes}
 

@@ -21,6 +21,16 @@ takes_dots width c r b skip shift dots old new lean after pixels others = record
   others = λ k low none. others k low (λ offset before inside here. none offset (record { in_tile = inside; in_window = omega arith; across = omega arith }));
 }
 
+-- nine bytes of a row that has all the tile's columns
+pub takes_whole : (width c r n skip shift : ℕ) (dots : List ℕ) (old new : ℕ) → 2 * r ≡ 8 * skip + shift → skip < 8 * c → 64 * c + 64 ≤ width + 2 * r
+    → ((k offset : ℕ) → k < 8 → k < 8 → offset < 64 → 8 * n + shift + k ≡ offset + 8 → bit_at new k ≡ row_dot dots offset)
+    → ((k : ℕ) → k < 8 → ((offset : ℕ) → k < 8 → offset < 64 → ¬ (8 * n + shift + k ≡ offset + 8)) → bit_at new k ≡ bit_at old k)
+    → TakesDots width c r (8 * c - (skip + 1) + n) dots old new
+takes_whole width c r n skip shift dots old new lean left right pixels others = record {
+  pixels = λ k offset low p. let across = p.across in pixels k offset low low p.in_tile (omega arith);
+  others = λ k low none. others k low (λ offset _ inside here. none offset (record { in_tile = inside; in_window = omega arith; across = omega arith }));
+}
+
 set_byte : (row : List ℕ) (b new x : ℕ) → b < length row → x / 8 ≡ b → row_dot (set row b new) x ≡ bit_at new (x % 8)
 set_byte row b new x room here = ap (λ i. bit_at (get_or (set row b new) i 0) (x % 8)) here ∙ ap (λ n. bit_at n (x % 8)) (get_or-set_same row b new 0 room)
 

@@ -1,7 +1,6 @@
 -- A packed row is laid over a row of planes, from a column on.
-use Rattle.std.specs.Prelude.{◌≡◌, ℕ, ◌+◌, ◌-◌, ◌<◌, ◌≤◌, ◌⊎◌, ◌≢◌, Bool, nat_lt, nat_le, ◌&&◌, ◌||◌, List}
+use Rattle.std.specs.Prelude.{◌≡◌, ℕ, ◌+◌, ◌-◌, ◌*◌, ◌<◌, ◌≤◌, ◌⊎◌, ◌≢◌, Bool, nat_lt, nat_le, ◌&&◌, ◌||◌, List}
 use Rattle.std.specs.List.{list_any}
-use Rattle.escp2_definitions.specs.Machine.{bit_at}
 use Rattle.weave_definitions.specs.Weave.{count_from}
 use Rattle.dot_planes.specs.Tables.{DotTable, HasSizeOf, dot, row_dot}
 
@@ -20,10 +19,10 @@ pub record Lays (old new : DotTable) (i y x : ℕ) (row : List ℕ) (dots : ℕ)
   pub beside : (c : ℕ) → (c < x) ⊎ (x + dots ≤ c) → dot new i y c ≡ dot old i y c
   pub others : (j r : ℕ) → (j ≢ i) ⊎ (r ≢ y) → r < old.rows → (c : ℕ) → dot new j r c ≡ dot old j r c
 
--- the dot at column c of eight that stand from column x on
-abbrev pub byte_dot : ℕ → ℕ → ℕ → Bool
-byte_dot byte x c = nat_le x c && (nat_lt c (x + 8) && bit_at byte (c - x))
-
 -- the dot at column c of a row's first dots, which stand from column x on
 abbrev pub laid_dot : List ℕ → ℕ → ℕ → ℕ → Bool
 laid_dot row dots x c = nat_le x c && (nat_lt (c - x) dots && row_dot row (c - x))
+
+-- whether column c stands in one of the bytes of a row from one to before another
+abbrev pub is_in_bytes : ℕ → ℕ → ℕ → Bool
+is_in_bytes from to c = nat_le (8 * from) c && nat_lt c (8 * to)

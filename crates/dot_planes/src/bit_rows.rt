@@ -1,7 +1,8 @@
 //! Packed rows, at any column of another.
-ghost use Rattle.dot_planes.specs.Laying.{byte_dot, has_dot as has_dot_of, laid_dot};
+ghost use Rattle.dot_planes.specs.Laying.{has_dot as has_dot_of, is_in_bytes, laid_dot};
 ghost use Rattle.dot_planes.specs.Tables.{row_dot, row_len};
 ghost use Rattle.escp2_definitions.specs.Machine.{bit_at};
+ghost use Rattle.pwg_definitions.specs.Limits.{most_columns};
 ghost use Rattle.std.specs.List.{list_any};
 ghost use Rattle.std.specs.Prelude.{length, nat_le, nat_lt, slice_index, true, ℕ, ◌&&◌, ◌*◌, ◌+◌, ◌-◌, ◌/◌, ◌<◌, ◌||◌, ◌≡◌, ◌≤◌};
 ghost use Rattle.weave_definitions.specs.Weave.{count_from};
@@ -21,6 +22,16 @@ fn moved(byte: u8, by: usize) -> (u8, u8)
     ((wide >> 8) as u8, (wide & 255) as u8)
 }
 
+// Eight dots of a row, from a place in one of its bytes on. Another byte follows.
+#[inline(always)]
+fn eight_from(bytes: &[u8], i: usize, by: usize) -> u8
+    requires by { by ≤ 8 }
+    requires next { i + 1 < length bytes.now }
+    ensures { (j : ℕ) → j < 8 → bit_at result j ≡ row_dot bytes.now (8 * i + by + j) }
+{
+    moved(bytes[i], by).1 | moved(bytes[i + 1], by).0
+}
+
 // The eight dots of a row from column x on, none behind its end.
 #[inline(always)]
 fn window(bytes: &[u8], x: usize) -> u8
@@ -34,21 +45,6 @@ fn window(bytes: &[u8], x: usize) -> u8
         0
     };
     moved(bytes[place], x % 8).1 | moved(next, x % 8).0
-}
-
-// Turns on dots of a row, those of a byte from column x on.
-#[inline(always)]
-fn lay_byte(bytes: &mut [u8], x: usize, byte: u8)
-    requires first { x / 8 < length bytes.old }
-    requires inside { (j : ℕ) → j < 8 → bit_at byte j ≡ true → x + j < 8 * length bytes.old }
-    ensures { (c : ℕ) → row_dot bytes.new c ≡ (row_dot bytes.old c || byte_dot byte x c) }
-{
-    let (front, behind) = moved(byte, 8 - x % 8);
-    let place = x / 8;
-    bytes[place] |= front;
-    if place + 1 < bytes.len() {
-        bytes[place + 1] |= behind;
-    }
 }
 
 // Eight dots of a row of so many. Bits behind these are none.
@@ -66,34 +62,115 @@ fn row_part(row: &[u8], dots: usize, i: usize) -> u8
     }
 }
 
+// The same of any byte, also of one that the row has not.
+#[inline]
+fn part_or_none(row: &[u8], dots: usize, i: usize) -> u8
+    requires { length row.now ≡ row_len dots }
+    ensures { (j : ℕ) → j < 8 → bit_at result j ≡ (nat_lt (8 * i + j) dots && row_dot row.now (8 * i + j)) }
+{
+    if i < row.len() {
+        row_part(row, dots, i)
+    } else {
+        0
+    }
+}
+
+// Byte i of what a row of so many dots is when it begins within byte 0, behind so many others.
+#[inline]
+fn laid_byte(row: &[u8], dots: usize, before: usize, i: usize) -> u8
+    requires before { before < 8 }
+    requires len { length row.now ≡ row_len dots }
+    requires small { i ≤ 1024 }
+    ensures { (j : ℕ) → j < 8 → bit_at result j ≡ laid_dot row.now dots before (8 * i + j) }
+{
+    let left = match i.checked_sub(1) {
+        Some(last) => part_or_none(row, dots, last),
+        None => 0,
+    };
+    let here = part_or_none(row, dots, i);
+    moved(left, 8 - before).1 | moved(here, 8 - before).0
+}
+
+// Turns on the dots of a row that come to stand in some bytes of another, counted from that of column x.
+fn lay_part(over: &mut [u8], x: usize, row: &[u8], dots: usize, from: usize, to: usize)
+    requires inside { x + dots ≤ 8 * length over.old }
+    requires small { x + dots ≤ most_columns }
+    requires len { length row.now ≡ row_len dots }
+    requires order { from ≤ to }
+    requires most { to ≤ length row.now + 1 }
+    ensures dots { (c : ℕ) → row_dot over.new c ≡ (row_dot over.old c || is_in_bytes (x / 8 + from) (x / 8 + to) c && laid_dot row.now dots x c) }
+    ensures len { length over.new ≡ length over.old }
+{
+    let place = x / 8;
+    for i in from..to {
+        if place + i < over.len() {
+            over[place + i] |= laid_byte(row, dots, x % 8, i);
+        }
+    }
+}
+
+// The same for so many bytes behind the first one. Each has eight dots of the row.
+fn lay_whole(over: &mut [u8], x: usize, row: &[u8], dots: usize, many: usize)
+    requires inside { x + dots ≤ 8 * length over.old }
+    requires small { x + dots ≤ most_columns }
+    requires len { length row.now ≡ row_len dots }
+    requires whole { 8 * many ≤ dots - 8 }
+    ensures dots { (c : ℕ) → row_dot over.new c ≡ (row_dot over.old c || is_in_bytes (x / 8 + 1) (x / 8 + 1 + many) c && laid_dot row.now dots x c) }
+    ensures len { length over.new ≡ length over.old }
+{
+    let next = x / 8 + 1;
+    let by = 8 - x % 8;
+    for i in 0..many {
+        over[next + i] |= eight_from(row, i, by);
+    }
+}
+
 /// Turns on dots of a row, the first ones of another from column x on.
 pub(crate) fn lay_row(over: &mut [u8], x: usize, row: &[u8], dots: usize)
     requires inside { x + dots ≤ 8 * length over.old }
-    requires small { x + dots ≤ 8191 }
+    requires small { x + dots ≤ most_columns }
     requires len { length row.now ≡ row_len dots }
     ensures dots { (c : ℕ) → row_dot over.new c ≡ (row_dot over.old c || laid_dot row.now dots x c) }
     ensures len { length over.new ≡ length over.old }
     ensures bytes { (k : ℕ) → slice_index over.new k < 256 }
 {
-    for i in 0..row.len() {
-        lay_byte(over, x + 8 * i, row_part(row, dots, i));
-    }
+    let many = row.len().saturating_sub(2);
+    lay_part(over, x, row, dots, 0, 1);
+    lay_whole(over, x, row, dots, many);
+    lay_part(over, x, row, dots, many + 1, row.len() + 1);
     are_bytes(over);
+}
+
+// Whether one of the dots of a row's first bytes, which are whole, is on in both.
+fn bytes_meet(other: &[u8], x: usize, row: &[u8], many: usize) -> bool
+    requires inside { x + 8 * many < 8 * length other.now }
+    requires small { x + 8 * many ≤ most_columns }
+    requires some { many ≤ length row.now }
+    ensures { result ≡ list_any (λ k. row_dot row.now k && row_dot other.now (x + k)) (count_from 0 (8 * many)) }
+{
+    let place = x / 8;
+    let by = x % 8;
+    let mut both = 0;
+    for i in 0..many {
+        both |= row[i] & eight_from(other, place + i, by);
+    }
+    both != 0
 }
 
 /// Whether one of the first dots of a row is on in both, with the row's first at column x of the other.
 pub(crate) fn row_meets(other: &[u8], x: usize, row: &[u8], dots: usize) -> bool
     requires inside { x + dots ≤ 8 * length other.now }
-    requires small { x + dots ≤ 8191 }
+    requires small { x + dots ≤ most_columns }
     requires len { length row.now ≡ row_len dots }
     ensures { result ≡ list_any (λ k. row_dot row.now k && row_dot other.now (x + k)) (count_from 0 dots) }
 {
-    for i in 0..row.len() {
-        if row_part(row, dots, i) & window(other, x + 8 * i) != 0 {
-            return true;
-        }
+    let Some(last) = row.len().checked_sub(1) else {
+        return false;
+    };
+    if bytes_meet(other, x, row, last) {
+        return true;
     }
-    false
+    row_part(row, dots, last) & window(other, x + 8 * last) != 0
 }
 
 /// Whether one of the first dots of a packed row is on.

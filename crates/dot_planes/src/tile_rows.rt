@@ -2,12 +2,13 @@
 ghost use Rattle.dot_planes.specs.Tables.{row_dot, row_len};
 ghost use Rattle.dot_planes.specs.Tiles.{PutsDots};
 ghost use Rattle.escp2_definitions.specs.Machine.{bit_at};
+ghost use Rattle.pwg_definitions.specs.Limits.{most_columns};
 ghost use Rattle.std.specs.Prelude.{length, slice_index, ℕ, ◌*◌, ◌+◌, ◌-◌, ◌<◌, ◌≡◌, ◌≤◌, ◌⊎◌};
 
 /// Gives a packed row of so many columns the dots of row r of a tile in column c, eight bytes of them, where both have
 /// a pixel. All other dots stay.
 pub(crate) fn put_dots(row: &mut [u8], width: usize, c: usize, r: usize, dots: &[u8])
-    requires width { width ≤ 8191 }
+    requires width { width ≤ most_columns }
     requires row { length row.old ≡ row_len width }
     requires c { c < 1024 }
     requires r { r < 32 }
@@ -15,9 +16,65 @@ pub(crate) fn put_dots(row: &mut [u8], width: usize, c: usize, r: usize, dots: &
     ensures dots { PutsDots width c r width dots.now row.old row.new }
     ensures bytes { (k : ℕ) → slice_index row.new k < 256 }
 {
-    // Byte b has the tile's offsets from 8 (b + skip - 8 c) + shift on.
-    let skip = r / 4;
+    let (skip, shift) = lean(r);
+    if skip < 8 * c && 64 * c + 64 <= width + 2 * r {
+        put_whole(row, width, c, r, skip, shift, dots);
+    } else {
+        put_cut(row, width, c, r, skip, shift, dots);
+    }
+}
+
+// How many bytes and dots a row leans to the left: its columns begin so far before those of row 0.
+#[inline]
+fn lean(r: usize) -> (usize, usize)
+    requires { r < 32 }
+    ensures is { 2 * r ≡ 8 * result.0 + result.1 }
+    ensures skip { result.0 < 8 }
+    ensures shift { result.1 ≤ 6 }
+{
     let shift = 2 * (r % 4);
+    (r / 4, shift)
+}
+
+// The same where all 64 columns are the row's. They begin inside the first of nine bytes, or behind it.
+fn put_whole(
+    row: &mut [u8],
+    width: usize,
+    c: usize,
+    r: usize,
+    skip: usize,
+    shift: usize,
+    dots: &[u8],
+)
+    requires row { length row.old ≡ row_len width }
+    requires c { c < 1024 }
+    requires left { skip < 8 * c }
+    requires right { 64 * c + 64 ≤ width + 2 * r }
+    requires lean { 2 * r ≡ 8 * skip + shift }
+    requires shift { shift ≤ 6 }
+    requires dots { length dots.now ≡ 8 }
+    ensures dots { PutsDots width c r width dots.now row.old row.new }
+    ensures bytes { (k : ℕ) → slice_index row.new k < 256 }
+{
+    let start = 8 * c - (skip + 1);
+    for n in 0..9 {
+        row[start + n] = put_byte(row[start + n], dots, n, shift, 8);
+    }
+}
+
+// The same where columns may be left of the row or behind it.
+fn put_cut(row: &mut [u8], width: usize, c: usize, r: usize, skip: usize, shift: usize, dots: &[u8])
+    requires width { width ≤ most_columns }
+    requires row { length row.old ≡ row_len width }
+    requires c { c < 1024 }
+    requires skip { skip < 8 }
+    requires lean { 2 * r ≡ 8 * skip + shift }
+    requires shift { shift ≤ 6 }
+    requires dots { length dots.now ≡ 8 }
+    ensures dots { PutsDots width c r width dots.now row.old row.new }
+    ensures bytes { (k : ℕ) → slice_index row.new k < 256 }
+{
+    // Byte b has the tile's offsets from 8 (b + skip - 8 c) + shift on.
     let start = (8 * c).saturating_sub(skip + 1);
     let end = (8 * c + 8 - skip).min(row.len());
     for b in start..end {

@@ -4,6 +4,9 @@ ghost use Rattle.std.specs.Prelude.{◌≡◌};
 
 use crate::Command;
 
+/// The most columns of a raster.
+pub const MOST_COLUMNS: u16 = 8191;
+
 /// Whether the command's numbers are in the ranges of the command table (ESC/P Reference Manual, graphics commands; the
 /// ranges are this project's own). A command without numbers always is. The rows of a raster are not looked at.
 pub fn in_table(c: &Command) -> bool
@@ -20,7 +23,7 @@ pub fn in_table(c: &Command) -> bool
         Command::DownTo { n } | Command::DownBy { n } | Command::Across { n } => n <= 32_767,
         Command::Raster { head } => {
             let is_stepped = head.v >= 1 && head.h >= 1;
-            let is_sized = head.m >= 1 && 1 <= head.n && head.n <= 8_191;
+            let is_sized = head.m >= 1 && 1 <= head.n && head.n <= MOST_COLUMNS;
             head.c <= 1 && is_stepped && is_sized
         }
     }

@@ -5,6 +5,7 @@ ghost use Rattle.std.specs.Prelude.{◌∷◌, ◌≡◌};
 
 use crate::sized::after_paren;
 use crate::{Command, JobCause, RasterHead};
+use escp2_commands::MOST_COLUMNS;
 use weave_base::Ink;
 
 /// What gathered bytes of a command come to.
@@ -146,7 +147,7 @@ fn raster(bytes: &[u8]) -> HeadState
         return HeadState::Part;
     };
     let n = u16::from_le_bytes([*low, *high]);
-    if !is_in(1, 8_191, n) {
+    if !is_in(1, MOST_COLUMNS, n) {
         return bad_value(6);
     }
     HeadState::Rows(RasterHead {

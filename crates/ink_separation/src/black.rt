@@ -1,14 +1,57 @@
 //! Black generation.
 ghost use Rattle.ink_separation.specs.Given.{IsBlackTable};
-ghost use Rattle.std.specs.Prelude.{slice_index, ℕ, ◌<◌, ◌≡◌};
+ghost use Rattle.printer_profile.specs.Validity.{check};
+ghost use Rattle.std.specs.Prelude.{IsOk, slice_index, ℕ, ◌<◌, ◌≡◌};
 
 use crate::pixels::{PIXELS, Values};
+use printer_profile::Profile;
+use std::marker::Model;
 
-/// How much of each common darkness is moved into black.
-pub(crate) type BlackTable = [u8; 256];
+/// How much of each common darkness.
+pub(crate) type Moved = [u8; 256];
 
-/// The table of a least darkness.
-pub(crate) fn black_table(least: u8) -> BlackTable
+/// What a profile moves into black, worked out once for many lines. Contracts see the least darkness of which any is
+/// moved.
+#[derive(Drop)]
+pub struct BlackTable {
+    least: u8,
+    moved: Moved,
+}
+
+impl Model for BlackTable {
+    ghost use Rattle.std.specs.Prelude.{ℕ};
+
+    ghost Value = { ℕ };
+
+    ghost use Rattle.ink_separation.specs.Black.{IsMade, least_in};
+
+    ghost view = { least_in };
+
+    ghost invariant = { IsMade };
+}
+
+impl BlackTable {
+    /// The table of a profile.
+    pub fn make(p: &Profile) -> BlackTable
+        requires { IsOk (check p.now) }
+        ensures { result ≡ p.now.black_start }
+    {
+        BlackTable {
+            least: p.black_start,
+            moved: moved_from(p.black_start),
+        }
+    }
+
+    /// How much of each common darkness is moved.
+    pub(crate) fn moved(&self) -> &Moved
+        ensures { IsBlackTable self.now result.now }
+    {
+        &self.moved
+    }
+}
+
+// What is moved from a least darkness on.
+fn moved_from(least: u8) -> Moved
     requires { least < 255 }
     ensures { IsBlackTable least result }
 {
@@ -22,7 +65,7 @@ pub(crate) fn black_table(least: u8) -> BlackTable
 
 /// What is moved into black at each pixel.
 #[inline]
-pub(crate) fn black_of(table: &BlackTable, common: &Values) -> Values
+pub(crate) fn black_of(table: &Moved, common: &Values) -> Values
     ensures { (x : ℕ) → x < 64 → slice_index result x ≡ slice_index table.now (slice_index common.now x) }
 {
     let mut black = [0; PIXELS];

@@ -6,7 +6,7 @@ ghost use Rattle.pwg_definitions.specs.Header.{row_of};
 ghost use Rattle.separation_definitions.specs.Amounts.{colour_ink, complement, grey_ink};
 ghost use Rattle.std.specs.Prelude.{length, slice_index, ℕ, ◌*◌, ◌+◌, ◌<◌, ◌≡◌, ◌≤◌};
 
-use crate::black::{BlackTable, black_of};
+use crate::black::{Moved, black_of};
 use crate::pixels::{PIXELS, Values, complements, darkness_of, inverted, least_of, less, same};
 use printer_definitions::Ink;
 use printer_profile::{InkSet, Profile};
@@ -24,7 +24,7 @@ pub(crate) struct Given {
 impl Given {
     /// What pixels give, whose bytes these are. The table is that of the profile's least darkness.
     #[inline]
-    pub(crate) fn make(p: &Profile, kind: Kind, pixels: &[u8], table: &BlackTable) -> Given
+    pub(crate) fn make(p: &Profile, kind: Kind, pixels: &[u8], table: &Moved) -> Given
         requires pixels { length pixels.now ≤ 64 * (row_of kind).unit }
         requires table { IsBlackTable p.now.black_start table.now }
         ensures { (n : ℕ) → n * (row_of kind).unit ≤ length pixels.now → IsGiven (printer_of p.now) kind pixels.now n result }
@@ -73,7 +73,7 @@ fn grey_given(inks: InkSet, dark: Values) -> Given
 
 // What pixels of red, green and blue give.
 #[inline]
-fn colour_given(inks: InkSet, table: &BlackTable, pixels: &[u8]) -> Given
+fn colour_given(inks: InkSet, table: &Moved, pixels: &[u8]) -> Given
     requires { length pixels.now ≤ 192 }
     ensures { (least : ℕ) → IsBlackTable least table.now → (ink : Ink) (x : ℕ) → 3 * x + 3 ≤ length pixels.now
         → slice_index (given_to result ink) x ≡ colour_ink inks least (colour_at pixels.now x) ink }

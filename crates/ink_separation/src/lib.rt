@@ -7,7 +7,8 @@ mod limits;
 mod lines;
 mod pixels;
 
-pub use lines::amounts;
+pub use black::BlackTable;
+pub use lines::{amounts, amounts_by};
 
 #[cfg(test)]
 mod tests;

@@ -11,7 +11,7 @@ ghost use Rattle.pwg_definitions.specs.Limits.{most_columns};
 ghost use Rattle.separation_definitions.specs.Amounts.{amount as amount_of, pixel_at};
 ghost use Rattle.std.specs.Prelude.{IsOk, Some, length, slice_get, slice_index, ℕ, ◌*◌, ◌+◌, ◌/◌, ◌<◌, ◌≡◌, ◌≢◌, ◌≤◌, ◌⊎◌};
 
-use crate::black::black_table;
+use crate::black::BlackTable;
 use crate::given::Given;
 use crate::limits::limited;
 use crate::pixels::PIXELS;
@@ -38,14 +38,39 @@ pub fn amounts(p: &Profile, kind: Kind, line: &[u8], w: Window, at: u32, out: &m
         → amount out.new i at x ≡ amount_of (printer_of p.now) kind (pixel_at kind line.now (w.left + x)) ink }
     ensures others { (i y x : ℕ) → y ≢ at → y < out.old.rows → amount out.new i y x ≡ amount out.old i y x }
 {
-    let table = black_table(p.black_start);
+    amounts_by(p, &BlackTable::make(p), kind, line, w, at, out);
+}
+
+/// The same by the profile's table, which is made once for all lines of a page.
+pub fn amounts_by(
+    p: &Profile,
+    black: &BlackTable,
+    kind: Kind,
+    line: &[u8],
+    w: Window,
+    at: u32,
+    out: &mut InkRows,
+)
+    requires checked { IsOk (check p.now) }
+    requires black { black.now ≡ p.now.black_start }
+    requires wide { w.width ≤ most_columns }
+    requires inside { (w.left + w.width) * (row_of kind).unit ≤ length line.now }
+    requires width { out.old.width ≡ w.width }
+    requires inks { out.old.inks ≡ length (inks_of p.now.inks) }
+    requires at { at < out.old.rows }
+    ensures size { HasSizeAs out.old out.new }
+    ensures amounts { (i : ℕ) (ink : Ink) → slice_get (inks_of p.now.inks) i ≡ Some ink → (x : ℕ) → x < w.width
+        → amount out.new i at x ≡ amount_of (printer_of p.now) kind (pixel_at kind line.now (w.left + x)) ink }
+    ensures others { (i y x : ℕ) → y ≢ at → y < out.old.rows → amount out.new i y x ≡ amount out.old i y x }
+{
     let unit = unit_of(kind);
     let pixels = &line[w.left as usize * unit..];
     for n in 0..w.width.div_ceil(64) {
         let x = n * 64;
         let many = (w.width - x).min(64) as usize;
         let first = x as usize * unit;
-        let given = Given::make(p, kind, &pixels[first..first + many * unit], &table);
+        let pixels = &pixels[first..first + many * unit];
+        let given = Given::make(p, kind, pixels, black.moved());
         put(p, &given, many, x, at, out);
     }
 }

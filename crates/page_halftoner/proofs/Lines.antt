@@ -1,12 +1,11 @@
 -- One more line of a page.
 use Rattle.std.proofs.Common.{◌≡◌, ◌⊎◌, ℕ, ℤ, ◌+◌, ◌-◌, ◌<◌, ◌≤◌, Bool, false, List, [], ◌∷◌, ◌++◌, Some, slice_get, length, get_or, refl, sym, ◌∙◌, ap, arith, inl, inr, subst, append_assoc, length-append, replicate, suc, zero, pos}
-use Rattle.std.proofs.lemmas.Bool.{cases_lt}
 use Rattle.std.proofs.lemmas.List.{append-nil, get_or_at}
 use Rattle.std.proofs.lemmas.Option.{slice_get_within}
 use Rattle.diffusion_definitions.specs.Diffusion.{Errors, Plane, Table, errors, no_top, on}
 use Rattle.diffusion_laws.proofs.Solve.{errors_top}
 use Rattle.diffusion_kernel.specs.Tables.{table_of}
-use Rattle.dot_planes.specs.Tables.{AmountTable, DotTable, amount, dot}
+use Rattle.dot_planes.specs.Tables.{AmountTable, DotTable, dot}
 use Rattle.printer_definitions.specs.Inks.{inks_of}
 use Rattle.printer_definitions.specs.declared.inks.Ink.{Ink}
 use Rattle.printer_profile.specs.Profiles.{printer_of}

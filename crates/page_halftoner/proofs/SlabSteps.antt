@@ -10,7 +10,7 @@ use Rattle.dot_planes.specs.Tables.{AmountTable, DotTable, amount, dot}
 use Rattle.slab_diffusion.specs.Slabs.{AreSlabErrors, DiffusesSlab}
 use Rattle.tile_border.specs.Tops.{edges_of}
 use Rattle.tile_edges.proofs.TopLaws.{bottoms_are_top}
-use Rattle.tile_edges.specs.Tops.{IsBelow, top_of}
+use Rattle.tile_edges.specs.Tops.{IsBelow}
 use Rattle.tile_lanes.specs.Done.{plane_of, window_of}
 use Rattle.tile_shape.specs.Geometry.{bands_of}
 use Rattle.page_halftoner.specs.Halftones.{IsUpTo}

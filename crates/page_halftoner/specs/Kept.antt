@@ -1,5 +1,5 @@
 -- What stands in a halftoner.
-use Rattle.std.specs.Prelude.{◌≡◌, ℕ, ℤ, ◌+◌, ◌<◌, ◌≤◌, Bool, true, false, IsOk, List, [], Option, Some, None, length}
+use Rattle.std.specs.Prelude.{◌≡◌, ℤ, ◌+◌, ◌<◌, ◌≤◌, Bool, true, false, IsOk, List, [], Option, Some, None, length}
 use Rattle.printer_definitions.specs.Inks.{inks_of}
 use Rattle.printer_profile.specs.Profiles.{printer_of}
 use Rattle.printer_profile.specs.Validity.{check}
@@ -37,9 +37,10 @@ halftoning h = record {
 abbrev pub window_in : Inside → Window
 window_in h = window_of h.form (printer_of h.profile)
 
--- The profile passes its checks, the printer takes the page, and there is room for the window's rows in all inks.
+-- The profile passes its checks, its black is worked out, the printer takes the page, and there is room for the window's rows in all inks.
 pub record IsReady (h : Inside) : Type 0 where
   pub checked : IsOk (check h.profile)
+  pub black : h.black ≡ h.profile.black_start
   pub wanted : IsWanted (wanted_by (printer_of h.profile)) h.form
   pub few : h.count ≤ h.form.height
   pub line_width : h.line.width ≡ (window_in h).width

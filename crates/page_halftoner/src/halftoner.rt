@@ -12,7 +12,7 @@ ghost use Rattle.std.specs.Prelude.{IfNone, IfOk, IfSome, IsErr, IsOk, List, OnE
 use crate::slabs::{first_slab, next_slab, put_line};
 use diffusion_kernel::Kernel;
 use dot_planes::{InkRows, Planes};
-use ink_separation::amounts;
+use ink_separation::{BlackTable, amounts_by};
 use printer_profile::{PageForm, Profile};
 use separation_definitions::Window;
 use slab_diffusion::diffuse_slab;
@@ -30,6 +30,7 @@ use weave_base::Memory;
 pub struct Halftoner {
     alloc: Global,
     profile: Profile,
+    black: BlackTable,
     form: PageForm,
     kernel: Kernel,
     /// How many lines of the page there were, those in the margins too.
@@ -88,6 +89,7 @@ impl Halftoner {
         Ok(Halftoner {
             alloc,
             profile: *p,
+            black: BlackTable::make(p),
             form: f,
             kernel: k,
             count: 0,
@@ -141,8 +143,9 @@ impl Halftoner {
         ensures failed { self.new.failed ≡ self.old.failed }
     {
         let window = self.profile.window(self.form);
-        amounts(
+        amounts_by(
             &self.profile,
+            &self.black,
             self.form.kind,
             line,
             window,

@@ -7,7 +7,7 @@ use Rattle.dot_planes.specs.Tables.{DotTable}
 use Rattle.weave_base.specs.Parts.{AppendsPart}
 use Rattle.weave_base.proofs.Parting.{part_behind, part_of_front}
 use Rattle.pbm_out.specs.Images.{image_row, image_rows}
-use Rattle.pbm_out.specs.Pieces.{Passes}
+use Rattle.gathered_bytes.specs.Gathering.{Passes}
 
 -- Behind what is gathered these bytes are left to write, of bytes that are to become the whole.
 pub record PutsSoFar (old now : Option (List ℕ)) (whole piece left : List ℕ) : Type 0 where

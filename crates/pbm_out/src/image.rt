@@ -1,13 +1,13 @@
 //! The image of one ink.
 ghost use Rattle.pbm_out.specs.Images.{image, image_head};
-ghost use Rattle.pbm_out.specs.Pieces.{gathered};
+ghost use Rattle.gathered_bytes.specs.Gathering.{gathered};
 ghost use Rattle.std.specs.Io.KnownBytes.{Appends};
 ghost use Rattle.std.specs.Prelude.{OnErr, OnOk, ◌<◌, ◌≡◌};
 ghost use Rattle.weave_base.specs.Causes.{HasCause};
 ghost use Rattle.weave_base.specs.Parts.{AppendsPart};
 
-use crate::piece::Piece;
 use dot_emulator::Sheet;
+use gathered_bytes::Gathered;
 use itoa::Buffer;
 use weave_base::{Failed, Sink};
 
@@ -22,25 +22,25 @@ pub fn write_plane<K: Sink>(s: &Sheet, ink: u8, k: &mut K) -> Result<(), Failed>
     ensures part { OnErr result (AppendsPart (K.held k.old) (K.held k.new) (image s.now.columns s.now.rows s.now.planes ink)) }
     ensures cause { HasCause (K.faults k.old) (K.faults k.new) result }
 {
-    let mut piece = head(s.columns, s.rows);
+    let mut bytes = head(s.columns, s.rows);
     let len = (s.columns as usize + 7) / 8;
     'rows: for y in 0..s.rows {
-        piece.make_room(len, k)?;
-        piece.push(&s.planes.row(ink, y)[..len]);
+        bytes.make_room(len, k)?;
+        bytes.push(&s.planes.row(ink, y)[..len]);
     }
-    piece.put(k)
+    bytes.put(k)
 }
 
 /// The head of an image.
-fn head(columns: u32, rows: u32) -> Piece
+fn head(columns: u32, rows: u32) -> Gathered
     ensures { gathered result ≡ image_head columns rows }
 {
     let mut buffer = Buffer::new();
-    let mut piece = Piece::new();
-    piece.push(b"P4\n");
-    piece.push(buffer.format(columns).as_bytes());
-    piece.push(b" ");
-    piece.push(buffer.format(rows).as_bytes());
-    piece.push(b"\n");
-    piece
+    let mut bytes = Gathered::new();
+    bytes.push(b"P4\n");
+    bytes.push(buffer.format(columns).as_bytes());
+    bytes.push(b" ");
+    bytes.push(buffer.format(rows).as_bytes());
+    bytes.push(b"\n");
+    bytes
 }

@@ -2,7 +2,6 @@
 #![tactic(auto)]
 
 mod image;
-mod piece;
 
 pub use image::write_plane;
 

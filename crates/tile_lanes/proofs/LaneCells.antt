@@ -1,8 +1,8 @@
 -- The cells of a field are right after a step, and so are the dots.
-use Rattle.std.proofs.Common.{ℕ, ℤ, pos, Bool, true, false, ◌≡◌, ◌≢◌, ◌+◌, ◌-◌, ◌*◌, ◌/◌, ◌%◌, ◌^◌, ◌<◌, ◌≤◌, ◌∙◌, ◌&&◌, ap, refl, sym, arith, inl, inr, zero, suc, List, [], ◌∷◌, get_or}
+use Rattle.std.proofs.Common.{ℕ, Bool, true, false, ◌≡◌, ◌≢◌, ◌+◌, ◌-◌, ◌*◌, ◌/◌, ◌%◌, ◌^◌, ◌<◌, ◌≤◌, ◌∙◌, ◌&&◌, ap, refl, sym, arith, inl, inr, zero, suc, List, [], ◌∷◌, get_or}
 use Rattle.std.proofs.lemmas.Bool.{both_ways, cases_lt, cases_Bool}
 use Rattle.diffusion_definitions.specs.Diffusion.{Errors, Plane, Solves, Table, error_of, five, is_dot, value, value_at}
-use Rattle.tile_edges.specs.Edges.{Holds, skewed}
+use Rattle.tile_edges.specs.Edges.{skewed}
 use Rattle.tile_lanes.specs.Held.{error_held, same_in, up1_in, up2_in, value_in_row}
 use Rattle.tile_lanes.specs.Lanes.{HasAmounts, HasBits, HasLastDots, IsCleared, IsFilled, IsStep, IsStepped, IsWhole}
 use Rattle.tile_lanes.specs.Rows.{bit, bit_of, is_place, shown}
@@ -80,11 +80,12 @@ whole_cleared p c j step xs dots whole = record {
   no_dot = λ r o row small at gone. absurd (both_ways _ gone (whole.at r o row small));
   pixel = λ r o row small at there. refl;
   dot = λ r o row small at there. refl;
+  left = λ r row beside. refl;
   before = λ m h. refl;
   after = λ m h. refl;
 }
 
--- the cells of earlier groups and of the two rows above stay
+-- the cells of earlier groups, of the two rows above and left of the tile stay
 pub step_kept : (k : Table) (p : Plane) (e : Errors) (c j t : ℕ) (amounts f0 d0 f1 d1 f2 d2 : List ℕ)
     → IsFilled e c j t f0 → IsStep k amounts t 0 32 f0 d0 f1 d1 → IsCleared p c j t f1 d1 f2 d2 → IsFilled e c j t f2
 step_kept k p e c j t amounts f0 d0 f1 d1 f2 d2 f s g = record {
@@ -98,6 +99,18 @@ step_kept k p e c j t amounts f0 d0 f1 d1 f2 d2 f s g = record {
         | inl low ↦ g.before m low ∙ s.before m (omega arith)
         | inr high ↦ g.after m (omega arith) ∙ s.after m (omega arith)
       ]) ∙ f.above q l up small;
+  left = λ q l band small.
+      let m : ℕ = 34 * (l + q) + q in
+      ap error_held (elim (cases_lt m (34 * t + 2)) [
+        | inl low ↦ g.before m low ∙ s.before m (omega arith)
+        | inr from ↦ elim (cases_lt m (34 * t + 34)) [
+          | inl now ↦
+              let r : ℕ = q - 2 in
+              let here : m ≡ 34 * t + 2 + r = omega arith in
+              ap (λ n. get_or f2 n 0) here ∙ g.left r (omega arith) (omega arith) ∙ s.left r (omega arith) (omega arith) (omega arith) ∙ ap (λ n. get_or f0 n 0) (sym here)
+          | inr high ↦ g.after m high ∙ s.after m (omega arith)
+        ]
+      ]) ∙ f.left q l band small;
 }
 
 pub step_right : (k : Table) (p : Plane) (e : Errors) (c j t : ℕ) (amounts f0 d0 f1 d1 f2 d2 : List ℕ)
@@ -189,40 +202,27 @@ bits_more k p e c j t dots old new last f there kept = record {
   ];
 }
 
--- ---- the errors left of the tile
+-- ---- the next group
 
-pub group_filled : (e : Errors) (c j t : ℕ) (left : List ℤ) (old new : List ℕ) → IsStepped e c j t old → Holds e j 2 (64 * c) 32 6 left
-    → ((p l : ℕ) → 2 ≤ p → p < 34 → l < 6 → l + p ≡ t → error_held (get_or new (34 * t + p) 0) ≡ get_or left (6 * (p - 2) + l) (pos 0))
-    → ((m : ℕ) → ((p l : ℕ) → 2 ≤ p → p < 34 → l < 6 → l + p ≡ t → m ≢ 34 * t + p) → get_or new m 0 ≡ get_or old m 0)
-    → IsFilled e c j (t + 1) new
-group_filled e c j t left old new s is_left there kept = record {
+pub step_filled : (e : Errors) (c j t : ℕ) (xs : List ℕ) → IsStepped e c j t xs → IsFilled e c j (t + 1) xs
+step_filled e c j t xs s = record {
   before = λ p l band small visited. elim (cases_lt (l + p) t) [
-    | inl earlier ↦ ap error_held (kept (34 * (l + p) + p) (λ q i low high few same. omega arith)) ∙ s.filled.before p l band small earlier
-    | inr from ↦
-        let now : l + p ≡ t = omega arith in
-        elim (cases_lt p 2) [
-          | inl up ↦ ap error_held (kept (34 * (l + p) + p) (λ q i low high few same. omega arith)) ∙ s.filled.above p l up small
-          | inr in_band ↦
-              let at : 34 * (l + p) + p ≡ 34 * t + p = omega arith in
-              ap (λ m. error_held (get_or new m 0)) at ∙ elim (cases_lt l 6) [
-                | inl beside ↦
-                    let row : 2 + (p - 2) ≡ p = omega arith in
-                    there p l in_band band beside now ∙ is_left.at (p - 2) l (omega arith) beside ∙ ap (λ q. skewed e j q (64 * c + l)) row
-                | inr inside ↦
-                    let r : ℕ = p - 2 in
-                    let o : ℕ = l - 6 in
-                    let place : 34 * t + p ≡ 34 * t + 2 + r = omega arith in
-                    let row : r + 2 ≡ p = omega arith in
-                    let offset : 6 + o ≡ l = omega arith in
-                    ap error_held (kept (34 * t + p) (λ q i low high few same. omega arith))
-                    ∙ ap (λ m. error_held (get_or old m 0)) place ∙ s.pixels r o (omega arith) (omega arith) (omega arith)
-                    ∙ ap (λ q. skewed e j q (64 * c + (6 + o))) row ∙ ap (λ q. skewed e j p (64 * c + q)) offset
-              ]
-        ]
+    | inl earlier ↦ s.filled.before p l band small earlier
+    | inr from ↦ elim (cases_lt p 2) [
+      | inl up ↦ s.filled.above p l up small
+      | inr in_band ↦ elim (cases_lt l 6) [
+        | inl beside ↦ s.filled.left p l band beside
+        | inr inside ↦
+            let r : ℕ = p - 2 in
+            let o : ℕ = l - 6 in
+            let place : 34 * (l + p) + p ≡ 34 * t + 2 + r = omega arith in
+            let row : r + 2 ≡ p = omega arith in
+            let offset : 6 + o ≡ l = omega arith in
+            ap (λ m. error_held (get_or xs m 0)) place ∙ s.pixels r o (omega arith) (omega arith) (omega arith)
+            ∙ ap (λ q. skewed e j q (64 * c + (6 + o))) row ∙ ap (λ q. skewed e j p (64 * c + q)) offset
+      ]
+    ]
   ];
-  above = λ p l up small. ap error_held (kept (34 * (l + p) + p) (λ q i low high few same. omega arith)) ∙ s.filled.above p l up small;
+  above = s.filled.above;
+  left = s.filled.left;
 }
-
--- the first groups have no pixel of the tile
-pub early : (e : Errors) (c j t : ℕ) (xs : List ℕ) → t < 8 → IsFilled e c j t xs → IsStepped e c j t xs
-early e c j t xs few f = record { filled = f; pixels = λ r o row small at. let no : ⊥ = omega arith in absurd no }

@@ -1,6 +1,6 @@
 -- One more row of a step.
 use mir.Val.{bool_byte}
-use Rattle.std.proofs.Common.{ℕ, ℤ, Bool, true, false, ◌%◌, ◌≡◌, ◌≢◌, ◌+◌, ◌-◌, ◌*◌, ◌<◌, ◌≤◌, ◌∙◌, ap, refl, sym, arith, inl, inr, List, get_or, set, length, get_or-set_same, get_or-set_other}
+use Rattle.std.proofs.Common.{ℕ, ℤ, Bool, true, false, ◌%◌, ◌≡◌, ◌≢◌, ◌+◌, ◌-◌, ◌*◌, ◌<◌, ◌≤◌, ◌∙◌, ap, refl, sym, arith, inl, inr, List, get_or, min, set, length, get_or-set_same, get_or-set_other}
 use Rattle.std.proofs.lemmas.Bool.{both_ways, cases_eq, cases_lt}
 use Rattle.std.proofs.lemmas.List.{set_past}
 use Rattle.diffusion_definitions.specs.Diffusion.{Plane, Table, error_of, is_dot, value}
@@ -24,6 +24,7 @@ held_more xs at v all fits i = elim (cases_lt at (length xs)) [
 pub none_stepped : (k : Table) (amounts : List ℕ) (step first : ℕ) (xs dots : List ℕ) → IsStep k amounts step first 0 xs dots xs dots
 none_stepped k amounts step first xs dots = record {
   errors = λ r o h g. let no : ⊥ = omega arith in absurd no;
+  left = λ r h g. let no : ⊥ = omega arith in absurd no;
   dots = λ r o h g. let no : ⊥ = omega arith in absurd no;
   before = λ m h. refl;
   after = λ m h. refl;
@@ -51,11 +52,11 @@ value_kept k amount xs old at bound near far kept =
 
 pub step_more : (k : Table) (amounts : List ℕ) (step first n at v d f : ℕ) (on : Bool) (z : ℤ) (old old_dots xs dots : List ℕ)
     → at ≡ 34 * step + 2 + (first + n) → first + n < 32 → 8 ≤ step → at < length xs → first + n < length dots
-    → z ≡ value_in k (get_or amounts (32 * (step - 8) + (first + n)) 0) xs at → error_held v ≡ error_of z
+    → z ≡ value_in k (get_or amounts (32 * (step - 8) + (first + n)) 0) xs at → (first + n + 8 ≤ step → error_held v ≡ error_of z) → (step < first + n + 8 → v ≡ get_or xs at 0)
     → d ≡ (get_or dots (first + n) 0 * 2 % 65536 + f) % 65536 → f ≡ bool_byte on → on ≡ is_dot z
     → IsStep k amounts step first n old old_dots xs dots
     → IsStep k amounts step first (n + 1) old old_dots (set xs at v) (set dots (first + n) d)
-step_more k amounts step first n at v d f on z old old_dots xs dots is_at small late room more is_z is_v is_d is_f is_on s =
+step_more k amounts step first n at v d f on z old old_dots xs dots is_at small late room more is_z is_v is_left is_d is_f is_on s =
     let q : ℕ = first + n in
     let here : z ≡ value_in_row k amounts step old q =
     is_z ∙ value_kept k (get_or amounts (32 * (step - 8) + q) 0) xs old at (34 * step + 2) (omega arith) (omega arith) (λ m h. s.before m (omega arith))
@@ -66,11 +67,19 @@ step_more k amounts step first n at v d f on z old old_dots xs dots is_at small 
       errors = λ r o h g few t. elim (cases_eq r q) [
         | inl last ↦
             let place : 34 * step + 2 + r ≡ at = omega arith in
-            ap (λ m. error_held (get_or (set xs at v) m 0)) place ∙ ap error_held (get_or-set_same xs at v 0 room) ∙ is_v
+            ap (λ m. error_held (get_or (set xs at v) m 0)) place ∙ ap error_held (get_or-set_same xs at v 0 room) ∙ is_v (omega arith)
             ∙ ap error_of here ∙ ap (λ m. error_of (value_in_row k amounts step old m)) (sym last)
         | inr not ↦
             let other : 34 * step + 2 + r ≢ at = omega arith in
             ap error_held (get_or-set_other xs at (34 * step + 2 + r) v 0 other) ∙ s.errors r o h (omega arith) few t
+      ];
+      left = λ r h g beside. elim (cases_eq r q) [
+        | inl last ↦
+            let place : 34 * step + 2 + r ≡ at = omega arith in
+            ap (λ m. get_or (set xs at v) m 0) place ∙ get_or-set_same xs at v 0 room ∙ is_left (omega arith) ∙ ap (λ m. get_or xs m 0) (sym place) ∙ s.after (34 * step + 2 + r) (omega arith)
+        | inr not ↦
+            let other : 34 * step + 2 + r ≢ at = omega arith in
+            get_or-set_other xs at (34 * step + 2 + r) v 0 other ∙ s.left r h (omega arith) beside
       ];
       dots = λ r o h g few t. elim (cases_eq r q) [
         | inl last ↦
@@ -93,6 +102,10 @@ both_stepped k amounts step f0 d0 f1 d1 f2 d2 late a b = record {
   errors = λ r o h g few t. elim (cases_lt r 16) [
     | inl up ↦ ap error_held (b.before (34 * step + 2 + r) (omega arith)) ∙ a.errors r o h up few t
     | inr down ↦ b.errors r o down (omega arith) few t ∙ ap error_of (same r g)
+  ];
+  left = λ r h g beside. elim (cases_lt r 16) [
+    | inl up ↦ b.before (34 * step + 2 + r) (omega arith) ∙ a.left r h up beside
+    | inr down ↦ b.left r down (omega arith) beside ∙ a.after (34 * step + 2 + r) (omega arith)
   ];
   dots = λ r o h g few t. elim (cases_lt r 16) [
     | inl up ↦ b.dots_before r up ∙ a.dots r o h up few t
@@ -146,41 +159,42 @@ cleared_more step first n at d old old_dots xs dots is_at started room more is_d
       dots_after = λ r h. let other : r ≢ n = omega arith in get_or-set_other dots n r d 0 other ∙ s.dots_after r (omega arith);
     }
 
--- Rows from the top and rows to the last are cleared, which have no pixel; those between them have one.
-pub both_cleared : (p : Plane) (c j step first end : ℕ) (f0 d0 f1 d1 f2 d2 : List ℕ) → first ≤ end → end ≤ 32
+-- Rows from the top and rows to the last in the tile are cleared, which have no pixel; those between them have one.
+pub both_cleared : (p : Plane) (c j step first end last up low : ℕ) (f0 d0 f1 d1 f2 d2 : List ℕ) → first ≤ end → last ≡ min (step - 7) 32 → up ≡ min first last → low ≡ min end last
     → ((r o : ℕ) → first ≤ r → r < end → o + r + 8 ≡ step → is_place p j r (64 * c + o) ≡ true)
     → ((r o : ℕ) → r < first → o + r + 8 ≡ step → is_place p j r (64 * c + o) ≡ false)
     → ((r o : ℕ) → end ≤ r → r < 32 → o + r + 8 ≡ step → is_place p j r (64 * c + o) ≡ false)
-    → AreCleared step 0 first f0 d0 f1 d1 → AreCleared step end 32 f1 d1 f2 d2 → IsCleared p c j step f0 d0 f2 d2
-both_cleared p c j step first end f0 d0 f1 d1 f2 d2 order most inside above below a b = record {
+    → AreCleared step 0 up f0 d0 f1 d1 → AreCleared step low last f1 d1 f2 d2 → IsCleared p c j step f0 d0 f2 d2
+both_cleared p c j step first end last up low f0 d0 f1 d1 f2 d2 order is_last is_up is_low inside above below a b = record {
   none = λ r o row small at gone. elim (cases_lt r first) [
-    | inl up ↦ b.before (34 * step + 2 + r) (omega arith) ∙ a.none r (omega arith) up
+    | inl over ↦ b.before (34 * step + 2 + r) (omega arith) ∙ a.none r (omega arith) (omega arith)
     | inr from ↦ elim (cases_lt r end) [
       | inl here ↦ absurd (both_ways _ gone (inside r o from here at))
-      | inr down ↦ b.none r down row
+      | inr down ↦ b.none r (omega arith) (omega arith)
     ]
   ];
   no_dot = λ r o row small at gone. elim (cases_lt r first) [
-    | inl up ↦ b.dots_before r (omega arith) ∙ a.no_dot r (omega arith) up
+    | inl over ↦ b.dots_before r (omega arith) ∙ a.no_dot r (omega arith) (omega arith)
     | inr from ↦ elim (cases_lt r end) [
       | inl here ↦ absurd (both_ways _ gone (inside r o from here at))
-      | inr down ↦ b.no_dot r down row ∙ ap (λ m. m - m % 2) (a.dots_after r from)
+      | inr down ↦ b.no_dot r (omega arith) (omega arith) ∙ ap (λ m. m - m % 2) (a.dots_after r (omega arith))
     ]
   ];
   pixel = λ r o row small at there. elim (cases_lt r first) [
-    | inl up ↦ absurd (both_ways _ (above r o up at) there)
+    | inl over ↦ absurd (both_ways _ (above r o over at) there)
     | inr from ↦ elim (cases_lt r end) [
       | inl here ↦ b.before (34 * step + 2 + r) (omega arith) ∙ a.after (34 * step + 2 + r) (omega arith)
       | inr down ↦ absurd (both_ways _ (below r o down row at) there)
     ]
   ];
   dot = λ r o row small at there. elim (cases_lt r first) [
-    | inl up ↦ absurd (both_ways _ (above r o up at) there)
+    | inl over ↦ absurd (both_ways _ (above r o over at) there)
     | inr from ↦ elim (cases_lt r end) [
-      | inl here ↦ b.dots_before r here ∙ a.dots_after r from
+      | inl here ↦ b.dots_before r (omega arith) ∙ a.dots_after r (omega arith)
       | inr down ↦ absurd (both_ways _ (below r o down row at) there)
     ]
   ];
+  left = λ r row beside. b.after (34 * step + 2 + r) (omega arith) ∙ a.after (34 * step + 2 + r) (omega arith);
   before = λ m h. b.before m (omega arith) ∙ a.before m (omega arith);
   after = λ m h. b.after m (omega arith) ∙ a.after m (omega arith);
 }

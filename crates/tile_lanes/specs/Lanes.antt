@@ -15,11 +15,12 @@ pub record HasAmounts (p : Plane) (c j n : ℕ) (amounts : List ℕ) : Type 0 wh
 pub record IsWhole (p : Plane) (c j : ℕ) : Type 0 where
   pub at : (r o : ℕ) → r < 32 → o < 64 → is_place p j r (64 * c + o) ≡ true
 
--- The n rows of a step from row `first` on have the errors and dots of their pixels, where they are in the tile, and all
--- else is as it was. A step gives a row one more dot, as the lowest bit.
+-- The n rows of a step from row `first` on have the errors and dots of their pixels, where they are in the tile. The
+-- errors left of it and all else are as they were. A step gives a row one more dot, as the lowest bit.
 pub record IsStep (k : Table) (amounts : List ℕ) (step first n : ℕ) (old old_dots new new_dots : List ℕ) : Type 0 where
   pub errors : (r o : ℕ) → first ≤ r → r < first + n → o < 64 → o + r + 8 ≡ step
       → error_held (slice_index new (34 * step + 2 + r)) ≡ error_of (value_in_row k amounts step old r)
+  pub left : (r : ℕ) → first ≤ r → r < first + n → step < r + 8 → slice_index new (34 * step + 2 + r) ≡ slice_index old (34 * step + 2 + r)
   pub dots : (r o : ℕ) → first ≤ r → r < first + n → o < 64 → o + r + 8 ≡ step
       → slice_index new_dots r ≡ (2 * slice_index old_dots r + bit_of (is_dot (value_in_row k amounts step old r))) % 65536
   pub before : (m : ℕ) → m < 34 * step + 2 + first → slice_index new m ≡ slice_index old m
@@ -36,7 +37,8 @@ pub record AreCleared (step first end : ℕ) (old old_dots new new_dots : List �
   pub dots_before : (r : ℕ) → r < first → slice_index new_dots r ≡ slice_index old_dots r
   pub dots_after : (r : ℕ) → end ≤ r → slice_index new_dots r ≡ slice_index old_dots r
 
--- The rows of a step have no error and no dot where they have no pixel, and all else is as it was.
+-- The rows of a step have no error and no dot where they have no pixel. The errors left of the tile and all else are as
+-- they were.
 pub record IsCleared (p : Plane) (c j step : ℕ) (old old_dots new new_dots : List ℕ) : Type 0 where
   pub none : (r o : ℕ) → r < 32 → o < 64 → o + r + 8 ≡ step → is_place p j r (64 * c + o) ≡ false
       → slice_index new (34 * step + 2 + r) ≡ 2040
@@ -46,13 +48,16 @@ pub record IsCleared (p : Plane) (c j step : ℕ) (old old_dots new new_dots : L
       → slice_index new (34 * step + 2 + r) ≡ slice_index old (34 * step + 2 + r)
   pub dot : (r o : ℕ) → r < 32 → o < 64 → o + r + 8 ≡ step → is_place p j r (64 * c + o) ≡ true
       → slice_index new_dots r ≡ slice_index old_dots r
+  pub left : (r : ℕ) → r < 32 → step < r + 8 → slice_index new (34 * step + 2 + r) ≡ slice_index old (34 * step + 2 + r)
   pub before : (m : ℕ) → m < 34 * step + 2 → slice_index new m ≡ slice_index old m
   pub after : (m : ℕ) → 34 * step + 34 ≤ m → slice_index new m ≡ slice_index old m
 
--- All errors of the groups before a step are right, for the tile in column c of band j, and so are those above it.
+-- All errors of the groups before a step are right, for the tile in column c of band j, and so are those above it and
+-- left of it.
 pub record IsFilled (e : Errors) (c j step : ℕ) (xs : List ℕ) : Type 0 where
   pub before : (p l : ℕ) → p < 34 → l < 70 → l + p < step → error_held (slice_index xs (34 * (l + p) + p)) ≡ skewed e j p (64 * c + l)
   pub above : (p l : ℕ) → p < 2 → l < 70 → error_held (slice_index xs (34 * (l + p) + p)) ≡ skewed e j p (64 * c + l)
+  pub left : (p l : ℕ) → p < 34 → l < 6 → error_held (slice_index xs (34 * (l + p) + p)) ≡ skewed e j p (64 * c + l)
 
 -- and so are those of the step's pixels
 pub record IsStepped (e : Errors) (c j step : ℕ) (xs : List ℕ) : Type 0 where

@@ -4,7 +4,6 @@
 ghost use Rattle.diffusion_definitions.specs.Diffusion.{EachInRange, Errors, Solves};
 ghost use Rattle.diffusion_kernel.specs.Tables.{table_of};
 ghost use Rattle.std.specs.Prelude.{true, ◌<◌, ◌≡◌, ◌≤◌};
-ghost use Rattle.tile_edges.specs.Edges.{IsLeft};
 ghost use Rattle.tile_lanes.specs.Done.{IsDone, IsReady, plane_of};
 ghost use Rattle.tile_lanes.specs.Held.{HeldInRange};
 ghost use Rattle.tile_lanes.specs.Lanes.{HasBits, IsCleared, IsFilled, IsWhole};
@@ -57,20 +56,6 @@ fn clear_missing(
     }
 }
 
-// Puts the errors left of the tile that stand in the groups before its first pixel.
-#[inline(always)]
-fn put_first_groups(field: &mut [u16; 3502], side: &[i16; 192])
-    requires in_range { HeldInRange field.old }
-    requires side { EachInRange side.now }
-    ensures in_range { HeldInRange field.new }
-    ensures filled { (e : Errors) (place : Place) → IsLeft e place side.now → IsFilled e place.c place.j 2 field.old
-        → IsFilled e place.c place.j 8 field.new }
-{
-    for group in 2..8 {
-        put_left(field, side, group);
-    }
-}
-
 // All steps of a tile below and beside its edges.
 #[inline(always)]
 fn diffuse_steps(
@@ -78,17 +63,15 @@ fn diffuse_steps(
     place: Place,
     rows: &InkRows,
     ink: u8,
-    side: &[i16; 192],
     field: &mut [u16; 3502],
     bits: &mut [u8; 256],
 )
     requires ink { ink < rows.now.inks }
-    requires side { EachInRange side.now }
     requires in_range { HeldInRange field.old }
     ensures in_range { HeldInRange field.new }
-    ensures filled { (e : Errors) → Solves (table_of kernel) (plane_of rows.now ink) e → IsLeft e place side.now
+    ensures filled { (e : Errors) → Solves (table_of kernel) (plane_of rows.now ink) e
         → IsFilled e place.c place.j 8 field.old → IsFilled e place.c place.j 103 field.new }
-    ensures bits { (e : Errors) → Solves (table_of kernel) (plane_of rows.now ink) e → IsLeft e place side.now
+    ensures bits { (e : Errors) → Solves (table_of kernel) (plane_of rows.now ink) e
         → IsFilled e place.c place.j 8 field.old
         → HasBits (table_of kernel) (plane_of rows.now ink) e place.c place.j 103 bits.new }
 {
@@ -99,7 +82,6 @@ fn diffuse_steps(
     for step in 8..103 {
         diffuse_step(kernel, &amounts, field, &mut dots, step);
         clear_missing(whole, place, rows, ink, field, &mut dots, step);
-        put_left(field, side, step);
         put_words(bits, step, &dots);
     }
 }
@@ -130,8 +112,8 @@ pub(crate) fn diffuse_lanes(
     let mut field = [0u16; 3502];
     put_above(&mut field, band);
     put_corner(&mut field, corner);
-    put_first_groups(&mut field, side);
-    diffuse_steps(kernel, place, rows, ink, side, &mut field, bits);
+    put_left(&mut field, side);
+    diffuse_steps(kernel, place, rows, ink, &mut field, bits);
     take_right(&field, side);
     take_bottom(&field, band);
     take_lower_corner(&field, corner);

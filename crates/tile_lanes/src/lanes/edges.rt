@@ -53,22 +53,19 @@ pub(crate) fn put_corner(field: &mut [u16; 3502], corner: &[i16; 12])
     }
 }
 
-/// Puts those errors left of the tile that stand in a group.
+/// Puts the errors left of the tile.
 #[inline(always)]
-pub(crate) fn put_left(field: &mut [u16; 3502], left: &[i16; 192], group: usize)
+pub(crate) fn put_left(field: &mut [u16; 3502], left: &[i16; 192])
     requires field { HeldInRange field.old }
     requires left { EachInRange left.now }
-    requires group { group < 103 }
     ensures in_range { HeldInRange field.new }
-    ensures there { (p l : ℕ) → 2 ≤ p → p < 34 → l < 6 → l + p ≡ group
-        → error_held (slice_index field.new (34 * group + p)) ≡ slice_index_or left.now (6 * (p - 2) + l) (pos 0) }
-    ensures kept { (m : ℕ) → ((p l : ℕ) → 2 ≤ p → p < 34 → l < 6 → l + p ≡ group → m ≢ 34 * group + p)
+    ensures there { (n : ℕ) → n < 192 → error_held (slice_index field.new (34 * (2 + n % 6 + n / 6) + 2 + n / 6))
+        ≡ slice_index_or left.now n (pos 0) }
+    ensures kept { (m : ℕ) → ((n : ℕ) → n < 192 → m ≢ 34 * (2 + n % 6 + n / 6) + 2 + n / 6)
         → slice_index field.new m ≡ slice_index field.old m }
 {
-    let first = group.saturating_sub(5).max(2);
-    let end = (group + 1).min(34).max(first);
-    for p in first..end {
-        field[34 * group + p] = hold(left[6 * (p - 2) + (group - p)]);
+    for n in 0..192 {
+        field[34 * (2 + n % 6 + n / 6) + 2 + n / 6] = hold(left[n]);
     }
 }
 

@@ -38,9 +38,30 @@ fn around(field: &[u16; 3502], at: usize) -> Around
     }
 }
 
-// Diffuses the pixels that sixteen rows have at a step, those that do not exist too.
+// The error of the pixel that row r has at a step, or what stood in its place where the row is still left of the tile.
+// The test is one of 16 bits, so that lanes can make it. Where all rows are in the tile, no row needs it.
+#[inline(always)]
+fn entered(all: bool, step: usize, r: usize, error: u16, before: u16) -> u16
+    requires step { step < 103 }
+    requires r { r < 32 }
+    requires all { all ≡ true → r + 8 ≤ step }
+    requires error { error ≤ 4079 }
+    requires before { before ≤ 4079 }
+    ensures most { result ≤ 4079 }
+    ensures inside { r + 8 ≤ step → result ≡ error }
+    ensures left { step < r + 8 → result ≡ before }
+{
+    if all || r as u16 + 8 <= step as u16 {
+        error
+    } else {
+        before
+    }
+}
+
+// Diffuses the pixels that sixteen rows have at a step, those that do not exist too. Errors left of the tile stay.
 #[inline(always)]
 fn diffuse_rows(
+    all: bool,
     kernel: Kernel,
     amounts: &[u8; 3072],
     field: &mut [u16; 3502],
@@ -51,6 +72,7 @@ fn diffuse_rows(
     requires low { 8 ≤ step }
     requires high { step < 103 }
     requires first { first ≤ 16 }
+    requires all { all ≡ true → first + 23 ≤ step }
     requires in_range { HeldInRange field.old }
     ensures in_range { HeldInRange field.new }
     ensures step { IsStep (table_of kernel) amounts.now step first 16 field.old dots.old field.new dots.new }
@@ -59,7 +81,7 @@ fn diffuse_rows(
         let r = first + i;
         let at = 34 * step + 2 + r;
         let value = held_value(kernel, amounts[32 * (step - 8) + r], around(field, at));
-        field[at] = held_error(value);
+        field[at] = entered(all, step, r, held_error(value), field[at]);
         dots[r] = (dots[r] << 1).wrapping_add(u16::from(shows_dot(value)));
     }
 }
@@ -81,8 +103,10 @@ fn diffuse_half(
     ensures in_range { HeldInRange field.new }
     ensures step { IsStep (table_of kernel) amounts.now step first 16 field.old dots.old field.new dots.new }
 {
-    if first + 8 <= step && step < first + 87 {
-        diffuse_rows(kernel, amounts, field, dots, step, first);
+    if first + 8 <= step && step < first + 23 {
+        diffuse_rows(false, kernel, amounts, field, dots, step, first);
+    } else if first + 23 <= step && step < first + 87 {
+        diffuse_rows(true, kernel, amounts, field, dots, step, first);
     }
 }
 
@@ -153,6 +177,8 @@ fn clear_rows(field: &mut [u16; 3502], dots: &mut [u16; 32], step: usize, first:
 }
 
 /// Takes back what a step gave to pixels that do not exist.
+// Inline, its spans would be worked out for whole tiles too.
+#[inline(never)]
 pub(crate) fn clear_step(
     place: Place,
     rows: &InkRows,
@@ -167,7 +193,9 @@ pub(crate) fn clear_step(
     ensures in_range { HeldInRange field.new }
     ensures cleared { IsCleared (plane_of rows.now ink) place.c place.j step field.old dots.old field.new dots.new }
 {
+    // rows from here on are left of the tile
+    let last = (step - 7).min(32);
     let span = span_of(place, rows, ink, step);
-    clear_rows(field, dots, step, 0, span.first);
-    clear_rows(field, dots, step, span.end, 32);
+    clear_rows(field, dots, step, 0, span.first.min(last));
+    clear_rows(field, dots, step, span.end.min(last), last);
 }

@@ -4,7 +4,7 @@ use Rattle.escp2_definitions.specs.Packed.{packed}
 use Rattle.weave_definitions.specs.Weave.{count_from}
 use Rattle.dot_planes.specs.Tables.{dot}
 use Rattle.weave_base.proofs.Parting.{on_err_anyway, two_ok, two_part}
-use Rattle.pbm_out.specs.Pieces.{gathered}
+use Rattle.gathered_bytes.specs.Gathering.{gathered}
 use Rattle.pbm_out.proofs.Rows.{cut-row, row-long}
 use Rattle.pbm_out.proofs.Writing.{puts_begin, puts_end, puts_part, puts_step, rows-next, rows-none}
 use Rattle.pbm_out.proofs.image.write_plane.Goals as goal

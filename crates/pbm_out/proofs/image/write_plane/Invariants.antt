@@ -1,12 +1,12 @@
 use Rattle.std.proofs.Common.{◌≡◌, ◌-◌, ◌≤◌}
 use Rattle.pbm_out.specs.Images.{image, image_rows}
-use Rattle.pbm_out.specs.Pieces.{gathered}
+use Rattle.gathered_bytes.specs.Gathering.{gathered}
 use Rattle.pbm_out.proofs.Writing.{PutsSoFar}
 use Rattle.pbm_out.proofs.image.write_plane.Given as goal
 
 abbrev pub invariant-rows : goal.invariant-rows
 invariant-rows g l = record {
-  so_far : PutsSoFar (g.K.Sink.held l.fn.k) (g.K.Sink.held l.k) (image l.s.columns l.s.rows l.s.planes l.ink) (gathered l.piece)
+  so_far : PutsSoFar (g.K.Sink.held l.fn.k) (g.K.Sink.held l.k) (image l.s.columns l.s.rows l.s.planes l.ink) (gathered l.bytes)
       (image_rows l.s.columns l.s.planes l.ink l.y (l.s.rows - l.y));
   later : g.K.Sink.faults l.fn.k ≤ g.K.Sink.faults l.k;
 }

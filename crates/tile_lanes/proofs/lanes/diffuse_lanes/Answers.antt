@@ -1,4 +1,4 @@
-use Rattle.tile_lanes.proofs.LaneTile.{all_bits, bottom_of, corner_of, loaded_above, right_of, zeros_held}
+use Rattle.tile_lanes.proofs.LaneTile.{all_bits, bottom_of, corner_of, loaded_above, loaded_left, right_of, zeros_held}
 use Rattle.tile_lanes.proofs.RowTile.{dots_done}
 use Rattle.tile_lanes.proofs.lanes.diffuse_lanes.Goals as goal
 
@@ -10,11 +10,11 @@ returns-clause-done c = λ e s ready.
     let place = c.args.place in
     let start = loaded_above e place.c place.j _ _ _ _ c.put_above.ensures.there c.put_corner.ensures.there c.put_corner.ensures.kept
     ready.has_above ready.has_corner in
-    let first = c.put_first_groups.ensures.filled e place ready.has_left start in
-    let done = c.diffuse_steps.ensures.filled e s ready.has_left first in
+    let first = loaded_left e place.c place.j _ _ _ start ready.has_left c.put_left.ensures.there c.put_left.ensures.kept in
+    let done = c.diffuse_steps.ensures.filled e s first in
     record {
       has_right = right_of e place.c place.j _ _ done c.take_right.ensures.there;
       has_bottom = bottom_of e place.c place.j _ _ done c.take_bottom.ensures.there;
       has_corner = corner_of e place.c place.j _ _ done c.take_lower_corner.ensures.there;
-      has_dots = dots_done _ _ e place _ (all_bits _ _ e place.c place.j _ (c.diffuse_steps.ensures.bits e s ready.has_left first));
+      has_dots = dots_done _ _ e place _ (all_bits _ _ e place.c place.j _ (c.diffuse_steps.ensures.bits e s first));
     }

@@ -1,4 +1,4 @@
-use Rattle.std.proofs.Common.{◌≡◌, ◌*◌, List, ap, arith, refl, subst, sym, ◌∙◌, ℕ}
+use Rattle.std.proofs.Common.{◌≡◌, ◌*◌, List, ap, refl, subst, sym, ◌∙◌, ℕ}
 use Rattle.std.specs.Prelude.{Ok, None}
 use Rattle.escp2_definitions.specs.Commands.{row_bytes}
 use Rattle.escp2_definitions.specs.declared.command.Command.TheVariants as command

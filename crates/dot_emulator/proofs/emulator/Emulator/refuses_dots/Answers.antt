@@ -1,4 +1,4 @@
-use Rattle.std.proofs.Common.{◌≡◌, ap, subst, sym, ◌∙◌, Option}
+use Rattle.std.proofs.Common.{ap, subst, sym, ◌∙◌, Option}
 use Rattle.std.specs.Prelude.{Some, None, if◌then◌else◌}
 use Rattle.escp2_definitions.specs.Machine.{overprints}
 use Rattle.escp2_definitions.specs.declared.stops.EmuFault.TheVariants.{OffSheet, Overprint}

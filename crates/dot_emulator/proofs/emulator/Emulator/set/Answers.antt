@@ -1,4 +1,4 @@
-use Rattle.std.proofs.Common.{[], ◌∷◌, ◌≡◌, subst, sym, arith, ◌∙◌, true}
+use Rattle.std.proofs.Common.{[], ◌∷◌, ◌≡◌, subst, ◌∙◌, true}
 use Rattle.std.specs.Prelude.{Ok, is_some}
 use Rattle.printer_definitions.specs.Printer.{tiny1}
 use Rattle.printer_definitions.specs.declared.inks.Ink.TheVariants.{Black}

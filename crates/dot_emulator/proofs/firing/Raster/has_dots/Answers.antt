@@ -1,7 +1,7 @@
-use Rattle.std.proofs.Common.{◌≡◌, Bool, true, false, List, ℕ, sym, ap, arith, ◌∙◌}
+use Rattle.std.proofs.Common.{true, List, ℕ, sym, ap, ◌∙◌}
 use Rattle.dot_planes.specs.Laying.{has_dot}
-use Rattle.dot_emulator.specs.Firing.{Grid, fired}
-use Rattle.dot_emulator.proofs.RasterDots.{left-found, left-next, left-none, packed_row, row-has-dot, row-is, some-dot}
+use Rattle.dot_emulator.specs.Firing.{fired}
+use Rattle.dot_emulator.proofs.RasterDots.{left-found, left-next, left-none, row-has-dot, row-is, some-dot}
 use Rattle.dot_emulator.proofs.firing.Raster.has_dots.Goals as goal
 
 pub returns-then-has_dot : goal.returns-then-has_dot

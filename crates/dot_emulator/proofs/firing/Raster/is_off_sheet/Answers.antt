@@ -1,9 +1,6 @@
-use Rattle.std.proofs.Common.{◌≡◌, ◌&&◌, Bool, true, false, nat_le, List, ℕ, sym, ap, arith, ◌∙◌, ◌≤◌, ◌<◌}
-use Rattle.std.proofs.lemmas.Bool.{le-leb, lt-leb}
-use Rattle.std.specs.List.{list_any}
+use Rattle.std.proofs.Common.{true, false, nat_le, sym, ap, arith, ◌∙◌}
 use Rattle.dot_planes.specs.Laying.{has_dot}
-use Rattle.dot_emulator.specs.Firing.{Grid, Stands}
-use Rattle.dot_emulator.proofs.RasterDots.{above-row, below-row, left-found, left-next, left-none, row_fired, row-is}
+use Rattle.dot_emulator.proofs.RasterDots.{above-row, below-row, left-found, left-next, left-none, row-is}
 use Rattle.dot_emulator.proofs.firing.Raster.is_off_sheet.Goals as goal
 use Rattle.dot_emulator.proofs.firing.Raster.is_off_sheet.Goals.{else-row_at-self-via-then-row_at-self+else-has_dot, else-row_at-self-via-else-row_at-self}
 

@@ -1,7 +1,5 @@
-use Rattle.std.proofs.Common.{◌≡◌, ◌+◌, ◌∙◌, List, arith, subst, sym, refl}
-use Rattle.escp2_definitions.specs.Machine.{Dot}
+use Rattle.std.proofs.Common.{◌+◌, ◌∙◌, arith, subst, sym, refl}
 use Rattle.dot_planes.specs.Tables.{DotTable, HasSizeOf}
-use Rattle.dot_emulator.specs.Firing.{Grid}
 use Rattle.dot_emulator.specs.Sheets.{IsKeptFrom}
 use Rattle.dot_emulator.proofs.RasterDots.{above-first, above-next, row-is}
 use Rattle.dot_emulator.proofs.OverDots.{LaidSoFar, laid-all, laid-first, laid-next, laid-none, lays-past}

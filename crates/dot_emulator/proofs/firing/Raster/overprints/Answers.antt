@@ -1,7 +1,7 @@
-use Rattle.std.proofs.Common.{◌≡◌, true, false, arith, ap, sym, ◌∙◌, ℕ}
+use Rattle.std.proofs.Common.{true, false, arith, ap, sym, ◌∙◌}
 use Rattle.std.specs.List.{list_any}
 use Rattle.escp2_definitions.specs.Machine.{is_at}
-use Rattle.dot_emulator.proofs.RasterDots.{above-next, below-none, left-found, left-next, left-none, row-is, row_fired}
+use Rattle.dot_emulator.proofs.RasterDots.{above-next, below-none, left-found, left-next, left-none, row-is}
 use Rattle.dot_emulator.proofs.OverDots.{meets-code}
 use Rattle.dot_emulator.proofs.firing.Raster.overprints.Goals as goal
 use Rattle.dot_emulator.proofs.firing.Raster.overprints.Goals.{else-y-self-via-then-y-self+else-meets, else-y-self-via-else-y-self}

@@ -4,7 +4,6 @@ use Rattle.escp2_definitions.specs.Machine.{Dot, is_at}
 use Rattle.dot_emulator.specs.Firing.{Grid, IsAbove, Stands}
 use Rattle.dot_emulator.specs.Sheets.{HasPlaces}
 use Rattle.dot_emulator.proofs.RasterDots.{IsAboveFrom, IsLeft}
-use Rattle.dot_emulator.proofs.OverDots.{row-meets}
 use Rattle.dot_emulator.proofs.firing.Raster.overprints.Given as goal
 
 abbrev pub invariant-loop-i : goal.invariant-loop-i

@@ -1,4 +1,4 @@
-use Rattle.std.proofs.Common.{◌≡◌, ◌+◌, ◌-◌, ◌/◌, ap, arith, refl, ◌∙◌, sym}
+use Rattle.std.proofs.Common.{◌+◌, ◌-◌, ◌/◌, ap, arith, refl, ◌∙◌, sym}
 use Rattle.dot_emulator.proofs.Placing.{placed}
 use Rattle.dot_emulator.specs.States.{machine_of}
 use Rattle.dot_emulator.proofs.state.State.place.Goals as goal

@@ -1,11 +1,10 @@
-use Rattle.std.proofs.Common.{◌≡◌, ◌⊎◌, ◌+◌, ◌-◌, ◌≤◌, ◌<◌, ℕ, ℤ, List, Some, ap, arith, length, min, sym, subst, ◌∙◌}
+use Rattle.std.proofs.Common.{◌≡◌, ◌⊎◌, ◌+◌, ◌-◌, ◌≤◌, ◌<◌, ℕ, ℤ, List, ap, arith, length, min, sym, subst, ◌∙◌}
 use Rattle.std.proofs.lemmas.Option.{same_Some}
-use Rattle.diffusion_kernel.specs.Tables.{table_of}
-use Rattle.dot_planes.specs.Tables.{AmountTable, DotTable}
+use Rattle.dot_planes.specs.Tables.{AmountTable}
 use Rattle.printer_definitions.specs.Inks.{inks_of}
 use Rattle.separation_definitions.specs.declared.window.Window.{Window}
 use Rattle.slab_diffusion.specs.Slabs.{IsTopOf}
-use Rattle.page_halftoner.specs.Halftones.{Halftoning, HasAmountsOf, StandsFor, window}
+use Rattle.page_halftoner.specs.Halftones.{Halftoning, HasAmountsOf, StandsFor}
 use Rattle.page_halftoner.specs.Kept.{IsReady, edges_in, halftoning, window_in}
 use Rattle.page_halftoner.specs.Slabs.{PutsLine}
 use Rattle.page_halftoner.specs.declared.halftoner.Halftoner.TheInside.{Inside}
@@ -66,6 +65,7 @@ invariant_of-self-2 c =
     let is_top = subst W (size.width ∙ v.slab_width) (subst I (size.inks ∙ v.slab_inks) done.is_top) in
     record {
       checked = v.checked;
+      black = v.black;
       wanted = v.wanted;
       few = omega (arith, c.requires.count, ap (λ (h : Halftoning). h.count) c.self.view_is, ap (λ (h : Halftoning). h.form.height) c.self.view_is);
       line_width = v.line_width;

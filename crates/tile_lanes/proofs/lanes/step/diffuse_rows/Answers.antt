@@ -1,5 +1,6 @@
-use Rattle.std.proofs.Common.{ℕ, ◌<◌, ◌+◌, ◌*◌, arith, refl, length, length-set, ◌∙◌}
+use Rattle.std.proofs.Common.{ℕ, ◌<◌, ◌+◌, ◌*◌, ap, arith, refl, length, length-set, ◌∙◌}
 use Rattle.diffusion_kernel.specs.Tables.{table_of}
+use Rattle.tile_lanes.specs.Held.{error_held}
 use Rattle.tile_lanes.proofs.LaneSteps.{held_more, none_stepped, step_more, value_here}
 use Rattle.tile_lanes.proofs.lanes.step.diffuse_rows.Goals as goal
 
@@ -18,7 +19,7 @@ loop-i-preserved c =
     record {
       long = length-set _ _ _ ∙ v.long;
       dots_long = length-set _ _ _ ∙ v.dots_long;
-      in_range = held_more _ at _ v.in_range c.held_error.ensures.most;
+      in_range = held_more _ at _ v.in_range c.entered.ensures.most;
       stepped = step_more (table_of c.args.kernel) c.args.amounts.now step c.args.first c.loop-i.i at _ _ _ _ _ _ _ _ _ refl (omega arith) (omega arith) room
-          (omega (arith, v.dots_long)) value c.held_error.ensures.error refl c.from.ensures c.shows_dot.ensures v.stepped;
+          (omega (arith, v.dots_long)) value (λ inside. ap error_held (c.entered.ensures.inside inside) ∙ c.held_error.ensures.error) c.entered.ensures.left refl c.from.ensures c.shows_dot.ensures v.stepped;
     }

@@ -3,7 +3,7 @@ use Rattle.std.proofs.lemmas.List.{get_or-replicate}
 use Rattle.separation_definitions.specs.Amounts.{moved_to_black}
 use Rattle.ink_separation.proofs.Filled.{filled_more}
 use Rattle.ink_separation.proofs.Inks.{moved_below, moved_from}
-use Rattle.ink_separation.proofs.black.black_table.Goals as goal
+use Rattle.ink_separation.proofs.black.moved_from.Goals as goal
 
 pub loop-q-init : goal.loop-q-init
 loop-q-init c = record {

@@ -1,6 +1,6 @@
 use Rattle.std.proofs.Common.{ℕ, ◌*◌, ◌<◌, get_or}
 use Rattle.dot_planes.specs.Tiles.{PutsDots}
-use Rattle.dot_planes.proofs.tile_rows.put_dots.Given as goal
+use Rattle.dot_planes.proofs.tile_rows.put_cut.Given as goal
 
 abbrev pub invariant-loop-b : goal.invariant-loop-b
 invariant-loop-b l = record {

@@ -1,6 +1,6 @@
 use Rattle.std.proofs.Common.{◌≡◌, ℕ, ◌<◌, get_or, length}
 use Rattle.separation_definitions.specs.Amounts.{moved_to_black}
-use Rattle.ink_separation.proofs.black.black_table.Given as goal
+use Rattle.ink_separation.proofs.black.moved_from.Given as goal
 
 abbrev pub invariant-loop-q : goal.invariant-loop-q
 invariant-loop-q l = record {

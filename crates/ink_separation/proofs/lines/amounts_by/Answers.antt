@@ -5,7 +5,7 @@ use Rattle.pwg_definitions.specs.Header.{row_of}
 use Rattle.separation_definitions.specs.Amounts.{amount as amount_of, pixel_at}
 use Rattle.printer_profile.specs.Profiles.{printer_of}
 use Rattle.ink_separation.proofs.Chunks.{chunk_amount, cut_out-is, cut_out-len}
-use Rattle.ink_separation.proofs.lines.amounts.Goals as goal
+use Rattle.ink_separation.proofs.lines.amounts_by.Goals as goal
 
 pub loop-n-preserved : goal.loop-n-preserved
 loop-n-preserved c =

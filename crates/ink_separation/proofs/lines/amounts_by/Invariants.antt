@@ -4,7 +4,7 @@ use Rattle.printer_definitions.specs.Inks.{inks_of}
 use Rattle.printer_definitions.specs.declared.inks.Ink.{Ink}
 use Rattle.printer_profile.specs.Profiles.{printer_of}
 use Rattle.separation_definitions.specs.Amounts.{amount as amount_of, pixel_at}
-use Rattle.ink_separation.proofs.lines.amounts.Given as goal
+use Rattle.ink_separation.proofs.lines.amounts_by.Given as goal
 
 abbrev pub invariant-loop-n : goal.invariant-loop-n
 invariant-loop-n l = record {

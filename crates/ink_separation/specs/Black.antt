@@ -1,0 +1,11 @@
+-- What stands in a table of black generation.
+use Rattle.std.specs.Prelude.{ℕ}
+use Rattle.ink_separation.specs.Given.{IsBlackTable}
+use Rattle.ink_separation.specs.declared.black.BlackTable.TheInside.{Inside}
+
+abbrev pub least_in : Inside → ℕ
+least_in t = t.least
+
+-- It has what is moved of each darkness.
+pub record IsMade (t : Inside) : Type 0 where
+  pub moved : IsBlackTable t.least t.moved

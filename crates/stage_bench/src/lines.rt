@@ -1,0 +1,139 @@
+//! The lines of a page, taken to a stage one by one.
+ghost use Rattle.printer_profile.specs.Validity.{check};
+ghost use Rattle.std.specs.Prelude.{IsOk, ◌≡◌};
+
+use crate::inks::InkErrors;
+use crate::stages::Stage;
+use diffusion_kernel::Kernel;
+use dot_planes::InkRows;
+use ink_separation::{BlackTable, amounts_by};
+use printer_profile::Profile;
+use pwg_definitions::{Kind, MOST_COLUMNS, PageForm};
+use separation_definitions::Window;
+use std::alloc::Global;
+use weave_base::Memory;
+
+/// A page whose lines come, and the part of it that is printed.
+#[derive(Clone, Copy)]
+pub struct Page {
+    pub form: PageForm,
+    pub window: Window,
+}
+
+/// What was made of the lines that came.
+#[derive(Drop)]
+pub struct Lines {
+    stage: Stage,
+    kernel: Kernel,
+    page: Page,
+    /// How many there were.
+    lines: u64,
+    /// The amounts of the line in hand.
+    row: InkRows,
+    inks: Vec<InkErrors>,
+}
+
+impl Lines {
+    /// No lines yet, of a printer with so many inks.
+    pub fn make(
+        alloc: Global,
+        stage: Stage,
+        kernel: Kernel,
+        page: Page,
+        inks: u8,
+    ) -> Result<Lines, Memory> {
+        let width = page.window.width.clamp(1, MOST_COLUMNS);
+        let row = InkRows::make(alloc, width, 1, inks.clamp(1, 4))?;
+        let mut errors = Vec::new(alloc);
+        for _ in 0..row.inks() {
+            let ink = InkErrors::make(alloc, width)?;
+            let Ok(()) = errors.push(ink) else {
+                return Err(Memory);
+            };
+        }
+        Ok(Lines {
+            stage,
+            kernel,
+            page,
+            lines: 0,
+            row,
+            inks: errors,
+        })
+    }
+
+    /// Takes a line that stands so often.
+    pub fn take(&mut self, profile: &Profile, black: &BlackTable, line: &[u8], repeats: u32)
+        requires checked { IsOk (check profile.now) }
+        requires black { black.now ≡ profile.now.black_start }
+    {
+        for _ in 0..repeats {
+            self.take_once(profile, black, line);
+        }
+    }
+
+    // Takes a line. One in the margins is counted alone.
+    fn take_once(&mut self, profile: &Profile, black: &BlackTable, line: &[u8])
+        requires checked { IsOk (check profile.now) }
+        requires black { black.now ≡ profile.now.black_start }
+    {
+        let window = self.page.window;
+        let top = u64::from(window.top);
+        let printed = top <= self.lines && self.lines < top + u64::from(window.height);
+        self.lines = self.lines.saturating_add(1);
+        if self.stage == Stage::Read || !printed {
+            return;
+        }
+        separate(
+            profile,
+            black,
+            self.page.form.kind,
+            line,
+            window,
+            &mut self.row,
+        );
+        if self.stage == Stage::Rows {
+            self.diffuse();
+        }
+    }
+
+    // Diffuses each ink of the line in hand.
+    fn diffuse(&mut self) {
+        for (i, ink) in self.inks.iter_mut().enumerate() {
+            if i < usize::from(self.row.inks()) {
+                ink.diffuse(self.kernel, self.row.row(i as u8, 0));
+            }
+        }
+    }
+
+    /// How many dots there were where they were diffused, and else how many lines.
+    pub fn count(&self) -> u64 {
+        if self.stage != Stage::Rows {
+            return self.lines;
+        }
+        let mut dots = 0u64;
+        for ink in self.inks.iter() {
+            dots = dots.saturating_add(ink.dots());
+        }
+        dots
+    }
+}
+
+// Separates a line into the amounts of a row, where the row is as wide as the window and has the profile's inks.
+fn separate(
+    profile: &Profile,
+    black: &BlackTable,
+    kind: Kind,
+    line: &[u8],
+    window: Window,
+    row: &mut InkRows,
+)
+    requires checked { IsOk (check profile.now) }
+    requires black { black.now ≡ profile.now.black_start }
+{
+    let unit = if kind == Kind::Rgb8 { 3 } else { 1 };
+    let inside = (window.left as usize + window.width as usize) * unit <= line.len();
+    let fits = row.width() == window.width && row.inks() == profile.inks.count();
+    if inside && fits && row.rows() > 0 {
+        amounts_by(profile, black, kind, line, window, 0, row);
+    }
+}

@@ -1,0 +1,111 @@
+//! The stages.
+ghost use Rattle.printer_profile.specs.Validity.{check};
+ghost use Rattle.pwg_stream.specs.Reading.{lines_left_of};
+ghost use Rattle.std.specs.Prelude.{IsOk, ◌≡◌};
+
+use crate::lines::{Lines, Page};
+use diffusion_kernel::Kernel;
+use dot_planes::Planes;
+use halftone_reader::read_page;
+use ink_separation::BlackTable;
+use printer_profile::Profile;
+use pwg_definitions::MOST_ROWS;
+use pwg_stream::{PageReader, StreamStop};
+use std::alloc::Global;
+use weave_base::Source;
+
+/// How far a page is printed.
+#[derive(Clone, Copy, Debug, PartialEq, Eq)]
+pub enum Stage {
+    /// Its lines are read.
+    Read,
+    /// And their inks are separated.
+    Separate,
+    /// And diffused, row by row.
+    Rows,
+    /// Or in slabs, as the driver does it.
+    Slabs,
+}
+
+/// The stage of a name.
+pub fn stage_named(name: &str) -> Option<Stage> {
+    match name {
+        "read" => Some(Stage::Read),
+        "separate" => Some(Stage::Separate),
+        "rows" => Some(Stage::Rows),
+        "slabs" => Some(Stage::Slabs),
+        _ => None,
+    }
+}
+
+/// Takes the first page of the input to a stage, and counts its lines, or its dots where they are diffused. A stream
+/// without pages has none.
+pub fn run_stage<S: Source>(
+    alloc: Global,
+    stage: Stage,
+    profile: &Profile,
+    kernel: Kernel,
+    input: &mut S,
+) -> Result<u64, StreamStop>
+    requires checked { IsOk (check profile.now) }
+{
+    let mut reader = PageReader::begin(alloc, input)?;
+    if stage == Stage::Slabs {
+        return match read_page(alloc, &mut reader, profile, kernel, input)? {
+            None => Ok(0),
+            Some(page) => Ok(count_dots(&page.planes)),
+        };
+    }
+    take_lines(alloc, stage, profile, kernel, &mut reader, input)
+}
+
+// Takes the lines of the next page one by one.
+fn take_lines<S: Source>(
+    alloc: Global,
+    stage: Stage,
+    profile: &Profile,
+    kernel: Kernel,
+    reader: &mut PageReader,
+    input: &mut S,
+) -> Result<u64, StreamStop>
+    requires checked { IsOk (check profile.now) }
+    requires none_left { lines_left_of reader.old ≡ 0 }
+{
+    let Some(page) = next_page(profile, reader, input)? else {
+        return Ok(0);
+    };
+    let black = BlackTable::make(profile);
+    let mut lines = Lines::make(alloc, stage, kernel, page, profile.inks.count())?;
+    for _ in 0..MOST_ROWS {
+        if reader.lines_left() == 0 {
+            break;
+        }
+        let repeats = reader.next_line(input)?;
+        lines.take(profile, &black, reader.line(), repeats);
+    }
+    Ok(lines.count())
+}
+
+// The next page's form, and the window that is printed of it.
+fn next_page<S: Source>(
+    profile: &Profile,
+    reader: &mut PageReader,
+    input: &mut S,
+) -> Result<Option<Page>, StreamStop>
+    requires none_left { lines_left_of reader.old ≡ 0 }
+{
+    let Some(form) = reader.next_page(input, profile.wanted())? else {
+        return Ok(None);
+    };
+    let window = profile.window(form);
+    Ok(Some(Page { form, window }))
+}
+
+// The dots of all inks.
+fn count_dots(planes: &Planes) -> u64 {
+    let mut dots = 0u64;
+    for ink in 0..planes.inks() {
+        dots = dots.saturating_add(planes.count(ink));
+    }
+    dots
+}
