@@ -17,7 +17,8 @@ use Rattle.board_steps.proofs.Moves.{mine, bits, Within-refl, same_words, rebuil
 pub sees_here : (words : ℕ → ℕ) (o : Option (ℕ × ℕ)) (p w : ℕ) → Sees words o → o ≡ Some (p, w) → Within w (words p)
 sees_here words o p w h e = let x : Sees words (Some (p, w)) = subst (Sees words) e h in x
 
-module _ (B : Setting) (W : IsGraph B.graph) (s : State Cell View) (r : Ruled B s) (id : ℕ) (v : View) (at : get_elem? s.views id ≡ some v) where
+module _ (B : Setting) (W : IsGraph B.graph) (s : State Cell View) (r : Ruled B s) (id : ℕ) (v : View)
+    (at : get_elem? s.views id ≡ some v) where
   knew_arrived : (d : ℕ) (o : Option ℕ) → arrived (λ q. sends q d v) o ≤ arrived (λ q. total (sends q d) s.views) o
   knew_arrived d None = omega arith
   knew_arrived d (Some q) = total_at (sends q d) s.views id v at
@@ -50,7 +51,12 @@ module _ (B : Setting) (W : IsGraph B.graph) (s : State Cell View) (r : Ruled B 
 -- nothing but what is seen changes
 pub sees_looked : (B : Setting) (s : State Cell View) (r : Ruled B s) (id : ℕ) (v : View) (t : ℕ) → t < B.graph.tiles
     → get_elem? s.views id ≡ some v → 1 ≤ v.parts
-    → Ruled B record { words = set s.words t (slice_index s.words t); homes = s.homes; views = set s.views id (looked v t (slice_index s.words t)) }
+    → Ruled B record {
+      words = set s.words t (slice_index s.words t);
+      homes = s.homes;
+      views = set s.views id (looked v t
+          (slice_index s.words t));
+    }
 sees_looked B s r id v t near at part =
     let x : ℕ = slice_index s.words t in let w : View = looked v t x in let o = mine B s r id v at part in
     let vs : List View = set s.views id w in
@@ -59,10 +65,16 @@ sees_looked B s r id v t near at part =
     record { number = o.number; made = o.made; board = o.board; some_part = o.some_part; numbers = o.numbers; sees = Within-refl x }
     (λ p _. looked_lists v t x p)
     (same_counts B s r vs (λ q. total_same (lists q) s.views id v w at (looked_lists v t x q))
-    (λ q d. total_same (sends q d) s.views id v w at (looked_sends v t x q d)) (λ q. total_same (posts q) s.views id v w at (looked_posts v t x q))) in
+    (λ q d. total_same (sends q d) s.views id v w at (looked_sends v t x q d))
+    (λ q. total_same (posts q) s.views id v w at (looked_posts v t x q))) in
     subst (λ (ws : List ℕ). Ruled B record { words = ws; homes = s.homes; views = vs }) (sym same) kept
 
 pub looks : (B : Setting) (W : IsGraph B.graph) (k id : ℕ) (me : Me Cell View) (t : ℕ) → t < B.graph.tiles → 1 ≤ me.0.parts
     → Allows (Ruled B) k id me t (λ x. x) (LookedIn B t me)
-looks B W k id me t near part s r wide at _ =
-    (looked me.0 t (slice_index s.words t), keeps, tt, sees_looked B s r id me.0 t near at part, (refl, found B W s r id me.0 at part t near))
+looks B W k id me t near part s r wide at _ = (
+  looked me.0 t (slice_index s.words t),
+  keeps,
+  tt,
+  sees_looked B s r id me.0 t near at part,
+  (refl, found B W s r id me.0 at part t near),
+)

@@ -9,4 +9,15 @@ pub mod Sending
 pub mod Posting
 pub mod Passes
 pub mod Grid
+pub mod Places
+pub mod Wording
+pub mod Statuses
+pub mod Showing
+pub mod Events
+pub mod TakeEvents
+pub mod SendEvents
+pub mod PostEvents
+pub mod OtherSteps
+pub mod Legality
 pub mod Told
+pub mod Ending

@@ -55,7 +55,8 @@ module _ (B : Setting) (W : IsGraph B.graph) (s : State Cell View) (r : Ruled B 
   abbrev pub A : ℕ → ℕ → ℕ
   A t d = arrived (λ q. total (sends q d) s.views) (B.graph.from t d)
 
-  pub bits : (t : ℕ) → t < B.graph.tiles → Bits (A t 0) (A t 1) (A t 2) (total (lists t) s.views) (total (posts t) s.views) (slice_index s.words t)
+  pub bits : (t : ℕ) → t < B.graph.tiles
+      → Bits (A t 0) (A t 1) (A t 2) (total (lists t) s.views) (total (posts t) s.views) (slice_index s.words t)
   bits t near =
       let c = r.tiles t near in
       let one = c.once in

@@ -1,5 +1,5 @@
 -- The fetch-or of 16 keeps the rule.
-use Rattle.std.proofs.Common.{◌≡◌, ◌≢◌, ℕ, zero, suc, ◌+◌, ◌*◌, ◌<◌, ◌≤◌, inl, inr, lit<, lit≤, le_refl, zero-le, List, [], ◌∷◌, ◌++◌, length, set, refl, sym, ap, ◌∙◌, subst, arith, bit_or, length-set, get_or-set_same, get_or-set_other, Option, Some, None}
+use Rattle.std.proofs.Common.{◌≡◌, ◌≢◌, ℕ, zero, suc, ◌+◌, ◌*◌, ◌<◌, ◌≤◌, inl, inr, lit<, lit≤, le_refl, zero-le, List, [], ◌++◌, length, set, refl, sym, ap, ◌∙◌, subst, arith, bit_or, length-set, get_or-set_same, get_or-set_other, Option, Some, None}
 use mathlib.Core.Option.{some}
 use mathlib.Core.Logic.{dite}
 use native.Mathlib.Decide.{ℕ_discrete}
@@ -90,7 +90,8 @@ module _ (B : Setting) (W : IsGraph B.graph) (ws ws' : List ℕ) (hs hs' : Row) 
         word = let y = c.word in omega arith;
         once = let y = c.once in omega arith;
         needs = needs;
-        edges = λ d small. subst (λ (z : ℕ). Is z d (B.graph.next z d)) (sym e) (own_edge d small (B.graph.next t d) refl ((all t near).edges d small));
+        edges = λ d small. subst (λ (z : ℕ). Is z d (B.graph.next z d)) (sym e) (own_edge d small (B.graph.next t d) refl
+            ((all t near).edges d small));
       })
       (λ (ne : q ≢ t). let h = ct.else q ne in let w = words q ne in record {
         word = let y = c.word in omega arith;
@@ -99,7 +100,8 @@ module _ (B : Setting) (W : IsGraph B.graph) (ws ws' : List ℕ) (hs hs' : Row) 
         edges = λ d small. other_edge q d small below ne (B.graph.next q d) refl (c.edges d small);
       })
 
-posted : (B : Setting) (W : IsGraph B.graph) (s : State Cell View) (r : Ruled B s) (id : ℕ) (v : View) (t : ℕ) (hs : Row) → t < B.graph.tiles
+posted : (B : Setting) (W : IsGraph B.graph) (s : State Cell View) (r : Ruled B s) (id : ℕ) (v : View) (t : ℕ) (hs : Row)
+    → t < B.graph.tiles
     → get_elem? s.views id ≡ some v → 1 ≤ v.parts → v.held ≡ Some t → AllSent B.graph t v → Filled B t s.homes hs
     → Ruled B record { words = set s.words t (bit_or (slice_index s.words t) 16); homes = hs; views = set s.views id (posted_view v t) }
 posted B W s r id v t hs near at part held done fl =
@@ -167,9 +169,12 @@ Has-incoming : (content : ℕ → ℕ → Cell) (d q : ℕ) (o : Option ℕ) (m 
 Has-incoming content d q None m e = absurd (cc)
 Has-incoming content d q (Some p) m e = inl (let same : p ≡ q = cc in (omega arith, ap (λ (z : ℕ). content z d) (sym same)))
 
-module _ (B : Setting) (W : IsGraph B.graph) (left : ℕ → ℕ → Cell) (t : ℕ) (near : t < B.graph.tiles) (result : B.graph.next t 3 ≡ None) where
+module _ (B : Setting) (W : IsGraph B.graph) (left : ℕ → ℕ → Cell) (t : ℕ) (near : t < B.graph.tiles)
+    (result : B.graph.next t 3 ≡ None) where
   abbrev owns : List (ℕ × Cell)
-  owns = own_slot B.content t 0 (B.graph.next t 0) ++ (own_slot B.content t 1 (B.graph.next t 1) ++ (own_slot B.content t 2 (B.graph.next t 2) ++ []))
+  owns =
+      own_slot B.content t 0 (B.graph.next t 0) ++ (own_slot B.content t 1 (B.graph.next t 1)
+      ++ (own_slot B.content t 2 (B.graph.next t 2) ++ []))
 
   abbrev in₀ : List (ℕ × Cell)
   in₀ = incoming left 0 (B.graph.from t 0)
@@ -191,7 +196,8 @@ module _ (B : Setting) (W : IsGraph B.graph) (left : ℕ → ℕ → Cell) (t : 
   ins_owns : (q d : ℕ) → d < 4 → q ≢ t → Apart (4 * q + d) owns
   ins_owns q d small ne = apart_owns (4 * q + d) (λ e se h. elsewhere t q d e small se ne)
 
-  apart_ins : (k : ℕ) → ((d q : ℕ) → d < 4 → B.graph.from t d ≡ Some q → k ≢ 4 * q + d) → Apart k owns → Apart k (in₀ ++ (in₁ ++ (in₂ ++ owns)))
+  apart_ins : (k : ℕ) → ((d q : ℕ) → d < 4 → B.graph.from t d ≡ Some q → k ≢ 4 * q + d) → Apart k owns
+      → Apart k (in₀ ++ (in₁ ++ (in₂ ++ owns)))
   apart_ins k f a = Apart-incoming left 0 k (B.graph.from t 0) _ (λ q h. f 0 q (lit< tt) h)
       (Apart-incoming left 1 k (B.graph.from t 1) _ (λ q h. f 1 q (lit< tt) h)
       (Apart-incoming left 2 k (B.graph.from t 2) owns (λ q h. f 2 q (lit< tt) h) a))
@@ -210,11 +216,13 @@ module _ (B : Setting) (W : IsGraph B.graph) (left : ℕ → ℕ → Cell) (t : 
         (Apart-own B.content t 1 (4 * t + 3) (B.graph.next t 1) _ (λ _ e. omega arith)
         (Apart-own B.content t 2 (4 * t + 3) (B.graph.next t 2) [] (λ _ e. omega arith) tt))),
     Distinct-incoming left 0 (B.graph.from t 0) _
-        (λ q e. Apart-incoming left 1 (4 * q + 0) (B.graph.from t 1) _ (λ p _. other_direction q p 0 1 (lit< tt) (lit< tt) (λ z. omega arith))
+        (λ q e. Apart-incoming left 1 (4 * q + 0) (B.graph.from t 1) _ (λ p _. other_direction q p 0 1 (lit< tt) (lit< tt)
+        (λ z. omega arith))
         (Apart-incoming left 2 (4 * q + 0) (B.graph.from t 2) owns (λ p _. other_direction q p 0 2 (lit< tt) (lit< tt) (λ z. omega arith))
         (ins_owns q 0 (lit< tt) (not_itself B W t near 0 q e).0)))
         (Distinct-incoming left 1 (B.graph.from t 1) _
-        (λ q e. Apart-incoming left 2 (4 * q + 1) (B.graph.from t 2) owns (λ p _. other_direction q p 1 2 (lit< tt) (lit< tt) (λ z. omega arith))
+        (λ q e. Apart-incoming left 2 (4 * q + 1) (B.graph.from t 2) owns (λ p _. other_direction q p 1 2 (lit< tt) (lit< tt)
+        (λ z. omega arith))
         (ins_owns q 1 (lit< tt) (not_itself B W t near 1 q e).0))
         (Distinct-incoming left 2 (B.graph.from t 2) owns (λ q e. ins_owns q 2 (lit< tt) (not_itself B W t near 2 q e).0) distinct_owns)),
   )
@@ -224,7 +232,8 @@ module _ (B : Setting) (W : IsGraph B.graph) (left : ℕ → ℕ → Cell) (t : 
 
   has_own : (d : ℕ) → d < 4 → B.graph.next t d ≡ None → Has (4 * t + d) (B.content t d) hand
   has_own zero small e = over _ _ (Has-own B.content t 0 (B.graph.next t 0) _ e)
-  has_own (suc zero) small e = over _ _ (Has-right _ _ (own_slot B.content t 0 (B.graph.next t 0)) _ (Has-own B.content t 1 (B.graph.next t 1) _ e))
+  has_own (suc zero) small e = over _ _ (Has-right _ _ (own_slot B.content t 0 (B.graph.next t 0)) _ (Has-own B.content t 1
+      (B.graph.next t 1) _ e))
   has_own (suc (suc zero)) small e = over _ _
       (Has-right _ _ (own_slot B.content t 0 (B.graph.next t 0)) _
       (Has-right _ _ (own_slot B.content t 1 (B.graph.next t 1)) _ (Has-own B.content t 2 (B.graph.next t 2) [] e)))
@@ -269,12 +278,17 @@ pub posts_step : (B : Setting) (W : IsGraph B.graph) (k id : ℕ) (me : Me Cell 
     → Allows (Ruled B) k id me t (λ w. bit_or w 16) (λ _ n. Posted t me n)
 posts_step B W k id me t part may =
     let l : List (ℕ × Cell) = to_post_in B may.left t in
-    subst (λ (c : List (ℕ × Cell)). Allows (Ruled B) k id (me.0, c) t (λ w. bit_or w 16) (λ _ n. n ≡ (posted_view me.0 t, []))) (sym may.hand)
+    subst (λ (c : List (ℕ × Cell)). Allows (Ruled B) k id (me.0, c) t (λ w. bit_or w 16)
+    (λ _ n. n ≡ (posted_view me.0 t, []))) (sym may.hand)
     (λ s r wide at _. (
       posted_view me.0 t,
       give_all l,
       given_valid s.homes l,
-      subst (λ (hs : Row). Ruled B record { words = set s.words t (bit_or (slice_index s.words t) 16); homes = hs; views = set s.views id (posted_view me.0 t) })
+      subst (λ (hs : Row). Ruled B record {
+        words = set s.words t (bit_or (slice_index s.words t) 16);
+        homes = hs;
+        views = set s.views id (posted_view me.0 t);
+      })
           (sym (given_homes s.homes l))
           (posted B W s r id me.0 t (put_all s.homes l) may.inside at part may.holds may.sent
           (filled B W may.left t may.inside (no_receiver B W t may.inside) s.homes r.roomy)),

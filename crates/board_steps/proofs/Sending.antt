@@ -57,7 +57,8 @@ module _ (B : Setting) (W : IsGraph B.graph) (ws ws' : List ℕ) (hs hs' : Row) 
       subst (λ (y : ℕ × ℕ). Is y.0 y.1) (λ i. (sym qq i, sym ee i))
       (subst (EdgeIs L' P' (S' t d) (B.fresh d) (B.content t d) (get_elem? hs' (4 * t + d)) t) (sym goes) itself))
       (λ (n : 4 * q + e ≢ 4 * t + d). edge_same B ws ws' hs hs' L L' P P' S S' q e (ct.listed q) (ct.posted q)
-      (ct.else q e (λ z. let a = z.0 in let b = z.1 in n (omega arith))) (others (4 * q + e) n) (B.graph.next q e) (λ y _. (ct.listed y, ct.posted y)) k)
+      (ct.else q e (λ z. let a = z.0 in let b = z.1 in n (omega arith))) (others (4 * q + e) n) (B.graph.next q e)
+      (λ y _. (ct.listed y, ct.posted y)) k)
 
   -- how often the edge that comes to a tile in a direction is sent
   abbrev Old : ℕ → ℕ → ℕ
@@ -85,7 +86,8 @@ module _ (B : Setting) (W : IsGraph B.graph) (ws ws' : List ℕ) (hs hs' : Row) 
 
   sum_here : d < 3 → (q : ℕ) → q < B.graph.tiles → q ≡ p → sum (New q 0) (New q 1) (New q 2) ≡ sum (Old q 0) (Old q 1) (Old q 2) + bit_of d
   sum_here small q below z =
-      let same : (e : ℕ) → e ≡ d → New q e ≡ Old q e + 1 = λ e f. subst (λ (y : ℕ × ℕ). New y.0 y.1 ≡ Old y.0 y.1 + 1) (λ i. (sym z i, sym f i)) arrival in
+      let same : (e : ℕ) → e ≡ d → New q e ≡ Old q e + 1 = λ e f. subst (λ (y : ℕ × ℕ). New y.0 y.1 ≡ Old y.0 y.1 + 1)
+      (λ i. (sym z i, sym f i)) arrival in
       let other : (e : ℕ) → e ≢ d → New q e ≡ Old q e = λ e n. other_arrival q e below (λ y. n y.1) in
       dite (ℕ_discrete d 0)
       (λ (f : d ≡ 0). let b : bit_of d ≡ 1 = ap bit_of f in
@@ -104,7 +106,8 @@ module _ (B : Setting) (W : IsGraph B.graph) (ws ws' : List ℕ) (hs hs' : Row) 
   no_less : (q e : ℕ) → S q e ≤ S' q e
   no_less q e = dite (ℕ_discrete q t)
       (λ (z : q ≡ t). dite (ℕ_discrete e d)
-      (λ (f : e ≡ d). subst (λ (y : ℕ × ℕ). S y.0 y.1 ≤ S' y.0 y.1) (λ i. (sym z i, sym f i)) (let h = ct.here in let g : S t d ≤ S' t d = omega arith in g))
+      (λ (f : e ≡ d). subst (λ (y : ℕ × ℕ). S y.0 y.1 ≤ S' y.0 y.1) (λ i. (sym z i, sym f i)) (let h = ct.here in
+      let g : S t d ≤ S' t d = omega arith in g))
       (λ n. let h = ct.else q e (λ y. n y.1) in omega arith))
       (λ n. let h = ct.else q e (λ y. n y.0) in omega arith)
 
@@ -115,7 +118,8 @@ module _ (B : Setting) (W : IsGraph B.graph) (ws ws' : List ℕ) (hs hs' : Row) 
       record {
         word = let y = c.word in dite (ℕ_discrete q p)
             (λ (z : q ≡ p). let x = sum_here small q below z in
-            let w : slice_index ws' q ≡ slice_index ws q + bit_of d = ap (slice_index ws') z ∙ word ∙ ap (λ (u : ℕ). slice_index ws u + bit_of d) (sym z) in
+            let w : slice_index ws' q ≡ slice_index ws q + bit_of d = ap (slice_index ws') z ∙ word ∙ ap
+            (λ (u : ℕ). slice_index ws u + bit_of d) (sym z) in
             omega arith)
             (λ n. let x = sum_else q below n in let w = words q n in omega arith);
         once = let y = c.once in omega arith;
@@ -170,12 +174,15 @@ sent B W s r id v t d p near at part held still goes =
     record { number = o.number; made = o.made; board = o.board; some_part = o.some_part; numbers = o.numbers; sees = o.sees })
     (λ q far. send_lists v d q)
     (λ q below. sent_tile B W s.words (set s.words p (x + bit_of d)) s.homes hs L L' P P' S S' t d p near goes ct
-    (set_here s.homes (4 * t + d) (some (B.content t d)) room) (λ k n. set_else s.homes (4 * t + d) k (some (B.content t d)) n) unsent one r.tiles
+    (set_here s.homes (4 * t + d) (some (B.content t d)) room)
+    (λ k n. set_else s.homes (4 * t + d) k (some (B.content t d)) n) unsent one r.tiles
     (get_or-set_same s.words p (x + bit_of d) 0 wide) (λ q ne. get_or-set_other s.words p q (x + bit_of d) 0 ne) q below))
 
 pub sends_step : (B : Setting) (W : IsGraph B.graph) (k id : ℕ) (me : Me Cell View) (d to : ℕ) → 1 ≤ me.0.parts → MaySend B me d to
     → Allows (Ruled B) k id me to (λ x. bit_or x (bit_of d)) (λ _ n. SentTo d me n)
 sends_step B W k id me d to part may =
     let hand : List (ℕ × Cell) = (4 * may.from + d, B.content may.from d) ∷ rest me.1 in
-    subst (λ (c : List (ℕ × Cell)). Allows (Ruled B) k id (me.0, c) to (λ x. bit_or x (bit_of d)) (λ _ n. n ≡ (sent_view me.0 d, rest c))) (sym may.edge)
-    (λ s r wide at _. (sent_view me.0 d, gives, tt, sent B W s r id me.0 may.from d to may.inside at part may.holds may.unsent may.goes, refl))
+    subst (λ (c : List (ℕ × Cell)). Allows (Ruled B) k id (me.0, c) to (λ x. bit_or x (bit_of d))
+    (λ _ n. n ≡ (sent_view me.0 d, rest c))) (sym may.edge)
+    (λ s r wide at _.
+    (sent_view me.0 d, gives, tt, sent B W s r id me.0 may.from d to may.inside at part may.holds may.unsent may.goes, refl))

@@ -1,5 +1,5 @@
 -- The fetch-or of 8 keeps the rule.
-use Rattle.std.proofs.Common.{◌≡◌, ◌≢◌, ℕ, ◌+◌, ◌*◌, ◌<◌, ◌≤◌, inl, inr, lit<, lit≤, le_refl, zero-le, List, [], ◌∷◌, ◌++◌, length, set, refl, sym, ap, ◌∙◌, subst, arith, bit_or, length-set, get_or-set_same, get_or-set_other, Option, Some, None}
+use Rattle.std.proofs.Common.{◌≡◌, ◌≢◌, ℕ, ◌+◌, ◌*◌, ◌<◌, ◌≤◌, inl, inr, lit<, lit≤, le_refl, zero-le, List, [], ◌++◌, length, set, refl, sym, ap, ◌∙◌, subst, arith, bit_or, length-set, get_or-set_same, get_or-set_other, Option, Some, None}
 use mathlib.Core.Option.{some, none}
 use mathlib.Core.Logic.{dite}
 use native.Mathlib.Decide.{ℕ_discrete}
@@ -9,7 +9,7 @@ use Rattle.atomic_table.specs.Table.{State, Me, Allows, keeps}
 use Rattle.board_steps.specs.declared.rule.View.{View}
 use Rattle.board_steps.specs.declared.rule.Cell.{Cell}
 use Rattle.board_steps.specs.Graph.{IsGraph}
-use Rattle.board_steps.specs.Rule.{Setting, arrived, posts, sends, lists, total, Within, Inner, EdgeIs, TileOk, Ruled}
+use Rattle.board_steps.specs.Rule.{Setting, arrived, posts, sends, lists, total, Within, EdgeIs, TileOk, Ruled}
 use Rattle.board_steps.specs.Steps.{looked, taken, incoming, hand_in, HasNeeds, IsReadyFor, TookIn}
 use Rattle.board_steps.proofs.Bits.{Bits, bit_a, bit_b, bit_c, bit_t, or_taken, or_taken_again, Within-bits}
 use Rattle.board_steps.proofs.Totals.{total_same, total_more, all_sends_lists, all_posts_sends}
@@ -88,7 +88,8 @@ module _ (B : Setting) (W : IsGraph B.graph) (ws ws' : List ℕ) (hs hs' : Row) 
       (em.others q d small ne (λ g. f (some_same (sym e ∙ g)))) (Some p)
       (λ z g. let y : p ≡ z = some_same g in (ct.else z (λ h. f (y ∙ h)), ct.posted z)) k)
 
-  pub taken_tile : slice_index ws' t ≡ slice_index ws t + 8 → ((q : ℕ) → q ≢ t → slice_index ws' q ≡ slice_index ws q) → (q : ℕ) → q < B.graph.tiles
+  pub taken_tile : slice_index ws' t ≡ slice_index ws t + 8 → ((q : ℕ) → q ≢ t → slice_index ws' q ≡ slice_index ws q) → (q : ℕ)
+      → q < B.graph.tiles
       → TileOk B ws' hs' L' P' S' q
   taken_tile word words q below =
       let c = all q below in
@@ -125,7 +126,8 @@ module _ (content : ℕ → ℕ → Cell) (d : ℕ) where
   Distinct-incoming (Some q) m f a = (f q refl, a)
 
   AllHome-incoming : (hs : Row) (o : Option ℕ) (m : List (ℕ × Cell))
-      → ((q : ℕ) → o ≡ Some q → get_elem? hs (4 * q + d) ≡ some (some (content q d))) → AllHome hs m → AllHome hs (incoming content d o ++ m)
+      → ((q : ℕ) → o ≡ Some q → get_elem? hs (4 * q + d) ≡ some (some (content q d))) → AllHome hs m
+      → AllHome hs (incoming content d o ++ m)
   AllHome-incoming hs None m f a = a
   AllHome-incoming hs (Some q) m f a = (f q refl, a)
 
@@ -147,7 +149,8 @@ module _ (B : Setting) (W : IsGraph B.graph) (t : ℕ) (near : t < B.graph.tiles
       ((λ z. th.1 (sym z)), omega arith)
 
   abbrev ins : List (ℕ × Cell)
-  ins = incoming B.content 0 (B.graph.from t 0) ++ (incoming B.content 1 (B.graph.from t 1) ++ (incoming B.content 2 (B.graph.from t 2) ++ []))
+  ins = incoming B.content 0 (B.graph.from t 0) ++ (incoming B.content 1 (B.graph.from t 1) ++ (incoming B.content 2
+      (B.graph.from t 2) ++ []))
 
   -- a slot that is none of those of the edges that come to the tile
   apart_ins : (k : ℕ) → ((d q : ℕ) → d < 4 → B.graph.from t d ≡ Some q → k ≢ 4 * q + d) → Apart k ins
@@ -160,16 +163,29 @@ module _ (B : Setting) (W : IsGraph B.graph) (t : ℕ) (near : t < B.graph.tiles
 
   distinct_ins : Distinct ins
   distinct_ins = Distinct-incoming B.content 0 (B.graph.from t 0) _
-      (λ q e. Apart-incoming B.content 1 (4 * q + 0) (B.graph.from t 1) _ (λ p _. other_direction q p 0 1 (lit< tt) (lit< tt) (λ z. omega arith))
-      (Apart-incoming B.content 2 (4 * q + 0) (B.graph.from t 2) [] (λ p _. other_direction q p 0 2 (lit< tt) (lit< tt) (λ z. omega arith)) tt))
+      (λ q e. Apart-incoming B.content 1 (4 * q + 0) (B.graph.from t 1) _ (λ p _. other_direction q p 0 1 (lit< tt) (lit< tt)
+      (λ z. omega arith))
+      (Apart-incoming B.content 2 (4 * q + 0) (B.graph.from t 2) [] (λ p _. other_direction q p 0 2 (lit< tt) (lit< tt)
+      (λ z. omega arith)) tt))
       (Distinct-incoming B.content 1 (B.graph.from t 1) _
-      (λ q e. Apart-incoming B.content 2 (4 * q + 1) (B.graph.from t 2) [] (λ p _. other_direction q p 1 2 (lit< tt) (lit< tt) (λ z. omega arith)) tt)
+      (λ q e. Apart-incoming B.content 2 (4 * q + 1) (B.graph.from t 2) [] (λ p _. other_direction q p 1 2 (lit< tt) (lit< tt)
+      (λ z. omega arith)) tt)
       (Distinct-incoming B.content 2 (B.graph.from t 2) [] (λ q e. tt) tt))
 
   distinct : Distinct (hand_in B t)
   distinct = (
     ((λ e. omega arith), ((λ e. omega arith), ((λ e. omega arith), own_apart 0 (lit< tt)))),
-    (((λ e. omega arith), ((λ e. omega arith), own_apart 1 (lit< tt))), (((λ e. omega arith), own_apart 2 (lit< tt)), (own_apart 3 (lit< tt), distinct_ins))),
+    (
+      ((λ e. omega arith), ((λ e. omega arith), own_apart 1 (lit< tt))),
+      (
+        ((λ e. omega arith), own_apart 2 (lit< tt)),
+        (
+          own_apart 3
+              (lit< tt),
+          distinct_ins,
+        ),
+      ),
+    ),
   )
 
   among_own : (d : ℕ) → d < 4 → Among (4 * t + d) (hand_in B t)
@@ -183,10 +199,12 @@ module _ (B : Setting) (W : IsGraph B.graph) (t : ℕ) (near : t < B.graph.tiles
       (Among-incoming B.content 0 q (B.graph.from t 0) _ (ap (B.graph.from t) (sym z) ∙ e)))
       (λ a. dite (ℕ_discrete d 1)
       (λ (z : d ≡ 1). subst (λ (y : ℕ). Among (4 * q + y) ins) (sym z)
-      (Among-right _ (incoming B.content 0 (B.graph.from t 0)) _ (Among-incoming B.content 1 q (B.graph.from t 1) _ (ap (B.graph.from t) (sym z) ∙ e))))
+      (Among-right _ (incoming B.content 0 (B.graph.from t 0)) _ (Among-incoming B.content 1 q (B.graph.from t 1) _ (ap (B.graph.from t)
+      (sym z) ∙ e))))
       (λ b. let z : d ≡ 2 = omega arith in subst (λ (y : ℕ). Among (4 * q + y) ins) (sym z)
       (Among-right _ (incoming B.content 0 (B.graph.from t 0)) _
-      (Among-right _ (incoming B.content 1 (B.graph.from t 1)) _ (Among-incoming B.content 2 q (B.graph.from t 2) _ (ap (B.graph.from t) (sym z) ∙ e))))))
+      (Among-right _ (incoming B.content 1 (B.graph.from t 1)) _ (Among-incoming B.content 2 q (B.graph.from t 2) _ (ap (B.graph.from t)
+      (sym z) ∙ e))))))
 
   among_in : (d q : ℕ) → B.graph.from t d ≡ Some q → Among (4 * q + d) (hand_in B t)
   among_in d q e = inr (inr (inr (inr (among_ins d q (W.back t d q near e).1 e))))
@@ -212,7 +230,8 @@ module _ (B : Setting) (W : IsGraph B.graph) (t : ℕ) (near : t < B.graph.tiles
   emptied : (hs : Row) → length hs ≡ 4 * B.graph.tiles → Emptied B t hs (clear hs (hand_in B t))
   emptied hs long = record {
     own = λ d small. clear_here hs (hand_in B t) (4 * t + d) (omega arith) (among_own d small);
-    ins = λ q d below e. let th = W.there q d t below e in let s = th.2 in clear_here hs (hand_in B t) (4 * q + d) (omega arith) (among_in d q th.3);
+    ins = λ q d below e. let th = W.there q d t below e in
+        let s = th.2 in clear_here hs (hand_in B t) (4 * q + d) (omega arith) (among_in d q th.3);
     others = λ q d small ne nx. clear_else hs (hand_in B t) (4 * q + d) (apart_all q d small ne nx);
     long = clear_long hs (hand_in B t);
   }
@@ -220,7 +239,8 @@ module _ (B : Setting) (W : IsGraph B.graph) (t : ℕ) (near : t < B.graph.tiles
   module _ (s : State Cell View) (r : Ruled B s) (free : total (lists t) s.views ≡ 0)
       (ready : (d q : ℕ) → B.graph.from t d ≡ Some q → total (sends q d) s.views ≡ 1) where
     abbrev Edge : ℕ → ℕ → Option ℕ → Type 0
-    Edge q d o = EdgeIs (λ p. total (lists p) s.views) (λ p. total (posts p) s.views) (total (sends q d) s.views) (B.fresh d) (B.content q d)
+    Edge q d o = EdgeIs (λ p. total (lists p) s.views)
+        (λ p. total (posts p) s.views) (total (sends q d) s.views) (B.fresh d) (B.content q d)
         (get_elem? s.homes (4 * q + d)) q o
 
     fresh_own : (d : ℕ) → d < 4 → get_elem? s.homes (4 * t + d) ≡ some (some (B.fresh d))
@@ -298,10 +318,12 @@ needs_stand B W s r t word near k h d q e =
     let bk = W.back t d q near e in let once = (r.tiles q bk.0).once in let l = all_sends_lists q d s.views in
     let same = ap (arrived (λ q. total (sends q d) s.views)) e in omega arith in
     dite (ℕ_discrete d 0)
-    (λ (z : d ≡ 0). let e₀ : B.graph.from t 0 ≡ Some q = ap (B.graph.from t) (sym z) ∙ e in subst (λ (y : ℕ). total (sends q y) s.views ≡ 1) (sym z)
+    (λ (z : d ≡ 0). let e₀ : B.graph.from t 0 ≡ Some q = ap (B.graph.from t) (sym z) ∙ e in subst
+    (λ (y : ℕ). total (sends q y) s.views ≡ 1) (sym z)
     (f 0 e₀ (let a = bit_a _ _ _ _ _ x b in let i = k.right in let j = h.0 q e₀ in omega arith)))
     (λ n₀. dite (ℕ_discrete d 1)
-    (λ (z : d ≡ 1). let e₁ : B.graph.from t 1 ≡ Some q = ap (B.graph.from t) (sym z) ∙ e in subst (λ (y : ℕ). total (sends q y) s.views ≡ 1) (sym z)
+    (λ (z : d ≡ 1). let e₁ : B.graph.from t 1 ≡ Some q = ap (B.graph.from t) (sym z) ∙ e in subst
+    (λ (y : ℕ). total (sends q y) s.views ≡ 1) (sym z)
     (f 1 e₁ (let a = bit_b _ _ _ _ _ x b in let i = k.bottom in let j = h.1 q e₁ in omega arith)))
     (λ n₁. let z : d ≡ 2 = let bk = W.back t d q near e in let l = bk.1 in omega arith in
     let e₂ : B.graph.from t 2 ≡ Some q = ap (B.graph.from t) (sym z) ∙ e in subst (λ (y : ℕ). total (sends q y) s.views ≡ 1) (sym z)
@@ -342,7 +364,8 @@ take_now B W k id v t near part idle seen s r wide at _ =
       },
     ))
 
-pub takes_step : (B : Setting) (W : IsGraph B.graph) (k id : ℕ) (me : Me Cell View) (t : ℕ) → t < B.graph.tiles → 1 ≤ me.0.parts → me.0.held ≡ None
+pub takes_step : (B : Setting) (W : IsGraph B.graph) (k id : ℕ) (me : Me Cell View) (t : ℕ) → t < B.graph.tiles → 1 ≤ me.0.parts
+    → me.0.held ≡ None
     → me.1 ≡ [] → IsReadyFor B.graph t me.0 → Allows (Ruled B) k id me t (λ x. bit_or x 8) (TookIn B t me)
 takes_step B W k id me t near part idle empty ready =
     subst (λ (c : List (ℕ × Cell)). Allows (Ruled B) k id (me.0, c) t (λ x. bit_or x 8) (TookIn B t (me.0, c))) (sym empty)

@@ -32,7 +32,8 @@ idle_lists v idle q = let e : is_held q v.held ≡ 0 = ap (is_held q) idle in om
 
 idle_sends : (v : View) → v.held ≡ None → (q d : ℕ) → sends q d v ≡ times q v.mine
 unfolding sends
-idle_sends v idle q d = let e : is_sent q v.held (has d v.sent) ≡ 0 = ap (λ (o : Option ℕ). is_sent q o (has d v.sent)) idle ∙ unsent q (has d v.sent) in omega arith
+idle_sends v idle q d = let e : is_sent q v.held (has d v.sent) ≡ 0 = ap (λ (o : Option ℕ). is_sent q o (has d v.sent)) idle
+    ∙ unsent q (has d v.sent) in omega arith
 
 taken_lists : (v : View) (p q : ℕ) → lists q (taken v p) ≡ one_if (eqb p q) + times q v.mine
 unfolding lists
@@ -69,7 +70,8 @@ unsent_sends v d still q = let e : is_sent q v.held (has d v.sent) ≡ 0 = ap (i
 
 pub sent_sends : (v : View) (p d : ℕ) → v.held ≡ Some p → has d v.sent ≡ true → (q : ℕ) → sends q d v ≡ one_if (eqb p q) + times q v.mine
 unfolding sends
-sent_sends v p d held is_so q = let e : is_sent q v.held (has d v.sent) ≡ one_if (eqb p q) = ap (is_sent q v.held) is_so ∙ ap (is_held q) held in omega arith
+sent_sends v p d held is_so q = let e : is_sent q v.held (has d v.sent) ≡ one_if (eqb p q) = ap (is_sent q v.held) is_so
+    ∙ ap (is_held q) held in omega arith
 
 pub plain_posts : (p : ℕ) (v : View) → posts p v ≡ times p v.mine
 unfolding posts
@@ -83,10 +85,12 @@ has_other : (d e : ℕ) (l : List ℕ) → e ≢ d → has e (d ∷ l) ≡ has e
 has_other d e l n = ap (λ (b : Bool). b || has e l) (ne_eqb d e (λ z. n (sym z)))
 
 pub send_here : (v : View) (p d : ℕ) → v.held ≡ Some p → has d v.sent ≡ false → sends p d (sent_view v d) ≡ sends p d v + 1
-send_here v p d held still = let a = unsent_sends v d still p in let b = sent_sends (sent_view v d) p d held (has_first d v.sent) p in let c = one_same p in omega arith
+send_here v p d held still = let a = unsent_sends v d still p in let b = sent_sends (sent_view v d) p d held (has_first d v.sent) p in
+    let c = one_same p in omega arith
 
 pub send_else : (v : View) (p d : ℕ) → v.held ≡ Some p → has d v.sent ≡ false → (q : ℕ) → q ≢ p → sends q d (sent_view v d) ≡ sends q d v
-send_else v p d held still q n = let a = unsent_sends v d still q in let b = sent_sends (sent_view v d) p d held (has_first d v.sent) q in let c = one_other p q n in omega arith
+send_else v p d held still q n = let a = unsent_sends v d still q in let b = sent_sends (sent_view v d) p d held (has_first d v.sent) q in
+    let c = one_other p q n in omega arith
 
 pub send_other : (v : View) (d e q : ℕ) → e ≢ d → sends q e (sent_view v d) ≡ sends q e v
 unfolding sends
@@ -102,10 +106,12 @@ send_posts v d q = refl
 
 -- the view that has posted
 pub post_lists : (v : View) (p : ℕ) → v.held ≡ Some p → (q : ℕ) → lists q (posted_view v p) ≡ lists q v
-post_lists v p held q = let a = idle_lists (posted_view v p) refl q in let b : times q (posted_view v p).mine ≡ one_if (eqb p q) + times q v.mine = refl in let c = held_lists v p held q in omega arith
+post_lists v p held q = let a = idle_lists (posted_view v p) refl q in
+    let b : times q (posted_view v p).mine ≡ one_if (eqb p q) + times q v.mine = refl in let c = held_lists v p held q in omega arith
 
 pub post_sends : (v : View) (p q d : ℕ) → sends q d (posted_view v p) ≡ one_if (eqb p q) + times q v.mine
-post_sends v p q d = let a = idle_sends (posted_view v p) refl q d in let b : times q (posted_view v p).mine ≡ one_if (eqb p q) + times q v.mine = refl in omega arith
+post_sends v p q d = let a = idle_sends (posted_view v p) refl q d in
+    let b : times q (posted_view v p).mine ≡ one_if (eqb p q) + times q v.mine = refl in omega arith
 
 pub post_sends_else : (v : View) (p q d : ℕ) → v.held ≡ Some p → q ≢ p → sends q d (posted_view v p) ≡ sends q d v
 post_sends_else v p q d held n = else (has d v.sent) refl
@@ -118,10 +124,14 @@ pub post_sends_sent : (v : View) (p d : ℕ) → v.held ≡ Some p → has d v.s
 post_sends_sent v p d held e = let x = sent_sends v p d held e p in let a = post_sends v p p d in omega arith
 
 pub post_posts_here : (v : View) (p : ℕ) → posts p (posted_view v p) ≡ posts p v + 1
-post_posts_here v p = let a = plain_posts p (posted_view v p) in let b : times p (posted_view v p).mine ≡ one_if (eqb p p) + times p v.mine = refl in let c = plain_posts p v in let d = one_same p in omega arith
+post_posts_here v p = let a = plain_posts p (posted_view v p) in
+    let b : times p (posted_view v p).mine ≡ one_if (eqb p p) + times p v.mine = refl in let c = plain_posts p v in
+    let d = one_same p in omega arith
 
 pub post_posts_else : (v : View) (p q : ℕ) → q ≢ p → posts q (posted_view v p) ≡ posts q v
-post_posts_else v p q n = let a = plain_posts q (posted_view v p) in let b : times q (posted_view v p).mine ≡ one_if (eqb p q) + times q v.mine = refl in let c = plain_posts q v in let d = one_other p q n in omega arith
+post_posts_else v p q n = let a = plain_posts q (posted_view v p) in
+    let b : times q (posted_view v p).mine ≡ one_if (eqb p q) + times q v.mine = refl in let c = plain_posts q v in
+    let d = one_other p q n in omega arith
 
 pub cut_lists : (v : View) (p : ℕ) → lists p (kept_view v) + lists p (new_view v) ≡ lists p v
 unfolding lists

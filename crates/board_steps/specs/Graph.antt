@@ -43,7 +43,12 @@ from_in C B t d = from_of C B (t % C) (t / C) t d
 
 -- the tiles of a window
 abbrev pub graph_of : Shape → Graph
-graph_of s = record { tiles = bands_of s * columns_of s; next = next_in (columns_of s) (bands_of s); from = from_in (columns_of s) (bands_of s) }
+graph_of s = record {
+  tiles = bands_of s * columns_of s;
+  next = next_in (columns_of s) (bands_of s);
+  from = from_in (columns_of s)
+      (bands_of s);
+}
 
 -- the number of a tile
 abbrev pub number_of : Shape → Place → ℕ

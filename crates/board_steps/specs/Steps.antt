@@ -10,13 +10,22 @@ use Rattle.board_steps.specs.declared.rule.Cell.TheVariants.{Empty}
 use Rattle.board_steps.specs.Graph.{Graph}
 use Rattle.board_steps.specs.Rule.{Setting, setting_of, arrived, has, lists, posts, sends, Within}
 
+-- ---- the start
+
+-- the slots of so many tiles that wait
+abbrev pub fresh_slots : (ℕ → Cell) → ℕ → List Cell
+fresh_slots fresh zero = []
+fresh_slots fresh (suc n) = fresh_slots fresh n ++ fresh 0 ∷ fresh 1 ∷ fresh 2 ∷ fresh 3 ∷ []
+
+-- ---- directions
+
 -- the number of a direction
 abbrev pub index_of : Dir → ℕ
 index_of dir.Right = 0
 index_of dir.Bottom = 1
 index_of dir.Corner = 2
 
--- the arrival bit of a direction, and the direction of an arrival bit
+-- the arrival bit of a direction
 abbrev pub bit_of : ℕ → ℕ
 bit_of zero = 1
 bit_of (suc zero) = 2
@@ -112,11 +121,11 @@ pub record MaySend (B : Setting) (m : Me Cell View) (d to : ℕ) : Type 0 where
 abbrev pub sent_view : View → ℕ → View
 sent_view v d = record v { sent = d ∷ v.sent }
 
--- the edge in front goes home
+-- The edge in the direction d, which was in front, goes home.
 abbrev pub SentTo : ℕ → Me Cell View → Me Cell View → Type 0
 SentTo d m n = n ≡ (sent_view m.0 d, rest m.1)
 
--- by the arrival bit
+-- the same by the arrival bit of the direction
 abbrev pub Sent : ℕ → Me Cell View → Me Cell View → Type 0
 Sent bit m n = (d : ℕ) → d < 3 → bit ≡ bit_of d → SentTo d m n
 
@@ -135,8 +144,10 @@ own_slot content t d (Some p) = []
 -- hold, and those of its edges that no tile receives.
 abbrev pub to_post_in : Setting → (ℕ → ℕ → Cell) → ℕ → List (ℕ × Cell)
 to_post_in B left t =
-    (4 * t + 3, B.content t 3) ∷ incoming left 0 (B.graph.from t 0) ++ (incoming left 1 (B.graph.from t 1) ++ (incoming left 2 (B.graph.from t 2)
-    ++ (own_slot B.content t 0 (B.graph.next t 0) ++ (own_slot B.content t 1 (B.graph.next t 1) ++ (own_slot B.content t 2 (B.graph.next t 2) ++ [])))))
+    (4 * t + 3, B.content t 3) ∷ incoming left 0 (B.graph.from t 0) ++ (incoming left 1 (B.graph.from t 1) ++ (incoming left 2
+    (B.graph.from t 2)
+    ++ (own_slot B.content t 0 (B.graph.next t 0) ++ (own_slot B.content t 1 (B.graph.next t 1) ++ (own_slot B.content t 2
+    (B.graph.next t 2) ++ [])))))
 
 abbrev pub to_post : Slab → (ℕ → ℕ → Cell) → ℕ → List (ℕ × Cell)
 to_post b = to_post_in (setting_of b)

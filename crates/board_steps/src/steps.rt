@@ -23,7 +23,7 @@ fn arrival_bit(dir: Dir) -> u64
     }
 }
 
-/// Reads the word of tile `at`.
+/// Reads the word of tile `at`: 1, 2 and 4 where its edges have arrived, 8 where it is taken, 16 where it is posted.
 pub fn look(words: &Words, seat: &mut Seated, at: usize) -> u64
     requires table { (seat.old.table_id ≡ words.now.table_id) × (at < words.now.table_id.words) }
     requires inside { at < (setting_of words.now.key).graph.tiles }
@@ -34,8 +34,8 @@ pub fn look(words: &Words, seat: &mut Seated, at: usize) -> u64
     words.load::<Looks>(seat, at)
 }
 
-/// Takes tile `at`, where no other pass has taken it, and answers its word as it was. The pass then has the slots of the
-/// tile in hand, and those of the edges that come to it.
+/// Takes tile `at`, where no pass has taken it, and answers its word as it was. The pass then has in hand the slots of
+/// the tile, and those of the edges that come to it.
 pub fn take(words: &Words, seat: &mut Seated, at: usize) -> u64
     requires table { (seat.old.table_id ≡ words.now.table_id) × (at < words.now.table_id.words) }
     requires inside { at < (setting_of words.now.key).graph.tiles }
@@ -84,7 +84,8 @@ pub fn cut(words: &Words, seat: &mut Seated) -> Seated
 
 /// Joins another pass, which holds nothing, to a pass.
 pub fn unite(words: &Words, seat: &mut Seated, other: Seated)
-    requires table { (seat.old.table_id ≡ words.now.table_id) × (other.table_id ≡ words.now.table_id) × (0 < words.now.table_id.words) }
+    requires table { (seat.old.table_id ≡ words.now.table_id) × (other.table_id ≡ words.now.table_id)
+        × (0 < words.now.table_id.words) }
     requires parts { (1 ≤ seat.old.me.0.parts) × (1 ≤ other.me.0.parts) }
     requires idle { (other.me.0.held ≡ None) × (other.me.1 ≡ []) }
     ensures seat { (seat.new.table_id ≡ seat.old.table_id) × (seat.new.id ≡ seat.old.id) }

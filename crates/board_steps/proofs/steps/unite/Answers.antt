@@ -9,5 +9,6 @@ join_seat-requires c = (
   search rules,
   search rules,
   search rules,
-  joins (setting_of c.args.words.now.key) _ _ c.args.seat.now.me.0 c.args.other.me.0 c.requires.parts.0 c.requires.parts.1 c.requires.idle.0,
+  joins (setting_of c.args.words.now.key) _ _ c.args.seat.now.me.0 c.args.other.me.0 c.requires.parts.0 c.requires.parts.1
+      c.requires.idle.0,
 )

@@ -1,0 +1,64 @@
+//! The laws of the rule, each as the contract of a function with an empty body.
+ghost use Rattle.std.specs.Prelude.{◌≡◌, ◌<◌, ◌↔◌, None, Some, false, ℕ};
+ghost use Rattle.atomic_table.specs.Table.{State};
+ghost use Rattle.board_core.specs.Legal.{Legal};
+ghost use Rattle.board_core.specs.Steps.{Gives};
+ghost use Rattle.board_core.specs.declared.events.Event.TheVariants.{Post, Send, Take};
+ghost use Rattle.tile_lanes.specs.Done.{window_of};
+ghost use Rattle.tile_shape.specs.Geometry.{IsTile};
+ghost use Rattle.tile_shape.specs.declared.tiles.Dir.{Dir};
+ghost use Rattle.tile_shape.specs.declared.tiles.Place.{Place};
+ghost use Rattle.tile_shape.specs.declared.tiles.Shape.{Shape};
+ghost use Rattle.board_steps.specs.Clauses.{Clauses};
+ghost use Rattle.board_steps.specs.Graph.{IsGraph, graph_of, number_of};
+ghost use Rattle.board_steps.specs.Rule.{Ruled, has, setting_of, spent};
+ghost use Rattle.board_steps.specs.Shown.{IsEvent, Joins, Moves, Splits, place_of, shown};
+ghost use Rattle.board_steps.specs.Steps.{AllSent, index_of, joined_view, kept_view, looked, new_view, posted_view, sent_view, taken};
+ghost use Rattle.board_steps.specs.declared.rule.Cell.{Cell};
+ghost use Rattle.board_steps.specs.declared.rule.Slab.{Slab};
+ghost use Rattle.board_steps.specs.declared.rule.View.{View};
+
+/// The tiles of a window are a graph, and its edges are those that one tile gives to another.
+pub fn the_tiles_of_a_window_are_a_graph()
+    ensures graph { (s : Shape) → IsGraph (graph_of s) }
+    ensures number { (s : Shape) (p : Place) → IsTile s p → number_of s p < (graph_of s).tiles }
+    ensures place { (s : Shape) (t : ℕ) → t < (graph_of s).tiles
+        → IsTile s (place_of s t) × (number_of s (place_of s t) ≡ t) }
+    ensures gives { (s : Shape) (p q : Place) (d : Dir) → IsTile s p → IsTile s q
+        → (Gives s p d q ↔ ((graph_of s).next (number_of s p) (index_of d) ≡ Some (number_of s q))) }
+{}
+
+/// Each state that meets the rule meets its clauses in plain words.
+pub fn the_rule_in_plain_words()
+    ensures { (b : Slab) (s : State Cell View) → Ruled (setting_of b) s → Clauses (setting_of b) s }
+{}
+
+/// What a state that meets the rule shows is a core as events make it.
+pub fn what_is_shown_is_legal()
+    ensures { (b : Slab) (s : State Cell View) → Ruled (setting_of b) s → Legal (shown b s) }
+{}
+
+/// A pass that takes a tile, sends an edge or posts is the core's event, which the core accepts.
+pub fn steps_are_events()
+    ensures take { (b : Slab) (s : State Cell View) (s' : State Cell View) (id : ℕ) (v : View) (p : Place)
+        → IsTile (window_of b.rows.value) p → v.held ≡ None
+        → Moves b s s' id v (taken v (number_of (window_of b.rows.value) p)) → IsEvent b s s' (Take p v.number) }
+    ensures send { (b : Slab) (s : State Cell View) (s' : State Cell View) (id : ℕ) (v : View) (p : Place) (q : Place)
+        (d : Dir) → Gives (window_of b.rows.value) p d q → v.held ≡ Some (number_of (window_of b.rows.value) p)
+        → has (index_of d) v.sent ≡ false
+        → Moves b s s' id v (sent_view v (index_of d)) → IsEvent b s s' (Send p d v.number) }
+    ensures post { (b : Slab) (s : State Cell View) (s' : State Cell View) (id : ℕ) (v : View) (p : Place)
+        → IsTile (window_of b.rows.value) p → v.held ≡ Some (number_of (window_of b.rows.value) p)
+        → AllSent (setting_of b).graph (number_of (window_of b.rows.value) p) v
+        → Moves b s s' id v (posted_view v (number_of (window_of b.rows.value) p)) → IsEvent b s s' (Post p v.number) }
+{}
+
+/// A look, a split and a join leave what the core shows.
+pub fn other_steps_show_nothing()
+    ensures look { (b : Slab) (s : State Cell View) (s' : State Cell View) (id : ℕ) (v : View) (t : ℕ) (word : ℕ)
+        → Moves b s s' id v (looked v t word) → shown b s' ≡ shown b s }
+    ensures split { (b : Slab) (s : State Cell View) (s' : State Cell View) (id : ℕ) (v : View)
+        → Splits b s s' id v (kept_view v) (new_view v) → shown b s' ≡ shown b s }
+    ensures join { (b : Slab) (s : State Cell View) (s' : State Cell View) (id : ℕ) (other : ℕ) (v : View) (u : View)
+        → u.held ≡ None → Joins b s s' id other v u (joined_view v u) spent → shown b s' ≡ shown b s }
+{}

@@ -1,0 +1,9 @@
+pub mod Shapes
+pub mod Numbers
+pub mod Hands
+pub mod Handed
+pub mod Worked
+pub mod Posts
+pub mod Claims
+pub mod Emptied
+pub mod Ending

@@ -1,0 +1,23 @@
+use Rattle.std.proofs.Common.{◌≡◌, ℕ, ◌+◌, ◌*◌, ◌<◌, ◌^◌, ap, sym, ◌∙◌, arith}
+use Rattle.tile_shape.specs.Geometry.{IsShape, columns_of, bands_of}
+use Rattle.tile_board.specs.Board.{slab}
+use Rattle.tile_board.specs.Slabs.{number_in, shape_of}
+use Rattle.tile_board.proofs.Numbers.{few-tiles, number-below}
+use Rattle.tile_board.proofs.Shapes.{columns-is, is-shape}
+use Rattle.tile_board.proofs.kinds.Board.number.Goals as goal
+
+-- the number, below that of tiles, which are few
+same : (c : goal.After-struct_known-2-1) → c.args.t.j * c.columns.result + c.args.t.c ≡ number_in (slab c.args.self.now) c.args.t
+same c = ap (λ columns. c.args.t.j * columns + c.args.t.c) (columns-is c.args.self.now c.shape.result c.columns.result c.shape.ensures.is c.columns.ensures)
+
+pub returns-clause-is : goal.returns-clause-is
+returns-clause-is c = same c
+
+pub returns-clause-inside : goal.returns-clause-inside
+returns-clause-inside c = let n = number-below (shape_of (slab c.args.self.now)) c.args.t c.requires in let e = same c in let w = c.args.self.now.sized in omega arith
+
+pub returns-clause-few : goal.returns-clause-few
+returns-clause-few c =
+    let n = number-below (shape_of (slab c.args.self.now)) c.args.t c.requires in
+    let few = few-tiles (shape_of (slab c.args.self.now)) (is-shape c.args.self.now c.shape.result c.shape.ensures.is c.shape.ensures.sizes) in
+    let e = same c in omega arith

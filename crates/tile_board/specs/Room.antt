@@ -1,0 +1,52 @@
+-- How the slots of a tile, and those of the edges that come to it, are emptied and filled.
+use Rattle.std.specs.Prelude.{◌≡◌, ℕ, ◌+◌, ◌*◌, pos, List, [], ◌∷◌, ◌++◌, Option, Some, None, replicate}
+use Rattle.atomic_table.specs.Table.{Me, rest}
+use Rattle.tile_shape.specs.declared.tiles.Dir.{Dir}
+use Rattle.board_steps.specs.Rule.{setting_of}
+use Rattle.board_steps.specs.Steps.{incoming, index_of, own_slot, sent_view}
+use Rattle.board_steps.specs.declared.rule.Cell.{Cell}
+use Rattle.board_steps.specs.declared.rule.Cell.TheVariants.{Empty}
+use Rattle.board_steps.specs.declared.rule.Slab.{Slab}
+use Rattle.board_steps.specs.declared.rule.View.{View}
+use Rattle.tile_board.specs.declared.room.Room.{Room}
+use Rattle.tile_board.specs.Slabs.{amounts_of}
+
+-- errors 0 and no dots, in each ink
+pub record IsRoomOf (b : Slab) (r : Room) : Type 0 where
+  pub right : r.right ≡ replicate (amounts_of b).inks (replicate 192 (pos 0))
+  pub bottom : r.bottom ≡ replicate (amounts_of b).inks (replicate 128 (pos 0))
+  pub corner : r.corner ≡ replicate (amounts_of b).inks (replicate 12 (pos 0))
+  pub dots : r.dots ≡ replicate (amounts_of b).inks (replicate {A = ℕ} 256 0)
+
+-- the slot of an edge that comes to tile t in the direction d, with what `x` has for it
+abbrev pub comes : Slab → (ℕ → ℕ → Cell) → ℕ → ℕ → List (ℕ × Cell)
+comes b x d t = incoming x d ((setting_of b).graph.from t d)
+
+abbrev pub emptied : ℕ → ℕ → Cell
+emptied q d = Empty
+
+-- A tile's own slots are emptied, and those of the edges that come to it are in front.
+pub record OwnEmptied (b : Slab) (t : ℕ) (m n : Me Cell View) : Type 0 where
+  pub view : n.0 ≡ m.0
+  pub hand : n.1 ≡ comes b (setting_of b).content 0 t ++ (comes b (setting_of b).content 1 t ++ (comes b (setting_of b).content 2 t
+      ++ (4 * t + 0, Empty) ∷ (4 * t + 1, Empty) ∷ (4 * t + 2, Empty) ∷ (4 * t + 3, Empty) ∷ []))
+
+-- the edge that comes in the direction d is in front, if there is one
+abbrev pub IsNext : Slab → ℕ → ℕ → List (ℕ × Cell) → Type 0
+IsNext b d t hand = (r : List (ℕ × Cell)) × (hand ≡ comes b (setting_of b).content d t ++ r)
+
+-- It is taken out, and its empty slot goes behind the others.
+pub record TakesIn (b : Slab) (d t : ℕ) (m n : Me Cell View) : Type 0 where
+  pub view : n.0 ≡ m.0
+  pub hand : (r : List (ℕ × Cell)) → m.1 ≡ comes b (setting_of b).content d t ++ r → n.1 ≡ r ++ comes b emptied d t
+
+-- the view once an edge is given: sent where a tile receives it
+abbrev pub gave_view : View → ℕ → Option ℕ → View
+gave_view v d None = v
+gave_view v d (Some p) = sent_view v d
+
+-- The edge in the direction d is put into its slot, which was in front. Where a tile receives it the slot is home, else
+-- it is behind the others.
+pub record GivesEdge (b : Slab) (d t : ℕ) (m n : Me Cell View) : Type 0 where
+  pub view : n.0 ≡ gave_view m.0 d ((setting_of b).graph.next t d)
+  pub hand : n.1 ≡ rest m.1 ++ own_slot (setting_of b).content t d ((setting_of b).graph.next t d)

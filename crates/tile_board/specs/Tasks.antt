@@ -1,0 +1,27 @@
+-- Tiles that are handed out, and that come back.
+use Rattle.std.specs.Prelude.{◌≡◌}
+use Rattle.tile_shape.specs.Geometry.{IsTile}
+use Rattle.tile_shape.specs.declared.tiles.Place.{Place}
+use Rattle.tile_border.specs.Works.{Border, HasInks}
+use Rattle.tile_border.specs.declared.task.Task.{Task}
+use Rattle.tile_border.specs.declared.task.Done.{Done}
+use Rattle.tile_content.specs.Tiles.{AreDone, AreReady}
+use Rattle.board_steps.specs.declared.rule.Slab.{Slab}
+use Rattle.tile_board.specs.Slabs.{amounts_of, shape_of, top_edges}
+
+abbrev pub handed : Task → Border
+handed t = record { side = t.left; band = t.above; corner = t.corner; bits = t.dots.bits }
+
+abbrev pub gave : Done → Border
+gave d = record { side = d.right; band = d.bottom; corner = d.corner; bits = d.dots.bits }
+
+-- A tile of the slab, with the edges that row-by-row diffusion hands it, in each ink.
+pub record IsTaskOf (b : Slab) (t : Task) : Type 0 where
+  pub tile : IsTile (shape_of b) t.place
+  pub inks : HasInks (amounts_of b).inks (handed t)
+  pub ready : AreReady b.kernel (amounts_of b) (top_edges b) t.place (handed t)
+
+-- A tile with the edges and the dots that row-by-row diffusion gives it, in each ink.
+pub record IsDoneOf (b : Slab) (d : Done) : Type 0 where
+  pub inks : HasInks (amounts_of b).inks (gave d)
+  pub done : AreDone b.kernel (amounts_of b) (top_edges b) d.place (gave d)

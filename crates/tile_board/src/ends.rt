@@ -1,0 +1,130 @@
+//! How a board is made and closed.
+ghost use Rattle.board_steps.specs.Content.{fresh_of};
+ghost use Rattle.board_steps.specs.Rule.{first_view, times};
+ghost use Rattle.board_steps.specs.Steps.{fresh_slots};
+ghost use Rattle.std.specs.Prelude.{IfOk, None, replicate, ◌*◌, ◌<◌, ◌^◌, ◌≡◌, ◌≤◌};
+ghost use Rattle.tile_board.specs.Board.{IsPassOf, holding, slab, view};
+ghost use Rattle.tile_board.specs.Closing.{Closes};
+ghost use Rattle.tile_board.specs.Slabs.{IsTopOf, amounts_of, number_in, shape_of, top_edges};
+ghost use Rattle.tile_shape.specs.Geometry.{IsShape, IsTile, bands_of, columns_of};
+ghost use Rattle.tile_shape.specs.declared.tiles.Place.{Place};
+
+use crate::emptying::empty_all;
+use crate::kinds::{Board, Closed, Pass};
+use board_steps::{Cell, Slab, open};
+use diffusion_kernel::Kernel;
+use dot_planes::InkRows;
+use std::alloc::Global;
+use std::snapshot::Snapshot;
+use tile_border::{BottomEdge, CornerEdge, RightEdge, TopEdges};
+use tile_content::no_dots;
+use tile_shape::Shape;
+use weave_base::Memory;
+
+impl<'a> Board<'a> {
+    /// A board of rows of amounts, which are diffused below a top of their columns and inks, and its first pass, which has
+    /// 256 parts. It takes all memory that the board ever needs.
+    pub fn make(
+        alloc: Global,
+        rows: &'a InkRows,
+        kernel: Kernel,
+        top: TopEdges,
+    ) -> Result<(Board<'a>, Pass), Memory>
+        requires { IsTopOf rows.now top }
+        ensures amounts { IfOk result (λ b. amounts_of (slab b.0) ≡ rows.now) }
+        ensures kernel { IfOk result (λ b. (slab b.0).kernel ≡ kernel) }
+        ensures top { IfOk result (λ b. top_edges (slab b.0) ≡ top) }
+        ensures pass { IfOk result (λ b. IsPassOf b.0 b.1) }
+        ensures view { IfOk result (λ b. view b.1 ≡ first_view (slab b.0)) }
+        ensures holds { IfOk result (λ b. holding b.1 ≡ None) }
+    {
+        let tiles = count_tiles(rows.shape());
+        let slots = blank_slots(alloc, tiles, top.at(0).inks())?;
+        let Ok(dots) = Vec::with_capacity(alloc, tiles) else {
+            return Err(Memory);
+        };
+        let Ok(words) = vec![in alloc; 0u64; tiles] else {
+            return Err(Memory);
+        };
+        let slab = Slab {
+            rows: Snapshot::of(rows),
+            kernel,
+            top: Snapshot::of(&top),
+        };
+        let opened = open(alloc, words.as_slice(), slots, &slab);
+        let Slab {
+            rows: _,
+            kernel: _,
+            top: _,
+        } = slab;
+        let (table, seat) = opened?;
+        let board = Board {
+            rows,
+            kernel,
+            top,
+            table,
+            dots,
+        };
+        let pass = Pass {
+            seat,
+            held: None,
+            parts: 256,
+        };
+        Ok((board, pass))
+    }
+
+    /// The dots of all tiles and the top of the rows below, by a pass that has posted every tile.
+    pub fn close(self, p: Pass) -> Closed
+        requires pass { IsPassOf self p }
+        requires all { (t : Place) → IsTile (shape_of (slab self)) t → 1 ≤ times (number_in (slab self) t) (view p).mine }
+        ensures once { (t : Place) → IsTile (shape_of (slab self.entry)) t → times (number_in (slab self.entry) t) (view p).mine ≡ 1 }
+        ensures closes { Closes (slab self.entry) result }
+    {
+        let shape = self.rows.shape();
+        let Board {
+            rows: _,
+            kernel: _,
+            top: bottom,
+            table,
+            dots,
+        } = self;
+        let Pass {
+            seat,
+            held: _,
+            parts: _,
+        } = p;
+        empty_all(board_steps::close(table, seat), shape, Closed { dots, bottom })
+    }
+}
+
+// How many tiles a window has.
+fn count_tiles(shape: Shape) -> usize
+    requires { IsShape shape }
+    ensures is { result ≡ bands_of shape * columns_of shape }
+    ensures few { result < 2 ^ 32 }
+{
+    shape.bands() as usize * shape.columns() as usize
+}
+
+// The slots of so many tiles, all blank.
+fn blank_slots(alloc: Global, tiles: usize, inks: u8) -> Result<Vec<Cell>, Memory>
+    requires tiles { tiles < 2 ^ 32 }
+    requires some { 1 ≤ inks }
+    requires most { inks ≤ 4 }
+    ensures { IfOk result (λ v. v.items ≡ fresh_slots (fresh_of inks) tiles) }
+{
+    let Ok(mut slots) = Vec::with_capacity(alloc, 4 * tiles) else {
+        return Err(Memory);
+    };
+    for _ in 0..tiles {
+        let right = RightEdge::zero(alloc, inks)?;
+        let bottom = BottomEdge::zero(alloc, inks)?;
+        let corner = CornerEdge::zero(alloc, inks)?;
+        let dots = no_dots(alloc, inks)?;
+        slots.push_reserved(Cell::Right(right));
+        slots.push_reserved(Cell::Bottom(bottom));
+        slots.push_reserved(Cell::Corner(corner));
+        slots.push_reserved(Cell::Dots(dots));
+    }
+    Ok(slots)
+}

@@ -1,0 +1,146 @@
+//! What a tile is handed, out of the slots that came into hand with it.
+ghost use Rattle.board_steps.specs.Steps.{emptied_hand, in_hand};
+ghost use Rattle.std.specs.Prelude.{length, pos, replicate, ◌<◌, ◌^◌, ◌≡◌};
+ghost use Rattle.tile_board.specs.Board.{slab};
+ghost use Rattle.tile_board.specs.Copies.{CutsEnds};
+ghost use Rattle.tile_board.specs.Room.{IsNext, TakesIn};
+ghost use Rattle.tile_board.specs.Slabs.{amounts_of, number_in, shape_of, top_edges};
+ghost use Rattle.tile_board.specs.Tasks.{IsTaskOf};
+ghost use Rattle.tile_content.specs.Tiles.{IsHandedTo};
+ghost use Rattle.tile_shape.specs.Geometry.{IsTile, columns_of};
+ghost use Rattle.tile_shape.specs.declared.tiles.Dir.TheVariants.{Bottom, Corner, Right};
+
+use crate::kinds::Board;
+use crate::room::{BOTTOM, CORNER, RIGHT, Room, slot_of, take_bottom, take_corner, take_right, take_room};
+use board_steps::Seated;
+use dot_planes::TileDots;
+use tile_border::{BottomEdge, CornerEdge, RightEdge, Task};
+use tile_shape::Place;
+
+impl<'a> Board<'a> {
+    /// The number of a tile, by band and then column.
+    pub(crate) fn number(&self, t: Place) -> usize
+        requires { IsTile (shape_of (slab self.now)) t }
+        ensures is { result ≡ number_in (slab self.now) t }
+        ensures inside { result < self.now.table.shared.table_id.words }
+        ensures few { result < 2 ^ 32 }
+    {
+        t.j as usize * self.rows.shape().columns() as usize + t.c as usize
+    }
+
+    /// Takes out what a tile is handed, and leaves its slots empty.
+    pub(crate) fn receive(&self, seat: &mut Seated, t: Place) -> Task
+        requires table { seat.old.table_id ≡ self.now.table.shared.table_id }
+        requires tile { IsTile (shape_of (slab self.now)) t }
+        requires hand { seat.old.me.1 ≡ in_hand (slab self.now) (number_in (slab self.now) t) }
+        ensures seat { (seat.new.table_id ≡ seat.old.table_id) × (seat.new.id ≡ seat.old.id) }
+        ensures place { result.place ≡ t }
+        ensures task { IsTaskOf (slab self.now) result }
+        ensures hand { seat.new.me ≡ (seat.old.me.0, emptied_hand (slab self.now) (number_in (slab self.now) t)) }
+    {
+        let Room {
+            right,
+            bottom,
+            corner,
+            dots,
+        } = take_room(&self.table.shared, seat, self.number(t));
+        let left = self.receive_left(seat, t, right);
+        let above = self.receive_above(seat, t, bottom);
+        let corner = self.receive_corner(seat, t, corner);
+        Task {
+            place: t,
+            left,
+            above,
+            corner,
+            dots: TileDots {
+                place: t,
+                bits: dots,
+            },
+        }
+    }
+
+    // The right edge of the tile at the left, or errors 0 in the first column.
+    fn receive_left(&self, seat: &mut Seated, t: Place, room: RightEdge) -> RightEdge
+        requires table { seat.old.table_id ≡ self.now.table.shared.table_id }
+        requires tile { IsTile (shape_of (slab self.now)) t }
+        requires room { room ≡ replicate (amounts_of (slab self.now)).inks (replicate 192 (pos 0)) }
+        requires next { IsNext (slab self.now) 0 (number_in (slab self.now) t) seat.old.me.1 }
+        ensures seat { (seat.new.table_id ≡ seat.old.table_id) × (seat.new.id ≡ seat.old.id) }
+        ensures edge { IsHandedTo (slab self.now).kernel (amounts_of (slab self.now)) (top_edges (slab self.now)) Right t result }
+        ensures takes { TakesIn (slab self.now) 0 (number_in (slab self.now) t) seat.old.me seat.new.me }
+    {
+        if t.c == 0 {
+            return room;
+        }
+        let from = Place { c: t.c - 1, j: t.j };
+        let slot = slot_of(self.number(from), RIGHT);
+        take_right(&self.table.shared, seat, slot)
+    }
+
+    // The bottom edge of the tile above and one column to the right, or the top's. Right of the last column errors are 0.
+    fn receive_above(&self, seat: &mut Seated, t: Place, room: BottomEdge) -> BottomEdge
+        requires table { seat.old.table_id ≡ self.now.table.shared.table_id }
+        requires tile { IsTile (shape_of (slab self.now)) t }
+        requires room { room ≡ replicate (amounts_of (slab self.now)).inks (replicate 128 (pos 0)) }
+        requires next { IsNext (slab self.now) 1 (number_in (slab self.now) t) seat.old.me.1 }
+        ensures seat { (seat.new.table_id ≡ seat.old.table_id) × (seat.new.id ≡ seat.old.id) }
+        ensures edge { IsHandedTo (slab self.now).kernel (amounts_of (slab self.now)) (top_edges (slab self.now)) Bottom t result }
+        ensures takes { TakesIn (slab self.now) 1 (number_in (slab self.now) t) seat.old.me seat.new.me }
+    {
+        let columns = self.rows.shape().columns();
+        if t.c + 1 == columns {
+            return room;
+        }
+        if t.j == 0 {
+            let mut above = room;
+            copy_edge(self.top.at(t.c + 1), &mut above);
+            return above;
+        }
+        let from = Place {
+            c: t.c + 1,
+            j: t.j - 1,
+        };
+        let slot = slot_of(self.number(from), BOTTOM);
+        take_bottom(&self.table.shared, seat, slot)
+    }
+
+    // The corner edge of the tile above, or the end of the top's.
+    fn receive_corner(&self, seat: &mut Seated, t: Place, room: CornerEdge) -> CornerEdge
+        requires table { seat.old.table_id ≡ self.now.table.shared.table_id }
+        requires tile { IsTile (shape_of (slab self.now)) t }
+        requires room { room ≡ replicate (amounts_of (slab self.now)).inks (replicate 12 (pos 0)) }
+        requires next { IsNext (slab self.now) 2 (number_in (slab self.now) t) seat.old.me.1 }
+        ensures seat { (seat.new.table_id ≡ seat.old.table_id) × (seat.new.id ≡ seat.old.id) }
+        ensures edge { IsHandedTo (slab self.now).kernel (amounts_of (slab self.now)) (top_edges (slab self.now)) Corner t result }
+        ensures takes { TakesIn (slab self.now) 2 (number_in (slab self.now) t) seat.old.me seat.new.me }
+    {
+        if t.j == 0 {
+            let mut corner = room;
+            cut_ends(self.top.at(t.c), &mut corner);
+            return corner;
+        }
+        let from = Place { c: t.c, j: t.j - 1 };
+        let slot = slot_of(self.number(from), CORNER);
+        take_corner(&self.table.shared, seat, slot)
+    }
+}
+
+// Copies the errors of an edge of as many inks.
+fn copy_edge(from: &BottomEdge, to: &mut BottomEdge)
+    requires { length to.old ≡ length from.now }
+    ensures { to.new ≡ from.now }
+{
+    for ink in 0..from.inks() {
+        to.put(ink, from.ink(ink));
+    }
+}
+
+// Sets a corner edge to the ends of a bottom edge of as many inks.
+fn cut_ends(edge: &BottomEdge, corner: &mut CornerEdge)
+    requires { length corner.old ≡ length edge.now }
+    ensures { CutsEnds edge.now corner.old corner.new }
+{
+    for ink in 0..edge.inks() {
+        corner.put(ink, &edge.ends(ink));
+    }
+}
