@@ -1,0 +1,4 @@
+pub mod Numbers
+pub mod Passes
+pub mod Laid
+pub mod Slab

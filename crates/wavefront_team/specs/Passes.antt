@@ -1,0 +1,41 @@
+-- The passes of a slab's workers.
+use Rattle.std.specs.Prelude.{◌≡◌, ℕ, ◌+◌, ◌*◌, ◌<◌, ◌≤◌, None, List, length, slice_index_or}
+use Rattle.board_steps.specs.Rule.{times}
+use Rattle.tile_board.specs.Board.{IsPassOf, slab, view}
+use Rattle.tile_board.specs.Slabs.{number_in, shape_of}
+use Rattle.tile_board.specs.declared.kinds.Board.{Board}
+use Rattle.tile_board.specs.declared.kinds.Pass.{Pass}
+use Rattle.tile_shape.specs.Geometry.{IsTile, columns_of}
+use Rattle.tile_shape.specs.declared.tiles.Place.{Place}
+use Rattle.wavefront_team.specs.declared.worker.Worker.{Worker}
+
+-- a pass of the board that holds nothing, and has so many parts
+abbrev pub IsIdle : Board → ℕ → Pass → Type 0
+IsIdle b parts p = IsPassOf b p × ((view p).held ≡ None) × ((view p).parts ≡ parts)
+
+-- a worker's pass has one part
+abbrev pub IsWorkerOf : Board → Pass → Type 0
+IsWorkerOf b p = IsIdle b 1 p
+
+abbrev pub AllWorkers : Board → List Worker → Type 0
+AllWorkers b team = (k : ℕ) (d : Worker) → k < length team → IsWorkerOf b (slice_index_or team k d).pass
+
+-- the pass has all parts of the board
+abbrev pub HasAll : Board → Pass → Type 0
+HasAll b p = IsIdle b 256 p
+
+-- and it is the first one
+abbrev pub IsFirst : Board → Pass → Type 0
+IsFirst b p = HasAll b p × ((view p).number ≡ 0)
+
+-- the parts that so many workers left
+abbrev pub IsRest : Board → ℕ → Pass → Type 0
+IsRest b workers p = IsPassOf b p × ((view p).held ≡ None) × ((view p).parts + workers ≡ 256)
+
+-- the pass has posted the tiles of the first j bands, and the first c of the band after them
+abbrev pub HasPosted : Board → ℕ → ℕ → Pass → Type 0
+HasPosted b j c p = (t : ℕ) → t < j * columns_of (shape_of (slab b)) + c → 1 ≤ times t (view p).mine
+
+-- it has posted every tile
+abbrev pub HasPostedAll : Board → Pass → Type 0
+HasPostedAll b p = (t : Place) → IsTile (shape_of (slab b)) t → 1 ≤ times (number_in (slab b) t) (view p).mine

@@ -1,0 +1,19 @@
+//! The dots of a slab's tiles, into the planes.
+ghost use Rattle.std.specs.Prelude.{length, ◌+◌, ◌≡◌, ◌≤◌};
+ghost use Rattle.tile_lanes.specs.Done.{window_of};
+ghost use Rattle.wavefront_team.specs.Laying.{AreTilesOf, LaysTiles};
+
+use dot_planes::{InkRows, Planes, TileDots};
+
+/// Puts the dots of a slab's tiles, by band and then column, into rows `at` and on of the planes.
+pub(crate) fn lay_tiles(tiles: &[TileDots], rows: &InkRows, out: &mut Planes, at: u32)
+    requires tiles { AreTilesOf (window_of rows.now) tiles.now }
+    requires width { out.old.width ≡ rows.now.width }
+    requires at { at + rows.now.rows ≤ out.old.rows }
+    ensures { LaysTiles (window_of rows.now) at (length tiles.now) tiles.now out.old out.new }
+{
+    let height = rows.shape().height;
+    for tile in tiles {
+        out.put_tile(at, height, tile);
+    }
+}

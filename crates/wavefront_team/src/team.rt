@@ -1,0 +1,126 @@
+//! The workers of a slab.
+ghost use Rattle.diffusion_kernel.specs.Tables.{table_of};
+ghost use Rattle.slab_diffusion.specs.Slabs.{DiffusesSlab, IsTopOf};
+ghost use Rattle.std.specs.Prelude.{IfOk, OnErr, length, ◌+◌, ◌≡◌, ◌≤◌};
+ghost use Rattle.tile_board.specs.Board.{slab};
+ghost use Rattle.tile_board.specs.Slabs.{shape_of};
+ghost use Rattle.tile_shape.specs.Geometry.{IsShape};
+ghost use Rattle.wavefront_team.specs.Passes.{AllWorkers, HasAll, IsFirst, IsRest, IsWorkerOf};
+
+use crate::gate::Gate;
+use crate::laying::lay_tiles;
+use crate::work::work_rest;
+use crate::worker::Worker;
+use diffusion_kernel::Kernel;
+use dot_planes::{InkRows, Planes};
+use std::alloc::Global;
+use std::thread::{Threads, for_each_mut};
+use tile_board::{Board, Pass};
+use tile_border::TopEdges;
+use tile_shape::Shape;
+use weave_base::Memory;
+
+/// Diffuses a slab below its top by so many workers, and puts its dots into rows `at` and on of the planes. The answer is
+/// the top of the rows below the slab, where its rows are whole bands of 32. One worker is the caller itself, and more
+/// are threads. What they leave, as where no thread can be started, the caller works.
+///
+/// After `Memory` the planes are unchanged.
+pub fn diffuse<R: Threads + Sync, G: Gate + Sync>(
+    rt: &R,
+    alloc: Global,
+    rows: &InkRows,
+    kernel: Kernel,
+    top: TopEdges,
+    workers: u8,
+    gate: &G,
+    out: &mut Planes,
+    at: u32,
+) -> Result<TopEdges, Memory>
+    requires some_workers { 1 ≤ workers }
+    requires most_workers { workers ≤ 64 }
+    requires top { IsTopOf rows.now.width rows.now.inks top }
+    requires width { out.old.width ≡ rows.now.width }
+    requires inks { out.old.inks ≡ rows.now.inks }
+    requires at { at + rows.now.rows ≤ out.old.rows }
+    ensures slab { IfOk result (λ bottom. DiffusesSlab (table_of kernel) rows.now top bottom at out.old out.new) }
+    ensures unchanged { OnErr result (out.new ≡ out.old) }
+{
+    let shape = rows.shape();
+    let (board, mut pass) = Board::make(alloc, rows, kernel, top)?;
+    let mut team = team_of(alloc, &board, shape, &mut pass, workers)?;
+    run_all(rt, &board, shape, gate, team.as_mut_slice());
+    join_all(&board, &mut pass, team);
+    work_rest(&board, shape, gate, &mut pass);
+    let closed = board.close(pass);
+    lay_tiles(closed.dots.as_slice(), rows, out, at);
+    Ok(closed.bottom)
+}
+
+// As many workers, of one part each, or none beside the caller alone.
+fn team_of(
+    alloc: Global,
+    board: &Board<'_>,
+    shape: Shape,
+    pass: &mut Pass,
+    workers: u8,
+) -> Result<Vec<Worker>, Memory>
+    requires pass { IsFirst board.now pass.old }
+    requires sizes { IsShape shape }
+    requires workers { workers ≤ 64 }
+    ensures workers { IfOk result (λ team. AllWorkers board.now team.items) }
+    ensures rest { IfOk result (λ team. IsRest board.now (length team.items) pass.new) }
+{
+    let count = if workers == 1 { 0 } else { workers };
+    let Ok(mut team) = Vec::with_capacity(alloc, usize::from(count)) else {
+        return Err(Memory);
+    };
+    for _ in 0..count {
+        let worker = Worker::make(alloc, board.split(pass), shape)?;
+        team.push_reserved(worker);
+    }
+    Ok(team)
+}
+
+// Lets each worker run, in a thread of its own where one can be started.
+fn run_all<R: Threads + Sync, G: Gate + Sync>(
+    rt: &R,
+    board: &Board<'_>,
+    shape: Shape,
+    gate: &G,
+    team: &mut [Worker],
+)
+    requires workers { AllWorkers board.now team.old }
+    requires shape { shape ≡ shape_of (slab board.now) }
+    requires sizes { IsShape shape }
+    ensures { AllWorkers board.now team.new }
+{
+    if team.is_empty() {
+        return;
+    }
+    let threads = team.len();
+    for_each_mut(
+        rt,
+        team,
+        threads,
+        &|_: usize, worker: &mut Worker|
+            requires { IsWorkerOf board.now worker.old.pass × (shape ≡ shape_of (slab board.now)) × IsShape shape }
+            ensures { IsWorkerOf board.entry.now worker.new.pass }
+        { worker.run(board, shape, gate) },
+    );
+}
+
+// Joins the workers' passes again.
+fn join_all(board: &Board<'_>, pass: &mut Pass, mut team: Vec<Worker>)
+    requires pass { IsRest board.now (length team.items) pass.old }
+    requires workers { AllWorkers board.now team.items }
+    ensures { HasAll board.now pass.new }
+{
+    while let Some(worker) = team.pop() {
+        let Worker {
+            pass: other,
+            fronts: _,
+            band: _,
+        } = worker;
+        board.join(pass, other);
+    }
+}

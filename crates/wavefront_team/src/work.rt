@@ -1,0 +1,59 @@
+//! Tiles by one caller.
+ghost use Rattle.board_steps.specs.Steps.{posted_view};
+ghost use Rattle.std.specs.Prelude.{Some, ◌+◌, ◌<◌, ◌≡◌};
+ghost use Rattle.tile_board.specs.Board.{IsPassOf, holding, slab, view};
+ghost use Rattle.tile_board.specs.Slabs.{number_in, shape_of};
+ghost use Rattle.tile_board.specs.Tasks.{IsTaskOf};
+ghost use Rattle.tile_shape.specs.Geometry.{IsShape, bands_of};
+ghost use Rattle.wavefront_team.specs.Passes.{HasAll, HasPosted, HasPostedAll};
+
+use crate::gate::Gate;
+use tile_board::{Board, Claim, Pass};
+use tile_border::Task;
+use tile_shape::{Place, Shape};
+
+/// Works the tile that a pass holds, once the gate lets it in, and posts it.
+pub(crate) fn work_held<G: Gate>(board: &Board<'_>, gate: &G, pass: &mut Pass, task: Task)
+    requires pass { IsPassOf board.now pass.old }
+    requires held { holding pass.old ≡ Some task.place }
+    requires task { IsTaskOf (slab board.now) task }
+    ensures pass { IsPassOf board.now pass.new }
+    ensures view { view pass.new ≡ posted_view (view pass.old) (number_in (slab board.now) task.place) }
+{
+    gate.enter(task.place);
+    let done = board.work(task);
+    board.post(pass, done);
+}
+
+/// Works all tiles that are left, by band and then column. The pass has all parts, so each tile that it comes to is
+/// ready or was posted.
+pub(crate) fn work_rest<G: Gate>(board: &Board<'_>, shape: Shape, gate: &G, pass: &mut Pass)
+    requires pass { HasAll board.now pass.old }
+    requires shape { shape ≡ shape_of (slab board.now) }
+    requires sizes { IsShape shape }
+    ensures pass { IsPassOf board.now pass.new }
+    ensures all { HasPostedAll board.now pass.new }
+{
+    for j in 0..shape.bands() {
+        work_band(board, shape, gate, pass, j);
+    }
+}
+
+// Works the tiles of band j that are left.
+fn work_band<G: Gate>(board: &Board<'_>, shape: Shape, gate: &G, pass: &mut Pass, j: u32)
+    requires pass { HasAll board.now pass.old }
+    requires shape { shape ≡ shape_of (slab board.now) }
+    requires sizes { IsShape shape }
+    requires band { j < bands_of shape }
+    requires before { HasPosted board.now j 0 pass.old }
+    ensures pass { HasAll board.now pass.new }
+    ensures posted { HasPosted board.now (j + 1) 0 pass.new }
+{
+    for c in 0..shape.columns() {
+        match board.claim(pass, Place { c, j }) {
+            Claim::Got(task) => work_held(board, gate, pass, task),
+            Claim::NotReady { .. } => unreachable!(),
+            Claim::Gone { .. } => {}
+        }
+    }
+}
