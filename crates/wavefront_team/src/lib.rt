@@ -1,0 +1,6 @@
+//! Workers on one slab.
+#![tactic(auto)]
+
+mod team;
+
+pub use team::{Gate, OpenGate, diffuse};
