@@ -1,4 +1,5 @@
 pub mod Counting
+pub mod Workers
 pub mod StreamSteps
 pub mod Ends
 pub mod Asked

@@ -11,6 +11,8 @@ mod stops;
 pub use driver_answer::{Answer, ProfileCause, UsageCause, UsageFault};
 pub use page_halftoner::Halftoner;
 pub use running::{run, tell};
+pub use tile_shape::Place;
+pub use wavefront_team::{Gate, OpenGate};
 
 #[cfg(test)]
 mod tests;

@@ -15,18 +15,26 @@ use page_writer::{WriteStop, write_page};
 use printer_profile::Profile;
 use pwg_stream::{MOST_PAGES, PageReader};
 use std::alloc::Global;
+use std::thread::Threads;
+use wavefront_team::Gate;
 use weave_base::{Sink, Source};
 
-/// Prints the pages of the input, each when it is read to its last line and every meter has room for it.
-pub fn print_pages<S: Source, K: Sink>(
+/// Prints the pages of the input, each when it is read to its last line and every meter has room for it. So many workers
+/// diffuse each slab, and share the gate.
+pub fn print_pages<R: Threads + Sync, S: Source, K: Sink, G: Gate + Sync>(
+    rt: &R,
     alloc: Global,
     profile: &Profile,
     kernel: Kernel,
+    workers: u8,
     input: &mut S,
     out: &mut K,
+    gate: &G,
     meters: &mut Vec<Box<dyn Meter>>,
 ) -> Result<(), PrintStop>
     requires checked { IsOk (check profile.now) }
+    requires some_workers { 1 ≤ workers }
+    requires most_workers { workers ≤ 64 }
     ensures { PrintOutcome (printer_of profile.now) (table_of kernel)
         (record { before = S.left input.old; now = S.left input.new; faults_before = S.faults input.old; faults_now = S.faults input.new })
         (record { before = K.held out.old; now = K.held out.new; faults_before = K.faults out.old; faults_now = K.faults out.new })
@@ -35,7 +43,17 @@ pub fn print_pages<S: Source, K: Sink>(
     prove!(profile.nozzles <= 255);
     let mut reader = PageReader::begin(alloc, input)?;
     'pages: for number in 1..MOST_PAGES + 2 {
-        let Some(page) = read_page(alloc, &mut reader, profile, kernel, input)? else {
+        let Some(page) = read_page(
+            rt,
+            alloc,
+            &mut reader,
+            profile,
+            kernel,
+            workers,
+            input,
+            gate,
+        )?
+        else {
             return Ok(());
         };
         charge(number, &count_dots(profile.inks, &page.planes), meters)?;

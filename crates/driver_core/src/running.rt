@@ -15,15 +15,19 @@ use ink_meter::Meter;
 use job_profile::find_profile;
 use job_words::{Verb, profile_name, read_words};
 use std::alloc::Global;
+use std::thread::Threads;
+use wavefront_team::Gate;
 use weave_base::{Shelf, Sink, Source, Words, put_all};
 
 // What a run does, but for the error line; `Err` where it is not done.
-fn work<S: Source, K: Sink, F: Shelf>(
+fn work<R: Threads + Sync, S: Source, K: Sink, F: Shelf, G: Gate + Sync>(
+    rt: &R,
     alloc: Global,
     words: &Words,
     input: &mut S,
     out: &mut K,
     shelf: &mut F,
+    gate: &G,
     meters: &mut Vec<Box<dyn Meter>>,
 ) -> Result<(), Answer>
     ensures outcome { Outcome words.now
@@ -43,7 +47,17 @@ fn work<S: Source, K: Sink, F: Shelf>(
     }
     let profile = find_profile(alloc, shelf, profile_name(words, &job))?;
     match job.verb {
-        Verb::Print => print_pages(alloc, &profile, job.kernel, input, out, meters)?,
+        Verb::Print => print_pages(
+            rt,
+            alloc,
+            &profile,
+            job.kernel,
+            job.workers,
+            input,
+            out,
+            gate,
+            meters,
+        )?,
         Verb::Dots => return play(alloc, &profile, job.most, input, out),
         Verb::Profile => show_profile(alloc, &profile, out)?,
         Verb::List => unreachable!(),
@@ -80,13 +94,18 @@ pub fn tell<E: Sink>(answer: &Answer, err: &mut E)
 ///
 /// The word `cap=n` sets the cap of each meter right after the words were accepted. A page is asked of the meters after its
 /// last line was read and before its first byte is written; where all have room for its dots, all count them at once.
-pub fn run<S: Source, K: Sink, E: Sink, F: Shelf>(
+///
+/// The word `workers=n` sets how many threads diffuse each slab of 256 rows; each enters the gate between the claim of a
+/// tile and its work.
+pub fn run<R: Threads + Sync, S: Source, K: Sink, E: Sink, F: Shelf, G: Gate + Sync>(
+    rt: &R,
     alloc: Global,
     words: &Words,
     input: &mut S,
     out: &mut K,
     err: &mut E,
     shelf: &mut F,
+    gate: &G,
     meters: &mut Vec<Box<dyn Meter>>,
 ) -> u8
     ensures promises { Promises words.now
@@ -109,7 +128,7 @@ pub fn run<S: Source, K: Sink, E: Sink, F: Shelf>(
     ensures unasked { IsSome (built_in (profile_named words.now)) → (shelf.new ≡ shelf.old) }
     ensures refused_unasked { IsErr (job_meaning words.now) → (shelf.new ≡ shelf.old) }
 {
-    let answer = answer_to(work(alloc, words, input, out, shelf, meters));
+    let answer = answer_to(work(rt, alloc, words, input, out, shelf, gate, meters));
     tell(&answer, err);
     answer.status()
 }

@@ -1,5 +1,5 @@
 //! Runs in memory, each with its status, its output and its error line.
-use crate::run;
+use crate::{OpenGate, run};
 use std::alloc::Global;
 use std::test::Fail;
 use weave_base::{MemShelf, MemSink, MemSource, Memory, Words};
@@ -24,12 +24,14 @@ fn a_stream_of_no_page_is_a_job_of_no_bytes(rt: HostRuntime) -> Result<(), Fail>
     let words = words(alloc, "print")?;
     assert_eq!(rt;
         run(
+            &rt,
             alloc,
             &words,
             &mut input,
             &mut out,
             &mut err,
             &mut shelf,
+            &OpenGate,
             &mut meters
         ),
         0

@@ -14,6 +14,7 @@ fn dots_gives_four_images_of_a_sheet(rt: HostRuntime) -> Result<(), Fail> {
     let alloc = rt.alloc();
     for piece in [1, 50, 92] {
         let left = run_on(
+            &rt,
             alloc,
             &["dots", "profile=tiny"],
             &JOB,
@@ -33,6 +34,7 @@ fn a_raster_fired_twice_is_overprint(rt: HostRuntime) -> Result<(), Fail> {
     job.push(0x0D)?;
     job.extend_from_slice(&JOB[50..64])?;
     let left = run_on(
+        &rt,
         alloc,
         &["dots", "profile=tiny"],
         &job,
@@ -47,6 +49,7 @@ fn a_raster_fired_twice_is_overprint(rt: HostRuntime) -> Result<(), Fail> {
 fn another_profile_is_density(rt: HostRuntime) -> Result<(), Fail> {
     let alloc = rt.alloc();
     let left = run_on(
+        &rt,
         alloc,
         &["dots", "profile=tiny1"],
         &JOB,
@@ -64,6 +67,7 @@ fn sheets_before_a_stop_stand(rt: HostRuntime) -> Result<(), Fail> {
     job.extend_from_slice(&JOB)?;
     job.extend_from_slice(&JOB[..60])?;
     let cut = run_on(
+        &rt,
         alloc,
         &["dots", "profile=tiny"],
         &job,
@@ -72,6 +76,7 @@ fn sheets_before_a_stop_stand(rt: HostRuntime) -> Result<(), Fail> {
     )?;
     cut.is(&rt, 8, &IMAGES, "job: offset 142: Cut\n");
     let read = run_on(
+        &rt,
         alloc,
         &["dots", "profile=tiny"],
         &job,
@@ -80,6 +85,7 @@ fn sheets_before_a_stop_stand(rt: HostRuntime) -> Result<(), Fail> {
     )?;
     read.is(&rt, 4, &IMAGES, "read failed\n");
     let most = run_on(
+        &rt,
         alloc,
         &["dots", "profile=tiny", "most=91"],
         &JOB,
@@ -97,6 +103,7 @@ fn a_full_sink_names_the_sheet(rt: HostRuntime) -> Result<(), Fail> {
     job.extend_from_slice(&JOB)?;
     job.extend_from_slice(&JOB)?;
     let left = run_on(
+        &rt,
         alloc,
         &["dots", "profile=tiny"],
         &job,
@@ -113,6 +120,7 @@ fn a_full_sink_names_the_sheet(rt: HostRuntime) -> Result<(), Fail> {
 fn a_job_without_a_sheet_gives_nothing(rt: HostRuntime) -> Result<(), Fail> {
     let alloc = rt.alloc();
     let left = run_on(
+        &rt,
         alloc,
         &["dots", "profile=tiny"],
         &JOB[..50],

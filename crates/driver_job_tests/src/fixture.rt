@@ -1,10 +1,11 @@
 //! A job, and runs in memory over jobs.
 ghost use Rattle.std.specs.Prelude.{length, ◌≤◌};
 
-use driver_core::run;
+use driver_core::{OpenGate, run};
 use std::alloc::Global;
 use std::process::Abort;
 use std::test::Fail;
+use std::thread::Threads;
 use weave_base::{MemShelf, MemSink, MemSource, Words};
 
 /// A sheet of six rows by the printer `tiny`, whose last row and the one in its middle are black, in two passes.
@@ -30,7 +31,8 @@ pub fn sink(alloc: Global, room: usize) -> Result<MemSink, Fail> {
 }
 
 /// Runs these words, at most nine, over these bytes. `reads` has the most bytes of a read, and the number of a read that fails.
-pub fn run_on(
+pub fn run_on<R: Threads + Sync>(
+    rt: &R,
     alloc: Global,
     texts: &[&str],
     job: &[u8],
@@ -53,12 +55,14 @@ pub fn run_on(
     let mut err = sink(alloc, 4096)?;
     let mut meters = Vec::new(alloc);
     let status = run(
+        rt,
         alloc,
         &words,
         &mut input,
         &mut out,
         &mut err,
         &mut shelf,
+        &OpenGate,
         &mut meters,
     );
     Ok(Left { status, out, err })

@@ -10,7 +10,7 @@ const LISTING: &str =
 #[test]
 fn list_gives_seventeen_lines(rt: HostRuntime) -> Result<(), Fail> {
     let alloc = rt.alloc();
-    let left = run_on(alloc, &["list"], &JOB, (7, 0), sink(alloc, 4096)?)?;
+    let left = run_on(&rt, alloc, &["list"], &JOB, (7, 0), sink(alloc, 4096)?)?;
     left.is(&rt, 0, LISTING.as_bytes(), "");
     Ok(())
 }
@@ -38,7 +38,7 @@ fn list_names_each_reader_fault(rt: HostRuntime) -> Result<(), Fail> {
         ),
     ];
     for (job, most, listed, line) in cases {
-        let left = run_on(alloc, &["list", most], job, (3, 0), sink(alloc, 4096)?)?;
+        let left = run_on(&rt, alloc, &["list", most], job, (3, 0), sink(alloc, 4096)?)?;
         left.is(&rt, 8, listed.as_bytes(), line);
     }
     Ok(())
@@ -47,9 +47,9 @@ fn list_names_each_reader_fault(rt: HostRuntime) -> Result<(), Fail> {
 #[test]
 fn a_failed_read_and_a_full_sink_leave_what_was_listed(rt: HostRuntime) -> Result<(), Fail> {
     let alloc = rt.alloc();
-    let read = run_on(alloc, &["list"], &JOB, (1, 9), sink(alloc, 4096)?)?;
+    let read = run_on(&rt, alloc, &["list"], &JOB, (1, 9), sink(alloc, 4096)?)?;
     read.is(&rt, 4, &LISTING.as_bytes()[..18], "read failed\n");
-    let full = run_on(alloc, &["list"], &JOB, (92, 0), sink(alloc, 30)?)?;
+    let full = run_on(&rt, alloc, &["list"], &JOB, (92, 0), sink(alloc, 30)?)?;
     full.is(&rt, 5, &LISTING.as_bytes()[..30], "write failed: page 0\n");
     Ok(())
 }
@@ -58,6 +58,7 @@ fn a_failed_read_and_a_full_sink_leave_what_was_listed(rt: HostRuntime) -> Resul
 fn list_takes_no_profile(rt: HostRuntime) -> Result<(), Fail> {
     let alloc = rt.alloc();
     let left = run_on(
+        &rt,
         alloc,
         &["list", "profile=tiny"],
         &JOB,

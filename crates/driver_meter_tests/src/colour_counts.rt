@@ -1,6 +1,6 @@
 //! Pages of colour, by each ink's count.
 use crate::fixture::{add_page, begin, counts, roomy};
-use driver_core::run;
+use driver_core::{OpenGate, run};
 use ink_meter::{DotMeter, Meter};
 use pwg_header::Kind;
 use std::test::Fail;
@@ -38,12 +38,14 @@ fn the_third_page_of_colour_is_refused(rt: HostRuntime) -> Result<(), Fail> {
     let mut meters: Vec<Box<dyn Meter>> = Vec::new(alloc);
     meters.push(Box::new(alloc, DotMeter::make())?)?;
     let status = run(
+        &rt,
         alloc,
         &words,
         &mut input,
         &mut out,
         &mut err,
         &mut shelf,
+        &OpenGate,
         &mut meters,
     );
     let line = b"over cap: page 3: total 24, page 8, cap 30\n";

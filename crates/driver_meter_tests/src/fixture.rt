@@ -1,11 +1,12 @@
 //! Streams, and runs in memory that count on meters.
 ghost use Rattle.std.specs.Prelude.{length, ◌≤◌};
 
-use driver_core::run;
+use driver_core::{OpenGate, run};
 use ink_meter::{InkCounts, Meter, can_settle, settle};
 use pwg_header::{Kind, PageForm, write_header};
 use std::alloc::{AllocError, Global};
 use std::process::Abort;
+use std::thread::Threads;
 use weave_base::{MemShelf, MemSink, MemSource, Memory, Words};
 
 /// The body of a page that is black all over: six lines of eight pixels.
@@ -71,7 +72,8 @@ pub fn roomy(alloc: Global) -> Result<MemSink, Memory> {
 }
 
 /// Runs these words, at most nine, over these bytes, with no file on the shelf.
-pub fn run_on(
+pub fn run_on<R: Threads + Sync>(
+    rt: &R,
     alloc: Global,
     texts: &[&str],
     bytes: Vec<u8>,
@@ -90,7 +92,7 @@ pub fn run_on(
     let mut shelf = MemShelf::make(Vec::new(alloc), Vec::new(alloc));
     let mut err = roomy(alloc)?;
     let status = run(
-        alloc, &words, &mut input, &mut out, &mut err, &mut shelf, meters,
+        rt, alloc, &words, &mut input, &mut out, &mut err, &mut shelf, &OpenGate, meters,
     );
     Ok(Left { status, out, err })
 }

@@ -12,6 +12,7 @@ fn the_second_meter_refuses_for_both(rt: HostRuntime) -> Result<(), Fail> {
     meters.push(Box::new(alloc, DotMeter::make())?)?;
     meters.push(Box::new(alloc, DotMeter::make())?)?;
     let left = run_on(
+        &rt,
         alloc,
         &words,
         black_pages(alloc, 1)?,
@@ -27,6 +28,7 @@ fn the_second_meter_refuses_for_both(rt: HostRuntime) -> Result<(), Fail> {
     meters.push(Box::new(alloc, DotMeter::make())?)?;
     meters.push(Box::new(alloc, second)?)?;
     let left = run_on(
+        &rt,
         alloc,
         &words,
         black_pages(alloc, 1)?,
@@ -46,6 +48,7 @@ fn a_card_refuses_for_a_meter_of_another_kind(rt: HostRuntime) -> Result<(), Fai
     meters.push(Box::new(alloc, DotMeter::make())?)?;
     meters.push(Box::new(alloc, Card::make(31))?)?;
     let left = run_on(
+        &rt,
         alloc,
         &words,
         black_pages(alloc, 2)?,
@@ -75,6 +78,7 @@ fn a_job_without_a_meter_has_no_cap(rt: HostRuntime) -> Result<(), Fail> {
     let mut meters: Vec<Box<dyn Meter>> = Vec::new(alloc);
     let words = ["print", "profile=tiny", "cap=0"];
     let left = run_on(
+        &rt,
         alloc,
         &words,
         black_pages(alloc, 1)?,
@@ -92,6 +96,7 @@ fn showing_a_profile_counts_nothing(rt: HostRuntime) -> Result<(), Fail> {
     meters.push(Box::new(alloc, Card::make(15))?)?;
     let words = ["profile", "profile=tiny"];
     let left = run_on(
+        &rt,
         alloc,
         &words,
         black_pages(alloc, 1)?,

@@ -20,7 +20,7 @@ profile  writes the text of a profile to standard output
 profile=NAME    tiny1, tiny, p360k, p360cmyk, p720cmyk, or a file of the current folder
                 (default p360cmyk)
 kernel=NAME     fs (Floyd and Steinberg), jjn (Jarvis, Judice and Ninke) or stucki (default fs)
-workers=NUMBER  1 to 64 (default 1); one thread does the work today, whatever the number
+workers=NUMBER  1 to 64 (default 1): so many threads diffuse each 256 rows of a page; the job is the same for each number
 cap=NUMBER      the most dots that the job may print, all inks together (default: no limit): a kiosk's quota,
                 or what is left in a label desk's cartridge; a page that would go past it is not printed,
                 and ends the job

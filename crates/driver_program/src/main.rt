@@ -6,7 +6,7 @@ mod command_line;
 mod help;
 
 use command_line::read_words;
-use driver_core::{Answer, run, tell};
+use driver_core::{Answer, OpenGate, run, tell};
 use help::text_of;
 use ink_meter::{DotMeter, Meter, can_settle, settle};
 use std::io::Write;
@@ -37,12 +37,14 @@ fn run_words(rt: &HostRuntime, words: &Words) -> u8 {
             return Answer::Memory.status();
         }
         let status = run(
+            rt,
             rt.alloc(),
             words,
             &mut input,
             &mut out,
             &mut err,
             &mut shelf,
+            &OpenGate,
             &mut meters,
         );
         if can_settle(&meters) {

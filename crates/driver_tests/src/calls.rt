@@ -3,10 +3,11 @@ use crate::fixture::{
     Left, PRINT, add_header, begin, no_files, one_file, one_page, plain, print_bytes, roomy,
     run_over, words,
 };
-use driver_core::run;
+use driver_core::{OpenGate, run};
 use std::alloc::Global;
 use std::process::Abort;
 use std::test::Fail;
+use std::thread::Threads;
 use weave_base::{Failed, Found, MemShelf, MemSink, Shelf, ShelfStop, Sink};
 
 // A shelf that keeps the names that it is asked for.
@@ -35,7 +36,7 @@ impl Shelf for ListeningShelf {
 }
 
 // Asserts that words give this status, and ask a shelf of one file for these names alone.
-fn asks<R: Abort>(
+fn asks<R: Abort + Threads + Sync>(
     rt: &R,
     alloc: Global,
     texts: &[&str],
@@ -50,12 +51,14 @@ fn asks<R: Abort>(
     let (mut out, mut err) = (roomy(alloc)?, roomy(alloc)?);
     let words = words(alloc, texts)?;
     let answer = run(
+        rt,
         alloc,
         &words,
         &mut input,
         &mut out,
         &mut err,
         &mut shelf,
+        &OpenGate,
         &mut Vec::new(alloc),
     );
     assert_eq!(rt; answer, status);
@@ -111,12 +114,14 @@ fn a_pass_is_one_write(rt: HostRuntime) -> Result<(), Fail> {
     let mut input = plain(alloc, bytes);
     let (mut err, mut shelf) = (roomy(alloc)?, no_files(alloc));
     let status = run(
+        &rt,
         alloc,
         &words,
         &mut input,
         &mut out,
         &mut err,
         &mut shelf,
+        &OpenGate,
         &mut Vec::new(alloc),
     );
     assert_eq!(rt; err.bytes(), b"".as_slice());
@@ -126,7 +131,7 @@ fn a_pass_is_one_write(rt: HostRuntime) -> Result<(), Fail> {
 }
 
 // Prints a stream of so many pages of one black pixel.
-fn print_pages(alloc: Global, count: u32) -> Result<Left, Fail> {
+fn print_pages<R: Threads + Sync>(rt: &R, alloc: Global, count: u32) -> Result<Left, Fail> {
     let mut page = Vec::new(alloc);
     add_header(&mut page, (360, 360), (1, 1))?;
     page.extend_from_slice(&[0, 0, 0])?;
@@ -136,14 +141,14 @@ fn print_pages(alloc: Global, count: u32) -> Result<Left, Fail> {
     }
     let out = MemSink::make(alloc, 800_000, Vec::new(alloc), Vec::new(alloc))?;
     let input = plain(alloc, bytes);
-    Ok(run_over(alloc, &PRINT, input, out, no_files(alloc))?)
+    Ok(run_over(rt, alloc, &PRINT, input, out, no_files(alloc))?)
 }
 
 #[test]
 fn a_byte_after_page_9999_is_too_many_pages(rt: HostRuntime) -> Result<(), Fail> {
     let alloc = rt.alloc();
-    let one = print_bytes(alloc, one_page(alloc, 1, 1, &[0, 0, 0])?)?;
-    let left = print_pages(alloc, 10_000)?;
+    let one = print_bytes(&rt, alloc, one_page(alloc, 1, 1, &[0, 0, 0])?)?;
+    let left = print_pages(&rt, alloc, 10_000)?;
     assert_eq!(rt;
         left.err.bytes(),
         b"input: page 10000 line 0: TooManyPages\n".as_slice()

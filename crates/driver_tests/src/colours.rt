@@ -3,10 +3,17 @@ use crate::fixture::{Left, add_header_of, begin, one_file, plain, roomy, run_ove
 use pwg_header::Kind;
 use std::alloc::Global;
 use std::test::Fail;
+use std::thread::Threads;
 use weave_base::Memory;
 
 // Prints a page of one pixel by a printer of one nozzle and these inks.
-fn print_pixel(alloc: Global, text: &[u8], kind: Kind, body: &[u8]) -> Result<Left, Memory> {
+fn print_pixel<R: Threads + Sync>(
+    rt: &R,
+    alloc: Global,
+    text: &[u8],
+    kind: Kind,
+    body: &[u8],
+) -> Result<Left, Memory> {
     let Ok(mut bytes) = begin(alloc) else {
         return Err(Memory);
     };
@@ -16,6 +23,7 @@ fn print_pixel(alloc: Global, text: &[u8], kind: Kind, body: &[u8]) -> Result<Le
         return Err(Memory);
     }
     run_over(
+        rt,
         alloc,
         &["print", "profile=m1.txt"],
         plain(alloc, bytes),
@@ -47,13 +55,13 @@ fn pixel_job(alloc: Global, codes: &[u8]) -> Result<Vec<u8>, Fail> {
 #[test]
 fn inks_go_in_the_order_of_their_set(rt: HostRuntime) -> Result<(), Fail> {
     let alloc = rt.alloc();
-    let black = print_pixel(alloc, FOUR_INKS, Kind::Rgb8, &[0, 0, 0, 0, 0])?;
+    let black = print_pixel(&rt, alloc, FOUR_INKS, Kind::Rgb8, &[0, 0, 0, 0, 0])?;
     black.is(&rt, 0, &pixel_job(alloc, &[0])?, b"");
-    let red = print_pixel(alloc, FOUR_INKS, Kind::Rgb8, &[0, 0, 0xFF, 0, 0])?;
+    let red = print_pixel(&rt, alloc, FOUR_INKS, Kind::Rgb8, &[0, 0, 0xFF, 0, 0])?;
     red.is(&rt, 0, &pixel_job(alloc, &[1, 4])?, b"");
-    let green = print_pixel(alloc, FOUR_INKS, Kind::Rgb8, &[0, 0, 0, 0xFF, 0])?;
+    let green = print_pixel(&rt, alloc, FOUR_INKS, Kind::Rgb8, &[0, 0, 0, 0xFF, 0])?;
     green.is(&rt, 0, &pixel_job(alloc, &[2, 4])?, b"");
-    let blue = print_pixel(alloc, FOUR_INKS, Kind::Rgb8, &[0, 0, 0, 0, 0xFF])?;
+    let blue = print_pixel(&rt, alloc, FOUR_INKS, Kind::Rgb8, &[0, 0, 0, 0, 0xFF])?;
     blue.is(&rt, 0, &pixel_job(alloc, &[2, 1])?, b"");
     Ok(())
 }
@@ -69,9 +77,9 @@ fn pages_without_colour_take_black_or_all_colours(rt: HostRuntime) -> Result<(),
         (Kind::Black8, 0, &[], &[]),
     ];
     for (kind, byte, four, three) in cases {
-        let by_four = print_pixel(alloc, FOUR_INKS, kind, &[0, 0, byte])?;
+        let by_four = print_pixel(&rt, alloc, FOUR_INKS, kind, &[0, 0, byte])?;
         by_four.is(&rt, 0, &pixel_job(alloc, four)?, b"");
-        let by_three = print_pixel(alloc, three_inks, kind, &[0, 0, byte])?;
+        let by_three = print_pixel(&rt, alloc, three_inks, kind, &[0, 0, byte])?;
         by_three.is(&rt, 0, &pixel_job(alloc, three)?, b"");
     }
     Ok(())
@@ -86,7 +94,7 @@ fn a_colour_page_is_refused_at_its_line(rt: HostRuntime) -> Result<(), Fail> {
         (&[1], b"input: page 1 line 1: GroupPastPage\n"),
     ];
     for (body, line) in cases {
-        let left = print_pixel(alloc, FOUR_INKS, Kind::Rgb8, body)?;
+        let left = print_pixel(&rt, alloc, FOUR_INKS, Kind::Rgb8, body)?;
         left.is(&rt, 3, b"", line);
     }
     Ok(())

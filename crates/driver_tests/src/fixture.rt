@@ -1,10 +1,11 @@
 //! Streams, words and runs in memory.
 pub use crate::bytes::{begin, prefix};
-use driver_core::run;
+use driver_core::{Gate, OpenGate, run};
 use pwg_header::{Kind, PageForm, write_header};
 use std::alloc::{AllocError, Global};
 use std::process::Abort;
 use std::test::Fail;
+use std::thread::Threads;
 use weave_base::{MemShelf, MemSink, MemSource, Memory, ShelfFile, Words};
 
 /// Two lines of grey, of which the second has two dots, on a page of four columns.
@@ -123,32 +124,52 @@ pub fn two_pages(alloc: Global) -> Result<Vec<u8>, AllocError> {
 }
 
 /// Runs these words.
-pub fn run_over(
+pub fn run_over<R: Threads + Sync>(
+    rt: &R,
+    alloc: Global,
+    texts: &[&str],
+    input: MemSource,
+    out: MemSink,
+    shelf: MemShelf,
+) -> Result<Left, Memory> {
+    run_through(rt, alloc, texts, input, out, shelf, &OpenGate)
+}
+
+/// Runs these words, by workers that share this gate.
+pub fn run_through<R: Threads + Sync, G: Gate + Sync>(
+    rt: &R,
     alloc: Global,
     texts: &[&str],
     mut input: MemSource,
     mut out: MemSink,
     mut shelf: MemShelf,
+    gate: &G,
 ) -> Result<Left, Memory> {
     let words = words(alloc, texts)?;
     let mut err = roomy(alloc)?;
     let status = run(
+        rt,
         alloc,
         &words,
         &mut input,
         &mut out,
         &mut err,
         &mut shelf,
+        gate,
         &mut Vec::new(alloc),
     );
     Ok(Left { status, out, err })
 }
 
 /// Prints these bytes by the plainest printer.
-pub fn print_bytes(alloc: Global, bytes: Vec<u8>) -> Result<Left, Memory> {
+pub fn print_bytes<R: Threads + Sync>(
+    rt: &R,
+    alloc: Global,
+    bytes: Vec<u8>,
+) -> Result<Left, Memory> {
     let input = plain(alloc, bytes);
     let out = roomy(alloc)?;
-    run_over(alloc, &PRINT, input, out, no_files(alloc))
+    run_over(rt, alloc, &PRINT, input, out, no_files(alloc))
 }
 
 impl Left {
@@ -178,7 +199,7 @@ pub fn hash_of(bytes: &[u8]) -> u64 {
 }
 
 /// Runs words over an input and a shelf whose first calls fail, and asserts the answer.
-pub fn is_refused<R: Abort>(
+pub fn is_refused<R: Abort + Threads + Sync>(
     rt: &R,
     alloc: Global,
     texts: &[&str],
@@ -188,7 +209,7 @@ pub fn is_refused<R: Abort>(
     let input = MemSource::make(Vec::new(alloc), Vec::new(alloc), vec![in alloc; 1]?);
     let shelf = MemShelf::make(Vec::new(alloc), vec![in alloc; 1]?);
     let out = roomy(alloc)?;
-    let left = run_over(alloc, texts, input, out, shelf)?;
+    let left = run_over(rt, alloc, texts, input, out, shelf)?;
     left.is(rt, status, b"", line);
     Ok(())
 }

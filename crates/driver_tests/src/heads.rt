@@ -6,6 +6,7 @@ use pwg_header::Kind;
 use std::alloc::Global;
 use std::process::Abort;
 use std::test::Fail;
+use std::thread::Threads;
 use weave_base::InkSet;
 
 // Whether no number above 1 divides both.
@@ -51,7 +52,7 @@ fn printer_of(nozzles: u8, pitch: u8, turn: u16) -> Printer {
 }
 
 // Prints a picture by this head.
-fn try_head<R: Abort>(
+fn try_head<R: Abort + Threads + Sync>(
     rt: &R,
     alloc: Global,
     nozzles: u8,
@@ -73,7 +74,7 @@ fn try_head<R: Abort>(
 }
 
 // Prints a picture by each head of so many nozzles.
-fn try_pitches<R: Abort>(rt: &R, alloc: Global, nozzles: u8) -> Result<(), Fail> {
+fn try_pitches<R: Abort + Threads + Sync>(rt: &R, alloc: Global, nozzles: u8) -> Result<(), Fail> {
     for pitch in 1..10u8 {
         if is_coprime(nozzles, pitch) {
             let turn = u16::from(nozzles) * 11 + u16::from(pitch) * 7;

@@ -2,15 +2,22 @@
 use crate::fixture::{Left, no_files, one_page, plain, roomy, run_over};
 use std::alloc::Global;
 use std::test::Fail;
+use std::thread::Threads;
 use weave_base::Memory;
 
 // A page of seventy equal lines of two hundred columns, printed with this kernel by so many workers.
-fn print_by(alloc: Global, kernel: &str, workers: &str) -> Result<Left, Memory> {
+fn print_by<R: Threads + Sync>(
+    rt: &R,
+    alloc: Global,
+    kernel: &str,
+    workers: &str,
+) -> Result<Left, Memory> {
     let Ok(bytes) = one_page(alloc, 200, 70, &[0x45, 0x7F, 0x9B, 0x47, 0x9B]) else {
         return Err(Memory);
     };
     let texts = ["print", "profile=tiny1", kernel, workers];
     run_over(
+        rt,
         alloc,
         &texts,
         plain(alloc, bytes),
@@ -29,7 +36,7 @@ fn tiles_give_the_row_by_row_page(rt: HostRuntime) -> Result<(), Fail> {
     ];
     for (kernel, length, hash) in cases {
         for workers in ["workers=1", "workers=2", "workers=64"] {
-            print_by(alloc, kernel, workers)?.hashes_to(&rt, length, hash);
+            print_by(&rt, alloc, kernel, workers)?.hashes_to(&rt, length, hash);
         }
     }
     Ok(())

@@ -2,7 +2,7 @@
 use crate::fixture::{
     GREY_JOB, GREY_STREAM, PRINT, no_files, plain, prefix, roomy, run_over, two_pages, words,
 };
-use driver_core::run;
+use driver_core::{OpenGate, run};
 use std::alloc::Global;
 use std::test::Fail;
 use weave_base::{MemSink, MemSource};
@@ -34,7 +34,7 @@ fn a_failing_read_keeps_the_pages_before_it(rt: HostRuntime) -> Result<(), Fail>
     ] {
         let one = vec![in alloc; 1]?;
         let input = MemSource::make(two_pages(alloc)?, one, vec![in alloc; call]?);
-        let left = run_over(alloc, &PRINT, input, roomy(alloc)?, no_files(alloc))?;
+        let left = run_over(&rt, alloc, &PRINT, input, roomy(alloc)?, no_files(alloc))?;
         left.is(&rt, 4, prefix(&jobs, length), b"read failed\n");
     }
     Ok(())
@@ -57,7 +57,7 @@ fn every_failing_write_leaves_what_was_taken(rt: HostRuntime) -> Result<(), Fail
         let taken = call as usize - 1;
         let out = MemSink::make(alloc, TWO, vec![in alloc; 1]?, vec![in alloc; call]?)?;
         let input = plain(alloc, two_pages(alloc)?);
-        let left = run_over(alloc, &PRINT, input, out, no_files(alloc))?;
+        let left = run_over(&rt, alloc, &PRINT, input, out, no_files(alloc))?;
         left.is(&rt, 5, prefix(&job, taken), line_after(taken));
     }
     Ok(())
@@ -70,12 +70,12 @@ fn a_full_sink_keeps_a_prefix_of_the_job(rt: HostRuntime) -> Result<(), Fail> {
     for room in 0..TWO {
         let out = MemSink::make(alloc, room, Vec::new(alloc), Vec::new(alloc))?;
         let input = plain(alloc, two_pages(alloc)?);
-        let left = run_over(alloc, &PRINT, input, out, no_files(alloc))?;
+        let left = run_over(&rt, alloc, &PRINT, input, out, no_files(alloc))?;
         left.is(&rt, 5, prefix(&job, room), line_after(room));
     }
     let out = MemSink::make(alloc, TWO, Vec::new(alloc), Vec::new(alloc))?;
     let input = plain(alloc, two_pages(alloc)?);
-    let left = run_over(alloc, &PRINT, input, out, no_files(alloc))?;
+    let left = run_over(&rt, alloc, &PRINT, input, out, no_files(alloc))?;
     left.is(&rt, 0, &job, b"");
     Ok(())
 }
@@ -85,7 +85,7 @@ fn a_sink_of_short_writes_gets_the_job(rt: HostRuntime) -> Result<(), Fail> {
     let alloc = rt.alloc();
     let out = MemSink::make(alloc, TWO, vec![in alloc; 3, 1, 7]?, Vec::new(alloc))?;
     let input = plain(alloc, two_pages(alloc)?);
-    let left = run_over(alloc, &PRINT, input, out, no_files(alloc))?;
+    let left = run_over(&rt, alloc, &PRINT, input, out, no_files(alloc))?;
     left.is(&rt, 0, &two_jobs(alloc)?, b"");
     Ok(())
 }
@@ -105,12 +105,14 @@ fn a_deaf_error_sink_leaves_the_status(rt: HostRuntime) -> Result<(), Fail> {
         let mut err = MemSink::make(alloc, room, Vec::new(alloc), Vec::new(alloc))?;
         let mut shelf = no_files(alloc);
         let status = run(
+            &rt,
             alloc,
             &words(alloc, &PRINT)?,
             &mut input,
             &mut out,
             &mut err,
             &mut shelf,
+            &OpenGate,
             &mut Vec::new(alloc),
         );
         assert_eq!(rt; status, 3);

@@ -6,6 +6,7 @@ use pwg_header::Kind;
 use std::alloc::Global;
 use std::process::Abort;
 use std::test::Fail;
+use std::thread::Threads;
 use weave_base::InkSet;
 
 const KINDS: [Kind; 3] = [Kind::Gray8, Kind::Black8, Kind::Rgb8];
@@ -21,7 +22,12 @@ fn printer_of(inks: InkSet) -> Printer {
 }
 
 // Prints a picture of each kind by each kernel.
-fn try_width<R: Abort>(rt: &R, alloc: Global, inks: InkSet, width: u32) -> Result<(), Fail> {
+fn try_width<R: Abort + Threads + Sync>(
+    rt: &R,
+    alloc: Global,
+    inks: InkSet,
+    width: u32,
+) -> Result<(), Fail> {
     let printer = printer_of(inks);
     for (kind, seed) in KINDS.into_iter().zip(1u64..4) {
         let picture = Picture::random(alloc, kind, (width, 11), seed)?;

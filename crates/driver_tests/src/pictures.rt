@@ -7,6 +7,7 @@ use pwg_header::Kind;
 use std::alloc::{AllocError, Global};
 use std::process::Abort;
 use std::test::Fail;
+use std::thread::Threads;
 
 /// A page of pixels, line by line.
 #[derive(Drop)]
@@ -136,7 +137,8 @@ fn code_line(stream: &mut Vec<u8>, line: &[u8], unit: usize) -> Result<(), Alloc
 }
 
 /// Prints a picture.
-pub fn print_picture(
+pub fn print_picture<R: Threads + Sync>(
+    rt: &R,
     alloc: Global,
     printer: &Printer,
     picture: &Picture,
@@ -145,6 +147,7 @@ pub fn print_picture(
     let text = printer.text(alloc)?;
     let resolution = (u32::from(printer.hdpi), u32::from(printer.vdpi));
     let left = run_over(
+        rt,
         alloc,
         &["print", "profile=any.txt", kernel.word],
         plain(alloc, picture.stream(alloc, resolution)?),
@@ -155,14 +158,14 @@ pub fn print_picture(
 }
 
 /// Prints a picture, and asserts that its job fires each dot that it wants once, and no other.
-pub fn prints_its_dots<R: Abort>(
+pub fn prints_its_dots<R: Abort + Threads + Sync>(
     rt: &R,
     alloc: Global,
     printer: &Printer,
     picture: &Picture,
     kernel: &Kernel,
 ) -> Result<(), Fail> {
-    let left = print_picture(alloc, printer, picture, kernel)?;
+    let left = print_picture(rt, alloc, printer, picture, kernel)?;
     assert_eq!(rt; left.err.bytes(), b"".as_slice());
     assert_eq!(rt; left.status, 0);
     let window = printer.window(picture.width, picture.height);

@@ -4,15 +4,22 @@ use crate::fixture::{
 };
 use std::alloc::Global;
 use std::test::Fail;
+use std::thread::Threads;
 use weave_base::Memory;
 
 // The text of the plainest printer.
 const PLAIN: &[u8] = b"escp2-profile 1\nhdpi=360\nvdpi=360\nnozzles=1\npitch=1\ninks=k\n";
 
 // Prints these bytes by the printer of this text.
-fn print_by(alloc: Global, text: &[u8], bytes: Vec<u8>) -> Result<Left, Memory> {
+fn print_by<R: Threads + Sync>(
+    rt: &R,
+    alloc: Global,
+    text: &[u8],
+    bytes: Vec<u8>,
+) -> Result<Left, Memory> {
     let shelf = one_file(alloc, "m1.txt", text)?;
     run_over(
+        rt,
         alloc,
         &["print", "profile=m1.txt"],
         plain(alloc, bytes),
@@ -40,12 +47,12 @@ const MOVED_JOB: [u8; 63] = [
 fn margins_cut_the_window_and_move_it_down(rt: HostRuntime) -> Result<(), Fail> {
     let alloc = rt.alloc();
     let text = plain_and(alloc, b"left=1\ntop=1\n")?;
-    let left = print_by(alloc, &text, one_page(alloc, 4, 2, &[1, 3, 0])?)?;
+    let left = print_by(&rt, alloc, &text, one_page(alloc, 4, 2, &[1, 3, 0])?)?;
     left.is(&rt, 0, &MOVED_JOB, b"");
     // a page of the margins alone is too small
-    let narrow = print_by(alloc, &text, one_page(alloc, 1, 2, &[1, 0, 0])?)?;
+    let narrow = print_by(&rt, alloc, &text, one_page(alloc, 1, 2, &[1, 0, 0])?)?;
     narrow.is(&rt, 3, b"", b"input: page 1 line 0: Width\n");
-    let low = print_by(alloc, &text, one_page(alloc, 4, 1, &[0, 3, 0])?)?;
+    let low = print_by(&rt, alloc, &text, one_page(alloc, 4, 1, &[0, 3, 0])?)?;
     low.is(&rt, 3, b"", b"input: page 1 line 0: Height\n");
     Ok(())
 }
@@ -73,7 +80,12 @@ fn each_value_of_a_printer_has_its_place_in_the_job(rt: HostRuntime) -> Result<(
         (b"limit_k=0\n", 49, 0xA9DE_C6EE_CBE2_92C6),
     ];
     for (lines, length, hash) in cases {
-        let left = print_by(alloc, &plain_and(alloc, lines)?, black(alloc, (360, 360))?)?;
+        let left = print_by(
+            &rt,
+            alloc,
+            &plain_and(alloc, lines)?,
+            black(alloc, (360, 360))?,
+        )?;
         left.hashes_to(&rt, length, hash);
     }
     Ok(())
@@ -82,9 +94,10 @@ fn each_value_of_a_printer_has_its_place_in_the_job(rt: HostRuntime) -> Result<(
 #[test]
 fn a_page_can_be_printed_by_a_text_or_by_its_name(rt: HostRuntime) -> Result<(), Fail> {
     let alloc = rt.alloc();
-    let by_text = print_by(alloc, PLAIN, black(alloc, (360, 360))?)?;
+    let by_text = print_by(&rt, alloc, PLAIN, black(alloc, (360, 360))?)?;
     let input = plain(alloc, black(alloc, (360, 360))?);
     let by_name = run_over(
+        &rt,
         alloc,
         &["print", "profile=tiny1"],
         input,

@@ -3,6 +3,7 @@ use crate::fixture::{Left, is_refused, no_files, one_file, plain, roomy, run_ove
 use std::alloc::Global;
 use std::process::Abort;
 use std::test::Fail;
+use std::thread::Threads;
 use weave_base::{MemShelf, MemSink, Memory};
 
 #[test]
@@ -36,8 +37,14 @@ fn each_bad_word_has_its_cause(rt: HostRuntime) -> Result<(), Fail> {
 }
 
 // Shows a profile of this shelf.
-fn show(alloc: Global, word: &str, shelf: MemShelf) -> Result<Left, Memory> {
+fn show<R: Threads + Sync>(
+    rt: &R,
+    alloc: Global,
+    word: &str,
+    shelf: MemShelf,
+) -> Result<Left, Memory> {
     run_over(
+        rt,
         alloc,
         &["profile", word],
         plain(alloc, Vec::new(alloc)),
@@ -53,13 +60,13 @@ const TINY: &[u8] =
 fn profile_prints_its_canonical_text(rt: HostRuntime) -> Result<(), Fail> {
     let alloc = rt.alloc();
     assert_eq!(rt; TINY.len(), 151);
-    let built_in = show(alloc, "profile=tiny", no_files(alloc))?;
+    let built_in = show(&rt, alloc, "profile=tiny", no_files(alloc))?;
     built_in.is(&rt, 0, TINY, b"");
-    let absent = show(alloc, "profile=none.txt", no_files(alloc))?;
+    let absent = show(&rt, alloc, "profile=none.txt", no_files(alloc))?;
     absent.is(&rt, 2, b"", b"profile: line 0: Absent\n");
     // a built-in profile is not sought on the shelf
     let failing = MemShelf::make(Vec::new(alloc), vec![in alloc; 1]?);
-    let unasked = show(alloc, "profile=tiny", failing)?;
+    let unasked = show(&rt, alloc, "profile=tiny", failing)?;
     unasked.is(&rt, 0, TINY, b"");
     Ok(())
 }
@@ -90,6 +97,7 @@ fn a_failing_sink_is_no_page(rt: HostRuntime) -> Result<(), Fail> {
     let input = plain(alloc, Vec::new(alloc));
     let out = MemSink::make(alloc, 150, Vec::new(alloc), Vec::new(alloc))?;
     let left = run_over(
+        &rt,
         alloc,
         &["profile", "profile=tiny"],
         input,
@@ -101,7 +109,7 @@ fn a_failing_sink_is_no_page(rt: HostRuntime) -> Result<(), Fail> {
 }
 
 // Asserts what showing the profile of this text answers.
-fn shows<R: Abort>(
+fn shows<R: Abort + Threads + Sync>(
     rt: &R,
     alloc: Global,
     text: &[u8],
@@ -109,7 +117,12 @@ fn shows<R: Abort>(
     out: &[u8],
     line: &[u8],
 ) -> Result<(), Fail> {
-    let left = show(alloc, "profile=new.txt", one_file(alloc, "new.txt", text)?)?;
+    let left = show(
+        rt,
+        alloc,
+        "profile=new.txt",
+        one_file(alloc, "new.txt", text)?,
+    )?;
     left.is(rt, status, out, line);
     Ok(())
 }

@@ -6,12 +6,13 @@ use crate::fixture::{
 use std::alloc::Global;
 use std::process::Abort;
 use std::test::Fail;
+use std::thread::Threads;
 use weave_base::{MemSource, Memory};
 
 #[test]
 fn the_first_path_prints_one_grey_page(rt: HostRuntime) -> Result<(), Fail> {
     let alloc = rt.alloc();
-    let left = print_bytes(alloc, one_page(alloc, 4, 2, &GREY_BODY)?)?;
+    let left = print_bytes(&rt, alloc, one_page(alloc, 4, 2, &GREY_BODY)?)?;
     left.is(&rt, 0, &GREY_JOB, b"");
     Ok(())
 }
@@ -19,13 +20,13 @@ fn the_first_path_prints_one_grey_page(rt: HostRuntime) -> Result<(), Fail> {
 #[test]
 fn a_run_past_its_line_is_refused_at_its_byte(rt: HostRuntime) -> Result<(), Fail> {
     let alloc = rt.alloc();
-    let whole = print_bytes(alloc, one_page(alloc, 8, 6, &[0, 8, 0])?)?;
+    let whole = print_bytes(&rt, alloc, one_page(alloc, 8, 6, &[0, 8, 0])?)?;
     whole.is(&rt, 3, b"", b"input: page 1 line 1: RunPastLine\n");
-    let cut = print_bytes(alloc, one_page(alloc, 8, 6, &[0, 8])?)?;
+    let cut = print_bytes(&rt, alloc, one_page(alloc, 8, 6, &[0, 8])?)?;
     cut.is(&rt, 3, b"", b"input: page 1 line 1: RunPastLine\n");
-    let later = print_bytes(alloc, one_page(alloc, 8, 6, &[2, 7, 0, 1, 0xF9])?)?;
+    let later = print_bytes(&rt, alloc, one_page(alloc, 8, 6, &[2, 7, 0, 1, 0xF9])?)?;
     later.is(&rt, 3, b"", b"input: page 1 line 4: Truncated\n");
-    let past = print_bytes(alloc, one_page(alloc, 8, 6, &[2, 7, 0, 1, 0xF8])?)?;
+    let past = print_bytes(&rt, alloc, one_page(alloc, 8, 6, &[2, 7, 0, 1, 0xF8])?)?;
     past.is(&rt, 3, b"", b"input: page 1 line 4: RunPastLine\n");
     Ok(())
 }
@@ -34,9 +35,9 @@ fn a_run_past_its_line_is_refused_at_its_byte(rt: HostRuntime) -> Result<(), Fai
 fn a_group_past_the_page_is_refused_at_its_count(rt: HostRuntime) -> Result<(), Fail> {
     let alloc = rt.alloc();
     let line = b"input: page 1 line 1: GroupPastPage\n";
-    let whole = print_bytes(alloc, one_page(alloc, 8, 255, &[0xFF, 7, 0])?)?;
+    let whole = print_bytes(&rt, alloc, one_page(alloc, 8, 255, &[0xFF, 7, 0])?)?;
     whole.is(&rt, 3, b"", line);
-    let cut = print_bytes(alloc, one_page(alloc, 8, 255, &[0xFF])?)?;
+    let cut = print_bytes(&rt, alloc, one_page(alloc, 8, 255, &[0xFF])?)?;
     cut.is(&rt, 3, b"", line);
     Ok(())
 }
@@ -69,7 +70,7 @@ fn a_refused_header_is_told_by_its_cause(rt: HostRuntime) -> Result<(), Fail> {
         (467, 255, b"input: page 1 line 0: Transform\n"),
     ];
     for (at, byte, line) in cases {
-        let left = print_bytes(alloc, changed(alloc, at, byte)?)?;
+        let left = print_bytes(&rt, alloc, changed(alloc, at, byte)?)?;
         left.is(&rt, 3, b"", line);
     }
     Ok(())
@@ -81,26 +82,31 @@ fn a_fault_of_the_second_page_keeps_the_first(rt: HostRuntime) -> Result<(), Fai
     let mut bytes = one_page(alloc, 4, 2, &GREY_BODY)?;
     add_header(&mut bytes, (360, 360), (4, 2))?;
     bytes.extend_from_slice(&[0, 3, 0, 0, 4])?;
-    let left = print_bytes(alloc, bytes)?;
+    let left = print_bytes(&rt, alloc, bytes)?;
     left.is(&rt, 3, &GREY_JOB, b"input: page 2 line 2: RunPastLine\n");
     Ok(())
 }
 
 // Whether two pages of grey are printed where the first read gives this many bytes and the second the rest.
-fn prints_both(alloc: Global, first: u32) -> Result<bool, Memory> {
+fn prints_both<R: Threads + Sync>(rt: &R, alloc: Global, first: u32) -> Result<bool, Memory> {
     let (Ok(bytes), Ok(pieces)) = (two_pages(alloc), vec![in alloc; first.max(1), 65_536]) else {
         return Err(Memory);
     };
     let input = MemSource::make(bytes, pieces, Vec::new(alloc));
-    let left = run_over(alloc, &PRINT, input, roomy(alloc)?, no_files(alloc))?;
+    let left = run_over(rt, alloc, &PRINT, input, roomy(alloc)?, no_files(alloc))?;
     let (one, two) = left.out.bytes().split_at(left.out.bytes().len() / 2);
     Ok(left.status == 0 && one == GREY_JOB.as_slice() && two == GREY_JOB.as_slice())
 }
 
 // Asserts that each of these cuts leaves the job of two pages of grey as it is.
-fn try_cuts<R: Abort>(rt: &R, alloc: Global, from: u32, to: u32) -> Result<(), Memory> {
+fn try_cuts<R: Abort + Threads + Sync>(
+    rt: &R,
+    alloc: Global,
+    from: u32,
+    to: u32,
+) -> Result<(), Memory> {
     for first in from..to {
-        assert!(rt; prints_both(alloc, first)?, "cut at {first}");
+        assert!(rt; prints_both(rt, alloc, first)?, "cut at {first}");
     }
     Ok(())
 }
@@ -123,7 +129,7 @@ fn every_cut_in_the_second_page_gives_the_job(rt: HostRuntime) -> Result<(), Fai
 fn a_stream_byte_by_byte_gives_the_job(rt: HostRuntime) -> Result<(), Fail> {
     let alloc = rt.alloc();
     let input = MemSource::make(two_pages(alloc)?, vec![in alloc; 1]?, Vec::new(alloc));
-    let left = run_over(alloc, &PRINT, input, roomy(alloc)?, no_files(alloc))?;
+    let left = run_over(&rt, alloc, &PRINT, input, roomy(alloc)?, no_files(alloc))?;
     left.hashes_to(&rt, 140, 0xA4B8_6246_BB4F_0371);
     Ok(())
 }
@@ -146,7 +152,7 @@ fn every_prefix_of_a_stream_has_its_answer(rt: HostRuntime) -> Result<(), Fail> 
     let whole = one_page(alloc, 4, 2, &GREY_BODY)?;
     assert_eq!(rt; whole.len(), GREY_STREAM);
     for count in 0..GREY_STREAM + 1 {
-        let left = print_bytes(alloc, prefix(&whole, count).to_vec(alloc)?)?;
+        let left = print_bytes(&rt, alloc, prefix(&whole, count).to_vec(alloc)?)?;
         let (status, line) = answer_to_prefix(count);
         let job = if count < GREY_STREAM {
             b"".as_slice()
@@ -166,9 +172,9 @@ fn a_page_of_the_greatest_width_is_printed(rt: HostRuntime) -> Result<(), Fail> 
         body.extend_from_slice(&[127, 0])?;
     }
     body.extend_from_slice(&[126, 0])?;
-    let left = print_bytes(alloc, one_page(alloc, 8191, 1, &body)?)?;
+    let left = print_bytes(&rt, alloc, one_page(alloc, 8191, 1, &body)?)?;
     left.hashes_to(&rt, 79, 0x1276_6F55_193F_5370);
-    let wider = print_bytes(alloc, one_page(alloc, 8192, 1, &body)?)?;
+    let wider = print_bytes(&rt, alloc, one_page(alloc, 8192, 1, &body)?)?;
     wider.is(&rt, 3, b"", b"input: page 1 line 0: Width\n");
     Ok(())
 }

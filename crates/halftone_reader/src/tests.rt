@@ -7,6 +7,8 @@ use pwg_stream::{PageReader, StreamStop};
 use std::alloc::Global;
 use std::process::Abort;
 use std::test::Fail;
+use std::thread::Threads;
+use wavefront_team::OpenGate;
 use weave_base::MemSource;
 
 /// One nozzle, black alone, and no margins.
@@ -57,8 +59,8 @@ fn stream(alloc: Global, lines: &[u8]) -> Result<MemSource, Fail> {
 }
 
 /// Reads the first page of a stream.
-fn read(
-    rt: &impl Abort,
+fn read<R: Abort + Threads + Sync>(
+    rt: &R,
     alloc: Global,
     mut s: MemSource,
 ) -> Result<Result<Option<HalftonedPage>, StreamStop>, Fail> {
@@ -66,7 +68,16 @@ fn read(
     let Ok(mut reader) = PageReader::begin(alloc, &mut s) else {
         return Err("no sync word")?;
     };
-    Ok(read_page(alloc, &mut reader, &ONE, Kernel::Floyd, &mut s))
+    Ok(read_page(
+        rt,
+        alloc,
+        &mut reader,
+        &ONE,
+        Kernel::Floyd,
+        2,
+        &mut s,
+        &OpenGate,
+    ))
 }
 
 #[test]

@@ -15,10 +15,11 @@ use dot_planes::{InkRows, Planes};
 use ink_separation::{BlackTable, amounts_by};
 use printer_profile::{PageForm, Profile};
 use separation_definitions::Window;
-use slab_diffusion::diffuse_slab;
 use std::alloc::Global;
 use std::marker::Model;
+use std::thread::Threads;
 use tile_border::TopEdges;
+use wavefront_team::{Gate, diffuse};
 use weave_base::Memory;
 
 /// A page that is halftoned line by line. Contracts see the profile, the form, the kernel, how many lines there were,
@@ -33,6 +34,8 @@ pub struct Halftoner {
     black: BlackTable,
     form: PageForm,
     kernel: Kernel,
+    /// How many workers diffuse each slab: 1 to 64.
+    workers: u8,
     /// How many lines of the page there were, those in the margins too.
     count: u32,
     /// The amounts of the line in hand, one row.
@@ -72,10 +75,18 @@ fn row_of_line(window: Window, line: u32) -> Option<u32>
 }
 
 impl Halftoner {
-    /// Begins a page, and takes the memory that it needs itself.
-    pub fn begin(alloc: Global, p: &Profile, f: PageForm, k: Kernel) -> Result<Halftoner, Memory>
+    /// Begins a page, whose slabs are diffused by so many workers, and takes the memory that it needs itself.
+    pub fn begin(
+        alloc: Global,
+        p: &Profile,
+        f: PageForm,
+        k: Kernel,
+        workers: u8,
+    ) -> Result<Halftoner, Memory>
         requires checked { IsOk (check p.now) }
         requires wanted { IsWanted (wanted_by (printer_of p.now)) f }
+        requires some_workers { 1 ≤ workers }
+        requires most_workers { workers ≤ 64 }
         ensures page { IfOk result (λ h. (h.profile ≡ p.now) × (h.form ≡ f) × (h.kernel ≡ k)) }
         ensures count { IfOk result (λ h. h.count ≡ 0) }
         ensures stands { IfOk result (λ h. StandsFor h []) }
@@ -92,6 +103,7 @@ impl Halftoner {
             black: BlackTable::make(p),
             form: f,
             kernel: k,
+            workers,
             count: 0,
             line,
             diffused: 0,
@@ -101,9 +113,15 @@ impl Halftoner {
         })
     }
 
-    /// Takes a line of the page that stands so often. `Memory` comes where a slab can't be diffused for want of it,
-    /// and from then on.
-    pub fn lines(&mut self, line: &[u8], repeats: u32) -> Result<(), Memory>
+    /// Takes a line of the page that stands so often. Where a slab is full then, its workers enter the gate, one with
+    /// each tile. `Memory` comes where a slab can't be diffused for want of it, and from then on.
+    pub fn lines<R: Threads + Sync, G: Gate + Sync>(
+        &mut self,
+        rt: &R,
+        line: &[u8],
+        repeats: u32,
+        gate: &G,
+    ) -> Result<(), Memory>
         requires line { length line.now ≡ self.old.form.bytes_per_line }
         requires repeats { self.old.count + repeats ≤ self.old.form.height }
         ensures page { OnOk result (IsSamePage self.old self.new) }
@@ -118,7 +136,7 @@ impl Halftoner {
         }
         self.separate(line);
         for _ in 0..repeats {
-            self.next_line()?;
+            self.next_line(rt, gate)?;
         }
         Ok(())
     }
@@ -155,7 +173,11 @@ impl Halftoner {
     }
 
     // Takes the line in hand once more.
-    fn next_line(&mut self) -> Result<(), Memory>
+    fn next_line<R: Threads + Sync, G: Gate + Sync>(
+        &mut self,
+        rt: &R,
+        gate: &G,
+    ) -> Result<(), Memory>
         requires count { self.old.count < self.old.form.height }
         ensures page { IsSamePage self.old self.new }
         ensures count { OnOk result (self.new.count ≡ self.old.count + 1) }
@@ -178,11 +200,14 @@ impl Halftoner {
         let Some(top) = self.top.take() else {
             return Err(Memory);
         };
-        let bottom = diffuse_slab(
+        let bottom = diffuse(
+            rt,
             self.alloc,
             &self.slab,
             self.kernel,
             top,
+            self.workers,
+            gate,
             &mut self.planes,
             self.diffused,
         )?;

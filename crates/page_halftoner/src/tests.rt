@@ -2,7 +2,7 @@
 ghost use Rattle.printer_profile.specs.Profiles.{printer_of};
 ghost use Rattle.pwg_definitions.specs.Header.{IsWanted};
 ghost use Rattle.separation_definitions.specs.Windows.{wanted_by};
-ghost use Rattle.std.specs.Prelude.{IsTrue};
+ghost use Rattle.std.specs.Prelude.{IsTrue, ◌≤◌};
 
 mod definition;
 
@@ -13,6 +13,8 @@ use dot_planes::Planes;
 use printer_profile::{InkSet, PageForm, Profile};
 use pwg_definitions::Kind;
 use std::alloc::Global;
+use std::thread::Threads;
+use wavefront_team::OpenGate;
 
 // Whether the printer takes a page.
 fn is_taken(p: &Profile, f: PageForm) -> bool
@@ -74,17 +76,27 @@ fn line_at(kind: Kind, y: u32) -> [u8; 64] {
     line
 }
 
-// The dots of a page.
-fn planes_of(alloc: Global, p: &Profile, f: PageForm, kernel: Kernel) -> Option<Planes> {
+// The dots of a page, by so many workers.
+fn planes_of<R: Threads + Sync>(
+    rt: &R,
+    alloc: Global,
+    p: &Profile,
+    f: PageForm,
+    kernel: Kernel,
+    workers: u8,
+) -> Option<Planes>
+    requires { (1 ≤ workers) × (workers ≤ 64) }
+{
     if p.check().is_err() || !is_taken(p, f) || f.bytes_per_line > 64 {
         return None;
     }
-    let Ok(mut h) = Halftoner::begin(alloc, p, f, kernel) else {
+    let Ok(mut h) = Halftoner::begin(alloc, p, f, kernel, workers) else {
         return None;
     };
     for y in 0..f.height {
         let line = line_at(f.kind, y);
-        if h.lines(&line[..f.bytes_per_line as usize], 1).is_err() {
+        let line = &line[..f.bytes_per_line as usize];
+        if h.lines(rt, line, 1, &OpenGate).is_err() {
             return None;
         }
     }
@@ -102,7 +114,7 @@ fn small_pages_have_the_dots_of_the_definition(rt: HostRuntime) {
             for (width, height) in [(1, 5), (7, 256), (8, 257), (9, 515)] {
                 let p = printer(inks);
                 let f = form(kind, width + 3, height + 3);
-                let Some(planes) = planes_of(rt.alloc(), &p, f, kernel) else {
+                let Some(planes) = planes_of(&rt, rt.alloc(), &p, f, kernel, 2) else {
                     assert!(rt; false, "no planes for {kind:?} {inks:?}");
                     return;
                 };
@@ -135,11 +147,11 @@ fn errors_cross_the_slab_at_row_256(rt: HostRuntime) {
         assert!(rt; false);
         return;
     }
-    let Ok(mut h) = Halftoner::begin(rt.alloc(), &p, f, Kernel::Floyd) else {
+    let Ok(mut h) = Halftoner::begin(rt.alloc(), &p, f, Kernel::Floyd, 1) else {
         assert!(rt; false);
         return;
     };
-    let Ok(()) = h.lines(&[0x9B], 257) else {
+    let Ok(()) = h.lines(&rt, &[0x9B], 257, &OpenGate) else {
         assert!(rt; false);
         return;
     };

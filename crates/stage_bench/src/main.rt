@@ -1,9 +1,9 @@
 //! The stages of printing by themselves, for `bench/run`, which times each:
 //!
-//!     stage_bench STAGE [profile=NAME] [kernel=NAME] < page.pwg
+//!     stage_bench STAGE [profile=NAME] [kernel=NAME] [workers=NUMBER] < page.pwg
 //!
 //! `read` reads the lines of the first page, `separate` separates their inks too, `slabs` halftones the page as the driver
-//! does, and `rows` row by row. What is printed is how many lines, dark amounts or dots there were.
+//! does, by so many workers, and `rows` row by row. What is printed is how many lines, dark amounts or dots there were.
 #![tactic(auto)]
 
 mod inks;
@@ -23,7 +23,7 @@ fn words_of(rt: &HostRuntime) -> Option<(String, Words)> {
     let stage = line.next()?;
     let mut words = Words::make(rt.alloc());
     words.push("print").ok()?;
-    for word in line.take(2) {
+    for word in line.take(3) {
         words.push(&word).ok()?;
     }
     Some((stage, words))
@@ -36,7 +36,16 @@ fn count(rt: &HostRuntime) -> Option<u64> {
     let mut shelf = DirShelf::make(rt);
     let profile = find_profile(rt.alloc(), &mut shelf, profile_name(&words, &job)).ok()?;
     let mut input = StdSource::make(rt.stdin());
-    run_stage(rt.alloc(), stage, &profile, job.kernel, &mut input).ok()
+    run_stage(
+        rt,
+        rt.alloc(),
+        stage,
+        &profile,
+        job.kernel,
+        job.workers.clamp(1, 64),
+        &mut input,
+    )
+    .ok()
 }
 
 fn main(rt: HostRuntime) -> ExitCode {

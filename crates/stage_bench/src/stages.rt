@@ -1,7 +1,7 @@
 //! The stages.
 ghost use Rattle.printer_profile.specs.Validity.{check};
 ghost use Rattle.pwg_stream.specs.Reading.{lines_left_of};
-ghost use Rattle.std.specs.Prelude.{IsOk, ◌≡◌};
+ghost use Rattle.std.specs.Prelude.{IsOk, ◌≡◌, ◌≤◌};
 
 use crate::lines::{Lines, Page};
 use diffusion_kernel::Kernel;
@@ -12,6 +12,8 @@ use printer_profile::Profile;
 use pwg_definitions::MOST_ROWS;
 use pwg_stream::{PageReader, StreamStop};
 use std::alloc::Global;
+use std::thread::Threads;
+use wavefront_team::OpenGate;
 use weave_base::Source;
 
 /// How far a page is printed.
@@ -38,20 +40,34 @@ pub fn stage_named(name: &str) -> Option<Stage> {
     }
 }
 
-/// Takes the first page of the input to a stage, and counts its lines, or its dots where they are diffused. A stream
-/// without pages has none.
-pub fn run_stage<S: Source>(
+/// Takes the first page of the input to a stage, and counts its lines, or its dots where they are diffused: in slabs, by
+/// so many workers. A stream without pages has none.
+pub fn run_stage<R: Threads + Sync, S: Source>(
+    rt: &R,
     alloc: Global,
     stage: Stage,
     profile: &Profile,
     kernel: Kernel,
+    workers: u8,
     input: &mut S,
 ) -> Result<u64, StreamStop>
     requires checked { IsOk (check profile.now) }
+    requires some_workers { 1 ≤ workers }
+    requires most_workers { workers ≤ 64 }
 {
     let mut reader = PageReader::begin(alloc, input)?;
     if stage == Stage::Slabs {
-        return match read_page(alloc, &mut reader, profile, kernel, input)? {
+        let page = read_page(
+            rt,
+            alloc,
+            &mut reader,
+            profile,
+            kernel,
+            workers,
+            input,
+            &OpenGate,
+        )?;
+        return match page {
             None => Ok(0),
             Some(page) => Ok(count_dots(&page.planes)),
         };

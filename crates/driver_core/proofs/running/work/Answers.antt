@@ -4,6 +4,7 @@ use Rattle.job_words.proofs.Most.{most_of_job}
 use Rattle.driver_core.specs.Outside.{Outsides}
 use Rattle.driver_core.proofs.Asked.{keeps}
 use Rattle.driver_core.proofs.Worked.{listed, played, printed, shown}
+use Rattle.driver_core.proofs.Workers.{workers_of_job}
 use Rattle.driver_core.proofs.running.work.Goals as goal
 
 pub list-requires : goal.list-requires
@@ -11,6 +12,12 @@ list-requires g c = omega (arith, most_of_job c.args.words.now c.in_ok-job.job (
 
 pub play-requires-clause-most : goal.play-requires-clause-most
 play-requires-clause-most g c = omega (arith, most_of_job c.args.words.now c.in_ok-job.job (sym c.in_ok-job.ensures))
+
+pub print_pages-requires-clause-some_workers : goal.print_pages-requires-clause-some_workers
+print_pages-requires-clause-some_workers g c = (workers_of_job c.args.words.now c.in_ok-job.job (sym c.in_ok-job.ensures)).some
+
+pub print_pages-requires-clause-most_workers : goal.print_pages-requires-clause-most_workers
+print_pages-requires-clause-most_workers g c = (workers_of_job c.args.words.now c.in_ok-job.job (sym c.in_ok-job.ensures)).most
 
 pub returns-in-List-clause-outcome : goal.returns-in-List-clause-outcome
 returns-in-List-clause-outcome g c =

@@ -1,4 +1,4 @@
-use Rattle.std.proofs.Common.{arith, ◌∙◌, Option}
+use Rattle.std.proofs.Common.{ap, arith, sym, ◌∙◌, Option}
 use Rattle.std.proofs.lemmas.Result.{err_from_is_err_and}
 use Rattle.printer_profile.specs.Profiles.{printer_of}
 use Rattle.pwg_definitions.specs.declared.pages.PageForm.{PageForm}
@@ -31,6 +31,11 @@ returns-in_err-repeats-clause-input g c =
 
 pub returns-in_err-repeats-clause-used : goal.returns-in_err-repeats-clause-used
 returns-in_err-repeats-clause-used g c = uses_more _ _ _ _ c.groups.invariant.page.page.used c.next_line.ensures.used
+
+pub lines-requires-clause-line : goal.lines-requires-clause-line
+lines-requires-clause-line g c κs within =
+    c.line.ensures.sized c.in-Some.form (c.in_ok-repeats.ensures.lines.form_is ∙ c.groups.invariant.page.page.form_is)
+    ∙ ap (λ (f : PageForm). f.bytes_per_line) (sym c.groups.invariant.page.form_is)
 
 pub groups-preserved : goal.groups-preserved
 groups-preserved g c =

@@ -2,4 +2,4 @@ use Rattle.std.proofs.Common.{◌≡◌, false}
 use Rattle.page_halftoner.proofs.tests.planes_of.Given as goal
 
 abbrev pub invariant-loop-y : goal.invariant-loop-y
-invariant-loop-y l = record { form : l.h.form ≡ l.f; count : l.h.count ≡ l.y; working : l.h.failed ≡ false }
+invariant-loop-y g l = record { form : l.h.form ≡ l.f; count : l.h.count ≡ l.y; working : l.h.failed ≡ false }

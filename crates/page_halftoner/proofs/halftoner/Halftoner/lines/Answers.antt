@@ -1,10 +1,10 @@
-use Rattle.std.proofs.Common.{◌++◌, List, ℕ, arith, replicate, subst, ◌∙◌}
+use Rattle.std.proofs.Common.{◌≡◌, ◌++◌, List, ℕ, arith, replicate, subst, ◌∙◌}
 use Rattle.page_halftoner.specs.Halftones.{StandsFor}
 use Rattle.page_halftoner.proofs.Lines.{amounts_kept, repeats_more}
 use Rattle.page_halftoner.proofs.halftoner.Halftoner.lines.Goals as goal
 
 pub loop-preserved : goal.loop-preserved
-loop-preserved c =
+loop-preserved g c =
     let v = c.loop.invariant in
     let next = c.in_ok-next_line.ensures in
     record {
@@ -16,3 +16,9 @@ loop-preserved c =
           let Q : List (List ℕ) → Type 0 = λ ls. StandsFor c.next_line.new.self ls in
           subst Q (repeats_more lines c.loop.counter c.args.line.now) (next.stands c.args.line.now v.amounts (lines ++ replicate c.loop.counter c.args.line.now) (v.stands lines stands));
     }
+
+pub returns-clause-stands : goal.returns-clause-stands
+returns-clause-stands g c = λ lines stands.
+    let all : c.loop.counter ≡ c.args.repeats = omega arith in
+    let Q : ℕ → Type 0 = λ n. StandsFor c.loop.self (lines ++ replicate n c.args.line.now) in
+    subst Q all (c.loop.invariant.stands lines stands)

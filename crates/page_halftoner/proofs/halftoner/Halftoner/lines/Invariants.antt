@@ -3,7 +3,7 @@ use Rattle.page_halftoner.specs.Halftones.{HasAmountsOf, IsSamePage, StandsFor}
 use Rattle.page_halftoner.proofs.halftoner.Halftoner.lines.Given as goal
 
 abbrev pub invariant-loop : goal.invariant-loop
-invariant-loop l = record {
+invariant-loop g l = record {
   page : IsSamePage l.fn.self l.self;
   count : l.self.count ≡ l.fn.self.count + l.counter;
   amounts : HasAmountsOf l.self l.line;

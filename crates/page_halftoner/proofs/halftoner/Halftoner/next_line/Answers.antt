@@ -12,9 +12,9 @@ use Rattle.page_halftoner.proofs.Lines.{IsFull, IsNextRow, in_margin, in_slab, s
 use Rattle.page_halftoner.proofs.halftoner.Halftoner.next_line.Goals as goal
 
 pub returns-in_default-clause-stands : goal.returns-in_default-clause-stands
-returns-in_default-clause-stands c = λ line amounts lines stands.
+returns-in_default-clause-stands g c = λ line amounts lines stands.
     let h : Halftoning = halftoning c.self.inside in
-    let Q : Halftoning → Type 0 = λ g. StandsFor g lines in
+    let Q : Halftoning → Type 0 = λ h'. StandsFor h' lines in
     let R : Window → Type 0 = λ w. (h.count < w.top) ⊎ (w.top + w.height ≤ h.count) in
     in_margin h line lines (subst R c.window-window.ensures c.in_default.ensures.margin) (subst Q (sym c.self.view_is) stands)
 
@@ -23,8 +23,8 @@ next_row : (inside : Inside) (w : Window) (line : List ℕ) (y : ℕ) (slab : Am
     → w.top + y ≡ inside.count → y < w.height → HasAmountsOf (halftoning inside) line → PutsLine inside.line (y - inside.diffused) inside.slab slab
     → IsNextRow (halftoning inside) line y slab
 next_row inside w line y slab v is place low amounts puts =
-    let here : (window_in inside).top + y ≡ inside.count = ap (λ (g : Window). g.top + y) (sym is) ∙ place in
-    let in_window : y < (window_in inside).height = omega (arith, low, ap (λ (g : Window). g.height) is) in
+    let here : (window_in inside).top + y ≡ inside.count = ap (λ (win : Window). win.top + y) (sym is) ∙ place in
+    let in_window : y < (window_in inside).height = omega (arith, low, ap (λ (win : Window). win.height) is) in
     record {
       place = here;
       inside = in_window;
@@ -38,24 +38,24 @@ next_row inside w line y slab v is place low amounts puts =
     }
 
 pub returns-then-y-self-clause-stands : goal.returns-then-y-self-clause-stands
-returns-then-y-self-clause-stands c = λ line amounts lines stands.
+returns-then-y-self-clause-stands g c = λ line amounts lines stands.
     let h : Halftoning = halftoning c.self.inside in
-    let Q : Halftoning → Type 0 = λ g. StandsFor g lines in
-    let A : Halftoning → Type 0 = λ g. HasAmountsOf g line in
+    let Q : Halftoning → Type 0 = λ h'. StandsFor h' lines in
+    let A : Halftoning → Type 0 = λ h'. HasAmountsOf h' line in
     let next = next_row c.self.inside c.window-window.result line c.in-Some.y c.put_line.new.slab c.self.invariant c.window-window.ensures
     c.in-Some.ensures.row.0 c.in-Some.ensures.row.1 (subst A (sym c.self.view_is) amounts) c.put_line.ensures in
     in_slab h line lines c.in-Some.y c.put_line.new.slab next (subst Q (sym c.self.view_is) stands)
 
 pub invariant_of-self-2 : goal.invariant_of-self-2
-invariant_of-self-2 c =
+invariant_of-self-2 g c =
     let v = c.self.invariant in
     let y : ℕ = c.in-Some.y in
     let w : Window = window_in c.self.inside in
     let size = c.put_line.ensures.size in
     let next = c.next_slab.ensures in
     let done = c.in_ok-bottom.ensures.slab in
-    let top : w.top + y ≡ c.self.inside.count = ap (λ (g : Window). g.top + y) (sym c.window-window.ensures) ∙ c.in-Some.ensures.row.0 in
-    let tall : c.window-window.result.height ≡ w.height = ap (λ (g : Window). g.height) c.window-window.ensures in
+    let top : w.top + y ≡ c.self.inside.count = ap (λ (win : Window). win.top + y) (sym c.window-window.ensures) ∙ c.in-Some.ensures.row.0 in
+    let tall : c.window-window.result.height ≡ w.height = ap (λ (win : Window). win.height) c.window-window.ensures in
     let inside : y < w.height = omega (arith, c.in-Some.ensures.row.1, tall) in
     let full : y + 1 ≡ c.self.inside.diffused + c.self.inside.slab.rows = omega (arith, top, inside, v.room, v.from, c.if-y-self.false, c.rows.ensures, size.rows) in
     let rows : y + 1 < w.height → c.next_slab.new.slab.rows ≡ min (w.height - (y + 1)) c.self.inside.slab.rows =
@@ -67,6 +67,8 @@ invariant_of-self-2 c =
       checked = v.checked;
       black = v.black;
       wanted = v.wanted;
+      some_workers = v.some_workers;
+      most_workers = v.most_workers;
       few = omega (arith, c.requires.count, ap (λ (h : Halftoning). h.count) c.self.view_is, ap (λ (h : Halftoning). h.form.height) c.self.view_is);
       line_width = v.line_width;
       line_rows = v.line_rows;
@@ -87,17 +89,17 @@ invariant_of-self-2 c =
     }
 
 pub returns-clause-stands : goal.returns-clause-stands
-returns-clause-stands c = λ line amounts lines stands.
+returns-clause-stands g c = λ line amounts lines stands.
     let h : Halftoning = halftoning c.self.inside in
     let v = c.self.invariant in
     let y : ℕ = c.in-Some.y in
-    let Q : Halftoning → Type 0 = λ g. StandsFor g lines in
-    let A : Halftoning → Type 0 = λ g. HasAmountsOf g line in
+    let Q : Halftoning → Type 0 = λ h'. StandsFor h' lines in
+    let A : Halftoning → Type 0 = λ h'. HasAmountsOf h' line in
     let size = c.put_line.ensures.size in
     let next = next_row c.self.inside c.window-window.result line y c.put_line.new.slab v c.window-window.ensures
     c.in-Some.ensures.row.0 c.in-Some.ensures.row.1 (subst A (sym c.self.view_is) amounts) c.put_line.ensures in
     let full : y + 1 ≡ h.diffused + c.put_line.new.slab.rows = omega (arith, next.room, size.rows, c.if-y-self.false, c.rows.ensures) in
-    let all : IsFull h y c.put_line.new.slab c.in-Some-take.top c.in_ok-bottom.bottom c.diffuse_slab.new.out = record {
+    let all : IsFull h y c.put_line.new.slab c.in-Some-take.top c.in_ok-bottom.bottom c.diffuse.new.out = record {
       top_is = ap edges_in (sym c.in-Some-take.is ∙ c.take.ensures.value);
       full = full;
       some = omega (arith, size.rows, v.slab_some);
@@ -105,5 +107,5 @@ returns-clause-stands c = λ line amounts lines stands.
       tall = v.planes_rows;
       done = c.in_ok-bottom.ensures.slab;
     } in
-    slab_full h line lines y c.put_line.new.slab c.next_slab.new.slab c.in-Some-take.top c.in_ok-bottom.bottom c.diffuse_slab.new.out _
+    slab_full h line lines y c.put_line.new.slab c.next_slab.new.slab c.in-Some-take.top c.in_ok-bottom.bottom c.diffuse.new.out _
     next all (subst Q (sym c.self.view_is) stands)

@@ -1,0 +1,106 @@
+//! Gates that workers enter with their tiles.
+use crate::fixture::{Left, no_files, one_page, plain, roomy, run_through};
+use driver_core::{Gate, OpenGate, Place};
+use std::alloc::Global;
+use std::sync::atomic::{AtomicU64, Ordering};
+use std::test::Fail;
+use std::thread::Threads;
+
+// Prints a page by the plainest printer, with so many workers.
+fn print_through<R: Threads + Sync, G: Gate + Sync>(
+    rt: &R,
+    alloc: Global,
+    workers: &str,
+    page: Vec<u8>,
+    gate: &G,
+) -> Result<Left, Fail> {
+    let texts = ["print", "profile=tiny1", workers];
+    let input = plain(alloc, page);
+    let (out, shelf) = (roomy(alloc)?, no_files(alloc));
+    Ok(run_through(rt, alloc, &texts, input, out, shelf, gate)?)
+}
+
+// How often a tile waits for another.
+const TURNS: u32 = 100_000_000;
+
+// A gate that holds two tiles, of which neither needs the other, until both came.
+#[derive(Drop)]
+struct MeetingGate {
+    came: AtomicU64,
+    met: AtomicU64,
+}
+
+impl Gate for MeetingGate {
+    fn enter(&self, p: Place) {
+        if p != (Place { c: 2, j: 0 }) && p != (Place { c: 0, j: 1 }) {
+            return;
+        }
+        self.came.fetch_add(1, Ordering::SeqCst);
+        for _ in 0..TURNS {
+            if self.came.load(Ordering::SeqCst) == 2 {
+                self.met.fetch_add(1, Ordering::SeqCst);
+                return;
+            }
+        }
+    }
+}
+
+#[test]
+fn two_tiles_are_inside_the_gate_at_once(rt: HostRuntime) -> Result<(), Fail> {
+    let alloc = rt.alloc();
+    // all of one grey
+    let page = one_page(alloc, 200, 70, &[0x45, 0x7F, 0x9B, 0x47, 0x9B])?;
+    let gate = MeetingGate {
+        came: AtomicU64::new(0),
+        met: AtomicU64::new(0),
+    };
+    let by_two = print_through(&rt, alloc, "workers=2", page.clone()?, &gate)?;
+    let alone = print_through(&rt, alloc, "workers=1", page, &OpenGate)?;
+    by_two.is(&rt, 0, alone.out.bytes(), b"");
+    assert_eq!(rt; gate.met.load(Ordering::SeqCst), 2);
+    Ok(())
+}
+
+// A gate that counts how often a tile of each band is entered on a page of one column of tiles.
+#[derive(Drop)]
+struct CountingGate {
+    bands: [AtomicU64; 8],
+    others: AtomicU64,
+}
+
+impl Gate for CountingGate {
+    fn enter(&self, p: Place) {
+        let count = match self.bands.get(p.j as usize) {
+            Some(band) if p.c == 0 => band,
+            _ => &self.others,
+        };
+        count.fetch_add(1, Ordering::SeqCst);
+    }
+}
+
+#[test]
+fn errors_cross_the_slab_at_row_256(rt: HostRuntime) -> Result<(), Fail> {
+    let alloc = rt.alloc();
+    let page = one_page(alloc, 1, 257, &[0xFF, 0, 0x9B, 0, 0, 0x9B])?;
+    let gate = CountingGate {
+        bands: [
+            AtomicU64::new(0),
+            AtomicU64::new(0),
+            AtomicU64::new(0),
+            AtomicU64::new(0),
+            AtomicU64::new(0),
+            AtomicU64::new(0),
+            AtomicU64::new(0),
+            AtomicU64::new(0),
+        ],
+        others: AtomicU64::new(0),
+    };
+    let left = print_through(&rt, alloc, "workers=2", page, &gate)?;
+    left.hashes_to(&rt, 1855, 0xB1BB_344A_C3B2_09A4);
+    for (j, band) in gate.bands.iter().enumerate() {
+        let entered = if j == 0 { 2 } else { 1 };
+        assert_eq!(rt; band.load(Ordering::SeqCst), entered, "band {j}");
+    }
+    assert_eq!(rt; gate.others.load(Ordering::SeqCst), 0);
+    Ok(())
+}
