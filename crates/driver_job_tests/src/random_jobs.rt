@@ -6,6 +6,7 @@ use crate::random::{Random, random_job};
 use std::alloc::{AllocError, Global};
 use std::process::Abort;
 use std::test::Fail;
+use std::thread::Threads;
 
 /// What a job comes to: what is written, and where and why it stops.
 #[derive(Drop)]
@@ -16,7 +17,7 @@ struct Outcome {
 
 impl Outcome {
     /// Asserts that a command says the same of a job.
-    fn is<R: Abort>(
+    fn is<R: Abort + Threads + Sync>(
         &self,
         rt: &R,
         alloc: Global,
@@ -29,7 +30,7 @@ impl Outcome {
             None => (0, String::new(alloc)),
         };
         assert!(rt; words.len() <= 2);
-        let left = run_on(alloc, words, job, (piece, 0), sink(alloc, 70_000)?)?;
+        let left = run_on(rt, alloc, words, job, (piece, 0), sink(alloc, 70_000)?)?;
         left.is(rt, status, self.out.as_slice(), line.as_str());
         Ok(())
     }
@@ -101,7 +102,12 @@ fn played(alloc: Global, job: &[u8]) -> Result<Outcome, AllocError> {
 }
 
 // Asserts that the driver lists and plays a job, read in pieces of some length, as the plain programs do.
-fn is_alike<R: Abort>(rt: &R, alloc: Global, job: &[u8], piece: u32) -> Result<(), Fail> {
+fn is_alike<R: Abort + Threads + Sync>(
+    rt: &R,
+    alloc: Global,
+    job: &[u8],
+    piece: u32,
+) -> Result<(), Fail> {
     listed(alloc, job)?.is(rt, alloc, &["list"], job, piece)?;
     played(alloc, job)?.is(rt, alloc, &["dots", "profile=tiny"], job, piece)
 }

@@ -8,6 +8,7 @@ use pwg_header::Kind;
 use std::alloc::{AllocError, Global};
 use std::process::Abort;
 use std::test::Fail;
+use std::thread::Threads;
 use weave_base::InkSet;
 
 // Appends a row of an image.
@@ -43,17 +44,18 @@ fn add_image(
 }
 
 // Prints a picture, plays the job, and asserts that the images have the dots that the picture wants.
-fn plays_its_dots<R: Abort>(
+fn plays_its_dots<R: Abort + Threads + Sync>(
     rt: &R,
     alloc: Global,
     printer: &Printer,
     picture: &Picture,
     kernel: &Kernel,
 ) -> Result<(), Fail> {
-    let job = print_picture(alloc, printer, picture, kernel)?;
+    let job = print_picture(rt, alloc, printer, picture, kernel)?;
     assert_eq!(rt; job.status, 0);
     let text = printer.text(alloc)?;
     let left = run_over(
+        rt,
         alloc,
         &["dots", "profile=any.txt"],
         plain(alloc, job.out.bytes().to_vec(alloc)?),

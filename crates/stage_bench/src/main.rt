@@ -2,16 +2,21 @@
 //!
 //!     stage_bench STAGE [profile=NAME] [kernel=NAME] [workers=NUMBER] < page.pwg
 //!
-//! `read` reads the lines of the first page, `separate` separates their inks too, `slabs` halftones the page as the driver
-//! does, by so many workers, and `rows` row by row. What is printed is how many lines, dark amounts or dots there were.
+//! `read` reads the lines of the first page, `separate` separates their inks too, `slabs` halftones the page as the
+//! driver does, by so many workers, and `rows` row by row. What is printed is how many lines or dots there were.
+//!
+//! `slab-rows`, `slab-loop` and `slab-team` diffuse a slab of random amounts in the profile's inks, row by row, tile by
+//! tile or by workers, and print the least nanoseconds of twenty runs. They read no page.
 #![tactic(auto)]
 
 mod inks;
 mod lines;
+mod slab;
 mod stages;
 
 use job_profile::find_profile;
 use job_words::{Words, profile_name, read_words};
+use slab::{time_slab, way_named};
 use stages::{run_stage, stage_named};
 use std::env;
 use std::process::ExitCode;
@@ -29,30 +34,35 @@ fn words_of(rt: &HostRuntime) -> Option<(String, Words)> {
     Some((stage, words))
 }
 
-fn count(rt: &HostRuntime) -> Option<u64> {
+// What the words ask for comes to.
+fn measure(rt: &HostRuntime) -> Option<u128> {
     let (name, words) = words_of(rt)?;
-    let stage = stage_named(&name)?;
     let job = read_words(&words).ok()?;
+    let workers = job.workers.clamp(1, 64);
     let mut shelf = DirShelf::make(rt);
     let profile = find_profile(rt.alloc(), &mut shelf, profile_name(&words, &job)).ok()?;
+    if let Some(way) = way_named(&name) {
+        return time_slab(rt, way, job.kernel, profile.inks.count(), workers);
+    }
+    let stage = stage_named(&name)?;
     let mut input = StdSource::make(rt.stdin());
-    run_stage(
+    let count = run_stage(
         rt,
         rt.alloc(),
         stage,
         &profile,
         job.kernel,
-        job.workers.clamp(1, 64),
+        workers,
         &mut input,
-    )
-    .ok()
+    );
+    Some(u128::from(count.ok()?))
 }
 
 fn main(rt: HostRuntime) -> ExitCode {
-    let Some(count) = count(&rt) else {
+    let Some(number) = measure(&rt) else {
         return ExitCode::from(1);
     };
-    match println!(rt; "{count}") {
+    match println!(rt; "{number}") {
         Ok(()) => ExitCode::from(0),
         Err(_) => ExitCode::from(1),
     }

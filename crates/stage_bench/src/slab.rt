@@ -43,7 +43,13 @@ pub fn way_named(name: &str) -> Option<Way> {
 }
 
 /// The least nanoseconds that a slab of so many inks takes. `None` where there is no memory for it, or no clock.
-pub fn time_slab(rt: &HostRuntime, way: Way, kernel: Kernel, inks: u8, workers: u8) -> Option<u128> {
+pub fn time_slab(
+    rt: &HostRuntime,
+    way: Way,
+    kernel: Kernel,
+    inks: u8,
+    workers: u8,
+) -> Option<u128> {
     let rows = amounts(rt.alloc(), inks)?;
     let mut planes = Planes::make(rt.alloc(), WIDTH, ROWS, rows.inks()).ok()?;
     let mut least = u128::MAX;
@@ -103,7 +109,10 @@ fn by_rows(alloc: Global, rows: &InkRows, kernel: Kernel) -> Option<()> {
 }
 
 fn by_loop(alloc: Global, rows: &InkRows, kernel: Kernel, planes: &mut Planes) -> Option<()> {
-    if rows.width() != planes.width() || rows.inks() != planes.inks() || rows.rows() > planes.rows() {
+    if rows.width() != planes.width()
+        || rows.inks() != planes.inks()
+        || rows.rows() > planes.rows()
+    {
         return None;
     }
     let top = no_errors(alloc, rows.width(), rows.inks())?;
@@ -111,12 +120,32 @@ fn by_loop(alloc: Global, rows: &InkRows, kernel: Kernel, planes: &mut Planes) -
     Some(())
 }
 
-fn by_team(rt: &HostRuntime, rows: &InkRows, kernel: Kernel, workers: u8, planes: &mut Planes) -> Option<()> {
-    if rows.width() != planes.width() || rows.inks() != planes.inks() || rows.rows() > planes.rows() {
+fn by_team(
+    rt: &HostRuntime,
+    rows: &InkRows,
+    kernel: Kernel,
+    workers: u8,
+    planes: &mut Planes,
+) -> Option<()> {
+    if rows.width() != planes.width()
+        || rows.inks() != planes.inks()
+        || rows.rows() > planes.rows()
+    {
         return None;
     }
     let top = no_errors(rt.alloc(), rows.width(), rows.inks())?;
     let workers = workers.clamp(1, 64);
-    diffuse(rt, rt.alloc(), rows, kernel, top, workers, &OpenGate, planes, 0).ok()?;
+    diffuse(
+        rt,
+        rt.alloc(),
+        rows,
+        kernel,
+        top,
+        workers,
+        &OpenGate,
+        planes,
+        0,
+    )
+    .ok()?;
     Some(())
 }
