@@ -11,6 +11,7 @@ use help::text_of;
 use ink_meter::{DotMeter, Meter, can_settle, settle};
 use std::io::Write;
 use std::process::ExitCode;
+use std::thread::Threads;
 use weave_base::{DirShelf, StdSink, StdSource, Words, put_all};
 
 // Shows a text instead of a run.
@@ -22,7 +23,7 @@ fn show<W: Write>(text: &str, out: &mut StdSink<W>) -> Answer {
 }
 
 // Runs the words, or shows the text that the first of them asks for.
-fn run_words(rt: &HostRuntime, words: &Words) -> u8 {
+fn run_words<R: Threads + Sync>(rt: &HostRuntime, threads: &R, words: &Words) -> u8 {
     let mut input = StdSource::make(rt.stdin());
     let mut out = StdSink::make(rt.stdout());
     let mut err = StdSink::make(rt.stderr());
@@ -37,7 +38,7 @@ fn run_words(rt: &HostRuntime, words: &Words) -> u8 {
             return Answer::Memory.status();
         }
         let status = run(
-            rt,
+            threads,
             rt.alloc(),
             words,
             &mut input,
@@ -59,7 +60,7 @@ fn run_words(rt: &HostRuntime, words: &Words) -> u8 {
 
 fn main(rt: HostRuntime) -> ExitCode {
     match read_words(&rt) {
-        Ok(words) => ExitCode::from(run_words(&rt, &words)),
+        Ok(words) => ExitCode::from(run_words(&rt, &rt, &words)),
         // nothing is written where the words find no memory
         Err(Answer::Memory) => ExitCode::from(Answer::Memory.status()),
         Err(answer) => {

@@ -20,6 +20,7 @@ use slab::{time_slab, way_named};
 use stages::{run_stage, stage_named};
 use std::env;
 use std::process::ExitCode;
+use std::thread::Threads;
 use weave_base::{DirShelf, StdSource};
 
 // The stage's name, and the words of a job to print with all words after it.
@@ -35,19 +36,19 @@ fn words_of(rt: &HostRuntime) -> Option<(String, Words)> {
 }
 
 // What the words ask for comes to.
-fn measure(rt: &HostRuntime) -> Option<u128> {
+fn measure<R: Threads + Sync>(rt: &HostRuntime, threads: &R) -> Option<u128> {
     let (name, words) = words_of(rt)?;
     let job = read_words(&words).ok()?;
     let workers = job.workers.clamp(1, 64);
     let mut shelf = DirShelf::make(rt);
     let profile = find_profile(rt.alloc(), &mut shelf, profile_name(&words, &job)).ok()?;
     if let Some(way) = way_named(&name) {
-        return time_slab(rt, way, job.kernel, profile.inks.count(), workers);
+        return time_slab(rt, threads, way, job.kernel, profile.inks.count(), workers);
     }
     let stage = stage_named(&name)?;
     let mut input = StdSource::make(rt.stdin());
     let count = run_stage(
-        rt,
+        threads,
         rt.alloc(),
         stage,
         &profile,
@@ -59,7 +60,7 @@ fn measure(rt: &HostRuntime) -> Option<u128> {
 }
 
 fn main(rt: HostRuntime) -> ExitCode {
-    let Some(number) = measure(&rt) else {
+    let Some(number) = measure(&rt, &rt) else {
         return ExitCode::from(1);
     };
     match println!(rt; "{number}") {

@@ -7,7 +7,7 @@ use diffusion_kernel::Kernel;
 use dot_planes::{InkRows, Planes};
 use slab_diffusion::diffuse_slab;
 use std::alloc::Global;
-use std::io;
+use std::thread::Threads;
 use std::time::Instant;
 use tile_border::TopEdges;
 use wavefront_team::{OpenGate, diffuse};
@@ -43,8 +43,9 @@ pub fn way_named(name: &str) -> Option<Way> {
 }
 
 /// The least nanoseconds that a slab of so many inks takes. `None` where there is no memory for it, or no clock.
-pub fn time_slab(
+pub fn time_slab<R: Threads + Sync>(
     rt: &HostRuntime,
+    threads: &R,
     way: Way,
     kernel: Kernel,
     inks: u8,
@@ -58,7 +59,7 @@ pub fn time_slab(
         match way {
             Way::Rows => by_rows(rt.alloc(), &rows, kernel)?,
             Way::Loop => by_loop(rt.alloc(), &rows, kernel, &mut planes)?,
-            Way::Team => by_team(rt, &rows, kernel, workers, &mut planes)?,
+            Way::Team => by_team(threads, rt.alloc(), &rows, kernel, workers, &mut planes)?,
         }
         least = least.min(start.elapsed(rt).ok()?.as_nanos());
     }
@@ -120,8 +121,9 @@ fn by_loop(alloc: Global, rows: &InkRows, kernel: Kernel, planes: &mut Planes) -
     Some(())
 }
 
-fn by_team(
-    rt: &HostRuntime,
+fn by_team<R: Threads + Sync>(
+    threads: &R,
+    alloc: Global,
     rows: &InkRows,
     kernel: Kernel,
     workers: u8,
@@ -133,18 +135,10 @@ fn by_team(
     {
         return None;
     }
-    let top = no_errors(rt.alloc(), rows.width(), rows.inks())?;
+    let top = no_errors(alloc, rows.width(), rows.inks())?;
     let workers = workers.clamp(1, 64);
     diffuse(
-        rt,
-        rt.alloc(),
-        rows,
-        kernel,
-        top,
-        workers,
-        &OpenGate,
-        planes,
-        0,
+        threads, alloc, rows, kernel, top, workers, &OpenGate, planes, 0,
     )
     .ok()?;
     Some(())
