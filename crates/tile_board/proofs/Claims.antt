@@ -39,13 +39,21 @@ idle-lists v p idle = ap (λ o. held o + times p v.mine) idle ∙ omega arith
 
 kept-once : (v : View) (at x : ℕ) → Kept v (looked v at x)
 kept-once v at x = record {
-  number = refl; made = refl; mine = refl; parts = refl; board = refl;
+  number = refl;
+  made = refl;
+  mine = refl;
+  parts = refl;
+  board = refl;
   looks = let e : (looked v at x).looks ≡ v.looks + 1 = refl in omega arith;
 }
 
 kept-twice : (v : View) (at x y : ℕ) → Kept v (looked (looked v at x) at y)
 kept-twice v at x y = record {
-  number = refl; made = refl; mine = refl; parts = refl; board = refl;
+  number = refl;
+  made = refl;
+  mine = refl;
+  parts = refl;
+  board = refl;
   looks = let e : (looked (looked v at x) at y).looks ≡ v.looks + 1 + 1 = refl in omega arith;
 }
 
@@ -118,10 +126,10 @@ gone-second b t x y m n o idle told took gone =
       record { kept = kept-twice m.0 at x y; held = idle; sent = refl; seen = refl; knew = knew-before (graph_of (shape_of b)) m.0 at x y told.1.knew k },
       gone,
       λ all.
-      let a = took.found.alone (ap (λ (u : View). u.parts) e ∙ all) in
-      let l = idle-lists m.0 at idle in
-      let c = ap (λ (u : View). lists at u) e in
-      let d = looked-lists m.0 at x at in omega arith,
+          let a = took.found.alone (ap (λ (u : View). u.parts) e ∙ all) in
+          let l = idle-lists m.0 at idle in
+          let c = ap (λ (u : View). lists at u) e in
+          let d = looked-lists m.0 at x at in omega arith,
     )
 
 -- ---- an edge is lacking
@@ -209,7 +217,11 @@ gets b t x y m n o told took free =
     let Q : View → Type 0 = λ w. Gets b m.0 t w in
     subst Q (sym f) (record {
       kept = record {
-        number = refl; made = refl; mine = refl; parts = refl; board = refl;
+        number = refl;
+        made = refl;
+        mine = refl;
+        parts = refl;
+        board = refl;
         looks = let h : (looked m.0 at x).looks ≡ m.0.looks + 1 = refl in omega arith;
       };
       held = refl;

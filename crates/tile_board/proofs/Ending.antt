@@ -45,9 +45,11 @@ dots-at b items has p tile = has (number_in b p) 3 (number-below (shape_of b) p 
 
 pub has-dots : (b : Slab) (items : List Cell) → IsShape (shape_of b) → Gives b items → (t : ℕ) → t < bands_of (shape_of b) * columns_of (shape_of b) → HasDotsAt items (4 * t + 3)
 has-dots b items sizes has t inside =
-    let p : Place = record { c = t % columns_of (shape_of b); j = t / columns_of (shape_of b) } in
-    ((gives b p).bits, ap (λ n. get_elem? items (4 * n + 3)) (sym (number-at (shape_of b) t))
-    ∙ dots-at b items has p (tile-at (shape_of b) t (some-columns b sizes) inside))
+    let p : Place = record { c = t % columns_of (shape_of b); j = t / columns_of (shape_of b) } in (
+      (gives b p).bits,
+      ap (λ n. get_elem? items (4 * n + 3)) (sym (number-at (shape_of b) t))
+          ∙ dots-at b items has p (tile-at (shape_of b) t (some-columns b sizes) inside),
+    )
 
 bottom-at : (b : Slab) (items : List Cell) → Gives b items → (p : Place) → IsTile (shape_of b) p → p.j + 1 ≡ bands_of (shape_of b)
     → get_elem? items (4 * number_in b p + 1) ≡ some (cell.Bottom (gives b p).band)

@@ -124,7 +124,7 @@ above-source s p tile below there =
       tile = record { column = there; band = let h : p.j < B = tile.band in omega arith };
       receiver = (refl, omega arith);
       number = from-is s p 1 tile ∙ only-yes (ltb (p.c + 1) C && ltb 0 p.j) (number_of s p + 1 - C) (number_of s (record { c = p.c + 1; j = p.j - 1 }))
-      (and-yes _ _ (lt-ltb (p.c + 1) C there) (lt-ltb 0 p.j below)) is;
+          (and-yes _ _ (lt-ltb (p.c + 1) C there) (lt-ltb 0 p.j below)) is;
       needed = (below, there);
       board = below;
     }

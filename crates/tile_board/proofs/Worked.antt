@@ -23,5 +23,5 @@ worked b task done is place inks works =
     record {
       inks = subst Inks (sym b.made_for.0) inks;
       done = subst At (sym place) (worked-done (slab b).kernel (amounts_of (slab b)) (top_edges (slab b)) task.place (handed task) (gave done)
-      (subst KernelWorks (sym b.made_for.1) (subst AllWork (sym b.made_for.0) works)) is.ready);
+          (subst KernelWorks (sym b.made_for.1) (subst AllWork (sym b.made_for.0) works)) is.ready);
     }

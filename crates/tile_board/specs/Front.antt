@@ -17,4 +17,3 @@ HasInFront {A} slot kind hand = (x : A) × (hand ≡ (slot, kind x) ∷ rest han
 pub record TakesOut (slot : ℕ) (m : Me Cell View) (cell : Cell) (n : Me Cell View) : Type 0 where
   pub front : m.1 ≡ (slot, cell) ∷ rest m.1
   pub after : n ≡ (m.0, rest m.1 ++ (slot, Empty) ∷ [])
-

@@ -140,5 +140,7 @@ impl<'a> Board<'a> {
 fn lacks_edge(needs: Needs, word: u64) -> bool
     ensures { IsTrue result ↔ Lacks needs word }
 {
-    needs.left && word % 2 == 0 || needs.above && word / 2 % 2 == 0 || needs.corner && word / 4 % 2 == 0
+    needs.left && word % 2 == 0
+        || needs.above && word / 2 % 2 == 0
+        || needs.corner && word / 4 % 2 == 0
 }

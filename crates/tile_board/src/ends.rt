@@ -93,7 +93,11 @@ impl<'a> Board<'a> {
             held: _,
             parts: _,
         } = p;
-        empty_all(board_steps::close(table, seat), shape, Closed { dots, bottom })
+        empty_all(
+            board_steps::close(table, seat),
+            shape,
+            Closed { dots, bottom },
+        )
     }
 }
 

@@ -12,3 +12,6 @@ mod receives;
 mod room;
 
 pub use kinds::{Board, Claim, Closed, Pass};
+
+#[cfg(test)]
+mod tests;

@@ -11,7 +11,9 @@ ghost use Rattle.tile_shape.specs.Geometry.{IsTile, columns_of};
 ghost use Rattle.tile_shape.specs.declared.tiles.Dir.TheVariants.{Bottom, Corner, Right};
 
 use crate::kinds::Board;
-use crate::room::{BOTTOM, CORNER, RIGHT, Room, slot_of, take_bottom, take_corner, take_right, take_room};
+use crate::room::{
+    BOTTOM, CORNER, RIGHT, Room, slot_of, take_bottom, take_corner, take_right, take_room,
+};
 use board_steps::Seated;
 use dot_planes::TileDots;
 use tile_border::{BottomEdge, CornerEdge, RightEdge, Task};

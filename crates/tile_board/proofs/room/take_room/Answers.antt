@@ -49,5 +49,5 @@ returns-clause-hand c =
     record {
       view = o3.view ∙ o2.view ∙ o1.view ∙ o0.view;
       hand = o3.hand ∙ regroup (comes b (setting_of b).content 0 t) (comes b (setting_of b).content 1 t) (comes b (setting_of b).content 2 t)
-      ((4 * t + 0, Empty) ∷ []) ((4 * t + 1, Empty) ∷ []) ((4 * t + 2, Empty) ∷ []) ((4 * t + 3, Empty) ∷ []);
+          ((4 * t + 0, Empty) ∷ []) ((4 * t + 1, Empty) ∷ []) ((4 * t + 2, Empty) ∷ []) ((4 * t + 3, Empty) ∷ []);
     }

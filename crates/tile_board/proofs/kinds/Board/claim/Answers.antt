@@ -50,6 +50,8 @@ returns-clause-claim c =
     let b = slab c.args.self.now in
     let told = told-at b c.args.t c.number-at.result c.look-word.result _ _ c.number-at.ensures.is c.requires.pass.1 c.look-word.ensures.looked in
     let took = took-at b c.args.t c.number-at.result c.take-word.result _ _ c.number-at.ensures.is (ap (λ (z : Me Cell View). z.0.board) c.look-word.ensures.looked.0 ∙ c.requires.pass.1) c.take-word.ensures.took in
-    let Q : View → Type 0 = λ w. Gets b c.args.p.now.seat.me.0 c.args.t w in
-    (subst Q (sym (ap (λ (z : Me Cell View). z.0) c.receive.ensures.hand)) (gets b c.args.t c.look-word.result c.take-word.result _ _ _ told took c.if-word-eq1-2.false),
-    c.receive.ensures.place, c.receive.ensures.task)
+    let Q : View → Type 0 = λ w. Gets b c.args.p.now.seat.me.0 c.args.t w in (
+      subst Q (sym (ap (λ (z : Me Cell View). z.0) c.receive.ensures.hand)) (gets b c.args.t c.look-word.result c.take-word.result _ _ _ told took c.if-word-eq1-2.false),
+      c.receive.ensures.place,
+      c.receive.ensures.task,
+    )

@@ -1,0 +1,350 @@
+//! Boards against the rule over a whole window, and what a few claims answer.
+ghost use Rattle.std.specs.Prelude.{IfSome, IsTrue, None, length, ℕ, ◌≡◌, ◌≤◌};
+ghost use Rattle.tile_board.specs.Board.{IsPassOf, slab, view};
+ghost use Rattle.tile_board.specs.Slabs.{IsTopOf, amounts_of, number_in, shape_of};
+ghost use Rattle.board_steps.specs.Rule.{times};
+ghost use Rattle.tile_shape.specs.Geometry.{IsShape, IsTile};
+ghost use Rattle.tile_shape.specs.declared.tiles.Place.{Place};
+
+mod definition;
+
+use crate::{Board, Claim, Closed, Pass};
+use definition::{Definition, amount_at};
+use diffusion_kernel::Kernel;
+use dot_planes::InkRows;
+use std::alloc::Global;
+use tile_border::{Task, TopEdges};
+use tile_shape::{Place, Shape};
+
+// Rows of a window from row `first` on, whose amounts jump about.
+fn amounts(alloc: Global, width: u32, first: u32, height: u32, inks: u8) -> Option<InkRows>
+    ensures width { IfSome result (λ rows. rows.width ≡ width) }
+    ensures inks { IfSome result (λ rows. rows.inks ≡ inks) }
+{
+    if width < 1 || width > 200 || height < 1 || height > 300 || inks < 1 || inks > 4 {
+        return None;
+    }
+    let Ok(mut rows) = InkRows::make(alloc, width, height, inks) else {
+        return None;
+    };
+    for i in 0..inks {
+        for y in 0..height {
+            set_row(&mut rows, i, first, y);
+        }
+    }
+    Some(rows)
+}
+
+fn set_row(rows: &mut InkRows, i: u8, first: u32, y: u32)
+    ensures width { rows.new.width ≡ rows.old.width }
+    ensures inks { rows.new.inks ≡ rows.old.inks }
+{
+    for x in 0..rows.width() {
+        if i < rows.inks() && y < rows.rows() && x < rows.width() {
+            rows.set(i, x, y, amount_at(i, x, first.wrapping_add(y)));
+        }
+    }
+}
+
+// No errors above rows.
+fn no_errors(alloc: Global, rows: &InkRows, inks: u8) -> Option<TopEdges>
+    requires { inks ≡ rows.now.inks }
+    ensures { IfSome result (IsTopOf rows.now) }
+{
+    if inks < 1 || inks > 4 {
+        return None;
+    }
+    match TopEdges::zero(alloc, rows.shape().columns(), inks) {
+        Ok(top) => Some(top),
+        Err(_) => None,
+    }
+}
+
+// Claims a tile for a pass that holds none, and works and posts it if it comes.
+fn try_tile(board: &Board<'_>, shape: Shape, p: &mut Pass, n: u32)
+    requires shape { shape ≡ shape_of (slab board.now) }
+    requires sizes { IsShape shape }
+    requires pass { IsPassOf board.now p.old }
+    ensures pass { IsPassOf board.now p.new }
+    ensures number { (view p.new).number ≡ (view p.old).number }
+{
+    if p.holds().is_some() {
+        return;
+    }
+    let columns = shape.columns();
+    let t = Place {
+        c: n % columns,
+        j: n / columns % shape.bands(),
+    };
+    if let Claim::Got(task) = board.claim(p, t) {
+        let done = board.work(task);
+        board.post(p, done);
+    }
+}
+
+// Tries so many tiles, in an order that jumps about.
+fn try_tiles(board: &Board<'_>, shape: Shape, p: &mut Pass, seed: u32, tries: u32)
+    requires shape { shape ≡ shape_of (slab board.now) }
+    requires sizes { IsShape shape }
+    requires pass { IsPassOf board.now p.old }
+    ensures pass { IsPassOf board.now p.new }
+    ensures number { (view p.new).number ≡ (view p.old).number }
+{
+    let mut n = seed;
+    for _ in 0..tries {
+        n = n.wrapping_mul(1664525).wrapping_add(1013904223);
+        try_tile(board, shape, p, n >> 8);
+    }
+}
+
+// Cuts so many passes off the first, has all of them try tiles in turn, and joins them, the last first.
+fn try_with(board: &Board<'_>, shape: Shape, p: &mut Pass, passes: u8)
+    requires shape { shape ≡ shape_of (slab board.now) }
+    requires sizes { IsShape shape }
+    requires pass { IsPassOf board.now p.old }
+    requires first { (view p.old).number ≡ 0 }
+    ensures pass { IsPassOf board.now p.new }
+    ensures number { (view p.new).number ≡ 0 }
+{
+    if passes == 0 || p.parts() < 2 {
+        return;
+    }
+    let mut q = board.split(p);
+    try_tiles(board, shape, &mut q, u32::from(passes), 20);
+    try_with(board, shape, p, passes - 1);
+    try_tiles(board, shape, &mut q, u32::from(passes), 20);
+    try_tiles(board, shape, p, u32::from(passes), 20);
+    if q.holds().is_none() {
+        board.join(p, q);
+    }
+}
+
+// Claims a tile, and works and posts it if it comes. Whether a pass that is alone has posted it then.
+fn has_posted(board: &Board<'_>, p: &mut Pass, t: Place) -> bool
+    requires tile { IsTile (shape_of (slab board.now)) t }
+    requires pass { IsPassOf board.now p.old }
+    requires idle { (view p.old).held ≡ None }
+    ensures pass { IsPassOf board.now p.new }
+    ensures idle { (view p.new).held ≡ None }
+    ensures parts { (view p.new).parts ≡ (view p.old).parts }
+    ensures more { (n : ℕ) → times n (view p.old).mine ≤ times n (view p.new).mine }
+    ensures posted { IsTrue result → (view p.old).parts ≡ 256 → 1 ≤ times (number_in (slab board.now) t) (view p.new).mine }
+{
+    match board.claim(p, t) {
+        Claim::Got(task) => {
+            let done = board.work(task);
+            board.post(p, done);
+            true
+        }
+        Claim::NotReady { .. } => false,
+        Claim::Gone { .. } => true,
+    }
+}
+
+// Works the tiles that are left, in order, with a pass that is alone. Whether it has posted all tiles then.
+fn finish(board: &Board<'_>, shape: Shape, p: &mut Pass) -> bool
+    requires shape { shape ≡ shape_of (slab board.now) }
+    requires sizes { IsShape shape }
+    requires pass { IsPassOf board.now p.old }
+    ensures pass { IsPassOf board.now p.new }
+    ensures all { IsTrue result → (t : Place) → IsTile (shape_of (slab board.now)) t → 1 ≤ times (number_in (slab board.now) t) (view p.new).mine }
+{
+    if p.holds().is_some() || p.parts() != 256 {
+        return false;
+    }
+    let columns = shape.columns();
+    for n in 0..shape.bands() * columns {
+        let t = Place {
+            c: n % columns,
+            j: n / columns,
+        };
+        if !has_posted(board, p, t) {
+            return false;
+        }
+    }
+    true
+}
+
+// Diffuses rows below a top on a board, by the first pass and so many others.
+fn diffuse(
+    alloc: Global,
+    kernel: Kernel,
+    rows: &InkRows,
+    top: TopEdges,
+    passes: u8,
+) -> Option<Closed>
+    requires { IsTopOf rows.now top }
+    ensures { IfSome result (λ closed. IsTopOf rows.now closed.bottom) }
+{
+    let Ok((board, mut p)) = Board::make(alloc, rows, kernel, top) else {
+        return None;
+    };
+    let shape = rows.shape();
+    try_with(&board, shape, &mut p, passes);
+    if finish(&board, shape, &mut p) {
+        Some(board.close(p))
+    } else {
+        None
+    }
+}
+
+// The dot of an ink at a pixel of the window.
+fn dot(closed: &Closed, shape: Shape, i: u8, x: u32, y: u32) -> Option<bool>
+    requires { IsShape shape }
+{
+    if x >= shape.width || y >= shape.height {
+        return None;
+    }
+    let t = shape.tile_of(x, y);
+    let n = (t.j as usize)
+        .wrapping_mul(shape.columns() as usize)
+        .wrapping_add(t.c as usize);
+    let d = closed.dots.get(n)?;
+    if d.place != t || i >= d.bits.inks() {
+        return None;
+    }
+    let row = y % 32;
+    let offset = x.wrapping_add(2 * row).wrapping_sub(t.c.wrapping_mul(64));
+    let at = (64 * row).wrapping_add(offset);
+    let byte = d.bits.ink(i).get((at / 8) as usize)?;
+    Some(*byte >> (7 - at % 8) & 1 == 1)
+}
+
+// How many dots of an ink are not what they should be, in rows that begin at row `first` of a window.
+fn wrong_dots(closed: &Closed, shape: Shape, known: &Definition, i: u8, first: u32) -> u32
+    requires { IsShape shape }
+{
+    let mut wrong = 0u32;
+    for y in 0..shape.height {
+        for x in 0..shape.width {
+            let wanted = known.dot(i64::from(x), i64::from(first.wrapping_add(y)));
+            if dot(closed, shape, i, x, y) != Some(wanted) {
+                wrong = wrong.wrapping_add(1);
+            }
+        }
+    }
+    wrong
+}
+
+// How many dots of a window are wrong, whose first 32 rows are a board and the rest another below it.
+fn wrong_in_slabs(
+    alloc: Global,
+    kernel: Kernel,
+    width: u32,
+    height: u32,
+    inks: u8,
+    passes: u8,
+) -> Option<u32> {
+    if height > 300 {
+        return None;
+    }
+    let rows = amounts(alloc, width, 0, 32, inks)?;
+    let rest = amounts(alloc, width, 32, height, inks)?;
+    let top = no_errors(alloc, &rows, inks)?;
+    let upper = diffuse(alloc, kernel, &rows, top, passes)?;
+    let mut wrong = 0u32;
+    for i in 0..inks {
+        let known = Definition::make(alloc, kernel, i, width, 32 + height)?;
+        wrong = wrong.wrapping_add(wrong_dots(&upper, rows.shape(), &known, i, 0));
+    }
+    let lower = diffuse(alloc, kernel, &rest, upper.bottom, passes)?;
+    for i in 0..inks {
+        let known = Definition::make(alloc, kernel, i, width, 32 + height)?;
+        wrong = wrong.wrapping_add(wrong_dots(&lower, rest.shape(), &known, i, 32));
+    }
+    Some(wrong)
+}
+
+#[test]
+fn boards_give_the_dots_of_the_whole_window(rt: HostRuntime) {
+    let windows = [
+        (1, 1, 1, 0),
+        (66, 1, 4, 1),
+        (200, 70, 1, 2),
+        (130, 39, 3, 8),
+        (64, 100, 2, 64),
+    ];
+    for kernel in [Kernel::Floyd, Kernel::Stucki] {
+        for (width, height, inks, passes) in windows {
+            let wrong = wrong_in_slabs(rt.alloc(), kernel, width, height, inks, passes);
+            assert_eq!(rt;
+                wrong,
+                Some(0),
+                "{kernel:?} at {width} by {height}, {passes} passes"
+            );
+        }
+    }
+}
+
+// 200 columns and 70 rows of amount 100.
+fn grey(alloc: Global) -> Option<InkRows>
+    ensures width { IfSome result (λ rows. rows.width ≡ 200) }
+    ensures rows { IfSome result (λ rows. rows.rows ≡ 70) }
+    ensures inks { IfSome result (λ rows. rows.inks ≡ 1) }
+{
+    let Ok(mut rows) = InkRows::make(alloc, 200, 70, 1) else {
+        return None;
+    };
+    for y in 0..70 {
+        rows.put_part(0, 0, y, &[100; 200]);
+    }
+    Some(rows)
+}
+
+// Whether every error that a tile is handed is 0.
+fn is_handed_zeros(task: &Task) -> bool
+    requires left { 1 ≤ length task.now.left }
+    requires above { 1 ≤ length task.now.above }
+    requires corner { 1 ≤ length task.now.corner }
+{
+    task.left.ink(0).iter().all(|e| *e == 0)
+        && task.above.ink(0).iter().all(|e| *e == 0)
+        && task.corner.ink(0).iter().all(|e| *e == 0)
+}
+
+#[test]
+fn claims_answer_by_what_was_taken_and_sent(rt: HostRuntime) {
+    let alloc = rt.alloc();
+    let Some(rows) = grey(alloc) else {
+        panic!(rt; "memory");
+    };
+    let Some(top) = no_errors(alloc, &rows, 1) else {
+        panic!(rt; "memory");
+    };
+    let Ok((board, mut p)) = Board::make(alloc, &rows, Kernel::Floyd, top) else {
+        panic!(rt; "memory");
+    };
+    let mut q = board.split(&mut p);
+    assert!(rt;
+        matches!(
+            board.claim(&mut p, Place { c: 1, j: 0 }),
+            Claim::NotReady { word: 0 }
+        )
+    );
+    let Claim::Got(task) = board.claim(&mut p, Place { c: 0, j: 0 }) else {
+        panic!(rt; "the first tile");
+    };
+    assert!(rt; is_handed_zeros(&task));
+    assert!(rt;
+        matches!(
+            board.claim(&mut q, Place { c: 0, j: 0 }),
+            Claim::Gone { word: 8 }
+        )
+    );
+    let done = board.work(task);
+    board.post(&mut p, done);
+    assert!(rt;
+        matches!(
+            board.claim(&mut q, Place { c: 0, j: 1 }),
+            Claim::NotReady { word: 4 }
+        )
+    );
+    assert!(rt;
+        matches!(
+            board.claim(&mut q, Place { c: 0, j: 0 }),
+            Claim::Gone { word: 24 }
+        )
+    );
+    assert_eq!(rt; (p.parts(), q.parts()), (255, 1));
+    assert_eq!(rt; (p.holds(), q.holds()), (None, None));
+}
