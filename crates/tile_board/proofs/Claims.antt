@@ -1,8 +1,8 @@
 -- What a claim tells its caller.
-use Rattle.std.proofs.Common.{◌≡◌, ◌≢◌, ℕ, zero, suc, ◌+◌, ◌-◌, ◌/◌, ◌%◌, ◌<◌, ◌≤◌, ◌⊎◌, ◌↔◌, ◌==◌, Bool, true, false, List, [], ◌∷◌, refl, sym, ap, ◌∙◌, subst, arith, Option, Some, None, inl, inr}
+use Rattle.std.proofs.Common.{◌≡◌, ℕ, ◌+◌, ◌/◌, ◌%◌, ◌<◌, ◌≤◌, ◌↔◌, ◌==◌, true, [], refl, sym, ap, ◌∙◌, subst, arith, Option, Some, None, inl, inr}
 use Rattle.std.proofs.lemmas.Bool.{cases_lt}
 use Rattle.atomic_table.specs.Table.{Me}
-use Rattle.tile_shape.specs.Geometry.{IsNeeded, IsReceiver, IsTile, bands_of, columns_of}
+use Rattle.tile_shape.specs.Geometry.{IsNeeded, IsTile, bands_of, columns_of}
 use Rattle.tile_shape.specs.declared.tiles.Dir.{Dir}
 use Rattle.tile_shape.specs.declared.tiles.Dir.TheVariants.{Right, Bottom, Corner}
 use Rattle.tile_shape.specs.declared.tiles.Needs.{Needs}
@@ -10,11 +10,11 @@ use Rattle.tile_shape.specs.declared.tiles.Place.{Place}
 use Rattle.tile_shape.specs.declared.tiles.Shape.{Shape}
 use Rattle.board_steps.specs.Graph.{Graph, graph_of, number_of}
 use Rattle.board_steps.specs.Rule.{Within, arrived, lists, one_if, posts, sends, setting_of, times}
-use Rattle.board_steps.specs.Steps.{FoundIn, HasNeeds, IsReadyFor, index_of, KnewIn, LookedIn, Looked, Took, TookIn, looked, taken}
+use Rattle.board_steps.specs.Steps.{HasNeeds, IsReadyFor, index_of, KnewIn, LookedIn, Looked, Took, TookIn, looked, taken}
 use Rattle.board_steps.specs.declared.rule.Cell.{Cell}
 use Rattle.board_steps.specs.declared.rule.Slab.{Slab}
 use Rattle.board_steps.specs.declared.rule.View.{View}
-use Rattle.tile_board.specs.Board.{Gets, Kept, Lacks, LacksEdge, Refused, arrival}
+use Rattle.tile_board.specs.Board.{Gets, Kept, Lacks, LacksEdge, Refused}
 use Rattle.tile_board.specs.Hand.{hand_of, held_number}
 use Rattle.tile_board.specs.Slabs.{number_in, shape_of}
 use Rattle.tile_board.proofs.Numbers.{IsSource, above-source, corner-source, left-source, no-above, no-corner, no-left}

@@ -1,21 +1,19 @@
 -- The slots of a closed board, emptied tile by tile.
-use Rattle.std.proofs.Common.{◌≡◌, ◌≢◌, ℕ, ℤ, zero, suc, ◌+◌, ◌-◌, ◌*◌, ◌/◌, ◌%◌, ◌<◌, ◌≤◌, Bool, false, List, [], ◌∷◌, ◌++◌, get_or, length, refl, sym, ◌∙◌, ap, ap₂, subst, inl, inr, arith, length-append, vec_capacity, div-add-mod', mod-lt}
+use Rattle.std.proofs.Common.{◌≡◌, ◌≢◌, ℕ, zero, suc, ◌+◌, ◌*◌, ◌/◌, ◌%◌, ◌<◌, ◌≤◌, List, [], ◌∷◌, ◌++◌, get_or, length, refl, sym, ◌∙◌, ap, subst, inl, inr, arith, length-append, vec_capacity, div-add-mod', mod-lt}
 use Rattle.std.proofs.lemmas.Bool.{cases_lt}
 use Rattle.std.proofs.Math.Nat.{div-lt_iff_lt-mul, mul-le-mul_left, mul_comm}
-use Rattle.std.specs.Slots.{slots_filled, slots_items, slots_len}
 use Rattle.std.specs.declared.alloc.Global.{Global}
 use mathlib.Core.Option.{some}
 use lib.ListN.{get_elem?}
 use Rattle.atomic_table.specs.declared.owned.Closed.{Closed as Rest}
 use Rattle.dot_planes.specs.declared.tiles.TileDots.{TileDots}
-use Rattle.tile_shape.specs.Geometry.{IsShape, IsTile, bands_of, columns_of}
+use Rattle.tile_shape.specs.Geometry.{IsTile, bands_of, columns_of}
 use Rattle.tile_shape.specs.declared.tiles.Place.{Place}
 use Rattle.tile_shape.specs.declared.tiles.Shape.{Shape}
 use Rattle.board_steps.specs.Graph.{number_of}
 use Rattle.board_steps.specs.declared.rule.Cell.{Cell}
-use Rattle.board_steps.specs.declared.rule.Cell.TheVariants.{Bottom, Dots}
 use Rattle.tile_board.specs.declared.kinds.Closed.{Closed}
-use Rattle.tile_board.specs.Emptying.{CanEmpty, EmptiedBefore, EmptiesTile, HasDotsAt, IsLeftBy}
+use Rattle.tile_board.specs.Emptying.{CanEmpty, EmptiedBefore, EmptiesTile, IsLeftBy}
 use Rattle.tile_board.proofs.Numbers.{column-is, number-below, row-is}
 
 -- ---- places

@@ -1,16 +1,13 @@
 -- What a closed board leaves.
-use Rattle.std.proofs.Common.{◌≡◌, ◌≢◌, ℕ, ℤ, zero, suc, ◌+◌, ◌-◌, ◌*◌, ◌/◌, ◌%◌, ◌<◌, ◌≤◌, List, [], get_or, length, map, refl, sym, ◌∙◌, ap, subst, arith, None}
+use Rattle.std.proofs.Common.{◌≡◌, ℕ, ℤ, ◌+◌, ◌-◌, ◌*◌, ◌/◌, ◌%◌, ◌<◌, ◌≤◌, List, [], get_or, length, refl, sym, ◌∙◌, ap, subst, arith, None}
 use Rattle.std.proofs.lemmas.List.{get_or-map, length-map}
 use mathlib.Core.Option.{some}
 use lib.ListN.{get_elem?}
-use Rattle.diffusion_definitions.specs.Diffusion.{Errors}
-use Rattle.dot_planes.specs.declared.tiles.TileDots.{TileDots}
-use Rattle.tile_shape.specs.Geometry.{IsReceiver, IsShape, IsTile, bands_of, columns_of}
+use Rattle.tile_shape.specs.Geometry.{IsShape, IsTile, bands_of, columns_of}
 use Rattle.tile_shape.specs.declared.tiles.Dir.TheVariants.{Bottom}
 use Rattle.tile_shape.specs.declared.tiles.Place.{Place}
 use Rattle.tile_edges.specs.Edges.{IsBottom}
 use Rattle.tile_border.specs.Inks.{errors_of}
-use Rattle.tile_border.specs.Tops.{edges_of}
 use Rattle.tile_content.specs.Content.{errors_below}
 use Rattle.tile_content.proofs.Given.{given-done, given-inks}
 use Rattle.board_steps.specs.Rule.{setting_of, times}
@@ -19,7 +16,7 @@ use Rattle.board_steps.specs.declared.rule.Cell.TheVariants as cell
 use Rattle.board_steps.specs.declared.rule.Slab.{Slab}
 use Rattle.board_steps.specs.declared.rule.View.{View}
 use Rattle.tile_board.specs.declared.kinds.Closed.{Closed}
-use Rattle.tile_board.specs.Closing.{AreDotsOf, Closes}
+use Rattle.tile_board.specs.Closing.{Closes}
 use Rattle.tile_board.specs.Emptying.{EmptiedBefore, HasDotsAt}
 use Rattle.tile_board.specs.Slabs.{amounts_of, number_in, shape_of, top_edges}
 use Rattle.tile_board.proofs.Emptied.{number-at, tile-at}

@@ -1,28 +1,24 @@
 -- What comes to a tile is what it should be.
-use Rattle.std.proofs.Common.{◌≡◌, ℕ, ℤ, pos, zero, suc, ◌+◌, ◌-◌, ◌*◌, ◌/◌, ◌%◌, ◌<◌, ◌≤◌, List, [], get_or, length, map, replicate, refl, sym, ◌∙◌, ap, subst, arith}
+use Rattle.std.proofs.Common.{◌≡◌, ℕ, ℤ, pos, ◌+◌, ◌<◌, ◌≤◌, List, [], get_or, length, replicate, sym, ◌∙◌, ap, subst, arith}
 use Rattle.std.proofs.Common.{inl, inr}
 use Rattle.std.proofs.lemmas.Bool.{cases_lt}
 use Rattle.std.proofs.lemmas.List.{get_or-map, get_or-replicate, get_or_past, length-map, length-replicate}
-use Rattle.diffusion_kernel.specs.declared.tables.Kernel.{Kernel}
-use Rattle.dot_planes.specs.Tables.{AmountTable}
-use Rattle.tile_shape.specs.Geometry.{IsNeeded, IsReceiver, IsTile, columns_of}
+use Rattle.tile_shape.specs.Geometry.{IsReceiver, IsTile, columns_of}
 use Rattle.tile_shape.specs.declared.tiles.Dir.{Dir}
 use Rattle.tile_shape.specs.declared.tiles.Dir.TheVariants.{Right, Bottom, Corner}
 use Rattle.tile_shape.specs.declared.tiles.Place.{Place}
-use Rattle.tile_edges.specs.Edges.{IsOnBoard, edge_length}
 use Rattle.tile_edges.specs.Tops.{IsCut}
 use Rattle.tile_edges.proofs.HandedLaws.{handed_right}
 use Rattle.tile_border.specs.Inks.{errors_of}
 use Rattle.tile_border.specs.Tops.{edges_of}
 use Rattle.tile_border.specs.Worked.{edge_of}
-use Rattle.tile_border.specs.Works.{Border, HasInks}
+use Rattle.tile_border.specs.Works.{Border}
 use Rattle.tile_border.specs.declared.task.Task.{Task}
 use Rattle.tile_content.specs.Content.{given}
 use Rattle.tile_content.specs.Tiles.{AreHanded, IsHandedTo}
 use Rattle.tile_content.proofs.Given.{given-inks, handed-ready}
 use Rattle.board_steps.specs.Content.{cell_of, content_of, place_of}
 use Rattle.board_steps.specs.Rule.{setting_of}
-use Rattle.board_steps.specs.declared.rule.Cell.{Cell}
 use Rattle.board_steps.specs.declared.rule.Slab.{Slab}
 use Rattle.tile_board.specs.Copies.{CutsEnds}
 use Rattle.tile_board.specs.Slabs.{IsTopOf, amounts_of, number_in, shape_of, top_edges}

@@ -1,5 +1,5 @@
 -- Hands of slots, from the front.
-use Rattle.std.proofs.Common.{◌≡◌, ℕ, ℤ, ◌+◌, ◌*◌, List, [], ◌∷◌, ◌++◌, Option, Some, None, refl, sym, ◌∙◌, ap, subst, append_assoc, append-nil}
+use Rattle.std.proofs.Common.{◌≡◌, ℕ, ℤ, ◌+◌, ◌*◌, List, [], ◌∷◌, ◌++◌, Some, None, refl, sym, ◌∙◌, ap, append_assoc, append-nil}
 use Rattle.atomic_table.specs.Table.{Me, rest}
 use Rattle.board_steps.specs.Rule.{setting_of}
 use Rattle.board_steps.specs.Steps.{incoming}
@@ -8,7 +8,7 @@ use Rattle.board_steps.specs.declared.rule.Cell.TheVariants.{Empty, Right, Botto
 use Rattle.board_steps.specs.declared.rule.Slab.{Slab}
 use Rattle.board_steps.specs.declared.rule.View.{View}
 use Rattle.tile_board.specs.Front.{HasInFront, IsFront, TakesOut}
-use Rattle.tile_board.specs.Room.{IsNext, TakesIn, comes, emptied}
+use Rattle.tile_board.specs.Room.{IsNext, TakesIn, emptied}
 
 abbrev pub Hand : Type 0
 Hand = List (ℕ × Cell)

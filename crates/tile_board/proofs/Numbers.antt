@@ -1,17 +1,15 @@
 -- Tiles by their numbers.
-use Rattle.std.proofs.Common.{◌≡◌, ℕ, zero, suc, ◌+◌, ◌-◌, ◌*◌, ◌/◌, ◌%◌, ◌^◌, ◌<◌, ◌≤◌, ◌&&◌, ◌⊎◌, Bool, true, false, ltb, Option, Some, None, refl, sym, ◌∙◌, ap, ap₂, arith, inl, inr}
+use Rattle.std.proofs.Common.{◌≡◌, ℕ, zero, suc, ◌+◌, ◌-◌, ◌*◌, ◌/◌, ◌%◌, ◌^◌, ◌<◌, ◌≤◌, ◌&&◌, ◌⊎◌, Bool, true, false, ltb, Some, None, refl, ◌∙◌, ap, ap₂, arith, inl, inr}
 use Rattle.std.proofs.Math.Nat.{mul_comm, mul-le-mul_left}
 use Rattle.std.proofs.lemmas.Bool.{cases_lt, lt-ltb, le-ltb}
 use Rattle.std.proofs.lemmas.Nat.{div-mul-add, mod-mul-add, mul-add-lt}
-use Rattle.pwg_definitions.specs.Limits.{most_columns, most_rows}
-use Rattle.tile_lanes.specs.Done.{window_of}
 use Rattle.tile_shape.specs.Geometry.{IsNeeded, IsReceiver, IsShape, IsTile, bands_of, columns_of}
 use Rattle.tile_shape.specs.declared.tiles.Dir.{Dir}
 use Rattle.tile_shape.specs.declared.tiles.Dir.TheVariants.{Right, Bottom, Corner}
 use Rattle.tile_shape.specs.declared.tiles.Place.{Place}
 use Rattle.tile_shape.specs.declared.tiles.Shape.{Shape}
 use Rattle.tile_edges.specs.Edges.{IsOnBoard}
-use Rattle.board_steps.specs.Graph.{from_in, from_of, graph_of, next_in, next_of, number_of, only_if}
+use Rattle.board_steps.specs.Graph.{from_of, graph_of, next_of, number_of, only_if}
 use Rattle.board_steps.specs.Steps.{index_of}
 
 pub row-is : (s : Shape) (p : Place) → IsTile s p → number_of s p / columns_of s ≡ p.j

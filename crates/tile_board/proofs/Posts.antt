@@ -1,16 +1,15 @@
 -- What a tile gives goes into its slots, and home.
-use Rattle.std.proofs.Common.{◌≡◌, ℕ, zero, suc, ◌+◌, ◌*◌, ◌<◌, ◌||◌, ◌==◌, Bool, true, false, List, [], ◌∷◌, ◌++◌, Option, Some, None, refl, sym, ◌∙◌, ap, subst, append_assoc, append-nil, eq-eqb, arith}
+use Rattle.std.proofs.Common.{◌≡◌, ℕ, zero, suc, ◌+◌, ◌*◌, ◌<◌, ◌||◌, ◌==◌, Bool, true, false, [], ◌∷◌, ◌++◌, Option, Some, None, refl, sym, ◌∙◌, ap, subst, append_assoc, append-nil, eq-eqb}
 use Rattle.std.proofs.lemmas.Bool.{ne_eqb}
 use Rattle.atomic_table.specs.Table.{Me, rest, turned}
 use Rattle.tile_shape.specs.Geometry.{IsTile, bands_of, columns_of}
-use Rattle.tile_shape.specs.declared.tiles.Dir.{Dir}
 use Rattle.tile_shape.specs.declared.tiles.Place.{Place}
 use Rattle.tile_border.specs.declared.task.Done.{Done}
 use Rattle.tile_content.specs.Tiles.{IsWhole}
 use Rattle.tile_content.proofs.Given.{given-is}
 use Rattle.board_steps.specs.Content.{cell_of}
 use Rattle.board_steps.specs.Rule.{has, setting_of}
-use Rattle.board_steps.specs.Steps.{AllSent, MayPost, MaySend, emptied_hand, incoming, own_slot, sent_view, SentTo}
+use Rattle.board_steps.specs.Steps.{AllSent, MayPost, emptied_hand, own_slot, sent_view, SentTo}
 use Rattle.board_steps.specs.declared.rule.Cell.{Cell}
 use Rattle.board_steps.specs.declared.rule.Cell.TheVariants.{Empty}
 use Rattle.board_steps.specs.declared.rule.Slab.{Slab}

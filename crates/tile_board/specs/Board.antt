@@ -5,7 +5,7 @@ use Rattle.tile_shape.specs.declared.tiles.Dir.{Dir}
 use Rattle.tile_shape.specs.declared.tiles.Dir.TheVariants.{Right, Bottom, Corner}
 use Rattle.tile_shape.specs.declared.tiles.Needs.{Needs}
 use Rattle.tile_shape.specs.declared.tiles.Place.{Place}
-use Rattle.board_steps.specs.Graph.{Graph, graph_of}
+use Rattle.board_steps.specs.Graph.{graph_of}
 use Rattle.board_steps.specs.Rule.{times}
 use Rattle.board_steps.specs.Steps.{KnewIn}
 use Rattle.board_steps.specs.declared.rule.Slab.{Slab}

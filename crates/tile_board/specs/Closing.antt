@@ -1,5 +1,5 @@
 -- What a board leaves.
-use Rattle.std.specs.Prelude.{◌≡◌, ℕ, ◌<◌, ◌*◌, ◌-◌, List, length, slice_index_or, []}
+use Rattle.std.specs.Prelude.{◌≡◌, ℕ, ◌<◌, ◌*◌, ◌-◌, length, slice_index_or, []}
 use mathlib.Core.Option.{some}
 use lib.ListN.{get_elem?}
 use Rattle.diffusion_kernel.specs.Tables.{table_of}

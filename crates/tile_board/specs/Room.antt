@@ -1,9 +1,8 @@
 -- How the slots of a tile, and those of the edges that come to it, are emptied and filled.
 use Rattle.std.specs.Prelude.{◌≡◌, ℕ, ◌+◌, ◌*◌, pos, List, [], ◌∷◌, ◌++◌, Option, Some, None, replicate}
 use Rattle.atomic_table.specs.Table.{Me, rest}
-use Rattle.tile_shape.specs.declared.tiles.Dir.{Dir}
 use Rattle.board_steps.specs.Rule.{setting_of}
-use Rattle.board_steps.specs.Steps.{incoming, index_of, own_slot, sent_view}
+use Rattle.board_steps.specs.Steps.{incoming, own_slot, sent_view}
 use Rattle.board_steps.specs.declared.rule.Cell.{Cell}
 use Rattle.board_steps.specs.declared.rule.Cell.TheVariants.{Empty}
 use Rattle.board_steps.specs.declared.rule.Slab.{Slab}

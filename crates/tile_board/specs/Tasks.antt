@@ -1,7 +1,5 @@
 -- Tiles that are handed out, and that come back.
-use Rattle.std.specs.Prelude.{◌≡◌}
 use Rattle.tile_shape.specs.Geometry.{IsTile}
-use Rattle.tile_shape.specs.declared.tiles.Place.{Place}
 use Rattle.tile_border.specs.Works.{Border, HasInks}
 use Rattle.tile_border.specs.declared.task.Task.{Task}
 use Rattle.tile_border.specs.declared.task.Done.{Done}

@@ -13,10 +13,12 @@ use Rattle.wavefront_team.specs.Laying.{AreTilesOf, LaysTiles}
 use Rattle.wavefront_team.proofs.Numbers.{is_tile_of, number_of-tile_of, one_tile, tile_of}
 
 -- the place of the tile at an index
-pub place_at : (s : Shape) (tiles : List TileDots) (n : ℕ) (tile : TileDots) → IsShape s → AreTilesOf s tiles → n < length tiles → tile ≡ get_or tiles n tile → tile.place ≡ tile_of s n
+pub place_at : (s : Shape) (tiles : List TileDots) (n : ℕ) (tile : TileDots) → IsShape s → AreTilesOf s tiles → n < length tiles
+    → tile ≡ get_or tiles n tile → tile.place ≡ tile_of s n
 place_at s tiles n tile sizes are inside is =
     let low : n < bands_of s * columns_of s = subst (λ m. n < m) are.count inside in
-    ap (λ (d : TileDots). d.place) is ∙ ap (λ m. (get_or tiles m tile).place) (sym (number_of-tile_of s n)) ∙ are.places (tile_of s n) tile (is_tile_of s n sizes low)
+    ap (λ (d : TileDots). d.place) is ∙ ap (λ m. (get_or tiles m tile).place) (sym (number_of-tile_of s n))
+    ∙ are.places (tile_of s n) tile (is_tile_of s n sizes low)
 
 pub lays_none : (s : Shape) (first : ℕ) (tiles : List TileDots) (t : DotTable) → LaysTiles s first 0 tiles t t
 lays_none s first tiles t = record {
@@ -26,14 +28,18 @@ lays_none s first tiles t = record {
 }
 
 pub lays_more : (s : Shape) (first n : ℕ) (tiles : List TileDots) (tile : TileDots) (old mid new : DotTable)
-    → IsShape s → AreTilesOf s tiles → n < length tiles → tile ≡ get_or tiles n tile → old.width ≡ s.width → first + s.height ≤ old.rows
-    → LaysTiles s first n tiles old mid → PutsTile mid new first s.height tile.place tile.bits → LaysTiles s first (n + 1) tiles old new
+    → IsShape s → AreTilesOf s tiles → n < length tiles → tile ≡ get_or tiles n tile → old.width ≡ s.width
+    → first + s.height ≤ old.rows → LaysTiles s first n tiles old mid → PutsTile mid new first s.height tile.place tile.bits → LaysTiles s first (n + 1) tiles old new
 lays_more s first n tiles tile old mid new sizes are inside is wide tall lays puts =
     let q : Place = tile_of s n in
     let place : tile.place ≡ q = place_at s tiles n tile sizes are inside is in
     let low : n < bands_of s * columns_of s = subst (λ m. n < m) are.count inside in
     record {
-      size = record { width = puts.size.width ∙ lays.size.width; rows = puts.size.rows ∙ lays.size.rows; inks = puts.size.inks ∙ lays.size.inks };
+      size = record {
+        width = puts.size.width ∙ lays.size.width;
+        rows = puts.size.rows ∙ lays.size.rows;
+        inks = puts.size.inks ∙ lays.size.inks;
+      };
       pixels = λ i row offset x y p d ink in_window before pixel at. elim (cases_eq (number_of s p) n) [
         | inl same ↦
             let mine : get_or tiles (number_of s p) d ≡ tile = ap (λ m. get_or tiles m d) same ∙ get_or_default tiles n d tile inside ∙ sym is in
@@ -75,8 +81,8 @@ tile_in s w first n tiles tile old mid same sizes are inside is wide lays =
     (subst (λ (p : Place). IsTile w p) (sym (place_at w tiles n tile z are inside is)) (is_tile_of w n z low))
 
 pub lays_next : (s w : Shape) (first n : ℕ) (tiles : List TileDots) (tile : TileDots) (old mid new : DotTable)
-    → s ≡ w → IsShape s → AreTilesOf w tiles → n < length tiles → tile ≡ get_or tiles n tile → old.width ≡ w.width → first + w.height ≤ old.rows
-    → LaysTiles w first n tiles old mid → PutsTile mid new first s.height tile.place tile.bits → LaysTiles w first (n + 1) tiles old new
+    → s ≡ w → IsShape s → AreTilesOf w tiles → n < length tiles → tile ≡ get_or tiles n tile → old.width ≡ w.width
+    → first + w.height ≤ old.rows → LaysTiles w first n tiles old mid → PutsTile mid new first s.height tile.place tile.bits → LaysTiles w first (n + 1) tiles old new
 lays_next s w first n tiles tile old mid new same sizes are inside is wide tall lays puts =
     let P : ℕ → Type 0 = λ h. PutsTile mid new first h tile.place tile.bits in
     lays_more w first n tiles tile old mid new (subst (λ (r : Shape). IsShape r) same sizes) are inside is wide tall lays

@@ -11,14 +11,16 @@ use Rattle.tile_shape.specs.declared.tiles.Place.{Place}
 use Rattle.wavefront_team.proofs.Numbers.{source_before}
 
 -- a pass that has posted all tiles before this one does not lack an edge of it
-pub lacks_none : (b : Slab) (v : View) (t : Place) (word : ℕ) → LacksEdge b v t word → ((n : ℕ) → n < number_in b t → 1 ≤ times n v.mine) → ⊥
+pub lacks_none : (b : Slab) (v : View) (t : Place) (word : ℕ) → LacksEdge b v t word
+    → ((n : ℕ) → n < number_in b t → 1 ≤ times n v.mine) → ⊥
 lacks_none b v t word lacks before =
     let some = before (number_in b lacks.from) (source_before (shape_of b) lacks.dir lacks.from t lacks.tile lacks.receiver) in
     let none = lacks.not_mine in
     omega arith
 
 -- one tile more
-pub posted_more : (v w : View) (t : ℕ) → w.mine ≡ v.mine → 1 ≤ times t v.mine → ((n : ℕ) → n < t → 1 ≤ times n v.mine) → (n : ℕ) → n < t + 1 → 1 ≤ times n w.mine
+pub posted_more : (v w : View) (t : ℕ) → w.mine ≡ v.mine → 1 ≤ times t v.mine → ((n : ℕ) → n < t → 1 ≤ times n v.mine)
+    → (n : ℕ) → n < t + 1 → 1 ≤ times n w.mine
 posted_more v w t same here before n low =
     let Q : ℕ → Type 0 = λ m. 1 ≤ m in
     subst Q (sym (ap (times n) same)) (elim (cases_eq n t) [
@@ -37,5 +39,6 @@ pub posted_after : (v u w : View) (n m : ℕ) → w ≡ posted_view u n → u.mi
     → ((k : ℕ) → k < m → 1 ≤ times k v.mine) → (k : ℕ) → k < m + 1 → 1 ≤ times k w.mine
 posted_after v u w n m is same number before k low =
     let W : View → Type 0 = λ x. 1 ≤ times k x.mine in
-    let earlier : (l : ℕ) → l < n → 1 ≤ times l u.mine = λ l less. let h = before l (omega arith) in let e = ap (times l) same in omega arith in
+    let earlier : (l : ℕ) → l < n → 1 ≤ times l u.mine = λ l less.
+    let h = before l (omega arith) in let e = ap (times l) same in omega arith in
     subst W (sym is) (posted_now u n earlier k (omega arith))

@@ -50,11 +50,13 @@ tiles_are b r rows are closes =
 -- ---- errors
 
 -- errors that solve the rule below the top are those that the definition has
-pub errors_are : (k : Kernel) (rows : AmountTable) (top : List (List (List ℤ))) (i : ℕ) (e : Errors) → AreSlabErrors (table_of k) rows top i e → errors_below k rows top i ≡ e
+pub errors_are : (k : Kernel) (rows : AmountTable) (top : List (List (List ℤ))) (i : ℕ) (e : Errors)
+    → AreSlabErrors (table_of k) rows top i e → errors_below k rows top i ≡ e
 unfolding errors
 errors_are k rows top i e are =
     let f : Errors = errors_below k rows top i in
-    let same = unique (table_of k) (plane_of rows i) f e (errors_solve (table_of k) (plane_of rows i) (top_of (edges_of top i))) are.solves
+    let solves = errors_solve (table_of k) (plane_of rows i) (top_of (edges_of top i)) in
+    let same = unique (table_of k) (plane_of rows i) f e solves are.solves
     (λ n. sym (are.below 0 n (omega arith))) (λ n. sym (are.below 1 n (omega arith))) in
     λ t y n. same y n t
 
@@ -63,13 +65,17 @@ pub slab_diffused : (b : Slab) (r : Closed) (k : Kernel) (rows : AmountTable) (t
     → LaysTiles (window_of rows) first (length r.dots.items) r.dots.items old new → DiffusesSlab (table_of k) rows top r.bottom first old new
 slab_diffused b r k rows top first old new amounts kernel edges inks closes lays =
     let D : AmountTable → Kernel → List (List (List ℤ)) → Type 0 = λ a m u. DiffusesSlab (table_of m) a u r.bottom first old new in
-    subst (λ (a : AmountTable). D a k top) amounts (subst (λ (m : Kernel). D (amounts_of b) m top) kernel (subst (λ (u : List (List (List ℤ))). D (amounts_of b) b.kernel u) edges (
+    let A : AmountTable → Type 0 = λ a. D a k top in
+    let K : Kernel → Type 0 = λ m. D (amounts_of b) m top in
+    let T : List (List (List ℤ)) → Type 0 = λ u. D (amounts_of b) b.kernel u in
+    subst A amounts (subst K kernel (subst T edges (
     let L : AmountTable → Type 0 = λ a. LaysTiles (window_of a) first (length r.dots.items) r.dots.items old new in
     on_board b r first old new (inks ∙ ap (λ (a : AmountTable). a.inks) (sym amounts)) closes (subst L (sym amounts) lays)
     )))
   where
     on_board : (b : Slab) (r : Closed) (first : ℕ) (old new : DotTable) → old.inks ≡ (amounts_of b).inks → Closes b r
-        → LaysTiles (shape_of b) first (length r.dots.items) r.dots.items old new → DiffusesSlab (table_of b.kernel) (amounts_of b) (top_edges b) r.bottom first old new
+        → LaysTiles (shape_of b) first (length r.dots.items) r.dots.items old new
+        → DiffusesSlab (table_of b.kernel) (amounts_of b) (top_edges b) r.bottom first old new
     on_board b r first old new inks closes lays = record {
       size = lays.size;
       dots = λ i e are y x low inside.

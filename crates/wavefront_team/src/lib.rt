@@ -10,3 +10,6 @@ mod worker;
 
 pub use gate::{Gate, OpenGate};
 pub use team::diffuse;
+
+#[cfg(test)]
+mod tests;

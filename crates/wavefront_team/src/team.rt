@@ -20,9 +20,9 @@ use tile_border::TopEdges;
 use tile_shape::Shape;
 use weave_base::Memory;
 
-/// Diffuses a slab below its top by so many workers, and puts its dots into rows `at` and on of the planes. The answer is
+/// Diffuses a slab below its top by 1 to 64 workers, and puts its dots into rows `at` and on of the planes. The answer is
 /// the top of the rows below the slab, where its rows are whole bands of 32. One worker is the caller itself, and more
-/// are threads. What they leave, as where no thread can be started, the caller works.
+/// are threads; what these leave, the caller works. Whoever works a tile enters the gate first.
 ///
 /// After `Memory` the planes are unchanged.
 pub fn diffuse<R: Threads + Sync, G: Gate + Sync>(

@@ -1,4 +1,4 @@
-use Rattle.std.proofs.Common.{◌≡◌, ℕ, ◌+◌, ◌*◌, ◌<◌, ◌≤◌, refl, sym, ◌∙◌, ap, arith}
+use Rattle.std.proofs.Common.{◌≡◌, ◌*◌, refl, ◌∙◌, ap, arith}
 use Rattle.tile_shape.specs.Geometry.{bands_of, columns_of}
 use Rattle.tile_board.proofs.Emptied.{emptied-items, left-at, left-first}
 use Rattle.tile_board.proofs.emptying.empty_all.Goals as goal

@@ -1,12 +1,11 @@
-use Rattle.std.proofs.Common.{◌≡◌, ℕ, ℤ, pos, ◌+◌, ◌*◌, List, [], ◌∷◌, ◌++◌, replicate, refl, sym, ◌∙◌, ap}
+use Rattle.std.proofs.Common.{ℕ, pos, ◌+◌, ◌*◌, [], ◌∷◌, replicate, ◌∙◌, ap}
 use Rattle.board_steps.specs.Content.{fresh_of}
-use Rattle.board_steps.specs.declared.rule.Cell.{Cell}
 use Rattle.board_steps.specs.declared.rule.Cell.TheVariants.{Bottom, Corner, Dots, Empty, Right}
 use Rattle.board_steps.specs.declared.rule.Slab.{Slab}
 use Rattle.board_steps.specs.Rule.{setting_of}
 use Rattle.tile_board.specs.Room.{comes}
 use Rattle.tile_board.specs.Slabs.{amounts_of}
-use Rattle.tile_board.proofs.Hands.{Hand, Out, bottom_in, corner_in, dots_in, front-is, out-is, regroup, right_in}
+use Rattle.tile_board.proofs.Hands.{bottom_in, corner_in, dots_in, front-is, out-is, regroup, right_in}
 use Rattle.tile_board.proofs.room.take_room.Goals as goal
 
 pub take_right-right-requires-clause-front : goal.take_right-right-requires-clause-front

@@ -14,7 +14,9 @@ lay_tiles-requires-clause-tiles g c =
 
 pub returns-clause-slab : goal.returns-clause-slab
 returns-clause-slab g c =
-    let L : List TileDots → Type 0 = λ tiles. LaysTiles (window_of c.args.rows.now) c.args.at (length tiles) tiles c.args.out.now c.lay_tiles.new.out in
-    slab_diffused (slab c.in_ok-board.board) c.close-closed.result c.args.kernel c.args.rows.now c.args.top c.args.at c.args.out.now c.lay_tiles.new.out
+    let L : List TileDots → Type 0 = λ tiles.
+    LaysTiles (window_of c.args.rows.now) c.args.at (length tiles) tiles c.args.out.now c.lay_tiles.new.out in
+    slab_diffused (slab c.in_ok-board.board) c.close-closed.result c.args.kernel c.args.rows.now c.args.top c.args.at
+    c.args.out.now c.lay_tiles.new.out
     c.in_ok-board.ensures.amounts c.in_ok-board.ensures.kernel c.in_ok-board.ensures.top c.requires.inks c.close-closed.ensures.closes
     (subst L c.as_slice.ensures.value c.lay_tiles.ensures)

@@ -17,7 +17,8 @@ use Rattle.wavefront_team.proofs.work.work_band.Goals.{in-Got, in-Gone}
 
 pub unreachable-requires : goal.unreachable-requires
 unreachable-requires g c =
-    lacks_none (slab c.args.board.now) (view c.loop-c.pass) (record { c = c.loop-c.c; j = c.args.j }) c.in-NotReady.word c.in-NotReady.ensures.claim.2 c.loop-c.invariant.posted
+    lacks_none (slab c.args.board.now) (view c.loop-c.pass) (record { c = c.loop-c.c; j = c.args.j }) c.in-NotReady.word
+    c.in-NotReady.ensures.claim.2 c.loop-c.invariant.posted
 
 pub loop-c-preserved : goal.loop-c-preserved
 loop-c-preserved g c =
@@ -41,14 +42,16 @@ loop-c-preserved g c =
               ap (λ (v : View). v.parts) is ∙ told.0.kept.parts ∙ c.loop-c.invariant.pass.2,
             );
             posted = λ k low. subst (T k) (sym w.pass-is)
-                (posted_after (view c.loop-c.pass) (view c.claim.new.p) (view w.work_held.new.pass) (number_in s w.in-Got.task.place) n is told.0.kept.mine number c.loop-c.invariant.posted k (low_in k low));
+                (posted_after (view c.loop-c.pass) (view c.claim.new.p) (view w.work_held.new.pass) (number_in s w.in-Got.task.place) n
+                is told.0.kept.mine number c.loop-c.invariant.posted k (low_in k low));
           }
       | in-Gone w ↦
           let told = w.in-Gone.ensures.claim in
           record {
             pass = subst A (sym w.pass-is) (c.claim.ensures.pass, told.0.held, told.0.kept.parts ∙ c.loop-c.invariant.pass.2);
             posted = λ k low. subst (T k) (sym w.pass-is)
-                (posted_more (view c.loop-c.pass) (view c.claim.new.p) n told.0.kept.mine (let once = told.2 c.loop-c.invariant.pass.2 in omega arith) c.loop-c.invariant.posted k (low_in k low));
+                (posted_more (view c.loop-c.pass) (view c.claim.new.p) n told.0.kept.mine
+                (let once = told.2 c.loop-c.invariant.pass.2 in omega arith) c.loop-c.invariant.posted k (low_in k low));
           }
     ]
 

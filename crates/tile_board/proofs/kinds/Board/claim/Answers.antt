@@ -2,10 +2,8 @@ use Rattle.std.proofs.Common.{◌≡◌, true, false, ap, sym, ◌∙◌, subst}
 use Rattle.atomic_table.specs.Table.{Me}
 use Rattle.board_steps.specs.declared.rule.Cell.{Cell}
 use Rattle.board_steps.specs.declared.rule.View.{View}
-use Rattle.tile_shape.specs.Geometry.{IsNeeded}
 use Rattle.tile_board.specs.Board.{Gets, slab}
-use Rattle.tile_board.specs.Slabs.{number_in, shape_of}
-use Rattle.tile_board.proofs.Claims.{PassOk, gets, gone-first, gone-second, looked-ok, not-ready, ready-for, told-at, took-at}
+use Rattle.tile_board.proofs.Claims.{gets, gone-first, gone-second, looked-ok, not-ready, ready-for, told-at, took-at}
 use Rattle.tile_board.proofs.Shapes.{needs-of}
 use Rattle.tile_board.proofs.kinds.Board.claim.Goals as goal
 

@@ -1,4 +1,4 @@
-use Rattle.std.proofs.Common.{◌≡◌, ◌*◌, sym, subst}
+use Rattle.std.proofs.Common.{◌*◌, sym, subst}
 use Rattle.std.specs.Slots.{slots_items}
 use Rattle.tile_shape.specs.Geometry.{bands_of, columns_of}
 use Rattle.tile_shape.specs.declared.tiles.Shape.{Shape}

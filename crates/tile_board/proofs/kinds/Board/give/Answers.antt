@@ -1,17 +1,14 @@
-use Rattle.std.proofs.Common.{◌≡◌, ℕ, ◌+◌, ◌*◌, Option, Some, None, ap, sym, ◌∙◌}
+use Rattle.std.proofs.Common.{Some, ap, sym, ◌∙◌}
 use Rattle.atomic_table.specs.Table.{Me}
 use Rattle.board_steps.specs.Rule.{has}
 use Rattle.board_steps.specs.Steps.{index_of}
 use Rattle.board_steps.specs.declared.rule.Cell.{Cell}
 use Rattle.board_steps.specs.declared.rule.View.{View}
-use Rattle.tile_shape.specs.Geometry.{IsTile}
-use Rattle.tile_shape.specs.declared.tiles.Shape.{Shape}
-use Rattle.tile_shape.specs.declared.tiles.Place.{Place}
 use Rattle.tile_board.specs.Board.{slab}
 use Rattle.tile_board.specs.Slabs.{number_in, shape_of}
 use Rattle.tile_board.proofs.Numbers.{next-none, next-some, number-below}
 use Rattle.tile_board.proofs.Posts.{kept-gives, put-front, sent-gives, slot-at}
-use Rattle.tile_board.proofs.Shapes.{none-there, shape-is, tile-there}
+use Rattle.tile_board.proofs.Shapes.{none-there, tile-there}
 use Rattle.tile_board.proofs.kinds.Board.give.Goals as goal
 
 pub send-requires-clause-edge : goal.send-requires-clause-edge

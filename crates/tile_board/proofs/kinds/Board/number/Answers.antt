@@ -1,5 +1,4 @@
-use Rattle.std.proofs.Common.{◌≡◌, ℕ, ◌+◌, ◌*◌, ◌<◌, ◌^◌, ap, sym, ◌∙◌, arith}
-use Rattle.tile_shape.specs.Geometry.{IsShape, columns_of, bands_of}
+use Rattle.std.proofs.Common.{◌≡◌, ◌+◌, ◌*◌, ap, arith}
 use Rattle.tile_board.specs.Board.{slab}
 use Rattle.tile_board.specs.Slabs.{number_in, shape_of}
 use Rattle.tile_board.proofs.Numbers.{few-tiles, number-below}

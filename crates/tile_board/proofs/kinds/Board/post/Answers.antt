@@ -1,7 +1,4 @@
-use Rattle.std.proofs.Common.{◌≡◌, ap, sym, ◌∙◌}
-use Rattle.tile_shape.specs.Geometry.{IsTile}
 use Rattle.tile_board.specs.Board.{slab}
-use Rattle.tile_board.specs.Slabs.{number_in, shape_of}
 use Rattle.tile_board.proofs.Posts.{gave-cell, held-tile, may-post}
 use Rattle.tile_board.proofs.kinds.Board.post.Goals as goal
 

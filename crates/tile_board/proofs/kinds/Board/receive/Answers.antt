@@ -1,4 +1,4 @@
-use Rattle.std.proofs.Common.{◌≡◌, pos, replicate, length, ap, ◌∙◌}
+use Rattle.std.proofs.Common.{replicate, length, ap, ◌∙◌}
 use Rattle.std.proofs.lemmas.List.{length-replicate}
 use Rattle.tile_board.specs.Board.{slab}
 use Rattle.tile_board.specs.Slabs.{amounts_of}

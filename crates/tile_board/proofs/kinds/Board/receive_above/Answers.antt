@@ -1,4 +1,4 @@
-use Rattle.std.proofs.Common.{◌≡◌, ℕ, ℤ, ◌+◌, ◌-◌, ◌*◌, ◌<◌, ◌≤◌, List, [], get_or, ap, sym, ◌∙◌, inl, inr, arith}
+use Rattle.std.proofs.Common.{ℤ, ◌+◌, ◌-◌, ◌*◌, ◌<◌, ◌≤◌, List, [], get_or, ap, sym, ◌∙◌, inl, inr, arith}
 use Rattle.board_steps.specs.declared.rule.Cell.TheVariants as cell
 use Rattle.tile_shape.specs.Geometry.{columns_of}
 use Rattle.tile_shape.specs.declared.tiles.Dir.TheVariants.{Bottom}

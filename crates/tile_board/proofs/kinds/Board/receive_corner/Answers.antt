@@ -1,4 +1,4 @@
-use Rattle.std.proofs.Common.{◌≡◌, ℕ, ℤ, pos, ◌+◌, ◌-◌, ◌*◌, ◌<◌, List, [], get_or, length, replicate, ap, sym, ◌∙◌, arith}
+use Rattle.std.proofs.Common.{ℤ, pos, ◌+◌, ◌-◌, ◌*◌, List, [], get_or, length, replicate, ap, sym, ◌∙◌, arith}
 use Rattle.std.proofs.lemmas.List.{length-replicate}
 use Rattle.board_steps.specs.declared.rule.Cell.TheVariants as cell
 use Rattle.tile_shape.specs.declared.tiles.Dir.TheVariants.{Corner}
@@ -6,8 +6,8 @@ use Rattle.tile_shape.specs.declared.tiles.Place.{Place}
 use Rattle.tile_board.specs.Board.{slab}
 use Rattle.tile_board.specs.Slabs.{amounts_of, number_in, shape_of}
 use Rattle.tile_board.proofs.Handed.{content-is, gives, handed-by, handed-end}
-use Rattle.tile_board.proofs.Hands.{came, corner_in, next-cell, next-front, stayed}
-use Rattle.tile_board.proofs.Numbers.{corner-source, no-corner}
+use Rattle.tile_board.proofs.Hands.{came, corner_in, next-cell, next-front}
+use Rattle.tile_board.proofs.Numbers.{corner-source}
 use Rattle.tile_board.proofs.Shapes.{top-of}
 use Rattle.tile_board.proofs.kinds.Board.receive_corner.Goals as goal
 

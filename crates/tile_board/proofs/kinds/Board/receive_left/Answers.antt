@@ -1,4 +1,4 @@
-use Rattle.std.proofs.Common.{◌≡◌, ℕ, ◌+◌, ◌-◌, ◌*◌, ◌<◌, ap, sym, ◌∙◌, arith}
+use Rattle.std.proofs.Common.{◌+◌, ◌-◌, ◌*◌, ap, ◌∙◌, arith}
 use Rattle.board_steps.specs.declared.rule.Cell.TheVariants as cell
 use Rattle.tile_shape.specs.declared.tiles.Dir.TheVariants.{Right}
 use Rattle.tile_shape.specs.declared.tiles.Place.{Place}
@@ -6,7 +6,7 @@ use Rattle.tile_board.specs.Board.{slab}
 use Rattle.tile_board.specs.Slabs.{number_in, shape_of}
 use Rattle.tile_board.proofs.Handed.{content-is, gives, handed-by, handed-first}
 use Rattle.tile_board.proofs.Hands.{came, next-cell, next-front, right_in, stayed}
-use Rattle.tile_board.proofs.Numbers.{IsSource, left-source, no-left}
+use Rattle.tile_board.proofs.Numbers.{left-source, no-left}
 use Rattle.tile_board.proofs.kinds.Board.receive_left.Goals as goal
 
 pub returns-then-t-eq0-clause-edge : goal.returns-then-t-eq0-clause-edge

@@ -1,4 +1,3 @@
-use Rattle.std.proofs.Common.{◌≡◌, ℕ, ◌<◌, ap, sym, ◌∙◌, subst, refl}
 use Rattle.tile_board.proofs.Worked.{worked}
 use Rattle.tile_board.proofs.kinds.Board.work.Goals as goal
 

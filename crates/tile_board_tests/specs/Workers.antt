@@ -1,0 +1,12 @@
+-- Passes that threads work with.
+use Rattle.std.specs.Prelude.{◌≡◌, ℕ, ◌<◌, None, List, length, slice_index_or}
+use Rattle.tile_board.specs.Board.{IsPassOf, view}
+use Rattle.tile_board.specs.declared.kinds.Board.{Board}
+use Rattle.tile_board.specs.declared.kinds.Pass.{Pass}
+
+-- a pass of the board that holds nothing
+abbrev pub IsIdle : Board → Pass → Type 0
+IsIdle b p = IsPassOf b p × ((view p).held ≡ None)
+
+abbrev pub AllIdle : Board → List Pass → Type 0
+AllIdle b ps = (k : ℕ) (d : Pass) → k < length ps → IsIdle b (slice_index_or ps k d)
