@@ -14,10 +14,10 @@ pub play-requires-clause-most : goal.play-requires-clause-most
 play-requires-clause-most g c = omega (arith, most_of_job c.args.words.now c.in_ok-job.job (sym c.in_ok-job.ensures))
 
 pub print_pages-requires-clause-some_workers : goal.print_pages-requires-clause-some_workers
-print_pages-requires-clause-some_workers g c = λ others. (workers_of_job c.args.words.now c.in_ok-job.job (sym c.in_ok-job.ensures)).some
+print_pages-requires-clause-some_workers g c = λ others lives. (workers_of_job c.args.words.now c.in_ok-job.job (sym c.in_ok-job.ensures)).some
 
 pub print_pages-requires-clause-most_workers : goal.print_pages-requires-clause-most_workers
-print_pages-requires-clause-most_workers g c = λ others. (workers_of_job c.args.words.now c.in_ok-job.job (sym c.in_ok-job.ensures)).most
+print_pages-requires-clause-most_workers g c = λ others lives. (workers_of_job c.args.words.now c.in_ok-job.job (sym c.in_ok-job.ensures)).most
 
 pub returns-in-List-clause-outcome : goal.returns-in-List-clause-outcome
 returns-in-List-clause-outcome g c =
