@@ -99,7 +99,7 @@ impl Lines {
     // Diffuses each ink of the line in hand.
     fn diffuse(&mut self) {
         for (i, ink) in self.inks.iter_mut().enumerate() {
-            if i < usize::from(self.row.inks()) {
+            if i < usize::from(self.row.inks()) && self.row.rows() > 0 {
                 ink.diffuse(self.kernel, self.row.row(i as u8, 0));
             }
         }
@@ -133,7 +133,7 @@ fn separate(
     let unit = if kind == Kind::Rgb8 { 3 } else { 1 };
     let inside = (window.left as usize + window.width as usize) * unit <= line.len();
     let fits = row.width() == window.width && row.inks() == profile.inks.count();
-    if inside && fits && row.rows() > 0 {
+    if inside && fits && window.width <= MOST_COLUMNS && row.rows() > 0 {
         amounts_by(profile, black, kind, line, window, 0, row);
     }
 }

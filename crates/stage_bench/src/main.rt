@@ -30,7 +30,9 @@ fn words_of(rt: &HostRuntime) -> Option<(String, Words)> {
     let mut words = Words::make(rt.alloc());
     words.push("print").ok()?;
     for word in line.take(3) {
-        words.push(&word).ok()?;
+        if words.len() < 4 {
+            words.push(&word).ok()?;
+        }
     }
     Some((stage, words))
 }

@@ -11,6 +11,7 @@ use ink_separation::BlackTable;
 use printer_profile::Profile;
 use pwg_definitions::MOST_ROWS;
 use pwg_stream::{PageReader, StreamStop};
+use separation_definitions::Window;
 use std::alloc::Global;
 use std::thread::Threads;
 use wavefront_team::OpenGate;
@@ -108,12 +109,20 @@ fn next_page<S: Source>(
     reader: &mut PageReader,
     input: &mut S,
 ) -> Result<Option<Page>, StreamStop>
+    requires checked { IsOk (check profile.now) }
     requires none_left { lines_left_of reader.old ≡ 0 }
 {
     let Some(form) = reader.next_page(input, profile.wanted())? else {
         return Ok(None);
     };
-    let window = profile.window(form);
+    let across = u32::from(profile.left) + u32::from(profile.right);
+    let down = u32::from(profile.top) + u32::from(profile.bottom);
+    let window = Window {
+        left: u32::from(profile.left),
+        top: u32::from(profile.top),
+        width: form.width.saturating_sub(across),
+        height: form.height.saturating_sub(down),
+    };
     Ok(Some(Page { form, window }))
 }
 
