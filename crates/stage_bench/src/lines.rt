@@ -78,7 +78,7 @@ impl Lines {
     {
         let window = self.page.window;
         let top = u64::from(window.top);
-        let printed = top <= self.lines && self.lines < top + u64::from(window.height);
+        let printed = top <= self.lines && self.lines - top < u64::from(window.height);
         self.lines = self.lines.saturating_add(1);
         if self.stage == Stage::Read || !printed {
             return;
