@@ -1,5 +1,6 @@
 -- Where no tile is taken, the first that is not posted is ready.
-use Rattle.std.proofs.Common.{◌≡◌, ◌⊎◌, ℕ, zero, suc, ◌*◌, ◌/◌, ◌%◌, ◌<◌, ◌≤◌, Bool, true, false, ap, arith, inl, inr, refl, sym, ◌∙◌, subst}
+use Rattle.std.proofs.Common.{◌≡◌, ◌⊎◌, ℕ, zero, suc, ◌*◌, ◌/◌, ◌%◌, ◌<◌, ◌≤◌, Bool, true, false, ap, arith, inl, inr, refl, sym, ◌∙◌}
+use Rattle.std.proofs.Common.{subst}
 use Rattle.std.proofs.Math.Nat.{div-lt_iff_lt-mul, div-mul-le_self, mod-eq-sub-div-mul, mod-lt}
 use Rattle.std.proofs.lemmas.Bool.{cases_eq, cases_lt}
 use Rattle.tile_shape.specs.Geometry.{IsTile, bands_of, columns_of}
@@ -58,7 +59,8 @@ search_ready core whole h idle (suc n) room = elim (search_ready core whole h id
             waiting = waits;
             whole = λ lacks.
                 let edge = lacks.1 in
-                let earlier : number core.shape edge.from < n = omega (arith, gives_on core.shape edge.from lacks.0 p edge.gives, place_number core.shape n) in
+                let earlier : number core.shape edge.from
+                < n = omega (arith, gives_on core.shape edge.from lacks.0 p edge.gives, place_number core.shape n) in
                 true_false _ (h.given edge.from p lacks.0 edge.gives (posted edge.from edge.gives.source earlier)) edge.unsent;
           },
         )

@@ -45,14 +45,16 @@ whole_after core p t whole = record { shape = whole.shape; count = length-set co
 pub legal_after : (core : CoreState) (p : Place) (t : TileState) → IsCore core → Legal core → IsChange core p t → Legal (with_tile core p t)
 legal_after core p t whole h x =
     let new = with_tile core p t in
-    let more = λ (q : Place) (d : Dir) (tile : IsTile core.shape q) (was : sent core q d ≡ true). elim (changed core p q t whole x.tile tile) as (λ _. sent new q d ≡ true) [
+    let more = λ (q : Place) (d : Dir) (tile : IsTile core.shape q) (was : sent core q d ≡ true). elim
+    (changed core p q t whole x.tile tile) as (λ _. sent new q d ≡ true) [
       | inl here ↦ ap (λ (s : TileState). has_sent s d) here.1 ∙ x.keeps d (ap (λ o. sent core o d) (sym here.0) ∙ was)
       | inr same ↦ ap (λ (s : TileState). has_sent s d) same ∙ was
     ] in
     record {
       source = λ from d tile is. elim (changed core p from t whole x.tile tile) [
         | inl here ↦ λ waits. x.begun (ap (λ (s : TileState). s.status) (sym here.1) ∙ waits)
-        | inr same ↦ λ waits. h.source from d tile (ap (λ (s : TileState). has_sent s d) (sym same) ∙ is) (ap (λ (s : TileState). s.status) (sym same) ∙ waits)
+        | inr same ↦ λ waits. h.source from d tile (ap (λ (s : TileState). has_sent s d) (sym same) ∙ is)
+            (ap (λ (s : TileState). s.status) (sym same) ∙ waits)
       ];
       needs = λ from to d g begun. more from d g.source (elim (changed core p to t whole x.tile g.receiver) [
         | inl here ↦ let Q : Place → Type 0 = λ o. Gives core.shape from d o in x.needs from d (subst Q here.0 g)
@@ -61,7 +63,8 @@ legal_after core p t whole h x =
       given = λ from to d g posted. elim (changed core p from t whole x.tile g.source) [
         | inl here ↦
             let Q : Place → Type 0 = λ o. Gives core.shape o d to in
-            ap (λ (s : TileState). has_sent s d) here.1 ∙ x.given posted.0 (ap (λ (s : TileState). s.status) (sym here.1) ∙ posted.1) to d (subst Q here.0 g)
+            ap (λ (s : TileState). has_sent s d) here.1
+            ∙ x.given posted.0 (ap (λ (s : TileState). s.status) (sym here.1) ∙ posted.1) to d (subst Q here.0 g)
         | inr same ↦ more from d g.source (h.given from to d g (posted.0, ap (λ (s : TileState). s.status) (sym same) ∙ posted.1))
       ];
       once = sent_once new;
@@ -97,7 +100,8 @@ status_kept t Right = refl
 status_kept t Bottom = refl
 status_kept t Corner = refl
 
-same_sent : (t : TileState) (s : Status) (d : Dir) → has_sent t d ≡ true → has_sent (record { status = s; right = t.right; bottom = t.bottom; corner = t.corner }) d ≡ true
+same_sent : (t : TileState) (s : Status) (d : Dir) → has_sent t d ≡ true
+    → has_sent (record { status = s; right = t.right; bottom = t.bottom; corner = t.corner }) d ≡ true
 same_sent t s Right was = was
 same_sent t s Bottom was = was
 same_sent t s Corner was = was
@@ -117,7 +121,8 @@ legal_event core (Take p seat) whole h may = legal_after core p _ whole h (recor
   tile = known_tile core.shape p (may fault.NoSuchTile);
   begun = taken_waits seat;
   keeps = same_sent (tile_at core p) (Taken seat);
-  needs = λ from d g. not_false _ (λ unsent. may fault.Taken (λ waits. may fault.NotReady (waits, (d, record { from = from; gives = g; unsent = unsent }))));
+  needs = λ from d g. not_false _
+      (λ unsent. may fault.Taken (λ waits. may fault.NotReady (waits, (d, record { from = from; gives = g; unsent = unsent }))));
   given = λ other posted. absurd (taken_posted seat other posted);
 })
 legal_event core (Send p d seat) whole h may = legal_after core p _ whole h (record {
@@ -125,12 +130,14 @@ legal_event core (Send p d seat) whole h may = legal_after core p _ whole h (rec
   begun = λ waits. may fault.NotYours (λ yours. taken_waits seat (sym yours ∙ sym (status_kept (tile_at core p) d) ∙ waits));
   keeps = λ e was. keeps_sent (tile_at core p) d e was;
   needs = λ from way g. h.needs from p way g (λ waits. may fault.NotYours (λ yours. taken_waits seat (sym yours ∙ waits)));
-  given = λ other posted. absurd (may fault.NotYours (λ yours. taken_posted seat other (sym yours ∙ sym (status_kept (tile_at core p) d) ∙ posted)));
+  given = λ other posted. absurd
+      (may fault.NotYours (λ yours. taken_posted seat other (sym yours ∙ sym (status_kept (tile_at core p) d) ∙ posted)));
 })
 legal_event core (Post p seat) whole h may = legal_after core p _ whole h (record {
   tile = known_tile core.shape p (may fault.NoSuchTile);
   begun = posted_waits seat;
   keeps = same_sent (tile_at core p) (Posted seat);
   needs = λ from way g. h.needs from p way g (λ waits. may fault.NotYours (λ yours. taken_waits seat (sym yours ∙ waits)));
-  given = λ other posted to d g. same_sent (tile_at core p) (Posted seat) d (not_false _ (λ unsent. may fault.Unsent (d, record { to = to; gives = g; unsent = unsent })));
+  given = λ other posted to d g. same_sent (tile_at core p) (Posted seat) d
+      (not_false _ (λ unsent. may fault.Unsent (d, record { to = to; gives = g; unsent = unsent })));
 })

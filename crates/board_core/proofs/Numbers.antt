@@ -24,7 +24,8 @@ same_parts p q c j = ap (λ n. record { c = n; j = p.j }) c ∙ ap (λ n. record
 -- no two tiles have one number
 pub same_place : (s : Shape) (p q : Place) → IsTile s p → IsTile s q → number s p ≡ number s q → p ≡ q
 same_place s p q tp tq same =
-    let band : p.j ≡ q.j = sym (div-mul-add p.j (columns_of s) p.c tp.column) ∙ ap (λ n. n / columns_of s) same ∙ div-mul-add q.j (columns_of s) q.c tq.column in
+    let band : p.j ≡ q.j = sym (div-mul-add p.j (columns_of s) p.c tp.column) ∙ ap (λ n. n / columns_of s) same
+    ∙ div-mul-add q.j (columns_of s) q.c tq.column in
     let rows : p.j * columns_of s ≡ q.j * columns_of s = ap (λ n. n * columns_of s) band in
     same_parts p q (omega arith) band
 
@@ -53,7 +54,8 @@ before_less s q p t (inr left) =
 
 pub at_same : (core : CoreState) (p : Place) (t : TileState) → IsCore core → IsTile core.shape p → tile_at (with_tile core p t) p ≡ t
 unfolding tile_at
-at_same core p t whole tile = get_or-set_same core.tiles (number core.shape p) t fresh (omega (arith, whole.count, number_inside core.shape p tile))
+at_same core p t whole tile =
+    get_or-set_same core.tiles (number core.shape p) t fresh (omega (arith, whole.count, number_inside core.shape p tile))
 
 -- every tile is the changed one, or as it was
 pub changed : (core : CoreState) (p q : Place) (t : TileState) → IsCore core → IsTile core.shape p → IsTile core.shape q

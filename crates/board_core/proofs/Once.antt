@@ -62,23 +62,26 @@ tile_once core p =
     (once_parts bottom corner (where_once _ p Bottom) (where_once _ p Corner) (λ x here there.
     bottom_corner (sym (where_is (sent core p Bottom) p Bottom x here).1 ∙ (where_is (sent core p Corner) p Corner x there).1)))
     (λ x here there. elim (listed_parts x bottom corner there) [
-      | inl at_bottom ↦ right_bottom (sym (where_is (sent core p Right) p Right x here).1 ∙ (where_is (sent core p Bottom) p Bottom x at_bottom).1)
-      | inr at_corner ↦ right_corner (sym (where_is (sent core p Right) p Right x here).1 ∙ (where_is (sent core p Corner) p Corner x at_corner).1)
+      | inl at_bottom ↦ right_bottom (sym (where_is (sent core p Right) p Right x here).1
+          ∙ (where_is (sent core p Bottom) p Bottom x at_bottom).1)
+      | inr at_corner ↦ right_corner (sym (where_is (sent core p Right) p Right x here).1
+          ∙ (where_is (sent core p Corner) p Corner x at_corner).1)
     ])
 
 -- ---- those of a band, and of all bands
 
 band_from : (core : CoreState) (j c n : ℕ) (x : Edge) → IsListed x (sent_in_band core j c n) → (x.from.j ≡ j) × (c ≤ x.from.c)
 band_from core j c zero x listed = absurd listed
-band_from core j c (suc n) x listed = elim (listed_parts x (sent_of core (record { c = c; j = j })) (sent_in_band core j (c + 1) n) listed) [
-  | inl first ↦
-      let is : x.from ≡ record { c = c; j = j } = tile_from core (record { c = c; j = j }) x first in
-      let column : x.from.c ≡ c = ap (λ (p : Place). p.c) is in
-      (ap (λ (p : Place). p.j) is, omega arith)
-  | inr rest ↦
-      let later = band_from core j (c + 1) n x rest in
-      (later.0, omega (arith, later.1))
-]
+band_from core j c (suc n) x listed =
+    elim (listed_parts x (sent_of core (record { c = c; j = j })) (sent_in_band core j (c + 1) n) listed) [
+      | inl first ↦
+          let is : x.from ≡ record { c = c; j = j } = tile_from core (record { c = c; j = j }) x first in
+          let column : x.from.c ≡ c = ap (λ (p : Place). p.c) is in
+          (ap (λ (p : Place). p.j) is, omega arith)
+      | inr rest ↦
+          let later = band_from core j (c + 1) n x rest in
+          (later.0, omega (arith, later.1))
+    ]
 
 band_once : (core : CoreState) (j c n : ℕ) → AreOnce (sent_in_band core j c n)
 band_once core j c zero = tt
@@ -90,16 +93,19 @@ band_once core j c (suc n) =
 
 bands_from : (core : CoreState) (j n : ℕ) (x : Edge) → IsListed x (sent_in_bands core j n) → j ≤ x.from.j
 bands_from core j zero x listed = absurd listed
-bands_from core j (suc n) x listed = elim (listed_parts x (sent_in_band core j 0 (columns_of core.shape)) (sent_in_bands core (j + 1) n) listed) [
-  | inl first ↦ omega (arith, (band_from core j 0 (columns_of core.shape) x first).0)
-  | inr rest ↦ omega (arith, bands_from core (j + 1) n x rest)
-]
+bands_from core j (suc n) x listed =
+    elim (listed_parts x (sent_in_band core j 0 (columns_of core.shape)) (sent_in_bands core (j + 1) n) listed) [
+      | inl first ↦ omega (arith, (band_from core j 0 (columns_of core.shape) x first).0)
+      | inr rest ↦ omega (arith, bands_from core (j + 1) n x rest)
+    ]
 
 bands_once : (core : CoreState) (j n : ℕ) → AreOnce (sent_in_bands core j n)
 bands_once core j zero = tt
 bands_once core j (suc n) =
-    once_parts (sent_in_band core j 0 (columns_of core.shape)) (sent_in_bands core (j + 1) n) (band_once core j 0 _) (bands_once core (j + 1) n)
-    (λ x here there. let no : ⊥ = omega (arith, (band_from core j 0 (columns_of core.shape) x here).0, bands_from core (j + 1) n x there) in no)
+    once_parts (sent_in_band core j 0 (columns_of core.shape)) (sent_in_bands core (j + 1) n) (band_once core j 0 _)
+    (bands_once core (j + 1) n)
+    (λ x here there. let no : ⊥ =
+    omega (arith, (band_from core j 0 (columns_of core.shape) x here).0, bands_from core (j + 1) n x there) in no)
 
 pub sent_once : (core : CoreState) → AreOnce (sent_edges core)
 sent_once core = bands_once core 0 (bands_of core.shape)

@@ -19,20 +19,24 @@ NoneBelow core n = (q : Place) → number core.shape q < n → ¬ IsReadyTile co
 abbrev pub place_in : ℕ → ℕ → Place
 place_in columns n = record { c = n % columns; j = n / columns }
 
-pub first_ready : (core : CoreState) (columns n : ℕ) → columns ≡ columns_of core.shape → NoneBelow core n → IsReadyTile core (place_in columns n) → IsFirstReady core (place_in columns n)
+pub first_ready : (core : CoreState) (columns n : ℕ) → columns ≡ columns_of core.shape → NoneBelow core n
+    → IsReadyTile core (place_in columns n) → IsFirstReady core (place_in columns n)
 first_ready core columns n is none ready =
     let Q : ℕ → Type 0 = λ m. IsReadyTile core (place_in m n) in
     let R : ℕ → Type 0 = λ m. IsFirstReady core (place_in m n) in
     subst R (sym is) (record {
       ready = subst Q is ready;
-      first = λ q before r. none q (omega (arith, before_less core.shape q (place_of core.shape n) r.tile before, place_number core.shape n)) r;
+      first = λ q before r. none q
+          (omega (arith, before_less core.shape q (place_of core.shape n) r.tile before, place_number core.shape n)) r;
     })
 
-pub none_more : (core : CoreState) (columns n : ℕ) → columns ≡ columns_of core.shape → NoneBelow core n → ¬ IsReadyTile core (place_in columns n) → NoneBelow core (n + 1)
+pub none_more : (core : CoreState) (columns n : ℕ) → columns ≡ columns_of core.shape → NoneBelow core n
+    → ¬ IsReadyTile core (place_in columns n) → NoneBelow core (n + 1)
 none_more core columns n is none unready q low r = elim (cases_eq (number core.shape q) n) [
   | inl here ↦
       let inside : n < columns_of core.shape * bands_of core.shape = omega (arith, number_inside core.shape q r.tile) in
-      let same : q ≡ place_of core.shape n = same_place core.shape q (place_of core.shape n) r.tile (place_tile core.shape n inside) (here ∙ sym (place_number core.shape n)) in
+      let same : q ≡ place_of core.shape n = same_place core.shape q (place_of core.shape n) r.tile (place_tile core.shape n inside) (here
+      ∙ sym (place_number core.shape n)) in
       let Q : Place → Type 0 = λ p. IsReadyTile core p in
       let R : ℕ → Type 0 = λ m. IsReadyTile core (place_in m n) in
       unready (subst R (sym is) (subst Q same r))

@@ -15,10 +15,12 @@ right_below : (w : Window) (core : CoreState) (results : Place → TileResult) �
     → (n : ℕ) (p : Place) → number core.shape p < n → IsTile core.shape p → IsBegun core p → IsResult w p (results p)
 right_below w core results h r zero p low tile begun = let no : ⊥ = omega arith in absurd no
 right_below w core results h r (suc n) p low tile begun = r.works p tile begun (λ from d g.
-    (right_below w core results h r n from (omega (arith, gives_on core.shape from d p g)) g.source (h.source from d g.source (h.needs from p d g begun))).edges d)
+    (right_below w core results h r n from (omega (arith, gives_on core.shape from d p g)) g.source
+    (h.source from d g.source (h.needs from p d g begun))).edges d)
 
 pub any_order : (s : Shape) (events : List Event) (core : CoreState) (w : Window) (results : Place → TileResult)
-    → IsShape s → Runs (start s) events core → IsRecord w core results → (p : Place) → IsTile s p → IsBegun core p → IsResult w p (results p)
+    → IsShape s → Runs (start s) events core → IsRecord w core results → (p : Place) → IsTile s p → IsBegun core p
+    → IsResult w p (results p)
 any_order s events core w results shape run r p tile begun =
     let reached = run_reaches s events core shape run in
     let Q : Shape → Type 0 = λ t. IsTile t p in

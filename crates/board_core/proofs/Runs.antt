@@ -47,7 +47,8 @@ pub record IsReached (s : Shape) (core : CoreState) : Type 0 where
   pub whole : IsCore core
   pub legal : Legal core
 
-pub reached : (s : Shape) (core : CoreState) (events : List Event) (end : CoreState) → IsReached s core → Runs core events end → IsReached s end
+pub reached : (s : Shape) (core : CoreState) (events : List Event) (end : CoreState) → IsReached s core → Runs core events end
+    → IsReached s end
 reached s core [] end r is = let Q : CoreState → Type 0 = λ c. IsReached s c in subst Q (sym is) r
 reached s core (e ∷ events) end r run = reached s (after core e) events end (record {
   shape = shape_kept core e ∙ r.shape;
@@ -56,4 +57,5 @@ reached s core (e ∷ events) end r run = reached s (after core e) events end (r
 }) run.1
 
 pub run_reaches : (s : Shape) (events : List Event) (core : CoreState) → IsShape s → Runs (start s) events core → IsReached s core
-run_reaches s events core shape run = reached s (start s) events core (record { shape = refl; whole = start_whole s shape; legal = start_legal s }) run
+run_reaches s events core shape run =
+    reached s (start s) events core (record { shape = refl; whole = start_whole s shape; legal = start_legal s }) run

@@ -70,7 +70,8 @@ where_sent true p d = record { from = p; dir = d } ∷ []
 where_sent false p d = []
 
 abbrev pub sent_of : CoreState → Place → List Edge
-sent_of core p = where_sent (sent core p Right) p Right ++ (where_sent (sent core p Bottom) p Bottom ++ where_sent (sent core p Corner) p Corner)
+sent_of core p =
+    where_sent (sent core p Right) p Right ++ (where_sent (sent core p Bottom) p Bottom ++ where_sent (sent core p Corner) p Corner)
 
 -- those of so many tiles of band j, from column c on, and of so many bands, from band j on
 abbrev pub sent_in_band : CoreState → ℕ → ℕ → ℕ → List Edge

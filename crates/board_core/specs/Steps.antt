@@ -87,9 +87,13 @@ with_sent t Bottom = record { status = t.status; right = t.right; bottom = true;
 with_sent t Corner = record { status = t.status; right = t.right; bottom = t.bottom; corner = true }
 
 abbrev pub after : CoreState → Event → CoreState
-after core (Take p seat) = let t = tile_at core p in with_tile core p (record { status = status.Taken seat; right = t.right; bottom = t.bottom; corner = t.corner })
+after core (Take p seat) =
+    let t = tile_at core p in
+    with_tile core p (record { status = status.Taken seat; right = t.right; bottom = t.bottom; corner = t.corner })
 after core (Send p d seat) = with_tile core p (with_sent (tile_at core p) d)
-after core (Post p seat) = let t = tile_at core p in with_tile core p (record { status = status.Posted seat; right = t.right; bottom = t.bottom; corner = t.corner })
+after core (Post p seat) =
+    let t = tile_at core p in
+    with_tile core p (record { status = status.Posted seat; right = t.right; bottom = t.bottom; corner = t.corner })
 
 -- these events are accepted one after another
 abbrev pub Runs : CoreState → List Event → CoreState → Type 0

@@ -18,13 +18,16 @@ pub fn the_start_is_legal()
 /// What an accepted event leaves is legal where what it found was.
 pub fn an_accepted_event_keeps_legal()
     ensures core { (core : CoreState) (e : Event) → IsCore core → IsCore (after core e) }
-    ensures legal { (core : CoreState) (e : Event) → IsCore core → Legal core → IsAccepted core e → Legal (after core e) }
+    ensures legal { (core : CoreState) (e : Event) → IsCore core → Legal core → IsAccepted core e
+        → Legal (after core e) }
 {}
 
 /// So after any list of accepted events from the start.
 pub fn every_run_is_legal()
-    ensures core { (s : Shape) (events : List Event) (core : CoreState) → IsShape s → Runs (start s) events core → IsCore core }
-    ensures legal { (s : Shape) (events : List Event) (core : CoreState) → IsShape s → Runs (start s) events core → Legal core }
+    ensures core { (s : Shape) (events : List Event) (core : CoreState) → IsShape s → Runs (start s) events core
+        → IsCore core }
+    ensures legal { (s : Shape) (events : List Event) (core : CoreState) → IsShape s → Runs (start s) events core
+        → Legal core }
 {}
 
 /// Where no tile is taken and not all are posted, one is ready: no order of work comes to a dead end.

@@ -1,6 +1,7 @@
 //! The tiles of a window, and the events that come to them.
 ghost use Rattle.board_core.specs.States.{number, start, tile_at};
-ghost use Rattle.board_core.specs.Steps.{Gives, IsAccepted, IsFirst, IsFirstReady, IsReadyTile, Lacks, LacksEdge, Owes, OwesEdge, after, with_tile};
+ghost use Rattle.board_core.specs.Steps.{Gives, IsAccepted, IsFirst, IsFirstReady, IsReadyTile, Lacks, LacksEdge, Owes};
+ghost use Rattle.board_core.specs.Steps.{OwesEdge, after, with_tile};
 ghost use Rattle.board_core.specs.declared.events.Event.{Event};
 ghost use Rattle.board_core.specs.declared.events.Event.TheVariants.{Post, Send, Take};
 ghost use Rattle.board_core.specs.declared.tiles.Status.TheVariants.{Waiting};

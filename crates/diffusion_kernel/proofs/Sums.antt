@@ -1,5 +1,6 @@
 -- What the code's sums are, whose numbers are held in 16 and 32 bits.
-use Rattle.std.proofs.Common.{ℕ, ℤ, pos, ◌≡◌, ◌<◌, ◌≤◌, ◌+◌, ◌-◌, ◌*◌, ◌/◌, ◌%◌, ◌-ℤ◌, negsuc, nat_abs, ◌+ℤ◌, ◌*ℤ◌, to_z, of_z, w16, w32, FitsSigned, arith, ap, ◌∙◌, lit≤, subst, sym}
+use Rattle.std.proofs.Common.{ℕ, ℤ, pos, ◌≡◌, ◌<◌, ◌≤◌, ◌+◌, ◌-◌, ◌*◌, ◌/◌, ◌%◌, ◌-ℤ◌, negsuc, nat_abs, ◌+ℤ◌, ◌*ℤ◌, to_z, of_z, w16, w32}
+use Rattle.std.proofs.Common.{FitsSigned, arith, ap, ◌∙◌, lit≤, subst, sym}
 use Rattle.std.proofs.lemmas.Int.{ints}
 use Rattle.std.proofs.lemmas.Nat.{div-mul-add}
 use Rattle.std.proofs.Math.Nat.{add-mul-div_left, div-lt_iff_lt-mul}
@@ -81,7 +82,8 @@ pub parts_as : (m : ℕ) (y z : ℤ) → y ≡ z → IsParts m z → IsParts m y
 parts_as m y z e h = subst (IsParts m) (sym e) h
 
 -- a division of a number that is raised to 0 or above
-pub raised_quotient : (z : ℤ) (d n : ℕ) → 1 ≤ d → IsParts d z → pos n ≡ z +ℤ pos (2040 * d) → pos (n / d) -ℤ pos 2040 ≡ int_div_euclid z (pos d)
+pub raised_quotient : (z : ℤ) (d n : ℕ) → 1 ≤ d → IsParts d z → pos n ≡ z +ℤ pos (2040 * d)
+    → pos (n / d) -ℤ pos 2040 ≡ int_div_euclid z (pos d)
 raised_quotient (pos a) d n some parts is =
     let sum : n ≡ a + d * 2040 = omega (arith, ints) in
     let part : n / d ≡ a / d + 2040 = ap (λ m. m / d) sum ∙ add-mul-div_left a 2040 some in
@@ -105,7 +107,8 @@ abbrev pub raised : ℤ → ℕ → ℤ
 raised z d = fixed (fixed z +ℤ fixed (pos 2040 *ℤ to_z w32 d))
 
 -- the quotient that the code computes
-pub quotient_is : (z : ℤ) (d : ℕ) → 1 ≤ d → d ≤ 48 → IsParts d z → fixed (to_z w32 (nat_abs (raised z d) / d) -ℤ pos 2040) ≡ int_div_euclid z (pos d)
+pub quotient_is : (z : ℤ) (d : ℕ) → 1 ≤ d → d ≤ 48 → IsParts d z
+    → fixed (to_z w32 (nat_abs (raised z d) / d) -ℤ pos 2040) ≡ int_div_euclid z (pos d)
 quotient_is z d some few parts =
     let n : ℕ = nat_abs (raised z d) in
     let is : pos n ≡ z +ℤ pos (2040 * d) = omega (arith, ints, parts.low, parts.high) in

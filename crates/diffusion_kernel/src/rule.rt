@@ -1,5 +1,6 @@
 //! What one pixel shows, and the error that it leaves.
-ghost use Rattle.diffusion_definitions.specs.Diffusion.{EachInRange, InRange, IsParts, divisor, error_of, is_dot, mirrored, value, weighted, weighted_from};
+ghost use Rattle.diffusion_definitions.specs.Diffusion.{EachInRange, InRange, IsParts, divisor, error_of, is_dot};
+ghost use Rattle.diffusion_definitions.specs.Diffusion.{mirrored, value, weighted, weighted_from};
 ghost use Rattle.diffusion_kernel.specs.Rows.{five_of, table_from};
 ghost use Rattle.diffusion_kernel.specs.Tables.{table_of};
 ghost use Rattle.std.specs.Int.{int_div_euclid};
@@ -108,7 +109,8 @@ impl Kernel {
         requires same { EachInRange errs.now.same }
         requires up1 { EachInRange errs.now.up1 }
         requires up2 { EachInRange errs.now.up2 }
-        ensures floor { result ≡ int_div_euclid (weighted (table_of self) errs.now.same errs.now.up1 errs.now.up2) (pos (divisor (table_of self))) }
+        ensures floor { result ≡ int_div_euclid (weighted (table_of self) errs.now.same errs.now.up1 errs.now.up2)
+            (pos (divisor (table_of self))) }
         ensures in_range { InRange result }
     {
         match self {

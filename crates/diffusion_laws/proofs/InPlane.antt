@@ -2,7 +2,8 @@
 use Rattle.std.proofs.Common.{ℕ, ℤ, suc, zero, ◌<◌, ◌≤◌, ◌+◌}
 use Rattle.std.proofs.lemmas.Bool.{cond_both}
 use Rattle.std.specs.Prelude.{nat_lt}
-use Rattle.diffusion_definitions.specs.Diffusion.{Table, Plane, Errors, divisor, errors, row_errors, row_width, five, InRange, EachInRange, HasAmounts, TopInRange}
+use Rattle.diffusion_definitions.specs.Diffusion.{Table, Plane, Errors, divisor, errors, row_errors, row_width, five, InRange, EachInRange}
+use Rattle.diffusion_definitions.specs.Diffusion.{HasAmounts, TopInRange}
 use Rattle.diffusion_definitions.proofs.Ranges.{five_in, none_in, pixel_in, two_in}
 
 places_in : (row : ℕ → ℤ) (n : ℕ) → ((m : ℕ) → InRange (row m)) → EachInRange (five row n)
@@ -23,7 +24,8 @@ row_in k up2 up1 width amount some h2 h1 few (suc (suc (suc (suc x)))) =
     (λ _. pixel_in k (amount x) _ _ _ some (few x) (two_in _ _ left left2) (places_in up1 (x + 2) h1) (places_in up2 (x + 2) h2))
     (λ _. none_in)
 
-pub errors_in : (k : Table) (p : Plane) (top : Errors) → 0 < divisor k → HasAmounts p → TopInRange top → (y n : ℕ) → InRange (errors k p top y n)
+pub errors_in : (k : Table) (p : Plane) (top : Errors) → 0 < divisor k → HasAmounts p → TopInRange top → (y n : ℕ)
+    → InRange (errors k p top y n)
 unfolding errors
 errors_in k p top some few h zero n = h 0 n
 errors_in k p top some few h (suc zero) n = h 1 n

@@ -1,5 +1,6 @@
 -- A pixel takes each share from where it stands: the error at x - dx, y - dy by the share at dx, dy.
-use Rattle.std.proofs.Common.{ℕ, ℤ, pos, suc, zero, ◌≡◌, ◌<◌, ◌≤◌, ◌+◌, ◌-◌, ◌*◌, ◌+ℤ◌, ◌*ℤ◌, ◌∙◌, ap, refl, arith, List, [], ◌∷◌, length, slice_index_or}
+use Rattle.std.proofs.Common.{ℕ, ℤ, pos, suc, zero, ◌≡◌, ◌<◌, ◌≤◌, ◌+◌, ◌-◌, ◌*◌, ◌+ℤ◌, ◌*ℤ◌, ◌∙◌, ap, refl, arith, List, [], ◌∷◌, length}
+use Rattle.std.proofs.Common.{slice_index_or}
 use Rattle.std.specs.Int.{int_div_euclid}
 use Rattle.diffusion_definitions.specs.Diffusion.{Table, Plane, Errors, divisor, five, mirrored, value, value_at, weighted_from}
 

@@ -11,7 +11,8 @@ slab_dots k p e f s same y x =
     let g : Errors = λ m n. e (s + m) n in
     let two : s + (y + 2) ≡ s + y + 2 = omega arith in
     let one : s + (y + 1) ≡ s + y + 1 = omega arith in
-    let v : ℕ → ℕ → ℤ = λ a b. value k (p.amount (s + y) x) (e a (x + 3) ∷ e a (x + 2) ∷ []) (five (e b) (x + 2)) (five (e (s + y)) (x + 2)) in
+    let v : ℕ → ℕ → ℤ = λ a b. value k (p.amount (s + y) x) (e a (x + 3) ∷ e a (x + 2) ∷ []) (five (e b) (x + 2))
+    (five (e (s + y)) (x + 2)) in
     let values : value_at k (rest s p) f y x ≡ value_at k p e (s + y) x =
     value_same k (rest s p) f g y x (same (y + 2) (x + 3)) (same (y + 2) (x + 2)) (same (y + 1)) (same y)
     ∙ ap (λ a. v a (s + (y + 1))) two ∙ ap (v (s + y + 2)) one in

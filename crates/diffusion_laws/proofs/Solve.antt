@@ -37,7 +37,9 @@ row_none k up2 up1 w a (suc (suc (suc (suc x)))) h =
     ap (λ b. cond b v (pos 0)) (le-ltb x w (omega arith))
 
 row_pixel : (k : Table) (up2 up1 : ℕ → ℤ) (w : ℕ) (a : ℕ → ℕ) (x : ℕ) → x < w
-    → row_errors k up2 up1 w a (x + 4) ≡ error_of (value k (a x) (row_errors k up2 up1 w a (x + 3) ∷ row_errors k up2 up1 w a (x + 2) ∷ []) (five up1 (x + 2)) (five up2 (x + 2)))
+    → row_errors k up2 up1 w a (x + 4)
+    ≡ error_of (value k (a x) (row_errors k up2 up1 w a (x + 3) ∷ row_errors k up2 up1 w a (x + 2) ∷ []) (five up1 (x + 2))
+    (five up2 (x + 2)))
 unfolding row_errors
 row_pixel k up2 up1 w a x h =
     let four : x + 4 ≡ suc (suc (suc (suc x))) = omega arith in
@@ -70,13 +72,15 @@ errors_solve k p top =
       pixel = λ y x inside wide.
           let row : ℕ → ℕ → ℤ = λ w. row_errors k (e y) (e (y + 1)) w (p.amount y) in
           let same : e (y + 2) ≡ row p.width = row_of k p top y ∙ ap row (width_in p y inside) in
-          let at : (ℕ → ℤ) → ℤ = λ r. error_of (value k (p.amount y x) (r (x + 3) ∷ r (x + 2) ∷ []) (five (e (y + 1)) (x + 2)) (five (e y) (x + 2))) in
+          let at : (ℕ → ℤ) → ℤ = λ r. error_of
+          (value k (p.amount y x) (r (x + 3) ∷ r (x + 2) ∷ []) (five (e (y + 1)) (x + 2)) (five (e y) (x + 2))) in
           at_place _ _ (x + 4) same ∙ row_pixel k (e y) (e (y + 1)) p.width (p.amount y) x wide ∙ ap at (sym same);
       left = λ y n few. at_place _ _ n (row_of k p top y) ∙ row_left k (e y) (e (y + 1)) (row_width p y) (p.amount y) n few;
       right = λ y x far.
           let small : row_width p y ≤ x = width_most p y x far in
           at_place _ _ (x + 4) (row_of k p top y) ∙ row_right k (e y) (e (y + 1)) (row_width p y) (p.amount y) x small;
-      below = λ y n far. at_place _ _ n (row_of k p top y) ∙ row_none k (e y) (e (y + 1)) (row_width p y) (p.amount y) n (width_below p y far);
+      below = λ y n far. at_place _ _ n (row_of k p top y)
+          ∙ row_none k (e y) (e (y + 1)) (row_width p y) (p.amount y) n (width_below p y far);
     }
 
 pub errors_top : (k : Table) (p : Plane) (top : Errors) → (n : ℕ) → (errors k p top 0 n ≡ top 0 n) × (errors k p top 1 n ≡ top 1 n)

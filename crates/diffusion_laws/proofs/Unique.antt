@@ -7,7 +7,8 @@ five_same : (f g : ℕ → ℤ) (n : ℕ) → ((m : ℕ) → f m ≡ g m) → fi
 five_same f g n h =
     let h0 = h n in let h1 = h (n + 1) in let h2 = h (n + 2) in let h3 = h (n + 3) in let h4 = h (n + 4) in cc
 
-pub value_same : (k : Table) (p : Plane) (e f : Errors) (y x : ℕ) → e (y + 2) (x + 3) ≡ f (y + 2) (x + 3) → e (y + 2) (x + 2) ≡ f (y + 2) (x + 2)
+pub value_same : (k : Table) (p : Plane) (e f : Errors) (y x : ℕ) → e (y + 2) (x + 3) ≡ f (y + 2) (x + 3)
+    → e (y + 2) (x + 2) ≡ f (y + 2) (x + 2)
     → ((n : ℕ) → e (y + 1) n ≡ f (y + 1) n) → ((n : ℕ) → e y n ≡ f y n) → value_at k p e y x ≡ value_at k p f y x
 value_same k p e f y x h1 h2 up1 up2 =
     let v : ℤ → ℤ → List ℤ → List ℤ → ℤ = λ a b u w. value k (p.amount y x) (a ∷ b ∷ []) u w in
@@ -26,8 +27,10 @@ row_same k p e f y s t up1 up2 (suc (suc (suc (suc x)))) =
     let four : suc (suc (suc (suc x))) ≡ x + 4 = omega arith in
     let three : x + 3 ≡ suc (suc (suc x)) = omega arith in
     let two : x + 2 ≡ suc (suc x) = omega arith in
-    let h3 : e (y + 2) (x + 3) ≡ f (y + 2) (x + 3) = ap (e (y + 2)) three ∙ row_same k p e f y s t up1 up2 (suc (suc (suc x))) ∙ sym (ap (f (y + 2)) three) in
-    let h2 : e (y + 2) (x + 2) ≡ f (y + 2) (x + 2) = ap (e (y + 2)) two ∙ row_same k p e f y s t up1 up2 (suc (suc x)) ∙ sym (ap (f (y + 2)) two) in
+    let h3 : e (y + 2) (x + 3) ≡ f (y + 2) (x + 3) = ap (e (y + 2)) three ∙ row_same k p e f y s t up1 up2 (suc (suc (suc x)))
+    ∙ sym (ap (f (y + 2)) three) in
+    let h2 : e (y + 2) (x + 2) ≡ f (y + 2) (x + 2) = ap (e (y + 2)) two ∙ row_same k p e f y s t up1 up2 (suc (suc x))
+    ∙ sym (ap (f (y + 2)) two) in
     ap (e (y + 2)) four ∙ elim (cases_lt y p.height) [
       | inl high ↦ elim (cases_lt x p.width) [
         | inl wide ↦ s.pixel y x high wide ∙ ap error_of (value_same k p e f y x h3 h2 up1 up2) ∙ sym (t.pixel y x high wide)

@@ -4,7 +4,12 @@ use Rattle.diffusion_definitions.specs.Diffusion.{Table, Plane, value, errors, n
 
 -- the plane with these rows of amounts, each as long as the first
 abbrev pub plane_of : List (List ℕ) → Plane
-plane_of rows = record { width = length (slice_index_or rows 0 []); height = length rows; amount = λ y x. slice_index (slice_index_or rows y []) x }
+plane_of rows =
+    record {
+      width = length (slice_index_or rows 0 []);
+      height = length rows;
+      amount = λ y x. slice_index (slice_index_or rows y []) x;
+    }
 
 -- one row of n pixels of amount 128
 abbrev pub row_of_halves : ℕ → Plane

@@ -2,7 +2,8 @@
 #![tactic(auto, unfolding(diffusion_definitions::specs::Diffusion::errors, diffusion_definitions::specs::Diffusion::row_errors, diffusion_definitions::specs::Diffusion::value))]
 
 ghost use Rattle.diffusion_definitions.specs.Diffusion.{error_of, floyd, is_dot, jarvis, stucki, value};
-ghost use Rattle.diffusion_laws.specs.Examples.{dots_of_row, errors_of_row, given_by_row, given_by_row2, given_by_same, minus, row_of_halves, two_rows};
+ghost use Rattle.diffusion_laws.specs.Examples.{dots_of_row, errors_of_row, given_by_row, given_by_row2, given_by_same};
+ghost use Rattle.diffusion_laws.specs.Examples.{minus, row_of_halves, two_rows};
 ghost use Rattle.std.specs.Prelude.{[], false, pos, true, ◌≡◌, ◌∷◌};
 
 /// Four pixels of amount 128 by Floyd and Steinberg.

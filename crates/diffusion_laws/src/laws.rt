@@ -1,10 +1,12 @@
 //! What holds of every plane. Errors count from two rows above the plane, so those of row y stand at y + 2.
-ghost use Rattle.diffusion_definitions.specs.Diffusion.{Errors, HasAmounts, InRange, Plane, Solves, Table, TopInRange, cut, divisor, errors, on, rest, value_at, weighted_from};
+ghost use Rattle.diffusion_definitions.specs.Diffusion.{Errors, HasAmounts, InRange, Plane, Solves, Table, TopInRange};
+ghost use Rattle.diffusion_definitions.specs.Diffusion.{cut, divisor, errors, on, rest, value_at, weighted_from};
 ghost use Rattle.std.specs.Int.{int_div_euclid};
 ghost use Rattle.std.specs.Prelude.{length, pos, ◌*◌, ◌+ℤ◌, ◌+◌, ◌-◌, ◌<◌, ◌≡◌, ◌≤◌, ℕ};
 
-/// A pixel takes the error at (x - dx, y - dy) by the share at (dx, dy), where dx is i + 1 in the row `right` of a table
-/// and i - 2 in the two rows below. Errors count from four places left of the plane, so that of x stands at x + 4.
+/// A pixel takes the error at (x - dx, y - dy) by the share at (dx, dy), where dx is i + 1 in the row `right` of a
+/// table and i - 2 in the two rows below. Errors count from four places left of the plane, so that of x stands at x +
+/// 4.
 pub fn each_share_comes_from_its_place()
     ensures { (k : Table) (p : Plane) (e : Errors) (y x : ℕ)
         → length k.right ≤ 2 → length k.below ≤ 5 → length k.below2 ≤ 5

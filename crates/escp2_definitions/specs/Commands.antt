@@ -1,6 +1,7 @@
 -- The command table: what bytes spell a command, and which commands the bytes of a job are
 -- (ESC/P Reference Manual, graphics commands; the ranges are this project's own).
-use Rattle.std.specs.Prelude.{◌≡◌, ℕ, zero, suc, ◌+◌, ◌*◌, ◌/◌, ◌%◌, Bool, true, false, ◌==◌, nat_lt, nat_le, ◌&&◌, ◌||◌, if◌then◌else◌, MatchBool, List, [], ◌∷◌, ◌++◌, length, drop}
+use Rattle.std.specs.Prelude.{◌≡◌, ℕ, zero, suc, ◌+◌, ◌*◌, ◌/◌, ◌%◌, Bool, true, false, ◌==◌, nat_lt, nat_le, ◌&&◌, ◌||◌, if◌then◌else◌}
+use Rattle.std.specs.Prelude.{MatchBool, List, [], ◌∷◌, ◌++◌, length, drop}
 use Rattle.printer_definitions.specs.declared.inks.Ink.{Ink}
 use Rattle.printer_definitions.specs.declared.inks.Ink.TheVariants.{Black, Cyan, Magenta, Yellow}
 use Rattle.escp2_definitions.specs.declared.command.RasterHead.{RasterHead}
@@ -155,7 +156,8 @@ with_rows head (RowsWrong at) = Wrong at RunCode
 
 -- the rows behind a raster's numbers, which take eight bytes
 abbrev pub raster_rows : RasterHead → List ℕ → Heard
-raster_rows head rest = with_rows head (if head.c == 0 then plain_at (head.m * row_bytes head) 8 rest else rows_at head.m (row_bytes head) 8 rest)
+raster_rows head rest =
+    with_rows head (if head.c == 0 then plain_at (head.m * row_bytes head) 8 rest else rows_at head.m (row_bytes head) 8 rest)
 
 abbrev pub raster_at : List ℕ → Heard
 raster_at = number is_switch 2 (λ c. number is_some 3 (λ v. number is_some 4 (λ h. number is_some 5 (λ m.
@@ -169,7 +171,8 @@ paren (b ∷ rest) =
     (if b == 0x55 then sized 1 (number is_some 5 (λ m. whole (c.Unit m) 6)) rest else
     (if b == 0x69 then sized 1 (number is_off 5 (λ n. whole (c.MicroWeave n) 6)) rest else
     (if b == 0x43 then sized 2 (wide_number is_length 5 (λ n. whole (c.Length n) 7)) rest else
-    (if b == 0x63 then sized 4 (wide_number is_position 5 (λ top. wide_number (is_bottom top) 7 (λ bottom. whole (c.Margins top bottom) 9))) rest else
+    (if b == 0x63 then sized 4
+    (wide_number is_position 5 (λ top. wide_number (is_bottom top) 7 (λ bottom. whole (c.Margins top bottom) 9))) rest else
     (if b == 0x56 then sized 2 (wide_number is_position 5 (λ n. whole (c.DownTo n) 7)) rest else
     (if b == 0x76 then sized 2 (wide_number is_position 5 (λ n. whole (c.DownBy n) 7)) rest else
     Wrong 2 Unknown))))))
@@ -222,7 +225,8 @@ unfoldable pub commands_from : ℕ → ℕ → List ℕ → CommandList
 commands_from most at [] = record { entries = []; end = Whole }
 commands_from zero at (b ∷ bytes) = record { entries = []; end = Cut at }
 commands_from (suc most) at (b ∷ bytes) = elim (command_at (b ∷ bytes)) [
-  | One command rows len ↦ with_entry (record { at = at; command = command; rows = rows }) (commands_from most (at + len) (drop len (b ∷ bytes)))
+  | One command rows len ↦
+      with_entry (record { at = at; command = command; rows = rows }) (commands_from most (at + len) (drop len (b ∷ bytes)))
   | Part ↦ record { entries = []; end = Cut at }
   | Wrong place cause ↦ record { entries = []; end = Fault (at + place) cause }
 ]

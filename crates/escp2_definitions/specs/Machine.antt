@@ -1,5 +1,6 @@
 -- The machine: what the commands of a job put on its sheets. Lengths and places are in 1/3600 inch.
-use Rattle.std.specs.Prelude.{ℕ, zero, suc, ◌+◌, ◌-◌, ◌*◌, ◌/◌, ◌%◌, ◌^◌, Bool, true, false, not, ◌==◌, nat_lt, nat_le, ◌&&◌, ◌||◌, if◌then◌else◌, List, [], ◌∷◌, ◌++◌, length, take, drop, map, max, unwrap_or, is_none, Option, Some, None}
+use Rattle.std.specs.Prelude.{ℕ, zero, suc, ◌+◌, ◌-◌, ◌*◌, ◌/◌, ◌%◌, ◌^◌, Bool, true, false, not, ◌==◌, nat_lt, nat_le, ◌&&◌, ◌||◌}
+use Rattle.std.specs.Prelude.{if◌then◌else◌, List, [], ◌∷◌, ◌++◌, length, take, drop, map, max, unwrap_or, is_none, Option, Some, None}
 use Rattle.std.specs.List.{list_any}
 use Rattle.printer_definitions.specs.declared.inks.Ink.{Ink}
 use Rattle.printer_definitions.specs.declared.inks.Ink.TheVariants.{Black}
@@ -9,7 +10,8 @@ use Rattle.escp2_definitions.specs.declared.command.RasterHead.{RasterHead}
 use Rattle.escp2_definitions.specs.declared.command.Command.{Command}
 use Rattle.escp2_definitions.specs.declared.command.Command.TheVariants as c
 use Rattle.escp2_definitions.specs.declared.stops.EmuFault.{EmuFault}
-use Rattle.escp2_definitions.specs.declared.stops.EmuFault.TheVariants.{NotGraphics, NoUnit, NoMargins, Density, Rows, Backward, OffGrid, OffSheet, Overprint}
+use Rattle.escp2_definitions.specs.declared.stops.EmuFault.TheVariants.{NotGraphics, NoUnit, NoMargins, Density, Rows, Backward, OffGrid}
+use Rattle.escp2_definitions.specs.declared.stops.EmuFault.TheVariants.{OffSheet, Overprint}
 use Rattle.escp2_definitions.specs.Commands.{Entry, last_column, row_bytes}
 
 -- A dot of an ink, at a place from the left margin and from the paper's top.
@@ -147,9 +149,11 @@ refusals p s (c.MicroWeave n) rows = []
 refusals p s (c.OneWay n) rows = []
 refusals p s (c.Length n) rows = no_unit s ∷ refuse (has_dots s) Backward ∷ refuse (nat_lt 79200 (units s n)) OffSheet ∷ []
 refusals p s (c.Margins top bottom) rows =
-    no_unit s ∷ refuse (is_none s.page) NoMargins ∷ refuse (has_dots s) Backward ∷ refuse (nat_lt (page_length s) (units s bottom)) OffSheet ∷ []
+    no_unit s ∷ refuse (is_none s.page) NoMargins ∷ refuse (has_dots s) Backward
+    ∷ refuse (nat_lt (page_length s) (units s bottom)) OffSheet ∷ []
 refusals p s (c.DownTo n) rows =
-    no_unit s ∷ no_margins s ∷ refuse (nat_lt (units s n) s.down) Backward ∷ refuse (nat_lt (page_length s) (top_margin s + units s n)) OffSheet ∷ []
+    no_unit s ∷ no_margins s ∷ refuse (nat_lt (units s n) s.down) Backward
+    ∷ refuse (nat_lt (page_length s) (top_margin s + units s n)) OffSheet ∷ []
 refusals p s (c.DownBy n) rows = no_unit s ∷ no_margins s ∷ refuse (nat_lt (page_length s) (from_top s + units s n)) OffSheet ∷ []
 refusals p s (c.Across n) rows = no_unit s ∷ []
 refusals p s c.Return rows = []
@@ -174,7 +178,8 @@ after p s (c.Unit m) rows = record s { unit = Some m }
 after p s (c.MicroWeave n) rows = s
 after p s (c.OneWay n) rows = s
 after p s (c.Length n) rows = record s { page = Some (units s n); margins = None; down = 0; across = 0 }
-after p s (c.Margins top bottom) rows = record s { margins = Some (record { top = units s top; bottom = units s bottom }); down = 0; across = 0 }
+after p s (c.Margins top bottom) rows =
+    record s { margins = Some (record { top = units s top; bottom = units s bottom }); down = 0; across = 0 }
 after p s (c.DownTo n) rows = record s { down = units s n }
 after p s (c.DownBy n) rows = record s { down = s.down + units s n }
 after p s (c.Across n) rows = record s { across = units s n }

@@ -1,5 +1,6 @@
 -- The canonical code is a code of its row, and a short one.
-use Rattle.std.proofs.Common.{◌≡◌, ℕ, zero, suc, ◌*◌, ◌≤◌, List, [], ◌∷◌, ◌++◌, length, drop, refl, ◌∙◌, ap, arith, length-append, length-drop}
+use Rattle.std.proofs.Common.{◌≡◌, ℕ, zero, suc, ◌*◌, ◌≤◌, List, [], ◌∷◌, ◌++◌, length, drop, refl, ◌∙◌, ap, arith, length-append}
+use Rattle.std.proofs.Common.{length-drop}
 use Rattle.std.specs.List.{flat_map, AllByRecursion}
 use Rattle.escp2_definitions.specs.RowCode.{IsRowPacket, RowCode, RowPacket, packet_code, packet_row}
 use Rattle.escp2_definitions.specs.Canonical.{canonical_row, next_packet, packets_from}
@@ -25,7 +26,14 @@ packets_from-row (suc most) (b ∷ row) enough =
     record {
       allowed = (front.allowed, after.allowed);
       gives = front.gives ∙ ap (λ bs. packet_row packet ++ bs) after.gives;
-      short = omega (arith, length-append (packet_code packet) (flat_map packet_code (packets_from most rest)), front.short, front.within, after.short, length-drop n (b ∷ row));
+      short = omega (
+        arith,
+        length-append (packet_code packet) (flat_map packet_code (packets_from most rest)),
+        front.short,
+        front.within,
+        after.short,
+        length-drop n (b ∷ row),
+      );
     }
 
 -- the canonical code is a code

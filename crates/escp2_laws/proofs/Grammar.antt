@@ -1,9 +1,11 @@
 -- What is read as whole rows is a code of these rows.
-use Rattle.std.proofs.Common.{◌≡◌, ℕ, zero, suc, ◌+◌, ◌-◌, ◌<◌, ◌≤◌, ◌==◌, nat_lt, Bool, true, false, if◌then◌else◌, List, [], ◌∷◌, ◌++◌, length, take, drop, replicate, get_or, refl, sym, ◌∙◌, ap, subst, arith, append_assoc, length-append}
+use Rattle.std.proofs.Common.{◌≡◌, ℕ, zero, suc, ◌+◌, ◌-◌, ◌<◌, ◌≤◌, ◌==◌, nat_lt, Bool, true, false, if◌then◌else◌, List, [], ◌∷◌, ◌++◌}
+use Rattle.std.proofs.Common.{length, take, drop, replicate, get_or, refl, sym, ◌∙◌, ap, subst, arith, append_assoc, length-append}
 use Rattle.std.specs.List.{flat_map, AllByRecursion}
 use Rattle.std.proofs.lemmas.Bool.{ltb-true, ltb-false, eqb-false}
 use Rattle.std.proofs.lemmas.List.{drop-drop, get_or-drop, length-replicate, length-take-le, take_at, take-append-drop}
-use Rattle.escp2_definitions.specs.RowCode.{IsRowPacket, RowPacket, RowsCode, RowsRead, again_at, controlled, packet_at, packet_code, packet_row, plain_at, row_at, rows_at, with_front}
+use Rattle.escp2_definitions.specs.RowCode.{IsRowPacket, RowPacket, RowsCode, RowsRead, again_at, controlled, packet_at, packet_code}
+use Rattle.escp2_definitions.specs.RowCode.{packet_row, plain_at, row_at, rows_at, with_front}
 use Rattle.escp2_definitions.specs.RowCode.Control.{Follow, Again, Refused}
 use Rattle.escp2_definitions.specs.RowCode.RowPacket.{Bytes, Repeat}
 use Rattle.escp2_definitions.specs.RowCode.RowsRead.{RowsAre, RowsPart, RowsWrong}
@@ -56,7 +58,8 @@ literal-read : (count left at n : ℕ) (bytes row : List ℕ) (next : ℕ) → n
     → plain_at count (at + 1) bytes ≡ RowsAre row next → ReadPacket left at (n ∷ bytes) row next
 literal-read count left at n bytes row next one few fits = by_test (nat_lt (length bytes) count) refl
   where
-    by_test : (b : Bool) → nat_lt (length bytes) count ≡ b → (if b then RowsPart else RowsAre (take count bytes) (at + 1 + count)) ≡ RowsAre row next
+    by_test : (b : Bool) → nat_lt (length bytes) count ≡ b
+        → (if b then RowsPart else RowsAre (take count bytes) (at + 1 + count)) ≡ RowsAre row next
         → ReadPacket left at (n ∷ bytes) row next
     by_test true e is = absurd (let part : RowsPart ≡ RowsAre row next = is in cc)
     by_test false e is =
@@ -99,29 +102,34 @@ repeat-read count left at n (b ∷ bytes) row next control some few fits is =
     }
 
 -- a packet that is read may stand there
-packet-read : (left at : ℕ) (bytes row : List ℕ) (next : ℕ) → AreBytes bytes → packet_at left at bytes ≡ RowsAre row next → ReadPacket left at bytes row next
+packet-read : (left at : ℕ) (bytes row : List ℕ) (next : ℕ) → AreBytes bytes → packet_at left at bytes ≡ RowsAre row next
+    → ReadPacket left at bytes row next
 packet-read left at [] row next are is = absurd (let part : RowsPart ≡ RowsAre row next = is in cc)
 packet-read left at (n ∷ bytes) row next are is = by_low (nat_lt n 128) refl is
   where
     byte : n < 256
     byte = are 0
 
-    by_literal : n < 128 → (b : Bool) → nat_lt left (n + 1) ≡ b → (if b then RowsWrong at else plain_at (n + 1) (at + 1) bytes) ≡ RowsAre row next
+    by_literal : n < 128 → (b : Bool) → nat_lt left (n + 1) ≡ b
+        → (if b then RowsWrong at else plain_at (n + 1) (at + 1) bytes) ≡ RowsAre row next
         → ReadPacket left at (n ∷ bytes) row next
     by_literal low true e is = absurd (let wrong : RowsWrong at ≡ RowsAre row next = is in cc)
     by_literal low false e is = literal-read (n + 1) left at n bytes row next refl (omega arith) (ltb-false _ _ e) is
 
-    by_repeat : 128 < n → (b : Bool) → nat_lt left (257 - n) ≡ b → (if b then RowsWrong at else again_at (257 - n) (at + 1) bytes) ≡ RowsAre row next
+    by_repeat : 128 < n → (b : Bool) → nat_lt left (257 - n) ≡ b
+        → (if b then RowsWrong at else again_at (257 - n) (at + 1) bytes) ≡ RowsAre row next
         → ReadPacket left at (n ∷ bytes) row next
     by_repeat high true e is = absurd (let wrong : RowsWrong at ≡ RowsAre row next = is in cc)
-    by_repeat high false e is = repeat-read (257 - n) left at n bytes row next refl (omega (arith, byte)) (omega (arith, byte)) (ltb-false _ _ e) is
+    by_repeat high false e is =
+        repeat-read (257 - n) left at n bytes row next refl (omega (arith, byte)) (omega (arith, byte)) (ltb-false _ _ e) is
 
     by_128 : 128 ≤ n → (b : Bool) → (n == 128) ≡ b → controlled (if b then Refused else Again (257 - n)) left at bytes ≡ RowsAre row next
         → ReadPacket left at (n ∷ bytes) row next
     by_128 high true e is = absurd (let wrong : RowsWrong at ≡ RowsAre row next = is in cc)
     by_128 high false e is = by_repeat (omega (arith, eqb-false n 128 e)) (nat_lt left (257 - n)) refl is
 
-    by_low : (b : Bool) → nat_lt n 128 ≡ b → controlled (if b then Follow (n + 1) else (if n == 128 then Refused else Again (257 - n))) left at bytes ≡ RowsAre row next
+    by_low : (b : Bool) → nat_lt n 128 ≡ b
+        → controlled (if b then Follow (n + 1) else (if n == 128 then Refused else Again (257 - n))) left at bytes ≡ RowsAre row next
         → ReadPacket left at (n ∷ bytes) row next
     by_low true e is = by_literal (ltb-true _ _ e) (nat_lt left (n + 1)) refl is
     by_low false e is = by_128 (ltb-false _ _ e) (n == 128) refl is
@@ -139,7 +147,8 @@ row-step most left at bytes front next e = ap (λ (r : RowsRead). elim r [
 ]) e
 
 -- a row is a part where its next packet is
-pub row-part : (most left at : ℕ) (bytes : List ℕ) → packet_at (suc left) at bytes ≡ RowsPart → row_at (suc most) (suc left) at bytes ≡ RowsPart
+pub row-part : (most left at : ℕ) (bytes : List ℕ) → packet_at (suc left) at bytes ≡ RowsPart
+    → row_at (suc most) (suc left) at bytes ≡ RowsPart
 unfolding row_at
 row-part most left at bytes e = ap (λ (r : RowsRead). elim r [
   | RowsAre front next ↦ with_front front (row_at most (suc left - length front) next (drop (next - at) bytes))
@@ -148,7 +157,8 @@ row-part most left at bytes e = ap (λ (r : RowsRead). elim r [
 ]) e
 
 -- a row is refused where its next packet is
-pub row-wrong : (most left at : ℕ) (bytes : List ℕ) (place : ℕ) → packet_at (suc left) at bytes ≡ RowsWrong place → row_at (suc most) (suc left) at bytes ≡ RowsWrong place
+pub row-wrong : (most left at : ℕ) (bytes : List ℕ) (place : ℕ) → packet_at (suc left) at bytes ≡ RowsWrong place
+    → row_at (suc most) (suc left) at bytes ≡ RowsWrong place
 unfolding row_at
 row-wrong most left at bytes place e = ap (λ (r : RowsRead). elim r [
   | RowsAre front next ↦ with_front front (row_at most (suc left - length front) next (drop (next - at) bytes))
@@ -190,7 +200,8 @@ more-read left at bytes first next rows last packet rest = record {
 }
 
 -- a row that is read has packets
-row-read : (most left at : ℕ) (bytes row : List ℕ) (next : ℕ) → AreBytes bytes → row_at most left at bytes ≡ RowsAre row next → ReadRow left at bytes row next
+row-read : (most left at : ℕ) (bytes row : List ℕ) (next : ℕ) → AreBytes bytes → row_at most left at bytes ≡ RowsAre row next
+    → ReadRow left at bytes row next
 unfolding row_at
 row-read most zero at bytes row next are is = none-read at bytes row next is
 row-read zero (suc left) at bytes row next are is = absurd (let part : RowsPart ≡ RowsAre row next = is in cc)
@@ -201,19 +212,24 @@ row-read (suc most) (suc left) at bytes row next are is =
         → ((rows : List ℕ) (last : ℕ) → r ≡ RowsAre rows last → ReadRow (suc left - length first) place (drop (place - at) bytes) rows last)
         → with_front first r ≡ RowsAre row next → ReadRow (suc left) at bytes row next
     by_rest first place (RowsAre rows last) packet rest same =
-        let P : RowsRead → Type 0 = λ r. elim r [ RowsAre row next ↦ ReadRow (suc left) at bytes row next | RowsPart ↦ Unit {0} | RowsWrong k ↦ Unit {0} ] in
-        subst P same (more-read left at bytes first place rows last (packet-read (suc left) at bytes first place are packet) (rest rows last refl))
+        let P : RowsRead → Type 0 =
+        λ r. elim r [ RowsAre row next ↦ ReadRow (suc left) at bytes row next | RowsPart ↦ Unit {0} | RowsWrong k ↦ Unit {0} ] in
+        subst P same (more-read left at bytes first place rows last (packet-read (suc left) at bytes first place are packet)
+        (rest rows last refl))
     by_rest first place RowsPart packet rest same = absurd (let part : RowsPart ≡ RowsAre row next = same in cc)
     by_rest first place (RowsWrong k) packet rest same = absurd (let wrong : RowsWrong k ≡ RowsAre row next = same in cc)
 
-    by_packet : ((left at : ℕ) (bytes row : List ℕ) (next : ℕ) → AreBytes bytes → row_at most left at bytes ≡ RowsAre row next → ReadRow left at bytes row next)
+    by_packet : ((left at : ℕ) (bytes row : List ℕ) (next : ℕ) → AreBytes bytes → row_at most left at bytes ≡ RowsAre row next
+        → ReadRow left at bytes row next)
         → (r : RowsRead) → packet_at (suc left) at bytes ≡ r → ReadRow (suc left) at bytes row next
     by_packet rest_read (RowsAre first place) packet =
         by_rest first place (row_at most (suc left - length first) place (drop (place - at) bytes)) packet
         (λ rows last. rest_read (suc left - length first) place (drop (place - at) bytes) rows last (bytes-drop (place - at) bytes are))
         (sym (row-step most left at bytes first place packet) ∙ is)
-    by_packet rest_read RowsPart packet = absurd (let part : RowsPart ≡ RowsAre row next = sym (row-part most left at bytes packet) ∙ is in cc)
-    by_packet rest_read (RowsWrong k) packet = absurd (let wrong : RowsWrong k ≡ RowsAre row next = sym (row-wrong most left at bytes k packet) ∙ is in cc)
+    by_packet rest_read RowsPart packet =
+        absurd (let part : RowsPart ≡ RowsAre row next = sym (row-part most left at bytes packet) ∙ is in cc)
+    by_packet rest_read (RowsWrong k) packet =
+        absurd (let wrong : RowsWrong k ≡ RowsAre row next = sym (row-wrong most left at bytes k packet) ∙ is in cc)
 
 -- ---- rows
 
@@ -243,12 +259,17 @@ rows-more m width at bytes row next rows last first rest = record {
 }
 
 -- rows that are read have a code
-pub rows-parsed : (m width at : ℕ) (bytes rows : List ℕ) (next : ℕ) → AreBytes bytes → rows_at m width at bytes ≡ RowsAre rows next → ReadRows m width at bytes rows next
+pub rows-parsed : (m width at : ℕ) (bytes rows : List ℕ) (next : ℕ) → AreBytes bytes → rows_at m width at bytes ≡ RowsAre rows next
+    → ReadRows m width at bytes rows next
 unfolding rows_at
 rows-parsed zero width at bytes rows next are is =
     let none : ReadRow 0 at bytes rows next = none-read at bytes rows next is in
     let passed : 0 ≡ next - at = omega (arith, places-same _ _ _ _ is) in
-    record { code = []; codes = (refl, sym (rows-same _ _ _ _ is)); front = record { place = omega (arith, places-same _ _ _ _ is); is = ap (λ k. drop k bytes) passed } }
+    record {
+      code = [];
+      codes = (refl, sym (rows-same _ _ _ _ is));
+      front = record { place = omega (arith, places-same _ _ _ _ is); is = ap (λ k. drop k bytes) passed };
+    }
 rows-parsed (suc m) width at bytes rows next are is =
     by_row (λ at bytes rows next are is. rows-parsed m width at bytes rows next are is) (row_at width width at bytes) refl is
   where
@@ -256,12 +277,14 @@ rows-parsed (suc m) width at bytes rows next are is =
         → ((rows : List ℕ) (last : ℕ) → r ≡ RowsAre rows last → ReadRows m width place (drop (place - at) bytes) rows last)
         → with_front row r ≡ RowsAre rows next → ReadRows (suc m) width at bytes rows next
     by_rest row place (RowsAre others last) first rest same =
-        let P : RowsRead → Type 0 = λ r. elim r [ RowsAre rows next ↦ ReadRows (suc m) width at bytes rows next | RowsPart ↦ Unit {0} | RowsWrong k ↦ Unit {0} ] in
+        let P : RowsRead → Type 0 =
+        λ r. elim r [ RowsAre rows next ↦ ReadRows (suc m) width at bytes rows next | RowsPart ↦ Unit {0} | RowsWrong k ↦ Unit {0} ] in
         subst P same (rows-more m width at bytes row place others last first (rest others last refl))
     by_rest row place RowsPart first rest same = absurd (let part : RowsPart ≡ RowsAre rows next = same in cc)
     by_rest row place (RowsWrong k) first rest same = absurd (let wrong : RowsWrong k ≡ RowsAre rows next = same in cc)
 
-    by_row : ((at : ℕ) (bytes rows : List ℕ) (next : ℕ) → AreBytes bytes → rows_at m width at bytes ≡ RowsAre rows next → ReadRows m width at bytes rows next)
+    by_row : ((at : ℕ) (bytes rows : List ℕ) (next : ℕ) → AreBytes bytes → rows_at m width at bytes ≡ RowsAre rows next
+        → ReadRows m width at bytes rows next)
         → (r : RowsRead) → row_at width width at bytes ≡ r
         → (elim r [
           | RowsAre row next ↦ with_front row (rows_at m width next (drop (next - at) bytes))
@@ -279,6 +302,7 @@ pub read_codes : (m width : ℕ) (bytes rows : List ℕ) (next : ℕ) → AreByt
     → RowsCode m width (take next bytes) rows
 read_codes m width bytes rows next are is =
     let read : ReadRows m width 0 bytes rows next = rows-parsed m width 0 bytes rows next are is in
-    let front : take next bytes ≡ read.code = ap (take next) read.front.is ∙ take_at read.code (drop (next - 0) bytes) next (omega (arith, read.front.place)) in
+    let front : take next bytes ≡ read.code = ap (take next) read.front.is
+    ∙ take_at read.code (drop (next - 0) bytes) next (omega (arith, read.front.place)) in
     let P : List ℕ → Type 0 = λ code. RowsCode m width code rows in
     subst P (sym front) read.codes

@@ -5,7 +5,9 @@ use Rattle.std.proofs.lemmas.Bool.Decides.{nat_tests}
 use Rattle.printer_definitions.specs.declared.inks.Ink.TheVariants.{Black, Cyan, Magenta, Yellow}
 use Rattle.escp2_definitions.specs.declared.command.Command.TheVariants as c
 use Rattle.escp2_definitions.specs.declared.stops.JobCause.TheVariants.{Unknown}
-use Rattle.escp2_definitions.specs.Commands.{Heard, colour_code, command_at, escape, ink_of, is_bottom, is_colour, is_length, is_off, is_position, is_some, is_switch, number, paren, raster_at, sized, two_bytes, whole, wide_number}
+use Rattle.escp2_definitions.specs.Commands.{Heard, colour_code, command_at, escape, ink_of, is_bottom, is_colour, is_length, is_off}
+use Rattle.escp2_definitions.specs.Commands.{is_position, is_some, is_switch, number, paren, raster_at, sized, two_bytes, whole}
+use Rattle.escp2_definitions.specs.Commands.{wide_number}
 use Rattle.escp2_definitions.specs.Commands.Heard.{Wrong}
 use Rattle.escp2_laws.proofs.RasterTold.{both, raster_at-told}
 use Rattle.escp2_laws.proofs.Told.{Told, told-branch, told-number, told-sized, told-whole, told-wide, wrong-byte}
@@ -24,7 +26,8 @@ colour-is n ok = by_black (n == 0) refl
     by_magenta true e f = sym (eqb-true n 1 f)
     by_magenta false e f = by_cyan (n == 2) e f refl
 
-    by_black : (b : Bool) → (n == 0) ≡ b → colour_code (if b then Black else (if n == 1 then Magenta else (if n == 2 then Cyan else Yellow))) ≡ n
+    by_black : (b : Bool) → (n == 0) ≡ b
+        → colour_code (if b then Black else (if n == 1 then Magenta else (if n == 2 then Cyan else Yellow))) ≡ n
     by_black true e = sym (eqb-true n 0 e)
     by_black false e = by_magenta (n == 1) e refl
 
@@ -38,10 +41,12 @@ paren-told (b ∷ rest) = by_graphics (b == 0x47) refl
     before : List ℕ
     before = 0x1B ∷ 0x28 ∷ []
 
-    by_down_by : (b == 0x47) ≡ false → (b == 0x55) ≡ false → (b == 0x69) ≡ false → (b == 0x43) ≡ false → (b == 0x63) ≡ false → (b == 0x56) ≡ false
+    by_down_by : (b == 0x47) ≡ false → (b == 0x55) ≡ false → (b == 0x69) ≡ false → (b == 0x43) ≡ false → (b == 0x63) ≡ false
+        → (b == 0x56) ≡ false
         → (t : Bool) → (b == 0x76) ≡ t → Told paren before (b ∷ rest) (paren (b ∷ rest))
     by_down_by e1 e2 e3 e4 e5 e6 true e =
-        told-branch paren (sized 2 (wide_number is_position 5 (λ n. whole (c.DownBy n) 7))) before b 0x76 rest (eqb-true _ _ e) (λ more. refl)
+        told-branch paren (sized 2 (wide_number is_position 5 (λ n. whole (c.DownBy n) 7))) before b 0x76 rest (eqb-true _ _ e)
+        (λ more. refl)
         (told-sized 2 (wide_number is_position 5 (λ n. whole (c.DownBy n) 7)) (0x1B ∷ 0x28 ∷ 0x76 ∷ []) rest refl
         (λ rest. told-wide is_position 5 (λ n. whole (c.DownBy n) 7) (0x1B ∷ 0x28 ∷ 0x76 ∷ 2 ∷ 0 ∷ []) rest refl
         (λ n ok rest. told-whole (c.DownBy n) 7 (0x1B ∷ 0x28 ∷ 0x76 ∷ 2 ∷ 0 ∷ two_bytes n) rest refl ok refl refl refl)))
@@ -53,7 +58,8 @@ paren-told (b ∷ rest) = by_graphics (b == 0x47) refl
     by_down_to : (b == 0x47) ≡ false → (b == 0x55) ≡ false → (b == 0x69) ≡ false → (b == 0x43) ≡ false → (b == 0x63) ≡ false
         → (t : Bool) → (b == 0x56) ≡ t → Told paren before (b ∷ rest) (paren (b ∷ rest))
     by_down_to e1 e2 e3 e4 e5 true e =
-        told-branch paren (sized 2 (wide_number is_position 5 (λ n. whole (c.DownTo n) 7))) before b 0x56 rest (eqb-true _ _ e) (λ more. refl)
+        told-branch paren (sized 2 (wide_number is_position 5 (λ n. whole (c.DownTo n) 7))) before b 0x56 rest (eqb-true _ _ e)
+        (λ more. refl)
         (told-sized 2 (wide_number is_position 5 (λ n. whole (c.DownTo n) 7)) (0x1B ∷ 0x28 ∷ 0x56 ∷ []) rest refl
         (λ rest. told-wide is_position 5 (λ n. whole (c.DownTo n) 7) (0x1B ∷ 0x28 ∷ 0x56 ∷ 2 ∷ 0 ∷ []) rest refl
         (λ n ok rest. told-whole (c.DownTo n) 7 (0x1B ∷ 0x28 ∷ 0x56 ∷ 2 ∷ 0 ∷ two_bytes n) rest refl ok refl refl refl)))
@@ -62,11 +68,17 @@ paren-told (b ∷ rest) = by_graphics (b == 0x47) refl
     by_margins : (b == 0x47) ≡ false → (b == 0x55) ≡ false → (b == 0x69) ≡ false → (b == 0x43) ≡ false
         → (t : Bool) → (b == 0x63) ≡ t → Told paren before (b ∷ rest) (paren (b ∷ rest))
     by_margins e1 e2 e3 e4 true e =
-        told-branch paren (sized 4 (wide_number is_position 5 (λ top. wide_number (is_bottom top) 7 (λ bottom. whole (c.Margins top bottom) 9)))) before b 0x63 rest (eqb-true _ _ e) (λ more. refl)
-        (told-sized 4 (wide_number is_position 5 (λ top. wide_number (is_bottom top) 7 (λ bottom. whole (c.Margins top bottom) 9))) (0x1B ∷ 0x28 ∷ 0x63 ∷ []) rest refl
-        (λ rest. told-wide is_position 5 (λ top. wide_number (is_bottom top) 7 (λ bottom. whole (c.Margins top bottom) 9)) (0x1B ∷ 0x28 ∷ 0x63 ∷ 4 ∷ 0 ∷ []) rest refl
-        (λ top top_ok rest. told-wide (is_bottom top) 7 (λ bottom. whole (c.Margins top bottom) 9) (0x1B ∷ 0x28 ∷ 0x63 ∷ 4 ∷ 0 ∷ two_bytes top) rest refl
-        (λ bottom ok rest. told-whole (c.Margins top bottom) 9 (0x1B ∷ 0x28 ∷ 0x63 ∷ 4 ∷ 0 ∷ (two_bytes top ++ two_bytes bottom)) rest refl (both _ _ top_ok ok) refl refl refl))))
+        told-branch paren (sized 4
+        (wide_number is_position 5 (λ top. wide_number (is_bottom top) 7 (λ bottom. whole (c.Margins top bottom) 9)))) before b 0x63
+        rest (eqb-true _ _ e) (λ more. refl)
+        (told-sized 4 (wide_number is_position 5 (λ top. wide_number (is_bottom top) 7 (λ bottom. whole (c.Margins top bottom) 9)))
+        (0x1B ∷ 0x28 ∷ 0x63 ∷ []) rest refl
+        (λ rest. told-wide is_position 5 (λ top. wide_number (is_bottom top) 7 (λ bottom. whole (c.Margins top bottom) 9))
+        (0x1B ∷ 0x28 ∷ 0x63 ∷ 4 ∷ 0 ∷ []) rest refl
+        (λ top top_ok rest. told-wide (is_bottom top) 7 (λ bottom. whole (c.Margins top bottom) 9)
+        (0x1B ∷ 0x28 ∷ 0x63 ∷ 4 ∷ 0 ∷ two_bytes top) rest refl
+        (λ bottom ok rest. told-whole (c.Margins top bottom) 9 (0x1B ∷ 0x28 ∷ 0x63 ∷ 4 ∷ 0 ∷ (two_bytes top ++ two_bytes bottom)) rest refl
+        (both _ _ top_ok ok) refl refl refl))))
     by_margins e1 e2 e3 e4 false e = by_down_to e1 e2 e3 e4 e (b == 0x56) refl
 
     by_length : (b == 0x47) ≡ false → (b == 0x55) ≡ false → (b == 0x69) ≡ false
@@ -78,7 +90,8 @@ paren-told (b ∷ rest) = by_graphics (b == 0x47) refl
         (λ n ok rest. told-whole (c.Length n) 7 (0x1B ∷ 0x28 ∷ 0x43 ∷ 2 ∷ 0 ∷ two_bytes n) rest refl ok refl refl refl)))
     by_length e1 e2 e3 false e = by_margins e1 e2 e3 e (b == 0x63) refl
 
-    by_micro_weave : (b == 0x47) ≡ false → (b == 0x55) ≡ false → (t : Bool) → (b == 0x69) ≡ t → Told paren before (b ∷ rest) (paren (b ∷ rest))
+    by_micro_weave : (b == 0x47) ≡ false → (b == 0x55) ≡ false → (t : Bool) → (b == 0x69) ≡ t
+        → Told paren before (b ∷ rest) (paren (b ∷ rest))
     by_micro_weave e1 e2 true e =
         told-branch paren (sized 1 (number is_off 5 (λ n. whole (c.MicroWeave n) 6))) before b 0x69 rest (eqb-true _ _ e) (λ more. refl)
         (told-sized 1 (number is_off 5 (λ n. whole (c.MicroWeave n) 6)) (0x1B ∷ 0x28 ∷ 0x69 ∷ []) rest refl
@@ -163,9 +176,11 @@ unfolding command_at
 command-told [] = tt
 command-told (b ∷ rest) = by_escape (b == 0x1B) refl
   where
-    by_eject : (b == 0x1B) ≡ false → (b == 0x0D) ≡ false → (t : Bool) → (b == 0x0C) ≡ t → Told command_at [] (b ∷ rest) (command_at (b ∷ rest))
+    by_eject : (b == 0x1B) ≡ false → (b == 0x0D) ≡ false → (t : Bool) → (b == 0x0C) ≡ t
+        → Told command_at [] (b ∷ rest) (command_at (b ∷ rest))
     by_eject e1 e2 true e =
-        told-branch command_at (whole c.Eject 1) [] b 0x0C rest (eqb-true _ _ e) (λ more. refl) (told-whole c.Eject 1 (0x0C ∷ []) rest refl refl refl refl refl)
+        told-branch command_at (whole c.Eject 1) [] b 0x0C rest (eqb-true _ _ e) (λ more. refl)
+        (told-whole c.Eject 1 (0x0C ∷ []) rest refl refl refl refl refl)
     by_eject e1 e2 false e =
         let wrong : (more : List ℕ) → command_at (b ∷ more) ≡ Wrong 0 Unknown = λ more. rw (e1, e2, e) refl in
         let P : Heard → Type 0 = Told command_at [] (b ∷ rest) in
@@ -173,7 +188,8 @@ command-told (b ∷ rest) = by_escape (b == 0x1B) refl
 
     by_return : (b == 0x1B) ≡ false → (t : Bool) → (b == 0x0D) ≡ t → Told command_at [] (b ∷ rest) (command_at (b ∷ rest))
     by_return e1 true e =
-        told-branch command_at (whole c.Return 1) [] b 0x0D rest (eqb-true _ _ e) (λ more. refl) (told-whole c.Return 1 (0x0D ∷ []) rest refl refl refl refl refl)
+        told-branch command_at (whole c.Return 1) [] b 0x0D rest (eqb-true _ _ e) (λ more. refl)
+        (told-whole c.Return 1 (0x0D ∷ []) rest refl refl refl refl refl)
     by_return e1 false e = by_eject e1 e (b == 0x0C) refl
 
     by_escape : (t : Bool) → (b == 0x1B) ≡ t → Told command_at [] (b ∷ rest) (command_at (b ∷ rest))

@@ -32,12 +32,14 @@ spelled_len command rows bytes s = omega (arith, ap length s.spelled, length-app
 
 -- a job begins with its first command
 pub step : (most at : ℕ) (bytes : List ℕ) (command : Command) (rows : List ℕ) (len : ℕ) → command_at bytes ≡ One command rows len
-    → commands_from (suc most) at bytes ≡ with_entry (record { at = at; command = command; rows = rows }) (commands_from most (at + len) (drop len bytes))
+    → commands_from (suc most) at bytes ≡ with_entry (record { at = at; command = command; rows = rows })
+    (commands_from most (at + len) (drop len bytes))
 unfolding commands_from command_at
 step most at [] command rows len e = cc
 step most at (b ∷ bytes) command rows len e =
     ap (λ (h : Heard). elim h [
-      | One command rows len ↦ with_entry (record { at = at; command = command; rows = rows }) (commands_from most (at + len) (drop len (b ∷ bytes)))
+      | One command rows len ↦ with_entry (record { at = at; command = command; rows = rows })
+          (commands_from most (at + len) (drop len (b ∷ bytes)))
       | Part ↦ record { entries = []; end = Cut at }
       | Wrong place cause ↦ record { entries = []; end = Fault (at + place) cause }
     ]) e
@@ -50,9 +52,11 @@ commands_from-said [] most at all fits = refl
 commands_from-said (s ∷ job) zero at all fits =
     absurd (omega (arith, spelled_len s.command s.rows s.bytes all.0, length-append s.bytes (said_bytes job)))
 commands_from-said (s ∷ job) (suc most) at all fits =
-    let bound : length (said_bytes job) ≤ most = omega (arith, spelled_len s.command s.rows s.bytes all.0, length-append s.bytes (said_bytes job)) in
+    let bound : length (said_bytes job)
+    ≤ most = omega (arith, spelled_len s.command s.rows s.bytes all.0, length-append s.bytes (said_bytes job)) in
     let entry : Entry = record { at = at; command = s.command; rows = s.rows } in
-    step most at (s.bytes ++ said_bytes job) s.command s.rows (length s.bytes) (command_at-spelled s.command s.rows s.bytes (said_bytes job) all.0)
+    step most at (s.bytes ++ said_bytes job) s.command s.rows (length s.bytes)
+    (command_at-spelled s.command s.rows s.bytes (said_bytes job) all.0)
     ∙ ap (λ bs. with_entry entry (commands_from most (at + length s.bytes) bs)) (drop_at s.bytes (said_bytes job) (length s.bytes) refl)
     ∙ ap (with_entry entry) (commands_from-said job most (at + length s.bytes) all.1 bound)
 

@@ -1,5 +1,6 @@
 -- The packet at the front of a row: it may stand there, and gives the bytes up to the rest.
-use Rattle.std.proofs.Common.{◌≡◌, ℕ, zero, suc, ◌+◌, ◌-◌, ◌*◌, ◌<◌, ◌≤◌, ◌==◌, nat_lt, Bool, true, false, if◌then◌else◌, List, [], ◌∷◌, ◌++◌, length, take, drop, replicate, get_or, refl, sym, ◌∙◌, ap, arith, eq-eqb}
+use Rattle.std.proofs.Common.{◌≡◌, ℕ, zero, suc, ◌+◌, ◌-◌, ◌*◌, ◌<◌, ◌≤◌, ◌==◌, nat_lt, Bool, true, false, if◌then◌else◌, List, [], ◌∷◌}
+use Rattle.std.proofs.Common.{◌++◌, length, take, drop, replicate, get_or, refl, sym, ◌∙◌, ap, arith, eq-eqb}
 use Rattle.std.specs.List.{take_while}
 use Rattle.std.proofs.lemmas.Bool.{eqb-true, ltb-true, ltb-false, le-ltb}
 use Rattle.std.proofs.lemmas.List.{length-replicate, length-take, length-take-le, take-append-drop}
@@ -27,7 +28,8 @@ same-within : (byte : ℕ) (row : List ℕ) → same byte row ≤ length row
 same-within byte [] = omega arith
 same-within byte (b ∷ row) = by_test (b == byte) (same-cons byte b row) (same-within byte row)
   where
-    by_test : (t : Bool) → same byte (b ∷ row) ≡ (if t then 1 + same byte row else 0) → same byte row ≤ length row → same byte (b ∷ row) ≤ length (b ∷ row)
+    by_test : (t : Bool) → same byte (b ∷ row) ≡ (if t then 1 + same byte row else 0) → same byte row ≤ length row
+        → same byte (b ∷ row) ≤ length (b ∷ row)
     by_test true is within = omega (arith, is, within)
     by_test false is within = omega (arith, is)
 
@@ -70,14 +72,16 @@ equal-is (b ∷ row) some = record {
   front = same-front b 128 (b ∷ row);
 }
   where
-    by_same : (t : Bool) → t ≡ true → same b (b ∷ take 127 row) ≡ (if t then 1 + same b (take 127 row) else 0) → 1 ≤ same b (b ∷ take 127 row)
+    by_same : (t : Bool) → t ≡ true → same b (b ∷ take 127 row) ≡ (if t then 1 + same b (take 127 row) else 0)
+        → 1 ≤ same b (b ∷ take 127 row)
     by_same true e is = omega (arith, is)
     by_same false e is = absurd (let no : false ≡ true = e in cc)
 
 -- ---- bytes up to a place of equal ones
 
 -- a byte that is not the first of three equal ones
-pub apart-more : (left : ℕ) (rest : List ℕ) → 0 < left → 0 < length rest → equal_at rest ≤ 2 → apart_at left rest ≡ 1 + apart_at (left - 1) (drop 1 rest)
+pub apart-more : (left : ℕ) (rest : List ℕ) → 0 < left → 0 < length rest → equal_at rest ≤ 2
+    → apart_at left rest ≡ 1 + apart_at (left - 1) (drop 1 rest)
 unfolding apart_at
 apart-more zero rest some one few = absurd (omega arith)
 apart-more (suc left) [] some one few = absurd (omega arith)
@@ -155,6 +159,9 @@ front-bytes row n some few within =
 pub front-next : (row : List ℕ) → 0 < length row → IsFront row (next_packet row)
 front-next row some = by_test (nat_lt 2 (equal_at row)) refl
   where
-    by_test : (t : Bool) → nat_lt 2 (equal_at row) ≡ t → IsFront row (if t then Repeat (equal_at row) (get_or row 0 0) else Bytes (take (apart_at 128 row) row))
+    by_test : (t : Bool) → nat_lt 2 (equal_at row) ≡ t
+        → IsFront row (if t then Repeat (equal_at row) (get_or row 0 0) else Bytes (take (apart_at 128 row) row))
     by_test true e = front-repeat row (equal_at row) (equal-is row some) (ltb-true _ _ e)
-    by_test false e = front-bytes row (apart_at 128 row) ((counted row some).apart_some (ltb-false _ _ e)) (counted row some).few_apart (counted row some).apart_within
+    by_test false e =
+        front-bytes row (apart_at 128 row) ((counted row some).apart_some (ltb-false _ _ e)) (counted row some).few_apart
+        (counted row some).apart_within

@@ -10,11 +10,13 @@ nothing_left bytes [] e = refl
 nothing_left bytes (b ∷ more) e = absurd (omega (arith, length-append bytes (b ∷ more)))
 
 -- no code of rows begins another
-pub rows_alone : (m width : ℕ) (code more rows other_rows : List ℕ) → RowsCode m width code rows → RowsCode m width (code ++ more) other_rows
+pub rows_alone : (m width : ℕ) (code more rows other_rows : List ℕ) → RowsCode m width code rows
+    → RowsCode m width (code ++ more) other_rows
     → (more ≡ []) × (rows ≡ other_rows)
 rows_alone m width code more rows other_rows one other =
     let first : rows_at m width 0 (code ++ more) ≡ RowsAre rows (0 + length code) = rows-read m width 0 code rows more one in
-    let second : rows_at m width 0 ((code ++ more) ++ []) ≡ RowsAre other_rows (0 + length (code ++ more)) = rows-read m width 0 (code ++ more) other_rows [] other in
+    let second : rows_at m width 0 ((code ++ more) ++ []) ≡ RowsAre other_rows (0 + length (code ++ more)) =
+    rows-read m width 0 (code ++ more) other_rows [] other in
     let same : RowsAre rows (0 + length code) ≡ RowsAre other_rows (0 + length (code ++ more)) =
     sym first ∙ ap (rows_at m width 0) (sym (append-nil (code ++ more))) ∙ second in
     (nothing_left code more (omega (arith, lengths _ _ _ _ same)), equals _ _ _ _ same)
@@ -26,6 +28,7 @@ rows_alone m width code more rows other_rows one other =
     equals rs ss j k e = cc
 
 -- a code is read, whatever follows
-pub code_read : (m width : ℕ) (code rest rows : List ℕ) → RowsCode m width code rows → rows_at m width 0 (code ++ rest) ≡ RowsAre rows (length code)
+pub code_read : (m width : ℕ) (code rest rows : List ℕ) → RowsCode m width code rows
+    → rows_at m width 0 (code ++ rest) ≡ RowsAre rows (length code)
 code_read m width code rest rows is =
     rows-read m width 0 code rows rest is ∙ ap (RowsAre rows) (let p : 0 + length code ≡ length code = omega arith in p)

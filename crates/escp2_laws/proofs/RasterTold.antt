@@ -1,12 +1,14 @@
 -- What is read of a raster is told by its first bytes, whatever follows them, and what is whole is spelled.
-use Rattle.std.proofs.Common.{◌≡◌, ℕ, zero, suc, ◌+◌, ◌-◌, ◌*◌, ◌==◌, ◌&&◌, nat_lt, Bool, true, false, if◌then◌else◌, List, [], ◌∷◌, ◌++◌, length, take, drop, refl, sym, ◌∙◌, ap, subst, arith, append-nil, length-append}
+use Rattle.std.proofs.Common.{◌≡◌, ℕ, zero, suc, ◌+◌, ◌-◌, ◌*◌, ◌==◌, ◌&&◌, nat_lt, Bool, true, false, if◌then◌else◌, List, [], ◌∷◌, ◌++◌}
+use Rattle.std.proofs.Common.{length, take, drop, refl, sym, ◌∙◌, ap, subst, arith, append-nil, length-append}
 use Rattle.std.specs.Prelude.{MatchBool}
 use Rattle.std.proofs.lemmas.List.{drop_at, take_at}
 use Rattle.escp2_definitions.specs.declared.command.RasterHead.{RasterHead}
 use Rattle.escp2_definitions.specs.declared.command.Command.TheVariants as c
 use Rattle.escp2_definitions.specs.RowCode.{RowsCode, RowsRead, plain_at, rows_at}
 use Rattle.escp2_definitions.specs.RowCode.RowsRead.{RowsAre, RowsPart, RowsWrong}
-use Rattle.escp2_definitions.specs.Commands.{Heard, IsRowsText, command_bytes, in_table, is_some, is_switch, is_width, number, raster_at, raster_rows, row_bytes, wide_number, with_rows}
+use Rattle.escp2_definitions.specs.Commands.{Heard, IsRowsText, command_bytes, in_table, is_some, is_switch, is_width, number, raster_at}
+use Rattle.escp2_definitions.specs.Commands.{raster_rows, row_bytes, wide_number, with_rows}
 use Rattle.escp2_laws.proofs.Grammar.{AreBytes, ReadRows, rows-parsed}
 use Rattle.escp2_laws.proofs.RowsTold.{RowsTold, plain-told, rows-told}
 use Rattle.escp2_laws.proofs.Told.{Told, told-number, told-wide}
@@ -55,7 +57,8 @@ coded-are : (head : RasterHead) (rows text : List ℕ) (next : ℕ) → (head.c 
 coded-are head rows text next is_coded there are e =
     let read : ReadRows head.m (row_bytes head) 8 text rows next =
     rows-parsed head.m (row_bytes head) 8 text rows next are (ap (rows_at head.m (row_bytes head) 8) (sym (append-nil text)) ∙ e) in
-    let none : drop (next - 8) text ≡ [] = ap (drop (next - 8)) (sym (append-nil text)) ∙ drop_at text [] (next - 8) (omega (arith, there)) in
+    let none : drop (next - 8) text ≡ [] = ap (drop (next - 8)) (sym (append-nil text))
+    ∙ drop_at text [] (next - 8) (omega (arith, there)) in
     let same : text ≡ read.code = read.front.is ∙ ap (λ bs. read.code ++ bs) none ∙ append-nil read.code in
     let Q : List ℕ → Type 0 = λ code. RowsCode head.m (row_bytes head) code rows in
     let codes : RowsCode head.m (row_bytes head) text rows = subst Q (sym same) read.codes in
@@ -65,7 +68,8 @@ coded-are head rows text next is_coded there are e =
 -- what is told of rows is told of their raster
 raster-told : (head : RasterHead) (read : List ℕ → RowsRead) (bytes : List ℕ) → in_table (c.Raster head) ≡ true
     → ((more : List ℕ) → raster_rows head more ≡ with_rows head (read more))
-    → ((rows text : List ℕ) (next : ℕ) → next ≡ 8 + length text → AreBytes text → read (text ++ []) ≡ RowsAre rows next → AreRows head rows text)
+    → ((rows text : List ℕ) (next : ℕ) → next ≡ 8 + length text → AreBytes text → read (text ++ []) ≡ RowsAre rows next
+    → AreRows head rows text)
     → (r : RowsRead) → RowsTold read 8 bytes r → Told (raster_rows head) (command_bytes (c.Raster head)) bytes (with_rows head r)
 raster-told head read bytes ok is rows_are (RowsAre rows next) t = record {
   front = t.front;
@@ -102,13 +106,15 @@ rows-of-raster head bytes ok = by_form (head.c == 0) refl
         λ more. ap (λ b. with_rows head (if b then plain_at n 8 more else rows_at head.m (row_bytes head) 8 more)) e in
         let P : Heard → Type 0 = Told (raster_rows head) (command_bytes (c.Raster head)) bytes in
         subst P (sym (is bytes))
-        (raster-told head (plain_at n 8) bytes ok is (λ rows text next there are. plain-are head rows text next e there) (plain_at n 8 bytes) (plain-told n 8 bytes))
+        (raster-told head (plain_at n 8) bytes ok is (λ rows text next there are. plain-are head rows text next e there)
+        (plain_at n 8 bytes) (plain-told n 8 bytes))
     by_form false e =
         let is : (more : List ℕ) → raster_rows head more ≡ with_rows head (rows_at head.m (row_bytes head) 8 more) =
         λ more. ap (λ b. with_rows head (if b then plain_at n 8 more else rows_at head.m (row_bytes head) 8 more)) e in
         let P : Heard → Type 0 = Told (raster_rows head) (command_bytes (c.Raster head)) bytes in
         subst P (sym (is bytes))
-        (raster-told head (rows_at head.m (row_bytes head) 8) bytes ok is (λ rows text next there are. coded-are head rows text next e there are)
+        (raster-told head (rows_at head.m (row_bytes head) 8) bytes ok is
+        (λ rows text next there are. coded-are head rows text next e there are)
         (rows_at head.m (row_bytes head) 8 bytes) (rows-told head.m (row_bytes head) 8 bytes))
 
 -- ---- the numbers of a raster
@@ -128,6 +134,7 @@ raster_at-told bytes =
     wide_number is_width 6 (λ n. raster_rows (record { c = c; v = v; h = h; m = m; n = n })))) (0x1B ∷ 0x2E ∷ c ∷ v ∷ []) bytes refl
     (λ h h_ok bytes. told-number is_some 5 (λ m.
     wide_number is_width 6 (λ n. raster_rows (record { c = c; v = v; h = h; m = m; n = n }))) (0x1B ∷ 0x2E ∷ c ∷ v ∷ h ∷ []) bytes refl
-    (λ m m_ok bytes. told-wide is_width 6 (λ n. raster_rows (record { c = c; v = v; h = h; m = m; n = n })) (0x1B ∷ 0x2E ∷ c ∷ v ∷ h ∷ m ∷ []) bytes refl
+    (λ m m_ok bytes. told-wide is_width 6 (λ n. raster_rows (record { c = c; v = v; h = h; m = m; n = n }))
+    (0x1B ∷ 0x2E ∷ c ∷ v ∷ h ∷ m ∷ []) bytes refl
     (λ n n_ok bytes. rows-of-raster (record { c = c; v = v; h = h; m = m; n = n }) bytes
     (both _ _ (both _ _ (both _ _ (both _ _ c_ok v_ok) h_ok) m_ok) n_ok))))))

@@ -1,5 +1,6 @@
 -- What is spelled is read.
-use Rattle.std.proofs.Common.{◌≡◌, ℕ, ◌+◌, ◌*◌, ◌/◌, ◌%◌, Bool, true, false, List, [], ◌∷◌, ◌++◌, length, refl, sym, ◌∙◌, ap, arith, subst, ◌&&◌, if◌then◌else◌, ◌==◌, length-append, append-nil}
+use Rattle.std.proofs.Common.{◌≡◌, ℕ, ◌+◌, ◌*◌, ◌/◌, ◌%◌, Bool, true, false, List, [], ◌∷◌, ◌++◌, length, refl, sym, ◌∙◌, ap, arith, subst}
+use Rattle.std.proofs.Common.{◌&&◌, if◌then◌else◌, ◌==◌, length-append, append-nil}
 use Rattle.std.specs.Prelude.{MatchBool}
 use Rattle.printer_definitions.specs.declared.inks.Ink.TheVariants.{Black, Cyan, Magenta, Yellow}
 use Rattle.escp2_definitions.specs.declared.stops.JobCause.TheVariants.{BadValue}
@@ -7,7 +8,9 @@ use Rattle.escp2_definitions.specs.declared.command.RasterHead.{RasterHead}
 use Rattle.escp2_definitions.specs.declared.command.Command.{Command}
 use Rattle.escp2_definitions.specs.declared.command.Command.TheVariants as c
 use Rattle.escp2_definitions.specs.RowCode.{RowsCode, plain_at, rows_at}
-use Rattle.escp2_definitions.specs.Commands.{Heard, Spells, command_at, command_bytes, in_table, is_bottom, is_length, is_off, is_position, is_some, is_switch, is_width, number, raster_at, raster_rows, row_bytes, two_bytes, whole, wide_number, with_rows}
+use Rattle.escp2_definitions.specs.Commands.{Heard, Spells, command_at, command_bytes, in_table, is_bottom, is_length, is_off, is_position}
+use Rattle.escp2_definitions.specs.Commands.{is_some, is_switch, is_width, number, raster_at, raster_rows, row_bytes, two_bytes, whole}
+use Rattle.escp2_definitions.specs.Commands.{wide_number, with_rows}
 use Rattle.escp2_definitions.specs.Commands.Heard.{One, Wrong}
 use Rattle.escp2_laws.proofs.Rows.{plain-reads, rows-read}
 
@@ -103,23 +106,31 @@ unfolding command_at
 by_command c.Init rows text rest s e = plain c.Init rows text rest s.rows_fit (sym e ∙ s.rows_are) (λ more. refl)
 by_command c.Graphics rows text rest s e = plain c.Graphics rows text rest s.rows_fit (sym e ∙ s.rows_are) (λ more. refl)
 by_command (c.Unit m) rows text rest s e =
-    plain (c.Unit m) rows text rest s.rows_fit (sym e ∙ s.rows_are) (λ more. number-reads is_some 5 m (λ m. whole (c.Unit m) 6) more s.in_range)
+    plain (c.Unit m) rows text rest s.rows_fit (sym e ∙ s.rows_are)
+    (λ more. number-reads is_some 5 m (λ m. whole (c.Unit m) 6) more s.in_range)
 by_command (c.MicroWeave n) rows text rest s e =
-    plain (c.MicroWeave n) rows text rest s.rows_fit (sym e ∙ s.rows_are) (λ more. number-reads is_off 5 n (λ n. whole (c.MicroWeave n) 6) more s.in_range)
+    plain (c.MicroWeave n) rows text rest s.rows_fit (sym e ∙ s.rows_are)
+    (λ more. number-reads is_off 5 n (λ n. whole (c.MicroWeave n) 6) more s.in_range)
 by_command (c.OneWay n) rows text rest s e =
-    plain (c.OneWay n) rows text rest s.rows_fit (sym e ∙ s.rows_are) (λ more. number-reads is_switch 2 n (λ n. whole (c.OneWay n) 3) more s.in_range)
+    plain (c.OneWay n) rows text rest s.rows_fit (sym e ∙ s.rows_are)
+    (λ more. number-reads is_switch 2 n (λ n. whole (c.OneWay n) 3) more s.in_range)
 by_command (c.Length n) rows text rest s e =
-    plain (c.Length n) rows text rest s.rows_fit (sym e ∙ s.rows_are) (λ more. wide-reads is_length 5 n (λ n. whole (c.Length n) 7) more s.in_range)
+    plain (c.Length n) rows text rest s.rows_fit (sym e ∙ s.rows_are)
+    (λ more. wide-reads is_length 5 n (λ n. whole (c.Length n) 7) more s.in_range)
 by_command (c.Margins top bottom) rows text rest s e =
     plain (c.Margins top bottom) rows text rest s.rows_fit (sym e ∙ s.rows_are) (λ more.
-    wide-reads is_position 5 top (λ top. wide_number (is_bottom top) 7 (λ bottom. whole (c.Margins top bottom) 9)) (two_bytes bottom ++ more) (and-left _ _ s.in_range)
+    wide-reads is_position 5 top (λ top. wide_number (is_bottom top) 7 (λ bottom. whole (c.Margins top bottom) 9))
+    (two_bytes bottom ++ more) (and-left _ _ s.in_range)
     ∙ wide-reads (is_bottom top) 7 bottom (λ bottom. whole (c.Margins top bottom) 9) more (and-right _ _ s.in_range))
 by_command (c.DownTo n) rows text rest s e =
-    plain (c.DownTo n) rows text rest s.rows_fit (sym e ∙ s.rows_are) (λ more. wide-reads is_position 5 n (λ n. whole (c.DownTo n) 7) more s.in_range)
+    plain (c.DownTo n) rows text rest s.rows_fit (sym e ∙ s.rows_are)
+    (λ more. wide-reads is_position 5 n (λ n. whole (c.DownTo n) 7) more s.in_range)
 by_command (c.DownBy n) rows text rest s e =
-    plain (c.DownBy n) rows text rest s.rows_fit (sym e ∙ s.rows_are) (λ more. wide-reads is_position 5 n (λ n. whole (c.DownBy n) 7) more s.in_range)
+    plain (c.DownBy n) rows text rest s.rows_fit (sym e ∙ s.rows_are)
+    (λ more. wide-reads is_position 5 n (λ n. whole (c.DownBy n) 7) more s.in_range)
 by_command (c.Across n) rows text rest s e =
-    plain (c.Across n) rows text rest s.rows_fit (sym e ∙ s.rows_are) (λ more. wide-reads is_position 2 n (λ n. whole (c.Across n) 4) more s.in_range)
+    plain (c.Across n) rows text rest s.rows_fit (sym e ∙ s.rows_are)
+    (λ more. wide-reads is_position 2 n (λ n. whole (c.Across n) 4) more s.in_range)
 by_command c.Return rows text rest s e = plain c.Return rows text rest s.rows_fit (sym e ∙ s.rows_are) (λ more. refl)
 by_command c.Eject rows text rest s e = plain c.Eject rows text rest s.rows_fit (sym e ∙ s.rows_are) (λ more. refl)
 by_command (c.Colour Black) rows text rest s e = plain (c.Colour Black) rows text rest s.rows_fit (sym e ∙ s.rows_are) (λ more. refl)
@@ -146,11 +157,14 @@ nothing_left : (bytes more : List ℕ) → length bytes ≡ length (bytes ++ mor
 nothing_left bytes more e = no_rows more (omega (arith, length-append bytes more))
 
 -- no spelling begins another
-pub alone : (one other : Command) (rows other_rows bytes more : List ℕ) → Spells one rows bytes → Spells other other_rows (bytes ++ more) → more ≡ []
+pub alone : (one other : Command) (rows other_rows bytes more : List ℕ) → Spells one rows bytes → Spells other other_rows (bytes ++ more)
+    → more ≡ []
 alone one other rows other_rows bytes more s t =
     let first : command_at (bytes ++ more) ≡ One one rows (length bytes) = command_at-spelled one rows bytes more s in
-    let second : command_at ((bytes ++ more) ++ []) ≡ One other other_rows (length (bytes ++ more)) = command_at-spelled other other_rows (bytes ++ more) [] t in
-    let same : One one rows (length bytes) ≡ One other other_rows (length (bytes ++ more)) = sym first ∙ ap command_at (sym (append-nil (bytes ++ more))) ∙ second in
+    let second : command_at ((bytes ++ more) ++ []) ≡ One other other_rows (length (bytes ++ more)) =
+    command_at-spelled other other_rows (bytes ++ more) [] t in
+    let same : One one rows (length bytes) ≡ One other other_rows (length (bytes ++ more)) = sym first
+    ∙ ap command_at (sym (append-nil (bytes ++ more))) ∙ second in
     nothing_left bytes more (lengths _ _ _ _ _ _ same)
   where
     lengths : (a b : Command) (rs ss : List ℕ) (m n : ℕ) → One a rs m ≡ One b ss n → m ≡ n

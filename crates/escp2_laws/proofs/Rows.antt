@@ -1,10 +1,12 @@
 -- The rows of a raster that are written are read.
-use Rattle.std.proofs.Common.{◌≡◌, ℕ, zero, suc, ◌+◌, ◌-◌, ◌<◌, ◌≤◌, false, nat_lt, ◌==◌, if◌then◌else◌, List, [], ◌∷◌, ◌++◌, length, take, drop, replicate, sym, ◌∙◌, ap, arith, length-append, append_assoc, flat_map}
+use Rattle.std.proofs.Common.{◌≡◌, ℕ, zero, suc, ◌+◌, ◌-◌, ◌<◌, ◌≤◌, false, nat_lt, ◌==◌, if◌then◌else◌, List, [], ◌∷◌, ◌++◌, length, take}
+use Rattle.std.proofs.Common.{drop, replicate, sym, ◌∙◌, ap, arith, length-append, append_assoc, flat_map}
 use Rattle.std.specs.List.{AllByRecursion}
 use Rattle.std.proofs.lemmas.Bool.{le-ltb, lt-ltb}
 use Rattle.std.proofs.lemmas.Bool.Decides.{nat_tests}
 use Rattle.std.proofs.lemmas.List.{take_at, drop_at, length-replicate}
-use Rattle.escp2_definitions.specs.RowCode.{Control, IsRowPacket, RowCode, RowPacket, RowsCode, RowsRead, again_at, control_of, controlled, packet_at, packet_code, packet_row, plain_at, row_at, rows_at, with_front}
+use Rattle.escp2_definitions.specs.RowCode.{Control, IsRowPacket, RowCode, RowPacket, RowsCode, RowsRead, again_at, control_of, controlled}
+use Rattle.escp2_definitions.specs.RowCode.{packet_at, packet_code, packet_row, plain_at, row_at, rows_at, with_front}
 use Rattle.escp2_definitions.specs.RowCode.Control.{Follow, Again, Refused}
 use Rattle.escp2_definitions.specs.RowCode.RowPacket.{Bytes, Repeat}
 use Rattle.escp2_definitions.specs.RowCode.RowsRead.{RowsAre, RowsPart, RowsWrong}
@@ -76,7 +78,8 @@ row-step most left at code more row e =
 -- a row is read from its packets
 row-reads : (packets : List RowPacket) (most left at : ℕ) (rest : List ℕ) → AllByRecursion IsRowPacket packets
     → length (flat_map packet_row packets) ≡ left → left ≤ most
-    → row_at most left at (flat_map packet_code packets ++ rest) ≡ RowsAre (flat_map packet_row packets) (at + length (flat_map packet_code packets))
+    → row_at most left at (flat_map packet_code packets ++ rest)
+    ≡ RowsAre (flat_map packet_row packets) (at + length (flat_map packet_code packets))
 unfolding row_at
 row-reads [] most zero at rest allowed e fits = ap (RowsAre []) (omega arith)
 row-reads [] most (suc left) at rest allowed e fits = absurd (omega arith)

@@ -1,8 +1,10 @@
 -- What is read of coded rows is told by the first bytes, whatever follows them.
-use Rattle.std.proofs.Common.{◌≡◌, ℕ, zero, suc, ◌+◌, ◌-◌, nat_lt, Bool, true, false, if◌then◌else◌, List, [], ◌∷◌, ◌++◌, length, take, drop, refl, sym, ◌∙◌, ap, subst, arith, append_assoc, length-append}
+use Rattle.std.proofs.Common.{◌≡◌, ℕ, zero, suc, ◌+◌, ◌-◌, nat_lt, Bool, true, false, if◌then◌else◌, List, [], ◌∷◌, ◌++◌, length, take}
+use Rattle.std.proofs.Common.{drop, refl, sym, ◌∙◌, ap, subst, arith, append_assoc, length-append}
 use Rattle.std.proofs.lemmas.Bool.{ltb-false}
 use Rattle.std.proofs.lemmas.List.{drop_at, length-take-le, take-append-drop}
-use Rattle.escp2_definitions.specs.RowCode.{Control, RowsRead, again_at, control_of, controlled, packet_at, plain_at, row_at, rows_at, with_front}
+use Rattle.escp2_definitions.specs.RowCode.{Control, RowsRead, again_at, control_of, controlled, packet_at, plain_at, row_at, rows_at}
+use Rattle.escp2_definitions.specs.RowCode.{with_front}
 use Rattle.escp2_definitions.specs.RowCode.Control.{Follow, Again, Refused}
 use Rattle.escp2_definitions.specs.RowCode.RowsRead.{RowsAre, RowsPart, RowsWrong}
 use Rattle.escp2_laws.proofs.Grammar.{row-part, row-step, row-wrong}
@@ -48,7 +50,8 @@ join read next_read at next row code rest bytes is there step (RowsWrong place) 
 pub plain-told : (n at : ℕ) (bytes : List ℕ) → RowsTold (plain_at n at) at bytes (plain_at n at bytes)
 plain-told n at bytes = by_test (nat_lt (length bytes) n) refl
   where
-    by_test : (b : Bool) → nat_lt (length bytes) n ≡ b → RowsTold (plain_at n at) at bytes (if b then RowsPart else RowsAre (take n bytes) (at + n))
+    by_test : (b : Bool) → nat_lt (length bytes) n ≡ b
+        → RowsTold (plain_at n at) at bytes (if b then RowsPart else RowsAre (take n bytes) (at + n))
     by_test true e = tt
     by_test false e =
         let sized : length (take n bytes) ≡ n = length-take-le n bytes (ltb-false _ _ e) in
@@ -67,7 +70,8 @@ packet-told : (left at : ℕ) (bytes : List ℕ) → RowsTold (packet_at left at
 packet-told left at [] = tt
 packet-told left at (n ∷ bytes) = by_control (control_of n) refl
   where
-    refused : (c : Control) → control_of n ≡ c → ((more : List ℕ) → controlled c left at more ≡ RowsWrong at) → RowsTold (packet_at left at) at (n ∷ bytes) (RowsWrong at)
+    refused : (c : Control) → control_of n ≡ c → ((more : List ℕ) → controlled c left at more ≡ RowsWrong at)
+        → RowsTold (packet_at left at) at (n ∷ bytes) (RowsWrong at)
     refused c is wrong = record {
       front = n ∷ [];
       rest = bytes;
@@ -87,10 +91,22 @@ packet-told left at (n ∷ bytes) = by_control (control_of n) refl
 
         by_more : (r : RowsRead) → RowsTold (plain_at k (at + 1)) (at + 1) bytes r → RowsTold (packet_at left at) at (n ∷ bytes) r
         by_more (RowsAre rows next) t =
-            record { front = n ∷ t.front; rest = t.rest; is = ap (λ bs. n ∷ bs) t.is; there = omega (arith, t.there); told = λ more. step (t.front ++ more) ∙ t.told more }
+            record {
+              front = n ∷ t.front;
+              rest = t.rest;
+              is = ap (λ bs. n ∷ bs) t.is;
+              there = omega (arith, t.there);
+              told = λ more. step (t.front ++ more) ∙ t.told more;
+            }
         by_more RowsPart t = tt
         by_more (RowsWrong place) t =
-            record { front = n ∷ t.front; rest = t.rest; is = ap (λ bs. n ∷ bs) t.is; there = omega (arith, t.there); told = λ more. step (t.front ++ more) ∙ t.told more }
+            record {
+              front = n ∷ t.front;
+              rest = t.rest;
+              is = ap (λ bs. n ∷ bs) t.is;
+              there = omega (arith, t.there);
+              told = λ more. step (t.front ++ more) ∙ t.told more;
+            }
 
     repeated : (k : ℕ) → control_of n ≡ Again k → (b : Bool) → nat_lt left k ≡ b → (bytes : List ℕ)
         → RowsTold (packet_at left at) at (n ∷ bytes) (if b then RowsWrong at else again_at k (at + 1) bytes)
@@ -107,7 +123,8 @@ packet-told left at (n ∷ bytes) = by_control (control_of n) refl
       rest = bytes;
       is = refl;
       there = omega arith;
-      told = λ more. ap (λ (c : Control). controlled c left at (byte ∷ more)) is ∙ ap (λ b. if b then RowsWrong at else again_at k (at + 1) (byte ∷ more)) e;
+      told = λ more. ap (λ (c : Control). controlled c left at (byte ∷ more)) is
+          ∙ ap (λ b. if b then RowsWrong at else again_at k (at + 1) (byte ∷ more)) e;
     }
 
     by_control : (c : Control) → control_of n ≡ c → RowsTold (packet_at left at) at (n ∷ bytes) (controlled (control_of n) left at bytes)
@@ -157,7 +174,13 @@ row-told (suc most) (suc left) at bytes =
         let first : FrontTells (packet_at (suc left) at) at bytes (RowsWrong place) (place + 1) = subst P is t in
         let Q : RowsRead → Type 0 = RowsTold (row_at (suc most) (suc left) at) at bytes in
         subst Q (sym (row-wrong most left at bytes place is))
-        (record { front = first.front; rest = first.rest; is = first.is; there = first.there; told = λ more. row-wrong most left at (first.front ++ more) place (first.told more) })
+        (record {
+          front = first.front;
+          rest = first.rest;
+          is = first.is;
+          there = first.there;
+          told = λ more. row-wrong most left at (first.front ++ more) place (first.told more);
+        })
 
 -- ---- rows
 
@@ -178,7 +201,8 @@ rows-next m width at bytes r e = ap (λ (r : RowsRead). elim r [
 pub rows-told : (m width at : ℕ) (bytes : List ℕ) → RowsTold (rows_at m width at) at bytes (rows_at m width at bytes)
 unfolding rows_at
 rows-told zero width at bytes = record { front = []; rest = bytes; is = refl; there = omega arith; told = λ more. refl }
-rows-told (suc m) width at bytes = by_row (λ at bytes. rows-told m width at bytes) (row_at width width at bytes) refl (row-told width width at bytes)
+rows-told (suc m) width at bytes =
+    by_row (λ at bytes. rows-told m width at bytes) (row_at width width at bytes) refl (row-told width width at bytes)
   where
     by_row : ((at : ℕ) (bytes : List ℕ) → RowsTold (rows_at m width at) at bytes (rows_at m width at bytes))
         → (r : RowsRead) → row_at width width at bytes ≡ r → RowsTold (row_at width width at) at bytes (row_at width width at bytes)
@@ -201,4 +225,10 @@ rows-told (suc m) width at bytes = by_row (λ at bytes. rows-told m width at byt
         let first : FrontTells (row_at width width at) at bytes (RowsWrong place) (place + 1) = subst P is t in
         let Q : RowsRead → Type 0 = RowsTold (rows_at (suc m) width at) at bytes in
         subst Q (sym (rows-next m width at bytes (RowsWrong place) is))
-        (record { front = first.front; rest = first.rest; is = first.is; there = first.there; told = λ more. rows-next m width at (first.front ++ more) (RowsWrong place) (first.told more) })
+        (record {
+          front = first.front;
+          rest = first.rest;
+          is = first.is;
+          there = first.there;
+          told = λ more. rows-next m width at (first.front ++ more) (RowsWrong place) (first.told more);
+        })

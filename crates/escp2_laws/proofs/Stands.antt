@@ -1,5 +1,6 @@
 -- What is read of a command stands, whatever follows.
-use Rattle.std.proofs.Common.{◌≡◌, ℕ, zero, suc, ◌+◌, ◌-◌, ◌<◌, ◌≤◌, List, [], ◌∷◌, ◌++◌, length, take, drop, refl, sym, ◌∙◌, ap, subst, arith, append_assoc, length-append, length-drop}
+use Rattle.std.proofs.Common.{◌≡◌, ℕ, zero, suc, ◌+◌, ◌-◌, ◌<◌, ◌≤◌, List, [], ◌∷◌, ◌++◌, length, take, drop, refl, sym, ◌∙◌, ap, subst}
+use Rattle.std.proofs.Common.{arith, append_assoc, length-append, length-drop}
 use Rattle.std.proofs.lemmas.List.{drop-append-le, length-take, take_at, take-append-drop}
 use Rattle.std.proofs.Math.Seq.{take-append-add}
 use Rattle.escp2_definitions.specs.declared.command.Command.{Command}
@@ -18,7 +19,8 @@ bytes-front (b ∷ front) rest are zero = are 0
 bytes-front (b ∷ front) rest are (suc k) = bytes-front front rest (λ k. are (suc k)) k
 
 -- a whole command, as its first bytes tell it
-one-told : (bytes : List ℕ) (command : Command) (rows : List ℕ) (len : ℕ) → command_at bytes ≡ One command rows len → TellsOne command_at [] bytes command rows len
+one-told : (bytes : List ℕ) (command : Command) (rows : List ℕ) (len : ℕ) → command_at bytes ≡ One command rows len
+    → TellsOne command_at [] bytes command rows len
 one-told bytes command rows len e = let P : Heard → Type 0 = Told command_at [] bytes in subst P e (command-told bytes)
 
 -- a fault, as the first bytes tell it
@@ -28,7 +30,8 @@ wrong-told bytes at cause e = let P : Heard → Type 0 = Told command_at [] byte
 -- ---- a whole command
 
 -- a whole command is spelled by its bytes
-pub heard-spelled : (bytes : List ℕ) (command : Command) (rows : List ℕ) (len : ℕ) → AreBytes bytes → command_at bytes ≡ One command rows len
+pub heard-spelled : (bytes : List ℕ) (command : Command) (rows : List ℕ) (len : ℕ) → AreBytes bytes
+    → command_at bytes ≡ One command rows len
     → Spells command rows (take len bytes)
 heard-spelled bytes command rows len are e =
     let t : TellsOne command_at [] bytes command rows len = one-told bytes command rows len e in
@@ -54,7 +57,8 @@ one-stands_behind bytes rest command rows len e =
 -- ---- a fault
 
 -- a fault stands with all of the bytes before
-wrong-stands_behind : (bytes rest : List ℕ) (at : ℕ) (cause : JobCause) → command_at bytes ≡ Wrong at cause → command_at (bytes ++ rest) ≡ Wrong at cause
+wrong-stands_behind : (bytes rest : List ℕ) (at : ℕ) (cause : JobCause) → command_at bytes ≡ Wrong at cause
+    → command_at (bytes ++ rest) ≡ Wrong at cause
 wrong-stands_behind bytes rest at cause e =
     let t : TellsWrong command_at [] bytes at cause = wrong-told bytes at cause e in
     ap (λ bs. command_at (bs ++ rest)) t.is ∙ ap command_at (append_assoc t.front t.rest rest) ∙ t.told (t.rest ++ rest)
@@ -90,8 +94,11 @@ fault-stands bytes at cause e =
     ∙ take-append-add t.front t.rest more in
     record {
       within = omega (arith, t.least, ap length t.is, length-append t.front t.rest);
-      before = before-fault (take at bytes) (drop at bytes) at cause (omega (arith, length-take at bytes)) (ap command_at (take-append-drop at bytes) ∙ e) (command_at (take at bytes)) refl;
-      stands = λ rest. ap (λ bs. command_at (bs ++ rest)) front ∙ ap command_at (append_assoc t.front (take more t.rest) rest) ∙ t.told (take more t.rest ++ rest);
+      before =
+          before-fault (take at bytes) (drop at bytes) at cause (omega (arith, length-take at bytes))
+          (ap command_at (take-append-drop at bytes) ∙ e) (command_at (take at bytes)) refl;
+      stands = λ rest. ap (λ bs. command_at (bs ++ rest)) front ∙ ap command_at (append_assoc t.front (take more t.rest) rest)
+          ∙ t.told (take more t.rest ++ rest);
     }
 
 -- ---- less than a whole command
@@ -102,13 +109,15 @@ part-of_part bytes rest e = by_heard (command_at bytes) refl
   where
     by_heard : (h : Heard) → command_at bytes ≡ h → command_at bytes ≡ Part
     by_heard Part is = is
-    by_heard (One command rows len) is = absurd (let no : One command rows len ≡ Part = sym (one-stands_behind bytes rest command rows len is) ∙ e in cc)
+    by_heard (One command rows len) is =
+        absurd (let no : One command rows len ≡ Part = sym (one-stands_behind bytes rest command rows len is) ∙ e in cc)
     by_heard (Wrong at cause) is = absurd (let no : Wrong at cause ≡ Part = sym (wrong-stands_behind bytes rest at cause is) ∙ e in cc)
 
 -- ---- jobs
 
 -- a command has a byte at least, and no more than there are
-pub one-len : (bytes : List ℕ) (command : Command) (rows : List ℕ) (len : ℕ) → command_at bytes ≡ One command rows len → (1 ≤ len) × (len ≤ length bytes)
+pub one-len : (bytes : List ℕ) (command : Command) (rows : List ℕ) (len : ℕ) → command_at bytes ≡ One command rows len → (1 ≤ len)
+    × (len ≤ length bytes)
 unfolding command_at
 one-len bytes command rows len e =
     let t : TellsOne command_at [] bytes command rows len = one-told bytes command rows len e in
@@ -120,17 +129,20 @@ one-len bytes command rows len e =
 
 -- what the first command leaves of a job
 abbrev pub after : Heard → ℕ → ℕ → List ℕ → CommandList
-after (One command rows len) most at bytes = with_entry (record { at = at; command = command; rows = rows }) (commands_from most (at + len) (drop len bytes))
+after (One command rows len) most at bytes =
+    with_entry (record { at = at; command = command; rows = rows }) (commands_from most (at + len) (drop len bytes))
 after Part most at bytes = record { entries = []; end = Cut at }
 after (Wrong place cause) most at bytes = record { entries = []; end = Fault (at + place) cause }
 
 -- a job is its first command and what that leaves
-pub first-of : (most at b : ℕ) (bytes : List ℕ) → commands_from (suc most) at (b ∷ bytes) ≡ after (command_at (b ∷ bytes)) most at (b ∷ bytes)
+pub first-of : (most at b : ℕ) (bytes : List ℕ)
+    → commands_from (suc most) at (b ∷ bytes) ≡ after (command_at (b ∷ bytes)) most at (b ∷ bytes)
 unfolding commands_from
 first-of most at b bytes = by_heard (command_at (b ∷ bytes))
   where
     by_heard : (h : Heard) → (elim h [
-      | One command rows len ↦ with_entry (record { at = at; command = command; rows = rows }) (commands_from most (at + len) (drop len (b ∷ bytes)))
+      | One command rows len ↦ with_entry (record { at = at; command = command; rows = rows })
+          (commands_from most (at + len) (drop len (b ∷ bytes)))
       | Part ↦ record { entries = []; end = Cut at }
       | Wrong place cause ↦ record { entries = []; end = Fault (at + place) cause }
     ]) ≡ after h most at (b ∷ bytes)
@@ -146,10 +158,12 @@ fault-from most more at [] rest place cause few fits e = absurd (let no : Whole 
 fault-from zero more at (b ∷ bytes) rest place cause few fits e = absurd (omega arith)
 fault-from (suc most) zero at (b ∷ bytes) rest place cause few fits e = absurd (omega (arith, length-append (b ∷ bytes) rest))
 fault-from (suc most) (suc more) at (b ∷ bytes) rest place cause few fits e =
-    first-of more at b (bytes ++ rest) ∙ by_heard (λ more at bytes few fits e. fault-from most more at bytes rest place cause few fits e) (command_at (b ∷ bytes)) refl
+    first-of more at b (bytes ++ rest)
+    ∙ by_heard (λ more at bytes few fits e. fault-from most more at bytes rest place cause few fits e) (command_at (b ∷ bytes)) refl
     ∙ sym (first-of most at b bytes)
   where
-    by_heard : ((more at : ℕ) (bytes : List ℕ) → length bytes ≤ most → length (bytes ++ rest) ≤ more → (commands_from most at bytes).end ≡ Fault place cause
+    by_heard : ((more at : ℕ) (bytes : List ℕ) → length bytes ≤ most → length (bytes ++ rest) ≤ more
+        → (commands_from most at bytes).end ≡ Fault place cause
         → commands_from more at (bytes ++ rest) ≡ commands_from most at bytes)
         → (h : Heard) → command_at (b ∷ bytes) ≡ h
         → after (command_at (b ∷ (bytes ++ rest))) more at (b ∷ (bytes ++ rest)) ≡ after (command_at (b ∷ bytes)) most at (b ∷ bytes)
@@ -166,11 +180,14 @@ fault-from (suc most) (suc more) at (b ∷ bytes) rest place cause few fits e =
         (omega (arith, sized.0, ap length left, length-drop len (b ∷ (bytes ++ rest)))) ends)
         ∙ sym (ap (λ h. after h most at (b ∷ bytes)) is)
     by_heard behind Part is =
-        absurd (let no : Cut at ≡ Fault place cause = sym (ap (λ h. (after h most at (b ∷ bytes)).end) is) ∙ sym (ap (λ (l : CommandList). l.end) (first-of most at b bytes)) ∙ e in cc)
+        absurd (let no : Cut at ≡ Fault place cause = sym (ap (λ h. (after h most at (b ∷ bytes)).end) is)
+        ∙ sym (ap (λ (l : CommandList). l.end) (first-of most at b bytes)) ∙ e in cc)
     by_heard behind (Wrong k other) is =
-        ap (λ h. after h more at (b ∷ (bytes ++ rest))) (wrong-stands_behind (b ∷ bytes) rest k other is) ∙ sym (ap (λ h. after h most at (b ∷ bytes)) is)
+        ap (λ h. after h more at (b ∷ (bytes ++ rest))) (wrong-stands_behind (b ∷ bytes) rest k other is)
+        ∙ sym (ap (λ h. after h most at (b ∷ bytes)) is)
 
 -- and those of a job
-pub fault-stays : (bytes rest : List ℕ) (at : ℕ) (cause : JobCause) → (commands bytes).end ≡ Fault at cause → commands (bytes ++ rest) ≡ commands bytes
+pub fault-stays : (bytes rest : List ℕ) (at : ℕ) (cause : JobCause) → (commands bytes).end ≡ Fault at cause
+    → commands (bytes ++ rest) ≡ commands bytes
 fault-stays bytes rest at cause e =
     fault-from (length bytes) (length (bytes ++ rest)) 0 bytes rest at cause (omega arith) (omega arith) e

@@ -1,11 +1,13 @@
 -- What is read of a command is told by the first bytes, whatever follows them, and what is whole is spelled: the parts
 -- of a command, one behind another.
-use Rattle.std.proofs.Common.{◌≡◌, ℕ, suc, ◌+◌, ◌*◌, ◌/◌, ◌%◌, ◌<◌, ◌≤◌, ◌==◌, Bool, true, false, if◌then◌else◌, List, [], ◌∷◌, ◌++◌, length, refl, sym, ◌∙◌, ap, subst, arith, append_assoc, length-append}
+use Rattle.std.proofs.Common.{◌≡◌, ℕ, suc, ◌+◌, ◌*◌, ◌/◌, ◌%◌, ◌<◌, ◌≤◌, ◌==◌, Bool, true, false, if◌then◌else◌, List, [], ◌∷◌, ◌++◌}
+use Rattle.std.proofs.Common.{length, refl, sym, ◌∙◌, ap, subst, arith, append_assoc, length-append}
 use Rattle.std.proofs.lemmas.Bool.{eqb-true}
 use Rattle.escp2_definitions.specs.declared.command.Command.{Command}
 use Rattle.escp2_definitions.specs.declared.stops.JobCause.{JobCause}
 use Rattle.escp2_definitions.specs.declared.stops.JobCause.TheVariants.{BadLength, BadValue}
-use Rattle.escp2_definitions.specs.Commands.{Heard, IsRowsText, Spells, command_bytes, in_table, number, rows_len, sized, two_bytes, whole, wide_number}
+use Rattle.escp2_definitions.specs.Commands.{Heard, IsRowsText, Spells, command_bytes, in_table, number, rows_len, sized, two_bytes, whole}
+use Rattle.escp2_definitions.specs.Commands.{wide_number}
 use Rattle.escp2_definitions.specs.Commands.Heard.{One, Part, Wrong}
 use Rattle.escp2_laws.proofs.Grammar.{AreBytes}
 
@@ -46,7 +48,8 @@ told-behind read next before code spelled rest step same split (One command rows
   told = λ more. ap read (append_assoc code t.front more) ∙ step (t.front ++ more) ∙ t.told more;
   spells = λ are.
       let P : List ℕ → Type 0 = Spells command rows in
-      subst P (append_assoc before spelled t.front ∙ ap (λ bs. before ++ (bs ++ t.front)) (sym (split t.front are).0)) (t.spells (split t.front are).1);
+      subst P (append_assoc before spelled t.front ∙ ap (λ bs. before ++ (bs ++ t.front)) (sym (split t.front are).0))
+      (t.spells (split t.front are).1);
 }
 told-behind read next before code spelled rest step same split Part t = tt
 told-behind read next before code spelled rest step same split (Wrong place cause) t = record {
@@ -63,10 +66,12 @@ pub told-byte : (read next : List ℕ → Heard) (before : List ℕ) (n : ℕ) (
     → Told next (before ++ n ∷ []) rest (next rest) → Told read before (n ∷ rest) (read (n ∷ rest))
 told-byte read next before n rest step t =
     let P : Heard → Type 0 = Told read before (n ∷ rest) in
-    subst P (sym (step rest)) (told-behind read next before (n ∷ []) (n ∷ []) rest step refl (λ front are. (refl, λ k. are (suc k))) (next rest) t)
+    subst P (sym (step rest))
+    (told-behind read next before (n ∷ []) (n ∷ []) rest step refl (λ front are. (refl, λ k. are (suc k))) (next rest) t)
 
 -- a byte of the table
-pub told-branch : (read next : List ℕ → Heard) (before : List ℕ) (b n : ℕ) (rest : List ℕ) → b ≡ n → ((more : List ℕ) → read (n ∷ more) ≡ next more)
+pub told-branch : (read next : List ℕ → Heard) (before : List ℕ) (b n : ℕ) (rest : List ℕ) → b ≡ n
+    → ((more : List ℕ) → read (n ∷ more) ≡ next more)
     → Told next (before ++ n ∷ []) rest (next rest) → Told read before (b ∷ rest) (read (b ∷ rest))
 told-branch read next before b n rest same step t =
     let P : ℕ → Type 0 = λ b. Told read before (b ∷ rest) (read (b ∷ rest)) in
@@ -102,7 +107,8 @@ told-number in_range at next before (n ∷ rest) there after = by_test (in_range
   where
     by_test : (b : Bool) → in_range n ≡ b → Told (number in_range at next) before (n ∷ rest) (number in_range at next (n ∷ rest))
     by_test true e =
-        told-byte (number in_range at next) (next n) before n rest (λ more. ap (λ b. if b then next n more else Wrong at BadValue) e) (after n e rest)
+        told-byte (number in_range at next) (next n) before n rest (λ more. ap (λ b. if b then next n more else Wrong at BadValue) e)
+        (after n e rest)
     by_test false e =
         let wrong : (more : List ℕ) → number in_range at next (n ∷ more) ≡ Wrong at BadValue =
         λ more. ap (λ b. if b then next n more else Wrong at BadValue) e in
@@ -127,7 +133,8 @@ told-wide in_range at next before (low ∷ high ∷ rest) there after = by_test 
     n : ℕ
     n = low + 256 * high
 
-    by_test : (b : Bool) → in_range n ≡ b → Told (wide_number in_range at next) before (low ∷ high ∷ rest) (wide_number in_range at next (low ∷ high ∷ rest))
+    by_test : (b : Bool) → in_range n ≡ b
+        → Told (wide_number in_range at next) before (low ∷ high ∷ rest) (wide_number in_range at next (low ∷ high ∷ rest))
     by_test true e =
         let step : (more : List ℕ) → wide_number in_range at next (low ∷ high ∷ more) ≡ next n more =
         λ more. ap (λ b. if b then next n more else Wrong at BadValue) e in
@@ -140,7 +147,14 @@ told-wide in_range at next before (low ∷ high ∷ rest) there after = by_test 
         λ more. ap (λ b. if b then next n more else Wrong at BadValue) e in
         let P : Heard → Type 0 = Told (wide_number in_range at next) before (low ∷ high ∷ rest) in
         subst P (sym (wrong rest))
-        (record { front = low ∷ high ∷ []; rest = rest; is = refl; least = omega (arith, there); most = omega (arith, there); told = wrong })
+        (record {
+          front = low ∷ high ∷ [];
+          rest = rest;
+          is = refl;
+          least = omega (arith, there);
+          most = omega (arith, there);
+          told = wrong;
+        })
 
 -- ---- lengths
 
@@ -161,16 +175,25 @@ told-sized len next before (low ∷ bytes) there after = by_low (low == len) ref
         λ more. ap (λ b. if b then (if high == 0 then next more else Wrong 4 BadLength) else Wrong 3 BadLength) e
         ∙ ap (λ b. if b then next more else Wrong 4 BadLength) zero_is in
         let P : Heard → Type 0 = Told (sized len next) before (low ∷ high ∷ rest) in
-        let same : low ∷ high ∷ [] ≡ len ∷ 0 ∷ [] = ap (λ n. n ∷ high ∷ []) (eqb-true low len e) ∙ ap (λ n. len ∷ n ∷ []) (eqb-true high 0 zero_is) in
+        let same : low ∷ high ∷ [] ≡ len ∷ 0 ∷ [] = ap (λ n. n ∷ high ∷ []) (eqb-true low len e)
+        ∙ ap (λ n. len ∷ n ∷ []) (eqb-true high 0 zero_is) in
         subst P (sym (step rest))
-        (told-behind (sized len next) next before (low ∷ high ∷ []) (len ∷ 0 ∷ []) rest step refl (λ front are. (same, λ k. are (suc (suc k)))) (next rest) (after rest))
+        (told-behind (sized len next) next before (low ∷ high ∷ []) (len ∷ 0 ∷ []) rest step refl
+        (λ front are. (same, λ k. are (suc (suc k)))) (next rest) (after rest))
     by_high e high rest false not_zero =
         let wrong : (more : List ℕ) → sized len next (low ∷ high ∷ more) ≡ Wrong 4 BadLength =
         λ more. ap (λ b. if b then (if high == 0 then next more else Wrong 4 BadLength) else Wrong 3 BadLength) e
         ∙ ap (λ b. if b then next more else Wrong 4 BadLength) not_zero in
         let P : Heard → Type 0 = Told (sized len next) before (low ∷ high ∷ rest) in
         subst P (sym (wrong rest))
-        (record { front = low ∷ high ∷ []; rest = rest; is = refl; least = omega (arith, there); most = omega (arith, there); told = wrong })
+        (record {
+          front = low ∷ high ∷ [];
+          rest = rest;
+          is = refl;
+          least = omega (arith, there);
+          most = omega (arith, there);
+          told = wrong;
+        })
 
     by_low : (b : Bool) → (low == len) ≡ b → (bytes : List ℕ) → Told (sized len next) before (low ∷ bytes) (sized len next (low ∷ bytes))
     by_low true e [] =

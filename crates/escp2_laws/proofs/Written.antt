@@ -1,5 +1,6 @@
 -- What is written of a command spells it.
-use Rattle.std.proofs.Common.{◌≡◌, ℕ, zero, suc, ◌+◌, ◌*◌, ◌≤◌, Bool, true, false, ◌==◌, if◌then◌else◌, List, length, take, drop, refl, sym, ◌∙◌, arith, length-drop, ◌⊎◌, inl, inr, eq-eqb, leb-true}
+use Rattle.std.proofs.Common.{◌≡◌, ℕ, zero, suc, ◌+◌, ◌*◌, ◌≤◌, Bool, true, false, ◌==◌, if◌then◌else◌, List, length, take, drop, refl, sym}
+use Rattle.std.proofs.Common.{◌∙◌, arith, length-drop, ◌⊎◌, inl, inr, eq-eqb, leb-true}
 use Rattle.std.specs.Prelude.{MatchBool}
 use Rattle.std.specs.List.{flat_map}
 use Rattle.std.proofs.lemmas.List.{length-take-le, take-append-drop}
@@ -17,7 +18,8 @@ use Rattle.escp2_laws.proofs.Reading.{and-left, no_rows}
 -- ---- rows one by one
 
 -- so many rows of this width, each by a code of its own, are a code of them all
-pub apart-codes : (code : List ℕ → List ℕ) (m width : ℕ) (rows : List ℕ) → ((row : List ℕ) → RowCode (code row) row) → length rows ≡ m * width
+pub apart-codes : (code : List ℕ → List ℕ) (m width : ℕ) (rows : List ℕ) → ((row : List ℕ) → RowCode (code row) row)
+    → length rows ≡ m * width
     → RowsCode m width (flat_map code (rows_apart m width rows)) rows
 apart-codes code zero width rows codes fits = (refl, no_rows rows (omega arith))
 apart-codes code (suc m) width rows codes fits =
@@ -38,7 +40,8 @@ apart-codes code (suc m) width rows codes fits =
 -- the rows of a raster as they are written
 rows_text : (b : Bool) (code : List ℕ → List ℕ) (m width : ℕ) (rows : List ℕ) → length rows ≡ m * width
     → (b ≡ true) ⊎ ((row : List ℕ) → RowCode (code row) row)
-    → MatchBool b ((if b then rows else flat_map code (rows_apart m width rows)) ≡ rows) (RowsCode m width (if b then rows else flat_map code (rows_apart m width rows)) rows)
+    → MatchBool b ((if b then rows else flat_map code (rows_apart m width rows)) ≡ rows)
+    (RowsCode m width (if b then rows else flat_map code (rows_apart m width rows)) rows)
 rows_text true code m width rows fits coded = refl
 rows_text false code m width rows fits (inl e) = absurd (let no : false ≡ true = e in cc)
 rows_text false code m width rows fits (inr codes) = apart-codes code m width rows codes fits

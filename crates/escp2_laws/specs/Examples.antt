@@ -13,7 +13,8 @@ three_nozzles = record tiny1 { nozzles = 3; pitch = 2; top = 4 }
 
 -- ---- a job for three nozzles
 
--- a sheet of six rows, 46 bytes: graphics, units of 5/3600 inch, MicroWeave off, one way, a length of 12 units, margins 0 and 12
+-- a sheet of six rows, 46 bytes: graphics, units of 5/3600 inch, MicroWeave off, one way, a length of 12 units, margins
+-- 0 and 12
 abbrev pub listing_front : List ℕ
 listing_front =
     0x1B ∷ 0x40

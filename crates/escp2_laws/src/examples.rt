@@ -6,10 +6,14 @@ ghost use Rattle.escp2_definitions.specs.Commands.{command_at, commands};
 ghost use Rattle.escp2_definitions.specs.JobEnds.{job_end};
 ghost use Rattle.escp2_definitions.specs.Machine.{execute};
 ghost use Rattle.escp2_definitions.specs.declared.command.Command.TheVariants as c;
-ghost use Rattle.escp2_definitions.specs.declared.stops.EmuFault.TheVariants.{Backward, Density, NoMargins, NoUnit, NotGraphics, OffGrid, OffSheet, Overprint, Rows};
+ghost use Rattle.escp2_definitions.specs.declared.stops.EmuFault.TheVariants.{Backward, Density, NoMargins, NoUnit};
+ghost use Rattle.escp2_definitions.specs.declared.stops.EmuFault.TheVariants.{NotGraphics, OffGrid, OffSheet};
+ghost use Rattle.escp2_definitions.specs.declared.stops.EmuFault.TheVariants.{Overprint, Rows};
 ghost use Rattle.escp2_definitions.specs.declared.stops.JobCause.TheVariants.{BadLength, BadValue, RunCode, Unknown};
 ghost use Rattle.escp2_definitions.specs.declared.stops.JobStop.TheVariants.{TooLong};
-ghost use Rattle.escp2_laws.specs.Examples.{black_row, blank_row, down_to_12, eight_dots, end_of, graphics, length_12, listing, listing_overprinted, margins_12, one_dot, refusal, refused, said, sheet_refusal, three_nozzles, unit_1, unit_10, unit_5};
+ghost use Rattle.escp2_laws.specs.Examples.{black_row, blank_row, down_to_12, eight_dots, end_of, graphics, length_12};
+ghost use Rattle.escp2_laws.specs.Examples.{listing, listing_overprinted, margins_12, one_dot, refusal, refused, said};
+ghost use Rattle.escp2_laws.specs.Examples.{sheet_refusal, three_nozzles, unit_1, unit_10, unit_5};
 ghost use Rattle.printer_definitions.specs.declared.inks.Ink.TheVariants.{Black};
 ghost use Rattle.std.specs.Prelude.{None, Some, [], length, replicate, take, ◌++◌, ◌∷◌, ◌≡◌};
 

@@ -1,5 +1,5 @@
-//! Laws of print jobs and of the code of rows: what is spelled is read and what is read is spelled, whatever follows, and
-//! no spelling begins another; and worked jobs.
+//! Laws of print jobs and of the code of rows: what is spelled is read and what is read is spelled, whatever follows,
+//! and no spelling begins another; and worked jobs.
 #![tactic(auto)]
 
 mod codes;

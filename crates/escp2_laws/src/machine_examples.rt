@@ -3,10 +3,12 @@ ghost use Rattle.escp2_definitions.specs.Commands.Heard.{One, Wrong};
 ghost use Rattle.escp2_definitions.specs.Commands.{command_at};
 ghost use Rattle.escp2_definitions.specs.Machine.{start};
 ghost use Rattle.escp2_definitions.specs.declared.command.Command.TheVariants as c;
-ghost use Rattle.escp2_definitions.specs.declared.stops.EmuFault.TheVariants.{Backward, Density, NoMargins, NoUnit, NotGraphics, OffGrid, OffSheet, Rows};
+ghost use Rattle.escp2_definitions.specs.declared.stops.EmuFault.TheVariants.{Backward, Density, NoMargins, NoUnit};
+ghost use Rattle.escp2_definitions.specs.declared.stops.EmuFault.TheVariants.{NotGraphics, OffGrid, OffSheet, Rows};
 ghost use Rattle.escp2_definitions.specs.declared.stops.JobCause.TheVariants.{RunCode};
 ghost use Rattle.escp2_laws.specs.Examples.{said};
-ghost use Rattle.escp2_laws.specs.Machines.{fault_of, in_graphics, off_column, on_sheet, printed_by, raster, row_of, sheet_begins, with_dot, with_unit};
+ghost use Rattle.escp2_laws.specs.Machines.{fault_of, in_graphics, off_column, on_sheet, printed_by, raster, row_of};
+ghost use Rattle.escp2_laws.specs.Machines.{sheet_begins, with_dot, with_unit};
 ghost use Rattle.printer_definitions.specs.declared.inks.Ink.TheVariants.{Black, Cyan, Magenta, Yellow};
 ghost use Rattle.std.specs.Prelude.{None, Some, [], ◌++◌, ◌∷◌, ◌≡◌};
 

@@ -1,5 +1,5 @@
-//! What a reader of a job relies on while more bytes come: what is read of a command stands. Each function does nothing;
-//! its contract is a law.
+//! What a reader of a job relies on while more bytes come: what is read of a command stands. Each function does
+//! nothing; its contract is a law.
 ghost use Rattle.escp2_definitions.specs.Commands.Heard.{One, Part, Wrong};
 ghost use Rattle.escp2_definitions.specs.Commands.ListEnd.{Fault};
 ghost use Rattle.escp2_definitions.specs.Commands.{Spells, command_at, commands};
@@ -21,10 +21,11 @@ pub fn a_command_stands()
         → command_at (take len bytes ++ rest) ≡ One command rows len }
 {}
 
-/// A fault is told at a byte. The bytes before it are less than a whole command; with it, and at most one byte more, the
-/// fault is told, whatever follows.
+/// A fault is told at a byte. The bytes before it are less than a whole command; with it, and at most one byte more,
+/// the fault is told, whatever follows.
 pub fn a_fault_stands()
-    ensures within { (bytes : List ℕ) (at : ℕ) (cause : JobCause) → command_at bytes ≡ Wrong at cause → at < length bytes }
+    ensures within { (bytes : List ℕ) (at : ℕ) (cause : JobCause) → command_at bytes ≡ Wrong at cause
+        → at < length bytes }
     ensures before { (bytes : List ℕ) (at : ℕ) (cause : JobCause) → command_at bytes ≡ Wrong at cause
         → command_at (take at bytes) ≡ Part }
     ensures stands { (bytes rest : List ℕ) (at : ℕ) (cause : JobCause) → command_at bytes ≡ Wrong at cause

@@ -1,5 +1,6 @@
 -- What is read of the bytes since the last command, as a reader gathers them.
-use Rattle.std.proofs.Common.{◌≡◌, ℕ, zero, suc, ◌+◌, ◌-◌, ◌<◌, ◌≤◌, Bool, true, false, List, [], ◌∷◌, ◌++◌, length, take, drop, get_or, refl, sym, ◌∙◌, ap, subst, arith, append_assoc, append-nil, length-append}
+use Rattle.std.proofs.Common.{◌≡◌, ℕ, zero, suc, ◌+◌, ◌-◌, ◌<◌, ◌≤◌, Bool, true, false, List, [], ◌∷◌, ◌++◌, length, take, drop, get_or}
+use Rattle.std.proofs.Common.{refl, sym, ◌∙◌, ap, subst, arith, append_assoc, append-nil, length-append}
 use Rattle.std.proofs.lemmas.List.{length-take-le, take-append-drop, take_all, take_at, take-append-le, drop_at, take_more}
 use Rattle.std.proofs.Math.Seq.{take-add}
 use Rattle.escp2_definitions.specs.declared.command.Command.{Command}
@@ -44,12 +45,14 @@ pub is-part : (bytes : List ℕ) → is_part (command_at bytes) ≡ true → com
 is-part bytes e = part-of (command_at bytes) e
 
 -- a fault is told whatever follows
-pub wrong-stands : (bytes rest : List ℕ) (at : ℕ) (cause : JobCause) → command_at bytes ≡ Wrong at cause → command_at (bytes ++ rest) ≡ Wrong at cause
+pub wrong-stands : (bytes rest : List ℕ) (at : ℕ) (cause : JobCause) → command_at bytes ≡ Wrong at cause
+    → command_at (bytes ++ rest) ≡ Wrong at cause
 wrong-stands bytes rest at cause e =
     let t : TellsWrong command_at [] bytes at cause = let P : Heard → Type 0 = Told command_at [] bytes in subst P e (command-told bytes) in
     ap (λ bs. command_at (bs ++ rest)) t.is ∙ ap command_at (append_assoc t.front t.rest rest) ∙ t.told (t.rest ++ rest)
 
-one-told : (bytes : List ℕ) (command : Command) (rows : List ℕ) (len : ℕ) → command_at bytes ≡ One command rows len → TellsOne command_at [] bytes command rows len
+one-told : (bytes : List ℕ) (command : Command) (rows : List ℕ) (len : ℕ) → command_at bytes ≡ One command rows len
+    → TellsOne command_at [] bytes command rows len
 one-told bytes command rows len e = let P : Heard → Type 0 = Told command_at [] bytes in subst P e (command-told bytes)
 
 one-stands : (bytes rest : List ℕ) (command : Command) (rows : List ℕ) (len : ℕ) → command_at bytes ≡ One command rows len
@@ -68,20 +71,23 @@ one-len bytes last command rows len part e = by_rest t.rest t.is
 
     by_rest : (rest : List ℕ) → bytes ++ last ∷ [] ≡ t.front ++ rest → len ≡ length (bytes ++ last ∷ [])
     by_rest [] is = omega (arith, t.there, ap length is, append-nil t.front, ap length (append-nil t.front))
-    by_rest (b ∷ rest) is = absurd (let no : One command rows len ≡ Part = sym (t.told (drop (length t.front) bytes)) ∙ ap command_at whole ∙ part in cc)
+    by_rest (b ∷ rest) is =
+        absurd (let no : One command rows len ≡ Part = sym (t.told (drop (length t.front) bytes)) ∙ ap command_at whole ∙ part in cc)
       where
         short : length t.front ≤ length bytes
         short = omega (arith, ap length is, length-append bytes (last ∷ []), length-append t.front (b ∷ rest))
 
         front : take (length t.front) bytes ≡ t.front
-        front = sym (take-append-le (length t.front) bytes (last ∷ []) short) ∙ ap (take (length t.front)) is ∙ take_at t.front (b ∷ rest) (length t.front) refl
+        front = sym (take-append-le (length t.front) bytes (last ∷ []) short) ∙ ap (take (length t.front)) is
+            ∙ take_at t.front (b ∷ rest) (length t.front) refl
 
         whole : t.front ++ drop (length t.front) bytes ≡ bytes
         whole = ap (λ bs. bs ++ drop (length t.front) bytes) (sym front) ∙ take-append-drop (length t.front) bytes
 
 -- ---- what was gathered
 
-pub gathered-more : (first sofar piece head more : List ℕ) (i used byte : ℕ) → first ≡ sofar → head ≡ first ++ take i piece → more ≡ head ++ byte ∷ []
+pub gathered-more : (first sofar piece head more : List ℕ) (i used byte : ℕ) → first ≡ sofar → head ≡ first ++ take i piece
+    → more ≡ head ++ byte ∷ []
     → byte ≡ get_or piece i 0 → i < length piece → used ≡ i + 1 → sofar ++ take used piece ≡ more
 gathered-more first sofar piece head more i used byte is gathered pushed read within count =
     ap (λ k. sofar ++ take k piece) count
@@ -93,15 +99,18 @@ gathered-more first sofar piece head more i used byte is gathered pushed read wi
     ∙ sym pushed
 
 -- a whole command, of which the last byte was gathered
-pub whole-more : (now head more rest : List ℕ) (last : ℕ) (command : Command) (len : ℕ) → now ≡ more → more ≡ head ++ last ∷ [] → command_at head ≡ Part
+pub whole-more : (now head more rest : List ℕ) (last : ℕ) (command : Command) (len : ℕ) → now ≡ more → more ≡ head ++ last ∷ []
+    → command_at head ≡ Part
     → command_at more ≡ One command [] len → command_at (now ++ rest) ≡ One command [] (length now)
 whole-more now head more rest last command len is pushed part e =
     ap (λ bs. command_at (bs ++ rest)) is
     ∙ one-stands more rest command [] len e
-    ∙ ap (One command []) (one-len head last command [] len part (ap command_at (sym pushed) ∙ e) ∙ ap length (sym pushed) ∙ ap length (sym is))
+    ∙ ap (One command []) (one-len head last command [] len part (ap command_at (sym pushed) ∙ e) ∙ ap length (sym pushed)
+    ∙ ap length (sym is))
 
 -- the numbers of a raster, of which the last byte was gathered
-pub raster-more : (raster : RasterHead) (begin next last : ℕ) (sofar bytes head more : List ℕ) → sofar ++ bytes ≡ more → more ≡ head ++ last ∷ []
+pub raster-more : (raster : RasterHead) (begin next last : ℕ) (sofar bytes head more : List ℕ) → sofar ++ bytes ≡ more
+    → more ≡ head ++ last ∷ []
     → IsShort 0 head → IsRaster raster 0 command_at more → next ≡ begin + length sofar → AreBytes sofar → AreBytes bytes
     → BeginsRows raster begin next sofar bytes
 raster-more raster begin next last sofar bytes head more is pushed short reads fed are more_are = record {
@@ -144,14 +153,16 @@ heard-one state command rows begin next used new sofar piece is within fed are p
       spelled = let Q : List ℕ → Type 0 = λ bs. Spells command bs (sofar ++ take used piece) in
           subst Q (sym rows_are) (let R : List ℕ → Type 0 = Spells command rows in
           subst R (take_all (length (sofar ++ take used piece)) (sofar ++ take used piece) (omega arith))
-          (heard-spelled (sofar ++ take used piece) command rows (length (sofar ++ take used piece)) (bytes-append sofar (take used piece) are (bytes-take used piece piece_are))
+          (heard-spelled (sofar ++ take used piece) command rows (length (sofar ++ take used piece))
+          (bytes-append sofar (take used piece) are (bytes-take used piece piece_are))
           (ap command_at (sym (append-nil (sofar ++ take used piece))) ∙ whole [])));
       stands = stands;
       begins = omega (arith, begins, fed, length-append sofar (take used piece), length-take-le used piece within);
     }
 
 pub heard-fault : (state : HeardState) (cause : JobCause) (offset begin next used : ℕ) (new : JobReader) (sofar piece : List ℕ)
-    → state ≡ heard.Fault offset cause → used ≤ length piece → next ≡ begin + length sofar → AreBytes sofar → AreBytes piece → begin ≤ offset
+    → state ≡ heard.Fault offset cause → used ≤ length piece → next ≡ begin + length sofar → AreBytes sofar → AreBytes piece
+    → begin ≤ offset
     → ((rest : List ℕ) → command_at ((sofar ++ take used piece) ++ rest) ≡ Wrong (offset - begin) cause)
     → new.stage ≡ Failed offset cause → new.begin ≡ begin → new.next ≡ next + used → IsHeard state begin new (sofar ++ take used piece)
 heard-fault state cause offset begin next used new sofar piece is within fed are piece_are behind wrong stage begins nexts =
@@ -173,29 +184,36 @@ heard-fault state cause offset begin next used new sofar piece is within fed are
     }
 
 -- the same, of as many bytes by another name
-pub heard-one_used : (state : HeardState) (command : Command) (rows : List ℕ) (begin next used count : ℕ) (new : JobReader) (sofar piece : List ℕ)
+pub heard-one_used : (state : HeardState) (command : Command) (rows : List ℕ) (begin next used count : ℕ) (new : JobReader)
+    (sofar piece : List ℕ)
     → count ≡ used → state ≡ heard.One command → used ≤ length piece → next ≡ begin + length sofar → AreBytes sofar → AreBytes piece
     → ((rest : List ℕ) → command_at ((sofar ++ take used piece) ++ rest) ≡ One command rows (length (sofar ++ take used piece)))
     → StandsFor new [] → new.begin ≡ next + used → rows_of new ≡ rows → IsHeard state begin new (sofar ++ take count piece)
 heard-one_used state command rows begin next used count new sofar piece same is within fed are piece_are whole stands begins rows_are =
     let P : ℕ → Type 0 = λ k. IsHeard state begin new (sofar ++ take k piece) in
-    subst P (sym same) (heard-one state command rows begin next used new sofar piece is within fed are piece_are whole stands begins rows_are)
+    subst P (sym same) (heard-one state command rows begin next used new sofar piece is within fed are piece_are whole stands
+    begins rows_are)
 
 pub heard-fault_used : (state : HeardState) (cause : JobCause) (offset begin next used count : ℕ) (new : JobReader) (sofar piece : List ℕ)
-    → count ≡ used → state ≡ heard.Fault offset cause → used ≤ length piece → next ≡ begin + length sofar → AreBytes sofar → AreBytes piece → begin ≤ offset
+    → count ≡ used → state ≡ heard.Fault offset cause → used ≤ length piece → next ≡ begin + length sofar → AreBytes sofar → AreBytes piece
+    → begin ≤ offset
     → ((rest : List ℕ) → command_at ((sofar ++ take used piece) ++ rest) ≡ Wrong (offset - begin) cause)
     → new.stage ≡ Failed offset cause → new.begin ≡ begin → new.next ≡ next + used → IsHeard state begin new (sofar ++ take count piece)
 heard-fault_used state cause offset begin next used count new sofar piece same is within fed are piece_are behind wrong stage begins nexts =
     let P : ℕ → Type 0 = λ k. IsHeard state begin new (sofar ++ take k piece) in
-    subst P (sym same) (heard-fault state cause offset begin next used new sofar piece is within fed are piece_are behind wrong stage begins nexts)
+    subst P (sym same) (heard-fault state cause offset begin next used new sofar piece is within fed are piece_are behind wrong stage
+    begins nexts)
 
-pub at-begin : (state : HeardState) (begin begin' : ℕ) (new : JobReader) (bytes : List ℕ) → begin' ≡ begin → IsHeard state begin' new bytes → IsHeard state begin new bytes
+pub at-begin : (state : HeardState) (begin begin' : ℕ) (new : JobReader) (bytes : List ℕ) → begin' ≡ begin → IsHeard state begin' new bytes
+    → IsHeard state begin new bytes
 at-begin state begin begin' new bytes same told = let P : ℕ → Type 0 = λ k. IsHeard state k new bytes in subst P same told
 
 -- ---- a piece behind another
 
-pub pieces-join : (sofar piece : List ℕ) (used more : ℕ) → (sofar ++ take used piece) ++ take more (drop used piece) ≡ sofar ++ take (used + more) piece
-pieces-join sofar piece used more = append_assoc sofar (take used piece) (take more (drop used piece)) ∙ ap (λ bs. sofar ++ bs) (sym (take-add used more piece))
+pub pieces-join : (sofar piece : List ℕ) (used more : ℕ)
+    → (sofar ++ take used piece) ++ take more (drop used piece) ≡ sofar ++ take (used + more) piece
+pieces-join sofar piece used more = append_assoc sofar (take used piece) (take more (drop used piece))
+    ∙ ap (λ bs. sofar ++ bs) (sym (take-add used more piece))
 
 pub heard-behind : (state : HeardState) (begin used more : ℕ) (new : JobReader) (sofar piece rest : List ℕ) → rest ≡ drop used piece
     → IsHeard state begin new ((sofar ++ take used piece) ++ take more rest) → IsHeard state begin new (sofar ++ take (used + more) piece)
@@ -221,7 +239,8 @@ pub head-last : (state : HeardState) (raster : RasterHead) (head : Stage) (begin
     → OnFault state ((sofar rows : List ℕ) → Stands head begin next rows sofar → ShowsLast sofar piece more)
 head-last heard.More raster head begin next begin' next' used more piece begins shows = tt
 head-last (heard.One command) raster head begin next begin' next' used more piece begins shows = tt
-head-last (heard.Fault offset cause) raster head begin next begin' next' used more piece begins shows = λ sofar rows stood. shows sofar (begins sofar rows stood)
+head-last (heard.Fault offset cause) raster head begin next begin' next' used more piece begins shows =
+    λ sofar rows stood. shows sofar (begins sofar rows stood)
 
 -- and by a call
 pub feed-last : (state : HeardState) (stage head : Stage) (begin next used : ℕ) (rows piece : List ℕ) → head ≡ stage

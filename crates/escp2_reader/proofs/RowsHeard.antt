@@ -1,5 +1,6 @@
 -- What is read within the rows of a raster.
-use Rattle.std.proofs.Common.{◌≡◌, ℕ, ◌+◌, ◌-◌, ◌<◌, ◌≤◌, List, [], ◌∷◌, ◌++◌, length, take, drop, refl, sym, ◌∙◌, ap, subst, arith, append_assoc, append-nil, length-append}
+use Rattle.std.proofs.Common.{◌≡◌, ℕ, ◌+◌, ◌-◌, ◌<◌, ◌≤◌, List, [], ◌∷◌, ◌++◌, length, take, drop, refl, sym, ◌∙◌, ap, subst, arith}
+use Rattle.std.proofs.Common.{append_assoc, append-nil, length-append}
 use Rattle.std.proofs.lemmas.List.{drop_at, length-take-le, take-take, take_all}
 use Rattle.std.proofs.Math.Seq.{take-append-add}
 use Rattle.escp2_definitions.specs.declared.command.RasterHead.{RasterHead}
@@ -30,12 +31,15 @@ reads-on raster reader rows sofar bytes rest in_rows =
     ∙ append_assoc (in_rows.front ++ in_rows.code) bytes rest
     ∙ append_assoc in_rows.front in_rows.code (bytes ++ rest))
 
-sofar-len : (raster : RasterHead) (reader : RowReader) (rows sofar : List ℕ) (in_rows : InRows raster reader rows sofar) → length sofar ≡ 8 + length in_rows.code
-sofar-len raster reader rows sofar in_rows = omega (arith, ap length in_rows.is, length-append in_rows.front in_rows.code, in_rows.front_len)
+sofar-len : (raster : RasterHead) (reader : RowReader) (rows sofar : List ℕ) (in_rows : InRows raster reader rows sofar)
+    → length sofar ≡ 8 + length in_rows.code
+sofar-len raster reader rows sofar in_rows =
+    omega (arith, ap length in_rows.is, length-append in_rows.front in_rows.code, in_rows.front_len)
 
 -- more of the rows
 pub rows-more : (raster : RasterHead) (old new : RowReader) (begin next used : ℕ) (before after sofar piece : List ℕ) (job : JobReader)
-    → Stands (Rows raster old) begin next before sofar → AreBytes piece → Takes old new (take used piece) before after → IsMore old new piece used
+    → Stands (Rows raster old) begin next before sofar → AreBytes piece → Takes old new (take used piece) before after
+    → IsMore old new piece used
     → job.stage ≡ Rows raster new → job.begin ≡ begin → job.next ≡ next + used → job.rows.items ≡ after
     → HeardMore begin job (sofar ++ take used piece)
 rows-more raster old new begin next used before after sofar piece job stood are takes more stage begins nexts rows_are = record {
@@ -102,7 +106,12 @@ rows-whole raster old new begin next used before after sofar piece rest stood wi
         ∙ sym takes.appended
 
     there : 8 + length in_rows.code + used ≡ length (sofar ++ take used piece)
-    there = omega (arith, sofar-len raster old before sofar in_rows, length-append sofar (take used piece), length-take-le used piece within)
+    there = omega (
+      arith,
+      sofar-len raster old before sofar in_rows,
+      length-append sofar (take used piece),
+      length-take-le used piece within,
+    )
 
 -- a control byte that is refused
 pub rows-wrong : (raster : RasterHead) (old new : RowReader) (begin next used at place : ℕ) (before sofar piece rest : List ℕ)
@@ -129,7 +138,8 @@ rows-last raster old new begin next used at before sofar piece stood fault = rec
   some = omega (arith, fault.last);
   before = ap (λ k. command_at (sofar ++ take k piece)) (let p : used - 1 ≡ at = omega (arith, fault.last) in p)
       ∙ ap command_at (sym front)
-      ∙ (fault-stands ((sofar ++ take used piece) ++ []) (next + at - begin) RunCode (rows-wrong raster old new begin next used at (next + at - begin) before sofar piece [] stood fault refl)).before;
+      ∙ (fault-stands ((sofar ++ take used piece) ++ []) (next + at - begin) RunCode
+      (rows-wrong raster old new begin next used at (next + at - begin) before sofar piece [] stood fault refl)).before;
 }
   where
     front : take (next + at - begin) ((sofar ++ take used piece) ++ []) ≡ sofar ++ take at piece
@@ -139,8 +149,10 @@ rows-last raster old new begin next used at before sofar piece stood fault = rec
         ∙ ap (λ bs. sofar ++ bs) (take-take at used piece (omega (arith, fault.last)))
 
 -- before the rows of a raster
-pub rows-begin : (raster : RasterHead) (reader : RowReader) (begin next used : ℕ) (rows sofar piece : List ℕ) → BeginsRows raster begin next sofar (take used piece)
-    → used ≤ length piece → RowsStandFor (form_of raster) reader [] [] → rows ≡ [] → Stands (Rows raster reader) begin (next + used) rows (sofar ++ take used piece)
+pub rows-begin : (raster : RasterHead) (reader : RowReader) (begin next used : ℕ) (rows sofar piece : List ℕ)
+    → BeginsRows raster begin next sofar (take used piece)
+    → used ≤ length piece → RowsStandFor (form_of raster) reader [] [] → rows ≡ []
+    → Stands (Rows raster reader) begin (next + used) rows (sofar ++ take used piece)
 rows-begin raster reader begin next used rows sofar piece begins within anew none = record {
   fed = omega (arith, begins.fed, length-append sofar (take used piece), length-take-le used piece within);
   bytes = begins.are;
@@ -162,12 +174,15 @@ pub begin-last : (state : HeardState) (raster : RasterHead) (reader : RowReader)
 begin-last heard.More raster reader begin next used more rows piece rest is within anew none shows = tt
 begin-last (heard.One command) raster reader begin next used more rows piece rest is within anew none shows = tt
 begin-last (heard.Fault offset cause) raster reader begin next used more rows piece rest is within anew none shows =
-    λ sofar begins. last-behind used more sofar piece rest is (shows (sofar ++ take used piece) (rows-begin raster reader begin next used rows sofar piece begins within anew none))
+    λ sofar begins. last-behind used more sofar piece rest is
+    (shows (sofar ++ take used piece) (rows-begin raster reader begin next used rows sofar piece begins within anew none))
 
 -- a fault in rows shows with the last byte that was used
-pub fault-last : (state : HeardState) (raster : RasterHead) (old new : RowReader) (begin next used count at : ℕ) (before piece : List ℕ) → count ≡ used → IsFault old new piece used at
+pub fault-last : (state : HeardState) (raster : RasterHead) (old new : RowReader) (begin next used count at : ℕ) (before piece : List ℕ)
+    → count ≡ used → IsFault old new piece used at
     → OnFault state ((sofar : List ℕ) → Stands (Rows raster old) begin next before sofar → ShowsLast sofar piece count)
 fault-last heard.More raster old new begin next used count at before piece same fault = tt
 fault-last (heard.One command) raster old new begin next used count at before piece same fault = tt
 fault-last (heard.Fault offset cause) raster old new begin next used count at before piece same fault =
-    λ sofar stood. let P : ℕ → Type 0 = ShowsLast sofar piece in subst P (sym same) (rows-last raster old new begin next used at before sofar piece stood fault)
+    λ sofar stood. let P : ℕ → Type 0 =
+    ShowsLast sofar piece in subst P (sym same) (rows-last raster old new begin next used at before sofar piece stood fault)

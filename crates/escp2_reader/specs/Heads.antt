@@ -17,7 +17,8 @@ pub record HasRows (raster : RasterHead) : Type 0 where
   pub narrowest : 1 ≤ raster.n
   pub widest : raster.n ≤ last_column
 
--- Less than a command, or than the numbers of a raster: behind the first `at` bytes there are at most 8 in all, and 7 of a raster.
+-- Less than a command, or than the numbers of a raster: behind the first `at` bytes there are at most 8 in all, and 7
+-- of a raster.
 pub record IsShort (at : ℕ) (bytes : List ℕ) : Type 0 where
   pub short : length bytes + at ≤ 8
   pub raster : slice_index bytes (1 - at) ≡ 0x2E → length bytes + at ≤ 7

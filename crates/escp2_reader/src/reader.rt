@@ -5,7 +5,8 @@ ghost use Rattle.escp2_definitions.specs.Commands.{command_at};
 ghost use Rattle.escp2_reader.specs.Heads.{HasRows, IsShort};
 ghost use Rattle.escp2_reader.specs.Stages.{gathered, is_done_at, is_part, room_at};
 ghost use Rattle.escp2_rows.specs.Reading.{bytes_left_of, is_done_of};
-ghost use Rattle.std.specs.Prelude.{IfErr, IfOk, OnOk, [], false, length, slice_index, take, true, vec_capacity, vec_len, ℕ, List, ◌++◌, ◌-◌, ◌*◌, ◌/◌, ◌+◌, ◌<◌, ◌≡◌, ◌≤◌, ◌^◌};
+ghost use Rattle.std.specs.Prelude.{IfErr, IfOk, OnOk, [], false, length, slice_index, take, true, vec_capacity};
+ghost use Rattle.std.specs.Prelude.{vec_len, ℕ, List, ◌++◌, ◌-◌, ◌*◌, ◌/◌, ◌+◌, ◌<◌, ◌≡◌, ◌≤◌, ◌^◌};
 
 use crate::heads::{HeadState, head_of};
 use crate::{Command, JobCause, RasterHead};
@@ -80,7 +81,8 @@ pub struct JobReader {
 
 impl JobReader {
     ghost use Rattle.escp2_reader.specs.Stages.{Stands};
-    ghost use Rattle.escp2_reader.specs.Reading.{BeginsRows, IsHeard, OnFault, OnMore, ShowsLast, StandsFor, fed_of, is_failed_of, rows_of, shows_fault};
+    ghost use Rattle.escp2_reader.specs.Reading.{BeginsRows, IsHeard, OnFault, OnMore, ShowsLast, StandsFor, fed_of};
+    ghost use Rattle.escp2_reader.specs.Reading.{is_failed_of, rows_of, shows_fault};
 
     /// A reader of a job from its first byte on.
     #[tactic(auto, unfolding(escp2_definitions::specs::Commands::command_at))]
@@ -101,8 +103,8 @@ impl JobReader {
         }
     }
 
-    /// Reads the next bytes of the job, of any number, up to the end of the command. It takes no memory. A fault is told
-    /// with the byte that shows it, and again at each later call.
+    /// Reads the next bytes of the job, of any number, up to the end of the command. It takes no memory. A fault is
+    /// told with the byte that shows it, and again at each later call.
     #[tactic(auto, unfolding(escp2_definitions::specs::Commands::command_at))]
     pub fn feed(&mut self, piece: &[u8]) -> Heard
         requires { fed_of self.old + length piece.now < 2 ^ 63 }
@@ -162,7 +164,8 @@ impl JobReader {
         ensures all { OnMore result.state (result.used ≡ length piece.now) }
         ensures heard { (sofar rows : List ℕ) → Stands (Stage.Head head) self.old.begin self.old.next rows sofar
             → IsHeard result.state self.old.begin self.new (sofar ++ take result.used piece.now) }
-        ensures last { OnFault result.state ((sofar rows : List ℕ) → Stands (Stage.Head head) self.old.begin self.old.next rows sofar
+        ensures last { OnFault result.state ((sofar rows : List ℕ)
+            → Stands (Stage.Head head) self.old.begin self.old.next rows sofar
             → ShowsLast sofar piece.now result.used) }
     {
         self.rows.clear();
@@ -200,7 +203,8 @@ impl JobReader {
         ensures all { OnMore result.state (result.used ≡ length piece.now) }
         ensures heard { (sofar : List ℕ) → BeginsRows raster self.old.begin self.old.next sofar (take used piece.now)
             → IsHeard result.state self.old.begin self.new (sofar ++ take result.used piece.now) }
-        ensures last { OnFault result.state ((sofar : List ℕ) → BeginsRows raster self.old.begin self.old.next sofar (take used piece.now)
+        ensures last { OnFault result.state ((sofar : List ℕ)
+            → BeginsRows raster self.old.begin self.old.next sofar (take used piece.now)
             → ShowsLast sofar piece.now result.used) }
     {
         let reader = RowReader::begin(raster.c, (raster.n + 7) / 8, raster.m);
@@ -224,9 +228,11 @@ impl JobReader {
         ensures fed { self.new.next ≡ self.old.next + result.used }
         ensures failed { is_failed_of self.new ≡ shows_fault result.state }
         ensures all { OnMore result.state (result.used ≡ length piece.now) }
-        ensures heard { (sofar : List ℕ) → Stands (Stage.Rows raster reader) self.old.begin self.old.next self.old.rows.items sofar
+        ensures heard { (sofar : List ℕ)
+            → Stands (Stage.Rows raster reader) self.old.begin self.old.next self.old.rows.items sofar
             → IsHeard result.state self.old.begin self.new (sofar ++ take result.used piece.now) }
-        ensures last { OnFault result.state ((sofar : List ℕ) → Stands (Stage.Rows raster reader) self.old.begin self.old.next self.old.rows.items sofar
+        ensures last { OnFault result.state ((sofar : List ℕ)
+            → Stands (Stage.Rows raster reader) self.old.begin self.old.next self.old.rows.items sofar
             → ShowsLast sofar piece.now result.used) }
     {
         let fed = reader.feed(piece, &mut self.rows);

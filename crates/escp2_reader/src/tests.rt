@@ -58,7 +58,8 @@ fn rows_of(count: usize) -> &'static [u8] {
     }
 }
 
-/// Feeds a piece of the job, holds each command against what the job says from `count` on, and gives the count behind it.
+/// Feeds a piece of the job, holds each command against what the job says from `count` on, and gives the count behind
+/// it.
 fn feed_piece(rt: &impl Abort, reader: &mut JobReader, piece: &[u8], mut count: usize) -> usize
     requires room { fed_of reader.old + length piece.now < 2 ^ 63 }
     requires is_open { is_failed_of reader.old ≡ false }

@@ -1,5 +1,6 @@
 -- The calls of a reader: what is read of a piece so far.
-use Rattle.std.proofs.Common.{◌≡◌, ℕ, zero, suc, ◌+◌, ◌-◌, ◌*◌, ◌<◌, ◌≤◌, ◌==◌, ◌||◌, Bool, true, false, if◌then◌else◌, List, [], ◌++◌, length, take, drop, refl, sym, ◌∙◌, ap, subst, arith, append_assoc, append-nil, length-append, length-drop}
+use Rattle.std.proofs.Common.{◌≡◌, ℕ, zero, suc, ◌+◌, ◌-◌, ◌*◌, ◌<◌, ◌≤◌, ◌==◌, ◌||◌, Bool, true, false, if◌then◌else◌, List, [], ◌++◌}
+use Rattle.std.proofs.Common.{length, take, drop, refl, sym, ◌∙◌, ap, subst, arith, append_assoc, append-nil, length-append, length-drop}
 use Rattle.std.proofs.lemmas.Bool.{eqb-false, eqb-true, lt-ltb}
 use Rattle.std.proofs.lemmas.List.{drop_at, length-take-le, take_all}
 use Rattle.std.proofs.Math.Seq.{take-add}
@@ -30,7 +31,8 @@ either true b e first = absurd (let both : true ≡ false = first in cc)
 either false b e first = e
 
 -- nothing is read
-pub fed_begin : (reader : RowReader) (piece bytes : List ℕ) (len capacity : ℕ) → is_done_of reader ≡ false → len + bytes_left_of reader ≤ capacity
+pub fed_begin : (reader : RowReader) (piece bytes : List ℕ) (len capacity : ℕ) → is_done_of reader ≡ false
+    → len + bytes_left_of reader ≤ capacity
     → FedSoFar reader reader piece 0 bytes bytes len capacity
 fed_begin reader piece bytes len capacity is_open room = record {
   within = omega arith;
@@ -50,9 +52,11 @@ fed_begin reader piece bytes len capacity is_open room = record {
 }
 
 -- one more part is read
-pub fed_step : (old now new : RowReader) (piece rest : List ℕ) (used more : ℕ) (before middle after : List ℕ) (len capacity len' capacity' : ℕ)
+pub fed_step : (old now new : RowReader) (piece rest : List ℕ) (used more : ℕ) (before middle after : List ℕ)
+    (len capacity len' capacity' : ℕ)
     → FedSoFar old now piece used before middle len capacity → rest ≡ drop used piece → 0 < more → more ≤ length rest
-    → Takes now new (take more rest) middle after → len' + bytes_left_of new ≤ capacity' → FedSoFar old new piece (used + more) before after len' capacity'
+    → Takes now new (take more rest) middle after → len' + bytes_left_of new ≤ capacity'
+    → FedSoFar old new piece (used + more) before after len' capacity'
 fed_step old now new piece rest used more before middle after len capacity len' capacity' so_far behind some fits takes room = record {
   within = omega (arith, so_far.within, length-drop used piece, ap length behind);
   begun = λ failed. omega arith;
@@ -110,7 +114,8 @@ fed_more old now piece used before after len capacity so_far is_open all = recor
       ap (λ bs. sofar ++ bs) (sym (take_all used piece (omega arith))) ∙ sym (append-nil (sofar ++ take used piece)) in
       ap (rows_read form) whole
       ∙ stands.is []
-      ∙ ap (with_front (given ++ so_far.takes.gave)) (read_on-nothing now.place stands.most now.row_left now.rows_left now.row_bytes (form.at + length (sofar ++ take used piece))
+      ∙ ap (with_front (given ++ so_far.takes.gave))
+      (read_on-nothing now.place stands.most now.row_left now.rows_left now.row_bytes (form.at + length (sofar ++ take used piece))
       tests.0 some_left now.begun stands.enough);
 }
   where
@@ -142,7 +147,8 @@ not-failed Failed not = absurd (not refl)
 
 -- the rows end
 pub fed_whole : (old now : RowReader) (piece : List ℕ) (used : ℕ) (before after : List ℕ) (len capacity : ℕ)
-    → FedSoFar old now piece used before after len capacity → is_done_of now ≡ true → (now.place ≡ Failed → ⊥) → IsWhole old now piece used before after
+    → FedSoFar old now piece used before after len capacity → is_done_of now ≡ true → (now.place ≡ Failed → ⊥)
+    → IsWhole old now piece used before after
 fed_whole old now piece used before after len capacity so_far done not = record {
   none_left = none;
   whole = λ form sofar given rest stood.
@@ -151,9 +157,11 @@ fed_whole old now piece used before after len capacity so_far done not = record 
       so_far.takes.gives.stands form sofar given stood in
       let there : form.at + length (sofar ++ take used piece) ≡ form.at + length sofar + used =
       omega (arith, length-append sofar (take used piece), length-take-le used piece so_far.within) in
-      let new : gave ≡ drop (length before) after = sym (ap (λ bs. drop (length before) bs) so_far.takes.appended ∙ drop_at before gave (length before) refl) in
+      let new : gave ≡ drop (length before) after = sym (ap (λ bs. drop (length before) bs) so_far.takes.appended
+      ∙ drop_at before gave (length before) refl) in
       stands.is rest
-      ∙ ap (with_front (given ++ gave)) (read_on-end now.place stands.most now.row_left now.rows_left now.row_bytes (form.at + length (sofar ++ take used piece)) rest
+      ∙ ap (with_front (given ++ gave))
+      (read_on-end now.place stands.most now.row_left now.rows_left now.row_bytes (form.at + length (sofar ++ take used piece)) rest
       still none_in_row (now.ended none_in_row) now.fits now.begun)
       ∙ ap (λ bs. RowsAre bs (form.at + length (sofar ++ take used piece))) (append-nil (given ++ gave))
       ∙ ap (λ bs. RowsAre (given ++ bs) (form.at + length (sofar ++ take used piece))) new
@@ -190,7 +198,8 @@ fed_fault old now piece used before after len capacity so_far failed = record {
       let there : form.at + length (sofar ++ take used piece) - 1 ≡ form.at + length sofar + (used - 1) =
       omega (arith, some, length-append sofar (take used piece), length-take-le used piece so_far.within) in
       stands.is rest
-      ∙ ap (λ p. with_front (given ++ so_far.takes.gave) (read_on p stands.most now.row_left now.rows_left now.row_bytes (form.at + length (sofar ++ take used piece)) rest)) failed
+      ∙ ap (λ p. with_front (given ++ so_far.takes.gave)
+      (read_on p stands.most now.row_left now.rows_left now.row_bytes (form.at + length (sofar ++ take used piece)) rest)) failed
       ∙ ap RowsWrong there;
 }
   where

@@ -1,15 +1,19 @@
 -- Each step of a reader: what it stands for behind the bytes that it takes.
-use Rattle.std.proofs.Common.{◌≡◌, ℕ, zero, suc, ◌+◌, ◌-◌, ◌*◌, ◌<◌, ◌≤◌, ◌==◌, nat_lt, Bool, true, false, if◌then◌else◌, List, [], ◌∷◌, ◌++◌, length, take, drop, replicate, refl, sym, ◌∙◌, ap, subst, arith, append_assoc, append-nil, length-append}
+use Rattle.std.proofs.Common.{◌≡◌, ℕ, zero, suc, ◌+◌, ◌-◌, ◌*◌, ◌<◌, ◌≤◌, ◌==◌, nat_lt, Bool, true, false, if◌then◌else◌, List, [], ◌∷◌}
+use Rattle.std.proofs.Common.{◌++◌, length, take, drop, replicate, refl, sym, ◌∙◌, ap, subst, arith, append_assoc, append-nil}
+use Rattle.std.proofs.Common.{length-append}
 use Rattle.std.proofs.lemmas.Bool.{ltb-true, ltb-false, lt-ltb, le-ltb, ne_eqb}
 use Rattle.std.proofs.lemmas.List.{drop-drop, length-replicate, length-take-le}
 use Rattle.std.proofs.Math.Seq.{take-append-add, drop-append-add}
-use Rattle.escp2_definitions.specs.RowCode.{Control, RowsRead, again_at, control_of, controlled, packet_at, plain_at, row_at, rows_at, with_front}
+use Rattle.escp2_definitions.specs.RowCode.{Control, RowsRead, again_at, control_of, controlled, packet_at, plain_at, row_at, rows_at}
+use Rattle.escp2_definitions.specs.RowCode.{with_front}
 use Rattle.escp2_definitions.specs.RowCode.Control.{Follow, Again, Refused}
 use Rattle.escp2_definitions.specs.RowCode.RowsRead.{RowsAre, RowsPart, RowsWrong}
 use Rattle.escp2_laws.proofs.Grammar.{row-part, row-step, row-wrong}
 use Rattle.escp2_rows.specs.declared.reader.Place.{Place}
 use Rattle.escp2_rows.specs.declared.reader.Place.TheVariants.{Packet, Literal, Repeated, Failed}
-use Rattle.escp2_rows.specs.Places.{RowsForm, Stands, behind_control, is_failed, least_pending, pending, read_on, rest_at, rows_read, then_rows}
+use Rattle.escp2_rows.specs.Places.{RowsForm, Stands, behind_control, is_failed, least_pending, pending, read_on, rest_at, rows_read}
+use Rattle.escp2_rows.specs.Places.{then_rows}
 
 -- ---- bytes in front of what is read
 
@@ -76,7 +80,8 @@ row_at-passes zero (suc left) at bytes row next e = absurd (let no : RowsPart �
 row_at-passes (suc most) (suc left) at bytes row next e =
     by_packet (λ left at bytes row next e. row_at-passes most left at bytes row next e) (packet_at (suc left) at bytes) refl
   where
-    by_rest : (front : List ℕ) (behind : ℕ) (r : RowsRead) → at ≤ behind → ((rows : List ℕ) (place : ℕ) → r ≡ RowsAre rows place → behind ≤ place)
+    by_rest : (front : List ℕ) (behind : ℕ) (r : RowsRead) → at ≤ behind
+        → ((rows : List ℕ) (place : ℕ) → r ≡ RowsAre rows place → behind ≤ place)
         → with_front front r ≡ RowsAre row next → at ≤ next
     by_rest front behind (RowsAre rows place) passed passed_rest same =
         let last : place ≡ next = cc in
@@ -87,20 +92,24 @@ row_at-passes (suc most) (suc left) at bytes row next e =
     by_packet : ((left at : ℕ) (bytes row : List ℕ) (next : ℕ) → row_at most left at bytes ≡ RowsAre row next → at ≤ next)
         → (r : RowsRead) → packet_at (suc left) at bytes ≡ r → at ≤ next
     by_packet rest_passes (RowsAre front behind) is =
-        by_rest front behind (row_at most (suc left - length front) behind (drop (behind - at) bytes)) (packet-passes (suc left) at bytes front behind is)
+        by_rest front behind (row_at most (suc left - length front) behind (drop (behind - at) bytes))
+        (packet-passes (suc left) at bytes front behind is)
         (λ rows place. rest_passes (suc left - length front) behind (drop (behind - at) bytes) rows place)
         (sym (row-step most left at bytes front behind is) ∙ e)
     by_packet rest_passes RowsPart is = absurd (let no : RowsPart ≡ RowsAre row next = sym (row-part most left at bytes is) ∙ e in cc)
-    by_packet rest_passes (RowsWrong place) is = absurd (let no : RowsWrong place ≡ RowsAre row next = sym (row-wrong most left at bytes place is) ∙ e in cc)
+    by_packet rest_passes (RowsWrong place) is =
+        absurd (let no : RowsWrong place ≡ RowsAre row next = sym (row-wrong most left at bytes place is) ∙ e in cc)
 
 -- ---- the rest of the rows
 
 -- the rest of rows is read by the next packet
 pub rest-step : (most left m width at : ℕ) (bytes front : List ℕ) (next : ℕ) → packet_at (suc left) at bytes ≡ RowsAre front next
-    → rest_at (suc most) (suc left) m width at bytes ≡ with_front front (rest_at most (suc left - length front) m width next (drop (next - at) bytes))
+    → rest_at (suc most) (suc left) m width at bytes
+    ≡ with_front front (rest_at most (suc left - length front) m width next (drop (next - at) bytes))
 unfolding rest_at
 rest-step most left m width at bytes front next e =
-    ap (then_rows m width at bytes) (row-step most left at bytes front next e) ∙ by_rest (row_at most (suc left - length front) next (drop (next - at) bytes)) refl
+    ap (then_rows m width at bytes) (row-step most left at bytes front next e)
+    ∙ by_rest (row_at most (suc left - length front) next (drop (next - at) bytes)) refl
   where
     by_rest : (r : RowsRead) → row_at most (suc left - length front) next (drop (next - at) bytes) ≡ r
         → then_rows m width at bytes (with_front front r) ≡ with_front front (then_rows m width next (drop (next - at) bytes) r)
@@ -115,7 +124,8 @@ rest-step most left m width at bytes front next e =
     by_rest (RowsWrong place) is = refl
 
 -- it is a part where the next packet is
-pub rest-part : (most left m width at : ℕ) (bytes : List ℕ) → packet_at (suc left) at bytes ≡ RowsPart → rest_at (suc most) (suc left) m width at bytes ≡ RowsPart
+pub rest-part : (most left m width at : ℕ) (bytes : List ℕ) → packet_at (suc left) at bytes ≡ RowsPart
+    → rest_at (suc most) (suc left) m width at bytes ≡ RowsPart
 unfolding rest_at
 rest-part most left m width at bytes e = ap (then_rows m width at bytes) (row-part most left at bytes e)
 
@@ -167,18 +177,21 @@ control-read (Follow k) most left m width at n bytes is = by_left (nat_lt (suc l
     by_bytes packet false e =
         let sized : length (take k bytes) ≡ k = length-take-le k bytes (ltb-false _ _ e) in
         let passed : at + 1 + k - at ≡ suc k = omega arith in
-        rest-step most left m width at (n ∷ bytes) (take k bytes) (at + 1 + k) (packet ∙ ap (λ b. if b then RowsPart else RowsAre (take k bytes) (at + 1 + k)) e)
+        rest-step most left m width at (n ∷ bytes) (take k bytes) (at + 1 + k) (packet
+        ∙ ap (λ b. if b then RowsPart else RowsAre (take k bytes) (at + 1 + k)) e)
         ∙ ap (λ j. with_front (take k bytes) (rest_at most (suc left - j) m width (at + 1 + k) (drop (at + 1 + k - at) (n ∷ bytes)))) sized
         ∙ ap (λ j. with_front (take k bytes) (rest_at most (suc left - k) m width (at + 1 + k) (drop j (n ∷ bytes)))) passed
 
     by_left : (b : Bool) → nat_lt (suc left) k ≡ b
-        → rest_at (suc most) (suc left) m width at (n ∷ bytes) ≡ read_on (if b then Failed else Literal k) most (suc left) m width (at + 1) bytes
+        → rest_at (suc most) (suc left) m width at (n ∷ bytes) ≡ read_on (if b then Failed else Literal k) most (suc left) m width
+        (at + 1) bytes
     by_left true e =
         rest-wrong most left m width at (n ∷ bytes) at
         (ap (λ (c : Control). controlled c (suc left) at bytes) is ∙ ap (λ b. if b then RowsWrong at else plain_at k (at + 1) bytes) e)
         ∙ ap RowsWrong (let p : at ≡ at + 1 - 1 = omega arith in p)
     by_left false e =
-        by_bytes (ap (λ (c : Control). controlled c (suc left) at bytes) is ∙ ap (λ b. if b then RowsWrong at else plain_at k (at + 1) bytes) e)
+        by_bytes (ap (λ (c : Control). controlled c (suc left) at bytes) is
+        ∙ ap (λ b. if b then RowsWrong at else plain_at k (at + 1) bytes) e)
         (nat_lt (length bytes) k) refl
 control-read (Again k) most left m width at n bytes is = by_left (nat_lt (suc left) k) refl
   where
@@ -189,17 +202,20 @@ control-read (Again k) most left m width at n bytes is = by_left (nat_lt (suc le
         let sized : length (replicate k b) ≡ k = length-replicate {A = ℕ} k b in
         let passed : at + 1 + 1 - at ≡ 2 = omega arith in
         rest-step most left m width at (n ∷ b ∷ rest) (replicate k b) (at + 1 + 1) packet
-        ∙ ap (λ j. with_front (replicate k b) (rest_at most (suc left - j) m width (at + 1 + 1) (drop (at + 1 + 1 - at) (n ∷ b ∷ rest)))) sized
+        ∙ ap (λ j. with_front (replicate k b) (rest_at most (suc left - j) m width (at + 1 + 1) (drop (at + 1 + 1 - at) (n ∷ b ∷ rest))))
+        sized
         ∙ ap (λ j. with_front (replicate k b) (rest_at most (suc left - k) m width (at + 1 + 1) (drop j (n ∷ b ∷ rest)))) passed
 
     by_left : (b : Bool) → nat_lt (suc left) k ≡ b
-        → rest_at (suc most) (suc left) m width at (n ∷ bytes) ≡ read_on (if b then Failed else Repeated k) most (suc left) m width (at + 1) bytes
+        → rest_at (suc most) (suc left) m width at (n ∷ bytes) ≡ read_on (if b then Failed else Repeated k) most (suc left) m width
+        (at + 1) bytes
     by_left true e =
         rest-wrong most left m width at (n ∷ bytes) at
         (ap (λ (c : Control). controlled c (suc left) at bytes) is ∙ ap (λ b. if b then RowsWrong at else again_at k (at + 1) bytes) e)
         ∙ ap RowsWrong (let p : at ≡ at + 1 - 1 = omega arith in p)
     by_left false e =
-        by_bytes bytes (ap (λ (c : Control). controlled c (suc left) at bytes) is ∙ ap (λ b. if b then RowsWrong at else again_at k (at + 1) bytes) e)
+        by_bytes bytes (ap (λ (c : Control). controlled c (suc left) at bytes) is
+        ∙ ap (λ b. if b then RowsWrong at else again_at k (at + 1) bytes) e)
 control-read Refused most left m width at n bytes is =
     rest-wrong most left m width at (n ∷ bytes) at (ap (λ (c : Control). controlled c (suc left) at bytes) is)
     ∙ ap RowsWrong (let p : at ≡ at + 1 - 1 = omega arith in p)
@@ -256,7 +272,8 @@ begun-fewer (Repeated n) left most never begun enough open_ = omega arith
 begun-fewer Failed left most never begun enough open_ = absurd (let no : true ≡ false = open_ in cc)
 
 -- a control byte
-pub control_moves : (place' : Place) (left m width n : ℕ) → 0 < left → least_pending place' ≤ pending place' → place' ≡ behind_control (control_of n) left
+pub control_moves : (place' : Place) (left m width n : ℕ) → 0 < left → least_pending place' ≤ pending place'
+    → place' ≡ behind_control (control_of n) left
     → Moves Packet left m width (n ∷ []) [] place' left m width
 control_moves place' zero m width n some begun is = absurd (omega arith)
 control_moves place' (suc left) m width n some begun is = record {
@@ -281,21 +298,29 @@ literal-read n left m width more most at bytes rest whole = by_length (nat_lt (l
   where
     by_length : (b : Bool) → nat_lt (length rest) more ≡ b
         → read_on (Literal n) most left m width at (bytes ++ rest)
-        ≡ with_front bytes (if b then RowsPart else with_front (take more rest) (rest_at most (left - length bytes - more) m width (at + length bytes + more) (drop more rest)))
+        ≡ with_front bytes (if b then RowsPart else with_front (take more rest)
+        (rest_at most (left - length bytes - more) m width (at + length bytes + more) (drop more rest)))
     by_length true e =
         let short : nat_lt (length (bytes ++ rest)) n ≡ true = lt-ltb _ _ (omega (arith, length-append bytes rest, ltb-true _ _ e)) in
-        ap (λ b. if b then RowsPart else with_front (take n (bytes ++ rest)) (rest_at most (left - n) m width (at + n) (drop n (bytes ++ rest)))) short
+        ap (λ b. if b then RowsPart else with_front (take n (bytes ++ rest))
+        (rest_at most (left - n) m width (at + n) (drop n (bytes ++ rest)))) short
     by_length false e =
         let enough : nat_lt (length (bytes ++ rest)) n ≡ false = le-ltb _ _ (omega (arith, length-append bytes rest, ltb-false _ _ e)) in
         let fewer : left - n ≡ left - length bytes - more = omega arith in
         let there : at + n ≡ at + length bytes + more = omega arith in
-        ap (λ b. if b then RowsPart else with_front (take n (bytes ++ rest)) (rest_at most (left - n) m width (at + n) (drop n (bytes ++ rest)))) enough
+        ap (λ b. if b then RowsPart else with_front (take n (bytes ++ rest))
+        (rest_at most (left - n) m width (at + n) (drop n (bytes ++ rest)))) enough
         ∙ ap (λ k. with_front (take n (bytes ++ rest)) (rest_at most k m width (at + n) (drop n (bytes ++ rest)))) fewer
         ∙ ap (λ k. with_front (take n (bytes ++ rest)) (rest_at most (left - length bytes - more) m width k (drop n (bytes ++ rest)))) there
-        ∙ ap (λ k. with_front (take k (bytes ++ rest)) (rest_at most (left - length bytes - more) m width (at + length bytes + more) (drop k (bytes ++ rest)))) (sym whole)
-        ∙ ap (λ bs. with_front bs (rest_at most (left - length bytes - more) m width (at + length bytes + more) (drop (length bytes + more) (bytes ++ rest)))) (take-append-add bytes rest more)
-        ∙ ap (λ bs. with_front (bytes ++ take more rest) (rest_at most (left - length bytes - more) m width (at + length bytes + more) bs)) (drop-append-add bytes rest more)
-        ∙ sym (front-append bytes (take more rest) (rest_at most (left - length bytes - more) m width (at + length bytes + more) (drop more rest)))
+        ∙ ap (λ k. with_front (take k (bytes ++ rest))
+        (rest_at most (left - length bytes - more) m width (at + length bytes + more) (drop k (bytes ++ rest)))) (sym whole)
+        ∙ ap (λ bs. with_front bs
+        (rest_at most (left - length bytes - more) m width (at + length bytes + more) (drop (length bytes + more) (bytes ++ rest))))
+        (take-append-add bytes rest more)
+        ∙ ap (λ bs. with_front (bytes ++ take more rest) (rest_at most (left - length bytes - more) m width (at + length bytes + more) bs))
+        (drop-append-add bytes rest more)
+        ∙ sym (front-append bytes (take more rest)
+        (rest_at most (left - length bytes - more) m width (at + length bytes + more) (drop more rest)))
 
 -- bytes as they are, up to the last
 pub literal_moves : (n left m width more : ℕ) (bytes : List ℕ) → length bytes + more ≡ n
@@ -305,7 +330,8 @@ literal_moves n left m width more bytes whole = record {
 }
 
 -- where none of them is left, a packet is next
-literal-none : (most left m width at : ℕ) (rest : List ℕ) → read_on (Literal 0) most left m width at rest ≡ rest_at most left m width at rest
+literal-none : (most left m width at : ℕ) (rest : List ℕ)
+    → read_on (Literal 0) most left m width at rest ≡ rest_at most left m width at rest
 literal-none most left m width at rest =
     ap (λ b. if b then RowsPart else with_front [] (rest_at most (left - 0) m width (at + 0) rest)) (le-ltb (length rest) 0 (omega arith))
     ∙ front-nil (rest_at most (left - 0) m width (at + 0) rest)
@@ -318,11 +344,13 @@ Follows left m width left' m' width' = (most : ℕ) → left ≤ most → (most'
     × ((at : ℕ) (bytes : List ℕ) → rest_at most left m width at bytes ≡ rest_at most' left' m' width' at bytes)
 
 -- the last of the bytes that stand as they are
-pub literal_ends : (n left m width left' m' width' count : ℕ) (bytes : List ℕ) → length bytes ≡ count → count ≡ n → Follows (left - count) m width left' m' width'
+pub literal_ends : (n left m width left' m' width' count : ℕ) (bytes : List ℕ) → length bytes ≡ count → count ≡ n
+    → Follows (left - count) m width left' m' width'
     → Moves (Literal n) left m width bytes bytes Packet left' m' width'
 literal_ends n left m width left' m' width' count bytes counted whole follows = record {
   on = λ most enough.
-      let next : (most' : ℕ) × (left' ≤ most') × ((at : ℕ) (bytes : List ℕ) → rest_at most (left - count) m width at bytes ≡ rest_at most' left' m' width' at bytes)
+      let next : (most' : ℕ) × (left' ≤ most')
+      × ((at : ℕ) (bytes : List ℕ) → rest_at most (left - count) m width at bytes ≡ rest_at most' left' m' width' at bytes)
       = follows most (omega (arith, enough refl)) in (
         next.0,
         λ still. omega (arith, next.1),
@@ -339,7 +367,8 @@ pub repeated_moves : (n left m width left' m' width' byte : ℕ) → Follows (le
     → Moves (Repeated n) left m width (byte ∷ []) (replicate n byte) Packet left' m' width'
 repeated_moves n left m width left' m' width' byte follows = record {
   on = λ most enough.
-      let next : (most' : ℕ) × (left' ≤ most') × ((at : ℕ) (bytes : List ℕ) → rest_at most (left - n) m width at bytes ≡ rest_at most' left' m' width' at bytes)
+      let next : (most' : ℕ) × (left' ≤ most')
+      × ((at : ℕ) (bytes : List ℕ) → rest_at most (left - n) m width at bytes ≡ rest_at most' left' m' width' at bytes)
       = follows most (enough refl) in
       (next.0, λ still. omega (arith, next.1), λ at rest. ap (with_front (replicate n byte)) (next.2 (at + 1) rest));
 }
@@ -396,12 +425,14 @@ plain_begins form n width plain count = record {
         ∙ ap (λ k. with_front (take n rest) (rest_at n k 0 width (form.at + 0 + n) (drop n rest))) (let p : 0 ≡ n - n = omega arith in p)
 
 -- coded rows begin before a control byte
-pub coded_begins : (form : RowsForm) (m width : ℕ) → (form.c ≡ 0 → ⊥) → form.rows ≡ suc m → form.width ≡ width → Stands form Packet width m width [] []
+pub coded_begins : (form : RowsForm) (m width : ℕ) → (form.c ≡ 0 → ⊥) → form.rows ≡ suc m → form.width ≡ width
+    → Stands form Packet width m width [] []
 coded_begins form m width coded rows wide = record {
   most = width;
   enough = λ still. omega arith;
   is = λ rest.
-      ap (λ b. if b then plain_at (form.rows * form.width) form.at rest else rows_at form.rows form.width form.at rest) (ne_eqb form.c 0 coded)
+      ap (λ b. if b then plain_at (form.rows * form.width) form.at rest else rows_at form.rows form.width form.at rest)
+      (ne_eqb form.c 0 coded)
       ∙ ap (λ k. rows_at k form.width form.at rest) rows
       ∙ ap (λ k. rows_at (suc m) k form.at rest) wide
       ∙ rows-rest m width form.at rest

@@ -1,5 +1,7 @@
 -- The canonical code, step by step.
-use Rattle.std.proofs.Common.{◌≡◌, ℕ, zero, suc, ◌+◌, ◌-◌, ◌*◌, ◌<◌, ◌≤◌, ◌==◌, ◌&&◌, nat_lt, Bool, true, false, if◌then◌else◌, List, [], ◌∷◌, ◌++◌, length, take, drop, min, get_or, set, refl, sym, ◌∙◌, ap, arith, subst, append_assoc, append-nil, length-append, length-drop, eq-eqb}
+use Rattle.std.proofs.Common.{◌≡◌, ℕ, zero, suc, ◌+◌, ◌-◌, ◌*◌, ◌<◌, ◌≤◌, ◌==◌, ◌&&◌, nat_lt, Bool, true, false, if◌then◌else◌, List, []}
+use Rattle.std.proofs.Common.{◌∷◌, ◌++◌, length, take, drop, min, get_or, set, refl, sym, ◌∙◌, ap, arith, subst, append_assoc, append-nil}
+use Rattle.std.proofs.Common.{length-append, length-drop, eq-eqb}
 use Rattle.std.specs.List.{flat_map}
 use Rattle.std.proofs.lemmas.Bool.{ltb-true, ltb-false, le-ltb, lt-ltb, ne_eqb}
 use Rattle.std.proofs.lemmas.Bool.Decides.{nat_tests}
@@ -15,10 +17,12 @@ use Rattle.escp2_laws.proofs.Packets.{apart-more, counted, same, same-cons}
 -- ---- equal bytes
 
 -- the equal bytes, counted in the first bytes
-pub equal_counted : (row : List ℕ) (first count : ℕ) → first ≡ min (length row) 128 → count ≡ same (get_or row 0 0) (take first row) → count ≡ equal_at row
+pub equal_counted : (row : List ℕ) (first count : ℕ) → first ≡ min (length row) 128 → count ≡ same (get_or row 0 0) (take first row)
+    → count ≡ equal_at row
 unfolding equal_at
 equal_counted row first count first_is counted =
-    counted ∙ ap (λ k. same (get_or row 0 0) (take k row)) first_is ∙ ap (λ bs. same (get_or row 0 0) bs) (few (nat_lt (length row) 128) refl)
+    counted ∙ ap (λ k. same (get_or row 0 0) (take k row)) first_is
+    ∙ ap (λ bs. same (get_or row 0 0) bs) (few (nat_lt (length row) 128) refl)
   where
     few : (t : Bool) → nat_lt (length row) 128 ≡ t → take (min (length row) 128) row ≡ take 128 row
     few true e =
@@ -56,7 +60,8 @@ three-equal row a b d rest is = ap (λ bs. nat_lt 2 (equal_at bs)) is ∙ by_sec
         ∙ sym (ap (λ t. t && (b == d)) e ∙ f)
 
 -- the first two are equal, and so it is for the third to tell
-pub third-tells : (row : List ℕ) → 3 ≤ length row → get_or row 0 0 ≡ get_or row 1 0 → (get_or row 1 0 == get_or row 2 0) ≡ nat_lt 2 (equal_at row)
+pub third-tells : (row : List ℕ) → 3 ≤ length row → get_or row 0 0 ≡ get_or row 1 0
+    → (get_or row 1 0 == get_or row 2 0) ≡ nat_lt 2 (equal_at row)
 third-tells [] some e = absurd (omega arith)
 third-tells (a ∷ []) some e = absurd (omega arith)
 third-tells (a ∷ b ∷ []) some e = absurd (omega arith)
@@ -64,7 +69,8 @@ third-tells (a ∷ b ∷ d ∷ rest) some e =
     sym (three-equal (a ∷ b ∷ d ∷ rest) a b d rest refl ∙ ap (λ t. t && (b == d)) (eq-eqb a b e))
 
 -- the first two are not
-pub second-tells : (row : List ℕ) → 3 ≤ length row → (get_or row 0 0 ≡ get_or row 1 0 → ⊥) → (get_or row 0 0 == get_or row 1 0) ≡ nat_lt 2 (equal_at row)
+pub second-tells : (row : List ℕ) → 3 ≤ length row → (get_or row 0 0 ≡ get_or row 1 0 → ⊥)
+    → (get_or row 0 0 == get_or row 1 0) ≡ nat_lt 2 (equal_at row)
 second-tells [] some ne = absurd (omega arith)
 second-tells (a ∷ []) some ne = absurd (omega arith)
 second-tells (a ∷ b ∷ []) some ne = absurd (omega arith)
@@ -112,7 +118,8 @@ apart-nothing (suc left) [] none = refl
 apart-nothing (suc left) (b ∷ rest) none = absurd (omega arith)
 
 -- one more byte is counted
-pub apart_step : (most : ℕ) (row : List ℕ) (count : ℕ) (begins : Bool) (rest : List ℕ) → ApartSoFar most row count → count < min (length row) most
+pub apart_step : (most : ℕ) (row : List ℕ) (count : ℕ) (begins : Bool) (rest : List ℕ) → ApartSoFar most row count
+    → count < min (length row) most
     → begins ≡ nat_lt 2 (equal_at rest) → rest ≡ drop count row → begins ≡ false → ApartSoFar most row (count + 1)
 apart_step most row count begins rest so_far less test behind apart = record {
   within = omega arith;
@@ -122,7 +129,12 @@ apart_step most row count begins rest so_far less test behind apart = record {
       let same : apart_at (most - count - 1) (drop 1 (drop count row)) ≡ apart_at (most - (count + 1)) (drop (count + 1) row) =
       ap (λ k. apart_at k (drop 1 (drop count row))) fewer ∙ ap (apart_at (most - (count + 1))) next in
       let few : nat_lt 2 (equal_at (drop count row)) ≡ false = sym (ap (λ bs. nat_lt 2 (equal_at bs)) behind) ∙ sym test ∙ apart in
-      omega (arith, so_far.is, apart-more (most - count) (drop count row) (omega arith) (omega (arith, length-drop count row)) (ltb-false _ _ few), same);
+      omega (
+        arith,
+        so_far.is,
+        apart-more (most - count) (drop count row) (omega arith) (omega (arith, length-drop count row)) (ltb-false _ _ few),
+        same,
+      );
 }
 
 -- the count ends at three equal bytes
@@ -133,13 +145,21 @@ apart_stop most row count begins rest so_far test behind equal =
     omega (arith, so_far.is, apart-equal (most - count) (drop count row) many)
 
 -- or at its end
-pub apart_end : (most : ℕ) (row : List ℕ) (count end : ℕ) → ApartSoFar most row count → end ≡ min (length row) most → end ≤ count → count ≤ end
+pub apart_end : (most : ℕ) (row : List ℕ) (count end : ℕ) → ApartSoFar most row count → end ≡ min (length row) most → end ≤ count
+    → count ≤ end
     → end ≡ apart_at most row
 apart_end most row count end so_far is all within = by_length (nat_lt (length row) most) refl
   where
     by_length : (t : Bool) → nat_lt (length row) most ≡ t → end ≡ apart_at most row
-    by_length true e = omega (arith, so_far.is, ltb-true _ _ e, apart-nothing (most - count) (drop count row) (omega (arith, ltb-true _ _ e, length-drop count row)))
-    by_length false e = omega (arith, so_far.is, ltb-false _ _ e, apart-none (most - count) (drop count row) (omega (arith, ltb-false _ _ e)))
+    by_length true e =
+        omega (
+          arith,
+          so_far.is,
+          ltb-true _ _ e,
+          apart-nothing (most - count) (drop count row) (omega (arith, ltb-true _ _ e, length-drop count row)),
+        )
+    by_length false e =
+        omega (arith, so_far.is, ltb-false _ _ e, apart-none (most - count) (drop count row) (omega (arith, ltb-false _ _ e)))
 
 -- a byte is counted where the row begins with no three equal ones
 pub apart_some : (row : List ℕ) (count : ℕ) → count ≡ apart_at 128 row → 0 < length row → equal_at row ≤ 2 → 1 ≤ count
@@ -215,11 +235,13 @@ pub record IsWritten (rest part part' : List ℕ) (row code : ℕ) : Type 0 wher
 -- bytes up to the last one are written
 put_mid-end : (out part : List ℕ) (len k : ℕ) → k ≡ length out - len → put_mid len k out part ≡ take len out ++ part
 put_mid-end out part len k all =
-    ap (λ bs. take len out ++ (part ++ bs)) (drop_all k (drop len out) (omega (arith, length-drop len out))) ∙ ap (λ bs. take len out ++ bs) (append-nil part)
+    ap (λ bs. take len out ++ (part ++ bs)) (drop_all k (drop len out) (omega (arith, length-drop len out)))
+    ∙ ap (λ bs. take len out ++ bs) (append-nil part)
 
 -- one more packet is coded
 row-more : (row out part part' out' rest : List ℕ) (len count code : ℕ) → RowSoFar row out len rest → 0 < length rest
-    → IsWritten rest part part' count code → length part ≡ length out - len → out' ≡ take len out ++ part' → RowSoFar row out' (len + code) (drop count rest)
+    → IsWritten rest part part' count code → length part ≡ length out - len → out' ≡ take len out ++ part'
+    → RowSoFar row out' (len + code) (drop count rest)
 row-more row out part part' out' rest len count code so_far some written part_len put =
     let n : ℕ = length (packet_row (next_packet rest)) in
     let more : so_far.most ≡ suc (so_far.most - 1) = omega (arith, so_far.enough) in
@@ -231,14 +253,26 @@ row-more row out part part' out' rest len count code so_far some written part_le
     ∙ ap (λ bs. take len out ++ bs) written.coded in
     let codes : List ℕ = flat_map packet_code (packets_from (so_far.most - 1) (drop count rest)) in
     record {
-      room = omega (arith, so_far.room, written.short, written.within, written.len, length-drop count rest, part_len, ap length put, length-append (take len out) part', front_len);
+      room = omega (
+        arith,
+        so_far.room,
+        written.short,
+        written.within,
+        written.len,
+        length-drop count rest,
+        part_len,
+        ap length put,
+        length-append (take len out) part',
+        front_len,
+      );
       short = omega (arith, so_far.short, written.short, written.within, length-drop count rest);
       most = so_far.most - 1;
       enough = omega (arith, so_far.enough, written.some, length-drop count rest);
       is = so_far.is
           ∙ ap (λ k. take len out ++ flat_map packet_code (packets_from k rest)) more
           ∙ ap (λ ps. take len out ++ flat_map packet_code ps) (packets-more (so_far.most - 1) rest some)
-          ∙ ap (λ k. take len out ++ (packet_code (next_packet rest) ++ flat_map packet_code (packets_from (so_far.most - 1) (drop k rest)))) (sym written.counted)
+          ∙ ap (λ k. take len out ++ (packet_code (next_packet rest)
+          ++ flat_map packet_code (packets_from (so_far.most - 1) (drop k rest)))) (sym written.counted)
           ∙ sym (append_assoc (take len out) (packet_code (next_packet rest)) codes)
           ∙ ap (λ bs. bs ++ codes) (sym front);
     }

@@ -1,7 +1,8 @@
 //! A reader of a raster's rows, piece by piece.
 ghost use Rattle.escp2_rows.specs.Places.{behind_control, is_failed, least_pending, pending};
 ghost use Rattle.escp2_definitions.specs.RowCode.{control_of};
-ghost use Rattle.std.specs.Prelude.{[], false, length, min, replicate, take, vec_capacity, vec_len, ℕ, ◌*◌, ◌++◌, ◌+◌, ◌<◌, ◌∷◌, ◌≡◌, ◌≤◌};
+ghost use Rattle.std.specs.Prelude.{[], false, length, min, replicate, take, vec_capacity, vec_len, ℕ, ◌*◌, ◌++◌, ◌+◌};
+ghost use Rattle.std.specs.Prelude.{◌<◌, ◌∷◌, ◌≡◌, ◌≤◌};
 
 use crate::buffer::{push_bytes, push_run};
 
@@ -56,7 +57,8 @@ pub struct RowReader {
 }
 
 impl RowReader {
-    ghost use Rattle.escp2_rows.specs.Reading.{EndsPacket, Gives, IsFault, IsMore, IsWhole, OnFault, OnMore, OnWhole, StandsFor, Takes, bytes_left_of, is_done_of};
+    ghost use Rattle.escp2_rows.specs.Reading.{EndsPacket, Gives, IsFault, IsMore, IsWhole, OnFault, OnMore, OnWhole};
+    ghost use Rattle.escp2_rows.specs.Reading.{StandsFor, Takes, bytes_left_of, is_done_of};
 
     /// A reader of so many rows of this width in bytes, which stand as they are where `c` is 0, and else coded. Plain
     /// rows are read as one row whose bytes stand as they are.

@@ -1,5 +1,6 @@
 -- Rows of a raster coded one by one.
-use Rattle.std.proofs.Common.{◌≡◌, ℕ, suc, ◌+◌, ◌*◌, ◌≤◌, List, [], ◌++◌, length, take, drop, Option, sym, ◌∙◌, ap, subst, arith, append_assoc, append-nil, length-drop}
+use Rattle.std.proofs.Common.{◌≡◌, ℕ, suc, ◌+◌, ◌*◌, ◌≤◌, List, [], ◌++◌, length, take, drop, Option, sym, ◌∙◌, ap, subst, arith}
+use Rattle.std.proofs.Common.{append_assoc, append-nil, length-drop}
 use Rattle.std.proofs.lemmas.List.{length-take-le, take-append-le}
 use Rattle.std.proofs.Math.Seq.{take-append-add}
 use borrow.Rule.Slice.PartMut.{put_mid}
@@ -17,7 +18,8 @@ abbrev pub codes : ℕ → ℕ → List ℕ → List ℕ
 codes m width rows = flat_map canonical_row (rows_apart m width rows)
 
 -- the code of the next row comes first
-codes-next : (m n width : ℕ) (rows : List ℕ) → m ≡ suc n → codes m width rows ≡ canonical_row (take width rows) ++ codes n width (drop width rows)
+codes-next : (m n width : ℕ) (rows : List ℕ) → m ≡ suc n
+    → codes m width rows ≡ canonical_row (take width rows) ++ codes n width (drop width rows)
 codes-next m n width rows e = ap (λ k. codes k width rows) e
 
 -- ---- into memory
@@ -38,7 +40,8 @@ pub record AppendsSoFar (whole out rest : List ℕ) (m width : ℕ) : Type 0 whe
   pub is : whole ≡ out ++ codes m width rest
 
 -- no row is appended
-pub appends_begin : (out rows : List ℕ) (m n width : ℕ) → length rows ≡ m * width → m ≡ n → AppendsSoFar (out ++ codes m width rows) out rows n width
+pub appends_begin : (out rows : List ℕ) (m n width : ℕ) → length rows ≡ m * width → m ≡ n
+    → AppendsSoFar (out ++ codes m width rows) out rows n width
 appends_begin out rows m n width fits same = record {
   left = fits ∙ ap (λ k. k * width) same;
   is = ap (λ k. out ++ codes k width rows) same;
@@ -87,7 +90,8 @@ puts_begin held front piece rows m n width begun fits same = record {
 }
 
 -- one more row is gathered
-pub puts_step : (old now now' : Option (List ℕ)) (whole piece kept piece' rest rest' : List ℕ) (m n width : ℕ) → PutsSoFar old now whole piece rest m width
+pub puts_step : (old now now' : Option (List ℕ)) (whole piece kept piece' rest rest' : List ℕ) (m n width : ℕ)
+    → PutsSoFar old now whole piece rest m width
     → m ≡ suc n → Passes now now' piece kept → piece' ≡ kept ++ canonical_row (take width rest) → rest' ≡ drop width rest
     → PutsSoFar old now' whole piece' rest' n width
 puts_step old now now' whole piece kept piece' rest rest' m n width so_far more passed pushed behind =
@@ -115,10 +119,12 @@ pub puts_part : (old now now' : Option (List ℕ)) (whole piece rest : List ℕ)
 puts_part old now now' whole piece rest m width so_far part =
     let P : List ℕ → Type 0 = AppendsPart old now' in
     subst P (sym so_far.is)
-    (part_behind old now now' so_far.sent (piece ++ codes m width rest) so_far.appends (part_of_front now now' piece (codes m width rest) part))
+    (part_behind old now now' so_far.sent (piece ++ codes m width rest) so_far.appends
+    (part_of_front now now' piece (codes m width rest) part))
 
 -- only what is gathered is left to write
-pub puts_end : (old now : Option (List ℕ)) (whole piece rest : List ℕ) (m width : ℕ) (so_far : PutsSoFar old now whole piece rest m width) → m ≡ 0
+pub puts_end : (old now : Option (List ℕ)) (whole piece rest : List ℕ) (m width : ℕ)
+    (so_far : PutsSoFar old now whole piece rest m width) → m ≡ 0
     → whole ≡ so_far.sent ++ piece
 puts_end old now whole piece rest m width so_far none =
     so_far.is ∙ ap (λ k. so_far.sent ++ (piece ++ codes k width rest)) none ∙ ap (λ bs. so_far.sent ++ bs) (append-nil piece)

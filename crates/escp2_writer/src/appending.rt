@@ -3,7 +3,8 @@ ghost use Rattle.escp2_definitions.specs.Canonical.{canonical_row};
 ghost use Rattle.escp2_definitions.specs.Commands.{command_bytes, in_table, row_bytes as row_bytes_of, rows_len};
 ghost use Rattle.escp2_definitions.specs.Written.{rows_apart, written};
 ghost use Rattle.std.specs.List.{flat_map};
-ghost use Rattle.std.specs.Prelude.{IsOk, OnErr, OnOk, length, take, true, vec_capacity, vec_len, ◌*◌, ◌++◌, ◌+◌, ◌≡◌, ◌≤◌};
+ghost use Rattle.std.specs.Prelude.{IsOk, OnErr, OnOk, length, take, true, vec_capacity, vec_len, ◌*◌, ◌++◌, ◌+◌, ◌≡◌};
+ghost use Rattle.std.specs.Prelude.{◌≤◌};
 
 use crate::heads::{head_bytes, row_bytes};
 use crate::{Command, RasterHead};
@@ -76,8 +77,8 @@ fn room_for(c: &Command) -> usize
     }
 }
 
-/// Appends the command and then its rows: a raster's rows plain where its `c` is 0 and else coded, the top one first, and
-/// none for the other commands.
+/// Appends the command and then its rows: a raster's rows plain where its `c` is 0 and else coded, the top one first,
+/// and none for the other commands.
 ///
 /// No memory is taken where there is room for 9 bytes and twice those of the rows. On `Memory` nothing is appended.
 pub fn append(c: &Command, rows: &[u8], out: &mut Vec<u8>) -> Result<(), Memory>

@@ -1,6 +1,7 @@
 //! The bytes of commands, without the rows of rasters.
 ghost use Rattle.arrayvec.specs.ArrayVec.{array_vec_len};
-ghost use Rattle.escp2_definitions.specs.Commands.{colour_code as colour_code_of, command_bytes, row_bytes as row_bytes_of, two_bytes};
+ghost use Rattle.escp2_definitions.specs.Commands.{colour_code as colour_code_of, command_bytes};
+ghost use Rattle.escp2_definitions.specs.Commands.{row_bytes as row_bytes_of, two_bytes};
 ghost use Rattle.std.specs.Prelude.{[], length, ◌%◌, ◌++◌, ◌/◌, ◌∷◌, ◌≡◌, ◌≤◌};
 
 use crate::{Command, RasterHead};

@@ -15,7 +15,8 @@ pub record GathersSoFar (old now : Option (List ℕ)) (text pending : List ℕ) 
 pub gathers_none : (held : Option (List ℕ)) (pending : List ℕ) → pending ≡ [] → GathersSoFar held held [] pending
 gathers_none held pending none = record { sent = []; appends = Appends-nil held; is = sym none }
 
-pub gathers_more : (old now after : Option (List ℕ)) (text pending left bytes : List ℕ) → GathersSoFar old now text pending → Writes now after pending left bytes
+pub gathers_more : (old now after : Option (List ℕ)) (text pending left bytes : List ℕ) → GathersSoFar old now text pending
+    → Writes now after pending left bytes
     → GathersSoFar old after (text ++ bytes) left
 gathers_more old now after text pending left bytes so_far writes = record {
   sent = so_far.sent ++ writes.sent;
@@ -25,13 +26,15 @@ gathers_more old now after text pending left bytes so_far writes = record {
 }
 
 -- a failed write of what is gathered leaves a part of the text
-pub gathers_part : (old now after : Option (List ℕ)) (text pending : List ℕ) → GathersSoFar old now text pending → AppendsPart now after pending → AppendsPart old after text
+pub gathers_part : (old now after : Option (List ℕ)) (text pending : List ℕ) → GathersSoFar old now text pending
+    → AppendsPart now after pending → AppendsPart old after text
 gathers_part old now after text pending so_far part =
     let P : List ℕ → Type 0 = AppendsPart old after in
     subst P (sym so_far.is) (part_behind old now after so_far.sent pending so_far.appends part)
 
 -- a write of it the whole text
-pub gathers_all : (old now after : Option (List ℕ)) (text pending : List ℕ) → GathersSoFar old now text pending → Appends now after pending → Appends old after text
+pub gathers_all : (old now after : Option (List ℕ)) (text pending : List ℕ) → GathersSoFar old now text pending → Appends now after pending
+    → Appends old after text
 gathers_all old now after text pending so_far all =
     let P : List ℕ → Type 0 = Appends old after in
     subst P (sym so_far.is) (Appends-trans old now after so_far.sent pending so_far.appends all)

@@ -61,7 +61,8 @@ impl Gathered {
     /// Appends bytes, and writes what was gathered before where there is no room for them.
     pub fn write<K: Sink>(&mut self, bytes: &[u8], k: &mut K) -> Result<(), Failed>
         requires { length bytes.now ≤ 8192 }
-        ensures ok { OnOk result (Writes (K.held k.old) (K.held k.new) (gathered self.old) (gathered self.new) bytes.now) }
+        ensures ok { OnOk result
+            (Writes (K.held k.old) (K.held k.new) (gathered self.old) (gathered self.new) bytes.now) }
         ensures part { OnErr result (AppendsPart (K.held k.old) (K.held k.new) (gathered self.old)) }
         ensures cause { HasCause (K.faults k.old) (K.faults k.new) result }
     {

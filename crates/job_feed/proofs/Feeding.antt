@@ -37,11 +37,16 @@ goes_first old text between = record {
 }
 
 -- a read leaves the text as it is
-pub goes_filled : (old : JobFeed) (reader : JobReader) (fed most : ℕ) (before text now : Option (List ℕ)) → GoesOn old reader fed most before text → Keeps text now
+pub goes_filled : (old : JobFeed) (reader : JobReader) (fed most : ℕ) (before text now : Option (List ℕ))
+    → GoesOn old reader fed most before text → Keeps text now
     → GoesOn old reader fed most before now
 goes_filled old reader fed most before text now goes kept = record {
   bytes = goes.bytes;
-  takes = record { taken = Consumes-kept before text now goes.bytes goes.takes.taken kept; part = goes.takes.part; within = goes.takes.within };
+  takes = record {
+    taken = Consumes-kept before text now goes.bytes goes.takes.taken kept;
+    part = goes.takes.part;
+    within = goes.takes.within;
+  };
   stands = goes.stands;
   is_open = goes.is_open;
   fed_is = goes.fed_is;
@@ -54,19 +59,23 @@ record Fed (old new : JobFeed) (state : HeardState) (before now : Option (List �
   fed_is : new.fed ≡ old.fed + length (goes ++ piece)
   within : old.fed + length (goes ++ piece) ≤ old.most
 
-fed : (old feed new : JobFeed) (state : HeardState) (before left : Option (List ℕ)) (goes : GoesOn old feed.reader feed.fed feed.most before (text_of feed left))
+fed : (old feed new : JobFeed) (state : HeardState) (before left : Option (List ℕ))
+    (goes : GoesOn old feed.reader feed.fed feed.most before (text_of feed left))
     (feeds : FeedsSome feed new state) → new.most ≡ feed.most → Fed old new state before (text_of new left) goes.bytes feeds.bytes
 fed old feed new state before left goes feeds most = record {
-  taken = Consumes-trans before (text_of feed left) (text_of new left) goes.bytes feeds.bytes goes.takes.taken (text_used left feed.unread feeds.bytes new.unread feeds.is);
+  taken = Consumes-trans before (text_of feed left) (text_of new left) goes.bytes feeds.bytes goes.takes.taken
+      (text_used left feed.unread feeds.bytes new.unread feeds.is);
   fed_is = omega (arith, length-append goes.bytes feeds.bytes, goes.fed_is, feeds.fed);
   within = omega (arith, length-append goes.bytes feeds.bytes, goes.fed_is, feeds.fed, most, goes.most_is, new.within);
 }
 
 -- the command in hand began where the feed stood
-begins : (old feed : JobFeed) (before text : Option (List ℕ)) → GoesOn old feed.reader feed.fed feed.most before text → feed.reader.begin ≡ at_of old
+begins : (old feed : JobFeed) (before text : Option (List ℕ)) → GoesOn old feed.reader feed.fed feed.most before text
+    → feed.reader.begin ≡ at_of old
 begins old feed before text goes = omega (arith, goes.stands.fed, goes.fed_is, feed.fed_is)
 
-pub goes_more : (old feed new : JobFeed) (before left : Option (List ℕ)) → GoesOn old feed.reader feed.fed feed.most before (text_of feed left) → FeedsSome feed new heard.More
+pub goes_more : (old feed new : JobFeed) (before left : Option (List ℕ))
+    → GoesOn old feed.reader feed.fed feed.most before (text_of feed left) → FeedsSome feed new heard.More
     → new.most ≡ feed.most → GoesOn old new.reader new.fed new.most before (text_of new left)
 goes_more old feed new before left goes feeds most =
     let more = fed old feed new heard.More before left goes feeds most in
@@ -80,8 +89,10 @@ goes_more old feed new before left goes feeds most =
       most_is = most ∙ goes.most_is;
     }
 
-pub takes_command : (old feed new : JobFeed) (command : Command) (before left : Option (List ℕ)) → GoesOn old feed.reader feed.fed feed.most before (text_of feed left)
-    → FeedsSome feed new (heard.One command) → new.most ≡ feed.most → TakesCommand old new before (text_of new left) (record { at = old.fed; command = command })
+pub takes_command : (old feed new : JobFeed) (command : Command) (before left : Option (List ℕ))
+    → GoesOn old feed.reader feed.fed feed.most before (text_of feed left)
+    → FeedsSome feed new (heard.One command) → new.most ≡ feed.most
+    → TakesCommand old new before (text_of new left) (record { at = old.fed; command = command })
 takes_command old feed new command before left goes feeds most =
     let more = fed old feed new (heard.One command) before left goes feeds most in
     let hears = feeds.heard goes.bytes goes.stands in
@@ -97,7 +108,8 @@ takes_command old feed new command before left goes feeds most =
       between = record { stands = hears.stands; is_open = feeds.failed };
     }
 
-pub meets_fault : (old feed new : JobFeed) (offset : ℕ) (cause : JobCause) (before left : Option (List ℕ)) → GoesOn old feed.reader feed.fed feed.most before (text_of feed left)
+pub meets_fault : (old feed new : JobFeed) (offset : ℕ) (cause : JobCause) (before left : Option (List ℕ))
+    → GoesOn old feed.reader feed.fed feed.most before (text_of feed left)
     → FeedsSome feed new (heard.Fault offset cause) → new.most ≡ feed.most → MeetsFault old before (text_of new left) offset cause
 meets_fault old feed new offset cause before left goes feeds most =
     let more = fed old feed new (heard.Fault offset cause) before left goes feeds most in

@@ -2,7 +2,8 @@
 ghost use Rattle.escp2_reader.specs.Reading.{StandsFor, fed_of, is_failed_of, rows_of};
 ghost use Rattle.job_feed.specs.declared.feed.FeedStop.TheVariants as FeedStop;
 ghost use Rattle.escp2_definitions.specs.declared.stops.JobStop.TheVariants as JobStop;
-ghost use Rattle.std.specs.Prelude.{IfErr, IfNone, IfOk, IfSome, IsOk, List, None, [], false, length, take, ℕ, ◌<◌, ◌≡◌, ◌≤◌, ◌^◌};
+ghost use Rattle.std.specs.Prelude.{IfErr, IfNone, IfOk, IfSome, IsOk, List, None, [], false, length, take, ℕ, ◌<◌};
+ghost use Rattle.std.specs.Prelude.{◌≡◌, ◌≤◌, ◌^◌};
 ghost use Rattle.weave_base.specs.Causes.{Rose};
 
 use escp2_definitions::{Command, JobStop};
@@ -52,7 +53,8 @@ fn first_bytes(bytes: &[u8], count: u64) -> &[u8]
 }
 
 impl JobFeed {
-    ghost use Rattle.job_feed.specs.Feeding.{HasEnded, IsBetween, IsStopped, TakesCommand, at_of, heard_of, most_of, text_of};
+    ghost use Rattle.job_feed.specs.Feeding.{HasEnded, IsBetween, IsStopped, TakesCommand, at_of, heard_of, most_of};
+    ghost use Rattle.job_feed.specs.Feeding.{text_of};
     ghost use Rattle.job_feed.specs.Pieces.{FeedsSome};
 
     /// A feed of a job from its first byte on. It takes the memory of the reader and of a buffer, and none later.
@@ -75,9 +77,13 @@ impl JobFeed {
     pub fn next<S: Source>(&mut self, s: &mut S) -> Result<Option<PlacedCommand>, FeedStop>
         requires { IsBetween self.old }
         ensures command { IfOk result (λ o. IfSome o (λ placed.
-            TakesCommand self.old self.new (text_of self.old (S.left s.old)) (text_of self.new (S.left s.new)) placed)) }
-        ensures end { IfOk result (λ o. IfNone o (HasEnded (text_of self.old (S.left s.old)) (text_of self.new (S.left s.new)))) }
-        ensures stop { IfErr result (IsStopped self.old (text_of self.old (S.left s.old)) (text_of self.new (S.left s.new)) (S.faults s.old) (S.faults s.new)) }
+            TakesCommand self.old self.new (text_of self.old (S.left s.old))
+            (text_of self.new (S.left s.new)) placed)) }
+        ensures end { IfOk result
+            (λ o. IfNone o (HasEnded (text_of self.old (S.left s.old)) (text_of self.new (S.left s.new)))) }
+        ensures stop { IfErr result
+            (IsStopped self.old (text_of self.old (S.left s.old)) (text_of self.new (S.left s.new)) (S.faults s.old)
+            (S.faults s.new)) }
         ensures later { S.faults s.old ≤ S.faults s.new }
     {
         let at = self.fed;
@@ -132,7 +138,8 @@ impl JobFeed {
         requires { is_failed_of self.now.reader ≡ false }
         ensures none { IfOk result (λ o. o ≡ None) }
         ensures whole { IsOk result → (sofar : List ℕ) → StandsFor self.now.reader sofar → sofar ≡ [] }
-        ensures cut { IfErr result (λ stop. (stop ≡ FeedStop.Job self.now.reader.begin JobStop.Cut) × ((sofar : List ℕ) → StandsFor self.now.reader sofar → (sofar ≡ [] → ⊥))) }
+        ensures cut { IfErr result (λ stop. (stop ≡ FeedStop.Job self.now.reader.begin JobStop.Cut)
+            × ((sofar : List ℕ) → StandsFor self.now.reader sofar → (sofar ≡ [] → ⊥))) }
     {
         match self.reader.end() {
             Ok(()) => Ok(None),

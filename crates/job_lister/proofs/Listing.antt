@@ -36,8 +36,10 @@ lists_none feed g left held at unread none = record {
   gathers = gathers_none held (gathered g) none;
 }
 
-pub lists_more : (old new : JobFeed) (g after : Gathered) (before text left held now now' : Option (List ℕ)) (placed : PlacedCommand) → ListsSoFar old g before text held now
-    → TakesCommand old new text (text_of new left) placed → Writes now now' (gathered g) (gathered after) (line_of placed.at placed.command (heard_of new))
+pub lists_more : (old new : JobFeed) (g after : Gathered) (before text left held now now' : Option (List ℕ)) (placed : PlacedCommand)
+    → ListsSoFar old g before text held now
+    → TakesCommand old new text (text_of new left) placed
+    → Writes now now' (gathered g) (gathered after) (line_of placed.at placed.command (heard_of new))
     → ListsSoFar new after before (text_of new left) held now'
 lists_more old new g after before text left held now now' placed so_far takes writes =
     let line : List ℕ = line_of placed.at placed.command (heard_of new) in
@@ -45,12 +47,15 @@ lists_more old new g after before text left held now now' placed so_far takes wr
     record {
       entries = so_far.entries ++ entry_of new placed ∷ [];
       gave = gave_more old new before text (text_of new left) so_far.entries placed so_far.gave takes;
-      gathers = subst P (sym (flat_map-append (λ entry. line_of entry.at entry.command entry.rows) so_far.entries (entry_of new placed ∷ []) ∙ ap (λ bs. listing so_far.entries ++ bs) (append-nil line)))
+      gathers =
+          subst P (sym (flat_map-append (λ entry. line_of entry.at entry.command entry.rows) so_far.entries (entry_of new placed ∷ [])
+          ∙ ap (λ bs. listing so_far.entries ++ bs) (append-nil line)))
           (gathers_more held now now' (listing so_far.entries) (gathered g) (gathered after) line so_far.gathers writes);
     }
 
 -- a write failed before the line of what was taken last
-pub lists_part : (feed new : JobFeed) (g : Gathered) (before text left held now now' : Option (List ℕ)) (bytes : List ℕ) (f0 f1 g0 g1 g2 : ℕ) → ListsSoFar feed g before text held now
+pub lists_part : (feed new : JobFeed) (g : Gathered) (before text left held now now' : Option (List ℕ)) (bytes : List ℕ)
+    (f0 f1 g0 g1 g2 : ℕ) → ListsSoFar feed g before text held now
     → Consumes text (text_of new left) bytes → AppendsPart now now' (gathered g) → g0 ≤ g1 → Rose g1 g2
     → ListOutcome (most_of feed) (record { before = before; now = left; faults_before = f0; faults_now = f1 })
     (record { before = held; now = now'; faults_before = g0; faults_now = g2 }) (Err stop.Write)
@@ -63,17 +68,21 @@ lists_part feed new g before text left held now now' bytes f0 f1 g0 g1 g2 so_far
   },
 )
 
-pub lists_all : (feed new : JobFeed) (g : Gathered) (before text left held now now' : Option (List ℕ)) (f0 f1 g0 g1 : ℕ) → ListsSoFar feed g before text held now
+pub lists_all : (feed new : JobFeed) (g : Gathered) (before text left held now now' : Option (List ℕ)) (f0 f1 g0 g1 : ℕ)
+    → ListsSoFar feed g before text held now
     → HasEnded text (text_of new left) → Appends now now' (gathered g)
-    → ListsAll (most_of feed) (record { before = before; now = left; faults_before = f0; faults_now = f1 }) (record { before = held; now = now'; faults_before = g0; faults_now = g1 })
+    → ListsAll (most_of feed) (record { before = before; now = left; faults_before = f0; faults_now = f1 })
+    (record { before = held; now = now'; faults_before = g0; faults_now = g1 })
 lists_all feed new g before text left held now now' f0 f1 g0 g1 so_far ended all = record {
   entries = so_far.entries;
   takes = job_ended feed new before text left so_far.entries so_far.gave ended;
   writes = gathers_all held now now' (listing so_far.entries) (gathered g) so_far.gathers all;
 }
 
-pub lists_to_stop : (most : ℕ) (feed new : JobFeed) (g : Gathered) (before text left held now now' : Option (List ℕ)) (f0 f1 f2 g0 g1 : ℕ) (why : FeedStop) (answer : ListStop)
-    → ListsSoFar feed g before text held now → IsStopped feed text (text_of new left) f1 f2 why → f0 ≤ f1 → Appends now now' (gathered g) → most_of feed ≡ most → answer ≡ feed_stop why
+pub lists_to_stop : (most : ℕ) (feed new : JobFeed) (g : Gathered) (before text left held now now' : Option (List ℕ)) (f0 f1 f2 g0 g1 : ℕ)
+    (why : FeedStop) (answer : ListStop)
+    → ListsSoFar feed g before text held now → IsStopped feed text (text_of new left) f1 f2 why → f0 ≤ f1 → Appends now now' (gathered g)
+    → most_of feed ≡ most → answer ≡ feed_stop why
     → ListOutcome most (record { before = before; now = left; faults_before = f0; faults_now = f2 })
     (record { before = held; now = now'; faults_before = g0; faults_now = g1 }) (Err answer)
 lists_to_stop most feed new g before text left held now now' f0 f1 f2 g0 g1 why answer so_far stopped later all most_is is =
@@ -102,7 +111,8 @@ lists_to_stop most feed new g before text left held now now' f0 f1 f2 g0 g1 why 
 
 -- there is no memory to begin with
 pub lists_nothing : (most : ℕ) (left held : Option (List ℕ)) (f0 f1 g0 g1 : ℕ)
-    → ListOutcome most (record { before = left; now = left; faults_before = f0; faults_now = f1 }) (record { before = held; now = held; faults_before = g0; faults_now = g1 }) (Err stop.Memory)
+    → ListOutcome most (record { before = left; now = left; faults_before = f0; faults_now = f1 })
+    (record { before = held; now = held; faults_before = g0; faults_now = g1 }) (Err stop.Memory)
 lists_nothing most left held f0 f1 g0 g1 = record {
   entries = [];
   takes = record { bytes = []; taken = Consumes-nil left; others = (commands (take most [])).entries; are = refl };

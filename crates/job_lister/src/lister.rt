@@ -37,8 +37,18 @@ pub fn list_job<S: Source, K: Sink>(
 ) -> Result<(), ListStop>
     requires { most < 2 ^ 63 }
     ensures { ListOutcome most
-        (record { before = S.left input.old; now = S.left input.new; faults_before = S.faults input.old; faults_now = S.faults input.new })
-        (record { before = K.held out.old; now = K.held out.new; faults_before = K.faults out.old; faults_now = K.faults out.new }) result }
+        (record {
+          before = S.left input.old;
+          now = S.left input.new;
+          faults_before = S.faults input.old;
+          faults_now = S.faults input.new;
+        })
+        (record {
+          before = K.held out.old;
+          now = K.held out.new;
+          faults_before = K.faults out.old;
+          faults_now = K.faults out.new;
+        }) result }
 {
     let mut feed = JobFeed::make(alloc, most)?;
     let mut gathered = Gathered::new();
@@ -66,7 +76,9 @@ fn push_command<K: Sink>(
 ) -> Result<(), Failed>
     requires in_range { in_table placed.now.command ≡ true }
     requires rows_fit { length rows.now ≡ rows_len placed.now.command }
-    ensures ok { OnOk result (Writes (K.held out.old) (K.held out.new) (gathered_of gathered.old) (gathered_of gathered.new) (line_of placed.now.at placed.now.command rows.now)) }
+    ensures ok { OnOk result
+        (Writes (K.held out.old) (K.held out.new) (gathered_of gathered.old) (gathered_of gathered.new)
+        (line_of placed.now.at placed.now.command rows.now)) }
     ensures part { OnErr result (AppendsPart (K.held out.old) (K.held out.new) (gathered_of gathered.old)) }
     ensures cause { HasCause (K.faults out.old) (K.faults out.new) result }
 {

@@ -1,5 +1,6 @@
 -- How many dots the rows of a raster have.
-use Rattle.std.proofs.Common.{◌≡◌, ℕ, zero, suc, ◌+◌, ◌-◌, ◌*◌, ◌/◌, ◌<◌, ◌≤◌, Bool, true, false, cond, List, [], ◌∷◌, ◌++◌, length, take, drop, refl, sym, ◌∙◌, ap, arith, length-append}
+use Rattle.std.proofs.Common.{◌≡◌, ℕ, zero, suc, ◌+◌, ◌-◌, ◌*◌, ◌/◌, ◌<◌, ◌≤◌, Bool, true, false, cond, List, [], ◌∷◌, ◌++◌, length, take}
+use Rattle.std.proofs.Common.{drop, refl, sym, ◌∙◌, ap, arith, length-append}
 use Rattle.std.proofs.lemmas.List.{drop-drop}
 use Rattle.std.proofs.lemmas.List.Sums.{sum_by-cons}
 use Rattle.printer_definitions.specs.declared.inks.Ink.{Ink}
@@ -27,7 +28,8 @@ pub dots_of : ℕ → RasterHead → List ℕ → ℕ
 dots_of zero head bytes = 0
 dots_of (suc m) head bytes = on_count (take head.n (bits (take (row_bytes head) bytes))) + dots_of m head (drop (row_bytes head) bytes)
 
-rows-count : (m : ℕ) (head : RasterHead) (ink : Ink) (x y : ℕ) (bytes : List ℕ) → length (rows_dots m head ink x y bytes) ≡ dots_of m head bytes
+rows-count : (m : ℕ) (head : RasterHead) (ink : Ink) (x y : ℕ) (bytes : List ℕ)
+    → length (rows_dots m head ink x y bytes) ≡ dots_of m head bytes
 unfolding rows_dots dots_of
 rows-count zero head ink x y bytes = refl
 rows-count (suc m) head ink x y bytes =
@@ -49,18 +51,21 @@ pub count_begin : (head : RasterHead) (bytes : List ℕ) → CountSoFar head byt
 count_begin head bytes = record {
   is = let none : 0 * row_bytes head ≡ 0 = omega arith in
       let all : head.m - 0 ≡ head.m = omega arith in
-      let zero_more : 0 + dots_of (head.m - 0) head (drop (0 * row_bytes head) bytes) ≡ dots_of (head.m - 0) head (drop (0 * row_bytes head) bytes) = omega arith in
+      let zero_more : 0 + dots_of (head.m - 0) head (drop (0 * row_bytes head) bytes)
+      ≡ dots_of (head.m - 0) head (drop (0 * row_bytes head) bytes) = omega arith in
       zero_more ∙ ap (λ n. dots_of (head.m - 0) head (drop n bytes)) none ∙ ap (λ n. dots_of n head bytes) all ∙ sym (count-is head bytes);
   most = omega arith;
 }
 
 pub count_step : (head : RasterHead) (bytes : List ℕ) (i sum row : ℕ) → CountSoFar head bytes i sum → i < head.m
-    → row ≡ on_count (take head.n (bits (take (row_bytes head) (drop (i * row_bytes head) bytes)))) → row ≤ 8192 → CountSoFar head bytes (i + 1) (sum + row)
+    → row ≡ on_count (take head.n (bits (take (row_bytes head) (drop (i * row_bytes head) bytes)))) → row ≤ 8192
+    → CountSoFar head bytes (i + 1) (sum + row)
 unfolding dots_of
 count_step head bytes i sum row so_far more is few = record {
   is = let rest : head.m - i ≡ suc (head.m - (i + 1)) = omega arith in
       let place : i * row_bytes head + row_bytes head ≡ (i + 1) * row_bytes head = omega arith in
-      let next : dots_of (head.m - i) head (drop (i * row_bytes head) bytes) ≡ row + dots_of (head.m - (i + 1)) head (drop ((i + 1) * row_bytes head) bytes) =
+      let next : dots_of (head.m - i) head (drop (i * row_bytes head) bytes)
+      ≡ row + dots_of (head.m - (i + 1)) head (drop ((i + 1) * row_bytes head) bytes) =
       ap (λ n. dots_of n head (drop (i * row_bytes head) bytes)) rest
       ∙ ap (λ n. n + dots_of (head.m - (i + 1)) head (drop (row_bytes head) (drop (i * row_bytes head) bytes))) (sym is)
       ∙ ap (λ bs. row + dots_of (head.m - (i + 1)) head bs) (drop-drop (row_bytes head) (i * row_bytes head) bytes)
@@ -73,5 +78,6 @@ pub count_end : (head : RasterHead) (bytes : List ℕ) (i sum : ℕ) → CountSo
 unfolding dots_of
 count_end head bytes i sum so_far all =
     let none : head.m - i ≡ 0 = omega arith in
-    let nothing : dots_of (head.m - i) head (drop (i * row_bytes head) bytes) ≡ 0 = ap (λ n. dots_of n head (drop (i * row_bytes head) bytes)) none in
+    let nothing : dots_of (head.m - i) head (drop (i * row_bytes head) bytes)
+    ≡ 0 = ap (λ n. dots_of n head (drop (i * row_bytes head) bytes)) none in
     omega (arith, nothing, so_far.is)

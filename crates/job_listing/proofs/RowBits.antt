@@ -1,5 +1,6 @@
 -- How many of the first bits of a row are 1.
-use Rattle.std.proofs.Common.{◌≡◌, ℕ, zero, suc, ◌+◌, ◌-◌, ◌*◌, ◌/◌, ◌%◌, ◌^◌, ◌<◌, ◌≤◌, Bool, true, false, ◌&&◌, eqb, cond, List, [], ◌∷◌, ◌++◌, length, take, get_or, count_by, count_ones, sum_by, refl, sym, ◌∙◌, ap, arith, inl, inr}
+use Rattle.std.proofs.Common.{◌≡◌, ℕ, zero, suc, ◌+◌, ◌-◌, ◌*◌, ◌/◌, ◌%◌, ◌^◌, ◌<◌, ◌≤◌, Bool, true, false, ◌&&◌, eqb, cond, List, [], ◌∷◌}
+use Rattle.std.proofs.Common.{◌++◌, length, take, get_or, count_by, count_ones, sum_by, refl, sym, ◌∙◌, ap, arith, inl, inr}
 use Rattle.std.proofs.lemmas.Bool.{cases_lt, eqb-true}
 use Rattle.std.proofs.lemmas.List.{take-append-le, take_more}
 use Rattle.std.proofs.lemmas.List.Sums.{sum_by-append, sum_by-cons, sum_by_more}
@@ -44,7 +45,8 @@ all_first = refl
 
 pub first_bits : (r byte : ℕ) → r ≤ 8 → byte < 256 → on_count (take r (byte_bits byte)) ≡ count_ones (byte / 2 ^ (8 - r))
 unfolding test_first
-first_bits r byte few low = eqb-true _ _ (all_below-at (test_first r) 256 byte (all_below-at (λ r. all_below (test_first r) 256) 9 r all_first (omega arith)) low)
+first_bits r byte few low =
+    eqb-true _ _ (all_below-at (test_first r) 256 byte (all_below-at (λ r. all_below (test_first r) 256) 9 r all_first (omega arith)) low)
 
 -- ---- a row
 
@@ -69,14 +71,16 @@ row_bits (b ∷ row) (suc w) r are in_row few =
     let rest : on_count (take (8 * w + r) (bits row)) ≡ sum_by count_ones (take w row) + count_ones (get_or row w 0 / 2 ^ (8 - r)) =
     row_bits row w r (λ k. are (suc k)) (omega arith) few in
     let this : on_count (byte_bits b) ≡ count_ones b = first_bits 8 b (omega arith) (are 0) ∙ ap count_ones (omega arith) in
-    let first : sum_by count_ones (take (suc w) (b ∷ row)) ≡ count_ones b + sum_by count_ones (take w row) = sum_by-cons count_ones b (take w row) in
+    let first : sum_by count_ones (take (suc w) (b ∷ row)) ≡ count_ones b + sum_by count_ones (take w row) =
+    sum_by-cons count_ones b (take w row) in
     ap (λ n. on_count (take n (byte_bits b ++ bits row))) more
     ∙ ap on_count (take-append-add (byte_bits b) (bits row) (8 * w + r))
     ∙ count-append (byte_bits b) (take (8 * w + r) (bits row))
     ∙ omega (arith, rest, this, first)
 
 -- whole bytes alone
-pub whole_bits : (row : List ℕ) (w : ℕ) → AreBytes row → w ≤ length row → on_count (take (8 * w) (bits row)) ≡ sum_by count_ones (take w row)
+pub whole_bits : (row : List ℕ) (w : ℕ) → AreBytes row → w ≤ length row
+    → on_count (take (8 * w) (bits row)) ≡ sum_by count_ones (take w row)
 whole_bits row zero are in_row = refl
 whole_bits row (suc w) are in_row =
     let last : 8 * suc w ≡ 8 * w + 8 = omega arith in

@@ -1,5 +1,6 @@
 -- The lines of a page (PWG 5102.4, section 4.4): packets, lines and groups of equal lines, spelled and read.
-use Rattle.std.specs.Prelude.{◌≡◌, ℕ, zero, suc, ◌+◌, ◌-◌, ◌*◌, ◌<◌, ◌≤◌, ◌==◌, nat_lt, if◌then◌else◌, List, [], ◌∷◌, ◌++◌, length, take, drop, slice_index}
+use Rattle.std.specs.Prelude.{◌≡◌, ℕ, zero, suc, ◌+◌, ◌-◌, ◌*◌, ◌<◌, ◌≤◌, ◌==◌, nat_lt, if◌then◌else◌, List, [], ◌∷◌, ◌++◌, length, take}
+use Rattle.std.specs.Prelude.{drop, slice_index}
 use Rattle.std.specs.List.{flat_map}
 use Rattle.pwg_definitions.specs.declared.faults.LineFault.{LineFault}
 use Rattle.pwg_definitions.specs.declared.faults.LineFault.TheVariants.{RunPastLine, GroupPastPage}
@@ -116,7 +117,8 @@ with_packet row left p front = record {
   place = front.place + length (packet_spelling p);
 }
 
--- The group whose front is read and whose line has `left` units left, in at most `most` packets: each has a unit or more.
+-- The group whose front is read and whose line has `left` units left, in at most `most` packets: each has a unit or
+-- more.
 unfoldable pub line_at : KindRow → ℕ → ℕ → GroupFront → List ℕ → GroupRead
 line_at row most zero front bytes = Group front.repeats front.line bytes
 line_at row zero (suc left) front bytes = Part

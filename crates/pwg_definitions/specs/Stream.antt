@@ -1,5 +1,6 @@
 -- A stream of pages (PWG 5102.4, section 4): the sync word, and pages of a header and lines.
-use Rattle.std.specs.Prelude.{◌≡◌, ℕ, zero, suc, ◌+◌, ◌-◌, nat_eq, nat_lt, if◌then◌else◌, List, [], ◌∷◌, ◌++◌, length, take, drop, replicate, Result, Ok, Err}
+use Rattle.std.specs.Prelude.{◌≡◌, ℕ, zero, suc, ◌+◌, ◌-◌, nat_eq, nat_lt, if◌then◌else◌, List, [], ◌∷◌, ◌++◌, length, take, drop}
+use Rattle.std.specs.Prelude.{replicate, Result, Ok, Err}
 use Rattle.std.specs.List.{starts_with, AllByRecursion}
 use Rattle.pwg_definitions.specs.declared.pages.Header.{Header}
 use Rattle.pwg_definitions.specs.declared.pages.PageForm.{PageForm}

@@ -1,10 +1,12 @@
 -- A fault of a group stands as soon as its byte does.
-use Rattle.std.proofs.Common.{◌≡◌, ℕ, zero, suc, ◌+◌, ◌-◌, ◌≤◌, nat_lt, Bool, true, false, if◌then◌else◌, List, [], ◌∷◌, ◌++◌, length, take, refl, sym, ◌∙◌, ap, arith, append_assoc}
+use Rattle.std.proofs.Common.{◌≡◌, ℕ, zero, suc, ◌+◌, ◌-◌, ◌≤◌, nat_lt, Bool, true, false, if◌then◌else◌, List, [], ◌∷◌, ◌++◌, length, take}
+use Rattle.std.proofs.Common.{refl, sym, ◌∙◌, ap, arith, append_assoc}
 use Rattle.std.proofs.Math.Seq.{take-append-add}
 use Rattle.pwg_definitions.specs.declared.faults.LineFault.{LineFault}
 use Rattle.pwg_definitions.specs.declared.faults.LineFault.TheVariants.{RunPastLine, GroupPastPage}
 use Rattle.pwg_definitions.specs.Header.{KindRow}
-use Rattle.pwg_definitions.specs.Groups.{GroupFront, Packet, PacketRead, group_at, line_at, packet_at, packet_spelling, packet_units, with_packet}
+use Rattle.pwg_definitions.specs.Groups.{GroupFront, Packet, PacketRead, group_at, line_at, packet_at, packet_spelling, packet_units}
+use Rattle.pwg_definitions.specs.Groups.{with_packet}
 use Rattle.pwg_definitions.specs.Groups.GroupRead.{Group, Part, Wrong}
 use Rattle.pwg_definitions.specs.Groups.PacketRead.{One, Short, Long}
 use Rattle.pwg_laws.proofs.Packets.{IsRead, packet_at-long, packet_at-one}
@@ -19,7 +21,8 @@ record IsFaultRead (row : KindRow) (most left : ℕ) (front : GroupFront) (bytes
 take-packet : (front rest : List ℕ) (n k : ℕ) → n ≡ length front + k → take n (front ++ rest) ≡ front ++ take k rest
 take-packet front rest n k e = ap (λ m. take m (front ++ rest)) e ∙ take-append-add front rest k
 
-IsFaultRead-more : (row : KindRow) (most left : ℕ) (front : GroupFront) (bytes : List ℕ) (p : Packet) (behind : List ℕ) (place : ℕ) (fault : LineFault)
+IsFaultRead-more : (row : KindRow) (most left : ℕ) (front : GroupFront) (bytes : List ℕ) (p : Packet) (behind : List ℕ) (place : ℕ)
+    (fault : LineFault)
     → IsRead row (suc left) bytes p behind
     → IsFaultRead row most (suc left - packet_units (suc left) p) (with_packet row (suc left) p front) behind place fault
     → IsFaultRead row (suc most) (suc left) front bytes place fault
@@ -39,7 +42,8 @@ IsFaultRead-more row most left front bytes p behind place fault read after = rec
 line_at-fault : (row : KindRow) (most left : ℕ) (front : GroupFront) (bytes : List ℕ) (place : ℕ) (fault : LineFault)
     → line_at row most left front bytes ≡ Wrong place fault → IsFaultRead row most left front bytes place fault
 unfolding line_at
-line_at-fault row most zero front bytes place fault e = absurd (let never : Group front.repeats front.line bytes ≡ Wrong place fault = e in cc)
+line_at-fault row most zero front bytes place fault e =
+    absurd (let never : Group front.repeats front.line bytes ≡ Wrong place fault = e in cc)
 line_at-fault row zero (suc left) front bytes place fault e = absurd (let never : Part ≡ Wrong place fault = e in cc)
 line_at-fault row (suc most) (suc left) front bytes place fault e =
     by_packet (λ next now behind. line_at-fault row most next now behind place fault) (packet_at row (suc left) bytes) refl
@@ -49,7 +53,8 @@ line_at-fault row (suc most) (suc left) front bytes place fault e =
         → (r : PacketRead) → packet_at row (suc left) bytes ≡ r → IsFaultRead row (suc most) (suc left) front bytes place fault
     by_packet after (One p behind) is =
         IsFaultRead-more row most left front bytes p behind place fault (packet_at-one row (suc left) bytes p behind is)
-        (after (suc left - packet_units (suc left) p) (with_packet row (suc left) p front) behind (sym (line_at-one row most left front bytes p behind is) ∙ e))
+        (after (suc left - packet_units (suc left) p) (with_packet row (suc left) p front) behind
+        (sym (line_at-one row most left front bytes p behind is) ∙ e))
     by_packet after Short is = absurd (let never : Part ≡ Wrong place fault = sym (line_at-short row most left front bytes is) ∙ e in cc)
     by_packet after Long is =
         let same : Wrong front.place RunPastLine ≡ Wrong place fault = sym (line_at-long row most left front bytes is) ∙ e in
@@ -72,7 +77,8 @@ group_at-fault row units left (c ∷ bytes) more place fault e = by_fit (nat_lt 
     from : GroupFront
     from = record { repeats = c + 1; line = []; place = 1 }
 
-    by_fit : (b : Bool) → nat_lt left (c + 1) ≡ b → (if b then Wrong 0 GroupPastPage else line_at row units units from bytes) ≡ Wrong place fault
+    by_fit : (b : Bool) → nat_lt left (c + 1) ≡ b
+        → (if b then Wrong 0 GroupPastPage else line_at row units units from bytes) ≡ Wrong place fault
         → group_at row units left (take (place + 1) (c ∷ bytes) ++ more) ≡ Wrong place fault
     by_fit true is e =
         let same : Wrong 0 GroupPastPage ≡ Wrong place fault = e in

@@ -1,11 +1,13 @@
 -- A group that is spelled is read, and a group that is read was spelled.
-use Rattle.std.proofs.Common.{◌≡◌, ℕ, zero, suc, ◌+◌, ◌-◌, ◌<◌, ◌≤◌, nat_lt, Bool, true, false, if◌then◌else◌, List, [], ◌∷◌, ◌++◌, refl, sym, ◌∙◌, ap, arith, subst, append_assoc}
+use Rattle.std.proofs.Common.{◌≡◌, ℕ, zero, suc, ◌+◌, ◌-◌, ◌<◌, ◌≤◌, nat_lt, Bool, true, false, if◌then◌else◌, List, [], ◌∷◌, ◌++◌, refl}
+use Rattle.std.proofs.Common.{sym, ◌∙◌, ap, arith, subst, append_assoc}
 use Rattle.std.specs.List.{flat_map}
 use Rattle.std.proofs.lemmas.Bool.{ltb-false, le-ltb}
 use Rattle.std.proofs.lemmas.List.{append-nil}
 use Rattle.pwg_definitions.specs.declared.faults.LineFault.TheVariants.{RunPastLine, GroupPastPage}
 use Rattle.pwg_definitions.specs.Header.{KindRow}
-use Rattle.pwg_definitions.specs.Groups.{GroupFront, IsBytes, Packet, PacketRead, SpellsGroup, SpellsLine, group_at, line_at, line_gives, packet_at, packet_gives, packet_spelling, packet_units, with_packet}
+use Rattle.pwg_definitions.specs.Groups.{GroupFront, IsBytes, Packet, PacketRead, SpellsGroup, SpellsLine, group_at, line_at, line_gives}
+use Rattle.pwg_definitions.specs.Groups.{packet_at, packet_gives, packet_spelling, packet_units, with_packet}
 use Rattle.pwg_definitions.specs.Groups.GroupRead.{Group, Part, Wrong}
 use Rattle.pwg_definitions.specs.Groups.PacketRead.{One, Short, Long}
 use Rattle.pwg_laws.proofs.Packets.{IsPacket-sizes, IsRead, packet_at-one, packet_at-spelling}
@@ -15,7 +17,8 @@ use Rattle.pwg_laws.proofs.Packets.{IsPacket-sizes, IsRead, packet_at-one, packe
 -- a packet, and then the rest of the line
 pub line_at-one : (row : KindRow) (most left : ℕ) (front : GroupFront) (bytes : List ℕ) (p : Packet) (rest : List ℕ)
     → packet_at row (suc left) bytes ≡ One p rest
-    → line_at row (suc most) (suc left) front bytes ≡ line_at row most (suc left - packet_units (suc left) p) (with_packet row (suc left) p front) rest
+    → line_at row (suc most) (suc left) front bytes ≡ line_at row most (suc left - packet_units (suc left) p)
+    (with_packet row (suc left) p front) rest
 unfolding line_at
 line_at-one row most left front bytes p rest e = ap (λ (r : PacketRead). elim r [
   | One p rest ↦ line_at row most (suc left - packet_units (suc left) p) (with_packet row (suc left) p front) rest
@@ -43,12 +46,15 @@ line_at-long row most left front bytes e = ap (λ (r : PacketRead). elim r [
 
 -- ---- what is spelled is read
 
-line_at-spelling : (row : KindRow) (packets : List Packet) (most left : ℕ) (front : GroupFront) (rest : List ℕ) → SpellsLine row left packets → left ≤ most
-    → line_at row most left front (flat_map packet_spelling packets ++ rest) ≡ Group front.repeats (front.line ++ line_gives row left packets) rest
+line_at-spelling : (row : KindRow) (packets : List Packet) (most left : ℕ) (front : GroupFront) (rest : List ℕ)
+    → SpellsLine row left packets → left ≤ most
+    → line_at row most left front (flat_map packet_spelling packets ++ rest)
+    ≡ Group front.repeats (front.line ++ line_gives row left packets) rest
 unfolding line_at
 line_at-spelling row [] most zero front rest full enough = ap (λ line. Group front.repeats line rest) (sym (append-nil front.line))
 line_at-spelling row [] most (suc left) front rest full enough = absurd (omega arith)
-line_at-spelling row (p ∷ packets) most zero front rest full enough = absurd (omega (arith, (IsPacket-sizes row 0 p full.0).0, (IsPacket-sizes row 0 p full.0).1))
+line_at-spelling row (p ∷ packets) most zero front rest full enough =
+    absurd (omega (arith, (IsPacket-sizes row 0 p full.0).0, (IsPacket-sizes row 0 p full.0).1))
 line_at-spelling row (p ∷ packets) zero (suc left) front rest full enough = absurd (omega arith)
 line_at-spelling row (p ∷ packets) (suc most) (suc left) front rest full enough =
     let behind : List ℕ = flat_map packet_spelling packets ++ rest in
@@ -98,7 +104,8 @@ pub IsBytes-behind : (front rest : List ℕ) → IsBytes (front ++ rest) → IsB
 IsBytes-behind [] rest are_bytes = are_bytes
 IsBytes-behind (n ∷ front) rest are_bytes = IsBytes-behind front rest (λ k. are_bytes (suc k))
 
-IsLineRead-more : (row : KindRow) (left : ℕ) (front : GroupFront) (bytes : List ℕ) (p : Packet) (behind : List ℕ) (repeats : ℕ) (line rest : List ℕ)
+IsLineRead-more : (row : KindRow) (left : ℕ) (front : GroupFront) (bytes : List ℕ) (p : Packet) (behind : List ℕ) (repeats : ℕ)
+    (line rest : List ℕ)
     → IsBytes bytes → 1 ≤ left → IsRead row left bytes p behind
     → IsLineRead row (left - packet_units left p) (with_packet row left p front) behind repeats line rest
     → IsLineRead row left front bytes repeats line rest
@@ -117,21 +124,32 @@ line_at-read : (row : KindRow) (most left : ℕ) (front : GroupFront) (bytes : L
     → IsBytes bytes → line_at row most left front bytes ≡ Group repeats line rest → IsLineRead row left front bytes repeats line rest
 unfolding line_at
 line_at-read row most zero front bytes repeats line rest are_bytes e =
-    record { packets = []; split = cc; full = refl; same = cc; gives = (let is : line ≡ front.line = cc in is ∙ sym (append-nil front.line)) }
+    record {
+      packets = [];
+      split = cc;
+      full = refl;
+      same = cc;
+      gives = (let is : line ≡ front.line = cc in is ∙ sym (append-nil front.line));
+    }
 line_at-read row zero (suc left) front bytes repeats line rest are_bytes e = absurd (let never : Part ≡ Group repeats line rest = e in cc)
 line_at-read row (suc most) (suc left) front bytes repeats line rest are_bytes e =
     by_packet (λ next now behind. line_at-read row most next now behind repeats line rest) (packet_at row (suc left) bytes) refl
   where
-    by_packet : ((next : ℕ) (now : GroupFront) (behind : List ℕ) → IsBytes behind → line_at row most next now behind ≡ Group repeats line rest
+    by_packet : ((next : ℕ) (now : GroupFront) (behind : List ℕ) → IsBytes behind
+        → line_at row most next now behind ≡ Group repeats line rest
         → IsLineRead row next now behind repeats line rest)
         → (r : PacketRead) → packet_at row (suc left) bytes ≡ r → IsLineRead row (suc left) front bytes repeats line rest
     by_packet after (One p behind) is =
         let read : IsRead row (suc left) bytes p behind = packet_at-one row (suc left) bytes p behind is in
         IsLineRead-more row (suc left) front bytes p behind repeats line rest are_bytes (omega arith) read
-        (after (suc left - packet_units (suc left) p) (with_packet row (suc left) p front) behind (IsBytes-behind read.front behind (let P : List ℕ → Type 0 = IsBytes in subst P read.split are_bytes))
+        (after (suc left - packet_units (suc left) p) (with_packet row (suc left) p front) behind
+        (IsBytes-behind read.front behind (let P : List ℕ → Type 0 = IsBytes in subst P read.split are_bytes))
         (sym (line_at-one row most left front bytes p behind is) ∙ e))
-    by_packet after Short is = absurd (let never : Part ≡ Group repeats line rest = sym (line_at-short row most left front bytes is) ∙ e in cc)
-    by_packet after Long is = absurd (let never : Wrong front.place RunPastLine ≡ Group repeats line rest = sym (line_at-long row most left front bytes is) ∙ e in cc)
+    by_packet after Short is =
+        absurd (let never : Part ≡ Group repeats line rest = sym (line_at-short row most left front bytes is) ∙ e in cc)
+    by_packet after Long is =
+        absurd (let never : Wrong front.place RunPastLine ≡ Group repeats line rest =
+        sym (line_at-long row most left front bytes is) ∙ e in cc)
 
 pub group_at-read : (row : KindRow) (units left : ℕ) (bytes : List ℕ) (repeats : ℕ) (line rest : List ℕ)
     → IsBytes bytes → group_at row units left bytes ≡ Group repeats line rest
@@ -142,11 +160,13 @@ group_at-read row units left (c ∷ bytes) repeats line rest are_bytes e = by_fi
     from : GroupFront
     from = record { repeats = c + 1; line = []; place = 1 }
 
-    by_fit : (b : Bool) → nat_lt left (c + 1) ≡ b → (if b then Wrong 0 GroupPastPage else line_at row units units from bytes) ≡ Group repeats line rest
+    by_fit : (b : Bool) → nat_lt left (c + 1) ≡ b
+        → (if b then Wrong 0 GroupPastPage else line_at row units units from bytes) ≡ Group repeats line rest
         → (front : List ℕ) × (c ∷ bytes ≡ front ++ rest) × SpellsGroup row units left front repeats line
     by_fit true is e = absurd (let never : Wrong 0 GroupPastPage ≡ Group repeats line rest = e in cc)
     by_fit false is e =
-        let read : IsLineRead row units from bytes repeats line rest = line_at-read row units units from bytes repeats line rest (λ k. are_bytes (suc k)) e in
+        let read : IsLineRead row units from bytes repeats line rest = line_at-read row units units from bytes repeats line rest
+        (λ k. are_bytes (suc k)) e in
         let count : repeats ≡ c + 1 = read.same in
         let byte : c < 256 = are_bytes 0 in
         let fits : c + 1 ≤ left = ltb-false _ _ is in (

@@ -1,5 +1,6 @@
 -- What an accepted header says, and that a written header is accepted.
-use Rattle.std.proofs.Common.{◌≡◌, ℕ, ◌<◌, ◌^◌, ◌==◌, not, nat_lt, Bool, true, false, if◌then◌else◌, cond, List, [], ◌∷◌, Option, Some, None, Result, Ok, Err, replicate, is_some, refl, sym, ◌∙◌, ap, subst}
+use Rattle.std.proofs.Common.{◌≡◌, ℕ, ◌<◌, ◌^◌, ◌==◌, not, nat_lt, Bool, true, false, if◌then◌else◌, cond, List, [], ◌∷◌, Option, Some}
+use Rattle.std.proofs.Common.{None, Result, Ok, Err, replicate, is_some, refl, sym, ◌∙◌, ap, subst}
 use Rattle.std.specs.List.{AllByRecursion, find}
 use Rattle.std.specs.Int.{w32, from_be_bytes, to_be_bytes}
 use Rattle.std.proofs.lemmas.Bool.{and_parts, eqb-true, eq-eqb, le-ltb, ltb-false, not-false, or_from, or_parts}
@@ -10,12 +11,14 @@ use Rattle.pwg_definitions.specs.declared.pages.Header.{Header}
 use Rattle.pwg_definitions.specs.declared.pages.Wanted.{Wanted}
 use Rattle.pwg_definitions.specs.declared.faults.HeaderFault.{HeaderFault}
 use Rattle.pwg_definitions.specs.Limits.{header_length}
-use Rattle.pwg_definitions.specs.Header.{IsWanted, KindRow, check, first_fault, form_of, has_kind, header_bytes, header_numbers, header_of, header_tests, kind_of, kinds, line_bytes, pwg_raster, row_of, with_bytes, with_numbers}
+use Rattle.pwg_definitions.specs.Header.{IsWanted, KindRow, check, first_fault, form_of, has_kind, header_bytes, header_numbers, header_of}
+use Rattle.pwg_definitions.specs.Header.{header_tests, kind_of, kinds, line_bytes, pwg_raster, row_of, with_bytes, with_numbers}
 use Rattle.pwg_laws.proofs.KindRows.{IsKindRow, kind_row, named_by}
 
 -- ---- what an accepted header says
 
-first_fault-none : (tests : List (Bool × HeaderFault)) → first_fault tests ≡ None → AllByRecursion (λ (t : Bool × HeaderFault). t.0 ≡ false) tests
+first_fault-none : (tests : List (Bool × HeaderFault)) → first_fault tests ≡ None
+    → AllByRecursion (λ (t : Bool × HeaderFault). t.0 ≡ false) tests
 first_fault-none [] e = tt
 first_fault-none (test ∷ tests) e = by_test (first_fault-none tests) test.0 refl e
   where
@@ -29,11 +32,13 @@ find-passes : (test : KindRow → Bool) (rows : List KindRow) (row : KindRow) �
 find-passes test [] row e = absurd (let never : None ≡ Some row = e in cc)
 find-passes test (first ∷ rows) row e = by_test (find-passes test rows row) (test first) refl e
   where
-    by_test : (find test rows ≡ Some row → test row ≡ true) → (b : Bool) → test first ≡ b → cond b (Some first) (find test rows) ≡ Some row → test row ≡ true
+    by_test : (find test rows ≡ Some row → test row ≡ true) → (b : Bool) → test first ≡ b → cond b (Some first) (find test rows) ≡ Some row
+        → test row ≡ true
     by_test after true is found = let same : Some first ≡ Some row = found in ap test (let it : row ≡ first = cc in it) ∙ is
     by_test after false is found = after found
 
-find-among : (P : KindRow → Type 0) (test : KindRow → Bool) (rows : List KindRow) (row : KindRow) → AllByRecursion P rows → find test rows ≡ Some row → P row
+find-among : (P : KindRow → Type 0) (test : KindRow → Bool) (rows : List KindRow) (row : KindRow) → AllByRecursion P rows
+    → find test rows ≡ Some row → P row
 find-among P test [] row all e = absurd (let never : None ≡ Some row = e in cc)
 find-among P test (first ∷ rows) row all e = by_test (find-among P test rows row all.1) (test first) refl e
   where
@@ -127,14 +132,19 @@ header_of-numbers form row hdpi vdpi fitting space_fits bits_fit pixel_fits =
     let space : ℕ = number row.color_space in
     let bits : ℕ = number row.bits_per_color in
     let pixel : ℕ = number row.bits_per_pixel in
-    ap (λ h. fields h (number vdpi) (number form.width) (number form.height) bits pixel (number form.bytes_per_line) space) (four hdpi fitting.across)
-    ∙ ap (λ v. fields hdpi v (number form.width) (number form.height) bits pixel (number form.bytes_per_line) space) (four vdpi fitting.down)
+    ap (λ h. fields h (number vdpi) (number form.width) (number form.height) bits pixel (number form.bytes_per_line) space)
+    (four hdpi fitting.across)
+    ∙ ap (λ v. fields hdpi v (number form.width) (number form.height) bits pixel (number form.bytes_per_line) space)
+    (four vdpi fitting.down)
     ∙ ap (λ w. fields hdpi vdpi w (number form.height) bits pixel (number form.bytes_per_line) space) (four form.width fitting.width)
     ∙ ap (λ l. fields hdpi vdpi form.width l bits pixel (number form.bytes_per_line) space) (four form.height fitting.height)
     ∙ ap (λ c. fields hdpi vdpi form.width form.height c pixel (number form.bytes_per_line) space) (four row.bits_per_color bits_fit)
-    ∙ ap (λ p. fields hdpi vdpi form.width form.height row.bits_per_color p (number form.bytes_per_line) space) (four row.bits_per_pixel pixel_fits)
-    ∙ ap (λ b. fields hdpi vdpi form.width form.height row.bits_per_color row.bits_per_pixel b space) (four form.bytes_per_line fitting.bytes_per_line)
-    ∙ ap (fields hdpi vdpi form.width form.height row.bits_per_color row.bits_per_pixel form.bytes_per_line) (four row.color_space space_fits)
+    ∙ ap (λ p. fields hdpi vdpi form.width form.height row.bits_per_color p (number form.bytes_per_line) space)
+    (four row.bits_per_pixel pixel_fits)
+    ∙ ap (λ b. fields hdpi vdpi form.width form.height row.bits_per_color row.bits_per_pixel b space)
+    (four form.bytes_per_line fitting.bytes_per_line)
+    ∙ ap (fields hdpi vdpi form.width form.height row.bits_per_color row.bits_per_pixel form.bytes_per_line)
+    (four row.color_space space_fits)
 
 header_of-header_bytes : (form : PageForm) (hdpi vdpi : ℕ) → IsFitting form hdpi vdpi
     → header_of (header_bytes form hdpi vdpi) ≡ named_by (row_of form.kind) (written_fields form hdpi vdpi)
@@ -143,7 +153,8 @@ header_of-header_bytes form hdpi vdpi fitting =
     let is : IsKindRow form.kind (row_of form.kind) = kind_row form.kind in
     header_of-numbers form (row_of form.kind) hdpi vdpi fitting is.space_fits is.bits_fit is.pixel_fits
 
-first_fault-passes : (tests : List (Bool × HeaderFault)) → AllByRecursion (λ (t : Bool × HeaderFault). t.0 ≡ false) tests → first_fault tests ≡ None
+first_fault-passes : (tests : List (Bool × HeaderFault)) → AllByRecursion (λ (t : Bool × HeaderFault). t.0 ≡ false) tests
+    → first_fault tests ≡ None
 first_fault-passes [] all = refl
 first_fault-passes (test ∷ tests) all = ap (λ b. if b then Some test.1 else first_fault tests) all.0 ∙ first_fault-passes tests all.1
 

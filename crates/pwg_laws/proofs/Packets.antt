@@ -1,9 +1,11 @@
 -- A packet that is spelled is read, and a packet that is read was spelled.
-use Rattle.std.proofs.Common.{◌≡◌, ℕ, zero, suc, ◌+◌, ◌-◌, ◌*◌, ◌<◌, ◌≤◌, ◌==◌, nat_lt, Bool, true, false, if◌then◌else◌, List, [], ◌∷◌, ◌++◌, length, take, drop, refl, sym, ◌∙◌, ap, subst, arith, length-append}
+use Rattle.std.proofs.Common.{◌≡◌, ℕ, zero, suc, ◌+◌, ◌-◌, ◌*◌, ◌<◌, ◌≤◌, ◌==◌, nat_lt, Bool, true, false, if◌then◌else◌, List, [], ◌∷◌}
+use Rattle.std.proofs.Common.{◌++◌, length, take, drop, refl, sym, ◌∙◌, ap, subst, arith, length-append}
 use Rattle.std.proofs.lemmas.Bool.{ltb-true, ltb-false, lt-ltb, le-ltb, eqb-true, eqb-false, ne_eqb}
 use Rattle.std.proofs.lemmas.List.{take_at, drop_at, take-append-drop, length-take-le}
 use Rattle.pwg_definitions.specs.Header.{KindRow}
-use Rattle.pwg_definitions.specs.Groups.{IsBytes, IsPacket, Packet, PacketRead, copies, packet_at, packet_from, packet_gives, packet_of, packet_spelling, packet_units, units_of}
+use Rattle.pwg_definitions.specs.Groups.{IsBytes, IsPacket, Packet, PacketRead, copies, packet_at, packet_from, packet_gives, packet_of}
+use Rattle.pwg_definitions.specs.Groups.{packet_spelling, packet_units, units_of}
 use Rattle.pwg_definitions.specs.Groups.Packet.{Run, Clear, Literal}
 use Rattle.pwg_definitions.specs.Groups.PacketRead.{One, Short, Long}
 
@@ -45,7 +47,8 @@ packet_at-spelling row left (Literal n bytes) rest is =
     ∙ ap (λ k. One (Literal k bytes) rest) again
 
 -- a packet has a unit, and no more than are left
-pub IsPacket-sizes : (row : KindRow) (left : ℕ) (p : Packet) → IsPacket row left p → (1 ≤ packet_units left p) × (packet_units left p ≤ left)
+pub IsPacket-sizes : (row : KindRow) (left : ℕ) (p : Packet) → IsPacket row left p → (1 ≤ packet_units left p)
+    × (packet_units left p ≤ left)
 IsPacket-sizes row left (Run n unit) is = (is.0, is.2)
 IsPacket-sizes row left Clear is = (is, omega arith)
 IsPacket-sizes row left (Literal n bytes) is = (omega (arith, is.0), is.2)
@@ -88,7 +91,8 @@ run_facts row left n bytes small fits = by_length (nat_lt (length bytes) row.uni
           again = λ more. packet_at-run row left n (take row.unit bytes) more small fits enough;
           within = fits;
           gives = λ _. length-copies (n + 1) (take row.unit bytes) ∙ ap (λ k. (n + 1) * k) enough;
-          spelled = λ _ _. (ap (λ k. k ∷ take row.unit bytes) (omega arith), (omega arith, omega (arith, ltb-true n 128 small), fits, enough));
+          spelled =
+              λ _ _. (ap (λ k. k ∷ take row.unit bytes) (omega arith), (omega arith, omega (arith, ltb-true n 128 small), fits, enough));
         }
 
 clear_facts : (row : KindRow) (left n : ℕ) (bytes : List ℕ) → (n == 128) ≡ true → ReadFacts row left (n ∷ bytes) (One Clear bytes)
@@ -112,7 +116,8 @@ literal_facts : (row : KindRow) (left n : ℕ) (bytes : List ℕ) → nat_lt n 1
 literal_facts row left n bytes large other fits = by_length (nat_lt (length bytes) ((257 - n) * row.unit)) refl
   where
     by_length : (b : Bool) → nat_lt (length bytes) ((257 - n) * row.unit) ≡ b
-        → ReadFacts row left (n ∷ bytes) (if b then Short else One (Literal (257 - n) (take ((257 - n) * row.unit) bytes)) (drop ((257 - n) * row.unit) bytes))
+        → ReadFacts row left (n ∷ bytes)
+        (if b then Short else One (Literal (257 - n) (take ((257 - n) * row.unit) bytes)) (drop ((257 - n) * row.unit) bytes))
     by_length true e = tt
     by_length false e =
         let count : ℕ = (257 - n) * row.unit in
@@ -156,4 +161,5 @@ packet_at-one row left bytes p rest e = let P : PacketRead → Type 0 = ReadFact
 
 pub packet_at-long : (row : KindRow) (left : ℕ) (bytes more : List ℕ) → packet_at row left bytes ≡ Long
     → packet_at row left (take 1 bytes ++ more) ≡ Long
-packet_at-long row left bytes more e = (let P : PacketRead → Type 0 = ReadFacts row left bytes in subst P e (packet_at-facts row left bytes)) more
+packet_at-long row left bytes more e =
+    (let P : PacketRead → Type 0 = ReadFacts row left bytes in subst P e (packet_at-facts row left bytes)) more

@@ -1,5 +1,6 @@
 -- The pages of a stream are of the form that their headers say.
-use Rattle.std.proofs.Common.{◌≡◌, ℕ, zero, suc, ◌+◌, ◌-◌, ◌*◌, ◌≤◌, nat_eq, nat_lt, Bool, true, false, if◌then◌else◌, List, [], ◌∷◌, ◌++◌, length, take, drop, replicate, Result, Ok, Err, refl, sym, ◌∙◌, ap, subst, arith, length-append}
+use Rattle.std.proofs.Common.{◌≡◌, ℕ, zero, suc, ◌+◌, ◌-◌, ◌*◌, ◌≤◌, nat_eq, nat_lt, Bool, true, false, if◌then◌else◌, List, [], ◌∷◌, ◌++◌}
+use Rattle.std.proofs.Common.{length, take, drop, replicate, Result, Ok, Err, refl, sym, ◌∙◌, ap, subst, arith, length-append}
 use Rattle.std.specs.List.{AllByRecursion, starts_with}
 use Rattle.std.proofs.lemmas.Bool.{ltb-false}
 use Rattle.std.proofs.lemmas.List.{length-replicate}
@@ -11,10 +12,12 @@ use Rattle.pwg_definitions.specs.declared.faults.InputCause.TheVariants as cause
 use Rattle.pwg_definitions.specs.declared.faults.LineFault.TheVariants.{RunPastLine, GroupPastPage}
 use Rattle.pwg_definitions.specs.Limits.{header_length, most_pages}
 use Rattle.pwg_definitions.specs.Header.{IsWanted, KindRow, check, header_of, line_units, row_of}
-use Rattle.pwg_definitions.specs.Groups.{GroupFront, GroupRead, PacketRead, group_at, line_at, packet_at, packet_gives, packet_units, with_packet}
+use Rattle.pwg_definitions.specs.Groups.{GroupFront, GroupRead, PacketRead, group_at, line_at, packet_at, packet_gives, packet_units}
+use Rattle.pwg_definitions.specs.Groups.{with_packet}
 use Rattle.pwg_definitions.specs.Groups.GroupRead.{Group, Part, Wrong}
 use Rattle.pwg_definitions.specs.Groups.PacketRead.{One, Short, Long}
-use Rattle.pwg_definitions.specs.Stream.{IsPage, LinesRead, PageRead, Stream, lines_at, lines_of, page_at, page_behind, page_of, pages_from, stream, sync_word, with_lines, with_page}
+use Rattle.pwg_definitions.specs.Stream.{IsPage, LinesRead, PageRead, Stream, lines_at, lines_of, page_at, page_behind, page_of, pages_from}
+use Rattle.pwg_definitions.specs.Stream.{stream, sync_word, with_lines, with_page}
 use Rattle.pwg_definitions.specs.Stream.LinesRead.{Lines, Stop}
 use Rattle.pwg_definitions.specs.Stream.PageRead.{Whole, Broken}
 use Rattle.pwg_definitions.specs.Stream.StreamEnd.{Fault}
@@ -38,23 +41,36 @@ line_at-long_enough : (row : KindRow) (most left : ℕ) (front : GroupFront) (by
 unfolding line_at
 line_at-long_enough row most zero front bytes repeats line rest white e =
     record { same = cc; long = (let is : line ≡ front.line = cc in ap length is ∙ omega arith) }
-line_at-long_enough row zero (suc left) front bytes repeats line rest white e = absurd (let never : Part ≡ Group repeats line rest = e in cc)
+line_at-long_enough row zero (suc left) front bytes repeats line rest white e =
+    absurd (let never : Part ≡ Group repeats line rest = e in cc)
 line_at-long_enough row (suc most) (suc left) front bytes repeats line rest white e =
-    by_packet (λ next now behind. line_at-long_enough row most next now behind repeats line rest white) (packet_at row (suc left) bytes) refl
+    by_packet (λ next now behind. line_at-long_enough row most next now behind repeats line rest white)
+    (packet_at row (suc left) bytes) refl
   where
-    by_packet : ((next : ℕ) (now : GroupFront) (behind : List ℕ) → line_at row most next now behind ≡ Group repeats line rest → IsLong row next now repeats line)
+    by_packet : ((next : ℕ) (now : GroupFront) (behind : List ℕ) → line_at row most next now behind ≡ Group repeats line rest
+        → IsLong row next now repeats line)
         → (r : PacketRead) → packet_at row (suc left) bytes ≡ r → IsLong row (suc left) front repeats line
     by_packet after (One p behind) is =
         let read : IsRead row (suc left) bytes p behind = packet_at-one row (suc left) bytes p behind is in
         let units : ℕ = packet_units (suc left) p in
         let long : IsLong row (suc left - units) (with_packet row (suc left) p front) repeats line =
-        after (suc left - units) (with_packet row (suc left) p front) behind (sym (line_at-one row most left front bytes p behind is) ∙ e) in
+        after (suc left - units) (with_packet row (suc left) p front) behind
+        (sym (line_at-one row most left front bytes p behind is) ∙ e) in
         record {
           same = long.same;
-          long = omega (arith, long.long, length-append front.line (packet_gives row (suc left) p), read.gives white, units_split (suc left) units row.unit read.within);
+          long = omega (
+            arith,
+            long.long,
+            length-append front.line (packet_gives row (suc left) p),
+            read.gives white,
+            units_split (suc left) units row.unit read.within,
+          );
         }
-    by_packet after Short is = absurd (let never : Part ≡ Group repeats line rest = sym (line_at-short row most left front bytes is) ∙ e in cc)
-    by_packet after Long is = absurd (let never : Wrong front.place RunPastLine ≡ Group repeats line rest = sym (line_at-long row most left front bytes is) ∙ e in cc)
+    by_packet after Short is =
+        absurd (let never : Part ≡ Group repeats line rest = sym (line_at-short row most left front bytes is) ∙ e in cc)
+    by_packet after Long is =
+        absurd (let never : Wrong front.place RunPastLine ≡ Group repeats line rest =
+        sym (line_at-long row most left front bytes is) ∙ e in cc)
 
 -- A group that was read stands once or more, but not more often than there are lines left.
 pub record IsSizedGroup (row : KindRow) (units left repeats : ℕ) (line : List ℕ) : Type 0 where
@@ -70,7 +86,8 @@ group_at-sized row units left (c ∷ bytes) repeats line rest white e = by_fit (
     from : GroupFront
     from = record { repeats = c + 1; line = []; place = 1 }
 
-    by_fit : (b : Bool) → nat_lt left (c + 1) ≡ b → (if b then Wrong 0 GroupPastPage else line_at row units units from bytes) ≡ Group repeats line rest
+    by_fit : (b : Bool) → nat_lt left (c + 1) ≡ b
+        → (if b then Wrong 0 GroupPastPage else line_at row units units from bytes) ≡ Group repeats line rest
         → IsSizedGroup row units left repeats line
     by_fit true is e = absurd (let never : Wrong 0 GroupPastPage ≡ Group repeats line rest = e in cc)
     by_fit false is e =
@@ -106,7 +123,8 @@ SizedLines-more : (row : KindRow) (units left repeats : ℕ) (line : List ℕ) (
     → SizedLines row units (left - repeats) r → SizedLines row units left (with_lines (replicate repeats line) r)
 SizedLines-more row units left repeats line (Lines lines rest) group sized = record {
   many = omega (arith, length-append (replicate repeats line) lines, length-replicate repeats line, sized.many, group.within);
-  long = AllLong-append (units * row.unit) (replicate repeats line) lines (AllLong-replicate (units * row.unit) repeats line group.long) sized.long;
+  long = AllLong-append (units * row.unit) (replicate repeats line) lines (AllLong-replicate (units * row.unit) repeats line group.long)
+      sized.long;
 }
 SizedLines-more row units left repeats line (Stop at why) group sized = tt
 
@@ -155,12 +173,15 @@ page_of-facts want h form (Lines lines rest) accepted sized =
 page_at-facts : (want : Wanted) (bytes : List ℕ) → PageFacts want (page_at want bytes)
 page_at-facts want bytes = by_length (nat_lt (length bytes) header_length)
   where
-    by_check : (r : Result PageForm HeaderFault) → check want (header_of (take header_length bytes)) ≡ r → PageFacts want (page_behind r (drop header_length bytes))
+    by_check : (r : Result PageForm HeaderFault) → check want (header_of (take header_length bytes)) ≡ r
+        → PageFacts want (page_behind r (drop header_length bytes))
     by_check (Err fault) is = tt
     by_check (Ok form) is = page_of-facts want (header_of (take header_length bytes)) form (lines_of form (drop header_length bytes)) is
-        (lines_at-sized (row_of form.kind) (line_units (row_of form.kind) form.width) form.height form.height form.height (drop header_length bytes) (kind_row form.kind).white_sized)
+        (lines_at-sized (row_of form.kind) (line_units (row_of form.kind) form.width) form.height form.height form.height
+        (drop header_length bytes) (kind_row form.kind).white_sized)
 
-    by_length : (b : Bool) → PageFacts want (if b then Broken 0 cause.Truncated else page_behind (check want (header_of (take header_length bytes))) (drop header_length bytes))
+    by_length : (b : Bool) → PageFacts want
+        (if b then Broken 0 cause.Truncated else page_behind (check want (header_of (take header_length bytes))) (drop header_length bytes))
     by_length true = tt
     by_length false = by_check (check want (header_of (take header_length bytes))) refl
 
@@ -187,6 +208,7 @@ pub stream-pages : (want : Wanted) (bytes : List ℕ) → AllByRecursion (IsPage
 unfolding stream
 stream-pages want bytes = by_sync (starts_with nat_eq bytes sync_word)
   where
-    by_sync : (b : Bool) → AllByRecursion (IsPage want) (if b then pages_from want most_pages 1 (drop 4 bytes) else record { pages = []; end = Fault 0 0 cause.BadSync }).pages
+    by_sync : (b : Bool) → AllByRecursion (IsPage want)
+        (if b then pages_from want most_pages 1 (drop 4 bytes) else record { pages = []; end = Fault 0 0 cause.BadSync }).pages
     by_sync true = pages_from-pages want most_pages 1 (drop 4 bytes)
     by_sync false = tt

@@ -1,5 +1,6 @@
 -- A page that is read was spelled, and so was a stream.
-use Rattle.std.proofs.Common.{◌≡◌, ℕ, zero, suc, ◌+◌, ◌-◌, ◌≤◌, nat_eq, nat_lt, Bool, true, false, if◌then◌else◌, List, [], ◌∷◌, ◌++◌, length, take, drop, replicate, Result, Ok, Err, refl, sym, ◌∙◌, ap, subst, arith, append_assoc}
+use Rattle.std.proofs.Common.{◌≡◌, ℕ, zero, suc, ◌+◌, ◌-◌, ◌≤◌, nat_eq, nat_lt, Bool, true, false, if◌then◌else◌, List, [], ◌∷◌, ◌++◌}
+use Rattle.std.proofs.Common.{length, take, drop, replicate, Result, Ok, Err, refl, sym, ◌∙◌, ap, subst, arith, append_assoc}
 use Rattle.std.specs.List.{starts_with}
 use Rattle.std.proofs.lemmas.Bool.{ltb-false}
 use Rattle.std.proofs.lemmas.Bool.Decides.{Decides-eqb}
@@ -14,7 +15,8 @@ use Rattle.pwg_definitions.specs.Header.{KindRow, check, header_of, line_units, 
 use Rattle.pwg_definitions.specs.Groups.{GroupRead, IsBytes, SpellsGroup, group_at}
 use Rattle.pwg_definitions.specs.Groups.GroupRead.{Group, Part, Wrong}
 use Rattle.pwg_definitions.specs.Spelling.{LineGroup, SpellsLines, SpellsPage, SpellsPages, SpellsStream, groups_bytes, groups_lines}
-use Rattle.pwg_definitions.specs.Stream.{LinesRead, Page, PageRead, Stream, lines_at, lines_of, page_at, page_behind, page_of, pages_from, stream, sync_word, with_lines, with_page}
+use Rattle.pwg_definitions.specs.Stream.{LinesRead, Page, PageRead, Stream, lines_at, lines_of, page_at, page_behind, page_of, pages_from}
+use Rattle.pwg_definitions.specs.Stream.{stream, sync_word, with_lines, with_page}
 use Rattle.pwg_definitions.specs.Stream.LinesRead.{Lines, Stop}
 use Rattle.pwg_definitions.specs.Stream.PageRead.{Whole, Broken}
 use Rattle.pwg_definitions.specs.Stream.StreamEnd.{Done, Fault}
@@ -66,7 +68,8 @@ lines_at-facts row units height (suc most) (suc left) bytes are =
     by_group after (Group repeats line rest) is =
         let read : (front : List ℕ) × (bytes ≡ front ++ rest) × SpellsGroup row units (suc left) front repeats line =
         group_at-read row units (suc left) bytes repeats line rest are is in
-        LinesFacts-more row units (suc left) repeats line bytes read.0 rest (lines_at row units height most (suc left - repeats) rest) read.1 read.2
+        LinesFacts-more row units (suc left) repeats line bytes read.0 rest (lines_at row units height most (suc left - repeats) rest)
+        read.1 read.2
         (after (suc left - repeats) rest (behind_bytes bytes read.0 rest read.1 are))
     by_group after Part is = tt
     by_group after (Wrong place fault) is = tt
@@ -138,7 +141,8 @@ page_at-read want bytes page rest are e = let P : PageRead → Type 0 = PageFact
 abbrev StreamFacts : Wanted → ℕ → List ℕ → Stream → Type 0
 StreamFacts want most bytes s = s.end ≡ Done → SpellsPages want bytes s.pages × (length s.pages ≤ most)
 
-pages_from-facts : (want : Wanted) (most at : ℕ) (bytes : List ℕ) → IsBytes bytes → StreamFacts want most bytes (pages_from want most at bytes)
+pages_from-facts : (want : Wanted) (most at : ℕ) (bytes : List ℕ) → IsBytes bytes
+    → StreamFacts want most bytes (pages_from want most at bytes)
 unfolding pages_from
 pages_from-facts want most at [] are = λ done. (refl, omega arith)
 pages_from-facts want zero at (b ∷ bytes) are = λ done. absurd (let never : Fault at 0 cause.TooManyPages ≡ Done = done in cc)
@@ -153,26 +157,31 @@ pages_from-facts want (suc most) at (b ∷ bytes) are =
         ])
     by_page after (Broken line why) facts = λ done. absurd (let never : Fault at line why ≡ Done = done in cc)
     by_page after (Whole p rest) facts = λ done.
-        let others : SpellsPages want rest (pages_from want most (at + 1) rest).pages × (length (pages_from want most (at + 1) rest).pages ≤ most) =
+        let others : SpellsPages want rest (pages_from want most (at + 1) rest).pages
+        × (length (pages_from want most (at + 1) rest).pages ≤ most) =
         after rest (behind_bytes (b ∷ bytes) facts.0 rest facts.1 are) done in
         ((facts.0, rest, facts.1, facts.2, others.0), omega (arith, others.1))
 
-stream-facts : (want : Wanted) (bytes : List ℕ) → IsBytes bytes → (stream want bytes).end ≡ Done → SpellsStream want bytes (stream want bytes).pages
+stream-facts : (want : Wanted) (bytes : List ℕ) → IsBytes bytes → (stream want bytes).end ≡ Done
+    → SpellsStream want bytes (stream want bytes).pages
 unfolding stream
 stream-facts want bytes are = by_sync (starts_with nat_eq bytes sync_word) refl
   where
     by_sync : (b : Bool) → starts_with nat_eq bytes sync_word ≡ b
         → (if b then pages_from want most_pages 1 (drop 4 bytes) else record { pages = []; end = Fault 0 0 cause.BadSync }).end ≡ Done
-        → SpellsStream want bytes (if b then pages_from want most_pages 1 (drop 4 bytes) else record { pages = []; end = Fault 0 0 cause.BadSync }).pages
+        → SpellsStream want bytes
+        (if b then pages_from want most_pages 1 (drop 4 bytes) else record { pages = []; end = Fault 0 0 cause.BadSync }).pages
     by_sync false is done = absurd (let never : Fault 0 0 cause.BadSync ≡ Done = done in cc)
     by_sync true is done =
         let split : bytes ≡ sync_word ++ drop 4 bytes = (starts_is Decides-eqb bytes sync_word true (sym is)).0 refl in
-        let pages : SpellsPages want (drop 4 bytes) (pages_from want most_pages 1 (drop 4 bytes)).pages × (length (pages_from want most_pages 1 (drop 4 bytes)).pages ≤ most_pages) =
+        let pages : SpellsPages want (drop 4 bytes) (pages_from want most_pages 1 (drop 4 bytes)).pages
+        × (length (pages_from want most_pages 1 (drop 4 bytes)).pages ≤ most_pages) =
         pages_from-facts want most_pages 1 (drop 4 bytes) (behind_bytes bytes sync_word (drop 4 bytes) split are) done in
         record { behind = drop 4 bytes; spelling = split; most = pages.1; spelled = pages.0 }
 
 -- A stream that is read to its end without a fault was spelled.
-pub stream-read : (want : Wanted) (bytes : List ℕ) (pages : List Page) → IsBytes bytes → stream want bytes ≡ record { pages = pages; end = Done }
+pub stream-read : (want : Wanted) (bytes : List ℕ) (pages : List Page) → IsBytes bytes
+    → stream want bytes ≡ record { pages = pages; end = Done }
     → SpellsStream want bytes pages
 stream-read want bytes pages are e =
     let P : List Page → Type 0 = SpellsStream want bytes in

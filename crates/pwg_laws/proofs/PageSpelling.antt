@@ -1,5 +1,6 @@
 -- A page that is spelled is read, and a page that is read was spelled; the same of a stream.
-use Rattle.std.proofs.Common.{◌≡◌, ℕ, zero, suc, ◌+◌, ◌-◌, ◌≤◌, nat_lt, false, if◌then◌else◌, List, [], ◌∷◌, ◌++◌, length, take, drop, replicate, Ok, refl, sym, ◌∙◌, ap, arith, length-append, append_assoc}
+use Rattle.std.proofs.Common.{◌≡◌, ℕ, zero, suc, ◌+◌, ◌-◌, ◌≤◌, nat_lt, false, if◌then◌else◌, List, [], ◌∷◌, ◌++◌, length, take, drop}
+use Rattle.std.proofs.Common.{replicate, Ok, refl, sym, ◌∙◌, ap, arith, length-append, append_assoc}
 use Rattle.std.proofs.lemmas.Bool.{le-ltb}
 use Rattle.std.proofs.lemmas.List.{drop_at, take_at}
 use Rattle.pwg_definitions.specs.declared.pages.PageForm.{PageForm}
@@ -10,7 +11,8 @@ use Rattle.pwg_definitions.specs.Header.{KindRow, check, header_of, line_units, 
 use Rattle.pwg_definitions.specs.Groups.{GroupRead, group_at}
 use Rattle.pwg_definitions.specs.Groups.GroupRead.{Group, Part, Wrong}
 use Rattle.pwg_definitions.specs.Spelling.{LineGroup, SpellsLines, SpellsPage, SpellsPages, SpellsStream, groups_bytes, groups_lines}
-use Rattle.pwg_definitions.specs.Stream.{LinesRead, Page, PageRead, Stream, lines_at, lines_of, page_at, page_behind, page_of, pages_from, stream, with_lines, with_page}
+use Rattle.pwg_definitions.specs.Stream.{LinesRead, Page, PageRead, Stream, lines_at, lines_of, page_at, page_behind, page_of, pages_from}
+use Rattle.pwg_definitions.specs.Stream.{stream, with_lines, with_page}
 use Rattle.pwg_definitions.specs.Stream.LinesRead.{Lines, Stop}
 use Rattle.pwg_definitions.specs.Stream.PageRead.{Whole, Broken}
 use Rattle.pwg_definitions.specs.Stream.StreamEnd.{Done, Fault}
@@ -68,7 +70,8 @@ page_at-spelling want bytes page rest spelled =
     ap (λ bs. page_at want (bs ++ rest)) spelled.spelling
     ∙ ap (page_at want) (append_assoc spelled.header body rest)
     ∙ page_at-header want spelled.header (body ++ rest) form spelled.long spelled.accepted
-    ∙ ap (page_of form) (lines_at-spelling row (line_units row form.width) form.height spelled.groups form.height form.height rest spelled.full (omega arith))
+    ∙ ap (page_of form) (lines_at-spelling row (line_units row form.width) form.height spelled.groups form.height form.height rest
+    spelled.full (omega arith))
     ∙ ap (λ lines. Whole (record { form = form; lines = lines }) rest) (sym spelled.gives)
 
 -- a page, and then the pages after it
@@ -84,9 +87,16 @@ pages_from-page want most at (b ∷ bytes) page rest some e = ap (λ (r : PageRe
 -- a page has a header
 SpellsPage-long : (want : Wanted) (front rest : List ℕ) (page : Page) → SpellsPage want front page → 1 ≤ length (front ++ rest)
 SpellsPage-long want front rest page spelled =
-    omega (arith, length-append front rest, ap length spelled.spelling, length-append spelled.header (groups_bytes spelled.groups), spelled.long)
+    omega (
+      arith,
+      length-append front rest,
+      ap length spelled.spelling,
+      length-append spelled.header (groups_bytes spelled.groups),
+      spelled.long,
+    )
 
-pages_from-spelling : (want : Wanted) (pages : List Page) (most at : ℕ) (bytes : List ℕ) → SpellsPages want bytes pages → length pages ≤ most
+pages_from-spelling : (want : Wanted) (pages : List Page) (most at : ℕ) (bytes : List ℕ) → SpellsPages want bytes pages
+    → length pages ≤ most
     → pages_from want most at bytes ≡ record { pages = pages; end = Done }
 unfolding pages_from
 pages_from-spelling want [] most at [] none few = refl
@@ -94,7 +104,8 @@ pages_from-spelling want [] most at (b ∷ bytes) none few = absurd (let never :
 pages_from-spelling want (page ∷ pages) zero at bytes spelled few = absurd (omega arith)
 pages_from-spelling want (page ∷ pages) (suc most) at bytes (front, rest, split, first, others) few =
     ap (pages_from want (suc most) at) split
-    ∙ pages_from-page want most at (front ++ rest) page rest (SpellsPage-long want front rest page first) (page_at-spelling want front page rest first)
+    ∙ pages_from-page want most at (front ++ rest) page rest (SpellsPage-long want front rest page first)
+    (page_at-spelling want front page rest first)
     ∙ ap (with_page page) (pages_from-spelling want pages most (at + 1) rest others (omega arith))
 
 -- A stream that is spelled is read.

@@ -10,8 +10,10 @@ ghost use Rattle.pwg_definitions.specs.declared.faults.HeaderFault.TheVariants a
 ghost use Rattle.pwg_definitions.specs.declared.faults.InputCause.TheVariants as cause;
 ghost use Rattle.pwg_definitions.specs.declared.faults.LineFault.TheVariants.{GroupPastPage, RunPastLine};
 ghost use Rattle.pwg_definitions.specs.declared.pages.Kind.TheVariants.{Black8, Rgb8};
-ghost use Rattle.pwg_laws.specs.Examples.{checked, form_sized, good, grey_group, group_of, header_sized, of_kind, wants};
-ghost use Rattle.pwg_laws.specs.Examples.{pages_then, read, small_bytes, small_form, small_front, small_header, small_page};
+ghost use Rattle.pwg_laws.specs.Examples.{checked, form_sized, good, grey_group, group_of, header_sized, of_kind};
+ghost use Rattle.pwg_laws.specs.Examples.{wants};
+ghost use Rattle.pwg_laws.specs.Examples.{pages_then, read, small_bytes, small_form, small_front, small_header};
+ghost use Rattle.pwg_laws.specs.Examples.{small_page};
 
 /// Where a written header has what, in bytes.
 pub fn header_layout()
@@ -39,7 +41,8 @@ pub fn small_streams()
     ensures cut_second { read (small_bytes ++ 0x50 ∷ []) ≡ pages_then (small_page ∷ []) (Fault 2 0 cause.Truncated) }
     ensures no_lines { read small_header ≡ pages_then [] (Fault 1 1 cause.Truncated) }
     ensures no_sync { stream wants (0x52 ∷ 0x61 ∷ 0x53 ∷ []) ≡ pages_then [] (Fault 0 0 cause.BadSync) }
-    ensures other_sync { stream wants (0x52 ∷ 0x61 ∷ 0x53 ∷ 0x33 ∷ small_bytes) ≡ pages_then [] (Fault 0 0 cause.BadSync) }
+    ensures other_sync { stream wants (0x52 ∷ 0x61 ∷ 0x53 ∷ 0x33 ∷ small_bytes)
+        ≡ pages_then [] (Fault 0 0 cause.BadSync) }
     ensures nothing { stream wants [] ≡ pages_then [] (Fault 0 0 cause.BadSync) }
     ensures refused { read (replicate 1796 0) ≡ pages_then [] (Fault 1 0 (cause.Header fault.NotPwg)) }
     ensures long_group { read (small_header ++ 0x02 ∷ []) ≡ pages_then [] (Fault 1 1 (cause.Line GroupPastPage)) }

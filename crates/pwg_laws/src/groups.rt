@@ -8,7 +8,8 @@ ghost use Rattle.pwg_definitions.specs.declared.faults.LineFault.{LineFault};
 /// A group that is spelled is read, whatever comes after it.
 pub fn spelled_is_read()
     ensures { (row : KindRow) (units left : ℕ) (bytes : List ℕ) (repeats : ℕ) (line rest : List ℕ)
-        → SpellsGroup row units left bytes repeats line → group_at row units left (bytes ++ rest) ≡ Group repeats line rest }
+        → SpellsGroup row units left bytes repeats line
+        → group_at row units left (bytes ++ rest) ≡ Group repeats line rest }
 {}
 
 /// A group that is read is spelled by the bytes before the rest.

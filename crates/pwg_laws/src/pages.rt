@@ -43,6 +43,7 @@ pub fn read_stream_is_spelled()
 /// A written header is accepted, and gives the form that was written.
 pub fn written_is_accepted()
     ensures { (want : Wanted) (form : PageForm) → IsWanted want form
-        → form.width < 2 ^ 32 → form.height < 2 ^ 32 → form.bytes_per_line < 2 ^ 32 → want.hdpi < 2 ^ 32 → want.vdpi < 2 ^ 32
+        → form.width < 2 ^ 32 → form.height < 2 ^ 32 → form.bytes_per_line < 2 ^ 32 → want.hdpi < 2 ^ 32
+        → want.vdpi < 2 ^ 32
         → check want (header_of (header_bytes form want.hdpi want.vdpi)) ≡ Ok form }
 {}

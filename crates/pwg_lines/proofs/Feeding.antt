@@ -1,5 +1,6 @@
 -- The calls of a reader: what is read of a piece so far.
-use Rattle.std.proofs.Common.{◌≡◌, ℕ, zero, suc, ◌+◌, ◌-◌, ◌*◌, ◌≤◌, if◌then◌else◌, IsTrue, List, [], ◌++◌, length, take, drop, Some, refl, sym, ◌∙◌, ap, subst, arith, append_assoc, length-append, length-drop}
+use Rattle.std.proofs.Common.{◌≡◌, ℕ, zero, suc, ◌+◌, ◌-◌, ◌*◌, ◌≤◌, if◌then◌else◌, IsTrue, List, [], ◌++◌, length, take, drop, Some, refl}
+use Rattle.std.proofs.Common.{sym, ◌∙◌, ap, subst, arith, append_assoc, length-append, length-drop}
 use Rattle.std.proofs.lemmas.Bool.{lt-ltb}
 use Rattle.std.proofs.lemmas.List.{append-nil, length-take-le, take_all}
 use Rattle.std.proofs.Math.Seq.{take-add}
@@ -12,7 +13,8 @@ use Rattle.pwg_lines.specs.declared.states.State.{State}
 use Rattle.pwg_lines.specs.declared.states.State.TheVariants as state
 use Rattle.pwg_lines.specs.declared.answers.Fill.{Fill}
 use Rattle.pwg_lines.specs.States.{IsAt, IsOpen, Stands, longer, pending, read_behind, read_on}
-use Rattle.pwg_lines.specs.Reading.{Ends, IsAnew, IsFault, IsLine, IsMore, StandsFor, Takes, fault_in, fault_of, is_start, line_of, next_group}
+use Rattle.pwg_lines.specs.Reading.{Ends, IsAnew, IsFault, IsLine, IsMore, StandsFor, Takes, fault_in, fault_of, is_start, line_of}
+use Rattle.pwg_lines.specs.Reading.{next_group}
 use Rattle.pwg_lines.proofs.Steps.{front_of, in_state}
 
 -- a reader before a group stands for no bytes
@@ -89,7 +91,8 @@ read_on-nothing state.Full row units lines most left repeats line place part sof
 read_on-nothing (state.Failed fault) row units lines most left repeats line place part sofar is at = absurd is
 
 -- the group is read as its reader reads it, in a page of the same form
-same_group : (old now : LineReader) (bytes : List ℕ) → now.form ≡ old.form → now.lines_left ≡ old.lines_left → next_group old bytes ≡ next_group now bytes
+same_group : (old now : LineReader) (bytes : List ℕ) → now.form ≡ old.form → now.lines_left ≡ old.lines_left
+    → next_group old bytes ≡ next_group now bytes
 same_group old now bytes form lines =
     ap (λ f. group_at (row_of f.kind) (line_units (row_of f.kind) f.width) old.lines_left bytes) (sym form)
     ∙ ap (λ k. group_at (row_of now.form.kind) (line_units (row_of now.form.kind) now.form.width) k bytes) (sym lines)
@@ -115,7 +118,8 @@ feed_more old now piece used so_far is_open all = record {
         ∙ here.is []
         ∙ read_on-nothing now.state _ _ _ _ _ _ _ _ _ (sofar ++ piece) is_open here.at
 
-pub feed_fault : (old now : LineReader) (piece : List ℕ) (used : ℕ) (fault : LineFault) → FedSoFar old now piece used → now.state ≡ state.Failed fault
+pub feed_fault : (old now : LineReader) (piece : List ℕ) (used : ℕ) (fault : LineFault) → FedSoFar old now piece used
+    → now.state ≡ state.Failed fault
     → IsFault old now piece used fault
 feed_fault old now piece used fault so_far failed = record {
   failed = ap fault_in failed;
@@ -129,8 +133,13 @@ feed_fault old now piece used fault so_far failed = record {
     wrong sofar rest stood =
         let read : List ℕ = sofar ++ take used piece in
         let here : Stands _ _ _ (state.Failed fault) _ _ _ _ read = in_state _ _ _ _ _ _ _ _ _ _ failed (so_far.takes.stands sofar stood) in
-        let sized : length read ≡ length sofar + used = length-append sofar (take used piece) ∙ ap (λ k. length sofar + k) (length-take-le used piece so_far.within) in
-        (length read - 1, omega (arith, here.at), same_group old now (read ++ rest) so_far.takes.form so_far.takes.lines_left ∙ here.is rest)
+        let sized : length read ≡ length sofar + used = length-append sofar (take used piece)
+        ∙ ap (λ k. length sofar + k) (length-take-le used piece so_far.within) in (
+          length read - 1,
+          omega (arith, here.at),
+          same_group old now (read ++ rest) so_far.takes.form so_far.takes.lines_left
+              ∙ here.is rest,
+        )
 
 -- where no unit is left, the line is filled
 full_line : (now : LineReader) → now.state ≡ state.Full → now.left ≡ 0 → length now.line.items ≤ now.filled
@@ -139,7 +148,8 @@ full_line now full none =
     let none_left : now.left * (row_of now.form.kind).unit ≡ 0 = ap (λ k. k * (row_of now.form.kind).unit) none ∙ omega arith in
     omega (arith, now.fits, none_pending, none_left)
 
-pub feed_line : (old now new : LineReader) (answer : Fill) (piece : List ℕ) (used : ℕ) → FedSoFar old now piece used → now.state ≡ state.Full → Ends now new answer
+pub feed_line : (old now new : LineReader) (answer : Fill) (piece : List ℕ) (used : ℕ) → FedSoFar old now piece used
+    → now.state ≡ state.Full → Ends now new answer
     → IsLine old new piece used now.repeats
 feed_line old now new answer piece used so_far full ends = record {
   some = ends.some;
@@ -149,11 +159,13 @@ feed_line old now new answer piece used so_far full ends = record {
   fresh = ends.fresh;
 }
   where
-    group : (sofar rest : List ℕ) → StandsFor old sofar → next_group old (sofar ++ take used piece ++ rest) ≡ Group now.repeats (line_of new) rest
+    group : (sofar rest : List ℕ) → StandsFor old sofar
+        → next_group old (sofar ++ take used piece ++ rest) ≡ Group now.repeats (line_of new) rest
     group sofar rest stood =
         let read : List ℕ = sofar ++ take used piece in
         let here : Stands _ _ _ state.Full _ _ _ _ read = in_state _ _ _ _ _ _ _ _ _ _ full (so_far.takes.stands sofar stood) in
-        let whole : take now.filled now.line.items ≡ now.line.items = take_all now.filled now.line.items (omega (arith, full_line now full here.at)) in
+        let whole : take now.filled now.line.items ≡ now.line.items =
+        take_all now.filled now.line.items (omega (arith, full_line now full here.at)) in
         same_group old now (read ++ rest) so_far.takes.form so_far.takes.lines_left
         ∙ here.is rest
         ∙ ap (λ bs. Group now.repeats bs rest) (whole ∙ sym ends.line)

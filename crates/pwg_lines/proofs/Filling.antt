@@ -1,5 +1,6 @@
 -- Copies of a unit in a line.
-use Rattle.std.proofs.Common.{◌≡◌, ℕ, zero, suc, ◌+◌, ◌-◌, ◌*◌, ◌<◌, ◌≤◌, get_or, List, [], ◌∷◌, ◌++◌, length, take, drop, replicate, refl, sym, ◌∙◌, ap, arith, append_assoc, length-append, length-drop}
+use Rattle.std.proofs.Common.{◌≡◌, ℕ, zero, suc, ◌+◌, ◌-◌, ◌*◌, ◌<◌, ◌≤◌, get_or, List, [], ◌∷◌, ◌++◌, length, take, drop, replicate, refl}
+use Rattle.std.proofs.Common.{sym, ◌∙◌, ap, arith, append_assoc, length-append, length-drop}
 use Rattle.std.proofs.lemmas.List.{drop_at, length-replicate, length-take-le, take-take, take_at}
 use Rattle.std.proofs.lemmas.Slice.{take-put_mid}
 use borrow.Rule.Slice.PartMut.{post_of, put_mid}
@@ -24,7 +25,8 @@ copies-add (suc m) n unit =
 -- the front of copies and more bytes
 take-copies : (m len : ℕ) (unit rest : List ℕ) → length unit ≡ len → take (m * len) (copies m unit ++ rest) ≡ copies m unit
 take-copies m len unit rest sized =
-    ap (λ k. take k (copies m unit ++ rest)) (ap (λ k. m * k) (sym sized) ∙ sym (length-copies m unit)) ∙ take-append_seam (copies m unit) rest
+    ap (λ k. take k (copies m unit ++ rest)) (ap (λ k. m * k) (sym sized) ∙ sym (length-copies m unit))
+    ∙ take-append_seam (copies m unit) rest
 
 -- a first unit is whole
 pub first_unit : (count unit : ℕ) (bytes : List ℕ) → 1 ≤ count → length bytes ≡ count * unit → length (take unit bytes) ≡ unit
@@ -96,7 +98,13 @@ units_filled filled read count total line others new first copied k k' some fits
     put = ap (λ bs. put_mid (filled + read) k line bs) (sym new_is) ∙ sym first_is
 
     in_first : filled ≤ length first
-    in_first = omega (arith, ap length put, length-take-le (filled + read) line in_line, length-append (take (filled + read) line) (others ++ post_of (filled + read) k line))
+    in_first =
+        omega (
+          arith,
+          ap length put,
+          length-take-le (filled + read) line in_line,
+          length-append (take (filled + read) line) (others ++ post_of (filled + read) k line),
+        )
 
     grown : (take filled first ≡ take filled line) × (take unit (drop filled first) ≡ take read (drop filled line) ++ others)
     grown = unit_grows filled read line first others in_line in_first
@@ -123,7 +131,8 @@ byte_filled filled read count line (b ∷ []) new k none some one fits is =
     ap (λ n. length (take n (drop filled line))) (let e : filled + count - filled ≡ count = omega arith in e)
     ∙ length-take-le count (drop filled line) (omega (arith, length-drop filled line, count_is)) in
     let new_is : new ≡ replicate count b = is ∙ ap (λ n. replicate n b) sized in
-    take-put_mid filled k line new (filled + count * (read + 1)) (ap (λ n. filled + n) (count_is ∙ sym (ap length new_is ∙ length-replicate count b))) (omega arith)
+    take-put_mid filled k line new (filled + count * (read + 1))
+    (ap (λ n. filled + n) (count_is ∙ sym (ap length new_is ∙ length-replicate count b))) (omega arith)
     ∙ ap (λ bs. take filled line ++ bs) (new_is ∙ sym (copies-one_byte count b))
     ∙ ap (λ n. take filled line ++ copies count (take n (drop filled line) ++ (b ∷ []))) (sym none)
 byte_filled filled read count line (b ∷ b' ∷ others) new k none some one fits is = absurd (omega arith)

@@ -1,5 +1,6 @@
 -- The canonical bytes of a group spell it.
-use Rattle.std.proofs.Common.{◌≡◌, ℕ, zero, suc, ◌-◌, ◌*◌, ◌<◌, ◌≤◌, ◌==◌, nat_lt, Bool, true, false, if◌then◌else◌, List, [], ◌∷◌, ◌++◌, length, take, drop, refl, sym, ◌∙◌, ap, arith, length-drop}
+use Rattle.std.proofs.Common.{◌≡◌, ℕ, zero, suc, ◌-◌, ◌*◌, ◌<◌, ◌≤◌, ◌==◌, nat_lt, Bool, true, false, if◌then◌else◌, List, [], ◌∷◌, ◌++◌}
+use Rattle.std.proofs.Common.{length, take, drop, refl, sym, ◌∙◌, ap, arith, length-drop}
 use Rattle.std.proofs.lemmas.Bool.{eqb-false, eqb-true, ltb-true, ltb-false}
 use Rattle.std.proofs.lemmas.List.{append-nil, length-take-le, take-append-drop}
 use Rattle.std.proofs.Math.Nat.{le-mul_of_pos_right, mul-le-mul_right, mul-sub}
@@ -18,14 +19,16 @@ record IsFront (row : KindRow) (units : ℕ) (line : List ℕ) (p : Packet) : Ty
   gives : line ≡ packet_gives row units p ++ drop (packet_units 0 p * row.unit) line
 
 front-run : (row : KindRow) (units : ℕ) (line : List ℕ) → length (take row.unit line) ≡ row.unit → IsCounted row.unit line units
-    → 1 < copies_at 128 (take row.unit line) line → IsFront row units line (Run (copies_at 128 (take row.unit line) line) (take row.unit line))
+    → 1 < copies_at 128 (take row.unit line) line
+    → IsFront row units line (Run (copies_at 128 (take row.unit line) line) (take row.unit line))
 front-run row units line sized counts two = record {
   fits = (omega arith, counts.few_equal, counts.equal_within, sized);
   some = omega arith;
   within = counts.equal_within;
   same = refl;
   gives = copies_at-front 128 (take row.unit line) line
-      ∙ ap (λ k. copies (copies_at 128 (take row.unit line) line) (take row.unit line) ++ drop (copies_at 128 (take row.unit line) line * k) line) sized;
+      ∙ ap (λ k. copies (copies_at 128 (take row.unit line) line) (take row.unit line) ++ drop (copies_at 128 (take row.unit line) line * k)
+      line) sized;
 }
 
 front-literal : (row : KindRow) (units : ℕ) (line : List ℕ) (n : ℕ) → length line ≡ units * row.unit → 1 ≤ n → n ≤ 128 → n ≤ units
@@ -35,7 +38,8 @@ front-literal row units line n whole some few within = by_one (n == 1) refl
     sized : length (take (n * row.unit) line) ≡ n * row.unit
     sized = length-take-le (n * row.unit) line (omega (arith, whole, mul-le-mul_right row.unit within))
 
-    by_one : (b : Bool) → (n == 1) ≡ b → IsFront row units line (if b then Run 1 (take (n * row.unit) line) else Literal n (take (n * row.unit) line))
+    by_one : (b : Bool) → (n == 1) ≡ b
+        → IsFront row units line (if b then Run 1 (take (n * row.unit) line) else Literal n (take (n * row.unit) line))
     by_one true e =
         let one : n ≡ 1 = eqb-true n 1 e in
         let unit : n * row.unit ≡ row.unit = ap (λ k. k * row.unit) one ∙ omega arith in
@@ -66,8 +70,11 @@ front-next row units line unit whole one = by_run (nat_lt 1 (copies_at 128 (take
     by_run : (b : Bool) → nat_lt 1 (copies_at 128 (take row.unit line) line) ≡ b → IsFront row units line
         (if b then Run (copies_at 128 (take row.unit line) line) (take row.unit line)
         else as_they_are (unequal_at 128 row.unit line) (take (unequal_at 128 row.unit line * row.unit) line))
-    by_run true e = front-run row units line (length-take-le row.unit line (one_unit units row.unit (length line) whole one)) counts (ltb-true _ _ e)
-    by_run false e = front-literal row units line (unequal_at 128 row.unit line) whole (counts.unequal_some (ltb-false _ _ e)) counts.few_unequal counts.unequal_within
+    by_run true e =
+        front-run row units line (length-take-le row.unit line (one_unit units row.unit (length line) whole one)) counts (ltb-true _ _ e)
+    by_run false e =
+        front-literal row units line (unequal_at 128 row.unit line) whole (counts.unequal_some (ltb-false _ _ e)) counts.few_unequal
+        counts.unequal_within
 
 -- The packets of a line of whole units are a line, and give its bytes.
 record SpellsWhole (row : KindRow) (units : ℕ) (line : List ℕ) (packets : List Packet) : Type 0 where

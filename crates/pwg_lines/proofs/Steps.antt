@@ -1,11 +1,13 @@
 -- Each step of a reader: what it stands for behind the bytes that it takes.
-use Rattle.std.proofs.Common.{◌≡◌, ℕ, zero, suc, ◌+◌, ◌-◌, ◌*◌, ◌<◌, ◌≤◌, ◌==◌, nat_lt, Bool, true, false, if◌then◌else◌, List, [], ◌∷◌, ◌++◌, length, take, drop, refl, sym, ◌∙◌, ap, subst, arith, append_assoc, length-append}
+use Rattle.std.proofs.Common.{◌≡◌, ℕ, zero, suc, ◌+◌, ◌-◌, ◌*◌, ◌<◌, ◌≤◌, ◌==◌, nat_lt, Bool, true, false, if◌then◌else◌, List, [], ◌∷◌}
+use Rattle.std.proofs.Common.{◌++◌, length, take, drop, refl, sym, ◌∙◌, ap, subst, arith, append_assoc, length-append}
 use Rattle.std.proofs.lemmas.Bool.{ltb-true, ltb-false, lt-ltb, le-ltb, ne_eqb}
 use Rattle.std.proofs.lemmas.List.{append-nil, length-take-le, take_at}
 use Rattle.std.proofs.Math.Seq.{take-append-add, drop-append-add}
 use Rattle.pwg_definitions.specs.declared.faults.LineFault.TheVariants.{RunPastLine}
 use Rattle.pwg_definitions.specs.Header.{KindRow}
-use Rattle.pwg_definitions.specs.Groups.{GroupFront, GroupRead, Packet, copies, group_at, line_at, packet_at, packet_from, packet_gives, packet_of, packet_spelling, packet_units, units_of, with_packet}
+use Rattle.pwg_definitions.specs.Groups.{GroupFront, GroupRead, Packet, copies, group_at, line_at, packet_at, packet_from, packet_gives}
+use Rattle.pwg_definitions.specs.Groups.{packet_of, packet_spelling, packet_units, units_of, with_packet}
 use Rattle.pwg_definitions.specs.Groups.GroupRead.{Group, Part, Wrong}
 use Rattle.pwg_definitions.specs.Groups.PacketRead.{One, Short, Long}
 use Rattle.pwg_definitions.specs.Groups.Packet.{Run, Clear, Literal}
@@ -67,13 +69,16 @@ units-literal l n u is large =
 -- ---- a packet's first byte
 
 -- the bytes behind one more byte
-with_byte : (row : KindRow) (units lines : ℕ) (s : State) (repeats : ℕ) (line part : List ℕ) (left : ℕ) (sofar : List ℕ) (so_far : Stands row units lines s repeats line part left sofar) (b : ℕ) (rest : List ℕ)
-    → group_at row units lines (snoc sofar b ++ rest) ≡ read_on s row units lines so_far.most left (front_of repeats line (length sofar)) part (b ∷ rest)
+with_byte : (row : KindRow) (units lines : ℕ) (s : State) (repeats : ℕ) (line part : List ℕ) (left : ℕ) (sofar : List ℕ)
+    (so_far : Stands row units lines s repeats line part left sofar) (b : ℕ) (rest : List ℕ)
+    → group_at row units lines (snoc sofar b ++ rest) ≡ read_on s row units lines so_far.most left (front_of repeats line (length sofar))
+    part (b ∷ rest)
 with_byte row units lines s repeats line part left sofar so_far b rest =
     ap (group_at row units lines) (append_assoc sofar (b ∷ []) rest) ∙ so_far.is (b ∷ rest)
 
 -- a packet is read where a unit is left
-with_first : (row : KindRow) (units lines repeats : ℕ) (line part : List ℕ) (left : ℕ) (sofar : List ℕ) (so_far : Stands row units lines state.Packet repeats line part left sofar) (n : ℕ) (rest : List ℕ)
+with_first : (row : KindRow) (units lines repeats : ℕ) (line part : List ℕ) (left : ℕ) (sofar : List ℕ)
+    (so_far : Stands row units lines state.Packet repeats line part left sofar) (n : ℕ) (rest : List ℕ)
     → group_at row units lines (snoc sofar n ++ rest)
     ≡ line_at row (suc (so_far.most - 1)) (suc (left - 1)) (front_of repeats line (length sofar)) (n ∷ rest)
 with_first row units lines repeats line part left sofar so_far n rest =
@@ -103,14 +108,16 @@ packet_at-white : (row : KindRow) (left : ℕ) (bytes : List ℕ) → packet_at 
 packet_at-white row left bytes = ap (λ b. if b then Long else One Clear bytes) (le-ltb left left (omega arith))
 
 -- more units than are left
-pub packet-past : (row : KindRow) (units lines repeats : ℕ) (line part : List ℕ) (left : ℕ) (sofar : List ℕ) (n repeats' : ℕ) (line' part' : List ℕ) (left' : ℕ)
+pub packet-past : (row : KindRow) (units lines repeats : ℕ) (line part : List ℕ) (left : ℕ) (sofar : List ℕ) (n repeats' : ℕ)
+    (line' part' : List ℕ) (left' : ℕ)
     → Stands row units lines state.Packet repeats line part left sofar → left < units_of left n
     → Stands row units lines (state.Failed RunPastLine) repeats' line' part' left' (snoc sofar n)
 packet-past row units lines repeats line part left sofar n repeats' line' part' left' so_far past =
     let at_last : length sofar ≡ length (snoc sofar n) - 1 = omega (arith, length-snoc sofar n) in
     let one_left : left ≡ suc (left - 1) = omega (arith, so_far.at) in
     let is_past : (rest : List ℕ) → packet_at row (suc (left - 1)) (n ∷ rest) ≡ Long =
-    λ rest. ap (λ k. packet_at row k (n ∷ rest)) (sym one_left) ∙ ap (λ b. if b then Long else packet_of row n rest) (lt-ltb left (units_of left n) past) in
+    λ rest. ap (λ k. packet_at row k (n ∷ rest)) (sym one_left)
+    ∙ ap (λ b. if b then Long else packet_of row n rest) (lt-ltb left (units_of left n) past) in
     record {
       at = omega (arith, length-snoc sofar n);
       most = left';
@@ -120,8 +127,8 @@ packet-past row units lines repeats line part left sofar n repeats' line' part' 
           ∙ ap (λ k. Wrong k RunPastLine) at_last;
     }
 
--- A packet of so many units whose first byte is n: where `left` units of the line are left it has so many bytes besides, and makes
--- this of them.
+-- A packet of so many units whose first byte is n: where `left` units of the line are left it has so many bytes
+-- besides, and makes this of them.
 record IsBegun (row : KindRow) (left n units count : ℕ) (make : List ℕ → Packet) (makes : List ℕ → List ℕ) : Type 0 where
   read : (rest : List ℕ) → packet_at row left (n ∷ rest) ≡ packet_from make count rest
   gives : (bytes : List ℕ) → packet_gives row left (make bytes) ≡ makes bytes
@@ -146,11 +153,14 @@ literal_begun row left n large fits = record {
 }
 
 -- the bytes behind a packet's first byte
-packet_on : (row : KindRow) (units lines repeats : ℕ) (line part : List ℕ) (left : ℕ) (sofar : List ℕ) (n u count : ℕ) (make : List ℕ → Packet) (makes : List ℕ → List ℕ) (left' : ℕ)
-    (so_far : Stands row units lines state.Packet repeats line part left sofar) → IsBegun row left n u count make makes → left' ≡ left - u → (rest : List ℕ)
+packet_on : (row : KindRow) (units lines repeats : ℕ) (line part : List ℕ) (left : ℕ) (sofar : List ℕ) (n u count : ℕ) (make : List ℕ
+    → Packet) (makes : List ℕ → List ℕ) (left' : ℕ)
+    (so_far : Stands row units lines state.Packet repeats line part left sofar) → IsBegun row left n u count make makes → left' ≡ left - u
+    → (rest : List ℕ)
     → group_at row units lines (snoc sofar n ++ rest)
     ≡ read_behind row (so_far.most - 1) left' (front_of repeats line (length (snoc sofar n))) makes count rest
-packet_on row units lines repeats line part left sofar n u count make makes left' so_far begun less rest = by_length (nat_lt (length rest) count) refl
+packet_on row units lines repeats line part left sofar n u count make makes left' so_far begun less rest =
+    by_length (nat_lt (length rest) count) refl
   where
     front : GroupFront
     front = front_of repeats line (length sofar)
@@ -159,12 +169,15 @@ packet_on row units lines repeats line part left sofar n u count make makes left
     one_left = omega (arith, so_far.at)
 
     behind : GroupRead
-    behind = line_at row (so_far.most - 1) left' (front_of repeats (line ++ makes (take count rest)) (length (snoc sofar n) + count)) (drop count rest)
+    behind =
+        line_at row (so_far.most - 1) left' (front_of repeats (line ++ makes (take count rest)) (length (snoc sofar n) + count))
+        (drop count rest)
 
     read : packet_at row (suc (left - 1)) (n ∷ rest) ≡ packet_from make count rest
     read = ap (λ k. packet_at row k (n ∷ rest)) (sym one_left) ∙ begun.read rest
 
-    by_length : (b : Bool) → nat_lt (length rest) count ≡ b → group_at row units lines (snoc sofar n ++ rest) ≡ (if nat_lt (length rest) count then Part else behind)
+    by_length : (b : Bool) → nat_lt (length rest) count ≡ b
+        → group_at row units lines (snoc sofar n ++ rest) ≡ (if nat_lt (length rest) count then Part else behind)
     by_length true e =
         with_first row units lines repeats line part left sofar so_far n rest
         ∙ line_at-short row (so_far.most - 1) (left - 1) front (n ∷ rest)
@@ -183,7 +196,8 @@ packet_on row units lines repeats line part left sofar n u count make makes left
         ∙ line_at-one row (so_far.most - 1) (left - 1) front (n ∷ rest) (make bytes) (drop count rest)
         (read ∙ ap (λ b. if b then Short else One (make bytes) (drop count rest)) e)
         ∙ ap (λ k. line_at row (so_far.most - 1) k (with_packet row (suc (left - 1)) (make bytes) front) (drop count rest)) fewer
-        ∙ ap (λ bs. line_at row (so_far.most - 1) left' (front_of repeats (line ++ bs) (length sofar + length (packet_spelling (make bytes)))) (drop count rest)) given
+        ∙ ap (λ bs. line_at row (so_far.most - 1) left'
+        (front_of repeats (line ++ bs) (length sofar + length (packet_spelling (make bytes)))) (drop count rest)) given
         ∙ ap (λ k. line_at row (so_far.most - 1) left' (front_of repeats (line ++ makes bytes) k) (drop count rest)) place
         ∙ ap (λ b. if b then Part else behind) (sym e)
 
@@ -200,14 +214,17 @@ packet-run row units lines repeats line part left sofar n left' unit so_far smal
       (let whole : row.unit ≡ row.unit - 0 = omega arith in whole);
 }
 
-pub packet-literal : (row : KindRow) (units lines repeats : ℕ) (line part : List ℕ) (left : ℕ) (sofar : List ℕ) (n : ℕ) (part' : List ℕ) (left' : ℕ)
-    → 1 ≤ row.unit → Stands row units lines state.Packet repeats line part left sofar → 128 < n → n < 256 → 257 - n ≤ left → left' ≡ left - (257 - n)
+pub packet-literal : (row : KindRow) (units lines repeats : ℕ) (line part : List ℕ) (left : ℕ) (sofar : List ℕ) (n : ℕ) (part' : List ℕ)
+    (left' : ℕ)
+    → 1 ≤ row.unit → Stands row units lines state.Packet repeats line part left sofar → 128 < n → n < 256 → 257 - n ≤ left
+    → left' ≡ left - (257 - n)
     → Stands row units lines (state.Literal ((257 - n) * row.unit)) repeats line part' left' (snoc sofar n)
 packet-literal row units lines repeats line part left sofar n part' left' unit so_far large byte fits less = record {
   at = some_bytes (257 - n) row.unit (omega arith) unit;
   most = so_far.most - 1;
   enough = omega (arith, so_far.enough);
-  is = packet_on row units lines repeats line part left sofar n (257 - n) ((257 - n) * row.unit) (Literal (257 - n)) (λ bytes. bytes) left' so_far
+  is = packet_on row units lines repeats line part left sofar n (257 - n) ((257 - n) * row.unit) (Literal (257 - n)) (λ bytes. bytes)
+      left' so_far
       (literal_begun row left n large fits) less;
 }
   where
@@ -219,7 +236,8 @@ line_at-full : (row : KindRow) (most left repeats : ℕ) (line : List ℕ) (plac
 unfolding line_at
 line_at-full row most left repeats line place rest none = ap (λ k. line_at row most k (front_of repeats line place) rest) none
 
-pub packet-white : (row : KindRow) (units lines repeats : ℕ) (line part : List ℕ) (left : ℕ) (sofar : List ℕ) (line' part' : List ℕ) (left' : ℕ)
+pub packet-white : (row : KindRow) (units lines repeats : ℕ) (line part : List ℕ) (left : ℕ) (sofar : List ℕ) (line' part' : List ℕ)
+    (left' : ℕ)
     → left' ≡ 0 → Stands row units lines state.Packet repeats line part left sofar → line' ≡ line ++ copies left row.white
     → Stands row units lines state.Full repeats line' part' left' (snoc sofar 128)
 packet-white row units lines repeats line part left sofar line' part' left' none_left so_far grown =
@@ -231,8 +249,10 @@ packet-white row units lines repeats line part left sofar line' part' left' none
       most = left';
       enough = omega arith;
       is = λ rest. with_first row units lines repeats line part left sofar so_far 128 rest
-          ∙ line_at-one row (so_far.most - 1) (left - 1) (front_of repeats line (length sofar)) (128 ∷ rest) Clear rest (packet_at-white row (suc (left - 1)) rest)
-          ∙ line_at-full row (so_far.most - 1) (suc (left - 1) - suc (left - 1)) repeats (line ++ copies (suc (left - 1)) row.white) (length sofar + 1) rest none
+          ∙ line_at-one row (so_far.most - 1) (left - 1) (front_of repeats line (length sofar)) (128 ∷ rest) Clear rest
+          (packet_at-white row (suc (left - 1)) rest)
+          ∙ line_at-full row (so_far.most - 1) (suc (left - 1) - suc (left - 1)) repeats (line ++ copies (suc (left - 1)) row.white)
+          (length sofar + 1) rest none
           ∙ ap (λ bs. Group repeats bs rest) filled;
     }
 
@@ -248,11 +268,14 @@ between row units lines repeats line part zero most sofar enough is = record {
   enough = omega arith;
   is = λ rest. is rest ∙ line_at-full row most 0 repeats line (length sofar) rest refl;
 }
-between row units lines repeats line part (suc left) most sofar enough is = record { at = omega arith; most = most; enough = omega arith; is = is }
+between row units lines repeats line part (suc left) most sofar enough is =
+    record { at = omega arith; most = most; enough = omega arith; is = is }
 
 -- some of the bytes that a packet waits for, of which so many more are to come
-behind_some : (row : KindRow) (units lines repeats most left : ℕ) (line line' sofar bytes : List ℕ) (count more : ℕ) (makes makes' : List ℕ → List ℕ)
-    → ((rest : List ℕ) → group_at row units lines (sofar ++ rest) ≡ read_behind row most left (front_of repeats line (length sofar)) makes count rest)
+behind_some : (row : KindRow) (units lines repeats most left : ℕ) (line line' sofar bytes : List ℕ) (count more : ℕ)
+    (makes makes' : List ℕ → List ℕ)
+    → ((rest : List ℕ) → group_at row units lines (sofar ++ rest) ≡ read_behind row most left (front_of repeats line (length sofar)) makes
+    count rest)
     → length bytes + more ≡ count → ((others : List ℕ) → line ++ makes (bytes ++ others) ≡ line' ++ makes' others)
     → (rest : List ℕ) → group_at row units lines ((sofar ++ bytes) ++ rest)
     ≡ read_behind row most left (front_of repeats line' (length (sofar ++ bytes))) makes' more rest
@@ -260,14 +283,20 @@ behind_some row units lines repeats most left line line' sofar bytes count more 
     ap (group_at row units lines) (append_assoc sofar bytes rest)
     ∙ is (bytes ++ rest)
     ∙ ap (λ k. shown k (take k (bytes ++ rest)) (length sofar + k) (drop k (bytes ++ rest))) (sym whole)
-    ∙ ap (λ bs. shown (length bytes + more) bs (length sofar + (length bytes + more)) (drop (length bytes + more) (bytes ++ rest))) (take-append-add bytes rest more)
-    ∙ ap (λ bs. shown (length bytes + more) (bytes ++ take more rest) (length sofar + (length bytes + more)) bs) (drop-append-add bytes rest more)
-    ∙ ap (λ b. if b then Part else line_at row most left (front_of repeats (line ++ makes (bytes ++ take more rest)) (length sofar + (length bytes + more))) (drop more rest)) same_test
-    ∙ ap (λ bs. if nat_lt (length rest) more then Part else line_at row most left (front_of repeats bs (length sofar + (length bytes + more))) (drop more rest)) (same (take more rest))
-    ∙ ap (λ k. if nat_lt (length rest) more then Part else line_at row most left (front_of repeats (line' ++ makes' (take more rest)) k) (drop more rest)) behind
+    ∙ ap (λ bs. shown (length bytes + more) bs (length sofar + (length bytes + more)) (drop (length bytes + more) (bytes ++ rest)))
+    (take-append-add bytes rest more)
+    ∙ ap (λ bs. shown (length bytes + more) (bytes ++ take more rest) (length sofar + (length bytes + more)) bs)
+    (drop-append-add bytes rest more)
+    ∙ ap (λ b. if b then Part else line_at row most left
+    (front_of repeats (line ++ makes (bytes ++ take more rest)) (length sofar + (length bytes + more))) (drop more rest)) same_test
+    ∙ ap (λ bs. if nat_lt (length rest) more then Part else line_at row most left
+    (front_of repeats bs (length sofar + (length bytes + more))) (drop more rest)) (same (take more rest))
+    ∙ ap (λ k. if nat_lt (length rest) more then Part else line_at row most left (front_of repeats (line' ++ makes' (take more rest)) k)
+    (drop more rest)) behind
   where
     shown : ℕ → List ℕ → ℕ → List ℕ → GroupRead
-    shown k bs p after = if nat_lt (length (bytes ++ rest)) k then Part else line_at row most left (front_of repeats (line ++ makes bs) p) after
+    shown k bs p after =
+        if nat_lt (length (bytes ++ rest)) k then Part else line_at row most left (front_of repeats (line ++ makes bs) p) after
 
     same_test : nat_lt (length (bytes ++ rest)) (length bytes + more) ≡ nat_lt (length rest) more
     same_test = by_test (nat_lt (length rest) more) refl
@@ -280,41 +309,53 @@ behind_some row units lines repeats most left line line' sofar bytes count more 
     behind = omega (arith, length-append sofar bytes)
 
 -- all the bytes that a packet waits for
-behind_all : (row : KindRow) (units lines repeats most left : ℕ) (line line' part' sofar bytes : List ℕ) (count : ℕ) (makes : List ℕ → List ℕ)
-    → ((rest : List ℕ) → group_at row units lines (sofar ++ rest) ≡ read_behind row most left (front_of repeats line (length sofar)) makes count rest)
+behind_all : (row : KindRow) (units lines repeats most left : ℕ) (line line' part' sofar bytes : List ℕ) (count : ℕ)
+    (makes : List ℕ → List ℕ)
+    → ((rest : List ℕ) → group_at row units lines (sofar ++ rest) ≡ read_behind row most left (front_of repeats line (length sofar)) makes
+    count rest)
     → length bytes ≡ count → line' ≡ line ++ makes bytes → left ≤ most
     → Stands row units lines (behind_packet left) repeats line' part' left (sofar ++ bytes)
 behind_all row units lines repeats most left line line' part' sofar bytes count makes is whole grown enough =
     between row units lines repeats line' part' left most (sofar ++ bytes) enough
-    (λ rest. behind_some row units lines repeats most left line [] sofar bytes count 0 makes (λ others. line ++ makes (bytes ++ others)) is (omega arith) (λ others. refl) rest
-    ∙ ap (λ b. if b then Part else line_at row most left (front_of repeats (line ++ makes (bytes ++ [])) (length (sofar ++ bytes) + 0)) rest) (le-ltb (length rest) 0 (omega arith))
+    (λ rest. behind_some row units lines repeats most left line [] sofar bytes count 0 makes (λ others. line ++ makes (bytes ++ others)) is
+    (omega arith) (λ others. refl) rest
+    ∙ ap (λ b. if b then Part else line_at row most left (front_of repeats (line ++ makes (bytes ++ [])) (length (sofar ++ bytes) + 0))
+    rest) (le-ltb (length rest) 0 (omega arith))
     ∙ ap (λ bs. line_at row most left (front_of repeats (line ++ makes bs) (length (sofar ++ bytes) + 0)) rest) (append-nil bytes)
     ∙ ap (λ bs. line_at row most left (front_of repeats bs (length (sofar ++ bytes) + 0)) rest) (sym grown)
-    ∙ ap (λ k. line_at row most left (front_of repeats line' k) rest) (let p : length (sofar ++ bytes) + 0 ≡ length (sofar ++ bytes) = omega arith in p))
+    ∙ ap (λ k. line_at row most left (front_of repeats line' k) rest) (let p : length (sofar ++ bytes) + 0 ≡ length (sofar ++ bytes) =
+    omega arith in p))
 
 -- a part of the unit of a run
-pub run-part : (row : KindRow) (units lines repeats : ℕ) (line part : List ℕ) (left : ℕ) (sofar : List ℕ) (n read : ℕ) (bytes line' part' : List ℕ) (read' : ℕ)
-    → Stands row units lines (state.Run n read) repeats line part left sofar → read' ≡ read + length bytes → read' < row.unit → line' ≡ line → part' ≡ part ++ bytes
+pub run-part : (row : KindRow) (units lines repeats : ℕ) (line part : List ℕ) (left : ℕ) (sofar : List ℕ) (n read : ℕ)
+    (bytes line' part' : List ℕ) (read' : ℕ)
+    → Stands row units lines (state.Run n read) repeats line part left sofar → read' ≡ read + length bytes → read' < row.unit → line' ≡ line
+    → part' ≡ part ++ bytes
     → Stands row units lines (state.Run n read') repeats line' part' left (sofar ++ bytes)
 run-part row units lines repeats line part left sofar n read bytes line' part' read' so_far more within same grown = record {
   at = within;
   most = so_far.most;
   enough = so_far.enough;
-  is = behind_some row units lines repeats so_far.most left line line' sofar bytes (row.unit - read) (row.unit - read') (λ bs. copies n (part ++ bs)) (λ bs. copies n (part' ++ bs)) so_far.is
+  is = behind_some row units lines repeats so_far.most left line line' sofar bytes (row.unit - read) (row.unit - read')
+      (λ bs. copies n (part ++ bs)) (λ bs. copies n (part' ++ bs)) so_far.is
       (omega arith)
       (λ others. ap (λ bs. bs ++ copies n (part ++ (bytes ++ others))) (sym same)
       ∙ ap (λ bs. line' ++ copies n bs) (sym (append_assoc part bytes others) ∙ ap (λ bs. bs ++ others) (sym grown)));
 }
 
 -- the rest of the unit of a run
-pub run-end : (row : KindRow) (units lines repeats : ℕ) (line part : List ℕ) (left : ℕ) (sofar : List ℕ) (n read : ℕ) (bytes line' part' : List ℕ)
-    → Stands row units lines (state.Run n read) repeats line part left sofar → length bytes ≡ row.unit - read → line' ≡ line ++ copies n (part ++ bytes)
+pub run-end : (row : KindRow) (units lines repeats : ℕ) (line part : List ℕ) (left : ℕ) (sofar : List ℕ) (n read : ℕ)
+    (bytes line' part' : List ℕ)
+    → Stands row units lines (state.Run n read) repeats line part left sofar → length bytes ≡ row.unit - read
+    → line' ≡ line ++ copies n (part ++ bytes)
     → Stands row units lines (behind_packet left) repeats line' part' left (sofar ++ bytes)
 run-end row units lines repeats line part left sofar n read bytes line' part' so_far whole grown =
-    behind_all row units lines repeats so_far.most left line line' part' sofar bytes (row.unit - read) (λ bs. copies n (part ++ bs)) so_far.is whole grown so_far.enough
+    behind_all row units lines repeats so_far.most left line line' part' sofar bytes (row.unit - read) (λ bs. copies n (part ++ bs))
+    so_far.is whole grown so_far.enough
 
 -- a part of a literal
-pub literal-part : (row : KindRow) (units lines repeats : ℕ) (line part : List ℕ) (left : ℕ) (sofar : List ℕ) (n : ℕ) (bytes line' part' : List ℕ) (more : ℕ)
+pub literal-part : (row : KindRow) (units lines repeats : ℕ) (line part : List ℕ) (left : ℕ) (sofar : List ℕ) (n : ℕ)
+    (bytes line' part' : List ℕ) (more : ℕ)
     → Stands row units lines (state.Literal n) repeats line part left sofar → length bytes + more ≡ n → line' ≡ line ++ bytes → 1 ≤ more
     → Stands row units lines (state.Literal more) repeats line' part' left (sofar ++ bytes)
 literal-part row units lines repeats line part left sofar n bytes line' part' more so_far whole grown some = record {
@@ -326,7 +367,8 @@ literal-part row units lines repeats line part left sofar n bytes line' part' mo
 }
 
 -- the rest of a literal
-pub literal-end : (row : KindRow) (units lines repeats : ℕ) (line part : List ℕ) (left : ℕ) (sofar : List ℕ) (n : ℕ) (bytes line' part' : List ℕ)
+pub literal-end : (row : KindRow) (units lines repeats : ℕ) (line part : List ℕ) (left : ℕ) (sofar : List ℕ) (n : ℕ)
+    (bytes line' part' : List ℕ)
     → Stands row units lines (state.Literal n) repeats line part left sofar → length bytes ≡ n → line' ≡ line ++ bytes
     → Stands row units lines (behind_packet left) repeats line' part' left (sofar ++ bytes)
 literal-end row units lines repeats line part left sofar n bytes line' part' so_far whole grown =

@@ -7,7 +7,8 @@ use Rattle.pwg_lines.specs.declared.states.State.{State}
 use Rattle.pwg_lines.specs.declared.states.State.TheVariants as state
 use Rattle.pwg_lines.specs.States.{gives, least_gives, pending, read_in}
 
--- Within the unit of a run that is repeated so many times, of which so many bytes are read: all of the run fits the line.
+-- Within the unit of a run that is repeated so many times, of which so many bytes are read: all of the run fits the
+-- line.
 pub record RunFits (reader : LineReader) (units read : ℕ) : Type 0 where
   pub some : 1 ≤ units
   pub part : read < (row_of reader.form.kind).unit
@@ -26,5 +27,7 @@ run_fits reader units read is = record {
     some = let P : State → Type 0 = λ s. least_gives s ≤ gives s in subst P is reader.begun
 
     all : reader.filled + units * (row_of reader.form.kind).unit + reader.left * (row_of reader.form.kind).unit ≡ length reader.line.items
-    all = let P : State → Type 0 = λ s. reader.filled + pending (row_of reader.form.kind) s + reader.left * (row_of reader.form.kind).unit ≡ length reader.line.items in
+    all = let P : State → Type 0 =
+        λ s. reader.filled + pending (row_of reader.form.kind) s + reader.left * (row_of reader.form.kind).unit
+        ≡ length reader.line.items in
         subst P is reader.fits

@@ -1,5 +1,6 @@
 -- The canonical spelling, step by step.
-use Rattle.std.proofs.Common.{◌≡◌, ℕ, zero, suc, ◌+◌, ◌-◌, ◌*◌, ◌/◌, ◌%◌, ◌<◌, ◌≤◌, nat_eq, Bool, true, false, if◌then◌else◌, List, [], ◌∷◌, ◌++◌, length, take, drop, refl, sym, ◌∙◌, ap, subst, arith, append_assoc, length-append, length-drop}
+use Rattle.std.proofs.Common.{◌≡◌, ℕ, zero, suc, ◌+◌, ◌-◌, ◌*◌, ◌/◌, ◌%◌, ◌<◌, ◌≤◌, nat_eq, Bool, true, false, if◌then◌else◌, List, [], ◌∷◌}
+use Rattle.std.proofs.Common.{◌++◌, length, take, drop, refl, sym, ◌∙◌, ap, subst, arith, append_assoc, length-append, length-drop}
 use Rattle.std.specs.List.{flat_map, starts_with}
 use Rattle.std.proofs.lemmas.List.{append-nil, drop-drop, length-take-le, take-append-drop}
 use Rattle.std.proofs.lemmas.Bool.Decides.{Decides-eqb}
@@ -39,7 +40,8 @@ copies_step most unit line count rest so_far less e = record {
   within = omega arith;
   is =
       let fewer : most - count - 1 ≡ most - (count + 1) = omega arith in
-      let same : copies_at (most - count - 1) unit (drop (length unit) rest) ≡ copies_at (most - (count + 1)) unit (drop (length unit) rest) =
+      let same : copies_at (most - count - 1) unit (drop (length unit) rest)
+      ≡ copies_at (most - (count + 1)) unit (drop (length unit) rest) =
       ap (λ k. copies_at k unit (drop (length unit) rest)) fewer in
       omega (arith, so_far.is, copies-more (most - count) unit rest (omega arith) e, same);
 }
@@ -68,7 +70,8 @@ unequal_begin most unit line some whole = record {
   within = omega arith;
   units = length line / unit;
   whole = units_in unit (length line) some whole;
-  is = ap (λ k. unequal_at k unit line) (let e : most ≡ most - 0 = omega arith in e) ∙ (let e : unequal_at (most - 0) unit line ≡ 0 + unequal_at (most - 0) unit line = omega arith in e);
+  is = ap (λ k. unequal_at k unit line) (let e : most ≡ most - 0 = omega arith in e)
+      ∙ (let e : unequal_at (most - 0) unit line ≡ 0 + unequal_at (most - 0) unit line = omega arith in e);
 }
 
 -- where there is a byte, there is a unit
@@ -85,7 +88,8 @@ unequal-more (suc left) unit (b ∷ rest) some one e =
     ap (λ t. if t then 0 else 1 + unequal_at left unit (drop unit (b ∷ rest))) e
     ∙ ap (λ k. 1 + unequal_at k unit (drop unit (b ∷ rest))) (let same : left ≡ suc left - 1 = omega arith in same)
 
-unequal-equal : (left unit : ℕ) (rest : List ℕ) → starts_with nat_eq (drop unit rest) (take unit rest) ≡ true → unequal_at left unit rest ≡ 0
+unequal-equal : (left unit : ℕ) (rest : List ℕ) → starts_with nat_eq (drop unit rest) (take unit rest) ≡ true
+    → unequal_at left unit rest ≡ 0
 unfolding unequal_at
 unequal-equal zero unit rest e = refl
 unequal-equal (suc left) unit [] e = refl
@@ -101,7 +105,8 @@ unequal-nothing zero unit rest none = refl
 unequal-nothing (suc left) unit [] none = refl
 unequal-nothing (suc left) unit (b ∷ rest) none = absurd (omega arith)
 
-pub unequal_step : (most unit : ℕ) (line : List ℕ) (count : ℕ) (rest : List ℕ) → UnequalSoFar most unit line count rest → count < most → 0 < length rest
+pub unequal_step : (most unit : ℕ) (line : List ℕ) (count : ℕ) (rest : List ℕ) → UnequalSoFar most unit line count rest → count < most
+    → 0 < length rest
     → starts_with nat_eq (drop unit rest) (take unit rest) ≡ false → UnequalSoFar most unit line (count + 1) (drop unit rest)
 unequal_step most unit line count rest so_far less some e = record {
   within = omega arith;
@@ -145,18 +150,22 @@ begins-is : (bytes unit : List ℕ) → starts_with nat_eq bytes unit ≡ true �
 begins-is bytes unit e = (starts_is Decides-eqb bytes unit true (sym e)).0 refl
 
 begins-front : (unit : ℕ) (bytes : List ℕ) → starts_with nat_eq bytes (take unit bytes) ≡ true
-begins-front unit bytes = (starts_is Decides-eqb bytes (take unit bytes) (starts_with nat_eq bytes (take unit bytes)) refl).1 (drop unit bytes) (sym (take-append-drop unit bytes))
+begins-front unit bytes =
+    (starts_is Decides-eqb bytes (take unit bytes) (starts_with nat_eq bytes (take unit bytes)) refl).1 (drop unit bytes)
+    (sym (take-append-drop unit bytes))
 
 pub copies_at-most : (most : ℕ) (unit bytes : List ℕ) → copies_at most unit bytes ≤ most
 unfolding copies_at
 copies_at-most zero unit bytes = omega arith
 copies_at-most (suc most) unit bytes = by_test (copies_at-most most unit (drop (length unit) bytes)) (starts_with nat_eq bytes unit)
   where
-    by_test : copies_at most unit (drop (length unit) bytes) ≤ most → (b : Bool) → (if b then 1 + copies_at most unit (drop (length unit) bytes) else 0) ≤ suc most
+    by_test : copies_at most unit (drop (length unit) bytes) ≤ most → (b : Bool)
+        → (if b then 1 + copies_at most unit (drop (length unit) bytes) else 0) ≤ suc most
     by_test after true = omega (arith, after)
     by_test after false = omega arith
 
-pub copies_at-front : (most : ℕ) (unit bytes : List ℕ) → bytes ≡ copies (copies_at most unit bytes) unit ++ drop (copies_at most unit bytes * length unit) bytes
+pub copies_at-front : (most : ℕ) (unit bytes : List ℕ)
+    → bytes ≡ copies (copies_at most unit bytes) unit ++ drop (copies_at most unit bytes * length unit) bytes
 unfolding copies_at
 copies_at-front zero unit bytes = ap (λ k. drop k bytes) (let none : 0 ≡ 0 * length unit = omega arith in none)
 copies_at-front (suc most) unit bytes = by_test (copies_at-front most unit (drop (length unit) bytes)) (starts_with nat_eq bytes unit) refl
@@ -166,7 +175,8 @@ copies_at-front (suc most) unit bytes = by_test (copies_at-front most unit (drop
 
     by_test : behind ≡ copies (copies_at most unit behind) unit ++ drop (copies_at most unit behind * length unit) behind
         → (b : Bool) → starts_with nat_eq bytes unit ≡ b
-        → bytes ≡ copies (if b then 1 + copies_at most unit behind else 0) unit ++ drop ((if b then 1 + copies_at most unit behind else 0) * length unit) bytes
+        → bytes ≡ copies (if b then 1 + copies_at most unit behind else 0) unit
+        ++ drop ((if b then 1 + copies_at most unit behind else 0) * length unit) bytes
     by_test after true e =
         let n : ℕ = copies_at most unit behind in
         let more : suc n ≡ 1 + n = omega arith in
@@ -189,9 +199,11 @@ pub unequal_at-most : (most unit : ℕ) (bytes : List ℕ) → unequal_at most u
 unfolding unequal_at
 unequal_at-most zero unit bytes = omega arith
 unequal_at-most (suc most) unit [] = omega arith
-unequal_at-most (suc most) unit (b ∷ bytes) = by_test (unequal_at-most most unit (drop unit (b ∷ bytes))) (starts_with nat_eq (drop unit (b ∷ bytes)) (take unit (b ∷ bytes)))
+unequal_at-most (suc most) unit (b ∷ bytes) =
+    by_test (unequal_at-most most unit (drop unit (b ∷ bytes))) (starts_with nat_eq (drop unit (b ∷ bytes)) (take unit (b ∷ bytes)))
   where
-    by_test : unequal_at most unit (drop unit (b ∷ bytes)) ≤ most → (t : Bool) → (if t then 0 else 1 + unequal_at most unit (drop unit (b ∷ bytes))) ≤ suc most
+    by_test : unequal_at most unit (drop unit (b ∷ bytes)) ≤ most → (t : Bool)
+        → (if t then 0 else 1 + unequal_at most unit (drop unit (b ∷ bytes))) ≤ suc most
     by_test after true = omega arith
     by_test after false = omega (arith, after)
 
@@ -199,11 +211,14 @@ pub unequal_at-within : (most unit : ℕ) (bytes : List ℕ) (units : ℕ) → l
 unfolding unequal_at
 unequal_at-within zero unit bytes units whole = omega arith
 unequal_at-within (suc most) unit [] units whole = omega arith
-unequal_at-within (suc most) unit (b ∷ bytes) zero whole = absurd (let none : length (b ∷ bytes) ≡ 0 = whole ∙ omega arith in omega (arith, none))
+unequal_at-within (suc most) unit (b ∷ bytes) zero whole =
+    absurd (let none : length (b ∷ bytes) ≡ 0 = whole ∙ omega arith in omega (arith, none))
 unequal_at-within (suc most) unit (b ∷ bytes) (suc units) whole =
-    by_test (unequal_at-within most unit (drop unit (b ∷ bytes)) units (length-drop unit (b ∷ bytes) ∙ omega (arith, whole))) (starts_with nat_eq (drop unit (b ∷ bytes)) (take unit (b ∷ bytes)))
+    by_test (unequal_at-within most unit (drop unit (b ∷ bytes)) units (length-drop unit (b ∷ bytes) ∙ omega (arith, whole)))
+    (starts_with nat_eq (drop unit (b ∷ bytes)) (take unit (b ∷ bytes)))
   where
-    by_test : unequal_at most unit (drop unit (b ∷ bytes)) ≤ units → (t : Bool) → (if t then 0 else 1 + unequal_at most unit (drop unit (b ∷ bytes))) ≤ suc units
+    by_test : unequal_at most unit (drop unit (b ∷ bytes)) ≤ units → (t : Bool)
+        → (if t then 0 else 1 + unequal_at most unit (drop unit (b ∷ bytes))) ≤ suc units
     by_test after true = omega arith
     by_test after false = omega (arith, after)
 
@@ -233,7 +248,8 @@ counted unit line units some whole one = record {
   equal_within =
       let within : copies_at 128 (take unit line) line * unit ≤ units * unit =
       (let P : ℕ → Type 0 = λ k. copies_at 128 (take unit line) line * k ≤ units * unit in
-      subst P sized (let h : copies_at 128 (take unit line) line * length (take unit line) ≤ length line = copies_at-within 128 (take unit line) line in omega (arith, h, whole))) in
+      subst P sized (let h : copies_at 128 (take unit line) line * length (take unit line) ≤ length line =
+      copies_at-within 128 (take unit line) line in omega (arith, h, whole))) in
       le_of_mul-le-mul_right within some;
   few_unequal = unequal_at-most 128 unit line;
   unequal_within = unequal_at-within 128 unit line units whole;
@@ -250,7 +266,8 @@ counted unit line units some whole one = record {
         copies-more 128 (take unit line) line (omega arith) (begins-front unit line) in
         let second : starts_with nat_eq (drop (length (take unit line)) line) (take unit line) ≡ true =
         ap (λ k. starts_with nat_eq (drop k line) (take unit line)) sized ∙ two_equal 128 unit line (omega arith) one sized e in
-        let third : copies_at 127 (take unit line) (drop (length (take unit line)) line) ≡ 1 + copies_at 126 (take unit line) (drop (length (take unit line)) (drop (length (take unit line)) line)) =
+        let third : copies_at 127 (take unit line) (drop (length (take unit line)) line)
+        ≡ 1 + copies_at 126 (take unit line) (drop (length (take unit line)) (drop (length (take unit line)) line)) =
         copies-more 127 (take unit line) (drop (length (take unit line)) line) (omega arith) second in
         absurd (omega (arith, few, first, third))
 
@@ -280,8 +297,10 @@ scaled n m unit len same within = let P : ℕ → Type 0 = λ k. k * unit ≤ le
 
 -- ---- a group
 
-packets_spelled : (most unit : ℕ) (rest : List ℕ) → 0 < length rest → length rest ≤ most → flat_map packet_spelling (packets_from most unit rest)
-    ≡ packet_spelling (next_packet unit rest) ++ flat_map packet_spelling (packets_from (most - 1) unit (drop (packet_units 0 (next_packet unit rest) * unit) rest))
+packets_spelled : (most unit : ℕ) (rest : List ℕ) → 0 < length rest → length rest ≤ most
+    → flat_map packet_spelling (packets_from most unit rest)
+    ≡ packet_spelling (next_packet unit rest)
+    ++ flat_map packet_spelling (packets_from (most - 1) unit (drop (packet_units 0 (next_packet unit rest) * unit) rest))
 unfolding packets_from
 packets_spelled most unit [] one enough = absurd (omega arith)
 packets_spelled zero unit (b ∷ rest) one enough = absurd (omega arith)
@@ -324,7 +343,8 @@ pub whole_units : (units unit len : ℕ) → len ≡ units * unit → len % unit
 whole_units units unit len whole = ap (λ k. k % unit) whole ∙ mul-mod_left units unit
 
 -- one packet more
-pub group_step : (unit more : ℕ) (line old now rest now' rest' : List ℕ) (n : ℕ) → 1 ≤ unit → GroupSoFar unit more line old now rest → 0 < length rest
+pub group_step : (unit more : ℕ) (line old now rest now' rest' : List ℕ) (n : ℕ) → 1 ≤ unit → GroupSoFar unit more line old now rest
+    → 0 < length rest
     → now' ≡ now ++ packet_spelling (next_packet unit rest) → n ≡ packet_units 0 (next_packet unit rest) → 1 ≤ n → n * unit ≤ length rest
     → rest' ≡ drop (n * unit) rest → GroupSoFar unit more line old now' rest'
 group_step unit more line old now rest now' rest' n some so_far one grown count one_more within behind = record {
@@ -340,7 +360,8 @@ group_step unit more line old now rest now' rest' n some so_far one grown count 
       ∙ so_far.is;
   part = (
     so_far.part.0 ++ packet_spelling (next_packet unit rest),
-    grown ∙ ap (λ bs. bs ++ packet_spelling (next_packet unit rest)) so_far.part.1 ∙ append_assoc old so_far.part.0 (packet_spelling (next_packet unit rest)),
+    grown ∙ ap (λ bs. bs ++ packet_spelling (next_packet unit rest)) so_far.part.1
+        ∙ append_assoc old so_far.part.0 (packet_spelling (next_packet unit rest)),
   );
 }
   where
@@ -348,7 +369,8 @@ group_step unit more line old now rest now' rest' n some so_far one grown count 
     units_less = omega (arith, mul-sub unit so_far.units n)
 
     behind_spelled : List ℕ
-    behind_spelled = flat_map packet_spelling (packets_from (so_far.most - 1) unit (drop (packet_units 0 (next_packet unit rest) * unit) rest))
+    behind_spelled =
+        flat_map packet_spelling (packets_from (so_far.most - 1) unit (drop (packet_units 0 (next_packet unit rest) * unit) rest))
 
 pub group_end : (unit more : ℕ) (line old now rest : List ℕ) → GroupSoFar unit more line old now rest → length rest ≡ 0
     → now ≡ old ++ canonical unit (more + 1) line

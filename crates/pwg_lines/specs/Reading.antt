@@ -58,7 +58,8 @@ is_start (state.Literal bytes) = false
 is_start state.Full = false
 is_start (state.Failed fault) = false
 
--- The reader stands before a group, and has read none of it. It has one proof at most, so that a ghost field may keep it.
+-- The reader stands before a group, and has read none of it. It has one proof at most, so that a ghost field may keep
+-- it.
 abbrev pub IsAnew : LineReader → Type 0
 IsAnew reader = IsTrue (is_start reader.state)
 

@@ -111,7 +111,8 @@ IsAt (Failed fault) row left sofar = 1 ≤ length sofar
 
 -- A reader in this state, with this much of the line and of the unit of a run, reads what follows as the whole group
 -- would be read.
-pub record Stands (row : KindRow) (units lines : ℕ) (state : State) (repeats : ℕ) (line part : List ℕ) (left : ℕ) (sofar : List ℕ) : Type 0 where
+pub record Stands (row : KindRow) (units lines : ℕ) (state : State) (repeats : ℕ) (line part : List ℕ) (left : ℕ)
+    (sofar : List ℕ) : Type 0 where
   pub at : IsAt state row left sofar
   pub most : ℕ
   pub enough : left ≤ most

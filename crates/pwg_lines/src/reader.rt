@@ -37,7 +37,8 @@ pub struct LineReader {
 }
 
 impl LineReader {
-    ghost use Rattle.pwg_lines.specs.Reading.{Ends, IsAnew, IsFault, IsLine, IsMore, IsSame, OnFault, OnLine, OnMore, StandsFor, fault_of, form_of, line_of, lines_left_of};
+    ghost use Rattle.pwg_lines.specs.Reading.{Ends, IsAnew, IsFault, IsLine, IsMore, IsSame, OnFault, OnLine, OnMore};
+    ghost use Rattle.pwg_lines.specs.Reading.{StandsFor, fault_of, form_of, line_of, lines_left_of};
     ghost use Rattle.std.specs.Prelude.{IfOk, IsOk, OnErr, OnOk, Some};
     ghost use Rattle.pwg_definitions.specs.declared.faults.LineFault.{LineFault};
 
@@ -67,8 +68,8 @@ impl LineReader {
         })
     }
 
-    /// Begins the lines of another page, of this form, wherever the reader stands. The line that it has serves where the
-    /// new one is no longer; for want of memory the reader is as it was.
+    /// Begins the lines of another page, of this form, wherever the reader stands. The line that it has serves where
+    /// the new one is no longer; for want of memory the reader is as it was.
     pub fn restart(&mut self, form: PageForm) -> Result<(), Memory>
         requires narrowest { 1 ≤ form.width }
         requires widest { form.width ≤ most_columns }

@@ -1,5 +1,6 @@
 -- A fault in the lines of a page, as the rest of the page is read.
-use Rattle.std.proofs.Common.{◌≡◌, ℕ, zero, suc, ◌+◌, ◌-◌, ◌<◌, ◌≤◌, List, replicate, Option, None, Some, IfSome, Err, refl, sym, ◌∙◌, ap, arith, ◌⊎◌, inl, inr}
+use Rattle.std.proofs.Common.{◌≡◌, ℕ, zero, suc, ◌+◌, ◌-◌, ◌<◌, ◌≤◌, List, replicate, Option, None, Some, IfSome, Err, refl, sym, ◌∙◌, ap}
+use Rattle.std.proofs.Common.{arith, ◌⊎◌, inl, inr}
 use Rattle.pwg_definitions.specs.declared.faults.InputCause.{InputCause}
 use Rattle.pwg_definitions.specs.declared.faults.InputCause.TheVariants as cause
 use Rattle.pwg_definitions.specs.declared.pages.PageForm.{PageForm}
@@ -18,7 +19,8 @@ use Rattle.pwg_stream.specs.Reading.{HasLineFault, form_in, form_of, group_of, l
 use Rattle.pwg_stream.specs.Stops.{OnInput, line_stop}
 
 -- the lines of a page where its next group is read as this
-lines_at-group : (row : KindRow) (units height most left : ℕ) (bytes : List ℕ) (read : GroupRead) → group_at row units (suc left) bytes ≡ read
+lines_at-group : (row : KindRow) (units height most left : ℕ) (bytes : List ℕ) (read : GroupRead)
+    → group_at row units (suc left) bytes ≡ read
     → lines_at row units height (suc most) (suc left) bytes ≡ elim read [
       | Group repeats line rest ↦ with_lines (replicate repeats line) (lines_at row units height most (suc left - repeats) rest)
       | Part ↦ Stop (height - suc left + 1) cause.Truncated
@@ -31,7 +33,8 @@ lines_at-group row units height most left bytes read e = ap (λ (r : GroupRead).
   | Wrong place fault ↦ Stop (height - suc left + 1) (cause.Line fault)
 ]) e
 
-stop_here : (form : PageForm) (left line : ℕ) (text : List ℕ) (why : InputCause) → 0 < left → line + left ≡ form.height + 1 → left ≤ form.height
+stop_here : (form : PageForm) (left line : ℕ) (text : List ℕ) (why : InputCause) → 0 < left → line + left ≡ form.height + 1
+    → left ≤ form.height
     → IsNoGroup (group_of form left text) why ⊎ IsBadGroup (group_of form left text) why → lines_of form left text ≡ Stop line why
 stop_here form zero line text why some place within found = absurd (omega arith)
 stop_here form (suc left) line text why some place within (inl none) =
@@ -40,7 +43,8 @@ stop_here form (suc left) line text why some place within (inl none) =
     ∙ ap (λ k. Stop k cause.Truncated) at ∙ ap (Stop line) (sym none.1)
 stop_here form (suc left) line text why some place within (inr bad) =
     let at : form.height - suc left + 1 ≡ line = omega arith in
-    lines_at-group (row_of form.kind) (line_units (row_of form.kind) form.width) form.height left left text (Wrong bad.place bad.fault) bad.wrong
+    lines_at-group (row_of form.kind) (line_units (row_of form.kind) form.width) form.height left left text
+    (Wrong bad.place bad.fault) bad.wrong
     ∙ ap (λ k. Stop k (cause.Line bad.fault)) at ∙ ap (Stop line) (sym bad.why_is)
 
 if_some : {T : Type 0} (P Q : T → Type 0) (o : Option T) → ((x : T) → P x → Q x) → IfSome o P → IfSome o Q
@@ -51,9 +55,12 @@ same_form : (reader : LineReader) (form : PageForm) → Some (lines.form_of read
 same_form reader form e = cc
 
 -- the stop of a group is a fault at this line of the page in hand
-pub line_fault : (reader : PageReader) (now : LineReader) (before : Option (List ℕ)) (line : ℕ) (why : GroupStop) → reader.lines ≡ Some now → 0 < lines.lines_left_of now
+pub line_fault : (reader : PageReader) (now : LineReader) (before : Option (List ℕ)) (line : ℕ) (why : GroupStop) → reader.lines ≡ Some now
+    → 0 < lines.lines_left_of now
     → line + lines.lines_left_of now ≡ (lines.form_of now).height + 1
-    → OnNoGroup {T = ℕ} (Err why) (λ w. IfSome (text_of reader before) (λ text. IsNoGroup (lines.next_group now text) w ⊎ IsBadGroup (lines.next_group now text) w))
+    → OnNoGroup {T =
+    ℕ} (Err why) (λ w. IfSome (text_of reader before) (λ text. IsNoGroup (lines.next_group now text) w
+    ⊎ IsBadGroup (lines.next_group now text) w))
     → OnInput {T = ℕ} (Err (line_stop reader.page line why)) (HasLineFault reader before)
 line_fault reader now before line fault.Read is some place found = tt
 line_fault reader now before line (fault.Input why) is some place found =
@@ -66,7 +73,8 @@ line_fault reader now before line (fault.Input why) is some place found =
           ap (λ k. line + k) left_is ∙ place ∙ ap (λ (f : PageForm). f.height + 1) same;
       fault = λ form e.
           let same : lines.form_of now ≡ form = same_form now form (sym form_is ∙ e) in
-          if_some (λ text. IsNoGroup (lines.next_group now text) why ⊎ IsBadGroup (lines.next_group now text) why) (λ text. lines_of form (lines_left_of reader) text ≡ Stop line why)
+          if_some (λ text. IsNoGroup (lines.next_group now text) why ⊎ IsBadGroup (lines.next_group now text) why)
+          (λ text. lines_of form (lines_left_of reader) text ≡ Stop line why)
           (text_of reader before)
           (λ text h.
           ap (λ k. lines_of form k text) left_is

@@ -1,9 +1,11 @@
 -- A part of a group that is not the whole is no longer than a group may be.
-use Rattle.std.proofs.Common.{◌≡◌, ℕ, zero, suc, ◌+◌, ◌-◌, ◌*◌, ◌<◌, ◌≤◌, ◌==◌, nat_lt, Bool, true, false, if◌then◌else◌, List, [], ◌∷◌, length, take, drop, refl, sym, ◌∙◌, ap, subst, arith, length-drop}
+use Rattle.std.proofs.Common.{◌≡◌, ℕ, zero, suc, ◌+◌, ◌-◌, ◌*◌, ◌<◌, ◌≤◌, ◌==◌, nat_lt, Bool, true, false, if◌then◌else◌, List, [], ◌∷◌}
+use Rattle.std.proofs.Common.{length, take, drop, refl, sym, ◌∙◌, ap, subst, arith, length-drop}
 use Rattle.std.proofs.lemmas.Bool.{ltb-true, ltb-false}
 use Rattle.std.proofs.Math.Nat.{mul-le-mul_right}
 use Rattle.pwg_definitions.specs.Header.{KindRow}
-use Rattle.pwg_definitions.specs.Groups.{GroupFront, IsBytes, Packet, PacketRead, group_at, line_at, packet_at, packet_from, packet_units, units_of, with_packet}
+use Rattle.pwg_definitions.specs.Groups.{GroupFront, IsBytes, Packet, PacketRead, group_at, line_at, packet_at, packet_from, packet_units}
+use Rattle.pwg_definitions.specs.Groups.{units_of, with_packet}
 use Rattle.pwg_definitions.specs.Groups.Packet.{Run, Clear, Literal}
 use Rattle.pwg_definitions.specs.Groups.PacketRead.{One, Short, Long}
 use Rattle.pwg_definitions.specs.Groups.GroupRead.{Group, Part, Wrong}
@@ -22,7 +24,8 @@ few_from : (row : KindRow) (left n units count : ℕ) (make : List ℕ → Packe
     → TakesFew row left (n ∷ bytes) (packet_from make count bytes)
 few_from row left n units count make bytes gives some one within small = by_length (nat_lt (length bytes) count) refl
   where
-    by_length : (b : Bool) → nat_lt (length bytes) count ≡ b → TakesFew row left (n ∷ bytes) (if b then Short else One (make (take count bytes)) (drop count bytes))
+    by_length : (b : Bool) → nat_lt (length bytes) count ≡ b
+        → TakesFew row left (n ∷ bytes) (if b then Short else One (make (take count bytes)) (drop count bytes))
     by_length true e =
         let short : length bytes < count = ltb-true _ _ e in
         let room : units * row.unit ≤ left * row.unit = mul-le-mul_right row.unit within in
@@ -34,14 +37,16 @@ few_from row left n units count make bytes gives some one within small = by_leng
         let same : packet_units left (make (take count bytes)) * row.unit ≡ units * row.unit = ap (λ k. k * row.unit) units_are in
         (omega (arith, units_are), omega (arith, length-drop count bytes))
 
-few : (row : KindRow) (left n : ℕ) (bytes : List ℕ) → 1 ≤ row.unit → 1 ≤ left → n < 256 → TakesFew row left (n ∷ bytes) (packet_at row left (n ∷ bytes))
+few : (row : KindRow) (left n : ℕ) (bytes : List ℕ) → 1 ≤ row.unit → 1 ≤ left → n < 256
+    → TakesFew row left (n ∷ bytes) (packet_at row left (n ∷ bytes))
 few row left n bytes some one byte = by_size (nat_lt left (units_of left n)) refl
   where
     by_clear : (b : Bool) → (n == 128) ≡ b → nat_lt n 128 ≡ false → (if b then left else 257 - n) ≤ left
         → TakesFew row left (n ∷ bytes) (if b then One Clear bytes else packet_from (Literal (257 - n)) ((257 - n) * row.unit) bytes)
     by_clear true e large within = let room : 1 * row.unit ≤ left * row.unit = mul-le-mul_right row.unit one in (one, omega arith)
     by_clear false e large within =
-        few_from row left n (257 - n) ((257 - n) * row.unit) (Literal (257 - n)) bytes (λ front. refl) some (omega arith) within (omega arith)
+        few_from row left n (257 - n) ((257 - n) * row.unit) (Literal (257 - n)) bytes (λ front. refl) some (omega arith) within
+        (omega arith)
 
     by_run : (b : Bool) → nat_lt n 128 ≡ b → (if b then n + 1 else (if n == 128 then left else 257 - n)) ≤ left
         → TakesFew row left (n ∷ bytes) (if b then packet_from (Run (n + 1)) row.unit bytes
@@ -57,7 +62,8 @@ few row left n bytes some one byte = by_size (nat_lt left (units_of left n)) ref
     by_size true e = tt
     by_size false e = by_run (nat_lt n 128) refl (ltb-false _ _ e)
 
-sizes_joined : (front behind left unit size rest : ℕ) → front + behind ≡ left → size ≤ 2 * (front * unit) + rest → rest ≤ 2 * (behind * unit) → size ≤ 2 * (left * unit)
+sizes_joined : (front behind left unit size rest : ℕ) → front + behind ≡ left → size ≤ 2 * (front * unit) + rest
+    → rest ≤ 2 * (behind * unit) → size ≤ 2 * (left * unit)
 sizes_joined front behind left unit size rest split first second =
     let whole : (front + behind) * unit ≡ left * unit = ap (λ k. k * unit) split in
     omega arith
@@ -71,19 +77,24 @@ line_at-part row (suc most) (suc left) front [] some enough are e = omega arith
 line_at-part row (suc most) (suc left) front (n ∷ bytes) some enough are e =
     by_packet (line_at-part row most) (packet_at row (suc left) (n ∷ bytes)) refl (few row (suc left) n bytes some (omega arith) (are 0))
   where
-    by_packet : ((left : ℕ) (front : GroupFront) (bytes : List ℕ) → 1 ≤ row.unit → left ≤ most → IsBytes bytes → line_at row most left front bytes ≡ Part → length bytes ≤ 2 * (left * row.unit))
-        → (r : PacketRead) → packet_at row (suc left) (n ∷ bytes) ≡ r → TakesFew row (suc left) (n ∷ bytes) r → length (n ∷ bytes) ≤ 2 * (suc left * row.unit)
+    by_packet : ((left : ℕ) (front : GroupFront) (bytes : List ℕ) → 1 ≤ row.unit → left ≤ most → IsBytes bytes
+        → line_at row most left front bytes ≡ Part → length bytes ≤ 2 * (left * row.unit))
+        → (r : PacketRead) → packet_at row (suc left) (n ∷ bytes) ≡ r → TakesFew row (suc left) (n ∷ bytes) r
+        → length (n ∷ bytes) ≤ 2 * (suc left * row.unit)
     by_packet after (One p rest) is fits =
         let read = packet_at-one row (suc left) (n ∷ bytes) p rest is in
         let units : ℕ = packet_units (suc left) p in
         let behind : IsBytes rest = IsBytes-behind read.front rest (let P : List ℕ → Type 0 = IsBytes in subst P read.split are) in
-        let here : line_at row (suc most) (suc left) front (n ∷ bytes) ≡ line_at row most (suc left - units) (with_packet row (suc left) p front) rest =
+        let here : line_at row (suc most) (suc left) front (n ∷ bytes)
+        ≡ line_at row most (suc left - units) (with_packet row (suc left) p front) rest =
         line_at-one row most left front (n ∷ bytes) p rest is in
         let small : length rest ≤ 2 * ((suc left - units) * row.unit) =
         after (suc left - units) (with_packet row (suc left) p front) rest some (omega (arith, fits.0)) behind (sym here ∙ e) in
-        sizes_joined units (suc left - units) (suc left) row.unit (length (n ∷ bytes)) (length rest) (omega (arith, read.within)) fits.1 small
+        sizes_joined units (suc left - units) (suc left) row.unit (length (n ∷ bytes)) (length rest) (omega (arith, read.within))
+        fits.1 small
     by_packet after Short is fits = fits
-    by_packet after Long is fits = absurd (let never : Wrong front.place RunPastLine ≡ Part = sym (line_at-long row most left front (n ∷ bytes) is) ∙ e in cc)
+    by_packet after Long is fits =
+        absurd (let never : Wrong front.place RunPastLine ≡ Part = sym (line_at-long row most left front (n ∷ bytes) is) ∙ e in cc)
 
 -- a part of a group has at most a count, and a byte and a unit for each unit of its line
 pub group_at-part : (row : KindRow) (units left : ℕ) (bytes : List ℕ) → 1 ≤ row.unit → IsBytes bytes
@@ -94,6 +105,7 @@ group_at-part row units left (count ∷ bytes) some are e = by_count (nat_lt lef
     front : GroupFront
     front = record { repeats = count + 1; line = []; place = 1 }
 
-    by_count : (b : Bool) → (if b then Wrong 0 GroupPastPage else line_at row units units front bytes) ≡ Part → suc (length bytes) ≤ 2 * (units * row.unit) + 1
+    by_count : (b : Bool) → (if b then Wrong 0 GroupPastPage else line_at row units units front bytes) ≡ Part
+        → suc (length bytes) ≤ 2 * (units * row.unit) + 1
     by_count true f = absurd (let never : Wrong 0 GroupPastPage ≡ Part = f in cc)
     by_count false f = omega (arith, line_at-part row units units front bytes some (omega arith) (λ k. are (suc k)) f)

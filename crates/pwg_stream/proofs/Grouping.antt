@@ -1,5 +1,6 @@
 -- A group that is fed to a reader of lines, piece by piece.
-use Rattle.std.proofs.Common.{◌≡◌, ℕ, zero, suc, ◌+◌, ◌*◌, ◌<◌, ◌≤◌, List, [], ◌∷◌, ◌++◌, length, take, slice_index, Option, None, Some, IfSome, refl, sym, ◌∙◌, ap, subst, arith, length-append, ◌⊎◌, inl, inr}
+use Rattle.std.proofs.Common.{◌≡◌, ℕ, zero, suc, ◌+◌, ◌*◌, ◌<◌, ◌≤◌, List, [], ◌∷◌, ◌++◌, length, take, slice_index, Option, None, Some}
+use Rattle.std.proofs.Common.{IfSome, refl, sym, ◌∙◌, ap, subst, arith, length-append, ◌⊎◌, inl, inr}
 use Rattle.std.proofs.lemmas.List.{take_all}
 use Rattle.std.specs.Io.KnownBytes.{Consumes, IsAtEnd, Keeps}
 use Rattle.std.proofs.KnownBytes.{Consumes-kept, Consumes-nil, Consumes-trans, Consumes-whole}
@@ -32,7 +33,8 @@ pub record InGroup (old now : LineReader) (before text : Option (List ℕ)) (unr
   pub turns : turn ≤ length fed.sofar + 1
   pub some : 1 ≤ turn → 1 ≤ length unread
 
-next-same : (old now : LineReader) (bytes : List ℕ) → form_of now ≡ form_of old → lines_left_of now ≡ lines_left_of old → next_group now bytes ≡ next_group old bytes
+next-same : (old now : LineReader) (bytes : List ℕ) → form_of now ≡ form_of old → lines_left_of now ≡ lines_left_of old
+    → next_group now bytes ≡ next_group old bytes
 next-same old now bytes form left =
     ap (λ (f : PageForm). let row = row_of f.kind in group_at row (line_units row f.width) (lines_left_of now) bytes) form
     ∙ ap (λ k. let row = row_of (form_of old).kind in group_at row (line_units row (form_of old).width) k bytes) left
@@ -47,13 +49,22 @@ bytes-append (x ∷ xs) ys p q (suc k) = bytes-append xs ys (λ j. p (suc j)) q 
 
 pub group_begin : (lines : LineReader) (text : Option (List ℕ)) (unread : List ℕ) → IsAnew lines → InGroup lines lines text text unread 0
 group_begin lines text unread fresh = record {
-  fed = record { sofar = []; are = none-bytes; used = Consumes-nil text; stands = anew_stands lines fresh; form = refl; left = refl; part = refl };
+  fed = record {
+    sofar = [];
+    are = none-bytes;
+    used = Consumes-nil text;
+    stands = anew_stands lines fresh;
+    form = refl;
+    left = refl;
+    part = refl;
+  };
   turns = omega arith;
   some = λ turned. absurd (omega arith);
 }
 
 -- a piece was fed, and the group is not yet whole
-pub group_fed : (old now next : LineReader) (before text text' : Option (List ℕ)) (piece : List ℕ) (used turn : ℕ) → InGroup old now before text piece turn
+pub group_fed : (old now next : LineReader) (before text text' : Option (List ℕ)) (piece : List ℕ) (used turn : ℕ)
+    → InGroup old now before text piece turn
     → IsMore now next piece used → form_of next ≡ form_of now → IsBytes piece → Consumes text text' (take used piece)
     → (fed : IsFed old next before text') × (turn + 1 ≤ length fed.sofar + 1)
 group_fed old now next before text text' piece used turn so_far more form are step =
@@ -73,7 +84,8 @@ group_fed old now next before text text' piece used turn so_far more form are st
       turned,
     )
   where
-    by_turn : (n : ℕ) → n ≤ length so_far.fed.sofar + 1 → (1 ≤ n → 1 ≤ length piece) → length (so_far.fed.sofar ++ piece) ≡ length so_far.fed.sofar + length piece
+    by_turn : (n : ℕ) → n ≤ length so_far.fed.sofar + 1 → (1 ≤ n → 1 ≤ length piece)
+        → length (so_far.fed.sofar ++ piece) ≡ length so_far.fed.sofar + length piece
         → n + 1 ≤ length (so_far.fed.sofar ++ piece) + 1
     by_turn zero turns some long = omega arith
     by_turn (suc n) turns some long = omega (arith, some (omega arith))
@@ -97,14 +109,17 @@ group_turn old next before text' text'' unread turn so_far kept some = record {
 }
 
 -- the text ends before the group
-pub group_cut : (old next : LineReader) (before text' text'' : Option (List ℕ)) → IsFed old next before text' → Keeps text' text'' → IsAtEnd text''
+pub group_cut : (old next : LineReader) (before text' text'' : Option (List ℕ)) → IsFed old next before text' → Keeps text' text''
+    → IsAtEnd text''
     → IfSome before (λ text. IsNoGroup (next_group old text) cause.Truncated ⊎ IsBadGroup (next_group old text) cause.Truncated)
 group_cut old next before text' text'' fed kept end =
-    Consumes-whole before text'' fed.sofar (λ text. IsNoGroup (next_group old text) cause.Truncated ⊎ IsBadGroup (next_group old text) cause.Truncated)
+    Consumes-whole before text'' fed.sofar (λ text. IsNoGroup (next_group old text) cause.Truncated
+    ⊎ IsBadGroup (next_group old text) cause.Truncated)
     (Consumes-kept before text' text'' fed.sofar fed.used kept) end (inl (fed.part, refl))
 
 -- the group is whole
-pub group_whole : (old now next : LineReader) (before text text' : Option (List ℕ)) (piece : List ℕ) (used turn repeats : ℕ) → InGroup old now before text piece turn
+pub group_whole : (old now next : LineReader) (before text text' : Option (List ℕ)) (piece : List ℕ) (used turn repeats : ℕ)
+    → InGroup old now before text piece turn
     → IsLine now next piece used repeats → Consumes text text' (take used piece) → GivesLine old next before text' repeats
 group_whole old now next before text text' piece used turn repeats so_far line step =
     let sofar : List ℕ = so_far.fed.sofar in
@@ -119,7 +134,8 @@ group_whole old now next before text text' piece used turn repeats so_far line s
     }
 
 -- the group is refused
-pub group_refused : (old now next : LineReader) (before text text' : Option (List ℕ)) (piece : List ℕ) (used turn : ℕ) (fault : LineFault) → InGroup old now before text piece turn
+pub group_refused : (old now next : LineReader) (before text text' : Option (List ℕ)) (piece : List ℕ) (used turn : ℕ) (fault : LineFault)
+    → InGroup old now before text piece turn
     → IsFault now next piece used fault → Consumes text text' (take used piece)
     → IfSome before (λ text. IsNoGroup (next_group old text) (cause.Line fault) ⊎ IsBadGroup (next_group old text) (cause.Line fault))
 group_refused old now next before text text' piece used turn fault so_far wrong step =
@@ -143,24 +159,29 @@ group_refused old now next before text text' piece used turn fault so_far wrong 
         })
 
 -- no group has so many bytes
-pub group_ends : (old now : LineReader) (before text : Option (List ℕ)) (unread : List ℕ) (turn long : ℕ) → InGroup old now before text unread turn
-    → 1 ≤ (row_of (form_of old).kind).unit → line_units (row_of (form_of old).kind) (form_of old).width * (row_of (form_of old).kind).unit ≤ long
+pub group_ends : (old now : LineReader) (before text : Option (List ℕ)) (unread : List ℕ) (turn long : ℕ)
+    → InGroup old now before text unread turn
+    → 1 ≤ (row_of (form_of old).kind).unit
+    → line_units (row_of (form_of old).kind) (form_of old).width * (row_of (form_of old).kind).unit ≤ long
     → 2 * long + 1 + 2 ≤ turn → ⊥
 group_ends old now before text unread turn long so_far some fits many =
     let row = row_of (form_of old).kind in
-    let few = group_at-part row (line_units row (form_of old).width) (lines_left_of old) so_far.fed.sofar some so_far.fed.are so_far.fed.part in
+    let few = group_at-part row (line_units row (form_of old).width) (lines_left_of old) so_far.fed.sofar some so_far.fed.are
+    so_far.fed.part in
     omega (arith, so_far.turns)
 
 -- ---- what of the text was used
 
-pub uses_fed : (old now : LineReader) (before text text' : Option (List ℕ)) (piece : List ℕ) (used turn : ℕ) → InGroup old now before text piece turn
+pub uses_fed : (old now : LineReader) (before text text' : Option (List ℕ)) (piece : List ℕ) (used turn : ℕ)
+    → InGroup old now before text piece turn
     → Consumes text text' (take used piece) → UsesSome before text'
 uses_fed old now before text text' piece used turn so_far step = record {
   bytes = so_far.fed.sofar ++ take used piece;
   is = Consumes-trans before text text' so_far.fed.sofar (take used piece) so_far.fed.used step;
 }
 
-pub uses_kept : (old now : LineReader) (before text text' text'' : Option (List ℕ)) (piece : List ℕ) (used turn : ℕ) → InGroup old now before text piece turn
+pub uses_kept : (old now : LineReader) (before text text' text'' : Option (List ℕ)) (piece : List ℕ) (used turn : ℕ)
+    → InGroup old now before text piece turn
     → Consumes text text' (take used piece) → Keeps text' text'' → UsesSome before text''
 uses_kept old now before text text' text'' piece used turn so_far step kept =
     let uses = uses_fed old now before text text' piece used turn so_far step in

@@ -17,7 +17,8 @@ use Rattle.pwg_stream.specs.declared.stops.StreamStop.{StreamStop}
 use Rattle.pwg_stream.specs.Pages.{GivesHeader}
 use Rattle.unread_bytes.specs.Text.{text_behind}
 
--- The text that it still has before it, with what the source has left: the bytes that it took and did not use come first.
+-- The text that it still has before it, with what the source has left: the bytes that it took and did not use come
+-- first.
 abbrev pub text_of : PageReader → Option (List ℕ) → Option (List ℕ)
 text_of reader left = text_behind reader.unread left
 

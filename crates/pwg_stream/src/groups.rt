@@ -28,7 +28,9 @@ pub fn read_group<S: Source>(
 ) -> Result<u32, GroupStop>
     requires { IsAnew lines.old }
     ensures form { form_of lines.new ≡ form_of lines.old }
-    ensures line { IfOk result (GivesLine lines.old lines.new (text_behind unread.old (S.left s.old)) (text_behind unread.new (S.left s.new))) }
+    ensures line { IfOk result
+        (GivesLine lines.old lines.new (text_behind unread.old (S.left s.old))
+        (text_behind unread.new (S.left s.new))) }
     ensures fresh { OnOk result (IsAnew lines.new) }
     ensures lines { OnErr result (lines_left_of lines.new ≡ lines_left_of lines.old) }
     ensures input { OnNoGroup result (λ why. IfSome (text_behind unread.old (S.left s.old)) (λ text.

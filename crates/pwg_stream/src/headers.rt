@@ -4,7 +4,8 @@ ghost use Rattle.pwg_stream.specs.Stops.{OnInput};
 ghost use Rattle.unread_bytes.specs.Text.{UsesSome, text_behind};
 ghost use Rattle.pwg_stream.specs.declared.stops.StreamStop.TheVariants as stop;
 ghost use Rattle.std.specs.Io.KnownBytes.{IsAtEnd};
-ghost use Rattle.std.specs.Prelude.{IfNone, IfOk, IfSome, IsErrOf, IsSome, MatchOption, [], drop, length, take, ◌+◌, ◌-◌, ◌<◌, ◌≡◌, ◌≤◌};
+ghost use Rattle.std.specs.Prelude.{IfNone, IfOk, IfSome, IsErrOf, IsSome, MatchOption, [], drop, length, take, ◌+◌};
+ghost use Rattle.std.specs.Prelude.{◌-◌, ◌<◌, ◌≡◌, ◌≤◌};
 ghost use Rattle.pwg_definitions.specs.Stream.StreamEnd.{Fault};
 ghost use Rattle.pwg_definitions.specs.Stream.{pages_from};
 ghost use Rattle.pwg_definitions.specs.Limits.{header_length, most_pages};
@@ -32,7 +33,8 @@ fn refuse<T>(page: u32, cause: InputCause) -> Result<T, StreamStop>
 
 // The header that the bytes begin with, if they are as many.
 fn first_header(bytes: &[u8]) -> Option<&[u8; HEADER_LEN]>
-    ensures { MatchOption result (length bytes.now < header_length) (λ header. (header.now ≡ take header_length bytes.now) × (header_length ≤ length bytes.now)) }
+    ensures { MatchOption result (length bytes.now < header_length)
+        (λ header. (header.now ≡ take header_length bytes.now) × (header_length ≤ length bytes.now)) }
 {
     let (header, _behind) = bytes.split_first_chunk()?;
     Some(header)
@@ -46,9 +48,13 @@ pub fn read_page_header<S: Source>(
     want: Wanted,
 ) -> Result<Option<PageForm>, StreamStop>
     requires { pages ≤ most_pages }
-    ensures form { IfOk result (λ o. IfSome o (GivesHeader want (text_behind unread.old (S.left s.old)) (text_behind unread.new (S.left s.new)))) }
+    ensures form { IfOk result
+        (λ o. IfSome o (GivesHeader want (text_behind unread.old (S.left s.old))
+        (text_behind unread.new (S.left s.new)))) }
     ensures number { IfOk result (λ o. IsSome o → pages < most_pages) }
-    ensures none { IfOk result (λ o. IfNone o (IsAtEnd (text_behind unread.old (S.left s.old)) × IsAtEnd (text_behind unread.new (S.left s.new)))) }
+    ensures none { IfOk result
+        (λ o. IfNone o (IsAtEnd (text_behind unread.old (S.left s.old))
+        × IsAtEnd (text_behind unread.new (S.left s.new)))) }
     ensures input { OnInput result (λ page line cause. IfSome (text_behind unread.old (S.left s.old)) (λ text.
         pages_from want (most_pages - pages) (pages + 1) text ≡ record { pages = []; end = Fault page line cause })) }
     ensures place { OnInput result (λ page line cause. (page ≡ pages + 1) × (line ≡ 0)) }

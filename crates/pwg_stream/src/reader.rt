@@ -43,13 +43,15 @@ fn stop_at(page: u32, line: u32, fault: GroupStop) -> StreamStop
 }
 
 impl PageReader {
-    ghost use Rattle.pwg_stream.specs.Reading.{BeginsPage, GivesLines, HasLineFault, form_of, has_ended, line_of, lines_left_of, page_of, stop_of, text_of};
+    ghost use Rattle.pwg_stream.specs.Reading.{BeginsPage, GivesLines, HasLineFault, form_of, has_ended, line_of};
+    ghost use Rattle.pwg_stream.specs.Reading.{lines_left_of, page_of, stop_of, text_of};
     ghost use Rattle.pwg_stream.specs.Stops.{OnInput};
     ghost use Rattle.unread_bytes.specs.Text.{UsesSome};
     ghost use Rattle.pwg_stream.specs.declared.stops.StreamStop.{StreamStop};
     ghost use Rattle.pwg_stream.specs.declared.stops.StreamStop.TheVariants as stop;
     ghost use Rattle.std.specs.Io.KnownBytes.{Consumes, IsAtEnd};
-    ghost use Rattle.std.specs.Prelude.{IfErr, IfNone, IfOk, IfSome, IsErrOf, OnErr, OnOk, Some, [], false, length, true, ◌<◌, ◌-◌};
+    ghost use Rattle.std.specs.Prelude.{IfErr, IfNone, IfOk, IfSome, IsErrOf, OnErr, OnOk, Some, [], false, length};
+    ghost use Rattle.std.specs.Prelude.{true, ◌<◌, ◌-◌};
     ghost use Rattle.pwg_definitions.specs.Header.{line_bytes, row_of};
     ghost use Rattle.pwg_definitions.specs.Stream.StreamEnd.{Fault};
     ghost use Rattle.pwg_definitions.specs.Stream.{pages_from, stream, sync_word};
@@ -60,7 +62,8 @@ impl PageReader {
     /// A reader of the source's pages: it allocates its buffer and reads the sync word.
     pub fn begin<S: Source>(alloc: Global, s: &mut S) -> Result<PageReader, StreamStop>
         ensures sync { IfOk result (λ reader. Consumes (S.left s.old) (text_of reader (S.left s.new)) sync_word) }
-        ensures none { IfOk result (λ reader. (page_of reader ≡ 0) × (lines_left_of reader ≡ 0) × (has_ended reader ≡ false)) }
+        ensures none { IfOk result (λ reader. (page_of reader ≡ 0) × (lines_left_of reader ≡ 0)
+            × (has_ended reader ≡ false)) }
         ensures going { IfOk result (λ reader. stop_of reader ≡ None) }
         ensures input { OnInput result (λ page line cause. IfSome (S.left s.old) (λ bytes.
             (want : Wanted) → stream want bytes ≡ record { pages = []; end = Fault page line cause })) }
@@ -95,10 +98,17 @@ impl PageReader {
         requires tallest { want.most_height ≤ most_rows }
 
         ensures page { IfOk result (λ o. IfSome o (BeginsPage want self.old self.new (S.left s.old) (S.left s.new))) }
-        ensures none { has_ended self.old ≡ false → IfOk result (λ o. IfNone o (IsAtEnd (text_of self.old (S.left s.old)) × IsAtEnd (text_of self.new (S.left s.new)))) }
-        ensures input { stop_of self.old ≡ None → OnInput result (λ page line cause. IfSome (text_of self.old (S.left s.old)) (λ text.
-            pages_from want (most_pages - page_of self.old) (page_of self.old + 1) text ≡ record { pages = []; end = Fault page line cause })) }
-        ensures place { stop_of self.old ≡ None → OnInput result (λ page line cause. (page ≡ page_of self.old + 1) × (line ≡ 0)) }
+        ensures none { has_ended self.old ≡ false
+            → IfOk result (λ o. IfNone o (IsAtEnd (text_of self.old (S.left s.old))
+            × IsAtEnd (text_of self.new (S.left s.new)))) }
+        ensures input { stop_of self.old ≡ None
+            → OnInput result (λ page line cause. IfSome (text_of self.old (S.left s.old)) (λ text.
+            pages_from want (most_pages - page_of self.old) (page_of self.old + 1) text ≡ record {
+              pages = [];
+              end = Fault page line cause;
+            })) }
+        ensures place { stop_of self.old ≡ None
+            → OnInput result (λ page line cause. (page ≡ page_of self.old + 1) × (line ≡ 0)) }
         ensures read { stop_of self.old ≡ None → IsErrOf result stop.Read → Rose (S.faults s.old) (S.faults s.new) }
 
         ensures used { UsesSome (text_of self.old (S.left s.old)) (text_of self.new (S.left s.new)) }
@@ -111,9 +121,11 @@ impl PageReader {
         // A stop is answered by each later call, and so is the end.
         ensures going { OnOk result (stop_of self.new ≡ None) }
         ensures stop { IfErr result (λ stop. stop_of self.new ≡ Some stop) }
-        ensures again { (stop : StreamStop) → stop_of self.old ≡ Some stop → (result ≡ Err stop) × (self.new ≡ self.old) × (s.new ≡ s.old) }
+        ensures again { (stop : StreamStop) → stop_of self.old ≡ Some stop → (result ≡ Err stop) × (self.new ≡ self.old)
+            × (s.new ≡ s.old) }
         ensures end { IfOk result (λ o. IfNone o (has_ended self.new ≡ true)) }
-        ensures end_again { has_ended self.old ≡ true → stop_of self.old ≡ None → (result ≡ Ok None) × (self.new ≡ self.old) × (s.new ≡ s.old) }
+        ensures end_again { has_ended self.old ≡ true → stop_of self.old ≡ None → (result ≡ Ok None)
+            × (self.new ≡ self.old) × (s.new ≡ s.old) }
     {
         if let Some(stop) = self.stop {
             return Err(stop);
@@ -147,10 +159,14 @@ impl PageReader {
         requires lowest { 1 ≤ want.least_height }
         requires tallest { want.most_height ≤ most_rows }
         ensures page { IfOk result (λ o. IfSome o (BeginsPage want self.old self.new (S.left s.old) (S.left s.new))) }
-        ensures none { IfOk result (λ o. IfNone o (IsAtEnd (text_of self.old (S.left s.old)) × IsAtEnd (text_of self.new (S.left s.new)))) }
+        ensures none { IfOk result
+            (λ o. IfNone o (IsAtEnd (text_of self.old (S.left s.old)) × IsAtEnd (text_of self.new (S.left s.new)))) }
         ensures going { stop_of self.new ≡ None }
         ensures input { OnInput result (λ page line cause. IfSome (text_of self.old (S.left s.old)) (λ text.
-            pages_from want (most_pages - page_of self.old) (page_of self.old + 1) text ≡ record { pages = []; end = Fault page line cause })) }
+            pages_from want (most_pages - page_of self.old) (page_of self.old + 1) text ≡ record {
+              pages = [];
+              end = Fault page line cause;
+            })) }
         ensures place { OnInput result (λ page line cause. (page ≡ page_of self.old + 1) × (line ≡ 0)) }
         ensures read { IsErrOf result stop.Read → Rose (S.faults s.old) (S.faults s.new) }
         ensures used { UsesSome (text_of self.old (S.left s.old)) (text_of self.new (S.left s.new)) }
@@ -210,7 +226,8 @@ impl PageReader {
         // A stop is answered by each later call.
         ensures going { OnOk result (stop_of self.new ≡ None) }
         ensures stop { IfErr result (λ stop. stop_of self.new ≡ Some stop) }
-        ensures again { (stop : StreamStop) → stop_of self.old ≡ Some stop → (result ≡ Err stop) × (self.new ≡ self.old) × (s.new ≡ s.old) }
+        ensures again { (stop : StreamStop) → stop_of self.old ≡ Some stop → (result ≡ Err stop) × (self.new ≡ self.old)
+            × (s.new ≡ s.old) }
     {
         if let Some(stop) = self.stop {
             return Err(stop);

@@ -8,7 +8,8 @@ use weave_base::{Failed, Memory};
 /// Why no page or no line is given.
 #[derive(Clone, Copy, Debug, PartialEq, Eq)]
 pub enum StreamStop {
-    /// The stream has a fault here. Pages and lines are counted from 1; page 0 is the sync word, line 0 a page's header.
+    /// The stream has a fault here. Pages and lines are counted from 1; page 0 is the sync word, line 0 a page's
+    /// header.
     Input {
         page: u32,
         line: u32,

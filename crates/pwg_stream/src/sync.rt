@@ -16,7 +16,8 @@ use weave_base::Source;
 
 /// Reads the sync word.
 pub fn read_sync<S: Source>(unread: &mut Unread, s: &mut S) -> Result<(), StreamStop>
-    ensures ok { OnOk result (Consumes (text_behind unread.old (S.left s.old)) (text_behind unread.new (S.left s.new)) sync_word) }
+    ensures ok { OnOk result
+        (Consumes (text_behind unread.old (S.left s.old)) (text_behind unread.new (S.left s.new)) sync_word) }
     ensures input { OnInput result (λ page line cause. IfSome (text_behind unread.old (S.left s.old)) (λ text.
         (want : Wanted) → stream want text ≡ record { pages = []; end = Fault page line cause })) }
     ensures place { OnInput result (λ page line cause. (page ≡ 0) × (line ≡ 0)) }

@@ -1,5 +1,6 @@
 -- An edge handed on is the edge handed in, and an edge that does not exist is 0.
-use Rattle.std.proofs.Common.{ℕ, ℤ, pos, ◌≡◌, ◌+◌, ◌-◌, ◌*◌, ◌<◌, ◌≤◌, ◌↔◌, ◌∙◌, ap, refl, sym, arith, List, get_or, slice_index_or, replicate, inl, inr}
+use Rattle.std.proofs.Common.{ℕ, ℤ, pos, ◌≡◌, ◌+◌, ◌-◌, ◌*◌, ◌<◌, ◌≤◌, ◌↔◌, ◌∙◌, ap, refl, sym, arith, List, get_or, slice_index_or}
+use Rattle.std.proofs.Common.{replicate, inl, inr}
 use Rattle.std.proofs.lemmas.Bool.{cases_lt}
 use Rattle.diffusion_definitions.specs.Diffusion.{Errors, Plane, Solves, Table}
 use Rattle.tile_shape.specs.Geometry.{IsNeeded, IsReceiver, IsTile, columns_of, first_offset, first_row}
@@ -11,17 +12,24 @@ use Rattle.tile_edges.specs.Edges.{Holds, IsGiven, IsOnBoard, IsPlaneOf, IsTaken
 use Rattle.tile_edges.proofs.Places.{held, moved, nothing}
 
 pub given-taken : (e : Errors) (d : Dir) (from to : Place) (xs : List ℤ) → IsReceiver d from to → IsGiven e d from xs → IsTaken e d to xs
-given-taken e Right from to xs receiver h = held e from.j 2 (64 * from.c + 64) to.j 2 (64 * to.c) 32 6 xs (omega (arith, receiver.1)) (omega (arith, receiver.0)) h
-given-taken e Bottom from to xs receiver h = held e from.j 32 (64 * from.c + 6) to.j 0 (64 * to.c + 6) 2 64 xs (omega (arith, receiver.1)) (omega (arith, receiver.0)) h
-given-taken e Corner from to xs receiver h = held e from.j 32 (64 * from.c + 64) to.j 0 (64 * to.c) 2 6 xs (omega (arith, receiver.1)) (omega (arith, receiver.0)) h
+given-taken e Right from to xs receiver h =
+    held e from.j 2 (64 * from.c + 64) to.j 2 (64 * to.c) 32 6 xs (omega (arith, receiver.1)) (omega (arith, receiver.0)) h
+given-taken e Bottom from to xs receiver h =
+    held e from.j 32 (64 * from.c + 6) to.j 0 (64 * to.c + 6) 2 64 xs (omega (arith, receiver.1)) (omega (arith, receiver.0)) h
+given-taken e Corner from to xs receiver h =
+    held e from.j 32 (64 * from.c + 64) to.j 0 (64 * to.c) 2 6 xs (omega (arith, receiver.1)) (omega (arith, receiver.0)) h
 
 pub taken-given : (e : Errors) (d : Dir) (from to : Place) (xs : List ℤ) → IsReceiver d from to → IsTaken e d to xs → IsGiven e d from xs
-taken-given e Right from to xs receiver h = held e to.j 2 (64 * to.c) from.j 2 (64 * from.c + 64) 32 6 xs (omega (arith, receiver.1)) (omega (arith, receiver.0)) h
-taken-given e Bottom from to xs receiver h = held e to.j 0 (64 * to.c + 6) from.j 32 (64 * from.c + 6) 2 64 xs (omega (arith, receiver.1)) (omega (arith, receiver.0)) h
-taken-given e Corner from to xs receiver h = held e to.j 0 (64 * to.c) from.j 32 (64 * from.c + 64) 2 6 xs (omega (arith, receiver.1)) (omega (arith, receiver.0)) h
+taken-given e Right from to xs receiver h =
+    held e to.j 2 (64 * to.c) from.j 2 (64 * from.c + 64) 32 6 xs (omega (arith, receiver.1)) (omega (arith, receiver.0)) h
+taken-given e Bottom from to xs receiver h =
+    held e to.j 0 (64 * to.c + 6) from.j 32 (64 * from.c + 6) 2 64 xs (omega (arith, receiver.1)) (omega (arith, receiver.0)) h
+taken-given e Corner from to xs receiver h =
+    held e to.j 0 (64 * to.c) from.j 32 (64 * from.c + 64) 2 6 xs (omega (arith, receiver.1)) (omega (arith, receiver.0)) h
 
 -- left of the first column there are no pixels
-no_left : (k : Table) (plane : Plane) (e : Errors) (to : Place) → Solves k plane e → to.c ≡ 0 → Holds e to.j 2 (64 * to.c) 32 6 (replicate 192 (pos 0))
+no_left : (k : Table) (plane : Plane) (e : Errors) (to : Place) → Solves k plane e → to.c ≡ 0
+    → Holds e to.j 2 (64 * to.c) 32 6 (replicate 192 (pos 0))
 no_left k plane e to solves first = record {
   at = λ t i a b.
       let n : ℕ = i + 2 - 2 * (2 + t) in
@@ -40,7 +48,8 @@ no_above k plane e to solves below last = record {
       ∙ sym (moved e _ (y + 2) _ (x + 4) (omega arith) (omega arith) ∙ solves.right y x (omega arith));
 }
 
-pub no_edge : (k : Table) (plane : Plane) (e : Errors) (s : Shape) (d : Dir) (to : Place) → Solves k plane e → IsPlaneOf s plane → IsTile s to
+pub no_edge : (k : Table) (plane : Plane) (e : Errors) (s : Shape) (d : Dir) (to : Place) → Solves k plane e → IsPlaneOf s plane
+    → IsTile s to
     → IsOnBoard d to → (IsNeeded s d to → ⊥) → IsTaken e d to (replicate (edge_length d) (pos 0))
 no_edge k plane e s Right to solves sized tile board none =
     no_left k plane e to solves (let c : ℕ = to.c in omega arith)
@@ -84,14 +93,20 @@ places_block e p row offset rows wide xs all_rows all_wide h = record {
 
 pub given_places : (e : Errors) (d : Dir) (p : Place) (xs : List ℤ) → IsGiven e d p xs ↔ HasPlaces e p (first_row d) (first_offset d) xs
 given_places e Right p xs = (
-  λ h. block_places e p 0 58 32 6 xs refl refl (held e p.j 2 (64 * p.c + 64) p.j (0 + 2) (64 * p.c + 58 + 6) 32 6 xs (omega arith) (omega arith) h),
-  λ h. held e p.j (0 + 2) (64 * p.c + 58 + 6) p.j 2 (64 * p.c + 64) 32 6 xs (omega arith) (omega arith) (places_block e p 0 58 32 6 xs refl refl h),
+  λ h. block_places e p 0 58 32 6 xs refl refl
+      (held e p.j 2 (64 * p.c + 64) p.j (0 + 2) (64 * p.c + 58 + 6) 32 6 xs (omega arith) (omega arith) h),
+  λ h. held e p.j (0 + 2) (64 * p.c + 58 + 6) p.j 2 (64 * p.c + 64) 32 6 xs (omega arith) (omega arith)
+      (places_block e p 0 58 32 6 xs refl refl h),
 )
 given_places e Bottom p xs = (
-  λ h. block_places e p 30 0 2 64 xs refl refl (held e p.j 32 (64 * p.c + 6) p.j (30 + 2) (64 * p.c + 0 + 6) 2 64 xs (omega arith) (omega arith) h),
-  λ h. held e p.j (30 + 2) (64 * p.c + 0 + 6) p.j 32 (64 * p.c + 6) 2 64 xs (omega arith) (omega arith) (places_block e p 30 0 2 64 xs refl refl h),
+  λ h. block_places e p 30 0 2 64 xs refl refl
+      (held e p.j 32 (64 * p.c + 6) p.j (30 + 2) (64 * p.c + 0 + 6) 2 64 xs (omega arith) (omega arith) h),
+  λ h. held e p.j (30 + 2) (64 * p.c + 0 + 6) p.j 32 (64 * p.c + 6) 2 64 xs (omega arith) (omega arith)
+      (places_block e p 30 0 2 64 xs refl refl h),
 )
 given_places e Corner p xs = (
-  λ h. block_places e p 30 58 2 6 xs refl refl (held e p.j 32 (64 * p.c + 64) p.j (30 + 2) (64 * p.c + 58 + 6) 2 6 xs (omega arith) (omega arith) h),
-  λ h. held e p.j (30 + 2) (64 * p.c + 58 + 6) p.j 32 (64 * p.c + 64) 2 6 xs (omega arith) (omega arith) (places_block e p 30 58 2 6 xs refl refl h),
+  λ h. block_places e p 30 58 2 6 xs refl refl
+      (held e p.j 32 (64 * p.c + 64) p.j (30 + 2) (64 * p.c + 58 + 6) 2 6 xs (omega arith) (omega arith) h),
+  λ h. held e p.j (30 + 2) (64 * p.c + 58 + 6) p.j 32 (64 * p.c + 64) 2 6 xs (omega arith) (omega arith)
+      (places_block e p 30 58 2 6 xs refl refl h),
 )

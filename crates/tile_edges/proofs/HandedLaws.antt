@@ -23,7 +23,8 @@ from_tile e s top edges d from to xs handed right tile receiver =
     subst P (sym (handed.given from tile receiver)) (given-taken e d from to (edges d from) receiver (right from tile receiver))
 
 -- an edge that does not exist
-from_none : (k : Table) (plane : Plane) (e : Errors) (s : Shape) (top : List (List ℤ)) (edges : Dir → Place → List ℤ) (d : Dir) (to : Place) (xs : List ℤ)
+from_none : (k : Table) (plane : Plane) (e : Errors) (s : Shape) (top : List (List ℤ)) (edges : Dir → Place → List ℤ) (d : Dir) (to : Place)
+    (xs : List ℤ)
     → Solves k plane e → IsPlaneOf s plane → IsTile s to → IsHanded s top edges d to xs
     → IsOnBoard d to → (IsNeeded s d to → ⊥) → IsTaken e d to xs
 from_none k plane e s top edges d to xs solves sized tile handed board none =
@@ -37,7 +38,8 @@ copy_above e top to xs below first copy =
     held e 0 0 (64 * to.c + 6) to.j 0 (64 * to.c + 6) 2 64 xs (omega (arith, first)) (omega arith)
     (record { at = λ t i a b. copy.at (64 * t + i) (omega arith) ∙ (top_above e top to.c below).at t i a b })
 
-pub handed_right : (k : Table) (plane : Plane) (e : Errors) (s : Shape) (top : List (List ℤ)) (edges : Dir → Place → List ℤ) (d : Dir) (to : Place) (xs : List ℤ)
+pub handed_right : (k : Table) (plane : Plane) (e : Errors) (s : Shape) (top : List (List ℤ)) (edges : Dir → Place → List ℤ) (d : Dir)
+    (to : Place) (xs : List ℤ)
     → Solves k plane e → IsPlaneOf s plane → IsBelow top e → IsTile s to → IsHanded s top edges d to xs
     → ((from : Place) → IsTile s from → IsReceiver d from to → IsGiven e d from (edges d from)) → IsTaken e d to xs
 handed_right k plane e s top edges Right to xs solves sized below tile handed right = elim (cases_lt 0 to.c) [

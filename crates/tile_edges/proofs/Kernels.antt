@@ -1,5 +1,6 @@
 -- The places of the shares of a kernel's table.
-use Rattle.std.proofs.Common.{ℕ, ℤ, pos, suc, zero, ◌≡◌, ◌+◌, ◌-◌, ◌*◌, ◌+ℤ◌, ◌*ℤ◌, ◌<◌, ◌≤◌, ◌∙◌, ap, refl, sym, arith, List, [], ◌∷◌, length, slice_index, inl, inr}
+use Rattle.std.proofs.Common.{ℕ, ℤ, pos, suc, zero, ◌≡◌, ◌+◌, ◌-◌, ◌*◌, ◌+ℤ◌, ◌*ℤ◌, ◌<◌, ◌≤◌, ◌∙◌, ap, refl, sym, arith, List, [], ◌∷◌}
+use Rattle.std.proofs.Common.{length, slice_index, inl, inr}
 use Rattle.std.proofs.lemmas.Bool.{cases_lt}
 use Rattle.std.proofs.lemmas.Int.{ints}
 use Rattle.std.specs.Int.{int_div_euclid}
@@ -31,7 +32,8 @@ pub record IsNarrow (k : Table) : Type 0 where
   pub below : length k.below ≤ 5
   pub below2 : length k.below2 ≤ 5
 
-has_share-near : (shares : List ℕ) (n reach most : ℕ) → length shares ≤ most → HasShare shares n reach → (n ≤ reach) × (reach + 1 ≤ n + most)
+has_share-near : (shares : List ℕ) (n reach most : ℕ) → length shares ≤ most → HasShare shares n reach → (n ≤ reach)
+    × (reach + 1 ≤ n + most)
 has_share-near shares n reach most few has =
     let within : has.share < length shares = within_at shares has.share has.some in
     (omega (arith, has.place), omega (arith, has.place))
@@ -58,7 +60,8 @@ pub record IsFull (k : Table) : Type 0 where
   pub all_below : AreAllGiven k.below
   pub all_below2 : AreAllGiven k.below2
 
-share_at : (shares : List ℕ) (n reach most : ℕ) → AreAllGiven shares → length shares ≡ most → n ≤ reach → reach + 1 ≤ n + most → HasShare shares n reach
+share_at : (shares : List ℕ) (n reach most : ℕ) → AreAllGiven shares → length shares ≡ most → n ≤ reach → reach + 1 ≤ n + most
+    → HasShare shares n reach
 share_at shares n reach most all count near far = record {
   share = reach - n;
   some = given_at shares (reach - n) all (omega arith);
@@ -70,7 +73,10 @@ reads_gives k x y m n full reads = elim reads [
   | inl same ↦ inl (same.0, share_at k.right n (x + 3) 2 full.all_right full.right same.2 (omega (arith, same.1)))
   | inr above ↦ elim (cases_lt y m) [
     | inl one ↦ inr (inl (omega (arith, above.1), share_at k.below n (x + 6) 5 full.all_below full.below above.3 (omega (arith, above.2))))
-    | inr two ↦ inr (inr (omega (arith, above.0), share_at k.below2 n (x + 6) 5 full.all_below2 full.below2 above.3 (omega (arith, above.2))))
+    | inr two ↦ inr (inr (
+      omega (arith, above.0),
+      share_at k.below2 n (x + 6) 5 full.all_below2 full.below2 above.3 (omega (arith, above.2)),
+    ))
   ]
 ]
 

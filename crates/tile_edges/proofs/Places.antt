@@ -29,7 +29,8 @@ pub place_has : (e : Errors) (p : Place) (r o x y : ℕ) → IsAt p r o x y → 
 place_has e p r o x y at = moved e _ _ _ _ (omega (arith, at.down)) (omega (arith, at.across))
 
 -- where a place has no pixel of the plane, the error is 0
-pub place_without : (k : Table) (plane : Plane) (e : Errors) (s : Shape) (p : Place) (r o : ℕ) → Solves k plane e → IsPlaneOf s plane → r < 32 → o < 64
+pub place_without : (k : Table) (plane : Plane) (e : Errors) (s : Shape) (p : Place) (r o : ℕ) → Solves k plane e → IsPlaneOf s plane
+    → r < 32 → o < 64
     → ((x y : ℕ) → IsAt p r o x y → IsPixel s x y → ⊥) → skewed e p.j (r + 2) (64 * p.c + o + 6) ≡ pos 0
 place_without k plane e s p r o solves sized row_in offset_in none =
     let y : ℕ = 32 * p.j + r in

@@ -1,5 +1,6 @@
 -- The edges of the first band are the top's, and the bottom edges of a band are the top of the rows below it.
-use Rattle.std.proofs.Common.{ℕ, ℤ, pos, ◌≡◌, ◌+◌, ◌-◌, ◌*◌, ◌/◌, ◌%◌, ◌<◌, ◌∙◌, ap, refl, sym, arith, List, [], get_or, replicate, inl, inr}
+use Rattle.std.proofs.Common.{ℕ, ℤ, pos, ◌≡◌, ◌+◌, ◌-◌, ◌*◌, ◌/◌, ◌%◌, ◌<◌, ◌∙◌, ap, refl, sym, arith, List, [], get_or, replicate, inl}
+use Rattle.std.proofs.Common.{inr}
 use Rattle.std.proofs.lemmas.Bool.{cases_lt}
 use Rattle.std.proofs.lemmas.List.{get_or_past}
 use Rattle.diffusion_definitions.specs.Diffusion.{Errors, Plane, Solves, Table, errors, on, rest}
@@ -23,7 +24,8 @@ top_at edges t n c o same offset_in =
     ap (λ m. get_or (get_or edges m []) (64 * t + u % 64) (pos 0)) column
     ∙ ap (λ m. get_or (get_or edges c []) (64 * t + m) (pos 0)) offset
 
-pub top_above : (e : Errors) (edges : List (List ℤ)) (c : ℕ) → IsBelow edges e → IsAbove e (record { c = c; j = 0 }) (get_or edges (c + 1) [])
+pub top_above : (e : Errors) (edges : List (List ℤ)) (c : ℕ) → IsBelow edges e
+    → IsAbove e (record { c = c; j = 0 }) (get_or edges (c + 1) [])
 top_above e edges c below = record {
   at = λ t i a b.
       let n : ℕ = 64 * c + 6 + i + 2 - 2 * t in
@@ -91,9 +93,11 @@ slab_below k p top s edges j sized bottoms y n =
 
 pub slab_dots_below : (k : Table) (p : Plane) (top : Errors) (s : Shape) (edges : List (List ℤ)) (j : ℕ) → IsPlaneOf s p
     → AreBottoms s (errors k p top) j edges
-    → (y x : ℕ) → on k (rest (32 * (j + 1)) p) (errors k (rest (32 * (j + 1)) p) (top_of edges)) y x ≡ on k p (errors k p top) (32 * (j + 1) + y) x
+    → (y x : ℕ) → on k (rest (32 * (j + 1)) p) (errors k (rest (32 * (j + 1)) p) (top_of edges)) y x
+    ≡ on k p (errors k p top) (32 * (j + 1) + y) x
 slab_dots_below k p top s edges j sized bottoms =
-    slab_dots k p (errors k p top) (errors k (rest (32 * (j + 1)) p) (top_of edges)) (32 * (j + 1)) (slab_below k p top s edges j sized bottoms)
+    slab_dots k p (errors k p top) (errors k (rest (32 * (j + 1)) p) (top_of edges)) (32 * (j + 1))
+    (slab_below k p top s edges j sized bottoms)
 
 -- a page has no errors above it
 pub no_edges : (t n : ℕ) → top_of [] t n ≡ pos 0

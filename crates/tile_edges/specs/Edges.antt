@@ -6,8 +6,8 @@ use Rattle.tile_shape.specs.declared.tiles.Dir.TheVariants.{Right, Bottom, Corne
 use Rattle.tile_shape.specs.declared.tiles.Place.{Place}
 use Rattle.tile_shape.specs.declared.tiles.Shape.{Shape}
 
--- The errors of band j, skewed: row p counts from two rows above the band, and place u from six places left of column 0.
--- So row r of the band is r + 2, and offset o of column c is 64 c + o + 6. Where there is no pixel the error is 0.
+-- The errors of band j, skewed: row p counts from two rows above the band, and place u from six places left of column
+-- 0. So row r of the band is r + 2, and offset o of column c is 64 c + o + 6. Where there is no pixel the error is 0.
 abbrev pub skewed : Errors → ℕ → ℕ → ℕ → ℤ
 skewed e j p u = e (32 * j + p) (u + 2 - 2 * p)
 

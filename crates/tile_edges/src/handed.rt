@@ -14,5 +14,6 @@ pub fn what_is_handed_is_right()
     ensures { (k : Table) (plane : Plane) (e : Errors) (s : Shape) (top : List (List ℤ)) (edges : Dir → Place → List ℤ)
         (d : Dir) (to : Place) (xs : List ℤ)
         → Solves k plane e → IsPlaneOf s plane → IsBelow top e → IsTile s to → IsHanded s top edges d to xs
-        → ((from : Place) → IsTile s from → IsReceiver d from to → IsGiven e d from (edges d from)) → IsTaken e d to xs }
+        → ((from : Place) → IsTile s from → IsReceiver d from to → IsGiven e d from (edges d from))
+        → IsTaken e d to xs }
 {}

@@ -11,8 +11,8 @@ pub fn pixels_are_read_at_their_places()
     ensures { (x y a b : ℕ) → (Reads x y a b ↔ ReadsAt x y (b + 2) (a + 4)) }
 {}
 
-/// Each share above 0 of a kernel's table gives an error at a place that is read. The tables of Jarvis, Judice and Ninke
-/// and of Stucki have a share for each such place.
+/// Each share above 0 of a kernel's table gives an error at a place that is read. The tables of Jarvis, Judice and
+/// Ninke and of Stucki have a share for each such place.
 pub fn each_share_gives_an_error_that_is_read()
     ensures floyd { (x y m n : ℕ) → GivesTo floyd x y m n → ReadsAt x y m n }
     ensures jarvis { (x y m n : ℕ) → (GivesTo jarvis x y m n ↔ ReadsAt x y m n) }
@@ -26,8 +26,8 @@ pub fn no_other_error_counts()
         → ((m n : ℕ) → GivesTo k x y m n → e m n ≡ f m n) → value_at k p e y x ≡ value_at k p f y x }
 {}
 
-/// Each error that a pixel reads is one that its tile has come to, or stands in one of the three edges that the tile was
-/// handed, whatever band it is in.
+/// Each error that a pixel reads is one that its tile has come to, or stands in one of the three edges that the tile
+/// was handed, whatever band it is in.
 pub fn each_error_is_in_the_tile_or_its_edges()
     ensures { (e : Errors) (p : Place) (row offset x y m n : ℕ) (left above corner : List ℤ)
         → IsAt p row offset x y → ReadsAt x y m n → IsLeft e p left → IsAbove e p above → IsCorner e p corner

@@ -16,7 +16,8 @@ pub fn the_first_band_has_the_edges_of_the_top()
 
 /// Where the top has no edge, what it hands to the first band is 0.
 pub fn an_edge_that_the_top_has_not_is_zero()
-    ensures above { (e : Errors) (edges : List (List ℤ)) (c : ℕ) → IsBelow edges e → slice_index_or edges (c + 1) [] ≡ []
+    ensures above { (e : Errors) (edges : List (List ℤ)) (c : ℕ) → IsBelow edges e
+        → slice_index_or edges (c + 1) [] ≡ []
         → IsAbove e (record { c = c; j = 0 }) (replicate 128 (pos 0)) }
     ensures corner { (e : Errors) (edges : List (List ℤ)) (c : ℕ) → IsBelow edges e → slice_index_or edges c [] ≡ []
         → IsCorner e (record { c = c; j = 0 }) (replicate 12 (pos 0)) }
@@ -33,8 +34,8 @@ pub fn the_bottom_edges_are_the_top_of_the_rest()
         → Solves k p e → IsPlaneOf s p → AreBottoms s e j edges → IsBelow edges (λ t. e (32 * (j + 1) + t)) }
 {}
 
-/// So the rows below a band are diffused as a plane of their own, below the bottom edges of the band: its errors and its
-/// dots are those of the whole plane.
+/// So the rows below a band are diffused as a plane of their own, below the bottom edges of the band: its errors and
+/// its dots are those of the whole plane.
 pub fn a_slab_is_diffused_below_bottom_edges()
     ensures errors { (k : Table) (p : Plane) (top : Errors) (s : Shape) (edges : List (List ℤ)) (j : ℕ)
         → IsPlaneOf s p → AreBottoms s (errors k p top) j edges

@@ -1,5 +1,5 @@
--- The geometry of tiles. A band is 32 rows of a window. Row r of a band is moved right by 2 r pixels, and each 64 of the
--- columns that this makes are a tile: so what a pixel reads in its own band stands in its own column or left of it.
+-- The geometry of tiles. A band is 32 rows of a window. Row r of a band is moved right by 2 r pixels, and each 64 of
+-- the columns that this makes are a tile: so what a pixel reads in its own band stands in its own column or left of it.
 use Rattle.std.specs.Prelude.{ℕ, ◌≡◌, ◌+◌, ◌*◌, ◌<◌, ◌≤◌, ◌⊎◌}
 use Rattle.std.specs.Int.{div_ceil}
 use Rattle.pwg_definitions.specs.Limits.{most_columns, most_rows}

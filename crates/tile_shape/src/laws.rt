@@ -1,7 +1,8 @@
 //! The laws of the geometry, each as the contract of an empty function: the check proves what it says of the
 //! definitions.
 ghost use Rattle.std.specs.Prelude.{◌*◌, ◌+◌, ◌-◌, ◌<◌, ◌≡◌, ◌≤◌, ◌⊎◌, ◌↔◌, ℕ};
-ghost use Rattle.tile_shape.specs.Geometry.{ComesBy, IsIn, IsNeeded, IsPixel, IsReceiver, IsShape, IsTile, Reads, bands_of, columns_of};
+ghost use Rattle.tile_shape.specs.Geometry.{ComesBy, IsIn, IsNeeded, IsPixel, IsReceiver, IsShape, IsTile, Reads};
+ghost use Rattle.tile_shape.specs.Geometry.{bands_of, columns_of};
 ghost use Rattle.tile_shape.specs.declared.tiles.Dir.{Dir};
 ghost use Rattle.tile_shape.specs.declared.tiles.Place.{Place};
 ghost use Rattle.tile_shape.specs.declared.tiles.Shape.{Shape};

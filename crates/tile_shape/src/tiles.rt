@@ -41,7 +41,8 @@ pub enum Dir {
 }
 
 impl Shape {
-    ghost use Rattle.tile_shape.specs.Geometry.{IsIn, IsNeeded, IsPixel, IsReceiver, IsShape, IsTile, bands_of, columns_of};
+    ghost use Rattle.tile_shape.specs.Geometry.{IsIn, IsNeeded, IsPixel, IsReceiver, IsShape, IsTile, bands_of};
+    ghost use Rattle.tile_shape.specs.Geometry.{columns_of};
     ghost use Rattle.std.specs.Prelude.{IfNone, IfSome, IsTrue, ◌↔◌, ◌≡◌};
 
     /// How many columns of tiles each band has: 1 to 129. A tile may have no pixel.

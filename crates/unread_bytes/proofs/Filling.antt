@@ -6,7 +6,8 @@ use Rattle.std.proofs.lemmas.List.{drop-take, drop-drop, take-append-le}
 use Rattle.std.proofs.lemmas.List.Edits.{take-paste}
 use Rattle.std.proofs.Math.Seq.{take-append-add}
 
-pub unread-long : (buffer : List ℕ) (start end : ℕ) → start ≤ end → end ≤ length buffer → length (take (end - start) (drop start buffer)) ≡ end - start
+pub unread-long : (buffer : List ℕ) (start end : ℕ) → start ≤ end → end ≤ length buffer
+    → length (take (end - start) (drop start buffer)) ≡ end - start
 unread-long buffer start end ordered inside = length-take-le (end - start) (drop start buffer) (omega (arith, length-drop start buffer))
 
 pub used_up : (buffer unread : List ℕ) (start end count : ℕ) → take (end - start) (drop start buffer) ≡ unread → start + count ≤ end
@@ -19,7 +20,8 @@ used_up buffer unread start end count is within =
     ∙ ap (λ k. drop count (take k (drop start buffer))) whole
     ∙ ap (drop count) is
 
-pub moved_front : (buffer unread : List ℕ) (start end : ℕ) → take (end - start) (drop start buffer) ≡ unread → start ≤ end → end ≤ length buffer
+pub moved_front : (buffer unread : List ℕ) (start end : ℕ) → take (end - start) (drop start buffer) ≡ unread → start ≤ end
+    → end ≤ length buffer
     → take (end - start) (paste buffer 0 (drop start buffer) (end - start)) ≡ unread
 moved_front buffer unread start end is ordered inside =
     let n : ℕ = end - start in
@@ -37,12 +39,14 @@ filled_behind front unread read rest kept count is long within =
     ∙ ap (λ xs. unread ++ xs) (take-append-le count read rest within)
 
 -- the buffer behind a read, of which the bytes before it were moved to its front; `shown` is the buffer at the read
-pub unread_behind : (buffer moved shown unread read items : List ℕ) (start end count room : ℕ) → take (end - start) (drop start buffer) ≡ unread → start ≤ end → end ≤ length buffer
+pub unread_behind : (buffer moved shown unread read items : List ℕ) (start end count room : ℕ)
+    → take (end - start) (drop start buffer) ≡ unread → start ≤ end → end ≤ length buffer
     → moved ≡ paste buffer 0 (drop start buffer) (end - start) → shown ≡ moved → count ≤ length read
     → items ≡ put_mid (end - start) room shown read
     → take (end - start + count - 0) (drop 0 items) ≡ unread ++ take count read
 unread_behind buffer moved shown unread read items start end count room is ordered inside moved_is shown_is within items_are =
-    let kept : take (end - start) shown ≡ unread = ap (take (end - start)) (shown_is ∙ moved_is) ∙ moved_front buffer unread start end is ordered inside in
+    let kept : take (end - start) shown ≡ unread = ap (take (end - start)) (shown_is ∙ moved_is)
+    ∙ moved_front buffer unread start end is ordered inside in
     let long : length unread ≡ end - start = ap length (sym is) ∙ unread-long buffer start end ordered inside in
     let same : end - start + count - 0 ≡ end - start + count = omega arith in
     ap (λ k. take k items) same

@@ -1,7 +1,8 @@
 //! The bytes that were taken of a source and are not yet used.
 ghost use Rattle.unread_bytes.specs.Text.{Grows, text_behind};
 ghost use Rattle.std.specs.Io.KnownBytes.{IsAtEnd, Keeps};
-ghost use Rattle.std.specs.Prelude.{IfOk, List, OnErr, OnOk, [], drop, length, slice_index, take, vec_len, ℕ, ◌-◌, ◌<◌, ◌≡◌, ◌≤◌};
+ghost use Rattle.std.specs.Prelude.{IfOk, List, OnErr, OnOk, [], drop, length, slice_index, take, vec_len, ℕ, ◌-◌, ◌<◌};
+ghost use Rattle.std.specs.Prelude.{◌≡◌, ◌≤◌};
 ghost use Rattle.weave_base.specs.Causes.{HasCause};
 
 use std::alloc::Global;

@@ -1,5 +1,6 @@
 -- What a read from memory gives, and what one write after another appends.
-use Rattle.std.proofs.Common.{◌≡◌, ℕ, ◌+◌, ◌-◌, ◌<◌, ◌≤◌, min, List, [], ◌++◌, length, take, drop, sym, ◌∙◌, ap, arith, length-take, length-drop, length-append, subst, Option}
+use Rattle.std.proofs.Common.{◌≡◌, ℕ, ◌+◌, ◌-◌, ◌<◌, ◌≤◌, min, List, [], ◌++◌, length, take, drop, sym, ◌∙◌, ap, arith, length-take}
+use Rattle.std.proofs.Common.{length-drop, length-append, subst, Option}
 use Rattle.std.proofs.lemmas.List.{take_all, length-take-le, take_at, drop-drop, drop_all, take-append-drop}
 use Rattle.std.proofs.Math.Seq.{take-add}
 use Rattle.std.proofs.KnownBytes.{Appends-trans}

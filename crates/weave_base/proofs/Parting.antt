@@ -37,12 +37,14 @@ on_err_anyway (Ok x) p = tt
 on_err_anyway (Err e) p = p
 
 -- the second write failed
-pub on_err_behind : {T E : Type 0} (r : Result T E) (a b d : Option (List ℕ)) (xs ys : List ℕ) → Appends a b xs → OnErr r (AppendsPart b d ys) → OnErr r (AppendsPart a d (xs ++ ys))
+pub on_err_behind : {T E : Type 0} (r : Result T E) (a b d : Option (List ℕ)) (xs ys : List ℕ) → Appends a b xs
+    → OnErr r (AppendsPart b d ys) → OnErr r (AppendsPart a d (xs ++ ys))
 on_err_behind (Ok x) a b d xs ys first p = tt
 on_err_behind (Err e) a b d xs ys first p = part_behind a b d xs ys first p
 
 -- the second write went well
-pub on_ok_behind : {T E : Type 0} (r : Result T E) (a b d : Option (List ℕ)) (xs ys : List ℕ) → Appends a b xs → OnOk r (Appends b d ys) → OnOk r (Appends a d (xs ++ ys))
+pub on_ok_behind : {T E : Type 0} (r : Result T E) (a b d : Option (List ℕ)) (xs ys : List ℕ) → Appends a b xs → OnOk r (Appends b d ys)
+    → OnOk r (Appends a d (xs ++ ys))
 on_ok_behind (Ok x) a b d xs ys first p = Appends-trans a b d xs ys first p
 on_ok_behind (Err e) a b d xs ys first p = tt
 

@@ -1,5 +1,6 @@
 -- The first file of a name, and the text of that name.
-use Rattle.std.proofs.Common.{◌≡◌, ◌<◌, ℕ, Bool, true, false, cond, List, [], ◌∷◌, map, length, find, Option, Some, None, refl, ◌∙◌, ap, sym, subst, string_bytes}
+use Rattle.std.proofs.Common.{◌≡◌, ◌<◌, ℕ, Bool, true, false, cond, List, [], ◌∷◌, map, length, find, Option, Some, None, refl, ◌∙◌, ap}
+use Rattle.std.proofs.Common.{sym, subst, string_bytes}
 use Rattle.std.specs.Option.{option_map, IsSomeAnd}
 use Rattle.std.specs.Str.{bytes_eq}
 use Rattle.weave_base.specs.Shelf.{NamedText, text_named}

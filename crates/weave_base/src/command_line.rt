@@ -1,5 +1,6 @@
 //! The words of a command line.
-ghost use Rattle.std.specs.Prelude.{IsTrue, List, OnErr, OnOk, Some, [], length, map, slice_get, string_bytes, vec_len, ℕ, ◌++◌, ◌<◌, ◌↔◌, ◌∷◌, ◌≡◌, ◌≤◌};
+ghost use Rattle.std.specs.Prelude.{IsTrue, List, OnErr, OnOk, Some, [], length, map, slice_get, string_bytes, vec_len};
+ghost use Rattle.std.specs.Prelude.{ℕ, ◌++◌, ◌<◌, ◌↔◌, ◌∷◌, ◌≡◌, ◌≤◌};
 ghost use Rattle.weave_base.specs.Words.{most_words};
 
 use crate::Memory;

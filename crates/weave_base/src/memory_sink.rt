@@ -1,7 +1,8 @@
 //! A sink in memory, which fails and comes short where it is told to.
 ghost use Rattle.std.specs.Io.{WritesAtMost};
 ghost use Rattle.std.specs.Io.KnownBytes.{WriteAppends};
-ghost use Rattle.std.specs.Prelude.{All, Contains, IfOk, IsErr, Some, [], if◌then◌else◌, is_ok, length, min, vec_capacity, vec_len, ◌-◌, ◌<◌, ◌↔◌, ◌⊎◌, ◌≡◌, ◌≤◌};
+ghost use Rattle.std.specs.Prelude.{All, Contains, IfOk, IsErr, Some, [], if◌then◌else◌, is_ok, length, min};
+ghost use Rattle.std.specs.Prelude.{vec_capacity, vec_len, ◌-◌, ◌<◌, ◌↔◌, ◌⊎◌, ◌≡◌, ◌≤◌};
 ghost use Rattle.weave_base.specs.Causes.{HasCause, next_count};
 ghost use Rattle.weave_base.specs.InMemory.{MemoryOutput, bytes_moved};
 

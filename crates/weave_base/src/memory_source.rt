@@ -1,7 +1,8 @@
 //! A source in memory, which fails and comes short where it is told to.
 ghost use Rattle.std.specs.Io.{ReadsAtMost};
 ghost use Rattle.std.specs.Io.KnownBytes.{ReadConsumes};
-ghost use Rattle.std.specs.Prelude.{All, Contains, IfOk, IsErr, Some, drop, if◌then◌else◌, is_ok, length, min, vec_len, ◌↔◌, ◌≡◌, ◌≤◌};
+ghost use Rattle.std.specs.Prelude.{All, Contains, IfOk, IsErr, Some, drop, if◌then◌else◌, is_ok, length, min, vec_len};
+ghost use Rattle.std.specs.Prelude.{◌↔◌, ◌≡◌, ◌≤◌};
 ghost use Rattle.weave_base.specs.Causes.{HasCause, next_count};
 ghost use Rattle.weave_base.specs.InMemory.{MemoryInput, bytes_moved};
 

@@ -36,7 +36,8 @@ one-reached round pitch number divides r =
 -- Euclid's algorithm by differences comes down to 1.
 euclid : (most m pitch a b : ℕ) → a + b ≤ most → IsCoprime a b → Reached (m + 1) pitch a → Reached (m + 1) pitch b → Reached (m + 1) pitch 1
 euclid most m pitch zero b few coprime ra rb = one-reached (m + 1) pitch b (coprime b (dvd-zero b) (dvd_refl b)) rb
-euclid most m pitch (suc a) zero few coprime ra rb = one-reached (m + 1) pitch (suc a) (coprime (suc a) (dvd_refl (suc a)) (dvd-zero (suc a))) ra
+euclid most m pitch (suc a) zero few coprime ra rb =
+    one-reached (m + 1) pitch (suc a) (coprime (suc a) (dvd_refl (suc a)) (dvd-zero (suc a))) ra
 euclid zero m pitch (suc a) (suc b) few coprime ra rb = absurd (omega arith)
 euclid (suc most) m pitch (suc a) (suc b) few coprime ra rb =
     elim (cases_lt (suc a) (suc b)) [

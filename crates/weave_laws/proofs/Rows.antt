@@ -1,5 +1,6 @@
 -- Which nozzle stands on a row in which pass. `place` counts rows from the first nozzle's place in the first pass.
-use Rattle.std.proofs.Common.{◌≡◌, ℕ, ◌+◌, ◌-◌, ◌*◌, ◌/◌, ◌%◌, ◌<◌, ◌≤◌, Bool, true, false, ◌&&◌, inl, inr, nat_lt, nat_le, if◌then◌else◌, None, Some, refl, sym, ◌∙◌, ap, arith}
+use Rattle.std.proofs.Common.{◌≡◌, ℕ, ◌+◌, ◌-◌, ◌*◌, ◌/◌, ◌%◌, ◌<◌, ◌≤◌, Bool, true, false, ◌&&◌, inl, inr, nat_lt, nat_le, if◌then◌else◌}
+use Rattle.std.proofs.Common.{None, Some, refl, sym, ◌∙◌, ap, arith}
 use Rattle.std.proofs.Math.Nat.{mod-eq_of_lt, mul-add-mod_self_right, mul-div_cancel, mul-le-mul_right}
 use Rattle.std.proofs.lemmas.Bool.{and_from, cases_lt, le-leb, leb-true, lt-ltb, ltb-true}
 use Rattle.std.proofs.lemmas.Nat.{div-add-mod', le-div, mod_below, mul-mod_first, mul-mod_second}
@@ -48,10 +49,12 @@ round-trip n pitch inverse k e =
     let once : k * 1 ≡ k = omega arith in
     sym (mul-mod_second k (inverse * pitch) n) ∙ ap (λ v. k * v % n) e ∙ mul-mod_second k 1 n ∙ ap (λ v. v % n) once
 
-pub nozzle-only : (n pitch inverse place t i : ℕ) → i < n → inverse * pitch % n ≡ 1 % n → t * n + i * pitch ≡ place → place * inverse % n ≡ i
+pub nozzle-only : (n pitch inverse place t i : ℕ) → i < n → inverse * pitch % n ≡ 1 % n → t * n + i * pitch ≡ place
+    → place * inverse % n ≡ i
 nozzle-only n pitch inverse place t i low e sum =
     let split : place * inverse ≡ t * inverse * n + i * (inverse * pitch) = omega (arith, ap (λ v. v * inverse) sum) in
-    ap (λ v. v % n) split ∙ mul-add-mod_self_right (t * inverse) n (i * (inverse * pitch)) ∙ round-trip n pitch inverse i e ∙ mod-eq_of_lt low
+    ap (λ v. v % n) split ∙ mul-add-mod_self_right (t * inverse) n (i * (inverse * pitch)) ∙ round-trip n pitch inverse i e
+    ∙ mod-eq_of_lt low
 
 pub pass-only : (n pitch place t i : ℕ) → 1 ≤ n → t * n + i * pitch ≡ place → (place - i * pitch) / n ≡ t
 pass-only n pitch place t i some sum =
@@ -87,7 +90,8 @@ place-is n pitch inverse place some e high =
     let low : i < n = mod_below (place * inverse) n (omega arith) in
     let under : i * pitch ≤ (n - 1) * pitch = mul-le-mul_right pitch (omega arith) in
     let regroup : place * inverse * pitch ≡ place * (inverse * pitch) = omega arith in
-    let same : i * pitch % n ≡ place % n = mul-mod_first (place * inverse) pitch n ∙ ap (λ v. v % n) regroup ∙ round-trip n pitch inverse place e in
+    let same : i * pitch % n ≡ place % n = mul-mod_first (place * inverse) pitch n ∙ ap (λ v. v % n) regroup
+    ∙ round-trip n pitch inverse place e in
     rounds n place (i * pitch) some (omega arith) same
 
 pub pass-low : (n pitch height t i y : ℕ) → 1 ≤ n → StandsOn n pitch height t i y → t < pass_count n pitch height
@@ -117,8 +121,12 @@ place-fires n pitch height row round step times first c low =
     let i : ℕ = (row + first) * times % round in
     let t : ℕ = (row + first - i * step) / round in
     let same : (round - 1) * step ≡ (n - 1) * pitch = ap (λ v. (v - 1) * step) c.round_is ∙ ap (λ v. (n - 1) * v) c.step_is in
-    let sum : t * round + i * step ≡ row + first = place-is round step times (row + first) c.some c.inverse_is (omega (arith, same, c.first_is)) in
-    row_under n pitch height t i row (record { sum = omega (arith, sum, same-sum n pitch round step times first t i c, c.first_is); low = low })
+    let sum : t * round + i * step ≡ row + first = place-is round step times (row + first) c.some c.inverse_is
+    (omega (arith, same, c.first_is)) in
+    row_under n pitch height t i row (record {
+      sum = omega (arith, sum, same-sum n pitch round step times first t i c, c.first_is);
+      low = low;
+    })
 
 pub place-only : (n pitch height row round step times first t i : ℕ) → Counts n pitch round step times first → i < n
     → nozzle_row n pitch height t i ≡ Some row
@@ -126,5 +134,6 @@ pub place-only : (n pitch height row round step times first t i : ℕ) → Count
 place-only n pitch height row round step times first t i c low e =
     let s : StandsOn n pitch height t i row = stands_on n pitch height t i row e in
     let sum : t * round + i * step ≡ row + first = omega (arith, s.sum, same-sum n pitch round step times first t i c, c.first_is) in
-    let nozzle : (row + first) * times % round ≡ i = nozzle-only round step times (row + first) t i (omega (arith, c.round_is)) c.inverse_is sum in
+    let nozzle : (row + first) * times % round ≡ i = nozzle-only round step times (row + first) t i (omega (arith, c.round_is))
+    c.inverse_is sum in
     (sym (ap (λ k. (row + first - k * step) / round) nozzle ∙ pass-only round step (row + first) t i c.some sum), sym nozzle)

@@ -83,7 +83,8 @@ impl Plan {
         requires { row < self.now.height }
         ensures pass { result.pass < pass_count self.now.nozzles self.now.pitch self.now.height }
         ensures nozzle { result.nozzle < self.now.nozzles }
-        ensures fires { nozzle_row self.now.nozzles self.now.pitch self.now.height result.pass result.nozzle ≡ Some row }
+        ensures fires { nozzle_row self.now.nozzles self.now.pitch self.now.height result.pass result.nozzle
+            ≡ Some row }
         ensures only { (t i : ℕ) → i < self.now.nozzles
             → nozzle_row self.now.nozzles self.now.pitch self.now.height t i ≡ Some row
             → (t ≡ result.pass) × (i ≡ result.nozzle) }

@@ -8,4 +8,5 @@ pub returns-clause-floor : goal.returns-clause-floor
 returns-clause-floor c = quotient_is c.args.parts c.args.divisor c.requires.some c.requires.most c.requires.parts
 
 pub returns-clause-in_range : goal.returns-clause-in_range
-returns-clause-in_range c = subst InRange (sym (returns-clause-floor c)) (quotient_in c.args.parts c.args.divisor c.requires.some c.requires.parts)
+returns-clause-in_range c =
+    subst InRange (sym (returns-clause-floor c)) (quotient_in c.args.parts c.args.divisor c.requires.some c.requires.parts)

@@ -25,4 +25,7 @@ returns-clause-parts c =
     c.row_parts-2.ensures.parts
 
 pub returns-clause-in_range : goal.returns-clause-in_range
-returns-clause-in_range c = parts_as _ _ _ (returns-clause-parts c) (weighted_in (table_from c.args.shares.now) c.args.errs.now.same c.args.errs.now.up1 c.args.errs.now.up2 c.requires.same c.requires.up1 c.requires.up2)
+returns-clause-in_range c =
+    parts_as _ _ _ (returns-clause-parts c)
+    (weighted_in (table_from c.args.shares.now) c.args.errs.now.same c.args.errs.now.up1 c.args.errs.now.up2 c.requires.same c.requires.up1
+    c.requires.up2)

@@ -14,7 +14,8 @@ pub loop-count-init : goal.loop-count-init
 loop-count-init c = apart_begin _ _
 
 pub loop-count-preserved : goal.loop-count-preserved
-loop-count-preserved c = apart_step _ _ _ _ _ c.loop-count.invariant (omega (arith, c.loop-count-test.true, c.min-most.ensures)) c.begins_equal.ensures
+loop-count-preserved c =
+    apart_step _ _ _ _ _ c.loop-count.invariant (omega (arith, c.loop-count-test.true, c.min-most.ensures)) c.begins_equal.ensures
     (take_all _ _ (omega (arith, length-drop c.loop-count.count c.args.row.now))) c.if-begins_equal.false
 
 pub returns-clause-is : goal.returns-clause-is

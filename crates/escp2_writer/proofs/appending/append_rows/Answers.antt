@@ -19,9 +19,18 @@ rows-preserved c =
     let left : c.args.head.m - c.rows.counter ≡ suc (c.args.head.m - (c.rows.counter + 1)) = omega arith in
     record {
       so_far = appends_step _ _ _ _ _ _ _ _ c.rows.invariant.so_far left
-          (c.append_row.ensures.items ∙ ap (λ bs. c.rows.out.items ++ canonical_row bs) (c.split_at.ensures.front ∙ ap (λ n. take n c.rows.rest.now) c.row_bytes-width.ensures.is))
+          (c.append_row.ensures.items
+          ∙ ap (λ bs. c.rows.out.items ++ canonical_row bs) (c.split_at.ensures.front
+          ∙ ap (λ n. take n c.rows.rest.now) c.row_bytes-width.ensures.is))
           (c.split_at.ensures.back ∙ ap (λ n. drop n c.rows.rest.now) c.row_bytes-width.ensures.is);
-      room = omega (arith, c.rows.invariant.room, c.append_row.ensures.most, c.append_row.ensures.capacity, c.split_at.ensures.front_len, c.split_at.ensures.back_len);
+      room = omega (
+        arith,
+        c.rows.invariant.room,
+        c.append_row.ensures.most,
+        c.append_row.ensures.capacity,
+        c.split_at.ensures.front_len,
+        c.split_at.ensures.back_len,
+      );
     }
 
 pub returns : goal.returns

@@ -9,6 +9,8 @@ returns-in-Raster-clause-spelled g c = canonical-spells _ _ c.requires.in_range 
 
 pub returns-in_ok-put_all-in_default-clause-part : goal.returns-in_ok-put_all-in_default-clause-part
 returns-in_ok-put_all-in_default-clause-part g c = elim c.in_default.branch [
-  | in_default-via-in-Raster+else-head-ne0 w ↦ two_part _ _ _ _ _ _ _ (search rules) c.in_ok-put_all-in_default.ensures.ok c.put_all-in_default.ensures.part
-  | in_default-via-in_default w ↦ two_part _ _ _ _ _ _ _ (search rules) c.in_ok-put_all-in_default.ensures.ok c.put_all-in_default.ensures.part
+  | in_default-via-in-Raster+else-head-ne0 w ↦ two_part _ _ _ _ _ _ _ (search rules) c.in_ok-put_all-in_default.ensures.ok
+      c.put_all-in_default.ensures.part
+  | in_default-via-in_default w ↦ two_part _ _ _ _ _ _ _ (search rules) c.in_ok-put_all-in_default.ensures.ok
+      c.put_all-in_default.ensures.part
 ]

@@ -21,7 +21,8 @@ rows-preserved g c =
     let left : c.args.head.m - c.rows.counter ≡ suc (c.args.head.m - (c.rows.counter + 1)) = omega arith in
     record {
       so_far = puts_step _ _ _ _ _ _ _ _ _ _ _ _ c.rows.invariant.so_far left c.in_ok-make_room.ensures.ok
-          (c.push_row.ensures ∙ ap (λ bs. gathered c.make_room.new.self ++ canonical_row bs) (c.split_at.ensures.front ∙ ap (λ n. take n c.rows.rest.now) c.row_bytes-width.ensures.is))
+          (c.push_row.ensures ∙ ap (λ bs. gathered c.make_room.new.self ++ canonical_row bs) (c.split_at.ensures.front
+          ∙ ap (λ n. take n c.rows.rest.now) c.row_bytes-width.ensures.is))
           (c.split_at.ensures.back ∙ ap (λ n. drop n c.rows.rest.now) c.row_bytes-width.ensures.is);
       later = omega (arith, c.rows.invariant.later, c.in_ok-make_room.ensures.cause.later);
     }
@@ -31,7 +32,9 @@ returns-in_err-make_room-clause-part g c =
     on_err_anyway _ (puts_part _ _ _ _ _ _ _ _ c.rows.invariant.so_far c.in_err-make_room.ensures.part)
 
 pub returns-clause-ok : goal.returns-clause-ok
-returns-clause-ok g c = two_ok _ _ _ _ _ _ _ (puts_end _ _ _ _ _ _ _ c.rows.invariant.so_far (omega arith)) c.rows.invariant.so_far.appends c.put.ensures.ok
+returns-clause-ok g c =
+    two_ok _ _ _ _ _ _ _ (puts_end _ _ _ _ _ _ _ c.rows.invariant.so_far (omega arith)) c.rows.invariant.so_far.appends c.put.ensures.ok
 
 pub returns-clause-part : goal.returns-clause-part
-returns-clause-part g c = two_part _ _ _ _ _ _ _ (puts_end _ _ _ _ _ _ _ c.rows.invariant.so_far (omega arith)) c.rows.invariant.so_far.appends c.put.ensures.part
+returns-clause-part g c =
+    two_part _ _ _ _ _ _ _ (puts_end _ _ _ _ _ _ _ c.rows.invariant.so_far (omega arith)) c.rows.invariant.so_far.appends c.put.ensures.part

@@ -5,7 +5,8 @@ use Rattle.job_lister.proofs.lister.list_job.Given as goal
 
 abbrev pub invariant-commands : goal.invariant-commands
 invariant-commands g l = record {
-  so_far : ListsSoFar l.feed l.gathered (g.S.Source.left l.fn.input) (text_of l.feed (g.S.Source.left l.input)) (g.K.Sink.held l.fn.out) (g.K.Sink.held l.out);
+  so_far : ListsSoFar l.feed l.gathered (g.S.Source.left l.fn.input) (text_of l.feed (g.S.Source.left l.input)) (g.K.Sink.held l.fn.out)
+      (g.K.Sink.held l.out);
   between : IsBetween l.feed;
   most : most_of l.feed ≡ l.fn.most;
   later : g.S.Source.faults l.fn.input ≤ g.S.Source.faults l.input;

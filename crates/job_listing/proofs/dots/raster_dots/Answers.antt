@@ -15,7 +15,8 @@ loop-i-preserved c =
     let wide : start + width - start ≡ width = omega arith in
     let is = rw (c.from-columns.ensures, c.from.ensures) at c.row_dots-sum.ensures.is in
     let row = is ∙ ap (λ n. on_count (take c.args.head.now.n (bits (take n (drop start c.args.rows.now))))) wide in
-    count_step c.args.head.now c.args.rows.now c.loop-i.i c.loop-i.sum c.row_dots-sum.result c.loop-i.invariant (omega arith) row (omega (arith, c.row_dots-sum.ensures.most))
+    count_step c.args.head.now c.args.rows.now c.loop-i.i c.loop-i.sum c.row_dots-sum.result c.loop-i.invariant (omega arith) row
+    (omega (arith, c.row_dots-sum.ensures.most))
 
 pub returns : goal.returns
 returns c = count_end c.args.head.now c.args.rows.now c.loop-i.i c.loop-i.sum c.loop-i.invariant (omega arith)

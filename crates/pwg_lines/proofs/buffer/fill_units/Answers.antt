@@ -4,10 +4,12 @@ use Rattle.pwg_lines.proofs.buffer.fill_units.Goals as goal
 
 pub returns-in-0-len1 : goal.returns-in-0-len1
 returns-in-0-len1 c =
-    byte_filled c.args.filled c.args.read c.args.count c.args.line.now c.args.others.now c.fill.new.self _ c.in-0-len1.is-0 c.in-0-len1.len_at_least
+    byte_filled c.args.filled c.args.read c.args.count c.args.line.now c.args.others.now c.fill.new.self _ c.in-0-len1.is-0
+    c.in-0-len1.len_at_least
     c.in-0-len1.len_below c.requires.fits (c.fill.ensures.after (λ y e. e))
 
 pub returns : goal.returns
 returns c =
-    units_filled c.args.filled c.args.read c.args.count _ c.args.line.now c.args.others.now c.copy_from_slice.new.self _ c.repeat_unit.new.bytes _ _
+    units_filled c.args.filled c.args.read c.args.count _ c.args.line.now c.args.others.now c.copy_from_slice.new.self _
+    c.repeat_unit.new.bytes _ _
     c.requires.some c.requires.fits (omega arith) c.copy_from_slice.ensures.after refl c.repeat_unit.ensures

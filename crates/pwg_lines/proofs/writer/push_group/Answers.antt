@@ -13,7 +13,8 @@ overflow_mul-rest c = omega (arith, c.in_ok-units.ensures.within)
 pub packets-preserved : goal.packets-preserved
 packets-preserved c =
     let some : 0 < length c.packets.rest.now = omega (arith, eqb-false _ _ (sym c.is_empty.ensures ∙ c.packets-test.true)) in
-    group_step c.args.unit c.args.more c.args.line.now _ _ c.packets.rest.now _ _ c.in_ok-units.units c.requires.unit c.packets.invariant some
+    group_step c.args.unit c.args.more c.args.line.now _ _ c.packets.rest.now _ _ c.in_ok-units.units c.requires.unit
+    c.packets.invariant some
     c.in_ok-units.ensures.ok c.in_ok-units.ensures.units c.in_ok-units.ensures.some c.in_ok-units.ensures.within
     (take_all _ _ (omega (arith, length-drop (c.in_ok-units.units * c.args.unit) c.packets.rest.now)))
 

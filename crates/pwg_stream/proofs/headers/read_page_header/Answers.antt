@@ -14,7 +14,9 @@ pub returns-in-None-clause-input : goal.returns-in-None-clause-input
 returns-in-None-clause-input g c =
     let some : 1 ≤ length c.fill.new.self = omega (arith, ap length c.bytes.ensures.bytes) in
     let short : length c.fill-2.new.self < header_length = omega (arith, c.in-None.ensures, ap length c.bytes-2.ensures.bytes) in
-    rw c.refuse-in-None.ensures (cut_header c.args.want c.args.pages _ _ _ c.fill.new.self c.fill-2.new.self c.fill.ensures.text some c.fill-2.ensures.text (omega arith) short (c.in_ok-fill-2.ensures.end short))
+    rw c.refuse-in-None.ensures
+    (cut_header c.args.want c.args.pages _ _ _ c.fill.new.self c.fill-2.new.self c.fill.ensures.text some c.fill-2.ensures.text
+    (omega arith) short (c.in_ok-fill-2.ensures.end short))
 
 pub use_up-requires : goal.use_up-requires
 use_up-requires g c = omega (arith, c.in-Some.ensures, ap length c.bytes-2.ensures.bytes)
@@ -22,8 +24,10 @@ use_up-requires g c = omega (arith, c.in-Some.ensures, ap length c.bytes-2.ensur
 pub returns-in-Ok-clause-form : goal.returns-in-Ok-clause-form
 returns-in-Ok-clause-form g c =
     let header = c.in-Some.ensures.0 ∙ ap (take header_length) c.bytes-2.ensures.bytes in
-    let accepted = ap (λ bytes. check c.args.want (header_of bytes)) (sym header) ∙ ap (check c.args.want) (sym c.read_header.ensures) ∙ sym c.check-checked.ensures ∙ c.in-Ok.is in
-    good_header c.args.want _ _ c.fill-2.new.self c.use_up.new.self c.in-Ok.form (Keeps-trans _ _ _ c.fill.ensures.text c.fill-2.ensures.text)
+    let accepted = ap (λ bytes. check c.args.want (header_of bytes)) (sym header) ∙ ap (check c.args.want) (sym c.read_header.ensures)
+    ∙ sym c.check-checked.ensures ∙ c.in-Ok.is in
+    good_header c.args.want _ _ c.fill-2.new.self c.use_up.new.self c.in-Ok.form
+    (Keeps-trans _ _ _ c.fill.ensures.text c.fill-2.ensures.text)
     (omega (arith, c.in-Some.ensures, ap length c.bytes-2.ensures.bytes)) accepted c.use_up.ensures
 
 pub returns-in-Ok-clause-used : goal.returns-in-Ok-clause-used
@@ -34,8 +38,11 @@ returns-in-Ok-clause-used g c =
 pub returns-in-Err-clause-input : goal.returns-in-Err-clause-input
 returns-in-Err-clause-input g c =
     let header = c.in-Some.ensures.0 ∙ ap (take header_length) c.bytes-2.ensures.bytes in
-    let refused = ap (λ bytes. check c.args.want (header_of bytes)) (sym header) ∙ ap (check c.args.want) (sym c.read_header.ensures) ∙ sym c.check-checked.ensures ∙ c.in-Err.is in
-    rw c.refuse-in-Err.ensures (bad_header c.args.want c.args.pages _ _ c.fill-2.new.self c.in-Err.fault (Keeps-trans _ _ _ c.fill.ensures.text c.fill-2.ensures.text)
+    let refused = ap (λ bytes. check c.args.want (header_of bytes)) (sym header) ∙ ap (check c.args.want) (sym c.read_header.ensures)
+    ∙ sym c.check-checked.ensures ∙ c.in-Err.is in
+    rw c.refuse-in-Err.ensures
+    (bad_header c.args.want c.args.pages _ _ c.fill-2.new.self c.in-Err.fault
+    (Keeps-trans _ _ _ c.fill.ensures.text c.fill-2.ensures.text)
     (omega arith) (omega (arith, c.in-Some.ensures, ap length c.bytes-2.ensures.bytes)) refused)
 
 pub returns-in-Err-clause-used : goal.returns-in-Err-clause-used

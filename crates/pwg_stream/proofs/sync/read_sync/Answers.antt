@@ -7,10 +7,12 @@ use Rattle.pwg_stream.proofs.sync.read_sync.Goals as goal
 
 pub returns-then-not-starts_with-clause-input : goal.returns-then-not-starts_with-clause-input
 returns-then-not-starts_with-clause-input g c =
-    let other = ap (λ bytes. starts_with nat_eq bytes sync_word) (sym c.bytes.ensures.bytes) ∙ sym c.starts_with.ensures.value ∙ c.if-not-starts_with.true in
+    let other = ap (λ bytes. starts_with nat_eq bytes sync_word) (sym c.bytes.ensures.bytes) ∙ sym c.starts_with.ensures.value
+    ∙ c.if-not-starts_with.true in
     bad_sync _ _ c.fill.new.self c.fill.ensures.text c.in_ok-fill.ensures.end other
 
 pub returns-clause-used : goal.returns-clause-used
 returns-clause-used g c =
-    let same = ap (λ bytes. starts_with nat_eq bytes sync_word) (sym c.bytes.ensures.bytes) ∙ sym c.starts_with.ensures.value ∙ c.if-not-starts_with.false in
+    let same = ap (λ bytes. starts_with nat_eq bytes sync_word) (sym c.bytes.ensures.bytes) ∙ sym c.starts_with.ensures.value
+    ∙ c.if-not-starts_with.false in
     record { bytes = sync_word; is = good_sync _ _ c.fill.new.self c.use_up.new.self c.fill.ensures.text same c.use_up.ensures }

@@ -9,18 +9,22 @@ use Rattle.board_core.proofs.scheduler.Core.ready.Goals as goal
 
 pub returns-then-is_ready-clause-first : goal.returns-then-is_ready-clause-first
 returns-then-is_ready-clause-first c =
-    first_ready c.args.self.now c.columns-columns.result c.loop-n.n (c.columns-columns.ensures ∙ ap (λ (core : CoreState). columns_of core.shape) c.self.view_is)
+    first_ready c.args.self.now c.columns-columns.result c.loop-n.n (c.columns-columns.ensures
+    ∙ ap (λ (core : CoreState). columns_of core.shape) c.self.view_is)
     c.loop-n.invariant (c.if-is_ready.ensures.0 refl)
 
 pub loop-n-preserved : goal.loop-n-preserved
 loop-n-preserved c =
-    none_more c.args.self.now c.columns-columns.result c.loop-n.n (c.columns-columns.ensures ∙ ap (λ (core : CoreState). columns_of core.shape) c.self.view_is)
+    none_more c.args.self.now c.columns-columns.result c.loop-n.n (c.columns-columns.ensures
+    ∙ ap (λ (core : CoreState). columns_of core.shape) c.self.view_is)
     c.loop-n.invariant (λ r. false_true (c.if-is_ready.ensures.1 r))
 
 pub returns-clause-none : goal.returns-clause-none
 returns-clause-none c = λ p r.
-    let columns : c.columns-columns.result ≡ columns_of c.args.self.now.shape = c.columns-columns.ensures ∙ ap (λ (core : CoreState). columns_of core.shape) c.self.view_is in
-    let bands : c.bands.result ≡ bands_of c.args.self.now.shape = c.bands.ensures ∙ ap (λ (core : CoreState). bands_of core.shape) c.self.view_is in
+    let columns : c.columns-columns.result ≡ columns_of c.args.self.now.shape = c.columns-columns.ensures
+    ∙ ap (λ (core : CoreState). columns_of core.shape) c.self.view_is in
+    let bands : c.bands.result ≡ bands_of c.args.self.now.shape = c.bands.ensures
+    ∙ ap (λ (core : CoreState). bands_of core.shape) c.self.view_is in
     let count : c.bands.result * c.columns-columns.result ≡ bands_of c.args.self.now.shape * columns_of c.args.self.now.shape =
     ap (λ n. n * c.columns-columns.result) bands ∙ ap (λ n. bands_of c.args.self.now.shape * n) columns in
     c.loop-n.invariant p (omega (arith, count, number_inside c.args.self.now.shape p r.tile)) r

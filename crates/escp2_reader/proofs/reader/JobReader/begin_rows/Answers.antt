@@ -7,8 +7,10 @@ use Rattle.escp2_reader.proofs.reader.JobReader.begin_rows.Goals as goal
 pub returns-clause-heard : goal.returns-clause-heard
 returns-clause-heard c = λ sofar begins. heard-behind _ _ _ _ _ sofar c.args.piece.now _
     (take_all _ _ (omega (arith, length-drop c.args.used c.args.piece.now)))
-    (c.feed_rows-heard.ensures.heard _ (rows-begin _ _ _ _ _ _ sofar c.args.piece.now begins c.requires.within (c.begin-reader.ensures.anew 8) c.requires.none))
+    (c.feed_rows-heard.ensures.heard _
+    (rows-begin _ _ _ _ _ _ sofar c.args.piece.now begins c.requires.within (c.begin-reader.ensures.anew 8) c.requires.none))
 
 pub returns-clause-last : goal.returns-clause-last
-returns-clause-last c = begin-last _ _ _ _ _ _ _ _ c.args.piece.now _ (take_all _ _ (omega (arith, length-drop c.args.used c.args.piece.now))) c.requires.within
+returns-clause-last c =
+    begin-last _ _ _ _ _ _ _ _ c.args.piece.now _ (take_all _ _ (omega (arith, length-drop c.args.used c.args.piece.now))) c.requires.within
     (c.begin-reader.ensures.anew 8) c.requires.none c.feed_rows-heard.ensures.last

@@ -17,15 +17,19 @@ returns-in-Whole-clause-heard c =
     let are : AreBytes c.args.piece.now = λ k. omega (arith, c.type_inv.piece k) in
     let whole = rw c.in-Whole.is at c.feed-fed.ensures.whole in
     let used = c.end_command.ensures.used in
-    λ sofar stood. heard-one_used _ _ _ _ c.args.self.now.next _ _ _ sofar c.args.piece.now used c.end_command.ensures.state (omega arith) stood.fed stood.bytes are
-    (λ rest. rows-whole _ _ _ _ _ _ _ _ sofar c.args.piece.now rest stood c.feed-fed.ensures.used c.feed-fed.ensures.takes whole) c.end_command.ensures.stands c.end_command.ensures.begin c.end_command.ensures.rows
+    λ sofar stood. heard-one_used _ _ _ _ c.args.self.now.next _ _ _ sofar c.args.piece.now used c.end_command.ensures.state (omega arith)
+    stood.fed stood.bytes are
+    (λ rest. rows-whole _ _ _ _ _ _ _ _ sofar c.args.piece.now rest stood c.feed-fed.ensures.used c.feed-fed.ensures.takes whole)
+    c.end_command.ensures.stands c.end_command.ensures.begin c.end_command.ensures.rows
 
 pub returns-in-Fault-clause-heard : goal.returns-in-Fault-clause-heard
 returns-in-Fault-clause-heard c =
     let are : AreBytes c.args.piece.now = λ k. omega (arith, c.type_inv.piece k) in
     let fault = rw c.in-Fault.is at c.feed-fed.ensures.fault in
-    λ sofar stood. heard-fault_used _ _ _ c.args.self.now.begin c.args.self.now.next _ _ _ sofar c.args.piece.now c.fail.ensures.used c.fail.ensures.state c.feed-fed.ensures.used stood.fed stood.bytes are
-    (omega arith) (λ rest. rows-wrong _ _ _ _ _ _ _ _ _ sofar c.args.piece.now rest stood fault (omega (arith, fault.last))) c.fail.ensures.stage c.fail.ensures.begin c.fail.ensures.next
+    λ sofar stood. heard-fault_used _ _ _ c.args.self.now.begin c.args.self.now.next _ _ _ sofar c.args.piece.now c.fail.ensures.used
+    c.fail.ensures.state c.feed-fed.ensures.used stood.fed stood.bytes are
+    (omega arith) (λ rest. rows-wrong _ _ _ _ _ _ _ _ _ sofar c.args.piece.now rest stood fault (omega (arith, fault.last)))
+    c.fail.ensures.stage c.fail.ensures.begin c.fail.ensures.next
 
 pub returns-in-Fault-clause-last : goal.returns-in-Fault-clause-last
 returns-in-Fault-clause-last c =

@@ -7,4 +7,5 @@ returns-then-c-eq0-clause-anew c = λ at. plain_begins _ _ _ c.if-c-eq0.true
     (ap (λ k. k * c.args.row_bytes) (sym c.from-count.ensures) ∙ ap (λ k. c.from-count.result * k) (sym c.from-width.ensures))
 
 pub returns-clause-anew : goal.returns-clause-anew
-returns-clause-anew c = λ at. coded_begins _ _ _ c.if-c-eq0.false (omega (arith, c.from-count.ensures, c.requires.some)) (sym c.from-width.ensures)
+returns-clause-anew c =
+    λ at. coded_begins _ _ _ c.if-c-eq0.false (omega (arith, c.from-count.ensures, c.requires.some)) (sym c.from-width.ensures)

@@ -11,12 +11,14 @@ steps-init c = record {
 }
 
 pub returns-then-used-piece-clause-more : goal.returns-then-used-piece-clause-more
-returns-then-used-piece-clause-more c = fed_more _ _ _ _ _ _ _ _ c.steps.invariant.fed (sym c.is_done.ensures ∙ c.steps-test.true) c.if-used-piece.true
+returns-then-used-piece-clause-more c =
+    fed_more _ _ _ _ _ _ _ _ c.steps.invariant.fed (sym c.is_done.ensures ∙ c.steps-test.true) c.if-used-piece.true
 
 pub steps-preserved : goal.steps-preserved
 steps-preserved c = record {
   fed = fed_step _ _ _ _ _ _ _ _ _ _ _ _ _ _ c.steps.invariant.fed
-      (take_all _ _ (omega (arith, length-drop c.steps.used c.args.piece.now))) c.step-used.ensures.least c.step-used.ensures.most c.step-used.ensures.takes
+      (take_all _ _ (omega (arith, length-drop c.steps.used c.args.piece.now))) c.step-used.ensures.least c.step-used.ensures.most
+      c.step-used.ensures.takes
       c.step-used.ensures.room;
   kept = omega arith;
   some = λ none. absurd (omega (arith, c.step-used.ensures.least));
@@ -26,4 +28,5 @@ pub returns-in-Failed-clause-fault : goal.returns-in-Failed-clause-fault
 returns-in-Failed-clause-fault c = fed_fault _ _ _ _ _ _ _ _ c.steps.invariant.fed c.in-Failed.is
 
 pub returns-in_default-clause-whole : goal.returns-in_default-clause-whole
-returns-in_default-clause-whole c = fed_whole _ _ _ _ _ _ _ _ c.steps.invariant.fed (sym c.is_done.ensures ∙ c.steps-test.false) c.in_default.not-Failed
+returns-in_default-clause-whole c =
+    fed_whole _ _ _ _ _ _ _ _ c.steps.invariant.fed (sym c.is_done.ensures ∙ c.steps-test.false) c.in_default.not-Failed

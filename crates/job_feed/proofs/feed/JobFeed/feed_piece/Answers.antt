@@ -7,9 +7,16 @@ returns-clause-fed c =
     let feed = c.args.self.now in
     let heard = c.feed-heard in
     let piece : List ℕ = c.first_bytes-piece.result.now in
-    let is : piece ≡ take (feed.most - feed.fed) feed.unread = c.first_bytes-piece.ensures ∙ ap (take (feed.most - feed.fed)) c.bytes.ensures.bytes in
+    let is : piece ≡ take (feed.most - feed.fed) feed.unread = c.first_bytes-piece.ensures
+    ∙ ap (take (feed.most - feed.fed)) c.bytes.ensures.bytes in
     let used : length (take heard.result.used piece) ≡ heard.result.used = length-take-le heard.result.used piece heard.ensures.used in
-    let long : 0 < length piece = omega (arith, ap length is, length-take (feed.most - feed.fed) feed.unread, c.requires.some, c.requires.room) in
+    let long : 0 < length piece = omega (
+      arith,
+      ap length is,
+      length-take (feed.most - feed.fed) feed.unread,
+      c.requires.some,
+      c.requires.room,
+    ) in
     record {
       bytes = take heard.result.used piece;
       some = omega (arith, used, heard.ensures.some c.requires.is_open long);

@@ -11,15 +11,18 @@ pieces-init g c = record {
 
 pub pieces-preserved : goal.pieces-preserved
 pieces-preserved g c = record {
-  goes = goes_more _ _ _ _ _ (goes_filled _ _ _ _ _ _ _ c.pieces.invariant.goes c.fill.ensures.text) c.in-More.ensures.fed c.in-More.ensures.most;
+  goes = goes_more _ _ _ _ _ (goes_filled _ _ _ _ _ _ _ c.pieces.invariant.goes c.fill.ensures.text) c.in-More.ensures.fed
+      c.in-More.ensures.most;
   at = refl;
   later = omega (arith, c.pieces.invariant.later, c.fill.ensures.cause.later);
 }
 
 pub returns-in-One-clause-command : goal.returns-in-One-clause-command
 returns-in-One-clause-command g c =
-    takes_command _ _ _ _ _ _ (goes_filled _ _ _ _ _ _ _ c.pieces.invariant.goes c.fill.ensures.text) c.in-One.ensures.fed c.in-One.ensures.most
+    takes_command _ _ _ _ _ _ (goes_filled _ _ _ _ _ _ _ c.pieces.invariant.goes c.fill.ensures.text) c.in-One.ensures.fed
+    c.in-One.ensures.most
 
 pub returns-in-Fault-clause-stop : goal.returns-in-Fault-clause-stop
 returns-in-Fault-clause-stop g c =
-    meets_fault _ _ _ _ _ _ _ (goes_filled _ _ _ _ _ _ _ c.pieces.invariant.goes c.fill.ensures.text) c.in-Fault.ensures.fed c.in-Fault.ensures.most
+    meets_fault _ _ _ _ _ _ _ (goes_filled _ _ _ _ _ _ _ c.pieces.invariant.goes c.fill.ensures.text) c.in-Fault.ensures.fed
+    c.in-Fault.ensures.most

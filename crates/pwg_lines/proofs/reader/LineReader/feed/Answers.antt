@@ -23,5 +23,6 @@ steps-preserved c =
 
 pub returns-in-Full-clause-line : goal.returns-in-Full-clause-line
 returns-in-Full-clause-line c =
-    let P : Fill → Type 0 = λ answer. OnLine answer (λ repeats. IsLine c.args.self.now c.end_group.new.self c.args.piece.now c.steps.used repeats) in
+    let P : Fill → Type 0 = λ answer. OnLine answer
+    (λ repeats. IsLine c.args.self.now c.end_group.new.self c.args.piece.now c.steps.used repeats) in
     subst P (sym c.end_group.ensures.answer_is) (feed_line _ _ _ _ _ _ c.steps.invariant c.in-Full.is c.end_group.ensures)

@@ -10,17 +10,21 @@ returns-clause-takes c =
     let new : _ = written c.args.self.now.line.len c.args.self.now.line.items c.fill_bytes.new.line in
     let count : length (take c.min-count.result c.args.bytes.now) ≡ c.min-count.result =
     length-take-le c.min-count.result c.args.bytes.now (omega (arith, c.min-count.ensures)) in
-    let grown : take (c.args.self.now.filled + c.min-count.result) new ≡ take c.args.self.now.filled c.args.self.now.line.items ++ take c.min-count.result c.args.bytes.now =
+    let grown : take (c.args.self.now.filled + c.min-count.result) new ≡ take c.args.self.now.filled c.args.self.now.line.items
+    ++ take c.min-count.result c.args.bytes.now =
     ap (λ k. take (c.args.self.now.filled + k) new) (sym count)
-    ∙ written-front _ _ _ _ _ (λ bs. take c.args.self.now.filled bs ++ take c.min-count.result c.args.bytes.now) sized c.deref_mut.ensures.value c.fill_bytes.ensures in
+    ∙ written-front _ _ _ _ _ (λ bs. take c.args.self.now.filled bs ++ take c.min-count.result c.args.bytes.now) sized
+    c.deref_mut.ensures.value c.fill_bytes.ensures in
     record {
       form = refl;
       lines_left = refl;
       stands = λ sofar so_far. elim c.if-count-wanted.branch [
         | then-count-wanted w ↦ in_state _ _ _ _ _ _ new (c.args.self.now.filled + c.min-count.result) _ _ (sym w.self-is)
             (literal-part _ _ _ _ _ _ _ sofar c.args.wanted _ _ _ _
-            (in_state _ _ _ _ _ _ c.args.self.now.line.items c.args.self.now.filled _ sofar c.requires so_far) (omega arith) grown (omega arith))
-        | else-count-wanted w ↦ in_state _ _ _ _ _ _ new (c.args.self.now.filled + c.min-count.result) _ _ (sym w.state_behind-self.ensures ∙ sym w.self-is)
+            (in_state _ _ _ _ _ _ c.args.self.now.line.items c.args.self.now.filled _ sofar c.requires so_far) (omega arith) grown
+            (omega arith))
+        | else-count-wanted w ↦ in_state _ _ _ _ _ _ new (c.args.self.now.filled + c.min-count.result) _ _ (sym w.state_behind-self.ensures
+            ∙ sym w.self-is)
             (literal-end _ _ _ _ _ _ _ sofar c.args.wanted _ _ _
             (in_state _ _ _ _ _ _ c.args.self.now.line.items c.args.self.now.filled _ sofar c.requires so_far) (omega arith) grown)
       ];

@@ -21,15 +21,18 @@ returns c = record {
   lines_left = refl;
   stands = λ sofar so_far. elim c.if-first-lt128.branch [
     | then-first-lt128 w ↦
-        (let units_are : c.units_of-units.result ≡ c.args.first + 1 = units-run _ c.args.first _ c.units_of-units.ensures w.if-first-lt128.true in
+        (let units_are : c.units_of-units.result ≡ c.args.first + 1 =
+        units-run _ c.args.first _ c.units_of-units.ensures w.if-first-lt128.true in
         in_state _ _ _ _ _ _ c.args.self.now.line.items c.args.self.now.filled _ _ (ap (λ k. state.Run k 0) (sym units_are) ∙ sym w.self-is)
         (packet-run _ _ _ _ _ _ _ sofar c.args.first _ (kind_row c.args.self.now.form.kind).some
         (in_state _ _ _ _ _ _ c.args.self.now.line.items c.args.self.now.filled _ sofar c.requires so_far)
         w.if-first-lt128.true (omega arith) (ap (λ k. c.args.self.now.left - k) units_are)))
     | else-first-lt128 w ↦
-        (let units_are : c.units_of-units.result ≡ 257 - c.args.first = units-literal _ c.args.first _ c.units_of-units.ensures (omega arith) in
+        (let units_are : c.units_of-units.result ≡ 257 - c.args.first =
+        units-literal _ c.args.first _ c.units_of-units.ensures (omega arith) in
         in_state _ _ _ _ _ _ c.args.self.now.line.items c.args.self.now.filled _ _
-        (ap state.Literal (ap (λ k. k * (row_of c.args.self.now.form.kind).unit) (sym units_are) ∙ ap (λ k. c.units_of-units.result * k) (sym w.unit_of.ensures.value)) ∙ sym w.self-is)
+        (ap state.Literal (ap (λ k. k * (row_of c.args.self.now.form.kind).unit) (sym units_are)
+        ∙ ap (λ k. c.units_of-units.result * k) (sym w.unit_of.ensures.value)) ∙ sym w.self-is)
         (packet-literal _ _ _ _ _ _ _ sofar c.args.first _ _ (kind_row c.args.self.now.form.kind).some
         (in_state _ _ _ _ _ _ c.args.self.now.line.items c.args.self.now.filled _ sofar c.requires so_far)
         (omega arith) (omega arith) (omega arith) (ap (λ k. c.args.self.now.left - k) units_are)))

@@ -13,19 +13,24 @@ returns-then-bytes-wanted-clause-takes c =
     let sized : length c.fill_bytes.new.line ≡ c.args.self.now.line.len = c.fill_bytes.auto.line ∙ c.deref_mut.ensures.len in
     let new : _ = written c.args.self.now.line.len c.args.self.now.line.items c.fill_bytes.new.line in
     let new_len : length new ≡ length c.args.self.now.line.items =
-    ap length (written-is _ _ _ sized) ∙ sized ∙ (let e : c.args.self.now.line.len ≡ length c.args.self.now.line.items = omega (arith, c.args.self.now.line.ok.0) in e) in
+    ap length (written-is _ _ _ sized) ∙ sized
+    ∙ (let e : c.args.self.now.line.len ≡ length c.args.self.now.line.items = omega (arith, c.args.self.now.line.ok.0) in e) in
     let grown : take (c.args.self.now.filled + c.args.read + length c.args.bytes.now) new
     ≡ take (c.args.self.now.filled + c.args.read) c.args.self.now.line.items ++ c.args.bytes.now =
-    written-front _ _ _ _ _ (λ bs. take (c.args.self.now.filled + c.args.read) bs ++ c.args.bytes.now) sized c.deref_mut.ensures.value c.fill_bytes.ensures in
-    let kept : _ = unit_grows c.args.self.now.filled c.args.read c.args.self.now.line.items new c.args.bytes.now (omega arith) (omega (arith, new_len))
-    (ap (λ k. take k new) (let e : c.args.self.now.filled + (c.args.read + length c.args.bytes.now) ≡ c.args.self.now.filled + c.args.read + length c.args.bytes.now = omega arith in e) ∙ grown) in
+    written-front _ _ _ _ _ (λ bs. take (c.args.self.now.filled + c.args.read) bs ++ c.args.bytes.now) sized c.deref_mut.ensures.value
+    c.fill_bytes.ensures in
+    let kept : _ = unit_grows c.args.self.now.filled c.args.read c.args.self.now.line.items new c.args.bytes.now (omega arith)
+    (omega (arith, new_len))
+    (ap (λ k. take k new) (let e : c.args.self.now.filled + (c.args.read + length c.args.bytes.now) ≡ c.args.self.now.filled + c.args.read
+    + length c.args.bytes.now = omega arith in e) ∙ grown) in
     record {
       form = refl;
       lines_left = refl;
       stands = λ sofar so_far. run-part _ _ _ _ _ _ _ sofar c.args.units c.args.read (take (length c.args.bytes.now) c.args.bytes.now) _ _ _
           (in_state _ _ _ _ _ _ c.args.self.now.line.items c.args.self.now.filled _ sofar c.requires so_far)
           (ap (λ bs. c.args.read + length bs) (sym (take-length c.args.bytes.now))) (omega (arith, c.unit_of-unit.ensures.value)) kept.0
-          (kept.1 ∙ ap (λ bs. take c.args.read (drop c.args.self.now.filled c.args.self.now.line.items) ++ bs) (sym (take-length c.args.bytes.now)));
+          (kept.1 ∙ ap (λ bs. take c.args.read (drop c.args.self.now.filled c.args.self.now.line.items) ++ bs)
+          (sym (take-length c.args.bytes.now)));
     }
 
 pub returns-clause-takes : goal.returns-clause-takes
@@ -37,13 +42,18 @@ returns-clause-takes c =
     let count : length others ≡ c.unit_of-unit.result - c.args.read = length-take-le _ c.args.bytes.now (omega arith) in
     let unit : c.args.read + length others ≡ c.unit_of-unit.result = omega (arith, count, c.unit_of-unit.ensures.value) in
     let grown : take (c.args.self.now.filled + c.args.units * c.unit_of-unit.result) new
-    ≡ take c.args.self.now.filled c.args.self.now.line.items ++ copies c.args.units (take c.args.read (drop c.args.self.now.filled c.args.self.now.line.items) ++ others) =
+    ≡ take c.args.self.now.filled c.args.self.now.line.items
+    ++ copies c.args.units (take c.args.read (drop c.args.self.now.filled c.args.self.now.line.items) ++ others) =
     ap (λ k. take (c.args.self.now.filled + c.args.units * k) new) (sym unit)
-    ∙ written-front _ _ _ _ _ (λ bs. take c.args.self.now.filled bs ++ copies c.args.units (take c.args.read (drop c.args.self.now.filled bs) ++ others)) sized c.deref_mut-2.ensures.value c.fill_units.ensures in
+    ∙ written-front _ _ _ _ _
+    (λ bs. take c.args.self.now.filled bs ++ copies c.args.units (take c.args.read (drop c.args.self.now.filled bs) ++ others)) sized
+    c.deref_mut-2.ensures.value c.fill_units.ensures in
     record {
       form = refl;
       lines_left = refl;
-      stands = λ sofar so_far. in_state _ _ _ _ _ _ new (c.args.self.now.filled + c.args.units * c.unit_of-unit.result) _ _ (sym c.state_behind-self.ensures)
+      stands =
+          λ sofar so_far. in_state _ _ _ _ _ _ new (c.args.self.now.filled + c.args.units * c.unit_of-unit.result) _ _
+          (sym c.state_behind-self.ensures)
           (run-end _ _ _ _ _ _ _ sofar c.args.units c.args.read others _ _
           (in_state _ _ _ _ _ _ c.args.self.now.line.items c.args.self.now.filled _ sofar c.requires so_far)
           (count ∙ ap (λ k. k - c.args.read) c.unit_of-unit.ensures.value) grown);

@@ -3,9 +3,11 @@ use Rattle.weave_base.proofs.Parting.{on_err_anyway}
 use Rattle.unread_bytes.specs.Text.{UsesSome, text_behind}
 use Rattle.pwg_stream.proofs.reader.PageReader.begin.Goals as goal
 
-uses_left : (before now : Option (List ℕ)) (unread unread' : List ℕ) → unread ≡ [] → UsesSome (text_behind unread before) (text_behind unread' now) → UsesSome before now
+uses_left : (before now : Option (List ℕ)) (unread unread' : List ℕ) → unread ≡ []
+    → UsesSome (text_behind unread before) (text_behind unread' now) → UsesSome before now
 uses_left before now unread unread' none uses =
-    by_texts before now (let P : List ℕ → Type 0 = λ bytes. UsesSome (text_behind bytes before) (text_behind unread' now) in subst P none uses)
+    by_texts before now (let P : List ℕ → Type 0 =
+    λ bytes. UsesSome (text_behind bytes before) (text_behind unread' now) in subst P none uses)
   where
     by_texts : (a b : Option (List ℕ)) → UsesSome (text_behind [] a) (text_behind unread' b) → UsesSome a b
     by_texts None b u = record { bytes = []; is = tt }

@@ -17,10 +17,12 @@ returns-in_default-clause-found c =
 pub returns-then-most-len-clause-found : goal.returns-then-most-len-clause-found
 returns-then-most-len-clause-found c =
     longer_text _ c.in-Some.file.now.bytes.items c.args.most
-    (text_of_first c.args.name.now _ _ _ c.in-Some.file.now c.deref-2.ensures.value (ap (λ (s : MemoryTexts). s.files) c.self.view_is) c.in-Some.ensures)
+    (text_of_first c.args.name.now _ _ _ c.in-Some.file.now c.deref-2.ensures.value (ap (λ (s : MemoryTexts). s.files) c.self.view_is)
+    c.in-Some.ensures)
     (omega (arith, c.len.ensures, c.in-Some.file.now.bytes.ok.0))
 
 pub returns-clause-found : goal.returns-clause-found
 returns-clause-found c =
-    text_of_first c.args.name.now _ _ _ c.in-Some.file.now c.deref-2.ensures.value (ap (λ (s : MemoryTexts). s.files) c.self.view_is) c.in-Some.ensures
+    text_of_first c.args.name.now _ _ _ c.in-Some.file.now c.deref-2.ensures.value (ap (λ (s : MemoryTexts). s.files) c.self.view_is)
+    c.in-Some.ensures
     ∙ ap (λ text. Some text) (sym (c.in-Ok.ensures.items ∙ c.deref-3.ensures.value))
