@@ -7,13 +7,13 @@ use Rattle.gathered_bytes.specs.declared.gathered.Gathered.{Gathered}
 abbrev pub gathered : Gathered → List ℕ
 gathered g = take g.len g.bytes
 
--- What a sink takes of bytes that are gathered, and what is left of them.
+-- A sink took a prefix of the gathered bytes, and the rest is gathered.
 pub record Passes (old new : Option (List ℕ)) (before after : List ℕ) : Type 0 where
   pub sent : List ℕ
   pub appends : Appends old new sent
   pub is : before ≡ sent ++ after
 
--- Of bytes that are gathered and these behind them a sink took some, and the rest is gathered.
+-- Of the gathered bytes and `bytes` after them a sink took a prefix, and the rest is gathered.
 pub record Writes (old new : Option (List ℕ)) (before after bytes : List ℕ) : Type 0 where
   pub sent : List ℕ
   pub appends : Appends old new sent

@@ -6,7 +6,7 @@ ghost use Rattle.weave_base.specs.Parts.{AppendsPart};
 
 use weave_base::{Failed, Sink, put_all};
 
-/// How many bytes are gathered at most.
+/// The most bytes that are gathered.
 pub const ROOM: usize = 8192;
 
 /// Bytes that are gathered before they are written, so that a sink gets few writes. It takes no memory.
@@ -31,7 +31,7 @@ impl Gathered {
         }
     }
 
-    /// Appends bytes, for which there is room.
+    /// Appends bytes for which there is room.
     pub fn push(&mut self, bytes: &[u8])
         requires { self.old.len + length bytes.now ≤ 8192 }
         ensures is { gathered self.new ≡ gathered self.old ++ bytes.now }
@@ -42,7 +42,7 @@ impl Gathered {
         self.len = end;
     }
 
-    /// Makes room for so many bytes: writes what is gathered, where there is less.
+    /// Makes room for `most` bytes: where there is less, it writes what is gathered.
     pub fn make_room<K: Sink>(&mut self, most: usize, k: &mut K) -> Result<(), Failed>
         requires { most ≤ 8192 }
         ensures ok { OnOk result (Passes (K.held k.old) (K.held k.new) (gathered self.old) (gathered self.new)) }
@@ -58,7 +58,7 @@ impl Gathered {
         Ok(())
     }
 
-    /// Appends bytes, and writes what was gathered before where there is no room for them.
+    /// Appends bytes. Where there is no room for them, it first writes what is gathered.
     pub fn write<K: Sink>(&mut self, bytes: &[u8], k: &mut K) -> Result<(), Failed>
         requires { length bytes.now ≤ 8192 }
         ensures ok { OnOk result

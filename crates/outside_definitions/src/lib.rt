@@ -1,1 +1,2 @@
-//! What is outside of a run, at a call and at its return: definitions alone.
+//! The record `Outside`: what a source or a sink holds and its count of faults, at a call and at its return.
+//! Definitions alone.

@@ -11,7 +11,7 @@ inks_of K = Black ∷ []
 inks_of Cmy = Cyan ∷ Magenta ∷ Yellow ∷ []
 inks_of Cmyk = Black ∷ Cyan ∷ Magenta ∷ Yellow ∷ []
 
--- an ink's place among black, cyan, magenta and yellow
+-- an ink's number in the order black, cyan, magenta, yellow
 abbrev pub ink_place : Ink → ℕ
 ink_place Black = 0
 ink_place Cyan = 1

@@ -1,4 +1,4 @@
--- A printer, and what follows from its numbers. Places on paper are in 1/3600 inch.
+-- A printer, and what follows from its numbers. Lengths on paper are in 1/3600 inch.
 use Rattle.std.specs.Prelude.{ℕ, ◌+◌, ◌-◌, ◌*◌, ◌/◌, List, [], ◌∷◌, slice_index}
 use Rattle.printer_definitions.specs.declared.inks.Ink.{Ink}
 use Rattle.printer_definitions.specs.declared.inks.InkSet.{InkSet}
@@ -7,16 +7,16 @@ use Rattle.printer_definitions.specs.Inks.{ink_place}
 
 -- A printer: its resolutions, its head, its inks and its margins.
 pub record Printer : Type 0 where
-  -- dots an inch across the page, and rows an inch down it
+  -- dots an inch across the page, rows of dots an inch down it
   pub hdpi : ℕ
   pub vdpi : ℕ
-  -- nozzles of each ink, and rows from one nozzle to the next
+  -- nozzles of each ink, rows of dots from one nozzle to the next
   pub nozzles : ℕ
   pub pitch : ℕ
   pub inks : InkSet
-  -- the least darkness of a colour page that is moved into black
+  -- the darkness from which on black replaces what cyan, magenta and yellow have in common
   pub black_start : ℕ
-  -- the greatest amounts of black, cyan, magenta and yellow
+  -- the greatest amounts of black, cyan, magenta and yellow, 0 to 255
   pub limits : List ℕ
   -- the margins, in pixels of the page
   pub left : ℕ
@@ -24,19 +24,19 @@ pub record Printer : Type 0 where
   pub top : ℕ
   pub bottom : ℕ
 
--- from one column of dots to the next
+-- the step from one column of dots to the next
 abbrev pub column_step : Printer → ℕ
 column_step p = 3600 / p.hdpi
 
--- from one row of dots to the next
+-- the step from one row of dots to the next
 abbrev pub row_step : Printer → ℕ
 row_step p = 3600 / p.vdpi
 
--- from one nozzle to the next
+-- the step from one nozzle to the next
 abbrev pub nozzle_step : Printer → ℕ
 nozzle_step p = p.pitch * 3600 / p.vdpi
 
--- a row of dots in units of 5/3600 inch
+-- the step from one row of dots to the next, in units of 5/3600 inch
 abbrev pub row_units : Printer → ℕ
 row_units p = 720 / p.vdpi
 

@@ -1,5 +1,5 @@
-//! What a printer is: its inks, and the description of it that the definitions of separation, of the print job
-//! and of the page on paper speak of. `weave_base` re-exports the inks.
+//! What a printer is: its inks, and the record `Printer` of the numbers that separation, print jobs and pages on paper
+//! are defined by (`specs/Printer.antt`). Definitions, and the types `Ink` and `InkSet`, which `weave_base` re-exports.
 #![tactic(auto)]
 
 mod inks;

@@ -14,7 +14,7 @@ use Rattle.pwg_definitions.specs.Limits.{header_length}
 
 -- ---- kinds of pixel
 
--- A kind: the numbers by which a header names it, the bytes of a unit of its lines, and a white unit.
+-- A row of the table of kinds: the numbers by which a header names the kind, the bytes of a unit, and a white unit.
 pub record KindRow : Type 0 where
   pub kind : Kind
   pub color_space : ℕ
@@ -72,7 +72,7 @@ line_units row width = line_bytes width row.bits_per_pixel / row.unit
 abbrev pub pwg_raster : List ℕ
 pwg_raster = 80 ∷ 119 ∷ 103 ∷ 82 ∷ 97 ∷ 115 ∷ 116 ∷ 101 ∷ 114 ∷ 0 ∷ []
 
--- the number in the four bytes from an offset on, the highest first
+-- the number in the four bytes from an offset on, the highest byte first
 abbrev pub number_at : ℕ → List ℕ → ℕ
 number_at offset bytes = from_be_bytes w32 (take 4 (drop offset bytes))
 
@@ -107,7 +107,7 @@ kind_of h = find (has_kind h) kinds
 abbrev pub is_outside : ℕ → ℕ → ℕ → Bool
 is_outside least most n = nat_lt n least || nat_lt most n
 
--- each fault of a header with the test for it, in the order of the checks
+-- each fault of a header with its test, in the order of the checks
 abbrev pub header_tests : Wanted → Header → List (Bool × HeaderFault)
 header_tests want h =
     (not h.is_pwg, fault.NotPwg)
@@ -149,11 +149,11 @@ pub record IsWanted (want : Wanted) (form : PageForm) : Type 0 where
 
 -- ---- writing a header
 
--- the bytes with some of them replaced from an offset on
+-- the bytes with those from an offset on replaced
 abbrev pub with_bytes : ℕ → List ℕ → List ℕ → List ℕ
 with_bytes offset new bytes = take offset bytes ++ (new ++ drop (offset + length new) bytes)
 
--- the bytes with these numbers at their offsets, each in four bytes, the highest first
+-- the bytes with these numbers at their offsets, each in four bytes, the highest byte first
 abbrev pub with_numbers : List (ℕ × ℕ) → List ℕ → List ℕ
 with_numbers [] bytes = bytes
 with_numbers (field ∷ fields) bytes = with_numbers fields (with_bytes field.0 (to_be_bytes w32 field.1) bytes)
@@ -165,7 +165,7 @@ header_numbers form row hdpi vdpi =
     ∷ (388, row.bits_per_pixel) ∷ (392, form.bytes_per_line) ∷ (400, row.color_space) ∷ (420, colors_of row)
     ∷ (456, 1) ∷ (460, 1) ∷ []
 
--- the header that a writer makes: 1,796 bytes, 00 but for `PwgRaster` and these numbers
+-- the header that a writer makes: 1,796 bytes, all 0 but `PwgRaster` and these numbers
 unfoldable pub header_bytes : PageForm → ℕ → ℕ → List ℕ
 header_bytes form hdpi vdpi =
     with_numbers (header_numbers form (row_of form.kind) hdpi vdpi) (with_bytes 0 pwg_raster (replicate header_length 0))

@@ -2,7 +2,7 @@
 -- are those of PWG 5102.4.
 use Rattle.std.specs.Prelude.{ℕ}
 
--- the most columns of a page, as many as one raster command prints
+-- the most columns of a page: as many as a raster command prints
 abbrev pub most_columns : ℕ
 most_columns = 8191
 
@@ -14,11 +14,11 @@ most_rows = 15840
 abbrev pub most_pages : ℕ
 most_pages = 9999
 
--- the bytes of a page header (section 4.3)
+-- the length of a page header in bytes (section 4.3)
 abbrev pub header_length : ℕ
 header_length = 1796
 
--- how often the line of a group stands at most (section 4.4)
+-- the most repeats of a group's line (section 4.4)
 abbrev pub most_repeats : ℕ
 most_repeats = 256
 

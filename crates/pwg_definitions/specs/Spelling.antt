@@ -8,13 +8,13 @@ use Rattle.pwg_definitions.specs.Header.{KindRow, check, header_of, line_units, 
 use Rattle.pwg_definitions.specs.Groups.{SpellsGroup}
 use Rattle.pwg_definitions.specs.Stream.{Page, sync_word}
 
--- A group of equal lines: its bytes, how often its line stands, and the line.
+-- A group of equal lines: its bytes, its repeats, and its line.
 pub record LineGroup : Type 0 where
   pub bytes : List ℕ
   pub repeats : ℕ
   pub line : List ℕ
 
--- the groups are the last `left` lines of a page with so many units a line
+-- the groups are the last `left` lines of a page that has `units` units a line
 abbrev pub SpellsLines : KindRow → ℕ → ℕ → List LineGroup → Type 0
 SpellsLines row units left [] = left ≡ 0
 SpellsLines row units left (g ∷ groups) =

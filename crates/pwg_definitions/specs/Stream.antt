@@ -31,12 +31,12 @@ pub record Stream : Type 0 where
 
 -- ---- lines
 
--- What stands at the front: lines and the bytes after them, or the first line of the group with the first fault.
+-- What the bytes begin with: lines, and the bytes after them; or a first fault, and the first line of its group.
 pub data LinesRead : Type 0 where
   Lines : List (List ℕ) → List ℕ → LinesRead
   Stop : ℕ → InputCause → LinesRead
 
--- the lines with these before them
+-- the lines with `front` before them
 abbrev pub with_lines : List (List ℕ) → LinesRead → LinesRead
 with_lines front (Lines lines rest) = Lines (front ++ lines) rest
 with_lines front (Stop line cause) = Stop line cause
@@ -54,7 +54,7 @@ lines_at row units height (suc most) (suc left) bytes = elim (group_at row units
 
 -- ---- pages
 
--- What stands at the front: a page and the bytes after it, or the line of its first fault.
+-- What the bytes begin with: a page, and the bytes after it; or the line and the cause of its first fault.
 pub data PageRead : Type 0 where
   Whole : Page → List ℕ → PageRead
   Broken : ℕ → InputCause → PageRead
@@ -69,7 +69,7 @@ abbrev pub lines_of : PageForm → List ℕ → LinesRead
 lines_of form bytes =
     let row = row_of form.kind in lines_at row (line_units row form.width) form.height form.height form.height bytes
 
--- the page behind a header that was checked
+-- the page after a header that was checked
 abbrev pub page_behind : Result PageForm HeaderFault → List ℕ → PageRead
 page_behind (Err fault) bytes = Broken 0 (cause.Header fault)
 page_behind (Ok form) bytes = page_of form (lines_of form bytes)
@@ -84,7 +84,7 @@ page_at want bytes =
 abbrev pub with_page : Page → Stream → Stream
 with_page page s = record { pages = page ∷ s.pages; end = s.end }
 
--- The pages from this one on, of which there may be `most`.
+-- The pages from number `page` on, of which there may be `most`.
 unfoldable pub pages_from : Wanted → ℕ → ℕ → List ℕ → Stream
 pages_from want most page [] = record { pages = []; end = Done }
 pages_from want zero page (b ∷ bytes) = record { pages = []; end = Fault page 0 cause.TooManyPages }
@@ -97,7 +97,7 @@ pages_from want (suc most) page (b ∷ bytes) = elim (page_at want (b ∷ bytes)
 abbrev pub sync_word : List ℕ
 sync_word = 82 ∷ 97 ∷ 83 ∷ 50 ∷ []
 
--- what the bytes of a stream are: the sync word, and at most 9,999 pages
+-- what the bytes of a stream are read as: the sync word, and at most 9,999 pages
 unfoldable pub stream : Wanted → List ℕ → Stream
 stream want bytes =
     if starts_with nat_eq bytes sync_word then pages_from want most_pages 1 (drop 4 bytes)

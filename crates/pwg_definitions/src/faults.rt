@@ -1,4 +1,4 @@
-//! Why a stream is refused.
+//! The faults of a stream.
 
 /// Why a page header is refused. The variants stand in the order in which the checks are made.
 #[derive(Clone, Copy, Debug, PartialEq, Eq)]
@@ -26,7 +26,7 @@ pub enum HeaderFault {
 pub enum LineFault {
     /// A packet has more units than are left in the line.
     RunPastLine,
-    /// The line is to stand more often than there are lines left in the page.
+    /// The line is repeated more often than the page has lines left.
     GroupPastPage,
 }
 

@@ -1,4 +1,4 @@
-//! The largest page that a driver takes.
+//! The size of the largest page that is read.
 
 /// The most columns of a page.
 pub const MOST_COLUMNS: u32 = 8191;

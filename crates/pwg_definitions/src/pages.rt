@@ -1,4 +1,4 @@
-//! What a page's header says of it, and what a driver wants of it.
+//! The header of a page, and the pages that a driver wants.
 
 /// A kind of pixel, one row of the table of kinds.
 #[derive(Clone, Copy, Debug, PartialEq, Eq)]
@@ -11,7 +11,7 @@ pub enum Kind {
     Rgb8,
 }
 
-/// What stays the same over a page: its size in pixels, its kind, and the bytes of one of its lines.
+/// The form of a page: its size in pixels, its kind of pixel, and the length of its lines in bytes.
 #[derive(Clone, Copy, Debug, PartialEq, Eq)]
 pub struct PageForm {
     /// Pixels across the page.

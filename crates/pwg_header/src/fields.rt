@@ -1,5 +1,5 @@
-//! Where the fields of a header stand, in bytes from its first one (PWG 5102.4, section 4.3). Each is a number of four
-//! bytes, the highest first.
+//! The offsets of the fields of a header (PWG 5102.4, section 4.3). Each field is a number of four
+//! bytes, the highest byte first.
 
 /// HWResolution across the page.
 pub const CROSS_RESOLUTION: usize = 276;

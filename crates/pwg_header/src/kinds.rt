@@ -1,4 +1,4 @@
-//! The table of kinds.
+//! The table of kinds of pixel.
 ghost use Rattle.std.specs.Option.{option_map};
 ghost use Rattle.std.specs.Prelude.{◌≡◌};
 ghost use Rattle.pwg_definitions.specs.Header.{colors_of, kind_of as kind_row_of, row_of};
@@ -21,7 +21,7 @@ pub struct KindNumbers {
     pub colors: u32,
 }
 
-/// The row of a kind.
+/// The numbers of a kind.
 pub fn numbers_of(kind: Kind) -> KindNumbers
     ensures color_space { result.color_space ≡ (row_of kind).color_space }
     ensures bits_per_color { result.bits_per_color ≡ (row_of kind).bits_per_color }

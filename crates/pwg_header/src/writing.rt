@@ -1,4 +1,4 @@
-//! A written header.
+//! Writing a header.
 ghost use Rattle.std.specs.Int.{to_be_bytes, w32};
 ghost use Rattle.std.specs.Prelude.{Ok, replicate, ◌+◌, ◌≡◌, ◌≤◌};
 ghost use Rattle.pwg_definitions.specs.Header.{IsWanted, check, header_bytes, header_of, pwg_raster, with_bytes};
@@ -16,7 +16,7 @@ fn put_number(out: &mut [u8; HEADER_LEN], offset: usize, number: u32)
     BigEndian::write_u32(&mut out[offset..offset + 4], number);
 }
 
-/// Makes it 00 but for `PwgRaster`.
+/// Sets all bytes to 0 but `PwgRaster`.
 fn begin(out: &mut [u8; HEADER_LEN])
     ensures { out.new ≡ with_bytes 0 pwg_raster (replicate HEADER_LEN 0) }
 {
@@ -24,7 +24,7 @@ fn begin(out: &mut [u8; HEADER_LEN])
     out[..10].copy_from_slice(b"PwgRaster\0");
 }
 
-/// Writes the header of a page of this form, at a resolution in dots an inch: one copy, and no turning.
+/// Writes the header of a page of this form, at a resolution in dots an inch: one copy, both transforms 1.
 pub fn write_header(f: &PageForm, hdpi: u32, vdpi: u32, out: &mut [u8; HEADER_LEN])
     ensures bytes { out.new ≡ header_bytes f.now hdpi vdpi }
 

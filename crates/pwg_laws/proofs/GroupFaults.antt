@@ -1,4 +1,4 @@
--- A fault of a group stands as soon as its byte does.
+-- A fault of a group is decided by the bytes up to it.
 use Rattle.std.proofs.Common.{◌≡◌, ℕ, zero, suc, ◌+◌, ◌-◌, ◌≤◌, nat_lt, Bool, true, false, if◌then◌else◌, List, [], ◌∷◌, ◌++◌, length, take}
 use Rattle.std.proofs.Common.{refl, sym, ◌∙◌, ap, arith, append_assoc}
 use Rattle.std.proofs.Math.Seq.{take-append-add}
@@ -12,7 +12,7 @@ use Rattle.pwg_definitions.specs.Groups.PacketRead.{One, Short, Long}
 use Rattle.pwg_laws.proofs.Packets.{IsRead, packet_at-long, packet_at-one}
 use Rattle.pwg_laws.proofs.GroupLaws.{line_at-long, line_at-one, line_at-short}
 
--- A fault of a line that is begun: it stands behind the front, and whatever comes after its byte.
+-- A fault of a line that is begun: it is after the part that was read, and is decided by its byte.
 record IsFaultRead (row : KindRow) (most left : ℕ) (front : GroupFront) (bytes : List ℕ) (place : ℕ) (fault : LineFault) : Type 0 where
   behind : front.place ≤ place
   stands : (more : List ℕ) → line_at row most left front (take (place - front.place + 1) bytes ++ more) ≡ Wrong place fault
@@ -68,7 +68,7 @@ line_at-fault row (suc most) (suc left) front bytes place fault e =
               ∙ same;
         }
 
--- A fault stands as soon as its byte does.
+-- A fault is decided by the bytes up to and with its own.
 pub group_at-fault : (row : KindRow) (units left : ℕ) (bytes more : List ℕ) (place : ℕ) (fault : LineFault)
     → group_at row units left bytes ≡ Wrong place fault → group_at row units left (take (place + 1) bytes ++ more) ≡ Wrong place fault
 group_at-fault row units left [] more place fault e = absurd (let never : Part ≡ Wrong place fault = e in cc)

@@ -78,7 +78,7 @@ group_at-spelling row units left bytes repeats line rest spelled =
     ∙ line_at-spelling row spelled.packets units units (from repeats) rest spelled.full (omega arith)
     ∙ ap (λ line. Group repeats line rest) (sym spelled.gives)
 
--- No spelling of a group begins another.
+-- No spelling of a group is a proper prefix of another.
 pub group-spelled_once : (row : KindRow) (units left : ℕ) (bytes more : List ℕ) (repeats repeats' : ℕ) (line line' : List ℕ)
     → SpellsGroup row units left bytes repeats line → SpellsGroup row units left (bytes ++ more) repeats' line'
     → (more ≡ []) × (repeats ≡ repeats') × (line ≡ line')

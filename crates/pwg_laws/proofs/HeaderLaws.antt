@@ -79,7 +79,7 @@ check-wanted want h form accepted = by_fault (first_fault (header_tests want h))
 
 -- ---- a written header is accepted
 
--- the fields of a written header but for the numbers of its kind
+-- the fields of a written header, except the numbers of its kind
 abbrev written_fields : PageForm → ℕ → ℕ → Header
 written_fields form hdpi vdpi = record {
   is_pwg = true;

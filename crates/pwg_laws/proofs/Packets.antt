@@ -69,7 +69,7 @@ pub record IsRead (row : KindRow) (left : ℕ) (bytes : List ℕ) (p : Packet) (
   pub gives : length row.white ≡ row.unit → length (packet_gives row left p) ≡ packet_units left p * row.unit
   pub spelled : IsBytes bytes → 1 ≤ left → (front ≡ packet_spelling p) × IsPacket row left p
 
--- what is known of what stands at the front
+-- what is known of what the bytes begin with
 abbrev pub ReadFacts : KindRow → ℕ → List ℕ → PacketRead → Type 0
 ReadFacts row left bytes (One p rest) = IsRead row left bytes p rest
 ReadFacts row left bytes Short = Unit {0}

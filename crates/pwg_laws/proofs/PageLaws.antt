@@ -72,7 +72,7 @@ line_at-long_enough row (suc most) (suc left) front bytes repeats line rest whit
         absurd (let never : Wrong front.place RunPastLine ≡ Group repeats line rest =
         sym (line_at-long row most left front bytes is) ∙ e in cc)
 
--- A group that was read stands once or more, but not more often than there are lines left.
+-- A group that was read is repeated once or more, and no more often than the page has lines left.
 pub record IsSizedGroup (row : KindRow) (units left repeats : ℕ) (line : List ℕ) : Type 0 where
   pub some : 1 ≤ repeats
   pub within : repeats ≤ left
@@ -110,7 +110,7 @@ AllLong-append : (size : ℕ) (front lines : List (List ℕ)) → AllLong size f
 AllLong-append size [] lines all more = more
 AllLong-append size (line ∷ front) lines all more = (all.0, AllLong-append size front lines all.1 more)
 
--- Lines that were read are as many and as long as was asked.
+-- Lines that were read are as many and as long as the page's form says.
 record AreSized (row : KindRow) (units left : ℕ) (lines : List (List ℕ)) : Type 0 where
   many : length lines ≡ left
   long : AllLong (units * row.unit) lines

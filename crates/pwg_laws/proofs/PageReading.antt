@@ -22,7 +22,7 @@ use Rattle.pwg_definitions.specs.Stream.PageRead.{Whole, Broken}
 use Rattle.pwg_definitions.specs.Stream.StreamEnd.{Done, Fault}
 use Rattle.pwg_laws.proofs.GroupLaws.{IsBytes-behind, group_at-read}
 
--- the bytes behind a part are bytes
+-- the bytes after a prefix are bytes
 behind_bytes : (bytes front rest : List ℕ) → bytes ≡ front ++ rest → IsBytes bytes → IsBytes rest
 behind_bytes bytes front rest split are = IsBytes-behind front rest (let P : List ℕ → Type 0 = IsBytes in subst P split are)
 

@@ -49,7 +49,7 @@ lines_at-spelling row units height (g ∷ groups) (suc most) (suc left) rest ful
     ∙ ap (with_lines (replicate g.repeats g.line))
     (lines_at-spelling row units height groups most (suc left - g.repeats) rest full.1 (omega (arith, full.0.some)))
 
--- a header and the bytes behind it
+-- a header and the bytes after it
 page_at-header : (want : Wanted) (header behind : List ℕ) (form : PageForm) → length header ≡ header_length
     → check want (header_of header) ≡ Ok form → page_at want (header ++ behind) ≡ page_of form (lines_of form behind)
 page_at-header want header behind form long accepted =
@@ -60,7 +60,7 @@ page_at-header want header behind form long accepted =
     ∙ ap (λ bs. page_behind (check want (header_of header)) bs) (drop_at header behind header_length long)
     ∙ ap (λ r. page_behind r behind) accepted
 
--- A page that is spelled is read, whatever comes after it.
+-- A page that is spelled is read, whatever follows.
 pub page_at-spelling : (want : Wanted) (bytes : List ℕ) (page : Page) (rest : List ℕ) → SpellsPage want bytes page
     → page_at want (bytes ++ rest) ≡ Whole page rest
 page_at-spelling want bytes page rest spelled =

@@ -34,7 +34,7 @@ small_bytes = small_header ++ (0x00 ∷ 0x03 ∷ 0xD1 ∷ 0x00 ∷ 0x02 ∷ 0x9F
 abbrev pub small_front : List ℕ
 small_front = small_header ++ (0x00 ∷ 0x03 ∷ 0xD1 ∷ 0x00 ∷ 0x02 ∷ 0x9F ∷ 0x00 ∷ [])
 
--- what a stream of these bytes behind its sync word is
+-- what a stream of the sync word and these bytes is read as
 abbrev pub read : List ℕ → Stream
 read bytes = stream wants (sync_word ++ bytes)
 

@@ -1,4 +1,4 @@
-//! Streams, headers and groups, with what they are read as.
+//! Streams, headers and groups, and what they are read as.
 #![tactic(auto, unfolding(pwg_definitions::specs::Groups::line_at, pwg_definitions::specs::Header::header_bytes, pwg_definitions::specs::Stream::lines_at, pwg_definitions::specs::Stream::pages_from, pwg_definitions::specs::Stream::stream))]
 
 ghost use Rattle.std.specs.Prelude.{Err, Ok, [], drop, false, length, replicate, take, ◌++◌, ◌∷◌, ◌≡◌};
@@ -15,7 +15,7 @@ ghost use Rattle.pwg_laws.specs.Examples.{wants};
 ghost use Rattle.pwg_laws.specs.Examples.{pages_then, read, small_bytes, small_form, small_front, small_header};
 ghost use Rattle.pwg_laws.specs.Examples.{small_page};
 
-/// Where a written header has what, in bytes.
+/// The bytes of a written header, by offset.
 pub fn header_layout()
     ensures len { length small_header ≡ 1796 }
     ensures text { take 10 small_header
@@ -31,7 +31,7 @@ pub fn header_layout()
     ensures fields { header_of small_header ≡ good }
 {}
 
-/// A stream of a page of 4 by 2 pixels, and streams that stop short of it.
+/// Streams of a page of 4 by 2 pixels, and streams with a fault or without a page.
 pub fn small_streams()
     ensures whole { read small_bytes ≡ pages_then (small_page ∷ []) Done }
     ensures twice { read (small_bytes ++ small_bytes) ≡ pages_then (small_page ∷ small_page ∷ []) Done }
@@ -86,7 +86,7 @@ pub fn header_kinds()
     ensures no_space { checked (of_kind 0 8 8 4) ≡ Err fault.Kind }
 {}
 
-/// Each fault of a header by itself.
+/// Each fault of a header alone.
 pub fn header_faults()
     ensures text { checked (record good { is_pwg = false }) ≡ Err fault.NotPwg }
     ensures across { checked (record good { hres = 300 }) ≡ Err fault.Resolution }
@@ -99,7 +99,7 @@ pub fn header_faults()
     ensures planes { checked (record good { color_order = 1 }) ≡ Err fault.Order }
 {}
 
-/// Of two faults of a header the earlier check's is told.
+/// Of two faults of a header the one that is checked first is answered.
 pub fn header_fault_order()
     ensures text { checked (record good { is_pwg = false; hres = 300 }) ≡ Err fault.NotPwg }
     ensures resolution { checked (record good { hres = 300; width = 0 }) ≡ Err fault.Resolution }

@@ -1,32 +1,32 @@
-//! Groups of equal lines: what is spelled is read, what is read was spelled, and faults come early.
+//! Groups of equal lines: what is spelled is read, what is read was spelled, and a fault is decided by its byte.
 ghost use Rattle.std.specs.Prelude.{List, [], take, ℕ, ◌++◌, ◌+◌, ◌≡◌};
 ghost use Rattle.pwg_definitions.specs.Groups.GroupRead.{Group, Wrong};
 ghost use Rattle.pwg_definitions.specs.Groups.{IsBytes, SpellsGroup, group_at};
 ghost use Rattle.pwg_definitions.specs.Header.{KindRow};
 ghost use Rattle.pwg_definitions.specs.declared.faults.LineFault.{LineFault};
 
-/// A group that is spelled is read, whatever comes after it.
+/// A group that is spelled is read, whatever follows.
 pub fn spelled_is_read()
     ensures { (row : KindRow) (units left : ℕ) (bytes : List ℕ) (repeats : ℕ) (line rest : List ℕ)
         → SpellsGroup row units left bytes repeats line
         → group_at row units left (bytes ++ rest) ≡ Group repeats line rest }
 {}
 
-/// A group that is read is spelled by the bytes before the rest.
+/// A group that is read was spelled, by the bytes before the rest.
 pub fn read_is_spelled()
     ensures { (row : KindRow) (units left : ℕ) (bytes : List ℕ) (repeats : ℕ) (line rest : List ℕ)
         → IsBytes bytes → group_at row units left bytes ≡ Group repeats line rest
         → (front : List ℕ) × (bytes ≡ front ++ rest) × SpellsGroup row units left front repeats line }
 {}
 
-/// No spelling of a group begins another, and none spells two groups.
+/// No spelling of a group is a proper prefix of another, and none spells two groups.
 pub fn spelled_once()
     ensures { (row : KindRow) (units left : ℕ) (bytes more : List ℕ) (repeats repeats' : ℕ) (line line' : List ℕ)
         → SpellsGroup row units left bytes repeats line → SpellsGroup row units left (bytes ++ more) repeats' line'
         → (more ≡ []) × (repeats ≡ repeats') × (line ≡ line') }
 {}
 
-/// A fault stands as soon as its byte does, whatever comes after it.
+/// A fault is decided by the bytes up to and with its own, whatever follows.
 pub fn fault_stands()
     ensures { (row : KindRow) (units left : ℕ) (bytes more : List ℕ) (place : ℕ) (fault : LineFault)
         → group_at row units left bytes ≡ Wrong place fault

@@ -15,7 +15,7 @@ pub fn pages_are_wanted()
     ensures { (want : Wanted) (bytes : List ℕ) → AllByRecursion (IsPage want) (stream want bytes).pages }
 {}
 
-/// A page that is spelled is read, whatever comes after it.
+/// A page that is spelled is read, whatever follows.
 pub fn spelled_page_is_read()
     ensures { (want : Wanted) (bytes : List ℕ) (page : Page) (rest : List ℕ) → SpellsPage want bytes page
         → page_at want (bytes ++ rest) ≡ Whole page rest }

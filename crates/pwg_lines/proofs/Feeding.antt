@@ -30,7 +30,7 @@ anew_stands reader fresh = in_state _ _ _ _ _ _ _ _ _ _ (sym (is_start-is reader
     is_start-is state.Full e = cc
     is_start-is (state.Failed fault) e = cc
 
--- So many bytes of the piece are read.
+-- This many bytes of the piece are read.
 pub record FedSoFar (old now : LineReader) (piece : List ℕ) (used : ℕ) : Type 0 where
   pub within : used ≤ length piece
   pub takes : Takes old now (take used piece)
@@ -52,7 +52,7 @@ still_open (state.Literal bytes) full failed = tt
 still_open state.Full full failed = full refl
 still_open (state.Failed fault) full failed = failed fault refl
 
--- so many bytes more
+-- and this many more
 pub feed_step : (old now new : LineReader) (piece rest : List ℕ) (used more : ℕ) → FedSoFar old now piece used → IsOpen now.state
     → rest ≡ drop used piece → more ≤ length rest → Takes now new (take more rest) → FedSoFar old new piece (used + more)
 feed_step old now new piece rest used more so_far is_open behind fits takes = record {

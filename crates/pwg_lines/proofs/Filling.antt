@@ -22,7 +22,7 @@ copies-add (suc m) n unit =
     ap (λ k. copies k unit) (let e : suc m + n ≡ suc (m + n) = omega arith in e)
     ∙ ap (λ bs. unit ++ bs) (copies-add m n unit) ∙ sym (append_assoc unit (copies m unit) (copies n unit))
 
--- the front of copies and more bytes
+-- a prefix of copies and more bytes
 take-copies : (m len : ℕ) (unit rest : List ℕ) → length unit ≡ len → take (m * len) (copies m unit ++ rest) ≡ copies m unit
 take-copies m len unit rest sized =
     ap (λ k. take k (copies m unit ++ rest)) (ap (λ k. m * k) (sym sized) ∙ sym (length-copies m unit))
@@ -32,7 +32,7 @@ take-copies m len unit rest sized =
 pub first_unit : (count unit : ℕ) (bytes : List ℕ) → 1 ≤ count → length bytes ≡ count * unit → length (take unit bytes) ≡ unit
 first_unit count unit bytes some whole = length-take-le unit bytes (omega (arith, whole, mul-le-mul_right unit some))
 
--- so many units more are within the bytes
+-- this many more units are within the bytes
 pub more_within : (count unit times more len : ℕ) → len + times * unit ≡ count * unit → more + times ≤ count → more * unit ≤ len
 more_within count unit times more len sized most = omega (arith, sized, mul-le-mul_right unit most)
 
@@ -40,7 +40,7 @@ more_within count unit times more len sized most = omega (arith, sized, mul-le-m
 pub fewer : (unit more times len : ℕ) → more ≤ times → len ≡ times * unit → more * unit ≤ len
 fewer unit more times len few is = omega (arith, is, mul-le-mul_right unit few)
 
--- behind copies come as many of them again, or fewer
+-- after the copies come as many of them again, or fewer
 pub copies_more : (times more len : ℕ) (unit front copied rest : List ℕ) → length unit ≡ len → front ≡ copies times unit → more ≤ times
     → copied ≡ take (more * len) front → take ((times + more) * len) (front ++ (copied ++ rest)) ≡ copies (times + more) unit
 copies_more times more len unit front copied rest sized is few again =
@@ -53,9 +53,9 @@ copies_more times more len unit front copied rest sized is few again =
     ∙ ap (λ bs. bs ++ rest) (sym (copies-add times more unit)) in
     ap (take ((times + more) * len)) joined ∙ take-copies (times + more) len unit rest sized
 
--- ---- bytes behind the filled ones
+-- ---- bytes after the filled ones
 
--- more bytes of a unit behind those that are read: the filled bytes stay, and the unit grows
+-- more bytes of a unit after those that are read: the filled bytes stay, and the unit grows
 pub unit_grows : (filled read : ℕ) (old new others : List ℕ) → filled + read ≤ length old → filled ≤ length new
     → take (filled + (read + length others)) new ≡ take (filled + read) old ++ others
     → (take filled new ≡ take filled old) × (take (read + length others) (drop filled new) ≡ take read (drop filled old) ++ others)
@@ -74,7 +74,7 @@ unit_grows filled read old new others within within' e = (
     parted = sym (take-add filled (read + length others) new) ∙ e ∙ ap (λ bs. bs ++ others) (take-add filled read old)
         ∙ append_assoc (take filled old) (take read (drop filled old)) others
 
--- a unit whose last bytes are put behind the first, and then all the copies of it
+-- a unit whose last bytes are put after the first, and then all the copies of it
 pub units_filled : (filled read count total : ℕ) (line others new first copied : List ℕ) (k k' : ℕ)
     → 1 ≤ count → filled + count * (read + length others) ≤ length line → total ≡ count * (read + length others)
     → new ≡ others → first ≡ put_mid (filled + read) k line new
@@ -118,7 +118,7 @@ units_filled filled read count total line others new first copied k k' some fits
         ∙ ap (λ n. count * n) (length-append (take read (drop filled line)) others
         ∙ ap (λ n. n + length others) (length-take-le read (drop filled line) (omega (arith, in_line, length-drop filled line))))
 
--- a unit of one byte so many times
+-- copies of a unit of one byte
 pub byte_filled : (filled read count : ℕ) (line others new : List ℕ) (k : ℕ) → read ≡ 0 → 1 ≤ length others → length others < 2
     → filled + count * (read + length others) ≤ length line
     → new ≡ replicate (length (take (filled + count - filled) (drop filled line))) (get_or others 0 0)

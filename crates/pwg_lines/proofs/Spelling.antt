@@ -10,7 +10,7 @@ use Rattle.pwg_definitions.specs.Groups.Packet.{Run, Literal}
 use Rattle.pwg_lines.specs.Canonical.{as_they_are, canonical, copies_at, next_packet, packets_from, unequal_at}
 use Rattle.pwg_lines.proofs.Writing.{IsCounted, copies_at-front, counted, one_unit}
 
--- A packet at the front of a line of whole units: it may stand there, and gives the bytes up to the rest.
+-- The first packet of a line of whole units: it fits the line, and gives the bytes up to the rest.
 record IsFront (row : KindRow) (units : ℕ) (line : List ℕ) (p : Packet) : Type 0 where
   fits : IsPacket row units p
   some : 1 ≤ packet_units units p

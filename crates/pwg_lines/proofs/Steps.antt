@@ -1,4 +1,4 @@
--- Each step of a reader: what it stands for behind the bytes that it takes.
+-- Each step of a reader: what it stands for after the bytes that it takes.
 use Rattle.std.proofs.Common.{◌≡◌, ℕ, zero, suc, ◌+◌, ◌-◌, ◌*◌, ◌<◌, ◌≤◌, ◌==◌, nat_lt, Bool, true, false, if◌then◌else◌, List, [], ◌∷◌}
 use Rattle.std.proofs.Common.{◌++◌, length, take, drop, refl, sym, ◌∙◌, ap, subst, arith, append_assoc, length-append}
 use Rattle.std.proofs.lemmas.Bool.{ltb-true, ltb-false, lt-ltb, le-ltb, ne_eqb}
@@ -26,12 +26,12 @@ snoc sofar b = sofar ++ b ∷ []
 length-snoc : (sofar : List ℕ) (b : ℕ) → length (snoc sofar b) ≡ length sofar + 1
 length-snoc sofar b = length-append sofar (b ∷ [])
 
--- A reader in this state whose line has these bytes, of which the first ones are filled.
+-- A reader in this state, whose line has these bytes and a filled prefix.
 abbrev pub StandsIn : KindRow → ℕ → ℕ → State → ℕ → List ℕ → ℕ → ℕ → List ℕ → Type 0
 StandsIn row units lines s repeats items filled left sofar =
     Stands row units lines s repeats (take filled items) (take (read_in s) (drop filled items)) left sofar
 
--- the same reader, whose state has another name
+-- the same reader, by an equal state
 pub in_state : (row : KindRow) (units lines : ℕ) (s s' : State) (repeats : ℕ) (items : List ℕ) (filled left : ℕ) (sofar : List ℕ)
     → s ≡ s' → StandsIn row units lines s repeats items filled left sofar → StandsIn row units lines s' repeats items filled left sofar
 in_state row units lines s s' repeats items filled left sofar same so_far =
@@ -46,7 +46,7 @@ written len items new = take len (new ++ drop (length new) items)
 pub written-is : (len : ℕ) (items new : List ℕ) → length new ≡ len → written len items new ≡ new
 written-is len items new sized = take_at new (drop (length new) items) len sized
 
--- the front of a vector whose slice was written to
+-- a prefix of a vector whose slice was written to
 pub written-front : (len : ℕ) (items lent new : List ℕ) (end : ℕ) (makes : List ℕ → List ℕ) → length new ≡ len → lent ≡ items
     → take end new ≡ makes lent → take end (written len items new) ≡ makes items
 written-front len items lent new end makes sized same grown =
@@ -68,7 +68,7 @@ units-literal l n u is large =
 
 -- ---- a packet's first byte
 
--- the bytes behind one more byte
+-- the bytes after one more byte
 with_byte : (row : KindRow) (units lines : ℕ) (s : State) (repeats : ℕ) (line part : List ℕ) (left : ℕ) (sofar : List ℕ)
     (so_far : Stands row units lines s repeats line part left sofar) (b : ℕ) (rest : List ℕ)
     → group_at row units lines (snoc sofar b ++ rest) ≡ read_on s row units lines so_far.most left (front_of repeats line (length sofar))
@@ -127,8 +127,8 @@ packet-past row units lines repeats line part left sofar n repeats' line' part' 
           ∙ ap (λ k. Wrong k RunPastLine) at_last;
     }
 
--- A packet of so many units whose first byte is n: where `left` units of the line are left it has so many bytes
--- besides, and makes this of them.
+-- A packet of `units` units whose first byte is n: where the line has `left` units left, `count` bytes follow, and the
+-- packet makes this of them.
 record IsBegun (row : KindRow) (left n units count : ℕ) (make : List ℕ → Packet) (makes : List ℕ → List ℕ) : Type 0 where
   read : (rest : List ℕ) → packet_at row left (n ∷ rest) ≡ packet_from make count rest
   gives : (bytes : List ℕ) → packet_gives row left (make bytes) ≡ makes bytes
@@ -152,7 +152,7 @@ literal_begun row left n large fits = record {
   spelled = λ bytes. refl;
 }
 
--- the bytes behind a packet's first byte
+-- the bytes after a packet's first byte
 packet_on : (row : KindRow) (units lines repeats : ℕ) (line part : List ℕ) (left : ℕ) (sofar : List ℕ) (n u count : ℕ) (make : List ℕ
     → Packet) (makes : List ℕ → List ℕ) (left' : ℕ)
     (so_far : Stands row units lines state.Packet repeats line part left sofar) → IsBegun row left n u count make makes → left' ≡ left - u
@@ -258,7 +258,7 @@ packet-white row units lines repeats line part left sofar line' part' left' none
 
 -- ---- the bytes of a packet
 
--- behind a packet
+-- after a packet
 between : (row : KindRow) (units lines repeats : ℕ) (line part : List ℕ) (left most : ℕ) (sofar : List ℕ) → left ≤ most
     → ((rest : List ℕ) → group_at row units lines (sofar ++ rest) ≡ line_at row most left (front_of repeats line (length sofar)) rest)
     → Stands row units lines (behind_packet left) repeats line part left sofar
@@ -271,7 +271,7 @@ between row units lines repeats line part zero most sofar enough is = record {
 between row units lines repeats line part (suc left) most sofar enough is =
     record { at = omega arith; most = most; enough = omega arith; is = is }
 
--- some of the bytes that a packet waits for, of which so many more are to come
+-- some of the bytes that a packet waits for
 behind_some : (row : KindRow) (units lines repeats most left : ℕ) (line line' sofar bytes : List ℕ) (count more : ℕ)
     (makes makes' : List ℕ → List ℕ)
     → ((rest : List ℕ) → group_at row units lines (sofar ++ rest) ≡ read_behind row most left (front_of repeats line (length sofar)) makes

@@ -1,4 +1,4 @@
--- What of a line a reader has room for.
+-- What fits into the line of a reader.
 use Rattle.std.proofs.Common.{◌≡◌, ℕ, ◌+◌, ◌*◌, ◌<◌, ◌≤◌, length, subst, arith}
 use Rattle.std.proofs.Math.Nat.{mul-le-mul_right}
 use Rattle.pwg_definitions.specs.Header.{row_of}
@@ -7,8 +7,7 @@ use Rattle.pwg_lines.specs.declared.states.State.{State}
 use Rattle.pwg_lines.specs.declared.states.State.TheVariants as state
 use Rattle.pwg_lines.specs.States.{gives, least_gives, pending, read_in}
 
--- Within the unit of a run that is repeated so many times, of which so many bytes are read: all of the run fits the
--- line.
+-- Within the unit of a run of `units` units, of which `read` bytes are read: the whole run fits the line.
 pub record RunFits (reader : LineReader) (units read : ℕ) : Type 0 where
   pub some : 1 ≤ units
   pub part : read < (row_of reader.form.kind).unit

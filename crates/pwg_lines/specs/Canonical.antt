@@ -1,5 +1,5 @@
--- The one spelling of a group that is written (PWG 5102.4, section 4.4): runs where units are equal, and literals
--- between them. White to the end of the line is never written.
+-- The canonical spelling of a group, which is written (PWG 5102.4, section 4.4): runs where units are equal, and
+-- literals between them. White to the end of the line is never written.
 use Rattle.std.specs.Prelude.{ℕ, zero, suc, ◌+◌, ◌-◌, ◌*◌, ◌==◌, nat_eq, nat_lt, if◌then◌else◌, List, [], ◌∷◌, length, take, drop}
 use Rattle.std.specs.List.{flat_map, starts_with}
 use Rattle.pwg_definitions.specs.Limits.{most_units}
@@ -12,7 +12,7 @@ copies_at zero unit bytes = 0
 copies_at (suc most) unit bytes =
     if starts_with nat_eq bytes unit then 1 + copies_at most unit (drop (length unit) bytes) else 0
 
--- how many units stand before the first two that are equal, or before the end, up to `most`
+-- how many units come before the first two that are equal, or before the end, up to `most`
 unfoldable pub unequal_at : ℕ → ℕ → List ℕ → ℕ
 unequal_at zero unit bytes = 0
 unequal_at (suc most) unit [] = 0
@@ -20,7 +20,7 @@ unequal_at (suc most) unit (b ∷ bytes) =
     if starts_with nat_eq (drop unit (b ∷ bytes)) (take unit (b ∷ bytes)) then 0
     else 1 + unequal_at most unit (drop unit (b ∷ bytes))
 
--- so many units as they are; one alone is a run of one
+-- n units as they are; one alone is a run of one
 abbrev pub as_they_are : ℕ → List ℕ → Packet
 as_they_are n bytes = if n == 1 then Run 1 bytes else Literal n bytes
 
@@ -39,6 +39,6 @@ packets_from (suc most) unit (b ∷ line) =
     let packet = next_packet unit (b ∷ line) in
     packet ∷ packets_from most unit (drop (packet_units 0 packet * unit) (b ∷ line))
 
--- the bytes of the group of this line, so many times
+-- the bytes of the group of this line and its repeats
 abbrev pub canonical : ℕ → ℕ → List ℕ → List ℕ
 canonical unit repeats line = (repeats - 1) ∷ flat_map packet_spelling (packets_from (length line) unit line)

@@ -1,4 +1,4 @@
--- Where in a group a reader stands, and what it makes of the bytes to come.
+-- Where in a group a reader stands, and what it reads the bytes that follow as.
 use Rattle.std.specs.Prelude.{◌≡◌, ℕ, zero, suc, ◌+◌, ◌-◌, ◌*◌, ◌<◌, ◌≤◌, nat_lt, if◌then◌else◌, List, [], ◌++◌, length, take, drop}
 use Rattle.pwg_definitions.specs.Header.{KindRow}
 use Rattle.pwg_definitions.specs.Groups.{GroupFront, GroupRead, copies, group_at, line_at}
@@ -6,7 +6,7 @@ use Rattle.pwg_definitions.specs.Groups.GroupRead.{Group, Part, Wrong}
 use Rattle.pwg_lines.specs.declared.states.State.{State}
 use Rattle.pwg_lines.specs.declared.states.State.TheVariants.{Start, Packet, Run, Literal, Full, Failed}
 
--- how many bytes of the line the packet that is begun still gives
+-- how many bytes of the line the current packet still gives
 abbrev pub pending : KindRow → State → ℕ
 pending row Start = 0
 pending row Packet = 0
@@ -15,7 +15,7 @@ pending row (Literal bytes) = bytes
 pending row Full = 0
 pending row (Failed fault) = 0
 
--- how many units the run that is begun gives, or how many bytes the literal
+-- how many units the current run gives, or how many bytes the current literal
 abbrev pub gives : State → ℕ
 gives Start = 0
 gives Packet = 0
@@ -24,7 +24,7 @@ gives (Literal bytes) = bytes
 gives Full = 0
 gives (Failed fault) = 0
 
--- and at least so many
+-- the least of these
 abbrev pub least_gives : State → ℕ
 least_gives Start = 0
 least_gives Packet = 0
@@ -33,7 +33,7 @@ least_gives (Literal bytes) = 1
 least_gives Full = 0
 least_gives (Failed fault) = 0
 
--- how many bytes of the unit of a run are read; they stand behind the filled bytes of the line
+-- how many bytes of the unit of a run are read; they are put after the filled bytes of the line
 abbrev pub read_in : State → ℕ
 read_in Start = 0
 read_in Packet = 0
@@ -42,7 +42,7 @@ read_in (Literal bytes) = 0
 read_in Full = 0
 read_in (Failed fault) = 0
 
--- how many units of the line at least are behind the packet that is begun
+-- the least number of units of the line after the current packet
 abbrev pub least_left : State → ℕ
 least_left Start = 0
 least_left Packet = 1
@@ -51,7 +51,7 @@ least_left (Literal bytes) = 0
 least_left Full = 0
 least_left (Failed fault) = 0
 
--- how often the line of a group stands at least, where its count is read
+-- the least number of repeats of the group, 1 where its count is read
 abbrev pub least_repeats : State → ℕ
 least_repeats Start = 0
 least_repeats Packet = 1
@@ -69,12 +69,12 @@ IsOpen (Literal bytes) = Unit {0}
 IsOpen Full = ⊥
 IsOpen (Failed fault) = ⊥
 
--- behind a packet: before the next one, or behind the group where no units are left
+-- the state after a packet: before the next one, or after the group where no units are left
 abbrev pub behind_packet : ℕ → State
 behind_packet zero = Full
 behind_packet (suc left) = Packet
 
--- the group so far, with more of its line and behind more bytes
+-- the group so far, with `more` of its line, which `count` bytes gave
 abbrev pub longer : GroupFront → List ℕ → ℕ → GroupFront
 longer front more count = record {
   repeats = front.repeats;
@@ -82,15 +82,15 @@ longer front more count = record {
   place = front.place + count;
 }
 
--- What the bytes to come are read as where the group so far waits for so many bytes, which make these more of its line,
--- and `left` units of the line are behind them.
+-- What the bytes that follow are read as, where the current packet waits for `count` bytes, of which it makes more of
+-- the line, and the line has `left` units after it.
 abbrev pub read_behind : KindRow → ℕ → ℕ → GroupFront → (List ℕ → List ℕ) → ℕ → List ℕ → GroupRead
 read_behind row most left front makes count rest =
     if nat_lt (length rest) count then Part
     else line_at row most left (longer front (makes (take count rest)) count) (drop count rest)
 
--- What the bytes to come are read as where `left` units of the line of the group so far are behind the packet that is
--- begun, and `part` is what is read of the unit of a run.
+-- What the bytes that follow are read as, where the line has `left` units after the current packet, and `part` is what
+-- is read of the unit of a run.
 abbrev pub read_on : State → KindRow → ℕ → ℕ → ℕ → ℕ → GroupFront → List ℕ → List ℕ → GroupRead
 read_on Start row units lines most left front part rest = group_at row units lines rest
 read_on Packet row units lines most left front part rest = line_at row most left front rest
@@ -109,8 +109,8 @@ IsAt (Literal n) row left sofar = 1 ≤ n
 IsAt Full row left sofar = left ≡ 0
 IsAt (Failed fault) row left sofar = 1 ≤ length sofar
 
--- A reader in this state, with this much of the line and of the unit of a run, reads what follows as the whole group
--- would be read.
+-- A reader in this state, with this much of the line and of the unit of a run, reads what follows as the group is read
+-- that the bytes `sofar` begin.
 pub record Stands (row : KindRow) (units lines : ℕ) (state : State) (repeats : ℕ) (line part : List ℕ) (left : ℕ)
     (sofar : List ℕ) : Type 0 where
   pub at : IsAt state row left sofar

@@ -1,21 +1,21 @@
-//! What a call of a reader of lines comes to.
+//! The answers of a reader of lines.
 use pwg_definitions::LineFault;
 
-/// What a call of `LineReader::feed` comes to.
+/// What a call of `LineReader::feed` found.
 #[derive(Clone, Copy, Debug, PartialEq, Eq)]
 pub enum Fill {
     /// The piece ends before the group does.
     More,
-    /// A group is read; its line, which `LineReader::line` gives, stands so many times.
+    /// A group is read. `LineReader::line` gives its line, which is repeated `repeats` times, 1 to 256.
     Line { repeats: u32 },
     /// The group is refused, and with it the rest of the page.
     Fault(LineFault),
 }
 
-/// How much of a piece was read, and what it came to.
+/// How much of a piece was used, and what was found.
 #[derive(Clone, Copy, Debug, PartialEq, Eq)]
 pub struct Fed {
-    /// Bytes of the piece that were read, from its first on.
+    /// The length of the prefix of the piece that was used.
     pub used: usize,
     pub state: Fill,
 }

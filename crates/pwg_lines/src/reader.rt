@@ -20,9 +20,9 @@ pub struct LineReader {
     lines_left: u32,
     repeats: u32,
     line: Vec<u8>,
-    // bytes of the line before the packet that is read
+    // how many bytes of the line are filled, by the packets before the one that is read
     filled: usize,
-    // units of the line behind it
+    // how many units of the line come after that packet
     left: usize,
     state: State,
     ghost sized: { length line.items ≡ line_units (row_of form.kind) form.width * (row_of form.kind).unit },
@@ -42,7 +42,7 @@ impl LineReader {
     ghost use Rattle.std.specs.Prelude.{IfOk, IsOk, OnErr, OnOk, Some};
     ghost use Rattle.pwg_definitions.specs.declared.faults.LineFault.{LineFault};
 
-    /// A reader of the lines of a page of this form. The bytes of one line are allocated here, and no other memory.
+    /// A reader of the lines of a page of this form. It allocates the bytes of one line, and no other memory.
     pub fn begin(alloc: Global, form: PageForm) -> Result<LineReader, Memory>
         requires narrowest { 1 ≤ form.width }
         requires widest { form.width ≤ most_columns }
@@ -68,8 +68,8 @@ impl LineReader {
         })
     }
 
-    /// Begins the lines of another page, of this form, wherever the reader stands. The line that it has serves where
-    /// the new one is no longer; for want of memory the reader is as it was.
+    /// Begins the lines of another page, of this form, wherever the reader stands. It reuses its allocation where
+    /// the new line is no longer than the old one. On `Memory` the reader is unchanged.
     pub fn restart(&mut self, form: PageForm) -> Result<(), Memory>
         requires narrowest { 1 ≤ form.width }
         requires widest { form.width ≤ most_columns }
@@ -95,9 +95,9 @@ impl LineReader {
         Ok(())
     }
 
-    /// Reads the next bytes of the page's lines, of any number, and takes no memory. It stops behind the last byte of
-    /// a group, or behind the byte that has a fault: a count past the page, or the first byte of a packet with more
-    /// units than the line has left. What of the piece is not used is for the next call.
+    /// Reads the next bytes of the page's lines, of any number, and takes no memory. It stops after the last byte of
+    /// a group, or after the byte that shows a fault: a count past the page, or the first byte of a packet with more
+    /// units than the line has left. The next call is given the rest of the piece, and more.
     pub fn feed(&mut self, piece: &[u8]) -> Fed
         ensures used { result.used ≤ length piece.now }
         ensures form { form_of self.new ≡ form_of self.old }
@@ -144,8 +144,8 @@ impl LineReader {
         self.lines_left
     }
 
-    /// The bytes of the line of the group that was read last, where the last call of `feed` answered `Fill::Line`;
-    /// after another answer they are of no use.
+    /// The bytes of the line of the last group, where the last call of `feed` answered `Fill::Line`;
+    /// after another answer they mean nothing.
     pub fn line(&self) -> &[u8]
         ensures line { result.now ≡ line_of self.now }
         ensures sized { length result.now ≡ (form_of self.now).bytes_per_line }
@@ -153,7 +153,7 @@ impl LineReader {
         &self.line
     }
 
-    /// Gives the line of the group that is read, and begins the next group.
+    /// Answers the line of the group that is read, and begins the next group.
     fn end_group(&mut self) -> Fill
         requires { self.old.state ≡ State.Full }
         ensures { Ends self.old self.new result }

@@ -1,4 +1,4 @@
-//! Where a reader of lines stands, and what the next byte makes of it.
+//! The states of a reader of lines.
 ghost use Rattle.pwg_lines.specs.States.{behind_packet};
 ghost use Rattle.std.specs.Prelude.{◌≡◌};
 ghost use Rattle.pwg_definitions.specs.Groups as groups;
@@ -10,19 +10,19 @@ use pwg_definitions::LineFault;
 pub enum State {
     /// Before the group's count.
     Start,
-    /// Before a packet, with a unit of the line left or more.
+    /// Before a packet, with one unit of the line left or more.
     Packet,
-    /// Within the unit that a run repeats so many times, of which so many bytes are read.
+    /// Within the unit of a run of `units` units, of which `read` bytes are read.
     Run { units: usize, read: usize },
-    /// Before so many bytes of a literal, one or more.
+    /// Before this many bytes of a literal, one or more.
     Literal(usize),
-    /// Behind the group's last byte.
+    /// After the group's last byte.
     Full,
-    /// Behind the byte with the fault.
+    /// After the byte that shows the fault.
     Failed(LineFault),
 }
 
-/// How many units the packet of this first byte gives, where so many units of the line are left.
+/// How many units the packet with this first byte gives, where the line has `left` units left.
 pub fn units_of(left: usize, first: u8) -> usize
     ensures { result ≡ groups.units_of left first }
 {
@@ -33,7 +33,7 @@ pub fn units_of(left: usize, first: u8) -> usize
     }
 }
 
-/// Where a reader stands behind a packet, with so many units of the line left.
+/// Where a reader stands after a packet, where the line has `left` units left.
 pub fn state_behind(left: usize) -> State
     ensures { result ≡ behind_packet left }
 {

@@ -110,7 +110,7 @@ const PAGE: [u8; 14] = [
     0x01, 0xFD, 0x01, 0x02, 0x03, 0x04, 0x00, 0x01, 0x05, 0x80, 0x02, 0x03, 0x07, 0x99,
 ];
 
-/// Feeds a piece, and appends each line that it ends and how often the line stands.
+/// Feeds a piece, and appends the repeats and the line of each group that it ends.
 fn feed_all(reader: &mut LineReader, piece: &[u8], read: &mut Vec<u8>) -> Result<(), Fail> {
     let mut rest = piece;
     for _ in 0..4 {

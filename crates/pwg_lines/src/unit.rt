@@ -1,10 +1,10 @@
-//! The units of a page's lines: the bytes that a run repeats, and of which a line has a whole number.
+//! The units of a page's lines. A run repeats a unit, and a line is a whole number of units.
 ghost use Rattle.std.specs.Prelude.{length, ◌^◌, ◌<◌, ◌≡◌, ◌≤◌};
 ghost use Rattle.pwg_definitions.specs.Header.{row_of};
 
 use pwg_definitions::Kind;
 
-/// How many bytes a unit has.
+/// How many bytes a unit has: 1 or 3.
 pub fn unit_of(kind: Kind) -> usize
     ensures value { result ≡ (row_of kind).unit }
     ensures some { 1 ≤ result }

@@ -54,7 +54,7 @@ if_some P Q (Some x) f h = f x h
 same_form : (reader : LineReader) (form : PageForm) → Some (lines.form_of reader) ≡ Some form → lines.form_of reader ≡ form
 same_form reader form e = cc
 
--- the stop of a group is a fault at this line of the page in hand
+-- the stop of a group is a fault at this line of the current page
 pub line_fault : (reader : PageReader) (now : LineReader) (before : Option (List ℕ)) (line : ℕ) (why : GroupStop) → reader.lines ≡ Some now
     → 0 < lines.lines_left_of now
     → line + lines.lines_left_of now ≡ (lines.form_of now).height + 1

@@ -1,4 +1,4 @@
--- The front of a stream and of its pages, of which some bytes are in hand.
+-- The prefix of a stream and of its pages that was taken and is not yet used.
 use Rattle.std.proofs.Common.{◌≡◌, ℕ, suc, ◌+◌, ◌-◌, ◌<◌, ◌≤◌, nat_lt, Bool, true, false, if◌then◌else◌, List, [], ◌∷◌, ◌++◌, length, take}
 use Rattle.std.proofs.Common.{drop, Option, None, Some, IfSome, Result, Ok, Err, refl, sym, ◌∙◌, ap, subst, arith, append-nil}
 use Rattle.std.proofs.Common.{length-append, length-take-le}
@@ -33,7 +33,7 @@ kept-uses (Some x) None c bytes kept uses = absurd kept
 kept-uses (Some x) (Some y) None bytes kept uses = absurd uses
 kept-uses (Some x) (Some y) (Some z) bytes kept uses = sym kept ∙ uses
 
--- what holds of the bytes in hand and all that may follow holds of a text that is told
+-- what holds of the unused bytes and all that may follow holds of a known text
 told_of : (P : List ℕ → Type 0) (before left : Option (List ℕ)) (unread : List ℕ) → Keeps before (text_behind unread left)
     → ((rest : List ℕ) → left ≡ Some rest → P (unread ++ rest)) → IfSome before P
 told_of P None left unread kept holds = tt
@@ -81,7 +81,7 @@ too_many want pages before left unread kept some last =
     ap (λ k. pages_from want k (pages + 1) (unread ++ rest)) fuel
     ∙ many want (pages + 1) (unread ++ rest) (omega (arith, length-append unread rest)))
 
--- the text ends inside of a header; `first` are bytes that were in hand before
+-- the text ends inside a header; `first` are bytes that were there before
 pub cut_header : (want : Wanted) (pages : ℕ) (before left0 left : Option (List ℕ)) (first unread : List ℕ)
     → Keeps before (text_behind first left0) → 1 ≤ length first
     → Keeps (text_behind first left0) (text_behind unread left) → pages < most_pages → length unread < header_length → IsAtEnd left

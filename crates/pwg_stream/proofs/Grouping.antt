@@ -158,7 +158,7 @@ group_refused old now next before text text' piece used turn fault so_far wrong 
           why_is = refl;
         })
 
--- no group has so many bytes
+-- no group has this many bytes
 pub group_ends : (old now : LineReader) (before text : Option (List ℕ)) (unread : List ℕ) (turn long : ℕ)
     → InGroup old now before text unread turn
     → 1 ≤ (row_of (form_of old).kind).unit

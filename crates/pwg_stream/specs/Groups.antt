@@ -1,4 +1,4 @@
--- A group of a page's lines that comes from a source (PWG 5102.4, section 4.4).
+-- A group of a page's lines that is read from a source (PWG 5102.4, section 4.4).
 use Rattle.std.specs.Prelude.{◌≡◌, ℕ, ◌+◌, ◌≤◌, List, ◌++◌, Option, Result, Ok, Err}
 use Rattle.std.specs.Io.KnownBytes.{Consumes}
 use Rattle.pwg_definitions.specs.declared.faults.LineFault.{LineFault}
@@ -11,7 +11,7 @@ use Rattle.pwg_lines.specs.Reading.{line_of, lines_left_of, next_group}
 use Rattle.pwg_stream.specs.declared.groups.GroupStop.{GroupStop}
 use Rattle.pwg_stream.specs.declared.groups.GroupStop.TheVariants as stop
 
--- The next bytes of the text are a group, whatever comes after them, and were used; its line stands so many times.
+-- The next bytes of the text are a group with these repeats, whatever follows, and were used.
 pub record GivesLine (old new : LineReader) (before now : Option (List ℕ)) (repeats : ℕ) : Type 0 where
   pub some : 1 ≤ repeats
   pub fall : lines_left_of new + repeats ≡ lines_left_of old
@@ -30,7 +30,7 @@ pub record IsBadGroup (read : GroupRead) (why : InputCause) : Type 0 where
   pub wrong : read ≡ Wrong place fault
   pub why_is : why ≡ cause.Line fault
 
--- a fact where no group stands there, of the cause
+-- a fact where no group was read, of the cause
 abbrev pub OnNoGroup : {T : Type 0} → Result T GroupStop → (InputCause → Type 0) → Type 0
 OnNoGroup (Ok x) P = Unit {0}
 OnNoGroup (Err (stop.Input why)) P = P why

@@ -1,4 +1,4 @@
--- The header of a page that comes from a source (PWG 5102.4, section 4.3).
+-- The header of a page that is read from a source (PWG 5102.4, section 4.3).
 use Rattle.std.specs.Prelude.{◌≡◌, ℕ, List, length, Option, Ok}
 use Rattle.std.specs.Io.KnownBytes.{Consumes}
 use Rattle.pwg_definitions.specs.declared.pages.PageForm.{PageForm}

@@ -1,4 +1,4 @@
--- Why a reader of pages stops.
+-- The stops of a reader of pages.
 use Rattle.std.specs.Prelude.{ℕ, Result, Ok, Err}
 use Rattle.pwg_definitions.specs.declared.faults.InputCause.{InputCause}
 use Rattle.pwg_stream.specs.declared.groups.GroupStop.{GroupStop}
@@ -13,7 +13,7 @@ OnInput (Err (stop.Input page line cause)) P = P page line cause
 OnInput (Err stop.Read) P = Unit {0}
 OnInput (Err stop.Memory) P = Unit {0}
 
--- the stop at a line of a page where no group stands
+-- the stop at a line of a page where no group was read
 abbrev pub line_stop : ℕ → ℕ → GroupStop → StreamStop
 line_stop page line (fault.Input cause) = stop.Input page line cause
 line_stop page line fault.Read = stop.Read

@@ -1,4 +1,4 @@
-//! A group of lines, from as many pieces as it comes in.
+//! Reading one group of lines, from as many pieces as it needs.
 ghost use Rattle.pwg_lines.specs.Reading.{IsAnew, form_of, lines_left_of, next_group};
 ghost use Rattle.pwg_stream.specs.Groups.{GivesLine, IsBadGroup, IsNoGroup, OnNoGroup};
 ghost use Rattle.unread_bytes.specs.Text.{UsesSome, text_behind};
@@ -11,16 +11,16 @@ use pwg_lines::{Fill, LineReader};
 use unread_bytes::Unread;
 use weave_base::Source;
 
-/// Why a group is not given.
+/// Why no group was read.
 #[derive(Clone, Copy, Debug, PartialEq, Eq)]
 pub enum GroupStop {
-    /// None stands there, for this cause.
+    /// The text begins with no group of the page, for this cause.
     Input(InputCause),
     /// A read failed.
     Read,
 }
 
-/// Reads the next group of a page, whose line the reader of lines has then, and gives how often the line stands.
+/// Reads the next group of a page, and gives its repeats; `lines` has its line.
 pub fn read_group<S: Source>(
     unread: &mut Unread,
     lines: &mut LineReader,
@@ -39,7 +39,7 @@ pub fn read_group<S: Source>(
     ensures used { UsesSome (text_behind unread.old (S.left s.old)) (text_behind unread.new (S.left s.new)) }
     ensures later { S.faults s.old ≤ S.faults s.new }
 {
-    // a group has a count, and at most a byte and a unit for each unit of its line
+    // a group has a count, and at most two bytes for each byte of its line
     let most = 2 * lines.line().len() as u128 + 1;
     'pieces: for turn in 0..most + 2 {
         let fed = lines.feed(unread.bytes());

@@ -1,4 +1,4 @@
-//! The headers of pages (PWG 5102.4, section 4.3).
+//! Reading the header of a page (PWG 5102.4, section 4.3).
 ghost use Rattle.pwg_stream.specs.Pages.{GivesHeader};
 ghost use Rattle.pwg_stream.specs.Stops.{OnInput};
 ghost use Rattle.unread_bytes.specs.Text.{UsesSome, text_behind};
@@ -20,7 +20,7 @@ use weave_base::Source;
 /// The most pages of a stream.
 pub const MOST_PAGES: u32 = 9999;
 
-// A fault of a page's header.
+// The stop at a page's header.
 fn refuse<T>(page: u32, cause: InputCause) -> Result<T, StreamStop>
     ensures { result ≡ Err (stop.Input page 0 cause) }
 {
@@ -31,7 +31,7 @@ fn refuse<T>(page: u32, cause: InputCause) -> Result<T, StreamStop>
     })
 }
 
-// The header that the bytes begin with, if they are as many.
+// The first bytes as a header, where there are enough of them.
 fn first_header(bytes: &[u8]) -> Option<&[u8; HEADER_LEN]>
     ensures { MatchOption result (length bytes.now < header_length)
         (λ header. (header.now ≡ take header_length bytes.now) × (header_length ≤ length bytes.now)) }
@@ -40,7 +40,7 @@ fn first_header(bytes: &[u8]) -> Option<&[u8; HEADER_LEN]>
     Some(header)
 }
 
-/// Reads the header of the page behind so many pages, where one follows. Nothing follows only at the end of the source.
+/// Reads the header of the next page, after `pages` pages. `None`: the text is at its end.
 pub fn read_page_header<S: Source>(
     unread: &mut Unread,
     s: &mut S,

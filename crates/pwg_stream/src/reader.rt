@@ -15,7 +15,7 @@ use std::alloc::Global;
 use unread_bytes::Unread;
 use weave_base::{Memory, Source};
 
-/// Reads the pages of a stream, line by line. It does not hold the source: each call is lent the same one.
+/// Reads the pages of a stream, line by line. It does not hold the source: each call borrows the same one.
 ///
 /// It keeps 64 KiB of the stream and one line, whatever the number of pages.
 #[derive(Drop)]
@@ -59,7 +59,7 @@ impl PageReader {
     ghost use Rattle.pwg_definitions.specs.declared.pages.Wanted.{Wanted};
     ghost use Rattle.weave_base.specs.Causes.{Rose};
 
-    /// A reader of the source's pages: it allocates its buffer and reads the sync word.
+    /// A reader of the source's pages. It allocates its buffer, and reads the sync word.
     pub fn begin<S: Source>(alloc: Global, s: &mut S) -> Result<PageReader, StreamStop>
         ensures sync { IfOk result (λ reader. Consumes (S.left s.old) (text_of reader (S.left s.new)) sync_word) }
         ensures none { IfOk result (λ reader. (page_of reader ≡ 0) × (lines_left_of reader ≡ 0)
@@ -85,7 +85,8 @@ impl PageReader {
         })
     }
 
-    /// The form of the next page, or none at the end of the source. The page before must be given to its last line.
+    /// Begins the next page and gives its form, or `None` at the end of the text. All lines of the page before must be
+    /// given.
     pub fn next_page<S: Source>(
         &mut self,
         s: &mut S,
@@ -114,11 +115,11 @@ impl PageReader {
         ensures used { UsesSome (text_of self.old (S.left s.old)) (text_of self.new (S.left s.new)) }
         ensures later { S.faults s.old ≤ S.faults s.new }
 
-        // Where no page is begun, none is in hand with lines to give.
+        // Where no page was begun, no line is left.
         ensures none_left { IfOk result (λ o. IfNone o (lines_left_of self.new ≡ 0)) }
         ensures left { OnErr result (lines_left_of self.new ≡ 0) }
 
-        // A stop is answered by each later call, and so is the end.
+        // A stop is answered again by each later call, and so is the end.
         ensures going { OnOk result (stop_of self.new ≡ None) }
         ensures stop { IfErr result (λ stop. stop_of self.new ≡ Some stop) }
         ensures again { (stop : StreamStop) → stop_of self.old ≡ Some stop → (result ≡ Err stop) × (self.new ≡ self.old)
@@ -184,7 +185,7 @@ impl PageReader {
         }
     }
 
-    // Begins the lines of a page of this form, in the memory of the page before where that is enough.
+    // Begins the lines of a page of this form. It reuses the allocation of the page before where that is enough.
     fn begin_lines(&mut self, form: PageForm) -> Result<(), Memory>
         requires going { stop_of self.old ≡ None }
         requires narrowest { 1 ≤ form.width }
@@ -208,9 +209,9 @@ impl PageReader {
         Ok(())
     }
 
-    /// Reads the next group of the page's lines, which are equal, and gives how many they are; `line` is their line.
+    /// Reads the next group of the page's lines, and gives its repeats, 1 to 256; `line` is its line.
     ///
-    /// It never answers `StreamStop::Memory` but where an earlier call did.
+    /// It answers `StreamStop::Memory` only where an earlier call did.
     pub fn next_line<S: Source>(&mut self, s: &mut S) -> Result<u32, StreamStop>
         requires { 0 < lines_left_of self.old }
 
@@ -223,7 +224,7 @@ impl PageReader {
         ensures later { S.faults s.old ≤ S.faults s.new }
         ensures left { OnErr result (lines_left_of self.new ≡ lines_left_of self.old) }
 
-        // A stop is answered by each later call.
+        // A stop is answered again by each later call.
         ensures going { OnOk result (stop_of self.new ≡ None) }
         ensures stop { IfErr result (λ stop. stop_of self.new ≡ Some stop) }
         ensures again { (stop : StreamStop) → stop_of self.old ≡ Some stop → (result ≡ Err stop) × (self.new ≡ self.old)
@@ -248,7 +249,7 @@ impl PageReader {
         }
     }
 
-    /// How many lines of the page are not yet given.
+    /// How many lines of the page are not yet given: 0 where no page was begun.
     pub fn lines_left(&self) -> u32
         ensures { result ≡ lines_left_of self.now }
     {
@@ -258,7 +259,7 @@ impl PageReader {
         }
     }
 
-    /// The bytes of the line that `next_line` gave last, where no other call came after it.
+    /// The bytes of the line that `next_line` gave, until the reader is called again to read.
     pub fn line(&self) -> &[u8]
         ensures line { result.now ≡ line_of self.now }
         ensures sized { (form : PageForm) → form_of self.now ≡ Some form → length result.now ≡ form.bytes_per_line }

@@ -5,7 +5,7 @@ ghost use Rattle.std.specs.Prelude.{◌≡◌};
 use pwg_definitions::InputCause;
 use weave_base::{Failed, Memory};
 
-/// Why no page or no line is given.
+/// Why a reader of pages stops.
 #[derive(Clone, Copy, Debug, PartialEq, Eq)]
 pub enum StreamStop {
     /// The stream has a fault here. Pages and lines are counted from 1; page 0 is the sync word, line 0 a page's

@@ -1,4 +1,4 @@
-//! The sync word, with which a stream begins (PWG 5102.4, section 4.1).
+//! Reading the sync word (PWG 5102.4, section 4.1).
 ghost use Rattle.pwg_stream.specs.Stops.{OnInput};
 ghost use Rattle.unread_bytes.specs.Text.{UsesSome, text_behind};
 ghost use Rattle.pwg_stream.specs.declared.stops.StreamStop.TheVariants as stop;

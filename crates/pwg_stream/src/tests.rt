@@ -55,7 +55,7 @@ fn push_page(stream: &mut Vec<u8>, form: PageForm, groups: &[u8]) -> Result<(), 
     Ok(())
 }
 
-/// Reads on to the end or a stop, and appends how often each line stands, and the line.
+/// Reads to the end or a stop, and appends the repeats and the line of each group.
 fn read_on(
     reader: &mut PageReader,
     s: &mut MemSource,
@@ -81,7 +81,7 @@ fn read_on(
     Err("no end")?
 }
 
-/// Reads a stream to the end or a stop, which a further call tells again.
+/// Reads a stream to the end or a stop, which a further call answers again.
 fn read_all(
     rt: &impl Abort,
     alloc: Global,
@@ -113,7 +113,7 @@ fn two_pages(alloc: Global) -> Result<Vec<u8>, Fail> {
     Ok(stream)
 }
 
-/// What is read of two pages from a source that gives its bytes in such pieces and fails at such calls.
+/// What is read of two pages from a source that gives its bytes in these pieces and fails at these calls.
 fn read_two_pages(
     rt: &impl Abort,
     alloc: Global,

@@ -1,4 +1,4 @@
--- A buffer of which some bytes are not used, and a read behind them.
+-- A buffer of which some bytes are not used, and a read after them.
 use Rattle.std.proofs.Common.{◌≡◌, ℕ, ◌+◌, ◌-◌, ◌≤◌, List, ◌++◌, length, take, drop, sym, ap, ◌∙◌, arith, length-drop, length-take-le}
 use lib.Seq.{paste}
 use borrow.Rule.Slice.PartMut.{post_of, put_mid}
@@ -38,7 +38,7 @@ filled_behind front unread read rest kept count is long within =
     ∙ take-append-add unread (read ++ rest) count
     ∙ ap (λ xs. unread ++ xs) (take-append-le count read rest within)
 
--- the buffer behind a read, of which the bytes before it were moved to its front; `shown` is the buffer at the read
+-- the buffer after a read, whose unread bytes were moved to its beginning; `shown` is the buffer at the read
 pub unread_behind : (buffer moved shown unread read items : List ℕ) (start end count room : ℕ)
     → take (end - start) (drop start buffer) ≡ unread → start ≤ end → end ≤ length buffer
     → moved ≡ paste buffer 0 (drop start buffer) (end - start) → shown ≡ moved → count ≤ length read

@@ -3,20 +3,20 @@ use Rattle.std.proofs.Common.{◌≡◌, ℕ, List, ◌++◌, take, drop, Option
 use Rattle.std.specs.Io.KnownBytes.{Consumes, Keeps}
 use Rattle.unread_bytes.specs.Text.{text_behind}
 
--- a read leaves the text as it is
+-- a read keeps the text
 pub text_grown : (before now : Option (List ℕ)) (unread chunk : List ℕ) → Consumes before now chunk
     → Keeps (text_behind unread before) (text_behind (unread ++ chunk) now)
 text_grown None now unread chunk read = tt
 text_grown (Some xs) None unread chunk read = absurd read
 text_grown (Some xs) (Some ys) unread chunk read = append_assoc unread chunk ys ∙ ap (λ bs. unread ++ bs) (sym read)
 
--- bytes that are used go from its front
+-- bytes that are used are a prefix of it
 pub text_used : (left : Option (List ℕ)) (unread front rest : List ℕ) → unread ≡ front ++ rest
     → Consumes (text_behind unread left) (text_behind rest left) front
 text_used None unread front rest is = tt
 text_used (Some xs) unread front rest is = ap (λ bs. bs ++ xs) is ∙ append_assoc front rest xs
 
--- the bytes that were fed go from the text's front
+-- the bytes that were fed are a prefix of the text
 pub text_fed : (left : Option (List ℕ)) (unread rest : List ℕ) (used : ℕ) → rest ≡ drop used unread
     → Consumes (text_behind unread left) (text_behind rest left) (take used unread)
 text_fed left unread rest used is =

@@ -9,7 +9,7 @@ use std::alloc::Global;
 use std::marker::Model;
 use weave_base::{Failed, Memory, Source};
 
-/// How many bytes are kept at most.
+/// The most bytes that are kept.
 pub const ROOM: usize = 65536;
 
 /// The bytes that were taken of a source and are not yet used, in a buffer of fixed size. Contracts see their list.
@@ -39,7 +39,7 @@ fn between(buffer: &[u8], start: usize, end: usize) -> &[u8]
 }
 
 impl Unread {
-    /// No bytes. The buffer is allocated here, and no other memory.
+    /// No bytes. It allocates the buffer; no other call takes memory.
     pub fn make(alloc: Global) -> Result<Unread, Memory>
         ensures { IfOk result (λ u. u ≡ []) }
     {
@@ -62,7 +62,7 @@ impl Unread {
         between(&self.buffer, self.start, self.end)
     }
 
-    /// Lets the first ones go.
+    /// Drops the first `count` bytes, which were used.
     pub fn use_up(&mut self, count: usize)
         requires { count ≤ length self.old }
         ensures { self.new ≡ drop count self.old }
@@ -70,7 +70,7 @@ impl Unread {
         self.start += count;
     }
 
-    /// Reads once, behind the bytes, and gives how many came: none only at the end of the source.
+    /// Reads once, appends what came, and gives its length: 0 only at the end of the source.
     pub fn more<S: Source>(&mut self, s: &mut S) -> Result<usize, Failed>
         requires { length self.old < ROOM }
         ensures grown { IfOk result (Grows self.old self.new) }
@@ -87,7 +87,7 @@ impl Unread {
         Ok(count)
     }
 
-    /// Reads until so many bytes are there, or the source is at its end.
+    /// Reads until there are `need` bytes or more, or the source is at its end.
     pub fn fill<S: Source>(&mut self, s: &mut S, need: usize) -> Result<(), Failed>
         requires { need ≤ ROOM }
         ensures end { OnOk result (length self.new < need → IsAtEnd (S.left s.new)) }

@@ -29,7 +29,7 @@ read_ends bytes buf copied at n m some is len none room =
     let full : 0 < length buf = omega (arith, length-append copied (drop n buf), length-take n buf, length-drop n buf) in
     drop_all (at + n) bytes (no_room (length buf) (length bytes) at n m some is none full)
 
--- a write of n bytes behind those that were written
+-- a write of n bytes after those that were written
 pub write_more : (a b d : Option (List ℕ)) (piece : List ℕ) (at n : ℕ) → at ≤ length piece
     → Appends a b (take at piece) → Appends b d (take n (take (length piece - at) (drop at piece)))
     → Appends a d (take (at + n) piece)

@@ -7,7 +7,7 @@ use Rattle.std.proofs.KnownBytes.{Appends-trans}
 use Rattle.std.specs.Io.KnownBytes.{Appends}
 use Rattle.weave_base.specs.Parts.{AppendsPart}
 
--- ---- a part of one piece, before more of the whole or behind it
+-- ---- a prefix of one piece, before or after more of the whole
 
 -- a part of the first piece is a part of the whole
 pub part_of_front : (a b : Option (List ℕ)) (xs ys : List ℕ) → AppendsPart a b xs → AppendsPart a b (xs ++ ys)
@@ -42,7 +42,7 @@ pub on_err_behind : {T E : Type 0} (r : Result T E) (a b d : Option (List ℕ)) 
 on_err_behind (Ok x) a b d xs ys first p = tt
 on_err_behind (Err e) a b d xs ys first p = part_behind a b d xs ys first p
 
--- the second write went well
+-- the second write succeeded
 pub on_ok_behind : {T E : Type 0} (r : Result T E) (a b d : Option (List ℕ)) (xs ys : List ℕ) → Appends a b xs → OnOk r (Appends b d ys)
     → OnOk r (Appends a d (xs ++ ys))
 on_ok_behind (Ok x) a b d xs ys first p = Appends-trans a b d xs ys first p
@@ -50,21 +50,21 @@ on_ok_behind (Err e) a b d xs ys first p = tt
 
 -- ---- two pieces
 
--- both were written
+-- both pieces were written
 pub two_ok : {T E : Type 0} (r : Result T E) (a b d : Option (List ℕ)) (whole xs ys : List ℕ) → whole ≡ xs ++ ys
     → Appends a b xs → OnOk r (Appends b d ys) → OnOk r (Appends a d whole)
 two_ok r a b d whole xs ys is p q =
     let P : List ℕ → Type 0 = λ bs. OnOk r (Appends a d bs) in
     subst P (sym is) (on_ok_behind r a b d xs ys p q)
 
--- the second stopped on the way
+-- the second write failed
 pub two_part : {T E : Type 0} (r : Result T E) (a b d : Option (List ℕ)) (whole xs ys : List ℕ) → whole ≡ xs ++ ys
     → Appends a b xs → OnErr r (AppendsPart b d ys) → OnErr r (AppendsPart a d whole)
 two_part r a b d whole xs ys is p q =
     let P : List ℕ → Type 0 = λ bs. OnErr r (AppendsPart a d bs) in
     subst P (sym is) (on_err_behind r a b d xs ys p q)
 
--- the first stopped on the way
+-- the first write failed
 pub two_first : {T E : Type 0} (r : Result T E) (a b : Option (List ℕ)) (whole xs ys : List ℕ) → whole ≡ xs ++ ys
     → AppendsPart a b xs → OnErr r (AppendsPart a b whole)
 two_first r a b whole xs ys is p =
@@ -73,26 +73,26 @@ two_first r a b whole xs ys is p =
 
 -- ---- three pieces
 
--- all were written
+-- all pieces were written
 pub three_ok : {T E : Type 0} (r : Result T E) (a b d e : Option (List ℕ)) (whole xs ys zs : List ℕ) → whole ≡ xs ++ (ys ++ zs)
     → Appends a b xs → Appends b d ys → OnOk r (Appends d e zs) → OnOk r (Appends a e whole)
 three_ok r a b d e whole xs ys zs is p q s =
     let P : List ℕ → Type 0 = λ bs. OnOk r (Appends a e bs) in
     subst P (sym is) (on_ok_behind r a b e xs (ys ++ zs) p (on_ok_behind r b d e ys zs q s))
 
--- the third stopped on the way
+-- the third write failed
 pub three_part : {T E : Type 0} (r : Result T E) (a b d e : Option (List ℕ)) (whole xs ys zs : List ℕ) → whole ≡ xs ++ (ys ++ zs)
     → Appends a b xs → Appends b d ys → OnErr r (AppendsPart d e zs) → OnErr r (AppendsPart a e whole)
 three_part r a b d e whole xs ys zs is p q s =
     let P : List ℕ → Type 0 = λ bs. OnErr r (AppendsPart a e bs) in
     subst P (sym is) (on_err_behind r a b e xs (ys ++ zs) p (on_err_behind r b d e ys zs q s))
 
--- the first stopped on the way
+-- the first write failed
 pub three_first : {T E : Type 0} (r : Result T E) (a b : Option (List ℕ)) (whole xs ys zs : List ℕ) → whole ≡ xs ++ (ys ++ zs)
     → AppendsPart a b xs → OnErr r (AppendsPart a b whole)
 three_first r a b whole xs ys zs is p = two_first r a b whole xs (ys ++ zs) is p
 
--- the second stopped on the way
+-- the second write failed
 pub three_second : {T E : Type 0} (r : Result T E) (a b d : Option (List ℕ)) (whole xs ys zs : List ℕ) → whole ≡ xs ++ (ys ++ zs)
     → Appends a b xs → AppendsPart b d ys → OnErr r (AppendsPart a d whole)
 three_second r a b d whole xs ys zs is p q =

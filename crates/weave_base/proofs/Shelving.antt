@@ -38,7 +38,7 @@ text_of_first name files kept texts file are told first =
     ap (λ ts. option_map (λ f. f.bytes) (find (λ f. bytes_eq f.name name) ts)) (sym (ap (λ fs. map named_text fs) are ∙ told))
     ∙ found_text name files ∙ ap (option_map (λ (f : ShelfFile). f.bytes.items)) (sym first)
 
--- a text of so many bytes is longer than is wanted
+-- a text of this length is longer than is wanted
 pub longer_text : (held : Option (List ℕ)) (bytes : List ℕ) (most : ℕ) → held ≡ Some bytes → most < length bytes
     → IsSomeAnd held (λ bs. most < length bs)
 longer_text held bytes most is longer =

@@ -1,4 +1,4 @@
--- A source and a sink in memory, which fail and come short where they are told to.
+-- A source and a sink in memory, which fail and move short pieces as listed.
 use Rattle.std.specs.Prelude.{ℕ, ◌-◌, ◌%◌, min, List, [], ◌∷◌, length, slice_index}
 
 -- A source in memory.

@@ -23,7 +23,7 @@ Shows held most (found.Text text) = held ≡ Some text.items
 Shows held most found.Absent = held ≡ None
 Shows held most found.TooLong = IsSomeAnd held (λ bytes. most < length bytes)
 
--- the same of the text of this name, where the texts are told
+-- the same of the text of this name, where the shelf says what it holds
 abbrev pub Finds : Option (List NamedText) → List ℕ → ℕ → Found → Type 0
 Finds None name most answer = Unit {0}
 Finds (Some files) name most answer = Shows (text_named name files) most answer
@@ -40,7 +40,7 @@ is_failed (Ok answer) = false
 is_failed (Err stop.Failed) = true
 is_failed (Err stop.Memory) = false
 
--- The count of faults never falls, and the shelf fails only where it rose. Want of memory is no fault.
+-- The count of faults never falls, and `Failed` comes only where it rose. `Memory` is no fault.
 pub record StopHasCause {T : Type 0} (before now : ℕ) (result : Result T ShelfStop) : Type 0 where
   pub later : before ≤ now
   pub failed : result ≡ Err stop.Failed → Rose before now

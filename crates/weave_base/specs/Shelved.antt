@@ -1,4 +1,4 @@
--- A shelf in memory, which fails where it is told to.
+-- A shelf in memory, which fails at the listed reads.
 use Rattle.std.specs.Prelude.{ℕ, List, string_bytes}
 use Rattle.weave_base.specs.Shelf.{NamedText}
 use Rattle.weave_base.specs.declared.memory_shelf.ShelfFile.{ShelfFile}

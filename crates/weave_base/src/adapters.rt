@@ -1,4 +1,4 @@
-//! The outside itself: readers and writers of std as a source and a sink, which tell no content.
+//! Readers and writers of std as a source and a sink. Neither says what it holds.
 ghost use Rattle.std.specs.Io.KnownBytes.{ReadConsumes, WriteAppends};
 ghost use Rattle.std.specs.Io.{ReadsAtMost, WritesAtMost};
 ghost use Rattle.std.specs.Prelude.{IfOk, None, if◌then◌else◌, is_ok, length, ℕ, ◌<◌, ◌≡◌};
@@ -8,7 +8,7 @@ use crate::{Failed, Sink, Source};
 use std::io::{Read, Write};
 use std::marker::Model;
 
-/// A reader as a source, with no buffer of its own. Contracts see its count of faults.
+/// A reader of std as a source, without a buffer of its own. Contracts see its count of faults.
 #[derive(Drop)]
 pub struct StdSource<R: Read> {
     reader: R,
@@ -51,7 +51,7 @@ impl<R: Read> Source for StdSource<R> {
     }
 }
 
-/// A writer as a sink, with no buffer of its own. Contracts see its count of faults.
+/// A writer of std as a sink, without a buffer of its own. Contracts see its count of faults.
 #[derive(Drop)]
 pub struct StdSink<W: Write> {
     writer: W,

@@ -22,7 +22,7 @@ impl Model for Words {
 }
 
 impl Words {
-    /// No words. The allocator is kept for the words to come.
+    /// No words. `push` takes its memory from this allocator.
     pub fn make(alloc: Global) -> Words
         ensures { result ≡ [] }
     {
@@ -31,7 +31,7 @@ impl Words {
         }
     }
 
-    /// Appends a copy of the word.
+    /// Appends a copy of the word. On `Memory` the words are unchanged.
     pub fn push(&mut self, w: &str) -> Result<(), Memory>
         requires { length self.old < most_words }
         ensures ok { OnOk result (self.new ≡ self.old ++ w.now ∷ []) }

@@ -1,4 +1,4 @@
-//! The files of the current folder as a shelf, which tells no content.
+//! The files of the current folder as a shelf, which does not say what it holds.
 ghost use Rattle.std.specs.Prelude.{IfOk, IsTrue, vec_len, ◌≤◌};
 ghost use Rattle.weave_base.specs.Shelf.{IsWithin};
 
@@ -27,7 +27,7 @@ impl<R: Files> Model for DirShelf<R> {
 impl<R: Files> DirShelf<R> {
     ghost use Rattle.std.specs.Prelude.{◌≡◌};
 
-    /// A shelf of the files that the runtime reaches, as they are when they are read.
+    /// A shelf of the current folder. A file is read at each call, as it is then.
     pub fn make(rt: R) -> DirShelf<R>
         ensures { result ≡ 0 }
     {
@@ -44,8 +44,8 @@ impl<R: Files> Shelf for DirShelf<R> {
 
     ghost faults = { λ s. s };
 
-    /// A name that leads out of the folder, or to the folder itself, is absent without a look at the disk. What is
-    /// there and is no file that can be read is a fault.
+    /// A name that is empty, `.` or `..` or has a `/` is absent, and the disk is not read. Any error of std is a fault,
+    /// but a file that is not found is absent, and `OutOfMemory` is `Memory`.
     fn read_text(&mut self, alloc: Global, name: &str, most: usize) -> Result<Found, ShelfStop>
         ensures within { IfOk result (IsWithin most) }
         ensures found { IfOk result (Finds None name.now most) }
@@ -71,7 +71,7 @@ fn is_plain(name: &str) -> bool {
     !name.is_empty() && name != "." && name != ".." && !name.as_bytes().contains(&b'/')
 }
 
-/// Reads a file, or so much of it that shows that it is too long.
+/// Reads a file, or its first `most` + 1 bytes where it is longer than `most`.
 fn read_file<R: Files>(rt: &R, alloc: Global, name: &str, most: usize) -> io::Result<Found>
     ensures { IfOk result (IsWithin most) }
 {

@@ -1,5 +1,22 @@
-//! The outside of the driver: where bytes come from, where they go to, the words of its command line, and the
-//! answers of calls that the outside may refuse. The crates above know of nothing else outside.
+//! The outside of the driver: where bytes come from (`Source`) and go to (`Sink`), where profiles' texts are found by
+//! name (`Shelf`), and the words of a command line (`Words`). The crates above know of nothing else outside.
+//!
+//! Each source, sink and shelf counts its faults, and `Failed` comes only where the count rose. A failed read takes no
+//! byte and a failed write appends none, so after a failure the same call may be made again. `put_all` appends the
+//! whole piece, or a proper prefix of it where a write fails.
+//!
+//! - `MemSource`, `MemSink` and `MemShelf` show what they hold to contracts. They fail exactly at the listed calls, and
+//!   the sink also where a piece finds no room.
+//! - `StdSource` and `StdSink` are readers and writers of std. They count each error of std, `Interrupted` too, and do
+//!   not say what they hold: their contracts bound how many bytes a call moves, and tests show that the bytes are those
+//!   of std.
+//! - `DirShelf` is the current folder, and does not say what it holds. Its contract says that a text is at most as long
+//!   as is asked for, and that exactly each `Failed` is counted. Tests show the rest: a name that is empty, `.`, `..`
+//!   or has a `/` is absent, so is a file that is not there, and a folder in the place of a file is `Failed`. A read of
+//!   at most `most` bytes takes at most `most` + 1 from the file.
+//!
+//! No clause says when memory runs out. A call that takes an allocator may answer `Memory`, and so may `Words::push`;
+//! its clauses say what then holds, and a test shows that it can succeed.
 #![tactic(auto)]
 
 mod adapters;

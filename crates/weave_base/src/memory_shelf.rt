@@ -1,4 +1,4 @@
-//! A shelf in memory, which fails where it is told to.
+//! A shelf in memory, which fails exactly at the listed reads.
 ghost use Rattle.std.specs.Option.{option_copied};
 ghost use Rattle.std.specs.Prelude.{find, string_bytes, ◌≡◌};
 ghost use Rattle.std.specs.Str.{bytes_eq};

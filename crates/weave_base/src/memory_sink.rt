@@ -1,4 +1,4 @@
-//! A sink in memory, which fails and comes short where it is told to.
+//! A sink in memory, which fails and takes short pieces exactly as listed.
 ghost use Rattle.std.specs.Io.{WritesAtMost};
 ghost use Rattle.std.specs.Io.KnownBytes.{WriteAppends};
 ghost use Rattle.std.specs.Prelude.{All, Contains, IfOk, IsErr, Some, [], if◌then◌else◌, is_ok, length, min};
@@ -41,7 +41,7 @@ impl Model for MemSink {
 }
 
 impl MemSink {
-    /// An empty sink for `room` bytes, whose memory is taken here: a write takes none. Write `k`, counted from 1,
+    /// An empty sink for `room` bytes. It allocates them here, and a write takes no memory. Write `k`, counted from 1,
     /// fails where `fails` has `k`, and where the piece is not empty and no room is left. Any other write takes at most
     /// entry `(k - 1) mod takes.len()` of `takes`, and with no entry as many bytes as there is room for.
     pub fn make(

@@ -1,4 +1,4 @@
-//! A source in memory, which fails and comes short where it is told to.
+//! A source in memory, which fails and gives short pieces exactly as listed.
 ghost use Rattle.std.specs.Io.{ReadsAtMost};
 ghost use Rattle.std.specs.Io.KnownBytes.{ReadConsumes};
 ghost use Rattle.std.specs.Prelude.{All, Contains, IfOk, IsErr, Some, drop, if◌then◌else◌, is_ok, length, min, vec_len};

@@ -8,7 +8,7 @@ pub enum Found {
     Text(Vec<u8>),
     /// No text has the name.
     Absent,
-    /// The text is longer than was wanted.
+    /// The text has more bytes than were asked for.
     TooLong,
 }
 
@@ -26,10 +26,10 @@ pub trait Shelf {
     ghost use Rattle.std.specs.Prelude.{IfOk, List, Option, ℕ, ◌≡◌};
     ghost use Rattle.weave_base.specs.Shelf.{Finds, IsWithin, NamedText, StopHasCause};
 
-    /// The texts, where the shelf tells them: of two of one name the first counts.
+    /// The texts, or `None` where the shelf does not say what it holds. Of two of one name the first counts.
     ghost files: { Self → Option (List NamedText) };
 
-    /// How many reads failed. The count never falls, and may stand still at the last value of 64 bits.
+    /// How many reads failed. The count never falls, and stays at the last value of 64 bits.
     ghost faults: { Self → ℕ };
 
     /// Gives a copy of the text of this name, where it has at most `most` bytes.

@@ -7,15 +7,15 @@ ghost use Rattle.weave_base.specs.Parts.{AppendsPart};
 
 use crate::Failed;
 
-/// Takes bytes, each piece behind the ones before it.
+/// Takes bytes, and appends each piece to those before it.
 pub trait Sink {
-    /// The bytes that it holds, where the sink tells them.
+    /// The bytes that were written, or `None` where the sink does not say what it holds.
     ghost held: { Self → Option (List ℕ) };
 
-    /// How many writes failed. The count never falls, and may stand still at the last value of 64 bits.
+    /// How many writes failed. The count never falls, and stays at the last value of 64 bits.
     ghost faults: { Self → ℕ };
 
-    /// Takes some bytes from the front of the piece and says how many: at least one of a piece that is not empty.
+    /// Appends a prefix of the piece and gives its length: at least one byte of a piece that is not empty.
     ///
     /// `Err` takes no byte, and comes only where the count of faults rose; the sink may be written to again.
     fn write(&mut self, piece: &[u8]) -> Result<usize, Failed>
@@ -26,7 +26,7 @@ pub trait Sink {
 }
 
 /// Writes the whole piece, by as many writes as the sink needs. The first write that fails ends it, and then the sink
-/// has taken a front of the piece and not all of it.
+/// has taken a proper prefix of the piece.
 pub fn put_all<K: Sink>(k: &mut K, piece: &[u8]) -> Result<(), Failed>
     ensures ok { OnOk result (Appends (K.held k.old) (K.held k.new) piece.now) }
     ensures part { OnErr result (AppendsPart (K.held k.old) (K.held k.new) piece.now) }

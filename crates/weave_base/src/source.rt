@@ -6,15 +6,15 @@ ghost use Rattle.weave_base.specs.Causes.{HasCause};
 
 use crate::Failed;
 
-/// Bytes, read from the front.
+/// Gives bytes, the first ones first.
 pub trait Source {
-    /// The bytes that are left, where the source tells them.
+    /// The bytes that are left, or `None` where the source does not say what it holds.
     ghost left: { Self → Option (List ℕ) };
 
-    /// How many reads failed. The count never falls, and may stand still at the last value of 64 bits.
+    /// How many reads failed. The count never falls, and stays at the last value of 64 bits.
     ghost faults: { Self → ℕ };
 
-    /// Reads the next bytes into the front of `buf` and says how many. What `buf` holds behind them is left open.
+    /// Reads the next bytes into the beginning of `buf` and gives their number. What `buf` has after them is left open.
     ///
     /// A buffer that is not empty gets no byte only at the end. `Err` takes no byte, and comes only where the count
     /// of faults rose; the source may be read again.

@@ -1,4 +1,4 @@
-//! The steps of a reader of lines: a count, the first byte of a packet, or bytes of a unit or a literal.
+//! The steps of a reader of lines: it reads a count, the first byte of a packet, or bytes of a unit or of a literal.
 ghost use Rattle.pwg_lines.specs.Reading.{Takes};
 ghost use Rattle.pwg_lines.specs.States.{IsOpen};
 ghost use Rattle.std.specs.Prelude.{[], length, min, take, ◌-◌, ◌<◌, ◌∷◌, ◌≡◌, ◌≤◌};
@@ -11,7 +11,7 @@ use crate::unit::{unit_of, white_of};
 use pwg_definitions::LineFault;
 
 impl LineReader {
-    /// Reads one part of a group, at least a byte, and gives the number of its bytes.
+    /// Reads one part of a group, at least a byte, and gives its length.
     pub(crate) fn step(&mut self, bytes: &[u8]) -> usize
         requires some { 0 < length bytes.now }
         requires is_open { IsOpen self.old.state }
@@ -67,7 +67,7 @@ impl LineReader {
         };
     }
 
-    /// Ends the line with white.
+    /// Fills the rest of the line with white.
     fn fill_white(&mut self)
         requires { self.old.state ≡ State.Packet }
         ensures { Takes self.old self.new (128 ∷ []) }
@@ -79,7 +79,7 @@ impl LineReader {
         self.state = State::Full;
     }
 
-    /// Reads bytes of the unit of a run, as many as there are and are wanted, and gives their number.
+    /// Reads bytes of the unit of a run, as many as are wanted or as there are, and gives their number.
     fn feed_run(&mut self, units: usize, read: usize, bytes: &[u8]) -> usize
         requires { self.old.state ≡ State.Run units read }
         ensures count { result ≡ min (length bytes.now) ((row_of self.old.form.kind).unit - read) }
@@ -99,7 +99,7 @@ impl LineReader {
         wanted
     }
 
-    /// Reads bytes of a literal, as many as there are and are wanted, and gives their number.
+    /// Reads bytes of a literal, as many as are wanted or as there are, and gives their number.
     fn feed_literal(&mut self, wanted: usize, bytes: &[u8]) -> usize
         requires { self.old.state ≡ State.Literal wanted }
         ensures count { result ≡ min (length bytes.now) wanted }

@@ -1,4 +1,4 @@
-//! Pages are given group by group, in whatever pieces they come.
+//! Pages are given group by group, whatever the pieces of the source.
 use super::{WANT, colours, grey, push_page, read_two_pages, sync};
 use crate::PageReader;
 use std::test::Fail;
