@@ -1,4 +1,4 @@
--- A tile is changed, and what is legal stays so.
+-- A change of one tile that keeps a legal state legal.
 use Rattle.std.proofs.Common.{◌≡◌, ℕ, ◌<◌, Bool, true, false, ap, arith, inl, inr, refl, sym, ◌∙◌, subst, length-set}
 use Rattle.std.proofs.lemmas.Bool.{cases_lt}
 use Rattle.tile_shape.specs.Geometry.{IsTile}

@@ -57,7 +57,7 @@ unfolding tile_at
 at_same core p t whole tile =
     get_or-set_same core.tiles (number core.shape p) t fresh (omega (arith, whole.count, number_inside core.shape p tile))
 
--- every tile is the changed one, or as it was
+-- every tile is the changed one, or unchanged
 pub changed : (core : CoreState) (p q : Place) (t : TileState) → IsCore core → IsTile core.shape p → IsTile core.shape q
     → ((q ≡ p) × (tile_at (with_tile core p t) q ≡ t)) ⊎ (tile_at (with_tile core p t) q ≡ tile_at core q)
 unfolding tile_at

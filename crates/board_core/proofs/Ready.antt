@@ -15,7 +15,7 @@ use Rattle.board_core.proofs.Numbers.{before_less, number_inside, same_place}
 abbrev pub NoneBelow : CoreState → ℕ → Type 0
 NoneBelow core n = (q : Place) → number core.shape q < n → ¬ IsReadyTile core q
 
--- the tile of a number, where there are so many columns
+-- the tile of a number, where a band has this many columns
 abbrev pub place_in : ℕ → ℕ → Place
 place_in columns n = record { c = n % columns; j = n / columns }
 

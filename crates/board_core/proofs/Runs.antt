@@ -41,7 +41,7 @@ start_legal s = record {
   once = sent_once (start s);
 }
 
--- What is so of any core that events lead to.
+-- What holds of any state that events lead to.
 pub record IsReached (s : Shape) (core : CoreState) : Type 0 where
   pub shape : core.shape ≡ s
   pub whole : IsCore core

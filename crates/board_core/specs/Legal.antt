@@ -16,7 +16,7 @@ pub record Legal (core : CoreState) : Type 0 where
   -- no edge is listed twice
   pub once : AreOnce (sent_edges core)
 
--- no seat works on a tile, and a tile is not done
+-- no tile is taken, and one is not posted
 pub record IsIdle (core : CoreState) : Type 0 where
   pub none_taken : (p : Place) (seat : ℕ) → IsTile core.shape p → ¬ IsTakenBy core p seat
   pub not_done : ¬ ((p : Place) → IsTile core.shape p → IsPosted core p)

@@ -1,4 +1,4 @@
--- What is known of each tile's dots and edges while the tiles are worked.
+-- The dots and edges of the tiles while they are worked.
 use Rattle.std.specs.Prelude.{◌≡◌, ℕ, ℤ, ◌<◌, Bool, List}
 use Rattle.diffusion_definitions.specs.Diffusion.{Errors, Plane, Table, on}
 use Rattle.tile_shape.specs.Geometry.{IsAt, IsPixel, IsTile}
@@ -32,8 +32,8 @@ pub record IsResult (w : Window) (p : Place) (r : TileResult) : Type 0 where
   pub dots : (i row offset x y : ℕ) → i < w.inks → IsAt p row offset x y → IsPixel w.shape x y
       → r.dots i row offset ≡ on w.kernel (w.plane i) (w.errors i) y x
 
--- Dots and edges of each tile that is taken or posted, under one condition: where the edges that come to it are right,
--- so is the tile.
+-- The dots and edges of each tile that is taken or posted: where the edges that come to it are right,
+-- so are its own.
 pub record IsRecord (w : Window) (core : CoreState) (results : Place → TileResult) : Type 0 where
   pub works : (p : Place) → IsTile core.shape p → IsBegun core p
       → ((from : Place) (d : Dir) → Gives core.shape from d p → HasEdge w d from (results from))

@@ -13,7 +13,7 @@ pub record CoreState : Type 0 where
   pub shape : Shape
   pub tiles : List TileState
 
--- the window is one that may be, and each of its tiles is there
+-- the window's size is within bounds, and the state has each of its tiles
 pub record IsCore (core : CoreState) : Type 0 where
   pub shape : IsShape core.shape
   pub count : length core.tiles ≡ columns_of core.shape * bands_of core.shape
@@ -26,7 +26,7 @@ fresh = record { status = Waiting; right = false; bottom = false; corner = false
 abbrev pub start : Shape → CoreState
 start s = record { shape = s; tiles = replicate (columns_of s * bands_of s) fresh }
 
--- how many tiles stand before this one, by band and then column
+-- the number of a tile, by band and then column
 abbrev pub number : Shape → Place → ℕ
 number s p = p.j * columns_of s + p.c
 
@@ -59,7 +59,7 @@ has_sent t Corner = t.corner
 abbrev pub sent : CoreState → Place → Dir → Bool
 sent core p d = has_sent (tile_at core p) d
 
--- An edge: the tile that it comes from, and its way.
+-- An edge: the tile that it comes from, and its kind.
 pub record Edge : Type 0 where
   pub from : Place
   pub dir : Dir
@@ -73,7 +73,7 @@ abbrev pub sent_of : CoreState → Place → List Edge
 sent_of core p =
     where_sent (sent core p Right) p Right ++ (where_sent (sent core p Bottom) p Bottom ++ where_sent (sent core p Corner) p Corner)
 
--- those of so many tiles of band j, from column c on, and of so many bands, from band j on
+-- the edges sent by the given number of tiles of band j, from column c on, and of bands, from band j on
 abbrev pub sent_in_band : CoreState → ℕ → ℕ → ℕ → List Edge
 sent_in_band core j c zero = []
 sent_in_band core j c (suc n) = sent_of core (record { c = c; j = j }) ++ sent_in_band core j (c + 1) n
@@ -86,7 +86,7 @@ sent_in_bands core j (suc n) = sent_in_band core j 0 (columns_of core.shape) ++ 
 abbrev pub sent_edges : CoreState → List Edge
 sent_edges core = sent_in_bands core 0 (bands_of core.shape)
 
--- no edge stands in the list twice
+-- no edge is in the list twice
 abbrev pub IsListed : Edge → List Edge → Type 0
 IsListed x [] = ⊥
 IsListed x (y ∷ ys) = (x ≡ y) ⊎ IsListed x ys

@@ -1,4 +1,4 @@
--- What an event does, and which are refused.
+-- What an event does, and when it is refused.
 use Rattle.std.specs.Prelude.{◌≡◌, ℕ, ◌<◌, ◌⊎◌, true, false, List, [], ◌∷◌, slice_set}
 use Rattle.tile_shape.specs.Geometry.{IsReceiver, IsTile}
 use Rattle.tile_shape.specs.declared.tiles.Dir.{Dir}
@@ -108,7 +108,7 @@ pub record IsReadyTile (core : CoreState) (p : Place) : Type 0 where
   pub waiting : IsWaiting core p
   pub whole : ¬ Lacks core p
 
--- one tile stands before another: in a band above, or left of it in its band
+-- one tile comes before another: in a band above, or left of it in its band
 abbrev pub IsBefore : Place → Place → Type 0
 IsBefore q p = (q.j < p.j) ⊎ ((q.j ≡ p.j) × (q.c < p.c))
 

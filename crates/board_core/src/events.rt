@@ -1,4 +1,4 @@
-//! What comes to a tile, and why it may not.
+//! The events of a tile, and the causes to refuse them.
 use thiserror::Error;
 use tile_shape::{Dir, Place};
 
@@ -9,7 +9,7 @@ pub enum Event {
     Take { place: Place, seat: u32 },
     /// The seat sends an edge of the tile to the tile that receives it.
     Send { place: Place, dir: Dir, seat: u32 },
-    /// The seat is done with the tile, and has sent each edge that has a receiver.
+    /// The seat has finished the tile, and has sent each edge that has a receiver.
     Post { place: Place, seat: u32 },
 }
 

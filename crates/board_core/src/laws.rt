@@ -1,4 +1,4 @@
-//! The laws of the events, each as the contract of an empty function.
+//! The laws of the events, each the contract of an empty function.
 ghost use Rattle.std.specs.Prelude.{List, ℕ, ◌<◌, ◌≡◌};
 ghost use Rattle.board_core.specs.Legal.{IsIdle, Legal};
 ghost use Rattle.board_core.specs.Records.{IsRecord, IsResult, TileResult, Window};
@@ -15,14 +15,14 @@ pub fn the_start_is_legal()
     ensures legal { (s : Shape) → IsShape s → Legal (start s) }
 {}
 
-/// What an accepted event leaves is legal where what it found was.
+/// An accepted event keeps a legal state legal.
 pub fn an_accepted_event_keeps_legal()
     ensures core { (core : CoreState) (e : Event) → IsCore core → IsCore (after core e) }
     ensures legal { (core : CoreState) (e : Event) → IsCore core → Legal core → IsAccepted core e
         → Legal (after core e) }
 {}
 
-/// So after any list of accepted events from the start.
+/// After any list of accepted events from the start the state is legal.
 pub fn every_run_is_legal()
     ensures core { (s : Shape) (events : List Event) (core : CoreState) → IsShape s → Runs (start s) events core
         → IsCore core }
@@ -30,12 +30,12 @@ pub fn every_run_is_legal()
         → Legal core }
 {}
 
-/// Where no tile is taken and not all are posted, one is ready: no order of work comes to a dead end.
+/// Where no tile is taken and not all are posted, one is ready: no order of work is a dead end.
 pub fn idle_seats_have_a_ready_tile()
     ensures { (core : CoreState) → IsCore core → Legal core → IsIdle core → (p : Place) × IsReadyTile core p }
 {}
 
-/// The law on records. In whatever order the tiles are worked, each that is taken or posted has the dots and the edges
+/// In whatever order the tiles are worked, each that is taken or posted has the dots and the edges
 /// of row-by-row diffusion.
 pub fn any_order()
     ensures { (s : Shape) (events : List Event) (core : CoreState) (w : Window) (results : Place → TileResult)

@@ -1,4 +1,4 @@
-//! The tiles of a window, and the events that come to them.
+//! The state of the tiles of a window, changed event by event.
 ghost use Rattle.board_core.specs.States.{number, start, tile_at};
 ghost use Rattle.board_core.specs.Steps.{Gives, IsAccepted, IsFirst, IsFirstReady, IsReadyTile, Lacks, LacksEdge, Owes};
 ghost use Rattle.board_core.specs.Steps.{OwesEdge, after, with_tile};
@@ -22,7 +22,7 @@ pub struct Core {
     shape: Shape,
     // by band and then column
     tiles: Vec<TileState>,
-    // none of so many first tiles waits
+    // none of the first `begun` tiles waits
     begun: usize,
 }
 
@@ -62,7 +62,7 @@ impl Core {
         }
     }
 
-    /// Takes one event, or refuses it and leaves the tiles as they are.
+    /// Accepts one event, or refuses it and leaves the tiles unchanged.
     pub fn step(&mut self, e: Event) -> Result<(), CoreFault>
         ensures accepted { OnOk result (IsAccepted self.old e) }
         ensures after { OnOk result (self.new ≡ after self.old e) }
@@ -181,7 +181,7 @@ impl Core {
         place.c < self.shape.columns() && place.j < self.shape.bands()
     }
 
-    // What is kept of a tile.
+    // The state of a tile.
     fn tile(&self, place: Place) -> TileState
         requires { IsTile self.now.shape place }
         ensures { result ≡ tile_at self.now place }
@@ -189,7 +189,7 @@ impl Core {
         self.tiles[self.number(place)]
     }
 
-    // Puts what is kept of a tile that does not wait any more.
+    // Sets the state of a tile, which does not wait any more.
     fn put(&mut self, place: Place, tile: TileState)
         requires tile { IsTile self.old.shape place }
         requires begun { tile.status ≢ Waiting }
@@ -202,7 +202,7 @@ impl Core {
         }
     }
 
-    // How many tiles stand before one.
+    // The number of a tile, by band and then column.
     fn number(&self, place: Place) -> usize
         requires { IsTile self.now.shape place }
         ensures is { result ≡ number self.now.shape place }

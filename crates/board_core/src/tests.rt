@@ -149,7 +149,7 @@ fn plain_ready(tiles: &[Tile; 15]) -> Option<Place> {
     None
 }
 
-// The next of a row of numbers that look random.
+// The next pseudo-random number.
 fn drawn(last: u32) -> u32
     ensures { result < 65537 }
 {
@@ -198,7 +198,7 @@ fn tiles_of(order: &[usize; 15], end: usize) -> [usize; 3]
     done
 }
 
-// Whether the next tile of a band may be taken, where so many of each band are done.
+// Whether the next tile of a band may be taken, where this many tiles of each band are done.
 fn may_follow(done: &[usize; 3], band: usize) -> bool
     requires { band < 3 }
 {
@@ -216,7 +216,7 @@ fn first_band(done: &[usize; 3]) -> usize
     0
 }
 
-// Goes on from a place of the order with the uppermost band that may follow.
+// Fills the order from a place on, each time with the uppermost band that may follow.
 fn fill(order: &mut [usize; 15], from: usize)
     requires { from ≤ 15 }
 {

@@ -1,4 +1,4 @@
-//! What is kept of each tile.
+//! The state of a tile.
 use tile_shape::Dir;
 
 /// Where the work on a tile stands.
@@ -8,7 +8,7 @@ pub enum Status {
     Waiting,
     /// This seat works on it.
     Taken(u32),
-    /// This seat is done with it.
+    /// This seat has finished it.
     Posted(u32),
 }
 
@@ -41,7 +41,7 @@ impl TileState {
         }
     }
 
-    // The tile when it has sent this edge.
+    // The state after this edge was sent.
     pub(crate) fn with_sent(self, dir: Dir) -> TileState
         ensures { result ≡ with_sent self dir }
     {

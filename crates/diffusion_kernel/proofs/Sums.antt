@@ -1,4 +1,4 @@
--- What the code's sums are, whose numbers are held in 16 and 32 bits.
+-- The sums of the code, in numbers of 16 and 32 bits.
 use Rattle.std.proofs.Common.{ℕ, ℤ, pos, ◌≡◌, ◌<◌, ◌≤◌, ◌+◌, ◌-◌, ◌*◌, ◌/◌, ◌%◌, ◌-ℤ◌, negsuc, nat_abs, ◌+ℤ◌, ◌*ℤ◌, to_z, of_z, w16, w32}
 use Rattle.std.proofs.Common.{FitsSigned, arith, ap, ◌∙◌, lit≤, subst, sym}
 use Rattle.std.proofs.lemmas.Int.{ints}

@@ -18,6 +18,6 @@ row_weights dx dy (share ∷ shares) =
     let more : List Weight = row_weights (dx +ℤ pos 1) dy shares in
     if share == 0 then more else (record { dx = dx; dy = dy; share = share } ∷ more)
 
--- the shares of a table: its own row to the right of the pixel, then the rows below, each from two places to the left
+-- the shares of a table: those of the pixel's own row, then those of the rows below, each from dx = -2 on
 abbrev pub weights_of : Table → List Weight
 weights_of k = row_weights (pos 1) (pos 0) k.right ++ (row_weights (negsuc 1) (pos 1) k.below ++ row_weights (negsuc 1) (pos 2) k.below2)

@@ -1,4 +1,4 @@
-//! What one pixel shows, and the error that it leaves.
+//! The dot and the error of one pixel.
 ghost use Rattle.diffusion_definitions.specs.Diffusion.{EachInRange, InRange, IsParts, divisor, error_of, is_dot};
 ghost use Rattle.diffusion_definitions.specs.Diffusion.{mirrored, value, weighted, weighted_from};
 ghost use Rattle.diffusion_kernel.specs.Rows.{five_of, table_from};
@@ -24,7 +24,7 @@ pub struct Near {
 pub struct Dot {
     /// Whether a dot is printed.
     pub on: bool,
-    /// The error that is left for the pixels to come, from -2040 to 2039.
+    /// The error, of which later pixels take their shares: -2040 to 2039.
     pub err: i16,
 }
 
@@ -38,7 +38,7 @@ fn parts(share: u8, err: i16) -> i32
     i32::from(share) * i32::from(err)
 }
 
-/// What a row above gives, in parts: its errors from the right, by the shares from the left.
+/// What a row above gives, in parts: its errors from the right, each times a share from the left.
 #[inline]
 fn row_parts(shares: &[u8; 5], errs: &[i16; 5]) -> i32
     requires { EachInRange errs.now }
@@ -76,7 +76,7 @@ fn quotient(parts: i32, divisor: u32) -> i32
     ensures floor { result ≡ int_div_euclid parts (pos divisor) }
     ensures in_range { InRange result }
 {
-    // the least error is -2040, so that no sign is left for the division to look at
+    // parts of errors are -2040 x divisor or more: the raised number is not negative, so the division rounds down
     let raised = (parts + 2040 * divisor as i32) as u32;
     (raised / divisor) as i32 - 2040
 }
@@ -120,7 +120,7 @@ impl Kernel {
         }
     }
 
-    /// What a pixel of amount `a` shows among the errors near it. Beside the plane and above the page they are 0.
+    /// The dot and the error of a pixel of amount `a`. Errors beside the plane and above the page are 0.
     #[inline]
     #[tactic(auto, unfolding(diffusion_definitions::specs::Diffusion::value))]
     pub fn pixel(self, a: u8, errs: &Near) -> Dot

@@ -3,7 +3,7 @@
 /// A published kernel of error diffusion.
 #[derive(Clone, Copy, Debug, PartialEq, Eq)]
 pub enum Kernel {
-    /// Floyd and Steinberg 1976: four shares, in sixteenths.
+    /// Floyd and Steinberg 1976: four shares, in parts of 16.
     Floyd,
     /// Jarvis, Judice and Ninke 1976: twelve shares, in parts of 48.
     Jarvis,
@@ -22,14 +22,14 @@ pub struct Weight {
     pub share: u8,
 }
 
-/// The shares of a pixel's error as a table prints them, with those that are 0.
+/// The shares of a pixel's error as a published table has them, with those that are 0.
 #[derive(Clone, Copy)]
 pub(crate) struct Shares {
-    /// For the pixels one and two to the right.
+    /// One and two pixels to the right.
     pub(crate) right: [u8; 2],
-    /// One row below, from two to the left to two to the right.
+    /// One row below, from two pixels to the left to two to the right.
     pub(crate) below: [u8; 5],
-    /// Two rows below, likewise.
+    /// The same two rows below.
     pub(crate) below2: [u8; 5],
 }
 

@@ -1,4 +1,4 @@
--- A pixel takes each share from where it stands: the error at x - dx, y - dy by the share at dx, dy.
+-- The error at x - dx, y - dy gives to the pixel at x, y by the share at dx, dy.
 use Rattle.std.proofs.Common.{ℕ, ℤ, pos, suc, zero, ◌≡◌, ◌<◌, ◌≤◌, ◌+◌, ◌-◌, ◌*◌, ◌+ℤ◌, ◌*ℤ◌, ◌∙◌, ap, refl, arith, List, [], ◌∷◌, length}
 use Rattle.std.proofs.Common.{slice_index_or}
 use Rattle.std.specs.Int.{int_div_euclid}

@@ -13,7 +13,7 @@ same_high p s y = elim (cases_lt (s + y) p.height) [
 same_width : (p : Plane) (s y : ℕ) → row_width (rest s p) y ≡ row_width p (s + y)
 same_width p s y = ap (λ b. cond b p.width 0) (same_high p s y)
 
--- errors count from two rows above the plane, so those of row s - 2 stand at s
+-- rows of errors count from two above the plane: those of row s - 2 are at s
 pub slab : (k : Table) (p : Plane) (top : Errors) (s : ℕ) (y : ℕ)
     → errors k (rest s p) (λ t. errors k p top (s + t)) y ≡ errors k p top (s + y)
 unfolding errors
@@ -30,7 +30,7 @@ slab k p top s (suc (suc y)) =
     ∙ ap (row (e (s + y)) (e (suc (s + y)))) (same_width p s y)
     ∙ sym (ap e moved)
 
--- the first rows know nothing of those below
+-- the first rows do not depend on those below
 pub first_rows : (k : Table) (p : Plane) (top : Errors) (h : ℕ) → h ≤ p.height → (y : ℕ) → y < h + 2
     → errors k (cut h p) top y ≡ errors k p top y
 unfolding errors

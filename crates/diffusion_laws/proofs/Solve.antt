@@ -1,4 +1,4 @@
--- The errors by recursion solve the rule, and they are its one solution.
+-- The errors of the definition solve the rule, and they are its one solution.
 use Rattle.std.proofs.Common.{ℕ, ℤ, pos, suc, zero, ◌≡◌, ◌+◌, ◌<◌, ◌≤◌, ◌∙◌, true, false, cond, ltb, ap, refl, sym, arith, [], ◌∷◌}
 use Rattle.std.proofs.lemmas.Bool.{lt-ltb, le-ltb}
 use Rattle.diffusion_definitions.specs.Diffusion.{Table, Plane, Errors, errors, row_errors, row_width, five, value, error_of, Solves}
@@ -50,7 +50,7 @@ row_pixel k up2 up1 w a x h =
     ap row four ∙ ap (λ b. cond b (at (suc (suc (suc x))) (suc (suc x))) (pos 0)) (lt-ltb x w h)
     ∙ ap (λ m. at m (suc (suc x))) three ∙ ap (at (x + 3)) two
 
--- A row of the errors is that of its amounts below the two before.
+-- A row of the errors is that of its amounts below the two rows above.
 row_of : (k : Table) (p : Plane) (top : Errors) (y : ℕ)
     → errors k p top (y + 2) ≡ row_errors k (errors k p top y) (errors k p top (y + 1)) (row_width p y) (p.amount y)
 unfolding errors

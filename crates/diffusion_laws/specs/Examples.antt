@@ -1,4 +1,4 @@
--- Words for worked examples.
+-- What the examples are written with.
 use Rattle.std.specs.Prelude.{ℕ, ℤ, pos, suc, zero, ◌+◌, ◌-ℤ◌, Bool, List, [], ◌∷◌, length, map, replicate, slice_index, slice_index_or}
 use Rattle.diffusion_definitions.specs.Diffusion.{Table, Plane, value, errors, no_top, on}
 
@@ -49,6 +49,6 @@ given_by_same k e = map (λ i. value k 0 (only_at e i) [] []) (counted 0 2)
 abbrev pub given_by_row : Table → ℤ → List ℤ
 given_by_row k e = map (λ i. value k 0 [] (only_at e i) []) (counted 0 5)
 
--- likewise two rows above
+-- what it gets from an error e at x - 2 to x + 2, two rows above
 abbrev pub given_by_row2 : Table → ℤ → List ℤ
 given_by_row2 k e = map (λ i. value k 0 [] [] (only_at e i)) (counted 0 5)

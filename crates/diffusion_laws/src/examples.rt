@@ -1,4 +1,4 @@
-//! Planes worked out by hand, which the check computes.
+//! Planes worked out by hand. The check computes each of them.
 #![tactic(auto, unfolding(diffusion_definitions::specs::Diffusion::errors, diffusion_definitions::specs::Diffusion::row_errors, diffusion_definitions::specs::Diffusion::value))]
 
 ghost use Rattle.diffusion_definitions.specs.Diffusion.{error_of, floyd, is_dot, jarvis, stucki, value};
@@ -33,7 +33,7 @@ pub fn floyd_plane_of_two_rows()
     ensures errors1 { errors_of_row floyd two_rows 1 ≡ pos 1964 ∷ minus 1084 ∷ pos 1738 ∷ minus 1379 ∷ [] }
 {}
 
-/// A dot stands from half of the greatest amount on.
+/// A dot is set from half of the greatest amount on.
 pub fn a_dot_stands_from_2040_on()
     ensures at_2040 { is_dot (pos 2040) ≡ true }
     ensures at_2039 { is_dot (pos 2039) ≡ false }
@@ -45,22 +45,22 @@ pub fn a_dot_stands_from_2040_on()
     ensures left_128 { error_of (pos 2048) ≡ minus 2032 }
 {}
 
-/// Each share of Floyd and Steinberg's table, by the place that an error of 16 comes from. The error at x + 1 one row
-/// above comes by the share of the pixel to the left below.
+/// Each share of Floyd and Steinberg's table, by the place of an error of 16. The error at x + 1 one row
+/// above gives by the share for the pixel below and to the left.
 pub fn each_share_of_floyd()
     ensures same { given_by_same floyd (pos 16) ≡ pos 7 ∷ pos 0 ∷ [] }
     ensures up1 { given_by_row floyd (pos 16) ≡ pos 0 ∷ pos 1 ∷ pos 5 ∷ pos 3 ∷ pos 0 ∷ [] }
     ensures up2 { given_by_row2 floyd (pos 16) ≡ pos 0 ∷ pos 0 ∷ pos 0 ∷ pos 0 ∷ pos 0 ∷ [] }
 {}
 
-/// Each share of Jarvis, Judice and Ninke's table, by the place that an error of 48 comes from.
+/// Each share of Jarvis, Judice and Ninke's table, by the place of an error of 48.
 pub fn each_share_of_jarvis()
     ensures same { given_by_same jarvis (pos 48) ≡ pos 7 ∷ pos 5 ∷ [] }
     ensures up1 { given_by_row jarvis (pos 48) ≡ pos 3 ∷ pos 5 ∷ pos 7 ∷ pos 5 ∷ pos 3 ∷ [] }
     ensures up2 { given_by_row2 jarvis (pos 48) ≡ pos 1 ∷ pos 3 ∷ pos 5 ∷ pos 3 ∷ pos 1 ∷ [] }
 {}
 
-/// Each share of Stucki's table, by the place that an error of 42 comes from.
+/// Each share of Stucki's table, by the place of an error of 42.
 pub fn each_share_of_stucki()
     ensures same { given_by_same stucki (pos 42) ≡ pos 8 ∷ pos 4 ∷ [] }
     ensures up1 { given_by_row stucki (pos 42) ≡ pos 2 ∷ pos 4 ∷ pos 8 ∷ pos 4 ∷ pos 2 ∷ [] }

@@ -1,12 +1,11 @@
-//! What holds of every plane. Errors count from two rows above the plane, so those of row y stand at y + 2.
+//! What holds of every plane. Rows of errors count from two above the plane: those of row y are at y + 2.
 ghost use Rattle.diffusion_definitions.specs.Diffusion.{Errors, HasAmounts, InRange, Plane, Solves, Table, TopInRange};
 ghost use Rattle.diffusion_definitions.specs.Diffusion.{cut, divisor, errors, on, rest, value_at, weighted_from};
 ghost use Rattle.std.specs.Int.{int_div_euclid};
 ghost use Rattle.std.specs.Prelude.{length, pos, ◌*◌, ◌+ℤ◌, ◌+◌, ◌-◌, ◌<◌, ◌≡◌, ◌≤◌, ℕ};
 
 /// A pixel takes the error at (x - dx, y - dy) by the share at (dx, dy), where dx is i + 1 in the row `right` of a
-/// table and i - 2 in the two rows below. Errors count from four places left of the plane, so that of x stands at x +
-/// 4.
+/// table and i - 2 in the two rows below. Columns of errors count from four left of the plane: that of x is at x + 4.
 pub fn each_share_comes_from_its_place()
     ensures { (k : Table) (p : Plane) (e : Errors) (y x : ℕ)
         → length k.right ≤ 2 → length k.below ≤ 5 → length k.below2 ≤ 5
@@ -16,7 +15,7 @@ pub fn each_share_comes_from_its_place()
         (pos (divisor k)) }
 {}
 
-/// The errors by recursion solve the rule at each pixel, and above the plane they are the top's.
+/// The errors of the definition solve the rule at each pixel, and above the plane they are those of the top.
 #[tactic(auto, using(crate::proofs::Solve::errors_solve))]
 pub fn errors_solve_the_rule()
     ensures solve { (k : Table) (p : Plane) (top : Errors) → Solves k p (errors k p top) }
@@ -31,14 +30,15 @@ pub fn the_rule_has_one_solution()
         → (y n : ℕ) → e y n ≡ f y n }
 {}
 
-/// The rows of a plane from row s on are diffused as a plane of their own, below the errors of the two rows before it.
+/// The rows of a plane from row s on are diffused as a plane of their own, below the errors of the two rows above row
+/// s.
 #[tactic(auto, using(crate::proofs::Slab::slab))]
 pub fn rest_below_two_rows()
     ensures { (k : Table) (p : Plane) (top : Errors) (s y : ℕ)
         → errors k (rest s p) (λ t. errors k p top (s + t)) y ≡ errors k p top (s + y) }
 {}
 
-/// Where the errors are those of the whole plane, so are the dots of the rows from row s on.
+/// Where the errors of the rows from row s on are those of the whole plane, so are their dots.
 #[tactic(auto, using(crate::proofs::SlabDots::slab_dots))]
 pub fn dots_of_the_rest()
     ensures { (k : Table) (p : Plane) (e f : Errors) (s : ℕ) → ((y n : ℕ) → f y n ≡ e (s + y) n)
@@ -52,7 +52,7 @@ pub fn first_rows()
         → (y : ℕ) → y < h + 2 → errors k (cut h p) top y ≡ errors k p top y }
 {}
 
-/// Nor do their dots.
+/// The dots of the first h rows do not depend on the rows below.
 #[tactic(auto, using(crate::proofs::SlabDots::first_dots))]
 pub fn dots_of_the_first_rows()
     ensures { (k : Table) (p : Plane) (e f : Errors) (h : ℕ) → h ≤ p.height → ((y n : ℕ) → y < h + 2 → f y n ≡ e y n)

@@ -1,4 +1,4 @@
--- An edge handed on is the edge handed in, and an edge that does not exist is 0.
+-- What a tile hands on is what the receiver is handed, and an edge that does not exist is zero.
 use Rattle.std.proofs.Common.{ℕ, ℤ, pos, ◌≡◌, ◌+◌, ◌-◌, ◌*◌, ◌<◌, ◌≤◌, ◌↔◌, ◌∙◌, ap, refl, sym, arith, List, get_or, slice_index_or}
 use Rattle.std.proofs.Common.{replicate, inl, inr}
 use Rattle.std.proofs.lemmas.Bool.{cases_lt}

@@ -15,7 +15,7 @@ skewed e j p u = e (32 * j + p) (u + 2 - 2 * p)
 pub record Holds (e : Errors) (j p u rows wide : ℕ) (xs : List ℤ) : Type 0 where
   pub at : (t i : ℕ) → t < rows → i < wide → slice_index_or xs (wide * t + i) (pos 0) ≡ skewed e j (p + t) (u + i)
 
--- ---- handed in
+-- ---- what a tile is handed
 
 -- the six errors left of each row of a tile
 abbrev pub IsLeft : Errors → Place → List ℤ → Type 0
@@ -29,7 +29,7 @@ IsAbove e p xs = Holds e p.j 0 (64 * p.c + 6) 2 64 xs
 abbrev pub IsCorner : Errors → Place → List ℤ → Type 0
 IsCorner e p xs = Holds e p.j 0 (64 * p.c) 2 6 xs
 
--- ---- handed on
+-- ---- what a tile hands on
 
 -- the errors at offsets 58 to 63 of each row of a tile
 abbrev pub IsRight : Errors → Place → List ℤ → Type 0
@@ -61,7 +61,7 @@ edge_length Right = 192
 edge_length Bottom = 128
 edge_length Corner = 12
 
--- an edge of the tile's own board: above the first band there is none but a top's
+-- the edge comes from a tile of the board: above the first band there are only edges of a top
 abbrev pub IsOnBoard : Dir → Place → Type 0
 IsOnBoard Right to = Unit {0}
 IsOnBoard Bottom to = 0 < to.j

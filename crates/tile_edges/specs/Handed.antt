@@ -8,11 +8,11 @@ use Rattle.tile_shape.specs.declared.tiles.Shape.{Shape}
 use Rattle.tile_edges.specs.Edges.{IsOnBoard, edge_length}
 use Rattle.tile_edges.specs.Tops.{IsCut}
 
--- Both rows of an edge of a top, or zeros where it has none.
+-- The list is both rows of an edge of a top, or zeros where the top has no such edge.
 pub record IsCopy (edge xs : List ℤ) : Type 0 where
   pub at : (i : ℕ) → i < 128 → slice_index_or xs i (pos 0) ≡ slice_index_or edge i (pos 0)
 
--- what comes from a top to a tile of the first band: its edge one column to the right, and the end of its own column's
+-- what comes from a top to the tile of column c of the first band: its edge c + 1, and the end of its edge c
 abbrev pub IsFromTop : List (List ℤ) → Dir → Place → List ℤ → Type 0
 IsFromTop top Right to xs = Unit {0}
 IsFromTop top Bottom to xs = IsCopy (slice_index_or top (to.c + 1) []) xs

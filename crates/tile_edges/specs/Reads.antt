@@ -20,7 +20,7 @@ abbrev pub GivesTo : Table → ℕ → ℕ → ℕ → ℕ → Type 0
 GivesTo k x y m n =
     ((m ≡ y + 2) × HasShare k.right n (x + 3)) ⊎ ((m ≡ y + 1) × HasShare k.below n (x + 6)) ⊎ ((m ≡ y) × HasShare k.below2 n (x + 6))
 
--- a list of rows of so many errors has this error
+-- a list of `rows` rows of `wide` errors has this error
 pub record HasError (rows wide : ℕ) (xs : List ℤ) (error : ℤ) : Type 0 where
   pub row : ℕ
   pub offset : ℕ

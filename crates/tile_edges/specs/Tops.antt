@@ -1,4 +1,4 @@
--- The two rows of errors above a plane, as the bottom edges that stand above it.
+-- The two rows of errors above a plane, as bottom edges of tiles.
 use Rattle.std.specs.Prelude.{ℕ, ℤ, pos, ◌≡◌, ◌+◌, ◌*◌, ◌/◌, ◌%◌, ◌<◌, List, [], length, slice_index_or}
 use Rattle.diffusion_definitions.specs.Diffusion.{Errors}
 use Rattle.tile_shape.specs.Geometry.{columns_of}
@@ -15,7 +15,7 @@ top_of edges t n =
 abbrev pub IsBelow : List (List ℤ) → Errors → Type 0
 IsBelow edges e = (t n : ℕ) → t < 2 → e t n ≡ top_of edges t n
 
--- The last six errors of both rows of an edge of a top.
+-- The list is the last six errors of both rows of an edge of a top.
 pub record IsCut (edge xs : List ℤ) : Type 0 where
   pub at : (t i : ℕ) → t < 2 → i < 6 → slice_index_or xs (6 * t + i) (pos 0) ≡ slice_index_or edge (64 * t + 58 + i) (pos 0)
 

@@ -25,7 +25,7 @@ pub fn an_edge_has_its_rows_and_offsets()
         ≡ skewed e p.j (row + 2) (64 * p.c + offset + 6))) }
 {}
 
-/// An edge handed on is the edge handed in.
+/// What a tile hands on is what the receiver is handed.
 pub fn an_edge_given_is_an_edge_taken()
     ensures { (e : Errors) (d : Dir) (from to : Place) (xs : List ℤ) → IsReceiver d from to
         → (IsGiven e d from xs ↔ IsTaken e d to xs) }

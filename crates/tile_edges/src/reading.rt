@@ -1,4 +1,4 @@
-//! Which errors a pixel reads, and that its tile has each of them.
+//! The errors that a pixel reads, and that its tile has each of them.
 ghost use Rattle.std.specs.Prelude.{List, length, ℕ, ℤ, ◌+◌, ◌≡◌, ◌≤◌, ◌↔◌};
 ghost use Rattle.diffusion_definitions.specs.Diffusion.{Errors, Plane, Table, floyd, jarvis, stucki, value_at};
 ghost use Rattle.tile_edges.specs.Edges.{IsAbove, IsCorner, IsLeft};
@@ -19,7 +19,7 @@ pub fn each_share_gives_an_error_that_is_read()
     ensures stucki { (x y m n : ℕ) → (GivesTo stucki x y m n ↔ ReadsAt x y m n) }
 {}
 
-/// What a pixel has to show depends on no other error than those that give to it by a share above 0.
+/// What a pixel has to show depends only on errors that give to it by a share above 0.
 pub fn no_other_error_counts()
     ensures { (k : Table) (p : Plane) (e f : Errors) (x y : ℕ)
         → length k.right ≤ 2 → length k.below ≤ 5 → length k.below2 ≤ 5

@@ -1,11 +1,11 @@
-//! The errors above a board of tiles: those of a page's top, or the bottom edges of the band before it.
+//! The errors above a board of tiles: zeros at the top of a page, or the bottom edges of the band above.
 ghost use Rattle.std.specs.Prelude.{List, [], pos, replicate, slice_index_or, ℕ, ℤ, ◌*◌, ◌+◌, ◌≡◌};
 ghost use Rattle.diffusion_definitions.specs.Diffusion.{Errors, Plane, Solves, Table, errors, on, rest};
 ghost use Rattle.tile_edges.specs.Edges.{IsAbove, IsCorner, IsPlaneOf};
 ghost use Rattle.tile_edges.specs.Tops.{AreBottoms, IsBelow, IsCut, top_of};
 ghost use Rattle.tile_shape.specs.declared.tiles.Shape.{Shape};
 
-/// The edges of the first band come from the top: above tile c stands its edge c + 1, and at the corner the end of its
+/// The edges of the first band come from the top: above tile c is its edge c + 1, and at the corner the end of its
 /// edge c.
 pub fn the_first_band_has_the_edges_of_the_top()
     ensures above { (e : Errors) (edges : List (List ℤ)) (c : ℕ) → IsBelow edges e
@@ -14,7 +14,7 @@ pub fn the_first_band_has_the_edges_of_the_top()
         → IsCut (slice_index_or edges c []) xs → IsCorner e (record { c = c; j = 0 }) xs }
 {}
 
-/// Where the top has no edge, what it hands to the first band is 0.
+/// Where the top has no edge, the first band is handed zeros.
 pub fn an_edge_that_the_top_has_not_is_zero()
     ensures above { (e : Errors) (edges : List (List ℤ)) (c : ℕ) → IsBelow edges e
         → slice_index_or edges (c + 1) [] ≡ []

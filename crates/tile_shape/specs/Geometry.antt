@@ -47,18 +47,18 @@ pub record IsIn (s : Shape) (p : Place) (x y : ℕ) : Type 0 where
   pub offset : ℕ
   pub place : IsAt p row offset x y
 
--- pixel (x, y) takes a share of the error at (a, b): up to two pixels to the left in its own row, or up to two to
+-- pixel (x, y) reads the error at (a, b): up to two pixels to the left in its own row, or up to two to
 -- either side one or two rows above
 abbrev pub Reads : ℕ → ℕ → ℕ → ℕ → Type 0
 Reads x y a b = ((b ≡ y) × (a < x) × (x ≤ a + 2)) ⊎ ((b < y) × (y ≤ b + 2) × (x ≤ a + 2) × (a ≤ x + 2))
 
--- the first row of an edge, which goes on to row 31: every row, or the last two
+-- the first row of an edge, whose last row is 31: every row, or the last two
 abbrev pub first_row : Dir → ℕ
 first_row Right = 0
 first_row Bottom = 30
 first_row Corner = 30
 
--- the first offset of an edge, which goes on to offset 63: the last six, or every one
+-- the first offset of an edge, whose last offset is 63: the last six, or every one
 abbrev pub first_offset : Dir → ℕ
 first_offset Right = 58
 first_offset Bottom = 0
@@ -88,6 +88,6 @@ pub record ComesBy (s : Shape) (d : Dir) (to : Place) (x y : ℕ) : Type 0 where
   pub row : ℕ
   pub offset : ℕ
   pub place : IsAt from row offset x y
-  -- the edge has this place
+  -- the edge has this row and this offset
   pub row_held : first_row d ≤ row
   pub offset_held : first_offset d ≤ offset

@@ -1,5 +1,4 @@
-//! The laws of the geometry, each as the contract of an empty function: the check proves what it says of the
-//! definitions.
+//! The laws of the geometry, each the contract of an empty function.
 ghost use Rattle.std.specs.Prelude.{◌*◌, ◌+◌, ◌-◌, ◌<◌, ◌≡◌, ◌≤◌, ◌⊎◌, ◌↔◌, ℕ};
 ghost use Rattle.tile_shape.specs.Geometry.{ComesBy, IsIn, IsNeeded, IsPixel, IsReceiver, IsShape, IsTile, Reads};
 ghost use Rattle.tile_shape.specs.Geometry.{bands_of, columns_of};
@@ -27,7 +26,7 @@ pub fn an_edge_joins_two_tiles()
     ensures from { (d : Dir) (p a b : Place) → IsReceiver d a p → IsReceiver d b p → a ≡ b }
 {}
 
-/// Each edge goes to a tile further on by c + 2 j, so no tile waits for itself.
+/// Each edge goes to a tile with a greater c + 2 j, so no tile waits for itself.
 pub fn an_edge_goes_on()
     ensures { (d : Dir) (from to : Place) → IsReceiver d from to → from.c + 2 * from.j < to.c + 2 * to.j }
 {}

@@ -1,4 +1,4 @@
-//! What no contract says: windows worked out by hand.
+//! Windows worked out by hand.
 use crate::{Dir, Place, Shape};
 
 /// A window of five columns and three bands.

@@ -1,4 +1,4 @@
-//! The tiles of a window: where each pixel's is, what a tile needs, and what it gives.
+//! The tiles of a window: the tile of a pixel, the edges that a tile needs, and the tiles that its edges go to.
 
 /// The place of a tile.
 #[derive(Clone, Copy, Debug, PartialEq, Eq)]
@@ -45,7 +45,7 @@ impl Shape {
     ghost use Rattle.tile_shape.specs.Geometry.{columns_of};
     ghost use Rattle.std.specs.Prelude.{IfNone, IfSome, IsTrue, ◌↔◌, ◌≡◌};
 
-    /// How many columns of tiles each band has: 1 to 129. A tile may have no pixel.
+    /// How many columns of tiles each band has: 1 to 129. Some tiles may have no pixel.
     pub fn columns(&self) -> u32
         requires { IsShape self.now }
         ensures { result ≡ columns_of self.now }
@@ -76,7 +76,7 @@ impl Shape {
         }
     }
 
-    /// Which edges a tile needs: those whose `next` it is.
+    /// The edges that a tile needs: those whose `next` it is.
     pub fn needs(&self, p: Place) -> Needs
         requires shape { IsShape self.now }
         requires tile { IsTile self.now p }

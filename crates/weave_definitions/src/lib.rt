@@ -1,3 +1,3 @@
-//! Interleaved passes: which nozzle of a head fires which row of a window in which pass. There is no code here:
-//! `specs/Weave.antt` has the definitions, `weave_laws` the law about them, and `weave_plan` computes them.
+//! Interleaved passes: which nozzle of a head fires which row of a window in which pass. Definitions alone
+//! (`specs/Weave.antt`); `weave_laws` has their law, and `weave_plan` computes them.
 #![tactic(auto)]

@@ -1,4 +1,4 @@
--- The list of firings has each row of the window once.
+-- The list of firings has each row of the window exactly once.
 use Rattle.std.proofs.Common.{◌≡◌, ◌≢◌, ℕ, zero, suc, ◌+◌, ◌-◌, ◌*◌, ◌/◌, ◌%◌, ◌<◌, ◌≤◌, Bool, true, false, cond, ◌==◌, inl, inr, nat_lt}
 use Rattle.std.proofs.Common.{if◌then◌else◌, List, [], ◌∷◌, Option, None, Some, refl, sym, ◌∙◌, ap, arith, zero-add}
 use Rattle.std.proofs.lemmas.Bool.{cases_eq, eq-eqb, eqb-true, ltb-false, ltb-true}
@@ -80,7 +80,7 @@ count-firing t i y (Some row) = record {
 
 -- ---- all of them
 
--- how often nozzle i stands on row y in pass t
+-- how often nozzle i is on row y in pass t
 row_count : ℕ → ℕ → ℕ → ℕ → ℕ → ℕ → ℕ
 row_count n pitch height y t i = count_by (λ (f : Firing). f.row == y) (firing t i (nozzle_row n pitch height t i))
 

@@ -1,4 +1,4 @@
--- Where two numbers have no common divisor but 1, the one has a multiple that is 1, counted round by the other.
+-- Where two numbers have no common divisor but 1, one of them has an inverse modulo the other.
 use Rattle.std.proofs.Common.{◌≡◌, ℕ, zero, suc, ◌+◌, ◌-◌, ◌*◌, ◌%◌, ◌<◌, ◌≤◌, inl, inr, ◌∙◌, ap, arith, subst}
 use Rattle.std.proofs.Math.Nat.{one-dvd, dvd-add, add-mul-mod_self_right}
 use Rattle.std.proofs.lemmas.Bool.{cases_lt}
@@ -52,7 +52,7 @@ euclid (suc most) m pitch (suc a) (suc b) few coprime ra rb =
         let whole : big - small + small ≡ big = omega arith in
         subst (λ n. d ∣ n) whole (dvd-add d p q)
 
--- a number below a round whose product with the pitch is 1
+-- the inverse of the pitch modulo a round
 pub record Inverse (round pitch : ℕ) : Type 0 where
   pub number : ℕ
   pub low : number < round

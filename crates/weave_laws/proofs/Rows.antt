@@ -1,4 +1,4 @@
--- Which nozzle stands on a row in which pass. `place` counts rows from the first nozzle's place in the first pass.
+-- Which nozzle is on a row in which pass. `place` counts rows from the first nozzle's row in the first pass.
 use Rattle.std.proofs.Common.{◌≡◌, ℕ, ◌+◌, ◌-◌, ◌*◌, ◌/◌, ◌%◌, ◌<◌, ◌≤◌, Bool, true, false, ◌&&◌, inl, inr, nat_lt, nat_le, if◌then◌else◌}
 use Rattle.std.proofs.Common.{None, Some, refl, sym, ◌∙◌, ap, arith}
 use Rattle.std.proofs.Math.Nat.{mod-eq_of_lt, mul-add-mod_self_right, mul-div_cancel, mul-le-mul_right}
@@ -43,7 +43,7 @@ row_under n pitch height t i y s =
 
 -- ---- the nozzle of a place
 
--- times the pitch and its inverse, counted round
+-- times the pitch and its inverse, modulo a round
 round-trip : (n pitch inverse k : ℕ) → inverse * pitch % n ≡ 1 % n → k * (inverse * pitch) % n ≡ k % n
 round-trip n pitch inverse k e =
     let once : k * 1 ≡ k = omega arith in
@@ -63,7 +63,7 @@ pass-only n pitch place t i some sum =
 
 -- ---- each place has a nozzle and a pass
 
--- what lies whole rounds below a number is so many rounds below it
+-- what lies whole rounds below a number is a number of rounds below it
 rounds : (n big small : ℕ) → 1 ≤ n → small ≤ big → small % n ≡ big % n → (big - small) / n * n + small ≡ big
 rounds n big small some le e = elim (cases_lt (big / n) (small / n)) [ inl less ↦ absurd (crossed less) | inr more ↦ apart more ]
   where

@@ -1,4 +1,4 @@
-//! A function that does nothing; its contract is a law.
+//! The law is the contract of an empty function.
 ghost use Rattle.weave_definitions.specs.Weave.{passes};
 ghost use Rattle.std.specs.Int.{IsGcd};
 ghost use Rattle.std.specs.Prelude.{ℕ, ◌≤◌};

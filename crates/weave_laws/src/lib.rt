@@ -1,4 +1,5 @@
-//! The law of interleaved passes: each row of a window is fired once.
+//! The law of interleaved passes: where the nozzles and the pitch have no common divisor, the passes fire each row of a
+//! window exactly once, and no other row.
 #![tactic(auto)]
 
 mod laws;

@@ -1,8 +1,8 @@
-//! Division by the pitch, where numbers count round by the nozzles.
+//! The inverse of the pitch modulo the number of nozzles.
 ghost use Rattle.std.specs.Int.{IsGcd};
 ghost use Rattle.std.specs.Prelude.{◌%◌, ◌*◌, ◌<◌, ◌≡◌, ◌≤◌};
 
-/// The number whose product with the pitch is 1, counted round by the nozzles.
+/// The number whose product with the pitch is 1 modulo the number of nozzles.
 pub(crate) fn inverse_of(pitch: u8, nozzles: u8) -> u8
     requires some_nozzles { 1 ≤ nozzles }
     requires some_pitch { 1 ≤ pitch }

@@ -1,4 +1,4 @@
-//! What no contract says: heads whose rows were worked by hand, and both ways of a plan against a search.
+//! Heads whose rows were worked out by hand, and both directions of a plan against a search.
 ghost use Rattle.pwg_definitions.specs.Limits.{most_rows};
 ghost use Rattle.std.specs.Int.{IsGcd};
 ghost use Rattle.std.specs.Prelude.{◌≡◌, ◌≤◌};
@@ -34,7 +34,7 @@ fn the_plan_fires_rows_zero_and_one(rt: HostRuntime) {
     assert_eq!(rt; plan.place_of(1), PassPlace { pass: 3, nozzle: 3 });
 }
 
-/// Seeks each row of a window among all passes and nozzles, and finds it once, where the plan says.
+/// Searches all passes and nozzles for each row of a window, and finds it once, where the plan says.
 fn seek_each_row(rt: &impl Abort, nozzles: u8, pitch: u8, height: u32)
     requires some_nozzles { 1 ≤ nozzles }
     requires some_pitch { 1 ≤ pitch }

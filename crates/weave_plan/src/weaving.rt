@@ -35,7 +35,7 @@ impl Model for Plan {
 }
 
 impl Plan {
-    /// A plan for a head of so many nozzles that stand `pitch` rows apart, over a window of `height` rows: at most 22
+    /// A plan for a head of `nozzles` nozzles that are `pitch` rows apart, over a window of `height` rows: at most 22
     /// inches, at 720 rows an inch.
     pub fn make(nozzles: u8, pitch: u8, height: u32) -> Plan
         requires some_nozzles { 1 ≤ nozzles }
