@@ -1,4 +1,5 @@
-//! The commands of a print job, and the ranges of their numbers.
+//! The commands of a print job, and the ranges of their numbers. `in_table` is exactly the test of the command table's
+//! ranges (`specs/Commands.antt` of `escp2_definitions`). It takes no memory.
 #![tactic(auto)]
 
 mod table;

@@ -8,7 +8,7 @@ use crate::Command;
 pub const MOST_COLUMNS: u16 = 8191;
 
 /// Whether the command's numbers are in the ranges of the command table (ESC/P Reference Manual, graphics commands; the
-/// ranges are this project's own). A command without numbers always is. The rows of a raster are not looked at.
+/// ranges are this project's own). A command without numbers always is. The rows of a raster are not tested.
 pub fn in_table(c: &Command) -> bool
     ensures { result ≡ in_table_of c.now }
 {

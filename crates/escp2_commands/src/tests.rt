@@ -1,4 +1,4 @@
-//! The edges of each range of the command table, written here by hand.
+//! The ends of each range of the command table, written here by hand.
 use crate::{Command, RasterHead, in_table};
 use weave_base::Ink;
 

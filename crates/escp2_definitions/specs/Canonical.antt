@@ -1,21 +1,21 @@
--- The one code of a row that is written (ESC/P Reference Manual, run length encoding of `ESC .`): a repeated byte where
--- three or more equal bytes stand, and the bytes between as they are.
+-- The canonical code of a row, which is written (ESC/P Reference Manual, run length encoding of `ESC .`): a repeated
+-- byte where three or more bytes are equal, and the bytes between as they are.
 use Rattle.std.specs.Prelude.{ℕ, zero, suc, ◌+◌, ◌==◌, nat_lt, if◌then◌else◌, List, [], ◌∷◌, length, take, drop, slice_index}
 use Rattle.std.specs.List.{flat_map, take_while}
 use Rattle.escp2_definitions.specs.RowCode.{RowPacket, packet_code, packet_row}
 use Rattle.escp2_definitions.specs.RowCode.RowPacket.{Bytes, Repeat}
 
--- how many bytes from the front on are equal, up to 128
+-- how many bytes at the beginning are equal, up to 128
 unfoldable pub equal_at : List ℕ → ℕ
 equal_at row = length (take_while (λ byte. byte == slice_index row 0) (take 128 row))
 
--- how many bytes stand before the first place of three equal bytes, or before the end, up to `most`
+-- how many bytes come before the first three equal bytes, or before the end, up to `most`
 unfoldable pub apart_at : ℕ → List ℕ → ℕ
 apart_at zero row = 0
 apart_at (suc most) [] = 0
 apart_at (suc most) (b ∷ row) = if nat_lt 2 (equal_at (b ∷ row)) then 0 else 1 + apart_at most row
 
--- the packet at the front of a row: three equal bytes or more as one repeated byte, else the bytes up to such a place
+-- the first packet of a row: three or more equal bytes as one repeated byte, else the bytes up to such a place
 abbrev pub next_packet : List ℕ → RowPacket
 next_packet row =
     let equal = equal_at row in

@@ -17,7 +17,7 @@ use Rattle.escp2_definitions.specs.RowCode.RowsRead.{RowsAre, RowsPart, RowsWron
 abbrev pub is_between : ℕ → ℕ → ℕ → Bool
 is_between low high n = nat_le low n && nat_le n high
 
--- units, the steps of a raster and its rows are at least 1
+-- a unit, the steps of a raster and its number of rows are at least 1
 abbrev pub is_some : ℕ → Bool
 is_some n = nat_le 1 n
 
@@ -33,7 +33,7 @@ is_length n = is_between 1 32767 n
 abbrev pub is_position : ℕ → Bool
 is_position n = nat_le n 32767
 
--- a bottom margin stands below its top margin
+-- a bottom margin is below its top margin
 abbrev pub is_bottom : ℕ → ℕ → Bool
 is_bottom top n = is_between (top + 1) 32767 n
 
@@ -106,7 +106,7 @@ abbrev pub rows_len : Command → ℕ
 rows_len (c.Raster head) = head.m * row_bytes head
 rows_len other = 0
 
--- the rows of a command, as it writes them: plain, or each row by its code
+-- the bytes that spell the rows of a command: plain, or each row by its code
 abbrev pub IsRowsText : Command → List ℕ → List ℕ → Type 0
 IsRowsText (c.Raster head) rows text = MatchBool (head.c == 0) (text ≡ rows) (RowsCode head.m (row_bytes head) text rows)
 IsRowsText other rows text = text ≡ rows
@@ -121,23 +121,23 @@ pub record Spells (command : Command) (rows bytes : List ℕ) : Type 0 where
 
 -- ---- how a command is read
 
--- What stands at the front of the bytes: a whole command with its rows and its length, less than a whole
--- one, or a fault at this place.
+-- What the bytes begin with: a whole command, with its rows and its length; a part of a command;
+-- or a fault at this place of the bytes.
 pub data Heard : Type 0 where
   One : Command → List ℕ → ℕ → Heard
   Part : Heard
   Wrong : ℕ → JobCause → Heard
 
--- a command that takes nothing more, of this length
+-- a whole command of this length, without rows
 abbrev pub whole : Command → ℕ → List ℕ → Heard
 whole command len rest = One command [] len
 
--- A number of one byte at a place: refused where it is out of range, else it goes on.
+-- A number of one byte at a place: refused where it is out of range, else the command goes on with `next`.
 abbrev pub number : (ℕ → Bool) → ℕ → (ℕ → List ℕ → Heard) → List ℕ → Heard
 number in_range at next [] = Part
 number in_range at next (n ∷ rest) = if in_range n then next n rest else Wrong at BadValue
 
--- A number of two bytes: refused as soon as both stand there.
+-- A number of two bytes, the low one first: refused as soon as both are there.
 abbrev pub wide_number : (ℕ → Bool) → ℕ → (ℕ → List ℕ → Heard) → List ℕ → Heard
 wide_number in_range at next [] = Part
 wide_number in_range at next (low ∷ []) = Part
@@ -154,7 +154,7 @@ with_rows head (RowsAre rows at) = One (c.Raster head) rows at
 with_rows head RowsPart = Part
 with_rows head (RowsWrong at) = Wrong at RunCode
 
--- the rows behind a raster's numbers, which take eight bytes
+-- the rows after a raster's numbers, which take eight bytes
 abbrev pub raster_rows : RasterHead → List ℕ → Heard
 raster_rows head rest =
     with_rows head (if head.c == 0 then plain_at (head.m * row_bytes head) 8 rest else rows_at head.m (row_bytes head) 8 rest)
@@ -189,7 +189,7 @@ escape (b ∷ rest) =
     (if b == 0x28 then paren rest else
     Wrong 1 Unknown)))))
 
--- The command at the front of the bytes.
+-- the command that the bytes begin with
 unfoldable pub command_at : List ℕ → Heard
 command_at [] = Part
 command_at (b ∷ rest) =
@@ -200,19 +200,19 @@ command_at (b ∷ rest) =
 
 -- ---- the commands of a job
 
--- A whole command of a job, where its first byte stands, and a raster's rows.
+-- A whole command of a job: the offset of its first byte, the command, and a raster's rows.
 pub record Entry : Type 0 where
   pub at : ℕ
   pub command : Command
   pub rows : List ℕ
 
--- How the commands of a job end: with its last byte, inside the command that begins at a place, or at a fault.
+-- How the commands of a job end: with its last byte, inside the command that begins at an offset, or at a fault.
 pub data ListEnd : Type 0 where
   Whole : ListEnd
   Cut : ℕ → ListEnd
   Fault : ℕ → JobCause → ListEnd
 
--- The whole commands from the front, and how they end.
+-- The whole commands at the beginning of bytes, and how they end.
 pub record CommandList : Type 0 where
   pub entries : List Entry
   pub end : ListEnd
@@ -231,6 +231,6 @@ commands_from (suc most) at (b ∷ bytes) = elim (command_at (b ∷ bytes)) [
   | Wrong place cause ↦ record { entries = []; end = Fault (at + place) cause }
 ]
 
--- What the bytes of a job say.
+-- what the bytes of a job are read as
 abbrev pub commands : List ℕ → CommandList
 commands bytes = commands_from (length bytes) 0 bytes

@@ -7,7 +7,7 @@ use Rattle.escp2_definitions.specs.Commands.{CommandList, ListEnd, commands}
 use Rattle.escp2_definitions.specs.Commands.ListEnd.{Whole, Cut, Fault}
 use Rattle.escp2_definitions.specs.Machine.{Refused, execute}
 
--- The first stop of a job, and its place.
+-- The first stop of a job, and its offset.
 pub record Stopped : Type 0 where
   pub at : ℕ
   pub why : JobStop
@@ -15,13 +15,13 @@ pub record Stopped : Type 0 where
 abbrev pub stopped : ℕ → JobStop → Option Stopped
 stopped at why = Some (record { at = at; why = why })
 
--- what stops a job that is cut where it ends, or where no more bytes are taken
+-- what stops a job of this length, of which at most `most` bytes are taken, whose commands end so
 abbrev pub list_stop : ListEnd → ℕ → ℕ → Option Stopped
 list_stop (Fault at cause) most len = stopped at (stop.Reader cause)
 list_stop (Cut at) most len = if nat_lt most len then stopped most stop.TooLong else stopped at stop.Cut
 list_stop Whole most len = if nat_lt most len then stopped most stop.TooLong else None
 
--- a refused command of a run, where there is a printer to run the commands
+-- the command that the machine refuses first, where there is a printer to run the commands
 abbrev pub run_refusal : Option Printer → CommandList → Option Refused
 run_refusal None job = None
 run_refusal (Some p) job = (execute p job.entries).refused

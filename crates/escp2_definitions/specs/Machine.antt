@@ -14,7 +14,7 @@ use Rattle.escp2_definitions.specs.declared.stops.EmuFault.TheVariants.{NotGraph
 use Rattle.escp2_definitions.specs.declared.stops.EmuFault.TheVariants.{OffSheet, Overprint}
 use Rattle.escp2_definitions.specs.Commands.{Entry, last_column, row_bytes}
 
--- A dot of an ink, at a place from the left margin and from the paper's top.
+-- A dot of an ink, by its distance from the left margin and from the paper's top.
 pub record Dot : Type 0 where
   pub ink : Ink
   pub x : ℕ
@@ -31,7 +31,7 @@ pub record PageMargins : Type 0 where
   pub top : ℕ
   pub bottom : ℕ
 
--- The state. The sheet in hand has these columns and dots.
+-- The state of the machine. The current sheet has these columns and dots.
 pub record Machine : Type 0 where
   pub graphics : Bool
   pub unit : Option ℕ
@@ -51,7 +51,7 @@ start = record { graphics = false; unit = None; page = None; margins = None; col
 abbrev pub has_dots : Machine → Bool
 has_dots s = nat_lt 0 (length s.dots)
 
--- so many units
+-- the length of n units
 abbrev pub units : Machine → ℕ → ℕ
 units s n = n * unwrap_or s.unit 0
 
@@ -88,7 +88,7 @@ row_dots ink x step y [] = []
 row_dots ink x step y (true ∷ row) = record { ink = ink; x = x; y = y } ∷ row_dots ink (x + step) step y row
 row_dots ink x step y (false ∷ row) = row_dots ink (x + step) step y row
 
--- The dots of so many rows, the top one first. Bits past the last column are no dots.
+-- The dots of the rows of a raster, the top one first. Bits past the last column are no dots.
 unfoldable pub rows_dots : ℕ → RasterHead → Ink → ℕ → ℕ → List ℕ → List Dot
 rows_dots zero head ink x y bytes = []
 rows_dots (suc m) head ink x y bytes =
@@ -192,17 +192,18 @@ after p s (c.Raster head) rows = record s {
   columns = max s.columns (s.across / column_step p + head.n);
 }
 
--- The sheet that a command gives: at `Eject` the one in hand, with as many rows as the page has.
+-- The sheets that a command gives: `Eject` gives the current one, with as many rows as the page has.
 abbrev pub given : Printer → Machine → Command → List Sheet
 given p s c.Eject = record { rows = (page_length s + row_step p - 1) / row_step p; columns = s.columns; dots = s.dots } ∷ []
 given p s other = []
 
--- The first command that was refused: where its first byte stands, and why.
+-- The first command that was refused: the offset of its first byte, and why.
 pub record Refused : Type 0 where
   pub at : ℕ
   pub fault : EmuFault
 
--- What a run gave: the sheets that were ejected, and the first refused command. A sheet never ejected is none.
+-- What a run gave: the sheets that were ejected, and the first refused command. A sheet that was not ejected does not
+-- count.
 pub record Printed : Type 0 where
   pub sheets : List Sheet
   pub refused : Option Refused

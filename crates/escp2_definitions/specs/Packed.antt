@@ -5,7 +5,7 @@ abbrev pub worth : Bool → ℕ → ℕ
 worth true n = n
 worth false n = 0
 
--- the dot at a place of a row, none behind its end
+-- the dot at a place of a row, none past its end
 abbrev pub at : List Bool → ℕ → Bool
 at row k = slice_index_or row k false
 
@@ -19,6 +19,6 @@ abbrev pub packed_bytes : ℕ → List Bool → List ℕ
 packed_bytes zero row = []
 packed_bytes (suc n) row = packed_byte row ∷ packed_bytes n (drop 8 row)
 
--- A row of dots in bytes; bits behind the row are 0.
+-- A row of dots in bytes; bits past the row are 0.
 abbrev pub packed : List Bool → List ℕ
 packed row = packed_bytes ((length row + 7) / 8) row

@@ -18,7 +18,7 @@ abbrev pub raster_count : Command → ℕ
 raster_count (c.Raster head) = 1
 raster_count other = 0
 
--- The rasters of an ink among commands, where the colour at their beginning is this one.
+-- The rasters of an ink among commands, which begin with this colour.
 abbrev pub ink_rasters_from : Ink → Ink → List Entry → ℕ
 ink_rasters_from ink colour [] = 0
 ink_rasters_from ink colour (entry ∷ entries) =

@@ -20,16 +20,16 @@ plain = record { c = 0; code = λ row. row }
 abbrev pub canonical : Coding
 canonical = record { c = 1; code = canonical_row }
 
--- rows are plain, or each stands in a code of its own
+-- rows are written plain, or each by a code of its own
 abbrev pub IsCoding : Coding → Type 0
 IsCoding coding = (coding.c ≡ 0) ⊎ ((coding.c ≡ 1) × ((row : List ℕ) → RowCode (coding.code row) row))
 
--- so many rows of this width, one by one
+-- m rows of this width, one by one
 abbrev pub rows_apart : ℕ → ℕ → List ℕ → List (List ℕ)
 rows_apart zero width bytes = []
 rows_apart (suc m) width bytes = take width bytes ∷ rows_apart m width (drop width bytes)
 
--- the rows of a command as they are written, coded ones by this code
+-- the rows of a command as they are written, where coded rows have this code
 abbrev pub written_rows : (List ℕ → List ℕ) → Command → List ℕ → List ℕ
 written_rows code (c.Raster head) rows = if head.c == 0 then rows else flat_map code (rows_apart head.m (row_bytes head) rows)
 written_rows code other rows = rows

@@ -7,9 +7,9 @@ use printer_definitions::Ink;
 pub struct RasterHead {
     /// How the rows are written: 0 plain, 1 coded.
     pub c: u8,
-    /// From one row to the next, in 1/3600 inch.
+    /// The step from one row to the next, in 1/3600 inch.
     pub v: u8,
-    /// From one column to the next, in 1/3600 inch.
+    /// The step from one column to the next, in 1/3600 inch.
     pub h: u8,
     /// The number of rows, one for each nozzle.
     pub m: u8,
@@ -17,10 +17,10 @@ pub struct RasterHead {
     pub n: u16,
 }
 
-/// A command (ESC/P Reference Manual, graphics commands). The rows of a raster travel beside it.
+/// A command (ESC/P Reference Manual, graphics commands). The rows of a raster are kept beside it.
 #[derive(Clone, Copy, Debug, PartialEq, Eq)]
 pub enum Command {
-    /// `ESC @`: start again.
+    /// `ESC @`: reset.
     Init,
     /// `ESC ( G`: graphics mode.
     Graphics,
@@ -28,21 +28,21 @@ pub enum Command {
     Unit { m: u8 },
     /// `ESC ( i`: MicroWeave, off.
     MicroWeave { n: u8 },
-    /// `ESC U`: print while the head goes one way alone (1), or both (0).
+    /// `ESC U`: print in one direction of the head only (1), or in both (0).
     OneWay { n: u8 },
     /// `ESC ( C`: the page's length, in units.
     Length { n: u16 },
     /// `ESC ( c`: the top and bottom margins from the paper's top, in units.
     Margins { top: u16, bottom: u16 },
-    /// `ESC ( V`: the position down from the top margin, in units.
+    /// `ESC ( V`: the position down, from the top margin, in units.
     DownTo { n: u16 },
-    /// `ESC ( v`: down by so many units.
+    /// `ESC ( v`: move down by this many units.
     DownBy { n: u16 },
-    /// `ESC $`: the position across from the left margin, in units.
+    /// `ESC $`: the position across, from the left margin, in units.
     Across { n: u16 },
     /// Carriage return: back to the left margin.
     Return,
-    /// Form feed: the sheet is done.
+    /// Form feed: eject the sheet.
     Eject,
     /// `ESC r`: the ink that rasters fire.
     Colour { ink: Ink },

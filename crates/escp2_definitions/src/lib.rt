@@ -1,8 +1,11 @@
-//! What a print job means: its commands and their spellings, the code of raster rows, and the machine that runs it.
+//! What a print job means: its commands and their spellings, the code of raster rows, and the machine that runs the
+//! commands and gives sheets of dots.
 //!
-//! The command table and the machine are this project's own profile after Epson's ESC/P Reference Manual; the
-//! definitions stand in `specs/`. The types are declared here because the definitions speak of them, and are
-//! re-exported by `escp2_commands` and by the crates whose answers they are.
+//! The command table and the machine are this project's own profile after Epson's ESC/P Reference Manual.
+//! `specs/Commands.antt` has the table, the spellings and how bytes are read; `RowCode.antt` and `Canonical.antt` the
+//! code of rows; `Written.antt` what a writer makes of a command; `Machine.antt` the machine; `JobEnds.antt` how a job
+//! ends. The types are declared here because the definitions mention them; `escp2_commands` and the crates that answer
+//! them re-export them.
 #![tactic(auto)]
 
 mod command;

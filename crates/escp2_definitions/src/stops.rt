@@ -3,7 +3,7 @@
 /// Why bytes are no command.
 #[derive(Clone, Copy, Debug, PartialEq, Eq)]
 pub enum JobCause {
-    /// No command of the table goes on with this byte.
+    /// No command of the table has this byte here.
     Unknown,
     /// A length that is not the command's.
     BadLength,
@@ -26,9 +26,9 @@ pub enum EmuFault {
     Density,
     /// A raster with another number of rows than the printer has nozzles.
     Rows,
-    /// Up the page, or back to its start under a printed sheet.
+    /// A move up the page, or a reset, a length or margins while the sheet has dots.
     Backward,
-    /// A raster between the printer's columns or rows.
+    /// A raster whose position is between the printer's columns or rows.
     OffGrid,
     /// A place that is not on the sheet.
     OffSheet,
@@ -45,6 +45,6 @@ pub enum JobStop {
     Cut,
     /// The machine refuses a command.
     Machine(EmuFault),
-    /// A byte stands past the greatest length that is taken.
+    /// The job is longer than the greatest length that is taken.
     TooLong,
 }

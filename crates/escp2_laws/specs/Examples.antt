@@ -27,11 +27,11 @@ listing_front =
     ∷ 0x1B ∷ 0x28 ∷ 0x56 ∷ 0x02 ∷ 0x00 ∷ 0x00 ∷ 0x00
     ∷ []
 
--- three coded rows of eight columns, of which the last is all dots, and likewise the one in the middle
+-- three coded rows of eight columns: the last one is all dots
 abbrev pub last_row_black : List ℕ
 last_row_black = 0x1B ∷ 0x2E ∷ 0x01 ∷ 0x14 ∷ 0x0A ∷ 0x03 ∷ 0x08 ∷ 0x00 ∷ 0x00 ∷ 0x00 ∷ 0x00 ∷ 0x00 ∷ 0x00 ∷ 0xFF ∷ []
 
--- the same with the row in the middle
+-- the same, where the middle one is all dots
 abbrev pub middle_row_black : List ℕ
 middle_row_black = 0x1B ∷ 0x2E ∷ 0x01 ∷ 0x14 ∷ 0x0A ∷ 0x03 ∷ 0x08 ∷ 0x00 ∷ 0x00 ∷ 0x00 ∷ 0x00 ∷ 0xFF ∷ 0x00 ∷ 0x00 ∷ []
 
@@ -94,7 +94,7 @@ one_dot = 0x1B ∷ 0x2E ∷ 0x00 ∷ 0x0A ∷ 0x0A ∷ 0x01 ∷ 0x01 ∷ 0x00 �
 
 -- ---- what they say and do
 
--- a command without rows, where its first byte stands
+-- a command without rows, by the offset of its first byte
 abbrev pub said : ℕ → Command → Entry
 said at command = record { at = at; command = command; rows = [] }
 

@@ -33,7 +33,7 @@ off_column = record on_sheet { across = 5 }
 abbrev pub with_dot : Machine
 with_dot = record on_sheet { across = 81900; dots = record { ink = Black; x = 81900; y = 0 } ∷ [] }
 
--- a raster of so many rows and columns, with these steps down and across
+-- a raster of these numbers of rows and columns, with these steps down and across
 abbrev pub raster : ℕ → ℕ → ℕ → ℕ → Command
 raster v h m n = c.Raster (record { c = 0; v = v; h = h; m = m; n = n })
 
@@ -41,7 +41,7 @@ raster v h m n = c.Raster (record { c = 0; v = v; h = h; m = m; n = n })
 abbrev pub sheet_begins : List Entry
 sheet_begins = said 0 c.Graphics ∷ said 1 (c.Unit 5) ∷ said 2 (c.Length 12) ∷ said 3 (c.Margins 0 12) ∷ []
 
--- a row of so many columns, from the head's place on
+-- a row of this many columns, from the head's position on
 abbrev pub row_of : ℕ → List ℕ → Entry
 row_of n row = record { at = 4; command = raster 10 10 1 n; rows = row }
 

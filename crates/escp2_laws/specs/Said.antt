@@ -14,11 +14,11 @@ pub record Said : Type 0 where
 abbrev pub AllSaid : List Said → Type 0
 AllSaid job = AllByRecursion (λ s. Spells s.command s.rows s.bytes) job
 
--- their bytes, one behind another
+-- their bytes, one after another
 abbrev pub said_bytes : List Said → List ℕ
 said_bytes job = flat_map (λ s. s.bytes) job
 
--- the entries of a job whose first byte stands at a place
+-- the entries of a job whose first byte is at this offset
 abbrev pub entries_of : ℕ → List Said → List Entry
 entries_of at [] = []
 entries_of at (s ∷ job) = record { at = at; command = s.command; rows = s.rows } ∷ entries_of (at + length s.bytes) job

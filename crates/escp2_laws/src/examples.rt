@@ -58,7 +58,7 @@ pub fn listing_is_refused()
     ensures density { refusal listing ≡ refused 50 Density }
 {}
 
-/// Bytes that are no job, and the place where the reader tells it.
+/// Bytes that are no job, and the place of the fault.
 #[tactic(auto, unfolding(escp2_definitions::specs::Commands::command_at, escp2_definitions::specs::Commands::commands_from, escp2_definitions::specs::RowCode::row_at, escp2_definitions::specs::RowCode::rows_at))]
 pub fn faults_are_told()
     ensures cut { end_of (take 10 listing) ≡ Cut 8 }
@@ -93,7 +93,7 @@ pub fn commands_are_refused()
     // down to 4 units, and then up to 2
     ensures up { sheet_refusal (0x1B ∷ 0x28 ∷ 0x56 ∷ 0x02 ∷ 0x00 ∷ 0x04 ∷ 0x00
         ∷ 0x1B ∷ 0x28 ∷ 0x56 ∷ 0x02 ∷ 0x00 ∷ 0x02 ∷ 0x00 ∷ []) ≡ refused 53 Backward }
-    // a new start while a printed sheet is in hand
+    // a reset while the sheet has dots
     ensures again { sheet_refusal (black_row ++ 0x1B ∷ 0x40 ∷ []) ≡ refused 55 Backward }
     // half a column across
     ensures off_grid { sheet_refusal (0x1B ∷ 0x24 ∷ 0x01 ∷ 0x00 ∷ black_row) ≡ refused 50 OffGrid }

@@ -1,5 +1,7 @@
-//! Laws of print jobs and of the code of rows: what is spelled is read and what is read is spelled, whatever follows,
-//! and no spelling begins another; and worked jobs.
+//! Laws of print jobs and of the code of rows, and worked jobs that the check computes. Commands and rows that are
+//! spelled are read, whatever follows; what is read as whole is spelled; and no spelling is a proper prefix of another.
+//! The canonical code of a row is a code of it, of at most twice as many bytes. What is read of a command stays read
+//! while more bytes come. Each law is the contract of an empty function.
 #![tactic(auto)]
 
 mod codes;

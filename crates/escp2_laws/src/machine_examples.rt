@@ -30,7 +30,7 @@ pub fn rows_are_printed()
     } }
 {}
 
-/// A sheet begins with one column: behind the sheet before, and behind a new start.
+/// A sheet begins with one column: after the sheet before it, and after a reset.
 #[tactic(auto, unfolding(escp2_definitions::specs::Machine::execute_from, escp2_definitions::specs::Machine::rows_dots))]
 pub fn sheets_begin_narrow()
     ensures eject { (printed_by (row_of 8 (0x00 ∷ []) ∷ said 5 c.Eject ∷ said 6 c.Eject ∷ [])).sheets ≡
@@ -39,7 +39,7 @@ pub fn sheets_begin_narrow()
         record { rows = 6; columns = 1; dots = [] } ∷ [] }
 {}
 
-/// Of refusals that hold at once the earlier is told.
+/// Of refusals that hold at once the earlier one is answered.
 #[tactic(auto, unfolding(escp2_definitions::specs::Machine::rows_dots))]
 pub fn the_earlier_refusal_is_told()
     ensures length { fault_of with_dot (c.Length 16000) [] ≡ Some Backward }
@@ -56,7 +56,7 @@ pub fn the_earlier_refusal_is_told()
     ensures off_sheet { fault_of with_dot (raster 10 10 1 2) (0x80 ∷ []) ≡ Some OffSheet }
 {}
 
-/// What is refused alone, where the tests above tell another.
+/// Commands that are refused for one reason alone.
 #[tactic(auto)]
 pub fn single_refusals_are_told()
     ensures length { fault_of start (c.Length 12) [] ≡ Some NoUnit }

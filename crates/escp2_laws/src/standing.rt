@@ -1,5 +1,5 @@
-//! What a reader of a job relies on while more bytes come: what is read of a command stands. Each function does
-//! nothing; its contract is a law.
+//! What is read of a command stays read while more bytes come. Each law is the contract of an empty
+//! function.
 ghost use Rattle.escp2_definitions.specs.Commands.Heard.{One, Part, Wrong};
 ghost use Rattle.escp2_definitions.specs.Commands.ListEnd.{Fault};
 ghost use Rattle.escp2_definitions.specs.Commands.{Spells, command_at, commands};
@@ -7,7 +7,7 @@ ghost use Rattle.escp2_definitions.specs.declared.command.Command.{Command};
 ghost use Rattle.escp2_definitions.specs.declared.stops.JobCause.{JobCause};
 ghost use Rattle.std.specs.Prelude.{List, length, slice_index, take, ℕ, ◌++◌, ◌+◌, ◌<◌, ◌≡◌, ◌≤◌};
 
-/// What is read as a whole command is spelled by the bytes up to its length, with its rows.
+/// What is read as a whole command is spelled, with its rows, by the bytes up to its length.
 pub fn heard_is_spelled()
     ensures within { (bytes rows : List ℕ) (command : Command) (len : ℕ) → command_at bytes ≡ One command rows len
         → len ≤ length bytes }
@@ -15,14 +15,14 @@ pub fn heard_is_spelled()
         → command_at bytes ≡ One command rows len → Spells command rows (take len bytes) }
 {}
 
-/// A whole command is read from its own bytes, whatever follows them.
+/// A whole command is read from its own bytes, whatever follows.
 pub fn a_command_stands()
     ensures { (bytes rest rows : List ℕ) (command : Command) (len : ℕ) → command_at bytes ≡ One command rows len
         → command_at (take len bytes ++ rest) ≡ One command rows len }
 {}
 
-/// A fault is told at a byte. The bytes before it are less than a whole command; with it, and at most one byte more,
-/// the fault is told, whatever follows.
+/// A fault has a place. The bytes before that place are less than a whole command; with the byte there, and at most one
+/// more, the fault is read, whatever follows.
 pub fn a_fault_stands()
     ensures within { (bytes : List ℕ) (at : ℕ) (cause : JobCause) → command_at bytes ≡ Wrong at cause
         → at < length bytes }
@@ -32,7 +32,7 @@ pub fn a_fault_stands()
         → command_at (take (at + 2) bytes ++ rest) ≡ Wrong at cause }
 {}
 
-/// The bytes at the beginning of less than a whole command are less than a whole command.
+/// A prefix of less than a whole command is less than a whole command.
 pub fn a_prefix_is_incomplete()
     ensures { (bytes rest : List ℕ) → command_at (bytes ++ rest) ≡ Part → command_at bytes ≡ Part }
 {}

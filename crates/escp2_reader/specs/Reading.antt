@@ -1,4 +1,4 @@
--- What a reader of jobs stands for, and what its calls tell.
+-- What a reader of jobs stands for, and what its answers mean.
 use Rattle.std.specs.Prelude.{◌≡◌, ℕ, ◌+◌, ◌-◌, ◌<◌, ◌≤◌, Bool, true, false, List, [], ◌++◌, length, take, slice_index}
 use Rattle.escp2_definitions.specs.declared.command.Command.{Command}
 use Rattle.escp2_definitions.specs.declared.command.RasterHead.{RasterHead}
@@ -10,7 +10,7 @@ use Rattle.escp2_reader.specs.declared.reader.HeardState.TheVariants as heard
 use Rattle.escp2_reader.specs.declared.reader.JobReader.{JobReader}
 use Rattle.escp2_reader.specs.Stages.{Stands, is_failed_at, rows_at}
 
--- The bytes that were fed since the last command.
+-- the reader was fed these bytes since the last command
 abbrev pub StandsFor : JobReader → List ℕ → Type 0
 StandsFor reader sofar = Stands reader.stage reader.begin reader.next reader.rows.items sofar
 
@@ -18,16 +18,17 @@ StandsFor reader sofar = Stands reader.stage reader.begin reader.next reader.row
 abbrev pub fed_of : JobReader → ℕ
 fed_of reader = reader.next
 
--- the rows of the raster that was just heard
+-- the rows of the raster that was just answered
 abbrev pub rows_of : JobReader → List ℕ
 rows_of reader = rows_at reader.stage reader.rows.items
 
--- a fault was told
+-- whether a fault was answered
 abbrev pub is_failed_of : JobReader → Bool
 is_failed_of reader = is_failed_at reader.stage
 
 -- ---- answers
 
+-- whether an answer is a fault
 abbrev pub shows_fault : HeardState → Bool
 shows_fault heard.More = false
 shows_fault (heard.One command) = false
@@ -39,20 +40,20 @@ OnMore heard.More P = P
 OnMore (heard.One command) P = Unit {0}
 OnMore (heard.Fault offset cause) P = Unit {0}
 
--- a fact where a fault is told
+-- a fact where a fault is answered
 abbrev pub OnFault : HeardState → Type 0 → Type 0
 OnFault heard.More P = Unit {0}
 OnFault (heard.One command) P = Unit {0}
 OnFault (heard.Fault offset cause) P = P
 
--- The bytes since the last command are less than a command.
+-- The bytes since the last command are a part of a command.
 pub record HeardMore (begin : ℕ) (new : JobReader) (bytes : List ℕ) : Type 0 where
   pub part : command_at bytes ≡ Part
   pub stands : StandsFor new bytes
   pub begins : new.begin ≡ begin
   pub none : rows_of new ≡ []
 
--- The bytes since the last command are a command, whatever follows, and the next one begins behind them.
+-- The bytes since the last command are a command, whatever follows, and the next one begins after them.
 pub record HeardOne (begin : ℕ) (command : Command) (new : JobReader) (bytes : List ℕ) : Type 0 where
   pub whole : (rest : List ℕ) → command_at (bytes ++ rest) ≡ One command (rows_of new) (length bytes)
   pub spelled : Spells command (rows_of new) bytes
@@ -67,7 +68,7 @@ pub record HeardFault (begin offset : ℕ) (cause : JobCause) (new : JobReader) 
   pub begins : new.begin ≡ begin
   pub none : rows_of new ≡ []
 
--- What an answer tells of the bytes since the last command, which began at an offset.
+-- what an answer means for the bytes since the last command, which began at this offset
 abbrev pub IsHeard : HeardState → ℕ → JobReader → List ℕ → Type 0
 IsHeard heard.More begin new bytes = HeardMore begin new bytes
 IsHeard (heard.One command) begin new bytes = HeardOne begin command new bytes

@@ -12,11 +12,11 @@ use Rattle.escp2_reader.specs.declared.reader.Stage.TheVariants.{Head, Rows, Fai
 
 -- ---- what was read of a command
 
--- the rows of a raster, behind its eight bytes
+-- the rows of a raster, after its eight bytes
 abbrev pub form_of : RasterHead → RowsForm
 form_of raster = record { c = raster.c; width = row_bytes raster; rows = raster.m; at = 8 }
 
--- Within the rows of a raster: its numbers, and of the bytes behind them the rows that they give.
+-- Within the rows of a raster: its numbers, and the rows that the bytes after them gave.
 pub record InRows (raster : RasterHead) (reader : RowReader) (rows sofar : List ℕ) : Type 0 where
   pub front : List ℕ
   pub code : List ℕ
@@ -25,7 +25,7 @@ pub record InRows (raster : RasterHead) (reader : RowReader) (rows sofar : List 
   pub reads : (more : List ℕ) → command_at (front ++ more) ≡ raster_rows raster more
   pub stands : RowsStandFor (form_of raster) reader code rows
 
--- Behind a fault, which is told whatever follows.
+-- After a fault, which is read whatever follows.
 pub record BehindFault (begin offset : ℕ) (cause : JobCause) (sofar : List ℕ) : Type 0 where
   pub behind : begin ≤ offset
   pub wrong : (rest : List ℕ) → command_at (sofar ++ rest) ≡ Wrong (offset - begin) cause
@@ -41,19 +41,19 @@ pub record Stands (stage : Stage) (begin next : ℕ) (rows sofar : List ℕ) : T
   pub bytes : (k : ℕ) → slice_index sofar k < 256
   pub heard : AtStage stage begin rows sofar
 
--- the rows of a raster that was just heard
+-- the rows of the raster that was just answered
 abbrev pub rows_at : Stage → List ℕ → List ℕ
 rows_at (Head head) rows = rows
 rows_at (Rows raster reader) rows = []
 rows_at (Failed offset cause) rows = []
 
--- a fault was told
+-- whether a fault was answered
 abbrev pub is_failed_at : Stage → Bool
 is_failed_at (Head head) = false
 is_failed_at (Rows raster reader) = false
 is_failed_at (Failed offset cause) = true
 
--- ---- what a reader keeps
+-- ---- what holds of a reader
 
 -- the bytes that are gathered, before the rows of a raster
 abbrev pub gathered : Stage → List ℕ
@@ -61,19 +61,19 @@ gathered (Head head) = head.items
 gathered (Rows raster reader) = []
 gathered (Failed offset cause) = []
 
--- less than a whole command
+-- whether the bytes are a part of a command
 abbrev pub is_part : Heard → Bool
 is_part (One command rows len) = false
 is_part Part = true
 is_part (Wrong place cause) = false
 
--- no bytes of rows may be fed
+-- whether no bytes of rows may be fed
 abbrev pub is_done_at : Stage → Bool
 is_done_at (Head head) = false
 is_done_at (Rows raster reader) = is_done_of reader
 is_done_at (Failed offset cause) = false
 
--- the room for the rows of a raster, of which so many bytes are given
+-- the room for the rows of a raster, of which `len` bytes are given
 abbrev pub room_at : Stage → ℕ → ℕ
 room_at (Head head) len = 0
 room_at (Rows raster reader) len = len + bytes_left_of reader

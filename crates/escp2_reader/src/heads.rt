@@ -8,10 +8,10 @@ use crate::{Command, JobCause, RasterHead};
 use escp2_commands::MOST_COLUMNS;
 use weave_base::Ink;
 
-/// What gathered bytes of a command come to.
+/// What the gathered bytes of a command are.
 #[derive(Clone, Copy)]
 pub(crate) enum HeadState {
-    /// Less than a command, or than the numbers of a raster.
+    /// A part of a command, or of the numbers of a raster.
     Part,
     Whole(Command),
     /// A raster, whose rows follow.
@@ -20,7 +20,7 @@ pub(crate) enum HeadState {
     Fault { place: u8, cause: JobCause },
 }
 
-/// No command goes on with the byte at this place.
+/// No command has this byte at this place.
 pub(crate) fn unknown(place: u8) -> HeadState
     ensures { result ≡ HeadState.Fault place JobCause.Unknown }
 {
@@ -46,7 +46,7 @@ pub(crate) fn is_in(low: u16, high: u16, n: u16) -> bool
     low <= n && n <= high
 }
 
-/// What the bytes of a command come to, gathered so far.
+/// What the gathered bytes of a command are.
 #[tactic(auto, unfolding(escp2_definitions::specs::Commands::command_at))]
 pub(crate) fn head_of(bytes: &[u8]) -> HeadState
     ensures { IsRead result 0 command_at bytes.now }
@@ -60,7 +60,7 @@ pub(crate) fn head_of(bytes: &[u8]) -> HeadState
     }
 }
 
-/// What `ESC` goes on with.
+/// What the bytes after `ESC` are.
 fn after_escape(bytes: &[u8]) -> HeadState
     ensures { IsRead result 1 escape bytes.now }
 {

@@ -22,10 +22,10 @@ type HeadBytes = ArrayVec<u8, 9>;
 /// The most bytes of a raster's rows: 255 rows of 8,191 columns.
 const MOST_ROWS: usize = 261_120;
 
-/// What a call of `JobReader::feed` comes to.
+/// What a call of `JobReader::feed` found.
 #[derive(Clone, Copy, Debug, PartialEq, Eq)]
 pub enum HeardState {
-    /// The piece ends before a command does.
+    /// The piece ends before the command does.
     More,
     /// A whole command; `JobReader::rows` has the rows of a raster.
     One(Command),
@@ -33,10 +33,10 @@ pub enum HeardState {
     Fault { offset: u64, cause: JobCause },
 }
 
-/// How much of a piece was read, and what it came to.
+/// How much of a piece was used, and what was found.
 #[derive(Clone, Copy, Debug, PartialEq, Eq)]
 pub struct Heard {
-    /// Bytes of the piece, from its front.
+    /// The length of the prefix of the piece that was used.
     pub used: usize,
     pub state: HeardState,
 }
@@ -44,28 +44,29 @@ pub struct Heard {
 /// A job that ends inside a command.
 #[derive(Clone, Copy, Debug, PartialEq, Eq)]
 pub struct Cut {
-    /// Of the first byte of the command.
+    /// The offset of the command's first byte.
     pub offset: u64,
 }
 
 /// Where in a command a reader stands.
 #[derive(Drop)]
 enum Stage {
-    /// Behind these bytes of it.
+    /// After these bytes of it.
     Head(HeadBytes),
     /// Within the rows of a raster.
     Rows(RasterHead, RowReader),
-    /// Behind a fault.
+    /// After a fault.
     Failed { offset: u64, cause: JobCause },
 }
 
-/// Reads the commands of a job from pieces of any length. It keeps room for the rows of the largest raster.
+/// Reads the commands of a job from pieces of any length. It has room for the rows of the largest raster, 255 rows of
+/// 8,191 columns.
 #[derive(Drop)]
 #[tactic(auto, unfolding(escp2_definitions::specs::Commands::command_at))]
 pub struct JobReader {
     /// The offset of the command's first byte.
     begin: u64,
-    /// The offset of the byte that comes next.
+    /// The offset of the next byte.
     next: u64,
     /// The rows of a raster, as far as they are read.
     rows: Vec<u8>,
@@ -104,7 +105,7 @@ impl JobReader {
     }
 
     /// Reads the next bytes of the job, of any number, up to the end of the command. It takes no memory. A fault is
-    /// told with the byte that shows it, and again at each later call.
+    /// answered with the byte that shows it, and again at each later call, with nothing used.
     #[tactic(auto, unfolding(escp2_definitions::specs::Commands::command_at))]
     pub fn feed(&mut self, piece: &[u8]) -> Heard
         requires { fed_of self.old + length piece.now < 2 ^ 63 }
@@ -127,7 +128,7 @@ impl JobReader {
         }
     }
 
-    /// The rows of the raster that was just heard, the top one first and as they are; else none.
+    /// The rows of the raster that `feed` just answered, the top one first, packed and not coded; else none.
     pub fn rows(&self) -> &[u8]
         ensures { result.now ≡ rows_of self.now }
     {
@@ -137,7 +138,7 @@ impl JobReader {
         }
     }
 
-    /// Whether the job may end here: not inside a command.
+    /// `Ok` where the job may end here, between two commands.
     pub fn end(&self) -> Result<(), Cut>
         requires { is_failed_of self.now ≡ false }
         ensures whole { OnOk result ((sofar : List ℕ) → StandsFor self.now sofar → sofar ≡ []) }
@@ -151,7 +152,7 @@ impl JobReader {
         }
     }
 
-    /// Reads on behind these bytes of a command.
+    /// Reads on after these bytes of a command.
     fn feed_head(&mut self, mut head: HeadBytes, piece: &[u8]) -> Heard
         requires part { command_at head.items ≡ Part }
         requires short { IsShort 0 head.items }
@@ -188,7 +189,7 @@ impl JobReader {
         }
     }
 
-    /// Reads on behind the numbers of a raster, which end at a place of the piece.
+    /// Reads on after the numbers of a raster, which end after `used` bytes of the piece.
     fn begin_rows(&mut self, raster: RasterHead, piece: &[u8], used: usize) -> Heard
         requires rows { HasRows raster }
         requires none { self.old.rows.items ≡ [] }
@@ -247,14 +248,14 @@ impl JobReader {
             }
             RowState::Whole => self.end_command(Command::Raster { head: raster }, fed.used),
             RowState::Fault { .. } => {
-                // The control byte is the last that was used.
+                // The control byte is the last byte that was used.
                 let offset = self.next + fed.used as u64 - 1;
                 self.fail(offset, JobCause::RunCode, fed.used)
             }
         }
     }
 
-    /// Ends a command with so many more bytes.
+    /// Ends a command after `used` more bytes.
     #[tactic(auto, unfolding(escp2_definitions::specs::Commands::command_at))]
     fn end_command(&mut self, command: Command, used: usize) -> Heard
         requires { self.old.next + used < 2 ^ 63 }
@@ -275,7 +276,7 @@ impl JobReader {
         }
     }
 
-    /// Stops at a fault, with so many more bytes.
+    /// Stops at a fault, after `used` more bytes.
     #[tactic(auto, unfolding(escp2_definitions::specs::Commands::command_at))]
     fn fail(&mut self, offset: u64, cause: JobCause, used: usize) -> Heard
         requires { self.old.next + used < 2 ^ 63 }

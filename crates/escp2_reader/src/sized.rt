@@ -1,4 +1,4 @@
-//! The commands that tell their length: `ESC (`, a letter, how many bytes follow, and these.
+//! The commands that have a length: `ESC (`, a letter, the number of bytes that follow, and these.
 ghost use Rattle.escp2_definitions.specs.Commands.{escape};
 ghost use Rattle.escp2_reader.specs.Heads.{IsLength, IsRead};
 ghost use Rattle.std.specs.Prelude.{◌∷◌, ◌≡◌};
@@ -6,18 +6,18 @@ ghost use Rattle.std.specs.Prelude.{◌∷◌, ◌≡◌};
 use crate::heads::{HeadState, bad_value, is_in, unknown};
 use crate::{Command, JobCause};
 
-/// What stands where a command tells its length, in two bytes.
+/// What the two bytes of a command's length are.
 #[derive(Clone, Copy)]
 enum LengthState<'a> {
     /// A part of it.
     Part,
     /// Another length than the command's, seen at this place of the command.
     Wrong(u8),
-    /// The command's length, and the bytes behind it.
+    /// The command's length; these are the bytes after it.
     Right(&'a [u8]),
 }
 
-/// What `ESC (` goes on with.
+/// What the bytes after `ESC (` are.
 pub(crate) fn after_paren(bytes: &[u8]) -> HeadState
     ensures { IsRead result 1 escape (0x28 ∷ bytes.now) }
 {

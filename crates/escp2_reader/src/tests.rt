@@ -28,7 +28,7 @@ const JOB: [u8; 92] = [
     0x03, 0x08, 0x00, 0x00, 0x00, 0x00, 0xFF, 0x00, 0x00, 0x0C, 0x1B, 0x40,
 ];
 
-/// What it says.
+/// Its commands.
 const COMMANDS: [Command; 17] = [
     Command::Init,
     Command::Graphics,
@@ -58,8 +58,8 @@ fn rows_of(count: usize) -> &'static [u8] {
     }
 }
 
-/// Feeds a piece of the job, holds each command against what the job says from `count` on, and gives the count behind
-/// it.
+/// Feeds a piece of the job, compares each command with the commands of the job from `count` on, and gives the new
+/// count. it.
 fn feed_piece(rt: &impl Abort, reader: &mut JobReader, piece: &[u8], mut count: usize) -> usize
     requires room { fed_of reader.old + length piece.now < 2 ^ 63 }
     requires is_open { is_failed_of reader.old ≡ false }
@@ -113,7 +113,7 @@ fn a_cut_command_is_named_by_its_first_byte(rt: HostRuntime) -> Result<(), Fail>
     Ok(())
 }
 
-/// Feeds bytes with a fault, with a byte more, and again.
+/// Feeds bytes with a fault, then with one byte more, and then again.
 fn assert_fault(
     rt: &impl Abort,
     alloc: Global,

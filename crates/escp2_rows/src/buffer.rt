@@ -1,7 +1,7 @@
-//! Bytes behind those of a vector that has room for them.
+//! Appending bytes to a vector that has room for them.
 ghost use Rattle.std.specs.Prelude.{length, replicate, vec_capacity, vec_len, ◌++◌, ◌+◌, ◌≡◌, ◌≤◌};
 
-/// Appends the byte so many times.
+/// Appends the byte `count` times.
 pub fn push_run(out: &mut Vec<u8>, count: usize, byte: u8)
     requires { vec_len out.old + count ≤ vec_capacity out.old }
     ensures items { out.new.items ≡ out.old.items ++ replicate count byte }

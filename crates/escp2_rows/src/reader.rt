@@ -6,21 +6,21 @@ ghost use Rattle.std.specs.Prelude.{◌<◌, ◌∷◌, ◌≡◌, ◌≤◌};
 
 use crate::buffer::{push_bytes, push_run};
 
-/// What a call of `RowReader::feed` comes to.
+/// What a call of `RowReader::feed` found.
 #[derive(Clone, Copy, Debug, PartialEq, Eq)]
 pub enum RowState {
     /// The piece ends before the rows do.
     More,
-    /// The rows are read.
+    /// All rows are read.
     Whole,
     /// The control byte at this place in the piece is 128, or its count passes the end of its row.
     Fault { at: usize },
 }
 
-/// How much of a piece was read, and what it came to.
+/// How much of a piece was used, and what was found.
 #[derive(Clone, Copy, Debug, PartialEq, Eq)]
 pub struct RowFed {
-    /// Bytes of the piece, from its front.
+    /// The length of the prefix of the piece that was used.
     pub used: usize,
     pub state: RowState,
 }
@@ -28,13 +28,13 @@ pub struct RowFed {
 /// Where in a row a reader stands.
 #[derive(Clone, Copy)]
 enum Place {
-    /// Before a control byte, or behind the last row.
+    /// Before a control byte, or after the last row.
     Packet,
-    /// Before so many bytes that stand as they are, one or more.
+    /// Before this many bytes as they are, one or more.
     Literal(usize),
-    /// Before the byte that stands so many times.
+    /// Before the byte that is repeated this many times.
     Repeated(usize),
-    /// Behind the control byte that is refused.
+    /// After the control byte that is refused.
     Failed,
 }
 
@@ -42,9 +42,9 @@ enum Place {
 #[derive(Drop)]
 pub struct RowReader {
     row_bytes: usize,
-    /// Rows behind the one that is read.
+    /// How many rows follow the current one.
     rows_left: usize,
-    /// Bytes of that row that are not yet given.
+    /// How many bytes of the current row are not yet given.
     row_left: usize,
     place: Place,
     ghost some: { 1 ≤ row_bytes },
@@ -60,8 +60,8 @@ impl RowReader {
     ghost use Rattle.escp2_rows.specs.Reading.{EndsPacket, Gives, IsFault, IsMore, IsWhole, OnFault, OnMore, OnWhole};
     ghost use Rattle.escp2_rows.specs.Reading.{StandsFor, Takes, bytes_left_of, is_done_of};
 
-    /// A reader of so many rows of this width in bytes, which stand as they are where `c` is 0, and else coded. Plain
-    /// rows are read as one row whose bytes stand as they are.
+    /// A reader of `rows` rows of `row_bytes` bytes, which are plain where `c` is 0 and coded where it is 1. Plain
+    /// rows are read as one row of bytes as they are.
     pub fn begin(c: u8, row_bytes: u16, rows: u8) -> RowReader
         requires form { c ≤ 1 }
         requires narrowest { 1 ≤ row_bytes }
@@ -95,7 +95,8 @@ impl RowReader {
     }
 
     /// Reads the next bytes of the rows, of any number, and appends the bytes of rows that they give. It takes no
-    /// memory, and room is kept. It stops behind the last row, or behind a control byte that is refused.
+    /// memory: `out` has room for the bytes that are left, and keeps it. It stops after the last row, or after a
+    /// control byte that is refused.
     pub fn feed(&mut self, piece: &[u8], out: &mut Vec<u8>) -> RowFed
         requires is_open { is_done_of self.old ≡ false }
         requires room { vec_len out.old + bytes_left_of self.old ≤ vec_capacity out.old }
@@ -131,7 +132,7 @@ impl RowReader {
         }
     }
 
-    /// No more bytes may be fed: the rows are read, or a fault was met.
+    /// Whether no more bytes may be fed: all rows are read, or a fault was found.
     pub fn is_done(&self) -> bool
         ensures { result ≡ is_done_of self.now }
     {
@@ -145,7 +146,7 @@ impl RowReader {
         self.row_left + self.rows_left * self.row_bytes
     }
 
-    /// Reads one part of a row, at least a byte, and gives the number of its bytes.
+    /// Reads one part of a row, at least a byte, and gives its length.
     fn step(&mut self, bytes: &[u8], out: &mut Vec<u8>) -> usize
         requires is_open { is_done_of self.old ≡ false }
         requires some { 0 < length bytes.now }
@@ -174,7 +175,7 @@ impl RowReader {
         self.place = place_behind(control, self.row_left);
     }
 
-    /// Reads bytes that stand as they are, as many as there are and are wanted, and gives their number.
+    /// Reads bytes as they are, as many as are wanted or as there are, and gives their number.
     fn feed_literal(&mut self, wanted: usize, bytes: &[u8], out: &mut Vec<u8>) -> usize
         requires place { self.old.place ≡ Place.Literal wanted }
         requires room { vec_len out.old + bytes_left_of self.old ≤ vec_capacity out.old }
@@ -195,7 +196,7 @@ impl RowReader {
         count
     }
 
-    /// Reads the byte that stands so many times.
+    /// Reads the byte that is repeated.
     fn feed_repeated(&mut self, count: usize, byte: u8, out: &mut Vec<u8>)
         requires place { self.old.place ≡ Place.Repeated count }
         requires room { vec_len out.old + bytes_left_of self.old ≤ vec_capacity out.old }
@@ -208,7 +209,7 @@ impl RowReader {
         self.end_packet(count);
     }
 
-    /// Steps behind a packet that gave so many bytes, into the next row where it was the last one of its row.
+    /// Ends a packet that gave `count` bytes, and its row too where no byte of it is left.
     fn end_packet(&mut self, count: usize)
         requires { count ≤ self.old.row_left }
         ensures { EndsPacket self.old self.new count }
@@ -223,7 +224,7 @@ impl RowReader {
     }
 }
 
-/// Where a reader stands behind a control byte, with so many bytes of the row left.
+/// Where a reader stands after a control byte, where the row has `left` bytes left.
 fn place_behind(control: u8, left: usize) -> Place
     ensures place { result ≡ behind_control (control_of control) left }
     ensures begun { least_pending result ≤ pending result }

@@ -1,4 +1,4 @@
-//! Commands appended to bytes in memory.
+//! Commands appended to a vector of bytes.
 ghost use Rattle.escp2_definitions.specs.Canonical.{canonical_row};
 ghost use Rattle.escp2_definitions.specs.Commands.{command_bytes, in_table, row_bytes as row_bytes_of, rows_len};
 ghost use Rattle.escp2_definitions.specs.Written.{rows_apart, written};
@@ -11,7 +11,8 @@ use crate::{Command, RasterHead};
 use escp2_rows::code_row;
 use weave_base::Memory;
 
-/// Appends the bytes of a command, for a raster without its rows. There is room for them, and no memory is taken.
+/// Appends the bytes of a command, for a raster without its rows. The vector has room for them, so that no memory is
+/// taken.
 pub fn append_head(c: &Command, out: &mut Vec<u8>)
     requires { vec_len out.old + length (command_bytes c.now) ≤ vec_capacity out.old }
     ensures items { out.new.items ≡ out.old.items ++ command_bytes c.now }
@@ -21,7 +22,7 @@ pub fn append_head(c: &Command, out: &mut Vec<u8>)
     out.extend_from_slice(head_bytes(c).as_slice()).unwrap();
 }
 
-/// Writes the code of a row behind so many bytes, and gives its length.
+/// Writes the code of a row after the first `begin` bytes, and gives its length.
 fn code_behind(row: &[u8], begin: usize, out: &mut [u8]) -> usize
     requires { begin + 2 * length row.now ≤ length out.old }
     ensures code { take (begin + result) out.new ≡ take begin out.old ++ canonical_row row.now }
@@ -30,7 +31,7 @@ fn code_behind(row: &[u8], begin: usize, out: &mut [u8]) -> usize
     code_row(row, &mut out[begin..])
 }
 
-/// Appends the one code of a row. There is room for twice as many bytes as the row has, and no memory is taken.
+/// Appends the canonical code of a row. The vector has room for twice the row's length, so that no memory is taken.
 pub fn append_row(row: &[u8], out: &mut Vec<u8>)
     requires { vec_len out.old + 2 * length row.now ≤ vec_capacity out.old }
     ensures items { out.new.items ≡ out.old.items ++ canonical_row row.now }
@@ -58,7 +59,7 @@ fn append_rows(head: RasterHead, rows: &[u8], out: &mut Vec<u8>)
     }
 }
 
-/// Room for the codes of so many rows.
+/// Room enough for the codes of `rows` rows of `width` bytes.
 fn codes_room(rows: u8, width: usize) -> usize
     requires { width ≤ 8192 }
     ensures is { result ≡ 2 * (rows * width) }
@@ -67,7 +68,7 @@ fn codes_room(rows: u8, width: usize) -> usize
     2 * (usize::from(rows) * width)
 }
 
-/// Room for the bytes of a command and the codes of its rows.
+/// Room enough for a command with its rows.
 fn room_for(c: &Command) -> usize
     ensures { result ≡ 9 + 2 * rows_len c.now }
 {
@@ -80,7 +81,8 @@ fn room_for(c: &Command) -> usize
 /// Appends the command and then its rows: a raster's rows plain where its `c` is 0 and else coded, the top one first,
 /// and none for the other commands.
 ///
-/// No memory is taken where there is room for 9 bytes and twice those of the rows. On `Memory` nothing is appended.
+/// It takes no memory where there is room for 9 bytes and twice the length of the rows. On `Memory` nothing is
+/// appended.
 pub fn append(c: &Command, rows: &[u8], out: &mut Vec<u8>) -> Result<(), Memory>
     requires in_range { in_table c.now ≡ true }
     requires rows_fit { length rows.now ≡ rows_len c.now }

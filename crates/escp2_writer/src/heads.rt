@@ -52,7 +52,7 @@ fn escaped(letter: u8, numbers: &[u8]) -> HeadBytes
     bytes
 }
 
-/// `ESC (`, a letter, how many bytes follow, and these.
+/// `ESC (`, a letter, the number of bytes that follow, and these.
 fn sized(letter: u8, numbers: &[u8]) -> HeadBytes
     requires { length numbers.now ≤ 4 }
     ensures { result.items ≡ 0x1B ∷ 0x28 ∷ letter ∷ length numbers.now ∷ 0 ∷ numbers.now }
@@ -70,7 +70,7 @@ pub(crate) fn row_bytes(head: RasterHead) -> usize
     (usize::from(head.n) + 7) / 8
 }
 
-/// The bytes of a command (ESC/P Reference Manual, graphics commands), for a raster without its rows. This is the one
+/// The bytes of a command (ESC/P Reference Manual, graphics commands), for a raster without its rows. This is the only
 /// place where commands are spelled.
 pub fn head_bytes(c: &Command) -> HeadBytes
     ensures { result.items ≡ command_bytes c.now }

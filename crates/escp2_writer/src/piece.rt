@@ -1,4 +1,4 @@
-//! Bytes that are gathered before they are written, so that a raster takes few writes.
+//! Bytes that are gathered before they are written, so that a raster takes few writes of the sink.
 ghost use Rattle.escp2_definitions.specs.Canonical.{canonical_row};
 ghost use Rattle.std.specs.Io.KnownBytes.{Appends};
 ghost use Rattle.std.specs.Prelude.{OnErr, OnOk, length, ◌*◌, ◌++◌, ◌+◌, ◌≡◌, ◌≤◌};
@@ -11,7 +11,7 @@ use weave_base::{Failed, Sink, put_all};
 /// Room for the codes of two of the widest rows.
 const ROOM: usize = 4096;
 
-/// Bytes that are gathered before they are written. It takes no memory.
+/// Bytes that are gathered before they are written, in a buffer of fixed size. It takes no memory.
 #[derive(Drop)]
 pub struct Piece {
     bytes: [u8; 4096],
@@ -35,7 +35,7 @@ impl Piece {
         }
     }
 
-    /// Appends the code of a row, for which there is room.
+    /// Appends the canonical code of a row, for which there is room.
     pub fn push_row(&mut self, row: &[u8])
         requires { self.old.len + 2 * length row.now ≤ 4096 }
         ensures { gathered self.new ≡ gathered self.old ++ canonical_row row.now }
@@ -43,7 +43,7 @@ impl Piece {
         self.len += code_row(row, &mut self.bytes[self.len..]);
     }
 
-    /// Makes room for so many bytes: writes what is gathered, where there is less.
+    /// Makes room for `most` bytes: where there is less, it writes what is gathered.
     pub fn make_room<K: Sink>(&mut self, most: usize, k: &mut K) -> Result<(), Failed>
         requires { most ≤ 4096 }
         ensures ok { OnOk result (Passes (K.held k.old) (K.held k.new) (gathered self.old) (gathered self.new)) }

@@ -1,4 +1,4 @@
-//! The bytes of each command, written here by hand, and sinks that fail or come short.
+//! The bytes of each command, written here by hand, and sinks that fail or take short pieces.
 ghost use Rattle.escp2_definitions.specs.Commands.{in_table, rows_len};
 ghost use Rattle.std.specs.Prelude.{length, true, ◌≡◌};
 

@@ -37,10 +37,10 @@ fn put_coded<K: Sink>(head: RasterHead, front: &[u8], rows: &[u8], k: &mut K) ->
 }
 
 /// Writes the command and then its rows: a raster's rows plain where its `c` is 0 and else coded, the top one first
-/// (ESC/P Reference Manual, graphics commands), and none for the other commands. It needs no memory.
+/// (ESC/P Reference Manual, graphics commands), and none for the other commands. It takes no memory.
 ///
-/// `Err` comes where a write of the sink failed, which the sink counts; then the sink has taken a prefix of the bytes,
-/// and not all of them.
+/// `Err` comes where a write of the sink failed, which the sink counts; then the sink has taken a proper prefix of
+/// the bytes.
 pub fn put<K: Sink>(c: &Command, rows: &[u8], k: &mut K) -> Result<(), Failed>
     requires in_range { in_table c.now ≡ true }
     requires rows_fit { length rows.now ≡ rows_len c.now }

@@ -1,4 +1,4 @@
--- What a feed of commands has before it, and what its calls take of that.
+-- The text that a feed of commands has before it, and what its calls take of it.
 use Rattle.std.specs.Prelude.{◌≡◌, ℕ, ◌+◌, ◌-◌, ◌≤◌, false, List, [], ◌++◌, length, Option, IfSome}
 use Rattle.std.specs.Io.KnownBytes.{Consumes, IsAtEnd, Keeps}
 use Rattle.escp2_definitions.specs.declared.stops.JobCause.{JobCause}
@@ -14,7 +14,7 @@ use Rattle.job_feed.specs.declared.feed.PlacedCommand.{PlacedCommand}
 use Rattle.unread_bytes.specs.Text.{text_behind}
 use Rattle.weave_base.specs.Causes.{Rose}
 
--- the bytes that were taken of the source and are not used, and then what it has left, where it tells that
+-- the bytes that were taken of the source and are not used, and then what it has left; `None` where it does not say
 abbrev pub text_of : JobFeed → Option (List ℕ) → Option (List ℕ)
 text_of feed left = text_behind feed.unread left
 
@@ -22,11 +22,11 @@ text_of feed left = text_behind feed.unread left
 abbrev pub at_of : JobFeed → ℕ
 at_of feed = feed.fed
 
--- how many bytes a job has at most
+-- the most bytes of a job
 abbrev pub most_of : JobFeed → ℕ
 most_of feed = feed.most
 
--- the rows of the raster that was just given
+-- the rows of the raster that was just answered
 abbrev pub heard_of : JobFeed → List ℕ
 heard_of feed = rows_of feed.reader
 
@@ -35,7 +35,7 @@ pub record IsBetween (feed : JobFeed) : Type 0 where
   pub stands : StandsFor feed.reader []
   pub is_open : is_failed_of feed.reader ≡ false
 
--- The next bytes are this command, which was given and ends within the job's greatest length.
+-- The next bytes were this command, which ends within the job's greatest length, and were taken.
 pub record TakesCommand (old new : JobFeed) (before now : Option (List ℕ)) (placed : PlacedCommand) : Type 0 where
   pub bytes : List ℕ
   pub taken : Consumes before now bytes
@@ -47,11 +47,11 @@ pub record TakesCommand (old new : JobFeed) (before now : Option (List ℕ)) (pl
   pub most : most_of new ≡ most_of old
   pub between : IsBetween new
 
--- Nothing more stands there.
+-- the text is at its end
 abbrev pub HasEnded : Option (List ℕ) → Option (List ℕ) → Type 0
 HasEnded before now = Keeps before now × IsAtEnd now
 
--- The next bytes, which are less than a command, were taken.
+-- The next bytes, which are a part of a command, were taken.
 pub record TakesPart (old : JobFeed) (before now : Option (List ℕ)) (bytes : List ℕ) : Type 0 where
   pub taken : Consumes before now bytes
   pub part : command_at bytes ≡ Part
@@ -65,7 +65,7 @@ pub record MeetsFault (old : JobFeed) (before now : Option (List ℕ)) (offset :
   pub wrong : (rest : List ℕ) → command_at (bytes ++ rest) ≡ Wrong (offset - at_of old) cause
   pub within : at_of old + length bytes ≤ most_of old
 
--- The job goes on past its greatest length, which ends before the next command does.
+-- The job goes on past its greatest length, which is reached before the next command ends.
 pub record IsTooLong (old : JobFeed) (before now : Option (List ℕ)) (offset : ℕ) : Type 0 where
   pub bytes : List ℕ
   pub takes : TakesPart old before now bytes
@@ -73,7 +73,7 @@ pub record IsTooLong (old : JobFeed) (before now : Option (List ℕ)) (offset : 
   pub more : IfSome now (λ text. text ≡ [] → ⊥)
   pub offset_is : offset ≡ most_of old
 
--- The job ends inside a command, whose first byte stands at this offset.
+-- The job ends inside a command, whose first byte is at this offset.
 pub record IsCut (old : JobFeed) (before now : Option (List ℕ)) (offset : ℕ) : Type 0 where
   pub bytes : List ℕ
   pub takes : TakesPart old before now bytes
@@ -88,13 +88,13 @@ IsRefused old before now offset job.Cut = IsCut old before now offset
 IsRefused old before now offset (job.Machine fault) = ⊥
 IsRefused old before now offset job.TooLong = IsTooLong old before now offset
 
--- A read failed: the count rose, and what was taken is less than a command.
+-- A read failed: the count of faults rose, and what was taken is a part of a command.
 pub record HasFailed (old : JobFeed) (before now : Option (List ℕ)) (faults_before faults_now : ℕ) : Type 0 where
   pub rose : Rose faults_before faults_now
   pub bytes : List ℕ
   pub takes : TakesPart old before now bytes
 
--- why no further command is given
+-- why no further command is answered
 abbrev pub IsStopped : JobFeed → Option (List ℕ) → Option (List ℕ) → ℕ → ℕ → FeedStop → Type 0
 IsStopped old before now faults_before faults_now (stop.Job offset cause) = IsRefused old before now offset cause
 IsStopped old before now faults_before faults_now stop.Read = HasFailed old before now faults_before faults_now

@@ -9,7 +9,7 @@ use Rattle.escp2_definitions.specs.JobEnds.{Stopped, list_stop, stopped}
 abbrev pub with_entries : List Entry → CommandList → CommandList
 with_entries entries job = record { entries = entries ++ job.entries; end = job.end }
 
--- the commands of bytes of which the first stands at an offset
+-- the commands of bytes of which the first is at this offset
 abbrev pub commands_behind : ℕ → List ℕ → CommandList
 commands_behind at bytes = commands_from (length bytes) at bytes
 
@@ -17,14 +17,14 @@ commands_behind at bytes = commands_from (length bytes) at bytes
 pub record AreCommands (bytes : List ℕ) (entries : List Entry) : Type 0 where
   pub are : (rest : List ℕ) → commands (bytes ++ rest) ≡ with_entries entries (commands_behind (length bytes) rest)
 
--- The first commands of what was taken of a job are these. A job has at most so many bytes.
+-- These are the first commands of the bytes that were taken of a job, which has at most `most` bytes.
 pub record TakesCommands (most : ℕ) (before now : Option (List ℕ)) (entries : List Entry) : Type 0 where
   pub bytes : List ℕ
   pub taken : Consumes before now bytes
   pub others : List Entry
   pub are : (commands (take most bytes)).entries ≡ entries ++ others
 
--- The commands of a job's bytes are these, and it stops so, but for what the machine refuses.
+-- The commands of a job's bytes are these, and it stops so, what the machine refuses left aside.
 pub record Ends (most : ℕ) (bytes : List ℕ) (entries : List Entry) (stop : Option Stopped) : Type 0 where
   pub are : (commands (take most bytes)).entries ≡ entries
   pub stop_is : list_stop (commands (take most bytes)).end most (length bytes) ≡ stop
@@ -36,6 +36,6 @@ pub record TakesJob (most : ℕ) (before now : Option (List ℕ)) (entries : Lis
   pub end : IsAtEnd now
   pub ends : Ends most bytes entries None
 
--- The job, where it is told, is refused at this offset as bytes, and the commands before it are these.
+-- the job, where the source says what it holds, has these commands, and is refused at this offset
 abbrev pub MeetsStop : ℕ → Option (List ℕ) → List Entry → ℕ → JobStop → Type 0
 MeetsStop most before entries offset cause = IfSome before (λ bytes. Ends most bytes entries (stopped offset cause))

@@ -1,10 +1,10 @@
--- A piece of a job that goes to the reader.
+-- A piece of a job that is fed to the reader.
 use Rattle.std.specs.Prelude.{◌≡◌, ℕ, ◌+◌, ◌≤◌, List, ◌++◌, length}
 use Rattle.escp2_reader.specs.declared.reader.HeardState.{HeardState}
 use Rattle.escp2_reader.specs.Reading.{IsHeard, StandsFor, is_failed_of, shows_fault}
 use Rattle.job_feed.specs.declared.feed.JobFeed.{JobFeed}
 
--- The first of the unread bytes went to the reader, one at least, and it heard this.
+-- A prefix of the unread bytes was used by the reader, one byte at least, and this is its answer.
 pub record FeedsSome (old new : JobFeed) (state : HeardState) : Type 0 where
   pub bytes : List ℕ
   pub some : 1 ≤ length bytes

@@ -1,4 +1,4 @@
-//! A feed of commands.
+//! Reading the commands of a job from a source.
 ghost use Rattle.escp2_reader.specs.Reading.{StandsFor, fed_of, is_failed_of, rows_of};
 ghost use Rattle.job_feed.specs.declared.feed.FeedStop.TheVariants as FeedStop;
 ghost use Rattle.escp2_definitions.specs.declared.stops.JobStop.TheVariants as JobStop;
@@ -19,7 +19,7 @@ pub struct PlacedCommand {
     pub command: Command,
 }
 
-/// Why no further command is given.
+/// Why no further command is answered.
 #[derive(Clone, Copy, Debug, PartialEq, Eq)]
 pub enum FeedStop {
     /// The job is refused at this offset.
@@ -33,7 +33,7 @@ pub enum FeedStop {
 pub struct JobFeed {
     unread: Unread,
     reader: JobReader,
-    /// How many bytes went to the reader, of how many at most.
+    /// How many bytes the reader used.
     fed: u64,
     most: u64,
     ghost fed_is: { fed ≡ fed_of reader },
@@ -41,7 +41,7 @@ pub struct JobFeed {
     ghost bounded: { most < 2 ^ 63 },
 }
 
-// So many of some bytes from the first on, or all.
+// The first `count` bytes, or all where there are fewer.
 fn first_bytes(bytes: &[u8], count: u64) -> &[u8]
     ensures { result.now ≡ take count bytes.now }
 {
@@ -57,7 +57,8 @@ impl JobFeed {
     ghost use Rattle.job_feed.specs.Feeding.{text_of};
     ghost use Rattle.job_feed.specs.Pieces.{FeedsSome};
 
-    /// A feed of a job from its first byte on. It takes the memory of the reader and of a buffer, and none later.
+    /// A feed of a job from its first byte on. It takes the memory of the reader and of a buffer; no other call takes
+    /// memory.
     pub fn make(alloc: Global, most: u64) -> Result<JobFeed, Memory>
         requires { most < 2 ^ 63 }
         ensures between { IfOk result IsBetween }
@@ -73,7 +74,7 @@ impl JobFeed {
         })
     }
 
-    /// The next command: none at the end of the job. `rows` then has the rows of a raster.
+    /// The next command, or `None` at the end of the job. `rows` then has the rows of a raster.
     pub fn next<S: Source>(&mut self, s: &mut S) -> Result<Option<PlacedCommand>, FeedStop>
         requires { IsBetween self.old }
         ensures command { IfOk result (λ o. IfSome o (λ placed.
@@ -111,14 +112,14 @@ impl JobFeed {
         }
     }
 
-    /// The rows of the raster that was just given, the top one first and as they are; else none.
+    /// The rows of the raster that `next` just answered, the top one first, packed and not coded; else none.
     pub fn rows(&self) -> &[u8]
         ensures { result.now ≡ heard_of self.now }
     {
         self.reader.rows()
     }
 
-    // Hands the reader the next bytes, as many as the job may have.
+    // Feeds the reader the unread bytes, as far as the job may have them.
     fn feed_piece(&mut self) -> HeardState
         requires some { 1 ≤ length self.old.unread }
         requires room { self.old.fed < self.old.most }
@@ -133,7 +134,7 @@ impl JobFeed {
         heard.state
     }
 
-    // What the end of the source comes to.
+    // The answer at the end of the source.
     fn end(&self) -> Result<Option<PlacedCommand>, FeedStop>
         requires { is_failed_of self.now.reader ≡ false }
         ensures none { IfOk result (λ o. o ≡ None) }

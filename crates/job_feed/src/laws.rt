@@ -1,11 +1,12 @@
-//! Laws of the commands at the beginning of a job.
+//! The law of the first commands of a job, the contract of an empty function.
 ghost use Rattle.escp2_definitions.specs.Commands.Heard.{One};
 ghost use Rattle.escp2_definitions.specs.Commands.{Entry, command_at};
 ghost use Rattle.escp2_definitions.specs.declared.command.Command.{Command};
 ghost use Rattle.job_feed.specs.Jobs.{AreCommands};
 ghost use Rattle.std.specs.Prelude.{[], length, List, ℕ, ◌++◌, ◌∷◌, ◌≡◌};
 
-/// Commands are heard one after another, each at the offset of its first byte.
+/// No bytes are no commands. Where bytes are whole commands, and those after them are one more, both together are these
+/// commands and the one more, at the offset of its first byte.
 pub fn commands_follow()
     ensures none { AreCommands [] [] }
     ensures more { (done bytes : List ℕ) (entries : List Entry) (command : Command) (rows : List ℕ)

@@ -1,4 +1,4 @@
--- What listing a job comes to.
+-- How the listing of a job ends.
 use Rattle.std.specs.Prelude.{ℕ, List, Result, Ok, Err}
 use Rattle.std.specs.Io.KnownBytes.{Appends}
 use Rattle.escp2_definitions.specs.declared.stops.JobStop.{JobStop}
@@ -22,7 +22,7 @@ pub record ListsToStop (most : ℕ) (input out : Outside) (offset : ℕ) (cause 
   pub meets : MeetsStop most input.before entries offset cause
   pub writes : Appends out.before out.now (listing entries)
 
--- Some first commands of what was taken are listed.
+-- The first commands of what was taken are listed.
 pub record ListsSome (most : ℕ) (input out : Outside) : Type 0 where
   pub entries : List Entry
   pub takes : TakesCommands most input.before input.now entries
@@ -34,7 +34,7 @@ pub record ListsPart (most : ℕ) (input out : Outside) : Type 0 where
   pub takes : TakesCommands most input.before input.now entries
   pub writes : AppendsPart out.before out.now (listing entries)
 
--- What listing a job of at most so many bytes comes to.
+-- how the listing of a job of at most `most` bytes ends
 abbrev pub ListOutcome : ℕ → Outside → Outside → Result (Unit {0}) ListStop → Type 0
 ListOutcome most input out (Ok u) = ListsAll most input out
 ListOutcome most input out (Err (stop.Job offset cause)) = ListsToStop most input out offset cause

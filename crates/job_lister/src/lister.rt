@@ -1,4 +1,4 @@
-//! A job's listing.
+//! Listing a job.
 ghost use Rattle.job_lister.specs.Outcome.{ListOutcome};
 ghost use Rattle.job_lister.specs.declared.lister.ListStop.TheVariants as ListStop;
 ghost use Rattle.escp2_definitions.specs.Commands.{in_table, rows_len};
@@ -28,7 +28,7 @@ pub enum ListStop {
     Memory,
 }
 
-/// Writes a line for each command of the job that the input is, of which at most `most` bytes are taken.
+/// Writes a line for each command of the job in `input`, which has at most `most` bytes.
 pub fn list_job<S: Source, K: Sink>(
     alloc: Global,
     most: u64,

@@ -35,7 +35,7 @@ name_of c.Eject = codes "EJECT"
 name_of (c.Colour ink) = codes "COLOUR"
 name_of (c.Raster head) = codes "RASTER"
 
--- its numbers; of a raster those of its head, and how many dots it has
+-- the numbers of a command; of a raster its numbers, and how many dots it has
 abbrev pub numbers_of : Command → List ℕ → List ℕ
 numbers_of c.Init rows = []
 numbers_of c.Graphics rows = []
@@ -52,7 +52,7 @@ numbers_of c.Eject rows = []
 numbers_of (c.Colour ink) rows = colour_code ink ∷ []
 numbers_of (c.Raster head) rows = head.c ∷ head.v ∷ head.h ∷ head.m ∷ head.n ∷ dot_count head rows ∷ []
 
--- The line of a command whose first byte stands at a place.
+-- the line of a command whose first byte is at this offset
 abbrev pub line_of : ℕ → Command → List ℕ → List ℕ
 line_of place command rows = decimal place ++ codes " " ++ name_of command ++ numbers (numbers_of command rows) ++ codes "\n"
 

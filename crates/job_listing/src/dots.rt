@@ -1,4 +1,4 @@
-//! How many dots a raster has.
+//! Counting the dots of a raster.
 ghost use Rattle.escp2_definitions.specs.Commands.{in_table, rows_len};
 ghost use Rattle.escp2_definitions.specs.Machine.{bits};
 ghost use Rattle.escp2_definitions.specs.declared.command.Command.TheVariants as command;

@@ -11,7 +11,7 @@ use arrayvec::ArrayString;
 use escp2_definitions::{Command, RasterHead};
 use printer_definitions::Ink;
 
-/// A line of the listing, with its end.
+/// A line of the listing, with its line feed.
 pub type Line = ArrayString<128>;
 
 fn name_of(command: &Command) -> &'static str
@@ -47,7 +47,7 @@ fn code_of(ink: Ink) -> u32
     }
 }
 
-// The numbers of a raster's head, and how many dots its rows have.
+// The numbers of a raster, and how many dots its rows have.
 fn raster_numbers(head: &RasterHead, rows: &[u8]) -> [u32; 6]
     requires in_range { in_table (escp2_command.Raster head.now) ≡ true }
     requires rows_fit { length rows.now ≡ rows_len (escp2_command.Raster head.now) }
@@ -87,7 +87,7 @@ fn push_numbers_of(command: &Command, rows: &[u8], out: &mut Line)
     }
 }
 
-/// Writes the line of a command, whose first byte stands at this place of its job, into an empty text.
+/// Writes the line of a command, whose first byte is at offset `place` of its job, into an empty text.
 pub fn push_line(place: u64, command: &Command, rows: &[u8], out: &mut Line)
     requires in_range { in_table command.now ≡ true }
     requires rows_fit { length rows.now ≡ rows_len command.now }

@@ -7,7 +7,7 @@ ghost use Rattle.std.specs.Prelude.{[], ◌∷◌, ◌*◌, ◌+◌, ◌++◌, �
 use crate::line::Line;
 use itoa::Buffer;
 
-/// Appends a place in decimal.
+/// Appends an offset in decimal.
 pub fn push_place(place: u64, out: &mut Line)
     requires { array_string_len out.old + 20 ≤ 128 }
     ensures bytes { out.new.bytes ≡ out.old.bytes ++ decimal place }
