@@ -43,7 +43,7 @@ canonical-codes row =
     let is : IsRow row (packets_from (length row) row) = packets_from-row (length row) row (omega arith) in
     record { packets = packets_from (length row) row; allowed = is.allowed; coded = refl; gives = is.gives }
 
--- of at most twice as many bytes
+-- the canonical code has at most twice as many bytes as its row
 pub canonical-short : (row : List ℕ) → length (canonical_row row) ≤ 2 * length row
 unfolding canonical_row
 canonical-short row = (packets_from-row (length row) row (omega arith)).short

@@ -14,16 +14,16 @@ use Rattle.escp2_definitions.specs.RowCode.RowsRead.{RowsAre, RowsPart, RowsWron
 abbrev pub AreBytes : List ℕ → Type 0
 AreBytes bytes = (k : ℕ) → get_or bytes k 0 < 256
 
--- so are those behind a place
+-- so are those after a place
 bytes-drop : (n : ℕ) (bytes : List ℕ) → AreBytes bytes → AreBytes (drop n bytes)
 bytes-drop n bytes are k = let P : ℕ → Type 0 = λ b. b < 256 in subst P (sym (get_or-drop n bytes k 0)) (are (n + k))
 
--- The code stands at the front of the bytes, between these places.
+-- The bytes begin with the code, which goes from one of these places to the other.
 pub record Front (bytes code : List ℕ) (at next : ℕ) : Type 0 where
   pub place : next ≡ at + length code
   pub is : bytes ≡ code ++ drop (next - at) bytes
 
--- one code behind another
+-- one code after another
 front-join : (bytes code more : List ℕ) (at next last : ℕ) → Front bytes code at next → Front (drop (next - at) bytes) more next last
     → Front bytes (code ++ more) at last
 front-join bytes code more at next last first second = record {
@@ -101,7 +101,7 @@ repeat-read count left at n (b ∷ bytes) row next control some few fits is =
       };
     }
 
--- a packet that is read may stand there
+-- a packet that is read fits its row
 packet-read : (left at : ℕ) (bytes row : List ℕ) (next : ℕ) → AreBytes bytes → packet_at left at bytes ≡ RowsAre row next
     → ReadPacket left at bytes row next
 packet-read left at [] row next are is = absurd (let part : RowsPart ≡ RowsAre row next = is in cc)
@@ -239,7 +239,7 @@ pub record ReadRows (m width at : ℕ) (bytes rows : List ℕ) (next : ℕ) : Ty
   pub codes : RowsCode m width code rows
   pub front : Front bytes code at next
 
--- a row, and those behind it
+-- a row, and those after it
 rows-more : (m width at : ℕ) (bytes row : List ℕ) (next : ℕ) (rows : List ℕ) (last : ℕ) → ReadRow width at bytes row next
     → ReadRows m width next (drop (next - at) bytes) rows last → ReadRows (suc m) width at bytes (row ++ rows) last
 rows-more m width at bytes row next rows last first rest = record {
@@ -297,7 +297,7 @@ rows-parsed (suc m) width at bytes rows next are is =
     by_row rest_read RowsPart first same = absurd (let part : RowsPart ≡ RowsAre rows next = same in cc)
     by_row rest_read (RowsWrong k) first same = absurd (let wrong : RowsWrong k ≡ RowsAre rows next = same in cc)
 
--- which is the bytes up to the place behind them
+-- the code is the bytes up to the place after the rows
 pub read_codes : (m width : ℕ) (bytes rows : List ℕ) (next : ℕ) → AreBytes bytes → rows_at m width 0 bytes ≡ RowsAre rows next
     → RowsCode m width (take next bytes) rows
 read_codes m width bytes rows next are is =

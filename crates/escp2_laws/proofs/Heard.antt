@@ -1,4 +1,4 @@
--- What is read of a command is told by its first bytes, whatever follows them, and what is whole is spelled.
+-- What is read of a command is decided by its first bytes, whatever follows, and what is whole is spelled.
 use Rattle.std.proofs.Common.{◌≡◌, ℕ, ◌==◌, Bool, true, false, if◌then◌else◌, List, [], ◌∷◌, ◌++◌, refl, sym, ap, subst, arith}
 use Rattle.std.proofs.lemmas.Bool.{eqb-true}
 use Rattle.std.proofs.lemmas.Bool.Decides.{nat_tests}
@@ -33,7 +33,7 @@ colour-is n ok = by_black (n == 0) refl
 
 -- ---- what follows `ESC (`
 
--- each byte of the table behind `ESC (`
+-- each byte of the table after `ESC (`
 paren-told : (bytes : List ℕ) → Told paren (0x1B ∷ 0x28 ∷ []) bytes (paren bytes)
 paren-told [] = tt
 paren-told (b ∷ rest) = by_graphics (b == 0x47) refl
@@ -118,7 +118,7 @@ paren-told (b ∷ rest) = by_graphics (b == 0x47) refl
 
 -- ---- what follows `ESC`
 
--- each byte of the table behind `ESC`
+-- each byte of the table after `ESC`
 escape-told : (bytes : List ℕ) → Told escape (0x1B ∷ []) bytes (escape bytes)
 escape-told [] = tt
 escape-told (b ∷ rest) = by_init (b == 0x40) refl

@@ -1,4 +1,4 @@
--- The packet at the front of a row: it may stand there, and gives the bytes up to the rest.
+-- The first packet of a row: it fits the row, and gives the bytes up to the rest.
 use Rattle.std.proofs.Common.{◌≡◌, ℕ, zero, suc, ◌+◌, ◌-◌, ◌*◌, ◌<◌, ◌≤◌, ◌==◌, nat_lt, Bool, true, false, if◌then◌else◌, List, [], ◌∷◌}
 use Rattle.std.proofs.Common.{◌++◌, length, take, drop, replicate, get_or, refl, sym, ◌∙◌, ap, arith, eq-eqb}
 use Rattle.std.specs.List.{take_while}
@@ -11,7 +11,7 @@ use Rattle.escp2_definitions.specs.Canonical.{apart_at, equal_at, next_packet}
 
 -- ---- equal bytes
 
--- how many bytes from the front on are this one
+-- how many bytes at the beginning are this one
 abbrev pub same : ℕ → List ℕ → ℕ
 same byte row = length (take_while (λ other. other == byte) row)
 
@@ -54,14 +54,14 @@ same-front byte (suc most) (b ∷ row) = by_test (b == byte) refl (same-front by
         let count : same byte (b ∷ take most row) ≡ 0 = same-cons byte b (take most row) ∙ ap (λ t. if t then 1 + n else 0) e in
         ap (λ k. replicate k byte ++ drop k (b ∷ row)) (sym count)
 
--- The equal bytes at the front of a row of one byte or more.
+-- The equal bytes at the beginning of a row of one byte or more.
 record IsEqual (row : List ℕ) (n : ℕ) : Type 0 where
   some : 1 ≤ n
   few : n ≤ 128
   within : n ≤ length row
   front : row ≡ replicate n (get_or row 0 0) ++ drop n row
 
--- the equal bytes at the front
+-- the equal bytes at the beginning
 equal-is : (row : List ℕ) → 0 < length row → IsEqual row (equal_at row)
 unfolding equal_at
 equal-is [] some = absurd (omega arith)
@@ -101,7 +101,7 @@ apart-bounds (suc most) (b ∷ row) = by_test (apart-bounds most row) (nat_lt 2 
     by_test after true = (omega arith, omega arith)
     by_test after false = (omega (arith, after.0), omega (arith, after.1))
 
--- The counts at the front of a row of one byte or more.
+-- The counts at the beginning of a row of one byte or more.
 pub record IsCounted (row : List ℕ) : Type 0 where
   pub few_equal : equal_at row ≤ 128
   pub equal_within : equal_at row ≤ length row
@@ -121,9 +121,9 @@ counted row some =
       apart_within = (apart-bounds 128 row).1;
     }
 
--- ---- the packet at the front of a row
+-- ---- the first packet of a row
 
--- A packet at the front of a row: it may stand there, and gives the bytes up to the rest.
+-- The first packet of a row: it fits the row, and gives the bytes up to the rest.
 pub record IsFront (row : List ℕ) (packet : RowPacket) : Type 0 where
   pub allowed : IsRowPacket packet
   pub some : 1 ≤ length (packet_row packet)
@@ -131,7 +131,7 @@ pub record IsFront (row : List ℕ) (packet : RowPacket) : Type 0 where
   pub gives : row ≡ packet_row packet ++ drop (length (packet_row packet)) row
   pub short : length (packet_code packet) ≤ 2 * length (packet_row packet)
 
--- a repeated byte may stand at the front
+-- a repeated byte may be the first packet
 front-repeat : (row : List ℕ) (n : ℕ) → IsEqual row n → 2 < n → IsFront row (Repeat n (get_or row 0 0))
 front-repeat row n equal many =
     let len : length (replicate n (get_or row 0 0)) ≡ n = length-replicate {A = ℕ} n (get_or row 0 0) in

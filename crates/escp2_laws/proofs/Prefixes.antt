@@ -1,15 +1,15 @@
--- No code of rows begins another.
+-- No code of rows is a proper prefix of another.
 use Rattle.std.proofs.Common.{◌≡◌, ℕ, ◌+◌, List, [], ◌∷◌, ◌++◌, length, refl, sym, ◌∙◌, ap, arith, length-append, append-nil}
 use Rattle.escp2_definitions.specs.RowCode.{RowsCode, rows_at}
 use Rattle.escp2_definitions.specs.RowCode.RowsRead.{RowsAre}
 use Rattle.escp2_laws.proofs.Rows.{rows-read}
 
--- bytes that are no longer than their beginning end with it
+-- bytes that are no longer than their prefix are the prefix
 nothing_left : (bytes more : List ℕ) → length bytes ≡ length (bytes ++ more) → more ≡ []
 nothing_left bytes [] e = refl
 nothing_left bytes (b ∷ more) e = absurd (omega (arith, length-append bytes (b ∷ more)))
 
--- no code of rows begins another
+-- no code of rows is a proper prefix of another
 pub rows_alone : (m width : ℕ) (code more rows other_rows : List ℕ) → RowsCode m width code rows
     → RowsCode m width (code ++ more) other_rows
     → (more ≡ []) × (rows ≡ other_rows)

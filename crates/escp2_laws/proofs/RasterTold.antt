@@ -1,4 +1,4 @@
--- What is read of a raster is told by its first bytes, whatever follows them, and what is whole is spelled.
+-- What is read of a raster is decided by its first bytes, whatever follows, and what is whole is spelled.
 use Rattle.std.proofs.Common.{◌≡◌, ℕ, zero, suc, ◌+◌, ◌-◌, ◌*◌, ◌==◌, ◌&&◌, nat_lt, Bool, true, false, if◌then◌else◌, List, [], ◌∷◌, ◌++◌}
 use Rattle.std.proofs.Common.{length, take, drop, refl, sym, ◌∙◌, ap, subst, arith, append-nil, length-append}
 use Rattle.std.specs.Prelude.{MatchBool}
@@ -65,7 +65,7 @@ coded-are head rows text next is_coded there are e =
     let P : Bool → Type 0 = λ b. MatchBool b (text ≡ rows) (RowsCode head.m (row_bytes head) text rows) in
     record { fits = codes-len head.m (row_bytes head) text rows codes; are = subst P (sym is_coded) codes }
 
--- what is told of rows is told of their raster
+-- what decides the rows decides their raster
 raster-told : (head : RasterHead) (read : List ℕ → RowsRead) (bytes : List ℕ) → in_table (c.Raster head) ≡ true
     → ((more : List ℕ) → raster_rows head more ≡ with_rows head (read more))
     → ((rows text : List ℕ) (next : ℕ) → next ≡ 8 + length text → AreBytes text → read (text ++ []) ≡ RowsAre rows next
@@ -91,7 +91,7 @@ raster-told head read bytes ok is rows_are (RowsWrong place) t = record {
   told = λ more. is (t.front ++ more) ∙ ap (with_rows head) (t.told more);
 }
 
--- the rows behind the numbers of a raster
+-- the rows after the numbers of a raster
 rows-of-raster : (head : RasterHead) (bytes : List ℕ) → in_table (c.Raster head) ≡ true
     → Told (raster_rows head) (command_bytes (c.Raster head)) bytes (raster_rows head bytes)
 rows-of-raster head bytes ok = by_form (head.c == 0) refl

@@ -152,11 +152,11 @@ command_at-spelled command rows bytes rest s =
     ∙ by_command command rows text rest same refl
     ∙ ap (λ bs. One command rows (length bs)) (sym s.spelled)
 
--- where nothing is left over, the rest is empty
+-- where no bytes are left, the rest is empty
 nothing_left : (bytes more : List ℕ) → length bytes ≡ length (bytes ++ more) → more ≡ []
 nothing_left bytes more e = no_rows more (omega (arith, length-append bytes more))
 
--- no spelling begins another
+-- no spelling is a proper prefix of another
 pub alone : (one other : Command) (rows other_rows bytes more : List ℕ) → Spells one rows bytes → Spells other other_rows (bytes ++ more)
     → more ≡ []
 alone one other rows other_rows bytes more s t =

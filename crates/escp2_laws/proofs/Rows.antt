@@ -13,7 +13,7 @@ use Rattle.escp2_definitions.specs.RowCode.RowsRead.{RowsAre, RowsPart, RowsWron
 
 -- ---- plain rows
 
--- so many bytes are read as they are
+-- n bytes are read as they are
 pub plain-reads : (bytes rest : List ℕ) (n at : ℕ) → length bytes ≡ n → plain_at n at (bytes ++ rest) ≡ RowsAre bytes (at + n)
 plain-reads bytes rest n at e =
     let enough : nat_lt (length (bytes ++ rest)) n ≡ false = le-ltb _ _ (omega (arith, length-append bytes rest)) in

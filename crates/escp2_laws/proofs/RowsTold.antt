@@ -1,4 +1,4 @@
--- What is read of coded rows is told by the first bytes, whatever follows them.
+-- What is read of coded rows is decided by the first bytes, whatever follows.
 use Rattle.std.proofs.Common.{◌≡◌, ℕ, zero, suc, ◌+◌, ◌-◌, nat_lt, Bool, true, false, if◌then◌else◌, List, [], ◌∷◌, ◌++◌, length, take}
 use Rattle.std.proofs.Common.{drop, refl, sym, ◌∙◌, ap, subst, arith, append_assoc, length-append}
 use Rattle.std.proofs.lemmas.Bool.{ltb-false}
@@ -10,7 +10,7 @@ use Rattle.escp2_definitions.specs.RowCode.RowsRead.{RowsAre, RowsPart, RowsWron
 use Rattle.escp2_laws.proofs.Grammar.{row-part, row-step, row-wrong}
 use Rattle.escp2_laws.proofs.Rows.{plain-reads}
 
--- Bytes that are read from a place on: those at their front tell the answer, whatever follows, and end at a place.
+-- Bytes that are read from a place on: a prefix decides the answer, whatever follows, and ends at a place.
 pub record FrontTells (read : List ℕ → RowsRead) (at : ℕ) (bytes : List ℕ) (answer : RowsRead) (end : ℕ) : Type 0 where
   pub front : List ℕ
   pub rest : List ℕ
@@ -18,13 +18,13 @@ pub record FrontTells (read : List ℕ → RowsRead) (at : ℕ) (bytes : List �
   pub there : end ≡ at + length front
   pub told : (more : List ℕ) → read (front ++ more) ≡ answer
 
--- rows are told by their code, and a refused control byte by the bytes up to it
+-- rows are decided by their code, and a refused control byte by the bytes up to it
 abbrev pub RowsTold : (List ℕ → RowsRead) → ℕ → List ℕ → RowsRead → Type 0
 RowsTold read at bytes (RowsAre rows next) = FrontTells read at bytes (RowsAre rows next) next
 RowsTold read at bytes RowsPart = Unit {0}
 RowsTold read at bytes (RowsWrong place) = FrontTells read at bytes (RowsWrong place) (place + 1)
 
--- one code behind another
+-- one code after another
 join : (read next_read : List ℕ → RowsRead) (at next : ℕ) (row code rest bytes : List ℕ) → bytes ≡ code ++ rest → next ≡ at + length code
     → ((more : List ℕ) → read (code ++ more) ≡ with_front row (next_read more)) → (r : RowsRead) → RowsTold next_read next rest r
     → RowsTold read at bytes (with_front row r)
@@ -46,7 +46,7 @@ join read next_read at next row code rest bytes is there step (RowsWrong place) 
 
 -- ---- plain bytes
 
--- so many bytes as they are
+-- bytes as they are
 pub plain-told : (n at : ℕ) (bytes : List ℕ) → RowsTold (plain_at n at) at bytes (plain_at n at bytes)
 plain-told n at bytes = by_test (nat_lt (length bytes) n) refl
   where
@@ -65,7 +65,7 @@ plain-told n at bytes = by_test (nat_lt (length bytes) n) refl
 
 -- ---- a packet
 
--- a packet is told by its control byte and what that controls
+-- a packet is decided by its control byte and what that controls
 packet-told : (left at : ℕ) (bytes : List ℕ) → RowsTold (packet_at left at) at bytes (packet_at left at bytes)
 packet-told left at [] = tt
 packet-told left at (n ∷ bytes) = by_control (control_of n) refl

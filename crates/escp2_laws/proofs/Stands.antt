@@ -1,4 +1,4 @@
--- What is read of a command stands, whatever follows.
+-- What is read of a command stays read, whatever follows.
 use Rattle.std.proofs.Common.{◌≡◌, ℕ, zero, suc, ◌+◌, ◌-◌, ◌<◌, ◌≤◌, List, [], ◌∷◌, ◌++◌, length, take, drop, refl, sym, ◌∙◌, ap, subst}
 use Rattle.std.proofs.Common.{arith, append_assoc, length-append, length-drop}
 use Rattle.std.proofs.lemmas.List.{drop-append-le, length-take, take_at, take-append-drop}
@@ -12,18 +12,18 @@ use Rattle.escp2_laws.proofs.Grammar.{AreBytes}
 use Rattle.escp2_laws.proofs.Heard.{command-told}
 use Rattle.escp2_laws.proofs.Told.{TellsOne, TellsWrong, Told}
 
--- the first of bytes are bytes
+-- a prefix of bytes is bytes
 bytes-front : (front rest : List ℕ) → AreBytes (front ++ rest) → AreBytes front
 bytes-front [] rest are k = omega arith
 bytes-front (b ∷ front) rest are zero = are 0
 bytes-front (b ∷ front) rest are (suc k) = bytes-front front rest (λ k. are (suc k)) k
 
--- a whole command, as its first bytes tell it
+-- a whole command, as its first bytes decide it
 one-told : (bytes : List ℕ) (command : Command) (rows : List ℕ) (len : ℕ) → command_at bytes ≡ One command rows len
     → TellsOne command_at [] bytes command rows len
 one-told bytes command rows len e = let P : Heard → Type 0 = Told command_at [] bytes in subst P e (command-told bytes)
 
--- a fault, as the first bytes tell it
+-- a fault, as the first bytes decide it
 wrong-told : (bytes : List ℕ) (at : ℕ) (cause : JobCause) → command_at bytes ≡ Wrong at cause → TellsWrong command_at [] bytes at cause
 wrong-told bytes at cause e = let P : Heard → Type 0 = Told command_at [] bytes in subst P e (command-told bytes)
 
@@ -56,14 +56,14 @@ one-stands_behind bytes rest command rows len e =
 
 -- ---- a fault
 
--- a fault stands with all of the bytes before
+-- a fault stays read with all of the bytes before
 wrong-stands_behind : (bytes rest : List ℕ) (at : ℕ) (cause : JobCause) → command_at bytes ≡ Wrong at cause
     → command_at (bytes ++ rest) ≡ Wrong at cause
 wrong-stands_behind bytes rest at cause e =
     let t : TellsWrong command_at [] bytes at cause = wrong-told bytes at cause e in
     ap (λ bs. command_at (bs ++ rest)) t.is ∙ ap command_at (append_assoc t.front t.rest rest) ∙ t.told (t.rest ++ rest)
 
--- What a fault in the bytes at a place is known by.
+-- What decides a fault at a place of the bytes.
 pub record FaultStands (bytes : List ℕ) (at : ℕ) (cause : JobCause) : Type 0 where
   pub within : at < length bytes
   pub before : command_at (take at bytes) ≡ Part
@@ -83,7 +83,7 @@ before-fault front rest at cause short e (Wrong place other) is =
     places : (j k : ℕ) (a b : JobCause) → Wrong j a ≡ Wrong k b → j ≡ k
     places j k a b e = cc
 
--- a fault is known by the bytes up to it
+-- a fault is decided by the bytes up to it
 pub fault-stands : (bytes : List ℕ) (at : ℕ) (cause : JobCause) → command_at bytes ≡ Wrong at cause → FaultStands bytes at cause
 fault-stands bytes at cause e =
     let t : TellsWrong command_at [] bytes at cause = wrong-told bytes at cause e in
@@ -103,7 +103,7 @@ fault-stands bytes at cause e =
 
 -- ---- less than a whole command
 
--- bytes at the beginning of a part are a part
+-- a prefix of a part is a part
 pub part-of_part : (bytes rest : List ℕ) → command_at (bytes ++ rest) ≡ Part → command_at bytes ≡ Part
 part-of_part bytes rest e = by_heard (command_at bytes) refl
   where

@@ -1,5 +1,5 @@
--- What is read of a command is told by the first bytes, whatever follows them, and what is whole is spelled: the parts
--- of a command, one behind another.
+-- What is read of a command is decided by its first bytes, whatever follows, and what is whole is spelled: the parts
+-- of a command, one after another.
 use Rattle.std.proofs.Common.{◌≡◌, ℕ, suc, ◌+◌, ◌*◌, ◌/◌, ◌%◌, ◌<◌, ◌≤◌, ◌==◌, Bool, true, false, if◌then◌else◌, List, [], ◌∷◌, ◌++◌}
 use Rattle.std.proofs.Common.{length, refl, sym, ◌∙◌, ap, subst, arith, append_assoc, length-append}
 use Rattle.std.proofs.lemmas.Bool.{eqb-true}
@@ -11,7 +11,7 @@ use Rattle.escp2_definitions.specs.Commands.{wide_number}
 use Rattle.escp2_definitions.specs.Commands.Heard.{One, Part, Wrong}
 use Rattle.escp2_laws.proofs.Grammar.{AreBytes}
 
--- The rest of a command, behind the bytes before: its first bytes tell that it is whole, and with those before they
+-- The rest of a command, after the bytes before: its first bytes decide that it is whole, and with those before they
 -- spell it.
 pub record TellsOne (read : List ℕ → Heard) (before bytes : List ℕ) (command : Command) (rows : List ℕ) (len : ℕ) : Type 0 where
   pub front : List ℕ
@@ -21,7 +21,7 @@ pub record TellsOne (read : List ℕ → Heard) (before bytes : List ℕ) (comma
   pub told : (more : List ℕ) → read (front ++ more) ≡ One command rows len
   pub spells : AreBytes front → Spells command rows (before ++ front)
 
--- Its first bytes tell a fault, the last of them at the fault's place or one behind it.
+-- Its first bytes decide a fault, the last of them at the fault's place or one after it.
 pub record TellsWrong (read : List ℕ → Heard) (before bytes : List ℕ) (place : ℕ) (cause : JobCause) : Type 0 where
   pub front : List ℕ
   pub rest : List ℕ
@@ -30,7 +30,7 @@ pub record TellsWrong (read : List ℕ → Heard) (before bytes : List ℕ) (pla
   pub most : length before + length front ≤ place + 2
   pub told : (more : List ℕ) → read (front ++ more) ≡ Wrong place cause
 
--- the first bytes tell what is read, a whole command or a fault
+-- the first bytes decide what is read, a whole command or a fault
 abbrev pub Told : (List ℕ → Heard) → List ℕ → List ℕ → Heard → Type 0
 Told read before bytes (One command rows len) = TellsOne read before bytes command rows len
 Told read before bytes Part = Unit {0}
@@ -77,7 +77,7 @@ told-branch read next before b n rest same step t =
     let P : ℕ → Type 0 = λ b. Told read before (b ∷ rest) (read (b ∷ rest)) in
     subst P (sym same) (told-byte read next before n rest step t)
 
--- a command that takes nothing more
+-- a whole command without rows
 pub told-whole : (command : Command) (len : ℕ) (before bytes : List ℕ) → len ≡ length before → in_table command ≡ true
     → 0 ≡ rows_len command → IsRowsText command [] [] → before ++ [] ≡ command_bytes command ++ []
     → Told (whole command len) before bytes (One command [] len)

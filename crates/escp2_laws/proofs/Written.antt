@@ -17,7 +17,7 @@ use Rattle.escp2_laws.proofs.Reading.{and-left, no_rows}
 
 -- ---- rows one by one
 
--- so many rows of this width, each by a code of its own, are a code of them all
+-- codes of m rows of this width, one after another, are a code of the rows
 pub apart-codes : (code : List ℕ → List ℕ) (m width : ℕ) (rows : List ℕ) → ((row : List ℕ) → RowCode (code row) row)
     → length rows ≡ m * width
     → RowsCode m width (flat_map code (rows_apart m width rows)) rows

@@ -34,7 +34,7 @@ bytes-take (suc n) [] are k = omega arith
 bytes-take (suc n) (x ∷ xs) are zero = are 0
 bytes-take (suc n) (x ∷ xs) are (suc k) = bytes-take n xs (λ k. are (suc k)) k
 
--- ---- what is told stands
+-- ---- what is read stays read
 
 part-of : (h : Heard) → is_part h ≡ true → h ≡ Part
 part-of (One command rows len) e = let no : false ≡ true = e in cc
@@ -44,7 +44,7 @@ part-of (Wrong place cause) e = let no : false ≡ true = e in cc
 pub is-part : (bytes : List ℕ) → is_part (command_at bytes) ≡ true → command_at bytes ≡ Part
 is-part bytes e = part-of (command_at bytes) e
 
--- a fault is told whatever follows
+-- a fault is read, whatever follows
 pub wrong-stands : (bytes rest : List ℕ) (at : ℕ) (cause : JobCause) → command_at bytes ≡ Wrong at cause
     → command_at (bytes ++ rest) ≡ Wrong at cause
 wrong-stands bytes rest at cause e =
@@ -183,7 +183,7 @@ heard-fault state cause offset begin next used new sofar piece is within fed are
       none = ap (λ s. rows_at s new.rows.items) stage;
     }
 
--- the same, of as many bytes by another name
+-- the same, by an equal number of bytes
 pub heard-one_used : (state : HeardState) (command : Command) (rows : List ℕ) (begin next used count : ℕ) (new : JobReader)
     (sofar piece : List ℕ)
     → count ≡ used → state ≡ heard.One command → used ≤ length piece → next ≡ begin + length sofar → AreBytes sofar → AreBytes piece
@@ -208,7 +208,7 @@ pub at-begin : (state : HeardState) (begin begin' : ℕ) (new : JobReader) (byte
     → IsHeard state begin new bytes
 at-begin state begin begin' new bytes same told = let P : ℕ → Type 0 = λ k. IsHeard state k new bytes in subst P same told
 
--- ---- a piece behind another
+-- ---- a piece after another
 
 pub pieces-join : (sofar piece : List ℕ) (used more : ℕ)
     → (sofar ++ take used piece) ++ take more (drop used piece) ≡ sofar ++ take (used + more) piece
@@ -232,7 +232,7 @@ last-behind used more sofar piece rest is shows = record {
       ∙ shows.before;
 }
 
--- it is told where the numbers of a raster were gathered
+-- the same where the numbers of a raster were gathered
 pub head-last : (state : HeardState) (raster : RasterHead) (head : Stage) (begin next begin' next' used more : ℕ) (piece : List ℕ)
     → ((sofar rows : List ℕ) → Stands head begin next rows sofar → BeginsRows raster begin' next' sofar (take used piece))
     → OnFault state ((sofar : List ℕ) → BeginsRows raster begin' next' sofar (take used piece) → ShowsLast sofar piece more)
@@ -242,7 +242,7 @@ head-last (heard.One command) raster head begin next begin' next' used more piec
 head-last (heard.Fault offset cause) raster head begin next begin' next' used more piece begins shows =
     λ sofar rows stood. shows sofar (begins sofar rows stood)
 
--- and by a call
+-- and for a call
 pub feed-last : (state : HeardState) (stage head : Stage) (begin next used : ℕ) (rows piece : List ℕ) → head ≡ stage
     → OnFault state ((sofar rows : List ℕ) → Stands head begin next rows sofar → ShowsLast sofar piece used)
     → OnFault state (is_failed_at stage ≡ false → (sofar : List ℕ) → Stands stage begin next rows sofar → ShowsLast sofar piece used)

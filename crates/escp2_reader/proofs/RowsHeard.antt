@@ -23,7 +23,7 @@ use Rattle.escp2_reader.specs.declared.reader.HeardState.TheVariants as heard
 use Rattle.escp2_reader.specs.Reading.{BeginsRows, HeardMore, OnFault, ShowsLast}
 use Rattle.escp2_reader.proofs.Hearing.{bytes-append, bytes-take, last-behind}
 
--- what is read of a raster goes on behind its numbers
+-- what is read of a raster goes on after its numbers
 reads-on : (raster : RasterHead) (reader : RowReader) (rows sofar bytes rest : List ℕ) (in_rows : InRows raster reader rows sofar)
     → command_at ((sofar ++ bytes) ++ rest) ≡ command_at (in_rows.front ++ (in_rows.code ++ (bytes ++ rest)))
 reads-on raster reader rows sofar bytes rest in_rows =

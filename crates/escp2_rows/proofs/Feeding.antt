@@ -13,7 +13,7 @@ use Rattle.escp2_rows.specs.Places.{Stands, is_failed, least_pending, pending, r
 use Rattle.escp2_rows.specs.Reading.{IsFault, IsMore, IsWhole, StandsFor, Takes, bytes_left_of, is_done_of}
 use Rattle.escp2_rows.proofs.Steps.{rest-none, rest-part}
 
--- So many bytes of the piece are read.
+-- This many bytes of the piece are read.
 pub record FedSoFar (old now : RowReader) (piece : List ℕ) (used : ℕ) (before after : List ℕ) (len capacity : ℕ) : Type 0 where
   pub within : used ≤ length piece
   pub begun : is_failed now.place ≡ true → 1 ≤ used
@@ -129,7 +129,7 @@ fed_more old now piece used before after len capacity so_far is_open all = recor
         by_left zero rows ended some = absurd (some (ap (λ k. 0 + k * now.row_bytes) (ended refl) ∙ omega arith))
         by_left (suc left) rows ended some = omega arith
 
--- what stands where nothing is left
+-- the place where nothing is left
 read_on-end : (place : Place) (most left m width at : ℕ) (rest : List ℕ) → is_failed place ≡ false → left ≡ 0 → m ≡ 0 → pending place ≤ left
     → least_pending place ≤ pending place → read_on place most left m width at rest ≡ RowsAre [] at
 read_on-end Packet most left m width at rest still none no_rows fits begun =
@@ -186,7 +186,7 @@ or-left : (a b : Bool) → a ≡ true → a || b ≡ true
 or-left true b e = refl
 or-left false b e = absurd (let no : false ≡ true = e in cc)
 
--- a fault is met
+-- a fault is found
 pub fed_fault : (old now : RowReader) (piece : List ℕ) (used : ℕ) (before after : List ℕ) (len capacity : ℕ)
     → FedSoFar old now piece used before after len capacity → now.place ≡ Failed → IsFault old now piece used (used - 1)
 fed_fault old now piece used before after len capacity so_far failed = record {

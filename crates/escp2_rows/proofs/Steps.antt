@@ -1,4 +1,4 @@
--- Each step of a reader: what it stands for behind the bytes that it takes.
+-- Each step of a reader: what it stands for after the bytes that it takes.
 use Rattle.std.proofs.Common.{◌≡◌, ℕ, zero, suc, ◌+◌, ◌-◌, ◌*◌, ◌<◌, ◌≤◌, ◌==◌, nat_lt, Bool, true, false, if◌then◌else◌, List, [], ◌∷◌}
 use Rattle.std.proofs.Common.{◌++◌, length, take, drop, replicate, refl, sym, ◌∙◌, ap, subst, arith, append_assoc, append-nil}
 use Rattle.std.proofs.Common.{length-append}
@@ -15,21 +15,21 @@ use Rattle.escp2_rows.specs.declared.reader.Place.TheVariants.{Packet, Literal, 
 use Rattle.escp2_rows.specs.Places.{RowsForm, Stands, behind_control, is_failed, least_pending, pending, read_on, rest_at, rows_read}
 use Rattle.escp2_rows.specs.Places.{then_rows}
 
--- ---- bytes in front of what is read
+-- ---- bytes before what is read
 
--- no bytes in front
+-- no bytes before it
 front-nil : (r : RowsRead) → with_front [] r ≡ r
 front-nil (RowsAre rows at) = refl
 front-nil RowsPart = refl
 front-nil (RowsWrong at) = refl
 
--- bytes in front of bytes in front
+-- bytes before bytes before it
 front-append : (a b : List ℕ) (r : RowsRead) → with_front a (with_front b r) ≡ with_front (a ++ b) r
 front-append a b (RowsAre rows at) = ap (λ bs. RowsAre bs at) (sym (append_assoc a b rows))
 front-append a b RowsPart = refl
 front-append a b (RowsWrong at) = refl
 
--- ---- what is read ends behind its place
+-- ---- what is read ends after its place
 
 -- bytes as they are
 plain-passes : (count at : ℕ) (bytes row : List ℕ) (next : ℕ) → plain_at count at bytes ≡ RowsAre row next → at ≤ next
@@ -140,7 +140,7 @@ pub rest-none : (most width at : ℕ) (bytes : List ℕ) → rest_at most 0 0 wi
 unfolding rest_at row_at rows_at
 rest-none most width at bytes = refl
 
--- rows as a whole are a row, and those behind it
+-- rows are a row, and those after it
 pub rows-rest : (m width at : ℕ) (bytes : List ℕ) → rows_at (suc m) width at bytes ≡ rest_at width width m width at bytes
 unfolding rest_at rows_at
 rows-rest m width at bytes = by_row (row_at width width at bytes)
@@ -164,7 +164,7 @@ rest-next most m width at bytes =
 
 -- ---- a control byte
 
--- what is read behind a control byte
+-- what is read after a control byte
 control-read : (c : Control) (most left m width at n : ℕ) (bytes : List ℕ) → control_of n ≡ c
     → rest_at (suc most) (suc left) m width at (n ∷ bytes) ≡ read_on (behind_control c (suc left)) most (suc left) m width (at + 1) bytes
 control-read (Follow k) most left m width at n bytes is = by_left (nat_lt (suc left) k) refl
@@ -229,7 +229,7 @@ pub record Moves (place : Place) (left m width : ℕ) (bytes gave : List ℕ) (p
       × ((at : ℕ) (rest : List ℕ) → read_on place most left m width at (bytes ++ rest)
       ≡ with_front gave (read_on place' most' left' m' width' (at + length bytes) rest))
 
--- a reader stands behind what it moved over
+-- a reader stands after what it moved over
 pub stands_moved : (form : RowsForm) (place place' : Place) (left m width left' m' width' : ℕ) (bytes gave sofar given : List ℕ)
     → Moves place left m width bytes gave place' left' m' width' → Stands form place left m width sofar given
     → Stands form place' left' m' width' (sofar ++ bytes) (given ++ gave)
@@ -249,7 +249,7 @@ stands_moved form place place' left m width left' m' width' bytes gave sofar giv
           ∙ ap (λ k. with_front (given ++ gave) (read_on place' moved.0 left' m' width' k rest)) there;
     }
 
--- behind a control byte a packet is begun, or a fault is met
+-- after a control byte a packet is begun, or a fault is found
 never-packet : (c : Control) (left : ℕ) → behind_control c left ≡ Packet → ⊥
 never-packet (Follow n) left e = by_test (nat_lt left n) e
   where
@@ -290,7 +290,7 @@ control_moves place' (suc left) m width n some begun is = record {
       );
 }
 
--- some of the bytes that stand as they are
+-- some of the bytes of a packet as they are
 literal-read : (n left m width more most at : ℕ) (bytes rest : List ℕ) → length bytes + more ≡ n
     → read_on (Literal n) most left m width at (bytes ++ rest)
     ≡ with_front bytes (read_on (Literal more) most (left - length bytes) m width (at + length bytes) rest)
@@ -338,12 +338,12 @@ literal-none most left m width at rest =
     ∙ ap (λ k. rest_at most k m width (at + 0) rest) (let p : left - 0 ≡ left = omega arith in p)
     ∙ ap (λ k. rest_at most left m width k rest) (let p : at + 0 ≡ at = omega arith in p)
 
--- A row goes on in the same way, or in the next one.
+-- The current row goes on, or the next one begins.
 abbrev pub Follows : ℕ → ℕ → ℕ → ℕ → ℕ → ℕ → Type 0
 Follows left m width left' m' width' = (most : ℕ) → left ≤ most → (most' : ℕ) × (left' ≤ most')
     × ((at : ℕ) (bytes : List ℕ) → rest_at most left m width at bytes ≡ rest_at most' left' m' width' at bytes)
 
--- the last of the bytes that stand as they are
+-- the last of the bytes of a packet as they are
 pub literal_ends : (n left m width left' m' width' count : ℕ) (bytes : List ℕ) → length bytes ≡ count → count ≡ n
     → Follows (left - count) m width left' m' width'
     → Moves (Literal n) left m width bytes bytes Packet left' m' width'
@@ -362,7 +362,7 @@ literal_ends n left m width left' m' width' count bytes counted whole follows = 
       );
 }
 
--- the byte that stands so many times
+-- the byte that is repeated
 pub repeated_moves : (n left m width left' m' width' byte : ℕ) → Follows (left - n) m width left' m' width'
     → Moves (Repeated n) left m width (byte ∷ []) (replicate n byte) Packet left' m' width'
 repeated_moves n left m width left' m' width' byte follows = record {
@@ -373,7 +373,7 @@ repeated_moves n left m width left' m' width' byte follows = record {
       (next.0, λ still. omega (arith, next.1), λ at rest. ap (with_front (replicate n byte)) (next.2 (at + 1) rest));
 }
 
--- the same reader, whose place has another name
+-- the same reader, by an equal place
 pub at_place : (form : RowsForm) (place place' : Place) (left m width : ℕ) (sofar given : List ℕ) → place ≡ place'
     → Stands form place left m width sofar given → Stands form place' left m width sofar given
 at_place form place place' left m width sofar given same so_far =
@@ -403,7 +403,7 @@ literal_part n left m width more left' bytes whole less =
 
 -- ---- the first place
 
--- plain rows are one row whose bytes stand as they are
+-- plain rows are one row of bytes as they are
 pub plain_begins : (form : RowsForm) (n width : ℕ) → form.c ≡ 0 → form.rows * form.width ≡ n → Stands form (Literal n) n 0 width [] []
 plain_begins form n width plain count = record {
   most = n;

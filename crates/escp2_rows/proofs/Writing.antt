@@ -59,7 +59,7 @@ three-equal row a b d rest is = ap (λ bs. nat_lt 2 (equal_at bs)) is ∙ by_sec
         lt-ltb _ _ (omega (arith, first, second true (grind (arith, nat_tests)), third true (grind (arith, nat_tests))))
         ∙ sym (ap (λ t. t && (b == d)) e ∙ f)
 
--- the first two are equal, and so it is for the third to tell
+-- the first two are equal, so that the third decides
 pub third-tells : (row : List ℕ) → 3 ≤ length row → get_or row 0 0 ≡ get_or row 1 0
     → (get_or row 1 0 == get_or row 2 0) ≡ nat_lt 2 (equal_at row)
 third-tells [] some e = absurd (omega arith)
@@ -85,7 +85,7 @@ few-apart (b ∷ row) few = sym (le-ltb _ _ (omega (arith, (counted (b ∷ row) 
 
 -- ---- bytes up to a place of equal ones
 
--- So many bytes are counted.
+-- This many bytes are counted.
 pub record ApartSoFar (most : ℕ) (row : List ℕ) (count : ℕ) : Type 0 where
   pub within : count ≤ most
   pub is : apart_at most row ≡ count + apart_at (most - count) (drop count row)
@@ -98,7 +98,7 @@ apart_begin most row = record {
       ∙ (let e : apart_at (most - 0) row ≡ 0 + apart_at (most - 0) row = omega arith in e);
 }
 
--- nothing stands before three equal bytes
+-- nothing is before three equal bytes
 apart-equal : (left : ℕ) (rest : List ℕ) → nat_lt 2 (equal_at rest) ≡ true → apart_at left rest ≡ 0
 unfolding apart_at
 apart-equal zero rest many = refl
@@ -165,7 +165,7 @@ apart_end most row count end so_far is all within = by_length (nat_lt (length ro
 pub apart_some : (row : List ℕ) (count : ℕ) → count ≡ apart_at 128 row → 0 < length row → equal_at row ≤ 2 → 1 ≤ count
 apart_some row count is some few = omega (arith, is, (counted row some).apart_some few)
 
--- ---- the packet at the front of a row
+-- ---- the first packet of a row
 
 -- the packet by its test
 pub repeat-is : (row : List ℕ) → 2 < equal_at row → next_packet row ≡ Repeat (equal_at row) (get_or row 0 0)
@@ -183,7 +183,7 @@ repeat_coded row (a ∷ []) n room is many = absurd (omega arith)
 repeat_coded row (a ∷ b ∷ out) n room is many =
     ap (λ k. (257 - k) ∷ get_or row 0 0 ∷ []) is ∙ ap packet_code (sym (repeat-is row (omega (arith, is))))
 
--- bytes are written behind their control byte
+-- bytes are written after their control byte
 pub bytes_coded : (row out bytes : List ℕ) (n k : ℕ) → 0 < length row → equal_at row ≤ 2 → n ≡ apart_at 128 row → n < length out
     → bytes ≡ take n row → take (1 + n) (put_mid 1 k (set out 0 (n - 1)) bytes) ≡ packet_code (next_packet row)
 bytes_coded row [] bytes n k some few is room are = absurd (omega arith)
@@ -197,7 +197,7 @@ bytes_coded row (a ∷ out) bytes n k some few is room are =
 
 -- ---- the row
 
--- So much of a row is coded, in the first bytes of those that are written to.
+-- This much of a row is coded, in a prefix of the bytes that are written to.
 pub record RowSoFar (row out : List ℕ) (len : ℕ) (rest : List ℕ) : Type 0 where
   pub room : len + 2 * length rest ≤ length out
   pub short : len + 2 * length rest ≤ 2 * length row
@@ -223,7 +223,7 @@ unfolding packets_from
 packets-more most [] some = absurd (omega arith)
 packets-more most (b ∷ rest) some = refl
 
--- What a packet is written as, in the bytes behind those that are written.
+-- What a packet is written as, in the bytes after those that are written.
 pub record IsWritten (rest part part' : List ℕ) (row code : ℕ) : Type 0 where
   pub coded : take code part' ≡ packet_code (next_packet rest)
   pub counted : row ≡ length (packet_row (next_packet rest))

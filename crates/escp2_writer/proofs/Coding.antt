@@ -13,7 +13,7 @@ use Rattle.weave_base.specs.Parts.{AppendsPart}
 use Rattle.weave_base.proofs.Parting.{part_behind, part_of_front}
 use Rattle.escp2_writer.specs.Pieces.{Passes}
 
--- the codes of so many rows of this width
+-- the codes of m rows of this width
 abbrev pub codes : ℕ → ℕ → List ℕ → List ℕ
 codes m width rows = flat_map canonical_row (rows_apart m width rows)
 
@@ -22,9 +22,9 @@ codes-next : (m n width : ℕ) (rows : List ℕ) → m ≡ suc n
     → codes m width rows ≡ canonical_row (take width rows) ++ codes n width (drop width rows)
 codes-next m n width rows e = ap (λ k. codes k width rows) e
 
--- ---- into memory
+-- ---- into a vector
 
--- a row's code is written behind so many bytes
+-- a row's code is written after the first bytes
 pub row_behind : (out part row : List ℕ) (begin len k : ℕ) → begin ≤ length out → len ≤ length part → take len part ≡ canonical_row row
     → take (begin + len) (put_mid begin k out part) ≡ take begin out ++ canonical_row row
 row_behind out part row begin len k room within coded =
@@ -34,7 +34,7 @@ row_behind out part row begin len k room within coded =
     ∙ take-append-add front (part ++ drop k (drop begin out)) len
     ∙ ap (λ bs. front ++ bs) (take-append-le len part (drop k (drop begin out)) within ∙ coded)
 
--- So many rows are left to append to bytes that are to become the whole.
+-- This many rows are left to append to bytes that are to become the whole.
 pub record AppendsSoFar (whole out rest : List ℕ) (m width : ℕ) : Type 0 where
   pub left : length rest ≡ m * width
   pub is : whole ≡ out ++ codes m width rest
@@ -72,7 +72,7 @@ row_left rest m n width left more =
 
 -- ---- to a sink
 
--- So many rows are left to write behind what is gathered, of bytes that are to become the whole.
+-- This many rows are left to write after what is gathered, of bytes that are to become the whole.
 pub record PutsSoFar (old now : Option (List ℕ)) (whole piece rest : List ℕ) (m width : ℕ) : Type 0 where
   pub left : length rest ≡ m * width
   pub sent : List ℕ

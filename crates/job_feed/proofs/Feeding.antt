@@ -15,7 +15,7 @@ use Rattle.job_feed.specs.Feeding.{IsBetween, MeetsFault, TakesCommand, TakesPar
 use Rattle.job_feed.specs.Pieces.{FeedsSome}
 use Rattle.unread_bytes.proofs.Texts.{text_used}
 
--- From between two commands on less than a command was taken, and went to the reader.
+-- Since the last command less than a command was taken, and the reader used it.
 pub record GoesOn (old : JobFeed) (reader : JobReader) (fed most : ℕ) (before text : Option (List ℕ)) : Type 0 where
   pub bytes : List ℕ
   pub takes : TakesPart old before text bytes
@@ -36,7 +36,7 @@ goes_first old text between = record {
   most_is = refl;
 }
 
--- a read leaves the text as it is
+-- a read keeps the text
 pub goes_filled : (old : JobFeed) (reader : JobReader) (fed most : ℕ) (before text now : Option (List ℕ))
     → GoesOn old reader fed most before text → Keeps text now
     → GoesOn old reader fed most before now
@@ -53,7 +53,7 @@ goes_filled old reader fed most before text now goes kept = record {
   most_is = goes.most_is;
 }
 
--- What went to the reader with one piece more, and what it heard of that.
+-- What the reader used, with one piece more, and its answer.
 record Fed (old new : JobFeed) (state : HeardState) (before now : Option (List ℕ)) (goes piece : List ℕ) : Type 0 where
   taken : Consumes before now (goes ++ piece)
   fed_is : new.fed ≡ old.fed + length (goes ++ piece)
@@ -69,7 +69,7 @@ fed old feed new state before left goes feeds most = record {
   within = omega (arith, length-append goes.bytes feeds.bytes, goes.fed_is, feeds.fed, most, goes.most_is, new.within);
 }
 
--- the command in hand began where the feed stood
+-- the current command began where the feed stood
 begins : (old feed : JobFeed) (before text : Option (List ℕ)) → GoesOn old feed.reader feed.fed feed.most before text
     → feed.reader.begin ≡ at_of old
 begins old feed before text goes = omega (arith, goes.stands.fed, goes.fed_is, feed.fed_is)

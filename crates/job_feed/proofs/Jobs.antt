@@ -1,4 +1,4 @@
--- Commands one after another, and how a job ends behind them.
+-- Commands one after another, and how a job ends after them.
 use Rattle.std.proofs.Common.{◌≡◌, ℕ, zero, suc, ◌+◌, ◌-◌, ◌≤◌, true, false, nat_lt, if◌then◌else◌, List, [], ◌∷◌, ◌++◌, length, take, drop}
 use Rattle.std.proofs.Common.{Option, None, Some, IfSome, refl, sym, ◌∙◌, ap, subst, arith, append_assoc, append-nil, length-append}
 use Rattle.std.proofs.Common.{length-drop}
@@ -49,7 +49,7 @@ enough (suc most) (suc more) at (b ∷ bytes) few fits =
     by_heard behind Part is = ap (λ h. after h more at (b ∷ bytes)) is ∙ sym (ap (λ h. after h most at (b ∷ bytes)) is)
     by_heard behind (Wrong k cause) is = ap (λ h. after h more at (b ∷ bytes)) is ∙ sym (ap (λ h. after h most at (b ∷ bytes)) is)
 
--- the first command of bytes, and those behind it
+-- the first command of bytes, and those after it
 first : (at : ℕ) (bytes rest : List ℕ) (command : Command) (rows : List ℕ)
     → ((more : List ℕ) → command_at (bytes ++ more) ≡ One command rows (length bytes))
     → commands_behind at (bytes ++ rest) ≡ with_entry (record { at = at; command = command; rows = rows })
@@ -84,7 +84,7 @@ commands_more done bytes entries command rows so_far whole = record {
 
 -- ---- how a job ends
 
--- of a job's first bytes those behind the commands that were heard
+-- the job's bytes after the commands that were answered
 cut : (done tail : List ℕ) (most : ℕ) → length done ≤ most → take most (done ++ tail) ≡ done ++ take (most - length done) tail
 cut done tail most within =
     let split : most ≡ length done + (most - length done) = omega arith in
@@ -151,7 +151,7 @@ ends_fault done bytes rest most offset cause entries heard within placed wrong =
     ∙ ended entries (Fault offset cause))
     refl
 
--- the job goes on behind its greatest length
+-- the job goes on past its greatest length
 pub ends_too_long : (done bytes rest : List ℕ) (most : ℕ) (entries : List Entry) → AreCommands done entries
     → length done + length bytes ≡ most
     → command_at bytes ≡ Part → (rest ≡ [] → ⊥) → Ends most (done ++ (bytes ++ rest)) entries (stopped most stop.TooLong)
@@ -200,7 +200,7 @@ ends_cut done (b ∷ bytes) most entries heard within part some =
 
 -- ---- the calls of a feed, one after another
 
--- The feed gave these commands and no more, of a job that has this text.
+-- The feed answered these commands and no more, of a job that has this text.
 pub record GaveCommands (feed : JobFeed) (before text : Option (List ℕ)) (entries : List Entry) : Type 0 where
   pub done : List ℕ
   pub taken : Consumes before text done
@@ -284,7 +284,7 @@ job_ended feed now before text left entries gave ended =
       ends = ends_whole gave.done (most_of feed) entries gave.are (omega (arith, gave.at, feed.within));
     }
 
--- what holds of the bytes of a job where they are told: those that were given as commands, these, and the rest
+-- what holds of the bytes of a job where the source says what it holds: those of the commands, these, and the rest
 told : (P : List ℕ → Type 0) (before text now : Option (List ℕ)) (done bytes : List ℕ) → Consumes before text done → Consumes text now bytes
     → ((rest : List ℕ) → now ≡ Some rest → P (done ++ (bytes ++ rest))) → IfSome before P
 told P None text now done bytes first next holds = tt
@@ -334,7 +334,7 @@ stop_taken feed text now f g (feed_stop.Job offset (stop.Machine fault)) meets =
 stop_taken feed text now f g (feed_stop.Job offset stop.TooLong) meets = (meets.bytes, meets.takes.taken)
 stop_taken feed text now f g feed_stop.Read failed = (failed.bytes, failed.takes.taken)
 
--- a job that is told begins with the commands that were given
+-- a job whose source says what it holds begins with the commands that were answered
 pub gave_first : (feed : JobFeed) (before text : Option (List ℕ)) (entries : List Entry) → GaveCommands feed before text entries
     → IfSome before (λ bytes. (others : List Entry) × ((commands (take (most_of feed) bytes)).entries ≡ entries ++ others))
 gave_first feed before text entries gave =

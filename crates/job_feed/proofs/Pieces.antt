@@ -2,7 +2,7 @@
 use Rattle.std.proofs.Common.{◌≡◌, ℕ, ◌≤◌, List, ◌++◌, length, take, drop, sym, ap, ◌∙◌, arith, take-append-drop, length-take}
 use lib.Seq.{take-take}
 
--- what was used of a piece is the front of the bytes
+-- what was used of a piece is a prefix of the bytes
 pub piece_used : (unread piece rest : List ℕ) (room used : ℕ) → piece ≡ take room unread → rest ≡ drop used unread → used ≤ length piece
     → unread ≡ take used piece ++ rest
 piece_used unread piece rest room used is left within =

@@ -1,4 +1,4 @@
--- The listing of the commands that a feed gave.
+-- The listing of the commands that a feed answered.
 use Rattle.std.proofs.Common.{◌≡◌, ℕ, ◌≤◌, List, Option, Err, [], ◌∷◌, ◌++◌, sym, ◌∙◌, ap, subst, arith, append-nil, take, refl}
 use Rattle.std.proofs.lemmas.List.Concat.{flat_map-append}
 use Rattle.std.specs.Io.KnownBytes.{Appends, Consumes}
@@ -109,7 +109,7 @@ lists_to_stop most feed new g before text left held now now' f0 f1 f2 g0 g1 why 
       },
     )
 
--- there is no memory to begin with
+-- there is no memory at the beginning
 pub lists_nothing : (most : ℕ) (left held : Option (List ℕ)) (f0 f1 g0 g1 : ℕ)
     → ListOutcome most (record { before = left; now = left; faults_before = f0; faults_now = f1 })
     (record { before = held; now = held; faults_before = g0; faults_now = g1 }) (Err stop.Memory)

@@ -23,7 +23,7 @@ row-count ink x step y (false ∷ row) =
     let first : on_count (false ∷ row) ≡ 0 + on_count row = sum_by-cons (λ on. cond on 1 0) false row in
     omega (arith, rest, first)
 
--- the dots of so many rows
+-- the dots of m rows
 pub dots_of : ℕ → RasterHead → List ℕ → ℕ
 dots_of zero head bytes = 0
 dots_of (suc m) head bytes = on_count (take head.n (bits (take (row_bytes head) bytes))) + dots_of m head (drop (row_bytes head) bytes)
@@ -42,7 +42,7 @@ pub count-is : (head : RasterHead) (bytes : List ℕ) → dot_count head bytes �
 unfolding dot_count
 count-is head bytes = rows-count head.m head Black 0 0 bytes
 
--- The dots of the first rows, and what the rows to come have.
+-- The dots of the first rows, and those of the rows that follow.
 pub record CountSoFar (head : RasterHead) (bytes : List ℕ) (i sum : ℕ) : Type 0 where
   pub is : sum + dots_of (head.m - i) head (drop (i * row_bytes head) bytes) ≡ dot_count head bytes
   pub most : sum ≤ 8192 * i
