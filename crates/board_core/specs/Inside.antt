@@ -4,6 +4,7 @@ use Rattle.board_core.specs.States.{CoreState, IsCore, fresh}
 use Rattle.board_core.specs.declared.scheduler.Core.TheInside.{Inside}
 use Rattle.board_core.specs.declared.tiles.Status.TheVariants.{Waiting}
 
+-- the state of the tiles that a core keeps
 abbrev pub state_of : Inside → CoreState
 state_of core = record { shape = core.shape; tiles = core.tiles.items }
 

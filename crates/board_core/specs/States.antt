@@ -30,17 +30,21 @@ start s = record { shape = s; tiles = replicate (columns_of s * bands_of s) fres
 abbrev pub number : Shape → Place → ℕ
 number s p = p.j * columns_of s + p.c
 
+-- the state of a tile
 unfoldable pub tile_at : CoreState → Place → TileState
 tile_at core p = slice_index_or core.tiles (number core.shape p) fresh
 
 -- ---- statuses
 
+-- no seat has taken the tile
 abbrev pub IsWaiting : CoreState → Place → Type 0
 IsWaiting core p = (tile_at core p).status ≡ Waiting
 
+-- this seat works on the tile
 abbrev pub IsTakenBy : CoreState → Place → ℕ → Type 0
 IsTakenBy core p seat = (tile_at core p).status ≡ Taken seat
 
+-- a seat has finished the tile
 abbrev pub IsPosted : CoreState → Place → Type 0
 IsPosted core p = (seat : ℕ) × ((tile_at core p).status ≡ Posted seat)
 
@@ -50,6 +54,7 @@ IsBegun core p = ¬ IsWaiting core p
 
 -- ---- edges sent
 
+-- whether a tile in this state has sent this edge
 abbrev pub has_sent : TileState → Dir → Bool
 has_sent t Right = t.right
 has_sent t Bottom = t.bottom
@@ -69,15 +74,17 @@ abbrev pub where_sent : Bool → Place → Dir → List Edge
 where_sent true p d = record { from = p; dir = d } ∷ []
 where_sent false p d = []
 
+-- the edges that a tile has sent: right, bottom, corner
 abbrev pub sent_of : CoreState → Place → List Edge
 sent_of core p =
     where_sent (sent core p Right) p Right ++ (where_sent (sent core p Bottom) p Bottom ++ where_sent (sent core p Corner) p Corner)
 
--- the edges sent by the given number of tiles of band j, from column c on, and of bands, from band j on
+-- the edges sent by a number of tiles of band j, from column c on
 abbrev pub sent_in_band : CoreState → ℕ → ℕ → ℕ → List Edge
 sent_in_band core j c zero = []
 sent_in_band core j c (suc n) = sent_of core (record { c = c; j = j }) ++ sent_in_band core j (c + 1) n
 
+-- the edges sent by the tiles of a number of bands, from band j on
 abbrev pub sent_in_bands : CoreState → ℕ → ℕ → List Edge
 sent_in_bands core j zero = []
 sent_in_bands core j (suc n) = sent_in_band core j 0 (columns_of core.shape) ++ sent_in_bands core (j + 1) n
@@ -86,11 +93,12 @@ sent_in_bands core j (suc n) = sent_in_band core j 0 (columns_of core.shape) ++ 
 abbrev pub sent_edges : CoreState → List Edge
 sent_edges core = sent_in_bands core 0 (bands_of core.shape)
 
--- no edge is in the list twice
+-- the edge is in the list
 abbrev pub IsListed : Edge → List Edge → Type 0
 IsListed x [] = ⊥
 IsListed x (y ∷ ys) = (x ≡ y) ⊎ IsListed x ys
 
+-- no edge is in the list twice
 abbrev pub AreOnce : List Edge → Type 0
 AreOnce [] = Unit {0}
 AreOnce (x ∷ xs) = (¬ IsListed x xs) × AreOnce xs

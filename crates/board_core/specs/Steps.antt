@@ -78,14 +78,17 @@ IsAccepted core e = (fault : CoreFault) → ¬ Applies core e fault
 
 -- ---- what an accepted event does
 
+-- the tiles, where one of them has this state
 abbrev pub with_tile : CoreState → Place → TileState → CoreState
 with_tile core p t = record { shape = core.shape; tiles = slice_set core.tiles (number core.shape p) t }
 
+-- the state of a tile, after it sent this edge
 abbrev pub with_sent : TileState → Dir → TileState
 with_sent t Right = record { status = t.status; right = true; bottom = t.bottom; corner = t.corner }
 with_sent t Bottom = record { status = t.status; right = t.right; bottom = true; corner = t.corner }
 with_sent t Corner = record { status = t.status; right = t.right; bottom = t.bottom; corner = true }
 
+-- the tiles after an accepted event
 abbrev pub after : CoreState → Event → CoreState
 after core (Take p seat) =
     let t = tile_at core p in
@@ -112,6 +115,7 @@ pub record IsReadyTile (core : CoreState) (p : Place) : Type 0 where
 abbrev pub IsBefore : Place → Place → Type 0
 IsBefore q p = (q.j < p.j) ⊎ ((q.j ≡ p.j) × (q.c < p.c))
 
+-- The tile is ready, and none before it is.
 pub record IsFirstReady (core : CoreState) (p : Place) : Type 0 where
   pub ready : IsReadyTile core p
   pub first : (q : Place) → IsBefore q p → ¬ IsReadyTile core q

@@ -14,6 +14,7 @@ use Rattle.escp2_definitions.specs.RowCode.RowsRead.{RowsAre, RowsPart, RowsWron
 
 -- ---- the ranges of the table
 
+-- whether a number is in a range
 abbrev pub is_between : ℕ → ℕ → ℕ → Bool
 is_between low high n = nat_le low n && nat_le n high
 
@@ -21,15 +22,19 @@ is_between low high n = nat_le low n && nat_le n high
 abbrev pub is_some : ℕ → Bool
 is_some n = nat_le 1 n
 
+-- MicroWeave is off alone
 abbrev pub is_off : ℕ → Bool
 is_off n = n == 0
 
+-- a switch is 0 or 1
 abbrev pub is_switch : ℕ → Bool
 is_switch n = nat_le n 1
 
+-- a length is 1 to 32,767 units
 abbrev pub is_length : ℕ → Bool
 is_length n = is_between 1 32767 n
 
+-- a position is at most 32,767 units
 abbrev pub is_position : ℕ → Bool
 is_position n = nat_le n 32767
 
@@ -41,15 +46,18 @@ is_bottom top n = is_between (top + 1) 32767 n
 abbrev pub last_column : ℕ
 last_column = 8191
 
+-- a raster has 1 to 8,191 columns
 abbrev pub is_width : ℕ → Bool
 is_width n = is_between 1 last_column n
 
+-- the code of an ink in `ESC r`
 abbrev pub colour_code : Ink → ℕ
 colour_code Black = 0
 colour_code Magenta = 1
 colour_code Cyan = 2
 colour_code Yellow = 4
 
+-- a colour code is 0, 1, 2 or 4
 abbrev pub is_colour : ℕ → Bool
 is_colour n = nat_le n 2 || (n == 4)
 
@@ -149,6 +157,7 @@ sized len next [] = Part
 sized len next (low ∷ []) = if low == len then Part else Wrong 3 BadLength
 sized len next (low ∷ high ∷ rest) = if low == len then (if high == 0 then next rest else Wrong 4 BadLength) else Wrong 3 BadLength
 
+-- a raster with the rows that were read
 abbrev pub with_rows : RasterHead → RowsRead → Heard
 with_rows head (RowsAre rows at) = One (c.Raster head) rows at
 with_rows head RowsPart = Part
@@ -159,6 +168,7 @@ abbrev pub raster_rows : RasterHead → List ℕ → Heard
 raster_rows head rest =
     with_rows head (if head.c == 0 then plain_at (head.m * row_bytes head) 8 rest else rows_at head.m (row_bytes head) 8 rest)
 
+-- the numbers of a raster, and then its rows
 abbrev pub raster_at : List ℕ → Heard
 raster_at = number is_switch 2 (λ c. number is_some 3 (λ v. number is_some 4 (λ h. number is_some 5 (λ m.
     wide_number is_width 6 (λ n. raster_rows (record { c = c; v = v; h = h; m = m; n = n }))))))
@@ -217,6 +227,7 @@ pub record CommandList : Type 0 where
   pub entries : List Entry
   pub end : ListEnd
 
+-- the commands with this one before them
 abbrev pub with_entry : Entry → CommandList → CommandList
 with_entry entry job = record { entries = entry ∷ job.entries; end = job.end }
 

@@ -12,6 +12,7 @@ pub record Stopped : Type 0 where
   pub at : ℕ
   pub why : JobStop
 
+-- a stop at an offset
 abbrev pub stopped : ℕ → JobStop → Option Stopped
 stopped at why = Some (record { at = at; why = why })
 
@@ -26,6 +27,7 @@ abbrev pub run_refusal : Option Printer → CommandList → Option Refused
 run_refusal None job = None
 run_refusal (Some p) job = (execute p job.entries).refused
 
+-- the refusal of the machine, or else the later stop
 abbrev pub first_stop : Option Refused → Option Stopped → Option Stopped
 first_stop (Some refused) later = stopped refused.at (stop.Machine refused.fault)
 first_stop None later = later

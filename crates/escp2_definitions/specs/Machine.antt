@@ -48,6 +48,7 @@ pub record Machine : Type 0 where
 abbrev pub start : Machine
 start = record { graphics = false; unit = None; page = None; margins = None; colour = Black; down = 0; across = 0; columns = 1; dots = [] }
 
+-- whether the sheet has dots
 abbrev pub has_dots : Machine → Bool
 has_dots s = nat_lt 0 (length s.dots)
 
@@ -55,12 +56,15 @@ has_dots s = nat_lt 0 (length s.dots)
 abbrev pub units : Machine → ℕ → ℕ
 units s n = n * unwrap_or s.unit 0
 
+-- the length of the page, 0 where none was set
 abbrev pub page_length : Machine → ℕ
 page_length s = unwrap_or s.page 0
 
+-- the top margin, 0 where none was set
 abbrev pub top_margin : Machine → ℕ
 top_margin s = (unwrap_or s.margins (record { top = 0; bottom = 0 })).top
 
+-- the bottom margin, from the top of the paper; 0 where none was set
 abbrev pub bottom_margin : Machine → ℕ
 bottom_margin s = (unwrap_or s.margins (record { top = 0; bottom = 0 })).bottom
 
@@ -74,6 +78,7 @@ from_top s = top_margin s + s.down
 abbrev pub bit_at : ℕ → ℕ → Bool
 bit_at byte k = (byte / 2 ^ (7 - k)) % 2 == 1
 
+-- the bits of a byte, the highest first
 abbrev pub byte_bits : ℕ → List Bool
 byte_bits b = bit_at b 0 ∷ bit_at b 1 ∷ bit_at b 2 ∷ bit_at b 3 ∷ bit_at b 4 ∷ bit_at b 5 ∷ bit_at b 6 ∷ bit_at b 7 ∷ []
 
@@ -114,6 +119,7 @@ pub record Refusal : Type 0 where
   pub holds : Bool
   pub fault : EmuFault
 
+-- a refusal with this fault, where the test holds
 abbrev pub refuse : Bool → EmuFault → Refusal
 refuse holds fault = record { holds = holds; fault = fault }
 
@@ -122,9 +128,11 @@ abbrev pub first_fault : List Refusal → Option EmuFault
 first_fault [] = None
 first_fault (refusal ∷ refusals) = if refusal.holds then Some refusal.fault else first_fault refusals
 
+-- refused where no unit was set
 abbrev pub no_unit : Machine → Refusal
 no_unit s = refuse (is_none s.unit) NoUnit
 
+-- refused where no margins were set
 abbrev pub no_margins : Machine → Refusal
 no_margins s = refuse (is_none s.margins) NoMargins
 
@@ -208,6 +216,7 @@ pub record Printed : Type 0 where
   pub sheets : List Sheet
   pub refused : Option Refused
 
+-- the run with these sheets before its own
 abbrev pub with_sheets : List Sheet → Printed → Printed
 with_sheets sheets run = record { sheets = sheets ++ run.sheets; refused = run.refused }
 

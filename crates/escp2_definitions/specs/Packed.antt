@@ -1,6 +1,7 @@
 -- Rows of dots in bytes, as the rows of a raster have them (ESC/P Reference Manual, `ESC .`).
 use Rattle.std.specs.Prelude.{ℕ, zero, suc, ◌+◌, ◌/◌, Bool, true, false, List, [], ◌∷◌, length, drop, slice_index_or}
 
+-- the value of a dot in its byte
 abbrev pub worth : Bool → ℕ → ℕ
 worth true n = n
 worth false n = 0
@@ -15,6 +16,7 @@ packed_byte row =
     worth (at row 0) 128 + worth (at row 1) 64 + worth (at row 2) 32 + worth (at row 3) 16
     + worth (at row 4) 8 + worth (at row 5) 4 + worth (at row 6) 2 + worth (at row 7) 1
 
+-- n bytes of dots
 abbrev pub packed_bytes : ℕ → List Bool → List ℕ
 packed_bytes zero row = []
 packed_bytes (suc n) row = packed_byte row ∷ packed_bytes n (drop 8 row)

@@ -47,6 +47,7 @@ pub data Control : Type 0 where
   Again : ℕ → Control
   Refused : Control
 
+-- the meaning of a control byte
 abbrev pub control_of : ℕ → Control
 control_of n = if nat_lt n 128 then Follow (n + 1) else (if n == 128 then Refused else Again (257 - n))
 
@@ -57,6 +58,7 @@ pub data RowsRead : Type 0 where
   RowsPart : RowsRead
   RowsWrong : ℕ → RowsRead
 
+-- what is read, with these bytes of rows before it
 abbrev pub with_front : List ℕ → RowsRead → RowsRead
 with_front front (RowsAre rows at) = RowsAre (front ++ rows) at
 with_front front RowsPart = RowsPart
@@ -77,6 +79,7 @@ controlled (Follow n) left at bytes = if nat_lt left n then RowsWrong at else pl
 controlled (Again n) left at bytes = if nat_lt left n then RowsWrong at else again_at n (at + 1) bytes
 controlled Refused left at bytes = RowsWrong at
 
+-- the packet at a place, where its row has `left` bytes left
 abbrev pub packet_at : ℕ → ℕ → List ℕ → RowsRead
 packet_at left at [] = RowsPart
 packet_at left at (n ∷ bytes) = controlled (control_of n) left at bytes

@@ -107,7 +107,7 @@ pub fn commands_are_refused()
     ensures overprint { sheet_refusal (black_row ++ 0x0D ∷ black_row) ≡ refused 56 Overprint }
 {}
 
-/// A page is 22 inches long at most, and its bottom margin stands on it.
+/// A page is 22 inches long at most, and its bottom margin is on it.
 #[tactic(auto, unfolding(escp2_definitions::specs::Commands::command_at, escp2_definitions::specs::Commands::commands_from, escp2_definitions::specs::Machine::execute_from, escp2_definitions::specs::Machine::rows_dots))]
 pub fn pages_are_limited()
     // 15,840 and 15,841 units of 5/3600 inch

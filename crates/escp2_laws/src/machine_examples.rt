@@ -12,7 +12,7 @@ ghost use Rattle.escp2_laws.specs.Machines.{sheet_begins, with_dot, with_unit};
 ghost use Rattle.printer_definitions.specs.declared.inks.Ink.TheVariants.{Black, Cyan, Magenta, Yellow};
 ghost use Rattle.std.specs.Prelude.{None, Some, [], ◌++◌, ◌∷◌, ◌≡◌};
 
-/// Dots stand where the head is, spare bits of a row are none, and a blank row widens its sheet too.
+/// Dots are set at the head's position, spare bits of a row are no dots, and a blank row widens its sheet too.
 #[tactic(auto, unfolding(escp2_definitions::specs::Machine::execute_from, escp2_definitions::specs::Machine::rows_dots))]
 pub fn rows_are_printed()
     // two columns to the right, the first and the third of three columns; bits of five more columns

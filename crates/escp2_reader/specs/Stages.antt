@@ -30,6 +30,7 @@ pub record BehindFault (begin offset : ℕ) (cause : JobCause) (sofar : List ℕ
   pub behind : begin ≤ offset
   pub wrong : (rest : List ℕ) → command_at (sofar ++ rest) ≡ Wrong (offset - begin) cause
 
+-- what was read of a command, at this stage
 abbrev pub AtStage : Stage → ℕ → List ℕ → List ℕ → Type 0
 AtStage (Head head) begin rows sofar = head.items ≡ sofar
 AtStage (Rows raster reader) begin rows sofar = InRows raster reader rows sofar

@@ -30,7 +30,7 @@ most_of feed = feed.most
 abbrev pub heard_of : JobFeed → List ℕ
 heard_of feed = rows_of feed.reader
 
--- The feed stands between two commands.
+-- The feed is between two commands.
 pub record IsBetween (feed : JobFeed) : Type 0 where
   pub stands : StandsFor feed.reader []
   pub is_open : is_failed_of feed.reader ≡ false

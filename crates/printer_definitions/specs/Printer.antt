@@ -40,7 +40,7 @@ nozzle_step p = p.pitch * 3600 / p.vdpi
 abbrev pub row_units : Printer → ℕ
 row_units p = 720 / p.vdpi
 
--- how many rows the first nozzle stands above the last
+-- how many rows the first nozzle is above the last
 abbrev pub head_rows : Printer → ℕ
 head_rows p = (p.nozzles - 1) * p.pitch
 

@@ -1,6 +1,6 @@
 //! The faults of a stream.
 
-/// Why a page header is refused. The variants stand in the order in which the checks are made.
+/// Why a page header is refused. The variants are in the order of the checks.
 #[derive(Clone, Copy, Debug, PartialEq, Eq)]
 pub enum HeaderFault {
     /// It does not begin with `PwgRaster`.
@@ -15,7 +15,7 @@ pub enum HeaderFault {
     Kind,
     /// Its bytes a line are not those that its width takes.
     BytesPerLine,
-    /// Its colours do not stand side by side.
+    /// The colours of its pixels are not side by side (ColorOrder is not 0).
     Order,
     /// One of its transforms is neither 0 nor 1.
     Transform,

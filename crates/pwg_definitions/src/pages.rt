@@ -42,7 +42,7 @@ pub struct Header {
     pub bits_per_pixel: u32,
     /// BytesPerLine.
     pub bytes_per_line: u32,
-    /// ColorOrder: 0 where the colours of a pixel stand side by side.
+    /// ColorOrder: 0 where the colours of a pixel are side by side.
     pub color_order: u32,
     /// ColorSpace: 18 for grey, 3 for black, 19 for red, green and blue.
     pub color_space: u32,

@@ -19,7 +19,7 @@ fn is_outside(least: u32, most: u32, n: u32) -> bool
     n < least || most < n
 }
 
-/// The form of the page that a header begins, or the first fault that stands against it, in the order of
+/// The form of the page that a header begins, or the header's first fault, in the order of
 /// `HeaderFault`.
 pub fn check(h: &Header, want: Wanted) -> Result<PageForm, HeaderFault>
     ensures { result ≡ check_of want h.now }

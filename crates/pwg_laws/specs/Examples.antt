@@ -18,19 +18,22 @@ wants = record { hdpi = 360; vdpi = 360; least_width = 1; most_width = 8191; lea
 abbrev pub small_form : PageForm
 small_form = record { width = 4; height = 2; kind = Gray8; bytes_per_line = 4 }
 
+-- the page of this form: a line of 0xD1, and a line of three 0x9F and a 0xA3
 abbrev pub small_page : Page
 small_page = record {
   form = small_form;
   lines = (0xD1 ∷ 0xD1 ∷ 0xD1 ∷ 0xD1 ∷ []) ∷ (0x9F ∷ 0x9F ∷ 0x9F ∷ 0xA3 ∷ []) ∷ [];
 }
 
--- its header, its bytes, and its bytes without the last
+-- the header of this page
 abbrev pub small_header : List ℕ
 small_header = header_bytes small_form 360 360
 
+-- its bytes
 abbrev pub small_bytes : List ℕ
 small_bytes = small_header ++ (0x00 ∷ 0x03 ∷ 0xD1 ∷ 0x00 ∷ 0x02 ∷ 0x9F ∷ 0x00 ∷ 0xA3 ∷ [])
 
+-- its bytes without the last
 abbrev pub small_front : List ℕ
 small_front = small_header ++ (0x00 ∷ 0x03 ∷ 0xD1 ∷ 0x00 ∷ 0x02 ∷ 0x9F ∷ 0x00 ∷ [])
 
@@ -84,5 +87,6 @@ of_kind color_space bits_per_color bits_per_pixel bytes_per_line = record good {
 abbrev pub group_of : Kind → ℕ → ℕ → List ℕ → GroupRead
 group_of kind units left bytes = group_at (row_of kind) units left bytes
 
+-- a group of a page in grey
 abbrev pub grey_group : ℕ → ℕ → List ℕ → GroupRead
 grey_group units left bytes = group_of Gray8 units left bytes

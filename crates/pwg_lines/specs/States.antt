@@ -100,7 +100,7 @@ read_on (Literal n) row units lines most left front part rest = read_behind row 
 read_on Full row units lines most left front part rest = Group front.repeats front.line rest
 read_on (Failed fault) row units lines most left front part rest = Wrong (front.place - 1) fault
 
--- A group has no bytes before its start, and something is to come in each other state but the last ones.
+-- what holds in each state: before a group no bytes are read, and in a packet some of the line is left
 abbrev pub IsAt : State → KindRow → ℕ → List ℕ → Type 0
 IsAt Start row left sofar = sofar ≡ []
 IsAt Packet row left sofar = 1 ≤ left

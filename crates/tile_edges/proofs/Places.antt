@@ -24,7 +24,7 @@ nothing zero i = refl
 nothing (suc n) zero = refl
 nothing (suc n) (suc i) = nothing n i
 
--- the error of a pixel stands at its place in its tile
+-- the error of a pixel is at its place in its tile
 pub place_has : (e : Errors) (p : Place) (r o x y : ℕ) → IsAt p r o x y → skewed e p.j (r + 2) (64 * p.c + o + 6) ≡ e (y + 2) (x + 4)
 place_has e p r o x y at = moved e _ _ _ _ (omega (arith, at.down)) (omega (arith, at.across))
 

@@ -28,7 +28,7 @@ pub record HasError (rows wide : ℕ) (xs : List ℤ) (error : ℤ) : Type 0 whe
   pub offset_in : offset < wide
   pub is : slice_index_or xs (wide * row + offset) (pos 0) ≡ error
 
--- A tile's own error, at a place that diffusion comes to before offset o of row r.
+-- A tile's own error, at a place that diffusion takes before offset o of row r.
 pub record IsOwnBefore (e : Errors) (p : Place) (r o : ℕ) (error : ℤ) : Type 0 where
   pub row : ℕ
   pub offset : ℕ
@@ -36,7 +36,7 @@ pub record IsOwnBefore (e : Errors) (p : Place) (r o : ℕ) (error : ℤ) : Type
   pub offset_in : offset < 64
   pub is : skewed e p.j (row + 2) (64 * p.c + offset + 6) ≡ error
 
--- the error is one that the tile has come to, or one of the edges that it was handed
+-- the error is one that the tile already has, or is in an edge that it was handed
 abbrev pub IsAtHand : Errors → Place → ℕ → ℕ → List ℤ → List ℤ → List ℤ → ℤ → Type 0
 IsAtHand e p r o left above corner error =
     IsOwnBefore e p r o error ⊎ HasError 32 6 left error ⊎ HasError 2 64 above error ⊎ HasError 2 6 corner error

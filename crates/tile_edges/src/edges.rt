@@ -7,7 +7,7 @@ ghost use Rattle.tile_shape.specs.declared.tiles.Dir.{Dir};
 ghost use Rattle.tile_shape.specs.declared.tiles.Place.{Place};
 ghost use Rattle.tile_shape.specs.declared.tiles.Shape.{Shape};
 
-/// The error of a pixel stands at its row and offset of its tile, and a place without a pixel has the error 0.
+/// The error of a pixel is at its row and offset of its tile, and a place without a pixel has the error 0.
 pub fn each_place_has_its_error()
     ensures pixel { (e : Errors) (p : Place) (row offset x y : ℕ) → IsAt p row offset x y
         → skewed e p.j (row + 2) (64 * p.c + offset + 6) ≡ e (y + 2) (x + 4) }

@@ -26,7 +26,7 @@ pub fn no_other_error_counts()
         → ((m n : ℕ) → GivesTo k x y m n → e m n ≡ f m n) → value_at k p e y x ≡ value_at k p f y x }
 {}
 
-/// Each error that a pixel reads is one that its tile has come to, or stands in one of the three edges that the tile
+/// Each error that a pixel reads is one that its tile already has, or is in one of the three edges that the tile
 /// was handed, whatever band it is in.
 pub fn each_error_is_in_the_tile_or_its_edges()
     ensures { (e : Errors) (p : Place) (row offset x y m n : ℕ) (left above corner : List ℤ)

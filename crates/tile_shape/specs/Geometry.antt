@@ -1,5 +1,5 @@
 -- The geometry of tiles. A band is 32 rows of a window. Row r of a band is moved right by 2 r pixels, and each 64 of
--- the columns that this makes are a tile: so what a pixel reads in its own band stands in its own column or left of it.
+-- the columns that this makes are a tile: so what a pixel reads in its own band is in its own column or left of it.
 use Rattle.std.specs.Prelude.{ℕ, ◌≡◌, ◌+◌, ◌*◌, ◌<◌, ◌≤◌, ◌⊎◌}
 use Rattle.std.specs.Int.{div_ceil}
 use Rattle.pwg_definitions.specs.Limits.{most_columns, most_rows}
@@ -33,7 +33,7 @@ pub record IsPixel (s : Shape) (x y : ℕ) : Type 0 where
   pub across : x < s.width
   pub down : y < s.height
 
--- pixel (x, y) stands in this row of a tile, counted from 0, and at this offset of the row
+-- pixel (x, y) is in this row of a tile, counted from 0, and at this offset of the row
 pub record IsAt (p : Place) (row offset x y : ℕ) : Type 0 where
   pub in_band : row < 32
   pub in_tile : offset < 64
@@ -84,7 +84,7 @@ pub record ComesBy (s : Shape) (d : Dir) (to : Place) (x y : ℕ) : Type 0 where
   pub from : Place
   pub tile : IsTile s from
   pub receiver : IsReceiver d from to
-  -- where the pixel stands in that tile
+  -- the place of the pixel in that tile
   pub row : ℕ
   pub offset : ℕ
   pub place : IsAt from row offset x y

@@ -26,7 +26,8 @@ pub record MemoryOutput : Type 0 where
   -- the writes that fail, counted from 1
   pub fails : List ℕ
 
--- how many bytes a call moves, counted from 1, where `most` could move: no more than the bound whose turn it is
+-- how many bytes call `call`, counted from 1, moves where `most` could move: the bounds hold in turn, none where the
+-- list is empty
 abbrev pub bytes_moved : List ℕ → ℕ → ℕ → ℕ
 bytes_moved [] call most = most
 bytes_moved (first ∷ others) call most =

@@ -15,7 +15,7 @@ pub struct PassPlace {
 }
 
 /// The interleaved passes of a head over a window: the head moves down by as many rows as it has nozzles after each
-/// pass, so that its nozzles, which stand `pitch` rows apart, come to each row once.
+/// pass, so that its nozzles, which are `pitch` rows apart, fire each row exactly once.
 #[derive(Drop)]
 pub struct Plan {
     nozzles: u8,
@@ -99,7 +99,7 @@ impl Plan {
         }
     }
 
-    /// How many rows the last nozzle stands below the first.
+    /// How many rows the last nozzle is below the first.
     fn last_nozzle_row(&self) -> u32
         ensures { result ≡ (self.now.nozzles - 1) * self.now.pitch }
     {
