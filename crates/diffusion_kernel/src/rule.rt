@@ -28,7 +28,7 @@ pub struct Dot {
     pub err: i16,
 }
 
-/// A share of an error, in parts.
+// A share of an error, in parts.
 #[inline]
 fn parts(share: u8, err: i16) -> i32
     requires { InRange err }
@@ -38,7 +38,7 @@ fn parts(share: u8, err: i16) -> i32
     i32::from(share) * i32::from(err)
 }
 
-/// What a row above gives, in parts: its errors from the right, each times a share from the left.
+// What a row above gives, in parts: its errors from the right, each times a share from the left.
 #[inline]
 fn row_parts(shares: &[u8; 5], errs: &[i16; 5]) -> i32
     requires { EachInRange errs.now }
@@ -52,7 +52,7 @@ fn row_parts(shares: &[u8; 5], errs: &[i16; 5]) -> i32
         + parts(shares[4], errs[0])
 }
 
-/// What the errors near a pixel give to it, in parts.
+// What the errors near a pixel give to it, in parts.
 #[inline]
 fn weigh(shares: &Shares, errs: &Near) -> i32
     requires same { EachInRange errs.now.same }
@@ -67,7 +67,7 @@ fn weigh(shares: &Shares, errs: &Near) -> i32
         + row_parts(&shares.below2, &errs.up2)
 }
 
-/// Parts of errors divided by the sum of all shares, rounded down.
+// Parts of errors divided by the sum of all shares, rounded down.
 #[inline]
 fn quotient(parts: i32, divisor: u32) -> i32
     requires parts { IsParts divisor parts }
@@ -81,7 +81,7 @@ fn quotient(parts: i32, divisor: u32) -> i32
     (raised / divisor) as i32 - 2040
 }
 
-/// The dot of a value in sixteenths of an amount.
+// The dot of a value in sixteenths of an amount.
 #[inline]
 fn dot_of(v: i32) -> Dot
     requires low { negsuc 2039 ≤ℤ v }
@@ -103,7 +103,7 @@ fn dot_of(v: i32) -> Dot
 }
 
 impl Kernel {
-    /// What the errors near a pixel give to it, in sixteenths of an amount.
+    // What the errors near a pixel give to it, in sixteenths of an amount.
     #[inline]
     fn carried(self, errs: &Near) -> i32
         requires same { EachInRange errs.now.same }

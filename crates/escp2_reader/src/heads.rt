@@ -60,7 +60,7 @@ pub(crate) fn head_of(bytes: &[u8]) -> HeadState
     }
 }
 
-/// What the bytes after `ESC` are.
+// What the bytes after `ESC` are.
 fn after_escape(bytes: &[u8]) -> HeadState
     ensures { IsRead result 1 escape bytes.now }
 {
@@ -115,7 +115,7 @@ fn colour(bytes: &[u8]) -> HeadState
     HeadState::Whole(Command::Colour { ink })
 }
 
-/// The numbers of a raster.
+// The numbers of a raster.
 fn raster(bytes: &[u8]) -> HeadState
     ensures { IsRead result 1 escape (0x2E ∷ bytes.now) }
 {

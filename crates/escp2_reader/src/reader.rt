@@ -16,10 +16,10 @@ use std::alloc::Global;
 use std::mem;
 use weave_base::Memory;
 
-/// The bytes of a command, without the rows of a raster.
+// The bytes of a command, without the rows of a raster.
 type HeadBytes = ArrayVec<u8, 9>;
 
-/// The most bytes of a raster's rows: 255 rows of 8,191 columns.
+// The most bytes of a raster's rows: 255 rows of 8,191 columns.
 const MOST_ROWS: usize = 261_120;
 
 /// What a call of `JobReader::feed` found.
@@ -48,14 +48,14 @@ pub struct Cut {
     pub offset: u64,
 }
 
-/// Where in a command a reader stands.
+// Where in a command a reader stands.
 #[derive(Drop)]
 enum Stage {
-    /// After these bytes of it.
+    // After these bytes of it.
     Head(HeadBytes),
-    /// Within the rows of a raster.
+    // Within the rows of a raster.
     Rows(RasterHead, RowReader),
-    /// After a fault.
+    // After a fault.
     Failed { offset: u64, cause: JobCause },
 }
 
@@ -64,11 +64,11 @@ enum Stage {
 #[derive(Drop)]
 #[tactic(auto, unfolding(escp2_definitions::specs::Commands::command_at))]
 pub struct JobReader {
-    /// The offset of the command's first byte.
+    // The offset of the command's first byte.
     begin: u64,
-    /// The offset of the next byte.
+    // The offset of the next byte.
     next: u64,
-    /// The rows of a raster, as far as they are read.
+    // The rows of a raster, as far as they are read.
     rows: Vec<u8>,
     stage: Stage,
     ghost room: { 261120 ≤ vec_capacity rows },
@@ -152,7 +152,7 @@ impl JobReader {
         }
     }
 
-    /// Reads on after these bytes of a command.
+    // Reads on after these bytes of a command.
     fn feed_head(&mut self, mut head: HeadBytes, piece: &[u8]) -> Heard
         requires part { command_at head.items ≡ Part }
         requires short { IsShort 0 head.items }
@@ -189,7 +189,7 @@ impl JobReader {
         }
     }
 
-    /// Reads on after the numbers of a raster, which end after `used` bytes of the piece.
+    // Reads on after the numbers of a raster, which end after `used` bytes of the piece.
     fn begin_rows(&mut self, raster: RasterHead, piece: &[u8], used: usize) -> Heard
         requires rows { HasRows raster }
         requires none { self.old.rows.items ≡ [] }
@@ -217,7 +217,7 @@ impl JobReader {
         }
     }
 
-    /// Reads on within the rows of a raster.
+    // Reads on within the rows of a raster.
     #[tactic(auto, unfolding(escp2_definitions::specs::Commands::command_at))]
     fn feed_rows(&mut self, raster: RasterHead, mut reader: RowReader, piece: &[u8]) -> Heard
         requires is_open { is_done_of reader ≡ false }
@@ -255,7 +255,7 @@ impl JobReader {
         }
     }
 
-    /// Ends a command after `used` more bytes.
+    // Ends a command after `used` more bytes.
     #[tactic(auto, unfolding(escp2_definitions::specs::Commands::command_at))]
     fn end_command(&mut self, command: Command, used: usize) -> Heard
         requires { self.old.next + used < 2 ^ 63 }
@@ -276,7 +276,7 @@ impl JobReader {
         }
     }
 
-    /// Stops at a fault, after `used` more bytes.
+    // Stops at a fault, after `used` more bytes.
     #[tactic(auto, unfolding(escp2_definitions::specs::Commands::command_at))]
     fn fail(&mut self, offset: u64, cause: JobCause, used: usize) -> Heard
         requires { self.old.next + used < 2 ^ 63 }

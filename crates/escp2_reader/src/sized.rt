@@ -6,14 +6,14 @@ ghost use Rattle.std.specs.Prelude.{◌∷◌, ◌≡◌};
 use crate::heads::{HeadState, bad_value, is_in, unknown};
 use crate::{Command, JobCause};
 
-/// What the two bytes of a command's length are.
+// What the two bytes of a command's length are.
 #[derive(Clone, Copy)]
 enum LengthState<'a> {
-    /// A part of it.
+    // A part of it.
     Part,
-    /// Another length than the command's, seen at this place of the command.
+    // Another length than the command's, seen at this place of the command.
     Wrong(u8),
-    /// The command's length; these are the bytes after it.
+    // The command's length; these are the bytes after it.
     Right(&'a [u8]),
 }
 

@@ -18,7 +18,7 @@ const RASTER: Command = Command::Raster {
     },
 };
 
-/// A sheet of six rows for three nozzles, with two passes.
+// A sheet of six rows for three nozzles, with two passes.
 const JOB: [u8; 92] = [
     0x1B, 0x40, 0x1B, 0x28, 0x47, 0x01, 0x00, 0x01, 0x1B, 0x28, 0x55, 0x01, 0x00, 0x05, 0x1B, 0x28,
     0x69, 0x01, 0x00, 0x00, 0x1B, 0x55, 0x01, 0x1B, 0x28, 0x43, 0x02, 0x00, 0x0C, 0x00, 0x1B, 0x28,
@@ -28,7 +28,7 @@ const JOB: [u8; 92] = [
     0x03, 0x08, 0x00, 0x00, 0x00, 0x00, 0xFF, 0x00, 0x00, 0x0C, 0x1B, 0x40,
 ];
 
-/// Its commands.
+// Its commands.
 const COMMANDS: [Command; 17] = [
     Command::Init,
     Command::Graphics,
@@ -49,7 +49,7 @@ const COMMANDS: [Command; 17] = [
     Command::Init,
 ];
 
-/// The rows of the command with this number.
+// The rows of the command with this number.
 fn rows_of(count: usize) -> &'static [u8] {
     match count {
         10 => &[0x00, 0x00, 0xFF],
@@ -58,8 +58,8 @@ fn rows_of(count: usize) -> &'static [u8] {
     }
 }
 
-/// Feeds a piece of the job, compares each command with the commands of the job from `count` on, and gives the new
-/// count. it.
+// Feeds a piece of the job, compares each command with the commands of the job from `count` on, and gives the new
+// count.
 fn feed_piece(rt: &impl Abort, reader: &mut JobReader, piece: &[u8], mut count: usize) -> usize
     requires room { fed_of reader.old + length piece.now < 2 ^ 63 }
     requires is_open { is_failed_of reader.old ≡ false }
@@ -113,7 +113,7 @@ fn a_cut_command_is_named_by_its_first_byte(rt: HostRuntime) -> Result<(), Fail>
     Ok(())
 }
 
-/// Feeds bytes with a fault, then with one byte more, and then again.
+// Feeds bytes with a fault, then with one byte more, and then again.
 fn assert_fault(
     rt: &impl Abort,
     alloc: Global,

@@ -25,16 +25,16 @@ pub struct RowFed {
     pub state: RowState,
 }
 
-/// Where in a row a reader stands.
+// Where in a row a reader stands.
 #[derive(Clone, Copy)]
 enum Place {
-    /// Before a control byte, or after the last row.
+    // Before a control byte, or after the last row.
     Packet,
-    /// Before this many bytes as they are, one or more.
+    // Before this many bytes as they are, one or more.
     Literal(usize),
-    /// Before the byte that is repeated this many times.
+    // Before the byte that is repeated this many times.
     Repeated(usize),
-    /// After the control byte that is refused.
+    // After the control byte that is refused.
     Failed,
 }
 
@@ -42,9 +42,9 @@ enum Place {
 #[derive(Drop)]
 pub struct RowReader {
     row_bytes: usize,
-    /// How many rows follow the current one.
+    // How many rows follow the current one.
     rows_left: usize,
-    /// How many bytes of the current row are not yet given.
+    // How many bytes of the current row are not yet given.
     row_left: usize,
     place: Place,
     ghost some: { 1 ≤ row_bytes },
@@ -146,7 +146,7 @@ impl RowReader {
         self.row_left + self.rows_left * self.row_bytes
     }
 
-    /// Reads one part of a row, at least a byte, and gives its length.
+    // Reads one part of a row, at least a byte, and gives its length.
     fn step(&mut self, bytes: &[u8], out: &mut Vec<u8>) -> usize
         requires is_open { is_done_of self.old ≡ false }
         requires some { 0 < length bytes.now }
@@ -166,7 +166,7 @@ impl RowReader {
         1
     }
 
-    /// Reads a control byte.
+    // Reads a control byte.
     fn feed_control(&mut self, control: u8)
         requires place { self.old.place ≡ Place.Packet }
         requires some { 0 < self.old.row_left }
@@ -175,7 +175,7 @@ impl RowReader {
         self.place = place_behind(control, self.row_left);
     }
 
-    /// Reads bytes as they are, as many as are wanted or as there are, and gives their number.
+    // Reads bytes as they are, as many as are wanted or as there are, and gives their number.
     fn feed_literal(&mut self, wanted: usize, bytes: &[u8], out: &mut Vec<u8>) -> usize
         requires place { self.old.place ≡ Place.Literal wanted }
         requires room { vec_len out.old + bytes_left_of self.old ≤ vec_capacity out.old }
@@ -196,7 +196,7 @@ impl RowReader {
         count
     }
 
-    /// Reads the byte that is repeated.
+    // Reads the byte that is repeated.
     fn feed_repeated(&mut self, count: usize, byte: u8, out: &mut Vec<u8>)
         requires place { self.old.place ≡ Place.Repeated count }
         requires room { vec_len out.old + bytes_left_of self.old ≤ vec_capacity out.old }
@@ -209,7 +209,7 @@ impl RowReader {
         self.end_packet(count);
     }
 
-    /// Ends a packet that gave `count` bytes, and its row too where no byte of it is left.
+    // Ends a packet that gave `count` bytes, and its row too where no byte of it is left.
     fn end_packet(&mut self, count: usize)
         requires { count ≤ self.old.row_left }
         ensures { EndsPacket self.old self.new count }
@@ -224,7 +224,7 @@ impl RowReader {
     }
 }
 
-/// Where a reader stands after a control byte, where the row has `left` bytes left.
+// Where a reader stands after a control byte, where the row has `left` bytes left.
 fn place_behind(control: u8, left: usize) -> Place
     ensures place { result ≡ behind_control (control_of control) left }
     ensures begun { least_pending result ≤ pending result }

@@ -25,7 +25,7 @@ fn other_bytes_are_written_as_they_are(rt: HostRuntime) -> Result<(), Fail> {
     Ok(())
 }
 
-/// A row as its code is read back.
+// A row as its code is read back.
 fn read_back(alloc: Global, row: &[u8]) -> Result<Vec<u8>, Fail>
     requires some { 1 ≤ length row.now }
     requires most { length row.now ≤ 1024 }
@@ -58,13 +58,13 @@ fn long_literals_are_read_back(rt: HostRuntime) -> Result<(), Fail> {
     Ok(())
 }
 
-/// Three rows of four bytes, and a byte after them.
+// Three rows of four bytes, and a byte after them.
 const PLAIN: [u8; 13] = [1, 1, 1, 1, 2, 3, 4, 4, 5, 6, 7, 8, 0x99];
 
-/// The same rows, coded, and a byte after them.
+// The same rows, coded, and a byte after them.
 const CODED: [u8; 13] = [0xFD, 1, 0x01, 2, 3, 0xFF, 4, 0x03, 5, 6, 7, 8, 0x99];
 
-/// Feeds three rows of four bytes in two pieces, and gives what is read.
+// Feeds three rows of four bytes in two pieces, and gives what is read.
 fn feed_in_two(
     rt: &impl Abort,
     alloc: Global,
@@ -97,7 +97,7 @@ fn each_cut_gives_the_same_rows(rt: HostRuntime) -> Result<(), Fail> {
     Ok(())
 }
 
-/// Feeds one coded row of four bytes, and gives the answer and how many bytes of the row are given.
+// Feeds one coded row of four bytes, and gives the answer and how many bytes of the row are given.
 fn feed_row(alloc: Global, code: &[u8]) -> Result<(RowFed, usize), Fail> {
     let mut reader = RowReader::begin(1, 4, 1);
     let mut out = Vec::with_capacity(alloc, 4)?;
@@ -105,7 +105,7 @@ fn feed_row(alloc: Global, code: &[u8]) -> Result<(RowFed, usize), Fail> {
     Ok((fed, out.len()))
 }
 
-/// The answer of a fault at this place.
+// The answer of a fault at this place.
 fn fault_at(at: usize) -> RowFed
     requires { at < 4 }
 {

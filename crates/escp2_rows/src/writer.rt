@@ -3,27 +3,27 @@ ghost use Rattle.escp2_definitions.specs.Canonical.{apart_at, canonical_row, equ
 ghost use Rattle.escp2_definitions.specs.RowCode.{packet_code, packet_row};
 ghost use Rattle.std.specs.Prelude.{length, nat_lt, take, take_while, ◌==◌, ◌*◌, ◌<◌, ◌≡◌, ◌≤◌};
 
-/// The most bytes of a packet.
+// The most bytes of a packet.
 const MOST_BYTES: usize = 128;
 
-/// The fewest equal bytes that are written as one repeated byte.
+// The fewest equal bytes that are written as one repeated byte.
 const LEAST_EQUAL: usize = 3;
 
-/// A packet that is written: how many bytes of the row it gives, and how many bytes its code has.
+// A packet that is written: how many bytes of the row it gives, and how many bytes its code has.
 #[derive(Clone, Copy)]
 struct Written {
     row: usize,
     code: usize,
 }
 
-/// How many bytes at the beginning are this byte.
+// How many bytes at the beginning are this byte.
 fn copies(row: &[u8], byte: u8) -> usize
     ensures { result ≡ length (take_while (λ other. other == byte) row.now) }
 {
     row.iter().take_while(|other| **other == byte).count()
 }
 
-/// How many bytes at the beginning are equal, up to `MOST_BYTES`.
+// How many bytes at the beginning are equal, up to `MOST_BYTES`.
 fn equal_bytes(row: &[u8]) -> usize
     requires { 0 < length row.now }
     ensures is { result ≡ equal_at row.now }
@@ -33,7 +33,7 @@ fn equal_bytes(row: &[u8]) -> usize
     copies(&row[..row.len().min(MOST_BYTES)], row[0])
 }
 
-/// Whether a row begins with `LEAST_EQUAL` equal bytes.
+// Whether a row begins with `LEAST_EQUAL` equal bytes.
 fn begins_equal(row: &[u8]) -> bool
     ensures { result ≡ nat_lt 2 (equal_at row.now) }
 {
@@ -43,7 +43,7 @@ fn begins_equal(row: &[u8]) -> bool
     }
 }
 
-/// How many bytes come before the first three equal bytes, or before the end, up to `MOST_BYTES`.
+// How many bytes come before the first three equal bytes, or before the end, up to `MOST_BYTES`.
 fn apart_bytes(row: &[u8]) -> usize
     ensures is { result ≡ apart_at MOST_BYTES row.now }
     ensures few { result ≤ 128 }
@@ -59,7 +59,7 @@ fn apart_bytes(row: &[u8]) -> usize
     most
 }
 
-/// Writes the code of the first packet of a row to the beginning of `out`.
+// Writes the code of the first packet of a row to the beginning of `out`.
 fn write_packet(row: &[u8], out: &mut [u8]) -> Written
     requires some { 0 < length row.now }
     requires room { 2 * length row.now ≤ length out.old }

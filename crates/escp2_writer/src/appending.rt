@@ -22,7 +22,7 @@ pub fn append_head(c: &Command, out: &mut Vec<u8>)
     out.extend_from_slice(head_bytes(c).as_slice()).unwrap();
 }
 
-/// Writes the code of a row after the first `begin` bytes, and gives its length.
+// Writes the code of a row after the first `begin` bytes, and gives its length.
 fn code_behind(row: &[u8], begin: usize, out: &mut [u8]) -> usize
     requires { begin + 2 * length row.now ≤ length out.old }
     ensures code { take (begin + result) out.new ≡ take begin out.old ++ canonical_row row.now }
@@ -44,7 +44,7 @@ pub fn append_row(row: &[u8], out: &mut Vec<u8>)
     out.truncate(begin + len);
 }
 
-/// Appends the codes of a raster's rows, one by one.
+// Appends the codes of a raster's rows, one by one.
 fn append_rows(head: RasterHead, rows: &[u8], out: &mut Vec<u8>)
     requires rows_fit { length rows.now ≡ head.m * row_bytes_of head }
     requires room { vec_len out.old + 2 * length rows.now ≤ vec_capacity out.old }
@@ -59,7 +59,7 @@ fn append_rows(head: RasterHead, rows: &[u8], out: &mut Vec<u8>)
     }
 }
 
-/// Room enough for the codes of `rows` rows of `width` bytes.
+// Room enough for the codes of `rows` rows of `width` bytes.
 fn codes_room(rows: u8, width: usize) -> usize
     requires { width ≤ 8192 }
     ensures is { result ≡ 2 * (rows * width) }
@@ -68,7 +68,7 @@ fn codes_room(rows: u8, width: usize) -> usize
     2 * (usize::from(rows) * width)
 }
 
-/// Room enough for a command with its rows.
+// Room enough for a command with its rows.
 fn room_for(c: &Command) -> usize
     ensures { result ≡ 9 + 2 * rows_len c.now }
 {

@@ -24,14 +24,14 @@ fn colour_code(ink: Ink) -> u8
     }
 }
 
-/// A number in two bytes, the low one first.
+// A number in two bytes, the low one first.
 fn two(n: u16) -> [u8; 2]
     ensures { result ≡ two_bytes n }
 {
     [(n % 256) as u8, (n / 256) as u8]
 }
 
-/// A command of one byte.
+// A command of one byte.
 fn single(byte: u8) -> HeadBytes
     ensures { result.items ≡ byte ∷ [] }
 {
@@ -40,7 +40,7 @@ fn single(byte: u8) -> HeadBytes
     bytes
 }
 
-/// `ESC`, a letter, and numbers.
+// `ESC`, a letter, and numbers.
 fn escaped(letter: u8, numbers: &[u8]) -> HeadBytes
     requires { length numbers.now ≤ 6 }
     ensures items { result.items ≡ 0x1B ∷ letter ∷ numbers.now }
@@ -52,7 +52,7 @@ fn escaped(letter: u8, numbers: &[u8]) -> HeadBytes
     bytes
 }
 
-/// `ESC (`, a letter, the number of bytes that follow, and these.
+// `ESC (`, a letter, the number of bytes that follow, and these.
 fn sized(letter: u8, numbers: &[u8]) -> HeadBytes
     requires { length numbers.now ≤ 4 }
     ensures { result.items ≡ 0x1B ∷ 0x28 ∷ letter ∷ length numbers.now ∷ 0 ∷ numbers.now }

@@ -8,7 +8,7 @@ ghost use Rattle.weave_base.specs.Parts.{AppendsPart};
 use escp2_rows::code_row;
 use weave_base::{Failed, Sink, put_all};
 
-/// Room for the codes of two of the widest rows.
+// Room for the codes of two of the widest rows.
 const ROOM: usize = 4096;
 
 /// Bytes that are gathered before they are written, in a buffer of fixed size. It takes no memory.

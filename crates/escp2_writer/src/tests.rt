@@ -7,7 +7,7 @@ use std::alloc::Global;
 use std::test::Fail;
 use weave_base::{Failed, Ink, MemSink};
 
-/// What is written of the command to a sink that takes every byte.
+// What is written of the command to a sink that takes every byte.
 fn written(alloc: Global, c: &Command, rows: &[u8]) -> Result<MemSink, Fail>
     requires in_range { in_table c.now ≡ true }
     requires rows_fit { length rows.now ≡ rows_len c.now }
@@ -91,7 +91,7 @@ fn each_ink_has_its_colour_code(rt: HostRuntime) -> Result<(), Fail> {
     Ok(())
 }
 
-/// A raster of two rows of nine columns, in two bytes each.
+// A raster of two rows of nine columns, in two bytes each.
 const RASTER: Command = Command::Raster {
     head: RasterHead {
         c: 0,
@@ -115,7 +115,7 @@ fn the_rows_of_a_raster_follow_its_numbers(rt: HostRuntime) -> Result<(), Fail> 
     Ok(())
 }
 
-/// A coded raster of three rows of 24 columns.
+// A coded raster of three rows of 24 columns.
 const CODED: Command = Command::Raster {
     head: RasterHead {
         c: 1,

@@ -13,7 +13,7 @@ use crate::piece::Piece;
 use crate::{Command, RasterHead};
 use weave_base::{Failed, Sink, put_all};
 
-/// Writes bytes, and then the codes of a raster's rows, one by one.
+// Writes bytes, and then the codes of a raster's rows, one by one.
 fn put_coded<K: Sink>(head: RasterHead, front: &[u8], rows: &[u8], k: &mut K) -> Result<(), Failed>
     requires front { length front.now ≤ 4096 }
     requires narrow { row_bytes_of head ≤ 1024 }

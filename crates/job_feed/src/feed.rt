@@ -33,7 +33,7 @@ pub enum FeedStop {
 pub struct JobFeed {
     unread: Unread,
     reader: JobReader,
-    /// How many bytes the reader used.
+    // How many bytes the reader used.
     fed: u64,
     most: u64,
     ghost fed_is: { fed ≡ fed_of reader },

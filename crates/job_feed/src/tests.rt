@@ -10,7 +10,7 @@ fn source(alloc: Global, job: &[u8]) -> Result<MemSource, Fail> {
     Ok(MemSource::make(bytes, Vec::new(alloc), Vec::new(alloc)))
 }
 
-/// A reset, and a command without its last byte.
+// A reset, and a command without its last byte.
 const CUT: [u8; 7] = [0x1B, 0x40, 0x1B, 0x28, 0x47, 1, 0];
 
 #[test]

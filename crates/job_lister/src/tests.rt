@@ -7,7 +7,7 @@ use std::alloc::Global;
 use std::test::Fail;
 use weave_base::{MemSink, MemSource};
 
-/// A sheet of six rows for three nozzles, with two passes.
+// A sheet of six rows for three nozzles, with two passes.
 const JOB: [u8; 92] = [
     0x1B, 0x40, 0x1B, 0x28, 0x47, 0x01, 0x00, 0x01, 0x1B, 0x28, 0x55, 0x01, 0x00, 0x05, 0x1B, 0x28,
     0x69, 0x01, 0x00, 0x00, 0x1B, 0x55, 0x01, 0x1B, 0x28, 0x43, 0x02, 0x00, 0x0C, 0x00, 0x1B, 0x28,
@@ -22,7 +22,7 @@ const LISTING: &str =
     39 DOWNTO 0\n46 COLOUR 0\n49 RETURN\n50 RASTER 1 20 10 3 8 8\n64 DOWNBY 6\n71 COLOUR 0\n74 RETURN\n\
     75 RASTER 1 20 10 3 8 8\n89 EJECT\n90 INIT\n";
 
-/// Lists a job that comes in pieces of this length at most, from a source whose read of this number fails.
+// Lists a job that comes in pieces of this length at most, from a source whose read of this number fails.
 fn list(
     alloc: Global,
     job: &[u8],

@@ -6,7 +6,7 @@ ghost use Rattle.pwg_definitions.specs.Header.{is_outside as is_outside_of, line
 use crate::kinds::kind_of;
 use crate::{Header, HeaderFault, PageForm, Wanted};
 
-/// The length of a line of `width` pixels: its bits, in whole bytes.
+// The length of a line of `width` pixels: its bits, in whole bytes.
 fn line_bytes(width: u32, bits_per_pixel: u32) -> u64
     ensures { result ≡ line_bytes_of width bits_per_pixel }
 {

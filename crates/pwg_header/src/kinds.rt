@@ -5,11 +5,11 @@ ghost use Rattle.pwg_definitions.specs.Header.{colors_of, kind_of as kind_row_of
 
 use crate::{Header, Kind};
 
-/// ColorSpace of black, 0 white.
+// ColorSpace of black, 0 white.
 const BLACK: u32 = 3;
-/// ColorSpace of grey (sGray).
+// ColorSpace of grey (sGray).
 const GREY: u32 = 18;
-/// ColorSpace of red, green and blue (sRGB).
+// ColorSpace of red, green and blue (sRGB).
 const RED_GREEN_BLUE: u32 = 19;
 
 /// The numbers by which a header names a kind.

@@ -5,7 +5,7 @@ ghost use Rattle.pwg_definitions.specs.Header.{header_of, number_at};
 use crate::{HEADER_LEN, Header, fields};
 use byteorder::{BigEndian, ByteOrder};
 
-/// The number in the four bytes from an offset on.
+// The number in the four bytes from an offset on.
 fn number(b: &[u8; HEADER_LEN], offset: usize) -> u32
     requires { offset + 4 ≤ HEADER_LEN }
     ensures { result ≡ number_at offset b.now }

@@ -10,7 +10,7 @@ const WANTED: Wanted = Wanted {
     most_height: 200,
 };
 
-/// The fields of a page in red, green and blue.
+// The fields of a page in red, green and blue.
 const COLOURS: Header = Header {
     is_pwg: true,
     hres: 360,

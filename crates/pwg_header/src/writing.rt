@@ -8,7 +8,7 @@ use crate::kinds::numbers_of;
 use crate::{HEADER_LEN, PageForm, fields};
 use byteorder::{BigEndian, ByteOrder};
 
-/// Writes a number into the four bytes from an offset on.
+// Writes a number into the four bytes from an offset on.
 fn put_number(out: &mut [u8; HEADER_LEN], offset: usize, number: u32)
     requires { offset + 4 ≤ HEADER_LEN }
     ensures { out.new ≡ with_bytes offset (to_be_bytes w32 number) out.old }
@@ -16,7 +16,7 @@ fn put_number(out: &mut [u8; HEADER_LEN], offset: usize, number: u32)
     BigEndian::write_u32(&mut out[offset..offset + 4], number);
 }
 
-/// Sets all bytes to 0 but `PwgRaster`.
+// Sets all bytes to 0 but `PwgRaster`.
 fn begin(out: &mut [u8; HEADER_LEN])
     ensures { out.new ≡ with_bytes 0 pwg_raster (replicate HEADER_LEN 0) }
 {

@@ -27,7 +27,7 @@ pub fn fill_units(line: &mut [u8], filled: usize, read: usize, others: &[u8], co
     repeat_unit(&mut line[filled..filled + count * unit], unit, count);
 }
 
-/// Fills the bytes with their first unit. It is not inlined, since the reader's loop is faster without it.
+// Fills the bytes with their first unit. It is not inlined, since the reader's loop is faster without it.
 #[inline(never)]
 fn repeat_unit(bytes: &mut [u8], unit: usize, count: usize)
     requires some { 1 ≤ count }

@@ -153,7 +153,7 @@ impl LineReader {
         &self.line
     }
 
-    /// Answers the line of the group that is read, and begins the next group.
+    // Answers the line of the group that is read, and begins the next group.
     fn end_group(&mut self) -> Fill
         requires { self.old.state ≡ State.Full }
         ensures { Ends self.old self.new result }

@@ -7,7 +7,7 @@ use crate::{Fill, Kind, LineFault, LineReader, PageForm, code_line};
 use std::alloc::Global;
 use std::test::Fail;
 
-/// The form of a page.
+// The form of a page.
 fn form(kind: Kind, width: u32, height: u32) -> PageForm
     requires { width ≤ most_columns }
     ensures width { result.width ≡ width }
@@ -26,7 +26,7 @@ fn form(kind: Kind, width: u32, height: u32) -> PageForm
     }
 }
 
-/// A reader of a page of this kind.
+// A reader of a page of this kind.
 fn reader_of(alloc: Global, kind: Kind, width: u32, height: u32) -> Result<LineReader, Fail>
     requires narrowest { 1 ≤ width }
     requires widest { width ≤ most_columns }
@@ -105,12 +105,12 @@ fn a_group_past_the_page_is_refused_at_its_count(rt: HostRuntime) -> Result<(), 
     Ok(())
 }
 
-/// The bytes of a page of three groups of lines of four pixels.
+// The bytes of a page of three groups of lines of four pixels.
 const PAGE: [u8; 14] = [
     0x01, 0xFD, 0x01, 0x02, 0x03, 0x04, 0x00, 0x01, 0x05, 0x80, 0x02, 0x03, 0x07, 0x99,
 ];
 
-/// Feeds a piece, and appends the repeats and the line of each group that it ends.
+// Feeds a piece, and appends the repeats and the line of each group that it ends.
 fn feed_all(reader: &mut LineReader, piece: &[u8], read: &mut Vec<u8>) -> Result<(), Fail> {
     let mut rest = piece;
     for _ in 0..4 {

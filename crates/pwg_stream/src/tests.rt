@@ -21,7 +21,7 @@ const WANT: Wanted = Wanted {
     most_height: 7920,
 };
 
-/// A stream of the sync word alone.
+// A stream of the sync word alone.
 fn sync(alloc: Global) -> Result<Vec<u8>, Fail> {
     Ok(Vec::from_slice(alloc, b"RaS2")?)
 }
@@ -46,7 +46,7 @@ fn colours(width: u32, height: u32) -> PageForm
     }
 }
 
-/// Appends a page of these groups to a stream.
+// Appends a page of these groups to a stream.
 fn push_page(stream: &mut Vec<u8>, form: PageForm, groups: &[u8]) -> Result<(), Fail> {
     let mut header = [0; HEADER_LEN];
     write_header(&form, 360, 360, &mut header);
@@ -55,7 +55,7 @@ fn push_page(stream: &mut Vec<u8>, form: PageForm, groups: &[u8]) -> Result<(), 
     Ok(())
 }
 
-/// Reads to the end or a stop, and appends the repeats and the line of each group.
+// Reads to the end or a stop, and appends the repeats and the line of each group.
 fn read_on(
     reader: &mut PageReader,
     s: &mut MemSource,
@@ -81,7 +81,7 @@ fn read_on(
     Err("no end")?
 }
 
-/// Reads a stream to the end or a stop, which a further call answers again.
+// Reads a stream to the end or a stop, which a further call answers again.
 fn read_all(
     rt: &impl Abort,
     alloc: Global,
@@ -99,7 +99,7 @@ fn read_all(
     Ok(stop)
 }
 
-/// A stream of two pages.
+// A stream of two pages.
 fn two_pages(alloc: Global) -> Result<Vec<u8>, Fail> {
     let mut stream = sync(alloc)?;
     push_page(
@@ -113,7 +113,7 @@ fn two_pages(alloc: Global) -> Result<Vec<u8>, Fail> {
     Ok(stream)
 }
 
-/// What is read of two pages from a source that gives its bytes in these pieces and fails at these calls.
+// What is read of two pages from a source that gives its bytes in these pieces and fails at these calls.
 fn read_two_pages(
     rt: &impl Abort,
     alloc: Global,

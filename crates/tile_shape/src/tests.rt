@@ -1,20 +1,20 @@
 //! Windows worked out by hand.
 use crate::{Dir, Place, Shape};
 
-/// A window of five columns and three bands.
+// A window of five columns and three bands.
 const SHAPE: Shape = Shape {
     width: 200,
     height: 70,
 };
 
-/// Which of its tiles need each edge, by band and column.
+// Which of its tiles need each edge, by band and column.
 const NEED_LEFT: [[u8; 5]; 3] = [[0, 1, 1, 1, 1], [0, 1, 1, 1, 1], [0, 1, 1, 1, 1]];
 
 const NEED_ABOVE: [[u8; 5]; 3] = [[0, 0, 0, 0, 0], [1, 1, 1, 1, 0], [1, 1, 1, 1, 0]];
 
 const NEED_CORNER: [[u8; 5]; 3] = [[0, 0, 0, 0, 0], [1, 1, 1, 1, 1], [1, 1, 1, 1, 1]];
 
-/// Which of its tiles give each edge.
+// Which of its tiles give each edge.
 const GIVE_RIGHT: [[u8; 5]; 3] = [[1, 1, 1, 1, 0], [1, 1, 1, 1, 0], [1, 1, 1, 1, 0]];
 
 const GIVE_BOTTOM: [[u8; 5]; 3] = [[0, 1, 1, 1, 1], [0, 1, 1, 1, 1], [0, 0, 0, 0, 0]];

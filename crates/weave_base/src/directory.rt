@@ -66,12 +66,12 @@ impl<R: Files> Shelf for DirShelf<R> {
     }
 }
 
-/// Whether a name may be that of a file of the folder.
+// Whether a name may be that of a file of the folder.
 fn is_plain(name: &str) -> bool {
     !name.is_empty() && name != "." && name != ".." && !name.as_bytes().contains(&b'/')
 }
 
-/// Reads a file, or its first `most` + 1 bytes where it is longer than `most`.
+// Reads a file, or its first `most` + 1 bytes where it is longer than `most`.
 fn read_file<R: Files>(rt: &R, alloc: Global, name: &str, most: usize) -> io::Result<Found>
     ensures { IfOk result (IsWithin most) }
 {

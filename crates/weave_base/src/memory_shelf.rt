@@ -103,7 +103,7 @@ impl Shelf for MemShelf {
     }
 }
 
-/// The first file of this name.
+// The first file of this name.
 fn first_named<'a>(files: &'a [ShelfFile], name: &str) -> Option<&'a ShelfFile>
     ensures { option_copied result ≡ find (λ f. bytes_eq (string_bytes f.name) name.now) files.now }
 {

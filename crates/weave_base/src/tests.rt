@@ -61,7 +61,7 @@ fn a_full_sink_keeps_what_fits(rt: HostRuntime) -> Result<(), Fail> {
     Ok(())
 }
 
-/// A reader and a writer that always fail.
+// A reader and a writer that always fail.
 #[derive(Drop)]
 struct Broken;
 
@@ -81,7 +81,7 @@ impl Write for Broken {
     }
 }
 
-/// A writer that takes nothing.
+// A writer that takes nothing.
 #[derive(Drop)]
 struct Idle;
 
@@ -128,7 +128,7 @@ fn words_are_read_back(rt: HostRuntime) {
     assert_eq!(rt; words.get(1), "");
 }
 
-/// A file of a shelf in memory.
+// A file of a shelf in memory.
 fn file(alloc: Global, name: &str, bytes: &[u8]) -> Result<ShelfFile, Fail> {
     Ok(ShelfFile {
         name: String::from_str(alloc, name)?,
@@ -136,7 +136,7 @@ fn file(alloc: Global, name: &str, bytes: &[u8]) -> Result<ShelfFile, Fail> {
     })
 }
 
-/// A text that was found.
+// A text that was found.
 fn text(alloc: Global, bytes: &[u8]) -> Result<Result<Found, ShelfStop>, Fail> {
     Ok(Ok(Found::Text(Vec::from_slice(alloc, bytes)?)))
 }

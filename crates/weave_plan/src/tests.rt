@@ -34,7 +34,7 @@ fn the_plan_fires_rows_zero_and_one(rt: HostRuntime) {
     assert_eq!(rt; plan.place_of(1), PassPlace { pass: 3, nozzle: 3 });
 }
 
-/// Searches all passes and nozzles for each row of a window, and finds it once, where the plan says.
+// Searches all passes and nozzles for each row of a window, and finds it once, where the plan says.
 fn seek_each_row(rt: &impl Abort, nozzles: u8, pitch: u8, height: u32)
     requires some_nozzles { 1 ≤ nozzles }
     requires some_pitch { 1 ≤ pitch }

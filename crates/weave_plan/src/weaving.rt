@@ -99,7 +99,7 @@ impl Plan {
         }
     }
 
-    /// How many rows the last nozzle is below the first.
+    // How many rows the last nozzle is below the first.
     fn last_nozzle_row(&self) -> u32
         ensures { result ≡ (self.now.nozzles - 1) * self.now.pitch }
     {

@@ -4,7 +4,7 @@ ghost use Rattle.std.specs.Prelude.{◌<◌};
 use super::{Dot, Near};
 use crate::Kernel;
 
-/// One error near a pixel. The places are x - 1 and x - 2 of its row, then x - 2 to x + 2 one row above, and then two.
+// One error near a pixel. The places are x - 1 and x - 2 of its row, then x - 2 to x + 2 one row above, and then two.
 fn one_error(place: usize, err: i16) -> Near
     requires place { place < 12 }
     requires err { InRange err }
@@ -27,7 +27,7 @@ fn one_error(place: usize, err: i16) -> Near
     near
 }
 
-/// The errors to the left of a pixel in the first row of a page.
+// The errors to the left of a pixel in the first row of a page.
 fn in_first_row(left: i16, left2: i16) -> Near
     requires left { InRange left }
     requires left2 { InRange left2 }

@@ -29,7 +29,7 @@ impl LineReader {
         1
     }
 
-    /// Reads a group's count.
+    // Reads a group's count.
     fn feed_start(&mut self, count: u8)
         requires { self.old.state ≡ State.Start }
         ensures { Takes self.old self.new (count ∷ []) }
@@ -45,7 +45,7 @@ impl LineReader {
         self.state = State::Packet;
     }
 
-    /// Reads the first byte of a packet.
+    // Reads the first byte of a packet.
     fn feed_packet(&mut self, first: u8)
         requires { self.old.state ≡ State.Packet }
         ensures { Takes self.old self.new (first ∷ []) }
@@ -67,7 +67,7 @@ impl LineReader {
         };
     }
 
-    /// Fills the rest of the line with white.
+    // Fills the rest of the line with white.
     fn fill_white(&mut self)
         requires { self.old.state ≡ State.Packet }
         ensures { Takes self.old self.new (128 ∷ []) }
@@ -79,7 +79,7 @@ impl LineReader {
         self.state = State::Full;
     }
 
-    /// Reads bytes of the unit of a run, as many as are wanted or as there are, and gives their number.
+    // Reads bytes of the unit of a run, as many as are wanted or as there are, and gives their number.
     fn feed_run(&mut self, units: usize, read: usize, bytes: &[u8]) -> usize
         requires { self.old.state ≡ State.Run units read }
         ensures count { result ≡ min (length bytes.now) ((row_of self.old.form.kind).unit - read) }
@@ -99,7 +99,7 @@ impl LineReader {
         wanted
     }
 
-    /// Reads bytes of a literal, as many as are wanted or as there are, and gives their number.
+    // Reads bytes of a literal, as many as are wanted or as there are, and gives their number.
     fn feed_literal(&mut self, wanted: usize, bytes: &[u8]) -> usize
         requires { self.old.state ≡ State.Literal wanted }
         ensures count { result ≡ min (length bytes.now) wanted }

@@ -8,7 +8,7 @@ use std::process::Abort;
 use std::test::Fail;
 use weave_base::MemSource;
 
-/// The stop of a stream.
+// The stop of a stream.
 fn stop_of(rt: &impl Abort, alloc: Global, stream: Vec<u8>) -> Result<Option<StreamStop>, Fail> {
     let s = MemSource::make(stream, Vec::new(alloc), Vec::new(alloc));
     read_all(rt, alloc, s, &mut Vec::new(alloc))
