@@ -6,7 +6,7 @@ use Rattle.tile_shape.specs.declared.tiles.Place.{Place}
 use Rattle.board_core.specs.States.{AreOnce, CoreState, IsBegun, IsPosted, IsTakenBy, sent, sent_edges}
 use Rattle.board_core.specs.Steps.{Gives}
 
--- A state of the tiles that accepted events lead to has these properties.
+-- A legal state of the tiles: accepted events lead only to such states.
 pub record Legal (core : CoreState) : Type 0 where
   -- an edge is sent only where its tile is taken or posted
   pub source : (from : Place) (d : Dir) → IsTile core.shape from → sent core from d ≡ true → IsBegun core from

@@ -15,8 +15,8 @@ three_nozzles = record tiny1 { nozzles = 3; pitch = 2; top = 4 }
 
 -- a sheet of six rows, 46 bytes: graphics, units of 5/3600 inch, MicroWeave off, one way, a length of 12 units, margins
 -- 0 and 12
-abbrev pub listing_front : List ℕ
-listing_front =
+abbrev pub listing_prefix : List ℕ
+listing_prefix =
     0x1B ∷ 0x40
     ∷ 0x1B ∷ 0x28 ∷ 0x47 ∷ 0x01 ∷ 0x00 ∷ 0x01
     ∷ 0x1B ∷ 0x28 ∷ 0x55 ∷ 0x01 ∷ 0x00 ∷ 0x05
@@ -42,13 +42,13 @@ black_from_left = 0x1B ∷ 0x72 ∷ 0x00 ∷ 0x0D ∷ []
 -- two passes, and between them a step down of six units; 92 bytes
 abbrev pub listing : List ℕ
 listing =
-    listing_front ++ black_from_left ++ last_row_black
+    listing_prefix ++ black_from_left ++ last_row_black
     ++ 0x1B ∷ 0x28 ∷ 0x76 ∷ 0x02 ∷ 0x00 ∷ 0x06 ∷ 0x00 ∷ black_from_left ++ middle_row_black
     ++ 0x0C ∷ 0x1B ∷ 0x40 ∷ []
 
 -- the first pass twice
 abbrev pub listing_overprinted : List ℕ
-listing_overprinted = listing_front ++ black_from_left ++ last_row_black ++ 0x0D ∷ last_row_black
+listing_overprinted = listing_prefix ++ black_from_left ++ last_row_black ++ 0x0D ∷ last_row_black
 
 -- ---- pieces of jobs for one nozzle
 
@@ -108,7 +108,7 @@ refusal bytes = (execute tiny1 (commands bytes).entries).refused
 
 -- the same, on the sheet of six rows
 abbrev pub sheet_refusal : List ℕ → Option Refused
-sheet_refusal bytes = refusal (listing_front ++ bytes)
+sheet_refusal bytes = refusal (listing_prefix ++ bytes)
 
 -- a refusal at a place
 abbrev pub refused : ℕ → EmuFault → Option Refused

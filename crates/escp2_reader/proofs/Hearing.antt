@@ -18,7 +18,7 @@ use Rattle.escp2_reader.specs.declared.reader.JobReader.{JobReader}
 use Rattle.escp2_reader.specs.declared.reader.Stage.{Stage}
 use Rattle.escp2_reader.specs.declared.reader.Stage.TheVariants.{Head, Rows, Failed}
 use Rattle.escp2_reader.specs.Heads.{IsRaster, IsShort}
-use Rattle.escp2_reader.specs.Stages.{AtStage, BehindFault, Stands, is_failed_at, is_part, rows_at}
+use Rattle.escp2_reader.specs.Stages.{AtStage, AfterFault, Stands, is_failed_at, is_part, rows_at}
 use Rattle.escp2_reader.specs.Reading.{BeginsRows, HeardFault, HeardOne, IsHeard, OnFault, ShowsLast, StandsFor, rows_of}
 
 -- ---- bytes

@@ -26,7 +26,7 @@ pub record InRows (raster : RasterHead) (reader : RowReader) (rows sofar : List 
   pub stands : RowsStandFor (form_of raster) reader code rows
 
 -- After a fault, which is read whatever follows.
-pub record BehindFault (begin offset : ℕ) (cause : JobCause) (sofar : List ℕ) : Type 0 where
+pub record AfterFault (begin offset : ℕ) (cause : JobCause) (sofar : List ℕ) : Type 0 where
   pub behind : begin ≤ offset
   pub wrong : (rest : List ℕ) → command_at (sofar ++ rest) ≡ Wrong (offset - begin) cause
 
@@ -34,7 +34,7 @@ pub record BehindFault (begin offset : ℕ) (cause : JobCause) (sofar : List ℕ
 abbrev pub AtStage : Stage → ℕ → List ℕ → List ℕ → Type 0
 AtStage (Head head) begin rows sofar = head.items ≡ sofar
 AtStage (Rows raster reader) begin rows sofar = InRows raster reader rows sofar
-AtStage (Failed offset cause) begin rows sofar = BehindFault begin offset cause sofar
+AtStage (Failed offset cause) begin rows sofar = AfterFault begin offset cause sofar
 
 -- At this stage of a command that begins at an offset these bytes of it were fed.
 pub record Stands (stage : Stage) (begin next : ℕ) (rows sofar : List ℕ) : Type 0 where

@@ -60,7 +60,7 @@ impl RowReader {
     ghost use Rattle.escp2_rows.specs.Reading.{EndsPacket, Gives, IsFault, IsMore, IsWhole, OnFault, OnMore, OnWhole};
     ghost use Rattle.escp2_rows.specs.Reading.{StandsFor, Takes, bytes_left_of, is_done_of};
 
-    /// A reader of `rows` rows of `row_bytes` bytes, which are plain where `c` is 0 and coded where it is 1. Plain
+    /// A reader of `rows` rows of `row_bytes` bytes, which are plain where `c` is 0 and else coded. Plain
     /// rows are read as one row of bytes as they are.
     pub fn begin(c: u8, row_bytes: u16, rows: u8) -> RowReader
         requires form { c ≤ 1 }
@@ -172,7 +172,7 @@ impl RowReader {
         requires some { 0 < self.old.row_left }
         ensures { Gives self.old self.new (control ∷ []) [] }
     {
-        self.place = place_behind(control, self.row_left);
+        self.place = place_after(control, self.row_left);
     }
 
     // Reads bytes as they are, as many as are wanted or as there are, and gives their number.
@@ -225,7 +225,7 @@ impl RowReader {
 }
 
 // Where a reader stands after a control byte, where the row has `left` bytes left.
-fn place_behind(control: u8, left: usize) -> Place
+fn place_after(control: u8, left: usize) -> Place
     ensures place { result ≡ behind_control (control_of control) left }
     ensures begun { least_pending result ≤ pending result }
 {

@@ -18,7 +18,7 @@ IsFromTop top Right to xs = Unit {0}
 IsFromTop top Bottom to xs = IsCopy (slice_index_or top (to.c + 1) []) xs
 IsFromTop top Corner to xs = IsCut (slice_index_or top to.c []) xs
 
--- What comes to a tile this way, where `edges` are those that the tiles gave.
+-- The tile is handed this edge, where `edges` are those that the tiles gave.
 pub record IsHanded (s : Shape) (top : List (List ℤ)) (edges : Dir → Place → List ℤ) (d : Dir) (to : Place) (xs : List ℤ) : Type 0 where
   pub given : (from : Place) → IsTile s from → IsReceiver d from to → xs ≡ edges d from
   pub none : IsOnBoard d to → ¬ IsNeeded s d to → xs ≡ replicate (edge_length d) (pos 0)

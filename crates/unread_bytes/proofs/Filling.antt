@@ -20,35 +20,35 @@ used_up buffer unread start end count is within =
     ∙ ap (λ k. drop count (take k (drop start buffer))) whole
     ∙ ap (drop count) is
 
-pub moved_front : (buffer unread : List ℕ) (start end : ℕ) → take (end - start) (drop start buffer) ≡ unread → start ≤ end
+pub moved_down : (buffer unread : List ℕ) (start end : ℕ) → take (end - start) (drop start buffer) ≡ unread → start ≤ end
     → end ≤ length buffer
     → take (end - start) (paste buffer 0 (drop start buffer) (end - start)) ≡ unread
-moved_front buffer unread start end is ordered inside =
+moved_down buffer unread start end is ordered inside =
     let n : ℕ = end - start in
     let same : n ≡ 0 + n = omega arith in
     ap (λ k. take k (paste buffer 0 (drop start buffer) n)) same
     ∙ take-paste buffer 0 (drop start buffer) n (omega arith) (omega (arith, length-drop start buffer))
     ∙ is
 
-pub filled_behind : (front unread read rest : List ℕ) (kept count : ℕ) → front ≡ unread → length unread ≡ kept → count ≤ length read
+pub filled_after : (front unread read rest : List ℕ) (kept count : ℕ) → front ≡ unread → length unread ≡ kept → count ≤ length read
     → take (kept + count) (front ++ (read ++ rest)) ≡ unread ++ take count read
-filled_behind front unread read rest kept count is long within =
+filled_after front unread read rest kept count is long within =
     ap (λ k. take (k + count) (front ++ (read ++ rest))) (sym long)
     ∙ ap (λ xs. take (length unread + count) (xs ++ (read ++ rest))) is
     ∙ take-append-add unread (read ++ rest) count
     ∙ ap (λ xs. unread ++ xs) (take-append-le count read rest within)
 
 -- the buffer after a read, whose unread bytes were moved to its beginning; `shown` is the buffer at the read
-pub unread_behind : (buffer moved shown unread read items : List ℕ) (start end count room : ℕ)
+pub unread_after : (buffer moved shown unread read items : List ℕ) (start end count room : ℕ)
     → take (end - start) (drop start buffer) ≡ unread → start ≤ end → end ≤ length buffer
     → moved ≡ paste buffer 0 (drop start buffer) (end - start) → shown ≡ moved → count ≤ length read
     → items ≡ put_mid (end - start) room shown read
     → take (end - start + count - 0) (drop 0 items) ≡ unread ++ take count read
-unread_behind buffer moved shown unread read items start end count room is ordered inside moved_is shown_is within items_are =
+unread_after buffer moved shown unread read items start end count room is ordered inside moved_is shown_is within items_are =
     let kept : take (end - start) shown ≡ unread = ap (take (end - start)) (shown_is ∙ moved_is)
-    ∙ moved_front buffer unread start end is ordered inside in
+    ∙ moved_down buffer unread start end is ordered inside in
     let long : length unread ≡ end - start = ap length (sym is) ∙ unread-long buffer start end ordered inside in
     let same : end - start + count - 0 ≡ end - start + count = omega arith in
     ap (λ k. take k items) same
     ∙ ap (take (end - start + count)) items_are
-    ∙ filled_behind (take (end - start) shown) unread read (post_of (end - start) room shown) (end - start) count kept long within
+    ∙ filled_after (take (end - start) shown) unread read (post_of (end - start) room shown) (end - start) count kept long within

@@ -7,7 +7,8 @@
 //!
 //! - `MemSource`, `MemSink` and `MemShelf` show what they hold to contracts. They fail exactly at the listed calls, and
 //!   the sink also where a piece finds no room.
-//! - `StdSource` and `StdSink` are readers and writers of std. They count each error of std, `Interrupted` too, and do
+//! - `StdSource` and `StdSink` are readers and writers of std. They count each error of std, `Interrupted` too, and a
+//!   write that takes nothing of a piece that is not empty. They do
 //!   not say what they hold: their contracts bound how many bytes a call moves, and tests show that the bytes are those
 //!   of std.
 //! - `DirShelf` is the current folder, and does not say what it holds. Its contract says that a text is at most as long

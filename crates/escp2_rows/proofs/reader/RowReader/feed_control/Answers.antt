@@ -6,6 +6,6 @@ pub returns : goal.returns
 returns c = record {
   left = omega arith;
   stands = λ form sofar given so_far. stands_moved form _ _ _ _ _ _ _ _ _ _ sofar given
-      (control_moves _ _ _ _ _ c.requires.some c.place_behind-self.ensures.begun c.place_behind-self.ensures.place)
+      (control_moves _ _ _ _ _ c.requires.some c.place_after-self.ensures.begun c.place_after-self.ensures.place)
       (at_place _ _ _ _ _ _ sofar given c.requires.place so_far);
 }

@@ -4,7 +4,7 @@ use Rattle.std.specs.Vec.{with_items}
 use Rattle.std.specs.Io.KnownBytes.{Keeps}
 use borrow.Rule.Slice.PartMut.{put_mid}
 use Rattle.unread_bytes.specs.Text.{text_behind}
-use Rattle.unread_bytes.proofs.Filling.{unread_behind}
+use Rattle.unread_bytes.proofs.Filling.{unread_after}
 use Rattle.unread_bytes.proofs.Texts.{text_grown}
 use Rattle.unread_bytes.proofs.unread.Unread.more.Goals as goal
 
@@ -16,7 +16,7 @@ returns-clause-grown g c =
     let filled : List ℕ = put_mid kept (length c.deref_mut.result.now - kept) c.deref_mut.result.now c.read.new.buf in
     record {
       chunk = take count c.read.new.buf;
-      is = unread_behind u.buffer.items c.copy_within.new.self.items c.deref_mut.result.now c.args.self.now c.read.new.buf
+      is = unread_after u.buffer.items c.copy_within.new.self.items c.deref_mut.result.now c.args.self.now c.read.new.buf
           (with_items c.copy_within.new.self filled).items u.start u.end count (length c.deref_mut.result.now - kept) c.self.view_is
           (omega (arith, c.self.invariant)) (omega (arith, c.self.invariant, u.buffer.ok)) c.copy_within.ensures.items
           c.deref_mut.ensures.value c.in_ok-count.ensures.bound.0
@@ -30,7 +30,7 @@ returns-clause-text g c =
     let count = c.in_ok-count.count in
     let kept : ℕ = u.end - u.start in
     let filled : List ℕ = put_mid kept (length c.deref_mut.result.now - kept) c.deref_mut.result.now c.read.new.buf in
-    let view = unread_behind u.buffer.items c.copy_within.new.self.items c.deref_mut.result.now c.args.self.now c.read.new.buf
+    let view = unread_after u.buffer.items c.copy_within.new.self.items c.deref_mut.result.now c.args.self.now c.read.new.buf
     (with_items c.copy_within.new.self filled).items u.start u.end count (length c.deref_mut.result.now - kept) c.self.view_is
     (omega (arith, c.self.invariant)) (omega (arith, c.self.invariant, u.buffer.ok)) c.copy_within.ensures.items c.deref_mut.ensures.value
     c.in_ok-count.ensures.bound.0
