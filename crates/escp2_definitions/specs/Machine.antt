@@ -56,7 +56,7 @@ has_dots s = nat_lt 0 (length s.dots)
 abbrev pub units : Machine → ℕ → ℕ
 units s n = n * unwrap_or s.unit 0
 
--- the length of the page, 0 where none was set
+-- the length of the sheet, 0 where none was set
 abbrev pub page_length : Machine → ℕ
 page_length s = unwrap_or s.page 0
 
@@ -200,7 +200,7 @@ after p s (c.Raster head) rows = record s {
   columns = max s.columns (s.across / column_step p + head.n);
 }
 
--- The sheets that a command gives: `Eject` gives the current one, with as many rows as the page has.
+-- The sheets that a command gives: `Eject` gives the current one, with as many rows as its length takes.
 abbrev pub given : Printer → Machine → Command → List Sheet
 given p s c.Eject = record { rows = (page_length s + row_step p - 1) / row_step p; columns = s.columns; dots = s.dots } ∷ []
 given p s other = []

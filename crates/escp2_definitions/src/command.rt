@@ -30,7 +30,7 @@ pub enum Command {
     MicroWeave { n: u8 },
     /// `ESC U`: print in one direction of the head only (1), or in both (0).
     OneWay { n: u8 },
-    /// `ESC ( C`: the page's length, in units.
+    /// `ESC ( C`: the length of the sheet, in units.
     Length { n: u16 },
     /// `ESC ( c`: the top and bottom margins from the paper's top, in units.
     Margins { top: u16, bottom: u16 },

@@ -20,13 +20,13 @@ pub enum EmuFault {
     NotGraphics,
     /// A length or a position before any unit was set.
     NoUnit,
-    /// A command that needs margins, or a page length, before these were set.
+    /// A command that needs margins, or the length of the sheet, before these were set.
     NoMargins,
     /// A raster whose steps are not the printer's.
     Density,
     /// A raster with another number of rows than the printer has nozzles.
     Rows,
-    /// A move up the page, or a reset, a length or margins while the sheet has dots.
+    /// A move up the sheet, or a reset, a length or margins while the sheet has dots.
     Backward,
     /// A raster whose position is between the printer's columns or rows.
     OffGrid,

@@ -13,11 +13,11 @@ use Rattle.escp2_laws.specs.Examples.{said}
 abbrev pub fault_of : Machine → Command → List ℕ → Option EmuFault
 fault_of s command rows = first_fault (refusals tiny1 s command rows)
 
--- graphics mode, with no unit; units of 5/3600 inch, without a page; and a sheet of six rows
+-- graphics mode, without a unit
 abbrev pub in_graphics : Machine
 in_graphics = record start { graphics = true }
 
--- with a unit, and no page
+-- a unit of 5/3600 inch, without the length of a sheet
 abbrev pub with_unit : Machine
 with_unit = record in_graphics { unit = Some 5 }
 

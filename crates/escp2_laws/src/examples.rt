@@ -97,7 +97,7 @@ pub fn commands_are_refused()
     ensures again { sheet_refusal (black_row ++ 0x1B ∷ 0x40 ∷ []) ≡ refused 55 Backward }
     // half a column across
     ensures off_grid { sheet_refusal (0x1B ∷ 0x24 ∷ 0x01 ∷ 0x00 ∷ black_row) ≡ refused 50 OffGrid }
-    // down by 13 units on a page of 12
+    // down by 13 units on a sheet of 12
     ensures below_page { sheet_refusal (0x1B ∷ 0x28 ∷ 0x76 ∷ 0x02 ∷ 0x00 ∷ 0x0D ∷ 0x00 ∷ []) ≡
         refused 46 OffSheet }
     // dots at the bottom margin, and a row without dots there
@@ -107,7 +107,7 @@ pub fn commands_are_refused()
     ensures overprint { sheet_refusal (black_row ++ 0x0D ∷ black_row) ≡ refused 56 Overprint }
 {}
 
-/// A page is 22 inches long at most, and its bottom margin is on it.
+/// A sheet is 22 inches long at most, and its bottom margin is on it.
 #[tactic(auto, unfolding(escp2_definitions::specs::Commands::command_at, escp2_definitions::specs::Commands::commands_from, escp2_definitions::specs::Machine::execute_from, escp2_definitions::specs::Machine::rows_dots))]
 pub fn pages_are_limited()
     // 15,840 and 15,841 units of 5/3600 inch
@@ -116,7 +116,7 @@ pub fn pages_are_limited()
         refused 6 OffSheet }
     // 32,767 units of 1/3600 inch
     ensures most_units { refusal (unit_1 ++ 0x1B ∷ 0x28 ∷ 0x43 ∷ 0x02 ∷ 0x00 ∷ 0xFF ∷ 0x7F ∷ []) ≡ None }
-    // a bottom margin at the end of the page, and one unit below it
+    // a bottom margin at the end of the sheet, and one unit below it
     ensures lowest { refusal (unit_5 ++ length_12 ++ margins_12) ≡ None }
     ensures too_low { refusal (unit_5 ++ length_12
         ++ 0x1B ∷ 0x28 ∷ 0x63 ∷ 0x04 ∷ 0x00 ∷ 0x00 ∷ 0x00 ∷ 0x0D ∷ 0x00 ∷ []) ≡ refused 13 OffSheet }

@@ -14,7 +14,8 @@ use Rattle.pwg_definitions.specs.Limits.{header_length}
 
 -- ---- kinds of pixel
 
--- A row of the table of kinds: the numbers by which a header names the kind, the bytes of a unit, and a white unit.
+-- A row of the table of kinds: the numbers by which a header names the kind, the length of a pixel in bytes (`unit`),
+-- and a white pixel.
 pub record KindRow : Type 0 where
   pub kind : Kind
   pub color_space : ℕ
@@ -62,7 +63,7 @@ kinds = row_of Gray8 ∷ row_of Black8 ∷ row_of Rgb8 ∷ []
 abbrev pub line_bytes : ℕ → ℕ → ℕ
 line_bytes width bits = (width * bits + 7) / 8
 
--- the units of a line
+-- the pixels of a line
 abbrev pub line_units : KindRow → ℕ → ℕ
 line_units row width = line_bytes width row.bits_per_pixel / row.unit
 

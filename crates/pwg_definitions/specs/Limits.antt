@@ -6,7 +6,7 @@ use Rattle.std.specs.Prelude.{ℕ}
 abbrev pub most_columns : ℕ
 most_columns = 8191
 
--- the most rows of a page: 22 inches at 720 dots an inch
+-- the most lines of a page: 22 inches at 720 lines an inch
 abbrev pub most_rows : ℕ
 most_rows = 15840
 
@@ -22,6 +22,6 @@ header_length = 1796
 abbrev pub most_repeats : ℕ
 most_repeats = 256
 
--- the most units of a packet (section 4.4)
+-- the most pixels of a packet (section 4.4)
 abbrev pub most_units : ℕ
 most_units = 128

@@ -3,5 +3,5 @@
 /// The most columns of a page.
 pub const MOST_COLUMNS: u32 = 8191;
 
-/// The most rows of a page at 720 rows an inch: 22 inches.
+/// The most lines of a page: 22 inches at 720 lines an inch.
 pub const MOST_ROWS: u32 = 15840;

@@ -13,7 +13,7 @@ named_by row h = record h {
   bits_per_pixel = row.bits_per_pixel;
 }
 
--- The row of a kind: its units fill a line, its white is a unit, and its numbers fit a header and name it.
+-- The row of a kind: its pixels fill a line, its white is a pixel, and its numbers fit a header and name it.
 pub record IsKindRow (kind : Kind) (row : KindRow) : Type 0 where
   pub kind_is : row.kind ≡ kind
   pub some : 1 ≤ row.unit

@@ -110,7 +110,7 @@ pub fn header_fault_order()
     ensures order { checked (record good { color_order = 1; cross_transform = 2 }) ≡ Err fault.Order }
 {}
 
-/// Groups of a page in grey: the units of a line, the lines left, and the bytes.
+/// Groups of a page in grey: the pixels of a line, the lines left, and the bytes.
 pub fn groups()
     ensures white { grey_group 8 1 (0x00 ∷ 0x80 ∷ []) ≡ Group 1 (replicate 8 0xFF) [] }
     ensures run_then_white { grey_group 8 1 (0x00 ∷ 0x02 ∷ 0x05 ∷ 0x80 ∷ 0x01 ∷ [])
@@ -129,7 +129,7 @@ pub fn groups()
     ensures nothing { grey_group 8 1 [] ≡ Part }
 {}
 
-/// Groups of a page in black and in colours, whose units have three bytes.
+/// Groups of a page in black and in colours, whose pixels have three bytes.
 pub fn groups_of_kinds()
     ensures black_white { group_of Black8 8 1 (0x00 ∷ 0x80 ∷ []) ≡ Group 1 (replicate 8 0x00) [] }
     ensures colour_white { group_of Rgb8 2 1 (0x00 ∷ 0x80 ∷ []) ≡ Group 1 (replicate 6 0xFF) [] }

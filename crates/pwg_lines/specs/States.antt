@@ -15,7 +15,7 @@ pending row (Literal bytes) = bytes
 pending row Full = 0
 pending row (Failed fault) = 0
 
--- how many units the current run gives, or how many bytes the current literal
+-- how many pixels the current run gives, or how many bytes the current literal
 abbrev pub gives : State → ℕ
 gives Start = 0
 gives Packet = 0
@@ -33,7 +33,7 @@ least_gives (Literal bytes) = 1
 least_gives Full = 0
 least_gives (Failed fault) = 0
 
--- how many bytes of the unit of a run are read; they are put after the filled bytes of the line
+-- how many bytes of the pixel of a run are read; they are put after the filled bytes of the line
 abbrev pub read_in : State → ℕ
 read_in Start = 0
 read_in Packet = 0
@@ -42,7 +42,7 @@ read_in (Literal bytes) = 0
 read_in Full = 0
 read_in (Failed fault) = 0
 
--- the least number of units of the line after the current packet
+-- the least number of pixels of the line after the current packet
 abbrev pub least_left : State → ℕ
 least_left Start = 0
 least_left Packet = 1
@@ -69,7 +69,7 @@ IsOpen (Literal bytes) = Unit {0}
 IsOpen Full = ⊥
 IsOpen (Failed fault) = ⊥
 
--- the state after a packet: before the next one, or after the group where no units are left
+-- the state after a packet: before the next one, or after the group where no pixels are left
 abbrev pub behind_packet : ℕ → State
 behind_packet zero = Full
 behind_packet (suc left) = Packet
@@ -83,14 +83,14 @@ longer front more count = record {
 }
 
 -- What the bytes that follow are read as, where the current packet waits for `count` bytes, of which it makes more of
--- the line, and the line has `left` units after it.
+-- the line, and the line has `left` pixels after it.
 abbrev pub read_behind : KindRow → ℕ → ℕ → GroupFront → (List ℕ → List ℕ) → ℕ → List ℕ → GroupRead
 read_behind row most left front makes count rest =
     if nat_lt (length rest) count then Part
     else line_at row most left (longer front (makes (take count rest)) count) (drop count rest)
 
--- What the bytes that follow are read as, where the line has `left` units after the current packet, and `part` is what
--- is read of the unit of a run.
+-- What the bytes that follow are read as, where the line has `left` pixels after the current packet, and `part` is what
+-- is read of the pixel of a run.
 abbrev pub read_on : State → KindRow → ℕ → ℕ → ℕ → ℕ → GroupFront → List ℕ → List ℕ → GroupRead
 read_on Start row units lines most left front part rest = group_at row units lines rest
 read_on Packet row units lines most left front part rest = line_at row most left front rest
@@ -109,7 +109,7 @@ IsAt (Literal n) row left sofar = 1 ≤ n
 IsAt Full row left sofar = left ≡ 0
 IsAt (Failed fault) row left sofar = 1 ≤ length sofar
 
--- A reader in this state, with this much of the line and of the unit of a run, reads what follows as the group is read
+-- A reader in this state, with this much of the line and of the pixel of a run, reads what follows as the group is read
 -- that the bytes `sofar` begin.
 pub record Stands (row : KindRow) (units lines : ℕ) (state : State) (repeats : ℕ) (line part : List ℕ) (left : ℕ)
     (sofar : List ℕ) : Type 0 where
