@@ -8,7 +8,7 @@
 //!   none.
 //!
 //! `laws`, after any accepted events from the start: an edge is sent only by a tile that is taken or posted, each such
-//! tile has the edges that it needs, each posted one has sent its own, and no edge is sent twice
+//! tile has the edges that it needs, each posted one has sent its own, and no edge is listed twice
 //! (`every_run_is_legal`). Where no tile is taken and not all are posted, one is ready
 //! (`idle_seats_have_a_ready_tile`). Where each tile's dots and edges are right if the edges that come to it are
 //! (`IsRecord`), they are right, whatever the events (`any_order`).
