@@ -4,7 +4,7 @@
 //! `feed` answers `More` where these bytes are a part of a command, and the whole piece was used; `One` where they are
 //! a whole command, whatever follows, and then the reader stands for none and `rows` has the rows of a raster; and
 //! `Fault` where they have a fault, whatever follows, which shows with the last byte that was used. After a fault each
-//! call answers it again, and uses nothing. A piece that is not empty is used by a byte at least.
+//! call answers it again, and uses nothing. Before a fault a piece that is not empty is used by a byte at least.
 //!
 //! `end` answers `Cut` exactly inside a command, with the offset of its first byte. `make` takes the memory for the
 //! rows of the largest raster, or answers `Memory`; no other call takes memory.

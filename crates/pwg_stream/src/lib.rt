@@ -8,7 +8,7 @@
 //! - `begin` uses the sync word.
 //! - `next_page`, where no line of the page before is left: either the next 1,796 bytes were a header that is accepted,
 //!   and the page has its form, the next number up to 9,999, and all its lines left; or the text is at its end; or the
-//!   stream has no page more, and ends with this fault.
+//!   stream has no further page, and ends with this fault.
 //! - `next_line`, where a line of the page is left: either the next bytes were a group of this page, whatever follows;
 //!   or the last lines of the page, read from the text, stop at this line with this cause.
 //! - For each of the three: bytes that are used are a prefix of the text, and nothing is lost where the call stops
