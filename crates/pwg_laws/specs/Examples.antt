@@ -33,9 +33,9 @@ small_header = header_bytes small_form 360 360
 abbrev pub small_bytes : List ℕ
 small_bytes = small_header ++ (0x00 ∷ 0x03 ∷ 0xD1 ∷ 0x00 ∷ 0x02 ∷ 0x9F ∷ 0x00 ∷ 0xA3 ∷ [])
 
--- its bytes without the last
-abbrev pub small_front : List ℕ
-small_front = small_header ++ (0x00 ∷ 0x03 ∷ 0xD1 ∷ 0x00 ∷ 0x02 ∷ 0x9F ∷ 0x00 ∷ [])
+-- its bytes without the last one
+abbrev pub small_prefix : List ℕ
+small_prefix = small_header ++ (0x00 ∷ 0x03 ∷ 0xD1 ∷ 0x00 ∷ 0x02 ∷ 0x9F ∷ 0x00 ∷ [])
 
 -- what a stream of the sync word and these bytes is read as
 abbrev pub read : List ℕ → Stream

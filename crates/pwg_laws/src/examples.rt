@@ -12,7 +12,7 @@ ghost use Rattle.pwg_definitions.specs.declared.faults.LineFault.TheVariants.{Gr
 ghost use Rattle.pwg_definitions.specs.declared.pages.Kind.TheVariants.{Black8, Rgb8};
 ghost use Rattle.pwg_laws.specs.Examples.{checked, form_sized, good, grey_group, group_of, header_sized, of_kind};
 ghost use Rattle.pwg_laws.specs.Examples.{wants};
-ghost use Rattle.pwg_laws.specs.Examples.{pages_then, read, small_bytes, small_form, small_front, small_header};
+ghost use Rattle.pwg_laws.specs.Examples.{pages_then, read, small_bytes, small_form, small_prefix, small_header};
 ghost use Rattle.pwg_laws.specs.Examples.{small_page};
 
 /// The bytes of a written header, by offset.
@@ -36,7 +36,7 @@ pub fn small_streams()
     ensures whole { read small_bytes ≡ pages_then (small_page ∷ []) Done }
     ensures twice { read (small_bytes ++ small_bytes) ≡ pages_then (small_page ∷ small_page ∷ []) Done }
     ensures no_page { read [] ≡ pages_then [] Done }
-    ensures cut { read small_front ≡ pages_then [] (Fault 1 2 cause.Truncated) }
+    ensures cut { read small_prefix ≡ pages_then [] (Fault 1 2 cause.Truncated) }
     ensures cut_header { read (take 1795 small_header) ≡ pages_then [] (Fault 1 0 cause.Truncated) }
     ensures cut_second { read (small_bytes ++ 0x50 ∷ []) ≡ pages_then (small_page ∷ []) (Fault 2 0 cause.Truncated) }
     ensures no_lines { read small_header ≡ pages_then [] (Fault 1 1 cause.Truncated) }

@@ -34,7 +34,7 @@ pub fn units_of(left: usize, first: u8) -> usize
 }
 
 /// Where a reader stands after a packet, where the line has `left` pixels left.
-pub fn state_behind(left: usize) -> State
+pub fn state_after(left: usize) -> State
     ensures { result ≡ behind_packet left }
 {
     if left == 0 {

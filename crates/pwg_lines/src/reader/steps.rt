@@ -6,7 +6,7 @@ ghost use Rattle.pwg_definitions.specs.Header.{row_of};
 
 use crate::buffer::{fill_bytes, fill_units};
 use crate::reader::LineReader;
-use crate::states::{State, state_behind, units_of};
+use crate::states::{State, state_after, units_of};
 use crate::unit::{unit_of, white_of};
 use pwg_definitions::LineFault;
 
@@ -95,7 +95,7 @@ impl LineReader {
         }
         fill_units(&mut self.line, self.filled, read, &bytes[..wanted], units);
         self.filled += units * unit;
-        self.state = state_behind(self.left);
+        self.state = state_after(self.left);
         wanted
     }
 
@@ -111,7 +111,7 @@ impl LineReader {
         self.state = if count < wanted {
             State::Literal(wanted - count)
         } else {
-            state_behind(self.left)
+            state_after(self.left)
         };
         count
     }

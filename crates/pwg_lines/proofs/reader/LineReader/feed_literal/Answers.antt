@@ -23,7 +23,7 @@ returns-clause-takes c =
             (literal-part _ _ _ _ _ _ _ sofar c.args.wanted _ _ _ _
             (in_state _ _ _ _ _ _ c.args.self.now.line.items c.args.self.now.filled _ sofar c.requires so_far) (omega arith) grown
             (omega arith))
-        | else-count-wanted w ↦ in_state _ _ _ _ _ _ new (c.args.self.now.filled + c.min-count.result) _ _ (sym w.state_behind-self.ensures
+        | else-count-wanted w ↦ in_state _ _ _ _ _ _ new (c.args.self.now.filled + c.min-count.result) _ _ (sym w.state_after-self.ensures
             ∙ sym w.self-is)
             (literal-end _ _ _ _ _ _ _ sofar c.args.wanted _ _ _
             (in_state _ _ _ _ _ _ c.args.self.now.line.items c.args.self.now.filled _ sofar c.requires so_far) (omega arith) grown)

@@ -53,7 +53,7 @@ returns-clause-takes c =
       lines_left = refl;
       stands =
           λ sofar so_far. in_state _ _ _ _ _ _ new (c.args.self.now.filled + c.args.units * c.unit_of-unit.result) _ _
-          (sym c.state_behind-self.ensures)
+          (sym c.state_after-self.ensures)
           (run-end _ _ _ _ _ _ _ sofar c.args.units c.args.read others _ _
           (in_state _ _ _ _ _ _ c.args.self.now.line.items c.args.self.now.filled _ sofar c.requires so_far)
           (count ∙ ap (λ k. k - c.args.read) c.unit_of-unit.ensures.value) grown);
