@@ -1,4 +1,4 @@
 pub mod GroupSizes
 pub mod Grouping
-pub mod Fronts
+pub mod Prefixes
 pub mod Faults

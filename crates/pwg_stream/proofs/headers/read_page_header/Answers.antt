@@ -2,7 +2,7 @@ use Rattle.std.proofs.Common.{◌<◌, ◌≤◌, length, arith, ap, sym, ◌∙
 use Rattle.std.proofs.KnownBytes.{Keeps-trans}
 use Rattle.pwg_definitions.specs.Limits.{header_length}
 use Rattle.pwg_definitions.specs.Header.{check, header_of}
-use Rattle.pwg_stream.proofs.Fronts.{bad_header, cut_header, good_header, too_many, uses-none}
+use Rattle.pwg_stream.proofs.Prefixes.{bad_header, cut_header, good_header, too_many, uses-none}
 use Rattle.pwg_stream.proofs.headers.read_page_header.Goals as goal
 
 pub returns-then-pages-eq-MOST_PAGES-clause-input : goal.returns-then-pages-eq-MOST_PAGES-clause-input

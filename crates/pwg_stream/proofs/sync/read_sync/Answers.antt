@@ -2,7 +2,7 @@ use Rattle.std.proofs.Common.{ap, sym, ◌∙◌}
 use Rattle.std.specs.List.{starts_with}
 use Rattle.std.specs.Prelude.{nat_eq}
 use Rattle.pwg_definitions.specs.Stream.{sync_word}
-use Rattle.pwg_stream.proofs.Fronts.{bad_sync, good_sync}
+use Rattle.pwg_stream.proofs.Prefixes.{bad_sync, good_sync}
 use Rattle.pwg_stream.proofs.sync.read_sync.Goals as goal
 
 pub returns-then-not-starts_with-clause-input : goal.returns-then-not-starts_with-clause-input
