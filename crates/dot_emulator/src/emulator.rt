@@ -69,7 +69,8 @@ impl Emulator {
     ghost use Rattle.escp2_definitions.specs.declared.stops.EmuFault.TheVariants.{OffSheet, Overprint};
     ghost use Rattle.printer_definitions.specs.Printer.{Printer};
     ghost use Rattle.std.specs.List.{list_any};
-    ghost use Rattle.std.specs.Prelude.{IfOk, List, [], OnErr, OnOk, None, nat_le, ℕ, ◌∷◌, ◌*◌, ◌+◌, ◌/◌, ◌≤◌, unwrap_or};
+    ghost use Rattle.std.specs.Prelude.{IfOk, List, [], OnErr, OnOk, None, nat_le, ℕ, ◌∷◌, ◌*◌};
+    ghost use Rattle.std.specs.Prelude.{◌+◌, ◌/◌, ◌≤◌, unwrap_or};
 
     /// The machine of a printer, whose profile passes its checks, at the start of a job. It takes memory later, for the
     /// dots of a sheet.
@@ -86,14 +87,16 @@ impl Emulator {
         }
     }
 
-    /// Runs a command with the rows of a raster, which are `m` rows of `(n + 7) / 8` bytes, and none for other commands.
+    /// Runs a command with the rows of a raster, which are `m` rows of `(n + 7) / 8` bytes, and none for other
+    /// commands.
     ///
-    /// `Ok(Some(sheet))` comes at an eject. After an `Err` the emulator is unchanged. `EmuStop::Memory` may come where a
-    /// sheet gets its first dot, and where a blank one is ejected.
+    /// `Ok(Some(sheet))` comes at an eject. After an `Err` the emulator is unchanged. `EmuStop::Memory` may come
+    /// where a sheet gets its first dot, and where a blank one is ejected.
     pub fn run(&mut self, command: &Command, rows: &[u8]) -> Result<Option<Sheet>, EmuStop>
         requires in_range { in_table command.now ≡ true }
         requires rows_fit { length rows.now ≡ rows_len command.now }
-        ensures { (p : Printer) (m : Machine) → Shows p self.old m → Runs p m command.now rows.now self.old self.new result }
+        ensures { (p : Printer) (m : Machine)
+            → Shows p self.old m → Runs p m command.now rows.now self.old self.new result }
     {
         match *command {
             Command::Raster { head } => self.fire(head, rows),
@@ -106,14 +109,16 @@ impl Emulator {
     fn set(&mut self, command: Command) -> Result<Option<Sheet>, EmuStop>
         requires plain { is_plain command ≡ true }
         requires in_range { in_table command ≡ true }
-        ensures { (p : Printer) (m : Machine) (rows : List ℕ) → Shows p self.old m → Runs p m command rows self.old self.new result }
+        ensures { (p : Printer) (m : Machine) (rows : List ℕ)
+            → Shows p self.old m → Runs p m command rows self.old self.new result }
     {
         self.state = self.state.after(command, self.planes.is_some())?;
         Ok(None)
     }
 
     fn eject(&mut self) -> Result<Option<Sheet>, EmuStop>
-        ensures { (p : Printer) (m : Machine) (rows : List ℕ) → Shows p self.old m → Runs p m c.Eject rows self.old self.new result }
+        ensures { (p : Printer) (m : Machine) (rows : List ℕ)
+            → Shows p self.old m → Runs p m c.Eject rows self.old self.new result }
     {
         let state = self.state.eject()?;
         let planes = self.take_planes()?;
@@ -129,7 +134,8 @@ impl Emulator {
     fn fire(&mut self, head: RasterHead, rows: &[u8]) -> Result<Option<Sheet>, EmuStop>
         requires in_range { in_table (c.Raster head) ≡ true }
         requires rows_fit { length rows.now ≡ rows_len (c.Raster head) }
-        ensures { (p : Printer) (m : Machine) → Shows p self.old m → Runs p m (c.Raster head) rows.now self.old self.new result }
+        ensures { (p : Printer) (m : Machine)
+            → Shows p self.old m → Runs p m (c.Raster head) rows.now self.old self.new result }
     {
         let raster = self.place(head)?;
         if let Some(fault) = self.refuses_dots(raster, rows) {
@@ -147,7 +153,8 @@ impl Emulator {
     // Where a raster stands, or why it is refused whatever its dots.
     fn place(&self, head: RasterHead) -> Result<Raster, EmuFault>
         requires { head.n ≤ last_column }
-        ensures placed { (p : Printer) (dots : List Dot) → AreStepsOf p self.now.steps → IsPlaced p (machine_of self.now.state dots) head result }
+        ensures placed { (p : Printer) (dots : List Dot)
+            → AreStepsOf p self.now.steps → IsPlaced p (machine_of self.now.state dots) head result }
         ensures page { OnOk result (1 ≤ unwrap_or self.now.state.page 0) }
         ensures head { IfOk result (λ r. r.head ≡ head) }
         ensures x { IfOk result (λ r. r.x ≡ self.now.state.across / head.h) }

@@ -77,7 +77,8 @@ impl Raster {
     /// Whether it has a dot at or below the bottom margin.
     pub(crate) fn is_off_sheet(&self, rows: &[u8]) -> bool
         requires { HasRows self.now rows.now }
-        ensures { (g : Grid) → Stands g self.now → result ≡ list_any (λ d. nat_le g.bottom d.y) (fired g self.now rows.now) }
+        ensures { (g : Grid) → Stands g self.now
+            → result ≡ list_any (λ d. nat_le g.bottom d.y) (fired g self.now rows.now) }
     {
         let len = self.row_len();
         for i in 0..self.head.m {
@@ -110,7 +111,8 @@ impl Raster {
         requires inks { planes.now.inks ≡ 4 }
         requires width { planes.now.width ≡ last_column }
         requires height { self.now.end ≤ planes.now.rows }
-        ensures { (g : Grid) (dots : List Dot) → Stands g self.now → IsAbove g self.now rows.now → HasPlaces g.column g.row dots planes.now
+        ensures { (g : Grid) (dots : List Dot)
+            → Stands g self.now → IsAbove g self.now rows.now → HasPlaces g.column g.row dots planes.now
             → result ≡ overprints dots (fired g self.now rows.now) }
     {
         let len = self.row_len();
@@ -134,7 +136,8 @@ impl Raster {
         ensures size { HasSizeOf planes.old planes.new }
         ensures beside { IsKeptFrom (self.now.x + self.now.head.n) planes.old planes.new }
         ensures places { (g : Grid) (dots : List Dot) → Stands g self.now → IsAbove g self.now rows.now
-            → HasPlaces g.column g.row dots planes.old → HasPlaces g.column g.row (dots ++ fired g self.now rows.now) planes.new }
+            → HasPlaces g.column g.row dots planes.old
+            → HasPlaces g.column g.row (dots ++ fired g self.now rows.now) planes.new }
     {
         let len = self.row_len();
         let ink = plane_of(self.ink);

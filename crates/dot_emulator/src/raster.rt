@@ -87,7 +87,8 @@ impl State {
     /// Where a raster stands, or why it is refused whatever its dots.
     pub(crate) fn place(&self, steps: Steps, head: RasterHead) -> Result<Raster, EmuFault>
         requires { head.n ≤ last_column }
-        ensures placed { (p : Printer) (dots : List Dot) → AreStepsOf p steps → IsPlaced p (machine_of self.now dots) head result }
+        ensures placed { (p : Printer) (dots : List Dot)
+            → AreStepsOf p steps → IsPlaced p (machine_of self.now dots) head result }
         ensures page { OnOk result (1 ≤ unwrap_or self.now.page 0) }
         ensures head { IfOk result (λ r. r.head ≡ head) }
         ensures x { IfOk result (λ r. r.x ≡ self.now.across / head.h) }
@@ -116,8 +117,10 @@ impl State {
         ensures page { result.page ≡ self.now.page }
         ensures columns { self.now.columns ≤ result.columns }
         ensures end { raster.x + raster.head.n ≤ result.columns }
-        ensures step { (p : Printer) (dots : List Dot) (rows : List ℕ) → Placed p (machine_of self.now dots) raster.head raster
-            → machine_of result (after p (machine_of self.now dots) (c.Raster raster.head) rows).dots ≡ after p (machine_of self.now dots) (c.Raster raster.head) rows }
+        ensures step { (p : Printer) (dots : List Dot) (rows : List ℕ)
+            → Placed p (machine_of self.now dots) raster.head raster
+            → machine_of result (after p (machine_of self.now dots) (c.Raster raster.head) rows).dots
+            ≡ after p (machine_of self.now dots) (c.Raster raster.head) rows }
     {
         let end = raster.x + u32::from(raster.head.n);
         State {

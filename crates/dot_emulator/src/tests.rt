@@ -1,5 +1,5 @@
-//! Commands on a small head, with refusals and sheets worked by hand: columns and rows of dots stand 10/3600 inch apart,
-//! and three nozzles 20.
+//! Commands on a small head, with refusals and sheets worked by hand: columns and rows of dots stand 10/3600 inch
+//! apart, and three nozzles 20.
 ghost use Rattle.escp2_definitions.specs.Commands.{rows_len as rows_len_of};
 ghost use Rattle.std.specs.Prelude.{◌≡◌};
 

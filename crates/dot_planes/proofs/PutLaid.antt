@@ -1,5 +1,6 @@
 -- Planes over which a row is laid.
-use Rattle.std.proofs.Common.{◌≡◌, ℕ, ◌+◌, ◌-◌, ◌*◌, ◌<◌, ◌≤◌, ◌⊎◌, false, ◌&&◌, ◌||◌, nat_le, nat_lt, List, length, map, refl, subst, sym, ◌∙◌, ap, arith, inl, inr, get_or}
+use Rattle.std.proofs.Common.{◌≡◌, ℕ, ◌+◌, ◌-◌, ◌*◌, ◌<◌, ◌≤◌, ◌⊎◌, false, ◌&&◌, ◌||◌, nat_le, nat_lt, List, length}
+use Rattle.std.proofs.Common.{map, refl, subst, sym, ◌∙◌, ap, arith, inl, inr, get_or}
 use Rattle.std.proofs.lemmas.Bool.{le-leb, le-ltb, lt-leb, lt-ltb}
 use Rattle.std.specs.List.{list_any}
 use Rattle.weave_definitions.specs.Weave.{count_from}
@@ -54,7 +55,9 @@ lays t old i y x row dots a k over new same p laid =
       others = λ j r other low c. puts.others j r other low c;
     })
 
-pub meets-same : (t : DotTable) (ink y x : ℕ) (row : List ℕ) (dots : ℕ) (other : List ℕ) → other ≡ row_at (row_len t.width) t.bytes (ink * t.rows + y)
+pub meets-same : (t : DotTable) (ink y x : ℕ) (row : List ℕ) (dots : ℕ) (other : List ℕ)
+    → other ≡ row_at (row_len t.width) t.bytes (ink * t.rows + y)
     → list_any (λ k. row_dot row k && row_dot other (x + k)) (count_from 0 dots) ≡ meets t ink y x row dots
 unfolding dot
-meets-same t ink y x row dots other is = ap (λ (bytes : List ℕ). list_any (λ k. row_dot row k && row_dot bytes (x + k)) (count_from 0 dots)) is
+meets-same t ink y x row dots other is =
+    ap (λ (bytes : List ℕ). list_any (λ k. row_dot row k && row_dot bytes (x + k)) (count_from 0 dots)) is

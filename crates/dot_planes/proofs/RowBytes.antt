@@ -1,5 +1,6 @@
 -- Rows of bytes that are as long as each other, and where they stand.
-use Rattle.std.proofs.Common.{◌≡◌, ◌≢◌, ◌⊎◌, ℕ, ◌+◌, ◌*◌, ◌<◌, ◌≤◌, List, drop, get_or, sym, ◌∙◌, ap, arith, inl, inr, length-take, replicate}
+use Rattle.std.proofs.Common.{◌≡◌, ◌≢◌, ◌⊎◌, ℕ, ◌+◌, ◌*◌, ◌<◌, ◌≤◌, List, drop, get_or, sym, ◌∙◌, ap}
+use Rattle.std.proofs.Common.{arith, inl, inr, length-take, replicate}
 use Rattle.std.proofs.lemmas.Bool.{cases_lt}
 use Rattle.std.proofs.lemmas.List.{get_or-drop, get_or-replicate, get_or-take, get_or_past, length-replicate}
 use Rattle.std.proofs.Math.Nat.{mul-le-mul_right}

@@ -21,17 +21,20 @@ pub record IsMoved (left right shift new : ℕ) : Type 0 where
   pub at_right : (k : ℕ) → k < 8 → 8 ≤ k + shift → bit_at new k ≡ bit_at right (k + shift - 8)
 
 -- it takes the tile's dots from one place to before another
-pub taken_dot : (dots : List ℕ) (n shift left right from to new k offset : ℕ) → IsByte dots n shift left right from to → IsMoved left right shift new
+pub taken_dot : (dots : List ℕ) (n shift left right from to new k offset : ℕ)
+    → IsByte dots n shift left right from to → IsMoved left right shift new
     → k < 8 → offset < 64 → 8 * n + shift + k ≡ offset + 8 → bit_at new k ≡ row_dot dots offset
 taken_dot dots n shift left right from to new k offset b m low inside here = elim (cases_lt (k + shift) 8) [
   | inl before ↦
       let byte : n - 1 ≡ offset / 8 = omega (arith, b.low) in
       let bit : k + shift ≡ offset % 8 = omega (arith, b.low) in
-      m.at_left k before ∙ ap (λ l. bit_at l (k + shift)) (b.left_is (omega (arith, b.low)) ∙ ap (λ i. get_or dots i 0) byte) ∙ ap (bit_at (get_or dots (offset / 8) 0)) bit
+      m.at_left k before ∙ ap (λ l. bit_at l (k + shift)) (b.left_is (omega (arith, b.low))
+      ∙ ap (λ i. get_or dots i 0) byte) ∙ ap (bit_at (get_or dots (offset / 8) 0)) bit
   | inr after ↦
       let byte : n ≡ offset / 8 = omega (arith, b.low) in
       let bit : k + shift - 8 ≡ offset % 8 = omega (arith, b.low) in
-      m.at_right k low after ∙ ap (λ r. bit_at r (k + shift - 8)) (b.right_is (omega (arith, b.low)) ∙ ap (λ i. get_or dots i 0) byte) ∙ ap (bit_at (get_or dots (offset / 8) 0)) bit
+      m.at_right k low after ∙ ap (λ r. bit_at r (k + shift - 8)) (b.right_is (omega (arith, b.low))
+      ∙ ap (λ i. get_or dots i 0) byte) ∙ ap (bit_at (get_or dots (offset / 8) 0)) bit
 ]
 
 pub taken_from : (dots : List ℕ) (n shift left right from to k offset : ℕ) → IsByte dots n shift left right from to

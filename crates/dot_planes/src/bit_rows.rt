@@ -4,14 +4,16 @@ ghost use Rattle.dot_planes.specs.Tables.{row_dot, row_len};
 ghost use Rattle.escp2_definitions.specs.Machine.{bit_at};
 ghost use Rattle.pwg_definitions.specs.Limits.{most_columns};
 ghost use Rattle.std.specs.List.{list_any};
-ghost use Rattle.std.specs.Prelude.{length, nat_le, nat_lt, slice_index, true, ℕ, ◌&&◌, ◌*◌, ◌+◌, ◌-◌, ◌/◌, ◌<◌, ◌||◌, ◌≡◌, ◌≤◌};
+ghost use Rattle.std.specs.Prelude.{length, nat_le, nat_lt, slice_index, true, ℕ, ◌&&◌, ◌*◌, ◌+◌};
+ghost use Rattle.std.specs.Prelude.{◌-◌, ◌/◌, ◌<◌, ◌||◌, ◌≡◌, ◌≤◌};
 ghost use Rattle.weave_definitions.specs.Weave.{count_from};
 
 fn are_bytes(bytes: &[u8])
     ensures { (k : ℕ) → slice_index bytes.now k < 256 }
 {}
 
-// The dots of a byte, so many places further to the left: those that leave it, at the end of a byte, and those that stay.
+// The dots of a byte, so many places further to the left: those that leave it, at the end of a byte, and those that
+// stay.
 #[inline(always)]
 fn moved(byte: u8, by: usize) -> (u8, u8)
     requires { by ≤ 8 }
@@ -98,7 +100,8 @@ fn lay_part(over: &mut [u8], x: usize, row: &[u8], dots: usize, from: usize, to:
     requires len { length row.now ≡ row_len dots }
     requires order { from ≤ to }
     requires most { to ≤ length row.now + 1 }
-    ensures dots { (c : ℕ) → row_dot over.new c ≡ (row_dot over.old c || is_in_bytes (x / 8 + from) (x / 8 + to) c && laid_dot row.now dots x c) }
+    ensures dots { (c : ℕ) → row_dot over.new c
+        ≡ (row_dot over.old c || is_in_bytes (x / 8 + from) (x / 8 + to) c && laid_dot row.now dots x c) }
     ensures len { length over.new ≡ length over.old }
 {
     let place = x / 8;
@@ -116,7 +119,8 @@ fn lay_whole(over: &mut [u8], x: usize, row: &[u8], dots: usize, many: usize)
     requires small { x + dots ≤ most_columns }
     requires len { length row.now ≡ row_len dots }
     requires whole { 8 * many ≤ dots - 8 }
-    ensures dots { (c : ℕ) → row_dot over.new c ≡ (row_dot over.old c || is_in_bytes (x / 8 + 1) (x / 8 + 1 + many) c && laid_dot row.now dots x c) }
+    ensures dots { (c : ℕ) → row_dot over.new c
+        ≡ (row_dot over.old c || is_in_bytes (x / 8 + 1) (x / 8 + 1 + many) c && laid_dot row.now dots x c) }
     ensures len { length over.new ≡ length over.old }
 {
     let next = x / 8 + 1;

@@ -146,7 +146,8 @@ impl Planes {
     /// How many dots an ink has.
     pub fn count(&self, ink: u8) -> u64
         requires { ink < self.now.inks }
-        ensures { result ≡ sum_by (λ y. count_by (λ x. dot self.now ink y x) (count_from 0 self.now.width)) (count_from 0 self.now.rows) }
+        ensures { result ≡ sum_by
+            (λ y. count_by (λ x. dot self.now ink y x) (count_from 0 self.now.width)) (count_from 0 self.now.rows) }
     {
         let mut dots = 0u64;
         for y in 0..self.rows {

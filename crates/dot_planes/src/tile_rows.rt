@@ -88,8 +88,10 @@ fn put_byte(old: u8, dots: &[u8], n: usize, shift: usize, most: usize) -> u8
     requires dots { length dots.now ≡ 8 }
     requires n { n ≤ 8 }
     requires shift { shift < 8 }
-    ensures pixels { (k offset : ℕ) → k < 8 → k < most → offset < 64 → 8 * n + shift + k ≡ offset + 8 → bit_at result k ≡ row_dot dots.now offset }
-    ensures others { (k : ℕ) → k < 8 → ((offset : ℕ) → k < most → offset < 64 → ¬ (8 * n + shift + k ≡ offset + 8)) → bit_at result k ≡ bit_at old k }
+    ensures pixels { (k offset : ℕ) → k < 8
+        → k < most → offset < 64 → 8 * n + shift + k ≡ offset + 8 → bit_at result k ≡ row_dot dots.now offset }
+    ensures others { (k : ℕ) → k < 8 → ((offset : ℕ) → k < most → offset < 64 → ¬ (8 * n + shift + k ≡ offset + 8))
+        → bit_at result k ≡ bit_at old k }
 {
     let left = if n > 0 { dots[n - 1] } else { 0 };
     let right = if n < 8 { dots[n] } else { 0 };

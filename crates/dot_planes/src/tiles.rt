@@ -86,8 +86,8 @@ impl TileBits {
 }
 
 impl Planes {
-    /// Sets the pixels of a tile in the slab of `height` rows that begins at row `at`: each is on or off then as the tile
-    /// has it, in every ink of the planes. All other dots stay.
+    /// Sets the pixels of a tile in the slab of `height` rows that begins at row `at`: each is on or off then as the
+    /// tile has it, in every ink of the planes. All other dots stay.
     pub fn put_tile(&mut self, at: u32, height: u32, d: &TileDots)
         requires height { 1 ≤ height }
         requires slab { at + height ≤ self.old.rows }

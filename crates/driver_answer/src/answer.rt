@@ -1,5 +1,6 @@
 //! The answers of a run.
-ghost use Rattle.driver_answer.specs.Answers.{check_words, input_name as input_name_of, job_name as job_name_of, profile_words, text_words, usage_name as usage_name_of};
+ghost use Rattle.driver_answer.specs.Answers.{check_words, input_name as input_name_of, job_name as job_name_of};
+ghost use Rattle.driver_answer.specs.Answers.{profile_words, text_words, usage_name as usage_name_of};
 ghost use Rattle.arrayvec.specs.ArrayString.{array_string_len};
 ghost use Rattle.std.specs.Fmt.{decimal};
 ghost use Rattle.std.specs.Prelude.{codes, ◌+◌, ◌++◌, ◌≡◌, ◌≤◌, []};
@@ -121,7 +122,8 @@ fn push_profile_cause(cause: ProfileCause, out: &mut ArrayString<160>)
 
 fn push_usage(fault: UsageFault, out: &mut ArrayString<160>)
     requires { array_string_len out.old ≡ 0 }
-    ensures { out.new.bytes ≡ out.old.bytes ++ (codes "usage: word " ++ decimal fault.word ++ codes ": " ++ usage_name_of fault.cause ++ codes "\n") }
+    ensures { out.new.bytes ≡ out.old.bytes
+        ++ (codes "usage: word " ++ decimal fault.word ++ codes ": " ++ usage_name_of fault.cause ++ codes "\n") }
 {
     out.push_str("usage: word ");
     push_number(fault.word, out);
@@ -132,7 +134,8 @@ fn push_usage(fault: UsageFault, out: &mut ArrayString<160>)
 
 fn push_profile(line: u32, cause: ProfileCause, out: &mut ArrayString<160>)
     requires { array_string_len out.old ≡ 0 }
-    ensures { out.new.bytes ≡ out.old.bytes ++ (codes "profile: line " ++ decimal line ++ codes ": " ++ profile_words cause ++ codes "\n") }
+    ensures { out.new.bytes ≡ out.old.bytes
+        ++ (codes "profile: line " ++ decimal line ++ codes ": " ++ profile_words cause ++ codes "\n") }
 {
     out.push_str("profile: line ");
     push_number(line, out);
@@ -143,7 +146,8 @@ fn push_profile(line: u32, cause: ProfileCause, out: &mut ArrayString<160>)
 
 fn push_input(page: u32, line: u32, cause: InputCause, out: &mut ArrayString<160>)
     requires { array_string_len out.old ≡ 0 }
-    ensures { out.new.bytes ≡ out.old.bytes ++ (codes "input: page " ++ decimal page ++ codes " line " ++ decimal line ++ codes ": " ++ input_name_of cause ++ codes "\n") }
+    ensures { out.new.bytes ≡ out.old.bytes ++ (codes "input: page "
+        ++ decimal page ++ codes " line " ++ decimal line ++ codes ": " ++ input_name_of cause ++ codes "\n") }
 {
     out.push_str("input: page ");
     push_number(page, out);
@@ -165,7 +169,8 @@ fn push_write(page: u32, out: &mut ArrayString<160>)
 
 fn push_over_cap(page: u32, total: u64, dots: u64, cap: u64, out: &mut ArrayString<160>)
     requires { array_string_len out.old ≡ 0 }
-    ensures { out.new.bytes ≡ out.old.bytes ++ (codes "over cap: page " ++ decimal page ++ codes ": total " ++ decimal total ++ codes ", page " ++ decimal dots ++ codes ", cap " ++ decimal cap ++ codes "\n") }
+    ensures { out.new.bytes ≡ out.old.bytes ++ (codes "over cap: page " ++ decimal page ++ codes ": total "
+        ++ decimal total ++ codes ", page " ++ decimal dots ++ codes ", cap " ++ decimal cap ++ codes "\n") }
 {
     out.push_str("over cap: page ");
     push_number(page, out);
@@ -180,7 +185,8 @@ fn push_over_cap(page: u32, total: u64, dots: u64, cap: u64, out: &mut ArrayStri
 
 fn push_job(offset: u64, cause: JobStop, out: &mut ArrayString<160>)
     requires { array_string_len out.old ≡ 0 }
-    ensures { out.new.bytes ≡ out.old.bytes ++ (codes "job: offset " ++ decimal offset ++ codes ": " ++ job_name_of cause ++ codes "\n") }
+    ensures { out.new.bytes ≡ out.old.bytes
+        ++ (codes "job: offset " ++ decimal offset ++ codes ": " ++ job_name_of cause ++ codes "\n") }
 {
     out.push_str("job: offset ");
     push_wide(offset, out);

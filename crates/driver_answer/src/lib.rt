@@ -1,5 +1,5 @@
-//! What a run of the driver answers: its answers, and the exit status and the error line of each. `driver_core` re-exports
-//! the types.
+//! What a run of the driver answers: its answers, and the exit status and the error line of each. `driver_core`
+//! re-exports the types.
 #![tactic(auto)]
 
 mod answer;

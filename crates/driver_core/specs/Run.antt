@@ -36,7 +36,8 @@ use Rattle.driver_core.specs.declared.stops.ShowStop.{ShowStop}
 use Rattle.driver_core.specs.Caps.{begun_by}
 use Rattle.driver_core.specs.Jobs.{list_answer, play_answer}
 use Rattle.driver_core.specs.Outside.{HasFailed, HasRisen, IsCalm, Meters, NothingFailed, Outside, Outsides, Texts, Untouched}
-use Rattle.driver_core.specs.Printing.{CountsOneMore, CountsPages, GoesOver, MeetsFault, PrintOutcome, PrintsAll, PrintsSome, StopsInPage, print_answer}
+use Rattle.driver_core.specs.Printing.{CountsOneMore, CountsPages, GoesOver, MeetsFault, PrintOutcome, PrintsAll}
+use Rattle.driver_core.specs.Printing.{PrintsSome, StopsInPage, print_answer}
 use Rattle.driver_core.specs.Showing.{ShowOutcome, show_answer}
 
 -- ---- what a run comes to, by the meaning of its words
@@ -58,7 +59,8 @@ metered job meters = record { before = begun_by job.verb job.cap meters.before; 
 
 -- what a command comes to with its profile, on meters whose caps are set
 abbrev pub VerbOutcome : Verb → Job → Profile → Outsides → Meters → Answer → Type 0
-VerbOutcome verb.Print job p o meters a = Did PrintStop (PrintOutcome (printer_of p) (table_of job.kernel) o.input o.out meters) print_answer a
+VerbOutcome verb.Print job p o meters a =
+    Did PrintStop (PrintOutcome (printer_of p) (table_of job.kernel) o.input o.out meters) print_answer a
 VerbOutcome verb.Dots job p o meters a =
     (meters.now ≡ meters.before) × Did PlayStop (PlayOutcome (printer_of p) job.most o.input o.out) play_answer a
 VerbOutcome verb.List job p o meters a = ⊥
@@ -115,7 +117,8 @@ abbrev pub ProfileIs : Option (List NamedText) → List ℕ → Result Profile R
 ProfileIs told name r = (other : Result Profile Refusal) → IsJobProfile told name other → other ≡ r
 
 -- The words ask for this command, with a profile that is this one or is refused so.
-pub record AsksFor (words : List (List ℕ)) (told : Option (List NamedText)) (command : Verb) (job : Job) (r : Result Profile Refusal) : Type 0 where
+pub record AsksFor (words : List (List ℕ))
+    (told : Option (List NamedText)) (command : Verb) (job : Job) (r : Result Profile Refusal) : Type 0 where
   pub means : job_meaning words ≡ Ok job
   pub command_is : job.verb ≡ command
   pub profile_is : ProfileIs told (profile_named words) r

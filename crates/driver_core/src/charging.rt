@@ -46,7 +46,8 @@ pub fn charge(
     ensures counted { OnOk result (map (λ meter. account meter) meters.new.items
         ≡ map (added dots.now) (map (λ meter. account meter) meters.old.items)) }
     ensures over { IfErr result (RefusesPage number dots.now (map (λ meter. account meter) meters.old.items)) }
-    ensures kept { OnErr result (map (λ meter. account meter) meters.new.items ≡ map (λ meter. account meter) meters.old.items) }
+    ensures kept { OnErr result
+        (map (λ meter. account meter) meters.new.items ≡ map (λ meter. account meter) meters.old.items) }
 {
     match admit(meters, dots) {
         Ok(()) => {

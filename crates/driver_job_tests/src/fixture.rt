@@ -30,7 +30,8 @@ pub fn sink(alloc: Global, room: usize) -> Result<MemSink, Fail> {
     Ok(MemSink::make(alloc, room, Vec::new(alloc), Vec::new(alloc))?)
 }
 
-/// Runs these words, at most nine, over these bytes. `reads` has the most bytes of a read, and the number of a read that fails.
+/// Runs these words, at most nine, over these bytes. `reads` has the most bytes of a read, and the number of a read
+/// that fails.
 pub fn run_on<R: Threads + Sync>(
     rt: &R,
     alloc: Global,

@@ -1,5 +1,5 @@
-//! The driver as a program: words from the command line, pages from standard input, the job to standard output, the error
-//! line to standard error, profiles from the files of the current folder, and the status as the exit code.
+//! The driver as a program: words from the command line, pages from standard input, the job to standard output, the
+//! error line to standard error, profiles from the files of the current folder, and the status as the exit code.
 #![tactic(auto)]
 
 mod command_line;

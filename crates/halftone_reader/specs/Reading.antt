@@ -24,7 +24,8 @@ pub record ReadsPage (want : Wanted) (old new : PageReader) (before now : Option
   pub unended : has_ended new ≡ has_ended old
 
 -- The next page was read, and the planes have the dots of its halftone.
-pub record ReadsHalftone (p : Printer) (k : Table) (old new : PageReader) (before now : Option (List ℕ)) (form : PageForm) (planes : DotTable) : Type 0 where
+pub record ReadsHalftone (p : Printer) (k : Table)
+    (old new : PageReader) (before now : Option (List ℕ)) (form : PageForm) (planes : DotTable) : Type 0 where
   pub page : Page
   pub reads : ReadsPage (wanted_by p) old new before now page
   pub form_is : form ≡ page.form

@@ -14,9 +14,11 @@ pub record SumSoFar (all left sum : InkCounts) : Type 0 where
 pub settled_next : {B : Type 0} (f : B → Account) (xs : List B) (i : ℕ) (x : B) → i < length xs → x ≡ get_or xs i x
     → settled (drop i (map f xs)) ≡ together (f x).totals (settled (drop (i + 1) (map f xs)))
 settled_next f xs i x h is =
-    ap settled (drop_more (map f xs) i (f x) (omega (arith, length-map xs f))) ∙ ap (λ (a : Account). settled (a ∷ drop (i + 1) (map f xs))) (sym (value_at f xs i x h is))
+    ap settled (drop_more (map f xs) i (f x) (omega (arith, length-map xs f)))
+    ∙ ap (λ (a : Account). settled (a ∷ drop (i + 1) (map f xs))) (sym (value_at f xs i x h is))
 
-pub sum_fits : (all left rest sum total : InkCounts) → left ≡ together total rest → SumSoFar all left sum → Fits all → Fits (together sum total)
+pub sum_fits : (all left rest sum total : InkCounts)
+    → left ≡ together total rest → SumSoFar all left sum → Fits all → Fits (together sum total)
 sum_fits all left rest sum total next so_far fits = record {
   k = omega (arith, fits.k, so_far.k, ap (λ (n : InkCounts). n.k) next);
   c = omega (arith, fits.c, so_far.c, ap (λ (n : InkCounts). n.c) next);
@@ -24,7 +26,8 @@ sum_fits all left rest sum total next so_far fits = record {
   y = omega (arith, fits.y, so_far.y, ap (λ (n : InkCounts). n.y) next);
 }
 
-pub sum_more : (all left rest sum total : InkCounts) → left ≡ together total rest → SumSoFar all left sum → SumSoFar all rest (together sum total)
+pub sum_more : (all left rest sum total : InkCounts)
+    → left ≡ together total rest → SumSoFar all left sum → SumSoFar all rest (together sum total)
 sum_more all left rest sum total next so_far = record {
   k = omega (arith, so_far.k, ap (λ (n : InkCounts). n.k) next);
   c = omega (arith, so_far.c, ap (λ (n : InkCounts). n.c) next);

@@ -88,7 +88,8 @@ fn cap_one(meter: &mut Box<dyn Meter>, cap: u64)
 /// Counts these dots on each meter. Each has room for them, as `admit` tells.
 pub fn add_all(meters: &mut Vec<Box<dyn Meter>>, n: &InkCounts)
     requires { All (HasRoom n.now) (map (λ meter. account meter) meters.old.items) }
-    ensures { map (λ meter. account meter) meters.new.items ≡ map (added n.now) (map (λ meter. account meter) meters.old.items) }
+    ensures { map (λ meter. account meter) meters.new.items
+        ≡ map (added n.now) (map (λ meter. account meter) meters.old.items) }
 {
     for i in 0..meters.len() {
         add_one(&mut meters[i], n);
@@ -96,10 +97,12 @@ pub fn add_all(meters: &mut Vec<Box<dyn Meter>>, n: &InkCounts)
 }
 
 /// Sets the cap of each meter.
-// The condition is what the type says. Without one, a call from another crate counts as one that makes meters of its own.
+// The condition is what the type says. Without one, a call from another crate counts as one that makes meters of its
+// own.
 pub fn cap_all(meters: &mut Vec<Box<dyn Meter>>, cap: u64)
     requires { cap < 2 ^ 64 }
-    ensures { map (λ meter. account meter) meters.new.items ≡ map (capped cap) (map (λ meter. account meter) meters.old.items) }
+    ensures { map (λ meter. account meter) meters.new.items
+        ≡ map (capped cap) (map (λ meter. account meter) meters.old.items) }
 {
     for i in 0..meters.len() {
         cap_one(&mut meters[i], cap);

@@ -27,7 +27,8 @@ impl Given {
     pub(crate) fn make(p: &Profile, kind: Kind, pixels: &[u8], table: &Moved) -> Given
         requires pixels { length pixels.now ≤ 64 * (row_of kind).unit }
         requires table { IsBlackTable p.now.black_start table.now }
-        ensures { (n : ℕ) → n * (row_of kind).unit ≤ length pixels.now → IsGiven (printer_of p.now) kind pixels.now n result }
+        ensures { (n : ℕ) → n * (row_of kind).unit ≤ length pixels.now
+            → IsGiven (printer_of p.now) kind pixels.now n result }
     {
         match kind {
             Kind::Gray8 => grey_given(p.inks, inverted(pixels)),
@@ -53,7 +54,8 @@ impl Given {
 // What pixels of these darknesses give.
 #[inline]
 fn grey_given(inks: InkSet, dark: Values) -> Given
-    ensures { (ink : Ink) (x : ℕ) → x < 64 → slice_index (given_to result ink) x ≡ grey_ink inks ink (slice_index dark x) }
+    ensures { (ink : Ink) (x : ℕ)
+        → x < 64 → slice_index (given_to result ink) x ≡ grey_ink inks ink (slice_index dark x) }
 {
     match inks {
         InkSet::K | InkSet::Cmy => Given {
@@ -99,7 +101,8 @@ fn colour_given(inks: InkSet, table: &Moved, pixels: &[u8]) -> Given
 #[inline]
 fn complements_given(pixels: &[u8]) -> Given
     requires { length pixels.now ≤ 192 }
-    ensures { (ink : Ink) (x : ℕ) → 3 * x + 3 ≤ length pixels.now → slice_index (given_to result ink) x ≡ complement (colour_at pixels.now x) ink }
+    ensures { (ink : Ink) (x : ℕ) → 3 * x + 3 ≤ length pixels.now
+        → slice_index (given_to result ink) x ≡ complement (colour_at pixels.now x) ink }
 {
     Given {
         black: [0; PIXELS],

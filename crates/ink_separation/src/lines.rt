@@ -9,7 +9,8 @@ ghost use Rattle.printer_profile.specs.Validity.{check};
 ghost use Rattle.pwg_definitions.specs.Header.{row_of};
 ghost use Rattle.pwg_definitions.specs.Limits.{most_columns};
 ghost use Rattle.separation_definitions.specs.Amounts.{amount as amount_of, pixel_at};
-ghost use Rattle.std.specs.Prelude.{IsOk, Some, length, slice_get, slice_index, ℕ, ◌*◌, ◌+◌, ◌/◌, ◌<◌, ◌≡◌, ◌≢◌, ◌≤◌, ◌⊎◌};
+ghost use Rattle.std.specs.Prelude.{IsOk, Some, length, slice_get, slice_index, ℕ, ◌*◌, ◌+◌, ◌/◌};
+ghost use Rattle.std.specs.Prelude.{◌<◌, ◌≡◌, ◌≢◌, ◌≤◌, ◌⊎◌};
 
 use crate::black::BlackTable;
 use crate::given::Given;
@@ -107,7 +108,8 @@ fn put(p: &Profile, given: &Given, many: usize, x: u32, at: u32, out: &mut InkRo
     requires at { at < out.old.rows }
     ensures size { HasSizeAs out.old out.new }
     ensures put { (i : ℕ) (ink : Ink) → slice_get (inks_of p.now.inks) i ≡ Some ink → (k : ℕ) → k < many
-        → amount out.new i at (x + k) ≡ slice_index (given_to given.now ink) k * limit_of_printer (printer_of p.now) ink / 255 }
+        → amount out.new i at (x + k)
+        ≡ slice_index (given_to given.now ink) k * limit_of_printer (printer_of p.now) ink / 255 }
     ensures beside { (i c : ℕ) → (c < x) ⊎ (x + many ≤ c) → amount out.new i at c ≡ amount out.old i at c }
     ensures others { (i y c : ℕ) → y ≢ at → y < out.old.rows → amount out.new i y c ≡ amount out.old i y c }
 {

@@ -40,7 +40,8 @@ pub(crate) fn inverted(bytes: &[u8]) -> Values
 pub(crate) fn complements(pixels: &[u8], colour: usize) -> Values
     requires pixels { length pixels.now ≤ 192 }
     requires colour { colour < 3 }
-    ensures { (x : ℕ) → 3 * x + 3 ≤ length pixels.now → slice_index result x ≡ 255 - slice_index pixels.now (3 * x + colour) }
+    ensures { (x : ℕ) → 3 * x + 3 ≤ length pixels.now
+        → slice_index result x ≡ 255 - slice_index pixels.now (3 * x + colour) }
 {
     let mut values = [0; PIXELS];
     for x in 0..pixels.len() / 3 {
@@ -68,7 +69,8 @@ pub(crate) fn darkness_of(pixels: &[u8]) -> Values
 /// The least of three values at each pixel.
 #[inline]
 pub(crate) fn least_of(a: &Values, b: &Values, c: &Values) -> Values
-    ensures { (x : ℕ) → x < 64 → slice_index result x ≡ min (min (slice_index a.now x) (slice_index b.now x)) (slice_index c.now x) }
+    ensures { (x : ℕ) → x < 64
+        → slice_index result x ≡ min (min (slice_index a.now x) (slice_index b.now x)) (slice_index c.now x) }
 {
     let mut values = [0; PIXELS];
     for x in 0..PIXELS {

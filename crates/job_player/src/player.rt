@@ -39,8 +39,18 @@ pub fn play_job<S: Source, K: Sink>(
     requires checked { IsOk (check profile.now) }
     requires most { most < 2 ^ 63 }
     ensures { PlayOutcome (printer_of profile.now) most
-        (record { before = S.left input.old; now = S.left input.new; faults_before = S.faults input.old; faults_now = S.faults input.new })
-        (record { before = K.held out.old; now = K.held out.new; faults_before = K.faults out.old; faults_now = K.faults out.new }) result }
+        (record {
+          before = S.left input.old;
+          now = S.left input.new;
+          faults_before = S.faults input.old;
+          faults_now = S.faults input.new;
+        })
+        (record {
+          before = K.held out.old;
+          now = K.held out.new;
+          faults_before = K.faults out.old;
+          faults_now = K.faults out.new;
+        }) result }
 {
     let mut feed = JobFeed::make(alloc, most)?;
     let mut emulator = Emulator::make(alloc, profile);

@@ -28,9 +28,11 @@ fn read_profile(text: &[u8]) -> Result<Profile, ProfileStop>
 
 // The profile of a text on the shelf.
 fn shelf_profile<F: Shelf>(alloc: Global, shelf: &mut F, name: &str) -> Result<Profile, ProfileStop>
-    ensures ok { IfOk result (λ p. (held : Option (List ℕ)) × IfSome (F.files shelf.old) (λ files. held ≡ text_named name.now files)
+    ensures ok { IfOk result (λ p. (held : Option (List ℕ))
+        × IfSome (F.files shelf.old) (λ files. held ≡ text_named name.now files)
         × (named_result None held ≡ Ok p)) }
-    ensures refused { OnRefused result (λ refusal. (held : Option (List ℕ)) × IfSome (F.files shelf.old) (λ files. held ≡ text_named name.now files)
+    ensures refused { OnRefused result (λ refusal. (held : Option (List ℕ))
+        × IfSome (F.files shelf.old) (λ files. held ≡ text_named name.now files)
         × (named_result None held ≡ Err refusal)) }
     ensures failed { IsErrOf result stop.Failed → Rose (F.faults shelf.old) (F.faults shelf.new) }
     ensures later { F.faults shelf.old ≤ F.faults shelf.new }

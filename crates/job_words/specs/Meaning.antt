@@ -1,5 +1,6 @@
 -- What the words of a command line ask for, and which of them is refused.
-use Rattle.std.specs.Prelude.{ℕ, Bool, ◌+◌, if◌then◌else◌, List, [], ◌∷◌, ◌++◌, codes, drop, length, find, Option, Some, None, Result, Ok, Err, unwrap_or}
+use Rattle.std.specs.Prelude.{ℕ, Bool, ◌+◌, if◌then◌else◌, List, [], ◌∷◌, ◌++◌, codes, drop, length, find}
+use Rattle.std.specs.Prelude.{Option, Some, None, Result, Ok, Err, unwrap_or}
 use Rattle.std.specs.List.{list_any, position_from}
 use Rattle.std.specs.Option.{option_and_then, option_map}
 use Rattle.job_words.specs.declared.usage.UsageCause.{UsageCause}

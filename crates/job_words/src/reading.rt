@@ -4,7 +4,8 @@ ghost use Rattle.key_values.specs.Pairs.{value_of as value_in};
 ghost use Rattle.job_words.specs.Reading.{IsGiven};
 ghost use Rattle.job_words.specs.Rows.{command_row};
 ghost use Rattle.job_words.specs.Table.{profile_key};
-ghost use Rattle.std.specs.Prelude.{IfErr, IfOk, List, OnOk, [], drop, is_some, length, slice_get, ℕ, ◌+◌, ◌++◌, ◌∷◌, ◌≡◌, if◌then◌else◌};
+ghost use Rattle.std.specs.Prelude.{IfErr, IfOk, List, OnOk, [], drop, is_some, length, slice_get, ℕ};
+ghost use Rattle.std.specs.Prelude.{◌+◌, ◌++◌, ◌∷◌, ◌≡◌, if◌then◌else◌};
 ghost use Rattle.std.specs.Result.{result_err};
 
 use crate::table::{Key, Verb};

@@ -1,6 +1,7 @@
 //! The values of keys.
 ghost use Rattle.std.specs.Prelude.{◌≡◌};
-ghost use Rattle.job_words.specs.Values.{cap_value as cap_of, kernel_named as kernel_of, most_value as most_of, worker_count as workers_of};
+ghost use Rattle.job_words.specs.Values.{cap_value as cap_of, kernel_named as kernel_of};
+ghost use Rattle.job_words.specs.Values.{most_value as most_of, worker_count as workers_of};
 
 use diffusion_kernel::Kernel;
 use key_values::number_within;

@@ -42,7 +42,8 @@ pub record GivesSheet (p : Printer) (bytes : List ℕ) (dots : List Dot) : Type 
 
 -- The job of a page has no more rasters of an ink than the head takes passes over the page's window.
 pub record HasPasses (p : Printer) (k : Table) (page : Page) : Type 0 where
-  pub rasters : (ink : Ink) → ink_rasters ink (commands (page_bytes page p k)).entries ≤ pass_count p.nozzles p.pitch (window_of page.form p).height
+  pub rasters : (ink : Ink) → ink_rasters ink (commands (page_bytes page p k)).entries
+      ≤ pass_count p.nozzles p.pitch (window_of page.form p).height
 
 -- so for each of the pages
 abbrev pub HavePasses : Printer → Table → List Page → Type 0

@@ -1,6 +1,7 @@
 -- What the head fires over a window, stroke by stroke, and the commands of a page made of strokes (commands of the
 -- ESC/P Reference Manual; their order is this project's own).
-use Rattle.std.specs.Prelude.{◌≡◌, ℕ, zero, suc, ◌+◌, ◌-◌, ◌*◌, ◌≤◌, ◌<◌, Bool, true, if◌then◌else◌, List, [], ◌∷◌, ◌++◌, length, filter, slice_index_or}
+use Rattle.std.specs.Prelude.{◌≡◌, ℕ, zero, suc, ◌+◌, ◌-◌, ◌*◌, ◌≤◌, ◌<◌, Bool, true, if◌then◌else◌, List, []}
+use Rattle.std.specs.Prelude.{◌∷◌, ◌++◌, length, filter, slice_index_or}
 use Rattle.std.specs.List.{AllByRecursion, flat_map, list_any}
 use Rattle.printer_definitions.specs.declared.inks.Ink.{Ink}
 use Rattle.printer_definitions.specs.Inks.{inks_of}
@@ -49,7 +50,8 @@ raster_head p width coded = record { c = coded; v = nozzle_step p; h = column_st
 abbrev pub ink_commands : Printer → ℕ → ℕ → Stroke → Ink → List Spoken
 ink_commands p width coded stroke ink =
     if has_dot (stroke.rows ink)
-    then say (c.Colour ink) ∷ say c.Return ∷ record { command = c.Raster (raster_head p width coded); rows = flat_map packed (stroke.rows ink) } ∷ []
+    then say (c.Colour ink) ∷ say c.Return
+    ∷ record { command = c.Raster (raster_head p width coded); rows = flat_map packed (stroke.rows ink) } ∷ []
     else []
 
 -- a stroke: its inks in the order of their set
@@ -137,5 +139,6 @@ pub record Fires (p : Printer) (h : Halftone) (strokes : Strokes) : Type 0 where
   pub room : strokes.above ≤ p.top
   pub rising : IsRising 0 strokes.list
   pub whole : AllByRecursion (λ stroke. (ink : Ink) → IsWhole p.nozzles h.width (stroke.rows ink)) strokes.list
-  pub on_window : AllByRecursion (λ stroke. (ink : Ink) → IsOnWindow p.pitch strokes.above h.height stroke.start (stroke.rows ink)) strokes.list
+  pub on_window : AllByRecursion (λ stroke. (ink : Ink)
+      → IsOnWindow p.pitch strokes.above h.height stroke.start (stroke.rows ink)) strokes.list
   pub once : Exactly (fired p strokes) (dots_wanted p h)

@@ -37,8 +37,8 @@ halftoning h = record {
 abbrev pub window_in : Inside → Window
 window_in h = window_of h.form (printer_of h.profile)
 
--- The profile passes its checks, its black is worked out, the printer takes the page, there are workers, and there is room for the window's rows in all
--- inks.
+-- The profile passes its checks, its black is worked out, the printer takes the page, there are workers, and there is
+-- room for the window's rows in all inks.
 pub record IsReady (h : Inside) : Type 0 where
   pub checked : IsOk (check h.profile)
   pub black : h.black ≡ h.profile.black_start

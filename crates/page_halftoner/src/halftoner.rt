@@ -7,7 +7,8 @@ ghost use Rattle.printer_profile.specs.Profiles.{printer_of};
 ghost use Rattle.printer_profile.specs.Validity.{check};
 ghost use Rattle.pwg_definitions.specs.Header.{IsWanted};
 ghost use Rattle.separation_definitions.specs.Windows.{wanted_by};
-ghost use Rattle.std.specs.Prelude.{IfNone, IfOk, IfSome, IsErr, IsOk, List, OnErr, OnOk, [], false, length, replicate, true, ℕ, ◌++◌, ◌+◌, ◌<◌, ◌∷◌, ◌≡◌, ◌≤◌, ◌⊎◌, ◌^◌};
+ghost use Rattle.std.specs.Prelude.{IfNone, IfOk, IfSome, IsErr, IsOk, List, OnErr, OnOk, [], false, length};
+ghost use Rattle.std.specs.Prelude.{replicate, true, ℕ, ◌++◌, ◌+◌, ◌<◌, ◌∷◌, ◌≡◌, ◌≤◌, ◌⊎◌, ◌^◌};
 
 use crate::slabs::{first_slab, next_slab, put_line};
 use diffusion_kernel::Kernel;
@@ -126,7 +127,8 @@ impl Halftoner {
         requires repeats { self.old.count + repeats ≤ self.old.form.height }
         ensures page { OnOk result (IsSamePage self.old self.new) }
         ensures count { OnOk result (self.new.count ≡ self.old.count + repeats) }
-        ensures stands { (lines : List (List ℕ)) → StandsFor self.old lines → OnOk result (StandsFor self.new (lines ++ replicate repeats line.now)) }
+        ensures stands { (lines : List (List ℕ))
+            → StandsFor self.old lines → OnOk result (StandsFor self.new (lines ++ replicate repeats line.now)) }
         ensures working { OnOk result (self.new.failed ≡ false) }
         ensures failed { OnErr result (self.new.failed ≡ true) }
         ensures for_good { self.old.failed ≡ true → IsErr result }
@@ -146,7 +148,8 @@ impl Halftoner {
         requires count { self.count ≡ self.form.height }
         requires working { self.failed ≡ false }
         ensures { (lines : List (List ℕ)) → StandsFor self lines
-            → HasDots (printer_of self.profile) (halftone (record { form = self.form; lines = lines }) (printer_of self.profile) (table_of self.kernel)) result.width result.rows result.inks (dot result) }
+            → HasDots (printer_of self.profile) (halftone (record { form = self.form; lines = lines })
+            (printer_of self.profile) (table_of self.kernel)) result.width result.rows result.inks (dot result) }
     {
         self.planes
     }
@@ -183,7 +186,8 @@ impl Halftoner {
         ensures count { OnOk result (self.new.count ≡ self.old.count + 1) }
         ensures line { self.new.line ≡ self.old.line }
         ensures stands { (line : List ℕ) → HasAmountsOf self.old line
-            → (lines : List (List ℕ)) → StandsFor self.old lines → OnOk result (StandsFor self.new (lines ++ line ∷ [])) }
+            → (lines : List (List ℕ))
+            → StandsFor self.old lines → OnOk result (StandsFor self.new (lines ++ line ∷ [])) }
         ensures working { OnOk result (self.new.failed ≡ self.old.failed) }
         ensures failed { OnErr result (self.new.failed ≡ true) }
     {

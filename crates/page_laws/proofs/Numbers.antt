@@ -92,7 +92,8 @@ rises a b step some less =
 -- ---- the numbers of commands fit their ranges
 
 -- the sheet's length in units
-pub length-fits : (p : Printer) (h : Halftone) (tall : ℕ) → CanPrint p → Sized p h tall → (1 ≤ tall * row_units p) × (tall * row_units p ≤ 32767)
+pub length-fits : (p : Printer) (h : Halftone) (tall : ℕ)
+    → CanPrint p → Sized p h tall → (1 ≤ tall * row_units p) × (tall * row_units p ≤ 32767)
 length-fits p h tall can size =
     let some : 1 ≤ tall = omega (arith, size.some_height, size.low) in
     let rows : 1 * 1 ≤ tall * row_units p = mul-le-mul some (row_units-some p can) in

@@ -41,7 +41,8 @@ three_rows a b d = raster_bytes 0x00 0x14 0x0A 0x03 0x08 (0x00 ∷ a ∷ 0x00 �
 abbrev pub shingles : Strokes
 shingles = record {
   above = 2;
-  list = stroke 0 (blank ∷ even ∷ blank ∷ []) ∷ stroke 1 (blank ∷ even ∷ blank ∷ []) ∷ stroke 2 (odd ∷ blank ∷ blank ∷ []) ∷ stroke 3 (odd ∷ blank ∷ blank ∷ []) ∷ [];
+  list = stroke 0 (blank ∷ even ∷ blank ∷ []) ∷ stroke 1 (blank ∷ even ∷ blank ∷ [])
+      ∷ stroke 2 (odd ∷ blank ∷ blank ∷ []) ∷ stroke 3 (odd ∷ blank ∷ blank ∷ []) ∷ [];
 }
 
 abbrev pub shingles_bytes : List ℕ

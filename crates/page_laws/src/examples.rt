@@ -7,7 +7,11 @@ ghost use Rattle.escp2_definitions.specs.Rasters.{ink_rasters};
 ghost use Rattle.escp2_laws.specs.Examples.{listing, three_nozzles};
 ghost use Rattle.page_definitions.specs.Dots.{wanted};
 ghost use Rattle.page_definitions.specs.PageBytes.{page_bytes};
-ghost use Rattle.page_laws.specs.Examples.{amounts_of, amounts_of_128, black_column, black_column_bytes, black_dot, black_line, black_page, black_page_bytes, black_pixel_bytes, fine_across, fine_across_bytes, fine_down, fine_down_bytes, fires_row, grey, pixel, red_pixel_bytes, six_rows, small_page, small_page_bytes, white_page, white_page_bytes, with_black_start, with_inks, with_limits, with_margins};
+ghost use Rattle.page_laws.specs.Examples.{amounts_of, amounts_of_128, black_column, black_column_bytes, black_dot};
+ghost use Rattle.page_laws.specs.Examples.{black_line, black_page, black_page_bytes, black_pixel_bytes, fine_across};
+ghost use Rattle.page_laws.specs.Examples.{fine_across_bytes, fine_down, fine_down_bytes, fires_row, grey, pixel};
+ghost use Rattle.page_laws.specs.Examples.{red_pixel_bytes, six_rows, small_page, small_page_bytes, white_page};
+ghost use Rattle.page_laws.specs.Examples.{white_page_bytes, with_black_start, with_inks, with_limits, with_margins};
 ghost use Rattle.printer_definitions.specs.Printer.{tiny1};
 ghost use Rattle.printer_definitions.specs.declared.inks.Ink.TheVariants.{Black, Cyan, Magenta, Yellow};
 ghost use Rattle.printer_definitions.specs.declared.inks.InkSet.TheVariants.{Cmy, Cmyk, K};
@@ -84,9 +88,11 @@ pub fn inks_go_in_the_order_of_their_set()
 /// A black line at 720 dots an inch across the page or down it: the steps of its raster, and the units of its sheet.
 #[tactic(auto, unfolding(page_definitions::specs::PageBytes::page_bytes, page_definitions::specs::PageBytes::halftone_bytes, escp2_definitions::specs::Canonical::canonical_row, escp2_definitions::specs::Canonical::packets_from, escp2_definitions::specs::Canonical::apart_at, escp2_definitions::specs::Canonical::equal_at, diffusion_definitions::specs::Diffusion::value, diffusion_definitions::specs::Diffusion::row_errors, diffusion_definitions::specs::Diffusion::errors))]
 pub fn resolutions_differ_across_and_down()
-    ensures across_dots { wanted black_line fine_across floyd ≡ black_dot 0 0 ∷ black_dot 5 0 ∷ black_dot 10 0 ∷ black_dot 15 0 ∷ [] }
+    ensures across_dots { wanted black_line fine_across floyd
+        ≡ black_dot 0 0 ∷ black_dot 5 0 ∷ black_dot 10 0 ∷ black_dot 15 0 ∷ [] }
     ensures across { page_bytes black_line fine_across floyd ≡ fine_across_bytes }
-    ensures down_dots { wanted black_line fine_down floyd ≡ black_dot 0 0 ∷ black_dot 10 0 ∷ black_dot 20 0 ∷ black_dot 30 0 ∷ [] }
+    ensures down_dots { wanted black_line fine_down floyd
+        ≡ black_dot 0 0 ∷ black_dot 10 0 ∷ black_dot 20 0 ∷ black_dot 30 0 ∷ [] }
     ensures down { page_bytes black_line fine_down floyd ≡ fine_down_bytes }
 {}
 
@@ -121,7 +127,8 @@ pub fn colours_have_their_amounts()
     ensures grey_green { amounts_of tiny1 0 255 0 ≡ 106 ∷ [] }
     ensures grey_blue { amounts_of tiny1 0 0 255 ≡ 227 ∷ [] }
     // 101 * 224 / 255, rounded down
-    ensures limited { amounts_of (record (with_inks Cmy) { limits = 224 ∷ 224 ∷ 224 ∷ 224 ∷ [] }) 154 154 154 ≡ 88 ∷ 88 ∷ 88 ∷ [] }
+    ensures limited { amounts_of (record (with_inks Cmy) { limits = 224 ∷ 224 ∷ 224 ∷ 224 ∷ [] }) 154 154 154
+        ≡ 88 ∷ 88 ∷ 88 ∷ [] }
 {}
 
 /// The window inside four different margins.

@@ -22,7 +22,8 @@ ghost use Rattle.weave_definitions.specs.Weave.{count_from, pass_count};
 
 /// The dots that a page wants are distinct.
 pub fn wanted_are_distinct()
-    ensures { (page : Page) (p : Printer) (k : Table) → CanPrint p → (d : Dot) → count_by (is_at d) (wanted page p k) ≤ 1 }
+    ensures { (page : Page) (p : Printer) (k : Table)
+        → CanPrint p → (d : Dot) → count_by (is_at d) (wanted page p k) ≤ 1 }
 {}
 
 /// Strokes that print a halftone give it on one sheet: their bytes are whole commands, which the printer takes from
@@ -70,8 +71,10 @@ pub fn strokes_have_rasters()
 
 /// The job of a page takes no more rasters of an ink than the head takes passes over the page's window.
 pub fn pages_have_passes()
-    ensures one_page { (p : Printer) (k : Table) (page : Page) → CanPrint p → IsPage (wanted_by p) page → HasPasses p k page }
-    ensures each_page { (p : Printer) (k : Table) (pages : List Page) → CanPrint p → ArePages p pages → HavePasses p k pages }
+    ensures one_page { (p : Printer) (k : Table) (page : Page)
+        → CanPrint p → IsPage (wanted_by p) page → HasPasses p k page }
+    ensures each_page { (p : Printer) (k : Table) (pages : List Page)
+        → CanPrint p → ArePages p pages → HavePasses p k pages }
 {}
 
 /// A halftone has as many dots of an ink as a table of its dots has in the ink's plane, and none of an ink that is not
@@ -90,5 +93,6 @@ pub fn counts_of_planes()
 pub fn page_is_short()
     ensures { (p : Printer) (h : Halftone) (len : ℕ)
         → length (halftone_bytes p h len)
-        ≤ 49 + pass_count p.nozzles p.pitch h.height * (7 + length (inks_of p.inks) * (12 + 2 * p.nozzles * ((h.width + 7) / 8))) }
+        ≤ 49 + pass_count p.nozzles p.pitch h.height
+        * (7 + length (inks_of p.inks) * (12 + 2 * p.nozzles * ((h.width + 7) / 8))) }
 {}

@@ -4,7 +4,8 @@ ghost use Rattle.escp2_definitions.specs.Machine.{execute};
 ghost use Rattle.escp2_definitions.specs.Written.{canonical};
 ghost use Rattle.escp2_laws.specs.Examples.{three_nozzles};
 ghost use Rattle.page_definitions.specs.Strokes.{Fires, fired, strokes_bytes};
-ghost use Rattle.page_laws.specs.Shingles.{made_up, made_up_bytes, made_up_dots, shingles, shingles_bytes, shingles_dots, two_black_rows};
+ghost use Rattle.page_laws.specs.Shingles.{made_up, made_up_bytes, made_up_dots, shingles, shingles_bytes};
+ghost use Rattle.page_laws.specs.Shingles.{shingles_dots, two_black_rows};
 ghost use Rattle.std.specs.Prelude.{None, [], length, ◌∷◌, ◌≡◌};
 
 /// Rows that are fired twice, and rows that are made up for a nozzle that fires nothing, print their window.

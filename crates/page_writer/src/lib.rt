@@ -1,4 +1,5 @@
-//! Writes the job of a page from its dots: pass by pass of the head over the page's window, ink by ink, with coded rows.
+//! Writes the job of a page from its dots: pass by pass of the head over the page's window, ink by ink, with coded
+//! rows.
 #![tactic(auto)]
 
 mod blank;

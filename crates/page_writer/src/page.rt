@@ -15,7 +15,8 @@ ghost use Rattle.pwg_definitions.specs.Header.{IsWanted};
 ghost use Rattle.pwg_definitions.specs.Limits.{most_rows};
 ghost use Rattle.separation_definitions.specs.Windows.{wanted_by, window_of};
 ghost use Rattle.std.specs.Io.KnownBytes.{Appends, Keeps};
-ghost use Rattle.std.specs.Prelude.{IfOk, IsErrOf, IsOk, OnErr, OnOk, [], if◌then◌else◌, length, nat_lt, vec_capacity, vec_len, ◌*◌, ◌+◌, ◌≡◌, ◌≤◌};
+ghost use Rattle.std.specs.Prelude.{IfOk, IsErrOf, IsOk, OnErr, OnOk, [], if◌then◌else◌, length, nat_lt};
+ghost use Rattle.std.specs.Prelude.{vec_capacity, vec_len, ◌*◌, ◌+◌, ◌≡◌, ◌≤◌};
 ghost use Rattle.weave_base.specs.Causes.{HasCause, Rose};
 ghost use Rattle.weave_base.specs.Parts.{AppendsPart};
 
@@ -124,8 +125,9 @@ fn put_page<K: Sink>(
 /// the sheet, then the passes of the head over the page's window that have a dot, and the end of the sheet (ESC/P
 /// Reference Manual, graphics commands). Rows of rasters are coded.
 ///
-/// It takes its memory before the first byte, no more than a pass takes. A pass is one call of `put_all`, and so are what
-/// stands before the passes and behind them. On `Write` the sink has taken a prefix of the bytes, and not all of them.
+/// It takes its memory before the first byte, no more than a pass takes. A pass is one call of `put_all`, and so are
+/// what stands before the passes and behind them. On `Write` the sink has taken a prefix of the bytes, and not all of
+/// them.
 pub fn write_page<K: Sink>(
     alloc: Global,
     p: &Profile,

@@ -37,8 +37,8 @@ pub(crate) fn most_of_pass(p: &Profile, width: u32) -> u64
     7 + u64::from(p.inks.count()) * most_of_ink(p.nozzles, width)
 }
 
-/// The most bytes that `write_page` writes of a page with this window: 49 and, for each pass of the head, 7 and for each
-/// ink 12 and twice those of a row for each nozzle.
+/// The most bytes that `write_page` writes of a page with this window: 49 and, for each pass of the head, 7 and for
+/// each ink 12 and twice those of a row for each nozzle.
 pub fn most_bytes(p: &Profile, w: Window) -> u64
     requires can { CanPrint (printer_of p.now) }
     requires width { w.width ≤ most_columns }

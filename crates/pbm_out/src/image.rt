@@ -11,15 +11,16 @@ use gathered_bytes::Gathered;
 use itoa::Buffer;
 use weave_base::{Failed, Sink};
 
-/// Writes the image of an ink of the sheet, a dot as a black pixel. Inks are 0 for black, 1 cyan, 2 magenta and 3 yellow.
-/// It takes no memory, and writes many rows at once.
+/// Writes the image of an ink of the sheet, a dot as a black pixel. Inks are 0 for black, 1 cyan, 2 magenta and 3
+/// yellow. It takes no memory, and writes many rows at once.
 ///
 /// `Err` comes where a write of the sink failed, which the sink counts; then the sink has taken a prefix of the image,
 /// and not all of it.
 pub fn write_plane<K: Sink>(s: &Sheet, ink: u8, k: &mut K) -> Result<(), Failed>
     requires { ink < 4 }
     ensures ok { OnOk result (Appends (K.held k.old) (K.held k.new) (image s.now.columns s.now.rows s.now.planes ink)) }
-    ensures part { OnErr result (AppendsPart (K.held k.old) (K.held k.new) (image s.now.columns s.now.rows s.now.planes ink)) }
+    ensures part { OnErr result
+        (AppendsPart (K.held k.old) (K.held k.new) (image s.now.columns s.now.rows s.now.planes ink)) }
     ensures cause { HasCause (K.faults k.old) (K.faults k.new) result }
 {
     let mut bytes = head(s.columns, s.rows);

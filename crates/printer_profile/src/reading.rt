@@ -1,5 +1,6 @@
 //! A profile from a text.
-ghost use Rattle.printer_profile.specs.Text.{nothing, is_skipped as is_skipped_of, missing as missing_of, profile_text, profile_unless, with_lines};
+ghost use Rattle.printer_profile.specs.Text.{nothing, is_skipped as is_skipped_of, missing as missing_of};
+ghost use Rattle.printer_profile.specs.Text.{profile_text, profile_unless, with_lines};
 ghost use Rattle.std.specs.List.{list_all};
 ghost use Rattle.std.specs.Str.Lines.{lines};
 ghost use Rattle.std.specs.Char.{is_ascii};

@@ -33,6 +33,7 @@ pub record AreRows (width : ℕ) (up2 up1 row : List ℤ) (dots : ℕ) : Type 0 
 pub record IsDiffused (k : Table) (amounts : List ℕ) (up2 up1 row : List ℤ) (dots : List Bool) : Type 0 where
   pub fits : EachInRange row
   pub bordered : IsBordered (length amounts) row
-  pub errors : (p : Plane) (e : Errors) (y : ℕ) → HasRow p y amounts → Solves k p e → RowIs e y up2 → RowIs e (y + 1) up1 → RowIs e (y + 2) row
+  pub errors : (p : Plane) (e : Errors) (y : ℕ)
+      → HasRow p y amounts → Solves k p e → RowIs e y up2 → RowIs e (y + 1) up1 → RowIs e (y + 2) row
   pub on_dots : (p : Plane) (e : Errors) (y : ℕ) → HasRow p y amounts → Solves k p e → RowIs e y up2 → RowIs e (y + 1) up1
       → (x : ℕ) → x < length amounts → slice_index_or dots x false ≡ on k p e y x

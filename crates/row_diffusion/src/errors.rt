@@ -99,9 +99,11 @@ impl ErrorRows {
         ensures row { IsPackedRow self.old.width packed.new }
 
         // For the row of any plane, below its errors in the two rows above.
-        ensures errors { (p : Plane) (e : Errors) (y : ℕ) → HasRow p y amounts.now → Solves (table_of kernel) p e → IsReached self.old e y
+        ensures errors { (p : Plane) (e : Errors) (y : ℕ)
+            → HasRow p y amounts.now → Solves (table_of kernel) p e → IsReached self.old e y
             → IsReached self.new e (y + 1) }
-        ensures dots { (p : Plane) (e : Errors) (y : ℕ) → HasRow p y amounts.now → Solves (table_of kernel) p e → IsReached self.old e y
+        ensures dots { (p : Plane) (e : Errors) (y : ℕ)
+            → HasRow p y amounts.now → Solves (table_of kernel) p e → IsReached self.old e y
             → packed.new ≡ packed_of (map (on (table_of kernel) p e y) (count_from 0 self.old.width)) }
     {
         diffuse_by(

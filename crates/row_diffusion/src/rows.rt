@@ -12,8 +12,12 @@ fn near_at(up2: &[i16], up1: &[i16], left1: i16, left2: i16, x: usize) -> Near
     requires up2_len { x + 6 < length up2.now }
     requires up1_len { x + 6 < length up1.now }
     ensures same { result.same ≡ left1 ∷ left2 ∷ [] }
-    ensures up1 { result.up1 ≡ slice_index_or up1.now (x + 2) (pos 0) ∷ slice_index_or up1.now (x + 3) (pos 0) ∷ slice_index_or up1.now (x + 4) (pos 0) ∷ slice_index_or up1.now (x + 5) (pos 0) ∷ slice_index_or up1.now (x + 6) (pos 0) ∷ [] }
-    ensures up2 { result.up2 ≡ slice_index_or up2.now (x + 2) (pos 0) ∷ slice_index_or up2.now (x + 3) (pos 0) ∷ slice_index_or up2.now (x + 4) (pos 0) ∷ slice_index_or up2.now (x + 5) (pos 0) ∷ slice_index_or up2.now (x + 6) (pos 0) ∷ [] }
+    ensures up1 { result.up1 ≡ slice_index_or up1.now (x + 2) (pos 0)
+        ∷ slice_index_or up1.now (x + 3) (pos 0) ∷ slice_index_or up1.now (x + 4) (pos 0)
+        ∷ slice_index_or up1.now (x + 5) (pos 0) ∷ slice_index_or up1.now (x + 6) (pos 0) ∷ [] }
+    ensures up2 { result.up2 ≡ slice_index_or up2.now (x + 2) (pos 0)
+        ∷ slice_index_or up2.now (x + 3) (pos 0) ∷ slice_index_or up2.now (x + 4) (pos 0)
+        ∷ slice_index_or up2.now (x + 5) (pos 0) ∷ slice_index_or up2.now (x + 6) (pos 0) ∷ [] }
 {
     Near {
         same: [left1, left2],

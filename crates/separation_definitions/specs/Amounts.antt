@@ -92,5 +92,6 @@ ink_plane page p ink =
     record {
       width = window.width;
       height = window.height;
-      amount = λ y x. amount p page.form.kind (pixel_at page.form.kind (slice_index_or page.lines (window.top + y) []) (window.left + x)) ink;
+      amount = λ y x. amount p page.form.kind
+          (pixel_at page.form.kind (slice_index_or page.lines (window.top + y) []) (window.left + x)) ink;
     }

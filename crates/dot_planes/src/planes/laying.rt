@@ -23,8 +23,8 @@ impl Planes {
         row_meets(other, x as usize, row, dots as usize)
     }
 
-    /// Gives row y of an ink the first `dots` dots of a packed row too, from column x on. All other dots stay, and bits of
-    /// the row behind these are none.
+    /// Gives row y of an ink the first `dots` dots of a packed row too, from column x on. All other dots stay, and
+    /// bits of the row behind these are none.
     pub fn lay(&mut self, ink: u8, y: u32, x: u32, row: &[u8], dots: u32)
         requires ink { ink < self.old.inks }
         requires y { y < self.old.rows }
