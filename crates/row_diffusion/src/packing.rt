@@ -38,7 +38,7 @@ fn behind_eight(row: &[bool]) -> &[bool]
     if row.len() > 8 { &row[8..] } else { &[] }
 }
 
-/// Packs a row of dots, eight a byte, the first in the highest bit. Bits behind the row are 0.
+/// Packs a row of dots, eight a byte, the first in the highest bit. Spare bits are 0.
 pub(crate) fn pack_row(row: &[bool], out: &mut [u8])
     requires { length out.old ≡ (length row.now + 7) / 8 }
     ensures { out.new ≡ packed row.now }

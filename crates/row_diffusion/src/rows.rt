@@ -1,4 +1,4 @@
-//! A row of a plane, from the left.
+//! A row of a plane, diffused from the left.
 ghost use Rattle.diffusion_kernel.specs.Tables.{table_of};
 ghost use Rattle.row_diffusion.specs.Rows.{AreRows, IsDiffused};
 ghost use Rattle.std.specs.Prelude.{[], length, pos, slice_index_or, ◌+◌, ◌<◌, ◌≡◌, ◌∷◌};
@@ -28,8 +28,8 @@ fn near_at(up2: &[i16], up1: &[i16], left1: i16, left2: i16, x: usize) -> Near
 
 /// Diffuses a row of amounts below the errors of the two rows above it, and gives its errors and its dots.
 ///
-/// A row of errors has zeros at its four first and two last places, so that no pixel needs a test for the row's ends.
-/// What `row` holds between them at the call is of no account.
+/// A row of errors has zeros at its first four and last two places, so that no pixel needs a test for the row's ends.
+/// What `row` holds between them at the call does not matter.
 #[inline]
 pub(crate) fn diffuse_row(
     k: Kernel,
