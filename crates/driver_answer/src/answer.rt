@@ -14,19 +14,19 @@ use job_words::UsageFault;
 use printer_profile::{ProfileFault, TextCause, key_name};
 use pwg_definitions::InputCause;
 
-/// What a run of the driver came to. Pages and lines are counted from 1; page 0 is the sync word, line 0 a header.
+/// How a run of the driver ended. Pages and lines are counted from 1; page 0 is the sync word, line 0 a header.
 #[derive(Clone, Copy, Debug, PartialEq, Eq)]
 pub enum Answer {
-    /// The command did all.
+    /// The command did all its work.
     Done,
     /// A word is refused.
     Usage(UsageFault),
-    /// The profile is refused: at this line of its text, or at line 0 as a whole.
+    /// The profile is refused at this line of its text; line 0 for the text as a whole.
     Profile {
         line: u32,
         cause: ProfileCause,
     },
-    /// The input is refused here.
+    /// The input is refused at this place.
     Input {
         page: u32,
         line: u32,
@@ -38,7 +38,7 @@ pub enum Answer {
     Write {
         page: u32,
     },
-    /// This page does not fit under the cap of a meter, which has counted `total` dots.
+    /// This page would go past the cap of a meter, which has counted `total` dots.
     OverCap {
         page: u32,
         total: u64,
@@ -74,7 +74,7 @@ fn push_wide(n: u64, out: &mut ArrayString<160>)
     out.push_str(buffer.format(n));
 }
 
-// Appends a check's fault, and the number that it carries.
+// Appends a check's fault and the number that it carries, if any.
 fn push_check(fault: ProfileFault, out: &mut ArrayString<160>)
     requires { array_string_len out.old + 21 ≤ 160 }
     ensures bytes { out.new.bytes ≡ out.old.bytes ++ check_words fault }
@@ -94,7 +94,7 @@ fn push_check(fault: ProfileFault, out: &mut ArrayString<160>)
     }
 }
 
-// Appends a text's fault, and the name of the key that is missing.
+// Appends a text's fault, and the name of the missing key.
 fn push_text(cause: TextCause, out: &mut ArrayString<160>)
     requires { array_string_len out.old + 22 ≤ 160 }
     ensures bytes { out.new.bytes ≡ out.old.bytes ++ text_words cause }
@@ -215,7 +215,7 @@ impl Answer {
         }
     }
 
-    /// Writes the answer's error line into an empty text: nothing for `Done`, else one line with its end.
+    /// Writes the answer's error line, with its line end, into an empty text; nothing for `Done`.
     pub fn text(&self, out: &mut ArrayString<160>)
         requires { out.old.bytes ≡ [] }
         ensures { out.new.bytes ≡ line_of self.now }

@@ -33,8 +33,8 @@ pub struct HalftonedPage {
     pub planes: Planes,
 }
 
-/// Reads the next page with all its lines, and halftones each line when it comes, its slabs by so many workers that
-/// share the gate. `None` at the end of the stream.
+/// Reads the next page with all its lines and halftones each line as it comes; `workers` workers that share the gate
+/// diffuse its slabs. `None` at the end of the stream.
 pub fn read_page<R: Threads + Sync, S: Source, G: Gate + Sync>(
     rt: &R,
     alloc: Global,

@@ -16,7 +16,7 @@ use weave_base::{Found, Shelf};
 /// The most bytes of a profile's text.
 const MOST_TEXT: usize = 65536;
 
-// What a profile's text says.
+// The profile of a text.
 fn read_profile(text: &[u8]) -> Result<Profile, ProfileStop>
     ensures ok { IfOk result (λ p. text_result text.now ≡ Ok p) }
     ensures refused { OnRefused result (λ refusal. text_result text.now ≡ Err refusal) }
@@ -57,8 +57,8 @@ fn use_profile(profile: Profile) -> Result<Profile, ProfileStop>
     Ok(profile)
 }
 
-/// The profile of a name: the built-in one, and where there is none the one that the shelf's text of this name says, of
-/// at most 65,536 bytes.
+/// The profile of a name: the built-in one; else the one that the shelf's text of this name describes, of at most
+/// 65,536 bytes.
 pub fn find_profile<F: Shelf>(
     alloc: Global,
     shelf: &mut F,

@@ -1,4 +1,4 @@
--- The rows of the table that the code's own commands and keys stand for.
+-- The rows of the table for the commands and keys in the code.
 use Rattle.job_words.specs.Table.{CommandRow, KeyRow, cap_key, dots_command, kernel_key, list_command, most_key}
 use Rattle.job_words.specs.Table.{print_command, profile_command, profile_key, workers_key}
 use Rattle.job_words.specs.declared.table.Verb.{Verb}

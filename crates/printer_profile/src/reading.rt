@@ -14,7 +14,7 @@ use key_values::cut_at;
 use printer_definitions::InkSet;
 use thiserror::Error;
 
-/// Why a text is no profile. On one line the first cause counts, in the order of these variants.
+/// Why a text is not a profile. Where a line has several causes, the first in the order of these variants counts.
 #[derive(Clone, Copy, Debug, PartialEq, Eq, Error)]
 pub enum TextCause {
     #[error("not `escp2-profile 1`")]
@@ -38,12 +38,12 @@ pub enum TextCause {
 #[derive(Clone, Copy, Debug, PartialEq, Eq, Error)]
 #[error("line {line}: {cause}")]
 pub struct TextFault {
-    /// The line, counted from 1, or 0 where the fault is none of a line. Lines from 4,294,967,295 on have that number.
+    /// The line, counted from 1; 0 where the fault is not in a line. Lines from 4,294,967,295 on have that number.
     pub line: u32,
     pub cause: TextCause,
 }
 
-// What the lines so far give: the profile, and for each key whether it was given.
+// What the lines so far set: the profile, and for each key whether it was given.
 #[derive(Clone, Copy)]
 struct Given {
     profile: Profile,
@@ -89,7 +89,7 @@ impl Given {
         }
     }
 
-    // With a value for a key.
+    // Sets the value of a key.
     fn with_key(self, key: Key, value: &[u8]) -> Result<Given, TextCause>
         ensures { result ≡ with_key self value.now (Some key) }
     {
@@ -105,7 +105,7 @@ impl Given {
         Ok(Given { profile, keys })
     }
 
-    // With a line.
+    // Takes a line.
     fn with_line(self, line: &[u8]) -> Result<Given, TextCause>
         ensures { result ≡ with_line self line.now }
     {
@@ -145,7 +145,7 @@ impl Given {
     }
 }
 
-// What the lines of a text give, of which the first has this number.
+// What the lines after the first line of a text set; they are numbered from 2.
 fn read_lines(text: &[u8]) -> Result<Given, TextFault>
     ensures { result ≡ with_lines 2 nothing (lines text.now) }
 {
@@ -167,8 +167,8 @@ fn read_lines(text: &[u8]) -> Result<Given, TextFault>
     Ok(given)
 }
 
-/// Reads a profile's text: a head, and lines `key=value`. The first line that is refused counts, and after all lines
-/// the first required key that is absent.
+/// Reads a profile's text: its first line, and lines `key=value`. The answer is the profile, or the first refused
+/// line; where all lines are good, the first required key that is absent.
 pub fn read(text: &[u8]) -> Result<Profile, TextFault>
     ensures { result ≡ profile_text text.now }
 {
