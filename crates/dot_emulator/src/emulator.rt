@@ -1,4 +1,4 @@
-//! The machine with its sheet.
+//! The state of a printer, with its sheet.
 ghost use Rattle.escp2_definitions.specs.Commands.{in_table, last_column, rows_len};
 ghost use Rattle.escp2_definitions.specs.Machine.{start};
 ghost use Rattle.printer_profile.specs.Profiles.{printer_of};
@@ -21,9 +21,9 @@ use weave_base::Memory;
 /// Why the emulator does not run a command.
 #[derive(Clone, Copy, Debug, PartialEq, Eq)]
 pub enum EmuStop {
-    /// The machine refuses the command.
+    /// The printer refuses the command.
     Refused(EmuFault),
-    /// There is no memory for the dots of a sheet.
+    /// Memory for the dots of a sheet ran out.
     Memory,
 }
 
@@ -49,7 +49,7 @@ pub struct Emulator {
     alloc: Global,
     steps: Steps,
     state: State,
-    /// Of the sheet in hand, from its first dot on.
+    /// The dots of the current sheet; `None` before its first dot.
     planes: Option<Planes>,
     ghost inks: { inks_of planes ≡ 4 },
     ghost width: { width_of planes ≡ last_column },
@@ -72,7 +72,7 @@ impl Emulator {
     ghost use Rattle.std.specs.Prelude.{IfOk, List, [], OnErr, OnOk, None, nat_le, ℕ, ◌∷◌, ◌*◌};
     ghost use Rattle.std.specs.Prelude.{◌+◌, ◌/◌, ◌≤◌, unwrap_or};
 
-    /// The machine of a printer, whose profile passes its checks, at the start of a job. It takes memory later, for the
+    /// A printer whose profile passes its checks, at the start of a job. `make` takes no memory; `run` does, for the
     /// dots of a sheet.
     pub fn make(alloc: Global, p: &Profile) -> Emulator
         requires { IsOk (check p.now) }
@@ -87,11 +87,11 @@ impl Emulator {
         }
     }
 
-    /// Runs a command with the rows of a raster, which are `m` rows of `(n + 7) / 8` bytes, and none for other
+    /// Runs a command. `rows` has the rows of a raster, `m` rows of `(n + 7) / 8` bytes, and is empty for other
     /// commands.
     ///
-    /// `Ok(Some(sheet))` comes at an eject. After an `Err` the emulator is unchanged. `EmuStop::Memory` may come
-    /// where a sheet gets its first dot, and where a blank one is ejected.
+    /// The answer is the sheet at an eject, else `Ok(None)`. After an `Err` the emulator is unchanged.
+    /// `EmuStop::Memory` can come at the first dot of a sheet, and at the eject of a blank one.
     pub fn run(&mut self, command: &Command, rows: &[u8]) -> Result<Option<Sheet>, EmuStop>
         requires in_range { in_table command.now ≡ true }
         requires rows_fit { length rows.now ≡ rows_len command.now }
@@ -150,7 +150,7 @@ impl Emulator {
         Ok(None)
     }
 
-    // Where a raster stands, or why it is refused whatever its dots.
+    // Where on the sheet a raster is, or why it is refused whatever its dots.
     fn place(&self, head: RasterHead) -> Result<Raster, EmuFault>
         requires { head.n ≤ last_column }
         ensures placed { (p : Printer) (dots : List Dot)
@@ -180,7 +180,7 @@ impl Emulator {
         }
     }
 
-    // Lays the dots of a raster over the planes of the sheet in hand, which are made for the first.
+    // Adds the dots of a raster to the planes of the current sheet, which are made for its first dot.
     fn lay(&mut self, raster: Raster, rows: &[u8], behind: State) -> Result<(), Memory>
         requires rows { HasRows raster rows.now }
         requires on_page { raster.end ≤ sheet_rows self.old.state.page self.old.steps.row }
@@ -201,7 +201,7 @@ impl Emulator {
         Ok(())
     }
 
-    // The planes of the sheet in hand. A sheet without dots has them made.
+    // The planes of the current sheet; for a sheet without dots they are made.
     fn take_planes(&mut self) -> Result<Planes, Memory>
         requires { 1 ≤ unwrap_or self.old.state.page 0 }
         ensures state { self.new.state ≡ self.old.state }

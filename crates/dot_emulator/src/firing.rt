@@ -18,7 +18,7 @@ pub(crate) struct Raster {
     pub(crate) x: u32,
     /// The row of its first dots.
     pub(crate) y: u32,
-    /// From one row of it to the next.
+    /// The distance between two of its rows.
     pub(crate) pitch: u8,
     /// The first row of the sheet at or below the bottom margin.
     pub(crate) end: u32,
@@ -40,7 +40,7 @@ fn plane_of(ink: Ink) -> u8
     }
 }
 
-// A row of bytes, of which there are so many.
+// Row i of bytes, where each row has `len` bytes.
 #[inline]
 fn row_of(rows: &[u8], len: usize, i: u8) -> &[u8]
     requires len { len ≤ 1024 }
@@ -59,7 +59,7 @@ impl Raster {
     ghost use Rattle.std.specs.List.{list_any};
     ghost use Rattle.std.specs.Prelude.{List, ◌++◌, nat_le, nat_lt};
 
-    // The bytes of each of its rows.
+    // How many bytes each of its rows has.
     fn row_len(&self) -> usize
         ensures is { result ≡ row_bytes self.now.head }
         ensures most { result ≤ 1024 }
@@ -67,7 +67,7 @@ impl Raster {
         (usize::from(self.head.n) + 7) / 8
     }
 
-    // The row of the sheet where a row of it stands.
+    // The row of the sheet where its row i is.
     fn row_at(&self, i: u8) -> u32
         ensures { result ≡ self.now.y + i * self.now.pitch }
     {
@@ -127,7 +127,7 @@ impl Raster {
         false
     }
 
-    /// Lays its dots over the planes.
+    /// Adds its dots to the planes.
     pub(crate) fn lay(&self, rows: &[u8], planes: &mut Planes)
         requires rows { HasRows self.now rows.now }
         requires inks { planes.old.inks ≡ 4 }

@@ -1,4 +1,4 @@
-//! What a raster is refused for before its dots are looked at.
+//! Why a raster is refused before its dots are looked at.
 ghost use Rattle.dot_emulator.specs.States.{early_fault, machine_of};
 ghost use Rattle.escp2_definitions.specs.Commands.{last_column};
 ghost use Rattle.printer_definitions.specs.Printer.{column_step, nozzle_step, row_step};
@@ -84,7 +84,7 @@ impl State {
         None
     }
 
-    /// Where a raster stands, or why it is refused whatever its dots.
+    /// Where on the sheet a raster is, or why it is refused whatever its dots.
     pub(crate) fn place(&self, steps: Steps, head: RasterHead) -> Result<Raster, EmuFault>
         requires { head.n ≤ last_column }
         ensures placed { (p : Printer) (dots : List Dot)
@@ -111,7 +111,7 @@ impl State {
         })
     }
 
-    /// Behind the raster.
+    /// The state after the raster.
     pub(crate) fn behind(&self, raster: Raster) -> State
         requires { raster.x ≡ self.now.across / raster.head.h }
         ensures page { result.page ≡ self.now.page }

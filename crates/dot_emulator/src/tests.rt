@@ -1,5 +1,5 @@
-//! Commands on a small head, with refusals and sheets worked by hand: columns and rows of dots stand 10/3600 inch
-//! apart, and three nozzles 20.
+//! Commands on a small head, with refusals and sheets worked by hand: columns and rows of dots are 10/3600 inch
+//! apart, and the three nozzles 20/3600 inch.
 ghost use Rattle.escp2_definitions.specs.Commands.{rows_len as rows_len_of};
 ghost use Rattle.std.specs.Prelude.{◌≡◌};
 
@@ -26,7 +26,7 @@ const TINY: Profile = Profile {
     bottom: 0,
 };
 
-/// Up to a page of six rows of dots, without margins.
+/// The commands before a page of six rows of dots, without margins.
 const PROLOGUE: [Command; 7] = [
     Command::Init,
     Command::Graphics,

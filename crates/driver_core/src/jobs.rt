@@ -1,4 +1,4 @@
-//! The commands that look at a print job.
+//! The commands that show what a print job holds.
 ghost use Rattle.driver_core.specs.Jobs.{list_answer as list_answer_of, play_answer as play_answer_of};
 ghost use Rattle.driver_core.specs.Run.{Did, answer_of};
 ghost use Rattle.job_lister.specs.Outcome.{ListOutcome};
@@ -38,7 +38,7 @@ fn play_answer(stop: PlayStop) -> Answer
     }
 }
 
-/// Lists the commands of the job that the input is.
+/// Lists the commands of the job that the input holds.
 pub fn list<S: Source, K: Sink>(
     alloc: Global,
     most: u64,
@@ -67,7 +67,7 @@ pub fn list<S: Source, K: Sink>(
     }
 }
 
-/// Writes the sheets of the job that the input is as images.
+/// Writes the sheets of the job that the input holds as images.
 pub fn play<S: Source, K: Sink>(
     alloc: Global,
     profile: &Profile,

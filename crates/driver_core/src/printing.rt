@@ -19,8 +19,8 @@ use std::thread::Threads;
 use wavefront_team::Gate;
 use weave_base::{Sink, Source};
 
-/// Prints the pages of the input, each when it is read to its last line and every meter has room for it. So many
-/// workers diffuse each slab, and share the gate.
+/// Prints the pages of the input, each once it is read to its last line and every meter has room for it. `workers`
+/// workers diffuse each slab and share the gate.
 pub fn print_pages<R: Threads + Sync, S: Source, K: Sink, G: Gate + Sync>(
     rt: &R,
     alloc: Global,

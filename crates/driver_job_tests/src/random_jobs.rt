@@ -1,4 +1,4 @@
-//! Pseudo-random jobs, whole, cut and with a byte changed: what the driver says of them is what plain programs say.
+//! Pseudo-random jobs, whole, cut and with a byte changed: the driver answers as the slow programs do.
 use crate::fixture::{run_on, sink};
 use crate::plain_machine::Machine;
 use crate::plain_reader::{Front, Name, Said, Stop};
@@ -8,7 +8,7 @@ use std::process::Abort;
 use std::test::Fail;
 use std::thread::Threads;
 
-/// What a job comes to: what is written, and where and why it stops.
+/// The outcome of a job: what is written, and where and why it stops.
 #[derive(Drop)]
 struct Outcome {
     out: Vec<u8>,
@@ -16,7 +16,7 @@ struct Outcome {
 }
 
 impl Outcome {
-    /// Asserts that a command says the same of a job.
+    /// Asserts that a command has the same outcome for a job.
     fn is<R: Abort + Threads + Sync>(
         &self,
         rt: &R,
@@ -101,7 +101,7 @@ fn played(alloc: Global, job: &[u8]) -> Result<Outcome, AllocError> {
     Ok(Outcome { out, stop })
 }
 
-// Asserts that the driver lists and plays a job, read in pieces of some length, as the plain programs do.
+// Asserts that the driver lists and plays a job, read in pieces of some length, as the slow programs do.
 fn is_alike<R: Abort + Threads + Sync>(
     rt: &R,
     alloc: Global,

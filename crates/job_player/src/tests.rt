@@ -33,7 +33,7 @@ const JOB: [u8; 92] = [
     0x03, 0x08, 0x00, 0x00, 0x00, 0x00, 0xFF, 0x00, 0x00, 0x0C, 0x1B, 0x40,
 ];
 
-/// Plays this much of the job.
+/// Plays the first bytes of the job.
 fn play(
     rt: &impl Abort,
     alloc: Global,
