@@ -220,7 +220,7 @@ laid-all g r rows i dots t all so_far =
     places-same g t (dots ++ so_far.done) (dots ++ fired g r rows)
     (ap (λ ds. dots ++ ds) (sym (so_far.is ∙ ap (λ ds. so_far.done ++ ds) (rest-none g r rows i all) ∙ append-nil so_far.done))) so_far.has
 
--- a row that is laid leaves the dots behind it
+-- a row that is laid leaves the dots past its end unchanged
 pub lays-past : (old new : DotTable) (i y x : ℕ) (row : List ℕ) (n : ℕ) (ink r c : ℕ) → Lays old new i y x row n → r < old.rows → x + n ≤ c
     → dot new ink r c ≡ dot old ink r c
 lays-past old new i y x row n ink r c lays low past = elim (cases_eq ink i) [

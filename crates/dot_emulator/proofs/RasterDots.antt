@@ -16,7 +16,7 @@ use Rattle.dot_emulator.proofs.RowDots.{row-below, row-has}
 abbrev pub packed_row : Raster → List ℕ → ℕ → List ℕ
 packed_row r rows i = take (row_bytes r.head) (drop (i * row_bytes r.head) rows)
 
--- the row of the sheet where row i stands
+-- the row of the sheet where row i is
 abbrev pub sheet_row : Raster → ℕ → ℕ
 sheet_row r i = r.y + i * r.pitch
 
@@ -128,7 +128,7 @@ below-row g r rows i b bytes stands fits low below is tested =
     ∙ ap (λ (row : List ℕ). has_dot row r.head.n) (sym is)
     ∙ sym tested
 
--- no dot of a row above it stands at or below it
+-- no dot of a row above it is at or below it
 pub above-row : (g : Grid) (r : Raster) (rows : List ℕ) (i : ℕ) → Stands g r → HasRows r rows → i < r.head.m → sheet_row r i < r.end
     → list_any (λ d. nat_le g.bottom d.y) (row_fired g r rows i) ≡ false
 above-row g r rows i stands fits low above =
@@ -137,14 +137,14 @@ above-row g r rows i stands fits low above =
 
 -- ---- rows that have no dots
 
--- no dot of the rows from row i on stands at or below the bottom margin
+-- no dot of the rows from row i on is at or below the bottom margin
 abbrev pub IsAboveFrom : Grid → Raster → List ℕ → ℕ → Type 0
 IsAboveFrom g r rows i = list_any (λ d. nat_le g.bottom d.y) (rest g r rows i) ≡ false
 
 pub above-first : (g : Grid) (r : Raster) (rows : List ℕ) → IsAbove g r rows → IsAboveFrom g r rows 0
 above-first g r rows above = sym (left-first (λ d. nat_le g.bottom d.y) g r rows) ∙ above
 
--- so it is of row i, and of those behind it
+-- the same for row i, and for those after it
 pub record AreAbove (g : Grid) (r : Raster) (rows : List ℕ) (i : ℕ) : Type 0 where
   pub this : list_any (λ d. nat_le g.bottom d.y) (row_fired g r rows i) ≡ false
   pub later : IsAboveFrom g r rows (i + 1)

@@ -11,7 +11,7 @@ use Rattle.escp2_definitions.specs.declared.stops.EmuFault.{EmuFault}
 abbrev Holds : Refusal → Type 0
 Holds r = r.holds ≡ false
 
--- where no refusal holds, each test is false, and those behind decide
+-- where no refusal holds, each test is false, and the later ones decide
 pub record NoneOf (tests : List Refusal) : Type 0 where
   pub each : AllByRecursion Holds tests
   pub more : (others : List Refusal) → first_fault (tests ++ others) ≡ first_fault others

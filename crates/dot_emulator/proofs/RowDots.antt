@@ -13,7 +13,7 @@ use Rattle.dot_planes.specs.Laying.{has_dot}
 use Rattle.dot_planes.specs.Tables.{row_dot}
 use Rattle.dot_planes.proofs.PackedRows.{next_byte, no_bit}
 
--- ---- tests of so many numbers
+-- ---- tests of n numbers
 
 pub any-same : (f g : ℕ → Bool) (m n : ℕ)
     → ((k : ℕ) → k < n → f (m + k) ≡ g (m + k)) → list_any f (count_from m n) ≡ list_any g (count_from m n)

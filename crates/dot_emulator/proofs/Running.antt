@@ -1,4 +1,4 @@
--- What the emulator shows behind a command.
+-- What the emulator stands for after a command.
 use Rattle.std.proofs.Common.{◌≡◌, ℕ, suc, ◌+◌, ◌-◌, ◌/◌, ◌≤◌, Bool, true, false, nat_le, nat_lt, List, [], ◌∷◌, ◌++◌, length}
 use Rattle.std.proofs.Common.{refl, ◌∙◌, sym, ap, arith, subst, append-nil, length-append}
 use Rattle.std.specs.Prelude.{Option, Some, None, Ok, is_some, is_none, if◌then◌else◌}
@@ -31,7 +31,7 @@ use Rattle.dot_emulator.specs.States.{IsStep, is_plain, machine_of}
 some-is-none : {A : Type 0} {X : Type 0} (x : X) → Some x ≡ None → A
 some-is-none x e = cc
 
--- whether planes are there tells whether the sheet has a dot
+-- there are planes exactly where the sheet has a dot
 pub shown-dots : (p : Printer) (m : Machine) (planes : Option DotTable) → ShowsDots p m planes → is_some planes ≡ has_dots m
 shown-dots p m None none = sym (ap (λ (ds : List Dot). nat_lt 0 (length ds)) none)
 shown-dots p m (Some t) shows = sym shows.0
@@ -84,7 +84,7 @@ kept p m c.Eject rows e some none = absurd (false≢true e)
 kept p m (c.Colour ink) rows e some none = record { page = refl; columns = refl; dots = refl }
 kept p m (c.Raster head) rows e some none = absurd (false≢true e)
 
--- a sheet without dots stays one
+-- a sheet without dots stays without dots
 no-dots : (p : Printer) (m : Machine) (command : Command) (rows : List ℕ)
     → is_plain command ≡ true → m.dots ≡ [] → (after p m command rows).dots ≡ []
 no-dots p m c.Init rows e none = refl
@@ -111,9 +111,9 @@ plain-shows p m command rows (Some t) e none shows =
     let C : ℕ → Type 0 = λ columns. HasDots (column_step p) (row_step p) columns m.dots t in
     (ap (λ (ds : List Dot). nat_lt 0 (length ds)) stays.dots ∙ shows.0, subst D (sym stays.dots) (subst C (sym stays.columns) shows.1))
 
--- ---- the planes in hand
+-- ---- the current planes
 
--- the state behind a plain command, where there are planes
+-- the state after a plain command, where there are planes
 pub record IsStill (s0 s : State) : Type 0 where
   pub page : s.page ≡ s0.page
   pub columns : s.columns ≡ s0.columns
@@ -154,7 +154,7 @@ late p m head r rows placed =
     ∙ ap (λ (new : List Dot). first_fault (refuse (list_any (λ d. nat_le (bottom_margin m) d.y) new) OffSheet
     ∷ refuse (overprints m.dots new) Overprint ∷ [])) (placed.fires rows)
 
--- where nothing is left, no dot stands at or below the bottom margin
+-- where neither refusal holds, no dot is at or below the bottom margin
 pub above-margin : (off over : Bool) → first_fault (refuse off OffSheet ∷ refuse over Overprint ∷ []) ≡ None → off ≡ false
 above-margin true over none = some-is-none OffSheet none
 above-margin false over none = refl

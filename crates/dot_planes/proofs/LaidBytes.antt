@@ -29,7 +29,7 @@ row_dot-at row c i j is low =
     let rest : c % 8 ≡ j = omega arith in
     ap (λ n. bit_at (get_or row n 0) (c % 8)) place ∙ ap (λ n. bit_at (get_or row i 0) n) rest
 
--- a byte that is cut off behind a row's last dot
+-- a byte with the bits past a row's last dot cleared
 pub part-cut : (row : List ℕ) (dots i j : ℕ) → 8 * i < dots → dots - 8 * i < 8 → j < 8 → get_or row i 0 < 256
     → bit_at (get_or row i 0 / 2 ^ (8 - (dots - 8 * i)) * 2 ^ (8 - (dots - 8 * i)) % 256) j
     ≡ (nat_lt (8 * i + j) dots && row_dot row (8 * i + j))
@@ -160,7 +160,7 @@ none-more laid from p c none = elim (cases_lt c (8 * p)) [
       ∙ sym (ap (λ b. is_in_bytes from (p + 1) c && b) (none behind) ∙ and-none _)
 ]
 
--- two stretches of bytes, one behind the other
+-- two stretches of bytes, one after the other
 pub laid-joins : (laid : ℕ → Bool) (from mid to c : ℕ) → from ≤ mid → mid ≤ to
     → ((is_in_bytes from mid c && laid c) || (is_in_bytes mid to c && laid c)) ≡ (is_in_bytes from to c && laid c)
 laid-joins laid from mid to c first second = elim (cases_lt c (8 * mid)) [
@@ -181,11 +181,11 @@ laid-stretch old mid new laid from at to c first second so_far step =
 
 -- ---- a row that is laid
 
--- no dot of a row is laid at or behind its end
+-- no dot of a row is laid at or past its end
 pub none-behind : (row : List ℕ) (dots x c : ℕ) → x + dots ≤ c → laid_dot row dots x c ≡ false
 none-behind row dots x c behind = ap (λ b. nat_le x c && (b && row_dot row (c - x))) (le-ltb (c - x) dots (omega arith)) ∙ and-none _
 
--- all dots of a row stand in its bytes
+-- all dots of a row are in its bytes
 pub laid-all : (row : List ℕ) (dots x from to c : ℕ)
     → 8 * from ≤ x → x + dots ≤ 8 * to → (is_in_bytes from to c && laid_dot row dots x c) ≡ laid_dot row dots x c
 laid-all row dots x from to c first last = elim (cases_lt c x) [
@@ -217,11 +217,11 @@ laid-whole row dots x i j whole low =
     (le-leb x (8 * (x / 8 + 1 + i) + j) (omega arith))
     ∙ ap (λ b. b && row_dot row (8 * (x / 8 + 1 + i) + j - x)) (lt-ltb (8 * (x / 8 + 1 + i) + j - x) dots (omega arith)))
 
--- the dots of a row of so many from a place on, in a byte
+-- the dots of byte i of a row of `dots` dots
 abbrev pub IsPart : List ℕ → ℕ → ℕ → ℕ → Type 0
 IsPart row dots i part = (j : ℕ) → j < 8 → bit_at part j ≡ (nat_lt (8 * i + j) dots && row_dot row (8 * i + j))
 
--- those of the byte before a byte, of which the first one has none
+-- those of the byte before; the first byte has none before it
 abbrev pub IsPartBefore : List ℕ → ℕ → ℕ → ℕ → Type 0
 IsPartBefore row dots i part = (j : ℕ)
     → j < 8 → bit_at part j ≡ (nat_le 8 (8 * i + j) && (nat_lt (8 * i + j - 8) dots && row_dot row (8 * i + j - 8)))

@@ -13,7 +13,7 @@ use Rattle.dot_planes.specs.Tables.{row_dot}
 use Rattle.dot_planes.proofs.LaidBytes.{IsPart}
 use Rattle.dot_planes.proofs.PackedRows.{no_bit}
 
--- ---- any of so many
+-- ---- any of n numbers
 
 any-at : (f : ℕ → Bool) (m n k : ℕ) → k < n → f (m + k) ≡ true → list_any f (count_from m n) ≡ true
 any-at f m zero k low on = absurd (omega arith)

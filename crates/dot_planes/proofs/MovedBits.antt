@@ -1,4 +1,4 @@
--- The dots of a byte that is moved to the left, or cut off behind its first dots.
+-- The dots of a byte that is moved to the left, or cut off after its first dots.
 use Rattle.std.proofs.Common.{◌≡◌, ℕ, zero, suc, ◌+◌, ◌-◌, ◌*◌, ◌/◌, ◌%◌, ◌^◌, ◌==◌, ◌<◌, ◌≤◌, Bool, true, ◌&&◌, ◌||◌}
 use Rattle.std.proofs.Common.{nat_le, nat_lt, refl, ◌∙◌, ap, arith, bit_and, bit_or, max}
 use Rattle.std.proofs.lemmas.Bool.{agree_below, agree_below_at}

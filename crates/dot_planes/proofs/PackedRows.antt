@@ -77,7 +77,7 @@ packed_back (suc n) (b ∷ row) dots len bytes same =
     (omega arith) (λ k. bytes (suc k)) (λ k. get_or-drop 8 dots k false ∙ same (8 + k) ∙ next_byte b row k) in
     ap (λ m. m ∷ packed_bytes n (drop 8 dots)) first ∙ ap (λ ms. b ∷ ms) rest
 
--- A packed row is that of its dots, where it has none behind its width.
+-- A packed row is that of its dots, where its spare bits are 0.
 pub row_packed : (width : ℕ) (row : List ℕ) → length row ≡ row_len width → ((k : ℕ) → get_or row k 0 < 256)
     → ((x : ℕ) → width ≤ x → row_dot row x ≡ false) → row ≡ packed (map (row_dot row) (count_from 0 width))
 row_packed width row len bytes spare =

@@ -24,7 +24,7 @@ room : (t : AmountTable) (i y x a k : ℕ) (part new : List ℕ) → IsPut t i y
 room t i y x a k part new p =
     omega (arith, bytes_inside t.width (t.inks * t.rows) (i * t.rows + y) (row_inside t.inks t.rows i y p.ink p.row))
 
--- bytes outside of the part stay
+-- bytes outside of the part are unchanged
 outside : (t : AmountTable) (i y x a k : ℕ) (part new : List ℕ) → IsPut t i y x a k part new → (from end : ℕ) → from ≤ a → a + k ≤ end
     → (n : ℕ) → (n < from) ⊎ (end ≤ n) → get_or new n 0 ≡ get_or t.bytes n 0
 outside t i y x a k part new p from end low high n where_is =

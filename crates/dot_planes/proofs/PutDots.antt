@@ -16,7 +16,7 @@ use Rattle.dot_planes.proofs.Writes.{put_inside, put_len, put_outside}
 abbrev pub with_bytes : DotTable → List ℕ → DotTable
 with_bytes t bytes = record { width = t.width; rows = t.rows; inks = t.inks; bytes = bytes }
 
--- no row of bytes has a dot behind the width
+-- no row of bytes has a dot past the width
 abbrev pub IsSpare : DotTable → List ℕ → Type 0
 IsSpare t bytes = (n x : ℕ) → n < t.inks * t.rows → t.width ≤ x → row_dot (row_at (row_len t.width) bytes n) x ≡ false
 

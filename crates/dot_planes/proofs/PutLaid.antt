@@ -15,7 +15,7 @@ pub record IsLaidOver (t : DotTable) (i y x : ℕ) (row : List ℕ) (dots : ℕ)
   pub inside : x + dots ≤ t.width
   pub is : (c : ℕ) → row_dot over c ≡ (row_dot (row_at (row_len t.width) t.bytes (i * t.rows + y)) c || laid_dot row dots x c)
 
--- no dot of the row stands beside it
+-- no dot of the row is laid beside it
 laid-beside : (row : List ℕ) (dots x c : ℕ) → (c < x) ⊎ (x + dots ≤ c) → laid_dot row dots x c ≡ false
 laid-beside row dots x c (inl left) = ap (λ b. b && (nat_lt (c - x) dots && row_dot row (c - x))) (lt-leb x c left)
 laid-beside row dots x c (inr right) = ap (λ b. nat_le x c && (b && row_dot row (c - x))) (le-ltb (c - x) dots (omega arith)) ∙ and-none _
@@ -27,7 +27,7 @@ laid-inside row dots x k low =
     ∙ ap (λ n. nat_lt n dots && row_dot row n) place
     ∙ ap (λ b. b && row_dot row k) (lt-ltb k dots low)
 
--- it is a packed row, with no dot behind its width
+-- it is a packed row, with spare bits of 0
 pub laid-packed : (t : DotTable) (i y x : ℕ) (row : List ℕ) (dots : ℕ) (over : List ℕ) → IsLaidOver t i y x row dots over
     → length over ≡ row_len t.width → ((k : ℕ) → get_or over k 0 < 256)
     → ((c : ℕ) → t.width ≤ c → row_dot (row_at (row_len t.width) t.bytes (i * t.rows + y)) c ≡ false)

@@ -4,7 +4,7 @@ use Rattle.std.proofs.lemmas.Bool.{cases_lt}
 use Rattle.escp2_definitions.specs.Machine.{bit_at}
 use Rattle.dot_planes.specs.Tables.{row_dot}
 
--- Byte n of the nine that a tile's row of eight goes to: it begins at offset 8 n + shift - 8 of the tile.
+-- Byte n of the nine that the eight bytes of a tile's row go to: it begins at offset 8 n + shift - 8 of the tile.
 pub record IsByte (dots : List ℕ) (n shift left right from to : ℕ) : Type 0 where
   pub few : n ≤ 8
   pub low : shift < 8
@@ -51,7 +51,7 @@ taken_to dots n shift left right from to k offset b low inside here = elim (case
   | inr last ↦ omega (arith, b.last_to (omega (arith, b.few)))
 ]
 
--- all others stay
+-- all others are unchanged
 pub not_taken : (dots : List ℕ) (n shift left right from to most k : ℕ) → IsByte dots n shift left right from to
     → k < 8 → ((offset : ℕ) → k < most → offset < 64 → ¬ (8 * n + shift + k ≡ offset + 8)) → (k < from) ⊎ (min to most ≤ k)
 not_taken dots n shift left right from to most k b low none = elim (cases_lt k most) [

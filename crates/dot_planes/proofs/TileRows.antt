@@ -12,7 +12,7 @@ pub record TakesDots (width c r b : ℕ) (dots : List ℕ) (old new : ℕ) : Typ
   pub pixels : (k offset : ℕ) → k < 8 → IsInRow width c r offset (8 * b + k) → bit_at new k ≡ row_dot dots offset
   pub others : (k : ℕ) → k < 8 → ((offset : ℕ) → ¬ IsInRow width c r offset (8 * b + k)) → bit_at new k ≡ bit_at old k
 
--- told by the offset at which the byte begins
+-- the same by the offset at which the byte begins
 pub takes_dots : (width c r b skip shift : ℕ) (dots : List ℕ) (old new : ℕ) → 2 * r ≡ 8 * skip + shift → 8 * c ≤ b + skip + 1
     → ((k offset : ℕ) → k < 8 → k < width - 8 * b
     → offset < 64 → 8 * (b + skip + 1 - 8 * c) + shift + k ≡ offset + 8 → bit_at new k ≡ row_dot dots offset)
@@ -81,7 +81,7 @@ put_more width c r b new dots first row room t p = record {
   ];
 }
 
--- before the first byte nothing is taken
+-- no dot of the row comes before the first byte
 pub put_none : (width c r skip shift start : ℕ) (dots row : List ℕ)
     → shift < 8 → 2 * r ≡ 8 * skip + shift → start ≡ 8 * c - (skip + 1) → PutsDots width c r (8 * start) dots row row
 put_none width c r skip shift start dots row low lean first = record {
@@ -90,7 +90,7 @@ put_none width c r skip shift start dots row low lean first = record {
   others = λ x none. refl;
 }
 
--- nor behind the last
+-- none comes after the last
 pub put_all : (width c r skip shift b end : ℕ) (dots first row : List ℕ)
     → 2 * r ≡ 8 * skip + shift → (end ≡ 8 * c + 8 - skip) ⊎ (width ≤ 8 * end) → shift < 8 → end ≤ b
     → PutsDots width c r (8 * b) dots first row → PutsDots width c r width dots first row

@@ -20,7 +20,7 @@ put_inside a k i xs ys room inside =
     ∙ ap (λ n. get_or (ys ++ drop k (drop a xs)) n 0) place
     ∙ get_or_append_left ys _ 0 i inside
 
--- and those behind it
+-- and those after it
 pub put_above : (a k i : ℕ) (xs ys : List ℕ) → a ≤ length xs → length ys ≡ k → a + k ≤ i → get_or (put_mid a k xs ys) i 0 ≡ get_or xs i 0
 put_above a k i xs ys room len above =
     let place : a + (k + (i - a - k)) ≡ i = omega arith in

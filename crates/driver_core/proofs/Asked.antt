@@ -1,4 +1,4 @@
--- What a run comes to, where its words ask for a command and a profile.
+-- The outcome of a run whose words ask for a command and a profile.
 use Rattle.std.proofs.Common.{◌≡◌, ℕ, ◌⊎◌, List, Option, None, Some, Result, Ok, Err, inl, inr, refl, sym, ◌∙◌, subst}
 use Rattle.std.specs.Io.KnownBytes.{Appends, Keeps}
 use Rattle.driver_answer.specs.declared.answer.Answer.{Answer}
@@ -26,7 +26,7 @@ pub data NoShelf (words : List (List ℕ)) (o : Outsides) (a : Answer) : Type 0 
   ShelfFailed : a ≡ answer.Read → HasFailed o.shelf → built_in (profile_named words) ≡ None → NoShelf words o a
   ShelfFull : a ≡ answer.Memory → NoShelf words o a
 
--- what a command line that asks for a command comes to
+-- the outcome of a command line that asks for a command
 pub data Asked (words : List (List ℕ)) (command : Verb) (job : Job) (r : Result Profile Refusal) (o : Outsides) (a : Answer) : Type 0 where
   WithoutShelf : NoShelf words o a → Untouched o → o.meters.now ≡ (metered job o.meters).before → Asked words command job r o a
   IsRefused : (line : ℕ) → (cause : ProfileCause)

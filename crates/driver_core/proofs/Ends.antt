@@ -1,4 +1,4 @@
--- What printing comes to, at each of its ends.
+-- The outcome of printing, at each of its ends.
 use Rattle.std.proofs.Common.{◌≡◌, ℕ, ◌+◌, ◌-◌, ◌*◌, inl, inr, ◌≤◌, List, [], ◌∷◌, ◌++◌, length, Option, None, Some, IfNone, IfSome}
 use Rattle.std.proofs.Common.{Err, IsErrOf, refl, sym, ◌∙◌, ap, subst, arith, append_assoc, append-nil}
 use Rattle.std.specs.List.{AllByRecursion}
@@ -69,14 +69,14 @@ left_end : (left : Option (List ℕ)) (unread : List ℕ) → IsAtEnd (text_behi
 left_end None unread end = tt
 left_end (Some ys) unread end = nil_behind unread ys end
 
--- bytes that were used, and those that are in hand, were taken
+-- bytes that were used and bytes that are unread were taken
 text_taken : (before left : Option (List ℕ)) (unread bytes : List ℕ)
     → Consumes before (text_behind unread left) bytes → Consumes before left (bytes ++ unread)
 text_taken None left unread bytes uses = tt
 text_taken (Some xs) None unread bytes uses = absurd uses
 text_taken (Some xs) (Some ys) unread bytes uses = uses ∙ sym (append_assoc bytes unread ys)
 
--- the text ended, and another read found nothing more
+-- the text ended, and another read found no more
 text_ended : (before text left : Option (List ℕ)) (unread bytes : List ℕ) → Consumes before text bytes
     → IsAtEnd text → UsesSome text (text_behind unread left) → IsAtEnd (text_behind unread left)
     → Consumes before left bytes
@@ -151,7 +151,7 @@ some_printed p k before left left' held now meters old new number f0 f2 g0 g1 so
   counts,
 )
 
--- want of memory before the next page is counted
+-- memory runs out before the next page is counted
 full_before : (p : Printer) (k : Table) (input out : Outside) (meters : Meters)
     → PrintsCounted p k input out meters → PrintStopped p k input out meters print.Memory
 full_before p k input out meters printed = (printed.0, inl printed.1)
@@ -270,7 +270,7 @@ page_not_written p k before left held now now' meters reader number f0 f2 g0 g1 
   counts,
 )
 
--- a page was read, and nothing of its job written
+-- a page was read, and nothing of its job was written
 pub page_without_room : (p : Printer) (k : Table) (before left held now now' : Option (List ℕ))
     (meters : Meters) (reader : PageReader) (number f0 f2 g0 g2 : ℕ) (page : Page)
     → (read : StreamRead p k before left held now reader number page) → CountsPages p k meters (read.done ++ page ∷ []) → Keeps now now'

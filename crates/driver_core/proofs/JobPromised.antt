@@ -1,4 +1,4 @@
--- What a run promises of print jobs, from the answer that it comes to.
+-- The promises of a run for print jobs, from its answer.
 use Rattle.std.proofs.Common.{◌≡◌, ℕ, ◌⊎◌, List, [], Option, None, Some, Result, Ok, Err, inl, inr, refl}
 use Rattle.std.proofs.Common.{sym, ◌∙◌, ap, subst, arith, append-nil, take}
 use Rattle.std.specs.Io.KnownBytes.{Appends, Consumes, Keeps}

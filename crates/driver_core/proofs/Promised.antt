@@ -1,4 +1,4 @@
--- What a run promises, from the answer that it comes to.
+-- The promises of a run, from its answer.
 use Rattle.std.proofs.Common.{◌≡◌, ℕ, ◌⊎◌, List, [], ◌∷◌, ◌++◌, Option, None, Some, Result, Ok, Err, IsErr, inl, inr, refl}
 use Rattle.std.proofs.Common.{sym, ◌∙◌, ap, subst, arith, append-nil, append_assoc, All}
 use Rattle.std.proofs.lemmas.List.Elements.{All-get_or}
@@ -82,7 +82,7 @@ at_work words command job p o a s is not_read not_full other asks outcome = by_c
     by_case (HasNone none untouched uncounted) = by_status (no_shelf words o a s is none)
     by_case (Does does) = does
 
--- nothing failed, so a command that did not work found no memory
+-- nothing failed, so that a command that did not do its work ran out of memory
 pub calm_work : (words : List (List ℕ)) (command : Verb) (job : Job) (p : Profile) (o : Outsides) (a : Answer) (s : ℕ)
     → s ≡ status_of a → (HasFailed o.shelf → ⊥) → (command ≡ verb.List → ⊥)
     → AsksFor words o.shelf.told command job (Ok p) → Outcome words o a → (s ≡ 7) ⊎ VerbOutcome command job p o (metered job o.meters) a
@@ -93,7 +93,7 @@ calm_work words command job p o a s is calm other asks outcome = by_case (has_pr
     by_case (HasNone (ShelfFull e) untouched uncounted) = inl (is ∙ ap status_of e)
     by_case (Does does) = inr does
 
--- ---- what printing comes to, by the status
+-- ---- the outcome of printing, by the status
 
 print_done : (p : Printer) (k : Table) (input out : Outside) (meters : Meters) (s : ℕ) (end : Result
     (Unit {0}) PrintStop) → PrintOutcome p k input out meters end → s ≡ status_of (answer_of print_answer end) → s ≡ 0
@@ -184,7 +184,7 @@ has_no_room accounts n over first room =
     (All-get_or (HasRoom n) accounts over.index first.account here room) in
     omega (arith, has, first.full)
 
--- a page that goes past a cap is none of pages that are admitted
+-- a page that goes past a cap is not among pages that are admitted
 never_over : (p : Printer) (k : Table) (input out : Outside) (meters : Meters) (bytes : List ℕ) (pages : List Page)
     (end : StreamEnd) (number total dots cap : ℕ) → GoesOver p k input out meters number total dots cap
     → input.before ≡ Some bytes → stream (wanted_by p) bytes ≡ record { pages = pages; end = end } → Admitted p k pages meters.before → ⊥
@@ -257,7 +257,7 @@ print_capped p k input out meters s
     (Err (print.OverCap page' total dots cap)) bytes pages later page e' does e told is full calm_in calm_out = inl e
 print_capped p k input out meters s (Err print.Memory) bytes pages later page e' does e told is full calm_in calm_out = inr e
 
--- nothing taken and nothing written are the first no pages
+-- where nothing was taken and nothing written, the pages are the first 0 pages
 pub consumes_none : (a b : Option (List ℕ)) → Keeps a b → Consumes a b []
 consumes_none None b kept = tt
 consumes_none (Some x) None kept = absurd kept
@@ -285,7 +285,7 @@ prints_none p k input out meters unread unwritten uncounted = (
   record { admitted = tt; counts = uncounted },
 )
 
--- ---- what showing comes to, by the status
+-- ---- the outcome of showing, by the status
 
 show_done : (p : Profile) (out : Outside) (s : ℕ) (end : Result (Unit {0}) ShowStop) → ShowOutcome p out end
     → s ≡ status_of (answer_of show_answer end) → s ≡ 0 → Appends out.before out.now (profile_text_of p)
@@ -705,7 +705,7 @@ print_full_up words o a s job p bytes pages later page end outcome is asks told 
 
 -- ---- a page over a cap
 
--- showing a profile goes over none
+-- showing a profile goes past no cap
 show_counts_none : (p : Profile) (out : Outside) (s : ℕ) (end : Result (Unit {0}) ShowStop)
     → ShowOutcome p out end → s ≡ status_of (answer_of show_answer end) → s ≡ 6 → ⊥
 show_counts_none p out s (Ok u) does e six = omega arith

@@ -1,4 +1,4 @@
--- What a run comes to where there is a profile.
+-- The outcome of a run where there is a profile.
 use Rattle.std.proofs.Common.{◌≡◌, ℕ, List, Result, Ok, inl, inr, refl, sym, ap, ◌∙◌, subst}
 use Rattle.std.specs.Io.KnownBytes.{Keeps}
 use Rattle.diffusion_kernel.specs.Tables.{table_of}

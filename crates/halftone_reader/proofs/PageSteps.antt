@@ -29,7 +29,7 @@ use Rattle.pwg_stream.specs.declared.stops.StreamStop.TheVariants as stop
 use Rattle.halftone_reader.specs.Reading.{ReadsPage}
 use Rattle.halftone_reader.proofs.Lines.{lines_at-enough, lines_at-none, lines_at-read, white-unit, with-both, with-none}
 
--- what the rest of a page is read as, of which so many lines are left
+-- what the rest of a page with this many lines left is read as
 abbrev pub rest_of : PageForm → ℕ → ℕ → List ℕ → LinesRead
 rest_of form most left bytes = let row = row_of form.kind in lines_at row (line_units row form.width) form.height most left bytes
 

@@ -1,4 +1,4 @@
--- A loop that goes over places of a list, each of whose elements stands for a value, and changes one value after another.
+-- A loop over places of a list, each of whose elements stands for a value, that changes one value after another.
 use Rattle.std.proofs.Common.{◌≡◌, ℕ, ◌+◌, ◌-◌, ◌<◌, List, [], ◌∷◌, ◌++◌, Some, slice_get, map, length, take}
 use Rattle.std.proofs.Common.{drop, get_or, set, All, ap, sym, ◌∙◌, subst, arith}
 use Rattle.std.proofs.lemmas.List.{get_or-append_right, get_or-drop, get_or-map, length-map, length-take-le, map-set, take_more}
@@ -11,7 +11,7 @@ pub value_at : {B A : Type 0} (f : B → A) (xs : List B) (i : ℕ) (x : B)
     → i < length xs → x ≡ get_or xs i x → f x ≡ get_or (map f xs) i (f x)
 value_at f xs i x h is = ap f is ∙ sym (get_or-map f xs i x (f x) h)
 
--- the first i values are changed, and the others as before
+-- the first i values are changed, and the others are not
 abbrev pub ChangesSoFar : {B A : Type 0} (f : B → A) (step : A → A) (old now : List B) (i : ℕ) → Type 0
 ChangesSoFar f step old now i = map f now ≡ map step (take i (map f old)) ++ drop i (map f old)
 

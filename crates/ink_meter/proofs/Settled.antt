@@ -1,4 +1,4 @@
--- The sum of meters so far, one meter on.
+-- The sum of the meters so far, and one meter more.
 use Rattle.std.proofs.Common.{◌≡◌, ℕ, ◌+◌, ◌<◌, List, ◌∷◌, Option, Some, None, IsNone, refl, map, length, drop, get_or, ap, sym, ◌∙◌, arith}
 use Rattle.std.proofs.lemmas.List.{drop_more, length-map}
 use Rattle.weave_base.specs.declared.answers.InkCounts.{InkCounts}

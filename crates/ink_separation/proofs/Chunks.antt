@@ -12,7 +12,7 @@ use Rattle.separation_definitions.specs.Amounts.{amount, pixel_at, pixel_ink}
 use Rattle.ink_separation.specs.Given.{IsGiven, given_to}
 use Rattle.ink_separation.specs.declared.given.Given.{Given}
 
--- The bytes are those of so many pixels of a line from one pixel on.
+-- The bytes are those of `many` pixels of a line from pixel `first` on.
 pub record IsChunk (line chunk : List ℕ) (unit first many : ℕ) : Type 0 where
   pub at : (i : ℕ) → i < many * unit → get_or chunk i 0 ≡ get_or line (first * unit + i) 0
 

@@ -9,7 +9,7 @@ use Rattle.separation_definitions.specs.Amounts.{Colour, colour_ink, common_dark
 use Rattle.ink_separation.specs.Given.{IsBlackTable, colour_at, given_to}
 use Rattle.ink_separation.specs.declared.given.Given.{Given}
 
--- a grey beside black gives nothing to the colours
+-- a grey in a set with black gives nothing to the colours
 pub grey_beside_black : (inks : InkSet) (dark none : List ℕ) → inks ≡ Cmyk → ((x : ℕ) → x < 64 → get_or none x 0 ≡ 0)
     → (ink : Ink) (x : ℕ) → x < 64
     → get_or (given_to (record { black = dark; cyan = none; magenta = none; yellow = none }) ink) x 0
@@ -19,14 +19,14 @@ grey_beside_black inks dark none is zeros Cyan x low = zeros x low ∙ ap (λ se
 grey_beside_black inks dark none is zeros Magenta x low = zeros x low ∙ ap (λ set. grey_ink set Magenta (get_or dark x 0)) (sym is)
 grey_beside_black inks dark none is zeros Yellow x low = zeros x low ∙ ap (λ set. grey_ink set Yellow (get_or dark x 0)) (sym is)
 
--- no darkness below the least is moved into black
+-- no darkness below the least goes to black
 pub moved_below : (least q : ℕ) → q < least → 0 ≡ moved_to_black least q
 moved_below least q below = grind (arith, nat_tests)
 
 pub moved_from : (least q : ℕ) → least ≤ q → (q - least) * 255 / (255 - least) ≡ moved_to_black least q
 moved_from least q above = grind (arith, nat_tests)
 
--- what colours lack of each ink
+-- the complements, for each ink
 pub complements_are : (pixels none cyan magenta yellow : List ℕ) → length pixels ≤ 192 → ((x : ℕ) → x < 64 → get_or none x 0 ≡ 0)
     → ((x : ℕ) → 3 * x + 3 ≤ length pixels → get_or cyan x 0 ≡ 255 - get_or pixels (3 * x + 0) 0)
     → ((x : ℕ) → 3 * x + 3 ≤ length pixels → get_or magenta x 0 ≡ 255 - get_or pixels (3 * x + 1) 0)

@@ -16,11 +16,11 @@ use Rattle.job_profile.specs.Stops.{OnRefused}
 use Rattle.weave_base.specs.declared.shelf.Found.TheVariants as found
 use Rattle.job_profile.specs.Named.{Refusal, refused_at, shelf_result, text_result}
 
--- the text of a name, where the texts are told, and what it says
+-- the text of a name, where the shelf reports its texts, and what it describes
 abbrev pub Says : Option (List NamedText) → List ℕ → Result Profile Refusal → Type 0
 Says told name r = (held : Option (List ℕ)) × IfSome told (λ files. held ≡ text_named name files) × (shelf_result held ≡ r)
 
--- some text or none, where the texts are told the one of the name
+-- some text or none; where the shelf reports its texts, that of the name
 pub held_for : (told : Option (List NamedText)) (name : List ℕ)
     → (held : Option (List ℕ)) × IfSome told (λ files. held ≡ text_named name files)
 held_for None name = (None, tt)

@@ -26,7 +26,7 @@ job_number (name ∷ words) job h = by_command (command_named name) h where
   by_command None is = cc
   by_command (Some command) is = by_faults command (refused command.keys words []) is
 
--- the first that passes stands at its place
+-- the first that passes is at its place
 placed : {X : Type 0} (p : X → Bool) (k : ℕ) (xs : List X) (n : ℕ)
     → position_from p k xs ≡ Some n → (k ≤ n) × (n - k < length xs) × (find p xs ≡ slice_get xs (n - k))
 placed p k [] n h = cc
@@ -51,7 +51,7 @@ unplaced p k (x ∷ xs) h = by_test (p x) h (unplaced p (k + 1) xs) where
   by_test true is later = cc
   by_test false is later = later is
 
--- the words behind the command are counted from 1
+-- the words after the command are counted from 1
 behind : (words : List (List ℕ)) (k : ℕ) → slice_get (drop 1 words) k ≡ slice_get words (k + 1)
 behind [] k = refl
 behind (first ∷ words) k = rw add-one refl

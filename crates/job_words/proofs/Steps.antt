@@ -10,7 +10,7 @@ use Rattle.job_words.specs.Meaning.{refused, word_fault, faults_at, fault_at}
 use Rattle.job_words.specs.Reading.{IsGiven}
 use Rattle.job_words.specs.declared.reading.Given.{Given}
 
--- the first of the words behind the command are accepted, and what they give is kept
+-- the first of the words after the command are accepted, and what they give is kept
 pub record SoFar (keys : List KeyRow) (words : List (List ℕ)) (count : ℕ) (given : Given) : Type 0 where
   pub rest : refused keys words [] ≡ refused keys (drop count words) (take count words)
   pub kept : IsGiven (take count words) given
@@ -31,7 +31,7 @@ left words count word here =
     drop_more words count [] (slice_get_within words count word here)
     ∙ ap (λ w. w ∷ drop (count + 1) words) (get_or_from_slice_get words count word [] here)
 
--- the words behind the command are counted from 1
+-- the words after the command are counted from 1
 pub behind : (words : List (List ℕ)) (i : ℕ) (word : List ℕ)
     → 1 ≤ i → slice_get words i ≡ Some word → slice_get (drop 1 words) (i - 1) ≡ Some word
 behind [] i word h here = cc

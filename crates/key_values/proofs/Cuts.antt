@@ -9,12 +9,12 @@ use Rattle.std.proofs.lemmas.Str.Pattern.{IsSplitOnceResult, split_once_first}
 use denote.Ref.{Bor}
 use Rattle.key_values.specs.Pairs.{IsCut, is_equals_sign, is_key_value, key_of, value_of}
 
--- an element passes just where the first that does stands within
+-- an element passes exactly where the first that does is among them
 pub some_place : {X : Type 0} (p : X → Bool) (xs : List X) → list_any p xs ≡ ltb (position_or_len p xs) (length xs)
 some_place p [] = refl
 some_place p (x ∷ xs) = grind (arith, nat_tests, some_place p xs)
 
--- where the first that passes stands
+-- the place of the first that passes
 found_within : (first len i : ℕ) → Some i ≡ cond (ltb first len) (Some first) None → (ltb first len ≡ true) × (i ≡ first) × (first < len)
 found_within first len i h = by_test (ltb first len) refl h where
   by_test : (test : Bool) → ltb first len ≡ test

@@ -36,7 +36,7 @@ after h diffused planes top slab failed = record {
   failed = failed;
 }
 
--- a line and those that follow it, behind the lines so far
+-- a line and those that follow it, after the lines so far
 behind : (lines : List (List ℕ)) (line : List ℕ) (more : List (List ℕ)) → (lines ++ line ∷ []) ++ more ≡ lines ++ (line ∷ more)
 behind lines line more = append_assoc lines (line ∷ []) more
 
@@ -65,7 +65,7 @@ in_margin h line lines margin s =
       blank = s.blank;
     }
 
--- What is known where a line is the next row of the window, and was put behind the rows held.
+-- What is known where a line is the next row of the window and was put after the held rows.
 pub record IsNextRow (h : Halftoning) (line : List ℕ) (y : ℕ) (slab : AmountTable) : Type 0 where
   pub place : (window h).top + y ≡ h.count
   pub inside : y < (window h).height
@@ -154,7 +154,7 @@ slab_full h line lines y rows rows' top bottom planes failed next all s =
           ∙ s.blank i r x (omega (arith, next.from)) (omega (arith, size));
     }
 
--- Before the first line nothing is diffused or held.
+-- Before the first line no row is diffused or held.
 pub at_top : (h : Halftoning) → h.count ≡ 0 → h.diffused ≡ 0
     → ((i t n : ℕ) → top_of (edges_of h.top i) t n ≡ pos 0) → ((i y x : ℕ) → dot h.planes i y x ≡ false)
     → StandsFor h []
@@ -183,7 +183,7 @@ at_top h none first zeros blank =
     above k p (suc zero) n two = (errors_top k p no_top n).1
     above k p (suc (suc t)) n two = absurd (omega arith)
 
--- the amounts in hand do not depend on lines and dots
+-- the current amounts do not depend on lines and dots
 pub amounts_kept : (h h' : Halftoning) (line : List ℕ) → IsSamePage h h' → h'.line ≡ h.line → HasAmountsOf h line → HasAmountsOf h' line
 amounts_kept h h' line same line_same a =
     let with : Profile → PageForm
@@ -206,7 +206,7 @@ amounts_kept h h' line same line_same a =
     (subst by_form (sym same.form) (subst by_profile (sym same.profile) (record { are = a.are }))) in
     record { are = now.are }
 
--- a line once more behind its repeats
+-- a line once more after its repeats
 pub repeats_more : (lines : List (List ℕ)) (n : ℕ) (line : List ℕ)
     → (lines ++ replicate n line) ++ line ∷ [] ≡ lines ++ replicate (n + 1) line
 repeats_more lines n line =

@@ -45,7 +45,7 @@ same_dots k p q e y x same low across =
     ∙ ap (λ h. (ltb x p.width && ltb y h) && is_dot (value_at k q e y x)) same.height
     ∙ ap (λ a. inside p y x && is_dot (v a)) (same.amounts y x low across)
 
--- A line is put behind the rows that are held.
+-- A line is put after the held rows.
 pub row_more : (k : Table) (p : Plane) (i d n : ℕ) (planes : DotTable) (top : List (List (List ℤ))) (old new line : AmountTable)
     → IsUpTo k p i d n planes top old → PutsLine line n old new → i < old.inks → old.width ≡ p.width → n < old.rows
     → ((x : ℕ) → x < p.width → amount line i 0 x ≡ p.amount (d + n) x) → IsUpTo k p i d (n + 1) planes top new

@@ -8,7 +8,7 @@ use Rattle.weave_definitions.specs.Weave.{count_from}
 
 -- ---- what holds of each element
 
--- a fact of everything is one of each element
+-- a fact of all values is one of each element
 pub each-of : {X : Type 0} (P : X → Type 0) (xs : List X) → ((x : X) → P x) → AllByRecursion P xs
 each-of P [] every = tt
 each-of P (x ∷ xs) every = (every x, each-of P xs every)

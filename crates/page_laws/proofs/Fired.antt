@@ -80,7 +80,7 @@ blank-rows p above ink start (row ∷ rows) e =
     ap (λ ds. ds ++ rows_fired p above ink (start + p.pitch) rows) (blank-row p ink (start - above) 0 row both.left)
     ∙ blank-rows p above ink (start + p.pitch) rows both.right
 
--- ---- what the machine fires stands where it is fired on paper
+-- ---- what the machine fires is where it is fired on paper
 
 -- a row at its place
 row-is : (p : Printer) (ink : Ink) (y x place : ℕ) (row : List Bool) → CanPrint p → place ≡ (p.top + y) * 3600 / p.vdpi

@@ -24,7 +24,7 @@ use Rattle.page_laws.proofs.Prologue.{place-is}
 
 -- ---- strokes of a page
 
--- A stroke that fires within the window: its rows are whole, and the head stands above the window's end.
+-- A stroke that fires within the window: its rows are whole, and the head is above the window's end.
 pub record Lies (w : Layout) (stroke : Stroke) : Type 0 where
   pub whole : (ink : Ink) → IsWhole w.printer.nozzles w.halftone.width (stroke.rows ink)
   pub on_window : (ink : Ink) → IsOnWindow w.printer.pitch w.above w.halftone.height stroke.start (stroke.rows ink)

@@ -18,8 +18,8 @@ use Rattle.page_laws.proofs.Totals.{row-total, total, total-none, total-plus, to
 
 -- ---- how often a place is fired
 
--- How often rows of which the first nozzle stands at this row fire row y of the window at column x. (A row with a dot
--- lies on the window, so that the difference is its row there.)
+-- How often rows, where the first nozzle is on this row, fire row y of the window at column x. (A row with a dot lies
+-- on the window, so that the difference is its row there.)
 abbrev pub rows_hits : ℕ → ℕ → ℕ → ℕ → ℕ → List (List Bool) → ℕ
 rows_hits pitch above y x start [] = 0
 rows_hits pitch above y x start (row ∷ rows) = cond ((start - above == y) && at row x) 1 0 + rows_hits pitch above y x (start + pitch) rows

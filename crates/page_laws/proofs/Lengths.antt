@@ -135,7 +135,8 @@ filter-whole {X = X} P test (x ∷ xs) all = by_head (test x) (filter-whole P te
     by_head true rest = (all.0, rest)
     by_head false rest = rest
 
--- Strokes of whole rows, by a code that gives at most twice the bytes of its row, make a job of at most so many bytes.
+-- Strokes of whole rows, by a code that gives at most twice the bytes of its row, make a job of at most this many
+-- bytes.
 pub bytes-short : (coding : Coding) (p : Printer) (width height len : ℕ) (strokes : Strokes) → IsShortCode coding.code
     → AllByRecursion (λ stroke. (ink : Ink) → IsWhole p.nozzles width (stroke.rows ink)) strokes.list
     → length (strokes_bytes coding p width height len strokes) ≤ 49 + length strokes.list * most_stroke p width

@@ -11,7 +11,7 @@ use Rattle.pwg_definitions.specs.declared.pages.PageForm.{PageForm}
 use Rattle.pwg_definitions.specs.Header.{IsWanted}
 use Rattle.weave_definitions.specs.Weave.{pass_count}
 
--- a place on paper is so many whole steps
+-- a place on paper is a whole number of steps
 places : (dpi n : ℕ) → (dpi ≡ 360) ⊎ (dpi ≡ 720) → n * 3600 / dpi ≡ n * (3600 / dpi)
 places dpi n (inl e) =
     let at : n * 3600 / 360 ≡ n * (3600 / 360) = omega arith in
@@ -47,7 +47,7 @@ longest dpi n (inr e) h =
 pub row_place : (p : Printer) (n : ℕ) → CanPrint p → n * 3600 / p.vdpi ≡ n * row_step p
 row_place p n c = places p.vdpi n c.down
 
--- columns and rows stand whole steps apart
+-- columns and rows are whole steps apart
 pub column_place : (p : Printer) (n : ℕ) → CanPrint p → n * 3600 / p.hdpi ≡ n * column_step p
 column_place p n c = places p.hdpi n c.across
 
@@ -84,7 +84,7 @@ on_grid n step some =
     let same : n * step + 0 ≡ n * step = omega arith in
     ap (λ m. m % step) (sym same) ∙ mod-mul-add n step 0 (omega arith)
 
--- rows and columns stand in their order
+-- rows and columns are in their order
 pub rises : (a b step : ℕ) → 1 ≤ step → a < b → a * step < b * step
 rises a b step some less =
     let more : (a + 1) * step ≤ b * step = mul-le-mul_right step (omega arith) in omega arith
@@ -99,7 +99,7 @@ length-fits p h tall can size =
     let rows : 1 * 1 ≤ tall * row_units p = mul-le-mul some (row_units-some p can) in
     (omega (arith, rows), omega (arith, size.short))
 
--- the margins of a window stand in their order, and on the sheet
+-- the margins of a window are in their order, and on the sheet
 pub margins-fit : (p : Printer) (h : Halftone) (above tall : ℕ) → CanPrint p → Sized p h tall
     → ((p.top - above) * row_units p < (p.top + h.height) * row_units p) × ((p.top + h.height) * row_units p ≤ 15840)
 margins-fit p h above tall can size =
@@ -126,7 +126,7 @@ form-sized p h form can is width height = record {
   short = sheet-longest p form.height can is.most_height;
 }
 
--- the first nozzle stands above the window's end in each pass
+-- the first nozzle is above the window's end in each pass
 pub pass-low : (n pitch height t : ℕ) → 1 ≤ n → t < pass_count n pitch height → t * n < (n - 1) * pitch + height
 pass-low n pitch height t some less =
     let all : ℕ = height + (n - 1) * pitch + (n - 1) in

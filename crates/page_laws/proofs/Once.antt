@@ -1,4 +1,4 @@
--- The dots that a page wants are distinct.
+-- The dots that a page asks for are distinct.
 use Rattle.std.proofs.Common.{◌≡◌, ℕ, zero, suc, ◌+◌, ◌*◌, ◌/◌, ◌<◌, ◌≤◌, Bool, true, false, cond, ◌&&◌, ◌==◌, if◌then◌else◌}
 use Rattle.std.proofs.Common.{List, [], ◌∷◌, ◌++◌, refl, sym, ◌∙◌, ap, arith, subst, append_assoc}
 use Rattle.std.proofs.lemmas.Bool.{eqb-true}
@@ -154,7 +154,7 @@ set-most Cmyk Cyan = omega arith
 set-most Cmyk Magenta = omega arith
 set-most Cmyk Yellow = omega arith
 
--- No dot stands twice in the list.
+-- No dot is in the list twice.
 abbrev pub Once : List Dot → Type 0
 Once dots = (d : Dot) → count_by (is_at d) dots ≤ 1
 
@@ -165,12 +165,12 @@ wanted-once p h c d =
     flat-most (is_at d) (ink_wanted p h) (λ ink. cond (same_ink d.ink ink) 1 0) (inks_of p.inks) (λ ink. ink-of p h d ink c) in
     omega (arith, sum, set-most p.inks d.ink)
 
--- Dots that are counted as places are that stand once are exactly these.
+-- Dots that are counted as often as places, each of which occurs once, are exactly these places.
 pub exactly : (dots places : List Dot)
     → ((d : Dot) → count_by (is_at d) dots ≡ count_by (is_at d) places) → Once places → Exactly dots places
 exactly dots places same once = record { counts = λ d. same d ∙ few (is_at d) places (once d) }
 
--- Dots that are exactly these places stand once.
+-- Dots that are exactly these places occur once.
 pub exactly-once : (dots places : List Dot) → Exactly dots places → Once dots
 exactly-once dots places is d = by_any (list_any (is_at d) places) (is.counts d)
   where
@@ -180,7 +180,7 @@ exactly-once dots places is d = by_any (list_any (is_at d) places) (is.counts d)
 
 -- ---- dots among others
 
--- dots that stand once in a list stand once in a prefix of it
+-- dots that occur once in a list occur once in a prefix of it
 pub once-front : (a b more : List Dot) → Once (a ++ (b ++ more)) → Once (a ++ b)
 once-front a b more once d =
     omega (arith, once d, count-append (is_at d) a (b ++ more), count-append (is_at d) b more, count-append (is_at d) a b)

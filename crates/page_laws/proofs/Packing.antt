@@ -20,7 +20,7 @@ same_bits (true ∷ xs) (false ∷ ys) = false
 same_bits (false ∷ xs) (true ∷ ys) = false
 same_bits (false ∷ xs) (false ∷ ys) = same_bits xs ys
 
--- rows that are told equal are equal
+-- rows that the test finds equal are equal
 same_bits-is : (xs ys : List Bool) → same_bits xs ys ≡ true → xs ≡ ys
 unfolding same_bits
 same_bits-is [] [] e = refl
@@ -81,7 +81,7 @@ front : (n : ℕ) (row : List Bool) → take (length row) (bits (packed_bytes (s
 front n row = ap (λ bs. take (length row) (bs ++ bits (packed_bytes n (drop 8 row))))
     (byte_bits-worths (at row 0) (at row 1) (at row 2) (at row 3) (at row 4) (at row 5) (at row 6) (at row 7))
 
--- the packed bytes hold the row, and blanks behind it
+-- the packed bytes hold the row, followed by blanks
 pub bits-packed_bytes : (n : ℕ) (row : List Bool) → length row ≤ n * 8 → take (length row) (bits (packed_bytes n row)) ≡ row
 bits-packed_bytes zero [] fits = refl
 bits-packed_bytes zero (a ∷ row) fits = absurd (omega arith)

@@ -144,7 +144,7 @@ strokes-run w (stroke ∷ strokes) last dots job is rising lie once =
 abbrev pub page_says : Layout → List Stroke → List Spoken
 page_says w strokes = begins w ++ (fires_strokes w 0 (filter (fires w.printer) strokes) ++ (say c.Eject ∷ say c.Init ∷ []))
 
--- A job that comes to the end of a page gives the sheet in hand, and leaves the machine as it was at the start.
+-- A job that has come to the end of a page gives the current sheet, and leaves the machine as at the start.
 ends : (w : Layout) (m : Machine) (first : List Spoken) (row across columns : ℕ) (ink : Ink) (dots : List Dot) (job : List Spoken) (at : ℕ)
     → Comes w m first (paused w row across columns ink dots) (say c.Eject ∷ say c.Init ∷ job)
     → (sheet : Sheet) × (at' : ℕ) × (sheet.dots ≡ dots)
@@ -158,7 +158,7 @@ ends w m first row across columns ink dots job at comes =
     let reset = one w empty c.Init [] job refl refl ejected.0 in
     (_, reset.0, refl, there.1 ∙ ejected.1 ∙ ap (with_sheets (given w.printer last c.Eject)) reset.1)
 
--- The job of a page gives one sheet, with the dots that its strokes fire, and leaves the machine as it was at the start.
+-- The job of a page gives one sheet with the dots that its strokes fire, and leaves the machine as at the start.
 pub page-run : (w : Layout) (strokes : List Stroke) (m : Machine) (job : List Spoken) (at : ℕ) → IsLayout w → m.dots ≡ []
     → IsRising 0 strokes → AllByRecursion (Lies w) (filter (fires w.printer) strokes) → Once (strokes_dots w strokes)
     → (sheet : Sheet) × (at' : ℕ) × (sheet.dots ≡ strokes_dots w strokes)

@@ -16,7 +16,7 @@ use Rattle.page_laws.proofs.Fired.{AllWide}
 
 -- ---- lists of numbers
 
--- so many numbers
+-- their number
 pub count_from-len : (n many : ℕ) → length (count_from n many) ≡ many
 count_from-len n zero = refl
 count_from-len n (suc many) = ap suc (count_from-len (n + 1) many)
@@ -34,7 +34,7 @@ no-dot zero x = refl
 no-dot (suc n) zero = refl
 no-dot (suc n) (suc x) = no-dot n x
 
--- a blank row is told blank
+-- the test finds a blank row blank
 blank : (n : ℕ) → list_any (λ on. on) (replicate n false) ≡ false
 blank zero = refl
 blank (suc n) = blank n
@@ -84,7 +84,7 @@ pass-whole p h t ink =
       wide = all-wide h ink row (count_from 0 p.nozzles);
     }
 
--- a nozzle that fires a dot stands over a row of the window
+-- a nozzle that fires a dot is on a row of the window
 over : (h : Halftone) (ink : Ink) (row : ℕ → Option ℕ) (n many i : ℕ)
     → list_any (λ on. on) (slice_index_or (map (λ i. fired_row h ink (row i)) (count_from n many)) i []) ≡ true
     → (y : ℕ) × (row (n + i) ≡ Some y)

@@ -59,7 +59,7 @@ prologue-run w m job is blank =
 
 -- ---- going down
 
--- where a row stands on paper, counted from the head's first place
+-- where a row is on paper, counted from the head's first position
 pub place-is : (w : Layout) (row : ℕ) → IsLayout w
     → first_of w * 5 + row * row_units w.printer * 5 ≡ (w.printer.top - w.above + row) * row_step w.printer
 place-is w row is =

@@ -197,7 +197,7 @@ page-has p k page can is = record {
       );
 }
 
--- so for each of the pages
+-- the same for each page
 pub pages-have : (p : Printer) (k : Table) (pages : List Page) → CanPrint p → ArePages p pages → HavePasses p k pages
 pages-have p k [] can are = tt
 pages-have p k (page ∷ pages) can are = (page-has p k page can are.0, pages-have p k pages can are.1)

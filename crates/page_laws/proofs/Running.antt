@@ -16,7 +16,8 @@ use Rattle.separation_definitions.specs.CanPrint.{CanPrint}
 
 -- ---- a page
 
--- A halftone on a sheet of so many rows, how far above its window the head begins, and how the rows of its rasters are written.
+-- A halftone on a sheet of `tall` rows, how far above its window the head begins, and how the rows of its rasters are
+-- coded.
 pub record Layout : Type 0 where
   pub printer : Printer
   pub coding : Coding
@@ -52,16 +53,16 @@ begins w = prologue w.printer w.above w.halftone.height (len_of w)
 abbrev pub said : (List ℕ → List ℕ) → Spoken → Said
 said code s = record { command = s.command; rows = s.rows; bytes = written code s.command s.rows }
 
--- the entries of a job whose first byte stands at a place
+-- the entries of a job whose first byte has this offset
 abbrev pub entries : (List ℕ → List ℕ) → ℕ → List Spoken → List Entry
 entries code at job = entries_of at (map (said code) job)
 
--- From one state the machine comes to another with the rest of a job, and gives no sheet on the way.
+-- The machine goes from one state to another, which has the rest of a job, and gives no sheet on the way.
 abbrev pub Comes : Layout → Machine → List Spoken → Machine → List Spoken → Type 0
 Comes w s job s' job' = (at : ℕ) → (at' : ℕ) × (execute_from w.printer s (entries w.coding.code at job)
     ≡ execute_from w.printer s' (entries w.coding.code at' job'))
 
--- the machine stays where it is
+-- the machine stays in its state
 pub comes-here : (w : Layout) (s : Machine) (job : List Spoken) → Comes w s job s job
 comes-here w s job at = (at, refl)
 
@@ -109,7 +110,7 @@ one w s command rows job accepted no_sheet at =
 
 -- ---- the states of a page
 
--- After the prologue, so many rows below the head's first place.
+-- After the prologue, this many rows below the head's first position.
 abbrev pub paused : Layout → ℕ → ℕ → ℕ → Ink → List Dot → Machine
 paused w row across columns ink dots = record {
   graphics = true;
@@ -123,13 +124,13 @@ paused w row across columns ink dots = record {
   dots = dots;
 }
 
--- From a row with these dots the machine comes to another with more, whatever its ink, column and columns.
+-- From a row with these dots the machine goes to another with more, whatever its ink, column and columns.
 abbrev pub Goes : Layout → ℕ → List Dot → List Spoken → ℕ → List Dot → List Spoken → Type 0
 Goes w row dots job row' dots' job' =
     (across columns : ℕ) (ink : Ink) → (across' columns' : ℕ) × (ink' : Ink)
     × Comes w (paused w row across columns ink dots) job (paused w row' across' columns' ink' dots') job'
 
--- it goes there by way of another row
+-- it goes there by another row
 pub goes-then : (w : Layout) (r1 r2 r3 : ℕ) (dots1 dots2 dots3 : List Dot) (job1 job2 job3 : List Spoken)
     → Goes w r1 dots1 job1 r2 dots2 job2 → Goes w r2 dots2 job2 r3 dots3 job3 → Goes w r1 dots1 job1 r3 dots3 job3
 goes-then w r1 r2 r3 dots1 dots2 dots3 job1 job2 job3 f g across columns ink =

@@ -1,4 +1,4 @@
--- The commands of a page are in the command table, so that what is written of them spells them.
+-- The commands of a page are in the command table, so that their bytes spell them.
 use Rattle.std.proofs.Common.{◌≡◌, ℕ, zero, suc, ◌+◌, ◌-◌, ◌*◌, ◌/◌, ◌≤◌, inl, inr, Bool, true, false, ◌&&◌, nat_le, if◌then◌else◌, List}
 use Rattle.std.proofs.Common.{[], ◌∷◌, ◌++◌, length, refl, ◌∙◌, ap, arith, length-append, filter, flat_map}
 use Rattle.std.specs.List.{AllByRecursion}

@@ -28,7 +28,7 @@ free d (o ∷ old) e = by_head (is_at d o) refl (free d old)
         count-cons (is_at d) o old ∙ ap (λ b. cond b 1 0 + count_by (is_at d) old) f in
         none-of (is_at d) o old f (rest (omega arith))
 
--- dots of which each place has one at most in both lists overprint nothing
+-- dots with each place at most once in both lists together overprint nothing
 none-over : (old new : List Dot) → ((d : Dot) → count_by (is_at d) old + count_by (is_at d) new ≤ 1) → overprints old new ≡ false
 none-over old [] few = refl
 none-over old (d ∷ new) few =
@@ -37,6 +37,6 @@ none-over old (d ∷ new) few =
     none-of (λ d. list_any (is_at d) old) d new (free d old (omega (arith, few d)))
     (none-over old new (λ e. omega (arith, few e, count-cons (is_at e) d new)))
 
--- new dots that stand once among the old ones overprint none
+-- new dots that occur once among all dots overprint none of the old
 pub not_twice : (old new : List Dot) → Once (old ++ new) → overprints old new ≡ false
 not_twice old new once = none-over old new (λ d. omega (arith, once d, count-append (is_at d) old new))

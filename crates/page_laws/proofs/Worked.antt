@@ -51,7 +51,7 @@ three-on above start a b d on_a on_b on_d = record { row = by_row }
     by_row (suc (suc zero)) e = let is = on_d e in (omega (arith, is.0), omega (arith, is.1))
     by_row (suc (suc (suc i))) e = cc
 
--- strokes that are told to fire each place of both rows once fire each dot
+-- strokes that the test finds to fire each place of both rows once fire each dot
 told : (strokes : Strokes) → agree_below (λ x. hits three_nozzles strokes.above strokes.list Black 0 x == 1) (λ x. true) 8 ≡ true
     → agree_below (λ x. hits three_nozzles strokes.above strokes.list Black 1 x == 1) (λ x. true) 8 ≡ true
     → FiresEachDot three_nozzles two_black_rows strokes

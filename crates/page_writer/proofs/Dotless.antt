@@ -24,7 +24,7 @@ blank_more row most i low so_far =
 
 -- ---- a blank row
 
--- so many bytes of no dots
+-- bytes without dots
 blank-bytes : (n width : ℕ) → packed_bytes n (replicate width false) ≡ replicate n 0
 blank-bytes zero width = refl
 blank-bytes (suc n) width =
@@ -53,18 +53,18 @@ packed-blank width =
 
 -- ---- a row with dots
 
--- a row has a dot at its first place or behind it
+-- a row has a dot at its first place or after it
 any-first : (row : List Bool) → list_any (λ on. on) row ≡ (at row 0 || list_any (λ on. on) (drop 1 row))
 any-first [] = refl
 any-first (b ∷ row) = refl
 
--- the first place behind others
+-- the first place after others
 at-behind : (row : List Bool) (k : ℕ) → at (drop k row) 0 ≡ at row k
 at-behind row zero = refl
 at-behind [] (suc k) = refl
 at-behind (b ∷ row) (suc k) = at-behind row k
 
--- a row has a dot at a place or behind it
+-- a row has a dot at a place or after it
 any-behind : (row : List Bool) (k : ℕ) → list_any (λ on. on) (drop k row) ≡ (at row k || list_any (λ on. on) (drop (1 + k) row))
 any-behind row k =
     any-first (drop k row)

@@ -33,7 +33,7 @@ row-len t plan place pass nozzle =
     packed-len t.width (nozzle_plane_row t plan place pass nozzle)
     (plane_row-len t place (nozzle_row plan.nozzles plan.pitch plan.height pass nozzle))
 
--- so is each of the rows
+-- the same for each of the rows
 rows-wide : (t : DotTable) (plan : Weaving) (place pass : ℕ) (nozzles : List ℕ)
     → AllWide t.width (map (nozzle_plane_row t plan place pass) nozzles)
 rows-wide t plan place pass [] = tt
@@ -46,7 +46,7 @@ rows-wide t plan place pass (nozzle ∷ nozzles) =
 abbrev pub codes_of : List (List Bool) → List ℕ
 codes_of rows = flat_map (λ row. canonical_row (packed row)) rows
 
--- rows of one width, one behind another, are the rows again
+-- rows of one width, one after another, are cut into the rows again
 codes-apart : (width : ℕ) (rows : List (List Bool)) → AllWide width rows
     → flat_map canonical_row (rows_apart (length rows) ((width + 7) / 8) (flat_map packed rows)) ≡ codes_of rows
 codes-apart width [] wide = refl
@@ -128,13 +128,13 @@ rows_end t plan place pass whole out nozzle left so_far none =
 
 -- ---- room for rows
 
--- room for so many rows is room for one
+-- room for some rows is room for one
 pub room_one : (len most left next bytes : ℕ) → left ≡ suc next → len + 2 * left * bytes ≤ most → len + 2 * bytes ≤ most
 room_one len most left next bytes more room =
     let rows : 2 * suc next * bytes ≡ 2 * bytes + 2 * next * bytes = omega arith in
     omega (arith, room, rows, ap (λ n. 2 * n * bytes) more)
 
--- and for the rows behind it
+-- and for the rows after it
 pub room_more : (len len' most left next bytes : ℕ)
     → left ≡ suc next → len + 2 * left * bytes ≤ most → len' ≤ len + 2 * bytes → len' + 2 * next * bytes ≤ most
 room_more len len' most left next bytes more room taken =

@@ -63,7 +63,7 @@ pass_rows-are p plan t h place pass ink suits shows is =
 
 -- ---- lists of commands
 
--- the rasters of commands and of those behind them
+-- the rasters of commands and of those after them
 pub rasters-append : (xs ys : List Spoken) → rasters_in (xs ++ ys) ≡ rasters_in xs + rasters_in ys
 rasters-append [] ys = omega arith
 rasters-append (x ∷ xs) ys = omega (arith, rasters-append xs ys)
@@ -161,12 +161,12 @@ inks_end p h pass old out rasters place so_far all =
 
 -- ---- room for inks
 
--- room for so many inks is room for one
+-- room for some inks is room for one
 pub inks_room_one : (len cap left next most : ℕ) → left ≡ suc next → len + left * most ≤ cap → len + most ≤ cap
 inks_room_one len cap left next most more room =
     let split : suc next * most ≡ most + next * most = omega arith in omega (arith, room, split, ap (λ n. n * most) more)
 
--- and for those behind it
+-- and for those after it
 pub inks_room_more : (len len' cap left next most : ℕ)
     → left ≡ suc next → len + left * most ≤ cap → len' ≤ len + most → len' + next * most ≤ cap
 inks_room_more len len' cap left next most more room taken =

@@ -22,7 +22,7 @@ use Rattle.page_writer.specs.Sums.{rasters_in}
 use Rattle.page_writer.specs.declared.sums.PageSum.{PageSum}
 use Rattle.page_writer.proofs.Inks.{rasters-append}
 
--- the commands of so many passes, from one on, where the head stands on this row
+-- the commands of `many` passes from one on, where the head is on this row
 abbrev pub strokes_from : Printer → Halftone → ℕ → ℕ → ℕ → List Spoken
 strokes_from p h last pass left = strokes_commands p h.width 1 last (filter (fires p) (map (pass_stroke p h) (count_from pass left)))
 
@@ -33,7 +33,7 @@ down-rasters : (n : ℕ) → rasters_in (down_by n) ≡ 0
 down-rasters zero = refl
 down-rasters (suc n) = refl
 
--- What a pass is of the passes from it on: its bytes and its rasters, and those of the passes behind it.
+-- A pass among the passes from it on: its bytes and rasters, and those of the passes after it.
 record NextPass (p : Printer) (h : Halftone) (last pass next behind : ℕ) : Type 0 where
   bytes : bytes_of canonical_row (strokes_from p h last pass (suc next))
       ≡ pass_bytes p h pass (pass * p.nozzles - last) ++ bytes_of canonical_row (strokes_from p h behind (pass + 1) next)
@@ -114,7 +114,7 @@ pass-rasters p h pass down done is =
 
 -- ---- the passes, one after another
 
--- The passes from one on are left to write, where the head stands on this row.
+-- The passes from one on are left to write, where the head is on this row.
 pub record PassesSoFar (old now : Option (List ℕ)) (p : Printer) (h : Halftone) (bytes rasters last pass left : ℕ) : Type 0 where
   pub sent : List ℕ
   pub appends : Appends old now sent
@@ -213,7 +213,7 @@ step_low p rows pass last can sheet low =
     mul-le-mul_right (row_units p) (omega (arith, above, can.head_room)) in
     omega (arith, less, sheet)
 
--- the head never stands below the next pass
+-- the head is never below the next pass
 pub head_stands : (n last begin behind pass rasters : ℕ) → last ≤ pass * n
     → begin ≡ pass * n → behind ≡ (if nat_lt 0 rasters then begin else last) → behind ≤ (pass + 1) * n
 head_stands n last begin behind pass rasters so_far is there = by_some (nat_lt 0 rasters) there

@@ -41,15 +41,15 @@ begin_bytes len top bottom = bytes_of canonical_row (
     say c.Init ∷ say c.Graphics ∷ say (c.Unit 5) ∷ say (c.MicroWeave 0) ∷ say (c.OneWay 1)
     ∷ say (c.Length len) ∷ say (c.Margins top bottom) ∷ say (c.DownTo 0) ∷ [])
 
--- the commands behind the passes
+-- the commands after the passes
 abbrev end_commands : List Spoken
 end_commands = say c.Eject ∷ say c.Init ∷ []
 
--- the bytes of the passes, and behind them
+-- the bytes of the passes, and those after them
 abbrev pub strokes_bytes : Printer → Halftone → List ℕ
 strokes_bytes p h = bytes_of canonical_row (fired_strokes p h)
 
--- the bytes behind the passes
+-- the bytes after the passes
 abbrev pub end_bytes : List ℕ
 end_bytes = bytes_of canonical_row (say c.Eject ∷ say c.Init ∷ [])
 
@@ -205,6 +205,6 @@ page_of p h t f length top bottom shows rows length_is top_is bottom_is =
     page_is p h (f.height * row_units p) length top bottom length_is top_is (bottom_is
     ∙ ap (λ n. (p.top + n) * row_units p) (sym rows ∙ shows.rows_is))
 
--- bytes that stand alone
+-- bytes appended to nothing
 pub alone : (cleared out text : List ℕ) → cleared ≡ [] → out ≡ cleared ++ text → out ≡ text
 alone cleared out text clear is = is ∙ ap (λ bs. bs ++ text) clear

@@ -29,7 +29,7 @@ use Rattle.printer_profile.proofs.TextLemmas.{line_of_key, lines_more, lines_don
 
 -- ---- lines
 
--- whether a byte may stand in a line
+-- whether a byte may be in a line
 printable : ℕ → Bool
 printable b = ltb 31 b && ltb b 128
 

@@ -75,7 +75,7 @@ pub text_with_head : (text first : List ℕ) (rest : List (List ℕ)) → lines 
 unfolding profile_text
 text_with_head text first rest cut same = sym (ap profile_of_lines cut ∙ rw same refl)
 
--- what follows the lines behind the head
+-- what the lines after the first one give
 pub lines_end : (text first : List ℕ) (rest : List (List ℕ)) (read : Result Given TextFault)
     (answer : Result Profile TextFault) → lines text ≡ first ∷ rest → bytes_eq first head ≡ true
     → read ≡ with_lines 2 nothing rest → answer ≡ profile_given read → answer ≡ profile_text text

@@ -12,7 +12,7 @@ use Rattle.dot_planes.proofs.planes.Planes.put_tile_row.Goals as goal
 abbrev table : goal.After-self-1 → DotTable
 table c = record { width = c.self.inside.width; rows = c.self.inside.rows; inks = c.self.inside.inks; bytes = c.self.inside.bytes.items }
 
--- the row of the planes, and how many rows stand before it
+-- the row of the planes, and how many rows come before it
 abbrev y_of : goal.After-self-1 → ℕ
 y_of c = c.args.at + (32 * c.args.place.j + c.args.r)
 
