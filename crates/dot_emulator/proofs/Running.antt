@@ -13,7 +13,7 @@ use Rattle.escp2_definitions.specs.Machine.{Dot, Machine, after, bottom_margin, 
 use Rattle.escp2_definitions.specs.Machine.{overprints, page_length, refusals, refuse}
 use Rattle.dot_planes.specs.Tables.{DotTable}
 use Rattle.dot_emulator.specs.declared.state.State.{State}
-use Rattle.dot_emulator.specs.Hands.{IsBlankBehind, rows_or}
+use Rattle.dot_emulator.specs.Current.{IsBlankPast, rows_or}
 use Rattle.dot_emulator.specs.Pages.{sheet_rows}
 use Rattle.dot_emulator.specs.declared.firing.Raster.{Raster}
 use Rattle.dot_emulator.specs.Firing.{Grid, HasRows, IsAbove, PlanesHave, fired}
@@ -134,7 +134,7 @@ rows-still None s0 s row stays is = refl
 rows-still (Some t) s0 s row stays is = is ∙ ap (λ page. sheet_rows page row) (sym (stays refl).page)
 
 pub blank-still : (planes : Option DotTable) (s0 s : State)
-    → (is_some planes ≡ true → IsStill s0 s) → IsBlankBehind s0.columns planes → IsBlankBehind s.columns planes
+    → (is_some planes ≡ true → IsStill s0 s) → IsBlankPast s0.columns planes → IsBlankPast s.columns planes
 blank-still None s0 s stays blank = λ ink y x low past. refl
 blank-still (Some t) s0 s stays blank = λ ink y x low past. blank ink y x low (let same = (stays refl).columns in omega (arith, same))
 
@@ -234,10 +234,10 @@ blank-over [] new none = no-over new
 blank-over (d ∷ dots) new none = absurd (omega arith)
 
 pub blank-taken : (old : Option DotTable) (t : DotTable) (columns : ℕ)
-    → AreTaken old t → IsBlankBehind columns old → IsBlankBehind columns (Some t)
+    → AreTaken old t → IsBlankPast columns old → IsBlankPast columns (Some t)
 blank-taken None t columns taken blank = λ ink y x low past. taken ink y x
 blank-taken (Some o) t columns taken blank =
-    let P : DotTable → Type 0 = λ s. IsBlankBehind columns (Some s) in
+    let P : DotTable → Type 0 = λ s. IsBlankPast columns (Some s) in
     subst P (sym taken) blank
 
 pub places-taken : (g : Grid) (dots : List Dot) (old : Option DotTable) (t : DotTable)

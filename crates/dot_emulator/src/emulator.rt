@@ -3,7 +3,7 @@ ghost use Rattle.escp2_definitions.specs.Commands.{in_table, last_column, rows_l
 ghost use Rattle.escp2_definitions.specs.Machine.{start};
 ghost use Rattle.printer_profile.specs.Profiles.{printer_of};
 ghost use Rattle.printer_profile.specs.Validity.{check};
-ghost use Rattle.dot_emulator.specs.Hands.{IsBlankBehind, inks_of, rows_or, width_of};
+ghost use Rattle.dot_emulator.specs.Current.{IsBlankPast, inks_of, rows_or, width_of};
 ghost use Rattle.dot_emulator.specs.Pages.{sheet_rows};
 ghost use Rattle.dot_emulator.specs.declared.emulator.EmuStop.TheVariants as stop;
 ghost use Rattle.std.specs.Prelude.{IsOk, length, true, ◌≡◌};
@@ -53,7 +53,7 @@ pub struct Emulator {
     planes: Option<Planes>,
     ghost inks: { inks_of planes ≡ 4 },
     ghost width: { width_of planes ≡ last_column },
-    ghost blank: { IsBlankBehind state.columns planes },
+    ghost blank: { IsBlankPast state.columns planes },
     ghost rows: { rows_or (sheet_rows state.page steps.row) planes ≡ sheet_rows state.page steps.row },
 }
 
@@ -141,11 +141,11 @@ impl Emulator {
         if let Some(fault) = self.refuses_dots(raster, rows) {
             return Err(EmuStop::Refused(fault));
         }
-        let behind = self.state.behind(raster);
+        let next = self.state.after_raster(raster);
         if raster.has_dots(rows) {
-            self.lay(raster, rows, behind)?;
+            self.lay(raster, rows, next)?;
         } else {
-            self.state = behind;
+            self.state = next;
         }
         Ok(None)
     }
@@ -181,14 +181,14 @@ impl Emulator {
     }
 
     // Adds the dots of a raster to the planes of the current sheet, which are made for its first dot.
-    fn lay(&mut self, raster: Raster, rows: &[u8], behind: State) -> Result<(), Memory>
+    fn lay(&mut self, raster: Raster, rows: &[u8], next: State) -> Result<(), Memory>
         requires rows { HasRows raster rows.now }
         requires on_page { raster.end ≤ sheet_rows self.old.state.page self.old.steps.row }
         requires some_page { 1 ≤ unwrap_or self.old.state.page 0 }
-        requires page { behind.page ≡ self.old.state.page }
-        requires columns { self.old.state.columns ≤ behind.columns }
-        requires end { raster.x + raster.head.n ≤ behind.columns }
-        ensures state { OnOk result (self.new.state ≡ behind) }
+        requires page { next.page ≡ self.old.state.page }
+        requires columns { self.old.state.columns ≤ next.columns }
+        requires end { raster.x + raster.head.n ≤ next.columns }
+        ensures state { OnOk result (self.new.state ≡ next) }
         ensures steps { self.new.steps ≡ self.old.steps }
         ensures laid { OnOk result ((g : Grid) (dots : List Dot) → Stands g raster → IsAbove g raster rows.now
             → PlanesHave g dots self.old.planes → LaidIn g raster rows.now dots self.new.planes) }
@@ -196,7 +196,7 @@ impl Emulator {
     {
         let mut planes = self.take_planes()?;
         raster.lay(rows, &mut planes);
-        self.state = behind;
+        self.state = next;
         self.planes = Some(planes);
         Ok(())
     }

@@ -112,7 +112,7 @@ impl State {
     }
 
     /// The state after the raster.
-    pub(crate) fn behind(&self, raster: Raster) -> State
+    pub(crate) fn after_raster(&self, raster: Raster) -> State
         requires { raster.x ≡ self.now.across / raster.head.h }
         ensures page { result.page ≡ self.now.page }
         ensures columns { self.now.columns ≤ result.columns }

@@ -5,8 +5,9 @@
 //! bit; each row begins with a byte of its own, and its spare bits are 0.
 //!
 //! Each `make` gives a table without dots or amounts, or answers `Memory`; no other call takes memory. Each call that
-//! changes a table says what it sets and that everything else is unchanged: `turn_on` one dot, `put_row` a row, `lay`
-//! the first dots of a row from any column on, `put_tile` the pixels of a tile in a slab.
+//! sets dots or amounts says what it sets and that everything else is unchanged: `turn_on` one dot, `put_row` a row,
+//! `lay` the first dots of a row from any column on, `put_tile` the pixels of a tile in a slab, `put_part` a part of a
+//! row of amounts.
 //!
 //! `TileBits` holds the dots of one tile, 256 bytes an ink.
 #![tactic(auto)]

@@ -1,7 +1,7 @@
 //! Pseudo-random jobs, whole, cut and with a byte changed: the driver answers as the slow programs do.
 use crate::fixture::{run_on, sink};
 use crate::plain_machine::Machine;
-use crate::plain_reader::{Front, Name, Said, Stop};
+use crate::plain_reader::{Name, Said, Stop, Unread};
 use crate::random::{Random, random_job};
 use std::alloc::{AllocError, Global};
 use std::process::Abort;
@@ -57,17 +57,17 @@ fn read(
     job: &[u8],
 ) -> Result<(Vec<(u64, Said)>, Option<(u64, &'static str)>), AllocError> {
     let mut said = Vec::new(alloc);
-    let mut front = Front {
+    let mut unread = Unread {
         rest: job,
         at: 0,
         alloc,
     };
     for _ in 0..job.len() {
-        if front.rest.is_empty() {
+        if unread.rest.is_empty() {
             return Ok((said, None));
         }
-        let at = front.at;
-        match front.command() {
+        let at = unread.at;
+        match unread.command() {
             Ok(command) => said.push((at, command))?,
             Err(Stop::Cut) => return Ok((said, Some((at, "Cut")))),
             Err(Stop::Fault { at, cause }) => return Ok((said, Some((at, cause)))),

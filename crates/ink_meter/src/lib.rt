@@ -2,8 +2,8 @@
 //!
 //! A `Meter` has an `account`: its totals and its cap. `room` says whether the cap lets these dots be counted too
 //! (reaching the cap exactly is allowed); `add`, where there is room, adds each count to its total; `set_cap` changes
-//! the cap alone. The four totals together fit 64 bits. `DotMeter::make` has counted nothing and has a cap of 2^64 -
-//! 1.
+//! the cap alone. The four totals together fit 64 bits. `DotMeter::make` has counted nothing and has the greatest
+//! cap, 2^64 - 1.
 //!
 //! Several meters of any kinds count together: `admit` says that all have room, or names the first that has none,
 //! with its place, its total and its cap; `add_all`, where all have room, counts the dots on each; `cap_all` sets the

@@ -16,9 +16,9 @@ edges_in None = []
 edges_in (Some top) = top
 
 -- there is no top
-abbrev pub is_wanting : Option (List (List (List ℤ))) → Bool
-is_wanting None = true
-is_wanting (Some top) = false
+abbrev pub is_missing : Option (List (List (List ℤ))) → Bool
+is_missing None = true
+is_missing (Some top) = false
 
 abbrev pub halftoning : Inside → Halftoning
 halftoning h = record {
@@ -31,7 +31,7 @@ halftoning h = record {
   planes = h.planes;
   top = edges_in h.top;
   slab = h.slab;
-  failed = is_wanting h.top;
+  failed = is_missing h.top;
 }
 
 abbrev pub window_in : Inside → Window

@@ -40,7 +40,7 @@ pub enum WriteStop {
 }
 
 /// Where the head is after a pass: at the pass where it fired, else where it was.
-fn head_behind(last: u32, begin: u32, rasters: u32) -> u32
+fn head_after(last: u32, begin: u32, rasters: u32) -> u32
     ensures { result ≡ (if nat_lt 0 rasters then begin else last) }
 {
     if rasters > 0 { begin } else { last }
@@ -77,7 +77,7 @@ fn put_passes<K: Sink>(
     'passes: for pass in 0..plan.passes() {
         let begin = pass * u32::from(p.nozzles);
         let done = put_pass(p, planes, &plan, pass, begin - last, out, k)?;
-        last = head_behind(last, begin, done.rasters);
+        last = head_after(last, begin, done.rasters);
         sum.bytes += done.bytes;
         sum.rasters += done.rasters;
     }

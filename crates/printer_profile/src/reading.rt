@@ -153,7 +153,7 @@ fn read_lines(text: &[u8]) -> Result<Given, TextFault>
     let mut number: u32 = 2;
     let mut rest = text;
     'lines: while !rest.is_empty() {
-        let (line, behind) = first_line(rest);
+        let (line, suffix) = first_line(rest);
         given = match given.with_line(line) {
             Ok(more) => more,
             Err(cause) => return Err(TextFault {
@@ -162,7 +162,7 @@ fn read_lines(text: &[u8]) -> Result<Given, TextFault>
             }),
         };
         number = number.saturating_add(1);
-        rest = behind;
+        rest = suffix;
     }
     Ok(given)
 }

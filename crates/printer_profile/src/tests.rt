@@ -93,8 +93,8 @@ fn a_profile_is_printed_behind_what_stands(rt: HostRuntime) -> Result<(), Fail> 
     let mut out = vec![in rt.alloc(); b'!']?;
     let tiny = built_in("tiny").ok_or("tiny")?;
     assert_eq!(rt; tiny.print(&mut out), Ok(()));
-    let (front, text) = out.as_slice().split_at(1);
-    assert_eq!(rt; front, b"!".as_slice());
+    let (prefix, text) = out.as_slice().split_at(1);
+    assert_eq!(rt; prefix, b"!".as_slice());
     assert_eq!(rt; text, TINY);
     assert_eq!(rt; read(text), Ok(tiny));
     Ok(())

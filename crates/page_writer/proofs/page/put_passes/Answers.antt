@@ -66,11 +66,11 @@ passes-preserved g c =
     record {
       so_far = λ h shows. passes_step _ _ _ _ _ _ _ _ _ _ _ _ _ c.in_ok-done.done (c.passes.invariant.so_far h shows)
           left (c.in_ok-done.ensures.ok h shows) (c.in_ok-done.ensures.sum h shows)
-          (ap (λ n. n - c.passes.last) begin) (c.head_behind-last.ensures
+          (ap (λ n. n - c.passes.last) begin) (c.head_after-last.ensures
           ∙ ap (λ n. if nat_lt 0 c.in_ok-done.done.rasters then n else c.passes.last) begin);
       stands =
-          head_stands c.args.p.now.nozzles c.passes.last (c.passes.pass * c.from.result) c.head_behind-last.result
-          c.passes.pass c.in_ok-done.done.rasters c.passes.invariant.stands begin c.head_behind-last.ensures;
+          head_stands c.args.p.now.nozzles c.passes.last (c.passes.pass * c.from.result) c.head_after-last.result
+          c.passes.pass c.in_ok-done.done.rasters c.passes.invariant.stands begin c.head_after-last.ensures;
       bytes = omega (arith, c.passes.invariant.bytes, c.in_ok-done.ensures.short);
       rasters = omega (arith, c.passes.invariant.rasters, c.in_ok-done.ensures.few);
       capacity = omega (arith, c.passes.invariant.capacity, c.put_pass.ensures.capacity);

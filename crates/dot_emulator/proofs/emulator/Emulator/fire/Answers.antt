@@ -54,8 +54,8 @@ returns c = λ p m shows.
     let none = sym c.in_default.is ∙ c.refuses_dots.ensures g m.dots placed.stands (planes-have p m old.planes shows.dots) in
     let fits : HasRows r rows = c.requires.rows_fit ∙ ap (λ (h : RasterHead). h.m * row_bytes h) (sym head_is) in
     let above : IsAbove g r rows = above-margin _ _ (sym none) in
-    let step = raster-step p m c.args.head r rows old c.behind-behind.result shows head_is
-    (c.behind-behind.ensures.step p m.dots rows (subst H (sym head_is) shown)) in
+    let step = raster-step p m c.args.head r rows old c.after_raster-next.result shows head_is
+    (c.after_raster-next.ensures.step p m.dots rows (subst H (sym head_is) shown)) in
     let R : Emulator → Type 0 = λ e. Runs p m (command.Raster c.args.head) rows old e (Ok None) in
     elim c.if-has_dots.branch [
       | then-has_dots+in_ok-lay w ↦
@@ -64,7 +64,7 @@ returns c = λ p m shows.
           ≡ after p m (command.Raster c.args.head) rows in
           let height = w.lay.new.self.rows
           ∙ ap (λ (s : State). sheet_rows s.page w.lay.new.self.steps.row) w.in_ok-lay.ensures.state
-          ∙ ap (λ o. sheet_rows o w.lay.new.self.steps.row) c.behind-behind.ensures.page
+          ∙ ap (λ o. sheet_rows o w.lay.new.self.steps.row) c.after_raster-next.ensures.page
           ∙ ap (λ (s : Steps). sheet_rows old.state.page s.row) w.in_ok-lay.ensures.steps in
           subst R (sym w.self-is) (fire-runs p m c.args.head r rows old w.lay.new.self shows
           (record {

@@ -16,7 +16,7 @@ invariant_of-self c =
           ∙ blank-taken c.args.self.now.planes c.in_ok-planes.planes c.args.self.now.state.columns taken.taken
           c.args.self.now.blank ink y x (omega (arith, size.rows)) (omega (arith, c.requires.columns));
       rows = size.rows ∙ taken.height ∙ ap (λ o. sheet_rows o c.args.self.now.steps.row) (sym c.requires.page)
-          ∙ ap (λ (s : Steps). sheet_rows c.args.behind.page s.row) (sym c.in_ok-planes.ensures.steps);
+          ∙ ap (λ (s : Steps). sheet_rows c.args.next.page s.row) (sym c.in_ok-planes.ensures.steps);
     }
 
 pub returns-clause-laid : goal.returns-clause-laid

@@ -21,5 +21,5 @@ dot_in None ink y x = false
 dot_in (Some t) ink y x = dot t ink y x
 
 -- none of their dots is at or past this column
-abbrev pub IsBlankBehind : ℕ → Option DotTable → Type 0
-IsBlankBehind column planes = (ink y x : ℕ) → y < rows_or 0 planes → column ≤ x → dot_in planes ink y x ≡ false
+abbrev pub IsBlankPast : ℕ → Option DotTable → Type 0
+IsBlankPast column planes = (ink y x : ℕ) → y < rows_or 0 planes → column ≤ x → dot_in planes ink y x ≡ false
