@@ -22,7 +22,7 @@ use Rattle.dot_emulator.proofs.RowDots.{any-same, eqb-times, row-any}
 abbrev pub dots_of : Grid → Ink → ℕ → ℕ → ℕ → List ℕ → List Dot
 dots_of g ink y x n row = row_dots ink (x * g.column) g.column (y * g.row) (take n (bits row))
 
--- a dot of the row is on the sheet already just where the row meets the planes
+-- a dot of the row is on the sheet already exactly where the row meets the planes
 pub row-meets : (g : Grid) (dots : List Dot) (t : DotTable) (ink : Ink) (y x n : ℕ) (row : List ℕ) → n ≤ 8 * length row → y < t.rows
     → HasPlaces g.column g.row dots t
     → list_any (λ d. list_any (is_at d) dots) (dots_of g ink y x n row) ≡ meets t (ink_place ink) y x row n

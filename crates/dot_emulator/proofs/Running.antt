@@ -144,7 +144,7 @@ pub planes-have : (p : Printer) (m : Machine) (planes : Option DotTable) → Sho
 planes-have p m None none = ap (λ (ds : List Dot). length ds) none
 planes-have p m (Some t) shows = shows.1.places
 
--- what is left to be refused for, from the raster's place
+-- the refusals that depend on the dots, from the raster's place
 pub late : (p : Printer) (m : Machine) (head : RasterHead) (r : Raster) (rows : List ℕ) → Placed p m head r
     → first_fault (refusals p m (c.Raster head) rows)
     ≡ first_fault (refuse (list_any (λ d. nat_le (bottom_margin m) d.y) (fired (grid_of p m) r rows)) OffSheet

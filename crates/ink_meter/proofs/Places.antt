@@ -23,7 +23,7 @@ unchanged step vs i d h =
     get_or-append_right (map step (take i vs)) (drop i vs) i i d long (omega arith)
     ∙ (get_or-drop i vs (i - i) d ∙ ap (λ k. get_or vs k d) here)
 
--- the value at the loop's place is vs it was
+-- the value at the loop's place is unchanged
 same_value : {B A : Type 0} (f : B → A) (step : A → A) (old now : List B) (i : ℕ) (x : B)
     → i < length old → length now ≡ length old → ChangesSoFar f step old now i
     → x ≡ get_or now i x → f x ≡ get_or (map f old) i (f x)

@@ -35,7 +35,7 @@ sum_more all left rest sum total next so_far = record {
   y = omega (arith, so_far.y, ap (λ (n : InkCounts). n.y) next);
 }
 
--- a sum that is not there does not fit
+-- a sum that does not exist does not fit
 pub unsummed : {T : Type 0} {F G : Type 0} (sum : Option T) → ((x : T) → sum ≡ Some x → ⊥) → (IsNone sum → F → ⊥) → F → G
 unsummed None never none fits = absurd (none refl fits)
 unsummed (Some x) never none fits = absurd (never x refl)

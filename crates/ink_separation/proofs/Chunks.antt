@@ -35,7 +35,7 @@ pixel_is Rgb8 line chunk first many k part inside =
     ∙ ap (λ b. get_or line (3 * (first + k)) 0 ∷ get_or line (3 * (first + k) + 1) 0 ∷ b ∷ [])
     (part.at (3 * k + 2) (omega arith) ∙ ap (λ n. get_or line n 0) blue)
 
--- what the limit leaves of what a pixel of the part gives is the amount of that pixel of the line
+-- the limit of what a pixel of the part gives is the amount of that pixel of the line
 pub chunk_amount : (p : Printer) (kind : Kind) (line chunk : List ℕ) (first many k : ℕ) (given : Given) (ink : Ink)
     → IsChunk line chunk (row_of kind).unit first many
     → IsGiven p kind chunk many given → k < many

@@ -251,7 +251,7 @@ plays_to_refusal p most e e' old new before text left held now number f0 f1 g0 g
       writes = so_far.writes;
     }
 
--- there is no memory for a sheet
+-- memory for a sheet runs out
 pub plays_without_room : (p : Printer) (most : ℕ) (e : Emulator) (old new : JobFeed)
     (before text left held now : Option (List ℕ)) (number f0 f1 g0 g1 : ℕ) (placed : PlacedCommand)
     → PlaysSoFar p e old before text held now number → TakesCommand old new text (text_of new left) placed → most_of old ≡ most
@@ -266,7 +266,7 @@ plays_without_room p most e old new before text left held now number f0 f1 g0 g1
       writes = so_far.writes;
     }
 
--- there is no memory to begin with
+-- memory runs out at the beginning
 pub plays_nothing : (p : Printer) (most : ℕ) (left held : Option (List ℕ)) (f0 f1 g0 g1 : ℕ)
     → PlayOutcome p most (record { before = left; now = left; faults_before = f0; faults_now = f1 })
     (record { before = held; now = held; faults_before = g0; faults_now = g1 }) (Err stop.Memory)

@@ -1,4 +1,4 @@
--- A text round the first byte that passes a test.
+-- A text around the first byte that passes a test.
 use Rattle.std.proofs.Common.{◌≡◌, ℕ, ◌<◌, ◌≤◌, ◌+◌, ◌-◌, Bool, true, false, cond, ltb, List, [], ◌∷◌, length, take, drop}
 use Rattle.std.proofs.Common.{Option, Some, None, MatchOption, refl, ap, sym, ◌∙◌, arith}
 use Rattle.std.specs.List.{list_any, position, position_or_len}
@@ -36,7 +36,7 @@ cut_found p text place rest found is =
 pub cut_none : (p : ℕ → Bool) (text : List ℕ) → None ≡ position p text → IsCut p text None
 cut_none p text found = some_place p text ∙ found_none _ _ found
 
--- the two parts of a word, round its first `=`
+-- the two parts of a word, around its first `=`
 pub parts_of : (word : List ℕ) (parts : Option (Bor (List ℕ) × Bor (List ℕ)))
     → IsSplitOnceResult 61 word parts → MatchOption parts (is_key_value word ≡ false) (λ x. (is_key_value word ≡ true)
     × (x.0.now ≡ key_of word) × (x.1.now ≡ value_of word))

@@ -101,7 +101,7 @@ pub flat-none : {X Y : Type 0} (test : Y → Bool) (f : X → List Y) (xs : List
 flat-none test f [] each = refl
 flat-none test f (x ∷ xs) each = omega (arith, count-append test (f x) (flat_map f xs), each x, flat-none test f xs each)
 
--- where one is counted at most, the count says whether there is one
+-- where at most one is counted, the count says whether there is one
 pub few : {X : Type 0} (test : X → Bool) (xs : List X) → count_by test xs ≤ 1 → count_by test xs ≡ (if list_any test xs then 1 else 0)
 few test [] le = refl
 few test (x ∷ xs) le = by_head (test x) refl (few test xs)

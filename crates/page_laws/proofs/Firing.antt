@@ -30,7 +30,7 @@ pub record Lies (w : Layout) (stroke : Stroke) : Type 0 where
   pub on_window : (ink : Ink) → IsOnWindow w.printer.pitch w.above w.halftone.height stroke.start (stroke.rows ink)
   pub low : stroke.start < w.above + w.halftone.height
 
--- the head of the page's rasters
+-- the header of the page's rasters
 abbrev pub head_of : Layout → RasterHead
 head_of w = raster_head w.printer w.halftone.width w.coding.c
 

@@ -20,7 +20,7 @@ places dpi n (inr e) =
     let at : n * 3600 / 720 ≡ n * (3600 / 720) = omega arith in
     ap (λ d. n * 3600 / d) e ∙ at ∙ sym (ap (λ d. n * (3600 / d)) e)
 
--- a step is 1 at least
+-- a step is at least 1
 steps : (dpi : ℕ) → (dpi ≡ 360) ⊎ (dpi ≡ 720) → 1 ≤ 3600 / dpi
 steps dpi (inl e) = let P : ℕ → Type 0 = λ d. 1 ≤ 3600 / d in subst P (sym e) (omega arith)
 steps dpi (inr e) = let P : ℕ → Type 0 = λ d. 1 ≤ 3600 / d in subst P (sym e) (omega arith)
@@ -51,7 +51,7 @@ row_place p n c = places p.vdpi n c.down
 pub column_place : (p : Printer) (n : ℕ) → CanPrint p → n * 3600 / p.hdpi ≡ n * column_step p
 column_place p n c = places p.hdpi n c.across
 
--- steps and units are 1 at least
+-- steps and units are at least 1
 pub row_step-some : (p : Printer) → CanPrint p → 1 ≤ row_step p
 row_step-some p c = steps p.vdpi c.down
 

@@ -70,7 +70,7 @@ part-most true false true = record { first = omega arith; second = omega arith; 
 part-most true false false = record { first = omega arith; second = omega arith; third = omega arith }
 part-most false b d = record { first = omega arith; second = omega arith; third = omega arith }
 
--- a pixel has one dot at most, at its place
+-- a pixel has at most one dot, at its place
 pixel-most : (p : Printer) (h : Halftone) (d : Dot) (ink : Ink) (y x : ℕ)
     → count_by (is_at d) (pixel_dots p h ink y x) ≤ cond (is_at d (place_of p ink y x)) 1 0
 pixel-most p h d ink y x = by_dot (h.dot ink y x)
@@ -92,7 +92,7 @@ row-once p h d ink y c =
     let q = part-most (same_ink d.ink ink) (d.x == place x) (d.y == (p.top + y) * 3600 / p.vdpi) in omega (arith, e, q.second)) in
     omega (arith, sum, at-most-one place up d.x 0 h.width)
 
--- a row has its dots in its place alone
+-- a row has its dots only in its own place
 row-of : (p : Printer) (h : Halftone) (d : Dot) (ink : Ink) (y : ℕ) → CanPrint p
     → count_by (is_at d) (row_wanted p h ink y) ≤ cond (d.y == (p.top + y) * 3600 / p.vdpi) 1 0
 row-of p h d ink y c = by_row (d.y == (p.top + y) * 3600 / p.vdpi) refl
@@ -121,7 +121,7 @@ ink-once p h d ink c =
     flat-most (is_at d) (row_wanted p h ink) (λ y. cond (d.y == place y) 1 0) (count_from 0 h.height) (λ y. row-of p h d ink y c) in
     omega (arith, sum, at-most-one place up d.y 0 h.height)
 
--- an ink has its own dots alone
+-- an ink has only its own dots
 ink-of : (p : Printer) (h : Halftone) (d : Dot) (ink : Ink)
     → CanPrint p → count_by (is_at d) (ink_wanted p h ink) ≤ cond (same_ink d.ink ink) 1 0
 ink-of p h d ink c = by_same (same_ink d.ink ink) refl

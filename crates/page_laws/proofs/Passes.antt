@@ -70,7 +70,7 @@ fired_row-len : (h : Halftone) (ink : Ink) (row : Option ℕ) → length (fired_
 fired_row-len h ink None = length-replicate {A = Bool} h.width false
 fired_row-len h ink (Some y) = length-map (count_from 0 h.width) (h.dot ink y) ∙ count_from-len 0 h.width
 
--- so are the rows of nozzles
+-- the same for the rows of nozzles
 all-wide : (h : Halftone) (ink : Ink) (row : ℕ → Option ℕ) (is : List ℕ) → AllWide h.width (map (λ i. fired_row h ink (row i)) is)
 all-wide h ink row [] = tt
 all-wide h ink row (i ∷ is) = (fired_row-len h ink (row i), all-wide h ink row is)
@@ -97,7 +97,7 @@ over h ink row n (suc many) zero e = by_row (row n) refl e
 over h ink row n (suc many) (suc i) e =
     let there = over h ink row (n + 1) many i e in (there.0, ap row (let same : n + suc i ≡ n + 1 + i = omega arith in same) ∙ there.1)
 
--- a pass fires on the window alone
+-- a pass fires only on the window
 pub pass-on_window : (p : Printer) (h : Halftone) (t : ℕ) (ink : Ink)
     → IsOnWindow p.pitch (head_rows p) h.height (t * p.nozzles) (pass_rows p h t ink)
 pass-on_window p h t ink = record {

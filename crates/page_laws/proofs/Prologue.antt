@@ -16,7 +16,7 @@ use Rattle.page_laws.proofs.Running.{first_of, last_of, len_of, one, paused}
 
 -- ---- the prologue
 
--- From a machine whose sheet has no dot, the prologue leads to the head's first place.
+-- From a machine whose sheet has no dot, the prologue leads to the head's first position.
 pub prologue-run : (w : Layout) (m : Machine) (job : List Spoken)
     → IsLayout w → m.dots ≡ [] → Comes w m (begins w ++ job) (paused w 0 0 1 Black []) job
 prologue-run w m job is blank =

@@ -64,7 +64,7 @@ down-rasters : (ink : Ink) (n : ℕ) (job : List Spoken) (most : ℕ) → HasMos
 down-rasters ink zero job most rest colour = rest colour
 down-rasters ink (suc n) job most rest colour = omega (arith, (none (same_ink ink colour)).is, rest colour)
 
--- an ink of a stroke fires one raster of its own at most
+-- an ink of a stroke fires at most one raster of its own
 ink-rasters : (w : Layout) (stroke : Stroke) (ink other : Ink) (job : List Spoken) (most : ℕ) → HasMost ink job most
     → HasMost ink (fires_ink w stroke other ++ job) (cond (same_ink ink other) (cond (has_dot (stroke.rows other)) 1 0) 0 + most)
 ink-rasters w stroke ink other job most rest colour = by_dot (has_dot (stroke.rows other)) (same_ink ink other) refl
@@ -116,7 +116,7 @@ set-once Cmyk Yellow f = omega arith
 abbrev pub fires_with : Ink → Stroke → Bool
 fires_with ink stroke = has_dot (stroke.rows ink)
 
--- strokes fire a raster of an ink each at most, and none where they have no dot of it
+-- strokes fire at most one raster of an ink each, and none where they have no dot of it
 strokes-rasters : (w : Layout) (strokes : List Stroke) (ink : Ink) (last : ℕ) (job : List Spoken) (most : ℕ) → HasMost ink job most
     → HasMost ink (fires_strokes w last strokes ++ job) (count_by (fires_with ink) strokes + most)
 strokes-rasters w [] ink last job most rest colour = omega (arith, rest colour)

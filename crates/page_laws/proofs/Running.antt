@@ -66,7 +66,7 @@ Comes w s job s' job' = (at : ℕ) → (at' : ℕ) × (execute_from w.printer s 
 pub comes-here : (w : Layout) (s : Machine) (job : List Spoken) → Comes w s job s job
 comes-here w s job at = (at, refl)
 
--- it comes there by way of another state
+-- it comes there by another state
 pub comes-then : (w : Layout) (s1 s2 s3 : Machine) (job1 job2 job3 : List Spoken)
     → Comes w s1 job1 s2 job2 → Comes w s2 job2 s3 job3 → Comes w s1 job1 s3 job3
 comes-then w s1 s2 s3 job1 job2 job3 f g at = let a = f at in let b = g a.0 in (b.0, a.1 ∙ b.1)

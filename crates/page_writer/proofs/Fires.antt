@@ -162,7 +162,7 @@ one_counted head ink rows fires =
     let raster : Spoken = record { command = c.Raster head; rows = flat_map packed rows } in
     sym (ap (λ b. rasters_in (if b then say (c.Colour ink) ∷ say c.Return ∷ raster ∷ [] else [])) fires)
 
--- they tell whether it has a dot
+-- they say whether the ink has a dot
 pub rasters_tell : (head : RasterHead) (ink : Ink) (rows : List (List Bool))
     → nat_lt 0 (rasters_in (rows_commands head ink rows)) ≡ has_dot rows
 rasters_tell head ink rows = by_dot (has_dot rows)

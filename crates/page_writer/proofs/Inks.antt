@@ -172,7 +172,7 @@ pub inks_room_more : (len len' cap left next most : ℕ)
 inks_room_more len len' cap left next most more room taken =
     let split : suc next * most ≡ most + next * most = omega arith in omega (arith, room, taken, split, ap (λ n. n * most) more)
 
--- the numbers of a raster tell the bytes of an ink
+-- the bound for the bytes of an ink, from the numbers of its raster
 pub ink_most : (p : Printer) (head : RasterHead) (width columns : ℕ) → head ≡ raster_head p width 1 → width ≡ columns
     → 12 + 2 * head.m * ((head.n + 7) / 8) ≡ 12 + 2 * p.nozzles * ((columns + 7) / 8)
 ink_most p head width columns is same =

@@ -10,7 +10,7 @@ use Rattle.weave_base.proofs.Parting.{part_behind, part_of_front}
 use Rattle.pbm_out.specs.Images.{image_row, image_rows}
 use Rattle.gathered_bytes.specs.Gathering.{Passes}
 
--- Behind what is gathered these bytes are left to write, of bytes that are to become the whole.
+-- After the gathered bytes, these bytes of the whole are left to write.
 pub record PutsSoFar (old now : Option (List ℕ)) (whole piece left : List ℕ) : Type 0 where
   pub sent : List ℕ
   pub appends : Appends old now sent

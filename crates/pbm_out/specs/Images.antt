@@ -13,7 +13,7 @@ image_head columns rows = codes "P4\n" ++ decimal columns ++ codes " " ++ decima
 abbrev pub image_row : ℕ → DotTable → ℕ → ℕ → List ℕ
 image_row columns t ink y = packed (map (dot t ink y) (count_from 0 columns))
 
--- so many rows from one on
+-- this many rows from one on
 abbrev pub image_rows : ℕ → DotTable → ℕ → ℕ → ℕ → List ℕ
 image_rows columns t ink y many = flat_map (image_row columns t ink) (count_from y many)
 

@@ -61,7 +61,7 @@ fn diffuse_by(
     }
 }
 
-// Rows of no errors.
+// Rows of errors that are all 0.
 fn room(alloc: Global, width: usize) -> Result<ErrorRows, AllocError>
     requires some { 1 ≤ width }
     requires most { width ≤ most_columns }
