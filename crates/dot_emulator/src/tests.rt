@@ -139,9 +139,7 @@ fn a_sheet_has_its_dots_and_the_next_is_blank(rt: HostRuntime) -> Result<(), Fai
 }
 
 #[test]
-fn dots_stand_from_across_on_and_blank_rasters_widen_the_sheet(
-    rt: HostRuntime,
-) -> Result<(), Fail> {
+fn dots_begin_at_across_and_blank_rasters_widen_the_sheet(rt: HostRuntime) -> Result<(), Fail> {
     let mut emulator = on_page(&rt, rt.alloc());
     let narrow = RasterHead { n: 5, ..HEAD };
     assert_eq!(rt; stop(&rt, &mut emulator, Command::Across { n: 4 }), None);

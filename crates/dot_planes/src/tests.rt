@@ -6,7 +6,7 @@ use tile_shape::Place;
 use weave_base::Memory;
 
 #[test]
-fn dots_stand_from_the_highest_bit_on(rt: HostRuntime) {
+fn dots_begin_at_the_highest_bit(rt: HostRuntime) {
     let Ok(mut planes) = Planes::make(rt.alloc(), 10, 2, 3) else {
         assert!(rt; false);
         return;

@@ -87,7 +87,7 @@ fn printer_of(inks: InkSet) -> Printer {
 }
 
 #[test]
-fn printed_pages_are_played_to_the_dots_that_they_want(rt: HostRuntime) -> Result<(), Fail> {
+fn printed_pages_are_played_to_their_dots(rt: HostRuntime) -> Result<(), Fail> {
     let alloc = rt.alloc();
     for inks in [InkSet::K, InkSet::Cmy, InkSet::Cmyk] {
         for (kind, seed) in [Kind::Gray8, Kind::Black8, Kind::Rgb8]

@@ -54,7 +54,8 @@ fn show<R: Threads + Sync>(
 }
 
 const TINY: &[u8] =
-    b"escp2-profile 1\nhdpi=360\nvdpi=360\nnozzles=3\npitch=2\ninks=k\nblack_start=0\nlimit_k=255\nlimit_c=255\nlimit_m=255\nlimit_y=255\nleft=0\nright=0\ntop=4\nbottom=0\n";
+    b"escp2-profile 1\nhdpi=360\nvdpi=360\nnozzles=3\npitch=2\ninks=k\nblack_start=0\nlimit_k=255\nlimit_c=255\n\
+    limit_m=255\nlimit_y=255\nleft=0\nright=0\ntop=4\nbottom=0\n";
 
 #[test]
 fn profile_prints_its_canonical_text(rt: HostRuntime) -> Result<(), Fail> {
@@ -131,7 +132,8 @@ const JUST_ENOUGH: &[u8] =
     b"escp2-profile 1\nhdpi=360\nvdpi=720\nnozzles=31\npitch=8\ninks=k\ntop=240\n";
 
 const JUST_ENOUGH_WHOLE: &[u8] =
-    b"escp2-profile 1\nhdpi=360\nvdpi=720\nnozzles=31\npitch=8\ninks=k\nblack_start=0\nlimit_k=255\nlimit_c=255\nlimit_m=255\nlimit_y=255\nleft=0\nright=0\ntop=240\nbottom=0\n";
+    b"escp2-profile 1\nhdpi=360\nvdpi=720\nnozzles=31\npitch=8\ninks=k\nblack_start=0\nlimit_k=255\nlimit_c=255\n\
+    limit_m=255\nlimit_y=255\nleft=0\nright=0\ntop=240\nbottom=0\n";
 
 #[test]
 fn profile_checks_name_gcd_margin_and_step(rt: HostRuntime) -> Result<(), Fail> {

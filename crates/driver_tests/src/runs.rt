@@ -52,7 +52,7 @@ fn changed(alloc: Global, at: usize, byte: u8) -> Result<Vec<u8>, Fail> {
 }
 
 #[test]
-fn a_refused_header_is_told_by_its_cause(rt: HostRuntime) -> Result<(), Fail> {
+fn a_refused_header_is_named_by_its_cause(rt: HostRuntime) -> Result<(), Fail> {
     let alloc = rt.alloc();
     let cases: [(usize, u8, &[u8]); 12] = [
         (4, b'p', b"input: page 1 line 0: NotPwg\n"),

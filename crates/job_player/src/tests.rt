@@ -57,7 +57,11 @@ fn a_sheet_is_four_images(rt: HostRuntime) -> Result<(), Fail> {
     assert_eq!(rt; play(&rt, alloc, &JOB, &mut out)?, Ok(()));
     assert_eq!(rt;
         out.bytes(),
-        b"P4\n8 6\n\x00\x00\x00\x00\xFF\xFFP4\n8 6\n\x00\x00\x00\x00\x00\x00P4\n8 6\n\x00\x00\x00\x00\x00\x00P4\n8 6\n\x00\x00\x00\x00\x00\x00".as_slice()
+        b"P4\n8 6\n\x00\x00\x00\x00\xFF\xFF\
+        P4\n8 6\n\x00\x00\x00\x00\x00\x00\
+        P4\n8 6\n\x00\x00\x00\x00\x00\x00\
+        P4\n8 6\n\x00\x00\x00\x00\x00\x00"
+            .as_slice()
     );
     Ok(())
 }

@@ -114,8 +114,8 @@ impl Halftoner {
         })
     }
 
-    /// Takes a line of the page that is repeated `repeats` times. When a slab is full, its workers enter the gate,
-    /// one with each tile. `Memory` comes where memory for diffusing a slab runs out, and at each later call.
+    /// Takes a line of the page that occurs `repeats` times in a row. When a slab is full, its workers enter the
+    /// gate, one with each tile. `Memory` comes where memory for diffusing a slab runs out, and at each later call.
     pub fn lines<R: Threads + Sync, G: Gate + Sync>(
         &mut self,
         rt: &R,

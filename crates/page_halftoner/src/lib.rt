@@ -4,10 +4,11 @@
 //! kept errors and the dots are those of row-by-row diffusion of a page that begins with these lines, whatever lines
 //! follow.
 //!
-//! `begin` stands for no lines, and takes the memory for the planes, one slab and the errors above it. `lines` stands
-//! for the lines so far, followed by the line as often as it is repeated; lines in the margins count and leave no
-//! dots. `finish`, once as many lines have come as the page has, gives planes that have exactly the dots of the
-//! page's halftone (`HasDots`). After `lines` has answered `Memory`, each later call of it does too (`for_good`).
+//! `begin` takes the memory for the planes, one slab and the errors above it; the halftoner then stands for the empty
+//! list. `lines` puts as many copies of a line as it has repeats at the end of each of its lists; lines in the margins
+//! count and leave no dots. `finish`, once as many lines have come as the page has, gives planes that have exactly the
+//! dots of the page's halftone (`HasDots`). After `lines` has answered `Memory`, each later call of it does too
+//! (`for_good`).
 #![tactic(auto)]
 
 mod halftoner;

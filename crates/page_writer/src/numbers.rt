@@ -15,7 +15,7 @@ use printer_profile::{PageForm, Profile};
 pub struct Sheet {
     /// The length of the sheet.
     pub length: u16,
-    /// The first position of the first nozzle.
+    /// The first row that the first nozzle is on.
     pub top: u16,
     /// The end of the last row that is printed.
     pub bottom: u16,

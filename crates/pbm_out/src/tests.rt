@@ -134,7 +134,11 @@ fn dots_gives_four_images_of_a_sheet(rt: HostRuntime) -> Result<(), Fail> {
     }
     assert_eq!(rt;
         sink.bytes(),
-        b"P4\n8 6\n\x00\x00\x00\x00\xFF\xFFP4\n8 6\n\x00\x00\x00\x00\x00\x00P4\n8 6\n\x00\x00\x00\x00\x00\x00P4\n8 6\n\x00\x00\x00\x00\x00\x00".as_slice()
+        b"P4\n8 6\n\x00\x00\x00\x00\xFF\xFF\
+        P4\n8 6\n\x00\x00\x00\x00\x00\x00\
+        P4\n8 6\n\x00\x00\x00\x00\x00\x00\
+        P4\n8 6\n\x00\x00\x00\x00\x00\x00"
+            .as_slice()
     );
     Ok(())
 }

@@ -32,7 +32,7 @@ fn first_byte(row: &[bool]) -> u8
     a + b + c + d + e + f + g + h
 }
 
-fn behind_eight(row: &[bool]) -> &[bool]
+fn after_eight(row: &[bool]) -> &[bool]
     ensures { result.now ≡ drop 8 row.now }
 {
     if row.len() > 8 { &row[8..] } else { &[] }
@@ -46,6 +46,6 @@ pub(crate) fn pack_row(row: &[bool], out: &mut [u8])
     let mut rest = row;
     for byte in out.iter_mut() {
         *byte = first_byte(rest);
-        rest = behind_eight(rest);
+        rest = after_eight(rest);
     }
 }

@@ -15,7 +15,7 @@ pub(crate) fn byte_at(x: u32, y: u32, c: u32) -> u8 {
 }
 
 // The complement of a pixel of red, green and blue, for an ink.
-fn lack_at(ink: Ink, x: u32, y: u32) -> i32 {
+fn complement_at(ink: Ink, x: u32, y: u32) -> i32 {
     match ink {
         Ink::Black => 0,
         Ink::Cyan => i32::from(!byte_at(x, y, 0)),
@@ -34,9 +34,9 @@ fn darkness_at(x: u32, y: u32) -> i32 {
 
 // What black takes over, from 64 on.
 fn black_at(x: u32, y: u32) -> i32 {
-    let magenta = lack_at(Ink::Magenta, x, y);
-    let yellow = lack_at(Ink::Yellow, x, y);
-    let q = lack_at(Ink::Cyan, x, y).min(magenta).min(yellow);
+    let magenta = complement_at(Ink::Magenta, x, y);
+    let yellow = complement_at(Ink::Yellow, x, y);
+    let q = complement_at(Ink::Cyan, x, y).min(magenta).min(yellow);
     if q < 64 {
         0
     } else {
@@ -53,10 +53,10 @@ fn given_at(inks: InkSet, kind: Kind, ink: Ink, x: u32, y: u32) -> i32 {
     };
     match inks {
         InkSet::K => grey,
-        InkSet::Cmy if kind == Kind::Rgb8 => lack_at(ink, x, y),
+        InkSet::Cmy if kind == Kind::Rgb8 => complement_at(ink, x, y),
         InkSet::Cmy => grey,
         InkSet::Cmyk if kind == Kind::Rgb8 && ink == Ink::Black => black_at(x, y),
-        InkSet::Cmyk if kind == Kind::Rgb8 => lack_at(ink, x, y).wrapping_sub(black_at(x, y)),
+        InkSet::Cmyk if kind == Kind::Rgb8 => complement_at(ink, x, y).wrapping_sub(black_at(x, y)),
         InkSet::Cmyk if ink == Ink::Black => grey,
         InkSet::Cmyk => 0,
     }
