@@ -1,5 +1,6 @@
 -- A row of a raster over the dots of a sheet.
-use Rattle.std.proofs.Common.{◌≡◌, ◌≢◌, ℕ, ◌+◌, ◌-◌, ◌*◌, ◌==◌, ◌<◌, ◌≤◌, ◌⊎◌, Bool, true, false, ◌&&◌, ◌||◌, List, [], ◌++◌, length, take, refl, ◌∙◌, sym, ap, arith, inl, inr, subst, append_assoc, append-nil}
+use Rattle.std.proofs.Common.{◌≡◌, ◌≢◌, ℕ, ◌+◌, ◌-◌, ◌*◌, ◌==◌, ◌<◌, ◌≤◌, ◌⊎◌, Bool, true, false, ◌&&◌, ◌||◌, List, [], ◌++◌, length}
+use Rattle.std.proofs.Common.{take, refl, ◌∙◌, sym, ap, arith, inl, inr, subst, append_assoc, append-nil}
 use Rattle.std.specs.List.{list_any}
 use Rattle.std.proofs.lemmas.Bool.{cases_Bool, cases_eq, cases_lt, eq-eqb, and_right, ne_eqb}
 use Rattle.std.proofs.lemmas.List.Folds.{list_any-append}
@@ -13,16 +14,18 @@ use Rattle.dot_planes.proofs.LaidRows.{any-no, any-some}
 use Rattle.dot_emulator.specs.declared.firing.Raster.{Raster}
 use Rattle.dot_emulator.specs.Firing.{Grid, HasRows, Stands, fired}
 use Rattle.dot_emulator.specs.Sheets.{HasPlaces, dot_at}
-use Rattle.dot_emulator.proofs.RasterDots.{IsAboveFrom, below-none, packed_row, rest, rest-first, rest-next, rest-none, row-long, row_fired, sheet_row}
+use Rattle.dot_emulator.proofs.RasterDots.{IsAboveFrom, below-none, packed_row, rest, rest-first, rest-next}
+use Rattle.dot_emulator.proofs.RasterDots.{rest-none, row-long, row_fired, sheet_row}
 use Rattle.dot_emulator.proofs.RowDots.{any-same, eqb-times, row-any}
 
 -- a row of dots that begins at column x
 abbrev pub dots_of : Grid → Ink → ℕ → ℕ → ℕ → List ℕ → List Dot
 dots_of g ink y x n row = row_dots ink (x * g.column) g.column (y * g.row) (take n (bits row))
 
--- a dot of the row is on the sheet already just where the row meets the planes
+-- a dot of the row is on the sheet already exactly where the row meets the planes
 pub row-meets : (g : Grid) (dots : List Dot) (t : DotTable) (ink : Ink) (y x n : ℕ) (row : List ℕ) → n ≤ 8 * length row → y < t.rows
-    → HasPlaces g.column g.row dots t → list_any (λ d. list_any (is_at d) dots) (dots_of g ink y x n row) ≡ meets t (ink_place ink) y x row n
+    → HasPlaces g.column g.row dots t
+    → list_any (λ d. list_any (is_at d) dots) (dots_of g ink y x n row) ≡ meets t (ink_place ink) y x row n
 row-meets g dots t ink y x n row long inside has =
     row-any (λ d. list_any (is_at d) dots) ink x g.column (y * g.row) n row long
     ∙ any-same _ _ 0 n (λ k low. ap (λ b. row_dot row (0 + k) && b) (sym (has ink y (x + (0 + k)) inside)))
@@ -34,7 +37,8 @@ abbrev at_place : Ink → ℕ → ℕ → Ink → ℕ → ℕ → Bool
 at_place ink y x ink' y' x' = same_ink ink ink' && (x == x') && (y == y')
 
 row-at : (g : Grid) (ink : Ink) (y x n : ℕ) (row : List ℕ) (ink' : Ink) (y' x' : ℕ) → 1 ≤ g.column → 1 ≤ g.row → n ≤ 8 * length row
-    → list_any (is_at (dot_at g.column g.row ink' y' x')) (dots_of g ink y x n row) ≡ list_any (λ k. row_dot row k && at_place ink' y' x' ink y (x + k)) (count_from 0 n)
+    → list_any (is_at (dot_at g.column g.row ink' y' x')) (dots_of g ink y x n row)
+    ≡ list_any (λ k. row_dot row k && at_place ink' y' x' ink y (x + k)) (count_from 0 n)
 row-at g ink y x n row ink' y' x' some some' long =
     row-any (is_at (dot_at g.column g.row ink' y' x')) ink x g.column (y * g.row) n row long
     ∙ any-same _ _ 0 n (λ k low.
@@ -51,7 +55,8 @@ three-third true false d none = refl
 three-third false b d none = refl
 
 -- no dot of the row is at a place of another ink, another row or another column
-other-place : (row : List ℕ) (n : ℕ) (f : ℕ → Bool) → ((k : ℕ) → k < n → f k ≡ false) → list_any (λ k. row_dot row k && f k) (count_from 0 n) ≡ false
+other-place : (row : List ℕ) (n : ℕ) (f : ℕ → Bool)
+    → ((k : ℕ) → k < n → f k ≡ false) → list_any (λ k. row_dot row k && f k) (count_from 0 n) ≡ false
 other-place row n f none = any-no _ n (λ k low. and_right (row_dot row k) (f k) (none k low))
 
 -- the dot of the row at a place of its own
@@ -67,11 +72,14 @@ own-place ink y x n row ink' y' k same down low = by_dot (cases_Bool (row_dot ro
 
     no_other : row_dot row k ≡ false → (j : ℕ) → j < n → (row_dot row j && at_place ink' y' (x + k) ink y (x + j)) ≡ false
     no_other none j in_row = elim (cases_eq j k) [
-      | inl this ↦ ap (λ m. row_dot row m && at_place ink' y' (x + k) ink y (x + m)) this ∙ ap (λ b. b && at_place ink' y' (x + k) ink y (x + k)) none
-      | inr other ↦ and_right (row_dot row j) _ (three-second (same_ink ink' ink) (x + k == x + j) (y' == y) (ne_eqb (x + k) (x + j) (λ e. other (omega arith))))
+      | inl this ↦ ap (λ m. row_dot row m && at_place ink' y' (x + k) ink y (x + m)) this
+          ∙ ap (λ b. b && at_place ink' y' (x + k) ink y (x + k)) none
+      | inr other ↦ and_right (row_dot row j) _ (three-second
+          (same_ink ink' ink) (x + k == x + j) (y' == y) (ne_eqb (x + k) (x + j) (λ e. other (omega arith))))
     ]
 
-    by_dot : (row_dot row k ≡ true) ⊎ (row_dot row k ≡ false) → list_any (λ j. row_dot row j && at_place ink' y' (x + k) ink y (x + j)) (count_from 0 n) ≡ row_dot row k
+    by_dot : (row_dot row k ≡ true) ⊎ (row_dot row k ≡ false)
+        → list_any (λ j. row_dot row j && at_place ink' y' (x + k) ink y (x + j)) (count_from 0 n) ≡ row_dot row k
     by_dot (inl on) = any-some _ n k low (ap (λ b. b && at_place ink' y' (x + k) ink y (x + k)) on ∙ here) ∙ sym on
     by_dot (inr none) = any-no _ n (no_other none) ∙ sym none
 
@@ -82,7 +90,8 @@ or-no false b none = sym none
 -- the planes after a row was laid over them, at a place
 abbrev IsPlaced : DotTable → DotTable → Ink → ℕ → ℕ → ℕ → List ℕ → Ink → ℕ → ℕ → Type 0
 IsPlaced old new ink y x n row ink' y' x' =
-    dot new (ink_place ink') y' x' ≡ (dot old (ink_place ink') y' x' || list_any (λ k. row_dot row k && at_place ink' y' x' ink y (x + k)) (count_from 0 n))
+    dot new (ink_place ink') y' x' ≡ (dot old (ink_place ink') y' x'
+    || list_any (λ k. row_dot row k && at_place ink' y' x' ink y (x + k)) (count_from 0 n))
 
 place-of-row : (old new : DotTable) (ink : Ink) (y x n : ℕ) (row : List ℕ) (ink' : Ink) (y' x' : ℕ) → Lays old new (ink_place ink) y x row n
     → same_ink ink' ink ≡ true → ink_place ink' ≡ ink_place ink → y' ≡ y → IsPlaced old new ink y x n row ink' y' x'
@@ -94,7 +103,8 @@ place-of-row old new ink y x n row ink' y' x' lays same ink_is down = by_column 
     beside : (x' < x) ⊎ (x + n ≤ x') → ((k : ℕ) → k < n → x' ≢ x + k) → IsPlaced old new ink y x n row ink' y' x'
     beside where_is other =
         moved new ∙ lays.beside x' where_is ∙ sym (moved old)
-        ∙ or-no _ _ (other-place row n _ (λ k low. three-second (same_ink ink' ink) (x' == x + k) (y' == y) (ne_eqb x' (x + k) (other k low))))
+        ∙ or-no _ _ (other-place row n _
+        (λ k low. three-second (same_ink ink' ink) (x' == x + k) (y' == y) (ne_eqb x' (x + k) (other k low))))
 
     by_column : (x' < x) ⊎ (x ≤ x') → (x' < x + n) ⊎ (x + n ≤ x') → IsPlaced old new ink y x n row ink' y' x'
     by_column (inl left) end = beside (inl left) (λ k low. λ e. omega arith)
@@ -107,7 +117,8 @@ place-of-row old new ink y x n row ink' y' x' lays same ink_is down = by_column 
         ∙ ap (λ c. dot old (ink_place ink) y c || row_dot row (x' - x)) place
         ∙ ap (λ b. b || row_dot row (x' - x)) (sym (moved old))
         ∙ ap (λ b. dot old (ink_place ink') y' x' || b) (sym (own-place ink y x n row ink' y' (x' - x) same down (omega arith)))
-        ∙ ap (λ c. dot old (ink_place ink') y' x' || list_any (λ k. row_dot row k && at_place ink' y' c ink y (x + k)) (count_from 0 n)) place
+        ∙ ap (λ c. dot old (ink_place ink') y' x'
+        || list_any (λ k. row_dot row k && at_place ink' y' c ink y (x + k)) (count_from 0 n)) place
 
 place-laid : (old new : DotTable) (ink : Ink) (y x n : ℕ) (row : List ℕ) (ink' : Ink) (y' x' : ℕ) → Lays old new (ink_place ink) y x row n
     → y' < old.rows → IsPlaced old new ink y x n row ink' y' x'
@@ -123,8 +134,10 @@ place-laid old new ink y x n row ink' y' x' lays inside = elim (cases_eq (ink_pl
       ∙ or-no _ _ (other-place row n _ (λ k low. ap (λ b. b && (x' == x + k) && (y' == y)) (ne_eqb _ _ other)))
 ]
 
-pub lay-row : (g : Grid) (dots : List Dot) (old new : DotTable) (ink : Ink) (y x n : ℕ) (row : List ℕ) → 1 ≤ g.column → 1 ≤ g.row → n ≤ 8 * length row
-    → HasPlaces g.column g.row dots old → Lays old new (ink_place ink) y x row n → HasPlaces g.column g.row (dots ++ dots_of g ink y x n row) new
+pub lay-row : (g : Grid) (dots : List Dot) (old new : DotTable) (ink : Ink) (y x n : ℕ) (row : List ℕ)
+    → 1 ≤ g.column → 1 ≤ g.row → n ≤ 8 * length row
+    → HasPlaces g.column g.row dots old
+    → Lays old new (ink_place ink) y x row n → HasPlaces g.column g.row (dots ++ dots_of g ink y x n row) new
 lay-row g dots old new ink y x n row some some' long has lays = λ ink' y' x' inside.
     let inside' : y' < old.rows = omega (arith, lays.size.rows) in
     place-laid old new ink y x n row ink' y' x' lays inside'
@@ -141,8 +154,10 @@ pub record IsRow (r : Raster) (rows : List ℕ) (i plane y n : ℕ) (bytes : Lis
   pub wide : n ≡ r.head.n
   pub bytes_are : bytes ≡ packed_row r rows i
 
-pub meets-code : (g : Grid) (dots : List Dot) (t : DotTable) (r : Raster) (rows : List ℕ) (i plane y n : ℕ) (bytes : List ℕ) (b : Bool) → HasRows r rows → i < r.head.m → y < t.rows
-    → HasPlaces g.column g.row dots t → IsRow r rows i plane y n bytes → b ≡ meets t plane y r.x bytes n → list_any (λ d. list_any (is_at d) dots) (row_fired g r rows i) ≡ b
+pub meets-code : (g : Grid) (dots : List Dot) (t : DotTable) (r : Raster)
+    (rows : List ℕ) (i plane y n : ℕ) (bytes : List ℕ) (b : Bool) → HasRows r rows → i < r.head.m → y < t.rows
+    → HasPlaces g.column g.row dots t → IsRow r rows i plane y n bytes
+    → b ≡ meets t plane y r.x bytes n → list_any (λ d. list_any (is_at d) dots) (row_fired g r rows i) ≡ b
 meets-code g dots t r rows i plane y n bytes b fits low inside has is tested =
     row-meets g dots t r.ink (sheet_row r i) r.x r.head.n (packed_row r rows i) (row-long r rows i fits low) (omega (arith, is.down)) has
     ∙ sym (tested
@@ -160,15 +175,18 @@ pub record LaidSoFar (g : Grid) (r : Raster) (rows : List ℕ) (i : ℕ) (dots :
 places-same : (g : Grid) (t : DotTable) (xs ys : List Dot) → xs ≡ ys → HasPlaces g.column g.row xs t → HasPlaces g.column g.row ys t
 places-same g t xs ys same has = λ ink y x inside. has ink y x inside ∙ ap (list_any (is_at (dot_at g.column g.row ink y x))) same
 
-pub laid-first : (g : Grid) (r : Raster) (rows : List ℕ) (dots : List Dot) (t : DotTable) → HasPlaces g.column g.row dots t → LaidSoFar g r rows 0 dots t
+pub laid-first : (g : Grid) (r : Raster) (rows : List ℕ) (dots : List Dot) (t : DotTable)
+    → HasPlaces g.column g.row dots t → LaidSoFar g r rows 0 dots t
 laid-first g r rows dots t has = record {
   done = [];
   is = rest-first g r rows;
   has = places-same g t dots (dots ++ []) (sym (append-nil dots)) has;
 }
 
-pub laid-next : (g : Grid) (r : Raster) (rows : List ℕ) (i : ℕ) (dots : List Dot) (old new : DotTable) (plane y n : ℕ) (bytes : List ℕ) → Stands g r → HasRows r rows → i < r.head.m
-    → LaidSoFar g r rows i dots old → IsRow r rows i plane y n bytes → Lays old new plane y r.x bytes n → LaidSoFar g r rows (i + 1) dots new
+pub laid-next : (g : Grid) (r : Raster) (rows : List ℕ) (i : ℕ) (dots : List Dot)
+    (old new : DotTable) (plane y n : ℕ) (bytes : List ℕ) → Stands g r → HasRows r rows → i < r.head.m
+    → LaidSoFar g r rows i dots old
+    → IsRow r rows i plane y n bytes → Lays old new plane y r.x bytes n → LaidSoFar g r rows (i + 1) dots new
 laid-next g r rows i dots old new plane y n bytes stands fits low so_far is lays =
     let row : List Dot = row_fired g r rows i in
     let L1 : ℕ → Type 0 = λ p. Lays old new p y r.x bytes n in
@@ -178,17 +196,21 @@ laid-next g r rows i dots old new plane y n bytes stands fits low so_far is lays
     let laid = subst L4 is.wide (subst L3 is.bytes_are (subst L2 is.down (subst L1 is.plane_is lays))) in
     record {
       done = so_far.done ++ row;
-      is = so_far.is ∙ ap (λ ds. so_far.done ++ ds) (rest-next g r rows i stands low) ∙ sym (append_assoc so_far.done row (rest g r rows (i + 1)));
+      is = so_far.is ∙ ap (λ ds. so_far.done ++ ds) (rest-next g r rows i stands low)
+          ∙ sym (append_assoc so_far.done row (rest g r rows (i + 1)));
       has = places-same g new ((dots ++ so_far.done) ++ row) (dots ++ (so_far.done ++ row)) (append_assoc dots so_far.done row)
-          (lay-row g (dots ++ so_far.done) old new r.ink (sheet_row r i) r.x r.head.n (packed_row r rows i) stands.some_column stands.some_row (row-long r rows i fits low) so_far.has laid);
+          (lay-row g (dots ++ so_far.done) old new r.ink (sheet_row r i) r.x r.head.n
+          (packed_row r rows i) stands.some_column stands.some_row (row-long r rows i fits low) so_far.has laid);
     }
 
 -- a row that has no dots
-pub laid-none : (g : Grid) (r : Raster) (rows : List ℕ) (i : ℕ) (dots : List Dot) (t : DotTable) → Stands g r → HasRows r rows → i < r.head.m → IsAboveFrom g r rows i → r.end ≤ sheet_row r i
+pub laid-none : (g : Grid) (r : Raster) (rows : List ℕ) (i : ℕ) (dots : List Dot) (t : DotTable)
+    → Stands g r → HasRows r rows → i < r.head.m → IsAboveFrom g r rows i → r.end ≤ sheet_row r i
     → LaidSoFar g r rows i dots t → LaidSoFar g r rows (i + 1) dots t
 laid-none g r rows i dots t stands fits low above below so_far = record {
   done = so_far.done;
-  is = so_far.is ∙ ap (λ ds. so_far.done ++ ds) (rest-next g r rows i stands low ∙ ap (λ ds. ds ++ rest g r rows (i + 1)) (below-none g r rows i stands fits low above below));
+  is = so_far.is ∙ ap (λ ds. so_far.done ++ ds) (rest-next g r rows i stands low
+      ∙ ap (λ ds. ds ++ rest g r rows (i + 1)) (below-none g r rows i stands fits low above below));
   has = so_far.has;
 }
 
@@ -198,7 +220,7 @@ laid-all g r rows i dots t all so_far =
     places-same g t (dots ++ so_far.done) (dots ++ fired g r rows)
     (ap (λ ds. dots ++ ds) (sym (so_far.is ∙ ap (λ ds. so_far.done ++ ds) (rest-none g r rows i all) ∙ append-nil so_far.done))) so_far.has
 
--- a row that is laid leaves the dots behind it
+-- a row that is laid leaves the dots past its end unchanged
 pub lays-past : (old new : DotTable) (i y x : ℕ) (row : List ℕ) (n : ℕ) (ink r c : ℕ) → Lays old new i y x row n → r < old.rows → x + n ≤ c
     → dot new ink r c ≡ dot old ink r c
 lays-past old new i y x row n ink r c lays low past = elim (cases_eq ink i) [

@@ -7,7 +7,8 @@ use Rattle.printer_definitions.specs.Printer.{Printer, column_step, nozzle_step,
 use Rattle.escp2_definitions.specs.declared.command.RasterHead.{RasterHead}
 use Rattle.escp2_definitions.specs.declared.stops.EmuFault.TheVariants.{NotGraphics, Density, Rows, OffGrid, OffSheet, Overprint}
 use Rattle.escp2_definitions.specs.Commands.{last_column}
-use Rattle.escp2_definitions.specs.Machine.{Machine, Refusal, bottom_margin, first_fault, from_top, is_off_grid, is_other_density, no_margins, no_unit, overprints, page_length, raster_dots, refuse, rows_dots}
+use Rattle.escp2_definitions.specs.Machine.{Machine, Refusal, bottom_margin, first_fault, from_top, is_off_grid, is_other_density}
+use Rattle.escp2_definitions.specs.Machine.{no_margins, no_unit, overprints, page_length, raster_dots, refuse, rows_dots}
 use Rattle.dot_emulator.specs.declared.firing.Raster.{Raster}
 use Rattle.dot_emulator.specs.declared.raster.Steps.{Steps}
 use Rattle.dot_emulator.specs.Places.{Placed}
@@ -39,7 +40,8 @@ pub record IsMade (p : Printer) (m : Machine) (head : RasterHead) (s : Steps) (r
 
 pub placed : (p : Printer) (m : Machine) (head : RasterHead) (s : Steps) (r : Raster) → IsMade p m head s r → Placed p m head r
 placed p m head s r made = record {
-  left = λ rows. none.more (refuse (nat_lt last_column (m.across / column_step p + head.n) || list_any (λ d. nat_le (bottom_margin m) d.y) (raster_dots m head rows)) OffSheet
+  left = λ rows. none.more (refuse (nat_lt last_column (m.across / column_step p + head.n)
+      || list_any (λ d. nat_le (bottom_margin m) d.y) (raster_dots m head rows)) OffSheet
       ∷ refuse (overprints m.dots (raster_dots m head rows)) Overprint ∷ [])
       ∙ ap (λ b. first_fault (refuse (b || list_any (λ d. nat_le (bottom_margin m) d.y) (raster_dots m head rows)) OffSheet
       ∷ refuse (overprints m.dots (raster_dots m head rows)) Overprint ∷ [])) inside;
@@ -52,13 +54,16 @@ placed p m head s r made = record {
     some_column = omega (arith, made.steps.column, s.column_some);
     some_row = omega (arith, made.steps.row, s.row_least);
     across = ap (λ (h : RasterHead). h.h) made.head_is ∙ eqb-true head.h (column_step p) (not-false _ density.0);
-    down = ap (λ (h : RasterHead). h.v) made.head_is ∙ eqb-true head.v (nozzle_step p) (not-false _ density.1) ∙ sym made.steps.nozzle ∙ s.nozzle_rows
+    down = ap (λ (h : RasterHead). h.v) made.head_is
+        ∙ eqb-true head.v (nozzle_step p) (not-false _ density.1) ∙ sym made.steps.nozzle ∙ s.nozzle_rows
         ∙ ap (λ n. n * s.row) (sym made.pitch_is) ∙ ap (λ n. r.pitch * n) made.steps.row;
     ends = λ n. ends-at (bottom_margin m) (row_step p) n (omega (arith, made.steps.row, s.row_least)) ∙ ap (λ k. nat_le k n) (sym end_is);
   };
   head_is = made.head_is;
   column = x_is;
-  on_page = let least : (bottom_margin m + row_step p - 1) / row_step p ≤ (page_length m + row_step p - 1) / row_step p = div-mono _ _ (row_step p) (omega (arith, made.steps.row, s.row_least)) (omega (arith, made.on_page)) in omega (arith, end_is, least);
+  on_page = let least : (bottom_margin m + row_step p - 1) / row_step p ≤ (page_length m + row_step p - 1) / row_step
+      p = div-mono _ _ (row_step p) (omega (arith, made.steps.row, s.row_least)) (omega (arith, made.on_page)) in
+      omega (arith, end_is, least);
 }
   where
     none : NoneOf (early p m head)

@@ -1,5 +1,6 @@
 -- The dots of a raster, row by row.
-use Rattle.std.proofs.Common.{◌≡◌, ℕ, suc, ◌+◌, ◌-◌, ◌*◌, ◌<◌, ◌≤◌, Bool, true, false, ◌&&◌, ◌||◌, nat_le, nat_lt, List, [], ◌∷◌, ◌++◌, length, take, drop, refl, ◌∙◌, sym, ap, arith, length-take, length-drop}
+use Rattle.std.proofs.Common.{◌≡◌, ℕ, suc, ◌+◌, ◌-◌, ◌*◌, ◌<◌, ◌≤◌, Bool, true, false, ◌&&◌, ◌||◌, nat_le, nat_lt, List, [], ◌∷◌, ◌++◌}
+use Rattle.std.proofs.Common.{length, take, drop, refl, ◌∙◌, sym, ap, arith, length-take, length-drop}
 use Rattle.std.specs.List.{list_any}
 use Rattle.std.proofs.lemmas.Bool.{false≢true, le-leb, lt-leb, lt-ltb, or_parts}
 use Rattle.std.proofs.lemmas.List.{drop-drop}
@@ -15,7 +16,7 @@ use Rattle.dot_emulator.proofs.RowDots.{row-below, row-has}
 abbrev pub packed_row : Raster → List ℕ → ℕ → List ℕ
 packed_row r rows i = take (row_bytes r.head) (drop (i * row_bytes r.head) rows)
 
--- the row of the sheet where row i stands
+-- the row of the sheet where row i is
 abbrev pub sheet_row : Raster → ℕ → ℕ
 sheet_row r i = r.y + i * r.pitch
 
@@ -42,7 +43,8 @@ rest-none g r rows i all =
     let none : r.head.m - i ≡ 0 = omega arith in
     ap (λ n. rows_dots n r.head r.ink (r.x * g.column) (sheet_row r i * g.row) (drop (i * row_bytes r.head) rows)) none
 
-pub rest-next : (g : Grid) (r : Raster) (rows : List ℕ) (i : ℕ) → Stands g r → i < r.head.m → rest g r rows i ≡ row_fired g r rows i ++ rest g r rows (i + 1)
+pub rest-next : (g : Grid) (r : Raster) (rows : List ℕ) (i : ℕ)
+    → Stands g r → i < r.head.m → rest g r rows i ≡ row_fired g r rows i ++ rest g r rows (i + 1)
 unfolding rows_dots
 rest-next g r rows i stands low =
     let len : ℕ = row_bytes r.head in
@@ -51,9 +53,12 @@ rest-next g r rows i stands low =
     let place : i * len + len ≡ (i + 1) * len = grind arith in
     ap (λ n. rows_dots n r.head r.ink (r.x * g.column) (sheet_row r i * g.row) (drop (i * len) rows)) more
     ∙ ap (λ h. row_dots r.ink (r.x * g.column) h (sheet_row r i * g.row) (take r.head.n (bits (packed_row r rows i)))
-    ++ rows_dots (r.head.m - (i + 1)) r.head r.ink (r.x * g.column) (sheet_row r i * g.row + r.head.v) (drop len (drop (i * len) rows))) stands.across
-    ∙ ap (λ y. row_fired g r rows i ++ rows_dots (r.head.m - (i + 1)) r.head r.ink (r.x * g.column) y (drop len (drop (i * len) rows))) below
-    ∙ ap (λ (bytes : List ℕ). row_fired g r rows i ++ rows_dots (r.head.m - (i + 1)) r.head r.ink (r.x * g.column) (sheet_row r (i + 1) * g.row) bytes)
+    ++ rows_dots (r.head.m - (i + 1)) r.head r.ink
+    (r.x * g.column) (sheet_row r i * g.row + r.head.v) (drop len (drop (i * len) rows))) stands.across
+    ∙ ap (λ y. row_fired g r rows i
+    ++ rows_dots (r.head.m - (i + 1)) r.head r.ink (r.x * g.column) y (drop len (drop (i * len) rows))) below
+    ∙ ap (λ (bytes : List ℕ). row_fired g r rows i
+    ++ rows_dots (r.head.m - (i + 1)) r.head r.ink (r.x * g.column) (sheet_row r (i + 1) * g.row) bytes)
     (drop-drop len (i * len) rows ∙ ap (λ n. drop n rows) place)
 
 -- ---- a test of the dots
@@ -67,17 +72,21 @@ left-first f g r rows = ap (list_any f) (rest-first g r rows)
 
 any-next : (f : Dot → Bool) (g : Grid) (r : Raster) (rows : List ℕ) (i : ℕ) → Stands g r → i < r.head.m
     → list_any f (rest g r rows i) ≡ (list_any f (row_fired g r rows i) || list_any f (rest g r rows (i + 1)))
-any-next f g r rows i stands low = ap (list_any f) (rest-next g r rows i stands low) ∙ list_any-append f (row_fired g r rows i) (rest g r rows (i + 1))
+any-next f g r rows i stands low = ap (list_any f) (rest-next g r rows i stands low)
+    ∙ list_any-append f (row_fired g r rows i) (rest g r rows (i + 1))
 
 pub left-next : (f : Dot → Bool) (g : Grid) (r : Raster) (rows : List ℕ) (i : ℕ) → Stands g r → i < r.head.m
     → IsLeft f g r rows i → list_any f (row_fired g r rows i) ≡ false → IsLeft f g r rows (i + 1)
-left-next f g r rows i stands low left none = left ∙ any-next f g r rows i stands low ∙ ap (λ b. b || list_any f (rest g r rows (i + 1))) none
+left-next f g r rows i stands low left none =
+    left ∙ any-next f g r rows i stands low ∙ ap (λ b. b || list_any f (rest g r rows (i + 1))) none
 
 pub left-found : (f : Dot → Bool) (g : Grid) (r : Raster) (rows : List ℕ) (i : ℕ) → Stands g r → i < r.head.m
     → IsLeft f g r rows i → list_any f (row_fired g r rows i) ≡ true → true ≡ list_any f (fired g r rows)
-left-found f g r rows i stands low left some = sym (left ∙ any-next f g r rows i stands low ∙ ap (λ b. b || list_any f (rest g r rows (i + 1))) some)
+left-found f g r rows i stands low left some =
+    sym (left ∙ any-next f g r rows i stands low ∙ ap (λ b. b || list_any f (rest g r rows (i + 1))) some)
 
-pub left-none : (f : Dot → Bool) (g : Grid) (r : Raster) (rows : List ℕ) (i : ℕ) → r.head.m ≤ i → IsLeft f g r rows i → false ≡ list_any f (fired g r rows)
+pub left-none : (f : Dot → Bool) (g : Grid) (r : Raster) (rows : List ℕ) (i : ℕ)
+    → r.head.m ≤ i → IsLeft f g r rows i → false ≡ list_any f (fired g r rows)
 left-none f g r rows i all left = sym (left ∙ ap (list_any f) (rest-none g r rows i all))
 
 -- whether there is a dot
@@ -95,7 +104,8 @@ row-long r rows i fits low =
 
 pub row-has-dot : (g : Grid) (r : Raster) (rows : List ℕ) (i : ℕ) → HasRows r rows → i < r.head.m
     → list_any (λ d. true) (row_fired g r rows i) ≡ has_dot (packed_row r rows i) r.head.n
-row-has-dot g r rows i fits low = row-has r.ink r.x g.column (sheet_row r i * g.row) r.head.n (packed_row r rows i) (row-long r rows i fits low)
+row-has-dot g r rows i fits low =
+    row-has r.ink r.x g.column (sheet_row r i * g.row) r.head.n (packed_row r rows i) (row-long r rows i fits low)
 
 pub row-is-below : (g : Grid) (r : Raster) (rows : List ℕ) (i : ℕ) → Stands g r → HasRows r rows → i < r.head.m
     → list_any (λ d. nat_le g.bottom d.y) (row_fired g r rows i) ≡ (nat_le r.end (sheet_row r i) && has_dot (packed_row r rows i) r.head.n)
@@ -104,11 +114,13 @@ row-is-below g r rows i stands fits low =
     ∙ ap (λ b. b && has_dot (packed_row r rows i) r.head.n) (stands.ends (sheet_row r i))
 
 -- the bytes of a row, as they are cut out
-pub row-is : (r : Raster) (rows bytes : List ℕ) (i len : ℕ) → len ≡ row_bytes r.head → bytes ≡ take len (drop (i * len) rows) → bytes ≡ packed_row r rows i
+pub row-is : (r : Raster) (rows bytes : List ℕ) (i len : ℕ)
+    → len ≡ row_bytes r.head → bytes ≡ take len (drop (i * len) rows) → bytes ≡ packed_row r rows i
 row-is r rows bytes i len len_is is = is ∙ ap (λ l. take l (drop (i * l) rows)) len_is
 
 -- a row at or below the bottom margin, which has a dot or none
-pub below-row : (g : Grid) (r : Raster) (rows : List ℕ) (i : ℕ) (b : Bool) (bytes : List ℕ) → Stands g r → HasRows r rows → i < r.head.m → r.end ≤ sheet_row r i
+pub below-row : (g : Grid) (r : Raster) (rows : List ℕ) (i : ℕ) (b : Bool) (bytes : List ℕ)
+    → Stands g r → HasRows r rows → i < r.head.m → r.end ≤ sheet_row r i
     → bytes ≡ packed_row r rows i → b ≡ has_dot bytes r.head.n → list_any (λ d. nat_le g.bottom d.y) (row_fired g r rows i) ≡ b
 below-row g r rows i b bytes stands fits low below is tested =
     row-is-below g r rows i stands fits low
@@ -116,7 +128,7 @@ below-row g r rows i b bytes stands fits low below is tested =
     ∙ ap (λ (row : List ℕ). has_dot row r.head.n) (sym is)
     ∙ sym tested
 
--- no dot of a row above it stands at or below it
+-- no dot of a row above it is at or below it
 pub above-row : (g : Grid) (r : Raster) (rows : List ℕ) (i : ℕ) → Stands g r → HasRows r rows → i < r.head.m → sheet_row r i < r.end
     → list_any (λ d. nat_le g.bottom d.y) (row_fired g r rows i) ≡ false
 above-row g r rows i stands fits low above =
@@ -125,14 +137,14 @@ above-row g r rows i stands fits low above =
 
 -- ---- rows that have no dots
 
--- no dot of the rows from row i on stands at or below the bottom margin
+-- no dot of the rows from row i on is at or below the bottom margin
 abbrev pub IsAboveFrom : Grid → Raster → List ℕ → ℕ → Type 0
 IsAboveFrom g r rows i = list_any (λ d. nat_le g.bottom d.y) (rest g r rows i) ≡ false
 
 pub above-first : (g : Grid) (r : Raster) (rows : List ℕ) → IsAbove g r rows → IsAboveFrom g r rows 0
 above-first g r rows above = sym (left-first (λ d. nat_le g.bottom d.y) g r rows) ∙ above
 
--- so it is of row i, and of those behind it
+-- the same for row i, and for those after it
 pub record AreAbove (g : Grid) (r : Raster) (rows : List ℕ) (i : ℕ) : Type 0 where
   pub this : list_any (λ d. nat_le g.bottom d.y) (row_fired g r rows i) ≡ false
   pub later : IsAboveFrom g r rows (i + 1)
@@ -148,11 +160,13 @@ none-in [] none = refl
 none-in (d ∷ dots) none = absurd (false≢true (sym none))
 
 -- a row below the bottom margin has no dots
-pub below-none : (g : Grid) (r : Raster) (rows : List ℕ) (i : ℕ) → Stands g r → HasRows r rows → i < r.head.m → IsAboveFrom g r rows i → r.end ≤ sheet_row r i
+pub below-none : (g : Grid) (r : Raster) (rows : List ℕ) (i : ℕ)
+    → Stands g r → HasRows r rows → i < r.head.m → IsAboveFrom g r rows i → r.end ≤ sheet_row r i
     → row_fired g r rows i ≡ []
 below-none g r rows i stands fits low above below =
     let this = (above-next g r rows i stands low above).this in
     none-in (row_fired g r rows i) (
     row-has-dot g r rows i fits low
-    ∙ sym (row-is-below g r rows i stands fits low ∙ ap (λ t. t && has_dot (packed_row r rows i) r.head.n) (le-leb r.end (sheet_row r i) below))
+    ∙ sym (row-is-below g r rows i stands fits low
+    ∙ ap (λ t. t && has_dot (packed_row r rows i) r.head.n) (le-leb r.end (sheet_row r i) below))
     ∙ this)

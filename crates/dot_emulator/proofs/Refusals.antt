@@ -1,5 +1,6 @@
 -- Refusals, one after another.
-use Rattle.std.proofs.Common.{◌≡◌, ℕ, ◌+◌, ◌-◌, ◌*◌, ◌/◌, ◌%◌, ◌==◌, ◌≤◌, Bool, true, false, nat_le, List, [], ◌∷◌, ◌++◌, refl, ◌∙◌, sym, arith, inl, inr}
+use Rattle.std.proofs.Common.{◌≡◌, ℕ, ◌+◌, ◌-◌, ◌*◌, ◌/◌, ◌%◌, ◌==◌, ◌≤◌, Bool, true, false, nat_le, List, []}
+use Rattle.std.proofs.Common.{◌∷◌, ◌++◌, refl, ◌∙◌, sym, arith, inl, inr}
 use Rattle.std.specs.Prelude.{Some, None}
 use Rattle.std.specs.List.{AllByRecursion}
 use Rattle.std.proofs.lemmas.Bool.{cases_lt, eqb-true, le-leb, lt-leb}
@@ -10,7 +11,7 @@ use Rattle.escp2_definitions.specs.declared.stops.EmuFault.{EmuFault}
 abbrev Holds : Refusal → Type 0
 Holds r = r.holds ≡ false
 
--- where no refusal holds, each test is false, and those behind decide
+-- where no refusal holds, each test is false, and the later ones decide
 pub record NoneOf (tests : List Refusal) : Type 0 where
   pub each : AllByRecursion Holds tests
   pub more : (others : List Refusal) → first_fault (tests ++ others) ≡ first_fault others
@@ -18,7 +19,8 @@ pub record NoneOf (tests : List Refusal) : Type 0 where
 some-is-none : {A : Type 0} {X : Type 0} (x : X) → Some x ≡ None → A
 some-is-none x e = cc
 
-none-at : (b : Bool) (fault : EmuFault) (tests : List Refusal) → first_fault (refuse b fault ∷ tests) ≡ None → (first_fault tests ≡ None → NoneOf tests)
+none-at : (b : Bool) (fault : EmuFault) (tests : List Refusal)
+    → first_fault (refuse b fault ∷ tests) ≡ None → (first_fault tests ≡ None → NoneOf tests)
     → NoneOf (refuse b fault ∷ tests)
 none-at true fault tests none behind = some-is-none fault none
 none-at false fault tests none behind = let later = behind none in record { each = (refl, later.each); more = later.more }

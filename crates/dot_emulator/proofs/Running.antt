@@ -1,5 +1,6 @@
--- What the emulator shows behind a command.
-use Rattle.std.proofs.Common.{◌≡◌, ℕ, suc, ◌+◌, ◌-◌, ◌/◌, ◌≤◌, Bool, true, false, nat_le, nat_lt, List, [], ◌∷◌, ◌++◌, length, refl, ◌∙◌, sym, ap, arith, subst, append-nil, length-append}
+-- What the emulator stands for after a command.
+use Rattle.std.proofs.Common.{◌≡◌, ℕ, suc, ◌+◌, ◌-◌, ◌/◌, ◌≤◌, Bool, true, false, nat_le, nat_lt, List, [], ◌∷◌, ◌++◌, length}
+use Rattle.std.proofs.Common.{refl, ◌∙◌, sym, ap, arith, subst, append-nil, length-append}
 use Rattle.std.specs.Prelude.{Option, Some, None, Ok, is_some, is_none, if◌then◌else◌}
 use Rattle.std.specs.List.{AllByRecursion, list_any}
 use Rattle.std.proofs.lemmas.Bool.{false≢true, lt-ltb, ltb-false, ltb-true}
@@ -8,10 +9,11 @@ use Rattle.escp2_definitions.specs.declared.command.RasterHead.{RasterHead}
 use Rattle.escp2_definitions.specs.declared.command.Command.{Command}
 use Rattle.escp2_definitions.specs.declared.command.Command.TheVariants as c
 use Rattle.escp2_definitions.specs.declared.stops.EmuFault.TheVariants.{Backward, NoUnit, OffSheet, Overprint}
-use Rattle.escp2_definitions.specs.Machine.{Dot, Machine, after, bottom_margin, first_fault, given, has_dots, overprints, page_length, refusals, refuse}
+use Rattle.escp2_definitions.specs.Machine.{Dot, Machine, after, bottom_margin, first_fault, given, has_dots}
+use Rattle.escp2_definitions.specs.Machine.{overprints, page_length, refusals, refuse}
 use Rattle.dot_planes.specs.Tables.{DotTable}
 use Rattle.dot_emulator.specs.declared.state.State.{State}
-use Rattle.dot_emulator.specs.Hands.{IsBlankBehind, rows_or}
+use Rattle.dot_emulator.specs.Current.{IsBlankPast, rows_or}
 use Rattle.dot_emulator.specs.Pages.{sheet_rows}
 use Rattle.dot_emulator.specs.declared.firing.Raster.{Raster}
 use Rattle.dot_emulator.specs.Firing.{Grid, HasRows, IsAbove, PlanesHave, fired}
@@ -29,7 +31,7 @@ use Rattle.dot_emulator.specs.States.{IsStep, is_plain, machine_of}
 some-is-none : {A : Type 0} {X : Type 0} (x : X) → Some x ≡ None → A
 some-is-none x e = cc
 
--- whether planes are there tells whether the sheet has a dot
+-- there are planes exactly where the sheet has a dot
 pub shown-dots : (p : Printer) (m : Machine) (planes : Option DotTable) → ShowsDots p m planes → is_some planes ≡ has_dots m
 shown-dots p m None none = sym (ap (λ (ds : List Dot). nat_lt 0 (length ds)) none)
 shown-dots p m (Some t) shows = sym shows.0
@@ -82,8 +84,9 @@ kept p m c.Eject rows e some none = absurd (false≢true e)
 kept p m (c.Colour ink) rows e some none = record { page = refl; columns = refl; dots = refl }
 kept p m (c.Raster head) rows e some none = absurd (false≢true e)
 
--- a sheet without dots stays one
-no-dots : (p : Printer) (m : Machine) (command : Command) (rows : List ℕ) → is_plain command ≡ true → m.dots ≡ [] → (after p m command rows).dots ≡ []
+-- a sheet without dots stays without dots
+no-dots : (p : Printer) (m : Machine) (command : Command) (rows : List ℕ)
+    → is_plain command ≡ true → m.dots ≡ [] → (after p m command rows).dots ≡ []
 no-dots p m c.Init rows e none = refl
 no-dots p m c.Graphics rows e none = none
 no-dots p m (c.Unit n) rows e none = none
@@ -108,14 +111,15 @@ plain-shows p m command rows (Some t) e none shows =
     let C : ℕ → Type 0 = λ columns. HasDots (column_step p) (row_step p) columns m.dots t in
     (ap (λ (ds : List Dot). nat_lt 0 (length ds)) stays.dots ∙ shows.0, subst D (sym stays.dots) (subst C (sym stays.columns) shows.1))
 
--- ---- the planes in hand
+-- ---- the current planes
 
--- the state behind a plain command, where there are planes
+-- the state after a plain command, where there are planes
 pub record IsStill (s0 s : State) : Type 0 where
   pub page : s.page ≡ s0.page
   pub columns : s.columns ≡ s0.columns
 
-pub still : (p : Printer) (d : Dot) (s0 s : State) (command : Command) → is_plain command ≡ true → IsStep p (machine_of s0 (d ∷ [])) command (Ok s) → IsStill s0 s
+pub still : (p : Printer) (d : Dot) (s0 s : State) (command : Command)
+    → is_plain command ≡ true → IsStep p (machine_of s0 (d ∷ [])) command (Ok s) → IsStill s0 s
 still p d s0 s command e step =
     let m : Machine = machine_of s0 (d ∷ []) in
     let stays : IsKept p m command [] = kept p m command [] e refl (step []).0 in
@@ -129,7 +133,8 @@ pub rows-still : (planes : Option DotTable) (s0 s : State) (row : ℕ) → (is_s
 rows-still None s0 s row stays is = refl
 rows-still (Some t) s0 s row stays is = is ∙ ap (λ page. sheet_rows page row) (sym (stays refl).page)
 
-pub blank-still : (planes : Option DotTable) (s0 s : State) → (is_some planes ≡ true → IsStill s0 s) → IsBlankBehind s0.columns planes → IsBlankBehind s.columns planes
+pub blank-still : (planes : Option DotTable) (s0 s : State)
+    → (is_some planes ≡ true → IsStill s0 s) → IsBlankPast s0.columns planes → IsBlankPast s.columns planes
 blank-still None s0 s stays blank = λ ink y x low past. refl
 blank-still (Some t) s0 s stays blank = λ ink y x low past. blank ink y x low (let same = (stays refl).columns in omega (arith, same))
 
@@ -139,15 +144,17 @@ pub planes-have : (p : Printer) (m : Machine) (planes : Option DotTable) → Sho
 planes-have p m None none = ap (λ (ds : List Dot). length ds) none
 planes-have p m (Some t) shows = shows.1.places
 
--- what is left to be refused for, from the raster's place
+-- the refusals that depend on the dots, from the raster's place
 pub late : (p : Printer) (m : Machine) (head : RasterHead) (r : Raster) (rows : List ℕ) → Placed p m head r
     → first_fault (refusals p m (c.Raster head) rows)
-    ≡ first_fault (refuse (list_any (λ d. nat_le (bottom_margin m) d.y) (fired (grid_of p m) r rows)) OffSheet ∷ refuse (overprints m.dots (fired (grid_of p m) r rows)) Overprint ∷ [])
+    ≡ first_fault (refuse (list_any (λ d. nat_le (bottom_margin m) d.y) (fired (grid_of p m) r rows)) OffSheet
+    ∷ refuse (overprints m.dots (fired (grid_of p m) r rows)) Overprint ∷ [])
 late p m head r rows placed =
     placed.left rows
-    ∙ ap (λ (new : List Dot). first_fault (refuse (list_any (λ d. nat_le (bottom_margin m) d.y) new) OffSheet ∷ refuse (overprints m.dots new) Overprint ∷ [])) (placed.fires rows)
+    ∙ ap (λ (new : List Dot). first_fault (refuse (list_any (λ d. nat_le (bottom_margin m) d.y) new) OffSheet
+    ∷ refuse (overprints m.dots new) Overprint ∷ [])) (placed.fires rows)
 
--- where nothing is left, no dot stands at or below the bottom margin
+-- where neither refusal holds, no dot is at or below the bottom margin
 pub above-margin : (off over : Bool) → first_fault (refuse off OffSheet ∷ refuse over Overprint ∷ []) ≡ None → off ≡ false
 above-margin true over none = some-is-none OffSheet none
 above-margin false over none = refl
@@ -159,16 +166,20 @@ empty-of : (xs : List Dot) → nat_lt 0 (length xs) ≡ false → xs ≡ []
 empty-of [] none = refl
 empty-of (x ∷ xs) none = absurd (let few = ltb-false 0 (suc (length xs)) none in omega arith)
 
-old-inside : (p : Printer) (m : Machine) (columns height : ℕ) (planes : Option DotTable) → ShowsDots p m planes → rows_or height planes ≡ height
+old-inside : (p : Printer) (m : Machine) (columns height : ℕ) (planes : Option DotTable)
+    → ShowsDots p m planes → rows_or height planes ≡ height
     → m.columns ≤ columns → AllByRecursion (IsOnGrid (column_step p) (row_step p) columns height) m.dots
-old-inside p m columns height None none rows more = let P : List Dot → Type 0 = AllByRecursion (IsOnGrid (column_step p) (row_step p) columns height) in subst P (sym none) tt
+old-inside p m columns height None none rows more = let P : List Dot
+    → Type 0 = AllByRecursion (IsOnGrid (column_step p) (row_step p) columns height) in subst P (sym none) tt
 old-inside p m columns height (Some t) shows rows more =
     let P : ℕ → Type 0 = λ n. AllByRecursion (IsOnGrid (column_step p) (row_step p) columns n) m.dots in
     subst P rows (wider (column_step p) (row_step p) m.columns columns t.rows m.dots more shows.1.inside)
 
 -- a raster with dots
-pub laid-shows : (p : Printer) (m : Machine) (head : RasterHead) (r : Raster) (rows : List ℕ) (planes new : Option DotTable) (height : ℕ) → Placed p m head r → HasRows r rows
-    → IsAbove (grid_of p m) r rows → ShowsDots p m planes → rows_or height planes ≡ height → r.end ≤ height → (n : ℕ) → rows_or n new ≡ height → LaidIn (grid_of p m) r rows m.dots new
+pub laid-shows : (p : Printer) (m : Machine) (head : RasterHead)
+    (r : Raster) (rows : List ℕ) (planes new : Option DotTable) (height : ℕ) → Placed p m head r → HasRows r rows
+    → IsAbove (grid_of p m) r rows → ShowsDots p m planes → rows_or height planes ≡ height
+    → r.end ≤ height → (n : ℕ) → rows_or n new ≡ height → LaidIn (grid_of p m) r rows m.dots new
     → nat_lt 0 (length (fired (grid_of p m) r rows)) ≡ true → ShowsDots p (after p m (c.Raster head) rows) new
 laid-shows p m head r rows planes new height placed fits above shows is end_fits n new_rows laid some =
     let g : Grid = grid_of p m in
@@ -192,7 +203,8 @@ laid-shows p m head r rows planes new height placed fits above shows is end_fits
     )
 
 -- a raster without dots
-pub blank-shows : (p : Printer) (m : Machine) (head : RasterHead) (r : Raster) (rows : List ℕ) (planes : Option DotTable) → Placed p m head r
+pub blank-shows : (p : Printer)
+    (m : Machine) (head : RasterHead) (r : Raster) (rows : List ℕ) (planes : Option DotTable) → Placed p m head r
     → nat_lt 0 (length (fired (grid_of p m) r rows)) ≡ false → ShowsDots p m planes → ShowsDots p (after p m (c.Raster head) rows) planes
 blank-shows p m head r rows planes placed none shows = by_planes planes shows
   where
@@ -204,7 +216,10 @@ blank-shows p m head r rows planes placed none shows = by_planes planes shows
     by_planes (Some t) has =
         let D : List Dot → Type 0 = λ ds. HasDots (column_step p) (row_step p) (after p m (c.Raster head) rows).columns ds t in (
           ap (λ (ds : List Dot). nat_lt 0 (length ds)) dots_are ∙ has.0,
-          subst D (sym dots_are) (record { places = has.1.places; inside = wider (column_step p) (row_step p) m.columns _ t.rows m.dots (omega arith) has.1.inside }),
+          subst D (sym dots_are) (record {
+            places = has.1.places;
+            inside = wider (column_step p) (row_step p) m.columns _ t.rows m.dots (omega arith) has.1.inside;
+          }),
         )
 
 -- ---- planes that are taken
@@ -218,20 +233,23 @@ pub blank-over : (dots new : List Dot) → length dots ≡ 0 → overprints dots
 blank-over [] new none = no-over new
 blank-over (d ∷ dots) new none = absurd (omega arith)
 
-pub blank-taken : (old : Option DotTable) (t : DotTable) (columns : ℕ) → AreTaken old t → IsBlankBehind columns old → IsBlankBehind columns (Some t)
+pub blank-taken : (old : Option DotTable) (t : DotTable) (columns : ℕ)
+    → AreTaken old t → IsBlankPast columns old → IsBlankPast columns (Some t)
 blank-taken None t columns taken blank = λ ink y x low past. taken ink y x
 blank-taken (Some o) t columns taken blank =
-    let P : DotTable → Type 0 = λ s. IsBlankBehind columns (Some s) in
+    let P : DotTable → Type 0 = λ s. IsBlankPast columns (Some s) in
     subst P (sym taken) blank
 
-pub places-taken : (g : Grid) (dots : List Dot) (old : Option DotTable) (t : DotTable) → AreTaken old t → PlanesHave g dots old → HasPlaces g.column g.row dots t
+pub places-taken : (g : Grid) (dots : List Dot) (old : Option DotTable) (t : DotTable)
+    → AreTaken old t → PlanesHave g dots old → HasPlaces g.column g.row dots t
 places-taken g [] None t taken have = λ ink y x low. taken (ink_place ink) y x
 places-taken g (d ∷ dots) None t taken have = absurd (omega arith)
 places-taken g dots (Some o) t taken have =
     let P : DotTable → Type 0 = HasPlaces g.column g.row dots in
     subst P (sym taken) have
 
-has-taken : (p : Printer) (m : Machine) (old : Option DotTable) (t : DotTable) → AreTaken old t → ShowsDots p m old → HasDots (column_step p) (row_step p) m.columns m.dots t
+has-taken : (p : Printer) (m : Machine) (old : Option DotTable) (t : DotTable)
+    → AreTaken old t → ShowsDots p m old → HasDots (column_step p) (row_step p) m.columns m.dots t
 has-taken p m None t taken shows =
     let P : List Dot → Type 0 = λ ds. HasDots (column_step p) (row_step p) m.columns ds t in
     subst P (sym shows) (record { places = λ ink y x low. taken (ink_place ink) y x; inside = tt })
@@ -249,7 +267,8 @@ pub record IsEjected (p : Printer) (m : Machine) (old new : Emulator) (sheet : S
   pub columns : sheet.columns ≡ old.state.columns
   pub taken : AreTaken old.planes sheet.planes
 
-pub eject-runs : (p : Printer) (m : Machine) (rows : List ℕ) (old new : Emulator) (sheet : Sheet) → Shows p old m → IsEjected p m old new sheet → Runs p m c.Eject rows old new (Ok (Some sheet))
+pub eject-runs : (p : Printer) (m : Machine) (rows : List ℕ) (old new : Emulator) (sheet : Sheet)
+    → Shows p old m → IsEjected p m old new sheet → Runs p m c.Eject rows old new (Ok (Some sheet))
 eject-runs p m rows old new sheet shows e =
     let P : Machine → Type 0 = λ n. IsStep p n c.Eject (Ok new.state) in
     let step = subst P shows.state e.step in
@@ -284,15 +303,19 @@ pub record IsFired (p : Printer) (m : Machine) (head : RasterHead) (r : Raster) 
   pub step : machine_of new.state (after p m (c.Raster head) rows).dots ≡ after p m (c.Raster head) rows
 
 -- the machine after a raster, from the state that the code takes
-pub raster-step : (p : Printer) (m : Machine) (head : RasterHead) (r : Raster) (rows : List ℕ) (old : Emulator) (s : State) → Shows p old m → r.head ≡ head
-    → machine_of s (after p (machine_of old.state m.dots) (c.Raster r.head) rows).dots ≡ after p (machine_of old.state m.dots) (c.Raster r.head) rows
+pub raster-step : (p : Printer) (m : Machine)
+    (head : RasterHead) (r : Raster) (rows : List ℕ) (old : Emulator) (s : State) → Shows p old m → r.head ≡ head
+    → machine_of s (after p (machine_of old.state m.dots) (c.Raster r.head) rows).dots
+    ≡ after p (machine_of old.state m.dots) (c.Raster r.head) rows
     → machine_of s (after p m (c.Raster head) rows).dots ≡ after p m (c.Raster head) rows
 raster-step p m head r rows old s shows head_is step =
-    let H : RasterHead → Type 0 = λ h. machine_of s (after p (machine_of old.state m.dots) (c.Raster h) rows).dots ≡ after p (machine_of old.state m.dots) (c.Raster h) rows in
+    let H : RasterHead → Type 0 = λ h. machine_of s (after p (machine_of old.state m.dots) (c.Raster h) rows).dots
+    ≡ after p (machine_of old.state m.dots) (c.Raster h) rows in
     let M : Machine → Type 0 = λ n. machine_of s (after p n (c.Raster head) rows).dots ≡ after p n (c.Raster head) rows in
     subst M shows.state (subst H head_is step)
 
-pub fire-runs : (p : Printer) (m : Machine) (head : RasterHead) (r : Raster) (rows : List ℕ) (old new : Emulator) → Shows p old m → IsFired p m head r rows old new
+pub fire-runs : (p : Printer) (m : Machine) (head : RasterHead) (r : Raster) (rows : List ℕ) (old new : Emulator)
+    → Shows p old m → IsFired p m head r rows old new
     → ShowsDots p (after p m (c.Raster head) rows) new.planes → Runs p m (c.Raster head) rows old new (Ok None)
 fire-runs p m head r rows old new shows f dots =
     let A : Steps → Type 0 = AreStepsOf p in

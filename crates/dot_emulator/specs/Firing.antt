@@ -1,4 +1,4 @@
--- The dots that a raster fires, from its place in columns and rows of dots.
+-- The dots that a raster fires, at their columns and rows.
 use Rattle.std.specs.Prelude.{◌≡◌, ℕ, ◌*◌, ◌≤◌, false, nat_le, List, length, Option, Some, None}
 use Rattle.std.specs.List.{list_any}
 use Rattle.escp2_definitions.specs.Commands.{row_bytes}
@@ -17,7 +17,7 @@ pub record Grid : Type 0 where
 abbrev pub fired : Grid → Raster → List ℕ → List Dot
 fired g r rows = rows_dots r.head.m r.head r.ink (r.x * g.column) (r.y * g.row) rows
 
--- A raster has the steps of a grid, and its rows from `end` on stand at or below the bottom margin.
+-- A raster has the steps of a grid, and its rows from `end` on are at or below the bottom margin.
 pub record Stands (g : Grid) (r : Raster) : Type 0 where
   pub some_column : 1 ≤ g.column
   pub some_row : 1 ≤ g.row
@@ -25,15 +25,15 @@ pub record Stands (g : Grid) (r : Raster) : Type 0 where
   pub down : r.head.v ≡ r.pitch * g.row
   pub ends : (n : ℕ) → nat_le g.bottom (n * g.row) ≡ nat_le r.end n
 
--- no dot of a raster stands at or below the bottom margin
+-- no dot of a raster is at or below the bottom margin
 abbrev pub IsAbove : Grid → Raster → List ℕ → Type 0
 IsAbove g r rows = list_any (λ d. nat_le g.bottom d.y) (fired g r rows) ≡ false
 
--- the rows of a raster are there
+-- the bytes have the rows of the raster
 abbrev pub HasRows : Raster → List ℕ → Type 0
 HasRows r rows = length rows ≡ r.head.m * row_bytes r.head
 
--- the places of planes that are made for the first dot
+-- the planes have the places of the dots; there are no planes before the first dot
 abbrev pub PlanesHave : Grid → List Dot → Option DotTable → Type 0
 PlanesHave g dots None = length dots ≡ 0
 PlanesHave g dots (Some t) = HasPlaces g.column g.row dots t

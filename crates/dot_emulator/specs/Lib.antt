@@ -1,7 +1,7 @@
 pub mod Sheets
 pub mod Margins
 pub mod Pages
-pub mod Hands
+pub mod Current
 pub mod Firing
 pub mod Steps
 pub mod States

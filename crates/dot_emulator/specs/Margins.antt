@@ -7,12 +7,12 @@ abbrev pub margins_of : Option Margins → Option PageMargins
 margins_of None = None
 margins_of (Some margins) = Some (record { top = margins.top; bottom = margins.bottom })
 
--- the top margin, or 0
+-- the top margin; 0 where it is not set
 abbrev pub top_of : Option Margins → ℕ
 top_of None = 0
 top_of (Some margins) = margins.top
 
--- the bottom margin, or another number where there is none
+-- the bottom margin, or `n` where it is not set
 abbrev pub bottom_or : ℕ → Option Margins → ℕ
 bottom_or n None = n
 bottom_or n (Some margins) = margins.bottom

@@ -1,4 +1,4 @@
--- Where a raster stands, or what it is refused for whatever its dots.
+-- Where on the sheet a raster is, or why it is refused whatever its dots.
 use Rattle.std.specs.Prelude.{◌≡◌, ℕ, ◌/◌, ◌≤◌, nat_le, List, [], ◌∷◌, Result, Ok, Err, Some}
 use Rattle.std.specs.List.{list_any}
 use Rattle.printer_definitions.specs.Printer.{Printer, column_step, row_step}
@@ -15,7 +15,7 @@ use Rattle.dot_emulator.specs.Pages.{sheet_rows}
 abbrev pub grid_of : Printer → Machine → Grid
 grid_of p m = record { column = column_step p; row = row_step p; bottom = bottom_margin m }
 
--- what is left to be refused for: a dot at or below the bottom margin, or where there is one already
+-- the refusals that depend on the dots: a dot at or below the bottom margin, or where there is one already
 abbrev pub late_refusals : Machine → RasterHead → List ℕ → List Refusal
 late_refusals m head rows =
     refuse (list_any (λ d. nat_le (bottom_margin m) d.y) (raster_dots m head rows)) OffSheet

@@ -1,4 +1,4 @@
--- What the emulator is of the machine, and what it answers.
+-- What the emulator stands for, and what it answers.
 use Rattle.std.specs.Prelude.{◌≡◌, ℕ, true, false, List, [], ◌∷◌, ◌++◌, Option, Some, None, Result, Ok, Err}
 use Rattle.printer_definitions.specs.Printer.{Printer, column_step, row_step}
 use Rattle.escp2_definitions.specs.Commands.{last_column}
@@ -16,30 +16,31 @@ use Rattle.weave_base.specs.declared.Memory.{Memory as MemoryOut}
 use Rattle.dot_emulator.specs.States.{machine_of}
 use Rattle.dot_emulator.specs.Steps.{AreStepsOf}
 
--- A sheet of the machine, dot by dot.
+-- The sheet has the dots of the machine's sheet.
 pub record IsSheet (p : Printer) (s : PrintedSheet) (sheet : Sheet) : Type 0 where
   pub rows : sheet.rows ≡ s.rows
   pub columns : sheet.columns ≡ s.columns
   pub dots : HasDots (column_step p) (row_step p) s.columns s.dots sheet.planes
 
--- the planes of the sheet in hand, which are made for its first dot
+-- the planes have the dots of the current sheet; there are no planes before its first dot
 abbrev pub ShowsDots : Printer → Machine → Option DotTable → Type 0
 ShowsDots p m None = m.dots ≡ []
 ShowsDots p m (Some t) = (has_dots m ≡ true) × HasDots (column_step p) (row_step p) m.columns m.dots t
 
--- The emulator stands for the machine in this state, on this printer.
+-- The emulator stands for this state of the machine, on this printer.
 pub record Shows (p : Printer) (e : Emulator) (m : Machine) : Type 0 where
   pub steps : AreStepsOf p e.steps
   pub state : machine_of e.state m.dots ≡ m
   pub dots : ShowsDots p m e.planes
 
--- the sheet that a command gives
+-- the answer is the sheet that the command gives, if any
 abbrev pub IsGiven : Printer → List PrintedSheet → Option Sheet → Type 0
 IsGiven p sheets None = sheets ≡ []
 IsGiven p sheets (Some sheet) = (s : PrintedSheet) × (sheets ≡ s ∷ []) × IsSheet p s sheet
 
--- What a command comes to where the emulator stands for a machine: the machine's next state and the sheet that it gives,
--- or the machine's first refusal, or want of memory where there is none. After these two the emulator is unchanged.
+-- The outcome of a command for an emulator that stands for a machine: the machine's next state and the sheet that it
+-- gives, or the machine's first refusal, or `Memory` where there is no refusal. After a refusal and after `Memory`
+-- the emulator is unchanged.
 abbrev pub Runs : Printer → Machine → Command → List ℕ → Emulator → Emulator → Result (Option Sheet) EmuStop → Type 0
 Runs p m command rows old new (Ok sheet) =
     (first_fault (refusals p m command rows) ≡ None) × IsGiven p (given p m command) sheet × Shows p new (after p m command rows)
@@ -52,7 +53,7 @@ Runs p m command rows old new (Err Memory) = (first_fault (refusals p m command 
 abbrev pub IsBlank : DotTable → Type 0
 IsBlank t = (ink y x : ℕ) → dot t ink y x ≡ false
 
--- planes are those in hand, or blank ones
+-- the planes are the current ones, or blank where there were none
 abbrev pub AreTaken : Option DotTable → DotTable → Type 0
 AreTaken None t = IsBlank t
 AreTaken (Some old) t = t ≡ old
@@ -67,7 +68,7 @@ abbrev pub TakesPlanes : ℕ → Option DotTable → Result DotTable MemoryOut �
 TakesPlanes rows old (Ok t) = Taken rows old t
 TakesPlanes rows old (Err out) = old ≡ None
 
--- the planes in hand have the dots of a raster too
+-- the current planes also have the dots of a raster
 pub record LaidIn (g : Grid) (r : Raster) (rows : List ℕ) (dots : List Dot) (new : Option DotTable) : Type 0 where
   pub table : DotTable
   pub is : new ≡ Some table

@@ -1,6 +1,7 @@
--- The machine, from what is kept of it.
+-- The machine, from the state that is kept.
 use Rattle.std.specs.Prelude.{◌≡◌, ℕ, ◌==◌, Bool, true, false, not, List, [], ◌∷◌, Option, Some, None, Result, Ok, Err}
-use Rattle.escp2_definitions.specs.Machine.{Dot, Machine, after, first_fault, is_off_grid, is_other_density, no_margins, no_unit, refusals, refuse}
+use Rattle.escp2_definitions.specs.Machine.{Dot, Machine, after, first_fault, is_off_grid, is_other_density}
+use Rattle.escp2_definitions.specs.Machine.{no_margins, no_unit, refusals, refuse}
 use Rattle.escp2_definitions.specs.declared.command.Command.{Command}
 use Rattle.escp2_definitions.specs.declared.command.Command.TheVariants as c
 use Rattle.escp2_definitions.specs.declared.command.RasterHead.{RasterHead}
@@ -24,19 +25,20 @@ machine_of s dots = record {
   dots = dots;
 }
 
--- A step of the machine that fires no dots: what it is refused for, or the state behind it.
+-- A step of the machine that fires no dots: why it is refused, or the state after it.
 abbrev pub IsStep : Printer → Machine → Command → Result State EmuFault → Type 0
 IsStep p m command (Ok s) =
-    (rows : List ℕ) → (first_fault (refusals p m command rows) ≡ None) × (machine_of s (after p m command rows).dots ≡ after p m command rows)
+    (rows : List ℕ) → (first_fault (refusals p m command rows) ≡ None)
+    × (machine_of s (after p m command rows).dots ≡ after p m command rows)
 IsStep p m command (Err fault) = (rows : List ℕ) → first_fault (refusals p m command rows) ≡ Some fault
 
--- whether a command fires dots, or gives a sheet
+-- whether a command neither fires dots nor gives a sheet
 abbrev pub is_plain : Command → Bool
 is_plain (c.Raster head) = false
 is_plain c.Eject = false
 is_plain other = true
 
--- what a raster is refused for, whatever its dots
+-- why a raster is refused, whatever its dots
 abbrev pub early_fault : Printer → Machine → RasterHead → Option EmuFault
 early_fault p m head = first_fault (
     refuse (not m.graphics) NotGraphics ∷ no_unit m ∷ no_margins m

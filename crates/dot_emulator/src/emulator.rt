@@ -1,9 +1,9 @@
-//! The machine with its sheet.
+//! The state of a printer, with its sheet.
 ghost use Rattle.escp2_definitions.specs.Commands.{in_table, last_column, rows_len};
 ghost use Rattle.escp2_definitions.specs.Machine.{start};
 ghost use Rattle.printer_profile.specs.Profiles.{printer_of};
 ghost use Rattle.printer_profile.specs.Validity.{check};
-ghost use Rattle.dot_emulator.specs.Hands.{IsBlankBehind, inks_of, rows_or, width_of};
+ghost use Rattle.dot_emulator.specs.Current.{IsBlankPast, inks_of, rows_or, width_of};
 ghost use Rattle.dot_emulator.specs.Pages.{sheet_rows};
 ghost use Rattle.dot_emulator.specs.declared.emulator.EmuStop.TheVariants as stop;
 ghost use Rattle.std.specs.Prelude.{IsOk, length, true, ◌≡◌};
@@ -21,9 +21,9 @@ use weave_base::Memory;
 /// Why the emulator does not run a command.
 #[derive(Clone, Copy, Debug, PartialEq, Eq)]
 pub enum EmuStop {
-    /// The machine refuses the command.
+    /// The printer refuses the command.
     Refused(EmuFault),
-    /// There is no memory for the dots of a sheet.
+    /// Memory for the dots of a sheet ran out.
     Memory,
 }
 
@@ -49,11 +49,11 @@ pub struct Emulator {
     alloc: Global,
     steps: Steps,
     state: State,
-    /// Of the sheet in hand, from its first dot on.
+    /// The dots of the current sheet; `None` before its first dot.
     planes: Option<Planes>,
     ghost inks: { inks_of planes ≡ 4 },
     ghost width: { width_of planes ≡ last_column },
-    ghost blank: { IsBlankBehind state.columns planes },
+    ghost blank: { IsBlankPast state.columns planes },
     ghost rows: { rows_or (sheet_rows state.page steps.row) planes ≡ sheet_rows state.page steps.row },
 }
 
@@ -69,9 +69,10 @@ impl Emulator {
     ghost use Rattle.escp2_definitions.specs.declared.stops.EmuFault.TheVariants.{OffSheet, Overprint};
     ghost use Rattle.printer_definitions.specs.Printer.{Printer};
     ghost use Rattle.std.specs.List.{list_any};
-    ghost use Rattle.std.specs.Prelude.{IfOk, List, [], OnErr, OnOk, None, nat_le, ℕ, ◌∷◌, ◌*◌, ◌+◌, ◌/◌, ◌≤◌, unwrap_or};
+    ghost use Rattle.std.specs.Prelude.{IfOk, List, [], OnErr, OnOk, None, nat_le, ℕ, ◌∷◌, ◌*◌};
+    ghost use Rattle.std.specs.Prelude.{◌+◌, ◌/◌, ◌≤◌, unwrap_or};
 
-    /// The machine of a printer, whose profile passes its checks, at the start of a job. It takes memory later, for the
+    /// A printer whose profile passes its checks, at the start of a job. `make` takes no memory; `run` does, for the
     /// dots of a sheet.
     pub fn make(alloc: Global, p: &Profile) -> Emulator
         requires { IsOk (check p.now) }
@@ -86,14 +87,16 @@ impl Emulator {
         }
     }
 
-    /// Runs a command with the rows of a raster, which are `m` rows of `(n + 7) / 8` bytes, and none for other commands.
+    /// Runs a command. `rows` has the rows of a raster, `m` rows of `(n + 7) / 8` bytes, and is empty for other
+    /// commands.
     ///
-    /// `Ok(Some(sheet))` comes at an eject. After an `Err` the emulator is unchanged. `EmuStop::Memory` may come where a
-    /// sheet gets its first dot, and where a blank one is ejected.
+    /// The answer is the sheet at an eject, else `Ok(None)`. After an `Err` the emulator is unchanged.
+    /// `EmuStop::Memory` can come at the first dot of a sheet, and at the eject of a blank one.
     pub fn run(&mut self, command: &Command, rows: &[u8]) -> Result<Option<Sheet>, EmuStop>
         requires in_range { in_table command.now ≡ true }
         requires rows_fit { length rows.now ≡ rows_len command.now }
-        ensures { (p : Printer) (m : Machine) → Shows p self.old m → Runs p m command.now rows.now self.old self.new result }
+        ensures { (p : Printer) (m : Machine)
+            → Shows p self.old m → Runs p m command.now rows.now self.old self.new result }
     {
         match *command {
             Command::Raster { head } => self.fire(head, rows),
@@ -106,14 +109,16 @@ impl Emulator {
     fn set(&mut self, command: Command) -> Result<Option<Sheet>, EmuStop>
         requires plain { is_plain command ≡ true }
         requires in_range { in_table command ≡ true }
-        ensures { (p : Printer) (m : Machine) (rows : List ℕ) → Shows p self.old m → Runs p m command rows self.old self.new result }
+        ensures { (p : Printer) (m : Machine) (rows : List ℕ)
+            → Shows p self.old m → Runs p m command rows self.old self.new result }
     {
         self.state = self.state.after(command, self.planes.is_some())?;
         Ok(None)
     }
 
     fn eject(&mut self) -> Result<Option<Sheet>, EmuStop>
-        ensures { (p : Printer) (m : Machine) (rows : List ℕ) → Shows p self.old m → Runs p m c.Eject rows self.old self.new result }
+        ensures { (p : Printer) (m : Machine) (rows : List ℕ)
+            → Shows p self.old m → Runs p m c.Eject rows self.old self.new result }
     {
         let state = self.state.eject()?;
         let planes = self.take_planes()?;
@@ -129,25 +134,27 @@ impl Emulator {
     fn fire(&mut self, head: RasterHead, rows: &[u8]) -> Result<Option<Sheet>, EmuStop>
         requires in_range { in_table (c.Raster head) ≡ true }
         requires rows_fit { length rows.now ≡ rows_len (c.Raster head) }
-        ensures { (p : Printer) (m : Machine) → Shows p self.old m → Runs p m (c.Raster head) rows.now self.old self.new result }
+        ensures { (p : Printer) (m : Machine)
+            → Shows p self.old m → Runs p m (c.Raster head) rows.now self.old self.new result }
     {
         let raster = self.place(head)?;
         if let Some(fault) = self.refuses_dots(raster, rows) {
             return Err(EmuStop::Refused(fault));
         }
-        let behind = self.state.behind(raster);
+        let next = self.state.after_raster(raster);
         if raster.has_dots(rows) {
-            self.lay(raster, rows, behind)?;
+            self.lay(raster, rows, next)?;
         } else {
-            self.state = behind;
+            self.state = next;
         }
         Ok(None)
     }
 
-    // Where a raster stands, or why it is refused whatever its dots.
+    // Where on the sheet a raster is, or why it is refused whatever its dots.
     fn place(&self, head: RasterHead) -> Result<Raster, EmuFault>
         requires { head.n ≤ last_column }
-        ensures placed { (p : Printer) (dots : List Dot) → AreStepsOf p self.now.steps → IsPlaced p (machine_of self.now.state dots) head result }
+        ensures placed { (p : Printer) (dots : List Dot)
+            → AreStepsOf p self.now.steps → IsPlaced p (machine_of self.now.state dots) head result }
         ensures page { OnOk result (1 ≤ unwrap_or self.now.state.page 0) }
         ensures head { IfOk result (λ r. r.head ≡ head) }
         ensures x { IfOk result (λ r. r.x ≡ self.now.state.across / head.h) }
@@ -173,15 +180,15 @@ impl Emulator {
         }
     }
 
-    // Lays the dots of a raster over the planes of the sheet in hand, which are made for the first.
-    fn lay(&mut self, raster: Raster, rows: &[u8], behind: State) -> Result<(), Memory>
+    // Adds the dots of a raster to the planes of the current sheet, which are made for its first dot.
+    fn lay(&mut self, raster: Raster, rows: &[u8], next: State) -> Result<(), Memory>
         requires rows { HasRows raster rows.now }
         requires on_page { raster.end ≤ sheet_rows self.old.state.page self.old.steps.row }
         requires some_page { 1 ≤ unwrap_or self.old.state.page 0 }
-        requires page { behind.page ≡ self.old.state.page }
-        requires columns { self.old.state.columns ≤ behind.columns }
-        requires end { raster.x + raster.head.n ≤ behind.columns }
-        ensures state { OnOk result (self.new.state ≡ behind) }
+        requires page { next.page ≡ self.old.state.page }
+        requires columns { self.old.state.columns ≤ next.columns }
+        requires end { raster.x + raster.head.n ≤ next.columns }
+        ensures state { OnOk result (self.new.state ≡ next) }
         ensures steps { self.new.steps ≡ self.old.steps }
         ensures laid { OnOk result ((g : Grid) (dots : List Dot) → Stands g raster → IsAbove g raster rows.now
             → PlanesHave g dots self.old.planes → LaidIn g raster rows.now dots self.new.planes) }
@@ -189,12 +196,12 @@ impl Emulator {
     {
         let mut planes = self.take_planes()?;
         raster.lay(rows, &mut planes);
-        self.state = behind;
+        self.state = next;
         self.planes = Some(planes);
         Ok(())
     }
 
-    // The planes of the sheet in hand. A sheet without dots has them made.
+    // The planes of the current sheet; for a sheet without dots they are made.
     fn take_planes(&mut self) -> Result<Planes, Memory>
         requires { 1 ≤ unwrap_or self.old.state.page 0 }
         ensures state { self.new.state ≡ self.old.state }

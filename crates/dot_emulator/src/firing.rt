@@ -18,7 +18,7 @@ pub(crate) struct Raster {
     pub(crate) x: u32,
     /// The row of its first dots.
     pub(crate) y: u32,
-    /// From one row of it to the next.
+    /// The distance between two of its rows.
     pub(crate) pitch: u8,
     /// The first row of the sheet at or below the bottom margin.
     pub(crate) end: u32,
@@ -40,7 +40,7 @@ fn plane_of(ink: Ink) -> u8
     }
 }
 
-// A row of bytes, of which there are so many.
+// Row i of bytes, where each row has `len` bytes.
 #[inline]
 fn row_of(rows: &[u8], len: usize, i: u8) -> &[u8]
     requires len { len ≤ 1024 }
@@ -59,7 +59,7 @@ impl Raster {
     ghost use Rattle.std.specs.List.{list_any};
     ghost use Rattle.std.specs.Prelude.{List, ◌++◌, nat_le, nat_lt};
 
-    // The bytes of each of its rows.
+    // How many bytes each of its rows has.
     fn row_len(&self) -> usize
         ensures is { result ≡ row_bytes self.now.head }
         ensures most { result ≤ 1024 }
@@ -67,7 +67,7 @@ impl Raster {
         (usize::from(self.head.n) + 7) / 8
     }
 
-    // The row of the sheet where a row of it stands.
+    // The row of the sheet where its row i is.
     fn row_at(&self, i: u8) -> u32
         ensures { result ≡ self.now.y + i * self.now.pitch }
     {
@@ -77,7 +77,8 @@ impl Raster {
     /// Whether it has a dot at or below the bottom margin.
     pub(crate) fn is_off_sheet(&self, rows: &[u8]) -> bool
         requires { HasRows self.now rows.now }
-        ensures { (g : Grid) → Stands g self.now → result ≡ list_any (λ d. nat_le g.bottom d.y) (fired g self.now rows.now) }
+        ensures { (g : Grid) → Stands g self.now
+            → result ≡ list_any (λ d. nat_le g.bottom d.y) (fired g self.now rows.now) }
     {
         let len = self.row_len();
         for i in 0..self.head.m {
@@ -110,7 +111,8 @@ impl Raster {
         requires inks { planes.now.inks ≡ 4 }
         requires width { planes.now.width ≡ last_column }
         requires height { self.now.end ≤ planes.now.rows }
-        ensures { (g : Grid) (dots : List Dot) → Stands g self.now → IsAbove g self.now rows.now → HasPlaces g.column g.row dots planes.now
+        ensures { (g : Grid) (dots : List Dot)
+            → Stands g self.now → IsAbove g self.now rows.now → HasPlaces g.column g.row dots planes.now
             → result ≡ overprints dots (fired g self.now rows.now) }
     {
         let len = self.row_len();
@@ -125,7 +127,7 @@ impl Raster {
         false
     }
 
-    /// Lays its dots over the planes.
+    /// Adds its dots to the planes.
     pub(crate) fn lay(&self, rows: &[u8], planes: &mut Planes)
         requires rows { HasRows self.now rows.now }
         requires inks { planes.old.inks ≡ 4 }
@@ -134,7 +136,8 @@ impl Raster {
         ensures size { HasSizeOf planes.old planes.new }
         ensures beside { IsKeptFrom (self.now.x + self.now.head.n) planes.old planes.new }
         ensures places { (g : Grid) (dots : List Dot) → Stands g self.now → IsAbove g self.now rows.now
-            → HasPlaces g.column g.row dots planes.old → HasPlaces g.column g.row (dots ++ fired g self.now rows.now) planes.new }
+            → HasPlaces g.column g.row dots planes.old
+            → HasPlaces g.column g.row (dots ++ fired g self.now rows.now) planes.new }
     {
         let len = self.row_len();
         let ink = plane_of(self.ink);

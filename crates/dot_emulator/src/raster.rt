@@ -1,4 +1,4 @@
-//! What a raster is refused for before its dots are looked at.
+//! Why a raster is refused before its dots are looked at.
 ghost use Rattle.dot_emulator.specs.States.{early_fault, machine_of};
 ghost use Rattle.escp2_definitions.specs.Commands.{last_column};
 ghost use Rattle.printer_definitions.specs.Printer.{column_step, nozzle_step, row_step};
@@ -84,10 +84,11 @@ impl State {
         None
     }
 
-    /// Where a raster stands, or why it is refused whatever its dots.
+    /// Where on the sheet a raster is, or why it is refused whatever its dots.
     pub(crate) fn place(&self, steps: Steps, head: RasterHead) -> Result<Raster, EmuFault>
         requires { head.n ≤ last_column }
-        ensures placed { (p : Printer) (dots : List Dot) → AreStepsOf p steps → IsPlaced p (machine_of self.now dots) head result }
+        ensures placed { (p : Printer) (dots : List Dot)
+            → AreStepsOf p steps → IsPlaced p (machine_of self.now dots) head result }
         ensures page { OnOk result (1 ≤ unwrap_or self.now.page 0) }
         ensures head { IfOk result (λ r. r.head ≡ head) }
         ensures x { IfOk result (λ r. r.x ≡ self.now.across / head.h) }
@@ -110,14 +111,16 @@ impl State {
         })
     }
 
-    /// Behind the raster.
-    pub(crate) fn behind(&self, raster: Raster) -> State
+    /// The state after the raster.
+    pub(crate) fn after_raster(&self, raster: Raster) -> State
         requires { raster.x ≡ self.now.across / raster.head.h }
         ensures page { result.page ≡ self.now.page }
         ensures columns { self.now.columns ≤ result.columns }
         ensures end { raster.x + raster.head.n ≤ result.columns }
-        ensures step { (p : Printer) (dots : List Dot) (rows : List ℕ) → Placed p (machine_of self.now dots) raster.head raster
-            → machine_of result (after p (machine_of self.now dots) (c.Raster raster.head) rows).dots ≡ after p (machine_of self.now dots) (c.Raster raster.head) rows }
+        ensures step { (p : Printer) (dots : List Dot) (rows : List ℕ)
+            → Placed p (machine_of self.now dots) raster.head raster
+            → machine_of result (after p (machine_of self.now dots) (c.Raster raster.head) rows).dots
+            ≡ after p (machine_of self.now dots) (c.Raster raster.head) rows }
     {
         let end = raster.x + u32::from(raster.head.n);
         State {

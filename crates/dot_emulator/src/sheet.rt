@@ -5,12 +5,12 @@ ghost use Rattle.std.specs.Prelude.{◌≡◌, ◌≤◌};
 
 use dot_planes::Planes;
 
-/// A sheet that was ejected. Its planes are black, cyan, magenta and yellow, and no column past its own has a dot.
+/// An ejected sheet. Its planes are black, cyan, magenta and yellow, and have no dot at or past column `columns`.
 #[derive(Drop)]
 pub struct Sheet {
     /// Rows of dots, as many as the page has.
     pub rows: u32,
-    /// Columns of dots from the left margin on, up to the last that a raster has passed.
+    /// Columns of dots from the left margin on, up to the last one that a raster has passed.
     pub columns: u32,
     pub planes: Planes,
     ghost inks: { planes.inks ≡ 4 },

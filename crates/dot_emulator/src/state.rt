@@ -1,4 +1,4 @@
-//! What the machine keeps besides the dots of its sheet.
+//! The state of a printer, except the dots of its sheet.
 ghost use Rattle.dot_emulator.specs.Margins.{bottom_or, top_of};
 ghost use Rattle.escp2_definitions.specs.Commands.{last_column};
 ghost use Rattle.escp2_definitions.specs.Machine.{bottom_margin, page_length, start, top_margin, units};
@@ -13,7 +13,7 @@ pub(crate) struct Margins {
     pub(crate) bottom: u32,
 }
 
-/// The machine without its dots. Lengths and places are in 1/3600 inch.
+/// The state of a printer without its dots. Lengths and places are in 1/3600 inch.
 #[derive(Clone, Copy)]
 pub(crate) struct State {
     pub(crate) graphics: bool,
@@ -25,7 +25,7 @@ pub(crate) struct State {
     pub(crate) down: u32,
     /// From the left margin.
     pub(crate) across: u32,
-    /// The columns of the sheet.
+    /// How many columns the sheet has so far.
     pub(crate) columns: u32,
     ghost page_most: { unwrap_or page 0 ≤ 79200 },
     ghost down_most: { down ≤ 79200 },
@@ -57,7 +57,7 @@ impl State {
         }
     }
 
-    /// So many units.
+    /// `n` units.
     pub(crate) fn units(&self, n: u16) -> u32
         ensures is { result ≡ units (machine_of self.now []) n }
         ensures most { result ≤ 65535 * 255 }
@@ -68,14 +68,14 @@ impl State {
         }
     }
 
-    /// The page's length, or 0.
+    /// The page's length; 0 where it is not set.
     pub(crate) fn page_length(&self) -> u32
         ensures { result ≡ page_length (machine_of self.now []) }
     {
         self.page.unwrap_or(0)
     }
 
-    /// The top margin, or 0.
+    /// The top margin; 0 where it is not set.
     pub(crate) fn top(&self) -> u32
         ensures { result ≡ top_margin (machine_of self.now []) }
     {
@@ -85,7 +85,7 @@ impl State {
         }
     }
 
-    /// The bottom margin, or 0.
+    /// The bottom margin; 0 where it is not set.
     pub(crate) fn bottom(&self) -> u32
         ensures is { result ≡ bottom_margin (machine_of self.now []) }
         ensures on_page { result ≤ unwrap_or self.now.page 0 }

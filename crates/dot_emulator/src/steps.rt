@@ -1,4 +1,4 @@
-//! Commands that fire no dots: what they are refused for, and the state behind them.
+//! Commands that fire no dots and give no sheet: why they are refused, and the state after them.
 ghost use Rattle.dot_emulator.specs.States.{IsStep, is_plain, machine_of};
 ghost use Rattle.escp2_definitions.specs.Commands.{in_table};
 ghost use Rattle.escp2_definitions.specs.Machine.{Dot, has_dots as is_dotted};
@@ -14,7 +14,7 @@ use weave_base::Ink;
 const LONGEST_PAGE: u32 = 79_200;
 
 impl State {
-    /// Starts again, where the sheet has no dots.
+    /// Starts again, if the sheet has no dots.
     pub(crate) fn init(&self, has_dots: bool) -> Result<State, EmuFault>
         ensures { (p : Printer) (dots : List Dot) → has_dots ≡ is_dotted (machine_of self.now dots)
             → IsStep p (machine_of self.now dots) c.Init result }
@@ -250,7 +250,7 @@ impl State {
         })
     }
 
-    /// The state behind a command that fires no dots and gives no sheet, or why it is refused.
+    /// The state after a command that fires no dots and gives no sheet, or why it is refused.
     pub(crate) fn after(&self, command: Command, has_dots: bool) -> Result<State, EmuFault>
         requires plain { is_plain command ≡ true }
         requires in_range { in_table command ≡ true }

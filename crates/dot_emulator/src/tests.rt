@@ -1,5 +1,5 @@
-//! Commands on a small head, with refusals and sheets worked by hand: columns and rows of dots stand 10/3600 inch apart,
-//! and three nozzles 20.
+//! Commands on a small head, with refusals and sheets worked by hand: columns and rows of dots are 10/3600 inch
+//! apart, and the three nozzles 20/3600 inch.
 ghost use Rattle.escp2_definitions.specs.Commands.{rows_len as rows_len_of};
 ghost use Rattle.std.specs.Prelude.{◌≡◌};
 
@@ -26,7 +26,7 @@ const TINY: Profile = Profile {
     bottom: 0,
 };
 
-/// Up to a page of six rows of dots, without margins.
+/// The commands before a page of six rows of dots, without margins.
 const PROLOGUE: [Command; 7] = [
     Command::Init,
     Command::Graphics,
@@ -139,9 +139,7 @@ fn a_sheet_has_its_dots_and_the_next_is_blank(rt: HostRuntime) -> Result<(), Fai
 }
 
 #[test]
-fn dots_stand_from_across_on_and_blank_rasters_widen_the_sheet(
-    rt: HostRuntime,
-) -> Result<(), Fail> {
+fn dots_begin_at_across_and_blank_rasters_widen_the_sheet(rt: HostRuntime) -> Result<(), Fail> {
     let mut emulator = on_page(&rt, rt.alloc());
     let narrow = RasterHead { n: 5, ..HEAD };
     assert_eq!(rt; stop(&rt, &mut emulator, Command::Across { n: 4 }), None);

@@ -57,7 +57,8 @@ all_back : all_below test_back 256 ≡ true
 unfolding all_below test_back
 all_back = refl
 
-pub byte_of-bits : (n : ℕ) → n < 256 → byte_of (bit_at n 0) (bit_at n 1) (bit_at n 2) (bit_at n 3) (bit_at n 4) (bit_at n 5) (bit_at n 6) (bit_at n 7) ≡ n
+pub byte_of-bits : (n : ℕ) → n < 256 → byte_of
+    (bit_at n 0) (bit_at n 1) (bit_at n 2) (bit_at n 3) (bit_at n 4) (bit_at n 5) (bit_at n 6) (bit_at n 7) ≡ n
 unfolding test_back
 byte_of-bits n below = eqb-true _ n (all_below-at test_back 256 n all_back below)
 
@@ -88,8 +89,10 @@ tested a b d e f g h i =
     let from_e : Bool → Bool = λ x. both (λ v. both (λ w. both (λ y. both (λ z. test_byte a b d x v w y z)))) in
     let from_d : Bool → Bool = λ x. both (λ u. both (λ v. both (λ w. both (λ y. both (λ z. test_byte a b x u v w y z))))) in
     let from_b : Bool → Bool = λ x. both (λ t. both (λ u. both (λ v. both (λ w. both (λ y. both (λ z. test_byte a x t u v w y z)))))) in
-    let from_a : Bool → Bool = λ x. both (λ s. both (λ t. both (λ u. both (λ v. both (λ w. both (λ y. both (λ z. test_byte x s t u v w y z))))))) in
-    both-at (test_byte a b d e f g h) (both-at from_h (both-at from_g (both-at from_f (both-at from_e (both-at from_d (both-at from_b (both-at from_a all_bytes a) b) d) e) f) g) h) i
+    let from_a : Bool → Bool = λ x. both
+    (λ s. both (λ t. both (λ u. both (λ v. both (λ w. both (λ y. both (λ z. test_byte x s t u v w y z))))))) in
+    both-at (test_byte a b d e f g h) (both-at from_h (both-at from_g (both-at from_f
+    (both-at from_e (both-at from_d (both-at from_b (both-at from_a all_bytes a) b) d) e) f) g) h) i
 
 -- What a byte says of its eight dots.
 pub record Says (n : ℕ) (a b d e f g h i : Bool) : Type 0 where

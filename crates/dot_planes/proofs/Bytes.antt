@@ -1,8 +1,10 @@
 -- The dots of bytes that are shifted and masked.
-use Rattle.std.proofs.Common.{◌≡◌, ◌⊎◌, ℕ, ◌+◌, ◌-◌, ◌*◌, ◌/◌, ◌%◌, ◌^◌, ◌==◌, ◌<◌, ◌≤◌, min, max, sym, ◌∙◌, ap, arith, inl, inr, bit_and, bit_or}
+use Rattle.std.proofs.Common.{◌≡◌, ◌⊎◌, ℕ, ◌+◌, ◌-◌, ◌*◌, ◌/◌, ◌%◌, ◌^◌, ◌==◌, ◌<◌, ◌≤◌, min, max, sym}
+use Rattle.std.proofs.Common.{◌∙◌, ap, arith, inl, inr, bit_and, bit_or}
 use Rattle.std.proofs.Math.Nat.{div-div-eq-div-mul, div-le_self}
 use Rattle.std.proofs.lemmas.Nat.{and_le_l, pow-add}
-use Rattle.std.proofs.lemmas.Nat.Bits.{bit_at-lt, bit_at_and, bit_at_cat_high, bit_at_cat_low, bit_at_not, bit_at_ones, bit_at_ones_above, bit_at_or, ones_shr}
+use Rattle.std.proofs.lemmas.Nat.Bits.{bit_at-lt, bit_at_and, bit_at_cat_high, bit_at_cat_low, bit_at_not}
+use Rattle.std.proofs.lemmas.Nat.Bits.{bit_at_ones, bit_at_ones_above, bit_at_or, ones_shr}
 use Rattle.std.specs.Int.{w8, bit_at as bit}
 use Rattle.escp2_definitions.specs.Machine.{bit_at}
 
@@ -16,20 +18,23 @@ low_bit n i low =
     let parts : n / 256 * 256 + n % 256 ≡ n = omega arith in
     sym (bit_at_cat_low (n / 256) 8 (n % 256) i low) ∙ ap (λ m. bit m i) parts
 
-moved_bit : (left right shift k : ℕ) → k < 8 → bit ((left * 256 + right) / 2 ^ (8 - shift) % 256) (7 - k) ≡ bit (left * 256 + right) (8 - shift + (7 - k))
+moved_bit : (left right shift k : ℕ) → k < 8
+    → bit ((left * 256 + right) / 2 ^ (8 - shift) % 256) (7 - k) ≡ bit (left * 256 + right) (8 - shift + (7 - k))
 moved_bit left right shift k low = low_bit _ (7 - k) (omega arith) ∙ shr_bit (left * 256 + right) (8 - shift) (7 - k)
 
 pub moved_left : (left right shift k : ℕ) → right < 256 → shift < 8 → k + shift < 8
     → bit_at ((left * 256 + right) / 2 ^ (8 - shift) % 256) k ≡ bit_at left (k + shift)
 moved_left left right shift k fits few low =
     let place : 8 - shift + (7 - k) - 8 ≡ 7 - (k + shift) = omega arith in
-    ap (λ n. n == 1) (moved_bit left right shift k (omega arith) ∙ bit_at_cat_high left 8 right (8 - shift + (7 - k)) fits (omega arith) ∙ ap (bit left) place)
+    ap (λ n. n == 1) (moved_bit left right shift k (omega arith)
+    ∙ bit_at_cat_high left 8 right (8 - shift + (7 - k)) fits (omega arith) ∙ ap (bit left) place)
 
 pub moved_right : (left right shift k : ℕ) → shift < 8 → k < 8 → 8 ≤ k + shift
     → bit_at ((left * 256 + right) / 2 ^ (8 - shift) % 256) k ≡ bit_at right (k + shift - 8)
 moved_right left right shift k few low high =
     let place : 8 - shift + (7 - k) ≡ 7 - (k + shift - 8) = omega arith in
-    ap (λ n. n == 1) (moved_bit left right shift k low ∙ bit_at_cat_low left 8 right (8 - shift + (7 - k)) (omega arith) ∙ ap (bit right) place)
+    ap (λ n. n == 1) (moved_bit left right shift k low
+    ∙ bit_at_cat_low left 8 right (8 - shift + (7 - k)) (omega arith) ∙ ap (bit right) place)
 
 -- ---- a byte with some dots of another
 
@@ -57,27 +62,48 @@ mask_bit from to i low =
 abbrev pub spliced : ℕ → ℕ → ℕ → ℕ
 spliced old new mask = bit_or (bit_and old (255 - mask)) (bit_and new mask)
 
-spliced_bit : (old new mask i : ℕ) → mask < 256 → i < 8 → bit (spliced old new mask) i ≡ max (min (bit old i) (1 - bit mask i)) (min (bit new i) (bit mask i))
+spliced_bit : (old new mask i : ℕ) → mask < 256
+    → i < 8 → bit (spliced old new mask) i ≡ max (min (bit old i) (1 - bit mask i)) (min (bit new i) (bit mask i))
 spliced_bit old new mask i fits low =
-    let kept : bit (bit_and old (255 - mask)) i ≡ min (bit old i) (1 - bit mask i) = bit_at_and old (255 - mask) i ∙ ap (min (bit old i)) (bit_at_not w8 mask i fits low) in
+    let kept : bit (bit_and old (255 - mask)) i ≡ min (bit old i) (1 - bit mask i) =
+    bit_at_and old (255 - mask) i ∙ ap (min (bit old i)) (bit_at_not w8 mask i fits low) in
     bit_at_or (bit_and old (255 - mask)) (bit_and new mask) i
     ∙ ap (λ n. max n (bit (bit_and new mask) i)) kept
     ∙ ap (max (min (bit old i) (1 - bit mask i))) (bit_at_and new mask i)
 
-pub spliced_inside : (old new from to k : ℕ) → from ≤ 8 → to ≤ 8 → from ≤ k → k < to → bit_at (spliced old new (mask_of from to)) k ≡ bit_at new k
+pub spliced_inside : (old new from to k : ℕ)
+    → from ≤ 8 → to ≤ 8 → from ≤ k → k < to → bit_at (spliced old new (mask_of from to)) k ≡ bit_at new k
 spliced_inside old new from to k few few' after before =
-    let on : bit (mask_of from to) (7 - k) ≡ 1 = omega (arith, mask_bit from to (7 - k) (omega arith), from_inside from k few (omega arith) after, from_before to k few' (omega arith) before) in
+    let on : bit (mask_of from to) (7 - k) ≡ 1 = omega (
+      arith,
+      mask_bit from to (7 - k) (omega arith),
+      from_inside from k few (omega arith) after,
+      from_before to k few' (omega arith) before,
+    ) in
     let same : bit (spliced old new (mask_of from to)) (7 - k) ≡ bit new (7 - k) =
-    omega (arith, spliced_bit old new (mask_of from to) (7 - k) (mask_fits from to) (omega arith), on, bit_at-lt old (7 - k), bit_at-lt new (7 - k)) in
+    omega (
+      arith,
+      spliced_bit old new (mask_of from to) (7 - k) (mask_fits from to) (omega arith),
+      on,
+      bit_at-lt old (7 - k),
+      bit_at-lt new (7 - k),
+    ) in
     ap (λ n. n == 1) same
 
 mask_off : (from to k : ℕ) → from ≤ 8 → to ≤ 8 → k < 8 → (k < from) ⊎ (to ≤ k) → bit (mask_of from to) (7 - k) ≡ 0
 mask_off from to k few few' low (inl before) = omega (arith, mask_bit from to (7 - k) (omega arith), from_before from k few low before)
 mask_off from to k few few' low (inr past) = omega (arith, mask_bit from to (7 - k) (omega arith), from_inside to k few' low past)
 
-pub spliced_outside : (old new from to k : ℕ) → from ≤ 8 → to ≤ 8 → k < 8 → (k < from) ⊎ (to ≤ k) → bit_at (spliced old new (mask_of from to)) k ≡ bit_at old k
+pub spliced_outside : (old new from to k : ℕ)
+    → from ≤ 8 → to ≤ 8 → k < 8 → (k < from) ⊎ (to ≤ k) → bit_at (spliced old new (mask_of from to)) k ≡ bit_at old k
 spliced_outside old new from to k few few' low where_is =
     let off : bit (mask_of from to) (7 - k) ≡ 0 = mask_off from to k few few' low where_is in
     let same : bit (spliced old new (mask_of from to)) (7 - k) ≡ bit old (7 - k) =
-    omega (arith, spliced_bit old new (mask_of from to) (7 - k) (mask_fits from to) (omega arith), off, bit_at-lt old (7 - k), bit_at-lt new (7 - k)) in
+    omega (
+      arith,
+      spliced_bit old new (mask_of from to) (7 - k) (mask_fits from to) (omega arith),
+      off,
+      bit_at-lt old (7 - k),
+      bit_at-lt new (7 - k),
+    ) in
     ap (λ n. n == 1) same

@@ -1,5 +1,7 @@
 -- A byte of dots at any column of a packed row.
-use Rattle.std.proofs.Common.{◌≡◌, ℕ, suc, ◌+◌, ◌-◌, ◌*◌, ◌/◌, ◌%◌, ◌^◌, ◌==◌, ◌<◌, ◌≤◌, Bool, true, false, ◌&&◌, ◌||◌, nat_le, nat_lt, List, length, get_or, set, refl, ◌∙◌, sym, ap, arith, bit_or, inl, inr, get_or-set_other, get_or-set_same, ◌⊎◌}
+use Rattle.std.proofs.Common.{◌≡◌, ℕ, suc, ◌+◌, ◌-◌, ◌*◌, ◌/◌, ◌%◌, ◌^◌, ◌==◌, ◌<◌, ◌≤◌, Bool, true, false, ◌&&◌, ◌||◌, nat_le, nat_lt}
+use Rattle.std.proofs.Common.{List, length, get_or, set, refl, ◌∙◌, sym, ap, arith, bit_or, inl, inr, get_or-set_other, get_or-set_same}
+use Rattle.std.proofs.Common.{◌⊎◌}
 use Rattle.std.proofs.lemmas.Bool.{cases_eq, cases_lt, lt-ltb, le-ltb, le-leb, lt-leb, eq-eqb, ne_eqb}
 use Rattle.escp2_definitions.specs.Machine.{bit_at}
 use Rattle.dot_planes.specs.Laying.{is_in_bytes, laid_dot}
@@ -27,9 +29,10 @@ row_dot-at row c i j is low =
     let rest : c % 8 ≡ j = omega arith in
     ap (λ n. bit_at (get_or row n 0) (c % 8)) place ∙ ap (λ n. bit_at (get_or row i 0) n) rest
 
--- a byte that is cut off behind a row's last dot
+-- a byte with the bits past a row's last dot cleared
 pub part-cut : (row : List ℕ) (dots i j : ℕ) → 8 * i < dots → dots - 8 * i < 8 → j < 8 → get_or row i 0 < 256
-    → bit_at (get_or row i 0 / 2 ^ (8 - (dots - 8 * i)) * 2 ^ (8 - (dots - 8 * i)) % 256) j ≡ (nat_lt (8 * i + j) dots && row_dot row (8 * i + j))
+    → bit_at (get_or row i 0 / 2 ^ (8 - (dots - 8 * i)) * 2 ^ (8 - (dots - 8 * i)) % 256) j
+    ≡ (nat_lt (8 * i + j) dots && row_dot row (8 * i + j))
 part-cut row dots i j some few low fits =
     let within : nat_lt j (dots - 8 * i) ≡ nat_lt (8 * i + j) dots = same_le _ _ _ _ (λ le. omega arith) (λ le. omega arith) in
     cut-is (dots - 8 * i) j (get_or row i 0) few low fits
@@ -52,13 +55,16 @@ pair-is bytes i by j a b few low first second =
     ∙ by_place (cases_lt (j + by) 8)
   where
     by_place : (j + by < 8) ⊎ (8 ≤ j + by)
-        → ((nat_lt (j + by) 8 && bit_at (get_or bytes i 0) (j + by)) || (nat_le 8 (j + by) && bit_at (get_or bytes (i + 1) 0) (j + by - 8))) ≡ row_dot bytes (8 * i + by + j)
+        → ((nat_lt (j + by) 8 && bit_at (get_or bytes i 0) (j + by))
+        || (nat_le 8 (j + by) && bit_at (get_or bytes (i + 1) 0) (j + by - 8))) ≡ row_dot bytes (8 * i + by + j)
     by_place (inl here) =
-        ap (λ t. (t && bit_at (get_or bytes i 0) (j + by)) || (nat_le 8 (j + by) && bit_at (get_or bytes (i + 1) 0) (j + by - 8))) (lt-ltb (j + by) 8 here)
+        ap (λ t. (t && bit_at (get_or bytes i 0) (j + by))
+        || (nat_le 8 (j + by) && bit_at (get_or bytes (i + 1) 0) (j + by - 8))) (lt-ltb (j + by) 8 here)
         ∙ ap (λ t. bit_at (get_or bytes i 0) (j + by) || (t && bit_at (get_or bytes (i + 1) 0) (j + by - 8))) (lt-leb 8 (j + by) here)
         ∙ or-nothing _ ∙ sym (row_dot-at bytes (8 * i + by + j) i (j + by) (omega arith) here)
     by_place (inr next) =
-        ap (λ t. (t && bit_at (get_or bytes i 0) (j + by)) || (nat_le 8 (j + by) && bit_at (get_or bytes (i + 1) 0) (j + by - 8))) (le-ltb (j + by) 8 next)
+        ap (λ t. (t && bit_at (get_or bytes i 0) (j + by))
+        || (nat_le 8 (j + by) && bit_at (get_or bytes (i + 1) 0) (j + by - 8))) (le-ltb (j + by) 8 next)
         ∙ ap (λ t. t && bit_at (get_or bytes (i + 1) 0) (j + by - 8)) (le-leb 8 (j + by) next)
         ∙ sym (row_dot-at bytes (8 * i + by + j) (i + 1) (j + by - 8) (omega arith) (omega arith))
 
@@ -131,7 +137,8 @@ more-laid laid from p v c order is = elim (cases_eq (c / 8) p) [
   | inr there ↦
       ap (λ b. (is_in_bytes from p c && laid c) || (b && bit_at v (c % 8))) (ne_eqb (c / 8) p there)
       ∙ or-nothing _
-      ∙ ap (λ b. (nat_le (8 * from) c && b) && laid c) (same_le (suc c) (8 * p) (suc c) (8 * (p + 1)) (λ le. omega arith) (λ le. omega arith))
+      ∙ ap (λ b. (nat_le (8 * from) c && b) && laid c)
+      (same_le (suc c) (8 * p) (suc c) (8 * (p + 1)) (λ le. omega arith) (λ le. omega arith))
 ]
 
 pub laid-step : (old mid : List ℕ) (laid : ℕ → Bool) (from p v c : ℕ) → from ≤ p → p < length mid
@@ -153,7 +160,7 @@ none-more laid from p c none = elim (cases_lt c (8 * p)) [
       ∙ sym (ap (λ b. is_in_bytes from (p + 1) c && b) (none behind) ∙ and-none _)
 ]
 
--- two stretches of bytes, one behind the other
+-- two stretches of bytes, one after the other
 pub laid-joins : (laid : ℕ → Bool) (from mid to c : ℕ) → from ≤ mid → mid ≤ to
     → ((is_in_bytes from mid c && laid c) || (is_in_bytes mid to c && laid c)) ≡ (is_in_bytes from to c && laid c)
 laid-joins laid from mid to c first second = elim (cases_lt c (8 * mid)) [
@@ -174,19 +181,21 @@ laid-stretch old mid new laid from at to c first second so_far step =
 
 -- ---- a row that is laid
 
--- no dot of a row is laid at or behind its end
+-- no dot of a row is laid at or past its end
 pub none-behind : (row : List ℕ) (dots x c : ℕ) → x + dots ≤ c → laid_dot row dots x c ≡ false
 none-behind row dots x c behind = ap (λ b. nat_le x c && (b && row_dot row (c - x))) (le-ltb (c - x) dots (omega arith)) ∙ and-none _
 
--- all dots of a row stand in its bytes
-pub laid-all : (row : List ℕ) (dots x from to c : ℕ) → 8 * from ≤ x → x + dots ≤ 8 * to → (is_in_bytes from to c && laid_dot row dots x c) ≡ laid_dot row dots x c
+-- all dots of a row are in its bytes
+pub laid-all : (row : List ℕ) (dots x from to c : ℕ)
+    → 8 * from ≤ x → x + dots ≤ 8 * to → (is_in_bytes from to c && laid_dot row dots x c) ≡ laid_dot row dots x c
 laid-all row dots x from to c first last = elim (cases_lt c x) [
   | inl left ↦
       let none : laid_dot row dots x c ≡ false = ap (λ b. b && (nat_lt (c - x) dots && row_dot row (c - x))) (lt-leb x c left) in
       ap (λ b. is_in_bytes from to c && b) none ∙ and-none _ ∙ sym none
   | inr right ↦ elim (cases_lt c (x + dots)) [
     | inl inside ↦ ap (λ b. b && laid_dot row dots x c) (inside-both from to c (omega arith) (omega arith))
-    | inr behind ↦ ap (λ b. is_in_bytes from to c && b) (none-behind row dots x c behind) ∙ and-none _ ∙ sym (none-behind row dots x c behind)
+    | inr behind ↦ ap (λ b. is_in_bytes from to c && b) (none-behind row dots x c behind)
+        ∙ and-none _ ∙ sym (none-behind row dots x c behind)
   ]
 ]
 
@@ -194,7 +203,8 @@ laid-all row dots x from to c first last = elim (cases_lt c x) [
 pub laid-from : (row : List ℕ) (dots x i j : ℕ) → laid_dot row dots (x % 8) (8 * i + j) ≡ laid_dot row dots x (8 * (x / 8 + i) + j)
 laid-from row dots x i j =
     let place : 8 * i + j - x % 8 ≡ 8 * (x / 8 + i) + j - x = omega arith in
-    ap (λ b. b && (nat_lt (8 * i + j - x % 8) dots && row_dot row (8 * i + j - x % 8))) (same_le (x % 8) (8 * i + j) x (8 * (x / 8 + i) + j) (λ le. omega arith) (λ le. omega arith))
+    ap (λ b. b && (nat_lt (8 * i + j - x % 8) dots && row_dot row (8 * i + j - x % 8)))
+    (same_le (x % 8) (8 * i + j) x (8 * (x / 8 + i) + j) (λ le. omega arith) (λ le. omega arith))
     ∙ ap (λ n. nat_le x (8 * (x / 8 + i) + j) && (nat_lt n dots && row_dot row n)) place
 
 -- a dot that is laid in a byte which the row covers whole
@@ -203,16 +213,18 @@ pub laid-whole : (row : List ℕ) (dots x i j : ℕ) → 8 * (i + 2) ≤ dots �
 laid-whole row dots x i j whole low =
     let place : 8 * i + (8 - x % 8) + j ≡ 8 * (x / 8 + 1 + i) + j - x = omega arith in
     ap (row_dot row) place
-    ∙ sym (ap (λ b. b && (nat_lt (8 * (x / 8 + 1 + i) + j - x) dots && row_dot row (8 * (x / 8 + 1 + i) + j - x))) (le-leb x (8 * (x / 8 + 1 + i) + j) (omega arith))
+    ∙ sym (ap (λ b. b && (nat_lt (8 * (x / 8 + 1 + i) + j - x) dots && row_dot row (8 * (x / 8 + 1 + i) + j - x)))
+    (le-leb x (8 * (x / 8 + 1 + i) + j) (omega arith))
     ∙ ap (λ b. b && row_dot row (8 * (x / 8 + 1 + i) + j - x)) (lt-ltb (8 * (x / 8 + 1 + i) + j - x) dots (omega arith)))
 
--- the dots of a row of so many from a place on, in a byte
+-- the dots of byte i of a row of `dots` dots
 abbrev pub IsPart : List ℕ → ℕ → ℕ → ℕ → Type 0
 IsPart row dots i part = (j : ℕ) → j < 8 → bit_at part j ≡ (nat_lt (8 * i + j) dots && row_dot row (8 * i + j))
 
--- those of the byte before a byte, of which the first one has none
+-- those of the byte before; the first byte has none before it
 abbrev pub IsPartBefore : List ℕ → ℕ → ℕ → ℕ → Type 0
-IsPartBefore row dots i part = (j : ℕ) → j < 8 → bit_at part j ≡ (nat_le 8 (8 * i + j) && (nat_lt (8 * i + j - 8) dots && row_dot row (8 * i + j - 8)))
+IsPartBefore row dots i part = (j : ℕ)
+    → j < 8 → bit_at part j ≡ (nat_le 8 (8 * i + j) && (nat_lt (8 * i + j - 8) dots && row_dot row (8 * i + j - 8)))
 
 pub part-before : (row : List ℕ) (dots last i part : ℕ) → i ≡ last + 1 → IsPart row dots last part → IsPartBefore row dots i part
 part-before row dots last i part next is = λ j low.
@@ -237,10 +249,12 @@ laid_byte-is row dots before i j left here a b few low is_left is_here first sec
     ∙ by_place (cases_lt j before)
   where
     by_place : (j < before) ⊎ (before ≤ j)
-        → ((nat_lt (j + (8 - before)) 8 && bit_at left (j + (8 - before))) || (nat_le 8 (j + (8 - before)) && bit_at here (j + (8 - before) - 8))) ≡ laid_dot row dots before (8 * i + j)
+        → ((nat_lt (j + (8 - before)) 8 && bit_at left (j + (8 - before))) || (nat_le 8 (j + (8 - before))
+        && bit_at here (j + (8 - before) - 8))) ≡ laid_dot row dots before (8 * i + j)
     by_place (inl less) =
         let place : 8 * i + (j + (8 - before)) - 8 ≡ 8 * i + j - before = omega arith in
-        ap (λ t. (t && bit_at left (j + (8 - before))) || (nat_le 8 (j + (8 - before)) && bit_at here (j + (8 - before) - 8))) (lt-ltb (j + (8 - before)) 8 (omega arith))
+        ap (λ t. (t && bit_at left (j + (8 - before))) || (nat_le 8 (j + (8 - before))
+        && bit_at here (j + (8 - before) - 8))) (lt-ltb (j + (8 - before)) 8 (omega arith))
         ∙ ap (λ t. bit_at left (j + (8 - before)) || (t && bit_at here (j + (8 - before) - 8))) (lt-leb 8 (j + (8 - before)) (omega arith))
         ∙ or-nothing _ ∙ is_left (j + (8 - before)) (omega arith)
         ∙ ap (λ t. t && (nat_lt (8 * i + (j + (8 - before)) - 8) dots && row_dot row (8 * i + (j + (8 - before)) - 8)))
@@ -248,8 +262,10 @@ laid_byte-is row dots before i j left here a b few low is_left is_here first sec
         ∙ ap (λ n. nat_le before (8 * i + j) && (nat_lt n dots && row_dot row n)) place
     by_place (inr more) =
         let place : 8 * i + (j + (8 - before) - 8) ≡ 8 * i + j - before = omega arith in
-        ap (λ t. (t && bit_at left (j + (8 - before))) || (nat_le 8 (j + (8 - before)) && bit_at here (j + (8 - before) - 8))) (le-ltb (j + (8 - before)) 8 (omega arith))
+        ap (λ t. (t && bit_at left (j + (8 - before))) || (nat_le 8 (j + (8 - before))
+        && bit_at here (j + (8 - before) - 8))) (le-ltb (j + (8 - before)) 8 (omega arith))
         ∙ ap (λ t. t && bit_at here (j + (8 - before) - 8)) (le-leb 8 (j + (8 - before)) (omega arith))
         ∙ is_here (j + (8 - before) - 8) (omega arith)
         ∙ ap (λ n. nat_lt n dots && row_dot row n) place
-        ∙ sym (ap (λ t. t && (nat_lt (8 * i + j - before) dots && row_dot row (8 * i + j - before))) (le-leb before (8 * i + j) (omega arith)))
+        ∙ sym (ap (λ t. t && (nat_lt (8 * i + j - before) dots && row_dot row (8 * i + j - before)))
+        (le-leb before (8 * i + j) (omega arith)))

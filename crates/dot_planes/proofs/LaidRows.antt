@@ -1,7 +1,9 @@
 -- A packed row at any column of another, byte by byte.
-use Rattle.std.proofs.Common.{◌≡◌, ◌≢◌, ℕ, zero, suc, ◌+◌, ◌-◌, ◌*◌, ◌==◌, ◌<◌, ◌≤◌, Bool, true, false, not, ◌&&◌, ◌||◌, List, refl, ◌∙◌, sym, ap, arith, bit_and, bit_or, inl, inr, min, ◌⊎◌}
+use Rattle.std.proofs.Common.{◌≡◌, ◌≢◌, ℕ, zero, suc, ◌+◌, ◌-◌, ◌*◌, ◌==◌, ◌<◌, ◌≤◌, Bool, true, false, not, ◌&&◌, ◌||◌, List}
+use Rattle.std.proofs.Common.{refl, ◌∙◌, sym, ap, arith, bit_and, bit_or, inl, inr, min, ◌⊎◌}
 use Rattle.std.specs.List.{list_any}
-use Rattle.std.proofs.lemmas.Bool.{agree_below_at, and_parts, cases_eq, cases_lt, false_from_ne_true, lt-ltb, ltb-true, ne_eqb, or_cases, false≢true}
+use Rattle.std.proofs.lemmas.Bool.{agree_below_at, and_parts, cases_eq, cases_lt, false_from_ne_true, lt-ltb}
+use Rattle.std.proofs.lemmas.Bool.{ltb-true, ne_eqb, or_cases, false≢true}
 use Rattle.std.proofs.lemmas.Nat.{and_le_l, le_or_l, le_or_r}
 use Rattle.std.specs.Int.Bits.{or_zero_l}
 use Rattle.std.proofs.lemmas.Nat.Bits.{bit_at_and, bit_at-lt}
@@ -11,7 +13,7 @@ use Rattle.dot_planes.specs.Tables.{row_dot}
 use Rattle.dot_planes.proofs.LaidBytes.{IsPart}
 use Rattle.dot_planes.proofs.PackedRows.{no_bit}
 
--- ---- any of so many
+-- ---- any of n numbers
 
 any-at : (f : ℕ → Bool) (m n k : ℕ) → k < n → f (m + k) ≡ true → list_any f (count_from m n) ≡ true
 any-at f m zero k low on = absurd (omega arith)
@@ -69,7 +71,8 @@ abbrev is_some_bit : ℕ → Bool
 is_some_bit n = not (n == 0)
 
 abbrev has_bit : ℕ → Bool
-has_bit n = bit_at n 7 || (bit_at n 6 || (bit_at n 5 || (bit_at n 4 || (bit_at n 3 || (bit_at n 2 || (bit_at n 1 || (bit_at n 0 || false)))))))
+has_bit n = bit_at n 7 || (bit_at n 6
+    || (bit_at n 5 || (bit_at n 4 || (bit_at n 3 || (bit_at n 2 || (bit_at n 1 || (bit_at n 0 || false)))))))
 
 pub some-bit : (n : ℕ) → n < 256 → n ≢ 0 → Bit n
 unfolding some_of
@@ -98,7 +101,8 @@ part-dot row dots i part j is low on =
     (ltb-true _ _ parts.0, parts.1)
 
 -- the dots before the next part
-pub before-next : (f : ℕ → Bool) (dots i : ℕ) → ((k : ℕ) → k < 8 * i → k < dots → f k ≡ false) → ((j : ℕ) → j < 8 → 8 * i + j < dots → f (8 * i + j) ≡ false)
+pub before-next : (f : ℕ → Bool) (dots i : ℕ)
+    → ((k : ℕ) → k < 8 * i → k < dots → f k ≡ false) → ((j : ℕ) → j < 8 → 8 * i + j < dots → f (8 * i + j) ≡ false)
     → (k : ℕ) → k < 8 * (i + 1) → k < dots → f k ≡ false
 before-next f dots i before here k low in_row = elim (cases_lt k (8 * i)) [
   | inl less ↦ before k less in_row
@@ -108,9 +112,11 @@ before-next f dots i before here k low in_row = elim (cases_lt k (8 * i)) [
 ]
 
 -- a dot of the row that is no bit of a part without bits
-pub part-none : (row : List ℕ) (dots i part j : ℕ) → IsPart row dots i part → part ≡ 0 → j < 8 → 8 * i + j < dots → row_dot row (8 * i + j) ≡ false
+pub part-none : (row : List ℕ) (dots i part j : ℕ)
+    → IsPart row dots i part → part ≡ 0 → j < 8 → 8 * i + j < dots → row_dot row (8 * i + j) ≡ false
 part-none row dots i part j is none low in_row = false_from_ne_true _ (λ on. false≢true (
-    sym (no_bit j) ∙ ap (λ b. bit_at b j) (sym none) ∙ is j low ∙ ap (λ b. b && row_dot row (8 * i + j)) (lt-ltb (8 * i + j) dots in_row) ∙ on))
+    sym (no_bit j) ∙ ap (λ b. bit_at b j) (sym none)
+    ∙ is j low ∙ ap (λ b. b && row_dot row (8 * i + j)) (lt-ltb (8 * i + j) dots in_row) ∙ on))
 
 -- ---- rows that meet
 

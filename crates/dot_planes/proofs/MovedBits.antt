@@ -1,5 +1,6 @@
--- The dots of a byte that is moved to the left, or cut off behind its first dots.
-use Rattle.std.proofs.Common.{◌≡◌, ℕ, zero, suc, ◌+◌, ◌-◌, ◌*◌, ◌/◌, ◌%◌, ◌^◌, ◌==◌, ◌<◌, ◌≤◌, Bool, true, ◌&&◌, ◌||◌, nat_le, nat_lt, refl, ◌∙◌, ap, arith, bit_and, bit_or, max}
+-- The dots of a byte that is moved to the left, or cut off after its first dots.
+use Rattle.std.proofs.Common.{◌≡◌, ℕ, zero, suc, ◌+◌, ◌-◌, ◌*◌, ◌/◌, ◌%◌, ◌^◌, ◌==◌, ◌<◌, ◌≤◌, Bool, true, ◌&&◌, ◌||◌}
+use Rattle.std.proofs.Common.{nat_le, nat_lt, refl, ◌∙◌, ap, arith, bit_and, bit_or, max}
 use Rattle.std.proofs.lemmas.Bool.{agree_below, agree_below_at}
 use Rattle.std.proofs.lemmas.Nat.Bits.{bit_at_or, bit_at-lt}
 use Rattle.escp2_definitions.specs.Machine.{bit_at}
@@ -14,7 +15,8 @@ agree_at f g a j = agree_below (f a j) (g a j) 256
 abbrev agree_places : Test → Test → ℕ → Bool
 agree_places f g a = agree_below (agree_at f g a) (λ j. true) 8
 
-agree : (f g : Test) (most a j byte : ℕ) → agree_below (agree_places f g) (λ a. true) most ≡ true → a < most → j < 8 → byte < 256 → f a j byte ≡ g a j byte
+agree : (f g : Test) (most a j byte : ℕ)
+    → agree_below (agree_places f g) (λ a. true) most ≡ true → a < most → j < 8 → byte < 256 → f a j byte ≡ g a j byte
 agree f g most a j byte all few low fits =
     let places = agree_below_at (agree_places f g) (λ a. true) most a all few in
     agree_below_at (f a j) (g a j) 256 byte (agree_below_at (agree_at f g a) (λ j. true) 8 j places low) fits
@@ -30,7 +32,8 @@ is_left by j byte = nat_le 8 (j + by) && bit_at byte (j + by - 8)
 all_left : agree_below (agree_places code_left is_left) (λ a. true) 9 ≡ true
 all_left = refl
 
-pub moved-left : (by j byte : ℕ) → by ≤ 8 → j < 8 → byte < 256 → bit_at (byte * 2 ^ by % 65536 / 256) j ≡ (nat_le 8 (j + by) && bit_at byte (j + by - 8))
+pub moved-left : (by j byte : ℕ) → by ≤ 8
+    → j < 8 → byte < 256 → bit_at (byte * 2 ^ by % 65536 / 256) j ≡ (nat_le 8 (j + by) && bit_at byte (j + by - 8))
 moved-left by j byte some low fits = agree code_left is_left 9 by j byte all_left (omega arith) low fits
 
 abbrev code_stays : Test
@@ -42,7 +45,8 @@ is_stays by j byte = nat_lt (j + by) 8 && bit_at byte (j + by)
 all_stays : agree_below (agree_places code_stays is_stays) (λ a. true) 9 ≡ true
 all_stays = refl
 
-pub moved-stays : (by j byte : ℕ) → by ≤ 8 → j < 8 → byte < 256 → bit_at (bit_and (byte * 2 ^ by % 65536) 255) j ≡ (nat_lt (j + by) 8 && bit_at byte (j + by))
+pub moved-stays : (by j byte : ℕ) → by ≤ 8 → j < 8
+    → byte < 256 → bit_at (bit_and (byte * 2 ^ by % 65536) 255) j ≡ (nat_lt (j + by) 8 && bit_at byte (j + by))
 moved-stays by j byte some low fits = agree code_stays is_stays 9 by j byte all_stays (omega arith) low fits
 
 -- ---- a byte as the code cuts it
@@ -56,7 +60,8 @@ is_cut left j byte = nat_lt j left && bit_at byte j
 all_cut : agree_below (agree_places code_cut is_cut) (λ a. true) 8 ≡ true
 all_cut = refl
 
-pub cut-is : (left j byte : ℕ) → left < 8 → j < 8 → byte < 256 → bit_at (byte / 2 ^ (8 - left) * 2 ^ (8 - left) % 256) j ≡ (nat_lt j left && bit_at byte j)
+pub cut-is : (left j byte : ℕ) → left < 8
+    → j < 8 → byte < 256 → bit_at (byte / 2 ^ (8 - left) * 2 ^ (8 - left) % 256) j ≡ (nat_lt j left && bit_at byte j)
 cut-is left j byte some low fits = agree code_cut is_cut 8 left j byte all_cut some low fits
 
 -- ---- two bytes

@@ -1,5 +1,7 @@
 -- Rows of dots and their packed bytes.
-use Rattle.std.proofs.Common.{◌≡◌, ℕ, zero, suc, ◌+◌, ◌-◌, ◌*◌, ◌/◌, ◌%◌, ◌^◌, ◌==◌, ◌<◌, ◌≤◌, Bool, true, false, List, [], ◌∷◌, ◌++◌, length, drop, map, cond, get_or, sum_by, count_by, count_ones, refl, sym, ◌∙◌, ap, arith, inl, inr, length-drop}
+use Rattle.std.proofs.Common.{◌≡◌, ℕ, zero, suc, ◌+◌, ◌-◌, ◌*◌, ◌/◌, ◌%◌, ◌^◌, ◌==◌, ◌<◌, ◌≤◌, Bool, true, false, List, [], ◌∷◌, ◌++◌}
+use Rattle.std.proofs.Common.{length, drop, map, cond, get_or, sum_by, count_by, count_ones, refl, sym, ◌∙◌, ap, arith, inl, inr}
+use Rattle.std.proofs.Common.{length-drop}
 use Rattle.std.proofs.lemmas.Bool.{cases_lt}
 use Rattle.std.proofs.lemmas.List.{get_or-drop, get_or_past}
 use Rattle.std.proofs.lemmas.List.Sums.{sum_by-cons, sum_by_push}
@@ -71,10 +73,11 @@ packed_back (suc n) (b ∷ row) dots len bytes same =
     ∙ ap (λ d. byte_of (bit_at b 0) (bit_at b 1) (bit_at b 2) (bit_at b 3) (bit_at b 4) (bit_at b 5) d (at dots 7)) (same 6)
     ∙ ap (λ d. byte_of (bit_at b 0) (bit_at b 1) (bit_at b 2) (bit_at b 3) (bit_at b 4) (bit_at b 5) (bit_at b 6) d) (same 7)
     ∙ byte_of-bits b (bytes 0) in
-    let rest : packed_bytes n (drop 8 dots) ≡ row = packed_back n row (drop 8 dots) (omega arith) (λ k. bytes (suc k)) (λ k. get_or-drop 8 dots k false ∙ same (8 + k) ∙ next_byte b row k) in
+    let rest : packed_bytes n (drop 8 dots) ≡ row = packed_back n row (drop 8 dots)
+    (omega arith) (λ k. bytes (suc k)) (λ k. get_or-drop 8 dots k false ∙ same (8 + k) ∙ next_byte b row k) in
     ap (λ m. m ∷ packed_bytes n (drop 8 dots)) first ∙ ap (λ ms. b ∷ ms) rest
 
--- A packed row is that of its dots, where it has none behind its width.
+-- A packed row is that of its dots, where its spare bits are 0.
 pub row_packed : (width : ℕ) (row : List ℕ) → length row ≡ row_len width → ((k : ℕ) → get_or row k 0 < 256)
     → ((x : ℕ) → width ≤ x → row_dot row x ≡ false) → row ≡ packed (map (row_dot row) (count_from 0 width))
 row_packed width row len bytes spare =
@@ -97,14 +100,22 @@ no_bit k = let none : 0 / 2 ^ (7 - k) ≡ 0 = omega arith in ap (λ m. (m % 2) =
 
 -- the dot of a byte's place
 byte_dot : (n : ℕ) (dots : List Bool) (k : ℕ) → k < 8 → row_dot (packed_bytes (suc n) dots) k ≡ at dots k
-byte_dot n dots zero low = (byte_of-says (at dots 0) (at dots 1) (at dots 2) (at dots 3) (at dots 4) (at dots 5) (at dots 6) (at dots 7)).bit0
-byte_dot n dots (suc zero) low = (byte_of-says (at dots 0) (at dots 1) (at dots 2) (at dots 3) (at dots 4) (at dots 5) (at dots 6) (at dots 7)).bit1
-byte_dot n dots (suc (suc zero)) low = (byte_of-says (at dots 0) (at dots 1) (at dots 2) (at dots 3) (at dots 4) (at dots 5) (at dots 6) (at dots 7)).bit2
-byte_dot n dots (suc (suc (suc zero))) low = (byte_of-says (at dots 0) (at dots 1) (at dots 2) (at dots 3) (at dots 4) (at dots 5) (at dots 6) (at dots 7)).bit3
-byte_dot n dots (suc (suc (suc (suc zero)))) low = (byte_of-says (at dots 0) (at dots 1) (at dots 2) (at dots 3) (at dots 4) (at dots 5) (at dots 6) (at dots 7)).bit4
-byte_dot n dots (suc (suc (suc (suc (suc zero))))) low = (byte_of-says (at dots 0) (at dots 1) (at dots 2) (at dots 3) (at dots 4) (at dots 5) (at dots 6) (at dots 7)).bit5
-byte_dot n dots (suc (suc (suc (suc (suc (suc zero)))))) low = (byte_of-says (at dots 0) (at dots 1) (at dots 2) (at dots 3) (at dots 4) (at dots 5) (at dots 6) (at dots 7)).bit6
-byte_dot n dots (suc (suc (suc (suc (suc (suc (suc zero))))))) low = (byte_of-says (at dots 0) (at dots 1) (at dots 2) (at dots 3) (at dots 4) (at dots 5) (at dots 6) (at dots 7)).bit7
+byte_dot n dots zero low = (byte_of-says
+    (at dots 0) (at dots 1) (at dots 2) (at dots 3) (at dots 4) (at dots 5) (at dots 6) (at dots 7)).bit0
+byte_dot n dots (suc zero) low = (byte_of-says
+    (at dots 0) (at dots 1) (at dots 2) (at dots 3) (at dots 4) (at dots 5) (at dots 6) (at dots 7)).bit1
+byte_dot n dots (suc (suc zero)) low = (byte_of-says
+    (at dots 0) (at dots 1) (at dots 2) (at dots 3) (at dots 4) (at dots 5) (at dots 6) (at dots 7)).bit2
+byte_dot n dots (suc (suc (suc zero))) low = (byte_of-says
+    (at dots 0) (at dots 1) (at dots 2) (at dots 3) (at dots 4) (at dots 5) (at dots 6) (at dots 7)).bit3
+byte_dot n dots (suc (suc (suc (suc zero)))) low = (byte_of-says
+    (at dots 0) (at dots 1) (at dots 2) (at dots 3) (at dots 4) (at dots 5) (at dots 6) (at dots 7)).bit4
+byte_dot n dots (suc (suc (suc (suc (suc zero))))) low = (byte_of-says
+    (at dots 0) (at dots 1) (at dots 2) (at dots 3) (at dots 4) (at dots 5) (at dots 6) (at dots 7)).bit5
+byte_dot n dots (suc (suc (suc (suc (suc (suc zero)))))) low = (byte_of-says
+    (at dots 0) (at dots 1) (at dots 2) (at dots 3) (at dots 4) (at dots 5) (at dots 6) (at dots 7)).bit6
+byte_dot n dots (suc (suc (suc (suc (suc (suc (suc zero))))))) low = (byte_of-says
+    (at dots 0) (at dots 1) (at dots 2) (at dots 3) (at dots 4) (at dots 5) (at dots 6) (at dots 7)).bit7
 byte_dot n dots (suc (suc (suc (suc (suc (suc (suc (suc k)))))))) low = absurd (omega arith)
 
 -- the dots of packed bytes
@@ -140,10 +151,24 @@ packed_count (suc n) dots fits =
     let first = (byte_of-says (at dots 0) (at dots 1) (at dots 2) (at dots 3) (at dots 4) (at dots 5) (at dots 6) (at dots 7)).ones in
     let rest = packed_count n (drop 8 dots) (omega (arith, length-drop 8 dots)) in
     let cons = sum_by-cons count_ones (packed_byte dots) (packed_bytes n (drop 8 dots)) in
-    omega (arith, first, rest, cons, count_first dots 0, count_first dots 1, count_first dots 2, count_first dots 3, count_first dots 4, count_first dots 5, count_first dots 6, count_first dots 7)
+    omega (
+      arith,
+      first,
+      rest,
+      cons,
+      count_first dots 0,
+      count_first dots 1,
+      count_first dots 2,
+      count_first dots 3,
+      count_first dots 4,
+      count_first dots 5,
+      count_first dots 6,
+      count_first dots 7,
+    )
 
 -- the ones of a packed row are its dots
-pub row_count : (f : ℕ → Bool) (width : ℕ) (row : List ℕ) → row ≡ packed (map f (count_from 0 width)) → sum_by count_ones row ≡ count_by f (count_from 0 width)
+pub row_count : (f : ℕ → Bool) (width : ℕ) (row : List ℕ)
+    → row ≡ packed (map f (count_from 0 width)) → sum_by count_ones row ≡ count_by f (count_from 0 width)
 row_count f width row is =
     let dots : List Bool = map f (count_from 0 width) in
     ap (λ (bs : List ℕ). sum_by count_ones bs) is ∙ packed_count ((length dots + 7) / 8) dots (omega arith) ∙ counted-count f 0 width

@@ -21,9 +21,10 @@ pub record IsPut (t : AmountTable) (i y x a k : ℕ) (part new : List ℕ) : Typ
   pub many : k ≡ length part
 
 room : (t : AmountTable) (i y x a k : ℕ) (part new : List ℕ) → IsPut t i y x a k part new → a ≤ length t.bytes
-room t i y x a k part new p = omega (arith, bytes_inside t.width (t.inks * t.rows) (i * t.rows + y) (row_inside t.inks t.rows i y p.ink p.row))
+room t i y x a k part new p =
+    omega (arith, bytes_inside t.width (t.inks * t.rows) (i * t.rows + y) (row_inside t.inks t.rows i y p.ink p.row))
 
--- bytes outside of the part stay
+-- bytes outside of the part are unchanged
 outside : (t : AmountTable) (i y x a k : ℕ) (part new : List ℕ) → IsPut t i y x a k part new → (from end : ℕ) → from ≤ a → a + k ≤ end
     → (n : ℕ) → (n < from) ⊎ (end ≤ n) → get_or new n 0 ≡ get_or t.bytes n 0
 outside t i y x a k part new p from end low high n where_is =
@@ -67,7 +68,8 @@ others_kept t i y x a k part new p j r other low c =
     (rows_differ t.rows i y j r p.row low other) c
 
 -- all of it, for a table by another name
-pub sets : (t old : AmountTable) (i y x a k : ℕ) (part new : List ℕ) → t ≡ old → IsPut t i y x a k part new → Sets old (with_bytes t new) i y x part
+pub sets : (t old : AmountTable) (i y x a k : ℕ) (part new : List ℕ)
+    → t ≡ old → IsPut t i y x a k part new → Sets old (with_bytes t new) i y x part
 sets t old i y x a k part new same p =
     let Q : AmountTable → Type 0 = λ o. Sets o (with_bytes t new) i y x part in
     subst Q same (record {

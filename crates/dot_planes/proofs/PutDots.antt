@@ -1,5 +1,6 @@
 -- Dots of packed planes are written.
-use Rattle.std.proofs.Common.{◌≡◌, ◌≢◌, ◌⊎◌, ℕ, ◌+◌, ◌-◌, ◌*◌, ◌/◌, ◌%◌, ◌^◌, ◌==◌, ◌<◌, ◌≤◌, true, false, List, length, get_or, set, sym, ◌∙◌, ap, arith, inl, inr, refl, subst, bit_or, get_or-set_other, get_or-set_same}
+use Rattle.std.proofs.Common.{◌≡◌, ◌≢◌, ◌⊎◌, ℕ, ◌+◌, ◌-◌, ◌*◌, ◌/◌, ◌%◌, ◌^◌, ◌==◌, ◌<◌, ◌≤◌, true, false, List, length, get_or, set, sym}
+use Rattle.std.proofs.Common.{◌∙◌, ap, arith, inl, inr, refl, subst, bit_or, get_or-set_other, get_or-set_same}
 use Rattle.std.proofs.lemmas.Bool.{cases_eq, cases_lt}
 use Rattle.std.proofs.lemmas.List.{get_or_past}
 use Rattle.std.proofs.lemmas.Nat.Bits.{bit_at_set_other, bit_at_set_same}
@@ -15,7 +16,7 @@ use Rattle.dot_planes.proofs.Writes.{put_inside, put_len, put_outside}
 abbrev pub with_bytes : DotTable → List ℕ → DotTable
 with_bytes t bytes = record { width = t.width; rows = t.rows; inks = t.inks; bytes = bytes }
 
--- no row of bytes has a dot behind the width
+-- no row of bytes has a dot past the width
 abbrev pub IsSpare : DotTable → List ℕ → Type 0
 IsSpare t bytes = (n x : ℕ) → n < t.inks * t.rows → t.width ≤ x → row_dot (row_at (row_len t.width) bytes n) x ≡ false
 
@@ -39,7 +40,10 @@ pub record IsRowPut (t : DotTable) (i y a k : ℕ) (row new : List ℕ) : Type 0
   pub many : k ≡ row_len t.width
 
 room : (t : DotTable) (i y a k : ℕ) (row new : List ℕ) → IsRowPut t i y a k row new → a + k ≤ length t.bytes
-room t i y a k row new p = omega (arith, bytes_inside (row_len t.width) (t.inks * t.rows) (i * t.rows + y) (row_inside t.inks t.rows i y p.ink p.down))
+room t i y a k row new p = omega (
+  arith,
+  bytes_inside (row_len t.width) (t.inks * t.rows) (i * t.rows + y) (row_inside t.inks t.rows i y p.ink p.down),
+)
 
 row_is : (t : DotTable) (i y a k : ℕ) (row new : List ℕ) → IsRowPut t i y a k row new
     → (j : ℕ) → get_or (row_at (row_len t.width) new (i * t.rows + y)) j 0 ≡ get_or row j 0
@@ -69,7 +73,8 @@ rows_kept t i y a k row new p m other =
     ∙ put_outside a k (n * len) (n * len + len) t.bytes row (omega arith) row_length (omega arith) (omega arith) b where_is in
     same_dots _ _ (row_kept len n m t.bytes new outside other)
 
-pub puts_row : (t old : DotTable) (i y a k : ℕ) (row new : List ℕ) → t ≡ old → IsRowPut t i y a k row new → PutsRow old (with_bytes t new) i y row
+pub puts_row : (t old : DotTable) (i y a k : ℕ) (row new : List ℕ)
+    → t ≡ old → IsRowPut t i y a k row new → PutsRow old (with_bytes t new) i y row
 unfolding dot
 puts_row t old i y a k row new same p =
     let Q : DotTable → Type 0 = λ o. PutsRow o (with_bytes t new) i y row in
@@ -116,7 +121,12 @@ on_is t i y x place new p =
     let len : ℕ = row_len t.width in
     let n : ℕ = i * t.rows + y in
     let inside : x / 8 < len = inside_row t i y x place new p in
-    let room_is : place < length t.bytes = omega (arith, p.len, p.place_is, bytes_inside len (t.inks * t.rows) n (row_inside t.inks t.rows i y p.ink p.down)) in
+    let room_is : place < length t.bytes = omega (
+      arith,
+      p.len,
+      p.place_is,
+      bytes_inside len (t.inks * t.rows) n (row_inside t.inks t.rows i y p.ink p.down),
+    ) in
     let low : x % 8 < 8 = omega arith in
     ap (λ b. bit_at b (x % 8)) (
     row_byte len n (x / 8) new inside
@@ -126,12 +136,19 @@ on_is t i y x place new p =
     ∙ set_same (get_or t.bytes place 0) (x % 8) low
 
 dots_kept : (t : DotTable) (i y x place : ℕ) (new : List ℕ) → IsDotPut t i y x place new
-    → (m c : ℕ) → (m ≢ i * t.rows + y) ⊎ (c ≢ x) → row_dot (row_at (row_len t.width) new m) c ≡ row_dot (row_at (row_len t.width) t.bytes m) c
+    → (m c : ℕ) → (m ≢ i * t.rows + y) ⊎ (c ≢ x)
+    → row_dot (row_at (row_len t.width) new m) c ≡ row_dot (row_at (row_len t.width) t.bytes m) c
 dots_kept t i y x place new p m c other =
     let len : ℕ = row_len t.width in
     let n : ℕ = i * t.rows + y in
     let put : ℕ = bit_or (get_or t.bytes place 0) (1 * 2 ^ (7 - x % 8) % 2 ^ 8) in
-    let room_is : place < length t.bytes = omega (arith, p.len, p.place_is, inside_row t i y x place new p, bytes_inside len (t.inks * t.rows) n (row_inside t.inks t.rows i y p.ink p.down)) in
+    let room_is : place < length t.bytes = omega (
+      arith,
+      p.len,
+      p.place_is,
+      inside_row t i y x place new p,
+      bytes_inside len (t.inks * t.rows) n (row_inside t.inks t.rows i y p.ink p.down),
+    ) in
     elim (cases_lt (c / 8) len) [
       | inl inside ↦ elim (cases_eq (m * len + c / 8) place) [
         | inl here ↦
@@ -150,7 +167,9 @@ dots_kept t i y x place new p m c other =
             let bit_differs : c % 8 ≢ x % 8 = omega arith in
             let low : c % 8 < 8 = omega arith in
             let low' : x % 8 < 8 = omega arith in
-            ap (λ b. bit_at b (c % 8)) (row_byte len m (c / 8) new inside ∙ ap (λ (bytes : List ℕ). get_or bytes (m * len + c / 8) 0) p.is ∙ ap (λ k. get_or (set t.bytes place put) k 0) here ∙ get_or-set_same t.bytes place put 0 room_is)
+            ap (λ b. bit_at b (c % 8)) (row_byte len m (c / 8) new inside
+            ∙ ap (λ (bytes : List ℕ). get_or bytes (m * len + c / 8) 0) p.is
+            ∙ ap (λ k. get_or (set t.bytes place put) k 0) here ∙ get_or-set_same t.bytes place put 0 room_is)
             ∙ set_other (get_or t.bytes place 0) (x % 8) (c % 8) low' low bit_differs
             ∙ ap (λ b. bit_at b (c % 8)) (ap (λ k. get_or t.bytes k 0) (sym here) ∙ sym (row_byte len m (c / 8) t.bytes inside))
         | inr there ↦ ap (λ b. bit_at b (c % 8)) (row_byte len m (c / 8) new inside
@@ -161,7 +180,8 @@ dots_kept t i y x place new p m c other =
       | inr past ↦ ap (λ b. bit_at b (c % 8)) (no_byte len m (c / 8) new past ∙ sym (no_byte len m (c / 8) t.bytes past))
     ]
 
-pub turns_on : (t old : DotTable) (i y x place : ℕ) (new : List ℕ) → t ≡ old → IsDotPut t i y x place new → TurnsOn old (with_bytes t new) i y x
+pub turns_on : (t old : DotTable) (i y x place : ℕ) (new : List ℕ)
+    → t ≡ old → IsDotPut t i y x place new → TurnsOn old (with_bytes t new) i y x
 unfolding dot
 turns_on t old i y x place new same p =
     let Q : DotTable → Type 0 = λ o. TurnsOn o (with_bytes t new) i y x in

@@ -1,5 +1,6 @@
 -- Planes over which a row is laid.
-use Rattle.std.proofs.Common.{◌≡◌, ℕ, ◌+◌, ◌-◌, ◌*◌, ◌<◌, ◌≤◌, ◌⊎◌, false, ◌&&◌, ◌||◌, nat_le, nat_lt, List, length, map, refl, subst, sym, ◌∙◌, ap, arith, inl, inr, get_or}
+use Rattle.std.proofs.Common.{◌≡◌, ℕ, ◌+◌, ◌-◌, ◌*◌, ◌<◌, ◌≤◌, ◌⊎◌, false, ◌&&◌, ◌||◌, nat_le, nat_lt, List, length}
+use Rattle.std.proofs.Common.{map, refl, subst, sym, ◌∙◌, ap, arith, inl, inr, get_or}
 use Rattle.std.proofs.lemmas.Bool.{le-leb, le-ltb, lt-leb, lt-ltb}
 use Rattle.std.specs.List.{list_any}
 use Rattle.weave_definitions.specs.Weave.{count_from}
@@ -14,7 +15,7 @@ pub record IsLaidOver (t : DotTable) (i y x : ℕ) (row : List ℕ) (dots : ℕ)
   pub inside : x + dots ≤ t.width
   pub is : (c : ℕ) → row_dot over c ≡ (row_dot (row_at (row_len t.width) t.bytes (i * t.rows + y)) c || laid_dot row dots x c)
 
--- no dot of the row stands beside it
+-- no dot of the row is laid beside it
 laid-beside : (row : List ℕ) (dots x c : ℕ) → (c < x) ⊎ (x + dots ≤ c) → laid_dot row dots x c ≡ false
 laid-beside row dots x c (inl left) = ap (λ b. b && (nat_lt (c - x) dots && row_dot row (c - x))) (lt-leb x c left)
 laid-beside row dots x c (inr right) = ap (λ b. nat_le x c && (b && row_dot row (c - x))) (le-ltb (c - x) dots (omega arith)) ∙ and-none _
@@ -26,7 +27,7 @@ laid-inside row dots x k low =
     ∙ ap (λ n. nat_lt n dots && row_dot row n) place
     ∙ ap (λ b. b && row_dot row k) (lt-ltb k dots low)
 
--- it is a packed row, with no dot behind its width
+-- it is a packed row, with spare bits of 0
 pub laid-packed : (t : DotTable) (i y x : ℕ) (row : List ℕ) (dots : ℕ) (over : List ℕ) → IsLaidOver t i y x row dots over
     → length over ≡ row_len t.width → ((k : ℕ) → get_or over k 0 < 256)
     → ((c : ℕ) → t.width ≤ c → row_dot (row_at (row_len t.width) t.bytes (i * t.rows + y)) c ≡ false)
@@ -54,7 +55,9 @@ lays t old i y x row dots a k over new same p laid =
       others = λ j r other low c. puts.others j r other low c;
     })
 
-pub meets-same : (t : DotTable) (ink y x : ℕ) (row : List ℕ) (dots : ℕ) (other : List ℕ) → other ≡ row_at (row_len t.width) t.bytes (ink * t.rows + y)
+pub meets-same : (t : DotTable) (ink y x : ℕ) (row : List ℕ) (dots : ℕ) (other : List ℕ)
+    → other ≡ row_at (row_len t.width) t.bytes (ink * t.rows + y)
     → list_any (λ k. row_dot row k && row_dot other (x + k)) (count_from 0 dots) ≡ meets t ink y x row dots
 unfolding dot
-meets-same t ink y x row dots other is = ap (λ (bytes : List ℕ). list_any (λ k. row_dot row k && row_dot bytes (x + k)) (count_from 0 dots)) is
+meets-same t ink y x row dots other is =
+    ap (λ (bytes : List ℕ). list_any (λ k. row_dot row k && row_dot bytes (x + k)) (count_from 0 dots)) is

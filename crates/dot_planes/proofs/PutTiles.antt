@@ -1,5 +1,6 @@
 -- Planes take the dots of a tile, row by row and ink by ink.
-use Rattle.std.proofs.Common.{◌≡◌, ◌≢◌, ◌⊎◌, ℕ, ◌+◌, ◌-◌, ◌*◌, ◌/◌, ◌%◌, ◌<◌, ◌≤◌, false, List, [], length, get_or, map, min, replicate, slice_index_or, sym, ◌∙◌, ap, arith, inl, inr, refl}
+use Rattle.std.proofs.Common.{◌≡◌, ◌≢◌, ◌⊎◌, ℕ, ◌+◌, ◌-◌, ◌*◌, ◌/◌, ◌%◌, ◌<◌, ◌≤◌, false, List, [], length, get_or, map, min}
+use Rattle.std.proofs.Common.{replicate, slice_index_or, sym, ◌∙◌, ap, arith, inl, inr, refl}
 use Rattle.std.proofs.lemmas.Bool.{cases_eq, cases_lt}
 use Rattle.escp2_definitions.specs.Machine.{bit_at}
 use Rattle.weave_definitions.specs.Weave.{count_from}
@@ -25,7 +26,8 @@ taken_packed width c r dots old new len bytes spare p = record {
 pub puts_tile_row : (old new : DotTable) (i y c r : ℕ) (dots row put : List ℕ) → PutsRow old new i y put → IsPackedRow old.width put
     → ((x : ℕ) → dot old i y x ≡ row_dot row x) → PutsDots old.width c r old.width dots row put → PutsTileRow old new i y c r dots
 puts_tile_row old new i y c r dots row put p packed_row before t =
-    let has : (x : ℕ) → dot new i y x ≡ row_dot put x = λ x. p.row packed_row.dots packed_row.width_is packed_row.is x ∙ sym (dot_of_packed packed_row.dots put x packed_row.is) in
+    let has : (x : ℕ) → dot new i y x ≡ row_dot put x = λ x. p.row packed_row.dots packed_row.width_is packed_row.is x
+    ∙ sym (dot_of_packed packed_row.dots put x packed_row.is) in
     record {
       size = p.size;
       pixels = λ offset x q. has x ∙ t.pixels offset x q.in_window q;
@@ -38,8 +40,10 @@ puts_tile_row old new i y c r dots row put p packed_row before t =
 -- An ink has the pixels of a tile in its rows before row `end`.
 pub record PutsRows (old new : DotTable) (first height : ℕ) (p : Place) (i end : ℕ) (bytes : List ℕ) : Type 0 where
   pub size : HasSizeOf old new
-  pub pixels : (row offset y x : ℕ) → row < end → IsTilePixel old first height p row offset y x → dot new i y x ≡ row_dot bytes (64 * row + offset)
-  pub others : (j y x : ℕ) → y < old.rows → (j ≢ i) ⊎ ((row offset : ℕ) → row < end → ¬ IsTilePixel old first height p row offset y x) → dot new j y x ≡ dot old j y x
+  pub pixels : (row offset y x : ℕ)
+      → row < end → IsTilePixel old first height p row offset y x → dot new i y x ≡ row_dot bytes (64 * row + offset)
+  pub others : (j y x : ℕ) → y < old.rows → (j ≢ i) ⊎ ((row offset : ℕ)
+      → row < end → ¬ IsTilePixel old first height p row offset y x) → dot new j y x ≡ dot old j y x
 
 pub no_rows : (t : DotTable) (first height : ℕ) (p : Place) (i : ℕ) (bytes : List ℕ) → PutsRows t t first height p i 0 bytes
 no_rows t first height p i bytes = record {
@@ -49,7 +53,8 @@ no_rows t first height p i bytes = record {
 }
 
 -- the bytes of a row of a tile
-row_of_tile : (bytes row : List ℕ) (r offset : ℕ) → row ≡ row_at 8 bytes r → offset < 64 → row_dot row offset ≡ row_dot bytes (64 * r + offset)
+row_of_tile : (bytes row : List ℕ) (r offset : ℕ)
+    → row ≡ row_at 8 bytes r → offset < 64 → row_dot row offset ≡ row_dot bytes (64 * r + offset)
 row_of_tile bytes row r offset is inside =
     let byte : r * 8 + offset / 8 ≡ (64 * r + offset) / 8 = omega arith in
     let bit : offset % 8 ≡ (64 * r + offset) % 8 = omega arith in
@@ -62,10 +67,12 @@ same_size a b c p q = record { width = q.width ∙ p.width; rows = q.rows ∙ p.
 
 pub rows_more : (old mid new : DotTable) (first height : ℕ) (p : Place) (i r : ℕ) (bytes dots : List ℕ)
     → 32 * p.j + r < height → r < 32 → first + height ≤ old.rows → dots ≡ row_at 8 bytes r
-    → PutsRows old mid first height p i r bytes → PutsTileRow mid new i (first + (32 * p.j + r)) p.c r dots → PutsRows old new first height p i (r + 1) bytes
+    → PutsRows old mid first height p i r bytes
+    → PutsTileRow mid new i (first + (32 * p.j + r)) p.c r dots → PutsRows old new first height p i (r + 1) bytes
 rows_more old mid new first height p i r bytes dots inside low room is before now =
     let y0 : ℕ = first + (32 * p.j + r) in
-    let kept : (j y x : ℕ) → y < old.rows → (j ≢ i) ⊎ (y ≢ y0) → dot new j y x ≡ dot mid j y x = λ j y x down other. now.others j y other (omega (arith, before.size.rows)) x in
+    let kept : (j y x : ℕ) → y < old.rows → (j ≢ i) ⊎ (y ≢ y0) → dot new j y x ≡ dot mid j y x =
+    λ j y x down other. now.others j y other (omega (arith, before.size.rows)) x in
     let width : mid.width ≡ old.width = before.size.width in
     record {
       size = same_size old mid new before.size now.size;
@@ -75,8 +82,13 @@ rows_more old mid new first height p i r bytes dots inside low room is before no
             | inl here ↦
                 let y_is : y ≡ y0 = omega (arith, q.down, q.place.down) in
                 let row_is : 64 * r + offset ≡ 64 * row + offset = omega arith in
-                let in_here : IsInRow mid.width p.c r offset x = record { in_tile = q.place.in_tile; in_window = omega (arith, q.pixel.across); across = omega (arith, q.place.across) } in
-                ap (λ n. dot new i n x) y_is ∙ now.pixels offset x in_here ∙ row_of_tile bytes dots r offset is q.place.in_tile ∙ ap (row_dot bytes) row_is
+                let in_here : IsInRow mid.width p.c r offset x = record {
+                  in_tile = q.place.in_tile;
+                  in_window = omega (arith, q.pixel.across);
+                  across = omega (arith, q.place.across);
+                } in
+                ap (λ n. dot new i n x) y_is ∙ now.pixels offset x in_here
+                ∙ row_of_tile bytes dots r offset is q.place.in_tile ∙ ap (row_dot bytes) row_is
             | inr differs ↦
                 let y_differs : y ≢ y0 = omega (arith, q.down, q.place.down) in
                 kept i y x down (inr y_differs) ∙ before.pixels row offset y x (omega arith) q
@@ -84,7 +96,8 @@ rows_more old mid new first height p i r bytes dots inside low room is before no
       others = λ j y x down where_is. elim where_is [
         | inl ink ↦ kept j y x down (inl ink) ∙ before.others j y x down (inl ink)
         | inr none ↦
-            let fewer : (row offset : ℕ) → row < r → ¬ IsTilePixel old first height p row offset y x = λ row offset low q. none row offset (omega arith) q in
+            let fewer : (row offset : ℕ) → row < r → ¬ IsTilePixel old first height p row offset y x =
+            λ row offset low q. none row offset (omega arith) q in
             let past : dot mid j y x ≡ dot old j y x = before.others j y x down (inr fewer) in
             elim (cases_eq y y0) [
               | inr differs ↦ kept j y x down (inr differs) ∙ past
@@ -122,7 +135,8 @@ all_rows old new first height p i bytes end end_is r = record {
 pub record PutsInks (old new : DotTable) (first height : ℕ) (p : Place) (end : ℕ) (bits : List (List ℕ)) : Type 0 where
   pub size : HasSizeOf old new
   pub pixels : (i row offset y x : ℕ) → i < end → IsTilePixel old first height p row offset y x → dot new i y x ≡ tile_dot bits i row offset
-  pub others : (i y x : ℕ) → y < old.rows → (end ≤ i) ⊎ ((row offset : ℕ) → ¬ IsTilePixel old first height p row offset y x) → dot new i y x ≡ dot old i y x
+  pub others : (i y x : ℕ) → y < old.rows → (end ≤ i)
+      ⊎ ((row offset : ℕ) → ¬ IsTilePixel old first height p row offset y x) → dot new i y x ≡ dot old i y x
 
 pub no_inks : (t : DotTable) (first height : ℕ) (p : Place) (bits : List (List ℕ)) → PutsInks t t first height p 0 bits
 no_inks t first height p bits = record {
@@ -131,7 +145,8 @@ no_inks t first height p bits = record {
   others = λ i y x low where_is. refl;
 }
 
-same_pixel : (t u : DotTable) (first height : ℕ) (p : Place) (row offset y x : ℕ) → u.width ≡ t.width → IsTilePixel t first height p row offset y x → IsTilePixel u first height p row offset y x
+same_pixel : (t u : DotTable) (first height : ℕ) (p : Place) (row offset y x : ℕ)
+    → u.width ≡ t.width → IsTilePixel t first height p row offset y x → IsTilePixel u first height p row offset y x
 same_pixel t u first height p row offset y x same q = record {
   slab_row = q.slab_row;
   down = q.down;
@@ -145,7 +160,8 @@ pub inks_more : (old mid new : DotTable) (first height : ℕ) (p : Place) (n : �
 inks_more old mid new first height p n bytes bits room is before now =
     let width : mid.width ≡ old.width = before.size.width in
     let back : old.width ≡ mid.width = sym width in
-    let kept : (i y x : ℕ) → y < old.rows → i ≢ n → dot new i y x ≡ dot mid i y x = λ i y x down other. now.others i y x (omega (arith, before.size.rows)) (inl other) in
+    let kept : (i y x : ℕ) → y < old.rows → i ≢ n → dot new i y x ≡ dot mid i y x =
+    λ i y x down other. now.others i y x (omega (arith, before.size.rows)) (inl other) in
     record {
       size = same_size old mid new before.size now.size;
       pixels = λ i row offset y x upto q.
@@ -161,7 +177,8 @@ inks_more old mid new first height p n bytes bits room is before now =
       others = λ i y x down where_is. elim where_is [
         | inl past ↦ kept i y x down (omega arith) ∙ before.others i y x down (inl (omega arith))
         | inr none ↦
-            now.others i y x (omega (arith, before.size.rows)) (inr (λ row offset q. none row offset (same_pixel mid old first height p row offset y x back q)))
+            now.others i y x (omega (arith, before.size.rows))
+            (inr (λ row offset q. none row offset (same_pixel mid old first height p row offset y x back q)))
             ∙ before.others i y x down (inr none)
       ];
     }
@@ -183,7 +200,8 @@ blank_bytes many n = ap (λ b. bit_at b (n % 8)) (zero_at many (n / 8)) ∙ no_b
 pub no_dot : (n : ℕ) → row_dot [] n ≡ false
 no_dot n = no_bit (n % 8)
 
-pub blank_bits : (many : ℕ) (bits : List (List ℕ)) (ink row offset : ℕ) → bits ≡ replicate many (replicate {A = ℕ} 256 0) → tile_dot bits ink row offset ≡ false
+pub blank_bits : (many : ℕ) (bits : List (List ℕ)) (ink row offset : ℕ)
+    → bits ≡ replicate many (replicate {A = ℕ} 256 0) → tile_dot bits ink row offset ≡ false
 blank_bits many bits ink row offset is = elim (cases_lt ink many) [
   | inl low ↦
       ap (λ (bs : List (List ℕ)). row_dot (slice_index_or bs ink []) (64 * row + offset)) is
@@ -191,6 +209,7 @@ blank_bits many bits ink row offset is = elim (cases_lt ink many) [
       ∙ blank_bytes 256 (64 * row + offset)
   | inr high ↦
       ap (λ (bs : List (List ℕ)). row_dot (slice_index_or bs ink []) (64 * row + offset)) is
-      ∙ ap (λ (bs : List ℕ). row_dot bs (64 * row + offset)) (get_or_past (replicate many (replicate {A = ℕ} 256 0)) ink [] (omega (arith, length-replicate many (replicate {A = ℕ} 256 0))))
+      ∙ ap (λ (bs : List ℕ). row_dot bs (64 * row + offset)) (get_or_past (replicate many (replicate {A = ℕ} 256 0))
+      ink [] (omega (arith, length-replicate many (replicate {A = ℕ} 256 0))))
       ∙ no_dot (64 * row + offset)
 ]

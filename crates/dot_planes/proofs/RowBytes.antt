@@ -1,5 +1,6 @@
--- Rows of bytes that are as long as each other, and where they stand.
-use Rattle.std.proofs.Common.{◌≡◌, ◌≢◌, ◌⊎◌, ℕ, ◌+◌, ◌*◌, ◌<◌, ◌≤◌, List, drop, get_or, sym, ◌∙◌, ap, arith, inl, inr, length-take, replicate}
+-- Rows of bytes of one length, and where they begin.
+use Rattle.std.proofs.Common.{◌≡◌, ◌≢◌, ◌⊎◌, ℕ, ◌+◌, ◌*◌, ◌<◌, ◌≤◌, List, drop, get_or, sym, ◌∙◌, ap}
+use Rattle.std.proofs.Common.{arith, inl, inr, length-take, replicate}
 use Rattle.std.proofs.lemmas.Bool.{cases_lt}
 use Rattle.std.proofs.lemmas.List.{get_or-drop, get_or-replicate, get_or-take, get_or_past, length-replicate}
 use Rattle.std.proofs.Math.Nat.{mul-le-mul_right}
@@ -38,11 +39,11 @@ apart len n m k other inside = elim (cases_lt m n) [
 pub row_byte : (len n k : ℕ) (bytes : List ℕ) → k < len → get_or (row_at len bytes n) k 0 ≡ get_or bytes (n * len + k) 0
 row_byte len n k bytes inside = get_or-take len (drop (n * len) bytes) k 0 inside ∙ get_or-drop (n * len) bytes k 0
 
--- there is none behind it
+-- there is none past its end
 pub no_byte : (len n k : ℕ) (bytes : List ℕ) → len ≤ k → get_or (row_at len bytes n) k 0 ≡ 0
 no_byte len n k bytes past = get_or_past (row_at len bytes n) k 0 (omega (arith, length-take len (drop (n * len) bytes)))
 
--- where bytes are the same but for those of a row, so are all other rows
+-- where all bytes outside a row are unchanged, so are all other rows
 pub row_kept : (len n m : ℕ) (old new : List ℕ) → ((i : ℕ) → (i < n * len) ⊎ (n * len + len ≤ i) → get_or new i 0 ≡ get_or old i 0)
     → m ≢ n → (k : ℕ) → get_or (row_at len new m) k 0 ≡ get_or (row_at len old m) k 0
 row_kept len n m old new same other k = elim (cases_lt k len) [

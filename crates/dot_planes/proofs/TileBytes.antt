@@ -4,7 +4,7 @@ use Rattle.std.proofs.lemmas.Bool.{cases_lt}
 use Rattle.escp2_definitions.specs.Machine.{bit_at}
 use Rattle.dot_planes.specs.Tables.{row_dot}
 
--- Byte n of the nine that a tile's row of eight goes to: it begins at offset 8 n + shift - 8 of the tile.
+-- Byte n of the nine that the eight bytes of a tile's row go to: it begins at offset 8 n + shift - 8 of the tile.
 pub record IsByte (dots : List ℕ) (n shift left right from to : ℕ) : Type 0 where
   pub few : n ≤ 8
   pub low : shift < 8
@@ -21,17 +21,20 @@ pub record IsMoved (left right shift new : ℕ) : Type 0 where
   pub at_right : (k : ℕ) → k < 8 → 8 ≤ k + shift → bit_at new k ≡ bit_at right (k + shift - 8)
 
 -- it takes the tile's dots from one place to before another
-pub taken_dot : (dots : List ℕ) (n shift left right from to new k offset : ℕ) → IsByte dots n shift left right from to → IsMoved left right shift new
+pub taken_dot : (dots : List ℕ) (n shift left right from to new k offset : ℕ)
+    → IsByte dots n shift left right from to → IsMoved left right shift new
     → k < 8 → offset < 64 → 8 * n + shift + k ≡ offset + 8 → bit_at new k ≡ row_dot dots offset
 taken_dot dots n shift left right from to new k offset b m low inside here = elim (cases_lt (k + shift) 8) [
   | inl before ↦
       let byte : n - 1 ≡ offset / 8 = omega (arith, b.low) in
       let bit : k + shift ≡ offset % 8 = omega (arith, b.low) in
-      m.at_left k before ∙ ap (λ l. bit_at l (k + shift)) (b.left_is (omega (arith, b.low)) ∙ ap (λ i. get_or dots i 0) byte) ∙ ap (bit_at (get_or dots (offset / 8) 0)) bit
+      m.at_left k before ∙ ap (λ l. bit_at l (k + shift)) (b.left_is (omega (arith, b.low))
+      ∙ ap (λ i. get_or dots i 0) byte) ∙ ap (bit_at (get_or dots (offset / 8) 0)) bit
   | inr after ↦
       let byte : n ≡ offset / 8 = omega (arith, b.low) in
       let bit : k + shift - 8 ≡ offset % 8 = omega (arith, b.low) in
-      m.at_right k low after ∙ ap (λ r. bit_at r (k + shift - 8)) (b.right_is (omega (arith, b.low)) ∙ ap (λ i. get_or dots i 0) byte) ∙ ap (bit_at (get_or dots (offset / 8) 0)) bit
+      m.at_right k low after ∙ ap (λ r. bit_at r (k + shift - 8)) (b.right_is (omega (arith, b.low))
+      ∙ ap (λ i. get_or dots i 0) byte) ∙ ap (bit_at (get_or dots (offset / 8) 0)) bit
 ]
 
 pub taken_from : (dots : List ℕ) (n shift left right from to k offset : ℕ) → IsByte dots n shift left right from to
@@ -48,7 +51,7 @@ taken_to dots n shift left right from to k offset b low inside here = elim (case
   | inr last ↦ omega (arith, b.last_to (omega (arith, b.few)))
 ]
 
--- all others stay
+-- all others are unchanged
 pub not_taken : (dots : List ℕ) (n shift left right from to most k : ℕ) → IsByte dots n shift left right from to
     → k < 8 → ((offset : ℕ) → k < most → offset < 64 → ¬ (8 * n + shift + k ≡ offset + 8)) → (k < from) ⊎ (min to most ≤ k)
 not_taken dots n shift left right from to most k b low none = elim (cases_lt k most) [

@@ -1,5 +1,6 @@
 -- A packed row takes the dots of a tile's row, byte by byte.
-use Rattle.std.proofs.Common.{◌≡◌, ◌≢◌, ◌⊎◌, ℕ, ◌+◌, ◌-◌, ◌*◌, ◌/◌, ◌%◌, ◌<◌, ◌≤◌, List, get_or, length, length-set, set, sym, ◌∙◌, ap, arith, inl, inr, refl, subst, get_or-set_other, get_or-set_same}
+use Rattle.std.proofs.Common.{◌≡◌, ◌≢◌, ◌⊎◌, ℕ, ◌+◌, ◌-◌, ◌*◌, ◌/◌, ◌%◌, ◌<◌, ◌≤◌, List, get_or, length, length-set, set, sym, ◌∙◌}
+use Rattle.std.proofs.Common.{ap, arith, inl, inr, refl, subst, get_or-set_other, get_or-set_same}
 use Rattle.std.proofs.lemmas.Bool.{cases_eq, cases_lt}
 use Rattle.std.proofs.lemmas.List.{get_or_past}
 use Rattle.escp2_definitions.specs.Machine.{bit_at}
@@ -11,28 +12,34 @@ pub record TakesDots (width c r b : ℕ) (dots : List ℕ) (old new : ℕ) : Typ
   pub pixels : (k offset : ℕ) → k < 8 → IsInRow width c r offset (8 * b + k) → bit_at new k ≡ row_dot dots offset
   pub others : (k : ℕ) → k < 8 → ((offset : ℕ) → ¬ IsInRow width c r offset (8 * b + k)) → bit_at new k ≡ bit_at old k
 
--- told by the offset at which the byte begins
+-- the same by the offset at which the byte begins
 pub takes_dots : (width c r b skip shift : ℕ) (dots : List ℕ) (old new : ℕ) → 2 * r ≡ 8 * skip + shift → 8 * c ≤ b + skip + 1
-    → ((k offset : ℕ) → k < 8 → k < width - 8 * b → offset < 64 → 8 * (b + skip + 1 - 8 * c) + shift + k ≡ offset + 8 → bit_at new k ≡ row_dot dots offset)
-    → ((k : ℕ) → k < 8 → ((offset : ℕ) → k < width - 8 * b → offset < 64 → ¬ (8 * (b + skip + 1 - 8 * c) + shift + k ≡ offset + 8)) → bit_at new k ≡ bit_at old k)
+    → ((k offset : ℕ) → k < 8 → k < width - 8 * b
+    → offset < 64 → 8 * (b + skip + 1 - 8 * c) + shift + k ≡ offset + 8 → bit_at new k ≡ row_dot dots offset)
+    → ((k : ℕ) → k < 8 → ((offset : ℕ) → k < width - 8 * b
+    → offset < 64 → ¬ (8 * (b + skip + 1 - 8 * c) + shift + k ≡ offset + 8)) → bit_at new k ≡ bit_at old k)
     → TakesDots width c r b dots old new
 takes_dots width c r b skip shift dots old new lean after pixels others = record {
   pixels = λ k offset low p. let window = p.in_window in let across = p.across in pixels k offset low (omega arith) p.in_tile (omega arith);
-  others = λ k low none. others k low (λ offset before inside here. none offset (record { in_tile = inside; in_window = omega arith; across = omega arith }));
+  others = λ k low none. others k low (λ offset before inside here.
+      none offset (record { in_tile = inside; in_window = omega arith; across = omega arith }));
 }
 
 -- nine bytes of a row that has all the tile's columns
-pub takes_whole : (width c r n skip shift : ℕ) (dots : List ℕ) (old new : ℕ) → 2 * r ≡ 8 * skip + shift → skip < 8 * c → 64 * c + 64 ≤ width + 2 * r
+pub takes_whole : (width c r n skip shift : ℕ) (dots : List ℕ) (old new : ℕ)
+    → 2 * r ≡ 8 * skip + shift → skip < 8 * c → 64 * c + 64 ≤ width + 2 * r
     → ((k offset : ℕ) → k < 8 → k < 8 → offset < 64 → 8 * n + shift + k ≡ offset + 8 → bit_at new k ≡ row_dot dots offset)
     → ((k : ℕ) → k < 8 → ((offset : ℕ) → k < 8 → offset < 64 → ¬ (8 * n + shift + k ≡ offset + 8)) → bit_at new k ≡ bit_at old k)
     → TakesDots width c r (8 * c - (skip + 1) + n) dots old new
 takes_whole width c r n skip shift dots old new lean left right pixels others = record {
   pixels = λ k offset low p. let across = p.across in pixels k offset low low p.in_tile (omega arith);
-  others = λ k low none. others k low (λ offset _ inside here. none offset (record { in_tile = inside; in_window = omega arith; across = omega arith }));
+  others = λ k low none. others k low (λ offset _ inside here.
+      none offset (record { in_tile = inside; in_window = omega arith; across = omega arith }));
 }
 
 set_byte : (row : List ℕ) (b new x : ℕ) → b < length row → x / 8 ≡ b → row_dot (set row b new) x ≡ bit_at new (x % 8)
-set_byte row b new x room here = ap (λ i. bit_at (get_or (set row b new) i 0) (x % 8)) here ∙ ap (λ n. bit_at n (x % 8)) (get_or-set_same row b new 0 room)
+set_byte row b new x room here = ap (λ i. bit_at (get_or (set row b new) i 0) (x % 8)) here
+    ∙ ap (λ n. bit_at n (x % 8)) (get_or-set_same row b new 0 room)
 
 kept_byte : (row : List ℕ) (b new x : ℕ) → x / 8 ≢ b → row_dot (set row b new) x ≡ row_dot row x
 kept_byte row b new x other = ap (λ n. bit_at n (x % 8)) (get_or-set_other row b (x / 8) new 0 other)
@@ -74,19 +81,22 @@ put_more width c r b new dots first row room t p = record {
   ];
 }
 
--- before the first byte nothing is taken
-pub put_none : (width c r skip shift start : ℕ) (dots row : List ℕ) → shift < 8 → 2 * r ≡ 8 * skip + shift → start ≡ 8 * c - (skip + 1) → PutsDots width c r (8 * start) dots row row
+-- no dot of the row comes before the first byte
+pub put_none : (width c r skip shift start : ℕ) (dots row : List ℕ)
+    → shift < 8 → 2 * r ≡ 8 * skip + shift → start ≡ 8 * c - (skip + 1) → PutsDots width c r (8 * start) dots row row
 put_none width c r skip shift start dots row low lean first = record {
   len = refl;
   pixels = λ offset x before q. let across = q.across in let no : ⊥ = omega arith in absurd no;
   others = λ x none. refl;
 }
 
--- nor behind the last
-pub put_all : (width c r skip shift b end : ℕ) (dots first row : List ℕ) → 2 * r ≡ 8 * skip + shift → (end ≡ 8 * c + 8 - skip) ⊎ (width ≤ 8 * end) → shift < 8 → end ≤ b
+-- none comes after the last
+pub put_all : (width c r skip shift b end : ℕ) (dots first row : List ℕ)
+    → 2 * r ≡ 8 * skip + shift → (end ≡ 8 * c + 8 - skip) ⊎ (width ≤ 8 * end) → shift < 8 → end ≤ b
     → PutsDots width c r (8 * b) dots first row → PutsDots width c r width dots first row
 put_all width c r skip shift b end dots first row lean last low past p =
-    let done : (offset x : ℕ) → IsInRow width c r offset x → x < 8 * b = λ offset x q. let window = q.in_window in let across = q.across in let inside = q.in_tile in elim last [
+    let done : (offset x : ℕ) → IsInRow width c r offset x → x < 8 * b = λ offset x q. let window = q.in_window in
+    let across = q.across in let inside = q.in_tile in elim last [
       | inl tile ↦ omega arith
       | inr row_end ↦ omega arith
     ] in

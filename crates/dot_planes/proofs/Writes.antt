@@ -1,5 +1,6 @@
 -- What a write to a part of bytes leaves, byte by byte.
-use Rattle.std.proofs.Common.{◌≡◌, ◌⊎◌, ℕ, ◌+◌, ◌-◌, ◌<◌, ◌≤◌, List, ◌++◌, length, take, drop, get_or, ◌∙◌, ap, arith, inl, inr, length-append, length-drop, length-take}
+use Rattle.std.proofs.Common.{◌≡◌, ◌⊎◌, ℕ, ◌+◌, ◌-◌, ◌<◌, ◌≤◌, List, ◌++◌, length, take, drop, get_or, ◌∙◌, ap, arith}
+use Rattle.std.proofs.Common.{inl, inr, length-append, length-drop, length-take}
 use Rattle.std.proofs.lemmas.List.{get_or-append_right, get_or-drop, get_or-take, get_or_append_left, take_at}
 use borrow.Rule.Slice.PartMut.{put_mid}
 
@@ -19,7 +20,7 @@ put_inside a k i xs ys room inside =
     ∙ ap (λ n. get_or (ys ++ drop k (drop a xs)) n 0) place
     ∙ get_or_append_left ys _ 0 i inside
 
--- and those behind it
+-- and those after it
 pub put_above : (a k i : ℕ) (xs ys : List ℕ) → a ≤ length xs → length ys ≡ k → a + k ≤ i → get_or (put_mid a k xs ys) i 0 ≡ get_or xs i 0
 put_above a k i xs ys room len above =
     let place : a + (k + (i - a - k)) ≡ i = omega arith in
@@ -30,18 +31,28 @@ put_above a k i xs ys room len above =
     ∙ ap (λ n. get_or xs n 0) place
 
 -- bytes outside of the part
-pub put_outside : (a k from end : ℕ) (xs ys : List ℕ) → a ≤ length xs → length ys ≡ k → from ≤ a → a + k ≤ end → (i : ℕ) → (i < from) ⊎ (end ≤ i)
+pub put_outside : (a k from end : ℕ) (xs ys : List ℕ)
+    → a ≤ length xs → length ys ≡ k → from ≤ a → a + k ≤ end → (i : ℕ) → (i < from) ⊎ (end ≤ i)
     → get_or (put_mid a k xs ys) i 0 ≡ get_or xs i 0
 put_outside a k from end xs ys room len low high i (inl below) = put_below a k i xs ys room (omega arith)
 put_outside a k from end xs ys room len low high i (inr above) = put_above a k i xs ys room len (omega arith)
 
 pub put_len : (a k : ℕ) (xs ys : List ℕ) → a + k ≤ length xs → length ys ≡ k → length (put_mid a k xs ys) ≡ length xs
 put_len a k xs ys room len =
-    omega (arith, length-append (take a xs) (ys ++ drop k (drop a xs)), length-append ys (drop k (drop a xs)), length-take a xs, length-drop k (drop a xs), length-drop a xs)
+    omega (
+      arith,
+      length-append (take a xs) (ys ++ drop k (drop a xs)),
+      length-append ys (drop k (drop a xs)),
+      length-take a xs,
+      length-drop k (drop a xs),
+      length-drop a xs,
+    )
 
 -- a vector after a write to a part of it
 pub put_items : (a k len : ℕ) (xs ys items part : List ℕ) → xs ≡ items → ys ≡ part → length items ≡ len → a + k ≤ len → length part ≡ k
     → take len (put_mid a k xs ys ++ drop (length (put_mid a k xs ys)) items) ≡ put_mid a k items part
 put_items a k len xs ys items part same written len_is room many =
-    let put : put_mid a k xs ys ≡ put_mid a k items part = ap (λ (zs : List ℕ). put_mid a k zs ys) same ∙ ap (λ (zs : List ℕ). put_mid a k items zs) written in
-    take_at (put_mid a k xs ys) (drop (length (put_mid a k xs ys)) items) len (ap length put ∙ put_len a k items part (omega arith) many ∙ len_is) ∙ put
+    let put : put_mid a k xs ys ≡ put_mid a k items part =
+    ap (λ (zs : List ℕ). put_mid a k zs ys) same ∙ ap (λ (zs : List ℕ). put_mid a k items zs) written in
+    take_at (put_mid a k xs ys) (drop (length (put_mid a k xs ys)) items) len (ap length put
+    ∙ put_len a k items part (omega arith) many ∙ len_is) ∙ put

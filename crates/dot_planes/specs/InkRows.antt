@@ -1,4 +1,4 @@
--- What stands in rows of amounts.
+-- The invariant of rows of amounts.
 use Rattle.std.specs.Prelude.{◌≡◌, ◌*◌, length}
 use Rattle.dot_planes.specs.Tables.{AmountTable, IsSize}
 use Rattle.dot_planes.specs.declared.ink_rows.InkRows.TheInside.{Inside}

@@ -1,4 +1,4 @@
--- What stands in planes.
+-- The invariant of planes.
 use Rattle.std.specs.Prelude.{◌≡◌, ℕ, ◌*◌, ◌<◌, ◌≤◌, false, length}
 use Rattle.dot_planes.specs.Tables.{DotTable, IsSize, row_at, row_dot, row_len}
 use Rattle.dot_planes.specs.declared.planes.Planes.TheInside.{Inside}
@@ -7,7 +7,7 @@ use Rattle.dot_planes.specs.declared.planes.Planes.TheInside.{Inside}
 abbrev pub table_of : Inside → DotTable
 table_of p = record { width = p.width; rows = p.rows; inks = p.inks; bytes = p.bytes.items }
 
--- The planes have their rows' bytes, and no dot behind a row.
+-- The planes have the bytes of their rows, and their spare bits are 0.
 pub record IsTable (p : Inside) : Type 0 where
   pub size : IsSize p.width p.rows p.inks
   pub len : length p.bytes.items ≡ p.inks * p.rows * row_len p.width

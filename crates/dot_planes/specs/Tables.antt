@@ -13,11 +13,11 @@ pub record DotTable : Type 0 where
   pub inks : ℕ
   pub bytes : List ℕ
 
--- the bytes of a row
+-- how many bytes a row has
 abbrev pub row_len : ℕ → ℕ
 row_len width = (width + 7) / 8
 
--- one row of the bytes of rows, which are as long as each other
+-- the bytes of row n, where each row has `len` bytes
 abbrev pub row_at : ℕ → List ℕ → ℕ → List ℕ
 row_at len bytes n = take len (drop (n * len) bytes)
 
@@ -25,7 +25,7 @@ row_at len bytes n = take len (drop (n * len) bytes)
 abbrev pub packed_row : DotTable → ℕ → ℕ → List ℕ
 packed_row t ink y = row_at (row_len t.width) t.bytes (ink * t.rows + y)
 
--- the dot at a place of a packed row, none behind its end
+-- the dot at a place of a packed row; past its end there is none
 abbrev pub row_dot : List ℕ → ℕ → Bool
 row_dot row x = bit_at (slice_index row (x / 8)) (x % 8)
 
@@ -33,25 +33,25 @@ row_dot row x = bit_at (slice_index row (x / 8)) (x % 8)
 unfoldable pub dot : DotTable → ℕ → ℕ → ℕ → Bool
 dot t ink y x = row_dot (packed_row t ink y) x
 
--- the two tables have one size
+-- both tables have the same size
 pub record HasSizeOf (old new : DotTable) : Type 0 where
   pub width : new.width ≡ old.width
   pub rows : new.rows ≡ old.rows
   pub inks : new.inks ≡ old.inks
 
--- a row of so many dots, packed
+-- a packed row of `width` dots
 pub record IsPackedRow (width : ℕ) (row : List ℕ) : Type 0 where
   pub dots : List Bool
   pub width_is : length dots ≡ width
   pub is : row ≡ packed dots
 
--- An ink gets a dot in row y at column x, and all others stay.
+-- The dot of an ink in row y at column x is on, and all others are unchanged.
 pub record TurnsOn (old new : DotTable) (i y x : ℕ) : Type 0 where
   pub size : HasSizeOf old new
   pub on : dot new i y x ≡ true
   pub others : (j r c : ℕ) → (j ≢ i) ⊎ ((r ≢ y) ⊎ (c ≢ x)) → r < old.rows → dot new j r c ≡ dot old j r c
 
--- A row of an ink gets the dots of a packed row, and all other rows stay.
+-- Row y of an ink has the dots of a packed row, and all other rows are unchanged.
 pub record PutsRow (old new : DotTable) (i y : ℕ) (bytes : List ℕ) : Type 0 where
   pub size : HasSizeOf old new
   pub row : (dots : List Bool) → length dots ≡ old.width → bytes ≡ packed dots → (x : ℕ) → dot new i y x ≡ at dots x
@@ -74,13 +74,13 @@ amount_row t ink y = row_at t.width t.bytes (ink * t.rows + y)
 unfoldable pub amount : AmountTable → ℕ → ℕ → ℕ → ℕ
 amount t ink y x = slice_index (amount_row t ink y) x
 
--- the two tables have one size
+-- both tables have the same size
 pub record HasSizeAs (old new : AmountTable) : Type 0 where
   pub width : new.width ≡ old.width
   pub rows : new.rows ≡ old.rows
   pub inks : new.inks ≡ old.inks
 
--- Amounts of an ink in row y are set from column x on, and all others stay.
+-- Amounts of an ink in row y are set from column x on, and all others are unchanged.
 pub record Sets (old new : AmountTable) (i y x : ℕ) (amounts : List ℕ) : Type 0 where
   pub size : HasSizeAs old new
   pub part : (k : ℕ) → k < length amounts → amount new i y (x + k) ≡ slice_index amounts k
@@ -89,7 +89,7 @@ pub record Sets (old new : AmountTable) (i y x : ℕ) (amounts : List ℕ) : Typ
 
 -- ---- sizes
 
--- The tables that are made: a row of 8,191 columns, 15,840 rows and four inks at most.
+-- The sizes that `make` takes: at most 8,191 columns, 15,840 rows and four inks.
 pub record IsSize (width rows inks : ℕ) : Type 0 where
   pub some_columns : 1 ≤ width
   pub most_columns : width ≤ most_columns

@@ -1,4 +1,4 @@
--- What stands in the dots of a tile.
+-- The invariant of a tile's dots.
 use Rattle.std.specs.Prelude.{ℕ, ◌≤◌, List, length}
 use Rattle.dot_planes.specs.declared.tiles.TileBits.TheInside.{Inside}
 

@@ -1,17 +1,19 @@
-//! Packed rows, at any column of another.
+//! Packed rows laid over other packed rows, from any column on.
 ghost use Rattle.dot_planes.specs.Laying.{has_dot as has_dot_of, is_in_bytes, laid_dot};
 ghost use Rattle.dot_planes.specs.Tables.{row_dot, row_len};
 ghost use Rattle.escp2_definitions.specs.Machine.{bit_at};
 ghost use Rattle.pwg_definitions.specs.Limits.{most_columns};
 ghost use Rattle.std.specs.List.{list_any};
-ghost use Rattle.std.specs.Prelude.{length, nat_le, nat_lt, slice_index, true, ℕ, ◌&&◌, ◌*◌, ◌+◌, ◌-◌, ◌/◌, ◌<◌, ◌||◌, ◌≡◌, ◌≤◌};
+ghost use Rattle.std.specs.Prelude.{length, nat_le, nat_lt, slice_index, true, ℕ, ◌&&◌, ◌*◌, ◌+◌};
+ghost use Rattle.std.specs.Prelude.{◌-◌, ◌/◌, ◌<◌, ◌||◌, ◌≡◌, ◌≤◌};
 ghost use Rattle.weave_definitions.specs.Weave.{count_from};
 
 fn are_bytes(bytes: &[u8])
     ensures { (k : ℕ) → slice_index bytes.now k < 256 }
 {}
 
-// The dots of a byte, so many places further to the left: those that leave it, at the end of a byte, and those that stay.
+// The dots of a byte, moved `by` places to the left: `left` are those that leave it, at the end of a byte, and `stay`
+// those that stay.
 #[inline(always)]
 fn moved(byte: u8, by: usize) -> (u8, u8)
     requires { by ≤ 8 }
@@ -22,7 +24,7 @@ fn moved(byte: u8, by: usize) -> (u8, u8)
     ((wide >> 8) as u8, (wide & 255) as u8)
 }
 
-// Eight dots of a row, from a place in one of its bytes on. Another byte follows.
+// Eight dots of a row from bit `by` of byte i on. Byte i + 1 exists.
 #[inline(always)]
 fn eight_from(bytes: &[u8], i: usize, by: usize) -> u8
     requires by { by ≤ 8 }
@@ -32,7 +34,7 @@ fn eight_from(bytes: &[u8], i: usize, by: usize) -> u8
     moved(bytes[i], by).1 | moved(bytes[i + 1], by).0
 }
 
-// The eight dots of a row from column x on, none behind its end.
+// The eight dots of a row from column x on; past the row's end there is no dot.
 #[inline(always)]
 fn window(bytes: &[u8], x: usize) -> u8
     requires { x / 8 < length bytes.now }
@@ -47,7 +49,7 @@ fn window(bytes: &[u8], x: usize) -> u8
     moved(bytes[place], x % 8).1 | moved(next, x % 8).0
 }
 
-// Eight dots of a row of so many. Bits behind these are none.
+// The dots of byte i of a row that has `dots` dots. Bits past the last dot are cleared.
 #[inline(always)]
 fn row_part(row: &[u8], dots: usize, i: usize) -> u8
     requires i { i < length row.now }
@@ -62,7 +64,7 @@ fn row_part(row: &[u8], dots: usize, i: usize) -> u8
     }
 }
 
-// The same of any byte, also of one that the row has not.
+// The same for any byte; a byte past the row's end has no dots.
 #[inline]
 fn part_or_none(row: &[u8], dots: usize, i: usize) -> u8
     requires { length row.now ≡ row_len dots }
@@ -75,7 +77,7 @@ fn part_or_none(row: &[u8], dots: usize, i: usize) -> u8
     }
 }
 
-// Byte i of a row of so many dots that begins within byte 0, behind so many others.
+// Byte i of a row of `dots` dots whose first dot is bit `before` of byte 0.
 #[inline]
 fn laid_byte(row: &[u8], dots: usize, before: usize, i: usize) -> u8
     requires before { before < 8 }
@@ -91,14 +93,16 @@ fn laid_byte(row: &[u8], dots: usize, before: usize, i: usize) -> u8
     moved(left, 8 - before).1 | moved(here, 8 - before).0
 }
 
-// Turns on the dots of a row that come to stand in some bytes of another, counted from that of column x.
+// Turns on those dots of a row, laid from column x on, that fall into bytes `from` to `to` - 1, counted from the byte
+// of column x.
 fn lay_part(over: &mut [u8], x: usize, row: &[u8], dots: usize, from: usize, to: usize)
     requires inside { x + dots ≤ 8 * length over.old }
     requires small { x + dots ≤ most_columns }
     requires len { length row.now ≡ row_len dots }
     requires order { from ≤ to }
     requires most { to ≤ length row.now + 1 }
-    ensures dots { (c : ℕ) → row_dot over.new c ≡ (row_dot over.old c || is_in_bytes (x / 8 + from) (x / 8 + to) c && laid_dot row.now dots x c) }
+    ensures dots { (c : ℕ) → row_dot over.new c
+        ≡ (row_dot over.old c || is_in_bytes (x / 8 + from) (x / 8 + to) c && laid_dot row.now dots x c) }
     ensures len { length over.new ≡ length over.old }
 {
     let place = x / 8;
@@ -109,14 +113,15 @@ fn lay_part(over: &mut [u8], x: usize, row: &[u8], dots: usize, from: usize, to:
     }
 }
 
-// The same for so many bytes behind the first one, each with eight dots of the row. None waits for another, so that
-// many are laid at once.
+// The same for the `many` bytes after the first one, each of which takes eight dots of the row. The steps are
+// independent, so that the compiler can vectorise them.
 fn lay_whole(over: &mut [u8], x: usize, row: &[u8], dots: usize, many: usize)
     requires inside { x + dots ≤ 8 * length over.old }
     requires small { x + dots ≤ most_columns }
     requires len { length row.now ≡ row_len dots }
     requires whole { 8 * many ≤ dots - 8 }
-    ensures dots { (c : ℕ) → row_dot over.new c ≡ (row_dot over.old c || is_in_bytes (x / 8 + 1) (x / 8 + 1 + many) c && laid_dot row.now dots x c) }
+    ensures dots { (c : ℕ) → row_dot over.new c
+        ≡ (row_dot over.old c || is_in_bytes (x / 8 + 1) (x / 8 + 1 + many) c && laid_dot row.now dots x c) }
     ensures len { length over.new ≡ length over.old }
 {
     let next = x / 8 + 1;
@@ -126,7 +131,7 @@ fn lay_whole(over: &mut [u8], x: usize, row: &[u8], dots: usize, many: usize)
     }
 }
 
-/// Turns on dots of a row, the first ones of another from column x on.
+/// Turns on the first `dots` dots of a packed row in another, from column x on.
 pub(crate) fn lay_row(over: &mut [u8], x: usize, row: &[u8], dots: usize)
     requires inside { x + dots ≤ 8 * length over.old }
     requires small { x + dots ≤ most_columns }
@@ -142,7 +147,7 @@ pub(crate) fn lay_row(over: &mut [u8], x: usize, row: &[u8], dots: usize)
     are_bytes(over);
 }
 
-// Whether one of the dots of a row's first bytes, which are whole, is on in both.
+// Whether one of the first 8 * `many` dots of a row is on in both, with the row's first dot at column x of the other.
 fn bytes_meet(other: &[u8], x: usize, row: &[u8], many: usize) -> bool
     requires inside { x + 8 * many < 8 * length other.now }
     requires small { x + 8 * many ≤ most_columns }
@@ -158,7 +163,7 @@ fn bytes_meet(other: &[u8], x: usize, row: &[u8], many: usize) -> bool
     both != 0
 }
 
-/// Whether one of the first dots of a row is on in both, with the row's first at column x of the other.
+/// Whether one of the first `dots` dots of a row is on in both, with the row's first dot at column x of the other.
 pub(crate) fn row_meets(other: &[u8], x: usize, row: &[u8], dots: usize) -> bool
     requires inside { x + dots ≤ 8 * length other.now }
     requires small { x + dots ≤ most_columns }
@@ -174,7 +179,7 @@ pub(crate) fn row_meets(other: &[u8], x: usize, row: &[u8], dots: usize) -> bool
     row_part(row, dots, last) & window(other, x + 8 * last) != 0
 }
 
-/// Whether one of the first dots of a packed row is on.
+/// Whether one of the first `dots` dots of a packed row is on.
 pub fn has_dot(row: &[u8], dots: usize) -> bool
     requires { length row.now ≡ row_len dots }
     ensures { result ≡ has_dot_of row.now dots }

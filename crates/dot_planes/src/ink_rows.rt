@@ -9,8 +9,7 @@ use std::marker::Model;
 use tile_shape::Shape;
 use weave_base::Memory;
 
-/// Amounts of inks over rows, 0 to 255, ink by ink in the order of the printer's set. Contracts see a table of
-/// amounts.
+/// Amounts of inks, 0 to 255, ink by ink in the order of the printer's set. Contracts see a table of amounts.
 #[derive(Drop)]
 pub struct InkRows {
     width: u32,
@@ -32,7 +31,7 @@ impl Model for InkRows {
 }
 
 impl InkRows {
-    /// Rows of amount 0: 1 to 8,191 columns, 1 to 15,840 rows, 1 to 4 inks.
+    /// Amounts of 0: 1 to 8,191 columns, 1 to 15,840 rows, 1 to 4 inks.
     pub fn make(alloc: Global, width: u32, rows: u32, inks: u8) -> Result<InkRows, Memory>
         requires { IsSize width rows inks }
         ensures width { IfOk result (λ t. t.width ≡ width) }
@@ -52,7 +51,7 @@ impl InkRows {
         }
     }
 
-    /// Keeps room for fewer rows. What amounts they have then is not said.
+    /// Leaves room for fewer rows. The contract does not say what amounts they have then.
     pub fn shorten(&mut self, rows: u32)
         requires some { 1 ≤ rows }
         requires most { rows ≤ self.old.rows }
@@ -90,7 +89,7 @@ impl InkRows {
         }
     }
 
-    /// How many inks there are.
+    /// The number of inks.
     pub fn inks(&self) -> u8
         ensures { result ≡ self.now.inks }
     {
@@ -119,7 +118,7 @@ impl InkRows {
         self.row(ink, y)[x as usize]
     }
 
-    /// Sets the amount of an ink in row y at column x. All others stay.
+    /// Sets the amount of an ink in row y at column x. All others are unchanged.
     pub fn set(&mut self, ink: u8, x: u32, y: u32, a: u8)
         requires ink { ink < self.old.inks }
         requires x { x < self.old.width }
@@ -129,7 +128,7 @@ impl InkRows {
         self.put_part(ink, x, y, &[a]);
     }
 
-    /// Sets the amounts of an ink in row y from column x on. All others stay.
+    /// Sets the amounts of an ink in row y from column x on. All others are unchanged.
     pub fn put_part(&mut self, ink: u8, x: u32, y: u32, part: &[u8])
         requires ink { ink < self.old.inks }
         requires y { y < self.old.rows }

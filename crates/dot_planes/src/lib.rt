@@ -1,4 +1,15 @@
 //! Tables over the window of a page: the dots of each ink in packed planes, and the amounts of each ink.
+//!
+//! `InkRows` holds amounts and `Planes` dots, ink by ink and row by row. Contracts see tables (`AmountTable`,
+//! `DotTable`), whose values `amount` and `dot` give. A plane is packed: eight dots a byte, the first in the highest
+//! bit; each row begins with a byte of its own, and its spare bits are 0.
+//!
+//! Each `make` gives a table without dots or amounts, or answers `Memory`; no other call takes memory. Each call that
+//! sets dots or amounts says what it sets and that everything else is unchanged: `turn_on` one dot, `put_row` a row,
+//! `lay` the first dots of a row from any column on, `put_tile` the pixels of a tile in a slab, `put_part` a part of a
+//! row of amounts.
+//!
+//! `TileBits` holds the dots of one tile, 256 bytes an ink.
 #![tactic(auto)]
 
 mod bit_rows;

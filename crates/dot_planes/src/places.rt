@@ -1,9 +1,9 @@
-//! Where the rows of inks stand, one after another.
+//! Where the rows of inks begin in a table's bytes.
 ghost use Rattle.dot_planes.specs.Tables.{row_at};
 ghost use Rattle.pwg_definitions.specs.Limits.{most_columns, most_rows};
 ghost use Rattle.std.specs.Prelude.{length, slice_index, ◌*◌, ◌+◌, ◌<◌, ◌≡◌, ◌≤◌, ℕ};
 
-/// The place of the first byte of row y of an ink, in a table of so many inks with so many rows of `len` bytes each.
+/// The index of the first byte of row y of an ink, in a table of `inks` inks with `rows` rows of `len` bytes each.
 #[inline]
 pub(crate) fn row_start(inks: u8, rows: u32, len: usize, ink: u8, y: u32) -> usize
     requires inks { inks ≤ 4 }
@@ -17,7 +17,7 @@ pub(crate) fn row_start(inks: u8, rows: u32, len: usize, ink: u8, y: u32) -> usi
     (usize::from(ink) * rows as usize + y as usize) * len
 }
 
-/// The row of `len` bytes that begins at a place.
+/// The row of `len` bytes that begins at an index.
 #[inline]
 pub(crate) fn row_of(bytes: &[u8], len: usize, start: usize) -> &[u8]
     requires { start + len ≤ length bytes.now }

@@ -19,7 +19,7 @@ use weave_base::Memory;
 /// The dots of a window, ink by ink in the order of the printer's set. Contracts see a table of dots.
 ///
 /// A plane is packed: eight dots a byte, the first in its highest bit, rows of (width + 7) / 8 bytes one after
-/// another, and no dot behind a row's end.
+/// another, and spare bits of 0.
 #[derive(Drop)]
 pub struct Planes {
     width: u32,
@@ -41,7 +41,7 @@ impl Model for Planes {
 }
 
 impl Planes {
-    /// Planes of no dots: 1 to 8,191 columns, 1 to 15,840 rows, 1 to 4 inks.
+    /// Planes without dots: 1 to 8,191 columns, 1 to 15,840 rows, 1 to 4 inks.
     pub fn make(alloc: Global, width: u32, rows: u32, inks: u8) -> Result<Planes, Memory>
         requires { IsSize width rows inks }
         ensures width { IfOk result (λ t. t.width ≡ width) }
@@ -75,7 +75,7 @@ impl Planes {
         self.rows
     }
 
-    /// How many inks there are.
+    /// The number of inks.
     pub fn inks(&self) -> u8
         ensures { result ≡ self.now.inks }
     {
@@ -104,7 +104,7 @@ impl Planes {
         self.bytes[start + x as usize / 8] >> (7 - x % 8) & 1 == 1
     }
 
-    /// Gives an ink a dot in row y at column x, where it may have had one. All other dots stay.
+    /// Turns on the dot of an ink in row y at column x, which may be on already. All other dots are unchanged.
     pub fn turn_on(&mut self, ink: u8, x: u32, y: u32)
         requires ink { ink < self.old.inks }
         requires x { x < self.old.width }
@@ -115,8 +115,8 @@ impl Planes {
         self.bytes[start + x as usize / 8] |= 1 << (7 - x % 8);
     }
 
-    // Gives an ink the dots of row r of a tile, eight bytes of them, in a slab that begins at row `at`. All other dots
-    // stay.
+    // Sets the dots of row r of a tile, eight bytes, in a slab that begins at row `at`, on or off. All other dots are
+    // unchanged.
     pub(crate) fn put_tile_row(&mut self, ink: u8, at: u32, place: Place, r: u32, dots: &[u8])
         requires ink { ink < self.old.inks }
         requires row { at + (32 * place.j + r) < self.old.rows }
@@ -131,7 +131,7 @@ impl Planes {
         put_dots(row, self.width as usize, place.c as usize, r as usize, dots);
     }
 
-    /// Gives row y of an ink these dots, packed. All other rows stay.
+    /// Sets row y of an ink to these dots, packed. All other rows are unchanged.
     pub fn put_row(&mut self, ink: u8, y: u32, row: &[u8])
         requires ink { ink < self.old.inks }
         requires y { y < self.old.rows }
@@ -143,10 +143,11 @@ impl Planes {
         self.bytes[start..start + len].copy_from_slice(row);
     }
 
-    /// How many dots an ink has.
+    /// The number of dots of an ink.
     pub fn count(&self, ink: u8) -> u64
         requires { ink < self.now.inks }
-        ensures { result ≡ sum_by (λ y. count_by (λ x. dot self.now ink y x) (count_from 0 self.now.width)) (count_from 0 self.now.rows) }
+        ensures { result ≡ sum_by
+            (λ y. count_by (λ x. dot self.now ink y x) (count_from 0 self.now.width)) (count_from 0 self.now.rows) }
     {
         let mut dots = 0u64;
         for y in 0..self.rows {
@@ -166,7 +167,7 @@ fn row_len(width: u32) -> usize
     (width as usize + 7) / 8
 }
 
-// How many dots a packed row has.
+// The number of dots in a packed row.
 #[inline]
 fn count_row(row: &[u8]) -> u32
     requires { length row.now ≤ 1024 }

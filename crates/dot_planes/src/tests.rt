@@ -1,4 +1,4 @@
-//! Dots and amounts by hand.
+//! Dots and amounts worked by hand.
 ghost use Rattle.std.specs.Prelude.{length, ◌<◌, ◌≡◌};
 
 use super::{InkRows, Planes, TileBits, TileDots, has_dot};
@@ -6,7 +6,7 @@ use tile_shape::Place;
 use weave_base::Memory;
 
 #[test]
-fn dots_stand_from_the_highest_bit_on(rt: HostRuntime) {
+fn dots_begin_at_the_highest_bit(rt: HostRuntime) {
     let Ok(mut planes) = Planes::make(rt.alloc(), 10, 2, 3) else {
         assert!(rt; false);
         return;
@@ -39,7 +39,7 @@ fn amounts_are_kept_ink_by_ink(rt: HostRuntime) {
     assert_eq!(rt; (rows.get(2, 1, 1), rows.get(3, 0, 0)), (5, 0));
 }
 
-// A byte of a tile's dots in the tests, and a dot that the planes have before.
+// A byte of a tile's dots in the tests, and a dot that the planes have before a tile is put.
 fn tile_byte(ink: usize, n: usize) -> u8
     requires ink { ink < 4 }
     requires n { n < 256 }
@@ -55,7 +55,7 @@ fn had_dot(ink: usize, x: u32, y: u32) -> bool
     (7 * x + 3 * y + ink as u32) % 5 == 0
 }
 
-// The dot of a tile at (x, y) of a slab, by the rule of tiles, or `None` where it is another tile's.
+// The dot of a tile at (x, y) of a slab, from the definition of a tile; `None` where the pixel is another tile's.
 fn tile_dot(place: Place, ink: usize, x: u32, y: u32) -> Option<bool>
     requires ink { ink < 4 }
     requires x { x < 100 }
@@ -71,7 +71,7 @@ fn tile_dot(place: Place, ink: usize, x: u32, y: u32) -> Option<bool>
     Some(byte >> (7 - offset % 8) & 1 == 1)
 }
 
-// Gives an ink of planes of 70 columns and 44 rows the dots of `had_dot`.
+// Sets the dots of `had_dot` in an ink of planes of 70 columns and 44 rows.
 fn fill(planes: &mut Planes, ink: u8)
     requires width { planes.old.width ≡ 70 }
     requires rows { planes.old.rows ≡ 44 }
@@ -101,7 +101,7 @@ fn fill_tile(bits: &mut TileBits, ink: u8)
     }
 }
 
-// Whether rows 5 to 39 have the tile's pixels, and every other dot is as it was.
+// Whether rows 5 to 39 have the tile's pixels, and every other dot is unchanged.
 fn has_tile(planes: &Planes, place: Place, ink: u8) -> bool
     requires width { planes.now.width ≡ 70 }
     requires rows { planes.now.rows ≡ 44 }

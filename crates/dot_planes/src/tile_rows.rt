@@ -1,12 +1,12 @@
-//! A row of a tile's dots, moved to its columns of a packed row.
+//! A row of a tile's dots, put at its columns of a packed row.
 ghost use Rattle.dot_planes.specs.Tables.{row_dot, row_len};
 ghost use Rattle.dot_planes.specs.Tiles.{PutsDots};
 ghost use Rattle.escp2_definitions.specs.Machine.{bit_at};
 ghost use Rattle.pwg_definitions.specs.Limits.{most_columns};
 ghost use Rattle.std.specs.Prelude.{length, slice_index, ℕ, ◌*◌, ◌+◌, ◌-◌, ◌<◌, ◌≡◌, ◌≤◌, ◌⊎◌};
 
-/// Gives a packed row of so many columns the dots of row r of a tile in column c, eight bytes of them, where both have
-/// a pixel. All other dots stay.
+/// Sets the dots of row r of a tile in column c, eight bytes, in a packed row of `width` columns, wherever the tile
+/// has a pixel of the row. All other dots are unchanged.
 pub(crate) fn put_dots(row: &mut [u8], width: usize, c: usize, r: usize, dots: &[u8])
     requires width { width ≤ most_columns }
     requires row { length row.old ≡ row_len width }
@@ -24,7 +24,7 @@ pub(crate) fn put_dots(row: &mut [u8], width: usize, c: usize, r: usize, dots: &
     }
 }
 
-// How many bytes and dots a row leans to the left: its columns begin so far before those of row 0.
+// How many whole bytes, and how many dots more, row r of a tile begins to the left of row 0.
 #[inline]
 fn lean(r: usize) -> (usize, usize)
     requires { r < 32 }
@@ -36,7 +36,7 @@ fn lean(r: usize) -> (usize, usize)
     (r / 4, shift)
 }
 
-// The same where all 64 columns are the row's. They begin inside the first of nine bytes, or behind it.
+// The same where all 64 columns are in the row. They begin inside the first of nine bytes, or right after it.
 fn put_whole(
     row: &mut [u8],
     width: usize,
@@ -62,7 +62,7 @@ fn put_whole(
     }
 }
 
-// The same where columns may be left of the row or behind it.
+// The same where columns may lie left of the row or past its end.
 fn put_cut(row: &mut [u8], width: usize, c: usize, r: usize, skip: usize, shift: usize, dots: &[u8])
     requires width { width ≤ most_columns }
     requires row { length row.old ≡ row_len width }
@@ -74,7 +74,7 @@ fn put_cut(row: &mut [u8], width: usize, c: usize, r: usize, skip: usize, shift:
     ensures dots { PutsDots width c r width dots.now row.old row.new }
     ensures bytes { (k : ℕ) → slice_index row.new k < 256 }
 {
-    // Byte b has the tile's offsets from 8 (b + skip - 8 c) + shift on.
+    // Byte b takes the tile's offsets from 8 (b + skip - 8 c) + shift on.
     let start = (8 * c).saturating_sub(skip + 1);
     let end = (8 * c + 8 - skip).min(row.len());
     for b in start..end {
@@ -82,14 +82,17 @@ fn put_cut(row: &mut [u8], width: usize, c: usize, r: usize, skip: usize, shift:
     }
 }
 
-// A byte of a row whose first dot has the tile's offset 8 n + shift - 8, with the tile's dots before place `most`.
+// A byte of a row whose first dot has the tile's offset 8 n + shift - 8, with the tile's dots at places before
+// `most`.
 #[inline]
 fn put_byte(old: u8, dots: &[u8], n: usize, shift: usize, most: usize) -> u8
     requires dots { length dots.now ≡ 8 }
     requires n { n ≤ 8 }
     requires shift { shift < 8 }
-    ensures pixels { (k offset : ℕ) → k < 8 → k < most → offset < 64 → 8 * n + shift + k ≡ offset + 8 → bit_at result k ≡ row_dot dots.now offset }
-    ensures others { (k : ℕ) → k < 8 → ((offset : ℕ) → k < most → offset < 64 → ¬ (8 * n + shift + k ≡ offset + 8)) → bit_at result k ≡ bit_at old k }
+    ensures pixels { (k offset : ℕ) → k < 8
+        → k < most → offset < 64 → 8 * n + shift + k ≡ offset + 8 → bit_at result k ≡ row_dot dots.now offset }
+    ensures others { (k : ℕ) → k < 8 → ((offset : ℕ) → k < most → offset < 64 → ¬ (8 * n + shift + k ≡ offset + 8))
+        → bit_at result k ≡ bit_at old k }
 {
     let left = if n > 0 { dots[n - 1] } else { 0 };
     let right = if n < 8 { dots[n] } else { 0 };
@@ -98,7 +101,7 @@ fn put_byte(old: u8, dots: &[u8], n: usize, shift: usize, most: usize) -> u8
     splice(old, eight_from(left, right, shift), from, to.min(most))
 }
 
-// The eight dots from a place on in two bytes.
+// The eight dots of two bytes from a place on.
 #[inline]
 fn eight_from(left: u8, right: u8, shift: usize) -> u8
     requires { shift < 8 }
@@ -109,7 +112,7 @@ fn eight_from(left: u8, right: u8, shift: usize) -> u8
     ((both >> (8 - shift)) % 256) as u8
 }
 
-// A byte with the dots from one place to before another taken from a second byte.
+// A byte with the dots at `from` to `to` - 1 taken from a second byte.
 #[inline]
 fn splice(old: u8, new: u8, from: usize, to: usize) -> u8
     requires from { from ≤ 8 }

@@ -19,11 +19,11 @@ pub struct TileDots {
     pub bits: TileBits,
 }
 
-/// Room for the dots of a tile, ink by ink. Contracts see a list of 256 bytes an ink: 32 rows of 64 dots, eight a byte,
-/// the first in the highest bit. So the dot at an offset of a row r is bit 64 r + offset. A place without a pixel has a
-/// bit too, which means nothing.
+/// The dots of a tile, ink by ink. Contracts see a list of 256 bytes an ink: 32 rows of 64 dots, eight a byte, the
+/// first in the highest bit. The dot at an offset of row r is bit 64 r + offset. A place without a pixel has a bit
+/// too, which means nothing.
 ///
-/// It is cheap to move.
+/// It is cheap to move, since its bytes are on the heap.
 #[derive(Drop)]
 pub struct TileBits {
     inks: Vec<[u8; 256]>,
@@ -41,7 +41,7 @@ impl Model for TileBits {
     ghost invariant = { IsInks };
 }
 
-// The bytes of an ink that a tile has not.
+// The bytes of an ink that a tile does not have.
 const NO_DOTS: [u8; 256] = [0; 256];
 
 impl TileBits {
@@ -58,7 +58,7 @@ impl TileBits {
         }
     }
 
-    /// How many inks there are.
+    /// The number of inks.
     pub fn inks(&self) -> u8
         ensures is { result ≡ length self.now }
         ensures some { 1 ≤ result }
@@ -75,7 +75,7 @@ impl TileBits {
         &self.inks[usize::from(ink)]
     }
 
-    /// The bytes of an ink, to be written. All others stay.
+    /// The bytes of an ink, to be written. The other inks are unchanged.
     pub fn ink_mut(&mut self, ink: u8) -> &mut [u8; 256]
         requires { ink < length self.old }
         ensures* writes_back { sem 𝓛 (LendsInk self.entry ink result) }
@@ -86,8 +86,8 @@ impl TileBits {
 }
 
 impl Planes {
-    /// Sets the pixels of a tile in the slab of `height` rows that begins at row `at`: each is on or off then as the tile
-    /// has it, in every ink of the planes. All other dots stay.
+    /// Sets the pixels of a tile in the slab of `height` rows that begins at row `at`, on or off as the tile has
+    /// them, in every ink of the planes. All other dots are unchanged.
     pub fn put_tile(&mut self, at: u32, height: u32, d: &TileDots)
         requires height { 1 ≤ height }
         requires slab { at + height ≤ self.old.rows }
@@ -104,7 +104,7 @@ impl Planes {
         }
     }
 
-    // Sets the pixels of a tile in one ink. All other dots stay.
+    // Sets the pixels of a tile in one ink. All other dots are unchanged.
     fn put_tile_ink(&mut self, at: u32, height: u32, place: Place, ink: u8, bytes: &[u8; 256])
         requires height { 1 ≤ height }
         requires slab { at + height ≤ self.old.rows }

@@ -133,7 +133,7 @@ job_name job.Cut = codes "Cut"
 job_name (job.Machine fault) = machine_name fault
 job_name job.TooLong = codes "TooLong"
 
--- The line that an answer writes on the error sink; a run that did all writes none.
+-- The error line of an answer; a run that did all its work has none.
 abbrev pub line_of : Answer → List ℕ
 line_of answer.Done = []
 line_of (answer.Usage fault) = codes "usage: word " ++ decimal fault.word ++ codes ": " ++ usage_name fault.cause ++ codes "\n"

@@ -1,5 +1,6 @@
 //! The answers of a run.
-ghost use Rattle.driver_answer.specs.Answers.{check_words, input_name as input_name_of, job_name as job_name_of, profile_words, text_words, usage_name as usage_name_of};
+ghost use Rattle.driver_answer.specs.Answers.{check_words, input_name as input_name_of, job_name as job_name_of};
+ghost use Rattle.driver_answer.specs.Answers.{profile_words, text_words, usage_name as usage_name_of};
 ghost use Rattle.arrayvec.specs.ArrayString.{array_string_len};
 ghost use Rattle.std.specs.Fmt.{decimal};
 ghost use Rattle.std.specs.Prelude.{codes, ◌+◌, ◌++◌, ◌≡◌, ◌≤◌, []};
@@ -13,19 +14,19 @@ use job_words::UsageFault;
 use printer_profile::{ProfileFault, TextCause, key_name};
 use pwg_definitions::InputCause;
 
-/// What a run of the driver came to. Pages and lines are counted from 1; page 0 is the sync word, line 0 a header.
+/// How a run of the driver ended. Pages and lines are counted from 1; page 0 is the sync word, line 0 a header.
 #[derive(Clone, Copy, Debug, PartialEq, Eq)]
 pub enum Answer {
-    /// The command did all.
+    /// The command did all its work.
     Done,
     /// A word is refused.
     Usage(UsageFault),
-    /// The profile is refused: at this line of its text, or at line 0 as a whole.
+    /// The profile is refused at this line of its text; line 0 for the text as a whole.
     Profile {
         line: u32,
         cause: ProfileCause,
     },
-    /// The input is refused here.
+    /// The input is refused at this place.
     Input {
         page: u32,
         line: u32,
@@ -37,7 +38,7 @@ pub enum Answer {
     Write {
         page: u32,
     },
-    /// This page does not fit under the cap of a meter, which has counted `total` dots.
+    /// This page would go past the cap of a meter, which has counted `total` dots.
     OverCap {
         page: u32,
         total: u64,
@@ -73,7 +74,7 @@ fn push_wide(n: u64, out: &mut ArrayString<160>)
     out.push_str(buffer.format(n));
 }
 
-// Appends a check's fault, and the number that it carries.
+// Appends a check's fault and the number that it carries, if any.
 fn push_check(fault: ProfileFault, out: &mut ArrayString<160>)
     requires { array_string_len out.old + 21 ≤ 160 }
     ensures bytes { out.new.bytes ≡ out.old.bytes ++ check_words fault }
@@ -93,7 +94,7 @@ fn push_check(fault: ProfileFault, out: &mut ArrayString<160>)
     }
 }
 
-// Appends a text's fault, and the name of the key that is missing.
+// Appends a text's fault, and the name of the missing key.
 fn push_text(cause: TextCause, out: &mut ArrayString<160>)
     requires { array_string_len out.old + 22 ≤ 160 }
     ensures bytes { out.new.bytes ≡ out.old.bytes ++ text_words cause }
@@ -121,7 +122,8 @@ fn push_profile_cause(cause: ProfileCause, out: &mut ArrayString<160>)
 
 fn push_usage(fault: UsageFault, out: &mut ArrayString<160>)
     requires { array_string_len out.old ≡ 0 }
-    ensures { out.new.bytes ≡ out.old.bytes ++ (codes "usage: word " ++ decimal fault.word ++ codes ": " ++ usage_name_of fault.cause ++ codes "\n") }
+    ensures { out.new.bytes ≡ out.old.bytes
+        ++ (codes "usage: word " ++ decimal fault.word ++ codes ": " ++ usage_name_of fault.cause ++ codes "\n") }
 {
     out.push_str("usage: word ");
     push_number(fault.word, out);
@@ -132,7 +134,8 @@ fn push_usage(fault: UsageFault, out: &mut ArrayString<160>)
 
 fn push_profile(line: u32, cause: ProfileCause, out: &mut ArrayString<160>)
     requires { array_string_len out.old ≡ 0 }
-    ensures { out.new.bytes ≡ out.old.bytes ++ (codes "profile: line " ++ decimal line ++ codes ": " ++ profile_words cause ++ codes "\n") }
+    ensures { out.new.bytes ≡ out.old.bytes
+        ++ (codes "profile: line " ++ decimal line ++ codes ": " ++ profile_words cause ++ codes "\n") }
 {
     out.push_str("profile: line ");
     push_number(line, out);
@@ -143,7 +146,8 @@ fn push_profile(line: u32, cause: ProfileCause, out: &mut ArrayString<160>)
 
 fn push_input(page: u32, line: u32, cause: InputCause, out: &mut ArrayString<160>)
     requires { array_string_len out.old ≡ 0 }
-    ensures { out.new.bytes ≡ out.old.bytes ++ (codes "input: page " ++ decimal page ++ codes " line " ++ decimal line ++ codes ": " ++ input_name_of cause ++ codes "\n") }
+    ensures { out.new.bytes ≡ out.old.bytes ++ (codes "input: page "
+        ++ decimal page ++ codes " line " ++ decimal line ++ codes ": " ++ input_name_of cause ++ codes "\n") }
 {
     out.push_str("input: page ");
     push_number(page, out);
@@ -165,7 +169,8 @@ fn push_write(page: u32, out: &mut ArrayString<160>)
 
 fn push_over_cap(page: u32, total: u64, dots: u64, cap: u64, out: &mut ArrayString<160>)
     requires { array_string_len out.old ≡ 0 }
-    ensures { out.new.bytes ≡ out.old.bytes ++ (codes "over cap: page " ++ decimal page ++ codes ": total " ++ decimal total ++ codes ", page " ++ decimal dots ++ codes ", cap " ++ decimal cap ++ codes "\n") }
+    ensures { out.new.bytes ≡ out.old.bytes ++ (codes "over cap: page " ++ decimal page ++ codes ": total "
+        ++ decimal total ++ codes ", page " ++ decimal dots ++ codes ", cap " ++ decimal cap ++ codes "\n") }
 {
     out.push_str("over cap: page ");
     push_number(page, out);
@@ -180,7 +185,8 @@ fn push_over_cap(page: u32, total: u64, dots: u64, cap: u64, out: &mut ArrayStri
 
 fn push_job(offset: u64, cause: JobStop, out: &mut ArrayString<160>)
     requires { array_string_len out.old ≡ 0 }
-    ensures { out.new.bytes ≡ out.old.bytes ++ (codes "job: offset " ++ decimal offset ++ codes ": " ++ job_name_of cause ++ codes "\n") }
+    ensures { out.new.bytes ≡ out.old.bytes
+        ++ (codes "job: offset " ++ decimal offset ++ codes ": " ++ job_name_of cause ++ codes "\n") }
 {
     out.push_str("job: offset ");
     push_wide(offset, out);
@@ -209,7 +215,7 @@ impl Answer {
         }
     }
 
-    /// Writes the answer's error line into an empty text: nothing for `Done`, else one line with its end.
+    /// Writes the answer's error line, with its line end, into an empty text; nothing for `Done`.
     pub fn text(&self, out: &mut ArrayString<160>)
         requires { out.old.bytes ≡ [] }
         ensures { out.new.bytes ≡ line_of self.now }

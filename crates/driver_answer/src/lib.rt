@@ -1,5 +1,8 @@
-//! What a run of the driver answers: its answers, and the exit status and the error line of each. `driver_core` re-exports
-//! the types.
+//! How a run of the driver can end: its answers, and the exit status and the error line of each. `driver_core`
+//! re-exports the types.
+//!
+//! `status` is 0 to 8 (`status_of`), and `text` is exactly the line of the answer (`line_of`), of at most 160 bytes.
+//! Neither takes memory.
 #![tactic(auto)]
 
 mod answer;

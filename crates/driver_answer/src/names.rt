@@ -1,5 +1,9 @@
 //! The names of causes, as the error line prints them.
-ghost use Rattle.driver_answer.specs.Answers.{check_name as check_name_of, header_name as header_name_of, input_name as input_name_of, job_name as job_name_of, line_name as line_name_of, machine_name as machine_name_of, reader_name as reader_name_of, text_name as text_name_of, usage_name as usage_name_of};
+ghost use Rattle.driver_answer.specs.Answers.{check_name as check_name_of, header_name as header_name_of};
+ghost use Rattle.driver_answer.specs.Answers.{input_name as input_name_of, job_name as job_name_of};
+ghost use Rattle.driver_answer.specs.Answers.{line_name as line_name_of, machine_name as machine_name_of};
+ghost use Rattle.driver_answer.specs.Answers.{reader_name as reader_name_of, text_name as text_name_of};
+ghost use Rattle.driver_answer.specs.Answers.{usage_name as usage_name_of};
 ghost use Rattle.std.specs.Prelude.{◌≡◌, ◌≤◌, length};
 
 use escp2_definitions::{EmuFault, JobCause, JobStop};

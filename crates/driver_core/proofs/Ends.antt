@@ -1,5 +1,6 @@
--- What printing comes to, at each of its ends.
-use Rattle.std.proofs.Common.{◌≡◌, ℕ, ◌+◌, ◌-◌, ◌*◌, inl, inr, ◌≤◌, List, [], ◌∷◌, ◌++◌, length, Option, None, Some, IfNone, IfSome, Err, IsErrOf, refl, sym, ◌∙◌, ap, subst, arith, append_assoc, append-nil}
+-- The outcome of printing, at each of its ends.
+use Rattle.std.proofs.Common.{◌≡◌, ℕ, ◌+◌, ◌-◌, ◌*◌, inl, inr, ◌≤◌, List, [], ◌∷◌, ◌++◌, length, Option, None, Some, IfNone, IfSome}
+use Rattle.std.proofs.Common.{Err, IsErrOf, refl, sym, ◌∙◌, ap, subst, arith, append_assoc, append-nil}
 use Rattle.std.specs.List.{AllByRecursion}
 use Rattle.std.specs.Io.KnownBytes.{Appends, Consumes, IsAtEnd, Keeps}
 use Rattle.std.proofs.KnownBytes.{Appends-nil, Consumes-nil, Consumes-trans}
@@ -42,13 +43,15 @@ use Rattle.driver_core.proofs.StreamSteps.{StreamRead, StreamSoFar, with_pages, 
 
 -- ---- pages are pages
 
-page-is : (want : Wanted) (bytes : List ℕ) (page : Page) → ((rest : List ℕ) → page_at want (bytes ++ rest) ≡ Whole page rest) → IsPage want page
+page-is : (want : Wanted) (bytes : List ℕ) (page : Page)
+    → ((rest : List ℕ) → page_at want (bytes ++ rest) ≡ Whole page rest) → IsPage want page
 page-is want bytes page is =
     let P : List Page → Type 0 = AllByRecursion (IsPage want) in
     (subst P (ap (λ (s : Stream). s.pages) (pages-first want bytes page is)) (stream-pages want (sync_word ++ (bytes ++ [])))).0
 
 -- a page that was read is one that the printer takes
-pub page-wanted : (want : Wanted) (bytes : List ℕ) (page : Page) (form : PageForm) → form ≡ page.form → ((rest : List ℕ) → page_at want (bytes ++ rest) ≡ Whole page rest) → IsWanted want form
+pub page-wanted : (want : Wanted) (bytes : List ℕ) (page : Page) (form : PageForm)
+    → form ≡ page.form → ((rest : List ℕ) → page_at want (bytes ++ rest) ≡ Whole page rest) → IsWanted want form
 page-wanted want bytes page form e is = subst (IsWanted want) (sym e) (page-is want bytes page is).wanted
 
 -- what holds where there is none
@@ -66,19 +69,22 @@ left_end : (left : Option (List ℕ)) (unread : List ℕ) → IsAtEnd (text_behi
 left_end None unread end = tt
 left_end (Some ys) unread end = nil_behind unread ys end
 
--- bytes that were used, and those that are in hand, were taken
-text_taken : (before left : Option (List ℕ)) (unread bytes : List ℕ) → Consumes before (text_behind unread left) bytes → Consumes before left (bytes ++ unread)
+-- bytes that were used and bytes that are unread were taken
+text_taken : (before left : Option (List ℕ)) (unread bytes : List ℕ)
+    → Consumes before (text_behind unread left) bytes → Consumes before left (bytes ++ unread)
 text_taken None left unread bytes uses = tt
 text_taken (Some xs) None unread bytes uses = absurd uses
 text_taken (Some xs) (Some ys) unread bytes uses = uses ∙ sym (append_assoc bytes unread ys)
 
--- the text ended, and another read found nothing more
-text_ended : (before text left : Option (List ℕ)) (unread bytes : List ℕ) → Consumes before text bytes → IsAtEnd text → UsesSome text (text_behind unread left) → IsAtEnd (text_behind unread left)
+-- the text ended, and another read found no more
+text_ended : (before text left : Option (List ℕ)) (unread bytes : List ℕ) → Consumes before text bytes
+    → IsAtEnd text → UsesSome text (text_behind unread left) → IsAtEnd (text_behind unread left)
     → Consumes before left bytes
 text_ended None text left unread bytes uses end more end' = tt
 text_ended (Some xs) None left unread bytes uses end more end' = absurd uses
 text_ended (Some xs) (Some t) None unread bytes uses end more end' = absurd more.is
-text_ended (Some xs) (Some t) (Some ys) unread bytes uses end more end' = uses ∙ ap (λ bs. bytes ++ bs) (end ∙ sym (nil_behind unread ys end'))
+text_ended (Some xs) (Some t) (Some ys) unread bytes uses end more end' =
+    uses ∙ ap (λ bs. bytes ++ bs) (end ∙ sym (nil_behind unread ys end'))
 
 -- ---- causes
 
@@ -98,13 +104,16 @@ appends_kept (Some x) (Some y) (Some z) bytes grown kept = kept ∙ grown
 
 -- the first pages of what was taken, where the rest of the text is not known
 taken_pages : (p : Printer) (before text left : Option (List ℕ)) (unread bytes : List ℕ) (pages : List Page) (most number : ℕ)
-    → Consumes before text bytes → ((rest : List ℕ) → stream (wanted_by p) (bytes ++ rest) ≡ with_pages pages (pages_from (wanted_by p) most number rest))
+    → Consumes before text bytes → ((rest : List ℕ)
+    → stream (wanted_by p) (bytes ++ rest) ≡ with_pages pages (pages_from (wanted_by p) most number rest))
     → UsesSome text (text_behind unread left) → TakesPages p before left pages
 taken_pages p before text left unread bytes pages most number uses is more = record {
   bytes = (bytes ++ more.bytes) ++ unread;
-  taken = text_taken before left unread (bytes ++ more.bytes) (Consumes-trans before text (text_behind unread left) bytes more.bytes uses more.is);
+  taken = text_taken before left unread
+      (bytes ++ more.bytes) (Consumes-trans before text (text_behind unread left) bytes more.bytes uses more.is);
   others = (pages_from (wanted_by p) most number (more.bytes ++ unread)).pages;
-  are = ap (λ bs. (stream (wanted_by p) bs).pages) (append_assoc bytes more.bytes unread) ∙ ap (λ (s : Stream). s.pages) (is (more.bytes ++ unread));
+  are = ap (λ bs. (stream (wanted_by p) bs).pages) (append_assoc bytes more.bytes unread)
+      ∙ ap (λ (s : Stream). s.pages) (is (more.bytes ++ unread));
 }
 
 -- some pages were printed, and these were counted
@@ -112,8 +121,10 @@ abbrev PrintsCounted : Printer → Table → Outside → Outside → Meters → 
 PrintsCounted p k input out meters = (some : PrintsSome p k input out) × CountsPages p k meters some.pages
 
 -- no page was printed
-none_printed : (p : Printer) (k : Table) (before left held : Option (List ℕ)) (accounts : List Account) (f0 f1 g0 g1 : ℕ) → UsesSome before left
-    → PrintsCounted p k (record { before = before; now = left; faults_before = f0; faults_now = f1 }) (record { before = held; now = held; faults_before = g0; faults_now = g1 })
+none_printed : (p : Printer) (k : Table)
+    (before left held : Option (List ℕ)) (accounts : List Account) (f0 f1 g0 g1 : ℕ) → UsesSome before left
+    → PrintsCounted p k (record { before = before; now = left; faults_before = f0; faults_now = f1 })
+    (record { before = held; now = held; faults_before = g0; faults_now = g1 })
     (record { before = accounts; now = accounts })
 none_printed p k before left held accounts f0 f1 g0 g1 more = (
   record {
@@ -125,9 +136,12 @@ none_printed p k before left held accounts f0 f1 g0 g1 more = (
 )
 
 -- the pages that were read so far were printed, and no other
-some_printed : (p : Printer) (k : Table) (before left left' held now : Option (List ℕ)) (meters : Meters) (old new : PageReader) (number f0 f2 g0 g1 : ℕ)
-    → (so_far : StreamSoFar p k before left held now old number) → CountsPages p k meters so_far.done → UsesSome (text_of old left) (text_of new left')
-    → PrintsCounted p k (record { before = before; now = left'; faults_before = f0; faults_now = f2 }) (record { before = held; now = now; faults_before = g0; faults_now = g1 }) meters
+some_printed : (p : Printer) (k : Table)
+    (before left left' held now : Option (List ℕ)) (meters : Meters) (old new : PageReader) (number f0 f2 g0 g1 : ℕ)
+    → (so_far : StreamSoFar p k before left held now old number)
+    → CountsPages p k meters so_far.done → UsesSome (text_of old left) (text_of new left')
+    → PrintsCounted p k (record { before = before; now = left'; faults_before = f0; faults_now = f2 })
+    (record { before = held; now = now; faults_before = g0; faults_now = g1 }) meters
 some_printed p k before left left' held now meters old new number f0 f2 g0 g1 so_far counts more = (
   record {
     pages = so_far.done;
@@ -137,20 +151,25 @@ some_printed p k before left left' held now meters old new number f0 f2 g0 g1 so
   counts,
 )
 
--- want of memory before the next page is counted
-full_before : (p : Printer) (k : Table) (input out : Outside) (meters : Meters) → PrintsCounted p k input out meters → PrintStopped p k input out meters print.Memory
+-- memory runs out before the next page is counted
+full_before : (p : Printer) (k : Table) (input out : Outside) (meters : Meters)
+    → PrintsCounted p k input out meters → PrintStopped p k input out meters print.Memory
 full_before p k input out meters printed = (printed.0, inl printed.1)
 
 -- the stream does not begin as one
 pub no_sync : (p : Printer) (k : Table) (before left held : Option (List ℕ)) (accounts : List Account) (f0 f1 g0 g1 : ℕ) (why : StreamStop)
-    → OnInput {T = PageReader} (Err why) (λ page line cause. IfSome before (λ bytes. (want : Wanted) → stream want bytes ≡ record { pages = []; end = Fault page line cause }))
+    → OnInput {T = PageReader} (Err why) (λ page line cause. IfSome before (λ bytes. (want : Wanted)
+    → stream want bytes ≡ record { pages = []; end = Fault page line cause }))
     → (IsErrOf {T = PageReader} (Err why) stop.Read → Rose f0 f1) → UsesSome before left
-    → PrintStopped p k (record { before = before; now = left; faults_before = f0; faults_now = f1 }) (record { before = held; now = held; faults_before = g0; faults_now = g1 })
+    → PrintStopped p k (record { before = before; now = left; faults_before = f0; faults_now = f1 })
+    (record { before = held; now = held; faults_before = g0; faults_now = g1 })
     (record { before = accounts; now = accounts }) (stream_stop why)
 no_sync p k before left held accounts f0 f1 g0 g1 (stop.Input page line cause) bad cause_is more =
     (record { pages = []; told = some before bad; writes = Appends-nil held }, none_counted p k accounts)
   where
-    some : (o : Option (List ℕ)) → IfSome o (λ bytes. (want : Wanted) → stream want bytes ≡ record { pages = []; end = Fault page line cause }) → IsStream p o [] (Fault page line cause)
+    some : (o : Option (List ℕ))
+        → IfSome o (λ bytes. (want : Wanted) → stream want bytes ≡ record { pages = []; end = Fault page line cause })
+        → IsStream p o [] (Fault page line cause)
     some None h = tt
     some (Some bytes) h = h (wanted_by p)
 no_sync p k before left held accounts f0 f1 g0 g1 stop.Read bad cause_is more =
@@ -158,15 +177,20 @@ no_sync p k before left held accounts f0 f1 g0 g1 stop.Read bad cause_is more =
 no_sync p k before left held accounts f0 f1 g0 g1 stop.Memory bad cause_is more =
     full_before p k _ _ _ (none_printed p k before left held accounts f0 f1 g0 g1 more)
 
-pub page_stopped : (T : Type 0) (p : Printer) (k : Table) (before left left' held now : Option (List ℕ)) (meters : Meters) (old new : PageReader) (number f0 f1 f2 g0 g1 : ℕ) (why : StreamStop)
-    → (so_far : StreamSoFar p k before left held now old number) → CountsPages p k meters so_far.done → OnInput {T = T} (Err why) (EndsSo (wanted_by p) old left)
+pub page_stopped : (T : Type 0) (p : Printer) (k : Table) (before left left' held now : Option (List ℕ))
+    (meters : Meters) (old new : PageReader) (number f0 f1 f2 g0 g1 : ℕ) (why : StreamStop)
+    → (so_far : StreamSoFar p k before left held now old number)
+    → CountsPages p k meters so_far.done → OnInput {T = T} (Err why) (EndsSo (wanted_by p) old left)
     → f0 ≤ f1 → (IsErrOf {T = T} (Err why) stop.Read → Rose f1 f2) → UsesSome (text_of old left) (text_of new left')
-    → PrintStopped p k (record { before = before; now = left'; faults_before = f0; faults_now = f2 }) (record { before = held; now = now; faults_before = g0; faults_now = g1 }) meters (stream_stop why)
-page_stopped T p k before left left' held now meters old new number f0 f1 f2 g0 g1 (stop.Input page line cause) so_far counts bad later cause_is more =
+    → PrintStopped p k (record { before = before; now = left'; faults_before = f0; faults_now = f2 })
+    (record { before = held; now = now; faults_before = g0; faults_now = g1 }) meters (stream_stop why)
+page_stopped T p k before left left' held now meters old new number f0 f1 f2 g0 g1
+    (stop.Input page line cause) so_far counts bad later cause_is more =
     (record { pages = so_far.done; told = told before (text_of old left) so_far.used bad; writes = so_far.written }, counts)
   where
     told : (a b : Option (List ℕ)) → Consumes a b so_far.bytes
-        → IfSome b (λ text. pages_from (wanted_by p) (9999 - page_of old) (page_of old + 1) text ≡ record { pages = []; end = Fault page line cause }) → IsStream p a so_far.done (Fault page line cause)
+        → IfSome b (λ text. pages_from (wanted_by p) (9999 - page_of old) (page_of old + 1) text
+        ≡ record { pages = []; end = Fault page line cause }) → IsStream p a so_far.done (Fault page line cause)
     told None b uses h = tt
     told (Some xs) None uses h = absurd uses
     told (Some xs) (Some ys) uses h =
@@ -176,7 +200,8 @@ page_stopped T p k before left left' held now meters old new number f0 f1 f2 g0 
         ∙ ap (with_pages so_far.done) h
         ∙ ap (λ ps. record { pages = ps; end = Fault page line cause }) (append-nil so_far.done)
 page_stopped T p k before left left' held now meters old new number f0 f1 f2 g0 g1 stop.Read so_far counts bad later cause_is more =
-    let some = some_printed p k before left left' held now meters old new number f0 f2 g0 g1 so_far counts more in (rose_from f0 f1 f2 later (cause_is refl), some.0, some.1)
+    let some = some_printed p k before left left' held now meters old new number f0 f2 g0 g1 so_far counts more in
+    (rose_from f0 f1 f2 later (cause_is refl), some.0, some.1)
 page_stopped T p k before left left' held now meters old new number f0 f1 f2 g0 g1 stop.Memory so_far counts bad later cause_is more =
     full_before p k _ _ _ (some_printed p k before left left' held now meters old new number f0 f2 g0 g1 so_far counts more)
 
@@ -185,10 +210,12 @@ unfolding pages_from
 pages-none want most number = refl
 
 -- the stream ended
-pub stream_done : (p : Printer) (k : Table) (before left left' held now : Option (List ℕ)) (meters : Meters) (old new : PageReader) (number f0 f2 g0 g1 : ℕ)
+pub stream_done : (p : Printer) (k : Table)
+    (before left left' held now : Option (List ℕ)) (meters : Meters) (old new : PageReader) (number f0 f2 g0 g1 : ℕ)
     → CanPrint p → (so_far : StreamSoFar p k before left held now old number) → CountsPages p k meters so_far.done
     → IsAtEnd (text_of old left) → IsAtEnd (text_of new left') → UsesSome (text_of old left) (text_of new left')
-    → (all : PrintsAll p k (record { before = before; now = left'; faults_before = f0; faults_now = f2 }) (record { before = held; now = now; faults_before = g0; faults_now = g1 }))
+    → (all : PrintsAll p k (record { before = before; now = left'; faults_before = f0; faults_now = f2 })
+    (record { before = held; now = now; faults_before = g0; faults_now = g1 }))
     × CountsPages p k meters all.pages
 stream_done p k before left left' held now meters old new number f0 f2 g0 g1 can so_far counts end end' more =
     let is : stream (wanted_by p) so_far.bytes ≡ record { pages = so_far.done; end = Done } =
@@ -214,21 +241,27 @@ stream_done p k before left left' held now meters old new number f0 f2 g0 g1 can
       counts,
     )
   where
-    told : (a b : Option (List ℕ)) → Consumes a b so_far.bytes → stream (wanted_by p) so_far.bytes ≡ record { pages = so_far.done; end = Done } → IsAtEnd b → IsStream p a so_far.done Done
+    told : (a b : Option (List ℕ)) → Consumes a b so_far.bytes → stream (wanted_by p) so_far.bytes
+        ≡ record { pages = so_far.done; end = Done } → IsAtEnd b → IsStream p a so_far.done Done
     told None b uses is end = tt
     told (Some xs) None uses is end = absurd uses
-    told (Some xs) (Some ys) uses is end = ap (stream (wanted_by p)) (uses ∙ ap (λ bs. so_far.bytes ++ bs) end ∙ append-nil so_far.bytes) ∙ is
+    told (Some xs) (Some ys) uses is end =
+        ap (stream (wanted_by p)) (uses ∙ ap (λ bs. so_far.bytes ++ bs) end ∙ append-nil so_far.bytes) ∙ is
 
 -- a page was read, and a part of its job written
-pub page_not_written : (p : Printer) (k : Table) (before left held now now' : Option (List ℕ)) (meters : Meters) (reader : PageReader) (number f0 f2 g0 g1 g2 : ℕ) (page : Page)
-    → (read : StreamRead p k before left held now reader number page) → CountsPages p k meters (read.done ++ page ∷ []) → AppendsPart now now' (page_bytes page p k) → g0 ≤ g1 → Rose g1 g2
-    → PrintStopped p k (record { before = before; now = left; faults_before = f0; faults_now = f2 }) (record { before = held; now = now'; faults_before = g0; faults_now = g2 }) meters (print.Write number)
+pub page_not_written : (p : Printer) (k : Table) (before left held now now' : Option (List ℕ))
+    (meters : Meters) (reader : PageReader) (number f0 f2 g0 g1 g2 : ℕ) (page : Page)
+    → (read : StreamRead p k before left held now reader number page) → CountsPages p k meters
+    (read.done ++ page ∷ []) → AppendsPart now now' (page_bytes page p k) → g0 ≤ g1 → Rose g1 g2
+    → PrintStopped p k (record { before = before; now = left; faults_before = f0; faults_now = f2 })
+    (record { before = held; now = now'; faults_before = g0; faults_now = g2 }) meters (print.Write number)
 page_not_written p k before left held now now' meters reader number f0 f2 g0 g1 g2 page read counts part later rose = (
   rose_from g0 g1 g2 later rose,
   record {
     pages = read.done;
     page = page;
-    taken = taken_pages p before (text_of reader left) left reader.unread read.bytes (read.done ++ page ∷ []) _ _ read.used read.is (record { bytes = []; is = Consumes-nil (text_of reader left) });
+    taken = taken_pages p before (text_of reader left) left reader.unread read.bytes (read.done ++ page ∷ [])
+        _ _ read.used read.is (record { bytes = []; is = Consumes-nil (text_of reader left) });
     number_is = read.next;
     between = now;
     whole = read.written;
@@ -237,15 +270,23 @@ page_not_written p k before left held now now' meters reader number f0 f2 g0 g1 
   counts,
 )
 
--- a page was read, and nothing of its job written
-pub page_without_room : (p : Printer) (k : Table) (before left held now now' : Option (List ℕ)) (meters : Meters) (reader : PageReader) (number f0 f2 g0 g2 : ℕ) (page : Page)
+-- a page was read, and nothing of its job was written
+pub page_without_room : (p : Printer) (k : Table) (before left held now now' : Option (List ℕ))
+    (meters : Meters) (reader : PageReader) (number f0 f2 g0 g2 : ℕ) (page : Page)
     → (read : StreamRead p k before left held now reader number page) → CountsPages p k meters (read.done ++ page ∷ []) → Keeps now now'
-    → PrintStopped p k (record { before = before; now = left; faults_before = f0; faults_now = f2 }) (record { before = held; now = now'; faults_before = g0; faults_now = g2 }) meters print.Memory
+    → PrintStopped p k (record { before = before; now = left; faults_before = f0; faults_now = f2 })
+    (record { before = held; now = now'; faults_before = g0; faults_now = g2 }) meters print.Memory
 page_without_room p k before left held now now' meters reader number f0 f2 g0 g2 page read counts kept =
-    let all = taken_pages p before (text_of reader left) left reader.unread read.bytes (read.done ++ page ∷ []) _ _ read.used read.is (record { bytes = []; is = Consumes-nil (text_of reader left) }) in (
+    let all = taken_pages p before (text_of reader left) left reader.unread read.bytes (read.done ++ page ∷ [])
+    _ _ read.used read.is (record { bytes = []; is = Consumes-nil (text_of reader left) }) in (
       record {
         pages = read.done;
-        taken = record { bytes = all.bytes; taken = all.taken; others = page ∷ all.others; are = all.are ∙ append_assoc read.done (page ∷ []) all.others };
+        taken = record {
+          bytes = all.bytes;
+          taken = all.taken;
+          others = page ∷ all.others;
+          are = all.are ∙ append_assoc read.done (page ∷ []) all.others;
+        };
         writes = appends_kept held now now' (job_bytes p k read.done) read.written kept;
       },
       inr (record { page = page; later = all.others; next = refl; pages_counted = counts }),
@@ -253,19 +294,32 @@ page_without_room p k before left held now now' meters reader number f0 f2 g0 g2
 
 -- the input begins with the pages that were read of it
 begins : (p : Printer) (before text : Option (List ℕ)) (bytes : List ℕ) (pages : List Page) (most number : ℕ) → Consumes before text bytes
-    → ((rest : List ℕ) → stream (wanted_by p) (bytes ++ rest) ≡ with_pages pages (pages_from (wanted_by p) most number rest)) → BeginsStream p before pages
+    → ((rest : List ℕ) → stream (wanted_by p) (bytes ++ rest)
+    ≡ with_pages pages (pages_from (wanted_by p) most number rest)) → BeginsStream p before pages
 begins p None text bytes pages most number uses is = tt
 begins p (Some xs) None bytes pages most number uses is = absurd uses
-begins p (Some xs) (Some ys) bytes pages most number uses is =
-    ((pages_from (wanted_by p) most number ys).pages, ap (λ bs. (stream (wanted_by p) bs).pages) uses ∙ ap (λ (s : Stream). s.pages) (is ys))
+begins p (Some xs) (Some ys) bytes pages most number uses is = (
+  (pages_from (wanted_by p) most number ys).pages,
+  ap (λ bs. (stream (wanted_by p) bs).pages) uses
+      ∙ ap (λ (s : Stream). s.pages) (is ys),
+)
 
 -- a page was read, and goes past a cap
-pub page_over : (p : Printer) (k : Table) (before left held now : Option (List ℕ)) (first last next : List Account) (reader : PageReader) (number f0 f2 g0 g1 : ℕ) (page : Page) (n : InkCounts) (why : PrintStop)
-    → (read : StreamRead p k before left held now reader number page) → CountsPages p k (record { before = first; now = last }) read.done → n ≡ page_dots page p k → RefusesPage number n last why → next ≡ last
-    → PrintStopped p k (record { before = before; now = left; faults_before = f0; faults_now = f2 }) (record { before = held; now = now; faults_before = g0; faults_now = g1 })
+pub page_over : (p : Printer) (k : Table) (before left held now : Option (List ℕ)) (first last next : List Account)
+    (reader : PageReader) (number f0 f2 g0 g1 : ℕ) (page : Page) (n : InkCounts) (why : PrintStop)
+    → (read : StreamRead p k before left held now reader number page)
+    → CountsPages p k (record { before = first; now = last }) read.done
+    → n ≡ page_dots page p k → RefusesPage number n last why → next ≡ last
+    → PrintStopped p k (record { before = before; now = left; faults_before = f0; faults_now = f2 })
+    (record { before = held; now = now; faults_before = g0; faults_now = g1 })
     (record { before = first; now = next }) why
 page_over p k before left held now first last next reader number f0 f2 g0 g1 page n why read counts are refuses kept =
-    let S : PrintStop → Type 0 = λ stop. PrintStopped p k (record { before = before; now = left; faults_before = f0; faults_now = f2 }) (record { before = held; now = now; faults_before = g0; faults_now = g1 })
+    let S : PrintStop → Type 0 = λ stop. PrintStopped p k (record {
+      before = before;
+      now = left;
+      faults_before = f0;
+      faults_now = f2;
+    }) (record { before = held; now = now; faults_before = g0; faults_now = g1 })
     (record { before = first; now = next }) stop in
     let over : OverCap = record { index = refuses.index; total = refuses.total; cap = refuses.cap } in
     let F : InkCounts → Type 0 = λ m. IsFirstOver last m over in
@@ -273,7 +327,8 @@ page_over p k before left held now first last next reader number f0 f2 g0 g1 pag
     subst S (sym refuses.is) (record {
       pages = read.done;
       page = page;
-      taken = taken_pages p before (text_of reader left) left reader.unread read.bytes (read.done ++ page ∷ []) _ _ read.used read.is (record { bytes = []; is = Consumes-nil (text_of reader left) });
+      taken = taken_pages p before (text_of reader left) left reader.unread read.bytes (read.done ++ page ∷ [])
+          _ _ read.used read.is (record { bytes = []; is = Consumes-nil (text_of reader left) });
       told = begins p before (text_of reader left) read.bytes (read.done ++ page ∷ []) _ _ read.used read.is;
       number_is = read.next;
       writes = read.written;
@@ -284,6 +339,7 @@ page_over p k before left held now first last next reader number f0 f2 g0 g1 pag
     })
 
 -- the bytes of a page are those of its halftone
-pub page-bytes-is : (p : Printer) (k : Table) (page : Page) (form : PageForm) → form ≡ page.form → halftone_bytes p (halftone page p k) (form.height * row_units p) ≡ page_bytes page p k
+pub page-bytes-is : (p : Printer) (k : Table) (page : Page) (form : PageForm)
+    → form ≡ page.form → halftone_bytes p (halftone page p k) (form.height * row_units p) ≡ page_bytes page p k
 unfolding page_bytes
 page-bytes-is p k page form e = ap (λ (f : PageForm). halftone_bytes p (halftone page p k) (f.height * row_units p)) e

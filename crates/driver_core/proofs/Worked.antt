@@ -1,4 +1,4 @@
--- What a run comes to where there is a profile.
+-- The outcome of a run where there is a profile.
 use Rattle.std.proofs.Common.{◌≡◌, ℕ, List, Result, Ok, inl, inr, refl, sym, ap, ◌∙◌, subst}
 use Rattle.std.specs.Io.KnownBytes.{Keeps}
 use Rattle.diffusion_kernel.specs.Tables.{table_of}
@@ -25,28 +25,37 @@ use Rattle.driver_core.specs.Printing.{PrintOutcome, print_answer}
 use Rattle.driver_core.specs.Run.{Did, LineOutcome, Outcome, VerbOutcome, answer_of, metered}
 use Rattle.driver_core.specs.Showing.{ShowOutcome, show_answer}
 
-worked : (words : List (List ℕ)) (job : Job) (p : Profile) (o : Outsides) (a : Answer) → Ok job ≡ job_meaning words → IsJobProfile o.shelf.told (profile_named words) (Ok p)
+worked : (words : List (List ℕ)) (job : Job) (p : Profile) (o : Outsides) (a : Answer)
+    → Ok job ≡ job_meaning words → IsJobProfile o.shelf.told (profile_named words) (Ok p)
     → VerbOutcome job.verb job p o (metered job o.meters) a → Outcome words o a
 worked words job p o a means has outcome =
     let L : Result Job UsageFault → Type 0 = λ r. LineOutcome r (profile_named words) o a in
     subst L means (inr (inr (record { p = p; is = has; outcome = outcome })))
 
-pub printed : (words : List (List ℕ)) (job : Job) (p : Profile) (o : Outsides) (set : List Account) (end : Result (Unit {0}) PrintStop) → Ok job ≡ job_meaning words → job.verb ≡ verb.Print
+pub printed : (words : List (List ℕ)) (job : Job) (p : Profile) (o : Outsides)
+    (set : List Account) (end : Result (Unit {0}) PrintStop) → Ok job ≡ job_meaning words → job.verb ≡ verb.Print
     → IsJobProfile o.shelf.told (profile_named words) (Ok p) → set ≡ begun_by job.verb job.cap o.meters.before
-    → PrintOutcome (printer_of p) (table_of job.kernel) o.input o.out (record { before = set; now = o.meters.now }) end → Outcome words o (answer_of print_answer end)
+    → PrintOutcome (printer_of p) (table_of job.kernel) o.input o.out
+    (record { before = set; now = o.meters.now }) end → Outcome words o (answer_of print_answer end)
 printed words job p o set end means command_is has is does =
-    let M : List Account → Type 0 = λ accounts. PrintOutcome (printer_of p) (table_of job.kernel) o.input o.out (record { before = accounts; now = o.meters.now }) end in
+    let M : List Account → Type 0 = λ accounts. PrintOutcome
+    (printer_of p) (table_of job.kernel) o.input o.out (record { before = accounts; now = o.meters.now }) end in
     let V : Verb → Type 0 = λ v. VerbOutcome v job p o (metered job o.meters) (answer_of print_answer end) in
-    worked words job p o (answer_of print_answer end) means has (subst V (sym command_is) (record { end = end; does = subst M is does; answered = refl }))
+    worked words job p o (answer_of print_answer end) means has
+    (subst V (sym command_is) (record { end = end; does = subst M is does; answered = refl }))
 
-pub shown : (words : List (List ℕ)) (job : Job) (p : Profile) (o : Outsides) (end : Result (Unit {0}) ShowStop) → Ok job ≡ job_meaning words → job.verb ≡ verb.Profile
-    → IsJobProfile o.shelf.told (profile_named words) (Ok p) → Keeps o.input.before o.input.now → o.meters.now ≡ begun_by job.verb job.cap o.meters.before
+pub shown : (words : List (List ℕ)) (job : Job) (p : Profile) (o : Outsides) (end : Result (Unit {0}) ShowStop)
+    → Ok job ≡ job_meaning words → job.verb ≡ verb.Profile
+    → IsJobProfile o.shelf.told (profile_named words) (Ok p)
+    → Keeps o.input.before o.input.now → o.meters.now ≡ begun_by job.verb job.cap o.meters.before
     → ShowOutcome p o.out end → Outcome words o (answer_of show_answer end)
 shown words job p o end means command_is has unread is does =
     let V : Verb → Type 0 = λ v. VerbOutcome v job p o (metered job o.meters) (answer_of show_answer end) in
-    worked words job p o (answer_of show_answer end) means has (subst V (sym command_is) (unread, is, record { end = end; does = does; answered = refl }))
+    worked words job p o (answer_of show_answer end) means has
+    (subst V (sym command_is) (unread, is, record { end = end; does = does; answered = refl }))
 
-pub played : (words : List (List ℕ)) (job : Job) (p : Profile) (o : Outsides) (a : Answer) → Ok job ≡ job_meaning words → job.verb ≡ verb.Dots
+pub played : (words : List (List ℕ)) (job : Job) (p : Profile) (o : Outsides) (a : Answer)
+    → Ok job ≡ job_meaning words → job.verb ≡ verb.Dots
     → IsJobProfile o.shelf.told (profile_named words) (Ok p) → o.meters.now ≡ begun_by job.verb job.cap o.meters.before
     → Did PlayStop (PlayOutcome (printer_of p) job.most o.input o.out) play_answer a → Outcome words o a
 played words job p o a means command_is has is did =
@@ -54,7 +63,8 @@ played words job p o a means command_is has is did =
     worked words job p o a means has (subst V (sym command_is) (is, did))
 
 pub listed : (words : List (List ℕ)) (job : Job) (o : Outsides) (a : Answer) → Ok job ≡ job_meaning words → job.verb ≡ verb.List
-    → o.meters.now ≡ begun_by job.verb job.cap o.meters.before → Did ListStop (ListOutcome job.most o.input o.out) list_answer a → Outcome words o a
+    → o.meters.now ≡ begun_by job.verb job.cap o.meters.before
+    → Did ListStop (ListOutcome job.most o.input o.out) list_answer a → Outcome words o a
 listed words job o a means command_is is did =
     let L : Result Job UsageFault → Type 0 = λ r. LineOutcome r (profile_named words) o a in
     let none : begun_by job.verb job.cap o.meters.before ≡ o.meters.before = ap (λ v. begun_by v job.cap o.meters.before) command_is in

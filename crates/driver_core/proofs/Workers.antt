@@ -1,5 +1,6 @@
 -- How many workers a job has.
-use Rattle.std.proofs.Common.{◌≡◌, ℕ, ◌≤◌, Bool, true, false, ◌&&◌, nat_le, if◌then◌else◌, List, [], ◌∷◌, Option, Some, None, Result, Ok, refl, subst, arith, unwrap_or}
+use Rattle.std.proofs.Common.{◌≡◌, ℕ, ◌≤◌, Bool, true, false, ◌&&◌, nat_le, if◌then◌else◌, List, [], ◌∷◌, Option}
+use Rattle.std.proofs.Common.{Some, None, Result, Ok, refl, subst, arith, unwrap_or}
 use Rattle.std.specs.Option.{option_and_then}
 use Rattle.std.specs.Str.Parse.{digits_value}
 use Rattle.std.proofs.lemmas.Bool.{leb-true}
@@ -48,7 +49,8 @@ unfolding job_meaning
 workers_of_job [] job means = cc
 workers_of_job (name ∷ words) job means = by_command (command_named name) means
   where
-    by_faults : (command : CommandRow) (faults : List UsageFault) → job_unless faults (job_of command words) ≡ Ok job → AreWorkers job.workers
+    by_faults : (command : CommandRow) (faults : List UsageFault)
+        → job_unless faults (job_of command words) ≡ Ok job → AreWorkers job.workers
     by_faults command [] means =
         let same : job_of command words ≡ job = cc in
         subst (λ (j : Job). AreWorkers j.workers) same (given_count _)

@@ -9,7 +9,7 @@ abbrev pub with_cap : Option ℕ → List Account → List Account
 with_cap None accounts = accounts
 with_cap (Some cap) accounts = map (capped cap) accounts
 
--- the meters of a job before its first page: printing sets their caps where a word has one
+-- the meters of a job before its first page: printing sets their caps where a word gives one
 abbrev pub begun_by : Verb → Option ℕ → List Account → List Account
 begun_by verb.Print cap accounts = with_cap cap accounts
 begun_by verb.Dots cap accounts = accounts

@@ -5,8 +5,7 @@ use Rattle.weave_base.specs.declared.answers.InkCounts.{InkCounts}
 use Rattle.driver_core.specs.declared.stops.PrintStop.{PrintStop}
 use Rattle.driver_core.specs.declared.stops.PrintStop.TheVariants as stop
 
--- Printing stops at the page of this number, since the first of the meters that have no room for its dots has this total
--- and this cap.
+-- Printing stops at this page: the first meter without room for its dots has this total and this cap.
 pub record RefusesPage (number : ℕ) (n : InkCounts) (accounts : List Account) (why : PrintStop) : Type 0 where
   pub index : ℕ
   pub total : ℕ

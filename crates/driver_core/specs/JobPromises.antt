@@ -1,4 +1,4 @@
--- What a run promises of the commands that look at a print job.
+-- What a run promises of the commands `list` and `dots`.
 use Rattle.std.specs.Prelude.{◌≡◌, ℕ, ◌⊎◌, List, Option, Some, None, Ok}
 use Rattle.driver_answer.specs.declared.answer.Answer.TheVariants as answer
 use Rattle.escp2_definitions.specs.declared.stops.JobStop.{JobStop}
@@ -18,39 +18,40 @@ pub record AsksForList (words : List (List ℕ)) (job : Job) : Type 0 where
   pub means : job_meaning words ≡ Ok job
   pub command_is : job.verb ≡ verb.List
 
--- What a run promises of jobs, of its words, of what is outside, of the error sink and of the status that it returns.
+-- The promises of a run for print jobs, by its words, the outside, the error sink and the status that it returns.
 pub record JobPromises (words : List (List ℕ)) (o : Outsides) (err : Outside) (status : ℕ) : Type 0 where
-  -- On 0 the job was taken whole, and `list` lists its commands.
+  -- On 0 the whole job was read, and `list` listed its commands.
   pub listed : (job : Job) → AsksForList words job → status ≡ 0 → ListsAll job.most o.input o.out
-  -- On 8 the job is refused, which is told, and the commands before that are listed.
+  -- On 8 the job is refused, the error line says why, and the commands before that are listed.
   pub listed_to_stop : (job : Job) → AsksForList words job → status ≡ 8
       → (offset : ℕ) × (cause : JobStop) × ListsToStop job.most o.input o.out offset cause × Tells err (answer.Job offset cause)
-  -- On 4 and 7 some first commands of what was taken are listed, on 5 a proper prefix of the listing stands.
+  -- On 4 and 7 some first commands of what was read are listed; on 5 a proper prefix of the listing was written.
   pub listed_some : (job : Job) → AsksForList words job → (status ≡ 4) ⊎ (status ≡ 7) → ListsSome job.most o.input o.out
   pub listed_part : (job : Job) → AsksForList words job → status ≡ 5
       → ListsPart job.most o.input o.out × Tells err (answer.Write 0)
-  -- Where nothing fails, the end of the job decides between 0 and 8.
+  -- Where nothing fails, the job itself decides between 0 and 8.
   pub valid_list : (job : Job) (bytes : List ℕ) → AsksForList words job → o.input.before ≡ Some bytes
       → job_end bytes job.most None ≡ None → IsCalm o.input → IsCalm o.out → (status ≡ 0) ⊎ (status ≡ 7)
   pub refused_list : (job : Job) (bytes : List ℕ) (offset : ℕ) (cause : JobStop) → AsksForList words job
       → o.input.before ≡ Some bytes → job_end bytes job.most None ≡ stopped offset cause → IsCalm o.input → IsCalm o.out
       → (status ≡ 8) ⊎ (status ≡ 7)
-  -- `list` has neither a profile nor a page, and refuses none.
+  -- `list` uses neither a profile nor pages, and so has none of their statuses.
   pub list_statuses : (job : Job) → AsksForList words job
       → (status ≡ 0) ⊎ (status ≡ 4) ⊎ (status ≡ 5) ⊎ (status ≡ 7) ⊎ (status ≡ 8)
-  -- On 0 the job was taken whole, nothing stops it, and `dots` gives the images of its sheets.
+  -- On 0 the whole job was read, nothing stops it, and `dots` wrote the images of its sheets.
   pub played : (job : Job) (p : Profile) → AsksFor words o.shelf.told verb.Dots job (Ok p) → status ≡ 0
       → PlaysAll (printer_of p) job.most o.input o.out
-  -- On 8 the job stops, which is told, and the images of the sheets before that stand.
+  -- On 8 the job stops, the error line says where and why, and the images of the sheets before that were written.
   pub played_to_stop : (job : Job) (p : Profile) → AsksFor words o.shelf.told verb.Dots job (Ok p) → status ≡ 8
       → (offset : ℕ) × (cause : JobStop) × PlaysToStop (printer_of p) job.most o.input o.out offset cause
       × Tells err (answer.Job offset cause)
-  -- On 4 and 7 the images of some first sheets of what was taken stand; on 5 a proper prefix of the named one's besides.
+  -- On 4 and 7 the images of some first sheets of what was read were written; on 5 those before the named sheet, and
+  -- a proper prefix of its own.
   pub played_some : (job : Job) (p : Profile) → AsksFor words o.shelf.told verb.Dots job (Ok p) → (status ≡ 4) ⊎ (status ≡ 7)
       → PlaysSome (printer_of p) job.most o.input o.out
   pub played_part : (job : Job) (p : Profile) → AsksFor words o.shelf.told verb.Dots job (Ok p) → status ≡ 5
       → (number : ℕ) × StopsInSheet (printer_of p) job.most o.input o.out number × Tells err (answer.Write number)
-  -- Where nothing fails, the end of the job on the printer decides between 0 and 8.
+  -- Where nothing fails, the job and the printer decide between 0 and 8.
   pub valid_dots : (job : Job) (p : Profile) (bytes : List ℕ) → AsksFor words o.shelf.told verb.Dots job (Ok p)
       → o.input.before ≡ Some bytes → job_end bytes job.most (Some (printer_of p)) ≡ None
       → (HasFailed o.shelf → ⊥) → IsCalm o.input → IsCalm o.out → (status ≡ 0) ⊎ (status ≡ 7)

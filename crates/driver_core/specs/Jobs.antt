@@ -1,4 +1,4 @@
--- What a run answers to a print job.
+-- What a run answers about a print job.
 use Rattle.std.specs.Prelude.{◌≡◌, ℕ, ◌⊎◌, List, Option, Some, None, Ok}
 use Rattle.driver_answer.specs.declared.answer.Answer.{Answer}
 use Rattle.driver_answer.specs.declared.answer.Answer.TheVariants as answer
@@ -13,7 +13,7 @@ list_answer list.Read = answer.Read
 list_answer list.Write = answer.Write 0
 list_answer list.Memory = answer.Memory
 
--- a write fails in the images of a sheet, whose number is told in place of a page's
+-- where a write fails in the images of a sheet, the sheet's number is in the place of a page's
 abbrev pub play_answer : PlayStop → Answer
 play_answer (play.Job offset cause) = answer.Job offset cause
 play_answer play.Read = answer.Read

@@ -1,4 +1,4 @@
--- What is outside of a run, at the call and at the return.
+-- The outside of a run, at the call and at the return.
 use Rattle.std.specs.Prelude.{ℕ, List, Option}
 use Rattle.std.specs.Io.KnownBytes.{Keeps}
 use Rattle.ink_meter.specs.Accounts.{Account}
@@ -6,7 +6,7 @@ use Rattle.weave_base.specs.Causes.{Rose}
 use Rattle.weave_base.specs.Shelf.{NamedText}
 pub use Rattle.outside_definitions.specs.Outside.{HasRisen, IsCalm, Outside}
 
--- A shelf: its texts, where it tells them, and its count of faults at the call and at the return.
+-- A shelf: its texts, where it reports them, and its count of faults at the call and at the return.
 pub record Texts : Type 0 where
   pub told : Option (List NamedText)
   pub faults_before : ℕ
@@ -20,14 +20,14 @@ pub record Meters : Type 0 where
   pub before : List Account
   pub now : List Account
 
--- What a run reads, writes and counts on, but for the error sink.
+-- What a run reads, writes and counts on, except the error sink.
 pub record Outsides : Type 0 where
   pub shelf : Texts
   pub input : Outside
   pub out : Outside
   pub meters : Meters
 
--- nothing was taken of the input, and nothing written
+-- nothing of the input was used, and nothing was written
 abbrev pub Untouched : Outsides → Type 0
 Untouched o = Keeps o.input.before o.input.now × Keeps o.out.before o.out.now
 

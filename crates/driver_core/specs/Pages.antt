@@ -13,7 +13,7 @@ use Rattle.pwg_definitions.specs.Stream.StreamEnd.{Done}
 abbrev pub job_bytes : Printer → Table → List Page → List ℕ
 job_bytes p k pages = flat_map (λ page. page_bytes page p k) pages
 
--- the input, where it is told, is a stream of these pages that ends so
+-- the input, if the source reports its bytes, is a stream of these pages with this end
 abbrev pub IsStream : Printer → Option (List ℕ) → List Page → StreamEnd → Type 0
 IsStream p before pages end = IfSome before (λ bytes. stream (wanted_by p) bytes ≡ record { pages = pages; end = end })
 
@@ -24,11 +24,11 @@ pub record ReadsStream (p : Printer) (before now : Option (List ℕ)) (pages : L
   pub end : IsAtEnd now
   pub is : stream (wanted_by p) bytes ≡ record { pages = pages; end = Done }
 
--- the input, where it is told, is a stream that begins with these pages
+-- the input, if the source reports its bytes, is a stream that begins with these pages
 abbrev pub BeginsStream : Printer → Option (List ℕ) → List Page → Type 0
 BeginsStream p before pages = IfSome before (λ bytes. (others : List Page) × ((stream (wanted_by p) bytes).pages ≡ pages ++ others))
 
--- The first pages of what was taken of the input are these.
+-- These are the first pages of what was read of the input.
 pub record TakesPages (p : Printer) (before now : Option (List ℕ)) (pages : List Page) : Type 0 where
   pub bytes : List ℕ
   pub taken : Consumes before now bytes

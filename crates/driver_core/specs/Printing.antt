@@ -1,4 +1,4 @@
--- What printing the pages of a stream comes to: what was read and written, by why it stopped.
+-- The outcomes of printing the pages of a stream: what was read and written, by why it stopped.
 use Rattle.std.specs.Prelude.{◌≡◌, ℕ, ◌+◌, ◌⊎◌, List, [], ◌∷◌, ◌++◌, length, Option, Result, Ok, Err}
 use Rattle.std.specs.Io.KnownBytes.{Appends}
 use Rattle.diffusion_definitions.specs.Diffusion.{Table}
@@ -20,8 +20,8 @@ use Rattle.driver_core.specs.declared.stops.PrintStop.TheVariants as stop
 use Rattle.driver_core.specs.Outside.{HasRisen, Meters, Outside}
 use Rattle.driver_core.specs.Pages.{BeginsStream, IsStream, ReadsStream, TakesPages, job_bytes}
 
--- All pages of the input were printed: it is a stream with a clean end that was read to it; the job of its pages was
--- written, prints them, and has no more rasters of an ink than the head takes passes over a page.
+-- All pages of the input were printed: it is a stream with a clean end, and was read to this end; the job of its
+-- pages was written, prints them, and has no more rasters of an ink than the head takes passes over a page.
 pub record PrintsAll (p : Printer) (k : Table) (input out : Outside) : Type 0 where
   pub pages : List Page
   pub reads : ReadsStream p input.before input.now pages
@@ -30,20 +30,20 @@ pub record PrintsAll (p : Printer) (k : Table) (input out : Outside) : Type 0 wh
   pub prints : Prints p k pages (job_bytes p k pages)
   pub passes : HavePasses p k pages
 
--- The input is a stream of some pages that ends with this fault; the job of these pages was written.
+-- The input is a stream of some pages that ends with this fault, and the job of these pages was written.
 pub record MeetsFault (p : Printer) (k : Table) (input out : Outside) (page line : ℕ) (cause : InputCause) : Type 0 where
   pub pages : List Page
   pub told : IsStream p input.before pages (Fault page line cause)
   pub writes : Appends out.before out.now (job_bytes p k pages)
 
--- The job of some first pages of what was taken was written.
+-- The job of some first pages of what was read was written.
 pub record PrintsSome (p : Printer) (k : Table) (input out : Outside) : Type 0 where
   pub pages : List Page
   pub taken : TakesPages p input.before input.now pages
   pub writes : Appends out.before out.now (job_bytes p k pages)
 
--- The jobs of the pages before the one of this number were written, and a proper prefix of its own. All of them are
--- first pages of what was taken.
+-- The jobs of the pages before this one were written, and a proper prefix of its own. All of them are the first pages
+-- of what was read.
 pub record StopsInPage (p : Printer) (k : Table) (input out : Outside) (number : ℕ) : Type 0 where
   pub pages : List Page
   pub page : Page
@@ -65,8 +65,8 @@ pub record CountsOneMore (p : Printer) (k : Table) (meters : Meters) (pages othe
   pub next : others ≡ page ∷ later
   pub pages_counted : CountsPages p k meters (pages ++ page ∷ [])
 
--- The page of this number was read whole, and the first meter without room for its dots has this total and this cap.
--- The job of the pages before it was written, and these were counted.
+-- This page was read whole, and the first meter without room for its dots has this total and this cap. The job of the
+-- pages before it was written, and these were counted.
 pub record GoesOver (p : Printer) (k : Table) (input out : Outside) (meters : Meters) (number total dots cap : ℕ) : Type 0 where
   pub pages : List Page
   pub page : Page
@@ -92,14 +92,14 @@ PrintStopped p k input out meters stop.Memory =
     (some : PrintsSome p k input out)
     × (CountsPages p k meters some.pages ⊎ CountsOneMore p k meters some.pages some.taken.others)
 
--- What printing comes to.
+-- The outcome of printing.
 abbrev pub PrintOutcome : Printer → Table → Outside → Outside → Meters → Result (Unit {0}) PrintStop → Type 0
 PrintOutcome p k input out meters (Ok u) = (all : PrintsAll p k input out) × CountsPages p k meters all.pages
 PrintOutcome p k input out meters (Err why) = PrintStopped p k input out meters why
 
 -- ---- answers
 
--- why printing stopped, where the stream did
+-- why printing stopped, by why the stream stopped
 abbrev pub stream_stop : StreamStop → PrintStop
 stream_stop (stream.Input page line cause) = stop.Input page line cause
 stream_stop stream.Read = stop.Read

@@ -1,4 +1,4 @@
--- What a run comes to.
+-- The outcome of a run.
 use Rattle.std.specs.Prelude.{◌≡◌, ℕ, ◌⊎◌, ◌↔◌, List, [], ◌∷◌, ◌++◌, All, Option, Some, None, IsErr, Result, Ok, Err}
 use Rattle.std.specs.Io.KnownBytes.{Appends, Keeps}
 use Rattle.diffusion_definitions.specs.Diffusion.{Table}
@@ -36,29 +36,31 @@ use Rattle.driver_core.specs.declared.stops.ShowStop.{ShowStop}
 use Rattle.driver_core.specs.Caps.{begun_by}
 use Rattle.driver_core.specs.Jobs.{list_answer, play_answer}
 use Rattle.driver_core.specs.Outside.{HasFailed, HasRisen, IsCalm, Meters, NothingFailed, Outside, Outsides, Texts, Untouched}
-use Rattle.driver_core.specs.Printing.{CountsOneMore, CountsPages, GoesOver, MeetsFault, PrintOutcome, PrintsAll, PrintsSome, StopsInPage, print_answer}
+use Rattle.driver_core.specs.Printing.{CountsOneMore, CountsPages, GoesOver, MeetsFault, PrintOutcome, PrintsAll}
+use Rattle.driver_core.specs.Printing.{PrintsSome, StopsInPage, print_answer}
 use Rattle.driver_core.specs.Showing.{ShowOutcome, show_answer}
 
--- ---- what a run comes to, by the meaning of its words
+-- ---- the outcome of a run, by the meaning of its words
 
--- The answer where a command ends well or stops so.
+-- The answer of a command: `Done`, or that of its stop.
 abbrev pub answer_of : {E : Type 0} → (E → Answer) → Result (Unit {0}) E → Answer
 answer_of why (Ok u) = answer.Done
 answer_of why (Err stop) = why stop
 
--- The command did this, which is answered so.
+-- The command had this outcome, and this is its answer.
 pub record Did (E : Type 0) (outcome : Result (Unit {0}) E → Type 0) (why : E → Answer) (a : Answer) : Type 0 where
   pub end : Result (Unit {0}) E
   pub does : outcome end
   pub answered : a ≡ answer_of why end
 
--- the meters of a job from where their caps were set
+-- the meters of a job once their caps are set
 abbrev pub metered : Job → Meters → Meters
 metered job meters = record { before = begun_by job.verb job.cap meters.before; now = meters.now }
 
--- what a command comes to with its profile, on meters whose caps are set
+-- the outcome of a command with its profile, on meters whose caps are set
 abbrev pub VerbOutcome : Verb → Job → Profile → Outsides → Meters → Answer → Type 0
-VerbOutcome verb.Print job p o meters a = Did PrintStop (PrintOutcome (printer_of p) (table_of job.kernel) o.input o.out meters) print_answer a
+VerbOutcome verb.Print job p o meters a =
+    Did PrintStop (PrintOutcome (printer_of p) (table_of job.kernel) o.input o.out meters) print_answer a
 VerbOutcome verb.Dots job p o meters a =
     (meters.now ≡ meters.before) × Did PlayStop (PlayOutcome (printer_of p) job.most o.input o.out) play_answer a
 VerbOutcome verb.List job p o meters a = ⊥
@@ -71,7 +73,7 @@ ProfileStopped name shelf (profile.Refused line cause) = IsJobProfile shelf.told
 ProfileStopped name shelf profile.Failed = HasFailed shelf × (built_in name ≡ None)
 ProfileStopped name shelf profile.Memory = built_in name ≡ None
 
--- There is no profile, which is answered so.
+-- There is no profile, and this is the answer.
 pub record NoProfile (name : List ℕ) (job : Job) (o : Outsides) (a : Answer) : Type 0 where
   pub why : ProfileStop
   pub stopped : ProfileStopped name o.shelf why
@@ -86,13 +88,13 @@ pub record WithProfile (name : List ℕ) (job : Job) (o : Outsides) (a : Answer)
   pub is : IsJobProfile o.shelf.told name (Ok p)
   pub outcome : VerbOutcome job.verb job p o (metered job o.meters) a
 
--- The commands of the job that the input is were listed, for which no profile is needed.
+-- The commands of the job in the input were listed; that takes no profile.
 pub record ListsJob (job : Job) (o : Outsides) (a : Answer) : Type 0 where
   pub command_is : job.verb ≡ verb.List
   pub uncounted : o.meters.now ≡ o.meters.before
   pub did : Did ListStop (ListOutcome job.most o.input o.out) list_answer a
 
--- What a command line comes to: refused words, a job that is listed, no profile, or the command's work.
+-- The outcome of a command line: refused words, a job that is listed, no profile, or the command's work.
 abbrev pub LineOutcome : Result Job UsageFault → List ℕ → Outsides → Answer → Type 0
 LineOutcome (Err fault) name o a = (a ≡ answer.Usage fault) × Untouched o × (o.meters.now ≡ o.meters.before)
 LineOutcome (Ok job) name o a = ListsJob job o a ⊎ (NoProfile name job o a ⊎ WithProfile name job o a)
@@ -100,7 +102,7 @@ LineOutcome (Ok job) name o a = ListsJob job o a ⊎ (NoProfile name job o a ⊎
 abbrev pub Outcome : List (List ℕ) → Outsides → Answer → Type 0
 Outcome words o a = LineOutcome (job_meaning words) (profile_named words) o a
 
--- The error sink got the answer's line, whole, or a proper prefix of it and its count rose.
+-- The error sink got the answer's line: all of it, or a proper prefix, and its count of faults rose.
 abbrev pub Told : Outside → Answer → Type 0
 Told err a = Appends err.before err.now (line_of a) ⊎ (HasRisen err × AppendsPart err.before err.now (line_of a))
 
@@ -110,38 +112,41 @@ Tells err a = IsCalm err → Appends err.before err.now (line_of a)
 
 -- ---- how a promise speaks of a command line
 
--- the profile of a name is this one, or refused so, whatever a shelf that does not tell its texts has
+-- the profile of a name is this one, or is refused for this reason, whatever a shelf holds that does not report its
+-- texts
 abbrev pub ProfileIs : Option (List NamedText) → List ℕ → Result Profile Refusal → Type 0
 ProfileIs told name r = (other : Result Profile Refusal) → IsJobProfile told name other → other ≡ r
 
--- The words ask for this command, with a profile that is this one or is refused so.
-pub record AsksFor (words : List (List ℕ)) (told : Option (List NamedText)) (command : Verb) (job : Job) (r : Result Profile Refusal) : Type 0 where
+-- The words ask for this command, with this profile or one that is refused for this reason.
+pub record AsksFor (words : List (List ℕ))
+    (told : Option (List NamedText)) (command : Verb) (job : Job) (r : Result Profile Refusal) : Type 0 where
   pub means : job_meaning words ≡ Ok job
   pub command_is : job.verb ≡ command
   pub profile_is : ProfileIs told (profile_named words) r
 
 -- ---- what a run promises
 
--- The status is that of an answer whose cause holds, and the error sink was told that answer.
+-- The status is that of an answer whose cause holds, and the error sink got the line of that answer.
 pub record IsAnswered (words : List (List ℕ)) (o : Outsides) (err : Outside) (status : ℕ) : Type 0 where
   pub a : Answer
   pub status_is : status ≡ status_of a
   pub outcome : Outcome words o a
   pub told : Told err a
 
--- What a run promises, of its words, of what is outside, of the error sink and of the status that it returns.
+-- The promises of a run, by its words, the outside, the error sink and the status that it returns.
 pub record Promises (words : List (List ℕ)) (o : Outsides) (err : Outside) (status : ℕ) : Type 0 where
   pub answered : IsAnswered words o err status
-  -- A valid job prints, unless something outside fails or memory runs out: its stream ends well, and no page goes past
-  -- the cap of a meter.
+  -- A valid job prints unless something outside fails or memory runs out: its stream has a clean end, and no page
+  -- goes past the cap of a meter.
   pub valid : (job : Job) (p : Profile) (bytes : List ℕ) (pages : List Page) → AsksFor words o.shelf.told verb.Print job (Ok p)
       → o.input.before ≡ Some bytes → stream (wanted_by (printer_of p)) bytes ≡ record { pages = pages; end = Done }
       → Admitted (printer_of p) (table_of job.kernel) pages (metered job o.meters).before → NothingFailed o → (status ≡ 0) ⊎ (status ≡ 7)
-  -- On 0 all pages of the input are printed: their bytes mean their dots. Each meter counted them.
+  -- On 0 all pages of the input are printed: the bytes that were written print exactly their dots. Each meter counted
+  -- them.
   pub printed : (job : Job) (p : Profile) → AsksFor words o.shelf.told verb.Print job (Ok p) → status ≡ 0
       → (all : PrintsAll (printer_of p) (table_of job.kernel) o.input o.out)
       × CountsPages (printer_of p) (table_of job.kernel) (metered job o.meters) all.pages
-  -- A refused page is told, and only the pages before it stand whole and are counted.
+  -- On 3 the error line names the fault; only the pages before it were written and counted.
   pub input : (job : Job) (p : Profile) → AsksFor words o.shelf.told verb.Print job (Ok p) → status ≡ 3
       → (page line : ℕ) × (cause : InputCause)
       × (meets : MeetsFault (printer_of p) (table_of job.kernel) o.input o.out page line cause)
@@ -152,8 +157,8 @@ pub record Promises (words : List (List ℕ)) (o : Outsides) (err : Outside) (st
       → o.input.before ≡ Some bytes → stream (wanted_by (printer_of p)) bytes ≡ record { pages = pages; end = Fault page line cause }
       → Admitted (printer_of p) (table_of job.kernel) pages (metered job o.meters).before
       → NothingFailed o → (status ≡ 3) ⊎ (status ≡ 7)
-  -- On 4 and 7 some first pages of what was taken stand whole, and nothing besides. On 4 these are counted; on 7 these, or
-  -- these and the next page.
+  -- On 4 and 7 some first pages of what was read were written whole, and nothing else. On 4 these are counted; on 7
+  -- these, or these and the next page.
   pub stopped : (job : Job) (p : Profile) → AsksFor words o.shelf.told verb.Print job (Ok p) → status ≡ 4
       → (some : PrintsSome (printer_of p) (table_of job.kernel) o.input o.out)
       × CountsPages (printer_of p) (table_of job.kernel) (metered job o.meters) some.pages
@@ -161,25 +166,25 @@ pub record Promises (words : List (List ℕ)) (o : Outsides) (err : Outside) (st
       → (some : PrintsSome (printer_of p) (table_of job.kernel) o.input o.out)
       × (CountsPages (printer_of p) (table_of job.kernel) (metered job o.meters) some.pages
       ⊎ CountsOneMore (printer_of p) (table_of job.kernel) (metered job o.meters) some.pages some.taken.others)
-  -- On 5 a prefix of the named page stands after the pages before it, and it is counted with them.
+  -- On 5 a proper prefix of the named page was written after the pages before it; it is counted with them.
   pub part : (job : Job) (p : Profile) → AsksFor words o.shelf.told verb.Print job (Ok p) → status ≡ 5
       → (number : ℕ) × (stops : StopsInPage (printer_of p) (table_of job.kernel) o.input o.out number)
       × CountsPages (printer_of p) (table_of job.kernel) (metered job o.meters) (stops.pages ++ stops.page ∷ [])
       × Tells err (answer.Write number)
-  -- On 6 the named page was read whole, and goes past the cap of the first meter that has no room for it. Only the pages
-  -- before it stand whole and are counted.
+  -- On 6 the named page was read whole, and goes past the cap of the first meter without room for it. Only the pages
+  -- before it were written and counted.
   pub over : status ≡ 6 → (job : Job) × (p : Profile) × (job_meaning words ≡ Ok job) × (job.verb ≡ verb.Print)
       × IsJobProfile o.shelf.told (profile_named words) (Ok p) × (page total dots cap : ℕ)
       × GoesOver (printer_of p) (table_of job.kernel) o.input o.out (metered job o.meters) page total dots cap
       × Tells err (answer.OverCap page total dots cap)
-  -- The first page that goes past a cap is refused, whatever stands behind it.
+  -- The first page that goes past a cap is refused, whatever follows it.
   pub capped : (job : Job) (p : Profile) (bytes : List ℕ) (pages later : List Page) (page : Page) (end : StreamEnd)
       → AsksFor words o.shelf.told verb.Print job (Ok p) → o.input.before ≡ Some bytes
       → stream (wanted_by (printer_of p)) bytes ≡ record { pages = pages ++ page ∷ later; end = end }
       → (let before : List Account = (metered job o.meters).before in
       (All (HasRoom (page_dots page (printer_of p) (table_of job.kernel))) (counted (printer_of p) (table_of job.kernel) pages before) → ⊥))
       → NothingFailed o → (status ≡ 6) ⊎ (status ≡ 7)
-  -- The command `profile` writes the profile's text, and takes nothing of the input.
+  -- The command `profile` writes the profile's text, and uses nothing of the input.
   pub valid_profile : (job : Job) (p : Profile) → AsksFor words o.shelf.told verb.Profile job (Ok p)
       → (HasFailed o.shelf → ⊥) → IsCalm o.out → (status ≡ 0) ⊎ (status ≡ 7)
   pub shown : (job : Job) (p : Profile) → AsksFor words o.shelf.told verb.Profile job (Ok p) → status ≡ 0
@@ -188,7 +193,7 @@ pub record Promises (words : List (List ℕ)) (o : Outsides) (err : Outside) (st
       → AppendsPart o.out.before o.out.now (profile_text_of p) × Tells err (answer.Write 0)
   pub none_shown : (job : Job) (p : Profile) → AsksFor words o.shelf.told verb.Profile job (Ok p) → (status ≡ 4) ⊎ (status ≡ 7)
       → Keeps o.out.before o.out.now
-  -- Only printing sets a cap and counts, and a refused word or profile counts nothing.
+  -- Only printing sets a cap and counts; a refused word or profile counts nothing.
   pub unmetered : (job : Job) → job_meaning words ≡ Ok job → (job.verb ≡ verb.Print → ⊥) → o.meters.now ≡ o.meters.before
   pub untold : status ≡ 1 → o.meters.now ≡ o.meters.before
   pub uncounted : (job : Job) → job_meaning words ≡ Ok job → status ≡ 2 → o.meters.now ≡ (metered job o.meters).before

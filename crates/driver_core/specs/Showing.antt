@@ -1,4 +1,4 @@
--- What showing a profile comes to.
+-- The outcome of showing a profile.
 use Rattle.std.specs.Prelude.{Result, Ok, Err}
 use Rattle.std.specs.Io.KnownBytes.{Appends, Keeps}
 use Rattle.driver_answer.specs.declared.answer.Answer.{Answer}
@@ -10,7 +10,7 @@ use Rattle.driver_core.specs.declared.stops.ShowStop.{ShowStop}
 use Rattle.driver_core.specs.declared.stops.ShowStop.TheVariants as stop
 use Rattle.driver_core.specs.Outside.{HasRisen, Outside}
 
--- What showing a profile comes to: its text was written, or a proper prefix of it, or nothing.
+-- The outcome of showing a profile: its text was written, or a proper prefix of it, or nothing.
 abbrev pub ShowOutcome : Profile → Outside → Result (Unit {0}) ShowStop → Type 0
 ShowOutcome p out (Ok u) = Appends out.before out.now (profile_text_of p)
 ShowOutcome p out (Err stop.Write) = HasRisen out × AppendsPart out.before out.now (profile_text_of p)

@@ -1,4 +1,4 @@
-//! Pages on meters.
+//! Counting pages on meters.
 ghost use Rattle.driver_core.specs.Caps.{begun_by};
 ghost use Rattle.driver_core.specs.Charging.{RefusesPage};
 ghost use Rattle.driver_core.specs.declared.stops.PrintStop.TheVariants as stop;
@@ -9,7 +9,7 @@ use crate::stops::PrintStop;
 use ink_meter::{InkCounts, Meter, OverCap, add_all, admit, cap_all};
 use job_words::{Job, Verb};
 
-/// Sets the caps of the meters where a word has one. Only printing counts.
+/// Sets the caps of the meters, where a word gives one. Only printing counts.
 pub fn set_caps(job: &Job, meters: &mut Vec<Box<dyn Meter>>)
     ensures { map (λ meter. account meter) meters.new.items
         ≡ begun_by job.now.verb job.now.cap (map (λ meter. account meter) meters.old.items) }
@@ -22,7 +22,7 @@ pub fn set_caps(job: &Job, meters: &mut Vec<Box<dyn Meter>>)
     }
 }
 
-// The stop at a page of this number and these dots.
+// The stop at this page, which has these dots.
 fn over_cap(number: u32, dots: &InkCounts, over: OverCap) -> PrintStop
     requires { all_inks dots.now < 2 ^ 64 }
     ensures { result ≡ stop.OverCap number over.total (all_inks dots.now) over.cap }
@@ -46,7 +46,8 @@ pub fn charge(
     ensures counted { OnOk result (map (λ meter. account meter) meters.new.items
         ≡ map (added dots.now) (map (λ meter. account meter) meters.old.items)) }
     ensures over { IfErr result (RefusesPage number dots.now (map (λ meter. account meter) meters.old.items)) }
-    ensures kept { OnErr result (map (λ meter. account meter) meters.new.items ≡ map (λ meter. account meter) meters.old.items) }
+    ensures kept { OnErr result
+        (map (λ meter. account meter) meters.new.items ≡ map (λ meter. account meter) meters.old.items) }
 {
     match admit(meters, dots) {
         Ok(()) => {

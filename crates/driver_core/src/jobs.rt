@@ -1,4 +1,4 @@
-//! The commands that look at a print job.
+//! The commands that show what a print job holds.
 ghost use Rattle.driver_core.specs.Jobs.{list_answer as list_answer_of, play_answer as play_answer_of};
 ghost use Rattle.driver_core.specs.Run.{Did, answer_of};
 ghost use Rattle.job_lister.specs.Outcome.{ListOutcome};
@@ -38,7 +38,7 @@ fn play_answer(stop: PlayStop) -> Answer
     }
 }
 
-/// Lists the commands of the job that the input is.
+/// Lists the commands of the job that the input holds.
 pub fn list<S: Source, K: Sink>(
     alloc: Global,
     most: u64,
@@ -47,8 +47,18 @@ pub fn list<S: Source, K: Sink>(
 ) -> Result<(), Answer>
     requires { most < 2 ^ 63 }
     ensures { Did TheListStop (ListOutcome most
-        (record { before = S.left input.old; now = S.left input.new; faults_before = S.faults input.old; faults_now = S.faults input.new })
-        (record { before = K.held out.old; now = K.held out.new; faults_before = K.faults out.old; faults_now = K.faults out.new }))
+        (record {
+          before = S.left input.old;
+          now = S.left input.new;
+          faults_before = S.faults input.old;
+          faults_now = S.faults input.new;
+        })
+        (record {
+          before = K.held out.old;
+          now = K.held out.new;
+          faults_before = K.faults out.old;
+          faults_now = K.faults out.new;
+        }))
         list_answer_of (answer_of (λ a. a) result) }
 {
     match list_job(alloc, most, input, out) {
@@ -57,7 +67,7 @@ pub fn list<S: Source, K: Sink>(
     }
 }
 
-/// Writes the sheets of the job that the input is as images.
+/// Writes the sheets of the job that the input holds as images.
 pub fn play<S: Source, K: Sink>(
     alloc: Global,
     profile: &Profile,
@@ -68,8 +78,18 @@ pub fn play<S: Source, K: Sink>(
     requires checked { IsOk (check profile.now) }
     requires most { most < 2 ^ 63 }
     ensures { Did ThePlayStop (PlayOutcome (printer_of profile.now) most
-        (record { before = S.left input.old; now = S.left input.new; faults_before = S.faults input.old; faults_now = S.faults input.new })
-        (record { before = K.held out.old; now = K.held out.new; faults_before = K.faults out.old; faults_now = K.faults out.new }))
+        (record {
+          before = S.left input.old;
+          now = S.left input.new;
+          faults_before = S.faults input.old;
+          faults_now = S.faults input.new;
+        })
+        (record {
+          before = K.held out.old;
+          now = K.held out.new;
+          faults_before = K.faults out.old;
+          faults_now = K.faults out.new;
+        }))
         play_answer_of (answer_of (λ a. a) result) }
 {
     match play_job(alloc, profile, most, input, out) {

@@ -19,8 +19,8 @@ use std::thread::Threads;
 use wavefront_team::Gate;
 use weave_base::{Sink, Source};
 
-/// Prints the pages of the input, each when it is read to its last line and every meter has room for it. So many workers
-/// diffuse each slab, and share the gate.
+/// Prints the pages of the input, each once it is read to its last line and every meter has room for it. `workers`
+/// workers diffuse each slab and share the gate.
 pub fn print_pages<R: Threads + Sync, S: Source, K: Sink, G: Gate + Sync>(
     rt: &R,
     alloc: Global,
@@ -36,9 +36,22 @@ pub fn print_pages<R: Threads + Sync, S: Source, K: Sink, G: Gate + Sync>(
     requires some_workers { 1 ≤ workers }
     requires most_workers { workers ≤ 64 }
     ensures { PrintOutcome (printer_of profile.now) (table_of kernel)
-        (record { before = S.left input.old; now = S.left input.new; faults_before = S.faults input.old; faults_now = S.faults input.new })
-        (record { before = K.held out.old; now = K.held out.new; faults_before = K.faults out.old; faults_now = K.faults out.new })
-        (record { before = map (λ meter. account meter) meters.old.items; now = map (λ meter. account meter) meters.new.items }) result }
+        (record {
+          before = S.left input.old;
+          now = S.left input.new;
+          faults_before = S.faults input.old;
+          faults_now = S.faults input.new;
+        })
+        (record {
+          before = K.held out.old;
+          now = K.held out.new;
+          faults_before = K.faults out.old;
+          faults_now = K.faults out.new;
+        })
+        (record {
+          before = map (λ meter. account meter) meters.old.items;
+          now = map (λ meter. account meter) meters.new.items;
+        }) result }
 {
     prove!(profile.nozzles <= 255);
     let mut reader = PageReader::begin(alloc, input)?;

@@ -1,4 +1,4 @@
-//! The run.
+//! A run.
 ghost use Rattle.driver_core.specs.JobPromises.{JobPromises};
 ghost use Rattle.driver_core.specs.Run.{Outcome, Promises, Told, answer_of};
 ghost use Rattle.job_words.specs.Meaning.{job_meaning, profile_named};
@@ -19,7 +19,7 @@ use std::thread::Threads;
 use wavefront_team::Gate;
 use weave_base::{Shelf, Sink, Source, Words, put_all};
 
-// What a run does, but for the error line; `Err` where it is not done.
+// All of a run except the error line; `Err` is the answer of a run that is not done.
 fn work<R: Threads + Sync, S: Source, K: Sink, F: Shelf, G: Gate + Sync>(
     rt: &R,
     alloc: Global,
@@ -32,10 +32,27 @@ fn work<R: Threads + Sync, S: Source, K: Sink, F: Shelf, G: Gate + Sync>(
 ) -> Result<(), Answer>
     ensures outcome { Outcome words.now
         (record {
-          shelf = record { told = F.files shelf.old; faults_before = F.faults shelf.old; faults_now = F.faults shelf.new };
-          input = record { before = S.left input.old; now = S.left input.new; faults_before = S.faults input.old; faults_now = S.faults input.new };
-          out = record { before = K.held out.old; now = K.held out.new; faults_before = K.faults out.old; faults_now = K.faults out.new };
-          meters = record { before = map (λ meter. account meter) meters.old.items; now = map (λ meter. account meter) meters.new.items };
+          shelf = record {
+            told = F.files shelf.old;
+            faults_before = F.faults shelf.old;
+            faults_now = F.faults shelf.new;
+          };
+          input = record {
+            before = S.left input.old;
+            now = S.left input.new;
+            faults_before = S.faults input.old;
+            faults_now = S.faults input.new;
+          };
+          out = record {
+            before = K.held out.old;
+            now = K.held out.new;
+            faults_before = K.faults out.old;
+            faults_now = K.faults out.new;
+          };
+          meters = record {
+            before = map (λ meter. account meter) meters.old.items;
+            now = map (λ meter. account meter) meters.new.items;
+          };
         }) (answer_of (λ a. a) result) }
     ensures unasked { IsSome (built_in (profile_named words.now)) → (shelf.new ≡ shelf.old) }
     ensures refused_unasked { IsErr (job_meaning words.now) → (shelf.new ≡ shelf.old) }
@@ -65,7 +82,7 @@ fn work<R: Threads + Sync, S: Source, K: Sink, F: Shelf, G: Gate + Sync>(
     Ok(())
 }
 
-// The answer to work that is done, or not.
+// The answer of a run, by what its work gave.
 fn answer_to(worked: Result<(), Answer>) -> Answer
     ensures { result ≡ answer_of (λ a. a) worked }
 {
@@ -75,28 +92,33 @@ fn answer_to(worked: Result<(), Answer>) -> Answer
     }
 }
 
-/// Tells a sink an answer's error line, as much of it as the sink takes.
+/// Writes an answer's error line to a sink, as much of it as the sink takes.
 pub fn tell<E: Sink>(answer: &Answer, err: &mut E)
-    ensures { Told (record { before = E.held err.old; now = E.held err.new; faults_before = E.faults err.old; faults_now = E.faults err.new }) answer.now }
+    ensures { Told (record {
+      before = E.held err.old;
+      now = E.held err.new;
+      faults_before = E.faults err.old;
+      faults_now = E.faults err.new;
+    }) answer.now }
 {
     let mut line = ArrayString::new();
     answer.text(&mut line);
     let _ = put_all(err, line.as_bytes());
 }
 
-/// Runs a command line: `print` prints the pages of the input (PWG Raster, PWG 5102.4) as a job of ESC/P2 commands on
-/// `out`, `dots` writes the sheets of the job that the input is as images there, `list` its commands as lines of text, and
-/// `profile` a profile's text.
+/// Runs a command line. `print` prints the pages of the input (PWG Raster, PWG 5102.4) as a job of ESC/P2 commands on
+/// `out`; `dots` writes the sheets of the job in the input as images there; `list` writes its commands as lines of
+/// text, and `profile` a profile's text.
 ///
-/// The answer is the exit status: 0 done, 1 a word is refused, 2 the profile is refused, 3 the input is refused, 4 a read
-/// of the input or of the shelf failed, 5 a write failed, 6 a page goes past the cap of a meter, 7 memory ran out, 8 the
-/// job is refused. Each but 0 has one line on `err`.
+/// The answer is the exit status: 0 done, 1 a word is refused, 2 the profile is refused, 3 the input is refused, 4 a
+/// read of the input or of the shelf failed, 5 a write failed, 6 a page goes past the cap of a meter, 7 memory ran
+/// out, 8 the job is refused. Each but 0 writes one line to `err`.
 ///
-/// The word `cap=n` sets the cap of each meter right after the words were accepted. A page is asked of the meters after its
-/// last line was read and before its first byte is written; where all have room for its dots, all count them at once.
+/// The word `cap=n` sets the cap of each meter once the words are accepted. The meters are asked for room for a page
+/// after its last line was read and before its first byte is written; where all have room, all count its dots.
 ///
-/// The word `workers=n` sets how many threads diffuse each slab of 256 rows; each enters the gate between the claim of a
-/// tile and its work.
+/// The word `workers=n` sets how many threads diffuse each slab of 256 rows; each enters the gate after it claims a
+/// tile and before it works it.
 pub fn run<R: Threads + Sync, S: Source, K: Sink, E: Sink, F: Shelf, G: Gate + Sync>(
     rt: &R,
     alloc: Global,
@@ -110,20 +132,64 @@ pub fn run<R: Threads + Sync, S: Source, K: Sink, E: Sink, F: Shelf, G: Gate + S
 ) -> u8
     ensures promises { Promises words.now
         (record {
-          shelf = record { told = F.files shelf.old; faults_before = F.faults shelf.old; faults_now = F.faults shelf.new };
-          input = record { before = S.left input.old; now = S.left input.new; faults_before = S.faults input.old; faults_now = S.faults input.new };
-          out = record { before = K.held out.old; now = K.held out.new; faults_before = K.faults out.old; faults_now = K.faults out.new };
-          meters = record { before = map (λ meter. account meter) meters.old.items; now = map (λ meter. account meter) meters.new.items };
+          shelf = record {
+            told = F.files shelf.old;
+            faults_before = F.faults shelf.old;
+            faults_now = F.faults shelf.new;
+          };
+          input = record {
+            before = S.left input.old;
+            now = S.left input.new;
+            faults_before = S.faults input.old;
+            faults_now = S.faults input.new;
+          };
+          out = record {
+            before = K.held out.old;
+            now = K.held out.new;
+            faults_before = K.faults out.old;
+            faults_now = K.faults out.new;
+          };
+          meters = record {
+            before = map (λ meter. account meter) meters.old.items;
+            now = map (λ meter. account meter) meters.new.items;
+          };
         })
-        (record { before = E.held err.old; now = E.held err.new; faults_before = E.faults err.old; faults_now = E.faults err.new }) result }
+        (record {
+          before = E.held err.old;
+          now = E.held err.new;
+          faults_before = E.faults err.old;
+          faults_now = E.faults err.new;
+        }) result }
     ensures job_promises { JobPromises words.now
         (record {
-          shelf = record { told = F.files shelf.old; faults_before = F.faults shelf.old; faults_now = F.faults shelf.new };
-          input = record { before = S.left input.old; now = S.left input.new; faults_before = S.faults input.old; faults_now = S.faults input.new };
-          out = record { before = K.held out.old; now = K.held out.new; faults_before = K.faults out.old; faults_now = K.faults out.new };
-          meters = record { before = map (λ meter. account meter) meters.old.items; now = map (λ meter. account meter) meters.new.items };
+          shelf = record {
+            told = F.files shelf.old;
+            faults_before = F.faults shelf.old;
+            faults_now = F.faults shelf.new;
+          };
+          input = record {
+            before = S.left input.old;
+            now = S.left input.new;
+            faults_before = S.faults input.old;
+            faults_now = S.faults input.new;
+          };
+          out = record {
+            before = K.held out.old;
+            now = K.held out.new;
+            faults_before = K.faults out.old;
+            faults_now = K.faults out.new;
+          };
+          meters = record {
+            before = map (λ meter. account meter) meters.old.items;
+            now = map (λ meter. account meter) meters.new.items;
+          };
         })
-        (record { before = E.held err.old; now = E.held err.new; faults_before = E.faults err.old; faults_now = E.faults err.new }) result }
+        (record {
+          before = E.held err.old;
+          now = E.held err.new;
+          faults_before = E.faults err.old;
+          faults_now = E.faults err.new;
+        }) result }
     // The shelf is asked neither for a built-in profile, nor where a word is refused.
     ensures unasked { IsSome (built_in (profile_named words.now)) → (shelf.new ≡ shelf.old) }
     ensures refused_unasked { IsErr (job_meaning words.now) → (shelf.new ≡ shelf.old) }

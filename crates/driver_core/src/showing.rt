@@ -10,7 +10,12 @@ use weave_base::{Sink, put_all};
 /// Writes the profile's text.
 pub fn show_profile<K: Sink>(alloc: Global, profile: &Profile, out: &mut K) -> Result<(), ShowStop>
     ensures outcome { ShowOutcome profile.now
-        (record { before = K.held out.old; now = K.held out.new; faults_before = K.faults out.old; faults_now = K.faults out.new }) result }
+        (record {
+          before = K.held out.old;
+          now = K.held out.new;
+          faults_before = K.faults out.old;
+          faults_now = K.faults out.new;
+        }) result }
     ensures later { K.faults out.old ≤ K.faults out.new }
 {
     let mut text = Vec::new(alloc);

@@ -6,10 +6,11 @@ use driver_answer::Answer;
 use pwg_definitions::InputCause;
 use pwg_stream::StreamStop;
 
-/// Why the printing of a stream stopped. Pages and lines count from 1; page 0 is the sync word, line 0 a header.
+/// Why the printing of a stream stopped. Pages and lines are counted from 1; page 0 is the sync word, line 0 a
+/// header.
 #[derive(Clone, Copy, Debug, PartialEq, Eq)]
 pub enum PrintStop {
-    /// The input is refused here.
+    /// The input is refused at this place.
     Input {
         page: u32,
         line: u32,
@@ -17,11 +18,11 @@ pub enum PrintStop {
     },
     /// A read failed.
     Read,
-    /// A write failed, in this page.
+    /// A write failed in this page.
     Write {
         page: u32,
     },
-    /// The dots of this page go past the cap of a meter, which has counted `total`.
+    /// The dots of this page would go past the cap of a meter, which has counted `total`.
     OverCap {
         page: u32,
         total: u64,

@@ -61,7 +61,7 @@ fn another_profile_is_density(rt: HostRuntime) -> Result<(), Fail> {
 }
 
 #[test]
-fn sheets_before_a_stop_stand(rt: HostRuntime) -> Result<(), Fail> {
+fn sheets_before_a_stop_are_written(rt: HostRuntime) -> Result<(), Fail> {
     let alloc = rt.alloc();
     let mut job = Vec::new(alloc);
     job.extend_from_slice(&JOB)?;

@@ -8,7 +8,7 @@ use std::test::Fail;
 use std::thread::Threads;
 use weave_base::{MemShelf, MemSink, MemSource, Words};
 
-/// A sheet of six rows by the printer `tiny`, whose last row and the one in its middle are black, in two passes.
+/// A sheet of six rows on the printer `tiny`, with two black rows in two passes.
 pub const JOB: [u8; 92] = [
     0x1B, 0x40, 0x1B, 0x28, 0x47, 1, 0, 1, 0x1B, 0x28, 0x55, 1, 0, 5, 0x1B, 0x28, 0x69, 1, 0, 0,
     0x1B, 0x55, 1, 0x1B, 0x28, 0x43, 2, 0, 0x0C, 0, 0x1B, 0x28, 0x63, 4, 0, 0, 0, 0x0C, 0, 0x1B,
@@ -25,12 +25,13 @@ pub struct Left {
     pub err: MemSink,
 }
 
-/// A sink with room for so many bytes, which never fails but for want of it.
+/// A sink with room for `room` bytes, which fails only when it is full.
 pub fn sink(alloc: Global, room: usize) -> Result<MemSink, Fail> {
     Ok(MemSink::make(alloc, room, Vec::new(alloc), Vec::new(alloc))?)
 }
 
-/// Runs these words, at most nine, over these bytes. `reads` has the most bytes of a read, and the number of a read that fails.
+/// Runs these words, at most nine, over these bytes. `reads` has the most bytes of a read, and the number of a read
+/// that fails.
 pub fn run_on<R: Threads + Sync>(
     rt: &R,
     alloc: Global,

@@ -1,4 +1,4 @@
-//! Tests of whole runs that look at print jobs.
+//! Tests of whole runs of the commands for print jobs.
 #![tactic(auto)]
 
 #[cfg(test)]

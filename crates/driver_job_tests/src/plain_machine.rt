@@ -1,4 +1,4 @@
-//! A plain machine for the printer `tiny`: it runs commands dot by dot. It is slow, and apart from the driver.
+//! A slow emulator of the printer `tiny`: it runs commands dot by dot, and is independent of the driver.
 use crate::plain_reader::{Name, Said};
 use std::alloc::{AllocError, Global};
 
@@ -18,7 +18,7 @@ struct Dot {
     y: i64,
 }
 
-/// A machine amid a job. Lengths and places are in 1/3600 inch.
+/// The emulator inside a job. Lengths and places are in 1/3600 inch.
 #[derive(Drop)]
 pub struct Machine {
     alloc: Global,
@@ -34,7 +34,7 @@ pub struct Machine {
 }
 
 impl Machine {
-    /// A machine at the start of a job.
+    /// The emulator at the start of a job.
     pub fn start(alloc: Global) -> Machine {
         Machine {
             alloc,
@@ -81,7 +81,7 @@ impl Machine {
         Ok(Machine::start(alloc).raster_dots(said)?.len())
     }
 
-    // Appends the dots of a byte, whose first bit stands in this column of the raster.
+    // Appends the dots of a byte, the first of which is in this column of the raster.
     fn add_dots(
         &self,
         said: &Said,
@@ -132,7 +132,7 @@ impl Machine {
         first_of(&tests)
     }
 
-    // Why the machine refuses a command, with these dots where it is a raster.
+    // Why the printer refuses a command; for a raster, with these dots.
     fn fault(&self, said: &Said, dots: &[Dot]) -> Option<&'static str> {
         let no_unit = (self.unit.is_none(), "NoUnit");
         let no_page = (self.page.is_none(), "NoMargins");
@@ -163,7 +163,7 @@ impl Machine {
         }
     }
 
-    // Does what a command says that fires no dots.
+    // Runs a command that fires no dots.
     fn set(&mut self, said: &Said) {
         let to = self.units(said, 0);
         match said.name {
@@ -246,7 +246,7 @@ impl Machine {
         Ok(())
     }
 
-    /// Runs a command, appends the images of the sheet that it gives, and gives the fault for which it is refused.
+    /// Runs a command, appends the images of the sheet that it ejects, and gives the fault for which it is refused.
     pub fn run(
         &mut self,
         said: &Said,

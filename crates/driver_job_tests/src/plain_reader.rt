@@ -1,12 +1,12 @@
-//! A plain reader of print jobs: the command table, byte by byte. It is slow, and apart from the driver.
+//! A slow reader of print jobs: the command table, byte by byte, independent of the driver.
 use std::alloc::{AllocError, Global};
 
-/// Why bytes stop being commands.
+/// Why bytes are not a command.
 #[derive(Clone, Copy, Debug, PartialEq, Eq)]
 pub enum Stop {
     /// The job ends inside a command.
     Cut,
-    /// The byte at this place of the job is refused, for this cause.
+    /// The byte at this offset of the job is refused for this cause.
     Fault { at: u64, cause: &'static str },
     /// Memory ran out.
     Memory,
@@ -59,7 +59,7 @@ impl Name {
     }
 }
 
-/// A command, its numbers in the order in which they stand, and the rows of a raster.
+/// A command, its numbers in their order, and the rows of a raster.
 #[derive(Drop)]
 pub struct Said {
     pub name: Name,
@@ -68,21 +68,21 @@ pub struct Said {
 }
 
 impl Said {
-    /// One of its numbers, or 0.
+    /// Its i-th number, or 0.
     pub fn number(&self, i: usize) -> i64 {
         i64::from(self.numbers.get(i).copied().unwrap_or(0))
     }
 }
 
-/// The bytes of a job that are not read yet, and the place of the first.
+/// The unread bytes of a job, and the offset of the first.
 #[derive(Clone, Copy)]
-pub struct Front<'a> {
+pub struct Unread<'a> {
     pub rest: &'a [u8],
     pub at: u64,
     pub alloc: Global,
 }
 
-impl Front<'_> {
+impl Unread<'_> {
     fn byte(&mut self) -> Result<u8, Stop> {
         let Some((byte, rest)) = self.rest.split_first() else {
             return Err(Stop::Cut);
@@ -92,7 +92,7 @@ impl Front<'_> {
         Ok(*byte)
     }
 
-    // Refuses a byte that was read, so many from the last one back.
+    // Refuses a byte that was read, `back` bytes before the last one.
     fn refuse<T>(&self, back: u64, cause: &'static str) -> Result<T, Stop> {
         Err(Stop::Fault {
             at: self.at.wrapping_sub(back).wrapping_sub(1),
@@ -108,7 +108,7 @@ impl Front<'_> {
         })
     }
 
-    // A number of a byte, from one to another.
+    // A number of one byte, from `least` to `most`.
     fn number(&mut self, least: u8, most: u8) -> Result<u16, Stop> {
         let number = self.byte()?;
         if number < least || number > most {
@@ -117,7 +117,7 @@ impl Front<'_> {
         Ok(u16::from(number))
     }
 
-    // A number of two bytes, the low one first, from one to another.
+    // A number of two bytes, the low byte first, from `least` to `most`.
     fn wide(&mut self, least: u16, most: u16) -> Result<u16, Stop> {
         let low = self.byte()?;
         let high = self.byte()?;
@@ -224,7 +224,7 @@ impl Front<'_> {
         Ok(said)
     }
 
-    // Appends so many bytes as they are.
+    // Appends `count` bytes as they are.
     fn copy(&mut self, count: usize, rows: &mut Vec<u8>) -> Result<(), Stop> {
         for _ in 0..count {
             rows.extend_from_slice(&[self.byte()?])?;
@@ -232,7 +232,7 @@ impl Front<'_> {
         Ok(())
     }
 
-    // Appends a row of so many bytes, by its packets.
+    // Appends a row of `width` bytes, by its packets.
     fn coded_row(&mut self, width: usize, rows: &mut Vec<u8>) -> Result<(), Stop> {
         let mut left = width;
         for _ in 0..width {

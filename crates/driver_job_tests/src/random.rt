@@ -1,4 +1,4 @@
-//! Pseudo-random print jobs for the printer `tiny`, most of them with a sheet or two.
+//! Pseudo-random print jobs for the printer `tiny`, most of them with one or two sheets.
 ghost use Rattle.std.specs.Prelude.{◌<◌};
 
 use std::alloc::{AllocError, Global};
@@ -38,7 +38,7 @@ impl Random {
         self.next().to_be_bytes()[0]
     }
 
-    // A byte with few dots, of which half have none.
+    // A byte with few dots; half of all such bytes have none.
     fn dots(&mut self) -> u8 {
         if self.below(2) == 0 {
             return 0;
@@ -47,7 +47,7 @@ impl Random {
     }
 }
 
-// Appends graphics mode, the unit, the page's length and its margins. The bottom one may pass the page's end.
+// Appends graphics mode, the unit, the page's length and its margins. The bottom margin may be past the page's end.
 fn add_page(random: &mut Random, job: &mut Vec<u8>) -> Result<(), AllocError> {
     let length = 12 + random.byte(20);
     let top = [0, 0, 0, 2, 2, 2, 4, 1][random.below(8) as usize];
@@ -57,7 +57,7 @@ fn add_page(random: &mut Random, job: &mut Vec<u8>) -> Result<(), AllocError> {
     job.extend_from_slice(&[0x1B, 0x28, 0x63, 4, 0, top, 0, bottom, 0])
 }
 
-// Appends a row of so many bytes, by packets of one to four.
+// Appends a row of `width` bytes, by packets of one to four.
 fn add_row(random: &mut Random, width: u8, job: &mut Vec<u8>) -> Result<(), AllocError> {
     let mut left = width;
     for _ in 0..width {
@@ -77,7 +77,7 @@ fn add_row(random: &mut Random, width: u8, job: &mut Vec<u8>) -> Result<(), Allo
     Ok(())
 }
 
-// Appends a raster of one to twenty columns. Its steps or its rows may not be the printer's.
+// Appends a raster of one to twenty columns. Its steps or its number of rows may differ from the printer's.
 fn add_raster(random: &mut Random, job: &mut Vec<u8>) -> Result<(), AllocError> {
     let coded = random.byte(2);
     let columns = 1 + random.byte(20);
@@ -123,7 +123,7 @@ fn add_plain(random: &mut Random, job: &mut Vec<u8>) -> Result<(), AllocError> {
     }
 }
 
-/// A job of some commands, by the generator.
+/// A job of pseudo-random commands.
 pub fn random_job(alloc: Global, random: &mut Random) -> Result<Vec<u8>, AllocError> {
     let mut job = Vec::new(alloc);
     job.extend_from_slice(&[0x1B, 0x40])?;

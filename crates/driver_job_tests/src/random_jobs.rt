@@ -1,14 +1,14 @@
-//! Pseudo-random jobs, whole, cut and with a byte changed: what the driver says of them is what plain programs say.
+//! Pseudo-random jobs, whole, cut and with a byte changed: the driver answers as the slow programs do.
 use crate::fixture::{run_on, sink};
 use crate::plain_machine::Machine;
-use crate::plain_reader::{Front, Name, Said, Stop};
+use crate::plain_reader::{Name, Said, Stop, Unread};
 use crate::random::{Random, random_job};
 use std::alloc::{AllocError, Global};
 use std::process::Abort;
 use std::test::Fail;
 use std::thread::Threads;
 
-/// What a job comes to: what is written, and where and why it stops.
+/// The outcome of a job: what is written, and where and why it stops.
 #[derive(Drop)]
 struct Outcome {
     out: Vec<u8>,
@@ -16,7 +16,7 @@ struct Outcome {
 }
 
 impl Outcome {
-    /// Asserts that a command says the same of a job.
+    /// Asserts that a command has the same outcome for a job.
     fn is<R: Abort + Threads + Sync>(
         &self,
         rt: &R,
@@ -57,17 +57,17 @@ fn read(
     job: &[u8],
 ) -> Result<(Vec<(u64, Said)>, Option<(u64, &'static str)>), AllocError> {
     let mut said = Vec::new(alloc);
-    let mut front = Front {
+    let mut unread = Unread {
         rest: job,
         at: 0,
         alloc,
     };
     for _ in 0..job.len() {
-        if front.rest.is_empty() {
+        if unread.rest.is_empty() {
             return Ok((said, None));
         }
-        let at = front.at;
-        match front.command() {
+        let at = unread.at;
+        match unread.command() {
             Ok(command) => said.push((at, command))?,
             Err(Stop::Cut) => return Ok((said, Some((at, "Cut")))),
             Err(Stop::Fault { at, cause }) => return Ok((said, Some((at, cause)))),
@@ -101,7 +101,7 @@ fn played(alloc: Global, job: &[u8]) -> Result<Outcome, AllocError> {
     Ok(Outcome { out, stop })
 }
 
-// Asserts that the driver lists and plays a job, read in pieces of some length, as the plain programs do.
+// Asserts that the driver lists and plays a job, read in pieces of some length, as the slow programs do.
 fn is_alike<R: Abort + Threads + Sync>(
     rt: &R,
     alloc: Global,

@@ -1,4 +1,4 @@
-//! Pages of colour, by each ink's count.
+//! Pages of colour, and the count of each ink.
 use crate::fixture::{add_page, begin, counts, roomy};
 use driver_core::{OpenGate, run};
 use ink_meter::{DotMeter, Meter};
@@ -9,7 +9,7 @@ use weave_base::{MemShelf, MemSource, ShelfFile, Words};
 /// A printer of four inks without margins.
 const FOUR_INKS: &[u8] = b"escp2-profile 1\nhdpi=360\nvdpi=360\nnozzles=1\npitch=1\ninks=cmyk\n";
 
-// Two lines of four pixels each: red, which is magenta and yellow; black above cyan; black.
+// Two lines of four pixels each: red, for which magenta and yellow are used; black above cyan; black.
 const RED: [u8; 5] = [1, 3, 255, 0, 0];
 
 const BLACK_ABOVE_CYAN: [u8; 10] = [0, 3, 0, 0, 0, 0, 3, 0, 255, 255];

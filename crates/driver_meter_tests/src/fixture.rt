@@ -9,10 +9,10 @@ use std::process::Abort;
 use std::thread::Threads;
 use weave_base::{MemShelf, MemSink, MemSource, Memory, Words};
 
-/// The body of a page that is black all over: six lines of eight pixels.
+/// The body of a black page: six lines of eight pixels.
 pub const BLACK: [u8; 3] = [5, 7, 0];
 
-/// The job of that page by the printer `tiny`, whose window is two of its lines: 16 dots.
+/// The job of that page on the printer `tiny`, whose window is two of its lines: 16 dots.
 pub const TINY_JOB: [u8; 92] = [
     0x1B, 0x40, 0x1B, 0x28, 0x47, 1, 0, 1, 0x1B, 0x28, 0x55, 1, 0, 5, 0x1B, 0x28, 0x69, 1, 0, 0,
     0x1B, 0x55, 1, 0x1B, 0x28, 0x43, 2, 0, 0x0C, 0, 0x1B, 0x28, 0x63, 4, 0, 0, 0, 0x0C, 0, 0x1B,
@@ -29,7 +29,7 @@ pub struct Left {
     pub err: MemSink,
 }
 
-/// The bytes that a stream begins with.
+/// The first bytes of a stream.
 pub fn begin(alloc: Global) -> Result<Vec<u8>, AllocError> {
     b"RaS2".to_vec(alloc)
 }
@@ -57,7 +57,7 @@ pub fn add_page(
     bytes.extend_from_slice(body)
 }
 
-/// A stream of so many black pages.
+/// A stream of `count` black pages.
 pub fn black_pages(alloc: Global, count: u32) -> Result<Vec<u8>, AllocError> {
     let mut bytes = begin(alloc)?;
     for _ in 0..count {
@@ -111,7 +111,7 @@ pub fn counts(k: u64, c: u64, m: u64, y: u64) -> InkCounts {
     InkCounts { k, c, m, y }
 }
 
-/// What the meters counted together, where that fits.
+/// The sum of what the meters counted, where it fits.
 pub fn settled(meters: Vec<Box<dyn Meter>>) -> Option<InkCounts> {
     if can_settle(&meters) {
         Some(settle(meters))

@@ -3,7 +3,7 @@ use driver_core::{Answer, UsageCause, UsageFault};
 use std::{env, io};
 use weave_base::Words;
 
-// What it comes to that the system does not hand over the command line.
+// The answer where the system does not give the command line.
 fn refusal(error: &io::Error) -> Answer {
     match error.kind() {
         io::ErrorKind::OutOfMemory => Answer::Memory,
@@ -14,10 +14,11 @@ fn refusal(error: &io::Error) -> Answer {
     }
 }
 
-/// The most words that a run takes.
+/// The most words of a run.
 const MOST_WORDS: u32 = 0x7FFF_FFFF;
 
-/// The words behind the program's name, the first 2,147,483,647 of them. A word that is not UTF-8 is refused as word 0.
+/// The words after the program's name, at most the first 2,147,483,647. A word that is not UTF-8 is refused as word
+/// 0.
 pub fn read_words(rt: &HostRuntime) -> Result<Words, Answer> {
     let line = match env::args(rt) {
         Ok(line) => line,

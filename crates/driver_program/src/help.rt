@@ -1,4 +1,4 @@
-//! What the program tells of itself.
+//! What the program says about itself.
 use weave_base::Words;
 
 const HELP: &str = "\

@@ -1,5 +1,8 @@
-//! The driver as a program: words from the command line, pages from standard input, the job to standard output, the error
-//! line to standard error, profiles from the files of the current folder, and the status as the exit code.
+//! The driver as a program: words from the command line, pages from standard input, the job to standard output, the
+//! error line to standard error, profiles from the files of the current folder, and the status as the exit code.
+//!
+//! It has no contract, since `main` may promise nothing about the outside. Its stored run and the trials of
+//! `docs/USING.md` test it.
 #![tactic(auto)]
 
 mod command_line;
@@ -14,7 +17,7 @@ use std::process::ExitCode;
 use std::thread::Threads;
 use weave_base::{DirShelf, StdSink, StdSource, Words, put_all};
 
-// Shows a text instead of a run.
+// Writes a text instead of a run.
 fn show<W: Write>(text: &str, out: &mut StdSink<W>) -> Answer {
     match put_all(out, text.as_bytes()) {
         Ok(()) => Answer::Done,
@@ -22,7 +25,7 @@ fn show<W: Write>(text: &str, out: &mut StdSink<W>) -> Answer {
     }
 }
 
-// Runs the words, or shows the text that the first of them asks for.
+// Runs the words, or writes the text that the first of them asks for.
 fn run_words<R: Threads + Sync>(rt: &HostRuntime, threads: &R, words: &Words) -> u8 {
     let mut input = StdSource::make(rt.stdin());
     let mut out = StdSink::make(rt.stdout());
@@ -30,7 +33,7 @@ fn run_words<R: Threads + Sync>(rt: &HostRuntime, threads: &R, words: &Words) ->
     let Some(text) = text_of(words) else {
         let mut shelf = DirShelf::make(rt);
         let mut meters: Vec<Box<dyn Meter>> = Vec::new(rt.alloc());
-        // nothing is written where the meter finds no memory
+        // memory runs out before anything is written
         let Ok(meter) = Box::new(rt.alloc(), DotMeter::make()) else {
             return Answer::Memory.status();
         };
@@ -61,7 +64,7 @@ fn run_words<R: Threads + Sync>(rt: &HostRuntime, threads: &R, words: &Words) ->
 fn main(rt: HostRuntime) -> ExitCode {
     match read_words(&rt) {
         Ok(words) => ExitCode::from(run_words(&rt, &rt, &words)),
-        // nothing is written where the words find no memory
+        // memory runs out before anything is written
         Err(Answer::Memory) => ExitCode::from(Answer::Memory.status()),
         Err(answer) => {
             tell(&answer, &mut StdSink::make(rt.stderr()));

@@ -1,9 +1,9 @@
-//! A printer of any head.
+//! Printers with any heads.
 use std::alloc::Global;
 use std::test::Fail;
 use weave_base::{Ink, InkSet};
 
-/// A printer as the text of its profile gives it: dots an inch, its head, its inks, and margins in pixels.
+/// A printer as its profile's text describes it: dots an inch, its head, its inks, and margins in pixels.
 #[derive(Clone, Copy)]
 pub struct Printer {
     pub hdpi: u16,
@@ -20,7 +20,7 @@ pub struct Printer {
     pub bottom: u16,
 }
 
-/// The plainest printer.
+/// The simplest printer.
 pub const PLAINEST: Printer = Printer {
     hdpi: 360,
     vdpi: 360,
@@ -59,7 +59,7 @@ impl Printer {
         Ok(format!(in alloc; "{}{}{}", head, colours, margins)?)
     }
 
-    /// The greatest amount of an ink.
+    /// The limit of an ink.
     pub fn limit(&self, ink: Ink) -> u8 {
         let (k, c, m, y) = self.limits;
         match ink {
@@ -70,7 +70,7 @@ impl Printer {
         }
     }
 
-    /// The columns and rows that are left of a page of this size inside the margins.
+    /// The columns and rows of a page of this size inside the margins.
     pub fn window(&self, width: u32, height: u32) -> (i64, i64) {
         let beside = i64::from(self.left).wrapping_add(i64::from(self.right));
         let above_and_below = i64::from(self.top).wrapping_add(i64::from(self.bottom));

@@ -1,4 +1,4 @@
-//! The bytes that streams begin with, and prefixes of streams.
+//! The first bytes of streams, and prefixes of streams.
 ghost use Rattle.std.specs.Prelude.{IfOk, take, ◌≡◌};
 ghost use Rattle.pwg_definitions.specs.Stream.{sync_word};
 
@@ -11,7 +11,7 @@ pub fn begin(alloc: Global) -> Result<Vec<u8>, AllocError>
     b"RaS2".to_vec(alloc)
 }
 
-/// A prefix of some bytes, of all where there are fewer.
+/// The first `count` bytes, or all where there are fewer.
 pub fn prefix(bytes: &[u8], count: usize) -> &[u8]
     ensures { result.now ≡ take count bytes.now }
 {

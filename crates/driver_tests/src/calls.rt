@@ -10,7 +10,7 @@ use std::test::Fail;
 use std::thread::Threads;
 use weave_base::{Failed, Found, MemShelf, MemSink, Shelf, ShelfStop, Sink};
 
-// A shelf that keeps the names that it is asked for.
+// A shelf that records the names that it is asked for.
 #[derive(Drop)]
 struct ListeningShelf {
     shelf: MemShelf,
@@ -35,7 +35,7 @@ impl Shelf for ListeningShelf {
     }
 }
 
-// Asserts that words give this status, and ask a shelf of one file for these names alone.
+// Asserts that words give this status, and ask a shelf of one file for exactly these names.
 fn asks<R: Abort + Threads + Sync>(
     rt: &R,
     alloc: Global,
@@ -81,7 +81,7 @@ fn a_shelf_is_asked_once_for_what_is_not_built_in(rt: HostRuntime) -> Result<(),
     Ok(())
 }
 
-// A sink that counts the calls of its writes.
+// A sink that counts its writes.
 #[derive(Drop)]
 struct CountingSink {
     sink: MemSink,
@@ -104,7 +104,7 @@ impl Sink for CountingSink {
 #[test]
 fn a_pass_is_one_write(rt: HostRuntime) -> Result<(), Fail> {
     let alloc = rt.alloc();
-    // 120 lines of margins, and 300 lines that fifteen nozzles four rows apart fire in 24 passes
+    // 120 lines of margins, and 300 lines that 15 nozzles four rows apart fire in 24 passes
     let bytes = one_page(alloc, 218, 420, &[255, 127, 0, 89, 0, 163, 127, 0, 89, 0])?;
     let mut out = CountingSink {
         sink: roomy(alloc)?,
@@ -130,7 +130,7 @@ fn a_pass_is_one_write(rt: HostRuntime) -> Result<(), Fail> {
     Ok(())
 }
 
-// Prints a stream of so many pages of one black pixel.
+// Prints a stream of `count` pages of one black pixel.
 fn print_pages<R: Threads + Sync>(rt: &R, alloc: Global, count: u32) -> Result<Left, Fail> {
     let mut page = Vec::new(alloc);
     add_header(&mut page, (360, 360), (1, 1))?;

@@ -6,7 +6,7 @@ use std::test::Fail;
 use std::thread::Threads;
 use weave_base::Memory;
 
-// Prints a page of one pixel by a printer of one nozzle and these inks.
+// Prints a page of one pixel on a printer of one nozzle and these inks.
 fn print_pixel<R: Threads + Sync>(
     rt: &R,
     alloc: Global,
@@ -34,14 +34,14 @@ fn print_pixel<R: Threads + Sync>(
 
 const FOUR_INKS: &[u8] = b"escp2-profile 1\nhdpi=360\nvdpi=360\nnozzles=1\npitch=1\ninks=cmyk\n";
 
-// The commands of a sheet of one row before its passes.
+// The commands before the passes of a sheet of one row.
 const PROLOGUE: [u8; 46] = [
     0x1B, 0x40, 0x1B, 0x28, 0x47, 1, 0, 1, 0x1B, 0x28, 0x55, 1, 0, 5, 0x1B, 0x28, 0x69, 1, 0, 0,
     0x1B, 0x55, 1, 0x1B, 0x28, 0x43, 2, 0, 2, 0, 0x1B, 0x28, 0x63, 4, 0, 0, 0, 2, 0, 0x1B, 0x28,
     0x56, 2, 0, 0, 0,
 ];
 
-// The job of one pixel that takes these inks, by their colour codes.
+// The job of one pixel that uses these inks, by their colour codes.
 fn pixel_job(alloc: Global, codes: &[u8]) -> Result<Vec<u8>, Fail> {
     let mut job = PROLOGUE.to_vec(alloc)?;
     for code in codes {

@@ -8,7 +8,7 @@ use std::test::Fail;
 use std::thread::Threads;
 use weave_base::{MemShelf, MemSink, MemSource, Memory, ShelfFile, Words};
 
-/// Two lines of grey, of which the second has two dots, on a page of four columns.
+/// Two lines of grey on a page of four columns; the second line has two dots.
 pub const GREY_BODY: [u8; 8] = [0, 3, 0xD1, 0, 2, 0x9F, 0, 0xA3];
 
 /// The job of the page of grey.
@@ -22,7 +22,7 @@ pub const GREY_JOB: [u8; 70] = [
 /// The bytes of a stream of one page of grey.
 pub const GREY_STREAM: usize = 1808;
 
-/// The words that most runs have.
+/// The words of most runs.
 pub const PRINT: [&str; 2] = ["print", "profile=tiny1"];
 
 /// What a run left: its status, its output and its error line.
@@ -49,7 +49,7 @@ pub fn roomy(alloc: Global) -> Result<MemSink, Memory> {
     MemSink::make(alloc, 70_000, Vec::new(alloc), Vec::new(alloc))
 }
 
-/// A source that gives as much as it is asked for.
+/// A source that gives as many bytes as it is asked for.
 pub fn plain(alloc: Global, bytes: Vec<u8>) -> MemSource {
     MemSource::make(bytes, Vec::new(alloc), Vec::new(alloc))
 }
@@ -161,7 +161,7 @@ pub fn run_through<R: Threads + Sync, G: Gate + Sync>(
     Ok(Left { status, out, err })
 }
 
-/// Prints these bytes by the plainest printer.
+/// Prints these bytes on the simplest printer.
 pub fn print_bytes<R: Threads + Sync>(
     rt: &R,
     alloc: Global,
@@ -180,7 +180,7 @@ impl Left {
         assert_eq!(rt; self.out.bytes(), out);
     }
 
-    /// Asserts that the run went well, and the length and the hash of its output.
+    /// Asserts that the run succeeded, and the length and the hash of its output.
     pub fn hashes_to<R: Abort>(&self, rt: &R, length: usize, hash: u64) {
         assert_eq!(rt; self.err.bytes(), b"".as_slice());
         assert_eq!(rt; self.status, 0);

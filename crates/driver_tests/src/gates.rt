@@ -6,7 +6,7 @@ use std::sync::atomic::{AtomicU64, Ordering};
 use std::test::Fail;
 use std::thread::Threads;
 
-// Prints a page by the plainest printer, with so many workers.
+// Prints a page on the simplest printer with this many workers.
 fn print_through<R: Threads + Sync, G: Gate + Sync>(
     rt: &R,
     alloc: Global,
@@ -23,7 +23,7 @@ fn print_through<R: Threads + Sync, G: Gate + Sync>(
 // How often a tile waits for another.
 const TURNS: u32 = 100_000_000;
 
-// A gate that holds two tiles, of which neither needs the other, until both came.
+// A gate that holds two independent tiles until both have come.
 #[derive(Drop)]
 struct MeetingGate {
     came: AtomicU64,
@@ -48,7 +48,7 @@ impl Gate for MeetingGate {
 #[test]
 fn two_tiles_are_inside_the_gate_at_once(rt: HostRuntime) -> Result<(), Fail> {
     let alloc = rt.alloc();
-    // all of one grey
+    // the whole page in one grey
     let page = one_page(alloc, 200, 70, &[0x45, 0x7F, 0x9B, 0x47, 0x9B])?;
     let gate = MeetingGate {
         came: AtomicU64::new(0),
@@ -61,7 +61,7 @@ fn two_tiles_are_inside_the_gate_at_once(rt: HostRuntime) -> Result<(), Fail> {
     Ok(())
 }
 
-// A gate that counts how often a tile of each band is entered on a page of one column of tiles.
+// A gate that counts how often a tile of each band is entered, on a page of one column of tiles.
 #[derive(Drop)]
 struct CountingGate {
     bands: [AtomicU64; 8],

@@ -1,8 +1,8 @@
-//! Grids of numbers, for the plain programs.
+//! Grids of numbers, for the slow programs.
 use std::alloc::Global;
 use weave_base::Memory;
 
-/// Numbers by column and row, counted from 0. Off the grid they are 0.
+/// Numbers by column and row, counted from 0. Outside the grid they are 0.
 #[derive(Drop)]
 pub struct Grid {
     pub width: i64,
@@ -25,7 +25,7 @@ impl Grid {
         })
     }
 
-    // Where a cell stands in the list, if it is on the grid.
+    // The index of a cell in the list, if it is on the grid.
     fn place(&self, x: i64, y: i64) -> Option<usize> {
         if x < 0 || x >= self.width || y < 0 || y >= self.height {
             return None;
@@ -41,7 +41,7 @@ impl Grid {
         }
     }
 
-    /// Writes the number of a cell, of 16 bits. Off the grid nothing is written.
+    /// Writes the number of a cell, of 16 bits. Outside the grid nothing is written.
     pub fn set(&mut self, x: i64, y: i64, number: i64) {
         if let Some(place) = self.place(x, y) {
             if let Some(cell) = self.cells.get_mut(place) {

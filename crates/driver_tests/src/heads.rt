@@ -1,4 +1,4 @@
-//! Heads of many nozzles: their passes, one over another, fire exactly the dots that a page wants.
+//! Heads of many nozzles: their interleaved passes fire exactly the dots that a page asks for.
 use crate::any_printer::{PLAINEST, Printer};
 use crate::pictures::{Picture, prints_its_dots};
 use crate::plain::KERNELS;
@@ -33,7 +33,7 @@ fn resolution(turn: u16) -> u16 {
     if turn % 2 == 0 { 360 } else { 720 }
 }
 
-// A printer of this head, and all its margins. Its resolutions, its inks and how far its margins reach go in turn.
+// A printer with this head and all margins. Its resolutions, inks and margins are taken in turn.
 fn printer_of(nozzles: u8, pitch: u8, turn: u16) -> Printer {
     let head_rows = u16::from(nozzles.saturating_sub(1)).wrapping_mul(u16::from(pitch));
     Printer {
@@ -73,7 +73,7 @@ fn try_head<R: Abort + Threads + Sync>(
     prints_its_dots(rt, alloc, &printer, &picture, kernel)
 }
 
-// Prints a picture by each head of so many nozzles.
+// Prints a picture by each head of this many nozzles.
 fn try_pitches<R: Abort + Threads + Sync>(rt: &R, alloc: Global, nozzles: u8) -> Result<(), Fail> {
     for pitch in 1..10u8 {
         if is_coprime(nozzles, pitch) {

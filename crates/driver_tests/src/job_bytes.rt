@@ -1,4 +1,4 @@
-//! The bytes of a job, read from the front: numbers, and rows of rasters by their codes.
+//! Reading the bytes of a job: numbers, and rows of rasters by their codes.
 use std::alloc::Global;
 use weave_base::Memory;
 
@@ -7,17 +7,17 @@ use weave_base::Memory;
 pub enum JobFault {
     /// It ends inside a command.
     Cut,
-    /// Its bytes are none of the commands.
+    /// Its bytes are not a command.
     Unknown,
-    /// A number of a command is outside of its range.
+    /// A number of a command is out of range.
     Number,
-    /// A packet runs past its row, or is none.
+    /// A packet goes past the end of its row, or its control byte is 128.
     RowCode,
-    /// A command comes before the sheet is set up, or behind its end.
+    /// A command comes before the sheet is set up, or after its end.
     NoSheet,
-    /// A raster has other steps or rows than the printer, or begins between its columns or rows.
+    /// A raster has other steps or rows than the printer, or begins between the printer's columns or rows.
     OffGrid,
-    /// A dot is outside of the window, or at the bottom margin or below.
+    /// A dot is outside the window, or at or below the bottom margin.
     OffWindow,
     /// A dot is fired a second time.
     FiredTwice,
@@ -31,7 +31,7 @@ impl From<Memory> for JobFault {
     }
 }
 
-/// The bytes of a job that are not read yet.
+/// The unread bytes of a job.
 #[derive(Drop)]
 pub struct JobBytes<'a> {
     pub rest: &'a [u8],
@@ -47,14 +47,14 @@ impl JobBytes<'_> {
         Ok(*byte)
     }
 
-    /// A number of two bytes, the low one first.
+    /// A number of two bytes, the low byte first.
     pub fn wide(&mut self) -> Result<u16, JobFault> {
         let low = self.byte()?;
         let high = self.byte()?;
         Ok(u16::from_le_bytes([low, high]))
     }
 
-    /// A byte that is to have one of these values.
+    /// A byte that must have one of these values.
     pub fn one_of(&mut self, values: &[u8]) -> Result<u8, JobFault> {
         let byte = self.byte()?;
         if values.contains(&byte) {
@@ -64,14 +64,14 @@ impl JobBytes<'_> {
         }
     }
 
-    /// A row of so many bytes as they are.
+    /// A row of `width` bytes, not coded.
     pub fn plain_row(&mut self, alloc: Global, width: usize) -> Result<Vec<u8>, JobFault> {
         let mut row = Vec::new(alloc);
         self.copy(width, &mut row)?;
         Ok(row)
     }
 
-    /// A row of so many bytes, by the packets of its code.
+    /// A coded row of `width` bytes.
     pub fn coded_row(&mut self, alloc: Global, width: usize) -> Result<Vec<u8>, JobFault> {
         let mut row = Vec::new(alloc);
         for _ in 0..width {
@@ -82,7 +82,7 @@ impl JobBytes<'_> {
         Ok(row)
     }
 
-    // A packet of a row: bytes as they are, or one byte that stands several times.
+    // A packet of a row: bytes as they are, or one byte repeated.
     fn packet(&mut self, width: usize, row: &mut Vec<u8>) -> Result<(), JobFault> {
         let control = usize::from(self.byte()?);
         let count = match control {
@@ -103,7 +103,7 @@ impl JobBytes<'_> {
         }
     }
 
-    // Appends so many bytes as they are.
+    // Appends `count` bytes as they are.
     fn copy(&mut self, count: usize, row: &mut Vec<u8>) -> Result<(), JobFault> {
         let Some((bytes, rest)) = self.rest.split_at_checked(count) else {
             return Err(JobFault::Cut);

@@ -1,11 +1,11 @@
-//! A page of which each kernel makes other dots.
+//! A page for which each kernel sets other dots.
 use crate::fixture::{Left, no_files, one_page, plain, roomy, run_over};
 use std::alloc::Global;
 use std::test::Fail;
 use std::thread::Threads;
 use weave_base::Memory;
 
-// A page of seventy equal lines of two hundred columns, printed with this kernel by so many workers.
+// A page of seventy equal lines of two hundred columns, printed with this kernel by this many workers.
 fn print_by<R: Threads + Sync>(
     rt: &R,
     alloc: Global,

@@ -1,6 +1,7 @@
 //! Tests of whole runs of the driver: pages and profiles in, jobs and error lines out.
 //!
-//! What they expect was worked out apart from the driver: by hand, or by a slow program over the definitions.
+//! The expected values were worked out independently of the driver: by hand, or by a slow program that follows the
+//! definitions.
 #![tactic(auto)]
 
 #[cfg(test)]

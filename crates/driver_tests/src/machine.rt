@@ -1,4 +1,4 @@
-//! A plain machine: it executes a job of one page by the command table, and marks each dot that the job fires.
+//! A slow emulator: it executes a job of one page by the command table, and marks each dot that the job fires.
 use crate::any_printer::Printer;
 use crate::job_bytes::{JobBytes, JobFault};
 use crate::printed::Printed;
@@ -14,7 +14,7 @@ struct Raster {
     columns: u16,
 }
 
-// A machine amid a job. Places are in 1/3600 inch.
+// The emulator inside a job. Places are in 1/3600 inch.
 #[derive(Drop)]
 struct Machine<'a> {
     printer: &'a Printer,
@@ -137,7 +137,7 @@ impl Machine<'_> {
         i64::from(3600u16.checked_div(self.printer.vdpi).unwrap_or(0))
     }
 
-    // The column and the row of the window where a raster begins; a row above the window is below 0.
+    // The column and the row of the window where a raster begins; a row above the window is negative.
     fn corner(&self, raster: Raster) -> Result<(i64, i64), JobFault> {
         if !self.has_graphics || self.unit == 0 || self.bottom == 0 || self.printed.sheets > 0 {
             return Err(JobFault::NoSheet);
@@ -181,7 +181,7 @@ impl Machine<'_> {
     }
 }
 
-/// What a job of one page prints over a window of so many columns and rows.
+/// What a job of one page prints over a window of this many columns and rows.
 pub fn execute(
     alloc: Global,
     printer: &Printer,

@@ -40,7 +40,7 @@ fn a_failing_read_keeps_the_pages_before_it(rt: HostRuntime) -> Result<(), Fail>
     Ok(())
 }
 
-// The error line of a write that fails after so many bytes.
+// The error line of a write that fails after `count` bytes.
 fn line_after(count: usize) -> &'static [u8] {
     if count < ONE {
         b"write failed: page 1\n"

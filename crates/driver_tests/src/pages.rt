@@ -1,4 +1,5 @@
-//! Pages of each kind of pixel, for each set of inks by each kernel: the job fires exactly the dots that a page wants.
+//! Pages of each kind of pixel, for each set of inks with each kernel: the job fires exactly the dots that a page
+//! asks for.
 use crate::any_printer::{PLAINEST, Printer};
 use crate::pictures::{Picture, prints_its_dots};
 use crate::plain::KERNELS;
@@ -11,7 +12,7 @@ use weave_base::InkSet;
 
 const KINDS: [Kind; 3] = [Kind::Gray8, Kind::Black8, Kind::Rgb8];
 
-// A printer of one nozzle of these inks, whose black and whose limits are not the plainest.
+// A printer of one nozzle with these inks, with a black start and limits unlike the simplest printer's.
 fn printer_of(inks: InkSet) -> Printer {
     Printer {
         inks,
@@ -21,7 +22,7 @@ fn printer_of(inks: InkSet) -> Printer {
     }
 }
 
-// Prints a picture of each kind by each kernel.
+// Prints a picture of each kind with each kernel.
 fn try_width<R: Abort + Threads + Sync>(
     rt: &R,
     alloc: Global,

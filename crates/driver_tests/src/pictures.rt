@@ -18,7 +18,7 @@ pub struct Picture {
     pub bytes: Vec<u8>,
 }
 
-// The bytes of a pixel.
+// How many bytes a pixel has.
 fn unit_of(kind: Kind) -> u32 {
     match kind {
         Kind::Gray8 | Kind::Black8 => 1,
@@ -65,7 +65,7 @@ fn add_line(
 }
 
 impl Picture {
-    /// A picture of pseudo-random pixels, which the seed gives.
+    /// A picture of pseudo-random pixels from a seed.
     pub fn random(
         alloc: Global,
         kind: Kind,
@@ -120,7 +120,7 @@ impl Picture {
     }
 }
 
-// Appends a line that stands once, by packets of its units as they are.
+// Appends the group of a line without repeats, by packets of literal units.
 fn code_line(stream: &mut Vec<u8>, line: &[u8], unit: usize) -> Result<(), AllocError> {
     stream.extend_from_slice(&[0])?;
     for packet in line.chunks(unit.wrapping_mul(128).max(1)) {
@@ -157,7 +157,7 @@ pub fn print_picture<R: Threads + Sync>(
     Ok(left)
 }
 
-/// Prints a picture, and asserts that its job fires each dot that it wants once, and no other.
+/// Prints a picture, and asserts that its job fires each dot that the picture asks for once, and no other.
 pub fn prints_its_dots<R: Abort + Threads + Sync>(
     rt: &R,
     alloc: Global,

@@ -1,4 +1,4 @@
-//! The dots that a page wants, straight from the written definitions: slow, and apart from the driver.
+//! The dots that a page asks for, straight from the written definitions: slow, and independent of the driver.
 use crate::any_printer::Printer;
 use crate::grid::Grid;
 use crate::pictures::Picture;
@@ -9,7 +9,7 @@ use weave_base::{Ink, InkSet, Memory};
 /// The inks, in the order in which a printer fires them.
 pub const INKS: [Ink; 4] = [Ink::Black, Ink::Cyan, Ink::Magenta, Ink::Yellow];
 
-/// A kernel: its word of the command line, and the shares of an error, each with how far to the right and down it goes.
+/// A kernel: its word on the command line, and the shares of an error, each with its distance to the right and down.
 #[derive(Clone, Copy)]
 pub struct Kernel {
     pub word: &'static str,
@@ -75,7 +75,7 @@ fn of_grey(inks: InkSet, ink: Ink, darkness: u8) -> u8 {
     }
 }
 
-// What a colour lacks of an ink.
+// The complement of a colour, for an ink.
 fn complement((red, green, blue): (u8, u8, u8), ink: Ink) -> u8 {
     match ink {
         Ink::Black => 0,
@@ -85,7 +85,7 @@ fn complement((red, green, blue): (u8, u8, u8), ink: Ink) -> u8 {
     }
 }
 
-// How much of a darkness goes into black, where less than the least stays in the colours.
+// The part of a darkness that goes to black; a darkness below the least stays in the colours.
 fn moved_to_black(least: u8, darkness: u8) -> u8 {
     if darkness < least {
         return 0;
@@ -155,7 +155,7 @@ fn diffuse_row(kernel: &Kernel, amounts: &Grid, y: i64, errors: &mut Grid, dots:
     }
 }
 
-// The dots of a plane of amounts: 1 where there is one.
+// The dots of a plane of amounts: 1 for a dot, else 0.
 fn diffuse(alloc: Global, kernel: &Kernel, amounts: &Grid) -> Result<Grid, Memory> {
     let mut errors = Grid::make(alloc, amounts.width, amounts.height)?;
     let mut dots = Grid::make(alloc, amounts.width, amounts.height)?;
@@ -174,7 +174,8 @@ fn weigh_row(printer: &Printer, picture: &Picture, ink: Ink, y: i64, amounts: &m
     }
 }
 
-/// The dots of an ink over the window of a picture: 1 where there is one, and none of an ink that the printer lacks.
+/// The dots of an ink over the window of a picture: 1 for a dot, else 0; all 0 for an ink that the printer does not
+/// have.
 pub fn wanted(
     alloc: Global,
     printer: &Printer,

@@ -1,4 +1,4 @@
-//! Pages that are printed and then played: the images have the dots that the page wants.
+//! Pages that are printed and then played: the images have the dots that the page asks for.
 use crate::any_printer::{PLAINEST, Printer};
 use crate::fixture::{one_file, plain, roomy, run_over};
 use crate::grid::Grid;
@@ -27,7 +27,7 @@ fn add_row(dots: &Grid, y: i64, image: &mut Vec<u8>) -> Result<(), AllocError> {
     Ok(())
 }
 
-// Appends the image of a sheet of so many rows, whose dots are these below the top margin.
+// Appends the image of a sheet of this many rows, which has these dots below the top margin.
 fn add_image(
     alloc: Global,
     dots: &Grid,
@@ -43,7 +43,7 @@ fn add_image(
     Ok(())
 }
 
-// Prints a picture, plays the job, and asserts that the images have the dots that the picture wants.
+// Prints a picture, plays the job, and asserts that the images have the dots that the picture asks for.
 fn plays_its_dots<R: Abort + Threads + Sync>(
     rt: &R,
     alloc: Global,
@@ -71,7 +71,7 @@ fn plays_its_dots<R: Abort + Threads + Sync>(
     Ok(())
 }
 
-// Three nozzles that stand two rows apart, and margins.
+// Three nozzles two rows apart, and margins.
 fn printer_of(inks: InkSet) -> Printer {
     Printer {
         nozzles: 3,
@@ -87,7 +87,7 @@ fn printer_of(inks: InkSet) -> Printer {
 }
 
 #[test]
-fn printed_pages_are_played_to_the_dots_that_they_want(rt: HostRuntime) -> Result<(), Fail> {
+fn printed_pages_are_played_to_their_dots(rt: HostRuntime) -> Result<(), Fail> {
     let alloc = rt.alloc();
     for inks in [InkSet::K, InkSet::Cmy, InkSet::Cmyk] {
         for (kind, seed) in [Kind::Gray8, Kind::Black8, Kind::Rgb8]

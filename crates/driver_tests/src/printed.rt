@@ -7,7 +7,7 @@ use weave_base::Memory;
 /// What a job printed.
 #[derive(Drop)]
 pub struct Printed {
-    /// The dots of black, cyan, magenta and yellow over the window: 1 where there is one.
+    /// The dots of black, cyan, magenta and yellow over the window: 1 for a dot, else 0.
     pub dots: [Grid; 4],
     /// How many rasters were fired.
     pub rasters: u32,
@@ -18,7 +18,7 @@ pub struct Printed {
 }
 
 impl Printed {
-    /// An empty sheet, with a window of so many columns and rows.
+    /// An empty sheet, with a window of this many columns and rows.
     pub fn make(alloc: Global, (width, height): (i64, i64)) -> Result<Printed, Memory> {
         Ok(Printed {
             dots: [
@@ -33,7 +33,7 @@ impl Printed {
         })
     }
 
-    /// Fires the dots of a byte of a row from this column on, of which the highest bit is the first.
+    /// Fires the dots of a byte of a row from this column on, the highest bit first.
     pub fn fire(&mut self, ink: usize, byte: u8, x: i64, y: i64) -> Result<(), JobFault> {
         let mut column = x;
         for mask in [0x80, 0x40, 0x20, 0x10, 8, 4, 2, 1] {

@@ -1,4 +1,4 @@
-//! Pages printed by printers of one nozzle that differ from the plainest in one value.
+//! Pages printed on printers of one nozzle that differ from the simplest in one value.
 use crate::fixture::{
     Left, add_header, begin, no_files, one_file, one_page, plain, roomy, run_over,
 };
@@ -7,10 +7,10 @@ use std::test::Fail;
 use std::thread::Threads;
 use weave_base::Memory;
 
-// The text of the plainest printer.
+// The text of the simplest printer.
 const PLAIN: &[u8] = b"escp2-profile 1\nhdpi=360\nvdpi=360\nnozzles=1\npitch=1\ninks=k\n";
 
-// Prints these bytes by the printer of this text.
+// Prints these bytes on the printer of this text.
 fn print_by<R: Threads + Sync>(
     rt: &R,
     alloc: Global,
@@ -28,14 +28,14 @@ fn print_by<R: Threads + Sync>(
     )
 }
 
-// The text of the plainest printer, and these lines.
+// The text of the simplest printer, and these lines.
 fn plain_and(alloc: Global, lines: &[u8]) -> Result<Vec<u8>, Fail> {
     let mut text = PLAIN.to_vec(alloc)?;
     text.extend_from_slice(lines)?;
     Ok(text)
 }
 
-// Three columns of one line, below a margin of a row.
+// Three columns of one line, below a top margin of one row.
 const MOVED_JOB: [u8; 63] = [
     0x1B, 0x40, 0x1B, 0x28, 0x47, 1, 0, 1, 0x1B, 0x28, 0x55, 1, 0, 5, 0x1B, 0x28, 0x69, 1, 0, 0,
     0x1B, 0x55, 1, 0x1B, 0x28, 0x43, 2, 0, 4, 0, 0x1B, 0x28, 0x63, 4, 0, 2, 0, 4, 0, 0x1B, 0x28,
@@ -49,7 +49,7 @@ fn margins_cut_the_window_and_move_it_down(rt: HostRuntime) -> Result<(), Fail> 
     let text = plain_and(alloc, b"left=1\ntop=1\n")?;
     let left = print_by(&rt, alloc, &text, one_page(alloc, 4, 2, &[1, 3, 0])?)?;
     left.is(&rt, 0, &MOVED_JOB, b"");
-    // a page of the margins alone is too small
+    // a page that is all margin is too small
     let narrow = print_by(&rt, alloc, &text, one_page(alloc, 1, 2, &[1, 0, 0])?)?;
     narrow.is(&rt, 3, b"", b"input: page 1 line 0: Width\n");
     let low = print_by(&rt, alloc, &text, one_page(alloc, 4, 1, &[0, 3, 0])?)?;

@@ -54,7 +54,8 @@ fn show<R: Threads + Sync>(
 }
 
 const TINY: &[u8] =
-    b"escp2-profile 1\nhdpi=360\nvdpi=360\nnozzles=3\npitch=2\ninks=k\nblack_start=0\nlimit_k=255\nlimit_c=255\nlimit_m=255\nlimit_y=255\nleft=0\nright=0\ntop=4\nbottom=0\n";
+    b"escp2-profile 1\nhdpi=360\nvdpi=360\nnozzles=3\npitch=2\ninks=k\nblack_start=0\nlimit_k=255\nlimit_c=255\n\
+    limit_m=255\nlimit_y=255\nleft=0\nright=0\ntop=4\nbottom=0\n";
 
 #[test]
 fn profile_prints_its_canonical_text(rt: HostRuntime) -> Result<(), Fail> {
@@ -64,7 +65,7 @@ fn profile_prints_its_canonical_text(rt: HostRuntime) -> Result<(), Fail> {
     built_in.is(&rt, 0, TINY, b"");
     let absent = show(&rt, alloc, "profile=none.txt", no_files(alloc))?;
     absent.is(&rt, 2, b"", b"profile: line 0: Absent\n");
-    // a built-in profile is not sought on the shelf
+    // the shelf is not asked for a built-in profile
     let failing = MemShelf::make(Vec::new(alloc), vec![in alloc; 1]?);
     let unasked = show(&rt, alloc, "profile=tiny", failing)?;
     unasked.is(&rt, 0, TINY, b"");
@@ -108,7 +109,7 @@ fn a_failing_sink_is_no_page(rt: HostRuntime) -> Result<(), Fail> {
     Ok(())
 }
 
-// Asserts what showing the profile of this text answers.
+// Asserts the answer to showing the profile of this text.
 fn shows<R: Abort + Threads + Sync>(
     rt: &R,
     alloc: Global,
@@ -131,7 +132,8 @@ const JUST_ENOUGH: &[u8] =
     b"escp2-profile 1\nhdpi=360\nvdpi=720\nnozzles=31\npitch=8\ninks=k\ntop=240\n";
 
 const JUST_ENOUGH_WHOLE: &[u8] =
-    b"escp2-profile 1\nhdpi=360\nvdpi=720\nnozzles=31\npitch=8\ninks=k\nblack_start=0\nlimit_k=255\nlimit_c=255\nlimit_m=255\nlimit_y=255\nleft=0\nright=0\ntop=240\nbottom=0\n";
+    b"escp2-profile 1\nhdpi=360\nvdpi=720\nnozzles=31\npitch=8\ninks=k\nblack_start=0\nlimit_k=255\nlimit_c=255\n\
+    limit_m=255\nlimit_y=255\nleft=0\nright=0\ntop=240\nbottom=0\n";
 
 #[test]
 fn profile_checks_name_gcd_margin_and_step(rt: HostRuntime) -> Result<(), Fail> {
@@ -207,7 +209,7 @@ fn a_bad_text_is_refused_at_its_line(rt: HostRuntime) -> Result<(), Fail> {
     Ok(())
 }
 
-// The text of a profile with a remark behind it, of so many bytes.
+// The text of a profile followed by a comment, of this many bytes in all.
 fn text_of(alloc: Global, length: usize) -> Result<Vec<u8>, Fail> {
     let mut text = JUST_ENOUGH.to_vec(alloc)?;
     for _ in text.len()..length {

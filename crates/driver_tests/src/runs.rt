@@ -42,7 +42,7 @@ fn a_group_past_the_page_is_refused_at_its_count(rt: HostRuntime) -> Result<(), 
     Ok(())
 }
 
-// A stream of one page of grey, of which one byte is another.
+// A stream of one page of grey with one byte changed.
 fn changed(alloc: Global, at: usize, byte: u8) -> Result<Vec<u8>, Fail> {
     let mut bytes = one_page(alloc, 4, 2, &GREY_BODY)?;
     if at < bytes.len() {
@@ -52,7 +52,7 @@ fn changed(alloc: Global, at: usize, byte: u8) -> Result<Vec<u8>, Fail> {
 }
 
 #[test]
-fn a_refused_header_is_told_by_its_cause(rt: HostRuntime) -> Result<(), Fail> {
+fn a_refused_header_is_named_by_its_cause(rt: HostRuntime) -> Result<(), Fail> {
     let alloc = rt.alloc();
     let cases: [(usize, u8, &[u8]); 12] = [
         (4, b'p', b"input: page 1 line 0: NotPwg\n"),
@@ -61,7 +61,7 @@ fn a_refused_header_is_told_by_its_cause(rt: HostRuntime) -> Result<(), Fail> {
         (287, 0, b"input: page 1 line 0: Resolution\n"),
         (379, 0, b"input: page 1 line 0: Width\n"),
         (383, 0, b"input: page 1 line 0: Height\n"),
-        // sixteen bits of a colour
+        // 16 bits a colour
         (391, 16, b"input: page 1 line 0: Kind\n"),
         (395, 16, b"input: page 1 line 0: Kind\n"),
         (399, 5, b"input: page 1 line 0: BytesPerLine\n"),
@@ -98,7 +98,7 @@ fn prints_both<R: Threads + Sync>(rt: &R, alloc: Global, first: u32) -> Result<b
     Ok(left.status == 0 && one == GREY_JOB.as_slice() && two == GREY_JOB.as_slice())
 }
 
-// Asserts that each of these cuts leaves the job of two pages of grey as it is.
+// Asserts that each of these cuts leaves the job of two pages of grey unchanged.
 fn try_cuts<R: Abort + Threads + Sync>(
     rt: &R,
     alloc: Global,

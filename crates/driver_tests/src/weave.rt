@@ -10,7 +10,7 @@ use std::test::Fail;
 use std::thread::Threads;
 use weave_base::{InkSet, Memory};
 
-// Prints these bytes by a built-in printer.
+// Prints these bytes on a built-in printer.
 fn print_by<R: Threads + Sync>(
     rt: &R,
     alloc: Global,
@@ -30,7 +30,7 @@ fn print_by<R: Threads + Sync>(
 // A page of eight columns and six lines, all black, without its header.
 const BLACK_BODY: [u8; 3] = [5, 7, 0];
 
-// Its job by three nozzles that stand two rows apart: the window has two rows, which two passes fire.
+// Its job on three nozzles two rows apart: the window has two rows, which two passes fire.
 const TINY_JOB: [u8; 92] = [
     0x1B, 0x40, 0x1B, 0x28, 0x47, 1, 0, 1, 0x1B, 0x28, 0x55, 1, 0, 5, 0x1B, 0x28, 0x69, 1, 0, 0,
     0x1B, 0x55, 1, 0x1B, 0x28, 0x43, 2, 0, 0x0C, 0, 0x1B, 0x28, 0x63, 4, 0, 0, 0, 0x0C, 0, 0x1B,
@@ -137,7 +137,7 @@ fn sixteen_bits_and_a_short_page_are_refused(rt: HostRuntime) -> Result<(), Fail
     Ok(())
 }
 
-// The printer of that name.
+// The built-in printer of that name.
 const P360CMYK: Printer = Printer {
     nozzles: 15,
     pitch: 4,
@@ -149,7 +149,7 @@ const P360CMYK: Printer = Printer {
     ..PLAINEST
 };
 
-// An A4 page of red, green and blue at 360 dots an inch, all of one unit.
+// An A4 page of red, green and blue at 360 dots an inch, all of one byte.
 fn a4(alloc: Global, byte: u8) -> Result<Vec<u8>, Fail> {
     let mut bytes = begin(alloc)?;
     add_header_of(&mut bytes, Kind::Rgb8, (360, 360), (2976, 4209))?;

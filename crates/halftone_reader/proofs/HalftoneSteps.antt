@@ -18,11 +18,13 @@ use Rattle.halftone_reader.specs.Reading.{ReadsHalftone}
 use Rattle.halftone_reader.proofs.PageSteps.{PageSoFar, page_begin, page_end, page_step}
 
 -- a page that begins is one that the printer takes
-pub begun-wanted : (want : Wanted) (old now : PageReader) (before left : Option (List ℕ)) (form : PageForm) → BeginsPage want old now before left form → IsWanted want form
+pub begun-wanted : (want : Wanted) (old now : PageReader) (before left : Option (List ℕ)) (form : PageForm)
+    → BeginsPage want old now before left form → IsWanted want form
 begun-wanted want old now before left form begins = check-wanted want (header_of begins.header.header) form begins.header.accepted
 
 -- What was read so far is a prefix of a page, and the halftoning stands for its lines.
-pub record HalftonedSoFar (profile : Profile) (kernel : Kernel) (form : PageForm) (old now : PageReader) (before left : Option (List ℕ)) (h : Halftoning) : Type 0 where
+pub record HalftonedSoFar (profile : Profile) (kernel : Kernel)
+    (form : PageForm) (old now : PageReader) (before left : Option (List ℕ)) (h : Halftoning) : Type 0 where
   pub lines : List (List ℕ)
   pub page : PageSoFar (wanted_by (printer_of profile)) old now before left (record { form = form; lines = lines })
   pub stands : StandsFor h lines
@@ -31,9 +33,11 @@ pub record HalftonedSoFar (profile : Profile) (kernel : Kernel) (form : PageForm
   pub form_is : h.form ≡ form
   pub kernel_is : h.kernel ≡ kernel
 
-pub halftone_begin : (profile : Profile) (kernel : Kernel) (form : PageForm) (old now : PageReader) (before left : Option (List ℕ)) (h : Halftoning)
+pub halftone_begin : (profile : Profile)
+    (kernel : Kernel) (form : PageForm) (old now : PageReader) (before left : Option (List ℕ)) (h : Halftoning)
     → BeginsPage (wanted_by (printer_of profile)) old now before left form → has_ended old ≡ false → stop_of now ≡ None
-    → (h.profile ≡ profile) × (h.form ≡ form) × (h.kernel ≡ kernel) → h.count ≡ 0 → StandsFor h [] → HalftonedSoFar profile kernel form old now before left h
+    → (h.profile ≡ profile) × (h.form ≡ form) × (h.kernel ≡ kernel)
+    → h.count ≡ 0 → StandsFor h [] → HalftonedSoFar profile kernel form old now before left h
 halftone_begin profile kernel form old now before left h begins unended going same none stands = record {
   lines = [];
   page = page_begin (wanted_by (printer_of profile)) old now before left form begins unended going;
@@ -45,14 +49,17 @@ halftone_begin profile kernel form old now before left h begins unended going sa
 }
 
 -- one more group
-pub halftone_step : (profile : Profile) (kernel : Kernel) (form : PageForm) (old now next : PageReader) (before left left' : Option (List ℕ)) (h h' : Halftoning) (repeats : ℕ)
-    → HalftonedSoFar profile kernel form old now before left h → 0 < lines_left_of now → GivesLines now next left left' repeats → stop_of next ≡ None
+pub halftone_step : (profile : Profile) (kernel : Kernel) (form : PageForm)
+    (old now next : PageReader) (before left left' : Option (List ℕ)) (h h' : Halftoning) (repeats : ℕ)
+    → HalftonedSoFar profile kernel form old now before left h
+    → 0 < lines_left_of now → GivesLines now next left left' repeats → stop_of next ≡ None
     → IsSamePage h h' → h'.count ≡ h.count + repeats
     → ((lines : List (List ℕ)) → StandsFor h lines → StandsFor h' (lines ++ replicate repeats (line_of next)))
     → HalftonedSoFar profile kernel form old next before left' h'
 halftone_step profile kernel form old now next before left left' h h' repeats so_far some gives going same count stands = record {
   lines = so_far.lines ++ replicate repeats (line_of next);
-  page = page_step (wanted_by (printer_of profile)) old now next before left left' (record { form = form; lines = so_far.lines }) repeats so_far.page some gives going;
+  page = page_step (wanted_by (printer_of profile)) old now next before left left'
+      (record { form = form; lines = so_far.lines }) repeats so_far.page some gives going;
   stands = stands so_far.lines so_far.stands;
   count = omega (arith, so_far.count, count, gives.fall);
   profile_is = same.profile ∙ so_far.profile_is;
@@ -61,17 +68,21 @@ halftone_step profile kernel form old now next before left left' h h' repeats so
 }
 
 -- the last line was read
-pub halftone_end : (profile : Profile) (kernel : Kernel) (form : PageForm) (old now : PageReader) (before left : Option (List ℕ)) (h : Halftoning) (planes : DotTable)
+pub halftone_end : (profile : Profile) (kernel : Kernel)
+    (form : PageForm) (old now : PageReader) (before left : Option (List ℕ)) (h : Halftoning) (planes : DotTable)
     → HalftonedSoFar profile kernel form old now before left h → lines_left_of now ≤ 0
     → ((lines : List (List ℕ)) → StandsFor h lines
-    → HasDots (printer_of h.profile) (halftone (record { form = h.form; lines = lines }) (printer_of h.profile) (table_of h.kernel)) planes.width planes.rows planes.inks (dot planes))
+    → HasDots (printer_of h.profile) (halftone (record { form = h.form; lines = lines })
+    (printer_of h.profile) (table_of h.kernel)) planes.width planes.rows planes.inks (dot planes))
     → ReadsHalftone (printer_of profile) (table_of kernel) old now before left form planes
 halftone_end profile kernel form old now before left h planes so_far none dots =
     let Has : Profile → PageForm → Kernel → Type 0 =
-    λ q f k. HasDots (printer_of q) (halftone (record { form = f; lines = so_far.lines }) (printer_of q) (table_of k)) planes.width planes.rows planes.inks (dot planes) in
+    λ q f k. HasDots (printer_of q) (halftone (record { form = f; lines = so_far.lines }) (printer_of q) (table_of k))
+    planes.width planes.rows planes.inks (dot planes) in
     record {
       page = record { form = form; lines = so_far.lines };
       reads = page_end (wanted_by (printer_of profile)) old now before left (record { form = form; lines = so_far.lines }) so_far.page none;
       form_is = refl;
-      dots = subst (λ q. Has q form kernel) so_far.profile_is (subst (λ f. Has h.profile f kernel) so_far.form_is (subst (λ k. Has h.profile h.form k) so_far.kernel_is (dots so_far.lines so_far.stands)));
+      dots = subst (λ q. Has q form kernel) so_far.profile_is (subst (λ f. Has h.profile f kernel) so_far.form_is
+          (subst (λ k. Has h.profile h.form k) so_far.kernel_is (dots so_far.lines so_far.stands)));
     }

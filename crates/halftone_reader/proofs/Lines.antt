@@ -19,7 +19,8 @@ with-both xs ys (Lines lines rest) = ap (λ ls. Lines ls rest) (sym (append_asso
 with-both xs ys (Stop line why) = refl
 
 -- the lines of a page where its next group is read as this
-pub lines_at-read : (row : KindRow) (units height most left : ℕ) (bytes : List ℕ) (read : GroupRead) → group_at row units (suc left) bytes ≡ read
+pub lines_at-read : (row : KindRow) (units height most left : ℕ) (bytes : List ℕ) (read : GroupRead)
+    → group_at row units (suc left) bytes ≡ read
     → lines_at row units height (suc most) (suc left) bytes ≡ elim read [
       | Group repeats line rest ↦ with_lines (replicate repeats line) (lines_at row units height most (suc left - repeats) rest)
       | Part ↦ Stop (height - suc left + 1) cause.Truncated
@@ -37,18 +38,24 @@ unfolding lines_at
 lines_at-none row units height most bytes = refl
 
 -- as many groups as lines are enough
-pub lines_at-enough : (row : KindRow) (units height most most' left : ℕ) (bytes : List ℕ) → length row.white ≡ row.unit → left ≤ most → left ≤ most'
+pub lines_at-enough : (row : KindRow) (units height most most' left : ℕ) (bytes : List ℕ)
+    → length row.white ≡ row.unit → left ≤ most → left ≤ most'
     → lines_at row units height most left bytes ≡ lines_at row units height most' left bytes
-lines_at-enough row units height most most' zero bytes white enough enough' = lines_at-none row units height most bytes ∙ sym (lines_at-none row units height most' bytes)
+lines_at-enough row units height most most' zero bytes white enough enough' =
+    lines_at-none row units height most bytes ∙ sym (lines_at-none row units height most' bytes)
 lines_at-enough row units height zero most' (suc left) bytes white enough enough' = absurd (omega arith)
 lines_at-enough row units height (suc most) zero (suc left) bytes white enough enough' = absurd (omega arith)
-lines_at-enough row units height (suc most) (suc most') (suc left) bytes white enough enough' = by_group (λ l bs. lines_at-enough row units height most most' l bs white) (group_at row units (suc left) bytes) refl
+lines_at-enough row units height (suc most) (suc most') (suc left) bytes white enough enough' = by_group
+    (λ l bs. lines_at-enough row units height most most' l bs white) (group_at row units (suc left) bytes) refl
   where
-    by_group : ((left : ℕ) (bytes : List ℕ) → left ≤ most → left ≤ most' → lines_at row units height most left bytes ≡ lines_at row units height most' left bytes)
+    by_group : ((left : ℕ) (bytes : List ℕ) → left ≤ most
+        → left ≤ most' → lines_at row units height most left bytes ≡ lines_at row units height most' left bytes)
         → (r : GroupRead) → group_at row units (suc left) bytes ≡ r
         → lines_at row units height (suc most) (suc left) bytes ≡ lines_at row units height (suc most') (suc left) bytes
-    by_group same Part is = lines_at-read row units height most left bytes Part is ∙ sym (lines_at-read row units height most' left bytes Part is)
-    by_group same (Wrong place fault) is = lines_at-read row units height most left bytes (Wrong place fault) is ∙ sym (lines_at-read row units height most' left bytes (Wrong place fault) is)
+    by_group same Part is = lines_at-read row units height most left bytes Part is
+        ∙ sym (lines_at-read row units height most' left bytes Part is)
+    by_group same (Wrong place fault) is = lines_at-read row units height most left bytes (Wrong place fault) is
+        ∙ sym (lines_at-read row units height most' left bytes (Wrong place fault) is)
     by_group same (Group repeats line rest) is =
         let sized = group_at-sized row units (suc left) bytes repeats line rest white is in
         lines_at-read row units height most left bytes (Group repeats line rest) is

@@ -1,5 +1,7 @@
 -- A page that is read, group by group.
-use Rattle.std.proofs.Common.{◌≡◌, ℕ, zero, suc, ◌+◌, ◌-◌, ◌<◌, ◌≤◌, nat_lt, false, if◌then◌else◌, List, [], ◌∷◌, ◌++◌, length, take, drop, replicate, Option, None, Some, IfSome, Result, Ok, Err, refl, sym, ◌∙◌, ap, arith, append_assoc, append-nil, length-append}
+use Rattle.std.proofs.Common.{◌≡◌, ℕ, zero, suc, ◌+◌, ◌-◌, ◌<◌, ◌≤◌, nat_lt, false, if◌then◌else◌, List, [], ◌∷◌, ◌++◌}
+use Rattle.std.proofs.Common.{length, take, drop, replicate, Option, None, Some, IfSome, Result, Ok, Err, refl, sym, ◌∙◌, ap}
+use Rattle.std.proofs.Common.{arith, append_assoc, append-nil, length-append}
 use Rattle.std.specs.Io.KnownBytes.{Consumes}
 use Rattle.std.proofs.KnownBytes.{Consumes-trans}
 use Rattle.std.proofs.lemmas.Bool.{le-ltb}
@@ -12,12 +14,14 @@ use Rattle.pwg_definitions.specs.declared.pages.Wanted.{Wanted}
 use Rattle.pwg_definitions.specs.Header.{check, header_of, line_units, row_of}
 use Rattle.pwg_definitions.specs.Groups.{group_at}
 use Rattle.pwg_definitions.specs.Groups.GroupRead.{Group}
-use Rattle.pwg_definitions.specs.Stream.{LinesRead, Page, PageRead, lines_at, page_at, page_behind, page_of as page_of_lines, pages_from, with_lines, with_page}
+use Rattle.pwg_definitions.specs.Stream.{LinesRead, Page, PageRead, lines_at, page_at, page_behind}
+use Rattle.pwg_definitions.specs.Stream.{page_of as page_of_lines, pages_from, with_lines, with_page}
 use Rattle.pwg_definitions.specs.Stream.StreamEnd.{Fault}
 use Rattle.pwg_definitions.specs.Stream.LinesRead.{Stop}
 use Rattle.pwg_definitions.specs.Stream.PageRead.{Whole, Broken}
 use Rattle.pwg_stream.specs.declared.reader.PageReader.{PageReader}
-use Rattle.pwg_stream.specs.Reading.{BeginsPage, GivesLines, HasLineFault, form_of, has_ended, line_of, lines_left_of, lines_of, page_of, stop_of, text_of}
+use Rattle.pwg_stream.specs.Reading.{BeginsPage, GivesLines, HasLineFault, form_of, has_ended, line_of}
+use Rattle.pwg_stream.specs.Reading.{lines_left_of, lines_of, page_of, stop_of, text_of}
 use Rattle.pwg_stream.specs.Stops.{OnInput}
 use Rattle.unread_bytes.specs.Text.{UsesSome}
 use Rattle.pwg_stream.specs.declared.stops.StreamStop.{StreamStop}
@@ -25,7 +29,7 @@ use Rattle.pwg_stream.specs.declared.stops.StreamStop.TheVariants as stop
 use Rattle.halftone_reader.specs.Reading.{ReadsPage}
 use Rattle.halftone_reader.proofs.Lines.{lines_at-enough, lines_at-none, lines_at-read, white-unit, with-both, with-none}
 
--- what the rest of a page is read as, of which so many lines are left
+-- what the rest of a page with this many lines left is read as
 abbrev pub rest_of : PageForm → ℕ → ℕ → List ℕ → LinesRead
 rest_of form most left bytes = let row = row_of form.kind in lines_at row (line_units row form.width) form.height most left bytes
 
@@ -36,7 +40,8 @@ pub record PageSoFar (want : Wanted) (old now : PageReader) (before left : Optio
   pub some : 1 ≤ length bytes
   pub most : ℕ
   pub enough : lines_left_of now ≤ most
-  pub is : (rest : List ℕ) → page_at want (bytes ++ rest) ≡ page_of_lines page.form (with_lines page.lines (rest_of page.form most (lines_left_of now) rest))
+  pub is : (rest : List ℕ) → page_at want (bytes ++ rest)
+      ≡ page_of_lines page.form (with_lines page.lines (rest_of page.form most (lines_left_of now) rest))
   pub form_is : form_of now ≡ Some page.form
   pub number : page_of now ≡ page_of old + 1
   pub last : page_of now ≤ 9999
@@ -47,13 +52,15 @@ page_at-header : (want : Wanted) (header rest : List ℕ) (form : PageForm) → 
     → page_at want (header ++ rest) ≡ page_of_lines form (with_lines [] (rest_of form form.height form.height rest))
 page_at-header want header rest form long accepted =
     let enough : nat_lt (length (header ++ rest)) 1796 ≡ false = le-ltb _ _ (omega (arith, length-append header rest)) in
-    ap (λ b. if b then Broken 0 cause.Truncated else page_behind (check want (header_of (take 1796 (header ++ rest)))) (drop 1796 (header ++ rest))) enough
+    ap (λ b. if b then Broken 0 cause.Truncated else page_behind
+    (check want (header_of (take 1796 (header ++ rest)))) (drop 1796 (header ++ rest))) enough
     ∙ ap (λ bs. page_behind (check want (header_of bs)) (drop 1796 (header ++ rest))) (take_at header rest 1796 long)
     ∙ ap (λ bs. page_behind (check want (header_of header)) bs) (drop_at header rest 1796 long)
     ∙ ap (λ (r : Result PageForm HeaderFault). page_behind r rest) accepted
     ∙ ap (page_of_lines form) (sym (with-none (rest_of form form.height form.height rest)))
 
-pub page_begin : (want : Wanted) (old now : PageReader) (before left : Option (List ℕ)) (form : PageForm) → BeginsPage want old now before left form → has_ended old ≡ false → stop_of now ≡ None
+pub page_begin : (want : Wanted) (old now : PageReader) (before left : Option (List ℕ)) (form : PageForm)
+    → BeginsPage want old now before left form → has_ended old ≡ false → stop_of now ≡ None
     → PageSoFar want old now before left (record { form = form; lines = [] })
 page_begin want old now before left form begins ended going = record {
   bytes = begins.header.header;
@@ -71,7 +78,8 @@ page_begin want old now before left form begins ended going = record {
 }
 
 -- one more group
-pub page_step : (want : Wanted) (old now next : PageReader) (before left left' : Option (List ℕ)) (page : Page) (repeats : ℕ) → PageSoFar want old now before left page → 0 < lines_left_of now
+pub page_step : (want : Wanted) (old now next : PageReader) (before left left' : Option (List ℕ))
+    (page : Page) (repeats : ℕ) → PageSoFar want old now before left page → 0 < lines_left_of now
     → GivesLines now next left left' repeats → stop_of next ≡ None
     → PageSoFar want old next before left' (record page { lines = page.lines ++ replicate repeats (line_of next) })
 page_step want old now next before left left' page repeats so_far some gives going = record {
@@ -84,7 +92,8 @@ page_step want old now next before left left' page repeats so_far some gives goi
       ap (page_at want) (append_assoc so_far.bytes gives.bytes rest)
       ∙ so_far.is (gives.bytes ++ rest)
       ∙ ap (λ r. page_of_lines page.form (with_lines page.lines r)) (by_sizes so_far.most (lines_left_of now) refl refl rest)
-      ∙ ap (page_of_lines page.form) (with-both page.lines (replicate repeats (line_of next)) (rest_of page.form (so_far.most - 1) (lines_left_of next) rest));
+      ∙ ap (page_of_lines page.form) (with-both page.lines
+      (replicate repeats (line_of next)) (rest_of page.form (so_far.most - 1) (lines_left_of next) rest));
   form_is = gives.form_is ∙ so_far.form_is;
   number = gives.page ∙ so_far.number;
   last = omega (arith, gives.page, so_far.last);
@@ -93,7 +102,8 @@ page_step want old now next before left left' page repeats so_far some gives goi
 }
   where
     by_sizes : (m l : ℕ) → so_far.most ≡ m → lines_left_of now ≡ l → (rest : List ℕ)
-        → rest_of page.form m l (gives.bytes ++ rest) ≡ with_lines (replicate repeats (line_of next)) (rest_of page.form (so_far.most - 1) (lines_left_of next) rest)
+        → rest_of page.form m l (gives.bytes ++ rest) ≡ with_lines
+        (replicate repeats (line_of next)) (rest_of page.form (so_far.most - 1) (lines_left_of next) rest)
     by_sizes m zero em el rest = absurd (omega arith)
     by_sizes zero (suc l) em el rest = absurd (omega (arith, so_far.enough))
     by_sizes (suc m) (suc l) em el rest =
@@ -101,12 +111,14 @@ page_step want old now next before left left' page repeats so_far some gives goi
         let fuel : m ≡ so_far.most - 1 = omega arith in
         let fewer : suc l - repeats ≡ lines_left_of next = omega (arith, gives.fall) in
         lines_at-read row (line_units row page.form.width) page.form.height m l (gives.bytes ++ rest) (Group repeats (line_of next) rest)
-        (ap (λ k. group_at row (line_units row page.form.width) k (gives.bytes ++ rest)) (sym el) ∙ gives.group page.form so_far.form_is rest)
+        (ap (λ k. group_at row (line_units row page.form.width) k (gives.bytes ++ rest)) (sym el)
+        ∙ gives.group page.form so_far.form_is rest)
         ∙ ap (λ k. with_lines (replicate repeats (line_of next)) (rest_of page.form k (suc l - repeats) rest)) fuel
         ∙ ap (λ k. with_lines (replicate repeats (line_of next)) (rest_of page.form (so_far.most - 1) k rest)) fewer
 
 -- the last line was read
-pub page_end : (want : Wanted) (old now : PageReader) (before left : Option (List ℕ)) (page : Page) → PageSoFar want old now before left page → lines_left_of now ≤ 0
+pub page_end : (want : Wanted) (old now : PageReader) (before left : Option (List ℕ)) (page : Page)
+    → PageSoFar want old now before left page → lines_left_of now ≤ 0
     → ReadsPage want old now before left page
 page_end want old now before left page so_far none = record {
   bytes = so_far.bytes;
@@ -116,7 +128,8 @@ page_end want old now before left page so_far none = record {
       let empty : lines_left_of now ≡ 0 = omega arith in
       so_far.is rest
       ∙ ap (λ k. page_of_lines page.form (with_lines page.lines (rest_of page.form so_far.most k rest))) empty
-      ∙ ap (λ r. page_of_lines page.form (with_lines page.lines r)) (lines_at-none row (line_units row page.form.width) page.form.height so_far.most rest)
+      ∙ ap (λ r. page_of_lines page.form (with_lines page.lines r))
+      (lines_at-none row (line_units row page.form.width) page.form.height so_far.most rest)
       ∙ ap (λ ls. Whole (record { form = page.form; lines = ls }) rest) (append-nil page.lines);
   number = so_far.number;
   last = so_far.last;
@@ -143,12 +156,16 @@ pages-read want most page (b ∷ bytes) read some e = ap (λ (r : PageRead). eli
 ]) e
 
 -- a line of the page has a fault
-page_fault : (want : Wanted) (old now : PageReader) (before left : Option (List ℕ)) (page : Page) (number line : ℕ) (why : InputCause) → PageSoFar want old now before left page
+page_fault : (want : Wanted) (old now : PageReader) (before left : Option (List ℕ))
+    (page : Page) (number line : ℕ) (why : InputCause) → PageSoFar want old now before left page
     → HasLineFault now left number line why → EndsSo want old before number line why
-page_fault want old now before left page number line why so_far bad = told (text_of old before) (text_of now left) so_far.used (bad.fault page.form so_far.form_is)
+page_fault want old now before left page number line why so_far bad =
+    told (text_of old before) (text_of now left) so_far.used (bad.fault page.form so_far.form_is)
   where
-    told : (a b : Option (List ℕ)) → Consumes a b so_far.bytes → IfSome b (λ text. lines_of page.form (lines_left_of now) text ≡ Stop line why)
-        → IfSome a (λ text. pages_from want (9999 - page_of old) (page_of old + 1) text ≡ record { pages = []; end = Fault number line why })
+    told : (a b : Option (List ℕ))
+        → Consumes a b so_far.bytes → IfSome b (λ text. lines_of page.form (lines_left_of now) text ≡ Stop line why)
+        → IfSome a (λ text. pages_from want (9999 - page_of old) (page_of old + 1) text
+        ≡ record { pages = []; end = Fault number line why })
     told None b uses h = tt
     told (Some xs) None uses h = absurd uses
     told (Some xs) (Some ys) uses h =
@@ -158,15 +175,20 @@ page_fault want old now before left page number line why so_far bad = told (text
         let at : page_of old + 1 ≡ number = omega (arith, so_far.number, bad.page_is) in
         let stops : page_at want (so_far.bytes ++ ys) ≡ Broken line why =
         so_far.is ys
-        ∙ ap (λ r. page_of_lines page.form (with_lines page.lines r)) (lines_at-enough row units page.form.height so_far.most (lines_left_of now) (lines_left_of now) ys (white-unit page.form.kind) so_far.enough (omega arith) ∙ h) in
+        ∙ ap (λ r. page_of_lines page.form (with_lines page.lines r))
+        (lines_at-enough row units page.form.height so_far.most
+        (lines_left_of now) (lines_left_of now) ys (white-unit page.form.kind) so_far.enough (omega arith) ∙ h) in
         ap (pages_from want (9999 - page_of old) (page_of old + 1)) uses
         ∙ ap (λ k. pages_from want k (page_of old + 1) (so_far.bytes ++ ys)) fuel
-        ∙ pages-read want (9998 - page_of old) (page_of old + 1) (so_far.bytes ++ ys) (Broken line why) (omega (arith, so_far.some, length-append so_far.bytes ys)) stops
+        ∙ pages-read want (9998 - page_of old) (page_of old + 1)
+        (so_far.bytes ++ ys) (Broken line why) (omega (arith, so_far.some, length-append so_far.bytes ys)) stops
         ∙ ap (λ k. record { pages = []; end = Fault k line why }) at
 
-pub fault_in_page : (T : Type 0) (want : Wanted) (old now : PageReader) (before left : Option (List ℕ)) (page : Page) (stop : StreamStop) → PageSoFar want old now before left page
+pub fault_in_page : (T : Type 0) (want : Wanted) (old now : PageReader)
+    (before left : Option (List ℕ)) (page : Page) (stop : StreamStop) → PageSoFar want old now before left page
     → OnInput {T = T} (Err stop) (HasLineFault now left) → OnInput {T = T} (Err stop) (EndsSo want old before)
-fault_in_page T want old now before left page (stop.Input number line why) so_far bad = page_fault want old now before left page number line why so_far bad
+fault_in_page T want old now before left page (stop.Input number line why) so_far bad =
+    page_fault want old now before left page number line why so_far bad
 fault_in_page T want old now before left page stop.Read so_far bad = tt
 fault_in_page T want old now before left page stop.Memory so_far bad = tt
 

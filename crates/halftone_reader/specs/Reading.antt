@@ -14,7 +14,7 @@ use Rattle.pwg_stream.specs.Reading.{has_ended, lines_left_of, page_of, stop_of,
 use Rattle.dot_planes.specs.Tables.{DotTable, dot}
 use Rattle.separation_definitions.specs.Windows.{wanted_by}
 
--- The next bytes of the text are this page, whatever comes after them, and were used.
+-- The next bytes of the text are this page, whatever follows, and were used.
 pub record ReadsPage (want : Wanted) (old new : PageReader) (before now : Option (List ℕ)) (page : Page) : Type 0 where
   pub bytes : List ℕ
   pub used : Consumes (text_of old before) (text_of new now) bytes
@@ -24,13 +24,14 @@ pub record ReadsPage (want : Wanted) (old new : PageReader) (before now : Option
   pub unended : has_ended new ≡ has_ended old
 
 -- The next page was read, and the planes have the dots of its halftone.
-pub record ReadsHalftone (p : Printer) (k : Table) (old new : PageReader) (before now : Option (List ℕ)) (form : PageForm) (planes : DotTable) : Type 0 where
+pub record ReadsHalftone (p : Printer) (k : Table)
+    (old new : PageReader) (before now : Option (List ℕ)) (form : PageForm) (planes : DotTable) : Type 0 where
   pub page : Page
   pub reads : ReadsPage (wanted_by p) old new before now page
   pub form_is : form ≡ page.form
   pub dots : HasDots p (halftone page p k) planes.width planes.rows planes.inks (dot planes)
 
--- The reader stands before a page.
+-- The reader is between two pages.
 pub record IsBetween (reader : PageReader) : Type 0 where
   pub whole : lines_left_of reader ≡ 0
   pub going : stop_of reader ≡ None

@@ -33,8 +33,8 @@ pub struct HalftonedPage {
     pub planes: Planes,
 }
 
-/// Reads the next page with all its lines, and halftones each line when it comes, its slabs by so many workers that
-/// share the gate. `None` at the end of the stream.
+/// Reads the next page with all its lines and halftones each line as it comes; `workers` workers that share the gate
+/// diffuse its slabs. `None` at the end of the stream.
 pub fn read_page<R: Threads + Sync, S: Source, G: Gate + Sync>(
     rt: &R,
     alloc: Global,
@@ -51,8 +51,10 @@ pub fn read_page<R: Threads + Sync, S: Source, G: Gate + Sync>(
     requires between { IsBetween reader.old }
     requires unended { has_ended reader.old ≡ false }
     ensures page { IfOk result (λ o. IfSome o (λ page.
-        ReadsHalftone (printer_of profile.now) (table_of kernel) reader.old reader.new (S.left s.old) (S.left s.new) page.form page.planes)) }
-    ensures none { IfOk result (λ o. IfNone o (IsAtEnd (text_of reader.old (S.left s.old)) × IsAtEnd (text_of reader.new (S.left s.new)))) }
+        ReadsHalftone (printer_of profile.now) (table_of kernel) reader.old reader.new (S.left s.old) (S.left s.new)
+        page.form page.planes)) }
+    ensures none { IfOk result
+        (λ o. IfNone o (IsAtEnd (text_of reader.old (S.left s.old)) × IsAtEnd (text_of reader.new (S.left s.new)))) }
     ensures between { IfOk result (λ o. IfSome o (λ page. IsBetween reader.new)) }
     ensures input { OnInput result (λ number line cause. IfSome (text_of reader.old (S.left s.old)) (λ text.
         pages_from (wanted_by (printer_of profile.now)) (most_pages - page_of reader.old) (page_of reader.old + 1) text

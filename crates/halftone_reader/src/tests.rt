@@ -26,8 +26,8 @@ const ONE: Profile = Profile {
     bottom: 0,
 };
 
-/// What is not 0 in the numbers of a header for eight columns and two lines of grey, by places in a stream, in which the
-/// header begins at byte 4 (PWG 5102.4, section 4.3).
+/// What is not 0 in the numbers of a header for eight columns and two lines of grey, by places in a stream, in which
+/// the header begins at byte 4 (PWG 5102.4, section 4.3).
 const NUMBERS: [(usize, u8); 14] = [
     (282, 1),
     (283, 0x68),

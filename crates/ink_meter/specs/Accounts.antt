@@ -3,7 +3,7 @@ use Rattle.std.specs.Prelude.{◌≡◌, ℕ, ◌+◌, ◌^◌, ◌<◌, ◌≤�
 use Rattle.weave_base.specs.declared.answers.InkCounts.{InkCounts}
 use Rattle.ink_meter.specs.declared.meters.OverCap.{OverCap}
 
--- A meter: the dots that it has counted of each ink, and the most that all inks together may come to.
+-- A meter: the dots of each ink that it has counted, and the most that it may count of all inks together.
 pub record Account : Type 0 where
   pub totals : InkCounts
   pub cap : ℕ
@@ -12,14 +12,14 @@ pub record Account : Type 0 where
 abbrev pub all_inks : InkCounts → ℕ
 all_inks n = n.k + n.c + n.m + n.y
 
--- ink by ink
+-- the sums of two counts, ink by ink
 abbrev pub together : InkCounts → InkCounts → InkCounts
 together a b = record { k = a.k + b.k; c = a.c + b.c; m = a.m + b.m; y = a.y + b.y }
 
 abbrev pub HasRoom : InkCounts → Account → Type 0
 HasRoom n a = all_inks a.totals + all_inks n ≤ a.cap
 
--- with these dots counted
+-- the meter after counting these dots
 abbrev pub added : InkCounts → Account → Account
 added n a = record { totals = together a.totals n; cap = a.cap }
 
@@ -38,7 +38,7 @@ pub record Fits (n : InkCounts) : Type 0 where
   pub m : n.m < 2 ^ 64
   pub y : n.y < 2 ^ 64
 
--- The first meter without room for these dots: where it stands, what it has counted, and its cap.
+-- The first meter without room for these dots: its place, what it has counted, and its cap.
 pub record IsFirstOver (accounts : List Account) (n : InkCounts) (over : OverCap) : Type 0 where
   pub account : Account
   pub stands : slice_get accounts over.index ≡ Some account

@@ -9,7 +9,7 @@ pub trait Meter: Drop {
     /// Its totals and its cap.
     ghost account: { Self → Account };
 
-    /// Whether the cap lets these dots be counted too. A tie is room.
+    /// Whether the cap lets these dots be counted too. Reaching the cap exactly is allowed.
     fn room(&self, n: &InkCounts) -> bool
         ensures { IsTrue result ↔ HasRoom n.now (account self.now) };
 
@@ -18,11 +18,11 @@ pub trait Meter: Drop {
         requires { HasRoom n.now (account self.old) }
         ensures { account self.new ≡ added n.now (account self.old) };
 
-    /// Sets the cap, which may be below what was counted: then there is room for nothing.
+    /// Sets the cap. It may be below the total: then there is no room even for 0 dots.
     fn set_cap(&mut self, cap: u64)
         ensures { account self.new ≡ capped cap (account self.old) };
 
-    /// The dots counted. All four together fit 64 bits.
+    /// The dots counted so far. All four together fit 64 bits.
     fn total(&self) -> InkCounts
         ensures is { result ≡ (account self.now).totals }
         ensures fits { all_inks result < 2 ^ 64 };

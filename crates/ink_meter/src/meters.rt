@@ -32,7 +32,7 @@ fn has_room(meter: &Box<dyn Meter>, n: &InkCounts) -> bool
     meter.room(n)
 }
 
-// What a meter has counted.
+// The dots that a meter has counted.
 #[inline]
 fn total_of(meter: &Box<dyn Meter>) -> InkCounts
     ensures is { result ≡ (account meter.now).totals }
@@ -41,7 +41,7 @@ fn total_of(meter: &Box<dyn Meter>) -> InkCounts
     meter.total()
 }
 
-// What there is to say of a meter without room, which stands at this place.
+// The report of a meter without room, at this place of the list.
 fn over_cap(index: usize, meter: &Box<dyn Meter>) -> OverCap
     ensures index { result.index ≡ index }
     ensures total { result.total ≡ all_inks (account meter.now).totals }
@@ -55,7 +55,7 @@ fn over_cap(index: usize, meter: &Box<dyn Meter>) -> OverCap
     }
 }
 
-/// Asks each meter for room for these dots, and changes none. The answer names the first meter without room.
+/// Asks each meter for room for these dots, and changes none. `Err` names the first meter without room.
 pub fn admit(meters: &[Box<dyn Meter>], n: &InkCounts) -> Result<(), OverCap>
     ensures room { OnOk result (All (HasRoom n.now) (map (λ meter. account meter) meters.now)) }
     ensures over { IfErr result (IsFirstOver (map (λ meter. account meter) meters.now) n.now) }
@@ -68,7 +68,7 @@ pub fn admit(meters: &[Box<dyn Meter>], n: &InkCounts) -> Result<(), OverCap>
     Ok(())
 }
 
-// One meter counts these dots.
+// Counts these dots on one meter.
 #[inline]
 fn add_one(meter: &mut Box<dyn Meter>, n: &InkCounts)
     requires { HasRoom n.now (account meter.old) }
@@ -77,7 +77,7 @@ fn add_one(meter: &mut Box<dyn Meter>, n: &InkCounts)
     meter.add(n);
 }
 
-// One meter's cap is set.
+// Sets the cap of one meter.
 #[inline]
 fn cap_one(meter: &mut Box<dyn Meter>, cap: u64)
     ensures { account meter.new ≡ capped cap (account meter.old) }
@@ -85,10 +85,11 @@ fn cap_one(meter: &mut Box<dyn Meter>, cap: u64)
     meter.set_cap(cap);
 }
 
-/// Counts these dots on each meter. Each has room for them, as `admit` tells.
+/// Counts these dots on each meter, all of which have room for them (`admit`).
 pub fn add_all(meters: &mut Vec<Box<dyn Meter>>, n: &InkCounts)
     requires { All (HasRoom n.now) (map (λ meter. account meter) meters.old.items) }
-    ensures { map (λ meter. account meter) meters.new.items ≡ map (added n.now) (map (λ meter. account meter) meters.old.items) }
+    ensures { map (λ meter. account meter) meters.new.items
+        ≡ map (added n.now) (map (λ meter. account meter) meters.old.items) }
 {
     for i in 0..meters.len() {
         add_one(&mut meters[i], n);
@@ -96,10 +97,12 @@ pub fn add_all(meters: &mut Vec<Box<dyn Meter>>, n: &InkCounts)
 }
 
 /// Sets the cap of each meter.
-// The condition is what the type says. Without one, a call from another crate counts as one that makes meters of its own.
+// Without the condition, which the type implies, a call from another crate counts as one that makes meters of its
+// own.
 pub fn cap_all(meters: &mut Vec<Box<dyn Meter>>, cap: u64)
     requires { cap < 2 ^ 64 }
-    ensures { map (λ meter. account meter) meters.new.items ≡ map (capped cap) (map (λ meter. account meter) meters.old.items) }
+    ensures { map (λ meter. account meter) meters.new.items
+        ≡ map (capped cap) (map (λ meter. account meter) meters.old.items) }
 {
     for i in 0..meters.len() {
         cap_one(&mut meters[i], cap);
@@ -133,7 +136,7 @@ fn checked_sum(a: InkCounts, b: InkCounts) -> Option<InkCounts>
     })
 }
 
-/// Whether `settle` may be called: what the meters counted together of each ink fits 64 bits.
+/// Whether `settle` may be called: whether the sum of what the meters counted of each ink fits 64 bits.
 pub fn can_settle(meters: &[Box<dyn Meter>]) -> bool
     ensures { IsTrue result ↔ Fits (settled (map (λ meter. account meter) meters.now)) }
 {
@@ -147,7 +150,7 @@ pub fn can_settle(meters: &[Box<dyn Meter>]) -> bool
     true
 }
 
-/// What the meters counted together, ink by ink; they are dropped. The sum of each ink is to fit 64 bits.
+/// The sum of what the meters counted, ink by ink; the meters are dropped. Each sum must fit 64 bits.
 pub fn settle(meters: Vec<Box<dyn Meter>>) -> InkCounts
     requires { Fits (settled (map (λ meter. account meter) meters.items)) }
     ensures { result ≡ settled (map (λ meter. account meter) meters.items) }

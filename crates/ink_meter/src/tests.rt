@@ -6,7 +6,7 @@ use crate::{DotMeter, InkCounts, Meter, OverCap, add_all, admit, can_settle, cap
 use std::marker::Model;
 use std::test::Fail;
 
-// A meter that keeps black apart from the colours, and counts how often it was written on.
+// A meter that keeps black apart from the colours, and counts how often it was changed.
 #[derive(Drop)]
 struct Card {
     black: u64,
@@ -86,7 +86,7 @@ fn count(meters: &mut Vec<Box<dyn Meter>>, n: &InkCounts) -> Result<(), OverCap>
     Ok(())
 }
 
-// What the meters counted together, where that fits.
+// The sum of what the meters counted, where it fits.
 fn settled(meters: Vec<Box<dyn Meter>>) -> Option<InkCounts> {
     if can_settle(&meters) {
         Some(settle(meters))

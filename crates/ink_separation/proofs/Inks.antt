@@ -9,28 +9,31 @@ use Rattle.separation_definitions.specs.Amounts.{Colour, colour_ink, common_dark
 use Rattle.ink_separation.specs.Given.{IsBlackTable, colour_at, given_to}
 use Rattle.ink_separation.specs.declared.given.Given.{Given}
 
--- a grey beside black gives nothing to the colours
+-- a grey in a set with black gives nothing to the colours
 pub grey_beside_black : (inks : InkSet) (dark none : List ℕ) → inks ≡ Cmyk → ((x : ℕ) → x < 64 → get_or none x 0 ≡ 0)
-    → (ink : Ink) (x : ℕ) → x < 64 → get_or (given_to (record { black = dark; cyan = none; magenta = none; yellow = none }) ink) x 0 ≡ grey_ink inks ink (get_or dark x 0)
+    → (ink : Ink) (x : ℕ) → x < 64
+    → get_or (given_to (record { black = dark; cyan = none; magenta = none; yellow = none }) ink) x 0
+    ≡ grey_ink inks ink (get_or dark x 0)
 grey_beside_black inks dark none is zeros Black x low = ap (λ set. grey_ink set Black (get_or dark x 0)) (sym is)
 grey_beside_black inks dark none is zeros Cyan x low = zeros x low ∙ ap (λ set. grey_ink set Cyan (get_or dark x 0)) (sym is)
 grey_beside_black inks dark none is zeros Magenta x low = zeros x low ∙ ap (λ set. grey_ink set Magenta (get_or dark x 0)) (sym is)
 grey_beside_black inks dark none is zeros Yellow x low = zeros x low ∙ ap (λ set. grey_ink set Yellow (get_or dark x 0)) (sym is)
 
--- no darkness below the least is moved into black
+-- no darkness below the least goes to black
 pub moved_below : (least q : ℕ) → q < least → 0 ≡ moved_to_black least q
 moved_below least q below = grind (arith, nat_tests)
 
 pub moved_from : (least q : ℕ) → least ≤ q → (q - least) * 255 / (255 - least) ≡ moved_to_black least q
 moved_from least q above = grind (arith, nat_tests)
 
--- what colours lack of each ink
+-- the complements, for each ink
 pub complements_are : (pixels none cyan magenta yellow : List ℕ) → length pixels ≤ 192 → ((x : ℕ) → x < 64 → get_or none x 0 ≡ 0)
     → ((x : ℕ) → 3 * x + 3 ≤ length pixels → get_or cyan x 0 ≡ 255 - get_or pixels (3 * x + 0) 0)
     → ((x : ℕ) → 3 * x + 3 ≤ length pixels → get_or magenta x 0 ≡ 255 - get_or pixels (3 * x + 1) 0)
     → ((x : ℕ) → 3 * x + 3 ≤ length pixels → get_or yellow x 0 ≡ 255 - get_or pixels (3 * x + 2) 0)
     → (ink : Ink) (x : ℕ) → 3 * x + 3 ≤ length pixels
-    → get_or (given_to (record { black = none; cyan = cyan; magenta = magenta; yellow = yellow }) ink) x 0 ≡ complement (colour_at pixels x) ink
+    → get_or (given_to (record { black = none; cyan = cyan; magenta = magenta; yellow = yellow }) ink) x 0
+    ≡ complement (colour_at pixels x) ink
 complements_are pixels none cyan magenta yellow few zeros c m y Black x inside = zeros x (omega arith)
 complements_are pixels none cyan magenta yellow few zeros c m y Cyan x inside =
     let place : 3 * x + 0 ≡ 3 * x = omega arith in
@@ -39,7 +42,8 @@ complements_are pixels none cyan magenta yellow few zeros c m y Magenta x inside
 complements_are pixels none cyan magenta yellow few zeros c m y Yellow x inside = y x inside
 
 -- black generation
-pub black_is_moved : (inks : InkSet) (least : ℕ) (pixels table common : List ℕ) (wanted given : Given) → inks ≡ Cmyk → IsBlackTable least table → length pixels ≤ 192
+pub black_is_moved : (inks : InkSet) (least : ℕ) (pixels table common : List ℕ) (wanted given : Given)
+    → inks ≡ Cmyk → IsBlackTable least table → length pixels ≤ 192
     → ((ink : Ink) (x : ℕ) → 3 * x + 3 ≤ length pixels → get_or (given_to wanted ink) x 0 ≡ complement (colour_at pixels x) ink)
     → ((x : ℕ) → x < 64 → get_or common x 0 ≡ min (min (get_or wanted.cyan x 0) (get_or wanted.magenta x 0)) (get_or wanted.yellow x 0))
     → ((x : ℕ) → x < 64 → get_or given.black x 0 ≡ get_or table (get_or common x 0) 0)
@@ -58,9 +62,11 @@ black_is_moved inks least pixels table common wanted given is moved few wants co
     let byte : common_darkness colour < 256 = omega arith in
     let k : get_or given.black x 0 ≡ moved_to_black least (common_darkness colour) =
     black x low ∙ ap (λ n. get_or table n 0) q ∙ moved.at (common_darkness colour) byte in
-    let rest : (value : ℕ) (i : Ink) → value ≡ get_or (given_to wanted i) x 0 - get_or given.black x 0 → value ≡ complement colour i - moved_to_black least (common_darkness colour) =
+    let rest : (value : ℕ) (i : Ink) → value ≡ get_or (given_to wanted i) x 0 - get_or given.black x 0
+    → value ≡ complement colour i - moved_to_black least (common_darkness colour) =
     λ value i e. e ∙ ap (λ n. n - get_or given.black x 0) (lacks i) ∙ ap (λ n. complement colour i - n) k in
-    let four : get_or (given_to given ink) x 0 ≡ four_inks least colour ink = elim ink as (λ i. get_or (given_to given i) x 0 ≡ four_inks least colour i) [
+    let four : get_or (given_to given ink) x 0 ≡ four_inks least colour ink =
+    elim ink as (λ i. get_or (given_to given i) x 0 ≡ four_inks least colour i) [
       | Black ↦ k
       | Cyan ↦ rest _ Cyan (cyan x low)
       | Magenta ↦ rest _ Magenta (magenta x low)

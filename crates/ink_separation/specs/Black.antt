@@ -1,4 +1,4 @@
--- What stands in a table of black generation.
+-- The invariant of a table of black generation.
 use Rattle.std.specs.Prelude.{ℕ}
 use Rattle.ink_separation.specs.Given.{IsBlackTable}
 use Rattle.ink_separation.specs.declared.black.BlackTable.TheInside.{Inside}
@@ -6,6 +6,6 @@ use Rattle.ink_separation.specs.declared.black.BlackTable.TheInside.{Inside}
 abbrev pub least_in : Inside → ℕ
 least_in t = t.least
 
--- It has what is moved of each darkness.
+-- It has the part of each darkness that black takes over.
 pub record IsMade (t : Inside) : Type 0 where
   pub moved : IsBlackTable t.least t.moved

@@ -12,7 +12,7 @@ use Rattle.ink_separation.specs.declared.given.Given.{Given}
 abbrev pub colour_at : List ℕ → ℕ → Colour
 colour_at pixels x = colour_of (pixel_at Rgb8 pixels x)
 
--- how much of each common darkness is moved into black
+-- the part of each shared darkness that black takes over
 pub record IsBlackTable (least : ℕ) (table : List ℕ) : Type 0 where
   pub at : (q : ℕ) → q < 256 → slice_index table q ≡ moved_to_black least q
 
@@ -23,6 +23,6 @@ given_to given Cyan = given.cyan
 given_to given Magenta = given.magenta
 given_to given Yellow = given.yellow
 
--- The first n pixels give this to the inks.
+-- This is what the first n pixels give to the inks.
 pub record IsGiven (p : Printer) (kind : Kind) (pixels : List ℕ) (n : ℕ) (given : Given) : Type 0 where
   pub inks : (ink : Ink) (x : ℕ) → x < n → slice_index (given_to given ink) x ≡ pixel_ink p kind (pixel_at kind pixels x) ink

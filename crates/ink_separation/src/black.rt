@@ -7,11 +7,11 @@ use crate::pixels::{PIXELS, Values};
 use printer_profile::Profile;
 use std::marker::Model;
 
-/// How much of each common darkness.
+/// The part of each shared darkness that black takes over.
 pub(crate) type Moved = [u8; 256];
 
-/// What a profile moves into black, worked out once for many lines. Contracts see the least darkness of which any is
-/// moved.
+/// The black generation of a profile, worked out once for many lines. Contracts see the least darkness from which
+/// black takes over.
 #[derive(Drop)]
 pub struct BlackTable {
     least: u8,
@@ -42,7 +42,7 @@ impl BlackTable {
         }
     }
 
-    /// How much of each common darkness is moved.
+    /// The part of each shared darkness that black takes over.
     pub(crate) fn moved(&self) -> &Moved
         ensures { IsBlackTable self.now result.now }
     {
@@ -50,7 +50,7 @@ impl BlackTable {
     }
 }
 
-// What is moved from a least darkness on.
+// The table for a least darkness.
 fn moved_from(least: u8) -> Moved
     requires { least < 255 }
     ensures { IsBlackTable least result }
@@ -63,7 +63,7 @@ fn moved_from(least: u8) -> Moved
     table
 }
 
-/// What is moved into black at each pixel.
+/// What black takes over at each pixel.
 #[inline]
 pub(crate) fn black_of(table: &Moved, common: &Values) -> Values
     ensures { (x : ℕ) → x < 64 → slice_index result x ≡ slice_index table.now (slice_index common.now x) }

@@ -12,7 +12,7 @@ use printer_definitions::Ink;
 use printer_profile::{InkSet, Profile};
 use pwg_definitions::Kind;
 
-/// What up to 64 pixels give to each ink. An ink that the printer does not carry may have any values.
+/// What up to 64 pixels give to each ink. An ink outside the printer's set may have any values.
 #[derive(Drop)]
 pub(crate) struct Given {
     black: Values,
@@ -22,12 +22,13 @@ pub(crate) struct Given {
 }
 
 impl Given {
-    /// What pixels give, whose bytes these are. The table is that of the profile's least darkness.
+    /// What pixels with these bytes give. The table is that of the profile's `black_start`.
     #[inline]
     pub(crate) fn make(p: &Profile, kind: Kind, pixels: &[u8], table: &Moved) -> Given
         requires pixels { length pixels.now ≤ 64 * (row_of kind).unit }
         requires table { IsBlackTable p.now.black_start table.now }
-        ensures { (n : ℕ) → n * (row_of kind).unit ≤ length pixels.now → IsGiven (printer_of p.now) kind pixels.now n result }
+        ensures { (n : ℕ) → n * (row_of kind).unit ≤ length pixels.now
+            → IsGiven (printer_of p.now) kind pixels.now n result }
     {
         match kind {
             Kind::Gray8 => grey_given(p.inks, inverted(pixels)),
@@ -36,7 +37,7 @@ impl Given {
         }
     }
 
-    /// What is given to an ink.
+    /// What the pixels give to an ink.
     #[inline]
     pub(crate) fn to(&self, ink: Ink) -> &Values
         ensures { result.now ≡ given_to self.now ink }
@@ -53,7 +54,8 @@ impl Given {
 // What pixels of these darknesses give.
 #[inline]
 fn grey_given(inks: InkSet, dark: Values) -> Given
-    ensures { (ink : Ink) (x : ℕ) → x < 64 → slice_index (given_to result ink) x ≡ grey_ink inks ink (slice_index dark x) }
+    ensures { (ink : Ink) (x : ℕ)
+        → x < 64 → slice_index (given_to result ink) x ≡ grey_ink inks ink (slice_index dark x) }
 {
     match inks {
         InkSet::K | InkSet::Cmy => Given {
@@ -95,11 +97,12 @@ fn colour_given(inks: InkSet, table: &Moved, pixels: &[u8]) -> Given
     }
 }
 
-// What pixels of red, green and blue lack.
+// The complements of pixels of red, green and blue.
 #[inline]
 fn complements_given(pixels: &[u8]) -> Given
     requires { length pixels.now ≤ 192 }
-    ensures { (ink : Ink) (x : ℕ) → 3 * x + 3 ≤ length pixels.now → slice_index (given_to result ink) x ≡ complement (colour_at pixels.now x) ink }
+    ensures { (ink : Ink) (x : ℕ) → 3 * x + 3 ≤ length pixels.now
+        → slice_index (given_to result ink) x ≡ complement (colour_at pixels.now x) ink }
 {
     Given {
         black: [0; PIXELS],

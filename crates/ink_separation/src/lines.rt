@@ -9,7 +9,8 @@ ghost use Rattle.printer_profile.specs.Validity.{check};
 ghost use Rattle.pwg_definitions.specs.Header.{row_of};
 ghost use Rattle.pwg_definitions.specs.Limits.{most_columns};
 ghost use Rattle.separation_definitions.specs.Amounts.{amount as amount_of, pixel_at};
-ghost use Rattle.std.specs.Prelude.{IsOk, Some, length, slice_get, slice_index, ℕ, ◌*◌, ◌+◌, ◌/◌, ◌<◌, ◌≡◌, ◌≢◌, ◌≤◌, ◌⊎◌};
+ghost use Rattle.std.specs.Prelude.{IsOk, Some, length, slice_get, slice_index, ℕ, ◌*◌, ◌+◌, ◌/◌};
+ghost use Rattle.std.specs.Prelude.{◌<◌, ◌≡◌, ◌≢◌, ◌≤◌, ◌⊎◌};
 
 use crate::black::BlackTable;
 use crate::given::Given;
@@ -21,10 +22,10 @@ use printer_profile::Profile;
 use pwg_definitions::Kind;
 use separation_definitions::Window;
 
-/// Sets the amounts of all inks of the profile in row `at` from the pixels of a line that the window has. Amounts of
-/// other rows stay.
+/// Sets the amounts of all inks of the profile in row `at` from the pixels of a line inside the window. Other rows
+/// are unchanged.
 ///
-/// Column x of the window is pixel left + x of the line. `out` is as wide as the window, and has the inks of the
+/// Column x of the window is pixel left + x of the line. `out` is as wide as the window and has the inks of the
 /// profile's set in their order.
 pub fn amounts(p: &Profile, kind: Kind, line: &[u8], w: Window, at: u32, out: &mut InkRows)
     requires checked { IsOk (check p.now) }
@@ -41,7 +42,7 @@ pub fn amounts(p: &Profile, kind: Kind, line: &[u8], w: Window, at: u32, out: &m
     amounts_by(p, &BlackTable::make(p), kind, line, w, at, out);
 }
 
-/// The same by the profile's table, which is made once for all lines of a page.
+/// The same with the profile's table, made once for all lines of a page.
 pub fn amounts_by(
     p: &Profile,
     black: &BlackTable,
@@ -75,7 +76,7 @@ pub fn amounts_by(
     }
 }
 
-// The bytes of a pixel.
+// How many bytes a pixel has.
 fn unit_of(kind: Kind) -> usize
     ensures is { result ≡ (row_of kind).unit }
     ensures some { 1 ≤ result }
@@ -87,7 +88,7 @@ fn unit_of(kind: Kind) -> usize
     }
 }
 
-// The greatest amount of an ink.
+// The limit of an ink.
 fn limit_of(p: &Profile, ink: Ink) -> u8
     ensures { result ≡ limit_of_printer (printer_of p.now) ink }
 {
@@ -99,7 +100,7 @@ fn limit_of(p: &Profile, ink: Ink) -> u8
     }
 }
 
-// Sets the amounts of each ink in row `at` from column x on to what so many pixels give, under the ink's limit.
+// Sets the amounts of each ink in row `at` from column x on from what `many` pixels give, scaled by the ink's limit.
 fn put(p: &Profile, given: &Given, many: usize, x: u32, at: u32, out: &mut InkRows)
     requires many { many ≤ 64 }
     requires inside { x + many ≤ out.old.width }
@@ -107,7 +108,8 @@ fn put(p: &Profile, given: &Given, many: usize, x: u32, at: u32, out: &mut InkRo
     requires at { at < out.old.rows }
     ensures size { HasSizeAs out.old out.new }
     ensures put { (i : ℕ) (ink : Ink) → slice_get (inks_of p.now.inks) i ≡ Some ink → (k : ℕ) → k < many
-        → amount out.new i at (x + k) ≡ slice_index (given_to given.now ink) k * limit_of_printer (printer_of p.now) ink / 255 }
+        → amount out.new i at (x + k)
+        ≡ slice_index (given_to given.now ink) k * limit_of_printer (printer_of p.now) ink / 255 }
     ensures beside { (i c : ℕ) → (c < x) ⊎ (x + many ≤ c) → amount out.new i at c ≡ amount out.old i at c }
     ensures others { (i y c : ℕ) → y ≢ at → y < out.old.rows → amount out.new i y c ≡ amount out.old i y c }
 {

@@ -1,4 +1,4 @@
-//! What up to 64 pixels want, before inks are told apart.
+//! Values of up to 64 pixels, before they are divided among inks.
 ghost use Rattle.ink_separation.specs.Given.{colour_at};
 ghost use Rattle.separation_definitions.specs.Amounts.{darkness};
 ghost use Rattle.std.specs.Prelude.{length, min, slice_index, ℕ, ◌*◌, ◌+◌, ◌-◌, ◌<◌, ◌≡◌, ◌≤◌};
@@ -9,7 +9,7 @@ pub(crate) const PIXELS: usize = 64;
 /// A value for each pixel.
 pub(crate) type Values = [u8; PIXELS];
 
-/// The bytes as they are.
+/// The bytes unchanged.
 #[inline]
 pub(crate) fn same(bytes: &[u8]) -> Values
     requires { length bytes.now ≤ 64 }
@@ -22,7 +22,7 @@ pub(crate) fn same(bytes: &[u8]) -> Values
     values
 }
 
-/// The bytes, turned over.
+/// 255 less each byte.
 #[inline]
 pub(crate) fn inverted(bytes: &[u8]) -> Values
     requires { length bytes.now ≤ 64 }
@@ -35,12 +35,13 @@ pub(crate) fn inverted(bytes: &[u8]) -> Values
     values
 }
 
-/// How much one of the three colours of each pixel lacks.
+/// The complement of one of the three colours of each pixel: 255 less its value.
 #[inline]
 pub(crate) fn complements(pixels: &[u8], colour: usize) -> Values
     requires pixels { length pixels.now ≤ 192 }
     requires colour { colour < 3 }
-    ensures { (x : ℕ) → 3 * x + 3 ≤ length pixels.now → slice_index result x ≡ 255 - slice_index pixels.now (3 * x + colour) }
+    ensures { (x : ℕ) → 3 * x + 3 ≤ length pixels.now
+        → slice_index result x ≡ 255 - slice_index pixels.now (3 * x + colour) }
 {
     let mut values = [0; PIXELS];
     for x in 0..pixels.len() / 3 {
@@ -49,7 +50,7 @@ pub(crate) fn complements(pixels: &[u8], colour: usize) -> Values
     values
 }
 
-/// How dark each pixel of red, green and blue is as a grey.
+/// The darkness of each pixel of red, green and blue as a grey.
 #[inline]
 pub(crate) fn darkness_of(pixels: &[u8]) -> Values
     requires { length pixels.now ≤ 192 }
@@ -68,7 +69,8 @@ pub(crate) fn darkness_of(pixels: &[u8]) -> Values
 /// The least of three values at each pixel.
 #[inline]
 pub(crate) fn least_of(a: &Values, b: &Values, c: &Values) -> Values
-    ensures { (x : ℕ) → x < 64 → slice_index result x ≡ min (min (slice_index a.now x) (slice_index b.now x)) (slice_index c.now x) }
+    ensures { (x : ℕ) → x < 64
+        → slice_index result x ≡ min (min (slice_index a.now x) (slice_index b.now x)) (slice_index c.now x) }
 {
     let mut values = [0; PIXELS];
     for x in 0..PIXELS {
@@ -77,7 +79,7 @@ pub(crate) fn least_of(a: &Values, b: &Values, c: &Values) -> Values
     values
 }
 
-/// The values less others, where a value below 0 is 0.
+/// The values less others; 0 where that is below 0.
 #[inline]
 pub(crate) fn less(values: &Values, taken: &Values) -> Values
     ensures { (x : ℕ) → x < 64 → slice_index result x ≡ slice_index values.now x - slice_index taken.now x }

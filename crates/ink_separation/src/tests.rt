@@ -28,7 +28,7 @@ fn printer(inks: InkSet, black_start: u8, limits: [u8; 4]) -> Profile
 
 #[test]
 fn black_start_takes_grey_into_black(rt: HostRuntime) {
-    // black start, and the amounts of black, cyan, magenta and yellow of the grey 100, 100, 100
+    // `black_start`, and the amounts of black, cyan, magenta and yellow of the colour 100, 100, 100
     for (start, want) in [
         (0, [155, 0, 0, 0]),
         (128, [54, 101, 101, 101]),
@@ -59,7 +59,7 @@ fn black_start_takes_grey_into_black(rt: HostRuntime) {
 
 #[test]
 fn red_as_grey_and_an_amount_under_a_limit(rt: HostRuntime) {
-    // kind, inks, black start, limits, a line of one pixel, and its amounts ink by ink
+    // kind, inks, `black_start`, limits, a line of one pixel, and its amounts ink by ink
     let cells: [(Kind, InkSet, u8, [u8; 4], [u8; 3], [u8; 4]); 12] = [
         (
             Kind::Rgb8,

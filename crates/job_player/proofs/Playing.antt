@@ -1,5 +1,6 @@
 -- The sheets of the commands that a feed gave.
-use Rattle.std.proofs.Common.{◌≡◌, ℕ, ◌+◌, ◌-◌, ◌≤◌, ◌^◌, min, List, Option, Some, None, IfSome, IfNone, Err, Ok, [], ◌∷◌, ◌++◌, length, length-append, refl, sym, ◌∙◌, ap, subst, arith, append-nil}
+use Rattle.std.proofs.Common.{◌≡◌, ℕ, ◌+◌, ◌-◌, ◌≤◌, ◌^◌, min, List, Option, Some, None, IfSome, IfNone, Err, Ok, [], ◌∷◌, ◌++◌}
+use Rattle.std.proofs.Common.{length, length-append, refl, sym, ◌∙◌, ap, subst, arith, append-nil}
 use Rattle.std.proofs.lemmas.List.Concat.{flat_map-append}
 use Rattle.std.specs.Io.KnownBytes.{Appends}
 use Rattle.std.proofs.KnownBytes.{Appends-nil, Appends-trans, Consumes-nil}
@@ -32,7 +33,8 @@ use Rattle.weave_base.specs.Causes.{Rose}
 use Rattle.weave_base.specs.Parts.{AppendsPart}
 
 -- The commands that were given were run on the machine; these are the sheets that they gave.
-pub record RunsSoFar (p : Printer) (e : Emulator) (feed : JobFeed) (before text : Option (List ℕ)) (sheets : List PrintedSheet) : Type 0 where
+pub record RunsSoFar (p : Printer)
+    (e : Emulator) (feed : JobFeed) (before text : Option (List ℕ)) (sheets : List PrintedSheet) : Type 0 where
   pub entries : List Entry
   pub gave : GaveCommands feed before text entries
   pub m : Machine
@@ -46,7 +48,8 @@ pub record PlaysSoFar (p : Printer) (e : Emulator) (feed : JobFeed) (before text
   pub writes : Appends held now (images p sheets)
   pub number_is : number ≡ counted (length sheets)
 
-pub plays_none : (p : Printer) (e : Emulator) (feed : JobFeed) (left held : Option (List ℕ)) → at_of feed ≡ 0 → feed.unread ≡ [] → Shows p e start
+pub plays_none : (p : Printer) (e : Emulator) (feed : JobFeed) (left held : Option (List ℕ))
+    → at_of feed ≡ 0 → feed.unread ≡ [] → Shows p e start
     → PlaysSoFar p e feed left (text_of feed left) held held 0
 plays_none p e feed left held at unread shows = record {
   sheets = [];
@@ -58,7 +61,8 @@ plays_none p e feed left held at unread shows = record {
 -- ---- a command
 
 -- it was run
-ran : (p : Printer) (e e' : Emulator) (old new : JobFeed) (before text left : Option (List ℕ)) (placed : PlacedCommand) (sheets : List PrintedSheet) (sheet : Option Sheet)
+ran : (p : Printer) (e e' : Emulator) (old new : JobFeed)
+    (before text left : Option (List ℕ)) (placed : PlacedCommand) (sheets : List PrintedSheet) (sheet : Option Sheet)
     (so_far : RunsSoFar p e old before text sheets) → TakesCommand old new text (text_of new left) placed
     → Runs p so_far.m placed.command (heard_of new) e e' (Ok sheet)
     → RunsSoFar p e' new before (text_of new left) (sheets ++ given p so_far.m placed.command)
@@ -71,7 +75,8 @@ ran p e e' old new before text left placed sheets sheet so_far takes runs = reco
 }
 
 -- it gave no sheet
-pub plays_more : (p : Printer) (e e' : Emulator) (old new : JobFeed) (before text left held now : Option (List ℕ)) (number : ℕ) (placed : PlacedCommand)
+pub plays_more : (p : Printer) (e e' : Emulator)
+    (old new : JobFeed) (before text left held now : Option (List ℕ)) (number : ℕ) (placed : PlacedCommand)
     (so_far : PlaysSoFar p e old before text held now number) → TakesCommand old new text (text_of new left) placed
     → Runs p so_far.runs.m placed.command (heard_of new) e e' (Ok None) → PlaysSoFar p e' new before (text_of new left) held now number
 plays_more p e e' old new before text left held now number placed so_far takes runs =
@@ -86,7 +91,8 @@ plays_more p e e' old new before text left held now number placed so_far takes r
     }
 
 -- It gave a sheet, whose images are to be written.
-pub record HasSheet (p : Printer) (e : Emulator) (feed : JobFeed) (before text held now : Option (List ℕ)) (number : ℕ) (sheet : Sheet) : Type 0 where
+pub record HasSheet (p : Printer) (e : Emulator)
+    (feed : JobFeed) (before text held now : Option (List ℕ)) (number : ℕ) (sheet : Sheet) : Type 0 where
   pub sheets : List PrintedSheet
   pub printed : PrintedSheet
   pub runs : RunsSoFar p e feed before text (sheets ++ printed ∷ [])
@@ -94,9 +100,11 @@ pub record HasSheet (p : Printer) (e : Emulator) (feed : JobFeed) (before text h
   pub number_is : number ≡ counted (length sheets)
   pub is : IsSheet p printed sheet
 
-pub gives_sheet : (p : Printer) (e e' : Emulator) (old new : JobFeed) (before text left held now : Option (List ℕ)) (number : ℕ) (placed : PlacedCommand) (sheet : Sheet)
+pub gives_sheet : (p : Printer) (e e' : Emulator) (old new : JobFeed)
+    (before text left held now : Option (List ℕ)) (number : ℕ) (placed : PlacedCommand) (sheet : Sheet)
     (so_far : PlaysSoFar p e old before text held now number) → TakesCommand old new text (text_of new left) placed
-    → Runs p so_far.runs.m placed.command (heard_of new) e e' (Ok (Some sheet)) → HasSheet p e' new before (text_of new left) held now number sheet
+    → Runs p so_far.runs.m placed.command (heard_of new) e e' (Ok (Some sheet))
+    → HasSheet p e' new before (text_of new left) held now number sheet
 gives_sheet p e e' old new before text left held now number placed sheet so_far takes runs =
     let all = ran p e e' old new before text left placed so_far.sheets (Some sheet) so_far.runs takes runs in
     let gives = runs.1 in
@@ -113,22 +121,28 @@ gives_sheet p e e' old new before text left held now number placed sheet so_far 
 counts_on : (n number : ℕ) → number ≡ counted n → min (number + 1) (2 ^ 32 - 1) ≡ counted (n + 1)
 counts_on n number is = omega (arith, is)
 
-pub sheet_written : (p : Printer) (e : Emulator) (feed : JobFeed) (before text held now now' : Option (List ℕ)) (number more : ℕ) (sheet : Sheet) → HasSheet p e feed before text held now number sheet
-    → Appends now now' (table_images sheet.columns sheet.rows sheet.planes) → more ≡ min (number + 1) (2 ^ 32 - 1) → PlaysSoFar p e feed before text held now' more
+pub sheet_written : (p : Printer) (e : Emulator) (feed : JobFeed) (before text held now now' : Option (List ℕ))
+    (number more : ℕ) (sheet : Sheet) → HasSheet p e feed before text held now number sheet
+    → Appends now now' (table_images sheet.columns sheet.rows sheet.planes)
+    → more ≡ min (number + 1) (2 ^ 32 - 1) → PlaysSoFar p e feed before text held now' more
 sheet_written p e feed before text held now now' number more sheet has written more_is =
     let P : List ℕ → Type 0 = Appends now now' in
     let Q : List ℕ → Type 0 = Appends held now' in
     record {
       sheets = has.sheets ++ has.printed ∷ [];
       runs = has.runs;
-      writes = subst Q (sym (flat_map-append (sheet_images p) has.sheets (has.printed ∷ []) ∙ ap (λ bs. images p has.sheets ++ bs) (append-nil (sheet_images p has.printed))))
-          (Appends-trans held now now' (images p has.sheets) (sheet_images p has.printed) has.writes (subst P (images_are p has.printed sheet has.is) written));
-      number_is = more_is ∙ counts_on (length has.sheets) number has.number_is ∙ ap counted (sym (length-append has.sheets (has.printed ∷ [])));
+      writes = subst Q (sym (flat_map-append (sheet_images p) has.sheets (has.printed ∷ [])
+          ∙ ap (λ bs. images p has.sheets ++ bs) (append-nil (sheet_images p has.printed))))
+          (Appends-trans held now now' (images p has.sheets)
+          (sheet_images p has.printed) has.writes (subst P (images_are p has.printed sheet has.is) written));
+      number_is = more_is ∙ counts_on (length has.sheets) number has.number_is
+          ∙ ap counted (sym (length-append has.sheets (has.printed ∷ [])));
     }
 
 -- ---- how playing ends
 
-takes_sheets : (p : Printer) (most : ℕ) (before now : Option (List ℕ)) (entries : List Entry) (m : Machine) (sheets : List PrintedSheet) → Executes p entries m sheets
+takes_sheets : (p : Printer) (most : ℕ) (before now : Option (List ℕ))
+    (entries : List Entry) (m : Machine) (sheets : List PrintedSheet) → Executes p entries m sheets
     → TakesCommands most before now entries → TakesSheets p most before now sheets
 takes_sheets p most before now entries m sheets executes takes = record {
   bytes = takes.bytes;
@@ -141,10 +155,13 @@ mapped : (before : Option (List ℕ)) (P Q : List ℕ → Type 0) → ((bytes : 
 mapped None P Q f holds = tt
 mapped (Some bytes) P Q f holds = f bytes holds
 
-pub sheet_unwritten : (p : Printer) (most : ℕ) (e : Emulator) (feed : JobFeed) (before left held now now' : Option (List ℕ)) (number more f0 f1 g0 g1 g2 : ℕ) (sheet : Sheet)
-    → HasSheet p e feed before (text_of feed left) held now number sheet → AppendsPart now now' (table_images sheet.columns sheet.rows sheet.planes) → more ≡ min (number + 1) (2 ^ 32 - 1)
+pub sheet_unwritten : (p : Printer) (most : ℕ) (e : Emulator)
+    (feed : JobFeed) (before left held now now' : Option (List ℕ)) (number more f0 f1 g0 g1 g2 : ℕ) (sheet : Sheet)
+    → HasSheet p e feed before (text_of feed left) held now number sheet
+    → AppendsPart now now' (table_images sheet.columns sheet.rows sheet.planes) → more ≡ min (number + 1) (2 ^ 32 - 1)
     → most_of feed ≡ most → g0 ≤ g1 → Rose g1 g2
-    → PlayOutcome p most (record { before = before; now = left; faults_before = f0; faults_now = f1 }) (record { before = held; now = now'; faults_before = g0; faults_now = g2 }) (Err (stop.Write more))
+    → PlayOutcome p most (record { before = before; now = left; faults_before = f0; faults_now = f1 })
+    (record { before = held; now = now'; faults_before = g0; faults_now = g2 }) (Err (stop.Write more))
 sheet_unwritten p most e feed before left held now now' number more f0 f1 g0 g1 g2 sheet has part more_is most_is later rose =
     let P : List ℕ → Type 0 = AppendsPart now now' in
     let Q : ℕ → Type 0 = λ n. TakesSheets p n before left (has.sheets ++ has.printed ∷ []) in (
@@ -152,7 +169,8 @@ sheet_unwritten p most e feed before left held now now' number more f0 f1 g0 g1 
       record {
         sheets = has.sheets;
         sheet = has.printed;
-        takes = subst Q most_is (takes_sheets p (most_of feed) before left has.runs.entries has.runs.m (has.sheets ++ has.printed ∷ []) has.runs.executes
+        takes = subst Q most_is (takes_sheets p
+            (most_of feed) before left has.runs.entries has.runs.m (has.sheets ++ has.printed ∷ []) has.runs.executes
             (takes_gave feed feed before (text_of feed left) left has.runs.entries [] has.runs.gave (Consumes-nil (text_of feed left))));
         number_is = more_is ∙ counts_on (length has.sheets) number has.number_is;
         between = now;
@@ -161,13 +179,21 @@ sheet_unwritten p most e feed before left held now now' number more f0 f1 g0 g1 
       },
     )
 
-pub plays_all : (p : Printer) (most : ℕ) (e : Emulator) (feed new : JobFeed) (before text left held now : Option (List ℕ)) (number f0 f1 g0 g1 : ℕ) → PlaysSoFar p e feed before text held now number
+pub plays_all : (p : Printer) (most : ℕ) (e : Emulator) (feed new : JobFeed) (before text left held now : Option
+    (List ℕ)) (number f0 f1 g0 g1 : ℕ) → PlaysSoFar p e feed before text held now number
     → HasEnded text (text_of new left) → most_of feed ≡ most
-    → PlaysAll p most (record { before = before; now = left; faults_before = f0; faults_now = f1 }) (record { before = held; now = now; faults_before = g0; faults_now = g1 })
+    → PlaysAll p most (record { before = before; now = left; faults_before = f0; faults_now = f1 })
+    (record { before = held; now = now; faults_before = g0; faults_now = g1 })
 plays_all p most e feed new before text left held now number f0 f1 g0 g1 so_far ended most_is =
     let takes = job_ended feed new before text left so_far.runs.entries so_far.runs.gave ended in
-    let stops = stops_as_bytes p (most_of feed) takes.bytes so_far.runs.entries so_far.runs.m so_far.sheets None so_far.runs.executes takes.ends in
-    let P : ℕ → Type 0 = λ n. PlaysAll p n (record { before = before; now = left; faults_before = f0; faults_now = f1 }) (record { before = held; now = now; faults_before = g0; faults_now = g1 }) in
+    let stops = stops_as_bytes p (most_of feed)
+    takes.bytes so_far.runs.entries so_far.runs.m so_far.sheets None so_far.runs.executes takes.ends in
+    let P : ℕ → Type 0 = λ n. PlaysAll p n (record {
+      before = before;
+      now = left;
+      faults_before = f0;
+      faults_now = f1;
+    }) (record { before = held; now = now; faults_before = g0; faults_now = g1 }) in
     let Q : List PrintedSheet → Type 0 = λ sheets. Appends held now (images p sheets) in
     subst P most_is (record {
       bytes = takes.bytes;
@@ -177,14 +203,18 @@ plays_all p most e feed new before text left held now number f0 f1 g0 g1 so_far 
       writes = subst Q (sym stops.0) so_far.writes;
     })
 
-pub plays_to_stop : (p : Printer) (most : ℕ) (e : Emulator) (feed new : JobFeed) (before text left held now : Option (List ℕ)) (number f0 f1 f2 g0 g1 : ℕ) (why : FeedStop)
+pub plays_to_stop : (p : Printer) (most : ℕ) (e : Emulator)
+    (feed new : JobFeed) (before text left held now : Option (List ℕ)) (number f0 f1 f2 g0 g1 : ℕ) (why : FeedStop)
     → PlaysSoFar p e feed before text held now number → IsStopped feed text (text_of new left) f1 f2 why → f0 ≤ f1 → most_of feed ≡ most
-    → PlayOutcome p most (record { before = before; now = left; faults_before = f0; faults_now = f2 }) (record { before = held; now = now; faults_before = g0; faults_now = g1 }) (Err (feed_stop why))
+    → PlayOutcome p most (record { before = before; now = left; faults_before = f0; faults_now = f2 })
+    (record { before = held; now = now; faults_before = g0; faults_now = g1 }) (Err (feed_stop why))
 plays_to_stop p most e feed new before text left held now number f0 f1 f2 g0 g1 (feed_is.Job offset cause) so_far stopped later most_is =
-    let P : ℕ → Type 0 = λ n. IfSome before (λ bytes. (sheets_of p n bytes ≡ so_far.sheets) × (job_end bytes n (Some p) ≡ Some (record { at = offset; why = cause }))) in
+    let P : ℕ → Type 0 = λ n. IfSome before (λ bytes. (sheets_of p n bytes ≡ so_far.sheets)
+    × (job_end bytes n (Some p) ≡ Some (record { at = offset; why = cause }))) in
     record {
       sheets = so_far.sheets;
-      told = subst P most_is (mapped before _ _ (λ bytes ends. stops_as_bytes p (most_of feed) bytes so_far.runs.entries so_far.runs.m so_far.sheets _ so_far.runs.executes ends)
+      told = subst P most_is (mapped before _ _ (λ bytes ends. stops_as_bytes p
+          (most_of feed) bytes so_far.runs.entries so_far.runs.m so_far.sheets _ so_far.runs.executes ends)
           (job_refused feed before text (text_of new left) so_far.runs.entries offset cause so_far.runs.gave stopped));
       writes = so_far.writes;
     }
@@ -193,32 +223,40 @@ plays_to_stop p most e feed new before text left held now number f0 f1 f2 g0 g1 
       rose_within f0 f1 f2 f2 later failed.rose (omega arith),
       record {
         sheets = so_far.sheets;
-        takes = subst Q most_is (takes_sheets p (most_of feed) before left so_far.runs.entries so_far.runs.m so_far.sheets so_far.runs.executes
+        takes = subst Q most_is (takes_sheets p
+            (most_of feed) before left so_far.runs.entries so_far.runs.m so_far.sheets so_far.runs.executes
             (takes_gave feed new before text left so_far.runs.entries failed.bytes so_far.runs.gave failed.takes.taken));
         writes = so_far.writes;
       },
     )
 
 -- the machine refuses a command
-pub plays_to_refusal : (p : Printer) (most : ℕ) (e e' : Emulator) (old new : JobFeed) (before text left held now : Option (List ℕ)) (number f0 f1 g0 g1 : ℕ) (placed : PlacedCommand) (fault : EmuFault)
+pub plays_to_refusal : (p : Printer) (most : ℕ) (e e' : Emulator) (old new : JobFeed)
+    (before text left held now : Option (List ℕ)) (number f0 f1 g0 g1 : ℕ) (placed : PlacedCommand) (fault : EmuFault)
     (so_far : PlaysSoFar p e old before text held now number) → TakesCommand old new text (text_of new left) placed
     → Runs p so_far.runs.m placed.command (heard_of new) e e' (Err (emu.Refused fault)) → most_of new ≡ most
-    → PlayOutcome p most (record { before = before; now = left; faults_before = f0; faults_now = f1 }) (record { before = held; now = now; faults_before = g0; faults_now = g1 })
+    → PlayOutcome p most (record { before = before; now = left; faults_before = f0; faults_now = f1 })
+    (record { before = held; now = now; faults_before = g0; faults_now = g1 })
     (Err (stop.Job placed.at (job.Machine fault)))
 plays_to_refusal p most e e' old new before text left held now number f0 f1 g0 g1 placed fault so_far takes runs most_is =
     let entry : Entry = entry_of new placed in
-    let P : ℕ → Type 0 = λ n. IfSome before (λ bytes. (sheets_of p n bytes ≡ so_far.sheets) × (job_end bytes n (Some p) ≡ Some (record { at = placed.at; why = job.Machine fault }))) in
+    let P : ℕ → Type 0 = λ n. IfSome before (λ bytes. (sheets_of p n bytes ≡ so_far.sheets)
+    × (job_end bytes n (Some p) ≡ Some (record { at = placed.at; why = job.Machine fault }))) in
     record {
       sheets = so_far.sheets;
-      told = subst P most_is (mapped before _ _ (λ bytes first. stops_at_refusal p (most_of new) bytes so_far.runs.entries first.0 entry so_far.runs.m so_far.sheets fault so_far.runs.executes runs.0 first.1)
-          (gave_first new before (text_of new left) (so_far.runs.entries ++ entry ∷ []) (gave_more old new before text (text_of new left) so_far.runs.entries placed so_far.runs.gave takes)));
+      told = subst P most_is (mapped before _ _ (λ bytes first. stops_at_refusal p (most_of new) bytes
+          so_far.runs.entries first.0 entry so_far.runs.m so_far.sheets fault so_far.runs.executes runs.0 first.1)
+          (gave_first new before (text_of new left) (so_far.runs.entries ++ entry ∷ [])
+          (gave_more old new before text (text_of new left) so_far.runs.entries placed so_far.runs.gave takes)));
       writes = so_far.writes;
     }
 
--- there is no memory for a sheet
-pub plays_without_room : (p : Printer) (most : ℕ) (e : Emulator) (old new : JobFeed) (before text left held now : Option (List ℕ)) (number f0 f1 g0 g1 : ℕ) (placed : PlacedCommand)
+-- memory for a sheet runs out
+pub plays_without_room : (p : Printer) (most : ℕ) (e : Emulator) (old new : JobFeed)
+    (before text left held now : Option (List ℕ)) (number f0 f1 g0 g1 : ℕ) (placed : PlacedCommand)
     → PlaysSoFar p e old before text held now number → TakesCommand old new text (text_of new left) placed → most_of old ≡ most
-    → PlayOutcome p most (record { before = before; now = left; faults_before = f0; faults_now = f1 }) (record { before = held; now = now; faults_before = g0; faults_now = g1 }) (Err stop.Memory)
+    → PlayOutcome p most (record { before = before; now = left; faults_before = f0; faults_now = f1 })
+    (record { before = held; now = now; faults_before = g0; faults_now = g1 }) (Err stop.Memory)
 plays_without_room p most e old new before text left held now number f0 f1 g0 g1 placed so_far takes most_is =
     let Q : ℕ → Type 0 = λ n. TakesSheets p n before left so_far.sheets in
     record {
@@ -228,9 +266,10 @@ plays_without_room p most e old new before text left held now number f0 f1 g0 g1
       writes = so_far.writes;
     }
 
--- there is no memory to begin with
+-- memory runs out at the beginning
 pub plays_nothing : (p : Printer) (most : ℕ) (left held : Option (List ℕ)) (f0 f1 g0 g1 : ℕ)
-    → PlayOutcome p most (record { before = left; now = left; faults_before = f0; faults_now = f1 }) (record { before = held; now = held; faults_before = g0; faults_now = g1 }) (Err stop.Memory)
+    → PlayOutcome p most (record { before = left; now = left; faults_before = f0; faults_now = f1 })
+    (record { before = held; now = held; faults_before = g0; faults_now = g1 }) (Err stop.Memory)
 plays_nothing p most left held f0 f1 g0 g1 = record {
   sheets = [];
   takes = record { bytes = []; taken = Consumes-nil left; others = sheets_of p most []; are = refl };
@@ -238,25 +277,42 @@ plays_nothing p most left held f0 f1 g0 g1 = record {
 }
 
 -- the emulator does not run a command
-pub plays_to_emu_stop : (p : Printer) (most : ℕ) (e e' : Emulator) (old new : JobFeed) (before text left held now : Option (List ℕ)) (number f0 f1 g0 g1 : ℕ) (placed : PlacedCommand) (why : EmuStop)
+pub plays_to_emu_stop : (p : Printer) (most : ℕ) (e e' : Emulator) (old new : JobFeed)
+    (before text left held now : Option (List ℕ)) (number f0 f1 g0 g1 : ℕ) (placed : PlacedCommand) (why : EmuStop)
     (answer : PlayStop) (so_far : PlaysSoFar p e old before text held now number) → TakesCommand old new text (text_of new left) placed
     → Runs p so_far.runs.m placed.command (heard_of new) e e' (Err why) → most_of old ≡ most → answer ≡ emu_stop placed.at why
-    → PlayOutcome p most (record { before = before; now = left; faults_before = f0; faults_now = f1 }) (record { before = held; now = now; faults_before = g0; faults_now = g1 }) (Err answer)
+    → PlayOutcome p most (record { before = before; now = left; faults_before = f0; faults_now = f1 })
+    (record { before = held; now = now; faults_before = g0; faults_now = g1 }) (Err answer)
 plays_to_emu_stop p most e e' old new before text left held now number f0 f1 g0 g1 placed why answer so_far takes runs most_is is =
-    let P : PlayStop → Type 0 = λ stop. PlayOutcome p most (record { before = before; now = left; faults_before = f0; faults_now = f1 }) (record { before = held; now = now; faults_before = g0; faults_now = g1 }) (Err stop) in
+    let P : PlayStop → Type 0 = λ stop. PlayOutcome p most (record {
+      before = before;
+      now = left;
+      faults_before = f0;
+      faults_now = f1;
+    }) (record { before = held; now = now; faults_before = g0; faults_now = g1 }) (Err stop) in
     subst P (sym is) (by_stop why runs)
   where
     by_stop : (why : EmuStop) → Runs p so_far.runs.m placed.command (heard_of new) e e' (Err why)
-        → PlayOutcome p most (record { before = before; now = left; faults_before = f0; faults_now = f1 }) (record { before = held; now = now; faults_before = g0; faults_now = g1 }) (Err (emu_stop placed.at why))
-    by_stop (emu.Refused fault) runs = plays_to_refusal p most e e' old new before text left held now number f0 f1 g0 g1 placed fault so_far takes runs (takes.most ∙ most_is)
+        → PlayOutcome p most (record { before = before; now = left; faults_before = f0; faults_now = f1 })
+        (record { before = held; now = now; faults_before = g0; faults_now = g1 }) (Err (emu_stop placed.at why))
+    by_stop (emu.Refused fault) runs = plays_to_refusal p most e
+        e' old new before text left held now number f0 f1 g0 g1 placed fault so_far takes runs (takes.most ∙ most_is)
     by_stop emu.Memory runs = plays_without_room p most e old new before text left held now number f0 f1 g0 g1 placed so_far takes most_is
 
 -- the feed stops
-pub plays_to_feed_stop : (p : Printer) (most : ℕ) (e : Emulator) (feed new : JobFeed) (before text left held now : Option (List ℕ)) (number f0 f1 f2 g0 g1 : ℕ) (why : FeedStop) (answer : PlayStop)
-    → PlaysSoFar p e feed before text held now number → IsStopped feed text (text_of new left) f1 f2 why → f0 ≤ f1 → most_of feed ≡ most → answer ≡ feed_stop why
-    → PlayOutcome p most (record { before = before; now = left; faults_before = f0; faults_now = f2 }) (record { before = held; now = now; faults_before = g0; faults_now = g1 }) (Err answer)
+pub plays_to_feed_stop : (p : Printer) (most : ℕ) (e : Emulator) (feed new : JobFeed)
+    (before text left held now : Option (List ℕ)) (number f0 f1 f2 g0 g1 : ℕ) (why : FeedStop) (answer : PlayStop)
+    → PlaysSoFar p e feed before text held now number
+    → IsStopped feed text (text_of new left) f1 f2 why → f0 ≤ f1 → most_of feed ≡ most → answer ≡ feed_stop why
+    → PlayOutcome p most (record { before = before; now = left; faults_before = f0; faults_now = f2 })
+    (record { before = held; now = now; faults_before = g0; faults_now = g1 }) (Err answer)
 plays_to_feed_stop p most e feed new before text left held now number f0 f1 f2 g0 g1 why answer so_far stopped later most_is is =
-    let P : PlayStop → Type 0 = λ stop. PlayOutcome p most (record { before = before; now = left; faults_before = f0; faults_now = f2 }) (record { before = held; now = now; faults_before = g0; faults_now = g1 }) (Err stop) in
+    let P : PlayStop → Type 0 = λ stop. PlayOutcome p most (record {
+      before = before;
+      now = left;
+      faults_before = f0;
+      faults_now = f2;
+    }) (record { before = held; now = now; faults_before = g0; faults_now = g1 }) (Err stop) in
     subst P (sym is) (plays_to_stop p most e feed new before text left held now number f0 f1 f2 g0 g1 why so_far stopped later most_is)
 
 -- what holds of an option that is none

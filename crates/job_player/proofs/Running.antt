@@ -4,7 +4,8 @@ use Rattle.escp2_definitions.specs.declared.stops.EmuFault.{EmuFault}
 use Rattle.escp2_definitions.specs.declared.stops.JobStop.TheVariants as stop
 use Rattle.escp2_definitions.specs.Commands.{Entry, commands}
 use Rattle.escp2_definitions.specs.JobEnds.{Stopped, first_stop, job_end, list_stop, stopped}
-use Rattle.escp2_definitions.specs.Machine.{Machine, Printed, Sheet, after, execute, execute_from, first_fault, given, refusals, start, with_sheets}
+use Rattle.escp2_definitions.specs.Machine.{Machine, Printed, Sheet, after, execute, execute_from, first_fault}
+use Rattle.escp2_definitions.specs.Machine.{given, refusals, start, with_sheets}
 use Rattle.job_feed.specs.Jobs.{Ends}
 use Rattle.printer_definitions.specs.Printer.{Printer}
 
@@ -25,7 +26,8 @@ accepted p m entry rest none = ap (λ o. elim o [
 ]) none
 
 -- a command that is refused
-refused : (p : Printer) (m : Machine) (entry : Entry) (rest : List Entry) (fault : EmuFault) → first_fault (refusals p m entry.command entry.rows) ≡ Some fault
+refused : (p : Printer) (m : Machine) (entry : Entry) (rest : List Entry) (fault : EmuFault)
+    → first_fault (refusals p m entry.command entry.rows) ≡ Some fault
     → execute_from p m (entry ∷ rest) ≡ record { sheets = []; refused = Some (record { at = entry.at; fault = fault }) }
 unfolding execute_from
 refused p m entry rest fault some = ap (λ o. elim o [
@@ -51,28 +53,34 @@ pub sheets_more : (p : Printer) (entries others : List Entry) (m : Machine) (she
 sheets_more p entries others m sheets so_far = ap (λ (run : Printed). run.sheets) (so_far.is others)
 
 -- all commands were run
-pub run_whole : (p : Printer) (entries : List Entry) (m : Machine) (sheets : List Sheet) → Executes p entries m sheets → execute p entries ≡ record { sheets = sheets; refused = None }
+pub run_whole : (p : Printer) (entries : List Entry) (m : Machine) (sheets : List Sheet)
+    → Executes p entries m sheets → execute p entries ≡ record { sheets = sheets; refused = None }
 unfolding execute_from
 run_whole p entries m sheets so_far =
     ap (execute p) (sym (append-nil entries)) ∙ so_far.is [] ∙ ap (λ all. record { sheets = all; refused = None }) (append-nil sheets)
 
 -- a job of which all commands were run stops where its bytes do
-pub stops_as_bytes : (p : Printer) (most : ℕ) (bytes : List ℕ) (entries : List Entry) (m : Machine) (sheets : List Sheet) (why : Option Stopped) → Executes p entries m sheets
+pub stops_as_bytes : (p : Printer) (most : ℕ) (bytes : List ℕ)
+    (entries : List Entry) (m : Machine) (sheets : List Sheet) (why : Option Stopped) → Executes p entries m sheets
     → Ends most bytes entries why
     → ((execute p (commands (take most bytes)).entries).sheets ≡ sheets) × (job_end bytes most (Some p) ≡ why)
 stops_as_bytes p most bytes entries m sheets why so_far ends =
-    let run : execute p (commands (take most bytes)).entries ≡ record { sheets = sheets; refused = None } = ap (execute p) ends.are ∙ run_whole p entries m sheets so_far in (
+    let run : execute p (commands (take most bytes)).entries ≡ record { sheets = sheets; refused = None } =
+    ap (execute p) ends.are ∙ run_whole p entries m sheets so_far in (
       ap (λ (r : Printed). r.sheets) run,
       ap (λ (r : Printed). first_stop r.refused (list_stop (commands (take most bytes)).end most (length bytes))) run ∙ ends.stop_is,
     )
 
 -- a job of which a command is refused stops there, whatever follows
-pub stops_at_refusal : (p : Printer) (most : ℕ) (bytes : List ℕ) (entries others : List Entry) (entry : Entry) (m : Machine) (sheets : List Sheet) (fault : EmuFault)
+pub stops_at_refusal : (p : Printer) (most : ℕ) (bytes : List ℕ)
+    (entries others : List Entry) (entry : Entry) (m : Machine) (sheets : List Sheet) (fault : EmuFault)
     → Executes p entries m sheets → first_fault (refusals p m entry.command entry.rows) ≡ Some fault
     → (commands (take most bytes)).entries ≡ (entries ++ entry ∷ []) ++ others
-    → ((execute p (commands (take most bytes)).entries).sheets ≡ sheets) × (job_end bytes most (Some p) ≡ stopped entry.at (stop.Machine fault))
+    → ((execute p (commands (take most bytes)).entries).sheets ≡ sheets)
+    × (job_end bytes most (Some p) ≡ stopped entry.at (stop.Machine fault))
 stops_at_refusal p most bytes entries others entry m sheets fault so_far some are =
-    let run : execute p (commands (take most bytes)).entries ≡ record { sheets = sheets; refused = Some (record { at = entry.at; fault = fault }) } =
+    let run : execute p (commands (take most bytes)).entries
+    ≡ record { sheets = sheets; refused = Some (record { at = entry.at; fault = fault }) } =
     ap (execute p) (are ∙ append_assoc entries (entry ∷ []) others)
     ∙ so_far.is (entry ∷ others)
     ∙ ap (with_sheets sheets) (refused p m entry others fault some)

@@ -1,4 +1,4 @@
--- What playing a job comes to.
+-- The outcome of playing a job.
 use Rattle.std.specs.Prelude.{◌≡◌, ℕ, ◌+◌, ◌-◌, ◌^◌, min, List, [], ◌∷◌, ◌++◌, length, take, Option, Some, None, IfSome, Result, Ok, Err}
 use Rattle.std.specs.Io.KnownBytes.{Appends, Consumes, IsAtEnd}
 use Rattle.escp2_definitions.specs.declared.stops.JobStop.{JobStop}
@@ -12,11 +12,11 @@ use Rattle.outside_definitions.specs.Outside.{HasRisen, Outside}
 use Rattle.printer_definitions.specs.Printer.{Printer}
 use Rattle.weave_base.specs.Parts.{AppendsPart}
 
--- the sheets that a job of these bytes ejects, of which at most so many are taken
+-- the sheets that a job of these bytes ejects, of which at most `most` are read
 abbrev pub sheets_of : Printer → ℕ → List ℕ → List Sheet
 sheets_of p most bytes = (execute p (commands (take most bytes)).entries).sheets
 
--- The job was taken whole, nothing stops it, and the images of its sheets were written.
+-- The whole job was read, nothing stops it, and the images of its sheets were written.
 pub record PlaysAll (p : Printer) (most : ℕ) (input out : Outside) : Type 0 where
   pub bytes : List ℕ
   pub taken : Consumes input.before input.now bytes
@@ -24,30 +24,30 @@ pub record PlaysAll (p : Printer) (most : ℕ) (input out : Outside) : Type 0 wh
   pub whole : job_end bytes most (Some p) ≡ None
   pub writes : Appends out.before out.now (images p (sheets_of p most bytes))
 
--- The job, where it is told, stops at this offset; the images of the sheets before that were written.
+-- The job, if the source reports its bytes, stops at this offset; the images of the sheets before that were written.
 pub record PlaysToStop (p : Printer) (most : ℕ) (input out : Outside) (offset : ℕ) (cause : JobStop) : Type 0 where
   pub sheets : List Sheet
   pub told : IfSome input.before (λ bytes. (sheets_of p most bytes ≡ sheets) × (job_end bytes most (Some p) ≡ stopped offset cause))
   pub writes : Appends out.before out.now (images p sheets)
 
--- The first sheets of what was taken of a job are these.
+-- These are the first sheets of what was read of a job.
 pub record TakesSheets (p : Printer) (most : ℕ) (before now : Option (List ℕ)) (sheets : List Sheet) : Type 0 where
   pub bytes : List ℕ
   pub taken : Consumes before now bytes
   pub others : List Sheet
   pub are : sheets_of p most bytes ≡ sheets ++ others
 
--- The images of some first sheets of what was taken were written.
+-- The images of some first sheets of what was read were written.
 pub record PlaysSome (p : Printer) (most : ℕ) (input out : Outside) : Type 0 where
   pub sheets : List Sheet
   pub takes : TakesSheets p most input.before input.now sheets
   pub writes : Appends out.before out.now (images p sheets)
 
--- a number of sheets, which stands still at the last value of 32 bits
+-- the number of a sheet, up to the last value of 32 bits
 abbrev pub counted : ℕ → ℕ
 counted n = min n (2 ^ 32 - 1)
 
--- The images of the sheets before the one of this number were written, and a proper prefix of its own.
+-- The images of the sheets before this one were written, and a proper prefix of its own.
 pub record StopsInSheet (p : Printer) (most : ℕ) (input out : Outside) (number : ℕ) : Type 0 where
   pub sheets : List Sheet
   pub sheet : Sheet
@@ -57,7 +57,7 @@ pub record StopsInSheet (p : Printer) (most : ℕ) (input out : Outside) (number
   pub whole : Appends out.before between (images p sheets)
   pub part : AppendsPart between out.now (sheet_images p sheet)
 
--- What playing a job of at most so many bytes on a printer comes to.
+-- The outcome of playing a job of at most `most` bytes on a printer.
 abbrev pub PlayOutcome : Printer → ℕ → Outside → Outside → Result (Unit {0}) PlayStop → Type 0
 PlayOutcome p most input out (Ok u) = PlaysAll p most input out
 PlayOutcome p most input out (Err (stop.Job offset cause)) = PlaysToStop p most input out offset cause

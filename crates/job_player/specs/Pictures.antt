@@ -12,7 +12,7 @@ use Rattle.printer_definitions.specs.Inks.{inks_of}
 use Rattle.printer_definitions.specs.Printer.{Printer, column_step, row_step}
 use Rattle.weave_definitions.specs.Weave.{count_from}
 
--- whether an ink has a dot in a row and a column of a sheet
+-- whether an ink has a dot in a row at a column of a sheet
 abbrev pub has_dot : Printer → Sheet → Ink → ℕ → ℕ → Bool
 has_dot p s ink y x = list_any (is_at (dot_at (column_step p) (row_step p) ink y x)) s.dots
 
@@ -28,7 +28,7 @@ sheet_image p s ink = image_head s.columns s.rows ++ flat_map (sheet_row p s ink
 abbrev pub sheet_images : Printer → Sheet → List ℕ
 sheet_images p s = flat_map (sheet_image p s) (inks_of Cmyk)
 
--- and those of sheets, one after another
+-- the images of sheets, one after another
 abbrev pub images : Printer → List Sheet → List ℕ
 images p sheets = flat_map (sheet_images p) sheets
 

@@ -1,4 +1,4 @@
--- Why playing a job stops, where its parts do.
+-- Why playing a job stops, by why its parts stop.
 use Rattle.std.specs.Prelude.{ℕ}
 use Rattle.dot_emulator.specs.declared.emulator.EmuStop.{EmuStop}
 use Rattle.dot_emulator.specs.declared.emulator.EmuStop.TheVariants as emu
@@ -8,7 +8,7 @@ use Rattle.job_feed.specs.declared.feed.FeedStop.TheVariants as feed
 use Rattle.job_player.specs.declared.player.PlayStop.{PlayStop}
 use Rattle.job_player.specs.declared.player.PlayStop.TheVariants as stop
 
--- why it stops where the feed of its commands does
+-- why it stops where the feed of its commands stops
 abbrev pub feed_stop : FeedStop → PlayStop
 feed_stop (feed.Job offset cause) = stop.Job offset cause
 feed_stop feed.Read = stop.Read

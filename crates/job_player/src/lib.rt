@@ -1,4 +1,9 @@
 //! The sheets of a print job as images, each written when it is ejected.
+//!
+//! `play_job`, for a profile that passes its checks, ends as `PlayOutcome` says: on `Ok` the whole input was a job
+//! that the printer takes, and the images of its sheets were written; on a refusal, a failed read or write, or
+//! `Memory`, the images of some first sheets were written, and after a failed write a proper prefix of the next
+//! sheet's. A failed read or write comes only where the source's or sink's count of faults rose.
 #![tactic(auto)]
 
 mod player;

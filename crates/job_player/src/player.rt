@@ -1,4 +1,4 @@
-//! A job's sheets.
+//! Playing a job.
 ghost use Rattle.job_player.specs.Outcome.{PlayOutcome};
 ghost use Rattle.job_player.specs.Stops.{emu_stop};
 ghost use Rattle.job_player.specs.declared.player.PlayStop.TheVariants as PlayStop;
@@ -14,21 +14,21 @@ use printer_profile::Profile;
 use std::alloc::Global;
 use weave_base::{Memory, Sink, Source};
 
-/// Why a job is not played to its end.
+/// Why a job was not played to its end.
 #[derive(Clone, Copy, Debug, PartialEq, Eq)]
 pub enum PlayStop {
     /// The job is refused at this offset.
     Job { offset: u64, cause: JobStop },
     /// A read failed.
     Read,
-    /// A write failed, in the images of this sheet. Sheets count from 1, and the count stands still at its last value.
+    /// A write failed in the images of this sheet. Sheets are counted from 1, up to the last value of 32 bits.
     Write { sheet: u32 },
     /// Memory ran out.
     Memory,
 }
 
-/// Runs the job that the input is on a printer, and writes the four images of each sheet when it is ejected. At most
-/// `most` bytes of the job are taken.
+/// Runs the job that the input holds on a printer, and writes the four images of each sheet when it is ejected. It
+/// reads at most `most` bytes of the job.
 pub fn play_job<S: Source, K: Sink>(
     alloc: Global,
     profile: &Profile,
@@ -39,8 +39,18 @@ pub fn play_job<S: Source, K: Sink>(
     requires checked { IsOk (check profile.now) }
     requires most { most < 2 ^ 63 }
     ensures { PlayOutcome (printer_of profile.now) most
-        (record { before = S.left input.old; now = S.left input.new; faults_before = S.faults input.old; faults_now = S.faults input.new })
-        (record { before = K.held out.old; now = K.held out.new; faults_before = K.faults out.old; faults_now = K.faults out.new }) result }
+        (record {
+          before = S.left input.old;
+          now = S.left input.new;
+          faults_before = S.faults input.old;
+          faults_now = S.faults input.new;
+        })
+        (record {
+          before = K.held out.old;
+          now = K.held out.new;
+          faults_before = K.faults out.old;
+          faults_now = K.faults out.new;
+        }) result }
 {
     let mut feed = JobFeed::make(alloc, most)?;
     let mut emulator = Emulator::make(alloc, profile);
@@ -64,7 +74,7 @@ pub fn play_job<S: Source, K: Sink>(
     }
 }
 
-// Why a job stops at a command that the emulator does not run.
+// Why playing stops at a command that the emulator does not run.
 fn refused_at(at: u64, stop: EmuStop) -> PlayStop
     ensures { result ≡ emu_stop at stop }
 {

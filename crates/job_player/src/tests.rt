@@ -33,7 +33,7 @@ const JOB: [u8; 92] = [
     0x03, 0x08, 0x00, 0x00, 0x00, 0x00, 0xFF, 0x00, 0x00, 0x0C, 0x1B, 0x40,
 ];
 
-/// Plays this much of the job.
+/// Plays the first bytes of the job.
 fn play(
     rt: &impl Abort,
     alloc: Global,
@@ -57,7 +57,11 @@ fn a_sheet_is_four_images(rt: HostRuntime) -> Result<(), Fail> {
     assert_eq!(rt; play(&rt, alloc, &JOB, &mut out)?, Ok(()));
     assert_eq!(rt;
         out.bytes(),
-        b"P4\n8 6\n\x00\x00\x00\x00\xFF\xFFP4\n8 6\n\x00\x00\x00\x00\x00\x00P4\n8 6\n\x00\x00\x00\x00\x00\x00P4\n8 6\n\x00\x00\x00\x00\x00\x00".as_slice()
+        b"P4\n8 6\n\x00\x00\x00\x00\xFF\xFF\
+        P4\n8 6\n\x00\x00\x00\x00\x00\x00\
+        P4\n8 6\n\x00\x00\x00\x00\x00\x00\
+        P4\n8 6\n\x00\x00\x00\x00\x00\x00"
+            .as_slice()
     );
     Ok(())
 }

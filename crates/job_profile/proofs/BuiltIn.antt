@@ -9,7 +9,8 @@ use Rattle.job_profile.specs.Named.{IsJobProfile, Refusal, checked_result, named
 use Rattle.job_profile.specs.Stops.{OnRefused}
 use Rattle.job_profile.proofs.Shelved.{held_for}
 
-is_job : (told : Option (List NamedText)) (name : List ℕ) (p : Profile) (r : Result Profile Refusal) → built_in name ≡ Some p → checked_result p ≡ r → IsJobProfile told name r
+is_job : (told : Option (List NamedText)) (name : List ℕ) (p : Profile) (r : Result Profile Refusal)
+    → built_in name ≡ Some p → checked_result p ≡ r → IsJobProfile told name r
 is_job told name p r is checked =
     let held = held_for told name in
     record { held = held.0; told_is = held.1; is = ap (λ b. used_result (named_result b held.0)) is ∙ checked }

@@ -8,7 +8,7 @@ use Rattle.printer_profile.specs.Text.{profile_text}
 use Rattle.printer_profile.specs.Validity.{check}
 use Rattle.weave_base.specs.Shelf.{NamedText, text_named}
 
--- Why a profile is refused: at a line of its text, or at line 0 as a whole.
+-- Why a profile is refused: at a line of its text, or at line 0 for the text as a whole.
 pub record Refusal : Type 0 where
   pub line : ℕ
   pub cause : ProfileCause
@@ -20,16 +20,16 @@ refused_at line cause = record { line = line; cause = cause }
 abbrev pub most_text : ℕ
 most_text = 65536
 
--- what a profile's text says
+-- the profile of a text
 abbrev pub text_result : List ℕ → Result Profile Refusal
 text_result bytes = elim (profile_text bytes) [ Ok p ↦ Ok p | Err fault ↦ Err (refused_at fault.line (cause.Text fault.cause)) ]
 
--- what the shelf's text of a name says, if there is one
+-- the profile of the shelf's text of a name, if there is one
 abbrev pub shelf_result : Option (List ℕ) → Result Profile Refusal
 shelf_result None = Err (refused_at 0 cause.Absent)
 shelf_result (Some bytes) = if nat_lt most_text (length bytes) then Err (refused_at 0 cause.TooLong) else text_result bytes
 
--- the built-in profile of a name, and where there is none what the shelf's text says
+-- the built-in profile of a name; else the profile of the shelf's text
 abbrev pub named_result : Option Profile → Option (List ℕ) → Result Profile Refusal
 named_result (Some p) held = Ok p
 named_result None held = shelf_result held
@@ -42,11 +42,11 @@ abbrev pub used_result : Result Profile Refusal → Result Profile Refusal
 used_result (Ok p) = checked_result p
 used_result (Err refusal) = Err refusal
 
--- What is made of the name of a profile and of the shelf's text of this name, if there is one.
+-- What the name of a profile means, given the shelf's text of this name, if there is one.
 abbrev pub job_profile : List ℕ → Option (List ℕ) → Result Profile Refusal
 job_profile name held = used_result (named_result (built_in name) held)
 
--- The same of the text that the shelf has where it tells its texts, and of some text or none where it does not.
+-- The same for the text that the shelf has, where it reports its texts; for some text or none, where it does not.
 pub record IsJobProfile (told : Option (List NamedText)) (name : List ℕ) (result : Result Profile Refusal) : Type 0 where
   pub held : Option (List ℕ)
   pub told_is : IfSome told (λ files. held ≡ text_named name files)

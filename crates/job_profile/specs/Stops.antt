@@ -11,7 +11,7 @@ abbrev pub stop_of : ShelfStop → ProfileStop
 stop_of shelf.Failed = stop.Failed
 stop_of shelf.Memory = stop.Memory
 
--- a fact where the profile is refused, of the refusal
+-- a fact of the refusal, where the profile is refused
 abbrev pub OnRefused : {T : Type 0} → Result T ProfileStop → (Refusal → Type 0) → Type 0
 OnRefused (Ok x) P = Unit {0}
 OnRefused (Err (stop.Refused line cause)) P = P (refused_at line cause)

@@ -16,7 +16,7 @@ use weave_base::{Found, Shelf};
 /// The most bytes of a profile's text.
 const MOST_TEXT: usize = 65536;
 
-// What a profile's text says.
+// The profile of a text.
 fn read_profile(text: &[u8]) -> Result<Profile, ProfileStop>
     ensures ok { IfOk result (λ p. text_result text.now ≡ Ok p) }
     ensures refused { OnRefused result (λ refusal. text_result text.now ≡ Err refusal) }
@@ -28,9 +28,11 @@ fn read_profile(text: &[u8]) -> Result<Profile, ProfileStop>
 
 // The profile of a text on the shelf.
 fn shelf_profile<F: Shelf>(alloc: Global, shelf: &mut F, name: &str) -> Result<Profile, ProfileStop>
-    ensures ok { IfOk result (λ p. (held : Option (List ℕ)) × IfSome (F.files shelf.old) (λ files. held ≡ text_named name.now files)
+    ensures ok { IfOk result (λ p. (held : Option (List ℕ))
+        × IfSome (F.files shelf.old) (λ files. held ≡ text_named name.now files)
         × (named_result None held ≡ Ok p)) }
-    ensures refused { OnRefused result (λ refusal. (held : Option (List ℕ)) × IfSome (F.files shelf.old) (λ files. held ≡ text_named name.now files)
+    ensures refused { OnRefused result (λ refusal. (held : Option (List ℕ))
+        × IfSome (F.files shelf.old) (λ files. held ≡ text_named name.now files)
         × (named_result None held ≡ Err refusal)) }
     ensures failed { IsErrOf result stop.Failed → Rose (F.faults shelf.old) (F.faults shelf.new) }
     ensures later { F.faults shelf.old ≤ F.faults shelf.new }
@@ -55,8 +57,8 @@ fn use_profile(profile: Profile) -> Result<Profile, ProfileStop>
     Ok(profile)
 }
 
-/// The profile of a name: the built-in one, and where there is none the one that the shelf's text of this name says, of
-/// at most 65,536 bytes.
+/// The profile of a name: the built-in one; else the one that the shelf's text of this name describes, of at most
+/// 65,536 bytes.
 pub fn find_profile<F: Shelf>(
     alloc: Global,
     shelf: &mut F,

@@ -10,20 +10,20 @@ use weave_base::ShelfStop;
 /// Why a profile is refused.
 #[derive(Clone, Copy, Debug, PartialEq, Eq)]
 pub enum ProfileCause {
-    /// It is no built-in profile, and the shelf has no text of its name.
+    /// It is not a built-in profile, and the shelf has no text of its name.
     Absent,
     /// Its text is longer than 65,536 bytes.
     TooLong,
     /// Its text is refused.
     Text(TextCause),
-    /// Its text is read, and makes no sense.
+    /// Its text is read, but the profile makes no sense.
     Check(ProfileFault),
 }
 
 /// Why there is no profile.
 #[derive(Clone, Copy, Debug, PartialEq, Eq)]
 pub enum ProfileStop {
-    /// It is refused: at this line of its text, or at line 0 as a whole.
+    /// It is refused at this line of its text; line 0 for the text as a whole.
     Refused { line: u32, cause: ProfileCause },
     /// The shelf failed.
     Failed,

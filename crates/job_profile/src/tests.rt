@@ -7,7 +7,7 @@ use weave_base::{MemShelf, ShelfFile};
 
 const TINY1: &[u8] = b"escp2-profile 1\nhdpi=360\nvdpi=360\nnozzles=1\npitch=1\ninks=k\n";
 
-/// A shelf of one file, which fails at these calls.
+/// A shelf with one file, whose calls of these numbers fail.
 fn shelf(alloc: Global, name: &str, bytes: Vec<u8>, fails: Vec<u32>) -> Result<MemShelf, Fail> {
     let mut files = Vec::new(alloc);
     files.push(ShelfFile {

@@ -1,5 +1,6 @@
 -- What is kept of each key, as words are read.
-use Rattle.std.proofs.Common.{◌≡◌, ℕ, ◌+◌, Bool, true, false, cond, List, [], ◌∷◌, ◌++◌, length, Option, Some, None, is_some, refl, ap, sym, ◌∙◌, arith}
+use Rattle.std.proofs.Common.{◌≡◌, ℕ, ◌+◌, Bool, true, false, cond, List, [], ◌∷◌, ◌++◌, length, Option}
+use Rattle.std.proofs.Common.{Some, None, is_some, refl, ap, sym, ◌∙◌, arith}
 use Rattle.std.specs.List.{find, list_any, position_from}
 use Rattle.std.specs.Option.{option_map, option_and_then, option_or}
 use Rattle.std.proofs.lemmas.Bool.Decides.{nat_tests}
@@ -16,17 +17,23 @@ use Rattle.diffusion_kernel.specs.declared.tables.Kernel.{Kernel}
 -- how the value of a key comes from the word that gives it, and its number
 pub record IsValue {T : Type 0} (key : KeyRow) (value : List (List ℕ) → Option T) (read : ℕ → List ℕ → Option T) : Type 0 where
   pub other : (words : List (List ℕ)) (word : List ℕ) → gives key word ≡ false → value (words ++ word ∷ []) ≡ value words
-  pub first : (words : List (List ℕ)) (word : List ℕ) → list_any (gives key) words ≡ false → gives key word ≡ true → value (words ++ word ∷ []) ≡ read (length words + 2) word
+  pub first : (words : List (List ℕ)) (word : List ℕ) → list_any (gives key) words ≡ false
+      → gives key word ≡ true → value (words ++ word ∷ []) ≡ read (length words + 2) word
 
 -- a word with another key
-pub kept_other : {T : Type 0} {key : KeyRow} {value : List (List ℕ) → Option T} {read : ℕ → List ℕ → Option T} (is_value : IsValue key value read) (words : List (List ℕ)) (word : List ℕ) (kept : Option T) → IsKept key value words kept → gives key word ≡ false → IsKept key value (words ++ word ∷ []) kept
+pub kept_other : {T : Type 0} {key : KeyRow} {value : List (List ℕ) → Option T} {read : ℕ
+    → List ℕ → Option T} (is_value : IsValue key value read) (words : List (List ℕ)) (word : List ℕ) (kept : Option T)
+    → IsKept key value words kept → gives key word ≡ false → IsKept key value (words ++ word ∷ []) kept
 kept_other {key = key} is_value words word kept h apart = record {
   same = h.same ∙ sym (is_value.other words word apart);
   once = h.once ∙ sym (rw (list_any-append, apart) (grind (arith, nat_tests)));
 }
 
 -- the first word with this key
-pub kept_first : {T : Type 0} {key : KeyRow} {value : List (List ℕ) → Option T} {read : ℕ → List ℕ → Option T} (is_value : IsValue key value read) (words : List (List ℕ)) (word : List ℕ) (old new : Option T) → IsKept key value words old → is_some old ≡ false → gives key word ≡ true → new ≡ read (length words + 2) word → is_some new ≡ true → IsKept key value (words ++ word ∷ []) new
+pub kept_first : {T : Type 0} {key : KeyRow} {value : List (List ℕ) → Option T} {read : ℕ → List ℕ
+    → Option T} (is_value : IsValue key value read) (words : List (List ℕ)) (word : List ℕ) (old new : Option T)
+    → IsKept key value words old → is_some old ≡ false → gives key word ≡ true
+    → new ≡ read (length words + 2) word → is_some new ≡ true → IsKept key value (words ++ word ∷ []) new
 kept_first {key = key} is_value words word old new h none here is taken = record {
   same = is ∙ sym (is_value.first words word (sym h.once ∙ none) here);
   once = taken ∙ sym (rw (list_any-append, here) (grind (arith, nat_tests)));
@@ -41,10 +48,12 @@ or_none : {X : Type 0} (o : Option X) → option_or o None ≡ o
 or_none None = refl
 or_none (Some x) = refl
 
-given_value : {T : Type 0} (key : KeyRow) (read : List ℕ → Option T) → IsValue key (λ words. option_and_then read (given key words)) (λ n word. read (value_of word))
+given_value : {T : Type 0} (key : KeyRow) (read : List ℕ → Option T)
+    → IsValue key (λ words. option_and_then read (given key words)) (λ n word. read (value_of word))
 given_value key read = record {
   other = λ words word apart.
-      let same : find (gives key) (words ++ word ∷ []) ≡ find (gives key) words = rw (find-append, apart) (or_none (find (gives key) words)) in
+      let same : find (gives key) (words ++ word ∷ []) ≡ find (gives key) words =
+      rw (find-append, apart) (or_none (find (gives key) words)) in
       ap (λ found. option_and_then read (option_map value_of found)) same;
   first = λ words word none here.
       let this : find (gives key) (words ++ word ∷ []) ≡ Some word = rw (find-append, find_none (gives key) words none, here) refl in
@@ -64,10 +73,13 @@ pub most_is_value : IsValue most_key given_most (λ n word. most_value (value_of
 most_is_value = given_value most_key most_value
 
 -- the place of the first that passes, in a list with one more
-position_push : {X : Type 0} (p : X → Bool) (n : ℕ) (xs : List X) (x : X) → position_from p n (xs ++ x ∷ []) ≡ option_or (position_from p n xs) (cond (p x) (Some (n + length xs)) None)
+position_push : {X : Type 0} (p : X → Bool) (n : ℕ) (xs : List X) (x : X)
+    → position_from p n (xs ++ x ∷ []) ≡ option_or (position_from p n xs) (cond (p x) (Some (n + length xs)) None)
 position_push p n [] x = ap (λ k. cond (p x) (Some k) None) (omega arith)
 position_push p n (y ∷ xs) x = by_test (p y) (position_push p (n + 1) xs x) where
-  by_test : (test : Bool) → position_from p (n + 1) (xs ++ x ∷ []) ≡ option_or (position_from p (n + 1) xs) (cond (p x) (Some (n + 1 + length xs)) None) → cond test (Some n) (position_from p (n + 1) (xs ++ x ∷ [])) ≡ option_or (cond test (Some n) (position_from p (n + 1) xs)) (cond (p x) (Some (n + length (y ∷ xs))) None)
+  by_test : (test : Bool) → position_from p (n + 1) (xs ++ x ∷ []) ≡ option_or (position_from p (n + 1) xs)
+      (cond (p x) (Some (n + 1 + length xs)) None) → cond test (Some n) (position_from p (n + 1) (xs ++ x ∷ []))
+      ≡ option_or (cond test (Some n) (position_from p (n + 1) xs)) (cond (p x) (Some (n + length (y ∷ xs))) None)
   by_test true later = refl
   by_test false later = later ∙ ap (λ k. option_or (position_from p (n + 1) xs) (cond (p x) (Some k) None)) (omega arith)
 
@@ -78,7 +90,8 @@ no_position p n (x ∷ xs) h = grind (arith, nat_tests, no_position p (n + 1) xs
 pub profile_value : IsValue profile_key given_profile_word (λ n word. Some n)
 profile_value = record {
   other = λ words word apart. position_push (gives profile_key) 2 words word ∙ rw apart (or_none (given_profile_word words));
-  first = λ words word none here. position_push (gives profile_key) 2 words word ∙ rw (no_position (gives profile_key) 2 words none, here) (ap Some (omega arith));
+  first = λ words word none here. position_push (gives profile_key) 2 words word
+      ∙ rw (no_position (gives profile_key) 2 words none, here) (ap Some (omega arith));
 }
 
 -- a word gives one key alone
@@ -86,7 +99,9 @@ one_key : (one other : KeyRow) (word : List ℕ) → is_text one.name other.name
 one_key one other word apart here = let is : key_of word ≡ one.name = (bytes_eq-Decides (key_of word) one.name).0 here in rw is apart
 
 -- each key's word, read
-pub profile_given : (words : List (List ℕ)) (word : List ℕ) (given : Given) (new : Option ℕ) → IsGiven words given → gives profile_key word ≡ true → is_some given.profile_word ≡ false → new ≡ Some (length words + 2) → IsGiven (words ++ word ∷ []) (record given { profile_word = new })
+pub profile_given : (words : List (List ℕ)) (word : List ℕ) (given : Given) (new : Option ℕ)
+    → IsGiven words given → gives profile_key word ≡ true → is_some given.profile_word ≡ false
+    → new ≡ Some (length words + 2) → IsGiven (words ++ word ∷ []) (record given { profile_word = new })
 profile_given words word given new h here none is = record {
   profile = kept_first profile_value words word _ _ h.profile none here is (ap is_some is);
   kernel = kept_other kernel_value words word _ h.kernel (one_key profile_key kernel_key word refl here);
@@ -95,7 +110,9 @@ profile_given words word given new h here none is = record {
   most = kept_other most_is_value words word _ h.most (one_key profile_key most_key word refl here);
 }
 
-pub kernel_given : (words : List (List ℕ)) (word : List ℕ) (given : Given) (new : Option Kernel) → IsGiven words given → gives kernel_key word ≡ true → is_some given.kernel ≡ false → new ≡ kernel_named (value_of word) → is_some new ≡ true → IsGiven (words ++ word ∷ []) (record given { kernel = new })
+pub kernel_given : (words : List (List ℕ)) (word : List ℕ) (given : Given) (new : Option Kernel) → IsGiven words given
+    → gives kernel_key word ≡ true → is_some given.kernel ≡ false → new ≡ kernel_named (value_of word)
+    → is_some new ≡ true → IsGiven (words ++ word ∷ []) (record given { kernel = new })
 kernel_given words word given new h here none is taken = record {
   profile = kept_other profile_value words word _ h.profile (one_key kernel_key profile_key word refl here);
   kernel = kept_first kernel_value words word _ _ h.kernel none here is taken;
@@ -104,7 +121,9 @@ kernel_given words word given new h here none is taken = record {
   most = kept_other most_is_value words word _ h.most (one_key kernel_key most_key word refl here);
 }
 
-pub workers_given : (words : List (List ℕ)) (word : List ℕ) (given : Given) (new : Option ℕ) → IsGiven words given → gives workers_key word ≡ true → is_some given.workers ≡ false → new ≡ worker_count (value_of word) → is_some new ≡ true → IsGiven (words ++ word ∷ []) (record given { workers = new })
+pub workers_given : (words : List (List ℕ)) (word : List ℕ) (given : Given) (new : Option ℕ) → IsGiven words given
+    → gives workers_key word ≡ true → is_some given.workers ≡ false → new ≡ worker_count (value_of word)
+    → is_some new ≡ true → IsGiven (words ++ word ∷ []) (record given { workers = new })
 workers_given words word given new h here none is taken = record {
   profile = kept_other profile_value words word _ h.profile (one_key workers_key profile_key word refl here);
   kernel = kept_other kernel_value words word _ h.kernel (one_key workers_key kernel_key word refl here);
@@ -113,7 +132,9 @@ workers_given words word given new h here none is taken = record {
   most = kept_other most_is_value words word _ h.most (one_key workers_key most_key word refl here);
 }
 
-pub cap_given : (words : List (List ℕ)) (word : List ℕ) (given : Given) (new : Option ℕ) → IsGiven words given → gives cap_key word ≡ true → is_some given.cap ≡ false → new ≡ cap_value (value_of word) → is_some new ≡ true → IsGiven (words ++ word ∷ []) (record given { cap = new })
+pub cap_given : (words : List (List ℕ)) (word : List ℕ) (given : Given) (new : Option ℕ)
+    → IsGiven words given → gives cap_key word ≡ true → is_some given.cap ≡ false
+    → new ≡ cap_value (value_of word) → is_some new ≡ true → IsGiven (words ++ word ∷ []) (record given { cap = new })
 cap_given words word given new h here none is taken = record {
   profile = kept_other profile_value words word _ h.profile (one_key cap_key profile_key word refl here);
   kernel = kept_other kernel_value words word _ h.kernel (one_key cap_key kernel_key word refl here);
@@ -122,7 +143,9 @@ cap_given words word given new h here none is taken = record {
   most = kept_other most_is_value words word _ h.most (one_key cap_key most_key word refl here);
 }
 
-pub most_given : (words : List (List ℕ)) (word : List ℕ) (given : Given) (new : Option ℕ) → IsGiven words given → gives most_key word ≡ true → is_some given.most ≡ false → new ≡ most_value (value_of word) → is_some new ≡ true → IsGiven (words ++ word ∷ []) (record given { most = new })
+pub most_given : (words : List (List ℕ)) (word : List ℕ) (given : Given) (new : Option ℕ)
+    → IsGiven words given → gives most_key word ≡ true → is_some given.most ≡ false → new ≡ most_value (value_of word)
+    → is_some new ≡ true → IsGiven (words ++ word ∷ []) (record given { most = new })
 most_given words word given new h here none is taken = record {
   profile = kept_other profile_value words word _ h.profile (one_key most_key profile_key word refl here);
   kernel = kept_other kernel_value words word _ h.kernel (one_key most_key kernel_key word refl here);

@@ -1,5 +1,6 @@
 -- How many bytes of a job are taken at most.
-use Rattle.std.proofs.Common.{◌≡◌, ℕ, ◌≤◌, ◌<◌, Bool, true, false, ◌&&◌, nat_le, if◌then◌else◌, List, [], ◌∷◌, Option, Some, None, Result, Ok, Err, refl, sym, subst, ap, arith, unwrap_or}
+use Rattle.std.proofs.Common.{◌≡◌, ℕ, ◌≤◌, ◌<◌, Bool, true, false, ◌&&◌, nat_le, if◌then◌else◌, List, [], ◌∷◌, Option, Some}
+use Rattle.std.proofs.Common.{None, Result, Ok, Err, refl, sym, subst, ap, arith, unwrap_or}
 use Rattle.std.specs.Option.{option_and_then}
 use Rattle.std.specs.Str.Parse.{digits_value}
 use Rattle.std.proofs.lemmas.Bool.{leb-true}
@@ -15,7 +16,8 @@ within None most bound = omega arith
 within (Some n) most bound = bound n refl
 
 -- a number in a range is at most its end
-number_within-most : (b : Bool) (low high number n : ℕ) → (if b && (nat_le low number && nat_le number high) then Some number else None) ≡ Some n → n ≤ high
+number_within-most : (b : Bool) (low high number n : ℕ)
+    → (if b && (nat_le low number && nat_le number high) then Some number else None) ≡ Some n → n ≤ high
 number_within-most false low high number n is = absurd (let differ : ◌≡◌ {A = Option ℕ} None (Some n) = is in cc)
 number_within-most true low high number n is = by_low (nat_le low number) is
   where
@@ -43,7 +45,8 @@ unfolding job_meaning
 most_of_job [] job means = cc
 most_of_job (name ∷ words) job means = by_command (command_named name) means
   where
-    by_faults : (command : CommandRow) (faults : List UsageFault) → job_unless faults (job_of command words) ≡ Ok job → job.most ≤ greatest_most
+    by_faults : (command : CommandRow) (faults : List UsageFault)
+        → job_unless faults (job_of command words) ≡ Ok job → job.most ≤ greatest_most
     by_faults command [] means =
         let same : job_of command words ≡ job = cc in
         subst (λ (j : Job). j.most ≤ greatest_most) same (given_within _)

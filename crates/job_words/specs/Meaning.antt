@@ -1,5 +1,6 @@
 -- What the words of a command line ask for, and which of them is refused.
-use Rattle.std.specs.Prelude.{ℕ, Bool, ◌+◌, if◌then◌else◌, List, [], ◌∷◌, ◌++◌, codes, drop, length, find, Option, Some, None, Result, Ok, Err, unwrap_or}
+use Rattle.std.specs.Prelude.{ℕ, Bool, ◌+◌, if◌then◌else◌, List, [], ◌∷◌, ◌++◌, codes, drop, length, find}
+use Rattle.std.specs.Prelude.{Option, Some, None, Result, Ok, Err, unwrap_or}
 use Rattle.std.specs.List.{list_any, position_from}
 use Rattle.std.specs.Option.{option_and_then, option_map}
 use Rattle.job_words.specs.declared.usage.UsageCause.{UsageCause}
@@ -20,12 +21,12 @@ gives key word = is_text (key_of word) key.name
 abbrev pub value_fault : Bool → Bool → Option UsageCause
 value_fault repeated taken = if repeated then Some RepeatedKey else if taken then None else Some BadValue
 
--- why a word is refused whose key has this row in the table
+-- why a word whose key has this row in the table is refused
 abbrev pub key_fault : List (List ℕ) → List ℕ → Option KeyRow → Option UsageCause
 key_fault earlier word None = Some UnknownKey
 key_fault earlier word (Some key) = value_fault (list_any (gives key) earlier) (key.takes (value_of word))
 
--- Why a word behind the command is refused, if it is; `earlier` are the words between the two.
+-- Why a word after the command is refused, if it is; `earlier` are the words between the command and it.
 unfoldable pub word_fault : List KeyRow → List (List ℕ) → List ℕ → Option UsageCause
 word_fault keys earlier word =
     if is_key_value word then key_fault earlier word (key_named keys (key_of word)) else Some NotKeyValue
@@ -34,19 +35,19 @@ word_fault keys earlier word =
 abbrev pub fault_at : ℕ → UsageCause → UsageFault
 fault_at number cause = record { word = number; cause = cause }
 
--- the same as a list, of one fault or none
+-- the same as a list of one fault or none
 abbrev pub faults_at : ℕ → Option UsageCause → List UsageFault
 faults_at number None = []
 faults_at number (Some cause) = fault_at number cause ∷ []
 
--- All words behind the command that are refused, and why. Words are numbered from 1, the command, so the first of
--- these is word 2; `earlier` are those that stand before `words`.
+-- All refused words after the command, and why. The command is word 1, so that the first of these is word 2;
+-- `earlier` are the words before `words`.
 unfoldable pub refused : List KeyRow → List (List ℕ) → List (List ℕ) → List UsageFault
 refused keys [] earlier = []
 refused keys (word ∷ words) earlier =
     faults_at (length earlier + 2) (word_fault keys earlier word) ++ refused keys words (earlier ++ word ∷ [])
 
--- the value that the words behind the command give a key
+-- the value that the words after the command give a key
 abbrev pub given : KeyRow → List (List ℕ) → Option (List ℕ)
 given key words = option_map value_of (find (gives key) words)
 
@@ -70,7 +71,7 @@ given_cap words = option_and_then cap_value (given cap_key words)
 abbrev pub given_most : List (List ℕ) → Option ℕ
 given_most words = option_and_then most_value (given most_key words)
 
--- The job of a command and the words behind it: each key's value, or its default.
+-- The job of a command and the words after it: each key's value, or its default.
 abbrev pub job_of : CommandRow → List (List ℕ) → Job
 job_of command words = record {
   verb = command.verb;
@@ -81,7 +82,7 @@ job_of command words = record {
   most = unwrap_or (given_most words) greatest_most;
 }
 
--- The first fault, where there is one, and else the job.
+-- The first fault, if there is one; else the job.
 abbrev pub job_unless : List UsageFault → Job → Result Job UsageFault
 job_unless [] job = Ok job
 job_unless (fault ∷ faults) job = Err fault
@@ -91,7 +92,7 @@ abbrev pub command_meaning : List (List ℕ) → Option CommandRow → Result Jo
 command_meaning words None = Err (fault_at 1 UnknownCommand)
 command_meaning words (Some command) = job_unless (refused command.keys words []) (job_of command words)
 
--- What a command line means: its job, or the first word that is refused and why.
+-- What a command line means: its job, or the first refused word and why.
 unfoldable pub job_meaning : List (List ℕ) → Result Job UsageFault
 job_meaning [] = Err (fault_at 1 NoCommand)
 job_meaning (name ∷ words) = command_meaning words (command_named name)

@@ -1,5 +1,6 @@
--- The rows of the table that the code's own commands and keys stand for.
-use Rattle.job_words.specs.Table.{CommandRow, KeyRow, cap_key, dots_command, kernel_key, list_command, most_key, print_command, profile_command, profile_key, workers_key}
+-- The rows of the table for the commands and keys in the code.
+use Rattle.job_words.specs.Table.{CommandRow, KeyRow, cap_key, dots_command, kernel_key, list_command, most_key}
+use Rattle.job_words.specs.Table.{print_command, profile_command, profile_key, workers_key}
 use Rattle.job_words.specs.declared.table.Verb.{Verb}
 use Rattle.job_words.specs.declared.table.Verb.TheVariants as verb
 use Rattle.job_words.specs.declared.table.Key.{Key}

@@ -23,15 +23,15 @@ profile_key = record { name = codes "profile"; takes = λ value. nat_le 1 (lengt
 abbrev pub kernel_key : KeyRow
 kernel_key = record { name = codes "kernel"; takes = λ value. is_some (kernel_named value) }
 
--- how many workers there are, from 1 to 64
+-- how many workers, from 1 to 64
 abbrev pub workers_key : KeyRow
 workers_key = record { name = codes "workers"; takes = λ value. is_some (worker_count value) }
 
--- the most dots that are counted of a job
+-- the most dots that the meters may count
 abbrev pub cap_key : KeyRow
 cap_key = record { name = codes "cap"; takes = λ value. is_some (cap_value value) }
 
--- the most bytes that are taken of a job
+-- the most bytes of a job that are read
 abbrev pub most_key : KeyRow
 most_key = record { name = codes "most"; takes = λ value. is_some (most_value value) }
 

@@ -17,17 +17,17 @@ kernel_named text =
     else if is_text text (codes "stucki") then Some Stucki
     else None
 
--- the greatest count of dots that a job may have: any number of 64 bits
+-- the most dots that the meters may count: any number of 64 bits
 abbrev pub cap_value : List ℕ → Option ℕ
 cap_value text = number_within 0 18446744073709551615 text
 
--- the most bytes of a job that are taken: 16 GiB by default, and at most
+-- the most bytes of a job that are read: 16 GiB, which is also the default
 abbrev pub greatest_most : ℕ
 greatest_most = 17179869184
 
 abbrev pub most_value : List ℕ → Option ℕ
 most_value text = number_within 0 greatest_most text
 
--- a count of workers
+-- how many workers
 abbrev pub worker_count : List ℕ → Option ℕ
 worker_count text = number_within 1 64 text

@@ -1,7 +1,8 @@
 //! Command lines worked by hand: each function does nothing, and the checker computes its contract.
 #![tactic(auto, unfolding(crate::specs::Meaning::job_meaning, crate::specs::Meaning::refused, crate::specs::Meaning::word_fault, key_values::specs::Numbers::number_within))]
 
-ghost use Rattle.job_words.specs.declared.usage.UsageCause.TheVariants.{BadValue, NoCommand, NotKeyValue, RepeatedKey, UnknownCommand, UnknownKey};
+ghost use Rattle.job_words.specs.declared.usage.UsageCause.TheVariants.{BadValue, NoCommand, NotKeyValue};
+ghost use Rattle.job_words.specs.declared.usage.UsageCause.TheVariants.{RepeatedKey, UnknownCommand, UnknownKey};
 ghost use Rattle.diffusion_kernel.specs.declared.tables.Kernel.TheVariants.{Floyd, Jarvis, Stucki};
 ghost use Rattle.job_words.specs.Meaning.{fault_at, job_meaning, profile_named};
 ghost use Rattle.key_values.specs.Numbers.{number_within};
@@ -11,19 +12,61 @@ ghost use Rattle.std.specs.Prelude.{Err, None, Ok, Some, [], codes, ◌∷◌, �
 /// Jobs, and the profile's name.
 pub fn jobs()
     ensures bare { job_meaning (codes "print" ∷ [])
-        ≡ Ok (record { verb = verb.Print; profile_word = 0; kernel = Floyd; workers = 1; cap = None; most = 17179869184 }) }
+        ≡ Ok (record {
+          verb = verb.Print;
+          profile_word = 0;
+          kernel = Floyd;
+          workers = 1;
+          cap = None;
+          most = 17179869184;
+        }) }
     ensures whole { job_meaning (codes "print" ∷ codes "profile=a=b" ∷ codes "kernel=stucki" ∷ codes "workers=64" ∷ [])
-        ≡ Ok (record { verb = verb.Print; profile_word = 2; kernel = Stucki; workers = 64; cap = None; most = 17179869184 }) }
+        ≡ Ok (record {
+          verb = verb.Print;
+          profile_word = 2;
+          kernel = Stucki;
+          workers = 64;
+          cap = None;
+          most = 17179869184;
+        }) }
     ensures turned { job_meaning (codes "print" ∷ codes "workers=10" ∷ codes "kernel=jjn" ∷ codes "profile=c" ∷ [])
-        ≡ Ok (record { verb = verb.Print; profile_word = 4; kernel = Jarvis; workers = 10; cap = None; most = 17179869184 }) }
+        ≡ Ok (record {
+          verb = verb.Print;
+          profile_word = 4;
+          kernel = Jarvis;
+          workers = 10;
+          cap = None;
+          most = 17179869184;
+        }) }
     ensures profile { job_meaning (codes "profile" ∷ codes "profile=c" ∷ [])
-        ≡ Ok (record { verb = verb.Profile; profile_word = 2; kernel = Floyd; workers = 1; cap = None; most = 17179869184 }) }
+        ≡ Ok (record {
+          verb = verb.Profile;
+          profile_word = 2;
+          kernel = Floyd;
+          workers = 1;
+          cap = None;
+          most = 17179869184;
+        }) }
     ensures capped { job_meaning (codes "print" ∷ codes "cap=0" ∷ [])
-        ≡ Ok (record { verb = verb.Print; profile_word = 0; kernel = Floyd; workers = 1; cap = Some 0; most = 17179869184 }) }
+        ≡ Ok (record {
+          verb = verb.Print;
+          profile_word = 0;
+          kernel = Floyd;
+          workers = 1;
+          cap = Some 0;
+          most = 17179869184;
+        }) }
     ensures listed { job_meaning (codes "list" ∷ codes "most=10" ∷ [])
         ≡ Ok (record { verb = verb.List; profile_word = 0; kernel = Floyd; workers = 1; cap = None; most = 10 }) }
     ensures shown { job_meaning (codes "dots" ∷ codes "profile=tiny" ∷ [])
-        ≡ Ok (record { verb = verb.Dots; profile_word = 2; kernel = Floyd; workers = 1; cap = None; most = 17179869184 }) }
+        ≡ Ok (record {
+          verb = verb.Dots;
+          profile_word = 2;
+          kernel = Floyd;
+          workers = 1;
+          cap = None;
+          most = 17179869184;
+        }) }
     ensures built_in { profile_named (codes "print" ∷ []) ≡ codes "p360cmyk" }
     ensures named { profile_named (codes "print" ∷ codes "kernel=fs" ∷ codes "profile=a=b" ∷ []) ≡ codes "a=b" }
 {}
@@ -34,13 +77,18 @@ pub fn refused_lines()
     ensures unknown_command { job_meaning (codes "plot" ∷ []) ≡ Err (fault_at 1 UnknownCommand) }
     ensures not_key_value { job_meaning (codes "print" ∷ codes "x" ∷ []) ≡ Err (fault_at 2 NotKeyValue) }
     ensures unknown_key { job_meaning (codes "print" ∷ codes "most=1" ∷ []) ≡ Err (fault_at 2 UnknownKey) }
-    ensures no_profile_of_a_list { job_meaning (codes "list" ∷ codes "profile=tiny" ∷ []) ≡ Err (fault_at 2 UnknownKey) }
-    ensures past_64_bits { job_meaning (codes "print" ∷ codes "kernel=fs" ∷ codes "cap=18446744073709551616" ∷ []) ≡ Err (fault_at 3 BadValue) }
+    ensures no_profile_of_a_list { job_meaning (codes "list" ∷ codes "profile=tiny" ∷ [])
+        ≡ Err (fault_at 2 UnknownKey) }
+    ensures past_64_bits { job_meaning (codes "print" ∷ codes "kernel=fs" ∷ codes "cap=18446744073709551616" ∷ [])
+        ≡ Err (fault_at 3 BadValue) }
     ensures key_of_another { job_meaning (codes "profile" ∷ codes "kernel=fs" ∷ []) ≡ Err (fault_at 2 UnknownKey) }
-    ensures repeated { job_meaning (codes "print" ∷ codes "kernel=fs" ∷ codes "kernel=fs" ∷ []) ≡ Err (fault_at 3 RepeatedKey) }
+    ensures repeated { job_meaning (codes "print" ∷ codes "kernel=fs" ∷ codes "kernel=fs" ∷ [])
+        ≡ Err (fault_at 3 RepeatedKey) }
     ensures bad_value { job_meaning (codes "print" ∷ codes "workers=0" ∷ []) ≡ Err (fault_at 2 BadValue) }
-    ensures repeated_first { job_meaning (codes "print" ∷ codes "workers=1" ∷ codes "workers=0" ∷ []) ≡ Err (fault_at 3 RepeatedKey) }
-    ensures first_counts { job_meaning (codes "print" ∷ codes "workers=0" ∷ codes "x" ∷ []) ≡ Err (fault_at 2 BadValue) }
+    ensures repeated_first { job_meaning (codes "print" ∷ codes "workers=1" ∷ codes "workers=0" ∷ [])
+        ≡ Err (fault_at 3 RepeatedKey) }
+    ensures first_counts { job_meaning (codes "print" ∷ codes "workers=0" ∷ codes "x" ∷ [])
+        ≡ Err (fault_at 2 BadValue) }
 {}
 
 /// Which texts are numbers.

@@ -4,7 +4,8 @@ ghost use Rattle.key_values.specs.Pairs.{value_of as value_in};
 ghost use Rattle.job_words.specs.Reading.{IsGiven};
 ghost use Rattle.job_words.specs.Rows.{command_row};
 ghost use Rattle.job_words.specs.Table.{profile_key};
-ghost use Rattle.std.specs.Prelude.{IfErr, IfOk, List, OnOk, [], drop, is_some, length, slice_get, ℕ, ◌+◌, ◌++◌, ◌∷◌, ◌≡◌, if◌then◌else◌};
+ghost use Rattle.std.specs.Prelude.{IfErr, IfOk, List, OnOk, [], drop, is_some, length, slice_get, ℕ};
+ghost use Rattle.std.specs.Prelude.{◌+◌, ◌++◌, ◌∷◌, ◌≡◌, if◌then◌else◌};
 ghost use Rattle.std.specs.Result.{result_err};
 
 use crate::table::{Key, Verb};
@@ -19,15 +20,16 @@ use weave_base::Words;
 pub struct Job {
     /// The command.
     pub verb: Verb,
-    /// The number of the word `profile=..`, counted from 1, or 0 where there is none: the built-in profile.
+    /// The number of the word `profile=..`, counted from 1; 0 where no word gives a profile, and the built-in one is
+    /// meant.
     pub profile_word: u32,
     /// The kernel of error diffusion.
     pub kernel: Kernel,
-    /// How many workers there are: 1 to 64.
+    /// How many workers: 1 to 64.
     pub workers: u8,
-    /// The most dots that the meters may count, where a word gives it.
+    /// The most dots that the meters may count; `None` where no word gives it.
     pub cap: Option<u64>,
-    /// The most bytes of a job that are taken, up to 16 GiB.
+    /// The most bytes of a job that are read, at most 16 GiB.
     pub most: u64,
 }
 
@@ -41,7 +43,7 @@ struct Given {
     most: Option<u64>,
 }
 
-// Keeps a key's value, unless the key has one.
+// Keeps a key's value, unless the key has one already.
 fn keep<T: Copy>(kept: &mut Option<T>, value: Option<T>) -> Result<(), UsageCause>
     ensures cause { result_err result ≡ value_fault (is_some kept.old) (is_some value) }
     ensures kept { OnOk result (kept.new ≡ value) }
@@ -53,7 +55,7 @@ fn keep<T: Copy>(kept: &mut Option<T>, value: Option<T>) -> Result<(), UsageCaus
     Ok(())
 }
 
-// The value of a word, and nothing where it has none.
+// The value of a word; empty where it has none.
 fn value_of(word: &str) -> &str
     ensures { result.now ≡ value_in word.now }
 {
@@ -75,7 +77,7 @@ fn profile_at(number: u32, value: &str) -> Option<u32>
 }
 
 impl Given {
-    // Takes in the word of this number.
+    // Reads the word of this number.
     fn take(&mut self, verb: Verb, number: u32, word: &str) -> Result<(), UsageCause>
         ensures cause { (earlier : List (List ℕ)) → IsGiven earlier self.old
             → result_err result ≡ word_fault (command_row verb).keys earlier word.now }
@@ -96,7 +98,7 @@ impl Given {
     }
 }
 
-// What the words behind the command give.
+// What the words after the command give.
 fn read_keys(verb: Verb, words: &Words) -> Result<Given, UsageFault>
     ensures accepted { OnOk result (refused (command_row verb).keys (drop 1 words.now) [] ≡ []) }
     ensures given { IfOk result (IsGiven (drop 1 words.now)) }
@@ -122,8 +124,8 @@ fn read_keys(verb: Verb, words: &Words) -> Result<Given, UsageFault>
     Ok(given)
 }
 
-/// Reads the words of a command line as a job: the command, and behind it `key=value` in any order. Words are numbered
-/// from 1. The first word that is refused counts, and on one word the first cause in the order of `UsageCause`.
+/// Reads the words of a command line as a job: the command, then `key=value` in any order. Words are numbered from 1.
+/// The answer is the job, or the first refused word with its first cause in the order of `UsageCause`.
 pub fn read_words(words: &Words) -> Result<Job, UsageFault>
     ensures { result ≡ job_meaning words.now }
 {
@@ -150,8 +152,8 @@ pub fn read_words(words: &Words) -> Result<Job, UsageFault>
     })
 }
 
-/// The name of the job's profile, of 1 to 255 bytes: `p360cmyk`, which is built in, where no word gives one. The job is
-/// to be the one that was read of these words.
+/// The name of the job's profile, of 1 to 255 bytes: `p360cmyk`, which is built in, where no word gives one. The job
+/// must be the one that was read from these words.
 pub fn profile_name<'a>(words: &'a Words, job: &Job) -> &'a str
     requires { job_meaning words.now ≡ Ok job.now }
     ensures { result.now ≡ profile_named words.now }

@@ -155,7 +155,7 @@ fn each_value_is_taken_or_refused_at_word_2_and_at_word_3(rt: HostRuntime) -> Re
     Ok(())
 }
 
-// Whether a profile's name of so many bytes is taken.
+// Whether a profile's name of this many bytes is taken.
 fn takes_name_of(alloc: Global, len: usize) -> Result<bool, Fail> {
     let mut word = String::from_str(alloc, "profile=")?;
     for _ in 0..len {

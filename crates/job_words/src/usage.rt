@@ -5,19 +5,19 @@
 pub enum UsageCause {
     /// There is no word.
     NoCommand,
-    /// The first word is no command.
+    /// The first word is not a command.
     UnknownCommand,
-    /// A word is not `key=value`.
+    /// The word is not `key=value`.
     NotKeyValue,
     /// The command has no such key.
     UnknownKey,
     /// The key was given before.
     RepeatedKey,
-    /// The value is none that the key takes.
+    /// The key does not take the value.
     BadValue,
 }
 
-/// The first word that is refused, counted from 1, and why.
+/// The first refused word, counted from 1, and why.
 #[derive(Clone, Copy, Debug, PartialEq, Eq)]
 pub struct UsageFault {
     pub word: u32,

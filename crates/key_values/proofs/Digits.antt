@@ -1,5 +1,6 @@
 -- What a text says of the number that it writes.
-use Rattle.std.proofs.Common.{◌≡◌, ℕ, zero, suc, ◌<◌, ◌≤◌, ◌+◌, ◌*◌, ◌-◌, ◌^◌, Bool, true, false, not, cond, ◌&&◌, ltb, leb, List, length, take, get_or, Some, None, refl, sym, ◌∙◌, arith, rules}
+use Rattle.std.proofs.Common.{◌≡◌, ℕ, zero, suc, ◌<◌, ◌≤◌, ◌+◌, ◌*◌, ◌-◌, ◌^◌, Bool, true, false, not, cond, ◌&&◌, ltb, leb, List}
+use Rattle.std.proofs.Common.{length, take, get_or, Some, None, refl, sym, ◌∙◌, arith, rules}
 use Rattle.std.specs.Char.{is_ascii_digit, digit_value}
 use Rattle.std.specs.Fmt.{decimal}
 use Rattle.std.specs.List.{list_all}
@@ -13,10 +14,12 @@ use Rattle.std.proofs.lemmas.Str.Parse.{IsNumeralModel, digits_value-take-le, nu
 use Rattle.key_values.specs.Numbers.{has_leading_zero, number_within}
 
 -- the tests of a number
-empty_fails : (digits lead small : Bool) (len value : ℕ) → len ≡ 0 → None ≡ cond ((digits && (ltb 0 len && not lead)) && small) (Some value) None
+empty_fails : (digits lead small : Bool) (len value : ℕ)
+    → len ≡ 0 → None ≡ cond ((digits && (ltb 0 len && not lead)) && small) (Some value) None
 empty_fails digits lead small len value h = grind (arith, nat_tests)
 
-zero_fails : (digits some lead small : Bool) (value : ℕ) → lead ≡ true → None ≡ cond ((digits && (some && not lead)) && small) (Some value) None
+zero_fails : (digits some lead small : Bool) (value : ℕ)
+    → lead ≡ true → None ≡ cond ((digits && (some && not lead)) && small) (Some value) None
 zero_fails digits some lead small value h = grind (arith, nat_tests)
 
 digit_fails : (digits some small : Bool) (value : ℕ) → digits ≡ false → None ≡ cond ((digits && some) && small) (Some value) None
@@ -41,7 +44,8 @@ pub leading_zero : (low high : ℕ) (text : List ℕ) → has_leading_zero text 
 unfolding number_within
 leading_zero low high text h = zero_fails _ _ (has_leading_zero text) _ _ h
 
-pub no_digit : (low high : ℕ) (text : List ℕ) (i : ℕ) → i < length text → is_ascii_digit (get_or text i 0) ≡ false → None ≡ number_within low high text
+pub no_digit : (low high : ℕ) (text : List ℕ) (i : ℕ)
+    → i < length text → is_ascii_digit (get_or text i 0) ≡ false → None ≡ number_within low high text
 unfolding number_within
 no_digit low high text i within h = digit_fails _ _ _ _ (list_all_at is_ascii_digit text i 0 within h)
 
@@ -56,28 +60,33 @@ too_great low high text i h =
 digit_is : (c : ℕ) → is_ascii_digit c ≡ true → digit_value c ≡ c - 48
 digit_is c h = grind (arith, nat_tests)
 
-pub next_value : (text : List ℕ) (i n d : ℕ) → i < length text → is_ascii_digit (get_or text i 0) ≡ true → n ≡ digits_value 10 (take i text) → d ≡ get_or text i 0 - 48 → n * 10 + d ≡ digits_value 10 (take (i + 1) text)
+pub next_value : (text : List ℕ) (i n d : ℕ) → i < length text → is_ascii_digit (get_or text i 0) ≡ true
+    → n ≡ digits_value 10 (take i text) → d ≡ get_or text i 0 - 48 → n * 10 + d ≡ digits_value 10 (take (i + 1) text)
 next_value text i n d within digit so_far is =
     let more = digits_value_more 10 text i within in
     let same = digit_is (get_or text i 0) digit in omega (arith, more, same, so_far, is)
 
-pub next_digit : (text : List ℕ) (i : ℕ) → i < length text → is_ascii_digit (get_or text i 0) ≡ true → list_all is_ascii_digit (take i text) ≡ true → list_all is_ascii_digit (take (i + 1) text) ≡ true
+pub next_digit : (text : List ℕ) (i : ℕ) → i < length text → is_ascii_digit (get_or text i 0) ≡ true
+    → list_all is_ascii_digit (take i text) ≡ true → list_all is_ascii_digit (take (i + 1) text) ≡ true
 next_digit text i within digit so_far = list_all_more is_ascii_digit text i 0 within ∙ rw (digit, so_far) refl
 
 -- all digits were read, and give a number below `low`
-pub too_small : (low high : ℕ) (text : List ℕ) (i n : ℕ) → length text ≤ i → n ≡ digits_value 10 (take i text) → n < low → None ≡ number_within low high text
+pub too_small : (low high : ℕ) (text : List ℕ) (i n : ℕ)
+    → length text ≤ i → n ≡ digits_value 10 (take i text) → n < low → None ≡ number_within low high text
 unfolding number_within
 too_small low high text i n end value small =
     let all : take i text ≡ text = take_all i text end in
     let is : n ≡ digits_value 10 text = rw all at value in
     low_fails _ _ (digits_value 10 text) low (omega arith)
 
-pub whole_value : (low high : ℕ) (text : List ℕ) (i n : ℕ) → length text ≤ i → (length text ≡ 0 → ⊥) → has_leading_zero text ≡ false → n ≡ digits_value 10 (take i text) → list_all is_ascii_digit (take i text) ≡ true
+pub whole_value : (low high : ℕ) (text : List ℕ) (i n : ℕ) → length text ≤ i → (length text ≡ 0 → ⊥)
+    → has_leading_zero text ≡ false → n ≡ digits_value 10 (take i text) → list_all is_ascii_digit (take i text) ≡ true
     → low ≤ n → n ≤ high → Some n ≡ number_within low high text
 unfolding number_within
 whole_value low high text i n end some no_zero value digits above below =
     let all : take i text ≡ text = take_all i text end in
-    all_pass _ (has_leading_zero text) (length text) n (digits_value 10 text) low high (rw all at digits) some no_zero (rw all at value) above below
+    all_pass _ (has_leading_zero text)
+    (length text) n (digits_value 10 text) low high (rw all at digits) some no_zero (rw all at value) above below
 
 -- ---- numbers that are written
 
@@ -98,4 +107,6 @@ unfolding number_within
 number_of_decimal low high n above below most =
     let fits : n < 2 ^ 64 = omega arith in
     let some : 0 < length (decimal n) = decimal_nonempty n fits in
-    sym (all_pass _ (has_leading_zero (decimal n)) (length (decimal n)) n (digits_value 10 (decimal n)) low high (digits_decimal own n fits) (λ none. omega arith) (no_leading_zero n fits) (sym (digits_value-decimal own n fits)) above below)
+    sym (all_pass _ (has_leading_zero (decimal n))
+    (length (decimal n)) n (digits_value 10 (decimal n)) low high (digits_decimal own n fits)
+    (λ none. omega arith) (no_leading_zero n fits) (sym (digits_value-decimal own n fits)) above below)

@@ -11,7 +11,7 @@ has_leading_zero text = nat_lt 1 (length text) && (slice_index text 0 == 48)
 abbrev pub is_number : List ℕ → Bool
 is_number text = list_all is_ascii_digit text && (nat_lt 0 (length text) && not (has_leading_zero text))
 
--- the number that a text writes, where it is one from `low` to `high`
+-- the number that a text writes, where it is from `low` to `high`
 unfoldable pub number_within : ℕ → ℕ → List ℕ → Option ℕ
 number_within low high text =
     let number = digits_value 10 text in

@@ -1,5 +1,5 @@
-//! Texts of the form `key=value`, and decimal numbers within bounds: the words of a command line and the lines of a
-//! printer profile are made of them.
+//! Texts of the form `key=value`, and decimal numbers within bounds. The words of a command line and the lines of a
+//! printer profile are made of them. No call takes memory.
 #![tactic(auto)]
 
 mod laws;

@@ -1,4 +1,4 @@
-//! Texts that are cut in two.
+//! Texts cut in two.
 ghost use Rattle.key_values.specs.Pairs.{IsCut, is_key_value, key_of, value_of};
 ghost use Rattle.std.specs.List.{position};
 ghost use Rattle.std.specs.Option.{option_map};
@@ -10,7 +10,7 @@ fn place_of(byte: u8, text: &[u8]) -> Option<usize>
     text.iter().position(|b| *b == byte)
 }
 
-/// What stands before the first such byte of a text, and what stands behind it; `None` where there is none.
+/// The text before the first such byte and the text after it; `None` where there is no such byte.
 pub fn cut_at(byte: u8, text: &[u8]) -> Option<(&[u8], &[u8])>
     ensures { IsCut (λ b. b == byte) text.now
         (option_map (λ parts. (parts.0.now, parts.1.now)) result) }

@@ -1,4 +1,4 @@
--- The dots that a page wants.
+-- The dots that a page asks for.
 use Rattle.std.specs.Prelude.{◌≡◌, ◌<◌, count_by, length, slice_get, Some, ℕ, ◌+◌, ◌*◌, ◌/◌, Bool, if◌then◌else◌, List, [], ◌∷◌}
 use Rattle.std.specs.List.{flat_map}
 use Rattle.printer_definitions.specs.declared.inks.Ink.{Ink}
@@ -12,7 +12,7 @@ use Rattle.separation_definitions.specs.Windows.{window_of}
 use Rattle.pwg_definitions.specs.Stream.{Page}
 use Rattle.weave_definitions.specs.Weave.{count_from}
 
--- The dots of a window: whether an ink has one in row y at column x.
+-- The dots of a window: whether an ink has a dot in row y at column x.
 pub record Halftone : Type 0 where
   pub width : ℕ
   pub height : ℕ
@@ -28,7 +28,7 @@ halftone page p k =
       dot = λ ink y x. let plane : Plane = ink_plane page p ink in on k plane (errors k plane no_top) y x;
     }
 
--- where the dot of an ink in row y at column x of the window stands on paper
+-- where on paper the dot of an ink in row y at column x of the window is
 abbrev pub place_of : Printer → Ink → ℕ → ℕ → Dot
 place_of p ink y x = record { ink = ink; x = x * 3600 / p.hdpi; y = (p.top + y) * 3600 / p.vdpi }
 
@@ -45,15 +45,15 @@ ink_wanted p h ink = flat_map (row_wanted p h ink) (count_from 0 h.height)
 abbrev pub dots_wanted : Printer → Halftone → List Dot
 dots_wanted p h = flat_map (ink_wanted p h) (inks_of p.inks)
 
--- The dots that a page wants.
+-- The dots that a page asks for.
 abbrev pub wanted : Page → Printer → Table → List Dot
 wanted page p k = dots_wanted p (halftone page p k)
 
--- How many dots of an ink a page wants.
+-- How many dots of an ink a page asks for.
 abbrev pub ink_count : Page → Printer → Table → Ink → ℕ
 ink_count page p k ink = count_by (λ (d : Dot). same_ink ink d.ink) (wanted page p k)
 
--- A table of dots, by the ink's place in the printer's set, the row and the column, has the dots of a halftone.
+-- A table of dots, by the ink's place in the printer's set, row and column, has the dots of a halftone.
 pub record HasDots (p : Printer) (h : Halftone) (width rows inks : ℕ) (dot : ℕ → ℕ → ℕ → Bool) : Type 0 where
   pub width_is : width ≡ h.width
   pub rows_is : rows ≡ h.height

@@ -1,4 +1,4 @@
--- What it is to print pages.
+-- What it means that bytes print pages.
 use Rattle.std.specs.Prelude.{◌≡◌, ℕ, ◌≤◌, List, [], ◌∷◌, None}
 use Rattle.std.specs.List.{AllByRecursion}
 use Rattle.printer_definitions.specs.declared.inks.Ink.{Ink}
@@ -15,14 +15,14 @@ use Rattle.separation_definitions.specs.Windows.{window_of}
 use Rattle.weave_definitions.specs.Weave.{pass_count}
 use Rattle.pwg_definitions.specs.Stream.{Page}
 
--- There are as many sheets as pages, and each has exactly the dots that its page wants.
+-- There are as many sheets as pages, and each has exactly the dots that its page asks for.
 abbrev pub AreSheets : Printer → Table → List Page → List Sheet → Type 0
 AreSheets p k [] [] = Unit {0}
 AreSheets p k [] (sheet ∷ sheets) = ⊥
 AreSheets p k (page ∷ pages) [] = ⊥
 AreSheets p k (page ∷ pages) (sheet ∷ sheets) = Exactly sheet.dots (wanted page p k) × AreSheets p k pages sheets
 
--- The bytes are whole commands, the printer refuses none, and its sheets are the pages.
+-- The bytes are whole commands, the printer refuses none, and its sheets are those of the pages.
 pub record Prints (p : Printer) (k : Table) (pages : List Page) (bytes : List ℕ) : Type 0 where
   pub whole : (commands bytes).end ≡ Whole
   pub accepted : (execute p (commands bytes).entries).refused ≡ None
@@ -34,7 +34,7 @@ pub record IsOneSheet (run : Printed) (dots : List Dot) : Type 0 where
   pub is : run ≡ record { sheets = sheet ∷ []; refused = None }
   pub exactly : Exactly sheet.dots dots
 
--- The bytes are whole commands, and from any state of the machine whose sheet has no dot they give one sheet with
+-- The bytes are whole commands, and from any state of the printer without a dot on the sheet they give one sheet with
 -- exactly these dots.
 pub record GivesSheet (p : Printer) (bytes : List ℕ) (dots : List Dot) : Type 0 where
   pub whole : (commands bytes).end ≡ Whole
@@ -42,8 +42,9 @@ pub record GivesSheet (p : Printer) (bytes : List ℕ) (dots : List Dot) : Type 
 
 -- The job of a page has no more rasters of an ink than the head takes passes over the page's window.
 pub record HasPasses (p : Printer) (k : Table) (page : Page) : Type 0 where
-  pub rasters : (ink : Ink) → ink_rasters ink (commands (page_bytes page p k)).entries ≤ pass_count p.nozzles p.pitch (window_of page.form p).height
+  pub rasters : (ink : Ink) → ink_rasters ink (commands (page_bytes page p k)).entries
+      ≤ pass_count p.nozzles p.pitch (window_of page.form p).height
 
--- so for each of the pages
+-- the same for each page
 abbrev pub HavePasses : Printer → Table → List Page → Type 0
 HavePasses p k pages = AllByRecursion (HasPasses p k) pages

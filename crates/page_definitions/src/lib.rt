@@ -1,2 +1,3 @@
-//! A page on paper: the dots that it wants, and the bytes of the job that prints it.
+//! A page on paper: the dots that it asks for, the bytes of the job that prints it, and what it means that bytes
+//! print pages. Definitions only; `page_laws` proves that the one gives the other.
 #![tactic(auto)]

@@ -1,5 +1,6 @@
 -- One more line of a page.
-use Rattle.std.proofs.Common.{◌≡◌, ◌⊎◌, ℕ, ℤ, ◌+◌, ◌-◌, ◌<◌, ◌≤◌, Bool, false, List, [], ◌∷◌, ◌++◌, Some, slice_get, length, get_or, refl, sym, ◌∙◌, ap, arith, inl, inr, subst, append_assoc, length-append, replicate, suc, zero, pos}
+use Rattle.std.proofs.Common.{◌≡◌, ◌⊎◌, ℕ, ℤ, ◌+◌, ◌-◌, ◌<◌, ◌≤◌, Bool, false, List, [], ◌∷◌, ◌++◌, Some, slice_get, length, get_or, refl}
+use Rattle.std.proofs.Common.{sym, ◌∙◌, ap, arith, inl, inr, subst, append_assoc, length-append, replicate, suc, zero, pos}
 use Rattle.std.proofs.lemmas.List.{append-nil, get_or_at}
 use Rattle.std.proofs.lemmas.Option.{slice_get_within}
 use Rattle.diffusion_definitions.specs.Diffusion.{Errors, Plane, Table, errors, no_top, on}
@@ -35,7 +36,7 @@ after h diffused planes top slab failed = record {
   failed = failed;
 }
 
--- a line and those that follow it, behind the lines so far
+-- a line and those that follow it, after the lines so far
 behind : (lines : List (List ℕ)) (line : List ℕ) (more : List (List ℕ)) → (lines ++ line ∷ []) ++ more ≡ lines ++ (line ∷ more)
 behind lines line more = append_assoc lines (line ∷ []) more
 
@@ -43,7 +44,8 @@ count_more : (lines : List (List ℕ)) (line : List ℕ) (n : ℕ) → length li
 count_more lines line n e = omega (arith, length-append lines (line ∷ []))
 
 -- A line in a margin changes no row.
-pub in_margin : (h : Halftoning) (line : List ℕ) (lines : List (List ℕ)) → (h.count < (window h).top) ⊎ ((window h).top + (window h).height ≤ h.count)
+pub in_margin : (h : Halftoning) (line : List ℕ) (lines : List (List ℕ))
+    → (h.count < (window h).top) ⊎ ((window h).top + (window h).height ≤ h.count)
     → StandsFor h lines → StandsFor (after h h.diffused h.planes h.top h.slab h.failed) (lines ++ line ∷ [])
 in_margin h line lines margin s =
     let rows_same : rows_done (window h) h.count ≡ rows_done (window h) (h.count + 1) = elim margin [
@@ -54,14 +56,16 @@ in_margin h line lines margin s =
     record {
       count = count_more lines line h.count s.count;
       inks = λ i ink more is.
-          let Q : List (List ℕ) → Type 0 = λ ls. IsUpTo (table_of h.kernel) (plane_of h ink ls) i h.diffused (held h) h.planes h.top h.slab in
-          let R : ℕ → Type 0 = λ n. IsUpTo (table_of h.kernel) (plane_of h ink ((lines ++ line ∷ []) ++ more)) i h.diffused n h.planes h.top h.slab in
+          let Q : List (List ℕ) → Type 0 =
+          λ ls. IsUpTo (table_of h.kernel) (plane_of h ink ls) i h.diffused (held h) h.planes h.top h.slab in
+          let R : ℕ → Type 0 = λ n. IsUpTo (table_of h.kernel)
+          (plane_of h ink ((lines ++ line ∷ []) ++ more)) i h.diffused n h.planes h.top h.slab in
           subst R held_same (subst Q (sym (behind lines line more)) (s.inks i ink (line ∷ more) is));
       few = omega (arith, s.few);
       blank = s.blank;
     }
 
--- What is known where a line is the next row of the window, and was put behind the rows held.
+-- What is known where a line is the next row of the window and was put after the held rows.
 pub record IsNextRow (h : Halftoning) (line : List ℕ) (y : ℕ) (slab : AmountTable) : Type 0 where
   pub place : (window h).top + y ≡ h.count
   pub inside : y < (window h).height
@@ -74,7 +78,8 @@ pub record IsNextRow (h : Halftoning) (line : List ℕ) (y : ℕ) (slab : Amount
   pub inks : h.slab.inks ≡ length (inks_of h.profile.inks)
 
 -- Then it is held too.
-held_more : (h : Halftoning) (line : List ℕ) (lines more : List (List ℕ)) (y i : ℕ) (ink : Ink) (slab : AmountTable) → IsNextRow h line y slab → StandsFor h lines
+held_more : (h : Halftoning) (line : List ℕ) (lines more : List (List ℕ)) (y i : ℕ) (ink : Ink) (slab : AmountTable)
+    → IsNextRow h line y slab → StandsFor h lines
     → slice_get (inks_of h.profile.inks) i ≡ Some ink
     → IsUpTo (table_of h.kernel) (plane_of h ink ((lines ++ line ∷ []) ++ more)) i h.diffused (y - h.diffused + 1) h.planes h.top slab
 held_more h line lines more y i ink slab next s is =
@@ -82,25 +87,30 @@ held_more h line lines more y i ink slab next s is =
     let ls : List (List ℕ) = lines ++ (line ∷ more) in
     let held_is : held h ≡ n = omega (arith, next.place, next.inside, next.from) in
     let row : h.diffused + n ≡ y = omega (arith, next.from) in
-    let line_at : get_or ls ((window h).top + y) [] ≡ line = get_or_at lines line more [] ((window h).top + y) (omega (arith, s.count, next.place)) in
+    let line_at : get_or ls ((window h).top + y) [] ≡ line =
+    get_or_at lines line more [] ((window h).top + y) (omega (arith, s.count, next.place)) in
     let P : ℕ → Type 0 = λ m. IsUpTo (table_of h.kernel) (plane_of h ink ls) i h.diffused m h.planes h.top h.slab in
     let up = subst P held_is (s.inks i ink (line ∷ more) is) in
     let Q : List (List ℕ) → Type 0 = λ all. IsUpTo (table_of h.kernel) (plane_of h ink all) i h.diffused (n + 1) h.planes h.top slab in
-    subst Q (sym (behind lines line more)) (row_more (table_of h.kernel) (plane_of h ink ls) i h.diffused n h.planes h.top h.slab slab h.line up next.puts
+    subst Q (sym (behind lines line more)) (row_more
+    (table_of h.kernel) (plane_of h ink ls) i h.diffused n h.planes h.top h.slab slab h.line up next.puts
     (omega (arith, next.inks, slice_get_within (inks_of h.profile.inks) i ink is)) next.wide (omega (arith, next.from, next.room))
     (λ x across. next.amounts.are i ink is x across
     ∙ ap (λ l. amount_of (printer_of h.profile) h.form.kind (pixel_at h.form.kind l ((window h).left + x)) ink) (sym line_at)
     ∙ ap (λ m. (plane_of h ink ls).amount m x) (sym row)))
 
 -- A row is held in a slab that is not full.
-pub in_slab : (h : Halftoning) (line : List ℕ) (lines : List (List ℕ)) (y : ℕ) (slab : AmountTable) → IsNextRow h line y slab → StandsFor h lines
+pub in_slab : (h : Halftoning) (line : List ℕ) (lines : List (List ℕ)) (y : ℕ) (slab : AmountTable)
+    → IsNextRow h line y slab → StandsFor h lines
     → StandsFor (after h h.diffused h.planes h.top slab h.failed) (lines ++ line ∷ [])
 in_slab h line lines y slab next s =
-    let held_is : y - h.diffused + 1 ≡ rows_done (window h) (h.count + 1) - h.diffused = omega (arith, next.place, next.inside, next.from) in
+    let held_is : y - h.diffused + 1 ≡ rows_done (window h) (h.count + 1) - h.diffused =
+    omega (arith, next.place, next.inside, next.from) in
     record {
       count = count_more lines line h.count s.count;
       inks = λ i ink more is.
-          let R : ℕ → Type 0 = λ n. IsUpTo (table_of h.kernel) (plane_of h ink ((lines ++ line ∷ []) ++ more)) i h.diffused n h.planes h.top slab in
+          let R : ℕ → Type 0 = λ n. IsUpTo (table_of h.kernel)
+          (plane_of h ink ((lines ++ line ∷ []) ++ more)) i h.diffused n h.planes h.top slab in
           subst R held_is (held_more h line lines more y i ink slab next s is);
       few = omega (arith, held_is, next.room, next.from, next.few);
       blank = s.blank;
@@ -116,7 +126,8 @@ pub record IsFull (h : Halftoning) (y : ℕ) (rows : AmountTable) (top bottom : 
   pub done : DiffusesSlab (table_of h.kernel) rows top bottom h.diffused h.planes planes
 
 -- Then no row is held.
-pub slab_full : (h : Halftoning) (line : List ℕ) (lines : List (List ℕ)) (y : ℕ) (rows rows' : AmountTable) (top bottom : List (List (List ℤ))) (planes : DotTable) (failed : Bool)
+pub slab_full : (h : Halftoning) (line : List ℕ) (lines : List (List ℕ))
+    (y : ℕ) (rows rows' : AmountTable) (top bottom : List (List (List ℤ))) (planes : DotTable) (failed : Bool)
     → IsNextRow h line y rows → IsFull h y rows top bottom planes → StandsFor h lines
     → StandsFor (after h (y + 1) planes bottom rows' failed) (lines ++ line ∷ [])
 slab_full h line lines y rows rows' top bottom planes failed next all s =
@@ -130,7 +141,8 @@ slab_full h line lines y rows rows' top bottom planes failed next all s =
           let T : List (List (List ℤ)) → Type 0 = λ edges. IsUpTo (table_of h.kernel) p i h.diffused rows.rows h.planes edges rows in
           let up = subst T (sym all.top_is) (subst P full (held_more h line lines more y i ink rows next s is)) in
           let now = slab_more (table_of h.kernel) p i h.diffused rows rows' top bottom h.planes planes all.done up
-          (omega (arith, next.puts.size.inks, next.inks, slice_get_within (inks_of h.profile.inks) i ink is)) (next.puts.size.width ∙ next.wide) all.some
+          (omega (arith, next.puts.size.inks, next.inks, slice_get_within (inks_of h.profile.inks) i ink is))
+          (next.puts.size.width ∙ next.wide) all.some
           (omega (arith, all.full, next.inside)) all.tall all.whole in
           let D : ℕ → Type 0 = λ n. IsUpTo (table_of h.kernel) p i n 0 planes bottom rows' in
           let R : ℕ → Type 0 = λ n. IsUpTo (table_of h.kernel) p i (y + 1) n planes bottom rows' in
@@ -138,11 +150,13 @@ slab_full h line lines y rows rows' top bottom planes failed next all s =
       few = omega (arith, none);
       blank = λ i r x low inside.
           let size : planes.rows ≡ h.planes.rows = all.done.size.rows in
-          all.done.others i r x (omega (arith, size)) (inr (omega (arith, all.full))) ∙ s.blank i r x (omega (arith, next.from)) (omega (arith, size));
+          all.done.others i r x (omega (arith, size)) (inr (omega (arith, all.full)))
+          ∙ s.blank i r x (omega (arith, next.from)) (omega (arith, size));
     }
 
--- Before the first line nothing is diffused or held.
-pub at_top : (h : Halftoning) → h.count ≡ 0 → h.diffused ≡ 0 → ((i t n : ℕ) → top_of (edges_of h.top i) t n ≡ pos 0) → ((i y x : ℕ) → dot h.planes i y x ≡ false)
+-- Before the first line no row is diffused or held.
+pub at_top : (h : Halftoning) → h.count ≡ 0 → h.diffused ≡ 0
+    → ((i t n : ℕ) → top_of (edges_of h.top i) t n ≡ pos 0) → ((i y x : ℕ) → dot h.planes i y x ≡ false)
     → StandsFor h []
 at_top h none first zeros blank =
     let held_none : 0 ≡ held h = omega (arith, none, first) in
@@ -169,21 +183,36 @@ at_top h none first zeros blank =
     above k p (suc zero) n two = (errors_top k p no_top n).1
     above k p (suc (suc t)) n two = absurd (omega arith)
 
--- the amounts in hand do not depend on lines and dots
+-- the current amounts do not depend on lines and dots
 pub amounts_kept : (h h' : Halftoning) (line : List ℕ) → IsSamePage h h' → h'.line ≡ h.line → HasAmountsOf h line → HasAmountsOf h' line
 amounts_kept h h' line same line_same a =
-    let with : Profile → PageForm → AmountTable → Halftoning = λ q f t. record { profile = q; form = f; kernel = h.kernel; count = h.count; line = t; diffused = h.diffused; planes = h.planes; top = h.top; slab = h.slab; failed = h.failed } in
+    let with : Profile → PageForm
+    → AmountTable → Halftoning = λ q f t. record {
+      profile = q;
+      form = f;
+      kernel = h.kernel;
+      count = h.count;
+      line = t;
+      diffused = h.diffused;
+      planes = h.planes;
+      top = h.top;
+      slab = h.slab;
+      failed = h.failed;
+    } in
     let by_profile : Profile → Type 0 = λ q. HasAmountsOf (with q h.form h.line) line in
     let by_form : PageForm → Type 0 = λ f. HasAmountsOf (with h'.profile f h.line) line in
     let by_line : AmountTable → Type 0 = λ t. HasAmountsOf (with h'.profile h'.form t) line in
-    let now = subst by_line (sym line_same) (subst by_form (sym same.form) (subst by_profile (sym same.profile) (record { are = a.are }))) in
+    let now = subst by_line (sym line_same)
+    (subst by_form (sym same.form) (subst by_profile (sym same.profile) (record { are = a.are }))) in
     record { are = now.are }
 
--- a line once more behind its repeats
-pub repeats_more : (lines : List (List ℕ)) (n : ℕ) (line : List ℕ) → (lines ++ replicate n line) ++ line ∷ [] ≡ lines ++ replicate (n + 1) line
+-- a line once more after its repeats
+pub repeats_more : (lines : List (List ℕ)) (n : ℕ) (line : List ℕ)
+    → (lines ++ replicate n line) ++ line ∷ [] ≡ lines ++ replicate (n + 1) line
 repeats_more lines n line =
     let next : suc n ≡ n + 1 = omega arith in
-    append_assoc lines (replicate n line) (line ∷ []) ∙ ap (λ (ls : List (List ℕ)). lines ++ ls) (once_more n ∙ ap (λ m. replicate m line) next)
+    append_assoc lines (replicate n line) (line ∷ [])
+    ∙ ap (λ (ls : List (List ℕ)). lines ++ ls) (once_more n ∙ ap (λ m. replicate m line) next)
   where
     once_more : (m : ℕ) → replicate m line ++ line ∷ [] ≡ replicate (suc m) line
     once_more zero = refl
@@ -192,13 +221,15 @@ repeats_more lines n line =
 -- After the last line of the page each row of the window is diffused.
 pub whole_page : (h : Halftoning) (lines : List (List ℕ)) → StandsFor h lines → h.diffused ≡ (window h).height
     → h.planes.width ≡ (window h).width → h.planes.rows ≡ (window h).height → h.planes.inks ≡ length (inks_of h.profile.inks)
-    → HasDots (printer_of h.profile) (halftone (record { form = h.form; lines = lines }) (printer_of h.profile) (table_of h.kernel)) h.planes.width h.planes.rows h.planes.inks (dot h.planes)
+    → HasDots (printer_of h.profile) (halftone (record { form = h.form; lines = lines })
+    (printer_of h.profile) (table_of h.kernel)) h.planes.width h.planes.rows h.planes.inks (dot h.planes)
 whole_page h lines s all wide tall inks = record {
   width_is = wide;
   rows_is = tall;
   inks_is = inks;
   dots = λ i y x ink is low inside.
       let up = s.inks i ink [] is in
-      let Q : List (List ℕ) → Type 0 = λ ls. dot h.planes i y x ≡ on (table_of h.kernel) (plane_of h ink ls) (errors (table_of h.kernel) (plane_of h ink ls) no_top) y x in
+      let Q : List (List ℕ) → Type 0 = λ ls. dot h.planes i y x
+      ≡ on (table_of h.kernel) (plane_of h ink ls) (errors (table_of h.kernel) (plane_of h ink ls) no_top) y x in
       subst Q (append-nil lines) (up.dots y x (omega (arith, all)) inside);
 }

@@ -2,7 +2,8 @@
 use Rattle.std.proofs.Common.{◌≡◌, ℕ, ℤ, ◌+◌, ◌-◌, ◌*◌, ◌<◌, ◌≤◌, List, [], ◌∷◌, ltb, ◌&&◌, sym, refl, ◌∙◌, ap, arith, inl, inr}
 use Rattle.std.proofs.lemmas.Bool.{cases_eq, cases_lt}
 use Rattle.std.specs.Int.{div_ceil}
-use Rattle.diffusion_definitions.specs.Diffusion.{Errors, Plane, Solves, Table, cut, error_of, errors, five, inside, is_dot, no_top, on, rest, value, value_at}
+use Rattle.diffusion_definitions.specs.Diffusion.{Errors, Plane, Solves, Table, cut, error_of, errors, five, inside}
+use Rattle.diffusion_definitions.specs.Diffusion.{is_dot, no_top, on, rest, value, value_at}
 use Rattle.diffusion_laws.proofs.Slab.{first_rows, slab}
 use Rattle.diffusion_laws.proofs.SlabDots.{first_dots, slab_dots}
 use Rattle.diffusion_laws.proofs.Solve.{errors_solve}
@@ -26,7 +27,8 @@ record IsSame (p q : Plane) : Type 0 where
 same_solves : (k : Table) (p q : Plane) (e : Errors) → IsSame p q → Solves k p e → Solves k q e
 same_solves k p q e same s = record {
   pixel = λ y x low across.
-      let v : ℕ → ℤ = λ a. error_of (value k a (e (y + 2) (x + 3) ∷ e (y + 2) (x + 2) ∷ []) (five (e (y + 1)) (x + 2)) (five (e y) (x + 2))) in
+      let v : ℕ → ℤ = λ a. error_of
+      (value k a (e (y + 2) (x + 3) ∷ e (y + 2) (x + 2) ∷ []) (five (e (y + 1)) (x + 2)) (five (e y) (x + 2))) in
       let low' : y < p.height = omega (arith, same.height) in
       let across' : x < p.width = omega (arith, same.width) in
       s.pixel y x low' across' ∙ ap v (sym (same.amounts y x low' across'));
@@ -43,7 +45,7 @@ same_dots k p q e y x same low across =
     ∙ ap (λ h. (ltb x p.width && ltb y h) && is_dot (value_at k q e y x)) same.height
     ∙ ap (λ a. inside p y x && is_dot (v a)) (same.amounts y x low across)
 
--- A line is put behind the rows that are held.
+-- A line is put after the held rows.
 pub row_more : (k : Table) (p : Plane) (i d n : ℕ) (planes : DotTable) (top : List (List (List ℤ))) (old new line : AmountTable)
     → IsUpTo k p i d n planes top old → PutsLine line n old new → i < old.inks → old.width ≡ p.width → n < old.rows
     → ((x : ℕ) → x < p.width → amount line i 0 x ≡ p.amount (d + n) x) → IsUpTo k p i d (n + 1) planes top new
@@ -51,14 +53,16 @@ row_more k p i d n planes top old new line up puts ink wide low are = record {
   dots = up.dots;
   errors_are = up.errors_are;
   amounts = λ y x below across. elim (cases_eq y n) [
-    | inl here ↦ ap (λ m. amount new i m x) here ∙ puts.row i x ink (omega (arith, wide)) ∙ are x across ∙ ap (λ m. p.amount (d + m) x) (sym here)
+    | inl here ↦ ap (λ m. amount new i m x) here
+        ∙ puts.row i x ink (omega (arith, wide)) ∙ are x across ∙ ap (λ m. p.amount (d + m) x) (sym here)
     | inr other ↦ puts.others i y x other (omega arith) ∙ up.amounts y x (omega arith) across
   ];
 }
 
 -- A slab is diffused: its rows are rows of the plane, below the errors of the rows before them.
 pub slab_more : (k : Table) (p : Plane) (i d : ℕ) (rows rows' : AmountTable) (top bottom : List (List (List ℤ))) (old new : DotTable)
-    → DiffusesSlab k rows top bottom d old new → IsUpTo k p i d rows.rows old top rows → i < rows.inks → rows.width ≡ p.width → 1 ≤ rows.rows
+    → DiffusesSlab k rows top bottom d old new
+    → IsUpTo k p i d rows.rows old top rows → i < rows.inks → rows.width ≡ p.width → 1 ≤ rows.rows
     → d + rows.rows ≤ p.height → old.rows ≡ p.height → (d + rows.rows < p.height → rows.rows ≡ 256)
     → IsUpTo k p i (d + rows.rows) 0 new bottom rows'
 slab_more k p i d rows rows' top bottom old new done up ink wide some low tall whole =
@@ -69,7 +73,8 @@ slab_more k p i d rows rows' top bottom old new done up ink wide some low tall w
     let f : Errors = λ t. e (d + t) in
     let g : Errors = errors k (cut h behind) f in
     let g_is : (y : ℕ) → y < h + 2 → g y ≡ e (d + y) = λ y few. first_rows k behind f h (omega arith) y few ∙ slab k p no_top d y in
-    let same : IsSame (cut h behind) q = record { width = wide; height = refl; amounts = λ y x below across. up.amounts y x below across } in
+    let same : IsSame (cut h behind) q =
+    record { width = wide; height = refl; amounts = λ y x below across. up.amounts y x below across } in
     let solves : Solves k q g = same_solves k (cut h behind) q g same (errors_solve k (cut h behind) f) in
     let below : IsBelow (edges_of top i) g = λ t n two. ap (λ row. row n) (g_is t (omega arith)) ∙ up.errors_are (omega arith) t n two in
     let are : AreSlabErrors k rows top i g = record { ink = ink; solves = solves; below = below } in
@@ -89,7 +94,8 @@ slab_more k p i d rows rows' top bottom old new done up ink wide some low tall w
       errors_are = λ more.
           let is : h ≡ 256 = whole more in
           let end : 32 * (bands_of (window_of rows) - 1 + 1) ≡ 256 = ap (λ n. 32 * (div_ceil n 32 - 1 + 1)) is in
-          let next = bottoms_are_top k q g (window_of rows) (edges_of bottom i) (bands_of (window_of rows) - 1) solves (record { width = refl; height = refl }) (done.bottoms i g are) in
+          let next = bottoms_are_top k q g (window_of rows) (edges_of bottom i) (bands_of (window_of rows) - 1) solves
+          (record { width = refl; height = refl }) (done.bottoms i g are) in
           λ t n two.
           let place : d + h + t ≡ d + (h + t) = omega arith in
           let from : h + t ≡ 32 * (bands_of (window_of rows) - 1 + 1) + t = omega (arith, is, end) in

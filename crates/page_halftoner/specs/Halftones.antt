@@ -15,9 +15,9 @@ use Rattle.separation_definitions.specs.declared.window.Window.{Window}
 use Rattle.tile_border.specs.Tops.{edges_of}
 use Rattle.tile_edges.specs.Tops.{IsBelow}
 
--- A page on the way: what it is printed by, how many lines there were, the amounts of the last of them, how many rows of
--- the window were diffused, the dots so far, the bottom edges of the last diffused rows, the amounts of the rows after
--- them, and whether memory was wanting.
+-- A page that is being halftoned: its profile, form and kernel, how many lines have come, the amounts of the last
+-- one, how many rows of the window are diffused, the dots so far, the bottom edges of the last diffused rows, the
+-- amounts of the rows after them, and whether memory ran out.
 pub record Halftoning : Type 0 where
   pub profile : Profile
   pub form : PageForm
@@ -33,11 +33,11 @@ pub record Halftoning : Type 0 where
 abbrev pub window : Halftoning → Window
 window h = window_of h.form (printer_of h.profile)
 
--- how many rows of the window so many lines reach
+-- how many rows of the window the first n lines reach
 abbrev pub rows_done : Window → ℕ → ℕ
 rows_done w count = min (count - w.top) w.height
 
--- how many of them are held until they are diffused
+-- how many of them wait for diffusion
 abbrev pub held : Halftoning → ℕ
 held h = rows_done (window h) h.count - h.diffused
 
@@ -45,18 +45,18 @@ held h = rows_done (window h) h.count - h.diffused
 abbrev pub plane_of : Halftoning → Ink → List (List ℕ) → Plane
 plane_of h ink lines = ink_plane (record { form = h.form; lines = lines }) (printer_of h.profile) ink
 
--- An ink of a plane, of which some rows were diffused and some are held behind them.
+-- An ink of a plane, of which the first rows are diffused and the next ones are held.
 pub record IsUpTo (k : Table) (p : Plane) (i diffused held : ℕ) (planes : DotTable)
     (top : List (List (List ℤ))) (slab : AmountTable) : Type 0 where
   -- the dots of the diffused rows
   pub dots : (y x : ℕ) → y < diffused → x < p.width → dot planes i y x ≡ on k p (errors k p no_top) y x
   -- while rows are left, the top has the errors of the last two diffused rows, 0 above the first
   pub errors_are : diffused < p.height → IsBelow (edges_of top i) (λ t. errors k p no_top (diffused + t))
-  -- the amounts of the rows held
+  -- the amounts of the held rows
   pub amounts : (y x : ℕ) → y < held → x < p.width → amount slab i y x ≡ p.amount (diffused + y) x
 
--- The halftoning stands for the lines so far: whatever lines follow, each ink's dots, errors and amounts are those of the
--- page. At most 256 rows are held, and the other rows of the planes have no dots.
+-- The halftoning stands for the lines so far: whatever lines follow, each ink's dots, errors and amounts are those of
+-- the page. At most 256 rows are held, and the rows of the planes after the diffused ones have no dots.
 pub record StandsFor (h : Halftoning) (lines : List (List ℕ)) : Type 0 where
   pub count : length lines ≡ h.count
   pub inks : (i : ℕ) (ink : Ink) (more : List (List ℕ)) → slice_get (inks_of h.profile.inks) i ≡ Some ink

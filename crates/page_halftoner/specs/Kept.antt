@@ -1,4 +1,4 @@
--- What stands in a halftoner.
+-- The invariant of a halftoner.
 use Rattle.std.specs.Prelude.{◌≡◌, ℤ, ◌+◌, ◌<◌, ◌≤◌, Bool, true, false, IsOk, List, [], Option, Some, None, length}
 use Rattle.printer_definitions.specs.Inks.{inks_of}
 use Rattle.printer_profile.specs.Profiles.{printer_of}
@@ -15,10 +15,10 @@ abbrev pub edges_in : Option (List (List (List ℤ))) → List (List (List ℤ))
 edges_in None = []
 edges_in (Some top) = top
 
--- a top is wanting
-abbrev pub is_wanting : Option (List (List (List ℤ))) → Bool
-is_wanting None = true
-is_wanting (Some top) = false
+-- there is no top
+abbrev pub is_missing : Option (List (List (List ℤ))) → Bool
+is_missing None = true
+is_missing (Some top) = false
 
 abbrev pub halftoning : Inside → Halftoning
 halftoning h = record {
@@ -31,14 +31,14 @@ halftoning h = record {
   planes = h.planes;
   top = edges_in h.top;
   slab = h.slab;
-  failed = is_wanting h.top;
+  failed = is_missing h.top;
 }
 
 abbrev pub window_in : Inside → Window
 window_in h = window_of h.form (printer_of h.profile)
 
--- The profile passes its checks, its black is worked out, the printer takes the page, there are workers, and there is room for the window's rows in all
--- inks.
+-- The profile passes its checks, its black table is made, the printer takes the page, there are 1 to 64 workers, and
+-- there is room for the window's rows in all inks.
 pub record IsReady (h : Inside) : Type 0 where
   pub checked : IsOk (check h.profile)
   pub black : h.black ≡ h.profile.black_start

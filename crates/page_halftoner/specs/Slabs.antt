@@ -5,7 +5,7 @@ use Rattle.slab_diffusion.specs.Slabs.{IsTopOf}
 use Rattle.tile_border.specs.Tops.{edges_of}
 use Rattle.tile_edges.specs.Tops.{top_of}
 
--- room for the first rows of a window: 256, or all where there are fewer. The errors above them are 0.
+-- room for the first rows of a window: 256, or all where there are fewer; the errors above them are 0
 pub record IsFirstSlab (width height inks : ℕ) (slab : AmountTable) (top : List (List (List ℤ))) : Type 0 where
   pub width_is : slab.width ≡ width
   pub rows_are : slab.rows ≡ min height 256
@@ -13,7 +13,7 @@ pub record IsFirstSlab (width height inks : ℕ) (slab : AmountTable) (top : Lis
   pub is_top : IsTopOf width inks top
   pub zeros : (i t n : ℕ) → top_of (edges_of top i) t n ≡ pos 0
 
--- room for the rows that are left, or for as many as before
+-- room for the rows that are left, at most as many as before
 pub record IsNextSlab (left : ℕ) (old new : AmountTable) : Type 0 where
   pub width : new.width ≡ old.width
   pub inks : new.inks ≡ old.inks
@@ -21,7 +21,7 @@ pub record IsNextSlab (left : ℕ) (old new : AmountTable) : Type 0 where
   pub most : new.rows ≤ old.rows
   pub rows : 0 < left → new.rows ≡ min left old.rows
 
--- Row y of each ink becomes the one row of a line, and all other rows stay.
+-- Row y of each ink becomes the one row of a line, and all other rows are unchanged.
 pub record PutsLine (line : AmountTable) (y : ℕ) (old new : AmountTable) : Type 0 where
   pub size : HasSizeAs old new
   pub row : (i x : ℕ) → i < old.inks → x < old.width → amount new i y x ≡ amount line i 0 x

@@ -1,4 +1,4 @@
-//! A page on its way from lines to dots.
+//! A page that is halftoned as its lines come.
 ghost use Rattle.diffusion_kernel.specs.Tables.{table_of};
 ghost use Rattle.dot_planes.specs.Tables.{dot};
 ghost use Rattle.page_definitions.specs.Dots.{HasDots, halftone};
@@ -7,7 +7,8 @@ ghost use Rattle.printer_profile.specs.Profiles.{printer_of};
 ghost use Rattle.printer_profile.specs.Validity.{check};
 ghost use Rattle.pwg_definitions.specs.Header.{IsWanted};
 ghost use Rattle.separation_definitions.specs.Windows.{wanted_by};
-ghost use Rattle.std.specs.Prelude.{IfNone, IfOk, IfSome, IsErr, IsOk, List, OnErr, OnOk, [], false, length, replicate, true, ℕ, ◌++◌, ◌+◌, ◌<◌, ◌∷◌, ◌≡◌, ◌≤◌, ◌⊎◌, ◌^◌};
+ghost use Rattle.std.specs.Prelude.{IfNone, IfOk, IfSome, IsErr, IsOk, List, OnErr, OnOk, [], false, length};
+ghost use Rattle.std.specs.Prelude.{replicate, true, ℕ, ◌++◌, ◌+◌, ◌<◌, ◌∷◌, ◌≡◌, ◌≤◌, ◌⊎◌, ◌^◌};
 
 use crate::slabs::{first_slab, next_slab, put_line};
 use diffusion_kernel::Kernel;
@@ -22,11 +23,11 @@ use tile_border::TopEdges;
 use wavefront_team::{Gate, diffuse};
 use weave_base::Memory;
 
-/// A page that is halftoned line by line. Contracts see the profile, the form, the kernel, how many lines there were,
-/// which lists of lines it stands for, and whether a call answered `Memory`.
+/// A page that is halftoned line by line. Contracts see the profile, the form, the kernel, the number of lines so
+/// far, which lists of lines it stands for, and whether a call answered `Memory`.
 ///
-/// No lines are kept, and beside the planes of dots only the amounts of a slab: 256 rows of the window, or those that
-/// are left. When it is full it is diffused, below the errors of the slab before.
+/// It keeps no lines; beside the planes of dots it keeps the amounts of one slab: 256 rows of the window, or those
+/// that are left. When the slab is full it is diffused, below the errors of the slab above.
 #[derive(Drop)]
 pub struct Halftoner {
     alloc: Global,
@@ -36,15 +37,15 @@ pub struct Halftoner {
     kernel: Kernel,
     /// How many workers diffuse each slab: 1 to 64.
     workers: u8,
-    /// How many lines of the page there were, those in the margins too.
+    /// How many lines of the page have come, those in the margins too.
     count: u32,
-    /// The amounts of the line in hand, one row.
+    /// The amounts of the current line, one row.
     line: InkRows,
-    /// How many rows of the window were diffused.
+    /// How many rows of the window are diffused.
     diffused: u32,
-    /// Room for the next ones, of which some are held.
+    /// Room for the next rows, of which the first ones hold amounts.
     slab: InkRows,
-    /// The errors above these, or `None` from a call on that answered `Memory`.
+    /// The errors above these rows; `None` once a call has answered `Memory`.
     top: Option<TopEdges>,
     planes: Planes,
 }
@@ -61,7 +62,7 @@ impl Model for Halftoner {
     ghost invariant = { IsReady };
 }
 
-// The row of the window that a line of the page is, where it is in no margin.
+// The row of the window that a line of the page is; `None` in a margin.
 fn row_of_line(window: Window, line: u32) -> Option<u32>
     requires { window.top + window.height < 2 ^ 32 }
     ensures row { IfSome result (λ y. (window.top + y ≡ line) × (y < window.height)) }
@@ -75,7 +76,7 @@ fn row_of_line(window: Window, line: u32) -> Option<u32>
 }
 
 impl Halftoner {
-    /// Begins a page, whose slabs are diffused by so many workers, and takes the memory that it needs itself.
+    /// Begins a page whose slabs `workers` workers diffuse, and takes the memory that the page itself needs.
     pub fn begin(
         alloc: Global,
         p: &Profile,
@@ -113,8 +114,8 @@ impl Halftoner {
         })
     }
 
-    /// Takes a line of the page that stands so often. Where a slab is full then, its workers enter the gate, one with
-    /// each tile. `Memory` comes where a slab can't be diffused for want of it, and from then on.
+    /// Takes a line of the page that occurs `repeats` times in a row. When a slab is full, its workers enter the
+    /// gate, one with each tile. `Memory` comes where memory for diffusing a slab runs out, and at each later call.
     pub fn lines<R: Threads + Sync, G: Gate + Sync>(
         &mut self,
         rt: &R,
@@ -126,7 +127,8 @@ impl Halftoner {
         requires repeats { self.old.count + repeats ≤ self.old.form.height }
         ensures page { OnOk result (IsSamePage self.old self.new) }
         ensures count { OnOk result (self.new.count ≡ self.old.count + repeats) }
-        ensures stands { (lines : List (List ℕ)) → StandsFor self.old lines → OnOk result (StandsFor self.new (lines ++ replicate repeats line.now)) }
+        ensures stands { (lines : List (List ℕ))
+            → StandsFor self.old lines → OnOk result (StandsFor self.new (lines ++ replicate repeats line.now)) }
         ensures working { OnOk result (self.new.failed ≡ false) }
         ensures failed { OnErr result (self.new.failed ≡ true) }
         ensures for_good { self.old.failed ≡ true → IsErr result }
@@ -146,7 +148,8 @@ impl Halftoner {
         requires count { self.count ≡ self.form.height }
         requires working { self.failed ≡ false }
         ensures { (lines : List (List ℕ)) → StandsFor self lines
-            → HasDots (printer_of self.profile) (halftone (record { form = self.form; lines = lines }) (printer_of self.profile) (table_of self.kernel)) result.width result.rows result.inks (dot result) }
+            → HasDots (printer_of self.profile) (halftone (record { form = self.form; lines = lines })
+            (printer_of self.profile) (table_of self.kernel)) result.width result.rows result.inks (dot result) }
     {
         self.planes
     }
@@ -172,7 +175,7 @@ impl Halftoner {
         );
     }
 
-    // Takes the line in hand once more.
+    // Takes the current line once more.
     fn next_line<R: Threads + Sync, G: Gate + Sync>(
         &mut self,
         rt: &R,
@@ -183,7 +186,8 @@ impl Halftoner {
         ensures count { OnOk result (self.new.count ≡ self.old.count + 1) }
         ensures line { self.new.line ≡ self.old.line }
         ensures stands { (line : List ℕ) → HasAmountsOf self.old line
-            → (lines : List (List ℕ)) → StandsFor self.old lines → OnOk result (StandsFor self.new (lines ++ line ∷ [])) }
+            → (lines : List (List ℕ))
+            → StandsFor self.old lines → OnOk result (StandsFor self.new (lines ++ line ∷ [])) }
         ensures working { OnOk result (self.new.failed ≡ self.old.failed) }
         ensures failed { OnErr result (self.new.failed ≡ true) }
     {

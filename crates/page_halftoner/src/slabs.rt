@@ -1,4 +1,4 @@
-//! The rows that are held.
+//! The rows that wait for diffusion.
 ghost use Rattle.dot_planes.specs.Tables.{IsSize};
 ghost use Rattle.page_halftoner.specs.Slabs.{IsFirstSlab, IsNextSlab, PutsLine};
 ghost use Rattle.std.specs.Prelude.{IfOk, ◌<◌, ◌≡◌, ◌≤◌};
@@ -8,10 +8,10 @@ use std::alloc::Global;
 use tile_border::TopEdges;
 use weave_base::Memory;
 
-// How many rows of a window are diffused together, as long as there are so many.
+// How many rows of a window are diffused together, while as many are left.
 const SLAB_ROWS: u32 = 256;
 
-/// Room for the first rows of a window, and no errors above them.
+/// Room for the first rows of a window; the errors above them are 0.
 pub(crate) fn first_slab(
     alloc: Global,
     width: u32,
@@ -27,7 +27,7 @@ pub(crate) fn first_slab(
     Ok((slab, top))
 }
 
-/// Room for the next rows, where so many are left.
+/// Room for the next rows, where `left` are left.
 pub(crate) fn next_slab(slab: &mut InkRows, left: u32)
     ensures { IsNextSlab left slab.old slab.new }
 {

@@ -62,7 +62,7 @@ fn form(kind: Kind, width: u32, height: u32) -> PageForm {
     }
 }
 
-// A line of the page, and bytes behind it.
+// A line of the page, and bytes after it.
 fn line_at(kind: Kind, y: u32) -> [u8; 64] {
     let mut line = [0u8; 64];
     let unit = match kind {
@@ -76,7 +76,7 @@ fn line_at(kind: Kind, y: u32) -> [u8; 64] {
     line
 }
 
-// The dots of a page, by so many workers.
+// The dots of a page, by this many workers.
 fn planes_of<R: Threads + Sync>(
     rt: &R,
     alloc: Global,

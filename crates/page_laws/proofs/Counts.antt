@@ -1,5 +1,6 @@
 -- Counts and sums over lists.
-use Rattle.std.proofs.Common.{◌≡◌, ◌≢◌, ℕ, zero, suc, ◌+◌, ◌<◌, ◌≤◌, Bool, true, false, cond, ◌||◌, inl, inr, if◌then◌else◌, List, [], ◌∷◌, ◌++◌, refl, sym, ◌∙◌, ap, arith}
+use Rattle.std.proofs.Common.{◌≡◌, ◌≢◌, ℕ, zero, suc, ◌+◌, ◌<◌, ◌≤◌, Bool, true, false, cond, ◌||◌, inl, inr}
+use Rattle.std.proofs.Common.{if◌then◌else◌, List, [], ◌∷◌, ◌++◌, refl, sym, ◌∙◌, ap, arith}
 use Rattle.std.proofs.lemmas.Bool.{cases_eq}
 use Rattle.std.proofs.lemmas.List.Sums.{sum_by-append, sum_by-cons}
 use Rattle.std.specs.List.{AllByRecursion, list_any, count_by, flat_map, sum_by}
@@ -7,7 +8,7 @@ use Rattle.weave_definitions.specs.Weave.{count_from}
 
 -- ---- what holds of each element
 
--- a fact of everything is one of each element
+-- a fact of all values is one of each element
 pub each-of : {X : Type 0} (P : X → Type 0) (xs : List X) → ((x : X) → P x) → AllByRecursion P xs
 each-of P [] every = tt
 each-of P (x ∷ xs) every = (every x, each-of P xs every)
@@ -15,7 +16,10 @@ each-of P (x ∷ xs) every = (every x, each-of P xs every)
 -- a fact of the numbers in between is one of each that is counted
 pub each-from : (P : ℕ → Type 0) (n many : ℕ) → ((k : ℕ) → n ≤ k → k < n + many → P k) → AllByRecursion P (count_from n many)
 each-from P n zero between = tt
-each-from P n (suc many) between = (between n (omega arith) (omega arith), each-from P (n + 1) many (λ k first last. between k (omega arith) (omega arith)))
+each-from P n (suc many) between = (
+  between n (omega arith) (omega arith),
+  each-from P (n + 1) many (λ k first last. between k (omega arith) (omega arith)),
+)
 
 -- ---- sums
 
@@ -46,7 +50,12 @@ sum-one f one n (suc many) from below others =
         sum-none f (count_from (n + 1) many)
             (each-from (λ k. f k ≡ 0) (n + 1) many (λ k after inside. others k (λ same. omega (arith, same, e, after)))),
       )
-      | inr apart ↦ omega (arith, sum_by-cons f n (count_from (n + 1) many), others n apart, sum-one f one (n + 1) many (omega (arith, apart)) (omega arith) others)
+      | inr apart ↦ omega (
+        arith,
+        sum_by-cons f n (count_from (n + 1) many),
+        others n apart,
+        sum-one f one (n + 1) many (omega (arith, apart)) (omega arith) others,
+      )
     ]
 
 -- ---- numbers that count where a test holds
@@ -72,10 +81,12 @@ pub count-cons : {X : Type 0} (test : X → Bool) (x : X) (xs : List X) → coun
 count-cons test x xs = sum_by-cons (λ x. cond (test x) 1 0) x xs
 
 -- a list that is put together has as many as its parts
-pub count-flat : {X Y : Type 0} (test : Y → Bool) (f : X → List Y) (xs : List X) → count_by test (flat_map f xs) ≡ sum_by (λ x. count_by test (f x)) xs
+pub count-flat : {X Y : Type 0} (test : Y → Bool) (f : X → List Y) (xs : List X)
+    → count_by test (flat_map f xs) ≡ sum_by (λ x. count_by test (f x)) xs
 count-flat test f [] = refl
 count-flat test f (x ∷ xs) =
-    count-append test (f x) (flat_map f xs) ∙ ap (λ n. count_by test (f x) + n) (count-flat test f xs) ∙ sym (sum_by-cons (λ x. count_by test (f x)) x xs)
+    count-append test (f x) (flat_map f xs)
+    ∙ ap (λ n. count_by test (f x) + n) (count-flat test f xs) ∙ sym (sum_by-cons (λ x. count_by test (f x)) x xs)
 
 -- lists that are put together hold as much as their parts
 pub flat-most : {X Y : Type 0} (test : Y → Bool) (f : X → List Y) (g : X → ℕ) (xs : List X) → ((x : X) → count_by test (f x) ≤ g x)
@@ -90,12 +101,14 @@ pub flat-none : {X Y : Type 0} (test : Y → Bool) (f : X → List Y) (xs : List
 flat-none test f [] each = refl
 flat-none test f (x ∷ xs) each = omega (arith, count-append test (f x) (flat_map f xs), each x, flat-none test f xs each)
 
--- where one is counted at most, the count says whether there is one
+-- where at most one is counted, the count says whether there is one
 pub few : {X : Type 0} (test : X → Bool) (xs : List X) → count_by test xs ≤ 1 → count_by test xs ≡ (if list_any test xs then 1 else 0)
 few test [] le = refl
 few test (x ∷ xs) le = by_head (test x) refl (few test xs)
   where
-    by_head : (b : Bool) → test x ≡ b → (count_by test xs ≤ 1 → count_by test xs ≡ (if list_any test xs then 1 else 0)) → count_by test (x ∷ xs) ≡ (if list_any test (x ∷ xs) then 1 else 0)
+    by_head : (b : Bool) → test x ≡ b
+        → (count_by test xs ≤ 1 → count_by test xs ≡ (if list_any test xs then 1 else 0))
+        → count_by test (x ∷ xs) ≡ (if list_any test (x ∷ xs) then 1 else 0)
     by_head true e rest =
         let count : count_by test (x ∷ xs) ≡ 1 + count_by test xs = count-cons test x xs ∙ ap (λ b. cond b 1 0 + count_by test xs) e in
         let is_one : count_by test (x ∷ xs) ≡ 1 = omega arith in

@@ -1,5 +1,6 @@
 -- The dots that a raster of a stroke fires.
-use Rattle.std.proofs.Common.{◌≡◌, ℕ, suc, ◌+◌, ◌-◌, ◌*◌, ◌/◌, ◌<◌, ◌≤◌, Bool, true, false, nat_le, ◌||◌, List, [], ◌∷◌, ◌++◌, length, take, drop, refl, sym, ◌∙◌, ap, arith, append-nil}
+use Rattle.std.proofs.Common.{◌≡◌, ℕ, suc, ◌+◌, ◌-◌, ◌*◌, ◌/◌, ◌<◌, ◌≤◌, Bool, true, false, nat_le, ◌||◌, List, [], ◌∷◌, ◌++◌}
+use Rattle.std.proofs.Common.{length, take, drop, refl, sym, ◌∙◌, ap, arith, append-nil}
 use Rattle.std.specs.List.{list_any, flat_map, AllByRecursion}
 use Rattle.std.proofs.lemmas.Bool.Decides.{nat_tests}
 use Rattle.std.proofs.lemmas.List.{take_at, drop_at}
@@ -42,7 +43,8 @@ rows_dots-fired head ink y (row ∷ rows) wide =
     let behind : drop (row_bytes head) (packed row ++ more) ≡ more = drop_at (packed row) more (row_bytes head) len in
     let whole : take head.n (bits (packed row)) ≡ row =
     ap (λ bs. take head.n (bits bs)) (sym (take_all_of (packed row) (row_bytes head) len)) ∙ row-packed head.n row wide.0 in
-    ap (λ bs. row_dots ink 0 head.h y (take head.n (bits bs)) ++ rows_dots (length rows) head ink 0 (y + head.v) (drop (row_bytes head) (packed row ++ more))) front
+    ap (λ bs. row_dots ink 0 head.h y (take head.n (bits bs))
+    ++ rows_dots (length rows) head ink 0 (y + head.v) (drop (row_bytes head) (packed row ++ more))) front
     ∙ ap (λ bs. row_dots ink 0 head.h y (take head.n (bits (packed row))) ++ rows_dots (length rows) head ink 0 (y + head.v) bs) behind
     ∙ ap (λ r. row_dots ink 0 head.h y r ++ rows_dots (length rows) head ink 0 (y + head.v) more) whole
     ∙ ap (λ ds. row_dots ink 0 head.h y row ++ ds) (rows_dots-fired head ink (y + head.v) rows wide.1)
@@ -70,14 +72,15 @@ blank-row p ink y x (true ∷ row) e = cc
 blank-row p ink y x (false ∷ row) e = blank-row p ink y (x + 1) row e
 
 -- rows without a dot have no place on paper
-pub blank-rows : (p : Printer) (above : ℕ) (ink : Ink) (start : ℕ) (rows : List (List Bool)) → has_dot rows ≡ false → rows_fired p above ink start rows ≡ []
+pub blank-rows : (p : Printer) (above : ℕ) (ink : Ink) (start : ℕ) (rows : List (List Bool))
+    → has_dot rows ≡ false → rows_fired p above ink start rows ≡ []
 blank-rows p above ink start [] e = refl
 blank-rows p above ink start (row ∷ rows) e =
     let both = or-false (list_any (λ on. on) row) (has_dot rows) e in
     ap (λ ds. ds ++ rows_fired p above ink (start + p.pitch) rows) (blank-row p ink (start - above) 0 row both.left)
     ∙ blank-rows p above ink (start + p.pitch) rows both.right
 
--- ---- what the machine fires stands where it is fired on paper
+-- ---- what the machine fires is where it is fired on paper
 
 -- a row at its place
 row-is : (p : Printer) (ink : Ink) (y x place : ℕ) (row : List Bool) → CanPrint p → place ≡ (p.top + y) * 3600 / p.vdpi
@@ -95,7 +98,8 @@ row-is p ink y x place (false ∷ row) can e =
     ap (λ a. row_dots ink a (column_step p) place row) next ∙ row-is p ink y (x + 1) place row can e
 
 -- The rows below the first lie on the window as well.
-pub on_window-next : (pitch above height start : ℕ) (row : List Bool) (rows : List (List Bool)) → IsOnWindow pitch above height start (row ∷ rows)
+pub on_window-next : (pitch above height start : ℕ) (row : List Bool) (rows : List (List Bool))
+    → IsOnWindow pitch above height start (row ∷ rows)
     → IsOnWindow pitch above height (start + pitch) rows
 on_window-next pitch above height start row rows is = record {
   row = λ i e.
@@ -104,7 +108,8 @@ on_window-next pitch above height start row rows is = record {
 }
 
 -- The first row lies on the window, where it has a dot.
-pub on_window-first : (pitch above height start : ℕ) (row : List Bool) (rows : List (List Bool)) → IsOnWindow pitch above height start (row ∷ rows)
+pub on_window-first : (pitch above height start : ℕ) (row : List Bool) (rows : List (List Bool))
+    → IsOnWindow pitch above height start (row ∷ rows)
     → list_any (λ on. on) row ≡ true → (above ≤ start) × (start < above + height)
 on_window-first pitch above height start row rows is e =
     let here : (above ≤ start + 0 * pitch) × (start + 0 * pitch < above + height) = is.row 0 e in
@@ -136,11 +141,13 @@ rows-are p above height ink start place (row ∷ rows) can room is e =
 -- ---- the dots are on the sheet
 
 -- where none passes and the element before does not either
-pub none-of : {X : Type 0} (test : X → Bool) (x : X) (xs : List X) → test x ≡ false → list_any test xs ≡ false → list_any test (x ∷ xs) ≡ false
+pub none-of : {X : Type 0} (test : X → Bool) (x : X) (xs : List X)
+    → test x ≡ false → list_any test xs ≡ false → list_any test (x ∷ xs) ≡ false
 none-of test x xs e f = ap (λ b. b || list_any test xs) e ∙ f
 
 -- where none of two lists passes, none of both does
-none-both : {X : Type 0} (test : X → Bool) (xs ys : List X) → list_any test xs ≡ false → list_any test ys ≡ false → list_any test (xs ++ ys) ≡ false
+none-both : {X : Type 0} (test : X → Bool) (xs ys : List X)
+    → list_any test xs ≡ false → list_any test ys ≡ false → list_any test (xs ++ ys) ≡ false
 none-both test [] ys e f = f
 none-both test (x ∷ xs) ys e f =
     let both = or-false (test x) (list_any test xs) e in none-of test x (xs ++ ys) both.left (none-both test xs ys both.right f)
@@ -170,5 +177,6 @@ on_sheet p above height ink start bottom (row ∷ rows) can is e =
         let on = on_window-first p.pitch above height start row rows is f in
         let y : ℕ = start - above in
         let s : ℕ = row_step p in
-        let less : (p.top + y) * s < (p.top + height) * s = rises (p.top + y) (p.top + height) s (row_step-some p can) (omega (arith, on.0, on.1)) in
+        let less : (p.top + y) * s < (p.top + height) * s =
+        rises (p.top + y) (p.top + height) s (row_step-some p can) (omega (arith, on.0, on.1)) in
         row-low p ink y 0 bottom row (omega (arith, row_place p (p.top + y) can, e, less))

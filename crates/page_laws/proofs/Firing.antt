@@ -1,5 +1,6 @@
 -- What the machine makes of the inks of a stroke.
-use Rattle.std.proofs.Common.{◌≡◌, ℕ, ◌+◌, ◌-◌, ◌*◌, ◌/◌, ◌%◌, ◌<◌, ◌≤◌, Bool, true, false, not, ◌||◌, ◌==◌, nat_lt, nat_le, if◌then◌else◌, List, [], ◌∷◌, ◌++◌, Option, None, refl, sym, ◌∙◌, ap, arith, append_assoc, flat_map}
+use Rattle.std.proofs.Common.{◌≡◌, ℕ, ◌+◌, ◌-◌, ◌*◌, ◌/◌, ◌%◌, ◌<◌, ◌≤◌, Bool, true, false, not, ◌||◌, ◌==◌, nat_lt, nat_le, if◌then◌else◌}
+use Rattle.std.proofs.Common.{List, [], ◌∷◌, ◌++◌, Option, None, refl, sym, ◌∙◌, ap, arith, append_assoc, flat_map}
 use Rattle.std.specs.List.{list_any}
 use Rattle.std.proofs.lemmas.Bool.{eq-eqb, le-ltb}
 use Rattle.printer_definitions.specs.declared.inks.Ink.{Ink}
@@ -7,26 +8,29 @@ use Rattle.printer_definitions.specs.Printer.{column_step, nozzle_step, row_step
 use Rattle.escp2_definitions.specs.declared.command.RasterHead.{RasterHead}
 use Rattle.escp2_definitions.specs.declared.command.Command.TheVariants as c
 use Rattle.escp2_definitions.specs.declared.stops.EmuFault.{EmuFault}
-use Rattle.escp2_definitions.specs.declared.stops.EmuFault.TheVariants.{NotGraphics, NoUnit, NoMargins, Density, Rows, OffGrid, OffSheet, Overprint}
-use Rattle.escp2_definitions.specs.Machine.{Dot, Machine, after, first_fault, is_off_grid, is_off_sheet, is_other_density, overprints, raster_dots, refusals, refuse, rows_dots}
+use Rattle.escp2_definitions.specs.declared.stops.EmuFault.TheVariants.{NotGraphics, NoUnit, NoMargins, Density, Rows, OffGrid}
+use Rattle.escp2_definitions.specs.declared.stops.EmuFault.TheVariants.{OffSheet, Overprint}
+use Rattle.escp2_definitions.specs.Machine.{Dot, Machine, after, first_fault, is_off_grid, is_off_sheet, is_other_density}
+use Rattle.escp2_definitions.specs.Machine.{overprints, raster_dots, refusals, refuse, rows_dots}
 use Rattle.escp2_definitions.specs.Packed.{packed}
 use Rattle.page_definitions.specs.Strokes.{IsOnWindow, IsWhole, Spoken, Stroke, has_dot, ink_commands, raster_head, rows_fired, say}
 use Rattle.page_laws.proofs.Numbers.{column_step-some, on_grid, row_step-some, row_units-is}
 use Rattle.page_laws.proofs.Once.{Once, once-front, once-regroup}
 use Rattle.page_laws.proofs.Fired.{blank-rows, on_sheet, rows-are, rows_dots-fired}
 use Rattle.page_laws.proofs.Twice.{not_twice}
-use Rattle.page_laws.proofs.Running.{Goes, IsLayout, Layout, comes-as, comes-then, first_of, goes-as, goes-here, goes-then, last_of, one, paused}
+use Rattle.page_laws.proofs.Running.{Goes, IsLayout, Layout, comes-as, comes-then, first_of, goes-as}
+use Rattle.page_laws.proofs.Running.{goes-here, goes-then, last_of, one, paused}
 use Rattle.page_laws.proofs.Prologue.{place-is}
 
 -- ---- strokes of a page
 
--- A stroke that fires within the window: its rows are whole, and the head stands above the window's end.
+-- A stroke that fires within the window: its rows are whole, and the head is above the window's end.
 pub record Lies (w : Layout) (stroke : Stroke) : Type 0 where
   pub whole : (ink : Ink) → IsWhole w.printer.nozzles w.halftone.width (stroke.rows ink)
   pub on_window : (ink : Ink) → IsOnWindow w.printer.pitch w.above w.halftone.height stroke.start (stroke.rows ink)
   pub low : stroke.start < w.above + w.halftone.height
 
--- the head of the page's rasters
+-- the header of the page's rasters
 abbrev pub head_of : Layout → RasterHead
 head_of w = raster_head w.printer w.halftone.width w.coding.c
 
@@ -42,7 +46,8 @@ fires_ink w stroke ink = ink_commands w.printer w.halftone.width w.coding.c stro
 
 -- the dots that the raster of an ink fires
 new-dots : (w : Layout) (stroke : Stroke) (ink : Ink) → IsLayout w → Lies w stroke
-    → rows_dots w.printer.nozzles (head_of w) ink 0 (first_of w * 5 + stroke.start * row_units w.printer * 5) (flat_map packed (stroke.rows ink)) ≡ ink_fired w stroke ink
+    → rows_dots w.printer.nozzles (head_of w) ink 0 (first_of w * 5 + stroke.start * row_units w.printer * 5)
+    (flat_map packed (stroke.rows ink)) ≡ ink_fired w stroke ink
 new-dots w stroke ink is lies =
     let y : ℕ = first_of w * 5 + stroke.start * row_units w.printer * 5 in
     let rows : List (List Bool) = stroke.rows ink in
@@ -60,8 +65,10 @@ zero-over : (n : ℕ) → 1 ≤ n → record { rest : 0 % n ≡ 0; over : 0 / n 
 zero-over n some = record { rest = omega arith; over = omega arith }
 
 -- the raster is not refused
-raster-accepted : (w : Layout) (stroke : Stroke) (ink : Ink) (columns : ℕ) (dots : List Dot) → IsLayout w → Lies w stroke → Once (dots ++ ink_fired w stroke ink)
-    → first_fault (refusals w.printer (paused w stroke.start 0 columns ink dots) (c.Raster (head_of w)) (flat_map packed (stroke.rows ink))) ≡ None
+raster-accepted : (w : Layout) (stroke : Stroke) (ink : Ink) (columns : ℕ) (dots : List Dot)
+    → IsLayout w → Lies w stroke → Once (dots ++ ink_fired w stroke ink)
+    → first_fault (refusals w.printer
+    (paused w stroke.start 0 columns ink dots) (c.Raster (head_of w)) (flat_map packed (stroke.rows ink))) ≡ None
 raster-accepted w stroke ink columns dots is lies once =
     let s : Machine = paused w stroke.start 0 columns ink dots in
     let rows : List ℕ = flat_map packed (stroke.rows ink) in
@@ -73,10 +80,12 @@ raster-accepted w stroke ink columns dots is lies once =
     let across : ℕ = column_step w.printer in
     let zeros = zero-over across (column_step-some w.printer is.can) in
     let bottom_is : bottom ≡ (w.printer.top + w.halftone.height) * row_step w.printer =
-    (let grouped : (w.printer.top + w.halftone.height) * row_units w.printer * 5 ≡ (w.printer.top + w.halftone.height) * (row_units w.printer * 5) = omega arith in
+    (let grouped : (w.printer.top + w.halftone.height) * row_units w.printer * 5
+    ≡ (w.printer.top + w.halftone.height) * (row_units w.printer * 5) = omega arith in
     grouped ∙ ap (λ u. (w.printer.top + w.halftone.height) * u) (row_units-is w.printer is.can)) in
     let at_row : at % row_step w.printer ≡ 0 =
-    ap (λ n. n % row_step w.printer) (place-is w stroke.start is) ∙ on_grid (w.printer.top - w.above + stroke.start) (row_step w.printer) (row_step-some w.printer is.can) in
+    ap (λ n. n % row_step w.printer) (place-is w stroke.start is)
+    ∙ on_grid (w.printer.top - w.above + stroke.start) (row_step w.printer) (row_step-some w.printer is.can) in
     let density : is_other_density w.printer (head_of w) ≡ false =
     neither _ _ (ap not (eq-eqb across across refl)) (ap not (eq-eqb (nozzle_step w.printer) (nozzle_step w.printer) refl)) in
     let nozzles : not (w.printer.nozzles == w.printer.nozzles) ≡ false = ap not (eq-eqb w.printer.nozzles w.printer.nozzles refl) in
@@ -90,14 +99,16 @@ raster-accepted w stroke ink columns dots is lies once =
     let faults : Bool → Bool → Bool → Bool → Bool → Option EmuFault = λ density nozzles grid sheet over.
     first_fault (refuse false NotGraphics ∷ refuse false NoUnit ∷ refuse false NoMargins ∷ refuse density Density ∷ refuse nozzles Rows
     ∷ refuse grid OffGrid ∷ refuse sheet OffSheet ∷ refuse over Overprint ∷ []) in
-    ap (λ b. faults b (not (w.printer.nozzles == w.printer.nozzles)) (is_off_grid w.printer s) (is_off_sheet w.printer s (head_of w) fired) (overprints dots fired)) density
+    ap (λ b. faults b (not (w.printer.nozzles == w.printer.nozzles))
+    (is_off_grid w.printer s) (is_off_sheet w.printer s (head_of w) fired) (overprints dots fired)) density
     ∙ ap (λ b. faults false b (is_off_grid w.printer s) (is_off_sheet w.printer s (head_of w) fired) (overprints dots fired)) nozzles
     ∙ ap (λ b. faults false false b (is_off_sheet w.printer s (head_of w) fired) (overprints dots fired)) grid
     ∙ ap (λ b. faults false false false b (overprints dots fired)) sheet
     ∙ ap (faults false false false false) over
 
 -- an ink of a stroke fires its dots
-ink-run : (w : Layout) (stroke : Stroke) (ink : Ink) (dots : List Dot) (job : List Spoken) → IsLayout w → Lies w stroke → Once (dots ++ ink_fired w stroke ink)
+ink-run : (w : Layout) (stroke : Stroke) (ink : Ink) (dots : List Dot) (job : List Spoken)
+    → IsLayout w → Lies w stroke → Once (dots ++ ink_fired w stroke ink)
     → Goes w stroke.start dots (fires_ink w stroke ink ++ job) stroke.start (dots ++ ink_fired w stroke ink) job
 ink-run w stroke ink dots job is lies once = by_dots (has_dot (stroke.rows ink)) refl
   where
@@ -110,9 +121,11 @@ ink-run w stroke ink dots job is lies once = by_dots (has_dot (stroke.rows ink))
     fire : List Spoken
     fire = say (c.Colour ink) ∷ say c.Return ∷ raster ∷ []
 
-    by_dots : (b : Bool) → has_dot (stroke.rows ink) ≡ b → Goes w stroke.start dots (fires_ink w stroke ink ++ job) stroke.start (dots ++ ink_fired w stroke ink) job
+    by_dots : (b : Bool) → has_dot (stroke.rows ink) ≡ b
+        → Goes w stroke.start dots (fires_ink w stroke ink ++ job) stroke.start (dots ++ ink_fired w stroke ink) job
     by_dots false e =
-        goes-as w stroke.start stroke.start dots (dots ++ ink_fired w stroke ink) (dots ++ ink_fired w stroke ink) (fires_ink w stroke ink ++ job) job job
+        goes-as w stroke.start stroke.start dots
+        (dots ++ ink_fired w stroke ink) (dots ++ ink_fired w stroke ink) (fires_ink w stroke ink ++ job) job job
         (ap (λ b. (if b then fire else []) ++ job) e) refl
         (goes-here w stroke.start dots (ink_fired w stroke ink) job (blank-rows w.printer w.above ink stroke.start (stroke.rows ink) e))
     by_dots true e =
@@ -127,7 +140,8 @@ ink-run w stroke ink dots job is lies once = by_dots (has_dot (stroke.rows ink))
           ink,
           comes-as w s0 s3 ends (fires_ink w stroke ink ++ job) (fire ++ job) job (ap (λ b. (if b then fire else []) ++ job) e)
               (ap (λ ds. record s3 { dots = dots ++ ds }) (new-dots w stroke ink is lies))
-              (comes-then w s0 s1 s3 (fire ++ job) (say c.Return ∷ raster ∷ job) job (one w s0 (c.Colour ink) [] (say c.Return ∷ raster ∷ job) refl refl)
+              (comes-then w s0 s1 s3 (fire ++ job) (say c.Return ∷ raster ∷ job) job
+              (one w s0 (c.Colour ink) [] (say c.Return ∷ raster ∷ job) refl refl)
               (comes-then w s1 s2 s3 (say c.Return ∷ raster ∷ job) (raster ∷ job) job (one w s1 c.Return [] (raster ∷ job) refl refl)
               (one w s2 (c.Raster (head_of w)) text job (raster-accepted w stroke ink columns dots is lies once) refl))),
         )
@@ -145,7 +159,8 @@ inks-run w stroke (ink ∷ inks) dots job is lies once =
     let others : List Dot = flat_map (ink_fired w stroke) inks in
     let said_first : List Spoken = fires_ink w stroke ink in
     let said_others : List Spoken = flat_map (fires_ink w stroke) inks in
-    goes-as w at at dots ((dots ++ first) ++ others) (dots ++ (first ++ others)) ((said_first ++ said_others) ++ job) (said_first ++ (said_others ++ job)) job
+    goes-as w at at dots ((dots ++ first) ++ others)
+    (dots ++ (first ++ others)) ((said_first ++ said_others) ++ job) (said_first ++ (said_others ++ job)) job
     (append_assoc said_first said_others job) (append_assoc dots first others)
     (goes-then w at at at dots (dots ++ first) ((dots ++ first) ++ others) (said_first ++ (said_others ++ job)) (said_others ++ job) job
     (ink-run w stroke ink dots (said_others ++ job) is lies (once-front dots first others once))

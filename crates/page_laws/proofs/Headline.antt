@@ -30,7 +30,8 @@ pub canonical-coding : IsCoding canonical
 canonical-coding = inr (refl, canonical-codes)
 
 -- the window of a page has a size that can be printed
-pub page-sized : (p : Printer) (k : Table) (page : Page) → CanPrint p → IsPage (wanted_by p) page → Sized p (halftone page p k) page.form.height
+pub page-sized : (p : Printer) (k : Table) (page : Page)
+    → CanPrint p → IsPage (wanted_by p) page → Sized p (halftone page p k) page.form.height
 page-sized p k page can is = form-sized p (halftone page p k) page.form can is.wanted refl refl
 
 -- ---- the jobs of pages
@@ -61,10 +62,12 @@ bytes-are coding strokes p k (page ∷ pages) =
 -- ---- the run
 
 -- the jobs of pages give their sheets, one after another
-pages-run : (coding : Coding) (strokes : Halftone → Strokes) (p : Printer) (k : Table) (pages : List Page) (at : ℕ) → CanPrint p → IsCoding coding
+pages-run : (coding : Coding) (strokes : Halftone → Strokes) (p : Printer) (k : Table) (pages : List Page) (at : ℕ)
+    → CanPrint p → IsCoding coding
     → FirePages p k strokes → ArePages p pages
     → (sheets : List Sheet) × AreSheets p k pages sheets
-    × (execute_from p start (entries coding.code at (flat_map (page_job coding strokes p k) pages)) ≡ record { sheets = sheets; refused = None })
+    × (execute_from p start (entries coding.code at (flat_map (page_job coding strokes p k) pages))
+    ≡ record { sheets = sheets; refused = None })
 unfolding execute_from
 pages-run coding strokes p k [] at can is_coding fire are = ([], tt, refl)
 pages-run coding strokes p k (page ∷ pages) at can is_coding fire are =
@@ -73,22 +76,26 @@ pages-run coding strokes p k (page ∷ pages) at can is_coding fire are =
     let w : Layout = layout_of p h coding (strokes h).above page.form.height in
     let is : IsLayout w = record { can = can; coding = is_coding; size = page-sized p k page can are.0; room = fires.room } in
     let lie = strokes-lie p h coding page.form.height (strokes h) fires in
-    let this = page-run w (strokes h).list start (flat_map (page_job coding strokes p k) pages) at is refl fires.rising lie (exactly-once _ _ fires.once) in
+    let this = page-run w (strokes h).list start
+    (flat_map (page_job coding strokes p k) pages) at is refl fires.rising lie (exactly-once _ _ fires.once) in
     let others = pages-run coding strokes p k pages this.1 can is_coding fire are.1 in
     let E : List Dot → Type 0 = λ ds. Exactly ds (dots_wanted p h) in
     let first : Exactly this.0.dots (wanted page p k) = subst E (sym this.2) fires.once in
     (this.0 ∷ others.0, (first, others.1), this.3 ∙ ap (with_sheets (this.0 ∷ [])) others.2)
 
 -- The bytes of pages that are printed by strokes, one after another, print the pages.
-pub stroked-print : (coding : Coding) (strokes : Halftone → Strokes) (p : Printer) (k : Table) (pages : List Page) → CanPrint p → IsCoding coding
+pub stroked-print : (coding : Coding) (strokes : Halftone → Strokes) (p : Printer) (k : Table) (pages : List Page)
+    → CanPrint p → IsCoding coding
     → FirePages p k strokes → ArePages p pages → Prints p k pages (flat_map (λ page. stroked_bytes coding strokes page p k) pages)
 stroked-print coding strokes p k pages can is_coding fire are =
     let job : List Spoken = flat_map (page_job coding strokes p k) pages in
     let bytes : List ℕ = flat_map (λ page. stroked_bytes coding strokes page p k) pages in
     let list : CommandList = record { entries = entries coding.code 0 job; end = Whole } in
-    let reads : commands bytes ≡ list = ap commands (bytes-are coding strokes p k pages) ∙ read coding job (jobs-spoken coding strokes p k pages can is_coding fire are) in
+    let reads : commands bytes ≡ list = ap commands (bytes-are coding strokes p k pages)
+    ∙ read coding job (jobs-spoken coding strokes p k pages can is_coding fire are) in
     let run = pages-run coding strokes p k pages 0 can is_coding fire are in
-    let all : execute p (commands bytes).entries ≡ record { sheets = run.0; refused = None } = ap (λ (j : CommandList). execute p j.entries) reads ∙ run.2 in
+    let all : execute p (commands bytes).entries ≡ record { sheets = run.0; refused = None } =
+    ap (λ (j : CommandList). execute p j.entries) reads ∙ run.2 in
     let P : List Sheet → Type 0 = λ sheets. AreSheets p k pages sheets in
     record {
       whole = ap (λ (j : CommandList). j.end) reads;
@@ -100,4 +107,5 @@ stroked-print coding strokes p k pages can is_coding fire are =
 pub pages-print : (p : Printer) (k : Table) (pages : List Page) → CanPrint p → ArePages p pages
     → Prints p k pages (flat_map (λ page. page_bytes page p k) pages)
 unfolding page_bytes halftone_bytes
-pages-print p k pages can are = stroked-print page_coding (weave p) p k pages can canonical-coding (λ page is. weave-fires p (halftone page p k) can) are
+pages-print p k pages can are = stroked-print page_coding
+    (weave p) p k pages can canonical-coding (λ page is. weave-fires p (halftone page p k) can) are

@@ -18,8 +18,8 @@ use Rattle.page_laws.proofs.Totals.{row-total, total, total-none, total-plus, to
 
 -- ---- how often a place is fired
 
--- How often rows of which the first nozzle stands at this row fire row y of the window at column x. (A row with a dot
--- lies on the window, so that the difference is its row there.)
+-- How often rows, where the first nozzle is on this row, fire row y of the window at column x. (A row with a dot lies
+-- on the window, so that the difference is its row there.)
 abbrev pub rows_hits : ℕ → ℕ → ℕ → ℕ → ℕ → List (List Bool) → ℕ
 rows_hits pitch above y x start [] = 0
 rows_hits pitch above y x start (row ∷ rows) = cond ((start - above == y) && at row x) 1 0 + rows_hits pitch above y x (start + pitch) rows
@@ -33,16 +33,19 @@ hits p above strokes ink y x = sum_by (λ stroke. rows_hits p.pitch above y x st
 -- the dots of rows at a place on paper
 rows-total : (p : Printer) (d : Dot) (above height width : ℕ) (ink : Ink) (start : ℕ) (rows : List (List Bool)) → AllWide width rows
     → IsOnWindow p.pitch above height start rows
-    → count_by (is_at d) (rows_fired p above ink start rows) ≡ total (λ y x. is_at d (place_of p ink y x)) height width (λ y x. rows_hits p.pitch above y x start rows)
+    → count_by (is_at d) (rows_fired p above ink start rows)
+    ≡ total (λ y x. is_at d (place_of p ink y x)) height width (λ y x. rows_hits p.pitch above y x start rows)
 rows-total p d above height width ink start [] wide on =
     sym (total-none (λ y x. is_at d (place_of p ink y x)) height width (λ y x. 0) (λ y x. refl))
 rows-total p d above height width ink start (row ∷ rows) wide on =
     let test : ℕ → ℕ → Bool = λ y x. is_at d (place_of p ink y x) in
     let first : ℕ → ℕ → ℕ = λ y x. cond ((start - above == y) && at row x) 1 0 in
     let others : ℕ → ℕ → ℕ = λ y x. rows_hits p.pitch above y x (start + p.pitch) rows in
-    let low : list_any (λ on. on) row ≡ true → start - above < height = λ e. let is = on_window-first p.pitch above height start row rows on e in omega (arith, is.0, is.1) in
+    let low : list_any (λ on. on) row ≡ true → start - above < height =
+    λ e. let is = on_window-first p.pitch above height start row rows on e in omega (arith, is.0, is.1) in
     count-append (is_at d) (row_fired p ink (start - above) 0 row) (rows_fired p above ink (start + p.pitch) rows)
-    ∙ ap (λ n. n + count_by (is_at d) (rows_fired p above ink (start + p.pitch) rows)) (row-total p d ink height width (start - above) row wide.0 low)
+    ∙ ap (λ n. n + count_by (is_at d) (rows_fired p above ink (start + p.pitch) rows))
+    (row-total p d ink height width (start - above) row wide.0 low)
     ∙ ap (λ n. total test height width first + n)
     (rows-total p d above height width ink (start + p.pitch) rows wide.1 (on_window-next p.pitch above height start row rows on))
     ∙ sym (total-plus test height width first others)
@@ -73,9 +76,12 @@ strokes-total p d above height width (stroke ∷ strokes) whole on =
     ∙ ap (λ n. n + count_by (is_at d) (flat_map (stroke_fired p above) strokes)) first
     ∙ ap (λ n. sum_by (λ ink. of ink (now ink)) (inks_of p.inks) + n) (strokes-total p d above height width strokes whole.1 on.1)
     ∙ sym (sum-plus (λ ink. of ink (now ink)) (λ ink. of ink (later ink)) (inks_of p.inks))
-    ∙ sym (sum-same (λ ink. of ink (λ y x. hits p above (stroke ∷ strokes) ink y x)) (λ ink. of ink (now ink) + of ink (later ink)) (inks_of p.inks)
-    (each-of (λ ink. of ink (λ y x. hits p above (stroke ∷ strokes) ink y x) ≡ of ink (now ink) + of ink (later ink)) (inks_of p.inks) (λ ink.
-    total-same (λ y x. is_at d (place_of p ink y x)) height width (λ y x. hits p above (stroke ∷ strokes) ink y x) (λ y x. now ink y x + later ink y x)
+    ∙ sym (sum-same (λ ink. of ink (λ y x. hits p above (stroke ∷ strokes) ink y x))
+    (λ ink. of ink (now ink) + of ink (later ink)) (inks_of p.inks)
+    (each-of (λ ink. of ink (λ y x. hits p above (stroke ∷ strokes) ink y x) ≡ of ink (now ink) + of ink (later ink))
+    (inks_of p.inks) (λ ink.
+    total-same (λ y x. is_at d (place_of p ink y x)) height width
+    (λ y x. hits p above (stroke ∷ strokes) ink y x) (λ y x. now ink y x + later ink y x)
     (λ y x low_y low_x. sum_by-cons (λ stroke. rows_hits p.pitch above y x stroke.start (stroke.rows ink)) stroke strokes)
     ∙ total-plus (λ y x. is_at d (place_of p ink y x)) height width (now ink) (later ink))))
 
@@ -84,7 +90,8 @@ strokes-total p d above height width (stroke ∷ strokes) whole on =
 -- Each place of the window is fired as often as it has a dot.
 abbrev pub FiresEachDot : Printer → Halftone → Strokes → Type 0
 FiresEachDot p h strokes =
-    AllByRecursion (λ ink. (y x : ℕ) → y < h.height → x < h.width → hits p strokes.above strokes.list ink y x ≡ cond (h.dot ink y x) 1 0) (inks_of p.inks)
+    AllByRecursion (λ ink. (y x : ℕ) → y < h.height
+    → x < h.width → hits p strokes.above strokes.list ink y x ≡ cond (h.dot ink y x) 1 0) (inks_of p.inks)
 
 -- Strokes that fire each place of a window as often as it has a dot fire exactly the halftone's dots: whichever nozzles
 -- fire a row, and in however many strokes.
@@ -100,9 +107,14 @@ fires-exactly p h strokes can whole on each =
     (by_ink d (inks_of p.inks) each)
     ∙ sym (wanted-total p h (is_at d))) (wanted-once p h can)
   where
-    by_ink : (d : Dot) (inks : List Ink) → AllByRecursion (λ ink. (y x : ℕ) → y < h.height → x < h.width → hits p strokes.above strokes.list ink y x ≡ cond (h.dot ink y x) 1 0) inks
-        → AllByRecursion (λ ink. total (λ y x. is_at d (place_of p ink y x)) h.height h.width (λ y x. hits p strokes.above strokes.list ink y x)
+    by_ink : (d : Dot) (inks : List Ink) → AllByRecursion (λ ink. (y x : ℕ)
+        → y < h.height → x < h.width → hits p strokes.above strokes.list ink y x ≡ cond (h.dot ink y x) 1 0) inks
+        → AllByRecursion (λ ink. total
+        (λ y x. is_at d (place_of p ink y x)) h.height h.width (λ y x. hits p strokes.above strokes.list ink y x)
         ≡ total (λ y x. is_at d (place_of p ink y x)) h.height h.width (λ y x. cond (h.dot ink y x) 1 0)) inks
     by_ink d [] each = tt
-    by_ink d (ink ∷ inks) each =
-        (total-same (λ y x. is_at d (place_of p ink y x)) h.height h.width (λ y x. hits p strokes.above strokes.list ink y x) (λ y x. cond (h.dot ink y x) 1 0) each.0, by_ink d inks each.1)
+    by_ink d (ink ∷ inks) each = (
+      total-same (λ y x. is_at d (place_of p ink y x)) h.height h.width (λ y x. hits
+          p strokes.above strokes.list ink y x) (λ y x. cond (h.dot ink y x) 1 0) each.0,
+      by_ink d inks each.1,
+    )

@@ -1,5 +1,6 @@
 -- How long the bytes of strokes are.
-use Rattle.std.proofs.Common.{◌≡◌, ℕ, zero, suc, ◌+◌, ◌-◌, ◌*◌, ◌/◌, ◌≤◌, Bool, true, false, cond, ◌==◌, if◌then◌else◌, List, [], ◌∷◌, ◌++◌, length, take, drop, ◌∙◌, ap, arith, length-append, length-drop, filter, flat_map}
+use Rattle.std.proofs.Common.{◌≡◌, ℕ, zero, suc, ◌+◌, ◌-◌, ◌*◌, ◌/◌, ◌≤◌, Bool, true, false, cond, ◌==◌, if◌then◌else◌, List, [], ◌∷◌, ◌++◌}
+use Rattle.std.proofs.Common.{length, take, drop, ◌∙◌, ap, arith, length-append, length-drop, filter, flat_map}
 use Rattle.std.specs.List.{AllByRecursion}
 use Rattle.std.proofs.lemmas.List.{length-map, length-take-le}
 use Rattle.std.proofs.lemmas.List.Sums.{count_by-le-length, length-filter}
@@ -13,7 +14,8 @@ use Rattle.escp2_definitions.specs.Written.{Coding, rows_apart, written_rows}
 use Rattle.escp2_laws.proofs.Canonical.{canonical-short}
 use Rattle.page_definitions.specs.Dots.{Halftone}
 use Rattle.page_definitions.specs.PageBytes.{halftone_bytes, page_coding, pass_stroke, weave}
-use Rattle.page_definitions.specs.Strokes.{IsWhole, Spoken, Stroke, Strokes, bytes_of, down_by, fires, has_dot, ink_commands, inks_commands, prologue, raster_head, say, strokes_bytes, strokes_commands}
+use Rattle.page_definitions.specs.Strokes.{IsWhole, Spoken, Stroke, Strokes, bytes_of, down_by, fires, has_dot, ink_commands, inks_commands}
+use Rattle.page_definitions.specs.Strokes.{prologue, raster_head, say, strokes_bytes, strokes_commands}
 use Rattle.weave_definitions.specs.Weave.{count_from, pass_count}
 use Rattle.page_laws.proofs.Spelled.{rows-len}
 use Rattle.page_laws.proofs.Printed.{bytes-append}
@@ -57,7 +59,8 @@ abbrev pub most_stroke : Printer → ℕ → ℕ
 most_stroke p width = 7 + length (inks_of p.inks) * most_ink p width
 
 -- the bytes of an ink of a stroke
-ink-short : (code : List ℕ → List ℕ) (p : Printer) (width coded : ℕ) (stroke : Stroke) (ink : Ink) → IsShortCode code → IsWhole p.nozzles width (stroke.rows ink)
+ink-short : (code : List ℕ → List ℕ) (p : Printer) (width coded : ℕ) (stroke : Stroke) (ink : Ink)
+    → IsShortCode code → IsWhole p.nozzles width (stroke.rows ink)
     → length (bytes_of code (ink_commands p width coded stroke ink)) ≤ most_ink p width
 ink-short code p width coded stroke ink short whole = by_dot (has_dot (stroke.rows ink))
   where
@@ -132,7 +135,8 @@ filter-whole {X = X} P test (x ∷ xs) all = by_head (test x) (filter-whole P te
     by_head true rest = (all.0, rest)
     by_head false rest = rest
 
--- Strokes of whole rows, by a code that gives at most twice the bytes of its row, make a job of at most so many bytes.
+-- Strokes of whole rows, by a code that gives at most twice the bytes of its row, make a job of at most this many
+-- bytes.
 pub bytes-short : (coding : Coding) (p : Printer) (width height len : ℕ) (strokes : Strokes) → IsShortCode coding.code
     → AllByRecursion (λ stroke. (ink : Ink) → IsWhole p.nozzles width (stroke.rows ink)) strokes.list
     → length (strokes_bytes coding p width height len strokes) ≤ 49 + length strokes.list * most_stroke p width
@@ -142,7 +146,9 @@ bytes-short coding p width height len strokes short whole =
     let fired : List Stroke = filter (fires p) strokes.list in
     let middle : List Spoken = strokes_commands p width coding.c 0 fired in
     let last : List Spoken = say c.Eject ∷ say c.Init ∷ [] in
-    let few : length fired * most_stroke p width ≤ length strokes.list * most_stroke p width = mul-le-mul_right (most_stroke p width) (omega (arith, length-filter (fires p) strokes.list, count_by-le-length (fires p) strokes.list)) in
+    let few : length fired * most_stroke p width ≤ length strokes.list * most_stroke p width =
+    mul-le-mul_right (most_stroke p width)
+    (omega (arith, length-filter (fires p) strokes.list, count_by-le-length (fires p) strokes.list)) in
     let all : AllByRecursion (λ stroke. (ink : Ink) → IsWhole p.nozzles width (stroke.rows ink)) fired =
     filter-whole (λ (stroke : Stroke). (ink : Ink) → IsWhole p.nozzles width (stroke.rows ink)) (fires p) strokes.list whole in
     omega (
@@ -163,7 +169,8 @@ unfolding halftone_bytes
 halftone-short p h len =
     let passes : ℕ = pass_count p.nozzles p.pitch h.height in
     let many : length (weave p h).list ≡ passes = length-map (count_from 0 passes) (pass_stroke p h) ∙ count_from-len 0 passes in
-    let whole = each-pass p h (λ stroke. (ink : Ink) → IsWhole p.nozzles h.width (stroke.rows ink)) (count_from 0 passes) (pass-whole p h) in
+    let whole = each-pass p h (λ stroke. (ink : Ink)
+    → IsWhole p.nozzles h.width (stroke.rows ink)) (count_from 0 passes) (pass-whole p h) in
     let all : length (halftone_bytes p h len) ≤ 49 + length (weave p h).list * most_stroke p h.width =
     bytes-short page_coding p h.width h.height len (weave p h) canonical-short whole in
     let grouped : 2 * (p.nozzles * ((h.width + 7) / 8)) ≡ 2 * p.nozzles * ((h.width + 7) / 8) = omega arith in

@@ -11,7 +11,7 @@ use Rattle.pwg_definitions.specs.declared.pages.PageForm.{PageForm}
 use Rattle.pwg_definitions.specs.Header.{IsWanted}
 use Rattle.weave_definitions.specs.Weave.{pass_count}
 
--- a place on paper is so many whole steps
+-- a place on paper is a whole number of steps
 places : (dpi n : ℕ) → (dpi ≡ 360) ⊎ (dpi ≡ 720) → n * 3600 / dpi ≡ n * (3600 / dpi)
 places dpi n (inl e) =
     let at : n * 3600 / 360 ≡ n * (3600 / 360) = omega arith in
@@ -20,7 +20,7 @@ places dpi n (inr e) =
     let at : n * 3600 / 720 ≡ n * (3600 / 720) = omega arith in
     ap (λ d. n * 3600 / d) e ∙ at ∙ sym (ap (λ d. n * (3600 / d)) e)
 
--- a step is 1 at least
+-- a step is at least 1
 steps : (dpi : ℕ) → (dpi ≡ 360) ⊎ (dpi ≡ 720) → 1 ≤ 3600 / dpi
 steps dpi (inl e) = let P : ℕ → Type 0 = λ d. 1 ≤ 3600 / d in subst P (sym e) (omega arith)
 steps dpi (inr e) = let P : ℕ → Type 0 = λ d. 1 ≤ 3600 / d in subst P (sym e) (omega arith)
@@ -47,11 +47,11 @@ longest dpi n (inr e) h =
 pub row_place : (p : Printer) (n : ℕ) → CanPrint p → n * 3600 / p.vdpi ≡ n * row_step p
 row_place p n c = places p.vdpi n c.down
 
--- columns and rows stand whole steps apart
+-- columns and rows are whole steps apart
 pub column_place : (p : Printer) (n : ℕ) → CanPrint p → n * 3600 / p.hdpi ≡ n * column_step p
 column_place p n c = places p.hdpi n c.across
 
--- steps and units are 1 at least
+-- steps and units are at least 1
 pub row_step-some : (p : Printer) → CanPrint p → 1 ≤ row_step p
 row_step-some p c = steps p.vdpi c.down
 
@@ -84,7 +84,7 @@ on_grid n step some =
     let same : n * step + 0 ≡ n * step = omega arith in
     ap (λ m. m % step) (sym same) ∙ mod-mul-add n step 0 (omega arith)
 
--- rows and columns stand in their order
+-- rows and columns are in their order
 pub rises : (a b step : ℕ) → 1 ≤ step → a < b → a * step < b * step
 rises a b step some less =
     let more : (a + 1) * step ≤ b * step = mul-le-mul_right step (omega arith) in omega arith
@@ -92,13 +92,14 @@ rises a b step some less =
 -- ---- the numbers of commands fit their ranges
 
 -- the sheet's length in units
-pub length-fits : (p : Printer) (h : Halftone) (tall : ℕ) → CanPrint p → Sized p h tall → (1 ≤ tall * row_units p) × (tall * row_units p ≤ 32767)
+pub length-fits : (p : Printer) (h : Halftone) (tall : ℕ)
+    → CanPrint p → Sized p h tall → (1 ≤ tall * row_units p) × (tall * row_units p ≤ 32767)
 length-fits p h tall can size =
     let some : 1 ≤ tall = omega (arith, size.some_height, size.low) in
     let rows : 1 * 1 ≤ tall * row_units p = mul-le-mul some (row_units-some p can) in
     (omega (arith, rows), omega (arith, size.short))
 
--- the margins of a window stand in their order, and on the sheet
+-- the margins of a window are in their order, and on the sheet
 pub margins-fit : (p : Printer) (h : Halftone) (above tall : ℕ) → CanPrint p → Sized p h tall
     → ((p.top - above) * row_units p < (p.top + h.height) * row_units p) × ((p.top + h.height) * row_units p ≤ 15840)
 margins-fit p h above tall can size =
@@ -125,7 +126,7 @@ form-sized p h form can is width height = record {
   short = sheet-longest p form.height can is.most_height;
 }
 
--- the first nozzle stands above the window's end in each pass
+-- the first nozzle is above the window's end in each pass
 pub pass-low : (n pitch height t : ℕ) → 1 ≤ n → t < pass_count n pitch height → t * n < (n - 1) * pitch + height
 pass-low n pitch height t some less =
     let all : ℕ = height + (n - 1) * pitch + (n - 1) in

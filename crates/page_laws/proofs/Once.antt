@@ -1,5 +1,6 @@
--- The dots that a page wants are distinct.
-use Rattle.std.proofs.Common.{◌≡◌, ℕ, zero, suc, ◌+◌, ◌*◌, ◌/◌, ◌<◌, ◌≤◌, Bool, true, false, cond, ◌&&◌, ◌==◌, if◌then◌else◌, List, [], ◌∷◌, ◌++◌, refl, sym, ◌∙◌, ap, arith, subst, append_assoc}
+-- The dots that a page asks for are distinct.
+use Rattle.std.proofs.Common.{◌≡◌, ℕ, zero, suc, ◌+◌, ◌*◌, ◌/◌, ◌<◌, ◌≤◌, Bool, true, false, cond, ◌&&◌, ◌==◌, if◌then◌else◌}
+use Rattle.std.proofs.Common.{List, [], ◌∷◌, ◌++◌, refl, sym, ◌∙◌, ap, arith, subst, append_assoc}
 use Rattle.std.proofs.lemmas.Bool.{eqb-true}
 use Rattle.std.proofs.lemmas.Bool.Decides.{nat_tests}
 use Rattle.std.proofs.lemmas.List.Sums.{sum_by-cons}
@@ -43,26 +44,35 @@ at-most-one place up z n (suc m) = by_place (z == place n) refl (at-most-one pla
         let same : z ≡ place n = eqb-true _ _ e in
         let next : place n < place (n + 1) = up n (n + 1) (omega arith) in
         let right : sum_by (λ i. cond (z == place i) 1 0) (count_from (n + 1) m) ≡ 0 = past-all place up z (n + 1) m (omega arith) in
-        let all : sum_by (λ i. cond (z == place i) 1 0) (count_from n (suc m)) ≡ 1 + sum_by (λ i. cond (z == place i) 1 0) (count_from (n + 1) m) =
-        sum_by-cons (λ i. cond (z == place i) 1 0) n (count_from (n + 1) m) ∙ ap (λ b. cond b 1 0 + sum_by (λ i. cond (z == place i) 1 0) (count_from (n + 1) m)) e in
+        let all : sum_by (λ i. cond (z == place i) 1 0) (count_from n (suc m))
+        ≡ 1 + sum_by (λ i. cond (z == place i) 1 0) (count_from (n + 1) m) =
+        sum_by-cons (λ i. cond (z == place i) 1 0) n (count_from (n + 1) m)
+        ∙ ap (λ b. cond b 1 0 + sum_by (λ i. cond (z == place i) 1 0) (count_from (n + 1) m)) e in
         omega arith
     by_place false e le =
-        let all : sum_by (λ i. cond (z == place i) 1 0) (count_from n (suc m)) ≡ 0 + sum_by (λ i. cond (z == place i) 1 0) (count_from (n + 1) m) =
-        sum_by-cons (λ i. cond (z == place i) 1 0) n (count_from (n + 1) m) ∙ ap (λ b. cond b 1 0 + sum_by (λ i. cond (z == place i) 1 0) (count_from (n + 1) m)) e in
+        let all : sum_by (λ i. cond (z == place i) 1 0) (count_from n (suc m))
+        ≡ 0 + sum_by (λ i. cond (z == place i) 1 0) (count_from (n + 1) m) =
+        sum_by-cons (λ i. cond (z == place i) 1 0) n (count_from (n + 1) m)
+        ∙ ap (λ b. cond b 1 0 + sum_by (λ i. cond (z == place i) 1 0) (count_from (n + 1) m)) e in
         omega arith
 
 -- ---- the dots of a halftone
 
 -- a test of three parts counts no more than each of them
-part-most : (a b d : Bool) → record { first : cond (a && b && d) 1 0 ≤ cond a 1 0; second : cond (a && b && d) 1 0 ≤ cond b 1 0; third : cond (a && b && d) 1 0 ≤ cond d 1 0 }
+part-most : (a b d : Bool) → record {
+  first : cond (a && b && d) 1 0 ≤ cond a 1 0;
+  second : cond (a && b && d) 1 0 ≤ cond b 1 0;
+  third : cond (a && b && d) 1 0 ≤ cond d 1 0;
+}
 part-most true true true = record { first = omega arith; second = omega arith; third = omega arith }
 part-most true true false = record { first = omega arith; second = omega arith; third = omega arith }
 part-most true false true = record { first = omega arith; second = omega arith; third = omega arith }
 part-most true false false = record { first = omega arith; second = omega arith; third = omega arith }
 part-most false b d = record { first = omega arith; second = omega arith; third = omega arith }
 
--- a pixel has one dot at most, at its place
-pixel-most : (p : Printer) (h : Halftone) (d : Dot) (ink : Ink) (y x : ℕ) → count_by (is_at d) (pixel_dots p h ink y x) ≤ cond (is_at d (place_of p ink y x)) 1 0
+-- a pixel has at most one dot, at its place
+pixel-most : (p : Printer) (h : Halftone) (d : Dot) (ink : Ink) (y x : ℕ)
+    → count_by (is_at d) (pixel_dots p h ink y x) ≤ cond (is_at d (place_of p ink y x)) 1 0
 pixel-most p h d ink y x = by_dot (h.dot ink y x)
   where
     by_dot : (b : Bool) → count_by (is_at d) (if b then place_of p ink y x ∷ [] else []) ≤ cond (is_at d (place_of p ink y x)) 1 0
@@ -82,7 +92,7 @@ row-once p h d ink y c =
     let q = part-most (same_ink d.ink ink) (d.x == place x) (d.y == (p.top + y) * 3600 / p.vdpi) in omega (arith, e, q.second)) in
     omega (arith, sum, at-most-one place up d.x 0 h.width)
 
--- a row has its dots in its place alone
+-- a row has its dots only in its own place
 row-of : (p : Printer) (h : Halftone) (d : Dot) (ink : Ink) (y : ℕ) → CanPrint p
     → count_by (is_at d) (row_wanted p h ink y) ≤ cond (d.y == (p.top + y) * 3600 / p.vdpi) 1 0
 row-of p h d ink y c = by_row (d.y == (p.top + y) * 3600 / p.vdpi) refl
@@ -104,14 +114,16 @@ ink-once : (p : Printer) (h : Halftone) (d : Dot) (ink : Ink) → CanPrint p →
 ink-once p h d ink c =
     let place : ℕ → ℕ = λ y. (p.top + y) * 3600 / p.vdpi in
     let up : (a b : ℕ) → a < b → place a < place b = λ a b less.
-    let r : (p.top + a) * row_step p < (p.top + b) * row_step p = rises (p.top + a) (p.top + b) (row_step p) (row_step-some p c) (omega arith) in
+    let r : (p.top + a) * row_step p < (p.top + b) * row_step p =
+    rises (p.top + a) (p.top + b) (row_step p) (row_step-some p c) (omega arith) in
     omega (arith, row_place p (p.top + a) c, row_place p (p.top + b) c) in
     let sum : count_by (is_at d) (ink_wanted p h ink) ≤ sum_by (λ y. cond (d.y == place y) 1 0) (count_from 0 h.height) =
     flat-most (is_at d) (row_wanted p h ink) (λ y. cond (d.y == place y) 1 0) (count_from 0 h.height) (λ y. row-of p h d ink y c) in
     omega (arith, sum, at-most-one place up d.y 0 h.height)
 
--- an ink has its own dots alone
-ink-of : (p : Printer) (h : Halftone) (d : Dot) (ink : Ink) → CanPrint p → count_by (is_at d) (ink_wanted p h ink) ≤ cond (same_ink d.ink ink) 1 0
+-- an ink has only its own dots
+ink-of : (p : Printer) (h : Halftone) (d : Dot) (ink : Ink)
+    → CanPrint p → count_by (is_at d) (ink_wanted p h ink) ≤ cond (same_ink d.ink ink) 1 0
 ink-of p h d ink c = by_same (same_ink d.ink ink) refl
   where
     by_same : (b : Bool) → same_ink d.ink ink ≡ b → count_by (is_at d) (ink_wanted p h ink) ≤ cond b 1 0
@@ -142,7 +154,7 @@ set-most Cmyk Cyan = omega arith
 set-most Cmyk Magenta = omega arith
 set-most Cmyk Yellow = omega arith
 
--- No dot stands twice in the list.
+-- No dot is in the list twice.
 abbrev pub Once : List Dot → Type 0
 Once dots = (d : Dot) → count_by (is_at d) dots ≤ 1
 
@@ -153,11 +165,12 @@ wanted-once p h c d =
     flat-most (is_at d) (ink_wanted p h) (λ ink. cond (same_ink d.ink ink) 1 0) (inks_of p.inks) (λ ink. ink-of p h d ink c) in
     omega (arith, sum, set-most p.inks d.ink)
 
--- Dots that are counted as places are that stand once are exactly these.
-pub exactly : (dots places : List Dot) → ((d : Dot) → count_by (is_at d) dots ≡ count_by (is_at d) places) → Once places → Exactly dots places
+-- Dots that are counted as often as places, each of which occurs once, are exactly these places.
+pub exactly : (dots places : List Dot)
+    → ((d : Dot) → count_by (is_at d) dots ≡ count_by (is_at d) places) → Once places → Exactly dots places
 exactly dots places same once = record { counts = λ d. same d ∙ few (is_at d) places (once d) }
 
--- Dots that are exactly these places stand once.
+-- Dots that are exactly these places occur once.
 pub exactly-once : (dots places : List Dot) → Exactly dots places → Once dots
 exactly-once dots places is d = by_any (list_any (is_at d) places) (is.counts d)
   where
@@ -167,7 +180,7 @@ exactly-once dots places is d = by_any (list_any (is_at d) places) (is.counts d)
 
 -- ---- dots among others
 
--- dots that stand once in a list stand once in a prefix of it
+-- dots that occur once in a list occur once in a prefix of it
 pub once-front : (a b more : List Dot) → Once (a ++ (b ++ more)) → Once (a ++ b)
 once-front a b more once d =
     omega (arith, once d, count-append (is_at d) a (b ++ more), count-append (is_at d) b more, count-append (is_at d) a b)

@@ -1,5 +1,6 @@
 -- Rows of dots that are packed into bytes are taken out again.
-use Rattle.std.proofs.Common.{◌≡◌, ℕ, zero, suc, ◌+◌, ◌*◌, ◌/◌, ◌≤◌, Bool, true, false, ◌&&◌, List, [], ◌∷◌, ◌++◌, length, take, drop, refl, sym, ◌∙◌, ap, arith}
+use Rattle.std.proofs.Common.{◌≡◌, ℕ, zero, suc, ◌+◌, ◌*◌, ◌/◌, ◌≤◌, Bool, true, false, ◌&&◌, List, [], ◌∷◌, ◌++◌}
+use Rattle.std.proofs.Common.{length, take, drop, refl, sym, ◌∙◌, ap, arith}
 use Rattle.std.proofs.lemmas.List.{take_all}
 use Rattle.escp2_definitions.specs.Machine.{bits, byte_bits}
 use Rattle.escp2_definitions.specs.Packed.{at, packed, packed_bytes, worth}
@@ -19,7 +20,7 @@ same_bits (true ∷ xs) (false ∷ ys) = false
 same_bits (false ∷ xs) (true ∷ ys) = false
 same_bits (false ∷ xs) (false ∷ ys) = same_bits xs ys
 
--- rows that are told equal are equal
+-- rows that the test finds equal are equal
 same_bits-is : (xs ys : List Bool) → same_bits xs ys ≡ true → xs ≡ ys
 unfolding same_bits
 same_bits-is [] [] e = refl
@@ -68,16 +69,19 @@ byte_bits-worths a b d e f g h i =
     let from_e : Bool → Bool = λ x. both (λ v. both (λ w. both (λ y. both (λ z. test_byte a b d x v w y z)))) in
     let from_d : Bool → Bool = λ x. both (λ u. both (λ v. both (λ w. both (λ y. both (λ z. test_byte a b x u v w y z))))) in
     let from_b : Bool → Bool = λ x. both (λ t. both (λ u. both (λ v. both (λ w. both (λ y. both (λ z. test_byte a x t u v w y z)))))) in
-    let from_a : Bool → Bool = λ x. both (λ s. both (λ t. both (λ u. both (λ v. both (λ w. both (λ y. both (λ z. test_byte x s t u v w y z))))))) in
-    same_bits-is _ _ (both-at (test_byte a b d e f g h) (both-at from_h (both-at from_g (both-at from_f (both-at from_e (both-at from_d (both-at from_b (both-at from_a all_bytes a) b) d) e) f) g) h) i)
+    let from_a : Bool → Bool = λ x. both
+    (λ s. both (λ t. both (λ u. both (λ v. both (λ w. both (λ y. both (λ z. test_byte x s t u v w y z))))))) in
+    same_bits-is _ _ (both-at (test_byte a b d e f g h) (both-at from_h (both-at from_g (both-at from_f
+    (both-at from_e (both-at from_d (both-at from_b (both-at from_a all_bytes a) b) d) e) f) g) h) i)
 
 -- the first byte of a row, as it is taken out
 front : (n : ℕ) (row : List Bool) → take (length row) (bits (packed_bytes (suc n) row))
-    ≡ take (length row) (at row 0 ∷ at row 1 ∷ at row 2 ∷ at row 3 ∷ at row 4 ∷ at row 5 ∷ at row 6 ∷ at row 7 ∷ bits (packed_bytes n (drop 8 row)))
+    ≡ take (length row) (at row 0 ∷ at row 1
+    ∷ at row 2 ∷ at row 3 ∷ at row 4 ∷ at row 5 ∷ at row 6 ∷ at row 7 ∷ bits (packed_bytes n (drop 8 row)))
 front n row = ap (λ bs. take (length row) (bs ++ bits (packed_bytes n (drop 8 row))))
     (byte_bits-worths (at row 0) (at row 1) (at row 2) (at row 3) (at row 4) (at row 5) (at row 6) (at row 7))
 
--- the packed bytes hold the row, and blanks behind it
+-- the packed bytes hold the row, followed by blanks
 pub bits-packed_bytes : (n : ℕ) (row : List Bool) → length row ≤ n * 8 → take (length row) (bits (packed_bytes n row)) ≡ row
 bits-packed_bytes zero [] fits = refl
 bits-packed_bytes zero (a ∷ row) fits = absurd (omega arith)

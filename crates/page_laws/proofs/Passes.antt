@@ -1,5 +1,6 @@
 -- The rows of a pass are whole, and on the window.
-use Rattle.std.proofs.Common.{◌≡◌, ℕ, zero, suc, ◌+◌, ◌-◌, ◌*◌, ◌<◌, ◌≤◌, Bool, true, false, ◌&&◌, nat_lt, nat_le, if◌then◌else◌, List, [], ◌∷◌, length, map, replicate, Option, None, Some, refl, sym, ◌∙◌, ap, arith}
+use Rattle.std.proofs.Common.{◌≡◌, ℕ, zero, suc, ◌+◌, ◌-◌, ◌*◌, ◌<◌, ◌≤◌, Bool, true, false, ◌&&◌, nat_lt, nat_le, if◌then◌else◌, List, []}
+use Rattle.std.proofs.Common.{◌∷◌, length, map, replicate, Option, None, Some, refl, sym, ◌∙◌, ap, arith}
 use Rattle.std.specs.Prelude.{slice_index_or}
 use Rattle.std.specs.List.{list_any}
 use Rattle.std.proofs.lemmas.Bool.{leb-true, ltb-true}
@@ -15,7 +16,7 @@ use Rattle.page_laws.proofs.Fired.{AllWide}
 
 -- ---- lists of numbers
 
--- so many numbers
+-- their number
 pub count_from-len : (n many : ℕ) → length (count_from n many) ≡ many
 count_from-len n zero = refl
 count_from-len n (suc many) = ap suc (count_from-len (n + 1) many)
@@ -24,7 +25,8 @@ count_from-len n (suc many) = ap suc (count_from-len (n + 1) many)
 pub at-counted : (on : ℕ → Bool) (n many x : ℕ) → x < many → at (map on (count_from n many)) x ≡ on (n + x)
 at-counted on n zero x low = absurd (omega arith)
 at-counted on n (suc many) zero low = ap on (let same : n ≡ n + 0 = omega arith in same)
-at-counted on n (suc many) (suc x) low = at-counted on (n + 1) many x (omega arith) ∙ ap on (let same : n + 1 + x ≡ n + suc x = omega arith in same)
+at-counted on n (suc many) (suc x) low =
+    at-counted on (n + 1) many x (omega arith) ∙ ap on (let same : n + 1 + x ≡ n + suc x = omega arith in same)
 
 -- a blank row has no dot
 pub no-dot : (n x : ℕ) → at (replicate n false) x ≡ false
@@ -32,7 +34,7 @@ no-dot zero x = refl
 no-dot (suc n) zero = refl
 no-dot (suc n) (suc x) = no-dot n x
 
--- a blank row is told blank
+-- the test finds a blank row blank
 blank : (n : ℕ) → list_any (λ on. on) (replicate n false) ≡ false
 blank zero = refl
 blank (suc n) = blank n
@@ -50,7 +52,8 @@ nozzle_row-is n pitch height t i y e = by_test (nat_le first place) (nat_lt (pla
     first : ℕ
     first = (n - 1) * pitch
 
-    by_test : (a b : Bool) → nat_le first place ≡ a → nat_lt (place - first) height ≡ b → (if a && b then Some (place - first) else None) ≡ Some y
+    by_test : (a b : Bool) → nat_le first place ≡ a
+        → nat_lt (place - first) height ≡ b → (if a && b then Some (place - first) else None) ≡ Some y
         → record { sum : place ≡ first + y; low : y < height }
     by_test true true ea eb e =
         let row : place - first ≡ y = cc in
@@ -67,7 +70,7 @@ fired_row-len : (h : Halftone) (ink : Ink) (row : Option ℕ) → length (fired_
 fired_row-len h ink None = length-replicate {A = Bool} h.width false
 fired_row-len h ink (Some y) = length-map (count_from 0 h.width) (h.dot ink y) ∙ count_from-len 0 h.width
 
--- so are the rows of nozzles
+-- the same for the rows of nozzles
 all-wide : (h : Halftone) (ink : Ink) (row : ℕ → Option ℕ) (is : List ℕ) → AllWide h.width (map (λ i. fired_row h ink (row i)) is)
 all-wide h ink row [] = tt
 all-wide h ink row (i ∷ is) = (fired_row-len h ink (row i), all-wide h ink row is)
@@ -76,11 +79,15 @@ all-wide h ink row (i ∷ is) = (fired_row-len h ink (row i), all-wide h ink row
 pub pass-whole : (p : Printer) (h : Halftone) (t : ℕ) (ink : Ink) → IsWhole p.nozzles h.width (pass_rows p h t ink)
 pass-whole p h t ink =
     let row : ℕ → Option ℕ = λ i. nozzle_row p.nozzles p.pitch h.height t i in
-    record { many = length-map (count_from 0 p.nozzles) (λ i. fired_row h ink (row i)) ∙ count_from-len 0 p.nozzles; wide = all-wide h ink row (count_from 0 p.nozzles) }
+    record {
+      many = length-map (count_from 0 p.nozzles) (λ i. fired_row h ink (row i)) ∙ count_from-len 0 p.nozzles;
+      wide = all-wide h ink row (count_from 0 p.nozzles);
+    }
 
--- a nozzle that fires a dot stands over a row of the window
+-- a nozzle that fires a dot is on a row of the window
 over : (h : Halftone) (ink : Ink) (row : ℕ → Option ℕ) (n many i : ℕ)
-    → list_any (λ on. on) (slice_index_or (map (λ i. fired_row h ink (row i)) (count_from n many)) i []) ≡ true → (y : ℕ) × (row (n + i) ≡ Some y)
+    → list_any (λ on. on) (slice_index_or (map (λ i. fired_row h ink (row i)) (count_from n many)) i []) ≡ true
+    → (y : ℕ) × (row (n + i) ≡ Some y)
 over h ink row n zero i e = absurd (let no : ⊥ = cc in no)
 over h ink row n (suc many) zero e = by_row (row n) refl e
   where
@@ -90,8 +97,9 @@ over h ink row n (suc many) zero e = by_row (row n) refl e
 over h ink row n (suc many) (suc i) e =
     let there = over h ink row (n + 1) many i e in (there.0, ap row (let same : n + suc i ≡ n + 1 + i = omega arith in same) ∙ there.1)
 
--- a pass fires on the window alone
-pub pass-on_window : (p : Printer) (h : Halftone) (t : ℕ) (ink : Ink) → IsOnWindow p.pitch (head_rows p) h.height (t * p.nozzles) (pass_rows p h t ink)
+-- a pass fires only on the window
+pub pass-on_window : (p : Printer) (h : Halftone) (t : ℕ) (ink : Ink)
+    → IsOnWindow p.pitch (head_rows p) h.height (t * p.nozzles) (pass_rows p h t ink)
 pass-on_window p h t ink = record {
   row = λ i e.
       let there = over h ink (nozzle_row p.nozzles p.pitch h.height t) 0 p.nozzles i e in

@@ -18,13 +18,19 @@ use Rattle.page_laws.proofs.Fired.{or-false}
 use Rattle.page_laws.proofs.Totals.{total, wanted-total}
 
 -- a sum over a set, of which one ink counts
-only : (set : InkSet) (i : ℕ) (ink : Ink) (f : Ink → ℕ) → slice_get (inks_of set) i ≡ Some ink → ((other : Ink) → same_ink ink other ≡ false → f other ≡ 0)
+only : (set : InkSet) (i : ℕ) (ink : Ink) (f : Ink → ℕ)
+    → slice_get (inks_of set) i ≡ Some ink → ((other : Ink) → same_ink ink other ≡ false → f other ≡ 0)
     → sum_by f (inks_of set) ≡ f ink
 only K zero ink f e others = let same : Black ≡ ink = cc in omega (arith, ap f same)
 only K (suc i) ink f e others = cc
 only Cmy zero ink f e others =
     let same : Cyan ≡ ink = cc in
-    omega (arith, ap f same, others Magenta (ap (λ k. same_ink k Magenta) (sym same)), others Yellow (ap (λ k. same_ink k Yellow) (sym same)))
+    omega (
+      arith,
+      ap f same,
+      others Magenta (ap (λ k. same_ink k Magenta) (sym same)),
+      others Yellow (ap (λ k. same_ink k Yellow) (sym same)),
+    )
 only Cmy (suc zero) ink f e others =
     let same : Magenta ≡ ink = cc in
     omega (arith, ap f same, others Cyan (ap (λ k. same_ink k Cyan) (sym same)), others Yellow (ap (λ k. same_ink k Yellow) (sym same)))
@@ -34,20 +40,47 @@ only Cmy (suc (suc zero)) ink f e others =
 only Cmy (suc (suc (suc i))) ink f e others = cc
 only Cmyk zero ink f e others =
     let same : Black ≡ ink = cc in
-    omega (arith, ap f same, others Cyan (ap (λ k. same_ink k Cyan) (sym same)), others Magenta (ap (λ k. same_ink k Magenta) (sym same)), others Yellow (ap (λ k. same_ink k Yellow) (sym same)))
+    omega (
+      arith,
+      ap f same,
+      others Cyan (ap (λ k. same_ink k Cyan) (sym same)),
+      others Magenta
+          (ap (λ k. same_ink k Magenta) (sym same)),
+      others Yellow (ap (λ k. same_ink k Yellow) (sym same)),
+    )
 only Cmyk (suc zero) ink f e others =
     let same : Cyan ≡ ink = cc in
-    omega (arith, ap f same, others Black (ap (λ k. same_ink k Black) (sym same)), others Magenta (ap (λ k. same_ink k Magenta) (sym same)), others Yellow (ap (λ k. same_ink k Yellow) (sym same)))
+    omega (
+      arith,
+      ap f same,
+      others Black (ap (λ k. same_ink k Black) (sym same)),
+      others Magenta
+          (ap (λ k. same_ink k Magenta) (sym same)),
+      others Yellow (ap (λ k. same_ink k Yellow) (sym same)),
+    )
 only Cmyk (suc (suc zero)) ink f e others =
     let same : Magenta ≡ ink = cc in
-    omega (arith, ap f same, others Black (ap (λ k. same_ink k Black) (sym same)), others Cyan (ap (λ k. same_ink k Cyan) (sym same)), others Yellow (ap (λ k. same_ink k Yellow) (sym same)))
+    omega (
+      arith,
+      ap f same,
+      others Black (ap (λ k. same_ink k Black) (sym same)),
+      others Cyan (ap (λ k. same_ink k Cyan) (sym same)),
+      others Yellow (ap (λ k. same_ink k Yellow) (sym same)),
+    )
 only Cmyk (suc (suc (suc zero))) ink f e others =
     let same : Yellow ≡ ink = cc in
-    omega (arith, ap f same, others Black (ap (λ k. same_ink k Black) (sym same)), others Cyan (ap (λ k. same_ink k Cyan) (sym same)), others Magenta (ap (λ k. same_ink k Magenta) (sym same)))
+    omega (
+      arith,
+      ap f same,
+      others Black (ap (λ k. same_ink k Black) (sym same)),
+      others Cyan (ap (λ k. same_ink k Cyan) (sym same)),
+      others Magenta (ap (λ k. same_ink k Magenta) (sym same)),
+    )
 only Cmyk (suc (suc (suc (suc i)))) ink f e others = cc
 
 -- a sum over a set without the ink that counts
-without : (inks : List Ink) (ink : Ink) (f : Ink → ℕ) → list_any (same_ink ink) inks ≡ false → ((other : Ink) → same_ink ink other ≡ false → f other ≡ 0)
+without : (inks : List Ink) (ink : Ink) (f : Ink → ℕ)
+    → list_any (same_ink ink) inks ≡ false → ((other : Ink) → same_ink ink other ≡ false → f other ≡ 0)
     → sum_by f inks ≡ 0
 without [] ink f e others = refl
 without (other ∷ inks) ink f e others =
@@ -59,22 +92,26 @@ no-total : (b : Bool) (height width : ℕ) (g : ℕ → ℕ → ℕ) → b ≡ f
 no-total b height width g e =
     sum-none (λ y. sum_by (λ x. cond b (g y x) 0) (count_from 0 width)) (count_from 0 height)
     (each-of (λ y. sum_by (λ x. cond b (g y x) 0) (count_from 0 width) ≡ 0) (count_from 0 height) (λ y.
-    sum-none (λ x. cond b (g y x) 0) (count_from 0 width) (each-of (λ x. cond b (g y x) 0 ≡ 0) (count_from 0 width) (λ x. ap (λ b. cond b (g y x) 0) e))))
+    sum-none (λ x. cond b (g y x) 0) (count_from 0 width)
+    (each-of (λ x. cond b (g y x) 0 ≡ 0) (count_from 0 width) (λ x. ap (λ b. cond b (g y x) 0) e))))
 
 -- the dots of an ink in a halftone
 ink_dots : Halftone → Ink → Ink → ℕ
 ink_dots h ink other = total (λ y x. same_ink ink other) h.height h.width (λ y x. cond (h.dot other y x) 1 0)
 
 -- An ink of the set has as many dots as its plane.
-pub plane-counts : (p : Printer) (h : Halftone) (width rows inks : ℕ) (dot : ℕ → ℕ → ℕ → Bool) (i : ℕ) (ink : Ink) → HasDots p h width rows inks dot
+pub plane-counts : (p : Printer) (h : Halftone) (width rows inks : ℕ) (dot : ℕ → ℕ → ℕ → Bool) (i : ℕ) (ink : Ink)
+    → HasDots p h width rows inks dot
     → slice_get (inks_of p.inks) i ≡ Some ink
-    → count_by (λ (d : Dot). same_ink ink d.ink) (dots_wanted p h) ≡ sum_by (λ y. count_by (λ x. dot i y x) (count_from 0 width)) (count_from 0 rows)
+    → count_by (λ (d : Dot). same_ink ink d.ink) (dots_wanted p h)
+    ≡ sum_by (λ y. count_by (λ x. dot i y x) (count_from 0 width)) (count_from 0 rows)
 unfolding ink_dots
 plane-counts p h width rows inks dot i ink has e =
     let row : ℕ → ℕ → ℕ = λ w y. count_by (λ x. dot i y x) (count_from 0 w) in
     let itself : same_ink ink ink ≡ true = eq-eqb (ink_place ink) (ink_place ink) refl in
     wanted-total p h (λ d. same_ink ink d.ink)
-    ∙ only p.inks i ink (ink_dots h ink) e (λ other apart. no-total (same_ink ink other) h.height h.width (λ y x. cond (h.dot other y x) 1 0) apart)
+    ∙ only p.inks i ink (ink_dots h ink) e
+    (λ other apart. no-total (same_ink ink other) h.height h.width (λ y x. cond (h.dot other y x) 1 0) apart)
     ∙ ap (λ b. total (λ y x. b) h.height h.width (λ y x. cond (h.dot ink y x) 1 0)) itself
     ∙ sum-same (λ y. count_by (λ x. h.dot ink y x) (count_from 0 h.width)) (row h.width) (count_from 0 h.height)
     (each-from (λ y. count_by (λ x. h.dot ink y x) (count_from 0 h.width) ≡ row h.width y) 0 h.height (λ y first_y last_y.
@@ -90,4 +127,5 @@ pub other-counts : (p : Printer) (h : Halftone) (ink : Ink) → list_any (same_i
 unfolding ink_dots
 other-counts p h ink e =
     wanted-total p h (λ d. same_ink ink d.ink)
-    ∙ without (inks_of p.inks) ink (ink_dots h ink) e (λ other apart. no-total (same_ink ink other) h.height h.width (λ y x. cond (h.dot other y x) 1 0) apart)
+    ∙ without (inks_of p.inks) ink (ink_dots h ink) e
+    (λ other apart. no-total (same_ink ink other) h.height h.width (λ y x. cond (h.dot other y x) 1 0) apart)

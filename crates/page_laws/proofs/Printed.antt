@@ -32,17 +32,21 @@ pub strokes-lie : (p : Printer) (h : Halftone) (coding : Coding) (tall : ℕ) (s
 strokes-lie p h coding tall strokes fire = all-lie (layout_of p h coding strokes.above tall) strokes.list fire.whole fire.on_window
 
 -- Each command of strokes that print a halftone is in the table.
-pub commands-sayable : (p : Printer) (h : Halftone) (coding : Coding) (tall : ℕ) (strokes : Strokes) → CanPrint p → IsCoding coding → Sized p h tall → Fires p h strokes
+pub commands-sayable : (p : Printer) (h : Halftone) (coding : Coding) (tall : ℕ) (strokes : Strokes)
+    → CanPrint p → IsCoding coding → Sized p h tall → Fires p h strokes
     → AllSayable coding (page_commands p h.width h.height coding.c (tall * row_units p) strokes)
 commands-sayable p h coding tall strokes can is_coding size fire =
-    page-sayable (layout_of p h coding strokes.above tall) strokes.list (record { can = can; coding = is_coding; size = size; room = fire.room })
+    page-sayable (layout_of p h coding strokes.above tall) strokes.list
+    (record { can = can; coding = is_coding; size = size; room = fire.room })
     (strokes-lie p h coding tall strokes fire)
 
 -- It is spelled by its bytes.
-pub commands-spoken : (p : Printer) (h : Halftone) (coding : Coding) (tall : ℕ) (strokes : Strokes) → CanPrint p → IsCoding coding → Sized p h tall → Fires p h strokes
+pub commands-spoken : (p : Printer) (h : Halftone) (coding : Coding) (tall : ℕ) (strokes : Strokes)
+    → CanPrint p → IsCoding coding → Sized p h tall → Fires p h strokes
     → AllSpoken coding (page_commands p h.width h.height coding.c (tall * row_units p) strokes)
 commands-spoken p h coding tall strokes can is_coding size fire =
-    sayable-spoken coding (page_commands p h.width h.height coding.c (tall * row_units p) strokes) is_coding (commands-sayable p h coding tall strokes can is_coding size fire)
+    sayable-spoken coding (page_commands p h.width h.height coding.c (tall * row_units p) strokes) is_coding
+    (commands-sayable p h coding tall strokes can is_coding size fire)
 
 -- ---- the bytes are read as the commands
 
@@ -57,19 +61,22 @@ said_bytes-is code [] = refl
 said_bytes-is code (s ∷ job) = ap (λ bs. written code s.command s.rows ++ bs) (said_bytes-is code job)
 
 -- what the bytes of commands say
-pub read : (coding : Coding) (job : List Spoken) → AllSpoken coding job → commands (bytes_of coding.code job) ≡ record { entries = entries coding.code 0 job; end = Whole }
+pub read : (coding : Coding) (job : List Spoken) → AllSpoken coding job
+    → commands (bytes_of coding.code job) ≡ record { entries = entries coding.code 0 job; end = Whole }
 read coding job all = ap commands (said_bytes-is coding.code job) ∙ commands-said (map (said coding.code) job) (spoken-said coding job all)
 
 -- the bytes of two jobs, one after the other
 pub bytes-append : (code : List ℕ → List ℕ) (xs ys : List Spoken) → bytes_of code (xs ++ ys) ≡ bytes_of code xs ++ bytes_of code ys
 bytes-append code [] ys = refl
 bytes-append code (x ∷ xs) ys =
-    ap (λ bs. written code x.command x.rows ++ bs) (bytes-append code xs ys) ∙ sym (append_assoc (written code x.command x.rows) (bytes_of code xs) (bytes_of code ys))
+    ap (λ bs. written code x.command x.rows ++ bs) (bytes-append code xs ys)
+    ∙ sym (append_assoc (written code x.command x.rows) (bytes_of code xs) (bytes_of code ys))
 
 -- ---- one sheet
 
 -- The strokes that print a halftone give it on one sheet.
-pub strokes-print : (p : Printer) (h : Halftone) (coding : Coding) (strokes : Strokes) (tall : ℕ) → CanPrint p → IsCoding coding → Sized p h tall → Fires p h strokes
+pub strokes-print : (p : Printer) (h : Halftone) (coding : Coding) (strokes : Strokes) (tall : ℕ)
+    → CanPrint p → IsCoding coding → Sized p h tall → Fires p h strokes
     → GivesSheet p (strokes_bytes coding p h.width h.height (tall * row_units p) strokes) (dots_wanted p h)
 unfolding execute_from
 strokes-print p h coding strokes tall can is_coding size fire =
@@ -89,7 +96,8 @@ strokes-print p h coding strokes tall can is_coding size fire =
           let E : List Dot → Type 0 = λ ds. Exactly ds (dots_wanted p h) in
           record {
             sheet = sheet;
-            is = ap (λ (j : CommandList). execute_from p m j.entries) reads ∙ ap (λ j. execute_from p m (entries coding.code 0 j)) (sym (append-nil job)) ∙ run.3;
+            is = ap (λ (j : CommandList). execute_from p m j.entries) reads
+                ∙ ap (λ j. execute_from p m (entries coding.code 0 j)) (sym (append-nil job)) ∙ run.3;
             exactly = subst E (sym run.2) fire.once;
           };
     }

@@ -1,5 +1,6 @@
 -- What the machine makes of the prologue, and of a step down.
-use Rattle.std.proofs.Common.{◌≡◌, ℕ, zero, suc, ◌+◌, ◌-◌, ◌*◌, ◌<◌, ◌≤◌, Bool, true, false, nat_lt, List, [], ◌∷◌, ◌++◌, length, Option, Some, refl, sym, ◌∙◌, ap, arith}
+use Rattle.std.proofs.Common.{◌≡◌, ℕ, zero, suc, ◌+◌, ◌-◌, ◌*◌, ◌<◌, ◌≤◌, Bool, true, false, nat_lt, List, [], ◌∷◌}
+use Rattle.std.proofs.Common.{◌++◌, length, Option, Some, refl, sym, ◌∙◌, ap, arith}
 use Rattle.std.proofs.lemmas.Bool.{le-ltb}
 use Rattle.std.proofs.Math.Nat.{mul-le-mul_right}
 use Rattle.printer_definitions.specs.declared.inks.Ink.TheVariants.{Black}
@@ -10,12 +11,14 @@ use Rattle.escp2_definitions.specs.declared.stops.EmuFault.TheVariants.{NoUnit, 
 use Rattle.escp2_definitions.specs.Machine.{Dot, Machine, after, first_fault, refuse, start}
 use Rattle.page_definitions.specs.Strokes.{Spoken, down_by, say}
 use Rattle.page_laws.proofs.Numbers.{margins-fit, row_units-is}
-use Rattle.page_laws.proofs.Running.{Comes, Goes, IsLayout, Layout, begins, comes-as, comes-here, comes-then, first_of, last_of, len_of, one, paused}
+use Rattle.page_laws.proofs.Running.{Comes, Goes, IsLayout, Layout, begins, comes-as, comes-here, comes-then}
+use Rattle.page_laws.proofs.Running.{first_of, last_of, len_of, one, paused}
 
 -- ---- the prologue
 
--- From a machine whose sheet has no dot, the prologue leads to the head's first place.
-pub prologue-run : (w : Layout) (m : Machine) (job : List Spoken) → IsLayout w → m.dots ≡ [] → Comes w m (begins w ++ job) (paused w 0 0 1 Black []) job
+-- From a machine whose sheet has no dot, the prologue leads to the head's first position.
+pub prologue-run : (w : Layout) (m : Machine) (job : List Spoken)
+    → IsLayout w → m.dots ≡ [] → Comes w m (begins w ++ job) (paused w 0 0 1 Black []) job
 prologue-run w m job is blank =
     let len : ℕ = len_of w in
     let first : ℕ = first_of w in
@@ -41,7 +44,8 @@ prologue-run w m job is blank =
     let j0 : List Spoken = say c.Init ∷ j1 in
     let may_begin : Bool → Option EmuFault = λ b. first_fault (refuse b Backward ∷ []) in
     let fits : Bool → Option EmuFault = λ b. first_fault (refuse false NoUnit ∷ refuse false Backward ∷ refuse b OffSheet ∷ []) in
-    let fits_margins : Bool → Option EmuFault = λ b. first_fault (refuse false NoUnit ∷ refuse false NoMargins ∷ refuse false Backward ∷ refuse b OffSheet ∷ []) in
+    let fits_margins : Bool → Option EmuFault = λ b.
+    first_fault (refuse false NoUnit ∷ refuse false NoMargins ∷ refuse false Backward ∷ refuse b OffSheet ∷ []) in
     let from_top : 0 * 5 ≡ 0 * row_units w.printer * 5 = omega arith in
     comes-as w m s4 (paused w 0 0 1 Black []) j0 j0 j8 refl (ap (λ d. record s4 { down = d }) from_top)
     (comes-then w m start s4 j0 j1 j8 (one w m c.Init [] j1 (ap may_begin no_dots) refl)
@@ -55,8 +59,9 @@ prologue-run w m job is blank =
 
 -- ---- going down
 
--- where a row stands on paper, counted from the head's first place
-pub place-is : (w : Layout) (row : ℕ) → IsLayout w → first_of w * 5 + row * row_units w.printer * 5 ≡ (w.printer.top - w.above + row) * row_step w.printer
+-- where a row is on paper, counted from the head's first position
+pub place-is : (w : Layout) (row : ℕ) → IsLayout w
+    → first_of w * 5 + row * row_units w.printer * 5 ≡ (w.printer.top - w.above + row) * row_step w.printer
 place-is w row is =
     let a : ℕ = w.printer.top - w.above in
     let u : ℕ = row_units w.printer in
@@ -64,7 +69,8 @@ place-is w row is =
     grouped ∙ ap (λ s. (a + row) * s) (row_units-is w.printer is.can)
 
 -- a step from one row down to another that is on the sheet
-pub down-run : (w : Layout) (last row : ℕ) (dots : List Dot) (job : List Spoken) → IsLayout w → last ≤ row → row < w.above + w.halftone.height
+pub down-run : (w : Layout) (last row : ℕ) (dots : List Dot) (job : List Spoken)
+    → IsLayout w → last ≤ row → row < w.above + w.halftone.height
     → Goes w last dots (down_by ((row - last) * row_units w.printer) ++ job) row dots job
 down-run w last row dots job is le low = by_units ((row - last) * row_units w.printer) refl
   where
@@ -87,18 +93,23 @@ down-run w last row dots job is le low = by_units ((row - last) * row_units w.pr
       across,
       columns,
       ink,
-      comes-as w (paused w last across columns ink dots) (paused w last across columns ink dots) (paused w row across columns ink dots) job job job refl
-          (ap (λ d. record (paused w last across columns ink dots) { down = d }) (let same : last * u * 5 ≡ row * u * 5 = omega (arith, down zero e) in same))
+      comes-as w (paused w last across columns ink dots)
+          (paused w last across columns ink dots) (paused w row across columns ink dots) job job job refl
+          (ap (λ d. record (paused w last across columns ink dots) { down = d })
+          (let same : last * u * 5 ≡ row * u * 5 = omega (arith, down zero e) in same))
           (comes-here w (paused w last across columns ink dots) job),
     )
     by_units (suc n) e across columns ink =
         let s : Machine = paused w last across columns ink dots in
-        let on_sheet : nat_lt (len_of w * 5) (first_of w * 5 + last * u * 5 + suc n * 5) ≡ false = le-ltb _ _ (omega (arith, fits, down (suc n) e)) in
-        let accepted : Bool → Option EmuFault = λ b. first_fault (refuse false NoUnit ∷ refuse false NoMargins ∷ refuse b OffSheet ∷ []) in (
+        let on_sheet : nat_lt (len_of w * 5) (first_of w * 5 + last * u * 5 + suc n * 5) ≡ false =
+        le-ltb _ _ (omega (arith, fits, down (suc n) e)) in
+        let accepted : Bool → Option EmuFault =
+        λ b. first_fault (refuse false NoUnit ∷ refuse false NoMargins ∷ refuse b OffSheet ∷ []) in (
           across,
           columns,
           ink,
-          comes-as w s (after w.printer s (c.DownBy (suc n)) []) (paused w row across columns ink dots) (say (c.DownBy (suc n)) ∷ job) (say (c.DownBy (suc n)) ∷ job) job refl
+          comes-as w s (after w.printer s (c.DownBy (suc n)) []) (paused w row across columns ink dots)
+              (say (c.DownBy (suc n)) ∷ job) (say (c.DownBy (suc n)) ∷ job) job refl
               (ap (λ d. record (paused w last across columns ink dots) { down = d }) (down (suc n) e))
               (one w s (c.DownBy (suc n)) [] job (ap accepted on_sheet) refl),
         )

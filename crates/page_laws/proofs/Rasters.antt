@@ -1,5 +1,6 @@
 -- How many rasters of an ink the strokes of a page take.
-use Rattle.std.proofs.Common.{◌≡◌, ℕ, zero, suc, ◌+◌, ◌-◌, ◌*◌, ◌≤◌, Bool, true, false, cond, if◌then◌else◌, List, [], ◌∷◌, ◌++◌, length, refl, ◌∙◌, ap, arith, append_assoc, filter, flat_map}
+use Rattle.std.proofs.Common.{◌≡◌, ℕ, zero, suc, ◌+◌, ◌-◌, ◌*◌, ◌≤◌, Bool, true, false, cond, if◌then◌else◌, List, [], ◌∷◌, ◌++◌}
+use Rattle.std.proofs.Common.{length, refl, ◌∙◌, ap, arith, append_assoc, filter, flat_map}
 use Rattle.std.specs.List.{count_by, sum_by}
 use Rattle.std.proofs.lemmas.List.{length-map}
 use Rattle.std.proofs.lemmas.List.Sums.{count_by-le-length, sum_by-cons}
@@ -38,10 +39,12 @@ use Rattle.page_laws.proofs.Weaving.{weave-fires}
 -- the rasters of an ink among commands that are to be written
 abbrev pub job_rasters : Ink → Ink → List Spoken → ℕ
 job_rasters ink colour [] = 0
-job_rasters ink colour (s ∷ job) = (if same_ink ink colour then raster_count s.command else 0) + job_rasters ink (colour_after colour s.command) job
+job_rasters ink colour (s ∷ job) =
+    (if same_ink ink colour then raster_count s.command else 0) + job_rasters ink (colour_after colour s.command) job
 
 -- they are those of the job
-entries-rasters : (ink colour : Ink) (code : List ℕ → List ℕ) (at : ℕ) (job : List Spoken) → ink_rasters_from ink colour (entries code at job) ≡ job_rasters ink colour job
+entries-rasters : (ink colour : Ink) (code : List ℕ → List ℕ) (at : ℕ) (job : List Spoken)
+    → ink_rasters_from ink colour (entries code at job) ≡ job_rasters ink colour job
 entries-rasters ink colour code at [] = refl
 entries-rasters ink colour code at (s ∷ job) =
     ap (λ n. (if same_ink ink colour then raster_count s.command else 0) + n)
@@ -61,7 +64,7 @@ down-rasters : (ink : Ink) (n : ℕ) (job : List Spoken) (most : ℕ) → HasMos
 down-rasters ink zero job most rest colour = rest colour
 down-rasters ink (suc n) job most rest colour = omega (arith, (none (same_ink ink colour)).is, rest colour)
 
--- an ink of a stroke fires one raster of its own at most
+-- an ink of a stroke fires at most one raster of its own
 ink-rasters : (w : Layout) (stroke : Stroke) (ink other : Ink) (job : List Spoken) (most : ℕ) → HasMost ink job most
     → HasMost ink (fires_ink w stroke other ++ job) (cond (same_ink ink other) (cond (has_dot (stroke.rows other)) 1 0) 0 + most)
 ink-rasters w stroke ink other job most rest colour = by_dot (has_dot (stroke.rows other)) (same_ink ink other) refl
@@ -70,7 +73,8 @@ ink-rasters w stroke ink other job most rest colour = by_dot (has_dot (stroke.ro
     raster = record { command = c.Raster (head_of w); rows = flat_map packed (stroke.rows other) }
 
     by_dot : (b same : Bool) → same_ink ink other ≡ same
-        → job_rasters ink colour ((if b then say (c.Colour other) ∷ say c.Return ∷ raster ∷ [] else []) ++ job) ≤ cond same (cond b 1 0) 0 + most
+        → job_rasters ink colour ((if b then say (c.Colour other) ∷ say c.Return ∷ raster ∷ [] else []) ++ job)
+        ≤ cond same (cond b 1 0) 0 + most
     by_dot true same e =
         let one_if : Bool → ℕ = λ b. if b then 1 else 0 in
         let last : one_if (same_ink ink other) ≡ one_if same = ap one_if e in
@@ -80,14 +84,16 @@ ink-rasters w stroke ink other job most rest colour = by_dot (has_dot (stroke.ro
 
 -- the inks of a stroke
 inks-rasters : (w : Layout) (stroke : Stroke) (ink : Ink) (inks : List Ink) (job : List Spoken) (most : ℕ) → HasMost ink job most
-    → HasMost ink (flat_map (fires_ink w stroke) inks ++ job) (sum_by (λ other. cond (same_ink ink other) (cond (has_dot (stroke.rows other)) 1 0) 0) inks + most)
+    → HasMost ink (flat_map (fires_ink w stroke) inks ++ job)
+    (sum_by (λ other. cond (same_ink ink other) (cond (has_dot (stroke.rows other)) 1 0) 0) inks + most)
 inks-rasters w stroke ink [] job most rest colour = omega (arith, rest colour)
 inks-rasters w stroke ink (other ∷ inks) job most rest colour =
     let term : Ink → ℕ = λ other. cond (same_ink ink other) (cond (has_dot (stroke.rows other)) 1 0) 0 in
     let later : List Spoken = flat_map (fires_ink w stroke) inks ++ job in
     let both : job_rasters ink colour (fires_ink w stroke other ++ later) ≤ term other + (sum_by term inks + most) =
     ink-rasters w stroke ink other later (sum_by term inks + most) (inks-rasters w stroke ink inks job most rest) colour in
-    let same : job_rasters ink colour ((fires_ink w stroke other ++ flat_map (fires_ink w stroke) inks) ++ job) ≡ job_rasters ink colour (fires_ink w stroke other ++ later) =
+    let same : job_rasters ink colour ((fires_ink w stroke other ++ flat_map (fires_ink w stroke) inks) ++ job)
+    ≡ job_rasters ink colour (fires_ink w stroke other ++ later) =
     ap (job_rasters ink colour) (append_assoc (fires_ink w stroke other) (flat_map (fires_ink w stroke) inks) job) in
     omega (arith, same, both, sum_by-cons term other inks)
 
@@ -110,7 +116,7 @@ set-once Cmyk Yellow f = omega arith
 abbrev pub fires_with : Ink → Stroke → Bool
 fires_with ink stroke = has_dot (stroke.rows ink)
 
--- strokes fire a raster of an ink each at most, and none where they have no dot of it
+-- strokes fire at most one raster of an ink each, and none where they have no dot of it
 strokes-rasters : (w : Layout) (strokes : List Stroke) (ink : Ink) (last : ℕ) (job : List Spoken) (most : ℕ) → HasMost ink job most
     → HasMost ink (fires_strokes w last strokes ++ job) (count_by (fires_with ink) strokes + most)
 strokes-rasters w [] ink last job most rest colour = omega (arith, rest colour)
@@ -126,34 +132,53 @@ strokes-rasters w (stroke ∷ strokes) ink last job most rest colour =
     let down : job_rasters ink colour (down_by n ++ (fire ++ (later ++ job))) ≤ sum_by term (inks_of set) + (few + most) =
     down-rasters ink n (fire ++ (later ++ job)) (sum_by term (inks_of set) + (few + most)) inks colour in
     let regrouped : (down_by n ++ (fire ++ later)) ++ job ≡ down_by n ++ (fire ++ (later ++ job)) = simp append_assoc in
-    omega (arith, ap (job_rasters ink colour) regrouped, down, set-once set ink (λ other. cond (has_dot (stroke.rows other)) 1 0), count-cons (fires_with ink) stroke strokes)
+    omega (
+      arith,
+      ap (job_rasters ink colour) regrouped,
+      down,
+      set-once set ink
+          (λ other. cond (has_dot (stroke.rows other)) 1 0),
+      count-cons (fires_with ink) stroke strokes,
+    )
 
 -- some of a list are no more than all of it
 count-some : {X : Type 0} (test some : X → Bool) (xs : List X) → count_by test (filter some xs) ≤ count_by test xs
 count-some test some [] = omega arith
 count-some {X = X} test some (x ∷ xs) = by_head (some x) (count-some test some xs)
   where
-    by_head : (b : Bool) → count_by test (filter some xs) ≤ count_by test xs → count_by test (cond b (x ∷ filter some xs) (filter some xs)) ≤ count_by test (x ∷ xs)
+    by_head : (b : Bool) → count_by test (filter some xs) ≤ count_by test xs
+        → count_by test (cond b (x ∷ filter some xs) (filter some xs)) ≤ count_by test (x ∷ xs)
     by_head true le = omega (arith, count-cons test x (filter some xs), count-cons test x xs, le)
     by_head false le = omega (arith, count-cons test x xs, le)
 
 -- the whole job of a page
-page-rasters : (w : Layout) (strokes : List Stroke) (ink : Ink) → job_rasters ink Black (page_says w strokes) ≤ count_by (fires_with ink) strokes
+page-rasters : (w : Layout) (strokes : List Stroke) (ink : Ink)
+    → job_rasters ink Black (page_says w strokes) ≤ count_by (fires_with ink) strokes
 page-rasters w strokes ink =
     let tail : HasMost ink (say c.Eject ∷ say c.Init ∷ []) 0 = λ colour. omega (arith, (none (same_ink ink colour)).is) in
-    let fire : job_rasters ink Black (fires_strokes w 0 (filter (fires w.printer) strokes) ++ (say c.Eject ∷ say c.Init ∷ [])) ≤ count_by (fires_with ink) (filter (fires w.printer) strokes) + 0 =
+    let fire : job_rasters ink Black (fires_strokes w 0 (filter (fires w.printer) strokes)
+    ++ (say c.Eject ∷ say c.Init ∷ [])) ≤ count_by (fires_with ink) (filter (fires w.printer) strokes) + 0 =
     strokes-rasters w (filter (fires w.printer) strokes) ink 0 (say c.Eject ∷ say c.Init ∷ []) 0 tail Black in
     omega (arith, (none (same_ink ink Black)).is, fire, count-some (fires_with ink) (fires w.printer) strokes)
 
 -- ---- the rasters of bytes
 
 -- Strokes that print a halftone take no more rasters of an ink than strokes fire it.
-pub strokes-have : (p : Printer) (h : Halftone) (coding : Coding) (strokes : Strokes) (tall : ℕ) → CanPrint p → IsCoding coding → Sized p h tall → Fires p h strokes
-    → (ink : Ink) → ink_rasters ink (commands (strokes_bytes coding p h.width h.height (tall * row_units p) strokes)).entries ≤ count_by (fires_with ink) strokes.list
+pub strokes-have : (p : Printer) (h : Halftone) (coding : Coding) (strokes : Strokes) (tall : ℕ)
+    → CanPrint p → IsCoding coding → Sized p h tall → Fires p h strokes
+    → (ink : Ink)
+    → ink_rasters ink (commands (strokes_bytes coding p h.width h.height (tall * row_units p) strokes)).entries
+    ≤ count_by (fires_with ink) strokes.list
 strokes-have p h coding strokes tall can is_coding size fire ink =
     let job : List Spoken = page_commands p h.width h.height coding.c (tall * row_units p) strokes in
-    let reads = ap (λ (j : CommandList). ink_rasters ink j.entries) (read coding job (commands-spoken p h coding tall strokes can is_coding size fire)) in
-    omega (arith, reads, entries-rasters ink Black coding.code 0 job, page-rasters (layout_of p h coding strokes.above tall) strokes.list ink)
+    let reads = ap (λ (j : CommandList). ink_rasters ink j.entries)
+    (read coding job (commands-spoken p h coding tall strokes can is_coding size fire)) in
+    omega (
+      arith,
+      reads,
+      entries-rasters ink Black coding.code 0 job,
+      page-rasters (layout_of p h coding strokes.above tall) strokes.list ink,
+    )
 
 -- A page takes no more rasters of an ink than passes.
 pub page-has : (p : Printer) (k : Table) (page : Page) → CanPrint p → IsPage (wanted_by p) page → HasPasses p k page
@@ -165,13 +190,14 @@ page-has p k page can is = record {
       let many : length (weave p h).list ≡ passes = length-map (count_from 0 passes) (pass_stroke p h) ∙ count_from-len 0 passes in
       omega (
         arith,
-        strokes-have p h page_coding (weave p h) page.form.height can canonical-coding (page-sized p k page can is) (weave-fires p h can) ink,
+        strokes-have p h page_coding
+            (weave p h) page.form.height can canonical-coding (page-sized p k page can is) (weave-fires p h can) ink,
         count_by-le-length (fires_with ink) (weave p h).list,
         many,
       );
 }
 
--- so for each of the pages
+-- the same for each page
 pub pages-have : (p : Printer) (k : Table) (pages : List Page) → CanPrint p → ArePages p pages → HavePasses p k pages
 pages-have p k [] can are = tt
 pages-have p k (page ∷ pages) can are = (page-has p k page can are.0, pages-have p k pages can are.1)

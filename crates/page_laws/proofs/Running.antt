@@ -1,5 +1,6 @@
 -- What the machine makes of single commands.
-use Rattle.std.proofs.Common.{◌≡◌, ℕ, ◌+◌, ◌-◌, ◌*◌, ◌≤◌, true, List, [], ◌∷◌, ◌++◌, length, map, Option, None, Some, refl, sym, ◌∙◌, ap, append-nil}
+use Rattle.std.proofs.Common.{◌≡◌, ℕ, ◌+◌, ◌-◌, ◌*◌, ◌≤◌, true, List, [], ◌∷◌, ◌++◌, length, map, Option}
+use Rattle.std.proofs.Common.{None, Some, refl, sym, ◌∙◌, ap, append-nil}
 use Rattle.printer_definitions.specs.declared.inks.Ink.{Ink}
 use Rattle.printer_definitions.specs.Printer.{Printer, row_units}
 use Rattle.escp2_definitions.specs.declared.command.Command.{Command}
@@ -15,7 +16,8 @@ use Rattle.separation_definitions.specs.CanPrint.{CanPrint}
 
 -- ---- a page
 
--- A halftone on a sheet of so many rows, how far above its window the head begins, and how the rows of its rasters are written.
+-- A halftone on a sheet of `tall` rows, how far above its window the head begins, and how the rows of its rasters are
+-- coded.
 pub record Layout : Type 0 where
   pub printer : Printer
   pub coding : Coding
@@ -51,26 +53,33 @@ begins w = prologue w.printer w.above w.halftone.height (len_of w)
 abbrev pub said : (List ℕ → List ℕ) → Spoken → Said
 said code s = record { command = s.command; rows = s.rows; bytes = written code s.command s.rows }
 
--- the entries of a job whose first byte stands at a place
+-- the entries of a job whose first byte has this offset
 abbrev pub entries : (List ℕ → List ℕ) → ℕ → List Spoken → List Entry
 entries code at job = entries_of at (map (said code) job)
 
--- From one state the machine comes to another with the rest of a job, and gives no sheet on the way.
+-- The machine goes from one state to another, which has the rest of a job, and gives no sheet on the way.
 abbrev pub Comes : Layout → Machine → List Spoken → Machine → List Spoken → Type 0
-Comes w s job s' job' = (at : ℕ) → (at' : ℕ) × (execute_from w.printer s (entries w.coding.code at job) ≡ execute_from w.printer s' (entries w.coding.code at' job'))
+Comes w s job s' job' = (at : ℕ) → (at' : ℕ) × (execute_from w.printer s (entries w.coding.code at job)
+    ≡ execute_from w.printer s' (entries w.coding.code at' job'))
 
--- the machine stays where it is
+-- the machine stays in its state
 pub comes-here : (w : Layout) (s : Machine) (job : List Spoken) → Comes w s job s job
 comes-here w s job at = (at, refl)
 
--- it comes there by way of another state
-pub comes-then : (w : Layout) (s1 s2 s3 : Machine) (job1 job2 job3 : List Spoken) → Comes w s1 job1 s2 job2 → Comes w s2 job2 s3 job3 → Comes w s1 job1 s3 job3
+-- it comes there by another state
+pub comes-then : (w : Layout) (s1 s2 s3 : Machine) (job1 job2 job3 : List Spoken)
+    → Comes w s1 job1 s2 job2 → Comes w s2 job2 s3 job3 → Comes w s1 job1 s3 job3
 comes-then w s1 s2 s3 job1 job2 job3 f g at = let a = f at in let b = g a.0 in (b.0, a.1 ∙ b.1)
 
 -- the same states and jobs by other names
-pub comes-as : (w : Layout) (s1 s2 t2 : Machine) (job1 job job2 : List Spoken) → job1 ≡ job → s2 ≡ t2 → Comes w s1 job s2 job2 → Comes w s1 job1 t2 job2
+pub comes-as : (w : Layout) (s1 s2 t2 : Machine) (job1 job job2 : List Spoken)
+    → job1 ≡ job → s2 ≡ t2 → Comes w s1 job s2 job2 → Comes w s1 job1 t2 job2
 comes-as w s1 s2 t2 job1 job job2 e f comes at =
-    let a = comes at in (a.0, ap (λ j. execute_from w.printer s1 (entries w.coding.code at j)) e ∙ a.1 ∙ ap (λ s. execute_from w.printer s (entries w.coding.code a.0 job2)) f)
+    let a = comes at in (
+      a.0,
+      ap (λ j. execute_from w.printer s1 (entries w.coding.code at j)) e
+          ∙ a.1 ∙ ap (λ s. execute_from w.printer s (entries w.coding.code a.0 job2)) f,
+    )
 
 -- a command that is accepted
 pub one-runs : (w : Layout) (s : Machine) (command : Command) (rows : List ℕ) (job : List Spoken) (at : ℕ)
@@ -93,12 +102,15 @@ pub one : (w : Layout) (s : Machine) (command : Command) (rows : List ℕ) (job 
     → first_fault (refusals w.printer s command rows) ≡ None → given w.printer s command ≡ []
     → Comes w s (record { command = command; rows = rows } ∷ job) (after w.printer s command rows) job
 one w s command rows job accepted no_sheet at =
-    let run = one-runs w s command rows job at accepted in
-    (run.0, run.1 ∙ ap (λ sheets. with_sheets sheets (execute_from w.printer (after w.printer s command rows) (entries w.coding.code run.0 job))) no_sheet)
+    let run = one-runs w s command rows job at accepted in (
+      run.0,
+      run.1 ∙ ap (λ sheets. with_sheets sheets
+          (execute_from w.printer (after w.printer s command rows) (entries w.coding.code run.0 job))) no_sheet,
+    )
 
 -- ---- the states of a page
 
--- After the prologue, so many rows below the head's first place.
+-- After the prologue, this many rows below the head's first position.
 abbrev pub paused : Layout → ℕ → ℕ → ℕ → Ink → List Dot → Machine
 paused w row across columns ink dots = record {
   graphics = true;
@@ -112,13 +124,13 @@ paused w row across columns ink dots = record {
   dots = dots;
 }
 
--- From a row with these dots the machine comes to another with more, whatever its ink, column and columns.
+-- From a row with these dots the machine goes to another with more, whatever its ink, column and columns.
 abbrev pub Goes : Layout → ℕ → List Dot → List Spoken → ℕ → List Dot → List Spoken → Type 0
 Goes w row dots job row' dots' job' =
     (across columns : ℕ) (ink : Ink) → (across' columns' : ℕ) × (ink' : Ink)
     × Comes w (paused w row across columns ink dots) job (paused w row' across' columns' ink' dots') job'
 
--- it goes there by way of another row
+-- it goes there by another row
 pub goes-then : (w : Layout) (r1 r2 r3 : ℕ) (dots1 dots2 dots3 : List Dot) (job1 job2 job3 : List Spoken)
     → Goes w r1 dots1 job1 r2 dots2 job2 → Goes w r2 dots2 job2 r3 dots3 job3 → Goes w r1 dots1 job1 r3 dots3 job3
 goes-then w r1 r2 r3 dots1 dots2 dots3 job1 job2 job3 f g across columns ink =
@@ -127,7 +139,8 @@ goes-then w r1 r2 r3 dots1 dots2 dots3 job1 job2 job3 f g across columns ink =
       b.0,
       b.1,
       b.2,
-      comes-then w (paused w r1 across columns ink dots1) (paused w r2 a.0 a.1 a.2 dots2) (paused w r3 b.0 b.1 b.2 dots3) job1 job2 job3 a.3 b.3,
+      comes-then w (paused w r1 across columns ink dots1)
+          (paused w r2 a.0 a.1 a.2 dots2) (paused w r3 b.0 b.1 b.2 dots3) job1 job2 job3 a.3 b.3,
     )
 
 -- it stays on its row
@@ -136,7 +149,8 @@ goes-here w row dots more job none across columns ink = (
   across,
   columns,
   ink,
-  comes-as w (paused w row across columns ink dots) (paused w row across columns ink dots) (paused w row across columns ink (dots ++ more)) job job job refl
+  comes-as w (paused w row across columns ink dots)
+      (paused w row across columns ink dots) (paused w row across columns ink (dots ++ more)) job job job refl
       (ap (λ ds. paused w row across columns ink ds) (sym (append-nil dots) ∙ ap (λ m. dots ++ m) (sym none)))
       (comes-here w (paused w row across columns ink dots) job),
 )

@@ -1,5 +1,6 @@
--- The commands of a page are in the command table, so that what is written of them spells them.
-use Rattle.std.proofs.Common.{◌≡◌, ℕ, zero, suc, ◌+◌, ◌-◌, ◌*◌, ◌/◌, ◌≤◌, inl, inr, Bool, true, false, ◌&&◌, nat_le, if◌then◌else◌, List, [], ◌∷◌, ◌++◌, length, refl, ◌∙◌, ap, arith, length-append, filter, flat_map}
+-- The commands of a page are in the command table, so that their bytes spell them.
+use Rattle.std.proofs.Common.{◌≡◌, ℕ, zero, suc, ◌+◌, ◌-◌, ◌*◌, ◌/◌, ◌≤◌, inl, inr, Bool, true, false, ◌&&◌, nat_le, if◌then◌else◌, List}
+use Rattle.std.proofs.Common.{[], ◌∷◌, ◌++◌, length, refl, ◌∙◌, ap, arith, length-append, filter, flat_map}
 use Rattle.std.specs.List.{AllByRecursion}
 use Rattle.std.proofs.lemmas.Bool.{and_from, le-leb}
 use Rattle.printer_definitions.specs.declared.inks.Ink.{Ink}
@@ -52,7 +53,8 @@ prologue-sayable w is =
     let length_fits = length-fits w.printer w.halftone w.tall is.can is.size in
     let fits = margins-fit w.printer w.halftone w.above w.tall is.can is.size in
     let top : nat_le (first_of w) 32767 ≡ true = le-leb (first_of w) 32767 (omega (arith, fits.0, fits.1)) in
-    let bottom : is_between (first_of w + 1) 32767 (last_of w) ≡ true = between (first_of w + 1) 32767 (last_of w) (omega (arith, fits.0)) (omega (arith, fits.1)) in (
+    let bottom : is_between (first_of w + 1) 32767 (last_of w) ≡ true =
+    between (first_of w + 1) 32767 (last_of w) (omega (arith, fits.0)) (omega (arith, fits.1)) in (
       record { in_range = refl; rows_fit = refl; coded = tt },
       (
         record { in_range = refl; rows_fit = refl; coded = tt },
@@ -82,7 +84,8 @@ rows-len width (row ∷ rows) wide =
     let bytes : ℕ = (width + 7) / 8 in
     let more : length (flat_map packed rows) ≡ length rows * bytes = rows-len width rows wide.1 in
     let step : bytes + length rows * bytes ≡ suc (length rows) * bytes = omega arith in
-    length-append (packed row) (flat_map packed rows) ∙ ap (λ n. n + length (flat_map packed rows)) (packed-len width row wide.0) ∙ ap (λ n. bytes + n) more ∙ step
+    length-append (packed row) (flat_map packed rows)
+    ∙ ap (λ n. n + length (flat_map packed rows)) (packed-len width row wide.0) ∙ ap (λ n. bytes + n) more ∙ step
 
 -- a coding says 0 or 1
 coding-says : (coding : Coding) → IsCoding coding → nat_le coding.c 1 ≡ true
@@ -96,43 +99,61 @@ ink-sayable w stroke ink is lies = by_dot (has_dot (stroke.rows ink))
     rows : List ℕ
     rows = flat_map packed (stroke.rows ink)
 
-    by_dot : (b : Bool) → AllSayable w.coding (if b then say (c.Colour ink) ∷ say c.Return ∷ record { command = c.Raster (head_of w); rows = rows } ∷ [] else [])
+    by_dot : (b : Bool) → AllSayable w.coding (if b then say (c.Colour ink)
+        ∷ say c.Return ∷ record { command = c.Raster (head_of w); rows = rows } ∷ [] else [])
     by_dot false = tt
     by_dot true =
         let p : Printer = w.printer in
         let n : ℕ = w.coding.c in
-        let v : (nat_le n 1 && nat_le 1 (nozzle_step p)) ≡ true = and_from _ _ (coding-says w.coding is.coding) (le-leb 1 (nozzle_step p) (nozzle_step-some p is.can)) in
-        let hs : (nat_le n 1 && nat_le 1 (nozzle_step p) && nat_le 1 (column_step p)) ≡ true = and_from _ _ v (le-leb 1 (column_step p) (column_step-some p is.can)) in
-        let m : (nat_le n 1 && nat_le 1 (nozzle_step p) && nat_le 1 (column_step p) && nat_le 1 p.nozzles) ≡ true = and_from _ _ hs (le-leb 1 p.nozzles is.can.some_nozzles) in
+        let v : (nat_le n 1 && nat_le 1 (nozzle_step p)) ≡ true =
+        and_from _ _ (coding-says w.coding is.coding) (le-leb 1 (nozzle_step p) (nozzle_step-some p is.can)) in
+        let hs : (nat_le n 1 && nat_le 1 (nozzle_step p) && nat_le 1 (column_step p)) ≡ true =
+        and_from _ _ v (le-leb 1 (column_step p) (column_step-some p is.can)) in
+        let m : (nat_le n 1 && nat_le 1 (nozzle_step p) && nat_le 1 (column_step p) && nat_le 1 p.nozzles) ≡ true =
+        and_from _ _ hs (le-leb 1 p.nozzles is.can.some_nozzles) in
         let bytes : ℕ = (w.halftone.width + 7) / 8 in
-        let fits : length rows ≡ p.nozzles * bytes = rows-len w.halftone.width (stroke.rows ink) (lies.whole ink).wide ∙ ap (λ n. n * bytes) (lies.whole ink).many in (
+        let fits : length rows ≡ p.nozzles * bytes = rows-len w.halftone.width (stroke.rows ink) (lies.whole ink).wide
+        ∙ ap (λ n. n * bytes) (lies.whole ink).many in (
           record { in_range = refl; rows_fit = refl; coded = tt },
           (
             record { in_range = refl; rows_fit = refl; coded = tt },
-            (record { in_range = and_from _ _ m (between 1 8191 w.halftone.width is.size.some_width is.size.most_width); rows_fit = fits; coded = refl }, tt),
+            (
+              record {
+                in_range = and_from _ _ m (between 1 8191
+                    w.halftone.width is.size.some_width is.size.most_width);
+                rows_fit = fits;
+                coded = refl;
+              },
+              tt,
+            ),
           ),
         )
 
 -- the inks of a stroke
-inks-sayable : (w : Layout) (stroke : Stroke) (inks : List Ink) → IsLayout w → Lies w stroke → AllSayable w.coding (flat_map (fires_ink w stroke) inks)
+inks-sayable : (w : Layout) (stroke : Stroke) (inks : List Ink)
+    → IsLayout w → Lies w stroke → AllSayable w.coding (flat_map (fires_ink w stroke) inks)
 inks-sayable w stroke [] is lies = tt
 inks-sayable w stroke (ink ∷ inks) is lies =
     sayable-append w.coding (fires_ink w stroke ink) _ (ink-sayable w stroke ink is lies) (inks-sayable w stroke inks is lies)
 
 -- strokes
-strokes-sayable : (w : Layout) (strokes : List Stroke) (last : ℕ) → IsLayout w → AllByRecursion (Lies w) strokes → AllSayable w.coding (fires_strokes w last strokes)
+strokes-sayable : (w : Layout) (strokes : List Stroke) (last : ℕ)
+    → IsLayout w → AllByRecursion (Lies w) strokes → AllSayable w.coding (fires_strokes w last strokes)
 strokes-sayable w [] last is lie = tt
 strokes-sayable w (stroke ∷ strokes) last is lie =
     let short = step-fits w.printer w.halftone w.above w.tall last stroke.start is.size is.room lie.0.low in
     sayable-append w.coding (down_by ((stroke.start - last) * row_units w.printer)) _ (down-sayable w.coding _ (omega (arith, short)))
-    (sayable-append w.coding (flat_map (fires_ink w stroke) (inks_of w.printer.inks)) _ (inks-sayable w stroke (inks_of w.printer.inks) is lie.0)
+    (sayable-append w.coding (flat_map (fires_ink w stroke) (inks_of w.printer.inks)) _
+    (inks-sayable w stroke (inks_of w.printer.inks) is lie.0)
     (strokes-sayable w strokes stroke.start is lie.1))
 
 -- Each command of a page is in the table.
-pub page-sayable : (w : Layout) (strokes : List Stroke) → IsLayout w → AllByRecursion (Lies w) (filter (fires w.printer) strokes) → AllSayable w.coding (page_says w strokes)
+pub page-sayable : (w : Layout) (strokes : List Stroke) → IsLayout w
+    → AllByRecursion (Lies w) (filter (fires w.printer) strokes) → AllSayable w.coding (page_says w strokes)
 page-sayable w strokes is lie =
     sayable-append w.coding (begins w) _ (prologue-sayable w is)
-    (sayable-append w.coding (fires_strokes w 0 (filter (fires w.printer) strokes)) _ (strokes-sayable w (filter (fires w.printer) strokes) 0 is lie)
+    (sayable-append w.coding (fires_strokes w 0 (filter (fires w.printer) strokes)) _
+    (strokes-sayable w (filter (fires w.printer) strokes) 0 is lie)
     (record { in_range = refl; rows_fit = refl; coded = tt }, (record { in_range = refl; rows_fit = refl; coded = tt }, tt)))
 
 -- ---- they are spelled

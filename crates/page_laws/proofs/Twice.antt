@@ -17,22 +17,26 @@ free : (d : Dot) (old : List Dot) → count_by (is_at d) old ≡ 0 → list_any 
 free d [] e = refl
 free d (o ∷ old) e = by_head (is_at d o) refl (free d old)
   where
-    by_head : (b : Bool) → is_at d o ≡ b → (count_by (is_at d) old ≡ 0 → list_any (is_at d) old ≡ false) → list_any (is_at d) (o ∷ old) ≡ false
+    by_head : (b : Bool) → is_at d o ≡ b
+        → (count_by (is_at d) old ≡ 0 → list_any (is_at d) old ≡ false) → list_any (is_at d) (o ∷ old) ≡ false
     by_head true f rest =
-        let count : count_by (is_at d) (o ∷ old) ≡ 1 + count_by (is_at d) old = count-cons (is_at d) o old ∙ ap (λ b. cond b 1 0 + count_by (is_at d) old) f in
+        let count : count_by (is_at d) (o ∷ old) ≡ 1 + count_by (is_at d) old =
+        count-cons (is_at d) o old ∙ ap (λ b. cond b 1 0 + count_by (is_at d) old) f in
         absurd (omega arith)
     by_head false f rest =
-        let count : count_by (is_at d) (o ∷ old) ≡ 0 + count_by (is_at d) old = count-cons (is_at d) o old ∙ ap (λ b. cond b 1 0 + count_by (is_at d) old) f in
+        let count : count_by (is_at d) (o ∷ old) ≡ 0 + count_by (is_at d) old =
+        count-cons (is_at d) o old ∙ ap (λ b. cond b 1 0 + count_by (is_at d) old) f in
         none-of (is_at d) o old f (rest (omega arith))
 
--- dots of which each place has one at most in both lists overprint nothing
+-- dots with each place at most once in both lists together overprint nothing
 none-over : (old new : List Dot) → ((d : Dot) → count_by (is_at d) old + count_by (is_at d) new ≤ 1) → overprints old new ≡ false
 none-over old [] few = refl
 none-over old (d ∷ new) few =
-    let here : count_by (is_at d) (d ∷ new) ≡ 1 + count_by (is_at d) new = count-cons (is_at d) d new ∙ ap (λ b. cond b 1 0 + count_by (is_at d) new) (is_at-itself d) in
+    let here : count_by (is_at d) (d ∷ new) ≡ 1 + count_by (is_at d) new =
+    count-cons (is_at d) d new ∙ ap (λ b. cond b 1 0 + count_by (is_at d) new) (is_at-itself d) in
     none-of (λ d. list_any (is_at d) old) d new (free d old (omega (arith, few d)))
     (none-over old new (λ e. omega (arith, few e, count-cons (is_at e) d new)))
 
--- new dots that stand once among the old ones overprint none
+-- new dots that occur once among all dots overprint none of the old
 pub not_twice : (old new : List Dot) → Once (old ++ new) → overprints old new ≡ false
 not_twice old new once = none-over old new (λ d. omega (arith, once d, count-append (is_at d) old new))

@@ -1,5 +1,6 @@
 -- The interleaved passes over a window print its halftone.
-use Rattle.std.proofs.Common.{◌≡◌, ℕ, zero, suc, ◌+◌, ◌-◌, ◌*◌, ◌<◌, ◌≤◌, Bool, true, false, cond, ◌&&◌, ◌==◌, if◌then◌else◌, List, [], ◌∷◌, map, replicate, Option, None, Some, refl, sym, ◌∙◌, ap, arith}
+use Rattle.std.proofs.Common.{◌≡◌, ℕ, zero, suc, ◌+◌, ◌-◌, ◌*◌, ◌<◌, ◌≤◌, Bool, true, false, cond, ◌&&◌, ◌==◌, if◌then◌else◌, List, []}
+use Rattle.std.proofs.Common.{◌∷◌, map, replicate, Option, None, Some, refl, sym, ◌∙◌, ap, arith}
 use Rattle.std.specs.List.{AllByRecursion, count_by, flat_map}
 use Rattle.std.proofs.lemmas.Bool.{and_right, eqb-true, lt-ltb}
 use Rattle.std.proofs.lemmas.List.Sums.{sum_by-cons}
@@ -36,21 +37,26 @@ nozzle-hits p h ink y x t i low = by_row (nozzle_row p.nozzles p.pitch h.height 
     one_if : Bool → ℕ
     one_if b = cond b 1 0
 
-    by_same : (row : ℕ) (b : Bool) → (row == y) ≡ b → count_by (of_row y) (record { pass = t; nozzle = i; row = row } ∷ []) ≡ cond (row == y) 1 0 + 0
-        → one_if ((row == y) && h.dot ink row x) ≡ cond (h.dot ink y x) (count_by (of_row y) (record { pass = t; nozzle = i; row = row } ∷ [])) 0
+    by_same : (row : ℕ) (b : Bool) → (row == y) ≡ b
+        → count_by (of_row y) (record { pass = t; nozzle = i; row = row } ∷ []) ≡ cond (row == y) 1 0 + 0
+        → one_if ((row == y) && h.dot ink row x)
+        ≡ cond (h.dot ink y x) (count_by (of_row y) (record { pass = t; nozzle = i; row = row } ∷ [])) 0
     by_same row true e count =
-        let one : count_by (of_row y) (record { pass = t; nozzle = i; row = row } ∷ []) ≡ 1 = count ∙ ap (λ b. one_if b + 0) e ∙ (let sum : 1 + 0 ≡ 1 = omega arith in sum) in
+        let one : count_by (of_row y) (record { pass = t; nozzle = i; row = row } ∷ []) ≡ 1 =
+        count ∙ ap (λ b. one_if b + 0) e ∙ (let sum : 1 + 0 ≡ 1 = omega arith in sum) in
         ap (λ b. one_if (b && h.dot ink row x)) e
         ∙ ap (λ k. one_if (h.dot ink k x)) (eqb-true row y e)
         ∙ sym (ap (λ k. cond (h.dot ink y x) k 0) one)
     by_same row false e count =
-        let none : count_by (of_row y) (record { pass = t; nozzle = i; row = row } ∷ []) ≡ 0 = count ∙ ap (λ b. one_if b + 0) e ∙ (let sum : 0 + 0 ≡ 0 = omega arith in sum) in
+        let none : count_by (of_row y) (record { pass = t; nozzle = i; row = row } ∷ []) ≡ 0 =
+        count ∙ ap (λ b. one_if b + 0) e ∙ (let sum : 0 + 0 ≡ 0 = omega arith in sum) in
         ap (λ b. one_if (b && h.dot ink row x)) e ∙ sym (if-none (h.dot ink y x) _ none)
 
     by_row : (r : Option ℕ) → nozzle_row p.nozzles p.pitch h.height t i ≡ r
         → cond ((start - head_rows p == y) && at (fired_row h ink r) x) 1 0 ≡ cond (h.dot ink y x) (count_by (of_row y) (firing t i r)) 0
     by_row None e =
-        ap one_if (and_right (start - head_rows p == y) (at (replicate h.width false) x) (no-dot h.width x)) ∙ sym (if-none (h.dot ink y x) 0 refl)
+        ap one_if (and_right (start - head_rows p == y) (at (replicate h.width false) x) (no-dot h.width x))
+        ∙ sym (if-none (h.dot ink y x) 0 refl)
     by_row (Some row) e =
         let is = nozzle_row-is p.nozzles p.pitch h.height t i row e in
         let stands : start - head_rows p ≡ row = omega (arith, is.sum) in
@@ -63,7 +69,8 @@ nozzle-hits p h ink y x t i low = by_row (nozzle_row p.nozzles p.pitch h.height 
 -- the nozzles of one pass
 pass-hits : (p : Printer) (h : Halftone) (ink : Ink) (y x t start i many : ℕ) → x < h.width → start ≡ t * p.nozzles + i * p.pitch
     → rows_hits p.pitch (head_rows p) y x start (map (λ i. fired_row h ink (nozzle_row p.nozzles p.pitch h.height t i)) (count_from i many))
-    ≡ cond (h.dot ink y x) (count_by (of_row y) (flat_map (λ i. firing t i (nozzle_row p.nozzles p.pitch h.height t i)) (count_from i many))) 0
+    ≡ cond (h.dot ink y x) (count_by
+    (of_row y) (flat_map (λ i. firing t i (nozzle_row p.nozzles p.pitch h.height t i)) (count_from i many))) 0
 pass-hits p h ink y x t start i zero low e = sym (if-none (h.dot ink y x) 0 refl)
 pass-hits p h ink y x t start i (suc many) low e =
     let row : ℕ → Option ℕ = λ i. nozzle_row p.nozzles p.pitch h.height t i in
@@ -71,22 +78,26 @@ pass-hits p h ink y x t start i (suc many) low e =
     let firings : List Firing = flat_map (λ i. firing t i (row i)) (count_from (i + 1) many) in
     let one_if : Bool → ℕ = λ b. cond b 1 0 in
     let next : start + p.pitch ≡ t * p.nozzles + (i + 1) * p.pitch = omega (arith, e) in
-    ap (λ n. one_if ((n - head_rows p == y) && at (fired_row h ink (row i)) x) + rows_hits p.pitch (head_rows p) y x (start + p.pitch) rows) e
+    ap (λ n. one_if ((n - head_rows p == y) && at (fired_row h ink (row i)) x) + rows_hits p.pitch
+    (head_rows p) y x (start + p.pitch) rows) e
     ∙ ap (λ n. n + rows_hits p.pitch (head_rows p) y x (start + p.pitch) rows) (nozzle-hits p h ink y x t i low)
-    ∙ ap (λ n. cond (h.dot ink y x) (count_by (of_row y) (firing t i (row i))) 0 + n) (pass-hits p h ink y x t (start + p.pitch) (i + 1) many low next)
+    ∙ ap (λ n. cond (h.dot ink y x) (count_by (of_row y) (firing t i (row i))) 0 + n)
+    (pass-hits p h ink y x t (start + p.pitch) (i + 1) many low next)
     ∙ if-plus (h.dot ink y x) (count_by (of_row y) (firing t i (row i))) (count_by (of_row y) firings)
     ∙ ap (λ n. cond (h.dot ink y x) n 0) (sym (count-append (of_row y) (firing t i (row i)) firings))
 
 -- all the passes
 passes-hit : (p : Printer) (h : Halftone) (ink : Ink) (y x : ℕ) (ts : List ℕ) → x < h.width
     → hits p (head_rows p) (map (pass_stroke p h) ts) ink y x
-    ≡ cond (h.dot ink y x) (count_by (of_row y) (flat_map (λ t. flat_map (λ i. firing t i (nozzle_row p.nozzles p.pitch h.height t i)) (count_from 0 p.nozzles)) ts)) 0
+    ≡ cond (h.dot ink y x) (count_by (of_row y) (flat_map (λ t.
+    flat_map (λ i. firing t i (nozzle_row p.nozzles p.pitch h.height t i)) (count_from 0 p.nozzles)) ts)) 0
 passes-hit p h ink y x [] low = sym (if-none (h.dot ink y x) 0 refl)
 passes-hit p h ink y x (t ∷ ts) low =
     let of : ℕ → List Firing = λ t. flat_map (λ i. firing t i (nozzle_row p.nozzles p.pitch h.height t i)) (count_from 0 p.nozzles) in
     let dot : Bool = h.dot ink y x in
     let first : t * p.nozzles ≡ t * p.nozzles + 0 * p.pitch = omega arith in
-    sum_by-cons (λ (stroke : Stroke). rows_hits p.pitch (head_rows p) y x stroke.start (stroke.rows ink)) (pass_stroke p h t) (map (pass_stroke p h) ts)
+    sum_by-cons (λ (stroke : Stroke). rows_hits p.pitch (head_rows p) y x stroke.start (stroke.rows ink))
+    (pass_stroke p h t) (map (pass_stroke p h) ts)
     ∙ ap (λ n. n + hits p (head_rows p) (map (pass_stroke p h) ts) ink y x) (pass-hits p h ink y x t (t * p.nozzles) 0 p.nozzles low first)
     ∙ ap (λ n. cond dot (count_by (of_row y) (of t)) 0 + n) (passes-hit p h ink y x ts low)
     ∙ if-plus dot (count_by (of_row y) (of t)) (count_by (of_row y) (flat_map of ts))
@@ -96,20 +107,24 @@ passes-hit p h ink y x (t ∷ ts) low =
 weave-hits : (p : Printer) (h : Halftone) → CanPrint p → FiresEachDot p h (weave p h)
 unfolding of_row
 weave-hits p h can =
-    each-of (λ ink. (y x : ℕ) → y < h.height → x < h.width → hits p (head_rows p) (weave p h).list ink y x ≡ cond (h.dot ink y x) 1 0) (inks_of p.inks) (λ ink y x low_y low_x.
+    each-of (λ ink. (y x : ℕ) → y < h.height → x < h.width → hits p (head_rows p) (weave p h).list ink y x
+    ≡ cond (h.dot ink y x) 1 0) (inks_of p.inks) (λ ink y x low_y low_x.
     let once : count_by (of_row y) (passes p.nozzles p.pitch h.height) ≡ 1 =
-    each_row p.nozzles p.pitch h.height can.some_nozzles can.some_pitch can.coprime y ∙ ap (λ b. if b then 1 else 0) (lt-ltb y h.height low_y) in
+    each_row p.nozzles p.pitch h.height can.some_nozzles can.some_pitch can.coprime y
+    ∙ ap (λ b. if b then 1 else 0) (lt-ltb y h.height low_y) in
     passes-hit p h ink y x (count_from 0 (pass_count p.nozzles p.pitch h.height)) low_x ∙ ap (λ n. cond (h.dot ink y x) n 0) once)
 
 -- ---- the passes as strokes
 
 -- each pass begins below the one before
-weave-rises : (p : Printer) (h : Halftone) (last t many : ℕ) → last ≤ t * p.nozzles → IsRising last (map (pass_stroke p h) (count_from t many))
+weave-rises : (p : Printer) (h : Halftone) (last t many : ℕ)
+    → last ≤ t * p.nozzles → IsRising last (map (pass_stroke p h) (count_from t many))
 weave-rises p h last t zero le = tt
 weave-rises p h last t (suc many) le = (le, weave-rises p h (t * p.nozzles) (t + 1) many (omega arith))
 
 -- what holds of each pass holds of each stroke
-pub each-pass : (p : Printer) (h : Halftone) (P : Stroke → Type 0) (ts : List ℕ) → ((t : ℕ) → P (pass_stroke p h t)) → AllByRecursion P (map (pass_stroke p h) ts)
+pub each-pass : (p : Printer) (h : Halftone) (P : Stroke → Type 0) (ts : List ℕ)
+    → ((t : ℕ) → P (pass_stroke p h t)) → AllByRecursion P (map (pass_stroke p h) ts)
 each-pass p h P [] every = tt
 each-pass p h P (t ∷ ts) every = (every t, each-pass p h P ts every)
 
@@ -118,7 +133,8 @@ pub weave-fires : (p : Printer) (h : Halftone) → CanPrint p → Fires p h (wea
 weave-fires p h can =
     let ts : List ℕ = count_from 0 (pass_count p.nozzles p.pitch h.height) in
     let whole = each-pass p h (λ stroke. (ink : Ink) → IsWhole p.nozzles h.width (stroke.rows ink)) ts (pass-whole p h) in
-    let on = each-pass p h (λ stroke. (ink : Ink) → IsOnWindow p.pitch (head_rows p) h.height stroke.start (stroke.rows ink)) ts (pass-on_window p h) in
+    let on = each-pass p h (λ stroke. (ink : Ink)
+    → IsOnWindow p.pitch (head_rows p) h.height stroke.start (stroke.rows ink)) ts (pass-on_window p h) in
     record {
       room = can.head_room;
       rising = weave-rises p h 0 0 (pass_count p.nozzles p.pitch h.height) (omega arith);

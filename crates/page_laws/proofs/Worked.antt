@@ -44,21 +44,24 @@ three-on : (above start : ℕ) (a b d : List Bool)
     → IsOnWindow 2 above 2 start (a ∷ b ∷ d ∷ [])
 three-on above start a b d on_a on_b on_d = record { row = by_row }
   where
-    by_row : (i : ℕ) → list_any (λ on. on) (slice_index_or (a ∷ b ∷ d ∷ []) i []) ≡ true → (above ≤ start + i * 2) × (start + i * 2 < above + 2)
+    by_row : (i : ℕ) → list_any (λ on. on) (slice_index_or (a ∷ b ∷ d ∷ []) i []) ≡ true
+        → (above ≤ start + i * 2) × (start + i * 2 < above + 2)
     by_row zero e = let is = on_a e in (omega (arith, is.0), omega (arith, is.1))
     by_row (suc zero) e = let is = on_b e in (omega (arith, is.0), omega (arith, is.1))
     by_row (suc (suc zero)) e = let is = on_d e in (omega (arith, is.0), omega (arith, is.1))
     by_row (suc (suc (suc i))) e = cc
 
--- strokes that are told to fire each place of both rows once fire each dot
+-- strokes that the test finds to fire each place of both rows once fire each dot
 told : (strokes : Strokes) → agree_below (λ x. hits three_nozzles strokes.above strokes.list Black 0 x == 1) (λ x. true) 8 ≡ true
     → agree_below (λ x. hits three_nozzles strokes.above strokes.list Black 1 x == 1) (λ x. true) 8 ≡ true
     → FiresEachDot three_nozzles two_black_rows strokes
 told strokes first second = (by_row, tt)
   where
     by_row : (y x : ℕ) → y < 2 → x < 8 → hits three_nozzles strokes.above strokes.list Black y x ≡ 1
-    by_row zero x low_y low_x = eqb-true _ _ (agree_below_at (λ x. hits three_nozzles strokes.above strokes.list Black 0 x == 1) (λ x. true) 8 x first low_x)
-    by_row (suc zero) x low_y low_x = eqb-true _ _ (agree_below_at (λ x. hits three_nozzles strokes.above strokes.list Black 1 x == 1) (λ x. true) 8 x second low_x)
+    by_row zero x low_y low_x = eqb-true _ _ (agree_below_at
+        (λ x. hits three_nozzles strokes.above strokes.list Black 0 x == 1) (λ x. true) 8 x first low_x)
+    by_row (suc zero) x low_y low_x = eqb-true _ _ (agree_below_at
+        (λ x. hits three_nozzles strokes.above strokes.list Black 1 x == 1) (λ x. true) 8 x second low_x)
     by_row (suc (suc y)) x low_y low_x = absurd (omega arith)
 
 -- Shingled rows print their window.

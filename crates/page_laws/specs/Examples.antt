@@ -1,4 +1,4 @@
--- Worked pages, and the numbers of a printer that were worked by hand.
+-- Worked pages, and the printers for which they were worked.
 use Rattle.std.specs.Prelude.{ℕ, List, [], ◌∷◌, ◌++◌, map}
 use Rattle.printer_definitions.specs.declared.inks.Ink.TheVariants.{Black}
 use Rattle.printer_definitions.specs.declared.inks.InkSet.{InkSet}
@@ -14,7 +14,7 @@ use Rattle.pwg_definitions.specs.Stream.{Page}
 
 -- ---- printers
 
--- the printer with one nozzle, and a margin of a pixel at the left and at the top
+-- the printer with one nozzle, and a margin of one pixel on the left and at the top
 abbrev pub with_margins : Printer
 with_margins = record tiny1 { left = 1; top = 1 }
 
@@ -22,15 +22,15 @@ with_margins = record tiny1 { left = 1; top = 1 }
 abbrev pub with_inks : InkSet → Printer
 with_inks inks = record tiny1 { inks = inks }
 
--- the printer with one nozzle and these greatest amounts
+-- the printer with one nozzle and these limits of its inks
 abbrev pub with_limits : ℕ → Printer
 with_limits limit = record tiny1 { limits = limit ∷ limit ∷ limit ∷ limit ∷ [] }
 
--- four inks, of which black takes what is darker than this
+-- four inks, with black from this darkness on
 abbrev pub with_black_start : ℕ → Printer
 with_black_start least = record tiny1 { inks = Cmyk; black_start = least }
 
--- 720 dots an inch across the page, and down it
+-- 720 dots an inch across the page; then down it
 abbrev pub fine_across : Printer
 fine_across = record tiny1 { hdpi = 720 }
 
@@ -50,7 +50,7 @@ small_page = record {
   lines = (0xD1 ∷ 0xD1 ∷ 0xD1 ∷ 0xD1 ∷ []) ∷ (0x9F ∷ 0x9F ∷ 0x9F ∷ 0xA3 ∷ []) ∷ [];
 }
 
--- a page that is all white, and one that is all black
+-- a white page and a black page
 abbrev pub white_page : Page
 white_page = record {
   form = grey 4 2;
@@ -86,7 +86,7 @@ pixel red green blue = record {
 
 -- ---- their bytes
 
--- the commands before the strokes, 46 bytes: a sheet of so many units, and its margins
+-- the commands before the strokes, 46 bytes: the length of the sheet in units, and its margins
 abbrev pub prologue_bytes : ℕ → ℕ → ℕ → List ℕ
 prologue_bytes len top bottom =
     0x1B ∷ 0x40
@@ -99,11 +99,12 @@ prologue_bytes len top bottom =
     ∷ 0x1B ∷ 0x28 ∷ 0x56 ∷ 0x02 ∷ 0x00 ∷ 0x00 ∷ 0x00
     ∷ []
 
--- down by so many units
+-- down by this many units
 abbrev pub down_bytes : ℕ → List ℕ
 down_bytes n = 0x1B ∷ 0x28 ∷ 0x76 ∷ 0x02 ∷ 0x00 ∷ n ∷ 0x00 ∷ []
 
--- an ink from the left margin on, with coded rows: the steps down and across, the rows and the columns
+-- an ink from the left margin on, with coded rows: its colour, the steps of the raster down and across, its rows and
+-- columns
 abbrev pub raster_bytes : ℕ → ℕ → ℕ → ℕ → ℕ → List ℕ → List ℕ
 raster_bytes ink v h m n rows = 0x1B ∷ 0x72 ∷ ink ∷ 0x0D ∷ 0x1B ∷ 0x2E ∷ 0x01 ∷ v ∷ h ∷ m ∷ n ∷ 0x00 ∷ rows
 
@@ -119,7 +120,7 @@ small_page_bytes = prologue_bytes 0x04 0x00 0x04 ++ down_bytes 0x02 ++ raster_by
 abbrev pub white_page_bytes : List ℕ
 white_page_bytes = prologue_bytes 0x04 0x00 0x04 ++ end_bytes
 
--- the black page inside its margins: three dots of one row
+-- the black page inside its margins: three dots in one row
 abbrev pub black_page_bytes : List ℕ
 black_page_bytes = prologue_bytes 0x04 0x02 0x04 ++ raster_bytes 0x00 0x0A 0x0A 0x01 0x03 (0x00 ∷ 0xE0 ∷ []) ++ end_bytes
 
@@ -131,7 +132,7 @@ abbrev pub black_column_bytes : List ℕ
 black_column_bytes =
     prologue_bytes 0x06 0x00 0x06 ++ one_dot_bytes ++ down_bytes 0x02 ++ one_dot_bytes ++ down_bytes 0x02 ++ one_dot_bytes ++ end_bytes
 
--- a black pixel, and a red one of magenta and yellow
+-- a black pixel; then a red one, of magenta and yellow
 abbrev pub black_pixel_bytes : List ℕ
 black_pixel_bytes = prologue_bytes 0x02 0x00 0x02 ++ one_dot_bytes ++ end_bytes
 
@@ -142,14 +143,14 @@ red_pixel_bytes =
     ++ raster_bytes 0x04 0x0A 0x0A 0x01 0x01 (0x00 ∷ 0x80 ∷ [])
     ++ end_bytes
 
--- the black line at 720 dots an inch across the page, and down it
+-- the black line at 720 dots an inch across the page; then down it
 abbrev pub fine_across_bytes : List ℕ
 fine_across_bytes = prologue_bytes 0x02 0x00 0x02 ++ raster_bytes 0x00 0x0A 0x05 0x01 0x04 (0x00 ∷ 0xF0 ∷ []) ++ end_bytes
 
 abbrev pub fine_down_bytes : List ℕ
 fine_down_bytes = prologue_bytes 0x01 0x00 0x01 ++ raster_bytes 0x00 0x05 0x0A 0x01 0x04 (0x00 ∷ 0xF0 ∷ []) ++ end_bytes
 
--- ---- what they say
+-- ---- what they mean
 
 abbrev pub black_dot : ℕ → ℕ → Dot
 black_dot x y = record { ink = Black; x = x; y = y }

@@ -19,7 +19,7 @@ even = true ∷ false ∷ true ∷ false ∷ true ∷ false ∷ true ∷ false �
 abbrev pub odd : List Bool
 odd = false ∷ true ∷ false ∷ true ∷ false ∷ true ∷ false ∷ true ∷ []
 
--- a window that is all dots
+-- a window with a dot at each place
 abbrev pub two_black_rows : Halftone
 two_black_rows = record { width = 8; height = 2; dot = λ ink y x. true }
 
@@ -31,7 +31,7 @@ stroke start rows = record { start = start; rows = λ ink. rows }
 abbrev pub dots_at : ℕ → List ℕ → List Dot
 dots_at y columns = map (λ x. black_dot (10 * x) y) columns
 
--- three rows of a raster, each of one byte as it is
+-- three rows of a raster, each of one byte, not coded
 abbrev pub three_rows : ℕ → ℕ → ℕ → List ℕ
 three_rows a b d = raster_bytes 0x00 0x14 0x0A 0x03 0x08 (0x00 ∷ a ∷ 0x00 ∷ b ∷ 0x00 ∷ d ∷ [])
 
@@ -41,7 +41,8 @@ three_rows a b d = raster_bytes 0x00 0x14 0x0A 0x03 0x08 (0x00 ∷ a ∷ 0x00 �
 abbrev pub shingles : Strokes
 shingles = record {
   above = 2;
-  list = stroke 0 (blank ∷ even ∷ blank ∷ []) ∷ stroke 1 (blank ∷ even ∷ blank ∷ []) ∷ stroke 2 (odd ∷ blank ∷ blank ∷ []) ∷ stroke 3 (odd ∷ blank ∷ blank ∷ []) ∷ [];
+  list = stroke 0 (blank ∷ even ∷ blank ∷ []) ∷ stroke 1 (blank ∷ even ∷ blank ∷ [])
+      ∷ stroke 2 (odd ∷ blank ∷ blank ∷ []) ∷ stroke 3 (odd ∷ blank ∷ blank ∷ []) ∷ [];
 }
 
 abbrev pub shingles_bytes : List ℕ

@@ -4,8 +4,8 @@ use Rattle.std.specs.Prelude.{ℕ, ◌+◌, ◌*◌, ◌≤◌}
 use Rattle.printer_definitions.specs.Printer.{Printer, row_units}
 use Rattle.page_definitions.specs.Dots.{Halftone}
 
--- The window of a halftone has a dot's room at least and 8,191 columns at most, and ends on a sheet of so many rows,
--- which is 22 inches long at most.
+-- The window of a halftone has at least one dot's place and at most 8,191 columns, and ends on a sheet of `tall`
+-- rows, which is at most 22 inches long.
 pub record Sized (p : Printer) (h : Halftone) (tall : ℕ) : Type 0 where
   pub some_width : 1 ≤ h.width
   pub most_width : h.width ≤ most_columns

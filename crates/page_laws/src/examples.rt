@@ -1,5 +1,5 @@
-//! Worked pages: each function does nothing, and the checker computes its contract. They hold the definitions against
-//! results that were worked by hand.
+//! Worked pages: each function does nothing, and the checker computes its contract. They compare the definitions with
+//! results worked by hand.
 ghost use Rattle.diffusion_definitions.specs.Diffusion.{floyd};
 ghost use Rattle.escp2_definitions.specs.Commands.{commands};
 ghost use Rattle.escp2_definitions.specs.Machine.{execute};
@@ -7,7 +7,11 @@ ghost use Rattle.escp2_definitions.specs.Rasters.{ink_rasters};
 ghost use Rattle.escp2_laws.specs.Examples.{listing, three_nozzles};
 ghost use Rattle.page_definitions.specs.Dots.{wanted};
 ghost use Rattle.page_definitions.specs.PageBytes.{page_bytes};
-ghost use Rattle.page_laws.specs.Examples.{amounts_of, amounts_of_128, black_column, black_column_bytes, black_dot, black_line, black_page, black_page_bytes, black_pixel_bytes, fine_across, fine_across_bytes, fine_down, fine_down_bytes, fires_row, grey, pixel, red_pixel_bytes, six_rows, small_page, small_page_bytes, white_page, white_page_bytes, with_black_start, with_inks, with_limits, with_margins};
+ghost use Rattle.page_laws.specs.Examples.{amounts_of, amounts_of_128, black_column, black_column_bytes, black_dot};
+ghost use Rattle.page_laws.specs.Examples.{black_line, black_page, black_page_bytes, black_pixel_bytes, fine_across};
+ghost use Rattle.page_laws.specs.Examples.{fine_across_bytes, fine_down, fine_down_bytes, fires_row, grey, pixel};
+ghost use Rattle.page_laws.specs.Examples.{red_pixel_bytes, six_rows, small_page, small_page_bytes, white_page};
+ghost use Rattle.page_laws.specs.Examples.{white_page_bytes, with_black_start, with_inks, with_limits, with_margins};
 ghost use Rattle.printer_definitions.specs.Printer.{tiny1};
 ghost use Rattle.printer_definitions.specs.declared.inks.Ink.TheVariants.{Black, Cyan, Magenta, Yellow};
 ghost use Rattle.printer_definitions.specs.declared.inks.InkSet.TheVariants.{Cmy, Cmyk, K};
@@ -37,7 +41,7 @@ pub fn small_page_is_printed()
     } }
 {}
 
-/// A page without dots takes 49 bytes.
+/// The job of a page without dots has 49 bytes.
 #[tactic(auto, unfolding(page_definitions::specs::PageBytes::page_bytes, page_definitions::specs::PageBytes::halftone_bytes, diffusion_definitions::specs::Diffusion::value, diffusion_definitions::specs::Diffusion::row_errors, diffusion_definitions::specs::Diffusion::errors))]
 pub fn white_page_takes_no_stroke()
     ensures len { length white_page_bytes ≡ 49 }
@@ -52,7 +56,7 @@ pub fn black_page_with_margins()
     ensures bytes { page_bytes black_page with_margins floyd ≡ black_page_bytes }
 {}
 
-/// Three black rows of a column take one nozzle three rasters.
+/// For three black rows of a column one nozzle takes three rasters.
 #[tactic(auto, unfolding(page_definitions::specs::PageBytes::page_bytes, page_definitions::specs::PageBytes::halftone_bytes, escp2_definitions::specs::Canonical::canonical_row, escp2_definitions::specs::Canonical::packets_from, escp2_definitions::specs::Canonical::apart_at, escp2_definitions::specs::Canonical::equal_at, diffusion_definitions::specs::Diffusion::value, diffusion_definitions::specs::Diffusion::row_errors, diffusion_definitions::specs::Diffusion::errors, escp2_definitions::specs::Commands::command_at, escp2_definitions::specs::Commands::commands_from, escp2_definitions::specs::RowCode::row_at, escp2_definitions::specs::RowCode::rows_at))]
 pub fn one_nozzle_prints_three_rasters()
     ensures len { length black_column_bytes ≡ 105 }
@@ -68,7 +72,7 @@ pub fn tiny_prints_ninety_two_bytes()
     ensures rasters { ink_rasters Black (commands listing).entries ≡ 2 }
 {}
 
-/// The inks of a pass go in the order of their set: a black pixel takes black alone, a red one magenta and yellow.
+/// The inks of a pass come in the order of their set: a black pixel uses black alone, a red one magenta and yellow.
 #[tactic(auto, unfolding(page_definitions::specs::PageBytes::page_bytes, page_definitions::specs::PageBytes::halftone_bytes, escp2_definitions::specs::Canonical::canonical_row, escp2_definitions::specs::Canonical::packets_from, escp2_definitions::specs::Canonical::apart_at, escp2_definitions::specs::Canonical::equal_at, diffusion_definitions::specs::Diffusion::value, diffusion_definitions::specs::Diffusion::row_errors, diffusion_definitions::specs::Diffusion::errors, escp2_definitions::specs::Commands::command_at, escp2_definitions::specs::Commands::commands_from, escp2_definitions::specs::RowCode::row_at, escp2_definitions::specs::RowCode::rows_at))]
 pub fn inks_go_in_the_order_of_their_set()
     ensures black_len { length black_pixel_bytes ≡ 63 }
@@ -84,13 +88,15 @@ pub fn inks_go_in_the_order_of_their_set()
 /// A black line at 720 dots an inch across the page or down it: the steps of its raster, and the units of its sheet.
 #[tactic(auto, unfolding(page_definitions::specs::PageBytes::page_bytes, page_definitions::specs::PageBytes::halftone_bytes, escp2_definitions::specs::Canonical::canonical_row, escp2_definitions::specs::Canonical::packets_from, escp2_definitions::specs::Canonical::apart_at, escp2_definitions::specs::Canonical::equal_at, diffusion_definitions::specs::Diffusion::value, diffusion_definitions::specs::Diffusion::row_errors, diffusion_definitions::specs::Diffusion::errors))]
 pub fn resolutions_differ_across_and_down()
-    ensures across_dots { wanted black_line fine_across floyd ≡ black_dot 0 0 ∷ black_dot 5 0 ∷ black_dot 10 0 ∷ black_dot 15 0 ∷ [] }
+    ensures across_dots { wanted black_line fine_across floyd
+        ≡ black_dot 0 0 ∷ black_dot 5 0 ∷ black_dot 10 0 ∷ black_dot 15 0 ∷ [] }
     ensures across { page_bytes black_line fine_across floyd ≡ fine_across_bytes }
-    ensures down_dots { wanted black_line fine_down floyd ≡ black_dot 0 0 ∷ black_dot 10 0 ∷ black_dot 20 0 ∷ black_dot 30 0 ∷ [] }
+    ensures down_dots { wanted black_line fine_down floyd
+        ≡ black_dot 0 0 ∷ black_dot 10 0 ∷ black_dot 20 0 ∷ black_dot 30 0 ∷ [] }
     ensures down { page_bytes black_line fine_down floyd ≡ fine_down_bytes }
 {}
 
-/// Which nozzles fire two rows, by 15 nozzles that stand four rows apart and by three that stand two rows apart.
+/// Which nozzles fire two rows, with 15 nozzles four rows apart and with three nozzles two rows apart.
 pub fn two_rows_are_fired()
     ensures fifteen { passes 15 4 2 ≡ fires_row 0 14 0 ∷ fires_row 3 3 1 ∷ [] }
     ensures fifteen_count { pass_count 15 4 2 ≡ 4 }
@@ -101,7 +107,7 @@ pub fn two_rows_are_fired()
 /// The amounts of each ink for a grey of 128.
 pub fn grey_128_has_its_amounts()
     ensures black { amounts_of_128 (with_inks K) ≡ 127 ∷ [] }
-    // black alone, and without black the three colours alike
+    // black alone; without black, the three colours equally
     ensures four_inks { amounts_of_128 (with_inks Cmyk) ≡ 127 ∷ 0 ∷ 0 ∷ 0 ∷ [] }
     ensures three_inks { amounts_of_128 (with_inks Cmy) ≡ 127 ∷ 127 ∷ 127 ∷ [] }
     // 12,700 / 255, rounded down
@@ -110,18 +116,19 @@ pub fn grey_128_has_its_amounts()
 
 /// The amounts of each ink for colours.
 pub fn colours_have_their_amounts()
-    // the darkness of 155 is moved into black whole, or in part above a darkness of 128
+    // the shared darkness of 155 goes to black whole, or in part where black starts at 128
     ensures whole { amounts_of (with_black_start 0) 100 100 100 ≡ 155 ∷ 0 ∷ 0 ∷ 0 ∷ [] }
     ensures part { amounts_of (with_black_start 128) 100 100 100 ≡ 54 ∷ 101 ∷ 101 ∷ 101 ∷ [] }
-    // what is darker than nothing, but not than 128, stays in the colours
+    // a darkness above 0 but below 128 stays in the colours
     ensures light { amounts_of (with_black_start 128) 200 200 200 ≡ 0 ∷ 55 ∷ 55 ∷ 55 ∷ [] }
     ensures red { amounts_of (with_inks Cmy) 255 0 0 ≡ 0 ∷ 255 ∷ 255 ∷ [] }
-    // red as a grey, and the weights of green and blue
+    // red as a grey; then the weights of green and blue
     ensures grey_red { amounts_of tiny1 255 0 0 ≡ 179 ∷ [] }
     ensures grey_green { amounts_of tiny1 0 255 0 ≡ 106 ∷ [] }
     ensures grey_blue { amounts_of tiny1 0 0 255 ≡ 227 ∷ [] }
     // 101 * 224 / 255, rounded down
-    ensures limited { amounts_of (record (with_inks Cmy) { limits = 224 ∷ 224 ∷ 224 ∷ 224 ∷ [] }) 154 154 154 ≡ 88 ∷ 88 ∷ 88 ∷ [] }
+    ensures limited { amounts_of (record (with_inks Cmy) { limits = 224 ∷ 224 ∷ 224 ∷ 224 ∷ [] }) 154 154 154
+        ≡ 88 ∷ 88 ∷ 88 ∷ [] }
 {}
 
 /// The window inside four different margins.

@@ -1,4 +1,4 @@
-//! Each function does nothing; its contract is a law.
+//! The laws. Each function does nothing; its contract is a law.
 ghost use Rattle.diffusion_definitions.specs.Diffusion.{Table};
 ghost use Rattle.escp2_definitions.specs.Commands.{commands};
 ghost use Rattle.escp2_definitions.specs.Machine.{Dot, is_at};
@@ -20,14 +20,15 @@ ghost use Rattle.std.specs.List.{flat_map, list_any, sum_by};
 ghost use Rattle.std.specs.Prelude.{Bool, List, Some, count_by, false, length, slice_get, ℕ, ◌*◌, ◌+◌, ◌/◌, ◌≡◌, ◌≤◌};
 ghost use Rattle.weave_definitions.specs.Weave.{count_from, pass_count};
 
-/// The dots that a page wants are distinct.
+/// The dots that a page asks for are distinct.
 pub fn wanted_are_distinct()
-    ensures { (page : Page) (p : Printer) (k : Table) → CanPrint p → (d : Dot) → count_by (is_at d) (wanted page p k) ≤ 1 }
+    ensures { (page : Page) (p : Printer) (k : Table)
+        → CanPrint p → (d : Dot) → count_by (is_at d) (wanted page p k) ≤ 1 }
 {}
 
-/// Strokes that print a halftone give it on one sheet: their bytes are whole commands, which the printer takes from
-/// any state whose sheet has no dot, and its sheet has each dot of the halftone once, and no other. The rows of the
-/// rasters are plain, or each is written by a code of its own.
+/// Strokes that print a halftone give it on one sheet: their bytes are whole commands, the printer takes them from
+/// any state without a dot on the sheet, and the sheet has each dot of the halftone once and no other. The rows of
+/// the rasters are plain or coded (`IsCoding`).
 pub fn strokes_are_printed()
     ensures { (p : Printer) (h : Halftone) (coding : Coding) (strokes : Strokes) (tall : ℕ)
         → CanPrint p → IsCoding coding → Sized p h tall → Fires p h strokes
@@ -39,21 +40,21 @@ pub fn weave_fires()
     ensures { (p : Printer) (h : Halftone) → CanPrint p → Fires p h (weave p h) }
 {}
 
-/// Rows may be written as they are, or by their canonical codes.
+/// Rows may be plain or coded by their canonical codes.
 pub fn rows_are_coded()
     ensures plain_rows { IsCoding plain }
     ensures canonical_rows { IsCoding canonical }
 {}
 
 /// The bytes of pages, one after another, are a job that prints them: a sheet for each page, with each dot that the
-/// page wants once, and no other.
+/// page asks for once and no other.
 pub fn pages_are_printed()
     ensures { (p : Printer) (k : Table) (pages : List Page) → CanPrint p → ArePages p pages
         → Prints p k pages (flat_map (λ page. page_bytes page p k) pages) }
 {}
 
-/// So are the bytes of pages that are printed by other strokes, and with other codes of their rows: by strokes that are
-/// chosen for each halftone, where they print the halftone of each page that the printer takes.
+/// The same for pages that are printed by other strokes and other codes of rows: strokes that are chosen for each
+/// halftone, and that print the halftone of each page that the printer takes.
 pub fn stroked_pages_are_printed()
     ensures { (coding : Coding) (strokes : Halftone → Strokes) (p : Printer) (k : Table) (pages : List Page)
         → CanPrint p → IsCoding coding → FirePages p k strokes → ArePages p pages
@@ -70,12 +71,14 @@ pub fn strokes_have_rasters()
 
 /// The job of a page takes no more rasters of an ink than the head takes passes over the page's window.
 pub fn pages_have_passes()
-    ensures one_page { (p : Printer) (k : Table) (page : Page) → CanPrint p → IsPage (wanted_by p) page → HasPasses p k page }
-    ensures each_page { (p : Printer) (k : Table) (pages : List Page) → CanPrint p → ArePages p pages → HavePasses p k pages }
+    ensures one_page { (p : Printer) (k : Table) (page : Page)
+        → CanPrint p → IsPage (wanted_by p) page → HasPasses p k page }
+    ensures each_page { (p : Printer) (k : Table) (pages : List Page)
+        → CanPrint p → ArePages p pages → HavePasses p k pages }
 {}
 
-/// A halftone has as many dots of an ink as a table of its dots has in the ink's plane, and none of an ink that is not
-/// in the printer's set.
+/// A halftone has as many dots of an ink as a table of its dots has in the ink's plane, and none of an ink outside
+/// the printer's set.
 pub fn counts_of_planes()
     ensures in_the_set { (p : Printer) (h : Halftone) (width rows inks : ℕ) (dot : ℕ → ℕ → ℕ → Bool) (i : ℕ) (ink : Ink)
         → HasDots p h width rows inks dot → slice_get (inks_of p.inks) i ≡ Some ink
@@ -85,10 +88,11 @@ pub fn counts_of_planes()
         → count_by (λ d. same_ink ink d.ink) (dots_wanted p h) ≡ 0 }
 {}
 
-/// The job of a page has at most 49 bytes, 7 for each pass, and for each ink of a pass 12 and twice the bytes of its
-/// rows.
+/// The job of a page has at most 49 bytes, 7 for each pass, and for each ink of a pass 12 bytes and twice the bytes
+/// of its rows.
 pub fn page_is_short()
     ensures { (p : Printer) (h : Halftone) (len : ℕ)
         → length (halftone_bytes p h len)
-        ≤ 49 + pass_count p.nozzles p.pitch h.height * (7 + length (inks_of p.inks) * (12 + 2 * p.nozzles * ((h.width + 7) / 8))) }
+        ≤ 49 + pass_count p.nozzles p.pitch h.height
+        * (7 + length (inks_of p.inks) * (12 + 2 * p.nozzles * ((h.width + 7) / 8))) }
 {}

@@ -1,5 +1,6 @@
-//! Laws of pages on paper: the dots that a page wants are distinct, strokes that fire them print them, and the bytes of
-//! pages print the pages; and worked pages.
+//! Laws of pages on paper: the dots that a page asks for are distinct, strokes that fire them print them, and the
+//! bytes of pages print the pages. Each law is the contract of a function with an empty body. Worked pages compare
+//! the definitions with results worked by hand.
 #![tactic(auto)]
 
 mod examples;

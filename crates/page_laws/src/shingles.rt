@@ -1,13 +1,16 @@
-//! Worked strokes that are no passes of the weave: each function does nothing, and the checker computes its contract.
+//! Worked strokes that are not passes of the weave: each function does nothing, and the checker computes its
+//! contract.
 ghost use Rattle.escp2_definitions.specs.Commands.{commands};
 ghost use Rattle.escp2_definitions.specs.Machine.{execute};
 ghost use Rattle.escp2_definitions.specs.Written.{canonical};
 ghost use Rattle.escp2_laws.specs.Examples.{three_nozzles};
 ghost use Rattle.page_definitions.specs.Strokes.{Fires, fired, strokes_bytes};
-ghost use Rattle.page_laws.specs.Shingles.{made_up, made_up_bytes, made_up_dots, shingles, shingles_bytes, shingles_dots, two_black_rows};
+ghost use Rattle.page_laws.specs.Shingles.{made_up, made_up_bytes, made_up_dots, shingles, shingles_bytes};
+ghost use Rattle.page_laws.specs.Shingles.{shingles_dots, two_black_rows};
 ghost use Rattle.std.specs.Prelude.{None, [], length, ◌∷◌, ◌≡◌};
 
-/// Rows that are fired twice, and rows that are made up for a nozzle that fires nothing, print their window.
+/// Rows that are fired twice, and rows that another nozzle makes up for a nozzle that fires nothing, print their
+/// window.
 pub fn worked_strokes_fire()
     ensures shingled_rows { Fires three_nozzles two_black_rows shingles }
     ensures made_up_rows { Fires three_nozzles two_black_rows made_up }
@@ -30,8 +33,8 @@ pub fn shingled_rows_are_printed()
     } }
 {}
 
-/// The bytes of rows that are made up for a nozzle that fires nothing, and the dots of their strokes. A stroke without
-/// a dot is left out.
+/// The bytes of rows that another nozzle makes up for a nozzle that fires nothing, and the dots of their strokes. A
+/// stroke without a dot is left out.
 #[tactic(auto, unfolding(escp2_definitions::specs::Canonical::canonical_row, escp2_definitions::specs::Canonical::packets_from, escp2_definitions::specs::Canonical::apart_at, escp2_definitions::specs::Canonical::equal_at))]
 pub fn rows_of_a_dead_nozzle_are_made_up()
     ensures len { length made_up_bytes ≡ 99 }

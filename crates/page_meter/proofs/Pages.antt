@@ -13,7 +13,8 @@ counted-append p k [] page accounts = refl
 counted-append p k (first ∷ pages) page accounts = counted-append p k pages page (map (added (page_dots first p k)) accounts)
 
 pub admitted-append : (p : Printer) (k : Table) (pages : List Page) (page : Page) (accounts : List Account)
-    → Admitted p k pages accounts → All (HasRoom (page_dots page p k)) (counted p k pages accounts) → Admitted p k (pages ++ page ∷ []) accounts
+    → Admitted p k pages accounts
+    → All (HasRoom (page_dots page p k)) (counted p k pages accounts) → Admitted p k (pages ++ page ∷ []) accounts
 admitted-append p k [] page accounts admitted room = (room, tt)
 admitted-append p k (first ∷ pages) page accounts admitted room =
     (admitted.0, admitted-append p k pages page (map (added (page_dots first p k)) accounts) admitted.1 room)
@@ -22,7 +23,8 @@ admitted-append p k (first ∷ pages) page accounts admitted room =
 pub admitted-next : (p : Printer) (k : Table) (pages : List Page) (page : Page) (later : List Page) (accounts : List Account)
     → Admitted p k (pages ++ page ∷ later) accounts → All (HasRoom (page_dots page p k)) (counted p k pages accounts)
 admitted-next p k [] page later accounts admitted = admitted.0
-admitted-next p k (first ∷ pages) page later accounts admitted = admitted-next p k pages page later (map (added (page_dots first p k)) accounts) admitted.1
+admitted-next p k (first ∷ pages) page later accounts admitted =
+    admitted-next p k pages page later (map (added (page_dots first p k)) accounts) admitted.1
 
 pub page_dots-is : (p : Printer) (k : Table) (page : Page) → halftone_dots p (halftone page p k) ≡ page_dots page p k
 unfolding page_dots

@@ -1,4 +1,4 @@
--- The dots of pages, and what meters come to by them.
+-- The dots of pages, and meters that count them.
 use Rattle.std.specs.Prelude.{ℕ, List, [], ◌∷◌, map, All, count_by}
 use Rattle.diffusion_definitions.specs.Diffusion.{Table}
 use Rattle.escp2_definitions.specs.Machine.{Dot}
@@ -21,16 +21,16 @@ halftone_dots p h =
     let dots : List Dot = dots_wanted p h in
     record { k = dots_of dots Black; c = dots_of dots Cyan; m = dots_of dots Magenta; y = dots_of dots Yellow }
 
--- The dots of each ink that a page wants.
+-- The dots of each ink that a page asks for.
 unfoldable pub page_dots : Page → Printer → Table → InkCounts
 page_dots page p k = halftone_dots p (halftone page p k)
 
--- Meters with these pages counted, one after another.
+-- The meters after counting these pages, one after another.
 abbrev pub counted : Printer → Table → List Page → List Account → List Account
 counted p k [] accounts = accounts
 counted p k (page ∷ pages) accounts = counted p k pages (map (added (page_dots page p k)) accounts)
 
--- Each meter has room for each page, with the pages before it counted.
+-- Each meter has room for each page, after counting the pages before it.
 abbrev pub Admitted : Printer → Table → List Page → List Account → Type 0
 Admitted p k [] accounts = Unit {0}
 Admitted p k (page ∷ pages) accounts =

@@ -11,7 +11,7 @@ ghost use Rattle.std.specs.Prelude.{length, ◌<◌, ◌^◌, ◌≡◌, ◌≤�
 use dot_planes::Planes;
 use weave_base::{InkCounts, InkSet};
 
-/// How many dots of each ink there are in planes of these inks. An ink that is not of the set has none.
+/// The number of dots of each ink in planes of these inks. An ink outside the set has none.
 pub fn count_dots(inks: InkSet, planes: &Planes) -> InkCounts
     requires planes { planes.now.inks ≡ length (inks_of inks) }
     requires width { planes.now.width ≤ most_columns }

@@ -1,4 +1,5 @@
-//! The dots of a page, as meters count them.
+//! The dots of a page, as meters count them: `count_dots` gives, for each halftone whose dots the planes have, the
+//! number of its dots of each ink. It takes no memory.
 #![tactic(auto)]
 
 mod counts;

@@ -1,5 +1,6 @@
 -- Packed rows without dots.
-use Rattle.std.proofs.Common.{◌≡◌, ℕ, zero, suc, ◌+◌, ◌-◌, ◌*◌, ◌/◌, ◌≤◌, ◌<◌, max, Bool, true, false, not, ◌&&◌, ◌||◌, ◌==◌, List, [], ◌∷◌, length, take, drop, replicate, get_or, refl, sym, ◌∙◌, ap, arith, length-drop}
+use Rattle.std.proofs.Common.{◌≡◌, ℕ, zero, suc, ◌+◌, ◌-◌, ◌*◌, ◌/◌, ◌≤◌, ◌<◌, max, Bool, true, false, not, ◌&&◌, ◌||◌, ◌==◌, List, [], ◌∷◌}
+use Rattle.std.proofs.Common.{length, take, drop, replicate, get_or, refl, sym, ◌∙◌, ap, arith, length-drop}
 use Rattle.std.specs.List.{list_all, list_any}
 use Rattle.std.proofs.lemmas.Bool.Decides.{nat_tests}
 use Rattle.std.proofs.lemmas.List.{drop-drop, drop-replicate, length-replicate}
@@ -23,7 +24,7 @@ blank_more row most i low so_far =
 
 -- ---- a blank row
 
--- so many bytes of no dots
+-- bytes without dots
 blank-bytes : (n width : ℕ) → packed_bytes n (replicate width false) ≡ replicate n 0
 blank-bytes zero width = refl
 blank-bytes (suc n) width =
@@ -47,27 +48,29 @@ blank-bytes (suc n) width =
 -- a blank row is packed as zeros
 pub packed-blank : (width : ℕ) → packed (replicate width false) ≡ replicate ((width + 7) / 8) 0
 packed-blank width =
-    ap (λ n. packed_bytes ((n + 7) / 8) (replicate width false)) (length-replicate {A = Bool} width false) ∙ blank-bytes ((width + 7) / 8) width
+    ap (λ n. packed_bytes ((n + 7) / 8) (replicate width false)) (length-replicate {A = Bool} width false)
+    ∙ blank-bytes ((width + 7) / 8) width
 
 -- ---- a row with dots
 
--- a row has a dot at its first place or behind it
+-- a row has a dot at its first place or after it
 any-first : (row : List Bool) → list_any (λ on. on) row ≡ (at row 0 || list_any (λ on. on) (drop 1 row))
 any-first [] = refl
 any-first (b ∷ row) = refl
 
--- the first place behind others
+-- the first place after others
 at-behind : (row : List Bool) (k : ℕ) → at (drop k row) 0 ≡ at row k
 at-behind row zero = refl
 at-behind [] (suc k) = refl
 at-behind (b ∷ row) (suc k) = at-behind row k
 
--- a row has a dot at a place or behind it
+-- a row has a dot at a place or after it
 any-behind : (row : List Bool) (k : ℕ) → list_any (λ on. on) (drop k row) ≡ (at row k || list_any (λ on. on) (drop (1 + k) row))
 any-behind row k =
     any-first (drop k row)
     ∙ ap (λ b. b || list_any (λ on. on) (drop 1 (drop k row))) (at-behind row k)
-    ∙ ap (λ row'. at row k || list_any (λ on. on) row') (drop-drop 1 k row ∙ ap (λ n. drop n row) (let e : k + 1 ≡ 1 + k = omega arith in e))
+    ∙ ap (λ row'. at row k || list_any (λ on. on) row') (drop-drop 1 k row
+    ∙ ap (λ n. drop n row) (let e : k + 1 ≡ 1 + k = omega arith in e))
 
 -- a sum of bits is 0 where each bit is off
 sum-zero : (s : ℕ) (b : Bool) (n : ℕ) → 1 ≤ n → (s + worth b n == 0) ≡ ((s == 0) && not b)
@@ -100,10 +103,18 @@ eight-zero : (b0 b1 b2 b3 b4 b5 b6 b7 : Bool)
     → (worth b0 128 + worth b1 64 + worth b2 32 + worth b3 16 + worth b4 8 + worth b5 4 + worth b6 2 + worth b7 1 == 0)
     ≡ (((((((not b0 && not b1) && not b2) && not b3) && not b4) && not b5) && not b6) && not b7)
 eight-zero b0 b1 b2 b3 b4 b5 b6 b7 =
-    sum-zero (worth b0 128 + worth b1 64 + worth b2 32 + worth b3 16 + worth b4 8 + worth b5 4 + worth b6 2) b7 1 (omega arith) ∙ ap (λ t. t && not b7) (sum-zero (worth b0 128 + worth b1 64 + worth b2 32 + worth b3 16 + worth b4 8 + worth b5 4) b6 2 (omega arith) ∙ ap (λ t. t && not b6) (sum-zero (worth b0 128 + worth b1 64 + worth b2 32 + worth b3 16 + worth b4 8) b5 4 (omega arith) ∙ ap (λ t. t && not b5) (sum-zero (worth b0 128 + worth b1 64 + worth b2 32 + worth b3 16) b4 8 (omega arith) ∙ ap (λ t. t && not b4) (sum-zero (worth b0 128 + worth b1 64 + worth b2 32) b3 16 (omega arith) ∙ ap (λ t. t && not b3) (sum-zero (worth b0 128 + worth b1 64) b2 32 (omega arith) ∙ ap (λ t. t && not b2) (sum-zero (worth b0 128) b1 64 (omega arith) ∙ ap (λ t. t && not b1) (worth-zero b0 128 (omega arith))))))))
+    sum-zero (worth b0 128 + worth b1 64 + worth b2 32 + worth b3 16 + worth b4 8 + worth b5 4 + worth b6 2) b7 1
+    (omega arith) ∙ ap (λ t. t && not b7) (sum-zero (worth b0 128 + worth b1 64
+    + worth b2 32 + worth b3 16 + worth b4 8 + worth b5 4) b6 2 (omega arith) ∙ ap (λ t. t && not b6)
+    (sum-zero (worth b0 128 + worth b1 64 + worth b2 32 + worth b3 16 + worth b4 8) b5 4 (omega arith) ∙ ap (λ t.
+    t && not b5) (sum-zero (worth b0 128 + worth b1 64 + worth b2 32 + worth b3 16) b4 8 (omega arith) ∙ ap
+    (λ t. t && not b4) (sum-zero (worth b0 128 + worth b1 64 + worth b2 32) b3 16 (omega arith) ∙ ap (λ t.
+    t && not b3) (sum-zero (worth b0 128 + worth b1 64) b2 32 (omega arith) ∙ ap (λ t. t && not b2) (sum-zero
+    (worth b0 128) b1 64 (omega arith) ∙ ap (λ t. t && not b1) (worth-zero b0 128 (omega arith))))))))
 
 -- a row has a dot where one of its bytes is not 0
-any-bytes : (n : ℕ) (row : List Bool) → length row ≤ 8 * n → list_any (λ on. on) row ≡ not (list_all (λ byte. byte == 0) (packed_bytes n row))
+any-bytes : (n : ℕ) (row : List Bool)
+    → length row ≤ 8 * n → list_any (λ on. on) row ≡ not (list_all (λ byte. byte == 0) (packed_bytes n row))
 any-bytes zero [] few = refl
 any-bytes zero (b ∷ row) few = absurd (omega arith)
 any-bytes (suc n) row few =
@@ -111,7 +122,10 @@ any-bytes (suc n) row few =
     any-bytes n (drop 8 row) (omega (arith, few, length-drop 8 row)) in
     let rest : Bool = list_all (λ byte. byte == 0) (packed_bytes n (drop 8 row)) in
     any-first row
-    ∙ ap (λ t. at row 0 || t) (any-behind row 1 ∙ ap (λ t. at row 1 || t) (any-behind row 2 ∙ ap (λ t. at row 2 || t) (any-behind row 3 ∙ ap (λ t. at row 3 || t) (any-behind row 4 ∙ ap (λ t. at row 4 || t) (any-behind row 5 ∙ ap (λ t. at row 5 || t) (any-behind row 6 ∙ ap (λ t. at row 6 || t) (any-behind row 7 ∙ ap (λ t. at row 7 || t) more)))))))
+    ∙ ap (λ t. at row 0 || t) (any-behind row 1
+    ∙ ap (λ t. at row 1 || t) (any-behind row 2 ∙ ap (λ t. at row 2 || t) (any-behind row 3 ∙ ap (λ t.
+    at row 3 || t) (any-behind row 4 ∙ ap (λ t. at row 4 || t) (any-behind row 5 ∙ ap (λ t. at row 5 || t)
+    (any-behind row 6 ∙ ap (λ t. at row 6 || t) (any-behind row 7 ∙ ap (λ t. at row 7 || t) more)))))))
     ∙ bits-tell (at row 0) (at row 1) (at row 2) (at row 3) (at row 4) (at row 5) (at row 6) (at row 7) rest
     ∙ ap (λ t. not (t && rest)) (sym (eight-zero (at row 0) (at row 1) (at row 2) (at row 3) (at row 4) (at row 5) (at row 6) (at row 7)))
 

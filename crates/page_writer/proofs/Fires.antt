@@ -1,5 +1,6 @@
 -- What an ink fires in a pass, row by row.
-use Rattle.std.proofs.Common.{◌≡◌, ℕ, suc, ◌+◌, ◌*◌, ◌/◌, ◌≤◌, ◌==◌, nat_lt, Bool, true, false, if◌then◌else◌, List, [], ◌∷◌, ◌++◌, length, map, drop, Option, Some, None, refl, sym, ◌∙◌, ap, arith, append_assoc, append-nil, subst}
+use Rattle.std.proofs.Common.{◌≡◌, ℕ, suc, ◌+◌, ◌*◌, ◌/◌, ◌≤◌, ◌==◌, nat_lt, Bool, true, false, if◌then◌else◌, List, [], ◌∷◌, ◌++◌, length}
+use Rattle.std.proofs.Common.{map, drop, Option, Some, None, refl, sym, ◌∙◌, ap, arith, append_assoc, append-nil, subst}
 use Rattle.std.specs.List.{flat_map}
 use Rattle.std.proofs.lemmas.List.{drop_at, length-map, length-replicate, take_at}
 use Rattle.dot_planes.specs.Tables.{DotTable, dot}
@@ -26,12 +27,15 @@ plane_row-len t place None = length-replicate {A = Bool} t.width false
 plane_row-len t place (Some y) = length-map (count_from 0 t.width) (dot t place y) ∙ count_from-len 0 t.width
 
 -- the bytes of a row
-pub row-len : (t : DotTable) (plan : Weaving) (place pass nozzle : ℕ) → length (packed (nozzle_plane_row t plan place pass nozzle)) ≡ (t.width + 7) / 8
+pub row-len : (t : DotTable) (plan : Weaving) (place pass nozzle : ℕ)
+    → length (packed (nozzle_plane_row t plan place pass nozzle)) ≡ (t.width + 7) / 8
 row-len t plan place pass nozzle =
-    packed-len t.width (nozzle_plane_row t plan place pass nozzle) (plane_row-len t place (nozzle_row plan.nozzles plan.pitch plan.height pass nozzle))
+    packed-len t.width (nozzle_plane_row t plan place pass nozzle)
+    (plane_row-len t place (nozzle_row plan.nozzles plan.pitch plan.height pass nozzle))
 
--- so is each of the rows
-rows-wide : (t : DotTable) (plan : Weaving) (place pass : ℕ) (nozzles : List ℕ) → AllWide t.width (map (nozzle_plane_row t plan place pass) nozzles)
+-- the same for each of the rows
+rows-wide : (t : DotTable) (plan : Weaving) (place pass : ℕ) (nozzles : List ℕ)
+    → AllWide t.width (map (nozzle_plane_row t plan place pass) nozzles)
 rows-wide t plan place pass [] = tt
 rows-wide t plan place pass (nozzle ∷ nozzles) =
     (plane_row-len t place (nozzle_row plan.nozzles plan.pitch plan.height pass nozzle), rows-wide t plan place pass nozzles)
@@ -42,7 +46,7 @@ rows-wide t plan place pass (nozzle ∷ nozzles) =
 abbrev pub codes_of : List (List Bool) → List ℕ
 codes_of rows = flat_map (λ row. canonical_row (packed row)) rows
 
--- rows of one width, one behind another, are the rows again
+-- rows of one width, one after another, are cut into the rows again
 codes-apart : (width : ℕ) (rows : List (List Bool)) → AllWide width rows
     → flat_map canonical_row (rows_apart (length rows) ((width + 7) / 8) (flat_map packed rows)) ≡ codes_of rows
 codes-apart width [] wide = refl
@@ -50,8 +54,10 @@ codes-apart width (row ∷ rows) wide =
     let bytes : ℕ = (width + 7) / 8 in
     let more : List ℕ = flat_map packed rows in
     let len : length (packed row) ≡ bytes = packed-len width row wide.0 in
-    ap (λ bs. canonical_row bs ++ flat_map canonical_row (rows_apart (length rows) bytes (drop bytes (packed row ++ more)))) (take_at (packed row) more bytes len)
-    ∙ ap (λ bs. canonical_row (packed row) ++ flat_map canonical_row (rows_apart (length rows) bytes bs)) (drop_at (packed row) more bytes len)
+    ap (λ bs. canonical_row bs ++ flat_map canonical_row
+    (rows_apart (length rows) bytes (drop bytes (packed row ++ more)))) (take_at (packed row) more bytes len)
+    ∙ ap (λ bs. canonical_row (packed row) ++ flat_map canonical_row (rows_apart (length rows) bytes bs))
+    (drop_at (packed row) more bytes len)
     ∙ ap (λ bs. canonical_row (packed row) ++ bs) (codes-apart width rows wide.1)
 
 -- ---- the commands of an ink
@@ -61,7 +67,8 @@ abbrev pub head_of : RasterHead → Ink → List ℕ
 head_of head ink = (command_bytes (c.Colour ink) ++ command_bytes c.Return) ++ command_bytes (c.Raster head)
 
 -- an ink that has a dot to fire
-fired-bytes : (head : RasterHead) (ink : Ink) (rows : List (List Bool)) → has_dot rows ≡ true → head.c ≡ 1 → length rows ≡ head.m → AllWide head.n rows
+fired-bytes : (head : RasterHead) (ink : Ink) (rows : List (List Bool))
+    → has_dot rows ≡ true → head.c ≡ 1 → length rows ≡ head.m → AllWide head.n rows
     → bytes_of canonical_row (rows_commands head ink rows) ≡ head_of head ink ++ codes_of rows
 fired-bytes head ink rows fires coded many wide =
     let raster : Spoken = record { command = c.Raster head; rows = flat_map packed rows } in
@@ -86,7 +93,8 @@ pub rows_begin : (t : DotTable) (plan : Weaving) (place pass : ℕ) (head : Rast
     → RowsSoFar t plan place pass (old ++ bytes_of canonical_row (rows_commands head ink (plane_rows t plan place pass))) out 0 left
 rows_begin t plan place pass head ink old out left fires coded nozzles columns all begun =
     let rows : List (List Bool) = plane_rows t plan place pass in
-    let many : length rows ≡ head.m = length-map (count_from 0 plan.nozzles) (nozzle_plane_row t plan place pass) ∙ count_from-len 0 plan.nozzles ∙ sym nozzles in
+    let many : length rows ≡ head.m = length-map (count_from 0 plan.nozzles) (nozzle_plane_row t plan place pass)
+    ∙ count_from-len 0 plan.nozzles ∙ sym nozzles in
     let P : ℕ → Type 0 = λ n. AllWide n rows in
     let wide : AllWide head.n rows = subst P (sym columns) (rows-wide t plan place pass (count_from 0 plan.nozzles)) in
     record {
@@ -112,21 +120,23 @@ rows_step t plan place pass whole out out' row nozzle left next so_far more is a
     }
 
 -- all rows are appended
-pub rows_end : (t : DotTable) (plan : Weaving) (place pass : ℕ) (whole out : List ℕ) (nozzle left : ℕ) → RowsSoFar t plan place pass whole out nozzle left
+pub rows_end : (t : DotTable) (plan : Weaving) (place pass : ℕ) (whole out : List ℕ) (nozzle left : ℕ)
+    → RowsSoFar t plan place pass whole out nozzle left
     → left ≡ 0 → out ≡ whole
 rows_end t plan place pass whole out nozzle left so_far none =
     sym (so_far.is ∙ ap (λ n. out ++ codes_of (map (nozzle_plane_row t plan place pass) (count_from nozzle n))) none ∙ append-nil out)
 
 -- ---- room for rows
 
--- room for so many rows is room for one
+-- room for some rows is room for one
 pub room_one : (len most left next bytes : ℕ) → left ≡ suc next → len + 2 * left * bytes ≤ most → len + 2 * bytes ≤ most
 room_one len most left next bytes more room =
     let rows : 2 * suc next * bytes ≡ 2 * bytes + 2 * next * bytes = omega arith in
     omega (arith, room, rows, ap (λ n. 2 * n * bytes) more)
 
--- and for the rows behind it
-pub room_more : (len len' most left next bytes : ℕ) → left ≡ suc next → len + 2 * left * bytes ≤ most → len' ≤ len + 2 * bytes → len' + 2 * next * bytes ≤ most
+-- and for the rows after it
+pub room_more : (len len' most left next bytes : ℕ)
+    → left ≡ suc next → len + 2 * left * bytes ≤ most → len' ≤ len + 2 * bytes → len' + 2 * next * bytes ≤ most
 room_more len len' most left next bytes more room taken =
     let rows : 2 * suc next * bytes ≡ 2 * bytes + 2 * next * bytes = omega arith in
     omega (arith, room, taken, rows, ap (λ n. 2 * n * bytes) more)
@@ -139,19 +149,22 @@ none_fired head ink rows old none =
     sym (ap (λ b. old ++ bytes_of canonical_row (if b then say (c.Colour ink) ∷ say c.Return ∷ raster ∷ [] else [])) none ∙ append-nil old)
 
 -- the rasters of an ink
-pub none_counted : (head : RasterHead) (ink : Ink) (rows : List (List Bool)) → has_dot rows ≡ false → 0 ≡ rasters_in (rows_commands head ink rows)
+pub none_counted : (head : RasterHead) (ink : Ink) (rows : List (List Bool))
+    → has_dot rows ≡ false → 0 ≡ rasters_in (rows_commands head ink rows)
 none_counted head ink rows none =
     let raster : Spoken = record { command = c.Raster head; rows = flat_map packed rows } in
     sym (ap (λ b. rasters_in (if b then say (c.Colour ink) ∷ say c.Return ∷ raster ∷ [] else [])) none)
 
 -- one raster, where it has a dot
-pub one_counted : (head : RasterHead) (ink : Ink) (rows : List (List Bool)) → has_dot rows ≡ true → 1 ≡ rasters_in (rows_commands head ink rows)
+pub one_counted : (head : RasterHead) (ink : Ink) (rows : List (List Bool))
+    → has_dot rows ≡ true → 1 ≡ rasters_in (rows_commands head ink rows)
 one_counted head ink rows fires =
     let raster : Spoken = record { command = c.Raster head; rows = flat_map packed rows } in
     sym (ap (λ b. rasters_in (if b then say (c.Colour ink) ∷ say c.Return ∷ raster ∷ [] else [])) fires)
 
--- they tell whether it has a dot
-pub rasters_tell : (head : RasterHead) (ink : Ink) (rows : List (List Bool)) → nat_lt 0 (rasters_in (rows_commands head ink rows)) ≡ has_dot rows
+-- they say whether the ink has a dot
+pub rasters_tell : (head : RasterHead) (ink : Ink) (rows : List (List Bool))
+    → nat_lt 0 (rasters_in (rows_commands head ink rows)) ≡ has_dot rows
 rasters_tell head ink rows = by_dot (has_dot rows)
   where
     raster : Spoken

@@ -1,5 +1,6 @@
 -- What the inks fire in a pass, one after another.
-use Rattle.std.proofs.Common.{◌≡◌, ℕ, zero, suc, ◌+◌, ◌*◌, ◌/◌, ◌<◌, ◌≤◌, ◌||◌, nat_lt, Bool, true, false, List, [], ◌∷◌, ◌++◌, length, map, drop, replicate, Option, Some, None, refl, sym, ◌∙◌, ap, arith, append_assoc, append-nil}
+use Rattle.std.proofs.Common.{◌≡◌, ℕ, zero, suc, ◌+◌, ◌*◌, ◌/◌, ◌<◌, ◌≤◌, ◌||◌, nat_lt, Bool, true, false, List, [], ◌∷◌, ◌++◌, length, map}
+use Rattle.std.proofs.Common.{drop, replicate, Option, Some, None, refl, sym, ◌∙◌, ap, arith, append_assoc, append-nil}
 use Rattle.std.specs.Prelude.{slice_get}
 use Rattle.std.specs.List.{flat_map, list_any}
 use Rattle.std.proofs.lemmas.Bool.{lt-ltb}
@@ -28,19 +29,22 @@ use Rattle.page_writer.proofs.Fires.{rasters_tell}
 -- ---- the planes' rows are those of the halftone
 
 -- two tables of numbers agree below a bound
-map-counted : {X : Type 0} (f g : ℕ → X) (n many : ℕ) → ((x : ℕ) → x < n + many → f x ≡ g x) → map f (count_from n many) ≡ map g (count_from n many)
+map-counted : {X : Type 0} (f g : ℕ → X) (n many : ℕ)
+    → ((x : ℕ) → x < n + many → f x ≡ g x) → map f (count_from n many) ≡ map g (count_from n many)
 map-counted f g n zero same = refl
 map-counted f g n (suc many) same =
     ap (λ x. x ∷ map f (count_from (n + 1) many)) (same n (omega arith))
     ∙ ap (λ xs. g n ∷ xs) (map-counted f g (n + 1) many (λ x low. same x (omega arith)))
 
 -- a row that a nozzle fires
-plane_row-is : (p : Printer) (t : DotTable) (h : Halftone) (place : ℕ) (ink : Ink) → Shows p t h → slice_get (inks_of p.inks) place ≡ Some ink
+plane_row-is : (p : Printer) (t : DotTable) (h : Halftone) (place : ℕ) (ink : Ink)
+    → Shows p t h → slice_get (inks_of p.inks) place ≡ Some ink
     → (row : Option ℕ) → ((y : ℕ) → row ≡ Some y → y < h.height) → fired_row h ink row ≡ plane_row t place row
 plane_row-is p t h place ink shows is None on = ap (λ n. replicate n false) (sym shows.width_is)
 plane_row-is p t h place ink shows is (Some y) on =
     ap (λ n. map (h.dot ink y) (count_from 0 n)) (sym shows.width_is)
-    ∙ map-counted (h.dot ink y) (dot t place y) 0 t.width (λ x low. sym (shows.dots place y x ink is (on y refl) (omega (arith, low, shows.width_is))))
+    ∙ map-counted (h.dot ink y) (dot t place y) 0 t.width
+    (λ x low. sym (shows.dots place y x ink is (on y refl) (omega (arith, low, shows.width_is))))
 
 -- the rows of an ink in a pass
 pub pass_rows-are : (p : Printer) (plan : Weaving) (t : DotTable) (h : Halftone) (place pass : ℕ) (ink : Ink) → Suits p plan t → Shows p t h
@@ -53,12 +57,13 @@ pass_rows-are p plan t h place pass ink suits shows is =
     ∙ ap (λ n. plane_row t place (nozzle_row n p.pitch h.height pass i)) (sym suits.nozzles)
     ∙ ap (λ n. plane_row t place (nozzle_row plan.nozzles n h.height pass i)) (sym suits.pitch)
     ∙ ap (λ n. plane_row t place (nozzle_row plan.nozzles plan.pitch n pass i)) tall in
-    map-counted (λ i. fired_row h ink (nozzle_row p.nozzles p.pitch h.height pass i)) (nozzle_plane_row t plan place pass) 0 p.nozzles (λ i low. same i)
+    map-counted (λ i. fired_row h ink (nozzle_row p.nozzles p.pitch h.height pass i))
+    (nozzle_plane_row t plan place pass) 0 p.nozzles (λ i low. same i)
     ∙ ap (λ n. map (nozzle_plane_row t plan place pass) (count_from 0 n)) (sym suits.nozzles)
 
 -- ---- lists of commands
 
--- the rasters of commands and of those behind them
+-- the rasters of commands and of those after them
 pub rasters-append : (xs ys : List Spoken) → rasters_in (xs ++ ys) ≡ rasters_in xs + rasters_in ys
 rasters-append [] ys = omega arith
 rasters-append (x ∷ xs) ys = omega (arith, rasters-append xs ys)
@@ -77,7 +82,8 @@ pub record InksSoFar (p : Printer) (h : Halftone) (pass : ℕ) (old out : List �
       ≡ out ++ bytes_of canonical_row (flat_map (ink_commands p h.width 1 (pass_stroke p h pass)) (drop place (inks_of p.inks)))
   pub rasters_are : rasters_in (inks_commands p h.width 1 (pass_stroke p h pass))
       ≡ rasters + rasters_in (flat_map (ink_commands p h.width 1 (pass_stroke p h pass)) (drop place (inks_of p.inks)))
-  pub fire : fires p (pass_stroke p h pass) ≡ (nat_lt 0 rasters || list_any (λ ink. has_dot (pass_rows p h pass ink)) (drop place (inks_of p.inks)))
+  pub fire : fires p (pass_stroke p h pass)
+      ≡ (nat_lt 0 rasters || list_any (λ ink. has_dot (pass_rows p h pass ink)) (drop place (inks_of p.inks)))
 
 -- no ink is appended
 pub inks_begin : (p : Printer) (h : Halftone) (pass : ℕ) (old : List ℕ) → InksSoFar p h pass old old 0 0
@@ -90,8 +96,10 @@ lt-add (suc m) n rest =
     ap (λ b. b || (nat_lt 0 n || rest)) (lt-ltb 0 (suc m) (omega arith)) ∙ sym (ap (λ b. b || rest) (lt-ltb 0 (suc m + n) (omega arith)))
 
 -- one more ink is appended
-pub inks_step : (p : Printer) (plan : Weaving) (t : DotTable) (h : Halftone) (pass : ℕ) (old out out' : List ℕ) (head : RasterHead) (ink : Ink) (rasters place one : ℕ)
-    → InksSoFar p h pass old out rasters place → Suits p plan t → Shows p t h → slice_get (inks_of p.inks) place ≡ Some ink → head ≡ raster_head p t.width 1
+pub inks_step : (p : Printer) (plan : Weaving) (t : DotTable)
+    (h : Halftone) (pass : ℕ) (old out out' : List ℕ) (head : RasterHead) (ink : Ink) (rasters place one : ℕ)
+    → InksSoFar p h pass old out rasters place
+    → Suits p plan t → Shows p t h → slice_get (inks_of p.inks) place ≡ Some ink → head ≡ raster_head p t.width 1
     → out' ≡ out ++ bytes_of canonical_row (rows_commands head ink (plane_rows t plan place pass))
     → one ≡ rasters_in (rows_commands head ink (plane_rows t plan place pass))
     → InksSoFar p h pass old out' (rasters + one) (place + 1)
@@ -114,11 +122,14 @@ inks_step p plan t h pass old out out' head ink rasters place one so_far suits s
           ∙ ap (λ bs. bs ++ bytes_of canonical_row (flat_map job left)) (sym appended);
       rasters_are = so_far.rasters_are
           ∙ ap (λ inks. rasters + rasters_in (flat_map job inks)) next
-          ∙ ap (λ n. rasters + n) (rasters-append (job ink) (flat_map job left) ∙ ap (λ n. n + rasters_in (flat_map job left)) (ap rasters_in first ∙ sym counted))
-          ∙ (let sum : rasters + (one + rasters_in (flat_map job left)) ≡ rasters + one + rasters_in (flat_map job left) = omega arith in sum);
+          ∙ ap (λ n. rasters + n) (rasters-append (job ink) (flat_map job left)
+          ∙ ap (λ n. n + rasters_in (flat_map job left)) (ap rasters_in first ∙ sym counted))
+          ∙ (let sum : rasters + (one + rasters_in (flat_map job left))
+          ≡ rasters + one + rasters_in (flat_map job left) = omega arith in sum);
       fire = so_far.fire
           ∙ ap (λ inks. nat_lt 0 rasters || list_any (λ ink. has_dot (pass_rows p h pass ink)) inks) next
-          ∙ ap (λ b. nat_lt 0 rasters || (b || has)) (ap has_dot rows ∙ sym (rasters_tell head ink (plane_rows t plan place pass)) ∙ ap (nat_lt 0) (sym counted))
+          ∙ ap (λ b. nat_lt 0 rasters || (b || has)) (ap has_dot rows
+          ∙ sym (rasters_tell head ink (plane_rows t plan place pass)) ∙ ap (nat_lt 0) (sym counted))
           ∙ lt-add rasters one has;
     }
 
@@ -135,7 +146,8 @@ drop-all (i ∷ inks) zero all = absurd (omega arith)
 drop-all (i ∷ inks) (suc place) all = drop-all inks place (omega arith)
 
 -- all inks are appended
-pub inks_end : (p : Printer) (h : Halftone) (pass : ℕ) (old out : List ℕ) (rasters place : ℕ) → InksSoFar p h pass old out rasters place → length (inks_of p.inks) ≤ place
+pub inks_end : (p : Printer) (h : Halftone) (pass : ℕ) (old out : List ℕ) (rasters place : ℕ)
+    → InksSoFar p h pass old out rasters place → length (inks_of p.inks) ≤ place
     → IsPass p h pass old out rasters
 inks_end p h pass old out rasters place so_far all =
     let job : Ink → List Spoken = ink_commands p h.width 1 (pass_stroke p h pass) in
@@ -143,25 +155,28 @@ inks_end p h pass old out rasters place so_far all =
     record {
       items = sym (so_far.items ∙ ap (λ inks. out ++ bytes_of canonical_row (flat_map job inks)) none ∙ append-nil out);
       rasters_are = sym (so_far.rasters_are ∙ ap (λ inks. rasters + rasters_in (flat_map job inks)) none ∙ omega arith);
-      fire = sym (so_far.fire ∙ ap (λ inks. nat_lt 0 rasters || list_any (λ ink. has_dot (pass_rows p h pass ink)) inks) none ∙ or-false (nat_lt 0 rasters));
+      fire = sym (so_far.fire ∙ ap (λ inks. nat_lt 0 rasters
+          || list_any (λ ink. has_dot (pass_rows p h pass ink)) inks) none ∙ or-false (nat_lt 0 rasters));
     }
 
 -- ---- room for inks
 
--- room for so many inks is room for one
+-- room for some inks is room for one
 pub inks_room_one : (len cap left next most : ℕ) → left ≡ suc next → len + left * most ≤ cap → len + most ≤ cap
 inks_room_one len cap left next most more room =
     let split : suc next * most ≡ most + next * most = omega arith in omega (arith, room, split, ap (λ n. n * most) more)
 
--- and for those behind it
-pub inks_room_more : (len len' cap left next most : ℕ) → left ≡ suc next → len + left * most ≤ cap → len' ≤ len + most → len' + next * most ≤ cap
+-- and for those after it
+pub inks_room_more : (len len' cap left next most : ℕ)
+    → left ≡ suc next → len + left * most ≤ cap → len' ≤ len + most → len' + next * most ≤ cap
 inks_room_more len len' cap left next most more room taken =
     let split : suc next * most ≡ most + next * most = omega arith in omega (arith, room, taken, split, ap (λ n. n * most) more)
 
--- the numbers of a raster tell the bytes of an ink
+-- the bound for the bytes of an ink, from the numbers of its raster
 pub ink_most : (p : Printer) (head : RasterHead) (width columns : ℕ) → head ≡ raster_head p width 1 → width ≡ columns
     → 12 + 2 * head.m * ((head.n + 7) / 8) ≡ 12 + 2 * p.nozzles * ((columns + 7) / 8)
-ink_most p head width columns is same = ap (λ (h : RasterHead). 12 + 2 * h.m * ((h.n + 7) / 8)) is ∙ ap (λ n. 12 + 2 * p.nozzles * ((n + 7) / 8)) same
+ink_most p head width columns is same =
+    ap (λ (h : RasterHead). 12 + 2 * h.m * ((h.n + 7) / 8)) is ∙ ap (λ n. 12 + 2 * p.nozzles * ((n + 7) / 8)) same
 
 -- ---- the most bytes
 
@@ -172,7 +187,8 @@ inks_few Cmy = omega arith
 inks_few Cmyk = omega arith
 
 -- a pass of the widest rows, with the most nozzles and inks
-pub pass_short : (p : Printer) (plan : Weaving) (t : DotTable) → Suits p plan t → 7 + t.inks * (12 + 2 * p.nozzles * ((t.width + 7) / 8)) ≤ 2089015
+pub pass_short : (p : Printer) (plan : Weaving) (t : DotTable)
+    → Suits p plan t → 7 + t.inks * (12 + 2 * p.nozzles * ((t.width + 7) / 8)) ≤ 2089015
 pass_short p plan t suits =
     let bytes : (t.width + 7) / 8 ≤ 1024 = omega (arith, suits.most_columns) in
     let heads : 2 * p.nozzles ≤ 510 = omega (arith, suits.can.most_nozzles) in

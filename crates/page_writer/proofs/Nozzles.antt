@@ -12,7 +12,8 @@ pub nozzle_blank : (f : ℕ → List Bool) (i left n many : ℕ) (row : List ℕ
     → list_any (list_any (λ on. on)) (map f (count_from 0 many)) ≡ list_any (list_any (λ on. on)) (map f (count_from (i + 1) n))
 nozzle_blank f i left n many row blank more so_far is test none =
     so_far ∙ ap (λ n. list_any (list_any (λ on. on)) (map f (count_from i n))) more
-    ∙ ap (λ t. t || list_any (list_any (λ on. on)) (map f (count_from (i + 1) n))) (packed-any (f i) ∙ ap not (ap (list_all (λ byte. byte == 0)) (sym is) ∙ sym test ∙ none))
+    ∙ ap (λ t. t || list_any (list_any (λ on. on)) (map f (count_from (i + 1) n))) (packed-any (f i)
+    ∙ ap not (ap (list_all (λ byte. byte == 0)) (sym is) ∙ sym test ∙ none))
 
 -- a row has a dot
 pub nozzle_fires : (f : ℕ → List Bool) (i left n many : ℕ) (row : List ℕ) (blank : Bool) → left ≡ suc n
@@ -21,7 +22,8 @@ pub nozzle_fires : (f : ℕ → List Bool) (i left n many : ℕ) (row : List ℕ
     → true ≡ list_any (list_any (λ on. on)) (map f (count_from 0 many))
 nozzle_fires f i left n many row blank more so_far is test some =
     sym (so_far ∙ ap (λ n. list_any (list_any (λ on. on)) (map f (count_from i n))) more
-    ∙ ap (λ t. t || list_any (list_any (λ on. on)) (map f (count_from (i + 1) n))) (packed-any (f i) ∙ ap not (ap (list_all (λ byte. byte == 0)) (sym is) ∙ sym test ∙ some)))
+    ∙ ap (λ t. t || list_any (list_any (λ on. on)) (map f (count_from (i + 1) n))) (packed-any (f i)
+    ∙ ap not (ap (list_all (λ byte. byte == 0)) (sym is) ∙ sym test ∙ some)))
 
 -- no nozzle is left
 pub nozzles_none : (f : ℕ → List Bool) (i left many : ℕ) → left ≡ 0

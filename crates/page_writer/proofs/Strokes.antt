@@ -1,5 +1,7 @@
 -- The passes that are written, one after another.
-use Rattle.std.proofs.Common.{◌≡◌, ℕ, zero, suc, ◌+◌, ◌-◌, ◌*◌, ◌/◌, ◌<◌, ◌≤◌, nat_lt, Bool, true, false, cond, if◌then◌else◌, List, [], ◌∷◌, ◌++◌, length, map, filter, Option, refl, sym, ◌∙◌, ap, subst, arith, append_assoc, append-nil, length-append}
+use Rattle.std.proofs.Common.{◌≡◌, ℕ, zero, suc, ◌+◌, ◌-◌, ◌*◌, ◌/◌, ◌<◌, ◌≤◌, nat_lt, Bool, true, false, cond}
+use Rattle.std.proofs.Common.{if◌then◌else◌, List, [], ◌∷◌, ◌++◌, length, map, filter, Option, refl, sym, ◌∙◌, ap, subst}
+use Rattle.std.proofs.Common.{arith, append_assoc, append-nil, length-append}
 use Rattle.std.specs.Io.KnownBytes.{Appends}
 use Rattle.std.proofs.KnownBytes.{Appends-nil, Appends-trans}
 use Rattle.std.proofs.Math.Nat.{div-le_self, mul-le-mul_left, mul-le-mul_right}
@@ -20,7 +22,7 @@ use Rattle.page_writer.specs.Sums.{rasters_in}
 use Rattle.page_writer.specs.declared.sums.PageSum.{PageSum}
 use Rattle.page_writer.proofs.Inks.{rasters-append}
 
--- the commands of so many passes, from one on, where the head stands on this row
+-- the commands of `many` passes from one on, where the head is on this row
 abbrev pub strokes_from : Printer → Halftone → ℕ → ℕ → ℕ → List Spoken
 strokes_from p h last pass left = strokes_commands p h.width 1 last (filter (fires p) (map (pass_stroke p h) (count_from pass left)))
 
@@ -31,7 +33,7 @@ down-rasters : (n : ℕ) → rasters_in (down_by n) ≡ 0
 down-rasters zero = refl
 down-rasters (suc n) = refl
 
--- What a pass is of the passes from it on: its bytes and its rasters, and those of the passes behind it.
+-- A pass among the passes from it on: its bytes and rasters, and those of the passes after it.
 record NextPass (p : Printer) (h : Halftone) (last pass next behind : ℕ) : Type 0 where
   bytes : bytes_of canonical_row (strokes_from p h last pass (suc next))
       ≡ pass_bytes p h pass (pass * p.nozzles - last) ++ bytes_of canonical_row (strokes_from p h behind (pass + 1) next)
@@ -40,7 +42,8 @@ record NextPass (p : Printer) (h : Halftone) (last pass next behind : ℕ) : Typ
       + rasters_in (strokes_from p h behind (pass + 1) next)
 
 -- each pass is the next of those from it on
-next-pass : (p : Printer) (h : Halftone) (last pass next behind : ℕ) → behind ≡ (if fires p (pass_stroke p h pass) then pass * p.nozzles else last)
+next-pass : (p : Printer) (h : Halftone) (last pass next behind : ℕ)
+    → behind ≡ (if fires p (pass_stroke p h pass) then pass * p.nozzles else last)
     → NextPass p h last pass next behind
 next-pass p h last pass next behind is = by_fire (fires p (pass_stroke p h pass)) refl
   where
@@ -69,22 +72,31 @@ next-pass p h last pass next behind is = by_fire (fires p (pass_stroke p h pass)
               ∙ ap (λ bs. bytes_of canonical_row down ++ bs) (bytes-append canonical_row inks rest)
               ∙ sym (append_assoc (bytes_of canonical_row down) (bytes_of canonical_row inks) (bytes_of canonical_row rest))
               ∙ ap (λ j. (bytes_of canonical_row down ++ bytes_of canonical_row inks) ++ bytes_of canonical_row j) same
-              ∙ ap (λ b. (if b then bytes_of canonical_row down ++ bytes_of canonical_row inks else []) ++ bytes_of canonical_row (strokes_from p h behind (pass + 1) next)) (sym e);
+              ∙ ap (λ b. (if b then bytes_of canonical_row down ++ bytes_of canonical_row inks else [])
+              ++ bytes_of canonical_row (strokes_from p h behind (pass + 1) next)) (sym e);
           rasters = ap rasters_in all
               ∙ (let sum : rasters_in (down ++ (inks ++ rest)) ≡ rasters_in inks + rasters_in rest =
-              omega (arith, rasters-append down (inks ++ rest), rasters-append inks rest, down-rasters ((pass * p.nozzles - last) * row_units p)) in sum)
+              omega (
+                arith,
+                rasters-append down (inks ++ rest),
+                rasters-append inks rest,
+                down-rasters ((pass * p.nozzles - last) * row_units p),
+              ) in sum)
               ∙ ap (λ j. rasters_in inks + rasters_in j) same
               ∙ ap (λ b. (if b then rasters_in inks else 0) + rasters_in (strokes_from p h behind (pass + 1) next)) (sym e);
         }
     by_fire false e =
         let there : behind ≡ last = is ∙ ap (λ b. if b then pass * p.nozzles else last) e in
         let all : strokes_from p h last pass (suc next) ≡ strokes_from p h behind (pass + 1) next =
-        ap (λ b. strokes_commands p h.width 1 last (cond b (stroke ∷ later) later)) e ∙ ap (λ n. strokes_commands p h.width 1 n later) (sym there) in
+        ap (λ b. strokes_commands p h.width 1 last (cond b (stroke ∷ later) later)) e
+        ∙ ap (λ n. strokes_commands p h.width 1 n later) (sym there) in
         record {
           bytes = ap (bytes_of canonical_row) all
-              ∙ ap (λ b. (if b then bytes_of canonical_row down ++ bytes_of canonical_row inks else []) ++ bytes_of canonical_row (strokes_from p h behind (pass + 1) next)) (sym e);
+              ∙ ap (λ b. (if b then bytes_of canonical_row down ++ bytes_of canonical_row inks else [])
+              ++ bytes_of canonical_row (strokes_from p h behind (pass + 1) next)) (sym e);
           rasters = ap rasters_in all
-              ∙ (let sum : rasters_in (strokes_from p h behind (pass + 1) next) ≡ 0 + rasters_in (strokes_from p h behind (pass + 1) next) = omega arith in sum)
+              ∙ (let sum : rasters_in (strokes_from p h behind (pass + 1) next)
+              ≡ 0 + rasters_in (strokes_from p h behind (pass + 1) next) = omega arith in sum)
               ∙ ap (λ b. (if b then rasters_in inks else 0) + rasters_in (strokes_from p h behind (pass + 1) next)) (sym e);
         }
 
@@ -92,15 +104,17 @@ next-pass p h last pass next behind is = by_fire (fires p (pass_stroke p h pass)
 pass-rasters : (p : Printer) (h : Halftone) (pass down : ℕ) (done : PageSum) → IsPassSum p h pass down done
     → (if fires p (pass_stroke p h pass) then rasters_in (inks_commands p h.width 1 (pass_stroke p h pass)) else 0) ≡ done.rasters
 pass-rasters p h pass down done is =
-    ap (λ b. if b then rasters_in (inks_commands p h.width 1 (pass_stroke p h pass)) else 0) (sym is.fire) ∙ by_some (nat_lt 0 done.rasters) refl
+    ap (λ b. if b then rasters_in (inks_commands p h.width 1 (pass_stroke p h pass)) else 0) (sym is.fire)
+    ∙ by_some (nat_lt 0 done.rasters) refl
   where
-    by_some : (b : Bool) → nat_lt 0 done.rasters ≡ b → (if b then rasters_in (inks_commands p h.width 1 (pass_stroke p h pass)) else 0) ≡ done.rasters
+    by_some : (b : Bool) → nat_lt 0 done.rasters ≡ b
+        → (if b then rasters_in (inks_commands p h.width 1 (pass_stroke p h pass)) else 0) ≡ done.rasters
     by_some true e = sym is.rasters
     by_some false e = omega (arith, ltb-false 0 done.rasters e)
 
 -- ---- the passes, one after another
 
--- The passes from one on are left to write, where the head stands on this row.
+-- The passes from one on are left to write, where the head is on this row.
 pub record PassesSoFar (old now : Option (List ℕ)) (p : Printer) (h : Halftone) (bytes rasters last pass left : ℕ) : Type 0 where
   pub sent : List ℕ
   pub appends : Appends old now sent
@@ -109,7 +123,8 @@ pub record PassesSoFar (old now : Option (List ℕ)) (p : Printer) (h : Halftone
   pub rasters_are : rasters_in (fired_strokes p h) ≡ rasters + rasters_in (strokes_from p h last pass left)
 
 -- no pass is written
-pub passes_begin : (held : Option (List ℕ)) (p : Printer) (h : Halftone) (left : ℕ) → left ≡ pass_count p.nozzles p.pitch h.height → PassesSoFar held held p h 0 0 0 0 left
+pub passes_begin : (held : Option (List ℕ)) (p : Printer) (h : Halftone) (left : ℕ)
+    → left ≡ pass_count p.nozzles p.pitch h.height → PassesSoFar held held p h 0 0 0 0 left
 passes_begin held p h left all = record {
   sent = [];
   appends = Appends-nil held;
@@ -119,12 +134,15 @@ passes_begin held p h left all = record {
 }
 
 -- one more pass is written
-pub passes_step : (old now now' : Option (List ℕ)) (p : Printer) (h : Halftone) (bytes rasters last pass left next behind down : ℕ) (done : PageSum)
-    → PassesSoFar old now p h bytes rasters last pass left → left ≡ suc next → Appends now now' (pass_bytes p h pass down) → IsPassSum p h pass down done
+pub passes_step : (old now now' : Option (List ℕ))
+    (p : Printer) (h : Halftone) (bytes rasters last pass left next behind down : ℕ) (done : PageSum)
+    → PassesSoFar old now p h bytes rasters last pass left
+    → left ≡ suc next → Appends now now' (pass_bytes p h pass down) → IsPassSum p h pass down done
     → down ≡ pass * p.nozzles - last → behind ≡ (if nat_lt 0 done.rasters then pass * p.nozzles else last)
     → PassesSoFar old now' p h (bytes + done.bytes) (rasters + done.rasters) behind (pass + 1) next
 passes_step old now now' p h bytes rasters last pass left next behind down done so_far more appended sum down_is there =
-    let step : NextPass p h last pass next behind = next-pass p h last pass next behind (there ∙ ap (λ b. if b then pass * p.nozzles else last) sum.fire) in
+    let step : NextPass p h last pass next behind =
+    next-pass p h last pass next behind (there ∙ ap (λ b. if b then pass * p.nozzles else last) sum.fire) in
     let out : List ℕ = so_far.sent in
     let text : List ℕ = pass_bytes p h pass down in
     let later : List ℕ = bytes_of canonical_row (strokes_from p h behind (pass + 1) next) in
@@ -139,13 +157,16 @@ passes_step old now now' p h bytes rasters last pass left next behind down done 
           ∙ sym (append_assoc out text later);
       rasters_are = so_far.rasters_are
           ∙ ap (λ n. rasters + rasters_in (strokes_from p h last pass n)) more
-          ∙ ap (λ n. rasters + n) (step.rasters ∙ ap (λ n. n + rasters_in (strokes_from p h behind (pass + 1) next)) (pass-rasters p h pass down done sum))
-          ∙ (let sum : rasters + (done.rasters + rasters_in (strokes_from p h behind (pass + 1) next)) ≡ rasters + done.rasters + rasters_in (strokes_from p h behind (pass + 1) next) = omega arith in sum);
+          ∙ ap (λ n. rasters + n) (step.rasters ∙ ap
+          (λ n. n + rasters_in (strokes_from p h behind (pass + 1) next)) (pass-rasters p h pass down done sum))
+          ∙ (let sum : rasters + (done.rasters + rasters_in (strokes_from p h behind (pass + 1) next))
+          ≡ rasters + done.rasters + rasters_in (strokes_from p h behind (pass + 1) next) = omega arith in sum);
     }
 
 -- a pass was written in part
 pub passes_part : (old now now' : Option (List ℕ)) (p : Printer) (h : Halftone) (bytes rasters last pass left next down : ℕ)
-    → PassesSoFar old now p h bytes rasters last pass left → left ≡ suc next → down ≡ pass * p.nozzles - last → AppendsPart now now' (pass_bytes p h pass down)
+    → PassesSoFar old now p h bytes rasters last pass left
+    → left ≡ suc next → down ≡ pass * p.nozzles - last → AppendsPart now now' (pass_bytes p h pass down)
     → AppendsPart old now' (bytes_of canonical_row (fired_strokes p h))
 passes_part old now now' p h bytes rasters last pass left next down so_far more down_is part =
     let behind : ℕ = if fires p (pass_stroke p h pass) then pass * p.nozzles else last in
@@ -162,8 +183,14 @@ passes_part old now now' p h bytes rasters last pass left next down so_far more 
     subst P (sym whole) (part_behind old now now' out (text ++ later) so_far.appends (part_of_front now now' text later part))
 
 -- no pass is left
-pub passes_end : (old now : Option (List ℕ)) (p : Printer) (h : Halftone) (bytes rasters last pass left : ℕ) → PassesSoFar old now p h bytes rasters last pass left → left ≡ 0
-    → record { ok : Appends old now (bytes_of canonical_row (fired_strokes p h)); bytes : bytes ≡ length (bytes_of canonical_row (fired_strokes p h)); rasters : rasters ≡ rasters_in (fired_strokes p h) }
+pub passes_end : (old now : Option (List ℕ)) (p : Printer) (h : Halftone) (bytes rasters last pass left : ℕ)
+    → PassesSoFar old now p h bytes rasters last pass left → left ≡ 0
+    → record {
+      ok : Appends old now (bytes_of canonical_row (fired_strokes p h));
+      bytes : bytes
+          ≡ length (bytes_of canonical_row (fired_strokes p h));
+      rasters : rasters ≡ rasters_in (fired_strokes p h);
+    }
 passes_end old now p h bytes rasters last pass left so_far none =
     let whole : bytes_of canonical_row (fired_strokes p h) ≡ so_far.sent =
     so_far.is ∙ ap (λ n. so_far.sent ++ bytes_of canonical_row (strokes_from p h last pass n)) none ∙ append-nil so_far.sent in
@@ -177,15 +204,18 @@ passes_end old now p h bytes rasters last pass left so_far none =
 -- ---- steps down
 
 -- a step down to a pass is no longer than the sheet
-pub step_low : (p : Printer) (rows pass last : ℕ) → CanPrint p → (p.top + rows) * row_units p ≤ 15840 → pass < pass_count p.nozzles p.pitch rows
+pub step_low : (p : Printer) (rows pass last : ℕ)
+    → CanPrint p → (p.top + rows) * row_units p ≤ 15840 → pass < pass_count p.nozzles p.pitch rows
     → (pass * p.nozzles - last) * row_units p ≤ 15840
 step_low p rows pass last can sheet low =
     let above : pass * p.nozzles < head_rows p + rows = pass-low p.nozzles p.pitch rows pass can.some_nozzles low in
-    let less : (pass * p.nozzles - last) * row_units p ≤ (p.top + rows) * row_units p = mul-le-mul_right (row_units p) (omega (arith, above, can.head_room)) in
+    let less : (pass * p.nozzles - last) * row_units p ≤ (p.top + rows) * row_units p =
+    mul-le-mul_right (row_units p) (omega (arith, above, can.head_room)) in
     omega (arith, less, sheet)
 
--- the head never stands below the next pass
-pub head_stands : (n last begin behind pass rasters : ℕ) → last ≤ pass * n → begin ≡ pass * n → behind ≡ (if nat_lt 0 rasters then begin else last) → behind ≤ (pass + 1) * n
+-- the head is never below the next pass
+pub head_stands : (n last begin behind pass rasters : ℕ) → last ≤ pass * n
+    → begin ≡ pass * n → behind ≡ (if nat_lt 0 rasters then begin else last) → behind ≤ (pass + 1) * n
 head_stands n last begin behind pass rasters so_far is there = by_some (nat_lt 0 rasters) there
   where
     next : (pass + 1) * n ≡ pass * n + n

@@ -1,5 +1,6 @@
 -- A page, from its prologue to its end.
-use Rattle.std.proofs.Common.{◌≡◌, ℕ, zero, suc, ◌+◌, ◌-◌, ◌*◌, ◌≤◌, if◌then◌else◌, List, [], ◌∷◌, ◌++◌, length, Option, Some, refl, sym, ◌∙◌, ap, subst, arith, length-append}
+use Rattle.std.proofs.Common.{◌≡◌, ℕ, zero, suc, ◌+◌, ◌-◌, ◌*◌, ◌≤◌, if◌then◌else◌, List, [], ◌∷◌, ◌++◌, length, Option}
+use Rattle.std.proofs.Common.{Some, refl, sym, ◌∙◌, ap, subst, arith, length-append}
 use Rattle.std.specs.Prelude.{slice_get}
 use Rattle.std.specs.Io.KnownBytes.{Appends}
 use Rattle.std.proofs.KnownBytes.{Appends-trans}
@@ -40,20 +41,21 @@ begin_bytes len top bottom = bytes_of canonical_row (
     say c.Init ∷ say c.Graphics ∷ say (c.Unit 5) ∷ say (c.MicroWeave 0) ∷ say (c.OneWay 1)
     ∷ say (c.Length len) ∷ say (c.Margins top bottom) ∷ say (c.DownTo 0) ∷ [])
 
--- the commands behind the passes
+-- the commands after the passes
 abbrev end_commands : List Spoken
 end_commands = say c.Eject ∷ say c.Init ∷ []
 
--- the bytes of the passes, and behind them
+-- the bytes of the passes, and those after them
 abbrev pub strokes_bytes : Printer → Halftone → List ℕ
 strokes_bytes p h = bytes_of canonical_row (fired_strokes p h)
 
--- the bytes behind the passes
+-- the bytes after the passes
 abbrev pub end_bytes : List ℕ
 end_bytes = bytes_of canonical_row (say c.Eject ∷ say c.Init ∷ [])
 
 -- the bytes of a page are those of its parts
-pub page_is : (p : Printer) (h : Halftone) (len length top bottom : ℕ) → length ≡ len → top ≡ (p.top - head_rows p) * row_units p → bottom ≡ (p.top + h.height) * row_units p
+pub page_is : (p : Printer) (h : Halftone) (len length top bottom : ℕ)
+    → length ≡ len → top ≡ (p.top - head_rows p) * row_units p → bottom ≡ (p.top + h.height) * row_units p
     → halftone_bytes p h len ≡ begin_bytes length top bottom ++ (strokes_bytes p h ++ end_bytes)
 unfolding halftone_bytes
 page_is p h len length top bottom length_is top_is bottom_is =
@@ -67,7 +69,8 @@ page_is p h len length top bottom length_is top_is bottom_is =
 -- ---- what a page leaves in a sink
 
 -- all three were appended
-pub all_appended : (a b d e : Option (List ℕ)) (whole xs ys zs : List ℕ) → whole ≡ xs ++ (ys ++ zs) → Appends a b xs → Appends b d ys → Appends d e zs → Appends a e whole
+pub all_appended : (a b d e : Option (List ℕ)) (whole xs ys zs : List ℕ)
+    → whole ≡ xs ++ (ys ++ zs) → Appends a b xs → Appends b d ys → Appends d e zs → Appends a e whole
 all_appended a b d e whole xs ys zs is p q s =
     let P : List ℕ → Type 0 = Appends a e in subst P (sym is) (Appends-trans a b e xs (ys ++ zs) p (Appends-trans b d e ys zs q s))
 
@@ -76,12 +79,14 @@ pub first_part : (a b : Option (List ℕ)) (whole xs ys : List ℕ) → whole �
 first_part a b whole xs ys is p = let P : List ℕ → Type 0 = AppendsPart a b in subst P (sym is) (part_of_front a b xs ys p)
 
 -- the second was appended in part
-pub middle_part : (a b d : Option (List ℕ)) (whole xs ys zs : List ℕ) → whole ≡ xs ++ (ys ++ zs) → Appends a b xs → AppendsPart b d ys → AppendsPart a d whole
+pub middle_part : (a b d : Option (List ℕ)) (whole xs ys zs : List ℕ)
+    → whole ≡ xs ++ (ys ++ zs) → Appends a b xs → AppendsPart b d ys → AppendsPart a d whole
 middle_part a b d whole xs ys zs is p q =
     let P : List ℕ → Type 0 = AppendsPart a d in subst P (sym is) (part_behind a b d xs (ys ++ zs) p (part_of_front b d ys zs q))
 
 -- the third was appended in part
-pub last_part : (a b d e : Option (List ℕ)) (whole xs ys zs : List ℕ) → whole ≡ xs ++ (ys ++ zs) → Appends a b xs → Appends b d ys → AppendsPart d e zs → AppendsPart a e whole
+pub last_part : (a b d e : Option (List ℕ)) (whole xs ys zs : List ℕ)
+    → whole ≡ xs ++ (ys ++ zs) → Appends a b xs → Appends b d ys → AppendsPart d e zs → AppendsPart a e whole
 last_part a b d e whole xs ys zs is p q s =
     let P : List ℕ → Type 0 = AppendsPart a e in subst P (sym is) (part_behind a b e xs (ys ++ zs) p (part_behind b d e ys zs q s))
 
@@ -92,20 +97,35 @@ pub page_sums : (p : Printer) (h : Halftone) (len length' top bottom : ℕ) (sum
     → halftone_bytes p h len ≡ begin_bytes length' top bottom ++ (strokes_bytes p h ++ end_bytes)
     → bytes ≡ length (strokes_bytes p h) → sum.bytes ≡ 49 + bytes → sum.rasters ≡ rasters_in (fired_strokes p h) → SumsUp p h len sum
 page_sums p h len length' top bottom sum bytes is strokes all rasters = record {
-  bytes = omega (arith, all, strokes, ap length is, length-append (begin_bytes length' top bottom) (strokes_bytes p h ++ end_bytes), length-append (strokes_bytes p h) end_bytes);
+  bytes = omega (
+    arith,
+    all,
+    strokes,
+    ap length is,
+    length-append
+        (begin_bytes length' top bottom) (strokes_bytes p h ++ end_bytes),
+    length-append (strokes_bytes p h) end_bytes,
+  );
   rasters = rasters ∙ (let none : rasters_in (fired_strokes p h) ≡ rasters_in (halftone_commands p h len) =
-      omega (arith, rasters-append (prologue p (head_rows p) h.height len) (fired_strokes p h ++ end_commands), rasters-append (fired_strokes p h) end_commands) in none);
+      omega (
+        arith,
+        rasters-append (prologue p (head_rows p) h.height len) (fired_strokes p h ++ end_commands),
+        rasters-append (fired_strokes p h) end_commands,
+      ) in none);
 }
 
 -- ---- a page that the printer takes
 
 -- the size of a window and its sheet
-sized : (p : Printer) (t : DotTable) (f : PageForm) → CanPrint p → IsWanted (wanted_by p) f → t.width ≡ (window_of f p).width → t.rows ≡ (window_of f p).height
+sized : (p : Printer) (t : DotTable) (f : PageForm)
+    → CanPrint p → IsWanted (wanted_by p) f → t.width ≡ (window_of f p).width → t.rows ≡ (window_of f p).height
     → Sized p (record { width = t.width; height = t.rows; dot = λ ink y x. dot t 0 y x }) f.height
-sized p t f can wanted width rows = form-sized p (record { width = t.width; height = t.rows; dot = λ ink y x. dot t 0 y x }) f can wanted width rows
+sized p t f can wanted width rows =
+    form-sized p (record { width = t.width; height = t.rows; dot = λ ink y x. dot t 0 y x }) f can wanted width rows
 
 -- the window ends on its sheet
-pub on_sheet : (p : Printer) (t : DotTable) (f : PageForm) → CanPrint p → IsWanted (wanted_by p) f → t.width ≡ (window_of f p).width → t.rows ≡ (window_of f p).height
+pub on_sheet : (p : Printer) (t : DotTable) (f : PageForm)
+    → CanPrint p → IsWanted (wanted_by p) f → t.width ≡ (window_of f p).width → t.rows ≡ (window_of f p).height
     → (p.top + t.rows) * row_units p ≤ 15840
 on_sheet p t f can wanted width rows =
     let size = sized p t f can wanted width rows in
@@ -113,7 +133,8 @@ on_sheet p t f can wanted width rows =
     omega (arith, less, size.short)
 
 -- planes of the window suit the printer
-pub planes_suit : (p : Printer) (t : DotTable) (f : PageForm) → CanPrint p → IsWanted (wanted_by p) f → t.width ≡ (window_of f p).width → t.rows ≡ (window_of f p).height
+pub planes_suit : (p : Printer) (t : DotTable) (f : PageForm)
+    → CanPrint p → IsWanted (wanted_by p) f → t.width ≡ (window_of f p).width → t.rows ≡ (window_of f p).height
     → t.inks ≡ length (inks_of p.inks) → Suits p (plan_of p t) t
 planes_suit p t f can wanted width rows inks =
     let size = sized p t f can wanted width rows in
@@ -176,12 +197,14 @@ page_short p t len bytes inks is =
 -- ---- the page of planes
 
 -- the bytes of a halftone that the planes show, where the sheet's numbers are these
-pub page_of : (p : Printer) (h : Halftone) (t : DotTable) (f : PageForm) (length top bottom : ℕ) → Shows p t h → t.rows ≡ (window_of f p).height
+pub page_of : (p : Printer) (h : Halftone) (t : DotTable) (f : PageForm) (length top bottom : ℕ)
+    → Shows p t h → t.rows ≡ (window_of f p).height
     → length ≡ f.height * row_units p → top ≡ (p.top - head_rows p) * row_units p → bottom ≡ (p.top + (window_of f p).height) * row_units p
     → halftone_bytes p h (f.height * row_units p) ≡ begin_bytes length top bottom ++ (strokes_bytes p h ++ end_bytes)
 page_of p h t f length top bottom shows rows length_is top_is bottom_is =
-    page_is p h (f.height * row_units p) length top bottom length_is top_is (bottom_is ∙ ap (λ n. (p.top + n) * row_units p) (sym rows ∙ shows.rows_is))
+    page_is p h (f.height * row_units p) length top bottom length_is top_is (bottom_is
+    ∙ ap (λ n. (p.top + n) * row_units p) (sym rows ∙ shows.rows_is))
 
--- bytes that stand alone
+-- bytes appended to nothing
 pub alone : (cleared out text : List ℕ) → cleared ≡ [] → out ≡ cleared ++ text → out ≡ text
 alone cleared out text clear is = is ∙ ap (λ bs. bs ++ text) clear

@@ -1,4 +1,4 @@
--- What a pass of the head takes.
+-- The bytes of a pass.
 use Rattle.std.specs.Prelude.{◌≡◌, ℕ, ◌*◌, nat_lt, if◌then◌else◌, List, [], ◌++◌, filter, length}
 use Rattle.escp2_definitions.specs.Canonical.{canonical_row}
 use Rattle.page_definitions.specs.Dots.{Halftone}
@@ -8,20 +8,21 @@ use Rattle.page_writer.specs.Sums.{rasters_in}
 use Rattle.page_writer.specs.declared.sums.PageSum.{PageSum}
 use Rattle.printer_definitions.specs.Printer.{Printer, row_units}
 
--- Behind bytes stand those of what the inks fire in a pass, with so many rasters: one at least where they fire a dot.
+-- The bytes of what the inks fire in a pass are appended, with this many rasters: at least one where an ink fires a
+-- dot.
 pub record IsPass (p : Printer) (h : Halftone) (pass : ℕ) (old new : List ℕ) (rasters : ℕ) : Type 0 where
   pub items : new ≡ old ++ bytes_of canonical_row (inks_commands p h.width 1 (pass_stroke p h pass))
   pub rasters_are : rasters ≡ rasters_in (inks_commands p h.width 1 (pass_stroke p h pass))
   pub fire : nat_lt 0 rasters ≡ fires p (pass_stroke p h pass)
 
--- the bytes of a pass, so many rows below the one before; none where no ink has a dot in it
+-- the bytes of a pass, `down` rows below the one before; none where no ink has a dot in it
 abbrev pub pass_bytes : Printer → Halftone → ℕ → ℕ → List ℕ
 pass_bytes p h pass down =
     if fires p (pass_stroke p h pass)
     then bytes_of canonical_row (down_by (down * row_units p)) ++ bytes_of canonical_row (inks_commands p h.width 1 (pass_stroke p h pass))
     else []
 
--- A pass took its bytes, and so many rasters.
+-- A pass has these bytes and rasters.
 pub record IsPassSum (p : Printer) (h : Halftone) (pass down : ℕ) (sum : PageSum) : Type 0 where
   pub bytes : sum.bytes ≡ length (pass_bytes p h pass down)
   pub rasters : sum.rasters ≡ rasters_in (inks_commands p h.width 1 (pass_stroke p h pass))

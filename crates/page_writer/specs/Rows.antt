@@ -10,12 +10,12 @@ use Rattle.printer_definitions.specs.declared.inks.Ink.{Ink}
 use Rattle.weave_definitions.specs.Weave.{count_from, nozzle_row}
 use Rattle.weave_plan.specs.Weaving.{Weaving}
 
--- the row of an ink, by its place in the set, that a nozzle fires: one of its plane, or a blank one off the window
+-- the row of an ink, by its place in the set, that a nozzle fires: one of its plane; blank off the window
 abbrev pub plane_row : DotTable → ℕ → Option ℕ → List Bool
 plane_row t place (Some y) = map (dot t place y) (count_from 0 t.width)
 plane_row t place None = replicate t.width false
 
--- the row of an ink under a nozzle in a pass
+-- the row of an ink at a nozzle in a pass
 abbrev pub nozzle_plane_row : DotTable → Weaving → ℕ → ℕ → ℕ → List Bool
 nozzle_plane_row t plan place pass nozzle = plane_row t place (nozzle_row plan.nozzles plan.pitch plan.height pass nozzle)
 
@@ -23,7 +23,7 @@ nozzle_plane_row t plan place pass nozzle = plane_row t place (nozzle_row plan.n
 abbrev pub plane_rows : DotTable → Weaving → ℕ → ℕ → List (List Bool)
 plane_rows t plan place pass = map (nozzle_plane_row t plan place pass) (count_from 0 plan.nozzles)
 
--- the commands that fire rows of an ink, none where they have no dot
+-- the commands that fire rows of an ink; none where the rows have no dot
 abbrev pub rows_commands : RasterHead → Ink → List (List Bool) → List Spoken
 rows_commands head ink rows =
     if has_dot rows

@@ -1,4 +1,4 @@
--- What belongs together while a page is written.
+-- What fits together while a page is written.
 use Rattle.pwg_definitions.specs.Limits.{most_columns, most_rows}
 use Rattle.std.specs.Prelude.{◌≡◌, ◌≤◌, length}
 use Rattle.dot_planes.specs.Tables.{DotTable, dot}

@@ -1,4 +1,4 @@
--- What a page takes.
+-- The size of a page's job.
 use Rattle.std.specs.Prelude.{◌≡◌, ℕ, ◌+◌, ◌*◌, ◌/◌, List, [], ◌∷◌, length}
 use Rattle.escp2_definitions.specs.Rasters.{raster_count}
 use Rattle.page_definitions.specs.Dots.{Halftone}
@@ -18,12 +18,12 @@ rasters_in (spoken ∷ job) = raster_count spoken.command + rasters_in job
 abbrev pub halftone_commands : Printer → Halftone → ℕ → List Spoken
 halftone_commands p h len = page_commands p h.width h.height page_coding.c len (weave p h)
 
--- A page took the bytes and the rasters that print a halftone.
+-- The sum has the bytes and the rasters that print a halftone.
 pub record SumsUp (p : Printer) (h : Halftone) (len : ℕ) (sum : PageSum) : Type 0 where
   pub bytes : sum.bytes ≡ length (halftone_bytes p h len)
   pub rasters : sum.rasters ≡ rasters_in (halftone_commands p h len)
 
--- the most bytes of one pass over so many columns, and of a page
+-- the most bytes of one pass over a window of this width
 abbrev pub most_of_pass : Printer → ℕ → ℕ
 most_of_pass p width = 7 + length (inks_of p.inks) * (12 + 2 * p.nozzles * ((width + 7) / 8))
 

@@ -5,7 +5,7 @@ ghost use Rattle.std.specs.Prelude.{replicate, ◌==◌, ◌≡◌, ◌≤◌};
 /// The widest row, without dots.
 static BLANK: [u8; 1024] = [0; 1024];
 
-/// So many bytes of a row without dots.
+/// The first `len` bytes of a row without dots.
 #[inline]
 pub fn blank_row(len: usize) -> &'static [u8]
     requires { len ≤ 1024 }
@@ -14,7 +14,7 @@ pub fn blank_row(len: usize) -> &'static [u8]
     &BLANK[..len]
 }
 
-/// Whether a packed row has no dot: its greatest byte is 0. No test ends the loop early, so that it runs over many
+/// Whether a packed row has no dot: its greatest byte is 0. The loop never ends early, so that it runs over many
 /// bytes at once.
 #[inline]
 pub fn is_blank(row: &[u8]) -> bool

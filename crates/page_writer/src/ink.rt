@@ -13,8 +13,8 @@ use escp2_writer::{Command, RasterHead, append_head, append_row};
 use weave_base::Ink;
 use weave_plan::Plan;
 
-/// Appends what an ink fires in a pass: its colour, back to the left margin, and a raster. Nothing is appended where it
-/// has no dot to fire. The answer is the number of rasters.
+/// Appends what an ink fires in a pass: its colour, the return to the left margin, and a raster. Appends nothing
+/// where the ink has no dot to fire. The answer is the number of rasters.
 pub fn append_ink(
     planes: &Planes,
     plan: &Plan,

@@ -10,18 +10,18 @@ ghost use Rattle.std.specs.Prelude.{◌*◌, ◌+◌, ◌-◌, ◌≡◌, ◌≤
 use escp2_writer::RasterHead;
 use printer_profile::{PageForm, Profile};
 
-/// Places on a sheet from its top, in units of 5/3600 inch.
+/// Places on a sheet, from its top, in units of 5/3600 inch.
 #[derive(Clone, Copy)]
 pub struct Sheet {
-    /// Its length.
+    /// The length of the sheet.
     pub length: u16,
-    /// The first row that the first nozzle stands on.
+    /// The first row that the first nozzle is on.
     pub top: u16,
     /// The end of the last row that is printed.
     pub bottom: u16,
 }
 
-/// A row of dots in units.
+/// The height of a row of dots in units.
 pub fn row_units(p: &Profile) -> u16
     requires { CanPrint (printer_of p.now) }
     ensures is { result ≡ row_units_of (printer_of p.now) }
@@ -30,7 +30,7 @@ pub fn row_units(p: &Profile) -> u16
     720 / p.vdpi
 }
 
-/// How many rows the first nozzle stands above the last.
+/// How many rows the first nozzle is above the last.
 pub fn head_rows(p: &Profile) -> u16
     requires { CanPrint (printer_of p.now) }
     ensures { result ≡ head_rows_of (printer_of p.now) }
@@ -38,7 +38,7 @@ pub fn head_rows(p: &Profile) -> u16
     (u16::from(p.nozzles) - 1) * u16::from(p.pitch)
 }
 
-/// The numbers of the rasters over so many columns, whose rows are coded.
+/// The header of rasters of this many columns, with coded rows.
 pub fn raster_head(p: &Profile, width: u16) -> RasterHead
     requires { CanPrint (printer_of p.now) }
     ensures { result ≡ raster_head_of (printer_of p.now) width 1 }

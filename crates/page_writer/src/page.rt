@@ -15,7 +15,8 @@ ghost use Rattle.pwg_definitions.specs.Header.{IsWanted};
 ghost use Rattle.pwg_definitions.specs.Limits.{most_rows};
 ghost use Rattle.separation_definitions.specs.Windows.{wanted_by, window_of};
 ghost use Rattle.std.specs.Io.KnownBytes.{Appends, Keeps};
-ghost use Rattle.std.specs.Prelude.{IfOk, IsErrOf, IsOk, OnErr, OnOk, [], if◌then◌else◌, length, nat_lt, vec_capacity, vec_len, ◌*◌, ◌+◌, ◌≡◌, ◌≤◌};
+ghost use Rattle.std.specs.Prelude.{IfOk, IsErrOf, IsOk, OnErr, OnOk, [], if◌then◌else◌, length, nat_lt};
+ghost use Rattle.std.specs.Prelude.{vec_capacity, vec_len, ◌*◌, ◌+◌, ◌≡◌, ◌≤◌};
 ghost use Rattle.weave_base.specs.Causes.{HasCause, Rose};
 ghost use Rattle.weave_base.specs.Parts.{AppendsPart};
 
@@ -38,14 +39,14 @@ pub enum WriteStop {
     Memory,
 }
 
-/// Where the head stands behind a pass: on the pass where it fired, else where it was.
-fn head_behind(last: u32, begin: u32, rasters: u32) -> u32
+/// Where the head is after a pass: at the pass where it fired, else where it was.
+fn head_after(last: u32, begin: u32, rasters: u32) -> u32
     ensures { result ≡ (if nat_lt 0 rasters then begin else last) }
 {
     if rasters > 0 { begin } else { last }
 }
 
-/// Writes the passes of the head over a window, a pass a write.
+/// Writes the passes of the head over a window, each in one write.
 fn put_passes<K: Sink>(
     p: &Profile,
     planes: &Planes,
@@ -76,14 +77,14 @@ fn put_passes<K: Sink>(
     'passes: for pass in 0..plan.passes() {
         let begin = pass * u32::from(p.nozzles);
         let done = put_pass(p, planes, &plan, pass, begin - last, out, k)?;
-        last = head_behind(last, begin, done.rasters);
+        last = head_after(last, begin, done.rasters);
         sum.bytes += done.bytes;
         sum.rasters += done.rasters;
     }
     Ok(sum)
 }
 
-/// Writes a page, for which there is room: its prologue, its passes, and what ends it.
+/// Writes a page whose room is reserved: its prologue, its passes, and its end.
 fn put_page<K: Sink>(
     p: &Profile,
     f: PageForm,
@@ -120,12 +121,12 @@ fn put_page<K: Sink>(
     })
 }
 
-/// Writes the job of a page whose dots stand in planes, and gives how many bytes and rasters it took: graphics mode and
-/// the sheet, then the passes of the head over the page's window that have a dot, and the end of the sheet (ESC/P
+/// Writes the job of a page whose dots are in planes, and gives the number of its bytes and rasters: graphics mode
+/// and the sheet, then the passes of the head over the page's window that have a dot, and the end of the sheet (ESC/P
 /// Reference Manual, graphics commands). Rows of rasters are coded.
 ///
-/// It takes its memory before the first byte, no more than a pass takes. A pass is one call of `put_all`, and so are what
-/// stands before the passes and behind them. On `Write` the sink has taken a prefix of the bytes, and not all of them.
+/// It takes its memory, the room for one pass, before the first byte. A pass is one call of `put_all`; so are the
+/// commands before the passes and those after them. On `Write` the sink took a proper prefix of the bytes.
 pub fn write_page<K: Sink>(
     alloc: Global,
     p: &Profile,
@@ -139,7 +140,7 @@ pub fn write_page<K: Sink>(
     requires rows { planes.now.rows ≡ (window_of f (printer_of p.now)).height }
     requires inks { planes.now.inks ≡ length (inks_of p.now.inks) }
 
-    // of each halftone whose dots stand in the planes
+    // of each halftone whose dots are in the planes
     ensures ok { (h : Halftone) → Shows (printer_of p.now) planes.now h → OnOk result
         (Appends (K.held k.old) (K.held k.new)
         (halftone_bytes (printer_of p.now) h (f.height * row_units_of (printer_of p.now)))) }
@@ -149,7 +150,7 @@ pub fn write_page<K: Sink>(
         → AppendsPart (K.held k.old) (K.held k.new)
         (halftone_bytes (printer_of p.now) h (f.height * row_units_of (printer_of p.now))) }
 
-    // of the page's form alone
+    // by the page's form alone
     ensures short { IfOk result (λ sum. sum.bytes ≤ most_of_page (printer_of p.now) planes.now.width planes.now.rows) }
     ensures write { IsErrOf result stop.Write → Rose (K.faults k.old) (K.faults k.new) }
     ensures memory { IsErrOf result stop.Memory → Keeps (K.held k.old) (K.held k.new) }

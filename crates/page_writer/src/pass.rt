@@ -10,7 +10,8 @@ ghost use Rattle.printer_definitions.specs.Printer.{row_units as row_units_of};
 ghost use Rattle.printer_profile.specs.Profiles.{printer_of};
 ghost use Rattle.pwg_definitions.specs.Limits.{most_rows};
 ghost use Rattle.std.specs.Io.KnownBytes.{Appends};
-ghost use Rattle.std.specs.Prelude.{IfOk, OnErr, OnOk, nat_lt, vec_capacity, vec_len, ◌*◌, ◌++◌, ◌+◌, ◌-◌, ◌/◌, ◌<◌, ◌≡◌, ◌≤◌};
+ghost use Rattle.std.specs.Prelude.{IfOk, OnErr, OnOk, nat_lt, vec_capacity, vec_len, ◌*◌, ◌++◌};
+ghost use Rattle.std.specs.Prelude.{◌+◌, ◌-◌, ◌/◌, ◌<◌, ◌≡◌, ◌≤◌};
 ghost use Rattle.weave_base.specs.Causes.{HasCause};
 ghost use Rattle.weave_base.specs.Parts.{AppendsPart};
 ghost use Rattle.weave_definitions.specs.Weave.{pass_count};
@@ -24,7 +25,7 @@ use printer_profile::Profile;
 use weave_base::{Failed, Sink, put_all};
 use weave_plan::Plan;
 
-/// Appends a step down by so many units, nothing where there are none.
+/// Appends a step down by this many units; nothing for 0.
 fn append_step(units: u16, out: &mut Vec<u8>)
     requires { vec_len out.old + 7 ≤ vec_capacity out.old }
     ensures items { out.new.items ≡ out.old.items ++ bytes_of canonical_row (down_by units) }
@@ -58,7 +59,7 @@ fn append_inks(p: &Profile, planes: &Planes, plan: &Plan, pass: u32, out: &mut V
     rasters
 }
 
-/// Writes a pass whole, or nothing where no ink has a dot in it. The head stands so many rows above the pass.
+/// Writes a whole pass, or nothing where no ink has a dot in it. The head is `down` rows above the pass.
 pub fn put_pass<K: Sink>(
     p: &Profile,
     planes: &Planes,

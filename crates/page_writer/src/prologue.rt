@@ -1,4 +1,4 @@
-//! The commands before the passes of a page, and behind them.
+//! The commands before and after the passes of a page.
 ghost use Rattle.escp2_definitions.specs.Canonical.{canonical_row};
 ghost use Rattle.escp2_definitions.specs.declared.command.Command.TheVariants as c;
 ghost use Rattle.page_definitions.specs.Strokes.{bytes_of, say};
@@ -32,7 +32,7 @@ pub fn append_prologue(sheet: Sheet, out: &mut Vec<u8>)
     append_head(&Command::DownTo { n: 0 }, out);
 }
 
-/// Appends the commands behind the passes, 3 bytes.
+/// Appends the commands after the passes, 3 bytes.
 pub fn append_end(out: &mut Vec<u8>)
     requires { vec_len out.old + 3 ≤ vec_capacity out.old }
     ensures items { out.new.items ≡ out.old.items ++ bytes_of canonical_row (say c.Eject ∷ say c.Init ∷ []) }

@@ -10,7 +10,7 @@ use crate::blank::{blank_row, is_blank};
 use dot_planes::Planes;
 use weave_plan::Plan;
 
-/// The packed row of an ink that a nozzle fires in a pass: one of its plane, or a blank one off the window.
+/// The packed row of an ink that a nozzle fires in a pass: one of its plane; blank off the window.
 #[inline]
 pub fn fired_row<'a>(planes: &'a Planes, plan: &Plan, place: u8, pass: u32, nozzle: u8) -> &'a [u8]
     requires place { place < planes.now.inks }
@@ -26,7 +26,7 @@ pub fn fired_row<'a>(planes: &'a Planes, plan: &Plan, place: u8, pass: u32, nozz
     }
 }
 
-/// Whether a nozzle has a dot of an ink to fire in a pass.
+/// Whether some nozzle has a dot of an ink to fire in a pass.
 pub fn has_fire(planes: &Planes, plan: &Plan, place: u8, pass: u32, nozzles: u8) -> bool
     requires place { place < planes.now.inks }
     requires pass { pass < pass_count plan.now.nozzles plan.now.pitch plan.now.height }

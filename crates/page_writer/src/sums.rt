@@ -1,4 +1,4 @@
-//! What a page takes.
+//! The size of a page's job.
 ghost use Rattle.page_writer.specs.Sums.{most_of_page, most_of_pass as most_of_pass_of};
 ghost use Rattle.printer_definitions.specs.Inks.{inks_of};
 ghost use Rattle.printer_profile.specs.Profiles.{printer_of};
@@ -9,17 +9,17 @@ ghost use Rattle.std.specs.Prelude.{length, ◌*◌, ◌+◌, ◌/◌, ◌≡◌
 use printer_profile::{Profile, Window};
 use weave_plan::Plan;
 
-/// What was written of a page.
+/// The size of what was written of a page.
 #[derive(Clone, Copy, Debug, PartialEq, Eq)]
 pub struct PageSum {
     /// Bytes of its job.
     pub bytes: u64,
-    /// Rasters among its commands: for each ink one at most in each pass.
+    /// Rasters among its commands: at most one for each ink in each pass.
     pub rasters: u32,
 }
 
-/// The most bytes of an ink in a pass: its colour, back to the left margin, and a raster whose rows' codes are twice as
-/// long as the rows.
+/// The most bytes of an ink in a pass: its colour, the return to the left margin, and a raster whose coded rows are
+/// twice as long as the rows.
 fn most_of_ink(nozzles: u8, width: u32) -> u64
     requires { width ≤ most_columns }
     ensures is { result ≡ 12 + 2 * nozzles * ((width + 7) / 8) }
@@ -28,7 +28,7 @@ fn most_of_ink(nozzles: u8, width: u32) -> u64
     12 + 2 * u64::from(nozzles) * ((u64::from(width) + 7) / 8)
 }
 
-/// The most bytes of a pass over so many columns: a step down, and each of its inks.
+/// The most bytes of a pass over this many columns: a step down, and each of its inks.
 pub(crate) fn most_of_pass(p: &Profile, width: u32) -> u64
     requires { width ≤ most_columns }
     ensures is { result ≡ most_of_pass_of (printer_of p.now) width }
@@ -37,8 +37,8 @@ pub(crate) fn most_of_pass(p: &Profile, width: u32) -> u64
     7 + u64::from(p.inks.count()) * most_of_ink(p.nozzles, width)
 }
 
-/// The most bytes that `write_page` writes of a page with this window: 49 and, for each pass of the head, 7 and for each
-/// ink 12 and twice those of a row for each nozzle.
+/// The most bytes that `write_page` writes of a page with this window: 49 and, for each pass of the head, 7 and, for
+/// each ink, 12 and twice the bytes of a row for each nozzle.
 pub fn most_bytes(p: &Profile, w: Window) -> u64
     requires can { CanPrint (printer_of p.now) }
     requires width { w.width ≤ most_columns }

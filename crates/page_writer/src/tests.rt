@@ -1,4 +1,4 @@
-//! What no contract says: whole pages worked by hand, how many writes a page takes, and sinks that fail.
+//! What no contract says: whole pages worked by hand, the number of writes of a page, and sinks that fail.
 ghost use Rattle.std.specs.Prelude.{IfOk, ◌≡◌};
 
 use crate::{PageForm, PageSum, Planes, Profile, WriteStop, write_page};
@@ -56,7 +56,7 @@ fn black_planes(alloc: Global) -> Result<Planes, Memory>
     Ok(planes)
 }
 
-/// Writes the black window to a sink of which these writes fail.
+/// Writes the black window to a sink whose writes of these numbers fail.
 fn write_black(
     rt: &impl Abort,
     alloc: Global,

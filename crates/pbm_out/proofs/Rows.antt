@@ -1,5 +1,6 @@
 -- Rows cut out of wider ones.
-use Rattle.std.proofs.Common.{◌≡◌, ℕ, zero, suc, ◌+◌, ◌/◌, ◌<◌, ◌≤◌, Bool, false, List, [], ◌∷◌, length, take, drop, map, refl, sym, ◌∙◌, ap, arith, ◌⊎◌, inl, inr}
+use Rattle.std.proofs.Common.{◌≡◌, ℕ, zero, suc, ◌+◌, ◌/◌, ◌<◌, ◌≤◌, Bool, false, List, [], ◌∷◌, length, take}
+use Rattle.std.proofs.Common.{drop, map, refl, sym, ◌∙◌, ap, arith, ◌⊎◌, inl, inr}
 use Rattle.std.proofs.lemmas.Bool.{cases_lt}
 use Rattle.std.proofs.lemmas.List.{get_or-drop, get_or_past}
 use Rattle.escp2_definitions.specs.Packed.{at, packed, packed_byte, packed_bytes, worth}
@@ -20,7 +21,8 @@ same-packed : (n : ℕ) (xs ys : List Bool) → ((k : ℕ) → at xs k ≡ at ys
 same-packed zero xs ys same = refl
 same-packed (suc n) xs ys same =
     ap (λ b. b ∷ packed_bytes n (drop 8 xs)) byte
-    ∙ ap (λ bs. packed_byte ys ∷ bs) (same-packed n (drop 8 xs) (drop 8 ys) (λ k. get_or-drop 8 xs k false ∙ same (8 + k) ∙ sym (get_or-drop 8 ys k false)))
+    ∙ ap (λ bs. packed_byte ys ∷ bs) (same-packed n (drop 8 xs) (drop 8 ys) (λ k. get_or-drop 8 xs k false
+    ∙ same (8 + k) ∙ sym (get_or-drop 8 ys k false)))
   where
     byte : packed_byte xs ≡ packed_byte ys
     byte = let e0 = same 0 in let e1 = same 1 in let e2 = same 2 in let e3 = same 3 in
@@ -36,7 +38,8 @@ same-dots f columns width fits blank k = by_column (cases_lt k columns)
 
     by_width : columns ≤ k → (k < width) ⊎ (width ≤ k) → at (map f (count_from 0 width)) k ≡ at (map f (count_from 0 columns)) k
     by_width behind (inl inside) = counted-at f 0 width k inside ∙ blank (0 + k) (omega arith) ∙ sym (past behind)
-    by_width behind (inr outside) = get_or_past (map f (count_from 0 width)) k false (omega (arith, counted-len f 0 width)) ∙ sym (past behind)
+    by_width behind (inr outside) =
+        get_or_past (map f (count_from 0 width)) k false (omega (arith, counted-len f 0 width)) ∙ sym (past behind)
 
     by_column : (k < columns) ⊎ (columns ≤ k) → at (map f (count_from 0 width)) k ≡ at (map f (count_from 0 columns)) k
     by_column (inl inside) = counted-at f 0 width k (omega arith) ∙ sym (counted-at f 0 columns k inside)
@@ -48,7 +51,8 @@ pub cut-row : (t : DotTable) (ink y columns : ℕ) → columns ≤ t.width → i
 cut-row t ink y columns fits ink_in y_in blank =
     ap (λ n. take ((columns + 7) / 8) (packed_bytes ((n + 7) / 8) wide)) (counted-len (dot t ink y) 0 t.width)
     ∙ take-packed ((columns + 7) / 8) ((t.width + 7) / 8) wide (omega arith)
-    ∙ same-packed ((columns + 7) / 8) wide narrow (same-dots (dot t ink y) columns t.width fits (λ x behind. blank ink y x ink_in y_in behind))
+    ∙ same-packed ((columns + 7) / 8) wide narrow
+    (same-dots (dot t ink y) columns t.width fits (λ x behind. blank ink y x ink_in y_in behind))
     ∙ ap (λ n. packed_bytes ((n + 7) / 8) narrow) (sym (counted-len (dot t ink y) 0 columns))
   where
     wide : List Bool
@@ -62,7 +66,14 @@ packed-len zero row = refl
 packed-len (suc n) row = ap suc (packed-len n (drop 8 row))
 
 -- there are as many bytes
-pub row-long : (t : DotTable) (ink y columns : ℕ) (row : List ℕ) → columns ≤ t.width → row ≡ packed (map (dot t ink y) (count_from 0 t.width))
+pub row-long : (t : DotTable) (ink y columns : ℕ) (row : List ℕ)
+    → columns ≤ t.width → row ≡ packed (map (dot t ink y) (count_from 0 t.width))
     → (columns + 7) / 8 ≤ length row
 row-long t ink y columns row fits is =
-    omega (arith, ap length is, packed-len ((length (map (dot t ink y) (count_from 0 t.width)) + 7) / 8) (map (dot t ink y) (count_from 0 t.width)), counted-len (dot t ink y) 0 t.width)
+    omega (
+      arith,
+      ap length is,
+      packed-len ((length (map (dot t ink y) (count_from 0 t.width)) + 7) / 8)
+          (map (dot t ink y) (count_from 0 t.width)),
+      counted-len (dot t ink y) 0 t.width,
+    )

@@ -1,5 +1,6 @@
 -- An image written piece by piece.
-use Rattle.std.proofs.Common.{◌≡◌, ℕ, suc, ◌+◌, ◌-◌, ◌<◌, ◌≤◌, List, [], ◌++◌, length, Option, sym, ◌∙◌, ap, subst, arith, append_assoc, append-nil}
+use Rattle.std.proofs.Common.{◌≡◌, ℕ, suc, ◌+◌, ◌-◌, ◌<◌, ◌≤◌, List, [], ◌++◌, length, Option, sym, ◌∙◌}
+use Rattle.std.proofs.Common.{ap, subst, arith, append_assoc, append-nil}
 use Rattle.std.specs.Io.KnownBytes.{Appends}
 use Rattle.std.proofs.KnownBytes.{Appends-nil, Appends-trans}
 use Rattle.weave_definitions.specs.Weave.{count_from}
@@ -9,7 +10,7 @@ use Rattle.weave_base.proofs.Parting.{part_behind, part_of_front}
 use Rattle.pbm_out.specs.Images.{image_row, image_rows}
 use Rattle.gathered_bytes.specs.Gathering.{Passes}
 
--- Behind what is gathered these bytes are left to write, of bytes that are to become the whole.
+-- After the gathered bytes, these bytes of the whole are left to write.
 pub record PutsSoFar (old now : Option (List ℕ)) (whole piece left : List ℕ) : Type 0 where
   pub sent : List ℕ
   pub appends : Appends old now sent
@@ -46,11 +47,14 @@ puts_part old now now' whole piece left so_far part =
     subst P (sym so_far.is) (part_behind old now now' so_far.sent (piece ++ left) so_far.appends (part_of_front now now' piece left part))
 
 -- only what is gathered is left to write
-pub puts_end : (old now : Option (List ℕ)) (whole piece left : List ℕ) (so_far : PutsSoFar old now whole piece left) → left ≡ [] → whole ≡ so_far.sent ++ piece
-puts_end old now whole piece left so_far none = so_far.is ∙ ap (λ bs. so_far.sent ++ (piece ++ bs)) none ∙ ap (λ bs. so_far.sent ++ bs) (append-nil piece)
+pub puts_end : (old now : Option (List ℕ)) (whole piece left : List ℕ) (so_far : PutsSoFar old now whole piece left)
+    → left ≡ [] → whole ≡ so_far.sent ++ piece
+puts_end old now whole piece left so_far none =
+    so_far.is ∙ ap (λ bs. so_far.sent ++ (piece ++ bs)) none ∙ ap (λ bs. so_far.sent ++ bs) (append-nil piece)
 
 -- the next row
-pub rows-next : (columns : ℕ) (t : DotTable) (ink y many less : ℕ) → many ≡ suc less → image_rows columns t ink y many ≡ image_row columns t ink y ++ image_rows columns t ink (y + 1) less
+pub rows-next : (columns : ℕ) (t : DotTable) (ink y many less : ℕ) → many ≡ suc less
+    → image_rows columns t ink y many ≡ image_row columns t ink y ++ image_rows columns t ink (y + 1) less
 rows-next columns t ink y many less more = ap (image_rows columns t ink y) more
 
 pub rows-none : (columns : ℕ) (t : DotTable) (ink y many : ℕ) → many ≡ 0 → image_rows columns t ink y many ≡ []

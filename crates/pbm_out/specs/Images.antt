@@ -1,6 +1,6 @@
--- The bytes of an image (PBM of kind P4, of the Netpbm formats): `P4`, the columns and the rows in decimal, and the rows,
--- the top one first. A row begins with a byte of its own, its first pixel is the byte's highest bit, 1 is black, and bits
--- behind the last column are 0.
+-- The bytes of an image (PBM of kind P4, of the Netpbm formats): `P4`, the columns and the rows in decimal, and the
+-- rows from the top. A row begins with a byte of its own, its first pixel is the byte's highest bit, 1 is black, and
+-- spare bits are 0.
 use Rattle.std.specs.Prelude.{ℕ, List, [], ◌∷◌, ◌++◌, codes, decimal, map}
 use Rattle.std.specs.List.{flat_map}
 use Rattle.escp2_definitions.specs.Packed.{packed}
@@ -13,10 +13,10 @@ image_head columns rows = codes "P4\n" ++ decimal columns ++ codes " " ++ decima
 abbrev pub image_row : ℕ → DotTable → ℕ → ℕ → List ℕ
 image_row columns t ink y = packed (map (dot t ink y) (count_from 0 columns))
 
--- so many rows from one on
+-- this many rows from one on
 abbrev pub image_rows : ℕ → DotTable → ℕ → ℕ → ℕ → List ℕ
 image_rows columns t ink y many = flat_map (image_row columns t ink) (count_from y many)
 
--- The image of an ink, of so many columns and rows.
+-- The image of an ink with this many columns and rows.
 abbrev pub image : ℕ → ℕ → DotTable → ℕ → List ℕ
 image columns rows t ink = image_head columns rows ++ image_rows columns t ink 0 rows

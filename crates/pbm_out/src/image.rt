@@ -11,15 +11,15 @@ use gathered_bytes::Gathered;
 use itoa::Buffer;
 use weave_base::{Failed, Sink};
 
-/// Writes the image of an ink of the sheet, a dot as a black pixel. Inks are 0 for black, 1 cyan, 2 magenta and 3 yellow.
-/// It takes no memory, and writes many rows at once.
+/// Writes the image of an ink of the sheet, a dot as a black pixel. Inks are 0 for black, 1 cyan, 2 magenta and 3
+/// yellow. It takes no memory, and writes many rows at once.
 ///
-/// `Err` comes where a write of the sink failed, which the sink counts; then the sink has taken a prefix of the image,
-/// and not all of it.
+/// On `Err` a write of the sink failed, which the sink counts, and the sink took a proper prefix of the image.
 pub fn write_plane<K: Sink>(s: &Sheet, ink: u8, k: &mut K) -> Result<(), Failed>
     requires { ink < 4 }
     ensures ok { OnOk result (Appends (K.held k.old) (K.held k.new) (image s.now.columns s.now.rows s.now.planes ink)) }
-    ensures part { OnErr result (AppendsPart (K.held k.old) (K.held k.new) (image s.now.columns s.now.rows s.now.planes ink)) }
+    ensures part { OnErr result
+        (AppendsPart (K.held k.old) (K.held k.new) (image s.now.columns s.now.rows s.now.planes ink)) }
     ensures cause { HasCause (K.faults k.old) (K.faults k.new) result }
 {
     let mut bytes = head(s.columns, s.rows);
@@ -31,7 +31,7 @@ pub fn write_plane<K: Sink>(s: &Sheet, ink: u8, k: &mut K) -> Result<(), Failed>
     bytes.put(k)
 }
 
-/// The head of an image.
+/// The header of an image.
 fn head(columns: u32, rows: u32) -> Gathered
     ensures { gathered result ≡ image_head columns rows }
 {

@@ -75,7 +75,7 @@ const RASTER: Command = Command::Raster {
     },
 };
 
-/// The commands of a page of eight columns and six rows, whose last two are black, up to its end.
+/// The commands of a page of eight columns and six rows, of which the last two are black, except the eject.
 const JOB: [Command; 15] = [
     Command::Init,
     Command::Graphics,
@@ -94,7 +94,7 @@ const JOB: [Command; 15] = [
     RASTER,
 ];
 
-/// Runs a command, a raster with these rows.
+/// Runs a command; for a raster, with these rows.
 fn run(
     rt: &impl Abort,
     emulator: &mut Emulator,
@@ -134,7 +134,11 @@ fn dots_gives_four_images_of_a_sheet(rt: HostRuntime) -> Result<(), Fail> {
     }
     assert_eq!(rt;
         sink.bytes(),
-        b"P4\n8 6\n\x00\x00\x00\x00\xFF\xFFP4\n8 6\n\x00\x00\x00\x00\x00\x00P4\n8 6\n\x00\x00\x00\x00\x00\x00P4\n8 6\n\x00\x00\x00\x00\x00\x00".as_slice()
+        b"P4\n8 6\n\x00\x00\x00\x00\xFF\xFF\
+        P4\n8 6\n\x00\x00\x00\x00\x00\x00\
+        P4\n8 6\n\x00\x00\x00\x00\x00\x00\
+        P4\n8 6\n\x00\x00\x00\x00\x00\x00"
+            .as_slice()
     );
     Ok(())
 }

@@ -11,8 +11,9 @@ use Rattle.printer_profile.specs.Validity.{check, gcd_of, is_resolution}
 use Rattle.printer_profile.proofs.Divisors.{coprime_is}
 use Rattle.std.specs.Int.{IsGcd}
 
--- where no fault comes, a test fails
-passed : (test : Bool) (fault : ProfileFault) (rest : Result (Unit {0}) ProfileFault) → IsOk (cond test (Err fault) rest) → (test ≡ false) × IsOk rest
+-- where there is no fault, the test fails
+passed : (test : Bool) (fault : ProfileFault) (rest : Result (Unit {0}) ProfileFault)
+    → IsOk (cond test (Err fault) rest) → (test ≡ false) × IsOk rest
 passed true fault rest h = absurd (cc)
 passed false fault rest h = (refl, h)
 

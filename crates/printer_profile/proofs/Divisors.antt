@@ -27,7 +27,8 @@ unfolding greatest_divisor
 greatest zero a b g is some within = absurd (omega arith)
 greatest (suc most) a b g is some within =
     by_test (divides_both (suc most) a b) refl (greatest most a b g is some) where
-      by_test : (test : Bool) → divides_both (suc most) a b ≡ test → (g ≤ most → greatest_divisor most a b ≡ g) → cond test (suc most) (greatest_divisor most a b) ≡ g
+      by_test : (test : Bool) → divides_both (suc most) a b ≡ test
+          → (g ≤ most → greatest_divisor most a b ≡ g) → cond test (suc most) (greatest_divisor most a b) ≡ g
       by_test true passed below =
           let both = divides (suc most) a b passed in
           let least : suc most ≤ g = le_from_IsGcd a b g (suc most) is some both.0 both.1 in omega arith
@@ -50,7 +51,8 @@ unfolding greatest_divisor
 most_common zero a b d within in_a in_b = within
 most_common (suc most) a b d within in_a in_b =
     by_test (divides_both (suc most) a b) refl (λ below. most_common most a b d below in_a in_b) where
-      by_test : (test : Bool) → divides_both (suc most) a b ≡ test → (d ≤ most → d ≤ greatest_divisor most a b) → d ≤ cond test (suc most) (greatest_divisor most a b)
+      by_test : (test : Bool) → divides_both (suc most) a b ≡ test
+          → (d ≤ most → d ≤ greatest_divisor most a b) → d ≤ cond test (suc most) (greatest_divisor most a b)
       by_test true passed below = within
       by_test false failed below =
           let here : divides_both d a b ≡ true = passes d a b in_a in_b in

@@ -1,5 +1,6 @@
 -- The first line of a text.
-use Rattle.std.proofs.Common.{◌≡◌, ℕ, ◌<◌, ◌+◌, ◌-◌, Bool, true, false, cond, ◌||◌, ltb, eqb, List, [], ◌∷◌, length, take, drop, Some, None, refl, ap, ◌∙◌, arith}
+use Rattle.std.proofs.Common.{◌≡◌, ℕ, ◌<◌, ◌+◌, ◌-◌, Bool, true, false, cond, ◌||◌, ltb, eqb, List, [], ◌∷◌}
+use Rattle.std.proofs.Common.{length, take, drop, Some, None, refl, ap, ◌∙◌, arith}
 use Rattle.std.specs.List.{after_first, before_first, list_any, position, position_or_len, slice_split}
 use Rattle.std.specs.Str.Lines.{lines, lines_of_parts, strip_carriage_return}
 use Rattle.std.proofs.lemmas.Bool.Decides.{nat_tests}
@@ -8,11 +9,14 @@ use Rattle.std.proofs.lemmas.List.Splits.{length-slice_split, slice_split-cons_n
 use Rattle.key_values.proofs.Cuts.{some_place}
 
 -- the line before a part that is not the last
-pub line_before : (line : List ℕ) (parts : List (List ℕ)) (n : ℕ) → length parts ≡ n + 1 → lines_of_parts (line ∷ parts) ≡ strip_carriage_return line ∷ lines_of_parts parts
+pub line_before : (line : List ℕ) (parts : List (List ℕ)) (n : ℕ)
+    → length parts ≡ n + 1 → lines_of_parts (line ∷ parts) ≡ strip_carriage_return line ∷ lines_of_parts parts
 line_before line [] n h = absurd (omega arith)
 line_before line (part ∷ parts) n h = refl
 
-pub first_of_lines : (text line rest : List ℕ) → list_any (λ b. eqb b 10) text ≡ true → line ≡ before_first (λ b. eqb b 10) text → rest ≡ after_first (λ b. eqb b 10) text → lines text ≡ strip_carriage_return line ∷ lines rest
+pub first_of_lines : (text line rest : List ℕ)
+    → list_any (λ b. eqb b 10) text ≡ true → line ≡ before_first (λ b. eqb b 10) text
+    → rest ≡ after_first (λ b. eqb b 10) text → lines text ≡ strip_carriage_return line ∷ lines rest
 first_of_lines text line rest some line_is rest_is =
     let within : position_or_len (λ b. eqb b 10) text < length text = grind (arith, nat_tests, some_place (λ b. eqb b 10) text) in
     ap lines_of_parts (slice_split_first (λ b. eqb b 10) text 0 within)

@@ -1,5 +1,6 @@
 -- What is printed is read back.
-use Rattle.std.proofs.Common.{◌≡◌, ℕ, zero, suc, ◌-◌, ◌<◌, ◌≤◌, ◌^◌, Bool, true, false, not, ◌&&◌, eqb, ltb, List, [], ◌∷◌, ◌++◌, length, get_or, codes, Some, Ok, refl, ap, sym, ◌∙◌, arith, rules, append_assoc}
+use Rattle.std.proofs.Common.{◌≡◌, ℕ, zero, suc, ◌-◌, ◌<◌, ◌≤◌, ◌^◌, Bool, true, false, not, ◌&&◌, eqb, ltb, List, [], ◌∷◌, ◌++◌, length}
+use Rattle.std.proofs.Common.{get_or, codes, Some, Ok, refl, ap, sym, ◌∙◌, arith, rules, append_assoc}
 use Rattle.std.specs.Char.{is_ascii, is_ascii_digit}
 use Rattle.std.specs.Fmt.{decimal}
 use Rattle.std.specs.List.{flat_map, list_all, slice_split}
@@ -18,7 +19,8 @@ use Rattle.printer_profile.specs.declared.keys.Key.{Key}
 use Rattle.printer_profile.specs.declared.keys.Key.TheVariants as key
 use Rattle.printer_profile.specs.declared.reading.Given.{Given}
 use Rattle.printer_profile.specs.Keys.{all_keys, row_of}
-use Rattle.printer_profile.specs.Text.{head, is_given, key_line, nothing, profile_given, profile_text, profile_text_of, with_key, with_line, with_lines}
+use Rattle.printer_profile.specs.Text.{head, is_given, key_line, nothing, profile_given, profile_text}
+use Rattle.printer_profile.specs.Text.{profile_text_of, with_key, with_line, with_lines}
 use Rattle.key_values.specs.Numbers.{number_within}
 use Rattle.printer_profile.specs.Values.{ink_set_name, ink_set_named}
 use Rattle.printer_profile.proofs.LineParts.{line_before}
@@ -27,7 +29,7 @@ use Rattle.printer_profile.proofs.TextLemmas.{line_of_key, lines_more, lines_don
 
 -- ---- lines
 
--- whether a byte may stand in a line
+-- whether a byte may be in a line
 printable : ℕ → Bool
 printable b = ltb 31 b && ltb b 128
 
@@ -49,7 +51,8 @@ no_return (b ∷ line) zero h = let first = (and_true (printable b) (list_all pr
 no_return (b ∷ line) (suc i) h = no_return line i (and_true (printable b) (list_all printable line) h).1
 
 -- a printable line ends at its newline
-part_before : (line rest : List ℕ) → list_all printable line ≡ true → slice_split (λ b. eqb b 10) (line ++ 10 ∷ rest) ≡ line ∷ slice_split (λ b. eqb b 10) rest
+part_before : (line rest : List ℕ) → list_all printable line ≡ true
+    → slice_split (λ b. eqb b 10) (line ++ 10 ∷ rest) ≡ line ∷ slice_split (λ b. eqb b 10) rest
 part_before [] rest h = slice_split-cons_yes (λ b. eqb b 10) 10 rest refl
 part_before (b ∷ line) rest h =
     let both = and_true (printable b) (list_all printable line) h in
@@ -94,7 +97,8 @@ copy_key p key.Right q = record q { right = p.right }
 copy_key p key.Top q = record q { top = p.top }
 copy_key p key.Bottom q = record q { bottom = p.bottom }
 
-number_put : (most n : ℕ) (with_field : ℕ → Profile) → n ≤ most → most < 2 ^ 64 → option_map with_field (number_within 0 most (decimal n)) ≡ Some (with_field n)
+number_put : (most n : ℕ) (with_field : ℕ → Profile)
+    → n ≤ most → most < 2 ^ 64 → option_map with_field (number_within 0 most (decimal n)) ≡ Some (with_field n)
 number_put most n with_field small fits = ap (option_map with_field) (number_of_decimal 0 most n (omega arith) small fits)
 
 ink_set_read : (inks : InkSet) → ink_set_named (ink_set_name inks) ≡ Some inks
@@ -169,13 +173,15 @@ bare_line_printable key.Hdpi value h = h
 bare_line_printable _ value h = h
 
 -- what a key's line gives
-bare_line_gives : (given : Given) (k : Key) (value : List ℕ) → list_all is_ascii value ≡ true → with_key given value (Some k) ≡ with_line given (bare_line k value)
+bare_line_gives : (given : Given) (k : Key) (value : List ℕ)
+    → list_all is_ascii value ≡ true → with_key given value (Some k) ≡ with_line given (bare_line k value)
 unfolding bare_line
 bare_line_gives given key.Hdpi value h = line_of_key given _ value (Some key.Hdpi) refl h refl refl refl
 bare_line_gives given k value h = line_of_key given _ value (Some k) refl h refl refl refl
 
 -- a key's line is the first of the lines
-key_line_read : (p : Profile) → InRange p → (k : Key) (rest : List ℕ) → lines (key_line p k ++ rest) ≡ bare_line k ((row_of k).text p) ∷ lines rest
+key_line_read : (p : Profile) → InRange p
+    → (k : Key) (rest : List ℕ) → lines (key_line p k ++ rest) ≡ bare_line k ((row_of k).text p) ∷ lines rest
 unfolding bare_line
 key_line_read p range k rest =
     ap lines (append_assoc (bare_line k ((row_of k).text p)) (10 ∷ []) rest)
@@ -198,7 +204,8 @@ all_new : Profile → Given → List Key → Bool
 all_new p given [] = true
 all_new p given (k ∷ keys) = not (is_given given k) && all_new p (copied p given k) keys
 
-key_read : (p : Profile) → InRange p → (given : Given) (k : Key) → is_given given k ≡ false → with_line given (bare_line k ((row_of k).text p)) ≡ Ok (copied p given k)
+key_read : (p : Profile) → InRange p → (given : Given) (k : Key)
+    → is_given given k ≡ false → with_line given (bare_line k ((row_of k).text p)) ≡ Ok (copied p given k)
 unfolding copied
 key_read p range given k new =
     sym (bare_line_gives given k _ (all_of printable is_ascii printable_ascii _ (value_printable p range k)))
@@ -207,7 +214,8 @@ key_read p range given k new =
 not_true : (b : Bool) → not b ≡ true → b ≡ false
 not_true b h = grind (arith, nat_tests)
 
-keys_read : (p : Profile) → InRange p → (keys : List Key) (number : ℕ) (given : Given) → all_new p given keys ≡ true → with_lines number given (lines (flat_map (key_line p) keys)) ≡ Ok (all_copied p given keys)
+keys_read : (p : Profile) → InRange p → (keys : List Key) (number : ℕ) (given : Given) → all_new p given keys ≡ true
+    → with_lines number given (lines (flat_map (key_line p) keys)) ≡ Ok (all_copied p given keys)
 unfolding all_copied all_new
 keys_read p range [] number given new = lines_done number given [] refl
 keys_read p range (k ∷ keys) number given new =

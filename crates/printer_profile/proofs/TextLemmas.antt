@@ -12,7 +12,8 @@ use Rattle.printer_profile.specs.declared.reading.TextCause.TheVariants.{BadHead
 use Rattle.printer_profile.specs.declared.reading.TextFault.{TextFault}
 use Rattle.printer_profile.specs.Keys.{key_named}
 use Rattle.key_values.specs.Pairs.{is_equals_sign}
-use Rattle.printer_profile.specs.Text.{fault_at, head, is_skipped, next_line, nothing, profile_given, profile_of_lines, profile_text, with_key, with_line, with_lines}
+use Rattle.printer_profile.specs.Text.{fault_at, head, is_skipped, next_line, nothing, profile_given, profile_of_lines}
+use Rattle.printer_profile.specs.Text.{profile_text, with_key, with_line, with_lines}
 
 -- ---- one line
 
@@ -20,29 +21,37 @@ pub line_skipped : (given : Given) (line : List ℕ) → is_skipped line ≡ tru
 unfolding with_line
 line_skipped given line skipped = rw skipped refl
 
-pub line_not_ascii : (given : Given) (line : List ℕ) → is_skipped line ≡ false → list_all is_ascii line ≡ false → Err NotAscii ≡ with_line given line
+pub line_not_ascii : (given : Given) (line : List ℕ)
+    → is_skipped line ≡ false → list_all is_ascii line ≡ false → Err NotAscii ≡ with_line given line
 unfolding with_line
 line_not_ascii given line counts ascii = rw (counts, ascii) refl
 
-pub line_no_equals : (given : Given) (line : List ℕ) → is_skipped line ≡ false → list_all is_ascii line ≡ true → list_any is_equals_sign line ≡ false → Err NoEquals ≡ with_line given line
+pub line_no_equals : (given : Given) (line : List ℕ) → is_skipped line ≡ false
+    → list_all is_ascii line ≡ true → list_any is_equals_sign line ≡ false → Err NoEquals ≡ with_line given line
 unfolding with_line
 line_no_equals given line counts ascii equals = rw (counts, ascii, equals) refl
 
-pub line_of_key : (given : Given) (line value : List ℕ) (key : Option Key) → is_skipped line ≡ false → list_all is_ascii line ≡ true → list_any is_equals_sign line ≡ true → value ≡ after_first is_equals_sign line → key ≡ key_named (before_first is_equals_sign line) → with_key given value key ≡ with_line given line
+pub line_of_key : (given : Given) (line value : List ℕ) (key : Option Key) → is_skipped line ≡ false
+    → list_all is_ascii line ≡ true → list_any is_equals_sign line ≡ true → value ≡ after_first is_equals_sign line
+    → key ≡ key_named (before_first is_equals_sign line) → with_key given value key ≡ with_line given line
 unfolding with_line
 line_of_key given line value key counts ascii equals value_is key_is = rw (counts, ascii, equals, value_is, key_is) refl
 
 -- ---- lines
 
-pub lines_more : (number : ℕ) (given more : Given) (line : List ℕ) (rest : List (List ℕ)) → with_line given line ≡ Ok more → with_lines number given (line ∷ rest) ≡ with_lines (next_line number) more rest
+pub lines_more : (number : ℕ) (given more : Given) (line : List ℕ) (rest : List (List ℕ))
+    → with_line given line ≡ Ok more → with_lines number given (line ∷ rest) ≡ with_lines (next_line number) more rest
 unfolding with_lines
 lines_more number given more line rest h =
-    ap (λ (o : Result Given TextCause). elim o [ Ok more ↦ with_lines (next_line number) more rest | Err cause ↦ Err (fault_at number cause) ]) h
+    ap (λ (o : Result Given TextCause).
+    elim o [ Ok more ↦ with_lines (next_line number) more rest | Err cause ↦ Err (fault_at number cause) ]) h
 
-pub lines_fault : (number : ℕ) (given : Given) (cause : TextCause) (line : List ℕ) (rest : List (List ℕ)) → with_line given line ≡ Err cause → with_lines number given (line ∷ rest) ≡ Err (fault_at number cause)
+pub lines_fault : (number : ℕ) (given : Given) (cause : TextCause) (line : List ℕ) (rest : List (List ℕ))
+    → with_line given line ≡ Err cause → with_lines number given (line ∷ rest) ≡ Err (fault_at number cause)
 unfolding with_lines
 lines_fault number given cause line rest h =
-    ap (λ (o : Result Given TextCause). elim o [ Ok more ↦ with_lines (next_line number) more rest | Err cause ↦ Err (fault_at number cause) ]) h
+    ap (λ (o : Result Given TextCause).
+    elim o [ Ok more ↦ with_lines (next_line number) more rest | Err cause ↦ Err (fault_at number cause) ]) h
 
 pub lines_done : (number : ℕ) (given : Given) (text : List ℕ) → length text ≡ 0 → with_lines number given (lines text) ≡ Ok given
 unfolding with_lines
@@ -56,15 +65,19 @@ unfolding profile_text
 text_empty [] h = refl
 text_empty (b ∷ text) h = absurd (omega arith)
 
-pub text_bad_head : (text first : List ℕ) (rest : List (List ℕ)) → lines text ≡ first ∷ rest → bytes_eq first head ≡ false → Err (fault_at 1 BadHead) ≡ profile_text text
+pub text_bad_head : (text first : List ℕ) (rest : List (List ℕ))
+    → lines text ≡ first ∷ rest → bytes_eq first head ≡ false → Err (fault_at 1 BadHead) ≡ profile_text text
 unfolding profile_text
 text_bad_head text first rest cut differs = sym (ap profile_of_lines cut ∙ rw differs refl)
 
-pub text_with_head : (text first : List ℕ) (rest : List (List ℕ)) → lines text ≡ first ∷ rest → bytes_eq first head ≡ true → profile_given (with_lines 2 nothing rest) ≡ profile_text text
+pub text_with_head : (text first : List ℕ) (rest : List (List ℕ)) → lines text ≡ first ∷ rest
+    → bytes_eq first head ≡ true → profile_given (with_lines 2 nothing rest) ≡ profile_text text
 unfolding profile_text
 text_with_head text first rest cut same = sym (ap profile_of_lines cut ∙ rw same refl)
 
--- what follows the lines behind the head
-pub lines_end : (text first : List ℕ) (rest : List (List ℕ)) (read : Result Given TextFault) (answer : Result Profile TextFault) → lines text ≡ first ∷ rest → bytes_eq first head ≡ true → read ≡ with_lines 2 nothing rest → answer ≡ profile_given read → answer ≡ profile_text text
+-- what the lines after the first one give
+pub lines_end : (text first : List ℕ) (rest : List (List ℕ)) (read : Result Given TextFault)
+    (answer : Result Profile TextFault) → lines text ≡ first ∷ rest → bytes_eq first head ≡ true
+    → read ≡ with_lines 2 nothing rest → answer ≡ profile_given read → answer ≡ profile_text text
 lines_end text first rest read answer cut same read_is answer_is =
     answer_is ∙ ap profile_given read_is ∙ text_with_head text first rest cut same

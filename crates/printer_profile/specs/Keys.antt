@@ -1,5 +1,6 @@
 -- The table of keys.
-use Rattle.std.specs.Prelude.{ℕ, Bool, true, false, ◌==◌, List, [], ◌∷◌, codes, find, slice_index, slice_set, Option, Some, None, Result, Ok, Err}
+use Rattle.std.specs.Prelude.{ℕ, Bool, true, false, ◌==◌, List, [], ◌∷◌, codes, find, slice_index}
+use Rattle.std.specs.Prelude.{slice_set, Option, Some, None, Result, Ok, Err}
 use Rattle.std.specs.Fmt.{decimal}
 use Rattle.std.specs.Option.{option_map}
 use Rattle.std.specs.Str.{bytes_eq}
@@ -13,7 +14,7 @@ use Rattle.key_values.specs.Numbers.{number_within}
 use Rattle.printer_profile.specs.Values.{ink_set_name, ink_set_named}
 
 -- A key: its place, counted from 1, its name, whether a text must have it, the profile with the value that a text
--- gives it, if it takes that, and the text of its value.
+-- gives it, if the key takes it, and the text of its value.
 pub record Row : Type 0 where
   pub place : ℕ
   pub name : List ℕ
@@ -31,7 +32,7 @@ number_row place name required most field with_field = record {
   text = λ p. decimal (field p);
 }
 
--- the key of an ink's greatest amount, by the ink's place among black, cyan, magenta and yellow
+-- the key of an ink's limit, by the ink's place among black, cyan, magenta and yellow
 abbrev pub limit_row : ℕ → List ℕ → ℕ → Row
 limit_row place name ink =
     number_row place name false 255 (λ p. slice_index p.limits ink) (λ p n. record p { limits = slice_set p.limits ink n })
@@ -81,11 +82,11 @@ abbrev pub name_of : Option Key → List ℕ
 name_of None = []
 name_of (Some key) = (row_of key).name
 
--- its name; nothing at any other place
+-- its name; empty at any other place
 abbrev pub name_at : ℕ → List ℕ
 name_at place = name_of (key_at place)
 
--- the profile before any key is given: the defaults, and 0 and `k` where there is none
+-- the profile before any key is set: the defaults, and 0 and `k` where there is no default
 abbrev pub unset : Profile
 unset = record {
   hdpi = 0;
@@ -101,7 +102,7 @@ unset = record {
   bottom = 0;
 }
 
--- the profile with a value put, where the key took it
+-- the profile with the new value, where the key takes it
 abbrev pub put_or_fault : Option Profile → Result Profile SetFault
 put_or_fault None = Err BadValue
 put_or_fault (Some p) = Ok p

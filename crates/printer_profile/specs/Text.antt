@@ -1,5 +1,6 @@
 -- The text of a profile.
-use Rattle.std.specs.Prelude.{ℕ, ◌+◌, ◌-◌, ◌^◌, min, Bool, false, true, not, ◌==◌, ◌&&◌, if◌then◌else◌, List, [], ◌∷◌, ◌++◌, codes, find, replicate, slice_index_or, slice_set, Option, Some, None, Result, Ok, Err}
+use Rattle.std.specs.Prelude.{ℕ, ◌+◌, ◌-◌, ◌^◌, min, Bool, false, true, not, ◌==◌, ◌&&◌, if◌then◌else◌, List, [], ◌∷◌, ◌++◌, codes, find}
+use Rattle.std.specs.Prelude.{replicate, slice_index_or, slice_set, Option, Some, None, Result, Ok, Err}
 use Rattle.std.specs.Char.{is_ascii}
 use Rattle.std.specs.List.{flat_map, list_all}
 use Rattle.std.specs.Str.{bytes_eq}
@@ -9,7 +10,8 @@ use Rattle.printer_profile.specs.declared.fields.Profile.{Profile}
 use Rattle.printer_profile.specs.declared.keys.Key.{Key}
 use Rattle.printer_profile.specs.declared.reading.Given.{Given}
 use Rattle.printer_profile.specs.declared.reading.TextCause.{TextCause}
-use Rattle.printer_profile.specs.declared.reading.TextCause.TheVariants.{BadHead, NotAscii, NoEquals, UnknownKey, RepeatedKey, BadValue, Missing}
+use Rattle.printer_profile.specs.declared.reading.TextCause.TheVariants.{BadHead, NotAscii, NoEquals, UnknownKey, RepeatedKey}
+use Rattle.printer_profile.specs.declared.reading.TextCause.TheVariants.{BadValue, Missing}
 use Rattle.printer_profile.specs.declared.reading.TextFault.{TextFault}
 use Rattle.printer_profile.specs.Keys.{all_keys, key_named, row_of, unset}
 
@@ -34,7 +36,7 @@ abbrev pub is_skipped : List ℕ → Bool
 is_skipped [] = true
 is_skipped (first ∷ line) = first == 35
 
--- before the first line behind the head
+-- before the first key line
 abbrev pub nothing : Given
 nothing = record { profile = unset; keys = replicate 14 false }
 
@@ -54,7 +56,7 @@ with_key given value None = Err UnknownKey
 with_key given value (Some key) =
     if is_given given key then Err RepeatedKey else with_value given key ((row_of key).put value given.profile)
 
--- with a line behind the head
+-- with a line after the first
 unfoldable pub with_line : Given → List ℕ → Result Given TextCause
 with_line given line =
     if is_skipped line then Ok given
@@ -62,14 +64,14 @@ with_line given line =
     else if not (is_key_value line) then Err NoEquals
     else with_key given (value_of line) (key_named (key_of line))
 
--- the number of the next line, as far as 32 bits count
+-- the number of the next line, up to what 32 bits hold
 abbrev pub next_line : ℕ → ℕ
 next_line line = min (line + 1) (2 ^ 32 - 1)
 
 abbrev pub fault_at : ℕ → TextCause → TextFault
 fault_at line cause = record { line = line; cause = cause }
 
--- with these lines, of which the first has this number
+-- with these lines, the first of which has this number
 unfoldable pub with_lines : ℕ → Given → List (List ℕ) → Result Given TextFault
 with_lines number given [] = Ok given
 with_lines number given (line ∷ rest) = elim (with_line given line) [
@@ -95,6 +97,6 @@ profile_of_lines [] = Err (fault_at 1 BadHead)
 profile_of_lines (first ∷ rest) =
     if bytes_eq first head then profile_given (with_lines 2 nothing rest) else Err (fault_at 1 BadHead)
 
--- What a text says: a profile, or the first fault.
+-- What a text means: a profile, or the first fault.
 unfoldable pub profile_text : List ℕ → Result Profile TextFault
 profile_text text = profile_of_lines (lines text)

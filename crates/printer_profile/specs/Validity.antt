@@ -1,4 +1,4 @@
--- When a profile makes sense.
+-- Which profiles make sense.
 use Rattle.std.specs.Prelude.{ℕ, zero, suc, ◌%◌, Bool, not, ◌==◌, ◌&&◌, ◌||◌, nat_lt, if◌then◌else◌, List, [], ◌∷◌, Result, Ok, Err}
 use Rattle.printer_definitions.specs.Printer.{head_rows, nozzle_step}
 use Rattle.printer_profile.specs.declared.fields.Profile.{Profile}
@@ -39,6 +39,6 @@ abbrev pub first_fault : List (Bool × ProfileFault) → Result (Unit {0}) Profi
 first_fault [] = Ok tt
 first_fault (test ∷ tests) = if test.0 then Err test.1 else first_fault tests
 
--- a profile's first fault, where it has one
+-- a profile's first fault, if it has one
 abbrev pub check : Profile → Result (Unit {0}) ProfileFault
 check p = first_fault (profile_tests p)

@@ -7,7 +7,7 @@ use printer_definitions::InkSet;
 use pwg_definitions::{MOST_COLUMNS, MOST_ROWS, PageForm, Wanted};
 use separation_definitions::Window;
 
-/// A printer. Nothing ties the fields together: `check` says whether they make sense.
+/// A printer as a profile describes it. The fields are independent: `check` says whether they make sense together.
 #[derive(Clone, Copy, Debug, PartialEq, Eq)]
 pub struct Profile {
     /// Dots an inch across the page.
@@ -19,11 +19,11 @@ pub struct Profile {
     /// Rows from one nozzle to the next.
     pub pitch: u8,
     pub inks: InkSet,
-    /// The least darkness of a colour page that is moved into black.
+    /// The least darkness of a colour page that black takes over from the three colours.
     pub black_start: u8,
-    /// The greatest amounts of black, cyan, magenta and yellow, of 255.
+    /// The greatest amounts of black, cyan, magenta and yellow, 0 to 255.
     pub limits: [u8; 4],
-    /// The left margin, in pixels of the page, as the other three.
+    /// The left margin in pixels of the page; so are the other three.
     pub left: u16,
     pub right: u16,
     pub top: u16,
@@ -33,7 +33,8 @@ pub struct Profile {
 impl Profile {
     ghost use Rattle.printer_profile.specs.Profiles.{printer_of};
 
-    /// The pages that the printer takes: its resolution, and sizes in pixels that leave one inside the margins.
+    /// The pages that the printer takes: its resolution, and sizes in pixels that leave at least one inside the
+    /// margins.
     pub fn wanted(&self) -> Wanted
         ensures { result ≡ wanted_by (printer_of self.now) }
     {

@@ -12,14 +12,14 @@ fn are_bytes(limits: &[u8])
     ensures { (k : ℕ) → slice_index limits.now k ≤ 255 }
 {}
 
-/// What is printed is read back.
+/// A printed profile is read back.
 pub fn printed_is_read(p: Profile)
     ensures { profile_text (profile_text_of p) ≡ Ok p }
 {
     are_bytes(&p.limits);
 }
 
-/// A printer that passes its checks can print: what the laws of the page ask of a printer.
+/// A printer that passes its checks can print: it meets what the laws of the page ask of a printer.
 pub fn checked_can_print(p: Profile)
     ensures { IsOk (check p) → CanPrint (printer_of p) }
 {}

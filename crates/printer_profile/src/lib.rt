@@ -1,11 +1,19 @@
-//! Printers by name and by text: what a printer can do, whether that makes sense, and a short text to keep it in.
+//! Printers by name and by text: what a printer can do, whether that makes sense, and a text that describes it.
 //!
-//! The text has the line `escp2-profile 1`, and behind it lines `key=value`, each key once at most and in any order.
-//! Empty lines and lines that begin with `#` are skipped. A line ends with a line feed, before which a carriage return
-//! is dropped, and only the last line may lack the line feed. `hdpi`, `vdpi`, `nozzles`, `pitch` and `inks` are
-//! required; `black_start`, `left`, `right`, `top` and `bottom` are 0 where they are left out, and `limit_k`,
-//! `limit_c`, `limit_m` and `limit_y` 255. Values are decimal numbers with no sign and no leading zero, but for the
-//! inks: `k`, `cmy` or `cmyk`.
+//! The text has the line `escp2-profile 1` and then lines `key=value`, each key at most once and in any order. Empty
+//! lines and lines that begin with `#` are skipped. A line ends with LF or CR LF; only the last line may lack its
+//! end. `hdpi`, `vdpi`, `nozzles`, `pitch` and `inks` are required; `black_start`, `left`, `right`, `top` and
+//! `bottom` default to 0, and `limit_k`, `limit_c`, `limit_m` and `limit_y` to 255. Values are decimal numbers
+//! without a sign and without a leading zero, except for the inks: `k`, `cmy` or `cmyk`.
+//!
+//! `read` gives exactly the profile of a text, or its first fault with the number of the line; `check` exactly the
+//! first fault of a profile in the order of `ProfileFault`; `built_in` exactly the table. None of them takes memory.
+//! `print` appends exactly the canonical text; on `Memory` the vector is unchanged. `set` changes one key as a line
+//! of a text would; a refused call changes nothing.
+//!
+//! Three laws tie them to the rest: what is printed is read back (`printed_is_read`), a profile that passes its
+//! checks can print (`checked_can_print`), and its nozzles and pitch are coprime, as interleaved passes need
+//! (`checked_is_coprime`).
 #![tactic(auto)]
 
 mod built_ins;

@@ -8,12 +8,12 @@ fn without_return(line: &[u8]) -> &[u8]
     ensures { result.now ≡ strip_carriage_return line.now }
 {
     match line {
-        [front @ .., b'\r'] => front,
+        [prefix @ .., b'\r'] => prefix,
         _ => line,
     }
 }
 
-/// The first line of a text, and the text behind it.
+/// The first line of a text, and the text after it.
 pub fn first_line(text: &[u8]) -> (&[u8], &[u8])
     requires { 0 < length text.now }
     ensures lines { lines text.now ≡ result.0.now ∷ lines result.1.now }

@@ -16,7 +16,7 @@ use weave_base::Memory;
 /// The first line of a profile's text.
 pub(crate) const HEAD: &str = "escp2-profile 1";
 
-// At least the bytes of any profile's text: 16 of its head, and at most 18 of each key's line.
+// No less than the bytes of any profile's text: 16 of its first line, and at most 18 of each key's line.
 const ROOM: usize = 272;
 
 fn push_number(n: u16, out: &mut ArrayString<ROOM>)
@@ -74,7 +74,7 @@ fn push_text(p: &Profile, out: &mut ArrayString<ROOM>)
 }
 
 impl Profile {
-    /// Appends the profile's text, with every key, to the bytes: what `read` gives the profile back for.
+    /// Appends the profile's text, with every key. `read` gives the profile back.
     pub fn print(&self, out: &mut Vec<u8>) -> Result<(), Memory>
         ensures ok { OnOk result (out.new.items ≡ out.old.items ++ profile_text_of self.now) }
         ensures err { OnErr result (out.new.items ≡ out.old.items) }

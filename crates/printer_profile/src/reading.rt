@@ -1,5 +1,6 @@
 //! A profile from a text.
-ghost use Rattle.printer_profile.specs.Text.{nothing, is_skipped as is_skipped_of, missing as missing_of, profile_text, profile_unless, with_lines};
+ghost use Rattle.printer_profile.specs.Text.{nothing, is_skipped as is_skipped_of, missing as missing_of};
+ghost use Rattle.printer_profile.specs.Text.{profile_text, profile_unless, with_lines};
 ghost use Rattle.std.specs.List.{list_all};
 ghost use Rattle.std.specs.Str.Lines.{lines};
 ghost use Rattle.std.specs.Char.{is_ascii};
@@ -13,7 +14,7 @@ use key_values::cut_at;
 use printer_definitions::InkSet;
 use thiserror::Error;
 
-/// Why a text is no profile. On one line the first cause counts, in the order of these variants.
+/// Why a text is not a profile. Where a line has several causes, the first in the order of these variants counts.
 #[derive(Clone, Copy, Debug, PartialEq, Eq, Error)]
 pub enum TextCause {
     #[error("not `escp2-profile 1`")]
@@ -37,12 +38,12 @@ pub enum TextCause {
 #[derive(Clone, Copy, Debug, PartialEq, Eq, Error)]
 #[error("line {line}: {cause}")]
 pub struct TextFault {
-    /// The line, counted from 1, or 0 where the fault is none of a line. Lines from 4,294,967,295 on have that number.
+    /// The line, counted from 1; 0 where the fault is not in a line. Lines from 4,294,967,295 on have that number.
     pub line: u32,
     pub cause: TextCause,
 }
 
-// What the lines so far give: the profile, and for each key whether it was given.
+// What the lines so far set: the profile, and for each key whether it was given.
 #[derive(Clone, Copy)]
 struct Given {
     profile: Profile,
@@ -88,7 +89,7 @@ impl Given {
         }
     }
 
-    // With a value for a key.
+    // Sets the value of a key.
     fn with_key(self, key: Key, value: &[u8]) -> Result<Given, TextCause>
         ensures { result ≡ with_key self value.now (Some key) }
     {
@@ -104,7 +105,7 @@ impl Given {
         Ok(Given { profile, keys })
     }
 
-    // With a line.
+    // Takes a line.
     fn with_line(self, line: &[u8]) -> Result<Given, TextCause>
         ensures { result ≡ with_line self line.now }
     {
@@ -144,7 +145,7 @@ impl Given {
     }
 }
 
-// What the lines of a text give, of which the first has this number.
+// What the lines after the first line of a text set; they are numbered from 2.
 fn read_lines(text: &[u8]) -> Result<Given, TextFault>
     ensures { result ≡ with_lines 2 nothing (lines text.now) }
 {
@@ -152,7 +153,7 @@ fn read_lines(text: &[u8]) -> Result<Given, TextFault>
     let mut number: u32 = 2;
     let mut rest = text;
     'lines: while !rest.is_empty() {
-        let (line, behind) = first_line(rest);
+        let (line, suffix) = first_line(rest);
         given = match given.with_line(line) {
             Ok(more) => more,
             Err(cause) => return Err(TextFault {
@@ -161,13 +162,13 @@ fn read_lines(text: &[u8]) -> Result<Given, TextFault>
             }),
         };
         number = number.saturating_add(1);
-        rest = behind;
+        rest = suffix;
     }
     Ok(given)
 }
 
-/// Reads a profile's text: a head, and lines `key=value`. The first line that is refused counts, and after all lines
-/// the first required key that is absent.
+/// Reads a profile's text: its first line, and lines `key=value`. The answer is the profile, or the first refused
+/// line; where all lines are good, the first required key that is absent.
 pub fn read(text: &[u8]) -> Result<Profile, TextFault>
     ensures { result ≡ profile_text text.now }
 {

@@ -18,7 +18,7 @@ pub enum SetFault {
 impl Profile {
     ghost use Rattle.printer_profile.specs.Keys.{row_of, set_key};
 
-    // With the value that the text gives a key, if the key takes it.
+    // The profile with the value of a key, if the key takes the value.
     pub(crate) fn with_value(self, key: Key, text: &[u8]) -> Option<Profile>
         ensures { result ≡ (row_of key).put text.now self }
     {

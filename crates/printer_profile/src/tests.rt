@@ -86,15 +86,16 @@ fn a_page_is_printed_inside_its_margins(rt: HostRuntime) {
 }
 
 const TINY: &[u8] =
-    b"escp2-profile 1\nhdpi=360\nvdpi=360\nnozzles=3\npitch=2\ninks=k\nblack_start=0\nlimit_k=255\nlimit_c=255\nlimit_m=255\nlimit_y=255\nleft=0\nright=0\ntop=4\nbottom=0\n";
+    b"escp2-profile 1\nhdpi=360\nvdpi=360\nnozzles=3\npitch=2\ninks=k\nblack_start=0\nlimit_k=255\nlimit_c=255\n\
+    limit_m=255\nlimit_y=255\nleft=0\nright=0\ntop=4\nbottom=0\n";
 
 #[test]
-fn a_profile_is_printed_behind_what_stands(rt: HostRuntime) -> Result<(), Fail> {
+fn a_profile_is_appended(rt: HostRuntime) -> Result<(), Fail> {
     let mut out = vec![in rt.alloc(); b'!']?;
     let tiny = built_in("tiny").ok_or("tiny")?;
     assert_eq!(rt; tiny.print(&mut out), Ok(()));
-    let (front, text) = out.as_slice().split_at(1);
-    assert_eq!(rt; front, b"!".as_slice());
+    let (prefix, text) = out.as_slice().split_at(1);
+    assert_eq!(rt; prefix, b"!".as_slice());
     assert_eq!(rt; text, TINY);
     assert_eq!(rt; read(text), Ok(tiny));
     Ok(())

@@ -5,7 +5,7 @@ ghost use Rattle.std.specs.Prelude.{◌≡◌, ◌<◌};
 use crate::fields::Profile;
 use thiserror::Error;
 
-/// Why a profile makes no sense. The variants stand in the order in which the checks are made.
+/// Why a profile makes no sense, in the order in which the checks are made.
 #[derive(Clone, Copy, Debug, PartialEq, Eq, Error)]
 pub enum ProfileFault {
     #[error("a resolution is neither 360 nor 720 dots an inch")]
@@ -14,13 +14,13 @@ pub enum ProfileFault {
     Nozzles,
     #[error("the nozzles are no rows apart")]
     Pitch,
-    /// Passes of equal steps reach every row once only where nozzles and pitch have no common divisor.
+    /// Passes of equal steps fire every row once only where nozzles and pitch have no common divisor.
     #[error("the nozzles and the pitch have the common divisor {gcd}")]
     NotCoprime { gcd: u8 },
-    /// The distance of two nozzles, in 1/3600 inch, is a byte of the raster command.
+    /// The distance between two nozzles, in 1/3600 inch, is one byte of the raster command.
     #[error("the nozzles are more than 255/3600 inch apart")]
     RowStep,
-    /// The first rows of a page lie below the first nozzle by up to the head's length, in rows.
+    /// The first rows of a page are below the first nozzle by up to the head's length, in rows.
     #[error("the top margin is below {needs}")]
     TopMargin { needs: u32 },
     #[error("no darkness is moved into black")]
@@ -51,7 +51,7 @@ fn is_resolution(dpi: u16) -> bool
 impl Profile {
     ghost use Rattle.printer_profile.specs.Validity.{check as check_of};
 
-    /// Whether the fields make sense together: the first fault, in the order of `ProfileFault`.
+    /// Whether the fields make sense together; `Err` is the first fault in the order of `ProfileFault`.
     pub fn check(&self) -> Result<(), ProfileFault>
         ensures { result ≡ check_of self.now }
     {

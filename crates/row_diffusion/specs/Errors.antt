@@ -9,7 +9,7 @@ pub record TwoRows : Type 0 where
   pub up2 : List ℤ
   pub up1 : List ℤ
 
--- the two rows are those above row y of a plane
+-- the two rows are the errors above row y of a plane
 pub record IsReached (rows : TwoRows) (e : Errors) (y : ℕ) : Type 0 where
   pub up2 : RowIs e y rows.up2
   pub up1 : RowIs e (y + 1) rows.up1

@@ -1,4 +1,4 @@
--- What stands in kept rows of errors.
+-- The invariant of kept rows of errors.
 use Rattle.pwg_definitions.specs.Limits.{most_columns}
 use Rattle.std.specs.Prelude.{◌≡◌, ◌+◌, ◌≤◌, length}
 use Rattle.diffusion_definitions.specs.Diffusion.{EachInRange}
@@ -9,7 +9,7 @@ use Rattle.row_diffusion.specs.declared.errors.ErrorRows.TheInside.{Inside}
 abbrev pub two_rows : Inside → TwoRows
 two_rows r = record { width = r.width; up2 = r.up2.items; up1 = r.up1.items }
 
--- The rows have one width, their errors are in range, and beside them stand zeros.
+-- The rows have one width, their errors are in range, and their borders are 0.
 pub record IsReady (r : Inside) : Type 0 where
   pub some : 1 ≤ r.width
   pub most : r.width ≤ most_columns

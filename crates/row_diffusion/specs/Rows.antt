@@ -2,11 +2,11 @@
 use Rattle.std.specs.Prelude.{ℕ, ℤ, pos, ◌+◌, ◌≤◌, ◌<◌, ◌≡◌, List, Bool, false, length, slice_index, slice_index_or}
 use Rattle.diffusion_definitions.specs.Diffusion.{EachInRange, Errors, Plane, Solves, Table, on}
 
--- the list has the errors of row y of a table, which begins two rows above the plane
+-- the list is row y of a table of errors, which begins two rows above the plane
 pub record RowIs (e : Errors) (y : ℕ) (xs : List ℤ) : Type 0 where
   pub at : (n : ℕ) → slice_index_or xs n (pos 0) ≡ e y n
 
--- the places beside the row are 0
+-- the places left and right of the row are 0
 pub record IsBordered (width : ℕ) (xs : List ℤ) : Type 0 where
   pub left : (n : ℕ) → n < 4 → slice_index_or xs n (pos 0) ≡ pos 0
   pub right : (n : ℕ) → width + 4 ≤ n → slice_index_or xs n (pos 0) ≡ pos 0
@@ -17,7 +17,8 @@ pub record HasRow (p : Plane) (y : ℕ) (amounts : List ℕ) : Type 0 where
   pub wide : length amounts ≡ p.width
   pub are : (x : ℕ) → x < p.width → slice_index amounts x ≡ p.amount y x
 
--- Rows of errors for rows of so many pixels: the two above, and one that is to be written. There is room for as many dots.
+-- Rows of errors for rows of `width` pixels: the two above, and one that is to be written. There is room for `width`
+-- dots.
 pub record AreRows (width : ℕ) (up2 up1 row : List ℤ) (dots : ℕ) : Type 0 where
   pub most : width < 8192
   pub up2_len : length up2 ≡ width + 6
@@ -29,10 +30,11 @@ pub record AreRows (width : ℕ) (up2 up1 row : List ℤ) (dots : ℕ) : Type 0 
   pub row_fits : EachInRange row
   pub bordered : IsBordered width row
 
--- The row's errors and dots are those of the row of any plane, below its errors in the two rows above.
+-- For any plane with these amounts, below its errors in the two rows above, the row has the plane's errors and dots.
 pub record IsDiffused (k : Table) (amounts : List ℕ) (up2 up1 row : List ℤ) (dots : List Bool) : Type 0 where
   pub fits : EachInRange row
   pub bordered : IsBordered (length amounts) row
-  pub errors : (p : Plane) (e : Errors) (y : ℕ) → HasRow p y amounts → Solves k p e → RowIs e y up2 → RowIs e (y + 1) up1 → RowIs e (y + 2) row
+  pub errors : (p : Plane) (e : Errors) (y : ℕ)
+      → HasRow p y amounts → Solves k p e → RowIs e y up2 → RowIs e (y + 1) up1 → RowIs e (y + 2) row
   pub on_dots : (p : Plane) (e : Errors) (y : ℕ) → HasRow p y amounts → Solves k p e → RowIs e y up2 → RowIs e (y + 1) up1
       → (x : ℕ) → x < length amounts → slice_index_or dots x false ≡ on k p e y x

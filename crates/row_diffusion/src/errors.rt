@@ -1,4 +1,4 @@
-//! The errors of two rows, below which the next one is diffused.
+//! The two rows of errors that the next row is diffused below.
 ghost use Rattle.diffusion_definitions.specs.Diffusion.{Errors, Plane, Solves, no_top, on};
 ghost use Rattle.diffusion_kernel.specs.Tables.{table_of};
 ghost use Rattle.dot_planes.specs.Tables.{IsPackedRow};
@@ -17,16 +17,16 @@ use std::marker::Model;
 use std::mem;
 use weave_base::Memory;
 
-/// The errors that one ink has in the two rows above the next one. Contracts see the rows' width and their errors, as
-/// lists that have the error of column x at place x + 4.
+/// The errors of one ink in the two rows above the next row. Contracts see the width and both rows of errors as
+/// lists, the error of column x at place x + 4.
 #[derive(Drop)]
 pub struct ErrorRows {
     width: usize,
-    /// The errors two rows above, one row above, and of the row in hand, each with a border of zeros.
+    /// The errors two rows above, one row above, and of the current row, each with a border of zeros.
     up2: Vec<i16>,
     up1: Vec<i16>,
     row: Vec<i16>,
-    /// The dots of the row in hand.
+    /// The dots of the current row.
     dots: Vec<bool>,
 }
 
@@ -42,7 +42,7 @@ impl Model for ErrorRows {
     ghost invariant = { IsReady };
 }
 
-// A row by any kernel. Each kernel has a call of its own, which is compiled for its table.
+// A row by any kernel. Each kernel is a call of its own, compiled for its table.
 fn diffuse_by(
     kernel: Kernel,
     amounts: &[u8],
@@ -61,7 +61,7 @@ fn diffuse_by(
     }
 }
 
-// Rows of no errors.
+// Rows of errors that are all 0.
 fn room(alloc: Global, width: usize) -> Result<ErrorRows, AllocError>
     requires some { 1 ≤ width }
     requires most { width ≤ most_columns }
@@ -78,7 +78,7 @@ fn room(alloc: Global, width: usize) -> Result<ErrorRows, AllocError>
 }
 
 impl ErrorRows {
-    /// The top of a page with 1 to 8,191 columns: no errors. Takes all the memory that the page's rows need.
+    /// The errors above a page of 1 to 8,191 columns: all zero. Takes all memory that the page's rows need.
     pub fn make(alloc: Global, width: u32) -> Result<ErrorRows, Memory>
         requires some { 1 ≤ width }
         requires most { width ≤ most_columns }
@@ -91,7 +91,7 @@ impl ErrorRows {
         }
     }
 
-    /// Diffuses a row of amounts below the two rows, of which the upper one is given up for it, and packs its dots.
+    /// Diffuses a row of amounts and packs its dots. The kept rows move down by one: the upper one is dropped.
     pub fn diffuse(&mut self, kernel: Kernel, amounts: &[u8], packed: &mut [u8])
         requires amounts { length amounts.now ≡ self.old.width }
         requires packed { length packed.old ≡ (self.old.width + 7) / 8 }
@@ -99,9 +99,11 @@ impl ErrorRows {
         ensures row { IsPackedRow self.old.width packed.new }
 
         // For the row of any plane, below its errors in the two rows above.
-        ensures errors { (p : Plane) (e : Errors) (y : ℕ) → HasRow p y amounts.now → Solves (table_of kernel) p e → IsReached self.old e y
+        ensures errors { (p : Plane) (e : Errors) (y : ℕ)
+            → HasRow p y amounts.now → Solves (table_of kernel) p e → IsReached self.old e y
             → IsReached self.new e (y + 1) }
-        ensures dots { (p : Plane) (e : Errors) (y : ℕ) → HasRow p y amounts.now → Solves (table_of kernel) p e → IsReached self.old e y
+        ensures dots { (p : Plane) (e : Errors) (y : ℕ)
+            → HasRow p y amounts.now → Solves (table_of kernel) p e → IsReached self.old e y
             → packed.new ≡ packed_of (map (on (table_of kernel) p e y) (count_from 0 self.old.width)) }
     {
         diffuse_by(

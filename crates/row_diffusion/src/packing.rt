@@ -32,13 +32,13 @@ fn first_byte(row: &[bool]) -> u8
     a + b + c + d + e + f + g + h
 }
 
-fn behind_eight(row: &[bool]) -> &[bool]
+fn after_eight(row: &[bool]) -> &[bool]
     ensures { result.now ≡ drop 8 row.now }
 {
     if row.len() > 8 { &row[8..] } else { &[] }
 }
 
-/// Packs a row of dots, eight a byte, the first in the highest bit. Bits behind the row are 0.
+/// Packs a row of dots, eight a byte, the first in the highest bit. Spare bits are 0.
 pub(crate) fn pack_row(row: &[bool], out: &mut [u8])
     requires { length out.old ≡ (length row.now + 7) / 8 }
     ensures { out.new ≡ packed row.now }
@@ -46,6 +46,6 @@ pub(crate) fn pack_row(row: &[bool], out: &mut [u8])
     let mut rest = row;
     for byte in out.iter_mut() {
         *byte = first_byte(rest);
-        rest = behind_eight(rest);
+        rest = after_eight(rest);
     }
 }

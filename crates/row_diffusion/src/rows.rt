@@ -1,4 +1,4 @@
-//! A row of a plane, from the left.
+//! A row of a plane, diffused from the left.
 ghost use Rattle.diffusion_kernel.specs.Tables.{table_of};
 ghost use Rattle.row_diffusion.specs.Rows.{AreRows, IsDiffused};
 ghost use Rattle.std.specs.Prelude.{[], length, pos, slice_index_or, ◌+◌, ◌<◌, ◌≡◌, ◌∷◌};
@@ -12,8 +12,12 @@ fn near_at(up2: &[i16], up1: &[i16], left1: i16, left2: i16, x: usize) -> Near
     requires up2_len { x + 6 < length up2.now }
     requires up1_len { x + 6 < length up1.now }
     ensures same { result.same ≡ left1 ∷ left2 ∷ [] }
-    ensures up1 { result.up1 ≡ slice_index_or up1.now (x + 2) (pos 0) ∷ slice_index_or up1.now (x + 3) (pos 0) ∷ slice_index_or up1.now (x + 4) (pos 0) ∷ slice_index_or up1.now (x + 5) (pos 0) ∷ slice_index_or up1.now (x + 6) (pos 0) ∷ [] }
-    ensures up2 { result.up2 ≡ slice_index_or up2.now (x + 2) (pos 0) ∷ slice_index_or up2.now (x + 3) (pos 0) ∷ slice_index_or up2.now (x + 4) (pos 0) ∷ slice_index_or up2.now (x + 5) (pos 0) ∷ slice_index_or up2.now (x + 6) (pos 0) ∷ [] }
+    ensures up1 { result.up1 ≡ slice_index_or up1.now (x + 2) (pos 0)
+        ∷ slice_index_or up1.now (x + 3) (pos 0) ∷ slice_index_or up1.now (x + 4) (pos 0)
+        ∷ slice_index_or up1.now (x + 5) (pos 0) ∷ slice_index_or up1.now (x + 6) (pos 0) ∷ [] }
+    ensures up2 { result.up2 ≡ slice_index_or up2.now (x + 2) (pos 0)
+        ∷ slice_index_or up2.now (x + 3) (pos 0) ∷ slice_index_or up2.now (x + 4) (pos 0)
+        ∷ slice_index_or up2.now (x + 5) (pos 0) ∷ slice_index_or up2.now (x + 6) (pos 0) ∷ [] }
 {
     Near {
         same: [left1, left2],
@@ -24,8 +28,8 @@ fn near_at(up2: &[i16], up1: &[i16], left1: i16, left2: i16, x: usize) -> Near
 
 /// Diffuses a row of amounts below the errors of the two rows above it, and gives its errors and its dots.
 ///
-/// A row of errors has zeros at its four first and two last places, so that no pixel needs a test for the row's ends.
-/// What `row` holds between them at the call is of no account.
+/// A row of errors has zeros at its first four and last two places, so that no pixel needs a test for the row's ends.
+/// What `row` holds between them at the call does not matter.
 #[inline]
 pub(crate) fn diffuse_row(
     k: Kernel,

@@ -14,7 +14,8 @@ use Rattle.pwg_definitions.specs.Stream.{Page}
 
 -- ---- pixels without colour
 
--- what a grey of this darkness gives to an ink: black where there is black, else cyan, magenta and yellow alike
+-- what a grey of this darkness gives to an ink: all to black in a set with black, else the same to cyan, magenta and
+-- yellow
 abbrev pub grey_ink : InkSet → Ink → ℕ → ℕ
 grey_ink K ink d = d
 grey_ink Cmy ink d = d
@@ -31,26 +32,27 @@ pub record Colour : Type 0 where
   pub green : ℕ
   pub blue : ℕ
 
--- how dark a colour is as a grey: the weights sum to 256
+-- the darkness of a colour as a grey: the weights sum to 256
 abbrev pub darkness : Colour → ℕ
 darkness colour = 255 - (77 * colour.red + 150 * colour.green + 29 * colour.blue) / 256
 
--- what a colour lacks: red of cyan, green of magenta, blue of yellow; nothing is lacking of black
+-- the complement of a colour: 255 - red for cyan, 255 - green for magenta, 255 - blue for yellow, 0 for black
 abbrev pub complement : Colour → Ink → ℕ
 complement colour Black = 0
 complement colour Cyan = 255 - colour.red
 complement colour Magenta = 255 - colour.green
 complement colour Yellow = 255 - colour.blue
 
--- the darkness that cyan, magenta and yellow have in common
+-- the darkness that cyan, magenta and yellow share
 abbrev pub common_darkness : Colour → ℕ
 common_darkness colour = min (min (255 - colour.red) (255 - colour.green)) (255 - colour.blue)
 
--- Black generation: the darkness that is moved into black, none below the least, and all of it at 255.
+-- Black generation: the part of the shared darkness that black takes over; nothing below `black_start`, all of it at
+-- 255.
 abbrev pub moved_to_black : ℕ → ℕ → ℕ
 moved_to_black least q = if nat_lt q least then 0 else (q - least) * 255 / (255 - least)
 
--- what a colour gives to an ink where there is black besides cyan, magenta and yellow
+-- what a colour gives to an ink of the set CMYK
 abbrev pub four_inks : ℕ → Colour → Ink → ℕ
 four_inks least colour Black = moved_to_black least (common_darkness colour)
 four_inks least colour Cyan = complement colour Cyan - moved_to_black least (common_darkness colour)
@@ -75,13 +77,13 @@ pixel_at Rgb8 line x = slice_index line (3 * x) ∷ slice_index line (3 * x + 1)
 abbrev pub colour_of : List ℕ → Colour
 colour_of pixel = record { red = slice_index pixel 0; green = slice_index pixel 1; blue = slice_index pixel 2 }
 
--- what a pixel gives to an ink, before the ink's limit: in Gray8 a 0 is black, in Black8 a 255
+-- what a pixel gives to an ink before the ink's limit; 0 is black in Gray8, and 255 in Black8
 abbrev pub pixel_ink : Printer → Kind → List ℕ → Ink → ℕ
 pixel_ink p Gray8 pixel ink = grey_ink p.inks ink (255 - slice_index pixel 0)
 pixel_ink p Black8 pixel ink = grey_ink p.inks ink (slice_index pixel 0)
 pixel_ink p Rgb8 pixel ink = colour_ink p.inks p.black_start (colour_of pixel) ink
 
--- The amount of an ink at a pixel: 0 to 255, by the ink's limit.
+-- The amount of an ink at a pixel: 0 to 255, scaled by the ink's limit.
 abbrev pub amount : Printer → Kind → List ℕ → Ink → ℕ
 amount p kind pixel ink = pixel_ink p kind pixel ink * limit_of p ink / 255
 
@@ -92,5 +94,6 @@ ink_plane page p ink =
     record {
       width = window.width;
       height = window.height;
-      amount = λ y x. amount p page.form.kind (pixel_at page.form.kind (slice_index_or page.lines (window.top + y) []) (window.left + x)) ink;
+      amount = λ y x. amount p page.form.kind
+          (pixel_at page.form.kind (slice_index_or page.lines (window.top + y) []) (window.left + x)) ink;
     }

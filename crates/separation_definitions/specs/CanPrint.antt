@@ -6,8 +6,8 @@ use Rattle.printer_definitions.specs.Printer.{Printer, head_rows, nozzle_step}
 use Rattle.separation_definitions.specs.Windows.{wanted_by}
 use Rattle.pwg_definitions.specs.Stream.{IsPage, Page}
 
--- 360 or 720 dots an inch each way, a head with nozzles that have no common divisor with their pitch, raster steps that
--- fit a byte, and room above the first row for the head
+-- 360 or 720 dots an inch in each direction, nozzles and pitch without a common divisor, raster steps that fit a
+-- byte, and room for the head above the first row
 pub record CanPrint (p : Printer) : Type 0 where
   pub across : (p.hdpi ≡ 360) ⊎ (p.hdpi ≡ 720)
   pub down : (p.vdpi ≡ 360) ⊎ (p.vdpi ≡ 720)

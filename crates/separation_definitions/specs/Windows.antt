@@ -15,7 +15,7 @@ window_of form p = record {
   height = form.height - (p.top + p.bottom);
 }
 
--- The pages that a printer takes: a pixel at least inside its margins, 8,191 columns and 22 inches at most.
+-- The pages that a printer takes: at least one pixel inside its margins, at most 8,191 columns and 22 inches.
 abbrev pub wanted_by : Printer → Wanted
 wanted_by p = record {
   hdpi = p.hdpi;

@@ -1,6 +1,6 @@
 //! The part of a page that is printed.
 
-/// The pixels of a page inside its margins.
+/// The part of a page inside the profile's margins.
 #[derive(Clone, Copy, Debug, PartialEq, Eq)]
 pub struct Window {
     /// The first column of the page that is printed.

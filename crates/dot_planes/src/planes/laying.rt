@@ -8,8 +8,8 @@ use crate::bit_rows::{lay_row, row_meets};
 use crate::places::{row_of, row_start};
 
 impl Planes {
-    /// Whether one of the first `dots` dots of a packed row is on where an ink has a dot in row y, with the row's first
-    /// dot at column x. Bits of the row behind these are none.
+    /// Whether one of the first `dots` dots of a packed row is on where an ink has a dot in row y, with the row's
+    /// first dot at column x. Bits past these dots are ignored.
     pub fn meets(&self, ink: u8, y: u32, x: u32, row: &[u8], dots: u32) -> bool
         requires ink { ink < self.now.inks }
         requires y { y < self.now.rows }
@@ -23,8 +23,8 @@ impl Planes {
         row_meets(other, x as usize, row, dots as usize)
     }
 
-    /// Gives row y of an ink the first `dots` dots of a packed row too, from column x on. All other dots stay, and bits of
-    /// the row behind these are none.
+    /// Turns on the first `dots` dots of a packed row in row y of an ink, from column x on. Bits past these dots are
+    /// ignored. All other dots are unchanged.
     pub fn lay(&mut self, ink: u8, y: u32, x: u32, row: &[u8], dots: u32)
         requires ink { ink < self.old.inks }
         requires y { y < self.old.rows }

@@ -1,11 +1,11 @@
-//! A page's dots by the definitions, dot by dot, with nothing kept back for speed.
+//! A page's dots by the definitions, dot by dot, as directly as possible.
 use diffusion_kernel::Kernel;
 use dot_planes::Planes;
 use printer_definitions::Ink;
 use printer_profile::{InkSet, PageForm, Profile};
 use pwg_definitions::Kind;
 
-// The byte of colour c at a pixel: numbers that jump about.
+// The byte of colour c at a pixel: numbers without a pattern.
 pub(crate) fn byte_at(x: u32, y: u32, c: u32) -> u8 {
     let n = x
         .wrapping_mul(73)
@@ -14,8 +14,8 @@ pub(crate) fn byte_at(x: u32, y: u32, c: u32) -> u8 {
     (n % 256) as u8
 }
 
-// What a pixel of red, green and blue lacks of an ink.
-fn lack_at(ink: Ink, x: u32, y: u32) -> i32 {
+// The complement of a pixel of red, green and blue, for an ink.
+fn complement_at(ink: Ink, x: u32, y: u32) -> i32 {
     match ink {
         Ink::Black => 0,
         Ink::Cyan => i32::from(!byte_at(x, y, 0)),
@@ -24,7 +24,7 @@ fn lack_at(ink: Ink, x: u32, y: u32) -> i32 {
     }
 }
 
-// How dark a pixel of red, green and blue is as a grey.
+// The darkness of a pixel of red, green and blue as a grey.
 fn darkness_at(x: u32, y: u32) -> i32 {
     let red = i32::from(byte_at(x, y, 0)).wrapping_mul(77);
     let green = i32::from(byte_at(x, y, 1)).wrapping_mul(150);
@@ -32,11 +32,11 @@ fn darkness_at(x: u32, y: u32) -> i32 {
     255i32.wrapping_sub(red.wrapping_add(green).wrapping_add(blue) / 256)
 }
 
-// What is moved into black, from 64 on.
+// What black takes over, from 64 on.
 fn black_at(x: u32, y: u32) -> i32 {
-    let magenta = lack_at(Ink::Magenta, x, y);
-    let yellow = lack_at(Ink::Yellow, x, y);
-    let q = lack_at(Ink::Cyan, x, y).min(magenta).min(yellow);
+    let magenta = complement_at(Ink::Magenta, x, y);
+    let yellow = complement_at(Ink::Yellow, x, y);
+    let q = complement_at(Ink::Cyan, x, y).min(magenta).min(yellow);
     if q < 64 {
         0
     } else {
@@ -53,10 +53,10 @@ fn given_at(inks: InkSet, kind: Kind, ink: Ink, x: u32, y: u32) -> i32 {
     };
     match inks {
         InkSet::K => grey,
-        InkSet::Cmy if kind == Kind::Rgb8 => lack_at(ink, x, y),
+        InkSet::Cmy if kind == Kind::Rgb8 => complement_at(ink, x, y),
         InkSet::Cmy => grey,
         InkSet::Cmyk if kind == Kind::Rgb8 && ink == Ink::Black => black_at(x, y),
-        InkSet::Cmyk if kind == Kind::Rgb8 => lack_at(ink, x, y).wrapping_sub(black_at(x, y)),
+        InkSet::Cmyk if kind == Kind::Rgb8 => complement_at(ink, x, y).wrapping_sub(black_at(x, y)),
         InkSet::Cmyk if ink == Ink::Black => grey,
         InkSet::Cmyk => 0,
     }
@@ -100,7 +100,7 @@ fn given(kernel: Kernel, errors: &[i32], width: u32, x: u32, y: u32) -> i32 {
     }
 }
 
-// How many pixels of the window have a dot where there should be none, or none where there should be one.
+// How many places of the window have a dot where there should be none, or none where there should be one.
 pub(crate) fn wrong_dots(
     p: &Profile,
     f: PageForm,

@@ -12,7 +12,8 @@ returns-then-row_part-ne0 c =
 pub loop-i-preserved : goal.loop-i-preserved
 loop-i-preserved c = record {
   none = before-next (row_dot c.args.row.now) c.args.dots c.loop-i.i c.loop-i.invariant.none
-      (λ j low in_row. part-none c.args.row.now c.args.dots c.loop-i.i c.row_part.result j c.row_part.ensures c.if-row_part-ne0.false low in_row);
+      (λ j low in_row. part-none c.args.row.now
+      c.args.dots c.loop-i.i c.row_part.result j c.row_part.ensures c.if-row_part-ne0.false low in_row);
 }
 
 pub returns : goal.returns

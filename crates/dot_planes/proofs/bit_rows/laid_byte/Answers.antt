@@ -7,9 +7,11 @@ pub returns : goal.returns
 returns c = λ j low.
     let before : IsPartBefore c.args.row.now c.args.dots c.args.i c.match-checked_sub.left = elim c.match-checked_sub.branch [
       | in-Some w ↦ subst (IsPartBefore c.args.row.now c.args.dots c.args.i) (sym w.left-is)
-          (part-before c.args.row.now c.args.dots w.in-Some.last c.args.i w.part_or_none-left.result (omega (arith, w.in-Some.ensures)) w.part_or_none-left.ensures)
+          (part-before c.args.row.now c.args.dots w.in-Some.last c.args.i w.part_or_none-left.result
+          (omega (arith, w.in-Some.ensures)) w.part_or_none-left.ensures)
       | in-None w ↦ subst (IsPartBefore c.args.row.now c.args.dots c.args.i) (sym w.left-is)
           (none-before c.args.row.now c.args.dots c.args.i (omega (arith, w.in-None.ensures)))
     ] in
-    laid_byte-is c.args.row.now c.args.dots c.args.before c.args.i j c.match-checked_sub.left c.part_or_none-here.result c.moved.result.1 c.moved-2.result.0
+    laid_byte-is c.args.row.now c.args.dots c.args.before
+    c.args.i j c.match-checked_sub.left c.part_or_none-here.result c.moved.result.1 c.moved-2.result.0
     c.requires.before low before c.part_or_none-here.ensures (c.moved.ensures.stay j low) (c.moved-2.ensures.left j low)

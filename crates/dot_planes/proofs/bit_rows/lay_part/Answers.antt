@@ -21,19 +21,23 @@ loop-i-preserved c = record {
         | then-place-i w ↦
             ap (λ (bytes : List ℕ). row_dot bytes d) w.over-is
             ∙ laid-step c.args.over.now c.loop-i.over laid (c.args.x / 8 + c.args.from) (c.args.x / 8 + c.loop-i.i) w.laid_byte.result d
-            (omega (arith, c.loop-i.auto.i)) w.if-place-i.true (λ j low. w.laid_byte.ensures j low ∙ laid-from c.args.row.now c.args.dots c.args.x c.loop-i.i j) (c.loop-i.invariant.so_far d)
+            (omega (arith, c.loop-i.auto.i)) w.if-place-i.true (λ j low. w.laid_byte.ensures j low
+            ∙ laid-from c.args.row.now c.args.dots c.args.x c.loop-i.i j) (c.loop-i.invariant.so_far d)
             ∙ ap (λ n. row_dot c.args.over.now d || is_in_bytes (c.args.x / 8 + c.args.from) n d && laid d) next
         | else-place-i w ↦
             ap (λ (bytes : List ℕ). row_dot bytes d) w.over-is
             ∙ c.loop-i.invariant.so_far d
             ∙ ap (λ b. row_dot c.args.over.now d || b) (none-more laid (c.args.x / 8 + c.args.from) (c.args.x / 8 + c.loop-i.i) d
-            (λ behind. none-behind c.args.row.now c.args.dots c.args.x d (omega (arith, behind, w.if-place-i.false, c.loop-i.auto.over, c.requires.inside))))
+            (λ behind. none-behind c.args.row.now c.args.dots c.args.x d
+            (omega (arith, behind, w.if-place-i.false, c.loop-i.auto.over, c.requires.inside))))
             ∙ ap (λ n. row_dot c.args.over.now d || is_in_bytes (c.args.x / 8 + c.args.from) n d && laid d) next
       ];
 }
 
 pub returns-clause-dots : goal.returns-clause-dots
 returns-clause-dots c = λ d.
-    let end : c.args.x / 8 + c.loop-i.i ≡ c.args.x / 8 + c.args.to = omega (arith, c.loop-i-test.false, c.loop-i.auto.i-end, c.requires.order) in
+    let end : c.args.x / 8 + c.loop-i.i ≡ c.args.x / 8 + c.args.to =
+    omega (arith, c.loop-i-test.false, c.loop-i.auto.i-end, c.requires.order) in
     c.loop-i.invariant.so_far d
-    ∙ ap (λ n. row_dot c.args.over.now d || is_in_bytes (c.args.x / 8 + c.args.from) n d && laid_dot c.args.row.now c.args.dots c.args.x d) end
+    ∙ ap (λ n. row_dot c.args.over.now d
+    || is_in_bytes (c.args.x / 8 + c.args.from) n d && laid_dot c.args.row.now c.args.dots c.args.x d) end

@@ -11,8 +11,11 @@ returns-clause-dots c = λ d.
     let last : ℕ = c.args.x / 8 + (length c.args.row.now + 1) in
     let next : c.args.x / 8 + (many + 1) ≡ c.args.x / 8 + 1 + many = omega arith in
     let end = ap (λ n. row_dot c.lay_whole.new.over d || is_in_bytes n last d && laid d) next in
-    laid-stretch c.args.over.now c.lay_whole.new.over c.lay_part-2.new.over laid (c.args.x / 8 + 0) (c.args.x / 8 + 1 + many) last d (omega arith) (omega (arith, c.saturating_sub-many.ensures))
-    (laid-stretch c.args.over.now c.lay_part.new.over c.lay_whole.new.over laid (c.args.x / 8 + 0) (c.args.x / 8 + 1) (c.args.x / 8 + 1 + many) d (omega arith) (omega arith)
+    laid-stretch c.args.over.now c.lay_whole.new.over c.lay_part-2.new.over laid (c.args.x / 8 + 0)
+    (c.args.x / 8 + 1 + many) last d (omega arith) (omega (arith, c.saturating_sub-many.ensures))
+    (laid-stretch c.args.over.now c.lay_part.new.over c.lay_whole.new.over laid
+    (c.args.x / 8 + 0) (c.args.x / 8 + 1) (c.args.x / 8 + 1 + many) d (omega arith) (omega arith)
     (c.lay_part.ensures.dots d) (c.lay_whole.ensures.dots d))
     (c.lay_part-2.ensures.dots d ∙ end)
-    ∙ ap (λ b. row_dot c.args.over.now d || b) (laid-all c.args.row.now c.args.dots c.args.x (c.args.x / 8 + 0) last d (omega arith) (omega (arith, c.requires.len)))
+    ∙ ap (λ b. row_dot c.args.over.now d || b) (laid-all c.args.row.now c.args.dots c.args.x
+    (c.args.x / 8 + 0) last d (omega arith) (omega (arith, c.requires.len)))

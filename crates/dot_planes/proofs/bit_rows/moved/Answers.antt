@@ -5,8 +5,10 @@ use Rattle.dot_planes.proofs.bit_rows.moved.Goals as goal
 
 pub returns-clause-left : goal.returns-clause-left
 returns-clause-left c = λ j low.
-    ap (λ b. bit_at (b * 2 ^ c.args.by % 65536 / 256) j) c.from.ensures ∙ moved-left c.args.by j c.args.byte c.requires low c.ranges.byte.fits
+    ap (λ b. bit_at (b * 2 ^ c.args.by % 65536 / 256) j) c.from.ensures
+    ∙ moved-left c.args.by j c.args.byte c.requires low c.ranges.byte.fits
 
 pub returns-clause-stay : goal.returns-clause-stay
 returns-clause-stay c = λ j low.
-    ap (λ b. bit_at (bit_and (b * 2 ^ c.args.by % 65536) 255) j) c.from.ensures ∙ moved-stays c.args.by j c.args.byte c.requires low c.ranges.byte.fits
+    ap (λ b. bit_at (bit_and (b * 2 ^ c.args.by % 65536) 255) j) c.from.ensures
+    ∙ moved-stays c.args.by j c.args.byte c.requires low c.ranges.byte.fits

@@ -17,8 +17,10 @@ returns c =
           ap not (eq-eqb (bit_and c.row_part.result c.window.result) 0 nothing)
           ∙ sym (any-no f c.args.dots (λ k low. before-next f c.args.dots c.in-Some.last
           (λ i less in_row. any-none-of f (8 * c.in-Some.last) i (sym c.bytes_meet.ensures ∙ c.if-bytes_meet.false) less)
-          (none-both c.args.row.now c.args.other.now c.args.dots c.args.x c.in-Some.last c.row_part.result c.window.result c.row_part.ensures c.window.ensures nothing) k (omega arith) low))
+          (none-both c.args.row.now c.args.other.now c.args.dots c.args.x c.in-Some.last
+          c.row_part.result c.window.result c.row_part.ensures c.window.ensures nothing) k (omega arith) low))
       | inr some ↦
-          let dot = both-dots c.args.row.now c.args.other.now c.args.dots c.args.x c.in-Some.last c.row_part.result c.window.result c.row_part.type_inv c.row_part.ensures c.window.ensures some in
+          let dot = both-dots c.args.row.now c.args.other.now c.args.dots c.args.x c.in-Some.last
+          c.row_part.result c.window.result c.row_part.type_inv c.row_part.ensures c.window.ensures some in
           ap not (ne_eqb (bit_and c.row_part.result c.window.result) 0 some) ∙ sym (any-some f c.args.dots dot.at dot.in_row dot.on)
     ]

@@ -5,7 +5,7 @@ use Rattle.dot_planes.proofs.LaidBytes.{window-is}
 use Rattle.dot_planes.proofs.bit_rows.window.Goals as goal
 use Rattle.dot_planes.proofs.bit_rows.window.Goals.{then-place-bytes, else-place-bytes}
 
--- the byte behind, or 0
+-- the next byte, or 0
 next_is : (c : goal.After-struct_known-2-1) → c.if-place-bytes.next ≡ get_or c.args.bytes.now (c.args.x / 8 + 1) 0
 next_is c = elim c.if-place-bytes.branch [
   | then-place-bytes w ↦ w.next-is

@@ -1,9 +1,11 @@
 use Rattle.std.proofs.Common.{◌∙◌, arith, inl, inr}
 use Rattle.dot_planes.proofs.TileBytes.{IsByte, IsMoved, not_taken, taken_dot, taken_from, taken_to}
 use Rattle.dot_planes.proofs.tile_rows.put_byte.Goals as goal
-use Rattle.dot_planes.proofs.tile_rows.put_byte.Goals.{then-n-gt0, else-n-gt0, then-n-lt8, else-n-lt8, then-n-gt0-2, else-n-gt0-2, then-n-lt8-2, else-n-lt8-2}
+use Rattle.dot_planes.proofs.tile_rows.put_byte.Goals.{then-n-gt0, else-n-gt0, then-n-lt8, else-n-lt8, then-n-gt0-2}
+use Rattle.dot_planes.proofs.tile_rows.put_byte.Goals.{else-n-gt0-2, then-n-lt8-2, else-n-lt8-2}
 
-is_byte : (c : goal.After-splice) → IsByte c.args.dots.now c.args.n c.args.shift c.if-n-gt0.left c.if-n-lt8.right c.if-n-gt0-2.from c.if-n-lt8-2.to
+is_byte : (c : goal.After-splice)
+    → IsByte c.args.dots.now c.args.n c.args.shift c.if-n-gt0.left c.if-n-lt8.right c.if-n-gt0-2.from c.if-n-lt8-2.to
 is_byte c = record {
   few = c.requires.n;
   low = c.requires.shift;

@@ -5,7 +5,8 @@ use Rattle.dot_planes.proofs.tile_rows.put_cut.Goals as goal
 
 pub loop-b-init : goal.loop-b-init
 loop-b-init c = record {
-  dots = put_none c.args.width c.args.c c.args.r c.args.skip c.args.shift _ _ _ (omega arith) c.requires.lean c.saturating_sub-start.ensures;
+  dots = put_none c.args.width c.args.c c.args.r c.args.skip c.args.shift _ _ _
+      (omega arith) c.requires.lean c.saturating_sub-start.ensures;
   bytes = λ k. (c.type_inv.row k).fits;
 }
 
@@ -15,7 +16,8 @@ loop-b-preserved c =
     let room : c.loop-b.b < length c.loop-b.row = omega (arith, c.min-end.ensures, c.loop-b.invariant.dots.len) in
     record {
       dots = put_more c.args.width c.args.c c.args.r c.loop-b.b c.put_byte.result c.args.dots.now c.args.row.now c.loop-b.row room
-          (takes_dots c.args.width c.args.c c.args.r c.loop-b.b c.args.skip c.args.shift c.args.dots.now _ c.put_byte.result c.requires.lean after c.put_byte.ensures.pixels c.put_byte.ensures.others)
+          (takes_dots c.args.width c.args.c c.args.r c.loop-b.b c.args.skip c.args.shift c.args.dots.now
+          _ c.put_byte.result c.requires.lean after c.put_byte.ensures.pixels c.put_byte.ensures.others)
           c.loop-b.invariant.dots;
       bytes = set_fits c.loop-b.row c.loop-b.b c.put_byte.result c.put_byte.type_inv c.loop-b.invariant.bytes;
     }
@@ -28,7 +30,8 @@ returns-clause-dots c =
       | inl inside ↦ inl (omega (arith, c.min-end.ensures))
       | inr past ↦ inr (omega (arith, c.min-end.ensures, c.requires.row))
     ] in
-    put_all c.args.width c.args.c c.args.r c.args.skip c.args.shift c.loop-b.b end c.args.dots.now c.args.row.now c.loop-b.row c.requires.lean last (omega arith) c.loop-b-test.false c.loop-b.invariant.dots
+    put_all c.args.width c.args.c c.args.r c.args.skip c.args.shift c.loop-b.b end c.args.dots.now
+    c.args.row.now c.loop-b.row c.requires.lean last (omega arith) c.loop-b-test.false c.loop-b.invariant.dots
 
 pub returns-clause-bytes : goal.returns-clause-bytes
 returns-clause-bytes c = c.loop-b.invariant.bytes

@@ -8,7 +8,8 @@ use Rattle.printer_profile.specs.Profiles.{printer_of}
 use Rattle.printer_profile.proofs.CheckedProfiles.{can_print}
 use Rattle.pwg_definitions.specs.declared.pages.PageForm.{PageForm}
 use Rattle.separation_definitions.specs.Windows.{wanted_by, window_of}
-use Rattle.driver_core.proofs.Ends.{if-none, no_sync, page_over, page-bytes-is, page-wanted, page_not_written, page_stopped, page_without_room, stream_done}
+use Rattle.driver_core.proofs.Ends.{if-none, no_sync, page_over, page-bytes-is, page-wanted, page_not_written}
+use Rattle.driver_core.proofs.Ends.{page_stopped, page_without_room, stream_done}
 use Rattle.driver_core.proofs.Counting.{one_counted}
 use Rattle.driver_core.proofs.StreamSteps.{metered_begin, metered_read, metered_written}
 use Rattle.driver_core.proofs.printing.print_pages.Goals as goal
@@ -16,7 +17,9 @@ use Rattle.driver_core.proofs.printing.print_pages.Goals as goal
 pub returns-in_err-reader : goal.returns-in_err-reader
 returns-in_err-reader g c =
     let error = err_from_is_err_and c.from_residual.result c.from_residual.ensures.1 in
-    rw (error.1, error.2) (no_sync (printer_of c.args.profile.now) (table_of c.args.kernel) _ _ _ _ _ _ _ _ c.in_err-reader.field-0.0 c.in_err-reader.ensures.input c.in_err-reader.ensures.read c.in_err-reader.ensures.used)
+    rw (error.1, error.2)
+    (no_sync (printer_of c.args.profile.now) (table_of c.args.kernel) _ _ _ _ _ _ _ _ c.in_err-reader.field-0.0
+    c.in_err-reader.ensures.input c.in_err-reader.ensures.read c.in_err-reader.ensures.used)
 
 pub pages-init : goal.pages-init
 pages-init g c = record {
@@ -29,14 +32,18 @@ pages-init g c = record {
 pub returns-in_err-page : goal.returns-in_err-page
 returns-in_err-page g c =
     let error = err_from_is_err_and c.from_residual-in_err-page.result c.from_residual-in_err-page.ensures.1 in
-    rw (error.1, error.2) (page_stopped (Option HalftonedPage) (printer_of c.args.profile.now) (table_of c.args.kernel) _ _ _ _ _ _ c.pages.reader c.read_page.new.reader c.pages.number _ _ _ _ _ c.in_err-page.field-0.0
-    c.pages.invariant.stream.0 c.pages.invariant.stream.1 c.in_err-page.ensures.input c.pages.invariant.read_later c.in_err-page.ensures.read c.read_page.ensures.used)
+    rw (error.1, error.2)
+    (page_stopped (Option HalftonedPage) (printer_of c.args.profile.now) (table_of c.args.kernel)
+    _ _ _ _ _ _ c.pages.reader c.read_page.new.reader c.pages.number _ _ _ _ _ c.in_err-page.field-0.0
+    c.pages.invariant.stream.0 c.pages.invariant.stream.1
+    c.in_err-page.ensures.input c.pages.invariant.read_later c.in_err-page.ensures.read c.read_page.ensures.used)
 
 pub returns-in_default : goal.returns-in_default
 returns-in_default g c =
     let end = if-none c.in_ok-page.field-0 c.in_default.not-Some c.in_ok-page.ensures.none in
     stream_done (printer_of c.args.profile.now) (table_of c.args.kernel) _ _ _ _ _ _ c.pages.reader c.read_page.new.reader c.pages.number
-    (g.S.Source.faults c.args.input.now) (g.S.Source.faults c.read_page.new.s) (g.K.Sink.faults c.args.out.now) (g.K.Sink.faults c.pages.out) (can_print c.args.profile.now (omega arith) c.requires.checked)
+    (g.S.Source.faults c.args.input.now) (g.S.Source.faults c.read_page.new.s) (g.K.Sink.faults c.args.out.now)
+    (g.K.Sink.faults c.pages.out) (can_print c.args.profile.now (omega arith) c.requires.checked)
     c.pages.invariant.stream.0 c.pages.invariant.stream.1 end.0 end.1 c.read_page.ensures.used
 
 pub write_page-requires-clause-wanted : goal.write_page-requires-clause-wanted
@@ -65,11 +72,14 @@ returns-in-Err-Write g c =
     let k = table_of c.args.kernel in
     let halftoned = rw c.in-Some.is at c.in_ok-page.ensures.page in
     let page = halftoned.page in
-    let read = metered_read p k _ _ _ _ _ _ c.pages.reader c.read_page.new.reader c.pages.number page c.pages.invariant.stream halftoned.reads (rw c.in-Some.is at c.in_ok-page.ensures.between) in
+    let read = metered_read p k _ _ _ _ _ _ c.pages.reader c.read_page.new.reader c.pages.number
+    page c.pages.invariant.stream halftoned.reads (rw c.in-Some.is at c.in_ok-page.ensures.between) in
     let are = c.count_dots.ensures.dots p (halftone page p k) refl halftoned.dots ∙ page_dots-is p k page in
     let counts = one_counted p k _ _ _ _ page c.count_dots.result are read.1 c.in_ok-charge.ensures.room c.in_ok-charge.ensures.counted in
-    let part = rw (page-bytes-is p k page c.in-Some.page.form halftoned.form_is) at (c.in-Err-Write.ensures.part (halftone page p k) halftoned.dots (ap Err c.in-Err-Write.field-0-is)) in
-    page_not_written p k _ _ _ _ _ _ c.read_page.new.reader c.pages.number (g.S.Source.faults c.args.input.now) (g.S.Source.faults c.read_page.new.s) _ _ _ page
+    let part = rw (page-bytes-is p k page c.in-Some.page.form halftoned.form_is) at
+    (c.in-Err-Write.ensures.part (halftone page p k) halftoned.dots (ap Err c.in-Err-Write.field-0-is)) in
+    page_not_written p k _ _ _ _ _ _ c.read_page.new.reader c.pages.number
+    (g.S.Source.faults c.args.input.now) (g.S.Source.faults c.read_page.new.s) _ _ _ page
     read.0 counts part c.pages.invariant.written_later (c.in-Err-Write.ensures.write (ap Err c.in-Err-Write.field-0-is))
 
 pub returns-in-Err-Memory : goal.returns-in-Err-Memory
@@ -77,11 +87,14 @@ returns-in-Err-Memory g c =
     let p = printer_of c.args.profile.now in
     let k = table_of c.args.kernel in
     let halftoned = rw c.in-Some.is at c.in_ok-page.ensures.page in
-    let read = metered_read p k _ _ _ _ _ _ c.pages.reader c.read_page.new.reader c.pages.number halftoned.page c.pages.invariant.stream halftoned.reads (rw c.in-Some.is at c.in_ok-page.ensures.between) in
+    let read = metered_read p k _ _ _ _ _ _ c.pages.reader c.read_page.new.reader c.pages.number
+    halftoned.page c.pages.invariant.stream halftoned.reads (rw c.in-Some.is at c.in_ok-page.ensures.between) in
     let are = c.count_dots.ensures.dots p (halftone halftoned.page p k) refl halftoned.dots ∙ page_dots-is p k halftoned.page in
-    let counts = one_counted p k _ _ _ _ halftoned.page c.count_dots.result are read.1 c.in_ok-charge.ensures.room c.in_ok-charge.ensures.counted in
+    let counts = one_counted p k _ _ _
+    _ halftoned.page c.count_dots.result are read.1 c.in_ok-charge.ensures.room c.in_ok-charge.ensures.counted in
     page_without_room p k _ _ _ _ _ _ c.read_page.new.reader c.pages.number
-    (g.S.Source.faults c.args.input.now) (g.S.Source.faults c.read_page.new.s) (g.K.Sink.faults c.args.out.now) (g.K.Sink.faults c.write_page.new.k) halftoned.page
+    (g.S.Source.faults c.args.input.now) (g.S.Source.faults c.read_page.new.s)
+    (g.K.Sink.faults c.args.out.now) (g.K.Sink.faults c.write_page.new.k) halftoned.page
     read.0 counts (c.in-Err-Memory.ensures.memory (ap Err c.in-Err-Memory.field-0-is))
 
 pub pages-preserved : goal.pages-preserved
@@ -90,7 +103,8 @@ pages-preserved g c =
     let k = table_of c.args.kernel in
     let halftoned = rw c.in-Some.is at c.in_ok-page.ensures.page in
     let page = halftoned.page in
-    let read = metered_read p k _ _ _ _ _ _ c.pages.reader c.read_page.new.reader c.pages.number page c.pages.invariant.stream halftoned.reads (rw c.in-Some.is at c.in_ok-page.ensures.between) in
+    let read = metered_read p k _ _ _ _ _ _ c.pages.reader c.read_page.new.reader c.pages.number
+    page c.pages.invariant.stream halftoned.reads (rw c.in-Some.is at c.in_ok-page.ensures.between) in
     let are = c.count_dots.ensures.dots p (halftone page p k) refl halftoned.dots ∙ page_dots-is p k page in
     let counts = one_counted p k _ _ _ _ page c.count_dots.result are read.1 c.in_ok-charge.ensures.room c.in_ok-charge.ensures.counted in
     record {
@@ -106,8 +120,11 @@ returns-in_err-charge g c =
     let k = table_of c.args.kernel in
     let halftoned = rw c.in-Some.is at c.in_ok-page.ensures.page in
     let page = halftoned.page in
-    let read = metered_read p k _ _ _ _ _ _ c.pages.reader c.read_page.new.reader c.pages.number page c.pages.invariant.stream halftoned.reads (rw c.in-Some.is at c.in_ok-page.ensures.between) in
+    let read = metered_read p k _ _ _ _ _ _ c.pages.reader c.read_page.new.reader c.pages.number
+    page c.pages.invariant.stream halftoned.reads (rw c.in-Some.is at c.in_ok-page.ensures.between) in
     let are = c.count_dots.ensures.dots p (halftone page p k) refl halftoned.dots ∙ page_dots-is p k page in
     let error = err_from_is_err_and c.from_residual-in_err-charge.result c.from_residual-in_err-charge.ensures.1 in
-    rw (error.1, error.2) (page_over p k _ _ _ _ _ _ _ c.read_page.new.reader c.pages.number (g.S.Source.faults c.args.input.now) (g.S.Source.faults c.read_page.new.s) (g.K.Sink.faults c.args.out.now) (g.K.Sink.faults c.pages.out) page c.count_dots.result c.in_err-charge.field-0.0
+    rw (error.1, error.2) (page_over p k _ _ _ _ _ _ _ c.read_page.new.reader c.pages.number
+    (g.S.Source.faults c.args.input.now) (g.S.Source.faults c.read_page.new.s) (g.K.Sink.faults c.args.out.now)
+    (g.K.Sink.faults c.pages.out) page c.count_dots.result c.in_err-charge.field-0.0
     read.0 read.1 are c.in_err-charge.ensures.over c.in_err-charge.ensures.kept)

@@ -6,8 +6,12 @@ use Rattle.driver_core.proofs.printing.print_pages.Given as goal
 
 abbrev pub invariant-pages : goal.invariant-pages
 invariant-pages g l = record {
-  stream : MeteredSoFar (printer_of l.fn.profile) (table_of l.fn.kernel) (g.S.Source.left l.fn.input) (g.S.Source.left l.input) (g.K.Sink.held l.fn.out) (g.K.Sink.held l.out)
-      (record { before = map (λ m. (goal.Meter-dyn g (m.vtable, m.value)).account m.value) l.fn.meters.items; now = map (λ m. (goal.Meter-dyn g (m.vtable, m.value)).account m.value) l.meters.items })
+  stream : MeteredSoFar (printer_of l.fn.profile) (table_of l.fn.kernel)
+      (g.S.Source.left l.fn.input) (g.S.Source.left l.input) (g.K.Sink.held l.fn.out) (g.K.Sink.held l.out)
+      (record {
+        before = map (λ m. (goal.Meter-dyn g (m.vtable, m.value)).account m.value) l.fn.meters.items;
+        now = map (λ m. (goal.Meter-dyn g (m.vtable, m.value)).account m.value) l.meters.items;
+      })
       l.reader l.number;
   read_later : g.S.Source.faults l.fn.input ≤ g.S.Source.faults l.input;
   written_later : g.K.Sink.faults l.fn.out ≤ g.K.Sink.faults l.out;

@@ -17,8 +17,10 @@ pub groups-init : goal.groups-init
 groups-init g c =
     let begins = rw (c.in-Some.is, c.wanted.ensures) at c.in_ok-form.ensures.page in
     record {
-      page = halftone_begin c.args.profile.now c.args.kernel c.in-Some.form c.args.reader.now c.next_page.new.self _ _ c.in_ok-halftoner.halftoner
-          begins c.requires.unended c.in_ok-form.ensures.going c.in_ok-halftoner.ensures.page c.in_ok-halftoner.ensures.count c.in_ok-halftoner.ensures.stands;
+      page = halftone_begin c.args.profile.now
+          c.args.kernel c.in-Some.form c.args.reader.now c.next_page.new.self _ _ c.in_ok-halftoner.halftoner
+          begins c.requires.unended c.in_ok-form.ensures.going
+          c.in_ok-halftoner.ensures.page c.in_ok-halftoner.ensures.count c.in_ok-halftoner.ensures.stands;
       working = c.in_ok-halftoner.ensures.working;
       later = c.next_page.ensures.later;
     }
@@ -26,7 +28,8 @@ groups-init g c =
 pub returns-in_err-repeats-clause-input : goal.returns-in_err-repeats-clause-input
 returns-in_err-repeats-clause-input g c =
     let error = err_from_is_err_and c.from_residual-in_err-repeats.result c.from_residual-in_err-repeats.ensures.1 in
-    rw (error.1, error.2) (fault_in_page (Option HalftonedPage) (wanted_by (printer_of c.args.profile.now)) c.args.reader.now c.groups.reader _ _ _ c.in_err-repeats.field-0.0
+    rw (error.1, error.2) (fault_in_page (Option HalftonedPage)
+    (wanted_by (printer_of c.args.profile.now)) c.args.reader.now c.groups.reader _ _ _ c.in_err-repeats.field-0.0
     c.groups.invariant.page.page (c.in_err-repeats.ensures.input c.groups.invariant.page.page.going))
 
 pub returns-in_err-repeats-clause-used : goal.returns-in_err-repeats-clause-used
@@ -41,9 +44,11 @@ pub groups-preserved : goal.groups-preserved
 groups-preserved g c =
     let gives = c.in_ok-repeats.ensures.lines in
     record {
-      page = halftone_step c.args.profile.now c.args.kernel c.in-Some.form c.args.reader.now c.groups.reader c.next_line.new.self _ _ _ c.groups.halftoner c.lines.new.self c.in_ok-repeats.repeats
+      page = halftone_step c.args.profile.now c.args.kernel c.in-Some.form c.args.reader.now
+          c.groups.reader c.next_line.new.self _ _ _ c.groups.halftoner c.lines.new.self c.in_ok-repeats.repeats
           c.groups.invariant.page (omega (arith, c.groups-test.true, c.lines_left.ensures)) gives c.in_ok-repeats.ensures.going
-          c.in_ok-lines.ensures.page c.in_ok-lines.ensures.count (λ lines stands. rw c.line.ensures.line at c.in_ok-lines.ensures.stands lines stands);
+          c.in_ok-lines.ensures.page c.in_ok-lines.ensures.count
+          (λ lines stands. rw c.line.ensures.line at c.in_ok-lines.ensures.stands lines stands);
       working = c.in_ok-lines.ensures.working;
       later = omega (arith, c.groups.invariant.later, c.next_line.ensures.later);
     }
@@ -53,5 +58,6 @@ returns-in_err-lines-clause-used g c = uses_more _ _ _ _ c.groups.invariant.page
 
 pub returns-clause-page : goal.returns-clause-page
 returns-clause-page g c =
-    halftone_end c.args.profile.now c.args.kernel c.in-Some.form c.args.reader.now c.groups.reader _ _ c.groups.halftoner c.finish-planes.result
+    halftone_end c.args.profile.now
+    c.args.kernel c.in-Some.form c.args.reader.now c.groups.reader _ _ c.groups.halftoner c.finish-planes.result
     c.groups.invariant.page (omega (arith, c.groups-test.false, c.lines_left.ensures)) c.finish-planes.ensures

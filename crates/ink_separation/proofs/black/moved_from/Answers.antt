@@ -8,7 +8,8 @@ use Rattle.ink_separation.proofs.black.moved_from.Goals as goal
 pub loop-q-init : goal.loop-q-init
 loop-q-init c = record {
   len = refl;
-  filled = λ k below. get_or-replicate {A = ℕ} 256 k 0 0 (omega (arith, c.from-start.ensures)) ∙ moved_below c.args.least k (omega (arith, c.from-start.ensures));
+  filled = λ k below. get_or-replicate {A = ℕ} 256 k 0 0 (omega (arith, c.from-start.ensures))
+      ∙ moved_below c.args.least k (omega (arith, c.from-start.ensures));
 }
 
 pub loop-q-preserved : goal.loop-q-preserved

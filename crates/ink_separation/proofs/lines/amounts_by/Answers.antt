@@ -23,13 +23,20 @@ loop-n-preserved c =
             let place : first + k ≡ x = omega arith in
             let column : c.args.w.left + first + k ≡ c.args.w.left + x = omega arith in
             let within : first + many ≤ c.args.w.width = omega (arith, c.min-many.ensures) in
-            let fits : (c.args.w.left + c.args.w.width) * c.unit_of-unit.result ≤ length c.args.line.now = omega (arith, c.requires.inside, ap (λ n. (c.args.w.left + c.args.w.width) * n) c.unit_of-unit.ensures.is) in
+            let fits : (c.args.w.left + c.args.w.width) * c.unit_of-unit.result ≤ length c.args.line.now =
+            omega (
+              arith,
+              c.requires.inside,
+              ap (λ n. (c.args.w.left + c.args.w.width) * n) c.unit_of-unit.ensures.is,
+            ) in
             let inside : k < many = omega (arith, c.min-many.ensures) in
             ap (λ n. amount c.put.new.out i c.args.at n) (sym place)
             ∙ put.put i ink is k inside
             ∙ chunk_amount (printer_of c.args.p.now) c.args.kind c.args.line.now _ (c.args.w.left + first) many k c.make-given.result ink
-            (cut_out-is c.args.line.now c.args.w.left c.args.w.width first many c.unit_of-unit.result unit c.unit_of-unit.ensures.is within fits)
-            (c.make-given.ensures many (cut_out-len c.args.line.now c.args.w.left c.args.w.width first many c.unit_of-unit.result unit c.unit_of-unit.ensures.is within fits)) inside
+            (cut_out-is c.args.line.now c.args.w.left
+            c.args.w.width first many c.unit_of-unit.result unit c.unit_of-unit.ensures.is within fits)
+            (c.make-given.ensures many (cut_out-len c.args.line.now c.args.w.left
+            c.args.w.width first many c.unit_of-unit.result unit c.unit_of-unit.ensures.is within fits)) inside
             ∙ ap (λ n. amount_of (printer_of c.args.p.now) c.args.kind (pixel_at c.args.kind c.args.line.now n) ink) column
       ];
       others = λ i y x other low. put.others i y x other (omega (arith, v.size.rows)) ∙ v.others i y x other low;

@@ -2,7 +2,8 @@ use Rattle.std.proofs.Common.{arith, subst, ◌∙◌, ℕ, List, Err}
 use Rattle.std.proofs.lemmas.Result.{err_from_is_err_and}
 use Rattle.dot_emulator.specs.Runs.{Runs}
 use Rattle.printer_profile.specs.Profiles.{printer_of}
-use Rattle.job_player.proofs.Playing.{gives_sheet, if_none, is_none, plays_all, plays_more, plays_none, plays_nothing, plays_to_emu_stop, plays_to_feed_stop, sheet_unwritten, sheet_written}
+use Rattle.job_player.proofs.Playing.{gives_sheet, if_none, is_none, plays_all, plays_more, plays_none, plays_nothing}
+use Rattle.job_player.proofs.Playing.{plays_to_emu_stop, plays_to_feed_stop, sheet_unwritten, sheet_written}
 use Rattle.job_player.proofs.player.play_job.Goals as goal
 
 pub returns-in_err-feed : goal.returns-in_err-feed
@@ -22,11 +23,14 @@ commands-init g c = record {
 pub returns-in_err-placed : goal.returns-in_err-placed
 returns-in_err-placed g c =
     let error = err_from_is_err_and c.from_residual-in_err-placed.result c.from_residual-in_err-placed.ensures.1 in
-    rw error.1 (plays_to_feed_stop _ c.args.most _ c.commands.feed c.next.new.self _ _ _ _ _ _ _ _ _ _ _ c.in_err-placed.field-0.0 _ c.commands.invariant.so_far c.in_err-placed.ensures.stop c.commands.invariant.later c.commands.invariant.most error.2)
+    rw error.1 (plays_to_feed_stop _ c.args.most _
+    c.commands.feed c.next.new.self _ _ _ _ _ _ _ _ _ _ _ c.in_err-placed.field-0.0 _ c.commands.invariant.so_far
+    c.in_err-placed.ensures.stop c.commands.invariant.later c.commands.invariant.most error.2)
 
 pub returns-in_default : goal.returns-in_default
 returns-in_default g c =
-    plays_all _ c.args.most _ c.commands.feed c.next.new.self _ _ _ _ _ _ _ _ _ _ c.commands.invariant.so_far (if_none c.in_ok-placed.field-0 _ c.in_default.not-Some c.in_ok-placed.ensures.end) c.commands.invariant.most
+    plays_all _ c.args.most _ c.commands.feed c.next.new.self _ _ _ _ _ _ _ _ _ _ c.commands.invariant.so_far
+    (if_none c.in_ok-placed.field-0 _ c.in_default.not-Some c.in_ok-placed.ensures.end) c.commands.invariant.most
 
 pub commands-preserved-in_default-given : goal.commands-preserved-in_default-given
 commands-preserved-in_default-given g c =
@@ -46,24 +50,29 @@ pub returns-in-Err : goal.returns-in-Err
 returns-in-Err g c =
     let so_far = c.commands.invariant.so_far in
     let takes = rw c.in-Some.is at c.in_ok-placed.ensures.command in
-    let P : List ℕ → Type 0 = λ rows. Runs (printer_of c.args.profile.now) so_far.runs.m c.in-Some.placed.command rows c.commands.emulator c.run.new.self (Err c.in-Err.stop) in
+    let P : List ℕ → Type 0 = λ rows. Runs (printer_of c.args.profile.now)
+    so_far.runs.m c.in-Some.placed.command rows c.commands.emulator c.run.new.self (Err c.in-Err.stop) in
     let runs = subst P c.rows.ensures (c.in-Err.ensures (printer_of c.args.profile.now) so_far.runs.m so_far.runs.shows) in
-    plays_to_emu_stop _ c.args.most _ _ c.commands.feed c.next.new.self _ _ _ _ _ _ _ _ _ _ c.in-Some.placed c.in-Err.stop c.refused_at.result so_far takes runs c.commands.invariant.most c.refused_at.ensures
+    plays_to_emu_stop _ c.args.most _ _ c.commands.feed c.next.new.self _ _ _ _ _ _ _ _ _ _ c.in-Some.placed
+    c.in-Err.stop c.refused_at.result so_far takes runs c.commands.invariant.most c.refused_at.ensures
 
 pub returns-in-Err-write_sheet : goal.returns-in-Err-write_sheet
 returns-in-Err-write_sheet g c =
     let so_far = c.commands.invariant.so_far in
     let takes = rw c.in-Some.is at c.in_ok-placed.ensures.command in
-    let runs = rw c.in-Some-given.is at (rw c.rows.ensures at (c.in-Ok.ensures (printer_of c.args.profile.now) so_far.runs.m so_far.runs.shows)) in
+    let runs = rw c.in-Some-given.is at
+    (rw c.rows.ensures at (c.in-Ok.ensures (printer_of c.args.profile.now) so_far.runs.m so_far.runs.shows)) in
     let has = gives_sheet _ _ _ _ _ _ _ _ _ _ _ c.in-Some.placed c.in-Some-given.sheet so_far takes runs in
-    sheet_unwritten _ c.args.most _ c.next.new.self _ _ _ _ _ _ _ _ _ _ _ _ c.in-Some-given.sheet has c.in-Err-write_sheet.ensures.part c.saturating_add-sheets.ensures (takes.most ∙ c.commands.invariant.most)
+    sheet_unwritten _ c.args.most _ c.next.new.self _ _ _ _ _ _ _ _ _ _ _ _ c.in-Some-given.sheet
+    has c.in-Err-write_sheet.ensures.part c.saturating_add-sheets.ensures (takes.most ∙ c.commands.invariant.most)
     c.commands.invariant.out_later c.in-Err-write_sheet.ensures.cause.failed
 
 pub commands-preserved : goal.commands-preserved
 commands-preserved g c =
     let so_far = c.commands.invariant.so_far in
     let takes = rw c.in-Some.is at c.in_ok-placed.ensures.command in
-    let runs = rw c.in-Some-given.is at (rw c.rows.ensures at (c.in-Ok.ensures (printer_of c.args.profile.now) so_far.runs.m so_far.runs.shows)) in
+    let runs = rw c.in-Some-given.is at
+    (rw c.rows.ensures at (c.in-Ok.ensures (printer_of c.args.profile.now) so_far.runs.m so_far.runs.shows)) in
     let has = gives_sheet _ _ _ _ _ _ _ _ _ _ _ c.in-Some.placed c.in-Some-given.sheet so_far takes runs in
     record {
       so_far = sheet_written _ _ _ _ _ _ _ _ _ _ c.in-Some-given.sheet has c.in-Ok-write_sheet.ensures.ok c.saturating_add-sheets.ensures;

@@ -6,7 +6,8 @@ use Rattle.job_player.proofs.player.play_job.Given as goal
 
 abbrev pub invariant-commands : goal.invariant-commands
 invariant-commands g l = record {
-  so_far : PlaysSoFar (printer_of l.profile) l.emulator l.feed (g.S.Source.left l.fn.input) (text_of l.feed (g.S.Source.left l.input)) (g.K.Sink.held l.fn.out) (g.K.Sink.held l.out) l.sheets;
+  so_far : PlaysSoFar (printer_of l.profile) l.emulator l.feed (g.S.Source.left l.fn.input)
+      (text_of l.feed (g.S.Source.left l.input)) (g.K.Sink.held l.fn.out) (g.K.Sink.held l.out) l.sheets;
   between : IsBetween l.feed;
   most : most_of l.feed ≡ l.most;
   later : g.S.Source.faults l.fn.input ≤ g.S.Source.faults l.input;

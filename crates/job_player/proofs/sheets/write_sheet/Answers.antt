@@ -12,10 +12,12 @@ inks-init g c = record {
 
 pub inks-preserved : goal.inks-preserved
 inks-preserved g c = record {
-  so_far = images_more _ _ _ (image c.args.sheet.now.columns c.args.sheet.now.rows c.args.sheet.now.planes) c.inks.ink c.inks.invariant.so_far (omega arith) c.in_ok-write_plane.ensures.ok;
+  so_far = images_more _ _ _ (image c.args.sheet.now.columns c.args.sheet.now.rows c.args.sheet.now.planes)
+      c.inks.ink c.inks.invariant.so_far (omega arith) c.in_ok-write_plane.ensures.ok;
   later = omega (arith, c.inks.invariant.later, c.write_plane.ensures.cause.later);
 }
 
 pub returns-in_err-write_plane-clause-part : goal.returns-in_err-write_plane-clause-part
 returns-in_err-write_plane-clause-part g c =
-    on_err_anyway _ (images_part _ _ _ (image c.args.sheet.now.columns c.args.sheet.now.rows c.args.sheet.now.planes) c.inks.ink c.inks.invariant.so_far (omega arith) c.in_err-write_plane.ensures.part)
+    on_err_anyway _ (images_part _ _ _ (image c.args.sheet.now.columns c.args.sheet.now.rows c.args.sheet.now.planes)
+    c.inks.ink c.inks.invariant.so_far (omega arith) c.in_err-write_plane.ensures.part)

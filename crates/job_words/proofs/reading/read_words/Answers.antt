@@ -16,4 +16,5 @@ returns-in_err-given c =
 
 pub returns : goal.returns
 returns c = rw (c.unwrap_or.ensures, c.unwrap_or-2.ensures, c.unwrap_or-3.ensures, c.unwrap_or-4.ensures)
-    (accepted_words _ _ c.in-Some.verb c.in_ok-given.given c.get.ensures c.in-Some.ensures c.in_ok-given.ensures.accepted c.in_ok-given.ensures.given)
+    (accepted_words _ _ c.in-Some.verb c.in_ok-given.given
+    c.get.ensures c.in-Some.ensures c.in_ok-given.ensures.accepted c.in_ok-given.ensures.given)

@@ -2,7 +2,8 @@ use Rattle.std.proofs.Common.{◌∙◌, ◌+◌, sym, arith, rules}
 use Rattle.std.proofs.lemmas.Bool.Decides.{nat_tests}
 use Rattle.key_values.proofs.Digits.{no_length, leading_zero, no_digit, too_great, too_small, next_value, next_digit, whole_value}
 use Rattle.key_values.proofs.numbers.number_within.Goals as goal
-use Rattle.key_values.proofs.numbers.number_within.Goals.{then-is_empty-via-then-is_empty, then-is_empty-via-else-is_empty+then-has_leading_zero}
+use Rattle.key_values.proofs.numbers.number_within.Goals.{then-is_empty-via-then-is_empty}
+use Rattle.key_values.proofs.numbers.number_within.Goals.{then-is_empty-via-else-is_empty+then-has_leading_zero}
 
 pub returns-then-is_empty-clause-number : goal.returns-then-is_empty-clause-number
 returns-then-is_empty-clause-number c =
@@ -18,7 +19,8 @@ returns-then-not-is_ascii_digit-clause-number c = no_digit _ _ _ c.digits.byte-i
 
 pub returns-then-number-most-clause-number : goal.returns-then-number-most-clause-number
 returns-then-number-most-clause-number c =
-    let more = next_value c.args.text.now c.digits.byte-index c.digits.number c.from.result (omega arith) (search rules) c.digits.invariant.value c.from.ensures in
+    let more = next_value c.args.text.now c.digits.byte-index c.digits.number c.from.result
+    (omega arith) (search rules) c.digits.invariant.value c.from.ensures in
     too_great _ _ c.args.text.now (c.digits.byte-index + 1) (omega (arith, more))
 
 pub digits-preserved : goal.digits-preserved

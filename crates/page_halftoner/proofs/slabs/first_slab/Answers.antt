@@ -9,12 +9,16 @@ pub returns : goal.returns
 returns c =
     let slab = c.in_ok-slab.ensures in
     let top = c.in_ok-top.ensures in
-    let columns : c.columns.result ≡ columns_across c.args.width = c.columns.ensures ∙ ap (λ (s : Shape). columns_of s) c.shape.ensures.is ∙ ap columns_across slab.width in
+    let columns : c.columns.result ≡ columns_across c.args.width =
+    c.columns.ensures ∙ ap (λ (s : Shape). columns_of s) c.shape.ensures.is ∙ ap columns_across slab.width in
     record {
       width_is = slab.width;
       rows_are = slab.rows ∙ c.min-rows.ensures;
       inks_are = slab.inks;
-      is_top = record { columns = top.columns_are ∙ columns; edge_inks = λ column inside. top.inks_are column (omega (arith, inside, columns)) };
+      is_top = record {
+        columns = top.columns_are ∙ columns;
+        edge_inks = λ column inside. top.inks_are column (omega (arith, inside, columns));
+      };
       zeros = λ i t n.
           let u : ℕ = n + 56 + 2 * t in
           let m : ℕ = 64 * t + u % 64 in

@@ -8,7 +8,8 @@ returns-in-K-clause-dots c p h is has = black_dots p h _ _ _ (dot c.args.planes.
 
 pub returns-in-Cmy-clause-dots : goal.returns-in-Cmy-clause-dots
 returns-in-Cmy-clause-dots c p h is has =
-    colour_dots p h _ _ _ (dot c.args.planes.now) _ _ _ has (is ∙ c.in-Cmy.is) c.count-in-Cmy.ensures c.count-in-Cmy-2.ensures c.count-in-Cmy-3.ensures
+    colour_dots p h _ _ _ (dot c.args.planes.now) _ _ _ has (is
+    ∙ c.in-Cmy.is) c.count-in-Cmy.ensures c.count-in-Cmy-2.ensures c.count-in-Cmy-3.ensures
 
 pub returns-in-Cmy-clause-most : goal.returns-in-Cmy-clause-most
 returns-in-Cmy-clause-most c =
@@ -26,7 +27,8 @@ returns-in-Cmy-clause-most c =
 
 pub returns-in-Cmyk-clause-dots : goal.returns-in-Cmyk-clause-dots
 returns-in-Cmyk-clause-dots c p h is has =
-    four_dots p h _ _ _ (dot c.args.planes.now) _ _ _ _ has (is ∙ c.in-Cmyk.is) c.count-in-Cmyk.ensures c.count-in-Cmyk-2.ensures c.count-in-Cmyk-3.ensures c.count-in-Cmyk-4.ensures
+    four_dots p h _ _ _ (dot c.args.planes.now) _ _ _ _ has (is ∙ c.in-Cmyk.is)
+    c.count-in-Cmyk.ensures c.count-in-Cmyk-2.ensures c.count-in-Cmyk-3.ensures c.count-in-Cmyk-4.ensures
 
 pub returns-in-Cmyk-clause-most : goal.returns-in-Cmyk-clause-most
 returns-in-Cmyk-clause-most c =

@@ -17,19 +17,29 @@ inks-init c =
 
 pub append_ink-rasters-requires-clause-room : goal.append_ink-rasters-requires-clause-room
 append_ink-rasters-requires-clause-room c =
-    let left : c.args.planes.now.inks - c.inks.place ≡ suc (c.args.planes.now.inks - (c.inks.place + 1)) = omega (arith, c.inks-test.true, c.inks-place-end.ensures) in
-    omega (arith, ink_most (printer_of c.args.p.now) _ _ _ c.raster_head-head.ensures c.width.ensures, inks_room_one _ _ _ _ _ left c.inks.invariant.room)
+    let left : c.args.planes.now.inks - c.inks.place ≡ suc (c.args.planes.now.inks - (c.inks.place + 1)) =
+    omega (arith, c.inks-test.true, c.inks-place-end.ensures) in
+    omega (
+      arith,
+      ink_most (printer_of c.args.p.now) _ _ _ c.raster_head-head.ensures c.width.ensures,
+      inks_room_one _ _ _ _ _ left c.inks.invariant.room,
+    )
 
 pub inks-preserved : goal.inks-preserved
 inks-preserved c =
-    let left : c.args.planes.now.inks - c.inks.place ≡ suc (c.args.planes.now.inks - (c.inks.place + 1)) = omega (arith, c.inks-test.true, c.inks-place-end.ensures) in
-    let taken : vec_len c.append_ink-rasters.new.out ≤ vec_len c.inks.out + (12 + 2 * c.args.p.now.nozzles * ((c.args.planes.now.width + 7) / 8)) =
+    let left : c.args.planes.now.inks - c.inks.place ≡ suc (c.args.planes.now.inks - (c.inks.place + 1)) =
+    omega (arith, c.inks-test.true, c.inks-place-end.ensures) in
+    let taken : vec_len c.append_ink-rasters.new.out
+    ≤ vec_len c.inks.out + (12 + 2 * c.args.p.now.nozzles * ((c.args.planes.now.width + 7) / 8)) =
     omega (arith, c.append_ink-rasters.ensures.most, ink_most (printer_of c.args.p.now) _ _ _ c.raster_head-head.ensures c.width.ensures) in
     record {
-      so_far = λ h shows. inks_step _ c.args.plan.now c.args.planes.now h _ _ _ _ c.raster_head-head.result c.at-ink.result _ _ _ (c.inks.invariant.so_far h shows) c.requires.suits shows c.at-ink.ensures
-          (c.raster_head-head.ensures ∙ ap (λ n. raster_head (printer_of c.args.p.now) n 1) c.width.ensures) c.append_ink-rasters.ensures.items c.append_ink-rasters.ensures.rasters;
+      so_far = λ h shows. inks_step _ c.args.plan.now c.args.planes.now h _ _ _ _ c.raster_head-head.result
+          c.at-ink.result _ _ _ (c.inks.invariant.so_far h shows) c.requires.suits shows c.at-ink.ensures
+          (c.raster_head-head.ensures ∙ ap (λ n. raster_head (printer_of c.args.p.now) n 1) c.width.ensures)
+          c.append_ink-rasters.ensures.items c.append_ink-rasters.ensures.rasters;
       few = omega (arith, c.inks.invariant.few, c.append_ink-rasters.ensures.few);
-      room = let room : vec_len c.append_ink-rasters.new.out + (c.args.planes.now.inks - (c.inks.place + 1)) * (12 + 2 * c.args.p.now.nozzles * ((c.args.planes.now.width + 7) / 8)) ≤ vec_capacity c.inks.out =
+      room = let room : vec_len c.append_ink-rasters.new.out + (c.args.planes.now.inks - (c.inks.place + 1))
+          * (12 + 2 * c.args.p.now.nozzles * ((c.args.planes.now.width + 7) / 8)) ≤ vec_capacity c.inks.out =
           inks_room_more _ _ _ _ _ _ left c.inks.invariant.room taken in omega (arith, room, c.append_ink-rasters.ensures.capacity);
       most = inks_room_more _ _ _ _ _ _ left c.inks.invariant.most taken;
       capacity = omega (arith, c.inks.invariant.capacity, c.append_ink-rasters.ensures.capacity);

@@ -7,7 +7,8 @@ use Rattle.page_writer.proofs.pass.append_inks.Given as goal
 
 abbrev pub invariant-inks : goal.invariant-inks
 invariant-inks l = record {
-  so_far : (h : Halftone) → Shows (printer_of l.p) l.planes h → InksSoFar (printer_of l.p) h l.pass l.fn.out.items l.out.items l.rasters l.place;
+  so_far : (h : Halftone) → Shows (printer_of l.p) l.planes h
+      → InksSoFar (printer_of l.p) h l.pass l.fn.out.items l.out.items l.rasters l.place;
   few : l.rasters ≤ l.place;
   room : vec_len l.out + (l.planes.inks - l.place) * (12 + 2 * l.p.nozzles * ((l.planes.width + 7) / 8)) ≤ vec_capacity l.out;
   most : vec_len l.out + (l.planes.inks - l.place) * (12 + 2 * l.p.nozzles * ((l.planes.width + 7) / 8))

@@ -5,5 +5,7 @@ use Rattle.weave_definitions.specs.Weave.{count_from}
 use Rattle.page_writer.proofs.rows.has_fire.Given as goal
 
 abbrev pub invariant-loop-nozzle : goal.invariant-loop-nozzle
-invariant-loop-nozzle l = list_any (list_any (λ on. on)) (map (nozzle_plane_row l.planes l.plan l.place l.pass) (count_from 0 l.plan.nozzles))
-    ≡ list_any (list_any (λ on. on)) (map (nozzle_plane_row l.planes l.plan l.place l.pass) (count_from l.nozzle (l.plan.nozzles - l.nozzle)))
+invariant-loop-nozzle l = list_any
+    (list_any (λ on. on)) (map (nozzle_plane_row l.planes l.plan l.place l.pass) (count_from 0 l.plan.nozzles))
+    ≡ list_any (list_any (λ on. on))
+    (map (nozzle_plane_row l.planes l.plan l.place l.pass) (count_from l.nozzle (l.plan.nozzles - l.nozzle)))

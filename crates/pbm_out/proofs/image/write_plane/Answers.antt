@@ -23,7 +23,8 @@ rows-preserved g c =
       so_far = puts_step _ _ _ _ _ _ _ _ _ _ c.rows.invariant.so_far c.in_ok-make_room.ensures.ok
           (rows-next s.columns s.planes c.args.ink c.rows.y (s.rows - c.rows.y) (s.rows - (c.rows.y + 1)) (omega arith))
           (c.push.ensures.is ∙ ap (λ bs. gathered c.make_room.new.self ++ take ((s.columns + 7) / 8) bs) c.row.ensures
-          ∙ ap (λ bs. gathered c.make_room.new.self ++ bs) (cut-row s.planes c.args.ink c.rows.y s.columns s.width (omega (arith, s.inks)) (omega (arith, s.height)) s.blank));
+          ∙ ap (λ bs. gathered c.make_room.new.self ++ bs) (cut-row s.planes c.args.ink c.rows.y s.columns s.width
+          (omega (arith, s.inks)) (omega (arith, s.height)) s.blank));
       later = omega (arith, c.rows.invariant.later, c.in_ok-make_room.ensures.cause.later);
     }
 
@@ -32,8 +33,10 @@ returns-in_err-make_room-clause-part g c = on_err_anyway _ (puts_part _ _ _ _ _ 
 
 pub returns-clause-ok : goal.returns-clause-ok
 returns-clause-ok g c = two_ok _ _ _ _ _ _ _
-    (puts_end _ _ _ _ _ c.rows.invariant.so_far (rows-none c.args.s.now.columns c.args.s.now.planes c.args.ink c.rows.y _ (omega arith))) c.rows.invariant.so_far.appends c.put.ensures.ok
+    (puts_end _ _ _ _ _ c.rows.invariant.so_far (rows-none c.args.s.now.columns
+    c.args.s.now.planes c.args.ink c.rows.y _ (omega arith))) c.rows.invariant.so_far.appends c.put.ensures.ok
 
 pub returns-clause-part : goal.returns-clause-part
 returns-clause-part g c = two_part _ _ _ _ _ _ _
-    (puts_end _ _ _ _ _ c.rows.invariant.so_far (rows-none c.args.s.now.columns c.args.s.now.planes c.args.ink c.rows.y _ (omega arith))) c.rows.invariant.so_far.appends c.put.ensures.part
+    (puts_end _ _ _ _ _ c.rows.invariant.so_far (rows-none c.args.s.now.columns
+    c.args.s.now.planes c.args.ink c.rows.y _ (omega arith))) c.rows.invariant.so_far.appends c.put.ensures.part

@@ -11,7 +11,8 @@ invariant-loop-x l = record {
   bordered : IsBordered (length l.amounts) l.row;
   left1 : l.left1 ≡ get_or l.row (l.x + 3) (pos 0);
   left2 : l.left2 ≡ get_or l.row (l.x + 2) (pos 0);
-  row : (p : Plane) (e : Errors) (y : ℕ) → HasRow p y l.amounts → Solves (table_of l.k) p e → RowIs e y l.up2 → RowIs e (y + 1) l.up1 → RowUpTo e (y + 2) l.x l.row;
+  row : (p : Plane) (e : Errors) (y : ℕ) → HasRow p y l.amounts
+      → Solves (table_of l.k) p e → RowIs e y l.up2 → RowIs e (y + 1) l.up1 → RowUpTo e (y + 2) l.x l.row;
   dots : (p : Plane) (e : Errors) (y : ℕ) → HasRow p y l.amounts → Solves (table_of l.k) p e → RowIs e y l.up2 → RowIs e (y + 1) l.up1
       → (x : ℕ) → x < l.x → get_or l.dots x false ≡ on (table_of l.k) p e y x;
 }

@@ -34,7 +34,8 @@ invariant_of-sheet c =
       most = c.take_planes.new.self.state.columns_most;
       width = omega (arith, c.take_planes.new.self.state.columns_most, taken.width);
       blank = subst B (sym c.in_ok-planes.ensures.state) (λ ink y x in_inks low past.
-          blank-taken c.args.self.now.planes c.in_ok-planes.planes c.args.self.now.state.columns taken.taken c.args.self.now.blank ink y x low past);
+          blank-taken c.args.self.now.planes
+          c.in_ok-planes.planes c.args.self.now.state.columns taken.taken c.args.self.now.blank ink y x low past);
     }
 
 pub returns : goal.returns

@@ -23,7 +23,8 @@ returns-in-Some c = λ p m shows.
     let P : Machine → Type 0 = λ n. Placed p n c.args.head c.in_ok-raster.raster in
     let placed = subst P shows.state (c.in_ok-raster.ensures.placed p m.dots shows.steps) in (
       late p m c.args.head c.in_ok-raster.raster c.args.rows.now placed
-          ∙ sym (c.refuses_dots.ensures (grid_of p m) m.dots placed.stands (planes-have p m c.args.self.now.planes shows.dots)) ∙ c.in-Some.is,
+          ∙ sym (c.refuses_dots.ensures
+          (grid_of p m) m.dots placed.stands (planes-have p m c.args.self.now.planes shows.dots)) ∙ c.in-Some.is,
       refl,
     )
 
@@ -34,7 +35,8 @@ returns-in_err-lay c =
     let P : Machine → Type 0 = λ n. Placed p n c.args.head c.in_ok-raster.raster in
     let placed = subst P shows.state (c.in_ok-raster.ensures.placed p m.dots shows.steps) in (
       late p m c.args.head c.in_ok-raster.raster c.args.rows.now placed
-          ∙ sym (c.refuses_dots.ensures (grid_of p m) m.dots placed.stands (planes-have p m c.args.self.now.planes shows.dots)) ∙ c.in_default.is,
+          ∙ sym (c.refuses_dots.ensures (grid_of p m) m.dots placed.stands
+          (planes-have p m c.args.self.now.planes shows.dots)) ∙ c.in_default.is,
       c.in_err-lay.ensures.unchanged,
     ))
 
@@ -52,22 +54,32 @@ returns c = λ p m shows.
     let none = sym c.in_default.is ∙ c.refuses_dots.ensures g m.dots placed.stands (planes-have p m old.planes shows.dots) in
     let fits : HasRows r rows = c.requires.rows_fit ∙ ap (λ (h : RasterHead). h.m * row_bytes h) (sym head_is) in
     let above : IsAbove g r rows = above-margin _ _ (sym none) in
-    let step = raster-step p m c.args.head r rows old c.behind-behind.result shows head_is (c.behind-behind.ensures.step p m.dots rows (subst H (sym head_is) shown)) in
+    let step = raster-step p m c.args.head r rows old c.after_raster-next.result shows head_is
+    (c.after_raster-next.ensures.step p m.dots rows (subst H (sym head_is) shown)) in
     let R : Emulator → Type 0 = λ e. Runs p m (command.Raster c.args.head) rows old e (Ok None) in
     elim c.if-has_dots.branch [
       | then-has_dots+in_ok-lay w ↦
           let laid = w.in_ok-lay.ensures.laid g m.dots placed.stands above (planes-have p m old.planes shows.dots) in
-          let S : State → Type 0 = λ s. machine_of s (after p m (command.Raster c.args.head) rows).dots ≡ after p m (command.Raster c.args.head) rows in
+          let S : State → Type 0 = λ s. machine_of s (after p m (command.Raster c.args.head) rows).dots
+          ≡ after p m (command.Raster c.args.head) rows in
           let height = w.lay.new.self.rows
           ∙ ap (λ (s : State). sheet_rows s.page w.lay.new.self.steps.row) w.in_ok-lay.ensures.state
-          ∙ ap (λ o. sheet_rows o w.lay.new.self.steps.row) c.behind-behind.ensures.page
+          ∙ ap (λ o. sheet_rows o w.lay.new.self.steps.row) c.after_raster-next.ensures.page
           ∙ ap (λ (s : Steps). sheet_rows old.state.page s.row) w.in_ok-lay.ensures.steps in
           subst R (sym w.self-is) (fire-runs p m c.args.head r rows old w.lay.new.self shows
-          (record { placed = placed; fits = fits; none = none; steps = w.in_ok-lay.ensures.steps; step = subst S (sym w.in_ok-lay.ensures.state) step })
-          (laid-shows p m c.args.head r rows old.planes w.lay.new.self.planes (sheet_rows old.state.page old.steps.row) placed fits above shows.dots old.rows c.in_ok-raster.ensures.on_page
+          (record {
+            placed = placed;
+            fits = fits;
+            none = none;
+            steps = w.in_ok-lay.ensures.steps;
+            step = subst S (sym w.in_ok-lay.ensures.state) step;
+          })
+          (laid-shows p m c.args.head r rows old.planes w.lay.new.self.planes (sheet_rows
+          old.state.page old.steps.row) placed fits above shows.dots old.rows c.in_ok-raster.ensures.on_page
           _ height laid (sym (c.has_dots.ensures g placed.stands) ∙ w.if-has_dots.true)))
       | else-has_dots w ↦
           subst R (sym w.self-is) (fire-runs p m c.args.head r rows old _ shows
           (record { placed = placed; fits = fits; none = none; steps = refl; step = step })
-          (blank-shows p m c.args.head r rows old.planes placed (sym (c.has_dots.ensures g placed.stands) ∙ w.if-has_dots.false) shows.dots))
+          (blank-shows p m c.args.head r rows old.planes placed (sym (c.has_dots.ensures g placed.stands)
+          ∙ w.if-has_dots.false) shows.dots))
     ]

@@ -13,13 +13,16 @@ invariant_of-self c =
       width = size.width ∙ taken.width;
       blank = λ ink y x low past.
           c.lay.ensures.beside ink y x (omega (arith, size.rows)) (omega (arith, c.requires.end))
-          ∙ blank-taken c.args.self.now.planes c.in_ok-planes.planes c.args.self.now.state.columns taken.taken c.args.self.now.blank ink y x (omega (arith, size.rows)) (omega (arith, c.requires.columns));
-      rows = size.rows ∙ taken.height ∙ ap (λ o. sheet_rows o c.args.self.now.steps.row) (sym c.requires.page) ∙ ap (λ (s : Steps). sheet_rows c.args.behind.page s.row) (sym c.in_ok-planes.ensures.steps);
+          ∙ blank-taken c.args.self.now.planes c.in_ok-planes.planes c.args.self.now.state.columns taken.taken
+          c.args.self.now.blank ink y x (omega (arith, size.rows)) (omega (arith, c.requires.columns));
+      rows = size.rows ∙ taken.height ∙ ap (λ o. sheet_rows o c.args.self.now.steps.row) (sym c.requires.page)
+          ∙ ap (λ (s : Steps). sheet_rows c.args.next.page s.row) (sym c.in_ok-planes.ensures.steps);
     }
 
 pub returns-clause-laid : goal.returns-clause-laid
 returns-clause-laid c = λ g dots stands above have. record {
   table = c.lay.new.planes;
   is = refl;
-  has = c.lay.ensures.places g dots stands above (places-taken g dots c.args.self.now.planes c.in_ok-planes.planes c.in_ok-planes.ensures.taken.taken have);
+  has = c.lay.ensures.places g dots stands above
+      (places-taken g dots c.args.self.now.planes c.in_ok-planes.planes c.in_ok-planes.ensures.taken.taken have);
 }

@@ -11,5 +11,6 @@ pub returns-in_default-2 : goal.returns-in_default-2
 returns-in_default-2 c = λ g dots stands have.
     let P : Option DotTable → Type 0 = PlanesHave g dots in
     let over = blank-over dots (fired g c.args.raster c.args.rows.now) (subst P c.in_default.is have) in
-    sym (ap (λ b. if b then Some OffSheet else (if overprints dots (fired g c.args.raster c.args.rows.now) then Some Overprint else None)) (sym (c.is_off_sheet.ensures g stands) ∙ c.if-is_off_sheet.false)
+    sym (ap (λ b. if b then Some OffSheet else (if overprints dots (fired g c.args.raster c.args.rows.now) then Some
+    Overprint else None)) (sym (c.is_off_sheet.ensures g stands) ∙ c.if-is_off_sheet.false)
     ∙ ap (λ b. if b then Some Overprint else None) over)

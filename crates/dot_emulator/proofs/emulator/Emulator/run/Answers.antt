@@ -8,7 +8,8 @@ use Rattle.dot_emulator.specs.declared.sheet.Sheet.{Sheet}
 use Rattle.dot_emulator.specs.Runs.{Runs}
 use Rattle.dot_emulator.proofs.emulator.Emulator.run.Goals as goal
 
-at_command : (p : Printer) (m : Machine) (command other : Command) (rows : List ℕ) (old new : Emulator) (r : Result (Option Sheet) EmuStop) → command ≡ other
+at_command : (p : Printer) (m : Machine) (command other : Command)
+    (rows : List ℕ) (old new : Emulator) (r : Result (Option Sheet) EmuStop) → command ≡ other
     → Runs p m other rows old new r → Runs p m command rows old new r
 at_command p m command other rows old new r is runs = let P : Command → Type 0 = λ k. Runs p m k rows old new r in subst P (sym is) runs
 

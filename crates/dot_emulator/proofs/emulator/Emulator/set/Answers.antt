@@ -11,18 +11,21 @@ pub invariant_of-self-2 : goal.invariant_of-self-2
 invariant_of-self-2 c =
     let d : Dot = record { ink = Black; x = 0; y = 0 } in
     let stays : is_some c.args.self.now.planes ≡ true → IsStill c.args.self.now.state c.in_ok-self.field-0 = λ some.
-    still tiny1 d c.args.self.now.state c.in_ok-self.field-0 c.args.command c.requires.plain (c.in_ok-self.ensures tiny1 (d ∷ []) (c.is_some.ensures ∙ some)) in
+    still tiny1 d c.args.self.now.state c.in_ok-self.field-0 c.args.command c.requires.plain
+    (c.in_ok-self.ensures tiny1 (d ∷ []) (c.is_some.ensures ∙ some)) in
     record {
       inks = c.args.self.now.inks;
       width = c.args.self.now.width;
       blank = blank-still c.args.self.now.planes c.args.self.now.state c.in_ok-self.field-0 stays c.args.self.now.blank;
-      rows = rows-still c.args.self.now.planes c.args.self.now.state c.in_ok-self.field-0 c.args.self.now.steps.row stays c.args.self.now.rows;
+      rows = rows-still c.args.self.now.planes
+          c.args.self.now.state c.in_ok-self.field-0 c.args.self.now.steps.row stays c.args.self.now.rows;
     }
 
 pub returns : goal.returns
 returns c = λ p m rows shows.
     let P : Machine → Type 0 = λ n. IsStep p n c.args.command (Ok c.in_ok-self.field-0) in
-    let step = subst P shows.state (c.in_ok-self.ensures p m.dots (c.is_some.ensures ∙ shown-dots p m c.args.self.now.planes shows.dots)) in (
+    let step = subst P shows.state
+    (c.in_ok-self.ensures p m.dots (c.is_some.ensures ∙ shown-dots p m c.args.self.now.planes shows.dots)) in (
       (step rows).0,
       plain-gives p m c.args.command c.requires.plain,
       record {

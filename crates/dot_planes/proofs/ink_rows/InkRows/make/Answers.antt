@@ -5,4 +5,5 @@ use Rattle.dot_planes.proofs.ink_rows.InkRows.make.Goals as goal
 
 pub returns-in-Ok-clause-none : goal.returns-in-Ok-clause-none
 unfolding amount
-returns-in-Ok-clause-none c = λ i y x. blank_row c.args.width _ (i * c.args.rows + y) x c.in-Ok.bytes.items (c.in-Ok.ensures.items_if_clones_equal (λ _ e. e))
+returns-in-Ok-clause-none c = λ i y x. blank_row c.args.width _
+    (i * c.args.rows + y) x c.in-Ok.bytes.items (c.in-Ok.ensures.items_if_clones_equal (λ _ e. e))

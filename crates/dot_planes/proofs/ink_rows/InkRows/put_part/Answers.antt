@@ -12,7 +12,8 @@ returns c =
     let width : c.self.inside.width ≡ c.args.self.now.width = ap (λ (t : AmountTable). t.width) view in
     let first : ℕ = c.row_start-row.result + c.args.x in
     sets _ _ c.args.ink c.args.y c.args.x first (first + length c.args.part.now - first) c.args.part.now _ view (record {
-      is = put_items first _ c.self.inside.bytes.len _ _ _ _ c.deref_mut.ensures.value c.copy_from_slice.ensures.after (omega (arith, c.self.inside.bytes.ok.0)) (omega (arith, width)) (omega arith);
+      is = put_items first _ c.self.inside.bytes.len _ _ _ _ c.deref_mut.ensures.value c.copy_from_slice.ensures.after
+          (omega (arith, c.self.inside.bytes.ok.0)) (omega (arith, width)) (omega arith);
       len = c.self.invariant.len;
       ink = omega (arith, inks);
       row = omega (arith, rows);

@@ -15,7 +15,10 @@ returns c =
     let inside : c.args.x / 8 < len = omega (arith, width) in
     let place : c.row_start-start.result + c.args.x / 8 ≡ n * len + c.args.x / 8 =
     ap (λ m. m + c.args.x / 8) (c.row_start-start.ensures.is ∙ ap (λ l. n * l) c.row_len.ensures.is) in
-    let room : c.row_start-start.result + c.args.x / 8 < length c.self.inside.bytes.items = omega (arith, c.self.invariant.len, ap (λ l. c.self.inside.inks * c.self.inside.rows * l) c.row_len.ensures.is) in
+    let room : c.row_start-start.result + c.args.x / 8 < length c.self.inside.bytes.items = omega
+    (arith, c.self.invariant.len, ap (λ l. c.self.inside.inks * c.self.inside.rows * l) c.row_len.ensures.is) in
     ap (λ m. m == 1) (shr_and_one c.index.result.now (7 - c.args.x % 8))
-    ∙ ap (λ b. bit_at b (c.args.x % 8)) (get_or_read c.self.inside.bytes.items _ c.index.result.now room c.index.ensures 0 ∙ ap (λ m. get_or c.self.inside.bytes.items m 0) place ∙ sym (row_byte len n (c.args.x / 8) c.self.inside.bytes.items inside))
+    ∙ ap (λ b. bit_at b (c.args.x % 8)) (get_or_read c.self.inside.bytes.items
+    _ c.index.result.now room c.index.ensures 0 ∙ ap (λ m. get_or c.self.inside.bytes.items m 0) place
+    ∙ sym (row_byte len n (c.args.x / 8) c.self.inside.bytes.items inside))
     ∙ ap (λ (t : DotTable). dot t c.args.ink c.args.y c.args.x) c.self.view_is

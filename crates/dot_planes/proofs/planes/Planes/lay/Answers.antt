@@ -35,7 +35,8 @@ row_is c =
 is_laid : (c : goal.After-self-1) → IsLaidOver (before c) c.args.ink c.args.y c.args.x c.args.row.now c.args.dots c.lay_row.new.over
 is_laid c = record {
   inside = let width : c.self.inside.width ≡ c.args.self.now.width = ap (λ (t : DotTable). t.width) c.self.view_is in omega (arith, width);
-  is = λ d. c.lay_row.ensures.dots d ∙ ap (λ (bytes : List ℕ). row_dot bytes d || laid_dot c.args.row.now c.args.dots c.args.x d) (row_is c);
+  is = λ d. c.lay_row.ensures.dots d
+      ∙ ap (λ (bytes : List ℕ). row_dot bytes d || laid_dot c.args.row.now c.args.dots c.args.x d) (row_is c);
 }
 
 over_len : (c : goal.After-self-1) → length c.lay_row.new.over ≡ c.row_len-len.result
@@ -53,7 +54,8 @@ over_len c =
     )
 
 -- the planes with the row's bytes
-is_put : (c : goal.After-self-1) → IsRowPut (before c) c.args.ink c.args.y c.row_start-start.result (many c) c.lay_row.new.over (bytes_now c)
+is_put : (c : goal.After-self-1)
+    → IsRowPut (before c) c.args.ink c.args.y c.row_start-start.result (many c) c.lay_row.new.over (bytes_now c)
 is_put c =
     let view = c.self.view_is in
     let inks : c.self.inside.inks ≡ c.args.self.now.inks = ap (λ (t : DotTable). t.inks) view in
@@ -61,18 +63,23 @@ is_put c =
     let len : c.row_len-len.result ≡ row_len c.self.inside.width = c.row_len-len.ensures.is in
     let all = ap (λ l. c.self.inside.inks * c.self.inside.rows * l) len in
     record {
-      is = put_items c.row_start-start.result _ c.self.inside.bytes.len _ _ _ _ c.deref_mut.ensures.value refl (omega (arith, c.self.inside.bytes.ok.0)) (omega (arith, c.self.invariant.len, all, c.self.inside.bytes.ok.0)) (omega (arith, over_len c));
+      is = put_items c.row_start-start.result _ c.self.inside.bytes.len _ _ _ _ c.deref_mut.ensures.value refl
+          (omega (arith, c.self.inside.bytes.ok.0))
+          (omega (arith, c.self.invariant.len, all, c.self.inside.bytes.ok.0)) (omega (arith, over_len c));
       len = c.self.invariant.len;
       ink = omega (arith, inks);
       down = omega (arith, rows);
-      packed_row = laid-packed (before c) c.args.ink c.args.y c.args.x c.args.row.now c.args.dots c.lay_row.new.over (is_laid c) (over_len c ∙ len) c.lay_row.ensures.bytes
-          (λ d. c.self.invariant.spare (c.args.ink * c.self.inside.rows + c.args.y) d (row_inside c.self.inside.inks c.self.inside.rows c.args.ink c.args.y (omega (arith, inks)) (omega (arith, rows))));
+      packed_row = laid-packed (before c) c.args.ink c.args.y c.args.x c.args.row.now c.args.dots c.lay_row.new.over
+          (is_laid c) (over_len c ∙ len) c.lay_row.ensures.bytes
+          (λ d. c.self.invariant.spare (c.args.ink * c.self.inside.rows + c.args.y) d (row_inside c.self.inside.inks
+          c.self.inside.rows c.args.ink c.args.y (omega (arith, inks)) (omega (arith, rows))));
       first = c.row_start-start.ensures.is ∙ ap (λ l. (c.args.ink * c.self.inside.rows + c.args.y) * l) len;
       many = omega (arith, len);
     }
 
 pub returns : goal.returns
-returns c = lays _ _ c.args.ink c.args.y c.args.x c.args.row.now c.args.dots _ _ c.lay_row.new.over (bytes_now c) c.self.view_is (is_put c) (is_laid c)
+returns c = lays _ _ c.args.ink c.args.y c.args.x c.args.row.now c.args.dots _ _ c.lay_row.new.over
+    (bytes_now c) c.self.view_is (is_put c) (is_laid c)
 
 pub invariant_of-self : goal.invariant_of-self
 invariant_of-self c = record {

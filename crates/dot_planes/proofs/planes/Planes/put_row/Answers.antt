@@ -10,7 +10,13 @@ copy_from_slice-requires c =
     let width : c.self.inside.width ≡ c.args.self.now.width = ap (λ (t : DotTable). t.width) c.self.view_is in
     let row : length c.args.row.now ≡ row_len c.args.self.now.width = packed_row-len _ _ c.requires.row in
     let start : ℕ = c.row_start-start.result in
-    omega (arith, row, ap row_len width, length-drop start c.deref_mut.result.now, length-take (start + c.row_len-len.result - start) (drop start c.deref_mut.result.now))
+    omega (
+      arith,
+      row,
+      ap row_len width,
+      length-drop start c.deref_mut.result.now,
+      length-take (start + c.row_len-len.result - start) (drop start c.deref_mut.result.now),
+    )
 
 abbrev bytes_now : goal.After-self-1 → List ℕ
 bytes_now c =
@@ -19,8 +25,14 @@ bytes_now c =
     take c.self.inside.bytes.len (put ++ drop (length put) c.self.inside.bytes.items)
 
 -- the planes with the row's bytes
-is_put : (c : goal.After-self-1) → IsRowPut (record { width = c.self.inside.width; rows = c.self.inside.rows; inks = c.self.inside.inks; bytes = c.self.inside.bytes.items })
-    c.args.ink c.args.y c.row_start-start.result (c.row_start-start.result + c.row_len-len.result - c.row_start-start.result) c.args.row.now (bytes_now c)
+is_put : (c : goal.After-self-1) → IsRowPut (record {
+  width = c.self.inside.width;
+  rows = c.self.inside.rows;
+  inks = c.self.inside.inks;
+  bytes = c.self.inside.bytes.items;
+})
+    c.args.ink c.args.y c.row_start-start.result
+    (c.row_start-start.result + c.row_len-len.result - c.row_start-start.result) c.args.row.now (bytes_now c)
 is_put c =
     let view = c.self.view_is in
     let inks : c.self.inside.inks ≡ c.args.self.now.inks = ap (λ (t : DotTable). t.inks) view in
@@ -30,7 +42,9 @@ is_put c =
     let len : c.row_len-len.result ≡ row_len c.self.inside.width = c.row_len-len.ensures.is in
     let all = ap (λ l. c.self.inside.inks * c.self.inside.rows * l) len in
     record {
-      is = put_items c.row_start-start.result _ c.self.inside.bytes.len _ _ _ _ c.deref_mut.ensures.value c.copy_from_slice.ensures.after (omega (arith, c.self.inside.bytes.ok.0)) (omega (arith, c.self.invariant.len, all, c.self.inside.bytes.ok.0)) (omega (arith, row, len, ap row_len width));
+      is = put_items c.row_start-start.result _ c.self.inside.bytes.len _ _ _
+          _ c.deref_mut.ensures.value c.copy_from_slice.ensures.after (omega (arith, c.self.inside.bytes.ok.0)) (omega
+          (arith, c.self.invariant.len, all, c.self.inside.bytes.ok.0)) (omega (arith, row, len, ap row_len width));
       len = c.self.invariant.len;
       ink = omega (arith, inks);
       down = omega (arith, rows);

@@ -1,4 +1,5 @@
-use Rattle.std.proofs.Common.{◌≡◌, ◌+◌, ◌-◌, ◌*◌, ◌++◌, ◌<◌, ℕ, List, ap, arith, drop, length, length-drop, length-take, refl, subst, sym, take, ◌∙◌}
+use Rattle.std.proofs.Common.{◌≡◌, ◌+◌, ◌-◌, ◌*◌, ◌++◌, ◌<◌, ℕ, List, ap, arith, drop, length, length-drop}
+use Rattle.std.proofs.Common.{length-take, refl, subst, sym, take, ◌∙◌}
 use borrow.Rule.Slice.PartMut.{put_mid}
 use Rattle.dot_planes.specs.Tables.{DotTable, IsPackedRow, dot, row_at, row_dot, row_len}
 use Rattle.dot_planes.specs.Tiles.{PutsTileRow}
@@ -11,7 +12,7 @@ use Rattle.dot_planes.proofs.planes.Planes.put_tile_row.Goals as goal
 abbrev table : goal.After-self-1 → DotTable
 table c = record { width = c.self.inside.width; rows = c.self.inside.rows; inks = c.self.inside.inks; bytes = c.self.inside.bytes.items }
 
--- the row of the planes, and how many rows stand before it
+-- the row of the planes, and how many rows come before it
 abbrev y_of : goal.After-self-1 → ℕ
 y_of c = c.args.at + (32 * c.args.place.j + c.args.r)
 
@@ -43,14 +44,17 @@ before_is c =
     ∙ ap (λ (bytes : List ℕ). row_at (row_len c.self.inside.width) bytes (n_of c)) c.deref_mut.ensures.value
 
 ink_inside : (c : goal.After-self-1) → c.args.ink < c.self.inside.inks
-ink_inside c = let inks : c.self.inside.inks ≡ c.args.self.now.inks = ap (λ (t : DotTable). t.inks) c.self.view_is in omega (arith, c.requires.ink)
+ink_inside c = let inks : c.self.inside.inks ≡ c.args.self.now.inks = ap (λ (t : DotTable). t.inks) c.self.view_is in
+    omega (arith, c.requires.ink)
 
 row_inside_is : (c : goal.After-self-1) → y_of c < c.self.inside.rows
-row_inside_is c = let rows : c.self.inside.rows ≡ c.args.self.now.rows = ap (λ (t : DotTable). t.rows) c.self.view_is in omega (arith, c.requires.row)
+row_inside_is c = let rows : c.self.inside.rows ≡ c.args.self.now.rows =
+    ap (λ (t : DotTable). t.rows) c.self.view_is in omega (arith, c.requires.row)
 
 len_before : (c : goal.After-self-1) → length (row_before c) ≡ row_len c.self.inside.width
 len_before c =
-    let n_inside : n_of c < c.self.inside.inks * c.self.inside.rows = row_inside c.self.inside.inks c.self.inside.rows c.args.ink (y_of c) (ink_inside c) (row_inside_is c) in
+    let n_inside : n_of c < c.self.inside.inks * c.self.inside.rows =
+    row_inside c.self.inside.inks c.self.inside.rows c.args.ink (y_of c) (ink_inside c) (row_inside_is c) in
     omega (
       arith,
       ap length (before_is c),
@@ -62,19 +66,24 @@ len_before c =
 
 put_is_packed : (c : goal.After-self-1) → IsPackedRow c.self.inside.width c.put_dots.new.row
 put_is_packed c =
-    let n_inside : n_of c < c.self.inside.inks * c.self.inside.rows = row_inside c.self.inside.inks c.self.inside.rows c.args.ink (y_of c) (ink_inside c) (row_inside_is c) in
-    taken_packed c.self.inside.width c.args.place.c c.args.r c.args.dots.now (row_before c) c.put_dots.new.row (len_before c) c.put_dots.ensures.bytes
+    let n_inside : n_of c < c.self.inside.inks * c.self.inside.rows =
+    row_inside c.self.inside.inks c.self.inside.rows c.args.ink (y_of c) (ink_inside c) (row_inside_is c) in
+    taken_packed c.self.inside.width c.args.place.c c.args.r c.args.dots.now
+    (row_before c) c.put_dots.new.row (len_before c) c.put_dots.ensures.bytes
     (λ x past. ap (λ (row : List ℕ). row_dot row x) (before_is c) ∙ c.self.invariant.spare (n_of c) x n_inside past)
     c.put_dots.ensures.dots
 
 -- the planes with the row
-is_put : (c : goal.After-self-1) → IsRowPut (table c) c.args.ink (y_of c) c.row_start-start.result (many_of c) c.put_dots.new.row (bytes_now c)
+is_put : (c : goal.After-self-1)
+    → IsRowPut (table c) c.args.ink (y_of c) c.row_start-start.result (many_of c) c.put_dots.new.row (bytes_now c)
 is_put c =
     let new_len : length c.put_dots.new.row ≡ row_len c.self.inside.width = c.put_dots.ensures.dots.len ∙ len_before c in
     let all = ap (λ l. c.self.inside.inks * c.self.inside.rows * l) c.row_len-len.ensures.is in
     record {
-      is = put_items c.row_start-start.result _ c.self.inside.bytes.len _ _ _ _ c.deref_mut.ensures.value refl (omega (arith, c.self.inside.bytes.ok.0))
-          (omega (arith, c.self.invariant.len, all, c.self.inside.bytes.ok.0, c.row_start-start.ensures.inside)) (omega (arith, new_len, many_is c));
+      is = put_items c.row_start-start.result _ c.self.inside.bytes.len _ _ _ _ c.deref_mut.ensures.value refl
+          (omega (arith, c.self.inside.bytes.ok.0))
+          (omega (arith, c.self.invariant.len, all, c.self.inside.bytes.ok.0, c.row_start-start.ensures.inside))
+          (omega (arith, new_len, many_is c));
       len = c.self.invariant.len;
       ink = ink_inside c;
       down = row_inside_is c;
@@ -92,8 +101,10 @@ returns c =
     let t : DotTable = table c in
     let new : DotTable = record { width = t.width; rows = t.rows; inks = t.inks; bytes = bytes_now c } in
     let Q : DotTable → Type 0 = λ old. PutsTileRow old new c.args.ink (y_of c) c.args.place.c c.args.r c.args.dots.now in
-    subst Q c.self.view_is (puts_tile_row t new c.args.ink (y_of c) c.args.place.c c.args.r c.args.dots.now (row_before c) c.put_dots.new.row
-    (puts_row t t c.args.ink (y_of c) _ _ c.put_dots.new.row (bytes_now c) refl (is_put c)) (put_is_packed c) (dot_before c) c.put_dots.ensures.dots)
+    subst Q c.self.view_is (puts_tile_row t new c.args.ink
+    (y_of c) c.args.place.c c.args.r c.args.dots.now (row_before c) c.put_dots.new.row
+    (puts_row t t c.args.ink (y_of c) _ _ c.put_dots.new.row (bytes_now c) refl (is_put c))
+    (put_is_packed c) (dot_before c) c.put_dots.ensures.dots)
 
 pub invariant_of-self : goal.invariant_of-self
 invariant_of-self c = record {

@@ -5,10 +5,16 @@ use Rattle.dot_planes.proofs.PutDots.{IsDotPut, dot_put-spare, turns_on}
 use Rattle.dot_planes.proofs.planes.Planes.turn_on.Goals as goal
 
 abbrev bytes_now : goal.After-self-1 → List ℕ
-bytes_now c = set c.self.inside.bytes.items (c.row_start-start.result + c.args.x / 8) (bit_or c.index_mut.result.now (1 * 2 ^ (7 - c.args.x % 8) % 256))
+bytes_now c = set c.self.inside.bytes.items
+    (c.row_start-start.result + c.args.x / 8) (bit_or c.index_mut.result.now (1 * 2 ^ (7 - c.args.x % 8) % 256))
 
 -- the planes with the dot
-is_put : (c : goal.After-self-1) → IsDotPut (record { width = c.self.inside.width; rows = c.self.inside.rows; inks = c.self.inside.inks; bytes = c.self.inside.bytes.items })
+is_put : (c : goal.After-self-1) → IsDotPut (record {
+  width = c.self.inside.width;
+  rows = c.self.inside.rows;
+  inks = c.self.inside.inks;
+  bytes = c.self.inside.bytes.items;
+})
     c.args.ink c.args.y c.args.x (c.row_start-start.result + c.args.x / 8) (bytes_now c)
 is_put c =
     let view = c.self.view_is in
@@ -17,8 +23,10 @@ is_put c =
     let width : c.self.inside.width ≡ c.args.self.now.width = ap (λ (t : DotTable). t.width) view in
     let len : c.row_len.result ≡ row_len c.self.inside.width = c.row_len.ensures.is in
     let place : ℕ = c.row_start-start.result + c.args.x / 8 in
-    let room : place < length c.self.inside.bytes.items = omega (arith, width, c.self.invariant.len, ap (λ l. c.self.inside.inks * c.self.inside.rows * l) len) in
-    let old : c.index_mut.result.now ≡ get_or c.self.inside.bytes.items place 0 = get_or_read c.self.inside.bytes.items place c.index_mut.result.now room c.index_mut.ensures.value 0 in
+    let room : place < length c.self.inside.bytes.items =
+    omega (arith, width, c.self.invariant.len, ap (λ l. c.self.inside.inks * c.self.inside.rows * l) len) in
+    let old : c.index_mut.result.now ≡ get_or c.self.inside.bytes.items place 0 =
+    get_or_read c.self.inside.bytes.items place c.index_mut.result.now room c.index_mut.ensures.value 0 in
     record {
       is = ap (λ b. set c.self.inside.bytes.items place (bit_or b (1 * 2 ^ (7 - c.args.x % 8) % 256))) old;
       len = c.self.invariant.len;

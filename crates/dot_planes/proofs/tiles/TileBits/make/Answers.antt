@@ -3,4 +3,7 @@ use Rattle.dot_planes.proofs.PutTiles.{blank_bits}
 use Rattle.dot_planes.proofs.tiles.TileBits.make.Goals as goal
 
 pub returns-in-Ok-clause-blank : goal.returns-in-Ok-clause-blank
-returns-in-Ok-clause-blank c = record { at = λ ink row offset. blank_bits _ _ ink row offset (c.in-Ok.ensures.items_if_clones_equal (λ _ e. each_same _ _ e.whole)) }
+returns-in-Ok-clause-blank c = record {
+  at = λ ink row offset.
+      blank_bits _ _ ink row offset (c.in-Ok.ensures.items_if_clones_equal (λ _ e. each_same _ _ e.whole));
+}

@@ -8,13 +8,18 @@ loop-preserved g c =
     let v = c.loop.invariant in
     let next = c.in_ok-next_line.ensures in
     record {
-      page = record { profile = next.page.profile ∙ v.page.profile; form = next.page.form ∙ v.page.form; kernel = next.page.kernel ∙ v.page.kernel };
+      page = record {
+        profile = next.page.profile ∙ v.page.profile;
+        form = next.page.form ∙ v.page.form;
+        kernel = next.page.kernel ∙ v.page.kernel;
+      };
       count = omega (arith, next.count, v.count);
       amounts = amounts_kept c.loop.self c.next_line.new.self c.args.line.now next.page next.line v.amounts;
       working = next.working ∙ v.working;
       stands = λ lines stands.
           let Q : List (List ℕ) → Type 0 = λ ls. StandsFor c.next_line.new.self ls in
-          subst Q (repeats_more lines c.loop.counter c.args.line.now) (next.stands c.args.line.now v.amounts (lines ++ replicate c.loop.counter c.args.line.now) (v.stands lines stands));
+          subst Q (repeats_more lines c.loop.counter c.args.line.now) (next.stands c.args.line.now v.amounts
+          (lines ++ replicate c.loop.counter c.args.line.now) (v.stands lines stands));
     }
 
 pub returns-clause-stands : goal.returns-clause-stands

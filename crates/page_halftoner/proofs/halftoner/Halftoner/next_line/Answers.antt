@@ -20,7 +20,8 @@ returns-in_default-clause-stands g c = λ line amounts lines stands.
 
 -- The line is the next row.
 next_row : (inside : Inside) (w : Window) (line : List ℕ) (y : ℕ) (slab : AmountTable) → IsReady inside → w ≡ window_in inside
-    → w.top + y ≡ inside.count → y < w.height → HasAmountsOf (halftoning inside) line → PutsLine inside.line (y - inside.diffused) inside.slab slab
+    → w.top + y ≡ inside.count → y < w.height
+    → HasAmountsOf (halftoning inside) line → PutsLine inside.line (y - inside.diffused) inside.slab slab
     → IsNextRow (halftoning inside) line y slab
 next_row inside w line y slab v is place low amounts puts =
     let here : (window_in inside).top + y ≡ inside.count = ap (λ (win : Window). win.top + y) (sym is) ∙ place in
@@ -54,12 +55,15 @@ invariant_of-self-2 g c =
     let size = c.put_line.ensures.size in
     let next = c.next_slab.ensures in
     let done = c.in_ok-bottom.ensures.slab in
-    let top : w.top + y ≡ c.self.inside.count = ap (λ (win : Window). win.top + y) (sym c.window-window.ensures) ∙ c.in-Some.ensures.row.0 in
+    let top : w.top + y ≡ c.self.inside.count =
+    ap (λ (win : Window). win.top + y) (sym c.window-window.ensures) ∙ c.in-Some.ensures.row.0 in
     let tall : c.window-window.result.height ≡ w.height = ap (λ (win : Window). win.height) c.window-window.ensures in
     let inside : y < w.height = omega (arith, c.in-Some.ensures.row.1, tall) in
-    let full : y + 1 ≡ c.self.inside.diffused + c.self.inside.slab.rows = omega (arith, top, inside, v.room, v.from, c.if-y-self.false, c.rows.ensures, size.rows) in
+    let full : y + 1 ≡ c.self.inside.diffused + c.self.inside.slab.rows =
+    omega (arith, top, inside, v.room, v.from, c.if-y-self.false, c.rows.ensures, size.rows) in
     let rows : y + 1 < w.height → c.next_slab.new.slab.rows ≡ min (w.height - (y + 1)) c.self.inside.slab.rows =
-    λ more. next.rows (omega (arith, tall)) ∙ ap (λ n. min (n - (y + 1)) c.put_line.new.slab.rows) tall ∙ ap (λ n. min (w.height - (y + 1)) n) size.rows in
+    λ more. next.rows (omega (arith, tall))
+    ∙ ap (λ n. min (n - (y + 1)) c.put_line.new.slab.rows) tall ∙ ap (λ n. min (w.height - (y + 1)) n) size.rows in
     let W : ℕ → Type 0 = λ n. IsTopOf n (length (inks_of c.self.inside.profile.inks)) c.in_ok-bottom.bottom in
     let I : ℕ → Type 0 = λ n. IsTopOf c.put_line.new.slab.width n c.in_ok-bottom.bottom in
     let is_top = subst W (size.width ∙ v.slab_width) (subst I (size.inks ∙ v.slab_inks) done.is_top) in
@@ -69,7 +73,12 @@ invariant_of-self-2 g c =
       wanted = v.wanted;
       some_workers = v.some_workers;
       most_workers = v.most_workers;
-      few = omega (arith, c.requires.count, ap (λ (h : Halftoning). h.count) c.self.view_is, ap (λ (h : Halftoning). h.form.height) c.self.view_is);
+      few = omega (
+        arith,
+        c.requires.count,
+        ap (λ (h : Halftoning). h.count) c.self.view_is,
+        ap (λ (h : Halftoning). h.form.height) c.self.view_is,
+      );
       line_width = v.line_width;
       line_rows = v.line_rows;
       line_inks = v.line_inks;

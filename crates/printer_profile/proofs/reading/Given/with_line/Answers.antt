@@ -17,9 +17,12 @@ returns-in-None c =
 pub returns-in-None-named : goal.returns-in-None-named
 returns-in-None-named c =
     let cut = c.in-Some.ensures in
-    line_of_key _ _ c.in-Some.value.now _ (sym c.is_skipped.ensures ∙ c.if-is_skipped.false) (sym c.is_text.ensures ∙ c.if-not-is_text.false) cut.0 cut.2 (sym c.in-None-named.is ∙ c.named.ensures ∙ ap key_named cut.1)
+    line_of_key _ _ c.in-Some.value.now _ (sym c.is_skipped.ensures ∙ c.if-is_skipped.false) (sym c.is_text.ensures
+    ∙ c.if-not-is_text.false) cut.0 cut.2 (sym c.in-None-named.is ∙ c.named.ensures ∙ ap key_named cut.1)
 
 pub returns-in-Some-named : goal.returns-in-Some-named
 returns-in-Some-named c =
     let cut = c.in-Some.ensures in
-    c.with_key.ensures ∙ line_of_key _ _ c.in-Some.value.now _ (sym c.is_skipped.ensures ∙ c.if-is_skipped.false) (sym c.is_text.ensures ∙ c.if-not-is_text.false) cut.0 cut.2 (sym c.in-Some-named.is ∙ c.named.ensures ∙ ap key_named cut.1)
+    c.with_key.ensures
+    ∙ line_of_key _ _ c.in-Some.value.now _ (sym c.is_skipped.ensures ∙ c.if-is_skipped.false) (sym c.is_text.ensures
+    ∙ c.if-not-is_text.false) cut.0 cut.2 (sym c.in-Some-named.is ∙ c.named.ensures ∙ ap key_named cut.1)

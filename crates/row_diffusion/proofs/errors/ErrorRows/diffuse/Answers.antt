@@ -14,7 +14,8 @@ returns-clause-errors c = λ p e y has s reached.
     let up2 = errors_as e y y _ _ c.deref.ensures.value refl old2 in
     let up1 = errors_as e (y + 1) (y + 1) _ _ c.deref-2.ensures.value refl old1 in
     let row = c.diffuse_by.ensures.errors p e y has s up2 up1 in
-    let row_len : length c.diffuse_by.new.row ≡ self.row.len = omega (arith, c.diffuse_by.auto.row, c.deref_mut.ensures.len, self.row.ok.0) in
+    let row_len : length c.diffuse_by.new.row ≡ self.row.len =
+    omega (arith, c.diffuse_by.auto.row, c.deref_mut.ensures.len, self.row.ok.0) in
     let next : y + 2 ≡ y + 1 + 1 = omega arith in
     record {
       up2 = errors_as e (y + 1) (y + 1) _ _ (ap (λ v. v.items) c.swap.ensures.x_after) refl old1;
@@ -30,8 +31,10 @@ returns-clause-dots c = λ p e y has s reached.
     let up2 = errors_as e y y _ _ c.deref.ensures.value refl old2 in
     let up1 = errors_as e (y + 1) (y + 1) _ _ c.deref-2.ensures.value refl old1 in
     let told = c.diffuse_by.ensures.on_dots p e y has s up2 up1 in
-    let dots_len : length c.diffuse_by.new.dots ≡ self.dots.len = omega (arith, c.diffuse_by.auto.dots, c.deref_mut-2.ensures.len, self.dots.ok.0) in
-    let many : length c.diffuse_by.new.dots ≡ c.args.self.now.width = omega (arith, dots_len, self.dots.ok.0, c.self.invariant.dots_len, width) in
+    let dots_len : length c.diffuse_by.new.dots ≡ self.dots.len =
+    omega (arith, c.diffuse_by.auto.dots, c.deref_mut-2.ensures.len, self.dots.ok.0) in
+    let many : length c.diffuse_by.new.dots ≡ c.args.self.now.width =
+    omega (arith, dots_len, self.dots.ok.0, c.self.invariant.dots_len, width) in
     c.pack_row.ensures
     ∙ ap packed (c.deref-3.ensures.value ∙ written _ self.dots.items _ dots_len
     ∙ dots_are c.diffuse_by.new.dots (on (table_of c.args.kernel) p e y) 0 c.args.self.now.width many (λ x low.

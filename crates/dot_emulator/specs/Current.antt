@@ -1,4 +1,4 @@
--- The planes in hand, which are there from the first dot on.
+-- The planes of the current sheet, which exist from the first dot on.
 use Rattle.std.specs.Prelude.{◌≡◌, ◌<◌, ◌≤◌, ℕ, Bool, false, Option, Some, None}
 use Rattle.escp2_definitions.specs.Commands.{last_column}
 use Rattle.dot_planes.specs.Tables.{DotTable, dot}
@@ -11,7 +11,7 @@ abbrev pub width_of : Option DotTable → ℕ
 width_of None = last_column
 width_of (Some t) = t.width
 
--- their rows, or another number where there are none
+-- their rows, or `n` where there are no planes
 abbrev pub rows_or : ℕ → Option DotTable → ℕ
 rows_or n None = n
 rows_or n (Some t) = t.rows
@@ -20,6 +20,6 @@ abbrev pub dot_in : Option DotTable → ℕ → ℕ → ℕ → Bool
 dot_in None ink y x = false
 dot_in (Some t) ink y x = dot t ink y x
 
--- none of their dots stands at a column or behind it
-abbrev pub IsBlankBehind : ℕ → Option DotTable → Type 0
-IsBlankBehind column planes = (ink y x : ℕ) → y < rows_or 0 planes → column ≤ x → dot_in planes ink y x ≡ false
+-- none of their dots is at or past this column
+abbrev pub IsBlankPast : ℕ → Option DotTable → Type 0
+IsBlankPast column planes = (ink y x : ℕ) → y < rows_or 0 planes → column ≤ x → dot_in planes ink y x ≡ false
