@@ -1,5 +1,5 @@
 #!/usr/bin/env python3
-"""Draws the sheets of a print job as a printer would fire them, each dot a square of some pixels, as a PNG.
+"""Draws the first sheet of a print job as a printer would fire it, each dot a square of some pixels, as a PNG.
 
     page.py SCALE FILE.png < JOB
 
