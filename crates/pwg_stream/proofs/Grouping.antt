@@ -108,15 +108,6 @@ group_turn old next before text' text'' unread turn so_far kept some = record {
   some = λ turned. some;
 }
 
--- the text ends before the group
-pub group_cut : (old next : LineReader) (before text' text'' : Option (List ℕ)) → IsFed old next before text' → Keeps text' text''
-    → IsAtEnd text''
-    → IfSome before (λ text. IsNoGroup (next_group old text) cause.Truncated ⊎ IsBadGroup (next_group old text) cause.Truncated)
-group_cut old next before text' text'' fed kept end =
-    Consumes-whole before text'' fed.sofar (λ text. IsNoGroup (next_group old text) cause.Truncated
-    ⊎ IsBadGroup (next_group old text) cause.Truncated)
-    (Consumes-kept before text' text'' fed.sofar fed.used kept) end (inl (fed.part, refl))
-
 -- the group is whole
 pub group_whole : (old now next : LineReader) (before text text' : Option (List ℕ)) (piece : List ℕ) (used turn repeats : ℕ)
     → InGroup old now before text piece turn

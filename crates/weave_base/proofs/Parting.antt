@@ -1,5 +1,5 @@
 -- Writers that write several pieces one after the other, and stop at the first write that fails. `whole` is all that
--- they are to write, in pieces `xs`, `ys` and `zs`.
+-- they are to write, in pieces `xs` and `ys`.
 use Rattle.std.proofs.Common.{◌≡◌, ℕ, ◌+◌, List, ◌++◌, length, take, Option, sym, arith, subst, length-append, Result, Ok, Err, OnErr, OnOk}
 use Rattle.std.proofs.lemmas.List.{take-append-le}
 use Rattle.std.proofs.Math.Seq.{take-append-add}
@@ -70,30 +70,3 @@ pub two_first : {T E : Type 0} (r : Result T E) (a b : Option (List ℕ)) (whole
 two_first r a b whole xs ys is p =
     let P : List ℕ → Type 0 = λ bs. OnErr r (AppendsPart a b bs) in
     subst P (sym is) (on_err_anyway r (part_of_front a b xs ys p))
-
--- ---- three pieces
-
--- all pieces were written
-pub three_ok : {T E : Type 0} (r : Result T E) (a b d e : Option (List ℕ)) (whole xs ys zs : List ℕ) → whole ≡ xs ++ (ys ++ zs)
-    → Appends a b xs → Appends b d ys → OnOk r (Appends d e zs) → OnOk r (Appends a e whole)
-three_ok r a b d e whole xs ys zs is p q s =
-    let P : List ℕ → Type 0 = λ bs. OnOk r (Appends a e bs) in
-    subst P (sym is) (on_ok_behind r a b e xs (ys ++ zs) p (on_ok_behind r b d e ys zs q s))
-
--- the third write failed
-pub three_part : {T E : Type 0} (r : Result T E) (a b d e : Option (List ℕ)) (whole xs ys zs : List ℕ) → whole ≡ xs ++ (ys ++ zs)
-    → Appends a b xs → Appends b d ys → OnErr r (AppendsPart d e zs) → OnErr r (AppendsPart a e whole)
-three_part r a b d e whole xs ys zs is p q s =
-    let P : List ℕ → Type 0 = λ bs. OnErr r (AppendsPart a e bs) in
-    subst P (sym is) (on_err_behind r a b e xs (ys ++ zs) p (on_err_behind r b d e ys zs q s))
-
--- the first write failed
-pub three_first : {T E : Type 0} (r : Result T E) (a b : Option (List ℕ)) (whole xs ys zs : List ℕ) → whole ≡ xs ++ (ys ++ zs)
-    → AppendsPart a b xs → OnErr r (AppendsPart a b whole)
-three_first r a b whole xs ys zs is p = two_first r a b whole xs (ys ++ zs) is p
-
--- the second write failed
-pub three_second : {T E : Type 0} (r : Result T E) (a b d : Option (List ℕ)) (whole xs ys zs : List ℕ) → whole ≡ xs ++ (ys ++ zs)
-    → Appends a b xs → AppendsPart b d ys → OnErr r (AppendsPart a d whole)
-three_second r a b d whole xs ys zs is p q =
-    two_part r a b d whole xs (ys ++ zs) is p (on_err_anyway r (part_of_front b d ys zs q))
