@@ -31,7 +31,7 @@ closes B id v ws ys fin all =
       once = λ t h. (counts t h).0;
       gives = λ t d h small none. home (4 * t + d) (B.content t d)
           ((subst (EdgeIs (λ q. total (lists q) s.views)
-          (λ q. total (posts q) s.views) (total (sends t d) s.views) (B.fresh d) (B.content t d)
+          (λ q. total (posts q) s.views) (total (sends t d) s.views) (B.fresh t d) (B.content t d)
           (get_elem? s.homes (4 * t + d)) t) none ((r.tiles t h).edges d small)).done (counts t h).1);
     }
 
@@ -69,9 +69,10 @@ at_mapped [] i x e = absurd (some-ne-none x (sym e))
 at_mapped (y ∷ l) zero x e = ap some e
 at_mapped (y ∷ l) (suc i) x e = at_mapped l i x e
 
-fresh_long : (f : ℕ → Cell) (n : ℕ) → length (fresh_slots f n) ≡ 4 * n
+fresh_long : (f : ℕ → ℕ → Cell) (n : ℕ) → length (fresh_slots f n) ≡ 4 * n
 fresh_long f zero = refl
-fresh_long f (suc n) = let e = length-append (fresh_slots f n) (f 0 ∷ f 1 ∷ f 2 ∷ f 3 ∷ []) in let r = fresh_long f n in omega arith
+fresh_long f (suc n) = let e = length-append (fresh_slots f n) (f n 0 ∷ f n 1 ∷ f n 2 ∷ f n 3 ∷ []) in
+    let r = fresh_long f n in omega arith
 
 four : (f : ℕ → Cell) (d : ℕ) → d < 4 → get_elem? (f 0 ∷ f 1 ∷ f 2 ∷ f 3 ∷ []) d ≡ some (f d)
 four f zero h = refl
@@ -80,12 +81,14 @@ four f (suc (suc zero)) h = refl
 four f (suc (suc (suc zero))) h = refl
 four f (suc (suc (suc (suc d)))) h = absurd (omega arith)
 
-fresh_at : (f : ℕ → Cell) (n t d : ℕ) → t < n → d < 4 → get_elem? (fresh_slots f n) (4 * t + d) ≡ some (f d)
+fresh_at : (f : ℕ → ℕ → Cell) (n t d : ℕ) → t < n → d < 4 → get_elem? (fresh_slots f n) (4 * t + d) ≡ some (f t d)
 fresh_at f zero t d near small = absurd (omega arith)
 fresh_at f (suc n) t d near small =
-    let l : List Cell = fresh_slots f n in let m : List Cell = f 0 ∷ f 1 ∷ f 2 ∷ f 3 ∷ [] in let long : length l ≡ 4 * n = fresh_long f n in
+    let l : List Cell = fresh_slots f n in let m : List Cell = f n 0 ∷ f n 1 ∷ f n 2 ∷ f n 3 ∷ [] in
+    let long : length l ≡ 4 * n = fresh_long f n in
     dite (ℕ_discrete t n)
-    (λ (e : t ≡ n). let i : 4 * t + d ≡ length l + d = omega arith in ap (get_elem? (l ++ m)) i ∙ at_right l m d ∙ four f d small)
+    (λ (e : t ≡ n). let i : 4 * t + d ≡ length l + d = omega arith in
+    ap (get_elem? (l ++ m)) i ∙ at_right l m d ∙ four (f n) d small ∙ ap (λ (z : ℕ). some (f z d)) (sym e))
     (λ ne. at_left l m (4 * t + d) (omega arith) ∙ fresh_at f n t d (omega arith) small)
 
 opens : (B : Setting) → Ruled B (opening (replicate B.graph.tiles 0) (fresh_slots B.fresh B.graph.tiles) (first_view B.slab))
@@ -107,8 +110,8 @@ opens B =
         word = let a₀ = a 0 (B.graph.from t 0) in let a₁ = a 1 (B.graph.from t 1) in let a₂ = a 2 (B.graph.from t 2) in omega arith;
         once = omega arith;
         needs = λ d q e. omega arith;
-        edges = λ d small. edge (λ q. total (lists q) vs) (λ q. total (posts q) vs) (total (sends t d) vs) (B.fresh d) (B.content t d)
-            (get_elem? hs (4 * t + d)) t l p (s t d) (at_mapped (fresh_slots B.fresh n) (4 * t + d) (B.fresh d)
+        edges = λ d small. edge (λ q. total (lists q) vs) (λ q. total (posts q) vs) (total (sends t d) vs) (B.fresh t d) (B.content t d)
+            (get_elem? hs (4 * t + d)) t l p (s t d) (at_mapped (fresh_slots B.fresh n) (4 * t + d) (B.fresh t d)
             (fresh_at B.fresh n t d near small)) (B.graph.next t d);
       };
       parts = first_parts B.slab;

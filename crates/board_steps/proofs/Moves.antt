@@ -160,11 +160,11 @@ module _ (B : Setting) (ws ws' : List ℕ) (hs hs' : Row) (L L' P P' : ℕ → �
 
   pub edge_same : (t d : ℕ) → L' t ≡ L t → P' t ≡ P t → S' t d ≡ S t d → get_elem? hs' (4 * t + d) ≡ get_elem? hs (4 * t + d)
       → (o : Option ℕ) → ((p : ℕ) → o ≡ Some p → (L' p ≡ L p) × (P' p ≡ P p))
-      → EdgeIs L P (S t d) (B.fresh d) (B.content t d) (get_elem? hs (4 * t + d)) t o
-      → EdgeIs L' P' (S' t d) (B.fresh d) (B.content t d) (get_elem? hs' (4 * t + d)) t o
-  edge_same t d a b c h None f k = outer_same (B.fresh d) (B.content t d) _ _ (L t) (L' t) (P t) (P' t) h a b k
+      → EdgeIs L P (S t d) (B.fresh t d) (B.content t d) (get_elem? hs (4 * t + d)) t o
+      → EdgeIs L' P' (S' t d) (B.fresh t d) (B.content t d) (get_elem? hs' (4 * t + d)) t o
+  edge_same t d a b c h None f k = outer_same (B.fresh t d) (B.content t d) _ _ (L t) (L' t) (P t) (P' t) h a b k
   edge_same t d a b c h (Some p) f k = let g = f p refl in
-      inner_same (B.fresh d) (B.content t d) _ _ (L t) (L' t) (S t d) (S' t d) (L p) (L' p) (P p) (P' p) h a c g.0 g.1 k
+      inner_same (B.fresh t d) (B.content t d) _ _ (L t) (L' t) (S t d) (S' t d) (L p) (L' p) (P p) (P' p) h a c g.0 g.1 k
 
 -- each tile where all counts stay
 pub same_counts : (B : Setting) (s : State Cell View) (r : Ruled B s) (vs : List View)

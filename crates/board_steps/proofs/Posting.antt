@@ -38,16 +38,16 @@ module _ (B : Setting) (W : IsGraph B.graph) (ws ws' : List ℕ) (hs hs' : Row) 
     (t : ℕ) (near : t < B.graph.tiles) (ct : Counted B L L' P P' S S' t) (fl : Filled B t hs hs') (one : L t ≡ 1) (open_yet : P t ≡ 0)
     (all : (q : ℕ) → q < B.graph.tiles → TileOk B ws hs L P S q) where
   abbrev Was : ℕ → ℕ → Option ℕ → Type 0
-  Was q d o = EdgeIs L P (S q d) (B.fresh d) (B.content q d) (get_elem? hs (4 * q + d)) q o
+  Was q d o = EdgeIs L P (S q d) (B.fresh q d) (B.content q d) (get_elem? hs (4 * q + d)) q o
 
   abbrev Is : ℕ → ℕ → Option ℕ → Type 0
-  Is q d o = EdgeIs L' P' (S' q d) (B.fresh d) (B.content q d) (get_elem? hs' (4 * q + d)) q o
+  Is q d o = EdgeIs L' P' (S' q d) (B.fresh q d) (B.content q d) (get_elem? hs' (4 * q + d)) q o
 
   own_edge : (d : ℕ) → d < 4 → (o : Option ℕ) → B.graph.next t d ≡ o → Was t d o → Is t d o
   own_edge d small None e k = let l = ct.listed t in let h = ct.here in
       record { fresh = λ z. absurd (omega arith); out = λ z y. absurd (omega arith); done = λ z. fl.own d small e }
   own_edge d small (Some p) e k = let th = W.there t d p near e in
-      inner_same (B.fresh d) (B.content t d) _ _ (L t) (L' t) (S t d) (S' t d) (L p) (L' p) (P p) (P' p)
+      inner_same (B.fresh t d) (B.content t d) _ _ (L t) (L' t) (S t d) (S' t d) (L p) (L' p) (P p) (P' p)
       (fl.inner d p small e) (ct.listed t) (ct.sent t d p e) (ct.listed p) (ct.else p th.1) k
 
   -- the edge of another tile, which came to t
@@ -64,11 +64,11 @@ module _ (B : Setting) (W : IsGraph B.graph) (ws ws' : List ℕ) (hs hs' : Row) 
       }
 
   other_edge : (q d : ℕ) → d < 4 → q < B.graph.tiles → q ≢ t → (o : Option ℕ) → B.graph.next q d ≡ o → Was q d o → Is q d o
-  other_edge q d small below ne None e k = outer_same (B.fresh d) (B.content q d) _ _ (L q) (L' q) (P q) (P' q)
+  other_edge q d small below ne None e k = outer_same (B.fresh q d) (B.content q d) _ _ (L q) (L' q) (P q) (P' q)
       (fl.others q d small ne (λ g. none_some (sym e ∙ g))) (ct.listed q) (ct.else q ne) k
   other_edge q d small below ne (Some p) e k = dite (ℕ_discrete p t)
       (λ (f : p ≡ t). subst (λ (z : ℕ). Is q d (Some z)) (sym f) (in_edge q d below ne (e ∙ ap Some f)))
-      (λ (f : p ≢ t). inner_same (B.fresh d) (B.content q d) _ _ (L q) (L' q) (S q d) (S' q d) (L p) (L' p) (P p) (P' p)
+      (λ (f : p ≢ t). inner_same (B.fresh q d) (B.content q d) _ _ (L q) (L' q) (S q d) (S' q d) (L p) (L' p) (P p) (P' p)
       (fl.others q d small ne (λ g. f (some_same (sym e ∙ g)))) (ct.listed q) (ct.sent q d p e) (ct.listed p) (ct.else p f) k)
 
   arrivals : (q d : ℕ) → q < B.graph.tiles → (o : Option ℕ) → B.graph.from q d ≡ o → arrived (λ x. S' x d) o ≡ arrived (λ x. S x d) o

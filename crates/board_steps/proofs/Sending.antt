@@ -32,13 +32,13 @@ module _ (B : Setting) (W : IsGraph B.graph) (ws ws' : List ℕ) (hs hs' : Row) 
     (home : get_elem? hs' (4 * t + d) ≡ some (some (B.content t d))) (others : (k : ℕ) → k ≢ 4 * t + d → get_elem? hs' k ≡ get_elem? hs k)
     (unsent : S t d ≡ 0) (one : L t ≡ 1) (all : (q : ℕ) → q < B.graph.tiles → TileOk B ws hs L P S q) where
   abbrev Was : ℕ → ℕ → Type 0
-  Was q e = EdgeIs L P (S q e) (B.fresh e) (B.content q e) (get_elem? hs (4 * q + e)) q (B.graph.next q e)
+  Was q e = EdgeIs L P (S q e) (B.fresh q e) (B.content q e) (get_elem? hs (4 * q + e)) q (B.graph.next q e)
 
   abbrev Is : ℕ → ℕ → Type 0
-  Is q e = EdgeIs L' P' (S' q e) (B.fresh e) (B.content q e) (get_elem? hs' (4 * q + e)) q (B.graph.next q e)
+  Is q e = EdgeIs L' P' (S' q e) (B.fresh q e) (B.content q e) (get_elem? hs' (4 * q + e)) q (B.graph.next q e)
 
   -- the edge itself
-  itself : Inner (B.fresh d) (B.content t d) (get_elem? hs' (4 * t + d)) (L' t) (S' t d) (L' p) (P' p)
+  itself : Inner (B.fresh t d) (B.content t d) (get_elem? hs' (4 * t + d)) (L' t) (S' t d) (L' p) (P' p)
   itself =
       let th = W.there t d p near goes in
       let l = ct.listed t in let lp = ct.listed p in let h = ct.here in let m = ct.posted p in let need = (all p th.0).needs d t th.3 in
@@ -55,7 +55,7 @@ module _ (B : Setting) (W : IsGraph B.graph) (ws ws' : List ℕ) (hs hs' : Row) 
   edge q e small small' k = dite (ℕ_discrete (4 * q + e) (4 * t + d))
       (λ (z : 4 * q + e ≡ 4 * t + d). let qq : q ≡ t = omega arith in let ee : e ≡ d = omega arith in
       subst (λ (y : ℕ × ℕ). Is y.0 y.1) (λ i. (sym qq i, sym ee i))
-      (subst (EdgeIs L' P' (S' t d) (B.fresh d) (B.content t d) (get_elem? hs' (4 * t + d)) t) (sym goes) itself))
+      (subst (EdgeIs L' P' (S' t d) (B.fresh t d) (B.content t d) (get_elem? hs' (4 * t + d)) t) (sym goes) itself))
       (λ (n : 4 * q + e ≢ 4 * t + d). edge_same B ws ws' hs hs' L L' P P' S S' q e (ct.listed q) (ct.posted q)
       (ct.else q e (λ z. let a = z.0 in let b = z.1 in n (omega arith))) (others (4 * q + e) n) (B.graph.next q e)
       (λ y _. (ct.listed y, ct.posted y)) k)

@@ -44,10 +44,10 @@ module _ (B : Setting) (W : IsGraph B.graph) (ws ws' : List ℕ) (hs hs' : Row) 
     (t : ℕ) (near : t < B.graph.tiles) (ct : Counted L L' P P' S S' t) (em : Emptied B t hs hs') (free : L t ≡ 0)
     (ready : (d q : ℕ) → B.graph.from t d ≡ Some q → S q d ≡ 1) (all : (p : ℕ) → p < B.graph.tiles → TileOk B ws hs L P S p) where
   abbrev Was : ℕ → ℕ → Option ℕ → Type 0
-  Was q d o = EdgeIs L P (S q d) (B.fresh d) (B.content q d) (get_elem? hs (4 * q + d)) q o
+  Was q d o = EdgeIs L P (S q d) (B.fresh q d) (B.content q d) (get_elem? hs (4 * q + d)) q o
 
   abbrev Is : ℕ → ℕ → Option ℕ → Type 0
-  Is q d o = EdgeIs L' P' (S' q d) (B.fresh d) (B.content q d) (get_elem? hs' (4 * q + d)) q o
+  Is q d o = EdgeIs L' P' (S' q d) (B.fresh q d) (B.content q d) (get_elem? hs' (4 * q + d)) q o
 
   own_edge : (d : ℕ) → d < 4 → (o : Option ℕ) → B.graph.next t d ≡ o → Is t d o
   own_edge d small None e =
@@ -240,13 +240,13 @@ module _ (B : Setting) (W : IsGraph B.graph) (t : ℕ) (near : t < B.graph.tiles
       (ready : (d q : ℕ) → B.graph.from t d ≡ Some q → total (sends q d) s.views ≡ 1) where
     abbrev Edge : ℕ → ℕ → Option ℕ → Type 0
     Edge q d o = EdgeIs (λ p. total (lists p) s.views)
-        (λ p. total (posts p) s.views) (total (sends q d) s.views) (B.fresh d) (B.content q d)
+        (λ p. total (posts p) s.views) (total (sends q d) s.views) (B.fresh q d) (B.content q d)
         (get_elem? s.homes (4 * q + d)) q o
 
-    fresh_own : (d : ℕ) → d < 4 → get_elem? s.homes (4 * t + d) ≡ some (some (B.fresh d))
+    fresh_own : (d : ℕ) → d < 4 → get_elem? s.homes (4 * t + d) ≡ some (some (B.fresh t d))
     fresh_own d small = fresh (B.graph.next t d) ((r.tiles t near).edges d small)
       where
-        fresh : (o : Option ℕ) → Edge t d o → get_elem? s.homes (4 * t + d) ≡ some (some (B.fresh d))
+        fresh : (o : Option ℕ) → Edge t d o → get_elem? s.homes (4 * t + d) ≡ some (some (B.fresh t d))
         fresh None k = k.fresh free
         fresh (Some p) k = k.fresh free
 

@@ -126,7 +126,7 @@ module _ (B : Setting) (W : IsGraph B.graph) (s : State Cell View) (r : Ruled B 
       }
 
   abbrev Edge : ℕ → ℕ → Option ℕ → Type 0
-  Edge t d o = EdgeIs (λ p. total (lists p) s.views) (λ p. total (posts p) s.views) (total (sends t d) s.views) (B.fresh d) (B.content t d)
+  Edge t d o = EdgeIs (λ p. total (lists p) s.views) (λ p. total (posts p) s.views) (total (sends t d) s.views) (B.fresh t d) (B.content t d)
       (get_elem? s.homes (4 * t + d)) t o
 
   own_clauses : (t d : ℕ) → t < B.graph.tiles → d < 4 → B.graph.next t d ≡ None → OwnClauses B s t d

@@ -49,14 +49,14 @@ module _ (B : Setting) (s : State Cell View) where
 
   -- Of a slot that no tile receives: blank before its tile is taken, out until it is posted, and then with what it gives.
   pub record OwnClauses (t d : ℕ) : Type 0 where
-    pub blank : bit 8 t ≡ 0 → home t d ≡ some (some (B.fresh d))
+    pub blank : bit 8 t ≡ 0 → home t d ≡ some (some (B.fresh t d))
     pub out : bit 8 t ≡ 1 → bit 16 t ≡ 0 → home t d ≡ some none
     pub gives : bit 16 t ≡ 1 → home t d ≡ some (some (B.content t d))
 
   -- Of the slot of an edge that tile p receives: blank before its tile is taken, out until the send, with the edge until p is
   -- taken, out until p is posted, and then with no meaning.
   pub record EdgeClauses (t d p : ℕ) : Type 0 where
-    pub blank : bit 8 t ≡ 0 → home t d ≡ some (some (B.fresh d))
+    pub blank : bit 8 t ≡ 0 → home t d ≡ some (some (B.fresh t d))
     pub out : bit 8 t ≡ 1 → bit (bit_of d) p ≡ 0 → home t d ≡ some none
     pub gives : bit (bit_of d) p ≡ 1 → bit 8 p ≡ 0 → home t d ≡ some (some (B.content t d))
     pub read : bit 8 p ≡ 1 → bit 16 p ≡ 0 → home t d ≡ some none

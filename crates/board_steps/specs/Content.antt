@@ -1,5 +1,6 @@
--- What the slots of a tile hold: a blank of its kind while the tile waits, and what the tile gives once it is posted.
-use Rattle.std.specs.Prelude.{ℕ, ℤ, pos, zero, suc, ◌/◌, ◌%◌, List, replicate}
+-- What the slots of a tile hold: while the tile waits, room for what no other tile sends it, and what the tile gives once
+-- it is posted.
+use Rattle.std.specs.Prelude.{ℕ, ℤ, pos, zero, suc, ◌/◌, ◌%◌, List, Option, None, Some, replicate}
 use Rattle.diffusion_kernel.specs.declared.tables.Kernel.{Kernel}
 use Rattle.dot_planes.specs.Tables.{AmountTable}
 use Rattle.tile_lanes.specs.Done.{window_of}
@@ -8,14 +9,19 @@ use Rattle.tile_shape.specs.declared.tiles.Place.{Place}
 use Rattle.tile_border.specs.Works.{Border}
 use Rattle.tile_content.specs.Content.{given}
 use Rattle.board_steps.specs.declared.rule.Cell.{Cell}
-use Rattle.board_steps.specs.declared.rule.Cell.TheVariants.{Right, Bottom, Corner, Dots}
+use Rattle.board_steps.specs.declared.rule.Cell.TheVariants.{Empty, Right, Bottom, Corner, Dots}
 
--- for so many inks: errors 0 and no dots
-abbrev pub fresh_of : ℕ → ℕ → Cell
-fresh_of inks zero = Right (replicate inks (replicate 192 (pos 0)))
-fresh_of inks (suc zero) = Bottom (replicate inks (replicate 128 (pos 0)))
-fresh_of inks (suc (suc zero)) = Corner (replicate inks (replicate 12 (pos 0)))
-fresh_of inks (suc (suc (suc d))) = Dots (replicate inks (replicate {A = ℕ} 256 0))
+-- blanks of so many inks, by direction: errors 0 and no dots
+abbrev pub blank_of : ℕ → ℕ → Cell
+blank_of inks zero = Right (replicate inks (replicate 192 (pos 0)))
+blank_of inks (suc zero) = Bottom (replicate inks (replicate 128 (pos 0)))
+blank_of inks (suc (suc zero)) = Corner (replicate inks (replicate 12 (pos 0)))
+blank_of inks (suc (suc (suc d))) = Dots (replicate inks (replicate {A = ℕ} 256 0))
+
+-- A slot of a waiting tile, by the tile that sends it the edge of that direction: a blank where there is none.
+abbrev pub fresh_of : ℕ → ℕ → Option ℕ → Cell
+fresh_of inks d None = blank_of inks d
+fresh_of inks d (Some q) = Empty
 
 -- a tile's edges by direction, and its dots
 abbrev pub cell_of : Border → ℕ → Cell

@@ -8,6 +8,7 @@ use lib.ListN.{get_elem?}
 use Rattle.atomic_table.specs.Table.{State}
 use Rattle.diffusion_kernel.specs.declared.tables.Kernel.TheVariants.{Floyd}
 use Rattle.tile_lanes.specs.Done.{window_of}
+use Rattle.tile_shape.specs.declared.tiles.Shape.{Shape}
 use Rattle.board_steps.specs.declared.rule.View.{View}
 use Rattle.board_steps.specs.declared.rule.Slab.{Slab}
 use Rattle.board_steps.specs.declared.rule.Cell.{Cell}
@@ -19,14 +20,18 @@ use Rattle.board_steps.specs.Content.{content_of, fresh_of}
 pub record Setting : Type 0 where
   pub graph : Graph
   pub content : ℕ → ℕ → Cell
-  pub fresh : ℕ → Cell
+  pub fresh : ℕ → ℕ → Cell
   pub slab : Slab
+
+-- the slots of a waiting tile of a window in so many inks, by direction
+abbrev pub fresh_in : Shape → ℕ → ℕ → ℕ → Cell
+fresh_in s inks t d = fresh_of inks d ((graph_of s).from t d)
 
 abbrev pub setting_of : Slab → Setting
 setting_of b = record {
   graph = graph_of (window_of b.rows.value);
   content = content_of b.rows.value b.kernel b.top.value;
-  fresh = fresh_of b.rows.value.inks;
+  fresh = fresh_in (window_of b.rows.value) b.rows.value.inks;
   slab = b;
 }
 
@@ -116,7 +121,7 @@ module _ (B : Setting) (words : List ℕ) (homes : List (maybe.Option Cell)) (L 
         + 4 * arrived (λ q. S q 2) (B.graph.from t 2) + 8 * L t + 16 * P t
     pub once : L t ≤ 1
     pub needs : (d q : ℕ) → B.graph.from t d ≡ Some q → L t ≤ S q d
-    pub edges : (d : ℕ) → d < 4 → EdgeIs L P (S t d) (B.fresh d) (B.content t d) (get_elem? homes (4 * t + d)) t (B.graph.next t d)
+    pub edges : (d : ℕ) → d < 4 → EdgeIs L P (S t d) (B.fresh t d) (B.content t d) (get_elem? homes (4 * t + d)) t (B.graph.next t d)
 
 -- the five bits of one word stand in another
 pub record Within (w x : ℕ) : Type 0 where

@@ -13,9 +13,9 @@ use Rattle.board_steps.specs.Rule.{Setting, setting_of, arrived, has, lists, pos
 -- ---- the start
 
 -- the slots of so many tiles that wait
-abbrev pub fresh_slots : (ℕ → Cell) → ℕ → List Cell
+abbrev pub fresh_slots : (ℕ → ℕ → Cell) → ℕ → List Cell
 fresh_slots fresh zero = []
-fresh_slots fresh (suc n) = fresh_slots fresh n ++ fresh 0 ∷ fresh 1 ∷ fresh 2 ∷ fresh 3 ∷ []
+fresh_slots fresh (suc n) = fresh_slots fresh n ++ fresh n 0 ∷ fresh n 1 ∷ fresh n 2 ∷ fresh n 3 ∷ []
 
 -- ---- directions
 
@@ -88,7 +88,7 @@ hand G own content t =
 
 -- the slots that come into hand with a tile
 abbrev pub hand_in : Setting → ℕ → List (ℕ × Cell)
-hand_in B t = hand B.graph B.fresh B.content t
+hand_in B t = hand B.graph (B.fresh t) B.content t
 
 abbrev pub in_hand : Slab → ℕ → List (ℕ × Cell)
 in_hand b = hand_in (setting_of b)

@@ -1,14 +1,16 @@
 -- Hands of slots, from the front.
 use Rattle.std.proofs.Common.{◌≡◌, ℕ, ℤ, ◌+◌, ◌*◌, List, [], ◌∷◌, ◌++◌, Some, None, refl, sym, ◌∙◌, ap, append_assoc, append-nil}
 use Rattle.atomic_table.specs.Table.{Me, rest}
+use Rattle.board_steps.specs.Content.{blank_of, fresh_of}
 use Rattle.board_steps.specs.Rule.{setting_of}
 use Rattle.board_steps.specs.Steps.{incoming}
 use Rattle.board_steps.specs.declared.rule.Cell.{Cell}
 use Rattle.board_steps.specs.declared.rule.Cell.TheVariants.{Empty, Right, Bottom, Corner, Dots}
 use Rattle.board_steps.specs.declared.rule.Slab.{Slab}
 use Rattle.board_steps.specs.declared.rule.View.{View}
-use Rattle.tile_board.specs.Front.{HasInFront, IsFront, TakesOut}
+use Rattle.tile_board.specs.Front.{IsFront, TakesOut}
 use Rattle.tile_board.specs.Room.{IsNext, TakesIn, emptied}
+use Rattle.tile_board.specs.Slabs.{amounts_of}
 
 abbrev pub Hand : Type 0
 Hand = List (ℕ × Cell)
@@ -34,9 +36,6 @@ corner_in _ = []
 abbrev pub dots_in : Cell → List (List ℕ)
 dots_in (Dots bits) = bits
 dots_in _ = []
-
-pub front-is : {A : Type 0} (kind : A → Cell) (x : A) (slot n : ℕ) (hand r : Hand) → slot ≡ n → hand ≡ (n, kind x) ∷ r → HasInFront slot kind hand
-front-is kind x slot n hand r e h = (x, h ∙ (λ i. (sym e i, kind x) ∷ rest (sym h i)))
 
 pub any-front : (x : Cell) (slot n : ℕ) (hand r : Hand) → slot ≡ n → hand ≡ (n, x) ∷ r → IsFront slot hand
 any-front x slot n hand r e h = (x, h ∙ (λ i. (sym e i, x) ∷ rest (sym h i)))
@@ -83,7 +82,14 @@ next-cell b d t q slot cell m after from e next out =
     let here : m.1 ≡ (4 * q + d, content) ∷ next.0 = next.1 ∙ ap (λ o. incoming (setting_of b).content d o ++ next.0) from in
     (out-is content cell slot (4 * q + d) m after next.0 e here out).same
 
-pub next-front : {A : Type 0} (b : Slab) (d t q slot : ℕ) (kind : A → Cell) (x : A) (hand : Hand) → (setting_of b).graph.from t d ≡ Some q → slot ≡ 4 * q + d
-    → (setting_of b).content q d ≡ kind x → IsNext b d t hand → HasInFront slot kind hand
-next-front b d t q slot kind x hand from e is next =
-    front-is kind x slot (4 * q + d) hand next.0 e (next.1 ∙ ap (λ o. incoming (setting_of b).content d o ++ next.0) from ∙ (λ i. (4 * q + d, is i) ∷ next.0))
+pub next-front : (b : Slab) (d t q slot : ℕ) (hand : Hand) → (setting_of b).graph.from t d ≡ Some q → slot ≡ 4 * q + d
+    → IsNext b d t hand → IsFront slot hand
+next-front b d t q slot hand from e next =
+    any-front ((setting_of b).content q d) slot (4 * q + d) hand next.0 e
+    (next.1 ∙ ap (λ o. incoming (setting_of b).content d o ++ next.0) from)
+
+-- ---- an edge that no tile sends
+
+pub blank-is : (b : Slab) (d t : ℕ) (cell : Cell) → cell ≡ (setting_of b).fresh t d → (setting_of b).graph.from t d ≡ None
+    → cell ≡ blank_of (amounts_of b).inks d
+blank-is b d t cell e none = e ∙ ap (fresh_of (amounts_of b).inks d) none

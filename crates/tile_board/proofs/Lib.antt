@@ -2,6 +2,7 @@ pub mod Shapes
 pub mod Numbers
 pub mod Hands
 pub mod Handed
+pub mod Waiting
 pub mod Worked
 pub mod Posts
 pub mod Claims

@@ -9,9 +9,9 @@ use Rattle.board_steps.specs.declared.rule.View.{View}
 abbrev pub IsFront : ℕ → List (ℕ × Cell) → Type 0
 IsFront slot hand = (x : Cell) × (hand ≡ (slot, x) ∷ rest hand)
 
--- and it has something of this kind
-abbrev pub HasInFront : {A : Type 0} → ℕ → (A → Cell) → List (ℕ × Cell) → Type 0
-HasInFront {A} slot kind hand = (x : A) × (hand ≡ (slot, kind x) ∷ rest hand)
+-- the slot has something of this kind
+abbrev pub IsOfKind : {A : Type 0} → (A → Cell) → Cell → Type 0
+IsOfKind {A} kind cell = (x : A) × (cell ≡ kind x)
 
 -- What stands in the slot in front is taken out, and the empty slot goes behind the others.
 pub record TakesOut (slot : ℕ) (m : Me Cell View) (cell : Cell) (n : Me Cell View) : Type 0 where

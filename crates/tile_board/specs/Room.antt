@@ -1,5 +1,5 @@
 -- How the slots of a tile, and those of the edges that come to it, are emptied and filled.
-use Rattle.std.specs.Prelude.{◌≡◌, ℕ, ◌+◌, ◌*◌, pos, List, [], ◌∷◌, ◌++◌, Option, Some, None, replicate}
+use Rattle.std.specs.Prelude.{◌≡◌, ℕ, ◌+◌, ◌*◌, List, [], ◌∷◌, ◌++◌, Option, Some, None, replicate}
 use Rattle.atomic_table.specs.Table.{Me, rest}
 use Rattle.board_steps.specs.Rule.{setting_of}
 use Rattle.board_steps.specs.Steps.{incoming, own_slot, sent_view}
@@ -7,14 +7,14 @@ use Rattle.board_steps.specs.declared.rule.Cell.{Cell}
 use Rattle.board_steps.specs.declared.rule.Cell.TheVariants.{Empty}
 use Rattle.board_steps.specs.declared.rule.Slab.{Slab}
 use Rattle.board_steps.specs.declared.rule.View.{View}
-use Rattle.tile_board.specs.declared.room.Room.{Room}
+use Rattle.tile_board.specs.declared.room.Blanks.{Blanks}
 use Rattle.tile_board.specs.Slabs.{amounts_of}
 
--- errors 0 and no dots, in each ink
-pub record IsRoomOf (b : Slab) (r : Room) : Type 0 where
-  pub right : r.right ≡ replicate (amounts_of b).inks (replicate 192 (pos 0))
-  pub bottom : r.bottom ≡ replicate (amounts_of b).inks (replicate 128 (pos 0))
-  pub corner : r.corner ≡ replicate (amounts_of b).inks (replicate 12 (pos 0))
+-- what the own slots of tile t hold while it waits
+pub record AreBlanksOf (b : Slab) (t : ℕ) (r : Blanks) : Type 0 where
+  pub right : r.right ≡ (setting_of b).fresh t 0
+  pub bottom : r.bottom ≡ (setting_of b).fresh t 1
+  pub corner : r.corner ≡ (setting_of b).fresh t 2
   pub dots : r.dots ≡ replicate (amounts_of b).inks (replicate {A = ℕ} 256 0)
 
 -- the slot of an edge that comes to tile t in the direction d, with what `x` has for it

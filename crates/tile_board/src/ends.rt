@@ -1,8 +1,9 @@
 //! How a board is made and closed.
 ghost use Rattle.board_steps.specs.Content.{fresh_of};
-ghost use Rattle.board_steps.specs.Rule.{first_view, times};
+ghost use Rattle.board_steps.specs.Graph.{only_if};
+ghost use Rattle.board_steps.specs.Rule.{first_view, fresh_in, times};
 ghost use Rattle.board_steps.specs.Steps.{fresh_slots};
-ghost use Rattle.std.specs.Prelude.{IfOk, None, replicate, ◌*◌, ◌<◌, ◌^◌, ◌≡◌, ◌≤◌};
+ghost use Rattle.std.specs.Prelude.{IfOk, None, replicate, ℕ, ◌*◌, ◌<◌, ◌^◌, ◌≡◌, ◌≤◌, ◌&&◌};
 ghost use Rattle.tile_board.specs.Board.{IsPassOf, holding, slab, view};
 ghost use Rattle.tile_board.specs.Closing.{Closes};
 ghost use Rattle.tile_board.specs.Slabs.{IsTopOf, amounts_of, number_in, shape_of, top_edges};
@@ -39,7 +40,7 @@ impl<'a> Board<'a> {
         ensures holds { IfOk result (λ b. holding b.1 ≡ None) }
     {
         let tiles = count_tiles(rows.shape());
-        let slots = blank_slots(alloc, tiles, top.at(0).inks())?;
+        let slots = waiting_slots(alloc, rows.shape(), top.at(0).inks())?;
         let Ok(dots) = Vec::with_capacity(alloc, tiles) else {
             return Err(Memory);
         };
@@ -110,25 +111,64 @@ fn count_tiles(shape: Shape) -> usize
     shape.bands() as usize * shape.columns() as usize
 }
 
-// The slots of so many tiles, all blank.
-fn blank_slots(alloc: Global, tiles: usize, inks: u8) -> Result<Vec<Cell>, Memory>
-    requires tiles { tiles < 2 ^ 32 }
+// The slots of all tiles of a window while they wait.
+fn waiting_slots(alloc: Global, shape: Shape, inks: u8) -> Result<Vec<Cell>, Memory>
+    requires shape { IsShape shape }
     requires some { 1 ≤ inks }
     requires most { inks ≤ 4 }
-    ensures { IfOk result (λ v. v.items ≡ fresh_slots (fresh_of inks) tiles) }
+    ensures { IfOk result (λ v. v.items ≡ fresh_slots (fresh_in shape inks) (bands_of shape * columns_of shape)) }
 {
+    let tiles = count_tiles(shape);
+    let columns = shape.columns() as usize;
     let Ok(mut slots) = Vec::with_capacity(alloc, 4 * tiles) else {
         return Err(Memory);
     };
-    for _ in 0..tiles {
-        let right = RightEdge::zero(alloc, inks)?;
-        let bottom = BottomEdge::zero(alloc, inks)?;
-        let corner = CornerEdge::zero(alloc, inks)?;
+    for n in 0..tiles {
+        let (c, j) = (n % columns, n / columns);
+        let right = right_slot(alloc, 0 < c, inks)?;
+        let bottom = bottom_slot(alloc, c + 1 < columns, 0 < j, inks)?;
+        let corner = corner_slot(alloc, 0 < j, inks)?;
         let dots = no_dots(alloc, inks)?;
-        slots.push_reserved(Cell::Right(right));
-        slots.push_reserved(Cell::Bottom(bottom));
-        slots.push_reserved(Cell::Corner(corner));
+        slots.push_reserved(right);
+        slots.push_reserved(bottom);
+        slots.push_reserved(corner);
         slots.push_reserved(Cell::Dots(dots));
     }
     Ok(slots)
+}
+
+// A waiting tile's slot for its right edge: empty where the edge of the tile at its left will come, and else errors 0.
+fn right_slot(alloc: Global, comes: bool, inks: u8) -> Result<Cell, Memory>
+    requires some { 1 ≤ inks }
+    requires most { inks ≤ 4 }
+    ensures { IfOk result (λ cell. (from : ℕ) → cell ≡ fresh_of inks 0 (only_if comes from)) }
+{
+    if comes {
+        return Ok(Cell::Empty);
+    }
+    Ok(Cell::Right(RightEdge::zero(alloc, inks)?))
+}
+
+// The same for its bottom edge and that of the tile above and one column to the right.
+fn bottom_slot(alloc: Global, right: bool, above: bool, inks: u8) -> Result<Cell, Memory>
+    requires some { 1 ≤ inks }
+    requires most { inks ≤ 4 }
+    ensures { IfOk result (λ cell. (from : ℕ) → cell ≡ fresh_of inks 1 (only_if (right && above) from)) }
+{
+    if right && above {
+        return Ok(Cell::Empty);
+    }
+    Ok(Cell::Bottom(BottomEdge::zero(alloc, inks)?))
+}
+
+// The same for its corner edge and that of the tile above.
+fn corner_slot(alloc: Global, comes: bool, inks: u8) -> Result<Cell, Memory>
+    requires some { 1 ≤ inks }
+    requires most { inks ≤ 4 }
+    ensures { IfOk result (λ cell. (from : ℕ) → cell ≡ fresh_of inks 2 (only_if comes from)) }
+{
+    if comes {
+        return Ok(Cell::Empty);
+    }
+    Ok(Cell::Corner(CornerEdge::zero(alloc, inks)?))
 }

@@ -1,6 +1,7 @@
 //! What a tile is handed, out of the slots that came into hand with it.
+ghost use Rattle.board_steps.specs.Rule.{setting_of};
 ghost use Rattle.board_steps.specs.Steps.{emptied_hand, in_hand};
-ghost use Rattle.std.specs.Prelude.{length, pos, replicate, ◌<◌, ◌^◌, ◌≡◌};
+ghost use Rattle.std.specs.Prelude.{length, ◌<◌, ◌^◌, ◌≡◌};
 ghost use Rattle.tile_board.specs.Board.{slab};
 ghost use Rattle.tile_board.specs.Copies.{CutsEnds};
 ghost use Rattle.tile_board.specs.Room.{IsNext, TakesIn};
@@ -12,9 +13,9 @@ ghost use Rattle.tile_shape.specs.declared.tiles.Dir.TheVariants.{Bottom, Corner
 
 use crate::kinds::Board;
 use crate::room::{
-    BOTTOM, CORNER, RIGHT, Room, slot_of, take_bottom, take_corner, take_right, take_room,
+    BOTTOM, Blanks, CORNER, RIGHT, bottom_of, corner_of, right_of, slot_of, take_blanks, take_out,
 };
-use board_steps::Seated;
+use board_steps::{Cell, Seated};
 use dot_planes::TileDots;
 use tile_border::{BottomEdge, CornerEdge, RightEdge, Task};
 use tile_shape::Place;
@@ -40,12 +41,12 @@ impl<'a> Board<'a> {
         ensures task { IsTaskOf (slab self.now) result }
         ensures hand { seat.new.me ≡ (seat.old.me.0, emptied_hand (slab self.now) (number_in (slab self.now) t)) }
     {
-        let Room {
+        let Blanks {
             right,
             bottom,
             corner,
             dots,
-        } = take_room(&self.table.shared, seat, self.number(t));
+        } = take_blanks(&self.table.shared, seat, self.number(t));
         let left = self.receive_left(seat, t, right);
         let above = self.receive_above(seat, t, bottom);
         let corner = self.receive_corner(seat, t, corner);
@@ -62,28 +63,28 @@ impl<'a> Board<'a> {
     }
 
     // The right edge of the tile at the left, or errors 0 in the first column.
-    fn receive_left(&self, seat: &mut Seated, t: Place, room: RightEdge) -> RightEdge
+    fn receive_left(&self, seat: &mut Seated, t: Place, blank: Cell) -> RightEdge
         requires table { seat.old.table_id ≡ self.now.table.shared.table_id }
         requires tile { IsTile (shape_of (slab self.now)) t }
-        requires room { room ≡ replicate (amounts_of (slab self.now)).inks (replicate 192 (pos 0)) }
+        requires blank { blank ≡ (setting_of (slab self.now)).fresh (number_in (slab self.now) t) 0 }
         requires next { IsNext (slab self.now) 0 (number_in (slab self.now) t) seat.old.me.1 }
         ensures seat { (seat.new.table_id ≡ seat.old.table_id) × (seat.new.id ≡ seat.old.id) }
         ensures edge { IsHandedTo (slab self.now).kernel (amounts_of (slab self.now)) (top_edges (slab self.now)) Right t result }
         ensures takes { TakesIn (slab self.now) 0 (number_in (slab self.now) t) seat.old.me seat.new.me }
     {
         if t.c == 0 {
-            return room;
+            return right_of(blank);
         }
         let from = Place { c: t.c - 1, j: t.j };
         let slot = slot_of(self.number(from), RIGHT);
-        take_right(&self.table.shared, seat, slot)
+        right_of(take_out(&self.table.shared, seat, slot))
     }
 
     // The bottom edge of the tile above and one column to the right, or the top's. Right of the last column errors are 0.
-    fn receive_above(&self, seat: &mut Seated, t: Place, room: BottomEdge) -> BottomEdge
+    fn receive_above(&self, seat: &mut Seated, t: Place, blank: Cell) -> BottomEdge
         requires table { seat.old.table_id ≡ self.now.table.shared.table_id }
         requires tile { IsTile (shape_of (slab self.now)) t }
-        requires room { room ≡ replicate (amounts_of (slab self.now)).inks (replicate 128 (pos 0)) }
+        requires blank { blank ≡ (setting_of (slab self.now)).fresh (number_in (slab self.now) t) 1 }
         requires next { IsNext (slab self.now) 1 (number_in (slab self.now) t) seat.old.me.1 }
         ensures seat { (seat.new.table_id ≡ seat.old.table_id) × (seat.new.id ≡ seat.old.id) }
         ensures edge { IsHandedTo (slab self.now).kernel (amounts_of (slab self.now)) (top_edges (slab self.now)) Bottom t result }
@@ -91,10 +92,10 @@ impl<'a> Board<'a> {
     {
         let columns = self.rows.shape().columns();
         if t.c + 1 == columns {
-            return room;
+            return bottom_of(blank);
         }
         if t.j == 0 {
-            let mut above = room;
+            let mut above = bottom_of(blank);
             copy_edge(self.top.at(t.c + 1), &mut above);
             return above;
         }
@@ -103,27 +104,27 @@ impl<'a> Board<'a> {
             j: t.j - 1,
         };
         let slot = slot_of(self.number(from), BOTTOM);
-        take_bottom(&self.table.shared, seat, slot)
+        bottom_of(take_out(&self.table.shared, seat, slot))
     }
 
     // The corner edge of the tile above, or the end of the top's.
-    fn receive_corner(&self, seat: &mut Seated, t: Place, room: CornerEdge) -> CornerEdge
+    fn receive_corner(&self, seat: &mut Seated, t: Place, blank: Cell) -> CornerEdge
         requires table { seat.old.table_id ≡ self.now.table.shared.table_id }
         requires tile { IsTile (shape_of (slab self.now)) t }
-        requires room { room ≡ replicate (amounts_of (slab self.now)).inks (replicate 12 (pos 0)) }
+        requires blank { blank ≡ (setting_of (slab self.now)).fresh (number_in (slab self.now) t) 2 }
         requires next { IsNext (slab self.now) 2 (number_in (slab self.now) t) seat.old.me.1 }
         ensures seat { (seat.new.table_id ≡ seat.old.table_id) × (seat.new.id ≡ seat.old.id) }
         ensures edge { IsHandedTo (slab self.now).kernel (amounts_of (slab self.now)) (top_edges (slab self.now)) Corner t result }
         ensures takes { TakesIn (slab self.now) 2 (number_in (slab self.now) t) seat.old.me seat.new.me }
     {
         if t.j == 0 {
-            let mut corner = room;
+            let mut corner = corner_of(blank);
             cut_ends(self.top.at(t.c), &mut corner);
             return corner;
         }
         let from = Place { c: t.c, j: t.j - 1 };
         let slot = slot_of(self.number(from), CORNER);
-        take_corner(&self.table.shared, seat, slot)
+        corner_of(take_out(&self.table.shared, seat, slot))
     }
 }
 

@@ -2,8 +2,8 @@
 ghost use Rattle.board_steps.specs.Steps.{in_hand};
 ghost use Rattle.board_steps.specs.declared.rule.Cell.TheVariants.{Bottom, Corner, Dots, Right};
 ghost use Rattle.std.specs.Prelude.{◌*◌, ◌+◌, ◌<◌, ◌^◌, ◌≡◌};
-ghost use Rattle.tile_board.specs.Front.{HasInFront, IsFront, TakesOut};
-ghost use Rattle.tile_board.specs.Room.{IsRoomOf, OwnEmptied};
+ghost use Rattle.tile_board.specs.Front.{IsFront, IsOfKind, TakesOut};
+ghost use Rattle.tile_board.specs.Room.{AreBlanksOf, OwnEmptied};
 
 use board_steps::{Cell, Seated, Words};
 use dot_planes::TileBits;
@@ -27,8 +27,8 @@ pub(crate) fn slot_of(tile: usize, way: usize) -> usize
     4 * tile + way
 }
 
-// Empties the slot in front and turns to the next.
-fn take_out(words: &Words, seat: &mut Seated, slot: usize) -> Cell
+/// Empties the slot in front and turns to the next.
+pub(crate) fn take_out(words: &Words, seat: &mut Seated, slot: usize) -> Cell
     requires table { seat.old.table_id ≡ words.now.table_id }
     requires front { IsFront slot seat.old.me.1 }
     ensures seat { (seat.new.table_id ≡ seat.old.table_id) × (seat.new.id ≡ seat.old.id) }
@@ -39,81 +39,73 @@ fn take_out(words: &Words, seat: &mut Seated, slot: usize) -> Cell
     cell
 }
 
-/// Takes a right edge out of the slot in front.
-pub(crate) fn take_right(words: &Words, seat: &mut Seated, slot: usize) -> RightEdge
-    requires table { seat.old.table_id ≡ words.now.table_id }
-    requires front { HasInFront slot Right seat.old.me.1 }
-    ensures seat { (seat.new.table_id ≡ seat.old.table_id) × (seat.new.id ≡ seat.old.id) }
-    ensures taken { TakesOut slot seat.old.me (Right result) seat.new.me }
+/// The right edge that a slot had.
+pub(crate) fn right_of(cell: Cell) -> RightEdge
+    requires { IsOfKind Right cell }
+    ensures { cell ≡ Right result }
 {
-    match take_out(words, seat, slot) {
+    match cell {
         Cell::Right(edge) => edge,
         _ => unreachable!(),
     }
 }
 
-/// Takes a bottom edge out of the slot in front.
-pub(crate) fn take_bottom(words: &Words, seat: &mut Seated, slot: usize) -> BottomEdge
-    requires table { seat.old.table_id ≡ words.now.table_id }
-    requires front { HasInFront slot Bottom seat.old.me.1 }
-    ensures seat { (seat.new.table_id ≡ seat.old.table_id) × (seat.new.id ≡ seat.old.id) }
-    ensures taken { TakesOut slot seat.old.me (Bottom result) seat.new.me }
+/// The bottom edge that a slot had.
+pub(crate) fn bottom_of(cell: Cell) -> BottomEdge
+    requires { IsOfKind Bottom cell }
+    ensures { cell ≡ Bottom result }
 {
-    match take_out(words, seat, slot) {
+    match cell {
         Cell::Bottom(edge) => edge,
         _ => unreachable!(),
     }
 }
 
-/// Takes a corner edge out of the slot in front.
-pub(crate) fn take_corner(words: &Words, seat: &mut Seated, slot: usize) -> CornerEdge
-    requires table { seat.old.table_id ≡ words.now.table_id }
-    requires front { HasInFront slot Corner seat.old.me.1 }
-    ensures seat { (seat.new.table_id ≡ seat.old.table_id) × (seat.new.id ≡ seat.old.id) }
-    ensures taken { TakesOut slot seat.old.me (Corner result) seat.new.me }
+/// The corner edge that a slot had.
+pub(crate) fn corner_of(cell: Cell) -> CornerEdge
+    requires { IsOfKind Corner cell }
+    ensures { cell ≡ Corner result }
 {
-    match take_out(words, seat, slot) {
+    match cell {
         Cell::Corner(edge) => edge,
         _ => unreachable!(),
     }
 }
 
-// Takes dots out of the slot in front.
-fn take_dots(words: &Words, seat: &mut Seated, slot: usize) -> TileBits
-    requires table { seat.old.table_id ≡ words.now.table_id }
-    requires front { HasInFront slot Dots seat.old.me.1 }
-    ensures seat { (seat.new.table_id ≡ seat.old.table_id) × (seat.new.id ≡ seat.old.id) }
-    ensures taken { TakesOut slot seat.old.me (Dots result) seat.new.me }
+// The dots that a slot had.
+fn dots_of(cell: Cell) -> TileBits
+    requires { IsOfKind Dots cell }
+    ensures { cell ≡ Dots result }
 {
-    match take_out(words, seat, slot) {
+    match cell {
         Cell::Dots(bits) => bits,
         _ => unreachable!(),
     }
 }
 
-/// Room for what a tile is handed and for its dots: errors 0 and no dots.
+/// What the slots of a tile held before it was taken: blank edges where no tile sends it one, and no dots.
 #[derive(Drop)]
-pub(crate) struct Room {
-    pub(crate) right: RightEdge,
-    pub(crate) bottom: BottomEdge,
-    pub(crate) corner: CornerEdge,
+pub(crate) struct Blanks {
+    pub(crate) right: Cell,
+    pub(crate) bottom: Cell,
+    pub(crate) corner: Cell,
     pub(crate) dots: TileBits,
 }
 
 /// Takes the blanks of a tile out of its own slots.
-pub(crate) fn take_room(words: &Words, seat: &mut Seated, tile: usize) -> Room
+pub(crate) fn take_blanks(words: &Words, seat: &mut Seated, tile: usize) -> Blanks
     requires table { seat.old.table_id ≡ words.now.table_id }
     requires tile { tile < 2 ^ 32 }
     requires hand { seat.old.me.1 ≡ in_hand words.now.key tile }
     ensures seat { (seat.new.table_id ≡ seat.old.table_id) × (seat.new.id ≡ seat.old.id) }
-    ensures room { IsRoomOf words.now.key result }
+    ensures blanks { AreBlanksOf words.now.key tile result }
     ensures hand { OwnEmptied words.now.key tile seat.old.me seat.new.me }
 {
-    let right = take_right(words, seat, slot_of(tile, RIGHT));
-    let bottom = take_bottom(words, seat, slot_of(tile, BOTTOM));
-    let corner = take_corner(words, seat, slot_of(tile, CORNER));
-    let dots = take_dots(words, seat, slot_of(tile, DOTS));
-    Room {
+    let right = take_out(words, seat, slot_of(tile, RIGHT));
+    let bottom = take_out(words, seat, slot_of(tile, BOTTOM));
+    let corner = take_out(words, seat, slot_of(tile, CORNER));
+    let dots = dots_of(take_out(words, seat, slot_of(tile, DOTS)));
+    Blanks {
         right,
         bottom,
         corner,

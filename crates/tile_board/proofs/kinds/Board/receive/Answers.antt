@@ -9,4 +9,4 @@ pub returns-clause-task : goal.returns-clause-task
 returns-clause-task c =
     let b = slab c.args.self.now in
     task-of b _ c.requires.tile c.receive_left-left.ensures.edge c.receive_above-above.ensures.edge c.receive_corner-corner.ensures.edge
-    (ap length c.take_room-right.ensures.room.dots ∙ length-replicate (amounts_of b).inks (replicate 256 0))
+    (ap length c.take_blanks-right.ensures.blanks.dots ∙ length-replicate (amounts_of b).inks (replicate 256 0))
