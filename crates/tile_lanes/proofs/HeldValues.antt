@@ -89,6 +89,9 @@ pub floyd_sum : (own left b0 u3 u2 u1 b4 : ℤ) (far : List ℤ)
     → weighted floyd (own ∷ left ∷ []) (b0 ∷ u3 ∷ u2 ∷ u1 ∷ b4 ∷ []) far ≡ (pos 7 *ℤ own) +ℤ ((pos 3 *ℤ u1) +ℤ ((pos 5 *ℤ u2) +ℤ u3))
 floyd_sum own left b0 u3 u2 u1 b4 far = omega (arith, ints)
 
+pub floyd_shifts : (own u1 u2 u3 : ℕ) → 4 * (own + u1 + own + u2) - (own + u1) + (u2 + u3) ≡ 7 * own + 3 * u1 + 5 * u2 + u3
+floyd_shifts own u1 u2 u3 = omega arith
+
 pub floyd_is : (a own u1 u2 u3 : ℕ) (left b0 b4 : ℤ) (far : List ℤ)
     → error_held (16 * a + (7 * own + 3 * u1 + 5 * u2 + u3) / 16)
     ≡ value floyd a (error_held own ∷ left ∷ []) (b0 ∷ error_held u3 ∷ error_held u2 ∷ error_held u1 ∷ b4 ∷ []) far
