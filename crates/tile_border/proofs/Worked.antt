@@ -23,7 +23,8 @@ use Rattle.tile_border.specs.Works.{Border}
 
 -- what is handed is right, as its law says
 abbrev pub HandedLaw : Type 0
-HandedLaw = (k : Table) (plane : Plane) (e : Errors) (s : Shape) (top : List (List ℤ)) (edges : Dir → Place → List ℤ) (d : Dir) (to : Place) (xs : List ℤ)
+HandedLaw = (k : Table) (plane : Plane) (e : Errors) (s : Shape) (top : List (List ℤ))
+    (edges : Dir → Place → List ℤ) (d : Dir) (to : Place) (xs : List ℤ)
     → Solves k plane e → IsPlaneOf s plane → IsBelow top e → IsTile s to → IsHanded s top edges d to xs
     → ((from : Place) → IsTile s from → IsReceiver d from to → IsGiven e d from (edges d from)) → IsTaken e d to xs
 
@@ -34,8 +35,11 @@ given_edge k rows e p i given Right done = done.has_right
 given_edge k rows e p i given Bottom done = done.has_bottom
 given_edge k rows e p i given Corner done = done.has_corner
 
-pub record_of : HandedLaw → (k : Kernel) (rows : AmountTable) (top : List (List (List ℤ))) (errors : ℕ → Errors) (core : CoreState) (handed given : Place → Border)
-    → AreErrors k rows top errors → AreWorked k rows top core handed given → IsRecord (window_with k rows errors) core (λ p. result_of (given p))
+pub record_of : HandedLaw
+    → (k : Kernel) (rows : AmountTable) (top : List (List (List ℤ))) (errors : ℕ → Errors) (core : CoreState) (handed given : Place
+    → Border)
+    → AreErrors k rows top errors → AreWorked k rows top core handed given
+    → IsRecord (window_with k rows errors) core (λ p. result_of (given p))
 record_of law k rows top errors core handed given right worked = record {
   works = λ p tile begun sources.
       let InWindow : Shape → Type 0 = λ s. IsTile s p in

@@ -1,5 +1,6 @@
 -- Sums of errors that are held with 2040 added, and their parts.
-use Rattle.std.proofs.Common.{ℕ, ℤ, Bool, true, false, pos, negsuc, ◌≡◌, ◌+◌, ◌-◌, ◌*◌, ◌/◌, ◌%◌, ◌≤◌, ◌+ℤ◌, ◌*ℤ◌, [], ◌∷◌, arith, ap, refl, ◌∙◌, sym, leb, cond, List}
+use Rattle.std.proofs.Common.{ℕ, ℤ, Bool, true, false, pos, negsuc, ◌≡◌, ◌+◌, ◌-◌, ◌*◌, ◌/◌, ◌%◌, ◌≤◌, ◌+ℤ◌, ◌*ℤ◌, [], ◌∷◌, arith, ap, refl}
+use Rattle.std.proofs.Common.{◌∙◌, sym, leb, cond, List}
 use mir.Val.{bool_byte}
 use Rattle.std.proofs.lemmas.Int.{ints}
 use Rattle.std.proofs.lemmas.Bool.{cond_both, leb-true, leb-false}
@@ -33,7 +34,8 @@ bit_is : (b : Bool) → bool_byte b ≡ cond b 1 0
 bit_is true = refl
 bit_is false = refl
 
-stucki_part : (s8 s4 s2 s1 q w left : ℕ) → q ≡ 2 * s8 + s4 + (2 * s2 + s1) / 4 → w ≡ q / 21 → left ≡ 2 * (q - 21 * w) + (2 * s2 + s1) / 2 % 2
+stucki_part : (s8 s4 s2 s1 q w left : ℕ) → q ≡ 2 * s8 + s4 + (2 * s2 + s1) / 4 → w ≡ q / 21
+    → left ≡ 2 * (q - 21 * w) + (2 * s2 + s1) / 2 % 2
     → 2 * w + bool_byte (leb 21 left) ≡ (8 * s8 + 4 * s4 + 2 * s2 + s1) / 42
 stucki_part s8 s4 s2 s1 q w left is_q is_w is_left =
     ap (λ n. 2 * w + n) (bit_is (leb 21 left)) ∙ cond_both (leb 21 left) 1 0 (λ n. 2 * w + n ≡ (8 * s8 + 4 * s4 + 2 * s2 + s1) / 42)

@@ -1,5 +1,6 @@
 -- What the cells of a field hold, and one more.
-use Rattle.std.proofs.Common.{ℕ, ℤ, pos, ◌≡◌, ◌≢◌, ◌+◌, ◌-◌, ◌*◌, ◌<◌, ◌≤◌, ◌∙◌, Bool, true, false, ltb, leb, ap, sym, arith, inl, inr, List, [], ◌∷◌, get_or, set, length, subst, length-set, get_or-set_same, get_or-set_other, ◌&&◌}
+use Rattle.std.proofs.Common.{ℕ, ℤ, pos, ◌≡◌, ◌≢◌, ◌+◌, ◌-◌, ◌*◌, ◌<◌, ◌≤◌, ◌∙◌, Bool, true, false, ltb, leb, ap, sym, arith, inl, inr}
+use Rattle.std.proofs.Common.{List, [], ◌∷◌, get_or, set, length, subst, length-set, get_or-set_same, get_or-set_other, ◌&&◌}
 use Rattle.std.proofs.lemmas.Bool.{cases_eq, cases_lt, and_parts, and_cases, ltb-true, ltb-false, leb-true, leb-false}
 use Rattle.std.proofs.lemmas.List.{get_or_past}
 use Rattle.std.proofs.lemmas.Int.{ints}
@@ -53,7 +54,8 @@ value_here k p e c j r o at x xs same up1 up2 f row is_at small is_x is_same is_
     (cell e c j r o xs f r (3 + o) (at - 143) y (x + 2 + 3) (omega arith) (omega arith) (omega arith) (omega arith) (omega arith) (omega arith))
     (cell e c j r o xs f r (4 + o) (at - 142) y (x + 2 + 4) (omega arith) (omega arith) (omega arith) (omega arith) (omega arith) (omega arith)) in
     let v : List ℤ → List ℤ → List ℤ → ℤ = value k (p.amount y x) in
-    ap (λ s. v s up1 up2) same_is ∙ ap (λ u. v (e (y + 2) (x + 3) ∷ e (y + 2) (x + 2) ∷ []) u up2) up1_is ∙ ap (v (e (y + 2) (x + 3) ∷ e (y + 2) (x + 2) ∷ []) (five (e (y + 1)) (x + 2))) up2_is
+    ap (λ s. v s up1 up2) same_is ∙ ap (λ u. v (e (y + 2) (x + 3) ∷ e (y + 2) (x + 2) ∷ []) u up2) up1_is
+    ∙ ap (v (e (y + 2) (x + 3) ∷ e (y + 2) (x + 2) ∷ []) (five (e (y + 1)) (x + 2))) up2_is
 
 -- One more cell that is right.
 pub filled_more : (e : Errors) (c j r o at : ℕ) (xs : List ℤ) (v : ℤ) → Filled e c j r o xs
@@ -84,7 +86,8 @@ filled_row e c j r o xs in_band end f = record {
 }
 
 -- Where there is no pixel the error is 0.
-pub no_pixel : (k : Table) (p : Plane) (e : Errors) (j r u : ℕ) → Solves k p e → is_place p j r u ≡ false → skewed e j (r + 2) (u + 6) ≡ pos 0
+pub no_pixel : (k : Table) (p : Plane) (e : Errors) (j r u : ℕ) → Solves k p e → is_place p j r u ≡ false
+    → skewed e j (r + 2) (u + 6) ≡ pos 0
 no_pixel k p e j r u s none =
     let y : ℕ = 32 * j + r in
     let row : 32 * j + (r + 2) ≡ y + 2 = omega arith in
@@ -135,7 +138,8 @@ dots_more dots o b f room old is_b i below = elim (cases_eq i o) [
 
 -- The pixel at offset o of row r, where there is one: what the rule gives is its error and its dot.
 pub pixel_right : (k : Table) (p : Plane) (e : Errors) (c j r o at x : ℕ) (xs same up1 up2 : List ℤ) (err : ℤ) (on : Bool)
-    → Solves k p e → Filled e c j r o xs → r < 32 → at ≡ 70 * (r + 2) + 6 + o → o < 64 → is_place p j r (64 * c + o) ≡ true → x ≡ 64 * c + o - 2 * r
+    → Solves k p e → Filled e c j r o xs → r < 32 → at ≡ 70 * (r + 2) + 6 + o → o < 64 → is_place p j r (64 * c + o) ≡ true
+    → x ≡ 64 * c + o - 2 * r
     → same ≡ get_or xs (at - 1) (pos 0) ∷ get_or xs (at - 2) (pos 0) ∷ []
     → up1 ≡ get_or xs (at - 74) (pos 0) ∷ get_or xs (at - 73) (pos 0) ∷ get_or xs (at - 72) (pos 0) ∷ get_or xs (at - 71) (pos 0) ∷ get_or xs (at - 70) (pos 0) ∷ []
     → up2 ≡ get_or xs (at - 146) (pos 0) ∷ get_or xs (at - 145) (pos 0) ∷ get_or xs (at - 144) (pos 0) ∷ get_or xs (at - 143) (pos 0) ∷ get_or xs (at - 142) (pos 0) ∷ []
@@ -156,7 +160,8 @@ pixel_right k p e c j r o at x xs same up1 up2 err on s f row is_at small place 
     let at_place : x + 4 ≡ 64 * c + (6 + o) + 2 - 2 * (r + 2) = omega arith in
     record {
       err = is_err ∙ ap error_of v ∙ sym (s.pixel y x high wide) ∙ ap (λ m. e m (x + 4)) at_row ∙ ap (e (32 * j + (r + 2))) at_place;
-      on = is_on ∙ ap is_dot v ∙ ap (λ n. is_dot (value_at k p e y n)) is_x ∙ ap (λ b. b && is_dot (value_at k p e y (u - 2 * r))) (sym place);
+      on = is_on ∙ ap is_dot v ∙ ap (λ n. is_dot (value_at k p e y n)) is_x
+          ∙ ap (λ b. b && is_dot (value_at k p e y (u - 2 * r))) (sym place);
     }
 
 -- Where there is no pixel, the error is 0 and there is no dot.

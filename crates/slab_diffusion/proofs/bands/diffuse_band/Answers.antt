@@ -36,7 +36,8 @@ loop-init c =
     }
 
 -- The tile in column n of the band, where the columns before it are done.
-tile_in : (rows : AmountTable) (j n end : ℕ) → n < end → end ≡ columns_of (window_of rows) → j < bands_of (window_of rows) → IsTile (window_of rows) (record { c = n; j = j })
+tile_in : (rows : AmountTable) (j n end : ℕ) → n < end → end ≡ columns_of (window_of rows) → j < bands_of (window_of rows)
+    → IsTile (window_of rows) (record { c = n; j = j })
 tile_in rows j n end inside is band = record { column = omega (arith, inside, is); band = band }
 
 pub take_next-place-requires : goal.take_next-place-requires
@@ -72,7 +73,8 @@ loop-preserved c =
           (tile_stays c.args.rows.now c.args.at t c.loop.out c.diffuse_tile-hand.new.out tile.bits tile.puts);
       next = λ i e are before. tile.next i e are (v.next i e are before);
       dots = λ i e are before has. dots_more k c.args.rows.now i e c.args.at t c.loop.out c.diffuse_tile-hand.new.out tile.bits are.ink
-          (v.stays.size.width ∙ c.requires.width) (v.stays.size.inks ∙ c.requires.inks) (omega (arith, v.stays.size.rows, c.requires.at)) tile.puts
+          (v.stays.size.width ∙ c.requires.width) (v.stays.size.inks
+          ∙ c.requires.inks) (omega (arith, v.stays.size.rows, c.requires.at)) tile.puts
           (tile.dots i e are (v.next i e are before)) (v.dots i e are before has);
     }
 
@@ -80,7 +82,8 @@ pub returns-clause-band : goal.returns-clause-band
 returns-clause-band c =
     let v = c.loop.invariant in
     let k = table_of c.args.kernel in
-    let columns : c.columns-end.result ≡ columns_across c.args.rows.now.width = c.columns-end.ensures ∙ ap (λ (s : Shape). columns_of s) c.shape-shape.ensures.is in
+    let columns : c.columns-end.result ≡ columns_across c.args.rows.now.width = c.columns-end.ensures
+    ∙ ap (λ (s : Shape). columns_of s) c.shape-shape.ensures.is in
     let all : columns_across c.args.rows.now.width ≤ c.loop.counter = omega arith in
     record {
       room = v.room;

@@ -48,7 +48,8 @@ loop-j-preserved c =
 pub returns-clause-slab : goal.returns-clause-slab
 returns-clause-slab c =
     let v = c.loop-j.invariant in
-    let bands : c.bands-j-end.result ≡ bands_of (window_of c.args.rows.now) = c.bands-j-end.ensures ∙ ap (λ (s : Shape). bands_of s) c.shape-shape.ensures.is in
+    let bands : c.bands-j-end.result ≡ bands_of (window_of c.args.rows.now) = c.bands-j-end.ensures
+    ∙ ap (λ (s : Shape). bands_of s) c.shape-shape.ensures.is in
     let last : c.loop-j.j ≡ bands_of (window_of c.args.rows.now) = omega arith in
     let some : 1 ≤ c.args.rows.now.rows = omega (arith, c.shape-shape.ensures.sizes.some_height, ap (λ (s : Shape). s.height) c.shape-shape.ensures.is) in
     record {

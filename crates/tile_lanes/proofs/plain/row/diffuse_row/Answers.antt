@@ -5,7 +5,8 @@ use Rattle.diffusion_kernel.specs.Tables.{table_of}
 use Rattle.diffusion_definitions.specs.Diffusion.{Plane, Errors, Solves}
 use Rattle.tile_lanes.specs.Done.{plane_of}
 use Rattle.tile_lanes.specs.Rows.{Filled, is_place, shown}
-use Rattle.tile_lanes.proofs.RowCells.{pixel_right, none_right, filled_more, filled_row, in_range_more, in_range_zero, dots_more, long_before}
+use Rattle.tile_lanes.proofs.RowCells.{pixel_right, none_right, filled_more, filled_row, in_range_more, in_range_zero, dots_more}
+use Rattle.tile_lanes.proofs.RowCells.{long_before}
 use Rattle.tile_lanes.proofs.plain.row.diffuse_row.Goals as goal
 use Rattle.tile_lanes.proofs.plain.row.diffuse_row.Goals.{then-has_pixel, else-has_pixel}
 
