@@ -263,7 +263,8 @@ worked_more s old mid new t p up tile takes gives =
             }
       ];
       wait = λ q inside high.
-          let differs : q ≡ p → ⊥ = λ e. (let refused : number old.shape q ≡ number old.shape p = ap (λ r. number old.shape r) e in omega (arith, numbers q, at, refused)) in
+          let differs : q ≡ p → ⊥ = λ e. (let refused : number old.shape q ≡ number old.shape p = ap (λ r. number old.shape r) e in
+          omega (arith, numbers q, at, refused)) in
           stays.others q (old_tile q inside) differs ∙ up.wait q (old_tile q inside) (omega (arith, numbers q));
     }
 

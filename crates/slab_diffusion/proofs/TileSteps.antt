@@ -18,7 +18,8 @@ use Rattle.slab_diffusion.specs.declared.hands.Hand.{Hand}
 use Rattle.slab_diffusion.proofs.Edges.{over_above, over_corner, zero_above}
 
 -- The edge above a tile is right.
-pub above_taken : (k : Table) (rows : AmountTable) (i : ℕ) (e : Errors) (c j : ℕ) (h : Hand) (bottoms : List (List (List ℤ))) (taken : List (List ℤ))
+pub above_taken : (k : Table) (rows : AmountTable) (i : ℕ) (e : Errors) (c j : ℕ) (h : Hand) (bottoms : List (List (List ℤ)))
+    (taken : List (List ℤ))
     → AreErrorsOf k rows i e → HasRoom rows h → IsNext rows e i c j h → TakesAbove c h.bottoms bottoms h.bottom taken
     → IsAbove e (record { c = c; j = j }) (errors_of taken i)
 above_taken k rows i e c j h bottoms taken are room next takes = elim (cases_lt (c + 1) (columns_across rows.width)) [
@@ -32,7 +33,8 @@ above_taken k rows i e c j h bottoms taken are room next takes = elim (cases_lt 
 ]
 
 -- the edges of the tile after it
-pub next_tile : (k : Table) (rows : AmountTable) (i : ℕ) (e : Errors) (p : Place) (h h' : Hand) (bottoms : List (List (List ℤ))) (taken bottom : List (List ℤ)) (dots : List ℕ)
+pub next_tile : (k : Table) (rows : AmountTable) (i : ℕ) (e : Errors) (p : Place) (h h' : Hand) (bottoms : List (List (List ℤ)))
+    (taken bottom : List (List ℤ)) (dots : List ℕ)
     → AreErrorsOf k rows i e → HasRoom rows h → p.c < columns_across rows.width → IsNext rows e i p.c p.j h
     → TakesAbove p.c h.bottoms bottoms h.bottom taken → CutsEnds taken h.spare h'.corner → h'.bottoms ≡ set bottoms p.c bottom
     → IsDone k (plane_of rows i) e p (errors_of h'.right i) (errors_of bottom i) (errors_of h'.spare i) dots
@@ -51,7 +53,8 @@ next_tile k rows i e p h h' bottoms taken bottom dots are room column next takes
       corner = λ inside.
           let is : taken ≡ get_or h.bottoms (c + 1) [] = takes.inside (omega (arith, room.bottoms.columns)) in
           let Q : List (List ℤ) → Type 0 = λ edge. IsOver e j (c + 1) (errors_of edge i) in
-          over_corner e j (c + 1) _ _ (subst Q (sym is) (next.over (c + 1) (omega arith) inside)) (cuts.ends i (omega (arith, room.spare, are.ink)));
+          over_corner e j (c + 1) _ _ (subst Q (sym is) (next.over (c + 1) (omega arith) inside))
+          (cuts.ends i (omega (arith, room.spare, are.ink)));
       over = λ n after inside.
           let Q : List (List ℤ) → Type 0 = λ edge. IsOver e j n (errors_of edge i) in
           subst Q (sym (here n (omega arith) (omega arith) inside)) (next.over n (omega arith) inside);
@@ -117,10 +120,17 @@ dots_more k rows i e first p old new bits ink wide inks tall puts has before = r
                   slab_row = y;
                   down = refl;
                   pixel = record { across = omega (arith, wide); down = low };
-                  place = record { in_band = omega (arith, band.0); in_tile = omega (arith, band.1); down = omega arith; across = omega arith };
+                  place = record {
+                    in_band = omega (arith, band.0);
+                    in_tile = omega (arith, band.1);
+                    down = omega arith;
+                    across =
+                        omega arith;
+                  };
                 } in
                 puts.pixels i row offset (first + y) x (omega (arith, inks)) pixel
-                ∙ has.pixel row offset x y (record { in_band = omega (arith, band.0); in_tile = omega (arith, band.1); down = omega arith; across = omega arith })
+                ∙ has.pixel row offset x y (record
+                { in_band = omega (arith, band.0); in_tile = omega (arith, band.1); down = omega arith; across = omega arith })
           ]
         ]
       ];

@@ -32,12 +32,14 @@ ready_same p e s s1 b b1 q q1 side band corner ready =
 -- what is done stays
 stays : (k : Kernel) (rows : AmountTable) (p : Place) (i : ℕ) (old mid new : Border) → SameInk i mid new → Works k rows p i old mid
     → Works k rows p i old new
-stays k rows p i old mid new same works = λ e solves ready. done_same k rows p i e _ _ _ _ _ _ _ _ same.side same.band same.corner same.bits (works e solves ready)
+stays k rows p i old mid new same works = λ e solves ready.
+    done_same k rows p i e _ _ _ _ _ _ _ _ same.side same.band same.corner same.bits (works e solves ready)
 
 -- what was not begun is as it was
 begins : (k : Kernel) (rows : AmountTable) (p : Place) (i : ℕ) (old mid new : Border) → SameInk i old mid → Works k rows p i mid new
     → Works k rows p i old new
-begins k rows p i old mid new same works = λ e solves ready. works e solves (ready_same p e _ _ _ _ _ _ same.side same.band same.corner ready)
+begins k rows p i old mid new same works = λ e solves ready.
+    works e solves (ready_same p e _ _ _ _ _ _ same.side same.band same.corner ready)
 
 pub same_all : (i : ℕ) (b : Border) → SameInk i b b
 same_all i b = record { side = refl; band = refl; corner = refl; bits = refl }
@@ -110,16 +112,19 @@ pub record IsWritten (at i : ℕ) (xs ys : List (List ℤ)) (old : List ℤ) : T
   pub room : at < length xs
   pub read : old ≡ get_or xs at old
 
-pub works_ink : (k : Kernel) (rows : AmountTable) (p : Place) (i at : ℕ) (s sv b bv q qv : List (List ℤ)) (d : List (List ℕ)) (sx so bx bo qx qo : List ℤ) (dx : List ℕ)
+pub works_ink : (k : Kernel) (rows : AmountTable) (p : Place) (i at : ℕ) (s sv b bv q qv : List (List ℤ)) (d : List (List ℕ))
+    (sx so bx bo qx qo : List ℤ) (dx : List ℕ)
     → at ≡ i → i < length d → IsWritten at i s sv so → IsWritten at i b bv bo → IsWritten at i q qv qo
     → ((e : Errors) → Solves (table_of k) (plane_of rows i) e → IsReady e p so bo qo
     → IsDone (table_of k) (plane_of rows i) e p sx bx qx dx)
-    → WorksInk k rows p i (record { side = sv; band = bv; corner = qv; bits = d }) (record { side = set s at sx; band = set b at bx; corner = set q at qx; bits = set d i dx })
+    → WorksInk k rows p i (record { side = sv; band = bv; corner = qv; bits = d })
+    (record { side = set s at sx; band = set b at bx; corner = set q at qx; bits = set d i dx })
 works_ink k rows p i at s sv b bv q qv d sx so bx bo qx qo dx same room ws wb wq done = record {
   works = λ e solves ready. done_same k rows p i e sx _ bx _ qx _ dx _
       (set_here s at i sx same ws.room) (set_here b at i bx same wb.room) (set_here q at i qx same wq.room) (set_here d i i dx refl room)
       (done e solves (ready_same p e _ so _ bo _ qo
-      (sym (read_here s sv at i so ws.is same ws.room ws.read)) (sym (read_here b bv at i bo wb.is same wb.room wb.read)) (sym (read_here q qv at i qo wq.is same wq.room wq.read)) ready));
+      (sym (read_here s sv at i so ws.is same ws.room ws.read)) (sym (read_here b bv at i bo wb.is same wb.room wb.read))
+      (sym (read_here q qv at i qo wq.is same wq.room wq.read)) ready));
   others = λ j other. record {
     side = set_there s sv at i j sx ws.is same other;
     band = set_there b bv at i j bx wb.is same other;

@@ -77,6 +77,7 @@ pub taken_in_range : (at : ℕ → ℕ) (n len : ℕ) (xs : List ℕ) (out : Lis
 taken_in_range at n len xs out fits short f i =
     let P : ℤ → Type 0 = λ w. InRange w in
     elim (cases_lt i (length out)) [
-      | inl inside ↦ let below : i < n = omega (arith, f.long) in subst P (sym (f.there i below)) (held_in (get_or xs (at i) 0) (fits (at i)))
+      | inl inside ↦ let below : i < n = omega (arith, f.long) in subst P (sym (f.there i below))
+          (held_in (get_or xs (at i) 0) (fits (at i)))
       | inr past ↦ subst P (sym (get_or_past out i (pos 0) past)) none_in
     ]

@@ -44,7 +44,8 @@ stucki_part s8 s4 s2 s1 q w left is_q is_w is_left =
 
 pub jarvis_is : (a v o1 o2 b0 b1 b2 b3 b4 d0 d1 d2 d3 d4 : ℕ) → v ≡ a → o1 + b2 + (b0 + b4 + d1 + d3) ≤ 24474
     → error_held (16 * v + (2 * (o1 + b2) + (o2 + b1 + b3 + d2) + (b0 + b4 + d1 + d3) + (o2 + b1 + b3 + d2 + (d0 + d4) + (24476 - (o1 + b2 + (b0 + b4 + d1 + d3)))) / 4 - 6119) / 12)
-    ≡ value jarvis a (error_held o1 ∷ error_held o2 ∷ []) (error_held b0 ∷ error_held b1 ∷ error_held b2 ∷ error_held b3 ∷ error_held b4 ∷ [])
+    ≡ value jarvis a (error_held o1 ∷ error_held o2 ∷ [])
+    (error_held b0 ∷ error_held b1 ∷ error_held b2 ∷ error_held b3 ∷ error_held b4 ∷ [])
     (error_held d0 ∷ error_held d1 ∷ error_held d2 ∷ error_held d3 ∷ error_held d4 ∷ [])
 unfolding value
 jarvis_is a v o1 o2 b0 b1 b2 b3 b4 d0 d1 d2 d3 d4 is_v few =
@@ -65,7 +66,8 @@ pub stucki_is : (a v f o1 o2 b0 b1 b2 b3 b4 d0 d1 d2 d3 d4 q w : ℕ) → v ≡ 
     → q ≡ 2 * (o1 + b2) + (o2 + b1 + b3 + d2) + (2 * (b0 + b4 + d1 + d3) + (d0 + d4)) / 4 → w ≡ q / 21
     → f ≡ bool_byte (leb 21 (2 * (q - 21 * w) + (2 * (b0 + b4 + d1 + d3) + (d0 + d4)) / 2 % 2))
     → error_held (16 * v + 2 * w + f)
-    ≡ value stucki a (error_held o1 ∷ error_held o2 ∷ []) (error_held b0 ∷ error_held b1 ∷ error_held b2 ∷ error_held b3 ∷ error_held b4 ∷ [])
+    ≡ value stucki a (error_held o1 ∷ error_held o2 ∷ [])
+    (error_held b0 ∷ error_held b1 ∷ error_held b2 ∷ error_held b3 ∷ error_held b4 ∷ [])
     (error_held d0 ∷ error_held d1 ∷ error_held d2 ∷ error_held d3 ∷ error_held d4 ∷ [])
 unfolding value
 stucki_is a v f o1 o2 b0 b1 b2 b3 b4 d0 d1 d2 d3 d4 q w is_v is_q is_w is_f =

@@ -49,9 +49,11 @@ value_kept k amount xs old at bound near far kept =
     let cell = λ (d : ℕ) (h : 34 ≤ d) (i : d ≤ 274). let there : at - d < bound = omega arith in ap error_held (kept (at - d) there) in
     let same : same_in xs at ≡ same_in old at = two (cell 34 (omega arith) (omega arith)) (cell 68 (omega arith) (omega arith)) in
     let up1 : up1_in xs at ≡ up1_in old at =
-    five_are (cell 171 (omega arith) (omega arith)) (cell 137 (omega arith) (omega arith)) (cell 103 (omega arith) (omega arith)) (cell 69 (omega arith) (omega arith)) (cell 35 (omega arith) (omega arith)) in
+    five_are (cell 171 (omega arith) (omega arith)) (cell 137 (omega arith) (omega arith)) (cell 103 (omega arith) (omega arith))
+    (cell 69 (omega arith) (omega arith)) (cell 35 (omega arith) (omega arith)) in
     let up2 : up2_in xs at ≡ up2_in old at =
-    five_are (cell 274 (omega arith) (omega arith)) (cell 240 (omega arith) (omega arith)) (cell 206 (omega arith) (omega arith)) (cell 172 (omega arith) (omega arith)) (cell 138 (omega arith) (omega arith)) in
+    five_are (cell 274 (omega arith) (omega arith)) (cell 240 (omega arith) (omega arith)) (cell 206 (omega arith) (omega arith))
+    (cell 172 (omega arith) (omega arith)) (cell 138 (omega arith) (omega arith)) in
     ap (λ s. value k amount s (up1_in xs at) (up2_in xs at)) same ∙ ap (λ u. value k amount (same_in old at) u (up2_in xs at)) up1
     ∙ ap (value k amount (same_in old at) (up1_in old at)) up2
 
@@ -65,7 +67,8 @@ pub step_more : (k : Table) (amounts : List ℕ) (step first n at v d f : ℕ) (
 step_more k amounts step first n at v d f on z old old_dots xs dots is_at small late room more is_z is_v is_left is_d is_f is_on s =
     let q : ℕ = first + n in
     let here : z ≡ value_in_row k amounts step old q =
-    is_z ∙ value_kept k (get_or amounts (32 * (step - 8) + q) 0) xs old at (34 * step + 2) (omega arith) (omega arith) (λ m h. s.before m (omega arith))
+    is_z ∙ value_kept k (get_or amounts (32 * (step - 8) + q) 0) xs old at (34 * step + 2) (omega arith) (omega arith)
+    (λ m h. s.before m (omega arith))
     ∙ ap (value_in k (get_or amounts (32 * (step - 8) + q) 0) old) is_at in
     let bit : f ≡ bit_of (is_dot (value_in_row k amounts step old q)) = is_f ∙ bit_is on ∙ ap bit_of (is_on ∙ ap is_dot here) in
     let rest : get_or dots q 0 ≡ get_or old_dots q 0 = s.dots_after q (omega arith) in
@@ -127,7 +130,8 @@ both_stepped k amounts step f0 d0 f1 d1 f2 d2 late a b = record {
 }
   where
     same : (r : ℕ) → r < 32 → value_in_row k amounts step f1 r ≡ value_in_row k amounts step f0 r
-    same r small = value_kept k (get_or amounts (32 * (step - 8) + r) 0) f1 f0 (34 * step + 2 + r) (34 * step + 2) (omega arith) (omega arith) (λ m h. a.before m (omega arith))
+    same r small = value_kept k (get_or amounts (32 * (step - 8) + r) 0) f1 f0 (34 * step + 2 + r) (34 * step + 2) (omega arith)
+        (omega arith) (λ m h. a.before m (omega arith))
 
 -- ---- pixels that do not exist
 

@@ -128,10 +128,12 @@ dots_done k p e place bits f = record {
       let from : 2 * r ≤ u = omega (arith, at.across) in
       let is_x : u - 2 * r ≡ x = omega (arith, at.across) in
       row_bit bits (64 * r + o) (shown k p e place.j r u) (f.at r o at.in_band at.in_tile)
-      ∙ ap (λ b. (b && inside p (32 * place.j + r) (u - 2 * r)) && is_dot (value_at k p e (32 * place.j + r) (u - 2 * r))) (le-leb (2 * r) u from)
+      ∙ ap (λ b. (b && inside p (32 * place.j + r) (u - 2 * r)) && is_dot (value_at k p e (32 * place.j + r) (u - 2 * r)))
+      (le-leb (2 * r) u from)
       ∙ ap (λ n. on k p e (32 * place.j + r) n) is_x ∙ ap (λ n. on k p e n x) (sym at.down);
   left = λ r o row small few.
       let u : ℕ = 64 * place.c + o in
       row_bit bits (64 * r + o) (shown k p e place.j r u) (f.at r o row small)
-      ∙ ap (λ b. (b && inside p (32 * place.j + r) (u - 2 * r)) && is_dot (value_at k p e (32 * place.j + r) (u - 2 * r))) (lt-leb (2 * r) u few);
+      ∙ ap (λ b. (b && inside p (32 * place.j + r) (u - 2 * r)) && is_dot (value_at k p e (32 * place.j + r) (u - 2 * r)))
+      (lt-leb (2 * r) u few);
 }

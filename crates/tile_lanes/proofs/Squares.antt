@@ -7,7 +7,8 @@ use Rattle.tile_lanes.specs.Square.{IsSquare, lane}
 
 -- the lanes of two vectors in turn
 pub turns : (f : ℕ → ℕ) (m : ℕ) → m < 16
-    → get_or (f 0 ∷ f 16 ∷ f 1 ∷ f 17 ∷ f 2 ∷ f 18 ∷ f 3 ∷ f 19 ∷ f 4 ∷ f 20 ∷ f 5 ∷ f 21 ∷ f 6 ∷ f 22 ∷ f 7 ∷ f 23 ∷ []) m 0 ≡ f (m / 2 + 16 * (m % 2))
+    → get_or (f 0 ∷ f 16 ∷ f 1 ∷ f 17 ∷ f 2 ∷ f 18 ∷ f 3 ∷ f 19 ∷ f 4 ∷ f 20 ∷ f 5 ∷ f 21 ∷ f 6 ∷ f 22 ∷ f 7 ∷ f 23 ∷ []) m 0 ≡ f
+    (m / 2 + 16 * (m % 2))
 turns f zero h = ap f (omega arith)
 turns f (suc zero) h = ap f (omega arith)
 turns f (suc (suc zero)) h = ap f (omega arith)
@@ -50,7 +51,8 @@ riffle_more x y low high q small sx sy is_low is_high done i m below few = elim 
       let half : i % 2 ≡ 1 = omega arith in
       ap (λ v. get_or v m 0) (ap (λ k. get_or (set one (2 * q + 1) high) k []) second
       ∙ get_or-set_same one (2 * q + 1) high [] (omega (arith, long1)))
-      ∙ is_high m few ∙ part (8 + m / 2) (omega arith) (let same : 8 + (m / 2 + 16 * (m % 2)) ≡ 8 + m / 2 + 16 * (m % 2) = omega arith in same)
+      ∙ is_high m few ∙ part (8 + m / 2) (omega arith)
+      (let same : 8 + (m / 2 + 16 * (m % 2)) ≡ 8 + m / 2 + 16 * (m % 2) = omega arith in same)
       ∙ ap (λ k. lane x (k + 8 * (m % 2)) (8 + m / 2)) (sym row) ∙ ap (λ k. lane x (i / 2 + 8 * (m % 2)) (8 * k + m / 2)) (sym half)
   | inr not ↦ ap (λ v. get_or v m 0) (get_or-set_other one (2 * q + 1) i high [] not) ∙ elim (cases_eq i (2 * q)) [
     | inl first ↦

@@ -31,7 +31,8 @@ loop-init c =
         bits = room.bits;
       };
       stays = stays_same c.args.rows.now c.args.at c.args.out.now;
-      next = λ i e are before. band_begins (table_of c.args.kernel) c.args.rows.now i e c.args.j c.args.hand _ are room before c.clear_right.ensures (rw c.at.ensures at first) refl;
+      next = λ i e are before. band_begins (table_of c.args.kernel) c.args.rows.now i e c.args.j c.args.hand _ are room before
+          c.clear_right.ensures (rw c.at.ensures at first) refl;
       dots = λ i e are before has. has;
     }
 
@@ -44,8 +45,11 @@ pub take_next-place-requires : goal.take_next-place-requires
 take_next-place-requires c =
     let s : Shape = window_of c.args.rows.now in
     let t : Place = record { c = c.loop.counter; j = c.args.j } in
-    let columns : c.columns-end.result ≡ columns_of s = c.columns-end.ensures ∙ ap (λ (r : Shape). columns_of r) c.shape-shape.ensures.is in
-    (t, next_ready s c.loop.core t c.loop.invariant.core (tile_in c.args.rows.now c.args.j c.loop.counter c.columns-end.result c.loop-test.true columns c.requires.band))
+    let columns : c.columns-end.result ≡ columns_of s = c.columns-end.ensures ∙ ap (λ (r : Shape). columns_of r) c.shape-shape.ensures.is in (
+      t,
+      next_ready s c.loop.core t c.loop.invariant.core
+          (tile_in c.args.rows.now c.args.j c.loop.counter c.columns-end.result c.loop-test.true columns c.requires.band),
+    )
 
 pub diffuse_tile-hand-requires-clause-tile : goal.diffuse_tile-hand-requires-clause-tile
 diffuse_tile-hand-requires-clause-tile c =
@@ -62,12 +66,14 @@ loop-preserved c =
     let columns : c.columns-end.result ≡ columns_of s = c.columns-end.ensures ∙ ap (λ (r : Shape). columns_of r) c.shape-shape.ensures.is in
     let inside = tile_in c.args.rows.now c.args.j c.loop.counter c.columns-end.result c.loop-test.true columns c.requires.band in
     let is : p ≡ t = next_is s c.loop.core t p v.core inside c.take_next-place.ensures.first in
-    let P : Place → Type 0 = λ q. WorksTile k c.args.rows.now q c.args.at c.loop.hand c.diffuse_tile-hand.result c.loop.out c.diffuse_tile-hand.new.out in
+    let P : Place → Type 0 = λ q. WorksTile k c.args.rows.now q c.args.at c.loop.hand c.diffuse_tile-hand.result c.loop.out
+    c.diffuse_tile-hand.new.out in
     let tile = subst P is c.diffuse_tile-hand.ensures in
     let place : c.args.j * columns_of s + c.loop.counter + 1 ≡ c.args.j * columns_of s + (c.loop.counter + 1) = omega arith in
     let W : ℕ → Type 0 = λ n. IsWorkedTo s n c.give_all.new.core in
     record {
-      core = subst W place (worked_more s c.loop.core c.take_next-place.new.core c.give_all.new.core t p v.core inside c.take_next-place.ensures c.give_all.ensures);
+      core = subst W place (worked_more s c.loop.core c.take_next-place.new.core c.give_all.new.core t p v.core inside
+          c.take_next-place.ensures c.give_all.ensures);
       room = tile.room;
       stays = stays_more c.args.rows.now c.args.at c.args.out.now c.loop.out c.diffuse_tile-hand.new.out v.stays
           (tile_stays c.args.rows.now c.args.at t c.loop.out c.diffuse_tile-hand.new.out tile.bits tile.puts);
@@ -89,7 +95,8 @@ returns-clause-band c =
       room = v.room;
       stays = v.stays;
       behind = λ i e are before. band_ends c.args.rows.now i e c.loop.counter c.args.j c.loop.hand all (v.next i e are before);
-      dots = λ i e are before has. band_dots k c.args.rows.now i e c.args.at c.loop.counter c.args.j c.loop.out all (v.dots i e are before has);
+      dots = λ i e are before has. band_dots k c.args.rows.now i e c.args.at c.loop.counter c.args.j c.loop.out all
+          (v.dots i e are before has);
     }
 
 pub returns-clause-core : goal.returns-clause-core
@@ -106,12 +113,16 @@ pub give_all-requires-clause-taken : goal.give_all-requires-clause-taken
 give_all-requires-clause-taken c =
     let s : Shape = window_of c.args.rows.now in
     let columns : c.columns-end.result ≡ columns_of s = c.columns-end.ensures ∙ ap (λ (r : Shape). columns_of r) c.shape-shape.ensures.is in
-    (taken_up s c.loop.core c.take_next-place.new.core (record { c = c.loop.counter; j = c.args.j }) c.take_next-place.result c.loop.invariant.core
-    (tile_in c.args.rows.now c.args.j c.loop.counter c.columns-end.result c.loop-test.true columns c.requires.band) c.take_next-place.ensures).taken
+    (taken_up s c.loop.core c.take_next-place.new.core (record { c = c.loop.counter; j = c.args.j }) c.take_next-place.result
+    c.loop.invariant.core
+    (tile_in c.args.rows.now c.args.j c.loop.counter c.columns-end.result c.loop-test.true columns c.requires.band)
+    c.take_next-place.ensures).taken
 
 pub give_all-requires-clause-none : goal.give_all-requires-clause-none
 give_all-requires-clause-none c =
     let s : Shape = window_of c.args.rows.now in
     let columns : c.columns-end.result ≡ columns_of s = c.columns-end.ensures ∙ ap (λ (r : Shape). columns_of r) c.shape-shape.ensures.is in
-    (taken_up s c.loop.core c.take_next-place.new.core (record { c = c.loop.counter; j = c.args.j }) c.take_next-place.result c.loop.invariant.core
-    (tile_in c.args.rows.now c.args.j c.loop.counter c.columns-end.result c.loop-test.true columns c.requires.band) c.take_next-place.ensures).none
+    (taken_up s c.loop.core c.take_next-place.new.core (record { c = c.loop.counter; j = c.args.j }) c.take_next-place.result
+    c.loop.invariant.core
+    (tile_in c.args.rows.now c.args.j c.loop.counter c.columns-end.result c.loop-test.true columns c.requires.band)
+    c.take_next-place.ensures).none

@@ -8,4 +8,5 @@ returns-in-Ok c = c.in-Ok.ensures.items_if_clones_equal (λ _ e. each_same _ _ e
     ∙ ap (λ n. replicate n (replicate 12 (pos 0))) c.from.ensures
 
 pub invariant_of-result : goal.invariant_of-result
-invariant_of-result c = zero_inks _ 12 _ (omega (arith, c.from.ensures)) (omega (arith, c.from.ensures)) (c.in-Ok.ensures.items_if_clones_equal (λ _ e. each_same _ _ e.whole))
+invariant_of-result c = zero_inks _ 12 _ (omega (arith, c.from.ensures)) (omega (arith, c.from.ensures))
+    (c.in-Ok.ensures.items_if_clones_equal (λ _ e. each_same _ _ e.whole))
