@@ -2,8 +2,8 @@
 ghost use Rattle.std.specs.Prelude.{slice_index, ◌%◌, ◌*◌, ◌+◌, ◌-◌, ◌/◌, ◌<◌, ◌^◌, ◌≡◌, ◌≢◌, ◌⊎◌, ℕ};
 ghost use Rattle.tile_lanes.specs.Rows.{bit};
 
-// Puts sixteen dots of row r, the last in the lowest bit of a word. Word 3 is the row's first, and word 6 its last; any
-// other is left out.
+// Puts a word of row r, sixteen dots with the last in the lowest bit, at offset 16 (n - 3). Where n is below 3 or above
+// 6 the row has no such offset, and nothing is put.
 #[inline(always)]
 fn put_word(bits: &mut [u8; 256], r: usize, n: usize, word: u16)
     requires row { r < 32 }
@@ -18,7 +18,8 @@ fn put_word(bits: &mut [u8; 256], r: usize, n: usize, word: u16)
     }
 }
 
-/// Puts the dots of the two rows that have sixteen more with a step.
+/// Puts the last sixteen dots of the two rows for which a step completes a word: r and r + 16, where r is step + 9
+/// modulo 16.
 #[inline(always)]
 pub(crate) fn put_words(bits: &mut [u8; 256], step: usize, dots: &[u16; 32])
     requires step { step < 103 }
