@@ -1,4 +1,4 @@
-//! A window diffused by the words of the rule, row by row over its whole width, below rows of one error.
+//! A window diffused as the rule is defined, row by row over its whole width, below rows of one error.
 use diffusion_kernel::Kernel;
 use std::alloc::Global;
 
