@@ -1,5 +1,6 @@
 -- The edges at hand, and those that tiles are handed.
-use Rattle.std.proofs.Common.{◌≡◌, ◌≢◌, ℕ, ℤ, zero, suc, ◌+◌, ◌-◌, ◌*◌, ◌/◌, ◌%◌, ◌<◌, ◌≤◌, List, [], get_or, set, length, replicate, pos, inl, inr, refl, sym, ◌∙◌, ap, arith, subst, get_or-set_other, get_or-set_same}
+use Rattle.std.proofs.Common.{◌≡◌, ◌≢◌, ℕ, ℤ, zero, suc, ◌+◌, ◌-◌, ◌*◌, ◌/◌, ◌%◌, ◌<◌, ◌≤◌, List, [], get_or, set, length, replicate, pos}
+use Rattle.std.proofs.Common.{inl, inr, refl, sym, ◌∙◌, ap, arith, subst, get_or-set_other, get_or-set_same}
 use Rattle.std.proofs.lemmas.Bool.{cases_eq}
 use Rattle.std.proofs.lemmas.Int.{ints}
 use Rattle.tile_border.proofs.Zeros.{some_zeros}
@@ -25,14 +26,17 @@ put_beside edge i j xs other = get_or-set_other edge i j xs [] other
 
 -- the edge above the tile to the right stands above a tile
 pub over_above : (e : Errors) (j c : ℕ) (xs : List ℤ) → IsOver e j (c + 1) xs → IsAbove e (record { c = c; j = j }) xs
-over_above e j c xs over = record { at = λ t o row in_row. over.at t o row in_row (omega arith) ∙ moved e _ _ _ _ (omega arith) (omega arith) }
+over_above e j c xs over = record {
+  at = λ t o row in_row. over.at t o row in_row (omega arith) ∙ moved e _ _ _ _ (omega arith) (omega arith);
+}
 
 -- the ends of the edge above a tile's own column are its corner
 pub over_corner : (e : Errors) (j c : ℕ) (xs ends : List ℤ) → IsOver e j c xs → IsCut xs ends → IsCorner e (record { c = c; j = j }) ends
 over_corner e j c xs ends over cut = record {
   at = λ t i row in_row.
       let place : 64 * t + 58 + i ≡ 64 * t + (58 + i) = omega arith in
-      cut.at t i row in_row ∙ ap (λ n. get_or xs n (pos 0)) place ∙ over.at t (58 + i) row (omega arith) (omega arith) ∙ moved e _ _ _ _ (omega arith) (omega arith);
+      cut.at t i row in_row ∙ ap (λ n. get_or xs n (pos 0)) place ∙ over.at t (58 + i) row (omega arith) (omega arith)
+      ∙ moved e _ _ _ _ (omega arith) (omega arith);
 }
 
 -- the bottom edge of a tile stands above the next band
@@ -55,10 +59,12 @@ below_over e edges c below = record {
 -- ---- no edge
 
 -- right of the last column the errors above a tile are 0
-pub zero_above : (k : Table) (rows : AmountTable) (i : ℕ) (e : Errors) (j c : ℕ) (xs : List ℤ) → AreErrorsOf k rows i e → columns_across rows.width ≤ c + 1
+pub zero_above : (k : Table) (rows : AmountTable) (i : ℕ) (e : Errors) (j c : ℕ) (xs : List ℤ) → AreErrorsOf k rows i e
+    → columns_across rows.width ≤ c + 1
     → ((n : ℕ) → get_or xs n (pos 0) ≡ pos 0) → IsAbove e (record { c = c; j = j }) xs
 zero_above k rows i e zero c xs are last zeros = record {
-  at = λ t o row in_row. zeros (64 * t + o) ∙ sym (are.beside t (64 * c + 8 + o - 2 * t) row (omega arith)) ∙ moved e _ _ _ _ (omega arith) (omega arith);
+  at = λ t o row in_row. zeros (64 * t + o) ∙ sym (are.beside t (64 * c + 8 + o - 2 * t) row (omega arith))
+      ∙ moved e _ _ _ _ (omega arith) (omega arith);
 }
 zero_above k rows i e (suc j) c xs are last zeros = record {
   at = λ t o row in_row.
@@ -68,7 +74,8 @@ zero_above k rows i e (suc j) c xs are last zeros = record {
 }
 
 -- left of the first column too
-pub zero_left : (k : Table) (p : Plane) (e : Errors) (j : ℕ) (xs : List ℤ) → Solves k p e → ((n : ℕ) → get_or xs n (pos 0) ≡ pos 0) → IsLeft e (record { c = 0; j = j }) xs
+pub zero_left : (k : Table) (p : Plane) (e : Errors) (j : ℕ) (xs : List ℤ) → Solves k p e → ((n : ℕ) → get_or xs n (pos 0) ≡ pos 0)
+    → IsLeft e (record { c = 0; j = j }) xs
 zero_left k p e j xs solves zeros = record {
   at = λ t i row in_row.
       let n : ℕ = 64 * 0 + i + 2 - 2 * (2 + t) in
@@ -83,7 +90,8 @@ zero_fits = record { low = omega (arith, ints); high = omega (arith, ints) }
 pub zeros_fit : (len : ℕ) → EachInRange (replicate len (pos 0))
 zeros_fit len n = let Q : ℤ → Type 0 = λ e. InRange e in subst Q (sym (some_zeros len n)) zero_fits
 
-pub cleared_more : (edge : List (List ℤ)) (len ink i n : ℕ) → ink < length edge → ((j m : ℕ) → j < ink → get_or (errors_of edge j) m (pos 0) ≡ pos 0)
+pub cleared_more : (edge : List (List ℤ)) (len ink i n : ℕ) → ink < length edge
+    → ((j m : ℕ) → j < ink → get_or (errors_of edge j) m (pos 0) ≡ pos 0)
     → i < ink + 1 → get_or (errors_of (set edge ink (replicate len (pos 0))) i) n (pos 0) ≡ pos 0
 cleared_more edge len ink i n inside before below = elim (cases_eq i ink) [
   | inl here ↦

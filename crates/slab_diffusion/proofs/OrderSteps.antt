@@ -30,7 +30,8 @@ take_fits core p ready NotYours refused = refused
 take_fits core p ready Sent refused = refused
 take_fits core p ready Unsent refused = refused
 
-pub send_fits : (core : CoreState) (p : Place) (d : Dir) (to : Place) → Gives core.shape p d to → IsTakenBy core p 0 → sent core p d ≡ false → IsAccepted core (Send p d 0)
+pub send_fits : (core : CoreState) (p : Place) (d : Dir) (to : Place) → Gives core.shape p d to → IsTakenBy core p 0 → sent core p d ≡ false
+    → IsAccepted core (Send p d 0)
 send_fits core p d to gives taken unsent NoSuchTile refused = refused (gives.source, (to, gives))
 send_fits core p d to gives taken unsent Taken refused = refused
 send_fits core p d to gives taken unsent NotReady refused = refused
@@ -38,7 +39,8 @@ send_fits core p d to gives taken unsent NotYours refused = refused taken
 send_fits core p d to gives taken unsent Sent was = false_true (sym unsent ∙ was)
 send_fits core p d to gives taken unsent Unsent refused = refused
 
-pub post_fits : (core : CoreState) (p : Place) → IsTile core.shape p → IsTakenBy core p 0 → ((d : Dir) (to : Place) → Gives core.shape p d to → sent core p d ≡ true) → IsAccepted core (Post p 0)
+pub post_fits : (core : CoreState) (p : Place) → IsTile core.shape p → IsTakenBy core p 0
+    → ((d : Dir) (to : Place) → Gives core.shape p d to → sent core p d ≡ true) → IsAccepted core (Post p 0)
 post_fits core p tile taken gave NoSuchTile refused = refused tile
 post_fits core p tile taken gave Taken refused = refused
 post_fits core p tile taken gave NotReady refused = refused
@@ -62,7 +64,8 @@ pub stays_more : (old mid new : CoreState) (p : Place) → StaysBut old mid p �
 stays_more old mid new p a b = record {
   shape = b.shape ∙ a.shape;
   whole = b.whole;
-  others = λ q tile differs. let Q : Shape → Type 0 = λ s. IsTile s q in b.others q (subst Q (sym a.shape) tile) differs ∙ a.others q tile differs;
+  others = λ q tile differs. let Q : Shape → Type 0 = λ s. IsTile s q in
+      b.others q (subst Q (sym a.shape) tile) differs ∙ a.others q tile differs;
 }
 
 -- an edge is sent
@@ -87,7 +90,8 @@ status_with t Right = refl
 status_with t Bottom = refl
 status_with t Corner = refl
 
-pub sends_edge : (old new : CoreState) (p : Place) (d : Dir) → new ≡ after old (Send p d 0) → IsCore old → IsTile old.shape p → IsTakenBy old p 0 → SendsEdge old new p d
+pub sends_edge : (old new : CoreState) (p : Place) (d : Dir) → new ≡ after old (Send p d 0) → IsCore old → IsTile old.shape p
+    → IsTakenBy old p 0 → SendsEdge old new p d
 sends_edge old new p d is whole tile taken =
     let t : TileState = with_sent (tile_at old p) d in
     let here : tile_at new p ≡ t = ap (λ (c : CoreState). tile_at c p) is ∙ at_same old p t whole tile in
@@ -99,7 +103,8 @@ sends_edge old new p d is whole tile taken =
       kept = λ other differs. ap (λ (s : TileState). has_sent s other) here ∙ sent_beside (tile_at old p) d other differs;
     }
 
-pub sends_none : (core : CoreState) (p : Place) (d : Dir) → IsCore core → IsTakenBy core p 0 → ((to : Place) → Gives core.shape p d to → ⊥) → SendsEdge core core p d
+pub sends_none : (core : CoreState) (p : Place) (d : Dir) → IsCore core → IsTakenBy core p 0 → ((to : Place) → Gives core.shape p d to → ⊥)
+    → SendsEdge core core p d
 sends_none core p d whole taken none = record {
   stays = record { shape = refl; whole = whole; others = λ q tile differs. refl };
   taken = taken;
@@ -114,7 +119,8 @@ sent_all a b c e p right bottom corner Right to gives =
     let Q : Shape → Type 0 = λ s. Gives s p Right to in
     let refused : Right ≡ Corner → ⊥ = λ same. cc in
     let refused' : Right ≡ Bottom → ⊥ = λ same. cc in
-    corner.kept Right refused ∙ bottom.kept Right refused' ∙ right.there to (subst Q (corner.stays.shape ∙ bottom.stays.shape ∙ right.stays.shape) gives)
+    corner.kept Right refused ∙ bottom.kept Right refused'
+    ∙ right.there to (subst Q (corner.stays.shape ∙ bottom.stays.shape ∙ right.stays.shape) gives)
 sent_all a b c e p right bottom corner Bottom to gives =
     let Q : Shape → Type 0 = λ s. Gives s p Bottom to in
     let refused : Bottom ≡ Corner → ⊥ = λ same. cc in
@@ -123,7 +129,8 @@ sent_all a b c e p right bottom corner Corner to gives =
     let Q : Shape → Type 0 = λ s. Gives s p Corner to in
     corner.there to (subst Q corner.stays.shape gives)
 
-same_flags : (t : TileState) (d : Dir) → has_sent (record { status = status.Posted 0; right = t.right; bottom = t.bottom; corner = t.corner }) d ≡ has_sent t d
+same_flags : (t : TileState) (d : Dir)
+    → has_sent (record { status = status.Posted 0; right = t.right; bottom = t.bottom; corner = t.corner }) d ≡ has_sent t d
 same_flags t Right = refl
 same_flags t Bottom = refl
 same_flags t Corner = refl
@@ -159,7 +166,8 @@ next_ready s core t up tile =
       waiting = ap (λ (x : TileState). x.status) (up.wait t here (omega (arith, same)));
       whole = λ lacks.
           let l = lacks.1 in
-          false_true (sym l.unsent ∙ (up.worked l.from l.gives.source (omega (arith, same, gives_on core.shape l.from lacks.0 t l.gives))).gave lacks.0 t l.gives);
+          false_true (sym l.unsent
+          ∙ (up.worked l.from l.gives.source (omega (arith, same, gives_on core.shape l.from lacks.0 t l.gives))).gave lacks.0 t l.gives);
     }
 
 -- a tile with a smaller number stands before
@@ -198,12 +206,14 @@ pub record IsTakenUp (s : Shape) (core : CoreState) (p : Place) : Type 0 where
   pub taken : IsTakenBy core p 0
   pub none : has_sent_none core p
 
-flags_fresh : (t : TileState) (d : Dir) → t ≡ fresh → has_sent (record { status = status.Taken 0; right = t.right; bottom = t.bottom; corner = t.corner }) d ≡ false
+flags_fresh : (t : TileState) (d : Dir) → t ≡ fresh
+    → has_sent (record { status = status.Taken 0; right = t.right; bottom = t.bottom; corner = t.corner }) d ≡ false
 flags_fresh t Right is = ap (λ (x : TileState). x.right) is
 flags_fresh t Bottom is = ap (λ (x : TileState). x.bottom) is
 flags_fresh t Corner is = ap (λ (x : TileState). x.corner) is
 
-pub taken_up : (s : Shape) (old new : CoreState) (t p : Place) → IsWorkedTo s (number s t) old → IsTile s t → TakesNext old new p → IsTakenUp s new p
+pub taken_up : (s : Shape) (old new : CoreState) (t p : Place) → IsWorkedTo s (number s t) old → IsTile s t → TakesNext old new p
+    → IsTakenUp s new p
 taken_up s old new t p up tile takes =
     let is : p ≡ t = next_is s old t p up tile takes.first in
     let m : TileState = tile_at old p in
@@ -223,7 +233,8 @@ taken_up s old new t p up tile takes =
     }
 
 -- the tiles that are worked then
-pub worked_more : (s : Shape) (old mid new : CoreState) (t p : Place) → IsWorkedTo s (number s t) old → IsTile s t → TakesNext old mid p → GivesAll mid new p → IsWorkedTo s (number s t + 1) new
+pub worked_more : (s : Shape) (old mid new : CoreState) (t p : Place) → IsWorkedTo s (number s t) old → IsTile s t → TakesNext old mid p
+    → GivesAll mid new p → IsWorkedTo s (number s t + 1) new
 worked_more s old mid new t p up tile takes gives =
     let is : p ≡ t = next_is s old t p up tile takes.first in
     let m : TileState = tile_at old p in
@@ -247,11 +258,13 @@ worked_more s old mid new t p up tile takes gives =
             let kept : tile_at new q ≡ tile_at old q = stays.others q (old_tile q inside) differs in
             record {
               begun = λ waits. was.begun (ap (λ (y : TileState). y.status) (sym kept) ∙ waits);
-              gave = λ d to g. let R : Shape → Type 0 = λ r. Gives r q d to in ap (λ (y : TileState). has_sent y d) kept ∙ was.gave d to (subst R stays.shape g);
+              gave = λ d to g. let R : Shape → Type 0 = λ r. Gives r q d to in
+                  ap (λ (y : TileState). has_sent y d) kept ∙ was.gave d to (subst R stays.shape g);
             }
       ];
       wait = λ q inside high.
-          let differs : q ≡ p → ⊥ = λ e. (let refused : number old.shape q ≡ number old.shape p = ap (λ r. number old.shape r) e in omega (arith, numbers q, at, refused)) in
+          let differs : q ≡ p → ⊥ = λ e. (let refused : number old.shape q ≡ number old.shape p = ap (λ r. number old.shape r) e in
+          omega (arith, numbers q, at, refused)) in
           stays.others q (old_tile q inside) differs ∙ up.wait q (old_tile q inside) (omega (arith, numbers q));
     }
 

@@ -1,4 +1,4 @@
--- What is at hand while the tiles of a slab are diffused, band by band and in each from the left.
+-- What is kept while the tiles of a slab are diffused, band by band and in each from the left.
 use Rattle.std.specs.Prelude.{◌≡◌, ◌⊎◌, ℕ, ℤ, pos, ◌+◌, ◌-◌, ◌*◌, ◌/◌, ◌%◌, ◌<◌, ◌≤◌, List, [], length, slice_index_or}
 use Rattle.diffusion_definitions.specs.Diffusion.{Errors, Solves, Table, on}
 use Rattle.dot_planes.specs.Tables.{AmountTable, DotTable, HasSizeOf, dot}
@@ -11,7 +11,7 @@ use Rattle.tile_shape.specs.declared.tiles.Place.{Place}
 use Rattle.slab_diffusion.specs.Slabs.{IsTopOf, columns_across}
 use Rattle.slab_diffusion.specs.declared.hands.Hand.{Hand}
 
--- there is room for the edges and the dots of the inks, and a bottom edge for each column
+-- the edges and the dots have the inks of the rows, and there is a bottom edge for each column
 pub record HasRoom (rows : AmountTable) (h : Hand) : Type 0 where
   pub bottoms : IsTopOf rows.width rows.inks h.bottoms
   pub bottom : length h.bottom ≡ rows.inks
@@ -43,8 +43,8 @@ pub record IsBefore (rows : AmountTable) (e : Errors) (i j : ℕ) (h : Hand) : T
 pub record IsBehind (rows : AmountTable) (e : Errors) (i j : ℕ) (h : Hand) : Type 0 where
   pub under : (c : ℕ) → c < columns_across rows.width → IsBottom e (record { c = c; j = j }) (bottom_of h i c)
 
--- The tile is next: its left edge and its corner are at hand, and the bottom edges above the tiles to come and of those
--- that came.
+-- The tile is next: its left edge and its corner edge are right, so are the bottom edges above later tiles of the band,
+-- and those of its earlier tiles.
 pub record IsNext (rows : AmountTable) (e : Errors) (i c j : ℕ) (h : Hand) : Type 0 where
   pub left : IsLeft e (record { c = c; j = j }) (errors_of h.right i)
   pub corner : c < columns_across rows.width → IsCorner e (record { c = c; j = j }) (errors_of h.corner i)
@@ -93,8 +93,7 @@ pub record CutsEnds (edge old new : List (List ℤ)) : Type 0 where
   pub len : length new ≡ length old
   pub ends : (i : ℕ) → i < length old → IsCut (errors_of edge i) (errors_of new i)
 
--- The edge above the tile in column c is taken from its place, or is 0 right of the last column. In its place stands
--- what was there before.
+-- The edge above the tile in column c is exchanged for the spare one, or is 0 right of the last column.
 pub record TakesAbove (c : ℕ) (old new : List (List (List ℤ))) (spare taken : List (List ℤ)) : Type 0 where
   pub len : length new ≡ length old
   pub others : (n : ℕ) → n < length old → (n ≡ c + 1 → ⊥) → slice_index_or new n [] ≡ slice_index_or old n []

@@ -7,11 +7,11 @@ use Rattle.tile_edges.specs.Tops.{AreBottoms, IsBelow}
 use Rattle.tile_lanes.specs.Done.{plane_of, window_of}
 use Rattle.tile_shape.specs.Geometry.{bands_of, columns_of}
 
--- how many columns of tiles stand side by side
+-- how many columns of tiles rows of this width have
 abbrev pub columns_across : ℕ → ℕ
 columns_across width = columns_of (record { width = width; height = 1 })
 
--- a top of rows so wide has an edge for each column of tiles, and each edge has so many inks
+-- a top of rows of this width has an edge for each column of tiles, and each edge has this number of inks
 pub record IsTopOf (width inks : ℕ) (top : List (List (List ℤ))) : Type 0 where
   pub columns : length top ≡ columns_across width
   pub edge_inks : (c : ℕ) → c < columns_across width → length (slice_index_or top c []) ≡ inks

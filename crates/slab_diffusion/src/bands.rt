@@ -14,8 +14,8 @@ use dot_planes::{InkRows, Planes, TileDots};
 use tile_border::{Task, work};
 use tile_shape::Place;
 
-/// Diffuses the tiles of band j, which are the next ready ones, below the edges at hand, and puts their dots into the
-/// planes, where the slab begins at row `at`. Their bottom edges are at hand then.
+/// Diffuses the tiles of band j, which are the next ready ones, below the bottom edges of `hand`, and puts their dots
+/// into the planes, where the slab begins at row `at`. The result has their own bottom edges.
 pub(crate) fn diffuse_band(
     core: &mut Core,
     hand: Hand,

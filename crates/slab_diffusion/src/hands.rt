@@ -1,4 +1,4 @@
-//! The edges at hand.
+//! The edges that wait for the tiles that need them.
 ghost use Rattle.slab_diffusion.specs.Hands.{CutsEnds, HasRoom, IsCleared, TakesAbove};
 ghost use Rattle.slab_diffusion.specs.Slabs.{IsTopOf};
 ghost use Rattle.dot_planes.specs.Tables.{AmountTable};
@@ -9,25 +9,25 @@ use std::alloc::Global;
 use tile_border::{BottomEdge, CornerEdge, RightEdge, TopEdges};
 use weave_base::Memory;
 
-/// What is at hand while the tiles of a slab are diffused, band by band and in each from the left: the edges that
-/// tiles gave and that no tile took, and room for those of one tile more. A corner edge is the end of a bottom edge.
+/// What is kept while the tiles of a slab are diffused, band by band and in each from the left: the edges that tiles
+/// gave and no tile has taken, and allocations for those of one more tile. A corner edge is the end of a bottom edge.
 #[derive(Drop)]
 pub(crate) struct Hand {
-    /// By columns: in the columns to come those of the band above, in the others those of this band.
+    /// By columns: those of this band where its tiles are diffused, and in later columns those of the band above.
     pub(crate) bottoms: TopEdges,
-    /// Room for the edge above the next tile.
+    /// An allocation for the edge above the next tile.
     pub(crate) bottom: BottomEdge,
-    /// The edge left of it.
+    /// The left edge of the next tile.
     pub(crate) right: RightEdge,
-    /// Its corner.
+    /// The corner edge of the next tile.
     pub(crate) corner: CornerEdge,
-    /// Room for the corner of the tile after it.
+    /// An allocation for the corner edge of the tile after it.
     pub(crate) spare: CornerEdge,
-    /// Room for its dots.
+    /// An allocation for the dots of the next tile.
     pub(crate) bits: TileBits,
 }
 
-/// The edges of a top, and room for a tile in its inks.
+/// The edges of a top, and allocations for a tile in its inks.
 pub(crate) fn hand_of(alloc: Global, top: TopEdges) -> Result<Hand, Memory>
     requires { 1 ≤ length top }
     ensures bottoms { IfOk result (λ hand. hand.bottoms ≡ top) }
@@ -49,7 +49,7 @@ pub(crate) fn hand_of(alloc: Global, top: TopEdges) -> Result<Hand, Memory>
     })
 }
 
-/// Makes every error of an edge 0.
+/// Sets every error of an edge to 0.
 pub(crate) fn clear_right(edge: &mut RightEdge)
     ensures { IsCleared edge.old edge.new }
 {
@@ -59,7 +59,7 @@ pub(crate) fn clear_right(edge: &mut RightEdge)
     }
 }
 
-/// Makes every error of an edge 0.
+/// Sets every error of an edge to 0.
 pub(crate) fn clear_bottom(edge: &mut BottomEdge)
     ensures { IsCleared edge.old edge.new }
 {
@@ -79,8 +79,8 @@ pub(crate) fn cut_ends(edge: &BottomEdge, corner: &mut CornerEdge)
     }
 }
 
-/// Takes the edge above the tile in column c of a band, and leaves in its place what it is taken into. Right of the
-/// last column there is none, and it becomes 0.
+/// Exchanges `edge` for the edge above the tile in column c of a band, which is in column c + 1. Above the last tile
+/// there is none, and `edge` becomes 0.
 pub(crate) fn take_above(bottoms: &mut TopEdges, columns: u32, c: u32, edge: &mut BottomEdge)
     requires columns { length bottoms.old ≡ columns }
     requires c { c < columns }

@@ -1,4 +1,4 @@
-//! The order of the tiles: one seat, which takes the first that is ready, and one event at a time.
+//! The order of the tiles: one seat takes the first ready tile, one event after another.
 ghost use Rattle.board_core.specs.States.{IsCore, IsTakenBy, sent};
 ghost use Rattle.board_core.specs.Steps.{IsAccepted, after};
 ghost use Rattle.slab_diffusion.specs.Order.{GivesAll, IsReadied, SendsEdge, TakesNext, has_sent_none};
@@ -23,7 +23,7 @@ pub(crate) fn take_next(core: &mut Core) -> Place
     place
 }
 
-/// Sends each edge of the tile in hand that has a receiver, and posts the tile.
+/// Sends each edge of the tile that has a receiver, and posts the tile.
 pub(crate) fn give_all(core: &mut Core, shape: Shape, place: Place)
     requires shape { shape ≡ core.old.shape }
     requires tile { IsTile core.old.shape place }
@@ -60,7 +60,7 @@ fn send(core: &mut Core, shape: Shape, place: Place, dir: Dir)
     );
 }
 
-// An event that may come.
+// Does an event that the core accepts.
 fn accept(core: &mut Core, e: Event)
     requires { IsAccepted core.old e }
     ensures { core.new ≡ after core.old e }

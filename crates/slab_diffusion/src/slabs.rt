@@ -13,9 +13,9 @@ use tile_border::TopEdges;
 use weave_base::Memory;
 
 /// Diffuses a slab below its top, tile by tile on the caller's thread, and puts its dots into rows `at` and on of the
-/// planes. The answer is the top of the rows below the slab, where its rows are whole bands of 32.
+/// planes. The answer is the top of the rows below the slab, where the slab's rows are whole bands of 32.
 ///
-/// After `Memory` the planes are unchanged.
+/// On `Memory` the planes are unchanged.
 pub fn diffuse_slab(
     alloc: Global,
     rows: &InkRows,

@@ -1,6 +1,7 @@
-//! Slabs of a window against the rule over the whole of it.
+//! Slabs of a window compared with the rule over the whole window.
+ghost use Rattle.diffusion_definitions.specs.Diffusion.{InRange};
 ghost use Rattle.slab_diffusion.specs.Slabs.{IsTopOf};
-ghost use Rattle.std.specs.Prelude.{IfSome, ◌≡◌};
+ghost use Rattle.std.specs.Prelude.{IfSome, length, ◌≡◌};
 
 mod definition;
 
@@ -10,11 +11,12 @@ use diffusion_kernel::Kernel;
 use dot_planes::{InkRows, Planes};
 use row_diffusion::ErrorRows;
 use std::alloc::Global;
-use tile_border::TopEdges;
+use tile_border::{BottomEdge, TopEdges};
 
-// Rows of the planes above the window, and below it.
+// Rows of the planes above the window.
 const ABOVE: u32 = 3;
 
+// Rows of the planes below the window.
 const BELOW: u32 = 2;
 
 // Whether a dot stands at a place before the window is diffused.
@@ -52,7 +54,7 @@ fn spot_row(planes: &mut Planes, i: u8, y: u32)
     }
 }
 
-// The amounts of rows of the window from row `first` on, which jump about where they are not all one.
+// The amounts of rows of the window from row `first` on: all the same, or by a hash of their places.
 fn amounts(
     alloc: Global,
     all: Option<u8>,
@@ -71,8 +73,8 @@ fn amounts(
         for y in 0..height {
             for x in 0..width {
                 if i < rows.inks() && y < rows.rows() && x < rows.width() {
-                    let jumping = amount_at(i, x, first.wrapping_add(y));
-                    rows.set(i, x, y, all.unwrap_or(jumping));
+                    let mixed = amount_at(i, x, first.wrapping_add(y));
+                    rows.set(i, x, y, all.unwrap_or(mixed));
                 }
             }
         }
@@ -118,7 +120,7 @@ fn next_slab(
     }
 }
 
-// How many dots of an ink are not what they should be.
+// How many dots of an ink are not the rule's, or are changed outside the window.
 fn wrong_dots(planes: &Planes, known: &Definition, i: u8, height: u32) -> u32 {
     let mut wrong = 0u32;
     for y in 0..planes.rows() {
@@ -140,7 +142,7 @@ fn wrong_dots(planes: &Planes, known: &Definition, i: u8, height: u32) -> u32 {
     wrong
 }
 
-// How many dots of a window of three slabs, of 64, 32 and 39 rows, are not what they should be.
+// How many dots are wrong in a window of three slabs, of 64, 32 and 39 rows.
 fn wrong_in_slabs(alloc: Global, kernel: Kernel, width: u32, inks: u8) -> Option<u32> {
     let mut planes = spotted(alloc, width, 135, inks)?;
     let top = no_errors(alloc, width, inks)?;
@@ -149,7 +151,7 @@ fn wrong_in_slabs(alloc: Global, kernel: Kernel, width: u32, inks: u8) -> Option
     next_slab(alloc, kernel, top, 96, 39, &mut planes)?;
     let mut wrong = 0u32;
     for i in 0..inks {
-        let known = Definition::make(alloc, kernel, i, width, 135)?;
+        let known = Definition::make(alloc, kernel, i, 0, width, 135)?;
         wrong = wrong.wrapping_add(wrong_dots(&planes, &known, i, 135));
     }
     Some(wrong)
@@ -165,7 +167,7 @@ fn slabs_have_the_dots_of_the_whole_window(rt: HostRuntime) {
     }
 }
 
-// Whether a row has the dots that its amounts give below the errors of the rows above, which it adds to.
+// Whether a row has the dots of its amounts by diffusion row by row, below `errors`, which this row moves on.
 fn is_next_row(
     kernel: Kernel,
     rows: &InkRows,
@@ -187,7 +189,7 @@ fn is_next_row(
     planes.row(i, y) == bytes
 }
 
-// How many rows of an ink are not those of the diffusion row by row.
+// How many rows of an ink differ from diffusion row by row.
 fn wrong_rows(
     alloc: Global,
     kernel: Kernel,
@@ -255,6 +257,96 @@ fn slabs_have_the_dots_of_rows_one_after_another(rt: HostRuntime) {
                     Some(0),
                     "{kernel:?} at {width} by {height}, {all:?}"
                 );
+            }
+        }
+    }
+}
+
+// A bottom edge of one error in every ink.
+fn edge_of(alloc: Global, inks: u8, error: i16) -> Option<BottomEdge>
+    requires { InRange error }
+    ensures { IfSome result (λ edge. length edge ≡ inks) }
+{
+    if inks < 1 || inks > 4 {
+        return None;
+    }
+    let Ok(mut edge) = BottomEdge::zero(alloc, inks) else {
+        return None;
+    };
+    for ink in 0..inks {
+        edge.put(ink, &[error; 128]);
+    }
+    Some(edge)
+}
+
+// A top of one error everywhere.
+fn top_of(alloc: Global, width: u32, inks: u8, error: i16) -> Option<TopEdges>
+    requires { InRange error }
+    ensures { IfSome result (IsTopOf width inks) }
+{
+    let mut top = no_errors(alloc, width, inks)?;
+    if width > 200 {
+        return None;
+    }
+    for c in 0..(width + 62).div_ceil(64) {
+        top.put(c, edge_of(alloc, inks, error)?);
+    }
+    Some(top)
+}
+
+// How many errors of the bottom edges of one ink are not the rule's, below a window of this number of bands.
+fn wrong_errors(bottom: &TopEdges, known: &Definition, width: u32, bands: u32) -> u32
+    requires { IsTopOf width 1 bottom.now }
+{
+    if width > 200 {
+        return 1;
+    }
+    let mut wrong = 0u32;
+    for c in 0..(width + 62).div_ceil(64) {
+        for n in 0..128 {
+            // two rows of 64, of which the first begins 60 pixels left of the column, and the second 62
+            let (row, offset) = ((n / 64) as i64, (n % 64) as i64);
+            let x = i64::from(c).wrapping_mul(64) + offset - 60 - 2 * row;
+            let y = i64::from(bands).wrapping_mul(32) + row - 2;
+            if i32::from(bottom.at(c).ink(0)[n]) != known.error(x, y) {
+                wrong = wrong.wrapping_add(1);
+            }
+        }
+    }
+    wrong
+}
+
+// How many dots of a slab of one ink below a top of one error, and errors of its bottom edges, are wrong.
+fn wrong_below(alloc: Global, kernel: Kernel, error: i16, width: u32, height: u32) -> Option<u32>
+    requires { InRange error }
+{
+    let rows = amounts(alloc, None, width, 0, height, 1)?;
+    let mut planes = spotted(alloc, rows.width(), rows.rows(), 1)?;
+    let top = top_of(alloc, rows.width(), 1, error)?;
+    if planes.rows() < ABOVE || rows.rows() > planes.rows() - ABOVE || rows.inks() != 1 {
+        return None;
+    }
+    let Ok(bottom) = diffuse_slab(alloc, &rows, kernel, top, &mut planes, ABOVE) else {
+        return None;
+    };
+    let known = Definition::make(alloc, kernel, 0, error, width, height)?;
+    let errors = wrong_errors(&bottom, &known, rows.width(), height.div_ceil(32));
+    Some(errors.wrapping_add(wrong_dots(&planes, &known, 0, height)))
+}
+
+#[test]
+fn slabs_below_extreme_errors_have_the_dots_and_bottom_edges_of_the_rule(rt: HostRuntime) {
+    for kernel in [Kernel::Floyd, Kernel::Jarvis, Kernel::Stucki] {
+        for width in [1, 63, 64, 65, 130] {
+            for height in [1, 31, 32, 33, 64] {
+                for error in [-2040, 0, 2039] {
+                    let wrong = wrong_below(rt.alloc(), kernel, error, width, height);
+                    assert_eq!(rt;
+                        wrong,
+                        Some(0),
+                        "{kernel:?} at {width} by {height} below {error}"
+                    );
+                }
             }
         }
     }

@@ -1,5 +1,6 @@
 -- Top edges of no errors, column by column.
-use Rattle.std.proofs.Common.{◌≡◌, ℕ, ℤ, pos, ◌+◌, ◌-◌, ◌<◌, List, [], ◌∷◌, ◌++◌, get_or, length, length-append, ap, arith, inl, inr, refl, replicate, sym, ◌∙◌, subst}
+use Rattle.std.proofs.Common.{◌≡◌, ℕ, ℤ, pos, ◌+◌, ◌-◌, ◌<◌, List, [], ◌∷◌, ◌++◌, get_or, length, length-append, ap, arith, inl, inr, refl}
+use Rattle.std.proofs.Common.{replicate, sym, ◌∙◌, subst}
 use Rattle.std.proofs.lemmas.Bool.{cases_lt}
 use Rattle.std.proofs.lemmas.List.{get_or-append_right, get_or_append_left, get_or_past, length-replicate}
 use Rattle.tile_border.specs.Inks.{AreZeros}
@@ -15,7 +16,8 @@ no_columns inks top is =
     subst Q (sym is) (record { columns_are = refl; inks_are = λ c low. absurd (omega arith); zeros = λ c. no_errors })
 
 -- the last of columns
-last_column : (columns : ℕ) (top : List (List (List ℤ))) (edge : List (List ℤ)) → length top ≡ columns → get_or (top ++ edge ∷ []) columns [] ≡ edge
+last_column : (columns : ℕ) (top : List (List (List ℤ))) (edge : List (List ℤ)) → length top ≡ columns
+    → get_or (top ++ edge ∷ []) columns [] ≡ edge
 last_column columns top edge long =
     let first : columns - columns ≡ 0 = omega arith in
     get_or-append_right top (edge ∷ []) columns columns [] long (omega arith) ∙ ap (λ n. get_or (edge ∷ []) n []) first
@@ -32,7 +34,8 @@ column_more P columns c top edge long before here past = elim (cases_lt c column
   ]
 ]
 
-pub columns_more : (columns inks : ℕ) (top new : List (List (List ℤ))) (edge : List (List ℤ)) → IsZeroTop columns inks top → edge ≡ replicate inks (replicate 128 (pos 0))
+pub columns_more : (columns inks : ℕ) (top new : List (List (List ℤ))) (edge : List (List ℤ)) → IsZeroTop columns inks top
+    → edge ≡ replicate inks (replicate 128 (pos 0))
     → new ≡ top ++ edge ∷ [] → IsZeroTop (columns + 1) inks new
 columns_more columns inks top new edge t blank is =
     let long : length edge ≡ inks = ap length blank ∙ length-replicate inks (replicate 128 (pos 0)) in

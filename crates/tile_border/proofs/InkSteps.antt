@@ -1,5 +1,6 @@
 -- Ink after ink of a tile.
-use Rattle.std.proofs.Common.{◌≡◌, ◌≢◌, ℕ, ℤ, ◌+◌, ◌<◌, ◌≤◌, List, [], get_or, length, set, length-set, ap, arith, inl, inr, refl, sym, ◌∙◌, subst, get_or-set_other, get_or-set_same}
+use Rattle.std.proofs.Common.{◌≡◌, ◌≢◌, ℕ, ℤ, ◌+◌, ◌<◌, ◌≤◌, List, [], get_or, length, set, length-set, ap, arith, inl, inr, refl, sym, ◌∙◌}
+use Rattle.std.proofs.Common.{subst, get_or-set_other, get_or-set_same}
 use Rattle.std.proofs.lemmas.Bool.{cases_eq}
 use Rattle.std.proofs.lemmas.List.{get_or_read}
 use Rattle.diffusion_definitions.specs.Diffusion.{EachInRange, Errors, Solves}
@@ -11,7 +12,8 @@ use Rattle.tile_shape.specs.declared.tiles.Place.{Place}
 use Rattle.tile_border.specs.Inks.{AreInks, errors_of}
 use Rattle.tile_border.specs.Works.{Border, SameInk, Works, WorksInk}
 
-done_same : (k : Kernel) (rows : AmountTable) (p : Place) (i : ℕ) (e : Errors) (s s1 b b1 q q1 : List ℤ) (d d1 : List ℕ) → s1 ≡ s → b1 ≡ b → q1 ≡ q → d1 ≡ d
+done_same : (k : Kernel) (rows : AmountTable) (p : Place) (i : ℕ) (e : Errors) (s s1 b b1 q q1 : List ℤ) (d d1 : List ℕ) → s1 ≡ s → b1 ≡ b
+    → q1 ≡ q → d1 ≡ d
     → IsDone (table_of k) (plane_of rows i) e p s b q d → IsDone (table_of k) (plane_of rows i) e p s1 b1 q1 d1
 done_same k rows p i e s s1 b b1 q q1 d d1 side band corner bits done =
     let S : List ℤ → Type 0 = λ x. IsDone (table_of k) (plane_of rows i) e p x b q d in
@@ -28,18 +30,27 @@ ready_same p e s s1 b b1 q q1 side band corner ready =
     subst Q (sym corner) (subst B (sym band) (subst S (sym side) ready))
 
 -- what is done stays
-stays : (k : Kernel) (rows : AmountTable) (p : Place) (i : ℕ) (old mid new : Border) → SameInk i mid new → Works k rows p i old mid → Works k rows p i old new
-stays k rows p i old mid new same works = λ e solves ready. done_same k rows p i e _ _ _ _ _ _ _ _ same.side same.band same.corner same.bits (works e solves ready)
+stays : (k : Kernel) (rows : AmountTable) (p : Place) (i : ℕ) (old mid new : Border) → SameInk i mid new → Works k rows p i old mid
+    → Works k rows p i old new
+stays k rows p i old mid new same works = λ e solves ready.
+    done_same k rows p i e _ _ _ _ _ _ _ _ same.side same.band same.corner same.bits (works e solves ready)
 
 -- what was not begun is as it was
-begins : (k : Kernel) (rows : AmountTable) (p : Place) (i : ℕ) (old mid new : Border) → SameInk i old mid → Works k rows p i mid new → Works k rows p i old new
-begins k rows p i old mid new same works = λ e solves ready. works e solves (ready_same p e _ _ _ _ _ _ same.side same.band same.corner ready)
+begins : (k : Kernel) (rows : AmountTable) (p : Place) (i : ℕ) (old mid new : Border) → SameInk i old mid → Works k rows p i mid new
+    → Works k rows p i old new
+begins k rows p i old mid new same works = λ e solves ready.
+    works e solves (ready_same p e _ _ _ _ _ _ same.side same.band same.corner ready)
 
 pub same_all : (i : ℕ) (b : Border) → SameInk i b b
 same_all i b = record { side = refl; band = refl; corner = refl; bits = refl }
 
 then_same : (i : ℕ) (old mid new : Border) → SameInk i old mid → SameInk i mid new → SameInk i old new
-then_same i old mid new a b = record { side = b.side ∙ a.side; band = b.band ∙ a.band; corner = b.corner ∙ a.corner; bits = b.bits ∙ a.bits }
+then_same i old mid new a b = record {
+  side = b.side ∙ a.side;
+  band = b.band ∙ a.band;
+  corner = b.corner ∙ a.corner;
+  bits = b.bits ∙ a.bits;
+}
 
 pub done_more : (k : Kernel) (rows : AmountTable) (p : Place) (n : ℕ) (old mid new : Border) → WorksInk k rows p n mid new
     → ((i : ℕ) → i < n → Works k rows p i old mid) → ((i : ℕ) → n ≤ i → SameInk i old mid) → (i : ℕ) → i < n + 1 → Works k rows p i old new
@@ -57,7 +68,8 @@ rest_more k rows p n old mid new step rest i after = then_same i old mid new (re
 -- ---- one ink is set
 
 -- the edges with the errors of an ink set anew
-pub set_inks : (edge : List (List ℤ)) (n : ℕ) (errors : List ℤ) → AreInks edge → EachInRange errors → n < length edge → AreInks (set edge n errors)
+pub set_inks : (edge : List (List ℤ)) (n : ℕ) (errors : List ℤ) → AreInks edge → EachInRange errors → n < length edge
+    → AreInks (set edge n errors)
 set_inks edge n errors inks fits room = record {
   some_inks = omega (arith, length-set edge n errors, inks.some_inks);
   most_inks = omega (arith, length-set edge n errors, inks.most_inks);
@@ -72,7 +84,8 @@ set_inks edge n errors inks fits room = record {
 }
 
 -- the errors read of an ink
-pub read_fits : (edge : List (List ℤ)) (n : ℕ) (errors : List ℤ) → AreInks edge → n < length edge → errors ≡ get_or edge n errors → EachInRange errors
+pub read_fits : (edge : List (List ℤ)) (n : ℕ) (errors : List ℤ) → AreInks edge → n < length edge → errors ≡ get_or edge n errors
+    → EachInRange errors
 read_fits edge n errors inks room is =
     let Q : List ℤ → Type 0 = λ es. EachInRange es in
     subst Q (sym (get_or_read edge n errors room is [])) (inks.in_range n)
@@ -81,14 +94,17 @@ read_fits edge n errors inks room is =
 set_here : {A : Type 0} (xs : List (List A)) (at i : ℕ) (x : List A) → at ≡ i → at < length xs → get_or (set xs at x) i [] ≡ x
 set_here xs at i x same room = ap (λ m. get_or (set xs at x) m []) (sym same) ∙ get_or-set_same xs at x [] room
 
-set_there : {A : Type 0} (xs ys : List (List A)) (at i j : ℕ) (x : List A) → xs ≡ ys → at ≡ i → j ≢ i → get_or (set xs at x) j [] ≡ get_or ys j []
+set_there : {A : Type 0} (xs ys : List (List A)) (at i j : ℕ) (x : List A) → xs ≡ ys → at ≡ i → j ≢ i
+    → get_or (set xs at x) j [] ≡ get_or ys j []
 set_there xs ys at i j x is same other = get_or-set_other xs at j x [] (λ here. other (here ∙ same)) ∙ ap (λ zs. get_or zs j []) is
 
 set_long : {A : Type 0} (xs ys : List (List A)) (at n : ℕ) (x : List A) → xs ≡ ys → length ys ≡ n → length (set xs at x) ≡ n
 set_long xs ys at n x is long = length-set xs at x ∙ ap length is ∙ long
 
-pub read_here : (xs ys : List (List ℤ)) (at i : ℕ) (x : List ℤ) → xs ≡ ys → at ≡ i → at < length xs → x ≡ get_or xs at x → errors_of ys i ≡ x
-read_here xs ys at i x is same room read = sym (get_or_read xs at x room read [] ∙ ap (λ m. get_or xs m []) same ∙ ap (λ (zs : List (List ℤ)). get_or zs i []) is)
+pub read_here : (xs ys : List (List ℤ)) (at i : ℕ) (x : List ℤ) → xs ≡ ys → at ≡ i → at < length xs → x ≡ get_or xs at x
+    → errors_of ys i ≡ x
+read_here xs ys at i x is same room read = sym (get_or_read xs at x room read [] ∙ ap (λ m. get_or xs m []) same
+    ∙ ap (λ (zs : List (List ℤ)). get_or zs i []) is)
 
 -- The lists of one ink, as they were read and as they are written.
 pub record IsWritten (at i : ℕ) (xs ys : List (List ℤ)) (old : List ℤ) : Type 0 where
@@ -96,15 +112,19 @@ pub record IsWritten (at i : ℕ) (xs ys : List (List ℤ)) (old : List ℤ) : T
   pub room : at < length xs
   pub read : old ≡ get_or xs at old
 
-pub works_ink : (k : Kernel) (rows : AmountTable) (p : Place) (i at : ℕ) (s sv b bv q qv : List (List ℤ)) (d : List (List ℕ)) (sx so bx bo qx qo : List ℤ) (dx : List ℕ)
+pub works_ink : (k : Kernel) (rows : AmountTable) (p : Place) (i at : ℕ) (s sv b bv q qv : List (List ℤ)) (d : List (List ℕ))
+    (sx so bx bo qx qo : List ℤ) (dx : List ℕ)
     → at ≡ i → i < length d → IsWritten at i s sv so → IsWritten at i b bv bo → IsWritten at i q qv qo
-    → ((e : Errors) → Solves (table_of k) (plane_of rows i) e → IsReady e p so bo qo → IsDone (table_of k) (plane_of rows i) e p sx bx qx dx)
-    → WorksInk k rows p i (record { side = sv; band = bv; corner = qv; bits = d }) (record { side = set s at sx; band = set b at bx; corner = set q at qx; bits = set d i dx })
+    → ((e : Errors) → Solves (table_of k) (plane_of rows i) e → IsReady e p so bo qo
+    → IsDone (table_of k) (plane_of rows i) e p sx bx qx dx)
+    → WorksInk k rows p i (record { side = sv; band = bv; corner = qv; bits = d })
+    (record { side = set s at sx; band = set b at bx; corner = set q at qx; bits = set d i dx })
 works_ink k rows p i at s sv b bv q qv d sx so bx bo qx qo dx same room ws wb wq done = record {
   works = λ e solves ready. done_same k rows p i e sx _ bx _ qx _ dx _
       (set_here s at i sx same ws.room) (set_here b at i bx same wb.room) (set_here q at i qx same wq.room) (set_here d i i dx refl room)
       (done e solves (ready_same p e _ so _ bo _ qo
-      (sym (read_here s sv at i so ws.is same ws.room ws.read)) (sym (read_here b bv at i bo wb.is same wb.room wb.read)) (sym (read_here q qv at i qo wq.is same wq.room wq.read)) ready));
+      (sym (read_here s sv at i so ws.is same ws.room ws.read)) (sym (read_here b bv at i bo wb.is same wb.room wb.read))
+      (sym (read_here q qv at i qo wq.is same wq.room wq.read)) ready));
   others = λ j other. record {
     side = set_there s sv at i j sx ws.is same other;
     band = set_there b bv at i j bx wb.is same other;

@@ -23,24 +23,30 @@ use Rattle.tile_border.specs.Works.{Border}
 
 -- what is handed is right, as its law says
 abbrev pub HandedLaw : Type 0
-HandedLaw = (k : Table) (plane : Plane) (e : Errors) (s : Shape) (top : List (List ℤ)) (edges : Dir → Place → List ℤ) (d : Dir) (to : Place) (xs : List ℤ)
+HandedLaw = (k : Table) (plane : Plane) (e : Errors) (s : Shape) (top : List (List ℤ))
+    (edges : Dir → Place → List ℤ) (d : Dir) (to : Place) (xs : List ℤ)
     → Solves k plane e → IsPlaneOf s plane → IsBelow top e → IsTile s to → IsHanded s top edges d to xs
     → ((from : Place) → IsTile s from → IsReceiver d from to → IsGiven e d from (edges d from)) → IsTaken e d to xs
 
 given_edge : (k : Kernel) (rows : AmountTable) (e : Errors) (p : Place) (i : ℕ) (given : Border) (d : Dir)
-    → IsDone (table_of k) (plane_of rows i) e p (errors_of given.side i) (errors_of given.band i) (errors_of given.corner i) (slice_index_or given.bits i [])
+    → IsDone (table_of k) (plane_of rows i) e p (errors_of given.side i) (errors_of given.band i) (errors_of given.corner i)
+    (slice_index_or given.bits i [])
     → IsGiven e d p (errors_of (edge_of given d) i)
 given_edge k rows e p i given Right done = done.has_right
 given_edge k rows e p i given Bottom done = done.has_bottom
 given_edge k rows e p i given Corner done = done.has_corner
 
-pub record_of : HandedLaw → (k : Kernel) (rows : AmountTable) (top : List (List (List ℤ))) (errors : ℕ → Errors) (core : CoreState) (handed given : Place → Border)
-    → AreErrors k rows top errors → AreWorked k rows top core handed given → IsRecord (window_with k rows errors) core (λ p. result_of (given p))
+pub record_of : HandedLaw
+    → (k : Kernel) (rows : AmountTable) (top : List (List (List ℤ))) (errors : ℕ → Errors) (core : CoreState) (handed given : Place
+    → Border)
+    → AreErrors k rows top errors → AreWorked k rows top core handed given
+    → IsRecord (window_with k rows errors) core (λ p. result_of (given p))
 record_of law k rows top errors core handed given right worked = record {
   works = λ p tile begun sources.
       let InWindow : Shape → Type 0 = λ s. IsTile s p in
       let here : IsTile (window_of rows) p = subst InWindow worked.shape tile in
-      let comes = λ (d : Dir) (i : ℕ) (low : i < rows.inks). law (table_of k) (plane_of rows i) (errors i) (window_of rows) (edges_of top i) _ d p (errors_of (edge_of (handed p) d) i)
+      let comes = λ (d : Dir) (i : ℕ) (low : i < rows.inks).
+      law (table_of k) (plane_of rows i) (errors i) (window_of rows) (edges_of top i) _ d p (errors_of (edge_of (handed p) d) i)
       (right.solve i low) (record { width = refl; height = refl }) (right.below i low) here (worked.comes p tile begun d i low)
       (λ from there goes.
       let Q : Shape → Type 0 = λ s. Gives s from d p in

@@ -1,5 +1,6 @@
 -- Edges of no errors.
-use Rattle.std.proofs.Common.{◌≡◌, ℕ, ℤ, pos, ◌<◌, ◌≤◌, List, [], get_or, length, replicate, ap, arith, inl, inr, set, sym, ◌∙◌, subst, get_or-set_other, get_or-set_same, to_z, of_z, w16}
+use Rattle.std.proofs.Common.{◌≡◌, ℕ, ℤ, pos, ◌<◌, ◌≤◌, List, [], get_or, length, replicate, ap, arith, inl, inr, set, sym, ◌∙◌, subst}
+use Rattle.std.proofs.Common.{get_or-set_other, get_or-set_same, to_z, of_z, w16}
 use Rattle.std.proofs.lemmas.Bool.{cases_eq, cases_lt}
 use Rattle.std.proofs.lemmas.Int.{ints}
 use Rattle.std.proofs.lemmas.List.{get_or-replicate, get_or_past, length-replicate}
@@ -16,7 +17,8 @@ pub zeros : (inks len : ℕ) (edge : List (List ℤ)) → edge ≡ replicate ink
 zeros inks len edge is = record {
   at = λ ink n. ap (λ (e : List (List ℤ)). get_or (errors_of e ink) n (pos 0)) is ∙ elim (cases_lt ink inks) [
     | inl inside ↦ ap (λ (e : List ℤ). get_or e n (pos 0)) (get_or-replicate inks ink (replicate len (pos 0)) [] inside) ∙ some_zeros len n
-    | inr past ↦ ap (λ (e : List ℤ). get_or e n (pos 0)) (get_or_past (replicate inks (replicate len (pos 0))) ink [] (omega (arith, length-replicate inks (replicate len (pos 0)))))
+    | inr past ↦ ap (λ (e : List ℤ). get_or e n (pos 0))
+        (get_or_past (replicate inks (replicate len (pos 0))) ink [] (omega (arith, length-replicate inks (replicate len (pos 0)))))
   ];
 }
 

@@ -2,7 +2,7 @@
 use Rattle.std.specs.Prelude.{◌≡◌, ℕ, ℤ, pos, ◌≤◌, List, [], length, slice_index_or}
 use Rattle.diffusion_definitions.specs.Diffusion.{EachInRange}
 
--- the errors of an ink: none past the last ink, which read as 0
+-- the errors of an ink; past the last ink an empty list, whose places read as 0
 abbrev pub errors_of : List (List ℤ) → ℕ → List ℤ
 errors_of edge ink = slice_index_or edge ink []
 

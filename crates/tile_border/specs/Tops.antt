@@ -3,7 +3,7 @@ use Rattle.std.specs.Prelude.{◌≡◌, ℕ, ℤ, ◌<◌, List, [], length, sl
 use Rattle.tile_border.specs.Inks.{AreZeros, errors_of}
 use Rattle.tile_border.specs.declared.tops.TopEdges.TheInside.{Inside}
 
--- bottom edges by columns, each ink by ink
+-- bottom edges by columns, and in each column by inks
 abbrev pub tops_of : Inside → List (List (List ℤ))
 tops_of top = top.edges.items
 
@@ -11,7 +11,7 @@ tops_of top = top.edges.items
 abbrev pub edges_of : List (List (List ℤ)) → ℕ → List (List ℤ)
 edges_of top ink = map (λ edge. errors_of edge ink) top
 
--- each edge has so many inks, and all its errors are 0
+-- a top of this number of columns and inks whose errors are all 0
 pub record IsZeroTop (columns inks : ℕ) (top : List (List (List ℤ))) : Type 0 where
   pub columns_are : length top ≡ columns
   pub inks_are : (c : ℕ) → c < columns → length (slice_index_or top c []) ≡ inks

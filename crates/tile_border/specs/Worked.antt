@@ -39,8 +39,10 @@ pub record AreErrors (k : Kernel) (rows : AmountTable) (top : List (List (List �
 
 -- Each tile that is taken or posted was handed the edges that the tiles before it gave, zeros where there are none and
 -- the top's above the first band, and gave what work gives for them.
-pub record AreWorked (k : Kernel) (rows : AmountTable) (top : List (List (List ℤ))) (core : CoreState) (handed given : Place → Border) : Type 0 where
+pub record AreWorked (k : Kernel) (rows : AmountTable) (top : List (List (List ℤ))) (core : CoreState)
+    (handed given : Place → Border) : Type 0 where
   pub shape : core.shape ≡ window_of rows
   pub comes : (p : Place) → IsTile core.shape p → IsBegun core p → (d : Dir) (i : ℕ) → i < rows.inks
-      → IsHanded (window_of rows) (edges_of top i) (λ way from. errors_of (edge_of (given from) way) i) d p (errors_of (edge_of (handed p) d) i)
+      → IsHanded (window_of rows) (edges_of top i) (λ way from. errors_of (edge_of (given from) way) i) d p
+      (errors_of (edge_of (handed p) d) i)
   pub works : (p : Place) → IsTile core.shape p → IsBegun core p → (i : ℕ) → i < rows.inks → Works k rows p i (handed p) (given p)

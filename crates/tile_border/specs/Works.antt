@@ -15,7 +15,7 @@ pub record Border : Type 0 where
   pub corner : List (List ℤ)
   pub bits : List (List ℕ)
 
--- they have so many inks
+-- they have this number of inks
 pub record HasInks (inks : ℕ) (b : Border) : Type 0 where
   pub side : length b.side ≡ inks
   pub band : length b.band ≡ inks
@@ -28,7 +28,8 @@ abbrev pub Works : Kernel → AmountTable → Place → ℕ → Border → Borde
 Works k rows p i old new =
     (e : Errors) → Solves (table_of k) (plane_of rows i) e
     → IsReady e p (errors_of old.side i) (errors_of old.band i) (errors_of old.corner i)
-    → IsDone (table_of k) (plane_of rows i) e p (errors_of new.side i) (errors_of new.band i) (errors_of new.corner i) (slice_index_or new.bits i [])
+    → IsDone (table_of k) (plane_of rows i) e p (errors_of new.side i) (errors_of new.band i) (errors_of new.corner i)
+    (slice_index_or new.bits i [])
 
 -- one ink is the same in both
 pub record SameInk (i : ℕ) (old new : Border) : Type 0 where

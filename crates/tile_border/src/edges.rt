@@ -9,7 +9,7 @@ use std::marker::Model;
 use weave_base::Memory;
 
 /// The errors that a tile hands to the one at its right: offsets 58 to 63 of its 32 rows, row by row.
-/// Contracts see a list of errors an ink, each error from -2040 to 2039; an ink past the last has the error 0
+/// Contracts see a list of errors for each ink, each error from -2040 to 2039; an ink past the last has the error 0
 /// everywhere.
 #[derive(Drop)]
 pub struct RightEdge {
@@ -29,7 +29,7 @@ impl Model for RightEdge {
 }
 
 impl RightEdge {
-    /// Errors 0, of 1 to 4 inks.
+    /// Errors 0, for 1 to 4 inks.
     pub fn zero(alloc: Global, inks: u8) -> Result<RightEdge, Memory>
         requires some { 1 ≤ inks }
         requires most { inks ≤ 4 }
@@ -70,7 +70,7 @@ impl RightEdge {
 }
 
 /// The errors of a tile's last two rows, 64 each.
-/// Contracts see a list of errors an ink, each error from -2040 to 2039; an ink past the last has the error 0
+/// Contracts see a list of errors for each ink, each error from -2040 to 2039; an ink past the last has the error 0
 /// everywhere.
 #[derive(Drop)]
 pub struct BottomEdge {
@@ -90,7 +90,7 @@ impl Model for BottomEdge {
 }
 
 impl BottomEdge {
-    /// Errors 0, of 1 to 4 inks.
+    /// Errors 0, for 1 to 4 inks.
     pub fn zero(alloc: Global, inks: u8) -> Result<BottomEdge, Memory>
         requires some { 1 ≤ inks }
         requires most { inks ≤ 4 }
@@ -145,7 +145,7 @@ impl BottomEdge {
 }
 
 /// The errors at offsets 58 to 63 of a tile's last two rows, row by row.
-/// Contracts see a list of errors an ink, each error from -2040 to 2039; an ink past the last has the error 0
+/// Contracts see a list of errors for each ink, each error from -2040 to 2039; an ink past the last has the error 0
 /// everywhere.
 #[derive(Drop)]
 pub struct CornerEdge {
@@ -165,7 +165,7 @@ impl Model for CornerEdge {
 }
 
 impl CornerEdge {
-    /// Errors 0, of 1 to 4 inks.
+    /// Errors 0, for 1 to 4 inks.
     pub fn zero(alloc: Global, inks: u8) -> Result<CornerEdge, Memory>
         requires some { 1 ≤ inks }
         requires most { inks ≤ 4 }

@@ -1,4 +1,4 @@
-//! The laws of work on a board, each as the contract of a function that calls the laws that it follows from.
+//! Laws of work on a board. Each is the contract of a function, which calls the laws that it follows from.
 ghost use Rattle.std.specs.Prelude.{List, ℕ, ℤ};
 ghost use Rattle.board_core.specs.Records.{IsRecord, IsResult};
 ghost use Rattle.board_core.specs.States.{CoreState, IsBegun, start};
@@ -13,7 +13,7 @@ ghost use Rattle.tile_lanes.specs.Done.{window_of};
 ghost use Rattle.tile_shape.specs.Geometry.{IsShape, IsTile};
 ghost use Rattle.tile_shape.specs.declared.tiles.Place.{Place};
 
-/// What tiles give that are handed the edges of the tiles before them is a record.
+/// Where each tile is handed the edges that the tiles before it gave, what the tiles give is a record.
 pub fn what_work_gives_is_a_record()
     ensures { (k : Kernel) (rows : AmountTable) (top : List (List (List ℤ))) (errors : ℕ → Errors) (core : CoreState)
         (handed given : Place → Border) → AreErrors k rows top errors → AreWorked k rows top core handed given
@@ -22,14 +22,15 @@ pub fn what_work_gives_is_a_record()
     tile_edges::handed::what_is_handed_is_right();
 }
 
-/// So in whatever order a board is worked, each tile that is taken or posted has the dots and the edges of row-by-row
+/// In whatever order a board is worked, each tile that is taken or posted has the dots and the edges of row-by-row
 /// diffusion below the board's top.
 pub fn any_order()
     ensures { (k : Kernel) (rows : AmountTable) (top : List (List (List ℤ))) (errors : ℕ → Errors) (events : List Event)
         (core : CoreState) (handed given : Place → Border)
         → IsShape (window_of rows) → Runs (start (window_of rows)) events core
         → AreErrors k rows top errors → AreWorked k rows top core handed given
-        → (p : Place) → IsTile (window_of rows) p → IsBegun core p → IsResult (window_with k rows errors) p (result_of (given p)) }
+        → (p : Place) → IsTile (window_of rows) p → IsBegun core p
+        → IsResult (window_with k rows errors) p (result_of (given p)) }
 {
     board_core::laws::any_order();
     what_work_gives_is_a_record();

@@ -1,5 +1,16 @@
-//! Tiles with their edges, in all inks: what a tile is handed, what it hands on, and the top edges of a board. Each type
-//! is cheap to move, and `work` takes no memory: what a tile hands on stands in the room of what it was handed.
+//! Tiles with their edges, in all inks: what a tile is handed, what it hands on, and the top edges of a board.
+//!
+//! - `RightEdge`, `BottomEdge`, `CornerEdge`: a list of errors for each ink, each error from -2040 to 2039. `zero` has
+//!   errors 0, `ink` gives the errors of an ink, and `put` sets those of one ink and keeps all others.
+//!   `BottomEdge::ends` are the last six errors of an ink's two rows.
+//! - `TopEdges`: a bottom edge for each column of tiles. `zero`, `at`, `put` and `swap` make, give, set and exchange
+//!   them.
+//! - `work`: take any errors that solve the rule for an ink. Where the three edges of the task hold these errors, so do
+//!   the three edges that it gives, and its dots are the rule's; this holds for each ink (`works`). It takes no memory:
+//!   the edges and dots that it gives use the allocations of the task.
+//! - `laws::what_work_gives_is_a_record`, `laws::any_order`: tiles of a board are worked, each from the edges that the
+//!   tiles before it gave, from errors 0 where there is no such tile, and in the first band from the top. Whatever the
+//!   order, each tile that is taken or posted has the dots and edges of row-by-row diffusion below the top.
 #![tactic(auto)]
 
 mod edges;

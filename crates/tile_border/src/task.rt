@@ -21,7 +21,7 @@ pub struct Task {
     pub above: BottomEdge,
     /// The corner edge of the tile above.
     pub corner: CornerEdge,
-    /// Room for its dots.
+    /// What its dots are written to.
     pub dots: TileDots,
 }
 
@@ -40,13 +40,15 @@ pub struct Done {
     pub corner: CornerEdge,
 }
 
-/// Diffuses the pixels of a tile, in each ink of the rows. The edges and the dots of the task have as many inks.
+/// Diffuses a tile in each ink of the rows. The edges and the dots of the task have as many inks as the rows.
 pub fn work(task: Task, rows: &InkRows, kernel: Kernel) -> Done
     requires tile { IsTile (window_of rows.now) task.place }
-    requires inks { HasInks rows.now.inks (record { side = task.left; band = task.above; corner = task.corner; bits = task.dots.bits }) }
+    requires inks { HasInks rows.now.inks
+        (record { side = task.left; band = task.above; corner = task.corner; bits = task.dots.bits }) }
     ensures place { result.place ≡ task.place }
     ensures dots_place { result.dots.place ≡ task.place }
-    ensures inks { HasInks rows.now.inks (record { side = result.right; band = result.bottom; corner = result.corner; bits = result.dots.bits }) }
+    ensures inks { HasInks rows.now.inks
+        (record { side = result.right; band = result.bottom; corner = result.corner; bits = result.dots.bits }) }
     ensures works { (i : ℕ) → i < rows.now.inks → Works kernel rows.now task.place i
         (record { side = task.left; band = task.above; corner = task.corner; bits = task.dots.bits })
         (record { side = result.right; band = result.bottom; corner = result.corner; bits = result.dots.bits }) }
@@ -79,7 +81,7 @@ pub fn work(task: Task, rows: &InkRows, kernel: Kernel) -> Done
     }
 }
 
-// Diffuses one ink of a tile. What it is handed becomes what it hands on, and all other inks stay.
+// Diffuses one ink of a tile: the edges handed in become those handed on, and all other inks stay.
 fn work_ink(
     kernel: Kernel,
     place: Place,
@@ -92,7 +94,8 @@ fn work_ink(
 )
     requires tile { IsTile (window_of rows.now) place }
     requires ink { ink < rows.now.inks }
-    requires inks { HasInks rows.now.inks (record { side = side.old; band = band.old; corner = corner.old; bits = bits.old }) }
+    requires inks { HasInks rows.now.inks
+        (record { side = side.old; band = band.old; corner = corner.old; bits = bits.old }) }
     ensures { WorksInk kernel rows.now place ink
         (record { side = side.old; band = band.old; corner = corner.old; bits = bits.old })
         (record { side = side.new; band = band.new; corner = corner.new; bits = bits.new }) }

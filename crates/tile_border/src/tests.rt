@@ -1,4 +1,4 @@
-//! Tiles by hand.
+//! Tiles worked one by one.
 ghost use Rattle.diffusion_definitions.specs.Diffusion.{InRange};
 ghost use Rattle.std.specs.Prelude.{IfOk, length, ◌<◌, ◌≡◌};
 ghost use Rattle.tile_border.specs.Works.{HasInks};
@@ -13,7 +13,8 @@ use weave_base::Memory;
 // A tile of two inks, handed errors 0.
 fn zero_task(alloc: Global, place: Place) -> Result<Task, Memory>
     ensures place { IfOk result (λ t. t.place ≡ place) }
-    ensures inks { IfOk result (λ t. HasInks 2 (record { side = t.left; band = t.above; corner = t.corner; bits = t.dots.bits })) }
+    ensures inks { IfOk result (λ t. HasInks 2
+        (record { side = t.left; band = t.above; corner = t.corner; bits = t.dots.bits })) }
 {
     let left = RightEdge::zero(alloc, 2)?;
     let above = BottomEdge::zero(alloc, 2)?;
@@ -30,11 +31,13 @@ fn zero_task(alloc: Global, place: Place) -> Result<Task, Memory>
 
 // Gives an ink one error everywhere in what a tile is handed.
 fn hand(task: &mut Task, ink: u8, error: i16)
-    requires inks { HasInks 2 (record { side = task.old.left; band = task.old.above; corner = task.old.corner; bits = task.old.dots.bits }) }
+    requires inks { HasInks 2
+        (record { side = task.old.left; band = task.old.above; corner = task.old.corner; bits = task.old.dots.bits }) }
     requires ink { ink < 2 }
     requires error { InRange error }
     ensures place { task.new.place ≡ task.old.place }
-    ensures inks { HasInks 2 (record { side = task.new.left; band = task.new.above; corner = task.new.corner; bits = task.new.dots.bits }) }
+    ensures inks { HasInks 2
+        (record { side = task.new.left; band = task.new.above; corner = task.new.corner; bits = task.new.dots.bits }) }
 {
     task.left.put(ink, &[error; 192]);
     task.above.put(ink, &[error; 128]);
@@ -60,7 +63,13 @@ fn is_all(errors: &[i16], error: i16) -> bool {
 
 // Whether an ink has one error in all that a tile hands on, and one byte in all its dots.
 fn gives(done: &Done, ink: u8, error: i16, dots: u8) -> bool
-    requires inks { HasInks 2 (record { side = done.now.right; band = done.now.bottom; corner = done.now.corner; bits = done.now.dots.bits }) }
+    requires inks { HasInks 2
+        (record {
+          side = done.now.right;
+          band = done.now.bottom;
+          corner = done.now.corner;
+          bits = done.now.dots.bits;
+        }) }
     requires ink { ink < 2 }
 {
     is_all(done.right.ink(ink), error)

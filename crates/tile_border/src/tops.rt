@@ -8,8 +8,8 @@ use std::marker::Model;
 use std::mem;
 use weave_base::Memory;
 
-/// The bottom edges above the first band of a board, one for each column of tiles. Contracts see a list by columns, each
-/// a list of errors an ink.
+/// The bottom edges above the first band of a board, one for each column of tiles. Contracts see a list by columns, and
+/// in each column a list of errors for each ink.
 #[derive(Drop)]
 pub struct TopEdges {
     edges: Vec<BottomEdge>,
@@ -26,7 +26,7 @@ impl Model for TopEdges {
 }
 
 impl TopEdges {
-    /// Errors 0, as above a page: so many columns of 1 to 4 inks.
+    /// Errors 0, as above a page, for this number of columns and 1 to 4 inks.
     pub fn zero(alloc: Global, columns: u32, inks: u8) -> Result<TopEdges, Memory>
         requires some { 1 ≤ inks }
         requires most { inks ≤ 4 }

@@ -1,5 +1,6 @@
 -- A block of errors that is written into a list, or read from one, place by place.
-use Rattle.std.proofs.Common.{ℕ, ℤ, pos, ◌≡◌, ◌≢◌, ◌+◌, ◌<◌, ◌≤◌, ◌∙◌, ap, sym, subst, arith, inl, inr, List, get_or, set, length, length-set, get_or-set_same, get_or-set_other, to_z, of_z, w16}
+use Rattle.std.proofs.Common.{ℕ, ℤ, pos, ◌≡◌, ◌≢◌, ◌+◌, ◌<◌, ◌≤◌, ◌∙◌, ap, sym, subst, arith, inl, inr, List, get_or, set, length}
+use Rattle.std.proofs.Common.{length-set, get_or-set_same, get_or-set_other, to_z, of_z, w16}
 use Rattle.std.proofs.lemmas.Bool.{cases_eq, cases_lt}
 use Rattle.std.proofs.lemmas.List.{get_or_past}
 use Rattle.std.proofs.lemmas.Int.{ints}
@@ -29,7 +30,8 @@ put_more at n old ys xs fits room apart f =
       long = length-set xs (at n) v ∙ f.long;
       in_range = in_range_more xs (at n) v f.in_range (subst P (sym is_v) (fits n));
       there = λ i below. elim (cases_eq i n) [
-        | inl last ↦ ap (λ m. get_or (set xs (at n) v) (at m) (pos 0)) last ∙ get_or-set_same xs (at n) v (pos 0) room ∙ is_v ∙ ap (λ m. get_or ys m (pos 0)) (sym last)
+        | inl last ↦ ap (λ m. get_or (set xs (at n) v) (at m) (pos 0)) last ∙ get_or-set_same xs (at n) v (pos 0) room ∙ is_v
+            ∙ ap (λ m. get_or ys m (pos 0)) (sym last)
         | inr else ↦ let before : i < n = omega arith in get_or-set_other xs (at n) (at i) v (pos 0) (apart i before) ∙ f.there i before
       ];
       kept = λ m off. get_or-set_other xs (at n) m v (pos 0) (off n (omega arith)) ∙ f.kept m (λ i below. off i (omega arith));
@@ -48,7 +50,8 @@ take_more at n len xs out fits room f =
     record {
       long = length-set out n v ∙ f.long;
       there = λ i below. elim (cases_eq i n) [
-        | inl last ↦ ap (λ m. get_or (set out n v) m (pos 0)) last ∙ get_or-set_same out n v (pos 0) inside ∙ held_same (get_or xs (at n) (pos 0)) (fits (at n)) ∙ ap (λ m. get_or xs (at m) (pos 0)) (sym last)
+        | inl last ↦ ap (λ m. get_or (set out n v) m (pos 0)) last ∙ get_or-set_same out n v (pos 0) inside
+            ∙ held_same (get_or xs (at n) (pos 0)) (fits (at n)) ∙ ap (λ m. get_or xs (at m) (pos 0)) (sym last)
         | inr else ↦ get_or-set_other out n i v (pos 0) else ∙ f.there i (omega arith)
       ];
     }

@@ -1,5 +1,6 @@
 -- A block of errors that is put into a field, or taken from one, place by place.
-use Rattle.std.proofs.Common.{ℕ, ℤ, pos, ◌≡◌, ◌≢◌, ◌+◌, ◌<◌, ◌≤◌, ◌∙◌, ap, refl, sym, subst, arith, inl, inr, List, get_or, set, length, length-set, get_or-set_same, get_or-set_other, to_z, of_z, w16}
+use Rattle.std.proofs.Common.{ℕ, ℤ, pos, ◌≡◌, ◌≢◌, ◌+◌, ◌<◌, ◌≤◌, ◌∙◌, ap, refl, sym, subst, arith, inl, inr, List, get_or, set, length}
+use Rattle.std.proofs.Common.{length-set, get_or-set_same, get_or-set_other, to_z, of_z, w16}
 use Rattle.std.proofs.lemmas.Bool.{cases_eq, cases_lt}
 use Rattle.std.proofs.lemmas.List.{get_or_past}
 use Rattle.std.proofs.lemmas.Int.{ints}
@@ -15,7 +16,8 @@ pub record IsPut (at from : ℕ → ℕ) (first n : ℕ) (errors : List ℤ) (ol
   pub there : (i : ℕ) → first ≤ i → i < n → error_held (get_or xs (at i) 0) ≡ get_or errors (from i) (pos 0)
   pub kept : (m : ℕ) → ((i : ℕ) → first ≤ i → i < n → m ≢ at i) → get_or xs m 0 ≡ get_or old m 0
 
-pub none_put : (at from : ℕ → ℕ) (first : ℕ) (errors : List ℤ) (xs : List ℕ) → length xs ≡ 3502 → HeldInRange xs → IsPut at from first first errors xs xs
+pub none_put : (at from : ℕ → ℕ) (first : ℕ) (errors : List ℤ) (xs : List ℕ) → length xs ≡ 3502 → HeldInRange xs
+    → IsPut at from first first errors xs xs
 none_put at from first errors xs long fits = record {
   long = long;
   in_range = fits;
@@ -25,7 +27,8 @@ none_put at from first errors xs long fits = record {
 
 pub put_more : (at from : ℕ → ℕ) (first n v : ℕ) (errors : List ℤ) (old xs : List ℕ) → at n < 3502 → first ≤ n
     → ((i : ℕ) → first ≤ i → i < n → at i ≢ at n)
-    → EachInRange errors → v ≤ 4079 → error_held v ≡ to_z w16 (of_z w16 (get_or errors (from n) (pos 0))) → IsPut at from first n errors old xs → IsPut at from first (n + 1) errors old (set xs (at n) v)
+    → EachInRange errors → v ≤ 4079 → error_held v ≡ to_z w16 (of_z w16 (get_or errors (from n) (pos 0)))
+    → IsPut at from first n errors old xs → IsPut at from first (n + 1) errors old (set xs (at n) v)
 put_more at from first n v errors old xs inside started apart each fits is f =
     let e : ℤ = get_or errors (from n) (pos 0) in
     let small : InRange e = each (from n) in
@@ -35,8 +38,10 @@ put_more at from first n v errors old xs inside started apart each fits is f =
       long = length-set xs (at n) v ∙ f.long;
       in_range = held_more xs (at n) v f.in_range fits;
       there = λ i h below. elim (cases_eq i n) [
-        | inl last ↦ ap (λ m. error_held (get_or (set xs (at n) v) (at m) 0)) last ∙ ap error_held (get_or-set_same xs (at n) v 0 room) ∙ is ∙ same ∙ ap (λ m. get_or errors (from m) (pos 0)) (sym last)
-        | inr not ↦ let before : i < n = omega arith in ap error_held (get_or-set_other xs (at n) (at i) v 0 (apart i h before)) ∙ f.there i h before
+        | inl last ↦ ap (λ m. error_held (get_or (set xs (at n) v) (at m) 0)) last ∙ ap error_held (get_or-set_same xs (at n) v 0 room) ∙ is
+            ∙ same ∙ ap (λ m. get_or errors (from m) (pos 0)) (sym last)
+        | inr not ↦ let before : i < n = omega arith in ap error_held (get_or-set_other xs (at n) (at i) v 0 (apart i h before))
+            ∙ f.there i h before
       ];
       kept = λ m off. get_or-set_other xs (at n) m v 0 (off n started (omega arith)) ∙ f.kept m (λ i h below. off i h (omega arith));
     }
@@ -49,7 +54,8 @@ pub record IsTaken (at : ℕ → ℕ) (n len : ℕ) (xs : List ℕ) (out : List 
 pub none_taken : (at : ℕ → ℕ) (len : ℕ) (xs : List ℕ) (out : List ℤ) → length out ≡ len → IsTaken at 0 len xs out
 none_taken at len xs out long = record { long = long; there = λ i h. let no : ⊥ = omega arith in absurd no }
 
-pub take_more : (at : ℕ → ℕ) (n m len : ℕ) (v : ℤ) (xs : List ℕ) (out : List ℤ) → m ≡ n + 1 → n < len → InRange v → v ≡ error_held (get_or xs (at n) 0)
+pub take_more : (at : ℕ → ℕ) (n m len : ℕ) (v : ℤ) (xs : List ℕ) (out : List ℤ) → m ≡ n + 1 → n < len → InRange v
+    → v ≡ error_held (get_or xs (at n) 0)
     → IsTaken at n len xs out → IsTaken at m len xs (set out n (to_z w16 (of_z w16 v)))
 take_more at n m len v xs out next room fits is f =
     let same : to_z w16 (of_z w16 v) ≡ v = omega (arith, ints) in
@@ -57,7 +63,8 @@ take_more at n m len v xs out next room fits is f =
     record {
       long = length-set out n _ ∙ f.long;
       there = λ i below. elim (cases_eq i n) [
-        | inl last ↦ ap (λ m. get_or (set out n (to_z w16 (of_z w16 v))) m (pos 0)) last ∙ get_or-set_same out n _ (pos 0) inside ∙ same ∙ is ∙ ap (λ m. error_held (get_or xs (at m) 0)) (sym last)
+        | inl last ↦ ap (λ m. get_or (set out n (to_z w16 (of_z w16 v))) m (pos 0)) last ∙ get_or-set_same out n _ (pos 0) inside ∙ same
+            ∙ is ∙ ap (λ m. error_held (get_or xs (at m) 0)) (sym last)
         | inr not ↦ get_or-set_other out n i _ (pos 0) not ∙ f.there i (omega arith)
       ];
     }
@@ -65,10 +72,12 @@ take_more at n m len v xs out next room fits is f =
 held_in : (n : ℕ) → n ≤ 4079 → InRange (error_held n)
 held_in n h = record { low = omega (arith, ints); high = omega (arith, ints) }
 
-pub taken_in_range : (at : ℕ → ℕ) (n len : ℕ) (xs : List ℕ) (out : List ℤ) → HeldInRange xs → len ≤ n → IsTaken at n len xs out → EachInRange out
+pub taken_in_range : (at : ℕ → ℕ) (n len : ℕ) (xs : List ℕ) (out : List ℤ) → HeldInRange xs → len ≤ n → IsTaken at n len xs out
+    → EachInRange out
 taken_in_range at n len xs out fits short f i =
     let P : ℤ → Type 0 = λ w. InRange w in
     elim (cases_lt i (length out)) [
-      | inl inside ↦ let below : i < n = omega (arith, f.long) in subst P (sym (f.there i below)) (held_in (get_or xs (at i) 0) (fits (at i)))
+      | inl inside ↦ let below : i < n = omega (arith, f.long) in subst P (sym (f.there i below))
+          (held_in (get_or xs (at i) 0) (fits (at i)))
       | inr past ↦ subst P (sym (get_or_past out i (pos 0) past)) none_in
     ]

@@ -1,5 +1,6 @@
 -- Sums of errors that are held with 2040 added, and their parts.
-use Rattle.std.proofs.Common.{ℕ, ℤ, Bool, true, false, pos, negsuc, ◌≡◌, ◌+◌, ◌-◌, ◌*◌, ◌/◌, ◌%◌, ◌≤◌, ◌+ℤ◌, ◌*ℤ◌, [], ◌∷◌, arith, ap, refl, ◌∙◌, sym, leb, cond, List}
+use Rattle.std.proofs.Common.{ℕ, ℤ, Bool, true, false, pos, negsuc, ◌≡◌, ◌+◌, ◌-◌, ◌*◌, ◌/◌, ◌%◌, ◌≤◌, ◌+ℤ◌, ◌*ℤ◌, [], ◌∷◌, arith, ap, refl}
+use Rattle.std.proofs.Common.{◌∙◌, sym, leb, cond, List}
 use mir.Val.{bool_byte}
 use Rattle.std.proofs.lemmas.Int.{ints}
 use Rattle.std.proofs.lemmas.Bool.{cond_both, leb-true, leb-false}
@@ -33,7 +34,8 @@ bit_is : (b : Bool) → bool_byte b ≡ cond b 1 0
 bit_is true = refl
 bit_is false = refl
 
-stucki_part : (s8 s4 s2 s1 q w left : ℕ) → q ≡ 2 * s8 + s4 + (2 * s2 + s1) / 4 → w ≡ q / 21 → left ≡ 2 * (q - 21 * w) + (2 * s2 + s1) / 2 % 2
+stucki_part : (s8 s4 s2 s1 q w left : ℕ) → q ≡ 2 * s8 + s4 + (2 * s2 + s1) / 4 → w ≡ q / 21
+    → left ≡ 2 * (q - 21 * w) + (2 * s2 + s1) / 2 % 2
     → 2 * w + bool_byte (leb 21 left) ≡ (8 * s8 + 4 * s4 + 2 * s2 + s1) / 42
 stucki_part s8 s4 s2 s1 q w left is_q is_w is_left =
     ap (λ n. 2 * w + n) (bit_is (leb 21 left)) ∙ cond_both (leb 21 left) 1 0 (λ n. 2 * w + n ≡ (8 * s8 + 4 * s4 + 2 * s2 + s1) / 42)
@@ -42,7 +44,8 @@ stucki_part s8 s4 s2 s1 q w left is_q is_w is_left =
 
 pub jarvis_is : (a v o1 o2 b0 b1 b2 b3 b4 d0 d1 d2 d3 d4 : ℕ) → v ≡ a → o1 + b2 + (b0 + b4 + d1 + d3) ≤ 24474
     → error_held (16 * v + (2 * (o1 + b2) + (o2 + b1 + b3 + d2) + (b0 + b4 + d1 + d3) + (o2 + b1 + b3 + d2 + (d0 + d4) + (24476 - (o1 + b2 + (b0 + b4 + d1 + d3)))) / 4 - 6119) / 12)
-    ≡ value jarvis a (error_held o1 ∷ error_held o2 ∷ []) (error_held b0 ∷ error_held b1 ∷ error_held b2 ∷ error_held b3 ∷ error_held b4 ∷ [])
+    ≡ value jarvis a (error_held o1 ∷ error_held o2 ∷ [])
+    (error_held b0 ∷ error_held b1 ∷ error_held b2 ∷ error_held b3 ∷ error_held b4 ∷ [])
     (error_held d0 ∷ error_held d1 ∷ error_held d2 ∷ error_held d3 ∷ error_held d4 ∷ [])
 unfolding value
 jarvis_is a v o1 o2 b0 b1 b2 b3 b4 d0 d1 d2 d3 d4 is_v few =
@@ -63,7 +66,8 @@ pub stucki_is : (a v f o1 o2 b0 b1 b2 b3 b4 d0 d1 d2 d3 d4 q w : ℕ) → v ≡ 
     → q ≡ 2 * (o1 + b2) + (o2 + b1 + b3 + d2) + (2 * (b0 + b4 + d1 + d3) + (d0 + d4)) / 4 → w ≡ q / 21
     → f ≡ bool_byte (leb 21 (2 * (q - 21 * w) + (2 * (b0 + b4 + d1 + d3) + (d0 + d4)) / 2 % 2))
     → error_held (16 * v + 2 * w + f)
-    ≡ value stucki a (error_held o1 ∷ error_held o2 ∷ []) (error_held b0 ∷ error_held b1 ∷ error_held b2 ∷ error_held b3 ∷ error_held b4 ∷ [])
+    ≡ value stucki a (error_held o1 ∷ error_held o2 ∷ [])
+    (error_held b0 ∷ error_held b1 ∷ error_held b2 ∷ error_held b3 ∷ error_held b4 ∷ [])
     (error_held d0 ∷ error_held d1 ∷ error_held d2 ∷ error_held d3 ∷ error_held d4 ∷ [])
 unfolding value
 stucki_is a v f o1 o2 b0 b1 b2 b3 b4 d0 d1 d2 d3 d4 q w is_v is_q is_w is_f =
@@ -88,6 +92,9 @@ shifted (negsuc a) t h = omega (arith, ints)
 pub floyd_sum : (own left b0 u3 u2 u1 b4 : ℤ) (far : List ℤ)
     → weighted floyd (own ∷ left ∷ []) (b0 ∷ u3 ∷ u2 ∷ u1 ∷ b4 ∷ []) far ≡ (pos 7 *ℤ own) +ℤ ((pos 3 *ℤ u1) +ℤ ((pos 5 *ℤ u2) +ℤ u3))
 floyd_sum own left b0 u3 u2 u1 b4 far = omega (arith, ints)
+
+pub floyd_shifts : (own u1 u2 u3 : ℕ) → 4 * (own + u1 + own + u2) - (own + u1) + (u2 + u3) ≡ 7 * own + 3 * u1 + 5 * u2 + u3
+floyd_shifts own u1 u2 u3 = omega arith
 
 pub floyd_is : (a own u1 u2 u3 : ℕ) (left b0 b4 : ℤ) (far : List ℤ)
     → error_held (16 * a + (7 * own + 3 * u1 + 5 * u2 + u3) / 16)

@@ -1,5 +1,6 @@
 -- Amounts by steps.
-use Rattle.std.proofs.Common.{ℕ, true, ◌≡◌, ◌≢◌, ◌+◌, ◌-◌, ◌*◌, ◌<◌, ◌≤◌, ◌∙◌, ap, sym, arith, inl, inr, List, get_or, set, length, length-set, get_or-set_same, get_or-set_other}
+use Rattle.std.proofs.Common.{ℕ, true, ◌≡◌, ◌≢◌, ◌+◌, ◌-◌, ◌*◌, ◌<◌, ◌≤◌, ◌∙◌, ap, sym, arith, inl, inr, List, get_or, set, length}
+use Rattle.std.proofs.Common.{length-set, get_or-set_same, get_or-set_other}
 use Rattle.std.proofs.lemmas.Bool.{cases_eq}
 use Rattle.diffusion_definitions.specs.Diffusion.{Plane}
 use Rattle.tile_lanes.specs.Lanes.{HasAmounts}
@@ -21,7 +22,8 @@ laid_more row c r first o at a old xs row_in small is_at is_a f =
       here = λ q from before. elim (cases_eq q o) [
         | inl last ↦
             let place : 32 * (q + r) + r ≡ at = omega arith in
-            ap (λ m. get_or (set xs at a) m 0) place ∙ get_or-set_same xs at a 0 room ∙ is_a ∙ ap (λ m. get_or row (64 * c + m - 2 * r) 0) (sym last)
+            ap (λ m. get_or (set xs at a) m 0) place ∙ get_or-set_same xs at a 0 room ∙ is_a
+            ∙ ap (λ m. get_or row (64 * c + m - 2 * r) 0) (sym last)
         | inr not ↦
             let other : 32 * (q + r) + r ≢ at = omega arith in
             get_or-set_other xs at (32 * (q + r) + r) a 0 other ∙ f.here q from (omega arith)
@@ -34,7 +36,8 @@ laid_more row c r first o at a old xs row_in small is_at is_a f =
 -- One more row.
 pub rows_more : (p : Plane) (c j r : ℕ) (row old new : List ℕ) → HasAmounts p c j r old → r < 32 → length row ≡ p.width
     → ((x : ℕ) → get_or row x 0 ≡ p.amount (32 * j + r) x)
-    → ((o : ℕ) → o < 64 → 2 * r ≤ 64 * c + o → 64 * c + o - 2 * r < length row → get_or new (32 * (o + r) + r) 0 ≡ get_or row (64 * c + o - 2 * r) 0)
+    → ((o : ℕ) → o < 64 → 2 * r ≤ 64 * c + o → 64 * c + o - 2 * r < length row
+    → get_or new (32 * (o + r) + r) 0 ≡ get_or row (64 * c + o - 2 * r) 0)
     → ((s q : ℕ) → q < 32 → q ≢ r → get_or new (32 * s + q) 0 ≡ get_or old (32 * s + q) 0)
     → HasAmounts p c j (r + 1) new
 rows_more p c j r row old new f row_in wide is_row here others = record {
@@ -42,14 +45,16 @@ rows_more p c j r row old new f row_in wide is_row here others = record {
     | inl last ↦
         let moved : is_place p j r (64 * c + o) ≡ true = ap (λ m. is_place p j m (64 * c + o)) (sym last) ∙ place in
         let inside = place_inside p j r (64 * c + o) moved in
-        ap (λ m. get_or new (32 * (o + m) + m) 0) last ∙ here o small inside.from (omega (arith, inside.across)) ∙ is_row (64 * c + o - 2 * r)
+        ap (λ m. get_or new (32 * (o + m) + m) 0) last ∙ here o small inside.from (omega (arith, inside.across))
+        ∙ is_row (64 * c + o - 2 * r)
         ∙ ap (λ m. p.amount (32 * j + m) (64 * c + o - 2 * m)) (sym last)
     | inr not ↦ others (o + q) q (omega arith) not ∙ f.at q o (omega arith) small place
   ];
 }
 
 -- One more row, of which the plane has no pixel.
-pub rows_past : (p : Plane) (c j r : ℕ) (amounts : List ℕ) → HasAmounts p c j r amounts → p.height ≤ 32 * j + r → HasAmounts p c j (r + 1) amounts
+pub rows_past : (p : Plane) (c j r : ℕ) (amounts : List ℕ) → HasAmounts p c j r amounts → p.height ≤ 32 * j + r
+    → HasAmounts p c j (r + 1) amounts
 rows_past p c j r amounts f past = record {
   at = λ q o below small place. elim (cases_eq q r) [
     | inl last ↦ let inside = place_inside p j q (64 * c + o) place in let down = inside.down in let no : ⊥ = omega arith in absurd no

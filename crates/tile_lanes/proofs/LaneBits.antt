@@ -1,5 +1,6 @@
 -- Sixteen dots of a row in a word, and the word among the bits of a tile.
-use Rattle.std.proofs.Common.{ℕ, ◌≡◌, ◌≢◌, ◌+◌, ◌-◌, ◌*◌, ◌/◌, ◌%◌, ◌^◌, ◌<◌, ◌∙◌, ap, arith, zero, suc, inl, inr, List, get_or, set, length, length-set, get_or-set_same, get_or-set_other}
+use Rattle.std.proofs.Common.{ℕ, ◌≡◌, ◌≢◌, ◌+◌, ◌-◌, ◌*◌, ◌/◌, ◌%◌, ◌^◌, ◌<◌, ◌∙◌, ap, arith, zero, suc, inl, inr, List, get_or, set}
+use Rattle.std.proofs.Common.{length, length-set, get_or-set_same, get_or-set_other}
 use Rattle.std.proofs.lemmas.Bool.{cases_lt}
 use Rattle.tile_lanes.specs.Rows.{bit}
 
@@ -41,7 +42,8 @@ word_is bits at w r o row small is_at long =
           let other : at ≢ at + 1 = omega arith in
           let room : at < length bits = omega arith in
           ap (λ k. byte k (n % 8)) here ∙ ap (byte at) place
-          ∙ ap (λ b. b / 2 ^ (7 - o % 16) % 2) (get_or-set_other one (at + 1) at (w % 256) 0 other ∙ get_or-set_same bits at (w / 256) 0 room)
+          ∙ ap (λ b. b / 2 ^ (7 - o % 16) % 2) (get_or-set_other one (at + 1) at (w % 256) 0 other
+          ∙ get_or-set_same bits at (w / 256) 0 room)
           ∙ high_bit w (o % 16) high
       | inr low ↦
           let m : ℕ = o % 16 - 8 in

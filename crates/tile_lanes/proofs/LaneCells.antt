@@ -1,5 +1,6 @@
 -- The cells of a field are right after a step, and so are the dots.
-use Rattle.std.proofs.Common.{ℕ, Bool, true, false, ◌≡◌, ◌≢◌, ◌+◌, ◌-◌, ◌*◌, ◌/◌, ◌%◌, ◌^◌, ◌<◌, ◌≤◌, ◌∙◌, ◌&&◌, ap, refl, sym, arith, inl, inr, zero, suc, List, [], ◌∷◌, get_or}
+use Rattle.std.proofs.Common.{ℕ, Bool, true, false, ◌≡◌, ◌≢◌, ◌+◌, ◌-◌, ◌*◌, ◌/◌, ◌%◌, ◌^◌, ◌<◌, ◌≤◌, ◌∙◌, ◌&&◌, ap, refl, sym, arith, inl}
+use Rattle.std.proofs.Common.{inr, zero, suc, List, [], ◌∷◌, get_or}
 use Rattle.std.proofs.lemmas.Bool.{both_ways, cases_lt, cases_Bool}
 use Rattle.diffusion_definitions.specs.Diffusion.{Errors, Plane, Solves, Table, error_of, five, is_dot, value, value_at}
 use Rattle.tile_edges.specs.Edges.{skewed}
@@ -51,7 +52,8 @@ value_right k p e c j t r o amounts xs h f row small is_t place =
     ∙ ap (λ u. value k (p.amount y x) (e (y + 2) (x + 3) ∷ e (y + 2) (x + 2) ∷ []) u (up2_in xs at)) up1
     ∙ ap (value k (p.amount y x) (e (y + 2) (x + 3) ∷ e (y + 2) (x + 2) ∷ []) (five (e (y + 1)) (x + 2))) up2
 
-error_right : (k : Table) (p : Plane) (e : Errors) (c j t r o : ℕ) (amounts xs : List ℕ) → Solves k p e → HasAmounts p c j 32 amounts → IsFilled e c j t xs
+error_right : (k : Table) (p : Plane) (e : Errors) (c j t r o : ℕ) (amounts xs : List ℕ) → Solves k p e → HasAmounts p c j 32 amounts
+    → IsFilled e c j t xs
     → r < 32 → o < 64 → o + r + 8 ≡ t → is_place p j r (64 * c + o) ≡ true
     → error_of (value_in_row k amounts t xs r) ≡ skewed e j (r + 2) (64 * c + (6 + o))
 error_right k p e c j t r o amounts xs s h f row small is_t place =
@@ -107,7 +109,8 @@ step_kept k p e c j t amounts f0 d0 f1 d1 f2 d2 f s g = record {
           | inl now ↦
               let r : ℕ = q - 2 in
               let here : m ≡ 34 * t + 2 + r = omega arith in
-              ap (λ n. get_or f2 n 0) here ∙ g.left r (omega arith) (omega arith) ∙ s.left r (omega arith) (omega arith) (omega arith) ∙ ap (λ n. get_or f0 n 0) (sym here)
+              ap (λ n. get_or f2 n 0) here ∙ g.left r (omega arith) (omega arith) ∙ s.left r (omega arith) (omega arith) (omega arith)
+              ∙ ap (λ n. get_or f0 n 0) (sym here)
           | inr high ↦ g.after m high ∙ s.after m (omega arith)
         ]
       ]) ∙ f.left q l band small;
@@ -119,7 +122,8 @@ pub step_right : (k : Table) (p : Plane) (e : Errors) (c j t : ℕ) (amounts f0 
 step_right k p e c j t amounts f0 d0 f1 d1 f2 d2 solves h f s g = record {
   filled = step_kept k p e c j t amounts f0 d0 f1 d1 f2 d2 f s g;
   pixels = λ r o row small is_t. elim (cases_Bool (is_place p j r (64 * c + o))) [
-    | inl place ↦ ap error_held (g.pixel r o row small is_t place) ∙ s.errors r o (omega arith) row small is_t ∙ error_right k p e c j t r o amounts f0 solves h f row small is_t place
+    | inl place ↦ ap error_held (g.pixel r o row small is_t place) ∙ s.errors r o (omega arith) row small is_t
+        ∙ error_right k p e c j t r o amounts f0 solves h f row small is_t place
     | inr none ↦ ap error_held (g.none r o row small is_t none) ∙ (none_right k p e c j r o solves none).err
   ];
 }
@@ -164,7 +168,8 @@ dots_right k p e c j t amounts f0 d0 f1 d1 f2 d2 h f s g last = record { at = go
       | inr none ↦ let less = g.no_dot r o row small now none in omega (arith, less)
     ]
 
-    go : (r o i : ℕ) → r < 32 → o < 64 → i < 16 → o + r + 9 + i ≡ t + 1 → t + 1 ≤ r + 72 → get_or d2 r 0 / 2 ^ i % 2 ≡ bit_of (shown k p e j r (64 * c + o))
+    go : (r o i : ℕ) → r < 32 → o < 64 → i < 16 → o + r + 9 + i ≡ t + 1 → t + 1 ≤ r + 72
+        → get_or d2 r 0 / 2 ^ i % 2 ≡ bit_of (shown k p e j r (64 * c + o))
     go r o zero row small few is_t in_tile =
         let now : o + r + 8 ≡ t = omega arith in
         elim (cases_Bool (is_place p j r (64 * c + o))) [
@@ -198,7 +203,8 @@ pub bits_more : (k : Table) (p : Plane) (e : Errors) (c j t : ℕ) (dots old new
 bits_more k p e c j t dots old new last f there kept = record {
   at = λ r o row small done. elim (cases_lt (16 * (o / 16) + r + 23) t) [
     | inl before ↦ let other : 16 * (o / 16) + r + 23 ≢ t = omega arith in kept r o row small other ∙ f.at r o row small (omega arith)
-    | inr from ↦ let now : 16 * (o / 16) + r + 23 ≡ t = omega arith in there r o row small now ∙ last.at r o (15 - o % 16) row small (omega arith) (omega arith) (omega arith)
+    | inr from ↦ let now : 16 * (o / 16) + r + 23 ≡ t = omega arith in there r o row small now
+        ∙ last.at r o (15 - o % 16) row small (omega arith) (omega arith) (omega arith)
   ];
 }
 

@@ -1,5 +1,6 @@
 -- Amounts of a tile by steps, a square at a time.
-use Rattle.std.proofs.Common.{ℕ, ◌≡◌, ◌+◌, ◌-◌, ◌*◌, ◌/◌, ◌%◌, ◌<◌, ◌≤◌, ◌∙◌, ap, sym, arith, inl, inr, List, [], get_or, set, length, get_or-set_same, get_or-set_other}
+use Rattle.std.proofs.Common.{ℕ, ◌≡◌, ◌+◌, ◌-◌, ◌*◌, ◌/◌, ◌%◌, ◌<◌, ◌≤◌, ◌∙◌, ap, sym, arith, inl, inr, List, [], get_or, set, length}
+use Rattle.std.proofs.Common.{get_or-set_same, get_or-set_other}
 use Rattle.std.proofs.lemmas.Bool.{cases_eq, cases_lt}
 use Rattle.std.proofs.lemmas.Simd.{get_or-chunk, get_or-put_chunk_at, get_or-put_chunk_above, get_or-put_chunk_below}
 use lib.Lanes.{chunk, put_chunk}
@@ -26,7 +27,8 @@ rows_more p c j first step i x row part xs small square left is_x is_row is_part
 }
 
 -- one more step of a square
-pub put_more : (xs : List (List ℕ)) (first step i at : ℕ) (part old now new : List ℕ) → first ≤ 16 → step + i < 96 → length now ≡ 3072 → length part ≡ 16
+pub put_more : (xs : List (List ℕ)) (first step i at : ℕ) (part old now new : List ℕ) → first ≤ 16 → step + i < 96 → length now ≡ 3072
+    → length part ≡ 16
     → at ≡ 32 * (step + i) + first → part ≡ get_or xs i [] → new ≡ put_chunk at now part
     → IsPutInto xs first step i old now → IsPutInto xs first step (i + 1) old new
 put_more xs first step i at part old now new row_in step_in long part_long is_at is_part is_new f = record {
@@ -38,7 +40,8 @@ put_more xs first step i at part old now new row_in step_in long part_long is_at
         ∙ ap (λ v. get_or v m 0) is_part ∙ ap (λ n. lane xs n m) (sym last)
     | inr not ↦
         let under : 32 * (step + k) + (first + m) < at = omega arith in
-        ap (λ ys. get_or ys (32 * (step + k) + (first + m)) 0) is_new ∙ get_or-put_chunk_below at now part (32 * (step + k) + (first + m)) 0 under
+        ap (λ ys. get_or ys (32 * (step + k) + (first + m)) 0) is_new
+        ∙ get_or-put_chunk_below at now part (32 * (step + k) + (first + m)) 0 under
         ∙ f.there k m (omega arith) few
   ];
   kept = λ k off. ap (λ ys. get_or ys k 0) is_new ∙ elim (cases_lt k at) [
@@ -57,7 +60,8 @@ pub record HasSquares (p : Plane) (c j n : ℕ) (amounts : List ℕ) : Type 0 wh
 
 pub squares_more : (p : Plane) (c j n first step : ℕ) (rows columns : List (List ℕ)) (old new : List ℕ) → n < 10
     → first ≡ 16 * (n / 5) → step ≡ first + 16 * (n % 5)
-    → HasRows p c j first step 16 rows → ((i m : ℕ) → i < 16 → m < 16 → lane columns i m ≡ lane rows m i) → IsPutInto columns first step 16 old new
+    → HasRows p c j first step 16 rows → ((i m : ℕ) → i < 16 → m < 16 → lane columns i m ≡ lane rows m i)
+    → IsPutInto columns first step 16 old new
     → HasSquares p c j n old → HasSquares p c j (n + 1) new
 squares_more p c j n first step rows columns old new few is_first is_step has turned put f = record {
   at = λ t r row from to below. elim (cases_eq (5 * (r / 16) + (t - 16 * (r / 16)) / 16) n) [

@@ -1,6 +1,7 @@
 -- One more row of a step.
 use mir.Val.{bool_byte}
-use Rattle.std.proofs.Common.{ℕ, ℤ, Bool, true, false, ◌%◌, ◌≡◌, ◌≢◌, ◌+◌, ◌-◌, ◌*◌, ◌<◌, ◌≤◌, ◌∙◌, ap, refl, sym, arith, inl, inr, List, get_or, min, set, length, get_or-set_same, get_or-set_other}
+use Rattle.std.proofs.Common.{ℕ, ℤ, Bool, true, false, ◌%◌, ◌≡◌, ◌≢◌, ◌+◌, ◌-◌, ◌*◌, ◌<◌, ◌≤◌, ◌∙◌, ap, refl, sym, arith, inl, inr, List}
+use Rattle.std.proofs.Common.{get_or, min, set, length, get_or-set_same, get_or-set_other}
 use Rattle.std.proofs.lemmas.Bool.{both_ways, cases_eq, cases_lt}
 use Rattle.std.proofs.lemmas.List.{set_past}
 use Rattle.diffusion_definitions.specs.Diffusion.{Plane, Table, error_of, is_dot, value}
@@ -13,7 +14,8 @@ use Rattle.tile_lanes.proofs.Bits.{bit_is}
 pub held_more : (xs : List ℕ) (at v : ℕ) → HeldInRange xs → v ≤ 4079 → HeldInRange (set xs at v)
 held_more xs at v all fits i = elim (cases_lt at (length xs)) [
   | inl room ↦ elim (cases_eq i at) [
-    | inl here ↦ let is : get_or (set xs at v) i 0 ≡ v = ap (λ m. get_or (set xs at v) m 0) here ∙ get_or-set_same xs at v 0 room in omega (arith, is)
+    | inl here ↦ let is : get_or (set xs at v) i 0 ≡ v = ap (λ m. get_or (set xs at v) m 0) here
+        ∙ get_or-set_same xs at v 0 room in omega (arith, is)
     | inr other ↦ let is = get_or-set_other xs at i v 0 other in let old = all i in omega (arith, is, old)
   ]
   | inr past ↦ let old = all i in let is = ap (λ ys. get_or ys i 0) (set_past xs at v past) in omega (arith, is, old)
@@ -34,9 +36,11 @@ none_stepped k amounts step first xs dots = record {
 
 -- a value among the errors of a field, from one among the errors that were read from it
 pub value_here : (k : Table) (amount v : ℕ) (same up1 up2 : List ℤ) (xs : List ℕ) (at : ℕ)
-    → same ≡ same_in xs at → up1 ≡ up1_in xs at → up2 ≡ up2_in xs at → error_held v ≡ value k amount same up1 up2 → error_held v ≡ value_in k amount xs at
+    → same ≡ same_in xs at → up1 ≡ up1_in xs at → up2 ≡ up2_in xs at → error_held v ≡ value k amount same up1 up2
+    → error_held v ≡ value_in k amount xs at
 value_here k amount v same up1 up2 xs at is_same is_up1 is_up2 is =
-    is ∙ ap (λ s. value k amount s up1 up2) is_same ∙ ap (λ u. value k amount (same_in xs at) u up2) is_up1 ∙ ap (value k amount (same_in xs at) (up1_in xs at)) is_up2
+    is ∙ ap (λ s. value k amount s up1 up2) is_same ∙ ap (λ u. value k amount (same_in xs at) u up2) is_up1
+    ∙ ap (value k amount (same_in xs at) (up1_in xs at)) is_up2
 
 -- A field that is as before in all earlier groups gives the same value.
 pub value_kept : (k : Table) (amount : ℕ) (xs old : List ℕ) (at bound : ℕ) → at < bound + 34 → 274 ≤ at
@@ -45,21 +49,26 @@ value_kept k amount xs old at bound near far kept =
     let cell = λ (d : ℕ) (h : 34 ≤ d) (i : d ≤ 274). let there : at - d < bound = omega arith in ap error_held (kept (at - d) there) in
     let same : same_in xs at ≡ same_in old at = two (cell 34 (omega arith) (omega arith)) (cell 68 (omega arith) (omega arith)) in
     let up1 : up1_in xs at ≡ up1_in old at =
-    five_are (cell 171 (omega arith) (omega arith)) (cell 137 (omega arith) (omega arith)) (cell 103 (omega arith) (omega arith)) (cell 69 (omega arith) (omega arith)) (cell 35 (omega arith) (omega arith)) in
+    five_are (cell 171 (omega arith) (omega arith)) (cell 137 (omega arith) (omega arith)) (cell 103 (omega arith) (omega arith))
+    (cell 69 (omega arith) (omega arith)) (cell 35 (omega arith) (omega arith)) in
     let up2 : up2_in xs at ≡ up2_in old at =
-    five_are (cell 274 (omega arith) (omega arith)) (cell 240 (omega arith) (omega arith)) (cell 206 (omega arith) (omega arith)) (cell 172 (omega arith) (omega arith)) (cell 138 (omega arith) (omega arith)) in
-    ap (λ s. value k amount s (up1_in xs at) (up2_in xs at)) same ∙ ap (λ u. value k amount (same_in old at) u (up2_in xs at)) up1 ∙ ap (value k amount (same_in old at) (up1_in old at)) up2
+    five_are (cell 274 (omega arith) (omega arith)) (cell 240 (omega arith) (omega arith)) (cell 206 (omega arith) (omega arith))
+    (cell 172 (omega arith) (omega arith)) (cell 138 (omega arith) (omega arith)) in
+    ap (λ s. value k amount s (up1_in xs at) (up2_in xs at)) same ∙ ap (λ u. value k amount (same_in old at) u (up2_in xs at)) up1
+    ∙ ap (value k amount (same_in old at) (up1_in old at)) up2
 
 pub step_more : (k : Table) (amounts : List ℕ) (step first n at v d f : ℕ) (on : Bool) (z : ℤ) (old old_dots xs dots : List ℕ)
     → at ≡ 34 * step + 2 + (first + n) → first + n < 32 → 8 ≤ step → at < length xs → first + n < length dots
-    → z ≡ value_in k (get_or amounts (32 * (step - 8) + (first + n)) 0) xs at → (first + n + 8 ≤ step → error_held v ≡ error_of z) → (step < first + n + 8 → v ≡ get_or xs at 0)
+    → z ≡ value_in k (get_or amounts (32 * (step - 8) + (first + n)) 0) xs at → (first + n + 8 ≤ step → error_held v ≡ error_of z)
+    → (step < first + n + 8 → v ≡ get_or xs at 0)
     → d ≡ (get_or dots (first + n) 0 * 2 % 65536 + f) % 65536 → f ≡ bool_byte on → on ≡ is_dot z
     → IsStep k amounts step first n old old_dots xs dots
     → IsStep k amounts step first (n + 1) old old_dots (set xs at v) (set dots (first + n) d)
 step_more k amounts step first n at v d f on z old old_dots xs dots is_at small late room more is_z is_v is_left is_d is_f is_on s =
     let q : ℕ = first + n in
     let here : z ≡ value_in_row k amounts step old q =
-    is_z ∙ value_kept k (get_or amounts (32 * (step - 8) + q) 0) xs old at (34 * step + 2) (omega arith) (omega arith) (λ m h. s.before m (omega arith))
+    is_z ∙ value_kept k (get_or amounts (32 * (step - 8) + q) 0) xs old at (34 * step + 2) (omega arith) (omega arith)
+    (λ m h. s.before m (omega arith))
     ∙ ap (value_in k (get_or amounts (32 * (step - 8) + q) 0) old) is_at in
     let bit : f ≡ bit_of (is_dot (value_in_row k amounts step old q)) = is_f ∙ bit_is on ∙ ap bit_of (is_on ∙ ap is_dot here) in
     let rest : get_or dots q 0 ≡ get_or old_dots q 0 = s.dots_after q (omega arith) in
@@ -76,7 +85,8 @@ step_more k amounts step first n at v d f on z old old_dots xs dots is_at small 
       left = λ r h g beside. elim (cases_eq r q) [
         | inl last ↦
             let place : 34 * step + 2 + r ≡ at = omega arith in
-            ap (λ m. get_or (set xs at v) m 0) place ∙ get_or-set_same xs at v 0 room ∙ is_left (omega arith) ∙ ap (λ m. get_or xs m 0) (sym place) ∙ s.after (34 * step + 2 + r) (omega arith)
+            ap (λ m. get_or (set xs at v) m 0) place ∙ get_or-set_same xs at v 0 room ∙ is_left (omega arith)
+            ∙ ap (λ m. get_or xs m 0) (sym place) ∙ s.after (34 * step + 2 + r) (omega arith)
         | inr not ↦
             let other : 34 * step + 2 + r ≢ at = omega arith in
             get_or-set_other xs at (34 * step + 2 + r) v 0 other ∙ s.left r h (omega arith) beside
@@ -120,7 +130,8 @@ both_stepped k amounts step f0 d0 f1 d1 f2 d2 late a b = record {
 }
   where
     same : (r : ℕ) → r < 32 → value_in_row k amounts step f1 r ≡ value_in_row k amounts step f0 r
-    same r small = value_kept k (get_or amounts (32 * (step - 8) + r) 0) f1 f0 (34 * step + 2 + r) (34 * step + 2) (omega arith) (omega arith) (λ m h. a.before m (omega arith))
+    same r small = value_kept k (get_or amounts (32 * (step - 8) + r) 0) f1 f0 (34 * step + 2 + r) (34 * step + 2) (omega arith)
+        (omega arith) (λ m h. a.before m (omega arith))
 
 -- ---- pixels that do not exist
 
@@ -150,7 +161,8 @@ cleared_more step first n at d old old_dots xs dots is_at started room more is_d
             get_or-set_other xs at (34 * step + 2 + r) 2040 0 other ∙ s.none r h (omega arith)
       ];
       no_dot = λ r h g. elim (cases_eq r n) [
-        | inl last ↦ ap (λ m. get_or (set dots n d) m 0) last ∙ get_or-set_same dots n d 0 more ∙ new ∙ ap (λ m. get_or old_dots m 0 - get_or old_dots m 0 % 2) (sym last)
+        | inl last ↦ ap (λ m. get_or (set dots n d) m 0) last ∙ get_or-set_same dots n d 0 more ∙ new
+            ∙ ap (λ m. get_or old_dots m 0 - get_or old_dots m 0 % 2) (sym last)
         | inr not ↦ get_or-set_other dots n r d 0 not ∙ s.no_dot r h (omega arith)
       ];
       before = λ m h. let other : m ≢ at = omega arith in get_or-set_other xs at m 2040 0 other ∙ s.before m h;
@@ -160,7 +172,8 @@ cleared_more step first n at d old old_dots xs dots is_at started room more is_d
     }
 
 -- Rows from the top and rows to the last in the tile are cleared, which have no pixel; those between them have one.
-pub both_cleared : (p : Plane) (c j step first end last up low : ℕ) (f0 d0 f1 d1 f2 d2 : List ℕ) → first ≤ end → last ≡ min (step - 7) 32 → up ≡ min first last → low ≡ min end last
+pub both_cleared : (p : Plane) (c j step first end last up low : ℕ) (f0 d0 f1 d1 f2 d2 : List ℕ) → first ≤ end → last ≡ min (step - 7) 32
+    → up ≡ min first last → low ≡ min end last
     → ((r o : ℕ) → first ≤ r → r < end → o + r + 8 ≡ step → is_place p j r (64 * c + o) ≡ true)
     → ((r o : ℕ) → r < first → o + r + 8 ≡ step → is_place p j r (64 * c + o) ≡ false)
     → ((r o : ℕ) → end ≤ r → r < 32 → o + r + 8 ≡ step → is_place p j r (64 * c + o) ≡ false)

@@ -1,5 +1,6 @@
 -- A tile with its rows in step, from its edges to its edges.
-use Rattle.std.proofs.Common.{ℕ, ℤ, pos, ◌≡◌, ◌≢◌, ◌+◌, ◌-◌, ◌*◌, ◌/◌, ◌%◌, ◌<◌, ◌≤◌, ◌∙◌, ap, arith, inl, inr, List, get_or, replicate, zero, suc}
+use Rattle.std.proofs.Common.{ℕ, ℤ, pos, ◌≡◌, ◌≢◌, ◌+◌, ◌-◌, ◌*◌, ◌/◌, ◌%◌, ◌<◌, ◌≤◌, ◌∙◌, ap, arith, inl, inr, List, get_or, replicate}
+use Rattle.std.proofs.Common.{zero, suc}
 use Rattle.std.proofs.lemmas.Bool.{cases_lt}
 use Rattle.diffusion_definitions.specs.Diffusion.{Errors, Plane, Table}
 use Rattle.tile_edges.specs.Edges.{Holds, skewed}
@@ -30,7 +31,8 @@ loaded_above e c j f1 f2 above corner put1 put2 kept2 is_above is_corner = recor
           let n : ℕ = 6 * p + l in
           let here : 34 * (l + p) + p ≡ 34 * (n % 6 + n / 6) + n / 6 = omega arith in
           let row : 0 + p ≡ p = omega arith in
-          ap (λ m. error_held (get_or f2 m 0)) here ∙ put2 n (omega arith) ∙ is_corner.at p l up beside ∙ ap (λ q. skewed e j q (64 * c + l)) row
+          ap (λ m. error_held (get_or f2 m 0)) here ∙ put2 n (omega arith) ∙ is_corner.at p l up beside
+          ∙ ap (λ q. skewed e j q (64 * c + l)) row
       | inr from ↦
           let n : ℕ = 64 * p + (l - 6) in
           let here : 34 * (l + p) + p ≡ 34 * (6 + n % 64 + n / 64) + n / 64 = omega arith in
@@ -66,39 +68,46 @@ loaded_left e c j f1 f2 left loaded is_left there kept = record {
         let n : ℕ = 6 * (p - 2) + l in
         let here : 34 * (l + p) + p ≡ 34 * (2 + n % 6 + n / 6) + 2 + n / 6 = omega arith in
         let row : 2 + (p - 2) ≡ p = omega arith in
-        ap (λ m. error_held (get_or f2 m 0)) here ∙ there n (omega arith) ∙ is_left.at (p - 2) l (omega arith) small ∙ ap (λ q. skewed e j q (64 * c + l)) row
+        ap (λ m. error_held (get_or f2 m 0)) here ∙ there n (omega arith) ∙ is_left.at (p - 2) l (omega arith) small
+        ∙ ap (λ q. skewed e j q (64 * c + l)) row
 
 -- The edges of a field that is done.
 pub right_of : (e : Errors) (c j : ℕ) (f : List ℕ) (right : List ℤ) → IsFilled e c j 103 f
-    → ((n : ℕ) → n < 192 → get_or right n (pos 0) ≡ error_held (get_or f (34 * (66 + n % 6 + n / 6) + 2 + n / 6) 0)) → Holds e j 2 (64 * c + 64) 32 6 right
+    → ((n : ℕ) → n < 192 → get_or right n (pos 0) ≡ error_held (get_or f (34 * (66 + n % 6 + n / 6) + 2 + n / 6) 0))
+    → Holds e j 2 (64 * c + 64) 32 6 right
 right_of e c j f right done taken = record {
   at = λ t i row small.
       let n : ℕ = 6 * t + i in
       let here : 34 * (66 + n % 6 + n / 6) + 2 + n / 6 ≡ 34 * ((64 + i) + (2 + t)) + (2 + t) = omega arith in
       let place : 64 * c + (64 + i) ≡ 64 * c + 64 + i = omega arith in
-      taken n (omega arith) ∙ ap (λ m. error_held (get_or f m 0)) here ∙ done.before (2 + t) (64 + i) (omega arith) (omega arith) (omega arith)
+      taken n (omega arith) ∙ ap (λ m. error_held (get_or f m 0)) here
+      ∙ done.before (2 + t) (64 + i) (omega arith) (omega arith) (omega arith)
       ∙ ap (skewed e j (2 + t)) place;
 }
 
 pub bottom_of : (e : Errors) (c j : ℕ) (f : List ℕ) (bottom : List ℤ) → IsFilled e c j 103 f
-    → ((n : ℕ) → n < 128 → get_or bottom n (pos 0) ≡ error_held (get_or f (34 * (38 + n % 64 + n / 64) + 32 + n / 64) 0)) → Holds e j 32 (64 * c + 6) 2 64 bottom
+    → ((n : ℕ) → n < 128 → get_or bottom n (pos 0) ≡ error_held (get_or f (34 * (38 + n % 64 + n / 64) + 32 + n / 64) 0))
+    → Holds e j 32 (64 * c + 6) 2 64 bottom
 bottom_of e c j f bottom done taken = record {
   at = λ t i row small.
       let n : ℕ = 64 * t + i in
       let here : 34 * (38 + n % 64 + n / 64) + 32 + n / 64 ≡ 34 * ((6 + i) + (32 + t)) + (32 + t) = omega arith in
       let place : 64 * c + (6 + i) ≡ 64 * c + 6 + i = omega arith in
-      taken n (omega arith) ∙ ap (λ m. error_held (get_or f m 0)) here ∙ done.before (32 + t) (6 + i) (omega arith) (omega arith) (omega arith)
+      taken n (omega arith) ∙ ap (λ m. error_held (get_or f m 0)) here
+      ∙ done.before (32 + t) (6 + i) (omega arith) (omega arith) (omega arith)
       ∙ ap (skewed e j (32 + t)) place;
 }
 
 pub corner_of : (e : Errors) (c j : ℕ) (f : List ℕ) (corner : List ℤ) → IsFilled e c j 103 f
-    → ((n : ℕ) → n < 12 → get_or corner n (pos 0) ≡ error_held (get_or f (34 * (96 + n % 6 + n / 6) + 32 + n / 6) 0)) → Holds e j 32 (64 * c + 64) 2 6 corner
+    → ((n : ℕ) → n < 12 → get_or corner n (pos 0) ≡ error_held (get_or f (34 * (96 + n % 6 + n / 6) + 32 + n / 6) 0))
+    → Holds e j 32 (64 * c + 64) 2 6 corner
 corner_of e c j f corner done taken = record {
   at = λ t i row small.
       let n : ℕ = 6 * t + i in
       let here : 34 * (96 + n % 6 + n / 6) + 32 + n / 6 ≡ 34 * ((64 + i) + (32 + t)) + (32 + t) = omega arith in
       let place : 64 * c + (64 + i) ≡ 64 * c + 64 + i = omega arith in
-      taken n (omega arith) ∙ ap (λ m. error_held (get_or f m 0)) here ∙ done.before (32 + t) (64 + i) (omega arith) (omega arith) (omega arith)
+      taken n (omega arith) ∙ ap (λ m. error_held (get_or f m 0)) here
+      ∙ done.before (32 + t) (64 + i) (omega arith) (omega arith) (omega arith)
       ∙ ap (skewed e j (32 + t)) place;
 }
 

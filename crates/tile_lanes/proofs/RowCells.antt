@@ -1,5 +1,6 @@
 -- What the cells of a field hold, and one more.
-use Rattle.std.proofs.Common.{ℕ, ℤ, pos, ◌≡◌, ◌≢◌, ◌+◌, ◌-◌, ◌*◌, ◌<◌, ◌≤◌, ◌∙◌, Bool, true, false, ltb, leb, ap, sym, arith, inl, inr, List, [], ◌∷◌, get_or, set, length, subst, length-set, get_or-set_same, get_or-set_other, ◌&&◌}
+use Rattle.std.proofs.Common.{ℕ, ℤ, pos, ◌≡◌, ◌≢◌, ◌+◌, ◌-◌, ◌*◌, ◌<◌, ◌≤◌, ◌∙◌, Bool, true, false, ltb, leb, ap, sym, arith, inl, inr}
+use Rattle.std.proofs.Common.{List, [], ◌∷◌, get_or, set, length, subst, length-set, get_or-set_same, get_or-set_other, ◌&&◌}
 use Rattle.std.proofs.lemmas.Bool.{cases_eq, cases_lt, and_parts, and_cases, ltb-true, ltb-false, leb-true, leb-false}
 use Rattle.std.proofs.lemmas.List.{get_or_past}
 use Rattle.std.proofs.lemmas.Int.{ints}
@@ -29,31 +30,45 @@ five_are h1 h2 h3 h4 h5 = cc
 pub value_here : (k : Table) (p : Plane) (e : Errors) (c j r o at x : ℕ) (xs same up1 up2 : List ℤ) → Filled e c j r o xs
     → r < 32 → at ≡ 70 * (r + 2) + 6 + o → o < 64 → x + 2 * r ≡ 64 * c + o
     → same ≡ get_or xs (at - 1) (pos 0) ∷ get_or xs (at - 2) (pos 0) ∷ []
-    → up1 ≡ get_or xs (at - 74) (pos 0) ∷ get_or xs (at - 73) (pos 0) ∷ get_or xs (at - 72) (pos 0) ∷ get_or xs (at - 71) (pos 0) ∷ get_or xs (at - 70) (pos 0) ∷ []
-    → up2 ≡ get_or xs (at - 146) (pos 0) ∷ get_or xs (at - 145) (pos 0) ∷ get_or xs (at - 144) (pos 0) ∷ get_or xs (at - 143) (pos 0) ∷ get_or xs (at - 142) (pos 0) ∷ []
+    → up1 ≡ get_or xs (at - 74) (pos 0) ∷ get_or xs (at - 73) (pos 0) ∷ get_or xs (at - 72) (pos 0) ∷ get_or xs (at - 71) (pos 0) ∷ get_or
+    xs (at - 70) (pos 0) ∷ []
+    → up2 ≡ get_or xs (at - 146) (pos 0) ∷ get_or xs (at - 145) (pos 0) ∷ get_or xs (at - 144) (pos 0) ∷ get_or xs (at - 143) (pos 0) ∷
+    get_or xs (at - 142) (pos 0) ∷ []
     → value k (p.amount (32 * j + r) x) same up1 up2 ≡ value_at k p e (32 * j + r) x
 value_here k p e c j r o at x xs same up1 up2 f row is_at small is_x is_same is_up1 is_up2 =
     let y : ℕ = 32 * j + r in
     let same_is : same ≡ e (y + 2) (x + 3) ∷ e (y + 2) (x + 2) ∷ [] =
     is_same ∙ two
-    (cell e c j r o xs f (r + 2) (5 + o) (at - 1) (y + 2) (x + 3) (omega arith) (omega arith) (omega arith) (omega arith) (omega arith) (omega arith))
-    (cell e c j r o xs f (r + 2) (4 + o) (at - 2) (y + 2) (x + 2) (omega arith) (omega arith) (omega arith) (omega arith) (omega arith) (omega arith)) in
+    (cell e c j r o xs f (r + 2) (5 + o) (at - 1) (y + 2) (x + 3) (omega arith) (omega arith) (omega arith) (omega arith) (omega arith)
+    (omega arith))
+    (cell e c j r o xs f (r + 2) (4 + o) (at - 2) (y + 2) (x + 2) (omega arith) (omega arith) (omega arith) (omega arith) (omega arith)
+    (omega arith)) in
     let up1_is : up1 ≡ five (e (y + 1)) (x + 2) =
     is_up1 ∙ five_are
-    (cell e c j r o xs f (r + 1) (2 + o) (at - 74) (y + 1) (x + 2) (omega arith) (omega arith) (omega arith) (omega arith) (omega arith) (omega arith))
-    (cell e c j r o xs f (r + 1) (3 + o) (at - 73) (y + 1) (x + 2 + 1) (omega arith) (omega arith) (omega arith) (omega arith) (omega arith) (omega arith))
-    (cell e c j r o xs f (r + 1) (4 + o) (at - 72) (y + 1) (x + 2 + 2) (omega arith) (omega arith) (omega arith) (omega arith) (omega arith) (omega arith))
-    (cell e c j r o xs f (r + 1) (5 + o) (at - 71) (y + 1) (x + 2 + 3) (omega arith) (omega arith) (omega arith) (omega arith) (omega arith) (omega arith))
-    (cell e c j r o xs f (r + 1) (6 + o) (at - 70) (y + 1) (x + 2 + 4) (omega arith) (omega arith) (omega arith) (omega arith) (omega arith) (omega arith)) in
+    (cell e c j r o xs f (r + 1) (2 + o) (at - 74) (y + 1) (x + 2) (omega arith) (omega arith) (omega arith) (omega arith) (omega arith)
+    (omega arith))
+    (cell e c j r o xs f (r + 1) (3 + o) (at - 73) (y + 1) (x + 2 + 1) (omega arith) (omega arith) (omega arith) (omega arith) (omega arith)
+    (omega arith))
+    (cell e c j r o xs f (r + 1) (4 + o) (at - 72) (y + 1) (x + 2 + 2) (omega arith) (omega arith) (omega arith) (omega arith) (omega arith)
+    (omega arith))
+    (cell e c j r o xs f (r + 1) (5 + o) (at - 71) (y + 1) (x + 2 + 3) (omega arith) (omega arith) (omega arith) (omega arith) (omega arith)
+    (omega arith))
+    (cell e c j r o xs f (r + 1) (6 + o) (at - 70) (y + 1) (x + 2 + 4) (omega arith) (omega arith) (omega arith) (omega arith) (omega arith)
+    (omega arith)) in
     let up2_is : up2 ≡ five (e y) (x + 2) =
     is_up2 ∙ five_are
     (cell e c j r o xs f r o (at - 146) y (x + 2) (omega arith) (omega arith) (omega arith) (omega arith) (omega arith) (omega arith))
-    (cell e c j r o xs f r (1 + o) (at - 145) y (x + 2 + 1) (omega arith) (omega arith) (omega arith) (omega arith) (omega arith) (omega arith))
-    (cell e c j r o xs f r (2 + o) (at - 144) y (x + 2 + 2) (omega arith) (omega arith) (omega arith) (omega arith) (omega arith) (omega arith))
-    (cell e c j r o xs f r (3 + o) (at - 143) y (x + 2 + 3) (omega arith) (omega arith) (omega arith) (omega arith) (omega arith) (omega arith))
-    (cell e c j r o xs f r (4 + o) (at - 142) y (x + 2 + 4) (omega arith) (omega arith) (omega arith) (omega arith) (omega arith) (omega arith)) in
+    (cell e c j r o xs f r (1 + o) (at - 145) y (x + 2 + 1) (omega arith) (omega arith) (omega arith) (omega arith) (omega arith)
+    (omega arith))
+    (cell e c j r o xs f r (2 + o) (at - 144) y (x + 2 + 2) (omega arith) (omega arith) (omega arith) (omega arith) (omega arith)
+    (omega arith))
+    (cell e c j r o xs f r (3 + o) (at - 143) y (x + 2 + 3) (omega arith) (omega arith) (omega arith) (omega arith) (omega arith)
+    (omega arith))
+    (cell e c j r o xs f r (4 + o) (at - 142) y (x + 2 + 4) (omega arith) (omega arith) (omega arith) (omega arith) (omega arith)
+    (omega arith)) in
     let v : List ℤ → List ℤ → List ℤ → ℤ = value k (p.amount y x) in
-    ap (λ s. v s up1 up2) same_is ∙ ap (λ u. v (e (y + 2) (x + 3) ∷ e (y + 2) (x + 2) ∷ []) u up2) up1_is ∙ ap (v (e (y + 2) (x + 3) ∷ e (y + 2) (x + 2) ∷ []) (five (e (y + 1)) (x + 2))) up2_is
+    ap (λ s. v s up1 up2) same_is ∙ ap (λ u. v (e (y + 2) (x + 3) ∷ e (y + 2) (x + 2) ∷ []) u up2) up1_is
+    ∙ ap (v (e (y + 2) (x + 3) ∷ e (y + 2) (x + 2) ∷ []) (five (e (y + 1)) (x + 2))) up2_is
 
 -- One more cell that is right.
 pub filled_more : (e : Errors) (c j r o at : ℕ) (xs : List ℤ) (v : ℤ) → Filled e c j r o xs
@@ -84,7 +99,8 @@ filled_row e c j r o xs in_band end f = record {
 }
 
 -- Where there is no pixel the error is 0.
-pub no_pixel : (k : Table) (p : Plane) (e : Errors) (j r u : ℕ) → Solves k p e → is_place p j r u ≡ false → skewed e j (r + 2) (u + 6) ≡ pos 0
+pub no_pixel : (k : Table) (p : Plane) (e : Errors) (j r u : ℕ) → Solves k p e → is_place p j r u ≡ false
+    → skewed e j (r + 2) (u + 6) ≡ pos 0
 no_pixel k p e j r u s none =
     let y : ℕ = 32 * j + r in
     let row : 32 * j + (r + 2) ≡ y + 2 = omega arith in
@@ -135,10 +151,13 @@ dots_more dots o b f room old is_b i below = elim (cases_eq i o) [
 
 -- The pixel at offset o of row r, where there is one: what the rule gives is its error and its dot.
 pub pixel_right : (k : Table) (p : Plane) (e : Errors) (c j r o at x : ℕ) (xs same up1 up2 : List ℤ) (err : ℤ) (on : Bool)
-    → Solves k p e → Filled e c j r o xs → r < 32 → at ≡ 70 * (r + 2) + 6 + o → o < 64 → is_place p j r (64 * c + o) ≡ true → x ≡ 64 * c + o - 2 * r
+    → Solves k p e → Filled e c j r o xs → r < 32 → at ≡ 70 * (r + 2) + 6 + o → o < 64 → is_place p j r (64 * c + o) ≡ true
+    → x ≡ 64 * c + o - 2 * r
     → same ≡ get_or xs (at - 1) (pos 0) ∷ get_or xs (at - 2) (pos 0) ∷ []
-    → up1 ≡ get_or xs (at - 74) (pos 0) ∷ get_or xs (at - 73) (pos 0) ∷ get_or xs (at - 72) (pos 0) ∷ get_or xs (at - 71) (pos 0) ∷ get_or xs (at - 70) (pos 0) ∷ []
-    → up2 ≡ get_or xs (at - 146) (pos 0) ∷ get_or xs (at - 145) (pos 0) ∷ get_or xs (at - 144) (pos 0) ∷ get_or xs (at - 143) (pos 0) ∷ get_or xs (at - 142) (pos 0) ∷ []
+    → up1 ≡ get_or xs (at - 74) (pos 0) ∷ get_or xs (at - 73) (pos 0) ∷ get_or xs (at - 72) (pos 0) ∷ get_or xs (at - 71) (pos 0) ∷ get_or
+    xs (at - 70) (pos 0) ∷ []
+    → up2 ≡ get_or xs (at - 146) (pos 0) ∷ get_or xs (at - 145) (pos 0) ∷ get_or xs (at - 144) (pos 0) ∷ get_or xs (at - 143) (pos 0) ∷
+    get_or xs (at - 142) (pos 0) ∷ []
     → err ≡ error_of (value k (p.amount (32 * j + r) x) same up1 up2)
     → on ≡ is_dot (value k (p.amount (32 * j + r) x) same up1 up2)
     → record { err : err ≡ skewed e j (r + 2) (64 * c + (6 + o)); on : on ≡ shown k p e j r (64 * c + o) }
@@ -151,12 +170,14 @@ pixel_right k p e c j r o at x xs same up1 up2 err on s f row is_at small place 
     let wide_u : u - 2 * r < p.width = ltb-true (u - 2 * r) p.width sides.0 in
     let wide : x < p.width = omega arith in
     let high : y < p.height = ltb-true y p.height sides.1 in
-    let v : value k (p.amount y x) same up1 up2 ≡ value_at k p e y x = value_here k p e c j r o at x xs same up1 up2 f row is_at small (omega arith) is_same is_up1 is_up2 in
+    let v : value k (p.amount y x) same up1 up2 ≡ value_at k p e y x = value_here k p e c j r o at x xs same up1 up2 f row is_at small
+    (omega arith) is_same is_up1 is_up2 in
     let at_row : y + 2 ≡ 32 * j + (r + 2) = omega arith in
     let at_place : x + 4 ≡ 64 * c + (6 + o) + 2 - 2 * (r + 2) = omega arith in
     record {
       err = is_err ∙ ap error_of v ∙ sym (s.pixel y x high wide) ∙ ap (λ m. e m (x + 4)) at_row ∙ ap (e (32 * j + (r + 2))) at_place;
-      on = is_on ∙ ap is_dot v ∙ ap (λ n. is_dot (value_at k p e y n)) is_x ∙ ap (λ b. b && is_dot (value_at k p e y (u - 2 * r))) (sym place);
+      on = is_on ∙ ap is_dot v ∙ ap (λ n. is_dot (value_at k p e y n)) is_x
+          ∙ ap (λ b. b && is_dot (value_at k p e y (u - 2 * r))) (sym place);
     }
 
 -- Where there is no pixel, the error is 0 and there is no dot.

@@ -1,5 +1,6 @@
 -- A tile from its edges to its edges.
-use Rattle.std.proofs.Common.{ℕ, ℤ, pos, ◌==◌, ◌&&◌, true, ◌≡◌, ◌≢◌, ◌+◌, ◌-◌, ◌*◌, ◌/◌, ◌%◌, ◌<◌, ◌≤◌, ◌∙◌, Bool, false, ap, sym, arith, inl, inr, List, get_or, replicate, zero, suc}
+use Rattle.std.proofs.Common.{ℕ, ℤ, pos, ◌==◌, ◌&&◌, true, ◌≡◌, ◌≢◌, ◌+◌, ◌-◌, ◌*◌, ◌/◌, ◌%◌, ◌<◌, ◌≤◌, ◌∙◌, Bool, false, ap, sym, arith}
+use Rattle.std.proofs.Common.{inl, inr, List, get_or, replicate, zero, suc}
 use Rattle.std.proofs.lemmas.Bool.{cases_eq, cases_lt, le-leb, lt-leb}
 use Rattle.std.proofs.lemmas.Int.{ints}
 use Rattle.diffusion_definitions.specs.Diffusion.{EachInRange, inside, is_dot, on, value_at}
@@ -22,7 +23,8 @@ pub dots_row : (k : Table) (p : Plane) (e : Errors) (c j r : ℕ) (old bits : Li
     → DotsSoFar k p e c j (r + 1) bits
 dots_row k p e c j r old bits dots f row packed kept = record {
   at = λ q o below small. elim (cases_eq q r) [
-    | inl last ↦ ap (λ m. bit bits (64 * m + o)) last ∙ packed o small ∙ ap bit_of (row o small) ∙ ap (λ m. bit_of (shown k p e j m (64 * c + o))) (sym last)
+    | inl last ↦ ap (λ m. bit bits (64 * m + o)) last ∙ packed o small ∙ ap bit_of (row o small)
+        ∙ ap (λ m. bit_of (shown k p e j m (64 * c + o))) (sym last)
     | inr else ↦ let before : q < r = omega arith in kept (64 * q + o) (omega arith) ∙ f.at q o before small
   ];
 }
@@ -43,13 +45,15 @@ left_cells e c j f1 f2 f3 left before put1 kept2 put3 kept3 is_left is_before p 
   | inl top ↦
       let n : ℕ = 6 * p + l in
       let here : 70 * p + l ≡ 70 * (n / 6) + n % 6 = omega arith in
-      ap (λ m. get_or f3 m (pos 0)) here ∙ put3 n (omega arith) ∙ is_before.at p l top small ∙ ap (λ q. skewed e j q (64 * c + l)) (omega arith)
+      ap (λ m. get_or f3 m (pos 0)) here ∙ put3 n (omega arith) ∙ is_before.at p l top small
+      ∙ ap (λ q. skewed e j q (64 * c + l)) (omega arith)
   | inr under ↦
       let n : ℕ = 6 * (p - 2) + l in
       let here : 70 * p + l ≡ 140 + 70 * (n / 6) + n % 6 = omega arith in
       let row : 2 + (p - 2) ≡ p = omega arith in
       kept3 (70 * p + l) (λ m h. omega arith) ∙ kept2 (70 * p + l) (λ m h. omega arith)
-      ∙ ap (λ m. get_or f1 m (pos 0)) here ∙ put1 n (omega arith) ∙ is_left.at (p - 2) l (omega arith) small ∙ ap (λ q. skewed e j q (64 * c + l)) row
+      ∙ ap (λ m. get_or f1 m (pos 0)) here ∙ put1 n (omega arith) ∙ is_left.at (p - 2) l (omega arith) small
+      ∙ ap (λ q. skewed e j q (64 * c + l)) row
 ]
 
 -- What holds of a field after its three edges were put in.
@@ -84,17 +88,20 @@ right_edge e c j f right done taken = record {
       let n : ℕ = 6 * t + i in
       let here : 204 + 70 * (n / 6) + n % 6 ≡ 70 * (2 + t) + (64 + i) = omega arith in
       let place : 64 * c + (64 + i) ≡ 64 * c + 64 + i = omega arith in
-      taken n (omega arith) ∙ ap (λ m. get_or f m (pos 0)) here ∙ done.before (2 + t) (64 + i) (omega arith) (omega arith) (omega arith) ∙ ap (skewed e j (2 + t)) place;
+      taken n (omega arith) ∙ ap (λ m. get_or f m (pos 0)) here ∙ done.before (2 + t) (64 + i) (omega arith) (omega arith) (omega arith)
+      ∙ ap (skewed e j (2 + t)) place;
 }
 
 pub bottom_edge : (e : Errors) (c j : ℕ) (f bottom : List ℤ) → Filled e c j 32 0 f
-    → ((n : ℕ) → n < 128 → get_or bottom n (pos 0) ≡ get_or f (2246 + 70 * (n / 64) + n % 64) (pos 0)) → Holds e j 32 (64 * c + 6) 2 64 bottom
+    → ((n : ℕ) → n < 128 → get_or bottom n (pos 0) ≡ get_or f (2246 + 70 * (n / 64) + n % 64) (pos 0))
+    → Holds e j 32 (64 * c + 6) 2 64 bottom
 bottom_edge e c j f bottom done taken = record {
   at = λ t i row small.
       let n : ℕ = 64 * t + i in
       let here : 2246 + 70 * (n / 64) + n % 64 ≡ 70 * (32 + t) + (6 + i) = omega arith in
       let place : 64 * c + (6 + i) ≡ 64 * c + 6 + i = omega arith in
-      taken n (omega arith) ∙ ap (λ m. get_or f m (pos 0)) here ∙ done.before (32 + t) (6 + i) (omega arith) (omega arith) (omega arith) ∙ ap (skewed e j (32 + t)) place;
+      taken n (omega arith) ∙ ap (λ m. get_or f m (pos 0)) here ∙ done.before (32 + t) (6 + i) (omega arith) (omega arith) (omega arith)
+      ∙ ap (skewed e j (32 + t)) place;
 }
 
 pub corner_edge : (e : Errors) (c j : ℕ) (f corner : List ℤ) → Filled e c j 32 0 f
@@ -104,7 +111,8 @@ corner_edge e c j f corner done taken = record {
       let n : ℕ = 6 * t + i in
       let here : 2304 + 70 * (n / 6) + n % 6 ≡ 70 * (32 + t) + (64 + i) = omega arith in
       let place : 64 * c + (64 + i) ≡ 64 * c + 64 + i = omega arith in
-      taken n (omega arith) ∙ ap (λ m. get_or f m (pos 0)) here ∙ done.before (32 + t) (64 + i) (omega arith) (omega arith) (omega arith) ∙ ap (skewed e j (32 + t)) place;
+      taken n (omega arith) ∙ ap (λ m. get_or f m (pos 0)) here ∙ done.before (32 + t) (64 + i) (omega arith) (omega arith) (omega arith)
+      ∙ ap (skewed e j (32 + t)) place;
 }
 
 row_bit : (bits : List ℕ) (n : ℕ) (b : Bool) → bit bits n ≡ bit_of b → row_dot bits n ≡ b
@@ -112,17 +120,20 @@ row_bit bits n true is = ap (λ m. m == 1) is
 row_bit bits n false is = ap (λ m. m == 1) is
 
 -- The dots of all rows are those of the tile.
-pub dots_done : (k : Table) (p : Plane) (e : Errors) (place : Place) (bits : List ℕ) → DotsSoFar k p e place.c place.j 32 bits → HasDots k p e place bits
+pub dots_done : (k : Table) (p : Plane) (e : Errors) (place : Place) (bits : List ℕ) → DotsSoFar k p e place.c place.j 32 bits
+    → HasDots k p e place bits
 dots_done k p e place bits f = record {
   pixel = λ r o x y at.
       let u : ℕ = 64 * place.c + o in
       let from : 2 * r ≤ u = omega (arith, at.across) in
       let is_x : u - 2 * r ≡ x = omega (arith, at.across) in
       row_bit bits (64 * r + o) (shown k p e place.j r u) (f.at r o at.in_band at.in_tile)
-      ∙ ap (λ b. (b && inside p (32 * place.j + r) (u - 2 * r)) && is_dot (value_at k p e (32 * place.j + r) (u - 2 * r))) (le-leb (2 * r) u from)
+      ∙ ap (λ b. (b && inside p (32 * place.j + r) (u - 2 * r)) && is_dot (value_at k p e (32 * place.j + r) (u - 2 * r)))
+      (le-leb (2 * r) u from)
       ∙ ap (λ n. on k p e (32 * place.j + r) n) is_x ∙ ap (λ n. on k p e n x) (sym at.down);
   left = λ r o row small few.
       let u : ℕ = 64 * place.c + o in
       row_bit bits (64 * r + o) (shown k p e place.j r u) (f.at r o row small)
-      ∙ ap (λ b. (b && inside p (32 * place.j + r) (u - 2 * r)) && is_dot (value_at k p e (32 * place.j + r) (u - 2 * r))) (lt-leb (2 * r) u few);
+      ∙ ap (λ b. (b && inside p (32 * place.j + r) (u - 2 * r)) && is_dot (value_at k p e (32 * place.j + r) (u - 2 * r)))
+      (lt-leb (2 * r) u few);
 }

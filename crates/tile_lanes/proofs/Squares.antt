@@ -1,12 +1,14 @@
 -- Rows of sixteen lanes, interleaved four times over.
-use Rattle.std.proofs.Common.{ℕ, ◌≡◌, ◌+◌, ◌*◌, ◌/◌, ◌%◌, ◌<◌, ◌∙◌, ◌++◌, ap, sym, arith, inl, inr, zero, suc, List, [], ◌∷◌, get_or, set, length, length-set, get_or-set_same, get_or-set_other}
+use Rattle.std.proofs.Common.{ℕ, ◌≡◌, ◌+◌, ◌*◌, ◌/◌, ◌%◌, ◌<◌, ◌∙◌, ◌++◌, ap, sym, arith, inl, inr, zero, suc, List, [], ◌∷◌, get_or, set}
+use Rattle.std.proofs.Common.{length, length-set, get_or-set_same, get_or-set_other}
 use Rattle.std.proofs.lemmas.Bool.{cases_eq}
 use Rattle.std.proofs.lemmas.List.{get_or-append-add, get_or_append_left}
 use Rattle.tile_lanes.specs.Square.{IsSquare, lane}
 
 -- the lanes of two vectors in turn
 pub turns : (f : ℕ → ℕ) (m : ℕ) → m < 16
-    → get_or (f 0 ∷ f 16 ∷ f 1 ∷ f 17 ∷ f 2 ∷ f 18 ∷ f 3 ∷ f 19 ∷ f 4 ∷ f 20 ∷ f 5 ∷ f 21 ∷ f 6 ∷ f 22 ∷ f 7 ∷ f 23 ∷ []) m 0 ≡ f (m / 2 + 16 * (m % 2))
+    → get_or (f 0 ∷ f 16 ∷ f 1 ∷ f 17 ∷ f 2 ∷ f 18 ∷ f 3 ∷ f 19 ∷ f 4 ∷ f 20 ∷ f 5 ∷ f 21 ∷ f 6 ∷ f 22 ∷ f 7 ∷ f 23 ∷ []) m 0 ≡ f
+    (m / 2 + 16 * (m % 2))
 turns f zero h = ap f (omega arith)
 turns f (suc zero) h = ap f (omega arith)
 turns f (suc (suc zero)) h = ap f (omega arith)
@@ -41,19 +43,23 @@ pub riffle_more : (x y : List (List ℕ)) (low high : List ℕ) (q : ℕ) → q 
     → ((m : ℕ) → m < 16 → get_or low m 0 ≡ get_or (get_or x q [] ++ get_or x (q + 8) []) (m / 2 + 16 * (m % 2)) 0)
     → ((m : ℕ) → m < 16 → get_or high m 0 ≡ get_or (get_or x q [] ++ get_or x (q + 8) []) (8 + (m / 2 + 16 * (m % 2))) 0)
     → ((i m : ℕ) → i < 2 * q → m < 16 → lane y i m ≡ lane x (i / 2 + 8 * (m % 2)) (8 * (i % 2) + m / 2))
-    → (i m : ℕ) → i < 2 * (q + 1) → m < 16 → lane (set (set y (2 * q) low) (2 * q + 1) high) i m ≡ lane x (i / 2 + 8 * (m % 2)) (8 * (i % 2) + m / 2)
+    → (i m : ℕ) → i < 2 * (q + 1) → m < 16
+    → lane (set (set y (2 * q) low) (2 * q + 1) high) i m ≡ lane x (i / 2 + 8 * (m % 2)) (8 * (i % 2) + m / 2)
 riffle_more x y low high q small sx sy is_low is_high done i m below few = elim (cases_eq i (2 * q + 1)) [
   | inl second ↦
       let row : i / 2 ≡ q = omega arith in
       let half : i % 2 ≡ 1 = omega arith in
-      ap (λ v. get_or v m 0) (ap (λ k. get_or (set one (2 * q + 1) high) k []) second ∙ get_or-set_same one (2 * q + 1) high [] (omega (arith, long1)))
-      ∙ is_high m few ∙ part (8 + m / 2) (omega arith) (let same : 8 + (m / 2 + 16 * (m % 2)) ≡ 8 + m / 2 + 16 * (m % 2) = omega arith in same)
+      ap (λ v. get_or v m 0) (ap (λ k. get_or (set one (2 * q + 1) high) k []) second
+      ∙ get_or-set_same one (2 * q + 1) high [] (omega (arith, long1)))
+      ∙ is_high m few ∙ part (8 + m / 2) (omega arith)
+      (let same : 8 + (m / 2 + 16 * (m % 2)) ≡ 8 + m / 2 + 16 * (m % 2) = omega arith in same)
       ∙ ap (λ k. lane x (k + 8 * (m % 2)) (8 + m / 2)) (sym row) ∙ ap (λ k. lane x (i / 2 + 8 * (m % 2)) (8 * k + m / 2)) (sym half)
   | inr not ↦ ap (λ v. get_or v m 0) (get_or-set_other one (2 * q + 1) i high [] not) ∙ elim (cases_eq i (2 * q)) [
     | inl first ↦
         let row : i / 2 ≡ q = omega arith in
         let half : i % 2 ≡ 0 = omega arith in
-        ap (λ v. get_or v m 0) (ap (λ k. get_or (set y (2 * q) low) k []) first ∙ get_or-set_same y (2 * q) low [] (omega (arith, sy.vectors)))
+        ap (λ v. get_or v m 0) (ap (λ k. get_or (set y (2 * q) low) k []) first
+        ∙ get_or-set_same y (2 * q) low [] (omega (arith, sy.vectors)))
         ∙ is_low m few ∙ part (0 + m / 2) (omega arith) (let same : m / 2 + 16 * (m % 2) ≡ 0 + m / 2 + 16 * (m % 2) = omega arith in same)
         ∙ ap (λ k. lane x (k + 8 * (m % 2)) (0 + m / 2)) (sym row) ∙ ap (λ k. lane x (i / 2 + 8 * (m % 2)) (8 * k + m / 2)) (sym half)
     | inr other ↦ ap (λ v. get_or v m 0) (get_or-set_other y (2 * q) i low [] other) ∙ done i m (omega arith) few

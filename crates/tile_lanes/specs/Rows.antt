@@ -30,7 +30,8 @@ abbrev pub up1_near : List ℤ → ℕ → List ℤ
 up1_near xs at = error_in xs (at - 74) ∷ error_in xs (at - 73) ∷ error_in xs (at - 72) ∷ error_in xs (at - 71) ∷ error_in xs (at - 70) ∷ []
 
 abbrev pub up2_near : List ℤ → ℕ → List ℤ
-up2_near xs at = error_in xs (at - 146) ∷ error_in xs (at - 145) ∷ error_in xs (at - 144) ∷ error_in xs (at - 143) ∷ error_in xs (at - 142) ∷ []
+up2_near xs at =
+    error_in xs (at - 146) ∷ error_in xs (at - 145) ∷ error_in xs (at - 144) ∷ error_in xs (at - 143) ∷ error_in xs (at - 142) ∷ []
 
 -- a dot as a number
 abbrev pub bit_of : Bool → ℕ

@@ -1,6 +1,6 @@
 //! A tile with its rows in step. A field is 103 groups of 34 errors. Row p, counted from two rows above the tile, has
-//! its error at place l, counted from six left of the tile, in group l + p. A pixel reads errors of earlier groups
-//! alone, so those of one group are taken in one step.
+//! its error at place l, counted from six left of the tile, in group l + p. A pixel reads only errors of earlier
+//! groups, so the pixels of one group are diffused in one step.
 ghost use Rattle.diffusion_definitions.specs.Diffusion.{EachInRange, Errors, Solves};
 ghost use Rattle.diffusion_kernel.specs.Tables.{table_of};
 ghost use Rattle.std.specs.Prelude.{true, ◌<◌, ◌≡◌, ◌≤◌};
@@ -33,7 +33,7 @@ fn is_whole(place: Place, rows: &InkRows, ink: u8) -> bool
         && 32 * place.j as usize + 32 <= rows.rows() as usize
 }
 
-// Takes back what a step gave to pixels that do not exist, where there are any.
+// Clears the errors and dots of a step where the window has no pixel. A whole tile has none to clear.
 #[inline(always)]
 fn clear_missing(
     whole: bool,
@@ -56,7 +56,7 @@ fn clear_missing(
     }
 }
 
-// All steps of a tile below and beside its edges.
+// Diffuses the pixels of a tile whose edges are in the field.
 #[inline(always)]
 fn diffuse_steps(
     kernel: Kernel,
@@ -86,7 +86,7 @@ fn diffuse_steps(
     }
 }
 
-/// Diffuses the pixels that one ink has in a tile, as `diffuse_tile` says.
+/// Diffuses one ink of a tile, as `diffuse_tile` says.
 #[inline(always)]
 pub(crate) fn diffuse_lanes(
     kernel: Kernel,

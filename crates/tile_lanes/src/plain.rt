@@ -1,4 +1,4 @@
-//! A tile row by row, by the words of the rule.
+//! A tile row by row, as the rule is defined.
 ghost use Rattle.diffusion_definitions.specs.Diffusion.{EachInRange, Errors, Solves};
 ghost use Rattle.diffusion_kernel.specs.Tables.{table_of};
 ghost use Rattle.std.specs.Prelude.{◌<◌};
@@ -16,8 +16,7 @@ use packing::pack_row;
 use row::diffuse_row;
 use tile_shape::Place;
 
-/// The plain, slow program of what `diffuse_tile` promises, with which tests compare it: the pixels one by one, row
-/// by row.
+/// A plain, slow program with the contract of `diffuse_tile`, with which tests compare it: pixel by pixel, row by row.
 pub fn diffuse_tile_plainly(
     kernel: Kernel,
     place: Place,

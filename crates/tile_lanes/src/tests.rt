@@ -1,4 +1,4 @@
-//! Tiles against the rule over whole windows, and against the tile taken row by row.
+//! Tiles compared with the rule over whole windows, and with tiles diffused row by row.
 ghost use Rattle.diffusion_definitions.specs.Diffusion.{EachInRange, InRange};
 ghost use Rattle.std.specs.Prelude.{true, ◌<◌, ◌≡◌};
 ghost use Rattle.tile_lanes.specs.Done.{window_of};
@@ -13,7 +13,7 @@ use dot_planes::InkRows;
 use std::alloc::Global;
 use tile_shape::Place;
 
-/// A block of errors of a tile: those of its first row and its first offset on, row by row, in each so many.
+// A block of a tile's errors: from a row and an offset on, row by row, `wide` errors of each.
 #[derive(Clone, Copy)]
 struct Block {
     row: i64,
@@ -57,7 +57,7 @@ const LOWER_CORNER: Block = Block {
     wide: 6,
 };
 
-/// What a tile is handed, or hands on.
+// What a tile is handed, or hands on.
 #[derive(Clone, Copy, PartialEq, Eq)]
 struct Edges {
     side: [i16; 192],
@@ -80,7 +80,7 @@ fn error_in_range(error: i32) -> i16
     error.min(2039).max(-2040) as i16
 }
 
-/// Fills an edge with the errors of a block.
+// Fills an edge with the errors of a block.
 fn fill(known: &Definition, place: Place, block: Block, edge: &mut [i16])
     requires { EachInRange edge.old }
     ensures { EachInRange edge.new }
@@ -90,7 +90,7 @@ fn fill(known: &Definition, place: Place, block: Block, edge: &mut [i16])
     }
 }
 
-/// Fills an edge with one error.
+// Fills an edge with one error.
 fn fill_all(edge: &mut [i16], error: i32)
     requires { EachInRange edge.old }
     ensures { EachInRange edge.new }
@@ -100,7 +100,7 @@ fn fill_all(edge: &mut [i16], error: i32)
     }
 }
 
-/// No errors.
+// No errors.
 fn no_edges() -> Edges
     ensures side { EachInRange result.side }
     ensures band { EachInRange result.band }
@@ -113,7 +113,7 @@ fn no_edges() -> Edges
     }
 }
 
-/// What a tile is handed.
+// What a tile is handed.
 fn handed(known: &Definition, place: Place) -> Edges
     ensures side { EachInRange result.side }
     ensures band { EachInRange result.band }
@@ -160,7 +160,7 @@ fn is_tile(rows: &InkRows, place: Place) -> bool
         && rows.inks() > 0
 }
 
-/// Whether a tile hands on what the definition says, by both bodies.
+// Whether a tile hands on what the definition says, by both bodies.
 fn is_right(known: &Definition, kernel: Kernel, place: Place, rows: &InkRows) -> bool {
     if !is_tile(rows, place) {
         return false;
@@ -207,7 +207,7 @@ fn set_amounts(rows: &mut InkRows, fill: Fill) {
     }
 }
 
-/// How many tiles of a window are wrong, or `None` where there is no memory.
+// How many tiles of a window are wrong, or `None` where there is no memory.
 fn wrong_tiles(alloc: Global, kernel: Kernel, fill: Fill, width: u32, height: u32) -> Option<u32> {
     if width < 1 || width > 200 || height < 1 || height > 70 {
         return None;
@@ -250,7 +250,7 @@ fn even_amounts_have_the_errors_and_dots_of_the_rule(rt: HostRuntime) {
     }
 }
 
-/// Whether both bodies give one answer at a place, whose edges all have one error.
+// Whether both bodies give one answer at a place, whose edges all have one error.
 fn agree(kernel: Kernel, place: Place, rows: &InkRows, error: i32) -> bool {
     if !is_tile(rows, place) {
         return false;

@@ -10,12 +10,12 @@ use diffusion_kernel::Kernel;
 use dot_planes::InkRows;
 use tile_shape::Place;
 
-/// Diffuses the pixels that one ink has in a tile. The errors of the tile's edges, each from -2040 to 2039, are
-/// handed in and handed on in the same room:
+/// Diffuses one ink of a tile. Each array of errors, from -2040 to 2039, holds an edge that the tile is handed, and
+/// after the call the one that it hands on:
 ///
-/// - `side`: 32 rows of six, the left edge and then the right one;
-/// - `band`: two rows of 64, those above the tile and then the tile's last two;
-/// - `corner`: two rows of six, those left of `band`'s first and then the ends of its last.
+/// - `side`: 32 rows of six errors, before the call the left edge, after it the right one;
+/// - `band`: two rows of 64, before the call those above the tile, after it the tile's last two;
+/// - `corner`: two rows of six, before the call those left of `band`, after it the last six of `band`.
 ///
 /// `dots` becomes 32 rows of 64 dots, eight a byte, the first in the highest bit; where the window has no pixel there
 /// is no dot.
@@ -38,12 +38,12 @@ pub fn diffuse_tile(
     ensures band_fits { EachInRange band.new }
     ensures corner_fits { EachInRange corner.new }
 
-    // For any errors that solve the rule, whatever stands above the window.
+    // For any errors that solve the rule, whatever those above the window are.
     ensures done { (e : Errors) → Solves (table_of kernel) (plane_of rows.now ink) e
         → IsReady e place side.old band.old corner.old
         → IsDone (table_of kernel) (plane_of rows.now ink) e place side.new band.new corner.new dots.new }
 {
-    // each kernel has a call of its own, which is compiled for its shares
+    // A call for each kernel: its shares are constants there.
     match kernel {
         Kernel::Floyd => diffuse_lanes(Kernel::Floyd, place, rows, ink, side, band, corner, dots),
         Kernel::Jarvis => diffuse_lanes(Kernel::Jarvis, place, rows, ink, side, band, corner, dots),

@@ -1,4 +1,4 @@
-//! A window diffused by the words of the rule, row by row over its whole width.
+//! A window diffused as the rule is defined, row by row over its whole width, below rows of one error.
 use diffusion_kernel::Kernel;
 use std::alloc::Global;
 
@@ -7,11 +7,13 @@ use std::alloc::Global;
 pub(crate) struct Definition {
     width: i64,
     height: i64,
+    /// The error at each place of the top.
+    top: i32,
     errors: Vec<i32>,
     dots: Vec<bool>,
 }
 
-/// The amount of an ink at a pixel: numbers that jump about.
+/// The amount of an ink at a pixel, by a hash of its place.
 pub(crate) fn amount_at(ink: u8, x: u32, y: u32) -> u8 {
     let n = x
         .wrapping_mul(2654435761)
@@ -31,9 +33,19 @@ impl Definition {
         0 <= x && x < self.width && 0 <= y && y < self.height
     }
 
-    fn error(&self, x: i64, y: i64) -> i32 {
+    // Whether a place of rows -2 and -1 is one of the top: its edges begin 60 and 62 pixels left of the window.
+    fn is_top(&self, x: i64, y: i64) -> bool {
+        let columns = self.width.wrapping_add(125) / 64;
+        let u = x.wrapping_add(64).wrapping_add(y.wrapping_mul(2));
+        (y == -2 || y == -1) && 0 <= u && u < columns.wrapping_mul(64)
+    }
+
+    /// The error at column x and row y; the rows above the window are -2 and -1.
+    pub(crate) fn error(&self, x: i64, y: i64) -> i32 {
         if self.has(x, y) {
             self.errors.get(self.place(x, y)).copied().unwrap_or(0)
+        } else if self.is_top(x, y) {
+            self.top
         } else {
             0
         }
@@ -69,11 +81,12 @@ impl Definition {
         }
     }
 
-    /// An ink of a window of this size, or `None` where there is no memory.
+    /// An ink of a window of this size below a top of one error, or `None` on `Memory`.
     pub(crate) fn make(
         alloc: Global,
         kernel: Kernel,
         ink: u8,
+        top: i16,
         width: u32,
         height: u32,
     ) -> Option<Definition> {
@@ -84,6 +97,7 @@ impl Definition {
         let mut known = Definition {
             width: i64::from(width),
             height: i64::from(height),
+            top: i32::from(top),
             errors,
             dots,
         };

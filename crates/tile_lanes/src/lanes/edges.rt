@@ -3,7 +3,7 @@ ghost use Rattle.diffusion_definitions.specs.Diffusion.{EachInRange, InRange};
 ghost use Rattle.std.specs.Prelude.{pos, slice_index, slice_index_or, ◌%◌, ◌*◌, ◌+◌, ◌-◌, ◌/◌, ◌<◌, ◌≡◌, ◌≢◌, ◌≤◌, ℕ};
 ghost use Rattle.tile_lanes.specs.Held.{HeldInRange, error_held};
 
-// An error, held.
+// An error with 2040 added.
 #[inline(always)]
 fn hold(error: i16) -> u16
     requires { InRange error }
@@ -13,7 +13,7 @@ fn hold(error: i16) -> u16
     (error + 2040) as u16
 }
 
-// The error that is held.
+// An error without the 2040 that was added.
 #[inline(always)]
 fn release(held: u16) -> i16
     requires { held ≤ 4079 }
@@ -39,7 +39,7 @@ pub(crate) fn put_above(field: &mut [u16; 3502], above: &[i16; 128])
     }
 }
 
-/// Puts the errors left of those.
+/// Puts the corner edge, left of those.
 #[inline(always)]
 pub(crate) fn put_corner(field: &mut [u16; 3502], corner: &[i16; 12])
     requires field { HeldInRange field.old }
@@ -55,7 +55,7 @@ pub(crate) fn put_corner(field: &mut [u16; 3502], corner: &[i16; 12])
     }
 }
 
-/// Puts the errors left of the tile.
+/// Puts the left edge.
 #[inline(always)]
 pub(crate) fn put_left(field: &mut [u16; 3502], left: &[i16; 192])
     requires field { HeldInRange field.old }
@@ -73,7 +73,7 @@ pub(crate) fn put_left(field: &mut [u16; 3502], left: &[i16; 192])
     }
 }
 
-/// The right edge.
+/// Takes the right edge.
 #[inline(always)]
 pub(crate) fn take_right(field: &[u16; 3502], right: &mut [i16; 192])
     requires field { HeldInRange field.now }
@@ -88,7 +88,7 @@ pub(crate) fn take_right(field: &[u16; 3502], right: &mut [i16; 192])
     }
 }
 
-/// The bottom edge.
+/// Takes the bottom edge.
 #[inline(always)]
 pub(crate) fn take_bottom(field: &[u16; 3502], bottom: &mut [i16; 128])
     requires field { HeldInRange field.now }
@@ -103,7 +103,7 @@ pub(crate) fn take_bottom(field: &[u16; 3502], bottom: &mut [i16; 128])
     }
 }
 
-/// The end of the bottom edge.
+/// Takes the corner edge: the last six errors of both rows of the bottom edge.
 #[inline(always)]
 pub(crate) fn take_lower_corner(field: &[u16; 3502], corner: &mut [i16; 12])
     requires field { HeldInRange field.now }

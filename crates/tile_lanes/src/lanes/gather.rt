@@ -7,7 +7,7 @@ use crate::lanes::squares::gather_squares;
 use dot_planes::InkRows;
 use tile_shape::Place;
 
-// Puts the amounts of row r of a tile in column c, which are at steps r to r + 63 of them.
+// Puts row r's amounts of a tile in column c, at steps r to r + 63.
 #[inline(always)]
 fn lay_row(row: &[u8], c: u32, r: usize, amounts: &mut [u8; 3072])
     requires r { r < 32 }
@@ -24,7 +24,7 @@ fn lay_row(row: &[u8], c: u32, r: usize, amounts: &mut [u8; 3072])
     }
 }
 
-// Puts the amounts of a tile byte by byte.
+// Puts a tile's amounts byte by byte.
 fn gather_bytes(place: Place, rows: &InkRows, ink: u8, amounts: &mut [u8; 3072])
     requires ink { ink < rows.now.inks }
     ensures { HasAmounts (plane_of rows.now ink) place.c place.j 32 amounts.new }
@@ -49,7 +49,7 @@ fn has_squares(place: Place, rows: &InkRows) -> bool
         && 32 * place.j as usize + 32 <= rows.rows() as usize
 }
 
-/// Puts the amounts of a tile by steps, 32 each: that of row r at offset o is the one of row r at step o + r.
+/// Puts a tile's amounts by steps, 32 in each: the amount of row r at offset o is number r of step o + r.
 #[inline(always)]
 pub(crate) fn gather(place: Place, rows: &InkRows, ink: u8, amounts: &mut [u8; 3072])
     requires ink { ink < rows.now.inks }

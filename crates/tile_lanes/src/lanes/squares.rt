@@ -64,7 +64,7 @@ fn put_square(amounts: &mut [u8; 3072], first: usize, step: usize, columns: &[u8
     }
 }
 
-/// Puts the amounts of a tile by steps, where the window goes on beside the tile.
+/// Puts a tile's amounts by steps, where the window has the pixels left and right of the tile that squares cover.
 #[inline(always)]
 pub(crate) fn gather_squares(place: Place, rows: &InkRows, ink: u8, amounts: &mut [u8; 3072])
     requires ink { ink < rows.now.inks }

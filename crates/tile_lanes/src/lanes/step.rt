@@ -1,4 +1,4 @@
-//! One step of a tile: a pixel of each row, and none reads the error of another.
+//! One step of a tile: one pixel of each row. None reads the error of another.
 ghost use Rattle.std.specs.Prelude.{true, false, ◌%◌, ◌*◌, ◌+◌, ◌-◌, ◌<◌, ◌≡◌, ◌≤◌, ℕ};
 ghost use Rattle.diffusion_kernel.specs.Tables.{table_of};
 ghost use Rattle.tile_lanes.specs.Done.{plane_of};
@@ -38,8 +38,8 @@ fn around(field: &[u16; 3502], at: usize) -> Around
     }
 }
 
-// The error of the pixel that row r has at a step, or what stood in its place where the row is still left of the tile.
-// The test is one of 16 bits, so that lanes can make it. Where all rows are in the tile, no row needs it.
+// The error of row r's pixel at a step, or the error that is there already where the row is still left of the tile.
+// Both sides of the test have 16 bits, as the lanes have. Where all rows are in the tile, it is left out.
 #[inline(always)]
 fn entered(all: bool, step: usize, r: usize, error: u16, before: u16) -> u16
     requires step { step < 103 }
@@ -58,7 +58,7 @@ fn entered(all: bool, step: usize, r: usize, error: u16, before: u16) -> u16
     }
 }
 
-// Diffuses the pixels that sixteen rows have at a step, those that do not exist too. Errors left of the tile stay.
+// Diffuses the pixels of sixteen rows at a step, also where the window has none. Errors left of the tile stay.
 #[inline(always)]
 fn diffuse_rows(
     all: bool,
@@ -86,7 +86,7 @@ fn diffuse_rows(
     }
 }
 
-// The same, but nothing at steps before the rows enter the tile and after they leave it.
+// The same, but leaves out steps before the rows enter the tile and after they leave it.
 #[inline(always)]
 fn diffuse_half(
     kernel: Kernel,
@@ -136,8 +136,8 @@ struct Span {
     end: usize,
 }
 
-// Which rows of a step have a pixel: rows above them are right of the window, and rows below them are left of it or
-// below it.
+// The rows of a step that have a pixel. Rows above them are right of the window, rows below them left of it or below
+// it.
 fn span_of(place: Place, rows: &InkRows, ink: u8, step: usize) -> Span
     requires low { 8 ≤ step }
     requires high { step < 103 }
@@ -150,7 +150,7 @@ fn span_of(place: Place, rows: &InkRows, ink: u8, step: usize) -> Span
     ensures after { (r o : ℕ) → result.end ≤ r → r < 32 → o + r + 8 ≡ step
         → is_place (plane_of rows.now ink) place.j r (64 * place.c + o) ≡ false }
 {
-    // the pixel of row 0, if rows above the band went on
+    // the column of row 0's pixel; each further row's is 3 less
     let x = 64 * place.c as usize + (step - 8);
     let high = (rows.rows() as usize).saturating_sub(32 * place.j as usize);
     let end = (x / 3 + 1).min(high).min(32);
@@ -161,7 +161,7 @@ fn span_of(place: Place, rows: &InkRows, ink: u8, step: usize) -> Span
     }
 }
 
-// Takes back the errors and dots of rows of a step.
+// Clears the errors and dots of rows of a step.
 fn clear_rows(field: &mut [u16; 3502], dots: &mut [u16; 32], step: usize, first: usize, end: usize)
     requires high { step < 103 }
     requires order { first ≤ end }
@@ -176,8 +176,8 @@ fn clear_rows(field: &mut [u16; 3502], dots: &mut [u16; 32], step: usize, first:
     }
 }
 
-/// Takes back what a step gave to pixels that do not exist.
-// Inline, its spans would be worked out for whole tiles too.
+/// Clears the errors and dots of a step where the window has no pixel.
+// Not inlined: whole tiles do not pay for its spans.
 #[inline(never)]
 pub(crate) fn clear_step(
     place: Place,
@@ -193,7 +193,7 @@ pub(crate) fn clear_step(
     ensures in_range { HeldInRange field.new }
     ensures cleared { IsCleared (plane_of rows.now ink) place.c place.j step field.old dots.old field.new dots.new }
 {
-    // rows from here on are left of the tile
+    // rows from this one on are left of the tile
     let last = (step - 7).min(32);
     let span = span_of(place, rows, ink, step);
     clear_rows(field, dots, step, 0, span.first.min(last));

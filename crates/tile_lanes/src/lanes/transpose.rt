@@ -1,10 +1,10 @@
-//! Sixteen rows of sixteen amounts, turned into columns.
+//! Sixteen rows of sixteen amounts, transposed.
 ghost use Rattle.std.specs.Prelude.{length, slice_index, ◌%◌, ◌*◌, ◌+◌, ◌/◌, ◌++◌, ◌<◌, ◌≡◌, ℕ};
 ghost use Rattle.tile_lanes.specs.Square.{IsSquare, lane};
 
 use std::simd::prelude::*;
 
-// The lanes of two vectors, in turn.
+// The lanes of two vectors, interleaved.
 #[inline(always)]
 fn interleaved(a: u8x16, b: u8x16) -> (u8x16, u8x16)
     requires a { length a ≡ 16 }
@@ -17,7 +17,7 @@ fn interleaved(a: u8x16, b: u8x16) -> (u8x16, u8x16)
     a.interleave(b)
 }
 
-// Each of the first eight rows interleaved with the one eight further on: four times over, rows are columns.
+// Interleaves each of the first eight rows with the row eight further on. Done four times, this transposes.
 #[inline(always)]
 fn riffle(x: &[u8x16; 16]) -> [u8x16; 16]
     requires { IsSquare x.now }
@@ -34,7 +34,7 @@ fn riffle(x: &[u8x16; 16]) -> [u8x16; 16]
     y
 }
 
-/// Turns rows into columns.
+/// Makes rows columns.
 #[inline(always)]
 pub(crate) fn transposed(x: &[u8x16; 16]) -> [u8x16; 16]
     requires { IsSquare x.now }

@@ -1,4 +1,5 @@
-//! What a pixel shows, in 16 bits. Errors are held with 2040 added, from 0 to 4079.
+//! The value of a pixel, in 16 bits: 16 times its amount and what the errors near it give. Errors are held with 2040
+//! added, from 0 to 4079.
 ghost use Rattle.diffusion_definitions.specs.Diffusion.{error_of, floyd, is_dot, jarvis, stucki, value};
 ghost use Rattle.diffusion_kernel.specs.Tables.{table_of};
 ghost use Rattle.std.specs.Prelude.{◌≡◌, ◌≤◌};
@@ -23,19 +24,21 @@ pub(crate) struct Around {
     pub(crate) top_right2: u16,
 }
 
-// What a pixel has to show by the shares of Floyd and Steinberg. With 2040 added to each error, a sixteenth of their
-// sum has 2040 added, too.
+// The value by the shares of Floyd and Steinberg. With 2040 added to each error, a sixteenth of the weighted sum has
+// 2040 added too. The shares (7, 3, 5, 1) are 4 (2, 1, 1, 0) - (1, 1, 0, 0) + (0, 0, 1, 1), which takes no products.
 #[inline(always)]
 fn floyd_value(amount: u8, near: Around) -> u16
     requires { IsHeld near }
     ensures most { result ≤ 8159 }
     ensures value { error_held result ≡ value floyd amount (same_of near) (up1_of near) (up2_of near) }
 {
-    16 * u16::from(amount) + (7 * near.left + 3 * near.up_right + 5 * near.up + near.up_left) / 16
+    let both = near.left + near.up_right;
+    let sum = 4 * (both + near.left + near.up) - both + (near.up + near.up_left);
+    16 * u16::from(amount) + sum / 16
 }
 
-// By those of Jarvis, Judice and Ninke. The shares 7, 5, 3 and 1 are a quarter of 8, 4, 4 and 0 and what is over or
-// lacking, so that all numbers stay below 65,536.
+// The value by the shares of Jarvis, Judice and Ninke. (7, 5, 3, 1) / 48 is ((2, 1, 1, 0) + (-1, 1, -1, 1) / 4) / 12,
+// which keeps all numbers below 65,536.
 #[inline(always)]
 fn jarvis_value(amount: u8, near: Around) -> u16
     requires { IsHeld near }
@@ -50,7 +53,7 @@ fn jarvis_value(amount: u8, near: Around) -> u16
     16 * u16::from(amount) + (2 * sevens + fives + threes + rest / 4 - 6119) / 12
 }
 
-// By Stucki's. A 42nd is twice a 21st of a quarter, and one more where the remainders fill it.
+// The value by Stucki's shares. A 42nd is twice a 21st of a quarter, and one more where the remainders make one up.
 #[inline(always)]
 fn stucki_value(amount: u8, near: Around) -> u16
     requires { IsHeld near }
@@ -67,7 +70,7 @@ fn stucki_value(amount: u8, near: Around) -> u16
     16 * u16::from(amount) + 2 * whole + u16::from(left >= 21)
 }
 
-/// What a pixel has to show, in sixteenths of an amount, with 2040 added.
+/// The value of a pixel, with 2040 added.
 #[inline(always)]
 pub(crate) fn held_value(kernel: Kernel, amount: u8, near: Around) -> u16
     requires { IsHeld near }
@@ -81,7 +84,7 @@ pub(crate) fn held_value(kernel: Kernel, amount: u8, near: Around) -> u16
     }
 }
 
-/// The error that is left of a value.
+/// The error that a value leaves, with 2040 added.
 #[inline(always)]
 pub(crate) fn held_error(value: u16) -> u16
     requires { value ≤ 8159 }

@@ -1,17 +1,18 @@
-//! A window diffused by the words of the rule, row by row over its whole width, with nothing kept back for speed.
+//! A window diffused as the rule is defined, row by row over its whole width.
 use diffusion_kernel::Kernel;
 use std::alloc::Global;
 
 /// The amounts of a window.
 #[derive(Clone, Copy, Debug, PartialEq, Eq)]
 pub(crate) enum Fill {
-    /// Numbers that jump about.
+    /// By a hash of the pixel's place.
     Mixed,
-    /// One number.
+    /// One amount for all pixels.
     All(u8),
 }
 
-/// The errors and dots of a window, below errors that jump about in the two rows above it and beside those, too.
+/// The errors and dots of a window. The errors of the two rows above it, left and right of the window too, are a hash
+/// of their place.
 #[derive(Drop)]
 pub(crate) struct Definition {
     width: i64,
@@ -20,7 +21,7 @@ pub(crate) struct Definition {
     dots: Vec<bool>,
 }
 
-// A number that jumps about from place to place.
+// A hash of a place.
 fn mixed(x: i64, y: i64) -> u32 {
     let n = (x.rem_euclid(65536) as u32)
         .wrapping_mul(2654435761)
@@ -88,7 +89,7 @@ impl Definition {
         }
     }
 
-    /// A window of this size, or `None` where there is no memory.
+    /// A window of this size, or `None` on `Memory`.
     pub(crate) fn make(
         alloc: Global,
         kernel: Kernel,

@@ -31,20 +31,25 @@ loop-init c =
         bits = room.bits;
       };
       stays = stays_same c.args.rows.now c.args.at c.args.out.now;
-      next = λ i e are before. band_begins (table_of c.args.kernel) c.args.rows.now i e c.args.j c.args.hand _ are room before c.clear_right.ensures (rw c.at.ensures at first) refl;
+      next = λ i e are before. band_begins (table_of c.args.kernel) c.args.rows.now i e c.args.j c.args.hand _ are room before
+          c.clear_right.ensures (rw c.at.ensures at first) refl;
       dots = λ i e are before has. has;
     }
 
 -- The tile in column n of the band, where the columns before it are done.
-tile_in : (rows : AmountTable) (j n end : ℕ) → n < end → end ≡ columns_of (window_of rows) → j < bands_of (window_of rows) → IsTile (window_of rows) (record { c = n; j = j })
+tile_in : (rows : AmountTable) (j n end : ℕ) → n < end → end ≡ columns_of (window_of rows) → j < bands_of (window_of rows)
+    → IsTile (window_of rows) (record { c = n; j = j })
 tile_in rows j n end inside is band = record { column = omega (arith, inside, is); band = band }
 
 pub take_next-place-requires : goal.take_next-place-requires
 take_next-place-requires c =
     let s : Shape = window_of c.args.rows.now in
     let t : Place = record { c = c.loop.counter; j = c.args.j } in
-    let columns : c.columns-end.result ≡ columns_of s = c.columns-end.ensures ∙ ap (λ (r : Shape). columns_of r) c.shape-shape.ensures.is in
-    (t, next_ready s c.loop.core t c.loop.invariant.core (tile_in c.args.rows.now c.args.j c.loop.counter c.columns-end.result c.loop-test.true columns c.requires.band))
+    let columns : c.columns-end.result ≡ columns_of s = c.columns-end.ensures ∙ ap (λ (r : Shape). columns_of r) c.shape-shape.ensures.is in (
+      t,
+      next_ready s c.loop.core t c.loop.invariant.core
+          (tile_in c.args.rows.now c.args.j c.loop.counter c.columns-end.result c.loop-test.true columns c.requires.band),
+    )
 
 pub diffuse_tile-hand-requires-clause-tile : goal.diffuse_tile-hand-requires-clause-tile
 diffuse_tile-hand-requires-clause-tile c =
@@ -61,18 +66,21 @@ loop-preserved c =
     let columns : c.columns-end.result ≡ columns_of s = c.columns-end.ensures ∙ ap (λ (r : Shape). columns_of r) c.shape-shape.ensures.is in
     let inside = tile_in c.args.rows.now c.args.j c.loop.counter c.columns-end.result c.loop-test.true columns c.requires.band in
     let is : p ≡ t = next_is s c.loop.core t p v.core inside c.take_next-place.ensures.first in
-    let P : Place → Type 0 = λ q. WorksTile k c.args.rows.now q c.args.at c.loop.hand c.diffuse_tile-hand.result c.loop.out c.diffuse_tile-hand.new.out in
+    let P : Place → Type 0 = λ q. WorksTile k c.args.rows.now q c.args.at c.loop.hand c.diffuse_tile-hand.result c.loop.out
+    c.diffuse_tile-hand.new.out in
     let tile = subst P is c.diffuse_tile-hand.ensures in
     let place : c.args.j * columns_of s + c.loop.counter + 1 ≡ c.args.j * columns_of s + (c.loop.counter + 1) = omega arith in
     let W : ℕ → Type 0 = λ n. IsWorkedTo s n c.give_all.new.core in
     record {
-      core = subst W place (worked_more s c.loop.core c.take_next-place.new.core c.give_all.new.core t p v.core inside c.take_next-place.ensures c.give_all.ensures);
+      core = subst W place (worked_more s c.loop.core c.take_next-place.new.core c.give_all.new.core t p v.core inside
+          c.take_next-place.ensures c.give_all.ensures);
       room = tile.room;
       stays = stays_more c.args.rows.now c.args.at c.args.out.now c.loop.out c.diffuse_tile-hand.new.out v.stays
           (tile_stays c.args.rows.now c.args.at t c.loop.out c.diffuse_tile-hand.new.out tile.bits tile.puts);
       next = λ i e are before. tile.next i e are (v.next i e are before);
       dots = λ i e are before has. dots_more k c.args.rows.now i e c.args.at t c.loop.out c.diffuse_tile-hand.new.out tile.bits are.ink
-          (v.stays.size.width ∙ c.requires.width) (v.stays.size.inks ∙ c.requires.inks) (omega (arith, v.stays.size.rows, c.requires.at)) tile.puts
+          (v.stays.size.width ∙ c.requires.width) (v.stays.size.inks
+          ∙ c.requires.inks) (omega (arith, v.stays.size.rows, c.requires.at)) tile.puts
           (tile.dots i e are (v.next i e are before)) (v.dots i e are before has);
     }
 
@@ -80,13 +88,15 @@ pub returns-clause-band : goal.returns-clause-band
 returns-clause-band c =
     let v = c.loop.invariant in
     let k = table_of c.args.kernel in
-    let columns : c.columns-end.result ≡ columns_across c.args.rows.now.width = c.columns-end.ensures ∙ ap (λ (s : Shape). columns_of s) c.shape-shape.ensures.is in
+    let columns : c.columns-end.result ≡ columns_across c.args.rows.now.width = c.columns-end.ensures
+    ∙ ap (λ (s : Shape). columns_of s) c.shape-shape.ensures.is in
     let all : columns_across c.args.rows.now.width ≤ c.loop.counter = omega arith in
     record {
       room = v.room;
       stays = v.stays;
       behind = λ i e are before. band_ends c.args.rows.now i e c.loop.counter c.args.j c.loop.hand all (v.next i e are before);
-      dots = λ i e are before has. band_dots k c.args.rows.now i e c.args.at c.loop.counter c.args.j c.loop.out all (v.dots i e are before has);
+      dots = λ i e are before has. band_dots k c.args.rows.now i e c.args.at c.loop.counter c.args.j c.loop.out all
+          (v.dots i e are before has);
     }
 
 pub returns-clause-core : goal.returns-clause-core
@@ -103,12 +113,16 @@ pub give_all-requires-clause-taken : goal.give_all-requires-clause-taken
 give_all-requires-clause-taken c =
     let s : Shape = window_of c.args.rows.now in
     let columns : c.columns-end.result ≡ columns_of s = c.columns-end.ensures ∙ ap (λ (r : Shape). columns_of r) c.shape-shape.ensures.is in
-    (taken_up s c.loop.core c.take_next-place.new.core (record { c = c.loop.counter; j = c.args.j }) c.take_next-place.result c.loop.invariant.core
-    (tile_in c.args.rows.now c.args.j c.loop.counter c.columns-end.result c.loop-test.true columns c.requires.band) c.take_next-place.ensures).taken
+    (taken_up s c.loop.core c.take_next-place.new.core (record { c = c.loop.counter; j = c.args.j }) c.take_next-place.result
+    c.loop.invariant.core
+    (tile_in c.args.rows.now c.args.j c.loop.counter c.columns-end.result c.loop-test.true columns c.requires.band)
+    c.take_next-place.ensures).taken
 
 pub give_all-requires-clause-none : goal.give_all-requires-clause-none
 give_all-requires-clause-none c =
     let s : Shape = window_of c.args.rows.now in
     let columns : c.columns-end.result ≡ columns_of s = c.columns-end.ensures ∙ ap (λ (r : Shape). columns_of r) c.shape-shape.ensures.is in
-    (taken_up s c.loop.core c.take_next-place.new.core (record { c = c.loop.counter; j = c.args.j }) c.take_next-place.result c.loop.invariant.core
-    (tile_in c.args.rows.now c.args.j c.loop.counter c.columns-end.result c.loop-test.true columns c.requires.band) c.take_next-place.ensures).none
+    (taken_up s c.loop.core c.take_next-place.new.core (record { c = c.loop.counter; j = c.args.j }) c.take_next-place.result
+    c.loop.invariant.core
+    (tile_in c.args.rows.now c.args.j c.loop.counter c.columns-end.result c.loop-test.true columns c.requires.band)
+    c.take_next-place.ensures).none

@@ -12,5 +12,6 @@ loop-ink-preserved c =
     record {
       len = ap length c.put.ensures ∙ length-set edge c.loop-ink.ink (replicate 192 (pos 0)) ∙ c.loop-ink.invariant.len;
       zeros = λ i n below. ap (λ (e : List (List ℤ)). get_or (errors_of e i) n (pos 0)) c.put.ensures
-          ∙ cleared_more edge 192 c.loop-ink.ink i n (omega (arith, c.loop-ink.invariant.len, c.inks-ink-end.ensures.is)) c.loop-ink.invariant.zeros below;
+          ∙ cleared_more edge 192 c.loop-ink.ink i n (omega (arith, c.loop-ink.invariant.len, c.inks-ink-end.ensures.is))
+          c.loop-ink.invariant.zeros below;
     }

@@ -19,7 +19,8 @@ loop-j-init c =
     let none : 0 ≡ 0 * columns_of s = omega arith in
     let W : ℕ → Type 0 = λ n. IsWorkedTo s n c.in_ok-core.core in
     record {
-      core = subst W none (none_worked s c.in_ok-core.core (subst (λ (r : Shape). IsShape r) c.shape-shape.ensures.is c.shape-shape.ensures.sizes)
+      core = subst W none (none_worked s c.in_ok-core.core
+          (subst (λ (r : Shape). IsShape r) c.shape-shape.ensures.is c.shape-shape.ensures.sizes)
           (c.in_ok-core.ensures ∙ ap (λ (r : Shape). start r) c.shape-shape.ensures.is));
       room = c.in_ok-hand.ensures.room c.args.rows.now c.requires.top;
       stays = stays_same c.args.rows.now c.args.at c.args.out.now;
@@ -39,7 +40,8 @@ loop-j-preserved c =
       core = c.diffuse_band-hand.ensures.core;
       room = band.room;
       stays = stays_more c.args.rows.now c.args.at c.args.out.now c.loop-j.out c.diffuse_band-hand.new.out v.stays band.stays;
-      before = λ i e are. behind_before c.args.rows.now i e j c.diffuse_band-hand.result (band.behind i e (slab_errors k c.args.rows.now c.args.top i e c.requires.top are) (v.before i e are));
+      before = λ i e are. behind_before c.args.rows.now i e j c.diffuse_band-hand.result
+          (band.behind i e (slab_errors k c.args.rows.now c.args.top i e c.requires.top are) (v.before i e are));
       behind = λ i e are some. (let Q : ℕ → Type 0 = λ m. IsBehind c.args.rows.now e i m c.diffuse_band-hand.result in
           subst Q same (band.behind i e (slab_errors k c.args.rows.now c.args.top i e c.requires.top are) (v.before i e are)));
       dots = λ i e are. band.dots i e (slab_errors k c.args.rows.now c.args.top i e c.requires.top are) (v.before i e are) (v.dots i e are);
@@ -48,9 +50,11 @@ loop-j-preserved c =
 pub returns-clause-slab : goal.returns-clause-slab
 returns-clause-slab c =
     let v = c.loop-j.invariant in
-    let bands : c.bands-j-end.result ≡ bands_of (window_of c.args.rows.now) = c.bands-j-end.ensures ∙ ap (λ (s : Shape). bands_of s) c.shape-shape.ensures.is in
+    let bands : c.bands-j-end.result ≡ bands_of (window_of c.args.rows.now) = c.bands-j-end.ensures
+    ∙ ap (λ (s : Shape). bands_of s) c.shape-shape.ensures.is in
     let last : c.loop-j.j ≡ bands_of (window_of c.args.rows.now) = omega arith in
-    let some : 1 ≤ c.args.rows.now.rows = omega (arith, c.shape-shape.ensures.sizes.some_height, ap (λ (s : Shape). s.height) c.shape-shape.ensures.is) in
+    let some : 1 ≤ c.args.rows.now.rows =
+    omega (arith, c.shape-shape.ensures.sizes.some_height, ap (λ (s : Shape). s.height) c.shape-shape.ensures.is) in
     record {
       size = v.stays.size;
       dots = λ i e are y x low inside. (v.dots i e are).at y x low inside (inl (omega (arith, last)));

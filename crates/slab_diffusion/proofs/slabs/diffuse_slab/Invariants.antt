@@ -15,5 +15,6 @@ invariant-loop-j l = record {
   stays : StaysBeside l.rows l.at l.fn.out l.out;
   before : (i : ℕ) (e : Errors) → AreSlabErrors (table_of l.kernel) l.rows l.fn.top i e → IsBefore l.rows e i l.j l.hand;
   behind : (i : ℕ) (e : Errors) → AreSlabErrors (table_of l.kernel) l.rows l.fn.top i e → 0 < l.j → IsBehind l.rows e i (l.j - 1) l.hand;
-  dots : (i : ℕ) (e : Errors) → AreSlabErrors (table_of l.kernel) l.rows l.fn.top i e → HasDotsBefore (table_of l.kernel) l.rows i e l.at 0 l.j l.out;
+  dots : (i : ℕ) (e : Errors) → AreSlabErrors (table_of l.kernel) l.rows l.fn.top i e
+      → HasDotsBefore (table_of l.kernel) l.rows i e l.at 0 l.j l.out;
 }

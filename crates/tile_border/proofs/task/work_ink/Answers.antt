@@ -20,10 +20,24 @@ diffuse_tile-requires-clause-corner_fits c =
 pub returns : goal.returns
 returns c =
     works_ink c.args.kernel c.args.rows.now c.args.place c.args.ink c.from-at.result
-    c.side.inside.inks.items c.args.side.now c.band.inside.inks.items c.args.band.now c.corner.inside.inks.items c.args.corner.now c.args.bits.now
-    c.diffuse_tile.new.side c.index_mut.result.now c.diffuse_tile.new.band c.index_mut-2.result.now c.diffuse_tile.new.corner c.index_mut-3.result.now c.diffuse_tile.new.dots
+    c.side.inside.inks.items c.args.side.now c.band.inside.inks.items c.args.band.now c.corner.inside.inks.items c.args.corner.now
+    c.args.bits.now
+    c.diffuse_tile.new.side c.index_mut.result.now c.diffuse_tile.new.band c.index_mut-2.result.now c.diffuse_tile.new.corner
+    c.index_mut-3.result.now c.diffuse_tile.new.dots
     c.from-at.ensures (omega (arith, c.requires.inks.bits, c.requires.ink))
-    (record { is = c.side.view_is; room = room_for _ _ _ _ _ c.from-at.ensures c.side.view_is c.requires.inks.side c.requires.ink; read = c.index_mut.ensures.value })
-    (record { is = c.band.view_is; room = room_for _ _ _ _ _ c.from-at.ensures c.band.view_is c.requires.inks.band c.requires.ink; read = c.index_mut-2.ensures.value })
-    (record { is = c.corner.view_is; room = room_for _ _ _ _ _ c.from-at.ensures c.corner.view_is c.requires.inks.corner c.requires.ink; read = c.index_mut-3.ensures.value })
+    (record {
+      is = c.side.view_is;
+      room = room_for _ _ _ _ _ c.from-at.ensures c.side.view_is c.requires.inks.side c.requires.ink;
+      read = c.index_mut.ensures.value;
+    })
+    (record {
+      is = c.band.view_is;
+      room = room_for _ _ _ _ _ c.from-at.ensures c.band.view_is c.requires.inks.band c.requires.ink;
+      read = c.index_mut-2.ensures.value;
+    })
+    (record {
+      is = c.corner.view_is;
+      room = room_for _ _ _ _ _ c.from-at.ensures c.corner.view_is c.requires.inks.corner c.requires.ink;
+      read = c.index_mut-3.ensures.value;
+    })
     c.diffuse_tile.ensures.done

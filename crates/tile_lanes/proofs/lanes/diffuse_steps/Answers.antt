@@ -18,7 +18,8 @@ loop-step-preserved c =
     let clear = c.clear_missing.ensures.cleared in
     record {
       in_range = c.clear_missing.ensures.in_range;
-      filled = λ e s start. step_filled e column band t _ (step_right k p e column band t _ _ _ _ _ _ _ s c.gather.ensures (v.filled e s start) step clear);
+      filled = λ e s start. step_filled e column band t _
+          (step_right k p e column band t _ _ _ _ _ _ _ s c.gather.ensures (v.filled e s start) step clear);
       dots = λ e s start. dots_right k p e column band t _ _ _ _ _ _ _ c.gather.ensures (v.filled e s start) step clear (v.dots e s start);
       bits = λ e s start. bits_more k p e column band t _ _ _
           (dots_right k p e column band t _ _ _ _ _ _ _ c.gather.ensures (v.filled e s start) step clear (v.dots e s start))
@@ -28,5 +29,6 @@ loop-step-preserved c =
 pub returns-clause-bits : goal.returns-clause-bits
 returns-clause-bits c = λ e s start.
     let last : c.loop-step.step ≡ 103 = omega arith in
-    subst (λ t. HasBits (table_of c.args.kernel) (plane_of c.args.rows.now c.args.ink) e c.args.place.c c.args.place.j t c.loop-step.bits) last
+    subst (λ t. HasBits (table_of c.args.kernel) (plane_of c.args.rows.now c.args.ink) e c.args.place.c c.args.place.j t c.loop-step.bits)
+    last
     (c.loop-step.invariant.bits e s start)

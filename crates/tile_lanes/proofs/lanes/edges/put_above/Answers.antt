@@ -21,8 +21,10 @@ loop-i-preserved c =
     let more : IsPut at (λ m. m) 0 (n + 1) c.args.above.now c.args.field.now (set c.loop-i.field (at n) c.hold.result) =
     put_more at (λ m. m) 0 n _ _ _ c.loop-i.field (omega arith) (omega arith) (λ i from below. omega arith)
     c.requires.above c.hold.ensures.most c.hold.ensures.is c.loop-i.invariant in
-    let moved = subst (λ m. IsPut at (λ k. k) 0 (n + 1) c.args.above.now c.args.field.now (set c.loop-i.field m c.hold.result)) place more in
-    subst (λ m. IsPut at (λ k. k) 0 m c.args.above.now c.args.field.now (set c.loop-i.field (34 * (6 + c.loop-i.i + c.loop-t.t) + c.loop-t.t) c.hold.result)) next moved
+    let moved = subst (λ m. IsPut at (λ k. k) 0 (n + 1) c.args.above.now c.args.field.now (set c.loop-i.field m c.hold.result)) place more
+    in
+    subst (λ m. IsPut at (λ k. k) 0 m c.args.above.now c.args.field.now
+    (set c.loop-i.field (34 * (6 + c.loop-i.i + c.loop-t.t) + c.loop-t.t) c.hold.result)) next moved
 
 pub loop-t-preserved : goal.loop-t-preserved
 loop-t-preserved c =

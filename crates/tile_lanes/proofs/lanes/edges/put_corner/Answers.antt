@@ -6,7 +6,8 @@ pub loop-n-init : goal.loop-n-init
 loop-n-init c = none_put (λ i. 34 * (i % 6 + i / 6) + i / 6) (λ i. i) 0 _ _ (omega arith) c.requires.field
 
 pub loop-n-preserved : goal.loop-n-preserved
-loop-n-preserved c = put_more (λ i. 34 * (i % 6 + i / 6) + i / 6) (λ i. i) 0 c.loop-n.n _ _ _ c.loop-n.field (omega arith) (omega arith) (λ i from below. omega arith)
+loop-n-preserved c = put_more (λ i. 34 * (i % 6 + i / 6) + i / 6) (λ i. i) 0 c.loop-n.n _ _ _ c.loop-n.field (omega arith) (omega arith)
+    (λ i from below. omega arith)
     c.requires.corner c.hold.ensures.most c.hold.ensures.is c.loop-n.invariant
 
 pub returns-clause-there : goal.returns-clause-there

@@ -20,6 +20,8 @@ loop-i-preserved c =
       long = length-set _ _ _ ∙ v.long;
       dots_long = length-set _ _ _ ∙ v.dots_long;
       in_range = held_more _ at _ v.in_range c.entered.ensures.most;
-      stepped = step_more (table_of c.args.kernel) c.args.amounts.now step c.args.first c.loop-i.i at _ _ _ _ _ _ _ _ _ refl (omega arith) (omega arith) room
-          (omega (arith, v.dots_long)) value (λ inside. ap error_held (c.entered.ensures.inside inside) ∙ c.held_error.ensures.error) c.entered.ensures.left refl c.from.ensures c.shows_dot.ensures v.stepped;
+      stepped = step_more (table_of c.args.kernel) c.args.amounts.now step c.args.first c.loop-i.i at _ _ _ _ _ _ _ _ _ refl (omega arith)
+          (omega arith) room
+          (omega (arith, v.dots_long)) value (λ inside. ap error_held (c.entered.ensures.inside inside)
+          ∙ c.held_error.ensures.error) c.entered.ensures.left refl c.from.ensures c.shows_dot.ensures v.stepped;
     }

@@ -4,8 +4,10 @@ use Rattle.tile_lanes.proofs.lanes.transpose.riffle.Goals as goal
 
 pub loop-i-preserved : goal.loop-i-preserved
 loop-i-preserved c = record {
-  square = square_more _ _ _ (omega arith) c.interleaved.ensures.long_high (square_more _ _ _ (omega arith) c.interleaved.ensures.long c.loop-i.invariant.square);
-  lanes = riffle_more c.args.x.now c.loop-i.y _ _ c.loop-i.i (omega arith) c.requires c.loop-i.invariant.square c.interleaved.ensures.low c.interleaved.ensures.high
+  square = square_more _ _ _ (omega arith) c.interleaved.ensures.long_high
+      (square_more _ _ _ (omega arith) c.interleaved.ensures.long c.loop-i.invariant.square);
+  lanes = riffle_more c.args.x.now c.loop-i.y _ _ c.loop-i.i (omega arith) c.requires c.loop-i.invariant.square c.interleaved.ensures.low
+      c.interleaved.ensures.high
       c.loop-i.invariant.lanes;
 }
 

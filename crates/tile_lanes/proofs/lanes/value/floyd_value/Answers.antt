@@ -1,10 +1,13 @@
-use Rattle.std.proofs.Common.{◌+◌, ◌*◌, ◌/◌, ap, ◌∙◌}
+use Rattle.std.proofs.Common.{◌≡◌, ◌+◌, ◌-◌, ◌*◌, ◌/◌, ap, ◌∙◌, arith}
 use Rattle.tile_lanes.specs.Held.{error_held}
-use Rattle.tile_lanes.proofs.HeldValues.{floyd_is}
+use Rattle.tile_lanes.proofs.HeldValues.{floyd_is, floyd_shifts}
 use Rattle.tile_lanes.proofs.lanes.value.floyd_value.Goals as goal
 
 pub returns-clause-value : goal.returns-clause-value
 returns-clause-value c =
     let n = c.args.near in
-    let carried = (7 * n.left + 3 * n.up_right + 5 * n.up + n.up_left) / 16 in
-    ap (λ w. error_held (16 * w + carried)) c.from.ensures ∙ floyd_is c.args.amount n.left n.up_right n.up n.up_left _ _ _ _
+    let both = n.left + n.up_right in
+    let sum = 4 * (both + n.left + n.up) - both + (n.up + n.up_left) in
+    ap (λ w. error_held (16 * w + sum / 16)) c.from.ensures
+    ∙ ap (λ s. error_held (16 * c.args.amount + s / 16)) (floyd_shifts n.left n.up_right n.up n.up_left)
+    ∙ floyd_is c.args.amount n.left n.up_right n.up n.up_left _ _ _ _

@@ -5,5 +5,6 @@ use Rattle.tile_lanes.proofs.lanes.value.stucki_value.Goals as goal
 pub returns-clause-value : goal.returns-clause-value
 returns-clause-value c =
     let n = c.args.near in
-    stucki_is c.args.amount _ _ n.left n.left2 n.up_left2 n.up_left n.up n.up_right n.up_right2 n.top_left2 n.top_left n.top n.top_right n.top_right2
+    stucki_is c.args.amount _ _ n.left n.left2 n.up_left2 n.up_left n.up n.up_right n.up_right2 n.top_left2 n.top_left n.top n.top_right
+    n.top_right2
     _ _ c.from.ensures refl refl c.from-2.ensures

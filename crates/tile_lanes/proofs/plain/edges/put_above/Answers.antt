@@ -11,4 +11,5 @@ loop-n-init c = record {
 }
 
 pub loop-n-preserved : goal.loop-n-preserved
-loop-n-preserved c = put_more (λ i. 6 + 70 * (i / 64) + i % 64) _ _ _ _ c.requires.above (omega (arith, c.loop-n.invariant.long)) (λ i h. omega arith) c.loop-n.invariant
+loop-n-preserved c = put_more (λ i. 6 + 70 * (i / 64) + i % 64) _ _ _ _ c.requires.above (omega (arith, c.loop-n.invariant.long))
+    (λ i h. omega arith) c.loop-n.invariant
