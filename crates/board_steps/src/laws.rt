@@ -40,8 +40,8 @@ pub fn what_is_shown_is_legal()
     ensures { (b : Slab) (s : State Cell View) → Ruled (setting_of b) s → Legal (shown b s) }
 {}
 
-/// When a pass takes a tile, sends an edge or posts a tile, what is shown changes as by that event of `board_core`, which
-/// the core accepts.
+/// When a pass takes a tile, sends an edge or posts a tile, what is shown changes as by that event of `board_core`,
+/// which the core accepts.
 pub fn steps_are_events()
     ensures take { (b : Slab) (s : State Cell View) (s' : State Cell View) (id : ℕ) (v : View) (p : Place)
         → IsTile (window_of b.rows.value) p → v.held ≡ None

@@ -23,8 +23,8 @@ pub struct Slab {
     pub top: Snapshot<TopEdges>,
 }
 
-/// What a pass knows. Contracts alone speak of it and no value of it is ever made, so its numbers are not bounded. Tiles
-/// are numbered by band and then column. Direction 0 is right, 1 bottom, 2 corner.
+/// What a pass knows. Contracts alone speak of it and no value of it is ever made, so its numbers are not bounded.
+/// Tiles are numbered by band and then column. Direction 0 is right, 1 bottom, 2 corner.
 pub struct View {
     /// The number of the pass.
     pub number: u64,
@@ -38,8 +38,8 @@ pub struct View {
     pub held: Option<usize>,
     /// The directions in which it has sent an edge of that tile, the latest first.
     pub sent: LinkedList<u64>,
-    /// The tiles that it has posted, the latest first, each with the number of the pass that posted it; a join adds those
-    /// of the other pass.
+    /// The tiles that it has posted, the latest first, each with the number of the pass that posted it; a join adds
+    /// those of the other pass.
     pub mine: LinkedList<(usize, u64)>,
     /// How many of the board's 256 parts it has. A pass that has all of them is alone.
     pub parts: u64,

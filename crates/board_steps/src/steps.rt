@@ -36,8 +36,8 @@ pub fn look(words: &Words, seat: &mut Seated, at: usize) -> u64
     words.load::<Looks>(seat, at)
 }
 
-/// Takes tile `at` if no pass has taken it, and answers the word that it found. If bit 8 of that word is clear, the pass
-/// holds the tile: it has the tile's own four slots, and those of the edges that come to it.
+/// Takes tile `at` if no pass has taken it, and answers the word that it found. If bit 8 of that word is clear, the
+/// pass holds the tile: it has the tile's own four slots, and those of the edges that come to it.
 pub fn take(words: &Words, seat: &mut Seated, at: usize) -> u64
     requires table { (seat.old.table_id ≡ words.now.table_id) × (at < words.now.table_id.words) }
     requires inside { at < (setting_of words.now.key).graph.tiles }
@@ -50,8 +50,8 @@ pub fn take(words: &Words, seat: &mut Seated, at: usize) -> u64
     words.fetch_or::<Takes>(seat, at, TAKEN)
 }
 
-/// Sends an edge of the tile that the pass holds to tile `to`. Its slot, which is the first that the pass has, goes back to
-/// the table, where the pass that takes `to` gets it.
+/// Sends an edge of the tile that the pass holds to tile `to`. Its slot, which is the first that the pass has, goes
+/// back to the table, where the pass that takes `to` gets it.
 pub fn send(words: &Words, seat: &mut Seated, dir: Dir, to: usize)
     requires table { (seat.old.table_id ≡ words.now.table_id) × (to < words.now.table_id.words) }
     requires part { 1 ≤ seat.old.me.0.parts }
