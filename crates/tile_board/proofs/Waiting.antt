@@ -1,6 +1,6 @@
 -- The slots of waiting tiles, tile by tile.
 use Rattle.std.proofs.Common.{◌≡◌, ℕ, ◌+◌, ◌/◌, ◌%◌, ◌&&◌, List, [], ◌∷◌, ◌++◌, refl, sym, ◌∙◌, ap, subst, append_assoc, nat_lt, replicate}
-use Rattle.std.proofs.Common.{suc, add-one}
+use Rattle.std.proofs.Common.{add-one}
 use Rattle.board_steps.specs.Content.{fresh_of}
 use Rattle.board_steps.specs.Graph.{only_if}
 use Rattle.board_steps.specs.Rule.{fresh_in}

@@ -3,7 +3,7 @@ use Rattle.tile_shape.specs.declared.tiles.Dir.TheVariants.{Right}
 use Rattle.tile_shape.specs.declared.tiles.Place.{Place}
 use Rattle.tile_board.specs.Board.{slab}
 use Rattle.tile_board.specs.Slabs.{number_in, shape_of}
-use Rattle.tile_board.proofs.Handed.{content-is, gives, handed-by, handed-first}
+use Rattle.tile_board.proofs.Handed.{content-is, handed-by, handed-first}
 use Rattle.tile_board.proofs.Hands.{blank-is, came, next-cell, next-front, right_in, stayed}
 use Rattle.tile_board.proofs.Numbers.{left-source, no-left}
 use Rattle.tile_board.proofs.kinds.Board.receive_left.Goals as goal
