@@ -11,5 +11,6 @@ invariant-loop-n l = record {
   pass : IsPassOf l.board l.p;
   idle : (view l.p).held ≡ None;
   alone : (view l.p).parts ≡ 256;
-  posted : (t : Place) → IsTile (shape_of (slab l.board)) t → number_in (slab l.board) t < l.n → 1 ≤ times (number_in (slab l.board) t) (view l.p).mine;
+  posted : (t : Place) → IsTile (shape_of (slab l.board)) t → number_in (slab l.board) t < l.n
+      → 1 ≤ times (number_in (slab l.board) t) (view l.p).mine;
 }
