@@ -153,7 +153,7 @@ posted B W s r id v t hs near at part held done fl =
     below : (vs : List View) (i : ℕ) (u : View) → get_elem? vs i ≡ some u → u.number ≡ i → u.number < length vs
     below vs i u e f = let h = at_below vs i u e in omega arith
 
--- ---- the slots that go home
+-- ---- the slots that go back to the table
 
 module _ (content : ℕ → ℕ → Cell) (t d : ℕ) where
   Apart-own : (k : ℕ) (o : Option ℕ) (m : List (ℕ × Cell)) → (o ≡ None → k ≢ 4 * t + d) → Apart k m → Apart k (own_slot content t d o ++ m)

@@ -25,7 +25,7 @@ module _ (B : Setting) (s : State Cell View) where
   abbrev pub SomeView : (View → Type 0) → Type 0
   SomeView f = (k : ℕ) × (v : View) × (get_elem? s.views k ≡ some v) × f v
 
-  -- the slot of tile t and direction d: its value where it is at home, and none where a seat has it
+  -- the slot of tile t and direction d: its value, or none while a seat has the slot
   abbrev pub home : ℕ → ℕ → Home
   home t d = get_elem? s.homes (4 * t + d)
 
@@ -50,15 +50,15 @@ module _ (B : Setting) (s : State Cell View) where
     -- where bit 8 is set, so are the arrival bits of all edges that come to the tile
     pub needs : (d q : ℕ) → bit 8 t ≡ 1 → B.graph.from t d ≡ Some q → bit (bit_of d) t ≡ 1
 
-  -- Of a slot that no tile receives: fresh until its tile is taken, out until the tile is posted, and then at home with what
-  -- the tile gives.
+  -- Of a slot that no tile receives: fresh until its tile is taken, out of the table until the tile is posted, and then back
+  -- with what the tile gives.
   pub record OwnClauses (t d : ℕ) : Type 0 where
     pub blank : bit 8 t ≡ 0 → home t d ≡ some (some (B.fresh t d))
     pub out : bit 8 t ≡ 1 → bit 16 t ≡ 0 → home t d ≡ some none
     pub gives : bit 16 t ≡ 1 → home t d ≡ some (some (B.content t d))
 
-  -- Of the slot of an edge that tile p receives: fresh until its own tile is taken, out until the edge is sent, at home with
-  -- the edge until p is taken, out until p is posted, and then at home with any value.
+  -- Of the slot of an edge that tile p receives: fresh until its own tile is taken, out of the table until the edge is sent,
+  -- in it with the edge until p is taken, out of it until p is posted, and then back with any value.
   pub record EdgeClauses (t d p : ℕ) : Type 0 where
     pub blank : bit 8 t ≡ 0 → home t d ≡ some (some (B.fresh t d))
     pub out : bit 8 t ≡ 1 → bit (bit_of d) p ≡ 0 → home t d ≡ some none

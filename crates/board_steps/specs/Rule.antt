@@ -100,7 +100,7 @@ abbrev pub arrived : (ℕ → ℕ) → Option ℕ → ℕ
 arrived sent None = 0
 arrived sent (Some q) = sent q
 
--- a slot: its value where it is at home, and none where a seat has it
+-- a slot of the table: its value, or none while a seat has the slot
 abbrev pub Home : Type 0
 Home = maybe.Option (maybe.Option Cell)
 

@@ -13,7 +13,7 @@ IsFront slot hand = (x : Cell) × (hand ≡ (slot, x) ∷ rest hand)
 abbrev pub IsOfKind : {A : Type 0} → (A → Cell) → Cell → Type 0
 IsOfKind {A} kind cell = (x : A) × (cell ≡ kind x)
 
--- The value of the first slot is taken out, and the slot goes behind the others, empty.
+-- The value of the first slot is taken out, and the slot is moved after the others, empty.
 pub record TakesOut (slot : ℕ) (m : Me Cell View) (cell : Cell) (n : Me Cell View) : Type 0 where
   pub front : m.1 ≡ (slot, cell) ∷ rest m.1
   pub after : n ≡ (m.0, rest m.1 ++ (slot, Empty) ∷ [])

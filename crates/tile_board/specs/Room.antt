@@ -35,7 +35,7 @@ pub record OwnEmptied (b : Slab) (t : ℕ) (m n : Me Cell View) : Type 0 where
 abbrev pub IsNext : Slab → ℕ → ℕ → List (ℕ × Cell) → Type 0
 IsNext b d t hand = (r : List (ℕ × Cell)) × (hand ≡ comes b (setting_of b).content d t ++ r)
 
--- That edge is taken out, and its slot goes behind the others, empty.
+-- That edge is taken out, and its slot is moved after the others, empty.
 pub record TakesIn (b : Slab) (d t : ℕ) (m n : Me Cell View) : Type 0 where
   pub view : n.0 ≡ m.0
   pub hand : (r : List (ℕ × Cell)) → m.1 ≡ comes b (setting_of b).content d t ++ r → n.1 ≡ r ++ comes b emptied d t
@@ -46,7 +46,7 @@ gave_view v d None = v
 gave_view v d (Some p) = sent_view v d
 
 -- The edge in the direction d is put into its slot, which was the first. Where a tile receives it the slot goes back to the
--- table, else behind the others.
+-- table, and else it is moved after the others.
 pub record GivesEdge (b : Slab) (d t : ℕ) (m n : Me Cell View) : Type 0 where
   pub view : n.0 ≡ gave_view m.0 d ((setting_of b).graph.next t d)
   pub hand : n.1 ≡ rest m.1 ++ own_slot (setting_of b).content t d ((setting_of b).graph.next t d)

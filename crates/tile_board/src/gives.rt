@@ -15,8 +15,8 @@ use board_steps::{Cell, Seated, send};
 use tile_shape::{Dir, Place};
 
 impl<'a> Board<'a> {
-    /// Puts an edge into its slot, the first that the seat has, and sends it where a tile receives it; else the slot
-    /// goes behind the others that the seat has.
+    /// Puts an edge into its slot, the first that the seat has. Where a tile receives the edge it is sent, and else the
+    /// slot is moved after the others.
     pub(crate) fn give(&self, seat: &mut Seated, t: Place, dir: Dir, edge: Cell)
         requires table { seat.old.table_id ≡ self.now.table.shared.table_id }
         requires tile { IsTile (shape_of (slab self.now)) t }

@@ -30,7 +30,7 @@ pub(crate) fn slot_of(tile: usize, way: usize) -> usize
     4 * tile + way
 }
 
-/// Empties the first slot that the seat has, which goes behind the others then.
+/// Empties the first slot that the seat has, and moves it after the others.
 pub(crate) fn take_out(words: &Words, seat: &mut Seated, slot: usize) -> Cell
     requires table { seat.old.table_id ≡ words.now.table_id }
     requires front { IsFront slot seat.old.me.1 }
