@@ -2,7 +2,7 @@ use Rattle.std.proofs.Common.{◌≡◌, ◌<◌, ◌≤◌, None}
 use Rattle.board_steps.specs.Rule.{times}
 use Rattle.tile_shape.specs.Geometry.{IsTile}
 use Rattle.tile_shape.specs.declared.tiles.Place.{Place}
-use Rattle.tile_board.specs.Board.{IsPassOf, holding, slab, view}
+use Rattle.tile_board.specs.Board.{IsPassOf, slab, view}
 use Rattle.tile_board.specs.Slabs.{number_in, shape_of}
 use Rattle.tile_board_tests.proofs.tests.finish.Given as goal
 
