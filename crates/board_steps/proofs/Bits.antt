@@ -1,12 +1,13 @@
 -- The bits of one word.
-use Rattle.std.proofs.Common.{◌≡◌, ℕ, zero, suc, ◌+◌, ◌*◌, ◌/◌, ◌%◌, ◌<◌, ◌≤◌, ◌&&◌, ◌||◌, Bool, true, false, eqb, refl, sym, ap, ◌∙◌, arith, bit_or}
+use Rattle.std.proofs.Common.{◌≡◌, ℕ, zero, suc, ◌+◌, ◌*◌, ◌/◌, ◌%◌, ◌<◌, ◌≤◌, ◌&&◌, ◌||◌, Bool, true, false, eqb, refl, sym, ap, ◌∙◌}
+use Rattle.std.proofs.Common.{arith, bit_or}
 use Rattle.std.proofs.lemmas.Bool.{eqb-true}
 use mathlib.Core.Logic.{dite}
 use native.Mathlib.Decide.{ℕ_discrete}
 use Rattle.board_steps.specs.Rule.{Within}
 use Rattle.board_steps.specs.Steps.{bit_of}
 
--- the word x has the arrival bits a, b and c, the taken bit t and the posted bit p
+-- the word x has arrival bits a, b and c, taken bit t and posted bit p
 pub record Bits (a b c t p x : ℕ) : Type 0 where
   pub is : x ≡ a + 2 * b + 4 * c + 8 * t + 16 * p
   pub few_a : a ≤ 1
@@ -62,14 +63,14 @@ or-other a b c d e n = step (eqb a b) refl
     step true f = absurd (n (eqb-true a b f))
     step false f = eqb-true c d (ap (λ (z : Bool). z || eqb c d) (sym f) ∙ e)
 
--- a bit that is clear is added
+-- a fetch-or adds a bit that is clear
 abbrev adds : ℕ → ℕ → Bool
 adds b x = eqb (x / b % 2) 1 || eqb (bit_or x b) (x + b)
 
 added : (b : ℕ) → every 32 (adds b) ≡ true → (x : ℕ) → x < 32 → x / b % 2 ≡ 0 → bit_or x b ≡ x + b
 added b all x near clear = or-other (x / b % 2) 1 (bit_or x b) (x + b) (each 32 (adds b) all x near) (λ e. omega arith)
 
--- and one that stands stays
+-- a fetch-or leaves a bit that is set
 abbrev stays : ℕ → Bool
 stays x = eqb (x / 8 % 2) 0 || eqb (bit_or x 8) x
 
@@ -94,7 +95,7 @@ or_bit zero a b c t p x h e = added 1 refl x (small a b c t p x h) (let i = bit_
 or_bit (suc zero) a b c t p x h e = added 2 refl x (small a b c t p x h) (bit_b a b c t p x h ∙ e)
 or_bit (suc (suc d)) a b c t p x h e = added 4 refl x (small a b c t p x h) (bit_c a b c t p x h ∙ e)
 
--- a word of greater bits
+-- a word whose five bits are each at least those of another
 module _ (a b c t p x a' b' c' t' p' y : ℕ) (h : Bits a b c t p x) (k : Bits a' b' c' t' p' y) where
   pub Within-bits : a ≤ a' → b ≤ b' → c ≤ c' → t ≤ t' → p ≤ p' → Within x y
   Within-bits l m n o q = record {

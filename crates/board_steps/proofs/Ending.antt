@@ -1,5 +1,6 @@
--- How a board begins, and what it holds at the end.
-use Rattle.std.proofs.Common.{◌≡◌, ℕ, zero, suc, ◌+◌, ◌*◌, ◌<◌, ◌≤◌, lit≤, ◌⊎◌, inr, List, [], ◌∷◌, ◌++◌, length, get_or, map, replicate, refl, sym, ap, ◌∙◌, subst, arith, length-append, Option, Some, None}
+-- The rule holds when a board is made; and what its slots have when all tiles are posted.
+use Rattle.std.proofs.Common.{◌≡◌, ℕ, zero, suc, ◌+◌, ◌*◌, ◌<◌, ◌≤◌, lit≤, ◌⊎◌, inr, List, [], ◌∷◌, ◌++◌, length, get_or, map, replicate}
+use Rattle.std.proofs.Common.{refl, sym, ap, ◌∙◌, subst, arith, length-append, Option, Some, None}
 use mathlib.Core.Logic.{dite}
 use native.Mathlib.Decide.{ℕ_discrete}
 use mathlib.Core.Option.{some, some-injective, some-ne-none}
@@ -8,7 +9,8 @@ use Rattle.atomic_table.specs.Table.{opening, Final, Seen}
 use Rattle.board_steps.specs.declared.rule.View.{View}
 use Rattle.board_steps.specs.declared.rule.Slab.{Slab}
 use Rattle.board_steps.specs.declared.rule.Cell.{Cell}
-use Rattle.board_steps.specs.Rule.{Setting, arrived, times, posts, sends, lists, total, EdgeIs, Home, ViewOk, Ruled, spent, first_view, setting_of}
+use Rattle.board_steps.specs.Rule.{Setting, arrived, times, posts, sends, lists, total, EdgeIs, Home, ViewOk, Ruled, spent, first_view}
+use Rattle.board_steps.specs.Rule.{setting_of}
 use Rattle.board_steps.specs.Steps.{fresh_slots}
 use Rattle.board_steps.proofs.Views.{plain_posts}
 use Rattle.board_steps.proofs.Totals.{total_at, sends_lists, posts_sends, all_sends_lists, all_posts_sends}
@@ -37,7 +39,7 @@ closes B id v ws ys fin all =
 
 -- ---- the start
 
--- one view that lists nothing
+-- a board of one view, which lists nothing
 only_total : (f : View → ℕ) (v : View) → f v ≡ 0 → total f (v ∷ []) ≡ 0
 unfolding total
 only_total f v e = omega arith

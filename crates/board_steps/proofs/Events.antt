@@ -1,4 +1,4 @@
--- Two states of the board, one step of a pass apart, and the cores that they show.
+-- Two states of the board, one step of a pass apart, and what they show.
 use Rattle.std.proofs.Common.{◌≡◌, ◌≢◌, ℕ, ◌<◌, ◌≤◌, eqb, true, false, set, refl, sym, ap, ◌∙◌, arith, Option, Some}
 use Rattle.atomic_table.specs.Table.{State}
 use Rattle.board_core.specs.States.{IsTakenBy, has_sent, sent, tile_at}
@@ -56,7 +56,7 @@ right_corner e = cc
 bottom_corner : Dir.Bottom ≢ Dir.Corner
 bottom_corner e = cc
 
--- a tile of which one flag is set
+-- a tile with the flag of one edge set
 pub tile_by : (x y : TileState) (d : Dir) → x.status ≡ y.status → ((f : Dir) → f ≡ d → has_sent x f ≡ true)
     → ((f : Dir) → f ≢ d → has_sent x f ≡ has_sent y f) → x ≡ with_sent y d
 tile_by x y Right e h k = λ i. record {

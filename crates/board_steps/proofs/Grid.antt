@@ -1,5 +1,6 @@
--- The tiles of a page are a graph of the board.
-use Rattle.std.proofs.Common.{◌≡◌, ◌≢◌, ℕ, zero, suc, ◌+◌, ◌-◌, ◌*◌, ◌/◌, ◌%◌, ◌<◌, ◌&&◌, Bool, true, false, ltb, refl, sym, ap, ap₂, ◌∙◌, arith, Some, mod-lt, div-add-mod', lit<}
+-- The tiles of a window are a graph.
+use Rattle.std.proofs.Common.{◌≡◌, ◌≢◌, ℕ, zero, suc, ◌+◌, ◌-◌, ◌*◌, ◌/◌, ◌%◌, ◌<◌, ◌&&◌, Bool, true, false, ltb, refl, sym, ap, ap₂, ◌∙◌}
+use Rattle.std.proofs.Common.{arith, Some, mod-lt, div-add-mod', lit<}
 use Rattle.std.proofs.Math.Nat.{mul_comm, div-lt_iff_lt-mul}
 use Rattle.std.proofs.lemmas.Bool.{ltb-true, lt-ltb}
 use Rattle.std.proofs.lemmas.Nat.{div-mul-add, mul-add-lt}
@@ -19,7 +20,7 @@ both false b e = absurd (cc)
 pub and-yes : (a b : Bool) → a ≡ true → b ≡ true → (a && b) ≡ true
 and-yes a b e f = ap₂ (λ (x y : Bool). x && y) e f
 
--- the tile t stands in the column c and the band j
+-- tile t is in column c and band j
 pub record At (C B c j t : ℕ) : Type 0 where
   pub is : t ≡ j * C + c
   pub column : c < C
@@ -47,7 +48,7 @@ next-at C B c j t d a = ap₂ (λ (x y : ℕ). next_of C B x y t d) (at-mod C B 
 from-at : (C B c j t d : ℕ) → At C B c j t → from_in C B t d ≡ from_of C B c j t d
 from-at C B c j t d a = ap₂ (λ (x y : ℕ). from_of C B x y t d) (at-mod C B c j t a) (at-div C B c j t a)
 
--- one band on
+-- tiles of the next band
 pub row-more : (C j : ℕ) → (j + 1) * C ≡ j * C + C
 row-more C j = grind (arith)
 
@@ -88,7 +89,7 @@ there C B c j t (suc (suc zero)) p a e =
     )
 there C B c j t (suc (suc (suc d))) p a e = absurd (cc)
 
--- one band back
+-- tiles of the band above
 row-less : (C j : ℕ) → 0 < j → j * C ≡ (j - 1) * C + C
 row-less C zero h = absurd (omega arith)
 row-less C (suc j) h = let e : suc j - 1 ≡ j = omega arith in grind (arith)

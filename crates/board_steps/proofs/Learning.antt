@@ -23,7 +23,7 @@ module _ (B : Setting) (W : IsGraph B.graph) (s : State Cell View) (r : Ruled B 
   knew_arrived d None = omega arith
   knew_arrived d (Some q) = total_at (sends q d) s.views id v at
 
-  -- what the pass knew of a word stands in it
+  -- each bit that the pass knew is set in the word
   knew : 1 ≤ v.parts → (t : ℕ) → t < B.graph.tiles → KnewIn B.graph v t (slice_index s.words t)
   knew part t near = let x : ℕ = slice_index s.words t in let b = bits B W s r t near in record {
     right = let e = bit_a _ _ _ _ _ x b in let k = knew_arrived 0 (B.graph.from t 0) in omega arith;
@@ -34,7 +34,7 @@ module _ (B : Setting) (W : IsGraph B.graph) (s : State Cell View) (r : Ruled B 
     seen = λ w e. sees_here (slice_index s.words) v.seen t w (mine B s r id v at part).sees e;
   }
 
-  -- only the pass that is alone lists tiles
+  -- where a pass has all parts, no other view lists a tile
   alone_lists : v.parts ≡ 256 → (t : ℕ) → total (lists t) s.views ≡ lists t v
   alone_lists all t = total_alone (lists t) (λ u. u.parts) s.views id v
       (λ k u at' none. ⊎_elim (λ (z : u ≡ spent). ap (lists t) z ∙ spent_lists t)
@@ -48,7 +48,7 @@ module _ (B : Setting) (W : IsGraph B.graph) (s : State Cell View) (r : Ruled B 
     few = small _ _ _ _ _ x b;
   }
 
--- nothing but what is seen changes
+-- a look changes only what the view has seen
 pub sees_looked : (B : Setting) (s : State Cell View) (r : Ruled B s) (id : ℕ) (v : View) (t : ℕ) → t < B.graph.tiles
     → get_elem? s.views id ≡ some v → 1 ≤ v.parts
     → Ruled B record {

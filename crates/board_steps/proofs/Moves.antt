@@ -1,5 +1,6 @@
--- What every step needs to keep the rule.
-use Rattle.std.proofs.Common.{◌≡◌, ◌≢◌, ℕ, zero, suc, ◌+◌, ◌*◌, ◌<◌, ◌≤◌, inl, inr, ⊎_elim, List, [], ◌∷◌, length, get_or, set, refl, sym, ap, ◌∙◌, subst, arith, length-set, get_or-set_same, get_or-set_other, Option, Some, None}
+-- What the proofs of all steps share: what stays of the rule where one view, one word and some slots change.
+use Rattle.std.proofs.Common.{◌≡◌, ◌≢◌, ℕ, zero, suc, ◌+◌, ◌*◌, ◌<◌, ◌≤◌, inl, inr, ⊎_elim, List, [], ◌∷◌, length, get_or, set, refl, sym}
+use Rattle.std.proofs.Common.{ap, ◌∙◌, subst, arith, length-set, get_or-set_same, get_or-set_other, Option, Some, None}
 use mathlib.Core.Option.{some, some-ne-none}
 use mathlib.Core.Option as maybe
 use mathlib.Core.Logic.{dite}
@@ -12,7 +13,8 @@ use Rattle.board_steps.specs.declared.rule.View.{View}
 use Rattle.board_steps.specs.declared.rule.Slab.{Slab}
 use Rattle.board_steps.specs.declared.rule.Cell.{Cell}
 use Rattle.board_steps.specs.Graph.{IsGraph}
-use Rattle.board_steps.specs.Rule.{Setting, arrived, spent, posts, sends, lists, total, Within, Sees, Outer, Inner, EdgeIs, Home, TileOk, ViewOk, Ruled}
+use Rattle.board_steps.specs.Rule.{Setting, arrived, spent, posts, sends, lists, total, Within, Sees, Outer, Inner, EdgeIs, Home, TileOk}
+use Rattle.board_steps.specs.Rule.{ViewOk, Ruled}
 use Rattle.board_steps.proofs.Bits.{Bits}
 use Rattle.board_steps.proofs.Totals.{total_same, all_sends_lists, all_posts_sends}
 
@@ -71,7 +73,7 @@ module _ (B : Setting) (W : IsGraph B.graph) (s : State Cell View) (r : Ruled B 
         few_p = omega arith;
       }
 
--- a slot of which nothing changed
+-- a slot whose counts and value are unchanged
 pub outer_same : (f x : Cell) (h h' : Home) (l l' p p' : ℕ) → h' ≡ h → l' ≡ l → p' ≡ p → Outer f x h l p → Outer f x h' l' p'
 outer_same f x h h' l l' p p' e a b c = record {
   fresh = λ z. e ∙ c.fresh (omega arith);
@@ -117,7 +119,7 @@ view_more b ws ws' count k v grows o = record {
   sees = sees_more ws ws' grows v.seen o.sees;
 }
 
--- a word grows, and the others stay
+-- one word gains a bit, and the others are unchanged
 pub grown : (ws : List ℕ) (i x : ℕ) → i < length ws → Within (slice_index ws i) x → Grows ws (set ws i x)
 grown ws i x near more q = dite (ℕ_discrete q i)
     (λ (e : q ≡ i). subst (λ (z : ℕ). Within (slice_index ws z) (slice_index (set ws i x) z)) (sym e)
@@ -152,7 +154,7 @@ rebuilt B s r id v w ws hs at wide roomy parts grows ok outside tiles =
           (at_set s.views id k w u e);
     }
 
--- a tile of which nothing changed
+-- a tile whose word, counts and slots are unchanged
 module _ (B : Setting) (ws ws' : List ℕ) (hs hs' : Row) (L L' P P' : ℕ → ℕ) (S S' : ℕ → ℕ → ℕ) where
   pub arrived_same : (d : ℕ) → ((q : ℕ) → S' q d ≡ S q d) → (o : Option ℕ) → arrived (λ q. S' q d) o ≡ arrived (λ q. S q d) o
   arrived_same d e None = refl
@@ -166,7 +168,7 @@ module _ (B : Setting) (ws ws' : List ℕ) (hs hs' : Row) (L L' P P' : ℕ → �
   edge_same t d a b c h (Some p) f k = let g = f p refl in
       inner_same (B.fresh t d) (B.content t d) _ _ (L t) (L' t) (S t d) (S' t d) (L p) (L' p) (P p) (P' p) h a c g.0 g.1 k
 
--- each tile where all counts stay
+-- each tile, where all counts are unchanged
 pub same_counts : (B : Setting) (s : State Cell View) (r : Ruled B s) (vs : List View)
     → ((q : ℕ) → total (lists q) vs ≡ total (lists q) s.views) → ((q d : ℕ) → total (sends q d) vs ≡ total (sends q d) s.views)
     → ((q : ℕ) → total (posts q) vs ≡ total (posts q) s.views) → TilesOk B s.words s.homes vs

@@ -1,4 +1,4 @@
--- A look, a split and a join change nothing that the core shows.
+-- A look, a split and a join leave what is shown unchanged.
 use Rattle.std.proofs.Common.{◌≡◌, ℕ, set, ap, ◌∙◌, None}
 use Rattle.atomic_table.specs.Table.{State}
 use Rattle.atomic_table.proofs.Lists.{set_else}

@@ -1,5 +1,6 @@
--- How passes are cut and joined.
-use Rattle.std.proofs.Common.{min, ◌≡◌, ◌≢◌, ℕ, zero, suc, ◌+◌, ◌-◌, ◌≤◌, ◌⊎◌, inl, inr, ⊎_elim, List, [], ◌∷◌, ◌++◌, length, set, refl, sym, ap, ◌∙◌, subst, arith, length-set, length-append, None}
+-- A split and a join keep the rule.
+use Rattle.std.proofs.Common.{min, ◌≡◌, ◌≢◌, ℕ, zero, suc, ◌+◌, ◌-◌, ◌≤◌, ◌⊎◌, inl, inr, ⊎_elim, List, [], ◌∷◌, ◌++◌, length, set, refl}
+use Rattle.std.proofs.Common.{sym, ap, ◌∙◌, subst, arith, length-set, length-append, None}
 use mathlib.Core.Option.{some, some-ne-none, some-injective}
 use lib.ListN.{get_elem?}
 use Rattle.atomic_table.specs.Table.{State, Splits, Joins}
@@ -9,7 +10,8 @@ use Rattle.board_steps.specs.declared.rule.Cell.{Cell}
 use Rattle.board_steps.specs.Rule.{Setting, spent, posts, sends, lists, total, Numbered, ViewOk, Ruled}
 use Rattle.board_steps.specs.Steps.{kept_view, new_view, joined_view}
 use Rattle.board_steps.proofs.Totals.{total_set, total_at, total_snoc}
-use Rattle.board_steps.proofs.Views.{cut_lists, cut_sends, cut_posts, spent_lists, spent_sends, spent_posts, joined_lists, joined_sends, joined_posts}
+use Rattle.board_steps.proofs.Views.{cut_lists, cut_sends, cut_posts, spent_lists, spent_sends, spent_posts, joined_lists, joined_sends}
+use Rattle.board_steps.proofs.Views.{joined_posts}
 use Rattle.board_steps.proofs.Moves.{at_below, mine, same_counts}
 
 Numbered-more : (a b : ℕ) → a ≤ b → (l : List (ℕ × ℕ)) → Numbered a l → Numbered b l
@@ -20,7 +22,7 @@ Numbered-append : (a : ℕ) (l m : List (ℕ × ℕ)) → Numbered a l → Numbe
 Numbered-append a [] m h k = k
 Numbered-append a (x ∷ xs) m h k = (h.0, Numbered-append a xs m h.1 k)
 
--- a view is cut in two
+-- the split
 pub total_cut : (f : View → ℕ) (views : List View) (id : ℕ) (v l k : View) → get_elem? views id ≡ some v → f l + f k ≡ f v
     → total f (set views id l ++ k ∷ []) ≡ total f views
 total_cut f views id v l k at e = let a = total_snoc f (set views id l) k in let b = total_set f views id v l at in omega arith
@@ -89,13 +91,13 @@ splits B id v parts first s r at =
           (at_end vs k u j e);
     }
 
--- one view takes in another
+-- the join
 pub total_join : (f : View → ℕ) (views : List View) (id other : ℕ) (v u w : View) → get_elem? views id ≡ some v
     → get_elem? (set views id w) other ≡ some u → f w ≡ f v + f u → f spent ≡ 0 → total f (set (set views id w) other spent) ≡ total f views
 total_join f views id other v u w at at' e z = let a = total_set f views id v w at in
     let b = total_set f (set views id w) other u spent at' in omega arith
 
--- two views have no more parts than all
+-- two views together have at most 256 parts
 two_parts : (views : List View) (id other : ℕ) (v u : View) → get_elem? views id ≡ some v → get_elem? views other ≡ some u → other ≢ id
     → v.parts + u.parts ≤ total (λ y. y.parts) views
 two_parts views id other v u at there ne =

@@ -1,4 +1,4 @@
--- A post is the core's event.
+-- A post shows as the core's event.
 use Rattle.std.proofs.Common.{◌≡◌, ℕ, ◌<◌, true, List, set, sym, ap, ◌∙◌, subst, arith, Some}
 use mathlib.Core.Logic.{dite}
 use native.Mathlib.Decide.{ℕ_discrete}

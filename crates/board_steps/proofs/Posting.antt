@@ -1,5 +1,7 @@
 -- The fetch-or of 16 keeps the rule.
-use Rattle.std.proofs.Common.{◌≡◌, ◌≢◌, ℕ, zero, suc, ◌+◌, ◌*◌, ◌<◌, ◌≤◌, inl, inr, lit<, lit≤, le_refl, zero-le, List, [], ◌++◌, length, set, refl, sym, ap, ◌∙◌, subst, arith, bit_or, length-set, get_or-set_same, get_or-set_other, Option, Some, None}
+use Rattle.std.proofs.Common.{◌≡◌, ◌≢◌, ℕ, zero, suc, ◌+◌, ◌*◌, ◌<◌, ◌≤◌, inl, inr, lit<, lit≤, le_refl, zero-le, List, [], ◌++◌, length}
+use Rattle.std.proofs.Common.{set, refl, sym, ap, ◌∙◌, subst, arith, bit_or, length-set, get_or-set_same, get_or-set_other, Option, Some}
+use Rattle.std.proofs.Common.{None}
 use mathlib.Core.Option.{some}
 use mathlib.Core.Logic.{dite}
 use native.Mathlib.Decide.{ℕ_discrete}
@@ -13,12 +15,14 @@ use Rattle.board_steps.specs.Rule.{Setting, arrived, posts, sends, lists, total,
 use Rattle.board_steps.specs.Steps.{posted_view, incoming, own_slot, to_post_in, AllSent, MayPost, Posted}
 use Rattle.board_steps.proofs.Bits.{Bits, or_posted, Within-bits}
 use Rattle.board_steps.proofs.Totals.{total_at, total_same, total_more, total_gap, sends_lists, posts_sends, all_sends_lists}
-use Rattle.board_steps.proofs.Views.{one_same, held_lists, plain_posts, post_lists, post_sends_else, post_sends_sent, post_posts_here, post_posts_else}
-use Rattle.board_steps.proofs.Slots.{Apart, Distinct, Has, Has-right, give_all, put_all, given_valid, given_none, given_homes, put_long, put_else, put_here}
+use Rattle.board_steps.proofs.Views.{one_same, held_lists, plain_posts, post_lists, post_sends_else, post_sends_sent, post_posts_here}
+use Rattle.board_steps.proofs.Views.{post_posts_else}
+use Rattle.board_steps.proofs.Slots.{Apart, Distinct, Has, Has-right, give_all, put_all, given_valid, given_none, given_homes, put_long}
+use Rattle.board_steps.proofs.Slots.{put_else, put_here}
 use Rattle.board_steps.proofs.Moves.{Row, at_below, mine, A, bits, rebuilt, view_more, grown, outer_same, inner_same}
 use Rattle.board_steps.proofs.Taking.{none_some, some_same, Apart-incoming, Distinct-incoming, elsewhere, other_direction, not_itself}
 
--- what is at home once tile t is posted
+-- the slots once tile t is posted
 pub record Filled (B : Setting) (t : ℕ) (hs hs' : Row) : Type 0 where
   own : (d : ℕ) → d < 4 → B.graph.next t d ≡ None → get_elem? hs' (4 * t + d) ≡ some (some (B.content t d))
   inner : (d p : ℕ) → d < 4 → B.graph.next t d ≡ Some p → get_elem? hs' (4 * t + d) ≡ get_elem? hs (4 * t + d)
@@ -50,7 +54,7 @@ module _ (B : Setting) (W : IsGraph B.graph) (ws ws' : List ℕ) (hs hs' : Row) 
       inner_same (B.fresh t d) (B.content t d) _ _ (L t) (L' t) (S t d) (S' t d) (L p) (L' p) (P p) (P' p)
       (fl.inner d p small e) (ct.listed t) (ct.sent t d p e) (ct.listed p) (ct.else p th.1) k
 
-  -- the edge of another tile, which came to t
+  -- the edge of another tile that came to t
   in_edge : (q d : ℕ) → q < B.graph.tiles → q ≢ t → B.graph.next q d ≡ Some t → Is q d (Some t)
   in_edge q d below ne e =
       let th = W.there q d t below e in let need = (all t near).needs d q th.3 in
@@ -149,7 +153,7 @@ posted B W s r id v t hs near at part held done fl =
     below : (vs : List View) (i : ℕ) (u : View) → get_elem? vs i ≡ some u → u.number ≡ i → u.number < length vs
     below vs i u e f = let h = at_below vs i u e in omega arith
 
--- ---- the slots that go home
+-- ---- the slots that go back to the table
 
 module _ (content : ℕ → ℕ → Cell) (t d : ℕ) where
   Apart-own : (k : ℕ) (o : Option ℕ) (m : List (ℕ × Cell)) → (o ≡ None → k ≢ 4 * t + d) → Apart k m → Apart k (own_slot content t d o ++ m)
@@ -192,7 +196,7 @@ module _ (B : Setting) (W : IsGraph B.graph) (left : ℕ → ℕ → Cell) (t : 
   apart_owns k f = Apart-own B.content t 0 k (B.graph.next t 0) _ (f 0 (lit< tt))
       (Apart-own B.content t 1 k (B.graph.next t 1) _ (f 1 (lit< tt)) (Apart-own B.content t 2 k (B.graph.next t 2) [] (f 2 (lit< tt)) tt))
 
-  -- a slot of a tile whose edge came to this one
+  -- the slot of an edge that came to this tile
   ins_owns : (q d : ℕ) → d < 4 → q ≢ t → Apart (4 * q + d) owns
   ins_owns q d small ne = apart_owns (4 * q + d) (λ e se h. elsewhere t q d e small se ne)
 
@@ -266,7 +270,7 @@ module _ (B : Setting) (W : IsGraph B.graph) (left : ℕ → ℕ → Cell) (t : 
     long = put_long hs hand;
   }
 
--- a direction past the third has no receiver
+-- no tile receives in a direction past the third
 no_receiver : (B : Setting) → IsGraph B.graph → (t : ℕ) → t < B.graph.tiles → B.graph.next t 3 ≡ None
 no_receiver B W t near = at (B.graph.next t 3) refl
   where

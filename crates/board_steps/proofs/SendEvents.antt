@@ -1,4 +1,4 @@
--- A send is the core's event.
+-- A send shows as the core's event.
 use Rattle.std.proofs.Common.{◌≡◌, ℕ, ◌+◌, ◌<◌, eqb, true, false, sym, ap, ◌∙◌, subst, arith, Option, Some}
 use mathlib.Core.Logic.{dite}
 use native.Mathlib.Decide.{ℕ_discrete}

@@ -1,5 +1,6 @@
--- The core that a state shows, tile by tile.
-use Rattle.std.proofs.Common.{◌≡◌, ◌≢◌, ℕ, zero, suc, ◌+◌, ◌<◌, ◌≤◌, eqb, Bool, false, List, ◌∷◌, get_or, set, refl, sym, ap, ap₂, ◌∙◌, arith, Option, Some, None}
+-- What a state shows, tile by tile.
+use Rattle.std.proofs.Common.{◌≡◌, ◌≢◌, ℕ, zero, suc, ◌+◌, ◌<◌, ◌≤◌, eqb, Bool, false, List, ◌∷◌, get_or, set, refl, sym, ap, ap₂, ◌∙◌}
+use Rattle.std.proofs.Common.{arith, Option, Some, None}
 use Rattle.atomic_table.specs.Table.{State}
 use Rattle.board_core.specs.States.{fresh, sent, tile_at}
 use Rattle.board_core.specs.Steps.{with_tile}
@@ -49,7 +50,7 @@ module _ {X : Type 0} where
 
 -- ---- flags
 
--- whether an edge that was sent so often is sent to a tile
+-- whether an edge is sent, by how often it was and the tile that receives it
 abbrev pub given : Option ℕ → ℕ → Bool
 given None n = false
 given (Some p) n = eqb n 1

@@ -1,5 +1,6 @@
 -- What the views say of a tile's status.
-use Rattle.std.proofs.Common.{◌≡◌, ◌≢◌, ℕ, zero, suc, ◌≤◌, eqb, eq-eqb, ne_eqb, cond, Bool, true, false, List, [], ◌∷◌, ◌++◌, length, set, refl, sym, ap, ◌∙◌, arith, length-set, Option, Some, None}
+use Rattle.std.proofs.Common.{◌≡◌, ◌≢◌, ℕ, zero, suc, ◌≤◌, eqb, eq-eqb, ne_eqb, cond, Bool, true, false, List, [], ◌∷◌, ◌++◌, length, set}
+use Rattle.std.proofs.Common.{refl, sym, ap, ◌∙◌, arith, length-set, Option, Some, None}
 use mathlib.Core.Option.{some, some-injective, some-ne-none}
 use mathlib.Core.Logic.{dite}
 use native.Mathlib.Decide.{ℕ_discrete}
@@ -54,13 +55,13 @@ status_same t [] id v w at e = refl
 status_same t (x ∷ xs) zero v w at e = e (status t xs) ∙ ap (λ (u : View). own_status t u (status t xs)) (sym (some-injective x v at))
 status_same t (x ∷ xs) (suc id) v w at e = ap (own_status t x) (status_same t xs id v w at e)
 
--- a view behind the others that says nothing
+-- a view after the others that says nothing of the tile
 pub status_snoc : (t : ℕ) (vs : List View) (k : View) → ((z : Status) → own_status t k z ≡ z) → status t (vs ++ k ∷ []) ≡ status t vs
 unfolding status
 status_snoc t [] k e = e Waiting
 status_snoc t (x ∷ xs) k e = ap (own_status t x) (status_snoc t xs k e)
 
--- the tile is listed by none, and then by w
+-- no view lists the tile, and then one of them becomes w, which does
 pub status_new : (t : ℕ) (vs : List View) (id : ℕ) (v w : View) (y : Status) → get_elem? vs id ≡ some v → total (lists t) vs ≡ 0
     → ((z : Status) → own_status t w z ≡ y) → status t (set vs id w) ≡ y
 unfolding status total
@@ -69,7 +70,7 @@ status_new t (x ∷ xs) zero v w y at e f = f (status t xs)
 status_new t (x ∷ xs) (suc id) v w y at e f = own_none t x (status t (set xs id w)) (omega arith)
     ∙ status_new t xs id v w y at (omega arith) f
 
--- the tile is listed by this view alone
+-- only this view lists the tile
 pub status_only : (t : ℕ) (vs : List View) (id : ℕ) (v : View) → get_elem? vs id ≡ some v → total (lists t) vs ≤ 1 → 1 ≤ lists t v
     → status t vs ≡ own_status t v Waiting
 unfolding status total
@@ -132,7 +133,7 @@ unfolding own_status
 joined_own v u q idle z = ap (cond (holds q v.held) (Taken v.number)) (posted-append q v.mine u.mine z
     ∙ ap (posted_status q v.mine) (sym (ap (λ (b : Bool). cond b (Taken u.number) (posted_status q u.mine z)) (ap (holds q) idle))))
 
--- a tile that neither view lists, or one of them
+-- a join: a tile that neither view lists, or one of them does
 pub joined_status : (vs : List View) (id other : ℕ) (v u : View) (q : ℕ) → get_elem? vs id ≡ some v → get_elem? vs other ≡ some u
     → other ≢ id
     → u.held ≡ None → total (lists q) vs ≤ 1 → status q (set (set vs id (joined_view v u)) other spent) ≡ status q vs

@@ -1,4 +1,4 @@
--- A take is the core's event.
+-- A take shows as the core's event.
 use Rattle.std.proofs.Common.{◌≡◌, ℕ, true, sym, ap, ◌∙◌, arith, None}
 use Rattle.atomic_table.specs.Table.{State}
 use Rattle.board_core.specs.States.{IsWaiting, sent}

@@ -1,5 +1,6 @@
 -- The fetch-or of 8 keeps the rule.
-use Rattle.std.proofs.Common.{◌≡◌, ◌≢◌, ℕ, ◌+◌, ◌*◌, ◌<◌, ◌≤◌, inl, inr, lit<, lit≤, le_refl, zero-le, List, [], ◌++◌, length, set, refl, sym, ap, ◌∙◌, subst, arith, bit_or, length-set, get_or-set_same, get_or-set_other, Option, Some, None}
+use Rattle.std.proofs.Common.{◌≡◌, ◌≢◌, ℕ, ◌+◌, ◌*◌, ◌<◌, ◌≤◌, inl, inr, lit<, lit≤, le_refl, zero-le, List, [], ◌++◌, length, set, refl}
+use Rattle.std.proofs.Common.{sym, ap, ◌∙◌, subst, arith, bit_or, length-set, get_or-set_same, get_or-set_other, Option, Some, None}
 use mathlib.Core.Option.{some, none}
 use mathlib.Core.Logic.{dite}
 use native.Mathlib.Decide.{ℕ_discrete}
@@ -14,7 +15,8 @@ use Rattle.board_steps.specs.Steps.{looked, taken, incoming, hand_in, HasNeeds, 
 use Rattle.board_steps.proofs.Bits.{Bits, bit_a, bit_b, bit_c, bit_t, or_taken, or_taken_again, Within-bits}
 use Rattle.board_steps.proofs.Totals.{total_same, total_more, all_sends_lists, all_posts_sends}
 use Rattle.board_steps.proofs.Views.{takes_here, takes_else, takes_sends, takes_posts}
-use Rattle.board_steps.proofs.Slots.{withdraw, clear, Apart, Distinct, AllHome, Among, clear_else, clear_long, clear_here, withdraw_homes, withdraw_carried, withdraw_valid, Among-right}
+use Rattle.board_steps.proofs.Slots.{withdraw, clear, Apart, Distinct, AllHome, Among, clear_else, clear_long, clear_here, withdraw_homes}
+use Rattle.board_steps.proofs.Slots.{withdraw_carried, withdraw_valid, Among-right}
 use Rattle.board_steps.proofs.Moves.{Row, mine, A, bits, rebuilt, view_more, grown, arrived_same, edge_same}
 use Rattle.board_steps.proofs.Learning.{sees_here, sees_looked, found}
 
@@ -24,7 +26,7 @@ none_some h = cc
 pub some_same : {a b : ℕ} → Some a ≡ Some b → a ≡ b
 some_same h = cc
 
--- what is at home once tile t is taken
+-- the slots once tile t is taken
 pub record Emptied (B : Setting) (t : ℕ) (hs hs' : Row) : Type 0 where
   own : (d : ℕ) → d < 4 → get_elem? hs' (4 * t + d) ≡ some none
   ins : (q d : ℕ) → q < B.graph.tiles → B.graph.next q d ≡ Some t → get_elem? hs' (4 * q + d) ≡ some none
@@ -65,7 +67,7 @@ module _ (B : Setting) (W : IsGraph B.graph) (ws ws' : List ℕ) (hs hs' : Row) 
         done = λ z. absurd (omega arith);
       }
 
-  -- the edge of another tile, which comes to t
+  -- the edge of another tile that comes to t
   in_edge : (q d : ℕ) → q < B.graph.tiles → q ≢ t → B.graph.next q d ≡ Some t → Is q d (Some t)
   in_edge q d below ne e =
       let th = W.there q d t below e in let one = ready d q th.3 in
@@ -309,7 +311,7 @@ took B W s r id v t hs near at part idle free ready em =
     (λ q below. taken_tile B W s.words (set s.words t (x + 8)) s.homes hs L L' P P' S S' t near ct em free ready r.tiles
     (get_or-set_same s.words t (x + 8) 0 wide) (λ q ne. get_or-set_other s.words t q (x + 8) 0 ne) q below))
 
--- the needs that the seat has seen stand
+-- the arrival bits that the pass has seen are still set
 pub needs_stand : (B : Setting) (W : IsGraph B.graph) (s : State Cell View) (r : Ruled B s) (t word : ℕ) → t < B.graph.tiles
     → Within word (slice_index s.words t) → HasNeeds B.graph t word → (d q : ℕ) → B.graph.from t d ≡ Some q → total (sends q d) s.views ≡ 1
 needs_stand B W s r t word near k h d q e =

@@ -1,4 +1,4 @@
--- Each step on a board of a slab, told of the slab that the view names.
+-- What each step tells of the slab that the view names.
 use Rattle.std.proofs.Common.{◌≡◌, ℕ, ◌<◌, ◌≤◌, [], zero, suc, refl, sym, subst, arith, bit_or, None}
 use Rattle.std.specs.Prelude.{slice_index}
 use Rattle.atomic_table.specs.Table.{Me, Allows, carried_after}
@@ -20,7 +20,7 @@ use Rattle.board_steps.proofs.Places.{window_graph}
 pub lawful : (b : Slab) → IsGraph (setting_of b).graph
 lawful b = window_graph (window_of b.rows.value)
 
--- what the step tells of the rule's slab it tells of the view's, which is the same
+-- the slab of the rule is that of the view
 by_view : (b : Slab) (k id : ℕ) (me : Me Cell View) (t : ℕ) (f : ℕ → ℕ) (then : Slab → ℕ → Me Cell View → Type 0) → 1 ≤ me.0.parts
     → Allows (Ruled (setting_of b)) k id me t f (then b) → Allows (Ruled (setting_of b)) k id me t f (then me.0.board)
 by_view b k id me t f then part step s r wide at few =

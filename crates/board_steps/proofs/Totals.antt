@@ -59,7 +59,7 @@ total_none f g [] h e = refl
 total_none f g (x ∷ xs) h e = let a : g x ≡ 0 = omega arith in let b : total g xs ≡ 0 = omega arith in let c = h 0 x refl a in
     let d = total_none f g xs (λ k u at z. h (suc k) u at z) b in omega arith
 
--- one view has all of g, so it has all of f
+-- where one view has the whole sum of g, and f is 0 wherever g is, it has the whole sum of f
 pub total_alone : (f g : View → ℕ) (views : List View) (id : ℕ) (v : View) → NoneWithout f g views → get_elem? views id ≡ some v
     → total g views ≡ g v → total f views ≡ f v
 unfolding total
@@ -74,7 +74,7 @@ pub total_more : (f : View → ℕ) (views : List View) (id : ℕ) (v w : View) 
     → total f (set views id w) ≡ total f views + 1
 total_more f views id v w at e = let r = total_set f views id v w at in omega arith
 
--- what the other views have of f is no more than what they have of g
+-- where f is at most g, the other views have no more of f than of g
 pub total_gap : (f g : View → ℕ) → ((v : View) → f v ≤ g v) → (views : List View) (id : ℕ) (v : View) → get_elem? views id ≡ some v
     → total f views + g v ≤ total g views + f v
 unfolding total

@@ -1,5 +1,6 @@
 -- What each step does to the counts of one view.
-use Rattle.std.proofs.Common.{◌||◌, ◌≡◌, ◌≢◌, ℕ, ◌+◌, eqb, eq-eqb, ne_eqb, Bool, true, false, List, [], ◌∷◌, ◌++◌, refl, sym, ap, ◌∙◌, arith, Option, Some, None}
+use Rattle.std.proofs.Common.{◌||◌, ◌≡◌, ◌≢◌, ℕ, ◌+◌, eqb, eq-eqb, ne_eqb, Bool, true, false, List, [], ◌∷◌, ◌++◌, refl, sym, ap, ◌∙◌}
+use Rattle.std.proofs.Common.{arith, Option, Some, None}
 use Rattle.board_steps.specs.declared.rule.View.{View}
 use Rattle.board_steps.specs.Rule.{one_if, times, has, is_held, is_sent, posts, sends, lists, spent}
 use Rattle.board_steps.specs.Steps.{looked, taken, sent_view, posted_view, kept_view, new_view, joined_view}
@@ -77,7 +78,7 @@ pub plain_posts : (p : ℕ) (v : View) → posts p v ≡ times p v.mine
 unfolding posts
 plain_posts p v = refl
 
--- the view that has sent
+-- the view after a send
 has_first : (d : ℕ) (l : List ℕ) → has d (d ∷ l) ≡ true
 has_first d l = ap (λ (b : Bool). b || has d l) (eq-eqb d d refl)
 
@@ -104,7 +105,7 @@ pub send_posts : (v : View) (d q : ℕ) → posts q (sent_view v d) ≡ posts q 
 unfolding posts
 send_posts v d q = refl
 
--- the view that has posted
+-- the view after a post
 pub post_lists : (v : View) (p : ℕ) → v.held ≡ Some p → (q : ℕ) → lists q (posted_view v p) ≡ lists q v
 post_lists v p held q = let a = idle_lists (posted_view v p) refl q in
     let b : times q (posted_view v p).mine ≡ one_if (eqb p q) + times q v.mine = refl in let c = held_lists v p held q in omega arith
@@ -153,7 +154,7 @@ pub spent_sends : (p d : ℕ) → sends p d spent ≡ 0
 unfolding sends
 spent_sends p d = refl
 
--- the view that has taken in another
+-- the view after a join
 times-append : (p : ℕ) (l m : List (ℕ × ℕ)) → times p (l ++ m) ≡ times p l + times p m
 times-append p [] m = omega arith
 times-append p (x ∷ xs) m = let r = times-append p xs m in omega arith

@@ -1,5 +1,6 @@
--- The rule says its clauses in plain words.
-use Rattle.std.proofs.Common.{◌≡◌, ◌≢◌, ℕ, zero, suc, ◌+◌, ◌*◌, ◌/◌, ◌%◌, ◌<◌, ◌≤◌, ◌⊎◌, inl, inr, ⊎_elim, true, List, [], ◌∷◌, length, refl, sym, ap, ◌∙◌, subst, arith, Option, Some, None, Bool, false}
+-- The rule implies its clauses in plain words.
+use Rattle.std.proofs.Common.{◌≡◌, ◌≢◌, ℕ, zero, suc, ◌+◌, ◌*◌, ◌/◌, ◌%◌, ◌<◌, ◌≤◌, ◌⊎◌, inl, inr, ⊎_elim, true, List, [], ◌∷◌, length}
+use Rattle.std.proofs.Common.{refl, sym, ap, ◌∙◌, subst, arith, Option, Some, None, Bool, false}
 use mathlib.Core.Option.{some, some-injective, some-ne-none}
 use mathlib.Core.Logic.{dite}
 use native.Mathlib.Decide.{ℕ_discrete}
@@ -11,7 +12,8 @@ use Rattle.board_steps.specs.declared.rule.Slab.{Slab}
 use Rattle.board_steps.specs.declared.rule.Cell.{Cell}
 use Rattle.board_steps.specs.Graph.{IsGraph}
 use Rattle.board_steps.specs.Clauses.{Lists, HasSent, WordClauses, OwnClauses, EdgeClauses, ViewClauses, Clauses}
-use Rattle.board_steps.specs.Rule.{Setting, setting_of, arrived, has, is_held, is_sent, lists, posts, sends, spent, total, EdgeIs, ViewOk, Ruled}
+use Rattle.board_steps.specs.Rule.{Setting, setting_of, arrived, has, is_held, is_sent, lists, posts, sends, spent, total, EdgeIs, ViewOk}
+use Rattle.board_steps.specs.Rule.{Ruled}
 use Rattle.board_steps.specs.Steps.{bit_of}
 use Rattle.board_steps.proofs.Bits.{bit_a, bit_b, bit_c, bit_t, bit_p, small}
 use Rattle.board_steps.proofs.Totals.{total_at, all_sends_lists, all_posts_sends}
@@ -126,7 +128,8 @@ module _ (B : Setting) (W : IsGraph B.graph) (s : State Cell View) (r : Ruled B 
       }
 
   abbrev Edge : ℕ → ℕ → Option ℕ → Type 0
-  Edge t d o = EdgeIs (λ p. total (lists p) s.views) (λ p. total (posts p) s.views) (total (sends t d) s.views) (B.fresh t d) (B.content t d)
+  Edge t d o =
+      EdgeIs (λ p. total (lists p) s.views) (λ p. total (posts p) s.views) (total (sends t d) s.views) (B.fresh t d) (B.content t d)
       (get_elem? s.homes (4 * t + d)) t o
 
   own_clauses : (t d : ℕ) → t < B.graph.tiles → d < 4 → B.graph.next t d ≡ None → OwnClauses B s t d

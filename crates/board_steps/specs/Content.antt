@@ -1,4 +1,4 @@
--- What the slots of a tile hold: while the tile waits, room for what no other tile sends it, and what the tile gives once
+-- The values of a tile's slots: while the tile waits, blanks for what no other tile sends it, and what the tile gives once
 -- it is posted.
 use Rattle.std.specs.Prelude.{ℕ, ℤ, pos, zero, suc, ◌/◌, ◌%◌, List, Option, None, Some, replicate}
 use Rattle.diffusion_kernel.specs.declared.tables.Kernel.{Kernel}
@@ -11,26 +11,26 @@ use Rattle.tile_content.specs.Content.{given}
 use Rattle.board_steps.specs.declared.rule.Cell.{Cell}
 use Rattle.board_steps.specs.declared.rule.Cell.TheVariants.{Empty, Right, Bottom, Corner, Dots}
 
--- blanks of so many inks, by direction: errors 0 and no dots
+-- a blank of a direction, in this many inks: an edge of errors 0, or no dots
 abbrev pub blank_of : ℕ → ℕ → Cell
 blank_of inks zero = Right (replicate inks (replicate 192 (pos 0)))
 blank_of inks (suc zero) = Bottom (replicate inks (replicate 128 (pos 0)))
 blank_of inks (suc (suc zero)) = Corner (replicate inks (replicate 12 (pos 0)))
 blank_of inks (suc (suc (suc d))) = Dots (replicate inks (replicate {A = ℕ} 256 0))
 
--- A slot of a waiting tile, by the tile that sends it the edge of that direction: a blank where there is none.
+-- The slot of a waiting tile for a direction: a blank where no tile sends it that edge, and empty where one does.
 abbrev pub fresh_of : ℕ → ℕ → Option ℕ → Cell
 fresh_of inks d None = blank_of inks d
 fresh_of inks d (Some q) = Empty
 
--- a tile's edges by direction, and its dots
+-- what a tile gives in a direction, and its dots for direction 3
 abbrev pub cell_of : Border → ℕ → Cell
 cell_of b zero = Right b.side
 cell_of b (suc zero) = Bottom b.band
 cell_of b (suc (suc zero)) = Corner b.corner
 cell_of b (suc (suc (suc d))) = Dots b.bits
 
--- the place of tile t
+-- the place of tile number t, by band and then column
 abbrev pub place_of : AmountTable → ℕ → Place
 place_of rows t = let columns : ℕ = columns_of (window_of rows) in record { c = t % columns; j = t / columns }
 

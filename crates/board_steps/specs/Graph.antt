@@ -18,38 +18,40 @@ pub record IsGraph (G : Graph) : Type 0 where
   pub there : (t d p : ℕ) → t < G.tiles → G.next t d ≡ Some p → (p < G.tiles) × (p ≢ t) × (d < 3) × (G.from p d ≡ Some t)
   pub back : (p d t : ℕ) → p < G.tiles → G.from p d ≡ Some t → (t < G.tiles) × (d < 3) × (G.next t d ≡ Some p)
 
+-- x where the test holds
 abbrev pub only_if : Bool → ℕ → Option ℕ
 only_if true x = Some x
 only_if false x = None
 
--- of tile t in column c and band j, of C columns and B bands
+-- the tile that receives the edge in a direction of tile t in column c and band j, among C columns and B bands
 abbrev pub next_of : ℕ → ℕ → ℕ → ℕ → ℕ → ℕ → Option ℕ
 next_of C B c j t zero = only_if (nat_lt (c + 1) C) (t + 1)
 next_of C B c j t (suc zero) = only_if (nat_lt 0 c && nat_lt (j + 1) B) (t + C - 1)
 next_of C B c j t (suc (suc zero)) = only_if (nat_lt (j + 1) B) (t + C)
 next_of C B c j t (suc (suc (suc d))) = None
 
+-- the tile that sends it the edge of a direction
 abbrev pub from_of : ℕ → ℕ → ℕ → ℕ → ℕ → ℕ → Option ℕ
 from_of C B c j t zero = only_if (nat_lt 0 c) (t - 1)
 from_of C B c j t (suc zero) = only_if (nat_lt (c + 1) C && nat_lt 0 j) (t + 1 - C)
 from_of C B c j t (suc (suc zero)) = only_if (nat_lt 0 j) (t - C)
 from_of C B c j t (suc (suc (suc d))) = None
 
+-- the same two by the tile's number alone
 abbrev pub next_in : ℕ → ℕ → ℕ → ℕ → Option ℕ
 next_in C B t d = next_of C B (t % C) (t / C) t d
 
 abbrev pub from_in : ℕ → ℕ → ℕ → ℕ → Option ℕ
 from_in C B t d = from_of C B (t % C) (t / C) t d
 
--- the tiles of a window
+-- the tiles of a window, and who receives what
 abbrev pub graph_of : Shape → Graph
 graph_of s = record {
   tiles = bands_of s * columns_of s;
   next = next_in (columns_of s) (bands_of s);
-  from = from_in (columns_of s)
-      (bands_of s);
+  from = from_in (columns_of s) (bands_of s);
 }
 
--- the number of a tile
+-- the number of a tile, by band and then column
 abbrev pub number_of : Shape → Place → ℕ
 number_of s p = p.j * columns_of s + p.c

@@ -1,5 +1,6 @@
--- What each step tells.
-use Rattle.std.specs.Prelude.{min, ◌≡◌, ℕ, zero, suc, ◌+◌, ◌-◌, ◌*◌, ◌/◌, ◌%◌, ◌<◌, ◌≤◌, true, false, List, [], ◌∷◌, ◌++◌, Option, Some, None}
+-- What a pass knows, and which slots it has, after each step.
+use Rattle.std.specs.Prelude.{min, ◌≡◌, ℕ, zero, suc, ◌+◌, ◌-◌, ◌*◌, ◌/◌, ◌%◌, ◌<◌, ◌≤◌, true, false, List, [], ◌∷◌, ◌++◌, Option, Some}
+use Rattle.std.specs.Prelude.{None}
 use Rattle.atomic_table.specs.Table.{Me, rest}
 use Rattle.tile_shape.specs.declared.tiles.Dir.{Dir}
 use Rattle.tile_shape.specs.declared.tiles.Dir.TheVariants as dir
@@ -12,7 +13,7 @@ use Rattle.board_steps.specs.Rule.{Setting, setting_of, arrived, has, lists, pos
 
 -- ---- the start
 
--- the slots of so many tiles that wait
+-- the slots of n waiting tiles, tile by tile
 abbrev pub fresh_slots : (ℕ → ℕ → Cell) → ℕ → List Cell
 fresh_slots fresh zero = []
 fresh_slots fresh (suc n) = fresh_slots fresh n ++ fresh n 0 ∷ fresh n 1 ∷ fresh n 2 ∷ fresh n 3 ∷ []
@@ -33,11 +34,11 @@ bit_of (suc (suc d)) = 4
 
 -- ---- look
 
--- the view once it has found a word
+-- the view after a look at tile p that found `word`
 abbrev pub looked : View → ℕ → ℕ → View
 looked v p word = record v { seen = Some (p, word); looks = v.looks + 1 }
 
--- The word has every bit of the tile's word that the pass knew.
+-- The word of tile p has every bit that the pass knew to be set.
 pub record KnewIn (G : Graph) (v : View) (p word : ℕ) : Type 0 where
   pub right : arrived (λ q. sends q 0 v) (G.from p 0) ≤ word % 2
   pub bottom : arrived (λ q. sends q 1 v) (G.from p 1) ≤ word / 2 % 2
@@ -46,15 +47,17 @@ pub record KnewIn (G : Graph) (v : View) (p word : ℕ) : Type 0 where
   pub posted : posts p v ≤ word / 16 % 2
   pub seen : (w : ℕ) → v.seen ≡ Some (p, w) → Within w word
 
--- What the pass learns of a tile by its word. A pass that has all parts finds bit 8 exactly where it lists the tile itself.
+-- What the pass learns of tile p by its word. A pass that has all parts finds bit 8 exactly where it lists the tile itself.
 pub record FoundIn (G : Graph) (v : View) (p word : ℕ) : Type 0 where
   pub knew : KnewIn G v p word
   pub alone : v.parts ≡ 256 → word / 8 % 2 ≡ lists p v
   pub few : word < 32
 
+-- a look at tile t found r
 abbrev pub LookedIn : Setting → ℕ → Me Cell View → ℕ → Me Cell View → Type 0
 LookedIn B t m r n = (n ≡ (looked m.0 t r, m.1)) × FoundIn B.graph m.0 t r
 
+-- the same on the board of a slab
 abbrev pub Looked : Slab → ℕ → Me Cell View → ℕ → Me Cell View → Type 0
 Looked b = LookedIn (setting_of b)
 
@@ -65,7 +68,7 @@ abbrev pub HasNeeds : Graph → ℕ → ℕ → Type 0
 HasNeeds G t word = ((q : ℕ) → G.from t 0 ≡ Some q → word % 2 ≡ 1) × ((q : ℕ) → G.from t 1 ≡ Some q → word / 2 % 2 ≡ 1)
     × ((q : ℕ) → G.from t 2 ≡ Some q → word / 4 % 2 ≡ 1)
 
--- the word that the pass last found is of this tile and has its needs
+-- the pass last looked at tile t, and the word that it found has the bits of all edges that come to the tile
 pub record IsReadyFor (G : Graph) (t : ℕ) (v : View) : Type 0 where
   pub word : ℕ
   pub seen : v.seen ≡ Some (t, word)
@@ -75,7 +78,7 @@ pub record IsReadyFor (G : Graph) (t : ℕ) (v : View) : Type 0 where
 abbrev pub taken : View → ℕ → View
 taken v p = record v { held = Some p; sent = [] }
 
--- the slot of an edge that comes to a tile
+-- the slot of the edge that comes to a tile in the direction d, if one does
 abbrev pub incoming : (ℕ → ℕ → Cell) → ℕ → Option ℕ → List (ℕ × Cell)
 incoming content d None = []
 incoming content d (Some q) = (4 * q + d, content q d) ∷ []
@@ -86,29 +89,33 @@ hand G own content t =
     (4 * t + 0, own 0) ∷ (4 * t + 1, own 1) ∷ (4 * t + 2, own 2) ∷ (4 * t + 3, own 3)
     ∷ incoming content 0 (G.from t 0) ++ (incoming content 1 (G.from t 1) ++ (incoming content 2 (G.from t 2) ++ []))
 
--- the slots that come into hand with a tile
+-- the slots that a pass has once it has taken tile t: fresh ones, and the edges that come to it
 abbrev pub hand_in : Setting → ℕ → List (ℕ × Cell)
 hand_in B t = hand B.graph (B.fresh t) B.content t
 
+-- the same on the board of a slab
 abbrev pub in_hand : Slab → ℕ → List (ℕ × Cell)
 in_hand b = hand_in (setting_of b)
 
--- the same once all that they held is taken out
+-- the same slots, all empty
 abbrev pub emptied_hand : Slab → ℕ → List (ℕ × Cell)
 emptied_hand b t = hand (setting_of b).graph (λ d. Empty) (λ q d. Empty) t
 
--- Where the word had no bit 8 the pass holds the tile, and else it has found the word.
+-- The take of tile t found r. Where bit 8 of r is clear the pass holds the tile and has its slots, and else the take is
+-- but a look.
 pub record TookIn (B : Setting) (t : ℕ) (m : Me Cell View) (r : ℕ) (n : Me Cell View) : Type 0 where
   pub got : r / 8 % 2 ≡ 0 → n ≡ (taken m.0 t, hand_in B t)
   pub gone : r / 8 % 2 ≡ 1 → n ≡ (looked m.0 t r, m.1)
   pub found : FoundIn B.graph m.0 t r
 
+-- the same on the board of a slab
 abbrev pub Took : Slab → ℕ → Me Cell View → ℕ → Me Cell View → Type 0
 Took b = TookIn (setting_of b)
 
 -- ---- send
 
--- The pass holds a tile whose edge in the direction d goes to tile `to`. It has not sent it, and the edge is in front.
+-- The pass holds a tile whose edge in the direction d goes to tile `to`. It has not sent it, and the first slot that it has
+-- is that of the edge, with the edge.
 pub record MaySend (B : Setting) (m : Me Cell View) (d to : ℕ) : Type 0 where
   pub from : ℕ
   pub inside : from < B.graph.tiles
@@ -121,38 +128,39 @@ pub record MaySend (B : Setting) (m : Me Cell View) (d to : ℕ) : Type 0 where
 abbrev pub sent_view : View → ℕ → View
 sent_view v d = record v { sent = d ∷ v.sent }
 
--- The edge in the direction d, which was in front, goes home.
+-- The edge in the direction d is sent, and the first slot that the pass had is back in the table.
 abbrev pub SentTo : ℕ → Me Cell View → Me Cell View → Type 0
 SentTo d m n = n ≡ (sent_view m.0 d, rest m.1)
 
--- the same by the arrival bit of the direction
+-- the same, where the step names the arrival bit of the direction
 abbrev pub Sent : ℕ → Me Cell View → Me Cell View → Type 0
 Sent bit m n = (d : ℕ) → d < 3 → bit ≡ bit_of d → SentTo d m n
 
 -- ---- post
 
--- each edge of the tile that a tile receives is sent
+-- each edge of tile t that another tile receives is sent
 abbrev pub AllSent : Graph → ℕ → View → Type 0
 AllSent G t v = (d p : ℕ) → G.next t d ≡ Some p → has d v.sent ≡ true
 
--- the slot of an edge that no tile receives
+-- the slot of the edge in the direction d, if no tile receives it
 abbrev pub own_slot : (ℕ → ℕ → Cell) → ℕ → ℕ → Option ℕ → List (ℕ × Cell)
 own_slot content t d None = (4 * t + d, content t d) ∷ []
 own_slot content t d (Some p) = []
 
--- The slots that go home as the tile is posted: that of its dots, those of the edges that came to it, with whatever they
--- hold, and those of its edges that no tile receives.
+-- The slots that go back to the table when tile t is posted: that of its dots, those of the edges that came to it, with any
+-- values, and those of its edges that no tile receives.
 abbrev pub to_post_in : Setting → (ℕ → ℕ → Cell) → ℕ → List (ℕ × Cell)
 to_post_in B left t =
-    (4 * t + 3, B.content t 3) ∷ incoming left 0 (B.graph.from t 0) ++ (incoming left 1 (B.graph.from t 1) ++ (incoming left 2
-    (B.graph.from t 2)
-    ++ (own_slot B.content t 0 (B.graph.next t 0) ++ (own_slot B.content t 1 (B.graph.next t 1) ++ (own_slot B.content t 2
-    (B.graph.next t 2) ++ [])))))
+    (4 * t + 3, B.content t 3)
+    ∷ incoming left 0 (B.graph.from t 0) ++ (incoming left 1 (B.graph.from t 1) ++ (incoming left 2 (B.graph.from t 2)
+    ++ (own_slot B.content t 0 (B.graph.next t 0) ++ (own_slot B.content t 1 (B.graph.next t 1)
+    ++ (own_slot B.content t 2 (B.graph.next t 2) ++ [])))))
 
+-- the same on the board of a slab
 abbrev pub to_post : Slab → (ℕ → ℕ → Cell) → ℕ → List (ℕ × Cell)
 to_post b = to_post_in (setting_of b)
 
--- The pass holds the tile, has sent its edges, and has the rest in hand.
+-- The pass holds tile t, has sent its edges, and has exactly these slots.
 pub record MayPost (B : Setting) (m : Me Cell View) (t : ℕ) : Type 0 where
   pub inside : t < B.graph.tiles
   pub holds : m.0.held ≡ Some t
@@ -164,18 +172,19 @@ pub record MayPost (B : Setting) (m : Me Cell View) (t : ℕ) : Type 0 where
 abbrev pub posted_view : View → ℕ → View
 posted_view v t = record v { held = None; sent = []; mine = (t, v.number) ∷ v.mine }
 
+-- tile t is posted, and the pass has no slots
 abbrev pub Posted : ℕ → Me Cell View → Me Cell View → Type 0
 Posted t m n = n ≡ (posted_view m.0 t, [])
 
 -- ---- split and join
 
--- a pass is cut in two
+-- the view of the first pass after a cut, and that of the new one
 abbrev pub kept_view : View → View
 kept_view v = record v { parts = v.parts - 1; made = v.made + 1 }
 
 abbrev pub new_view : View → View
 new_view v = record { number = v.made; made = 0; seen = None; looks = 0; held = None; sent = []; mine = []; parts = 1; board = v.board }
 
--- two passes become one
+-- the view after a join with a pass of view u
 abbrev pub joined_view : View → View → View
 joined_view v u = record v { mine = v.mine ++ u.mine; parts = min 256 (v.parts + u.parts) }

@@ -1,4 +1,4 @@
-//! How the words and slots of a board begin and end.
+//! The words and slots of a board: how they are made, and what is left of them.
 ghost use Rattle.std.specs.Prelude.{[], IfOk, None, ℕ, replicate, ◌*◌, ◌+◌, ◌<◌, ◌≡◌, ◌≤◌};
 ghost use Rattle.std.specs.Slots.{slots_filled, slots_items, slots_len};
 ghost use Rattle.std.specs.Slots.Ownership.{Filled};
@@ -15,8 +15,9 @@ use weave_base::Memory;
 /// The words and slots of a board, with their memory.
 pub type BoardTable = Table<Cell, View, Slab, Tiles, Global>;
 
-/// Lays out the words, which are 0, and the slots, which are blank. The seat that it gives is that of the first pass,
-/// which has all parts.
+/// Makes the words and slots of a board whose tiles all wait: words of 0, and the slots of `fresh_slots`. The seat is
+/// that of the first pass, which has all 256 parts. `Memory` where there is no room for the table; the slots are
+/// dropped then.
 pub fn open(
     alloc: Global,
     words: &[u64],
@@ -37,7 +38,8 @@ pub fn open(
     }
 }
 
-/// The slots that a board leaves to a pass that posted every tile: what each tile gives, where no tile receives it.
+/// The slots of a board, by a pass that has posted every tile: those that no tile receives have what their tiles give.
+/// Every slot has a value.
 pub fn close(table: BoardTable, seat: Seated) -> Closed<Cell, Global>
     requires table { seat.table_id ≡ table.shared.table_id }
     requires posted { (t : ℕ) → t < (setting_of table.shared.key).graph.tiles → 1 ≤ times t seat.me.0.mine }

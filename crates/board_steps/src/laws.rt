@@ -1,4 +1,4 @@
-//! The laws of the rule, each as the contract of a function with an empty body.
+//! What the rule means, each law as the contract of a function with an empty body.
 ghost use Rattle.std.specs.Prelude.{◌≡◌, ◌<◌, ◌↔◌, None, Some, false, ℕ};
 ghost use Rattle.atomic_table.specs.Table.{State};
 ghost use Rattle.board_core.specs.Legal.{Legal};
@@ -13,12 +13,14 @@ ghost use Rattle.board_steps.specs.Clauses.{Clauses};
 ghost use Rattle.board_steps.specs.Graph.{IsGraph, graph_of, number_of};
 ghost use Rattle.board_steps.specs.Rule.{Ruled, has, setting_of, spent};
 ghost use Rattle.board_steps.specs.Shown.{IsEvent, Joins, Moves, Splits, place_of, shown};
-ghost use Rattle.board_steps.specs.Steps.{AllSent, index_of, joined_view, kept_view, looked, new_view, posted_view, sent_view, taken};
+ghost use Rattle.board_steps.specs.Steps.{AllSent, index_of, joined_view, kept_view, looked, new_view, posted_view};
+ghost use Rattle.board_steps.specs.Steps.{sent_view, taken};
 ghost use Rattle.board_steps.specs.declared.rule.Cell.{Cell};
 ghost use Rattle.board_steps.specs.declared.rule.Slab.{Slab};
 ghost use Rattle.board_steps.specs.declared.rule.View.{View};
 
-/// The tiles of a window are a graph, and its edges are those that one tile gives to another.
+/// The tiles of a window are a graph by their numbers, each number below its count is that of a tile, and its edges
+/// are those that one tile gives to another.
 pub fn the_tiles_of_a_window_are_a_graph()
     ensures graph { (s : Shape) → IsGraph (graph_of s) }
     ensures number { (s : Shape) (p : Place) → IsTile s p → number_of s p < (graph_of s).tiles }
@@ -28,17 +30,18 @@ pub fn the_tiles_of_a_window_are_a_graph()
         → (Gives s p d q ↔ ((graph_of s).next (number_of s p) (index_of d) ≡ Some (number_of s q))) }
 {}
 
-/// Each state that meets the rule meets its clauses in plain words.
+/// The rule implies the clauses of `specs/Clauses.antt`, which say in plain words what its counts mean.
 pub fn the_rule_in_plain_words()
     ensures { (b : Slab) (s : State Cell View) → Ruled (setting_of b) s → Clauses (setting_of b) s }
 {}
 
-/// What a state that meets the rule shows is a core as events make it.
+/// A state that meets the rule shows a legal state of `board_core`.
 pub fn what_is_shown_is_legal()
     ensures { (b : Slab) (s : State Cell View) → Ruled (setting_of b) s → Legal (shown b s) }
 {}
 
-/// A pass that takes a tile, sends an edge or posts is the core's event, which the core accepts.
+/// When a pass takes a tile, sends an edge or posts a tile, what is shown changes as by that event of `board_core`,
+/// which the core accepts.
 pub fn steps_are_events()
     ensures take { (b : Slab) (s : State Cell View) (s' : State Cell View) (id : ℕ) (v : View) (p : Place)
         → IsTile (window_of b.rows.value) p → v.held ≡ None
@@ -53,7 +56,7 @@ pub fn steps_are_events()
         → Moves b s s' id v (posted_view v (number_of (window_of b.rows.value) p)) → IsEvent b s s' (Post p v.number) }
 {}
 
-/// A look, a split and a join leave what the core shows.
+/// A look, a split and a join leave what is shown unchanged.
 pub fn other_steps_show_nothing()
     ensures look { (b : Slab) (s : State Cell View) (s' : State Cell View) (id : ℕ) (v : View) (t : ℕ) (word : ℕ)
         → Moves b s s' id v (looked v t word) → shown b s' ≡ shown b s }

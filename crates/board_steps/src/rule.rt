@@ -1,4 +1,4 @@
-//! What the board's rule speaks of.
+//! The types of which the board's rule speaks, and the kinds of steps.
 use atomic_table::{Join, Play, Seat, Shared, Split, TableRule};
 use diffusion_kernel::Kernel;
 use dot_planes::{InkRows, TileBits};
@@ -6,7 +6,7 @@ use std::collections::LinkedList;
 use std::snapshot::Snapshot;
 use tile_border::{BottomEdge, CornerEdge, RightEdge, TopEdges};
 
-/// What a slot holds.
+/// The value of a slot.
 #[derive(Drop)]
 pub enum Cell {
     Empty,
@@ -16,44 +16,45 @@ pub enum Cell {
     Dots(TileBits),
 }
 
-/// What the tiles of a board are diffused from.
+/// What the tiles of a board are diffused from: the amounts, the kernel, and the errors above the first row.
 pub struct Slab {
     pub rows: Snapshot<InkRows>,
     pub kernel: Kernel,
     pub top: Snapshot<TopEdges>,
 }
 
-/// What a pass knows. No value of it is made, so its numbers have no greatest value. A tile is named by its number, by
-/// band and then column, and a direction is 0 right, 1 bottom, 2 corner.
+/// What a pass knows. Contracts alone speak of it and no value of it is ever made, so its numbers are not bounded.
+/// Tiles are numbered by band and then column. Direction 0 is right, 1 bottom, 2 corner.
 pub struct View {
     /// The number of the pass.
     pub number: u64,
-    /// In the first pass how many passes the board has made, and 0 in every other.
+    /// How many passes the board has made, in the first pass; 0 in every other.
     pub made: u64,
-    /// A tile and the word that the pass last found there.
+    /// The tile that the pass last looked at, and the word that it found.
     pub seen: Option<(usize, u64)>,
-    /// How many words it has found.
+    /// How many times it has looked at a word.
     pub looks: u64,
     /// The tile that it holds.
     pub held: Option<usize>,
-    /// The directions in which it has sent the edges of that tile.
+    /// The directions in which it has sent an edge of that tile, the latest first.
     pub sent: LinkedList<u64>,
-    /// The tiles that it has posted, each with the number of the pass that did, the last in front.
+    /// The tiles that it has posted, the latest first, each with the number of the pass that posted it; a join adds
+    /// those of the other pass.
     pub mine: LinkedList<(usize, u64)>,
-    /// Its parts of the 256 of a board.
+    /// How many of the board's 256 parts it has. A pass that has all of them is alone.
     pub parts: u64,
-    /// What the tiles of its board are diffused from.
+    /// What its board is made for.
     pub board: Slab,
 }
 
-/// What a pass steps with.
+/// The seat of a pass, with its view and the slots that it has taken.
 pub type Seated = Seat<Cell, View>;
 
-/// The words and slots that passes share: word t is that of tile t, and slot 4 t + d has what the tile gives in the
-/// direction d, or its dots for d = 3.
+/// The words and slots that passes share: word t is that of tile t, and slot 4 t + d is for what tile t gives in the
+/// direction d, or for its dots where d is 3.
 pub type Words = Shared<Cell, View, Slab, Tiles>;
 
-/// Names the rule.
+/// The name of the rule.
 pub struct Tiles;
 
 impl TableRule<Cell, View, Slab> for Tiles {
@@ -64,7 +65,7 @@ impl TableRule<Cell, View, Slab> for Tiles {
     ghost first = { first_view };
 }
 
-/// A load.
+/// A look: an atomic load.
 pub struct Looks;
 
 impl Play<Cell, View> for Looks {
@@ -73,7 +74,7 @@ impl Play<Cell, View> for Looks {
     ghost then = { λ st m r n. Looked m.0.board st.word m r n };
 }
 
-/// The fetch-or of 8.
+/// A take: the fetch-or of bit 8, which says that a tile is taken.
 pub struct Takes;
 
 impl Play<Cell, View> for Takes {
@@ -82,7 +83,7 @@ impl Play<Cell, View> for Takes {
     ghost then = { λ st m r n. Took m.0.board st.word m r n };
 }
 
-/// The fetch-or of an arrival bit on the receiver's word.
+/// A send: the fetch-or of an arrival bit on the word of the tile that receives the edge.
 pub struct Sends;
 
 impl Play<Cell, View> for Sends {
@@ -91,7 +92,7 @@ impl Play<Cell, View> for Sends {
     ghost then = { λ st m r n. Sent st.first m n };
 }
 
-/// The fetch-or of 16.
+/// A post: the fetch-or of bit 16, which says that a tile is posted.
 pub struct Posts;
 
 impl Play<Cell, View> for Posts {
@@ -100,7 +101,7 @@ impl Play<Cell, View> for Posts {
     ghost then = { λ st m r n. Posted st.word m n };
 }
 
-/// A pass becomes two.
+/// A cut: one pass becomes two.
 pub struct Cuts;
 
 impl Split<View> for Cuts {
@@ -111,7 +112,7 @@ impl Split<View> for Cuts {
     ghost right = { new_view };
 }
 
-/// Two passes become one.
+/// A join: two passes become one.
 pub struct Joins;
 
 impl Join<View> for Joins {

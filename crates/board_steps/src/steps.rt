@@ -1,15 +1,16 @@
-//! The atomic steps.
+//! The atomic steps of a pass.
 ghost use Rattle.std.specs.Prelude.{◌≡◌, ◌<◌, ◌≤◌, None, [], ℕ};
 ghost use Rattle.board_steps.specs.Rule.{setting_of};
-ghost use Rattle.board_steps.specs.Steps.{IsReadyFor, Looked, MayPost, MaySend, Posted, SentTo, Took, bit_of, index_of, joined_view, kept_view, new_view};
+ghost use Rattle.board_steps.specs.Steps.{IsReadyFor, Looked, MayPost, MaySend, Posted, SentTo, Took, bit_of, index_of};
+ghost use Rattle.board_steps.specs.Steps.{joined_view, kept_view, new_view};
 
 use crate::rule::{Cuts, Joins, Looks, Posts, Seated, Sends, Takes, Words};
 use tile_shape::Dir;
 
-/// The bit of a word that says that the tile is taken.
+// The bit of a word that says that the tile is taken.
 const TAKEN: u64 = 8;
 
-/// The bit that says that it is posted.
+// The bit that says that it is posted.
 const POSTED: u64 = 16;
 
 // The bit that says that the edge of a direction has arrived.
@@ -23,7 +24,8 @@ fn arrival_bit(dir: Dir) -> u64
     }
 }
 
-/// Reads the word of tile `at`: 1, 2 and 4 where its edges have arrived, 8 where it is taken, 16 where it is posted.
+/// Reads the word of tile `at`: bits 1, 2 and 4 say that its edges have arrived from the left, from above and at the
+/// corner, 8 that it is taken, and 16 that it is posted.
 pub fn look(words: &Words, seat: &mut Seated, at: usize) -> u64
     requires table { (seat.old.table_id ≡ words.now.table_id) × (at < words.now.table_id.words) }
     requires inside { at < (setting_of words.now.key).graph.tiles }
@@ -34,8 +36,8 @@ pub fn look(words: &Words, seat: &mut Seated, at: usize) -> u64
     words.load::<Looks>(seat, at)
 }
 
-/// Takes tile `at`, where no pass has taken it, and answers its word as it was. The pass then has in hand the slots of
-/// the tile, and those of the edges that come to it.
+/// Takes tile `at` if no pass has taken it, and answers the word that it found. If bit 8 of that word is clear, the
+/// pass holds the tile: it has the tile's own four slots, and those of the edges that come to it.
 pub fn take(words: &Words, seat: &mut Seated, at: usize) -> u64
     requires table { (seat.old.table_id ≡ words.now.table_id) × (at < words.now.table_id.words) }
     requires inside { at < (setting_of words.now.key).graph.tiles }
@@ -48,7 +50,8 @@ pub fn take(words: &Words, seat: &mut Seated, at: usize) -> u64
     words.fetch_or::<Takes>(seat, at, TAKEN)
 }
 
-/// Sends the edge of the tile in hand in a direction to tile `to`. Its slot, which is in front, goes home.
+/// Sends an edge of the tile that the pass holds to tile `to`. Its slot, which is the first that the pass has, goes
+/// back to the table, where the pass that takes `to` gets it.
 pub fn send(words: &Words, seat: &mut Seated, dir: Dir, to: usize)
     requires table { (seat.old.table_id ≡ words.now.table_id) × (to < words.now.table_id.words) }
     requires part { 1 ≤ seat.old.me.0.parts }
@@ -59,7 +62,7 @@ pub fn send(words: &Words, seat: &mut Seated, dir: Dir, to: usize)
     words.fetch_or::<Sends>(seat, to, arrival_bit(dir));
 }
 
-/// Posts tile `at`, which the pass holds. All slots in hand go home.
+/// Posts tile `at`, which the pass holds. All slots that the pass has go back to the table.
 pub fn post(words: &Words, seat: &mut Seated, at: usize)
     requires table { (seat.old.table_id ≡ words.now.table_id) × (at < words.now.table_id.words) }
     requires part { 1 ≤ seat.old.me.0.parts }
@@ -70,7 +73,7 @@ pub fn post(words: &Words, seat: &mut Seated, at: usize)
     words.fetch_or::<Posts>(seat, at, POSTED);
 }
 
-/// Cuts a pass of one part off the first pass.
+/// Cuts a pass of one part off the first pass. The new pass holds nothing.
 pub fn cut(words: &Words, seat: &mut Seated) -> Seated
     requires table { (seat.old.table_id ≡ words.now.table_id) × (0 < words.now.table_id.words) }
     requires parts { 2 ≤ seat.old.me.0.parts }
@@ -82,7 +85,7 @@ pub fn cut(words: &Words, seat: &mut Seated) -> Seated
     words.split_seat::<Cuts>(seat)
 }
 
-/// Joins another pass, which holds nothing, to a pass.
+/// Joins `other`, which holds nothing, to a pass, which then has its parts and the tiles that it posted.
 pub fn unite(words: &Words, seat: &mut Seated, other: Seated)
     requires table { (seat.old.table_id ≡ words.now.table_id) × (other.table_id ≡ words.now.table_id)
         × (0 < words.now.table_id.words) }

@@ -1,4 +1,4 @@
-//! The dots and errors of an ink, row by row.
+//! An ink that is diffused row by row, and its dots counted.
 ghost use Rattle.pwg_definitions.specs.Limits.{most_columns};
 ghost use Rattle.std.specs.Prelude.{length, ◌+◌, ◌/◌, ◌≡◌, ◌≤◌};
 
@@ -7,7 +7,7 @@ use row_diffusion::ErrorRows;
 use std::alloc::Global;
 use weave_base::Memory;
 
-/// An ink that is diffused row by row.
+/// The errors of an ink, the packed dots of its last row, and how many dots there were.
 #[derive(Drop)]
 pub struct InkErrors {
     width: usize,
@@ -19,7 +19,7 @@ pub struct InkErrors {
 }
 
 impl InkErrors {
-    /// An ink without errors, of rows so wide.
+    /// An ink of rows of this width, with errors 0.
     pub fn make(alloc: Global, width: u32) -> Result<InkErrors, Memory>
         requires some { 1 ≤ width }
         requires most { width ≤ most_columns }
@@ -37,7 +37,7 @@ impl InkErrors {
         }
     }
 
-    /// Diffuses the next row, and counts its dots. A row of another width is left out.
+    /// Diffuses the next row, and counts its dots. A row of another width is skipped.
     pub fn diffuse(&mut self, kernel: Kernel, amounts: &[u8]) {
         if amounts.len() != self.width {
             return;

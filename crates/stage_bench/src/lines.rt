@@ -1,4 +1,4 @@
-//! The lines of a page, taken to a stage one by one.
+//! The lines of a page, each taken as far as the stage.
 ghost use Rattle.printer_profile.specs.Validity.{check};
 ghost use Rattle.std.specs.Prelude.{IsOk, ◌≡◌};
 
@@ -13,28 +13,28 @@ use separation_definitions::Window;
 use std::alloc::Global;
 use weave_base::Memory;
 
-/// A page whose lines come, and the part of it that is printed.
+/// The form of a page, and its window.
 #[derive(Clone, Copy)]
 pub struct Page {
     pub form: PageForm,
     pub window: Window,
 }
 
-/// What was made of the lines that came.
+/// What was made of the lines so far.
 #[derive(Drop)]
 pub struct Lines {
     stage: Stage,
     kernel: Kernel,
     page: Page,
-    /// How many there were.
+    // How many lines there were.
     lines: u64,
-    /// The amounts of the line in hand.
+    // The amounts of the current line.
     row: InkRows,
     inks: Vec<InkErrors>,
 }
 
 impl Lines {
-    /// No lines yet, of a printer with so many inks.
+    /// No lines yet, for a printer with this many inks.
     pub fn make(
         alloc: Global,
         stage: Stage,
@@ -61,7 +61,7 @@ impl Lines {
         })
     }
 
-    /// Takes a line that stands so often.
+    /// Takes a line this many times.
     pub fn take(&mut self, profile: &Profile, black: &BlackTable, line: &[u8], repeats: u32)
         requires checked { IsOk (check profile.now) }
         requires black { black.now ≡ profile.now.black_start }
@@ -71,7 +71,7 @@ impl Lines {
         }
     }
 
-    // Takes a line. One in the margins is counted alone.
+    // Takes a line. One in the margins is only counted.
     fn take_once(&mut self, profile: &Profile, black: &BlackTable, line: &[u8])
         requires checked { IsOk (check profile.now) }
         requires black { black.now ≡ profile.now.black_start }
@@ -96,7 +96,7 @@ impl Lines {
         }
     }
 
-    // Diffuses each ink of the line in hand.
+    // Diffuses each ink of the current line.
     fn diffuse(&mut self) {
         for (i, ink) in self.inks.iter_mut().enumerate() {
             if i < usize::from(self.row.inks()) && self.row.rows() > 0 {
@@ -105,7 +105,7 @@ impl Lines {
         }
     }
 
-    /// How many dots there were where they were diffused, and else how many lines.
+    /// How many dots there were if the stage is `Rows`, and else how many lines.
     pub fn count(&self) -> u64 {
         if self.stage != Stage::Rows {
             return self.lines;
@@ -118,7 +118,7 @@ impl Lines {
     }
 }
 
-// Separates a line into the amounts of a row, where the row is as wide as the window and has the profile's inks.
+// Separates a line into the amounts of a row. Skips it unless the row has the window's width and the profile's inks.
 fn separate(
     profile: &Profile,
     black: &BlackTable,

@@ -1,12 +1,16 @@
-//! The stages of printing by themselves, for `bench/run`, which times each:
+//! Runs the stages of printing by themselves, for `bench/run`, which times each:
 //!
 //!     stage_bench STAGE [profile=NAME] [kernel=NAME] [workers=NUMBER] < page.pwg
 //!
-//! `read` reads the lines of the first page, `separate` separates their inks too, `slabs` halftones the page as the
-//! driver does, by so many workers, and `rows` row by row. What is printed is how many lines or dots there were.
+//! `read` reads the lines of the first page, `separate` also separates their inks, and `rows` also diffuses these row
+//! by row. `slabs` halftones the page in slabs as the driver does, by this many workers. `read` and `separate` print
+//! the number of lines, `rows` and `slabs` the number of dots.
 //!
-//! `slab-rows`, `slab-loop` and `slab-team` diffuse a slab of random amounts in the profile's inks, row by row, tile by
-//! tile or by workers, and print the least nanoseconds of twenty runs. They read no page.
+//! `slab-rows`, `slab-loop` and `slab-team` diffuse a slab of 2976 by 256 pseudo-random amounts in the profile's inks,
+//! row by row, tile by tile in one loop, or by workers, and print the fewest nanoseconds of twenty runs. They read no
+//! page.
+//!
+//! Nothing is proved of it but safety. Its stored run counts the dots of a small page by `rows`.
 #![tactic(auto)]
 
 mod inks;
@@ -23,7 +27,7 @@ use std::process::ExitCode;
 use std::thread::Threads;
 use weave_base::{DirShelf, StdSource};
 
-// The stage's name, and the words of a job to print with all words after it.
+// The stage's name, and the words of a print job with up to three words after it.
 fn words_of(rt: &HostRuntime) -> Option<(String, Words)> {
     let mut line = env::args(rt).ok()?.skip(1);
     let stage = line.next()?;
@@ -37,7 +41,7 @@ fn words_of(rt: &HostRuntime) -> Option<(String, Words)> {
     Some((stage, words))
 }
 
-// What the words ask for comes to.
+// The number that the words ask for: lines, dots or nanoseconds.
 fn measure<R: Threads + Sync>(rt: &HostRuntime, threads: &R) -> Option<u128> {
     let (name, words) = words_of(rt)?;
     let job = read_words(&words).ok()?;

@@ -1,4 +1,4 @@
-//! A slab of the widest rows of a page, diffused again and again.
+//! A slab as wide as A4 at 360 dots an inch, diffused again and again.
 ghost use Rattle.slab_diffusion.specs.Slabs.{IsTopOf};
 ghost use Rattle.std.specs.Prelude.{IfSome};
 
@@ -12,13 +12,13 @@ use std::time::Instant;
 use tile_border::TopEdges;
 use wavefront_team::{OpenGate, diffuse};
 
-/// The columns of A4 at 360 dots an inch.
+// The columns of A4 at 360 dots an inch.
 const WIDTH: u32 = 2976;
 
-/// The rows of a slab.
+// The rows of a slab.
 const ROWS: u32 = 256;
 
-/// How often a slab is diffused; the least time counts.
+// How often the slab is diffused; the least time counts.
 const RUNS: u32 = 20;
 
 /// How a slab is diffused.
@@ -42,7 +42,7 @@ pub fn way_named(name: &str) -> Option<Way> {
     }
 }
 
-/// The least nanoseconds that a slab of so many inks takes. `None` where there is no memory for it, or no clock.
+/// The fewest nanoseconds that a slab of this many inks took. `None` where there is no memory for it, or no clock.
 pub fn time_slab<R: Threads + Sync>(
     rt: &HostRuntime,
     threads: &R,
@@ -66,7 +66,7 @@ pub fn time_slab<R: Threads + Sync>(
     Some(least)
 }
 
-// Amounts that jump.
+// Pseudo-random amounts.
 fn amounts(alloc: Global, inks: u8) -> Option<InkRows> {
     let mut rows = InkRows::make(alloc, WIDTH, ROWS, inks.clamp(1, 4)).ok()?;
     let mut seed = 1u32;
@@ -78,6 +78,7 @@ fn amounts(alloc: Global, inks: u8) -> Option<InkRows> {
     Some(rows)
 }
 
+// Fills a row from a seed, and answers the next seed.
 fn fill(rows: &mut InkRows, ink: u8, y: u32, first: u32) -> u32 {
     let mut seed = first;
     for x in 0..WIDTH {
@@ -89,7 +90,7 @@ fn fill(rows: &mut InkRows, ink: u8, y: u32, first: u32) -> u32 {
     seed
 }
 
-// No errors, above rows so wide.
+// A top of errors 0, above rows of this width.
 fn no_errors(alloc: Global, width: u32, inks: u8) -> Option<TopEdges>
     ensures { IfSome result (IsTopOf width inks) }
 {
@@ -99,6 +100,7 @@ fn no_errors(alloc: Global, width: u32, inks: u8) -> Option<TopEdges>
     TopEdges::zero(alloc, (width + 62).div_ceil(64), inks).ok()
 }
 
+// Diffuses the slab row by row.
 fn by_rows(alloc: Global, rows: &InkRows, kernel: Kernel) -> Option<()> {
     for ink in 0..rows.inks() {
         let mut errors = InkErrors::make(alloc, WIDTH).ok()?;
@@ -109,6 +111,7 @@ fn by_rows(alloc: Global, rows: &InkRows, kernel: Kernel) -> Option<()> {
     Some(())
 }
 
+// Diffuses the slab tile by tile, in one loop.
 fn by_loop(alloc: Global, rows: &InkRows, kernel: Kernel, planes: &mut Planes) -> Option<()> {
     if rows.width() != planes.width()
         || rows.inks() != planes.inks()
@@ -121,6 +124,7 @@ fn by_loop(alloc: Global, rows: &InkRows, kernel: Kernel, planes: &mut Planes) -
     Some(())
 }
 
+// Diffuses the slab by workers.
 fn by_team<R: Threads + Sync>(
     threads: &R,
     alloc: Global,

@@ -1,4 +1,4 @@
-//! The stages.
+//! The stages of printing, over the first page of an input.
 ghost use Rattle.printer_profile.specs.Validity.{check};
 ghost use Rattle.pwg_stream.specs.Reading.{lines_left_of};
 ghost use Rattle.std.specs.Prelude.{IsOk, ◌≡◌, ◌≤◌};
@@ -17,16 +17,16 @@ use std::thread::Threads;
 use wavefront_team::OpenGate;
 use weave_base::Source;
 
-/// How far a page is printed.
+/// How far a page is taken.
 #[derive(Clone, Copy, Debug, PartialEq, Eq)]
 pub enum Stage {
     /// Its lines are read.
     Read,
-    /// And their inks are separated.
+    /// Its inks are separated, too.
     Separate,
-    /// And diffused, row by row.
+    /// And diffused row by row.
     Rows,
-    /// Or in slabs, as the driver does it.
+    /// Or it is halftoned in slabs, as the driver does it.
     Slabs,
 }
 
@@ -41,8 +41,8 @@ pub fn stage_named(name: &str) -> Option<Stage> {
     }
 }
 
-/// Takes the first page of the input to a stage, and counts its lines, or its dots where they are diffused: in slabs, by
-/// so many workers. A stream without pages has none.
+/// Takes the first page of the input as far as a stage, and counts its lines, or its dots where they are diffused.
+/// Slabs are diffused by this many workers. The count is 0 where the stream has no page.
 pub fn run_stage<R: Threads + Sync, S: Source>(
     rt: &R,
     alloc: Global,
@@ -76,7 +76,7 @@ pub fn run_stage<R: Threads + Sync, S: Source>(
     take_lines(alloc, stage, profile, kernel, &mut reader, input)
 }
 
-// Takes the lines of the next page one by one.
+// Reads the next page line by line, and takes each line as far as the stage.
 fn take_lines<S: Source>(
     alloc: Global,
     stage: Stage,
@@ -103,7 +103,7 @@ fn take_lines<S: Source>(
     Ok(lines.count())
 }
 
-// The next page's form, and the window that is printed of it.
+// The form and the window of the next page.
 fn next_page<S: Source>(
     profile: &Profile,
     reader: &mut PageReader,
@@ -126,7 +126,7 @@ fn next_page<S: Source>(
     Ok(Some(Page { form, window }))
 }
 
-// The dots of all inks.
+// How many dots there are in all inks.
 fn count_dots(planes: &Planes) -> u64 {
     let mut dots = 0u64;
     for ink in 0..planes.inks() {

@@ -1,5 +1,6 @@
--- What a claim tells its caller.
-use Rattle.std.proofs.Common.{◌≡◌, ℕ, ◌+◌, ◌/◌, ◌%◌, ◌<◌, ◌≤◌, ◌↔◌, ◌==◌, true, [], refl, sym, ap, ◌∙◌, subst, arith, Option, Some, None, inl, inr}
+-- The answers of a claim.
+use Rattle.std.proofs.Common.{◌≡◌, ℕ, ◌+◌, ◌/◌, ◌%◌, ◌<◌, ◌≤◌, ◌↔◌, ◌==◌, true, [], refl, sym, ap, ◌∙◌, subst, arith, Option, Some, None}
+use Rattle.std.proofs.Common.{inl, inr}
 use Rattle.std.proofs.lemmas.Bool.{cases_lt}
 use Rattle.atomic_table.specs.Table.{Me}
 use Rattle.tile_shape.specs.Geometry.{IsNeeded, IsTile, bands_of, columns_of}
@@ -66,7 +67,7 @@ within-trans w x y h k = record {
   posted = let a = h.posted in let b = k.posted in omega arith;
 }
 
--- what it knew before it looked it knows after
+-- what the pass knew before a look it knows after it
 knew-before : (G : Graph) (v : View) (at x y : ℕ) → KnewIn G v at x → KnewIn G (looked v at x) at y → KnewIn G v at y
 unfolding sends lists posts
 knew-before G v at x y h k = record {
@@ -123,7 +124,13 @@ gone-second b t x y m n o idle told took gone =
     let f : o.0 ≡ looked (looked m.0 at x) at y = ap (λ (z : Me Cell View). z.0) (took.gone gone) ∙ ap (λ (u : View). looked u at y) e in
     let Q : View → Type 0 = λ w. GoneIs b m.0 t y w in
     subst Q (sym f) (
-      record { kept = kept-twice m.0 at x y; held = idle; sent = refl; seen = refl; knew = knew-before (graph_of (shape_of b)) m.0 at x y told.1.knew k },
+      record {
+        kept = kept-twice m.0 at x y;
+        held = idle;
+        sent = refl;
+        seen = refl;
+        knew = knew-before (graph_of (shape_of b)) m.0 at x y told.1.knew k;
+      },
       gone,
       λ all.
           let a = took.found.alone (ap (λ (u : View). u.parts) e ∙ all) in
@@ -134,7 +141,7 @@ gone-second b t x y m n o idle told took gone =
 
 -- ---- an edge is lacking
 
--- Which edges a tile needs, by tests.
+-- Which edges a tile needs, as the code tests it.
 pub record NeedsOf (s : Shape) (p : Place) (needs : Needs) : Type 0 where
   pub left : (needs.left ≡ true) ↔ IsNeeded s Right p
   pub above : (needs.above ≡ true) ↔ IsNeeded s Bottom p
@@ -142,7 +149,8 @@ pub record NeedsOf (s : Shape) (p : Place) (needs : Needs) : Type 0 where
 
 -- an edge that has not come was not posted by the pass
 not-mine : (s : Shape) (v : View) (d : Dir) (p from : Place) (bit : ℕ) → IsSource s d p from
-    → arrived (λ q. sends q (index_of d) v) ((graph_of s).from (number_of s p) (index_of d)) ≤ bit → bit ≡ 0 → times (number_of s from) v.mine ≡ 0
+    → arrived (λ q. sends q (index_of d) v) ((graph_of s).from (number_of s p) (index_of d)) ≤ bit → bit ≡ 0
+    → times (number_of s from) v.mine ≡ 0
 not-mine s v d p from bit source knew clear =
     let a = ap (λ o. arrived (λ q. sends q (index_of d) v) o) source.number in
     let c = times-sends (number_of s from) (index_of d) v in
@@ -154,19 +162,41 @@ pub lacks-edge : (b : Slab) (v : View) (t : Place) (needs : Needs) (word : ℕ) 
     → KnewIn (graph_of (shape_of b)) v (number_in b t) word → Lacks needs word → LacksEdge b v t word
 lacks-edge b v t needs word tile of knew (inl h) =
     let source = left-source (shape_of b) t tile (of.left.0 h.0) in
-    record { dir = Right; from = _; tile = source.tile; receiver = source.receiver; clear = h.1; not_mine = not-mine (shape_of b) v Right t _ (word % 2) source knew.right h.1 }
+    record {
+      dir = Right;
+      from = _;
+      tile = source.tile;
+      receiver = source.receiver;
+      clear = h.1;
+      not_mine = not-mine (shape_of b) v Right t _ (word % 2) source knew.right h.1;
+    }
 lacks-edge b v t needs word tile of knew (inr (inl h)) =
     let needed = of.above.0 h.0 in
     let source = above-source (shape_of b) t tile needed.0 needed.1 in
-    record { dir = Bottom; from = _; tile = source.tile; receiver = source.receiver; clear = h.1; not_mine = not-mine (shape_of b) v Bottom t _ (word / 2 % 2) source knew.bottom h.1 }
+    record {
+      dir = Bottom;
+      from = _;
+      tile = source.tile;
+      receiver = source.receiver;
+      clear = h.1;
+      not_mine = not-mine (shape_of b) v Bottom t _ (word / 2 % 2) source knew.bottom h.1;
+    }
 lacks-edge b v t needs word tile of knew (inr (inr h)) =
     let source = corner-source (shape_of b) t tile (of.corner.0 h.0) in
-    record { dir = Corner; from = _; tile = source.tile; receiver = source.receiver; clear = h.1; not_mine = not-mine (shape_of b) v Corner t _ (word / 4 % 2) source knew.corner h.1 }
+    record {
+      dir = Corner;
+      from = _;
+      tile = source.tile;
+      receiver = source.receiver;
+      clear = h.1;
+      not_mine = not-mine (shape_of b) v Corner t _ (word / 4 % 2) source knew.corner h.1;
+    }
 
 abbrev pub NotReadyIs : Slab → View → Place → ℕ → View → Type 0
 NotReadyIs b v t word w = Refused b v t word w × (word / 8 % 2 ≡ 0) × LacksEdge b v t word
 
-pub not-ready : (b : Slab) (t : Place) (needs : Needs) (word : ℕ) (m n : Me Cell View) → IsTile (shape_of b) t → NeedsOf (shape_of b) t needs → m.0.held ≡ None
+pub not-ready : (b : Slab) (t : Place) (needs : Needs) (word : ℕ) (m n : Me Cell View) → IsTile (shape_of b) t
+    → NeedsOf (shape_of b) t needs → m.0.held ≡ None
     → LookedIn (setting_of b) (number_in b t) m word n → (word / 8 % 2 ≡ 1 → ⊥) → Lacks needs word → NotReadyIs b m.0 t word n.0
 not-ready b t needs word m n tile of idle told free lacks =
     let Q : View → Type 0 = λ w. NotReadyIs b m.0 t word w in
@@ -179,8 +209,9 @@ not-ready b t needs word m n tile of idle told free lacks =
 some-none : (p : ℕ) → Some p ≡ None → ⊥
 some-none p e = cc
 
--- where nothing is lacking each edge has come
-pub has-needs : (s : Shape) (p : Place) (needs : Needs) (word : ℕ) → IsTile s p → NeedsOf s p needs → (Lacks needs word → ⊥) → HasNeeds (graph_of s) (number_of s p) word
+-- where no needed bit is clear, each edge has come
+pub has-needs : (s : Shape) (p : Place) (needs : Needs) (word : ℕ) → IsTile s p → NeedsOf s p needs → (Lacks needs word → ⊥)
+    → HasNeeds (graph_of s) (number_of s p) word
 has-needs s p needs word tile of none = (
   λ q e. elim (cases_lt 0 p.c) [
     | inl some ↦ elim (cases_lt 0 (word % 2)) [ inl set ↦ omega arith | inr clear ↦ absurd (none (inl (of.left.1 some, omega arith))) ]
@@ -188,22 +219,31 @@ has-needs s p needs word tile of none = (
   ],
   λ q e. elim (cases_lt 0 p.j) [
     | inl later ↦ elim (cases_lt (p.c + 1) (columns_of s)) [
-      | inl there ↦ elim (cases_lt 0 (word / 2 % 2)) [ inl set ↦ omega arith | inr clear ↦ absurd (none (inr (inl (of.above.1 (later, there), omega arith)))) ]
+      | inl there ↦
+          elim (cases_lt 0 (word / 2 % 2))
+          [ inl set ↦ omega arith | inr clear ↦ absurd (none (inr (inl (of.above.1 (later, there), omega arith)))) ]
       | inr last ↦ absurd (some-none q (sym e ∙ no-above s p tile (inr last)))
     ]
     | inr first ↦ absurd (some-none q (sym e ∙ no-above s p tile (inl (omega arith))))
   ],
   λ q e. elim (cases_lt 0 p.j) [
-    | inl later ↦ elim (cases_lt 0 (word / 4 % 2)) [ inl set ↦ omega arith | inr clear ↦ absurd (none (inr (inr (of.corner.1 later, omega arith)))) ]
+    | inl later ↦
+        elim (cases_lt 0 (word / 4 % 2)) [ inl set ↦ omega arith | inr clear ↦ absurd (none (inr (inr (of.corner.1 later, omega arith)))) ]
     | inr first ↦ absurd (some-none q (sym e ∙ no-corner s p tile (omega arith)))
   ],
 )
 
-pub ready-for : (b : Slab) (t : Place) (needs : Needs) (at word : ℕ) (m n : Me Cell View) → at ≡ number_in b t → IsTile (shape_of b) t → NeedsOf (shape_of b) t needs
+pub ready-for : (b : Slab) (t : Place) (needs : Needs) (at word : ℕ) (m n : Me Cell View) → at ≡ number_in b t → IsTile (shape_of b) t
+    → NeedsOf (shape_of b) t needs
     → LookedIn (setting_of b) (number_in b t) m word n → (Lacks needs word → ⊥) → IsReadyFor (graph_of (shape_of b)) at n.0
 ready-for b t needs at word m n is tile of told none =
     let Q : ℕ → Type 0 = λ k. IsReadyFor (graph_of (shape_of b)) k n.0 in
-    subst Q (sym is) (record { word = word; seen = ap (λ (z : Me Cell View). z.0.seen) told.0; needs = has-needs (shape_of b) t needs word tile of none })
+    subst Q (sym is)
+    (record {
+      word = word;
+      seen = ap (λ (z : Me Cell View). z.0.seen) told.0;
+      needs = has-needs (shape_of b) t needs word tile of none;
+    })
 
 -- ---- the tile is had
 
@@ -237,7 +277,7 @@ gets b t x y m n o told took free =
 
 -- ---- a pass whose view has looked
 
--- what a pass keeps of its view and of its hand
+-- what holds of the view of a pass and of its slots between calls
 pub record PassOk (parts : ℕ) (held : Option Place) (m : Me Cell View) : Type 0 where
   pub counted : (parts ≡ m.0.parts) × (1 ≤ parts) × (parts ≤ 256)
   pub shown : held_number m.0.board held ≡ m.0.held
@@ -245,9 +285,12 @@ pub record PassOk (parts : ℕ) (held : Option Place) (m : Me Cell View) : Type 
   pub hand : m.1 ≡ hand_of m.0
   pub unsent : m.0.sent ≡ []
 
-pub looked-ok : (parts : ℕ) (held : Option Place) (at x y : ℕ) (m n o : Me Cell View) → n ≡ (looked m.0 at x, m.1) → o ≡ (looked n.0 at y, n.1)
+pub looked-ok : (parts : ℕ) (held : Option Place) (at x y : ℕ) (m n o : Me Cell View) → n ≡ (looked m.0 at x, m.1)
+    → o ≡ (looked n.0 at y, n.1)
     → PassOk parts held m → PassOk parts held o
 looked-ok parts held at x y m n o first second ok =
     let Q : Me Cell View → Type 0 = λ z. PassOk parts held z in
-    let n-ok : PassOk parts held n = subst Q (sym first) (record { counted = ok.counted; shown = ok.shown; inside = ok.inside; hand = ok.hand; unsent = ok.unsent }) in
-    subst Q (sym second) (record { counted = n-ok.counted; shown = n-ok.shown; inside = n-ok.inside; hand = n-ok.hand; unsent = n-ok.unsent })
+    let n-ok : PassOk parts held n =
+    subst Q (sym first) (record { counted = ok.counted; shown = ok.shown; inside = ok.inside; hand = ok.hand; unsent = ok.unsent }) in
+    subst Q (sym second)
+    (record { counted = n-ok.counted; shown = n-ok.shown; inside = n-ok.inside; hand = n-ok.hand; unsent = n-ok.unsent })

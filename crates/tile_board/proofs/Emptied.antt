@@ -1,5 +1,6 @@
 -- The slots of a closed board, emptied tile by tile.
-use Rattle.std.proofs.Common.{◌≡◌, ◌≢◌, ℕ, zero, suc, ◌+◌, ◌*◌, ◌/◌, ◌%◌, ◌<◌, ◌≤◌, List, [], ◌∷◌, ◌++◌, get_or, length, refl, sym, ◌∙◌, ap, subst, inl, inr, arith, length-append, vec_capacity, div-add-mod', mod-lt}
+use Rattle.std.proofs.Common.{◌≡◌, ◌≢◌, ℕ, zero, suc, ◌+◌, ◌*◌, ◌/◌, ◌%◌, ◌<◌, ◌≤◌, List, [], ◌∷◌, ◌++◌, get_or, length, refl, sym, ◌∙◌, ap}
+use Rattle.std.proofs.Common.{subst, inl, inr, arith, length-append, vec_capacity, div-add-mod', mod-lt}
 use Rattle.std.proofs.lemmas.Bool.{cases_lt}
 use Rattle.std.proofs.Math.Nat.{div-lt_iff_lt-mul, mul-le-mul_left, mul_comm}
 use Rattle.std.specs.declared.alloc.Global.{Global}
@@ -36,13 +37,14 @@ same-tile s p q tile there same =
     λ i. record { c = column i; j = band i }
 
 -- the tile of a number
-pub tile-at : (s : Shape) (t : ℕ) → 0 < columns_of s → t < bands_of s * columns_of s → IsTile s (record { c = t % columns_of s; j = t / columns_of s })
+pub tile-at : (s : Shape) (t : ℕ) → 0 < columns_of s → t < bands_of s * columns_of s
+    → IsTile s (record { c = t % columns_of s; j = t / columns_of s })
 tile-at s t wide inside = record { column = mod-lt t wide; band = (div-lt_iff_lt-mul wide).1 inside }
 
 pub number-at : (s : Shape) (t : ℕ) → number_of s (record { c = t % columns_of s; j = t / columns_of s }) ≡ t
 number-at s t = div-add-mod' t (columns_of s)
 
--- a tile of the last band stands left of the tiles after it
+-- in the last band a tile with a lower number is further left
 earlier-column : (s : Shape) (p q : Place) → IsTile s p → q.j + 1 ≡ bands_of s → number_of s q < number_of s p → q.c < p.c
 earlier-column s p q tile last before =
     let C : ℕ = columns_of s in
@@ -69,10 +71,12 @@ earlier-column s p q tile last before =
 
 -- ---- one tile more
 
-pub left-at : (s : Shape) (n m : ℕ) (rest : Rest Cell Global) (closed : Closed) → n ≡ m → IsLeftBy s n rest closed → IsLeftBy s m rest closed
+pub left-at : (s : Shape) (n m : ℕ) (rest : Rest Cell Global) (closed : Closed) → n ≡ m → IsLeftBy s n rest closed
+    → IsLeftBy s m rest closed
 left-at s n m rest closed same is = let Q : ℕ → Type 0 = λ k. IsLeftBy s k rest closed in subst Q same is
 
-items-at : (xs ys : List Cell) (slot place : ℕ) (x : Cell) → ys ≡ xs → slot ≡ place → get_elem? ys slot ≡ some x → get_elem? xs place ≡ some x
+items-at : (xs ys : List Cell) (slot place : ℕ) (x : Cell) → ys ≡ xs → slot ≡ place → get_elem? ys slot ≡ some x
+    → get_elem? xs place ≡ some x
 items-at xs ys slot place x same here at = (λ i. get_elem? (sym same i) (sym here i)) ∙ at
 
 pub takes-more : (s : Shape) (p : Place) (t : ℕ) (rest rest' : Rest Cell Global) (closed closed' : Closed) → IsTile s p → t ≡ number_of s p
@@ -91,7 +95,8 @@ takes-more s p t rest rest' closed closed' tile number is takes =
       dots = λ n low. let d = is.dots n low in (d.0, ap (λ (xs : List Cell). get_elem? xs (4 * n + 3)) takes.items ∙ d.1);
       room = let h = is.room in let e = takes.capacity in omega arith;
       before = record {
-        count = ap length pushed ∙ length-append closed.dots.items ((record { place = p; bits = here.0 }) ∷ []) ∙ ap (λ n. n + 1) is.before.count;
+        count = ap length pushed ∙ length-append closed.dots.items ((record { place = p; bits = here.0 }) ∷ [])
+            ∙ ap (λ n. n + 1) is.before.count;
         dots = λ q bits there low at. elim (cases_lt (number_of s q) t) [
           | inl before ↦
               ap (λ (xs : List TileDots). get_elem? xs (number_of s q)) pushed
@@ -100,7 +105,8 @@ takes-more s p t rest rest' closed closed' tile number is takes =
           | inr not_before ↦
               let now : number_of s q ≡ t = omega arith in
               let slot : 4 * number_of s q + 3 ≡ 4 * t + 3 = omega arith in
-              ap (λ (xs : List TileDots). get_elem? xs (number_of s q)) (takes.dots bits (items-at _ _ (4 * number_of s q + 3) (4 * t + 3) _ takes.items slot at))
+              ap (λ (xs : List TileDots). get_elem? xs (number_of s q))
+              (takes.dots bits (items-at _ _ (4 * number_of s q + 3) (4 * t + 3) _ takes.items slot at))
               ∙ at-end closed.dots.items (record { place = p; bits = bits }) (number_of s q) (is.before.count ∙ sym now)
               ∙ ap (λ (r : Place). some (record { place = r; bits = bits })) (sym (same-tile s q p there tile (now ∙ number)))
         ];
@@ -109,7 +115,8 @@ takes-more s p t rest rest' closed closed' tile number is takes =
           | inl before ↦
               let other : q.c ≢ p.c = λ same. let h = earlier-column s p q tile last (let n = number in omega arith) in omega arith in
               takes.others q.c other
-              ∙ is.before.bottoms q edge there last before (items-at _ _ (4 * number_of s q + 1) (4 * number_of s q + 1) _ takes.items refl at)
+              ∙ is.before.bottoms q edge there last before
+              (items-at _ _ (4 * number_of s q + 1) (4 * number_of s q + 1) _ takes.items refl at)
           | inr not_before ↦
               let now : number_of s q ≡ t = omega arith in
               let slot : 4 * number_of s q + 1 ≡ 4 * t + 1 = omega arith in
@@ -121,7 +128,8 @@ takes-more s p t rest rest' closed closed' tile number is takes =
 
 -- ---- all tiles
 
-pub left-first : (s : Shape) (n : ℕ) (rest : Rest Cell Global) (closed : Closed) → n ≡ 0 → CanEmpty s rest → bands_of s * columns_of s ≤ vec_capacity closed.dots
+pub left-first : (s : Shape) (n : ℕ) (rest : Rest Cell Global) (closed : Closed) → n ≡ 0 → CanEmpty s rest
+    → bands_of s * columns_of s ≤ vec_capacity closed.dots
     → closed.dots.items ≡ [] → length closed.bottom ≡ columns_of s → IsLeftBy s n rest closed
 left-first s n rest closed first can room none columns = left-at s 0 n rest closed (sym first) (record {
   len = can.len;
@@ -137,5 +145,6 @@ left-first s n rest closed first can room none columns = left-at s 0 n rest clos
   };
 })
 
-pub emptied-items : (s : Shape) (n : ℕ) (xs ys : List Cell) (closed : Closed) → xs ≡ ys → EmptiedBefore s n xs closed → EmptiedBefore s n ys closed
+pub emptied-items : (s : Shape) (n : ℕ) (xs ys : List Cell) (closed : Closed) → xs ≡ ys → EmptiedBefore s n xs closed
+    → EmptiedBefore s n ys closed
 emptied-items s n xs ys closed same is = let Q : List Cell → Type 0 = λ zs. EmptiedBefore s n zs closed in subst Q same is

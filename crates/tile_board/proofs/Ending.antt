@@ -1,5 +1,6 @@
 -- What a closed board leaves.
-use Rattle.std.proofs.Common.{◌≡◌, ℕ, ℤ, ◌+◌, ◌-◌, ◌*◌, ◌/◌, ◌%◌, ◌<◌, ◌≤◌, List, [], get_or, length, refl, sym, ◌∙◌, ap, subst, arith, None}
+use Rattle.std.proofs.Common.{◌≡◌, ℕ, ℤ, ◌+◌, ◌-◌, ◌*◌, ◌/◌, ◌%◌, ◌<◌, ◌≤◌, List, [], get_or, length, refl, sym, ◌∙◌, ap, subst, arith}
+use Rattle.std.proofs.Common.{None}
 use Rattle.std.proofs.lemmas.List.{get_or-map, length-map}
 use mathlib.Core.Option.{some}
 use lib.ListN.{get_elem?}
@@ -23,24 +24,28 @@ use Rattle.tile_board.proofs.Emptied.{number-at, tile-at}
 use Rattle.tile_board.proofs.Handed.{content-is, gives}
 use Rattle.tile_board.proofs.Numbers.{next-none, number-below}
 
--- the slots have what tiles give that no tile receives
+-- the slots that no tile receives have what their tiles give
 abbrev pub Gives : Slab → List Cell → Type 0
-Gives b items = (t d : ℕ) → t < (setting_of b).graph.tiles → d < 4 → (setting_of b).graph.next t d ≡ None → get_elem? items (4 * t + d) ≡ some ((setting_of b).content t d)
+Gives b items =
+    (t d : ℕ) → t < (setting_of b).graph.tiles → d < 4 → (setting_of b).graph.next t d ≡ None
+    → get_elem? items (4 * t + d) ≡ some ((setting_of b).content t d)
 
 some-columns : (b : Slab) → IsShape (shape_of b) → 0 < columns_of (shape_of b)
 some-columns b sizes = let h = sizes.some_width in omega arith
 
--- what holds of each tile's number holds of each number
+-- what holds of the number of each tile holds of each number below their count
 pub each-number : (b : Slab) (v : View) → IsShape (shape_of b) → ((p : Place) → IsTile (shape_of b) p → 1 ≤ times (number_in b p) v.mine)
     → (t : ℕ) → t < bands_of (shape_of b) * columns_of (shape_of b) → 1 ≤ times t v.mine
 each-number b v sizes all t inside =
     let Q : ℕ → Type 0 = λ n. 1 ≤ times n v.mine in
     subst Q (number-at (shape_of b) t) (all _ (tile-at (shape_of b) t (some-columns b sizes) inside))
 
-dots-at : (b : Slab) (items : List Cell) → Gives b items → (p : Place) → IsTile (shape_of b) p → get_elem? items (4 * number_in b p + 3) ≡ some (cell.Dots (gives b p).bits)
+dots-at : (b : Slab) (items : List Cell) → Gives b items → (p : Place) → IsTile (shape_of b) p
+    → get_elem? items (4 * number_in b p + 3) ≡ some (cell.Dots (gives b p).bits)
 dots-at b items has p tile = has (number_in b p) 3 (number-below (shape_of b) p tile) (omega arith) refl ∙ ap some (content-is b 3 p tile)
 
-pub has-dots : (b : Slab) (items : List Cell) → IsShape (shape_of b) → Gives b items → (t : ℕ) → t < bands_of (shape_of b) * columns_of (shape_of b) → HasDotsAt items (4 * t + 3)
+pub has-dots : (b : Slab) (items : List Cell) → IsShape (shape_of b) → Gives b items → (t : ℕ)
+    → t < bands_of (shape_of b) * columns_of (shape_of b) → HasDotsAt items (4 * t + 3)
 has-dots b items sizes has t inside =
     let p : Place = record { c = t % columns_of (shape_of b); j = t / columns_of (shape_of b) } in (
       (gives b p).bits,
@@ -60,10 +65,12 @@ pub closes : (b : Slab) (items : List Cell) (r : Closed) → IsShape (shape_of b
 closes b items r sizes has is =
     let last : ℕ = bands_of (shape_of b) - 1 in
     let at-last : last + 1 ≡ bands_of (shape_of b) = let h = sizes.some_height in omega arith in
-    let below : (c : ℕ) → c < columns_of (shape_of b) → IsTile (shape_of b) (record { c = c; j = last }) = λ c inside. record { column = inside; band = omega arith } in
+    let below : (c : ℕ) → c < columns_of (shape_of b) → IsTile (shape_of b) (record { c = c; j = last }) =
+    λ c inside. record { column = inside; band = omega arith } in
     let band : (c : ℕ) → c < columns_of (shape_of b) → get_or r.bottom c [] ≡ (gives b (record { c = c; j = last })).band = λ c inside.
     let p : Place = record { c = c; j = last } in
-    is.bottoms p (gives b p).band (below c inside) at-last (number-below (shape_of b) p (below c inside)) (bottom-at b items has p (below c inside) at-last) in
+    is.bottoms p (gives b p).band (below c inside) at-last (number-below (shape_of b) p (below c inside))
+    (bottom-at b items has p (below c inside) at-last) in
     record {
       count = is.count;
       dots = λ p tile. (
@@ -77,13 +84,15 @@ closes b items r sizes has is =
       );
       is_top = record {
         columns = is.columns;
-        edge_inks = λ c inside. ap length (band c inside) ∙ (given-inks b.kernel (amounts_of b) (top_edges b) (record { c = c; j = last })).band;
+        edge_inks =
+            λ c inside. ap length (band c inside) ∙ (given-inks b.kernel (amounts_of b) (top_edges b) (record { c = c; j = last })).band;
       };
       bottoms = λ i low. record {
         count = length-map r.bottom (λ (edge : List (List ℤ)). errors_of edge i) ∙ is.columns;
         at = λ c inside.
             let ink : List (List ℤ) → List ℤ = λ edge. errors_of edge i in
-            let Q : List ℤ → Type 0 = λ xs. IsBottom (errors_below b.kernel (amounts_of b) (top_edges b) i) (record { c = c; j = last }) xs in
+            let Q : List ℤ → Type 0 =
+            λ xs. IsBottom (errors_below b.kernel (amounts_of b) (top_edges b) i) (record { c = c; j = last }) xs in
             subst Q (sym (get_or-map ink r.bottom c [] [] (let k = is.columns in omega arith) ∙ ap ink (band c inside)))
             (given-done b.kernel (amounts_of b) (top_edges b) (record { c = c; j = last }) i low).has_bottom;
       };

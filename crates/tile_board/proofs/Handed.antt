@@ -1,4 +1,4 @@
--- What comes to a tile is what it should be.
+-- The edges that a tile is handed are right.
 use Rattle.std.proofs.Common.{◌≡◌, ℕ, ℤ, pos, ◌+◌, ◌<◌, ◌≤◌, List, [], get_or, length, replicate, sym, ◌∙◌, ap, subst, arith}
 use Rattle.std.proofs.Common.{inl, inr}
 use Rattle.std.proofs.lemmas.Bool.{cases_lt}
@@ -39,7 +39,7 @@ pub content-is : (b : Slab) (d : ℕ) (p : Place) → IsTile (shape_of b) p → 
 unfolding content_of
 content-is b d p tile = ap (λ (q : Place). cell_of (gives b q) d) (place-is b p tile)
 
--- an edge comes from one tile
+-- an edge comes from one tile only
 same-source : (d : Dir) (p a b : Place) → IsReceiver d a p → IsReceiver d b p → a ≡ b
 same-source Right p a b h k = place-same a b (let x : ℕ = a.c in let y : ℕ = b.c in omega (arith, h.0, k.0)) (sym h.1 ∙ k.1)
 same-source Bottom p a b h k = place-same a b (sym h.0 ∙ k.0) (let x : ℕ = a.j in let y : ℕ = b.j in omega (arith, h.1, k.1))
@@ -53,7 +53,8 @@ edge-inks b Corner p = (given-inks b.kernel (amounts_of b) (top_edges b) p).corn
 abbrev pub Comes : Slab → Dir → Place → List (List ℤ) → Type 0
 Comes b d p edge = IsHandedTo b.kernel (amounts_of b) (top_edges b) d p edge
 
-pub handed-by : (b : Slab) (d : Dir) (p from : Place) (edge : List (List ℤ)) → IsSource (shape_of b) d p from → edge ≡ edge_of (gives b from) d → Comes b d p edge
+pub handed-by : (b : Slab) (d : Dir) (p from : Place) (edge : List (List ℤ)) → IsSource (shape_of b) d p from
+    → edge ≡ edge_of (gives b from) d → Comes b d p edge
 handed-by b d p from edge source is = record {
   inks = ap length is ∙ edge-inks b d from;
   given = λ other there receiver. is ∙ ap (λ (q : Place). edge_of (gives b q) d) (same-source d p from other source.receiver receiver);
@@ -64,7 +65,8 @@ handed-by b d p from edge source is = record {
 zeros-long : (n len : ℕ) (edge : List (List ℤ)) → edge ≡ replicate n (replicate len (pos 0)) → length edge ≡ n
 zeros-long n len edge is = ap length is ∙ length-replicate n (replicate len (pos 0))
 
-pub handed-first : (b : Slab) (p : Place) (edge : List (List ℤ)) → p.c ≡ 0 → edge ≡ replicate (amounts_of b).inks (replicate 192 (pos 0)) → Comes b Right p edge
+pub handed-first : (b : Slab) (p : Place) (edge : List (List ℤ)) → p.c ≡ 0 → edge ≡ replicate (amounts_of b).inks (replicate 192 (pos 0))
+    → Comes b Right p edge
 handed-first b p edge first is = record {
   inks = zeros-long (amounts_of b).inks 192 edge is;
   given = λ from there receiver. absurd (let x : ℕ = from.c in let y : ℕ = p.c in omega (arith, receiver.0));
@@ -82,11 +84,13 @@ zero-at len n = elim (cases_lt n len) [
 ink-top : (b : Slab) (i c : ℕ) → c < length (top_edges b) → get_or (edges_of (top_edges b) i) c [] ≡ errors_of (get_or (top_edges b) c []) i
 ink-top b i c inside = get_or-map (λ (edge : List (List ℤ)). errors_of edge i) (top_edges b) c [] [] inside
 
-pub handed-last : (b : Slab) (p : Place) (edge : List (List ℤ)) → length (top_edges b) ≡ columns_of (shape_of b) → columns_of (shape_of b) ≤ p.c + 1
+pub handed-last : (b : Slab) (p : Place) (edge : List (List ℤ)) → length (top_edges b) ≡ columns_of (shape_of b)
+    → columns_of (shape_of b) ≤ p.c + 1
     → edge ≡ replicate (amounts_of b).inks (replicate 128 (pos 0)) → Comes b Bottom p edge
 handed-last b p edge columns last is = record {
   inks = zeros-long (amounts_of b).inks 128 edge is;
-  given = λ from there receiver. absurd (let x : ℕ = from.c in let y : ℕ = columns_of (shape_of b) in let h : x < y = there.column in omega (arith, receiver.0));
+  given = λ from there receiver.
+      absurd (let x : ℕ = from.c in let y : ℕ = columns_of (shape_of b) in let h : x < y = there.column in omega (arith, receiver.0));
   none = λ board none. is;
   above = λ off i low. record {
     at = λ n inside.
@@ -98,7 +102,8 @@ handed-last b p edge columns last is = record {
   };
 }
 
-pub handed-top : (b : Slab) (p : Place) (edge : List (List ℤ)) → IsTopOf (amounts_of b) (top_edges b) → p.j ≡ 0 → p.c + 1 < columns_of (shape_of b)
+pub handed-top : (b : Slab) (p : Place) (edge : List (List ℤ)) → IsTopOf (amounts_of b) (top_edges b) → p.j ≡ 0
+    → p.c + 1 < columns_of (shape_of b)
     → edge ≡ get_or (top_edges b) (p.c + 1) [] → Comes b Bottom p edge
 handed-top b p edge top first there is = record {
   inks = ap length is ∙ top.edge_inks (p.c + 1) there;
@@ -111,7 +116,8 @@ handed-top b p edge top first there is = record {
   };
 }
 
-pub handed-end : (b : Slab) (p : Place) (above room edge : List (List ℤ)) → IsTopOf (amounts_of b) (top_edges b) → p.j ≡ 0 → p.c < columns_of (shape_of b)
+pub handed-end : (b : Slab) (p : Place) (above room edge : List (List ℤ)) → IsTopOf (amounts_of b) (top_edges b) → p.j ≡ 0
+    → p.c < columns_of (shape_of b)
     → above ≡ get_or (top_edges b) p.c [] → length room ≡ (amounts_of b).inks → CutsEnds above room edge → Comes b Corner p edge
 handed-end b p above room edge top first inside is len cut = record {
   inks = cut.len ∙ len;
@@ -119,11 +125,13 @@ handed-end b p above room edge top first inside is len cut = record {
   none = λ board none. absurd (let y : ℕ = p.j in omega arith);
   above = λ off i low.
       let Q : List ℤ → Type 0 = λ e. IsCut e (errors_of edge i) in
-      subst Q (ap (λ (e : List (List ℤ)). errors_of e i) is ∙ sym (ink-top b i p.c (let h = top.columns in omega arith))) (cut.ends i (omega arith));
+      subst Q (ap (λ (e : List (List ℤ)). errors_of e i) is ∙ sym (ink-top b i p.c (let h = top.columns in omega arith)))
+      (cut.ends i (omega arith));
 }
 
 -- the three edges of a tile
-pub task-of : (b : Slab) (task : Task) → IsTile (shape_of b) task.place → Comes b Right task.place task.left → Comes b Bottom task.place task.above
+pub task-of : (b : Slab) (task : Task) → IsTile (shape_of b) task.place → Comes b Right task.place task.left
+    → Comes b Bottom task.place task.above
     → Comes b Corner task.place task.corner → length task.dots.bits ≡ (amounts_of b).inks → IsTaskOf b task
 task-of b task tile left above corner bits = record {
   tile = tile;

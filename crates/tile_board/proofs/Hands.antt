@@ -1,4 +1,4 @@
--- Hands of slots, from the front.
+-- The slots that a seat has, in the order of use.
 use Rattle.std.proofs.Common.{◌≡◌, ℕ, ℤ, ◌+◌, ◌*◌, List, [], ◌∷◌, ◌++◌, Some, None, refl, sym, ◌∙◌, ap, append_assoc, append-nil}
 use Rattle.atomic_table.specs.Table.{Me, rest}
 use Rattle.board_steps.specs.Content.{blank_of, fresh_of}
@@ -15,12 +15,12 @@ use Rattle.tile_board.specs.Slabs.{amounts_of}
 abbrev pub Hand : Type 0
 Hand = List (ℕ × Cell)
 
--- the cell in front
+-- the value of the first slot
 abbrev pub first_cell : Hand → Cell
 first_cell [] = Empty
 first_cell (x ∷ xs) = x.1
 
--- what a cell of each kind holds
+-- the value in a cell of each kind
 abbrev pub right_in : Cell → List (List ℤ)
 right_in (Right edge) = edge
 right_in _ = []
@@ -40,20 +40,22 @@ dots_in _ = []
 pub any-front : (x : Cell) (slot n : ℕ) (hand r : Hand) → slot ≡ n → hand ≡ (n, x) ∷ r → IsFront slot hand
 any-front x slot n hand r e h = (x, h ∙ (λ i. (sym e i, x) ∷ rest (sym h i)))
 
--- What is taken out of the slot in front.
+-- The value that is taken out of the first slot.
 pub record Out (m : Me Cell View) (x cell : Cell) (n : ℕ) (r : Hand) (after : Me Cell View) : Type 0 where
   pub same : cell ≡ x
   pub view : after.0 ≡ m.0
   pub hand : after.1 ≡ r ++ (n, Empty) ∷ []
 
-pub out-is : (x cell : Cell) (slot n : ℕ) (m after : Me Cell View) (r : Hand) → slot ≡ n → m.1 ≡ (n, x) ∷ r → TakesOut slot m cell after → Out m x cell n r after
+pub out-is : (x cell : Cell) (slot n : ℕ) (m after : Me Cell View) (r : Hand) → slot ≡ n → m.1 ≡ (n, x) ∷ r → TakesOut slot m cell after
+    → Out m x cell n r after
 out-is x cell slot n m after r e h out = record {
   same = ap first_cell (sym out.front ∙ h);
   view = ap (λ (z : Me Cell View). z.0) out.after;
   hand = ap (λ (z : Me Cell View). z.1) out.after ∙ (λ i. rest (h i) ++ (e i, Empty) ∷ []);
 }
 
-pub regroup : (a b c e0 e1 e2 e3 : Hand) → ((((a ++ (b ++ (c ++ []))) ++ e0) ++ e1) ++ e2) ++ e3 ≡ a ++ (b ++ (c ++ (e0 ++ (e1 ++ (e2 ++ e3)))))
+pub regroup : (a b c e0 e1 e2 e3 : Hand)
+    → ((((a ++ (b ++ (c ++ []))) ++ e0) ++ e1) ++ e2) ++ e3 ≡ a ++ (b ++ (c ++ (e0 ++ (e1 ++ (e2 ++ e3)))))
 regroup a b c e0 e1 e2 e3 = simp (append_assoc, append-nil) refl
 
 -- ---- an edge that comes
@@ -71,11 +73,13 @@ came b d t q slot cell m after from e out = record {
 pub stayed : (b : Slab) (d t : ℕ) (m : Me Cell View) → (setting_of b).graph.from t d ≡ None → TakesIn b d t m m
 stayed b d t m from = record {
   view = refl;
-  hand = λ r h. h ∙ ap (λ o. incoming (setting_of b).content d o ++ r) from ∙ sym (append-nil r) ∙ ap (λ o. r ++ incoming emptied d o) (sym from);
+  hand = λ r h. h ∙ ap (λ o. incoming (setting_of b).content d o ++ r) from ∙ sym (append-nil r)
+      ∙ ap (λ o. r ++ incoming emptied d o) (sym from);
 }
 
 -- the edge is what its tile gives
-pub next-cell : (b : Slab) (d t q slot : ℕ) (cell : Cell) (m after : Me Cell View) → (setting_of b).graph.from t d ≡ Some q → slot ≡ 4 * q + d
+pub next-cell : (b : Slab) (d t q slot : ℕ) (cell : Cell) (m after : Me Cell View) → (setting_of b).graph.from t d ≡ Some q
+    → slot ≡ 4 * q + d
     → IsNext b d t m.1 → TakesOut slot m cell after → cell ≡ (setting_of b).content q d
 next-cell b d t q slot cell m after from e next out =
     let content : Cell = (setting_of b).content q d in

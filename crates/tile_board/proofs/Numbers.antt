@@ -1,5 +1,6 @@
 -- Tiles by their numbers.
-use Rattle.std.proofs.Common.{◌≡◌, ℕ, zero, suc, ◌+◌, ◌-◌, ◌*◌, ◌/◌, ◌%◌, ◌^◌, ◌<◌, ◌≤◌, ◌&&◌, ◌⊎◌, Bool, true, false, ltb, Some, None, refl, ◌∙◌, ap, ap₂, arith, inl, inr}
+use Rattle.std.proofs.Common.{◌≡◌, ℕ, zero, suc, ◌+◌, ◌-◌, ◌*◌, ◌/◌, ◌%◌, ◌^◌, ◌<◌, ◌≤◌, ◌&&◌, ◌⊎◌, Bool, true, false, ltb, Some, None}
+use Rattle.std.proofs.Common.{refl, ◌∙◌, ap, ap₂, arith, inl, inr}
 use Rattle.std.proofs.Math.Nat.{mul_comm, mul-le-mul_left}
 use Rattle.std.proofs.lemmas.Bool.{cases_lt, lt-ltb, le-ltb}
 use Rattle.std.proofs.lemmas.Nat.{div-mul-add, mod-mul-add, mul-add-lt}
@@ -56,10 +57,12 @@ some-tiles s sizes =
 
 -- ---- receivers and sources
 
-from-is : (s : Shape) (p : Place) (d : ℕ) → IsTile s p → (graph_of s).from (number_of s p) d ≡ from_of (columns_of s) (bands_of s) p.c p.j (number_of s p) d
+from-is : (s : Shape) (p : Place) (d : ℕ) → IsTile s p
+    → (graph_of s).from (number_of s p) d ≡ from_of (columns_of s) (bands_of s) p.c p.j (number_of s p) d
 from-is s p d tile = ap₂ (λ c j. from_of (columns_of s) (bands_of s) c j (number_of s p) d) (column-is s p tile) (row-is s p tile)
 
-next-is : (s : Shape) (p : Place) (d : ℕ) → IsTile s p → (graph_of s).next (number_of s p) d ≡ next_of (columns_of s) (bands_of s) p.c p.j (number_of s p) d
+next-is : (s : Shape) (p : Place) (d : ℕ) → IsTile s p
+    → (graph_of s).next (number_of s p) d ≡ next_of (columns_of s) (bands_of s) p.c p.j (number_of s p) d
 next-is s p d tile = ap₂ (λ c j. next_of (columns_of s) (bands_of s) c j (number_of s p) d) (column-is s p tile) (row-is s p tile)
 
 only-yes : (b : Bool) (x y : ℕ) → b ≡ true → x ≡ y → only_if b x ≡ Some y
@@ -78,7 +81,7 @@ and-right : (a b : Bool) → b ≡ false → (a && b) ≡ false
 and-right true b e = e
 and-right false b e = refl
 
--- one band on
+-- tiles of the next band
 pub row-more : (C j : ℕ) → (j + 1) * C ≡ j * C + C
 row-more C j = grind (arith)
 
@@ -86,7 +89,7 @@ row-less : (C j : ℕ) → 0 < j → j * C ≡ (j - 1) * C + C
 row-less C zero h = absurd (omega arith)
 row-less C (suc j) h = let e : suc j - 1 ≡ j = omega arith in grind (arith)
 
--- The tile that an edge comes from.
+-- The tile from which an edge comes.
 pub record IsSource (s : Shape) (d : Dir) (p from : Place) : Type 0 where
   pub tile : IsTile s from
   pub receiver : IsReceiver d from p
@@ -103,12 +106,15 @@ left-source s p tile some =
     record {
       tile = record { column = let h : c < C = tile.column in omega arith; band = tile.band };
       receiver = (omega arith, refl);
-      number = from-is s p 0 tile ∙ only-yes (ltb 0 p.c) (number_of s p - 1) (number_of s (record { c = p.c - 1; j = p.j })) (lt-ltb 0 p.c some) is;
+      number =
+          from-is s p 0 tile
+          ∙ only-yes (ltb 0 p.c) (number_of s p - 1) (number_of s (record { c = p.c - 1; j = p.j })) (lt-ltb 0 p.c some) is;
       needed = some;
       board = tt;
     }
 
-pub above-source : (s : Shape) (p : Place) → IsTile s p → 0 < p.j → p.c + 1 < columns_of s → IsSource s Bottom p (record { c = p.c + 1; j = p.j - 1 })
+pub above-source : (s : Shape) (p : Place) → IsTile s p → 0 < p.j → p.c + 1 < columns_of s
+    → IsSource s Bottom p (record { c = p.c + 1; j = p.j - 1 })
 above-source s p tile below there =
     let C : ℕ = columns_of s in
     let B : ℕ = bands_of s in
@@ -121,7 +127,9 @@ above-source s p tile below there =
     record {
       tile = record { column = there; band = let h : p.j < B = tile.band in omega arith };
       receiver = (refl, omega arith);
-      number = from-is s p 1 tile ∙ only-yes (ltb (p.c + 1) C && ltb 0 p.j) (number_of s p + 1 - C) (number_of s (record { c = p.c + 1; j = p.j - 1 }))
+      number =
+          from-is s p 1 tile
+          ∙ only-yes (ltb (p.c + 1) C && ltb 0 p.j) (number_of s p + 1 - C) (number_of s (record { c = p.c + 1; j = p.j - 1 }))
           (and-yes _ _ (lt-ltb (p.c + 1) C there) (lt-ltb 0 p.j below)) is;
       needed = (below, there);
       board = below;
@@ -139,7 +147,9 @@ corner-source s p tile below =
     record {
       tile = record { column = tile.column; band = let h : p.j < B = tile.band in omega arith };
       receiver = (refl, omega arith);
-      number = from-is s p 2 tile ∙ only-yes (ltb 0 p.j) (number_of s p - C) (number_of s (record { c = p.c; j = p.j - 1 })) (lt-ltb 0 p.j below) is;
+      number =
+          from-is s p 2 tile
+          ∙ only-yes (ltb 0 p.j) (number_of s p - C) (number_of s (record { c = p.c; j = p.j - 1 })) (lt-ltb 0 p.j below) is;
       needed = below;
       board = below;
     }
@@ -148,14 +158,20 @@ pub no-left : (s : Shape) (p : Place) → IsTile s p → p.c ≡ 0 → (graph_of
 no-left s p tile first = from-is s p 0 tile ∙ only-no (ltb 0 p.c) (number_of s p - 1) (le-ltb 0 p.c (omega arith))
 
 pub no-above : (s : Shape) (p : Place) → IsTile s p → (p.j ≡ 0) ⊎ (columns_of s ≤ p.c + 1) → (graph_of s).from (number_of s p) 1 ≡ None
-no-above s p tile (inl first) = from-is s p 1 tile ∙ only-no _ (number_of s p + 1 - columns_of s) (and-right (ltb (p.c + 1) (columns_of s)) (ltb 0 p.j) (le-ltb 0 p.j (omega arith)))
-no-above s p tile (inr last) = from-is s p 1 tile ∙ only-no _ (number_of s p + 1 - columns_of s) (and-left (ltb (p.c + 1) (columns_of s)) (ltb 0 p.j) (le-ltb (p.c + 1) (columns_of s) last))
+no-above s p tile (inl first) =
+    from-is s p 1 tile
+    ∙ only-no _ (number_of s p + 1 - columns_of s) (and-right (ltb (p.c + 1) (columns_of s)) (ltb 0 p.j) (le-ltb 0 p.j (omega arith)))
+no-above s p tile (inr last) =
+    from-is s p 1 tile
+    ∙ only-no _ (number_of s p + 1 - columns_of s)
+    (and-left (ltb (p.c + 1) (columns_of s)) (ltb 0 p.j) (le-ltb (p.c + 1) (columns_of s) last))
 
 pub no-corner : (s : Shape) (p : Place) → IsTile s p → p.j ≡ 0 → (graph_of s).from (number_of s p) 2 ≡ None
 no-corner s p tile first = from-is s p 2 tile ∙ only-no (ltb 0 p.j) (number_of s p - columns_of s) (le-ltb 0 p.j (omega arith))
 
 -- the tile that receives an edge
-pub next-some : (s : Shape) (d : Dir) (p to : Place) → IsTile s p → IsTile s to → IsReceiver d p to → (graph_of s).next (number_of s p) (index_of d) ≡ Some (number_of s to)
+pub next-some : (s : Shape) (d : Dir) (p to : Place) → IsTile s p → IsTile s to → IsReceiver d p to
+    → (graph_of s).next (number_of s p) (index_of d) ≡ Some (number_of s to)
 next-some s Right p to tile there receiver =
     let C : ℕ = columns_of s in
     let c : ℕ = p.c in
@@ -196,17 +212,26 @@ next-some s Corner p to tile there receiver =
     let is : u + c + C ≡ w + e = omega arith in
     next-is s p 2 tile ∙ only-yes (ltb (p.j + 1) B) (number_of s p + C) (number_of s to) (lt-ltb (p.j + 1) B more) is
 
-pub next-none : (s : Shape) (d : Dir) (p : Place) → IsTile s p → ((to : Place) → IsTile s to → IsReceiver d p to → ⊥) → (graph_of s).next (number_of s p) (index_of d) ≡ None
+pub next-none : (s : Shape) (d : Dir) (p : Place) → IsTile s p → ((to : Place) → IsTile s to → IsReceiver d p to → ⊥)
+    → (graph_of s).next (number_of s p) (index_of d) ≡ None
 next-none s Right p tile none = elim (cases_lt (p.c + 1) (columns_of s)) [
   | inl more ↦ absurd (none (record { c = p.c + 1; j = p.j }) (record { column = more; band = tile.band }) (refl, refl))
   | inr last ↦ next-is s p 0 tile ∙ only-no (ltb (p.c + 1) (columns_of s)) (number_of s p + 1) (le-ltb (p.c + 1) (columns_of s) last)
 ]
 next-none s Bottom p tile none = elim (cases_lt (p.j + 1) (bands_of s)) [
   | inl more ↦ elim (cases_lt 0 p.c) [
-    | inl after ↦ absurd (none (record { c = p.c - 1; j = p.j + 1 }) (record { column = let h = tile.column in let C : ℕ = columns_of s in let h' : p.c < C = h in omega arith; band = more }) (omega arith, refl))
-    | inr first ↦ next-is s p 1 tile ∙ only-no _ (number_of s p + columns_of s - 1) (and-left (ltb 0 p.c) (ltb (p.j + 1) (bands_of s)) (le-ltb 0 p.c first))
+    | inl after ↦
+        absurd (none (record { c = p.c - 1; j = p.j + 1 })
+        (record { column = let h = tile.column in let C : ℕ = columns_of s in let h' : p.c < C = h in omega arith; band = more })
+        (omega arith, refl))
+    | inr first ↦
+        next-is s p 1 tile
+        ∙ only-no _ (number_of s p + columns_of s - 1) (and-left (ltb 0 p.c) (ltb (p.j + 1) (bands_of s)) (le-ltb 0 p.c first))
   ]
-  | inr last ↦ next-is s p 1 tile ∙ only-no _ (number_of s p + columns_of s - 1) (and-right (ltb 0 p.c) (ltb (p.j + 1) (bands_of s)) (le-ltb (p.j + 1) (bands_of s) last))
+  | inr last ↦
+      next-is s p 1 tile
+      ∙ only-no _ (number_of s p + columns_of s - 1)
+      (and-right (ltb 0 p.c) (ltb (p.j + 1) (bands_of s)) (le-ltb (p.j + 1) (bands_of s) last))
 ]
 next-none s Corner p tile none = elim (cases_lt (p.j + 1) (bands_of s)) [
   | inl more ↦ absurd (none (record { c = p.c; j = p.j + 1 }) (record { column = tile.column; band = more }) (refl, refl))

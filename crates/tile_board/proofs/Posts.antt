@@ -1,5 +1,6 @@
--- What a tile gives goes into its slots, and home.
-use Rattle.std.proofs.Common.{◌≡◌, ℕ, zero, suc, ◌+◌, ◌*◌, ◌<◌, ◌||◌, ◌==◌, Bool, true, false, [], ◌∷◌, ◌++◌, Option, Some, None, refl, sym, ◌∙◌, ap, subst, append_assoc, append-nil, eq-eqb}
+-- What a tile gives goes into its slots, and these go back to the table.
+use Rattle.std.proofs.Common.{◌≡◌, ℕ, zero, suc, ◌+◌, ◌*◌, ◌<◌, ◌||◌, ◌==◌, Bool, true, false, [], ◌∷◌, ◌++◌, Option, Some, None, refl, sym}
+use Rattle.std.proofs.Common.{◌∙◌, ap, subst, append_assoc, append-nil, eq-eqb}
 use Rattle.std.proofs.lemmas.Bool.{ne_eqb}
 use Rattle.atomic_table.specs.Table.{Me, rest, turned}
 use Rattle.tile_shape.specs.Geometry.{IsTile, bands_of, columns_of}
@@ -22,7 +23,7 @@ use Rattle.tile_board.proofs.Handed.{content-is, gives}
 use Rattle.tile_board.proofs.Hands.{Hand}
 use Rattle.tile_board.proofs.Numbers.{number-below}
 
--- what comes back is what the tile gives
+-- a tile that comes back right is what its content says
 pub gave-is : (b : Slab) (done : Done) → IsDoneOf b done → IsWhole (gave done) → gave done ≡ gives b done.place
 gave-is b done is whole = given-is b.kernel (amounts_of b) (top_edges b) done.place (gave done) is.inks whole is.done
 
@@ -34,7 +35,9 @@ gave-cell b done d tile is whole = ap (λ g. cell_of g d) (gave-is b done is who
 
 -- the view after three edges are given
 abbrev pub gave_all : Slab → ℕ → View → View
-gave_all b t v = gave_view (gave_view (gave_view v 0 ((setting_of b).graph.next t 0)) 1 ((setting_of b).graph.next t 1)) 2 ((setting_of b).graph.next t 2)
+gave_all b t v =
+    gave_view (gave_view (gave_view v 0 ((setting_of b).graph.next t 0)) 1 ((setting_of b).graph.next t 1)) 2
+    ((setting_of b).graph.next t 2)
 
 has-gave : (v : View) (d e p : ℕ) (o : Option ℕ) → o ≡ Some p → d ≡ e → has e (gave_view v d o).sent ≡ true
 has-gave v d e p o at same = ap (λ q. has e (gave_view v d q).sent) at ∙ ap (λ b. b || has e v.sent) (eq-eqb d e same)
@@ -65,7 +68,7 @@ all-sent b t v (suc (suc zero)) p to =
     has-gave v1 2 2 p (n 2) to refl
 all-sent b t v (suc (suc (suc d))) p to = absurd (cc)
 
--- other fields stay
+-- the other fields are unchanged
 pub gave-held : (v : View) (d : ℕ) (o : Option ℕ) → (gave_view v d o).held ≡ v.held
 gave-held v d None = refl
 gave-held v d (Some p) = refl
@@ -84,7 +87,7 @@ gave-unsent v d e (Some p) other h = ap (λ b. (d == e) || b) h ∙ or-false (d 
 
 -- ---- the hand
 
--- the slots that are left as the dots are put in
+-- the slots that are left when the dots are put in
 abbrev pub left_slots : Slab → ℕ → Hand
 left_slots b t = comes b emptied 0 t ++ (comes b emptied 1 t ++ (comes b emptied 2 t ++ []))
 
@@ -96,7 +99,7 @@ order a0 a1 a2 o0 o1 o2 = simp (append_assoc, append-nil) refl
 
 -- ---- one edge
 
--- it is put into the slot in front
+-- the edge is put into the first slot
 pub put-front : (b : Slab) (t d slot : ℕ) (x : Cell) (m e : Me Cell View) → slot ≡ 4 * t + d → x ≡ (setting_of b).content t d
     → e ≡ (m.0, (slot, x) ∷ rest m.1) → e.1 ≡ (4 * t + d, (setting_of b).content t d) ∷ rest e.1
 put-front b t d slot x m e at is put = ap (λ (z : Me Cell View). z.1) put ∙ (λ i. (at i, is i) ∷ rest ((sym put i).1))
@@ -130,14 +133,16 @@ held-tile b held p v board is inside =
     let Q : Slab → Type 0 = λ s. (p.c < columns_of (shape_of s)) × (p.j < bands_of (shape_of s)) in
     let h = subst Q board (inside p is) in record { column = h.0; band = h.1 }
 
--- its hand as it begins to give
-held-hand : (b : Slab) (held : Option Place) (p : Place) (m : Me Cell View) → m.0.board ≡ b → held ≡ Some p → held_number m.0.board held ≡ m.0.held
+-- the slots of a pass before it gives the first edge
+held-hand : (b : Slab) (held : Option Place) (p : Place) (m : Me Cell View) → m.0.board ≡ b → held ≡ Some p
+    → held_number m.0.board held ≡ m.0.held
     → m.1 ≡ hand_of m.0 → m.1 ≡ emptied_hand b (number_in b p)
 held-hand b held p m board is shown hand =
     hand ∙ ap (λ o. hand_at m.0.board o) (sym shown) ∙ ap (λ o. hand_at m.0.board (held_number m.0.board o)) is
     ∙ ap (λ (s : Slab). hand_at s (held_number s (Some p))) board
 
-pub may-post : (b : Slab) (p : Place) (at slot : ℕ) (x : Cell) (held : Option Place) (m0 m1 m2 m3 m4 : Me Cell View) → m0.0.board ≡ b → held ≡ Some p
+pub may-post : (b : Slab) (p : Place) (at slot : ℕ) (x : Cell) (held : Option Place) (m0 m1 m2 m3 m4 : Me Cell View) → m0.0.board ≡ b
+    → held ≡ Some p
     → IsTile (shape_of b) p → held_number m0.0.board held ≡ m0.0.held → m0.1 ≡ hand_of m0.0 → at ≡ number_in b p → slot ≡ 4 * at + 3
     → GivesEdge b 0 (number_in b p) m0 m1 → GivesEdge b 1 (number_in b p) m1 m2 → GivesEdge b 2 (number_in b p) m2 m3
     → m4 ≡ (m3.0, (slot, x) ∷ rest m3.1) → x ≡ (setting_of b).content (number_in b p) 3 → MayPost (setting_of b) m4 at
@@ -158,7 +163,8 @@ may-post b p at slot x held m0 m1 m2 m3 m4 board is tile shown hand number place
     subst Q (sym number) (record {
       inside = number-below (shape_of b) p tile;
       holds = ap (λ (v : View). v.held) view
-          ∙ gave-held _ 2 ((setting_of b).graph.next t 2) ∙ gave-held _ 1 ((setting_of b).graph.next t 1) ∙ gave-held m0.0 0 ((setting_of b).graph.next t 0)
+          ∙ gave-held _ 2 ((setting_of b).graph.next t 2) ∙ gave-held _ 1 ((setting_of b).graph.next t 1)
+          ∙ gave-held m0.0 0 ((setting_of b).graph.next t 0)
           ∙ sym shown ∙ ap (λ o. held_number m0.0.board o) is ∙ ap (λ (s : Slab). held_number s (Some p)) board;
       sent = subst Sent (sym view) (all-sent b t m0.0);
       left = emptied;

@@ -1,4 +1,4 @@
--- A board's window.
+-- The window of a board, its counts and what its tiles need.
 use Rattle.std.proofs.Common.{◌≡◌, ℕ, ℤ, List, [], get_or, length, ap, sym, ◌∙◌, subst}
 use Rattle.std.specs.Prelude.{IsTrue, ◌↔◌}
 use Rattle.dot_planes.specs.Tables.{AmountTable}
@@ -17,7 +17,8 @@ use Rattle.tile_board.specs.Slabs.{IsTopOf, amounts_of, shape_of, top_edges}
 pub shape-is : (b : Board) (s : Shape) → s ≡ window_of b.rows.now → s ≡ shape_of (slab b)
 shape-is b s is = is ∙ ap (λ (rows : AmountTable). window_of rows) (sym b.made_for.0)
 
-pub columns-is : (b : Board) (s : Shape) (columns : ℕ) → s ≡ window_of b.rows.now → columns ≡ columns_of s → columns ≡ columns_of (shape_of (slab b))
+pub columns-is : (b : Board) (s : Shape) (columns : ℕ) → s ≡ window_of b.rows.now → columns ≡ columns_of s
+    → columns ≡ columns_of (shape_of (slab b))
 columns-is b s columns is count = count ∙ ap (λ (t : Shape). columns_of t) (shape-is b s is)
 
 pub is-shape : (b : Board) (s : Shape) → s ≡ window_of b.rows.now → IsShape s → IsShape (shape_of (slab b))
@@ -28,15 +29,18 @@ pub top-of : (b : Board) → IsTopOf (amounts_of (slab b)) (top_edges (slab b))
 top-of b = record {
   columns = ap length b.made_for.2 ∙ b.topped.0;
   edge_inks = λ c inside.
-      ap (λ (top : List (List (List ℤ))). length (get_or top c [])) b.made_for.2 ∙ b.topped.1 c inside ∙ ap (λ (rows : AmountTable). rows.inks) (sym b.made_for.0);
+      ap (λ (top : List (List (List ℤ))). length (get_or top c [])) b.made_for.2 ∙ b.topped.1 c inside
+      ∙ ap (λ (rows : AmountTable). rows.inks) (sym b.made_for.0);
 }
 
 pub tile-there : (b : Board) (s : Shape) (p : Place) → s ≡ window_of b.rows.now → IsTile s p → IsTile (shape_of (slab b)) p
 tile-there b s p is tile = let Q : Shape → Type 0 = λ t. IsTile t p in subst Q (shape-is b s is) tile
 
-pub none-there : (b : Board) (s : Shape) (d : Dir) (p : Place) → s ≡ window_of b.rows.now → ((to : Place) → IsTile s to → IsReceiver d p to → ⊥)
+pub none-there : (b : Board) (s : Shape) (d : Dir) (p : Place) → s ≡ window_of b.rows.now
+    → ((to : Place) → IsTile s to → IsReceiver d p to → ⊥)
     → (to : Place) → IsTile (shape_of (slab b)) to → IsReceiver d p to → ⊥
-none-there b s d p is none = let Q : Shape → Type 0 = λ t. (to : Place) → IsTile t to → IsReceiver d p to → ⊥ in subst Q (shape-is b s is) none
+none-there b s d p is none = let Q : Shape → Type 0 = λ t. (to : Place) → IsTile t to → IsReceiver d p to → ⊥ in
+    subst Q (shape-is b s is) none
 
 pub needs-of : (b : Board) (s : Shape) (p : Place) (needs : Needs) → s ≡ window_of b.rows.now → (IsTrue needs.left ↔ IsNeeded s Right p)
     → (IsTrue needs.above ↔ IsNeeded s Bottom p) → (IsTrue needs.corner ↔ IsNeeded s Corner p) → NeedsOf (shape_of (slab b)) p needs

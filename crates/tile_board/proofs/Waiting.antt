@@ -1,5 +1,6 @@
--- The slots of the tiles that wait.
-use Rattle.std.proofs.Common.{◌≡◌, ℕ, ◌+◌, ◌/◌, ◌%◌, ◌&&◌, List, [], ◌∷◌, ◌++◌, refl, sym, ◌∙◌, ap, subst, append_assoc, nat_lt, replicate, suc, add-one}
+-- The slots of waiting tiles, tile by tile.
+use Rattle.std.proofs.Common.{◌≡◌, ℕ, ◌+◌, ◌/◌, ◌%◌, ◌&&◌, List, [], ◌∷◌, ◌++◌, refl, sym, ◌∙◌, ap, subst, append_assoc, nat_lt, replicate}
+use Rattle.std.proofs.Common.{add-one}
 use Rattle.board_steps.specs.Content.{fresh_of}
 use Rattle.board_steps.specs.Graph.{only_if}
 use Rattle.board_steps.specs.Rule.{fresh_in}
@@ -13,7 +14,7 @@ use Rattle.tile_shape.specs.declared.tiles.Shape.{Shape}
 four : (l : List Cell) (x y z w : Cell) → (((l ++ x ∷ []) ++ y ∷ []) ++ z ∷ []) ++ w ∷ [] ≡ l ++ x ∷ y ∷ z ∷ w ∷ []
 four l x y z w = simp (append_assoc) refl
 
--- Tile n's slots, of a window of C columns, behind those of the tiles before it.
+-- The slots of tile n, in a window of C columns, after those of the tiles before it.
 pub one-more : (s : Shape) (inks C n : ℕ) (l₀ l₁ l₂ l₃ l₄ : List Cell) (x y z : Cell) (w : List (List ℕ)) → C ≡ columns_of s
     → l₀ ≡ fresh_slots (fresh_in s inks) n → l₁ ≡ l₀ ++ x ∷ [] → l₂ ≡ l₁ ++ y ∷ [] → l₃ ≡ l₂ ++ z ∷ []
     → l₄ ≡ l₃ ++ Dots w ∷ [] → w ≡ replicate inks (replicate {A = ℕ} 256 0)

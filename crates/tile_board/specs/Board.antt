@@ -29,11 +29,11 @@ view p = p.seat.me.0
 abbrev pub holding : Pass → Option Place
 holding p = p.held
 
--- it is a pass of this board
+-- the pass is one of this board
 abbrev pub IsPassOf : Board → Pass → Type 0
 IsPassOf b p = (p.seat.table_id ≡ b.table.shared.table_id) × (p.seat.me.0.board ≡ b.table.shared.key)
 
--- The fields that a claim leaves; it looked once at least.
+-- A claim leaves all of these but the count of looks, and looks at least once.
 pub record Kept (v w : View) : Type 0 where
   pub number : w.number ≡ v.number
   pub made : w.made ≡ v.made
@@ -42,7 +42,8 @@ pub record Kept (v w : View) : Type 0 where
   pub board : w.board ≡ v.board
   pub looks : v.looks < w.looks
 
--- The word that a claim found has every bit of the tile's word that the pass knew, and the pass sees it now.
+-- A claim that hands no tile out. The word that it found has every bit that the pass knew to be set, and is what the pass
+-- has seen last.
 pub record Refused (b : Slab) (v : View) (t : Place) (word : ℕ) (w : View) : Type 0 where
   pub kept : Kept v w
   pub held : w.held ≡ None
@@ -56,7 +57,7 @@ arrival Right word = word % 2
 arrival Bottom word = word / 2 % 2
 arrival Corner word = word / 4 % 2
 
--- The word lacks the bit of an edge that comes to the tile, which the pass itself has not posted.
+-- The word lacks the bit of an edge that comes to the tile, from a tile that the pass itself has not posted.
 pub record LacksEdge (b : Slab) (v : View) (t : Place) (word : ℕ) : Type 0 where
   pub dir : Dir
   pub from : Place
@@ -65,7 +66,7 @@ pub record LacksEdge (b : Slab) (v : View) (t : Place) (word : ℕ) : Type 0 whe
   pub clear : arrival dir word ≡ 0
   pub not_mine : times (number_in b from) v.mine ≡ 0
 
--- The pass holds the tile, which it had not posted.
+-- A claim that hands tile t out: the pass holds it, and had not posted it.
 pub record Gets (b : Slab) (v : View) (t : Place) (w : View) : Type 0 where
   pub kept : Kept v w
   pub held : w.held ≡ Some (number_in b t)
@@ -74,18 +75,19 @@ pub record Gets (b : Slab) (v : View) (t : Place) (w : View) : Type 0 where
   pub seen : w.seen ≡ Some (number_in b t, word)
   pub not_mine : times (number_in b t) v.mine ≡ 0
 
--- what a claim of tile t tells a pass with the view v, which becomes w
+-- the answer to a claim of tile t by a pass whose view was v and becomes w
 abbrev pub Claimed : Slab → View → Place → Claim → View → Type 0
 Claimed b v t (Got task) w = Gets b v t w × (task.place ≡ t) × IsTaskOf b task
 Claimed b v t (NotReady word) w = Refused b v t word w × (word / 8 % 2 ≡ 0) × LacksEdge b v t word
 Claimed b v t (Gone word) w = Refused b v t word w × (word / 8 % 2 ≡ 1) × (v.parts ≡ 256 → times (number_in b t) v.mine ≡ 1)
 
--- the tile that a claim hands out
+-- the tile that a claim has handed out
 abbrev pub got : Claim → Option Place
 got (Got task) = Some task.place
 got (NotReady word) = None
 got (Gone word) = None
 
--- the bit of an edge that is needed is clear
+-- the bit of an edge that the tile needs is clear in the word
 abbrev pub Lacks : Needs → ℕ → Type 0
-Lacks needs word = ((needs.left ≡ true) × (word % 2 ≡ 0)) ⊎ (((needs.above ≡ true) × (word / 2 % 2 ≡ 0)) ⊎ ((needs.corner ≡ true) × (word / 4 % 2 ≡ 0)))
+Lacks needs word =
+    ((needs.left ≡ true) × (word % 2 ≡ 0)) ⊎ (((needs.above ≡ true) × (word / 2 % 2 ≡ 0)) ⊎ ((needs.corner ≡ true) × (word / 4 % 2 ≡ 0)))

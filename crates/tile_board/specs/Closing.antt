@@ -1,4 +1,4 @@
--- What a board leaves.
+-- What a closed board leaves.
 use Rattle.std.specs.Prelude.{◌≡◌, ℕ, ◌<◌, ◌*◌, ◌-◌, length, slice_index_or, []}
 use mathlib.Core.Option.{some}
 use lib.ListN.{get_elem?}
@@ -19,9 +19,10 @@ pub record AreDotsOf (b : Slab) (p : Place) (d : TileDots) : Type 0 where
   pub place : d.place ≡ p
   pub inks : length d.bits ≡ (amounts_of b).inks
   pub dots : (i : ℕ) → i < (amounts_of b).inks
-      → HasDots (table_of b.kernel) (plane_of (amounts_of b) i) (errors_below b.kernel (amounts_of b) (top_edges b) i) p (slice_index_or d.bits i [])
+      → HasDots (table_of b.kernel) (plane_of (amounts_of b) i) (errors_below b.kernel (amounts_of b) (top_edges b) i) p
+      (slice_index_or d.bits i [])
 
--- The dots of each tile stand at its number, by band and then column, and the bottom edges are those of the last band.
+-- The dots of each tile are at its number, by band and then column, and the bottom edges are those of the last band.
 pub record Closes (b : Slab) (r : Closed) : Type 0 where
   pub count : length r.dots.items ≡ bands_of (shape_of b) * columns_of (shape_of b)
   pub dots : (p : Place) → IsTile (shape_of b) p → (d : TileDots) × (get_elem? r.dots.items (number_in b p) ≡ some d) × AreDotsOf b p d

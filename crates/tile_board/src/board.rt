@@ -14,7 +14,7 @@ use tile_border::{Done, Task};
 use tile_content::done_is_whole;
 use tile_shape::{Dir, Needs, Place};
 
-/// The parts of all passes of a board together.
+// The parts of all passes of a board together.
 const MOST_PARTS: u16 = 256;
 
 impl Pass {
@@ -26,7 +26,7 @@ impl Pass {
         self.held
     }
 
-    /// Its parts of the 256 of a board: 1 to 256.
+    /// How many of the board's 256 parts it has: 1 to 256.
     pub fn parts(&self) -> u16
         ensures { result ≡ (view self.now).parts }
     {
@@ -35,8 +35,9 @@ impl Pass {
 }
 
 impl<'a> Board<'a> {
-    /// Claims a tile for a pass that holds none. `Got` hands the tile out with the edges of row-by-row diffusion, and no
-    /// other pass gets it. `NotReady` and `Gone` carry the tile's word as it was found.
+    /// Claims a tile for a pass that holds none. `Got` hands the tile out with the edges of row-by-row diffusion: the
+    /// pass holds the tile then, and had not posted it. `NotReady` and `Gone` carry the tile's word as it was found.
+    /// That no other pass holds or has posted a tile that one holds is the rule of `board_steps`.
     pub fn claim(&self, p: &mut Pass, t: Place) -> Claim
         requires pass { IsPassOf self.now p.old }
         requires idle { (view p.old).held ≡ None }
@@ -72,7 +73,7 @@ impl<'a> Board<'a> {
     }
 
     /// Takes back what the tile that a pass holds gives: sends its edges to the tiles that receive them, and keeps its
-    /// dots.
+    /// dots. The pass holds no tile then, and has posted this one.
     pub fn post(&self, p: &mut Pass, d: Done)
         requires pass { IsPassOf self.now p.old }
         requires held { holding p.old ≡ Some d.place }
@@ -118,7 +119,7 @@ impl<'a> Board<'a> {
         }
     }
 
-    /// Joins a pass that holds nothing to another, which then has what it posted, and its parts.
+    /// Joins pass `q`, which holds nothing, to pass `p`, which then has its parts and the tiles that it posted.
     pub fn join(&self, p: &mut Pass, q: Pass)
         requires passes { IsPassOf self.now p.old × IsPassOf self.now q }
         requires idle { (view q).held ≡ None }
@@ -136,7 +137,7 @@ impl<'a> Board<'a> {
     }
 }
 
-// Whether a word lacks the bit of an edge that is needed.
+// Whether the bit of an edge that the tile needs is clear in its word.
 fn lacks_edge(needs: Needs, word: u64) -> bool
     ensures { IsTrue result ↔ Lacks needs word }
 {

@@ -1,4 +1,4 @@
-//! What a closed board leaves in its slots, tile by tile.
+//! The slots of a closed board are emptied, tile by tile.
 ghost use Rattle.std.specs.Prelude.{[], length, vec_capacity, ◌*◌, ◌+◌, ◌<◌, ◌^◌, ◌≡◌, ◌≤◌};
 ghost use Rattle.std.specs.Slots.{slots_filled, slots_items, slots_len};
 ghost use Rattle.std.specs.Slots.Ownership.{Filled};
@@ -15,7 +15,7 @@ use tile_shape::{Place, Shape};
 
 type Rest = atomic_table::Closed<Cell, Global>;
 
-/// Empties the slots of all tiles of a window, band by band.
+/// Empties the slots of all tiles of a window, band by band: their dots, and the bottom edges of the last band.
 pub(crate) fn empty_all(rest: Rest, shape: Shape, closed: Closed) -> Closed
     requires shape { IsShape shape }
     requires can { CanEmpty shape rest }
@@ -33,7 +33,7 @@ pub(crate) fn empty_all(rest: Rest, shape: Shape, closed: Closed) -> Closed
     closed
 }
 
-// Empties those of a band.
+// Empties the slots of the tiles of band j.
 fn empty_band(rest: &mut Rest, shape: Shape, j: u32, closed: &mut Closed)
     requires shape { IsShape shape }
     requires band { j < bands_of shape }
@@ -48,7 +48,7 @@ fn empty_band(rest: &mut Rest, shape: Shape, j: u32, closed: &mut Closed)
     }
 }
 
-// Empties those of a tile: keeps its dots, and its bottom edge if it is there.
+// Empties the slots of a tile: keeps its dots, and its bottom edge where that was not sent.
 fn empty_tile(rest: &mut Rest, tile: usize, place: Place, closed: &mut Closed)
     requires few { tile < 2 ^ 32 }
     requires slots { 4 * tile + 4 ≤ slots_len rest.old.slots }

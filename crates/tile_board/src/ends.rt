@@ -23,8 +23,9 @@ use tile_shape::Shape;
 use weave_base::Memory;
 
 impl<'a> Board<'a> {
-    /// A board of rows of amounts, which are diffused below a top of their columns and inks, and its first pass, which has
-    /// 256 parts. It takes all memory that the board ever needs.
+    /// A board of rows of amounts, which are diffused below `top`, and its first pass, which has 256 parts. The top
+    /// has a bottom edge for each column of tiles, in the inks of the rows. `Memory` where there is no room for all
+    /// that the board ever needs.
     pub fn make(
         alloc: Global,
         rows: &'a InkRows,
@@ -74,11 +75,13 @@ impl<'a> Board<'a> {
         Ok((board, pass))
     }
 
-    /// The dots of all tiles and the top of the rows below, by a pass that has posted every tile.
+    /// The dots of all tiles, by band and then column, and the top of the rows below. The pass has posted every tile.
     pub fn close(self, p: Pass) -> Closed
         requires pass { IsPassOf self p }
-        requires all { (t : Place) → IsTile (shape_of (slab self)) t → 1 ≤ times (number_in (slab self) t) (view p).mine }
-        ensures once { (t : Place) → IsTile (shape_of (slab self.entry)) t → times (number_in (slab self.entry) t) (view p).mine ≡ 1 }
+        requires all { (t : Place) → IsTile (shape_of (slab self)) t
+            → 1 ≤ times (number_in (slab self) t) (view p).mine }
+        ensures once { (t : Place) → IsTile (shape_of (slab self.entry)) t
+            → times (number_in (slab self.entry) t) (view p).mine ≡ 1 }
         ensures closes { Closes (slab self.entry) result }
     {
         let shape = self.rows.shape();
@@ -102,7 +105,7 @@ impl<'a> Board<'a> {
     }
 }
 
-// How many tiles a window has.
+// The number of tiles of a window.
 fn count_tiles(shape: Shape) -> usize
     requires { IsShape shape }
     ensures is { result ≡ bands_of shape * columns_of shape }
@@ -111,12 +114,13 @@ fn count_tiles(shape: Shape) -> usize
     shape.bands() as usize * shape.columns() as usize
 }
 
-// The slots of all tiles of a window while they wait.
+// The slots of all tiles of a window, by number, while they wait.
 fn waiting_slots(alloc: Global, shape: Shape, inks: u8) -> Result<Vec<Cell>, Memory>
     requires shape { IsShape shape }
     requires some { 1 ≤ inks }
     requires most { inks ≤ 4 }
-    ensures { IfOk result (λ v. v.items ≡ fresh_slots (fresh_in shape inks) (bands_of shape * columns_of shape)) }
+    ensures { IfOk result (λ v.
+        v.items ≡ fresh_slots (fresh_in shape inks) (bands_of shape * columns_of shape)) }
 {
     let tiles = count_tiles(shape);
     let columns = shape.columns() as usize;
@@ -137,7 +141,7 @@ fn waiting_slots(alloc: Global, shape: Shape, inks: u8) -> Result<Vec<Cell>, Mem
     Ok(slots)
 }
 
-// A waiting tile's slot for its right edge: empty where the edge of the tile at its left will come, and else errors 0.
+// The slot for the right edge of a waiting tile: empty where a tile at its left will send it one, and else errors 0.
 fn right_slot(alloc: Global, comes: bool, inks: u8) -> Result<Cell, Memory>
     requires some { 1 ≤ inks }
     requires most { inks ≤ 4 }
@@ -149,7 +153,7 @@ fn right_slot(alloc: Global, comes: bool, inks: u8) -> Result<Cell, Memory>
     Ok(Cell::Right(RightEdge::zero(alloc, inks)?))
 }
 
-// The same for its bottom edge and that of the tile above and one column to the right.
+// The slot for its bottom edge: empty where the tile above and one column to the right will send it one.
 fn bottom_slot(alloc: Global, right: bool, above: bool, inks: u8) -> Result<Cell, Memory>
     requires some { 1 ≤ inks }
     requires most { inks ≤ 4 }
@@ -161,7 +165,7 @@ fn bottom_slot(alloc: Global, right: bool, above: bool, inks: u8) -> Result<Cell
     Ok(Cell::Bottom(BottomEdge::zero(alloc, inks)?))
 }
 
-// The same for its corner edge and that of the tile above.
+// The slot for its corner edge: empty where the tile above will send it one.
 fn corner_slot(alloc: Global, comes: bool, inks: u8) -> Result<Cell, Memory>
     requires some { 1 ≤ inks }
     requires most { inks ≤ 4 }

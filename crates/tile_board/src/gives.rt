@@ -1,4 +1,4 @@
-//! What a tile gives, into its slots.
+//! What a tile gives goes into its slots.
 ghost use Rattle.atomic_table.specs.Table.{rest};
 ghost use Rattle.board_steps.specs.Rule.{has, setting_of};
 ghost use Rattle.board_steps.specs.Steps.{index_of};
@@ -15,7 +15,8 @@ use board_steps::{Cell, Seated, send};
 use tile_shape::{Dir, Place};
 
 impl<'a> Board<'a> {
-    /// Puts an edge into its slot, which is in front, and sends it where a tile receives it.
+    /// Puts an edge into its slot, the first that the seat has. Where a tile receives the edge it is sent, and else the
+    /// slot is moved after the others.
     pub(crate) fn give(&self, seat: &mut Seated, t: Place, dir: Dir, edge: Cell)
         requires table { seat.old.table_id ≡ self.now.table.shared.table_id }
         requires tile { IsTile (shape_of (slab self.now)) t }
@@ -37,7 +38,7 @@ impl<'a> Board<'a> {
     }
 }
 
-// The slot of a direction.
+// Which of a tile's four slots is for a direction.
 fn way_of(dir: Dir) -> usize
     ensures { result ≡ index_of dir }
 {

@@ -1,4 +1,4 @@
-//! The board, its passes, and what they hand out.
+//! A board, its passes, and what the calls answer.
 ghost use Rattle.std.specs.Prelude.{[], ℕ, length, slice_index_or, vec_capacity, ◌*◌, ◌<◌, ◌≡◌, ◌≤◌};
 ghost use Rattle.std.specs.Option.{ForSome};
 ghost use Rattle.tile_board.specs.Hand.{hand_of, held_number};
@@ -18,16 +18,20 @@ pub struct Board<'a> {
     pub(crate) kernel: Kernel,
     pub(crate) top: TopEdges,
     pub(crate) table: BoardTable,
-    // Empty, with room for those of every tile, so that `close` takes no memory.
+    // Empty, with capacity for every tile, so that `close` takes no memory.
     pub(crate) dots: Vec<TileDots>,
-    ghost made_for: { (amounts_of table.shared.key ≡ rows.now) × (table.shared.key.kernel ≡ kernel) × (top_edges table.shared.key ≡ top) },
-    ghost sized: { table.shared.table_id.words ≡ bands_of (shape_of table.shared.key) * columns_of (shape_of table.shared.key) },
+    ghost made_for: { (amounts_of table.shared.key ≡ rows.now) × (table.shared.key.kernel ≡ kernel)
+        × (top_edges table.shared.key ≡ top) },
+    ghost sized: { table.shared.table_id.words
+        ≡ bands_of (shape_of table.shared.key) * columns_of (shape_of table.shared.key) },
     ghost some: { 0 < table.shared.table_id.words },
-    ghost topped: { (length top ≡ columns_of (shape_of table.shared.key)) × ((c : ℕ) → c < columns_of (shape_of table.shared.key) → length (slice_index_or top c []) ≡ rows.now.inks) },
+    ghost topped: { (length top ≡ columns_of (shape_of table.shared.key))
+        × ((c : ℕ) → c < columns_of (shape_of table.shared.key)
+        → length (slice_index_or top c []) ≡ rows.now.inks) },
     ghost room: { (dots.items ≡ []) × (table.shared.table_id.words ≤ vec_capacity dots) },
 }
 
-/// One caller's seat at a board.
+/// A pass of the board: one caller's place at it.
 #[derive(Drop)]
 pub struct Pass {
     pub(crate) seat: Seated,
@@ -35,30 +39,31 @@ pub struct Pass {
     pub(crate) parts: u16,
     ghost counted: { (parts ≡ seat.me.0.parts) × (1 ≤ parts) × (parts ≤ 256) },
     ghost shown: { held_number seat.me.0.board held ≡ seat.me.0.held },
-    ghost inside: { ForSome held (λ p. (p.c < columns_of (shape_of seat.me.0.board)) × (p.j < bands_of (shape_of seat.me.0.board))) },
+    ghost inside: { ForSome held (λ p.
+        (p.c < columns_of (shape_of seat.me.0.board)) × (p.j < bands_of (shape_of seat.me.0.board))) },
     ghost hand: { seat.me.1 ≡ hand_of seat.me.0 },
     ghost unsent: { seat.me.0.sent ≡ [] },
 }
 
-/// What a claim of a tile answers.
+/// The answer to a claim of a tile.
 #[derive(Drop)]
 pub enum Claim {
     /// The tile is the caller's to work and to post.
     Got(Task),
-    /// An edge has not come to the tile yet.
+    /// An edge that the tile needs had not come.
     NotReady {
-        /// The tile's word: bits 1, 2 and 4 where its edges have come from the left, from above and at the corner, 8 where
-        /// it is taken, and 16 where it is posted.
+        /// The tile's word: bits 1, 2 and 4 say that its edges have come from the left, from above and at the corner, 8
+        /// that it is taken, and 16 that it is posted.
         word: u64,
     },
     /// The tile was taken before.
     Gone {
-        /// The tile's word.
+        /// The tile's word, as in `NotReady`.
         word: u64,
     },
 }
 
-/// What a board leaves.
+/// What a closed board leaves.
 #[derive(Drop)]
 pub struct Closed {
     /// The dots of the tiles, by band and then column.

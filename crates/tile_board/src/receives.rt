@@ -1,4 +1,4 @@
-//! What a tile is handed, out of the slots that came into hand with it.
+//! The edges that a tile is handed are taken out of the slots that the seat got with it.
 ghost use Rattle.board_steps.specs.Rule.{setting_of};
 ghost use Rattle.board_steps.specs.Steps.{emptied_hand, in_hand};
 ghost use Rattle.std.specs.Prelude.{length, ◌<◌, ◌^◌, ◌≡◌};
@@ -31,7 +31,7 @@ impl<'a> Board<'a> {
         t.j as usize * self.rows.shape().columns() as usize + t.c as usize
     }
 
-    /// Takes out what a tile is handed, and leaves its slots empty.
+    /// Takes out the edges that a tile is handed, and leaves all slots that the seat has empty.
     pub(crate) fn receive(&self, seat: &mut Seated, t: Place) -> Task
         requires table { seat.old.table_id ≡ self.now.table.shared.table_id }
         requires tile { IsTile (shape_of (slab self.now)) t }
@@ -62,14 +62,15 @@ impl<'a> Board<'a> {
         }
     }
 
-    // The right edge of the tile at the left, or errors 0 in the first column.
+    // The right edge of the tile at the left. In the first column the blank, whose errors are 0.
     fn receive_left(&self, seat: &mut Seated, t: Place, blank: Cell) -> RightEdge
         requires table { seat.old.table_id ≡ self.now.table.shared.table_id }
         requires tile { IsTile (shape_of (slab self.now)) t }
         requires blank { blank ≡ (setting_of (slab self.now)).fresh (number_in (slab self.now) t) 0 }
         requires next { IsNext (slab self.now) 0 (number_in (slab self.now) t) seat.old.me.1 }
         ensures seat { (seat.new.table_id ≡ seat.old.table_id) × (seat.new.id ≡ seat.old.id) }
-        ensures edge { IsHandedTo (slab self.now).kernel (amounts_of (slab self.now)) (top_edges (slab self.now)) Right t result }
+        ensures edge { IsHandedTo (slab self.now).kernel (amounts_of (slab self.now)) (top_edges (slab self.now))
+            Right t result }
         ensures takes { TakesIn (slab self.now) 0 (number_in (slab self.now) t) seat.old.me seat.new.me }
     {
         if t.c == 0 {
@@ -80,14 +81,16 @@ impl<'a> Board<'a> {
         right_of(take_out(&self.table.shared, seat, slot))
     }
 
-    // The bottom edge of the tile above and one column to the right, or the top's. Right of the last column errors are 0.
+    // The bottom edge of the tile above and one column to the right. In the first band that of the top, copied into the
+    // blank; in the last column the blank, whose errors are 0.
     fn receive_above(&self, seat: &mut Seated, t: Place, blank: Cell) -> BottomEdge
         requires table { seat.old.table_id ≡ self.now.table.shared.table_id }
         requires tile { IsTile (shape_of (slab self.now)) t }
         requires blank { blank ≡ (setting_of (slab self.now)).fresh (number_in (slab self.now) t) 1 }
         requires next { IsNext (slab self.now) 1 (number_in (slab self.now) t) seat.old.me.1 }
         ensures seat { (seat.new.table_id ≡ seat.old.table_id) × (seat.new.id ≡ seat.old.id) }
-        ensures edge { IsHandedTo (slab self.now).kernel (amounts_of (slab self.now)) (top_edges (slab self.now)) Bottom t result }
+        ensures edge { IsHandedTo (slab self.now).kernel (amounts_of (slab self.now)) (top_edges (slab self.now))
+            Bottom t result }
         ensures takes { TakesIn (slab self.now) 1 (number_in (slab self.now) t) seat.old.me seat.new.me }
     {
         let columns = self.rows.shape().columns();
@@ -107,14 +110,15 @@ impl<'a> Board<'a> {
         bottom_of(take_out(&self.table.shared, seat, slot))
     }
 
-    // The corner edge of the tile above, or the end of the top's.
+    // The corner edge of the tile above. In the first band the ends of the top's edge of the same column.
     fn receive_corner(&self, seat: &mut Seated, t: Place, blank: Cell) -> CornerEdge
         requires table { seat.old.table_id ≡ self.now.table.shared.table_id }
         requires tile { IsTile (shape_of (slab self.now)) t }
         requires blank { blank ≡ (setting_of (slab self.now)).fresh (number_in (slab self.now) t) 2 }
         requires next { IsNext (slab self.now) 2 (number_in (slab self.now) t) seat.old.me.1 }
         ensures seat { (seat.new.table_id ≡ seat.old.table_id) × (seat.new.id ≡ seat.old.id) }
-        ensures edge { IsHandedTo (slab self.now).kernel (amounts_of (slab self.now)) (top_edges (slab self.now)) Corner t result }
+        ensures edge { IsHandedTo (slab self.now).kernel (amounts_of (slab self.now)) (top_edges (slab self.now))
+            Corner t result }
         ensures takes { TakesIn (slab self.now) 2 (number_in (slab self.now) t) seat.old.me seat.new.me }
     {
         if t.j == 0 {
@@ -128,7 +132,7 @@ impl<'a> Board<'a> {
     }
 }
 
-// Copies the errors of an edge of as many inks.
+// Copies the errors of an edge with the same number of inks.
 fn copy_edge(from: &BottomEdge, to: &mut BottomEdge)
     requires { length to.old ≡ length from.now }
     ensures { to.new ≡ from.now }
@@ -138,7 +142,7 @@ fn copy_edge(from: &BottomEdge, to: &mut BottomEdge)
     }
 }
 
-// Sets a corner edge to the ends of a bottom edge of as many inks.
+// Sets a corner edge to the ends of a bottom edge with the same number of inks.
 fn cut_ends(edge: &BottomEdge, corner: &mut CornerEdge)
     requires { length corner.old ≡ length edge.now }
     ensures { CutsEnds edge.now corner.old corner.new }

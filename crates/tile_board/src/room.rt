@@ -1,4 +1,4 @@
-//! The slots of a tile as they are emptied: each has a blank, or an edge that a tile sent.
+//! A tile's slots, and how they are emptied: each has a blank, or an edge that a tile sent.
 ghost use Rattle.board_steps.specs.Steps.{in_hand};
 ghost use Rattle.board_steps.specs.declared.rule.Cell.TheVariants.{Bottom, Corner, Dots, Right};
 ghost use Rattle.std.specs.Prelude.{◌*◌, ◌+◌, ◌<◌, ◌^◌, ◌≡◌};
@@ -9,16 +9,19 @@ use board_steps::{Cell, Seated, Words};
 use dot_planes::TileBits;
 use tile_border::{BottomEdge, CornerEdge, RightEdge};
 
-/// What a tile gives in its directions stands in its slots, and its dots in a fourth.
+/// Which of a tile's four slots is for its right edge.
 pub(crate) const RIGHT: usize = 0;
 
+/// For its bottom edge.
 pub(crate) const BOTTOM: usize = 1;
 
+/// For its corner edge.
 pub(crate) const CORNER: usize = 2;
 
+/// For its dots.
 pub(crate) const DOTS: usize = 3;
 
-/// The slot of a tile in a direction.
+/// The slot of a tile for one of these.
 pub(crate) fn slot_of(tile: usize, way: usize) -> usize
     requires tile { tile < 2 ^ 32 }
     requires way { way < 4 }
@@ -27,7 +30,7 @@ pub(crate) fn slot_of(tile: usize, way: usize) -> usize
     4 * tile + way
 }
 
-/// Empties the slot in front and turns to the next.
+/// Empties the first slot that the seat has, and moves it after the others.
 pub(crate) fn take_out(words: &Words, seat: &mut Seated, slot: usize) -> Cell
     requires table { seat.old.table_id ≡ words.now.table_id }
     requires front { IsFront slot seat.old.me.1 }
@@ -39,7 +42,7 @@ pub(crate) fn take_out(words: &Words, seat: &mut Seated, slot: usize) -> Cell
     cell
 }
 
-/// The right edge that a slot had.
+/// The right edge of a slot's value.
 pub(crate) fn right_of(cell: Cell) -> RightEdge
     requires { IsOfKind Right cell }
     ensures { cell ≡ Right result }
@@ -50,7 +53,7 @@ pub(crate) fn right_of(cell: Cell) -> RightEdge
     }
 }
 
-/// The bottom edge that a slot had.
+/// The bottom edge of a slot's value.
 pub(crate) fn bottom_of(cell: Cell) -> BottomEdge
     requires { IsOfKind Bottom cell }
     ensures { cell ≡ Bottom result }
@@ -61,7 +64,7 @@ pub(crate) fn bottom_of(cell: Cell) -> BottomEdge
     }
 }
 
-/// The corner edge that a slot had.
+/// The corner edge of a slot's value.
 pub(crate) fn corner_of(cell: Cell) -> CornerEdge
     requires { IsOfKind Corner cell }
     ensures { cell ≡ Corner result }
@@ -72,7 +75,7 @@ pub(crate) fn corner_of(cell: Cell) -> CornerEdge
     }
 }
 
-// The dots that a slot had.
+// The dots of a slot's value.
 fn dots_of(cell: Cell) -> TileBits
     requires { IsOfKind Dots cell }
     ensures { cell ≡ Dots result }
@@ -83,7 +86,8 @@ fn dots_of(cell: Cell) -> TileBits
     }
 }
 
-/// What the slots of a tile held before it was taken: blank edges where no tile sends it one, and no dots.
+/// The values of a tile's own slots while it waited: for each edge that no tile sends it a blank, else `Cell::Empty`,
+/// and dots with none set.
 #[derive(Drop)]
 pub(crate) struct Blanks {
     pub(crate) right: Cell,
@@ -92,7 +96,7 @@ pub(crate) struct Blanks {
     pub(crate) dots: TileBits,
 }
 
-/// Takes the blanks of a tile out of its own slots.
+/// Takes these values out of a tile's own slots.
 pub(crate) fn take_blanks(words: &Words, seat: &mut Seated, tile: usize) -> Blanks
     requires table { seat.old.table_id ≡ words.now.table_id }
     requires tile { tile < 2 ^ 32 }

@@ -1,4 +1,4 @@
-//! Boards against the rule over a whole window, and what a few claims answer.
+//! Boards compared with the rule over a whole window, and the answers to a few claims.
 ghost use Rattle.std.specs.Prelude.{IfSome, IsTrue, None, length, ℕ, ◌≡◌, ◌≤◌};
 ghost use Rattle.tile_board.specs.Board.{IsPassOf, slab, view};
 ghost use Rattle.tile_board.specs.Slabs.{IsTopOf, amounts_of, number_in, shape_of};
@@ -16,7 +16,7 @@ use std::alloc::Global;
 use tile_border::{Task, TopEdges};
 use tile_shape::{Place, Shape};
 
-// Rows of a window from row `first` on, whose amounts jump about.
+// `height` rows of a window from row `first` on, whose amounts vary from pixel to pixel.
 fn amounts(alloc: Global, width: u32, first: u32, height: u32, inks: u8) -> Option<InkRows>
     ensures width { IfSome result (λ rows. rows.width ≡ width) }
     ensures inks { IfSome result (λ rows. rows.inks ≡ inks) }
@@ -46,7 +46,7 @@ fn set_row(rows: &mut InkRows, i: u8, first: u32, y: u32)
     }
 }
 
-// No errors above rows.
+// A top of errors 0.
 fn no_errors(alloc: Global, rows: &InkRows, inks: u8) -> Option<TopEdges>
     requires { inks ≡ rows.now.inks }
     ensures { IfSome result (IsTopOf rows.now) }
@@ -60,7 +60,7 @@ fn no_errors(alloc: Global, rows: &InkRows, inks: u8) -> Option<TopEdges>
     }
 }
 
-// Claims a tile for a pass that holds none, and works and posts it if it comes.
+// Claims a tile for a pass that holds none, and works and posts it if it is handed out.
 fn try_tile(board: &Board<'_>, shape: Shape, p: &mut Pass, n: u32)
     requires shape { shape ≡ shape_of (slab board.now) }
     requires sizes { IsShape shape }
@@ -82,7 +82,7 @@ fn try_tile(board: &Board<'_>, shape: Shape, p: &mut Pass, n: u32)
     }
 }
 
-// Tries so many tiles, in an order that jumps about.
+// Tries this many tiles, in a scattered order.
 fn try_tiles(board: &Board<'_>, shape: Shape, p: &mut Pass, seed: u32, tries: u32)
     requires shape { shape ≡ shape_of (slab board.now) }
     requires sizes { IsShape shape }
@@ -97,7 +97,7 @@ fn try_tiles(board: &Board<'_>, shape: Shape, p: &mut Pass, seed: u32, tries: u3
     }
 }
 
-// Cuts so many passes off the first, has all of them try tiles in turn, and joins them, the last first.
+// Cuts this many passes off the first, has all of them try tiles in turn, and joins them, the last one first.
 fn try_with(board: &Board<'_>, shape: Shape, p: &mut Pass, passes: u8)
     requires shape { shape ≡ shape_of (slab board.now) }
     requires sizes { IsShape shape }
@@ -119,7 +119,7 @@ fn try_with(board: &Board<'_>, shape: Shape, p: &mut Pass, passes: u8)
     }
 }
 
-// Claims a tile, and works and posts it if it comes. Whether a pass that is alone has posted it then.
+// Claims a tile, and works and posts it if it is handed out. Whether a pass that is alone has posted it then.
 fn has_posted(board: &Board<'_>, p: &mut Pass, t: Place) -> bool
     requires tile { IsTile (shape_of (slab board.now)) t }
     requires pass { IsPassOf board.now p.old }
@@ -128,7 +128,8 @@ fn has_posted(board: &Board<'_>, p: &mut Pass, t: Place) -> bool
     ensures idle { (view p.new).held ≡ None }
     ensures parts { (view p.new).parts ≡ (view p.old).parts }
     ensures more { (n : ℕ) → times n (view p.old).mine ≤ times n (view p.new).mine }
-    ensures posted { IsTrue result → (view p.old).parts ≡ 256 → 1 ≤ times (number_in (slab board.now) t) (view p.new).mine }
+    ensures posted { IsTrue result → (view p.old).parts ≡ 256
+        → 1 ≤ times (number_in (slab board.now) t) (view p.new).mine }
 {
     match board.claim(p, t) {
         Claim::Got(task) => {
@@ -141,13 +142,14 @@ fn has_posted(board: &Board<'_>, p: &mut Pass, t: Place) -> bool
     }
 }
 
-// Works the tiles that are left, in order, with a pass that is alone. Whether it has posted all tiles then.
+// Works the tiles that are left, by number, with a pass that is alone. Whether it has posted all tiles then.
 fn finish(board: &Board<'_>, shape: Shape, p: &mut Pass) -> bool
     requires shape { shape ≡ shape_of (slab board.now) }
     requires sizes { IsShape shape }
     requires pass { IsPassOf board.now p.old }
     ensures pass { IsPassOf board.now p.new }
-    ensures all { IsTrue result → (t : Place) → IsTile (shape_of (slab board.now)) t → 1 ≤ times (number_in (slab board.now) t) (view p.new).mine }
+    ensures all { IsTrue result → (t : Place) → IsTile (shape_of (slab board.now)) t
+        → 1 ≤ times (number_in (slab board.now) t) (view p.new).mine }
 {
     if p.holds().is_some() || p.parts() != 256 {
         return false;
@@ -165,7 +167,7 @@ fn finish(board: &Board<'_>, shape: Shape, p: &mut Pass) -> bool
     true
 }
 
-// Diffuses rows below a top on a board, by the first pass and so many others.
+// Diffuses rows below a top on a board, by the first pass and this many others.
 fn diffuse(
     alloc: Global,
     kernel: Kernel,
@@ -210,7 +212,7 @@ fn dot(closed: &Closed, shape: Shape, i: u8, x: u32, y: u32) -> Option<bool>
     Some(*byte >> (7 - at % 8) & 1 == 1)
 }
 
-// How many dots of an ink are not what they should be, in rows that begin at row `first` of a window.
+// How many dots of an ink are wrong, in rows that begin at row `first` of a window.
 fn wrong_dots(closed: &Closed, shape: Shape, known: &Definition, i: u8, first: u32) -> u32
     requires { IsShape shape }
 {
@@ -226,7 +228,7 @@ fn wrong_dots(closed: &Closed, shape: Shape, known: &Definition, i: u8, first: u
     wrong
 }
 
-// How many dots of a window are wrong, whose first 32 rows are a board and the rest another below it.
+// How many dots are wrong in a window whose first 32 rows are one board and the rest another below it.
 fn wrong_in_slabs(
     alloc: Global,
     kernel: Kernel,

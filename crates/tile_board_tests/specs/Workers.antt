@@ -1,4 +1,4 @@
--- Passes that threads work with.
+-- The passes that threads work with.
 use Rattle.std.specs.Prelude.{◌≡◌, ℕ, ◌<◌, None, List, length, slice_index_or}
 use Rattle.tile_board.specs.Board.{IsPassOf, view}
 use Rattle.tile_board.specs.declared.kinds.Board.{Board}
@@ -8,5 +8,6 @@ use Rattle.tile_board.specs.declared.kinds.Pass.{Pass}
 abbrev pub IsIdle : Board → Pass → Type 0
 IsIdle b p = IsPassOf b p × ((view p).held ≡ None)
 
+-- each pass of a list is one
 abbrev pub AllIdle : Board → List Pass → Type 0
 AllIdle b ps = (k : ℕ) (d : Pass) → k < length ps → IsIdle b (slice_index_or ps k d)

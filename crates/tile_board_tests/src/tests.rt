@@ -35,7 +35,7 @@ fn wedge(alloc: Global) -> Option<InkRows>
     Some(rows)
 }
 
-// Claims a tile, and works and posts it if it comes. Whether a pass that is alone has posted it then.
+// Claims a tile, and works and posts it if it is handed out. Whether a pass that is alone has posted it then.
 fn has_posted(board: &Board<'_>, p: &mut Pass, t: Place) -> bool
     requires tile { IsTile (shape_of (slab board.now)) t }
     requires pass { IsPassOf board.now p.old }
@@ -44,7 +44,8 @@ fn has_posted(board: &Board<'_>, p: &mut Pass, t: Place) -> bool
     ensures idle { (view p.new).held ≡ None }
     ensures parts { (view p.new).parts ≡ (view p.old).parts }
     ensures more { (n : ℕ) → times n (view p.old).mine ≤ times n (view p.new).mine }
-    ensures posted { IsTrue result → (view p.old).parts ≡ 256 → 1 ≤ times (number_in (slab board.now) t) (view p.new).mine }
+    ensures posted { IsTrue result → (view p.old).parts ≡ 256
+        → 1 ≤ times (number_in (slab board.now) t) (view p.new).mine }
 {
     match board.claim(p, t) {
         Claim::Got(task) => {
@@ -57,7 +58,7 @@ fn has_posted(board: &Board<'_>, p: &mut Pass, t: Place) -> bool
     }
 }
 
-// Tries each tile some times.
+// Tries all tiles in turn, again and again.
 fn work(board: &Board<'_>, shape: Shape, p: &mut Pass)
     requires shape { shape ≡ shape_of (slab board.now) }
     requires sizes { IsShape shape }
@@ -74,13 +75,14 @@ fn work(board: &Board<'_>, shape: Shape, p: &mut Pass)
     }
 }
 
-// Works the tiles that are left, in order, with a pass that is alone. Whether it has posted all tiles then.
+// Works the tiles that are left, by number, with a pass that is alone. Whether it has posted all tiles then.
 fn finish(board: &Board<'_>, shape: Shape, p: &mut Pass) -> bool
     requires shape { shape ≡ shape_of (slab board.now) }
     requires sizes { IsShape shape }
     requires pass { IsIdle board.now p.old }
     ensures pass { IsIdle board.now p.new }
-    ensures all { IsTrue result → (t : Place) → IsTile (shape_of (slab board.now)) t → 1 ≤ times (number_in (slab board.now) t) (view p.new).mine }
+    ensures all { IsTrue result → (t : Place) → IsTile (shape_of (slab board.now)) t
+        → 1 ≤ times (number_in (slab board.now) t) (view p.new).mine }
 {
     if p.parts() != 256 {
         return false;
@@ -98,7 +100,7 @@ fn finish(board: &Board<'_>, shape: Shape, p: &mut Pass) -> bool
     true
 }
 
-// Two passes off the first.
+// Cuts two passes off the first.
 fn two_passes(alloc: Global, board: &Board<'_>, p: &mut Pass) -> Option<Vec<Pass>>
     requires pass { IsIdle board.now p.old }
     requires first { (view p.old).number ≡ 0 }
@@ -114,6 +116,7 @@ fn two_passes(alloc: Global, board: &Board<'_>, p: &mut Pass) -> Option<Vec<Pass
     Some(passes)
 }
 
+// Works the board with all passes, each in a thread of its own where one can be started.
 fn work_together<R: Threads + Sync>(rt: &R, board: &Board<'_>, shape: Shape, passes: &mut [Pass])
     requires shape { shape ≡ shape_of (slab board.now) }
     requires sizes { IsShape shape }
@@ -135,7 +138,7 @@ fn work_together<R: Threads + Sync>(rt: &R, board: &Board<'_>, shape: Shape, pas
     );
 }
 
-// Joins passes to the first.
+// Joins the passes to the first.
 fn join_all(board: &Board<'_>, p: &mut Pass, mut passes: Vec<Pass>)
     requires pass { IsIdle board.now p.old }
     requires passes { AllIdle board.now passes.items }
@@ -146,7 +149,7 @@ fn join_all(board: &Board<'_>, p: &mut Pass, mut passes: Vec<Pass>)
     }
 }
 
-// Diffuses rows below no errors, with two threads or without.
+// Diffuses rows below a top of errors 0, with two threads or by the first pass alone.
 fn diffuse<R: Threads + Sync>(
     rt: &R,
     alloc: Global,

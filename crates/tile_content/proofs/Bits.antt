@@ -1,5 +1,6 @@
 -- The bytes of a tile's dots.
-use Rattle.std.proofs.Common.{◌≡◌, ℕ, ◌+◌, ◌-◌, ◌*◌, ◌/◌, ◌%◌, ◌<◌, ◌≤◌, Bool, false, ◌&&◌, List, get_or, length, map, sym, ◌∙◌, ap, ap₂, arith, inl, inr}
+use Rattle.std.proofs.Common.{◌≡◌, ℕ, ◌+◌, ◌-◌, ◌*◌, ◌/◌, ◌%◌, ◌<◌, ◌≤◌, Bool, false, ◌&&◌, List, get_or, length, map, sym, ◌∙◌, ap, ap₂}
+use Rattle.std.proofs.Common.{arith, inl, inr}
 use Rattle.std.proofs.lemmas.Bool.{cases_lt, le-leb, lt-leb}
 use Rattle.std.proofs.lemmas.List.{ext_get_or, get_or_past}
 use Rattle.diffusion_definitions.specs.Diffusion.{Errors, Plane, Table, on}
@@ -13,7 +14,7 @@ use Rattle.tile_shape.specs.declared.tiles.Place.{Place}
 use Rattle.tile_lanes.specs.Done.{HasDots}
 use Rattle.tile_content.specs.Content.{dots_of, is_on}
 
--- ---- packed tests of numbers
+-- ---- a test of the numbers below 2048, packed eight a byte
 
 pub tests-len : (f : ℕ → Bool) → length (packed (map f (count_from 0 2048))) ≡ 256
 tests-len f =
@@ -27,7 +28,8 @@ tests-at f n inside =
     dot_of_packed (map f (count_from 0 2048)) (packed (map f (count_from 0 2048))) n (λ i. packed (map f (count_from 0 2048)))
     ∙ counted-at f 0 2048 n inside ∙ ap f first
 
-pub tests-are : (f : ℕ → Bool) (bytes : List ℕ) → length bytes ≡ 256 → ((n : ℕ) → get_or bytes n 0 < 256) → ((n : ℕ) → n < 2048 → row_dot bytes n ≡ f n)
+pub tests-are : (f : ℕ → Bool) (bytes : List ℕ) → length bytes ≡ 256 → ((n : ℕ) → get_or bytes n 0 < 256)
+    → ((n : ℕ) → n < 2048 → row_dot bytes n ≡ f n)
     → bytes ≡ packed (map f (count_from 0 2048))
 tests-are f bytes len small same =
     let past : (n : ℕ) → 2048 ≤ n → row_dot bytes n ≡ false = λ n high.
@@ -44,7 +46,8 @@ tests-are f bytes len small same =
 
 -- ---- a tile's dots
 
-on_there : (k : Table) (plane : Plane) (e : Errors) (p : Place) (row offset x y : ℕ) → IsAt p row offset x y → is_on k plane e p row offset ≡ on k plane e y x
+on_there : (k : Table) (plane : Plane) (e : Errors) (p : Place) (row offset x y : ℕ) → IsAt p row offset x y
+    → is_on k plane e p row offset ≡ on k plane e y x
 on_there k plane e p row offset x y here =
     let down : 32 * p.j + row ≡ y = sym here.down in
     let from : 2 * row ≤ 64 * p.c + offset = omega (arith, here.across) in
@@ -52,7 +55,8 @@ on_there k plane e p row offset x y here =
     ap (λ b. b && on k plane e (32 * p.j + row) (64 * p.c + offset - 2 * row)) (le-leb (2 * row) (64 * p.c + offset) from)
     ∙ ap₂ (λ m n. on k plane e m n) down across
 
-off_left : (k : Table) (plane : Plane) (e : Errors) (p : Place) (row offset : ℕ) → 64 * p.c + offset < 2 * row → is_on k plane e p row offset ≡ false
+off_left : (k : Table) (plane : Plane) (e : Errors) (p : Place) (row offset : ℕ) → 64 * p.c + offset < 2 * row
+    → is_on k plane e p row offset ≡ false
 off_left k plane e p row offset left =
     ap (λ b. b && on k plane e (32 * p.j + row) (64 * p.c + offset - 2 * row)) (lt-leb (2 * row) (64 * p.c + offset) left)
 
@@ -60,7 +64,8 @@ pub dots-len : (k : Table) (plane : Plane) (e : Errors) (p : Place) → length (
 unfolding dots_of
 dots-len k plane e p = tests-len (λ n. is_on k plane e p (n / 64) (n % 64))
 
-dot-at : (k : Table) (plane : Plane) (e : Errors) (p : Place) (row offset : ℕ) → row < 32 → offset < 64 → row_dot (dots_of k plane e p) (64 * row + offset) ≡ is_on k plane e p row offset
+dot-at : (k : Table) (plane : Plane) (e : Errors) (p : Place) (row offset : ℕ) → row < 32 → offset < 64
+    → row_dot (dots_of k plane e p) (64 * row + offset) ≡ is_on k plane e p row offset
 unfolding dots_of
 dot-at k plane e p row offset low inside =
     let r : (64 * row + offset) / 64 ≡ row = omega arith in
@@ -73,17 +78,20 @@ dots-are k plane e p = record {
   left = λ row offset low inside before. dot-at k plane e p row offset low inside ∙ off_left k plane e p row offset before;
 }
 
-tile_dot_is : (k : Table) (plane : Plane) (e : Errors) (p : Place) (bytes : List ℕ) (row offset : ℕ) → HasDots k plane e p bytes → row < 32 → offset < 64
+tile_dot_is : (k : Table) (plane : Plane) (e : Errors) (p : Place) (bytes : List ℕ) (row offset : ℕ) → HasDots k plane e p bytes
+    → row < 32 → offset < 64
     → row_dot bytes (64 * row + offset) ≡ is_on k plane e p row offset
 tile_dot_is k plane e p bytes row offset has low inside = elim (cases_lt (64 * p.c + offset) (2 * row)) [
   | inl before ↦ has.left row offset low inside before ∙ sym (off_left k plane e p row offset before)
   | inr not_before ↦
       let x : ℕ = 64 * p.c + offset - 2 * row in
-      let here : IsAt p row offset x (32 * p.j + row) = record { in_band = low; in_tile = inside; down = λ i. 32 * p.j + row; across = omega arith } in
+      let here : IsAt p row offset x (32 * p.j + row) =
+      record { in_band = low; in_tile = inside; down = λ i. 32 * p.j + row; across = omega arith } in
       has.pixel row offset x (32 * p.j + row) here ∙ sym (on_there k plane e p row offset x (32 * p.j + row) here)
 ]
 
-pub dots-is : (k : Table) (plane : Plane) (e : Errors) (p : Place) (bytes : List ℕ) → length bytes ≡ 256 → ((n : ℕ) → get_or bytes n 0 < 256) → HasDots k plane e p bytes → bytes ≡ dots_of k plane e p
+pub dots-is : (k : Table) (plane : Plane) (e : Errors) (p : Place) (bytes : List ℕ) → length bytes ≡ 256
+    → ((n : ℕ) → get_or bytes n 0 < 256) → HasDots k plane e p bytes → bytes ≡ dots_of k plane e p
 unfolding dots_of
 dots-is k plane e p bytes len small has = tests-are (λ n. is_on k plane e p (n / 64) (n % 64)) bytes len small (λ n low.
     let parts : n ≡ 64 * (n / 64) + n % 64 = omega arith in

@@ -1,4 +1,4 @@
--- Blocks of errors.
+-- `block` has the errors that `Holds` asks for, and is the only such list of its length.
 use Rattle.std.proofs.Common.{◌≡◌, ℕ, ℤ, pos, ◌+◌, ◌*◌, ◌/◌, ◌%◌, ◌<◌, List, get_or, length, sym, ◌∙◌, ap, ap₂, arith, mod-lt}
 use Rattle.std.proofs.Math.Nat.{div-add-mod, div-lt_iff_lt-mul, mul_comm}
 use Rattle.std.proofs.lemmas.Nat.{div-mul-add, mod-mul-add, mul-add-lt}
@@ -7,7 +7,7 @@ use Rattle.tile_edges.specs.Edges.{Holds, skewed}
 use Rattle.tile_content.specs.Content.{block}
 use Rattle.tile_content.proofs.Lists.{list-at, list-is}
 
--- place i of row t stands at wide * t + i
+-- error i of row t has index wide * t + i
 place : (wide t i : ℕ) → wide * t + i ≡ t * wide + i
 place wide t i = ap (λ n. n + i) (mul_comm wide t)
 
@@ -40,7 +40,8 @@ block-holds e j p u rows wide = record {
       ∙ ap₂ (λ m n. skewed e j (p + m) (u + n)) (place-row wide t i inside) (place-in wide t i inside);
 }
 
-pub block-is : (e : Errors) (j p u rows wide : ℕ) (xs : List ℤ) → 0 < wide → length xs ≡ rows * wide → Holds e j p u rows wide xs → xs ≡ block e j p u rows wide
+pub block-is : (e : Errors) (j p u rows wide : ℕ) (xs : List ℤ) → 0 < wide → length xs ≡ rows * wide → Holds e j p u rows wide xs
+    → xs ≡ block e j p u rows wide
 unfolding block
 block-is e j p u rows wide xs some len holds =
     list-is (pos 0) xs (λ n. skewed e j (p + n / wide) (u + n % wide)) (rows * wide) len (λ n inside.

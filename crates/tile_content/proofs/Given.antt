@@ -1,5 +1,6 @@
--- What a tile gives, and what it is handed.
-use Rattle.std.proofs.Common.{◌≡◌, ℕ, ℤ, zero, suc, pos, ◌+◌, ◌*◌, ◌<◌, List, [], get_or, length, map, replicate, sym, ◌∙◌, ap, subst, refl, lit<, arith}
+-- What a tile gives and is handed is right.
+use Rattle.std.proofs.Common.{◌≡◌, ℕ, ℤ, zero, suc, pos, ◌+◌, ◌*◌, ◌<◌, List, [], get_or, length, map, replicate, sym, ◌∙◌, ap, subst, refl}
+use Rattle.std.proofs.Common.{lit<, arith}
 use Rattle.std.proofs.lemmas.List.{get_or-map, get_or-replicate, length-map}
 use Rattle.diffusion_definitions.specs.Diffusion.{Errors}
 use Rattle.diffusion_laws.proofs.Solve.{errors_solve, errors_top}
@@ -39,8 +40,9 @@ given-inks k rows top p = record {
   bits = list-len (λ i. dots_of (table_of k) (plane_of rows i) (errors_below k rows top i) p) rows.inks;
 }
 
--- one of a list of blocks
-listed : (e : ℕ → Errors) (j p u rows wide inks i : ℕ) → i < inks → Holds (e i) j p u rows wide (get_or (list_of (λ n. block (e n) j p u rows wide) inks) i [])
+-- an ink of a list of blocks
+listed : (e : ℕ → Errors) (j p u rows wide inks i : ℕ) → i < inks
+    → Holds (e i) j p u rows wide (get_or (list_of (λ n. block (e n) j p u rows wide) inks) i [])
 listed e j p u rows wide inks i low =
     let Q : List ℤ → Type 0 = λ xs. Holds (e i) j p u rows wide xs in
     subst Q (sym (list-at (λ n. block (e n) j p u rows wide) inks i [] low)) (block-holds (e i) j p u rows wide)
@@ -54,21 +56,26 @@ given-done k rows top p i low =
       has_right = listed e p.j 2 (64 * p.c + 64) 32 6 rows.inks i low;
       has_bottom = listed e p.j 32 (64 * p.c + 6) 2 64 rows.inks i low;
       has_corner = listed e p.j 32 (64 * p.c + 64) 2 6 rows.inks i low;
-      has_dots = subst D (sym (list-at (λ n. dots_of (table_of k) (plane_of rows n) (e n) p) rows.inks i [] low)) (dots-are (table_of k) (plane_of rows i) (e i) p);
+      has_dots =
+          subst D (sym (list-at (λ n. dots_of (table_of k) (plane_of rows n) (e n) p) rows.inks i [] low))
+          (dots-are (table_of k) (plane_of rows i) (e i) p);
     }
 
--- ---- nothing else is
+-- ---- what is right is what is given
 
 blocks-is : (e : ℕ → Errors) (j p u rows wide inks : ℕ) (xs : List (List ℤ)) → 0 < wide → length xs ≡ inks
-    → ((i : ℕ) → i < length xs → length (get_or xs i []) ≡ rows * wide) → ((i : ℕ) → i < inks → Holds (e i) j p u rows wide (get_or xs i []))
+    → ((i : ℕ) → i < length xs → length (get_or xs i []) ≡ rows * wide)
+    → ((i : ℕ) → i < inks → Holds (e i) j p u rows wide (get_or xs i []))
     → xs ≡ list_of (λ i. block (e i) j p u rows wide) inks
 blocks-is e j p u rows wide inks xs some len long holds =
-    list-is [] xs (λ i. block (e i) j p u rows wide) inks len (λ i low. block-is (e i) j p u rows wide (get_or xs i []) some (long i (omega arith)) (holds i low))
+    list-is [] xs (λ i. block (e i) j p u rows wide) inks len
+    (λ i low. block-is (e i) j p u rows wide (get_or xs i []) some (long i (omega arith)) (holds i low))
 
 border_same : (a b : Border) → a.side ≡ b.side → a.band ≡ b.band → a.corner ≡ b.corner → a.bits ≡ b.bits → a ≡ b
 border_same a b side band corner bits = λ i. record { side = side i; band = band i; corner = corner i; bits = bits i }
 
-pub given-is : (k : Kernel) (rows : AmountTable) (top : Top) (p : Place) (b : Border) → HasInks rows.inks b → IsWhole b → AreDone k rows top p b → b ≡ given k rows top p
+pub given-is : (k : Kernel) (rows : AmountTable) (top : Top) (p : Place) (b : Border) → HasInks rows.inks b → IsWhole b
+    → AreDone k rows top p b → b ≡ given k rows top p
 unfolding given
 given-is k rows top p b has whole done =
     let e : ℕ → Errors = errors_below k rows top in
@@ -90,28 +97,34 @@ below k rows top i t n low = elim_row t low
     elim_row (suc zero) low = (errors_top (table_of k) (plane_of rows i) (top_of (edges_of top i)) n).1
     elim_row (suc (suc t)) low = absurd (omega arith)
 
-given-edge : (k : Kernel) (rows : AmountTable) (top : Top) (p : Place) (d : Dir) (i : ℕ) → i < rows.inks → IsGiven (errors_below k rows top i) d p (errors_of (edge_of (given k rows top p) d) i)
+given-edge : (k : Kernel) (rows : AmountTable) (top : Top) (p : Place) (d : Dir) (i : ℕ) → i < rows.inks
+    → IsGiven (errors_below k rows top i) d p (errors_of (edge_of (given k rows top p) d) i)
 given-edge k rows top p Right i low = (given-done k rows top p i low).has_right
 given-edge k rows top p Bottom i low = (given-done k rows top p i low).has_bottom
 given-edge k rows top p Corner i low = (given-done k rows top p i low).has_corner
 
-handed-in : (k : Kernel) (rows : AmountTable) (top : Top) (d : Dir) (p : Place) (edge : List (List ℤ)) (i : ℕ) → i < rows.inks → IsHandedTo k rows top d p edge
+handed-in : (k : Kernel) (rows : AmountTable) (top : Top) (d : Dir) (p : Place) (edge : List (List ℤ)) (i : ℕ) → i < rows.inks
+    → IsHandedTo k rows top d p edge
     → IsHanded (window_of rows) (edges_of top i) (λ way from. errors_of (edge_of (given k rows top from) way) i) d p (errors_of edge i)
 handed-in k rows top d p edge i low handed = record {
   given = λ from there receiver. ap (λ (xs : List (List ℤ)). errors_of xs i) (handed.given from there receiver);
-  none = λ board none. ap (λ (xs : List (List ℤ)). errors_of xs i) (handed.none board none) ∙ get_or-replicate rows.inks i (replicate (edge_length d) (pos 0)) [] low;
+  none = λ board none. ap (λ (xs : List (List ℤ)). errors_of xs i) (handed.none board none)
+      ∙ get_or-replicate rows.inks i (replicate (edge_length d) (pos 0)) [] low;
   above = λ off. handed.above off i low;
 }
 
-pub handed-ready : HandedLaw → (k : Kernel) (rows : AmountTable) (top : Top) (p : Place) (b : Border) → IsTile (window_of rows) p → AreHanded k rows top p b → AreReady k rows top p b
+pub handed-ready : HandedLaw → (k : Kernel) (rows : AmountTable) (top : Top) (p : Place) (b : Border) → IsTile (window_of rows) p
+    → AreHanded k rows top p b → AreReady k rows top p b
 handed-ready law k rows top p b tile handed = λ i low.
     let e : Errors = errors_below k rows top i in
     let comes = λ (d : Dir). law (table_of k) (plane_of rows i) e (window_of rows) (edges_of top i) _ d p (errors_of (edge_of b d) i)
-    (errors_solve (table_of k) (plane_of rows i) (top_of (edges_of top i))) (record { width = refl; height = refl }) (below k rows top i) tile (handed-in k rows top d p (edge_of b d) i low (handed d))
+    (errors_solve (table_of k) (plane_of rows i) (top_of (edges_of top i))) (record { width = refl; height = refl }) (below k rows top i)
+    tile (handed-in k rows top d p (edge_of b d) i low (handed d))
     (λ from there receiver. given-edge k rows top from d i low) in
     record { has_left = comes Right; has_above = comes Bottom; has_corner = comes Corner }
 
-pub worked-done : (k : Kernel) (rows : AmountTable) (top : Top) (p : Place) (old new : Border) → ((i : ℕ) → i < rows.inks → Works k rows p i old new)
+pub worked-done : (k : Kernel) (rows : AmountTable) (top : Top) (p : Place) (old new : Border)
+    → ((i : ℕ) → i < rows.inks → Works k rows p i old new)
     → AreReady k rows top p old → AreDone k rows top p new
 worked-done k rows top p old new works ready i low =
     works i low (errors_below k rows top i) (errors_solve (table_of k) (plane_of rows i) (top_of (edges_of top i))) (ready i low)

@@ -1,4 +1,4 @@
--- What a tile of a board is handed, and what it gives.
+-- What it means that the edges that a tile is handed, and the edges and dots that it gives, are right.
 use Rattle.std.specs.Prelude.{◌≡◌, ℕ, ℤ, pos, ◌<◌, List, [], length, replicate, slice_index, slice_index_or}
 use Rattle.diffusion_kernel.specs.Tables.{table_of}
 use Rattle.diffusion_kernel.specs.declared.tables.Kernel.{Kernel}
@@ -15,15 +15,15 @@ use Rattle.tile_border.specs.Worked.{edge_of}
 use Rattle.tile_border.specs.Works.{Border}
 use Rattle.tile_content.specs.Content.{errors_below, given}
 
--- each list is so long
+-- each of the lists has this length
 abbrev pub AllLong : {A : Type 0} → ℕ → List (List A) → Type 0
 AllLong len xs = (i : ℕ) → i < length xs → length (slice_index_or xs i []) ≡ len
 
--- each list has bytes only
+-- each value of each of the lists is below 256
 abbrev pub AllBytes : List (List ℕ) → Type 0
 AllBytes xs = (i : ℕ) → i < length xs → (n : ℕ) → slice_index (slice_index_or xs i []) n < 256
 
--- the edges and the dots have a place for each error and each dot, and no more
+-- in each ink the edges have 192, 128 and 12 errors, and the dots 256 bytes
 pub record IsWhole (b : Border) : Type 0 where
   pub side : AllLong 192 b.side
   pub band : AllLong 128 b.band
@@ -31,24 +31,26 @@ pub record IsWhole (b : Border) : Type 0 where
   pub bits : AllLong 256 b.bits
   pub bytes : AllBytes b.bits
 
--- The edges that a tile is handed are right in each ink.
+-- In each ink the edges that a tile is handed are those of row-by-row diffusion.
 abbrev pub AreReady : Kernel → AmountTable → List (List (List ℤ)) → Place → Border → Type 0
 AreReady k rows top p b = (i : ℕ) → i < rows.inks
     → IsReady (errors_below k rows top i) p (errors_of b.side i) (errors_of b.band i) (errors_of b.corner i)
 
--- The edges and the dots that a tile gives are right in each ink.
+-- In each ink the edges and the dots that a tile gives are those of row-by-row diffusion.
 abbrev pub AreDone : Kernel → AmountTable → List (List (List ℤ)) → Place → Border → Type 0
 AreDone k rows top p b = (i : ℕ) → i < rows.inks
-    → IsDone (table_of k) (plane_of rows i) (errors_below k rows top i) p (errors_of b.side i) (errors_of b.band i) (errors_of b.corner i) (slice_index_or b.bits i [])
+    → IsDone (table_of k) (plane_of rows i) (errors_below k rows top i) p
+    (errors_of b.side i) (errors_of b.band i) (errors_of b.corner i) (slice_index_or b.bits i [])
 
--- What comes to a tile in a direction, in each ink: what the tile that sends it gives, zeros where there is none, and the
--- top's edges above the first band.
-pub record IsHandedTo (k : Kernel) (rows : AmountTable) (top : List (List (List ℤ))) (d : Dir) (p : Place) (edge : List (List ℤ)) : Type 0 where
+-- The edge that a tile is handed in a direction, in each ink: what `given` says of the tile that sends it, zeros where no
+-- tile does, and the top's edges above the first band.
+pub record IsHandedTo (k : Kernel) (rows : AmountTable) (top : List (List (List ℤ))) (d : Dir) (p : Place)
+    (edge : List (List ℤ)) : Type 0 where
   pub inks : length edge ≡ rows.inks
   pub given : (from : Place) → IsTile (window_of rows) from → IsReceiver d from p → edge ≡ edge_of (given k rows top from) d
   pub none : IsOnBoard d p → ¬ IsNeeded (window_of rows) d p → edge ≡ replicate rows.inks (replicate (edge_length d) (pos 0))
   pub above : ¬ IsOnBoard d p → (i : ℕ) → i < rows.inks → IsFromTop (edges_of top i) d p (errors_of edge i)
 
--- the three edges that a tile is handed
+-- each of the three edges that a tile is handed is such an edge
 abbrev pub AreHanded : Kernel → AmountTable → List (List (List ℤ)) → Place → Border → Type 0
 AreHanded k rows top p b = (d : Dir) → IsHandedTo k rows top d p (edge_of b d)

@@ -1,4 +1,4 @@
-//! What follows from the definitions, each as the contract of an empty function.
+//! What follows from the definitions, each as the contract of a function with an empty body.
 ghost use Rattle.std.specs.Prelude.{List, ◌<◌, ◌≡◌, ℕ, ℤ};
 ghost use Rattle.diffusion_kernel.specs.declared.tables.Kernel.{Kernel};
 ghost use Rattle.dot_planes.specs.Tables.{AmountTable};
@@ -11,19 +11,21 @@ ghost use Rattle.tile_lanes.specs.Done.{window_of};
 ghost use Rattle.tile_shape.specs.Geometry.{IsTile, columns_of};
 ghost use Rattle.tile_shape.specs.declared.tiles.Place.{Place};
 
-/// What a tile gives is right.
+/// The edges and the dots that `given` says are right, and there is one list of each for each ink.
 pub fn what_is_given_is_right()
-    ensures inks { (k : Kernel) (rows : AmountTable) (top : List (List (List ℤ))) (p : Place) → HasInks rows.inks (given k rows top p) }
-    ensures done { (k : Kernel) (rows : AmountTable) (top : List (List (List ℤ))) (p : Place) → AreDone k rows top p (given k rows top p) }
+    ensures inks { (k : Kernel) (rows : AmountTable) (top : List (List (List ℤ))) (p : Place)
+        → HasInks rows.inks (given k rows top p) }
+    ensures done { (k : Kernel) (rows : AmountTable) (top : List (List (List ℤ))) (p : Place)
+        → AreDone k rows top p (given k rows top p) }
 {}
 
-/// Nothing else is.
+/// Edges and dots that are right, of full length and in each ink, are those that `given` says.
 pub fn what_is_right_is_given()
     ensures { (k : Kernel) (rows : AmountTable) (top : List (List (List ℤ))) (p : Place) (b : Border)
         → HasInks rows.inks b → IsWhole b → AreDone k rows top p b → b ≡ given k rows top p }
 {}
 
-/// Where the tiles before it gave what they give, what a tile is handed is right.
+/// Where the tiles that send a tile its edges gave what `given` says, the edges that it is handed are right.
 pub fn what_is_handed_is_right()
     ensures { (k : Kernel) (rows : AmountTable) (top : List (List (List ℤ))) (p : Place) (b : Border)
         → IsTile (window_of rows) p → AreHanded k rows top p b → AreReady k rows top p b }
@@ -31,14 +33,15 @@ pub fn what_is_handed_is_right()
     tile_edges::handed::what_is_handed_is_right();
 }
 
-/// What `tile_border::work` gives for what is right is right.
+/// What `tile_border::work` makes of right edges is right.
 pub fn what_work_gives_is_right()
     ensures { (k : Kernel) (rows : AmountTable) (top : List (List (List ℤ))) (p : Place) (old new : Border)
         → ((i : ℕ) → i < rows.inks → Works k rows p i old new) → AreReady k rows top p old → AreDone k rows top p new }
 {}
 
-/// The bottom edges of a band are those that its tiles give.
+/// The bottom edges that `given` says of a band's tiles are the errors of its rows 30 and 31.
 pub fn bottoms_are_given()
     ensures { (k : Kernel) (rows : AmountTable) (top : List (List (List ℤ))) (j i : ℕ) → i < rows.inks
-        → AreBottoms (window_of rows) (errors_below k rows top i) j (edges_of (bottoms k rows top j (columns_of (window_of rows))) i) }
+        → AreBottoms (window_of rows) (errors_below k rows top i) j
+        (edges_of (bottoms k rows top j (columns_of (window_of rows))) i) }
 {}

@@ -1,5 +1,5 @@
-//! The lengths of a tile's edges and dots. Each type keeps them; a contract sees them by these functions, which do
-//! nothing.
+//! The lengths of a tile's edges and dots. The types have them by construction; these functions do nothing, and state
+//! them in their contracts.
 ghost use Rattle.std.specs.Prelude.{IfOk, length, replicate, slice_index, ℕ, ◌<◌, ◌≡◌, ◌≤◌};
 ghost use Rattle.tile_content.specs.Tiles.{AllBytes, AllLong, IsWhole};
 
@@ -8,9 +8,14 @@ use std::alloc::Global;
 use tile_border::{BottomEdge, CornerEdge, Done, RightEdge};
 use weave_base::Memory;
 
-/// The edges and the dots of a tile have a place for each error and each dot, and no more.
+/// Each ink of a tile's right, bottom and corner edge has 192, 128 and 12 errors, and each ink of its dots 256 bytes.
 pub fn done_is_whole(done: &Done)
-    ensures { IsWhole (record { side = done.now.right; band = done.now.bottom; corner = done.now.corner; bits = done.now.dots.bits }) }
+    ensures { IsWhole (record {
+      side = done.now.right;
+      band = done.now.bottom;
+      corner = done.now.corner;
+      bits = done.now.dots.bits;
+    }) }
 {
     right_is_whole(&done.right);
     bottom_is_whole(&done.bottom);
@@ -18,7 +23,7 @@ pub fn done_is_whole(done: &Done)
     bits_are_whole(&done.dots.bits);
 }
 
-/// No dots, of 1 to 4 inks.
+/// The dots of a tile with none set, in 1 to 4 inks: 256 zero bytes in each. `Memory` where there is no room for them.
 pub fn no_dots(alloc: Global, inks: u8) -> Result<TileBits, Memory>
     requires some { 1 ≤ inks }
     requires most { inks ≤ 4 }
@@ -56,7 +61,7 @@ fn corner_is_whole(edge: &CornerEdge)
     }
 }
 
-// Each ink of a tile's dots has 256 bytes.
+// Each ink of a tile's dots has 256 values, and each is a byte.
 fn bits_are_whole(bits: &TileBits)
     ensures long { AllLong 256 bits.now }
     ensures bytes { AllBytes bits.now }
@@ -82,7 +87,7 @@ fn are_dots(dots: &[u8; 256])
     let _ = dots;
 }
 
-// Each of them is a byte.
+// Each value is below 256.
 fn are_bytes(bytes: &[u8])
     ensures { (n : ℕ) → slice_index bytes.now n < 256 }
 {

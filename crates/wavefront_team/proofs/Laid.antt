@@ -1,4 +1,4 @@
--- One tile more is laid.
+-- The loop over the tiles: each step puts one more into the planes.
 use Rattle.std.proofs.Common.{◌≡◌, ℕ, ◌+◌, ◌*◌, ◌<◌, ◌≤◌, List, get_or, length, inl, inr, refl, sym, ◌∙◌, ap, arith, subst}
 use Rattle.std.proofs.lemmas.Bool.{cases_eq}
 use Rattle.std.proofs.lemmas.List.{get_or_default}
@@ -29,7 +29,8 @@ lays_none s first tiles t = record {
 
 pub lays_more : (s : Shape) (first n : ℕ) (tiles : List TileDots) (tile : TileDots) (old mid new : DotTable)
     → IsShape s → AreTilesOf s tiles → n < length tiles → tile ≡ get_or tiles n tile → old.width ≡ s.width
-    → first + s.height ≤ old.rows → LaysTiles s first n tiles old mid → PutsTile mid new first s.height tile.place tile.bits → LaysTiles s first (n + 1) tiles old new
+    → first + s.height ≤ old.rows → LaysTiles s first n tiles old mid → PutsTile mid new first s.height tile.place tile.bits
+    → LaysTiles s first (n + 1) tiles old new
 lays_more s first n tiles tile old mid new sizes are inside is wide tall lays puts =
     let q : Place = tile_of s n in
     let place : tile.place ≡ q = place_at s tiles n tile sizes are inside is in
@@ -42,7 +43,8 @@ lays_more s first n tiles tile old mid new sizes are inside is wide tall lays pu
       };
       pixels = λ i row offset x y p d ink in_window before pixel at. elim (cases_eq (number_of s p) n) [
         | inl same ↦
-            let mine : get_or tiles (number_of s p) d ≡ tile = ap (λ m. get_or tiles m d) same ∙ get_or_default tiles n d tile inside ∙ sym is in
+            let mine : get_or tiles (number_of s p) d ≡ tile =
+            ap (λ m. get_or tiles m d) same ∙ get_or_default tiles n d tile inside ∙ sym is in
             let here : tile.place ≡ p = ap (λ (t : TileDots). t.place) (sym mine) ∙ are.places p d in_window in
             let A : Place → Type 0 = λ r. IsAt r row offset x y in
             puts.pixels i row offset (first + y) x (omega (arith, lays.size.inks)) (record {
@@ -67,7 +69,7 @@ lays_more s first n tiles tile old mid new sizes are inside is wide tall lays pu
           ]) ∙ lays.others i y x inside_rows beside;
     }
 
--- the planes have the window of the tiles
+-- the tile is one of the window in the planes
 pub tile_in : (s w : Shape) (first n : ℕ) (tiles : List TileDots) (tile : TileDots) (old mid : DotTable)
     → s ≡ w → IsShape s → AreTilesOf w tiles → n < length tiles → tile ≡ get_or tiles n tile → old.width ≡ w.width
     → LaysTiles w first n tiles old mid → IsTile (slab_of mid s.height) tile.place
@@ -82,7 +84,8 @@ tile_in s w first n tiles tile old mid same sizes are inside is wide lays =
 
 pub lays_next : (s w : Shape) (first n : ℕ) (tiles : List TileDots) (tile : TileDots) (old mid new : DotTable)
     → s ≡ w → IsShape s → AreTilesOf w tiles → n < length tiles → tile ≡ get_or tiles n tile → old.width ≡ w.width
-    → first + w.height ≤ old.rows → LaysTiles w first n tiles old mid → PutsTile mid new first s.height tile.place tile.bits → LaysTiles w first (n + 1) tiles old new
+    → first + w.height ≤ old.rows → LaysTiles w first n tiles old mid → PutsTile mid new first s.height tile.place tile.bits
+    → LaysTiles w first (n + 1) tiles old new
 lays_next s w first n tiles tile old mid new same sizes are inside is wide tall lays puts =
     let P : ℕ → Type 0 = λ h. PutsTile mid new first h tile.place tile.bits in
     lays_more w first n tiles tile old mid new (subst (λ (r : Shape). IsShape r) same sizes) are inside is wide tall lays

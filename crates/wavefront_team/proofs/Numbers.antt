@@ -1,4 +1,4 @@
--- Tiles by band and then column.
+-- The tiles of a window by band and then column.
 use Rattle.std.proofs.Common.{◌≡◌, ℕ, ◌+◌, ◌*◌, ◌/◌, ◌%◌, ◌<◌, ◌∙◌, ap, arith, mod-lt, div-add-mod'}
 use Rattle.std.proofs.Math.Nat.{mul_comm, div-lt_iff_lt-mul}
 use Rattle.std.proofs.lemmas.Nat.{mul-add-lt}
@@ -21,7 +21,7 @@ number_below s p tile =
     let answer : n < all = omega arith in
     answer
 
--- the tile with a number
+-- the tile of a number
 abbrev pub tile_of : Shape → ℕ → Place
 tile_of s n = record { c = n % columns_of s; j = n / columns_of s }
 
@@ -34,7 +34,7 @@ is_tile_of s n sizes below =
     let some : 0 < C = let h = sizes.some_width in omega arith in
     record { column = mod-lt n some; band = (div-lt_iff_lt-mul some).1 below }
 
--- one band on
+-- the numbers of the next band
 pub row_more : (C j : ℕ) → (j + 1) * C ≡ j * C + C
 row_more C j = grind (arith)
 
@@ -70,14 +70,14 @@ source_before s Corner from to tile goes =
 
 -- ---- pixels
 
--- a pixel stands in one tile
+-- a pixel is in one tile only
 pub one_tile : (p q : Place) (row offset row' offset' x y : ℕ) → IsAt p row offset x y → IsAt q row' offset' x y → p ≡ q
 one_tile p q row offset row' offset' x y a b =
     let bands : p.j ≡ q.j = omega (arith, a.in_band, a.down, b.in_band, b.down) in
     let columns : p.c ≡ q.c = omega (arith, a.in_band, a.down, a.in_tile, a.across, b.in_band, b.down, b.in_tile, b.across) in
     λ i. record { c = columns i; j = bands i }
 
--- where a pixel stands
+-- the tile of a pixel, and where in the tile it is
 pub record Stands (s : Shape) (x y : ℕ) : Type 0 where
   pub p : Place
   pub row : ℕ

@@ -1,4 +1,4 @@
--- What a pass has posted.
+-- Which tiles a pass has posted.
 use Rattle.std.proofs.Common.{◌≡◌, ℕ, ◌+◌, ◌==◌, ◌<◌, ◌≤◌, inl, inr, sym, ap, arith, subst, eq-eqb}
 use Rattle.std.proofs.lemmas.Bool.{cases_eq}
 use Rattle.board_steps.specs.Rule.{one_if, times}
@@ -10,7 +10,7 @@ use Rattle.tile_board.specs.Slabs.{number_in, shape_of}
 use Rattle.tile_shape.specs.declared.tiles.Place.{Place}
 use Rattle.wavefront_team.proofs.Numbers.{source_before}
 
--- a pass that has posted all tiles before this one does not lack an edge of it
+-- where a pass has posted all tiles with lower numbers, this tile lacks no edge
 pub lacks_none : (b : Slab) (v : View) (t : Place) (word : ℕ) → LacksEdge b v t word
     → ((n : ℕ) → n < number_in b t → 1 ≤ times n v.mine) → ⊥
 lacks_none b v t word lacks before =
@@ -28,7 +28,7 @@ posted_more v w t same here before n low =
       | inr other ↦ before n (omega arith)
     ])
 
--- the tile itself, and all before it
+-- once it has posted a tile and all before it
 pub posted_now : (v : View) (t : ℕ) → ((n : ℕ) → n < t → 1 ≤ times n v.mine) → (n : ℕ) → n < t + 1 → 1 ≤ times n (posted_view v t).mine
 posted_now v t before n low = elim (cases_eq t n) [
   | inl is ↦ let e : one_if (t == n) ≡ 1 = ap one_if (eq-eqb t n is) in omega arith

@@ -1,4 +1,4 @@
--- What a board leaves is what diffuses the slab.
+-- What a closed board leaves, once its tiles are put into the planes, is the slab diffused.
 use Rattle.std.proofs.Common.{◌≡◌, ℕ, ℤ, zero, suc, ◌<◌, List, [], ◌∷◌, get_or, length, sym, ◌∙◌, ap, arith, subst}
 use mathlib.Core.Option.{some}
 use lib.ListN.{get_elem?}
@@ -62,7 +62,8 @@ errors_are k rows top i e are =
 
 pub slab_diffused : (b : Slab) (r : Closed) (k : Kernel) (rows : AmountTable) (top : List (List (List ℤ))) (first : ℕ) (old new : DotTable)
     → amounts_of b ≡ rows → b.kernel ≡ k → top_edges b ≡ top → old.inks ≡ rows.inks → Closes b r
-    → LaysTiles (window_of rows) first (length r.dots.items) r.dots.items old new → DiffusesSlab (table_of k) rows top r.bottom first old new
+    → LaysTiles (window_of rows) first (length r.dots.items) r.dots.items old new
+    → DiffusesSlab (table_of k) rows top r.bottom first old new
 slab_diffused b r k rows top first old new amounts kernel edges inks closes lays =
     let D : AmountTable → Kernel → List (List (List ℤ)) → Type 0 = λ a m u. DiffusesSlab (table_of m) a u r.bottom first old new in
     let A : AmountTable → Type 0 = λ a. D a k top in

@@ -1,4 +1,4 @@
--- The dots of a slab's tiles, and how they go into planes.
+-- The dots of a slab's tiles, and how they are put into planes.
 use Rattle.std.specs.Prelude.{◌≡◌, ◌⊎◌, ℕ, ◌+◌, ◌*◌, ◌<◌, ◌≤◌, List, length, slice_index_or}
 use Rattle.board_steps.specs.Graph.{number_of}
 use Rattle.dot_planes.specs.Tables.{DotTable, HasSizeOf, dot}
@@ -8,13 +8,13 @@ use Rattle.tile_shape.specs.Geometry.{IsAt, IsPixel, IsTile, bands_of, columns_o
 use Rattle.tile_shape.specs.declared.tiles.Place.{Place}
 use Rattle.tile_shape.specs.declared.tiles.Shape.{Shape}
 
--- the dots of each tile of a window, by band and then column
+-- one entry for each tile of a window, by band and then column
 pub record AreTilesOf (s : Shape) (tiles : List TileDots) : Type 0 where
   pub count : length tiles ≡ bands_of s * columns_of s
   pub places : (p : Place) (d : TileDots) → IsTile s p → (slice_index_or tiles (number_of s p) d).place ≡ p
 
--- Each pixel of the first n tiles of a window, which begins at row `first` of the planes, is on or off in every ink as its
--- tile has it, and no row beside the window changes.
+-- The window begins at row `first` of the planes. Each pixel of its first n tiles is on or off in every ink as its tile has
+-- it, and the rows above and below the window are unchanged.
 pub record LaysTiles (s : Shape) (first n : ℕ) (tiles : List TileDots) (old new : DotTable) : Type 0 where
   pub size : HasSizeOf old new
   pub pixels : (i row offset x y : ℕ) (p : Place) (d : TileDots) → i < old.inks → IsTile s p → number_of s p < n

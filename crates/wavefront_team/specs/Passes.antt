@@ -9,7 +9,7 @@ use Rattle.tile_shape.specs.Geometry.{IsTile, columns_of}
 use Rattle.tile_shape.specs.declared.tiles.Place.{Place}
 use Rattle.wavefront_team.specs.declared.worker.Worker.{Worker}
 
--- a pass of the board that holds nothing, and has so many parts
+-- a pass of the board that holds nothing and has this many parts
 abbrev pub IsIdle : Board → ℕ → Pass → Type 0
 IsIdle b parts p = IsPassOf b p × ((view p).held ≡ None) × ((view p).parts ≡ parts)
 
@@ -17,6 +17,7 @@ IsIdle b parts p = IsPassOf b p × ((view p).held ≡ None) × ((view p).parts �
 abbrev pub IsWorkerOf : Board → Pass → Type 0
 IsWorkerOf b p = IsIdle b 1 p
 
+-- each worker of a team has such a pass
 abbrev pub AllWorkers : Board → List Worker → Type 0
 AllWorkers b team = (k : ℕ) (d : Worker) → k < length team → IsWorkerOf b (slice_index_or team k d).pass
 
@@ -28,7 +29,7 @@ HasAll b p = IsIdle b 256 p
 abbrev pub IsFirst : Board → Pass → Type 0
 IsFirst b p = HasAll b p × ((view p).number ≡ 0)
 
--- the parts that so many workers left
+-- a pass of the board that holds nothing and has the parts that this many workers left
 abbrev pub IsRest : Board → ℕ → Pass → Type 0
 IsRest b workers p = IsPassOf b p × ((view p).held ≡ None) × ((view p).parts + workers ≡ 256)
 

@@ -1,13 +1,13 @@
-//! What workers pass on their way from a claim to the work.
+//! The gate between the claim of a tile and its work.
 use tile_shape::Place;
 
-/// Called by a worker between the claim of a tile and its work. Workers share it.
+/// What a worker calls between the claim of a tile and its work. All workers share one.
 pub trait Gate {
-    /// Returns when the worker may begin tile p.
+    /// Returns when the worker may begin to work tile p.
     fn enter(&self, p: Place);
 }
 
-/// Lets every worker in at once.
+/// A gate that holds nobody back.
 pub struct OpenGate;
 
 impl Gate for OpenGate {

@@ -1,11 +1,11 @@
-//! The dots of a slab's tiles, into the planes.
+//! The dots of a slab's tiles are put into the planes.
 ghost use Rattle.std.specs.Prelude.{length, ◌+◌, ◌≡◌, ◌≤◌};
 ghost use Rattle.tile_lanes.specs.Done.{window_of};
 ghost use Rattle.wavefront_team.specs.Laying.{AreTilesOf, LaysTiles};
 
 use dot_planes::{InkRows, Planes, TileDots};
 
-/// Puts the dots of a slab's tiles, by band and then column, into rows `at` and on of the planes.
+/// Puts the dots of a slab's tiles, which are listed by band and then column, into the planes from row `at` on.
 pub(crate) fn lay_tiles(tiles: &[TileDots], rows: &InkRows, out: &mut Planes, at: u32)
     requires tiles { AreTilesOf (window_of rows.now) tiles.now }
     requires width { out.old.width ≡ rows.now.width }

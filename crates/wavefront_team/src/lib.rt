@@ -1,5 +1,13 @@
-//! Slabs of a page by several workers. Each has a pass of one board and works the tiles that it claims; whichever tile
-//! goes to whom, the dots are those of row-by-row diffusion.
+//! Slabs of a page, diffused by several workers. Each has a pass of one board, claims tiles in turn, and works and
+//! posts those that it gets. The caller works the tiles that the workers leave.
+//!
+//! `diffuse`: whichever worker works which tile, and in whatever order, the rows of the slab have the dots of
+//! row-by-row diffusion below the given top, all other rows of the planes are unchanged, and the answer is the bottom
+//! edges of the slab's last band (`slab`). On `Memory` the planes are unchanged (`unchanged`); that it succeeds with
+//! ample memory is tested.
+//!
+//! Every tile enters the gate before it is worked. Tests hold workers there: two tiles are inside at once, each enters
+//! once, and the dots are the same however long tiles are held back.
 #![tactic(auto)]
 
 mod gate;

@@ -20,11 +20,12 @@ use tile_border::TopEdges;
 use tile_shape::Shape;
 use weave_base::Memory;
 
-/// Diffuses a slab below its top by 1 to 64 workers, and puts its dots into rows `at` and on of the planes. The answer is
-/// the top of the rows below the slab, where its rows are whole bands of 32. One worker is the caller itself, and more
-/// are threads; what these leave, the caller works. Whoever works a tile enters the gate first.
+/// Diffuses a slab below its top by 1 to 64 workers, and puts its dots into the planes from row `at` on. The answer is
+/// the bottom edges of its last band: the top of the rows below it, where its rows are whole bands of 32. One worker
+/// is the caller itself. More run in threads of their own where these can be started, and the caller works what they
+/// leave. Each tile enters the gate before it is worked.
 ///
-/// After `Memory` the planes are unchanged.
+/// On `Memory` the planes are unchanged.
 pub fn diffuse<R: Threads + Sync, G: Gate + Sync>(
     rt: &R,
     alloc: Global,
@@ -56,7 +57,7 @@ pub fn diffuse<R: Threads + Sync, G: Gate + Sync>(
     Ok(closed.bottom)
 }
 
-// As many workers, of one part each, or none beside the caller alone.
+// The workers, with a pass of one part each: none where the caller works alone, and else `workers`.
 fn team_of(
     alloc: Global,
     board: &Board<'_>,
@@ -81,7 +82,7 @@ fn team_of(
     Ok(team)
 }
 
-// Lets each worker run, in a thread of its own where one can be started.
+// Runs each worker, in a thread of its own where one can be started.
 fn run_all<R: Threads + Sync, G: Gate + Sync>(
     rt: &R,
     board: &Board<'_>,
@@ -109,7 +110,7 @@ fn run_all<R: Threads + Sync, G: Gate + Sync>(
     );
 }
 
-// Joins the workers' passes again.
+// Joins the workers' passes to the first.
 fn join_all(board: &Board<'_>, pass: &mut Pass, mut team: Vec<Worker>)
     requires pass { IsRest board.now (length team.items) pass.old }
     requires workers { AllWorkers board.now team.items }
@@ -118,7 +119,7 @@ fn join_all(board: &Board<'_>, pass: &mut Pass, mut team: Vec<Worker>)
     while let Some(worker) = team.pop() {
         let Worker {
             pass: other,
-            fronts: _,
+            next_columns: _,
             band: _,
         } = worker;
         board.join(pass, other);

@@ -1,4 +1,4 @@
-//! Slabs by workers against the plain loop over their tiles.
+//! Slabs by workers compared with the plain loop over their tiles.
 ghost use Rattle.slab_diffusion.specs.Slabs.{IsTopOf};
 ghost use Rattle.std.specs.Prelude.{IfSome, ◌≡◌, ◌≤◌};
 
@@ -14,10 +14,10 @@ use std::sync::atomic::{AtomicU64, Ordering};
 use std::thread::Threads;
 use tile_border::TopEdges;
 
-// Rows of the planes above the slabs.
+// How many rows of the planes are above the slabs.
 const ABOVE: u32 = 2;
 
-// Numbers that jump about, or 100 alone by the seed 0.
+// The amount at a pixel: it varies from pixel to pixel, or is always 100 for seed 0.
 fn amount_at(seed: u32, ink: u8, x: u32, y: u32) -> u8 {
     if seed == 0 {
         return 100;
@@ -49,7 +49,7 @@ fn amounts(alloc: Global, width: u32, height: u32, inks: u8, seed: u32) -> Optio
     Some(rows)
 }
 
-// No errors above a window.
+// A top of errors 0.
 fn no_errors(alloc: Global, width: u32, inks: u8) -> Option<TopEdges>
     ensures { IfSome result (IsTopOf width inks) }
 {
@@ -78,7 +78,7 @@ fn marked(alloc: Global, width: u32, height: u32, inks: u8) -> Option<Planes>
     Some(planes)
 }
 
-// Diffuses rows by so many workers, or by the plain loop for 0.
+// Diffuses rows by this many workers, or by the plain loop for 0.
 fn next_slab<R: Threads + Sync, G: Gate + Sync>(
     rt: &R,
     alloc: Global,
@@ -152,7 +152,7 @@ fn two_slabs<R: Threads + Sync, G: Gate + Sync>(
     Some(planes)
 }
 
-// One slab by Floyd and Steinberg, below no errors.
+// One slab by the kernel of Floyd and Steinberg, below a top of errors 0.
 fn one_slab<R: Threads + Sync, G: Gate + Sync>(
     rt: &R,
     alloc: Global,
@@ -179,7 +179,7 @@ fn one_slab<R: Threads + Sync, G: Gate + Sync>(
     Some(planes)
 }
 
-// Whether so many runs of a small slab by 8 workers all have the dots of the plain loop.
+// Whether this many runs of a small slab by 8 workers all have the dots of the plain loop.
 fn all_runs_are_same<R: Threads + Sync, G: Gate + Sync>(
     rt: &R,
     alloc: Global,
@@ -198,12 +198,12 @@ fn all_runs_are_same<R: Threads + Sync, G: Gate + Sync>(
     true
 }
 
-// A slab of one ink and the amounts 100: five columns and three bands of tiles.
+// A slab of one ink and amounts 100: five columns and three bands of tiles.
 fn level_rows(alloc: Global) -> Option<InkRows> {
     amounts(alloc, 200, 70, 1, 0)
 }
 
-// Whether both are there and have the same dots.
+// Whether both succeeded and have the same dots.
 fn are_same(a: &Option<Planes>, b: &Option<Planes>) -> bool {
     match (a, b) {
         (Some(a), Some(b)) => have_same_dots(a, b),

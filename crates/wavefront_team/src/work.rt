@@ -1,4 +1,4 @@
-//! Tiles by one caller.
+//! Tiles worked by one pass.
 ghost use Rattle.board_steps.specs.Steps.{posted_view};
 ghost use Rattle.std.specs.Prelude.{Some, ◌+◌, ◌<◌, ◌≡◌};
 ghost use Rattle.tile_board.specs.Board.{IsPassOf, holding, slab, view};
@@ -25,8 +25,8 @@ pub(crate) fn work_held<G: Gate>(board: &Board<'_>, gate: &G, pass: &mut Pass, t
     board.post(pass, done);
 }
 
-/// Works all tiles that are left, by band and then column. The pass has all parts, so each tile that it comes to is
-/// ready or was posted.
+/// Works all tiles that are left, by band and then column. The pass has all 256 parts, so each tile in this order is
+/// ready, or the pass has posted it.
 pub(crate) fn work_rest<G: Gate>(board: &Board<'_>, shape: Shape, gate: &G, pass: &mut Pass)
     requires pass { HasAll board.now pass.old }
     requires shape { shape ≡ shape_of (slab board.now) }

@@ -1,4 +1,4 @@
-//! One of the workers of a slab.
+//! A worker of a slab.
 ghost use Rattle.std.specs.Prelude.{IfOk, IfSome, ◌<◌, ◌≡◌};
 ghost use Rattle.tile_board.specs.Board.{slab};
 ghost use Rattle.tile_board.specs.Slabs.{shape_of};
@@ -12,15 +12,15 @@ use tile_board::{Board, Claim, Pass};
 use tile_shape::{Place, Shape};
 use weave_base::Memory;
 
-// A worker that gets no tile in so many claims leaves.
+// A worker that gets no tile in this many claims leaves the rest to the caller.
 const MOST_CLAIMS: u32 = 16_777_216;
 
-/// A pass of its own, and where it claims.
+/// A worker: its pass, and which tile it claims next.
 #[derive(Drop)]
 pub(crate) struct Worker {
     pub(crate) pass: Pass,
-    // By bands, the first column that it has not found gone.
-    pub(crate) fronts: Vec<u32>,
+    // By band, the first column whose tile it has not found gone.
+    pub(crate) next_columns: Vec<u32>,
     // The band of its next claim.
     pub(crate) band: u32,
 }
@@ -32,16 +32,16 @@ impl Worker {
         ensures { IfOk result (λ w. w.pass ≡ pass) }
     {
         match vec![in alloc; 0; shape.bands() as usize] {
-            Ok(fronts) => Ok(Worker {
+            Ok(next_columns) => Ok(Worker {
                 pass,
-                fronts,
+                next_columns,
                 band: 0,
             }),
             Err(_) => Err(Memory),
         }
     }
 
-    /// Works tiles until each is gone.
+    /// Works tiles until all are gone, or it has claimed long in vain.
     pub(crate) fn run<G: Gate>(&mut self, board: &Board<'_>, shape: Shape, gate: &G)
         requires worker { IsWorkerOf board.now self.old.pass }
         requires shape { shape ≡ shape_of (slab board.now) }
@@ -55,7 +55,7 @@ impl Worker {
         }
     }
 
-    // Claims tiles until it gets one, and works that. The answer is false where all are gone.
+    // Claims tiles until it gets one, and works that. False where all are gone, or after `MOST_CLAIMS` claims in vain.
     fn work_next<G: Gate>(&mut self, board: &Board<'_>, shape: Shape, gate: &G) -> bool
         requires worker { IsWorkerOf board.now self.old.pass }
         requires shape { shape ≡ shape_of (slab board.now) }
@@ -63,7 +63,7 @@ impl Worker {
         ensures { IsWorkerOf board.now self.new.pass }
     {
         for _ in 0..MOST_CLAIMS {
-            let Some(place) = self.front(shape) else {
+            let Some(place) = self.next_place(shape) else {
                 return false;
             };
             match board.claim(&mut self.pass, place) {
@@ -79,14 +79,14 @@ impl Worker {
         false
     }
 
-    // The first tile of its band that it has not found gone, or of the next band that has one.
-    fn front(&mut self, shape: Shape) -> Option<Place>
+    // The next tile to claim: the first of its band that it has not found gone, or else of the next band that has one.
+    fn next_place(&mut self, shape: Shape) -> Option<Place>
         requires { IsShape shape }
         ensures tile { IfSome result (IsTile shape) }
         ensures pass { self.new.pass ≡ self.old.pass }
     {
         for _ in 0..shape.bands() {
-            if let Some(&c) = self.fronts.get(self.band as usize)
+            if let Some(&c) = self.next_columns.get(self.band as usize)
                 && c < shape.columns()
                 && self.band < shape.bands()
             {
@@ -97,16 +97,16 @@ impl Worker {
         None
     }
 
-    // Leaves a tile that is gone.
+    // Goes on to the next column of its band.
     fn go_on(&mut self)
         ensures { self.new.pass ≡ self.old.pass }
     {
-        if let Some(c) = self.fronts.get_mut(self.band as usize) {
+        if let Some(c) = self.next_columns.get_mut(self.band as usize) {
             *c = c.saturating_add(1);
         }
     }
 
-    // Turns to the next band, and from the last to the first.
+    // Turns to the next band, after the last to the first.
     fn turn(&mut self, shape: Shape)
         requires { IsShape shape }
         ensures { self.new.pass ≡ self.old.pass }

@@ -1,4 +1,4 @@
-//! A window diffused by the words of the rule, row by row over its whole width.
+//! A window diffused as the rule of error diffusion says, row by row over its whole width.
 use diffusion_kernel::Kernel;
 use std::alloc::Global;
 
@@ -11,7 +11,7 @@ pub(crate) struct Definition {
     dots: Vec<bool>,
 }
 
-/// The amount of an ink at a pixel: numbers that jump about.
+/// The amount of an ink at a pixel: it varies from pixel to pixel.
 pub(crate) fn amount_at(ink: u8, x: u32, y: u32) -> u8 {
     let n = x
         .wrapping_mul(2654435761)
@@ -44,7 +44,7 @@ impl Definition {
         self.has(x, y) && self.dots.get(self.place(x, y)).copied().unwrap_or(false)
     }
 
-    // What the errors near a pixel give to it.
+    // What the errors near a pixel add to its value.
     fn given(&self, kernel: Kernel, x: i64, y: i64) -> i32 {
         let mut parts = 0i32;
         for weight in kernel.weights() {

@@ -1,12 +1,12 @@
-//! Gates that watch the workers.
+//! Gates that watch the workers, or hold them back.
 use crate::Gate;
 use std::sync::atomic::{AtomicU64, Ordering};
 use tile_shape::Place;
 
-// How often a tile waits for another.
+// How many turns a tile waits for another at most.
 const TURNS: u32 = 100_000_000;
 
-/// Holds two tiles, of which neither needs the other, until both came.
+/// Holds two tiles, of which neither needs the other, until both have entered.
 #[derive(Drop)]
 pub(crate) struct MeetingGate {
     pub(crate) came: AtomicU64,
@@ -28,7 +28,7 @@ impl Gate for MeetingGate {
     }
 }
 
-/// Counts how often each tile of five columns and three bands is entered, in a digit of 16 each.
+/// Counts how often each tile of five columns and three bands enters, in four bits each.
 #[derive(Drop)]
 pub(crate) struct CountingGate {
     pub(crate) entered: AtomicU64,
@@ -43,7 +43,7 @@ impl Gate for CountingGate {
     }
 }
 
-/// Holds each tile for a number of turns that jumps about.
+/// Holds each tile for a number of turns that varies from tile to tile.
 #[derive(Drop)]
 pub(crate) struct HoldingGate {
     pub(crate) turns: AtomicU64,

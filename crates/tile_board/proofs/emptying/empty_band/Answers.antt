@@ -11,8 +11,10 @@ loop-c-init c = record { left = left-at _ _ _ _ _ (omega arith) c.requires.befor
 pub empty_tile-requires : goal.empty_tile-requires
 empty_tile-requires c =
     let s = c.args.shape in
-    let tile : IsTile s (record { c = c.loop-c.c; j = c.args.j }) = record { column = let h = c.loop-c-test.true in let k = c.columns-columns.ensures in omega arith; band = c.requires.band } in
-    let same : c.args.j * c.columns-columns.result + c.loop-c.c ≡ c.args.j * columns_of s + c.loop-c.c = ap (λ n. c.args.j * n + c.loop-c.c) c.columns-columns.ensures in
+    let tile : IsTile s (record { c = c.loop-c.c; j = c.args.j }) =
+    record { column = let h = c.loop-c-test.true in let k = c.columns-columns.ensures in omega arith; band = c.requires.band } in
+    let same : c.args.j * c.columns-columns.result + c.loop-c.c ≡ c.args.j * columns_of s + c.loop-c.c =
+    ap (λ n. c.args.j * n + c.loop-c.c) c.columns-columns.ensures in
     let below = number-below s (record { c = c.loop-c.c; j = c.args.j }) tile in
     let few = few-tiles s c.requires.shape in
     let is = left-at s _ (c.args.j * c.columns-columns.result + c.loop-c.c) _ _ (sym same) c.loop-c.invariant.left in
@@ -33,7 +35,8 @@ pub loop-c-preserved : goal.loop-c-preserved
 loop-c-preserved c =
     let s = c.args.shape in
     let p : Place = record { c = c.loop-c.c; j = c.args.j } in
-    let tile : IsTile s p = record { column = let h = c.loop-c-test.true in let k = c.columns-columns.ensures in omega arith; band = c.requires.band } in
+    let tile : IsTile s p =
+    record { column = let h = c.loop-c-test.true in let k = c.columns-columns.ensures in omega arith; band = c.requires.band } in
     let t : ℕ = c.args.j * c.columns-columns.result + c.loop-c.c in
     let same : t ≡ c.args.j * columns_of s + c.loop-c.c = ap (λ n. c.args.j * n + c.loop-c.c) c.columns-columns.ensures in
     let is = left-at s _ t _ _ (sym same) c.loop-c.invariant.left in
@@ -51,7 +54,8 @@ returns-clause-after c =
     let w : ℕ = (c.args.j + 1) * columns_of s in
     let C : ℕ = columns_of s in
     let row : w ≡ u + C = row-more C c.args.j in
-    let ended : c.loop-c.c ≡ C = let h = c.loop-c-test.false in let k = c.columns-columns.ensures in let e = c.loop-c.auto.c-end in omega arith in
+    let ended : c.loop-c.c ≡ C = let h = c.loop-c-test.false in let k = c.columns-columns.ensures in let e = c.loop-c.auto.c-end in
+    omega arith in
     left-at s (u + c.loop-c.c) w _ _ (omega arith) c.loop-c.invariant.left
 
 pub returns-clause-items : goal.returns-clause-items

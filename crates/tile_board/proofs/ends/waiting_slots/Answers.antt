@@ -1,4 +1,4 @@
-use Rattle.std.proofs.Common.{◌+◌, ◌*◌, arith}
+use Rattle.std.proofs.Common.{arith}
 use Rattle.tile_board.proofs.Waiting.{one-more}
 use Rattle.tile_board.proofs.ends.waiting_slots.Goals as goal
 

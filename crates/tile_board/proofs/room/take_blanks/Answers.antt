@@ -61,6 +61,7 @@ returns-clause-hand c =
     let o3 = out-is (fresh 3) _ _ (4 * t + 3) _ _ _ c.slot_of-4.ensures o2.hand c.take_out.ensures.taken in
     record {
       view = o3.view ∙ o2.view ∙ o1.view ∙ o0.view;
-      hand = o3.hand ∙ regroup (comes b (setting_of b).content 0 t) (comes b (setting_of b).content 1 t) (comes b (setting_of b).content 2 t)
+      hand = o3.hand
+          ∙ regroup (comes b (setting_of b).content 0 t) (comes b (setting_of b).content 1 t) (comes b (setting_of b).content 2 t)
           ((4 * t + 0, Empty) ∷ []) ((4 * t + 1, Empty) ∷ []) ((4 * t + 2, Empty) ∷ []) ((4 * t + 3, Empty) ∷ []);
     }

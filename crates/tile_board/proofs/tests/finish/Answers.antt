@@ -18,7 +18,8 @@ loop-n-preserved c =
     let wide : r ≡ columns_of (shape_of b) = c.columns-columns.ensures ∙ ap (λ (s : Shape). columns_of s) c.requires.shape in
     let number : number_in b here ≡ n = ap (λ k. n / r * k + n % r) (sym wide) ∙ div-add-mod' n r in
     let Q : ℕ → Type 0 = λ k. 1 ≤ times k (view c.has_posted.new.p).mine in
-    let now : 1 ≤ times n (view c.has_posted.new.p).mine = subst Q number (c.has_posted.ensures.posted c.if-not-has_posted.false c.loop-n.invariant.alone) in
+    let now : 1 ≤ times n (view c.has_posted.new.p).mine =
+    subst Q number (c.has_posted.ensures.posted c.if-not-has_posted.false c.loop-n.invariant.alone) in
     record {
       pass = c.has_posted.ensures.pass;
       idle = c.has_posted.ensures.idle;
@@ -41,7 +42,8 @@ pub returns-clause-all : goal.returns-clause-all
 returns-clause-all c = λ yes t tile.
     let b = slab c.args.board.now in
     let all : c.bands.result * c.columns-columns.result ≡ bands_of (shape_of b) * columns_of (shape_of b) =
-    ap₂ (λ m n. m * n) (c.bands.ensures ∙ ap (λ (s : Shape). bands_of s) c.requires.shape) (c.columns-columns.ensures ∙ ap (λ (s : Shape). columns_of s) c.requires.shape) in
+    ap₂ (λ m n. m * n) (c.bands.ensures ∙ ap (λ (s : Shape). bands_of s) c.requires.shape)
+    (c.columns-columns.ensures ∙ ap (λ (s : Shape). columns_of s) c.requires.shape) in
     let x : ℕ = c.bands.result * c.columns-columns.result in
     let y : ℕ = bands_of (shape_of b) * columns_of (shape_of b) in
     let all' : x ≡ y = all in

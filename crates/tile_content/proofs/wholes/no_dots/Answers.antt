@@ -2,4 +2,6 @@ use Rattle.tile_content.proofs.Blanks.{blanks}
 use Rattle.tile_content.proofs.wholes.no_dots.Goals as goal
 
 pub returns : goal.returns
-returns c = blanks c.args.inks c.in_ok-bits.bits c.in_ok-bits.ensures.inks c.bits_are_whole.ensures.long c.bits_are_whole.ensures.bytes c.in_ok-bits.ensures.blank
+returns c =
+    blanks c.args.inks c.in_ok-bits.bits c.in_ok-bits.ensures.inks c.bits_are_whole.ensures.long c.bits_are_whole.ensures.bytes
+    c.in_ok-bits.ensures.blank

@@ -12,7 +12,8 @@ use Rattle.tile_board.proofs.kinds.Board.close.Goals as goal
 
 pub close-requires-clause-posted : goal.close-requires-clause-posted
 close-requires-clause-posted c =
-    each-number (slab c.args.self) c.args.p.seat.me.0 (is-shape c.args.self c.shape-shape.result c.shape-shape.ensures.is c.shape-shape.ensures.sizes) c.requires.all
+    each-number (slab c.args.self) c.args.p.seat.me.0
+    (is-shape c.args.self c.shape-shape.result c.shape-shape.ensures.is c.shape-shape.ensures.sizes) c.requires.all
 
 pub empty_all-requires-clause-can : goal.empty_all-requires-clause-can
 empty_all-requires-clause-can c =
@@ -21,7 +22,8 @@ empty_all-requires-clause-can c =
     subst Q (sym (shape-is c.args.self c.shape-shape.result c.shape-shape.ensures.is)) (record {
       len = c.close.ensures.slots;
       full = c.close.ensures.filled;
-      dots = has-dots b (slots_items c.close.result.slots) (is-shape c.args.self c.shape-shape.result c.shape-shape.ensures.is c.shape-shape.ensures.sizes) c.close.ensures.gives;
+      dots = has-dots b (slots_items c.close.result.slots)
+          (is-shape c.args.self c.shape-shape.result c.shape-shape.ensures.is c.shape-shape.ensures.sizes) c.close.ensures.gives;
     })
 
 pub returns-clause-once : goal.returns-clause-once
@@ -31,5 +33,6 @@ pub returns-clause-closes : goal.returns-clause-closes
 returns-clause-closes c =
     let b = slab c.args.self in
     let Q : Shape → Type 0 = λ s. EmptiedBefore s (bands_of s * columns_of s) (slots_items c.close.result.slots) c.empty_all.result in
-    closes b (slots_items c.close.result.slots) c.empty_all.result (is-shape c.args.self c.shape-shape.result c.shape-shape.ensures.is c.shape-shape.ensures.sizes) c.close.ensures.gives
+    closes b (slots_items c.close.result.slots) c.empty_all.result
+    (is-shape c.args.self c.shape-shape.result c.shape-shape.ensures.is c.shape-shape.ensures.sizes) c.close.ensures.gives
     (subst Q (shape-is c.args.self c.shape-shape.result c.shape-shape.ensures.is) c.empty_all.ensures)

@@ -20,8 +20,10 @@ send-requires-clause-edge c =
       inside = number-below (shape_of b) c.args.t c.requires.tile;
       holds = ap (λ (z : Me Cell View). z.0.held) c.exchange.ensures.3 ∙ c.requires.holds;
       unsent = ap (λ (z : Me Cell View). has (index_of c.args.dir) z.0.sent) c.exchange.ensures.3 ∙ c.requires.unsent;
-      goes = next-some (shape_of b) c.args.dir c.args.t c.in-Some.to c.requires.tile there c.in-Some.ensures.receiver.1 ∙ ap Some (sym c.number-in-Some.ensures.is);
-      edge = put-front b (number_in b c.args.t) (index_of c.args.dir) c.slot_of-slot.result c.args.edge c.args.seat.now.me c.exchange.new.seat.me
+      goes = next-some (shape_of b) c.args.dir c.args.t c.in-Some.to c.requires.tile there c.in-Some.ensures.receiver.1
+          ∙ ap Some (sym c.number-in-Some.ensures.is);
+      edge = put-front b (number_in b c.args.t) (index_of c.args.dir) c.slot_of-slot.result c.args.edge c.args.seat.now.me
+          c.exchange.new.seat.me
           (slot-at _ _ _ _ _ c.slot_of-slot.ensures c.number.ensures.is c.way_of.ensures) c.requires.edge c.exchange.ensures.3;
     }
 
@@ -30,11 +32,13 @@ returns-in-Some-clause-gives c =
     let b = slab c.args.self.now in
     let there = tile-there c.args.self.now c.shape.result c.in-Some.to c.shape.ensures.is c.in-Some.ensures.receiver.0 in
     sent-gives b (number_in b c.args.t) (index_of c.args.dir) (number_in b c.in-Some.to) c.slot_of-slot.result c.args.edge _ _ _
-    (next-some (shape_of b) c.args.dir c.args.t c.in-Some.to c.requires.tile there c.in-Some.ensures.receiver.1) c.exchange.ensures.3 c.send.ensures.sent
+    (next-some (shape_of b) c.args.dir c.args.t c.in-Some.to c.requires.tile there c.in-Some.ensures.receiver.1) c.exchange.ensures.3
+    c.send.ensures.sent
 
 pub returns-in-None-clause-gives : goal.returns-in-None-clause-gives
 returns-in-None-clause-gives c =
     let b = slab c.args.self.now in
     kept-gives b (number_in b c.args.t) (index_of c.args.dir) c.slot_of-slot.result c.args.edge _ _ _
-    (next-none (shape_of b) c.args.dir c.args.t c.requires.tile (none-there c.args.self.now c.shape.result c.args.dir c.args.t c.shape.ensures.is c.in-None.ensures.none))
+    (next-none (shape_of b) c.args.dir c.args.t c.requires.tile
+    (none-there c.args.self.now c.shape.result c.args.dir c.args.t c.shape.ensures.is c.in-None.ensures.none))
     (slot-at _ _ _ _ _ c.slot_of-slot.ensures c.number.ensures.is c.way_of.ensures) c.requires.edge c.exchange.ensures.3 c.turn.ensures.2

@@ -19,10 +19,13 @@ invariant_of-board c =
     let Q : Shape → Type 0 = λ s. IsShape s in
     let sizes : IsShape (window_of c.args.rows.now) = subst Q c.shape.ensures.is c.shape.ensures.sizes in
     let P : AmountTable → Type 0 = λ r. 0 < bands_of (window_of r) * columns_of (window_of r) in
-    let more : 0 < bands_of (shape_of key) * columns_of (shape_of key) = subst P (sym rows) (some-tiles (window_of c.args.rows.now) sizes) in
-    let columns : columns_of (shape_of key) ≡ columns_of (window_of c.args.rows.now) = ap (λ (r : AmountTable). columns_of (window_of r)) rows in
+    let more : 0 < bands_of (shape_of key) * columns_of (shape_of key) =
+    subst P (sym rows) (some-tiles (window_of c.args.rows.now) sizes) in
+    let columns : columns_of (shape_of key) ≡ columns_of (window_of c.args.rows.now) =
+    ap (λ (r : AmountTable). columns_of (window_of r)) rows in
     let counted : c.count_tiles-tiles.result ≡ bands_of (shape_of key) * columns_of (shape_of key) =
-    c.count_tiles-tiles.ensures.is ∙ ap (λ (s : Shape). bands_of s * columns_of s) c.shape.ensures.is ∙ ap (λ (r : AmountTable). bands_of (window_of r) * columns_of (window_of r)) (sym rows) in
+    c.count_tiles-tiles.ensures.is ∙ ap (λ (s : Shape). bands_of s * columns_of s) c.shape.ensures.is
+    ∙ ap (λ (r : AmountTable). bands_of (window_of r) * columns_of (window_of r)) (sym rows) in
     let words : ℕ = c.in_ok-table.table.shared.table_id.words in
     let all : ℕ = bands_of (shape_of key) * columns_of (shape_of key) in
     record {
@@ -30,5 +33,9 @@ invariant_of-board c =
       sized = tiles;
       some = let a : words ≡ all = tiles in let h : 0 < all = more in omega arith;
       topped = (c.requires.columns ∙ sym columns, λ n low. c.requires.edge_inks n (omega arith));
-      room = (c.in-Ok.ensures.items, let a : words ≡ all = tiles in let h : c.count_tiles-tiles.result ≡ all = counted in let k = c.in-Ok.ensures.capacity in omega arith);
+      room = (
+        c.in-Ok.ensures.items,
+        let a : words ≡ all = tiles in let h : c.count_tiles-tiles.result ≡ all = counted in
+            let k = c.in-Ok.ensures.capacity in omega arith,
+      );
     }

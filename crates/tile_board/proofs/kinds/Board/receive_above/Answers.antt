@@ -48,7 +48,8 @@ returns-then-t-eq0-clause-edge c =
     let columns = columns-is c.args.self.now c.shape.result c.columns-columns.result c.shape.ensures.is c.columns-columns.ensures in
     let there : c.args.t.c + 1 < columns_of (shape_of b) = let h = c.if-t-columns.false in let k = c.requires.tile.column in omega arith in
     handed-top b c.args.t _ (top-of c.args.self.now) c.if-t-eq0.true there
-    (c.copy_edge.ensures ∙ c.at.ensures ∙ ap (λ (top : List (List (List ℤ))). get_or top (c.args.t.c + 1) []) (sym c.args.self.now.made_for.2))
+    (c.copy_edge.ensures ∙ c.at.ensures
+    ∙ ap (λ (top : List (List (List ℤ))). get_or top (c.args.t.c + 1) []) (sym c.args.self.now.made_for.2))
 
 pub returns-then-t-eq0-clause-takes : goal.returns-then-t-eq0-clause-takes
 returns-then-t-eq0-clause-takes c =

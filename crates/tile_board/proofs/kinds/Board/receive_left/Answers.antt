@@ -3,7 +3,7 @@ use Rattle.tile_shape.specs.declared.tiles.Dir.TheVariants.{Right}
 use Rattle.tile_shape.specs.declared.tiles.Place.{Place}
 use Rattle.tile_board.specs.Board.{slab}
 use Rattle.tile_board.specs.Slabs.{number_in, shape_of}
-use Rattle.tile_board.proofs.Handed.{content-is, gives, handed-by, handed-first}
+use Rattle.tile_board.proofs.Handed.{content-is, handed-by, handed-first}
 use Rattle.tile_board.proofs.Hands.{blank-is, came, next-cell, next-front, right_in, stayed}
 use Rattle.tile_board.proofs.Numbers.{left-source, no-left}
 use Rattle.tile_board.proofs.kinds.Board.receive_left.Goals as goal
@@ -21,7 +21,9 @@ right_of-requires c =
     (_, blank-is b 0 (number_in b c.args.t) c.args.blank c.requires.blank (no-left (shape_of b) c.args.t c.requires.tile c.if-t-eq0.true))
 
 pub returns-then-t-eq0-clause-takes : goal.returns-then-t-eq0-clause-takes
-returns-then-t-eq0-clause-takes c = stayed (slab c.args.self.now) 0 (number_in (slab c.args.self.now) c.args.t) c.args.seat.now.me (no-left (shape_of (slab c.args.self.now)) c.args.t c.requires.tile c.if-t-eq0.true)
+returns-then-t-eq0-clause-takes c =
+    stayed (slab c.args.self.now) 0 (number_in (slab c.args.self.now) c.args.t) c.args.seat.now.me
+    (no-left (shape_of (slab c.args.self.now)) c.args.t c.requires.tile c.if-t-eq0.true)
 
 pub take_out-requires-clause-front : goal.take_out-requires-clause-front
 take_out-requires-clause-front c =
