@@ -60,8 +60,8 @@ fn no_errors(alloc: Global, rows: &InkRows, inks: u8) -> Option<TopEdges>
     }
 }
 
-// Claims a tile for a pass that holds none, and works and posts it if it is handed out.
-fn try_tile(board: &Board<'_>, shape: Shape, p: &mut Pass, n: u32)
+// Claims tile n for a pass that holds none, and works and posts it if it gets it. The tile's word if it is not ready.
+fn try_tile(board: &Board<'_>, shape: Shape, p: &mut Pass, n: u32) -> Option<u64>
     requires shape { shape ≡ shape_of (slab board.now) }
     requires sizes { IsShape shape }
     requires pass { IsPassOf board.now p.old }
@@ -69,16 +69,21 @@ fn try_tile(board: &Board<'_>, shape: Shape, p: &mut Pass, n: u32)
     ensures number { (view p.new).number ≡ (view p.old).number }
 {
     if p.holds().is_some() {
-        return;
+        return None;
     }
     let columns = shape.columns();
     let t = Place {
         c: n % columns,
         j: n / columns % shape.bands(),
     };
-    if let Claim::Got(task) = board.claim(p, t) {
-        let done = board.work(task);
-        board.post(p, done);
+    match board.claim(p, t) {
+        Claim::Got(task) => {
+            let done = board.work(task);
+            board.post(p, done);
+            None
+        }
+        Claim::NotReady { word } => Some(word),
+        Claim::Gone { .. } => None,
     }
 }
 
@@ -93,7 +98,7 @@ fn try_tiles(board: &Board<'_>, shape: Shape, p: &mut Pass, seed: u32, tries: u3
     let mut n = seed;
     for _ in 0..tries {
         n = n.wrapping_mul(1664525).wrapping_add(1013904223);
-        try_tile(board, shape, p, n >> 8);
+        let _ = try_tile(board, shape, p, n >> 8);
     }
 }
 
@@ -265,6 +270,7 @@ fn boards_give_the_dots_of_the_whole_window(rt: HostRuntime) {
         (200, 70, 1, 2),
         (130, 39, 3, 8),
         (64, 100, 2, 64),
+        (2, 100, 1, 3),
     ];
     for kernel in [Kernel::Floyd, Kernel::Stucki] {
         for (width, height, inks, passes) in windows {
@@ -305,7 +311,7 @@ fn is_handed_zeros(task: &Task) -> bool
 }
 
 #[test]
-fn claims_answer_by_what_was_taken_and_sent(rt: HostRuntime) {
+fn claims_carry_the_word_they_found(rt: HostRuntime) {
     let alloc = rt.alloc();
     let Some(rows) = grey(alloc) else {
         panic!(rt; "memory");
@@ -349,4 +355,31 @@ fn claims_answer_by_what_was_taken_and_sent(rt: HostRuntime) {
     );
     assert_eq!(rt; (p.parts(), q.parts()), (255, 1));
     assert_eq!(rt; (p.holds(), q.holds()), (None, None));
+}
+
+// The words of the tile in column 1 of band 1, whose number is 6, before each of four other tiles is worked.
+fn words_before(alloc: Global, tiles: [u32; 4]) -> Option<[Option<u64>; 4]> {
+    let rows = grey(alloc)?;
+    let top = no_errors(alloc, &rows, 1)?;
+    let Ok((board, mut p)) = Board::make(alloc, &rows, Kernel::Floyd, top) else {
+        return None;
+    };
+    let shape = rows.shape();
+    let mut words = [None; 4];
+    for k in 0..4 {
+        words[k] = try_tile(&board, shape, &mut p, 6);
+        let _ = try_tile(&board, shape, &mut p, tiles[k]);
+    }
+    Some(words)
+}
+
+#[test]
+fn a_tile_with_three_needs_carries_each_word(rt: HostRuntime) {
+    // bit 4 comes from the tile above, 2 from the one above and to the right, and 1 from the left
+    for (tiles, words) in [([0, 1, 2, 5], [0, 0, 4, 6]), ([0, 1, 5, 2], [0, 0, 4, 5])] {
+        let Some(found) = words_before(rt.alloc(), tiles) else {
+            panic!(rt; "memory");
+        };
+        assert_eq!(rt; found, words.map(Some));
+    }
 }
