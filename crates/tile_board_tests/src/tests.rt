@@ -1,36 +1,76 @@
-//! Two threads at one board.
+//! Two passes at one board, in turn and in two threads.
 ghost use Rattle.std.specs.Prelude.{IfSome, IsTrue, None, [], length, ◌≡◌, ◌≤◌, ℕ};
 ghost use Rattle.board_steps.specs.Rule.{times};
 ghost use Rattle.tile_board.specs.Board.{IsPassOf, slab, view};
-ghost use Rattle.tile_board.specs.Slabs.{IsTopOf, number_in, shape_of};
+ghost use Rattle.tile_board.specs.Slabs.{number_in, shape_of};
 ghost use Rattle.tile_board_tests.specs.Workers.{AllIdle, IsIdle};
 ghost use Rattle.tile_shape.specs.Geometry.{IsShape, IsTile};
 ghost use Rattle.tile_shape.specs.declared.tiles.Place.{Place};
 
 use diffusion_kernel::Kernel;
-use dot_planes::{InkRows, TileDots};
+use dot_planes::{InkRows, Planes, TileDots};
 use std::alloc::Global;
 use std::thread::{Threads, for_each_mut};
 use tile_board::{Board, Claim, Closed, Pass};
 use tile_border::TopEdges;
 use tile_shape::{Place, Shape};
 
-// 200 columns and 70 rows of two inks, whose amounts grow to the right.
-fn wedge(alloc: Global) -> Option<InkRows>
+// Rows of the dots by Floyd and Steinberg's kernel, where every amount of 200 columns and 70 rows is 100, as an
+// independent program computed them.
+const KNOWN_ROWS: [(u32, [u8; 25]); 5] = [
+    (
+        0,
+        [
+            0x49, 0x24, 0x92, 0x49, 0x24, 0x92, 0x49, 0x24, 0x92, 0x49, 0x24, 0x92, 0x49, 0x24,
+            0x92, 0x49, 0x24, 0x92, 0x49, 0x24, 0x92, 0x49, 0x24, 0x92, 0x49,
+        ],
+    ),
+    (
+        1,
+        [
+            0x54, 0xAA, 0x55, 0x2A, 0x95, 0x4A, 0xA5, 0x52, 0xA9, 0x54, 0xAA, 0x55, 0x2A, 0x95,
+            0x4A, 0xA5, 0x52, 0xA9, 0x54, 0xAA, 0x55, 0x2A, 0x95, 0x4A, 0xA4,
+        ],
+    ),
+    (
+        2,
+        [
+            0x4A, 0x92, 0xA4, 0xA4, 0xA9, 0x29, 0x2A, 0x4A, 0x4A, 0x92, 0x92, 0xA4, 0xA4, 0xA9,
+            0x29, 0x2A, 0x4A, 0x4A, 0x92, 0x92, 0xA4, 0xA4, 0xA9, 0x29, 0x2A,
+        ],
+    ),
+    (
+        3,
+        [
+            0x24, 0xA9, 0x12, 0x92, 0x44, 0xA4, 0x91, 0x29, 0x24, 0x4A, 0x49, 0x12, 0x92, 0x44,
+            0xA4, 0x91, 0x29, 0x24, 0x4A, 0x49, 0x12, 0x92, 0x44, 0xA4, 0x92,
+        ],
+    ),
+    (
+        69,
+        [
+            0x24, 0xA8, 0xA5, 0x29, 0x24, 0x92, 0x52, 0x49, 0x29, 0x2A, 0x54, 0x8A, 0x4A, 0x45,
+            0x52, 0x4A, 0x95, 0x54, 0x92, 0xA5, 0x2A, 0xA2, 0x54, 0x95, 0x55,
+        ],
+    ),
+];
+
+// How many dots there are, and the hash FNV-1a of all rows.
+const KNOWN_COUNT: u64 = 5478;
+
+const KNOWN_HASH: u64 = 0x2A21_B4D5_2C4F_EE94;
+
+// 200 columns and 70 rows of amount 100, in one ink.
+fn level_rows(alloc: Global) -> Option<InkRows>
     ensures width { IfSome result (λ rows. rows.width ≡ 200) }
     ensures rows { IfSome result (λ rows. rows.rows ≡ 70) }
-    ensures inks { IfSome result (λ rows. rows.inks ≡ 2) }
+    ensures inks { IfSome result (λ rows. rows.inks ≡ 1) }
 {
-    let mut row = [0; 200];
-    for x in 0..200 {
-        row[x] = x as u8;
-    }
-    let Ok(mut rows) = InkRows::make(alloc, 200, 70, 2) else {
+    let Ok(mut rows) = InkRows::make(alloc, 200, 70, 1) else {
         return None;
     };
     for y in 0..70 {
-        rows.put_part(0, 0, y, &row);
-        rows.put_part(1, 0, y, &[100; 200]);
+        rows.put_part(0, 0, y, &[100; 200]);
     }
     Some(rows)
 }
@@ -149,23 +189,40 @@ fn join_all(board: &Board<'_>, p: &mut Pass, mut passes: Vec<Pass>)
     }
 }
 
-// Diffuses rows below a top of errors 0, with two threads or by the first pass alone.
+// Works the tiles in order, the two passes in turn.
+fn work_in_turn(board: &Board<'_>, shape: Shape, p: &mut Pass, q: &mut Pass)
+    requires shape { shape ≡ shape_of (slab board.now) }
+    requires sizes { IsShape shape }
+    requires passes { IsIdle board.now p.old × IsIdle board.now q.old }
+    ensures { IsIdle board.now p.new × IsIdle board.now q.new }
+{
+    let columns = shape.columns();
+    for n in 0..shape.bands() * columns {
+        let t = Place {
+            c: n % columns,
+            j: n / columns,
+        };
+        if n % 2 == 0 {
+            has_posted(board, p, t);
+        } else {
+            has_posted(board, q, t);
+        }
+    }
+}
+
+// Diffuses rows of one ink below a top of errors 0, by two threads or by two passes in turn.
 fn diffuse<R: Threads + Sync>(
     rt: &R,
     alloc: Global,
     rows: &InkRows,
-    inks: u8,
     with_threads: bool,
 ) -> Option<Closed>
-    requires { inks ≡ rows.now.inks }
+    requires { rows.now.inks ≡ 1 }
 {
-    if inks < 1 || inks > 4 {
-        return None;
-    }
-    let Ok(top) = TopEdges::zero(alloc, rows.shape().columns(), inks) else {
+    let Ok(top) = TopEdges::zero(alloc, rows.shape().columns(), 1) else {
         return None;
     };
-    let Ok((board, mut p)) = Board::make(alloc, rows, Kernel::Jarvis, top) else {
+    let Ok((board, mut p)) = Board::make(alloc, rows, Kernel::Floyd, top) else {
         return None;
     };
     let shape = rows.shape();
@@ -173,6 +230,10 @@ fn diffuse<R: Threads + Sync>(
         let mut passes = two_passes(alloc, &board, &mut p)?;
         work_together(rt, &board, shape, passes.as_mut_slice());
         join_all(&board, &mut p, passes);
+    } else {
+        let mut q = board.split(&mut p);
+        work_in_turn(&board, shape, &mut p, &mut q);
+        board.join(&mut p, q);
     }
     if finish(&board, shape, &mut p) {
         Some(board.close(p))
@@ -181,27 +242,55 @@ fn diffuse<R: Threads + Sync>(
     }
 }
 
-fn is_same(a: &TileDots, b: &TileDots) -> bool {
-    let inks = a.bits.inks();
-    let same = a.place == b.place && b.bits.inks() == inks;
-    same && (0..inks).all(|i| i < b.bits.inks()
-        && i < a.bits.inks()
-        && a.bits.ink(i) == b.bits.ink(i))
+// The dots of 200 columns and 70 rows of one ink, laid into planes.
+fn laid(alloc: Global, tiles: &[TileDots]) -> Option<Planes>
+    ensures rows { IfSome result (λ planes. planes.rows ≡ 70) }
+    ensures inks { IfSome result (λ planes. planes.inks ≡ 1) }
+{
+    let Ok(mut planes) = Planes::make(alloc, 200, 70, 1) else {
+        return None;
+    };
+    for tile in tiles {
+        if tile.place.c < 5 && tile.place.j < 3 {
+            planes.put_tile(0, 70, tile);
+        }
+    }
+    Some(planes)
+}
+
+// The hash FNV-1a of all rows of the one ink.
+fn hash_of(planes: &Planes) -> u64
+    requires rows { planes.now.rows ≡ 70 }
+    requires inks { planes.now.inks ≡ 1 }
+{
+    let mut hash = 0xCBF2_9CE4_8422_2325u64;
+    for y in 0..70 {
+        for byte in planes.row(0, y) {
+            hash = (hash ^ u64::from(*byte)).wrapping_mul(0x100_0000_01B3);
+        }
+    }
+    hash
 }
 
 #[test]
-fn two_threads_give_the_dots_of_one(rt: HostRuntime) {
-    let Some(rows) = wedge(rt.alloc()) else {
+fn two_passes_give_the_known_dots(rt: HostRuntime) {
+    let Some(rows) = level_rows(rt.alloc()) else {
         panic!(rt; "memory");
     };
-    let one = diffuse(&rt, rt.alloc(), &rows, 2, false);
-    let two = diffuse(&rt, rt.alloc(), &rows, 2, true);
-    let (Some(one), Some(two)) = (one, two) else {
-        panic!(rt; "not closed");
-    };
-    assert_eq!(rt; one.dots.len(), 15);
-    assert_eq!(rt; two.dots.len(), 15);
-    for (a, b) in one.dots.iter().zip(two.dots.iter()) {
-        assert!(rt; is_same(a, b));
+    for with_threads in [false, true] {
+        let Some(closed) = diffuse(&rt, rt.alloc(), &rows, with_threads) else {
+            panic!(rt; "not closed");
+        };
+        assert_eq!(rt; closed.dots.len(), 15);
+        let Some(planes) = laid(rt.alloc(), closed.dots.as_slice()) else {
+            panic!(rt; "memory");
+        };
+        for (y, row) in KNOWN_ROWS {
+            if y < 70 {
+                assert_eq!(rt; planes.row(0, y), row.as_slice(), "row {y}");
+            }
+        }
+        assert_eq!(rt; planes.count(0), KNOWN_COUNT);
+        assert_eq!(rt; hash_of(&planes), KNOWN_HASH);
     }
 }
