@@ -1,7 +1,7 @@
 #!/usr/bin/env python3
 """Writes the two small pages that this repository prints to show that it works, as PWG Raster (PWG 5102.4) at 360 dots
-an inch: sample.pwg, grey with 8 bits a pixel, a frame, a grey ramp and a disc; and colour.pwg, RGB with 24, eight colours
-from white to full, and a ramp of grey.
+an inch: sample.pwg, grey with 8 bits a pixel, a frame, a grey ramp and a disc; and colour.pwg, RGB with 24, eight
+colours from white to full, and a ramp of grey.
 """
 
 import struct
@@ -103,11 +103,16 @@ def pixel_at(x, y):
 
 
 # red, yellow, green, cyan, blue, magenta, black and a brown, each as what it takes of white
-FIELDS = [(0, 255, 255), (0, 0, 255), (255, 0, 255), (255, 0, 0), (255, 255, 0), (0, 255, 0), (255, 255, 255), (80, 150, 210)]
+FIELDS = [
+    (0, 255, 255), (0, 0, 255), (255, 0, 255), (255, 0, 0),
+    (255, 255, 0), (0, 255, 0), (255, 255, 255), (80, 150, 210)]
 
 
 def colour_at(x, y):
-    """The red, green and blue at a place: fields that grow from white to full downwards, and below them a ramp of grey."""
+    """The red, green and blue at a place.
+
+    Fields grow from white to full downwards, and below them is a ramp of grey.
+    """
     across, down = (x - 61) // 24, (y - 76) // 4
     if not 0 <= across < len(FIELDS):
         return 3 * WHITE

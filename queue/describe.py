@@ -1,12 +1,12 @@
 #!/usr/bin/python3
-"""Describes a printer to CUPS: reads the text of a profile on standard input and writes a description on standard output.
+"""Describes a printer to CUPS: reads the text of a profile on standard input, and writes a description.
 
     driver_program profile profile=NAME | describe.py ppd NAME [paper|labels]
     driver_program profile profile=NAME | describe.py attributes NAME [paper|labels]
 
-`ppd` writes a PPD for a queue, in which the text of the profile stands, `attributes` the attributes of an IPP printer for
-`ippeveprinter -a`. Resolution, margins and colours are those of the profile. NAME is what users see. The last word chooses the sizes of
-sheets that are offered, of which those that the driver takes at the profile's resolution are kept.
+`ppd` writes a PPD for a queue, in which the text of the profile stands, `attributes` the attributes of an IPP printer
+for `ippeveprinter -a`. Resolution, margins and colours are those of the profile. NAME is what users see. The last word
+chooses the sizes of sheets that are offered, of which those that the driver takes at the profile's resolution are kept.
 """
 import math
 import sys
@@ -64,10 +64,14 @@ def points(millimetres):
 
 
 def ppd(profile, name, sheets):
-    """The PPD, in which no line *PWGRaster stands: with that line, options of a job would override ColorModel and Resolution."""
+    """The PPD.
+
+    It has no line *PWGRaster: with that line, options of a job would override ColorModel and Resolution.
+    """
     return "\n".join([
-        ppd_head(profile, name), ppd_filters(), ppd_profile(profile), ppd_sheets(profile, sheets), ppd_custom_sheet(profile),
-        ppd_choices(profile), '*DefaultFont: Courier\n*Font Courier: Standard "(1.05)" Standard ROM', ""])
+        ppd_head(profile, name), ppd_filters(), ppd_profile(profile), ppd_sheets(profile, sheets),
+        ppd_custom_sheet(profile), ppd_choices(profile),
+        '*DefaultFont: Courier\n*Font Courier: Standard "(1.05)" Standard ROM', ""])
 
 
 def ppd_head(profile, name):
@@ -96,8 +100,8 @@ def ppd_head(profile, name):
 
 
 def ppd_filters():
-    """The costs steer CUPS: a PDF goes by CUPS Raster, for 0 is below 10, and a PWG file comes as it is, for 10 is below 197, the
-    cost of the way by a PDF. The filters before this one make the copies."""
+    """The costs steer CUPS: a PDF goes by CUPS Raster, for 0 is below 10, and a PWG file comes as it is, for 10 is below
+    197, the cost of the way by a PDF. The filters before this one make the copies."""
     return '''*cupsFilter2: "application/vnd.cups-raster application/vnd.cups-raw 0 rastertojinthbao"
 *cupsFilter2: "image/pwg-raster application/vnd.cups-raw 10 rastertojinthbao"
 *cupsManualCopies: True'''
@@ -109,19 +113,24 @@ def ppd_profile(profile):
 
 def ppd_option(key, text, choices, order):
     """An option whose first choice is the default; a choice is its name, its text and its PostScript."""
-    lines = [f"*OpenUI *{key}/{text}: PickOne", f"*OrderDependency: {order} AnySetup *{key}", f"*Default{key}: {choices[0][0]}"]
+    lines = [
+        f"*OpenUI *{key}/{text}: PickOne", f"*OrderDependency: {order} AnySetup *{key}",
+        f"*Default{key}: {choices[0][0]}"]
     lines += [f'*{key} {name}/{shown}: "{code}"' for name, shown, code in choices]
     return "\n".join(lines + [f"*CloseUI: *{key}"])
 
 
 def ppd_sheets(profile, sheets):
-    choices = [(sheet.name, sheet.text,
-                f"<</PageSize[{points(sheet.width)} {points(sheet.height)}]/ImagingBBox null>>setpagedevice") for sheet in sheets]
+    choices = [
+        (sheet.name, sheet.text,
+         f"<</PageSize[{points(sheet.width)} {points(sheet.height)}]/ImagingBBox null>>setpagedevice")
+        for sheet in sheets]
     lines = [ppd_option("PageSize", "Media Size", choices, 10), ppd_option("PageRegion", "Media Size", choices, 10)]
     lines += [f"*DefaultImageableArea: {sheets[0].name}", f"*DefaultPaperDimension: {sheets[0].name}"]
     for sheet in sheets:
         width, height = points(sheet.width), points(sheet.height)
-        left, bottom, right, top = profile.left * 72, profile.bottom * 72, width - profile.right * 72, height - profile.top * 72
+        left, bottom = profile.left * 72, profile.bottom * 72
+        right, top = width - profile.right * 72, height - profile.top * 72
         lines.append(f'*ImageableArea {sheet.name}/{sheet.text}: "{left:g} {bottom:g} {right:g} {top:g}"')
         lines.append(f'*PaperDimension {sheet.name}/{sheet.text}: "{width} {height}"')
     return "\n".join(lines)
@@ -143,8 +152,10 @@ def ppd_custom_sheet(profile):
 
 def ppd_choices(profile):
     resolution = resolution_of(profile)
-    models = [(model, PIXELS[model][0], f"<</cupsColorSpace {PIXELS[model][1]}/cupsColorOrder 0/cupsBitsPerColor 8>>setpagedevice")
-              for model in profile.models]
+    models = [
+        (model, PIXELS[model][0],
+         f"<</cupsColorSpace {PIXELS[model][1]}/cupsColorOrder 0/cupsBitsPerColor 8>>setpagedevice")
+        for model in profile.models]
     return "\n".join([
         ppd_option("Resolution", "Resolution", [(resolution, resolution.replace("dpi", " DPI"),
                    f"<</HWResolution[{profile.across} {profile.down}]>>setpagedevice")], 10),
@@ -170,7 +181,8 @@ def attributes(profile, name, sheets):
         "ATTR integer copies-default 1", "ATTR rangeOfInteger copies-supported 1-999",
         "ATTR keyword sides-default one-sided", "ATTR keyword sides-supported one-sided",
         "ATTR enum print-quality-default 4", "ATTR enum print-quality-supported 4",
-        f"ATTR resolution printer-resolution-default {resolution}", f"ATTR resolution printer-resolution-supported {resolution}",
+        f"ATTR resolution printer-resolution-default {resolution}",
+        f"ATTR resolution printer-resolution-supported {resolution}",
         f"ATTR resolution pwg-raster-document-resolution-supported {resolution}",
         "ATTR keyword pwg-raster-document-sheet-back normal",
         f"ATTR keyword pwg-raster-document-type-supported {'srgb_8,sgray_8' if colour else 'sgray_8'}",
@@ -188,7 +200,8 @@ def ipp_margins(profile):
 
 
 def ipp_size(sheet):
-    return f"{{ MEMBER integer x-dimension {round(sheet.width * 100)} MEMBER integer y-dimension {round(sheet.height * 100)} }}"
+    x, y = round(sheet.width * 100), round(sheet.height * 100)
+    return f"{{ MEMBER integer x-dimension {x} MEMBER integer y-dimension {y} }}"
 
 
 def main(words):
