@@ -17,6 +17,8 @@ mod inks;
 mod lines;
 mod slab;
 mod stages;
+#[cfg(test)]
+mod tests;
 
 use job_profile::find_profile;
 use job_words::{Words, profile_name, read_words};
