@@ -11,7 +11,6 @@ use ink_separation::BlackTable;
 use printer_profile::Profile;
 use pwg_definitions::MOST_ROWS;
 use pwg_stream::{PageReader, StreamStop};
-use separation_definitions::Window;
 use std::alloc::Global;
 use std::thread::Threads;
 use wavefront_team::OpenGate;
@@ -115,14 +114,7 @@ fn next_page<S: Source>(
     let Some(form) = reader.next_page(input, profile.wanted())? else {
         return Ok(None);
     };
-    let across = u32::from(profile.left) + u32::from(profile.right);
-    let down = u32::from(profile.top) + u32::from(profile.bottom);
-    let window = Window {
-        left: u32::from(profile.left),
-        top: u32::from(profile.top),
-        width: form.width.saturating_sub(across),
-        height: form.height.saturating_sub(down),
-    };
+    let window = profile.window(form);
     Ok(Some(Page { form, window }))
 }
 
