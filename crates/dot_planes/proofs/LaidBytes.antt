@@ -44,37 +44,44 @@ pub part-whole : (row : List ℕ) (dots i j : ℕ) → 8 ≤ dots - 8 * i → j 
 part-whole row dots i j many low =
     sym (ap (λ b. b && row_dot row (8 * i + j)) (lt-ltb (8 * i + j) dots (omega arith)) ∙ row_dot-at row (8 * i + j) i j refl low)
 
--- eight dots out of two bytes, from a place in the first on
-pub pair-is : (bytes : List ℕ) (i by j a b : ℕ) → by ≤ 8 → j < 8
-    → bit_at a j ≡ (nat_lt (j + by) 8 && bit_at (get_or bytes i 0) (j + by))
-    → bit_at b j ≡ (nat_le 8 (j + by) && bit_at (get_or bytes (i + 1) 0) (j + by - 8))
-    → bit_at (bit_or a b) j ≡ row_dot bytes (8 * i + by + j)
-pair-is bytes i by j a b few low first second =
+-- eight dots out of two bytes, from a place in the first on: those of the first
+pub eight-left : (p q by j a b : ℕ) → j + by < 8
+    → bit_at a j ≡ (nat_lt (j + by) 8 && bit_at p (j + by)) → bit_at b j ≡ (nat_le 8 (j + by) && bit_at q (j + by - 8))
+    → bit_at (bit_or a b) j ≡ bit_at p (j + by)
+eight-left p q by j a b here first second =
     or-is a b j ∙ ap (λ d. d || bit_at b j) first
-    ∙ ap (λ d. (nat_lt (j + by) 8 && bit_at (get_or bytes i 0) (j + by)) || d) second
-    ∙ by_place (cases_lt (j + by) 8)
-  where
-    by_place : (j + by < 8) ⊎ (8 ≤ j + by)
-        → ((nat_lt (j + by) 8 && bit_at (get_or bytes i 0) (j + by))
-        || (nat_le 8 (j + by) && bit_at (get_or bytes (i + 1) 0) (j + by - 8))) ≡ row_dot bytes (8 * i + by + j)
-    by_place (inl here) =
-        ap (λ t. (t && bit_at (get_or bytes i 0) (j + by))
-        || (nat_le 8 (j + by) && bit_at (get_or bytes (i + 1) 0) (j + by - 8))) (lt-ltb (j + by) 8 here)
-        ∙ ap (λ t. bit_at (get_or bytes i 0) (j + by) || (t && bit_at (get_or bytes (i + 1) 0) (j + by - 8))) (lt-leb 8 (j + by) here)
-        ∙ or-nothing _ ∙ sym (row_dot-at bytes (8 * i + by + j) i (j + by) (omega arith) here)
-    by_place (inr next) =
-        ap (λ t. (t && bit_at (get_or bytes i 0) (j + by))
-        || (nat_le 8 (j + by) && bit_at (get_or bytes (i + 1) 0) (j + by - 8))) (le-ltb (j + by) 8 next)
-        ∙ ap (λ t. t && bit_at (get_or bytes (i + 1) 0) (j + by - 8)) (le-leb 8 (j + by) next)
-        ∙ sym (row_dot-at bytes (8 * i + by + j) (i + 1) (j + by - 8) (omega arith) (omega arith))
+    ∙ ap (λ d. (nat_lt (j + by) 8 && bit_at p (j + by)) || d) second
+    ∙ ap (λ t. (t && bit_at p (j + by)) || (nat_le 8 (j + by) && bit_at q (j + by - 8))) (lt-ltb (j + by) 8 here)
+    ∙ ap (λ t. bit_at p (j + by) || (t && bit_at q (j + by - 8))) (lt-leb 8 (j + by) here)
+    ∙ or-nothing _
 
-pub window-is : (bytes : List ℕ) (x j a b : ℕ) → j < 8
-    → bit_at a j ≡ (nat_lt (j + x % 8) 8 && bit_at (get_or bytes (x / 8) 0) (j + x % 8))
-    → bit_at b j ≡ (nat_le 8 (j + x % 8) && bit_at (get_or bytes (x / 8 + 1) 0) (j + x % 8 - 8))
-    → bit_at (bit_or a b) j ≡ row_dot bytes (x + j)
-window-is bytes x j a b low first second =
+-- and those of the second
+pub eight-right : (p q by j a b : ℕ) → 8 ≤ j + by
+    → bit_at a j ≡ (nat_lt (j + by) 8 && bit_at p (j + by)) → bit_at b j ≡ (nat_le 8 (j + by) && bit_at q (j + by - 8))
+    → bit_at (bit_or a b) j ≡ bit_at q (j + by - 8)
+eight-right p q by j a b next first second =
+    or-is a b j ∙ ap (λ d. d || bit_at b j) first
+    ∙ ap (λ d. (nat_lt (j + by) 8 && bit_at p (j + by)) || d) second
+    ∙ ap (λ t. (t && bit_at p (j + by)) || (nat_le 8 (j + by) && bit_at q (j + by - 8))) (le-ltb (j + by) 8 next)
+    ∙ ap (λ t. t && bit_at q (j + by - 8)) (le-leb 8 (j + by) next)
+
+-- the same in a packed row
+pub pair-is : (bytes : List ℕ) (i by j v : ℕ) → by ≤ 8 → j < 8
+    → (j + by < 8 → bit_at v j ≡ bit_at (get_or bytes i 0) (j + by))
+    → (8 ≤ j + by → bit_at v j ≡ bit_at (get_or bytes (i + 1) 0) (j + by - 8))
+    → bit_at v j ≡ row_dot bytes (8 * i + by + j)
+pair-is bytes i by j v few low first second = elim (cases_lt (j + by) 8) [
+  | inl here ↦ first here ∙ sym (row_dot-at bytes (8 * i + by + j) i (j + by) (omega arith) here)
+  | inr next ↦ second next ∙ sym (row_dot-at bytes (8 * i + by + j) (i + 1) (j + by - 8) (omega arith) (omega arith))
+]
+
+pub window-is : (bytes : List ℕ) (x j v : ℕ) → j < 8
+    → (j + x % 8 < 8 → bit_at v j ≡ bit_at (get_or bytes (x / 8) 0) (j + x % 8))
+    → (8 ≤ j + x % 8 → bit_at v j ≡ bit_at (get_or bytes (x / 8 + 1) 0) (j + x % 8 - 8))
+    → bit_at v j ≡ row_dot bytes (x + j)
+window-is bytes x j v low first second =
     let place : 8 * (x / 8) + x % 8 + j ≡ x + j = omega arith in
-    pair-is bytes (x / 8) (x % 8) j a b (omega arith) low first second ∙ ap (row_dot bytes) place
+    pair-is bytes (x / 8) (x % 8) j v (omega arith) low first second ∙ ap (row_dot bytes) place
 
 -- ---- dots turned on
 
@@ -237,35 +244,23 @@ none-before row dots i first = λ j low.
     no_bit j ∙ sym (ap (λ b. b && (nat_lt (8 * i + j - 8) dots && row_dot row (8 * i + j - 8))) (lt-leb 8 (8 * i + j) (omega arith)))
 
 -- a byte of a row that begins within byte 0
-pub laid_byte-is : (row : List ℕ) (dots before i j left here a b : ℕ) → before < 8 → j < 8
+pub laid_byte-is : (row : List ℕ) (dots before i j left here v : ℕ) → before < 8 → j < 8
     → IsPartBefore row dots i left → IsPart row dots i here
-    → bit_at a j ≡ (nat_lt (j + (8 - before)) 8 && bit_at left (j + (8 - before)))
-    → bit_at b j ≡ (nat_le 8 (j + (8 - before)) && bit_at here (j + (8 - before) - 8))
-    → bit_at (bit_or a b) j ≡ laid_dot row dots before (8 * i + j)
-laid_byte-is row dots before i j left here a b few low is_left is_here first second =
-    or-is a b j
-    ∙ ap (λ d. d || bit_at b j) first
-    ∙ ap (λ d. (nat_lt (j + (8 - before)) 8 && bit_at left (j + (8 - before))) || d) second
-    ∙ by_place (cases_lt j before)
+    → (j + (8 - before) < 8 → bit_at v j ≡ bit_at left (j + (8 - before)))
+    → (8 ≤ j + (8 - before) → bit_at v j ≡ bit_at here (j + (8 - before) - 8))
+    → bit_at v j ≡ laid_dot row dots before (8 * i + j)
+laid_byte-is row dots before i j left here v few low is_left is_here first second = by_place (cases_lt j before)
   where
-    by_place : (j < before) ⊎ (before ≤ j)
-        → ((nat_lt (j + (8 - before)) 8 && bit_at left (j + (8 - before))) || (nat_le 8 (j + (8 - before))
-        && bit_at here (j + (8 - before) - 8))) ≡ laid_dot row dots before (8 * i + j)
+    by_place : (j < before) ⊎ (before ≤ j) → bit_at v j ≡ laid_dot row dots before (8 * i + j)
     by_place (inl less) =
         let place : 8 * i + (j + (8 - before)) - 8 ≡ 8 * i + j - before = omega arith in
-        ap (λ t. (t && bit_at left (j + (8 - before))) || (nat_le 8 (j + (8 - before))
-        && bit_at here (j + (8 - before) - 8))) (lt-ltb (j + (8 - before)) 8 (omega arith))
-        ∙ ap (λ t. bit_at left (j + (8 - before)) || (t && bit_at here (j + (8 - before) - 8))) (lt-leb 8 (j + (8 - before)) (omega arith))
-        ∙ or-nothing _ ∙ is_left (j + (8 - before)) (omega arith)
+        first (omega arith) ∙ is_left (j + (8 - before)) (omega arith)
         ∙ ap (λ t. t && (nat_lt (8 * i + (j + (8 - before)) - 8) dots && row_dot row (8 * i + (j + (8 - before)) - 8)))
         (same_le 8 (8 * i + (j + (8 - before))) before (8 * i + j) (λ le. omega arith) (λ le. omega arith))
         ∙ ap (λ n. nat_le before (8 * i + j) && (nat_lt n dots && row_dot row n)) place
     by_place (inr more) =
         let place : 8 * i + (j + (8 - before) - 8) ≡ 8 * i + j - before = omega arith in
-        ap (λ t. (t && bit_at left (j + (8 - before))) || (nat_le 8 (j + (8 - before))
-        && bit_at here (j + (8 - before) - 8))) (le-ltb (j + (8 - before)) 8 (omega arith))
-        ∙ ap (λ t. t && bit_at here (j + (8 - before) - 8)) (le-leb 8 (j + (8 - before)) (omega arith))
-        ∙ is_here (j + (8 - before) - 8) (omega arith)
+        second (omega arith) ∙ is_here (j + (8 - before) - 8) (omega arith)
         ∙ ap (λ n. nat_lt n dots && row_dot row n) place
         ∙ sym (ap (λ t. t && (nat_lt (8 * i + j - before) dots && row_dot row (8 * i + j - before)))
         (le-leb before (8 * i + j) (omega arith)))

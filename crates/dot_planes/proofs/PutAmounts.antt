@@ -1,8 +1,8 @@
 -- Amounts of a row are written.
 use Rattle.std.proofs.Common.{◌≡◌, ◌≢◌, ◌⊎◌, ℕ, ◌+◌, ◌*◌, ◌<◌, ◌≤◌, List, length, get_or, sym, ◌∙◌, ap, arith, inl, inr, refl, subst}
-use Rattle.std.proofs.lemmas.Bool.{cases_lt}
+use Rattle.std.proofs.lemmas.Bool.{cases_eq, cases_lt}
 use borrow.Rule.Slice.PartMut.{put_mid}
-use Rattle.dot_planes.specs.Tables.{AmountTable, Sets, amount}
+use Rattle.dot_planes.specs.Tables.{AmountTable, CopiesInkRow, HasSizeAs, Sets, amount}
 use Rattle.dot_planes.proofs.RowBytes.{bytes_inside, no_byte, row_byte, row_inside, row_kept, rows_differ}
 use Rattle.dot_planes.proofs.Writes.{put_inside, put_outside}
 
@@ -78,3 +78,60 @@ sets t old i y x a k part new same p =
       beside = beside_kept t i y x a k part new p;
       others = others_kept t i y x a k part new p;
     })
+
+-- The bytes are those of a table in which a row of an ink is a copy of another.
+pub record IsCopied (t : AmountTable) (i from y : ℕ) (new : List ℕ) : Type 0 where
+  pub row : y < t.rows
+  pub copy : (x : ℕ) → x < t.width → get_or new ((i * t.rows + y) * t.width + x) 0 ≡ get_or t.bytes ((i * t.rows + from) * t.width + x) 0
+  pub rest : (n : ℕ) → (n < (i * t.rows + y) * t.width) ⊎ ((i * t.rows + y) * t.width + t.width ≤ n) → get_or new n 0 ≡ get_or t.bytes n 0
+
+copy_is : (t : AmountTable) (i from y : ℕ) (new : List ℕ) → IsCopied t i from y new
+    → (x : ℕ) → amount (with_bytes t new) i y x ≡ amount t i from x
+unfolding amount
+copy_is t i from y new p x = elim (cases_lt x t.width) [
+  | inl inside ↦
+      row_byte t.width (i * t.rows + y) x new inside ∙ p.copy x inside ∙ sym (row_byte t.width (i * t.rows + from) x t.bytes inside)
+  | inr past ↦ no_byte t.width (i * t.rows + y) x new past ∙ sym (no_byte t.width (i * t.rows + from) x t.bytes past)
+]
+
+rest_kept : (t : AmountTable) (i from y : ℕ) (new : List ℕ) → IsCopied t i from y new
+    → (j r : ℕ) → (j ≢ i) ⊎ (r ≢ y) → r < t.rows → (x : ℕ) → amount (with_bytes t new) j r x ≡ amount t j r x
+unfolding amount
+rest_kept t i from y new p j r other low x =
+    row_kept t.width (i * t.rows + y) (j * t.rows + r) t.bytes new p.rest (rows_differ t.rows i y j r p.row low other) x
+
+pub copies : (t old : AmountTable) (i from y : ℕ) (new : List ℕ)
+    → t ≡ old → IsCopied t i from y new → CopiesInkRow old (with_bytes t new) i from y
+copies t old i from y new same p =
+    let Q : AmountTable → Type 0 = λ o. CopiesInkRow o (with_bytes t new) i from y in
+    subst Q same (record {
+      size = record { width = refl; rows = refl; inks = refl };
+      row = copy_is t i from y new p;
+      others = rest_kept t i from y new p;
+    })
+
+-- The first inks have the copy, and the others are unchanged.
+pub record HasCopies (old new : AmountTable) (inks from y : ℕ) : Type 0 where
+  pub size : HasSizeAs old new
+  pub row : (i x : ℕ) → i < inks → amount new i y x ≡ amount old i from x
+  pub later : (i r x : ℕ) → inks ≤ i → r < old.rows → amount new i r x ≡ amount old i r x
+  pub others : (i r x : ℕ) → r ≢ y → r < old.rows → amount new i r x ≡ amount old i r x
+
+-- one ink more
+pub copies_more : (old now new : AmountTable) (ink from y : ℕ) → from < old.rows → y < old.rows
+    → HasCopies old now ink from y → CopiesInkRow now new ink from y → HasCopies old new (ink + 1) from y
+copies_more old now new ink from y low low' p one = record {
+  size = record {
+    width = one.size.width ∙ p.size.width;
+    rows = one.size.rows ∙ p.size.rows;
+    inks = one.size.inks ∙ p.size.inks;
+  };
+  row = λ i x few. elim (cases_eq i ink) [
+    | inl here ↦
+        ap (λ n. amount new n y x) here ∙ one.row x ∙ p.later ink from x (omega arith) low ∙ ap (λ n. amount old n from x) (sym here)
+    | inr other ↦ one.others i y (inl other) (omega (arith, p.size.rows)) x ∙ p.row i x (omega arith)
+  ];
+  later = λ i r x few inside.
+      one.others i r (inl (omega arith)) (omega (arith, p.size.rows)) x ∙ p.later i r x (omega arith) inside;
+  others = λ i r x other inside. one.others i r (inr other) (omega (arith, p.size.rows)) x ∙ p.others i r x other inside;
+}

@@ -87,6 +87,18 @@ pub record Sets (old new : AmountTable) (i y x : ℕ) (amounts : List ℕ) : Typ
   pub beside : (c : ℕ) → (c < x) ⊎ (x + length amounts ≤ c) → amount new i y c ≡ amount old i y c
   pub others : (j r : ℕ) → (j ≢ i) ⊎ (r ≢ y) → r < old.rows → (c : ℕ) → amount new j r c ≡ amount old j r c
 
+-- In all inks, row y takes the amounts of row `from`, and all other rows are unchanged.
+pub record CopiesRow (old new : AmountTable) (from y : ℕ) : Type 0 where
+  pub size : HasSizeAs old new
+  pub row : (i x : ℕ) → i < old.inks → amount new i y x ≡ amount old i from x
+  pub others : (i r x : ℕ) → r ≢ y → r < old.rows → amount new i r x ≡ amount old i r x
+
+-- The same for one ink.
+pub record CopiesInkRow (old new : AmountTable) (i from y : ℕ) : Type 0 where
+  pub size : HasSizeAs old new
+  pub row : (x : ℕ) → amount new i y x ≡ amount old i from x
+  pub others : (j r : ℕ) → (j ≢ i) ⊎ (r ≢ y) → r < old.rows → (x : ℕ) → amount new j r x ≡ amount old j r x
+
 -- ---- sizes
 
 -- The sizes that `make` takes: at most 8,191 columns, 15,840 rows and four inks.

@@ -4,34 +4,24 @@ ghost use Rattle.dot_planes.specs.Tables.{row_dot, row_len};
 ghost use Rattle.escp2_definitions.specs.Machine.{bit_at};
 ghost use Rattle.pwg_definitions.specs.Limits.{most_columns};
 ghost use Rattle.std.specs.List.{list_any};
-ghost use Rattle.std.specs.Prelude.{length, nat_le, nat_lt, slice_index, true, ℕ, ◌&&◌, ◌*◌, ◌+◌};
+ghost use Rattle.std.specs.Prelude.{length, nat_lt, slice_index, true, ℕ, ◌&&◌, ◌*◌, ◌+◌};
 ghost use Rattle.std.specs.Prelude.{◌-◌, ◌/◌, ◌<◌, ◌||◌, ◌≡◌, ◌≤◌};
 ghost use Rattle.weave_definitions.specs.Weave.{count_from};
+
+use crate::eights::eight_from;
 
 fn are_bytes(bytes: &[u8])
     ensures { (k : ℕ) → slice_index bytes.now k < 256 }
 {}
 
-// The dots of a byte, moved `by` places to the left: `left` are those that leave it, at the end of a byte, and `stay`
-// those that stay.
-#[inline(always)]
-fn moved(byte: u8, by: usize) -> (u8, u8)
-    requires { by ≤ 8 }
-    ensures left { (j : ℕ) → j < 8 → bit_at result.0 j ≡ (nat_le 8 (j + by) && bit_at byte (j + by - 8)) }
-    ensures stay { (j : ℕ) → j < 8 → bit_at result.1 j ≡ (nat_lt (j + by) 8 && bit_at byte (j + by)) }
-{
-    let wide = u16::from(byte) << by;
-    ((wide >> 8) as u8, (wide & 255) as u8)
-}
-
 // Eight dots of a row from bit `by` of byte i on. Byte i + 1 exists.
 #[inline(always)]
-fn eight_from(bytes: &[u8], i: usize, by: usize) -> u8
+fn row_eight(bytes: &[u8], i: usize, by: usize) -> u8
     requires by { by ≤ 8 }
     requires next { i + 1 < length bytes.now }
     ensures { (j : ℕ) → j < 8 → bit_at result j ≡ row_dot bytes.now (8 * i + by + j) }
 {
-    moved(bytes[i], by).1 | moved(bytes[i + 1], by).0
+    eight_from(bytes[i], bytes[i + 1], by)
 }
 
 // The eight dots of a row from column x on; past the row's end there is no dot.
@@ -46,7 +36,7 @@ fn window(bytes: &[u8], x: usize) -> u8
     } else {
         0
     };
-    moved(bytes[place], x % 8).1 | moved(next, x % 8).0
+    eight_from(bytes[place], next, x % 8)
 }
 
 // The dots of byte i of a row that has `dots` dots. Bits past the last dot are cleared.
@@ -90,7 +80,7 @@ fn laid_byte(row: &[u8], dots: usize, before: usize, i: usize) -> u8
         None => 0,
     };
     let here = part_or_none(row, dots, i);
-    moved(left, 8 - before).1 | moved(here, 8 - before).0
+    eight_from(left, here, 8 - before)
 }
 
 // Turns on those dots of a row, laid from column x on, that fall into bytes `from` to `to` - 1, counted from the byte
@@ -127,7 +117,7 @@ fn lay_whole(over: &mut [u8], x: usize, row: &[u8], dots: usize, many: usize)
     let next = x / 8 + 1;
     let by = 8 - x % 8;
     for i in 0..many {
-        over[next + i] |= eight_from(row, i, by);
+        over[next + i] |= row_eight(row, i, by);
     }
 }
 
@@ -158,7 +148,7 @@ fn bytes_meet(other: &[u8], x: usize, row: &[u8], many: usize) -> bool
     let by = x % 8;
     let mut both = 0;
     for i in 0..many {
-        both |= row[i] & eight_from(other, place + i, by);
+        both |= row[i] & row_eight(other, place + i, by);
     }
     both != 0
 }

@@ -1,5 +1,5 @@
 //! Rows of amounts.
-ghost use Rattle.dot_planes.specs.Tables.{IsSize, Sets, amount};
+ghost use Rattle.dot_planes.specs.Tables.{CopiesInkRow, CopiesRow, IsSize, Sets, amount};
 ghost use Rattle.tile_shape.specs.Geometry.{IsShape};
 ghost use Rattle.std.specs.Prelude.{IfOk, [], length, slice_index, ℕ, ◌+◌, ◌<◌, ◌∷◌, ◌≡◌, ◌≤◌};
 
@@ -129,6 +129,7 @@ impl InkRows {
     }
 
     /// Sets the amounts of an ink in row y from column x on. All others are unchanged.
+    #[inline]
     pub fn put_part(&mut self, ink: u8, x: u32, y: u32, part: &[u8])
         requires ink { ink < self.old.inks }
         requires y { y < self.old.rows }
@@ -138,5 +139,29 @@ impl InkRows {
         let row = row_start(self.inks, self.rows, self.width as usize, ink, y);
         let start = row + x as usize;
         self.bytes[start..start + part.len()].copy_from_slice(part);
+    }
+
+    /// Sets row y of each ink to the amounts of another row of it. All other rows are unchanged.
+    pub fn copy_row(&mut self, from: u32, y: u32)
+        requires from { from < self.old.rows }
+        requires y { y < self.old.rows }
+        ensures { CopiesRow self.old self.new from y }
+    {
+        for ink in 0..self.inks() {
+            self.copy_ink_row(ink, from, y);
+        }
+    }
+
+    // The same for one ink.
+    fn copy_ink_row(&mut self, ink: u8, from: u32, y: u32)
+        requires ink { ink < self.old.inks }
+        requires from { from < self.old.rows }
+        requires y { y < self.old.rows }
+        ensures { CopiesInkRow self.old self.new ink from y }
+    {
+        let len = self.width as usize;
+        let source = row_start(self.inks, self.rows, len, ink, from);
+        let start = row_start(self.inks, self.rows, len, ink, y);
+        self.bytes.copy_within(source..source + len, start);
     }
 }

@@ -37,6 +37,10 @@ fn amounts_are_kept_ink_by_ink(rt: HostRuntime) {
     assert_eq!(rt; rows.row(3, 1), [0, 0, 7].as_slice());
     assert_eq!(rt; rows.row(2, 1), [0, 5, 6].as_slice());
     assert_eq!(rt; (rows.get(2, 1, 1), rows.get(3, 0, 0)), (5, 0));
+    rows.copy_row(1, 0);
+    assert_eq!(rt; rows.row(3, 0), [0, 0, 7].as_slice());
+    assert_eq!(rt; rows.row(2, 0), [0, 5, 6].as_slice());
+    assert_eq!(rt; rows.row(2, 1), [0, 5, 6].as_slice());
 }
 
 // A byte of a tile's dots in the tests, and a dot that the planes have before a tile is put.

@@ -5,6 +5,8 @@ ghost use Rattle.escp2_definitions.specs.Machine.{bit_at};
 ghost use Rattle.pwg_definitions.specs.Limits.{most_columns};
 ghost use Rattle.std.specs.Prelude.{length, slice_index, ℕ, ◌*◌, ◌+◌, ◌-◌, ◌<◌, ◌≡◌, ◌≤◌, ◌⊎◌};
 
+use crate::eights::eight_from;
+
 /// Sets the dots of row r of a tile in column c, eight bytes, in a packed row of `width` columns, wherever the tile
 /// has a pixel of the row. All other dots are unchanged.
 pub(crate) fn put_dots(row: &mut [u8], width: usize, c: usize, r: usize, dots: &[u8])
@@ -99,17 +101,6 @@ fn put_byte(old: u8, dots: &[u8], n: usize, shift: usize, most: usize) -> u8
     let from = if n > 0 { 0 } else { 8 - shift };
     let to = if n < 8 { 8 } else { 8 - shift };
     splice(old, eight_from(left, right, shift), from, to.min(most))
-}
-
-// The eight dots of two bytes from a place on.
-#[inline]
-fn eight_from(left: u8, right: u8, shift: usize) -> u8
-    requires { shift < 8 }
-    ensures left { (k : ℕ) → k + shift < 8 → bit_at result k ≡ bit_at left (k + shift) }
-    ensures right { (k : ℕ) → k < 8 → 8 ≤ k + shift → bit_at result k ≡ bit_at right (k + shift - 8) }
-{
-    let both = u16::from(left) * 256 + u16::from(right);
-    ((both >> (8 - shift)) % 256) as u8
 }
 
 // A byte with the dots at `from` to `to` - 1 taken from a second byte.

@@ -1,5 +1,6 @@
 -- What greys and colours give to each ink.
-use Rattle.std.proofs.Common.{◌≡◌, ℕ, ◌+◌, length, min, ◌-◌, ◌*◌, ◌/◌, ◌<◌, ◌≤◌, List, get_or, sym, ◌∙◌, ap, arith}
+use Rattle.std.proofs.Common.{◌≡◌, ℕ, ◌+◌, inl, inr, min, ◌-◌, ◌*◌, ◌/◌, ◌<◌, ◌≤◌, List, get_or, sym, ◌∙◌, ap, arith}
+use Rattle.std.proofs.lemmas.Bool.{cases_lt}
 use Rattle.std.proofs.lemmas.Bool.Decides.{nat_tests}
 use Rattle.printer_definitions.specs.declared.inks.Ink.{Ink}
 use Rattle.printer_definitions.specs.declared.inks.Ink.TheVariants.{Black, Cyan, Magenta, Yellow}
@@ -27,31 +28,47 @@ pub moved_from : (least q : ℕ) → least ≤ q → (q - least) * 255 / (255 - 
 moved_from least q above = grind (arith, nat_tests)
 
 -- the complements, for each ink
-pub complements_are : (pixels none cyan magenta yellow : List ℕ) → length pixels ≤ 192 → ((x : ℕ) → x < 64 → get_or none x 0 ≡ 0)
-    → ((x : ℕ) → 3 * x + 3 ≤ length pixels → get_or cyan x 0 ≡ 255 - get_or pixels (3 * x + 0) 0)
-    → ((x : ℕ) → 3 * x + 3 ≤ length pixels → get_or magenta x 0 ≡ 255 - get_or pixels (3 * x + 1) 0)
-    → ((x : ℕ) → 3 * x + 3 ≤ length pixels → get_or yellow x 0 ≡ 255 - get_or pixels (3 * x + 2) 0)
-    → (ink : Ink) (x : ℕ) → 3 * x + 3 ≤ length pixels
+pub complements_are : (pixels none cyan magenta yellow : List ℕ) (many : ℕ) → many ≤ 64 → ((x : ℕ) → x < 64 → get_or none x 0 ≡ 0)
+    → ((x : ℕ) → x < many → get_or cyan x 0 ≡ 255 - get_or pixels (3 * x + 0) 0)
+    → ((x : ℕ) → x < many → get_or magenta x 0 ≡ 255 - get_or pixels (3 * x + 1) 0)
+    → ((x : ℕ) → x < many → get_or yellow x 0 ≡ 255 - get_or pixels (3 * x + 2) 0)
+    → (ink : Ink) (x : ℕ) → x < many
     → get_or (given_to (record { black = none; cyan = cyan; magenta = magenta; yellow = yellow }) ink) x 0
     ≡ complement (colour_at pixels x) ink
-complements_are pixels none cyan magenta yellow few zeros c m y Black x inside = zeros x (omega arith)
-complements_are pixels none cyan magenta yellow few zeros c m y Cyan x inside =
+complements_are pixels none cyan magenta yellow many few zeros c m y Black x inside = zeros x (omega arith)
+complements_are pixels none cyan magenta yellow many few zeros c m y Cyan x inside =
     let place : 3 * x + 0 ≡ 3 * x = omega arith in
     c x inside ∙ ap (λ n. 255 - get_or pixels n 0) place
-complements_are pixels none cyan magenta yellow few zeros c m y Magenta x inside = m x inside
-complements_are pixels none cyan magenta yellow few zeros c m y Yellow x inside = y x inside
+complements_are pixels none cyan magenta yellow many few zeros c m y Magenta x inside = m x inside
+complements_are pixels none cyan magenta yellow many few zeros c m y Yellow x inside = y x inside
+
+-- the complement of a colour, from the two halves of the pixels
+pub complement_is : (pixels first others values : List ℕ) (many colour : ℕ)
+    → ((x : ℕ) → x < 32 → x < many → get_or first (32 * colour + x) 0 ≡ get_or pixels (3 * x + colour) 0)
+    → ((x : ℕ) → 32 + x < many → get_or others (32 * colour + x) 0 ≡ get_or pixels (3 * (32 + x) + colour) 0)
+    → ((x : ℕ) → x < 32 → get_or values x 0 ≡ 255 - get_or first (32 * colour + x) 0)
+    → ((x : ℕ) → x < 32 → get_or values (32 + x) 0 ≡ 255 - get_or others (32 * colour + x) 0)
+    → many ≤ 64 → (x : ℕ) → x < many → get_or values x 0 ≡ 255 - get_or pixels (3 * x + colour) 0
+complement_is pixels first others values many colour left right low high few x inside = elim (cases_lt x 32) [
+  | inl below ↦ low x below ∙ ap (λ n. 255 - n) (left x below inside)
+  | inr above ↦
+      let k : ℕ = x - 32 in
+      let place : 32 + k ≡ x = omega arith in
+      ap (λ n. get_or values n 0) (sym place) ∙ high k (omega arith)
+      ∙ ap (λ n. 255 - n) (right k (omega arith)) ∙ ap (λ n. 255 - get_or pixels (3 * n + colour) 0) place
+]
 
 -- black generation
-pub black_is_moved : (inks : InkSet) (least : ℕ) (pixels table common : List ℕ) (wanted given : Given)
-    → inks ≡ Cmyk → IsBlackTable least table → length pixels ≤ 192
-    → ((ink : Ink) (x : ℕ) → 3 * x + 3 ≤ length pixels → get_or (given_to wanted ink) x 0 ≡ complement (colour_at pixels x) ink)
+pub black_is_moved : (inks : InkSet) (least many : ℕ) (pixels table common : List ℕ) (wanted given : Given)
+    → inks ≡ Cmyk → IsBlackTable least table → many ≤ 64
+    → ((ink : Ink) (x : ℕ) → x < many → get_or (given_to wanted ink) x 0 ≡ complement (colour_at pixels x) ink)
     → ((x : ℕ) → x < 64 → get_or common x 0 ≡ min (min (get_or wanted.cyan x 0) (get_or wanted.magenta x 0)) (get_or wanted.yellow x 0))
     → ((x : ℕ) → x < 64 → get_or given.black x 0 ≡ get_or table (get_or common x 0) 0)
     → ((x : ℕ) → x < 64 → get_or given.cyan x 0 ≡ get_or wanted.cyan x 0 - get_or given.black x 0)
     → ((x : ℕ) → x < 64 → get_or given.magenta x 0 ≡ get_or wanted.magenta x 0 - get_or given.black x 0)
     → ((x : ℕ) → x < 64 → get_or given.yellow x 0 ≡ get_or wanted.yellow x 0 - get_or given.black x 0)
-    → (ink : Ink) (x : ℕ) → 3 * x + 3 ≤ length pixels → get_or (given_to given ink) x 0 ≡ colour_ink inks least (colour_at pixels x) ink
-black_is_moved inks least pixels table common wanted given is moved few wants commons black cyan magenta yellow ink x inside =
+    → (ink : Ink) (x : ℕ) → x < many → get_or (given_to given ink) x 0 ≡ colour_ink inks least (colour_at pixels x) ink
+black_is_moved inks least many pixels table common wanted given is moved few wants commons black cyan magenta yellow ink x inside =
     let colour : Colour = colour_at pixels x in
     let low : x < 64 = omega arith in
     let lacks : (i : Ink) → get_or (given_to wanted i) x 0 ≡ complement colour i = λ i. wants i x inside in

@@ -1,3 +1,5 @@
 pub mod Filled
 pub mod Inks
 pub mod Chunks
+pub mod Riffles
+pub mod Columns

@@ -64,7 +64,7 @@ fn moved_from(least: u8) -> Moved
 }
 
 /// What black takes over at each pixel.
-#[inline]
+#[inline(always)]
 pub(crate) fn black_of(table: &Moved, common: &Values) -> Values
     ensures { (x : ℕ) → x < 64 → slice_index result x ≡ slice_index table.now (slice_index common.now x) }
 {

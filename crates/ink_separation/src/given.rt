@@ -3,11 +3,12 @@ ghost use Rattle.ink_separation.specs.Given.{IsBlackTable, IsGiven, colour_at, g
 ghost use Rattle.printer_definitions.specs.declared.inks.Ink.{Ink};
 ghost use Rattle.printer_profile.specs.Profiles.{printer_of};
 ghost use Rattle.pwg_definitions.specs.Header.{row_of};
-ghost use Rattle.separation_definitions.specs.Amounts.{colour_ink, complement, grey_ink};
-ghost use Rattle.std.specs.Prelude.{length, slice_index, ℕ, ◌*◌, ◌+◌, ◌<◌, ◌≡◌, ◌≤◌};
+ghost use Rattle.separation_definitions.specs.Amounts.{colour_ink, complement as complement_of, grey_ink};
+ghost use Rattle.std.specs.Prelude.{length, slice_index, ℕ, ◌*◌, ◌<◌, ◌≡◌, ◌≤◌};
 
 use crate::black::{Moved, black_of};
-use crate::pixels::{PIXELS, Values, complements, darkness_of, inverted, least_of, less, same};
+use crate::colours::{colours_of, complement};
+use crate::pixels::{PIXELS, Values, darkness_of, inverted, least_of, less, same};
 use printer_definitions::Ink;
 use printer_profile::{InkSet, Profile};
 use pwg_definitions::Kind;
@@ -22,23 +23,23 @@ pub(crate) struct Given {
 }
 
 impl Given {
-    /// What pixels with these bytes give. The table is that of the profile's `black_start`.
-    #[inline]
-    pub(crate) fn make(p: &Profile, kind: Kind, pixels: &[u8], table: &Moved) -> Given
-        requires pixels { length pixels.now ≤ 64 * (row_of kind).unit }
+    /// What the first `many` pixels with these bytes give. The table is that of the profile's `black_start`.
+    #[inline(always)]
+    pub(crate) fn make(p: &Profile, kind: Kind, pixels: &[u8], many: usize, table: &Moved) -> Given
+        requires many { many ≤ 64 }
+        requires pixels { many * (row_of kind).unit ≤ length pixels.now }
         requires table { IsBlackTable p.now.black_start table.now }
-        ensures { (n : ℕ) → n * (row_of kind).unit ≤ length pixels.now
-            → IsGiven (printer_of p.now) kind pixels.now n result }
+        ensures { IsGiven (printer_of p.now) kind pixels.now many result }
     {
         match kind {
-            Kind::Gray8 => grey_given(p.inks, inverted(pixels)),
-            Kind::Black8 => grey_given(p.inks, same(pixels)),
-            Kind::Rgb8 => colour_given(p.inks, table, pixels),
+            Kind::Gray8 => grey_given(p.inks, inverted(pixels, many)),
+            Kind::Black8 => grey_given(p.inks, same(pixels, many)),
+            Kind::Rgb8 => colour_given(p.inks, table, pixels, many),
         }
     }
 
     /// What the pixels give to an ink.
-    #[inline]
+    #[inline(always)]
     pub(crate) fn to(&self, ink: Ink) -> &Values
         ensures { result.now ≡ given_to self.now ink }
     {
@@ -52,7 +53,7 @@ impl Given {
 }
 
 // What pixels of these darknesses give.
-#[inline]
+#[inline(always)]
 fn grey_given(inks: InkSet, dark: Values) -> Given
     ensures { (ink : Ink) (x : ℕ)
         → x < 64 → slice_index (given_to result ink) x ≡ grey_ink inks ink (slice_index dark x) }
@@ -73,18 +74,19 @@ fn grey_given(inks: InkSet, dark: Values) -> Given
     }
 }
 
-// What pixels of red, green and blue give.
-#[inline]
-fn colour_given(inks: InkSet, table: &Moved, pixels: &[u8]) -> Given
-    requires { length pixels.now ≤ 192 }
-    ensures { (least : ℕ) → IsBlackTable least table.now → (ink : Ink) (x : ℕ) → 3 * x + 3 ≤ length pixels.now
+// What the first `many` pixels of red, green and blue give.
+#[inline(always)]
+fn colour_given(inks: InkSet, table: &Moved, pixels: &[u8], many: usize) -> Given
+    requires many { many ≤ 64 }
+    requires pixels { 3 * many ≤ length pixels.now }
+    ensures { (least : ℕ) → IsBlackTable least table.now → (ink : Ink) (x : ℕ) → x < many
         → slice_index (given_to result ink) x ≡ colour_ink inks least (colour_at pixels.now x) ink }
 {
     match inks {
-        InkSet::K => grey_given(inks, darkness_of(pixels)),
-        InkSet::Cmy => complements_given(pixels),
+        InkSet::K => grey_given(inks, darkness_of(pixels, many)),
+        InkSet::Cmy => complements_given(pixels, many),
         InkSet::Cmyk => {
-            let wanted = complements_given(pixels);
+            let wanted = complements_given(pixels, many);
             let common = least_of(&wanted.cyan, &wanted.magenta, &wanted.yellow);
             let black = black_of(table, &common);
             Given {
@@ -97,17 +99,19 @@ fn colour_given(inks: InkSet, table: &Moved, pixels: &[u8]) -> Given
     }
 }
 
-// The complements of pixels of red, green and blue.
-#[inline]
-fn complements_given(pixels: &[u8]) -> Given
-    requires { length pixels.now ≤ 192 }
-    ensures { (ink : Ink) (x : ℕ) → 3 * x + 3 ≤ length pixels.now
-        → slice_index (given_to result ink) x ≡ complement (colour_at pixels.now x) ink }
+// The complements of the first `many` pixels of red, green and blue.
+#[inline(always)]
+fn complements_given(pixels: &[u8], many: usize) -> Given
+    requires many { many ≤ 64 }
+    requires pixels { 3 * many ≤ length pixels.now }
+    ensures { (ink : Ink) (x : ℕ) → x < many
+        → slice_index (given_to result ink) x ≡ complement_of (colour_at pixels.now x) ink }
 {
+    let (first, others) = colours_of(pixels, many);
     Given {
         black: [0; PIXELS],
-        cyan: complements(pixels, 0),
-        magenta: complements(pixels, 1),
-        yellow: complements(pixels, 2),
+        cyan: complement(&first, &others, 0),
+        magenta: complement(&first, &others, 1),
+        yellow: complement(&first, &others, 2),
     }
 }

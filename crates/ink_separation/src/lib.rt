@@ -6,6 +6,7 @@
 #![tactic(auto)]
 
 mod black;
+mod colours;
 mod given;
 mod limits;
 mod lines;

@@ -4,7 +4,7 @@ ghost use Rattle.std.specs.Prelude.{slice_index, ℕ, ◌*◌, ◌/◌, ◌<◌,
 use crate::pixels::{PIXELS, Values};
 
 /// The amounts of an ink with this limit.
-#[inline]
+#[inline(always)]
 pub(crate) fn limited(given: &Values, limit: u8) -> Values
     ensures { (x : ℕ) → x < 64 → slice_index result x ≡ slice_index given.now x * limit / 255 }
 {

@@ -1,6 +1,7 @@
 //! The amounts of the pixels of a line.
 ghost use Rattle.dot_planes.specs.Tables.{HasSizeAs, amount};
 ghost use Rattle.ink_separation.specs.Given.{given_to};
+ghost use Rattle.ink_separation.specs.Separated.{Separates};
 ghost use Rattle.printer_definitions.specs.Inks.{inks_of};
 ghost use Rattle.printer_definitions.specs.Printer.{limit_of as limit_of_printer};
 ghost use Rattle.printer_definitions.specs.declared.inks.Ink.{Ink};
@@ -34,10 +35,7 @@ pub fn amounts(p: &Profile, kind: Kind, line: &[u8], w: Window, at: u32, out: &m
     requires width { out.old.width ≡ w.width }
     requires inks { out.old.inks ≡ length (inks_of p.now.inks) }
     requires at { at < out.old.rows }
-    ensures size { HasSizeAs out.old out.new }
-    ensures amounts { (i : ℕ) (ink : Ink) → slice_get (inks_of p.now.inks) i ≡ Some ink → (x : ℕ) → x < w.width
-        → amount out.new i at x ≡ amount_of (printer_of p.now) kind (pixel_at kind line.now (w.left + x)) ink }
-    ensures others { (i y x : ℕ) → y ≢ at → y < out.old.rows → amount out.new i y x ≡ amount out.old i y x }
+    ensures { Separates (printer_of p.now) kind line.now w at out.old out.new }
 {
     amounts_by(p, &BlackTable::make(p), kind, line, w, at, out);
 }
@@ -59,21 +57,48 @@ pub fn amounts_by(
     requires width { out.old.width ≡ w.width }
     requires inks { out.old.inks ≡ length (inks_of p.now.inks) }
     requires at { at < out.old.rows }
-    ensures size { HasSizeAs out.old out.new }
-    ensures amounts { (i : ℕ) (ink : Ink) → slice_get (inks_of p.now.inks) i ≡ Some ink → (x : ℕ) → x < w.width
-        → amount out.new i at x ≡ amount_of (printer_of p.now) kind (pixel_at kind line.now (w.left + x)) ink }
-    ensures others { (i y x : ℕ) → y ≢ at → y < out.old.rows → amount out.new i y x ≡ amount out.old i y x }
+    ensures { Separates (printer_of p.now) kind line.now w at out.old out.new }
 {
     let unit = unit_of(kind);
-    let pixels = &line[w.left as usize * unit..];
-    for n in 0..w.width.div_ceil(64) {
-        let x = n * 64;
-        let many = (w.width - x).min(64) as usize;
-        let first = x as usize * unit;
-        let pixels = &pixels[first..first + many * unit];
-        let given = Given::make(p, kind, pixels, black.moved());
-        put(p, &given, many, x, at, out);
+    let left = w.left as usize;
+    let whole = w.width / 64;
+    for n in 0..whole {
+        let x = 64 * n;
+        let pixels = &line[(left + x as usize) * unit..];
+        separate(p, black, kind, pixels, PIXELS, x, at, out);
     }
+    let x = 64 * whole;
+    let pixels = &line[(left + x as usize) * unit..];
+    separate(p, black, kind, pixels, (w.width - x) as usize, x, at, out);
+}
+
+// Sets the amounts of the first `many` pixels with these bytes in row `at` from column x on. It is inlined so that a
+// whole chunk of 64 pixels has loops of known length.
+#[inline(always)]
+fn separate(
+    p: &Profile,
+    black: &BlackTable,
+    kind: Kind,
+    pixels: &[u8],
+    many: usize,
+    x: u32,
+    at: u32,
+    out: &mut InkRows,
+)
+    requires black { black.now ≡ p.now.black_start }
+    requires many { many ≤ 64 }
+    requires pixels { many * (row_of kind).unit ≤ length pixels.now }
+    requires inside { x + many ≤ out.old.width }
+    requires inks { out.old.inks ≡ length (inks_of p.now.inks) }
+    requires at { at < out.old.rows }
+    ensures size { HasSizeAs out.old out.new }
+    ensures put { (i : ℕ) (ink : Ink) → slice_get (inks_of p.now.inks) i ≡ Some ink → (k : ℕ) → k < many
+        → amount out.new i at (x + k) ≡ amount_of (printer_of p.now) kind (pixel_at kind pixels.now k) ink }
+    ensures beside { (i c : ℕ) → (c < x) ⊎ (x + many ≤ c) → amount out.new i at c ≡ amount out.old i at c }
+    ensures others { (i y c : ℕ) → y ≢ at → y < out.old.rows → amount out.new i y c ≡ amount out.old i y c }
+{
+    let given = Given::make(p, kind, pixels, many, black.moved());
+    put(p, &given, many, x, at, out);
 }
 
 // How many bytes a pixel has.
@@ -101,6 +126,7 @@ fn limit_of(p: &Profile, ink: Ink) -> u8
 }
 
 // Sets the amounts of each ink in row `at` from column x on from what `many` pixels give, scaled by the ink's limit.
+#[inline(always)]
 fn put(p: &Profile, given: &Given, many: usize, x: u32, at: u32, out: &mut InkRows)
     requires many { many ≤ 64 }
     requires inside { x + many ≤ out.old.width }

@@ -9,55 +9,43 @@ pub(crate) const PIXELS: usize = 64;
 /// A value for each pixel.
 pub(crate) type Values = [u8; PIXELS];
 
-/// The bytes unchanged.
-#[inline]
-pub(crate) fn same(bytes: &[u8]) -> Values
-    requires { length bytes.now ≤ 64 }
-    ensures { (x : ℕ) → x < length bytes.now → slice_index result x ≡ slice_index bytes.now x }
+/// The first `many` bytes unchanged.
+#[inline(always)]
+pub(crate) fn same(bytes: &[u8], many: usize) -> Values
+    requires many { many ≤ 64 }
+    requires bytes { many ≤ length bytes.now }
+    ensures { (x : ℕ) → x < many → slice_index result x ≡ slice_index bytes.now x }
 {
     let mut values = [0; PIXELS];
-    for x in 0..bytes.len() {
+    for x in 0..many {
         values[x] = bytes[x];
     }
     values
 }
 
-/// 255 less each byte.
-#[inline]
-pub(crate) fn inverted(bytes: &[u8]) -> Values
-    requires { length bytes.now ≤ 64 }
-    ensures { (x : ℕ) → x < length bytes.now → slice_index result x ≡ 255 - slice_index bytes.now x }
+/// 255 less each of the first `many` bytes.
+#[inline(always)]
+pub(crate) fn inverted(bytes: &[u8], many: usize) -> Values
+    requires many { many ≤ 64 }
+    requires bytes { many ≤ length bytes.now }
+    ensures { (x : ℕ) → x < many → slice_index result x ≡ 255 - slice_index bytes.now x }
 {
     let mut values = [0; PIXELS];
-    for x in 0..bytes.len() {
+    for x in 0..many {
         values[x] = 255 - bytes[x];
     }
     values
 }
 
-/// The complement of one of the three colours of each pixel: 255 less its value.
+/// The darkness of each of the first `many` pixels of red, green and blue as a grey.
 #[inline]
-pub(crate) fn complements(pixels: &[u8], colour: usize) -> Values
-    requires pixels { length pixels.now ≤ 192 }
-    requires colour { colour < 3 }
-    ensures { (x : ℕ) → 3 * x + 3 ≤ length pixels.now
-        → slice_index result x ≡ 255 - slice_index pixels.now (3 * x + colour) }
+pub(crate) fn darkness_of(pixels: &[u8], many: usize) -> Values
+    requires many { many ≤ 64 }
+    requires pixels { 3 * many ≤ length pixels.now }
+    ensures { (x : ℕ) → x < many → slice_index result x ≡ darkness (colour_at pixels.now x) }
 {
     let mut values = [0; PIXELS];
-    for x in 0..pixels.len() / 3 {
-        values[x] = 255 - pixels[3 * x + colour];
-    }
-    values
-}
-
-/// The darkness of each pixel of red, green and blue as a grey.
-#[inline]
-pub(crate) fn darkness_of(pixels: &[u8]) -> Values
-    requires { length pixels.now ≤ 192 }
-    ensures { (x : ℕ) → 3 * x + 3 ≤ length pixels.now → slice_index result x ≡ darkness (colour_at pixels.now x) }
-{
-    let mut values = [0; PIXELS];
-    for x in 0..pixels.len() / 3 {
+    for x in 0..many {
         let red = u16::from(pixels[3 * x]);
         let green = u16::from(pixels[3 * x + 1]);
         let blue = u16::from(pixels[3 * x + 2]);
@@ -67,7 +55,7 @@ pub(crate) fn darkness_of(pixels: &[u8]) -> Values
 }
 
 /// The least of three values at each pixel.
-#[inline]
+#[inline(always)]
 pub(crate) fn least_of(a: &Values, b: &Values, c: &Values) -> Values
     ensures { (x : ℕ) → x < 64
         → slice_index result x ≡ min (min (slice_index a.now x) (slice_index b.now x)) (slice_index c.now x) }
@@ -80,7 +68,7 @@ pub(crate) fn least_of(a: &Values, b: &Values, c: &Values) -> Values
 }
 
 /// The values less others; 0 where that is below 0.
-#[inline]
+#[inline(always)]
 pub(crate) fn less(values: &Values, taken: &Values) -> Values
     ensures { (x : ℕ) → x < 64 → slice_index result x ≡ slice_index values.now x - slice_index taken.now x }
 {

@@ -11,19 +11,19 @@ loop-i-preserved c =
     let part : ℕ = get_or c.args.row.now c.loop-i.i 0 in
     let is : IsPart c.args.row.now (8 * c.args.many) c.loop-i.i part =
     λ j low. part-whole c.args.row.now (8 * c.args.many) c.loop-i.i j (omega arith) low in
-    let seen : IsSeen c.args.other.now c.args.x c.loop-i.i c.eight_from.result = λ j low.
-    c.eight_from.ensures j low ∙ ap (row_dot c.args.other.now) (omega arith) in
+    let seen : IsSeen c.args.other.now c.args.x c.loop-i.i c.row_eight.result = λ j low.
+    c.row_eight.ensures j low ∙ ap (row_dot c.args.other.now) (omega arith) in
     record {
-      some = λ one. elim (or-some c.loop-i.both (bit_and part c.eight_from.result) one) [
+      some = λ one. elim (or-some c.loop-i.both (bit_and part c.row_eight.result) one) [
         | inl before ↦ c.loop-i.invariant.some before
         | inr here ↦ both-dots c.args.row.now c.args.other.now (8 * c.args.many)
-            c.args.x c.loop-i.i part c.eight_from.result (omega (arith, c.type_inv.row c.loop-i.i)) is seen here
+            c.args.x c.loop-i.i part c.row_eight.result (omega (arith, c.type_inv.row c.loop-i.i)) is seen here
       ];
       none = λ nothing k low.
-          let both = or-none c.loop-i.both (bit_and part c.eight_from.result) nothing in
+          let both = or-none c.loop-i.both (bit_and part c.row_eight.result) nothing in
           before-next f (8 * c.args.many) c.loop-i.i (λ i less in_row. c.loop-i.invariant.none both.0 i less)
           (none-both c.args.row.now c.args.other.now
-          (8 * c.args.many) c.args.x c.loop-i.i part c.eight_from.result is seen both.1) k low (omega arith);
+          (8 * c.args.many) c.args.x c.loop-i.i part c.row_eight.result is seen both.1) k low (omega arith);
     }
 
 pub returns : goal.returns

@@ -13,5 +13,5 @@ returns c = λ j low.
           (none-before c.args.row.now c.args.dots c.args.i (omega (arith, w.in-None.ensures)))
     ] in
     laid_byte-is c.args.row.now c.args.dots c.args.before
-    c.args.i j c.match-checked_sub.left c.part_or_none-here.result c.moved.result.1 c.moved-2.result.0
-    c.requires.before low before c.part_or_none-here.ensures (c.moved.ensures.stay j low) (c.moved-2.ensures.left j low)
+    c.args.i j c.match-checked_sub.left c.part_or_none-here.result c.eight_from.result
+    c.requires.before low before c.part_or_none-here.ensures (c.eight_from.ensures.left j) (c.eight_from.ensures.right j low)

@@ -1,43 +1,34 @@
-use Rattle.std.proofs.Common.{◌≡◌, ℕ, ◌+◌, ◌-◌, ◌*◌, ◌<◌, ◌≤◌, ap, arith, inl, inr, length, sym, ◌∙◌}
-use Rattle.std.proofs.lemmas.Bool.{cases_lt}
-use Rattle.dot_planes.specs.Tables.{amount}
-use Rattle.pwg_definitions.specs.Header.{row_of}
-use Rattle.separation_definitions.specs.Amounts.{amount as amount_of, pixel_at}
+use Rattle.std.proofs.Common.{◌≡◌, ℕ, ◌+◌, ◌-◌, ◌*◌, ◌/◌, ◌∙◌, ap, arith, subst}
 use Rattle.printer_profile.specs.Profiles.{printer_of}
-use Rattle.ink_separation.proofs.Chunks.{chunk_amount, cut_out-is, cut_out-len}
+use Rattle.separation_definitions.specs.Amounts.{pixel_at}
+use Rattle.ink_separation.proofs.Chunks.{cut_off, cut_off-pixel}
+use Rattle.ink_separation.proofs.Columns.{HasColumns, columns_more}
 use Rattle.ink_separation.proofs.lines.amounts_by.Goals as goal
 
 pub loop-n-preserved : goal.loop-n-preserved
 loop-n-preserved c =
-    let v = c.loop-n.invariant in
-    let put = c.put.ensures in
-    let first : ℕ = c.loop-n.n * 64 in
-    let many : ℕ = c.min-many.result in
-    let unit : ℕ = (row_of c.args.kind).unit in
-    record {
-      size = record { width = put.size.width ∙ v.size.width; rows = put.size.rows ∙ v.size.rows; inks = put.size.inks ∙ v.size.inks };
-      amounts = λ i ink is x low below. elim (cases_lt x first) [
-        | inl before ↦ put.beside i x (inl before) ∙ v.amounts i ink is x low before
-        | inr from ↦
-            let k : ℕ = x - first in
-            let place : first + k ≡ x = omega arith in
-            let column : c.args.w.left + first + k ≡ c.args.w.left + x = omega arith in
-            let within : first + many ≤ c.args.w.width = omega (arith, c.min-many.ensures) in
-            let fits : (c.args.w.left + c.args.w.width) * c.unit_of-unit.result ≤ length c.args.line.now =
-            omega (
-              arith,
-              c.requires.inside,
-              ap (λ n. (c.args.w.left + c.args.w.width) * n) c.unit_of-unit.ensures.is,
-            ) in
-            let inside : k < many = omega (arith, c.min-many.ensures) in
-            ap (λ n. amount c.put.new.out i c.args.at n) (sym place)
-            ∙ put.put i ink is k inside
-            ∙ chunk_amount (printer_of c.args.p.now) c.args.kind c.args.line.now _ (c.args.w.left + first) many k c.make-given.result ink
-            (cut_out-is c.args.line.now c.args.w.left
-            c.args.w.width first many c.unit_of-unit.result unit c.unit_of-unit.ensures.is within fits)
-            (c.make-given.ensures many (cut_out-len c.args.line.now c.args.w.left
-            c.args.w.width first many c.unit_of-unit.result unit c.unit_of-unit.ensures.is within fits)) inside
-            ∙ ap (λ n. amount_of (printer_of c.args.p.now) c.args.kind (pixel_at c.args.kind c.args.line.now n) ink) column
-      ];
-      others = λ i y x other low. put.others i y x other (omega (arith, v.size.rows)) ∙ v.others i y x other low;
-    }
+    let e = c.separate.ensures in
+    let next : 64 * c.loop-n.n + 64 ≡ 64 * (c.loop-n.n + 1) = omega arith in
+    let Q : ℕ → Type 0 = λ n. HasColumns (printer_of c.args.p.now) c.args.kind c.args.line.now c.args.w.left c.args.at n
+    c.args.out.now c.separate.new.out in
+    subst Q next (columns_more (printer_of c.args.p.now) c.args.kind c.args.line.now _ c.args.w.left c.args.at (64 * c.loop-n.n) 64
+    c.args.out.now c.loop-n.out c.separate.new.out c.loop-n.invariant e.size
+    (λ k low. ap (λ u. pixel_at c.args.kind (cut_off c.args.line.now ((c.args.w.left + 64 * c.loop-n.n) * u)) k) c.unit_of-unit.ensures.is
+    ∙ cut_off-pixel c.args.kind c.args.line.now c.args.w.left c.args.w.width (64 * c.loop-n.n) 64 k (omega arith) c.requires.inside low)
+    e.put e.beside e.others)
+
+pub returns : goal.returns
+returns c =
+    let e = c.separate-2.ensures in
+    let x : ℕ = 64 * (c.args.w.width / 64) in
+    let many : ℕ = c.args.w.width - x in
+    let end : x + many ≡ c.args.w.width = omega arith in
+    let whole : c.loop-n.n ≡ c.args.w.width / 64 = omega (arith, c.loop-n.auto.n-end, c.loop-n-test.false) in
+    let Q : ℕ → Type 0 = λ n. HasColumns (printer_of c.args.p.now) c.args.kind c.args.line.now c.args.w.left c.args.at (64 * n)
+    c.args.out.now c.loop-n.out in
+    let all = columns_more (printer_of c.args.p.now) c.args.kind c.args.line.now _ c.args.w.left c.args.at x many
+    c.args.out.now c.loop-n.out c.separate-2.new.out (subst Q whole c.loop-n.invariant) e.size
+    (λ k low. ap (λ u. pixel_at c.args.kind (cut_off c.args.line.now ((c.args.w.left + x) * u)) k) c.unit_of-unit.ensures.is
+    ∙ cut_off-pixel c.args.kind c.args.line.now c.args.w.left c.args.w.width x many k (omega (arith, end)) c.requires.inside low)
+    e.put e.beside e.others in
+    record { size = all.size; amounts = λ i ink is n low. all.amounts i ink is n (omega (arith, end)); others = all.others }

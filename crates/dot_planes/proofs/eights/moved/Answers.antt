@@ -1,7 +1,7 @@
 use Rattle.std.proofs.Common.{◌*◌, ◌/◌, ◌%◌, ◌^◌, ◌∙◌, ap, bit_and}
 use Rattle.escp2_definitions.specs.Machine.{bit_at}
 use Rattle.dot_planes.proofs.MovedBits.{moved-left, moved-stays}
-use Rattle.dot_planes.proofs.bit_rows.moved.Goals as goal
+use Rattle.dot_planes.proofs.eights.moved.Goals as goal
 
 pub returns-clause-left : goal.returns-clause-left
 returns-clause-left c = λ j low.
