@@ -10,14 +10,13 @@ use Rattle.dot_planes.specs.Tables.{AmountTable, DotTable, dot}
 use Rattle.printer_definitions.specs.Inks.{inks_of}
 use Rattle.printer_definitions.specs.declared.inks.Ink.{Ink}
 use Rattle.printer_profile.specs.Profiles.{printer_of}
-use Rattle.printer_profile.specs.declared.fields.Profile.{Profile}
-use Rattle.pwg_definitions.specs.declared.pages.PageForm.{PageForm}
 use Rattle.separation_definitions.specs.Amounts.{amount as amount_of, pixel_at}
 use Rattle.slab_diffusion.specs.Slabs.{DiffusesSlab}
 use Rattle.tile_border.specs.Tops.{edges_of}
 use Rattle.tile_edges.specs.Tops.{IsBelow, top_of}
-use Rattle.page_halftoner.specs.Halftones.{Halftoning, HasAmountsOf, IsSamePage, IsUpTo, StandsFor, held, plane_of, rows_done, window}
-use Rattle.page_halftoner.specs.Slabs.{PutsLine}
+use Rattle.ink_separation.specs.Separated.{Separates}
+use Rattle.page_halftoner.specs.Halftones.{EndsWith, Halftoning, IsUpTo, StandsFor, held, plane_of, rows_done, window}
+use Rattle.page_halftoner.specs.Slabs.{HasLine}
 use Rattle.page_halftoner.proofs.SlabSteps.{row_more, slab_more}
 use Rattle.page_definitions.specs.Dots.{HasDots, halftone}
 
@@ -28,7 +27,6 @@ after h diffused planes top slab failed = record {
   form = h.form;
   kernel = h.kernel;
   count = h.count + 1;
-  line = h.line;
   diffused = diffused;
   planes = planes;
   top = top;
@@ -69,8 +67,7 @@ in_margin h line lines margin s =
 pub record IsNextRow (h : Halftoning) (line : List ℕ) (y : ℕ) (slab : AmountTable) : Type 0 where
   pub place : (window h).top + y ≡ h.count
   pub inside : y < (window h).height
-  pub amounts : HasAmountsOf h line
-  pub puts : PutsLine h.line (y - h.diffused) h.slab slab
+  pub puts : Separates (printer_of h.profile) h.form.kind line (window h) (y - h.diffused) h.slab slab
   pub from : h.diffused ≤ y
   pub room : y < h.diffused + h.slab.rows
   pub few : h.slab.rows ≤ 256
@@ -93,11 +90,10 @@ held_more h line lines more y i ink slab next s is =
     let up = subst P held_is (s.inks i ink (line ∷ more) is) in
     let Q : List (List ℕ) → Type 0 = λ all. IsUpTo (table_of h.kernel) (plane_of h ink all) i h.diffused (n + 1) h.planes h.top slab in
     subst Q (sym (behind lines line more)) (row_more
-    (table_of h.kernel) (plane_of h ink ls) i h.diffused n h.planes h.top h.slab slab h.line up next.puts
-    (omega (arith, next.inks, slice_get_within (inks_of h.profile.inks) i ink is)) next.wide (omega (arith, next.from, next.room))
-    (λ x across. next.amounts.are i ink is x across
+    (table_of h.kernel) (plane_of h ink ls) i h.diffused n h.planes h.top h.slab slab up (omega (arith, next.from, next.room))
+    (λ x across. next.puts.amounts i ink is x across
     ∙ ap (λ l. amount_of (printer_of h.profile) h.form.kind (pixel_at h.form.kind l ((window h).left + x)) ink) (sym line_at)
-    ∙ ap (λ m. (plane_of h ink ls).amount m x) (sym row)))
+    ∙ ap (λ m. (plane_of h ink ls).amount m x) (sym row)) (λ r x other low. next.puts.others i r x other low))
 
 -- A row is held in a slab that is not full.
 pub in_slab : (h : Halftoning) (line : List ℕ) (lines : List (List ℕ)) (y : ℕ) (slab : AmountTable)
@@ -183,28 +179,21 @@ at_top h none first zeros blank =
     above k p (suc zero) n two = (errors_top k p no_top n).1
     above k p (suc (suc t)) n two = absurd (omega arith)
 
--- the current amounts do not depend on lines and dots
-pub amounts_kept : (h h' : Halftoning) (line : List ℕ) → IsSamePage h h' → h'.line ≡ h.line → HasAmountsOf h line → HasAmountsOf h' line
-amounts_kept h h' line same line_same a =
-    let with : Profile → PageForm
-    → AmountTable → Halftoning = λ q f t. record {
-      profile = q;
-      form = f;
-      kernel = h.kernel;
-      count = h.count;
-      line = t;
-      diffused = h.diffused;
-      planes = h.planes;
-      top = h.top;
-      slab = h.slab;
-      failed = h.failed;
-    } in
-    let by_profile : Profile → Type 0 = λ q. HasAmountsOf (with q h.form h.line) line in
-    let by_form : PageForm → Type 0 = λ f. HasAmountsOf (with h'.profile f h.line) line in
-    let by_line : AmountTable → Type 0 = λ t. HasAmountsOf (with h'.profile h'.form t) line in
-    let now = subst by_line (sym line_same)
-    (subst by_form (sym same.form) (subst by_profile (sym same.profile) (record { are = a.are }))) in
-    record { are = now.are }
+-- ---- the last row
+
+-- A line that is not the next row of the window, or fills the slab, leaves no row held.
+pub none_held : (h : Halftoning) (line : List ℕ) → held h ≡ 0 → EndsWith h line
+none_held h line none = record { last = λ n some. absurd (omega (arith, none, some)) }
+
+-- A line that is the next row is the last one then.
+pub ends_with : (h : Halftoning) (line : List ℕ) (y : ℕ) (slab : AmountTable) → IsNextRow h line y slab
+    → EndsWith (after h h.diffused h.planes h.top slab h.failed) line
+ends_with h line y slab next = record {
+  last = λ n some.
+      let here : y - h.diffused ≡ n = omega (arith, some, next.place, next.inside, next.from) in
+      let Q : ℕ → Type 0 = λ m. HasLine (printer_of h.profile) h.form.kind line (window h) m slab in
+      subst Q here (record { are = next.puts.amounts });
+}
 
 -- a line once more after its repeats
 pub repeats_more : (lines : List (List ℕ)) (n : ℕ) (line : List ℕ)

@@ -1,5 +1,5 @@
 -- A plane, slab by slab.
-use Rattle.std.proofs.Common.{◌≡◌, ℕ, ℤ, ◌+◌, ◌-◌, ◌*◌, ◌<◌, ◌≤◌, List, [], ◌∷◌, ltb, ◌&&◌, sym, refl, ◌∙◌, ap, arith, inl, inr}
+use Rattle.std.proofs.Common.{◌≡◌, ◌≢◌, ℕ, ℤ, ◌+◌, ◌-◌, ◌*◌, ◌<◌, ◌≤◌, List, [], ◌∷◌, ltb, ◌&&◌, sym, refl, ◌∙◌, ap, arith, inl, inr}
 use Rattle.std.proofs.lemmas.Bool.{cases_eq, cases_lt}
 use Rattle.std.specs.Int.{div_ceil}
 use Rattle.diffusion_definitions.specs.Diffusion.{Errors, Plane, Solves, Table, cut, error_of, errors, five, inside}
@@ -15,7 +15,6 @@ use Rattle.tile_edges.specs.Tops.{IsBelow}
 use Rattle.tile_lanes.specs.Done.{plane_of, window_of}
 use Rattle.tile_shape.specs.Geometry.{bands_of}
 use Rattle.page_halftoner.specs.Halftones.{IsUpTo}
-use Rattle.page_halftoner.specs.Slabs.{PutsLine}
 
 -- two planes of one size have the same amounts
 record IsSame (p q : Plane) : Type 0 where
@@ -45,17 +44,17 @@ same_dots k p q e y x same low across =
     ∙ ap (λ h. (ltb x p.width && ltb y h) && is_dot (value_at k q e y x)) same.height
     ∙ ap (λ a. inside p y x && is_dot (v a)) (same.amounts y x low across)
 
--- A line is put after the held rows.
-pub row_more : (k : Table) (p : Plane) (i d n : ℕ) (planes : DotTable) (top : List (List (List ℤ))) (old new line : AmountTable)
-    → IsUpTo k p i d n planes top old → PutsLine line n old new → i < old.inks → old.width ≡ p.width → n < old.rows
-    → ((x : ℕ) → x < p.width → amount line i 0 x ≡ p.amount (d + n) x) → IsUpTo k p i d (n + 1) planes top new
-row_more k p i d n planes top old new line up puts ink wide low are = record {
+-- A row is put after the held rows.
+pub row_more : (k : Table) (p : Plane) (i d n : ℕ) (planes : DotTable) (top : List (List (List ℤ))) (old new : AmountTable)
+    → IsUpTo k p i d n planes top old → n < old.rows
+    → ((x : ℕ) → x < p.width → amount new i n x ≡ p.amount (d + n) x)
+    → ((r x : ℕ) → r ≢ n → r < old.rows → amount new i r x ≡ amount old i r x) → IsUpTo k p i d (n + 1) planes top new
+row_more k p i d n planes top old new up low are others = record {
   dots = up.dots;
   errors_are = up.errors_are;
   amounts = λ y x below across. elim (cases_eq y n) [
-    | inl here ↦ ap (λ m. amount new i m x) here
-        ∙ puts.row i x ink (omega (arith, wide)) ∙ are x across ∙ ap (λ m. p.amount (d + m) x) (sym here)
-    | inr other ↦ puts.others i y x other (omega arith) ∙ up.amounts y x (omega arith) across
+    | inl here ↦ ap (λ m. amount new i m x) here ∙ are x across ∙ ap (λ m. p.amount (d + m) x) (sym here)
+    | inr other ↦ others y x other (omega arith) ∙ up.amounts y x (omega arith) across
   ];
 }
 

@@ -9,21 +9,21 @@ use Rattle.printer_definitions.specs.declared.inks.Ink.{Ink}
 use Rattle.printer_profile.specs.Profiles.{printer_of}
 use Rattle.printer_profile.specs.declared.fields.Profile.{Profile}
 use Rattle.pwg_definitions.specs.declared.pages.PageForm.{PageForm}
-use Rattle.separation_definitions.specs.Amounts.{amount as amount_of, ink_plane, pixel_at}
+use Rattle.separation_definitions.specs.Amounts.{ink_plane}
 use Rattle.separation_definitions.specs.Windows.{window_of}
 use Rattle.separation_definitions.specs.declared.window.Window.{Window}
 use Rattle.tile_border.specs.Tops.{edges_of}
 use Rattle.tile_edges.specs.Tops.{IsBelow}
+use Rattle.page_halftoner.specs.Slabs.{HasLine}
 
--- A page that is being halftoned: its profile, form and kernel, how many lines have come, the amounts of the last
--- one, how many rows of the window are diffused, the dots so far, the bottom edges of the last diffused rows, the
--- amounts of the rows after them, and whether memory ran out.
+-- A page that is being halftoned: its profile, form and kernel, how many lines have come, how many rows of the window
+-- are diffused, the dots so far, the bottom edges of the last diffused rows, the amounts of the rows after them, and
+-- whether memory ran out.
 pub record Halftoning : Type 0 where
   pub profile : Profile
   pub form : PageForm
   pub kernel : Kernel
   pub count : ℕ
-  pub line : AmountTable
   pub diffused : ℕ
   pub planes : DotTable
   pub top : List (List (List ℤ))
@@ -64,10 +64,9 @@ pub record StandsFor (h : Halftoning) (lines : List (List ℕ)) : Type 0 where
   pub few : held h ≤ 256
   pub blank : (i y x : ℕ) → h.diffused ≤ y → y < h.planes.rows → dot h.planes i y x ≡ false
 
--- the amounts are those of a line
-pub record HasAmountsOf (h : Halftoning) (line : List ℕ) : Type 0 where
-  pub are : (i : ℕ) (ink : Ink) → slice_get (inks_of h.profile.inks) i ≡ Some ink → (x : ℕ) → x < (window h).width
-      → amount h.line i 0 x ≡ amount_of (printer_of h.profile) h.form.kind (pixel_at h.form.kind line ((window h).left + x)) ink
+-- The last row that is held, where one is held, has the amounts of a line.
+pub record EndsWith (h : Halftoning) (line : List ℕ) : Type 0 where
+  pub last : (n : ℕ) → held h ≡ n + 1 → HasLine (printer_of h.profile) h.form.kind line (window h) n h.slab
 
 -- the same printer, form and kernel
 pub record IsSamePage (old new : Halftoning) : Type 0 where

@@ -26,7 +26,6 @@ halftoning h = record {
   form = h.form;
   kernel = h.kernel;
   count = h.count;
-  line = h.line;
   diffused = h.diffused;
   planes = h.planes;
   top = edges_in h.top;
@@ -46,9 +45,6 @@ pub record IsReady (h : Inside) : Type 0 where
   pub some_workers : 1 ≤ h.workers
   pub most_workers : h.workers ≤ 64
   pub few : h.count ≤ h.form.height
-  pub line_width : h.line.width ≡ (window_in h).width
-  pub line_rows : h.line.rows ≡ 1
-  pub line_inks : h.line.inks ≡ length (inks_of h.profile.inks)
   pub slab_width : h.slab.width ≡ (window_in h).width
   pub slab_inks : h.slab.inks ≡ length (inks_of h.profile.inks)
   -- a slab has 256 rows, or those that are left

@@ -2,7 +2,7 @@
 ghost use Rattle.diffusion_kernel.specs.Tables.{table_of};
 ghost use Rattle.dot_planes.specs.Tables.{dot};
 ghost use Rattle.page_definitions.specs.Dots.{HasDots, halftone};
-ghost use Rattle.page_halftoner.specs.Halftones.{HasAmountsOf, IsSamePage, StandsFor, held};
+ghost use Rattle.page_halftoner.specs.Halftones.{EndsWith, IsSamePage, StandsFor, held};
 ghost use Rattle.printer_profile.specs.Profiles.{printer_of};
 ghost use Rattle.printer_profile.specs.Validity.{check};
 ghost use Rattle.pwg_definitions.specs.Header.{IsWanted};
@@ -13,7 +13,7 @@ ghost use Rattle.std.specs.Prelude.{replicate, true, ℕ, ◌++◌, ◌+◌, ◌
 use crate::slabs::{first_slab, next_slab, put_line};
 use diffusion_kernel::Kernel;
 use dot_planes::{InkRows, Planes};
-use ink_separation::{BlackTable, amounts_by};
+use ink_separation::BlackTable;
 use printer_profile::{PageForm, Profile};
 use separation_definitions::Window;
 use std::alloc::Global;
@@ -39,8 +39,6 @@ pub struct Halftoner {
     workers: u8,
     /// How many lines of the page have come, those in the margins too.
     count: u32,
-    /// The amounts of the current line, one row.
-    line: InkRows,
     /// How many rows of the window are diffused.
     diffused: u32,
     /// Room for the next rows, of which the first ones hold amounts.
@@ -95,7 +93,6 @@ impl Halftoner {
     {
         let window = p.window(f);
         let inks = p.inks.count();
-        let line = InkRows::make(alloc, window.width, 1, inks)?;
         let (slab, top) = first_slab(alloc, window.width, window.height, inks)?;
         let planes = Planes::make(alloc, window.width, window.height, inks)?;
         Ok(Halftoner {
@@ -106,7 +103,6 @@ impl Halftoner {
             kernel: k,
             workers,
             count: 0,
-            line,
             diffused: 0,
             slab,
             top: Some(top),
@@ -136,9 +132,8 @@ impl Halftoner {
         if self.top.is_none() {
             return Err(Memory);
         }
-        self.separate(line);
-        for _ in 0..repeats {
-            self.next_line(rt, gate)?;
+        for repeat in 0..repeats {
+            self.next_line(rt, line, 0 < repeat, gate)?;
         }
         Ok(())
     }
@@ -154,40 +149,22 @@ impl Halftoner {
         self.planes
     }
 
-    // Separates the inks of a line.
-    fn separate(&mut self, line: &[u8])
-        requires { length line.now ≡ self.old.form.bytes_per_line }
-        ensures page { IsSamePage self.old self.new }
-        ensures count { self.new.count ≡ self.old.count }
-        ensures amounts { HasAmountsOf self.new line.now }
-        ensures stands { (lines : List (List ℕ)) → StandsFor self.old lines → StandsFor self.new lines }
-        ensures failed { self.new.failed ≡ self.old.failed }
-    {
-        let window = self.profile.window(self.form);
-        amounts_by(
-            &self.profile,
-            &self.black,
-            self.form.kind,
-            line,
-            window,
-            0,
-            &mut self.line,
-        );
-    }
-
-    // Takes the current line once more.
+    // Takes a line once. `again`: it is the line before, too.
     fn next_line<R: Threads + Sync, G: Gate + Sync>(
         &mut self,
         rt: &R,
+        line: &[u8],
+        again: bool,
         gate: &G,
     ) -> Result<(), Memory>
+        requires line { length line.now ≡ self.old.form.bytes_per_line }
         requires count { self.old.count < self.old.form.height }
+        requires again { again ≡ true → EndsWith self.old line.now }
         ensures page { IsSamePage self.old self.new }
         ensures count { OnOk result (self.new.count ≡ self.old.count + 1) }
-        ensures line { self.new.line ≡ self.old.line }
-        ensures stands { (line : List ℕ) → HasAmountsOf self.old line
-            → (lines : List (List ℕ))
-            → StandsFor self.old lines → OnOk result (StandsFor self.new (lines ++ line ∷ [])) }
+        ensures last { OnOk result (EndsWith self.new line.now) }
+        ensures stands { (lines : List (List ℕ))
+            → StandsFor self.old lines → OnOk result (StandsFor self.new (lines ++ line.now ∷ [])) }
         ensures working { OnOk result (self.new.failed ≡ self.old.failed) }
         ensures failed { OnErr result (self.new.failed ≡ true) }
     {
@@ -196,7 +173,15 @@ impl Halftoner {
             self.count += 1;
             return Ok(());
         };
-        put_line(&self.line, y - self.diffused, &mut self.slab);
+        put_line(
+            &self.profile,
+            &self.black,
+            self.form,
+            line,
+            again,
+            y - self.diffused,
+            &mut self.slab,
+        );
         if y + 1 < self.diffused + self.slab.rows() {
             self.count += 1;
             return Ok(());

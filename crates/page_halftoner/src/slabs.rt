@@ -1,9 +1,17 @@
 //! The rows that wait for diffusion.
 ghost use Rattle.dot_planes.specs.Tables.{IsSize};
-ghost use Rattle.page_halftoner.specs.Slabs.{IsFirstSlab, IsNextSlab, PutsLine};
-ghost use Rattle.std.specs.Prelude.{IfOk, ◌<◌, ◌≡◌, ◌≤◌};
+ghost use Rattle.ink_separation.specs.Separated.{Separates};
+ghost use Rattle.page_halftoner.specs.Slabs.{HasLine, IsFirstSlab, IsNextSlab};
+ghost use Rattle.printer_definitions.specs.Inks.{inks_of};
+ghost use Rattle.printer_profile.specs.Profiles.{printer_of};
+ghost use Rattle.printer_profile.specs.Validity.{check};
+ghost use Rattle.pwg_definitions.specs.Header.{IsWanted};
+ghost use Rattle.separation_definitions.specs.Windows.{wanted_by, window_of};
+ghost use Rattle.std.specs.Prelude.{IfOk, IsOk, length, true, ℕ, ◌+◌, ◌<◌, ◌≡◌, ◌≤◌};
 
 use dot_planes::InkRows;
+use ink_separation::{BlackTable, amounts_by};
+use printer_profile::{PageForm, Profile};
 use std::alloc::Global;
 use tile_border::TopEdges;
 use weave_base::Memory;
@@ -36,15 +44,31 @@ pub(crate) fn next_slab(slab: &mut InkRows, left: u32)
     }
 }
 
-/// Puts the one row of a line into row y of a slab.
-pub(crate) fn put_line(line: &InkRows, y: u32, slab: &mut InkRows)
-    requires rows { line.now.rows ≡ 1 }
-    requires width { line.now.width ≡ slab.old.width }
-    requires inks { line.now.inks ≡ slab.old.inks }
+/// Puts the amounts of a line of a page into row y of a slab. `again`: the row above has them, too.
+pub(crate) fn put_line(
+    p: &Profile,
+    black: &BlackTable,
+    f: PageForm,
+    line: &[u8],
+    again: bool,
+    y: u32,
+    slab: &mut InkRows,
+)
+    requires checked { IsOk (check p.now) }
+    requires black { black.now ≡ p.now.black_start }
+    requires wanted { IsWanted (wanted_by (printer_of p.now)) f }
+    requires line { length line.now ≡ f.bytes_per_line }
+    requires width { slab.old.width ≡ (window_of f (printer_of p.now)).width }
+    requires inks { slab.old.inks ≡ length (inks_of p.now.inks) }
     requires y { y < slab.old.rows }
-    ensures { PutsLine line.now y slab.old slab.new }
+    requires again { again ≡ true → (n : ℕ) → y ≡ n + 1
+        → HasLine (printer_of p.now) f.kind line.now (window_of f (printer_of p.now)) n slab.old }
+    ensures { Separates (printer_of p.now) f.kind line.now (window_of f (printer_of p.now)) y slab.old slab.new }
 {
-    for ink in 0..slab.inks() {
-        slab.put_part(ink, 0, y, line.row(ink, 0));
+    let window = p.window(f);
+    if again && 0 < y {
+        slab.copy_row(y - 1, y);
+    } else {
+        amounts_by(p, black, f.kind, line, window, y, slab);
     }
 }

@@ -1,35 +1,49 @@
 use Rattle.std.proofs.Common.{◌≡◌, ◌⊎◌, ◌+◌, ◌-◌, ◌≤◌, ◌<◌, ℕ, ℤ, List, ap, arith, length, min, sym, subst, ◌∙◌}
 use Rattle.std.proofs.lemmas.Option.{same_Some}
 use Rattle.dot_planes.specs.Tables.{AmountTable}
+use Rattle.ink_separation.specs.Separated.{Separates}
+use Rattle.printer_profile.specs.Profiles.{printer_of}
 use Rattle.printer_definitions.specs.Inks.{inks_of}
 use Rattle.separation_definitions.specs.declared.window.Window.{Window}
 use Rattle.slab_diffusion.specs.Slabs.{IsTopOf}
-use Rattle.page_halftoner.specs.Halftones.{Halftoning, HasAmountsOf, StandsFor}
+use Rattle.page_halftoner.specs.Halftones.{EndsWith, Halftoning, StandsFor, held}
 use Rattle.page_halftoner.specs.Kept.{IsReady, edges_in, halftoning, window_in}
-use Rattle.page_halftoner.specs.Slabs.{PutsLine}
 use Rattle.page_halftoner.specs.declared.halftoner.Halftoner.TheInside.{Inside}
-use Rattle.page_halftoner.proofs.Lines.{IsFull, IsNextRow, in_margin, in_slab, slab_full}
+use Rattle.page_halftoner.proofs.Lines.{IsFull, IsNextRow, ends_with, in_margin, in_slab, slab_full}
 use Rattle.page_halftoner.proofs.halftoner.Halftoner.next_line.Goals as goal
 
+-- how many rows are held before a row of the window
+held_before : (inside : Inside) (w : Window) (y : ℕ) → w ≡ window_in inside → w.top + y ≡ inside.count → y < w.height
+    → held (halftoning inside) ≡ y - inside.diffused
+held_before inside w y is place low =
+    let here : (window_in inside).top + y ≡ inside.count = ap (λ (win : Window). win.top + y) (sym is) ∙ place in
+    let in_window : y < (window_in inside).height = omega (arith, low, ap (λ (win : Window). win.height) is) in
+    omega (arith, here, in_window)
+
+pub put_line-requires-clause-again : goal.put_line-requires-clause-again
+put_line-requires-clause-again g c = λ again n here.
+    let Q : Halftoning → Type 0 = λ h. EndsWith h c.args.line.now in
+    (subst Q (sym c.self.view_is) (c.requires.again again)).last n (held_before c.self.inside c.window-window.result c.in-Some.y
+    c.window-window.ensures c.in-Some.ensures.row.0 c.in-Some.ensures.row.1 ∙ here)
+
 pub returns-in_default-clause-stands : goal.returns-in_default-clause-stands
-returns-in_default-clause-stands g c = λ line amounts lines stands.
+returns-in_default-clause-stands g c = λ lines stands.
     let h : Halftoning = halftoning c.self.inside in
     let Q : Halftoning → Type 0 = λ h'. StandsFor h' lines in
     let R : Window → Type 0 = λ w. (h.count < w.top) ⊎ (w.top + w.height ≤ h.count) in
-    in_margin h line lines (subst R c.window-window.ensures c.in_default.ensures.margin) (subst Q (sym c.self.view_is) stands)
+    in_margin h c.args.line.now lines (subst R c.window-window.ensures c.in_default.ensures.margin) (subst Q (sym c.self.view_is) stands)
 
 -- The line is the next row.
 next_row : (inside : Inside) (w : Window) (line : List ℕ) (y : ℕ) (slab : AmountTable) → IsReady inside → w ≡ window_in inside
     → w.top + y ≡ inside.count → y < w.height
-    → HasAmountsOf (halftoning inside) line → PutsLine inside.line (y - inside.diffused) inside.slab slab
+    → Separates (printer_of inside.profile) inside.form.kind line (window_in inside) (y - inside.diffused) inside.slab slab
     → IsNextRow (halftoning inside) line y slab
-next_row inside w line y slab v is place low amounts puts =
+next_row inside w line y slab v is place low puts =
     let here : (window_in inside).top + y ≡ inside.count = ap (λ (win : Window). win.top + y) (sym is) ∙ place in
     let in_window : y < (window_in inside).height = omega (arith, low, ap (λ (win : Window). win.height) is) in
     record {
       place = here;
       inside = in_window;
-      amounts = amounts;
       puts = puts;
       from = omega (arith, here, in_window, v.from);
       room = omega (arith, here, in_window, v.room);
@@ -39,13 +53,18 @@ next_row inside w line y slab v is place low amounts puts =
     }
 
 pub returns-then-y-self-clause-stands : goal.returns-then-y-self-clause-stands
-returns-then-y-self-clause-stands g c = λ line amounts lines stands.
+returns-then-y-self-clause-stands g c = λ lines stands.
     let h : Halftoning = halftoning c.self.inside in
     let Q : Halftoning → Type 0 = λ h'. StandsFor h' lines in
-    let A : Halftoning → Type 0 = λ h'. HasAmountsOf h' line in
-    let next = next_row c.self.inside c.window-window.result line c.in-Some.y c.put_line.new.slab c.self.invariant c.window-window.ensures
-    c.in-Some.ensures.row.0 c.in-Some.ensures.row.1 (subst A (sym c.self.view_is) amounts) c.put_line.ensures in
-    in_slab h line lines c.in-Some.y c.put_line.new.slab next (subst Q (sym c.self.view_is) stands)
+    let next = next_row c.self.inside c.window-window.result c.args.line.now c.in-Some.y c.put_line.new.slab
+    c.self.invariant c.window-window.ensures c.in-Some.ensures.row.0 c.in-Some.ensures.row.1 c.put_line.ensures in
+    in_slab h c.args.line.now lines c.in-Some.y c.put_line.new.slab next (subst Q (sym c.self.view_is) stands)
+
+pub returns-then-y-self-clause-last : goal.returns-then-y-self-clause-last
+returns-then-y-self-clause-last g c =
+    ends_with (halftoning c.self.inside) c.args.line.now c.in-Some.y c.put_line.new.slab
+    (next_row c.self.inside c.window-window.result c.args.line.now c.in-Some.y c.put_line.new.slab
+    c.self.invariant c.window-window.ensures c.in-Some.ensures.row.0 c.in-Some.ensures.row.1 c.put_line.ensures)
 
 pub invariant_of-self-2 : goal.invariant_of-self-2
 invariant_of-self-2 g c =
@@ -79,9 +98,6 @@ invariant_of-self-2 g c =
         ap (λ (h : Halftoning). h.count) c.self.view_is,
         ap (λ (h : Halftoning). h.form.height) c.self.view_is,
       );
-      line_width = v.line_width;
-      line_rows = v.line_rows;
-      line_inks = v.line_inks;
       slab_width = next.width ∙ size.width ∙ v.slab_width;
       slab_inks = next.inks ∙ size.inks ∙ v.slab_inks;
       slab_some = next.some (omega (arith, size.rows, v.slab_some));
@@ -98,15 +114,15 @@ invariant_of-self-2 g c =
     }
 
 pub returns-clause-stands : goal.returns-clause-stands
-returns-clause-stands g c = λ line amounts lines stands.
+returns-clause-stands g c = λ lines stands.
+    let line : List ℕ = c.args.line.now in
     let h : Halftoning = halftoning c.self.inside in
     let v = c.self.invariant in
     let y : ℕ = c.in-Some.y in
     let Q : Halftoning → Type 0 = λ h'. StandsFor h' lines in
-    let A : Halftoning → Type 0 = λ h'. HasAmountsOf h' line in
     let size = c.put_line.ensures.size in
     let next = next_row c.self.inside c.window-window.result line y c.put_line.new.slab v c.window-window.ensures
-    c.in-Some.ensures.row.0 c.in-Some.ensures.row.1 (subst A (sym c.self.view_is) amounts) c.put_line.ensures in
+    c.in-Some.ensures.row.0 c.in-Some.ensures.row.1 c.put_line.ensures in
     let full : y + 1 ≡ h.diffused + c.put_line.new.slab.rows = omega (arith, next.room, size.rows, c.if-y-self.false, c.rows.ensures) in
     let all : IsFull h y c.put_line.new.slab c.in-Some-take.top c.in_ok-bottom.bottom c.diffuse.new.out = record {
       top_is = ap edges_in (sym c.in-Some-take.is ∙ c.take.ensures.value);
