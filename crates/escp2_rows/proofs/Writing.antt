@@ -1,11 +1,11 @@
 -- The canonical code, step by step.
 use Rattle.std.proofs.Common.{◌≡◌, ℕ, zero, suc, ◌+◌, ◌-◌, ◌*◌, ◌<◌, ◌≤◌, ◌==◌, ◌&&◌, nat_lt, Bool, true, false, if◌then◌else◌, List, []}
 use Rattle.std.proofs.Common.{◌∷◌, ◌++◌, length, take, drop, min, get_or, set, refl, sym, ◌∙◌, ap, arith, subst, append_assoc, append-nil}
-use Rattle.std.proofs.Common.{length-append, length-drop, eq-eqb}
+use Rattle.std.proofs.Common.{◌⊎◌, ◌≢◌, inl, inr, length-append, length-drop, eq-eqb}
 use Rattle.std.specs.List.{flat_map}
-use Rattle.std.proofs.lemmas.Bool.{ltb-true, ltb-false, le-ltb, lt-ltb, ne_eqb}
+use Rattle.std.proofs.lemmas.Bool.{cases_eq, ltb-true, ltb-false, le-ltb, lt-ltb, ne_eqb}
 use Rattle.std.proofs.lemmas.Bool.Decides.{nat_tests}
-use Rattle.std.proofs.lemmas.List.{drop-drop, drop_all, length-take-le, take_all}
+use Rattle.std.proofs.lemmas.List.{drop-drop, drop_all, get_or-drop, length-take-le, take_all}
 use Rattle.std.proofs.lemmas.Slice.{take-put_mid}
 use Rattle.std.proofs.Math.Seq.{take-append-add}
 use borrow.Rule.Slice.PartMut.{put_mid}
@@ -90,14 +90,6 @@ pub record ApartSoFar (most : ℕ) (row : List ℕ) (count : ℕ) : Type 0 where
   pub within : count ≤ most
   pub is : apart_at most row ≡ count + apart_at (most - count) (drop count row)
 
--- nothing is counted
-pub apart_begin : (most : ℕ) (row : List ℕ) → ApartSoFar most row 0
-apart_begin most row = record {
-  within = omega arith;
-  is = ap (λ k. apart_at k row) (let e : most ≡ most - 0 = omega arith in e)
-      ∙ (let e : apart_at (most - 0) row ≡ 0 + apart_at (most - 0) row = omega arith in e);
-}
-
 -- nothing is before three equal bytes
 apart-equal : (left : ℕ) (rest : List ℕ) → nat_lt 2 (equal_at rest) ≡ true → apart_at left rest ≡ 0
 unfolding apart_at
@@ -136,6 +128,46 @@ apart_step most row count begins rest so_far less test behind apart = record {
         same,
       );
 }
+
+-- many more bytes are counted
+pub apart_steps : (most : ℕ) (row : List ℕ) (count n : ℕ) → ApartSoFar most row count → count + n ≤ min (length row) most
+    → ((i : ℕ) → i < n → nat_lt 2 (equal_at (drop i (drop count row))) ≡ false) → ApartSoFar most row (count + n)
+apart_steps most row count zero so_far room apart =
+    let same : count ≡ count + 0 = omega arith in
+    subst (ApartSoFar most row) same so_far
+apart_steps most row count (suc n) so_far room apart =
+    let before = apart_steps most row count n so_far (omega arith) (λ i less. apart i (omega arith)) in
+    let next : count + n + 1 ≡ count + suc n = omega arith in
+    let place : drop n (drop count row) ≡ drop (count + n) row = drop-drop n count row in
+    let few : nat_lt 2 (equal_at (drop (count + n) row)) ≡ false =
+    sym (ap (λ (bs : List ℕ). nat_lt 2 (equal_at bs)) place) ∙ apart n (omega arith) in
+    subst (ApartSoFar most row) next (apart_step most row (count + n) (nat_lt 2 (equal_at (drop (count + n) row)))
+    (drop (count + n) row) before (omega arith) refl refl few)
+
+-- two of three bytes that follow each other differ
+pub three_apart : (row : List ℕ) (i : ℕ) → i + 2 < length row
+    → ((get_or row i 0 == get_or row (i + 1) 0) && (get_or row (i + 1) 0 == get_or row (i + 2) 0)) ≡ false
+    → nat_lt 2 (equal_at (drop i row)) ≡ false
+three_apart row i room apart = by_pair (cases_eq (get_or row i 0) (get_or row (i + 1) 0))
+  where
+    at : (k : ℕ) → get_or (drop i row) k 0 ≡ get_or row (i + k) 0
+    at k = get_or-drop i row k 0
+
+    first : get_or (drop i row) 0 0 ≡ get_or row i 0
+    first = at 0 ∙ ap (λ n. get_or row n 0) (omega arith)
+
+    long : 3 ≤ length (drop i row)
+    long = omega (arith, length-drop i row)
+
+    by_pair : (get_or row i 0 ≡ get_or row (i + 1) 0) ⊎ (get_or row i 0 ≢ get_or row (i + 1) 0)
+        → nat_lt 2 (equal_at (drop i row)) ≡ false
+    by_pair (inl same) =
+        sym (third-tells (drop i row) long (first ∙ same ∙ sym (at 1)))
+        ∙ ap (λ b. b == get_or (drop i row) 2 0) (at 1) ∙ ap (λ b. get_or row (i + 1) 0 == b) (at 2)
+        ∙ sym (ap (λ t. t && (get_or row (i + 1) 0 == get_or row (i + 2) 0)) (eq-eqb _ _ same)) ∙ apart
+    by_pair (inr other) =
+        sym (second-tells (drop i row) long (λ e. other (sym first ∙ e ∙ at 1)))
+        ∙ ap (λ b. b == get_or (drop i row) 1 0) first ∙ ap (λ b. get_or row i 0 == b) (at 1) ∙ ne_eqb _ _ other
 
 -- the count ends at three equal bytes
 pub apart_stop : (most : ℕ) (row : List ℕ) (count : ℕ) (begins : Bool) (rest : List ℕ) → ApartSoFar most row count

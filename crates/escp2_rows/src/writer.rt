@@ -1,7 +1,7 @@
 //! Writing the canonical code of a row.
 ghost use Rattle.escp2_definitions.specs.Canonical.{apart_at, canonical_row, equal_at, next_packet};
 ghost use Rattle.escp2_definitions.specs.RowCode.{packet_code, packet_row};
-ghost use Rattle.std.specs.Prelude.{length, nat_lt, take, take_while, ◌==◌, ◌*◌, ◌<◌, ◌≡◌, ◌≤◌};
+ghost use Rattle.std.specs.Prelude.{drop, false, length, min, nat_lt, take, take_while, true, ℕ, ◌==◌, ◌*◌, ◌+◌, ◌-◌, ◌<◌, ◌≡◌, ◌≤◌};
 
 // The most bytes of a packet.
 const MOST_BYTES: usize = 128;
@@ -43,6 +43,34 @@ fn begins_equal(row: &[u8]) -> bool
     }
 }
 
+// Whether none of the first sixteen bytes begins three equal ones. The loop never ends early, so that it runs over all
+// at once.
+#[inline]
+fn sixteen_apart(row: &[u8]) -> bool
+    requires { 18 ≤ length row.now }
+    ensures { result ≡ true → (i : ℕ) → i < 16 → nat_lt 2 (equal_at (drop i row.now)) ≡ false }
+{
+    let mut equal = false;
+    for i in 0..16 {
+        equal |= (row[i] == row[i + 1]) & (row[i + 1] == row[i + 2]);
+    }
+    !equal
+}
+
+// How many bytes at the beginning surely come before three equal ones, by sixteens, up to `most`.
+#[inline]
+fn sixteens_apart(row: &[u8], most: usize) -> usize
+    requires { most ≡ min (length row.now) 128 }
+    ensures within { result ≤ most }
+    ensures is { apart_at 128 row.now ≡ result + apart_at (128 - result) (drop result row.now) }
+{
+    let mut count = 0;
+    'sixteens: while count + 16 <= most && count + 18 <= row.len() && sixteen_apart(&row[count..]) {
+        count += 16;
+    }
+    count
+}
+
 // How many bytes come before the first three equal bytes, or before the end, up to `MOST_BYTES`.
 fn apart_bytes(row: &[u8]) -> usize
     ensures is { result ≡ apart_at MOST_BYTES row.now }
@@ -51,7 +79,7 @@ fn apart_bytes(row: &[u8]) -> usize
     ensures some { 0 < length row.now → equal_at row.now ≤ 2 → 1 ≤ result }
 {
     let most = row.len().min(MOST_BYTES);
-    for count in 0..most {
+    for count in sixteens_apart(row, most)..most {
         if begins_equal(&row[count..]) {
             return count;
         }
