@@ -3,38 +3,20 @@ use Rattle.std.proofs.Common.{◌≡◌, ◌⊎◌, ℕ, ◌+◌, ◌-◌, ◌*�
 use Rattle.std.proofs.Common.{◌∙◌, ap, arith, inl, inr, bit_and, bit_or}
 use Rattle.std.proofs.Math.Nat.{div-div-eq-div-mul, div-le_self}
 use Rattle.std.proofs.lemmas.Nat.{and_le_l, pow-add}
-use Rattle.std.proofs.lemmas.Nat.Bits.{bit_at-lt, bit_at_and, bit_at_cat_high, bit_at_cat_low, bit_at_not}
+use Rattle.std.proofs.lemmas.Nat.Bits.{bit_at-lt, bit_at_and, bit_at_cat_low, bit_at_not}
 use Rattle.std.proofs.lemmas.Nat.Bits.{bit_at_ones, bit_at_ones_above, bit_at_or, ones_shr}
 use Rattle.std.specs.Int.{w8, bit_at as bit}
 use Rattle.escp2_definitions.specs.Machine.{bit_at}
 
--- ---- eight dots of two bytes
+-- ---- bits of a number
 
-shr_bit : (n a i : ℕ) → bit (n / 2 ^ a) i ≡ bit n (a + i)
+pub shr_bit : (n a i : ℕ) → bit (n / 2 ^ a) i ≡ bit n (a + i)
 shr_bit n a i = ap (λ m. m % 2) (div-div-eq-div-mul n (2 ^ a) (2 ^ i) ∙ ap (λ m. n / m) (sym (pow-add 2 a i)))
 
-low_bit : (n i : ℕ) → i < 8 → bit (n % 256) i ≡ bit n i
+pub low_bit : (n i : ℕ) → i < 8 → bit (n % 256) i ≡ bit n i
 low_bit n i low =
     let parts : n / 256 * 256 + n % 256 ≡ n = omega arith in
     sym (bit_at_cat_low (n / 256) 8 (n % 256) i low) ∙ ap (λ m. bit m i) parts
-
-moved_bit : (left right shift k : ℕ) → k < 8
-    → bit ((left * 256 + right) / 2 ^ (8 - shift) % 256) (7 - k) ≡ bit (left * 256 + right) (8 - shift + (7 - k))
-moved_bit left right shift k low = low_bit _ (7 - k) (omega arith) ∙ shr_bit (left * 256 + right) (8 - shift) (7 - k)
-
-pub moved_left : (left right shift k : ℕ) → right < 256 → shift < 8 → k + shift < 8
-    → bit_at ((left * 256 + right) / 2 ^ (8 - shift) % 256) k ≡ bit_at left (k + shift)
-moved_left left right shift k fits few low =
-    let place : 8 - shift + (7 - k) - 8 ≡ 7 - (k + shift) = omega arith in
-    ap (λ n. n == 1) (moved_bit left right shift k (omega arith)
-    ∙ bit_at_cat_high left 8 right (8 - shift + (7 - k)) fits (omega arith) ∙ ap (bit left) place)
-
-pub moved_right : (left right shift k : ℕ) → shift < 8 → k < 8 → 8 ≤ k + shift
-    → bit_at ((left * 256 + right) / 2 ^ (8 - shift) % 256) k ≡ bit_at right (k + shift - 8)
-moved_right left right shift k few low high =
-    let place : 8 - shift + (7 - k) ≡ 7 - (k + shift - 8) = omega arith in
-    ap (λ n. n == 1) (moved_bit left right shift k low
-    ∙ bit_at_cat_low left 8 right (8 - shift + (7 - k)) (omega arith) ∙ ap (bit right) place)
 
 -- ---- a byte with some dots of another
 

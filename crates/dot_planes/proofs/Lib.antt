@@ -12,3 +12,4 @@ pub mod MovedBits
 pub mod LaidBytes
 pub mod LaidRows
 pub mod PutLaid
+pub mod Words

@@ -2,7 +2,6 @@
 use Rattle.std.proofs.Common.{◌≡◌, ◌≢◌, ◌⊎◌, ℕ, ◌+◌, ◌-◌, ◌*◌, ◌/◌, ◌%◌, ◌<◌, ◌≤◌, List, get_or, length, length-set, set, sym, ◌∙◌}
 use Rattle.std.proofs.Common.{ap, arith, inl, inr, refl, subst, get_or-set_other, get_or-set_same}
 use Rattle.std.proofs.lemmas.Bool.{cases_eq, cases_lt}
-use Rattle.std.proofs.lemmas.List.{get_or_past}
 use Rattle.escp2_definitions.specs.Machine.{bit_at}
 use Rattle.dot_planes.specs.Tables.{row_dot}
 use Rattle.dot_planes.specs.Tiles.{IsInRow, PutsDots}
@@ -43,15 +42,6 @@ set_byte row b new x room here = ap (λ i. bit_at (get_or (set row b new) i 0) (
 
 kept_byte : (row : List ℕ) (b new x : ℕ) → x / 8 ≢ b → row_dot (set row b new) x ≡ row_dot row x
 kept_byte row b new x other = ap (λ n. bit_at n (x % 8)) (get_or-set_other row b (x / 8) new 0 other)
-
-pub set_fits : (row : List ℕ) (b new : ℕ) → new < 256 → ((k : ℕ) → get_or row k 0 < 256) → (k : ℕ) → get_or (set row b new) k 0 < 256
-set_fits row b new fits all k = elim (cases_eq k b) [
-  | inl here ↦ elim (cases_lt b (length row)) [
-    | inl inside ↦ omega (arith, ap (λ n. get_or (set row b new) n 0) here, get_or-set_same row b new 0 inside)
-    | inr past ↦ omega (arith, get_or_past (set row b new) k 0 (omega (arith, length-set row b new)))
-  ]
-  | inr other ↦ omega (arith, get_or-set_other row b k new 0 other, all k)
-]
 
 -- one byte more
 pub put_more : (width c r b new : ℕ) (dots first row : List ℕ) → b < length row → TakesDots width c r b dots (get_or row b 0) new

@@ -9,10 +9,7 @@ ghost use Rattle.std.specs.Prelude.{◌-◌, ◌/◌, ◌<◌, ◌||◌, ◌≡�
 ghost use Rattle.weave_definitions.specs.Weave.{count_from};
 
 use crate::eights::eight_from;
-
-fn are_bytes(bytes: &[u8])
-    ensures { (k : ℕ) → slice_index bytes.now k < 256 }
-{}
+use crate::places::are_bytes;
 
 // Eight dots of a row from bit `by` of byte i on. Byte i + 1 exists.
 #[inline(always)]

@@ -27,3 +27,9 @@ pub(crate) fn row_of(bytes: &[u8], len: usize, start: usize) -> &[u8]
 {
     &bytes[start..start + len]
 }
+
+/// A byte is below 256.
+#[inline]
+pub(crate) fn are_bytes(bytes: &[u8])
+    ensures { (k : ℕ) → slice_index bytes.now k < 256 }
+{}

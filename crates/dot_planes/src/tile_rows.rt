@@ -6,6 +6,7 @@ ghost use Rattle.pwg_definitions.specs.Limits.{most_columns};
 ghost use Rattle.std.specs.Prelude.{length, slice_index, ℕ, ◌*◌, ◌+◌, ◌-◌, ◌<◌, ◌≡◌, ◌≤◌, ◌⊎◌};
 
 use crate::eights::eight_from;
+use crate::places::are_bytes;
 
 /// Sets the dots of row r of a tile in column c, eight bytes, in a packed row of `width` columns, wherever the tile
 /// has a pixel of the row. All other dots are unchanged.
@@ -24,6 +25,7 @@ pub(crate) fn put_dots(row: &mut [u8], width: usize, c: usize, r: usize, dots: &
     } else {
         put_cut(row, width, c, r, skip, shift, dots);
     }
+    are_bytes(row);
 }
 
 // How many whole bytes, and how many dots more, row r of a tile begins to the left of row 0.
@@ -55,13 +57,30 @@ fn put_whole(
     requires lean { 2 * r ≡ 8 * skip + shift }
     requires shift { shift ≤ 6 }
     requires dots { length dots.now ≡ 8 }
-    ensures dots { PutsDots width c r width dots.now row.old row.new }
-    ensures bytes { (k : ℕ) → slice_index row.new k < 256 }
+    ensures { PutsDots width c r width dots.now row.old row.new }
 {
     let start = 8 * c - (skip + 1);
-    for n in 0..9 {
-        row[start + n] = put_byte(row[start + n], dots, n, shift, 8);
+    row[start] = put_byte(row[start], dots, 0, shift, 8);
+    let bytes = moved_row(dots, shift, row[start + 8]);
+    for n in 0..8 {
+        row[start + 1 + n] = bytes[n];
     }
+}
+
+// The dots of a tile's row from place `shift` on, eight bytes: the last `shift` dots are those of another byte.
+#[inline]
+fn moved_row(dots: &[u8], shift: usize, last: u8) -> [u8; 8]
+    requires shift { shift ≤ 6 }
+    requires dots { length dots.now ≡ 8 }
+    ensures pixels { (n k offset : ℕ) → n < 8 → k < 8 → offset < 64 → 8 * n + shift + k ≡ offset
+        → bit_at (slice_index result n) k ≡ row_dot dots.now offset }
+    ensures rest { (k : ℕ) → k < 8 → 8 ≤ k + shift → bit_at (slice_index result 7) k ≡ bit_at last k }
+{
+    let row = u64::from_be_bytes([
+        dots[0], dots[1], dots[2], dots[3], dots[4], dots[5], dots[6], dots[7],
+    ]);
+    let kept = last % (1 << shift);
+    (row << shift | u64::from(kept)).to_be_bytes()
 }
 
 // The same where columns may lie left of the row or past its end.
@@ -73,8 +92,7 @@ fn put_cut(row: &mut [u8], width: usize, c: usize, r: usize, skip: usize, shift:
     requires lean { 2 * r ≡ 8 * skip + shift }
     requires shift { shift ≤ 6 }
     requires dots { length dots.now ≡ 8 }
-    ensures dots { PutsDots width c r width dots.now row.old row.new }
-    ensures bytes { (k : ℕ) → slice_index row.new k < 256 }
+    ensures { PutsDots width c r width dots.now row.old row.new }
 {
     // Byte b takes the tile's offsets from 8 (b + skip - 8 c) + shift on.
     let start = (8 * c).saturating_sub(skip + 1);

@@ -1,13 +1,12 @@
 use Rattle.std.proofs.Common.{◌≡◌, ◌≤◌, ◌<◌, ◌⊎◌, ℕ, ◌+◌, ◌-◌, ◌*◌, arith, inl, inr, length}
 use Rattle.std.proofs.lemmas.Bool.{cases_lt}
-use Rattle.dot_planes.proofs.TileRows.{put_all, put_more, put_none, set_fits, takes_dots}
+use Rattle.dot_planes.proofs.TileRows.{put_all, put_more, put_none, takes_dots}
 use Rattle.dot_planes.proofs.tile_rows.put_cut.Goals as goal
 
 pub loop-b-init : goal.loop-b-init
 loop-b-init c = record {
   dots = put_none c.args.width c.args.c c.args.r c.args.skip c.args.shift _ _ _
       (omega arith) c.requires.lean c.saturating_sub-start.ensures;
-  bytes = λ k. (c.type_inv.row k).fits;
 }
 
 pub loop-b-preserved : goal.loop-b-preserved
@@ -19,11 +18,10 @@ loop-b-preserved c =
           (takes_dots c.args.width c.args.c c.args.r c.loop-b.b c.args.skip c.args.shift c.args.dots.now
           _ c.put_byte.result c.requires.lean after c.put_byte.ensures.pixels c.put_byte.ensures.others)
           c.loop-b.invariant.dots;
-      bytes = set_fits c.loop-b.row c.loop-b.b c.put_byte.result c.put_byte.type_inv c.loop-b.invariant.bytes;
     }
 
-pub returns-clause-dots : goal.returns-clause-dots
-returns-clause-dots c =
+pub returns : goal.returns
+returns c =
     let end : ℕ = c.min-end.result in
     let tile : ℕ = 8 * c.args.c + 8 - c.args.skip in
     let last : (end ≡ tile) ⊎ (c.args.width ≤ 8 * end) = elim (cases_lt tile (length c.args.row.now)) [
@@ -32,6 +30,3 @@ returns-clause-dots c =
     ] in
     put_all c.args.width c.args.c c.args.r c.args.skip c.args.shift c.loop-b.b end c.args.dots.now
     c.args.row.now c.loop-b.row c.requires.lean last (omega arith) c.loop-b-test.false c.loop-b.invariant.dots
-
-pub returns-clause-bytes : goal.returns-clause-bytes
-returns-clause-bytes c = c.loop-b.invariant.bytes
