@@ -1,8 +1,7 @@
 -- The rows of a page that are held until they are diffused.
 use Rattle.std.specs.Prelude.{◌≡◌, ◌≢◌, ℕ, ℤ, pos, ◌<◌, ◌≤◌, List, min}
 use Rattle.dot_planes.specs.Tables.{AmountTable, HasSizeAs, amount}
-use Rattle.slab_diffusion.specs.Slabs.{IsTopOf}
-use Rattle.tile_border.specs.Tops.{edges_of}
+use Rattle.tile_border.specs.Tops.{IsTopOf, edges_of}
 use Rattle.tile_edges.specs.Tops.{top_of}
 
 -- room for the first rows of a window: 256, or all where there are fewer; the errors above them are 0

@@ -12,7 +12,7 @@ use Rattle.tile_edges.specs.Edges.{IsAbove, IsBottom, IsCorner, IsLeft}
 use Rattle.tile_edges.specs.Tops.{IsBelow, IsCut}
 use Rattle.tile_lanes.specs.Done.{plane_of}
 use Rattle.slab_diffusion.specs.Hands.{AreErrorsOf, IsOver}
-use Rattle.slab_diffusion.specs.Slabs.{columns_across}
+use Rattle.tile_border.specs.Tops.{columns_across}
 
 -- ---- one ink of an edge is set
 

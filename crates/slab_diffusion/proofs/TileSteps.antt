@@ -13,7 +13,7 @@ use Rattle.tile_shape.specs.declared.tiles.Dir.TheVariants.{Right}
 use Rattle.tile_shape.specs.declared.tiles.Place.{Place}
 use Rattle.slab_diffusion.specs.Hands.{AreErrorsOf, ComesBefore, CutsEnds, HasDotsBefore, HasRoom, IsNext, IsOver, StaysBeside, TakesAbove}
 use Rattle.slab_diffusion.specs.Hands.{bottom_of}
-use Rattle.slab_diffusion.specs.Slabs.{IsTopOf, columns_across}
+use Rattle.tile_border.specs.Tops.{IsTopOf, columns_across}
 use Rattle.slab_diffusion.specs.declared.hands.Hand.{Hand}
 use Rattle.slab_diffusion.proofs.Edges.{over_above, over_corner, zero_above}
 

@@ -8,7 +8,7 @@ use Rattle.tile_edges.specs.Edges.{IsBottom, IsCorner, IsLeft}
 use Rattle.tile_edges.specs.Tops.{IsCut}
 use Rattle.tile_lanes.specs.Done.{HasDots, plane_of}
 use Rattle.tile_shape.specs.declared.tiles.Place.{Place}
-use Rattle.slab_diffusion.specs.Slabs.{IsTopOf, columns_across}
+use Rattle.tile_border.specs.Tops.{IsTopOf, columns_across}
 use Rattle.slab_diffusion.specs.declared.hands.Hand.{Hand}
 
 -- the edges and the dots have the inks of the rows, and there is a bottom edge for each column

@@ -1,6 +1,6 @@
 //! The edges that wait for the tiles that need them.
 ghost use Rattle.slab_diffusion.specs.Hands.{CutsEnds, HasRoom, IsCleared, TakesAbove};
-ghost use Rattle.slab_diffusion.specs.Slabs.{IsTopOf};
+ghost use Rattle.tile_border.specs.Tops.{IsTopOf};
 ghost use Rattle.dot_planes.specs.Tables.{AmountTable};
 ghost use Rattle.std.specs.Prelude.{IfOk, length, ◌<◌, ◌≡◌, ◌≤◌};
 

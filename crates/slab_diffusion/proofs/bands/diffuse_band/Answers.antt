@@ -8,7 +8,7 @@ use Rattle.slab_diffusion.specs.Hands.{WorksTile}
 use Rattle.slab_diffusion.specs.Order.{IsWorkedTo}
 use Rattle.slab_diffusion.proofs.OrderSteps.{next_is, next_ready, taken_up, worked_more}
 use Rattle.tile_shape.specs.declared.tiles.Shape.{Shape}
-use Rattle.slab_diffusion.specs.Slabs.{columns_across}
+use Rattle.tile_border.specs.Tops.{columns_across}
 use Rattle.slab_diffusion.proofs.BandSteps.{band_begins, band_dots, band_ends}
 use Rattle.slab_diffusion.proofs.TileSteps.{dots_more, stays_more, stays_same, tile_stays}
 use Rattle.slab_diffusion.proofs.bands.diffuse_band.Goals as goal

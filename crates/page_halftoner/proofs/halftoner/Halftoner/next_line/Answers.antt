@@ -3,7 +3,7 @@ use Rattle.std.proofs.lemmas.Option.{same_Some}
 use Rattle.dot_planes.specs.Tables.{AmountTable}
 use Rattle.printer_definitions.specs.Inks.{inks_of}
 use Rattle.separation_definitions.specs.declared.window.Window.{Window}
-use Rattle.slab_diffusion.specs.Slabs.{IsTopOf}
+use Rattle.tile_border.specs.Tops.{IsTopOf}
 use Rattle.page_halftoner.specs.Halftones.{Halftoning, HasAmountsOf, StandsFor}
 use Rattle.page_halftoner.specs.Kept.{IsReady, edges_in, halftoning, window_in}
 use Rattle.page_halftoner.specs.Slabs.{PutsLine}
