@@ -5,13 +5,13 @@ use Rattle.std.proofs.lemmas.Bool.{cases_lt}
 use Rattle.std.proofs.lemmas.List.{get_or_past}
 use Rattle.diffusion_definitions.specs.Diffusion.{Errors, Table}
 use Rattle.dot_planes.specs.Tables.{AmountTable, DotTable}
-use Rattle.tile_border.specs.Inks.{errors_of}
+use Rattle.tile_border.specs.Inks.{CutsEnds, IsCleared, errors_of}
 use Rattle.tile_border.specs.Tops.{IsTopOf, columns_across, edges_of}
 use Rattle.tile_edges.specs.Edges.{IsBottom}
 use Rattle.tile_edges.specs.Tops.{AreBottoms}
 use Rattle.tile_lanes.specs.Done.{window_of}
 use Rattle.tile_shape.specs.Geometry.{bands_of}
-use Rattle.slab_diffusion.specs.Hands.{AreErrorsOf, CutsEnds, HasDotsBefore, HasRoom, IsBefore, IsBehind, IsCleared, IsNext, IsOver}
+use Rattle.slab_diffusion.specs.Hands.{AreErrorsOf, HasDotsBefore, HasRoom, IsBefore, IsBehind, IsNext, IsOver}
 use Rattle.slab_diffusion.specs.Hands.{bottom_of}
 use Rattle.slab_diffusion.specs.Slabs.{AreSlabErrors}
 use Rattle.slab_diffusion.specs.declared.hands.Hand.{Hand}

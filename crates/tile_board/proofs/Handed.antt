@@ -9,11 +9,12 @@ use Rattle.tile_shape.specs.declared.tiles.Dir.TheVariants.{Right, Bottom, Corne
 use Rattle.tile_shape.specs.declared.tiles.Place.{Place}
 use Rattle.tile_edges.specs.Tops.{IsCut}
 use Rattle.tile_edges.proofs.HandedLaws.{handed_right}
-use Rattle.tile_border.specs.Inks.{errors_of}
+use Rattle.tile_border.specs.Inks.{CutsEnds, errors_of}
 use Rattle.tile_border.specs.Tops.{IsTopOf, edges_of}
 use Rattle.tile_border.specs.Worked.{edge_of}
 use Rattle.tile_border.specs.Works.{Border}
 use Rattle.tile_border.specs.declared.task.Task.{Task}
+use Rattle.tile_border.proofs.Zeros.{some_zeros}
 use Rattle.tile_content.specs.Content.{given}
 use Rattle.tile_content.specs.Tiles.{AreHanded, IsHandedTo}
 use Rattle.tile_content.proofs.Given.{given-inks, handed-ready}
@@ -21,7 +22,6 @@ use Rattle.board_steps.specs.Content.{cell_of, content_of}
 use Rattle.board_core.specs.Numbers.{place_of}
 use Rattle.board_steps.specs.Rule.{setting_of}
 use Rattle.board_steps.specs.declared.rule.Slab.{Slab}
-use Rattle.tile_board.specs.Copies.{CutsEnds}
 use Rattle.tile_board.specs.Slabs.{amounts_of, number_in, shape_of, top_edges}
 use Rattle.tile_board.specs.Tasks.{IsTaskOf, handed}
 use Rattle.board_core.proofs.Numbers.{place_is, same_parts}
@@ -70,12 +70,6 @@ handed-first b p edge first is = record {
   above = λ off. absurd (off tt);
 }
 
-zero-at : (len n : ℕ) → get_or (replicate len (pos 0)) n (pos 0) ≡ pos 0
-zero-at len n = elim (cases_lt n len) [
-  | inl inside ↦ get_or-replicate len n (pos 0) (pos 0) inside
-  | inr past ↦ get_or_past (replicate len (pos 0)) n (pos 0) (omega (arith, length-replicate len (pos 0)))
-]
-
 -- an ink's edge of the top
 ink-top : (b : Slab) (i c : ℕ) → c < length (top_edges b) → get_or (edges_of (top_edges b) i) c [] ≡ errors_of (get_or (top_edges b) c []) i
 ink-top b i c inside = get_or-map (λ (edge : List (List ℤ)). errors_of edge i) (top_edges b) c [] [] inside
@@ -92,7 +86,7 @@ handed-last b p edge columns last is = record {
     at = λ n inside.
         ap (λ (e : List (List ℤ)). get_or (errors_of e i) n (pos 0)) is
         ∙ ap (λ (e : List ℤ). get_or e n (pos 0)) (get_or-replicate (amounts_of b).inks i (replicate 128 (pos 0)) [] low)
-        ∙ zero-at 128 n
+        ∙ some_zeros 128 n
         ∙ sym (ap (λ (e : List ℤ). get_or e n (pos 0)) (get_or_past (edges_of (top_edges b) i) (p.c + 1) []
         (let h = length-map (top_edges b) (λ (edge : List (List ℤ)). errors_of edge i) in omega arith)));
   };

@@ -25,14 +25,14 @@ loop-init c =
       room = record {
         bottoms = room.bottoms;
         bottom = room.bottom;
-        right = c.clear_right.ensures.len ∙ room.right;
+        right = c.clear.ensures.len ∙ room.right;
         corner = first.len ∙ room.corner;
         spare = room.spare;
         bits = room.bits;
       };
       stays = stays_same c.args.rows.now c.args.at c.args.out.now;
       next = λ i e are before. band_begins (table_of c.args.kernel) c.args.rows.now i e c.args.j c.args.hand _ are room before
-          c.clear_right.ensures (rw c.at.ensures at first) refl;
+          c.clear.ensures (rw c.at.ensures at first) refl;
       dots = λ i e are before has. has;
     }
 
