@@ -4,16 +4,16 @@ use Rattle.std.proofs.lemmas.Bool.{cases_eq}
 use Rattle.tile_shape.specs.Geometry.{bands_of, columns_of}
 use Rattle.tile_shape.specs.declared.tiles.Place.{Place}
 use Rattle.board_core.specs.Inside.{state_of}
-use Rattle.board_core.specs.States.{CoreState, fresh, number, tile_at}
+use Rattle.board_core.specs.Numbers.{number_of, place_of}
+use Rattle.board_core.specs.States.{CoreState, fresh, tile_at}
 use Rattle.board_core.specs.declared.scheduler.Core.TheInside.{Inside}
 use Rattle.board_core.specs.declared.tiles.Status.TheVariants.{Waiting}
 use Rattle.board_core.specs.Steps.{IsFirstReady, IsReadyTile}
-use Rattle.board_core.proofs.Idle.{place_number, place_of, place_tile}
-use Rattle.board_core.proofs.Numbers.{before_less, number_inside, same_place}
+use Rattle.board_core.proofs.Numbers.{before_less, number_inside, place_number, place_tile, same_place}
 
 -- no tile with a number below n is ready
 abbrev pub NoneBelow : CoreState → ℕ → Type 0
-NoneBelow core n = (q : Place) → number core.shape q < n → ¬ IsReadyTile core q
+NoneBelow core n = (q : Place) → number_of core.shape q < n → ¬ IsReadyTile core q
 
 -- the tile of a number, where a band has this many columns
 abbrev pub place_in : ℕ → ℕ → Place
@@ -32,9 +32,9 @@ first_ready core columns n is none ready =
 
 pub none_more : (core : CoreState) (columns n : ℕ) → columns ≡ columns_of core.shape → NoneBelow core n
     → ¬ IsReadyTile core (place_in columns n) → NoneBelow core (n + 1)
-none_more core columns n is none unready q low r = elim (cases_eq (number core.shape q) n) [
+none_more core columns n is none unready q low r = elim (cases_eq (number_of core.shape q) n) [
   | inl here ↦
-      let inside : n < columns_of core.shape * bands_of core.shape = omega (arith, number_inside core.shape q r.tile) in
+      let inside : n < bands_of core.shape * columns_of core.shape = omega (arith, number_inside core.shape q r.tile) in
       let same : q ≡ place_of core.shape n = same_place core.shape q (place_of core.shape n) r.tile (place_tile core.shape n inside) (here
       ∙ sym (place_number core.shape n)) in
       let Q : Place → Type 0 = λ p. IsReadyTile core p in
@@ -45,6 +45,6 @@ none_more core columns n is none unready q low r = elim (cases_eq (number core.s
 
 -- where none of the first tiles waits, none of them is ready
 pub none_waiting : (core : Inside) (q : Place) → ((n : ℕ) → n < core.begun → (slice_index_or core.tiles.items n fresh).status ≢ Waiting)
-    → number core.shape q < core.begun → ¬ IsReadyTile (state_of core) q
+    → number_of core.shape q < core.begun → ¬ IsReadyTile (state_of core) q
 unfolding tile_at
-none_waiting core q none low r = none (number core.shape q) low r.waiting
+none_waiting core q none low r = none (number_of core.shape q) low r.waiting

@@ -10,7 +10,8 @@ use Rattle.tile_shape.specs.declared.tiles.Shape.{Shape}
 use Rattle.board_core.specs.declared.events.Event.{Event}
 use Rattle.board_core.specs.declared.tiles.TileState.{TileState}
 use Rattle.board_core.specs.Legal.{Legal}
-use Rattle.board_core.specs.States.{CoreState, IsCore, fresh, has_sent, number, start, tile_at}
+use Rattle.board_core.specs.Numbers.{number_of}
+use Rattle.board_core.specs.States.{CoreState, IsCore, fresh, has_sent, start, tile_at}
 use Rattle.board_core.specs.Steps.{Runs, after}
 use Rattle.board_core.proofs.Keeps.{legal_event, posted_waits, shape_kept, whole_event}
 use Rattle.board_core.proofs.Once.{sent_once}
@@ -20,9 +21,9 @@ start_whole s shape = record { shape = shape; count = length-replicate (columns_
 
 start_tile : (s : Shape) (p : Place) → tile_at (start s) p ≡ fresh
 unfolding tile_at
-start_tile s p = elim (cases_lt (number s p) (columns_of s * bands_of s)) [
-  | inl inside ↦ get_or-replicate (columns_of s * bands_of s) (number s p) fresh fresh inside
-  | inr past ↦ get_or_past (start s).tiles (number s p) fresh (omega (arith, length-replicate (columns_of s * bands_of s) fresh))
+start_tile s p = elim (cases_lt (number_of s p) (columns_of s * bands_of s)) [
+  | inl inside ↦ get_or-replicate (columns_of s * bands_of s) (number_of s p) fresh fresh inside
+  | inr past ↦ get_or_past (start s).tiles (number_of s p) fresh (omega (arith, length-replicate (columns_of s * bands_of s) fresh))
 ]
 
 fresh_sent : (d : Dir) → has_sent fresh d ≡ false

@@ -5,6 +5,7 @@ use Rattle.tile_shape.specs.declared.tiles.Dir.{Dir}
 use Rattle.tile_shape.specs.declared.tiles.Dir.TheVariants.{Right, Bottom, Corner}
 use Rattle.tile_shape.specs.declared.tiles.Place.{Place}
 use Rattle.tile_shape.specs.declared.tiles.Shape.{Shape}
+use Rattle.board_core.specs.Numbers.{number_of}
 use Rattle.board_core.specs.declared.tiles.Status.TheVariants.{Waiting, Taken, Posted}
 use Rattle.board_core.specs.declared.tiles.TileState.{TileState}
 
@@ -26,13 +27,9 @@ fresh = record { status = Waiting; right = false; bottom = false; corner = false
 abbrev pub start : Shape → CoreState
 start s = record { shape = s; tiles = replicate (columns_of s * bands_of s) fresh }
 
--- the number of a tile, by band and then column
-abbrev pub number : Shape → Place → ℕ
-number s p = p.j * columns_of s + p.c
-
 -- the state of a tile
 unfoldable pub tile_at : CoreState → Place → TileState
-tile_at core p = slice_index_or core.tiles (number core.shape p) fresh
+tile_at core p = slice_index_or core.tiles (number_of core.shape p) fresh
 
 -- ---- statuses
 

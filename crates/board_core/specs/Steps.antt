@@ -11,7 +11,8 @@ use Rattle.board_core.specs.declared.events.CoreFault.{CoreFault}
 use Rattle.board_core.specs.declared.events.CoreFault.TheVariants.{NoSuchTile, Taken, NotReady, NotYours, Sent, Unsent}
 use Rattle.board_core.specs.declared.tiles.Status.TheVariants as status
 use Rattle.board_core.specs.declared.tiles.TileState.{TileState}
-use Rattle.board_core.specs.States.{CoreState, IsTakenBy, IsWaiting, number, sent, tile_at}
+use Rattle.board_core.specs.Numbers.{number_of}
+use Rattle.board_core.specs.States.{CoreState, IsTakenBy, IsWaiting, sent, tile_at}
 
 -- ---- refusals
 
@@ -80,7 +81,7 @@ IsAccepted core e = (fault : CoreFault) → ¬ Applies core e fault
 
 -- the tiles, where one of them has this state
 abbrev pub with_tile : CoreState → Place → TileState → CoreState
-with_tile core p t = record { shape = core.shape; tiles = slice_set core.tiles (number core.shape p) t }
+with_tile core p t = record { shape = core.shape; tiles = slice_set core.tiles (number_of core.shape p) t }
 
 -- the state of a tile, after it sent this edge
 abbrev pub with_sent : TileState → Dir → TileState

@@ -1,5 +1,6 @@
 //! The state of the tiles of a window, changed event by event.
-ghost use Rattle.board_core.specs.States.{number, start, tile_at};
+ghost use Rattle.board_core.specs.Numbers.{number_of};
+ghost use Rattle.board_core.specs.States.{start, tile_at};
 ghost use Rattle.board_core.specs.Steps.{Gives, IsAccepted, IsFirst, IsFirstReady, IsReadyTile, Lacks, LacksEdge, Owes};
 ghost use Rattle.board_core.specs.Steps.{OwesEdge, after, with_tile};
 ghost use Rattle.board_core.specs.declared.events.Event.{Event};
@@ -205,7 +206,7 @@ impl Core {
     // The number of a tile, by band and then column.
     fn number(&self, place: Place) -> usize
         requires { IsTile self.now.shape place }
-        ensures is { result ≡ number self.now.shape place }
+        ensures is { result ≡ number_of self.now.shape place }
         ensures inside { result < length self.now.tiles }
     {
         place.j as usize * self.shape.columns() as usize + place.c as usize

@@ -15,13 +15,15 @@ use Rattle.tile_shape.specs.declared.tiles.Shape.{Shape}
 use Rattle.board_steps.specs.declared.rule.View.{View}
 use Rattle.board_steps.specs.declared.rule.Slab.{Slab}
 use Rattle.board_steps.specs.declared.rule.Cell.{Cell}
-use Rattle.board_steps.specs.Graph.{Graph, number_of}
+use Rattle.board_steps.specs.Graph.{Graph}
+use Rattle.board_core.specs.Numbers.{number_of}
 use Rattle.board_steps.specs.Rule.{setting_of, lists, sends, total}
 use Rattle.board_steps.specs.Shown.{Moves, has_come, shown, shown_tile, status}
 use Rattle.board_steps.specs.Steps.{index_of}
 use Rattle.board_steps.proofs.Totals.{total_same}
 use Rattle.board_steps.proofs.Views.{held_lists, one_same}
-use Rattle.board_steps.proofs.Places.{gives_next, number_below}
+use Rattle.board_steps.proofs.Places.{gives_next}
+use Rattle.board_core.proofs.Numbers.{number_below}
 use Rattle.board_steps.proofs.Statuses.{status_only, held_own}
 use Rattle.board_steps.proofs.Showing.{given, sent_is, tile_is}
 

@@ -4,6 +4,7 @@ use Rattle.std.proofs.Common.{arith, Some, mod-lt, div-add-mod', lit<}
 use Rattle.std.proofs.Math.Nat.{mul_comm, div-lt_iff_lt-mul}
 use Rattle.std.proofs.lemmas.Bool.{ltb-true, lt-ltb}
 use Rattle.std.proofs.lemmas.Nat.{div-mul-add, mul-add-lt}
+use Rattle.board_core.proofs.Numbers.{row_less, row_more}
 use Rattle.board_steps.specs.Graph.{IsGraph, only_if, next_of, from_of, next_in, from_in}
 
 pub only-inv : (b : Bool) (x p : ℕ) → only_if b x ≡ Some p → (b ≡ true) × (x ≡ p)
@@ -48,10 +49,6 @@ next-at C B c j t d a = ap₂ (λ (x y : ℕ). next_of C B x y t d) (at-mod C B 
 from-at : (C B c j t d : ℕ) → At C B c j t → from_in C B t d ≡ from_of C B c j t d
 from-at C B c j t d a = ap₂ (λ (x y : ℕ). from_of C B x y t d) (at-mod C B c j t a) (at-div C B c j t a)
 
--- tiles of the next band
-pub row-more : (C j : ℕ) → (j + 1) * C ≡ j * C + C
-row-more C j = grind (arith)
-
 abbrev There : ℕ → ℕ → ℕ → ℕ → ℕ → Type 0
 There C B t d p = (p < B * C) × (p ≢ t) × (d < 3) × (from_in C B p d ≡ Some t)
 
@@ -67,7 +64,7 @@ there C B c j t zero p a e =
     )
 there C B c j t (suc zero) p a e =
     let i = only-inv (ltb 0 c && ltb (j + 1) B) (t + C - 1) p e in let two = both (ltb 0 c) (ltb (j + 1) B) i.0 in
-    let pos = ltb-true 0 c two.0 in let more = ltb-true (j + 1) B two.1 in let f = a.is in let k = i.1 in let row = row-more C j in
+    let pos = ltb-true 0 c two.0 in let more = ltb-true (j + 1) B two.1 in let f = a.is in let k = i.1 in let row = row_more C j in
     let col = a.column in
     let b : At C B (c - 1) (j + 1) p = record { is = omega arith; column = omega arith; band = more } in (
       at-below C B (c - 1) (j + 1) p b,
@@ -79,7 +76,7 @@ there C B c j t (suc zero) p a e =
     )
 there C B c j t (suc (suc zero)) p a e =
     let i = only-inv (ltb (j + 1) B) (t + C) p e in let more = ltb-true (j + 1) B i.0 in let f = a.is in let k = i.1 in
-    let row = row-more C j in let col = a.column in
+    let row = row_more C j in let col = a.column in
     let b : At C B c (j + 1) p = record { is = omega arith; column = a.column; band = more } in (
       at-below C B c (j + 1) p b,
       (λ z. omega arith),
@@ -88,11 +85,6 @@ there C B c j t (suc (suc zero)) p a e =
           ∙ only-yes (ltb 0 (j + 1)) (p - C) t (lt-ltb 0 (j + 1) (omega arith)) (omega arith),
     )
 there C B c j t (suc (suc (suc d))) p a e = absurd (cc)
-
--- tiles of the band above
-row-less : (C j : ℕ) → 0 < j → j * C ≡ (j - 1) * C + C
-row-less C zero h = absurd (omega arith)
-row-less C (suc j) h = let e : suc j - 1 ≡ j = omega arith in grind (arith)
 
 abbrev Back : ℕ → ℕ → ℕ → ℕ → ℕ → Type 0
 Back C B p d t = (t < B * C) × (d < 3) × (next_in C B t d ≡ Some p)
@@ -108,7 +100,7 @@ back C B c j p zero t a e =
     )
 back C B c j p (suc zero) t a e =
     let i = only-inv (ltb (c + 1) C && ltb 0 j) (p + 1 - C) t e in let two = both (ltb (c + 1) C) (ltb 0 j) i.0 in
-    let more = ltb-true (c + 1) C two.0 in let pos = ltb-true 0 j two.1 in let f = a.is in let k = i.1 in let row = row-less C j pos in
+    let more = ltb-true (c + 1) C two.0 in let pos = ltb-true 0 j two.1 in let f = a.is in let k = i.1 in let row = row_less C j pos in
     let band = a.band in
     let b : At C B (c + 1) (j - 1) t = record { is = omega arith; column = more; band = omega arith } in (
       at-below C B (c + 1) (j - 1) t b,
@@ -118,7 +110,7 @@ back C B c j p (suc zero) t a e =
           (omega arith))) (omega arith),
     )
 back C B c j p (suc (suc zero)) t a e =
-    let i = only-inv (ltb 0 j) (p - C) t e in let pos = ltb-true 0 j i.0 in let f = a.is in let k = i.1 in let row = row-less C j pos in
+    let i = only-inv (ltb 0 j) (p - C) t e in let pos = ltb-true 0 j i.0 in let f = a.is in let k = i.1 in let row = row_less C j pos in
     let band = a.band in let b : At C B c (j - 1) t = record { is = omega arith; column = a.column; band = omega arith } in (
       at-below C B c (j - 1) t b,
       lit< tt,

@@ -20,12 +20,13 @@ use Rattle.tile_shape.specs.declared.tiles.Shape.{Shape}
 use Rattle.board_steps.specs.declared.rule.View.{View}
 use Rattle.board_steps.specs.declared.rule.Slab.{Slab}
 use Rattle.board_steps.specs.declared.rule.Cell.{Cell}
-use Rattle.board_steps.specs.Graph.{number_of}
+use Rattle.board_core.specs.Numbers.{number_of}
 use Rattle.board_steps.specs.Rule.{setting_of, Ruled, lists, one_if, posts, sends, times, total}
 use Rattle.board_steps.specs.Shown.{holds, own_status, posted_status, shown, status}
 use Rattle.board_steps.specs.Steps.{index_of}
 use Rattle.board_steps.proofs.Events.{true_false}
-use Rattle.board_steps.proofs.Places.{gives_next, number_below, window_graph}
+use Rattle.board_steps.proofs.Places.{gives_next, window_graph}
+use Rattle.board_core.proofs.Numbers.{number_below}
 use Rattle.board_steps.proofs.Showing.{given, sent_is, tile_is}
 use Rattle.board_steps.proofs.Statuses.{status_none, status_only}
 use Rattle.board_steps.proofs.Totals.{total_at, all_sends_lists, all_posts_sends}

@@ -1,18 +1,19 @@
 -- The graph of a window's tiles, by their places.
 use Rattle.std.proofs.Common.{◌≡◌, ℕ, ◌+◌, ◌-◌, ◌*◌, ◌<◌, ◌&&◌, ltb, refl, sym, ap, ◌∙◌, arith, Some}
 use Rattle.std.proofs.lemmas.Bool.{ltb-true, lt-ltb}
+use Rattle.board_core.specs.Numbers.{number_of}
 use Rattle.board_core.specs.Steps.{Gives}
+use Rattle.board_core.proofs.Numbers.{row_more}
 use Rattle.tile_shape.specs.Geometry.{IsReceiver, IsTile, bands_of, columns_of}
 use Rattle.tile_shape.specs.declared.tiles.Dir.{Dir}
 use Rattle.tile_shape.specs.declared.tiles.Dir.TheVariants.{Right, Bottom, Corner}
 use Rattle.tile_shape.specs.declared.tiles.Place.{Place}
 use Rattle.tile_shape.specs.declared.tiles.Shape.{Shape}
-use Rattle.board_steps.specs.Graph.{IsGraph, graph_of, number_of, next_in}
-use Rattle.board_steps.specs.Shown.{place_of}
+use Rattle.board_steps.specs.Graph.{IsGraph, graph_of, next_in}
 use Rattle.board_steps.specs.Steps.{index_of}
-use Rattle.board_steps.proofs.Grid.{only-inv, only-yes, both, and-yes, At, at-div, at-mod, at-below, at-of, next-at, row-more, grid}
+use Rattle.board_steps.proofs.Grid.{only-inv, only-yes, both, and-yes, At, at-div, at-mod, next-at, grid}
 
-pub some_column : (s : Shape) → 0 < columns_of s
+some_column : (s : Shape) → 0 < columns_of s
 some_column s = let w : ℕ = s.width in omega arith
 
 pub window_graph : (s : Shape) → IsGraph (graph_of s)
@@ -21,27 +22,9 @@ window_graph s = grid (columns_of s) (bands_of s) (some_column s)
 tile_at : (s : Shape) (p : Place) → IsTile s p → At (columns_of s) (bands_of s) p.c p.j (number_of s p)
 tile_at s p tile = record { is = refl; column = tile.column; band = tile.band }
 
-pub number_below : (s : Shape) (p : Place) → IsTile s p → number_of s p < (graph_of s).tiles
-number_below s p tile = at-below (columns_of s) (bands_of s) p.c p.j (number_of s p) (tile_at s p tile)
-
-pub place_tile : (s : Shape) (t : ℕ) → t < (graph_of s).tiles → IsTile s (place_of s t) × (number_of s (place_of s t) ≡ t)
-place_tile s t near = let a = at-of (columns_of s) (bands_of s) t (some_column s) near in
-    (record { column = a.column; band = a.band }, sym a.is)
-
 -- a number is that of one place
 one_place : (C B c j c' j' n : ℕ) → At C B c j n → At C B c' j' n → (c' ≡ c) × (j' ≡ j)
 one_place C B c j c' j' n a b = (sym (at-mod C B c' j' n b) ∙ at-mod C B c j n a, sym (at-div C B c' j' n b) ∙ at-div C B c j n a)
-
-pub same_number : (s : Shape) (p q : Place) → IsTile s p → IsTile s q → number_of s q ≡ number_of s p → q ≡ p
-same_number s p q tile tile' e =
-    let a = tile_at s p tile in let b = tile_at s q tile' in
-    let o = one_place (columns_of s) (bands_of s) p.c p.j q.c q.j (number_of s p) a record {
-      is = sym e
-          ∙ b.is;
-      column = b.column;
-      band = b.band;
-    } in
-    λ i. record { c = o.0 i; j = o.1 i }
 
 -- ---- edges
 
@@ -51,12 +34,12 @@ receives C B Right p q t n a b g =
     let row : q.j * C ≡ p.j * C = ap (λ (x : ℕ). x * C) g.1 in let i = a.is in let k = b.is in let l = b.column in let h = g.0 in
     next-at C B p.c p.j t 0 a ∙ only-yes (ltb (p.c + 1) C) (t + 1) n (lt-ltb (p.c + 1) C (omega arith)) (omega arith)
 receives C B Bottom p q t n a b g =
-    let row : q.j * C ≡ p.j * C + C = ap (λ (x : ℕ). x * C) g.1 ∙ row-more C p.j in
+    let row : q.j * C ≡ p.j * C + C = ap (λ (x : ℕ). x * C) g.1 ∙ row_more C p.j in
     let i = a.is in let k = b.is in let l = b.column in let m = b.band in let h = g.0 in let h' = g.1 in
     next-at C B p.c p.j t 1 a ∙ only-yes (ltb 0 p.c && ltb (p.j + 1) B) (t + C - 1) n
     (and-yes _ _ (lt-ltb 0 p.c (omega arith)) (lt-ltb (p.j + 1) B (omega arith))) (omega arith)
 receives C B Corner p q t n a b g =
-    let row : q.j * C ≡ p.j * C + C = ap (λ (x : ℕ). x * C) g.1 ∙ row-more C p.j in
+    let row : q.j * C ≡ p.j * C + C = ap (λ (x : ℕ). x * C) g.1 ∙ row_more C p.j in
     let i = a.is in let k = b.is in let m = b.band in let h = g.0 in let h' = g.1 in
     next-at C B p.c p.j t 2 a ∙ only-yes (ltb (p.j + 1) B) (t + C) n (lt-ltb (p.j + 1) B (omega arith)) (omega arith)
 
@@ -69,12 +52,12 @@ goes C B Right p q t n a b e =
 goes C B Bottom p q t n a b e =
     let i = only-inv (ltb 0 p.c && ltb (p.j + 1) B) (t + C - 1) n (sym (next-at C B p.c p.j t 1 a) ∙ e) in
     let two = both (ltb 0 p.c) (ltb (p.j + 1) B) i.0 in let pos = ltb-true 0 p.c two.0 in let more = ltb-true (p.j + 1) B two.1 in
-    let f = a.is in let k = i.1 in let row = row-more C p.j in let col = a.column in
+    let f = a.is in let k = i.1 in let row = row_more C p.j in let col = a.column in
     let o = one_place C B (p.c - 1) (p.j + 1) q.c q.j n record { is = omega arith; column = omega arith; band = more } b in
     let h = o.0 in (omega arith, o.1)
 goes C B Corner p q t n a b e =
     let i = only-inv (ltb (p.j + 1) B) (t + C) n (sym (next-at C B p.c p.j t 2 a) ∙ e) in
-    let more = ltb-true (p.j + 1) B i.0 in let f = a.is in let k = i.1 in let row = row-more C p.j in
+    let more = ltb-true (p.j + 1) B i.0 in let f = a.is in let k = i.1 in let row = row_more C p.j in
     one_place C B p.c (p.j + 1) q.c q.j n record { is = omega arith; column = a.column; band = more } b
 
 pub gives_next : (s : Shape) (p q : Place) (d : Dir) → Gives s p d q → (graph_of s).next (number_of s p) (index_of d) ≡ Some (number_of s q)

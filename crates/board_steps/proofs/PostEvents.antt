@@ -17,14 +17,15 @@ use Rattle.tile_shape.specs.declared.tiles.Place.{Place}
 use Rattle.board_steps.specs.declared.rule.View.{View}
 use Rattle.board_steps.specs.declared.rule.Slab.{Slab}
 use Rattle.board_steps.specs.declared.rule.Cell.{Cell}
-use Rattle.board_steps.specs.Graph.{number_of}
+use Rattle.board_core.specs.Numbers.{number_of}
 use Rattle.board_steps.specs.Rule.{setting_of, lists, sends, total}
 use Rattle.board_steps.specs.Shown.{IsEvent, Moves, shown, status}
 use Rattle.board_steps.specs.Steps.{AllSent, index_of, posted_view}
 use Rattle.board_steps.proofs.Totals.{total_at, all_sends_lists}
 use Rattle.board_steps.proofs.Views.{sent_sends, held_lists, one_same, post_lists, post_sends_sent, post_sends_else}
 use Rattle.board_steps.proofs.Moves.{at_below}
-use Rattle.board_steps.proofs.Places.{gives_next, number_below}
+use Rattle.board_steps.proofs.Places.{gives_next}
+use Rattle.board_core.proofs.Numbers.{number_below}
 use Rattle.board_steps.proofs.Statuses.{status_same, status_only, posted_own, posted_else}
 use Rattle.board_steps.proofs.Showing.{flag_same, tile_is, shown_set}
 use Rattle.board_steps.proofs.Events.{true_false, sum_same, few, few_after, is_sent, held_status}

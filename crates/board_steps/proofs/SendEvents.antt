@@ -14,13 +14,14 @@ use Rattle.tile_shape.specs.declared.tiles.Place.{Place}
 use Rattle.board_steps.specs.declared.rule.View.{View}
 use Rattle.board_steps.specs.declared.rule.Slab.{Slab}
 use Rattle.board_steps.specs.declared.rule.Cell.{Cell}
-use Rattle.board_steps.specs.Graph.{number_of}
+use Rattle.board_core.specs.Numbers.{number_of}
 use Rattle.board_steps.specs.Rule.{setting_of, has, sends, total}
 use Rattle.board_steps.specs.Shown.{IsEvent, Moves, has_come, shown, shown_tile, status}
 use Rattle.board_steps.specs.Steps.{index_of, sent_view}
 use Rattle.board_steps.proofs.Totals.{total_more, all_sends_lists}
 use Rattle.board_steps.proofs.Views.{send_here, send_else, send_other}
-use Rattle.board_steps.proofs.Places.{gives_next, number_below}
+use Rattle.board_steps.proofs.Places.{gives_next}
+use Rattle.board_core.proofs.Numbers.{number_below}
 use Rattle.board_steps.proofs.Statuses.{status_same, sent_own}
 use Rattle.board_steps.proofs.Showing.{given, flag, flag_same, tile_is, shown_set}
 use Rattle.board_steps.proofs.Events.{true_false, index_same, flag_of, tile_by, sum_after, sum_same, few_after, not_sent, held_status}

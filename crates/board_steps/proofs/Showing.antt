@@ -13,11 +13,13 @@ use Rattle.tile_shape.specs.declared.tiles.Place.{Place}
 use Rattle.board_steps.specs.declared.rule.View.{View}
 use Rattle.board_steps.specs.declared.rule.Slab.{Slab}
 use Rattle.board_steps.specs.declared.rule.Cell.{Cell}
-use Rattle.board_steps.specs.Graph.{Graph, IsGraph, number_of}
+use Rattle.board_steps.specs.Graph.{Graph, IsGraph}
+use Rattle.board_core.specs.Numbers.{number_of}
 use Rattle.board_steps.specs.Rule.{setting_of, Ruled, sends, total}
 use Rattle.board_steps.specs.Shown.{each, has_come, shown, shown_tile, status}
 use Rattle.board_steps.specs.Steps.{index_of}
-use Rattle.board_steps.proofs.Places.{number_below, window_graph}
+use Rattle.board_steps.proofs.Places.{window_graph}
+use Rattle.board_core.proofs.Numbers.{number_below}
 use Rattle.board_steps.proofs.Wording.{edge_bit}
 
 -- ---- a value for each tile

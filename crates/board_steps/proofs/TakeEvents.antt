@@ -14,13 +14,14 @@ use Rattle.tile_shape.specs.declared.tiles.Place.{Place}
 use Rattle.board_steps.specs.declared.rule.View.{View}
 use Rattle.board_steps.specs.declared.rule.Slab.{Slab}
 use Rattle.board_steps.specs.declared.rule.Cell.{Cell}
-use Rattle.board_steps.specs.Graph.{number_of}
+use Rattle.board_core.specs.Numbers.{number_of}
 use Rattle.board_steps.specs.Rule.{lists, sends, total}
 use Rattle.board_steps.specs.Shown.{IsEvent, Moves, shown, status}
 use Rattle.board_steps.specs.Steps.{index_of, taken}
 use Rattle.board_steps.proofs.Totals.{total_more, all_sends_lists}
 use Rattle.board_steps.proofs.Views.{takes_here, takes_sends}
-use Rattle.board_steps.proofs.Places.{gives_next, number_below, window_graph}
+use Rattle.board_steps.proofs.Places.{gives_next, window_graph}
+use Rattle.board_core.proofs.Numbers.{number_below}
 use Rattle.board_steps.proofs.Statuses.{status_none, status_same, status_new, taken_own, taken_else}
 use Rattle.board_steps.proofs.Showing.{flag_same, tile_is, shown_set}
 use Rattle.board_steps.proofs.Events.{true_false, sum_after, sum_same, few, few_after, is_sent, status_is}

@@ -1,11 +1,10 @@
 -- The values of a tile's slots: while the tile waits, blanks for what no other tile sends it, and what the tile gives once
 -- it is posted.
-use Rattle.std.specs.Prelude.{ℕ, ℤ, pos, zero, suc, ◌/◌, ◌%◌, List, Option, None, Some, replicate}
+use Rattle.std.specs.Prelude.{ℕ, ℤ, pos, zero, suc, List, Option, None, Some, replicate}
+use Rattle.board_core.specs.Numbers.{place_of}
 use Rattle.diffusion_kernel.specs.declared.tables.Kernel.{Kernel}
 use Rattle.dot_planes.specs.Tables.{AmountTable}
 use Rattle.tile_lanes.specs.Done.{window_of}
-use Rattle.tile_shape.specs.Geometry.{columns_of}
-use Rattle.tile_shape.specs.declared.tiles.Place.{Place}
 use Rattle.tile_border.specs.Works.{Border}
 use Rattle.tile_content.specs.Content.{given}
 use Rattle.board_steps.specs.declared.rule.Cell.{Cell}
@@ -30,10 +29,6 @@ cell_of b (suc zero) = Bottom b.band
 cell_of b (suc (suc zero)) = Corner b.corner
 cell_of b (suc (suc (suc d))) = Dots b.bits
 
--- the place of tile number t, by band and then column
-abbrev pub place_of : AmountTable → ℕ → Place
-place_of rows t = let columns : ℕ = columns_of (window_of rows) in record { c = t % columns; j = t / columns }
-
 -- what tile t gives in the direction d
 unfoldable pub content_of : AmountTable → Kernel → List (List (List ℤ)) → ℕ → ℕ → Cell
-content_of rows kernel top t d = cell_of (given kernel rows top (place_of rows t)) d
+content_of rows kernel top t d = cell_of (given kernel rows top (place_of (window_of rows) t)) d

@@ -51,7 +51,3 @@ graph_of s = record {
   next = next_in (columns_of s) (bands_of s);
   from = from_in (columns_of s) (bands_of s);
 }
-
--- the number of a tile, by band and then column
-abbrev pub number_of : Shape → Place → ℕ
-number_of s p = p.j * columns_of s + p.c

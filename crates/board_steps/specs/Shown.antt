@@ -11,19 +11,12 @@ use Rattle.board_core.specs.declared.tiles.Status.{Status}
 use Rattle.board_core.specs.declared.tiles.Status.TheVariants.{Waiting, Taken, Posted}
 use Rattle.board_core.specs.declared.tiles.TileState.{TileState}
 use Rattle.tile_lanes.specs.Done.{window_of}
-use Rattle.tile_shape.specs.Geometry.{columns_of}
-use Rattle.tile_shape.specs.declared.tiles.Place.{Place}
-use Rattle.tile_shape.specs.declared.tiles.Shape.{Shape}
 use Rattle.board_steps.specs.declared.rule.View.{View}
 use Rattle.board_steps.specs.declared.rule.Slab.{Slab}
 use Rattle.board_steps.specs.declared.rule.Cell.{Cell}
 use Rattle.board_steps.specs.Graph.{Graph}
 use Rattle.board_steps.specs.Rule.{Ruled, setting_of}
 use Rattle.board_steps.specs.Steps.{bit_of}
-
--- the place of a tile's number
-abbrev pub place_of : Shape → ℕ → Place
-place_of s t = record { c = t % columns_of s; j = t / columns_of s }
 
 -- ---- what is shown
 

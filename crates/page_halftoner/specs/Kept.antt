@@ -6,7 +6,7 @@ use Rattle.printer_profile.specs.Validity.{check}
 use Rattle.pwg_definitions.specs.Header.{IsWanted}
 use Rattle.separation_definitions.specs.Windows.{wanted_by, window_of}
 use Rattle.separation_definitions.specs.declared.window.Window.{Window}
-use Rattle.slab_diffusion.specs.Slabs.{IsTopOf}
+use Rattle.tile_border.specs.Tops.{IsTopOf}
 use Rattle.page_halftoner.specs.Halftones.{Halftoning, rows_done}
 use Rattle.page_halftoner.specs.declared.halftoner.Halftoner.TheInside.{Inside}
 

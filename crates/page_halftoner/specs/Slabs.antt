@@ -7,8 +7,7 @@ use Rattle.printer_definitions.specs.declared.inks.Ink.{Ink}
 use Rattle.pwg_definitions.specs.declared.pages.Kind.{Kind}
 use Rattle.separation_definitions.specs.Amounts.{amount as amount_of, pixel_at}
 use Rattle.separation_definitions.specs.declared.window.Window.{Window}
-use Rattle.slab_diffusion.specs.Slabs.{IsTopOf}
-use Rattle.tile_border.specs.Tops.{edges_of}
+use Rattle.tile_border.specs.Tops.{IsTopOf, edges_of}
 use Rattle.tile_edges.specs.Tops.{top_of}
 
 -- room for the first rows of a window: 256, or all where there are fewer; the errors above them are 0

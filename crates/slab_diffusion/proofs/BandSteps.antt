@@ -5,15 +5,15 @@ use Rattle.std.proofs.lemmas.Bool.{cases_lt}
 use Rattle.std.proofs.lemmas.List.{get_or_past}
 use Rattle.diffusion_definitions.specs.Diffusion.{Errors, Table}
 use Rattle.dot_planes.specs.Tables.{AmountTable, DotTable}
-use Rattle.tile_border.specs.Inks.{errors_of}
-use Rattle.tile_border.specs.Tops.{edges_of}
+use Rattle.tile_border.specs.Inks.{CutsEnds, IsCleared, errors_of}
+use Rattle.tile_border.specs.Tops.{IsTopOf, columns_across, edges_of}
 use Rattle.tile_edges.specs.Edges.{IsBottom}
 use Rattle.tile_edges.specs.Tops.{AreBottoms}
 use Rattle.tile_lanes.specs.Done.{window_of}
 use Rattle.tile_shape.specs.Geometry.{bands_of}
-use Rattle.slab_diffusion.specs.Hands.{AreErrorsOf, CutsEnds, HasDotsBefore, HasRoom, IsBefore, IsBehind, IsCleared, IsNext, IsOver}
+use Rattle.slab_diffusion.specs.Hands.{AreErrorsOf, HasDotsBefore, HasRoom, IsBefore, IsBehind, IsNext, IsOver}
 use Rattle.slab_diffusion.specs.Hands.{bottom_of}
-use Rattle.slab_diffusion.specs.Slabs.{AreSlabErrors, IsTopOf, columns_across}
+use Rattle.slab_diffusion.specs.Slabs.{AreSlabErrors}
 use Rattle.slab_diffusion.specs.declared.hands.Hand.{Hand}
 use Rattle.slab_diffusion.proofs.Edges.{below_over, bottom_over, over_corner, zero_left}
 use Rattle.slab_diffusion.proofs.Tops.{edge_at, edges_len}

@@ -12,15 +12,7 @@ use Rattle.tile_edges.specs.Edges.{IsAbove, IsBottom, IsCorner, IsLeft}
 use Rattle.tile_edges.specs.Tops.{IsBelow, IsCut}
 use Rattle.tile_lanes.specs.Done.{plane_of}
 use Rattle.slab_diffusion.specs.Hands.{AreErrorsOf, IsOver}
-use Rattle.slab_diffusion.specs.Slabs.{columns_across}
-
--- ---- one ink of an edge is set
-
-pub put_at : (edge : List (List ℤ)) (i : ℕ) (xs : List ℤ) → i < length edge → errors_of (set edge i xs) i ≡ xs
-put_at edge i xs inside = get_or-set_same edge i xs [] inside
-
-pub put_beside : (edge : List (List ℤ)) (i j : ℕ) (xs : List ℤ) → j ≢ i → errors_of (set edge i xs) j ≡ errors_of edge j
-put_beside edge i j xs other = get_or-set_other edge i j xs [] other
+use Rattle.tile_border.specs.Tops.{columns_across}
 
 -- ---- bottom edges
 
@@ -81,21 +73,3 @@ zero_left k p e j xs solves zeros = record {
       let n : ℕ = 64 * 0 + i + 2 - 2 * (2 + t) in
       zeros (6 * t + i) ∙ sym (solves.left (32 * j + t) n (omega arith)) ∙ moved e _ _ _ _ (omega arith) refl;
 }
-
--- ---- edges that are cleared
-
-zero_fits : InRange (pos 0)
-zero_fits = record { low = omega (arith, ints); high = omega (arith, ints) }
-
-pub zeros_fit : (len : ℕ) → EachInRange (replicate len (pos 0))
-zeros_fit len n = let Q : ℤ → Type 0 = λ e. InRange e in subst Q (sym (some_zeros len n)) zero_fits
-
-pub cleared_more : (edge : List (List ℤ)) (len ink i n : ℕ) → ink < length edge
-    → ((j m : ℕ) → j < ink → get_or (errors_of edge j) m (pos 0) ≡ pos 0)
-    → i < ink + 1 → get_or (errors_of (set edge ink (replicate len (pos 0))) i) n (pos 0) ≡ pos 0
-cleared_more edge len ink i n inside before below = elim (cases_eq i ink) [
-  | inl here ↦
-      ap (λ m. get_or (errors_of (set edge ink (replicate len (pos 0))) m) n (pos 0)) here
-      ∙ ap (λ (xs : List ℤ). get_or xs n (pos 0)) (put_at edge ink (replicate len (pos 0)) inside) ∙ some_zeros len n
-  | inr other ↦ ap (λ (xs : List ℤ). get_or xs n (pos 0)) (put_beside edge ink i (replicate len (pos 0)) other) ∙ before i n (omega arith)
-]

@@ -4,9 +4,10 @@ use Rattle.std.proofs.Math.Nat.{mul-le-mul_right}
 use Rattle.std.proofs.lemmas.Bool.{cases_eq, cases_lt}
 use Rattle.std.proofs.lemmas.List.{get_or-replicate, get_or_past, length-replicate}
 use Rattle.board_core.proofs.Keeps.{posted_waits, taken_waits, whole_after}
-use Rattle.board_core.proofs.Numbers.{at_same, before_less, changed, gives_on, number_inside, same_place}
+use Rattle.board_core.proofs.Numbers.{at_same, before_less, changed, goes_on, number_inside, same_place}
 use Rattle.board_core.proofs.Runs.{false_true, start_whole}
-use Rattle.board_core.specs.States.{CoreState, IsCore, IsTakenBy, fresh, has_sent, number, sent, start, tile_at}
+use Rattle.board_core.specs.Numbers.{number_of}
+use Rattle.board_core.specs.States.{CoreState, IsCore, IsTakenBy, fresh, has_sent, sent, start, tile_at}
 use Rattle.board_core.specs.Steps.{Applies, Gives, IsAccepted, IsBefore, IsFirstReady, IsReadyTile, after, with_sent, with_tile}
 use Rattle.board_core.specs.declared.events.CoreFault.{CoreFault}
 use Rattle.board_core.specs.declared.events.CoreFault.TheVariants.{NoSuchTile, Taken, NotReady, NotYours, Sent, Unsent}
@@ -156,10 +157,10 @@ posts old mid new p so_far is tile gave =
 -- ---- the next tile
 
 -- the tile behind those that are worked is ready
-pub next_ready : (s : Shape) (core : CoreState) (t : Place) → IsWorkedTo s (number s t) core → IsTile s t → IsReadyTile core t
+pub next_ready : (s : Shape) (core : CoreState) (t : Place) → IsWorkedTo s (number_of s t) core → IsTile s t → IsReadyTile core t
 next_ready s core t up tile =
     let Q : Shape → Type 0 = λ r. IsTile r t in
-    let same : number core.shape t ≡ number s t = ap (λ r. number r t) up.shape_is in
+    let same : number_of core.shape t ≡ number_of s t = ap (λ r. number_of r t) up.shape_is in
     let here : IsTile core.shape t = subst Q (sym up.shape_is) tile in
     record {
       tile = here;
@@ -167,11 +168,11 @@ next_ready s core t up tile =
       whole = λ lacks.
           let l = lacks.1 in
           false_true (sym l.unsent
-          ∙ (up.worked l.from l.gives.source (omega (arith, same, gives_on core.shape l.from lacks.0 t l.gives))).gave lacks.0 t l.gives);
+          ∙ (up.worked l.from l.gives.source (omega (arith, same, goes_on core.shape lacks.0 l.from t l.gives.source l.gives.goes))).gave lacks.0 t l.gives);
     }
 
 -- a tile with a smaller number stands before
-less_before : (s : Shape) (q p : Place) → IsTile s p → number s q < number s p → IsBefore q p
+less_before : (s : Shape) (q p : Place) → IsTile s p → number_of s q < number_of s p → IsBefore q p
 less_before s q p tile less = elim (cases_lt q.j p.j) [
   | inl above ↦ inl above
   | inr under ↦ elim (cases_eq q.j p.j) [
@@ -186,13 +187,13 @@ less_before s q p tile less = elim (cases_lt q.j p.j) [
 ]
 
 -- and it is the first that is
-pub next_is : (s : Shape) (core : CoreState) (t p : Place) → IsWorkedTo s (number s t) core → IsTile s t → IsFirstReady core p → p ≡ t
+pub next_is : (s : Shape) (core : CoreState) (t p : Place) → IsWorkedTo s (number_of s t) core → IsTile s t → IsFirstReady core p → p ≡ t
 next_is s core t p up tile first =
-    let same : number core.shape t ≡ number s t = ap (λ r. number r t) up.shape_is in
+    let same : number_of core.shape t ≡ number_of s t = ap (λ r. number_of r t) up.shape_is in
     let ready : IsReadyTile core t = next_ready s core t up tile in
-    elim (cases_lt (number core.shape p) (number core.shape t)) [
+    elim (cases_lt (number_of core.shape p) (number_of core.shape t)) [
       | inl earlier ↦ absurd ((up.worked p first.ready.tile (omega (arith, same))).begun first.ready.waiting)
-      | inr from ↦ elim (cases_eq (number core.shape p) (number core.shape t)) [
+      | inr from ↦ elim (cases_eq (number_of core.shape p) (number_of core.shape t)) [
         | inl here ↦ same_place core.shape p t first.ready.tile ready.tile here
         | inr later ↦ absurd (first.first t (less_before core.shape t p first.ready.tile (omega arith)) ready)
       ]
@@ -212,7 +213,7 @@ flags_fresh t Right is = ap (λ (x : TileState). x.right) is
 flags_fresh t Bottom is = ap (λ (x : TileState). x.bottom) is
 flags_fresh t Corner is = ap (λ (x : TileState). x.corner) is
 
-pub taken_up : (s : Shape) (old new : CoreState) (t p : Place) → IsWorkedTo s (number s t) old → IsTile s t → TakesNext old new p
+pub taken_up : (s : Shape) (old new : CoreState) (t p : Place) → IsWorkedTo s (number_of s t) old → IsTile s t → TakesNext old new p
     → IsTakenUp s new p
 taken_up s old new t p up tile takes =
     let is : p ≡ t = next_is s old t p up tile takes.first in
@@ -220,7 +221,7 @@ taken_up s old new t p up tile takes =
     let x : TileState = record { status = status.Taken 0; right = m.right; bottom = m.bottom; corner = m.corner } in
     let here : IsTile old.shape p = takes.first.ready.tile in
     let at : tile_at new p ≡ x = ap (λ (c : CoreState). tile_at c p) takes.takes ∙ at_same old p x up.whole here in
-    let waits : m ≡ fresh = up.wait p here (omega (arith, ap (λ r. number r t) up.shape_is, ap (λ q. number old.shape q) is)) in
+    let waits : m ≡ fresh = up.wait p here (omega (arith, ap (λ r. number_of r t) up.shape_is, ap (λ q. number_of old.shape q) is)) in
     let W : CoreState → Type 0 = λ c. StaysBut old c p in
     let stays : StaysBut old new p = subst W (sym takes.takes) (stays_with old p x up.whole here) in
     let Q : Shape → Type 0 = λ r. IsTile r p in
@@ -233,8 +234,8 @@ taken_up s old new t p up tile takes =
     }
 
 -- the tiles that are worked then
-pub worked_more : (s : Shape) (old mid new : CoreState) (t p : Place) → IsWorkedTo s (number s t) old → IsTile s t → TakesNext old mid p
-    → GivesAll mid new p → IsWorkedTo s (number s t + 1) new
+pub worked_more : (s : Shape) (old mid new : CoreState) (t p : Place) → IsWorkedTo s (number_of s t) old → IsTile s t → TakesNext old mid p
+    → GivesAll mid new p → IsWorkedTo s (number_of s t + 1) new
 worked_more s old mid new t p up tile takes gives =
     let is : p ≡ t = next_is s old t p up tile takes.first in
     let m : TileState = tile_at old p in
@@ -242,18 +243,18 @@ worked_more s old mid new t p up tile takes gives =
     let here : IsTile old.shape p = takes.first.ready.tile in
     let W : CoreState → Type 0 = λ c. StaysBut old c p in
     let stays : StaysBut old new p = stays_more old mid new p (subst W (sym takes.takes) (stays_with old p x up.whole here)) gives.stays in
-    let at : number old.shape p ≡ number s t = ap (λ q. number old.shape q) is ∙ ap (λ r. number r t) up.shape_is in
+    let at : number_of old.shape p ≡ number_of s t = ap (λ q. number_of old.shape q) is ∙ ap (λ r. number_of r t) up.shape_is in
     let old_tile = λ (q : Place) (inside : IsTile new.shape q). (let Q : Shape → Type 0 = λ r. IsTile r q in subst Q stays.shape inside) in
-    let numbers : (q : Place) → number new.shape q ≡ number old.shape q = λ q. ap (λ r. number r q) stays.shape in
+    let numbers : (q : Place) → number_of new.shape q ≡ number_of old.shape q = λ q. ap (λ r. number_of r q) stays.shape in
     record {
       shape_is = stays.shape ∙ up.shape_is;
       whole = stays.whole;
-      worked = λ q inside low. elim (cases_eq (number old.shape q) (number old.shape p)) [
+      worked = λ q inside low. elim (cases_eq (number_of old.shape q) (number_of old.shape p)) [
         | inl same ↦
             let P : Place → Type 0 = λ r. IsWorked new r in
             subst P (sym (same_place old.shape q p (old_tile q inside) here same)) gives.worked
         | inr other ↦
-            let differs : q ≡ p → ⊥ = λ e. other (ap (λ r. number old.shape r) e) in
+            let differs : q ≡ p → ⊥ = λ e. other (ap (λ r. number_of old.shape r) e) in
             let was = up.worked q (old_tile q inside) (omega (arith, numbers q, at)) in
             let kept : tile_at new q ≡ tile_at old q = stays.others q (old_tile q inside) differs in
             record {
@@ -263,7 +264,7 @@ worked_more s old mid new t p up tile takes gives =
             }
       ];
       wait = λ q inside high.
-          let differs : q ≡ p → ⊥ = λ e. (let refused : number old.shape q ≡ number old.shape p = ap (λ r. number old.shape r) e in
+          let differs : q ≡ p → ⊥ = λ e. (let refused : number_of old.shape q ≡ number_of old.shape p = ap (λ r. number_of old.shape r) e in
           omega (arith, numbers q, at, refused)) in
           stays.others q (old_tile q inside) differs ∙ up.wait q (old_tile q inside) (omega (arith, numbers q));
     }
@@ -277,5 +278,5 @@ none_worked s core shape is =
       shape_is = refl;
       whole = start_whole s shape;
       worked = λ q tile low. absurd (omega arith);
-      wait = λ q tile high. get_or-replicate (columns_of s * bands_of s) (number s q) fresh fresh (number_inside s q tile);
+      wait = λ q tile high. get_or-replicate (columns_of s * bands_of s) (number_of s q) fresh fresh (number_inside s q tile);
     })

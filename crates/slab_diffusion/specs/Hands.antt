@@ -3,12 +3,11 @@ use Rattle.std.specs.Prelude.{◌≡◌, ◌⊎◌, ℕ, ℤ, pos, ◌+◌, ◌-
 use Rattle.diffusion_definitions.specs.Diffusion.{Errors, Solves, Table, on}
 use Rattle.dot_planes.specs.Tables.{AmountTable, DotTable, HasSizeOf, dot}
 use Rattle.dot_planes.specs.Tiles.{PutsTile}
-use Rattle.tile_border.specs.Inks.{errors_of}
+use Rattle.tile_border.specs.Inks.{IsCleared, errors_of}
 use Rattle.tile_edges.specs.Edges.{IsBottom, IsCorner, IsLeft}
-use Rattle.tile_edges.specs.Tops.{IsCut}
 use Rattle.tile_lanes.specs.Done.{HasDots, plane_of}
 use Rattle.tile_shape.specs.declared.tiles.Place.{Place}
-use Rattle.slab_diffusion.specs.Slabs.{IsTopOf, columns_across}
+use Rattle.tile_border.specs.Tops.{IsTopOf, columns_across}
 use Rattle.slab_diffusion.specs.declared.hands.Hand.{Hand}
 
 -- the edges and the dots have the inks of the rows, and there is a bottom edge for each column
@@ -82,16 +81,6 @@ pub record WorksBand (k : Table) (rows : AmountTable) (j first : ℕ) (before af
       → HasDotsBefore k rows i e first 0 (j + 1) new
 
 -- ---- single edges
-
--- every error of each ink is 0
-pub record IsCleared (old new : List (List ℤ)) : Type 0 where
-  pub len : length new ≡ length old
-  pub zeros : (i n : ℕ) → i < length old → slice_index_or (errors_of new i) n (pos 0) ≡ pos 0
-
--- each ink has the ends of a bottom edge
-pub record CutsEnds (edge old new : List (List ℤ)) : Type 0 where
-  pub len : length new ≡ length old
-  pub ends : (i : ℕ) → i < length old → IsCut (errors_of edge i) (errors_of new i)
 
 -- The edge above the tile in column c is exchanged for the spare one, or is 0 right of the last column.
 pub record TakesAbove (c : ℕ) (old new : List (List (List ℤ))) (spare taken : List (List ℤ)) : Type 0 where

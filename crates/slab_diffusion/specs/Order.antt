@@ -1,6 +1,7 @@
 -- The order of the tiles of a slab, by the scheduler core.
 use Rattle.std.specs.Prelude.{◌≡◌, ℕ, ◌<◌, ◌≤◌, Bool, true, false}
-use Rattle.board_core.specs.States.{CoreState, IsBegun, IsCore, IsTakenBy, fresh, number, sent, tile_at}
+use Rattle.board_core.specs.Numbers.{number_of}
+use Rattle.board_core.specs.States.{CoreState, IsBegun, IsCore, IsTakenBy, fresh, sent, tile_at}
 use Rattle.board_core.specs.Steps.{Gives, IsFirstReady, IsReadyTile, after}
 use Rattle.board_core.specs.declared.events.Event.TheVariants.{Take}
 use Rattle.tile_shape.specs.Geometry.{IsTile}
@@ -48,5 +49,5 @@ pub record GivesAll (old new : CoreState) (p : Place) : Type 0 where
 pub record IsWorkedTo (s : Shape) (n : ℕ) (core : CoreState) : Type 0 where
   pub shape_is : core.shape ≡ s
   pub whole : IsCore core
-  pub worked : (q : Place) → IsTile core.shape q → number core.shape q < n → IsWorked core q
-  pub wait : (q : Place) → IsTile core.shape q → n ≤ number core.shape q → tile_at core q ≡ fresh
+  pub worked : (q : Place) → IsTile core.shape q → number_of core.shape q < n → IsWorked core q
+  pub wait : (q : Place) → IsTile core.shape q → n ≤ number_of core.shape q → tile_at core q ≡ fresh

@@ -1,20 +1,11 @@
 -- A slab: rows of a window that are diffused below the errors of the rows before them.
-use Rattle.std.specs.Prelude.{◌≡◌, ◌⊎◌, ℕ, ℤ, ◌+◌, ◌-◌, ◌<◌, ◌≤◌, List, [], length, slice_index_or}
+use Rattle.std.specs.Prelude.{◌≡◌, ◌⊎◌, ℕ, ℤ, ◌+◌, ◌-◌, ◌<◌, ◌≤◌, List}
 use Rattle.diffusion_definitions.specs.Diffusion.{Errors, Solves, Table, on}
 use Rattle.dot_planes.specs.Tables.{AmountTable, DotTable, HasSizeOf, dot}
-use Rattle.tile_border.specs.Tops.{edges_of}
+use Rattle.tile_border.specs.Tops.{IsTopOf, edges_of}
 use Rattle.tile_edges.specs.Tops.{AreBottoms, IsBelow}
 use Rattle.tile_lanes.specs.Done.{plane_of, window_of}
-use Rattle.tile_shape.specs.Geometry.{bands_of, columns_of}
-
--- how many columns of tiles rows of this width have
-abbrev pub columns_across : ℕ → ℕ
-columns_across width = columns_of (record { width = width; height = 1 })
-
--- a top of rows of this width has an edge for each column of tiles, and each edge has this number of inks
-pub record IsTopOf (width inks : ℕ) (top : List (List (List ℤ))) : Type 0 where
-  pub columns : length top ≡ columns_across width
-  pub edge_inks : (c : ℕ) → c < columns_across width → length (slice_index_or top c []) ≡ inks
+use Rattle.tile_shape.specs.Geometry.{bands_of}
 
 -- The errors of an ink solve the rule in a slab, below its top.
 pub record AreSlabErrors (k : Table) (rows : AmountTable) (top : List (List (List ℤ))) (i : ℕ) (e : Errors) : Type 0 where

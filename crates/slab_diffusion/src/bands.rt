@@ -6,7 +6,7 @@ ghost use Rattle.std.specs.Prelude.{◌*◌, ◌+◌, ◌<◌, ◌≡◌, ◌≤
 ghost use Rattle.tile_lanes.specs.Done.{window_of};
 ghost use Rattle.tile_shape.specs.Geometry.{IsTile, bands_of, columns_of};
 
-use crate::hands::{Hand, clear_right, cut_ends, take_above};
+use crate::hands::{Hand, take_above};
 use crate::order::{give_all, take_next};
 use board_core::Core;
 use diffusion_kernel::Kernel;
@@ -36,8 +36,8 @@ pub(crate) fn diffuse_band(
 {
     let shape = rows.shape();
     let mut hand = hand;
-    clear_right(&mut hand.right);
-    cut_ends(hand.bottoms.at(0), &mut hand.corner);
+    hand.right.clear();
+    hand.bottoms.at(0).cut_ends(&mut hand.corner);
     for _ in 0..shape.columns() {
         let place = take_next(core);
         hand = diffuse_tile(hand, rows, kernel, place, out, at);
@@ -71,7 +71,7 @@ fn diffuse_tile(
         bits,
     } = hand;
     take_above(&mut bottoms, rows.shape().columns(), place.c, &mut bottom);
-    cut_ends(&bottom, &mut spare);
+    bottom.cut_ends(&mut spare);
     let task = Task {
         place,
         left: right,

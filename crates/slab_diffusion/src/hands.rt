@@ -1,6 +1,6 @@
 //! The edges that wait for the tiles that need them.
-ghost use Rattle.slab_diffusion.specs.Hands.{CutsEnds, HasRoom, IsCleared, TakesAbove};
-ghost use Rattle.slab_diffusion.specs.Slabs.{IsTopOf};
+ghost use Rattle.slab_diffusion.specs.Hands.{HasRoom, TakesAbove};
+ghost use Rattle.tile_border.specs.Tops.{IsTopOf};
 ghost use Rattle.dot_planes.specs.Tables.{AmountTable};
 ghost use Rattle.std.specs.Prelude.{IfOk, length, ◌<◌, ◌≡◌, ◌≤◌};
 
@@ -49,36 +49,6 @@ pub(crate) fn hand_of(alloc: Global, top: TopEdges) -> Result<Hand, Memory>
     })
 }
 
-/// Sets every error of an edge to 0.
-pub(crate) fn clear_right(edge: &mut RightEdge)
-    ensures { IsCleared edge.old edge.new }
-{
-    let zeros = [0; 192];
-    for ink in 0..edge.inks() {
-        edge.put(ink, &zeros);
-    }
-}
-
-/// Sets every error of an edge to 0.
-pub(crate) fn clear_bottom(edge: &mut BottomEdge)
-    ensures { IsCleared edge.old edge.new }
-{
-    let zeros = [0; 128];
-    for ink in 0..edge.inks() {
-        edge.put(ink, &zeros);
-    }
-}
-
-/// Sets a corner edge to the ends of a bottom edge of as many inks.
-pub(crate) fn cut_ends(edge: &BottomEdge, corner: &mut CornerEdge)
-    requires { length corner.old ≡ length edge.now }
-    ensures { CutsEnds edge.now corner.old corner.new }
-{
-    for ink in 0..edge.inks() {
-        corner.put(ink, &edge.ends(ink));
-    }
-}
-
 /// Exchanges `edge` for the edge above the tile in column c of a band, which is in column c + 1. Above the last tile
 /// there is none, and `edge` becomes 0.
 pub(crate) fn take_above(bottoms: &mut TopEdges, columns: u32, c: u32, edge: &mut BottomEdge)
@@ -89,6 +59,6 @@ pub(crate) fn take_above(bottoms: &mut TopEdges, columns: u32, c: u32, edge: &mu
     if c + 1 < columns {
         bottoms.swap(c + 1, edge);
     } else {
-        clear_bottom(edge);
+        edge.clear();
     }
 }

@@ -1,6 +1,7 @@
 //! A slab, tile by tile.
 ghost use Rattle.diffusion_kernel.specs.Tables.{table_of};
-ghost use Rattle.slab_diffusion.specs.Slabs.{DiffusesSlab, IsTopOf};
+ghost use Rattle.slab_diffusion.specs.Slabs.{DiffusesSlab};
+ghost use Rattle.tile_border.specs.Tops.{IsTopOf};
 ghost use Rattle.std.specs.Prelude.{IfOk, OnErr, ◌+◌, ◌≡◌, ◌≤◌};
 
 use crate::bands::diffuse_band;

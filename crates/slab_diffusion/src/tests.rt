@@ -1,6 +1,6 @@
 //! Slabs of a window compared with the rule over the whole window.
 ghost use Rattle.diffusion_definitions.specs.Diffusion.{InRange};
-ghost use Rattle.slab_diffusion.specs.Slabs.{IsTopOf};
+ghost use Rattle.tile_border.specs.Tops.{IsTopOf};
 ghost use Rattle.std.specs.Prelude.{IfSome, length, ◌≡◌};
 
 mod definition;

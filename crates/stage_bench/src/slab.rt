@@ -1,5 +1,5 @@
 //! A slab as wide as A4 at 360 dots an inch, diffused again and again.
-ghost use Rattle.slab_diffusion.specs.Slabs.{IsTopOf};
+ghost use Rattle.tile_border.specs.Tops.{IsTopOf};
 ghost use Rattle.std.specs.Prelude.{IfSome};
 
 use crate::inks::InkErrors;

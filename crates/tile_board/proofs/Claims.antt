@@ -9,7 +9,8 @@ use Rattle.tile_shape.specs.declared.tiles.Dir.TheVariants.{Right, Bottom, Corne
 use Rattle.tile_shape.specs.declared.tiles.Needs.{Needs}
 use Rattle.tile_shape.specs.declared.tiles.Place.{Place}
 use Rattle.tile_shape.specs.declared.tiles.Shape.{Shape}
-use Rattle.board_steps.specs.Graph.{Graph, graph_of, number_of}
+use Rattle.board_steps.specs.Graph.{Graph, graph_of}
+use Rattle.board_core.specs.Numbers.{number_of}
 use Rattle.board_steps.specs.Rule.{Within, arrived, lists, one_if, posts, sends, setting_of, times}
 use Rattle.board_steps.specs.Steps.{HasNeeds, IsReadyFor, index_of, KnewIn, LookedIn, Looked, Took, TookIn, looked, taken}
 use Rattle.board_steps.specs.declared.rule.Cell.{Cell}

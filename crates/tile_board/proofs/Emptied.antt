@@ -1,8 +1,8 @@
 -- The slots of a closed board, emptied tile by tile.
 use Rattle.std.proofs.Common.{◌≡◌, ◌≢◌, ℕ, zero, suc, ◌+◌, ◌*◌, ◌/◌, ◌%◌, ◌<◌, ◌≤◌, List, [], ◌∷◌, ◌++◌, get_or, length, refl, sym, ◌∙◌, ap}
-use Rattle.std.proofs.Common.{subst, inl, inr, arith, length-append, vec_capacity, div-add-mod', mod-lt}
+use Rattle.std.proofs.Common.{subst, inl, inr, arith, length-append, vec_capacity}
 use Rattle.std.proofs.lemmas.Bool.{cases_lt}
-use Rattle.std.proofs.Math.Nat.{div-lt_iff_lt-mul, mul-le-mul_left, mul_comm}
+use Rattle.std.proofs.Math.Nat.{mul-le-mul_left, mul_comm}
 use Rattle.std.specs.declared.alloc.Global.{Global}
 use mathlib.Core.Option.{some}
 use lib.ListN.{get_elem?}
@@ -11,11 +11,11 @@ use Rattle.dot_planes.specs.declared.tiles.TileDots.{TileDots}
 use Rattle.tile_shape.specs.Geometry.{IsTile, bands_of, columns_of}
 use Rattle.tile_shape.specs.declared.tiles.Place.{Place}
 use Rattle.tile_shape.specs.declared.tiles.Shape.{Shape}
-use Rattle.board_steps.specs.Graph.{number_of}
+use Rattle.board_core.specs.Numbers.{number_of}
 use Rattle.board_steps.specs.declared.rule.Cell.{Cell}
 use Rattle.tile_board.specs.declared.kinds.Closed.{Closed}
 use Rattle.tile_board.specs.Emptying.{CanEmpty, EmptiedBefore, EmptiesTile, IsLeftBy}
-use Rattle.tile_board.proofs.Numbers.{column-is, number-below, row-is}
+use Rattle.board_core.proofs.Numbers.{number_below, same_place}
 
 -- ---- places
 
@@ -29,20 +29,6 @@ at-end [] x zero e = refl
 at-end [] x (suc i) e = absurd (omega arith)
 at-end (y ∷ l) x zero e = absurd (omega arith)
 at-end (y ∷ l) x (suc i) e = at-end l x i (omega arith)
-
-same-tile : (s : Shape) (p q : Place) → IsTile s p → IsTile s q → number_of s p ≡ number_of s q → p ≡ q
-same-tile s p q tile there same =
-    let column : p.c ≡ q.c = sym (column-is s p tile) ∙ ap (λ n. n % columns_of s) same ∙ column-is s q there in
-    let band : p.j ≡ q.j = sym (row-is s p tile) ∙ ap (λ n. n / columns_of s) same ∙ row-is s q there in
-    λ i. record { c = column i; j = band i }
-
--- the tile of a number
-pub tile-at : (s : Shape) (t : ℕ) → 0 < columns_of s → t < bands_of s * columns_of s
-    → IsTile s (record { c = t % columns_of s; j = t / columns_of s })
-tile-at s t wide inside = record { column = mod-lt t wide; band = (div-lt_iff_lt-mul wide).1 inside }
-
-pub number-at : (s : Shape) (t : ℕ) → number_of s (record { c = t % columns_of s; j = t / columns_of s }) ≡ t
-number-at s t = div-add-mod' t (columns_of s)
 
 -- in the last band a tile with a lower number is further left
 earlier-column : (s : Shape) (p q : Place) → IsTile s p → q.j + 1 ≡ bands_of s → number_of s q < number_of s p → q.c < p.c
@@ -82,7 +68,7 @@ items-at xs ys slot place x same here at = (λ i. get_elem? (sym same i) (sym he
 pub takes-more : (s : Shape) (p : Place) (t : ℕ) (rest rest' : Rest Cell Global) (closed closed' : Closed) → IsTile s p → t ≡ number_of s p
     → IsLeftBy s t rest closed → EmptiesTile t p rest closed rest' closed' → IsLeftBy s (t + 1) rest' closed'
 takes-more s p t rest rest' closed closed' tile number is takes =
-    let inside : t < bands_of s * columns_of s = let h = number-below s p tile in omega arith in
+    let inside : t < bands_of s * columns_of s = let h = number_below s p tile in omega arith in
     let here = is.dots t inside in
     let pushed : closed'.dots.items ≡ closed.dots.items ++ (record { place = p; bits = here.0 }) ∷ [] = takes.dots here.0 here.1 in
     record {
@@ -108,7 +94,7 @@ takes-more s p t rest rest' closed closed' tile number is takes =
               ap (λ (xs : List TileDots). get_elem? xs (number_of s q))
               (takes.dots bits (items-at _ _ (4 * number_of s q + 3) (4 * t + 3) _ takes.items slot at))
               ∙ at-end closed.dots.items (record { place = p; bits = bits }) (number_of s q) (is.before.count ∙ sym now)
-              ∙ ap (λ (r : Place). some (record { place = r; bits = bits })) (sym (same-tile s q p there tile (now ∙ number)))
+              ∙ ap (λ (r : Place). some (record { place = r; bits = bits })) (sym (same_place s q p there tile (now ∙ number)))
         ];
         columns = takes.columns ∙ is.before.columns;
         bottoms = λ q edge there last low at. elim (cases_lt (number_of s q) t) [
@@ -120,7 +106,7 @@ takes-more s p t rest rest' closed closed' tile number is takes =
           | inr not_before ↦
               let now : number_of s q ≡ t = omega arith in
               let slot : 4 * number_of s q + 1 ≡ 4 * t + 1 = omega arith in
-              ap (λ (r : Place). get_or closed'.bottom r.c []) (same-tile s q p there tile (now ∙ number))
+              ap (λ (r : Place). get_or closed'.bottom r.c []) (same_place s q p there tile (now ∙ number))
               ∙ takes.bottom edge (items-at _ _ (4 * number_of s q + 1) (4 * t + 1) _ takes.items slot at)
         ];
       };

@@ -1,5 +1,5 @@
 -- What a closed board leaves.
-use Rattle.std.proofs.Common.{◌≡◌, ℕ, ℤ, ◌+◌, ◌-◌, ◌*◌, ◌/◌, ◌%◌, ◌<◌, ◌≤◌, List, [], get_or, length, refl, sym, ◌∙◌, ap, subst, arith}
+use Rattle.std.proofs.Common.{◌≡◌, ℕ, ℤ, ◌+◌, ◌-◌, ◌*◌, ◌<◌, ◌≤◌, List, [], get_or, length, refl, sym, ◌∙◌, ap, subst, arith}
 use Rattle.std.proofs.Common.{None}
 use Rattle.std.proofs.lemmas.List.{get_or-map, length-map}
 use mathlib.Core.Option.{some}
@@ -16,13 +16,14 @@ use Rattle.board_steps.specs.declared.rule.Cell.{Cell}
 use Rattle.board_steps.specs.declared.rule.Cell.TheVariants as cell
 use Rattle.board_steps.specs.declared.rule.Slab.{Slab}
 use Rattle.board_steps.specs.declared.rule.View.{View}
+use Rattle.board_core.specs.Numbers.{place_of}
 use Rattle.tile_board.specs.declared.kinds.Closed.{Closed}
 use Rattle.tile_board.specs.Closing.{Closes}
 use Rattle.tile_board.specs.Emptying.{EmptiedBefore, HasDotsAt}
 use Rattle.tile_board.specs.Slabs.{amounts_of, number_in, shape_of, top_edges}
-use Rattle.tile_board.proofs.Emptied.{number-at, tile-at}
 use Rattle.tile_board.proofs.Handed.{content-is, gives}
-use Rattle.tile_board.proofs.Numbers.{next-none, number-below}
+use Rattle.board_core.proofs.Numbers.{number_below, place_number, place_tile}
+use Rattle.tile_board.proofs.Numbers.{next-none}
 
 -- the slots that no tile receives have what their tiles give
 abbrev pub Gives : Slab → List Cell → Type 0
@@ -30,33 +31,30 @@ Gives b items =
     (t d : ℕ) → t < (setting_of b).graph.tiles → d < 4 → (setting_of b).graph.next t d ≡ None
     → get_elem? items (4 * t + d) ≡ some ((setting_of b).content t d)
 
-some-columns : (b : Slab) → IsShape (shape_of b) → 0 < columns_of (shape_of b)
-some-columns b sizes = let h = sizes.some_width in omega arith
-
 -- what holds of the number of each tile holds of each number below their count
-pub each-number : (b : Slab) (v : View) → IsShape (shape_of b) → ((p : Place) → IsTile (shape_of b) p → 1 ≤ times (number_in b p) v.mine)
+pub each-number : (b : Slab) (v : View) → ((p : Place) → IsTile (shape_of b) p → 1 ≤ times (number_in b p) v.mine)
     → (t : ℕ) → t < bands_of (shape_of b) * columns_of (shape_of b) → 1 ≤ times t v.mine
-each-number b v sizes all t inside =
+each-number b v all t inside =
     let Q : ℕ → Type 0 = λ n. 1 ≤ times n v.mine in
-    subst Q (number-at (shape_of b) t) (all _ (tile-at (shape_of b) t (some-columns b sizes) inside))
+    subst Q (place_number (shape_of b) t) (all _ (place_tile (shape_of b) t inside))
 
 dots-at : (b : Slab) (items : List Cell) → Gives b items → (p : Place) → IsTile (shape_of b) p
     → get_elem? items (4 * number_in b p + 3) ≡ some (cell.Dots (gives b p).bits)
-dots-at b items has p tile = has (number_in b p) 3 (number-below (shape_of b) p tile) (omega arith) refl ∙ ap some (content-is b 3 p tile)
+dots-at b items has p tile = has (number_in b p) 3 (number_below (shape_of b) p tile) (omega arith) refl ∙ ap some (content-is b 3 p tile)
 
-pub has-dots : (b : Slab) (items : List Cell) → IsShape (shape_of b) → Gives b items → (t : ℕ)
+pub has-dots : (b : Slab) (items : List Cell) → Gives b items → (t : ℕ)
     → t < bands_of (shape_of b) * columns_of (shape_of b) → HasDotsAt items (4 * t + 3)
-has-dots b items sizes has t inside =
-    let p : Place = record { c = t % columns_of (shape_of b); j = t / columns_of (shape_of b) } in (
+has-dots b items has t inside =
+    let p : Place = place_of (shape_of b) t in (
       (gives b p).bits,
-      ap (λ n. get_elem? items (4 * n + 3)) (sym (number-at (shape_of b) t))
-          ∙ dots-at b items has p (tile-at (shape_of b) t (some-columns b sizes) inside),
+      ap (λ n. get_elem? items (4 * n + 3)) (sym (place_number (shape_of b) t))
+          ∙ dots-at b items has p (place_tile (shape_of b) t inside),
     )
 
 bottom-at : (b : Slab) (items : List Cell) → Gives b items → (p : Place) → IsTile (shape_of b) p → p.j + 1 ≡ bands_of (shape_of b)
     → get_elem? items (4 * number_in b p + 1) ≡ some (cell.Bottom (gives b p).band)
 bottom-at b items has p tile last =
-    has (number_in b p) 1 (number-below (shape_of b) p tile) (omega arith) (next-none (shape_of b) Bottom p tile (λ to there receiver.
+    has (number_in b p) 1 (number_below (shape_of b) p tile) (omega arith) (next-none (shape_of b) Bottom p tile (λ to there receiver.
     let j : ℕ = to.j in let h : j < bands_of (shape_of b) = there.band in omega (arith, receiver.1)))
     ∙ ap some (content-is b 1 p tile)
 
@@ -69,13 +67,13 @@ closes b items r sizes has is =
     λ c inside. record { column = inside; band = omega arith } in
     let band : (c : ℕ) → c < columns_of (shape_of b) → get_or r.bottom c [] ≡ (gives b (record { c = c; j = last })).band = λ c inside.
     let p : Place = record { c = c; j = last } in
-    is.bottoms p (gives b p).band (below c inside) at-last (number-below (shape_of b) p (below c inside))
+    is.bottoms p (gives b p).band (below c inside) at-last (number_below (shape_of b) p (below c inside))
     (bottom-at b items has p (below c inside) at-last) in
     record {
       count = is.count;
       dots = λ p tile. (
         record { place = p; bits = (gives b p).bits },
-        is.dots p (gives b p).bits tile (number-below (shape_of b) p tile) (dots-at b items has p tile),
+        is.dots p (gives b p).bits tile (number_below (shape_of b) p tile) (dots-at b items has p tile),
         record {
           place = refl;
           inks = (given-inks b.kernel (amounts_of b) (top_edges b) p).bits;

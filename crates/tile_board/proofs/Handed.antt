@@ -9,27 +9,23 @@ use Rattle.tile_shape.specs.declared.tiles.Dir.TheVariants.{Right, Bottom, Corne
 use Rattle.tile_shape.specs.declared.tiles.Place.{Place}
 use Rattle.tile_edges.specs.Tops.{IsCut}
 use Rattle.tile_edges.proofs.HandedLaws.{handed_right}
-use Rattle.tile_border.specs.Inks.{errors_of}
-use Rattle.tile_border.specs.Tops.{edges_of}
+use Rattle.tile_border.specs.Inks.{CutsEnds, errors_of}
+use Rattle.tile_border.specs.Tops.{IsTopOf, edges_of}
 use Rattle.tile_border.specs.Worked.{edge_of}
 use Rattle.tile_border.specs.Works.{Border}
 use Rattle.tile_border.specs.declared.task.Task.{Task}
+use Rattle.tile_border.proofs.Zeros.{some_zeros}
 use Rattle.tile_content.specs.Content.{given}
 use Rattle.tile_content.specs.Tiles.{AreHanded, IsHandedTo}
 use Rattle.tile_content.proofs.Given.{given-inks, handed-ready}
-use Rattle.board_steps.specs.Content.{cell_of, content_of, place_of}
+use Rattle.board_steps.specs.Content.{cell_of, content_of}
+use Rattle.board_core.specs.Numbers.{place_of}
 use Rattle.board_steps.specs.Rule.{setting_of}
 use Rattle.board_steps.specs.declared.rule.Slab.{Slab}
-use Rattle.tile_board.specs.Copies.{CutsEnds}
-use Rattle.tile_board.specs.Slabs.{IsTopOf, amounts_of, number_in, shape_of, top_edges}
+use Rattle.tile_board.specs.Slabs.{amounts_of, number_in, shape_of, top_edges}
 use Rattle.tile_board.specs.Tasks.{IsTaskOf, handed}
-use Rattle.tile_board.proofs.Numbers.{IsSource, column-is, row-is}
-
-place-same : (p q : Place) → p.c ≡ q.c → p.j ≡ q.j → p ≡ q
-place-same p q column band = λ i. record { c = column i; j = band i }
-
-pub place-is : (b : Slab) (p : Place) → IsTile (shape_of b) p → place_of (amounts_of b) (number_in b p) ≡ p
-place-is b p tile = place-same (place_of (amounts_of b) (number_in b p)) p (column-is (shape_of b) p tile) (row-is (shape_of b) p tile)
+use Rattle.board_core.proofs.Numbers.{place_is, same_parts}
+use Rattle.tile_board.proofs.Numbers.{IsSource}
 
 -- what a tile gives
 abbrev pub gives : Slab → Place → Border
@@ -37,13 +33,13 @@ gives b p = given b.kernel (amounts_of b) (top_edges b) p
 
 pub content-is : (b : Slab) (d : ℕ) (p : Place) → IsTile (shape_of b) p → (setting_of b).content (number_in b p) d ≡ cell_of (gives b p) d
 unfolding content_of
-content-is b d p tile = ap (λ (q : Place). cell_of (gives b q) d) (place-is b p tile)
+content-is b d p tile = ap (λ (q : Place). cell_of (gives b q) d) (place_is (shape_of b) p tile)
 
 -- an edge comes from one tile only
 same-source : (d : Dir) (p a b : Place) → IsReceiver d a p → IsReceiver d b p → a ≡ b
-same-source Right p a b h k = place-same a b (let x : ℕ = a.c in let y : ℕ = b.c in omega (arith, h.0, k.0)) (sym h.1 ∙ k.1)
-same-source Bottom p a b h k = place-same a b (sym h.0 ∙ k.0) (let x : ℕ = a.j in let y : ℕ = b.j in omega (arith, h.1, k.1))
-same-source Corner p a b h k = place-same a b (sym h.0 ∙ k.0) (let x : ℕ = a.j in let y : ℕ = b.j in omega (arith, h.1, k.1))
+same-source Right p a b h k = same_parts a b (let x : ℕ = a.c in let y : ℕ = b.c in omega (arith, h.0, k.0)) (sym h.1 ∙ k.1)
+same-source Bottom p a b h k = same_parts a b (sym h.0 ∙ k.0) (let x : ℕ = a.j in let y : ℕ = b.j in omega (arith, h.1, k.1))
+same-source Corner p a b h k = same_parts a b (sym h.0 ∙ k.0) (let x : ℕ = a.j in let y : ℕ = b.j in omega (arith, h.1, k.1))
 
 edge-inks : (b : Slab) (d : Dir) (p : Place) → length (edge_of (gives b p) d) ≡ (amounts_of b).inks
 edge-inks b Right p = (given-inks b.kernel (amounts_of b) (top_edges b) p).side
@@ -74,12 +70,6 @@ handed-first b p edge first is = record {
   above = λ off. absurd (off tt);
 }
 
-zero-at : (len n : ℕ) → get_or (replicate len (pos 0)) n (pos 0) ≡ pos 0
-zero-at len n = elim (cases_lt n len) [
-  | inl inside ↦ get_or-replicate len n (pos 0) (pos 0) inside
-  | inr past ↦ get_or_past (replicate len (pos 0)) n (pos 0) (omega (arith, length-replicate len (pos 0)))
-]
-
 -- an ink's edge of the top
 ink-top : (b : Slab) (i c : ℕ) → c < length (top_edges b) → get_or (edges_of (top_edges b) i) c [] ≡ errors_of (get_or (top_edges b) c []) i
 ink-top b i c inside = get_or-map (λ (edge : List (List ℤ)). errors_of edge i) (top_edges b) c [] [] inside
@@ -96,13 +86,13 @@ handed-last b p edge columns last is = record {
     at = λ n inside.
         ap (λ (e : List (List ℤ)). get_or (errors_of e i) n (pos 0)) is
         ∙ ap (λ (e : List ℤ). get_or e n (pos 0)) (get_or-replicate (amounts_of b).inks i (replicate 128 (pos 0)) [] low)
-        ∙ zero-at 128 n
+        ∙ some_zeros 128 n
         ∙ sym (ap (λ (e : List ℤ). get_or e n (pos 0)) (get_or_past (edges_of (top_edges b) i) (p.c + 1) []
         (let h = length-map (top_edges b) (λ (edge : List (List ℤ)). errors_of edge i) in omega arith)));
   };
 }
 
-pub handed-top : (b : Slab) (p : Place) (edge : List (List ℤ)) → IsTopOf (amounts_of b) (top_edges b) → p.j ≡ 0
+pub handed-top : (b : Slab) (p : Place) (edge : List (List ℤ)) → IsTopOf (amounts_of b).width (amounts_of b).inks (top_edges b) → p.j ≡ 0
     → p.c + 1 < columns_of (shape_of b)
     → edge ≡ get_or (top_edges b) (p.c + 1) [] → Comes b Bottom p edge
 handed-top b p edge top first there is = record {
@@ -116,7 +106,7 @@ handed-top b p edge top first there is = record {
   };
 }
 
-pub handed-end : (b : Slab) (p : Place) (above room edge : List (List ℤ)) → IsTopOf (amounts_of b) (top_edges b) → p.j ≡ 0
+pub handed-end : (b : Slab) (p : Place) (above room edge : List (List ℤ)) → IsTopOf (amounts_of b).width (amounts_of b).inks (top_edges b) → p.j ≡ 0
     → p.c < columns_of (shape_of b)
     → above ≡ get_or (top_edges b) p.c [] → length room ≡ (amounts_of b).inks → CutsEnds above room edge → Comes b Corner p edge
 handed-end b p above room edge top first inside is len cut = record {

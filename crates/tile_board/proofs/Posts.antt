@@ -21,7 +21,7 @@ use Rattle.tile_board.specs.Slabs.{amounts_of, number_in, shape_of, top_edges}
 use Rattle.tile_board.specs.Tasks.{IsDoneOf, gave}
 use Rattle.tile_board.proofs.Handed.{content-is, gives}
 use Rattle.tile_board.proofs.Hands.{Hand}
-use Rattle.tile_board.proofs.Numbers.{number-below}
+use Rattle.board_core.proofs.Numbers.{number_below}
 
 -- a tile that comes back right is what its content says
 pub gave-is : (b : Slab) (done : Done) → IsDoneOf b done → IsWhole (gave done) → gave done ≡ gives b done.place
@@ -161,7 +161,7 @@ may-post b p at slot x held m0 m1 m2 m3 m4 board is tile shown hand number place
     ∙ ap (λ (v : View). gave_view v 1 ((setting_of b).graph.next t 1)) g0.view) in
     let Sent : View → Type 0 = λ v. AllSent (setting_of b).graph t v in
     subst Q (sym number) (record {
-      inside = number-below (shape_of b) p tile;
+      inside = number_below (shape_of b) p tile;
       holds = ap (λ (v : View). v.held) view
           ∙ gave-held _ 2 ((setting_of b).graph.next t 2) ∙ gave-held _ 1 ((setting_of b).graph.next t 1)
           ∙ gave-held m0.0 0 ((setting_of b).graph.next t 0)

@@ -12,7 +12,8 @@ use Rattle.tile_shape.specs.declared.tiles.Shape.{Shape}
 use Rattle.tile_board.specs.declared.kinds.Board.{Board}
 use Rattle.tile_board.specs.Board.{slab}
 use Rattle.tile_board.proofs.Claims.{NeedsOf}
-use Rattle.tile_board.specs.Slabs.{IsTopOf, amounts_of, shape_of, top_edges}
+use Rattle.tile_board.specs.Slabs.{amounts_of, shape_of, top_edges}
+use Rattle.tile_border.specs.Tops.{IsTopOf}
 
 pub shape-is : (b : Board) (s : Shape) → s ≡ window_of b.rows.now → s ≡ shape_of (slab b)
 shape-is b s is = is ∙ ap (λ (rows : AmountTable). window_of rows) (sym b.made_for.0)
@@ -25,7 +26,7 @@ pub is-shape : (b : Board) (s : Shape) → s ≡ window_of b.rows.now → IsShap
 is-shape b s is sizes = let Q : Shape → Type 0 = λ t. IsShape t in subst Q (shape-is b s is) sizes
 
 -- the top is one of the slab, which has an edge for each column
-pub top-of : (b : Board) → IsTopOf (amounts_of (slab b)) (top_edges (slab b))
+pub top-of : (b : Board) → IsTopOf (amounts_of (slab b)).width (amounts_of (slab b)).inks (top_edges (slab b))
 top-of b = record {
   columns = ap length b.made_for.2 ∙ b.topped.0;
   edge_inks = λ c inside.

@@ -9,7 +9,7 @@ use Rattle.atomic_table.specs.declared.owned.Closed.{Closed as Rest}
 use Rattle.tile_shape.specs.Geometry.{IsTile, bands_of, columns_of}
 use Rattle.tile_shape.specs.declared.tiles.Place.{Place}
 use Rattle.tile_shape.specs.declared.tiles.Shape.{Shape}
-use Rattle.board_steps.specs.Graph.{number_of}
+use Rattle.board_core.specs.Numbers.{number_of}
 use Rattle.board_steps.specs.declared.rule.Cell.{Cell}
 use Rattle.board_steps.specs.declared.rule.Cell.TheVariants.{Bottom, Dots}
 use Rattle.tile_board.specs.declared.kinds.Closed.{Closed}

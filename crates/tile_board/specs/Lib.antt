@@ -3,7 +3,6 @@ pub mod Hand
 pub mod Front
 pub mod Room
 pub mod Tasks
-pub mod Copies
 pub mod Board
 pub mod Closing
 pub mod Emptying

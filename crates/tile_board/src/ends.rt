@@ -6,7 +6,8 @@ ghost use Rattle.board_steps.specs.Steps.{fresh_slots};
 ghost use Rattle.std.specs.Prelude.{IfOk, None, replicate, ℕ, ◌*◌, ◌<◌, ◌^◌, ◌≡◌, ◌≤◌, ◌&&◌};
 ghost use Rattle.tile_board.specs.Board.{IsPassOf, holding, slab, view};
 ghost use Rattle.tile_board.specs.Closing.{Closes};
-ghost use Rattle.tile_board.specs.Slabs.{IsTopOf, amounts_of, number_in, shape_of, top_edges};
+ghost use Rattle.tile_board.specs.Slabs.{amounts_of, number_in, shape_of, top_edges};
+ghost use Rattle.tile_border.specs.Tops.{IsTopOf};
 ghost use Rattle.tile_shape.specs.Geometry.{IsShape, IsTile, bands_of, columns_of};
 ghost use Rattle.tile_shape.specs.declared.tiles.Place.{Place};
 
@@ -32,7 +33,7 @@ impl<'a> Board<'a> {
         kernel: Kernel,
         top: TopEdges,
     ) -> Result<(Board<'a>, Pass), Memory>
-        requires { IsTopOf rows.now top }
+        requires { IsTopOf rows.now.width rows.now.inks top }
         ensures amounts { IfOk result (λ b. amounts_of (slab b.0) ≡ rows.now) }
         ensures kernel { IfOk result (λ b. (slab b.0).kernel ≡ kernel) }
         ensures top { IfOk result (λ b. top_edges (slab b.0) ≡ top) }

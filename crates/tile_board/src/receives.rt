@@ -3,7 +3,6 @@ ghost use Rattle.board_steps.specs.Rule.{setting_of};
 ghost use Rattle.board_steps.specs.Steps.{emptied_hand, in_hand};
 ghost use Rattle.std.specs.Prelude.{length, ◌<◌, ◌^◌, ◌≡◌};
 ghost use Rattle.tile_board.specs.Board.{slab};
-ghost use Rattle.tile_board.specs.Copies.{CutsEnds};
 ghost use Rattle.tile_board.specs.Room.{IsNext, TakesIn};
 ghost use Rattle.tile_board.specs.Slabs.{amounts_of, number_in, shape_of, top_edges};
 ghost use Rattle.tile_board.specs.Tasks.{IsTaskOf};
@@ -123,7 +122,7 @@ impl<'a> Board<'a> {
     {
         if t.j == 0 {
             let mut corner = corner_of(blank);
-            cut_ends(self.top.at(t.c), &mut corner);
+            self.top.at(t.c).cut_ends(&mut corner);
             return corner;
         }
         let from = Place { c: t.c, j: t.j - 1 };
@@ -139,15 +138,5 @@ fn copy_edge(from: &BottomEdge, to: &mut BottomEdge)
 {
     for ink in 0..from.inks() {
         to.put(ink, from.ink(ink));
-    }
-}
-
-// Sets a corner edge to the ends of a bottom edge with the same number of inks.
-fn cut_ends(edge: &BottomEdge, corner: &mut CornerEdge)
-    requires { length corner.old ≡ length edge.now }
-    ensures { CutsEnds edge.now corner.old corner.new }
-{
-    for ink in 0..edge.inks() {
-        corner.put(ink, &edge.ends(ink));
     }
 }

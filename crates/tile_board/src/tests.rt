@@ -1,7 +1,8 @@
 //! Boards compared with the rule over a whole window, and the answers to a few claims.
 ghost use Rattle.std.specs.Prelude.{IfSome, IsTrue, None, length, ℕ, ◌≡◌, ◌≤◌};
 ghost use Rattle.tile_board.specs.Board.{IsPassOf, slab, view};
-ghost use Rattle.tile_board.specs.Slabs.{IsTopOf, amounts_of, number_in, shape_of};
+ghost use Rattle.tile_board.specs.Slabs.{amounts_of, number_in, shape_of};
+ghost use Rattle.tile_border.specs.Tops.{IsTopOf};
 ghost use Rattle.board_steps.specs.Rule.{times};
 ghost use Rattle.tile_shape.specs.Geometry.{IsShape, IsTile};
 ghost use Rattle.tile_shape.specs.declared.tiles.Place.{Place};
@@ -49,7 +50,7 @@ fn set_row(rows: &mut InkRows, i: u8, first: u32, y: u32)
 // A top of errors 0.
 fn no_errors(alloc: Global, rows: &InkRows, inks: u8) -> Option<TopEdges>
     requires { inks ≡ rows.now.inks }
-    ensures { IfSome result (IsTopOf rows.now) }
+    ensures { IfSome result (IsTopOf rows.now.width rows.now.inks) }
 {
     if inks < 1 || inks > 4 {
         return None;
@@ -180,8 +181,8 @@ fn diffuse(
     top: TopEdges,
     passes: u8,
 ) -> Option<Closed>
-    requires { IsTopOf rows.now top }
-    ensures { IfSome result (λ closed. IsTopOf rows.now closed.bottom) }
+    requires { IsTopOf rows.now.width rows.now.inks top }
+    ensures { IfSome result (λ closed. IsTopOf rows.now.width rows.now.inks closed.bottom) }
 {
     let Ok((board, mut p)) = Board::make(alloc, rows, kernel, top) else {
         return None;

@@ -13,7 +13,7 @@ no_errors = record { at = λ ink n. refl }
 pub no_columns : (inks : ℕ) (top : List (List (List ℤ))) → top ≡ [] → IsZeroTop 0 inks top
 no_columns inks top is =
     let Q : List (List (List ℤ)) → Type 0 = λ t. IsZeroTop 0 inks t in
-    subst Q (sym is) (record { columns_are = refl; inks_are = λ c low. absurd (omega arith); zeros = λ c. no_errors })
+    subst Q (sym is) (record { has = record { columns = refl; edge_inks = λ c low. absurd (omega arith) }; zeros = λ c. no_errors })
 
 -- the last of columns
 last_column : (columns : ℕ) (top : List (List (List ℤ))) (edge : List (List ℤ)) → length top ≡ columns
@@ -43,9 +43,12 @@ columns_more columns inks top new edge t blank is =
     let HasInks : List (List ℤ) → Type 0 = λ e. length e ≡ inks in
     let Zero : List (List ℤ) → Type 0 = λ e. AreZeros e in
     subst Q (sym is) (record {
-      columns_are = length-append top (edge ∷ []) ∙ ap (λ n. n + 1) t.columns_are;
-      inks_are = λ c low. column_more HasInks columns c top edge t.columns_are (t.inks_are c) (λ _. long) (λ past. absurd (omega arith));
-      zeros = λ c. column_more Zero columns c top edge t.columns_are (λ _. t.zeros c) (λ _. zeros inks 128 edge blank) (λ _. no_errors);
+      has = record {
+        columns = length-append top (edge ∷ []) ∙ ap (λ n. n + 1) t.has.columns;
+        edge_inks = λ c low.
+            column_more HasInks columns c top edge t.has.columns (t.has.edge_inks c) (λ _. long) (λ past. absurd (omega arith));
+      };
+      zeros = λ c. column_more Zero columns c top edge t.has.columns (λ _. t.zeros c) (λ _. zeros inks 128 edge blank) (λ _. no_errors);
     })
 
 pub same_columns : (n columns inks : ℕ) (top : List (List (List ℤ))) → n ≡ columns → IsZeroTop n inks top → IsZeroTop columns inks top

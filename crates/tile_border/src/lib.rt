@@ -1,8 +1,8 @@
 //! Tiles with their edges, in all inks: what a tile is handed, what it hands on, and the top edges of a board.
 //!
 //! - `RightEdge`, `BottomEdge`, `CornerEdge`: a list of errors for each ink, each error from -2040 to 2039. `zero` has
-//!   errors 0, `ink` gives the errors of an ink, and `put` sets those of one ink and keeps all others.
-//!   `BottomEdge::ends` are the last six errors of an ink's two rows.
+//!   errors 0, `ink` gives the errors of an ink, `put` sets those of one ink and keeps all others, and `clear` sets all
+//!   to 0. `BottomEdge::ends` are the last six errors of an ink's two rows, and `cut_ends` puts them into a corner edge.
 //! - `TopEdges`: a bottom edge for each column of tiles. `zero`, `at`, `put` and `swap` make, give, set and exchange
 //!   them.
 //! - `work`: take any errors that solve the rule for an ink. Where the three edges of the task hold these errors, so do
@@ -18,7 +18,7 @@ pub mod laws;
 mod task;
 mod tops;
 
-pub use edges::{BottomEdge, CornerEdge, RightEdge};
+pub use edges::{BottomEdge, CornerEdge, Edge, RightEdge};
 pub use task::{Done, Task, work};
 pub use tops::TopEdges;
 

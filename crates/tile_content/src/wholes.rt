@@ -1,11 +1,11 @@
 //! The lengths of a tile's edges and dots. The types have them by construction; these functions do nothing, and state
 //! them in their contracts.
-ghost use Rattle.std.specs.Prelude.{IfOk, length, replicate, slice_index, ℕ, ◌<◌, ◌≡◌, ◌≤◌};
+ghost use Rattle.std.specs.Prelude.{IfOk, length, replicate, slice_index, ℕ, ◌<◌, ◌^◌, ◌≡◌, ◌≤◌};
 ghost use Rattle.tile_content.specs.Tiles.{AllBytes, AllLong, IsWhole};
 
 use dot_planes::TileBits;
 use std::alloc::Global;
-use tile_border::{BottomEdge, CornerEdge, Done, RightEdge};
+use tile_border::{Done, Edge};
 use weave_base::Memory;
 
 /// Each ink of a tile's right, bottom and corner edge has 192, 128 and 12 errors, and each ink of its dots 256 bytes.
@@ -17,9 +17,9 @@ pub fn done_is_whole(done: &Done)
       bits = done.now.dots.bits;
     }) }
 {
-    right_is_whole(&done.right);
-    bottom_is_whole(&done.bottom);
-    corner_is_whole(&done.corner);
+    edge_is_whole(&done.right);
+    edge_is_whole(&done.bottom);
+    edge_is_whole(&done.corner);
     bits_are_whole(&done.dots.bits);
 }
 
@@ -34,27 +34,10 @@ pub fn no_dots(alloc: Global, inks: u8) -> Result<TileBits, Memory>
     Ok(bits)
 }
 
-// Each ink of a right edge has 192 errors.
-fn right_is_whole(edge: &RightEdge)
-    ensures { AllLong 192 edge.now }
-{
-    for ink in 0..edge.inks() {
-        are_errors(edge.ink(ink));
-    }
-}
-
-// Each ink of a bottom edge has 128 errors.
-fn bottom_is_whole(edge: &BottomEdge)
-    ensures { AllLong 128 edge.now }
-{
-    for ink in 0..edge.inks() {
-        are_errors(edge.ink(ink));
-    }
-}
-
-// Each ink of a corner edge has 12 errors.
-fn corner_is_whole(edge: &CornerEdge)
-    ensures { AllLong 12 edge.now }
+// Each ink of an edge has all its errors.
+fn edge_is_whole<const N: usize>(edge: &Edge<N>)
+    requires { N < 2 ^ 62 }
+    ensures { AllLong N edge.now }
 {
     for ink in 0..edge.inks() {
         are_errors(edge.ink(ink));

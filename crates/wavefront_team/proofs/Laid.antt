@@ -2,23 +2,24 @@
 use Rattle.std.proofs.Common.{◌≡◌, ℕ, ◌+◌, ◌*◌, ◌<◌, ◌≤◌, List, get_or, length, inl, inr, refl, sym, ◌∙◌, ap, arith, subst}
 use Rattle.std.proofs.lemmas.Bool.{cases_eq}
 use Rattle.std.proofs.lemmas.List.{get_or_default}
-use Rattle.board_steps.specs.Graph.{number_of}
+use Rattle.board_core.specs.Numbers.{number_of, place_of}
+use Rattle.board_core.proofs.Numbers.{place_number, place_tile}
 use Rattle.dot_planes.specs.Tables.{DotTable}
 use Rattle.dot_planes.specs.Tiles.{PutsTile, slab_of, tile_dot}
 use Rattle.dot_planes.specs.declared.tiles.TileDots.{TileDots}
-use Rattle.tile_shape.specs.Geometry.{IsAt, IsShape, IsTile, bands_of, columns_of}
+use Rattle.tile_shape.specs.Geometry.{IsAt, IsTile, bands_of, columns_of}
 use Rattle.tile_shape.specs.declared.tiles.Place.{Place}
 use Rattle.tile_shape.specs.declared.tiles.Shape.{Shape}
 use Rattle.wavefront_team.specs.Laying.{AreTilesOf, LaysTiles}
-use Rattle.wavefront_team.proofs.Numbers.{is_tile_of, number_of-tile_of, one_tile, tile_of}
+use Rattle.wavefront_team.proofs.Numbers.{one_tile}
 
 -- the place of the tile at an index
-pub place_at : (s : Shape) (tiles : List TileDots) (n : ℕ) (tile : TileDots) → IsShape s → AreTilesOf s tiles → n < length tiles
-    → tile ≡ get_or tiles n tile → tile.place ≡ tile_of s n
-place_at s tiles n tile sizes are inside is =
+pub place_at : (s : Shape) (tiles : List TileDots) (n : ℕ) (tile : TileDots) → AreTilesOf s tiles → n < length tiles
+    → tile ≡ get_or tiles n tile → tile.place ≡ place_of s n
+place_at s tiles n tile are inside is =
     let low : n < bands_of s * columns_of s = subst (λ m. n < m) are.count inside in
-    ap (λ (d : TileDots). d.place) is ∙ ap (λ m. (get_or tiles m tile).place) (sym (number_of-tile_of s n))
-    ∙ are.places (tile_of s n) tile (is_tile_of s n sizes low)
+    ap (λ (d : TileDots). d.place) is ∙ ap (λ m. (get_or tiles m tile).place) (sym (place_number s n))
+    ∙ are.places (place_of s n) tile (place_tile s n low)
 
 pub lays_none : (s : Shape) (first : ℕ) (tiles : List TileDots) (t : DotTable) → LaysTiles s first 0 tiles t t
 lays_none s first tiles t = record {
@@ -28,12 +29,12 @@ lays_none s first tiles t = record {
 }
 
 pub lays_more : (s : Shape) (first n : ℕ) (tiles : List TileDots) (tile : TileDots) (old mid new : DotTable)
-    → IsShape s → AreTilesOf s tiles → n < length tiles → tile ≡ get_or tiles n tile → old.width ≡ s.width
+    → AreTilesOf s tiles → n < length tiles → tile ≡ get_or tiles n tile → old.width ≡ s.width
     → first + s.height ≤ old.rows → LaysTiles s first n tiles old mid → PutsTile mid new first s.height tile.place tile.bits
     → LaysTiles s first (n + 1) tiles old new
-lays_more s first n tiles tile old mid new sizes are inside is wide tall lays puts =
-    let q : Place = tile_of s n in
-    let place : tile.place ≡ q = place_at s tiles n tile sizes are inside is in
+lays_more s first n tiles tile old mid new are inside is wide tall lays puts =
+    let q : Place = place_of s n in
+    let place : tile.place ≡ q = place_at s tiles n tile are inside is in
     let low : n < bands_of s * columns_of s = subst (λ m. n < m) are.count inside in
     record {
       size = record {
@@ -59,7 +60,7 @@ lays_more s first n tiles tile old mid new sizes are inside is wide tall lays pu
             let down : y' ≡ y = omega (arith, there.down) in
             let A : ℕ → Type 0 = λ m. IsAt tile.place r o x m in
             let alike : tile.place ≡ p = one_tile tile.place p r o row offset x y (subst A down there.place) at in
-            other (ap (number_of s) (sym alike ∙ place) ∙ number_of-tile_of s n))
+            other (ap (number_of s) (sym alike ∙ place) ∙ place_number s n))
             ∙ lays.pixels i row offset x y p d ink in_window (omega arith) pixel at
       ];
       others = λ i y x inside_rows beside.
@@ -71,22 +72,21 @@ lays_more s first n tiles tile old mid new sizes are inside is wide tall lays pu
 
 -- the tile is one of the window in the planes
 pub tile_in : (s w : Shape) (first n : ℕ) (tiles : List TileDots) (tile : TileDots) (old mid : DotTable)
-    → s ≡ w → IsShape s → AreTilesOf w tiles → n < length tiles → tile ≡ get_or tiles n tile → old.width ≡ w.width
+    → s ≡ w → AreTilesOf w tiles → n < length tiles → tile ≡ get_or tiles n tile → old.width ≡ w.width
     → LaysTiles w first n tiles old mid → IsTile (slab_of mid s.height) tile.place
-tile_in s w first n tiles tile old mid same sizes are inside is wide lays =
+tile_in s w first n tiles tile old mid same are inside is wide lays =
     let h : w.height ≡ s.height = sym (ap (λ (r : Shape). r.height) same) in
     let b : w.width ≡ mid.width = sym (lays.size.width ∙ wide) in
     let window : w ≡ slab_of mid s.height = λ i. record { width = b i; height = h i } in
     let low : n < bands_of w * columns_of w = subst (λ m. n < m) are.count inside in
-    let z : IsShape w = subst (λ (r : Shape). IsShape r) same sizes in
     subst (λ (r : Shape). IsTile r tile.place) window
-    (subst (λ (p : Place). IsTile w p) (sym (place_at w tiles n tile z are inside is)) (is_tile_of w n z low))
+    (subst (λ (p : Place). IsTile w p) (sym (place_at w tiles n tile are inside is)) (place_tile w n low))
 
 pub lays_next : (s w : Shape) (first n : ℕ) (tiles : List TileDots) (tile : TileDots) (old mid new : DotTable)
-    → s ≡ w → IsShape s → AreTilesOf w tiles → n < length tiles → tile ≡ get_or tiles n tile → old.width ≡ w.width
+    → s ≡ w → AreTilesOf w tiles → n < length tiles → tile ≡ get_or tiles n tile → old.width ≡ w.width
     → first + w.height ≤ old.rows → LaysTiles w first n tiles old mid → PutsTile mid new first s.height tile.place tile.bits
     → LaysTiles w first (n + 1) tiles old new
-lays_next s w first n tiles tile old mid new same sizes are inside is wide tall lays puts =
+lays_next s w first n tiles tile old mid new same are inside is wide tall lays puts =
     let P : ℕ → Type 0 = λ h. PutsTile mid new first h tile.place tile.bits in
-    lays_more w first n tiles tile old mid new (subst (λ (r : Shape). IsShape r) same sizes) are inside is wide tall lays
+    lays_more w first n tiles tile old mid new are inside is wide tall lays
     (subst P (ap (λ (r : Shape). r.height) same) puts)

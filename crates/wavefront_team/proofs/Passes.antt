@@ -1,6 +1,7 @@
 -- Which tiles a pass has posted.
 use Rattle.std.proofs.Common.{◌≡◌, ℕ, ◌+◌, ◌==◌, ◌<◌, ◌≤◌, inl, inr, sym, ap, arith, subst, eq-eqb}
 use Rattle.std.proofs.lemmas.Bool.{cases_eq}
+use Rattle.board_core.proofs.Numbers.{goes_on}
 use Rattle.board_steps.specs.Rule.{one_if, times}
 use Rattle.board_steps.specs.Steps.{posted_view}
 use Rattle.board_steps.specs.declared.rule.Slab.{Slab}
@@ -8,13 +9,12 @@ use Rattle.board_steps.specs.declared.rule.View.{View}
 use Rattle.tile_board.specs.Board.{LacksEdge}
 use Rattle.tile_board.specs.Slabs.{number_in, shape_of}
 use Rattle.tile_shape.specs.declared.tiles.Place.{Place}
-use Rattle.wavefront_team.proofs.Numbers.{source_before}
 
 -- where a pass has posted all tiles with lower numbers, this tile lacks no edge
 pub lacks_none : (b : Slab) (v : View) (t : Place) (word : ℕ) → LacksEdge b v t word
     → ((n : ℕ) → n < number_in b t → 1 ≤ times n v.mine) → ⊥
 lacks_none b v t word lacks before =
-    let some = before (number_in b lacks.from) (source_before (shape_of b) lacks.dir lacks.from t lacks.tile lacks.receiver) in
+    let some = before (number_in b lacks.from) (goes_on (shape_of b) lacks.dir lacks.from t lacks.tile lacks.receiver) in
     let none = lacks.not_mine in
     omega arith
 

@@ -2,7 +2,8 @@
 use Rattle.std.proofs.Common.{◌≡◌, ℕ, ℤ, zero, suc, ◌<◌, List, [], ◌∷◌, get_or, length, sym, ◌∙◌, ap, arith, subst}
 use mathlib.Core.Option.{some}
 use lib.ListN.{get_elem?}
-use Rattle.board_steps.specs.Graph.{number_of}
+use Rattle.board_core.specs.Numbers.{number_of}
+use Rattle.board_core.proofs.Numbers.{number_below}
 use Rattle.board_steps.specs.declared.rule.Slab.{Slab}
 use Rattle.diffusion_definitions.specs.Diffusion.{Errors, errors, on}
 use Rattle.diffusion_kernel.specs.Tables.{table_of}
@@ -12,23 +13,17 @@ use Rattle.diffusion_laws.proofs.Unique.{unique}
 use Rattle.dot_planes.specs.Tables.{AmountTable, DotTable}
 use Rattle.dot_planes.specs.Tiles.{tile_dot}
 use Rattle.dot_planes.specs.declared.tiles.TileDots.{TileDots}
-use Rattle.slab_diffusion.specs.Slabs as slabs
 use Rattle.slab_diffusion.specs.Slabs.{AreSlabErrors, DiffusesSlab}
 use Rattle.tile_board.specs.Closing.{Closes}
-use Rattle.tile_board.specs.Slabs.{IsTopOf, amounts_of, number_in, shape_of, top_edges}
+use Rattle.tile_board.specs.Slabs.{amounts_of, number_in, shape_of, top_edges}
 use Rattle.tile_board.specs.declared.kinds.Closed.{Closed}
-use Rattle.tile_border.specs.Tops.{edges_of}
+use Rattle.tile_border.specs.Tops.{IsTopOf, edges_of}
 use Rattle.tile_content.specs.Content.{errors_below}
 use Rattle.tile_edges.specs.Tops.{top_of}
 use Rattle.tile_lanes.specs.Done.{plane_of, window_of}
 use Rattle.tile_shape.specs.declared.tiles.Shape.{Shape}
 use Rattle.wavefront_team.specs.Laying.{AreTilesOf, LaysTiles}
-use Rattle.wavefront_team.proofs.Numbers.{Stands, number_below, stands}
-
--- ---- tops
-
-pub top_for : (rows : AmountTable) (top : List (List (List ℤ))) → slabs.IsTopOf rows.width rows.inks top → IsTopOf rows top
-top_for rows top is = record { columns = is.columns; edge_inks = is.edge_inks }
+use Rattle.wavefront_team.proofs.Numbers.{Stands, stands}
 
 -- ---- tiles
 
@@ -93,6 +88,6 @@ slab_diffused b r k rows top first old new amounts kernel edges inks closes lays
           ∙ (it.2.dots i ink).pixel here.row here.offset x y here.place
           ∙ ap (λ (f : Errors). on (table_of b.kernel) (plane_of (amounts_of b) i) f y x) same;
       others = lays.others;
-      is_top = record { columns = closes.is_top.columns; edge_inks = closes.is_top.edge_inks };
+      is_top = closes.is_top;
       bottoms = λ i e are. rw (errors_are b.kernel (amounts_of b) (top_edges b) i e are) at (closes.bottoms i are.ink);
     }

@@ -1,6 +1,6 @@
 -- The dots of a slab's tiles, and how they are put into planes.
 use Rattle.std.specs.Prelude.{◌≡◌, ◌⊎◌, ℕ, ◌+◌, ◌*◌, ◌<◌, ◌≤◌, List, length, slice_index_or}
-use Rattle.board_steps.specs.Graph.{number_of}
+use Rattle.board_core.specs.Numbers.{number_of}
 use Rattle.dot_planes.specs.Tables.{DotTable, HasSizeOf, dot}
 use Rattle.dot_planes.specs.Tiles.{tile_dot}
 use Rattle.dot_planes.specs.declared.tiles.TileDots.{TileDots}

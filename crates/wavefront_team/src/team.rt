@@ -1,6 +1,7 @@
 //! The workers of a slab.
 ghost use Rattle.diffusion_kernel.specs.Tables.{table_of};
-ghost use Rattle.slab_diffusion.specs.Slabs.{DiffusesSlab, IsTopOf};
+ghost use Rattle.slab_diffusion.specs.Slabs.{DiffusesSlab};
+ghost use Rattle.tile_border.specs.Tops.{IsTopOf};
 ghost use Rattle.std.specs.Prelude.{IfOk, OnErr, length, ◌+◌, ◌≡◌, ◌≤◌};
 ghost use Rattle.tile_board.specs.Board.{slab};
 ghost use Rattle.tile_board.specs.Slabs.{shape_of};

@@ -1,5 +1,5 @@
 //! Slabs by workers compared with the plain loop over their tiles.
-ghost use Rattle.slab_diffusion.specs.Slabs.{IsTopOf};
+ghost use Rattle.tile_border.specs.Tops.{IsTopOf};
 ghost use Rattle.std.specs.Prelude.{IfSome, ◌≡◌, ◌≤◌};
 
 mod gates;

@@ -1,5 +1,5 @@
 use Rattle.std.proofs.Common.{◌≡◌, ◌+◌, ◌*◌, ◌/◌, ◌%◌, ℕ, ℤ, List, get_or, pos, ap, arith, ◌∙◌}
-use Rattle.slab_diffusion.specs.Slabs.{columns_across}
+use Rattle.tile_border.specs.Tops.{columns_across}
 use Rattle.tile_shape.specs.Geometry.{columns_of}
 use Rattle.tile_shape.specs.declared.tiles.Shape.{Shape}
 use Rattle.slab_diffusion.proofs.Tops.{edge_at}
@@ -16,8 +16,8 @@ returns c =
       rows_are = slab.rows ∙ c.min-rows.ensures;
       inks_are = slab.inks;
       is_top = record {
-        columns = top.columns_are ∙ columns;
-        edge_inks = λ column inside. top.inks_are column (omega (arith, inside, columns));
+        columns = top.has.columns ∙ columns;
+        edge_inks = λ column inside. top.has.edge_inks column (omega (arith, inside, columns));
       };
       zeros = λ i t n.
           let u : ℕ = n + 56 + 2 * t in

@@ -8,7 +8,7 @@ use Rattle.slab_diffusion.specs.Hands.{WorksTile}
 use Rattle.slab_diffusion.specs.Order.{IsWorkedTo}
 use Rattle.slab_diffusion.proofs.OrderSteps.{next_is, next_ready, taken_up, worked_more}
 use Rattle.tile_shape.specs.declared.tiles.Shape.{Shape}
-use Rattle.slab_diffusion.specs.Slabs.{columns_across}
+use Rattle.tile_border.specs.Tops.{columns_across}
 use Rattle.slab_diffusion.proofs.BandSteps.{band_begins, band_dots, band_ends}
 use Rattle.slab_diffusion.proofs.TileSteps.{dots_more, stays_more, stays_same, tile_stays}
 use Rattle.slab_diffusion.proofs.bands.diffuse_band.Goals as goal
@@ -25,14 +25,14 @@ loop-init c =
       room = record {
         bottoms = room.bottoms;
         bottom = room.bottom;
-        right = c.clear_right.ensures.len ∙ room.right;
+        right = c.clear.ensures.len ∙ room.right;
         corner = first.len ∙ room.corner;
         spare = room.spare;
         bits = room.bits;
       };
       stays = stays_same c.args.rows.now c.args.at c.args.out.now;
       next = λ i e are before. band_begins (table_of c.args.kernel) c.args.rows.now i e c.args.j c.args.hand _ are room before
-          c.clear_right.ensures (rw c.at.ensures at first) refl;
+          c.clear.ensures (rw c.at.ensures at first) refl;
       dots = λ i e are before has. has;
     }
 

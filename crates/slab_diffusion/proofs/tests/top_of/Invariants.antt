@@ -1,4 +1,4 @@
-use Rattle.slab_diffusion.specs.Slabs.{IsTopOf}
+use Rattle.tile_border.specs.Tops.{IsTopOf}
 use Rattle.slab_diffusion.proofs.tests.top_of.Given as goal
 
 abbrev pub invariant-loop-c : goal.invariant-loop-c

@@ -2,7 +2,8 @@ use Rattle.std.proofs.Common.{◌≡◌, ℕ, ◌+◌, ◌*◌, ◌<◌, refl, s
 use Rattle.tile_shape.specs.Geometry.{IsTile, bands_of, columns_of}
 use Rattle.tile_shape.specs.declared.tiles.Place.{Place}
 use Rattle.tile_board.proofs.Emptied.{left-at, takes-more}
-use Rattle.tile_board.proofs.Numbers.{few-tiles, number-below, row-more}
+use Rattle.board_core.proofs.Numbers.{number_below, row_more}
+use Rattle.tile_board.proofs.Numbers.{few-tiles}
 use Rattle.tile_board.proofs.emptying.empty_band.Goals as goal
 
 pub loop-c-init : goal.loop-c-init
@@ -15,7 +16,7 @@ empty_tile-requires c =
     record { column = let h = c.loop-c-test.true in let k = c.columns-columns.ensures in omega arith; band = c.requires.band } in
     let same : c.args.j * c.columns-columns.result + c.loop-c.c ≡ c.args.j * columns_of s + c.loop-c.c =
     ap (λ n. c.args.j * n + c.loop-c.c) c.columns-columns.ensures in
-    let below = number-below s (record { c = c.loop-c.c; j = c.args.j }) tile in
+    let below = number_below s (record { c = c.loop-c.c; j = c.args.j }) tile in
     let few = few-tiles s c.requires.shape in
     let is = left-at s _ (c.args.j * c.columns-columns.result + c.loop-c.c) _ _ (sym same) c.loop-c.invariant.left in
     let t : ℕ = c.args.j * c.columns-columns.result + c.loop-c.c in
@@ -53,7 +54,7 @@ returns-clause-after c =
     let u : ℕ = c.args.j * columns_of s in
     let w : ℕ = (c.args.j + 1) * columns_of s in
     let C : ℕ = columns_of s in
-    let row : w ≡ u + C = row-more C c.args.j in
+    let row : w ≡ u + C = row_more C c.args.j in
     let ended : c.loop-c.c ≡ C = let h = c.loop-c-test.false in let k = c.columns-columns.ensures in let e = c.loop-c.auto.c-end in
     omega arith in
     left-at s (u + c.loop-c.c) w _ _ (omega arith) c.loop-c.invariant.left

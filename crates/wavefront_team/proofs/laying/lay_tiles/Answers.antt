@@ -13,7 +13,7 @@ put_tile-requires-clause-slab c =
 pub put_tile-requires-clause-place : goal.put_tile-requires-clause-place
 put_tile-requires-clause-place c =
     tile_in c.shape-height.result (window_of c.args.rows.now) c.args.at c.loop-tile.tile-index c.args.tiles.now c.tile-item.result
-    c.args.out.now c.loop-tile.out c.shape-height.ensures.is c.shape-height.ensures.sizes c.requires.tiles c.loop-tile-test.true
+    c.args.out.now c.loop-tile.out c.shape-height.ensures.is c.requires.tiles c.loop-tile-test.true
     c.tile-item.is c.requires.width c.loop-tile.invariant
 
 pub loop-tile-init : goal.loop-tile-init
@@ -22,7 +22,7 @@ loop-tile-init c = lays_none (window_of c.args.rows.now) c.args.at c.args.tiles.
 pub loop-tile-preserved : goal.loop-tile-preserved
 loop-tile-preserved c =
     lays_next c.shape-height.result (window_of c.args.rows.now) c.args.at c.loop-tile.tile-index c.args.tiles.now c.tile-item.result
-    c.args.out.now c.loop-tile.out c.put_tile.new.self c.shape-height.ensures.is c.shape-height.ensures.sizes c.requires.tiles
+    c.args.out.now c.loop-tile.out c.put_tile.new.self c.shape-height.ensures.is c.requires.tiles
     c.loop-tile-test.true c.tile-item.is c.requires.width c.requires.at c.loop-tile.invariant c.put_tile.ensures
 
 pub returns : goal.returns

@@ -1,4 +1,5 @@
 use Rattle.std.proofs.Common.{◌≡◌, ℕ, ◌+◌, ◌*◌, ◌<◌, ◌≤◌, ap, arith, ◌∙◌, subst, sym}
+use Rattle.board_core.proofs.Numbers.{row_more}
 use Rattle.tile_board.specs.Board.{slab, view}
 use Rattle.tile_board.specs.Slabs.{number_in, shape_of}
 use Rattle.tile_board.specs.declared.kinds.Board.{Board}
@@ -10,7 +11,6 @@ use Rattle.tile_shape.specs.Geometry.{columns_of}
 use Rattle.tile_shape.specs.declared.tiles.Place.{Place}
 use Rattle.tile_shape.specs.declared.tiles.Shape.{Shape}
 use Rattle.wavefront_team.specs.Passes.{HasAll}
-use Rattle.wavefront_team.proofs.Numbers.{row_more}
 use Rattle.wavefront_team.proofs.Passes.{lacks_none, posted_after, posted_more}
 use Rattle.wavefront_team.proofs.work.work_band.Goals as goal
 use Rattle.wavefront_team.proofs.work.work_band.Goals.{in-Got, in-Gone}

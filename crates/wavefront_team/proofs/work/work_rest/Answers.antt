@@ -1,9 +1,9 @@
 use Rattle.std.proofs.Common.{◌≡◌, ℕ, ◌+◌, ◌*◌, ◌<◌, ap, arith, ◌∙◌}
+use Rattle.board_core.proofs.Numbers.{number_below}
 use Rattle.tile_board.specs.Board.{slab}
 use Rattle.tile_board.specs.Slabs.{number_in, shape_of}
 use Rattle.tile_shape.specs.Geometry.{bands_of, columns_of}
 use Rattle.tile_shape.specs.declared.tiles.Shape.{Shape}
-use Rattle.wavefront_team.proofs.Numbers.{number_below}
 use Rattle.wavefront_team.proofs.work.work_rest.Goals as goal
 
 pub loop-j-init : goal.loop-j-init

@@ -1,6 +1,7 @@
 use Rattle.std.proofs.Common.{◌≡◌, ◌*◌, ◌<◌, ℕ, subst, ap, arith, refl, ◌∙◌}
 use Rattle.tile_shape.specs.Geometry.{bands_of, columns_of}
-use Rattle.board_core.specs.States.{CoreState, number}
+use Rattle.board_core.specs.Numbers.{number_of}
+use Rattle.board_core.specs.States.{CoreState}
 use Rattle.board_core.specs.Steps.{IsReadyTile}
 use Rattle.board_core.proofs.Numbers.{number_inside}
 use Rattle.board_core.proofs.Ready.{first_ready, none_more, none_waiting}
@@ -32,5 +33,5 @@ returns-clause-none c = λ p r.
 -- Before the tile that the scan begins with none waits.
 pub loop-n-init : goal.loop-n-init
 loop-n-init c = λ q low r.
-    let Q : CoreState → Type 0 = λ core. number core.shape q < c.self.inside.begun → IsReadyTile core q → ⊥ in
+    let Q : CoreState → Type 0 = λ core. number_of core.shape q < c.self.inside.begun → IsReadyTile core q → ⊥ in
     subst Q c.self.view_is (none_waiting c.self.inside q c.self.invariant.none_waits) low r

@@ -5,7 +5,7 @@ use Rattle.ink_separation.specs.Separated.{Separates}
 use Rattle.printer_profile.specs.Profiles.{printer_of}
 use Rattle.printer_definitions.specs.Inks.{inks_of}
 use Rattle.separation_definitions.specs.declared.window.Window.{Window}
-use Rattle.slab_diffusion.specs.Slabs.{IsTopOf}
+use Rattle.tile_border.specs.Tops.{IsTopOf}
 use Rattle.page_halftoner.specs.Halftones.{EndsWith, Halftoning, StandsFor, held}
 use Rattle.page_halftoner.specs.Kept.{IsReady, edges_in, halftoning, window_in}
 use Rattle.page_halftoner.specs.declared.halftoner.Halftoner.TheInside.{Inside}

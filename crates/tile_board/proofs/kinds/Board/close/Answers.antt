@@ -6,14 +6,12 @@ use Rattle.tile_board.specs.Board.{slab}
 use Rattle.tile_board.specs.Emptying.{CanEmpty, EmptiedBefore}
 use Rattle.tile_board.specs.Slabs.{number_in, shape_of}
 use Rattle.tile_board.proofs.Ending.{closes, each-number, has-dots}
-use Rattle.tile_board.proofs.Numbers.{number-below}
+use Rattle.board_core.proofs.Numbers.{number_below}
 use Rattle.tile_board.proofs.Shapes.{is-shape, shape-is}
 use Rattle.tile_board.proofs.kinds.Board.close.Goals as goal
 
 pub close-requires-clause-posted : goal.close-requires-clause-posted
-close-requires-clause-posted c =
-    each-number (slab c.args.self) c.args.p.seat.me.0
-    (is-shape c.args.self c.shape-shape.result c.shape-shape.ensures.is c.shape-shape.ensures.sizes) c.requires.all
+close-requires-clause-posted c = each-number (slab c.args.self) c.args.p.seat.me.0 c.requires.all
 
 pub empty_all-requires-clause-can : goal.empty_all-requires-clause-can
 empty_all-requires-clause-can c =
@@ -22,12 +20,11 @@ empty_all-requires-clause-can c =
     subst Q (sym (shape-is c.args.self c.shape-shape.result c.shape-shape.ensures.is)) (record {
       len = c.close.ensures.slots;
       full = c.close.ensures.filled;
-      dots = has-dots b (slots_items c.close.result.slots)
-          (is-shape c.args.self c.shape-shape.result c.shape-shape.ensures.is c.shape-shape.ensures.sizes) c.close.ensures.gives;
+      dots = has-dots b (slots_items c.close.result.slots) c.close.ensures.gives;
     })
 
 pub returns-clause-once : goal.returns-clause-once
-returns-clause-once c = λ t tile. c.close.ensures.once (number_in (slab c.args.self) t) (number-below (shape_of (slab c.args.self)) t tile)
+returns-clause-once c = λ t tile. c.close.ensures.once (number_in (slab c.args.self) t) (number_below (shape_of (slab c.args.self)) t tile)
 
 pub returns-clause-closes : goal.returns-clause-closes
 returns-clause-closes c =

@@ -1,7 +1,8 @@
 use Rattle.std.proofs.Common.{◌≡◌, ◌+◌, ◌*◌, ap, arith}
 use Rattle.tile_board.specs.Board.{slab}
 use Rattle.tile_board.specs.Slabs.{number_in, shape_of}
-use Rattle.tile_board.proofs.Numbers.{few-tiles, number-below}
+use Rattle.board_core.proofs.Numbers.{number_below}
+use Rattle.tile_board.proofs.Numbers.{few-tiles}
 use Rattle.tile_board.proofs.Shapes.{columns-is, is-shape}
 use Rattle.tile_board.proofs.kinds.Board.number.Goals as goal
 
@@ -15,12 +16,12 @@ pub returns-clause-is : goal.returns-clause-is
 returns-clause-is c = same c
 
 pub returns-clause-inside : goal.returns-clause-inside
-returns-clause-inside c = let n = number-below (shape_of (slab c.args.self.now)) c.args.t c.requires in let e = same c in
+returns-clause-inside c = let n = number_below (shape_of (slab c.args.self.now)) c.args.t c.requires in let e = same c in
     let w = c.args.self.now.sized in omega arith
 
 pub returns-clause-few : goal.returns-clause-few
 returns-clause-few c =
-    let n = number-below (shape_of (slab c.args.self.now)) c.args.t c.requires in
+    let n = number_below (shape_of (slab c.args.self.now)) c.args.t c.requires in
     let few =
     few-tiles (shape_of (slab c.args.self.now)) (is-shape c.args.self.now c.shape.result c.shape.ensures.is c.shape.ensures.sizes) in
     let e = same c in omega arith
