@@ -7,3 +7,4 @@ pub mod Worked
 pub mod Promised
 pub mod JobEnds
 pub mod JobPromised
+pub mod AllPromised

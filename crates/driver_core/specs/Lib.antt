@@ -7,3 +7,4 @@ pub mod Showing
 pub mod Run
 pub mod Jobs
 pub mod JobPromises
+pub mod AllPromises

@@ -1,5 +1,6 @@
 //! The commands that show what a print job holds.
 ghost use Rattle.driver_core.specs.Jobs.{list_answer as list_answer_of, play_answer as play_answer_of};
+ghost use Rattle.driver_core.specs.Outside.{outside_of};
 ghost use Rattle.driver_core.specs.Run.{Did, answer_of};
 ghost use Rattle.job_lister.specs.Outcome.{ListOutcome};
 ghost use Rattle.job_lister.specs.declared.lister.ListStop.{ListStop as TheListStop};
@@ -47,18 +48,8 @@ pub fn list<S: Source, K: Sink>(
 ) -> Result<(), Answer>
     requires { most < 2 ^ 63 }
     ensures { Did TheListStop (ListOutcome most
-        (record {
-          before = S.left input.old;
-          now = S.left input.new;
-          faults_before = S.faults input.old;
-          faults_now = S.faults input.new;
-        })
-        (record {
-          before = K.held out.old;
-          now = K.held out.new;
-          faults_before = K.faults out.old;
-          faults_now = K.faults out.new;
-        }))
+        (outside_of S.left S.faults input.old input.new)
+        (outside_of K.held K.faults out.old out.new))
         list_answer_of (answer_of (λ a. a) result) }
 {
     match list_job(alloc, most, input, out) {
@@ -78,18 +69,8 @@ pub fn play<S: Source, K: Sink>(
     requires checked { IsOk (check profile.now) }
     requires most { most < 2 ^ 63 }
     ensures { Did ThePlayStop (PlayOutcome (printer_of profile.now) most
-        (record {
-          before = S.left input.old;
-          now = S.left input.new;
-          faults_before = S.faults input.old;
-          faults_now = S.faults input.new;
-        })
-        (record {
-          before = K.held out.old;
-          now = K.held out.new;
-          faults_before = K.faults out.old;
-          faults_now = K.faults out.new;
-        }))
+        (outside_of S.left S.faults input.old input.new)
+        (outside_of K.held K.faults out.old out.new))
         play_answer_of (answer_of (λ a. a) result) }
 {
     match play_job(alloc, profile, most, input, out) {

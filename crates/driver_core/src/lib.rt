@@ -1,7 +1,7 @@
 //! The whole run of the driver: words and bytes in, bytes, a status and an error line out.
 //!
-//! `run` promises a record, `Promises` (and `JobPromises` for the commands `list` and `dots`), whose fields the
-//! README lists. The first, `answered`, says that there is an answer: its status is returned, its cause holds for
+//! `run` promises `AllPromises`: the record `Promises`, and `JobPromises` for the commands `list` and `dots`. The README
+//! lists their fields. The first, `answered`, says that there is an answer: its status is returned, its cause holds for
 //! what was read and written (`Outcome`), and the error sink got its line (`Told`). The shelf is unchanged where the
 //! profile is built in (`unasked`) and where a word is refused (`refused_unasked`).
 //!

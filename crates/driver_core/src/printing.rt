@@ -1,9 +1,10 @@
 //! The command that prints the pages of a stream.
 ghost use Rattle.diffusion_kernel.specs.Tables.{table_of};
+ghost use Rattle.driver_core.specs.Outside.{meters_of, outside_of};
 ghost use Rattle.driver_core.specs.Printing.{PrintOutcome};
 ghost use Rattle.printer_profile.specs.Profiles.{printer_of};
 ghost use Rattle.printer_profile.specs.Validity.{check};
-ghost use Rattle.std.specs.Prelude.{IsOk, map, ◌≡◌, ◌≤◌};
+ghost use Rattle.std.specs.Prelude.{IsOk, ◌≡◌, ◌≤◌};
 
 use crate::charging::charge;
 use crate::stops::PrintStop;
@@ -36,22 +37,9 @@ pub fn print_pages<R: Threads + Sync, S: Source, K: Sink, G: Gate + Sync>(
     requires some_workers { 1 ≤ workers }
     requires most_workers { workers ≤ 64 }
     ensures { PrintOutcome (printer_of profile.now) (table_of kernel)
-        (record {
-          before = S.left input.old;
-          now = S.left input.new;
-          faults_before = S.faults input.old;
-          faults_now = S.faults input.new;
-        })
-        (record {
-          before = K.held out.old;
-          now = K.held out.new;
-          faults_before = K.faults out.old;
-          faults_now = K.faults out.new;
-        })
-        (record {
-          before = map (λ meter. account meter) meters.old.items;
-          now = map (λ meter. account meter) meters.new.items;
-        }) result }
+        (outside_of S.left S.faults input.old input.new)
+        (outside_of K.held K.faults out.old out.new)
+        (meters_of (λ meter. account meter) meters.old.items meters.new.items) result }
 {
     prove!(profile.nozzles <= 255);
     let mut reader = PageReader::begin(alloc, input)?;

@@ -1,9 +1,10 @@
 //! A run.
-ghost use Rattle.driver_core.specs.JobPromises.{JobPromises};
-ghost use Rattle.driver_core.specs.Run.{Outcome, Promises, Told, answer_of};
+ghost use Rattle.driver_core.specs.AllPromises.{AllPromises};
+ghost use Rattle.driver_core.specs.Outside.{meters_of, outside_of, texts_of};
+ghost use Rattle.driver_core.specs.Run.{Outcome, Told, answer_of};
 ghost use Rattle.job_words.specs.Meaning.{job_meaning, profile_named};
 ghost use Rattle.printer_profile.specs.Profiles.{built_in};
-ghost use Rattle.std.specs.Prelude.{IsErr, IsSome, map, ◌≡◌};
+ghost use Rattle.std.specs.Prelude.{IsErr, IsSome, ◌≡◌};
 
 use crate::charging::set_caps;
 use crate::jobs::{list, play};
@@ -32,27 +33,10 @@ fn work<R: Threads + Sync, S: Source, K: Sink, F: Shelf, G: Gate + Sync>(
 ) -> Result<(), Answer>
     ensures outcome { Outcome words.now
         (record {
-          shelf = record {
-            told = F.files shelf.old;
-            faults_before = F.faults shelf.old;
-            faults_now = F.faults shelf.new;
-          };
-          input = record {
-            before = S.left input.old;
-            now = S.left input.new;
-            faults_before = S.faults input.old;
-            faults_now = S.faults input.new;
-          };
-          out = record {
-            before = K.held out.old;
-            now = K.held out.new;
-            faults_before = K.faults out.old;
-            faults_now = K.faults out.new;
-          };
-          meters = record {
-            before = map (λ meter. account meter) meters.old.items;
-            now = map (λ meter. account meter) meters.new.items;
-          };
+          shelf = texts_of F.files F.faults shelf.old shelf.new;
+          input = outside_of S.left S.faults input.old input.new;
+          out = outside_of K.held K.faults out.old out.new;
+          meters = meters_of (λ meter. account meter) meters.old.items meters.new.items;
         }) (answer_of (λ a. a) result) }
     ensures unasked { IsSome (built_in (profile_named words.now)) → (shelf.new ≡ shelf.old) }
     ensures refused_unasked { IsErr (job_meaning words.now) → (shelf.new ≡ shelf.old) }
@@ -94,12 +78,7 @@ fn answer_to(worked: Result<(), Answer>) -> Answer
 
 /// Writes an answer's error line to a sink, as much of it as the sink takes.
 pub fn tell<E: Sink>(answer: &Answer, err: &mut E)
-    ensures { Told (record {
-      before = E.held err.old;
-      now = E.held err.new;
-      faults_before = E.faults err.old;
-      faults_now = E.faults err.new;
-    }) answer.now }
+    ensures { Told (outside_of E.held E.faults err.old err.new) answer.now }
 {
     let mut line = ArrayString::new();
     answer.text(&mut line);
@@ -130,66 +109,14 @@ pub fn run<R: Threads + Sync, S: Source, K: Sink, E: Sink, F: Shelf, G: Gate + S
     gate: &G,
     meters: &mut Vec<Box<dyn Meter>>,
 ) -> u8
-    ensures promises { Promises words.now
+    ensures promises { AllPromises words.now
         (record {
-          shelf = record {
-            told = F.files shelf.old;
-            faults_before = F.faults shelf.old;
-            faults_now = F.faults shelf.new;
-          };
-          input = record {
-            before = S.left input.old;
-            now = S.left input.new;
-            faults_before = S.faults input.old;
-            faults_now = S.faults input.new;
-          };
-          out = record {
-            before = K.held out.old;
-            now = K.held out.new;
-            faults_before = K.faults out.old;
-            faults_now = K.faults out.new;
-          };
-          meters = record {
-            before = map (λ meter. account meter) meters.old.items;
-            now = map (λ meter. account meter) meters.new.items;
-          };
+          shelf = texts_of F.files F.faults shelf.old shelf.new;
+          input = outside_of S.left S.faults input.old input.new;
+          out = outside_of K.held K.faults out.old out.new;
+          meters = meters_of (λ meter. account meter) meters.old.items meters.new.items;
         })
-        (record {
-          before = E.held err.old;
-          now = E.held err.new;
-          faults_before = E.faults err.old;
-          faults_now = E.faults err.new;
-        }) result }
-    ensures job_promises { JobPromises words.now
-        (record {
-          shelf = record {
-            told = F.files shelf.old;
-            faults_before = F.faults shelf.old;
-            faults_now = F.faults shelf.new;
-          };
-          input = record {
-            before = S.left input.old;
-            now = S.left input.new;
-            faults_before = S.faults input.old;
-            faults_now = S.faults input.new;
-          };
-          out = record {
-            before = K.held out.old;
-            now = K.held out.new;
-            faults_before = K.faults out.old;
-            faults_now = K.faults out.new;
-          };
-          meters = record {
-            before = map (λ meter. account meter) meters.old.items;
-            now = map (λ meter. account meter) meters.new.items;
-          };
-        })
-        (record {
-          before = E.held err.old;
-          now = E.held err.new;
-          faults_before = E.faults err.old;
-          faults_now = E.faults err.new;
-        }) result }
+        (outside_of E.held E.faults err.old err.new) result }
     // The shelf is asked neither for a built-in profile, nor where a word is refused.
     ensures unasked { IsSome (built_in (profile_named words.now)) → (shelf.new ≡ shelf.old) }
     ensures refused_unasked { IsErr (job_meaning words.now) → (shelf.new ≡ shelf.old) }

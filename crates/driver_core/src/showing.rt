@@ -1,4 +1,5 @@
 //! The command that shows a profile.
+ghost use Rattle.driver_core.specs.Outside.{outside_of};
 ghost use Rattle.driver_core.specs.Showing.{ShowOutcome};
 ghost use Rattle.std.specs.Prelude.{◌≤◌};
 
@@ -10,12 +11,7 @@ use weave_base::{Sink, put_all};
 /// Writes the profile's text.
 pub fn show_profile<K: Sink>(alloc: Global, profile: &Profile, out: &mut K) -> Result<(), ShowStop>
     ensures outcome { ShowOutcome profile.now
-        (record {
-          before = K.held out.old;
-          now = K.held out.new;
-          faults_before = K.faults out.old;
-          faults_now = K.faults out.new;
-        }) result }
+        (outside_of K.held K.faults out.old out.new) result }
     ensures later { K.faults out.old ≤ K.faults out.new }
 {
     let mut text = Vec::new(alloc);

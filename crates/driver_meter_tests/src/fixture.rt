@@ -1,95 +1,42 @@
-//! Streams, and runs in memory that count on meters.
-ghost use Rattle.std.specs.Prelude.{length, ◌≤◌};
-
+//! Runs in memory that count black pages on meters.
 use driver_core::{OpenGate, run};
-use ink_meter::{InkCounts, Meter, can_settle, settle};
-use pwg_header::{Kind, PageForm, write_header};
+use driver_fixtures::{BLACK_BODY, Left, add_page, begin, no_files, plain, roomy, words};
+use ink_meter::{DotMeter, InkCounts, Meter, can_settle, settle};
+use pwg_header::Kind;
 use std::alloc::{AllocError, Global};
 use std::process::Abort;
+use std::test::Fail;
 use std::thread::Threads;
-use weave_base::{MemShelf, MemSink, MemSource, Memory, Words};
-
-/// The body of a black page: six lines of eight pixels.
-pub const BLACK: [u8; 3] = [5, 7, 0];
-
-/// The job of that page on the printer `tiny`, whose window is two of its lines: 16 dots.
-pub const TINY_JOB: [u8; 92] = [
-    0x1B, 0x40, 0x1B, 0x28, 0x47, 1, 0, 1, 0x1B, 0x28, 0x55, 1, 0, 5, 0x1B, 0x28, 0x69, 1, 0, 0,
-    0x1B, 0x55, 1, 0x1B, 0x28, 0x43, 2, 0, 0x0C, 0, 0x1B, 0x28, 0x63, 4, 0, 0, 0, 0x0C, 0, 0x1B,
-    0x28, 0x56, 2, 0, 0, 0, 0x1B, 0x72, 0, 0x0D, 0x1B, 0x2E, 1, 0x14, 0x0A, 3, 8, 0, 0, 0, 0, 0, 0,
-    0xFF, 0x1B, 0x28, 0x76, 2, 0, 6, 0, 0x1B, 0x72, 0, 0x0D, 0x1B, 0x2E, 1, 0x14, 0x0A, 3, 8, 0, 0,
-    0, 0, 0xFF, 0, 0, 0x0C, 0x1B, 0x40,
-];
-
-/// What a run left: its status, its output and its error line.
-#[derive(Drop)]
-pub struct Left {
-    pub status: u8,
-    pub out: MemSink,
-    pub err: MemSink,
-}
-
-/// The first bytes of a stream.
-pub fn begin(alloc: Global) -> Result<Vec<u8>, AllocError> {
-    b"RaS2".to_vec(alloc)
-}
-
-/// Appends a page for a printer of 360 dots an inch.
-pub fn add_page(
-    bytes: &mut Vec<u8>,
-    kind: Kind,
-    (width, height): (u32, u32),
-    body: &[u8],
-) -> Result<(), AllocError> {
-    let bytes_per_line = match kind {
-        Kind::Gray8 | Kind::Black8 => width,
-        Kind::Rgb8 => width.wrapping_mul(3),
-    };
-    let form = PageForm {
-        width,
-        height,
-        kind,
-        bytes_per_line,
-    };
-    let mut header = [0; 1796];
-    write_header(&form, 360, 360, &mut header);
-    bytes.extend_from_slice(&header)?;
-    bytes.extend_from_slice(body)
-}
+use weave_base::{MemShelf, MemSink, Memory};
 
 /// A stream of `count` black pages.
 pub fn black_pages(alloc: Global, count: u32) -> Result<Vec<u8>, AllocError> {
     let mut bytes = begin(alloc)?;
     for _ in 0..count {
-        add_page(&mut bytes, Kind::Gray8, (8, 6), &BLACK)?;
+        add_page(&mut bytes, Kind::Gray8, (8, 6), &BLACK_BODY)?;
     }
     Ok(bytes)
 }
 
-/// A sink that never fails.
-pub fn roomy(alloc: Global) -> Result<MemSink, Memory> {
-    MemSink::make(alloc, 4096, Vec::new(alloc), Vec::new(alloc))
+/// One meter that has counted nothing.
+pub fn one_meter(alloc: Global) -> Result<Vec<Box<dyn Meter>>, Fail> {
+    let mut meters: Vec<Box<dyn Meter>> = Vec::new(alloc);
+    meters.push(Box::new(alloc, DotMeter::make())?)?;
+    Ok(meters)
 }
 
-/// Runs these words, at most nine, over these bytes, with no file on the shelf.
-pub fn run_on<R: Threads + Sync>(
+/// Runs these words over these bytes.
+pub fn run_metered<R: Threads + Sync>(
     rt: &R,
     alloc: Global,
     texts: &[&str],
     bytes: Vec<u8>,
     mut out: MemSink,
+    mut shelf: MemShelf,
     meters: &mut Vec<Box<dyn Meter>>,
-) -> Result<Left, Memory>
-    requires { length texts.now ≤ 9 }
-{
-    let mut words = Words::make(alloc);
-    for text in texts {
-        if words.len() < 9 {
-            words.push(text)?;
-        }
-    }
-    let mut input = MemSource::make(bytes, Vec::new(alloc), Vec::new(alloc));
-    let mut shelf = MemShelf::make(Vec::new(alloc), Vec::new(alloc));
+) -> Result<Left, Memory> {
+    let words = words(alloc, texts)?;
+    let mut input = plain(alloc, bytes);
     let mut err = roomy(alloc)?;
     let status = run(
         rt, alloc, &words, &mut input, &mut out, &mut err, &mut shelf, &OpenGate, meters,
@@ -97,13 +44,19 @@ pub fn run_on<R: Threads + Sync>(
     Ok(Left { status, out, err })
 }
 
-impl Left {
-    /// Asserts what the run left.
-    pub fn is<R: Abort>(&self, rt: &R, status: u8, out: &[u8], line: &[u8]) {
-        assert_eq!(rt; self.err.bytes(), line);
-        assert_eq!(rt; self.status, status);
-        assert_eq!(rt; self.out.bytes(), out);
-    }
+/// Runs these words over these bytes, with no file on the shelf, and asserts the status, the output and the error line.
+pub fn runs_to<R: Abort + Threads + Sync>(
+    rt: &R,
+    alloc: Global,
+    texts: &[&str],
+    bytes: Vec<u8>,
+    out: MemSink,
+    meters: &mut Vec<Box<dyn Meter>>,
+    wanted: (u8, &[u8], &[u8]),
+) -> Result<(), Memory> {
+    let left = run_metered(rt, alloc, texts, bytes, out, no_files(alloc), meters)?;
+    assert_eq!(rt; left.all(), wanted);
+    Ok(())
 }
 
 /// Four counts.

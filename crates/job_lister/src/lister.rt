@@ -4,6 +4,7 @@ ghost use Rattle.job_lister.specs.declared.lister.ListStop.TheVariants as ListSt
 ghost use Rattle.escp2_definitions.specs.Commands.{in_table, rows_len};
 ghost use Rattle.gathered_bytes.specs.Gathering.{Writes, gathered as gathered_of};
 ghost use Rattle.job_listing.specs.Listing.{line_of};
+ghost use Rattle.outside_definitions.specs.Outside.{outside_of};
 ghost use Rattle.weave_base.specs.Causes.{HasCause};
 ghost use Rattle.weave_base.specs.Parts.{AppendsPart};
 ghost use Rattle.std.specs.Prelude.{OnErr, OnOk, length, true, ◌<◌, ◌≡◌, ◌≤◌, ◌^◌};
@@ -37,18 +38,8 @@ pub fn list_job<S: Source, K: Sink>(
 ) -> Result<(), ListStop>
     requires { most < 2 ^ 63 }
     ensures { ListOutcome most
-        (record {
-          before = S.left input.old;
-          now = S.left input.new;
-          faults_before = S.faults input.old;
-          faults_now = S.faults input.new;
-        })
-        (record {
-          before = K.held out.old;
-          now = K.held out.new;
-          faults_before = K.faults out.old;
-          faults_now = K.faults out.new;
-        }) result }
+        (outside_of S.left S.faults input.old input.new)
+        (outside_of K.held K.faults out.old out.new) result }
 {
     let mut feed = JobFeed::make(alloc, most)?;
     let mut gathered = Gathered::new();

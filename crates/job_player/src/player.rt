@@ -2,6 +2,7 @@
 ghost use Rattle.job_player.specs.Outcome.{PlayOutcome};
 ghost use Rattle.job_player.specs.Stops.{emu_stop};
 ghost use Rattle.job_player.specs.declared.player.PlayStop.TheVariants as PlayStop;
+ghost use Rattle.outside_definitions.specs.Outside.{outside_of};
 ghost use Rattle.printer_profile.specs.Profiles.{printer_of};
 ghost use Rattle.printer_profile.specs.Validity.{check};
 ghost use Rattle.std.specs.Prelude.{IsOk, ◌<◌, ◌≡◌, ◌≤◌, ◌^◌};
@@ -39,18 +40,8 @@ pub fn play_job<S: Source, K: Sink>(
     requires checked { IsOk (check profile.now) }
     requires most { most < 2 ^ 63 }
     ensures { PlayOutcome (printer_of profile.now) most
-        (record {
-          before = S.left input.old;
-          now = S.left input.new;
-          faults_before = S.faults input.old;
-          faults_now = S.faults input.new;
-        })
-        (record {
-          before = K.held out.old;
-          now = K.held out.new;
-          faults_before = K.faults out.old;
-          faults_now = K.faults out.new;
-        }) result }
+        (outside_of S.left S.faults input.old input.new)
+        (outside_of K.held K.faults out.old out.new) result }
 {
     let mut feed = JobFeed::make(alloc, most)?;
     let mut emulator = Emulator::make(alloc, profile);

@@ -1,0 +1,10 @@
+//! What tests of whole runs share: streams of pages, words, sources, sinks and shelves in memory, and runs over them.
+#![tactic(auto)]
+
+mod outsides;
+mod runs;
+mod streams;
+
+pub use outsides::{no_files, one_file, plain, roomy, sink, words};
+pub use runs::{Left, run_over, run_with};
+pub use streams::{BLACK_BODY, TINY_JOB, add_header, add_page, begin, prefix};

@@ -1,0 +1,46 @@
+//! Words, and what a run reads and writes, in memory.
+use std::alloc::Global;
+use weave_base::{MemShelf, MemSink, MemSource, Memory, ShelfFile, Words};
+
+/// The words of a command line, at most nine of them.
+pub fn words(alloc: Global, texts: &[&str]) -> Result<Words, Memory> {
+    let mut made = Words::make(alloc);
+    for text in texts {
+        if made.len() < 9 {
+            made.push(text)?;
+        }
+    }
+    Ok(made)
+}
+
+/// A source that gives as many bytes as it is asked for.
+pub fn plain(alloc: Global, bytes: Vec<u8>) -> MemSource {
+    MemSource::make(bytes, Vec::new(alloc), Vec::new(alloc))
+}
+
+/// A sink with room for so many bytes, which fails only when it is full.
+pub fn sink(alloc: Global, room: usize) -> Result<MemSink, Memory> {
+    MemSink::make(alloc, room, Vec::new(alloc), Vec::new(alloc))
+}
+
+/// A sink with room for all that a test prints.
+pub fn roomy(alloc: Global) -> Result<MemSink, Memory> {
+    sink(alloc, 70_000)
+}
+
+/// A shelf without a file.
+pub fn no_files(alloc: Global) -> MemShelf {
+    MemShelf::make(Vec::new(alloc), Vec::new(alloc))
+}
+
+/// A shelf of one file.
+pub fn one_file(alloc: Global, name: &str, text: &[u8]) -> Result<MemShelf, Memory> {
+    let mut files = Vec::new(alloc);
+    let (Ok(name), Ok(bytes)) = (String::from_str(alloc, name), text.to_vec(alloc)) else {
+        return Err(Memory);
+    };
+    match files.push(ShelfFile { name, bytes }) {
+        Ok(()) => Ok(MemShelf::make(files, Vec::new(alloc))),
+        Err(_) => Err(Memory),
+    }
+}

@@ -1,0 +1,70 @@
+//! Streams of pages, and the job of a black page.
+ghost use Rattle.std.specs.Prelude.{IfOk, take, ◌≡◌};
+ghost use Rattle.pwg_definitions.specs.Stream.{sync_word};
+
+use pwg_header::{Kind, PageForm, write_header};
+use std::alloc::{AllocError, Global};
+
+/// The body of a black page: six lines of eight grey pixels.
+pub const BLACK_BODY: [u8; 3] = [5, 7, 0];
+
+/// The job of that page on the printer `tiny`, three nozzles two rows apart. The window is two of its lines, which two
+/// passes fire with 16 dots.
+pub const TINY_JOB: [u8; 92] = [
+    0x1B, 0x40, 0x1B, 0x28, 0x47, 1, 0, 1, 0x1B, 0x28, 0x55, 1, 0, 5, 0x1B, 0x28, 0x69, 1, 0, 0,
+    0x1B, 0x55, 1, 0x1B, 0x28, 0x43, 2, 0, 0x0C, 0, 0x1B, 0x28, 0x63, 4, 0, 0, 0, 0x0C, 0, 0x1B,
+    0x28, 0x56, 2, 0, 0, 0, 0x1B, 0x72, 0, 0x0D, 0x1B, 0x2E, 1, 0x14, 0x0A, 3, 8, 0, 0, 0, 0, 0, 0,
+    0xFF, 0x1B, 0x28, 0x76, 2, 0, 6, 0, 0x1B, 0x72, 0, 0x0D, 0x1B, 0x2E, 1, 0x14, 0x0A, 3, 8, 0, 0,
+    0, 0, 0xFF, 0, 0, 0x0C, 0x1B, 0x40,
+];
+
+/// The first bytes of a stream, without a page (PWG 5102.4, section 4.1).
+pub fn begin(alloc: Global) -> Result<Vec<u8>, AllocError>
+    ensures { IfOk result (λ bytes. bytes.items ≡ sync_word) }
+{
+    b"RaS2".to_vec(alloc)
+}
+
+/// The first `count` bytes, or all where there are fewer.
+pub fn prefix(bytes: &[u8], count: usize) -> &[u8]
+    ensures { result.now ≡ take count bytes.now }
+{
+    if count < bytes.len() {
+        &bytes[..count]
+    } else {
+        bytes
+    }
+}
+
+/// Appends the header of a page for a printer of these dots an inch.
+pub fn add_header(
+    bytes: &mut Vec<u8>,
+    kind: Kind,
+    (hdpi, vdpi): (u32, u32),
+    (width, height): (u32, u32),
+) -> Result<(), AllocError> {
+    let bytes_per_line = match kind {
+        Kind::Gray8 | Kind::Black8 => width,
+        Kind::Rgb8 => width.wrapping_mul(3),
+    };
+    let form = PageForm {
+        width,
+        height,
+        kind,
+        bytes_per_line,
+    };
+    let mut header = [0; 1796];
+    write_header(&form, hdpi, vdpi, &mut header);
+    bytes.extend_from_slice(&header)
+}
+
+/// Appends a page for a printer of 360 dots an inch.
+pub fn add_page(
+    bytes: &mut Vec<u8>,
+    kind: Kind,
+    size: (u32, u32),
+    body: &[u8],
+) -> Result<(), AllocError> {
+    add_header(bytes, kind, (360, 360), size)?;
+    bytes.extend_from_slice(body)
+}
