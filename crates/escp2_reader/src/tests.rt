@@ -2,14 +2,14 @@
 ghost use Rattle.escp2_reader.specs.Reading.{fed_of, is_failed_of};
 ghost use Rattle.std.specs.Prelude.{false, length, ◌+◌, ◌<◌, ◌≡◌, ◌≤◌, ◌^◌};
 
-use crate::{Command, Cut, Heard, HeardState, JobCause, JobReader, RasterHead};
+use crate::{Command, Cut, Heard, HeardState, JobCause, JobReader, RasterHeader};
 use std::alloc::Global;
 use std::process::Abort;
 use std::test::Fail;
 use weave_base::Ink;
 
 const RASTER: Command = Command::Raster {
-    head: RasterHead {
+    header: RasterHeader {
         c: 1,
         v: 20,
         h: 10,

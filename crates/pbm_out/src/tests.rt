@@ -3,7 +3,7 @@ ghost use Rattle.dot_emulator.specs.Sheets.{IsBlankFrom};
 ghost use Rattle.std.specs.Prelude.{◌≡◌};
 
 use crate::write_plane;
-use dot_emulator::{Command, EmuStop, Emulator, RasterHead, Sheet};
+use dot_emulator::{Command, EmuStop, Emulator, RasterHeader, Sheet};
 use dot_planes::Planes;
 use escp2_commands::in_table;
 use printer_profile::{InkSet, Profile};
@@ -66,7 +66,7 @@ const TINY: Profile = Profile {
 };
 
 const RASTER: Command = Command::Raster {
-    head: RasterHead {
+    header: RasterHeader {
         c: 1,
         v: 20,
         h: 10,
@@ -103,8 +103,8 @@ fn run(
 ) -> Result<Option<Sheet>, EmuStop> {
     assert!(rt; in_table(&command));
     match command {
-        Command::Raster { head } => {
-            assert!(rt; head.m == 3 && head.n == 8);
+        Command::Raster { header } => {
+            assert!(rt; header.m == 3 && header.n == 8);
             emulator.run(&command, rows)
         }
         _ => emulator.run(&command, &[]),

@@ -7,18 +7,18 @@ use Rattle.escp2_writer.proofs.writing.put_coded.Goals as goal
 
 pub rows-init : goal.rows-init
 rows-init g c = record {
-  so_far = puts_begin _ _ _ _ c.args.head.m _ _ c.begin-piece.ensures c.requires.rows_fit (omega arith);
+  so_far = puts_begin _ _ _ _ c.args.header.m _ _ c.begin-piece.ensures c.requires.rows_fit (omega arith);
   later = omega arith;
 }
 
 pub split_at-requires : goal.split_at-requires
 split_at-requires g c =
-    let left : c.args.head.m - c.rows.counter ≡ suc (c.args.head.m - (c.rows.counter + 1)) = omega arith in
+    let left : c.args.header.m - c.rows.counter ≡ suc (c.args.header.m - (c.rows.counter + 1)) = omega arith in
     omega (arith, c.row_bytes-width.ensures.is, row_left _ _ _ _ c.rows.invariant.so_far.left left)
 
 pub rows-preserved : goal.rows-preserved
 rows-preserved g c =
-    let left : c.args.head.m - c.rows.counter ≡ suc (c.args.head.m - (c.rows.counter + 1)) = omega arith in
+    let left : c.args.header.m - c.rows.counter ≡ suc (c.args.header.m - (c.rows.counter + 1)) = omega arith in
     record {
       so_far = puts_step _ _ _ _ _ _ _ _ _ _ _ _ c.rows.invariant.so_far left c.in_ok-make_room.ensures.ok
           (c.push_row.ensures ∙ ap (λ bs. gathered c.make_room.new.self ++ canonical_row bs) (c.split_at.ensures.front

@@ -6,8 +6,8 @@ use Rattle.escp2_writer.proofs.writing.put_coded.Given as goal
 
 abbrev pub invariant-rows : goal.invariant-rows
 invariant-rows g l = record {
-  so_far : PutsSoFar (g.K.Sink.held l.fn.k) (g.K.Sink.held l.k) (l.fn.front ++ codes l.fn.head.m (row_bytes l.fn.head) l.fn.rows)
+  so_far : PutsSoFar (g.K.Sink.held l.fn.k) (g.K.Sink.held l.k) (l.fn.front ++ codes l.fn.header.m (row_bytes l.fn.header) l.fn.rows)
       (gathered l.piece) l.rest
-      (l.fn.head.m - l.counter) (row_bytes l.fn.head);
+      (l.fn.header.m - l.counter) (row_bytes l.fn.header);
   later : g.K.Sink.faults l.fn.k ≤ g.K.Sink.faults l.k;
 }
