@@ -9,7 +9,6 @@
 
 mod appending;
 mod headers;
-mod piece;
 mod writing;
 
 pub use appending::{append, append_header, append_row};

@@ -9,9 +9,13 @@ ghost use Rattle.weave_base.specs.Causes.{HasCause};
 ghost use Rattle.weave_base.specs.Parts.{AppendsPart};
 
 use crate::headers::{header_bytes, row_bytes};
-use crate::piece::Piece;
 use crate::{Command, RasterHeader};
+use escp2_rows::code_row;
+use gathered_bytes::Gathered;
 use weave_base::{Failed, Sink, put_all};
+
+// The most bytes of a row's code: twice the widest row.
+const MOST_CODE: usize = 2048;
 
 // Writes bytes, and then the codes of a raster's rows, one by one.
 fn put_coded<K: Sink>(
@@ -20,7 +24,7 @@ fn put_coded<K: Sink>(
     rows: &[u8],
     k: &mut K,
 ) -> Result<(), Failed>
-    requires front { length front.now ≤ 4096 }
+    requires front { length front.now ≤ 8192 }
     requires narrow { row_bytes_of header ≤ 1024 }
     requires rows_fit { length rows.now ≡ header.m * row_bytes_of header }
     ensures ok { OnOk result (Appends (K.held k.old) (K.held k.new)
@@ -30,15 +34,17 @@ fn put_coded<K: Sink>(
     ensures cause { HasCause (K.faults k.old) (K.faults k.new) result }
 {
     let width = row_bytes(header);
-    let mut piece = Piece::begin(front);
+    let mut bytes = Gathered::new();
+    bytes.push(front);
+    let mut code = [0; MOST_CODE];
     let mut rest = rows;
     'rows: for _ in 0..header.m {
         let (row, behind) = rest.split_at(width);
-        piece.make_room(2 * width, k)?;
-        piece.push_row(row);
+        let len = code_row(row, &mut code);
+        bytes.write(&code[..len], k)?;
         rest = behind;
     }
-    piece.put(k)
+    bytes.put(k)
 }
 
 /// Writes the command and then its rows: a raster's rows plain where its `c` is 0 and else coded, the top one first

@@ -25,8 +25,7 @@ pub fn write_plane<K: Sink>(s: &Sheet, ink: u8, k: &mut K) -> Result<(), Failed>
     let mut bytes = header(s.columns, s.rows);
     let len = (s.columns as usize + 7) / 8;
     'rows: for y in 0..s.rows {
-        bytes.make_room(len, k)?;
-        bytes.push(&s.planes.row(ink, y)[..len]);
+        bytes.write(&s.planes.row(ink, y)[..len], k)?;
     }
     bytes.put(k)
 }

@@ -1,5 +1,4 @@
-use Rattle.std.proofs.Common.{◌≡◌, ◌-◌, ◌+◌, ◌++◌, suc, arith, take, drop, ap, ◌∙◌}
-use Rattle.escp2_definitions.specs.Canonical.{canonical_row}
+use Rattle.std.proofs.Common.{◌≡◌, ◌-◌, ◌+◌, suc, arith, take, drop, ap, ◌∙◌}
 use Rattle.escp2_writer.proofs.Coding.{appends_begin, appends_end, appends_step, row_left}
 use Rattle.escp2_writer.proofs.appending.append_rows.Goals as goal
 
@@ -18,10 +17,8 @@ pub rows-preserved : goal.rows-preserved
 rows-preserved c =
     let left : c.args.header.m - c.rows.counter ≡ suc (c.args.header.m - (c.rows.counter + 1)) = omega arith in
     record {
-      so_far = appends_step _ _ _ _ _ _ _ _ c.rows.invariant.so_far left
-          (c.append_row.ensures.items
-          ∙ ap (λ bs. c.rows.out.items ++ canonical_row bs) (c.split_at.ensures.front
-          ∙ ap (λ n. take n c.rows.rest.now) c.row_bytes-width.ensures.is))
+      so_far = appends_step _ _ _ _ _ _ _ _ _ c.rows.invariant.so_far left c.append_row.ensures.items
+          (c.split_at.ensures.front ∙ ap (λ n. take n c.rows.rest.now) c.row_bytes-width.ensures.is)
           (c.split_at.ensures.back ∙ ap (λ n. drop n c.rows.rest.now) c.row_bytes-width.ensures.is);
       room = omega (
         arith,
