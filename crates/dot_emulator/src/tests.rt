@@ -5,37 +5,12 @@ ghost use Rattle.std.specs.Prelude.{◌≡◌};
 
 use crate::{Command, EmuFault, EmuStop, Emulator, RasterHeader, Sheet};
 use escp2_commands::in_table;
-use printer_profile::{InkSet, Profile};
+use known_jobs::TINY_COMMANDS;
+use printer_profile::TINY;
 use std::alloc::Global;
 use std::process::Abort;
 use std::test::Fail;
 use weave_base::Ink;
-
-/// A head of three nozzles two rows apart, under a margin of four rows.
-const TINY: Profile = Profile {
-    hdpi: 360,
-    vdpi: 360,
-    nozzles: 3,
-    pitch: 2,
-    inks: InkSet::K,
-    black_start: 0,
-    limits: [255, 255, 255, 255],
-    left: 0,
-    right: 0,
-    top: 4,
-    bottom: 0,
-};
-
-/// The commands before a page of six rows of dots, without margins.
-const PROLOGUE: [Command; 7] = [
-    Command::Init,
-    Command::Graphics,
-    Command::Unit { m: 5 },
-    Command::MicroWeave { n: 0 },
-    Command::OneWay { n: 1 },
-    Command::Length { n: 12 },
-    Command::Margins { top: 0, bottom: 12 },
-];
 
 const HEADER: RasterHeader = RasterHeader {
     c: 0,
@@ -89,11 +64,16 @@ fn at_start(rt: &impl Abort, alloc: Global) -> Emulator {
     Emulator::make(alloc, &TINY)
 }
 
+/// Runs the commands before a page of six rows of dots, without margins.
+fn begin_page(rt: &impl Abort, emulator: &mut Emulator) {
+    for i in 0..7 {
+        assert_eq!(rt; stop(rt, emulator, TINY_COMMANDS[i]), None);
+    }
+}
+
 fn on_page(rt: &impl Abort, alloc: Global) -> Emulator {
     let mut emulator = at_start(rt, alloc);
-    for command in PROLOGUE {
-        assert_eq!(rt; stop(rt, &mut emulator, command), None);
-    }
+    begin_page(rt, &mut emulator);
     emulator
 }
 
@@ -159,9 +139,7 @@ fn dots_begin_at_across_and_blank_rasters_widen_the_sheet(rt: HostRuntime) -> Re
 fn init_and_eject_set_the_columns_back(rt: HostRuntime) -> Result<(), Fail> {
     let mut emulator = on_page(&rt, rt.alloc());
     assert_eq!(rt; fire(&rt, &mut emulator, HEADER, &[0, 0, 0]), None);
-    for command in PROLOGUE {
-        assert_eq!(rt; stop(&rt, &mut emulator, command), None);
-    }
+    begin_page(&rt, &mut emulator);
     assert_eq!(rt; ejected(&rt, &mut emulator)?.columns, 1);
     assert_eq!(rt; fire(&rt, &mut emulator, HEADER, &[0, 0, 0]), None);
     assert_eq!(rt; ejected(&rt, &mut emulator)?.columns, 8);

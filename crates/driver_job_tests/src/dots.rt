@@ -1,5 +1,6 @@
 //! The command `dots`.
-use crate::fixture::{JOB, run_on, sink};
+use crate::fixture::{run_on, sink};
+use known_jobs::TINY_JOB;
 use std::test::Fail;
 
 /// The images of the job's sheet: black, and three without a dot.
@@ -17,7 +18,7 @@ fn dots_gives_four_images_of_a_sheet(rt: HostRuntime) -> Result<(), Fail> {
             &rt,
             alloc,
             &["dots", "profile=tiny"],
-            &JOB,
+            &TINY_JOB,
             (piece, 0),
             sink(alloc, 4096)?,
         )?;
@@ -30,9 +31,9 @@ fn dots_gives_four_images_of_a_sheet(rt: HostRuntime) -> Result<(), Fail> {
 fn a_raster_fired_twice_is_overprint(rt: HostRuntime) -> Result<(), Fail> {
     let alloc = rt.alloc();
     let mut job = Vec::new(alloc);
-    job.extend_from_slice(&JOB[..64])?;
+    job.extend_from_slice(&TINY_JOB[..64])?;
     job.push(0x0D)?;
-    job.extend_from_slice(&JOB[50..64])?;
+    job.extend_from_slice(&TINY_JOB[50..64])?;
     let left = run_on(
         &rt,
         alloc,
@@ -52,7 +53,7 @@ fn another_profile_is_density(rt: HostRuntime) -> Result<(), Fail> {
         &rt,
         alloc,
         &["dots", "profile=tiny1"],
-        &JOB,
+        &TINY_JOB,
         (92, 0),
         sink(alloc, 4096)?,
     )?;
@@ -64,8 +65,8 @@ fn another_profile_is_density(rt: HostRuntime) -> Result<(), Fail> {
 fn sheets_before_a_stop_are_written(rt: HostRuntime) -> Result<(), Fail> {
     let alloc = rt.alloc();
     let mut job = Vec::new(alloc);
-    job.extend_from_slice(&JOB)?;
-    job.extend_from_slice(&JOB[..60])?;
+    job.extend_from_slice(&TINY_JOB)?;
+    job.extend_from_slice(&TINY_JOB[..60])?;
     let cut = run_on(
         &rt,
         alloc,
@@ -88,7 +89,7 @@ fn sheets_before_a_stop_are_written(rt: HostRuntime) -> Result<(), Fail> {
         &rt,
         alloc,
         &["dots", "profile=tiny", "most=91"],
-        &JOB,
+        &TINY_JOB,
         (50, 0),
         sink(alloc, 4096)?,
     )?;
@@ -100,8 +101,8 @@ fn sheets_before_a_stop_are_written(rt: HostRuntime) -> Result<(), Fail> {
 fn a_full_sink_names_the_sheet(rt: HostRuntime) -> Result<(), Fail> {
     let alloc = rt.alloc();
     let mut job = Vec::new(alloc);
-    job.extend_from_slice(&JOB)?;
-    job.extend_from_slice(&JOB)?;
+    job.extend_from_slice(&TINY_JOB)?;
+    job.extend_from_slice(&TINY_JOB)?;
     let left = run_on(
         &rt,
         alloc,
@@ -123,7 +124,7 @@ fn a_job_without_a_sheet_gives_nothing(rt: HostRuntime) -> Result<(), Fail> {
         &rt,
         alloc,
         &["dots", "profile=tiny"],
-        &JOB[..50],
+        &TINY_JOB[..50],
         (92, 0),
         sink(alloc, 64)?,
     )?;

@@ -1,6 +1,7 @@
 //! One meter, and the cap that a word sets on it.
-use crate::fixture::{TINY_JOB, add_page, begin, black_pages, counts, roomy, run_on, settled};
+use crate::fixture::{add_page, begin, black_pages, counts, roomy, run_on, settled};
 use ink_meter::{DotMeter, Meter};
+use known_jobs::TINY_JOB;
 use pwg_header::Kind;
 use std::test::Fail;
 use weave_base::MemSink;

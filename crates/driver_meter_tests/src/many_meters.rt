@@ -1,7 +1,8 @@
 //! Several meters, and none.
 use crate::card::Card;
-use crate::fixture::{TINY_JOB, black_pages, counts, roomy, run_on, settled};
+use crate::fixture::{black_pages, counts, roomy, run_on, settled};
 use ink_meter::{DotMeter, Meter};
+use known_jobs::TINY_JOB;
 use std::test::Fail;
 
 #[test]
