@@ -123,15 +123,9 @@ impl State {
             ≡ after p (machine_of self.now dots) (c.Raster raster.header) rows }
     {
         let end = raster.x + u32::from(raster.header.n);
-        State {
-            graphics: self.graphics,
-            unit: self.unit,
-            page: self.page,
-            margins: self.margins,
-            colour: self.colour,
-            down: self.down,
-            across: self.across + u32::from(raster.header.n) * u32::from(raster.header.h),
-            columns: self.columns.max(end),
-        }
+        let mut next = *self;
+        next.across = self.across + u32::from(raster.header.n) * u32::from(raster.header.h);
+        next.columns = self.columns.max(end);
+        next
     }
 }
