@@ -1,7 +1,7 @@
 -- The bytes of an image (PBM of kind P4, of the Netpbm formats): `P4`, the columns and the rows in decimal, and the
 -- rows from the top. A row begins with a byte of its own, its first pixel is the byte's highest bit, 1 is black, and
 -- spare bits are 0.
-use Rattle.std.specs.Prelude.{ℕ, List, [], ◌∷◌, ◌++◌, codes, decimal, map}
+use Rattle.std.specs.Prelude.{ℕ, List, ◌++◌, codes, decimal, map}
 use Rattle.std.specs.List.{flat_map}
 use Rattle.escp2_definitions.specs.Packed.{packed}
 use Rattle.weave_definitions.specs.Weave.{count_from}
