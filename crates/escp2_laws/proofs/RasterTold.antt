@@ -10,18 +10,11 @@ use Rattle.escp2_definitions.specs.RowCode.RowsRead.{RowsAre, RowsPart, RowsWron
 use Rattle.escp2_definitions.specs.Commands.{Heard, IsRowsText, command_bytes, in_table, is_some, is_switch, is_width, number, raster_at}
 use Rattle.escp2_definitions.specs.Commands.{raster_rows, row_bytes, wide_number, with_rows}
 use Rattle.escp2_laws.proofs.Grammar.{AreBytes, ReadRows, rows-parsed}
+use Rattle.escp2_laws.proofs.Rows.{places-same, rows-same}
 use Rattle.escp2_laws.proofs.RowsTold.{RowsTold, plain-told, rows-told}
 use Rattle.escp2_laws.proofs.Told.{Told, told-number, told-wide}
 
 -- ---- rows of a raster
-
--- equal answers have equal rows
-rows-same : (rs ss : List ℕ) (j k : ℕ) → RowsAre rs j ≡ RowsAre ss k → rs ≡ ss
-rows-same rs ss j k e = cc
-
--- and equal places
-places-same : (rs ss : List ℕ) (j k : ℕ) → RowsAre rs j ≡ RowsAre ss k → j ≡ k
-places-same rs ss j k e = cc
 
 -- What the rows of a raster are, read from bytes that are all theirs.
 record AreRows (header : RasterHeader) (rows text : List ℕ) : Type 0 where

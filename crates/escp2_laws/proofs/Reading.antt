@@ -1,6 +1,6 @@
 -- What is spelled is read.
 use Rattle.std.proofs.Common.{◌≡◌, ℕ, ◌+◌, ◌*◌, ◌/◌, ◌%◌, Bool, true, false, List, [], ◌∷◌, ◌++◌, length, refl, sym, ◌∙◌, ap, arith, subst}
-use Rattle.std.proofs.Common.{◌&&◌, if◌then◌else◌, ◌==◌, length-append, append-nil}
+use Rattle.std.proofs.Common.{◌&&◌, if◌then◌else◌, ◌==◌, append-nil}
 use Rattle.std.specs.Prelude.{MatchBool}
 use Rattle.printer_definitions.specs.declared.inks.Ink.TheVariants.{Black, Cyan, Magenta, Yellow}
 use Rattle.escp2_definitions.specs.declared.stops.JobCause.TheVariants.{BadValue}
@@ -12,6 +12,7 @@ use Rattle.escp2_definitions.specs.Commands.{Heard, Spells, command_at, command_
 use Rattle.escp2_definitions.specs.Commands.{is_some, is_switch, is_width, number, raster_at, raster_rows, row_bytes, two_bytes, whole}
 use Rattle.escp2_definitions.specs.Commands.{wide_number, with_rows}
 use Rattle.escp2_definitions.specs.Commands.Heard.{One, Wrong}
+use Rattle.escp2_laws.proofs.Prefixes.{nothing_left}
 use Rattle.escp2_laws.proofs.Rows.{plain-reads, rows-read}
 
 -- rows of no byte
@@ -43,7 +44,7 @@ and-left true b e = refl
 and-left false b e = e
 
 -- the second of two tests that hold
-and-right : (a b : Bool) → a && b ≡ true → b ≡ true
+pub and-right : (a b : Bool) → a && b ≡ true → b ≡ true
 and-right true b e = e
 and-right false true e = refl
 and-right false false e = e
@@ -155,10 +156,6 @@ command_at-spelled command rows bytes rest s =
     ap (λ bs. command_at (bs ++ rest)) s.spelled
     ∙ by_command command rows text rest same refl
     ∙ ap (λ bs. One command rows (length bs)) (sym s.spelled)
-
--- where no bytes are left, the rest is empty
-nothing_left : (bytes more : List ℕ) → length bytes ≡ length (bytes ++ more) → more ≡ []
-nothing_left bytes more e = no_rows more (omega (arith, length-append bytes more))
 
 -- no spelling is a proper prefix of another
 pub alone : (one other : Command) (rows other_rows bytes more : List ℕ) → Spells one rows bytes → Spells other other_rows (bytes ++ more)

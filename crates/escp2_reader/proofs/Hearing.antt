@@ -1,5 +1,5 @@
 -- What is read of the bytes since the last command, as a reader gathers them.
-use Rattle.std.proofs.Common.{◌≡◌, ℕ, zero, suc, ◌+◌, ◌-◌, ◌<◌, ◌≤◌, Bool, true, false, List, [], ◌∷◌, ◌++◌, length, take, drop, get_or}
+use Rattle.std.proofs.Common.{◌≡◌, ℕ, zero, suc, ◌+◌, ◌-◌, ◌<◌, ◌≤◌, true, false, List, [], ◌∷◌, ◌++◌, length, take, drop, get_or}
 use Rattle.std.proofs.Common.{refl, sym, ◌∙◌, ap, subst, arith, append_assoc, append-nil, length-append}
 use Rattle.std.proofs.lemmas.List.{length-take-le, take-append-drop, take_all, take_at, take-append-le, drop_at, take_more}
 use Rattle.std.proofs.Math.Seq.{take-add}
@@ -9,17 +9,16 @@ use Rattle.escp2_definitions.specs.declared.stops.JobCause.{JobCause}
 use Rattle.escp2_definitions.specs.Commands.{Heard, Spells, command_at, raster_rows}
 use Rattle.escp2_definitions.specs.Commands.Heard.{One, Part, Wrong}
 use Rattle.escp2_laws.proofs.Grammar.{AreBytes}
-use Rattle.escp2_laws.proofs.Heard.{command-told}
-use Rattle.escp2_laws.proofs.Stands.{fault-stands, heard-spelled}
-use Rattle.escp2_laws.proofs.Told.{TellsOne, TellsWrong, Told}
+use Rattle.escp2_laws.proofs.Stands.{heard-spelled, one-stands_behind, one-told, wrong-stands_behind}
+use Rattle.escp2_laws.proofs.Told.{TellsOne}
 use Rattle.escp2_reader.specs.declared.reader.HeardState.{HeardState}
 use Rattle.escp2_reader.specs.declared.reader.HeardState.TheVariants as heard
 use Rattle.escp2_reader.specs.declared.reader.JobReader.{JobReader}
 use Rattle.escp2_reader.specs.declared.reader.Stage.{Stage}
-use Rattle.escp2_reader.specs.declared.reader.Stage.TheVariants.{Header, Rows, Failed}
+use Rattle.escp2_reader.specs.declared.reader.Stage.TheVariants.{Failed}
 use Rattle.escp2_reader.specs.Headers.{IsRaster, IsShort}
-use Rattle.escp2_reader.specs.Stages.{AtStage, AfterFault, Stands, is_failed_at, is_part, rows_at}
-use Rattle.escp2_reader.specs.Reading.{BeginsRows, HeardFault, HeardOne, IsHeard, OnFault, ShowsLast, StandsFor, rows_of}
+use Rattle.escp2_reader.specs.Stages.{AtStage, Stands, is_failed_at, is_part, rows_at}
+use Rattle.escp2_reader.specs.Reading.{BeginsRows, IsHeard, OnFault, ShowsLast, StandsFor, rows_of}
 
 -- ---- bytes
 
@@ -43,23 +42,6 @@ part-of (Wrong place cause) e = let no : false ≡ true = e in cc
 
 pub is-part : (bytes : List ℕ) → is_part (command_at bytes) ≡ true → command_at bytes ≡ Part
 is-part bytes e = part-of (command_at bytes) e
-
--- a fault is read, whatever follows
-pub wrong-stands : (bytes rest : List ℕ) (at : ℕ) (cause : JobCause) → command_at bytes ≡ Wrong at cause
-    → command_at (bytes ++ rest) ≡ Wrong at cause
-wrong-stands bytes rest at cause e =
-    let t : TellsWrong command_at [] bytes at cause = let P : Heard → Type 0 = Told command_at [] bytes in subst P e (command-told bytes) in
-    ap (λ bs. command_at (bs ++ rest)) t.is ∙ ap command_at (append_assoc t.front t.rest rest) ∙ t.told (t.rest ++ rest)
-
-one-told : (bytes : List ℕ) (command : Command) (rows : List ℕ) (len : ℕ) → command_at bytes ≡ One command rows len
-    → TellsOne command_at [] bytes command rows len
-one-told bytes command rows len e = let P : Heard → Type 0 = Told command_at [] bytes in subst P e (command-told bytes)
-
-one-stands : (bytes rest : List ℕ) (command : Command) (rows : List ℕ) (len : ℕ) → command_at bytes ≡ One command rows len
-    → command_at (bytes ++ rest) ≡ One command rows len
-one-stands bytes rest command rows len e =
-    let t : TellsOne command_at [] bytes command rows len = one-told bytes command rows len e in
-    ap (λ bs. command_at (bs ++ rest)) t.is ∙ ap command_at (append_assoc t.front t.rest rest) ∙ t.told (t.rest ++ rest)
 
 -- a command that is not whole without its last byte ends with it
 one-len : (bytes : List ℕ) (last : ℕ) (command : Command) (rows : List ℕ) (len : ℕ) → command_at bytes ≡ Part
@@ -104,7 +86,7 @@ pub whole-more : (now header more rest : List ℕ) (last : ℕ) (command : Comma
     → command_at more ≡ One command [] len → command_at (now ++ rest) ≡ One command [] (length now)
 whole-more now header more rest last command len is pushed part e =
     ap (λ bs. command_at (bs ++ rest)) is
-    ∙ one-stands more rest command [] len e
+    ∙ one-stands_behind more rest command [] len e
     ∙ ap (One command []) (one-len header last command [] len part (ap command_at (sym pushed) ∙ e) ∙ ap length (sym pushed)
     ∙ ap length (sym is))
 
@@ -255,4 +237,4 @@ feed-last (heard.Fault offset cause) stage header begin next used rows piece is 
 pub wrong-more : (now more rest : List ℕ) (place at : ℕ) (cause : JobCause) → now ≡ more → command_at more ≡ Wrong place cause → place ≡ at
     → command_at (now ++ rest) ≡ Wrong at cause
 wrong-more now more rest place at cause is e there =
-    ap (λ bs. command_at (bs ++ rest)) is ∙ wrong-stands more rest place cause e ∙ ap (λ k. Wrong k cause) there
+    ap (λ bs. command_at (bs ++ rest)) is ∙ wrong-stands_behind more rest place cause e ∙ ap (λ k. Wrong k cause) there

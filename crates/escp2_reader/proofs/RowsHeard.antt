@@ -1,5 +1,5 @@
 -- What is read within the rows of a raster.
-use Rattle.std.proofs.Common.{◌≡◌, ℕ, ◌+◌, ◌-◌, ◌<◌, ◌≤◌, List, [], ◌∷◌, ◌++◌, length, take, drop, refl, sym, ◌∙◌, ap, subst, arith}
+use Rattle.std.proofs.Common.{◌≡◌, ℕ, ◌+◌, ◌-◌, ◌≤◌, List, [], ◌++◌, length, take, drop, refl, sym, ◌∙◌, ap, subst, arith}
 use Rattle.std.proofs.Common.{append_assoc, append-nil, length-append}
 use Rattle.std.proofs.lemmas.List.{drop_at, length-take-le, take-take, take_all}
 use Rattle.std.proofs.Math.Seq.{take-append-add}
@@ -7,9 +7,9 @@ use Rattle.escp2_definitions.specs.declared.command.RasterHeader.{RasterHeader}
 use Rattle.escp2_definitions.specs.declared.command.Command.TheVariants as c
 use Rattle.escp2_definitions.specs.declared.stops.JobCause.TheVariants.{RunCode}
 use Rattle.escp2_definitions.specs.Commands.{command_at, raster_rows, with_rows}
-use Rattle.escp2_definitions.specs.Commands.Heard.{One, Part, Wrong}
+use Rattle.escp2_definitions.specs.Commands.Heard.{One, Wrong}
 use Rattle.escp2_laws.proofs.Grammar.{AreBytes}
-use Rattle.escp2_laws.proofs.Stands.{FaultStands, fault-stands}
+use Rattle.escp2_laws.proofs.Stands.{fault-stands}
 use Rattle.escp2_rows.specs.declared.reader.RowReader.{RowReader}
 use Rattle.escp2_definitions.specs.RowCode.{RowsRead}
 use Rattle.escp2_rows.specs.Places.{rows_read}

@@ -1,6 +1,5 @@
 -- What the gathered bytes of a command are.
 use Rattle.std.specs.Prelude.{◌≡◌, ℕ, ◌+◌, ◌-◌, ◌≤◌, List, [], ◌∷◌, ◌++◌, length, drop, slice_index}
-use Rattle.escp2_definitions.specs.declared.command.Command.{Command}
 use Rattle.escp2_definitions.specs.declared.command.RasterHeader.{RasterHeader}
 use Rattle.escp2_definitions.specs.declared.stops.JobCause.TheVariants.{BadLength}
 use Rattle.escp2_definitions.specs.Commands.{Heard, command_bytes, last_column, raster_rows, sized}

@@ -1,4 +1,6 @@
 //! A reader of the commands of a print job.
+#![tactic(auto, unfolding(escp2_definitions::specs::Commands::command_at))]
+
 ghost use Rattle.arrayvec.specs.ArrayVec.{array_vec_len};
 ghost use Rattle.escp2_definitions.specs.Commands.Heard.{Part};
 ghost use Rattle.escp2_definitions.specs.Commands.{command_at};
@@ -62,7 +64,6 @@ enum Stage {
 /// Reads the commands of a job from pieces of any length. It has room for the rows of the largest raster, 255 rows of
 /// 8,191 columns.
 #[derive(Drop)]
-#[tactic(auto, unfolding(escp2_definitions::specs::Commands::command_at))]
 pub struct JobReader {
     // The offset of the command's first byte.
     begin: u64,
@@ -86,7 +87,6 @@ impl JobReader {
     ghost use Rattle.escp2_reader.specs.Reading.{is_failed_of, rows_of, shows_fault};
 
     /// A reader of a job from its first byte on.
-    #[tactic(auto, unfolding(escp2_definitions::specs::Commands::command_at))]
     pub fn make(alloc: Global) -> Result<JobReader, Memory>
         ensures anew { IfOk result (λ reader. StandsFor reader []) }
         ensures fed { IfOk result (λ reader. fed_of reader ≡ 0) }
@@ -106,7 +106,6 @@ impl JobReader {
 
     /// Reads the next bytes of the job, of any number, up to the end of the command. It takes no memory. A fault is
     /// answered with the byte that shows it, and again at each later call, with nothing used.
-    #[tactic(auto, unfolding(escp2_definitions::specs::Commands::command_at))]
     pub fn feed(&mut self, piece: &[u8]) -> Heard
         requires { fed_of self.old + length piece.now < 2 ^ 63 }
         ensures used { result.used ≤ length piece.now }
@@ -218,7 +217,6 @@ impl JobReader {
     }
 
     // Reads on within the rows of a raster.
-    #[tactic(auto, unfolding(escp2_definitions::specs::Commands::command_at))]
     fn feed_rows(&mut self, raster: RasterHeader, mut reader: RowReader, piece: &[u8]) -> Heard
         requires is_open { is_done_of reader ≡ false }
         requires rows { vec_len self.old.rows + bytes_left_of reader ≤ vec_capacity self.old.rows }
@@ -256,7 +254,6 @@ impl JobReader {
     }
 
     // Ends a command after `used` more bytes.
-    #[tactic(auto, unfolding(escp2_definitions::specs::Commands::command_at))]
     fn end_command(&mut self, command: Command, used: usize) -> Heard
         requires { self.old.next + used < 2 ^ 63 }
         ensures used { result.used ≡ used }
@@ -277,7 +274,6 @@ impl JobReader {
     }
 
     // Stops at a fault, after `used` more bytes.
-    #[tactic(auto, unfolding(escp2_definitions::specs::Commands::command_at))]
     fn fail(&mut self, offset: u64, cause: JobCause, used: usize) -> Heard
         requires { self.old.next + used < 2 ^ 63 }
         ensures used { result.used ≡ used }

@@ -1,4 +1,4 @@
-use Rattle.std.proofs.Common.{◌≡◌, ℕ, ◌+◌, List, take, refl, arith, sym, ap, subst, ◌∙◌}
+use Rattle.std.proofs.Common.{ℕ, ◌+◌, List, take, refl, arith, sym, ap, subst, ◌∙◌}
 use Rattle.escp2_definitions.specs.Commands.{command_at}
 use Rattle.escp2_laws.proofs.Grammar.{AreBytes}
 use Rattle.escp2_reader.specs.Headers.{IsRaster}
