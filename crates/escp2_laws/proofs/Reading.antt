@@ -55,8 +55,8 @@ and-right false false e = e
 by_form : (b : Bool) (header : RasterHeader) (rows text rest : List ℕ) → length rows ≡ header.m * row_bytes header
     → MatchBool b (text ≡ rows) (RowsCode header.m (row_bytes header) text rows)
     → with_rows header (if b
-        then plain_at (header.m * row_bytes header) 8 (text ++ rest)
-        else rows_at header.m (row_bytes header) 8 (text ++ rest))
+    then plain_at (header.m * row_bytes header) 8 (text ++ rest)
+    else rows_at header.m (row_bytes header) 8 (text ++ rest))
     ≡ One (c.Raster header) rows (8 + length text)
 by_form true header rows text rest fits is =
     let n : ℕ = header.m * row_bytes header in

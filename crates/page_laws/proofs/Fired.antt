@@ -46,7 +46,7 @@ rows_dots-fired header ink y (row ∷ rows) wide =
     ap (λ bs. row_dots ink 0 header.h y (take header.n (bits bs))
     ++ rows_dots (length rows) header ink 0 (y + header.v) (drop (row_bytes header) (packed row ++ more))) front
     ∙ ap (λ bs. row_dots ink 0 header.h y (take header.n (bits (packed row)))
-        ++ rows_dots (length rows) header ink 0 (y + header.v) bs) behind
+    ++ rows_dots (length rows) header ink 0 (y + header.v) bs) behind
     ∙ ap (λ r. row_dots ink 0 header.h y r ++ rows_dots (length rows) header ink 0 (y + header.v) more) whole
     ∙ ap (λ ds. row_dots ink 0 header.h y row ++ ds) (rows_dots-fired header ink (y + header.v) rows wide.1)
   where

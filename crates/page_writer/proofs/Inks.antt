@@ -1,16 +1,16 @@
 -- What the inks fire in a pass, one after another.
-use Rattle.std.proofs.Common.{◌≡◌, ℕ, zero, suc, ◌+◌, ◌*◌, ◌/◌, ◌<◌, ◌≤◌, ◌||◌, nat_lt, Bool, true, false, List, [], ◌∷◌, ◌++◌, length, map}
+use Rattle.std.proofs.Common.{◌≡◌, ℕ, zero, suc, ◌+◌, ◌*◌, ◌/◌, ◌<◌, ◌≤◌, ◌||◌, nat_lt, Bool, false, List, [], ◌∷◌, ◌++◌, length, map}
 use Rattle.std.proofs.Common.{drop, replicate, Option, Some, None, refl, sym, ◌∙◌, ap, arith, append_assoc, append-nil}
 use Rattle.std.specs.Prelude.{slice_get}
 use Rattle.std.specs.List.{flat_map, list_any}
 use Rattle.std.proofs.lemmas.Bool.{lt-ltb}
+use Rattle.std.proofs.Math.Bool.{or-false}
 use Rattle.dot_planes.specs.Tables.{DotTable, dot}
 use Rattle.escp2_definitions.specs.Canonical.{canonical_row}
 use Rattle.escp2_definitions.specs.declared.command.RasterHeader.{RasterHeader}
 use Rattle.page_definitions.specs.Dots.{Halftone}
 use Rattle.page_definitions.specs.PageBytes.{fired_row, pass_rows, pass_stroke}
 use Rattle.page_definitions.specs.Strokes.{Spoken, bytes_of, fires, has_dot, ink_commands, inks_commands, raster_header}
-use Rattle.page_laws.proofs.Passes.{nozzle_row-is}
 use Rattle.page_laws.proofs.Printed.{bytes-append}
 use Rattle.std.proofs.Math.Nat.{mul-le-mul}
 use Rattle.printer_definitions.specs.declared.inks.Ink.{Ink}
@@ -19,6 +19,7 @@ use Rattle.printer_definitions.specs.declared.inks.InkSet.TheVariants.{K, Cmy, C
 use Rattle.printer_definitions.specs.Inks.{inks_of}
 use Rattle.printer_definitions.specs.Printer.{Printer}
 use Rattle.weave_definitions.specs.Weave.{count_from, nozzle_row}
+use Rattle.weave_laws.proofs.Rows.{stands_on}
 use Rattle.weave_plan.specs.Weaving.{Weaving}
 use Rattle.page_writer.specs.Passes.{IsPass}
 use Rattle.page_writer.specs.Rows.{nozzle_plane_row, plane_row, plane_rows, rows_commands}
@@ -53,7 +54,7 @@ pass_rows-are p plan t h place pass ink suits shows is =
     let tall : h.height ≡ plan.height = sym shows.rows_is ∙ sym suits.height in
     let same : (i : ℕ) → fired_row h ink (nozzle_row p.nozzles p.pitch h.height pass i) ≡ nozzle_plane_row t plan place pass i =
     λ i. plane_row-is p t h place ink shows is (nozzle_row p.nozzles p.pitch h.height pass i)
-    (λ y e. (nozzle_row-is p.nozzles p.pitch h.height pass i y e).low)
+    (λ y e. (stands_on p.nozzles p.pitch h.height pass i y e).low)
     ∙ ap (λ n. plane_row t place (nozzle_row n p.pitch h.height pass i)) (sym suits.nozzles)
     ∙ ap (λ n. plane_row t place (nozzle_row plan.nozzles n h.height pass i)) (sym suits.pitch)
     ∙ ap (λ n. plane_row t place (nozzle_row plan.nozzles plan.pitch n pass i)) tall in
@@ -132,11 +133,6 @@ inks_step p plan t h pass old out out' header ink rasters place one so_far suits
           ∙ sym (rasters_tell header ink (plane_rows t plan place pass)) ∙ ap (nat_lt 0) (sym counted))
           ∙ lt-add rasters one has;
     }
-
--- a test, or none
-or-false : (b : Bool) → (b || false) ≡ b
-or-false true = refl
-or-false false = refl
 
 -- no ink is left
 drop-all : (inks : List Ink) (place : ℕ) → length inks ≤ place → drop place inks ≡ []
