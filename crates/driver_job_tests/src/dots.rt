@@ -1,14 +1,7 @@
 //! The command `dots`.
 use crate::fixture::{run_on, sink};
-use known_jobs::TINY_JOB;
+use known_jobs::{TINY_IMAGES, TINY_JOB};
 use std::test::Fail;
-
-/// The images of the job's sheet: black, and three without a dot.
-const IMAGES: [u8; 52] = [
-    0x50, 0x34, 0x0A, 0x38, 0x20, 0x36, 0x0A, 0, 0, 0, 0, 0xFF, 0xFF, 0x50, 0x34, 0x0A, 0x38, 0x20,
-    0x36, 0x0A, 0, 0, 0, 0, 0, 0, 0x50, 0x34, 0x0A, 0x38, 0x20, 0x36, 0x0A, 0, 0, 0, 0, 0, 0, 0x50,
-    0x34, 0x0A, 0x38, 0x20, 0x36, 0x0A, 0, 0, 0, 0, 0, 0,
-];
 
 #[test]
 fn dots_gives_four_images_of_a_sheet(rt: HostRuntime) -> Result<(), Fail> {
@@ -22,7 +15,7 @@ fn dots_gives_four_images_of_a_sheet(rt: HostRuntime) -> Result<(), Fail> {
             (piece, 0),
             sink(alloc, 4096)?,
         )?;
-        left.is(&rt, 0, &IMAGES, "");
+        left.is(&rt, 0, TINY_IMAGES, "");
     }
     Ok(())
 }
@@ -75,7 +68,7 @@ fn sheets_before_a_stop_are_written(rt: HostRuntime) -> Result<(), Fail> {
         (33, 0),
         sink(alloc, 4096)?,
     )?;
-    cut.is(&rt, 8, &IMAGES, "job: offset 142: Cut\n");
+    cut.is(&rt, 8, TINY_IMAGES, "job: offset 142: Cut\n");
     let read = run_on(
         &rt,
         alloc,
@@ -84,7 +77,7 @@ fn sheets_before_a_stop_are_written(rt: HostRuntime) -> Result<(), Fail> {
         (50, 3),
         sink(alloc, 4096)?,
     )?;
-    read.is(&rt, 4, &IMAGES, "read failed\n");
+    read.is(&rt, 4, TINY_IMAGES, "read failed\n");
     let most = run_on(
         &rt,
         alloc,
@@ -93,7 +86,7 @@ fn sheets_before_a_stop_are_written(rt: HostRuntime) -> Result<(), Fail> {
         (50, 0),
         sink(alloc, 4096)?,
     )?;
-    most.is(&rt, 8, &IMAGES, "job: offset 91: TooLong\n");
+    most.is(&rt, 8, TINY_IMAGES, "job: offset 91: TooLong\n");
     Ok(())
 }
 

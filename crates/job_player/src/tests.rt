@@ -2,7 +2,7 @@
 ghost use Rattle.std.specs.Prelude.{◌<◌, ◌^◌};
 
 use crate::{JobStop, PlayStop, play_job};
-use known_jobs::TINY_JOB;
+use known_jobs::{TINY_IMAGES, TINY_JOB};
 use printer_profile::TINY;
 use std::alloc::Global;
 use std::process::Abort;
@@ -31,14 +31,7 @@ fn a_sheet_is_four_images(rt: HostRuntime) -> Result<(), Fail> {
     let alloc = rt.alloc();
     let mut out = sink(alloc, 64)?;
     assert_eq!(rt; play(&rt, alloc, &TINY_JOB, &mut out)?, Ok(()));
-    assert_eq!(rt;
-        out.bytes(),
-        b"P4\n8 6\n\x00\x00\x00\x00\xFF\xFF\
-        P4\n8 6\n\x00\x00\x00\x00\x00\x00\
-        P4\n8 6\n\x00\x00\x00\x00\x00\x00\
-        P4\n8 6\n\x00\x00\x00\x00\x00\x00"
-            .as_slice()
-    );
+    assert_eq!(rt; out.bytes(), TINY_IMAGES);
     Ok(())
 }
 

@@ -1,5 +1,5 @@
-//! A print job that was worked out by hand, as bytes and as commands, for the tests of the crates that read, run and
-//! write jobs.
+//! A print job that was worked out by hand, as bytes, as commands and as the images of its sheet, for the tests of the
+//! crates that read, run and write jobs.
 #![tactic(auto)]
 
 use escp2_definitions::{Command, RasterHeader};
@@ -56,3 +56,9 @@ pub fn tiny_rows(place: usize) -> &'static [u8] {
         _ => &[],
     }
 }
+
+/// The images of the four inks of its sheet, black first: two black rows under four blank ones, and three blank images.
+pub const TINY_IMAGES: &[u8] = b"P4\n8 6\n\x00\x00\x00\x00\xFF\xFF\
+    P4\n8 6\n\x00\x00\x00\x00\x00\x00\
+    P4\n8 6\n\x00\x00\x00\x00\x00\x00\
+    P4\n8 6\n\x00\x00\x00\x00\x00\x00";

@@ -6,7 +6,7 @@ use crate::write_plane;
 use dot_emulator::{Command, EmuStop, Emulator, Sheet};
 use dot_planes::Planes;
 use escp2_commands::in_table;
-use known_jobs::{TINY_COMMANDS, tiny_rows};
+use known_jobs::{TINY_COMMANDS, TINY_IMAGES, tiny_rows};
 use printer_profile::TINY;
 use std::process::Abort;
 use std::test::Fail;
@@ -85,13 +85,6 @@ fn dots_gives_four_images_of_a_sheet(rt: HostRuntime) -> Result<(), Fail> {
     for ink in 0..4 {
         assert_eq!(rt; write_plane(&sheet, ink, &mut sink), Ok(()));
     }
-    assert_eq!(rt;
-        sink.bytes(),
-        b"P4\n8 6\n\x00\x00\x00\x00\xFF\xFF\
-        P4\n8 6\n\x00\x00\x00\x00\x00\x00\
-        P4\n8 6\n\x00\x00\x00\x00\x00\x00\
-        P4\n8 6\n\x00\x00\x00\x00\x00\x00"
-            .as_slice()
-    );
+    assert_eq!(rt; sink.bytes(), TINY_IMAGES);
     Ok(())
 }
