@@ -69,12 +69,12 @@ def ppd(profile, name, sheets):
     It has no line *PWGRaster: with that line, options of a job would override ColorModel and Resolution.
     """
     return "\n".join([
-        ppd_head(profile, name), ppd_filters(), ppd_profile(profile), ppd_sheets(profile, sheets),
+        ppd_header(profile, name), ppd_filters(), ppd_profile(profile), ppd_sheets(profile, sheets),
         ppd_custom_sheet(profile), ppd_choices(profile),
         '*DefaultFont: Courier\n*Font Courier: Standard "(1.05)" Standard ROM', ""])
 
 
-def ppd_head(profile, name):
+def ppd_header(profile, name):
     colour = profile.models[0] == "RGB"
     return f'''*PPD-Adobe: "4.3"
 *FormatVersion: "4.3"

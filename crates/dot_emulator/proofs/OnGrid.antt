@@ -57,29 +57,29 @@ row-on-grid g ink x y columns rows (false ∷ bools) some some' fits low =
     subst P next (row-on-grid g ink (x + 1) y columns rows bools some some' (omega arith) low)
 
 rest-on-grid : (g : Grid) (r : Raster) (rows : List ℕ) (columns height k i : ℕ)
-    → Stands g r → HasRows r rows → r.x + r.head.n ≤ columns → r.end ≤ height
-    → i + k ≡ r.head.m → IsAboveFrom g r rows i → AllByRecursion (IsOnGrid g.column g.row columns height) (rest g r rows i)
+    → Stands g r → HasRows r rows → r.x + r.header.n ≤ columns → r.end ≤ height
+    → i + k ≡ r.header.m → IsAboveFrom g r rows i → AllByRecursion (IsOnGrid g.column g.row columns height) (rest g r rows i)
 rest-on-grid g r rows columns height zero i stands fits wide high all above =
     let P : List Dot → Type 0 = AllByRecursion (IsOnGrid g.column g.row columns height) in
     subst P (sym (rest-none g r rows i (omega arith))) tt
 rest-on-grid g r rows columns height (suc k) i stands fits wide high all above =
     let P : List Dot → Type 0 = AllByRecursion (IsOnGrid g.column g.row columns height) in
-    let low : i < r.head.m = omega arith in
+    let low : i < r.header.m = omega arith in
     let later = rest-on-grid g r rows columns height k
     (i + 1) stands fits wide high (omega arith) (above-next g r rows i stands low above).later in
     let this : P (row_fired g r rows i) = elim (cases_lt (sheet_row r i) r.end) [
       | inl inside ↦ row-on-grid g r.ink r.x (sheet_row r i) columns height
-          (take r.head.n (bits (packed_row r rows i))) stands.some_column stands.some_row
-          (omega (arith, length-take r.head.n (bits (packed_row r rows i)))) (omega arith)
+          (take r.header.n (bits (packed_row r rows i))) stands.some_column stands.some_row
+          (omega (arith, length-take r.header.n (bits (packed_row r rows i)))) (omega arith)
       | inr below ↦ subst P (sym (below-none g r rows i stands fits low above below)) tt
     ] in
     subst P (sym (rest-next g r rows i stands low)) (all-append
     (IsOnGrid g.column g.row columns height) (row_fired g r rows i) (rest g r rows (i + 1)) this later)
 
 pub fired-on-grid : (g : Grid) (r : Raster) (rows : List ℕ) (columns height : ℕ)
-    → Stands g r → HasRows r rows → r.x + r.head.n ≤ columns → r.end ≤ height
+    → Stands g r → HasRows r rows → r.x + r.header.n ≤ columns → r.end ≤ height
     → IsAbove g r rows → AllByRecursion (IsOnGrid g.column g.row columns height) (fired g r rows)
 fired-on-grid g r rows columns height stands fits wide high above =
     let P : List Dot → Type 0 = AllByRecursion (IsOnGrid g.column g.row columns height) in
-    subst P (sym (rest-first g r rows)) (rest-on-grid g r rows columns height r.head.m 0 stands fits wide high
+    subst P (sym (rest-first g r rows)) (rest-on-grid g r rows columns height r.header.m 0 stands fits wide high
     (omega arith) (above-first g r rows above))

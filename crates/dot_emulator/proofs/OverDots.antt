@@ -151,15 +151,15 @@ lay-row g dots old new ink y x n row some some' long has lays = λ ink' y' x' in
 pub record IsRow (r : Raster) (rows : List ℕ) (i plane y n : ℕ) (bytes : List ℕ) : Type 0 where
   pub plane_is : plane ≡ ink_place r.ink
   pub down : y ≡ sheet_row r i
-  pub wide : n ≡ r.head.n
+  pub wide : n ≡ r.header.n
   pub bytes_are : bytes ≡ packed_row r rows i
 
 pub meets-code : (g : Grid) (dots : List Dot) (t : DotTable) (r : Raster)
-    (rows : List ℕ) (i plane y n : ℕ) (bytes : List ℕ) (b : Bool) → HasRows r rows → i < r.head.m → y < t.rows
+    (rows : List ℕ) (i plane y n : ℕ) (bytes : List ℕ) (b : Bool) → HasRows r rows → i < r.header.m → y < t.rows
     → HasPlaces g.column g.row dots t → IsRow r rows i plane y n bytes
     → b ≡ meets t plane y r.x bytes n → list_any (λ d. list_any (is_at d) dots) (row_fired g r rows i) ≡ b
 meets-code g dots t r rows i plane y n bytes b fits low inside has is tested =
-    row-meets g dots t r.ink (sheet_row r i) r.x r.head.n (packed_row r rows i) (row-long r rows i fits low) (omega (arith, is.down)) has
+    row-meets g dots t r.ink (sheet_row r i) r.x r.header.n (packed_row r rows i) (row-long r rows i fits low) (omega (arith, is.down)) has
     ∙ sym (tested
     ∙ ap (λ p. meets t p y r.x bytes n) is.plane_is
     ∙ ap (λ d. meets t (ink_place r.ink) d r.x bytes n) is.down
@@ -184,7 +184,7 @@ laid-first g r rows dots t has = record {
 }
 
 pub laid-next : (g : Grid) (r : Raster) (rows : List ℕ) (i : ℕ) (dots : List Dot)
-    (old new : DotTable) (plane y n : ℕ) (bytes : List ℕ) → Stands g r → HasRows r rows → i < r.head.m
+    (old new : DotTable) (plane y n : ℕ) (bytes : List ℕ) → Stands g r → HasRows r rows → i < r.header.m
     → LaidSoFar g r rows i dots old
     → IsRow r rows i plane y n bytes → Lays old new plane y r.x bytes n → LaidSoFar g r rows (i + 1) dots new
 laid-next g r rows i dots old new plane y n bytes stands fits low so_far is lays =
@@ -199,13 +199,13 @@ laid-next g r rows i dots old new plane y n bytes stands fits low so_far is lays
       is = so_far.is ∙ ap (λ ds. so_far.done ++ ds) (rest-next g r rows i stands low)
           ∙ sym (append_assoc so_far.done row (rest g r rows (i + 1)));
       has = places-same g new ((dots ++ so_far.done) ++ row) (dots ++ (so_far.done ++ row)) (append_assoc dots so_far.done row)
-          (lay-row g (dots ++ so_far.done) old new r.ink (sheet_row r i) r.x r.head.n
+          (lay-row g (dots ++ so_far.done) old new r.ink (sheet_row r i) r.x r.header.n
           (packed_row r rows i) stands.some_column stands.some_row (row-long r rows i fits low) so_far.has laid);
     }
 
 -- a row that has no dots
 pub laid-none : (g : Grid) (r : Raster) (rows : List ℕ) (i : ℕ) (dots : List Dot) (t : DotTable)
-    → Stands g r → HasRows r rows → i < r.head.m → IsAboveFrom g r rows i → r.end ≤ sheet_row r i
+    → Stands g r → HasRows r rows → i < r.header.m → IsAboveFrom g r rows i → r.end ≤ sheet_row r i
     → LaidSoFar g r rows i dots t → LaidSoFar g r rows (i + 1) dots t
 laid-none g r rows i dots t stands fits low above below so_far = record {
   done = so_far.done;
@@ -214,7 +214,8 @@ laid-none g r rows i dots t stands fits low above below so_far = record {
   has = so_far.has;
 }
 
-pub laid-all : (g : Grid) (r : Raster) (rows : List ℕ) (i : ℕ) (dots : List Dot) (t : DotTable) → r.head.m ≤ i → LaidSoFar g r rows i dots t
+pub laid-all : (g : Grid) (r : Raster) (rows : List ℕ) (i : ℕ) (dots : List Dot) (t : DotTable)
+    → r.header.m ≤ i → LaidSoFar g r rows i dots t
     → HasPlaces g.column g.row (dots ++ fired g r rows) t
 laid-all g r rows i dots t all so_far =
     places-same g t (dots ++ so_far.done) (dots ++ fired g r rows)

@@ -14,7 +14,7 @@ use Rattle.dot_emulator.proofs.RowDots.{row-below, row-has}
 
 -- the bytes of row i
 abbrev pub packed_row : Raster → List ℕ → ℕ → List ℕ
-packed_row r rows i = take (row_bytes r.head) (drop (i * row_bytes r.head) rows)
+packed_row r rows i = take (row_bytes r.header) (drop (i * row_bytes r.header) rows)
 
 -- the row of the sheet where row i is
 abbrev pub sheet_row : Raster → ℕ → ℕ
@@ -22,43 +22,43 @@ sheet_row r i = r.y + i * r.pitch
 
 -- the dots of row i
 abbrev pub row_fired : Grid → Raster → List ℕ → ℕ → List Dot
-row_fired g r rows i = row_dots r.ink (r.x * g.column) g.column (sheet_row r i * g.row) (take r.head.n (bits (packed_row r rows i)))
+row_fired g r rows i = row_dots r.ink (r.x * g.column) g.column (sheet_row r i * g.row) (take r.header.n (bits (packed_row r rows i)))
 
 -- the dots of the rows from row i on
 abbrev pub rest : Grid → Raster → List ℕ → ℕ → List Dot
-rest g r rows i = rows_dots (r.head.m - i) r.head r.ink (r.x * g.column) (sheet_row r i * g.row) (drop (i * row_bytes r.head) rows)
+rest g r rows i = rows_dots (r.header.m - i) r.header r.ink (r.x * g.column) (sheet_row r i * g.row) (drop (i * row_bytes r.header) rows)
 
 pub rest-first : (g : Grid) (r : Raster) (rows : List ℕ) → fired g r rows ≡ rest g r rows 0
 rest-first g r rows =
-    let all : r.head.m ≡ r.head.m - 0 = omega arith in
+    let all : r.header.m ≡ r.header.m - 0 = omega arith in
     let place : r.y * g.row ≡ (r.y + 0 * r.pitch) * g.row = grind arith in
-    let none : drop (0 * row_bytes r.head) rows ≡ rows = ap (λ n. drop n rows) {y = 0} (omega arith) in
-    ap (λ n. rows_dots n r.head r.ink (r.x * g.column) (r.y * g.row) rows) all
-    ∙ ap (λ n. rows_dots (r.head.m - 0) r.head r.ink (r.x * g.column) n rows) place
-    ∙ ap (λ (bytes : List ℕ). rows_dots (r.head.m - 0) r.head r.ink (r.x * g.column) (sheet_row r 0 * g.row) bytes) (sym none)
+    let none : drop (0 * row_bytes r.header) rows ≡ rows = ap (λ n. drop n rows) {y = 0} (omega arith) in
+    ap (λ n. rows_dots n r.header r.ink (r.x * g.column) (r.y * g.row) rows) all
+    ∙ ap (λ n. rows_dots (r.header.m - 0) r.header r.ink (r.x * g.column) n rows) place
+    ∙ ap (λ (bytes : List ℕ). rows_dots (r.header.m - 0) r.header r.ink (r.x * g.column) (sheet_row r 0 * g.row) bytes) (sym none)
 
-pub rest-none : (g : Grid) (r : Raster) (rows : List ℕ) (i : ℕ) → r.head.m ≤ i → rest g r rows i ≡ []
+pub rest-none : (g : Grid) (r : Raster) (rows : List ℕ) (i : ℕ) → r.header.m ≤ i → rest g r rows i ≡ []
 unfolding rows_dots
 rest-none g r rows i all =
-    let none : r.head.m - i ≡ 0 = omega arith in
-    ap (λ n. rows_dots n r.head r.ink (r.x * g.column) (sheet_row r i * g.row) (drop (i * row_bytes r.head) rows)) none
+    let none : r.header.m - i ≡ 0 = omega arith in
+    ap (λ n. rows_dots n r.header r.ink (r.x * g.column) (sheet_row r i * g.row) (drop (i * row_bytes r.header) rows)) none
 
 pub rest-next : (g : Grid) (r : Raster) (rows : List ℕ) (i : ℕ)
-    → Stands g r → i < r.head.m → rest g r rows i ≡ row_fired g r rows i ++ rest g r rows (i + 1)
+    → Stands g r → i < r.header.m → rest g r rows i ≡ row_fired g r rows i ++ rest g r rows (i + 1)
 unfolding rows_dots
 rest-next g r rows i stands low =
-    let len : ℕ = row_bytes r.head in
-    let more : r.head.m - i ≡ suc (r.head.m - (i + 1)) = omega arith in
-    let below : sheet_row r i * g.row + r.head.v ≡ sheet_row r (i + 1) * g.row = grind (arith, stands.down) in
+    let len : ℕ = row_bytes r.header in
+    let more : r.header.m - i ≡ suc (r.header.m - (i + 1)) = omega arith in
+    let below : sheet_row r i * g.row + r.header.v ≡ sheet_row r (i + 1) * g.row = grind (arith, stands.down) in
     let place : i * len + len ≡ (i + 1) * len = grind arith in
-    ap (λ n. rows_dots n r.head r.ink (r.x * g.column) (sheet_row r i * g.row) (drop (i * len) rows)) more
-    ∙ ap (λ h. row_dots r.ink (r.x * g.column) h (sheet_row r i * g.row) (take r.head.n (bits (packed_row r rows i)))
-    ++ rows_dots (r.head.m - (i + 1)) r.head r.ink
-    (r.x * g.column) (sheet_row r i * g.row + r.head.v) (drop len (drop (i * len) rows))) stands.across
+    ap (λ n. rows_dots n r.header r.ink (r.x * g.column) (sheet_row r i * g.row) (drop (i * len) rows)) more
+    ∙ ap (λ h. row_dots r.ink (r.x * g.column) h (sheet_row r i * g.row) (take r.header.n (bits (packed_row r rows i)))
+    ++ rows_dots (r.header.m - (i + 1)) r.header r.ink
+    (r.x * g.column) (sheet_row r i * g.row + r.header.v) (drop len (drop (i * len) rows))) stands.across
     ∙ ap (λ y. row_fired g r rows i
-    ++ rows_dots (r.head.m - (i + 1)) r.head r.ink (r.x * g.column) y (drop len (drop (i * len) rows))) below
+    ++ rows_dots (r.header.m - (i + 1)) r.header r.ink (r.x * g.column) y (drop len (drop (i * len) rows))) below
     ∙ ap (λ (bytes : List ℕ). row_fired g r rows i
-    ++ rows_dots (r.head.m - (i + 1)) r.head r.ink (r.x * g.column) (sheet_row r (i + 1) * g.row) bytes)
+    ++ rows_dots (r.header.m - (i + 1)) r.header r.ink (r.x * g.column) (sheet_row r (i + 1) * g.row) bytes)
     (drop-drop len (i * len) rows ∙ ap (λ n. drop n rows) place)
 
 -- ---- a test of the dots
@@ -70,23 +70,23 @@ IsLeft f g r rows i = list_any f (fired g r rows) ≡ list_any f (rest g r rows 
 pub left-first : (f : Dot → Bool) (g : Grid) (r : Raster) (rows : List ℕ) → IsLeft f g r rows 0
 left-first f g r rows = ap (list_any f) (rest-first g r rows)
 
-any-next : (f : Dot → Bool) (g : Grid) (r : Raster) (rows : List ℕ) (i : ℕ) → Stands g r → i < r.head.m
+any-next : (f : Dot → Bool) (g : Grid) (r : Raster) (rows : List ℕ) (i : ℕ) → Stands g r → i < r.header.m
     → list_any f (rest g r rows i) ≡ (list_any f (row_fired g r rows i) || list_any f (rest g r rows (i + 1)))
 any-next f g r rows i stands low = ap (list_any f) (rest-next g r rows i stands low)
     ∙ list_any-append f (row_fired g r rows i) (rest g r rows (i + 1))
 
-pub left-next : (f : Dot → Bool) (g : Grid) (r : Raster) (rows : List ℕ) (i : ℕ) → Stands g r → i < r.head.m
+pub left-next : (f : Dot → Bool) (g : Grid) (r : Raster) (rows : List ℕ) (i : ℕ) → Stands g r → i < r.header.m
     → IsLeft f g r rows i → list_any f (row_fired g r rows i) ≡ false → IsLeft f g r rows (i + 1)
 left-next f g r rows i stands low left none =
     left ∙ any-next f g r rows i stands low ∙ ap (λ b. b || list_any f (rest g r rows (i + 1))) none
 
-pub left-found : (f : Dot → Bool) (g : Grid) (r : Raster) (rows : List ℕ) (i : ℕ) → Stands g r → i < r.head.m
+pub left-found : (f : Dot → Bool) (g : Grid) (r : Raster) (rows : List ℕ) (i : ℕ) → Stands g r → i < r.header.m
     → IsLeft f g r rows i → list_any f (row_fired g r rows i) ≡ true → true ≡ list_any f (fired g r rows)
 left-found f g r rows i stands low left some =
     sym (left ∙ any-next f g r rows i stands low ∙ ap (λ b. b || list_any f (rest g r rows (i + 1))) some)
 
 pub left-none : (f : Dot → Bool) (g : Grid) (r : Raster) (rows : List ℕ) (i : ℕ)
-    → r.head.m ≤ i → IsLeft f g r rows i → false ≡ list_any f (fired g r rows)
+    → r.header.m ≤ i → IsLeft f g r rows i → false ≡ list_any f (fired g r rows)
 left-none f g r rows i all left = sym (left ∙ ap (list_any f) (rest-none g r rows i all))
 
 -- whether there is a dot
@@ -96,44 +96,45 @@ some-dot (d ∷ dots) = sym (lt-ltb 0 (suc (length dots)) (omega arith))
 
 -- ---- a row
 
-pub row-long : (r : Raster) (rows : List ℕ) (i : ℕ) → HasRows r rows → i < r.head.m → r.head.n ≤ 8 * length (packed_row r rows i)
+pub row-long : (r : Raster) (rows : List ℕ) (i : ℕ) → HasRows r rows → i < r.header.m → r.header.n ≤ 8 * length (packed_row r rows i)
 row-long r rows i fits low =
-    let len : ℕ = row_bytes r.head in
-    let inside : i * len + len ≤ r.head.m * len = grind (arith, low) in
+    let len : ℕ = row_bytes r.header in
+    let inside : i * len + len ≤ r.header.m * len = grind (arith, low) in
     omega (arith, length-take len (drop (i * len) rows), length-drop (i * len) rows, fits, inside)
 
-pub row-has-dot : (g : Grid) (r : Raster) (rows : List ℕ) (i : ℕ) → HasRows r rows → i < r.head.m
-    → list_any (λ d. true) (row_fired g r rows i) ≡ has_dot (packed_row r rows i) r.head.n
+pub row-has-dot : (g : Grid) (r : Raster) (rows : List ℕ) (i : ℕ) → HasRows r rows → i < r.header.m
+    → list_any (λ d. true) (row_fired g r rows i) ≡ has_dot (packed_row r rows i) r.header.n
 row-has-dot g r rows i fits low =
-    row-has r.ink r.x g.column (sheet_row r i * g.row) r.head.n (packed_row r rows i) (row-long r rows i fits low)
+    row-has r.ink r.x g.column (sheet_row r i * g.row) r.header.n (packed_row r rows i) (row-long r rows i fits low)
 
-pub row-is-below : (g : Grid) (r : Raster) (rows : List ℕ) (i : ℕ) → Stands g r → HasRows r rows → i < r.head.m
-    → list_any (λ d. nat_le g.bottom d.y) (row_fired g r rows i) ≡ (nat_le r.end (sheet_row r i) && has_dot (packed_row r rows i) r.head.n)
+pub row-is-below : (g : Grid) (r : Raster) (rows : List ℕ) (i : ℕ) → Stands g r → HasRows r rows → i < r.header.m
+    → list_any (λ d. nat_le g.bottom d.y) (row_fired g r rows i)
+    ≡ (nat_le r.end (sheet_row r i) && has_dot (packed_row r rows i) r.header.n)
 row-is-below g r rows i stands fits low =
-    row-below g.bottom r.ink r.x g.column (sheet_row r i * g.row) r.head.n (packed_row r rows i) (row-long r rows i fits low)
-    ∙ ap (λ b. b && has_dot (packed_row r rows i) r.head.n) (stands.ends (sheet_row r i))
+    row-below g.bottom r.ink r.x g.column (sheet_row r i * g.row) r.header.n (packed_row r rows i) (row-long r rows i fits low)
+    ∙ ap (λ b. b && has_dot (packed_row r rows i) r.header.n) (stands.ends (sheet_row r i))
 
 -- the bytes of a row, as they are cut out
 pub row-is : (r : Raster) (rows bytes : List ℕ) (i len : ℕ)
-    → len ≡ row_bytes r.head → bytes ≡ take len (drop (i * len) rows) → bytes ≡ packed_row r rows i
+    → len ≡ row_bytes r.header → bytes ≡ take len (drop (i * len) rows) → bytes ≡ packed_row r rows i
 row-is r rows bytes i len len_is is = is ∙ ap (λ l. take l (drop (i * l) rows)) len_is
 
 -- a row at or below the bottom margin, which has a dot or none
 pub below-row : (g : Grid) (r : Raster) (rows : List ℕ) (i : ℕ) (b : Bool) (bytes : List ℕ)
-    → Stands g r → HasRows r rows → i < r.head.m → r.end ≤ sheet_row r i
-    → bytes ≡ packed_row r rows i → b ≡ has_dot bytes r.head.n → list_any (λ d. nat_le g.bottom d.y) (row_fired g r rows i) ≡ b
+    → Stands g r → HasRows r rows → i < r.header.m → r.end ≤ sheet_row r i
+    → bytes ≡ packed_row r rows i → b ≡ has_dot bytes r.header.n → list_any (λ d. nat_le g.bottom d.y) (row_fired g r rows i) ≡ b
 below-row g r rows i b bytes stands fits low below is tested =
     row-is-below g r rows i stands fits low
-    ∙ ap (λ t. t && has_dot (packed_row r rows i) r.head.n) (le-leb r.end (sheet_row r i) below)
-    ∙ ap (λ (row : List ℕ). has_dot row r.head.n) (sym is)
+    ∙ ap (λ t. t && has_dot (packed_row r rows i) r.header.n) (le-leb r.end (sheet_row r i) below)
+    ∙ ap (λ (row : List ℕ). has_dot row r.header.n) (sym is)
     ∙ sym tested
 
 -- no dot of a row above it is at or below it
-pub above-row : (g : Grid) (r : Raster) (rows : List ℕ) (i : ℕ) → Stands g r → HasRows r rows → i < r.head.m → sheet_row r i < r.end
+pub above-row : (g : Grid) (r : Raster) (rows : List ℕ) (i : ℕ) → Stands g r → HasRows r rows → i < r.header.m → sheet_row r i < r.end
     → list_any (λ d. nat_le g.bottom d.y) (row_fired g r rows i) ≡ false
 above-row g r rows i stands fits low above =
     row-is-below g r rows i stands fits low
-    ∙ ap (λ t. t && has_dot (packed_row r rows i) r.head.n) (lt-leb r.end (sheet_row r i) above)
+    ∙ ap (λ t. t && has_dot (packed_row r rows i) r.header.n) (lt-leb r.end (sheet_row r i) above)
 
 -- ---- rows that have no dots
 
@@ -149,7 +150,8 @@ pub record AreAbove (g : Grid) (r : Raster) (rows : List ℕ) (i : ℕ) : Type 0
   pub this : list_any (λ d. nat_le g.bottom d.y) (row_fired g r rows i) ≡ false
   pub later : IsAboveFrom g r rows (i + 1)
 
-pub above-next : (g : Grid) (r : Raster) (rows : List ℕ) (i : ℕ) → Stands g r → i < r.head.m → IsAboveFrom g r rows i → AreAbove g r rows i
+pub above-next : (g : Grid) (r : Raster) (rows : List ℕ) (i : ℕ)
+    → Stands g r → i < r.header.m → IsAboveFrom g r rows i → AreAbove g r rows i
 above-next g r rows i stands low above =
     let parts = or_parts _ _ (sym (any-next (λ d. nat_le g.bottom d.y) g r rows i stands low) ∙ above) in
     record { this = parts.0; later = parts.1 }
@@ -161,12 +163,12 @@ none-in (d ∷ dots) none = absurd (false≢true (sym none))
 
 -- a row below the bottom margin has no dots
 pub below-none : (g : Grid) (r : Raster) (rows : List ℕ) (i : ℕ)
-    → Stands g r → HasRows r rows → i < r.head.m → IsAboveFrom g r rows i → r.end ≤ sheet_row r i
+    → Stands g r → HasRows r rows → i < r.header.m → IsAboveFrom g r rows i → r.end ≤ sheet_row r i
     → row_fired g r rows i ≡ []
 below-none g r rows i stands fits low above below =
     let this = (above-next g r rows i stands low above).this in
     none-in (row_fired g r rows i) (
     row-has-dot g r rows i fits low
     ∙ sym (row-is-below g r rows i stands fits low
-    ∙ ap (λ t. t && has_dot (packed_row r rows i) r.head.n) (le-leb r.end (sheet_row r i) below))
+    ∙ ap (λ t. t && has_dot (packed_row r rows i) r.header.n) (le-leb r.end (sheet_row r i) below))
     ∙ this)

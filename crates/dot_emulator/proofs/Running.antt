@@ -5,7 +5,7 @@ use Rattle.std.specs.Prelude.{Option, Some, None, Ok, is_some, is_none, if◌the
 use Rattle.std.specs.List.{AllByRecursion, list_any}
 use Rattle.std.proofs.lemmas.Bool.{false≢true, lt-ltb, ltb-false, ltb-true}
 use Rattle.printer_definitions.specs.Printer.{Printer, column_step, row_step}
-use Rattle.escp2_definitions.specs.declared.command.RasterHead.{RasterHead}
+use Rattle.escp2_definitions.specs.declared.command.RasterHeader.{RasterHeader}
 use Rattle.escp2_definitions.specs.declared.command.Command.{Command}
 use Rattle.escp2_definitions.specs.declared.command.Command.TheVariants as c
 use Rattle.escp2_definitions.specs.declared.stops.EmuFault.TheVariants.{Backward, NoUnit, OffSheet, Overprint}
@@ -50,7 +50,7 @@ plain-gives p m (c.Across n) e = refl
 plain-gives p m c.Return e = refl
 plain-gives p m c.Eject e = absurd (false≢true e)
 plain-gives p m (c.Colour ink) e = refl
-plain-gives p m (c.Raster head) e = absurd (false≢true e)
+plain-gives p m (c.Raster header) e = absurd (false≢true e)
 
 -- where the sheet has a dot, a plain command leaves the page, the columns and the dots
 pub record IsKept (p : Printer) (m : Machine) (command : Command) (rows : List ℕ) : Type 0 where
@@ -82,7 +82,7 @@ kept p m (c.Across n) rows e some none = record { page = refl; columns = refl; d
 kept p m c.Return rows e some none = record { page = refl; columns = refl; dots = refl }
 kept p m c.Eject rows e some none = absurd (false≢true e)
 kept p m (c.Colour ink) rows e some none = record { page = refl; columns = refl; dots = refl }
-kept p m (c.Raster head) rows e some none = absurd (false≢true e)
+kept p m (c.Raster header) rows e some none = absurd (false≢true e)
 
 -- a sheet without dots stays without dots
 no-dots : (p : Printer) (m : Machine) (command : Command) (rows : List ℕ)
@@ -100,7 +100,7 @@ no-dots p m (c.Across n) rows e none = none
 no-dots p m c.Return rows e none = none
 no-dots p m c.Eject rows e none = absurd (false≢true e)
 no-dots p m (c.Colour ink) rows e none = none
-no-dots p m (c.Raster head) rows e none = absurd (false≢true e)
+no-dots p m (c.Raster header) rows e none = absurd (false≢true e)
 
 pub plain-shows : (p : Printer) (m : Machine) (command : Command) (rows : List ℕ) (planes : Option DotTable) → is_plain command ≡ true
     → first_fault (refusals p m command rows) ≡ None → ShowsDots p m planes → ShowsDots p (after p m command rows) planes
@@ -145,11 +145,11 @@ planes-have p m None none = ap (λ (ds : List Dot). length ds) none
 planes-have p m (Some t) shows = shows.1.places
 
 -- the refusals that depend on the dots, from the raster's place
-pub late : (p : Printer) (m : Machine) (head : RasterHead) (r : Raster) (rows : List ℕ) → Placed p m head r
-    → first_fault (refusals p m (c.Raster head) rows)
+pub late : (p : Printer) (m : Machine) (header : RasterHeader) (r : Raster) (rows : List ℕ) → Placed p m header r
+    → first_fault (refusals p m (c.Raster header) rows)
     ≡ first_fault (refuse (list_any (λ d. nat_le (bottom_margin m) d.y) (fired (grid_of p m) r rows)) OffSheet
     ∷ refuse (overprints m.dots (fired (grid_of p m) r rows)) Overprint ∷ [])
-late p m head r rows placed =
+late p m header r rows placed =
     placed.left rows
     ∙ ap (λ (new : List Dot). first_fault (refuse (list_any (λ d. nat_le (bottom_margin m) d.y) new) OffSheet
     ∷ refuse (overprints m.dots new) Overprint ∷ [])) (placed.fires rows)
@@ -176,22 +176,22 @@ old-inside p m columns height (Some t) shows rows more =
     subst P rows (wider (column_step p) (row_step p) m.columns columns t.rows m.dots more shows.1.inside)
 
 -- a raster with dots
-pub laid-shows : (p : Printer) (m : Machine) (head : RasterHead)
-    (r : Raster) (rows : List ℕ) (planes new : Option DotTable) (height : ℕ) → Placed p m head r → HasRows r rows
+pub laid-shows : (p : Printer) (m : Machine) (header : RasterHeader)
+    (r : Raster) (rows : List ℕ) (planes new : Option DotTable) (height : ℕ) → Placed p m header r → HasRows r rows
     → IsAbove (grid_of p m) r rows → ShowsDots p m planes → rows_or height planes ≡ height
     → r.end ≤ height → (n : ℕ) → rows_or n new ≡ height → LaidIn (grid_of p m) r rows m.dots new
-    → nat_lt 0 (length (fired (grid_of p m) r rows)) ≡ true → ShowsDots p (after p m (c.Raster head) rows) new
-laid-shows p m head r rows planes new height placed fits above shows is end_fits n new_rows laid some =
+    → nat_lt 0 (length (fired (grid_of p m) r rows)) ≡ true → ShowsDots p (after p m (c.Raster header) rows) new
+laid-shows p m header r rows planes new height placed fits above shows is end_fits n new_rows laid some =
     let g : Grid = grid_of p m in
-    let m' : Machine = after p m (c.Raster head) rows in
+    let m' : Machine = after p m (c.Raster header) rows in
     let t : DotTable = laid.table in
     let S : Option DotTable → Type 0 = λ o. ShowsDots p m' o in
     let dots_are : m'.dots ≡ m.dots ++ fired g r rows = ap (λ (ds : List Dot). m.dots ++ ds) (placed.fires rows) in
     let D : List Dot → Type 0 = λ ds. HasDots (column_step p) (row_step p) m'.columns ds t in
     let height_is : t.rows ≡ height = ap (λ (o : Option DotTable). rows_or n o) (sym laid.is) ∙ new_rows in
     let P : ℕ → Type 0 = λ n. AllByRecursion (IsOnGrid (column_step p) (row_step p) m'.columns n) (m.dots ++ fired g r rows) in
-    let n_is : r.head.n ≡ head.n = ap (λ (h : RasterHead). h.n) placed.head_is in
-    let fits_columns : r.x + r.head.n ≤ m'.columns = omega (arith, placed.column, n_is) in
+    let n_is : r.header.n ≡ header.n = ap (λ (h : RasterHeader). h.n) placed.header_is in
+    let fits_columns : r.x + r.header.n ≤ m'.columns = omega (arith, placed.column, n_is) in
     subst S (sym laid.is) (
       ap (λ (ds : List Dot). nat_lt 0 (length ds)) dots_are ∙ some-more m.dots (fired g r rows) some,
       subst D (sym dots_are) (record {
@@ -204,17 +204,17 @@ laid-shows p m head r rows planes new height placed fits above shows is end_fits
 
 -- a raster without dots
 pub blank-shows : (p : Printer)
-    (m : Machine) (head : RasterHead) (r : Raster) (rows : List ℕ) (planes : Option DotTable) → Placed p m head r
-    → nat_lt 0 (length (fired (grid_of p m) r rows)) ≡ false → ShowsDots p m planes → ShowsDots p (after p m (c.Raster head) rows) planes
-blank-shows p m head r rows planes placed none shows = by_planes planes shows
+    (m : Machine) (header : RasterHeader) (r : Raster) (rows : List ℕ) (planes : Option DotTable) → Placed p m header r
+    → nat_lt 0 (length (fired (grid_of p m) r rows)) ≡ false → ShowsDots p m planes → ShowsDots p (after p m (c.Raster header) rows) planes
+blank-shows p m header r rows planes placed none shows = by_planes planes shows
   where
-    dots_are : (after p m (c.Raster head) rows).dots ≡ m.dots
+    dots_are : (after p m (c.Raster header) rows).dots ≡ m.dots
     dots_are = ap (λ (ds : List Dot). m.dots ++ ds) (placed.fires rows ∙ empty-of (fired (grid_of p m) r rows) none) ∙ append-nil m.dots
 
-    by_planes : (o : Option DotTable) → ShowsDots p m o → ShowsDots p (after p m (c.Raster head) rows) o
+    by_planes : (o : Option DotTable) → ShowsDots p m o → ShowsDots p (after p m (c.Raster header) rows) o
     by_planes None nothing = dots_are ∙ nothing
     by_planes (Some t) has =
-        let D : List Dot → Type 0 = λ ds. HasDots (column_step p) (row_step p) (after p m (c.Raster head) rows).columns ds t in (
+        let D : List Dot → Type 0 = λ ds. HasDots (column_step p) (row_step p) (after p m (c.Raster header) rows).columns ds t in (
           ap (λ (ds : List Dot). nat_lt 0 (length ds)) dots_are ∙ has.0,
           subst D (sym dots_are) (record {
             places = has.1.places;
@@ -294,29 +294,29 @@ eject-runs p m rows old new sheet shows e =
 
 -- ---- a raster is fired
 
-pub record IsFired (p : Printer) (m : Machine) (head : RasterHead) (r : Raster) (rows : List ℕ) (old new : Emulator) : Type 0 where
-  pub placed : Placed p m head r
+pub record IsFired (p : Printer) (m : Machine) (header : RasterHeader) (r : Raster) (rows : List ℕ) (old new : Emulator) : Type 0 where
+  pub placed : Placed p m header r
   pub fits : HasRows r rows
   pub none : None ≡ first_fault (refuse (list_any (λ d. nat_le (bottom_margin m) d.y) (fired (grid_of p m) r rows)) OffSheet
       ∷ refuse (overprints m.dots (fired (grid_of p m) r rows)) Overprint ∷ [])
   pub steps : new.steps ≡ old.steps
-  pub step : machine_of new.state (after p m (c.Raster head) rows).dots ≡ after p m (c.Raster head) rows
+  pub step : machine_of new.state (after p m (c.Raster header) rows).dots ≡ after p m (c.Raster header) rows
 
 -- the machine after a raster, from the state that the code takes
 pub raster-step : (p : Printer) (m : Machine)
-    (head : RasterHead) (r : Raster) (rows : List ℕ) (old : Emulator) (s : State) → Shows p old m → r.head ≡ head
-    → machine_of s (after p (machine_of old.state m.dots) (c.Raster r.head) rows).dots
-    ≡ after p (machine_of old.state m.dots) (c.Raster r.head) rows
-    → machine_of s (after p m (c.Raster head) rows).dots ≡ after p m (c.Raster head) rows
-raster-step p m head r rows old s shows head_is step =
-    let H : RasterHead → Type 0 = λ h. machine_of s (after p (machine_of old.state m.dots) (c.Raster h) rows).dots
+    (header : RasterHeader) (r : Raster) (rows : List ℕ) (old : Emulator) (s : State) → Shows p old m → r.header ≡ header
+    → machine_of s (after p (machine_of old.state m.dots) (c.Raster r.header) rows).dots
+    ≡ after p (machine_of old.state m.dots) (c.Raster r.header) rows
+    → machine_of s (after p m (c.Raster header) rows).dots ≡ after p m (c.Raster header) rows
+raster-step p m header r rows old s shows header_is step =
+    let H : RasterHeader → Type 0 = λ h. machine_of s (after p (machine_of old.state m.dots) (c.Raster h) rows).dots
     ≡ after p (machine_of old.state m.dots) (c.Raster h) rows in
-    let M : Machine → Type 0 = λ n. machine_of s (after p n (c.Raster head) rows).dots ≡ after p n (c.Raster head) rows in
-    subst M shows.state (subst H head_is step)
+    let M : Machine → Type 0 = λ n. machine_of s (after p n (c.Raster header) rows).dots ≡ after p n (c.Raster header) rows in
+    subst M shows.state (subst H header_is step)
 
-pub fire-runs : (p : Printer) (m : Machine) (head : RasterHead) (r : Raster) (rows : List ℕ) (old new : Emulator)
-    → Shows p old m → IsFired p m head r rows old new
-    → ShowsDots p (after p m (c.Raster head) rows) new.planes → Runs p m (c.Raster head) rows old new (Ok None)
-fire-runs p m head r rows old new shows f dots =
+pub fire-runs : (p : Printer) (m : Machine) (header : RasterHeader) (r : Raster) (rows : List ℕ) (old new : Emulator)
+    → Shows p old m → IsFired p m header r rows old new
+    → ShowsDots p (after p m (c.Raster header) rows) new.planes → Runs p m (c.Raster header) rows old new (Ok None)
+fire-runs p m header r rows old new shows f dots =
     let A : Steps → Type 0 = AreStepsOf p in
-    (late p m head r rows f.placed ∙ sym f.none, refl, record { steps = subst A (sym f.steps) shows.steps; state = f.step; dots = dots })
+    (late p m header r rows f.placed ∙ sym f.none, refl, record { steps = subst A (sym f.steps) shows.steps; state = f.step; dots = dots })

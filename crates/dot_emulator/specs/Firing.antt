@@ -15,14 +15,14 @@ pub record Grid : Type 0 where
 
 -- the dots of a raster
 abbrev pub fired : Grid → Raster → List ℕ → List Dot
-fired g r rows = rows_dots r.head.m r.head r.ink (r.x * g.column) (r.y * g.row) rows
+fired g r rows = rows_dots r.header.m r.header r.ink (r.x * g.column) (r.y * g.row) rows
 
 -- A raster has the steps of a grid, and its rows from `end` on are at or below the bottom margin.
 pub record Stands (g : Grid) (r : Raster) : Type 0 where
   pub some_column : 1 ≤ g.column
   pub some_row : 1 ≤ g.row
-  pub across : r.head.h ≡ g.column
-  pub down : r.head.v ≡ r.pitch * g.row
+  pub across : r.header.h ≡ g.column
+  pub down : r.header.v ≡ r.pitch * g.row
   pub ends : (n : ℕ) → nat_le g.bottom (n * g.row) ≡ nat_le r.end n
 
 -- no dot of a raster is at or below the bottom margin
@@ -31,7 +31,7 @@ IsAbove g r rows = list_any (λ d. nat_le g.bottom d.y) (fired g r rows) ≡ fal
 
 -- the bytes have the rows of the raster
 abbrev pub HasRows : Raster → List ℕ → Type 0
-HasRows r rows = length rows ≡ r.head.m * row_bytes r.head
+HasRows r rows = length rows ≡ r.header.m * row_bytes r.header
 
 -- the planes have the places of the dots; there are no planes before the first dot
 abbrev pub PlanesHave : Grid → List Dot → Option DotTable → Type 0

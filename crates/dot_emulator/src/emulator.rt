@@ -11,7 +11,7 @@ ghost use Rattle.std.specs.Prelude.{IsOk, length, true, ◌≡◌};
 use crate::firing::Raster;
 use crate::raster::Steps;
 use crate::state::State;
-use crate::{Command, EmuFault, RasterHead, Sheet};
+use crate::{Command, EmuFault, RasterHeader, Sheet};
 use dot_planes::Planes;
 use printer_profile::{Profile, checked_can_print};
 use pwg_definitions::MOST_COLUMNS;
@@ -99,7 +99,7 @@ impl Emulator {
             → Shows p self.old m → Runs p m command.now rows.now self.old self.new result }
     {
         match *command {
-            Command::Raster { head } => self.fire(head, rows),
+            Command::Raster { header } => self.fire(header, rows),
             Command::Eject => self.eject(),
             plain => self.set(plain),
         }
@@ -131,13 +131,13 @@ impl Emulator {
         Ok(Some(sheet))
     }
 
-    fn fire(&mut self, head: RasterHead, rows: &[u8]) -> Result<Option<Sheet>, EmuStop>
-        requires in_range { in_table (c.Raster head) ≡ true }
-        requires rows_fit { length rows.now ≡ rows_len (c.Raster head) }
+    fn fire(&mut self, header: RasterHeader, rows: &[u8]) -> Result<Option<Sheet>, EmuStop>
+        requires in_range { in_table (c.Raster header) ≡ true }
+        requires rows_fit { length rows.now ≡ rows_len (c.Raster header) }
         ensures { (p : Printer) (m : Machine)
-            → Shows p self.old m → Runs p m (c.Raster head) rows.now self.old self.new result }
+            → Shows p self.old m → Runs p m (c.Raster header) rows.now self.old self.new result }
     {
-        let raster = self.place(head)?;
+        let raster = self.place(header)?;
         if let Some(fault) = self.refuses_dots(raster, rows) {
             return Err(EmuStop::Refused(fault));
         }
@@ -151,16 +151,16 @@ impl Emulator {
     }
 
     // Where on the sheet a raster is, or why it is refused whatever its dots.
-    fn place(&self, head: RasterHead) -> Result<Raster, EmuFault>
-        requires { head.n ≤ last_column }
+    fn place(&self, header: RasterHeader) -> Result<Raster, EmuFault>
+        requires { header.n ≤ last_column }
         ensures placed { (p : Printer) (dots : List Dot)
-            → AreStepsOf p self.now.steps → IsPlaced p (machine_of self.now.state dots) head result }
+            → AreStepsOf p self.now.steps → IsPlaced p (machine_of self.now.state dots) header result }
         ensures page { OnOk result (1 ≤ unwrap_or self.now.state.page 0) }
-        ensures head { IfOk result (λ r. r.head ≡ head) }
-        ensures x { IfOk result (λ r. r.x ≡ self.now.state.across / head.h) }
+        ensures header { IfOk result (λ r. r.header ≡ header) }
+        ensures x { IfOk result (λ r. r.x ≡ self.now.state.across / header.h) }
         ensures on_page { IfOk result (λ r. r.end ≤ sheet_rows self.now.state.page self.now.steps.row) }
     {
-        self.state.place(self.steps, head)
+        self.state.place(self.steps, header)
     }
 
     // Why the dots of a raster are refused.
@@ -187,7 +187,7 @@ impl Emulator {
         requires some_page { 1 ≤ unwrap_or self.old.state.page 0 }
         requires page { next.page ≡ self.old.state.page }
         requires columns { self.old.state.columns ≤ next.columns }
-        requires end { raster.x + raster.head.n ≤ next.columns }
+        requires end { raster.x + raster.header.n ≤ next.columns }
         ensures state { OnOk result (self.new.state ≡ next) }
         ensures steps { self.new.steps ≡ self.old.steps }
         ensures laid { OnOk result ((g : Grid) (dots : List Dot) → Stands g raster → IsAbove g raster rows.now

@@ -5,14 +5,14 @@ ghost use Rattle.printer_definitions.specs.Inks.{ink_place};
 ghost use Rattle.pwg_definitions.specs.Limits.{most_rows};
 ghost use Rattle.std.specs.Prelude.{drop, length, take, ◌*◌, ◌+◌, ◌<◌, ◌≡◌, ◌≤◌};
 
-use crate::RasterHead;
+use crate::RasterHeader;
 use dot_planes::{Planes, has_dot};
 use weave_base::Ink;
 
 /// A raster in columns and rows of its sheet.
 #[derive(Clone, Copy)]
 pub(crate) struct Raster {
-    pub(crate) head: RasterHead,
+    pub(crate) header: RasterHeader,
     pub(crate) ink: Ink,
     /// The column of its first dots.
     pub(crate) x: u32,
@@ -24,7 +24,7 @@ pub(crate) struct Raster {
     pub(crate) end: u32,
     ghost y_most: { y ≤ 2 * most_rows },
     ghost end_most: { end ≤ most_rows },
-    ghost x_most: { x + head.n ≤ last_column },
+    ghost x_most: { x + header.n ≤ last_column },
 }
 
 // The place of an ink among the planes of a sheet.
@@ -61,10 +61,10 @@ impl Raster {
 
     // How many bytes each of its rows has.
     fn row_len(&self) -> usize
-        ensures is { result ≡ row_bytes self.now.head }
+        ensures is { result ≡ row_bytes self.now.header }
         ensures most { result ≤ 1024 }
     {
-        (usize::from(self.head.n) + 7) / 8
+        (usize::from(self.header.n) + 7) / 8
     }
 
     // The row of the sheet where its row i is.
@@ -81,9 +81,9 @@ impl Raster {
             → result ≡ list_any (λ d. nat_le g.bottom d.y) (fired g self.now rows.now) }
     {
         let len = self.row_len();
-        for i in 0..self.head.m {
+        for i in 0..self.header.m {
             if self.row_at(i) >= self.end
-                && has_dot(row_of(rows, len, i), usize::from(self.head.n))
+                && has_dot(row_of(rows, len, i), usize::from(self.header.n))
             {
                 return true;
             }
@@ -97,8 +97,8 @@ impl Raster {
         ensures { (g : Grid) → Stands g self.now → result ≡ nat_lt 0 (length (fired g self.now rows.now)) }
     {
         let len = self.row_len();
-        for i in 0..self.head.m {
-            if has_dot(row_of(rows, len, i), usize::from(self.head.n)) {
+        for i in 0..self.header.m {
+            if has_dot(row_of(rows, len, i), usize::from(self.header.n)) {
                 return true;
             }
         }
@@ -117,8 +117,8 @@ impl Raster {
     {
         let len = self.row_len();
         let ink = plane_of(self.ink);
-        let dots = u32::from(self.head.n);
-        for i in 0..self.head.m {
+        let dots = u32::from(self.header.n);
+        for i in 0..self.header.m {
             let y = self.row_at(i);
             if y < self.end && planes.meets(ink, y, self.x, row_of(rows, len, i), dots) {
                 return true;
@@ -134,15 +134,15 @@ impl Raster {
         requires width { planes.old.width ≡ last_column }
         requires height { self.now.end ≤ planes.old.rows }
         ensures size { HasSizeOf planes.old planes.new }
-        ensures beside { IsKeptFrom (self.now.x + self.now.head.n) planes.old planes.new }
+        ensures beside { IsKeptFrom (self.now.x + self.now.header.n) planes.old planes.new }
         ensures places { (g : Grid) (dots : List Dot) → Stands g self.now → IsAbove g self.now rows.now
             → HasPlaces g.column g.row dots planes.old
             → HasPlaces g.column g.row (dots ++ fired g self.now rows.now) planes.new }
     {
         let len = self.row_len();
         let ink = plane_of(self.ink);
-        let dots = u32::from(self.head.n);
-        for i in 0..self.head.m {
+        let dots = u32::from(self.header.n);
+        for i in 0..self.header.m {
             let y = self.row_at(i);
             if y < self.end {
                 planes.lay(ink, y, self.x, row_of(rows, len, i), dots);

@@ -8,7 +8,7 @@ ghost use Rattle.std.specs.Prelude.{[], ◌%◌, ◌*◌, ◌/◌, ◌<◌, ◌�
 
 use crate::firing::Raster;
 use crate::state::State;
-use crate::{EmuFault, RasterHead};
+use crate::{EmuFault, RasterHeader};
 use printer_profile::Profile;
 use pwg_definitions::MOST_COLUMNS;
 
@@ -58,10 +58,10 @@ impl State {
     ghost use Rattle.printer_definitions.specs.Printer.{Printer};
 
     /// Why a raster is refused, whatever its dots.
-    pub(crate) fn refuses_raster(&self, steps: Steps, head: RasterHead) -> Option<EmuFault>
-        ensures is { (p : Printer) → AreStepsOf p steps → result ≡ early_fault p (machine_of self.now []) head }
+    pub(crate) fn refuses_raster(&self, steps: Steps, header: RasterHeader) -> Option<EmuFault>
+        ensures is { (p : Printer) → AreStepsOf p steps → result ≡ early_fault p (machine_of self.now []) header }
         ensures page { result ≡ None → 1 ≤ unwrap_or self.now.page 0 }
-        ensures column { result ≡ None → head.h ≡ steps.column }
+        ensures column { result ≡ None → header.h ≡ steps.column }
     {
         if !self.graphics {
             return Some(EmuFault::NotGraphics);
@@ -72,10 +72,10 @@ impl State {
         if self.margins.is_none() {
             return Some(EmuFault::NoMargins);
         }
-        if u32::from(head.h) != steps.column || u32::from(head.v) != steps.nozzle {
+        if u32::from(header.h) != steps.column || u32::from(header.v) != steps.nozzle {
             return Some(EmuFault::Density);
         }
-        if head.m != steps.nozzles {
+        if header.m != steps.nozzles {
             return Some(EmuFault::Rows);
         }
         if self.across % steps.column != 0 || (self.top() + self.down) % steps.row != 0 {
@@ -85,24 +85,24 @@ impl State {
     }
 
     /// Where on the sheet a raster is, or why it is refused whatever its dots.
-    pub(crate) fn place(&self, steps: Steps, head: RasterHead) -> Result<Raster, EmuFault>
-        requires { head.n ≤ last_column }
+    pub(crate) fn place(&self, steps: Steps, header: RasterHeader) -> Result<Raster, EmuFault>
+        requires { header.n ≤ last_column }
         ensures placed { (p : Printer) (dots : List Dot)
-            → AreStepsOf p steps → IsPlaced p (machine_of self.now dots) head result }
+            → AreStepsOf p steps → IsPlaced p (machine_of self.now dots) header result }
         ensures page { OnOk result (1 ≤ unwrap_or self.now.page 0) }
-        ensures head { IfOk result (λ r. r.head ≡ head) }
-        ensures x { IfOk result (λ r. r.x ≡ self.now.across / head.h) }
+        ensures header { IfOk result (λ r. r.header ≡ header) }
+        ensures x { IfOk result (λ r. r.x ≡ self.now.across / header.h) }
         ensures on_page { IfOk result (λ r. r.end ≤ sheet_rows self.now.page steps.row) }
     {
-        if let Some(fault) = self.refuses_raster(steps, head) {
+        if let Some(fault) = self.refuses_raster(steps, header) {
             return Err(fault);
         }
         let x = self.across / steps.column;
-        if x + u32::from(head.n) > MOST_COLUMNS {
+        if x + u32::from(header.n) > MOST_COLUMNS {
             return Err(EmuFault::OffSheet);
         }
         Ok(Raster {
-            head,
+            header,
             ink: self.colour,
             x,
             y: (self.top() + self.down) / steps.row,
@@ -113,25 +113,19 @@ impl State {
 
     /// The state after the raster.
     pub(crate) fn after_raster(&self, raster: Raster) -> State
-        requires { raster.x ≡ self.now.across / raster.head.h }
+        requires { raster.x ≡ self.now.across / raster.header.h }
         ensures page { result.page ≡ self.now.page }
         ensures columns { self.now.columns ≤ result.columns }
-        ensures end { raster.x + raster.head.n ≤ result.columns }
+        ensures end { raster.x + raster.header.n ≤ result.columns }
         ensures step { (p : Printer) (dots : List Dot) (rows : List ℕ)
-            → Placed p (machine_of self.now dots) raster.head raster
-            → machine_of result (after p (machine_of self.now dots) (c.Raster raster.head) rows).dots
-            ≡ after p (machine_of self.now dots) (c.Raster raster.head) rows }
+            → Placed p (machine_of self.now dots) raster.header raster
+            → machine_of result (after p (machine_of self.now dots) (c.Raster raster.header) rows).dots
+            ≡ after p (machine_of self.now dots) (c.Raster raster.header) rows }
     {
-        let end = raster.x + u32::from(raster.head.n);
-        State {
-            graphics: self.graphics,
-            unit: self.unit,
-            page: self.page,
-            margins: self.margins,
-            colour: self.colour,
-            down: self.down,
-            across: self.across + u32::from(raster.head.n) * u32::from(raster.head.h),
-            columns: self.columns.max(end),
-        }
+        let end = raster.x + u32::from(raster.header.n);
+        let mut next = *self;
+        next.across = self.across + u32::from(raster.header.n) * u32::from(raster.header.h);
+        next.columns = self.columns.max(end);
+        next
     }
 }

@@ -28,16 +28,9 @@ impl State {
     pub(crate) fn graphics(&self) -> State
         ensures { (p : Printer) (dots : List Dot) → IsStep p (machine_of self.now dots) c.Graphics (Ok result) }
     {
-        State {
-            graphics: true,
-            unit: self.unit,
-            page: self.page,
-            margins: self.margins,
-            colour: self.colour,
-            down: self.down,
-            across: self.across,
-            columns: self.columns,
-        }
+        let mut next = *self;
+        next.graphics = true;
+        next
     }
 
     /// Sets the unit.
@@ -45,16 +38,9 @@ impl State {
         requires { 1 ≤ m }
         ensures { (p : Printer) (dots : List Dot) → IsStep p (machine_of self.now dots) (c.Unit m) (Ok result) }
     {
-        State {
-            graphics: self.graphics,
-            unit: Some(m),
-            page: self.page,
-            margins: self.margins,
-            colour: self.colour,
-            down: self.down,
-            across: self.across,
-            columns: self.columns,
-        }
+        let mut next = *self;
+        next.unit = Some(m);
+        next
     }
 
     /// Sets the page's length.
@@ -72,16 +58,12 @@ impl State {
         if length > LONGEST_PAGE {
             return Err(EmuFault::OffSheet);
         }
-        Ok(State {
-            graphics: self.graphics,
-            unit: self.unit,
-            page: Some(length),
-            margins: None,
-            colour: self.colour,
-            down: 0,
-            across: 0,
-            columns: self.columns,
-        })
+        let mut next = *self;
+        next.page = Some(length);
+        next.margins = None;
+        next.down = 0;
+        next.across = 0;
+        Ok(next)
     }
 
     /// Sets the margins.
@@ -111,16 +93,11 @@ impl State {
         if margins.bottom > self.page_length() {
             return Err(EmuFault::OffSheet);
         }
-        Ok(State {
-            graphics: self.graphics,
-            unit: self.unit,
-            page: self.page,
-            margins: Some(margins),
-            colour: self.colour,
-            down: 0,
-            across: 0,
-            columns: self.columns,
-        })
+        let mut next = *self;
+        next.margins = Some(margins);
+        next.down = 0;
+        next.across = 0;
+        Ok(next)
     }
 
     /// Moves down to a position from the top margin.
@@ -140,16 +117,9 @@ impl State {
         if self.top() + down > self.page_length() {
             return Err(EmuFault::OffSheet);
         }
-        Ok(State {
-            graphics: self.graphics,
-            unit: self.unit,
-            page: self.page,
-            margins: self.margins,
-            colour: self.colour,
-            down,
-            across: self.across,
-            columns: self.columns,
-        })
+        let mut next = *self;
+        next.down = down;
+        Ok(next)
     }
 
     /// Moves down.
@@ -166,16 +136,9 @@ impl State {
         if self.top() + down > self.page_length() {
             return Err(EmuFault::OffSheet);
         }
-        Ok(State {
-            graphics: self.graphics,
-            unit: self.unit,
-            page: self.page,
-            margins: self.margins,
-            colour: self.colour,
-            down,
-            across: self.across,
-            columns: self.columns,
-        })
+        let mut next = *self;
+        next.down = down;
+        Ok(next)
     }
 
     /// Moves to a position from the left margin.
@@ -185,48 +148,27 @@ impl State {
         if self.unit.is_none() {
             return Err(EmuFault::NoUnit);
         }
-        Ok(State {
-            graphics: self.graphics,
-            unit: self.unit,
-            page: self.page,
-            margins: self.margins,
-            colour: self.colour,
-            down: self.down,
-            across: self.units(n),
-            columns: self.columns,
-        })
+        let mut next = *self;
+        next.across = self.units(n);
+        Ok(next)
     }
 
     /// Moves back to the left margin.
     pub(crate) fn return_left(&self) -> State
         ensures { (p : Printer) (dots : List Dot) → IsStep p (machine_of self.now dots) c.Return (Ok result) }
     {
-        State {
-            graphics: self.graphics,
-            unit: self.unit,
-            page: self.page,
-            margins: self.margins,
-            colour: self.colour,
-            down: self.down,
-            across: 0,
-            columns: self.columns,
-        }
+        let mut next = *self;
+        next.across = 0;
+        next
     }
 
     /// Sets the ink that is fired.
     pub(crate) fn set_colour(&self, ink: Ink) -> State
         ensures { (p : Printer) (dots : List Dot) → IsStep p (machine_of self.now dots) (c.Colour ink) (Ok result) }
     {
-        State {
-            graphics: self.graphics,
-            unit: self.unit,
-            page: self.page,
-            margins: self.margins,
-            colour: ink,
-            down: self.down,
-            across: self.across,
-            columns: self.columns,
-        }
+        let mut next = *self;
+        next.colour = ink;
+        next
     }
 
     /// Begins the next sheet.
@@ -238,16 +180,11 @@ impl State {
         if self.margins.is_none() {
             return Err(EmuFault::NoMargins);
         }
-        Ok(State {
-            graphics: self.graphics,
-            unit: self.unit,
-            page: self.page,
-            margins: self.margins,
-            colour: self.colour,
-            down: 0,
-            across: 0,
-            columns: 1,
-        })
+        let mut next = *self;
+        next.down = 0;
+        next.across = 0;
+        next.columns = 1;
+        Ok(next)
     }
 
     /// The state after a command that fires no dots and gives no sheet, or why it is refused.

@@ -3,41 +3,16 @@
 ghost use Rattle.escp2_definitions.specs.Commands.{rows_len as rows_len_of};
 ghost use Rattle.std.specs.Prelude.{◌≡◌};
 
-use crate::{Command, EmuFault, EmuStop, Emulator, RasterHead, Sheet};
+use crate::{Command, EmuFault, EmuStop, Emulator, RasterHeader, Sheet};
 use escp2_commands::in_table;
-use printer_profile::{InkSet, Profile};
+use known_jobs::TINY_COMMANDS;
+use printer_profile::TINY;
 use std::alloc::Global;
 use std::process::Abort;
 use std::test::Fail;
 use weave_base::Ink;
 
-/// A head of three nozzles two rows apart, under a margin of four rows.
-const TINY: Profile = Profile {
-    hdpi: 360,
-    vdpi: 360,
-    nozzles: 3,
-    pitch: 2,
-    inks: InkSet::K,
-    black_start: 0,
-    limits: [255, 255, 255, 255],
-    left: 0,
-    right: 0,
-    top: 4,
-    bottom: 0,
-};
-
-/// The commands before a page of six rows of dots, without margins.
-const PROLOGUE: [Command; 7] = [
-    Command::Init,
-    Command::Graphics,
-    Command::Unit { m: 5 },
-    Command::MicroWeave { n: 0 },
-    Command::OneWay { n: 1 },
-    Command::Length { n: 12 },
-    Command::Margins { top: 0, bottom: 12 },
-];
-
-const HEAD: RasterHead = RasterHead {
+const HEADER: RasterHeader = RasterHeader {
     c: 0,
     v: 20,
     h: 10,
@@ -49,7 +24,7 @@ fn rows_len(command: Command) -> usize
     ensures { result ≡ rows_len_of command }
 {
     match command {
-        Command::Raster { head } => usize::from(head.m) * ((usize::from(head.n) + 7) / 8),
+        Command::Raster { header } => usize::from(header.m) * ((usize::from(header.n) + 7) / 8),
         _ => 0,
     }
 }
@@ -74,10 +49,10 @@ fn stop(rt: &impl Abort, emulator: &mut Emulator, command: Command) -> Option<Em
 fn fire(
     rt: &impl Abort,
     emulator: &mut Emulator,
-    head: RasterHead,
+    header: RasterHeader,
     rows: &[u8],
 ) -> Option<EmuStop> {
-    run(rt, emulator, Command::Raster { head }, rows).err()
+    run(rt, emulator, Command::Raster { header }, rows).err()
 }
 
 fn refused(fault: EmuFault) -> Option<EmuStop> {
@@ -89,11 +64,16 @@ fn at_start(rt: &impl Abort, alloc: Global) -> Emulator {
     Emulator::make(alloc, &TINY)
 }
 
+/// Runs the commands before a page of six rows of dots, without margins.
+fn begin_page(rt: &impl Abort, emulator: &mut Emulator) {
+    for i in 0..7 {
+        assert_eq!(rt; stop(rt, emulator, TINY_COMMANDS[i]), None);
+    }
+}
+
 fn on_page(rt: &impl Abort, alloc: Global) -> Emulator {
     let mut emulator = at_start(rt, alloc);
-    for command in PROLOGUE {
-        assert_eq!(rt; stop(rt, &mut emulator, command), None);
-    }
+    begin_page(rt, &mut emulator);
     emulator
 }
 
@@ -111,10 +91,10 @@ fn dot(rt: &impl Abort, sheet: &Sheet, ink: u8, x: u32, y: u32) -> bool {
 fn a_raster_fired_twice_is_overprint(rt: HostRuntime) {
     let mut emulator = on_page(&rt, rt.alloc());
     let rows = [0x00, 0x00, 0xFF];
-    assert_eq!(rt; fire(&rt, &mut emulator, HEAD, &rows), None);
+    assert_eq!(rt; fire(&rt, &mut emulator, HEADER, &rows), None);
     assert_eq!(rt; stop(&rt, &mut emulator, Command::Return), None);
     assert_eq!(rt;
-        fire(&rt, &mut emulator, HEAD, &rows),
+        fire(&rt, &mut emulator, HEADER, &rows),
         refused(EmuFault::Overprint)
     );
 }
@@ -122,10 +102,10 @@ fn a_raster_fired_twice_is_overprint(rt: HostRuntime) {
 #[test]
 fn a_sheet_has_its_dots_and_the_next_is_blank(rt: HostRuntime) -> Result<(), Fail> {
     let mut emulator = on_page(&rt, rt.alloc());
-    assert_eq!(rt; fire(&rt, &mut emulator, HEAD, &[0x00, 0x00, 0xFF]), None);
+    assert_eq!(rt; fire(&rt, &mut emulator, HEADER, &[0x00, 0x00, 0xFF]), None);
     assert_eq!(rt; stop(&rt, &mut emulator, Command::DownBy { n: 6 }), None);
     assert_eq!(rt; stop(&rt, &mut emulator, Command::Return), None);
-    assert_eq!(rt; fire(&rt, &mut emulator, HEAD, &[0x00, 0xFF, 0x00]), None);
+    assert_eq!(rt; fire(&rt, &mut emulator, HEADER, &[0x00, 0xFF, 0x00]), None);
     let sheet = ejected(&rt, &mut emulator)?;
     assert_eq!(rt; (sheet.rows, sheet.columns), (6, 8));
     assert_eq!(rt; (sheet.planes.count(0), sheet.planes.count(1)), (16, 0));
@@ -141,10 +121,10 @@ fn a_sheet_has_its_dots_and_the_next_is_blank(rt: HostRuntime) -> Result<(), Fai
 #[test]
 fn dots_begin_at_across_and_blank_rasters_widen_the_sheet(rt: HostRuntime) -> Result<(), Fail> {
     let mut emulator = on_page(&rt, rt.alloc());
-    let narrow = RasterHead { n: 5, ..HEAD };
+    let narrow = RasterHeader { n: 5, ..HEADER };
     assert_eq!(rt; stop(&rt, &mut emulator, Command::Across { n: 4 }), None);
     assert_eq!(rt; fire(&rt, &mut emulator, narrow, &[0xAF, 0x07, 0x00]), None);
-    let blank = RasterHead { n: 6, ..HEAD };
+    let blank = RasterHeader { n: 6, ..HEADER };
     assert_eq!(rt; fire(&rt, &mut emulator, blank, &[0x00, 0x03, 0x00]), None);
     let sheet = ejected(&rt, &mut emulator)?;
     assert_eq!(rt; (sheet.rows, sheet.columns), (6, 13));
@@ -158,12 +138,10 @@ fn dots_begin_at_across_and_blank_rasters_widen_the_sheet(rt: HostRuntime) -> Re
 #[test]
 fn init_and_eject_set_the_columns_back(rt: HostRuntime) -> Result<(), Fail> {
     let mut emulator = on_page(&rt, rt.alloc());
-    assert_eq!(rt; fire(&rt, &mut emulator, HEAD, &[0, 0, 0]), None);
-    for command in PROLOGUE {
-        assert_eq!(rt; stop(&rt, &mut emulator, command), None);
-    }
+    assert_eq!(rt; fire(&rt, &mut emulator, HEADER, &[0, 0, 0]), None);
+    begin_page(&rt, &mut emulator);
     assert_eq!(rt; ejected(&rt, &mut emulator)?.columns, 1);
-    assert_eq!(rt; fire(&rt, &mut emulator, HEAD, &[0, 0, 0]), None);
+    assert_eq!(rt; fire(&rt, &mut emulator, HEADER, &[0, 0, 0]), None);
     assert_eq!(rt; ejected(&rt, &mut emulator)?.columns, 8);
     assert_eq!(rt; ejected(&rt, &mut emulator)?.columns, 1);
     Ok(())
@@ -180,7 +158,7 @@ fn each_ink_has_a_plane(rt: HostRuntime) -> Result<(), Fail> {
             None
         );
         assert_eq!(rt; stop(&rt, &mut emulator, Command::Return), None);
-        assert_eq!(rt; fire(&rt, &mut emulator, HEAD, &[rows[k], 0, 0]), None);
+        assert_eq!(rt; fire(&rt, &mut emulator, HEADER, &[rows[k], 0, 0]), None);
     }
     let sheet = ejected(&rt, &mut emulator)?;
     assert_eq!(rt;
@@ -199,11 +177,11 @@ fn what_is_missing_is_refused_first(rt: HostRuntime) {
     let mut emulator = at_start(&rt, rt.alloc());
     let e = &mut emulator;
     assert_eq!(rt;
-        fire(&rt, e, HEAD, &[0, 0, 0]),
+        fire(&rt, e, HEADER, &[0, 0, 0]),
         refused(EmuFault::NotGraphics)
     );
     assert_eq!(rt; stop(&rt, e, Command::Graphics), None);
-    assert_eq!(rt; fire(&rt, e, HEAD, &[0, 0, 0]), refused(EmuFault::NoUnit));
+    assert_eq!(rt; fire(&rt, e, HEADER, &[0, 0, 0]), refused(EmuFault::NoUnit));
     assert_eq!(rt;
         stop(&rt, e, Command::Length { n: 1 }),
         refused(EmuFault::NoUnit)
@@ -247,10 +225,10 @@ fn what_is_missing_is_refused_first(rt: HostRuntime) {
         stop(&rt, e, Command::DownBy { n: 99 }),
         refused(EmuFault::NoMargins)
     );
-    let other = RasterHead {
+    let other = RasterHeader {
         h: 11,
         m: 2,
-        ..HEAD
+        ..HEADER
     };
     assert_eq!(rt; fire(&rt, e, other, &[0, 0]), refused(EmuFault::NoMargins));
 }
@@ -260,22 +238,22 @@ fn the_numbers_of_a_raster_are_refused_in_their_order(rt: HostRuntime) {
     let mut emulator = on_page(&rt, rt.alloc());
     let e = &mut emulator;
     assert_eq!(rt; stop(&rt, e, Command::Across { n: 1 }), None);
-    let other = RasterHead {
+    let other = RasterHeader {
         h: 11,
         m: 2,
-        ..HEAD
+        ..HEADER
     };
     assert_eq!(rt; fire(&rt, e, other, &[0, 0]), refused(EmuFault::Density));
-    let wider = RasterHead {
+    let wider = RasterHeader {
         v: 10,
         m: 2,
-        ..HEAD
+        ..HEADER
     };
     assert_eq!(rt; fire(&rt, e, wider, &[0, 0]), refused(EmuFault::Density));
-    let two = RasterHead { m: 2, ..HEAD };
+    let two = RasterHeader { m: 2, ..HEADER };
     assert_eq!(rt; fire(&rt, e, two, &[0, 0]), refused(EmuFault::Rows));
     let long = [0; 3072];
-    let widest = RasterHead { n: 8191, ..HEAD };
+    let widest = RasterHeader { n: 8191, ..HEADER };
     assert_eq!(rt; fire(&rt, e, widest, &long), refused(EmuFault::OffGrid));
     assert_eq!(rt; stop(&rt, e, Command::Across { n: 2 }), None);
     assert_eq!(rt; fire(&rt, e, widest, &long), refused(EmuFault::OffSheet));
@@ -283,14 +261,17 @@ fn the_numbers_of_a_raster_are_refused_in_their_order(rt: HostRuntime) {
     assert_eq!(rt; fire(&rt, e, widest, &long), None);
     assert_eq!(rt; stop(&rt, e, Command::Return), None);
     assert_eq!(rt; stop(&rt, e, Command::DownBy { n: 1 }), None);
-    assert_eq!(rt; fire(&rt, e, HEAD, &[0, 0, 0]), refused(EmuFault::OffGrid));
+    assert_eq!(rt;
+        fire(&rt, e, HEADER, &[0, 0, 0]),
+        refused(EmuFault::OffGrid)
+    );
 }
 
 #[test]
 fn a_sheet_with_dots_goes_on_downwards(rt: HostRuntime) {
     let mut emulator = on_page(&rt, rt.alloc());
     let e = &mut emulator;
-    assert_eq!(rt; fire(&rt, e, HEAD, &[0x00, 0x80, 0x00]), None);
+    assert_eq!(rt; fire(&rt, e, HEADER, &[0x00, 0x80, 0x00]), None);
     assert_eq!(rt; stop(&rt, e, Command::Init), refused(EmuFault::Backward));
     assert_eq!(rt;
         stop(&rt, e, Command::Length { n: 32_767 }),
@@ -315,12 +296,12 @@ fn a_sheet_with_dots_goes_on_downwards(rt: HostRuntime) {
     );
     assert_eq!(rt; stop(&rt, e, Command::Return), None);
     assert_eq!(rt;
-        fire(&rt, e, HEAD, &[0x80, 0x00, 0x80]),
+        fire(&rt, e, HEADER, &[0x80, 0x00, 0x80]),
         refused(EmuFault::OffSheet)
     );
     assert_eq!(rt;
-        fire(&rt, e, HEAD, &[0x80, 0x00, 0x00]),
+        fire(&rt, e, HEADER, &[0x80, 0x00, 0x00]),
         refused(EmuFault::Overprint)
     );
-    assert_eq!(rt; fire(&rt, e, HEAD, &[0x40, 0x80, 0x00]), None);
+    assert_eq!(rt; fire(&rt, e, HEADER, &[0x40, 0x80, 0x00]), None);
 }

@@ -87,22 +87,13 @@ check_name check.BlackStart = codes "BlackStart"
 
 -- what a cause carries follows its name after a blank: a key by its name, a number in decimal
 abbrev pub text_words : TextCause → List ℕ
-text_words text.BadHead = text_name text.BadHead
-text_words text.NotAscii = text_name text.NotAscii
-text_words text.NoEquals = text_name text.NoEquals
-text_words text.UnknownKey = text_name text.UnknownKey
-text_words text.RepeatedKey = text_name text.RepeatedKey
-text_words text.BadValue = text_name text.BadValue
 text_words (text.Missing key) = codes "Missing" ++ (codes " " ++ name_at key)
+text_words other = text_name other
 
 abbrev pub check_words : ProfileFault → List ℕ
-check_words check.Resolution = check_name check.Resolution
-check_words check.Nozzles = check_name check.Nozzles
-check_words check.Pitch = check_name check.Pitch
 check_words (check.NotCoprime gcd) = codes "NotCoprime" ++ (codes " " ++ decimal gcd)
-check_words check.RowStep = check_name check.RowStep
 check_words (check.TopMargin needs) = codes "TopMargin" ++ (codes " " ++ decimal needs)
-check_words check.BlackStart = check_name check.BlackStart
+check_words other = check_name other
 
 abbrev pub profile_words : ProfileCause → List ℕ
 profile_words profile.Absent = codes "Absent"

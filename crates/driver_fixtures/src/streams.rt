@@ -1,4 +1,4 @@
-//! Streams of pages, and the job of a black page.
+//! Streams of pages.
 ghost use Rattle.std.specs.Prelude.{IfOk, take, ◌≡◌};
 ghost use Rattle.pwg_definitions.specs.Stream.{sync_word};
 
@@ -7,16 +7,6 @@ use std::alloc::{AllocError, Global};
 
 /// The body of a black page: six lines of eight grey pixels.
 pub const BLACK_BODY: [u8; 3] = [5, 7, 0];
-
-/// The job of that page on the printer `tiny`, three nozzles two rows apart. The window is two of its lines, which two
-/// passes fire with 16 dots.
-pub const TINY_JOB: [u8; 92] = [
-    0x1B, 0x40, 0x1B, 0x28, 0x47, 1, 0, 1, 0x1B, 0x28, 0x55, 1, 0, 5, 0x1B, 0x28, 0x69, 1, 0, 0,
-    0x1B, 0x55, 1, 0x1B, 0x28, 0x43, 2, 0, 0x0C, 0, 0x1B, 0x28, 0x63, 4, 0, 0, 0, 0x0C, 0, 0x1B,
-    0x28, 0x56, 2, 0, 0, 0, 0x1B, 0x72, 0, 0x0D, 0x1B, 0x2E, 1, 0x14, 0x0A, 3, 8, 0, 0, 0, 0, 0, 0,
-    0xFF, 0x1B, 0x28, 0x76, 2, 0, 6, 0, 0x1B, 0x72, 0, 0x0D, 0x1B, 0x2E, 1, 0x14, 0x0A, 3, 8, 0, 0,
-    0, 0, 0xFF, 0, 0, 0x0C, 0x1B, 0x40,
-];
 
 /// The first bytes of a stream, without a page (PWG 5102.4, section 4.1).
 pub fn begin(alloc: Global) -> Result<Vec<u8>, AllocError>

@@ -1,13 +1,7 @@
 //! The command `dots`.
-use crate::fixture::{JOB, run_on, sink};
+use crate::fixture::{run_on, sink};
+use known_jobs::{TINY_IMAGES, TINY_JOB};
 use std::test::Fail;
-
-/// The images of the job's sheet: black, and three without a dot.
-const IMAGES: [u8; 52] = [
-    0x50, 0x34, 0x0A, 0x38, 0x20, 0x36, 0x0A, 0, 0, 0, 0, 0xFF, 0xFF, 0x50, 0x34, 0x0A, 0x38, 0x20,
-    0x36, 0x0A, 0, 0, 0, 0, 0, 0, 0x50, 0x34, 0x0A, 0x38, 0x20, 0x36, 0x0A, 0, 0, 0, 0, 0, 0, 0x50,
-    0x34, 0x0A, 0x38, 0x20, 0x36, 0x0A, 0, 0, 0, 0, 0, 0,
-];
 
 #[test]
 fn dots_gives_four_images_of_a_sheet(rt: HostRuntime) -> Result<(), Fail> {
@@ -17,11 +11,11 @@ fn dots_gives_four_images_of_a_sheet(rt: HostRuntime) -> Result<(), Fail> {
             &rt,
             alloc,
             &["dots", "profile=tiny"],
-            &JOB,
+            &TINY_JOB,
             (piece, 0),
             sink(alloc, 4096)?,
         )?;
-        left.is(&rt, 0, &IMAGES, "");
+        left.is(&rt, 0, TINY_IMAGES, "");
     }
     Ok(())
 }
@@ -30,9 +24,9 @@ fn dots_gives_four_images_of_a_sheet(rt: HostRuntime) -> Result<(), Fail> {
 fn a_raster_fired_twice_is_overprint(rt: HostRuntime) -> Result<(), Fail> {
     let alloc = rt.alloc();
     let mut job = Vec::new(alloc);
-    job.extend_from_slice(&JOB[..64])?;
+    job.extend_from_slice(&TINY_JOB[..64])?;
     job.push(0x0D)?;
-    job.extend_from_slice(&JOB[50..64])?;
+    job.extend_from_slice(&TINY_JOB[50..64])?;
     let left = run_on(
         &rt,
         alloc,
@@ -52,7 +46,7 @@ fn another_profile_is_density(rt: HostRuntime) -> Result<(), Fail> {
         &rt,
         alloc,
         &["dots", "profile=tiny1"],
-        &JOB,
+        &TINY_JOB,
         (92, 0),
         sink(alloc, 4096)?,
     )?;
@@ -64,8 +58,8 @@ fn another_profile_is_density(rt: HostRuntime) -> Result<(), Fail> {
 fn sheets_before_a_stop_are_written(rt: HostRuntime) -> Result<(), Fail> {
     let alloc = rt.alloc();
     let mut job = Vec::new(alloc);
-    job.extend_from_slice(&JOB)?;
-    job.extend_from_slice(&JOB[..60])?;
+    job.extend_from_slice(&TINY_JOB)?;
+    job.extend_from_slice(&TINY_JOB[..60])?;
     let cut = run_on(
         &rt,
         alloc,
@@ -74,7 +68,7 @@ fn sheets_before_a_stop_are_written(rt: HostRuntime) -> Result<(), Fail> {
         (33, 0),
         sink(alloc, 4096)?,
     )?;
-    cut.is(&rt, 8, &IMAGES, "job: offset 142: Cut\n");
+    cut.is(&rt, 8, TINY_IMAGES, "job: offset 142: Cut\n");
     let read = run_on(
         &rt,
         alloc,
@@ -83,16 +77,16 @@ fn sheets_before_a_stop_are_written(rt: HostRuntime) -> Result<(), Fail> {
         (50, 3),
         sink(alloc, 4096)?,
     )?;
-    read.is(&rt, 4, &IMAGES, "read failed\n");
+    read.is(&rt, 4, TINY_IMAGES, "read failed\n");
     let most = run_on(
         &rt,
         alloc,
         &["dots", "profile=tiny", "most=91"],
-        &JOB,
+        &TINY_JOB,
         (50, 0),
         sink(alloc, 4096)?,
     )?;
-    most.is(&rt, 8, &IMAGES, "job: offset 91: TooLong\n");
+    most.is(&rt, 8, TINY_IMAGES, "job: offset 91: TooLong\n");
     Ok(())
 }
 
@@ -100,8 +94,8 @@ fn sheets_before_a_stop_are_written(rt: HostRuntime) -> Result<(), Fail> {
 fn a_full_sink_names_the_sheet(rt: HostRuntime) -> Result<(), Fail> {
     let alloc = rt.alloc();
     let mut job = Vec::new(alloc);
-    job.extend_from_slice(&JOB)?;
-    job.extend_from_slice(&JOB)?;
+    job.extend_from_slice(&TINY_JOB)?;
+    job.extend_from_slice(&TINY_JOB)?;
     let left = run_on(
         &rt,
         alloc,
@@ -123,7 +117,7 @@ fn a_job_without_a_sheet_gives_nothing(rt: HostRuntime) -> Result<(), Fail> {
         &rt,
         alloc,
         &["dots", "profile=tiny"],
-        &JOB[..50],
+        &TINY_JOB[..50],
         (92, 0),
         sink(alloc, 64)?,
     )?;

@@ -1,5 +1,6 @@
 //! The command `list`.
-use crate::fixture::{JOB, run_on, sink};
+use crate::fixture::{run_on, sink};
+use known_jobs::TINY_JOB;
 use std::test::Fail;
 
 const LISTING: &str =
@@ -10,7 +11,7 @@ const LISTING: &str =
 #[test]
 fn list_gives_seventeen_lines(rt: HostRuntime) -> Result<(), Fail> {
     let alloc = rt.alloc();
-    let left = run_on(&rt, alloc, &["list"], &JOB, (7, 0), sink(alloc, 4096)?)?;
+    let left = run_on(&rt, alloc, &["list"], &TINY_JOB, (7, 0), sink(alloc, 4096)?)?;
     left.is(&rt, 0, LISTING.as_bytes(), "");
     Ok(())
 }
@@ -20,8 +21,8 @@ fn list_names_each_reader_fault(rt: HostRuntime) -> Result<(), Fail> {
     let alloc = rt.alloc();
     let two = "0 INIT\n2 GRAPHICS\n";
     let cases: [(&[u8], &str, &str, &str); 6] = [
-        (&JOB[..10], "most=99", two, "job: offset 8: Cut\n"),
-        (&JOB[..11], "most=10", two, "job: offset 10: TooLong\n"),
+        (&TINY_JOB[..10], "most=99", two, "job: offset 8: Cut\n"),
+        (&TINY_JOB[..11], "most=10", two, "job: offset 10: TooLong\n"),
         (&[0x1B, 0x41], "most=99", "", "job: offset 1: Unknown\n"),
         (
             &[0x1B, 0x28, 0x47, 2, 0],
@@ -47,9 +48,9 @@ fn list_names_each_reader_fault(rt: HostRuntime) -> Result<(), Fail> {
 #[test]
 fn a_failed_read_and_a_full_sink_leave_what_was_listed(rt: HostRuntime) -> Result<(), Fail> {
     let alloc = rt.alloc();
-    let read = run_on(&rt, alloc, &["list"], &JOB, (1, 9), sink(alloc, 4096)?)?;
+    let read = run_on(&rt, alloc, &["list"], &TINY_JOB, (1, 9), sink(alloc, 4096)?)?;
     read.is(&rt, 4, &LISTING.as_bytes()[..18], "read failed\n");
-    let full = run_on(&rt, alloc, &["list"], &JOB, (92, 0), sink(alloc, 30)?)?;
+    let full = run_on(&rt, alloc, &["list"], &TINY_JOB, (92, 0), sink(alloc, 30)?)?;
     full.is(&rt, 5, &LISTING.as_bytes()[..30], "write failed: page 0\n");
     Ok(())
 }
@@ -61,7 +62,7 @@ fn list_takes_no_profile(rt: HostRuntime) -> Result<(), Fail> {
         &rt,
         alloc,
         &["list", "profile=tiny"],
-        &JOB,
+        &TINY_JOB,
         (92, 0),
         sink(alloc, 64)?,
     )?;

@@ -212,8 +212,8 @@ impl Machine {
             .wrapping_add(STEP - 1)
             .div_euclid(STEP);
         for ink in 0..4 {
-            let head = format!(in self.alloc; "P4\n{} {}\n", self.columns, rows)?;
-            images.extend_from_slice(head.as_bytes())?;
+            let header = format!(in self.alloc; "P4\n{} {}\n", self.columns, rows)?;
+            images.extend_from_slice(header.as_bytes())?;
             for y in 0..rows {
                 self.add_row(ink, y, images)?;
             }

@@ -1,7 +1,8 @@
 //! One meter, and the cap that a word sets on it.
 use crate::fixture::{black_pages, counts, one_meter, runs_to, settled};
-use driver_fixtures::{TINY_JOB, add_page, begin, roomy};
+use driver_fixtures::{add_page, begin, roomy};
 use ink_meter::{DotMeter, Meter};
+use known_jobs::TINY_JOB;
 use pwg_header::Kind;
 use std::alloc::Global;
 use std::process::Abort;

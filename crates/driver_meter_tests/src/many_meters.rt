@@ -1,8 +1,9 @@
 //! Several meters, and none.
 use crate::card::Card;
 use crate::fixture::{black_pages, counts, one_meter, run_metered, runs_to, settled};
-use driver_fixtures::{TINY_JOB, no_files, roomy};
+use driver_fixtures::{no_files, roomy};
 use ink_meter::{DotMeter, Meter};
+use known_jobs::TINY_JOB;
 use std::test::Fail;
 
 #[test]

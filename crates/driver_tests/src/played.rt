@@ -35,8 +35,8 @@ fn add_image(
     top: u16,
     image: &mut Vec<u8>,
 ) -> Result<(), AllocError> {
-    let head = format!(in alloc; "P4\n{} {}\n", dots.width, rows)?;
-    image.extend_from_slice(head.as_bytes())?;
+    let header = format!(in alloc; "P4\n{} {}\n", dots.width, rows)?;
+    image.extend_from_slice(header.as_bytes())?;
     for y in 0..rows {
         add_row(dots, i64::from(y).wrapping_sub(i64::from(top)), image)?;
     }

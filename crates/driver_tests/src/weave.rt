@@ -4,6 +4,7 @@ use crate::fixture::{
     Left, add_header, add_header_of, begin, no_files, one_page, plain, prefix, roomy, run_over,
 };
 use crate::machine::execute;
+use known_jobs::TINY_JOB;
 use pwg_header::Kind;
 use std::alloc::Global;
 use std::test::Fail;
@@ -29,15 +30,6 @@ fn print_by<R: Threads + Sync>(
 
 // A page of eight columns and six lines, all black, without its header.
 const BLACK_BODY: [u8; 3] = [5, 7, 0];
-
-// Its job on three nozzles two rows apart: the window has two rows, which two passes fire.
-const TINY_JOB: [u8; 92] = [
-    0x1B, 0x40, 0x1B, 0x28, 0x47, 1, 0, 1, 0x1B, 0x28, 0x55, 1, 0, 5, 0x1B, 0x28, 0x69, 1, 0, 0,
-    0x1B, 0x55, 1, 0x1B, 0x28, 0x43, 2, 0, 0x0C, 0, 0x1B, 0x28, 0x63, 4, 0, 0, 0, 0x0C, 0, 0x1B,
-    0x28, 0x56, 2, 0, 0, 0, 0x1B, 0x72, 0, 0x0D, 0x1B, 0x2E, 1, 20, 10, 3, 8, 0, 0, 0, 0, 0, 0,
-    0xFF, 0x1B, 0x28, 0x76, 2, 0, 6, 0, 0x1B, 0x72, 0, 0x0D, 0x1B, 0x2E, 1, 20, 10, 3, 8, 0, 0, 0,
-    0, 0xFF, 0, 0, 0x0C, 0x1B, 0x40,
-];
 
 #[test]
 fn tiny_prints_ninety_two_bytes(rt: HostRuntime) -> Result<(), Fail> {

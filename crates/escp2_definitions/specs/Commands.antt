@@ -4,7 +4,7 @@ use Rattle.std.specs.Prelude.{◌≡◌, ℕ, zero, suc, ◌+◌, ◌*◌, ◌/�
 use Rattle.std.specs.Prelude.{MatchBool, List, [], ◌∷◌, ◌++◌, length, drop}
 use Rattle.printer_definitions.specs.declared.inks.Ink.{Ink}
 use Rattle.printer_definitions.specs.declared.inks.Ink.TheVariants.{Black, Cyan, Magenta, Yellow}
-use Rattle.escp2_definitions.specs.declared.command.RasterHead.{RasterHead}
+use Rattle.escp2_definitions.specs.declared.command.RasterHeader.{RasterHeader}
 use Rattle.escp2_definitions.specs.declared.command.Command.{Command}
 use Rattle.escp2_definitions.specs.declared.command.Command.TheVariants as c
 use Rattle.escp2_definitions.specs.declared.stops.JobCause.{JobCause}
@@ -80,7 +80,7 @@ in_table (c.Across n) = is_position n
 in_table c.Return = true
 in_table c.Eject = true
 in_table (c.Colour ink) = true
-in_table (c.Raster head) = is_switch head.c && is_some head.v && is_some head.h && is_some head.m && is_width head.n
+in_table (c.Raster header) = is_switch header.c && is_some header.v && is_some header.h && is_some header.m && is_width header.n
 
 -- ---- what spells a command
 
@@ -103,20 +103,20 @@ command_bytes (c.Across n) = 0x1B ∷ 0x24 ∷ two_bytes n
 command_bytes c.Return = 0x0D ∷ []
 command_bytes c.Eject = 0x0C ∷ []
 command_bytes (c.Colour ink) = 0x1B ∷ 0x72 ∷ colour_code ink ∷ []
-command_bytes (c.Raster head) = 0x1B ∷ 0x2E ∷ head.c ∷ head.v ∷ head.h ∷ head.m ∷ two_bytes head.n
+command_bytes (c.Raster header) = 0x1B ∷ 0x2E ∷ header.c ∷ header.v ∷ header.h ∷ header.m ∷ two_bytes header.n
 
 -- the bytes of one row of a raster
-abbrev pub row_bytes : RasterHead → ℕ
-row_bytes head = (head.n + 7) / 8
+abbrev pub row_bytes : RasterHeader → ℕ
+row_bytes header = (header.n + 7) / 8
 
 -- how many bytes of rows go with a command
 abbrev pub rows_len : Command → ℕ
-rows_len (c.Raster head) = head.m * row_bytes head
+rows_len (c.Raster header) = header.m * row_bytes header
 rows_len other = 0
 
 -- the bytes that spell the rows of a command: plain, or each row by its code
 abbrev pub IsRowsText : Command → List ℕ → List ℕ → Type 0
-IsRowsText (c.Raster head) rows text = MatchBool (head.c == 0) (text ≡ rows) (RowsCode head.m (row_bytes head) text rows)
+IsRowsText (c.Raster header) rows text = MatchBool (header.c == 0) (text ≡ rows) (RowsCode header.m (row_bytes header) text rows)
 IsRowsText other rows text = text ≡ rows
 
 -- These bytes spell the command, with the rows of a raster.
@@ -158,15 +158,15 @@ sized len next (low ∷ []) = if low == len then Part else Wrong 3 BadLength
 sized len next (low ∷ high ∷ rest) = if low == len then (if high == 0 then next rest else Wrong 4 BadLength) else Wrong 3 BadLength
 
 -- a raster with the rows that were read
-abbrev pub with_rows : RasterHead → RowsRead → Heard
-with_rows head (RowsAre rows at) = One (c.Raster head) rows at
-with_rows head RowsPart = Part
-with_rows head (RowsWrong at) = Wrong at RunCode
+abbrev pub with_rows : RasterHeader → RowsRead → Heard
+with_rows header (RowsAre rows at) = One (c.Raster header) rows at
+with_rows header RowsPart = Part
+with_rows header (RowsWrong at) = Wrong at RunCode
 
 -- the rows after a raster's numbers, which take eight bytes
-abbrev pub raster_rows : RasterHead → List ℕ → Heard
-raster_rows head rest =
-    with_rows head (if head.c == 0 then plain_at (head.m * row_bytes head) 8 rest else rows_at head.m (row_bytes head) 8 rest)
+abbrev pub raster_rows : RasterHeader → List ℕ → Heard
+raster_rows header rest =
+    with_rows header (if header.c == 0 then plain_at (header.m * row_bytes header) 8 rest else rows_at header.m (row_bytes header) 8 rest)
 
 -- the numbers of a raster, and then its rows
 abbrev pub raster_at : List ℕ → Heard

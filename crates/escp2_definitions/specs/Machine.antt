@@ -6,7 +6,7 @@ use Rattle.printer_definitions.specs.declared.inks.Ink.{Ink}
 use Rattle.printer_definitions.specs.declared.inks.Ink.TheVariants.{Black}
 use Rattle.printer_definitions.specs.Inks.{same_ink}
 use Rattle.printer_definitions.specs.Printer.{Printer, column_step, row_step, nozzle_step}
-use Rattle.escp2_definitions.specs.declared.command.RasterHead.{RasterHead}
+use Rattle.escp2_definitions.specs.declared.command.RasterHeader.{RasterHeader}
 use Rattle.escp2_definitions.specs.declared.command.Command.{Command}
 use Rattle.escp2_definitions.specs.declared.command.Command.TheVariants as c
 use Rattle.escp2_definitions.specs.declared.stops.EmuFault.{EmuFault}
@@ -94,15 +94,15 @@ row_dots ink x step y (true ∷ row) = record { ink = ink; x = x; y = y } ∷ ro
 row_dots ink x step y (false ∷ row) = row_dots ink (x + step) step y row
 
 -- The dots of the rows of a raster, the top one first. Bits past the last column are no dots.
-unfoldable pub rows_dots : ℕ → RasterHead → Ink → ℕ → ℕ → List ℕ → List Dot
-rows_dots zero head ink x y bytes = []
-rows_dots (suc m) head ink x y bytes =
-    row_dots ink x head.h y (take head.n (bits (take (row_bytes head) bytes)))
-    ++ rows_dots m head ink x (y + head.v) (drop (row_bytes head) bytes)
+unfoldable pub rows_dots : ℕ → RasterHeader → Ink → ℕ → ℕ → List ℕ → List Dot
+rows_dots zero header ink x y bytes = []
+rows_dots (suc m) header ink x y bytes =
+    row_dots ink x header.h y (take header.n (bits (take (row_bytes header) bytes)))
+    ++ rows_dots m header ink x (y + header.v) (drop (row_bytes header) bytes)
 
 -- the dots that a raster fires
-abbrev pub raster_dots : Machine → RasterHead → List ℕ → List Dot
-raster_dots s head rows = rows_dots head.m head s.colour s.across (from_top s) rows
+abbrev pub raster_dots : Machine → RasterHeader → List ℕ → List Dot
+raster_dots s header rows = rows_dots header.m header s.colour s.across (from_top s) rows
 
 -- whether two dots are of one ink at one place
 abbrev pub is_at : Dot → Dot → Bool
@@ -137,16 +137,16 @@ abbrev pub no_margins : Machine → Refusal
 no_margins s = refuse (is_none s.margins) NoMargins
 
 -- whether a raster's steps are not those of the printer
-abbrev pub is_other_density : Printer → RasterHead → Bool
-is_other_density p head = not (head.h == column_step p) || not (head.v == nozzle_step p)
+abbrev pub is_other_density : Printer → RasterHeader → Bool
+is_other_density p header = not (header.h == column_step p) || not (header.v == nozzle_step p)
 
 -- whether the position is between the printer's columns or rows
 abbrev pub is_off_grid : Printer → Machine → Bool
 is_off_grid p s = not (s.across % column_step p == 0) || not (from_top s % row_step p == 0)
 
 -- whether a raster goes past the last column, or has a dot at or below the bottom margin
-abbrev pub is_off_sheet : Printer → Machine → RasterHead → List Dot → Bool
-is_off_sheet p s head new = nat_lt last_column (s.across / column_step p + head.n) || list_any (λ d. nat_le (bottom_margin s) d.y) new
+abbrev pub is_off_sheet : Printer → Machine → RasterHeader → List Dot → Bool
+is_off_sheet p s header new = nat_lt last_column (s.across / column_step p + header.n) || list_any (λ d. nat_le (bottom_margin s) d.y) new
 
 -- The refusals of a command, in the order in which they are tested.
 abbrev pub refusals : Printer → Machine → Command → List ℕ → List Refusal
@@ -167,13 +167,13 @@ refusals p s (c.Across n) rows = no_unit s ∷ []
 refusals p s c.Return rows = []
 refusals p s c.Eject rows = no_margins s ∷ []
 refusals p s (c.Colour ink) rows = []
-refusals p s (c.Raster head) rows =
+refusals p s (c.Raster header) rows =
     refuse (not s.graphics) NotGraphics ∷ no_unit s ∷ no_margins s
-    ∷ refuse (is_other_density p head) Density
-    ∷ refuse (not (head.m == p.nozzles)) Rows
+    ∷ refuse (is_other_density p header) Density
+    ∷ refuse (not (header.m == p.nozzles)) Rows
     ∷ refuse (is_off_grid p s) OffGrid
-    ∷ refuse (is_off_sheet p s head (raster_dots s head rows)) OffSheet
-    ∷ refuse (overprints s.dots (raster_dots s head rows)) Overprint
+    ∷ refuse (is_off_sheet p s header (raster_dots s header rows)) OffSheet
+    ∷ refuse (overprints s.dots (raster_dots s header rows)) Overprint
     ∷ []
 
 -- ---- what is done
@@ -194,10 +194,10 @@ after p s (c.Across n) rows = record s { across = units s n }
 after p s c.Return rows = record s { across = 0 }
 after p s c.Eject rows = record s { columns = 1; dots = []; down = 0; across = 0 }
 after p s (c.Colour ink) rows = record s { colour = ink }
-after p s (c.Raster head) rows = record s {
-  dots = s.dots ++ raster_dots s head rows;
-  across = s.across + head.n * head.h;
-  columns = max s.columns (s.across / column_step p + head.n);
+after p s (c.Raster header) rows = record s {
+  dots = s.dots ++ raster_dots s header rows;
+  across = s.across + header.n * header.h;
+  columns = max s.columns (s.across / column_step p + header.n);
 }
 
 -- The sheets that a command gives: `Eject` gives the current one, with as many rows as its length takes.

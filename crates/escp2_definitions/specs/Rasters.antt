@@ -15,7 +15,7 @@ colour_after ink other = ink
 
 -- one for a raster
 abbrev pub raster_count : Command → ℕ
-raster_count (c.Raster head) = 1
+raster_count (c.Raster header) = 1
 raster_count other = 0
 
 -- The rasters of an ink among commands, which begin with this colour.

@@ -31,7 +31,7 @@ rows_apart (suc m) width bytes = take width bytes ∷ rows_apart m width (drop w
 
 -- the rows of a command as they are written, where coded rows have this code
 abbrev pub written_rows : (List ℕ → List ℕ) → Command → List ℕ → List ℕ
-written_rows code (c.Raster head) rows = if head.c == 0 then rows else flat_map code (rows_apart head.m (row_bytes head) rows)
+written_rows code (c.Raster header) rows = if header.c == 0 then rows else flat_map code (rows_apart header.m (row_bytes header) rows)
 written_rows code other rows = rows
 
 -- The bytes that are written for a command and its rows.

@@ -9,6 +9,7 @@ use Rattle.escp2_definitions.specs.RowCode.{packet_row, plain_at, row_at, rows_a
 use Rattle.escp2_definitions.specs.RowCode.Control.{Follow, Again, Refused}
 use Rattle.escp2_definitions.specs.RowCode.RowPacket.{Bytes, Repeat}
 use Rattle.escp2_definitions.specs.RowCode.RowsRead.{RowsAre, RowsPart, RowsWrong}
+use Rattle.escp2_laws.proofs.Rows.{places-same, rows-same}
 
 -- each number is below 256
 abbrev pub AreBytes : List ℕ → Type 0
@@ -44,14 +45,6 @@ record ReadPacket (left at : ℕ) (bytes row : List ℕ) (next : ℕ) : Type 0 w
   within : length row ≤ left
   gives : row ≡ packet_row packet
   front : Front bytes (packet_code packet) at next
-
--- equal answers have equal rows
-rows-same : (rs ss : List ℕ) (j k : ℕ) → RowsAre rs j ≡ RowsAre ss k → rs ≡ ss
-rows-same rs ss j k e = cc
-
--- and equal places
-places-same : (rs ss : List ℕ) (j k : ℕ) → RowsAre rs j ≡ RowsAre ss k → j ≡ k
-places-same rs ss j k e = cc
 
 -- bytes as they are
 literal-read : (count left at n : ℕ) (bytes row : List ℕ) (next : ℕ) → n + 1 ≡ count → count ≤ 128 → count ≤ left

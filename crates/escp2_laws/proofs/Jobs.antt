@@ -24,7 +24,7 @@ command_len (c.Across n) = omega arith
 command_len c.Return = omega arith
 command_len c.Eject = omega arith
 command_len (c.Colour ink) = omega arith
-command_len (c.Raster head) = omega arith
+command_len (c.Raster header) = omega arith
 
 -- so has its spelling
 spelled_len : (command : Command) (rows bytes : List ℕ) → Spells command rows bytes → 1 ≤ length bytes

@@ -2,10 +2,10 @@
 use Rattle.std.proofs.Common.{◌≡◌, ℕ, ◌+◌, List, [], ◌∷◌, ◌++◌, length, refl, sym, ◌∙◌, ap, arith, length-append, append-nil}
 use Rattle.escp2_definitions.specs.RowCode.{RowsCode, rows_at}
 use Rattle.escp2_definitions.specs.RowCode.RowsRead.{RowsAre}
-use Rattle.escp2_laws.proofs.Rows.{rows-read}
+use Rattle.escp2_laws.proofs.Rows.{places-same, rows-read, rows-same}
 
 -- bytes that are no longer than their prefix are the prefix
-nothing_left : (bytes more : List ℕ) → length bytes ≡ length (bytes ++ more) → more ≡ []
+pub nothing_left : (bytes more : List ℕ) → length bytes ≡ length (bytes ++ more) → more ≡ []
 nothing_left bytes [] e = refl
 nothing_left bytes (b ∷ more) e = absurd (omega (arith, length-append bytes (b ∷ more)))
 
@@ -19,13 +19,7 @@ rows_alone m width code more rows other_rows one other =
     rows-read m width 0 (code ++ more) other_rows [] other in
     let same : RowsAre rows (0 + length code) ≡ RowsAre other_rows (0 + length (code ++ more)) =
     sym first ∙ ap (rows_at m width 0) (sym (append-nil (code ++ more))) ∙ second in
-    (nothing_left code more (omega (arith, lengths _ _ _ _ same)), equals _ _ _ _ same)
-  where
-    lengths : (rs ss : List ℕ) (j k : ℕ) → RowsAre rs j ≡ RowsAre ss k → j ≡ k
-    lengths rs ss j k e = cc
-
-    equals : (rs ss : List ℕ) (j k : ℕ) → RowsAre rs j ≡ RowsAre ss k → rs ≡ ss
-    equals rs ss j k e = cc
+    (nothing_left code more (omega (arith, places-same _ _ _ _ same)), rows-same _ _ _ _ same)
 
 -- a code is read, whatever follows
 pub code_read : (m width : ℕ) (code rest rows : List ℕ) → RowsCode m width code rows

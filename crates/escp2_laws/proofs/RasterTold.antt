@@ -3,45 +3,38 @@ use Rattle.std.proofs.Common.{◌≡◌, ℕ, zero, suc, ◌+◌, ◌-◌, ◌*�
 use Rattle.std.proofs.Common.{length, take, drop, refl, sym, ◌∙◌, ap, subst, arith, append-nil, length-append}
 use Rattle.std.specs.Prelude.{MatchBool}
 use Rattle.std.proofs.lemmas.List.{drop_at, take_at}
-use Rattle.escp2_definitions.specs.declared.command.RasterHead.{RasterHead}
+use Rattle.escp2_definitions.specs.declared.command.RasterHeader.{RasterHeader}
 use Rattle.escp2_definitions.specs.declared.command.Command.TheVariants as c
 use Rattle.escp2_definitions.specs.RowCode.{RowsCode, RowsRead, plain_at, rows_at}
 use Rattle.escp2_definitions.specs.RowCode.RowsRead.{RowsAre, RowsPart, RowsWrong}
 use Rattle.escp2_definitions.specs.Commands.{Heard, IsRowsText, command_bytes, in_table, is_some, is_switch, is_width, number, raster_at}
 use Rattle.escp2_definitions.specs.Commands.{raster_rows, row_bytes, wide_number, with_rows}
 use Rattle.escp2_laws.proofs.Grammar.{AreBytes, ReadRows, rows-parsed}
+use Rattle.escp2_laws.proofs.Rows.{places-same, rows-same}
 use Rattle.escp2_laws.proofs.RowsTold.{RowsTold, plain-told, rows-told}
 use Rattle.escp2_laws.proofs.Told.{Told, told-number, told-wide}
 
 -- ---- rows of a raster
 
--- equal answers have equal rows
-rows-same : (rs ss : List ℕ) (j k : ℕ) → RowsAre rs j ≡ RowsAre ss k → rs ≡ ss
-rows-same rs ss j k e = cc
-
--- and equal places
-places-same : (rs ss : List ℕ) (j k : ℕ) → RowsAre rs j ≡ RowsAre ss k → j ≡ k
-places-same rs ss j k e = cc
-
 -- What the rows of a raster are, read from bytes that are all theirs.
-record AreRows (head : RasterHead) (rows text : List ℕ) : Type 0 where
-  fits : length rows ≡ head.m * row_bytes head
-  are : IsRowsText (c.Raster head) rows text
+record AreRows (header : RasterHeader) (rows text : List ℕ) : Type 0 where
+  fits : length rows ≡ header.m * row_bytes header
+  are : IsRowsText (c.Raster header) rows text
 
 -- plain rows are their bytes
-plain-are : (head : RasterHead) (rows text : List ℕ) (next : ℕ) → (head.c == 0) ≡ true → next ≡ 8 + length text
-    → plain_at (head.m * row_bytes head) 8 (text ++ []) ≡ RowsAre rows next → AreRows head rows text
-plain-are head rows text next is_plain there = by_test (nat_lt (length (text ++ [])) n)
+plain-are : (header : RasterHeader) (rows text : List ℕ) (next : ℕ) → (header.c == 0) ≡ true → next ≡ 8 + length text
+    → plain_at (header.m * row_bytes header) 8 (text ++ []) ≡ RowsAre rows next → AreRows header rows text
+plain-are header rows text next is_plain there = by_test (nat_lt (length (text ++ [])) n)
   where
     n : ℕ
-    n = head.m * row_bytes head
+    n = header.m * row_bytes header
 
-    by_test : (b : Bool) → (if b then RowsPart else RowsAre (take n (text ++ [])) (8 + n)) ≡ RowsAre rows next → AreRows head rows text
+    by_test : (b : Bool) → (if b then RowsPart else RowsAre (take n (text ++ [])) (8 + n)) ≡ RowsAre rows next → AreRows header rows text
     by_test true e = absurd (let no : RowsPart ≡ RowsAre rows next = e in cc)
     by_test false e =
         let len : length text ≡ n = omega (arith, there, places-same _ _ _ _ e) in
         let same : text ≡ rows = sym (take_at text [] n len) ∙ rows-same _ _ _ _ e in
-        let P : Bool → Type 0 = λ b. MatchBool b (text ≡ rows) (RowsCode head.m (row_bytes head) text rows) in
+        let P : Bool → Type 0 = λ b. MatchBool b (text ≡ rows) (RowsCode header.m (row_bytes header) text rows) in
         record { fits = sym (ap length same) ∙ len; are = subst P (sym is_plain) same }
 
 -- coded rows have their width
@@ -52,70 +45,70 @@ codes-len (suc m) width code rows codes =
     omega (arith, ap length codes.5, length-append codes.1 codes.3, codes.6, codes-len m width codes.2 codes.3 codes.8)
 
 -- coded rows are what their code gives
-coded-are : (head : RasterHead) (rows text : List ℕ) (next : ℕ) → (head.c == 0) ≡ false → next ≡ 8 + length text → AreBytes text
-    → rows_at head.m (row_bytes head) 8 (text ++ []) ≡ RowsAre rows next → AreRows head rows text
-coded-are head rows text next is_coded there are e =
-    let read : ReadRows head.m (row_bytes head) 8 text rows next =
-    rows-parsed head.m (row_bytes head) 8 text rows next are (ap (rows_at head.m (row_bytes head) 8) (sym (append-nil text)) ∙ e) in
+coded-are : (header : RasterHeader) (rows text : List ℕ) (next : ℕ) → (header.c == 0) ≡ false → next ≡ 8 + length text → AreBytes text
+    → rows_at header.m (row_bytes header) 8 (text ++ []) ≡ RowsAre rows next → AreRows header rows text
+coded-are header rows text next is_coded there are e =
+    let read : ReadRows header.m (row_bytes header) 8 text rows next =
+    rows-parsed header.m (row_bytes header) 8 text rows next are (ap (rows_at header.m (row_bytes header) 8) (sym (append-nil text)) ∙ e) in
     let none : drop (next - 8) text ≡ [] = ap (drop (next - 8)) (sym (append-nil text))
     ∙ drop_at text [] (next - 8) (omega (arith, there)) in
     let same : text ≡ read.code = read.front.is ∙ ap (λ bs. read.code ++ bs) none ∙ append-nil read.code in
-    let Q : List ℕ → Type 0 = λ code. RowsCode head.m (row_bytes head) code rows in
-    let codes : RowsCode head.m (row_bytes head) text rows = subst Q (sym same) read.codes in
-    let P : Bool → Type 0 = λ b. MatchBool b (text ≡ rows) (RowsCode head.m (row_bytes head) text rows) in
-    record { fits = codes-len head.m (row_bytes head) text rows codes; are = subst P (sym is_coded) codes }
+    let Q : List ℕ → Type 0 = λ code. RowsCode header.m (row_bytes header) code rows in
+    let codes : RowsCode header.m (row_bytes header) text rows = subst Q (sym same) read.codes in
+    let P : Bool → Type 0 = λ b. MatchBool b (text ≡ rows) (RowsCode header.m (row_bytes header) text rows) in
+    record { fits = codes-len header.m (row_bytes header) text rows codes; are = subst P (sym is_coded) codes }
 
 -- what decides the rows decides their raster
-raster-told : (head : RasterHead) (read : List ℕ → RowsRead) (bytes : List ℕ) → in_table (c.Raster head) ≡ true
-    → ((more : List ℕ) → raster_rows head more ≡ with_rows head (read more))
+raster-told : (header : RasterHeader) (read : List ℕ → RowsRead) (bytes : List ℕ) → in_table (c.Raster header) ≡ true
+    → ((more : List ℕ) → raster_rows header more ≡ with_rows header (read more))
     → ((rows text : List ℕ) (next : ℕ) → next ≡ 8 + length text → AreBytes text → read (text ++ []) ≡ RowsAre rows next
-    → AreRows head rows text)
-    → (r : RowsRead) → RowsTold read 8 bytes r → Told (raster_rows head) (command_bytes (c.Raster head)) bytes (with_rows head r)
-raster-told head read bytes ok is rows_are (RowsAre rows next) t = record {
+    → AreRows header rows text)
+    → (r : RowsRead) → RowsTold read 8 bytes r → Told (raster_rows header) (command_bytes (c.Raster header)) bytes (with_rows header r)
+raster-told header read bytes ok is rows_are (RowsAre rows next) t = record {
   front = t.front;
   rest = t.rest;
   is = t.is;
   there = t.there;
-  told = λ more. is (t.front ++ more) ∙ ap (with_rows head) (t.told more);
+  told = λ more. is (t.front ++ more) ∙ ap (with_rows header) (t.told more);
   spells = λ are.
-      let rows_is : AreRows head rows t.front = rows_are rows t.front next t.there are (t.told []) in
+      let rows_is : AreRows header rows t.front = rows_are rows t.front next t.there are (t.told []) in
       record { in_range = ok; rows_fit = rows_is.fits; text = t.front; rows_are = rows_is.are; spelled = refl };
 }
-raster-told head read bytes ok is rows_are RowsPart t = tt
-raster-told head read bytes ok is rows_are (RowsWrong place) t = record {
+raster-told header read bytes ok is rows_are RowsPart t = tt
+raster-told header read bytes ok is rows_are (RowsWrong place) t = record {
   front = t.front;
   rest = t.rest;
   is = t.is;
   least = omega (arith, t.there);
   most = omega (arith, t.there);
-  told = λ more. is (t.front ++ more) ∙ ap (with_rows head) (t.told more);
+  told = λ more. is (t.front ++ more) ∙ ap (with_rows header) (t.told more);
 }
 
 -- the rows after the numbers of a raster
-rows-of-raster : (head : RasterHead) (bytes : List ℕ) → in_table (c.Raster head) ≡ true
-    → Told (raster_rows head) (command_bytes (c.Raster head)) bytes (raster_rows head bytes)
-rows-of-raster head bytes ok = by_form (head.c == 0) refl
+rows-of-raster : (header : RasterHeader) (bytes : List ℕ) → in_table (c.Raster header) ≡ true
+    → Told (raster_rows header) (command_bytes (c.Raster header)) bytes (raster_rows header bytes)
+rows-of-raster header bytes ok = by_form (header.c == 0) refl
   where
     n : ℕ
-    n = head.m * row_bytes head
+    n = header.m * row_bytes header
 
-    by_form : (b : Bool) → (head.c == 0) ≡ b
-        → Told (raster_rows head) (command_bytes (c.Raster head)) bytes (raster_rows head bytes)
+    by_form : (b : Bool) → (header.c == 0) ≡ b
+        → Told (raster_rows header) (command_bytes (c.Raster header)) bytes (raster_rows header bytes)
     by_form true e =
-        let is : (more : List ℕ) → raster_rows head more ≡ with_rows head (plain_at n 8 more) =
-        λ more. ap (λ b. with_rows head (if b then plain_at n 8 more else rows_at head.m (row_bytes head) 8 more)) e in
-        let P : Heard → Type 0 = Told (raster_rows head) (command_bytes (c.Raster head)) bytes in
+        let is : (more : List ℕ) → raster_rows header more ≡ with_rows header (plain_at n 8 more) =
+        λ more. ap (λ b. with_rows header (if b then plain_at n 8 more else rows_at header.m (row_bytes header) 8 more)) e in
+        let P : Heard → Type 0 = Told (raster_rows header) (command_bytes (c.Raster header)) bytes in
         subst P (sym (is bytes))
-        (raster-told head (plain_at n 8) bytes ok is (λ rows text next there are. plain-are head rows text next e there)
+        (raster-told header (plain_at n 8) bytes ok is (λ rows text next there are. plain-are header rows text next e there)
         (plain_at n 8 bytes) (plain-told n 8 bytes))
     by_form false e =
-        let is : (more : List ℕ) → raster_rows head more ≡ with_rows head (rows_at head.m (row_bytes head) 8 more) =
-        λ more. ap (λ b. with_rows head (if b then plain_at n 8 more else rows_at head.m (row_bytes head) 8 more)) e in
-        let P : Heard → Type 0 = Told (raster_rows head) (command_bytes (c.Raster head)) bytes in
+        let is : (more : List ℕ) → raster_rows header more ≡ with_rows header (rows_at header.m (row_bytes header) 8 more) =
+        λ more. ap (λ b. with_rows header (if b then plain_at n 8 more else rows_at header.m (row_bytes header) 8 more)) e in
+        let P : Heard → Type 0 = Told (raster_rows header) (command_bytes (c.Raster header)) bytes in
         subst P (sym (is bytes))
-        (raster-told head (rows_at head.m (row_bytes head) 8) bytes ok is
-        (λ rows text next there are. coded-are head rows text next e there are)
-        (rows_at head.m (row_bytes head) 8 bytes) (rows-told head.m (row_bytes head) 8 bytes))
+        (raster-told header (rows_at header.m (row_bytes header) 8) bytes ok is
+        (λ rows text next there are. coded-are header rows text next e there are)
+        (rows_at header.m (row_bytes header) 8 bytes) (rows-told header.m (row_bytes header) 8 bytes))
 
 -- ---- the numbers of a raster
 

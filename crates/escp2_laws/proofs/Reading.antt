@@ -1,10 +1,10 @@
 -- What is spelled is read.
 use Rattle.std.proofs.Common.{◌≡◌, ℕ, ◌+◌, ◌*◌, ◌/◌, ◌%◌, Bool, true, false, List, [], ◌∷◌, ◌++◌, length, refl, sym, ◌∙◌, ap, arith, subst}
-use Rattle.std.proofs.Common.{◌&&◌, if◌then◌else◌, ◌==◌, length-append, append-nil}
+use Rattle.std.proofs.Common.{◌&&◌, if◌then◌else◌, ◌==◌, append-nil}
 use Rattle.std.specs.Prelude.{MatchBool}
 use Rattle.printer_definitions.specs.declared.inks.Ink.TheVariants.{Black, Cyan, Magenta, Yellow}
 use Rattle.escp2_definitions.specs.declared.stops.JobCause.TheVariants.{BadValue}
-use Rattle.escp2_definitions.specs.declared.command.RasterHead.{RasterHead}
+use Rattle.escp2_definitions.specs.declared.command.RasterHeader.{RasterHeader}
 use Rattle.escp2_definitions.specs.declared.command.Command.{Command}
 use Rattle.escp2_definitions.specs.declared.command.Command.TheVariants as c
 use Rattle.escp2_definitions.specs.RowCode.{RowsCode, plain_at, rows_at}
@@ -12,6 +12,7 @@ use Rattle.escp2_definitions.specs.Commands.{Heard, Spells, command_at, command_
 use Rattle.escp2_definitions.specs.Commands.{is_some, is_switch, is_width, number, raster_at, raster_rows, row_bytes, two_bytes, whole}
 use Rattle.escp2_definitions.specs.Commands.{wide_number, with_rows}
 use Rattle.escp2_definitions.specs.Commands.Heard.{One, Wrong}
+use Rattle.escp2_laws.proofs.Prefixes.{nothing_left}
 use Rattle.escp2_laws.proofs.Rows.{plain-reads, rows-read}
 
 -- rows of no byte
@@ -43,7 +44,7 @@ and-left true b e = refl
 and-left false b e = e
 
 -- the second of two tests that hold
-and-right : (a b : Bool) → a && b ≡ true → b ≡ true
+pub and-right : (a b : Bool) → a && b ≡ true → b ≡ true
 and-right true b e = e
 and-right false true e = refl
 and-right false false e = e
@@ -51,37 +52,41 @@ and-right false false e = e
 -- ---- rasters
 
 -- rows in either form are read
-by_form : (b : Bool) (head : RasterHead) (rows text rest : List ℕ) → length rows ≡ head.m * row_bytes head
-    → MatchBool b (text ≡ rows) (RowsCode head.m (row_bytes head) text rows)
-    → with_rows head (if b then plain_at (head.m * row_bytes head) 8 (text ++ rest) else rows_at head.m (row_bytes head) 8 (text ++ rest))
-    ≡ One (c.Raster head) rows (8 + length text)
-by_form true head rows text rest fits is =
-    let n : ℕ = head.m * row_bytes head in
-    ap (λ t. with_rows head (plain_at n 8 (t ++ rest))) is
-    ∙ ap (with_rows head) (plain-reads rows rest n 8 fits)
-    ∙ ap (λ k. One (c.Raster head) rows (8 + k)) (sym fits ∙ sym (ap length is))
-by_form false head rows text rest fits is = ap (with_rows head) (rows-read head.m (row_bytes head) 8 text rows rest is)
+by_form : (b : Bool) (header : RasterHeader) (rows text rest : List ℕ) → length rows ≡ header.m * row_bytes header
+    → MatchBool b (text ≡ rows) (RowsCode header.m (row_bytes header) text rows)
+    → with_rows header (if b
+    then plain_at (header.m * row_bytes header) 8 (text ++ rest)
+    else rows_at header.m (row_bytes header) 8 (text ++ rest))
+    ≡ One (c.Raster header) rows (8 + length text)
+by_form true header rows text rest fits is =
+    let n : ℕ = header.m * row_bytes header in
+    ap (λ t. with_rows header (plain_at n 8 (t ++ rest))) is
+    ∙ ap (with_rows header) (plain-reads rows rest n 8 fits)
+    ∙ ap (λ k. One (c.Raster header) rows (8 + k)) (sym fits ∙ sym (ap length is))
+by_form false header rows text rest fits is = ap (with_rows header) (rows-read header.m (row_bytes header) 8 text rows rest is)
 
 -- a raster is read with its rows
-raster-reads : (head : RasterHead) (rows text rest : List ℕ) → in_table (c.Raster head) ≡ true → length rows ≡ head.m * row_bytes head
-    → MatchBool (head.c == 0) (text ≡ rows) (RowsCode head.m (row_bytes head) text rows)
-    → raster_at (head.c ∷ head.v ∷ head.h ∷ head.m ∷ (two_bytes head.n ++ (text ++ rest))) ≡ One (c.Raster head) rows (8 + length text)
-raster-reads head rows text rest ok fits is =
-    let with_m : (is_switch head.c && is_some head.v && is_some head.h && is_some head.m) ≡ true = and-left _ _ ok in
-    let with_h : (is_switch head.c && is_some head.v && is_some head.h) ≡ true = and-left _ _ with_m in
-    let with_v : (is_switch head.c && is_some head.v) ≡ true = and-left _ _ with_h in
+raster-reads : (header : RasterHeader) (rows text rest : List ℕ)
+    → in_table (c.Raster header) ≡ true → length rows ≡ header.m * row_bytes header
+    → MatchBool (header.c == 0) (text ≡ rows) (RowsCode header.m (row_bytes header) text rows)
+    → raster_at (header.c ∷ header.v ∷ header.h ∷ header.m ∷ (two_bytes header.n ++ (text ++ rest)))
+    ≡ One (c.Raster header) rows (8 + length text)
+raster-reads header rows text rest ok fits is =
+    let with_m : (is_switch header.c && is_some header.v && is_some header.h && is_some header.m) ≡ true = and-left _ _ ok in
+    let with_h : (is_switch header.c && is_some header.v && is_some header.h) ≡ true = and-left _ _ with_m in
+    let with_v : (is_switch header.c && is_some header.v) ≡ true = and-left _ _ with_h in
     let of_n : ℕ → ℕ → ℕ → ℕ → ℕ → List ℕ → Heard = λ c v h m n. raster_rows (record { c = c; v = v; h = h; m = m; n = n }) in
     let of_m : ℕ → ℕ → ℕ → ℕ → List ℕ → Heard = λ c v h m. wide_number is_width 6 (of_n c v h m) in
     let of_h : ℕ → ℕ → ℕ → List ℕ → Heard = λ c v h. number is_some 5 (of_m c v h) in
     let of_v : ℕ → ℕ → List ℕ → Heard = λ c v. number is_some 4 (of_h c v) in
     let of_c : ℕ → List ℕ → Heard = λ c. number is_some 3 (of_v c) in
-    let after_m : List ℕ = two_bytes head.n ++ (text ++ rest) in
-    number-reads is_switch 2 head.c of_c (head.v ∷ head.h ∷ head.m ∷ after_m) (and-left _ _ with_v)
-    ∙ number-reads is_some 3 head.v (of_v head.c) (head.h ∷ head.m ∷ after_m) (and-right _ _ with_v)
-    ∙ number-reads is_some 4 head.h (of_h head.c head.v) (head.m ∷ after_m) (and-right _ _ with_h)
-    ∙ number-reads is_some 5 head.m (of_m head.c head.v head.h) after_m (and-right _ _ with_m)
-    ∙ wide-reads is_width 6 head.n (of_n head.c head.v head.h head.m) (text ++ rest) (and-right _ _ ok)
-    ∙ by_form (head.c == 0) head rows text rest fits is
+    let after_m : List ℕ = two_bytes header.n ++ (text ++ rest) in
+    number-reads is_switch 2 header.c of_c (header.v ∷ header.h ∷ header.m ∷ after_m) (and-left _ _ with_v)
+    ∙ number-reads is_some 3 header.v (of_v header.c) (header.h ∷ header.m ∷ after_m) (and-right _ _ with_v)
+    ∙ number-reads is_some 4 header.h (of_h header.c header.v) (header.m ∷ after_m) (and-right _ _ with_h)
+    ∙ number-reads is_some 5 header.m (of_m header.c header.v header.h) after_m (and-right _ _ with_m)
+    ∙ wide-reads is_width 6 header.n (of_n header.c header.v header.h header.m) (text ++ rest) (and-right _ _ ok)
+    ∙ by_form (header.c == 0) header rows text rest fits is
 
 -- ---- commands
 
@@ -137,9 +142,9 @@ by_command (c.Colour Black) rows text rest s e = plain (c.Colour Black) rows tex
 by_command (c.Colour Cyan) rows text rest s e = plain (c.Colour Cyan) rows text rest s.rows_fit (sym e ∙ s.rows_are) (λ more. refl)
 by_command (c.Colour Magenta) rows text rest s e = plain (c.Colour Magenta) rows text rest s.rows_fit (sym e ∙ s.rows_are) (λ more. refl)
 by_command (c.Colour Yellow) rows text rest s e = plain (c.Colour Yellow) rows text rest s.rows_fit (sym e ∙ s.rows_are) (λ more. refl)
-by_command (c.Raster head) rows text rest s e =
-    let P : List ℕ → Type 0 = λ t. MatchBool (head.c == 0) (t ≡ rows) (RowsCode head.m (row_bytes head) t rows) in
-    raster-reads head rows text rest s.in_range s.rows_fit (subst P e s.rows_are) ∙ ap (One (c.Raster head) rows) (omega arith)
+by_command (c.Raster header) rows text rest s e =
+    let P : List ℕ → Type 0 = λ t. MatchBool (header.c == 0) (t ≡ rows) (RowsCode header.m (row_bytes header) t rows) in
+    raster-reads header rows text rest s.in_range s.rows_fit (subst P e s.rows_are) ∙ ap (One (c.Raster header) rows) (omega arith)
 
 -- what is spelled is read, whatever follows
 pub command_at-spelled : (command : Command) (rows bytes rest : List ℕ) → Spells command rows bytes
@@ -151,10 +156,6 @@ command_at-spelled command rows bytes rest s =
     ap (λ bs. command_at (bs ++ rest)) s.spelled
     ∙ by_command command rows text rest same refl
     ∙ ap (λ bs. One command rows (length bs)) (sym s.spelled)
-
--- where no bytes are left, the rest is empty
-nothing_left : (bytes more : List ℕ) → length bytes ≡ length (bytes ++ more) → more ≡ []
-nothing_left bytes more e = no_rows more (omega (arith, length-append bytes more))
 
 -- no spelling is a proper prefix of another
 pub alone : (one other : Command) (rows other_rows bytes more : List ℕ) → Spells one rows bytes → Spells other other_rows (bytes ++ more)

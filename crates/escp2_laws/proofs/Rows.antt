@@ -11,6 +11,14 @@ use Rattle.escp2_definitions.specs.RowCode.Control.{Follow, Again, Refused}
 use Rattle.escp2_definitions.specs.RowCode.RowPacket.{Bytes, Repeat}
 use Rattle.escp2_definitions.specs.RowCode.RowsRead.{RowsAre, RowsPart, RowsWrong}
 
+-- equal answers have equal rows
+pub rows-same : (rs ss : List ℕ) (j k : ℕ) → RowsAre rs j ≡ RowsAre ss k → rs ≡ ss
+rows-same rs ss j k e = cc
+
+-- and equal places
+pub places-same : (rs ss : List ℕ) (j k : ℕ) → RowsAre rs j ≡ RowsAre ss k → j ≡ k
+places-same rs ss j k e = cc
+
 -- ---- plain rows
 
 -- n bytes are read as they are

@@ -19,7 +19,7 @@ bytes-front (b ∷ front) rest are zero = are 0
 bytes-front (b ∷ front) rest are (suc k) = bytes-front front rest (λ k. are (suc k)) k
 
 -- a whole command, as its first bytes decide it
-one-told : (bytes : List ℕ) (command : Command) (rows : List ℕ) (len : ℕ) → command_at bytes ≡ One command rows len
+pub one-told : (bytes : List ℕ) (command : Command) (rows : List ℕ) (len : ℕ) → command_at bytes ≡ One command rows len
     → TellsOne command_at [] bytes command rows len
 one-told bytes command rows len e = let P : Heard → Type 0 = Told command_at [] bytes in subst P e (command-told bytes)
 
@@ -48,7 +48,7 @@ one-stands bytes rest command rows len e =
     ap (λ bs. command_at (bs ++ rest)) front ∙ t.told rest
 
 -- with all of the bytes before
-one-stands_behind : (bytes rest : List ℕ) (command : Command) (rows : List ℕ) (len : ℕ) → command_at bytes ≡ One command rows len
+pub one-stands_behind : (bytes rest : List ℕ) (command : Command) (rows : List ℕ) (len : ℕ) → command_at bytes ≡ One command rows len
     → command_at (bytes ++ rest) ≡ One command rows len
 one-stands_behind bytes rest command rows len e =
     let t : TellsOne command_at [] bytes command rows len = one-told bytes command rows len e in
@@ -57,7 +57,7 @@ one-stands_behind bytes rest command rows len e =
 -- ---- a fault
 
 -- a fault stays read with all of the bytes before
-wrong-stands_behind : (bytes rest : List ℕ) (at : ℕ) (cause : JobCause) → command_at bytes ≡ Wrong at cause
+pub wrong-stands_behind : (bytes rest : List ℕ) (at : ℕ) (cause : JobCause) → command_at bytes ≡ Wrong at cause
     → command_at (bytes ++ rest) ≡ Wrong at cause
 wrong-stands_behind bytes rest at cause e =
     let t : TellsWrong command_at [] bytes at cause = wrong-told bytes at cause e in

@@ -4,7 +4,7 @@ use Rattle.std.proofs.Common.{◌∙◌, arith, length-drop, ◌⊎◌, inl, inr
 use Rattle.std.specs.Prelude.{MatchBool}
 use Rattle.std.specs.List.{flat_map}
 use Rattle.std.proofs.lemmas.List.{length-take-le, take-append-drop}
-use Rattle.escp2_definitions.specs.declared.command.RasterHead.{RasterHead}
+use Rattle.escp2_definitions.specs.declared.command.RasterHeader.{RasterHeader}
 use Rattle.escp2_definitions.specs.declared.command.Command.{Command}
 use Rattle.escp2_definitions.specs.declared.command.Command.TheVariants as c
 use Rattle.escp2_definitions.specs.Commands.{Spells, in_table, is_switch, row_bytes, rows_len}
@@ -47,21 +47,21 @@ rows_text false code m width rows fits (inl e) = absurd (let no : false ≡ true
 rows_text false code m width rows fits (inr codes) = apart-codes code m width rows codes fits
 
 -- the rows are plain, or have a code
-plain_or_coded : (coding : Coding) (head : RasterHead) → IsCoding coding → head.c ≡ coding.c
-    → ((head.c == 0) ≡ true) ⊎ ((row : List ℕ) → RowCode (coding.code row) row)
-plain_or_coded coding head (inl e) is = inl (eq-eqb head.c 0 (is ∙ e))
-plain_or_coded coding head (inr coded) is = inr coded.1
+plain_or_coded : (coding : Coding) (header : RasterHeader) → IsCoding coding → header.c ≡ coding.c
+    → ((header.c == 0) ≡ true) ⊎ ((row : List ℕ) → RowCode (coding.code row) row)
+plain_or_coded coding header (inl e) is = inl (eq-eqb header.c 0 (is ∙ e))
+plain_or_coded coding header (inr coded) is = inr coded.1
 
 -- ---- commands
 
 -- what is written of a command of the table spells it
 pub written-spells : (coding : Coding) (command : Command) (rows : List ℕ) → IsCoding coding → HasCoding coding command
     → in_table command ≡ true → length rows ≡ rows_len command → Spells command rows (written coding.code command rows)
-written-spells coding (c.Raster head) rows codes has ok fits = record {
+written-spells coding (c.Raster header) rows codes has ok fits = record {
   in_range = ok;
   rows_fit = fits;
-  text = written_rows coding.code (c.Raster head) rows;
-  rows_are = rows_text (head.c == 0) coding.code head.m (row_bytes head) rows fits (plain_or_coded coding head codes has);
+  text = written_rows coding.code (c.Raster header) rows;
+  rows_are = rows_text (header.c == 0) coding.code header.m (row_bytes header) rows fits (plain_or_coded coding header codes has);
   spelled = refl;
 }
 written-spells coding other rows codes has ok fits = record { in_range = ok; rows_fit = fits; text = rows; rows_are = refl; spelled = refl }
@@ -75,7 +75,7 @@ switch-is (suc (suc k)) ok = absurd (let high : suc (suc k) ≤ 1 = leb-true (su
 -- so does what is written with canonical codes
 pub canonical-spells : (command : Command) (rows : List ℕ) → in_table command ≡ true → length rows ≡ rows_len command
     → Spells command rows (written canonical_row command rows)
-canonical-spells (c.Raster head) rows ok fits =
-    let coded : is_switch head.c ≡ true = and-left _ _ (and-left _ _ (and-left _ _ (and-left _ _ ok))) in
-    written-spells (record { c = head.c; code = canonical_row }) (c.Raster head) rows (switch-is head.c coded) refl ok fits
+canonical-spells (c.Raster header) rows ok fits =
+    let coded : is_switch header.c ≡ true = and-left _ _ (and-left _ _ (and-left _ _ (and-left _ _ ok))) in
+    written-spells (record { c = header.c; code = canonical_row }) (c.Raster header) rows (switch-is header.c coded) refl ok fits
 canonical-spells other rows ok fits = record { in_range = ok; rows_fit = fits; text = rows; rows_are = refl; spelled = refl }

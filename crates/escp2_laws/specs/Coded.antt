@@ -6,5 +6,5 @@ use Rattle.escp2_definitions.specs.Written.{Coding}
 
 -- the `c` of a raster is that of the coding; the other commands have no rows
 abbrev pub HasCoding : Coding → Command → Type 0
-HasCoding coding (c.Raster head) = head.c ≡ coding.c
+HasCoding coding (c.Raster header) = header.c ≡ coding.c
 HasCoding coding other = Unit {0}

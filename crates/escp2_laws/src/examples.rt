@@ -1,5 +1,7 @@
 //! Worked jobs: each function does nothing, and the checker computes its contract. They hold the definitions against
 //! results that were worked by hand.
+#![tactic(auto, unfolding(escp2_definitions::specs::Commands::command_at, escp2_definitions::specs::Commands::commands_from, escp2_definitions::specs::Machine::execute_from, escp2_definitions::specs::Machine::rows_dots, escp2_definitions::specs::RowCode::row_at, escp2_definitions::specs::RowCode::rows_at))]
+
 ghost use Rattle.escp2_definitions.specs.Commands.Heard.{One, Wrong};
 ghost use Rattle.escp2_definitions.specs.Commands.ListEnd.{Cut, Fault, Whole};
 ghost use Rattle.escp2_definitions.specs.Commands.{command_at, commands};
@@ -18,7 +20,6 @@ ghost use Rattle.printer_definitions.specs.declared.inks.Ink.TheVariants.{Black}
 ghost use Rattle.std.specs.Prelude.{None, Some, [], length, replicate, take, ◌++◌, ◌∷◌, ◌≡◌};
 
 /// The bytes of a job with coded rows, and its commands with the places of their first bytes.
-#[tactic(auto, unfolding(escp2_definitions::specs::Commands::command_at, escp2_definitions::specs::Commands::commands_from, escp2_definitions::specs::RowCode::row_at, escp2_definitions::specs::RowCode::rows_at))]
 pub fn listing_is_read()
     ensures len { length listing ≡ 92 }
     ensures entries { (commands listing).entries ≡
@@ -41,7 +42,6 @@ pub fn listing_is_read()
 {}
 
 /// What the printer makes of it: one sheet, with a row of dots from each pass.
-#[tactic(auto, unfolding(escp2_definitions::specs::Commands::command_at, escp2_definitions::specs::Commands::commands_from, escp2_definitions::specs::Machine::execute_from, escp2_definitions::specs::Machine::rows_dots, escp2_definitions::specs::RowCode::row_at, escp2_definitions::specs::RowCode::rows_at))]
 pub fn listing_is_printed()
     ensures { execute three_nozzles (commands listing).entries ≡ record {
       sheets = record { rows = 6; columns = 8; dots = eight_dots 40 ++ eight_dots 50 } ∷ [];
@@ -51,7 +51,6 @@ pub fn listing_is_printed()
 
 /// The same job with its first pass twice, which is refused where it would fire the same dots again; and on a printer
 /// with one nozzle.
-#[tactic(auto, unfolding(escp2_definitions::specs::Commands::command_at, escp2_definitions::specs::Commands::commands_from, escp2_definitions::specs::Machine::execute_from, escp2_definitions::specs::Machine::rows_dots, escp2_definitions::specs::RowCode::row_at, escp2_definitions::specs::RowCode::rows_at))]
 pub fn listing_is_refused()
     ensures overprint { (execute three_nozzles (commands listing_overprinted).entries).refused ≡
         refused 65 Overprint }
@@ -59,7 +58,6 @@ pub fn listing_is_refused()
 {}
 
 /// Bytes that are no job, and the place of the fault.
-#[tactic(auto, unfolding(escp2_definitions::specs::Commands::command_at, escp2_definitions::specs::Commands::commands_from, escp2_definitions::specs::RowCode::row_at, escp2_definitions::specs::RowCode::rows_at))]
 pub fn faults_are_told()
     ensures cut { end_of (take 10 listing) ≡ Cut 8 }
     ensures unknown { end_of (0x1B ∷ 0x41 ∷ []) ≡ Fault 1 Unknown }
@@ -77,7 +75,6 @@ pub fn faults_are_told()
 {}
 
 /// Rasters before the commands that they need.
-#[tactic(auto, unfolding(escp2_definitions::specs::Commands::command_at, escp2_definitions::specs::Commands::commands_from, escp2_definitions::specs::Machine::execute_from, escp2_definitions::specs::Machine::rows_dots))]
 pub fn early_rasters_are_refused()
     ensures not_graphics { refusal black_row ≡ refused 0 NotGraphics }
     ensures no_unit { refusal (graphics ++ black_row) ≡ refused 6 NoUnit }
@@ -85,7 +82,6 @@ pub fn early_rasters_are_refused()
 {}
 
 /// What is refused on a sheet of six rows.
-#[tactic(auto, unfolding(escp2_definitions::specs::Commands::command_at, escp2_definitions::specs::Commands::commands_from, escp2_definitions::specs::Machine::execute_from, escp2_definitions::specs::Machine::rows_dots))]
 pub fn commands_are_refused()
     // two rows, where the printer has one nozzle
     ensures rows { sheet_refusal (0x1B ∷ 0x2E ∷ 0x00 ∷ 0x0A ∷ 0x0A ∷ 0x02 ∷ 0x08 ∷ 0x00
@@ -108,7 +104,6 @@ pub fn commands_are_refused()
 {}
 
 /// A sheet is 22 inches long at most, and its bottom margin is on it.
-#[tactic(auto, unfolding(escp2_definitions::specs::Commands::command_at, escp2_definitions::specs::Commands::commands_from, escp2_definitions::specs::Machine::execute_from, escp2_definitions::specs::Machine::rows_dots))]
 pub fn pages_are_limited()
     // 15,840 and 15,841 units of 5/3600 inch
     ensures longest { refusal (unit_5 ++ 0x1B ∷ 0x28 ∷ 0x43 ∷ 0x02 ∷ 0x00 ∷ 0xE0 ∷ 0x3D ∷ []) ≡ None }
@@ -123,7 +118,6 @@ pub fn pages_are_limited()
 {}
 
 /// A row has 8,191 columns at most: a dot in the last of them, and one to the right of it.
-#[tactic(auto, unfolding(escp2_definitions::specs::Commands::command_at, escp2_definitions::specs::Commands::commands_from, escp2_definitions::specs::Machine::execute_from, escp2_definitions::specs::Machine::rows_dots))]
 pub fn columns_are_limited()
     ensures last { refusal (graphics ++ unit_10 ++ length_12 ++ margins_12
         ++ 0x1B ∷ 0x24 ∷ 0xFE ∷ 0x1F ∷ one_dot) ≡ None }
@@ -132,7 +126,6 @@ pub fn columns_are_limited()
 {}
 
 /// The greatest numbers that are read, and those one greater.
-#[tactic(auto, unfolding(escp2_definitions::specs::Commands::command_at))]
 pub fn numbers_are_limited()
     ensures bottom { command_at (0x1B ∷ 0x28 ∷ 0x63 ∷ 0x04 ∷ 0x00 ∷ 0x00 ∷ 0x00 ∷ 0xFF ∷ 0x7F ∷ []) ≡
         One (c.Margins 0 32767) [] 9 }
@@ -150,7 +143,6 @@ pub fn numbers_are_limited()
 {}
 
 /// The widest row is read: 8,191 columns, in 1,024 bytes.
-#[tactic(auto, unfolding(escp2_definitions::specs::Commands::command_at))]
 pub fn widest_row_is_read()
     ensures { command_at (0x1B ∷ 0x2E ∷ 0x00 ∷ 0x0A ∷ 0x0A ∷ 0x01 ∷ 0xFF ∷ 0x1F ∷ replicate 1024 0) ≡
         One (c.Raster (record { c = 0; v = 10; h = 10; m = 1; n = 8191 })) (replicate 1024 0) 1032 }

@@ -1,4 +1,6 @@
 //! Worked states of the machine: each function does nothing, and the checker computes its contract.
+#![tactic(auto, unfolding(escp2_definitions::specs::Commands::command_at, escp2_definitions::specs::Machine::execute_from, escp2_definitions::specs::Machine::rows_dots, escp2_definitions::specs::RowCode::row_at, escp2_definitions::specs::RowCode::rows_at))]
+
 ghost use Rattle.escp2_definitions.specs.Commands.Heard.{One, Wrong};
 ghost use Rattle.escp2_definitions.specs.Commands.{command_at};
 ghost use Rattle.escp2_definitions.specs.Machine.{start};
@@ -13,7 +15,6 @@ ghost use Rattle.printer_definitions.specs.declared.inks.Ink.TheVariants.{Black,
 ghost use Rattle.std.specs.Prelude.{None, Some, [], ◌++◌, ◌∷◌, ◌≡◌};
 
 /// Dots are set at the head's position, spare bits of a row are no dots, and a blank row widens its sheet too.
-#[tactic(auto, unfolding(escp2_definitions::specs::Machine::execute_from, escp2_definitions::specs::Machine::rows_dots))]
 pub fn rows_are_printed()
     // two columns to the right, the first and the third of three columns; bits of five more columns
     ensures across { printed_by (said 4 (c.Across 4) ∷ row_of 3 (0xBF ∷ []) ∷ said 5 c.Eject ∷ []) ≡ record {
@@ -31,7 +32,6 @@ pub fn rows_are_printed()
 {}
 
 /// A sheet begins with one column: after the sheet before it, and after a reset.
-#[tactic(auto, unfolding(escp2_definitions::specs::Machine::execute_from, escp2_definitions::specs::Machine::rows_dots))]
 pub fn sheets_begin_narrow()
     ensures eject { (printed_by (row_of 8 (0x00 ∷ []) ∷ said 5 c.Eject ∷ said 6 c.Eject ∷ [])).sheets ≡
         record { rows = 6; columns = 8; dots = [] } ∷ record { rows = 6; columns = 1; dots = [] } ∷ [] }
@@ -40,7 +40,6 @@ pub fn sheets_begin_narrow()
 {}
 
 /// Of refusals that hold at once the earlier one is answered.
-#[tactic(auto, unfolding(escp2_definitions::specs::Machine::rows_dots))]
 pub fn the_earlier_refusal_is_told()
     ensures length { fault_of with_dot (c.Length 16000) [] ≡ Some Backward }
     ensures margins { fault_of start (c.Margins 0 12) [] ≡ Some NoUnit }
@@ -57,7 +56,6 @@ pub fn the_earlier_refusal_is_told()
 {}
 
 /// Commands that are refused for one reason alone.
-#[tactic(auto)]
 pub fn single_refusals_are_told()
     ensures length { fault_of start (c.Length 12) [] ≡ Some NoUnit }
     ensures margins { fault_of with_unit (c.Margins 0 12) [] ≡ Some NoMargins }
@@ -69,7 +67,6 @@ pub fn single_refusals_are_told()
 {}
 
 /// The other colours; and a control byte that is refused in the second row of a raster.
-#[tactic(auto, unfolding(escp2_definitions::specs::Commands::command_at, escp2_definitions::specs::RowCode::row_at, escp2_definitions::specs::RowCode::rows_at))]
 pub fn colours_and_second_rows_are_read()
     ensures magenta { command_at (0x1B ∷ 0x72 ∷ 0x01 ∷ []) ≡ One (c.Colour Magenta) [] 3 }
     ensures cyan { command_at (0x1B ∷ 0x72 ∷ 0x02 ∷ []) ≡ One (c.Colour Cyan) [] 3 }

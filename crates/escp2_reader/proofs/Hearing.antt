@@ -1,25 +1,24 @@
 -- What is read of the bytes since the last command, as a reader gathers them.
-use Rattle.std.proofs.Common.{◌≡◌, ℕ, zero, suc, ◌+◌, ◌-◌, ◌<◌, ◌≤◌, Bool, true, false, List, [], ◌∷◌, ◌++◌, length, take, drop, get_or}
+use Rattle.std.proofs.Common.{◌≡◌, ℕ, zero, suc, ◌+◌, ◌-◌, ◌<◌, ◌≤◌, true, false, List, [], ◌∷◌, ◌++◌, length, take, drop, get_or}
 use Rattle.std.proofs.Common.{refl, sym, ◌∙◌, ap, subst, arith, append_assoc, append-nil, length-append}
 use Rattle.std.proofs.lemmas.List.{length-take-le, take-append-drop, take_all, take_at, take-append-le, drop_at, take_more}
 use Rattle.std.proofs.Math.Seq.{take-add}
 use Rattle.escp2_definitions.specs.declared.command.Command.{Command}
-use Rattle.escp2_definitions.specs.declared.command.RasterHead.{RasterHead}
+use Rattle.escp2_definitions.specs.declared.command.RasterHeader.{RasterHeader}
 use Rattle.escp2_definitions.specs.declared.stops.JobCause.{JobCause}
 use Rattle.escp2_definitions.specs.Commands.{Heard, Spells, command_at, raster_rows}
 use Rattle.escp2_definitions.specs.Commands.Heard.{One, Part, Wrong}
 use Rattle.escp2_laws.proofs.Grammar.{AreBytes}
-use Rattle.escp2_laws.proofs.Heard.{command-told}
-use Rattle.escp2_laws.proofs.Stands.{fault-stands, heard-spelled}
-use Rattle.escp2_laws.proofs.Told.{TellsOne, TellsWrong, Told}
+use Rattle.escp2_laws.proofs.Stands.{heard-spelled, one-stands_behind, one-told, wrong-stands_behind}
+use Rattle.escp2_laws.proofs.Told.{TellsOne}
 use Rattle.escp2_reader.specs.declared.reader.HeardState.{HeardState}
 use Rattle.escp2_reader.specs.declared.reader.HeardState.TheVariants as heard
 use Rattle.escp2_reader.specs.declared.reader.JobReader.{JobReader}
 use Rattle.escp2_reader.specs.declared.reader.Stage.{Stage}
-use Rattle.escp2_reader.specs.declared.reader.Stage.TheVariants.{Head, Rows, Failed}
-use Rattle.escp2_reader.specs.Heads.{IsRaster, IsShort}
-use Rattle.escp2_reader.specs.Stages.{AtStage, AfterFault, Stands, is_failed_at, is_part, rows_at}
-use Rattle.escp2_reader.specs.Reading.{BeginsRows, HeardFault, HeardOne, IsHeard, OnFault, ShowsLast, StandsFor, rows_of}
+use Rattle.escp2_reader.specs.declared.reader.Stage.TheVariants.{Failed}
+use Rattle.escp2_reader.specs.Headers.{IsRaster, IsShort}
+use Rattle.escp2_reader.specs.Stages.{AtStage, Stands, is_failed_at, is_part, rows_at}
+use Rattle.escp2_reader.specs.Reading.{BeginsRows, IsHeard, OnFault, ShowsLast, StandsFor, rows_of}
 
 -- ---- bytes
 
@@ -43,23 +42,6 @@ part-of (Wrong place cause) e = let no : false ≡ true = e in cc
 
 pub is-part : (bytes : List ℕ) → is_part (command_at bytes) ≡ true → command_at bytes ≡ Part
 is-part bytes e = part-of (command_at bytes) e
-
--- a fault is read, whatever follows
-pub wrong-stands : (bytes rest : List ℕ) (at : ℕ) (cause : JobCause) → command_at bytes ≡ Wrong at cause
-    → command_at (bytes ++ rest) ≡ Wrong at cause
-wrong-stands bytes rest at cause e =
-    let t : TellsWrong command_at [] bytes at cause = let P : Heard → Type 0 = Told command_at [] bytes in subst P e (command-told bytes) in
-    ap (λ bs. command_at (bs ++ rest)) t.is ∙ ap command_at (append_assoc t.front t.rest rest) ∙ t.told (t.rest ++ rest)
-
-one-told : (bytes : List ℕ) (command : Command) (rows : List ℕ) (len : ℕ) → command_at bytes ≡ One command rows len
-    → TellsOne command_at [] bytes command rows len
-one-told bytes command rows len e = let P : Heard → Type 0 = Told command_at [] bytes in subst P e (command-told bytes)
-
-one-stands : (bytes rest : List ℕ) (command : Command) (rows : List ℕ) (len : ℕ) → command_at bytes ≡ One command rows len
-    → command_at (bytes ++ rest) ≡ One command rows len
-one-stands bytes rest command rows len e =
-    let t : TellsOne command_at [] bytes command rows len = one-told bytes command rows len e in
-    ap (λ bs. command_at (bs ++ rest)) t.is ∙ ap command_at (append_assoc t.front t.rest rest) ∙ t.told (t.rest ++ rest)
 
 -- a command that is not whole without its last byte ends with it
 one-len : (bytes : List ℕ) (last : ℕ) (command : Command) (rows : List ℕ) (len : ℕ) → command_at bytes ≡ Part
@@ -86,10 +68,10 @@ one-len bytes last command rows len part e = by_rest t.rest t.is
 
 -- ---- what was gathered
 
-pub gathered-more : (first sofar piece head more : List ℕ) (i used byte : ℕ) → first ≡ sofar → head ≡ first ++ take i piece
-    → more ≡ head ++ byte ∷ []
+pub gathered-more : (first sofar piece header more : List ℕ) (i used byte : ℕ) → first ≡ sofar → header ≡ first ++ take i piece
+    → more ≡ header ++ byte ∷ []
     → byte ≡ get_or piece i 0 → i < length piece → used ≡ i + 1 → sofar ++ take used piece ≡ more
-gathered-more first sofar piece head more i used byte is gathered pushed read within count =
+gathered-more first sofar piece header more i used byte is gathered pushed read within count =
     ap (λ k. sofar ++ take k piece) count
     ∙ ap (λ bs. sofar ++ bs) (take_more piece i 0 within)
     ∙ ap (λ b. sofar ++ (take i piece ++ b ∷ [])) (sym read)
@@ -99,21 +81,21 @@ gathered-more first sofar piece head more i used byte is gathered pushed read wi
     ∙ sym pushed
 
 -- a whole command, of which the last byte was gathered
-pub whole-more : (now head more rest : List ℕ) (last : ℕ) (command : Command) (len : ℕ) → now ≡ more → more ≡ head ++ last ∷ []
-    → command_at head ≡ Part
+pub whole-more : (now header more rest : List ℕ) (last : ℕ) (command : Command) (len : ℕ) → now ≡ more → more ≡ header ++ last ∷ []
+    → command_at header ≡ Part
     → command_at more ≡ One command [] len → command_at (now ++ rest) ≡ One command [] (length now)
-whole-more now head more rest last command len is pushed part e =
+whole-more now header more rest last command len is pushed part e =
     ap (λ bs. command_at (bs ++ rest)) is
-    ∙ one-stands more rest command [] len e
-    ∙ ap (One command []) (one-len head last command [] len part (ap command_at (sym pushed) ∙ e) ∙ ap length (sym pushed)
+    ∙ one-stands_behind more rest command [] len e
+    ∙ ap (One command []) (one-len header last command [] len part (ap command_at (sym pushed) ∙ e) ∙ ap length (sym pushed)
     ∙ ap length (sym is))
 
 -- the numbers of a raster, of which the last byte was gathered
-pub raster-more : (raster : RasterHead) (begin next last : ℕ) (sofar bytes head more : List ℕ) → sofar ++ bytes ≡ more
-    → more ≡ head ++ last ∷ []
-    → IsShort 0 head → IsRaster raster 0 command_at more → next ≡ begin + length sofar → AreBytes sofar → AreBytes bytes
+pub raster-more : (raster : RasterHeader) (begin next last : ℕ) (sofar bytes header more : List ℕ) → sofar ++ bytes ≡ more
+    → more ≡ header ++ last ∷ []
+    → IsShort 0 header → IsRaster raster 0 command_at more → next ≡ begin + length sofar → AreBytes sofar → AreBytes bytes
     → BeginsRows raster begin next sofar bytes
-raster-more raster begin next last sofar bytes head more is pushed short reads fed are more_are = record {
+raster-more raster begin next last sofar bytes header more is pushed short reads fed are more_are = record {
   fed = fed;
   are = bytes-append sofar bytes are more_are;
   front_len = ap length is ∙ eight;
@@ -123,16 +105,16 @@ raster-more raster begin next last sofar bytes head more is pushed short reads f
       ∙ ap (λ bs. raster_rows raster (bs ++ rest)) none;
 }
   where
-    len : length more ≡ length head + 1
-    len = ap length pushed ∙ length-append head (last ∷ [])
+    len : length more ≡ length header + 1
+    len = ap length pushed ∙ length-append header (last ∷ [])
 
-    second : (head : List ℕ) → 2 ≤ length head → get_or (head ++ last ∷ []) 1 0 ≡ get_or head 1 0
+    second : (header : List ℕ) → 2 ≤ length header → get_or (header ++ last ∷ []) 1 0 ≡ get_or header 1 0
     second [] some = absurd (omega arith)
     second (a ∷ []) some = absurd (omega arith)
-    second (a ∷ b ∷ head) some = refl
+    second (a ∷ b ∷ header) some = refl
 
-    escaped : get_or head 1 0 ≡ 0x2E
-    escaped = sym (second head (omega (arith, reads.least, len))) ∙ ap (λ bs. get_or bs 1 0) (sym pushed) ∙ reads.escaped
+    escaped : get_or header 1 0 ≡ 0x2E
+    escaped = sym (second header (omega (arith, reads.least, len))) ∙ ap (λ bs. get_or bs 1 0) (sym pushed) ∙ reads.escaped
 
     eight : length more ≡ 8
     eight = omega (arith, reads.least, len, short.raster escaped)
@@ -233,26 +215,26 @@ last-behind used more sofar piece rest is shows = record {
 }
 
 -- the same where the numbers of a raster were gathered
-pub head-last : (state : HeardState) (raster : RasterHead) (head : Stage) (begin next begin' next' used more : ℕ) (piece : List ℕ)
-    → ((sofar rows : List ℕ) → Stands head begin next rows sofar → BeginsRows raster begin' next' sofar (take used piece))
+pub header-last : (state : HeardState) (raster : RasterHeader) (header : Stage) (begin next begin' next' used more : ℕ) (piece : List ℕ)
+    → ((sofar rows : List ℕ) → Stands header begin next rows sofar → BeginsRows raster begin' next' sofar (take used piece))
     → OnFault state ((sofar : List ℕ) → BeginsRows raster begin' next' sofar (take used piece) → ShowsLast sofar piece more)
-    → OnFault state ((sofar rows : List ℕ) → Stands head begin next rows sofar → ShowsLast sofar piece more)
-head-last heard.More raster head begin next begin' next' used more piece begins shows = tt
-head-last (heard.One command) raster head begin next begin' next' used more piece begins shows = tt
-head-last (heard.Fault offset cause) raster head begin next begin' next' used more piece begins shows =
+    → OnFault state ((sofar rows : List ℕ) → Stands header begin next rows sofar → ShowsLast sofar piece more)
+header-last heard.More raster header begin next begin' next' used more piece begins shows = tt
+header-last (heard.One command) raster header begin next begin' next' used more piece begins shows = tt
+header-last (heard.Fault offset cause) raster header begin next begin' next' used more piece begins shows =
     λ sofar rows stood. shows sofar (begins sofar rows stood)
 
 -- and for a call
-pub feed-last : (state : HeardState) (stage head : Stage) (begin next used : ℕ) (rows piece : List ℕ) → head ≡ stage
-    → OnFault state ((sofar rows : List ℕ) → Stands head begin next rows sofar → ShowsLast sofar piece used)
+pub feed-last : (state : HeardState) (stage header : Stage) (begin next used : ℕ) (rows piece : List ℕ) → header ≡ stage
+    → OnFault state ((sofar rows : List ℕ) → Stands header begin next rows sofar → ShowsLast sofar piece used)
     → OnFault state (is_failed_at stage ≡ false → (sofar : List ℕ) → Stands stage begin next rows sofar → ShowsLast sofar piece used)
-feed-last heard.More stage head begin next used rows piece is shows = tt
-feed-last (heard.One command) stage head begin next used rows piece is shows = tt
-feed-last (heard.Fault offset cause) stage head begin next used rows piece is shows =
+feed-last heard.More stage header begin next used rows piece is shows = tt
+feed-last (heard.One command) stage header begin next used rows piece is shows = tt
+feed-last (heard.Fault offset cause) stage header begin next used rows piece is shows =
     λ still sofar stood. shows sofar rows (let P : Stage → Type 0 = λ s. Stands s begin next rows sofar in subst P (sym is) stood)
 
 -- a fault, shown by the last byte that was gathered
 pub wrong-more : (now more rest : List ℕ) (place at : ℕ) (cause : JobCause) → now ≡ more → command_at more ≡ Wrong place cause → place ≡ at
     → command_at (now ++ rest) ≡ Wrong at cause
 wrong-more now more rest place at cause is e there =
-    ap (λ bs. command_at (bs ++ rest)) is ∙ wrong-stands more rest place cause e ∙ ap (λ k. Wrong k cause) there
+    ap (λ bs. command_at (bs ++ rest)) is ∙ wrong-stands_behind more rest place cause e ∙ ap (λ k. Wrong k cause) there

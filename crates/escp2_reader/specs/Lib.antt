@@ -1,3 +1,3 @@
-pub mod Heads
+pub mod Headers
 pub mod Stages
 pub mod Reading

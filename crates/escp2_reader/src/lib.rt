@@ -10,11 +10,11 @@
 //! rows of the largest raster, or answers `Memory`; no other call takes memory.
 #![tactic(auto)]
 
-mod heads;
+mod headers;
 mod reader;
 mod sized;
 
-pub use escp2_commands::{Command, RasterHead};
+pub use escp2_commands::{Command, RasterHeader};
 pub use escp2_definitions::JobCause;
 pub use reader::{Cut, Heard, HeardState, JobReader};
 

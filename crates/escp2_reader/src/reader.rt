@@ -1,15 +1,17 @@
 //! A reader of the commands of a print job.
+#![tactic(auto, unfolding(escp2_definitions::specs::Commands::command_at))]
+
 ghost use Rattle.arrayvec.specs.ArrayVec.{array_vec_len};
 ghost use Rattle.escp2_definitions.specs.Commands.Heard.{Part};
 ghost use Rattle.escp2_definitions.specs.Commands.{command_at};
-ghost use Rattle.escp2_reader.specs.Heads.{HasRows, IsShort};
+ghost use Rattle.escp2_reader.specs.Headers.{HasRows, IsShort};
 ghost use Rattle.escp2_reader.specs.Stages.{gathered, is_done_at, is_part, room_at};
 ghost use Rattle.escp2_rows.specs.Reading.{bytes_left_of, is_done_of};
 ghost use Rattle.std.specs.Prelude.{IfErr, IfOk, OnOk, [], false, length, slice_index, take, true, vec_capacity};
 ghost use Rattle.std.specs.Prelude.{vec_len, ℕ, List, ◌++◌, ◌-◌, ◌*◌, ◌/◌, ◌+◌, ◌<◌, ◌≡◌, ◌≤◌, ◌^◌};
 
-use crate::heads::{HeadState, head_of};
-use crate::{Command, JobCause, RasterHead};
+use crate::headers::{HeaderState, header_of};
+use crate::{Command, JobCause, RasterHeader};
 use arrayvec::ArrayVec;
 use escp2_rows::{RowReader, RowState};
 use std::alloc::Global;
@@ -17,7 +19,7 @@ use std::mem;
 use weave_base::Memory;
 
 // The bytes of a command, without the rows of a raster.
-type HeadBytes = ArrayVec<u8, 9>;
+type HeaderBytes = ArrayVec<u8, 9>;
 
 // The most bytes of a raster's rows: 255 rows of 8,191 columns.
 const MOST_ROWS: usize = 261_120;
@@ -52,9 +54,9 @@ pub struct Cut {
 #[derive(Drop)]
 enum Stage {
     // After these bytes of it.
-    Head(HeadBytes),
+    Header(HeaderBytes),
     // Within the rows of a raster.
-    Rows(RasterHead, RowReader),
+    Rows(RasterHeader, RowReader),
     // After a fault.
     Failed { offset: u64, cause: JobCause },
 }
@@ -62,7 +64,6 @@ enum Stage {
 /// Reads the commands of a job from pieces of any length. It has room for the rows of the largest raster, 255 rows of
 /// 8,191 columns.
 #[derive(Drop)]
-#[tactic(auto, unfolding(escp2_definitions::specs::Commands::command_at))]
 pub struct JobReader {
     // The offset of the command's first byte.
     begin: u64,
@@ -86,7 +87,6 @@ impl JobReader {
     ghost use Rattle.escp2_reader.specs.Reading.{is_failed_of, rows_of, shows_fault};
 
     /// A reader of a job from its first byte on.
-    #[tactic(auto, unfolding(escp2_definitions::specs::Commands::command_at))]
     pub fn make(alloc: Global) -> Result<JobReader, Memory>
         ensures anew { IfOk result (λ reader. StandsFor reader []) }
         ensures fed { IfOk result (λ reader. fed_of reader ≡ 0) }
@@ -98,7 +98,7 @@ impl JobReader {
                 begin: 0,
                 next: 0,
                 rows,
-                stage: Stage::Head(HeadBytes::new()),
+                stage: Stage::Header(HeaderBytes::new()),
             }),
             Err(_) => Err(Memory),
         }
@@ -106,7 +106,6 @@ impl JobReader {
 
     /// Reads the next bytes of the job, of any number, up to the end of the command. It takes no memory. A fault is
     /// answered with the byte that shows it, and again at each later call, with nothing used.
-    #[tactic(auto, unfolding(escp2_definitions::specs::Commands::command_at))]
     pub fn feed(&mut self, piece: &[u8]) -> Heard
         requires { fed_of self.old + length piece.now < 2 ^ 63 }
         ensures used { result.used ≤ length piece.now }
@@ -120,9 +119,9 @@ impl JobReader {
             → ShowsLast sofar piece.now result.used) }
         ensures again { is_failed_of self.old ≡ true → (result.used ≡ 0) × (is_failed_of self.new ≡ true) }
     {
-        let empty = Stage::Head(HeadBytes::new());
+        let empty = Stage::Header(HeaderBytes::new());
         match mem::replace(&mut self.stage, empty) {
-            Stage::Head(head) => self.feed_head(head, piece),
+            Stage::Header(header) => self.feed_header(header, piece),
             Stage::Rows(raster, reader) => self.feed_rows(raster, reader, piece),
             Stage::Failed { offset, cause } => self.fail(offset, cause, 0),
         }
@@ -133,7 +132,7 @@ impl JobReader {
         ensures { result.now ≡ rows_of self.now }
     {
         match self.stage {
-            Stage::Head(_) => &self.rows,
+            Stage::Header(_) => &self.rows,
             _ => &[],
         }
     }
@@ -153,9 +152,9 @@ impl JobReader {
     }
 
     // Reads on after these bytes of a command.
-    fn feed_head(&mut self, mut head: HeadBytes, piece: &[u8]) -> Heard
-        requires part { command_at head.items ≡ Part }
-        requires short { IsShort 0 head.items }
+    fn feed_header(&mut self, mut header: HeaderBytes, piece: &[u8]) -> Heard
+        requires part { command_at header.items ≡ Part }
+        requires short { IsShort 0 header.items }
         requires idle { (len : ℕ) → room_at self.old.stage len ≡ 0 }
         requires room { self.old.next + length piece.now < 2 ^ 63 }
         ensures used { result.used ≤ length piece.now }
@@ -163,25 +162,25 @@ impl JobReader {
         ensures fed { self.new.next ≡ self.old.next + result.used }
         ensures failed { is_failed_of self.new ≡ shows_fault result.state }
         ensures all { OnMore result.state (result.used ≡ length piece.now) }
-        ensures heard { (sofar rows : List ℕ) → Stands (Stage.Head head) self.old.begin self.old.next rows sofar
+        ensures heard { (sofar rows : List ℕ) → Stands (Stage.Header header) self.old.begin self.old.next rows sofar
             → IsHeard result.state self.old.begin self.new (sofar ++ take result.used piece.now) }
         ensures last { OnFault result.state ((sofar rows : List ℕ)
-            → Stands (Stage.Head head) self.old.begin self.old.next rows sofar
+            → Stands (Stage.Header header) self.old.begin self.old.next rows sofar
             → ShowsLast sofar piece.now result.used) }
     {
         self.rows.clear();
         'bytes: for (i, byte) in piece.iter().enumerate() {
-            head.push(*byte);
-            match head_of(head.as_slice()) {
-                HeadState::Part => {}
-                HeadState::Whole(command) => return self.end_command(command, i + 1),
-                HeadState::Rows(raster) => return self.begin_rows(raster, piece, i + 1),
-                HeadState::Fault { place, cause } => {
+            header.push(*byte);
+            match header_of(header.as_slice()) {
+                HeaderState::Part => {}
+                HeaderState::Whole(command) => return self.end_command(command, i + 1),
+                HeaderState::Rows(raster) => return self.begin_rows(raster, piece, i + 1),
+                HeaderState::Fault { place, cause } => {
                     return self.fail(self.begin + u64::from(place), cause, i + 1);
                 }
             }
         }
-        self.stage = Stage::Head(head);
+        self.stage = Stage::Header(header);
         self.next += piece.len() as u64;
         Heard {
             used: piece.len(),
@@ -190,7 +189,7 @@ impl JobReader {
     }
 
     // Reads on after the numbers of a raster, which end after `used` bytes of the piece.
-    fn begin_rows(&mut self, raster: RasterHead, piece: &[u8], used: usize) -> Heard
+    fn begin_rows(&mut self, raster: RasterHeader, piece: &[u8], used: usize) -> Heard
         requires rows { HasRows raster }
         requires none { self.old.rows.items ≡ [] }
         requires idle { (len : ℕ) → room_at self.old.stage len ≡ 0 }
@@ -218,8 +217,7 @@ impl JobReader {
     }
 
     // Reads on within the rows of a raster.
-    #[tactic(auto, unfolding(escp2_definitions::specs::Commands::command_at))]
-    fn feed_rows(&mut self, raster: RasterHead, mut reader: RowReader, piece: &[u8]) -> Heard
+    fn feed_rows(&mut self, raster: RasterHeader, mut reader: RowReader, piece: &[u8]) -> Heard
         requires is_open { is_done_of reader ≡ false }
         requires rows { vec_len self.old.rows + bytes_left_of reader ≤ vec_capacity self.old.rows }
         requires idle { (len : ℕ) → room_at self.old.stage len ≡ 0 }
@@ -246,7 +244,7 @@ impl JobReader {
                     state: HeardState::More,
                 }
             }
-            RowState::Whole => self.end_command(Command::Raster { head: raster }, fed.used),
+            RowState::Whole => self.end_command(Command::Raster { header: raster }, fed.used),
             RowState::Fault { .. } => {
                 // The control byte is the last byte that was used.
                 let offset = self.next + fed.used as u64 - 1;
@@ -256,7 +254,6 @@ impl JobReader {
     }
 
     // Ends a command after `used` more bytes.
-    #[tactic(auto, unfolding(escp2_definitions::specs::Commands::command_at))]
     fn end_command(&mut self, command: Command, used: usize) -> Heard
         requires { self.old.next + used < 2 ^ 63 }
         ensures used { result.used ≡ used }
@@ -269,7 +266,7 @@ impl JobReader {
     {
         self.next += used as u64;
         self.begin = self.next;
-        self.stage = Stage::Head(HeadBytes::new());
+        self.stage = Stage::Header(HeaderBytes::new());
         Heard {
             used,
             state: HeardState::One(command),
@@ -277,7 +274,6 @@ impl JobReader {
     }
 
     // Stops at a fault, after `used` more bytes.
-    #[tactic(auto, unfolding(escp2_definitions::specs::Commands::command_at))]
     fn fail(&mut self, offset: u64, cause: JobCause, used: usize) -> Heard
         requires { self.old.next + used < 2 ^ 63 }
         ensures used { result.used ≡ used }

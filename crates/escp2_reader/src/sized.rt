@@ -1,9 +1,9 @@
 //! The commands that have a length: `ESC (`, a letter, the number of bytes that follow, and these.
 ghost use Rattle.escp2_definitions.specs.Commands.{escape};
-ghost use Rattle.escp2_reader.specs.Heads.{IsLength, IsRead};
+ghost use Rattle.escp2_reader.specs.Headers.{IsLength, IsRead};
 ghost use Rattle.std.specs.Prelude.{◌∷◌, ◌≡◌};
 
-use crate::heads::{HeadState, bad_value, is_in, unknown};
+use crate::headers::{HeaderState, bad_value, is_in, unknown};
 use crate::{Command, JobCause};
 
 // What the two bytes of a command's length are.
@@ -18,11 +18,11 @@ enum LengthState<'a> {
 }
 
 /// What the bytes after `ESC (` are.
-pub(crate) fn after_paren(bytes: &[u8]) -> HeadState
+pub(crate) fn after_paren(bytes: &[u8]) -> HeaderState
     ensures { IsRead result 1 escape (0x28 ∷ bytes.now) }
 {
     match bytes {
-        [] => HeadState::Part,
+        [] => HeaderState::Part,
         [b'G', rest @ ..] => graphics(rest),
         [b'U', rest @ ..] => unit(rest),
         [b'i', rest @ ..] => micro_weave(rest),
@@ -52,123 +52,123 @@ fn length_of(len: u8, bytes: &[u8]) -> LengthState
     LengthState::Right(rest)
 }
 
-fn bad_length(place: u8) -> HeadState
-    ensures { result ≡ HeadState.Fault place JobCause.BadLength }
+fn bad_length(place: u8) -> HeaderState
+    ensures { result ≡ HeaderState.Fault place JobCause.BadLength }
 {
-    HeadState::Fault {
+    HeaderState::Fault {
         place,
         cause: JobCause::BadLength,
     }
 }
 
-fn graphics(bytes: &[u8]) -> HeadState
+fn graphics(bytes: &[u8]) -> HeaderState
     ensures { IsRead result 1 escape (0x28 ∷ 0x47 ∷ bytes.now) }
 {
     match length_of(1, bytes) {
-        LengthState::Part => HeadState::Part,
+        LengthState::Part => HeaderState::Part,
         LengthState::Wrong(place) => bad_length(place),
-        LengthState::Right([]) => HeadState::Part,
-        LengthState::Right([1, ..]) => HeadState::Whole(Command::Graphics),
+        LengthState::Right([]) => HeaderState::Part,
+        LengthState::Right([1, ..]) => HeaderState::Whole(Command::Graphics),
         LengthState::Right(_) => bad_value(5),
     }
 }
 
-fn unit(bytes: &[u8]) -> HeadState
+fn unit(bytes: &[u8]) -> HeaderState
     ensures { IsRead result 1 escape (0x28 ∷ 0x55 ∷ bytes.now) }
 {
     match length_of(1, bytes) {
-        LengthState::Part => HeadState::Part,
+        LengthState::Part => HeaderState::Part,
         LengthState::Wrong(place) => bad_length(place),
-        LengthState::Right([]) => HeadState::Part,
+        LengthState::Right([]) => HeaderState::Part,
         LengthState::Right([0, ..]) => bad_value(5),
-        LengthState::Right([m, ..]) => HeadState::Whole(Command::Unit { m: *m }),
+        LengthState::Right([m, ..]) => HeaderState::Whole(Command::Unit { m: *m }),
     }
 }
 
-fn micro_weave(bytes: &[u8]) -> HeadState
+fn micro_weave(bytes: &[u8]) -> HeaderState
     ensures { IsRead result 1 escape (0x28 ∷ 0x69 ∷ bytes.now) }
 {
     match length_of(1, bytes) {
-        LengthState::Part => HeadState::Part,
+        LengthState::Part => HeaderState::Part,
         LengthState::Wrong(place) => bad_length(place),
-        LengthState::Right([]) => HeadState::Part,
-        LengthState::Right([0, ..]) => HeadState::Whole(Command::MicroWeave { n: 0 }),
+        LengthState::Right([]) => HeaderState::Part,
+        LengthState::Right([0, ..]) => HeaderState::Whole(Command::MicroWeave { n: 0 }),
         LengthState::Right(_) => bad_value(5),
     }
 }
 
-fn page_length(bytes: &[u8]) -> HeadState
+fn page_length(bytes: &[u8]) -> HeaderState
     ensures { IsRead result 1 escape (0x28 ∷ 0x43 ∷ bytes.now) }
 {
     match length_of(2, bytes) {
-        LengthState::Part => HeadState::Part,
+        LengthState::Part => HeaderState::Part,
         LengthState::Wrong(place) => bad_length(place),
         LengthState::Right([low, high, ..]) => {
             let n = u16::from_le_bytes([*low, *high]);
             if !is_in(1, 32_767, n) {
                 return bad_value(5);
             }
-            HeadState::Whole(Command::Length { n })
+            HeaderState::Whole(Command::Length { n })
         }
-        LengthState::Right(_) => HeadState::Part,
+        LengthState::Right(_) => HeaderState::Part,
     }
 }
 
-fn down_to(bytes: &[u8]) -> HeadState
+fn down_to(bytes: &[u8]) -> HeaderState
     ensures { IsRead result 1 escape (0x28 ∷ 0x56 ∷ bytes.now) }
 {
     match length_of(2, bytes) {
-        LengthState::Part => HeadState::Part,
+        LengthState::Part => HeaderState::Part,
         LengthState::Wrong(place) => bad_length(place),
         LengthState::Right([low, high, ..]) => {
             let n = u16::from_le_bytes([*low, *high]);
             if n > 32_767 {
                 return bad_value(5);
             }
-            HeadState::Whole(Command::DownTo { n })
+            HeaderState::Whole(Command::DownTo { n })
         }
-        LengthState::Right(_) => HeadState::Part,
+        LengthState::Right(_) => HeaderState::Part,
     }
 }
 
-fn down_by(bytes: &[u8]) -> HeadState
+fn down_by(bytes: &[u8]) -> HeaderState
     ensures { IsRead result 1 escape (0x28 ∷ 0x76 ∷ bytes.now) }
 {
     match length_of(2, bytes) {
-        LengthState::Part => HeadState::Part,
+        LengthState::Part => HeaderState::Part,
         LengthState::Wrong(place) => bad_length(place),
         LengthState::Right([low, high, ..]) => {
             let n = u16::from_le_bytes([*low, *high]);
             if n > 32_767 {
                 return bad_value(5);
             }
-            HeadState::Whole(Command::DownBy { n })
+            HeaderState::Whole(Command::DownBy { n })
         }
-        LengthState::Right(_) => HeadState::Part,
+        LengthState::Right(_) => HeaderState::Part,
     }
 }
 
-fn margins(bytes: &[u8]) -> HeadState
+fn margins(bytes: &[u8]) -> HeaderState
     ensures { IsRead result 1 escape (0x28 ∷ 0x63 ∷ bytes.now) }
 {
     let rest = match length_of(4, bytes) {
-        LengthState::Part => return HeadState::Part,
+        LengthState::Part => return HeaderState::Part,
         LengthState::Wrong(place) => return bad_length(place),
         LengthState::Right(rest) => rest,
     };
     let [low, high, rest @ ..] = rest else {
-        return HeadState::Part;
+        return HeaderState::Part;
     };
     let top = u16::from_le_bytes([*low, *high]);
     if top > 32_767 {
         return bad_value(5);
     }
     let [low, high, ..] = rest else {
-        return HeadState::Part;
+        return HeaderState::Part;
     };
     let bottom = u16::from_le_bytes([*low, *high]);
     if !is_in(top + 1, 32_767, bottom) {
         return bad_value(7);
     }
-    HeadState::Whole(Command::Margins { top, bottom })
+    HeaderState::Whole(Command::Margins { top, bottom })
 }

@@ -2,61 +2,11 @@
 ghost use Rattle.escp2_reader.specs.Reading.{fed_of, is_failed_of};
 ghost use Rattle.std.specs.Prelude.{false, length, ◌+◌, ◌<◌, ◌≡◌, ◌≤◌, ◌^◌};
 
-use crate::{Command, Cut, Heard, HeardState, JobCause, JobReader, RasterHead};
+use crate::{Command, Cut, Heard, HeardState, JobCause, JobReader};
+use known_jobs::{TINY_COMMANDS, TINY_JOB, tiny_rows};
 use std::alloc::Global;
 use std::process::Abort;
 use std::test::Fail;
-use weave_base::Ink;
-
-const RASTER: Command = Command::Raster {
-    head: RasterHead {
-        c: 1,
-        v: 20,
-        h: 10,
-        m: 3,
-        n: 8,
-    },
-};
-
-// A sheet of six rows for three nozzles, with two passes.
-const JOB: [u8; 92] = [
-    0x1B, 0x40, 0x1B, 0x28, 0x47, 0x01, 0x00, 0x01, 0x1B, 0x28, 0x55, 0x01, 0x00, 0x05, 0x1B, 0x28,
-    0x69, 0x01, 0x00, 0x00, 0x1B, 0x55, 0x01, 0x1B, 0x28, 0x43, 0x02, 0x00, 0x0C, 0x00, 0x1B, 0x28,
-    0x63, 0x04, 0x00, 0x00, 0x00, 0x0C, 0x00, 0x1B, 0x28, 0x56, 0x02, 0x00, 0x00, 0x00, 0x1B, 0x72,
-    0x00, 0x0D, 0x1B, 0x2E, 0x01, 0x14, 0x0A, 0x03, 0x08, 0x00, 0x00, 0x00, 0x00, 0x00, 0x00, 0xFF,
-    0x1B, 0x28, 0x76, 0x02, 0x00, 0x06, 0x00, 0x1B, 0x72, 0x00, 0x0D, 0x1B, 0x2E, 0x01, 0x14, 0x0A,
-    0x03, 0x08, 0x00, 0x00, 0x00, 0x00, 0xFF, 0x00, 0x00, 0x0C, 0x1B, 0x40,
-];
-
-// Its commands.
-const COMMANDS: [Command; 17] = [
-    Command::Init,
-    Command::Graphics,
-    Command::Unit { m: 5 },
-    Command::MicroWeave { n: 0 },
-    Command::OneWay { n: 1 },
-    Command::Length { n: 12 },
-    Command::Margins { top: 0, bottom: 12 },
-    Command::DownTo { n: 0 },
-    Command::Colour { ink: Ink::Black },
-    Command::Return,
-    RASTER,
-    Command::DownBy { n: 6 },
-    Command::Colour { ink: Ink::Black },
-    Command::Return,
-    RASTER,
-    Command::Eject,
-    Command::Init,
-];
-
-// The rows of the command with this number.
-fn rows_of(count: usize) -> &'static [u8] {
-    match count {
-        10 => &[0x00, 0x00, 0xFF],
-        14 => &[0x00, 0xFF, 0x00],
-        _ => &[],
-    }
-}
 
 // Feeds a piece of the job, compares each command with the commands of the job from `count` on, and gives the new
 // count.
@@ -71,9 +21,9 @@ fn feed_piece(rt: &impl Abort, reader: &mut JobReader, piece: &[u8], mut count: 
         let heard = reader.feed(&piece[used..]);
         used += heard.used;
         if let HeardState::One(command) = heard.state {
-            assert!(rt; count < COMMANDS.len());
-            assert_eq!(rt; command, COMMANDS[count]);
-            assert_eq!(rt; reader.rows(), rows_of(count));
+            assert!(rt; count < TINY_COMMANDS.len());
+            assert_eq!(rt; command, TINY_COMMANDS[count]);
+            assert_eq!(rt; reader.rows(), tiny_rows(count));
             count += 1;
         } else {
             assert_eq!(rt; heard.state, HeardState::More);
@@ -87,8 +37,8 @@ fn feed_piece(rt: &impl Abort, reader: &mut JobReader, piece: &[u8], mut count: 
 fn each_cut_gives_seventeen_commands(rt: HostRuntime) -> Result<(), Fail> {
     for cut in 0..=92 {
         let mut reader = JobReader::make(rt.alloc())?;
-        let count = feed_piece(&rt, &mut reader, &JOB[..cut], 0);
-        assert_eq!(rt; feed_piece(&rt, &mut reader, &JOB[cut..], count), 17);
+        let count = feed_piece(&rt, &mut reader, &TINY_JOB[..cut], 0);
+        assert_eq!(rt; feed_piece(&rt, &mut reader, &TINY_JOB[cut..], count), 17);
         assert_eq!(rt; reader.end(), Ok(()));
     }
     Ok(())
@@ -99,7 +49,7 @@ fn single_bytes_give_seventeen_commands(rt: HostRuntime) -> Result<(), Fail> {
     let mut reader = JobReader::make(rt.alloc())?;
     let mut count = 0;
     for at in 0..92 {
-        count = feed_piece(&rt, &mut reader, &JOB[at..at + 1], count);
+        count = feed_piece(&rt, &mut reader, &TINY_JOB[at..at + 1], count);
     }
     assert_eq!(rt; count, 17);
     Ok(())
@@ -108,7 +58,7 @@ fn single_bytes_give_seventeen_commands(rt: HostRuntime) -> Result<(), Fail> {
 #[test]
 fn a_cut_command_is_named_by_its_first_byte(rt: HostRuntime) -> Result<(), Fail> {
     let mut reader = JobReader::make(rt.alloc())?;
-    assert_eq!(rt; feed_piece(&rt, &mut reader, &JOB[..10], 0), 2);
+    assert_eq!(rt; feed_piece(&rt, &mut reader, &TINY_JOB[..10], 0), 2);
     assert_eq!(rt; reader.end(), Err(Cut { offset: 8 }));
     Ok(())
 }

@@ -164,10 +164,28 @@ rest-next most m width at bytes =
 
 -- ---- a control byte
 
+-- a control byte that asks for more than is left is wrong
+by_count : (k most left m width at n : ℕ) (bytes : List ℕ) (read : RowsRead) (place : Place)
+    → packet_at (suc left) at (n ∷ bytes) ≡ (if nat_lt (suc left) k then RowsWrong at else read)
+    → (packet_at (suc left) at (n ∷ bytes) ≡ read
+    → rest_at (suc most) (suc left) m width at (n ∷ bytes) ≡ read_on place most (suc left) m width (at + 1) bytes)
+    → rest_at (suc most) (suc left) m width at (n ∷ bytes)
+    ≡ read_on (if nat_lt (suc left) k then Failed else place) most (suc left) m width (at + 1) bytes
+by_count k most left m width at n bytes read place packet within = by_left (nat_lt (suc left) k) packet
+  where
+    by_left : (b : Bool) → packet_at (suc left) at (n ∷ bytes) ≡ (if b then RowsWrong at else read)
+        → rest_at (suc most) (suc left) m width at (n ∷ bytes)
+        ≡ read_on (if b then Failed else place) most (suc left) m width (at + 1) bytes
+    by_left true packet =
+        rest-wrong most left m width at (n ∷ bytes) at packet ∙ ap RowsWrong (let p : at ≡ at + 1 - 1 = omega arith in p)
+    by_left false packet = within packet
+
 -- what is read after a control byte
 control-read : (c : Control) (most left m width at n : ℕ) (bytes : List ℕ) → control_of n ≡ c
     → rest_at (suc most) (suc left) m width at (n ∷ bytes) ≡ read_on (behind_control c (suc left)) most (suc left) m width (at + 1) bytes
-control-read (Follow k) most left m width at n bytes is = by_left (nat_lt (suc left) k) refl
+control-read (Follow k) most left m width at n bytes is =
+    by_count k most left m width at n bytes (plain_at k (at + 1) bytes) (Literal k)
+    (ap (λ (c : Control). controlled c (suc left) at bytes) is) (λ packet. by_bytes packet (nat_lt (length bytes) k) refl)
   where
     by_bytes : packet_at (suc left) at (n ∷ bytes) ≡ plain_at k (at + 1) bytes → (b : Bool) → nat_lt (length bytes) k ≡ b
         → rest_at (suc most) (suc left) m width at (n ∷ bytes)
@@ -181,19 +199,9 @@ control-read (Follow k) most left m width at n bytes is = by_left (nat_lt (suc l
         ∙ ap (λ b. if b then RowsPart else RowsAre (take k bytes) (at + 1 + k)) e)
         ∙ ap (λ j. with_front (take k bytes) (rest_at most (suc left - j) m width (at + 1 + k) (drop (at + 1 + k - at) (n ∷ bytes)))) sized
         ∙ ap (λ j. with_front (take k bytes) (rest_at most (suc left - k) m width (at + 1 + k) (drop j (n ∷ bytes)))) passed
-
-    by_left : (b : Bool) → nat_lt (suc left) k ≡ b
-        → rest_at (suc most) (suc left) m width at (n ∷ bytes) ≡ read_on (if b then Failed else Literal k) most (suc left) m width
-        (at + 1) bytes
-    by_left true e =
-        rest-wrong most left m width at (n ∷ bytes) at
-        (ap (λ (c : Control). controlled c (suc left) at bytes) is ∙ ap (λ b. if b then RowsWrong at else plain_at k (at + 1) bytes) e)
-        ∙ ap RowsWrong (let p : at ≡ at + 1 - 1 = omega arith in p)
-    by_left false e =
-        by_bytes (ap (λ (c : Control). controlled c (suc left) at bytes) is
-        ∙ ap (λ b. if b then RowsWrong at else plain_at k (at + 1) bytes) e)
-        (nat_lt (length bytes) k) refl
-control-read (Again k) most left m width at n bytes is = by_left (nat_lt (suc left) k) refl
+control-read (Again k) most left m width at n bytes is =
+    by_count k most left m width at n bytes (again_at k (at + 1) bytes) (Repeated k)
+    (ap (λ (c : Control). controlled c (suc left) at bytes) is) (by_bytes bytes)
   where
     by_bytes : (rest : List ℕ) → packet_at (suc left) at (n ∷ rest) ≡ again_at k (at + 1) rest
         → rest_at (suc most) (suc left) m width at (n ∷ rest) ≡ read_on (Repeated k) most (suc left) m width (at + 1) rest
@@ -205,17 +213,6 @@ control-read (Again k) most left m width at n bytes is = by_left (nat_lt (suc le
         ∙ ap (λ j. with_front (replicate k b) (rest_at most (suc left - j) m width (at + 1 + 1) (drop (at + 1 + 1 - at) (n ∷ b ∷ rest))))
         sized
         ∙ ap (λ j. with_front (replicate k b) (rest_at most (suc left - k) m width (at + 1 + 1) (drop j (n ∷ b ∷ rest)))) passed
-
-    by_left : (b : Bool) → nat_lt (suc left) k ≡ b
-        → rest_at (suc most) (suc left) m width at (n ∷ bytes) ≡ read_on (if b then Failed else Repeated k) most (suc left) m width
-        (at + 1) bytes
-    by_left true e =
-        rest-wrong most left m width at (n ∷ bytes) at
-        (ap (λ (c : Control). controlled c (suc left) at bytes) is ∙ ap (λ b. if b then RowsWrong at else again_at k (at + 1) bytes) e)
-        ∙ ap RowsWrong (let p : at ≡ at + 1 - 1 = omega arith in p)
-    by_left false e =
-        by_bytes bytes (ap (λ (c : Control). controlled c (suc left) at bytes) is
-        ∙ ap (λ b. if b then RowsWrong at else again_at k (at + 1) bytes) e)
 control-read Refused most left m width at n bytes is =
     rest-wrong most left m width at (n ∷ bytes) at (ap (λ (c : Control). controlled c (suc left) at bytes) is)
     ∙ ap RowsWrong (let p : at ≡ at + 1 - 1 = omega arith in p)

@@ -6,20 +6,20 @@ ghost use Rattle.std.specs.List.{flat_map};
 ghost use Rattle.std.specs.Prelude.{IsOk, OnErr, OnOk, length, take, true, vec_capacity, vec_len, ◌*◌, ◌++◌, ◌+◌, ◌≡◌};
 ghost use Rattle.std.specs.Prelude.{◌≤◌};
 
-use crate::heads::{head_bytes, row_bytes};
-use crate::{Command, RasterHead};
+use crate::headers::{header_bytes, row_bytes};
+use crate::{Command, RasterHeader};
 use escp2_rows::code_row;
 use weave_base::Memory;
 
 /// Appends the bytes of a command, for a raster without its rows. The vector has room for them, so that no memory is
 /// taken.
-pub fn append_head(c: &Command, out: &mut Vec<u8>)
+pub fn append_header(c: &Command, out: &mut Vec<u8>)
     requires { vec_len out.old + length (command_bytes c.now) ≤ vec_capacity out.old }
     ensures items { out.new.items ≡ out.old.items ++ command_bytes c.now }
     ensures len { vec_len out.new ≡ vec_len out.old + length (command_bytes c.now) }
     ensures capacity { vec_capacity out.old ≤ vec_capacity out.new }
 {
-    out.extend_from_slice(head_bytes(c).as_slice()).unwrap();
+    out.extend_from_slice(header_bytes(c).as_slice()).unwrap();
 }
 
 // Writes the code of a row after the first `begin` bytes, and gives its length.
@@ -45,14 +45,15 @@ pub fn append_row(row: &[u8], out: &mut Vec<u8>)
 }
 
 // Appends the codes of a raster's rows, one by one.
-fn append_rows(head: RasterHead, rows: &[u8], out: &mut Vec<u8>)
-    requires rows_fit { length rows.now ≡ head.m * row_bytes_of head }
+fn append_rows(header: RasterHeader, rows: &[u8], out: &mut Vec<u8>)
+    requires rows_fit { length rows.now ≡ header.m * row_bytes_of header }
     requires room { vec_len out.old + 2 * length rows.now ≤ vec_capacity out.old }
-    ensures { out.new.items ≡ out.old.items ++ flat_map canonical_row (rows_apart head.m (row_bytes_of head) rows.now) }
+    ensures { out.new.items
+        ≡ out.old.items ++ flat_map canonical_row (rows_apart header.m (row_bytes_of header) rows.now) }
 {
-    let width = row_bytes(head);
+    let width = row_bytes(header);
     let mut rest = rows;
-    'rows: for _ in 0..head.m {
+    'rows: for _ in 0..header.m {
         let (row, behind) = rest.split_at(width);
         append_row(row, out);
         rest = behind;
@@ -73,7 +74,7 @@ fn room_for(c: &Command) -> usize
     ensures { result ≡ 9 + 2 * rows_len c.now }
 {
     match *c {
-        Command::Raster { head } => 9 + codes_room(head.m, row_bytes(head)),
+        Command::Raster { header } => 9 + codes_room(header.m, row_bytes(header)),
         _ => 9,
     }
 }
@@ -93,9 +94,9 @@ pub fn append(c: &Command, rows: &[u8], out: &mut Vec<u8>) -> Result<(), Memory>
     if out.reserve(room_for(c)).is_err() {
         return Err(Memory);
     }
-    append_head(c, out);
+    append_header(c, out);
     match *c {
-        Command::Raster { head } if head.c != 0 => append_rows(head, rows, out),
+        Command::Raster { header } if header.c != 0 => append_rows(header, rows, out),
         _ => out.extend_from_slice(rows).unwrap(),
     }
     Ok(())

@@ -2,19 +2,18 @@
 //! canonical codes.
 //!
 //! `append` appends exactly the bytes of a command and of its rows, or answers `Memory` and leaves the vector
-//! unchanged. `append_head` and `append_row` are its parts, for a vector that has room, and take no memory. `put` asks
-//! for a command of the table with rows of its length, and writes exactly its bytes and rows; where a write of the sink
-//! fails, a proper prefix of them, and the sink's count of faults rose. It takes no memory.
+//! unchanged. `append_header` and `append_row` are its parts, for a vector that has room, and take no memory. `put`
+//! asks for a command of the table with rows of its length, and writes exactly its bytes and rows; where a write of the
+//! sink fails, a proper prefix of them, and the sink's count of faults rose. It takes no memory.
 #![tactic(auto)]
 
 mod appending;
-mod heads;
-mod piece;
+mod headers;
 mod writing;
 
-pub use appending::{append, append_head, append_row};
-pub use escp2_commands::{Command, RasterHead};
-pub use heads::{HeadBytes, head_bytes};
+pub use appending::{append, append_header, append_row};
+pub use escp2_commands::{Command, RasterHeader};
+pub use headers::{HeaderBytes, header_bytes};
 pub use writing::put;
 
 #[cfg(test)]

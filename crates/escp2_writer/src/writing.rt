@@ -8,32 +8,43 @@ ghost use Rattle.std.specs.Prelude.{OnErr, OnOk, length, true, ◌*◌, ◌++◌
 ghost use Rattle.weave_base.specs.Causes.{HasCause};
 ghost use Rattle.weave_base.specs.Parts.{AppendsPart};
 
-use crate::heads::{head_bytes, row_bytes};
-use crate::piece::Piece;
-use crate::{Command, RasterHead};
+use crate::headers::{header_bytes, row_bytes};
+use crate::{Command, RasterHeader};
+use escp2_rows::code_row;
+use gathered_bytes::Gathered;
 use weave_base::{Failed, Sink, put_all};
 
+// The most bytes of a row's code: twice the widest row.
+const MOST_CODE: usize = 2048;
+
 // Writes bytes, and then the codes of a raster's rows, one by one.
-fn put_coded<K: Sink>(head: RasterHead, front: &[u8], rows: &[u8], k: &mut K) -> Result<(), Failed>
-    requires front { length front.now ≤ 4096 }
-    requires narrow { row_bytes_of head ≤ 1024 }
-    requires rows_fit { length rows.now ≡ head.m * row_bytes_of head }
+fn put_coded<K: Sink>(
+    header: RasterHeader,
+    front: &[u8],
+    rows: &[u8],
+    k: &mut K,
+) -> Result<(), Failed>
+    requires front { length front.now ≤ 8192 }
+    requires narrow { row_bytes_of header ≤ 1024 }
+    requires rows_fit { length rows.now ≡ header.m * row_bytes_of header }
     ensures ok { OnOk result (Appends (K.held k.old) (K.held k.new)
-        (front.now ++ flat_map canonical_row (rows_apart head.m (row_bytes_of head) rows.now))) }
+        (front.now ++ flat_map canonical_row (rows_apart header.m (row_bytes_of header) rows.now))) }
     ensures part { OnErr result (AppendsPart (K.held k.old) (K.held k.new)
-        (front.now ++ flat_map canonical_row (rows_apart head.m (row_bytes_of head) rows.now))) }
+        (front.now ++ flat_map canonical_row (rows_apart header.m (row_bytes_of header) rows.now))) }
     ensures cause { HasCause (K.faults k.old) (K.faults k.new) result }
 {
-    let width = row_bytes(head);
-    let mut piece = Piece::begin(front);
+    let width = row_bytes(header);
+    let mut bytes = Gathered::new();
+    bytes.push(front);
+    let mut code = [0; MOST_CODE];
     let mut rest = rows;
-    'rows: for _ in 0..head.m {
+    'rows: for _ in 0..header.m {
         let (row, behind) = rest.split_at(width);
-        piece.make_room(2 * width, k)?;
-        piece.push_row(row);
+        let len = code_row(row, &mut code);
+        bytes.write(&code[..len], k)?;
         rest = behind;
     }
-    piece.put(k)
+    bytes.put(k)
 }
 
 /// Writes the command and then its rows: a raster's rows plain where its `c` is 0 and else coded, the top one first
@@ -51,9 +62,9 @@ pub fn put<K: Sink>(c: &Command, rows: &[u8], k: &mut K) -> Result<(), Failed>
     ensures cause { HasCause (K.faults k.old) (K.faults k.new) result }
     ensures spelled { Spells c.now rows.now (written canonical_row c.now rows.now) }
 {
-    let front = head_bytes(c);
+    let front = header_bytes(c);
     match *c {
-        Command::Raster { head } if head.c != 0 => put_coded(head, front.as_slice(), rows, k),
+        Command::Raster { header } if header.c != 0 => put_coded(header, front.as_slice(), rows, k),
         _ => {
             put_all(k, front.as_slice())?;
             put_all(k, rows)

@@ -1,6 +1,5 @@
 -- The lines of a page, group by group.
-use Rattle.std.proofs.Common.{◌≡◌, ℕ, zero, suc, ◌+◌, ◌-◌, ◌≤◌, List, [], ◌++◌, length, replicate, refl, sym, ◌∙◌, ap, arith, append_assoc}
-use Rattle.pwg_definitions.specs.declared.faults.InputCause.TheVariants as cause
+use Rattle.std.proofs.Common.{◌≡◌, ℕ, zero, suc, ◌-◌, ◌≤◌, List, [], ◌++◌, length, replicate, refl, sym, ◌∙◌, ap, arith, append_assoc}
 use Rattle.pwg_definitions.specs.declared.pages.Kind.{Kind}
 use Rattle.pwg_definitions.specs.declared.pages.Kind.TheVariants.{Gray8, Black8, Rgb8}
 use Rattle.pwg_definitions.specs.Header.{KindRow, row_of}
@@ -9,6 +8,7 @@ use Rattle.pwg_definitions.specs.Groups.GroupRead.{Group, Part, Wrong}
 use Rattle.pwg_definitions.specs.Stream.{LinesRead, lines_at, with_lines}
 use Rattle.pwg_definitions.specs.Stream.LinesRead.{Lines, Stop}
 use Rattle.pwg_laws.proofs.PageLaws.{group_at-sized}
+use Rattle.pwg_laws.proofs.PageSpelling.{lines_at-read}
 
 pub with-none : (r : LinesRead) → with_lines [] r ≡ r
 with-none (Lines lines rest) = refl
@@ -17,21 +17,6 @@ with-none (Stop line why) = refl
 pub with-both : (xs ys : List (List ℕ)) (r : LinesRead) → with_lines xs (with_lines ys r) ≡ with_lines (xs ++ ys) r
 with-both xs ys (Lines lines rest) = ap (λ ls. Lines ls rest) (sym (append_assoc xs ys lines))
 with-both xs ys (Stop line why) = refl
-
--- the lines of a page where its next group is read as this
-pub lines_at-read : (row : KindRow) (units height most left : ℕ) (bytes : List ℕ) (read : GroupRead)
-    → group_at row units (suc left) bytes ≡ read
-    → lines_at row units height (suc most) (suc left) bytes ≡ elim read [
-      | Group repeats line rest ↦ with_lines (replicate repeats line) (lines_at row units height most (suc left - repeats) rest)
-      | Part ↦ Stop (height - suc left + 1) cause.Truncated
-      | Wrong place fault ↦ Stop (height - suc left + 1) (cause.Line fault)
-    ]
-unfolding lines_at
-lines_at-read row units height most left bytes read e = ap (λ (r : GroupRead). elim r [
-  | Group repeats line rest ↦ with_lines (replicate repeats line) (lines_at row units height most (suc left - repeats) rest)
-  | Part ↦ Stop (height - suc left + 1) cause.Truncated
-  | Wrong place fault ↦ Stop (height - suc left + 1) (cause.Line fault)
-]) e
 
 pub lines_at-none : (row : KindRow) (units height most : ℕ) (bytes : List ℕ) → lines_at row units height most zero bytes ≡ Lines [] bytes
 unfolding lines_at

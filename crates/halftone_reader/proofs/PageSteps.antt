@@ -27,7 +27,8 @@ use Rattle.unread_bytes.specs.Text.{UsesSome}
 use Rattle.pwg_stream.specs.declared.stops.StreamStop.{StreamStop}
 use Rattle.pwg_stream.specs.declared.stops.StreamStop.TheVariants as stop
 use Rattle.halftone_reader.specs.Reading.{ReadsPage}
-use Rattle.halftone_reader.proofs.Lines.{lines_at-enough, lines_at-none, lines_at-read, white-unit, with-both, with-none}
+use Rattle.pwg_laws.proofs.PageSpelling.{lines_at-read}
+use Rattle.halftone_reader.proofs.Lines.{lines_at-enough, lines_at-none, white-unit, with-both, with-none}
 
 -- what the rest of a page with this many lines left is read as
 abbrev pub rest_of : PageForm → ℕ → ℕ → List ℕ → LinesRead

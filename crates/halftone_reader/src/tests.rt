@@ -1,7 +1,7 @@
 //! A page of one black line and one white line, and a stream that ends inside it.
 use crate::{HalftonedPage, read_page};
 use diffusion_kernel::Kernel;
-use printer_profile::{InkSet, Profile};
+use printer_profile::TINY1;
 use pwg_definitions::InputCause;
 use pwg_stream::{PageReader, StreamStop};
 use std::alloc::Global;
@@ -10,21 +10,6 @@ use std::test::Fail;
 use std::thread::Threads;
 use wavefront_team::OpenGate;
 use weave_base::MemSource;
-
-/// One nozzle, black alone, and no margins.
-const ONE: Profile = Profile {
-    hdpi: 360,
-    vdpi: 360,
-    nozzles: 1,
-    pitch: 1,
-    inks: InkSet::K,
-    black_start: 0,
-    limits: [255, 255, 255, 255],
-    left: 0,
-    right: 0,
-    top: 0,
-    bottom: 0,
-};
 
 /// What is not 0 in the numbers of a header for eight columns and two lines of grey, by places in a stream, in which
 /// the header begins at byte 4 (PWG 5102.4, section 4.3).
@@ -64,7 +49,7 @@ fn read<R: Abort + Threads + Sync>(
     alloc: Global,
     mut s: MemSource,
 ) -> Result<Result<Option<HalftonedPage>, StreamStop>, Fail> {
-    assert_eq!(rt; ONE.check(), Ok(()));
+    assert_eq!(rt; TINY1.check(), Ok(()));
     let Ok(mut reader) = PageReader::begin(alloc, &mut s) else {
         return Err("no sync word")?;
     };
@@ -72,7 +57,7 @@ fn read<R: Abort + Threads + Sync>(
         rt,
         alloc,
         &mut reader,
-        &ONE,
+        &TINY1,
         Kernel::Floyd,
         2,
         &mut s,

@@ -6,7 +6,7 @@ use Rattle.std.proofs.KnownBytes.{Appends-nil, Consumes-nil}
 use Rattle.escp2_definitions.specs.Commands.{Entry, commands}
 use Rattle.gathered_bytes.specs.declared.gathered.Gathered.{Gathered}
 use Rattle.gathered_bytes.specs.Gathering.{Writes, gathered}
-use Rattle.gathered_bytes.proofs.Writing.{GathersSoFar, gathers_all, gathers_more, gathers_none, gathers_part}
+use Rattle.gathered_bytes.proofs.Writing.{GathersSoFar, gathers_all, gathers_begin, gathers_more, gathers_part}
 use Rattle.job_feed.specs.declared.feed.FeedStop.{FeedStop}
 use Rattle.job_feed.specs.declared.feed.FeedStop.TheVariants as feed_is
 use Rattle.job_feed.specs.declared.feed.JobFeed.{JobFeed}
@@ -33,7 +33,7 @@ pub lists_none : (feed : JobFeed) (g : Gathered) (left held : Option (List ℕ))
 lists_none feed g left held at unread none = record {
   entries = [];
   gave = gave_none feed left at unread;
-  gathers = gathers_none held (gathered g) none;
+  gathers = gathers_begin held [] (gathered g) none;
 }
 
 pub lists_more : (old new : JobFeed) (g after : Gathered) (before text left held now now' : Option (List ℕ)) (placed : PlacedCommand)

@@ -3,19 +3,10 @@ ghost use Rattle.std.specs.Prelude.{◌<◌, ◌^◌};
 
 use crate::{JobStop, ListStop, list_job};
 use escp2_definitions::JobCause;
+use known_jobs::TINY_JOB;
 use std::alloc::Global;
 use std::test::Fail;
 use weave_base::{MemSink, MemSource};
-
-// A sheet of six rows for three nozzles, with two passes.
-const JOB: [u8; 92] = [
-    0x1B, 0x40, 0x1B, 0x28, 0x47, 0x01, 0x00, 0x01, 0x1B, 0x28, 0x55, 0x01, 0x00, 0x05, 0x1B, 0x28,
-    0x69, 0x01, 0x00, 0x00, 0x1B, 0x55, 0x01, 0x1B, 0x28, 0x43, 0x02, 0x00, 0x0C, 0x00, 0x1B, 0x28,
-    0x63, 0x04, 0x00, 0x00, 0x00, 0x0C, 0x00, 0x1B, 0x28, 0x56, 0x02, 0x00, 0x00, 0x00, 0x1B, 0x72,
-    0x00, 0x0D, 0x1B, 0x2E, 0x01, 0x14, 0x0A, 0x03, 0x08, 0x00, 0x00, 0x00, 0x00, 0x00, 0x00, 0xFF,
-    0x1B, 0x28, 0x76, 0x02, 0x00, 0x06, 0x00, 0x1B, 0x72, 0x00, 0x0D, 0x1B, 0x2E, 0x01, 0x14, 0x0A,
-    0x03, 0x08, 0x00, 0x00, 0x00, 0x00, 0xFF, 0x00, 0x00, 0x0C, 0x1B, 0x40,
-];
 
 const LISTING: &str =
     "0 INIT\n2 GRAPHICS\n8 UNIT 5\n14 MICROWEAVE 0\n20 ONEWAY 1\n23 LENGTH 12\n30 MARGINS 0 12\n\
@@ -49,7 +40,7 @@ fn list_gives_seventeen_lines(rt: HostRuntime) -> Result<(), Fail> {
     let alloc = rt.alloc();
     for piece in [1, 7, 92] {
         let mut out = sink(alloc, 4096)?;
-        let end = list(alloc, &JOB, 92, piece, 0, &mut out)?;
+        let end = list(alloc, &TINY_JOB, 92, piece, 0, &mut out)?;
         assert_eq!(rt; end, Ok(()));
         assert_eq!(rt; out.bytes(), LISTING.as_bytes(), "in pieces of {piece}");
     }
@@ -60,9 +51,9 @@ fn list_gives_seventeen_lines(rt: HostRuntime) -> Result<(), Fail> {
 fn list_names_each_reader_fault(rt: HostRuntime) -> Result<(), Fail> {
     let alloc = rt.alloc();
     let cases: [(&[u8], u64, u64, JobStop, usize); 7] = [
-        (&JOB[..10], 99, 8, JobStop::Cut, 18),
-        (&JOB[..11], 10, 10, JobStop::TooLong, 18),
-        (&JOB[..11], 8, 8, JobStop::TooLong, 18),
+        (&TINY_JOB[..10], 99, 8, JobStop::Cut, 18),
+        (&TINY_JOB[..11], 10, 10, JobStop::TooLong, 18),
+        (&TINY_JOB[..11], 8, 8, JobStop::TooLong, 18),
         (&[0x1B, 0x41], 99, 1, JobStop::Reader(JobCause::Unknown), 0),
         (
             &[0x1B, 0x28, 0x47, 0x02, 0x00],
@@ -99,7 +90,7 @@ fn list_names_each_reader_fault(rt: HostRuntime) -> Result<(), Fail> {
 fn a_failed_read_leaves_the_lines_of_what_was_read(rt: HostRuntime) -> Result<(), Fail> {
     let alloc = rt.alloc();
     let mut out = sink(alloc, 4096)?;
-    let end = list(alloc, &JOB, 92, 1, 9, &mut out)?;
+    let end = list(alloc, &TINY_JOB, 92, 1, 9, &mut out)?;
     assert_eq!(rt; end, Err(ListStop::Read));
     assert_eq!(rt; out.bytes(), &LISTING.as_bytes()[..18]);
     Ok(())
@@ -109,7 +100,7 @@ fn a_failed_read_leaves_the_lines_of_what_was_read(rt: HostRuntime) -> Result<()
 fn a_full_sink_stops_the_listing(rt: HostRuntime) -> Result<(), Fail> {
     let alloc = rt.alloc();
     let mut out = sink(alloc, 30)?;
-    let end = list(alloc, &JOB, 92, 92, 0, &mut out)?;
+    let end = list(alloc, &TINY_JOB, 92, 92, 0, &mut out)?;
     assert_eq!(rt; end, Err(ListStop::Write));
     assert_eq!(rt; out.bytes(), &LISTING.as_bytes()[..30]);
     Ok(())

@@ -1,26 +1,19 @@
 -- How many of the first bits of a row are 1.
-use Rattle.std.proofs.Common.{◌≡◌, ℕ, zero, suc, ◌+◌, ◌-◌, ◌*◌, ◌/◌, ◌%◌, ◌^◌, ◌<◌, ◌≤◌, Bool, true, false, ◌&&◌, eqb, cond, List, [], ◌∷◌}
+use Rattle.std.proofs.Common.{◌≡◌, ℕ, zero, suc, ◌+◌, ◌-◌, ◌*◌, ◌/◌, ◌^◌, ◌<◌, ◌≤◌, Bool, true, ◌&&◌, eqb, cond, List, [], ◌∷◌}
 use Rattle.std.proofs.Common.{◌++◌, length, take, get_or, count_by, count_ones, sum_by, refl, sym, ◌∙◌, ap, arith, inl, inr}
 use Rattle.std.proofs.lemmas.Bool.{cases_lt, eqb-true}
-use Rattle.std.proofs.lemmas.List.{take-append-le, take_more}
+use Rattle.std.proofs.lemmas.List.{take-append-le}
 use Rattle.std.proofs.lemmas.List.Sums.{sum_by-append, sum_by-cons, sum_by_more}
 use Rattle.std.proofs.Math.Seq.{take-append-add}
 use lib.Count.{ones, ones_in}
 use Rattle.escp2_definitions.specs.Machine.{bits, byte_bits}
+use Rattle.escp2_laws.proofs.Grammar.{AreBytes}
+use Rattle.escp2_laws.proofs.Reading.{and-left, and-right}
 
 abbrev pub on_count : List Bool → ℕ
 on_count row = count_by (λ on. on) row
 
 -- ---- one byte
-
-both-first : (x y : Bool) → x && y ≡ true → x ≡ true
-both-first true y e = refl
-both-first false y e = e
-
-both-second : (x y : Bool) → x && y ≡ true → y ≡ true
-both-second true y e = e
-both-second false true e = refl
-both-second false false e = e
 
 -- a test of all numbers below one
 all_below : (ℕ → Bool) → ℕ → Bool
@@ -31,8 +24,8 @@ all_below-at : (test : ℕ → Bool) (n m : ℕ) → all_below test n ≡ true �
 unfolding all_below
 all_below-at test zero m e below = absurd (omega arith)
 all_below-at test (suc n) m e below = elim (cases_lt m n) [
-  | inl less ↦ all_below-at test n m (both-second (test n) (all_below test n) e) less
-  | inr not_less ↦ let here : m ≡ n = omega arith in ap test here ∙ both-first (test n) (all_below test n) e
+  | inl less ↦ all_below-at test n m (and-right (test n) (all_below test n) e) less
+  | inr not_less ↦ let here : m ≡ n = omega arith in ap test here ∙ and-left (test n) (all_below test n) e
 ]
 
 -- the first r bits of a byte are as many as the bits of what is left when the others are shifted out
@@ -49,9 +42,6 @@ first_bits r byte few low =
     eqb-true _ _ (all_below-at (test_first r) 256 byte (all_below-at (λ r. all_below (test_first r) 256) 9 r all_first (omega arith)) low)
 
 -- ---- a row
-
-abbrev pub AreBytes : List ℕ → Type 0
-AreBytes row = (k : ℕ) → get_or row k 0 < 256
 
 count-append : (xs ys : List Bool) → on_count (xs ++ ys) ≡ on_count xs + on_count ys
 count-append xs ys = sum_by-append (λ on. cond on 1 0) xs ys

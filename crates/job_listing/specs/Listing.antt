@@ -5,13 +5,13 @@ use Rattle.std.specs.List.{flat_map}
 use Rattle.printer_definitions.specs.declared.inks.Ink.TheVariants.{Black}
 use Rattle.escp2_definitions.specs.declared.command.Command.{Command}
 use Rattle.escp2_definitions.specs.declared.command.Command.TheVariants as c
-use Rattle.escp2_definitions.specs.declared.command.RasterHead.{RasterHead}
+use Rattle.escp2_definitions.specs.declared.command.RasterHeader.{RasterHeader}
 use Rattle.escp2_definitions.specs.Commands.{Entry, colour_code}
 use Rattle.escp2_definitions.specs.Machine.{rows_dots}
 
 -- how many dots the rows of a raster have
-unfoldable pub dot_count : RasterHead → List ℕ → ℕ
-dot_count head rows = length (rows_dots head.m head Black 0 0 rows)
+unfoldable pub dot_count : RasterHeader → List ℕ → ℕ
+dot_count header rows = length (rows_dots header.m header Black 0 0 rows)
 
 -- numbers in decimal, each after a blank
 abbrev pub numbers : List ℕ → List ℕ
@@ -33,7 +33,7 @@ name_of (c.Across n) = codes "ACROSS"
 name_of c.Return = codes "RETURN"
 name_of c.Eject = codes "EJECT"
 name_of (c.Colour ink) = codes "COLOUR"
-name_of (c.Raster head) = codes "RASTER"
+name_of (c.Raster header) = codes "RASTER"
 
 -- the numbers of a command; of a raster its numbers, and how many dots it has
 abbrev pub numbers_of : Command → List ℕ → List ℕ
@@ -50,7 +50,7 @@ numbers_of (c.Across n) rows = n ∷ []
 numbers_of c.Return rows = []
 numbers_of c.Eject rows = []
 numbers_of (c.Colour ink) rows = colour_code ink ∷ []
-numbers_of (c.Raster head) rows = head.c ∷ head.v ∷ head.h ∷ head.m ∷ head.n ∷ dot_count head rows ∷ []
+numbers_of (c.Raster header) rows = header.c ∷ header.v ∷ header.h ∷ header.m ∷ header.n ∷ dot_count header rows ∷ []
 
 -- the line of a command whose first byte is at this offset
 abbrev pub line_of : ℕ → Command → List ℕ → List ℕ

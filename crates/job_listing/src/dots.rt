@@ -6,7 +6,7 @@ ghost use Rattle.job_listing.specs.Listing.{dot_count};
 ghost use Rattle.std.specs.List.{sum_by};
 ghost use Rattle.std.specs.Prelude.{count_by, count_ones, length, take, true, ◌*◌, ◌/◌, ◌%◌, ◌<◌, ◌≡◌, ◌≤◌};
 
-use escp2_definitions::RasterHead;
+use escp2_definitions::RasterHeader;
 
 // How many bits of some bytes are 1.
 #[inline]
@@ -40,15 +40,15 @@ fn row_dots(columns: usize, row: &[u8]) -> u32
 }
 
 /// How many dots the rows of a raster have. Bits past its last column are none.
-pub fn raster_dots(head: &RasterHead, rows: &[u8]) -> u32
-    requires in_range { in_table (command.Raster head.now) ≡ true }
-    requires rows_fit { length rows.now ≡ rows_len (command.Raster head.now) }
-    ensures { result ≡ dot_count head.now rows.now }
+pub fn raster_dots(header: &RasterHeader, rows: &[u8]) -> u32
+    requires in_range { in_table (command.Raster header.now) ≡ true }
+    requires rows_fit { length rows.now ≡ rows_len (command.Raster header.now) }
+    ensures { result ≡ dot_count header.now rows.now }
 {
-    let columns = usize::from(head.n);
+    let columns = usize::from(header.n);
     let width = (columns + 7) / 8;
     let mut sum = 0;
-    for i in 0..head.m {
+    for i in 0..header.m {
         let start = usize::from(i) * width;
         sum += row_dots(columns, &rows[start..start + width]);
     }

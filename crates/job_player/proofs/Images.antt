@@ -9,7 +9,7 @@ use Rattle.dot_emulator.specs.Runs.{IsSheet}
 use Rattle.dot_planes.specs.Tables.{DotTable, dot}
 use Rattle.escp2_definitions.specs.Machine.{Sheet as PrintedSheet}
 use Rattle.escp2_definitions.specs.Packed.{packed}
-use Rattle.pbm_out.specs.Images.{image, image_head, image_row}
+use Rattle.pbm_out.specs.Images.{image, image_header, image_row}
 use Rattle.printer_definitions.specs.declared.inks.Ink.{Ink}
 use Rattle.printer_definitions.specs.declared.inks.Ink.TheVariants.{Black, Cyan, Magenta, Yellow}
 use Rattle.printer_definitions.specs.Inks.{ink_place}
@@ -40,10 +40,10 @@ image-is p s sheet ink is =
     λ y below. ap packed (same_map (dot t (ink_place ink) y) (has_dot p s ink y)
     (count_from 0 sheet.columns) (λ x. is.dots.places ink y x (omega (arith, below, sheet.height)))
     ∙ ap (λ n. map (has_dot p s ink y) (count_from 0 n)) is.columns) in
-    ap (λ bs. image_head sheet.columns sheet.rows ++ bs) (same_rows
+    ap (λ bs. image_header sheet.columns sheet.rows ++ bs) (same_rows
     (image_row sheet.columns t (ink_place ink)) (sheet_row p s ink) 0 sheet.rows sheet.rows (omega arith) rows)
-    ∙ ap (λ n. image_head n sheet.rows ++ flat_map (sheet_row p s ink) (count_from 0 sheet.rows)) is.columns
-    ∙ ap (λ n. image_head s.columns n ++ flat_map (sheet_row p s ink) (count_from 0 n)) is.rows
+    ∙ ap (λ n. image_header n sheet.rows ++ flat_map (sheet_row p s ink) (count_from 0 sheet.rows)) is.columns
+    ∙ ap (λ n. image_header s.columns n ++ flat_map (sheet_row p s ink) (count_from 0 n)) is.rows
 
 pub images_are : (p : Printer) (s : PrintedSheet) (sheet : Sheet)
     → IsSheet p s sheet → table_images sheet.columns sheet.rows sheet.planes ≡ sheet_images p s

@@ -5,7 +5,7 @@ use Rattle.dot_emulator.specs.Sheets.{dot_at}
 use Rattle.dot_planes.specs.Tables.{DotTable}
 use Rattle.escp2_definitions.specs.Machine.{Sheet, is_at}
 use Rattle.escp2_definitions.specs.Packed.{packed}
-use Rattle.pbm_out.specs.Images.{image, image_head}
+use Rattle.pbm_out.specs.Images.{image, image_header}
 use Rattle.printer_definitions.specs.declared.inks.Ink.{Ink}
 use Rattle.printer_definitions.specs.declared.inks.InkSet.TheVariants.{Cmyk}
 use Rattle.printer_definitions.specs.Inks.{inks_of}
@@ -22,7 +22,7 @@ sheet_row p s ink y = packed (map (has_dot p s ink y) (count_from 0 s.columns))
 
 -- the image of an ink
 abbrev pub sheet_image : Printer → Sheet → Ink → List ℕ
-sheet_image p s ink = image_head s.columns s.rows ++ flat_map (sheet_row p s ink) (count_from 0 s.rows)
+sheet_image p s ink = image_header s.columns s.rows ++ flat_map (sheet_row p s ink) (count_from 0 s.rows)
 
 -- the four images of a sheet
 abbrev pub sheet_images : Printer → Sheet → List ℕ

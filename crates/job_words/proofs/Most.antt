@@ -1,13 +1,13 @@
 -- How many bytes of a job are taken at most.
-use Rattle.std.proofs.Common.{◌≡◌, ℕ, ◌≤◌, ◌<◌, Bool, true, false, ◌&&◌, nat_le, if◌then◌else◌, List, [], ◌∷◌, Option, Some}
-use Rattle.std.proofs.Common.{None, Result, Ok, Err, refl, sym, subst, ap, arith, unwrap_or}
+use Rattle.std.proofs.Common.{◌≡◌, ℕ, ◌≤◌, Bool, true, false, ◌&&◌, nat_le, if◌then◌else◌, List, [], ◌∷◌, Option, Some}
+use Rattle.std.proofs.Common.{None, Ok, refl, subst, arith, unwrap_or}
 use Rattle.std.specs.Option.{option_and_then}
 use Rattle.std.specs.Str.Parse.{digits_value}
 use Rattle.std.proofs.lemmas.Bool.{leb-true}
 use Rattle.key_values.specs.Numbers.{is_number, number_within}
 use Rattle.job_words.specs.Values.{greatest_most, most_value}
 use Rattle.job_words.specs.Table.{CommandRow, command_named}
-use Rattle.job_words.specs.Meaning.{command_meaning, given_most, job_meaning, job_of, job_unless, refused}
+use Rattle.job_words.specs.Meaning.{command_meaning, job_meaning, job_of, job_unless, refused}
 use Rattle.job_words.specs.declared.reading.Job.{Job}
 use Rattle.job_words.specs.declared.usage.UsageFault.{UsageFault}
 

@@ -1,6 +1,6 @@
 -- The profile of a job.
 use Rattle.std.proofs.Common.{◌≡◌, ℕ, ◌<◌, ◌≤◌, ◌+◌, ◌-◌, Bool, true, false, cond, List, [], ◌∷◌, length, drop, codes, Option, Some, None}
-use Rattle.std.proofs.Common.{Ok, unwrap_or, slice_get, suc, add-one, length-drop, refl, ap, sym, ◌∙◌, arith}
+use Rattle.std.proofs.Common.{Ok, unwrap_or, slice_get, suc, length-drop, refl, ap, sym, ◌∙◌, arith}
 use Rattle.std.specs.List.{find, position_from}
 use Rattle.std.specs.Option.{option_map}
 use Rattle.job_words.specs.declared.usage.UsageFault.{UsageFault}
@@ -9,6 +9,7 @@ use Rattle.key_values.specs.Pairs.{value_of}
 use Rattle.job_words.specs.Meaning.{gives, given, refused, given_profile_word, job_of, job_unless}
 use Rattle.job_words.specs.Meaning.{command_meaning, job_meaning, profile_named}
 use Rattle.job_words.specs.declared.reading.Job.{Job}
+use Rattle.job_words.proofs.Steps.{behind}
 
 -- a job has the number of the profile's word
 job_number : (words : List (List ℕ)) (job : Job)
@@ -50,11 +51,6 @@ unplaced p k (x ∷ xs) h = by_test (p x) h (unplaced p (k + 1) xs) where
       → (position_from p (k + 1) xs ≡ None → find p xs ≡ None) → cond test (Some x) (find p xs) ≡ None
   by_test true is later = cc
   by_test false is later = later is
-
--- the words after the command are counted from 1
-behind : (words : List (List ℕ)) (k : ℕ) → slice_get (drop 1 words) k ≡ slice_get words (k + 1)
-behind [] k = refl
-behind (first ∷ words) k = rw add-one refl
 
 -- the two cases of a job's profile
 pub default_profile : (words : List (List ℕ)) (job : Job)

@@ -1,6 +1,6 @@
 -- The words of a command line, one after the other.
 use Rattle.std.proofs.Common.{◌≡◌, ℕ, ◌<◌, ◌≤◌, ◌+◌, ◌-◌, List, [], ◌∷◌, ◌++◌, length, take, drop, Option, Some, None}
-use Rattle.std.proofs.Common.{slice_get, suc, zero, sub-one, refl, ap, ◌∙◌, arith}
+use Rattle.std.proofs.Common.{slice_get, add-one, refl, ap, ◌∙◌, arith}
 use Rattle.std.proofs.Math.ListN.{drop_of_length-le}
 use Rattle.std.proofs.lemmas.List.{take_all, take_more, drop_more, length-take-le}
 use Rattle.std.proofs.lemmas.Option.{get_or_from_slice_get, slice_get_within}
@@ -32,11 +32,15 @@ left words count word here =
     ∙ ap (λ w. w ∷ drop (count + 1) words) (get_or_from_slice_get words count word [] here)
 
 -- the words after the command are counted from 1
-pub behind : (words : List (List ℕ)) (i : ℕ) (word : List ℕ)
+pub behind : (words : List (List ℕ)) (k : ℕ) → slice_get (drop 1 words) k ≡ slice_get words (k + 1)
+behind [] k = refl
+behind (first ∷ words) k = rw add-one refl
+
+pub word_behind : (words : List (List ℕ)) (i : ℕ) (word : List ℕ)
     → 1 ≤ i → slice_get words i ≡ Some word → slice_get (drop 1 words) (i - 1) ≡ Some word
-behind [] i word h here = cc
-behind (first ∷ words) zero word h here = absurd (omega arith)
-behind (first ∷ words) (suc i) word h here = rw sub-one here
+word_behind words i word counted here =
+    let place : i - 1 + 1 ≡ i = omega arith in
+    behind words (i - 1) ∙ ap (slice_get words) place ∙ here
 
 pub count_taken : (words : List (List ℕ)) (count : ℕ) (word : List ℕ)
     → slice_get words count ≡ Some word → length (take count words) ≡ count

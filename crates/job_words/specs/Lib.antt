@@ -1,3 +1,4 @@
+pub mod Examples
 pub mod Meaning
 pub mod Reading
 pub mod Rows

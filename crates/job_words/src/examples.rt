@@ -3,7 +3,8 @@
 
 ghost use Rattle.job_words.specs.declared.usage.UsageCause.TheVariants.{BadValue, NoCommand, NotKeyValue};
 ghost use Rattle.job_words.specs.declared.usage.UsageCause.TheVariants.{RepeatedKey, UnknownCommand, UnknownKey};
-ghost use Rattle.diffusion_kernel.specs.declared.tables.Kernel.TheVariants.{Floyd, Jarvis, Stucki};
+ghost use Rattle.diffusion_kernel.specs.declared.tables.Kernel.TheVariants.{Jarvis, Stucki};
+ghost use Rattle.job_words.specs.Examples.{plain_job};
 ghost use Rattle.job_words.specs.Meaning.{fault_at, job_meaning, profile_named};
 ghost use Rattle.key_values.specs.Numbers.{number_within};
 ghost use Rattle.job_words.specs.declared.table.Verb.TheVariants as verb;
@@ -11,62 +12,19 @@ ghost use Rattle.std.specs.Prelude.{Err, None, Ok, Some, [], codes, ◌∷◌, �
 
 /// Jobs, and the profile's name.
 pub fn jobs()
-    ensures bare { job_meaning (codes "print" ∷ [])
-        ≡ Ok (record {
-          verb = verb.Print;
-          profile_word = 0;
-          kernel = Floyd;
-          workers = 1;
-          cap = None;
-          most = 17179869184;
-        }) }
+    ensures bare { job_meaning (codes "print" ∷ []) ≡ Ok (plain_job verb.Print) }
     ensures whole { job_meaning (codes "print" ∷ codes "profile=a=b" ∷ codes "kernel=stucki" ∷ codes "workers=64" ∷ [])
-        ≡ Ok (record {
-          verb = verb.Print;
-          profile_word = 2;
-          kernel = Stucki;
-          workers = 64;
-          cap = None;
-          most = 17179869184;
-        }) }
+        ≡ Ok (record (plain_job verb.Print) { profile_word = 2; kernel = Stucki; workers = 64 }) }
     ensures turned { job_meaning (codes "print" ∷ codes "workers=10" ∷ codes "kernel=jjn" ∷ codes "profile=c" ∷ [])
-        ≡ Ok (record {
-          verb = verb.Print;
-          profile_word = 4;
-          kernel = Jarvis;
-          workers = 10;
-          cap = None;
-          most = 17179869184;
-        }) }
+        ≡ Ok (record (plain_job verb.Print) { profile_word = 4; kernel = Jarvis; workers = 10 }) }
     ensures profile { job_meaning (codes "profile" ∷ codes "profile=c" ∷ [])
-        ≡ Ok (record {
-          verb = verb.Profile;
-          profile_word = 2;
-          kernel = Floyd;
-          workers = 1;
-          cap = None;
-          most = 17179869184;
-        }) }
+        ≡ Ok (record (plain_job verb.Profile) { profile_word = 2 }) }
     ensures capped { job_meaning (codes "print" ∷ codes "cap=0" ∷ [])
-        ≡ Ok (record {
-          verb = verb.Print;
-          profile_word = 0;
-          kernel = Floyd;
-          workers = 1;
-          cap = Some 0;
-          most = 17179869184;
-        }) }
+        ≡ Ok (record (plain_job verb.Print) { cap = Some 0 }) }
     ensures listed { job_meaning (codes "list" ∷ codes "most=10" ∷ [])
-        ≡ Ok (record { verb = verb.List; profile_word = 0; kernel = Floyd; workers = 1; cap = None; most = 10 }) }
+        ≡ Ok (record (plain_job verb.List) { most = 10 }) }
     ensures shown { job_meaning (codes "dots" ∷ codes "profile=tiny" ∷ [])
-        ≡ Ok (record {
-          verb = verb.Dots;
-          profile_word = 2;
-          kernel = Floyd;
-          workers = 1;
-          cap = None;
-          most = 17179869184;
-        }) }
+        ≡ Ok (record (plain_job verb.Dots) { profile_word = 2 }) }
     ensures built_in { profile_named (codes "print" ∷ []) ≡ codes "p360cmyk" }
     ensures named { profile_named (codes "print" ∷ codes "kernel=fs" ∷ codes "profile=a=b" ∷ []) ≡ codes "a=b" }
 {}

@@ -6,7 +6,7 @@ use Rattle.std.proofs.lemmas.Bool.Decides.{nat_tests}
 use Rattle.std.proofs.lemmas.List.{take_at, drop_at}
 use Rattle.printer_definitions.specs.declared.inks.Ink.{Ink}
 use Rattle.printer_definitions.specs.Printer.{Printer, column_step, nozzle_step, row_step}
-use Rattle.escp2_definitions.specs.declared.command.RasterHead.{RasterHead}
+use Rattle.escp2_definitions.specs.declared.command.RasterHeader.{RasterHeader}
 use Rattle.escp2_definitions.specs.Commands.{row_bytes}
 use Rattle.escp2_definitions.specs.Machine.{Dot, bits, row_dots, rows_dots}
 use Rattle.escp2_definitions.specs.Packed.{packed}
@@ -32,22 +32,23 @@ pub packed-len : (width : ℕ) (row : List Bool) → length row ≡ width → le
 packed-len width row e = packed_bytes-len ((length row + 7) / 8) row ∙ ap (λ w. (w + 7) / 8) e
 
 -- what a raster of packed rows fires
-pub rows_dots-fired : (head : RasterHead) (ink : Ink) (y : ℕ) (rows : List (List Bool)) → AllWide head.n rows
-    → rows_dots (length rows) head ink 0 y (flat_map packed rows) ≡ steps_fired ink head.h head.v y rows
+pub rows_dots-fired : (header : RasterHeader) (ink : Ink) (y : ℕ) (rows : List (List Bool)) → AllWide header.n rows
+    → rows_dots (length rows) header ink 0 y (flat_map packed rows) ≡ steps_fired ink header.h header.v y rows
 unfolding rows_dots
-rows_dots-fired head ink y [] wide = refl
-rows_dots-fired head ink y (row ∷ rows) wide =
+rows_dots-fired header ink y [] wide = refl
+rows_dots-fired header ink y (row ∷ rows) wide =
     let more : List ℕ = flat_map packed rows in
-    let len : length (packed row) ≡ row_bytes head = packed-len head.n row wide.0 in
-    let front : take (row_bytes head) (packed row ++ more) ≡ packed row = take_at (packed row) more (row_bytes head) len in
-    let behind : drop (row_bytes head) (packed row ++ more) ≡ more = drop_at (packed row) more (row_bytes head) len in
-    let whole : take head.n (bits (packed row)) ≡ row =
-    ap (λ bs. take head.n (bits bs)) (sym (take_all_of (packed row) (row_bytes head) len)) ∙ row-packed head.n row wide.0 in
-    ap (λ bs. row_dots ink 0 head.h y (take head.n (bits bs))
-    ++ rows_dots (length rows) head ink 0 (y + head.v) (drop (row_bytes head) (packed row ++ more))) front
-    ∙ ap (λ bs. row_dots ink 0 head.h y (take head.n (bits (packed row))) ++ rows_dots (length rows) head ink 0 (y + head.v) bs) behind
-    ∙ ap (λ r. row_dots ink 0 head.h y r ++ rows_dots (length rows) head ink 0 (y + head.v) more) whole
-    ∙ ap (λ ds. row_dots ink 0 head.h y row ++ ds) (rows_dots-fired head ink (y + head.v) rows wide.1)
+    let len : length (packed row) ≡ row_bytes header = packed-len header.n row wide.0 in
+    let front : take (row_bytes header) (packed row ++ more) ≡ packed row = take_at (packed row) more (row_bytes header) len in
+    let behind : drop (row_bytes header) (packed row ++ more) ≡ more = drop_at (packed row) more (row_bytes header) len in
+    let whole : take header.n (bits (packed row)) ≡ row =
+    ap (λ bs. take header.n (bits bs)) (sym (take_all_of (packed row) (row_bytes header) len)) ∙ row-packed header.n row wide.0 in
+    ap (λ bs. row_dots ink 0 header.h y (take header.n (bits bs))
+    ++ rows_dots (length rows) header ink 0 (y + header.v) (drop (row_bytes header) (packed row ++ more))) front
+    ∙ ap (λ bs. row_dots ink 0 header.h y (take header.n (bits (packed row)))
+    ++ rows_dots (length rows) header ink 0 (y + header.v) bs) behind
+    ∙ ap (λ r. row_dots ink 0 header.h y r ++ rows_dots (length rows) header ink 0 (y + header.v) more) whole
+    ∙ ap (λ ds. row_dots ink 0 header.h y row ++ ds) (rows_dots-fired header ink (y + header.v) rows wide.1)
   where
     take_all_of : (bs : List ℕ) (n : ℕ) → length bs ≡ n → take n bs ≡ bs
     take_all_of bs n e = ap (take n) (sym (append-nil bs)) ∙ take_at bs [] n e

@@ -5,7 +5,7 @@ use Rattle.std.specs.List.{list_any}
 use Rattle.std.proofs.lemmas.Bool.{eq-eqb, le-ltb}
 use Rattle.printer_definitions.specs.declared.inks.Ink.{Ink}
 use Rattle.printer_definitions.specs.Printer.{column_step, nozzle_step, row_step, row_units}
-use Rattle.escp2_definitions.specs.declared.command.RasterHead.{RasterHead}
+use Rattle.escp2_definitions.specs.declared.command.RasterHeader.{RasterHeader}
 use Rattle.escp2_definitions.specs.declared.command.Command.TheVariants as c
 use Rattle.escp2_definitions.specs.declared.stops.EmuFault.{EmuFault}
 use Rattle.escp2_definitions.specs.declared.stops.EmuFault.TheVariants.{NotGraphics, NoUnit, NoMargins, Density, Rows, OffGrid}
@@ -13,7 +13,7 @@ use Rattle.escp2_definitions.specs.declared.stops.EmuFault.TheVariants.{OffSheet
 use Rattle.escp2_definitions.specs.Machine.{Dot, Machine, after, first_fault, is_off_grid, is_off_sheet, is_other_density}
 use Rattle.escp2_definitions.specs.Machine.{overprints, raster_dots, refusals, refuse, rows_dots}
 use Rattle.escp2_definitions.specs.Packed.{packed}
-use Rattle.page_definitions.specs.Strokes.{IsOnWindow, IsWhole, Spoken, Stroke, has_dot, ink_commands, raster_head, rows_fired, say}
+use Rattle.page_definitions.specs.Strokes.{IsOnWindow, IsWhole, Spoken, Stroke, has_dot, ink_commands, raster_header, rows_fired, say}
 use Rattle.page_laws.proofs.Numbers.{column_step-some, on_grid, row_step-some, row_units-is}
 use Rattle.page_laws.proofs.Once.{Once, once-front, once-regroup}
 use Rattle.page_laws.proofs.Fired.{blank-rows, on_sheet, rows-are, rows_dots-fired}
@@ -31,8 +31,8 @@ pub record Lies (w : Layout) (stroke : Stroke) : Type 0 where
   pub low : stroke.start < w.above + w.halftone.height
 
 -- the header of the page's rasters
-abbrev pub head_of : Layout → RasterHead
-head_of w = raster_head w.printer w.halftone.width w.coding.c
+abbrev pub header_of : Layout → RasterHeader
+header_of w = raster_header w.printer w.halftone.width w.coding.c
 
 -- the dots of an ink of a stroke, and those of its inks
 abbrev pub ink_fired : Layout → Stroke → Ink → List Dot
@@ -46,13 +46,13 @@ fires_ink w stroke ink = ink_commands w.printer w.halftone.width w.coding.c stro
 
 -- the dots that the raster of an ink fires
 new-dots : (w : Layout) (stroke : Stroke) (ink : Ink) → IsLayout w → Lies w stroke
-    → rows_dots w.printer.nozzles (head_of w) ink 0 (first_of w * 5 + stroke.start * row_units w.printer * 5)
+    → rows_dots w.printer.nozzles (header_of w) ink 0 (first_of w * 5 + stroke.start * row_units w.printer * 5)
     (flat_map packed (stroke.rows ink)) ≡ ink_fired w stroke ink
 new-dots w stroke ink is lies =
     let y : ℕ = first_of w * 5 + stroke.start * row_units w.printer * 5 in
     let rows : List (List Bool) = stroke.rows ink in
-    ap (λ m. rows_dots m (head_of w) ink 0 y (flat_map packed rows)) (sym (lies.whole ink).many)
-    ∙ rows_dots-fired (head_of w) ink y rows (lies.whole ink).wide
+    ap (λ m. rows_dots m (header_of w) ink 0 y (flat_map packed rows)) (sym (lies.whole ink).many)
+    ∙ rows_dots-fired (header_of w) ink y rows (lies.whole ink).wide
     ∙ rows-are w.printer w.above w.halftone.height ink stroke.start y rows is.can is.room (lies.on_window ink) (place-is w stroke.start is)
 
 -- what is false of each is false of both
@@ -68,13 +68,13 @@ zero-over n some = record { rest = omega arith; over = omega arith }
 raster-accepted : (w : Layout) (stroke : Stroke) (ink : Ink) (columns : ℕ) (dots : List Dot)
     → IsLayout w → Lies w stroke → Once (dots ++ ink_fired w stroke ink)
     → first_fault (refusals w.printer
-    (paused w stroke.start 0 columns ink dots) (c.Raster (head_of w)) (flat_map packed (stroke.rows ink))) ≡ None
+    (paused w stroke.start 0 columns ink dots) (c.Raster (header_of w)) (flat_map packed (stroke.rows ink))) ≡ None
 raster-accepted w stroke ink columns dots is lies once =
     let s : Machine = paused w stroke.start 0 columns ink dots in
     let rows : List ℕ = flat_map packed (stroke.rows ink) in
     let bottom : ℕ = last_of w * 5 in
     let at : ℕ = first_of w * 5 + stroke.start * row_units w.printer * 5 in
-    let fired : List Dot = raster_dots s (head_of w) rows in
+    let fired : List Dot = raster_dots s (header_of w) rows in
     let wanted : List Dot = ink_fired w stroke ink in
     let same : fired ≡ wanted = new-dots w stroke ink is lies in
     let across : ℕ = column_step w.printer in
@@ -86,7 +86,7 @@ raster-accepted w stroke ink columns dots is lies once =
     let at_row : at % row_step w.printer ≡ 0 =
     ap (λ n. n % row_step w.printer) (place-is w stroke.start is)
     ∙ on_grid (w.printer.top - w.above + stroke.start) (row_step w.printer) (row_step-some w.printer is.can) in
-    let density : is_other_density w.printer (head_of w) ≡ false =
+    let density : is_other_density w.printer (header_of w) ≡ false =
     neither _ _ (ap not (eq-eqb across across refl)) (ap not (eq-eqb (nozzle_step w.printer) (nozzle_step w.printer) refl)) in
     let nozzles : not (w.printer.nozzles == w.printer.nozzles) ≡ false = ap not (eq-eqb w.printer.nozzles w.printer.nozzles refl) in
     let grid : is_off_grid w.printer s ≡ false = neither _ _ (ap not (eq-eqb _ _ zeros.rest)) (ap not (eq-eqb _ _ at_row)) in
@@ -94,15 +94,15 @@ raster-accepted w stroke ink columns dots is lies once =
     let rows_fit : list_any (λ d. nat_le bottom d.y) fired ≡ false =
     ap (list_any (λ d. nat_le bottom d.y)) same
     ∙ on_sheet w.printer w.above w.halftone.height ink stroke.start bottom (stroke.rows ink) is.can (lies.on_window ink) bottom_is in
-    let sheet : is_off_sheet w.printer s (head_of w) fired ≡ false = neither _ _ columns_fit rows_fit in
+    let sheet : is_off_sheet w.printer s (header_of w) fired ≡ false = neither _ _ columns_fit rows_fit in
     let over : overprints dots fired ≡ false = ap (overprints dots) same ∙ not_twice dots wanted once in
     let faults : Bool → Bool → Bool → Bool → Bool → Option EmuFault = λ density nozzles grid sheet over.
     first_fault (refuse false NotGraphics ∷ refuse false NoUnit ∷ refuse false NoMargins ∷ refuse density Density ∷ refuse nozzles Rows
     ∷ refuse grid OffGrid ∷ refuse sheet OffSheet ∷ refuse over Overprint ∷ []) in
     ap (λ b. faults b (not (w.printer.nozzles == w.printer.nozzles))
-    (is_off_grid w.printer s) (is_off_sheet w.printer s (head_of w) fired) (overprints dots fired)) density
-    ∙ ap (λ b. faults false b (is_off_grid w.printer s) (is_off_sheet w.printer s (head_of w) fired) (overprints dots fired)) nozzles
-    ∙ ap (λ b. faults false false b (is_off_sheet w.printer s (head_of w) fired) (overprints dots fired)) grid
+    (is_off_grid w.printer s) (is_off_sheet w.printer s (header_of w) fired) (overprints dots fired)) density
+    ∙ ap (λ b. faults false b (is_off_grid w.printer s) (is_off_sheet w.printer s (header_of w) fired) (overprints dots fired)) nozzles
+    ∙ ap (λ b. faults false false b (is_off_sheet w.printer s (header_of w) fired) (overprints dots fired)) grid
     ∙ ap (λ b. faults false false false b (overprints dots fired)) sheet
     ∙ ap (faults false false false false) over
 
@@ -116,7 +116,7 @@ ink-run w stroke ink dots job is lies once = by_dots (has_dot (stroke.rows ink))
     text = flat_map packed (stroke.rows ink)
 
     raster : Spoken
-    raster = record { command = c.Raster (head_of w); rows = text }
+    raster = record { command = c.Raster (header_of w); rows = text }
 
     fire : List Spoken
     fire = say (c.Colour ink) ∷ say c.Return ∷ raster ∷ []
@@ -133,7 +133,7 @@ ink-run w stroke ink dots job is lies once = by_dots (has_dot (stroke.rows ink))
         let s0 : Machine = paused w stroke.start across columns old dots in
         let s1 : Machine = paused w stroke.start across columns ink dots in
         let s2 : Machine = paused w stroke.start 0 columns ink dots in
-        let s3 : Machine = after w.printer s2 (c.Raster (head_of w)) text in
+        let s3 : Machine = after w.printer s2 (c.Raster (header_of w)) text in
         let ends : Machine = record s3 { dots = dots ++ ink_fired w stroke ink } in (
           s3.across,
           s3.columns,
@@ -143,7 +143,7 @@ ink-run w stroke ink dots job is lies once = by_dots (has_dot (stroke.rows ink))
               (comes-then w s0 s1 s3 (fire ++ job) (say c.Return ∷ raster ∷ job) job
               (one w s0 (c.Colour ink) [] (say c.Return ∷ raster ∷ job) refl refl)
               (comes-then w s1 s2 s3 (say c.Return ∷ raster ∷ job) (raster ∷ job) job (one w s1 c.Return [] (raster ∷ job) refl refl)
-              (one w s2 (c.Raster (head_of w)) text job (raster-accepted w stroke ink columns dots is lies once) refl))),
+              (one w s2 (c.Raster (header_of w)) text job (raster-accepted w stroke ink columns dots is lies once) refl))),
         )
 
 -- ---- the inks of a stroke

@@ -15,7 +15,7 @@ use Rattle.escp2_laws.proofs.Canonical.{canonical-short}
 use Rattle.page_definitions.specs.Dots.{Halftone}
 use Rattle.page_definitions.specs.PageBytes.{halftone_bytes, page_coding, pass_stroke, weave}
 use Rattle.page_definitions.specs.Strokes.{IsWhole, Spoken, Stroke, Strokes, bytes_of, down_by, fires, has_dot, ink_commands, inks_commands}
-use Rattle.page_definitions.specs.Strokes.{prologue, raster_head, say, strokes_bytes, strokes_commands}
+use Rattle.page_definitions.specs.Strokes.{prologue, raster_header, say, strokes_bytes, strokes_commands}
 use Rattle.weave_definitions.specs.Weave.{count_from, pass_count}
 use Rattle.page_laws.proofs.Spelled.{rows-len}
 use Rattle.page_laws.proofs.Printed.{bytes-append}
@@ -68,7 +68,7 @@ ink-short code p width coded stroke ink short whole = by_dot (has_dot (stroke.ro
     rows = flat_map packed (stroke.rows ink)
 
     raster : Spoken
-    raster = record { command = c.Raster (raster_head p width coded); rows = rows }
+    raster = record { command = c.Raster (raster_header p width coded); rows = rows }
 
     bytes : ℕ
     bytes = (width + 7) / 8
@@ -76,7 +76,7 @@ ink-short code p width coded stroke ink short whole = by_dot (has_dot (stroke.ro
     by_dot : (b : Bool) → length (bytes_of code (if b then say (c.Colour ink) ∷ say c.Return ∷ raster ∷ [] else [])) ≤ most_ink p width
     by_dot false = omega arith
     by_dot true =
-        let text : List ℕ = written_rows code (c.Raster (raster_head p width coded)) rows in
+        let text : List ℕ = written_rows code (c.Raster (raster_header p width coded)) rows in
         let fits : length rows ≡ p.nozzles * bytes = rows-len width (stroke.rows ink) whole.wide ∙ ap (λ n. n * bytes) whole.many in
         let few : length text ≤ 2 * (p.nozzles * bytes) = rows-short code (coded == 0) p.nozzles bytes rows short fits in
         omega (arith, few, length-append text [])

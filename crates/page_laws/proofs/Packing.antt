@@ -4,6 +4,7 @@ use Rattle.std.proofs.Common.{length, take, drop, refl, sym, ◌∙◌, ap, arit
 use Rattle.std.proofs.lemmas.List.{take_all}
 use Rattle.escp2_definitions.specs.Machine.{bits, byte_bits}
 use Rattle.escp2_definitions.specs.Packed.{at, packed, packed_bytes, worth}
+use Rattle.escp2_laws.proofs.Reading.{and-left, and-right}
 
 -- the byte of eight bits
 abbrev worths : Bool → Bool → Bool → Bool → Bool → Bool → Bool → Bool → ℕ
@@ -38,17 +39,8 @@ both test = test true && test false
 
 -- a test that both truth values pass
 both-at : (test : Bool → Bool) → both test ≡ true → (b : Bool) → test b ≡ true
-both-at test e true = first (test true) (test false) e
-  where
-    first : (x y : Bool) → x && y ≡ true → x ≡ true
-    first true y e = refl
-    first false y e = e
-both-at test e false = second (test true) (test false) e
-  where
-    second : (x y : Bool) → x && y ≡ true → y ≡ true
-    second true y e = e
-    second false true e = refl
-    second false false e = e
+both-at test e true = and-left (test true) (test false) e
+both-at test e false = and-right (test true) (test false) e
 
 -- whether the bits of a packed byte are taken out again
 test_byte : Bool → Bool → Bool → Bool → Bool → Bool → Bool → Bool → Bool

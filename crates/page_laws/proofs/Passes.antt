@@ -1,9 +1,8 @@
 -- The rows of a pass are whole, and on the window.
-use Rattle.std.proofs.Common.{◌≡◌, ℕ, zero, suc, ◌+◌, ◌-◌, ◌*◌, ◌<◌, ◌≤◌, Bool, true, false, ◌&&◌, nat_lt, nat_le, if◌then◌else◌, List, []}
+use Rattle.std.proofs.Common.{◌≡◌, ℕ, zero, suc, ◌+◌, ◌*◌, ◌<◌, Bool, true, false, List, []}
 use Rattle.std.proofs.Common.{◌∷◌, length, map, replicate, Option, None, Some, refl, sym, ◌∙◌, ap, arith}
 use Rattle.std.specs.Prelude.{slice_index_or}
 use Rattle.std.specs.List.{list_any}
-use Rattle.std.proofs.lemmas.Bool.{leb-true, ltb-true}
 use Rattle.std.proofs.lemmas.List.{length-map, length-replicate}
 use Rattle.printer_definitions.specs.declared.inks.Ink.{Ink}
 use Rattle.printer_definitions.specs.Printer.{Printer, head_rows}
@@ -12,6 +11,7 @@ use Rattle.page_definitions.specs.Dots.{Halftone}
 use Rattle.page_definitions.specs.PageBytes.{fired_row, pass_rows}
 use Rattle.page_definitions.specs.Strokes.{IsOnWindow, IsWhole}
 use Rattle.weave_definitions.specs.Weave.{count_from, nozzle_row}
+use Rattle.weave_laws.proofs.Rows.{stands_on}
 use Rattle.page_laws.proofs.Fired.{AllWide}
 
 -- ---- lists of numbers
@@ -38,30 +38,6 @@ no-dot (suc n) (suc x) = no-dot n x
 blank : (n : ℕ) → list_any (λ on. on) (replicate n false) ≡ false
 blank zero = refl
 blank (suc n) = blank n
-
--- ---- a nozzle over the window
-
--- the row of the window under a nozzle
-pub nozzle_row-is : (n pitch height t i y : ℕ) → nozzle_row n pitch height t i ≡ Some y
-    → record { sum : t * n + i * pitch ≡ (n - 1) * pitch + y; low : y < height }
-nozzle_row-is n pitch height t i y e = by_test (nat_le first place) (nat_lt (place - first) height) refl refl e
-  where
-    place : ℕ
-    place = t * n + i * pitch
-
-    first : ℕ
-    first = (n - 1) * pitch
-
-    by_test : (a b : Bool) → nat_le first place ≡ a
-        → nat_lt (place - first) height ≡ b → (if a && b then Some (place - first) else None) ≡ Some y
-        → record { sum : place ≡ first + y; low : y < height }
-    by_test true true ea eb e =
-        let row : place - first ≡ y = cc in
-        let reached : first ≤ place = leb-true first place ea in
-        let inside : place - first < height = ltb-true (place - first) height eb in
-        record { sum = omega arith; low = omega arith }
-    by_test true false ea eb e = cc
-    by_test false b ea eb e = cc
 
 -- ---- the rows of a pass
 
@@ -104,6 +80,6 @@ pass-on_window p h t ink = record {
   row = λ i e.
       let there = over h ink (nozzle_row p.nozzles p.pitch h.height t) 0 p.nozzles i e in
       let same : 0 + i ≡ i = omega arith in
-      let is = nozzle_row-is p.nozzles p.pitch h.height t i there.0 (ap (nozzle_row p.nozzles p.pitch h.height t) (sym same) ∙ there.1) in
+      let is = stands_on p.nozzles p.pitch h.height t i there.0 (ap (nozzle_row p.nozzles p.pitch h.height t) (sym same) ∙ there.1) in
       (omega (arith, is.sum), omega (arith, is.sum, is.low));
 }

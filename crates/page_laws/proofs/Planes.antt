@@ -1,5 +1,5 @@
 -- The dots of an ink are those of its plane in a table of dots.
-use Rattle.std.proofs.Common.{◌≡◌, ℕ, zero, suc, Bool, true, false, cond, List, [], ◌∷◌, Some, refl, sym, ◌∙◌, ap, arith}
+use Rattle.std.proofs.Common.{◌≡◌, ℕ, zero, suc, Bool, true, false, cond, List, [], ◌∷◌, Some, refl, sym, ◌∙◌, ap, subst, arith}
 use Rattle.std.specs.Prelude.{slice_get}
 use Rattle.std.specs.List.{count_by, list_any, sum_by}
 use Rattle.std.proofs.lemmas.List.Sums.{sum_by-cons}
@@ -17,66 +17,33 @@ use Rattle.page_laws.proofs.Counts.{each-from, each-of, sum-none, sum-same}
 use Rattle.page_laws.proofs.Fired.{or-false}
 use Rattle.page_laws.proofs.Totals.{total, wanted-total}
 
--- a sum over a set, of which one ink counts
-only : (set : InkSet) (i : ℕ) (ink : Ink) (f : Ink → ℕ)
-    → slice_get (inks_of set) i ≡ Some ink → ((other : Ink) → same_ink ink other ≡ false → f other ≡ 0)
-    → sum_by f (inks_of set) ≡ f ink
-only K zero ink f e others = let same : Black ≡ ink = cc in omega (arith, ap f same)
-only K (suc i) ink f e others = cc
-only Cmy zero ink f e others =
-    let same : Cyan ≡ ink = cc in
-    omega (
-      arith,
-      ap f same,
-      others Magenta (ap (λ k. same_ink k Magenta) (sym same)),
-      others Yellow (ap (λ k. same_ink k Yellow) (sym same)),
-    )
-only Cmy (suc zero) ink f e others =
-    let same : Magenta ≡ ink = cc in
-    omega (arith, ap f same, others Cyan (ap (λ k. same_ink k Cyan) (sym same)), others Yellow (ap (λ k. same_ink k Yellow) (sym same)))
-only Cmy (suc (suc zero)) ink f e others =
-    let same : Yellow ≡ ink = cc in
-    omega (arith, ap f same, others Cyan (ap (λ k. same_ink k Cyan) (sym same)), others Magenta (ap (λ k. same_ink k Magenta) (sym same)))
-only Cmy (suc (suc (suc i))) ink f e others = cc
-only Cmyk zero ink f e others =
-    let same : Black ≡ ink = cc in
-    omega (
-      arith,
-      ap f same,
-      others Cyan (ap (λ k. same_ink k Cyan) (sym same)),
-      others Magenta
-          (ap (λ k. same_ink k Magenta) (sym same)),
-      others Yellow (ap (λ k. same_ink k Yellow) (sym same)),
-    )
-only Cmyk (suc zero) ink f e others =
-    let same : Cyan ≡ ink = cc in
-    omega (
-      arith,
-      ap f same,
-      others Black (ap (λ k. same_ink k Black) (sym same)),
-      others Magenta
-          (ap (λ k. same_ink k Magenta) (sym same)),
-      others Yellow (ap (λ k. same_ink k Yellow) (sym same)),
-    )
-only Cmyk (suc (suc zero)) ink f e others =
-    let same : Magenta ≡ ink = cc in
-    omega (
-      arith,
-      ap f same,
-      others Black (ap (λ k. same_ink k Black) (sym same)),
-      others Cyan (ap (λ k. same_ink k Cyan) (sym same)),
-      others Yellow (ap (λ k. same_ink k Yellow) (sym same)),
-    )
-only Cmyk (suc (suc (suc zero))) ink f e others =
-    let same : Yellow ≡ ink = cc in
-    omega (
-      arith,
-      ap f same,
-      others Black (ap (λ k. same_ink k Black) (sym same)),
-      others Cyan (ap (λ k. same_ink k Cyan) (sym same)),
-      others Magenta (ap (λ k. same_ink k Magenta) (sym same)),
-    )
-only Cmyk (suc (suc (suc (suc i)))) ink f e others = cc
+-- a sum over a set is that of one ink, where the others count nothing
+abbrev Only : InkSet → (Ink → ℕ) → Ink → Type 0
+Only set f ink = ((other : Ink) → same_ink ink other ≡ false → f other ≡ 0) → sum_by f (inks_of set) ≡ f ink
+
+only : (set : InkSet) (i : ℕ) (ink : Ink) (f : Ink → ℕ) → slice_get (inks_of set) i ≡ Some ink → Only set f ink
+only K zero ink f e = subst (Only K f) (let same : Black ≡ ink = cc in same) (λ none. omega arith)
+only K (suc i) ink f e = cc
+only Cmy zero ink f e =
+    subst (Only Cmy f) (let same : Cyan ≡ ink = cc in same) (λ none. omega (arith, none Magenta refl, none Yellow refl))
+only Cmy (suc zero) ink f e =
+    subst (Only Cmy f) (let same : Magenta ≡ ink = cc in same) (λ none. omega (arith, none Cyan refl, none Yellow refl))
+only Cmy (suc (suc zero)) ink f e =
+    subst (Only Cmy f) (let same : Yellow ≡ ink = cc in same) (λ none. omega (arith, none Cyan refl, none Magenta refl))
+only Cmy (suc (suc (suc i))) ink f e = cc
+only Cmyk zero ink f e =
+    subst (Only Cmyk f) (let same : Black ≡ ink = cc in same)
+    (λ none. omega (arith, none Cyan refl, none Magenta refl, none Yellow refl))
+only Cmyk (suc zero) ink f e =
+    subst (Only Cmyk f) (let same : Cyan ≡ ink = cc in same)
+    (λ none. omega (arith, none Black refl, none Magenta refl, none Yellow refl))
+only Cmyk (suc (suc zero)) ink f e =
+    subst (Only Cmyk f) (let same : Magenta ≡ ink = cc in same)
+    (λ none. omega (arith, none Black refl, none Cyan refl, none Yellow refl))
+only Cmyk (suc (suc (suc zero))) ink f e =
+    subst (Only Cmyk f) (let same : Yellow ≡ ink = cc in same)
+    (λ none. omega (arith, none Black refl, none Cyan refl, none Magenta refl))
+only Cmyk (suc (suc (suc (suc i)))) ink f e = cc
 
 -- a sum over a set without the ink that counts
 without : (inks : List Ink) (ink : Ink) (f : Ink → ℕ)

@@ -27,7 +27,7 @@ use Rattle.page_laws.specs.Sized.{Sized}
 use Rattle.page_laws.proofs.Counts.{count-cons}
 use Rattle.page_laws.proofs.Running.{Layout, entries}
 use Rattle.escp2_definitions.specs.Packed.{packed}
-use Rattle.page_laws.proofs.Firing.{fires_ink, head_of}
+use Rattle.page_laws.proofs.Firing.{fires_ink, header_of}
 use Rattle.page_laws.proofs.Pages.{fires_strokes, page_says}
 use Rattle.page_laws.proofs.Printed.{commands-spoken, layout_of, read}
 use Rattle.page_laws.proofs.Headline.{canonical-coding, page-sized}
@@ -70,7 +70,7 @@ ink-rasters : (w : Layout) (stroke : Stroke) (ink other : Ink) (job : List Spoke
 ink-rasters w stroke ink other job most rest colour = by_dot (has_dot (stroke.rows other)) (same_ink ink other) refl
   where
     raster : Spoken
-    raster = record { command = c.Raster (head_of w); rows = flat_map packed (stroke.rows other) }
+    raster = record { command = c.Raster (header_of w); rows = flat_map packed (stroke.rows other) }
 
     by_dot : (b same : Bool) → same_ink ink other ≡ same
         → job_rasters ink colour ((if b then say (c.Colour other) ∷ say c.Return ∷ raster ∷ [] else []) ++ job)

@@ -16,7 +16,7 @@ use Rattle.page_definitions.specs.Strokes.{Spoken, Stroke, down_by, fires, has_d
 use Rattle.page_laws.proofs.Numbers.{column_step-some, length-fits, margins-fit, nozzle_step-some, step-fits}
 use Rattle.page_laws.proofs.Fired.{AllWide, packed-len}
 use Rattle.page_laws.proofs.Running.{IsLayout, Layout, begins, first_of, last_of, len_of}
-use Rattle.page_laws.proofs.Firing.{Lies, fires_ink, head_of}
+use Rattle.page_laws.proofs.Firing.{Lies, fires_ink, header_of}
 use Rattle.page_laws.proofs.Pages.{fires_strokes, page_says}
 
 -- ---- commands of the table
@@ -100,7 +100,7 @@ ink-sayable w stroke ink is lies = by_dot (has_dot (stroke.rows ink))
     rows = flat_map packed (stroke.rows ink)
 
     by_dot : (b : Bool) → AllSayable w.coding (if b then say (c.Colour ink)
-        ∷ say c.Return ∷ record { command = c.Raster (head_of w); rows = rows } ∷ [] else [])
+        ∷ say c.Return ∷ record { command = c.Raster (header_of w); rows = rows } ∷ [] else [])
     by_dot false = tt
     by_dot true =
         let p : Printer = w.printer in

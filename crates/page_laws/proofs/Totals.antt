@@ -83,12 +83,12 @@ row-count p d ink y x on (b ∷ row) same =
     let term : ℕ → ℕ = λ j. cond (is_at d (place_of p ink y j)) (cond (on j) 1 0) 0 in
     let none : x + 0 ≡ x = omega arith in
     let here : b ≡ on x = same 0 ∙ ap on none in
-    let head : count_by (is_at d) (if b then place_of p ink y x ∷ [] else []) ≡ term x =
+    let header : count_by (is_at d) (if b then place_of p ink y x ∷ [] else []) ≡ term x =
     dot-count (is_at d) (place_of p ink y x) b ∙ ap (λ c. cond (is_at d (place_of p ink y x)) (cond c 1 0) 0) here in
     let rest : count_by (is_at d) (row_fired p ink y (x + 1) row) ≡ sum_by term (count_from (x + 1) (length row)) =
     row-count p d ink y (x + 1) on row (λ j. let next : x + suc j ≡ x + 1 + j = omega arith in same (suc j) ∙ ap on next) in
     count-append (is_at d) (if b then place_of p ink y x ∷ [] else []) (row_fired p ink y (x + 1) row)
-    ∙ ap (λ n. n + count_by (is_at d) (row_fired p ink y (x + 1) row)) head
+    ∙ ap (λ n. n + count_by (is_at d) (row_fired p ink y (x + 1) row)) header
     ∙ ap (λ n. term x + n) rest
     ∙ sym (sum_by-cons term x (count_from (x + 1) (length row)))
 

@@ -14,9 +14,10 @@ use Rattle.page_definitions.specs.PageBytes.{dot_row, fired_row, pass_stroke, we
 use Rattle.page_definitions.specs.Strokes.{Fires, IsOnWindow, IsRising, IsWhole, Stroke}
 use Rattle.weave_definitions.specs.Weave.{Firing, count_from, firing, nozzle_row, pass_count, passes}
 use Rattle.weave_laws.proofs.Firings.{each_row}
+use Rattle.weave_laws.proofs.Rows.{stands_on}
 use Rattle.page_laws.proofs.Counts.{count-append, count-cons, each-of, if-none, if-plus}
 use Rattle.page_laws.proofs.Hits.{FiresEachDot, fires-exactly, hits, rows_hits}
-use Rattle.page_laws.proofs.Passes.{at-counted, no-dot, nozzle_row-is, pass-on_window, pass-whole}
+use Rattle.page_laws.proofs.Passes.{at-counted, no-dot, pass-on_window, pass-whole}
 
 -- ---- how often the passes fire a place
 
@@ -58,7 +59,7 @@ nozzle-hits p h ink y x t i low = by_row (nozzle_row p.nozzles p.pitch h.height 
         ap one_if (and_right (start - head_rows p == y) (at (replicate h.width false) x) (no-dot h.width x))
         ∙ sym (if-none (h.dot ink y x) 0 refl)
     by_row (Some row) e =
-        let is = nozzle_row-is p.nozzles p.pitch h.height t i row e in
+        let is = stands_on p.nozzles p.pitch h.height t i row e in
         let stands : start - head_rows p ≡ row = omega (arith, is.sum) in
         let column : 0 + x ≡ x = omega arith in
         let dot : at (dot_row h ink row) x ≡ h.dot ink row x = at-counted (h.dot ink row) 0 h.width x low ∙ ap (h.dot ink row) column in

@@ -1,5 +1,7 @@
 //! Worked pages: each function does nothing, and the checker computes its contract. They compare the definitions with
 //! results worked by hand.
+#![tactic(auto, unfolding(diffusion_definitions::specs::Diffusion::errors, diffusion_definitions::specs::Diffusion::row_errors, diffusion_definitions::specs::Diffusion::value, escp2_definitions::specs::Canonical::apart_at, escp2_definitions::specs::Canonical::canonical_row, escp2_definitions::specs::Canonical::equal_at, escp2_definitions::specs::Canonical::packets_from, escp2_definitions::specs::Commands::command_at, escp2_definitions::specs::Commands::commands_from, escp2_definitions::specs::Machine::execute_from, escp2_definitions::specs::Machine::rows_dots, escp2_definitions::specs::RowCode::row_at, escp2_definitions::specs::RowCode::rows_at, page_definitions::specs::PageBytes::halftone_bytes, page_definitions::specs::PageBytes::page_bytes))]
+
 ghost use Rattle.diffusion_definitions.specs.Diffusion.{floyd};
 ghost use Rattle.escp2_definitions.specs.Commands.{commands};
 ghost use Rattle.escp2_definitions.specs.Machine.{execute};
@@ -20,20 +22,17 @@ ghost use Rattle.std.specs.Prelude.{None, [], length, ◌∷◌, ◌≡◌};
 ghost use Rattle.weave_definitions.specs.Weave.{pass_count, passes};
 
 /// The dots of a page of four columns and two rows.
-#[tactic(auto, unfolding(diffusion_definitions::specs::Diffusion::value, diffusion_definitions::specs::Diffusion::row_errors, diffusion_definitions::specs::Diffusion::errors))]
 pub fn small_page_wants_two_dots()
     ensures { wanted small_page tiny1 floyd ≡ black_dot 10 10 ∷ black_dot 30 10 ∷ [] }
 {}
 
 /// The bytes of its job.
-#[tactic(auto, unfolding(page_definitions::specs::PageBytes::page_bytes, page_definitions::specs::PageBytes::halftone_bytes, escp2_definitions::specs::Canonical::canonical_row, escp2_definitions::specs::Canonical::packets_from, escp2_definitions::specs::Canonical::apart_at, escp2_definitions::specs::Canonical::equal_at, diffusion_definitions::specs::Diffusion::value, diffusion_definitions::specs::Diffusion::row_errors, diffusion_definitions::specs::Diffusion::errors))]
 pub fn small_page_has_its_bytes()
     ensures len { length small_page_bytes ≡ 70 }
     ensures bytes { page_bytes small_page tiny1 floyd ≡ small_page_bytes }
 {}
 
 /// What the printer makes of these bytes.
-#[tactic(auto, unfolding(escp2_definitions::specs::Commands::command_at, escp2_definitions::specs::Commands::commands_from, escp2_definitions::specs::Machine::execute_from, escp2_definitions::specs::Machine::rows_dots, escp2_definitions::specs::RowCode::row_at, escp2_definitions::specs::RowCode::rows_at))]
 pub fn small_page_is_printed()
     ensures { execute tiny1 (commands small_page_bytes).entries ≡ record {
       sheets = record { rows = 2; columns = 4; dots = black_dot 10 10 ∷ black_dot 30 10 ∷ [] } ∷ [];
@@ -42,14 +41,12 @@ pub fn small_page_is_printed()
 {}
 
 /// The job of a page without dots has 49 bytes.
-#[tactic(auto, unfolding(page_definitions::specs::PageBytes::page_bytes, page_definitions::specs::PageBytes::halftone_bytes, diffusion_definitions::specs::Diffusion::value, diffusion_definitions::specs::Diffusion::row_errors, diffusion_definitions::specs::Diffusion::errors))]
 pub fn white_page_takes_no_stroke()
     ensures len { length white_page_bytes ≡ 49 }
     ensures bytes { page_bytes white_page tiny1 floyd ≡ white_page_bytes }
 {}
 
 /// A black page with margins: its window, and the bytes of its job.
-#[tactic(auto, unfolding(page_definitions::specs::PageBytes::page_bytes, page_definitions::specs::PageBytes::halftone_bytes, escp2_definitions::specs::Canonical::canonical_row, escp2_definitions::specs::Canonical::packets_from, escp2_definitions::specs::Canonical::apart_at, escp2_definitions::specs::Canonical::equal_at, diffusion_definitions::specs::Diffusion::value, diffusion_definitions::specs::Diffusion::row_errors, diffusion_definitions::specs::Diffusion::errors))]
 pub fn black_page_with_margins()
     ensures window { window_of black_page.form with_margins ≡ record { left = 1; top = 1; width = 3; height = 1 } }
     ensures len { length black_page_bytes ≡ 63 }
@@ -57,7 +54,6 @@ pub fn black_page_with_margins()
 {}
 
 /// For three black rows of a column one nozzle takes three rasters.
-#[tactic(auto, unfolding(page_definitions::specs::PageBytes::page_bytes, page_definitions::specs::PageBytes::halftone_bytes, escp2_definitions::specs::Canonical::canonical_row, escp2_definitions::specs::Canonical::packets_from, escp2_definitions::specs::Canonical::apart_at, escp2_definitions::specs::Canonical::equal_at, diffusion_definitions::specs::Diffusion::value, diffusion_definitions::specs::Diffusion::row_errors, diffusion_definitions::specs::Diffusion::errors, escp2_definitions::specs::Commands::command_at, escp2_definitions::specs::Commands::commands_from, escp2_definitions::specs::RowCode::row_at, escp2_definitions::specs::RowCode::rows_at))]
 pub fn one_nozzle_prints_three_rasters()
     ensures len { length black_column_bytes ≡ 105 }
     ensures bytes { page_bytes black_column tiny1 floyd ≡ black_column_bytes }
@@ -66,14 +62,12 @@ pub fn one_nozzle_prints_three_rasters()
 
 /// Six black rows of eight columns, of which two are in the window of a head with three nozzles two rows apart: 92
 /// bytes, with two rasters.
-#[tactic(auto, unfolding(page_definitions::specs::PageBytes::page_bytes, page_definitions::specs::PageBytes::halftone_bytes, escp2_definitions::specs::Canonical::canonical_row, escp2_definitions::specs::Canonical::packets_from, escp2_definitions::specs::Canonical::apart_at, escp2_definitions::specs::Canonical::equal_at, diffusion_definitions::specs::Diffusion::value, diffusion_definitions::specs::Diffusion::row_errors, diffusion_definitions::specs::Diffusion::errors, escp2_definitions::specs::Commands::command_at, escp2_definitions::specs::Commands::commands_from, escp2_definitions::specs::RowCode::row_at, escp2_definitions::specs::RowCode::rows_at))]
 pub fn tiny_prints_ninety_two_bytes()
     ensures bytes { page_bytes six_rows three_nozzles floyd ≡ listing }
     ensures rasters { ink_rasters Black (commands listing).entries ≡ 2 }
 {}
 
 /// The inks of a pass come in the order of their set: a black pixel uses black alone, a red one magenta and yellow.
-#[tactic(auto, unfolding(page_definitions::specs::PageBytes::page_bytes, page_definitions::specs::PageBytes::halftone_bytes, escp2_definitions::specs::Canonical::canonical_row, escp2_definitions::specs::Canonical::packets_from, escp2_definitions::specs::Canonical::apart_at, escp2_definitions::specs::Canonical::equal_at, diffusion_definitions::specs::Diffusion::value, diffusion_definitions::specs::Diffusion::row_errors, diffusion_definitions::specs::Diffusion::errors, escp2_definitions::specs::Commands::command_at, escp2_definitions::specs::Commands::commands_from, escp2_definitions::specs::RowCode::row_at, escp2_definitions::specs::RowCode::rows_at))]
 pub fn inks_go_in_the_order_of_their_set()
     ensures black_len { length black_pixel_bytes ≡ 63 }
     ensures black { page_bytes (pixel 0 0 0) (with_inks Cmyk) floyd ≡ black_pixel_bytes }
@@ -86,7 +80,6 @@ pub fn inks_go_in_the_order_of_their_set()
 {}
 
 /// A black line at 720 dots an inch across the page or down it: the steps of its raster, and the units of its sheet.
-#[tactic(auto, unfolding(page_definitions::specs::PageBytes::page_bytes, page_definitions::specs::PageBytes::halftone_bytes, escp2_definitions::specs::Canonical::canonical_row, escp2_definitions::specs::Canonical::packets_from, escp2_definitions::specs::Canonical::apart_at, escp2_definitions::specs::Canonical::equal_at, diffusion_definitions::specs::Diffusion::value, diffusion_definitions::specs::Diffusion::row_errors, diffusion_definitions::specs::Diffusion::errors))]
 pub fn resolutions_differ_across_and_down()
     ensures across_dots { wanted black_line fine_across floyd
         ≡ black_dot 0 0 ∷ black_dot 5 0 ∷ black_dot 10 0 ∷ black_dot 15 0 ∷ [] }

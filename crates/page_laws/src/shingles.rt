@@ -1,5 +1,7 @@
 //! Worked strokes that are not passes of the weave: each function does nothing, and the checker computes its
 //! contract.
+#![tactic(auto, unfolding(escp2_definitions::specs::Canonical::apart_at, escp2_definitions::specs::Canonical::canonical_row, escp2_definitions::specs::Canonical::equal_at, escp2_definitions::specs::Canonical::packets_from, escp2_definitions::specs::Commands::command_at, escp2_definitions::specs::Commands::commands_from, escp2_definitions::specs::Machine::execute_from, escp2_definitions::specs::Machine::rows_dots, escp2_definitions::specs::RowCode::row_at, escp2_definitions::specs::RowCode::rows_at))]
+
 ghost use Rattle.escp2_definitions.specs.Commands.{commands};
 ghost use Rattle.escp2_definitions.specs.Machine.{execute};
 ghost use Rattle.escp2_definitions.specs.Written.{canonical};
@@ -17,7 +19,6 @@ pub fn worked_strokes_fire()
 {}
 
 /// The bytes of rows that are fired twice, and the dots of their strokes.
-#[tactic(auto, unfolding(escp2_definitions::specs::Canonical::canonical_row, escp2_definitions::specs::Canonical::packets_from, escp2_definitions::specs::Canonical::apart_at, escp2_definitions::specs::Canonical::equal_at))]
 pub fn shingled_rows_fire_even_and_odd_columns()
     ensures len { length shingles_bytes ≡ 142 }
     ensures bytes { strokes_bytes canonical three_nozzles 8 2 12 shingles ≡ shingles_bytes }
@@ -25,7 +26,6 @@ pub fn shingled_rows_fire_even_and_odd_columns()
 {}
 
 /// What the printer makes of these bytes: two black rows.
-#[tactic(auto, unfolding(escp2_definitions::specs::Commands::command_at, escp2_definitions::specs::Commands::commands_from, escp2_definitions::specs::Machine::execute_from, escp2_definitions::specs::Machine::rows_dots, escp2_definitions::specs::RowCode::row_at, escp2_definitions::specs::RowCode::rows_at))]
 pub fn shingled_rows_are_printed()
     ensures { execute three_nozzles (commands shingles_bytes).entries ≡ record {
       sheets = record { rows = 6; columns = 8; dots = shingles_dots } ∷ [];
@@ -35,7 +35,6 @@ pub fn shingled_rows_are_printed()
 
 /// The bytes of rows that another nozzle makes up for a nozzle that fires nothing, and the dots of their strokes. A
 /// stroke without a dot is left out.
-#[tactic(auto, unfolding(escp2_definitions::specs::Canonical::canonical_row, escp2_definitions::specs::Canonical::packets_from, escp2_definitions::specs::Canonical::apart_at, escp2_definitions::specs::Canonical::equal_at))]
 pub fn rows_of_a_dead_nozzle_are_made_up()
     ensures len { length made_up_bytes ≡ 99 }
     ensures bytes { strokes_bytes canonical three_nozzles 8 2 12 made_up ≡ made_up_bytes }
@@ -43,7 +42,6 @@ pub fn rows_of_a_dead_nozzle_are_made_up()
 {}
 
 /// What the printer makes of these bytes: two black rows.
-#[tactic(auto, unfolding(escp2_definitions::specs::Commands::command_at, escp2_definitions::specs::Commands::commands_from, escp2_definitions::specs::Machine::execute_from, escp2_definitions::specs::Machine::rows_dots, escp2_definitions::specs::RowCode::row_at, escp2_definitions::specs::RowCode::rows_at))]
 pub fn made_up_rows_are_printed()
     ensures { execute three_nozzles (commands made_up_bytes).entries ≡ record {
       sheets = record { rows = 6; columns = 8; dots = made_up_dots } ∷ [];

@@ -9,7 +9,7 @@ use Rattle.escp2_definitions.specs.Commands.{command_bytes, row_bytes}
 use Rattle.escp2_definitions.specs.Packed.{packed}
 use Rattle.escp2_definitions.specs.Written.{rows_apart}
 use Rattle.escp2_definitions.specs.declared.command.Command.TheVariants as c
-use Rattle.escp2_definitions.specs.declared.command.RasterHead.{RasterHead}
+use Rattle.escp2_definitions.specs.declared.command.RasterHeader.{RasterHeader}
 use Rattle.page_definitions.specs.Strokes.{Spoken, bytes_of, has_dot, say}
 use Rattle.page_laws.proofs.Fired.{AllWide, packed-len}
 use Rattle.page_laws.proofs.Passes.{count_from-len}
@@ -63,22 +63,22 @@ codes-apart width (row ∷ rows) wide =
 -- ---- the commands of an ink
 
 -- the bytes of its commands before its rows
-abbrev pub head_of : RasterHead → Ink → List ℕ
-head_of head ink = (command_bytes (c.Colour ink) ++ command_bytes c.Return) ++ command_bytes (c.Raster head)
+abbrev pub header_of : RasterHeader → Ink → List ℕ
+header_of header ink = (command_bytes (c.Colour ink) ++ command_bytes c.Return) ++ command_bytes (c.Raster header)
 
 -- an ink that has a dot to fire
-fired-bytes : (head : RasterHead) (ink : Ink) (rows : List (List Bool))
-    → has_dot rows ≡ true → head.c ≡ 1 → length rows ≡ head.m → AllWide head.n rows
-    → bytes_of canonical_row (rows_commands head ink rows) ≡ head_of head ink ++ codes_of rows
-fired-bytes head ink rows fires coded many wide =
-    let raster : Spoken = record { command = c.Raster head; rows = flat_map packed rows } in
-    let is_coded : (head.c == 0) ≡ false = ap (λ n. n == 0) coded in
-    let text : List ℕ = flat_map canonical_row (rows_apart head.m (row_bytes head) (flat_map packed rows)) in
+fired-bytes : (header : RasterHeader) (ink : Ink) (rows : List (List Bool))
+    → has_dot rows ≡ true → header.c ≡ 1 → length rows ≡ header.m → AllWide header.n rows
+    → bytes_of canonical_row (rows_commands header ink rows) ≡ header_of header ink ++ codes_of rows
+fired-bytes header ink rows fires coded many wide =
+    let raster : Spoken = record { command = c.Raster header; rows = flat_map packed rows } in
+    let is_coded : (header.c == 0) ≡ false = ap (λ n. n == 0) coded in
+    let text : List ℕ = flat_map canonical_row (rows_apart header.m (row_bytes header) (flat_map packed rows)) in
     let codes : text ≡ codes_of rows =
-    ap (λ n. flat_map canonical_row (rows_apart n (row_bytes head) (flat_map packed rows))) (sym many) ∙ codes-apart head.n rows wide in
+    ap (λ n. flat_map canonical_row (rows_apart n (row_bytes header) (flat_map packed rows))) (sym many) ∙ codes-apart header.n rows wide in
     ap (λ b. bytes_of canonical_row (if b then say (c.Colour ink) ∷ say c.Return ∷ raster ∷ [] else [])) fires
-    ∙ ap (λ b. head_of head ink ++ ((if b then flat_map packed rows else text) ++ [])) is_coded
-    ∙ ap (λ bs. head_of head ink ++ bs) (append-nil text ∙ codes)
+    ∙ ap (λ b. header_of header ink ++ ((if b then flat_map packed rows else text) ++ [])) is_coded
+    ∙ ap (λ bs. header_of header ink ++ bs) (append-nil text ∙ codes)
 
 -- ---- the rows of an ink, one after another
 
@@ -87,19 +87,19 @@ pub record RowsSoFar (t : DotTable) (plan : Weaving) (place pass : ℕ) (whole o
   pub is : whole ≡ out ++ codes_of (map (nozzle_plane_row t plan place pass) (count_from nozzle left))
 
 -- no row is appended
-pub rows_begin : (t : DotTable) (plan : Weaving) (place pass : ℕ) (head : RasterHead) (ink : Ink) (old out : List ℕ) (left : ℕ)
-    → has_dot (plane_rows t plan place pass) ≡ true → head.c ≡ 1 → head.m ≡ plan.nozzles → head.n ≡ t.width → left ≡ plan.nozzles
-    → out ≡ old ++ head_of head ink
-    → RowsSoFar t plan place pass (old ++ bytes_of canonical_row (rows_commands head ink (plane_rows t plan place pass))) out 0 left
-rows_begin t plan place pass head ink old out left fires coded nozzles columns all begun =
+pub rows_begin : (t : DotTable) (plan : Weaving) (place pass : ℕ) (header : RasterHeader) (ink : Ink) (old out : List ℕ) (left : ℕ)
+    → has_dot (plane_rows t plan place pass) ≡ true → header.c ≡ 1 → header.m ≡ plan.nozzles → header.n ≡ t.width → left ≡ plan.nozzles
+    → out ≡ old ++ header_of header ink
+    → RowsSoFar t plan place pass (old ++ bytes_of canonical_row (rows_commands header ink (plane_rows t plan place pass))) out 0 left
+rows_begin t plan place pass header ink old out left fires coded nozzles columns all begun =
     let rows : List (List Bool) = plane_rows t plan place pass in
-    let many : length rows ≡ head.m = length-map (count_from 0 plan.nozzles) (nozzle_plane_row t plan place pass)
+    let many : length rows ≡ header.m = length-map (count_from 0 plan.nozzles) (nozzle_plane_row t plan place pass)
     ∙ count_from-len 0 plan.nozzles ∙ sym nozzles in
     let P : ℕ → Type 0 = λ n. AllWide n rows in
-    let wide : AllWide head.n rows = subst P (sym columns) (rows-wide t plan place pass (count_from 0 plan.nozzles)) in
+    let wide : AllWide header.n rows = subst P (sym columns) (rows-wide t plan place pass (count_from 0 plan.nozzles)) in
     record {
-      is = ap (λ bs. old ++ bs) (fired-bytes head ink rows fires coded many wide)
-          ∙ sym (append_assoc old (head_of head ink) (codes_of rows))
+      is = ap (λ bs. old ++ bs) (fired-bytes header ink rows fires coded many wide)
+          ∙ sym (append_assoc old (header_of header ink) (codes_of rows))
           ∙ ap (λ bs. bs ++ codes_of rows) (sym begun)
           ∙ ap (λ n. out ++ codes_of (map (nozzle_plane_row t plan place pass) (count_from 0 n))) (sym all);
     }
@@ -142,33 +142,33 @@ room_more len len' most left next bytes more room taken =
     omega (arith, room, taken, rows, ap (λ n. 2 * n * bytes) more)
 
 -- the commands of an ink that has no dot
-pub none_fired : (head : RasterHead) (ink : Ink) (rows : List (List Bool)) (old : List ℕ) → has_dot rows ≡ false
-    → old ≡ old ++ bytes_of canonical_row (rows_commands head ink rows)
-none_fired head ink rows old none =
-    let raster : Spoken = record { command = c.Raster head; rows = flat_map packed rows } in
+pub none_fired : (header : RasterHeader) (ink : Ink) (rows : List (List Bool)) (old : List ℕ) → has_dot rows ≡ false
+    → old ≡ old ++ bytes_of canonical_row (rows_commands header ink rows)
+none_fired header ink rows old none =
+    let raster : Spoken = record { command = c.Raster header; rows = flat_map packed rows } in
     sym (ap (λ b. old ++ bytes_of canonical_row (if b then say (c.Colour ink) ∷ say c.Return ∷ raster ∷ [] else [])) none ∙ append-nil old)
 
 -- the rasters of an ink
-pub none_counted : (head : RasterHead) (ink : Ink) (rows : List (List Bool))
-    → has_dot rows ≡ false → 0 ≡ rasters_in (rows_commands head ink rows)
-none_counted head ink rows none =
-    let raster : Spoken = record { command = c.Raster head; rows = flat_map packed rows } in
+pub none_counted : (header : RasterHeader) (ink : Ink) (rows : List (List Bool))
+    → has_dot rows ≡ false → 0 ≡ rasters_in (rows_commands header ink rows)
+none_counted header ink rows none =
+    let raster : Spoken = record { command = c.Raster header; rows = flat_map packed rows } in
     sym (ap (λ b. rasters_in (if b then say (c.Colour ink) ∷ say c.Return ∷ raster ∷ [] else [])) none)
 
 -- one raster, where it has a dot
-pub one_counted : (head : RasterHead) (ink : Ink) (rows : List (List Bool))
-    → has_dot rows ≡ true → 1 ≡ rasters_in (rows_commands head ink rows)
-one_counted head ink rows fires =
-    let raster : Spoken = record { command = c.Raster head; rows = flat_map packed rows } in
+pub one_counted : (header : RasterHeader) (ink : Ink) (rows : List (List Bool))
+    → has_dot rows ≡ true → 1 ≡ rasters_in (rows_commands header ink rows)
+one_counted header ink rows fires =
+    let raster : Spoken = record { command = c.Raster header; rows = flat_map packed rows } in
     sym (ap (λ b. rasters_in (if b then say (c.Colour ink) ∷ say c.Return ∷ raster ∷ [] else [])) fires)
 
 -- they say whether the ink has a dot
-pub rasters_tell : (head : RasterHead) (ink : Ink) (rows : List (List Bool))
-    → nat_lt 0 (rasters_in (rows_commands head ink rows)) ≡ has_dot rows
-rasters_tell head ink rows = by_dot (has_dot rows)
+pub rasters_tell : (header : RasterHeader) (ink : Ink) (rows : List (List Bool))
+    → nat_lt 0 (rasters_in (rows_commands header ink rows)) ≡ has_dot rows
+rasters_tell header ink rows = by_dot (has_dot rows)
   where
     raster : Spoken
-    raster = record { command = c.Raster head; rows = flat_map packed rows }
+    raster = record { command = c.Raster header; rows = flat_map packed rows }
 
     by_dot : (b : Bool) → nat_lt 0 (rasters_in (if b then say (c.Colour ink) ∷ say c.Return ∷ raster ∷ [] else [])) ≡ b
     by_dot true = refl

@@ -1,16 +1,16 @@
 -- What the inks fire in a pass, one after another.
-use Rattle.std.proofs.Common.{◌≡◌, ℕ, zero, suc, ◌+◌, ◌*◌, ◌/◌, ◌<◌, ◌≤◌, ◌||◌, nat_lt, Bool, true, false, List, [], ◌∷◌, ◌++◌, length, map}
+use Rattle.std.proofs.Common.{◌≡◌, ℕ, zero, suc, ◌+◌, ◌*◌, ◌/◌, ◌<◌, ◌≤◌, ◌||◌, nat_lt, Bool, false, List, [], ◌∷◌, ◌++◌, length, map}
 use Rattle.std.proofs.Common.{drop, replicate, Option, Some, None, refl, sym, ◌∙◌, ap, arith, append_assoc, append-nil}
 use Rattle.std.specs.Prelude.{slice_get}
 use Rattle.std.specs.List.{flat_map, list_any}
 use Rattle.std.proofs.lemmas.Bool.{lt-ltb}
+use Rattle.std.proofs.Math.Bool.{or-false}
 use Rattle.dot_planes.specs.Tables.{DotTable, dot}
 use Rattle.escp2_definitions.specs.Canonical.{canonical_row}
-use Rattle.escp2_definitions.specs.declared.command.RasterHead.{RasterHead}
+use Rattle.escp2_definitions.specs.declared.command.RasterHeader.{RasterHeader}
 use Rattle.page_definitions.specs.Dots.{Halftone}
 use Rattle.page_definitions.specs.PageBytes.{fired_row, pass_rows, pass_stroke}
-use Rattle.page_definitions.specs.Strokes.{Spoken, bytes_of, fires, has_dot, ink_commands, inks_commands, raster_head}
-use Rattle.page_laws.proofs.Passes.{nozzle_row-is}
+use Rattle.page_definitions.specs.Strokes.{Spoken, bytes_of, fires, has_dot, ink_commands, inks_commands, raster_header}
 use Rattle.page_laws.proofs.Printed.{bytes-append}
 use Rattle.std.proofs.Math.Nat.{mul-le-mul}
 use Rattle.printer_definitions.specs.declared.inks.Ink.{Ink}
@@ -19,6 +19,7 @@ use Rattle.printer_definitions.specs.declared.inks.InkSet.TheVariants.{K, Cmy, C
 use Rattle.printer_definitions.specs.Inks.{inks_of}
 use Rattle.printer_definitions.specs.Printer.{Printer}
 use Rattle.weave_definitions.specs.Weave.{count_from, nozzle_row}
+use Rattle.weave_laws.proofs.Rows.{stands_on}
 use Rattle.weave_plan.specs.Weaving.{Weaving}
 use Rattle.page_writer.specs.Passes.{IsPass}
 use Rattle.page_writer.specs.Rows.{nozzle_plane_row, plane_row, plane_rows, rows_commands}
@@ -53,7 +54,7 @@ pass_rows-are p plan t h place pass ink suits shows is =
     let tall : h.height ≡ plan.height = sym shows.rows_is ∙ sym suits.height in
     let same : (i : ℕ) → fired_row h ink (nozzle_row p.nozzles p.pitch h.height pass i) ≡ nozzle_plane_row t plan place pass i =
     λ i. plane_row-is p t h place ink shows is (nozzle_row p.nozzles p.pitch h.height pass i)
-    (λ y e. (nozzle_row-is p.nozzles p.pitch h.height pass i y e).low)
+    (λ y e. (stands_on p.nozzles p.pitch h.height pass i y e).low)
     ∙ ap (λ n. plane_row t place (nozzle_row n p.pitch h.height pass i)) (sym suits.nozzles)
     ∙ ap (λ n. plane_row t place (nozzle_row plan.nozzles n h.height pass i)) (sym suits.pitch)
     ∙ ap (λ n. plane_row t place (nozzle_row plan.nozzles plan.pitch n pass i)) tall in
@@ -97,18 +98,18 @@ lt-add (suc m) n rest =
 
 -- one more ink is appended
 pub inks_step : (p : Printer) (plan : Weaving) (t : DotTable)
-    (h : Halftone) (pass : ℕ) (old out out' : List ℕ) (head : RasterHead) (ink : Ink) (rasters place one : ℕ)
+    (h : Halftone) (pass : ℕ) (old out out' : List ℕ) (header : RasterHeader) (ink : Ink) (rasters place one : ℕ)
     → InksSoFar p h pass old out rasters place
-    → Suits p plan t → Shows p t h → slice_get (inks_of p.inks) place ≡ Some ink → head ≡ raster_head p t.width 1
-    → out' ≡ out ++ bytes_of canonical_row (rows_commands head ink (plane_rows t plan place pass))
-    → one ≡ rasters_in (rows_commands head ink (plane_rows t plan place pass))
+    → Suits p plan t → Shows p t h → slice_get (inks_of p.inks) place ≡ Some ink → header ≡ raster_header p t.width 1
+    → out' ≡ out ++ bytes_of canonical_row (rows_commands header ink (plane_rows t plan place pass))
+    → one ≡ rasters_in (rows_commands header ink (plane_rows t plan place pass))
     → InksSoFar p h pass old out' (rasters + one) (place + 1)
-inks_step p plan t h pass old out out' head ink rasters place one so_far suits shows is head_is appended counted =
+inks_step p plan t h pass old out out' header ink rasters place one so_far suits shows is header_is appended counted =
     let job : Ink → List Spoken = ink_commands p h.width 1 (pass_stroke p h pass) in
     let rows : pass_rows p h pass ink ≡ plane_rows t plan place pass = pass_rows-are p plan t h place pass ink suits shows is in
-    let head_same : raster_head p h.width 1 ≡ head = ap (λ n. raster_head p n 1) (sym shows.width_is) ∙ sym head_is in
-    let first : job ink ≡ rows_commands head ink (plane_rows t plan place pass) =
-    ap (rows_commands (raster_head p h.width 1) ink) rows ∙ ap (λ x. rows_commands x ink (plane_rows t plan place pass)) head_same in
+    let header_same : raster_header p h.width 1 ≡ header = ap (λ n. raster_header p n 1) (sym shows.width_is) ∙ sym header_is in
+    let first : job ink ≡ rows_commands header ink (plane_rows t plan place pass) =
+    ap (rows_commands (raster_header p h.width 1) ink) rows ∙ ap (λ x. rows_commands x ink (plane_rows t plan place pass)) header_same in
     let left : List Ink = drop (place + 1) (inks_of p.inks) in
     let next : drop place (inks_of p.inks) ≡ ink ∷ left =
     drop-ink (inks_of p.inks) place ink is ∙ ap (λ n. ink ∷ drop n (inks_of p.inks)) (let e : suc place ≡ place + 1 = omega arith in e) in
@@ -129,14 +130,9 @@ inks_step p plan t h pass old out out' head ink rasters place one so_far suits s
       fire = so_far.fire
           ∙ ap (λ inks. nat_lt 0 rasters || list_any (λ ink. has_dot (pass_rows p h pass ink)) inks) next
           ∙ ap (λ b. nat_lt 0 rasters || (b || has)) (ap has_dot rows
-          ∙ sym (rasters_tell head ink (plane_rows t plan place pass)) ∙ ap (nat_lt 0) (sym counted))
+          ∙ sym (rasters_tell header ink (plane_rows t plan place pass)) ∙ ap (nat_lt 0) (sym counted))
           ∙ lt-add rasters one has;
     }
-
--- a test, or none
-or-false : (b : Bool) → (b || false) ≡ b
-or-false true = refl
-or-false false = refl
 
 -- no ink is left
 drop-all : (inks : List Ink) (place : ℕ) → length inks ≤ place → drop place inks ≡ []
@@ -173,10 +169,10 @@ inks_room_more len len' cap left next most more room taken =
     let split : suc next * most ≡ most + next * most = omega arith in omega (arith, room, taken, split, ap (λ n. n * most) more)
 
 -- the bound for the bytes of an ink, from the numbers of its raster
-pub ink_most : (p : Printer) (head : RasterHead) (width columns : ℕ) → head ≡ raster_head p width 1 → width ≡ columns
-    → 12 + 2 * head.m * ((head.n + 7) / 8) ≡ 12 + 2 * p.nozzles * ((columns + 7) / 8)
-ink_most p head width columns is same =
-    ap (λ (h : RasterHead). 12 + 2 * h.m * ((h.n + 7) / 8)) is ∙ ap (λ n. 12 + 2 * p.nozzles * ((n + 7) / 8)) same
+pub ink_most : (p : Printer) (header : RasterHeader) (width columns : ℕ) → header ≡ raster_header p width 1 → width ≡ columns
+    → 12 + 2 * header.m * ((header.n + 7) / 8) ≡ 12 + 2 * p.nozzles * ((columns + 7) / 8)
+ink_most p header width columns is same =
+    ap (λ (h : RasterHeader). 12 + 2 * h.m * ((h.n + 7) / 8)) is ∙ ap (λ n. 12 + 2 * p.nozzles * ((n + 7) / 8)) same
 
 -- ---- the most bytes
 

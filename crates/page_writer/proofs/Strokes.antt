@@ -17,6 +17,7 @@ use Rattle.separation_definitions.specs.CanPrint.{CanPrint}
 use Rattle.weave_base.specs.Parts.{AppendsPart}
 use Rattle.weave_base.proofs.Parting.{part_behind, part_of_front}
 use Rattle.weave_definitions.specs.Weave.{count_from, pass_count}
+use Rattle.weave_plan.specs.Weaving.{Weaving}
 use Rattle.page_writer.specs.Passes.{IsPassSum, fired_strokes, pass_bytes}
 use Rattle.page_writer.specs.Sums.{rasters_in}
 use Rattle.page_writer.specs.declared.sums.PageSum.{PageSum}
@@ -232,3 +233,9 @@ passes_few p rows can sheet =
     let units : (p.top + rows) * 1 ≤ (p.top + rows) * row_units p = mul-le-mul_left (p.top + rows) (row_units-some p can) in
     let less : all / p.nozzles ≤ all = div-le_self all p.nozzles in
     omega (arith, units, less, sheet, can.head_room, can.most_nozzles)
+
+-- how many passes a plan has
+pub many_passes : (nozzles pitch rows height count : ℕ) (plan : Weaving) → count ≡ pass_count plan.nozzles plan.pitch plan.height
+    → plan ≡ record { nozzles = nozzles; pitch = pitch; height = height } → height ≡ rows → count ≡ pass_count nozzles pitch rows
+many_passes nozzles pitch rows height count plan counted is tall =
+    counted ∙ ap (λ (v : Weaving). pass_count v.nozzles v.pitch v.height) is ∙ ap (pass_count nozzles pitch) tall

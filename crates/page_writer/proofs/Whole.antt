@@ -206,5 +206,16 @@ page_of p h t f length top bottom shows rows length_is top_is bottom_is =
     ∙ ap (λ n. (p.top + n) * row_units p) (sym rows ∙ shows.rows_is))
 
 -- bytes appended to nothing
-pub alone : (cleared out text : List ℕ) → cleared ≡ [] → out ≡ cleared ++ text → out ≡ text
+alone : (cleared out text : List ℕ) → cleared ≡ [] → out ≡ cleared ++ text → out ≡ text
 alone cleared out text clear is = is ∙ ap (λ bs. bs ++ text) clear
+
+-- what is written of a buffer that has these bytes alone
+pub appends_alone : (old new : Option (List ℕ)) (bytes cleared out text : List ℕ) → bytes ≡ out → cleared ≡ [] → out ≡ cleared ++ text
+    → Appends old new bytes → Appends old new text
+appends_alone old new bytes cleared out text same clear is =
+    let P : List ℕ → Type 0 = Appends old new in subst P (same ∙ alone cleared out text clear is)
+
+pub part_alone : (old new : Option (List ℕ)) (bytes cleared out text : List ℕ) → bytes ≡ out → cleared ≡ [] → out ≡ cleared ++ text
+    → AppendsPart old new bytes → AppendsPart old new text
+part_alone old new bytes cleared out text same clear is =
+    let P : List ℕ → Type 0 = AppendsPart old new in subst P (same ∙ alone cleared out text clear is)

@@ -9,7 +9,7 @@ ghost use Rattle.weave_definitions.specs.Weave.{pass_count};
 
 use crate::rows::{fired_row, has_fire};
 use dot_planes::Planes;
-use escp2_writer::{Command, RasterHead, append_head, append_row};
+use escp2_writer::{Command, RasterHeader, append_header, append_row};
 use weave_base::Ink;
 use weave_plan::Plan;
 
@@ -18,7 +18,7 @@ use weave_plan::Plan;
 pub fn append_ink(
     planes: &Planes,
     plan: &Plan,
-    head: RasterHead,
+    header: RasterHeader,
     place: u8,
     ink: Ink,
     pass: u32,
@@ -28,24 +28,24 @@ pub fn append_ink(
     requires pass { pass < pass_count plan.now.nozzles plan.now.pitch plan.now.height }
     requires rows { plan.now.height ≡ planes.now.rows }
     requires width { planes.now.width ≤ most_columns }
-    requires nozzles { head.m ≡ plan.now.nozzles }
-    requires columns { head.n ≡ planes.now.width }
-    requires coded { head.c ≡ 1 }
-    requires room { vec_len out.old + (12 + 2 * head.m * ((head.n + 7) / 8)) ≤ vec_capacity out.old }
-    ensures rasters { result ≡ rasters_in (rows_commands head ink (plane_rows planes.now plan.now place pass)) }
+    requires nozzles { header.m ≡ plan.now.nozzles }
+    requires columns { header.n ≡ planes.now.width }
+    requires coded { header.c ≡ 1 }
+    requires room { vec_len out.old + (12 + 2 * header.m * ((header.n + 7) / 8)) ≤ vec_capacity out.old }
+    ensures rasters { result ≡ rasters_in (rows_commands header ink (plane_rows planes.now plan.now place pass)) }
     ensures few { result ≤ 1 }
     ensures items { out.new.items ≡ out.old.items
-        ++ bytes_of canonical_row (rows_commands head ink (plane_rows planes.now plan.now place pass)) }
-    ensures most { vec_len out.new ≤ vec_len out.old + (12 + 2 * head.m * ((head.n + 7) / 8)) }
+        ++ bytes_of canonical_row (rows_commands header ink (plane_rows planes.now plan.now place pass)) }
+    ensures most { vec_len out.new ≤ vec_len out.old + (12 + 2 * header.m * ((header.n + 7) / 8)) }
     ensures capacity { vec_capacity out.old ≤ vec_capacity out.new }
 {
-    if !has_fire(planes, plan, place, pass, head.m) {
+    if !has_fire(planes, plan, place, pass, header.m) {
         return 0;
     }
-    append_head(&Command::Colour { ink }, out);
-    append_head(&Command::Return, out);
-    append_head(&Command::Raster { head }, out);
-    'rows: for nozzle in 0..head.m {
+    append_header(&Command::Colour { ink }, out);
+    append_header(&Command::Return, out);
+    append_header(&Command::Raster { header }, out);
+    'rows: for nozzle in 0..header.m {
         append_row(fired_row(planes, plan, place, pass, nozzle), out);
     }
     1

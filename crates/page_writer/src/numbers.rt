@@ -1,5 +1,5 @@
 //! The numbers of a page's commands.
-ghost use Rattle.page_definitions.specs.Strokes.{raster_head as raster_head_of};
+ghost use Rattle.page_definitions.specs.Strokes.{raster_header as raster_header_of};
 ghost use Rattle.printer_definitions.specs.Printer.{head_rows as head_rows_of, row_units as row_units_of};
 ghost use Rattle.printer_profile.specs.Profiles.{printer_of};
 ghost use Rattle.pwg_definitions.specs.Header.{IsWanted};
@@ -7,7 +7,7 @@ ghost use Rattle.separation_definitions.specs.CanPrint.{CanPrint};
 ghost use Rattle.separation_definitions.specs.Windows.{wanted_by, window_of};
 ghost use Rattle.std.specs.Prelude.{◌*◌, ◌+◌, ◌-◌, ◌≡◌, ◌≤◌};
 
-use escp2_writer::RasterHead;
+use escp2_writer::RasterHeader;
 use printer_profile::{PageForm, Profile};
 
 /// Places on a sheet, from its top, in units of 5/3600 inch.
@@ -39,11 +39,11 @@ pub fn head_rows(p: &Profile) -> u16
 }
 
 /// The header of rasters of this many columns, with coded rows.
-pub fn raster_head(p: &Profile, width: u16) -> RasterHead
+pub fn raster_header(p: &Profile, width: u16) -> RasterHeader
     requires { CanPrint (printer_of p.now) }
-    ensures { result ≡ raster_head_of (printer_of p.now) width 1 }
+    ensures { result ≡ raster_header_of (printer_of p.now) width 1 }
 {
-    RasterHead {
+    RasterHeader {
         c: 1,
         v: (u32::from(p.pitch) * 3600 / u32::from(p.vdpi)) as u8,
         h: (3600 / p.hdpi) as u8,

@@ -17,10 +17,10 @@ ghost use Rattle.weave_base.specs.Parts.{AppendsPart};
 ghost use Rattle.weave_definitions.specs.Weave.{pass_count};
 
 use crate::ink::append_ink;
-use crate::numbers::{raster_head, row_units};
+use crate::numbers::{raster_header, row_units};
 use crate::sums::PageSum;
 use dot_planes::Planes;
-use escp2_writer::{Command, append_head};
+use escp2_writer::{Command, append_header};
 use printer_profile::Profile;
 use weave_base::{Failed, Sink, put_all};
 use weave_plan::Plan;
@@ -33,7 +33,7 @@ fn append_step(units: u16, out: &mut Vec<u8>)
     ensures capacity { vec_capacity out.old ≤ vec_capacity out.new }
 {
     if units > 0 {
-        append_head(&Command::DownBy { n: units }, out);
+        append_header(&Command::DownBy { n: units }, out);
     }
 }
 
@@ -50,11 +50,11 @@ fn append_inks(p: &Profile, planes: &Planes, plan: &Plan, pass: u32, out: &mut V
         vec_len out.old + planes.now.inks * (12 + 2 * p.now.nozzles * ((planes.now.width + 7) / 8)) }
     ensures capacity { vec_capacity out.old ≤ vec_capacity out.new }
 {
-    let head = raster_head(p, planes.width() as u16);
+    let header = raster_header(p, planes.width() as u16);
     let mut rasters = 0u32;
     'inks: for place in 0..planes.inks() {
         let ink = p.inks.at(place);
-        rasters += append_ink(planes, plan, head, place, ink, pass, out);
+        rasters += append_ink(planes, plan, header, place, ink, pass, out);
     }
     rasters
 }

@@ -5,7 +5,7 @@ ghost use Rattle.page_definitions.specs.Strokes.{bytes_of, say};
 ghost use Rattle.std.specs.Prelude.{[], vec_capacity, vec_len, ◌++◌, ◌+◌, ◌∷◌, ◌≡◌, ◌≤◌};
 
 use crate::numbers::Sheet;
-use escp2_writer::{Command, append_head};
+use escp2_writer::{Command, append_header};
 
 /// Appends the commands before the passes, 46 bytes.
 pub fn append_prologue(sheet: Sheet, out: &mut Vec<u8>)
@@ -16,20 +16,20 @@ pub fn append_prologue(sheet: Sheet, out: &mut Vec<u8>)
     ensures len { vec_len out.new ≡ vec_len out.old + 46 }
     ensures capacity { vec_capacity out.old ≤ vec_capacity out.new }
 {
-    append_head(&Command::Init, out);
-    append_head(&Command::Graphics, out);
-    append_head(&Command::Unit { m: 5 }, out);
-    append_head(&Command::MicroWeave { n: 0 }, out);
-    append_head(&Command::OneWay { n: 1 }, out);
-    append_head(&Command::Length { n: sheet.length }, out);
-    append_head(
+    append_header(&Command::Init, out);
+    append_header(&Command::Graphics, out);
+    append_header(&Command::Unit { m: 5 }, out);
+    append_header(&Command::MicroWeave { n: 0 }, out);
+    append_header(&Command::OneWay { n: 1 }, out);
+    append_header(&Command::Length { n: sheet.length }, out);
+    append_header(
         &Command::Margins {
             top: sheet.top,
             bottom: sheet.bottom,
         },
         out,
     );
-    append_head(&Command::DownTo { n: 0 }, out);
+    append_header(&Command::DownTo { n: 0 }, out);
 }
 
 /// Appends the commands after the passes, 3 bytes.
@@ -39,6 +39,6 @@ pub fn append_end(out: &mut Vec<u8>)
     ensures len { vec_len out.new ≡ vec_len out.old + 3 }
     ensures capacity { vec_capacity out.old ≤ vec_capacity out.new }
 {
-    append_head(&Command::Eject, out);
-    append_head(&Command::Init, out);
+    append_header(&Command::Eject, out);
+    append_header(&Command::Init, out);
 }

@@ -1,28 +1,14 @@
 //! What no contract says: whole pages worked by hand, the number of writes of a page, and sinks that fail.
 ghost use Rattle.std.specs.Prelude.{IfOk, ◌≡◌};
 
-use crate::{PageForm, PageSum, Planes, Profile, WriteStop, write_page};
-use printer_profile::InkSet;
+use crate::{PageForm, PageSum, Planes, WriteStop, write_page};
+use known_jobs::TINY_JOB;
+use printer_profile::TINY;
 use pwg_definitions::Kind;
 use std::alloc::Global;
 use std::process::Abort;
 use std::test::Fail;
 use weave_base::{MemSink, Memory};
-
-/// A head of three nozzles two rows apart, under a margin of four rows.
-const TINY: Profile = Profile {
-    hdpi: 360,
-    vdpi: 360,
-    nozzles: 3,
-    pitch: 2,
-    inks: InkSet::K,
-    black_start: 0,
-    limits: [255, 255, 255, 255],
-    left: 0,
-    right: 0,
-    top: 4,
-    bottom: 0,
-};
 
 /// Eight columns and six rows, of which two are inside the margins.
 const FORM: PageForm = PageForm {
@@ -31,16 +17,6 @@ const FORM: PageForm = PageForm {
     kind: Kind::Gray8,
     bytes_per_line: 8,
 };
-
-/// Its window black: two passes of three coded rows.
-const BLACK_JOB: [u8; 92] = [
-    0x1B, 0x40, 0x1B, 0x28, 0x47, 0x01, 0x00, 0x01, 0x1B, 0x28, 0x55, 0x01, 0x00, 0x05, 0x1B, 0x28,
-    0x69, 0x01, 0x00, 0x00, 0x1B, 0x55, 0x01, 0x1B, 0x28, 0x43, 0x02, 0x00, 0x0C, 0x00, 0x1B, 0x28,
-    0x63, 0x04, 0x00, 0x00, 0x00, 0x0C, 0x00, 0x1B, 0x28, 0x56, 0x02, 0x00, 0x00, 0x00, 0x1B, 0x72,
-    0x00, 0x0D, 0x1B, 0x2E, 0x01, 0x14, 0x0A, 0x03, 0x08, 0x00, 0x00, 0x00, 0x00, 0x00, 0x00, 0xFF,
-    0x1B, 0x28, 0x76, 0x02, 0x00, 0x06, 0x00, 0x1B, 0x72, 0x00, 0x0D, 0x1B, 0x2E, 0x01, 0x14, 0x0A,
-    0x03, 0x08, 0x00, 0x00, 0x00, 0x00, 0xFF, 0x00, 0x00, 0x0C, 0x1B, 0x40,
-];
 
 /// The planes of a black window of eight columns and two rows.
 fn black_planes(alloc: Global) -> Result<Planes, Memory>
@@ -80,7 +56,7 @@ fn tiny_prints_ninety_two_bytes(rt: HostRuntime) -> Result<(), Fail> {
             rasters: 2,
         })
     );
-    assert_eq!(rt; sink.bytes(), BLACK_JOB.as_slice());
+    assert_eq!(rt; sink.bytes(), TINY_JOB.as_slice());
     Ok(())
 }
 
@@ -100,7 +76,7 @@ fn failed_writes_leave_what_is_before_them(rt: HostRuntime) -> Result<(), Fail> 
     assert_eq!(rt; nothing.bytes().len(), 0);
     let (third, one_pass) = write_black(&rt, alloc, vec![in alloc; 3]?)?;
     assert_eq!(rt; third, Err(WriteStop::Write));
-    assert_eq!(rt; one_pass.bytes(), &BLACK_JOB[..64]);
+    assert_eq!(rt; one_pass.bytes(), &TINY_JOB[..64]);
     Ok(())
 }
 

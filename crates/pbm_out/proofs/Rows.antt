@@ -1,14 +1,14 @@
 -- Rows cut out of wider ones.
-use Rattle.std.proofs.Common.{◌≡◌, ℕ, zero, suc, ◌+◌, ◌/◌, ◌<◌, ◌≤◌, Bool, false, List, [], ◌∷◌, length, take}
+use Rattle.std.proofs.Common.{◌≡◌, ℕ, zero, suc, ◌+◌, ◌/◌, ◌<◌, ◌≤◌, Bool, false, List, [], ◌∷◌, ◌++◌, length, take}
 use Rattle.std.proofs.Common.{drop, map, refl, sym, ◌∙◌, ap, arith, ◌⊎◌, inl, inr}
 use Rattle.std.proofs.lemmas.Bool.{cases_lt}
 use Rattle.std.proofs.lemmas.List.{get_or-drop, get_or_past}
-use Rattle.escp2_definitions.specs.Packed.{at, packed, packed_byte, packed_bytes, worth}
+use Rattle.escp2_definitions.specs.Packed.{at, packed, packed_byte, packed_bytes}
 use Rattle.weave_definitions.specs.Weave.{count_from}
 use Rattle.dot_planes.specs.Tables.{DotTable, dot}
 use Rattle.dot_planes.proofs.PackedRows.{counted-at, counted-len}
 use Rattle.dot_emulator.specs.Sheets.{IsBlankFrom}
-use Rattle.pbm_out.specs.Images.{image_row}
+use Rattle.pbm_out.specs.Images.{image_row, image_rows}
 
 -- the first bytes of a packed row
 take-packed : (m n : ℕ) (row : List Bool) → m ≤ n → take m (packed_bytes n row) ≡ packed_bytes m row
@@ -77,3 +77,13 @@ row-long t ink y columns row fits is =
           (map (dot t ink y) (count_from 0 t.width)),
       counted-len (dot t ink y) 0 t.width,
     )
+
+-- ---- the rows of an image, one after the other
+
+-- the next row
+pub rows-next : (columns : ℕ) (t : DotTable) (ink y many less : ℕ) → many ≡ suc less
+    → image_rows columns t ink y many ≡ image_row columns t ink y ++ image_rows columns t ink (y + 1) less
+rows-next columns t ink y many less more = ap (image_rows columns t ink y) more
+
+pub rows-none : (columns : ℕ) (t : DotTable) (ink y many : ℕ) → many ≡ 0 → image_rows columns t ink y many ≡ []
+rows-none columns t ink y many none = ap (image_rows columns t ink y) none

@@ -1,5 +1,5 @@
 //! The image of one ink.
-ghost use Rattle.pbm_out.specs.Images.{image, image_head};
+ghost use Rattle.pbm_out.specs.Images.{image, image_header};
 ghost use Rattle.gathered_bytes.specs.Gathering.{gathered};
 ghost use Rattle.std.specs.Io.KnownBytes.{Appends};
 ghost use Rattle.std.specs.Prelude.{OnErr, OnOk, ◌<◌, ◌≡◌};
@@ -22,18 +22,17 @@ pub fn write_plane<K: Sink>(s: &Sheet, ink: u8, k: &mut K) -> Result<(), Failed>
         (AppendsPart (K.held k.old) (K.held k.new) (image s.now.columns s.now.rows s.now.planes ink)) }
     ensures cause { HasCause (K.faults k.old) (K.faults k.new) result }
 {
-    let mut bytes = head(s.columns, s.rows);
+    let mut bytes = header(s.columns, s.rows);
     let len = (s.columns as usize + 7) / 8;
     'rows: for y in 0..s.rows {
-        bytes.make_room(len, k)?;
-        bytes.push(&s.planes.row(ink, y)[..len]);
+        bytes.write(&s.planes.row(ink, y)[..len], k)?;
     }
     bytes.put(k)
 }
 
 /// The header of an image.
-fn head(columns: u32, rows: u32) -> Gathered
-    ensures { gathered result ≡ image_head columns rows }
+fn header(columns: u32, rows: u32) -> Gathered
+    ensures { gathered result ≡ image_header columns rows }
 {
     let mut buffer = Buffer::new();
     let mut bytes = Gathered::new();

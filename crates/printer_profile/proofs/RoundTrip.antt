@@ -19,13 +19,13 @@ use Rattle.printer_profile.specs.declared.keys.Key.{Key}
 use Rattle.printer_profile.specs.declared.keys.Key.TheVariants as key
 use Rattle.printer_profile.specs.declared.reading.Given.{Given}
 use Rattle.printer_profile.specs.Keys.{all_keys, row_of}
-use Rattle.printer_profile.specs.Text.{head, is_given, key_line, nothing, profile_given, profile_text}
+use Rattle.printer_profile.specs.Text.{header, is_given, key_line, nothing, profile_given, profile_text}
 use Rattle.printer_profile.specs.Text.{profile_text_of, with_key, with_line, with_lines}
 use Rattle.key_values.specs.Numbers.{number_within}
 use Rattle.printer_profile.specs.Values.{ink_set_name, ink_set_named}
 use Rattle.printer_profile.proofs.LineParts.{line_before}
 use Rattle.key_values.proofs.Digits.{number_of_decimal, own}
-use Rattle.printer_profile.proofs.TextLemmas.{line_of_key, lines_more, lines_done, text_with_head}
+use Rattle.printer_profile.proofs.TextLemmas.{line_of_key, lines_more, lines_done, text_with_header}
 
 -- ---- lines
 
@@ -241,14 +241,14 @@ all_absent : (p : Profile) → all_new p nothing all_keys ≡ true
 unfolding all_new copied
 all_absent p = refl
 
-head_read : (rest : List ℕ) → lines (head ++ 10 ∷ rest) ≡ head ∷ lines rest
+header_read : (rest : List ℕ) → lines (header ++ 10 ∷ rest) ≡ header ∷ lines rest
 unfolding printable
-head_read rest = line_read head rest refl
+header_read rest = line_read header rest refl
 
 pub printed_text : (p : Profile) → InRange p → profile_text (profile_text_of p) ≡ Ok p
 unfolding profile_text_of
 printed_text p range =
     let keys : List ℕ = flat_map (key_line p) all_keys in
-    sym (text_with_head _ head (lines keys) (head_read keys) refl)
+    sym (text_with_header _ header (lines keys) (header_read keys) refl)
     ∙ ap profile_given (keys_read p range all_keys 2 nothing (all_absent p))
     ∙ whole p range

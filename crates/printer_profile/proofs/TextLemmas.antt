@@ -12,7 +12,7 @@ use Rattle.printer_profile.specs.declared.reading.TextCause.TheVariants.{BadHead
 use Rattle.printer_profile.specs.declared.reading.TextFault.{TextFault}
 use Rattle.printer_profile.specs.Keys.{key_named}
 use Rattle.key_values.specs.Pairs.{is_equals_sign}
-use Rattle.printer_profile.specs.Text.{fault_at, head, is_skipped, next_line, nothing, profile_given, profile_of_lines}
+use Rattle.printer_profile.specs.Text.{fault_at, header, is_skipped, next_line, nothing, profile_given, profile_of_lines}
 use Rattle.printer_profile.specs.Text.{profile_text, with_key, with_line, with_lines}
 
 -- ---- one line
@@ -65,19 +65,19 @@ unfolding profile_text
 text_empty [] h = refl
 text_empty (b ∷ text) h = absurd (omega arith)
 
-pub text_bad_head : (text first : List ℕ) (rest : List (List ℕ))
-    → lines text ≡ first ∷ rest → bytes_eq first head ≡ false → Err (fault_at 1 BadHead) ≡ profile_text text
+pub text_bad_header : (text first : List ℕ) (rest : List (List ℕ))
+    → lines text ≡ first ∷ rest → bytes_eq first header ≡ false → Err (fault_at 1 BadHead) ≡ profile_text text
 unfolding profile_text
-text_bad_head text first rest cut differs = sym (ap profile_of_lines cut ∙ rw differs refl)
+text_bad_header text first rest cut differs = sym (ap profile_of_lines cut ∙ rw differs refl)
 
-pub text_with_head : (text first : List ℕ) (rest : List (List ℕ)) → lines text ≡ first ∷ rest
-    → bytes_eq first head ≡ true → profile_given (with_lines 2 nothing rest) ≡ profile_text text
+pub text_with_header : (text first : List ℕ) (rest : List (List ℕ)) → lines text ≡ first ∷ rest
+    → bytes_eq first header ≡ true → profile_given (with_lines 2 nothing rest) ≡ profile_text text
 unfolding profile_text
-text_with_head text first rest cut same = sym (ap profile_of_lines cut ∙ rw same refl)
+text_with_header text first rest cut same = sym (ap profile_of_lines cut ∙ rw same refl)
 
 -- what the lines after the first one give
 pub lines_end : (text first : List ℕ) (rest : List (List ℕ)) (read : Result Given TextFault)
-    (answer : Result Profile TextFault) → lines text ≡ first ∷ rest → bytes_eq first head ≡ true
+    (answer : Result Profile TextFault) → lines text ≡ first ∷ rest → bytes_eq first header ≡ true
     → read ≡ with_lines 2 nothing rest → answer ≡ profile_given read → answer ≡ profile_text text
 lines_end text first rest read answer cut same read_is answer_is =
-    answer_is ∙ ap profile_given read_is ∙ text_with_head text first rest cut same
+    answer_is ∙ ap profile_given read_is ∙ text_with_header text first rest cut same

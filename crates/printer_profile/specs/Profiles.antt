@@ -3,7 +3,7 @@ use Rattle.std.specs.Prelude.{ℕ, List, [], ◌∷◌, codes, find, Option}
 use Rattle.std.specs.Option.{option_map}
 use Rattle.std.specs.Str.{bytes_eq}
 use Rattle.printer_definitions.specs.Printer.{Printer, tiny1 as plainest}
-use Rattle.printer_definitions.specs.declared.inks.InkSet.TheVariants.{K, Cmyk}
+use Rattle.printer_definitions.specs.declared.inks.InkSet.TheVariants.{Cmyk}
 use Rattle.printer_profile.specs.declared.fields.Profile.{Profile}
 
 -- the printer that a profile describes
@@ -47,29 +47,16 @@ abbrev pub tiny1 : Profile
 tiny1 = profile_of plainest
 
 abbrev pub tiny : Profile
-tiny = record {
-  hdpi = 360;
-  vdpi = 360;
+tiny = record tiny1 {
   nozzles = 3;
   pitch = 2;
-  inks = K;
-  black_start = 0;
-  limits = 255 ∷ 255 ∷ 255 ∷ 255 ∷ [];
-  left = 0;
-  right = 0;
   top = 4;
-  bottom = 0;
 }
 
 abbrev pub p360k : Profile
-p360k = record {
-  hdpi = 360;
-  vdpi = 360;
+p360k = record tiny1 {
   nozzles = 31;
   pitch = 4;
-  inks = K;
-  black_start = 0;
-  limits = 255 ∷ 255 ∷ 255 ∷ 255 ∷ [];
   left = 45;
   right = 45;
   top = 120;
@@ -77,14 +64,10 @@ p360k = record {
 }
 
 abbrev pub p360cmyk : Profile
-p360cmyk = record {
-  hdpi = 360;
-  vdpi = 360;
+p360cmyk = record tiny1 {
   nozzles = 15;
   pitch = 4;
   inks = Cmyk;
-  black_start = 0;
-  limits = 255 ∷ 255 ∷ 255 ∷ 255 ∷ [];
   left = 45;
   right = 45;
   top = 60;

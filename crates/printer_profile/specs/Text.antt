@@ -16,8 +16,8 @@ use Rattle.printer_profile.specs.declared.reading.TextFault.{TextFault}
 use Rattle.printer_profile.specs.Keys.{all_keys, key_named, row_of, unset}
 
 -- the first line
-abbrev pub head : List ℕ
-head = codes "escp2-profile 1"
+abbrev pub header : List ℕ
+header = codes "escp2-profile 1"
 
 -- ---- printed
 
@@ -25,9 +25,9 @@ head = codes "escp2-profile 1"
 abbrev pub key_line : Profile → Key → List ℕ
 key_line p key = (row_of key).name ++ codes "=" ++ (row_of key).text p ++ codes "\n"
 
--- The canonical text: the head, and a line of each key in the order of the table.
+-- The canonical text: the header, and a line of each key in the order of the table.
 unfoldable pub profile_text_of : Profile → List ℕ
-profile_text_of p = head ++ codes "\n" ++ flat_map (key_line p) all_keys
+profile_text_of p = header ++ codes "\n" ++ flat_map (key_line p) all_keys
 
 -- ---- read
 
@@ -95,7 +95,7 @@ profile_given (Ok given) = profile_unless given (missing given)
 abbrev pub profile_of_lines : List (List ℕ) → Result Profile TextFault
 profile_of_lines [] = Err (fault_at 1 BadHead)
 profile_of_lines (first ∷ rest) =
-    if bytes_eq first head then profile_given (with_lines 2 nothing rest) else Err (fault_at 1 BadHead)
+    if bytes_eq first header then profile_given (with_lines 2 nothing rest) else Err (fault_at 1 BadHead)
 
 -- What a text means: a profile, or the first fault.
 unfoldable pub profile_text : List ℕ → Result Profile TextFault

@@ -5,7 +5,8 @@ ghost use Rattle.std.specs.Prelude.{◌≡◌};
 use crate::fields::Profile;
 use printer_definitions::InkSet;
 
-const TINY1: Profile = Profile {
+/// `tiny1`: 360 dots an inch, one nozzle, black, no margins.
+pub const TINY1: Profile = Profile {
     hdpi: 360,
     vdpi: 360,
     nozzles: 1,
@@ -19,7 +20,8 @@ const TINY1: Profile = Profile {
     bottom: 0,
 };
 
-const TINY: Profile = Profile {
+/// `tiny`: three nozzles two rows apart, and a top margin of four rows.
+pub const TINY: Profile = Profile {
     nozzles: 3,
     pitch: 2,
     top: 4,
@@ -47,7 +49,7 @@ const P360CMYK: Profile = Profile {
     ..TINY1
 };
 
-const P720CMYK: Profile = Profile {
+pub(crate) const P720CMYK: Profile = Profile {
     hdpi: 720,
     vdpi: 720,
     nozzles: 31,

@@ -29,7 +29,7 @@ mod tests;
 mod validity;
 mod values;
 
-pub use built_ins::built_in;
+pub use built_ins::{TINY, TINY1, built_in};
 pub use fields::Profile;
 pub use keys::key_name;
 pub use laws::{checked_can_print, checked_is_coprime, printed_is_read};

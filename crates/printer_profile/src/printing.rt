@@ -14,7 +14,7 @@ use itoa::Buffer;
 use weave_base::Memory;
 
 /// The first line of a profile's text.
-pub(crate) const HEAD: &str = "escp2-profile 1";
+pub(crate) const HEADER: &str = "escp2-profile 1";
 
 // No less than the bytes of any profile's text: 16 of its first line, and at most 18 of each key's line.
 const ROOM: usize = 272;
@@ -66,7 +66,7 @@ fn push_text(p: &Profile, out: &mut ArrayString<ROOM>)
     requires { out.old.bytes ≡ [] }
     ensures { out.new.bytes ≡ profile_text_of p.now }
 {
-    out.push_str(HEAD);
+    out.push_str(HEADER);
     out.push_str("\n");
     'keys: for key in Key::ALL {
         push_line(p, key, out);

@@ -9,7 +9,7 @@ ghost use Rattle.std.specs.Prelude.{Some, ◌≡◌};
 use crate::fields::Profile;
 use crate::keys::Key;
 use crate::lines::first_line;
-use crate::printing::HEAD;
+use crate::printing::HEADER;
 use key_values::cut_at;
 use printer_definitions::InkSet;
 use thiserror::Error;
@@ -179,8 +179,8 @@ pub fn read(text: &[u8]) -> Result<Profile, TextFault>
     if text.is_empty() {
         return Err(bad_head);
     }
-    let (head, rest) = first_line(text);
-    if head != HEAD.as_bytes() {
+    let (header, rest) = first_line(text);
+    if header != HEADER.as_bytes() {
         return Err(bad_head);
     }
     read_lines(rest)?.profile()

@@ -1,21 +1,8 @@
 //! Profiles by their names, their checks and their texts.
 use super::*;
+use crate::built_ins::P720CMYK as GOOD;
 use pwg_definitions::Kind;
 use std::test::Fail;
-
-const GOOD: Profile = Profile {
-    hdpi: 720,
-    vdpi: 720,
-    nozzles: 31,
-    pitch: 8,
-    inks: InkSet::Cmyk,
-    black_start: 64,
-    limits: [255, 224, 224, 224],
-    left: 90,
-    right: 90,
-    top: 240,
-    bottom: 120,
-};
 
 #[test]
 fn profile_checks_name_gcd_margin_and_step(rt: HostRuntime) {

@@ -55,7 +55,7 @@ IsPacket-sizes row left (Literal n bytes) is = (omega (arith, is.0), is.2)
 
 -- ---- what is read was spelled
 
-length-copies : (n : ℕ) (unit : List ℕ) → length (copies n unit) ≡ n * length unit
+pub length-copies : (n : ℕ) (unit : List ℕ) → length (copies n unit) ≡ n * length unit
 length-copies zero unit = omega arith
 length-copies (suc n) unit = length-append unit (copies n unit) ∙ ap (λ k. length unit + k) (length-copies n unit) ∙ omega arith
 

@@ -20,15 +20,17 @@ use Rattle.pwg_laws.proofs.GroupLaws.{group_at-spelling}
 
 -- ---- what is spelled is read
 
--- a group, and then the lines after it
-lines_at-group : (row : KindRow) (units height most left : ℕ) (bytes : List ℕ) (repeats : ℕ) (line rest : List ℕ)
-    → group_at row units (suc left) bytes ≡ Group repeats line rest
-    → lines_at row units height (suc most) (suc left) bytes
-    ≡ with_lines (replicate repeats line) (lines_at row units height most (suc left - repeats) rest)
+-- the lines of a page where its next group is read as this
+pub lines_at-read : (row : KindRow) (units height most left : ℕ) (bytes : List ℕ) (read : GroupRead)
+    → group_at row units (suc left) bytes ≡ read
+    → lines_at row units height (suc most) (suc left) bytes ≡ elim read [
+      | Group repeats line rest ↦ with_lines (replicate repeats line) (lines_at row units height most (suc left - repeats) rest)
+      | Part ↦ Stop (height - suc left + 1) cause.Truncated
+      | Wrong place fault ↦ Stop (height - suc left + 1) (cause.Line fault)
+    ]
 unfolding lines_at
-lines_at-group row units height most left bytes repeats line rest e = ap (λ (r : GroupRead). elim r as (λ _. LinesRead) [
-  | Group repeats line rest ↦
-      with_lines (replicate repeats line) (lines_at row units height most (suc left - repeats) rest)
+lines_at-read row units height most left bytes read e = ap (λ (r : GroupRead). elim r [
+  | Group repeats line rest ↦ with_lines (replicate repeats line) (lines_at row units height most (suc left - repeats) rest)
   | Part ↦ Stop (height - suc left + 1) cause.Truncated
   | Wrong place fault ↦ Stop (height - suc left + 1) (cause.Line fault)
 ]) e
@@ -44,7 +46,7 @@ lines_at-spelling row units height (g ∷ groups) zero (suc left) rest full enou
 lines_at-spelling row units height (g ∷ groups) (suc most) (suc left) rest full enough =
     let behind : List ℕ = groups_bytes groups ++ rest in
     ap (lines_at row units height (suc most) (suc left)) (append_assoc g.bytes (groups_bytes groups) rest)
-    ∙ lines_at-group row units height most left (g.bytes ++ behind) g.repeats g.line behind
+    ∙ lines_at-read row units height most left (g.bytes ++ behind) (Group g.repeats g.line behind)
     (group_at-spelling row units (suc left) g.bytes g.repeats g.line behind full.0)
     ∙ ap (with_lines (replicate g.repeats g.line))
     (lines_at-spelling row units height groups most (suc left - g.repeats) rest full.1 (omega (arith, full.0.some)))

@@ -7,10 +7,7 @@ use borrow.Rule.Slice.PartMut.{post_of, put_mid}
 use Rattle.std.proofs.Math.Nat.{mul-le-mul_right}
 use Rattle.std.proofs.Math.Seq.{take-add, take-append_seam}
 use Rattle.pwg_definitions.specs.Groups.{copies}
-
-pub length-copies : (n : ℕ) (unit : List ℕ) → length (copies n unit) ≡ n * length unit
-length-copies zero unit = omega arith
-length-copies (suc n) unit = length-append unit (copies n unit) ∙ ap (λ k. length unit + k) (length-copies n unit) ∙ omega arith
+use Rattle.pwg_laws.proofs.Packets.{length-copies}
 
 pub copies-one_byte : (n b : ℕ) → copies n (b ∷ []) ≡ replicate n b
 copies-one_byte zero b = refl

@@ -7,7 +7,7 @@ use Rattle.std.proofs.lemmas.Bool.Decides.{Decides-eqb}
 use Rattle.std.proofs.lemmas.Slice.Eq.{starts_is}
 use Rattle.std.proofs.Math.Nat.{le-mul_of_pos_right, le_of_mul-le-mul_right, mul-le-mul_right, mul-mod_left, mul-sub}
 use Rattle.pwg_definitions.specs.Groups.{Packet, copies, packet_spelling, packet_units}
-use Rattle.pwg_lines.proofs.Filling.{length-copies}
+use Rattle.pwg_laws.proofs.Packets.{length-copies}
 use Rattle.pwg_lines.specs.Canonical.{canonical, copies_at, next_packet, packets_from, unequal_at}
 
 -- ---- counting pixels

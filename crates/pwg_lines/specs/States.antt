@@ -8,66 +8,43 @@ use Rattle.pwg_lines.specs.declared.states.State.TheVariants.{Start, Packet, Run
 
 -- how many bytes of the line the current packet still gives
 abbrev pub pending : KindRow → State → ℕ
-pending row Start = 0
-pending row Packet = 0
 pending row (Run units read) = units * row.unit
 pending row (Literal bytes) = bytes
-pending row Full = 0
-pending row (Failed fault) = 0
+pending row other = 0
 
 -- how many pixels the current run gives, or how many bytes the current literal
 abbrev pub gives : State → ℕ
-gives Start = 0
-gives Packet = 0
 gives (Run units read) = units
 gives (Literal bytes) = bytes
-gives Full = 0
-gives (Failed fault) = 0
+gives other = 0
 
 -- the least of these
 abbrev pub least_gives : State → ℕ
-least_gives Start = 0
-least_gives Packet = 0
 least_gives (Run units read) = 1
 least_gives (Literal bytes) = 1
-least_gives Full = 0
-least_gives (Failed fault) = 0
+least_gives other = 0
 
 -- how many bytes of the pixel of a run are read; they are put after the filled bytes of the line
 abbrev pub read_in : State → ℕ
-read_in Start = 0
-read_in Packet = 0
 read_in (Run units read) = read
-read_in (Literal bytes) = 0
-read_in Full = 0
-read_in (Failed fault) = 0
+read_in other = 0
 
 -- the least number of pixels of the line after the current packet
 abbrev pub least_left : State → ℕ
-least_left Start = 0
 least_left Packet = 1
-least_left (Run units read) = 0
-least_left (Literal bytes) = 0
-least_left Full = 0
-least_left (Failed fault) = 0
+least_left other = 0
 
 -- the least number of repeats of the group, 1 where its count is read
 abbrev pub least_repeats : State → ℕ
 least_repeats Start = 0
-least_repeats Packet = 1
-least_repeats (Run units read) = 1
-least_repeats (Literal bytes) = 1
-least_repeats Full = 1
 least_repeats (Failed fault) = 0
+least_repeats other = 1
 
 -- more bytes are to be read
 abbrev pub IsOpen : State → Type 0
-IsOpen Start = Unit {0}
-IsOpen Packet = Unit {0}
-IsOpen (Run units read) = Unit {0}
-IsOpen (Literal bytes) = Unit {0}
 IsOpen Full = ⊥
 IsOpen (Failed fault) = ⊥
+IsOpen other = Unit {0}
 
 -- the state after a packet: before the next one, or after the group where no pixels are left
 abbrev pub behind_packet : ℕ → State

@@ -1,14 +1,13 @@
 -- A fault in the lines of a page, as the rest of the page is read.
-use Rattle.std.proofs.Common.{◌≡◌, ℕ, zero, suc, ◌+◌, ◌-◌, ◌<◌, ◌≤◌, List, replicate, Option, None, Some, IfSome, Err, refl, sym, ◌∙◌, ap}
+use Rattle.std.proofs.Common.{◌≡◌, ℕ, zero, suc, ◌+◌, ◌-◌, ◌<◌, ◌≤◌, List, Option, None, Some, IfSome, Err, refl, sym, ◌∙◌, ap}
 use Rattle.std.proofs.Common.{arith, ◌⊎◌, inl, inr}
 use Rattle.pwg_definitions.specs.declared.faults.InputCause.{InputCause}
 use Rattle.pwg_definitions.specs.declared.faults.InputCause.TheVariants as cause
 use Rattle.pwg_definitions.specs.declared.pages.PageForm.{PageForm}
-use Rattle.pwg_definitions.specs.Header.{KindRow, line_units, row_of}
-use Rattle.pwg_definitions.specs.Groups.{GroupRead, group_at}
-use Rattle.pwg_definitions.specs.Groups.GroupRead.{Group, Part, Wrong}
-use Rattle.pwg_definitions.specs.Stream.{lines_at, with_lines}
+use Rattle.pwg_definitions.specs.Header.{line_units, row_of}
+use Rattle.pwg_definitions.specs.Groups.GroupRead.{Part, Wrong}
 use Rattle.pwg_definitions.specs.Stream.LinesRead.{Stop}
+use Rattle.pwg_laws.proofs.PageSpelling.{lines_at-read}
 use Rattle.pwg_lines.specs.declared.reader.LineReader.{LineReader}
 use Rattle.pwg_lines.specs.Reading as lines
 use Rattle.pwg_stream.specs.declared.groups.GroupStop.{GroupStop}
@@ -18,32 +17,17 @@ use Rattle.pwg_stream.specs.Groups.{IsBadGroup, IsNoGroup, OnNoGroup}
 use Rattle.pwg_stream.specs.Reading.{HasLineFault, form_in, form_of, group_of, lines_left_in, lines_left_of, lines_of, text_of}
 use Rattle.pwg_stream.specs.Stops.{OnInput, line_stop}
 
--- the lines of a page where its next group is read as this
-lines_at-group : (row : KindRow) (units height most left : ℕ) (bytes : List ℕ) (read : GroupRead)
-    → group_at row units (suc left) bytes ≡ read
-    → lines_at row units height (suc most) (suc left) bytes ≡ elim read [
-      | Group repeats line rest ↦ with_lines (replicate repeats line) (lines_at row units height most (suc left - repeats) rest)
-      | Part ↦ Stop (height - suc left + 1) cause.Truncated
-      | Wrong place fault ↦ Stop (height - suc left + 1) (cause.Line fault)
-    ]
-unfolding lines_at
-lines_at-group row units height most left bytes read e = ap (λ (r : GroupRead). elim r [
-  | Group repeats line rest ↦ with_lines (replicate repeats line) (lines_at row units height most (suc left - repeats) rest)
-  | Part ↦ Stop (height - suc left + 1) cause.Truncated
-  | Wrong place fault ↦ Stop (height - suc left + 1) (cause.Line fault)
-]) e
-
 stop_here : (form : PageForm) (left line : ℕ) (text : List ℕ) (why : InputCause) → 0 < left → line + left ≡ form.height + 1
     → left ≤ form.height
     → IsNoGroup (group_of form left text) why ⊎ IsBadGroup (group_of form left text) why → lines_of form left text ≡ Stop line why
 stop_here form zero line text why some place within found = absurd (omega arith)
 stop_here form (suc left) line text why some place within (inl none) =
     let at : form.height - suc left + 1 ≡ line = omega arith in
-    lines_at-group (row_of form.kind) (line_units (row_of form.kind) form.width) form.height left left text Part none.0
+    lines_at-read (row_of form.kind) (line_units (row_of form.kind) form.width) form.height left left text Part none.0
     ∙ ap (λ k. Stop k cause.Truncated) at ∙ ap (Stop line) (sym none.1)
 stop_here form (suc left) line text why some place within (inr bad) =
     let at : form.height - suc left + 1 ≡ line = omega arith in
-    lines_at-group (row_of form.kind) (line_units (row_of form.kind) form.width) form.height left left text
+    lines_at-read (row_of form.kind) (line_units (row_of form.kind) form.width) form.height left left text
     (Wrong bad.place bad.fault) bad.wrong
     ∙ ap (λ k. Stop k (cause.Line bad.fault)) at ∙ ap (Stop line) (sym bad.why_is)
 

@@ -5,7 +5,8 @@ use Rattle.escp2_writer.proofs.appending.append_rows.Given as goal
 
 abbrev pub invariant-rows : goal.invariant-rows
 invariant-rows l = record {
-  so_far : AppendsSoFar (l.fn.out.items ++ codes l.fn.head.m (row_bytes l.fn.head) l.fn.rows) l.out.items l.rest (l.fn.head.m - l.counter)
-      (row_bytes l.fn.head);
+  so_far : AppendsSoFar (l.fn.out.items ++ codes l.fn.header.m (row_bytes l.fn.header) l.fn.rows)
+      l.out.items l.rest (l.fn.header.m - l.counter)
+      (row_bytes l.fn.header);
   room : vec_len l.out + 2 * length l.rest ≤ vec_capacity l.out;
 }

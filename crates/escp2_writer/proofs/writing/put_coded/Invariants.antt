@@ -1,13 +1,15 @@
-use Rattle.std.proofs.Common.{◌-◌, ◌≤◌, ◌++◌}
+use Rattle.std.proofs.Common.{◌≡◌, ◌-◌, ◌*◌, ◌≤◌, ◌++◌, length}
 use Rattle.escp2_definitions.specs.Commands.{row_bytes}
-use Rattle.escp2_writer.specs.Pieces.{gathered}
-use Rattle.escp2_writer.proofs.Coding.{PutsSoFar, codes}
+use Rattle.gathered_bytes.specs.Gathering.{gathered}
+use Rattle.gathered_bytes.proofs.Writing.{PutsSoFar}
+use Rattle.escp2_writer.proofs.Coding.{codes}
 use Rattle.escp2_writer.proofs.writing.put_coded.Given as goal
 
 abbrev pub invariant-rows : goal.invariant-rows
 invariant-rows g l = record {
-  so_far : PutsSoFar (g.K.Sink.held l.fn.k) (g.K.Sink.held l.k) (l.fn.front ++ codes l.fn.head.m (row_bytes l.fn.head) l.fn.rows)
-      (gathered l.piece) l.rest
-      (l.fn.head.m - l.counter) (row_bytes l.fn.head);
+  so_far : PutsSoFar (g.K.Sink.held l.fn.k) (g.K.Sink.held l.k)
+      (l.fn.front ++ codes l.fn.header.m (row_bytes l.fn.header) l.fn.rows) (gathered l.bytes)
+      (codes (l.fn.header.m - l.counter) (row_bytes l.fn.header) l.rest);
+  left : length l.rest ≡ (l.fn.header.m - l.counter) * row_bytes l.fn.header;
   later : g.K.Sink.faults l.fn.k ≤ g.K.Sink.faults l.k;
 }

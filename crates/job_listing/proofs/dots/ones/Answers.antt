@@ -1,4 +1,4 @@
-use Rattle.std.proofs.Common.{◌≡◌, ◌+◌, ◌<◌, ◌≤◌, ◌∙◌, ap, sym, get_or, count_ones, arith, length}
+use Rattle.std.proofs.Common.{◌+◌, ◌<◌, ◌≤◌, ◌∙◌, ap, sym, get_or, count_ones, arith, length}
 use Rattle.std.proofs.lemmas.List.Sums.{sum_by_more}
 use lib.Count.{ones-le}
 use Rattle.job_listing.proofs.dots.ones.Goals as goal

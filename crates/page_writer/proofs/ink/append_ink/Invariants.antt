@@ -8,10 +8,10 @@ use Rattle.page_writer.proofs.ink.append_ink.Given as goal
 abbrev pub invariant-rows : goal.invariant-rows
 invariant-rows l = record {
   so_far : RowsSoFar l.planes l.plan l.place l.pass
-      (l.fn.out.items ++ bytes_of canonical_row (rows_commands l.fn.head l.fn.ink
-      (plane_rows l.planes l.plan l.place l.pass))) l.out.items l.nozzle (l.fn.head.m - l.nozzle);
-  room : vec_len l.out + 2 * (l.fn.head.m - l.nozzle) * ((l.fn.head.n + 7) / 8) ≤ vec_capacity l.out;
-  most : vec_len l.out + 2 * (l.fn.head.m - l.nozzle) * ((l.fn.head.n + 7) / 8)
-      ≤ vec_len l.fn.out + (12 + 2 * l.fn.head.m * ((l.fn.head.n + 7) / 8));
+      (l.fn.out.items ++ bytes_of canonical_row (rows_commands l.fn.header l.fn.ink
+      (plane_rows l.planes l.plan l.place l.pass))) l.out.items l.nozzle (l.fn.header.m - l.nozzle);
+  room : vec_len l.out + 2 * (l.fn.header.m - l.nozzle) * ((l.fn.header.n + 7) / 8) ≤ vec_capacity l.out;
+  most : vec_len l.out + 2 * (l.fn.header.m - l.nozzle) * ((l.fn.header.n + 7) / 8)
+      ≤ vec_len l.fn.out + (12 + 2 * l.fn.header.m * ((l.fn.header.n + 7) / 8));
   capacity : vec_capacity l.fn.out ≤ vec_capacity l.out;
 }

@@ -5,7 +5,7 @@ use Rattle.printer_profile.specs.Profiles.{printer_of}
 use Rattle.weave_definitions.specs.Weave.{pass_count}
 use Rattle.weave_plan.specs.Weaving.{Weaving}
 use Rattle.page_writer.specs.Suits.{Suits, plan_of}
-use Rattle.page_writer.proofs.Strokes.{head_stands, passes_begin, passes_end, passes_few, passes_part, passes_step, step_low}
+use Rattle.page_writer.proofs.Strokes.{head_stands, many_passes, passes_begin, passes_end, passes_few, passes_part, passes_step, step_low}
 use Rattle.page_writer.proofs.page.put_passes.Goals as goal
 
 pub make-plan-requires-clause-some_rows : goal.make-plan-requires-clause-some_rows
@@ -34,9 +34,7 @@ put_pass-requires-clause-suits g c =
 
 pub put_pass-requires-clause-down : goal.put_pass-requires-clause-down
 put_pass-requires-clause-down g c =
-    let many : c.passes-pass-end.result ≡ pass_count c.args.p.now.nozzles c.args.p.now.pitch c.args.planes.now.rows =
-    c.passes-pass-end.ensures ∙ ap (λ (v : Weaving). pass_count v.nozzles v.pitch v.height) c.make-plan.ensures
-    ∙ ap (pass_count c.args.p.now.nozzles c.args.p.now.pitch) c.rows.ensures in
+    let many = many_passes _ _ _ _ _ _ c.passes-pass-end.ensures c.make-plan.ensures c.rows.ensures in
     let step : (c.passes.pass * c.args.p.now.nozzles - c.passes.last) * row_units (printer_of c.args.p.now) ≤ 15840 =
     step_low (printer_of c.args.p.now) c.args.planes.now.rows
     c.passes.pass c.passes.last c.requires.suits.can c.requires.sheet (omega (arith, many, c.passes-test.true)) in
@@ -44,9 +42,7 @@ put_pass-requires-clause-down g c =
 
 pub returns-in_err-done-clause-part : goal.returns-in_err-done-clause-part
 returns-in_err-done-clause-part g c = λ h shows.
-    let many : c.passes-pass-end.result ≡ pass_count c.args.p.now.nozzles c.args.p.now.pitch c.args.planes.now.rows =
-    c.passes-pass-end.ensures ∙ ap (λ (v : Weaving). pass_count v.nozzles v.pitch v.height) c.make-plan.ensures
-    ∙ ap (pass_count c.args.p.now.nozzles c.args.p.now.pitch) c.rows.ensures in
+    let many = many_passes _ _ _ _ _ _ c.passes-pass-end.ensures c.make-plan.ensures c.rows.ensures in
     let left : pass_count c.args.p.now.nozzles c.args.p.now.pitch c.args.planes.now.rows - c.passes.pass
     ≡ suc (pass_count c.args.p.now.nozzles c.args.p.now.pitch c.args.planes.now.rows - (c.passes.pass + 1)) =
     omega (arith, many, c.passes-test.true) in
@@ -56,9 +52,7 @@ returns-in_err-done-clause-part g c = λ h shows.
 
 pub passes-preserved : goal.passes-preserved
 passes-preserved g c =
-    let many : c.passes-pass-end.result ≡ pass_count c.args.p.now.nozzles c.args.p.now.pitch c.args.planes.now.rows =
-    c.passes-pass-end.ensures ∙ ap (λ (v : Weaving). pass_count v.nozzles v.pitch v.height) c.make-plan.ensures
-    ∙ ap (pass_count c.args.p.now.nozzles c.args.p.now.pitch) c.rows.ensures in
+    let many = many_passes _ _ _ _ _ _ c.passes-pass-end.ensures c.make-plan.ensures c.rows.ensures in
     let left : pass_count c.args.p.now.nozzles c.args.p.now.pitch c.args.planes.now.rows - c.passes.pass
     ≡ suc (pass_count c.args.p.now.nozzles c.args.p.now.pitch c.args.planes.now.rows - (c.passes.pass + 1)) =
     omega (arith, many, c.passes-test.true) in
@@ -79,30 +73,22 @@ passes-preserved g c =
 
 pub returns-clause-ok : goal.returns-clause-ok
 returns-clause-ok g c = λ h shows.
-    let many : c.passes-pass-end.result ≡ pass_count c.args.p.now.nozzles c.args.p.now.pitch c.args.planes.now.rows =
-    c.passes-pass-end.ensures ∙ ap (λ (v : Weaving). pass_count v.nozzles v.pitch v.height) c.make-plan.ensures
-    ∙ ap (pass_count c.args.p.now.nozzles c.args.p.now.pitch) c.rows.ensures in
+    let many = many_passes _ _ _ _ _ _ c.passes-pass-end.ensures c.make-plan.ensures c.rows.ensures in
     (passes_end _ _ _ _ _ _ _ _ _ (c.passes.invariant.so_far h shows) (omega (arith, many, c.passes-test.false))).ok
 
 pub returns-clause-bytes : goal.returns-clause-bytes
 returns-clause-bytes g c = λ h shows.
-    let many : c.passes-pass-end.result ≡ pass_count c.args.p.now.nozzles c.args.p.now.pitch c.args.planes.now.rows =
-    c.passes-pass-end.ensures ∙ ap (λ (v : Weaving). pass_count v.nozzles v.pitch v.height) c.make-plan.ensures
-    ∙ ap (pass_count c.args.p.now.nozzles c.args.p.now.pitch) c.rows.ensures in
+    let many = many_passes _ _ _ _ _ _ c.passes-pass-end.ensures c.make-plan.ensures c.rows.ensures in
     (passes_end _ _ _ _ _ _ _ _ _ (c.passes.invariant.so_far h shows) (omega (arith, many, c.passes-test.false))).bytes
 
 pub returns-clause-rasters : goal.returns-clause-rasters
 returns-clause-rasters g c = λ h shows.
-    let many : c.passes-pass-end.result ≡ pass_count c.args.p.now.nozzles c.args.p.now.pitch c.args.planes.now.rows =
-    c.passes-pass-end.ensures ∙ ap (λ (v : Weaving). pass_count v.nozzles v.pitch v.height) c.make-plan.ensures
-    ∙ ap (pass_count c.args.p.now.nozzles c.args.p.now.pitch) c.rows.ensures in
+    let many = many_passes _ _ _ _ _ _ c.passes-pass-end.ensures c.make-plan.ensures c.rows.ensures in
     (passes_end _ _ _ _ _ _ _ _ _ (c.passes.invariant.so_far h shows) (omega (arith, many, c.passes-test.false))).rasters
 
 pub returns-clause-most : goal.returns-clause-most
 returns-clause-most g c =
-    let many : c.passes-pass-end.result ≡ pass_count c.args.p.now.nozzles c.args.p.now.pitch c.args.planes.now.rows =
-    c.passes-pass-end.ensures ∙ ap (λ (v : Weaving). pass_count v.nozzles v.pitch v.height) c.make-plan.ensures
-    ∙ ap (pass_count c.args.p.now.nozzles c.args.p.now.pitch) c.rows.ensures in
+    let many = many_passes _ _ _ _ _ _ c.passes-pass-end.ensures c.make-plan.ensures c.rows.ensures in
     omega (
       arith,
       many,

@@ -1,5 +1,5 @@
 use Rattle.std.proofs.Common.{◌≡◌, ◌-◌, ◌+◌, ◌*◌, ◌/◌, ◌≤◌, suc, ap, ◌∙◌, arith, vec_capacity, vec_len}
-use Rattle.page_definitions.specs.Strokes.{raster_head}
+use Rattle.page_definitions.specs.Strokes.{raster_header}
 use Rattle.printer_profile.specs.Profiles.{printer_of}
 use Rattle.page_writer.proofs.Inks.{inks_begin, inks_end, ink_most, inks_room_more, inks_room_one, inks_step}
 use Rattle.page_writer.proofs.pass.append_inks.Goals as goal
@@ -21,7 +21,7 @@ append_ink-rasters-requires-clause-room c =
     omega (arith, c.inks-test.true, c.inks-place-end.ensures) in
     omega (
       arith,
-      ink_most (printer_of c.args.p.now) _ _ _ c.raster_head-head.ensures c.width.ensures,
+      ink_most (printer_of c.args.p.now) _ _ _ c.raster_header-header.ensures c.width.ensures,
       inks_room_one _ _ _ _ _ left c.inks.invariant.room,
     )
 
@@ -31,11 +31,15 @@ inks-preserved c =
     omega (arith, c.inks-test.true, c.inks-place-end.ensures) in
     let taken : vec_len c.append_ink-rasters.new.out
     ≤ vec_len c.inks.out + (12 + 2 * c.args.p.now.nozzles * ((c.args.planes.now.width + 7) / 8)) =
-    omega (arith, c.append_ink-rasters.ensures.most, ink_most (printer_of c.args.p.now) _ _ _ c.raster_head-head.ensures c.width.ensures) in
+    omega (
+      arith,
+      c.append_ink-rasters.ensures.most,
+      ink_most (printer_of c.args.p.now) _ _ _ c.raster_header-header.ensures c.width.ensures,
+    ) in
     record {
-      so_far = λ h shows. inks_step _ c.args.plan.now c.args.planes.now h _ _ _ _ c.raster_head-head.result
+      so_far = λ h shows. inks_step _ c.args.plan.now c.args.planes.now h _ _ _ _ c.raster_header-header.result
           c.at-ink.result _ _ _ (c.inks.invariant.so_far h shows) c.requires.suits shows c.at-ink.ensures
-          (c.raster_head-head.ensures ∙ ap (λ n. raster_head (printer_of c.args.p.now) n 1) c.width.ensures)
+          (c.raster_header-header.ensures ∙ ap (λ n. raster_header (printer_of c.args.p.now) n 1) c.width.ensures)
           c.append_ink-rasters.ensures.items c.append_ink-rasters.ensures.rasters;
       few = omega (arith, c.inks.invariant.few, c.append_ink-rasters.ensures.few);
       room = let room : vec_len c.append_ink-rasters.new.out + (c.args.planes.now.inks - (c.inks.place + 1))

@@ -2,7 +2,7 @@ use Rattle.std.proofs.Common.{Err, ap, sym, ◌∙◌, arith, rules}
 use Rattle.std.proofs.lemmas.Result.{err_from_is_err_and}
 use Rattle.std.proofs.lemmas.Bool.Decides.{nat_tests}
 use Rattle.printer_profile.specs.Text.{profile_given}
-use Rattle.printer_profile.proofs.TextLemmas.{lines_end, text_bad_head, text_empty}
+use Rattle.printer_profile.proofs.TextLemmas.{lines_end, text_bad_header, text_empty}
 use Rattle.printer_profile.proofs.reading.read.Goals as goal
 
 pub returns-then-is_empty : goal.returns-then-is_empty
@@ -10,7 +10,7 @@ returns-then-is_empty c = text_empty _ (grind (arith, nat_tests, c.is_empty.ensu
 
 pub returns-then-ne : goal.returns-then-ne
 returns-then-ne c =
-    text_bad_head _ c.first_line.result.0.now _ c.first_line.ensures.lines (search rules)
+    text_bad_header _ c.first_line.result.0.now _ c.first_line.ensures.lines (search rules)
 
 pub returns-in_err-read_lines : goal.returns-in_err-read_lines
 returns-in_err-read_lines c =

@@ -2,7 +2,7 @@ use Rattle.std.proofs.Common.{◌≡◌, ◌*◌, List, ap, refl, subst, sym, �
 use Rattle.std.specs.Prelude.{Ok, None}
 use Rattle.escp2_definitions.specs.Commands.{row_bytes}
 use Rattle.escp2_definitions.specs.declared.command.Command.TheVariants as command
-use Rattle.escp2_definitions.specs.declared.command.RasterHead.{RasterHead}
+use Rattle.escp2_definitions.specs.declared.command.RasterHeader.{RasterHeader}
 use Rattle.dot_emulator.specs.declared.emulator.Emulator.{Emulator}
 use Rattle.dot_emulator.specs.declared.firing.Raster.{Raster}
 use Rattle.dot_emulator.specs.declared.raster.Steps.{Steps}
@@ -20,9 +20,9 @@ use Rattle.dot_emulator.proofs.emulator.Emulator.fire.Goals.{then-has_dots+in_ok
 
 pub returns-in-Some : goal.returns-in-Some
 returns-in-Some c = λ p m shows.
-    let P : Machine → Type 0 = λ n. Placed p n c.args.head c.in_ok-raster.raster in
+    let P : Machine → Type 0 = λ n. Placed p n c.args.header c.in_ok-raster.raster in
     let placed = subst P shows.state (c.in_ok-raster.ensures.placed p m.dots shows.steps) in (
-      late p m c.args.head c.in_ok-raster.raster c.args.rows.now placed
+      late p m c.args.header c.in_ok-raster.raster c.args.rows.now placed
           ∙ sym (c.refuses_dots.ensures
           (grid_of p m) m.dots placed.stands (planes-have p m c.args.self.now.planes shows.dots)) ∙ c.in-Some.is,
       refl,
@@ -32,9 +32,9 @@ pub returns-in_err-lay : goal.returns-in_err-lay
 returns-in_err-lay c =
     let error = err_from_is_err_and c.from_residual-in_err-lay.result c.from_residual-in_err-lay.ensures.1 in
     rw (error.1, error.2) (λ p m shows.
-    let P : Machine → Type 0 = λ n. Placed p n c.args.head c.in_ok-raster.raster in
+    let P : Machine → Type 0 = λ n. Placed p n c.args.header c.in_ok-raster.raster in
     let placed = subst P shows.state (c.in_ok-raster.ensures.placed p m.dots shows.steps) in (
-      late p m c.args.head c.in_ok-raster.raster c.args.rows.now placed
+      late p m c.args.header c.in_ok-raster.raster c.args.rows.now placed
           ∙ sym (c.refuses_dots.ensures (grid_of p m) m.dots placed.stands
           (planes-have p m c.args.self.now.planes shows.dots)) ∙ c.in_default.is,
       c.in_err-lay.ensures.unchanged,
@@ -46,27 +46,27 @@ returns c = λ p m shows.
     let r : Raster = c.in_ok-raster.raster in
     let rows : List ℕ = c.args.rows.now in
     let g : Grid = grid_of p m in
-    let H : RasterHead → Type 0 = λ h. Placed p (machine_of old.state m.dots) h r in
-    let M : Machine → Type 0 = λ n. Placed p n c.args.head r in
+    let H : RasterHeader → Type 0 = λ h. Placed p (machine_of old.state m.dots) h r in
+    let M : Machine → Type 0 = λ n. Placed p n c.args.header r in
     let shown = c.in_ok-raster.ensures.placed p m.dots shows.steps in
-    let head_is : r.head ≡ c.args.head = c.in_ok-raster.ensures.head in
-    let placed : Placed p m c.args.head r = subst M shows.state shown in
+    let header_is : r.header ≡ c.args.header = c.in_ok-raster.ensures.header in
+    let placed : Placed p m c.args.header r = subst M shows.state shown in
     let none = sym c.in_default.is ∙ c.refuses_dots.ensures g m.dots placed.stands (planes-have p m old.planes shows.dots) in
-    let fits : HasRows r rows = c.requires.rows_fit ∙ ap (λ (h : RasterHead). h.m * row_bytes h) (sym head_is) in
+    let fits : HasRows r rows = c.requires.rows_fit ∙ ap (λ (h : RasterHeader). h.m * row_bytes h) (sym header_is) in
     let above : IsAbove g r rows = above-margin _ _ (sym none) in
-    let step = raster-step p m c.args.head r rows old c.after_raster-next.result shows head_is
-    (c.after_raster-next.ensures.step p m.dots rows (subst H (sym head_is) shown)) in
-    let R : Emulator → Type 0 = λ e. Runs p m (command.Raster c.args.head) rows old e (Ok None) in
+    let step = raster-step p m c.args.header r rows old c.after_raster-next.result shows header_is
+    (c.after_raster-next.ensures.step p m.dots rows (subst H (sym header_is) shown)) in
+    let R : Emulator → Type 0 = λ e. Runs p m (command.Raster c.args.header) rows old e (Ok None) in
     elim c.if-has_dots.branch [
       | then-has_dots+in_ok-lay w ↦
           let laid = w.in_ok-lay.ensures.laid g m.dots placed.stands above (planes-have p m old.planes shows.dots) in
-          let S : State → Type 0 = λ s. machine_of s (after p m (command.Raster c.args.head) rows).dots
-          ≡ after p m (command.Raster c.args.head) rows in
+          let S : State → Type 0 = λ s. machine_of s (after p m (command.Raster c.args.header) rows).dots
+          ≡ after p m (command.Raster c.args.header) rows in
           let height = w.lay.new.self.rows
           ∙ ap (λ (s : State). sheet_rows s.page w.lay.new.self.steps.row) w.in_ok-lay.ensures.state
           ∙ ap (λ o. sheet_rows o w.lay.new.self.steps.row) c.after_raster-next.ensures.page
           ∙ ap (λ (s : Steps). sheet_rows old.state.page s.row) w.in_ok-lay.ensures.steps in
-          subst R (sym w.self-is) (fire-runs p m c.args.head r rows old w.lay.new.self shows
+          subst R (sym w.self-is) (fire-runs p m c.args.header r rows old w.lay.new.self shows
           (record {
             placed = placed;
             fits = fits;
@@ -74,12 +74,12 @@ returns c = λ p m shows.
             steps = w.in_ok-lay.ensures.steps;
             step = subst S (sym w.in_ok-lay.ensures.state) step;
           })
-          (laid-shows p m c.args.head r rows old.planes w.lay.new.self.planes (sheet_rows
+          (laid-shows p m c.args.header r rows old.planes w.lay.new.self.planes (sheet_rows
           old.state.page old.steps.row) placed fits above shows.dots old.rows c.in_ok-raster.ensures.on_page
           _ height laid (sym (c.has_dots.ensures g placed.stands) ∙ w.if-has_dots.true)))
       | else-has_dots w ↦
-          subst R (sym w.self-is) (fire-runs p m c.args.head r rows old _ shows
+          subst R (sym w.self-is) (fire-runs p m c.args.header r rows old _ shows
           (record { placed = placed; fits = fits; none = none; steps = refl; step = step })
-          (blank-shows p m c.args.head r rows old.planes placed (sym (c.has_dots.ensures g placed.stands)
+          (blank-shows p m c.args.header r rows old.planes placed (sym (c.has_dots.ensures g placed.stands)
           ∙ w.if-has_dots.false) shows.dots))
     ]

@@ -8,7 +8,7 @@ pub returns-then-has_dot : goal.returns-then-has_dot
 returns-then-has_dot c = λ g stands.
     left-found (λ d. true) g c.args.self.now c.args.rows.now c.loop-i.i stands c.loop-i-test.true (c.loop-i.invariant.left g stands)
     (row-has-dot g c.args.self.now c.args.rows.now c.loop-i.i c.requires c.loop-i-test.true
-    ∙ ap (λ (bytes : List ℕ). has_dot bytes c.args.self.now.head.n) (sym (row-is c.args.self.now c.args.rows.now
+    ∙ ap (λ (bytes : List ℕ). has_dot bytes c.args.self.now.header.n) (sym (row-is c.args.self.now c.args.rows.now
     c.row_of.result.now c.loop-i.i c.row_len-len.result c.row_len-len.ensures.is c.row_of.ensures.is))
     ∙ ap (has_dot c.row_of.result.now) (sym c.from.ensures) ∙ sym c.has_dot.ensures ∙ c.if-has_dot.true)
     ∙ some-dot (fired g c.args.self.now c.args.rows.now)
@@ -18,7 +18,7 @@ loop-i-preserved c = record {
   left = λ g stands.
       left-next (λ d. true) g c.args.self.now c.args.rows.now c.loop-i.i stands c.loop-i-test.true (c.loop-i.invariant.left g stands)
       (row-has-dot g c.args.self.now c.args.rows.now c.loop-i.i c.requires c.loop-i-test.true
-      ∙ ap (λ (bytes : List ℕ). has_dot bytes c.args.self.now.head.n) (sym (row-is c.args.self.now c.args.rows.now
+      ∙ ap (λ (bytes : List ℕ). has_dot bytes c.args.self.now.header.n) (sym (row-is c.args.self.now c.args.rows.now
       c.row_of.result.now c.loop-i.i c.row_len-len.result c.row_len-len.ensures.is c.row_of.ensures.is))
       ∙ ap (has_dot c.row_of.result.now) (sym c.from.ensures) ∙ sym c.has_dot.ensures ∙ c.if-has_dot.false);
 }

@@ -31,7 +31,7 @@ loop-i-preserved c =
         | else-y-self w ↦ subst S (sym w.planes-is) c.loop-i.invariant.size
       ];
       beside =
-          let B : DotTable → Type 0 = IsKeptFrom (c.args.self.now.x + c.args.self.now.head.n) old in
+          let B : DotTable → Type 0 = IsKeptFrom (c.args.self.now.x + c.args.self.now.header.n) old in
           elim c.if-y-self.branch [
             | then-y-self w ↦ subst B (sym w.planes-is) (λ ink y x low past.
                 lays-past c.loop-i.planes w.lay.new.self _ _ c.args.self.now.x _ c.from-dots.result ink y

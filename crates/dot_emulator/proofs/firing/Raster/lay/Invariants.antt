@@ -10,7 +10,7 @@ use Rattle.dot_emulator.proofs.firing.Raster.lay.Given as goal
 abbrev pub invariant-loop-i : goal.invariant-loop-i
 invariant-loop-i l = record {
   size : HasSizeOf l.fn.planes l.planes;
-  beside : IsKeptFrom (l.self.x + l.self.head.n) l.fn.planes l.planes;
+  beside : IsKeptFrom (l.self.x + l.self.header.n) l.fn.planes l.planes;
   above : (g : Grid) → Stands g l.self → IsAbove g l.self l.rows → IsAboveFrom g l.self l.rows l.i;
   laid : (g : Grid) (dots : List Dot) → Stands g l.self → IsAbove g l.self l.rows → HasPlaces g.column g.row dots l.fn.planes
       → LaidSoFar g l.self l.rows l.i dots l.planes;

@@ -4,11 +4,11 @@ use Rattle.dot_emulator.specs.States.{machine_of}
 use Rattle.dot_emulator.proofs.state.State.place.Goals as goal
 
 pub returns-clause-placed : goal.returns-clause-placed
-returns-clause-placed c = λ p dots steps. placed p (machine_of c.args.self.now dots) c.args.head c.args.steps _ (record {
+returns-clause-placed c = λ p dots steps. placed p (machine_of c.args.self.now dots) c.args.header c.args.steps _ (record {
   steps = steps;
   passed = sym c.in_default.is ∙ c.refuses_raster.ensures.is p steps;
   fits = omega (arith, c.if-x-from-gt-MOST_COLUMNS.false, c.from.ensures);
-  head_is = refl;
+  header_is = refl;
   ink_is = refl;
   x_is = refl;
   y_is = ap (λ n. (n + c.args.self.now.down) / c.args.steps.row) c.top.ensures;

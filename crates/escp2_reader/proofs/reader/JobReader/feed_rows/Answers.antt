@@ -1,7 +1,5 @@
-use Rattle.std.proofs.Common.{◌≡◌, ℕ, List, refl, arith, sym, subst}
+use Rattle.std.proofs.Common.{refl, arith}
 use Rattle.escp2_laws.proofs.Grammar.{AreBytes}
-use Rattle.escp2_rows.specs.Reading.{IsFault}
-use Rattle.escp2_reader.specs.declared.reader.HeardState.{HeardState}
 use Rattle.escp2_reader.proofs.Hearing.{heard-fault_used, heard-one_used}
 use Rattle.escp2_reader.proofs.RowsHeard.{fault-last, rows-more, rows-whole, rows-wrong}
 use Rattle.escp2_reader.proofs.reader.JobReader.feed_rows.Goals as goal

@@ -1,10 +1,10 @@
-use Rattle.std.proofs.Common.{◌≡◌, ℕ, ◌+◌, List, take, refl, arith, sym, ap, subst, ◌∙◌}
+use Rattle.std.proofs.Common.{ℕ, ◌+◌, List, take, refl, arith, sym, ap, subst, ◌∙◌}
 use Rattle.escp2_definitions.specs.Commands.{command_at}
 use Rattle.escp2_laws.proofs.Grammar.{AreBytes}
-use Rattle.escp2_reader.specs.Heads.{IsRaster}
-use Rattle.escp2_reader.proofs.Hearing.{at-begin, bytes-take, gathered-more, head-last, heard-fault, heard-one, raster-more, whole-more}
+use Rattle.escp2_reader.specs.Headers.{IsRaster}
+use Rattle.escp2_reader.proofs.Hearing.{at-begin, bytes-take, gathered-more, header-last, heard-fault, heard-one, raster-more, whole-more}
 use Rattle.escp2_reader.proofs.Hearing.{wrong-more}
-use Rattle.escp2_reader.proofs.reader.JobReader.feed_head.Goals as goal
+use Rattle.escp2_reader.proofs.reader.JobReader.feed_header.Goals as goal
 
 pub returns-in-Whole-clause-heard : goal.returns-in-Whole-clause-heard
 returns-in-Whole-clause-heard c =
@@ -48,7 +48,7 @@ returns-in-Rows-clause-last c =
     let are : AreBytes c.args.piece.now = λ k. omega (arith, c.type_inv.piece k) in
     let reads : IsRaster c.in-Rows.raster 0 command_at c.push.new.self.items =
     let P : List ℕ → Type 0 = IsRaster c.in-Rows.raster 0 command_at in subst P c.as_slice.ensures.value c.in-Rows.ensures in
-    head-last _ _ _ _ _ _ _ _ _ c.args.piece.now (λ sofar rows stood.
+    header-last _ _ _ _ _ _ _ _ _ c.args.piece.now (λ sofar rows stood.
     raster-more _ _ _ _ sofar (take (c.bytes.i + 1) c.args.piece.now) _ _
     (gathered-more _ sofar c.args.piece.now _ _ _ _ _ stood.heard c.bytes.invariant.gathered c.push.ensures.items refl
     c.bytes-test.true refl)

@@ -1,17 +1,16 @@
 -- What the gathered bytes of a command are.
 use Rattle.std.specs.Prelude.{◌≡◌, ℕ, ◌+◌, ◌-◌, ◌≤◌, List, [], ◌∷◌, ◌++◌, length, drop, slice_index}
-use Rattle.escp2_definitions.specs.declared.command.Command.{Command}
-use Rattle.escp2_definitions.specs.declared.command.RasterHead.{RasterHead}
+use Rattle.escp2_definitions.specs.declared.command.RasterHeader.{RasterHeader}
 use Rattle.escp2_definitions.specs.declared.stops.JobCause.TheVariants.{BadLength}
 use Rattle.escp2_definitions.specs.Commands.{Heard, command_bytes, last_column, raster_rows, sized}
 use Rattle.escp2_definitions.specs.Commands.Heard.{One, Part, Wrong}
-use Rattle.escp2_reader.specs.declared.heads.HeadState.{HeadState}
-use Rattle.escp2_reader.specs.declared.heads.HeadState.TheVariants as head
+use Rattle.escp2_reader.specs.declared.headers.HeaderState.{HeaderState}
+use Rattle.escp2_reader.specs.declared.headers.HeaderState.TheVariants as header
 use Rattle.escp2_reader.specs.declared.sized.LengthState.{LengthState}
 use Rattle.escp2_reader.specs.declared.sized.LengthState.TheVariants as len
 
 -- The numbers of a raster that its rows depend on are in range.
-pub record HasRows (raster : RasterHead) : Type 0 where
+pub record HasRows (raster : RasterHeader) : Type 0 where
   pub form : raster.c ≤ 1
   pub some : 1 ≤ raster.m
   pub narrowest : 1 ≤ raster.n
@@ -24,18 +23,18 @@ pub record IsShort (at : ℕ) (bytes : List ℕ) : Type 0 where
   pub raster : slice_index bytes (1 - at) ≡ 0x2E → length bytes + at ≤ 7
 
 -- After the first `at` bytes come the numbers of a raster, and then its rows.
-pub record IsRaster (raster : RasterHead) (at : ℕ) (read : List ℕ → Heard) (bytes : List ℕ) : Type 0 where
+pub record IsRaster (raster : RasterHeader) (at : ℕ) (read : List ℕ → Heard) (bytes : List ℕ) : Type 0 where
   pub has : HasRows raster
   pub least : 8 ≤ length bytes + at
   pub escaped : slice_index bytes (1 - at) ≡ 0x2E
   pub reads : (more : List ℕ) → read (bytes ++ more) ≡ raster_rows raster (drop (8 - at) bytes ++ more)
 
 -- the bytes after the first `at` of a command are read as this
-abbrev pub IsRead : HeadState → ℕ → (List ℕ → Heard) → List ℕ → Type 0
-IsRead head.Part at read bytes = (read bytes ≡ Part) × IsShort at bytes
-IsRead (head.Whole command) at read bytes = read bytes ≡ One command [] (length (command_bytes command))
-IsRead (head.Rows raster) at read bytes = IsRaster raster at read bytes
-IsRead (head.Fault place cause) at read bytes = read bytes ≡ Wrong place cause
+abbrev pub IsRead : HeaderState → ℕ → (List ℕ → Heard) → List ℕ → Type 0
+IsRead header.Part at read bytes = (read bytes ≡ Part) × IsShort at bytes
+IsRead (header.Whole command) at read bytes = read bytes ≡ One command [] (length (command_bytes command))
+IsRead (header.Rows raster) at read bytes = IsRaster raster at read bytes
+IsRead (header.Fault place cause) at read bytes = read bytes ≡ Wrong place cause
 
 -- the bytes are read as this, where a command's length is to be `wanted`
 abbrev pub IsLength : LengthState → ℕ → List ℕ → Type 0

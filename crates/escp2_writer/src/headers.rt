@@ -4,12 +4,12 @@ ghost use Rattle.escp2_definitions.specs.Commands.{colour_code as colour_code_of
 ghost use Rattle.escp2_definitions.specs.Commands.{row_bytes as row_bytes_of, two_bytes};
 ghost use Rattle.std.specs.Prelude.{[], length, ◌%◌, ◌++◌, ◌/◌, ◌∷◌, ◌≡◌, ◌≤◌};
 
-use crate::{Command, RasterHead};
+use crate::{Command, RasterHeader};
 use arrayvec::ArrayVec;
 use weave_base::Ink;
 
 /// The bytes of a command without the rows of a raster.
-pub type HeadBytes = ArrayVec<u8, 9>;
+pub type HeaderBytes = ArrayVec<u8, 9>;
 
 const ESC: u8 = 0x1B;
 
@@ -32,20 +32,20 @@ fn two(n: u16) -> [u8; 2]
 }
 
 // A command of one byte.
-fn single(byte: u8) -> HeadBytes
+fn single(byte: u8) -> HeaderBytes
     ensures { result.items ≡ byte ∷ [] }
 {
-    let mut bytes = HeadBytes::new();
+    let mut bytes = HeaderBytes::new();
     bytes.push(byte);
     bytes
 }
 
 // `ESC`, a letter, and numbers.
-fn escaped(letter: u8, numbers: &[u8]) -> HeadBytes
+fn escaped(letter: u8, numbers: &[u8]) -> HeaderBytes
     requires { length numbers.now ≤ 6 }
     ensures items { result.items ≡ 0x1B ∷ letter ∷ numbers.now }
 {
-    let mut bytes = HeadBytes::new();
+    let mut bytes = HeaderBytes::new();
     bytes.push(ESC);
     bytes.push(letter);
     bytes.try_extend_from_slice(numbers).unwrap();
@@ -53,7 +53,7 @@ fn escaped(letter: u8, numbers: &[u8]) -> HeadBytes
 }
 
 // `ESC (`, a letter, the number of bytes that follow, and these.
-fn sized(letter: u8, numbers: &[u8]) -> HeadBytes
+fn sized(letter: u8, numbers: &[u8]) -> HeaderBytes
     requires { length numbers.now ≤ 4 }
     ensures { result.items ≡ 0x1B ∷ 0x28 ∷ letter ∷ length numbers.now ∷ 0 ∷ numbers.now }
 {
@@ -63,16 +63,16 @@ fn sized(letter: u8, numbers: &[u8]) -> HeadBytes
 }
 
 /// The bytes of one row of a raster.
-pub(crate) fn row_bytes(head: RasterHead) -> usize
-    ensures is { result ≡ row_bytes_of head }
+pub(crate) fn row_bytes(header: RasterHeader) -> usize
+    ensures is { result ≡ row_bytes_of header }
     ensures most { result ≤ 8192 }
 {
-    (usize::from(head.n) + 7) / 8
+    (usize::from(header.n) + 7) / 8
 }
 
 /// The bytes of a command (ESC/P Reference Manual, graphics commands), for a raster without its rows. This is the only
 /// place where commands are spelled.
-pub fn head_bytes(c: &Command) -> HeadBytes
+pub fn header_bytes(c: &Command) -> HeaderBytes
     ensures { result.items ≡ command_bytes c.now }
 {
     match *c {
@@ -94,7 +94,7 @@ pub fn head_bytes(c: &Command) -> HeadBytes
         Command::Eject => single(0x0C),
         Command::Colour { ink } => escaped(b'r', &[colour_code(ink)]),
         Command::Raster {
-            head: RasterHead { c, v, h, m, n },
+            header: RasterHeader { c, v, h, m, n },
         } => {
             let [low, high] = two(n);
             escaped(b'.', &[c, v, h, m, low, high])

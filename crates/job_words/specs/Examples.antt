@@ -1,0 +1,16 @@
+-- Jobs of command lines that give few keys.
+use Rattle.std.specs.Prelude.{None}
+use Rattle.diffusion_kernel.specs.declared.tables.Kernel.TheVariants.{Floyd}
+use Rattle.job_words.specs.declared.reading.Job.{Job}
+use Rattle.job_words.specs.declared.table.Verb.{Verb}
+
+-- the job of a command without keys
+abbrev pub plain_job : Verb → Job
+plain_job verb = record {
+  verb = verb;
+  profile_word = 0;
+  kernel = Floyd;
+  workers = 1;
+  cap = None;
+  most = 17179869184;
+}
