@@ -1,11 +1,9 @@
 -- Where no tile is taken, the first that is not posted is ready.
-use Rattle.std.proofs.Common.{◌≡◌, ◌⊎◌, ℕ, zero, suc, ◌*◌, ◌/◌, ◌%◌, ◌<◌, ◌≤◌, Bool, true, false, ap, arith, inl, inr, refl, sym, ◌∙◌}
+use Rattle.std.proofs.Common.{◌≡◌, ◌⊎◌, ℕ, zero, suc, ◌*◌, ◌<◌, ◌≤◌, Bool, true, false, arith, inl, inr, refl, sym, ◌∙◌}
 use Rattle.std.proofs.Common.{subst}
-use Rattle.std.proofs.Math.Nat.{div-lt_iff_lt-mul, div-mul-le_self, mod-eq-sub-div-mul, mod-lt}
-use Rattle.std.proofs.lemmas.Bool.{cases_eq, cases_lt}
+use Rattle.std.proofs.lemmas.Bool.{cases_eq}
 use Rattle.tile_shape.specs.Geometry.{IsTile, bands_of, columns_of}
 use Rattle.tile_shape.specs.declared.tiles.Place.{Place}
-use Rattle.tile_shape.specs.declared.tiles.Shape.{Shape}
 use Rattle.board_core.specs.declared.tiles.Status.{Status}
 use Rattle.board_core.specs.declared.tiles.Status.TheVariants.{Waiting, Taken, Posted}
 use Rattle.board_core.specs.Legal.{IsIdle, Legal}

@@ -1,5 +1,5 @@
 -- The fields of a core.
-use Rattle.std.specs.Prelude.{◌≡◌, ◌≢◌, ℕ, ◌<◌, ◌≤◌, length, slice_index_or}
+use Rattle.std.specs.Prelude.{◌≢◌, ℕ, ◌<◌, ◌≤◌, length, slice_index_or}
 use Rattle.board_core.specs.States.{CoreState, IsCore, fresh}
 use Rattle.board_core.specs.declared.scheduler.Core.TheInside.{Inside}
 use Rattle.board_core.specs.declared.tiles.Status.TheVariants.{Waiting}

@@ -2,7 +2,6 @@
 -- tile's dots, which no tile receives.
 use Rattle.std.specs.Prelude.{◌≡◌, ◌≢◌, ◌<◌, ℕ, zero, suc, ◌+◌, ◌-◌, ◌*◌, ◌/◌, ◌%◌, ◌&&◌, Bool, true, false, Option, Some, None, nat_lt}
 use Rattle.tile_shape.specs.Geometry.{bands_of, columns_of}
-use Rattle.tile_shape.specs.declared.tiles.Place.{Place}
 use Rattle.tile_shape.specs.declared.tiles.Shape.{Shape}
 
 -- `next t d` is the tile that receives the edge of tile t in the direction d, and `from t d` the tile that the edge in

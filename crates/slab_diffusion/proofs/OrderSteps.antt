@@ -168,7 +168,8 @@ next_ready s core t up tile =
       whole = λ lacks.
           let l = lacks.1 in
           false_true (sym l.unsent
-          ∙ (up.worked l.from l.gives.source (omega (arith, same, goes_on core.shape lacks.0 l.from t l.gives.source l.gives.goes))).gave lacks.0 t l.gives);
+          ∙ (up.worked l.from l.gives.source
+          (omega (arith, same, goes_on core.shape lacks.0 l.from t l.gives.source l.gives.goes))).gave lacks.0 t l.gives);
     }
 
 -- a tile with a smaller number stands before

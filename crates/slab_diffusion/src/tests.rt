@@ -3,12 +3,10 @@ ghost use Rattle.diffusion_definitions.specs.Diffusion.{InRange};
 ghost use Rattle.tile_border.specs.Tops.{IsTopOf};
 ghost use Rattle.std.specs.Prelude.{IfSome, length, ◌≡◌};
 
-mod definition;
-
 use crate::diffuse_slab;
-use definition::{Definition, amount_at};
 use diffusion_kernel::Kernel;
 use dot_planes::{InkRows, Planes};
+use plain_diffusion::{Above, Definition, Fill, amount_at};
 use row_diffusion::ErrorRows;
 use std::alloc::Global;
 use tile_border::{BottomEdge, TopEdges};
@@ -70,11 +68,14 @@ fn amounts(
         return None;
     };
     for i in 0..inks {
+        let fill = match all {
+            Some(amount) => Fill::All(amount),
+            None => Fill::Mixed(i),
+        };
         for y in 0..height {
             for x in 0..width {
                 if i < rows.inks() && y < rows.rows() && x < rows.width() {
-                    let mixed = amount_at(i, x, first.wrapping_add(y));
-                    rows.set(i, x, y, all.unwrap_or(mixed));
+                    rows.set(i, x, y, amount_at(fill, x, first.wrapping_add(y)));
                 }
             }
         }
@@ -151,7 +152,8 @@ fn wrong_in_slabs(alloc: Global, kernel: Kernel, width: u32, inks: u8) -> Option
     next_slab(alloc, kernel, top, 96, 39, &mut planes)?;
     let mut wrong = 0u32;
     for i in 0..inks {
-        let known = Definition::make(alloc, kernel, i, 0, width, 135)?;
+        let (fill, above) = (Fill::Mixed(i), Above::Edges(0));
+        let known = Definition::make(alloc, kernel, fill, above, width, 135)?;
         wrong = wrong.wrapping_add(wrong_dots(&planes, &known, i, 135));
     }
     Some(wrong)
@@ -329,7 +331,8 @@ fn wrong_below(alloc: Global, kernel: Kernel, error: i16, width: u32, height: u3
     let Ok(bottom) = diffuse_slab(alloc, &rows, kernel, top, &mut planes, ABOVE) else {
         return None;
     };
-    let known = Definition::make(alloc, kernel, 0, error, width, height)?;
+    let (fill, above) = (Fill::Mixed(0), Above::Edges(error));
+    let known = Definition::make(alloc, kernel, fill, above, width, height)?;
     let errors = wrong_errors(&bottom, &known, rows.width(), height.div_ceil(32));
     Some(errors.wrapping_add(wrong_dots(&planes, &known, 0, height)))
 }

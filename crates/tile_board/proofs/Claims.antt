@@ -16,7 +16,7 @@ use Rattle.board_steps.specs.Steps.{HasNeeds, IsReadyFor, index_of, KnewIn, Look
 use Rattle.board_steps.specs.declared.rule.Cell.{Cell}
 use Rattle.board_steps.specs.declared.rule.Slab.{Slab}
 use Rattle.board_steps.specs.declared.rule.View.{View}
-use Rattle.tile_board.specs.Board.{Gets, Kept, Lacks, LacksEdge, Refused}
+use Rattle.tile_board.specs.Board.{Gets, Kept, Lacks, LacksEdge, Refused, arrival}
 use Rattle.tile_board.specs.Hand.{hand_of, held_number}
 use Rattle.tile_board.specs.Slabs.{number_in, shape_of}
 use Rattle.tile_board.proofs.Numbers.{IsSource, above-source, corner-source, left-source, no-above, no-corner, no-left}
@@ -159,39 +159,28 @@ not-mine s v d p from bit source knew clear =
     let k : n ≤ bit = omega arith in
     omega arith
 
+-- a tile lacks the edge of a source that has not come
+lacks-from : (b : Slab) (v : View) (d : Dir) (t from : Place) (word : ℕ) → IsSource (shape_of b) d t from
+    → arrived (λ q. sends q (index_of d) v) ((graph_of (shape_of b)).from (number_in b t) (index_of d)) ≤ arrival d word
+    → arrival d word ≡ 0 → LacksEdge b v t word
+lacks-from b v d t from word source knew clear = record {
+  dir = d;
+  from = from;
+  tile = source.tile;
+  receiver = source.receiver;
+  clear = clear;
+  not_mine = not-mine (shape_of b) v d t from (arrival d word) source knew clear;
+}
+
 pub lacks-edge : (b : Slab) (v : View) (t : Place) (needs : Needs) (word : ℕ) → IsTile (shape_of b) t → NeedsOf (shape_of b) t needs
     → KnewIn (graph_of (shape_of b)) v (number_in b t) word → Lacks needs word → LacksEdge b v t word
 lacks-edge b v t needs word tile of knew (inl h) =
-    let source = left-source (shape_of b) t tile (of.left.0 h.0) in
-    record {
-      dir = Right;
-      from = _;
-      tile = source.tile;
-      receiver = source.receiver;
-      clear = h.1;
-      not_mine = not-mine (shape_of b) v Right t _ (word % 2) source knew.right h.1;
-    }
+    lacks-from b v Right t _ word (left-source (shape_of b) t tile (of.left.0 h.0)) knew.right h.1
 lacks-edge b v t needs word tile of knew (inr (inl h)) =
     let needed = of.above.0 h.0 in
-    let source = above-source (shape_of b) t tile needed.0 needed.1 in
-    record {
-      dir = Bottom;
-      from = _;
-      tile = source.tile;
-      receiver = source.receiver;
-      clear = h.1;
-      not_mine = not-mine (shape_of b) v Bottom t _ (word / 2 % 2) source knew.bottom h.1;
-    }
+    lacks-from b v Bottom t _ word (above-source (shape_of b) t tile needed.0 needed.1) knew.bottom h.1
 lacks-edge b v t needs word tile of knew (inr (inr h)) =
-    let source = corner-source (shape_of b) t tile (of.corner.0 h.0) in
-    record {
-      dir = Corner;
-      from = _;
-      tile = source.tile;
-      receiver = source.receiver;
-      clear = h.1;
-      not_mine = not-mine (shape_of b) v Corner t _ (word / 4 % 2) source knew.corner h.1;
-    }
+    lacks-from b v Corner t _ word (corner-source (shape_of b) t tile (of.corner.0 h.0)) knew.corner h.1
 
 abbrev pub NotReadyIs : Slab → View → Place → ℕ → View → Type 0
 NotReadyIs b v t word w = Refused b v t word w × (word / 8 % 2 ≡ 0) × LacksEdge b v t word

@@ -1,7 +1,5 @@
 -- The edges that a tile is handed are right.
 use Rattle.std.proofs.Common.{◌≡◌, ℕ, ℤ, pos, ◌+◌, ◌<◌, ◌≤◌, List, [], get_or, length, replicate, sym, ◌∙◌, ap, subst, arith}
-use Rattle.std.proofs.Common.{inl, inr}
-use Rattle.std.proofs.lemmas.Bool.{cases_lt}
 use Rattle.std.proofs.lemmas.List.{get_or-map, get_or-replicate, get_or_past, length-map, length-replicate}
 use Rattle.tile_shape.specs.Geometry.{IsReceiver, IsTile, columns_of}
 use Rattle.tile_shape.specs.declared.tiles.Dir.{Dir}
@@ -19,7 +17,6 @@ use Rattle.tile_content.specs.Content.{given}
 use Rattle.tile_content.specs.Tiles.{AreHanded, IsHandedTo}
 use Rattle.tile_content.proofs.Given.{given-inks, handed-ready}
 use Rattle.board_steps.specs.Content.{cell_of, content_of}
-use Rattle.board_core.specs.Numbers.{place_of}
 use Rattle.board_steps.specs.Rule.{setting_of}
 use Rattle.board_steps.specs.declared.rule.Slab.{Slab}
 use Rattle.tile_board.specs.Slabs.{amounts_of, number_in, shape_of, top_edges}
@@ -106,7 +103,8 @@ handed-top b p edge top first there is = record {
   };
 }
 
-pub handed-end : (b : Slab) (p : Place) (above room edge : List (List ℤ)) → IsTopOf (amounts_of b).width (amounts_of b).inks (top_edges b) → p.j ≡ 0
+pub handed-end : (b : Slab) (p : Place) (above room edge : List (List ℤ))
+    → IsTopOf (amounts_of b).width (amounts_of b).inks (top_edges b) → p.j ≡ 0
     → p.c < columns_of (shape_of b)
     → above ≡ get_or (top_edges b) p.c [] → length room ≡ (amounts_of b).inks → CutsEnds above room edge → Comes b Corner p edge
 handed-end b p above room edge top first inside is len cut = record {

@@ -1,10 +1,9 @@
 -- What a tile gives for what it is handed.
 use Rattle.std.specs.Prelude.{◌≡◌, ◌≢◌, ℕ, ℤ, List, [], length, slice_index_or}
-use Rattle.diffusion_definitions.specs.Diffusion.{Errors, Solves}
 use Rattle.diffusion_kernel.specs.Tables.{table_of}
 use Rattle.diffusion_kernel.specs.declared.tables.Kernel.{Kernel}
 use Rattle.dot_planes.specs.Tables.{AmountTable}
-use Rattle.tile_lanes.specs.Done.{IsDone, IsReady, plane_of}
+use Rattle.tile_lanes.specs.Done.{DiffusesInk, plane_of}
 use Rattle.tile_shape.specs.declared.tiles.Place.{Place}
 use Rattle.tile_border.specs.Inks.{errors_of}
 
@@ -22,14 +21,11 @@ pub record HasInks (inks : ℕ) (b : Border) : Type 0 where
   pub corner : length b.corner ≡ inks
   pub bits : length b.bits ≡ inks
 
--- For any errors that solve the rule, whatever stands above the window: where the edges handed in of an ink are right, so
--- are those handed on and the dots.
+-- one ink is diffused
 abbrev pub Works : Kernel → AmountTable → Place → ℕ → Border → Border → Type 0
 Works k rows p i old new =
-    (e : Errors) → Solves (table_of k) (plane_of rows i) e
-    → IsReady e p (errors_of old.side i) (errors_of old.band i) (errors_of old.corner i)
-    → IsDone (table_of k) (plane_of rows i) e p (errors_of new.side i) (errors_of new.band i) (errors_of new.corner i)
-    (slice_index_or new.bits i [])
+    DiffusesInk (table_of k) (plane_of rows i) p (errors_of old.side i) (errors_of old.band i) (errors_of old.corner i)
+    (errors_of new.side i) (errors_of new.band i) (errors_of new.corner i) (slice_index_or new.bits i [])
 
 -- one ink is the same in both
 pub record SameInk (i : ℕ) (old new : Border) : Type 0 where

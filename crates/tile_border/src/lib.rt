@@ -2,7 +2,7 @@
 //!
 //! - `RightEdge`, `BottomEdge`, `CornerEdge`: a list of errors for each ink, each error from -2040 to 2039. `zero` has
 //!   errors 0, `ink` gives the errors of an ink, `put` sets those of one ink and keeps all others, and `clear` sets all
-//!   to 0. `BottomEdge::ends` are the last six errors of an ink's two rows, and `cut_ends` puts them into a corner edge.
+//!   to 0. `BottomEdge::ends` are the last six errors of an ink's two rows, and `cut_ends` puts them in a corner edge.
 //! - `TopEdges`: a bottom edge for each column of tiles. `zero`, `at`, `put` and `swap` make, give, set and exchange
 //!   them.
 //! - `work`: take any errors that solve the rule for an ink. Where the three edges of the task hold these errors, so do

@@ -1,6 +1,6 @@
 -- One ink of a tile: what it is diffused from, and what it gives.
 use Rattle.std.specs.Prelude.{ℕ, ℤ, ◌≡◌, ◌+◌, ◌*◌, ◌<◌, false, List}
-use Rattle.diffusion_definitions.specs.Diffusion.{Errors, Plane, Table, on}
+use Rattle.diffusion_definitions.specs.Diffusion.{Errors, Plane, Solves, Table, on}
 use Rattle.dot_planes.specs.Tables.{AmountTable, amount, row_dot}
 use Rattle.tile_shape.specs.Geometry.{IsAt}
 use Rattle.tile_shape.specs.declared.tiles.Place.{Place}
@@ -33,3 +33,9 @@ pub record IsDone (k : Table) (p : Plane) (e : Errors) (place : Place) (right bo
   pub has_bottom : IsBottom e place bottom
   pub has_corner : IsLowerCorner e place corner
   pub has_dots : HasDots k p e place dots
+
+-- One ink of a tile is diffused. For any errors that solve the rule, whatever stands above the window: where the edges
+-- handed in are right, so are those handed on and the dots.
+abbrev pub DiffusesInk : Table → Plane → Place → (left above corner right bottom lower_corner : List ℤ) → List ℕ → Type 0
+DiffusesInk k p place left above corner right bottom lower_corner dots =
+    (e : Errors) → Solves k p e → IsReady e place left above corner → IsDone k p e place right bottom lower_corner dots

@@ -4,7 +4,7 @@
 ghost use Rattle.diffusion_definitions.specs.Diffusion.{EachInRange, Errors, Solves};
 ghost use Rattle.diffusion_kernel.specs.Tables.{table_of};
 ghost use Rattle.std.specs.Prelude.{true, ◌<◌, ◌≡◌, ◌≤◌};
-ghost use Rattle.tile_lanes.specs.Done.{IsDone, IsReady, plane_of};
+ghost use Rattle.tile_lanes.specs.Done.{DiffusesInk, plane_of};
 ghost use Rattle.tile_lanes.specs.Held.{HeldInRange};
 ghost use Rattle.tile_lanes.specs.Lanes.{HasBits, IsCleared, IsFilled, IsWhole};
 
@@ -105,9 +105,8 @@ pub(crate) fn diffuse_lanes(
     ensures side_fits { EachInRange side.new }
     ensures band_fits { EachInRange band.new }
     ensures corner_fits { EachInRange corner.new }
-    ensures done { (e : Errors) → Solves (table_of kernel) (plane_of rows.now ink) e
-        → IsReady e place side.old band.old corner.old
-        → IsDone (table_of kernel) (plane_of rows.now ink) e place side.new band.new corner.new bits.new }
+    ensures done { DiffusesInk (table_of kernel) (plane_of rows.now ink) place
+        side.old band.old corner.old side.new band.new corner.new bits.new }
 {
     let mut field = [0u16; 3502];
     put_above(&mut field, band);

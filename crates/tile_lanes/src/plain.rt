@@ -1,8 +1,8 @@
 //! A tile row by row, as the rule is defined.
-ghost use Rattle.diffusion_definitions.specs.Diffusion.{EachInRange, Errors, Solves};
+ghost use Rattle.diffusion_definitions.specs.Diffusion.{EachInRange};
 ghost use Rattle.diffusion_kernel.specs.Tables.{table_of};
 ghost use Rattle.std.specs.Prelude.{◌<◌};
-ghost use Rattle.tile_lanes.specs.Done.{IsDone, IsReady, plane_of, window_of};
+ghost use Rattle.tile_lanes.specs.Done.{DiffusesInk, plane_of, window_of};
 ghost use Rattle.tile_shape.specs.Geometry.{IsTile};
 
 mod edges;
@@ -35,9 +35,8 @@ pub fn diffuse_tile_plainly(
     ensures side_fits { EachInRange side.new }
     ensures band_fits { EachInRange band.new }
     ensures corner_fits { EachInRange corner.new }
-    ensures done { (e : Errors) → Solves (table_of kernel) (plane_of rows.now ink) e
-        → IsReady e place side.old band.old corner.old
-        → IsDone (table_of kernel) (plane_of rows.now ink) e place side.new band.new corner.new dots.new }
+    ensures done { DiffusesInk (table_of kernel) (plane_of rows.now ink) place
+        side.old band.old corner.old side.new band.new corner.new dots.new }
 {
     let mut field = [0i16; 2380];
     put_left(&mut field, side);

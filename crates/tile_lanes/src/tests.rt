@@ -4,12 +4,10 @@ ghost use Rattle.std.specs.Prelude.{true, ◌<◌, ◌≡◌};
 ghost use Rattle.tile_lanes.specs.Done.{window_of};
 ghost use Rattle.tile_shape.specs.Geometry.{IsTile};
 
-mod definition;
-
 use crate::{diffuse_tile, diffuse_tile_plainly};
-use definition::{Definition, Fill, amount_at};
 use diffusion_kernel::Kernel;
 use dot_planes::InkRows;
+use plain_diffusion::{Above, Definition, Fill, amount_at};
 use std::alloc::Global;
 use tile_shape::Place;
 
@@ -160,15 +158,23 @@ fn is_tile(rows: &InkRows, place: Place) -> bool
         && rows.inks() > 0
 }
 
-// Whether a tile hands on what the definition says, by both bodies.
-fn is_right(known: &Definition, kernel: Kernel, place: Place, rows: &InkRows) -> bool {
-    if !is_tile(rows, place) {
-        return false;
-    }
-    let mut edges = handed(known, place);
+// What a tile gives for what it is handed.
+#[derive(Clone, Copy, PartialEq, Eq)]
+struct Given {
+    edges: Edges,
+    dots: [u8; 256],
+}
+
+// A tile by the lanes.
+fn by_lanes(kernel: Kernel, place: Place, rows: &InkRows, handed: Edges) -> Given
+    requires tile { IsTile (window_of rows.now) place }
+    requires ink { 0 < rows.now.inks }
+    requires side { EachInRange handed.side }
+    requires band { EachInRange handed.band }
+    requires corner { EachInRange handed.corner }
+{
+    let mut edges = handed;
     let mut dots = [255u8; 256];
-    let mut plain_edges = edges;
-    let mut plain_dots = [0u8; 256];
     diffuse_tile(
         kernel,
         place,
@@ -179,29 +185,51 @@ fn is_right(known: &Definition, kernel: Kernel, place: Place, rows: &InkRows) ->
         &mut edges.corner,
         &mut dots,
     );
+    Given { edges, dots }
+}
+
+// A tile by the plain program.
+fn plainly(kernel: Kernel, place: Place, rows: &InkRows, handed: Edges) -> Given
+    requires tile { IsTile (window_of rows.now) place }
+    requires ink { 0 < rows.now.inks }
+    requires side { EachInRange handed.side }
+    requires band { EachInRange handed.band }
+    requires corner { EachInRange handed.corner }
+{
+    let mut edges = handed;
+    let mut dots = [0u8; 256];
     diffuse_tile_plainly(
         kernel,
         place,
         rows,
         0,
-        &mut plain_edges.side,
-        &mut plain_edges.band,
-        &mut plain_edges.corner,
-        &mut plain_dots,
+        &mut edges.side,
+        &mut edges.band,
+        &mut edges.corner,
+        &mut dots,
     );
-    is_block(known, place, RIGHT, &edges.side)
-        && is_block(known, place, BOTTOM, &edges.band)
-        && is_block(known, place, LOWER_CORNER, &edges.corner)
-        && has_dots(known, place, &dots)
-        && edges == plain_edges
-        && dots == plain_dots
+    Given { edges, dots }
+}
+
+// Whether a tile hands on what the definition says, by both bodies.
+fn is_right(known: &Definition, kernel: Kernel, place: Place, rows: &InkRows) -> bool {
+    if !is_tile(rows, place) {
+        return false;
+    }
+    let edges = handed(known, place);
+    let given = by_lanes(kernel, place, rows, edges);
+    is_block(known, place, RIGHT, &given.edges.side)
+        && is_block(known, place, BOTTOM, &given.edges.band)
+        && is_block(known, place, LOWER_CORNER, &given.edges.corner)
+        && has_dots(known, place, &given.dots)
+        && given == plainly(kernel, place, rows, edges)
 }
 
 fn set_amounts(rows: &mut InkRows, fill: Fill) {
     for y in 0..rows.rows() {
         for x in 0..rows.width() {
             if x < rows.width() && y < rows.rows() && rows.inks() > 0 {
-                rows.set(0, x, y, amount_at(fill, i64::from(x), i64::from(y)));
+                rows.set(0, x, y, amount_at(fill, x, y));
             }
         }
     }
@@ -212,7 +240,7 @@ fn wrong_tiles(alloc: Global, kernel: Kernel, fill: Fill, width: u32, height: u3
     if width < 1 || width > 200 || height < 1 || height > 70 {
         return None;
     }
-    let known = Definition::make(alloc, kernel, fill, width, height)?;
+    let known = Definition::make(alloc, kernel, fill, Above::Mixed, width, height)?;
     let Ok(mut rows) = InkRows::make(alloc, width, height, 1) else {
         return None;
     };
@@ -233,7 +261,7 @@ fn tiles_of_every_cut_have_the_errors_and_dots_of_the_rule(rt: HostRuntime) {
     for kernel in [Kernel::Floyd, Kernel::Jarvis, Kernel::Stucki] {
         for width in [1, 2, 63, 64, 65, 130, 200] {
             for height in [1, 31, 32, 33, 70] {
-                let wrong = wrong_tiles(rt.alloc(), kernel, Fill::Mixed, width, height);
+                let wrong = wrong_tiles(rt.alloc(), kernel, Fill::Mixed(0), width, height);
                 assert_eq!(rt; wrong, Some(0), "{kernel:?} at {width} by {height}");
             }
         }
@@ -259,30 +287,7 @@ fn agree(kernel: Kernel, place: Place, rows: &InkRows, error: i32) -> bool {
     fill_all(&mut edges.side, error);
     fill_all(&mut edges.band, error);
     fill_all(&mut edges.corner, error);
-    let mut plain = edges;
-    let mut dots = [255u8; 256];
-    let mut plain_dots = [0u8; 256];
-    diffuse_tile(
-        kernel,
-        place,
-        rows,
-        0,
-        &mut edges.side,
-        &mut edges.band,
-        &mut edges.corner,
-        &mut dots,
-    );
-    diffuse_tile_plainly(
-        kernel,
-        place,
-        rows,
-        0,
-        &mut plain.side,
-        &mut plain.band,
-        &mut plain.corner,
-        &mut plain_dots,
-    );
-    edges == plain && dots == plain_dots
+    by_lanes(kernel, place, rows, edges) == plainly(kernel, place, rows, edges)
 }
 
 #[test]
@@ -291,7 +296,7 @@ fn the_least_and_greatest_errors_give_one_answer(rt: HostRuntime) {
         assert!(rt; false);
         return;
     };
-    for fill in [Fill::Mixed, Fill::All(0), Fill::All(255)] {
+    for fill in [Fill::Mixed(0), Fill::All(0), Fill::All(255)] {
         set_amounts(&mut rows, fill);
         for kernel in [Kernel::Floyd, Kernel::Jarvis, Kernel::Stucki] {
             for (c, j, error) in [
@@ -318,19 +323,8 @@ fn four_halves_give_every_other_dot(rt: HostRuntime) {
     set_amounts(&mut rows, Fill::All(128));
     let place = Place { c: 0, j: 0 };
     assert!(rt; is_tile(&rows, place));
-    let mut edges = no_edges();
-    let mut dots = [255u8; 256];
-    diffuse_tile(
-        Kernel::Floyd,
-        place,
-        &rows,
-        0,
-        &mut edges.side,
-        &mut edges.band,
-        &mut edges.corner,
-        &mut dots,
-    );
+    let given = by_lanes(Kernel::Floyd, place, &rows, no_edges());
     let mut want = [0u8; 256];
     want[0] = 0xA0;
-    assert!(rt; dots == want);
+    assert!(rt; given.dots == want);
 }

@@ -1,8 +1,8 @@
 //! A tile by any kernel.
-ghost use Rattle.diffusion_definitions.specs.Diffusion.{EachInRange, Errors, Solves};
+ghost use Rattle.diffusion_definitions.specs.Diffusion.{EachInRange};
 ghost use Rattle.diffusion_kernel.specs.Tables.{table_of};
 ghost use Rattle.std.specs.Prelude.{◌<◌};
-ghost use Rattle.tile_lanes.specs.Done.{IsDone, IsReady, plane_of, window_of};
+ghost use Rattle.tile_lanes.specs.Done.{DiffusesInk, plane_of, window_of};
 ghost use Rattle.tile_shape.specs.Geometry.{IsTile};
 
 use crate::lanes::diffuse_lanes;
@@ -37,11 +37,8 @@ pub fn diffuse_tile(
     ensures side_fits { EachInRange side.new }
     ensures band_fits { EachInRange band.new }
     ensures corner_fits { EachInRange corner.new }
-
-    // For any errors that solve the rule, whatever those above the window are.
-    ensures done { (e : Errors) → Solves (table_of kernel) (plane_of rows.now ink) e
-        → IsReady e place side.old band.old corner.old
-        → IsDone (table_of kernel) (plane_of rows.now ink) e place side.new band.new corner.new dots.new }
+    ensures done { DiffusesInk (table_of kernel) (plane_of rows.now ink) place
+        side.old band.old corner.old side.new band.new corner.new dots.new }
 {
     // A call for each kernel: its shares are constants there.
     match kernel {

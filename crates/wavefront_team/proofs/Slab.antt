@@ -17,7 +17,7 @@ use Rattle.slab_diffusion.specs.Slabs.{AreSlabErrors, DiffusesSlab}
 use Rattle.tile_board.specs.Closing.{Closes}
 use Rattle.tile_board.specs.Slabs.{amounts_of, number_in, shape_of, top_edges}
 use Rattle.tile_board.specs.declared.kinds.Closed.{Closed}
-use Rattle.tile_border.specs.Tops.{IsTopOf, edges_of}
+use Rattle.tile_border.specs.Tops.{edges_of}
 use Rattle.tile_content.specs.Content.{errors_below}
 use Rattle.tile_edges.specs.Tops.{top_of}
 use Rattle.tile_lanes.specs.Done.{plane_of, window_of}

@@ -1,4 +1,4 @@
-use Rattle.std.proofs.Common.{◌≡◌, ◌*◌, ◌<◌, ℕ, subst, ap, arith, refl, ◌∙◌}
+use Rattle.std.proofs.Common.{◌≡◌, ◌*◌, ◌<◌, subst, ap, arith, refl, ◌∙◌}
 use Rattle.tile_shape.specs.Geometry.{bands_of, columns_of}
 use Rattle.board_core.specs.Numbers.{number_of}
 use Rattle.board_core.specs.States.{CoreState}
