@@ -1,5 +1,5 @@
 //! The command `list`.
-use crate::fixture::{run_on, sink};
+use crate::fixture::runs_to;
 use known_jobs::TINY_JOB;
 use std::test::Fail;
 
@@ -11,9 +11,15 @@ const LISTING: &str =
 #[test]
 fn list_gives_seventeen_lines(rt: HostRuntime) -> Result<(), Fail> {
     let alloc = rt.alloc();
-    let left = run_on(&rt, alloc, &["list"], &TINY_JOB, (7, 0), sink(alloc, 4096)?)?;
-    left.is(&rt, 0, LISTING.as_bytes(), "");
-    Ok(())
+    runs_to(
+        &rt,
+        alloc,
+        &["list"],
+        &TINY_JOB,
+        (7, 0),
+        4096,
+        (0, LISTING.as_bytes(), b""),
+    )
 }
 
 #[test]
@@ -39,8 +45,8 @@ fn list_names_each_reader_fault(rt: HostRuntime) -> Result<(), Fail> {
         ),
     ];
     for (job, most, listed, line) in cases {
-        let left = run_on(&rt, alloc, &["list", most], job, (3, 0), sink(alloc, 4096)?)?;
-        left.is(&rt, 8, listed.as_bytes(), line);
+        let wanted = (8, listed.as_bytes(), line.as_bytes());
+        runs_to(&rt, alloc, &["list", most], job, (3, 0), 4096, wanted)?;
     }
     Ok(())
 }
@@ -48,24 +54,36 @@ fn list_names_each_reader_fault(rt: HostRuntime) -> Result<(), Fail> {
 #[test]
 fn a_failed_read_and_a_full_sink_leave_what_was_listed(rt: HostRuntime) -> Result<(), Fail> {
     let alloc = rt.alloc();
-    let read = run_on(&rt, alloc, &["list"], &TINY_JOB, (1, 9), sink(alloc, 4096)?)?;
-    read.is(&rt, 4, &LISTING.as_bytes()[..18], "read failed\n");
-    let full = run_on(&rt, alloc, &["list"], &TINY_JOB, (92, 0), sink(alloc, 30)?)?;
-    full.is(&rt, 5, &LISTING.as_bytes()[..30], "write failed: page 0\n");
-    Ok(())
+    runs_to(
+        &rt,
+        alloc,
+        &["list"],
+        &TINY_JOB,
+        (1, 9),
+        4096,
+        (4, &LISTING.as_bytes()[..18], b"read failed\n"),
+    )?;
+    runs_to(
+        &rt,
+        alloc,
+        &["list"],
+        &TINY_JOB,
+        (92, 0),
+        30,
+        (5, &LISTING.as_bytes()[..30], b"write failed: page 0\n"),
+    )
 }
 
 #[test]
 fn list_takes_no_profile(rt: HostRuntime) -> Result<(), Fail> {
     let alloc = rt.alloc();
-    let left = run_on(
+    runs_to(
         &rt,
         alloc,
         &["list", "profile=tiny"],
         &TINY_JOB,
         (92, 0),
-        sink(alloc, 64)?,
-    )?;
-    left.is(&rt, 1, &[], "usage: word 2: UnknownKey\n");
-    Ok(())
+        64,
+        (1, b"", b"usage: word 2: UnknownKey\n"),
+    )
 }

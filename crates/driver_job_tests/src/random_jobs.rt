@@ -1,5 +1,5 @@
 //! Pseudo-random jobs, whole, cut and with a byte changed: the driver answers as the slow programs do.
-use crate::fixture::{run_on, sink};
+use crate::fixture::runs_to;
 use crate::plain_machine::Machine;
 use crate::plain_reader::{Name, Said, Stop, Unread};
 use crate::random::{Random, random_job};
@@ -30,9 +30,8 @@ impl Outcome {
             None => (0, String::new(alloc)),
         };
         assert!(rt; words.len() <= 2);
-        let left = run_on(rt, alloc, words, job, (piece, 0), sink(alloc, 70_000)?)?;
-        left.is(rt, status, self.out.as_slice(), line.as_str());
-        Ok(())
+        let wanted = (status, self.out.as_slice(), line.as_bytes());
+        runs_to(rt, alloc, words, job, (piece, 0), 70_000, wanted)
     }
 }
 
