@@ -1,13 +1,12 @@
 -- What greys and colours give to each ink.
-use Rattle.std.proofs.Common.{◌≡◌, ℕ, ◌+◌, inl, inr, min, ◌-◌, ◌*◌, ◌/◌, ◌<◌, ◌≤◌, List, get_or, sym, ◌∙◌, ap, arith}
+use Rattle.std.proofs.Common.{◌≡◌, ℕ, ◌+◌, inl, inr, min, ◌-◌, ◌*◌, ◌<◌, ◌≤◌, List, get_or, sym, ◌∙◌, ap, arith}
 use Rattle.std.proofs.lemmas.Bool.{cases_lt}
-use Rattle.std.proofs.lemmas.Bool.Decides.{nat_tests}
 use Rattle.printer_definitions.specs.declared.inks.Ink.{Ink}
 use Rattle.printer_definitions.specs.declared.inks.Ink.TheVariants.{Black, Cyan, Magenta, Yellow}
 use Rattle.printer_definitions.specs.declared.inks.InkSet.{InkSet}
 use Rattle.printer_definitions.specs.declared.inks.InkSet.TheVariants.{Cmyk}
 use Rattle.separation_definitions.specs.Amounts.{Colour, colour_ink, common_darkness, complement, four_inks, grey_ink, moved_to_black}
-use Rattle.ink_separation.specs.Given.{IsBlackTable, colour_at, given_to}
+use Rattle.ink_separation.specs.Given.{colour_at, given_to}
 use Rattle.ink_separation.specs.declared.given.Given.{Given}
 
 -- a grey in a set with black gives nothing to the colours
@@ -19,13 +18,6 @@ grey_beside_black inks dark none is zeros Black x low = ap (λ set. grey_ink set
 grey_beside_black inks dark none is zeros Cyan x low = zeros x low ∙ ap (λ set. grey_ink set Cyan (get_or dark x 0)) (sym is)
 grey_beside_black inks dark none is zeros Magenta x low = zeros x low ∙ ap (λ set. grey_ink set Magenta (get_or dark x 0)) (sym is)
 grey_beside_black inks dark none is zeros Yellow x low = zeros x low ∙ ap (λ set. grey_ink set Yellow (get_or dark x 0)) (sym is)
-
--- no darkness below the least goes to black
-pub moved_below : (least q : ℕ) → q < least → 0 ≡ moved_to_black least q
-moved_below least q below = grind (arith, nat_tests)
-
-pub moved_from : (least q : ℕ) → least ≤ q → (q - least) * 255 / (255 - least) ≡ moved_to_black least q
-moved_from least q above = grind (arith, nat_tests)
 
 -- the complements, for each ink
 pub complements_are : (pixels none cyan magenta yellow : List ℕ) (many : ℕ) → many ≤ 64 → ((x : ℕ) → x < 64 → get_or none x 0 ≡ 0)
@@ -59,16 +51,16 @@ complement_is pixels first others values many colour left right low high few x i
 ]
 
 -- black generation
-pub black_is_moved : (inks : InkSet) (least many : ℕ) (pixels table common : List ℕ) (wanted given : Given)
-    → inks ≡ Cmyk → IsBlackTable least table → many ≤ 64
+pub black_is_moved : (inks : InkSet) (least many : ℕ) (pixels common : List ℕ) (wanted given : Given)
+    → inks ≡ Cmyk → many ≤ 64
     → ((ink : Ink) (x : ℕ) → x < many → get_or (given_to wanted ink) x 0 ≡ complement (colour_at pixels x) ink)
     → ((x : ℕ) → x < 64 → get_or common x 0 ≡ min (min (get_or wanted.cyan x 0) (get_or wanted.magenta x 0)) (get_or wanted.yellow x 0))
-    → ((x : ℕ) → x < 64 → get_or given.black x 0 ≡ get_or table (get_or common x 0) 0)
+    → ((x : ℕ) → x < 64 → get_or given.black x 0 ≡ moved_to_black least (get_or common x 0))
     → ((x : ℕ) → x < 64 → get_or given.cyan x 0 ≡ get_or wanted.cyan x 0 - get_or given.black x 0)
     → ((x : ℕ) → x < 64 → get_or given.magenta x 0 ≡ get_or wanted.magenta x 0 - get_or given.black x 0)
     → ((x : ℕ) → x < 64 → get_or given.yellow x 0 ≡ get_or wanted.yellow x 0 - get_or given.black x 0)
     → (ink : Ink) (x : ℕ) → x < many → get_or (given_to given ink) x 0 ≡ colour_ink inks least (colour_at pixels x) ink
-black_is_moved inks least many pixels table common wanted given is moved few wants commons black cyan magenta yellow ink x inside =
+black_is_moved inks least many pixels common wanted given is few wants commons black cyan magenta yellow ink x inside =
     let colour : Colour = colour_at pixels x in
     let low : x < 64 = omega arith in
     let lacks : (i : Ink) → get_or (given_to wanted i) x 0 ≡ complement colour i = λ i. wants i x inside in
@@ -76,9 +68,8 @@ black_is_moved inks least many pixels table common wanted given is moved few wan
     commons x low ∙ ap (λ n. min (min n (get_or wanted.magenta x 0)) (get_or wanted.yellow x 0)) (lacks Cyan)
     ∙ ap (λ n. min (min (complement colour Cyan) n) (get_or wanted.yellow x 0)) (lacks Magenta)
     ∙ ap (λ n. min (min (complement colour Cyan) (complement colour Magenta)) n) (lacks Yellow) in
-    let byte : common_darkness colour < 256 = omega arith in
     let k : get_or given.black x 0 ≡ moved_to_black least (common_darkness colour) =
-    black x low ∙ ap (λ n. get_or table n 0) q ∙ moved.at (common_darkness colour) byte in
+    black x low ∙ ap (moved_to_black least) q in
     let rest : (value : ℕ) (i : Ink) → value ≡ get_or (given_to wanted i) x 0 - get_or given.black x 0
     → value ≡ complement colour i - moved_to_black least (common_darkness colour) =
     λ value i e. e ∙ ap (λ n. n - get_or given.black x 0) (lacks i) ∙ ap (λ n. complement colour i - n) k in

@@ -3,3 +3,4 @@ pub mod Inks
 pub mod Chunks
 pub mod Riffles
 pub mod Columns
+pub mod Scales

@@ -5,16 +5,12 @@ use Rattle.printer_definitions.specs.declared.inks.Ink.TheVariants.{Black, Cyan,
 use Rattle.printer_definitions.specs.Printer.{Printer}
 use Rattle.pwg_definitions.specs.declared.pages.Kind.{Kind}
 use Rattle.pwg_definitions.specs.declared.pages.Kind.TheVariants.{Rgb8}
-use Rattle.separation_definitions.specs.Amounts.{Colour, colour_of, moved_to_black, pixel_at, pixel_ink}
+use Rattle.separation_definitions.specs.Amounts.{Colour, colour_of, pixel_at, pixel_ink}
 use Rattle.ink_separation.specs.declared.given.Given.{Given}
 
 -- the colour of a pixel of red, green and blue
 abbrev pub colour_at : List ℕ → ℕ → Colour
 colour_at pixels x = colour_of (pixel_at Rgb8 pixels x)
-
--- the part of each shared darkness that black takes over
-pub record IsBlackTable (least : ℕ) (table : List ℕ) : Type 0 where
-  pub at : (q : ℕ) → q < 256 → slice_index table q ≡ moved_to_black least q
 
 -- what is given to an ink
 abbrev pub given_to : Given → Ink → List ℕ

@@ -1,24 +1,22 @@
 //! Black generation.
-ghost use Rattle.ink_separation.specs.Given.{IsBlackTable};
 ghost use Rattle.printer_profile.specs.Validity.{check};
+ghost use Rattle.separation_definitions.specs.Amounts.{moved_to_black};
 ghost use Rattle.std.specs.Prelude.{IsOk, slice_index, ℕ, ◌<◌, ◌≡◌};
 
 use crate::pixels::{PIXELS, Values};
 use printer_profile::Profile;
 use std::marker::Model;
 
-/// The part of each shared darkness that black takes over.
-pub(crate) type Moved = [u8; 256];
-
 /// The black generation of a profile, worked out once for many lines. Contracts see the least darkness from which
 /// black takes over.
 #[derive(Drop)]
-pub struct BlackTable {
+pub struct BlackScale {
     least: u8,
-    moved: Moved,
+    // What black takes over for each step above the least darkness, in parts of 2^24, rounded up.
+    scale: u32,
 }
 
-impl Model for BlackTable {
+impl Model for BlackScale {
     ghost use Rattle.std.specs.Prelude.{ℕ};
 
     ghost Value = { ℕ };
@@ -30,47 +28,29 @@ impl Model for BlackTable {
     ghost invariant = { IsMade };
 }
 
-impl BlackTable {
-    /// The table of a profile.
-    pub fn make(p: &Profile) -> BlackTable
+impl BlackScale {
+    /// That of a profile.
+    pub fn make(p: &Profile) -> BlackScale
         requires { IsOk (check p.now) }
         ensures { result ≡ p.now.black_start }
     {
-        BlackTable {
-            least: p.black_start,
-            moved: moved_from(p.black_start),
+        let least = p.black_start;
+        BlackScale {
+            least,
+            scale: 255 * (1 << 24) / (255 - u32::from(least)) + 1,
         }
     }
 
-    /// The part of each shared darkness that black takes over.
-    pub(crate) fn moved(&self) -> &Moved
-        ensures { IsBlackTable self.now result.now }
+    /// What black takes over of each shared darkness.
+    #[inline(always)]
+    pub(crate) fn black_of(&self, common: &Values) -> Values
+        ensures { (x : ℕ) → x < 64 → slice_index result x ≡ moved_to_black self.now (slice_index common.now x) }
     {
-        &self.moved
+        let mut black = [0; PIXELS];
+        for x in 0..PIXELS {
+            let above = u32::from(common[x].saturating_sub(self.least));
+            black[x] = (above * self.scale >> 24) as u8;
+        }
+        black
     }
-}
-
-// The table for a least darkness.
-fn moved_from(least: u8) -> Moved
-    requires { least < 255 }
-    ensures { IsBlackTable least result }
-{
-    let start = u32::from(least);
-    let mut table = [0; 256];
-    for q in start..256 {
-        table[q as usize] = ((q - start) * 255 / (255 - start)) as u8;
-    }
-    table
-}
-
-/// What black takes over at each pixel.
-#[inline(always)]
-pub(crate) fn black_of(table: &Moved, common: &Values) -> Values
-    ensures { (x : ℕ) → x < 64 → slice_index result x ≡ slice_index table.now (slice_index common.now x) }
-{
-    let mut black = [0; PIXELS];
-    for x in 0..PIXELS {
-        black[x] = table[usize::from(common[x])];
-    }
-    black
 }

@@ -1,12 +1,12 @@
 //! What pixels give to each ink, before the inks' limits.
-ghost use Rattle.ink_separation.specs.Given.{IsBlackTable, IsGiven, colour_at, given_to};
+ghost use Rattle.ink_separation.specs.Given.{IsGiven, colour_at, given_to};
 ghost use Rattle.printer_definitions.specs.declared.inks.Ink.{Ink};
 ghost use Rattle.printer_profile.specs.Profiles.{printer_of};
 ghost use Rattle.pwg_definitions.specs.Header.{row_of};
 ghost use Rattle.separation_definitions.specs.Amounts.{colour_ink, complement as complement_of, grey_ink};
 ghost use Rattle.std.specs.Prelude.{length, slice_index, ℕ, ◌*◌, ◌<◌, ◌≡◌, ◌≤◌};
 
-use crate::black::{Moved, black_of};
+use crate::black::BlackScale;
 use crate::colours::{colours_of, complement};
 use crate::pixels::{PIXELS, Values, darkness_of, inverted, least_of, less, same};
 use printer_definitions::Ink;
@@ -23,18 +23,24 @@ pub(crate) struct Given {
 }
 
 impl Given {
-    /// What the first `many` pixels with these bytes give. The table is that of the profile's `black_start`.
+    /// What the first `many` pixels with these bytes give.
     #[inline(always)]
-    pub(crate) fn make(p: &Profile, kind: Kind, pixels: &[u8], many: usize, table: &Moved) -> Given
+    pub(crate) fn make(
+        p: &Profile,
+        kind: Kind,
+        pixels: &[u8],
+        many: usize,
+        black: &BlackScale,
+    ) -> Given
+        requires black { black.now ≡ p.now.black_start }
         requires many { many ≤ 64 }
         requires pixels { many * (row_of kind).unit ≤ length pixels.now }
-        requires table { IsBlackTable p.now.black_start table.now }
         ensures { IsGiven (printer_of p.now) kind pixels.now many result }
     {
         match kind {
             Kind::Gray8 => grey_given(p.inks, inverted(pixels, many)),
             Kind::Black8 => grey_given(p.inks, same(pixels, many)),
-            Kind::Rgb8 => colour_given(p.inks, table, pixels, many),
+            Kind::Rgb8 => colour_given(p.inks, black, pixels, many),
         }
     }
 
@@ -76,10 +82,10 @@ fn grey_given(inks: InkSet, dark: Values) -> Given
 
 // What the first `many` pixels of red, green and blue give.
 #[inline(always)]
-fn colour_given(inks: InkSet, table: &Moved, pixels: &[u8], many: usize) -> Given
+fn colour_given(inks: InkSet, black: &BlackScale, pixels: &[u8], many: usize) -> Given
     requires many { many ≤ 64 }
     requires pixels { 3 * many ≤ length pixels.now }
-    ensures { (least : ℕ) → IsBlackTable least table.now → (ink : Ink) (x : ℕ) → x < many
+    ensures { (least : ℕ) → black.now ≡ least → (ink : Ink) (x : ℕ) → x < many
         → slice_index (given_to result ink) x ≡ colour_ink inks least (colour_at pixels.now x) ink }
 {
     match inks {
@@ -88,7 +94,7 @@ fn colour_given(inks: InkSet, table: &Moved, pixels: &[u8], many: usize) -> Give
         InkSet::Cmyk => {
             let wanted = complements_given(pixels, many);
             let common = least_of(&wanted.cyan, &wanted.magenta, &wanted.yellow);
-            let black = black_of(table, &common);
+            let black = black.black_of(&common);
             Given {
                 black,
                 cyan: less(&wanted.cyan, &black),

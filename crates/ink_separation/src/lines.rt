@@ -13,7 +13,7 @@ ghost use Rattle.separation_definitions.specs.Amounts.{amount as amount_of, pixe
 ghost use Rattle.std.specs.Prelude.{IsOk, Some, length, slice_get, slice_index, ℕ, ◌*◌, ◌+◌, ◌/◌};
 ghost use Rattle.std.specs.Prelude.{◌<◌, ◌≡◌, ◌≢◌, ◌≤◌, ◌⊎◌};
 
-use crate::black::BlackTable;
+use crate::black::BlackScale;
 use crate::given::Given;
 use crate::limits::limited;
 use crate::pixels::PIXELS;
@@ -37,13 +37,13 @@ pub fn amounts(p: &Profile, kind: Kind, line: &[u8], w: Window, at: u32, out: &m
     requires at { at < out.old.rows }
     ensures { Separates (printer_of p.now) kind line.now w at out.old out.new }
 {
-    amounts_by(p, &BlackTable::make(p), kind, line, w, at, out);
+    amounts_by(p, &BlackScale::make(p), kind, line, w, at, out);
 }
 
-/// The same with the profile's table, made once for all lines of a page.
+/// The same with the profile's black generation, worked out once for all lines of a page.
 pub fn amounts_by(
     p: &Profile,
-    black: &BlackTable,
+    black: &BlackScale,
     kind: Kind,
     line: &[u8],
     w: Window,
@@ -77,7 +77,7 @@ pub fn amounts_by(
 #[inline(always)]
 fn separate(
     p: &Profile,
-    black: &BlackTable,
+    black: &BlackScale,
     kind: Kind,
     pixels: &[u8],
     many: usize,
@@ -97,7 +97,7 @@ fn separate(
     ensures beside { (i c : ℕ) → (c < x) ⊎ (x + many ≤ c) → amount out.new i at c ≡ amount out.old i at c }
     ensures others { (i y c : ℕ) → y ≢ at → y < out.old.rows → amount out.new i y c ≡ amount out.old i y c }
 {
-    let given = Given::make(p, kind, pixels, many, black.moved());
+    let given = Given::make(p, kind, pixels, many, black);
     put(p, &given, many, x, at, out);
 }
 

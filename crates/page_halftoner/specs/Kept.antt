@@ -36,7 +36,7 @@ halftoning h = record {
 abbrev pub window_in : Inside → Window
 window_in h = window_of h.form (printer_of h.profile)
 
--- The profile passes its checks, its black table is made, the printer takes the page, there are 1 to 64 workers, and
+-- The profile passes its checks, its black generation is worked out, the printer takes the page, there are 1 to 64 workers, and
 -- there is room for the window's rows in all inks.
 pub record IsReady (h : Inside) : Type 0 where
   pub checked : IsOk (check h.profile)

@@ -13,7 +13,7 @@ ghost use Rattle.std.specs.Prelude.{replicate, true, ℕ, ◌++◌, ◌+◌, ◌
 use crate::slabs::{first_slab, next_slab, put_line};
 use diffusion_kernel::Kernel;
 use dot_planes::{InkRows, Planes};
-use ink_separation::BlackTable;
+use ink_separation::BlackScale;
 use printer_profile::{PageForm, Profile};
 use separation_definitions::Window;
 use std::alloc::Global;
@@ -32,7 +32,7 @@ use weave_base::Memory;
 pub struct Halftoner {
     alloc: Global,
     profile: Profile,
-    black: BlackTable,
+    black: BlackScale,
     form: PageForm,
     kernel: Kernel,
     /// How many workers diffuse each slab: 1 to 64.
@@ -98,7 +98,7 @@ impl Halftoner {
         Ok(Halftoner {
             alloc,
             profile: *p,
-            black: BlackTable::make(p),
+            black: BlackScale::make(p),
             form: f,
             kernel: k,
             workers,

@@ -10,7 +10,7 @@ ghost use Rattle.separation_definitions.specs.Windows.{wanted_by, window_of};
 ghost use Rattle.std.specs.Prelude.{IfOk, IsOk, length, true, ℕ, ◌+◌, ◌<◌, ◌≡◌, ◌≤◌};
 
 use dot_planes::InkRows;
-use ink_separation::{BlackTable, amounts_by};
+use ink_separation::{BlackScale, amounts_by};
 use printer_profile::{PageForm, Profile};
 use std::alloc::Global;
 use tile_border::TopEdges;
@@ -47,7 +47,7 @@ pub(crate) fn next_slab(slab: &mut InkRows, left: u32)
 /// Puts the amounts of a line of a page into row y of a slab. `again`: the row above has them, too.
 pub(crate) fn put_line(
     p: &Profile,
-    black: &BlackTable,
+    black: &BlackScale,
     f: PageForm,
     line: &[u8],
     again: bool,

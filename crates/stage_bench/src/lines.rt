@@ -6,7 +6,7 @@ use crate::inks::InkErrors;
 use crate::stages::Stage;
 use diffusion_kernel::Kernel;
 use dot_planes::InkRows;
-use ink_separation::{BlackTable, amounts_by};
+use ink_separation::{BlackScale, amounts_by};
 use printer_profile::Profile;
 use pwg_definitions::{Kind, MOST_COLUMNS, PageForm};
 use separation_definitions::Window;
@@ -62,7 +62,7 @@ impl Lines {
     }
 
     /// Takes a line this many times.
-    pub fn take(&mut self, profile: &Profile, black: &BlackTable, line: &[u8], repeats: u32)
+    pub fn take(&mut self, profile: &Profile, black: &BlackScale, line: &[u8], repeats: u32)
         requires checked { IsOk (check profile.now) }
         requires black { black.now ≡ profile.now.black_start }
     {
@@ -72,7 +72,7 @@ impl Lines {
     }
 
     // Takes a line. One in the margins is only counted.
-    fn take_once(&mut self, profile: &Profile, black: &BlackTable, line: &[u8])
+    fn take_once(&mut self, profile: &Profile, black: &BlackScale, line: &[u8])
         requires checked { IsOk (check profile.now) }
         requires black { black.now ≡ profile.now.black_start }
     {
@@ -121,7 +121,7 @@ impl Lines {
 // Separates a line into the amounts of a row. Skips it unless the row has the window's width and the profile's inks.
 fn separate(
     profile: &Profile,
-    black: &BlackTable,
+    black: &BlackScale,
     kind: Kind,
     line: &[u8],
     window: Window,

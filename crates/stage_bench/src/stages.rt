@@ -7,7 +7,7 @@ use crate::lines::{Lines, Page};
 use diffusion_kernel::Kernel;
 use dot_planes::Planes;
 use halftone_reader::read_page;
-use ink_separation::BlackTable;
+use ink_separation::BlackScale;
 use printer_profile::Profile;
 use pwg_definitions::MOST_ROWS;
 use pwg_stream::{PageReader, StreamStop};
@@ -90,7 +90,7 @@ fn take_lines<S: Source>(
     let Some(page) = next_page(profile, reader, input)? else {
         return Ok(0);
     };
-    let black = BlackTable::make(profile);
+    let black = BlackScale::make(profile);
     let mut lines = Lines::make(alloc, stage, kernel, page, profile.inks.count())?;
     for _ in 0..MOST_ROWS {
         if reader.lines_left() == 0 {
