@@ -28,6 +28,3 @@ mod receives;
 mod room;
 
 pub use kinds::{Board, Claim, Closed, Pass};
-
-#[cfg(test)]
-mod tests;

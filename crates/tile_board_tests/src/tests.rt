@@ -7,6 +7,8 @@ ghost use Rattle.tile_board_tests.specs.Workers.{AllIdle, IsIdle};
 ghost use Rattle.tile_shape.specs.Geometry.{IsShape, IsTile};
 ghost use Rattle.tile_shape.specs.declared.tiles.Place.{Place};
 
+mod boards;
+
 use diffusion_kernel::Kernel;
 use dot_planes::{InkRows, Planes, TileDots};
 use std::alloc::Global;

@@ -6,7 +6,7 @@ use Rattle.tile_shape.specs.declared.tiles.Place.{Place}
 use Rattle.tile_shape.specs.declared.tiles.Shape.{Shape}
 use Rattle.tile_board.specs.Board.{slab, view}
 use Rattle.tile_board.specs.Slabs.{number_in, shape_of}
-use Rattle.tile_board.proofs.Numbers.{number-below}
+use Rattle.board_core.proofs.Numbers.{number_below}
 use Rattle.tile_board_tests.proofs.tests.finish.Goals as goal
 
 pub loop-n-preserved : goal.loop-n-preserved
@@ -48,5 +48,5 @@ returns-clause-all c = λ yes t tile.
     let y : ℕ = bands_of (shape_of b) * columns_of (shape_of b) in
     let all' : x ≡ y = all in
     let end : x ≤ c.loop-n.n = c.loop-n-test.false in
-    let below : number_in b t < y = number-below (shape_of b) t tile in
+    let below : number_in b t < y = number_below (shape_of b) t tile in
     c.loop-n.invariant.posted t tile (omega arith)

@@ -36,7 +36,7 @@ returns-in-Some-clause-gives c =
     let there = tile-there c.args.self.now c.shape.result c.in-Some.to c.shape.ensures.is c.in-Some.ensures.receiver.0 in
     sent-gives b (number_in b c.args.t) (index_of c.args.dir) (number_in b c.in-Some.to) c.slot_of-slot.result c.args.edge _ _ _
     (gives_next (shape_of b) c.args.t c.in-Some.to c.args.dir
-          (record { source = c.requires.tile; receiver = there; goes = c.in-Some.ensures.receiver.1 })) c.exchange.ensures.3
+    (record { source = c.requires.tile; receiver = there; goes = c.in-Some.ensures.receiver.1 })) c.exchange.ensures.3
     c.send.ensures.sent
 
 pub returns-in-None-clause-gives : goal.returns-in-None-clause-gives

@@ -7,13 +7,12 @@ ghost use Rattle.board_steps.specs.Rule.{times};
 ghost use Rattle.tile_shape.specs.Geometry.{IsShape, IsTile};
 ghost use Rattle.tile_shape.specs.declared.tiles.Place.{Place};
 
-mod definition;
-
-use crate::{Board, Claim, Closed, Pass};
-use definition::{Definition, amount_at};
+use super::{finish, level_rows};
 use diffusion_kernel::Kernel;
 use dot_planes::InkRows;
+use plain_diffusion::{Above, Definition, Fill, amount_at};
 use std::alloc::Global;
+use tile_board::{Board, Claim, Closed, Pass};
 use tile_border::{Task, TopEdges};
 use tile_shape::{Place, Shape};
 
@@ -42,7 +41,7 @@ fn set_row(rows: &mut InkRows, i: u8, first: u32, y: u32)
 {
     for x in 0..rows.width() {
         if i < rows.inks() && y < rows.rows() && x < rows.width() {
-            rows.set(i, x, y, amount_at(i, x, first.wrapping_add(y)));
+            rows.set(i, x, y, amount_at(Fill::Mixed(i), x, first.wrapping_add(y)));
         }
     }
 }
@@ -125,54 +124,6 @@ fn try_with(board: &Board<'_>, shape: Shape, p: &mut Pass, passes: u8)
     }
 }
 
-// Claims a tile, and works and posts it if it is handed out. Whether a pass that is alone has posted it then.
-fn has_posted(board: &Board<'_>, p: &mut Pass, t: Place) -> bool
-    requires tile { IsTile (shape_of (slab board.now)) t }
-    requires pass { IsPassOf board.now p.old }
-    requires idle { (view p.old).held ≡ None }
-    ensures pass { IsPassOf board.now p.new }
-    ensures idle { (view p.new).held ≡ None }
-    ensures parts { (view p.new).parts ≡ (view p.old).parts }
-    ensures more { (n : ℕ) → times n (view p.old).mine ≤ times n (view p.new).mine }
-    ensures posted { IsTrue result → (view p.old).parts ≡ 256
-        → 1 ≤ times (number_in (slab board.now) t) (view p.new).mine }
-{
-    match board.claim(p, t) {
-        Claim::Got(task) => {
-            let done = board.work(task);
-            board.post(p, done);
-            true
-        }
-        Claim::NotReady { .. } => false,
-        Claim::Gone { .. } => true,
-    }
-}
-
-// Works the tiles that are left, by number, with a pass that is alone. Whether it has posted all tiles then.
-fn finish(board: &Board<'_>, shape: Shape, p: &mut Pass) -> bool
-    requires shape { shape ≡ shape_of (slab board.now) }
-    requires sizes { IsShape shape }
-    requires pass { IsPassOf board.now p.old }
-    ensures pass { IsPassOf board.now p.new }
-    ensures all { IsTrue result → (t : Place) → IsTile (shape_of (slab board.now)) t
-        → 1 ≤ times (number_in (slab board.now) t) (view p.new).mine }
-{
-    if p.holds().is_some() || p.parts() != 256 {
-        return false;
-    }
-    let columns = shape.columns();
-    for n in 0..shape.bands() * columns {
-        let t = Place {
-            c: n % columns,
-            j: n / columns,
-        };
-        if !has_posted(board, p, t) {
-            return false;
-        }
-    }
-    true
-}
-
 // Diffuses rows below a top on a board, by the first pass and this many others.
 fn diffuse(
     alloc: Global,
@@ -189,7 +140,7 @@ fn diffuse(
     };
     let shape = rows.shape();
     try_with(&board, shape, &mut p, passes);
-    if finish(&board, shape, &mut p) {
+    if p.holds().is_none() && finish(&board, shape, &mut p) {
         Some(board.close(p))
     } else {
         None
@@ -234,6 +185,12 @@ fn wrong_dots(closed: &Closed, shape: Shape, known: &Definition, i: u8, first: u
     wrong
 }
 
+// An ink of a window below errors 0.
+fn definition(alloc: Global, kernel: Kernel, i: u8, width: u32, height: u32) -> Option<Definition> {
+    let (fill, above) = (Fill::Mixed(i), Above::Edges(0));
+    Definition::make(alloc, kernel, fill, above, width, height)
+}
+
 // How many dots are wrong in a window whose first 32 rows are one board and the rest another below it.
 fn wrong_in_slabs(
     alloc: Global,
@@ -252,12 +209,12 @@ fn wrong_in_slabs(
     let upper = diffuse(alloc, kernel, &rows, top, passes)?;
     let mut wrong = 0u32;
     for i in 0..inks {
-        let known = Definition::make(alloc, kernel, i, width, 32 + height)?;
+        let known = definition(alloc, kernel, i, width, 32 + height)?;
         wrong = wrong.wrapping_add(wrong_dots(&upper, rows.shape(), &known, i, 0));
     }
     let lower = diffuse(alloc, kernel, &rest, upper.bottom, passes)?;
     for i in 0..inks {
-        let known = Definition::make(alloc, kernel, i, width, 32 + height)?;
+        let known = definition(alloc, kernel, i, width, 32 + height)?;
         wrong = wrong.wrapping_add(wrong_dots(&lower, rest.shape(), &known, i, 32));
     }
     Some(wrong)
@@ -285,21 +242,6 @@ fn boards_give_the_dots_of_the_whole_window(rt: HostRuntime) {
     }
 }
 
-// 200 columns and 70 rows of amount 100.
-fn grey(alloc: Global) -> Option<InkRows>
-    ensures width { IfSome result (λ rows. rows.width ≡ 200) }
-    ensures rows { IfSome result (λ rows. rows.rows ≡ 70) }
-    ensures inks { IfSome result (λ rows. rows.inks ≡ 1) }
-{
-    let Ok(mut rows) = InkRows::make(alloc, 200, 70, 1) else {
-        return None;
-    };
-    for y in 0..70 {
-        rows.put_part(0, 0, y, &[100; 200]);
-    }
-    Some(rows)
-}
-
 // Whether every error that a tile is handed is 0.
 fn is_handed_zeros(task: &Task) -> bool
     requires left { 1 ≤ length task.now.left }
@@ -314,7 +256,7 @@ fn is_handed_zeros(task: &Task) -> bool
 #[test]
 fn claims_carry_the_word_they_found(rt: HostRuntime) {
     let alloc = rt.alloc();
-    let Some(rows) = grey(alloc) else {
+    let Some(rows) = level_rows(alloc) else {
         panic!(rt; "memory");
     };
     let Some(top) = no_errors(alloc, &rows, 1) else {
@@ -360,7 +302,7 @@ fn claims_carry_the_word_they_found(rt: HostRuntime) {
 
 // The words of the tile in column 1 of band 1, whose number is 6, before each of four other tiles is worked.
 fn words_before(alloc: Global, tiles: [u32; 4]) -> Option<[Option<u64>; 4]> {
-    let rows = grey(alloc)?;
+    let rows = level_rows(alloc)?;
     let top = no_errors(alloc, &rows, 1)?;
     let Ok((board, mut p)) = Board::make(alloc, &rows, Kernel::Floyd, top) else {
         return None;

@@ -1,5 +1,5 @@
 use Rattle.std.proofs.Common.{◌≡◌}
-use Rattle.tile_board.proofs.tests.amounts.Given as goal
+use Rattle.tile_board_tests.proofs.tests.boards.amounts.Given as goal
 
 abbrev pub invariant-loop-i : goal.invariant-loop-i
 invariant-loop-i l = record { width : l.rows.width ≡ l.width; inks : l.rows.inks ≡ l.inks }
