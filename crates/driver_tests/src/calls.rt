@@ -1,9 +1,10 @@
 //! How often a run asks a shelf and writes to a sink, and the most pages of a stream.
-use crate::fixture::{
-    Left, PRINT, add_header, begin, no_files, one_file, one_page, plain, print_bytes, roomy,
-    run_over, words,
+use crate::fixture::{PRINT, one_page, print_bytes};
+use driver_core::OpenGate;
+use driver_fixtures::{
+    Left, add_page, begin, no_files, one_file, plain, roomy, run_over, run_with, sink,
 };
-use driver_core::{OpenGate, run};
+use pwg_header::Kind;
 use std::alloc::Global;
 use std::process::Abort;
 use std::test::Fail;
@@ -47,20 +48,8 @@ fn asks<R: Abort + Threads + Sync>(
         shelf: one_file(alloc, "m1.txt", b"escp2-profile 1\n")?,
         names: Vec::new(alloc),
     };
-    let mut input = plain(alloc, begin(alloc)?);
-    let (mut out, mut err) = (roomy(alloc)?, roomy(alloc)?);
-    let words = words(alloc, texts)?;
-    let answer = run(
-        rt,
-        alloc,
-        &words,
-        &mut input,
-        &mut out,
-        &mut err,
-        &mut shelf,
-        &OpenGate,
-        &mut Vec::new(alloc),
-    );
+    let (input, mut out) = (plain(alloc, begin(alloc)?), roomy(alloc)?);
+    let (answer, _) = run_with(rt, alloc, texts, input, &mut out, &mut shelf, &OpenGate)?;
     assert_eq!(rt; answer, status);
     assert_eq!(rt; shelf.names.len(), names.len());
     for (asked, name) in shelf.names.iter().zip(names.iter()) {
@@ -110,20 +99,9 @@ fn a_pass_is_one_write(rt: HostRuntime) -> Result<(), Fail> {
         sink: roomy(alloc)?,
         writes: 0,
     };
-    let words = words(alloc, &["print", "profile=p360cmyk"])?;
-    let mut input = plain(alloc, bytes);
-    let (mut err, mut shelf) = (roomy(alloc)?, no_files(alloc));
-    let status = run(
-        &rt,
-        alloc,
-        &words,
-        &mut input,
-        &mut out,
-        &mut err,
-        &mut shelf,
-        &OpenGate,
-        &mut Vec::new(alloc),
-    );
+    let (input, mut shelf) = (plain(alloc, bytes), no_files(alloc));
+    let texts = ["print", "profile=p360cmyk"];
+    let (status, err) = run_with(&rt, alloc, &texts, input, &mut out, &mut shelf, &OpenGate)?;
     assert_eq!(rt; err.bytes(), b"".as_slice());
     assert_eq!(rt; status, 0);
     assert!(rt; out.writes <= 24 + 2, "{} writes", out.writes);
@@ -133,13 +111,12 @@ fn a_pass_is_one_write(rt: HostRuntime) -> Result<(), Fail> {
 // Prints a stream of `count` pages of one black pixel.
 fn print_pages<R: Threads + Sync>(rt: &R, alloc: Global, count: u32) -> Result<Left, Fail> {
     let mut page = Vec::new(alloc);
-    add_header(&mut page, (360, 360), (1, 1))?;
-    page.extend_from_slice(&[0, 0, 0])?;
+    add_page(&mut page, Kind::Gray8, (1, 1), &[0, 0, 0])?;
     let mut bytes = begin(alloc)?;
     for _ in 0..count {
         bytes.extend_from_slice(&page)?;
     }
-    let out = MemSink::make(alloc, 800_000, Vec::new(alloc), Vec::new(alloc))?;
+    let out = sink(alloc, 800_000)?;
     let input = plain(alloc, bytes);
     Ok(run_over(rt, alloc, &PRINT, input, out, no_files(alloc))?)
 }

@@ -1,10 +1,10 @@
 //! Pages of each kind of pixel by printers of each set of inks.
-use crate::fixture::{Left, add_header_of, begin, one_file, plain, roomy, run_over};
+use crate::fixture::{leaves, print_by_text};
+use driver_fixtures::{Left, add_page, begin};
 use pwg_header::Kind;
 use std::alloc::Global;
 use std::test::Fail;
 use std::thread::Threads;
-use weave_base::Memory;
 
 // Prints a page of one pixel on a printer of one nozzle and these inks.
 fn print_pixel<R: Threads + Sync>(
@@ -13,23 +13,10 @@ fn print_pixel<R: Threads + Sync>(
     text: &[u8],
     kind: Kind,
     body: &[u8],
-) -> Result<Left, Memory> {
-    let Ok(mut bytes) = begin(alloc) else {
-        return Err(Memory);
-    };
-    if add_header_of(&mut bytes, kind, (360, 360), (1, 1)).is_err()
-        || bytes.extend_from_slice(body).is_err()
-    {
-        return Err(Memory);
-    }
-    run_over(
-        rt,
-        alloc,
-        &["print", "profile=m1.txt"],
-        plain(alloc, bytes),
-        roomy(alloc)?,
-        one_file(alloc, "m1.txt", text)?,
-    )
+) -> Result<Left, Fail> {
+    let mut bytes = begin(alloc)?;
+    add_page(&mut bytes, kind, (1, 1), body)?;
+    Ok(print_by_text(rt, alloc, text, bytes)?)
 }
 
 const FOUR_INKS: &[u8] = b"escp2-profile 1\nhdpi=360\nvdpi=360\nnozzles=1\npitch=1\ninks=cmyk\n";
@@ -56,13 +43,13 @@ fn pixel_job(alloc: Global, codes: &[u8]) -> Result<Vec<u8>, Fail> {
 fn inks_go_in_the_order_of_their_set(rt: HostRuntime) -> Result<(), Fail> {
     let alloc = rt.alloc();
     let black = print_pixel(&rt, alloc, FOUR_INKS, Kind::Rgb8, &[0, 0, 0, 0, 0])?;
-    black.is(&rt, 0, &pixel_job(alloc, &[0])?, b"");
+    leaves(&rt, &black, (0, &pixel_job(alloc, &[0])?, b""));
     let red = print_pixel(&rt, alloc, FOUR_INKS, Kind::Rgb8, &[0, 0, 0xFF, 0, 0])?;
-    red.is(&rt, 0, &pixel_job(alloc, &[1, 4])?, b"");
+    leaves(&rt, &red, (0, &pixel_job(alloc, &[1, 4])?, b""));
     let green = print_pixel(&rt, alloc, FOUR_INKS, Kind::Rgb8, &[0, 0, 0, 0xFF, 0])?;
-    green.is(&rt, 0, &pixel_job(alloc, &[2, 4])?, b"");
+    leaves(&rt, &green, (0, &pixel_job(alloc, &[2, 4])?, b""));
     let blue = print_pixel(&rt, alloc, FOUR_INKS, Kind::Rgb8, &[0, 0, 0, 0, 0xFF])?;
-    blue.is(&rt, 0, &pixel_job(alloc, &[2, 1])?, b"");
+    leaves(&rt, &blue, (0, &pixel_job(alloc, &[2, 1])?, b""));
     Ok(())
 }
 
@@ -78,9 +65,9 @@ fn pages_without_colour_take_black_or_all_colours(rt: HostRuntime) -> Result<(),
     ];
     for (kind, byte, four, three) in cases {
         let by_four = print_pixel(&rt, alloc, FOUR_INKS, kind, &[0, 0, byte])?;
-        by_four.is(&rt, 0, &pixel_job(alloc, four)?, b"");
+        leaves(&rt, &by_four, (0, &pixel_job(alloc, four)?, b""));
         let by_three = print_pixel(&rt, alloc, three_inks, kind, &[0, 0, byte])?;
-        by_three.is(&rt, 0, &pixel_job(alloc, three)?, b"");
+        leaves(&rt, &by_three, (0, &pixel_job(alloc, three)?, b""));
     }
     Ok(())
 }
@@ -95,7 +82,7 @@ fn a_colour_page_is_refused_at_its_line(rt: HostRuntime) -> Result<(), Fail> {
     ];
     for (body, line) in cases {
         let left = print_pixel(&rt, alloc, FOUR_INKS, Kind::Rgb8, body)?;
-        left.is(&rt, 3, b"", line);
+        leaves(&rt, &left, (3, b"", line));
     }
     Ok(())
 }

@@ -1,12 +1,11 @@
-//! Streams, words and runs in memory.
-pub use crate::bytes::{begin, prefix};
-use driver_core::{Gate, OpenGate, run};
-use pwg_header::{Kind, PageForm, write_header};
+//! Pages of grey, and runs in memory without a meter.
+use driver_fixtures::{Left, add_page, begin, no_files, one_file, plain, roomy, run_over};
+use pwg_header::Kind;
 use std::alloc::{AllocError, Global};
 use std::process::Abort;
 use std::test::Fail;
 use std::thread::Threads;
-use weave_base::{MemShelf, MemSink, MemSource, Memory, ShelfFile, Words};
+use weave_base::{MemShelf, MemSource, Memory};
 
 /// Two lines of grey on a page of four columns; the second line has two dots.
 pub const GREY_BODY: [u8; 8] = [0, 3, 0xD1, 0, 2, 0x9F, 0, 0xA3];
@@ -25,84 +24,7 @@ pub const GREY_STREAM: usize = 1808;
 /// The words of most runs.
 pub const PRINT: [&str; 2] = ["print", "profile=tiny1"];
 
-/// What a run left: its status, its output and its error line.
-#[derive(Drop)]
-pub struct Left {
-    pub status: u8,
-    pub out: MemSink,
-    pub err: MemSink,
-}
-
-/// The words of a command line, at most nine of them.
-pub fn words(alloc: Global, texts: &[&str]) -> Result<Words, Memory> {
-    let mut made = Words::make(alloc);
-    for text in texts {
-        if made.len() < 9 {
-            made.push(text)?;
-        }
-    }
-    Ok(made)
-}
-
-/// A sink that never fails.
-pub fn roomy(alloc: Global) -> Result<MemSink, Memory> {
-    MemSink::make(alloc, 70_000, Vec::new(alloc), Vec::new(alloc))
-}
-
-/// A source that gives as many bytes as it is asked for.
-pub fn plain(alloc: Global, bytes: Vec<u8>) -> MemSource {
-    MemSource::make(bytes, Vec::new(alloc), Vec::new(alloc))
-}
-
-/// A shelf without a file.
-pub fn no_files(alloc: Global) -> MemShelf {
-    MemShelf::make(Vec::new(alloc), Vec::new(alloc))
-}
-
-/// A shelf of one file.
-pub fn one_file(alloc: Global, name: &str, text: &[u8]) -> Result<MemShelf, Memory> {
-    let mut files = Vec::new(alloc);
-    let (Ok(name), Ok(bytes)) = (String::from_str(alloc, name), text.to_vec(alloc)) else {
-        return Err(Memory);
-    };
-    match files.push(ShelfFile { name, bytes }) {
-        Ok(()) => Ok(MemShelf::make(files, Vec::new(alloc))),
-        Err(_) => Err(Memory),
-    }
-}
-
-/// Appends the header of a grey page for a printer of these dots an inch.
-pub fn add_header(
-    bytes: &mut Vec<u8>,
-    resolution: (u32, u32),
-    size: (u32, u32),
-) -> Result<(), AllocError> {
-    add_header_of(bytes, Kind::Gray8, resolution, size)
-}
-
-/// Appends the header of a page of this kind for a printer of these dots an inch.
-pub fn add_header_of(
-    bytes: &mut Vec<u8>,
-    kind: Kind,
-    (hdpi, vdpi): (u32, u32),
-    (width, height): (u32, u32),
-) -> Result<(), AllocError> {
-    let bytes_per_line = match kind {
-        Kind::Gray8 | Kind::Black8 => width,
-        Kind::Rgb8 => width.wrapping_mul(3),
-    };
-    let form = PageForm {
-        width,
-        height,
-        kind,
-        bytes_per_line,
-    };
-    let mut header = [0; 1796];
-    write_header(&form, hdpi, vdpi, &mut header);
-    bytes.extend_from_slice(&header)
-}
-
-/// A stream of one page for a printer of 360 dots an inch.
+/// A stream of one page of grey for a printer of 360 dots an inch.
 pub fn one_page(
     alloc: Global,
     width: u32,
@@ -110,55 +32,26 @@ pub fn one_page(
     body: &[u8],
 ) -> Result<Vec<u8>, AllocError> {
     let mut bytes = begin(alloc)?;
-    add_header(&mut bytes, (360, 360), (width, height))?;
-    bytes.extend_from_slice(body)?;
+    add_page(&mut bytes, Kind::Gray8, (width, height), body)?;
     Ok(bytes)
 }
 
 /// A stream of two pages of grey.
 pub fn two_pages(alloc: Global) -> Result<Vec<u8>, AllocError> {
     let mut bytes = one_page(alloc, 4, 2, &GREY_BODY)?;
-    add_header(&mut bytes, (360, 360), (4, 2))?;
-    bytes.extend_from_slice(&GREY_BODY)?;
+    add_page(&mut bytes, Kind::Gray8, (4, 2), &GREY_BODY)?;
     Ok(bytes)
 }
 
-/// Runs these words.
-pub fn run_over<R: Threads + Sync>(
+/// Prints these bytes on a built-in printer.
+pub fn print_on<R: Threads + Sync>(
     rt: &R,
     alloc: Global,
-    texts: &[&str],
-    input: MemSource,
-    out: MemSink,
-    shelf: MemShelf,
+    profile: &str,
+    bytes: Vec<u8>,
 ) -> Result<Left, Memory> {
-    run_through(rt, alloc, texts, input, out, shelf, &OpenGate)
-}
-
-/// Runs these words, by workers that share this gate.
-pub fn run_through<R: Threads + Sync, G: Gate + Sync>(
-    rt: &R,
-    alloc: Global,
-    texts: &[&str],
-    mut input: MemSource,
-    mut out: MemSink,
-    mut shelf: MemShelf,
-    gate: &G,
-) -> Result<Left, Memory> {
-    let words = words(alloc, texts)?;
-    let mut err = roomy(alloc)?;
-    let status = run(
-        rt,
-        alloc,
-        &words,
-        &mut input,
-        &mut out,
-        &mut err,
-        &mut shelf,
-        gate,
-        &mut Vec::new(alloc),
-    );
-    Ok(Left { status, out, err })
+    let (input, out) = (plain(alloc, bytes), roomy(alloc)?);
+    run_over(rt, alloc, &["print", profile], input, out, no_files(alloc))
 }
 
 /// Prints these bytes on the simplest printer.
@@ -167,26 +60,32 @@ pub fn print_bytes<R: Threads + Sync>(
     alloc: Global,
     bytes: Vec<u8>,
 ) -> Result<Left, Memory> {
-    let input = plain(alloc, bytes);
-    let out = roomy(alloc)?;
-    run_over(rt, alloc, &PRINT, input, out, no_files(alloc))
+    print_on(rt, alloc, "profile=tiny1", bytes)
 }
 
-impl Left {
-    /// Asserts what the run left.
-    pub fn is<R: Abort>(&self, rt: &R, status: u8, out: &[u8], line: &[u8]) {
-        assert_eq!(rt; self.err.bytes(), line);
-        assert_eq!(rt; self.status, status);
-        assert_eq!(rt; self.out.bytes(), out);
-    }
+/// Prints these bytes on the printer of this text.
+pub fn print_by_text<R: Threads + Sync>(
+    rt: &R,
+    alloc: Global,
+    text: &[u8],
+    bytes: Vec<u8>,
+) -> Result<Left, Memory> {
+    let (input, out) = (plain(alloc, bytes), roomy(alloc)?);
+    let shelf = one_file(alloc, "m1.txt", text)?;
+    run_over(rt, alloc, &["print", "profile=m1.txt"], input, out, shelf)
+}
 
-    /// Asserts that the run succeeded, and the length and the hash of its output.
-    pub fn hashes_to<R: Abort>(&self, rt: &R, length: usize, hash: u64) {
-        assert_eq!(rt; self.err.bytes(), b"".as_slice());
-        assert_eq!(rt; self.status, 0);
-        assert_eq!(rt; self.out.bytes().len(), length);
-        assert_eq!(rt; hash_of(self.out.bytes()), hash);
-    }
+/// Asserts the status, the output and the error line that a run left.
+pub fn leaves<R: Abort>(rt: &R, left: &Left, wanted: (u8, &[u8], &[u8])) {
+    assert_eq!(rt; left.all(), wanted);
+}
+
+/// Asserts that a run succeeded, and the length and the hash of its output.
+pub fn hashes_to<R: Abort>(rt: &R, left: &Left, length: usize, hash: u64) {
+    assert_eq!(rt; left.err.bytes(), b"".as_slice());
+    assert_eq!(rt; left.status, 0);
+    assert_eq!(rt; left.out.bytes().len(), length);
+    assert_eq!(rt; hash_of(left.out.bytes()), hash);
 }
 
 /// The FNV-1a hash of 64 bits.
@@ -210,6 +109,6 @@ pub fn is_refused<R: Abort + Threads + Sync>(
     let shelf = MemShelf::make(Vec::new(alloc), vec![in alloc; 1]?);
     let out = roomy(alloc)?;
     let left = run_over(rt, alloc, texts, input, out, shelf)?;
-    left.is(rt, status, b"", line);
+    leaves(rt, &left, (status, b"", line));
     Ok(())
 }

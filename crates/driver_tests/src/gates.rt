@@ -1,6 +1,7 @@
 //! Gates that workers enter with their tiles.
-use crate::fixture::{Left, no_files, one_page, plain, roomy, run_through};
+use crate::fixture::{hashes_to, leaves, one_page};
 use driver_core::{Gate, OpenGate, Place};
+use driver_fixtures::{Left, no_files, plain, roomy, run_with};
 use std::alloc::Global;
 use std::sync::atomic::{AtomicU64, Ordering};
 use std::test::Fail;
@@ -16,8 +17,9 @@ fn print_through<R: Threads + Sync, G: Gate + Sync>(
 ) -> Result<Left, Fail> {
     let texts = ["print", "profile=tiny1", workers];
     let input = plain(alloc, page);
-    let (out, shelf) = (roomy(alloc)?, no_files(alloc));
-    Ok(run_through(rt, alloc, &texts, input, out, shelf, gate)?)
+    let (mut out, mut shelf) = (roomy(alloc)?, no_files(alloc));
+    let (status, err) = run_with(rt, alloc, &texts, input, &mut out, &mut shelf, gate)?;
+    Ok(Left { status, out, err })
 }
 
 // How often a tile waits for another.
@@ -56,7 +58,7 @@ fn two_tiles_are_inside_the_gate_at_once(rt: HostRuntime) -> Result<(), Fail> {
     };
     let by_two = print_through(&rt, alloc, "workers=2", page.clone()?, &gate)?;
     let alone = print_through(&rt, alloc, "workers=1", page, &OpenGate)?;
-    by_two.is(&rt, 0, alone.out.bytes(), b"");
+    leaves(&rt, &by_two, (0, alone.out.bytes(), b""));
     assert_eq!(rt; gate.met.load(Ordering::SeqCst), 2);
     Ok(())
 }
@@ -96,7 +98,7 @@ fn errors_cross_the_slab_at_row_256(rt: HostRuntime) -> Result<(), Fail> {
         others: AtomicU64::new(0),
     };
     let left = print_through(&rt, alloc, "workers=2", page, &gate)?;
-    left.hashes_to(&rt, 1855, 0xB1BB_344A_C3B2_09A4);
+    hashes_to(&rt, &left, 1855, 0xB1BB_344A_C3B2_09A4);
     for (j, band) in gate.bands.iter().enumerate() {
         let entered = if j == 0 { 2 } else { 1 };
         assert_eq!(rt; band.load(Ordering::SeqCst), entered, "band {j}");

@@ -1,5 +1,6 @@
 //! A page for which each kernel sets other dots.
-use crate::fixture::{Left, no_files, one_page, plain, roomy, run_over};
+use crate::fixture::{hashes_to, one_page};
+use driver_fixtures::{Left, no_files, plain, roomy, run_over};
 use std::alloc::Global;
 use std::test::Fail;
 use std::thread::Threads;
@@ -36,7 +37,7 @@ fn tiles_give_the_row_by_row_page(rt: HostRuntime) -> Result<(), Fail> {
     ];
     for (kernel, length, hash) in cases {
         for workers in ["workers=1", "workers=2", "workers=64"] {
-            print_by(&rt, alloc, kernel, workers)?.hashes_to(&rt, length, hash);
+            hashes_to(&rt, &print_by(&rt, alloc, kernel, workers)?, length, hash);
         }
     }
     Ok(())

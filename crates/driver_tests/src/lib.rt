@@ -6,7 +6,6 @@
 
 #[cfg(test)]
 mod any_printer;
-pub mod bytes;
 #[cfg(test)]
 mod calls;
 #[cfg(test)]

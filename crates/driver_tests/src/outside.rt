@@ -1,8 +1,7 @@
 //! Runs whose reads or writes fail.
-use crate::fixture::{
-    GREY_JOB, GREY_STREAM, PRINT, no_files, plain, prefix, roomy, run_over, two_pages, words,
-};
+use crate::fixture::{GREY_JOB, GREY_STREAM, PRINT, leaves, two_pages};
 use driver_core::{OpenGate, run};
+use driver_fixtures::{no_files, plain, prefix, roomy, run_over, sink, words};
 use std::alloc::Global;
 use std::test::Fail;
 use weave_base::{MemSink, MemSource};
@@ -35,7 +34,7 @@ fn a_failing_read_keeps_the_pages_before_it(rt: HostRuntime) -> Result<(), Fail>
         let one = vec![in alloc; 1]?;
         let input = MemSource::make(two_pages(alloc)?, one, vec![in alloc; call]?);
         let left = run_over(&rt, alloc, &PRINT, input, roomy(alloc)?, no_files(alloc))?;
-        left.is(&rt, 4, prefix(&jobs, length), b"read failed\n");
+        leaves(&rt, &left, (4, prefix(&jobs, length), b"read failed\n"));
     }
     Ok(())
 }
@@ -58,7 +57,7 @@ fn every_failing_write_leaves_what_was_taken(rt: HostRuntime) -> Result<(), Fail
         let out = MemSink::make(alloc, TWO, vec![in alloc; 1]?, vec![in alloc; call]?)?;
         let input = plain(alloc, two_pages(alloc)?);
         let left = run_over(&rt, alloc, &PRINT, input, out, no_files(alloc))?;
-        left.is(&rt, 5, prefix(&job, taken), line_after(taken));
+        leaves(&rt, &left, (5, prefix(&job, taken), line_after(taken)));
     }
     Ok(())
 }
@@ -68,15 +67,15 @@ fn a_full_sink_keeps_a_prefix_of_the_job(rt: HostRuntime) -> Result<(), Fail> {
     let alloc = rt.alloc();
     let job = two_jobs(alloc)?;
     for room in 0..TWO {
-        let out = MemSink::make(alloc, room, Vec::new(alloc), Vec::new(alloc))?;
+        let out = sink(alloc, room)?;
         let input = plain(alloc, two_pages(alloc)?);
         let left = run_over(&rt, alloc, &PRINT, input, out, no_files(alloc))?;
-        left.is(&rt, 5, prefix(&job, room), line_after(room));
+        leaves(&rt, &left, (5, prefix(&job, room), line_after(room)));
     }
-    let out = MemSink::make(alloc, TWO, Vec::new(alloc), Vec::new(alloc))?;
+    let out = sink(alloc, TWO)?;
     let input = plain(alloc, two_pages(alloc)?);
     let left = run_over(&rt, alloc, &PRINT, input, out, no_files(alloc))?;
-    left.is(&rt, 0, &job, b"");
+    leaves(&rt, &left, (0, &job, b""));
     Ok(())
 }
 
@@ -86,7 +85,7 @@ fn a_sink_of_short_writes_gets_the_job(rt: HostRuntime) -> Result<(), Fail> {
     let out = MemSink::make(alloc, TWO, vec![in alloc; 3, 1, 7]?, Vec::new(alloc))?;
     let input = plain(alloc, two_pages(alloc)?);
     let left = run_over(&rt, alloc, &PRINT, input, out, no_files(alloc))?;
-    left.is(&rt, 0, &two_jobs(alloc)?, b"");
+    leaves(&rt, &left, (0, &two_jobs(alloc)?, b""));
     Ok(())
 }
 
@@ -102,7 +101,7 @@ fn a_deaf_error_sink_leaves_the_status(rt: HostRuntime) -> Result<(), Fail> {
         let bytes = two_pages(alloc)?;
         let mut input = plain(alloc, prefix(&bytes, GREY_STREAM - 1).to_vec(alloc)?);
         let mut out = roomy(alloc)?;
-        let mut err = MemSink::make(alloc, room, Vec::new(alloc), Vec::new(alloc))?;
+        let mut err = sink(alloc, room)?;
         let mut shelf = no_files(alloc);
         let status = run(
             &rt,

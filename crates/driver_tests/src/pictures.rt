@@ -1,8 +1,8 @@
 //! Pictures of pseudo-random pixels, and their prints.
 use crate::any_printer::Printer;
-use crate::fixture::{Left, add_header_of, begin, one_file, plain, roomy, run_over};
 use crate::machine::execute;
 use crate::plain::{INKS, Kernel, wanted};
+use driver_fixtures::{Left, add_header, begin, one_file, plain, roomy, run_over};
 use pwg_header::Kind;
 use std::alloc::{AllocError, Global};
 use std::process::Abort;
@@ -105,7 +105,7 @@ impl Picture {
     /// A stream of this page alone, for a printer of these dots an inch.
     pub fn stream(&self, alloc: Global, resolution: (u32, u32)) -> Result<Vec<u8>, AllocError> {
         let mut stream = begin(alloc)?;
-        add_header_of(
+        add_header(
             &mut stream,
             self.kind,
             resolution,

@@ -1,9 +1,10 @@
 //! Pages that are printed and then played: the images have the dots that the page asks for.
 use crate::any_printer::{PLAINEST, Printer};
-use crate::fixture::{one_file, plain, roomy, run_over};
+use crate::fixture::leaves;
 use crate::grid::Grid;
 use crate::pictures::{Picture, print_picture};
 use crate::plain::{INKS, KERNELS, Kernel, wanted};
+use driver_fixtures::{one_file, plain, roomy, run_over};
 use pwg_header::Kind;
 use std::alloc::{AllocError, Global};
 use std::process::Abort;
@@ -67,7 +68,7 @@ fn plays_its_dots<R: Abort + Threads + Sync>(
         let dots = wanted(alloc, printer, picture, kernel, ink)?;
         add_image(alloc, &dots, picture.height, printer.top, &mut images)?;
     }
-    left.is(rt, 0, images.as_slice(), b"");
+    leaves(rt, &left, (0, images.as_slice(), b""));
     Ok(())
 }
 

@@ -1,10 +1,11 @@
 //! Words and profiles that are refused, and profiles that are shown.
-use crate::fixture::{Left, is_refused, no_files, one_file, plain, roomy, run_over};
+use crate::fixture::{is_refused, leaves};
+use driver_fixtures::{Left, no_files, one_file, plain, roomy, run_over, sink};
 use std::alloc::Global;
 use std::process::Abort;
 use std::test::Fail;
 use std::thread::Threads;
-use weave_base::{MemShelf, MemSink, Memory};
+use weave_base::{MemShelf, Memory};
 
 #[test]
 fn each_bad_word_has_its_cause(rt: HostRuntime) -> Result<(), Fail> {
@@ -62,13 +63,13 @@ fn profile_prints_its_canonical_text(rt: HostRuntime) -> Result<(), Fail> {
     let alloc = rt.alloc();
     assert_eq!(rt; TINY.len(), 151);
     let built_in = show(&rt, alloc, "profile=tiny", no_files(alloc))?;
-    built_in.is(&rt, 0, TINY, b"");
+    leaves(&rt, &built_in, (0, TINY, b""));
     let absent = show(&rt, alloc, "profile=none.txt", no_files(alloc))?;
-    absent.is(&rt, 2, b"", b"profile: line 0: Absent\n");
+    leaves(&rt, &absent, (2, b"", b"profile: line 0: Absent\n"));
     // the shelf is not asked for a built-in profile
     let failing = MemShelf::make(Vec::new(alloc), vec![in alloc; 1]?);
     let unasked = show(&rt, alloc, "profile=tiny", failing)?;
-    unasked.is(&rt, 0, TINY, b"");
+    leaves(&rt, &unasked, (0, TINY, b""));
     Ok(())
 }
 
@@ -96,7 +97,7 @@ fn a_failing_shelf_is_a_failed_read(rt: HostRuntime) -> Result<(), Fail> {
 fn a_failing_sink_is_no_page(rt: HostRuntime) -> Result<(), Fail> {
     let alloc = rt.alloc();
     let input = plain(alloc, Vec::new(alloc));
-    let out = MemSink::make(alloc, 150, Vec::new(alloc), Vec::new(alloc))?;
+    let out = sink(alloc, 150)?;
     let left = run_over(
         &rt,
         alloc,
@@ -105,7 +106,7 @@ fn a_failing_sink_is_no_page(rt: HostRuntime) -> Result<(), Fail> {
         out,
         no_files(alloc),
     )?;
-    left.is(&rt, 5, &TINY[..150], b"write failed: page 0\n");
+    leaves(&rt, &left, (5, &TINY[..150], b"write failed: page 0\n"));
     Ok(())
 }
 
@@ -124,7 +125,7 @@ fn shows<R: Abort + Threads + Sync>(
         "profile=new.txt",
         one_file(alloc, "new.txt", text)?,
     )?;
-    left.is(rt, status, out, line);
+    leaves(rt, &left, (status, out, line));
     Ok(())
 }
 

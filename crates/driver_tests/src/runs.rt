@@ -1,8 +1,9 @@
 //! Streams of pages, whole and refused.
 use crate::fixture::{
-    GREY_BODY, GREY_JOB, GREY_STREAM, PRINT, add_header, no_files, one_page, prefix, print_bytes,
-    roomy, run_over, two_pages,
+    GREY_BODY, GREY_JOB, GREY_STREAM, PRINT, hashes_to, leaves, one_page, print_bytes, two_pages,
 };
+use driver_fixtures::{add_page, no_files, prefix, roomy, run_over};
+use pwg_header::Kind;
 use std::alloc::Global;
 use std::process::Abort;
 use std::test::Fail;
@@ -13,7 +14,7 @@ use weave_base::{MemSource, Memory};
 fn the_first_path_prints_one_grey_page(rt: HostRuntime) -> Result<(), Fail> {
     let alloc = rt.alloc();
     let left = print_bytes(&rt, alloc, one_page(alloc, 4, 2, &GREY_BODY)?)?;
-    left.is(&rt, 0, &GREY_JOB, b"");
+    leaves(&rt, &left, (0, &GREY_JOB, b""));
     Ok(())
 }
 
@@ -21,13 +22,17 @@ fn the_first_path_prints_one_grey_page(rt: HostRuntime) -> Result<(), Fail> {
 fn a_run_past_its_line_is_refused_at_its_byte(rt: HostRuntime) -> Result<(), Fail> {
     let alloc = rt.alloc();
     let whole = print_bytes(&rt, alloc, one_page(alloc, 8, 6, &[0, 8, 0])?)?;
-    whole.is(&rt, 3, b"", b"input: page 1 line 1: RunPastLine\n");
+    leaves(
+        &rt,
+        &whole,
+        (3, b"", b"input: page 1 line 1: RunPastLine\n"),
+    );
     let cut = print_bytes(&rt, alloc, one_page(alloc, 8, 6, &[0, 8])?)?;
-    cut.is(&rt, 3, b"", b"input: page 1 line 1: RunPastLine\n");
+    leaves(&rt, &cut, (3, b"", b"input: page 1 line 1: RunPastLine\n"));
     let later = print_bytes(&rt, alloc, one_page(alloc, 8, 6, &[2, 7, 0, 1, 0xF9])?)?;
-    later.is(&rt, 3, b"", b"input: page 1 line 4: Truncated\n");
+    leaves(&rt, &later, (3, b"", b"input: page 1 line 4: Truncated\n"));
     let past = print_bytes(&rt, alloc, one_page(alloc, 8, 6, &[2, 7, 0, 1, 0xF8])?)?;
-    past.is(&rt, 3, b"", b"input: page 1 line 4: RunPastLine\n");
+    leaves(&rt, &past, (3, b"", b"input: page 1 line 4: RunPastLine\n"));
     Ok(())
 }
 
@@ -36,9 +41,9 @@ fn a_group_past_the_page_is_refused_at_its_count(rt: HostRuntime) -> Result<(), 
     let alloc = rt.alloc();
     let line = b"input: page 1 line 1: GroupPastPage\n";
     let whole = print_bytes(&rt, alloc, one_page(alloc, 8, 255, &[0xFF, 7, 0])?)?;
-    whole.is(&rt, 3, b"", line);
+    leaves(&rt, &whole, (3, b"", line));
     let cut = print_bytes(&rt, alloc, one_page(alloc, 8, 255, &[0xFF])?)?;
-    cut.is(&rt, 3, b"", line);
+    leaves(&rt, &cut, (3, b"", line));
     Ok(())
 }
 
@@ -71,7 +76,7 @@ fn a_refused_header_is_named_by_its_cause(rt: HostRuntime) -> Result<(), Fail> {
     ];
     for (at, byte, line) in cases {
         let left = print_bytes(&rt, alloc, changed(alloc, at, byte)?)?;
-        left.is(&rt, 3, b"", line);
+        leaves(&rt, &left, (3, b"", line));
     }
     Ok(())
 }
@@ -80,10 +85,13 @@ fn a_refused_header_is_named_by_its_cause(rt: HostRuntime) -> Result<(), Fail> {
 fn a_fault_of_the_second_page_keeps_the_first(rt: HostRuntime) -> Result<(), Fail> {
     let alloc = rt.alloc();
     let mut bytes = one_page(alloc, 4, 2, &GREY_BODY)?;
-    add_header(&mut bytes, (360, 360), (4, 2))?;
-    bytes.extend_from_slice(&[0, 3, 0, 0, 4])?;
+    add_page(&mut bytes, Kind::Gray8, (4, 2), &[0, 3, 0, 0, 4])?;
     let left = print_bytes(&rt, alloc, bytes)?;
-    left.is(&rt, 3, &GREY_JOB, b"input: page 2 line 2: RunPastLine\n");
+    leaves(
+        &rt,
+        &left,
+        (3, &GREY_JOB, b"input: page 2 line 2: RunPastLine\n"),
+    );
     Ok(())
 }
 
@@ -130,7 +138,7 @@ fn a_stream_byte_by_byte_gives_the_job(rt: HostRuntime) -> Result<(), Fail> {
     let alloc = rt.alloc();
     let input = MemSource::make(two_pages(alloc)?, vec![in alloc; 1]?, Vec::new(alloc));
     let left = run_over(&rt, alloc, &PRINT, input, roomy(alloc)?, no_files(alloc))?;
-    left.hashes_to(&rt, 140, 0xA4B8_6246_BB4F_0371);
+    hashes_to(&rt, &left, 140, 0xA4B8_6246_BB4F_0371);
     Ok(())
 }
 
@@ -159,7 +167,7 @@ fn every_prefix_of_a_stream_has_its_answer(rt: HostRuntime) -> Result<(), Fail> 
         } else {
             GREY_JOB.as_slice()
         };
-        left.is(&rt, status, job, line);
+        leaves(&rt, &left, (status, job, line));
     }
     Ok(())
 }
@@ -173,8 +181,8 @@ fn a_page_of_the_greatest_width_is_printed(rt: HostRuntime) -> Result<(), Fail> 
     }
     body.extend_from_slice(&[126, 0])?;
     let left = print_bytes(&rt, alloc, one_page(alloc, 8191, 1, &body)?)?;
-    left.hashes_to(&rt, 79, 0x1276_6F55_193F_5370);
+    hashes_to(&rt, &left, 79, 0x1276_6F55_193F_5370);
     let wider = print_bytes(&rt, alloc, one_page(alloc, 8192, 1, &body)?)?;
-    wider.is(&rt, 3, b"", b"input: page 1 line 0: Width\n");
+    leaves(&rt, &wider, (3, b"", b"input: page 1 line 0: Width\n"));
     Ok(())
 }
