@@ -25,6 +25,3 @@ pub use page_halftoner::Halftoner;
 pub use running::{run, tell};
 pub use tile_shape::Place;
 pub use wavefront_team::{Gate, OpenGate};
-
-#[cfg(test)]
-mod tests;
