@@ -4,7 +4,7 @@ use Rattle.std.specs.Prelude.{None}
 use Rattle.std.specs.List.{list_any}
 use Rattle.std.proofs.lemmas.Bool.{eqb-true, le-ltb, not-false, or_parts}
 use Rattle.printer_definitions.specs.Printer.{Printer, column_step, nozzle_step, row_step}
-use Rattle.escp2_definitions.specs.declared.command.RasterHeader.{RasterHeader}
+use Rattle.escp2_definitions.specs.declared.command.RasterHead.{RasterHead}
 use Rattle.escp2_definitions.specs.declared.stops.EmuFault.TheVariants.{NotGraphics, Density, Rows, OffGrid, OffSheet, Overprint}
 use Rattle.escp2_definitions.specs.Commands.{last_column}
 use Rattle.escp2_definitions.specs.Machine.{Machine, Refusal, bottom_margin, first_fault, from_top, is_off_grid, is_other_density}
@@ -17,7 +17,7 @@ use Rattle.dot_emulator.specs.Steps.{AreStepsOf}
 use Rattle.dot_emulator.proofs.Refusals.{NoneOf, div-mono, ends-at, multiple, none-of}
 
 -- the tests before those of its dots
-abbrev early : Printer → Machine → RasterHeader → List Refusal
+abbrev early : Printer → Machine → RasterHead → List Refusal
 early p m header =
     refuse (not m.graphics) NotGraphics ∷ no_unit m ∷ no_margins m
     ∷ refuse (is_other_density p header) Density
@@ -26,7 +26,7 @@ early p m header =
     ∷ []
 
 -- The raster as the code makes it.
-pub record IsMade (p : Printer) (m : Machine) (header : RasterHeader) (s : Steps) (r : Raster) : Type 0 where
+pub record IsMade (p : Printer) (m : Machine) (header : RasterHead) (s : Steps) (r : Raster) : Type 0 where
   pub steps : AreStepsOf p s
   pub passed : None ≡ early_fault p m header
   pub fits : r.x + header.n ≤ last_column
@@ -38,7 +38,7 @@ pub record IsMade (p : Printer) (m : Machine) (header : RasterHeader) (s : Steps
   pub end_is : r.end ≡ (bottom_margin m + s.row - 1) / s.row
   pub on_page : bottom_margin m ≤ page_length m
 
-pub placed : (p : Printer) (m : Machine) (header : RasterHeader) (s : Steps) (r : Raster) → IsMade p m header s r → Placed p m header r
+pub placed : (p : Printer) (m : Machine) (header : RasterHead) (s : Steps) (r : Raster) → IsMade p m header s r → Placed p m header r
 placed p m header s r made = record {
   left = λ rows. none.more (refuse (nat_lt last_column (m.across / column_step p + header.n)
       || list_any (λ d. nat_le (bottom_margin m) d.y) (raster_dots m header rows)) OffSheet
@@ -49,12 +49,12 @@ placed p m header s r made = record {
       ap (λ x. rows_dots header.m header m.colour x (from_top m) rows) (sym across_is)
       ∙ ap (λ y. rows_dots header.m header m.colour (r.x * column_step p) y rows) (sym down_is)
       ∙ ap (λ ink. rows_dots header.m header ink (r.x * column_step p) (r.y * row_step p) rows) (sym made.ink_is)
-      ∙ ap (λ (h : RasterHeader). rows_dots h.m h r.ink (r.x * column_step p) (r.y * row_step p) rows) (sym made.header_is);
+      ∙ ap (λ (h : RasterHead). rows_dots h.m h r.ink (r.x * column_step p) (r.y * row_step p) rows) (sym made.header_is);
   stands = record {
     some_column = omega (arith, made.steps.column, s.column_some);
     some_row = omega (arith, made.steps.row, s.row_least);
-    across = ap (λ (h : RasterHeader). h.h) made.header_is ∙ eqb-true header.h (column_step p) (not-false _ density.0);
-    down = ap (λ (h : RasterHeader). h.v) made.header_is
+    across = ap (λ (h : RasterHead). h.h) made.header_is ∙ eqb-true header.h (column_step p) (not-false _ density.0);
+    down = ap (λ (h : RasterHead). h.v) made.header_is
         ∙ eqb-true header.v (nozzle_step p) (not-false _ density.1) ∙ sym made.steps.nozzle ∙ s.nozzle_rows
         ∙ ap (λ n. n * s.row) (sym made.pitch_is) ∙ ap (λ n. r.pitch * n) made.steps.row;
     ends = λ n. ends-at (bottom_margin m) (row_step p) n (omega (arith, made.steps.row, s.row_least)) ∙ ap (λ k. nat_le k n) (sym end_is);

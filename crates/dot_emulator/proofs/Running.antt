@@ -5,7 +5,7 @@ use Rattle.std.specs.Prelude.{Option, Some, None, Ok, is_some, is_none, if◌the
 use Rattle.std.specs.List.{AllByRecursion, list_any}
 use Rattle.std.proofs.lemmas.Bool.{false≢true, lt-ltb, ltb-false, ltb-true}
 use Rattle.printer_definitions.specs.Printer.{Printer, column_step, row_step}
-use Rattle.escp2_definitions.specs.declared.command.RasterHeader.{RasterHeader}
+use Rattle.escp2_definitions.specs.declared.command.RasterHead.{RasterHead}
 use Rattle.escp2_definitions.specs.declared.command.Command.{Command}
 use Rattle.escp2_definitions.specs.declared.command.Command.TheVariants as c
 use Rattle.escp2_definitions.specs.declared.stops.EmuFault.TheVariants.{Backward, NoUnit, OffSheet, Overprint}
@@ -145,7 +145,7 @@ planes-have p m None none = ap (λ (ds : List Dot). length ds) none
 planes-have p m (Some t) shows = shows.1.places
 
 -- the refusals that depend on the dots, from the raster's place
-pub late : (p : Printer) (m : Machine) (header : RasterHeader) (r : Raster) (rows : List ℕ) → Placed p m header r
+pub late : (p : Printer) (m : Machine) (header : RasterHead) (r : Raster) (rows : List ℕ) → Placed p m header r
     → first_fault (refusals p m (c.Raster header) rows)
     ≡ first_fault (refuse (list_any (λ d. nat_le (bottom_margin m) d.y) (fired (grid_of p m) r rows)) OffSheet
     ∷ refuse (overprints m.dots (fired (grid_of p m) r rows)) Overprint ∷ [])
@@ -176,7 +176,7 @@ old-inside p m columns height (Some t) shows rows more =
     subst P rows (wider (column_step p) (row_step p) m.columns columns t.rows m.dots more shows.1.inside)
 
 -- a raster with dots
-pub laid-shows : (p : Printer) (m : Machine) (header : RasterHeader)
+pub laid-shows : (p : Printer) (m : Machine) (header : RasterHead)
     (r : Raster) (rows : List ℕ) (planes new : Option DotTable) (height : ℕ) → Placed p m header r → HasRows r rows
     → IsAbove (grid_of p m) r rows → ShowsDots p m planes → rows_or height planes ≡ height
     → r.end ≤ height → (n : ℕ) → rows_or n new ≡ height → LaidIn (grid_of p m) r rows m.dots new
@@ -190,7 +190,7 @@ laid-shows p m header r rows planes new height placed fits above shows is end_fi
     let D : List Dot → Type 0 = λ ds. HasDots (column_step p) (row_step p) m'.columns ds t in
     let height_is : t.rows ≡ height = ap (λ (o : Option DotTable). rows_or n o) (sym laid.is) ∙ new_rows in
     let P : ℕ → Type 0 = λ n. AllByRecursion (IsOnGrid (column_step p) (row_step p) m'.columns n) (m.dots ++ fired g r rows) in
-    let n_is : r.header.n ≡ header.n = ap (λ (h : RasterHeader). h.n) placed.header_is in
+    let n_is : r.header.n ≡ header.n = ap (λ (h : RasterHead). h.n) placed.header_is in
     let fits_columns : r.x + r.header.n ≤ m'.columns = omega (arith, placed.column, n_is) in
     subst S (sym laid.is) (
       ap (λ (ds : List Dot). nat_lt 0 (length ds)) dots_are ∙ some-more m.dots (fired g r rows) some,
@@ -204,7 +204,7 @@ laid-shows p m header r rows planes new height placed fits above shows is end_fi
 
 -- a raster without dots
 pub blank-shows : (p : Printer)
-    (m : Machine) (header : RasterHeader) (r : Raster) (rows : List ℕ) (planes : Option DotTable) → Placed p m header r
+    (m : Machine) (header : RasterHead) (r : Raster) (rows : List ℕ) (planes : Option DotTable) → Placed p m header r
     → nat_lt 0 (length (fired (grid_of p m) r rows)) ≡ false → ShowsDots p m planes → ShowsDots p (after p m (c.Raster header) rows) planes
 blank-shows p m header r rows planes placed none shows = by_planes planes shows
   where
@@ -294,7 +294,7 @@ eject-runs p m rows old new sheet shows e =
 
 -- ---- a raster is fired
 
-pub record IsFired (p : Printer) (m : Machine) (header : RasterHeader) (r : Raster) (rows : List ℕ) (old new : Emulator) : Type 0 where
+pub record IsFired (p : Printer) (m : Machine) (header : RasterHead) (r : Raster) (rows : List ℕ) (old new : Emulator) : Type 0 where
   pub placed : Placed p m header r
   pub fits : HasRows r rows
   pub none : None ≡ first_fault (refuse (list_any (λ d. nat_le (bottom_margin m) d.y) (fired (grid_of p m) r rows)) OffSheet
@@ -304,17 +304,17 @@ pub record IsFired (p : Printer) (m : Machine) (header : RasterHeader) (r : Rast
 
 -- the machine after a raster, from the state that the code takes
 pub raster-step : (p : Printer) (m : Machine)
-    (header : RasterHeader) (r : Raster) (rows : List ℕ) (old : Emulator) (s : State) → Shows p old m → r.header ≡ header
+    (header : RasterHead) (r : Raster) (rows : List ℕ) (old : Emulator) (s : State) → Shows p old m → r.header ≡ header
     → machine_of s (after p (machine_of old.state m.dots) (c.Raster r.header) rows).dots
     ≡ after p (machine_of old.state m.dots) (c.Raster r.header) rows
     → machine_of s (after p m (c.Raster header) rows).dots ≡ after p m (c.Raster header) rows
 raster-step p m header r rows old s shows header_is step =
-    let H : RasterHeader → Type 0 = λ h. machine_of s (after p (machine_of old.state m.dots) (c.Raster h) rows).dots
+    let H : RasterHead → Type 0 = λ h. machine_of s (after p (machine_of old.state m.dots) (c.Raster h) rows).dots
     ≡ after p (machine_of old.state m.dots) (c.Raster h) rows in
     let M : Machine → Type 0 = λ n. machine_of s (after p n (c.Raster header) rows).dots ≡ after p n (c.Raster header) rows in
     subst M shows.state (subst H header_is step)
 
-pub fire-runs : (p : Printer) (m : Machine) (header : RasterHeader) (r : Raster) (rows : List ℕ) (old new : Emulator)
+pub fire-runs : (p : Printer) (m : Machine) (header : RasterHead) (r : Raster) (rows : List ℕ) (old new : Emulator)
     → Shows p old m → IsFired p m header r rows old new
     → ShowsDots p (after p m (c.Raster header) rows) new.planes → Runs p m (c.Raster header) rows old new (Ok None)
 fire-runs p m header r rows old new shows f dots =

@@ -4,7 +4,7 @@ use Rattle.escp2_definitions.specs.Machine.{Dot, Machine, after, first_fault, is
 use Rattle.escp2_definitions.specs.Machine.{no_margins, no_unit, refusals, refuse}
 use Rattle.escp2_definitions.specs.declared.command.Command.{Command}
 use Rattle.escp2_definitions.specs.declared.command.Command.TheVariants as c
-use Rattle.escp2_definitions.specs.declared.command.RasterHeader.{RasterHeader}
+use Rattle.escp2_definitions.specs.declared.command.RasterHead.{RasterHead}
 use Rattle.escp2_definitions.specs.declared.stops.EmuFault.{EmuFault}
 use Rattle.escp2_definitions.specs.declared.stops.EmuFault.TheVariants.{NotGraphics, Density, Rows, OffGrid}
 use Rattle.printer_definitions.specs.Printer.{Printer}
@@ -39,7 +39,7 @@ is_plain c.Eject = false
 is_plain other = true
 
 -- why a raster is refused, whatever its dots
-abbrev pub early_fault : Printer → Machine → RasterHeader → Option EmuFault
+abbrev pub early_fault : Printer → Machine → RasterHead → Option EmuFault
 early_fault p m header = first_fault (
     refuse (not m.graphics) NotGraphics ∷ no_unit m ∷ no_margins m
     ∷ refuse (is_other_density p header) Density

@@ -11,7 +11,7 @@ ghost use Rattle.std.specs.Prelude.{IsOk, length, true, ◌≡◌};
 use crate::firing::Raster;
 use crate::raster::Steps;
 use crate::state::State;
-use crate::{Command, EmuFault, RasterHeader, Sheet};
+use crate::{Command, EmuFault, RasterHead, Sheet};
 use dot_planes::Planes;
 use printer_profile::{Profile, checked_can_print};
 use pwg_definitions::MOST_COLUMNS;
@@ -99,7 +99,7 @@ impl Emulator {
             → Shows p self.old m → Runs p m command.now rows.now self.old self.new result }
     {
         match *command {
-            Command::Raster { header } => self.fire(header, rows),
+            Command::Raster { head: header } => self.fire(header, rows),
             Command::Eject => self.eject(),
             plain => self.set(plain),
         }
@@ -131,7 +131,7 @@ impl Emulator {
         Ok(Some(sheet))
     }
 
-    fn fire(&mut self, header: RasterHeader, rows: &[u8]) -> Result<Option<Sheet>, EmuStop>
+    fn fire(&mut self, header: RasterHead, rows: &[u8]) -> Result<Option<Sheet>, EmuStop>
         requires in_range { in_table (c.Raster header) ≡ true }
         requires rows_fit { length rows.now ≡ rows_len (c.Raster header) }
         ensures { (p : Printer) (m : Machine)
@@ -151,7 +151,7 @@ impl Emulator {
     }
 
     // Where on the sheet a raster is, or why it is refused whatever its dots.
-    fn place(&self, header: RasterHeader) -> Result<Raster, EmuFault>
+    fn place(&self, header: RasterHead) -> Result<Raster, EmuFault>
         requires { header.n ≤ last_column }
         ensures placed { (p : Printer) (dots : List Dot)
             → AreStepsOf p self.now.steps → IsPlaced p (machine_of self.now.state dots) header result }

@@ -5,14 +5,14 @@ ghost use Rattle.printer_definitions.specs.Inks.{ink_place};
 ghost use Rattle.pwg_definitions.specs.Limits.{most_rows};
 ghost use Rattle.std.specs.Prelude.{drop, length, take, ◌*◌, ◌+◌, ◌<◌, ◌≡◌, ◌≤◌};
 
-use crate::RasterHeader;
+use crate::RasterHead;
 use dot_planes::{Planes, has_dot};
 use weave_base::Ink;
 
 /// A raster in columns and rows of its sheet.
 #[derive(Clone, Copy)]
 pub(crate) struct Raster {
-    pub(crate) header: RasterHeader,
+    pub(crate) header: RasterHead,
     pub(crate) ink: Ink,
     /// The column of its first dots.
     pub(crate) x: u32,

@@ -16,7 +16,7 @@ mod state;
 mod steps;
 
 pub use emulator::{EmuStop, Emulator};
-pub use escp2_commands::{Command, RasterHeader};
+pub use escp2_commands::{Command, RasterHead};
 pub use escp2_definitions::EmuFault;
 pub use sheet::Sheet;
 

@@ -8,7 +8,7 @@ ghost use Rattle.std.specs.Prelude.{[], ◌%◌, ◌*◌, ◌/◌, ◌<◌, ◌�
 
 use crate::firing::Raster;
 use crate::state::State;
-use crate::{EmuFault, RasterHeader};
+use crate::{EmuFault, RasterHead};
 use printer_profile::Profile;
 use pwg_definitions::MOST_COLUMNS;
 
@@ -58,7 +58,7 @@ impl State {
     ghost use Rattle.printer_definitions.specs.Printer.{Printer};
 
     /// Why a raster is refused, whatever its dots.
-    pub(crate) fn refuses_raster(&self, steps: Steps, header: RasterHeader) -> Option<EmuFault>
+    pub(crate) fn refuses_raster(&self, steps: Steps, header: RasterHead) -> Option<EmuFault>
         ensures is { (p : Printer) → AreStepsOf p steps → result ≡ early_fault p (machine_of self.now []) header }
         ensures page { result ≡ None → 1 ≤ unwrap_or self.now.page 0 }
         ensures column { result ≡ None → header.h ≡ steps.column }
@@ -85,7 +85,7 @@ impl State {
     }
 
     /// Where on the sheet a raster is, or why it is refused whatever its dots.
-    pub(crate) fn place(&self, steps: Steps, header: RasterHeader) -> Result<Raster, EmuFault>
+    pub(crate) fn place(&self, steps: Steps, header: RasterHead) -> Result<Raster, EmuFault>
         requires { header.n ≤ last_column }
         ensures placed { (p : Printer) (dots : List Dot)
             → AreStepsOf p steps → IsPlaced p (machine_of self.now dots) header result }

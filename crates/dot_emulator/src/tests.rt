@@ -3,7 +3,7 @@
 ghost use Rattle.escp2_definitions.specs.Commands.{rows_len as rows_len_of};
 ghost use Rattle.std.specs.Prelude.{◌≡◌};
 
-use crate::{Command, EmuFault, EmuStop, Emulator, RasterHeader, Sheet};
+use crate::{Command, EmuFault, EmuStop, Emulator, RasterHead, Sheet};
 use escp2_commands::in_table;
 use known_jobs::TINY_COMMANDS;
 use printer_profile::TINY;
@@ -12,7 +12,7 @@ use std::process::Abort;
 use std::test::Fail;
 use weave_base::Ink;
 
-const HEADER: RasterHeader = RasterHeader {
+const HEADER: RasterHead = RasterHead {
     c: 0,
     v: 20,
     h: 10,
@@ -24,7 +24,8 @@ fn rows_len(command: Command) -> usize
     ensures { result ≡ rows_len_of command }
 {
     match command {
-        Command::Raster { header } => usize::from(header.m) * ((usize::from(header.n) + 7) / 8),
+        Command::Raster { head: header } => usize::from(header.m)
+            * ((usize::from(header.n) + 7) / 8),
         _ => 0,
     }
 }
@@ -49,10 +50,10 @@ fn stop(rt: &impl Abort, emulator: &mut Emulator, command: Command) -> Option<Em
 fn fire(
     rt: &impl Abort,
     emulator: &mut Emulator,
-    header: RasterHeader,
+    header: RasterHead,
     rows: &[u8],
 ) -> Option<EmuStop> {
-    run(rt, emulator, Command::Raster { header }, rows).err()
+    run(rt, emulator, Command::Raster { head: header }, rows).err()
 }
 
 fn refused(fault: EmuFault) -> Option<EmuStop> {
@@ -121,10 +122,10 @@ fn a_sheet_has_its_dots_and_the_next_is_blank(rt: HostRuntime) -> Result<(), Fai
 #[test]
 fn dots_begin_at_across_and_blank_rasters_widen_the_sheet(rt: HostRuntime) -> Result<(), Fail> {
     let mut emulator = on_page(&rt, rt.alloc());
-    let narrow = RasterHeader { n: 5, ..HEADER };
+    let narrow = RasterHead { n: 5, ..HEADER };
     assert_eq!(rt; stop(&rt, &mut emulator, Command::Across { n: 4 }), None);
     assert_eq!(rt; fire(&rt, &mut emulator, narrow, &[0xAF, 0x07, 0x00]), None);
-    let blank = RasterHeader { n: 6, ..HEADER };
+    let blank = RasterHead { n: 6, ..HEADER };
     assert_eq!(rt; fire(&rt, &mut emulator, blank, &[0x00, 0x03, 0x00]), None);
     let sheet = ejected(&rt, &mut emulator)?;
     assert_eq!(rt; (sheet.rows, sheet.columns), (6, 13));
@@ -225,7 +226,7 @@ fn what_is_missing_is_refused_first(rt: HostRuntime) {
         stop(&rt, e, Command::DownBy { n: 99 }),
         refused(EmuFault::NoMargins)
     );
-    let other = RasterHeader {
+    let other = RasterHead {
         h: 11,
         m: 2,
         ..HEADER
@@ -238,22 +239,22 @@ fn the_numbers_of_a_raster_are_refused_in_their_order(rt: HostRuntime) {
     let mut emulator = on_page(&rt, rt.alloc());
     let e = &mut emulator;
     assert_eq!(rt; stop(&rt, e, Command::Across { n: 1 }), None);
-    let other = RasterHeader {
+    let other = RasterHead {
         h: 11,
         m: 2,
         ..HEADER
     };
     assert_eq!(rt; fire(&rt, e, other, &[0, 0]), refused(EmuFault::Density));
-    let wider = RasterHeader {
+    let wider = RasterHead {
         v: 10,
         m: 2,
         ..HEADER
     };
     assert_eq!(rt; fire(&rt, e, wider, &[0, 0]), refused(EmuFault::Density));
-    let two = RasterHeader { m: 2, ..HEADER };
+    let two = RasterHead { m: 2, ..HEADER };
     assert_eq!(rt; fire(&rt, e, two, &[0, 0]), refused(EmuFault::Rows));
     let long = [0; 3072];
-    let widest = RasterHeader { n: 8191, ..HEADER };
+    let widest = RasterHead { n: 8191, ..HEADER };
     assert_eq!(rt; fire(&rt, e, widest, &long), refused(EmuFault::OffGrid));
     assert_eq!(rt; stop(&rt, e, Command::Across { n: 2 }), None);
     assert_eq!(rt; fire(&rt, e, widest, &long), refused(EmuFault::OffSheet));

@@ -4,7 +4,7 @@
 
 mod table;
 
-pub use escp2_definitions::{Command, RasterHeader};
+pub use escp2_definitions::{Command, RasterHead};
 pub use table::{MOST_COLUMNS, in_table};
 
 #[cfg(test)]

@@ -21,7 +21,7 @@ pub fn in_table(c: &Command) -> bool
         Command::Length { n } => 1 <= n && n <= 32_767,
         Command::Margins { top, bottom } => top < bottom && bottom <= 32_767,
         Command::DownTo { n } | Command::DownBy { n } | Command::Across { n } => n <= 32_767,
-        Command::Raster { header } => {
+        Command::Raster { head: header } => {
             let is_stepped = header.v >= 1 && header.h >= 1;
             let is_sized = header.m >= 1 && 1 <= header.n && header.n <= MOST_COLUMNS;
             header.c <= 1 && is_stepped && is_sized

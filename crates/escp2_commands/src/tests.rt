@@ -1,8 +1,8 @@
 //! The ends of each range of the command table, written here by hand.
-use crate::{Command, RasterHeader, in_table};
+use crate::{Command, RasterHead, in_table};
 use weave_base::Ink;
 
-const HEADER: RasterHeader = RasterHeader {
+const HEADER: RasterHead = RasterHead {
     c: 0,
     v: 10,
     h: 10,
@@ -10,8 +10,8 @@ const HEADER: RasterHeader = RasterHeader {
     n: 8,
 };
 
-fn raster(header: RasterHeader) -> Command {
-    Command::Raster { header }
+fn raster(header: RasterHead) -> Command {
+    Command::Raster { head: header }
 }
 
 #[test]
@@ -40,12 +40,12 @@ fn the_edges_of_each_range_are_in_the_table(rt: HostRuntime) {
         Command::Return,
         Command::Eject,
         Command::Colour { ink: Ink::Yellow },
-        raster(RasterHeader { c: 1, ..HEADER }),
-        raster(RasterHeader { v: 1, ..HEADER }),
-        raster(RasterHeader { h: 255, ..HEADER }),
-        raster(RasterHeader { m: 255, ..HEADER }),
-        raster(RasterHeader { n: 1, ..HEADER }),
-        raster(RasterHeader { n: 8_191, ..HEADER }),
+        raster(RasterHead { c: 1, ..HEADER }),
+        raster(RasterHead { v: 1, ..HEADER }),
+        raster(RasterHead { h: 255, ..HEADER }),
+        raster(RasterHead { m: 255, ..HEADER }),
+        raster(RasterHead { n: 1, ..HEADER }),
+        raster(RasterHead { n: 8_191, ..HEADER }),
     ];
     for c in &commands {
         assert!(rt; in_table(c));
@@ -73,12 +73,12 @@ fn one_past_each_edge_is_not_in_the_table(rt: HostRuntime) {
         Command::DownTo { n: 32_768 },
         Command::DownBy { n: 32_768 },
         Command::Across { n: 32_768 },
-        raster(RasterHeader { c: 2, ..HEADER }),
-        raster(RasterHeader { v: 0, ..HEADER }),
-        raster(RasterHeader { h: 0, ..HEADER }),
-        raster(RasterHeader { m: 0, ..HEADER }),
-        raster(RasterHeader { n: 0, ..HEADER }),
-        raster(RasterHeader { n: 8_192, ..HEADER }),
+        raster(RasterHead { c: 2, ..HEADER }),
+        raster(RasterHead { v: 0, ..HEADER }),
+        raster(RasterHead { h: 0, ..HEADER }),
+        raster(RasterHead { m: 0, ..HEADER }),
+        raster(RasterHead { n: 0, ..HEADER }),
+        raster(RasterHead { n: 8_192, ..HEADER }),
     ];
     for c in &commands {
         assert!(rt; !in_table(c));

@@ -4,7 +4,7 @@ use Rattle.std.specs.Prelude.{◌≡◌, ℕ, zero, suc, ◌+◌, ◌*◌, ◌/�
 use Rattle.std.specs.Prelude.{MatchBool, List, [], ◌∷◌, ◌++◌, length, drop}
 use Rattle.printer_definitions.specs.declared.inks.Ink.{Ink}
 use Rattle.printer_definitions.specs.declared.inks.Ink.TheVariants.{Black, Cyan, Magenta, Yellow}
-use Rattle.escp2_definitions.specs.declared.command.RasterHeader.{RasterHeader}
+use Rattle.escp2_definitions.specs.declared.command.RasterHead.{RasterHead}
 use Rattle.escp2_definitions.specs.declared.command.Command.{Command}
 use Rattle.escp2_definitions.specs.declared.command.Command.TheVariants as c
 use Rattle.escp2_definitions.specs.declared.stops.JobCause.{JobCause}
@@ -106,7 +106,7 @@ command_bytes (c.Colour ink) = 0x1B ∷ 0x72 ∷ colour_code ink ∷ []
 command_bytes (c.Raster header) = 0x1B ∷ 0x2E ∷ header.c ∷ header.v ∷ header.h ∷ header.m ∷ two_bytes header.n
 
 -- the bytes of one row of a raster
-abbrev pub row_bytes : RasterHeader → ℕ
+abbrev pub row_bytes : RasterHead → ℕ
 row_bytes header = (header.n + 7) / 8
 
 -- how many bytes of rows go with a command
@@ -158,13 +158,13 @@ sized len next (low ∷ []) = if low == len then Part else Wrong 3 BadLength
 sized len next (low ∷ high ∷ rest) = if low == len then (if high == 0 then next rest else Wrong 4 BadLength) else Wrong 3 BadLength
 
 -- a raster with the rows that were read
-abbrev pub with_rows : RasterHeader → RowsRead → Heard
+abbrev pub with_rows : RasterHead → RowsRead → Heard
 with_rows header (RowsAre rows at) = One (c.Raster header) rows at
 with_rows header RowsPart = Part
 with_rows header (RowsWrong at) = Wrong at RunCode
 
 -- the rows after a raster's numbers, which take eight bytes
-abbrev pub raster_rows : RasterHeader → List ℕ → Heard
+abbrev pub raster_rows : RasterHead → List ℕ → Heard
 raster_rows header rest =
     with_rows header (if header.c == 0 then plain_at (header.m * row_bytes header) 8 rest else rows_at header.m (row_bytes header) 8 rest)
 

@@ -6,7 +6,7 @@ use Rattle.printer_definitions.specs.declared.inks.Ink.{Ink}
 use Rattle.printer_definitions.specs.declared.inks.Ink.TheVariants.{Black}
 use Rattle.printer_definitions.specs.Inks.{same_ink}
 use Rattle.printer_definitions.specs.Printer.{Printer, column_step, row_step, nozzle_step}
-use Rattle.escp2_definitions.specs.declared.command.RasterHeader.{RasterHeader}
+use Rattle.escp2_definitions.specs.declared.command.RasterHead.{RasterHead}
 use Rattle.escp2_definitions.specs.declared.command.Command.{Command}
 use Rattle.escp2_definitions.specs.declared.command.Command.TheVariants as c
 use Rattle.escp2_definitions.specs.declared.stops.EmuFault.{EmuFault}
@@ -94,14 +94,14 @@ row_dots ink x step y (true ∷ row) = record { ink = ink; x = x; y = y } ∷ ro
 row_dots ink x step y (false ∷ row) = row_dots ink (x + step) step y row
 
 -- The dots of the rows of a raster, the top one first. Bits past the last column are no dots.
-unfoldable pub rows_dots : ℕ → RasterHeader → Ink → ℕ → ℕ → List ℕ → List Dot
+unfoldable pub rows_dots : ℕ → RasterHead → Ink → ℕ → ℕ → List ℕ → List Dot
 rows_dots zero header ink x y bytes = []
 rows_dots (suc m) header ink x y bytes =
     row_dots ink x header.h y (take header.n (bits (take (row_bytes header) bytes)))
     ++ rows_dots m header ink x (y + header.v) (drop (row_bytes header) bytes)
 
 -- the dots that a raster fires
-abbrev pub raster_dots : Machine → RasterHeader → List ℕ → List Dot
+abbrev pub raster_dots : Machine → RasterHead → List ℕ → List Dot
 raster_dots s header rows = rows_dots header.m header s.colour s.across (from_top s) rows
 
 -- whether two dots are of one ink at one place
@@ -137,7 +137,7 @@ abbrev pub no_margins : Machine → Refusal
 no_margins s = refuse (is_none s.margins) NoMargins
 
 -- whether a raster's steps are not those of the printer
-abbrev pub is_other_density : Printer → RasterHeader → Bool
+abbrev pub is_other_density : Printer → RasterHead → Bool
 is_other_density p header = not (header.h == column_step p) || not (header.v == nozzle_step p)
 
 -- whether the position is between the printer's columns or rows
@@ -145,7 +145,7 @@ abbrev pub is_off_grid : Printer → Machine → Bool
 is_off_grid p s = not (s.across % column_step p == 0) || not (from_top s % row_step p == 0)
 
 -- whether a raster goes past the last column, or has a dot at or below the bottom margin
-abbrev pub is_off_sheet : Printer → Machine → RasterHeader → List Dot → Bool
+abbrev pub is_off_sheet : Printer → Machine → RasterHead → List Dot → Bool
 is_off_sheet p s header new = nat_lt last_column (s.across / column_step p + header.n) || list_any (λ d. nat_le (bottom_margin s) d.y) new
 
 -- The refusals of a command, in the order in which they are tested.

@@ -4,7 +4,7 @@ use printer_definitions::Ink;
 
 /// The numbers of a raster, before its rows (ESC/P Reference Manual, `ESC .`).
 #[derive(Clone, Copy, Debug, PartialEq, Eq)]
-pub struct RasterHeader {
+pub struct RasterHead {
     /// How the rows are written: 0 plain, 1 coded.
     pub c: u8,
     /// The step from one row to the next, in 1/3600 inch.
@@ -47,5 +47,5 @@ pub enum Command {
     /// `ESC r`: the ink that rasters fire.
     Colour { ink: Ink },
     /// `ESC .`: fire rows of dots.
-    Raster { header: RasterHeader },
+    Raster { head: RasterHead },
 }

@@ -11,5 +11,5 @@
 mod command;
 mod stops;
 
-pub use command::{Command, RasterHeader};
+pub use command::{Command, RasterHead};
 pub use stops::{EmuFault, JobCause, JobStop};

@@ -3,7 +3,7 @@ use Rattle.std.proofs.Common.{◌≡◌, ℕ, zero, suc, ◌+◌, ◌-◌, ◌*�
 use Rattle.std.proofs.Common.{length, take, drop, refl, sym, ◌∙◌, ap, subst, arith, append-nil, length-append}
 use Rattle.std.specs.Prelude.{MatchBool}
 use Rattle.std.proofs.lemmas.List.{drop_at, take_at}
-use Rattle.escp2_definitions.specs.declared.command.RasterHeader.{RasterHeader}
+use Rattle.escp2_definitions.specs.declared.command.RasterHead.{RasterHead}
 use Rattle.escp2_definitions.specs.declared.command.Command.TheVariants as c
 use Rattle.escp2_definitions.specs.RowCode.{RowsCode, RowsRead, plain_at, rows_at}
 use Rattle.escp2_definitions.specs.RowCode.RowsRead.{RowsAre, RowsPart, RowsWrong}
@@ -17,12 +17,12 @@ use Rattle.escp2_laws.proofs.Told.{Told, told-number, told-wide}
 -- ---- rows of a raster
 
 -- What the rows of a raster are, read from bytes that are all theirs.
-record AreRows (header : RasterHeader) (rows text : List ℕ) : Type 0 where
+record AreRows (header : RasterHead) (rows text : List ℕ) : Type 0 where
   fits : length rows ≡ header.m * row_bytes header
   are : IsRowsText (c.Raster header) rows text
 
 -- plain rows are their bytes
-plain-are : (header : RasterHeader) (rows text : List ℕ) (next : ℕ) → (header.c == 0) ≡ true → next ≡ 8 + length text
+plain-are : (header : RasterHead) (rows text : List ℕ) (next : ℕ) → (header.c == 0) ≡ true → next ≡ 8 + length text
     → plain_at (header.m * row_bytes header) 8 (text ++ []) ≡ RowsAre rows next → AreRows header rows text
 plain-are header rows text next is_plain there = by_test (nat_lt (length (text ++ [])) n)
   where
@@ -45,7 +45,7 @@ codes-len (suc m) width code rows codes =
     omega (arith, ap length codes.5, length-append codes.1 codes.3, codes.6, codes-len m width codes.2 codes.3 codes.8)
 
 -- coded rows are what their code gives
-coded-are : (header : RasterHeader) (rows text : List ℕ) (next : ℕ) → (header.c == 0) ≡ false → next ≡ 8 + length text → AreBytes text
+coded-are : (header : RasterHead) (rows text : List ℕ) (next : ℕ) → (header.c == 0) ≡ false → next ≡ 8 + length text → AreBytes text
     → rows_at header.m (row_bytes header) 8 (text ++ []) ≡ RowsAre rows next → AreRows header rows text
 coded-are header rows text next is_coded there are e =
     let read : ReadRows header.m (row_bytes header) 8 text rows next =
@@ -59,7 +59,7 @@ coded-are header rows text next is_coded there are e =
     record { fits = codes-len header.m (row_bytes header) text rows codes; are = subst P (sym is_coded) codes }
 
 -- what decides the rows decides their raster
-raster-told : (header : RasterHeader) (read : List ℕ → RowsRead) (bytes : List ℕ) → in_table (c.Raster header) ≡ true
+raster-told : (header : RasterHead) (read : List ℕ → RowsRead) (bytes : List ℕ) → in_table (c.Raster header) ≡ true
     → ((more : List ℕ) → raster_rows header more ≡ with_rows header (read more))
     → ((rows text : List ℕ) (next : ℕ) → next ≡ 8 + length text → AreBytes text → read (text ++ []) ≡ RowsAre rows next
     → AreRows header rows text)
@@ -85,7 +85,7 @@ raster-told header read bytes ok is rows_are (RowsWrong place) t = record {
 }
 
 -- the rows after the numbers of a raster
-rows-of-raster : (header : RasterHeader) (bytes : List ℕ) → in_table (c.Raster header) ≡ true
+rows-of-raster : (header : RasterHead) (bytes : List ℕ) → in_table (c.Raster header) ≡ true
     → Told (raster_rows header) (command_bytes (c.Raster header)) bytes (raster_rows header bytes)
 rows-of-raster header bytes ok = by_form (header.c == 0) refl
   where

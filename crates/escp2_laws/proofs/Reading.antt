@@ -4,7 +4,7 @@ use Rattle.std.proofs.Common.{◌&&◌, if◌then◌else◌, ◌==◌, append-ni
 use Rattle.std.specs.Prelude.{MatchBool}
 use Rattle.printer_definitions.specs.declared.inks.Ink.TheVariants.{Black, Cyan, Magenta, Yellow}
 use Rattle.escp2_definitions.specs.declared.stops.JobCause.TheVariants.{BadValue}
-use Rattle.escp2_definitions.specs.declared.command.RasterHeader.{RasterHeader}
+use Rattle.escp2_definitions.specs.declared.command.RasterHead.{RasterHead}
 use Rattle.escp2_definitions.specs.declared.command.Command.{Command}
 use Rattle.escp2_definitions.specs.declared.command.Command.TheVariants as c
 use Rattle.escp2_definitions.specs.RowCode.{RowsCode, plain_at, rows_at}
@@ -52,7 +52,7 @@ and-right false false e = e
 -- ---- rasters
 
 -- rows in either form are read
-by_form : (b : Bool) (header : RasterHeader) (rows text rest : List ℕ) → length rows ≡ header.m * row_bytes header
+by_form : (b : Bool) (header : RasterHead) (rows text rest : List ℕ) → length rows ≡ header.m * row_bytes header
     → MatchBool b (text ≡ rows) (RowsCode header.m (row_bytes header) text rows)
     → with_rows header (if b
     then plain_at (header.m * row_bytes header) 8 (text ++ rest)
@@ -66,7 +66,7 @@ by_form true header rows text rest fits is =
 by_form false header rows text rest fits is = ap (with_rows header) (rows-read header.m (row_bytes header) 8 text rows rest is)
 
 -- a raster is read with its rows
-raster-reads : (header : RasterHeader) (rows text rest : List ℕ)
+raster-reads : (header : RasterHead) (rows text rest : List ℕ)
     → in_table (c.Raster header) ≡ true → length rows ≡ header.m * row_bytes header
     → MatchBool (header.c == 0) (text ≡ rows) (RowsCode header.m (row_bytes header) text rows)
     → raster_at (header.c ∷ header.v ∷ header.h ∷ header.m ∷ (two_bytes header.n ++ (text ++ rest)))

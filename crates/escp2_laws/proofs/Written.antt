@@ -4,7 +4,7 @@ use Rattle.std.proofs.Common.{◌∙◌, arith, length-drop, ◌⊎◌, inl, inr
 use Rattle.std.specs.Prelude.{MatchBool}
 use Rattle.std.specs.List.{flat_map}
 use Rattle.std.proofs.lemmas.List.{length-take-le, take-append-drop}
-use Rattle.escp2_definitions.specs.declared.command.RasterHeader.{RasterHeader}
+use Rattle.escp2_definitions.specs.declared.command.RasterHead.{RasterHead}
 use Rattle.escp2_definitions.specs.declared.command.Command.{Command}
 use Rattle.escp2_definitions.specs.declared.command.Command.TheVariants as c
 use Rattle.escp2_definitions.specs.Commands.{Spells, in_table, is_switch, row_bytes, rows_len}
@@ -47,7 +47,7 @@ rows_text false code m width rows fits (inl e) = absurd (let no : false ≡ true
 rows_text false code m width rows fits (inr codes) = apart-codes code m width rows codes fits
 
 -- the rows are plain, or have a code
-plain_or_coded : (coding : Coding) (header : RasterHeader) → IsCoding coding → header.c ≡ coding.c
+plain_or_coded : (coding : Coding) (header : RasterHead) → IsCoding coding → header.c ≡ coding.c
     → ((header.c == 0) ≡ true) ⊎ ((row : List ℕ) → RowCode (coding.code row) row)
 plain_or_coded coding header (inl e) is = inl (eq-eqb header.c 0 (is ∙ e))
 plain_or_coded coding header (inr coded) is = inr coded.1

@@ -4,7 +4,7 @@ use Rattle.std.proofs.Common.{refl, sym, ◌∙◌, ap, subst, arith, append_ass
 use Rattle.std.proofs.lemmas.List.{length-take-le, take-append-drop, take_all, take_at, take-append-le, drop_at, take_more}
 use Rattle.std.proofs.Math.Seq.{take-add}
 use Rattle.escp2_definitions.specs.declared.command.Command.{Command}
-use Rattle.escp2_definitions.specs.declared.command.RasterHeader.{RasterHeader}
+use Rattle.escp2_definitions.specs.declared.command.RasterHead.{RasterHead}
 use Rattle.escp2_definitions.specs.declared.stops.JobCause.{JobCause}
 use Rattle.escp2_definitions.specs.Commands.{Heard, Spells, command_at, raster_rows}
 use Rattle.escp2_definitions.specs.Commands.Heard.{One, Part, Wrong}
@@ -91,7 +91,7 @@ whole-more now header more rest last command len is pushed part e =
     ∙ ap length (sym is))
 
 -- the numbers of a raster, of which the last byte was gathered
-pub raster-more : (raster : RasterHeader) (begin next last : ℕ) (sofar bytes header more : List ℕ) → sofar ++ bytes ≡ more
+pub raster-more : (raster : RasterHead) (begin next last : ℕ) (sofar bytes header more : List ℕ) → sofar ++ bytes ≡ more
     → more ≡ header ++ last ∷ []
     → IsShort 0 header → IsRaster raster 0 command_at more → next ≡ begin + length sofar → AreBytes sofar → AreBytes bytes
     → BeginsRows raster begin next sofar bytes
@@ -215,7 +215,7 @@ last-behind used more sofar piece rest is shows = record {
 }
 
 -- the same where the numbers of a raster were gathered
-pub header-last : (state : HeardState) (raster : RasterHeader) (header : Stage) (begin next begin' next' used more : ℕ) (piece : List ℕ)
+pub header-last : (state : HeardState) (raster : RasterHead) (header : Stage) (begin next begin' next' used more : ℕ) (piece : List ℕ)
     → ((sofar rows : List ℕ) → Stands header begin next rows sofar → BeginsRows raster begin' next' sofar (take used piece))
     → OnFault state ((sofar : List ℕ) → BeginsRows raster begin' next' sofar (take used piece) → ShowsLast sofar piece more)
     → OnFault state ((sofar rows : List ℕ) → Stands header begin next rows sofar → ShowsLast sofar piece more)

@@ -3,7 +3,7 @@ use Rattle.std.proofs.Common.{◌≡◌, ℕ, ◌+◌, ◌-◌, ◌≤◌, List,
 use Rattle.std.proofs.Common.{append_assoc, append-nil, length-append}
 use Rattle.std.proofs.lemmas.List.{drop_at, length-take-le, take-take, take_all}
 use Rattle.std.proofs.Math.Seq.{take-append-add}
-use Rattle.escp2_definitions.specs.declared.command.RasterHeader.{RasterHeader}
+use Rattle.escp2_definitions.specs.declared.command.RasterHead.{RasterHead}
 use Rattle.escp2_definitions.specs.declared.command.Command.TheVariants as c
 use Rattle.escp2_definitions.specs.declared.stops.JobCause.TheVariants.{RunCode}
 use Rattle.escp2_definitions.specs.Commands.{command_at, raster_rows, with_rows}
@@ -24,20 +24,20 @@ use Rattle.escp2_reader.specs.Reading.{BeginsRows, HeardMore, OnFault, ShowsLast
 use Rattle.escp2_reader.proofs.Hearing.{bytes-append, bytes-take, last-behind}
 
 -- what is read of a raster goes on after its numbers
-reads-on : (raster : RasterHeader) (reader : RowReader) (rows sofar bytes rest : List ℕ) (in_rows : InRows raster reader rows sofar)
+reads-on : (raster : RasterHead) (reader : RowReader) (rows sofar bytes rest : List ℕ) (in_rows : InRows raster reader rows sofar)
     → command_at ((sofar ++ bytes) ++ rest) ≡ command_at (in_rows.front ++ (in_rows.code ++ (bytes ++ rest)))
 reads-on raster reader rows sofar bytes rest in_rows =
     ap command_at (ap (λ bs. (bs ++ bytes) ++ rest) in_rows.is
     ∙ append_assoc (in_rows.front ++ in_rows.code) bytes rest
     ∙ append_assoc in_rows.front in_rows.code (bytes ++ rest))
 
-sofar-len : (raster : RasterHeader) (reader : RowReader) (rows sofar : List ℕ) (in_rows : InRows raster reader rows sofar)
+sofar-len : (raster : RasterHead) (reader : RowReader) (rows sofar : List ℕ) (in_rows : InRows raster reader rows sofar)
     → length sofar ≡ 8 + length in_rows.code
 sofar-len raster reader rows sofar in_rows =
     omega (arith, ap length in_rows.is, length-append in_rows.front in_rows.code, in_rows.front_len)
 
 -- more of the rows
-pub rows-more : (raster : RasterHeader) (old new : RowReader) (begin next used : ℕ) (before after sofar piece : List ℕ) (job : JobReader)
+pub rows-more : (raster : RasterHead) (old new : RowReader) (begin next used : ℕ) (before after sofar piece : List ℕ) (job : JobReader)
     → Stands (Rows raster old) begin next before sofar → AreBytes piece → Takes old new (take used piece) before after
     → IsMore old new piece used
     → job.stage ≡ Rows raster new → job.begin ≡ begin → job.next ≡ next + used → job.rows.items ≡ after
@@ -80,11 +80,11 @@ rows-more raster old new begin next used before after sofar piece job stood are 
     all = take_all used piece (omega (arith, more.all))
 
 -- the rows, as their reader reads them
-read-rows : (raster : RasterHeader) (bytes : List ℕ) → raster_rows raster bytes ≡ with_rows raster (rows_read (form_of raster) bytes)
+read-rows : (raster : RasterHead) (bytes : List ℕ) → raster_rows raster bytes ≡ with_rows raster (rows_read (form_of raster) bytes)
 read-rows raster bytes = refl
 
 -- the last of the rows
-pub rows-whole : (raster : RasterHeader) (old new : RowReader) (begin next used : ℕ) (before after sofar piece rest : List ℕ)
+pub rows-whole : (raster : RasterHead) (old new : RowReader) (begin next used : ℕ) (before after sofar piece rest : List ℕ)
     → Stands (Rows raster old) begin next before sofar → used ≤ length piece → Takes old new (take used piece) before after
     → IsWhole old new piece used before after
     → command_at ((sofar ++ take used piece) ++ rest) ≡ One (c.Raster raster) after (length (sofar ++ take used piece))
@@ -114,7 +114,7 @@ rows-whole raster old new begin next used before after sofar piece rest stood wi
     )
 
 -- a control byte that is refused
-pub rows-wrong : (raster : RasterHeader) (old new : RowReader) (begin next used at place : ℕ) (before sofar piece rest : List ℕ)
+pub rows-wrong : (raster : RasterHead) (old new : RowReader) (begin next used at place : ℕ) (before sofar piece rest : List ℕ)
     → Stands (Rows raster old) begin next before sofar → IsFault old new piece used at → place ≡ next + at - begin
     → command_at ((sofar ++ take used piece) ++ rest) ≡ Wrong place RunCode
 rows-wrong raster old new begin next used at place before sofar piece rest stood fault stands =
@@ -132,7 +132,7 @@ rows-wrong raster old new begin next used at place before sofar piece rest stood
     there = omega (arith, stands, stood.fed, sofar-len raster old before sofar in_rows)
 
 -- it is the last byte that was used
-rows-last : (raster : RasterHeader) (old new : RowReader) (begin next used at : ℕ) (before sofar piece : List ℕ)
+rows-last : (raster : RasterHead) (old new : RowReader) (begin next used at : ℕ) (before sofar piece : List ℕ)
     → Stands (Rows raster old) begin next before sofar → IsFault old new piece used at → ShowsLast sofar piece used
 rows-last raster old new begin next used at before sofar piece stood fault = record {
   some = omega (arith, fault.last);
@@ -149,7 +149,7 @@ rows-last raster old new begin next used at before sofar piece stood fault = rec
         ∙ ap (λ bs. sofar ++ bs) (take-take at used piece (omega (arith, fault.last)))
 
 -- before the rows of a raster
-pub rows-begin : (raster : RasterHeader) (reader : RowReader) (begin next used : ℕ) (rows sofar piece : List ℕ)
+pub rows-begin : (raster : RasterHead) (reader : RowReader) (begin next used : ℕ) (rows sofar piece : List ℕ)
     → BeginsRows raster begin next sofar (take used piece)
     → used ≤ length piece → RowsStandFor (form_of raster) reader [] [] → rows ≡ []
     → Stands (Rows raster reader) begin (next + used) rows (sofar ++ take used piece)
@@ -167,7 +167,7 @@ rows-begin raster reader begin next used rows sofar piece begins within anew non
 }
 
 -- a fault in rows that begin within a piece shows with the last byte that was used
-pub begin-last : (state : HeardState) (raster : RasterHeader) (reader : RowReader) (begin next used more : ℕ) (rows piece rest : List ℕ)
+pub begin-last : (state : HeardState) (raster : RasterHead) (reader : RowReader) (begin next used more : ℕ) (rows piece rest : List ℕ)
     → rest ≡ drop used piece → used ≤ length piece → RowsStandFor (form_of raster) reader [] [] → rows ≡ []
     → OnFault state ((sofar : List ℕ) → Stands (Rows raster reader) begin (next + used) rows sofar → ShowsLast sofar rest more)
     → OnFault state ((sofar : List ℕ) → BeginsRows raster begin next sofar (take used piece) → ShowsLast sofar piece (used + more))
@@ -178,7 +178,7 @@ begin-last (heard.Fault offset cause) raster reader begin next used more rows pi
     (shows (sofar ++ take used piece) (rows-begin raster reader begin next used rows sofar piece begins within anew none))
 
 -- a fault in rows shows with the last byte that was used
-pub fault-last : (state : HeardState) (raster : RasterHeader) (old new : RowReader) (begin next used count at : ℕ) (before piece : List ℕ)
+pub fault-last : (state : HeardState) (raster : RasterHead) (old new : RowReader) (begin next used count at : ℕ) (before piece : List ℕ)
     → count ≡ used → IsFault old new piece used at
     → OnFault state ((sofar : List ℕ) → Stands (Rows raster old) begin next before sofar → ShowsLast sofar piece count)
 fault-last heard.More raster old new begin next used count at before piece same fault = tt

@@ -1,6 +1,6 @@
 -- What the gathered bytes of a command are.
 use Rattle.std.specs.Prelude.{◌≡◌, ℕ, ◌+◌, ◌-◌, ◌≤◌, List, [], ◌∷◌, ◌++◌, length, drop, slice_index}
-use Rattle.escp2_definitions.specs.declared.command.RasterHeader.{RasterHeader}
+use Rattle.escp2_definitions.specs.declared.command.RasterHead.{RasterHead}
 use Rattle.escp2_definitions.specs.declared.stops.JobCause.TheVariants.{BadLength}
 use Rattle.escp2_definitions.specs.Commands.{Heard, command_bytes, last_column, raster_rows, sized}
 use Rattle.escp2_definitions.specs.Commands.Heard.{One, Part, Wrong}
@@ -10,7 +10,7 @@ use Rattle.escp2_reader.specs.declared.sized.LengthState.{LengthState}
 use Rattle.escp2_reader.specs.declared.sized.LengthState.TheVariants as len
 
 -- The numbers of a raster that its rows depend on are in range.
-pub record HasRows (raster : RasterHeader) : Type 0 where
+pub record HasRows (raster : RasterHead) : Type 0 where
   pub form : raster.c ≤ 1
   pub some : 1 ≤ raster.m
   pub narrowest : 1 ≤ raster.n
@@ -23,7 +23,7 @@ pub record IsShort (at : ℕ) (bytes : List ℕ) : Type 0 where
   pub raster : slice_index bytes (1 - at) ≡ 0x2E → length bytes + at ≤ 7
 
 -- After the first `at` bytes come the numbers of a raster, and then its rows.
-pub record IsRaster (raster : RasterHeader) (at : ℕ) (read : List ℕ → Heard) (bytes : List ℕ) : Type 0 where
+pub record IsRaster (raster : RasterHead) (at : ℕ) (read : List ℕ → Heard) (bytes : List ℕ) : Type 0 where
   pub has : HasRows raster
   pub least : 8 ≤ length bytes + at
   pub escaped : slice_index bytes (1 - at) ≡ 0x2E

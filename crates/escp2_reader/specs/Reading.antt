@@ -1,7 +1,7 @@
 -- What a reader of jobs stands for, and what its answers mean.
 use Rattle.std.specs.Prelude.{◌≡◌, ℕ, ◌+◌, ◌-◌, ◌<◌, ◌≤◌, Bool, true, false, List, [], ◌++◌, length, take, slice_index}
 use Rattle.escp2_definitions.specs.declared.command.Command.{Command}
-use Rattle.escp2_definitions.specs.declared.command.RasterHeader.{RasterHeader}
+use Rattle.escp2_definitions.specs.declared.command.RasterHead.{RasterHead}
 use Rattle.escp2_definitions.specs.declared.stops.JobCause.{JobCause}
 use Rattle.escp2_definitions.specs.Commands.{Spells, command_at, raster_rows}
 use Rattle.escp2_definitions.specs.Commands.Heard.{One, Part, Wrong}
@@ -75,7 +75,7 @@ IsHeard (heard.One command) begin new bytes = HeardOne begin command new bytes
 IsHeard (heard.Fault offset cause) begin new bytes = HeardFault begin offset cause new bytes
 
 -- These bytes end the numbers of a raster.
-pub record BeginsRows (raster : RasterHeader) (begin next : ℕ) (sofar bytes : List ℕ) : Type 0 where
+pub record BeginsRows (raster : RasterHead) (begin next : ℕ) (sofar bytes : List ℕ) : Type 0 where
   pub fed : next ≡ begin + length sofar
   pub are : (k : ℕ) → slice_index (sofar ++ bytes) k < 256
   pub front_len : length (sofar ++ bytes) ≡ 8

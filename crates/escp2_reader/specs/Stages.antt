@@ -1,6 +1,6 @@
 -- The stages of a command that is read.
 use Rattle.std.specs.Prelude.{◌≡◌, ℕ, ◌+◌, ◌-◌, ◌<◌, ◌≤◌, Bool, true, false, List, [], ◌++◌, length, slice_index}
-use Rattle.escp2_definitions.specs.declared.command.RasterHeader.{RasterHeader}
+use Rattle.escp2_definitions.specs.declared.command.RasterHead.{RasterHead}
 use Rattle.escp2_definitions.specs.declared.stops.JobCause.{JobCause}
 use Rattle.escp2_definitions.specs.Commands.{Heard, command_at, raster_rows, row_bytes}
 use Rattle.escp2_definitions.specs.Commands.Heard.{One, Part, Wrong}
@@ -13,11 +13,11 @@ use Rattle.escp2_reader.specs.declared.reader.Stage.TheVariants.{Header, Rows, F
 -- ---- what was read of a command
 
 -- the rows of a raster, after its eight bytes
-abbrev pub form_of : RasterHeader → RowsForm
+abbrev pub form_of : RasterHead → RowsForm
 form_of raster = record { c = raster.c; width = row_bytes raster; rows = raster.m; at = 8 }
 
 -- Within the rows of a raster: its numbers, and the rows that the bytes after them gave.
-pub record InRows (raster : RasterHeader) (reader : RowReader) (rows sofar : List ℕ) : Type 0 where
+pub record InRows (raster : RasterHead) (reader : RowReader) (rows sofar : List ℕ) : Type 0 where
   pub front : List ℕ
   pub code : List ℕ
   pub is : sofar ≡ front ++ code

@@ -4,7 +4,7 @@ ghost use Rattle.escp2_reader.specs.Headers.{IsRead};
 ghost use Rattle.std.specs.Prelude.{◌∷◌, ◌≡◌};
 
 use crate::sized::after_paren;
-use crate::{Command, JobCause, RasterHeader};
+use crate::{Command, JobCause, RasterHead};
 use escp2_commands::MOST_COLUMNS;
 use weave_base::Ink;
 
@@ -15,7 +15,7 @@ pub(crate) enum HeaderState {
     Part,
     Whole(Command),
     /// A raster, whose rows follow.
-    Rows(RasterHeader),
+    Rows(RasterHead),
     /// A fault, at this place of the command.
     Fault { place: u8, cause: JobCause },
 }
@@ -150,7 +150,7 @@ fn raster(bytes: &[u8]) -> HeaderState
     if !is_in(1, MOST_COLUMNS, n) {
         return bad_value(6);
     }
-    HeaderState::Rows(RasterHeader {
+    HeaderState::Rows(RasterHead {
         c: *c,
         v: *v,
         h: *h,

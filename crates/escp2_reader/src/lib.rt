@@ -14,7 +14,7 @@ mod headers;
 mod reader;
 mod sized;
 
-pub use escp2_commands::{Command, RasterHeader};
+pub use escp2_commands::{Command, RasterHead};
 pub use escp2_definitions::JobCause;
 pub use reader::{Cut, Heard, HeardState, JobReader};
 

@@ -11,7 +11,7 @@ ghost use Rattle.std.specs.Prelude.{IfErr, IfOk, OnOk, [], false, length, slice_
 ghost use Rattle.std.specs.Prelude.{vec_len, ℕ, List, ◌++◌, ◌-◌, ◌*◌, ◌/◌, ◌+◌, ◌<◌, ◌≡◌, ◌≤◌, ◌^◌};
 
 use crate::headers::{HeaderState, header_of};
-use crate::{Command, JobCause, RasterHeader};
+use crate::{Command, JobCause, RasterHead};
 use arrayvec::ArrayVec;
 use escp2_rows::{RowReader, RowState};
 use std::alloc::Global;
@@ -56,7 +56,7 @@ enum Stage {
     // After these bytes of it.
     Header(HeaderBytes),
     // Within the rows of a raster.
-    Rows(RasterHeader, RowReader),
+    Rows(RasterHead, RowReader),
     // After a fault.
     Failed { offset: u64, cause: JobCause },
 }
@@ -189,7 +189,7 @@ impl JobReader {
     }
 
     // Reads on after the numbers of a raster, which end after `used` bytes of the piece.
-    fn begin_rows(&mut self, raster: RasterHeader, piece: &[u8], used: usize) -> Heard
+    fn begin_rows(&mut self, raster: RasterHead, piece: &[u8], used: usize) -> Heard
         requires rows { HasRows raster }
         requires none { self.old.rows.items ≡ [] }
         requires idle { (len : ℕ) → room_at self.old.stage len ≡ 0 }
@@ -217,7 +217,7 @@ impl JobReader {
     }
 
     // Reads on within the rows of a raster.
-    fn feed_rows(&mut self, raster: RasterHeader, mut reader: RowReader, piece: &[u8]) -> Heard
+    fn feed_rows(&mut self, raster: RasterHead, mut reader: RowReader, piece: &[u8]) -> Heard
         requires is_open { is_done_of reader ≡ false }
         requires rows { vec_len self.old.rows + bytes_left_of reader ≤ vec_capacity self.old.rows }
         requires idle { (len : ℕ) → room_at self.old.stage len ≡ 0 }
@@ -244,7 +244,7 @@ impl JobReader {
                     state: HeardState::More,
                 }
             }
-            RowState::Whole => self.end_command(Command::Raster { header: raster }, fed.used),
+            RowState::Whole => self.end_command(Command::Raster { head: raster }, fed.used),
             RowState::Fault { .. } => {
                 // The control byte is the last byte that was used.
                 let offset = self.next + fed.used as u64 - 1;

@@ -7,7 +7,7 @@ ghost use Rattle.std.specs.Prelude.{IsOk, OnErr, OnOk, length, take, true, vec_c
 ghost use Rattle.std.specs.Prelude.{◌≤◌};
 
 use crate::headers::{header_bytes, row_bytes};
-use crate::{Command, RasterHeader};
+use crate::{Command, RasterHead};
 use escp2_rows::code_row;
 use weave_base::Memory;
 
@@ -45,7 +45,7 @@ pub fn append_row(row: &[u8], out: &mut Vec<u8>)
 }
 
 // Appends the codes of a raster's rows, one by one.
-fn append_rows(header: RasterHeader, rows: &[u8], out: &mut Vec<u8>)
+fn append_rows(header: RasterHead, rows: &[u8], out: &mut Vec<u8>)
     requires rows_fit { length rows.now ≡ header.m * row_bytes_of header }
     requires room { vec_len out.old + 2 * length rows.now ≤ vec_capacity out.old }
     ensures { out.new.items
@@ -74,7 +74,7 @@ fn room_for(c: &Command) -> usize
     ensures { result ≡ 9 + 2 * rows_len c.now }
 {
     match *c {
-        Command::Raster { header } => 9 + codes_room(header.m, row_bytes(header)),
+        Command::Raster { head: header } => 9 + codes_room(header.m, row_bytes(header)),
         _ => 9,
     }
 }
@@ -96,7 +96,7 @@ pub fn append(c: &Command, rows: &[u8], out: &mut Vec<u8>) -> Result<(), Memory>
     }
     append_header(c, out);
     match *c {
-        Command::Raster { header } if header.c != 0 => append_rows(header, rows, out),
+        Command::Raster { head: header } if header.c != 0 => append_rows(header, rows, out),
         _ => out.extend_from_slice(rows).unwrap(),
     }
     Ok(())

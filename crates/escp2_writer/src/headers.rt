@@ -4,7 +4,7 @@ ghost use Rattle.escp2_definitions.specs.Commands.{colour_code as colour_code_of
 ghost use Rattle.escp2_definitions.specs.Commands.{row_bytes as row_bytes_of, two_bytes};
 ghost use Rattle.std.specs.Prelude.{[], length, ◌%◌, ◌++◌, ◌/◌, ◌∷◌, ◌≡◌, ◌≤◌};
 
-use crate::{Command, RasterHeader};
+use crate::{Command, RasterHead};
 use arrayvec::ArrayVec;
 use weave_base::Ink;
 
@@ -63,7 +63,7 @@ fn sized(letter: u8, numbers: &[u8]) -> HeaderBytes
 }
 
 /// The bytes of one row of a raster.
-pub(crate) fn row_bytes(header: RasterHeader) -> usize
+pub(crate) fn row_bytes(header: RasterHead) -> usize
     ensures is { result ≡ row_bytes_of header }
     ensures most { result ≤ 8192 }
 {
@@ -94,7 +94,7 @@ pub fn header_bytes(c: &Command) -> HeaderBytes
         Command::Eject => single(0x0C),
         Command::Colour { ink } => escaped(b'r', &[colour_code(ink)]),
         Command::Raster {
-            header: RasterHeader { c, v, h, m, n },
+            head: RasterHead { c, v, h, m, n },
         } => {
             let [low, high] = two(n);
             escaped(b'.', &[c, v, h, m, low, high])

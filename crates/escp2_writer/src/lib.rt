@@ -12,7 +12,7 @@ mod headers;
 mod writing;
 
 pub use appending::{append, append_header, append_row};
-pub use escp2_commands::{Command, RasterHeader};
+pub use escp2_commands::{Command, RasterHead};
 pub use headers::{HeaderBytes, header_bytes};
 pub use writing::put;
 

@@ -2,7 +2,7 @@
 ghost use Rattle.escp2_definitions.specs.Commands.{in_table, rows_len};
 ghost use Rattle.std.specs.Prelude.{length, true, ◌≡◌};
 
-use crate::{Command, RasterHeader, append, put};
+use crate::{Command, RasterHead, append, put};
 use std::alloc::Global;
 use std::test::Fail;
 use weave_base::{Failed, Ink, MemSink};
@@ -93,7 +93,7 @@ fn each_ink_has_its_colour_code(rt: HostRuntime) -> Result<(), Fail> {
 
 // A raster of two rows of nine columns, in two bytes each.
 const RASTER: Command = Command::Raster {
-    header: RasterHeader {
+    head: RasterHead {
         c: 0,
         v: 20,
         h: 10,
@@ -117,7 +117,7 @@ fn the_rows_of_a_raster_follow_its_numbers(rt: HostRuntime) -> Result<(), Fail> 
 
 // A coded raster of three rows of 24 columns.
 const CODED: Command = Command::Raster {
-    header: RasterHeader {
+    head: RasterHead {
         c: 1,
         v: 20,
         h: 10,

@@ -9,7 +9,7 @@ ghost use Rattle.weave_base.specs.Causes.{HasCause};
 ghost use Rattle.weave_base.specs.Parts.{AppendsPart};
 
 use crate::headers::{header_bytes, row_bytes};
-use crate::{Command, RasterHeader};
+use crate::{Command, RasterHead};
 use escp2_rows::code_row;
 use gathered_bytes::Gathered;
 use weave_base::{Failed, Sink, put_all};
@@ -19,7 +19,7 @@ const MOST_CODE: usize = 2048;
 
 // Writes bytes, and then the codes of a raster's rows, one by one.
 fn put_coded<K: Sink>(
-    header: RasterHeader,
+    header: RasterHead,
     front: &[u8],
     rows: &[u8],
     k: &mut K,
@@ -64,7 +64,12 @@ pub fn put<K: Sink>(c: &Command, rows: &[u8], k: &mut K) -> Result<(), Failed>
 {
     let front = header_bytes(c);
     match *c {
-        Command::Raster { header } if header.c != 0 => put_coded(header, front.as_slice(), rows, k),
+        Command::Raster { head: header } if header.c != 0 => put_coded(
+            header,
+            front.as_slice(),
+            rows,
+            k,
+        ),
         _ => {
             put_all(k, front.as_slice())?;
             put_all(k, rows)

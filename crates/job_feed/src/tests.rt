@@ -1,6 +1,6 @@
 //! Commands from a source, and where a job stops.
 use crate::{Command, FeedStop, JobFeed, JobStop, PlacedCommand};
-use escp2_definitions::RasterHeader;
+use escp2_definitions::RasterHead;
 use std::alloc::Global;
 use std::test::Fail;
 use weave_base::MemSource;
@@ -43,14 +43,14 @@ fn a_raster_comes_with_its_rows(rt: HostRuntime) -> Result<(), Fail> {
         assert!(rt; false);
         return Ok(());
     };
-    let header = RasterHeader {
+    let header = RasterHead {
         c: 1,
         v: 20,
         h: 10,
         m: 3,
         n: 8,
     };
-    assert_eq!(rt; raster.command, Command::Raster { header });
+    assert_eq!(rt; raster.command, Command::Raster { head: header });
     assert_eq!(rt; feed.rows(), [0, 0, 0xFF].as_slice());
     assert_eq!(rt; feed.next(&mut job), Ok(None));
     Ok(())

@@ -5,7 +5,7 @@ use Rattle.std.proofs.lemmas.List.{drop-drop}
 use Rattle.std.proofs.lemmas.List.Sums.{sum_by-cons}
 use Rattle.printer_definitions.specs.declared.inks.Ink.{Ink}
 use Rattle.printer_definitions.specs.declared.inks.Ink.TheVariants.{Black}
-use Rattle.escp2_definitions.specs.declared.command.RasterHeader.{RasterHeader}
+use Rattle.escp2_definitions.specs.declared.command.RasterHead.{RasterHead}
 use Rattle.escp2_definitions.specs.Commands.{row_bytes}
 use Rattle.escp2_definitions.specs.Machine.{bits, row_dots, rows_dots}
 use Rattle.job_listing.specs.Listing.{dot_count}
@@ -24,12 +24,12 @@ row-count ink x step y (false ∷ row) =
     omega (arith, rest, first)
 
 -- the dots of m rows
-pub dots_of : ℕ → RasterHeader → List ℕ → ℕ
+pub dots_of : ℕ → RasterHead → List ℕ → ℕ
 dots_of zero header bytes = 0
 dots_of (suc m) header bytes =
     on_count (take header.n (bits (take (row_bytes header) bytes))) + dots_of m header (drop (row_bytes header) bytes)
 
-rows-count : (m : ℕ) (header : RasterHeader) (ink : Ink) (x y : ℕ) (bytes : List ℕ)
+rows-count : (m : ℕ) (header : RasterHead) (ink : Ink) (x y : ℕ) (bytes : List ℕ)
     → length (rows_dots m header ink x y bytes) ≡ dots_of m header bytes
 unfolding rows_dots dots_of
 rows-count zero header ink x y bytes = refl
@@ -39,16 +39,16 @@ rows-count (suc m) header ink x y bytes =
     ∙ ap (λ n. n + length (rows_dots m header ink x (y + header.v) (drop (row_bytes header) bytes))) (row-count ink x header.h y row)
     ∙ ap (λ n. on_count row + n) (rows-count m header ink x (y + header.v) (drop (row_bytes header) bytes))
 
-pub count-is : (header : RasterHeader) (bytes : List ℕ) → dot_count header bytes ≡ dots_of header.m header bytes
+pub count-is : (header : RasterHead) (bytes : List ℕ) → dot_count header bytes ≡ dots_of header.m header bytes
 unfolding dot_count
 count-is header bytes = rows-count header.m header Black 0 0 bytes
 
 -- The dots of the first rows, and those of the rows that follow.
-pub record CountSoFar (header : RasterHeader) (bytes : List ℕ) (i sum : ℕ) : Type 0 where
+pub record CountSoFar (header : RasterHead) (bytes : List ℕ) (i sum : ℕ) : Type 0 where
   pub is : sum + dots_of (header.m - i) header (drop (i * row_bytes header) bytes) ≡ dot_count header bytes
   pub most : sum ≤ 8192 * i
 
-pub count_begin : (header : RasterHeader) (bytes : List ℕ) → CountSoFar header bytes 0 0
+pub count_begin : (header : RasterHead) (bytes : List ℕ) → CountSoFar header bytes 0 0
 count_begin header bytes = record {
   is = let none : 0 * row_bytes header ≡ 0 = omega arith in
       let all : header.m - 0 ≡ header.m = omega arith in
@@ -59,7 +59,7 @@ count_begin header bytes = record {
   most = omega arith;
 }
 
-pub count_step : (header : RasterHeader) (bytes : List ℕ) (i sum row : ℕ) → CountSoFar header bytes i sum → i < header.m
+pub count_step : (header : RasterHead) (bytes : List ℕ) (i sum row : ℕ) → CountSoFar header bytes i sum → i < header.m
     → row ≡ on_count (take header.n (bits (take (row_bytes header) (drop (i * row_bytes header) bytes)))) → row ≤ 8192
     → CountSoFar header bytes (i + 1) (sum + row)
 unfolding dots_of
@@ -76,7 +76,7 @@ count_step header bytes i sum row so_far more is few = record {
   most = omega (arith, so_far.most);
 }
 
-pub count_end : (header : RasterHeader) (bytes : List ℕ) (i sum : ℕ)
+pub count_end : (header : RasterHead) (bytes : List ℕ) (i sum : ℕ)
     → CountSoFar header bytes i sum → header.m ≤ i → sum ≡ dot_count header bytes
 unfolding dots_of
 count_end header bytes i sum so_far all =

@@ -5,12 +5,12 @@ use Rattle.std.specs.List.{flat_map}
 use Rattle.printer_definitions.specs.declared.inks.Ink.TheVariants.{Black}
 use Rattle.escp2_definitions.specs.declared.command.Command.{Command}
 use Rattle.escp2_definitions.specs.declared.command.Command.TheVariants as c
-use Rattle.escp2_definitions.specs.declared.command.RasterHeader.{RasterHeader}
+use Rattle.escp2_definitions.specs.declared.command.RasterHead.{RasterHead}
 use Rattle.escp2_definitions.specs.Commands.{Entry, colour_code}
 use Rattle.escp2_definitions.specs.Machine.{rows_dots}
 
 -- how many dots the rows of a raster have
-unfoldable pub dot_count : RasterHeader → List ℕ → ℕ
+unfoldable pub dot_count : RasterHead → List ℕ → ℕ
 dot_count header rows = length (rows_dots header.m header Black 0 0 rows)
 
 -- numbers in decimal, each after a blank

@@ -6,7 +6,7 @@ ghost use Rattle.job_listing.specs.Listing.{dot_count};
 ghost use Rattle.std.specs.List.{sum_by};
 ghost use Rattle.std.specs.Prelude.{count_by, count_ones, length, take, true, ◌*◌, ◌/◌, ◌%◌, ◌<◌, ◌≡◌, ◌≤◌};
 
-use escp2_definitions::RasterHeader;
+use escp2_definitions::RasterHead;
 
 // How many bits of some bytes are 1.
 #[inline]
@@ -40,7 +40,7 @@ fn row_dots(columns: usize, row: &[u8]) -> u32
 }
 
 /// How many dots the rows of a raster have. Bits past its last column are none.
-pub fn raster_dots(header: &RasterHeader, rows: &[u8]) -> u32
+pub fn raster_dots(header: &RasterHead, rows: &[u8]) -> u32
     requires in_range { in_table (command.Raster header.now) ≡ true }
     requires rows_fit { length rows.now ≡ rows_len (command.Raster header.now) }
     ensures { result ≡ dot_count header.now rows.now }

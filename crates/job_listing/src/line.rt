@@ -8,7 +8,7 @@ ghost use Rattle.std.specs.Prelude.{[], length, true, ◌+◌, ◌++◌, ◌≡�
 use crate::dots::raster_dots;
 use crate::numbers::{push_numbers, push_place};
 use arrayvec::ArrayString;
-use escp2_definitions::{Command, RasterHeader};
+use escp2_definitions::{Command, RasterHead};
 use printer_definitions::Ink;
 
 /// A line of the listing, with its line feed.
@@ -48,7 +48,7 @@ fn code_of(ink: Ink) -> u32
 }
 
 // The numbers of a raster, and how many dots its rows have.
-fn raster_numbers(header: &RasterHeader, rows: &[u8]) -> [u32; 6]
+fn raster_numbers(header: &RasterHead, rows: &[u8]) -> [u32; 6]
     requires in_range { in_table (escp2_command.Raster header.now) ≡ true }
     requires rows_fit { length rows.now ≡ rows_len (escp2_command.Raster header.now) }
     ensures { result ≡ numbers_of (escp2_command.Raster header.now) rows.now }
@@ -82,7 +82,7 @@ fn push_numbers_of(command: &Command, rows: &[u8], out: &mut Line)
             push_numbers(&[u32::from(*top), u32::from(*bottom)], out);
         }
         Command::Colour { ink } => push_numbers(&[code_of(*ink)], out),
-        Command::Raster { header } => push_numbers(&raster_numbers(header, rows), out),
+        Command::Raster { head: header } => push_numbers(&raster_numbers(header, rows), out),
         Command::Init | Command::Graphics | Command::Return | Command::Eject => {}
     }
 }

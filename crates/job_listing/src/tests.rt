@@ -3,7 +3,7 @@ ghost use Rattle.escp2_definitions.specs.Commands.{in_table, rows_len};
 ghost use Rattle.std.specs.Prelude.{length, true, ◌≡◌};
 
 use crate::{Line, push_line};
-use escp2_definitions::{Command, RasterHeader};
+use escp2_definitions::{Command, RasterHead};
 use printer_definitions::Ink;
 
 fn line(place: u64, command: &Command, rows: &[u8]) -> Line
@@ -26,7 +26,7 @@ fn each_line_has_place_name_and_numbers(rt: HostRuntime) {
 
 #[test]
 fn a_raster_tells_its_dots_without_spare_bits(rt: HostRuntime) {
-    let header = RasterHeader {
+    let header = RasterHead {
         c: 1,
         v: 20,
         h: 10,
@@ -35,7 +35,7 @@ fn a_raster_tells_its_dots_without_spare_bits(rt: HostRuntime) {
     };
     let rows = [0xFF, 0xFF, 0x01, 0x20];
     assert_eq!(rt;
-        line(u64::MAX, &Command::Raster { header }, &rows).as_str(),
+        line(u64::MAX, &Command::Raster { head: header }, &rows).as_str(),
         "18446744073709551615 RASTER 1 20 10 2 11 13\n"
     );
 }

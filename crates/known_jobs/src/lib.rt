@@ -2,7 +2,7 @@
 //! crates that read, run and write jobs.
 #![tactic(auto)]
 
-use escp2_definitions::{Command, RasterHeader};
+use escp2_definitions::{Command, RasterHead};
 use printer_definitions::Ink;
 
 /// The job of a black page of eight columns and six rows on the printer `tiny`, whose three nozzles are two rows apart
@@ -18,7 +18,7 @@ pub const TINY_JOB: [u8; 92] = [
 
 // The raster of each of its passes.
 const TINY_RASTER: Command = Command::Raster {
-    header: RasterHeader {
+    head: RasterHead {
         c: 1,
         v: 20,
         h: 10,

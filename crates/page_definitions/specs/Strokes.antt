@@ -6,7 +6,7 @@ use Rattle.std.specs.List.{AllByRecursion, flat_map, list_any}
 use Rattle.printer_definitions.specs.declared.inks.Ink.{Ink}
 use Rattle.printer_definitions.specs.Inks.{inks_of}
 use Rattle.printer_definitions.specs.Printer.{Printer, column_step, nozzle_step, row_units}
-use Rattle.escp2_definitions.specs.declared.command.RasterHeader.{RasterHeader}
+use Rattle.escp2_definitions.specs.declared.command.RasterHead.{RasterHead}
 use Rattle.escp2_definitions.specs.declared.command.Command.{Command}
 use Rattle.escp2_definitions.specs.declared.command.Command.TheVariants as c
 use Rattle.escp2_definitions.specs.Machine.{Dot}
@@ -43,7 +43,7 @@ abbrev pub has_dot : List (List Bool) → Bool
 has_dot rows = list_any (list_any (λ on. on)) rows
 
 -- the header of a raster of this many columns, its rows plain (0) or coded (1)
-abbrev pub raster_header : Printer → ℕ → ℕ → RasterHeader
+abbrev pub raster_header : Printer → ℕ → ℕ → RasterHead
 raster_header p width coded = record { c = coded; v = nozzle_step p; h = column_step p; m = p.nozzles; n = width }
 
 -- one ink of a stroke: nothing where it has no dot, else its colour, the return to the left margin, and its rows

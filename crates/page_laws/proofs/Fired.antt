@@ -6,7 +6,7 @@ use Rattle.std.proofs.lemmas.Bool.Decides.{nat_tests}
 use Rattle.std.proofs.lemmas.List.{take_at, drop_at}
 use Rattle.printer_definitions.specs.declared.inks.Ink.{Ink}
 use Rattle.printer_definitions.specs.Printer.{Printer, column_step, nozzle_step, row_step}
-use Rattle.escp2_definitions.specs.declared.command.RasterHeader.{RasterHeader}
+use Rattle.escp2_definitions.specs.declared.command.RasterHead.{RasterHead}
 use Rattle.escp2_definitions.specs.Commands.{row_bytes}
 use Rattle.escp2_definitions.specs.Machine.{Dot, bits, row_dots, rows_dots}
 use Rattle.escp2_definitions.specs.Packed.{packed}
@@ -32,7 +32,7 @@ pub packed-len : (width : ℕ) (row : List Bool) → length row ≡ width → le
 packed-len width row e = packed_bytes-len ((length row + 7) / 8) row ∙ ap (λ w. (w + 7) / 8) e
 
 -- what a raster of packed rows fires
-pub rows_dots-fired : (header : RasterHeader) (ink : Ink) (y : ℕ) (rows : List (List Bool)) → AllWide header.n rows
+pub rows_dots-fired : (header : RasterHead) (ink : Ink) (y : ℕ) (rows : List (List Bool)) → AllWide header.n rows
     → rows_dots (length rows) header ink 0 y (flat_map packed rows) ≡ steps_fired ink header.h header.v y rows
 unfolding rows_dots
 rows_dots-fired header ink y [] wide = refl

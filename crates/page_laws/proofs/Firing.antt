@@ -5,7 +5,7 @@ use Rattle.std.specs.List.{list_any}
 use Rattle.std.proofs.lemmas.Bool.{eq-eqb, le-ltb}
 use Rattle.printer_definitions.specs.declared.inks.Ink.{Ink}
 use Rattle.printer_definitions.specs.Printer.{column_step, nozzle_step, row_step, row_units}
-use Rattle.escp2_definitions.specs.declared.command.RasterHeader.{RasterHeader}
+use Rattle.escp2_definitions.specs.declared.command.RasterHead.{RasterHead}
 use Rattle.escp2_definitions.specs.declared.command.Command.TheVariants as c
 use Rattle.escp2_definitions.specs.declared.stops.EmuFault.{EmuFault}
 use Rattle.escp2_definitions.specs.declared.stops.EmuFault.TheVariants.{NotGraphics, NoUnit, NoMargins, Density, Rows, OffGrid}
@@ -31,7 +31,7 @@ pub record Lies (w : Layout) (stroke : Stroke) : Type 0 where
   pub low : stroke.start < w.above + w.halftone.height
 
 -- the header of the page's rasters
-abbrev pub header_of : Layout → RasterHeader
+abbrev pub header_of : Layout → RasterHead
 header_of w = raster_header w.printer w.halftone.width w.coding.c
 
 -- the dots of an ink of a stroke, and those of its inks

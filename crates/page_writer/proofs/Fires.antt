@@ -9,7 +9,7 @@ use Rattle.escp2_definitions.specs.Commands.{command_bytes, row_bytes}
 use Rattle.escp2_definitions.specs.Packed.{packed}
 use Rattle.escp2_definitions.specs.Written.{rows_apart}
 use Rattle.escp2_definitions.specs.declared.command.Command.TheVariants as c
-use Rattle.escp2_definitions.specs.declared.command.RasterHeader.{RasterHeader}
+use Rattle.escp2_definitions.specs.declared.command.RasterHead.{RasterHead}
 use Rattle.page_definitions.specs.Strokes.{Spoken, bytes_of, has_dot, say}
 use Rattle.page_laws.proofs.Fired.{AllWide, packed-len}
 use Rattle.page_laws.proofs.Passes.{count_from-len}
@@ -63,11 +63,11 @@ codes-apart width (row ∷ rows) wide =
 -- ---- the commands of an ink
 
 -- the bytes of its commands before its rows
-abbrev pub header_of : RasterHeader → Ink → List ℕ
+abbrev pub header_of : RasterHead → Ink → List ℕ
 header_of header ink = (command_bytes (c.Colour ink) ++ command_bytes c.Return) ++ command_bytes (c.Raster header)
 
 -- an ink that has a dot to fire
-fired-bytes : (header : RasterHeader) (ink : Ink) (rows : List (List Bool))
+fired-bytes : (header : RasterHead) (ink : Ink) (rows : List (List Bool))
     → has_dot rows ≡ true → header.c ≡ 1 → length rows ≡ header.m → AllWide header.n rows
     → bytes_of canonical_row (rows_commands header ink rows) ≡ header_of header ink ++ codes_of rows
 fired-bytes header ink rows fires coded many wide =
@@ -87,7 +87,7 @@ pub record RowsSoFar (t : DotTable) (plan : Weaving) (place pass : ℕ) (whole o
   pub is : whole ≡ out ++ codes_of (map (nozzle_plane_row t plan place pass) (count_from nozzle left))
 
 -- no row is appended
-pub rows_begin : (t : DotTable) (plan : Weaving) (place pass : ℕ) (header : RasterHeader) (ink : Ink) (old out : List ℕ) (left : ℕ)
+pub rows_begin : (t : DotTable) (plan : Weaving) (place pass : ℕ) (header : RasterHead) (ink : Ink) (old out : List ℕ) (left : ℕ)
     → has_dot (plane_rows t plan place pass) ≡ true → header.c ≡ 1 → header.m ≡ plan.nozzles → header.n ≡ t.width → left ≡ plan.nozzles
     → out ≡ old ++ header_of header ink
     → RowsSoFar t plan place pass (old ++ bytes_of canonical_row (rows_commands header ink (plane_rows t plan place pass))) out 0 left
@@ -142,28 +142,28 @@ room_more len len' most left next bytes more room taken =
     omega (arith, room, taken, rows, ap (λ n. 2 * n * bytes) more)
 
 -- the commands of an ink that has no dot
-pub none_fired : (header : RasterHeader) (ink : Ink) (rows : List (List Bool)) (old : List ℕ) → has_dot rows ≡ false
+pub none_fired : (header : RasterHead) (ink : Ink) (rows : List (List Bool)) (old : List ℕ) → has_dot rows ≡ false
     → old ≡ old ++ bytes_of canonical_row (rows_commands header ink rows)
 none_fired header ink rows old none =
     let raster : Spoken = record { command = c.Raster header; rows = flat_map packed rows } in
     sym (ap (λ b. old ++ bytes_of canonical_row (if b then say (c.Colour ink) ∷ say c.Return ∷ raster ∷ [] else [])) none ∙ append-nil old)
 
 -- the rasters of an ink
-pub none_counted : (header : RasterHeader) (ink : Ink) (rows : List (List Bool))
+pub none_counted : (header : RasterHead) (ink : Ink) (rows : List (List Bool))
     → has_dot rows ≡ false → 0 ≡ rasters_in (rows_commands header ink rows)
 none_counted header ink rows none =
     let raster : Spoken = record { command = c.Raster header; rows = flat_map packed rows } in
     sym (ap (λ b. rasters_in (if b then say (c.Colour ink) ∷ say c.Return ∷ raster ∷ [] else [])) none)
 
 -- one raster, where it has a dot
-pub one_counted : (header : RasterHeader) (ink : Ink) (rows : List (List Bool))
+pub one_counted : (header : RasterHead) (ink : Ink) (rows : List (List Bool))
     → has_dot rows ≡ true → 1 ≡ rasters_in (rows_commands header ink rows)
 one_counted header ink rows fires =
     let raster : Spoken = record { command = c.Raster header; rows = flat_map packed rows } in
     sym (ap (λ b. rasters_in (if b then say (c.Colour ink) ∷ say c.Return ∷ raster ∷ [] else [])) fires)
 
 -- they say whether the ink has a dot
-pub rasters_tell : (header : RasterHeader) (ink : Ink) (rows : List (List Bool))
+pub rasters_tell : (header : RasterHead) (ink : Ink) (rows : List (List Bool))
     → nat_lt 0 (rasters_in (rows_commands header ink rows)) ≡ has_dot rows
 rasters_tell header ink rows = by_dot (has_dot rows)
   where

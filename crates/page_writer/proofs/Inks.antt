@@ -7,7 +7,7 @@ use Rattle.std.proofs.lemmas.Bool.{lt-ltb}
 use Rattle.std.proofs.Math.Bool.{or-false}
 use Rattle.dot_planes.specs.Tables.{DotTable, dot}
 use Rattle.escp2_definitions.specs.Canonical.{canonical_row}
-use Rattle.escp2_definitions.specs.declared.command.RasterHeader.{RasterHeader}
+use Rattle.escp2_definitions.specs.declared.command.RasterHead.{RasterHead}
 use Rattle.page_definitions.specs.Dots.{Halftone}
 use Rattle.page_definitions.specs.PageBytes.{fired_row, pass_rows, pass_stroke}
 use Rattle.page_definitions.specs.Strokes.{Spoken, bytes_of, fires, has_dot, ink_commands, inks_commands, raster_header}
@@ -98,7 +98,7 @@ lt-add (suc m) n rest =
 
 -- one more ink is appended
 pub inks_step : (p : Printer) (plan : Weaving) (t : DotTable)
-    (h : Halftone) (pass : ℕ) (old out out' : List ℕ) (header : RasterHeader) (ink : Ink) (rasters place one : ℕ)
+    (h : Halftone) (pass : ℕ) (old out out' : List ℕ) (header : RasterHead) (ink : Ink) (rasters place one : ℕ)
     → InksSoFar p h pass old out rasters place
     → Suits p plan t → Shows p t h → slice_get (inks_of p.inks) place ≡ Some ink → header ≡ raster_header p t.width 1
     → out' ≡ out ++ bytes_of canonical_row (rows_commands header ink (plane_rows t plan place pass))
@@ -169,10 +169,10 @@ inks_room_more len len' cap left next most more room taken =
     let split : suc next * most ≡ most + next * most = omega arith in omega (arith, room, taken, split, ap (λ n. n * most) more)
 
 -- the bound for the bytes of an ink, from the numbers of its raster
-pub ink_most : (p : Printer) (header : RasterHeader) (width columns : ℕ) → header ≡ raster_header p width 1 → width ≡ columns
+pub ink_most : (p : Printer) (header : RasterHead) (width columns : ℕ) → header ≡ raster_header p width 1 → width ≡ columns
     → 12 + 2 * header.m * ((header.n + 7) / 8) ≡ 12 + 2 * p.nozzles * ((columns + 7) / 8)
 ink_most p header width columns is same =
-    ap (λ (h : RasterHeader). 12 + 2 * h.m * ((h.n + 7) / 8)) is ∙ ap (λ n. 12 + 2 * p.nozzles * ((n + 7) / 8)) same
+    ap (λ (h : RasterHead). 12 + 2 * h.m * ((h.n + 7) / 8)) is ∙ ap (λ n. 12 + 2 * p.nozzles * ((n + 7) / 8)) same
 
 -- ---- the most bytes
 

@@ -4,7 +4,7 @@ use Rattle.std.specs.List.{flat_map}
 use Rattle.dot_planes.specs.Tables.{DotTable, dot}
 use Rattle.escp2_definitions.specs.Packed.{packed}
 use Rattle.escp2_definitions.specs.declared.command.Command.TheVariants as c
-use Rattle.escp2_definitions.specs.declared.command.RasterHeader.{RasterHeader}
+use Rattle.escp2_definitions.specs.declared.command.RasterHead.{RasterHead}
 use Rattle.page_definitions.specs.Strokes.{Spoken, has_dot, say}
 use Rattle.printer_definitions.specs.declared.inks.Ink.{Ink}
 use Rattle.weave_definitions.specs.Weave.{count_from, nozzle_row}
@@ -24,7 +24,7 @@ abbrev pub plane_rows : DotTable → Weaving → ℕ → ℕ → List (List Bool
 plane_rows t plan place pass = map (nozzle_plane_row t plan place pass) (count_from 0 plan.nozzles)
 
 -- the commands that fire rows of an ink; none where the rows have no dot
-abbrev pub rows_commands : RasterHeader → Ink → List (List Bool) → List Spoken
+abbrev pub rows_commands : RasterHead → Ink → List (List Bool) → List Spoken
 rows_commands header ink rows =
     if has_dot rows
     then say (c.Colour ink) ∷ say c.Return ∷ record { command = c.Raster header; rows = flat_map packed rows } ∷ []

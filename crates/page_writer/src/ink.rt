@@ -9,7 +9,7 @@ ghost use Rattle.weave_definitions.specs.Weave.{pass_count};
 
 use crate::rows::{fired_row, has_fire};
 use dot_planes::Planes;
-use escp2_writer::{Command, RasterHeader, append_header, append_row};
+use escp2_writer::{Command, RasterHead, append_header, append_row};
 use weave_base::Ink;
 use weave_plan::Plan;
 
@@ -18,7 +18,7 @@ use weave_plan::Plan;
 pub fn append_ink(
     planes: &Planes,
     plan: &Plan,
-    header: RasterHeader,
+    header: RasterHead,
     place: u8,
     ink: Ink,
     pass: u32,
@@ -44,7 +44,7 @@ pub fn append_ink(
     }
     append_header(&Command::Colour { ink }, out);
     append_header(&Command::Return, out);
-    append_header(&Command::Raster { header }, out);
+    append_header(&Command::Raster { head: header }, out);
     'rows: for nozzle in 0..header.m {
         append_row(fired_row(planes, plan, place, pass, nozzle), out);
     }

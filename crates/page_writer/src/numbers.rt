@@ -7,7 +7,7 @@ ghost use Rattle.separation_definitions.specs.CanPrint.{CanPrint};
 ghost use Rattle.separation_definitions.specs.Windows.{wanted_by, window_of};
 ghost use Rattle.std.specs.Prelude.{◌*◌, ◌+◌, ◌-◌, ◌≡◌, ◌≤◌};
 
-use escp2_writer::RasterHeader;
+use escp2_writer::RasterHead;
 use printer_profile::{PageForm, Profile};
 
 /// Places on a sheet, from its top, in units of 5/3600 inch.
@@ -39,11 +39,11 @@ pub fn head_rows(p: &Profile) -> u16
 }
 
 /// The header of rasters of this many columns, with coded rows.
-pub fn raster_header(p: &Profile, width: u16) -> RasterHeader
+pub fn raster_header(p: &Profile, width: u16) -> RasterHead
     requires { CanPrint (printer_of p.now) }
     ensures { result ≡ raster_header_of (printer_of p.now) width 1 }
 {
-    RasterHeader {
+    RasterHead {
         c: 1,
         v: (u32::from(p.pitch) * 3600 / u32::from(p.vdpi)) as u8,
         h: (3600 / p.hdpi) as u8,

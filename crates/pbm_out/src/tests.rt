@@ -60,7 +60,7 @@ fn run(
 ) -> Result<Option<Sheet>, EmuStop> {
     assert!(rt; in_table(&command));
     match command {
-        Command::Raster { header } => {
+        Command::Raster { head: header } => {
             assert!(rt; header.m == 3 && header.n == 8 && rows.len() == 3);
             emulator.run(&command, rows)
         }

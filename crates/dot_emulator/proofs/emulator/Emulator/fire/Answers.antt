@@ -2,7 +2,7 @@ use Rattle.std.proofs.Common.{◌≡◌, ◌*◌, List, ap, refl, subst, sym, �
 use Rattle.std.specs.Prelude.{Ok, None}
 use Rattle.escp2_definitions.specs.Commands.{row_bytes}
 use Rattle.escp2_definitions.specs.declared.command.Command.TheVariants as command
-use Rattle.escp2_definitions.specs.declared.command.RasterHeader.{RasterHeader}
+use Rattle.escp2_definitions.specs.declared.command.RasterHead.{RasterHead}
 use Rattle.dot_emulator.specs.declared.emulator.Emulator.{Emulator}
 use Rattle.dot_emulator.specs.declared.firing.Raster.{Raster}
 use Rattle.dot_emulator.specs.declared.raster.Steps.{Steps}
@@ -46,13 +46,13 @@ returns c = λ p m shows.
     let r : Raster = c.in_ok-raster.raster in
     let rows : List ℕ = c.args.rows.now in
     let g : Grid = grid_of p m in
-    let H : RasterHeader → Type 0 = λ h. Placed p (machine_of old.state m.dots) h r in
+    let H : RasterHead → Type 0 = λ h. Placed p (machine_of old.state m.dots) h r in
     let M : Machine → Type 0 = λ n. Placed p n c.args.header r in
     let shown = c.in_ok-raster.ensures.placed p m.dots shows.steps in
     let header_is : r.header ≡ c.args.header = c.in_ok-raster.ensures.header in
     let placed : Placed p m c.args.header r = subst M shows.state shown in
     let none = sym c.in_default.is ∙ c.refuses_dots.ensures g m.dots placed.stands (planes-have p m old.planes shows.dots) in
-    let fits : HasRows r rows = c.requires.rows_fit ∙ ap (λ (h : RasterHeader). h.m * row_bytes h) (sym header_is) in
+    let fits : HasRows r rows = c.requires.rows_fit ∙ ap (λ (h : RasterHead). h.m * row_bytes h) (sym header_is) in
     let above : IsAbove g r rows = above-margin _ _ (sym none) in
     let step = raster-step p m c.args.header r rows old c.after_raster-next.result shows header_is
     (c.after_raster-next.ensures.step p m.dots rows (subst H (sym header_is) shown)) in
