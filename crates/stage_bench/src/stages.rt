@@ -108,6 +108,7 @@ fn next_page<S: Source>(
     reader: &mut PageReader,
     input: &mut S,
 ) -> Result<Option<Page>, StreamStop>
+    requires checked { IsOk (check profile.now) }
     requires none_left { lines_left_of reader.old ≡ 0 }
 {
     let Some(form) = reader.next_page(input, profile.wanted())? else {
