@@ -1,7 +1,8 @@
 //! Writing the canonical code of a row.
 ghost use Rattle.escp2_definitions.specs.Canonical.{apart_at, canonical_row, equal_at, next_packet};
 ghost use Rattle.escp2_definitions.specs.RowCode.{packet_code, packet_row};
-ghost use Rattle.std.specs.Prelude.{drop, false, length, min, nat_lt, take, take_while, true, ℕ, ◌==◌, ◌*◌, ◌+◌, ◌-◌, ◌<◌, ◌≡◌, ◌≤◌};
+ghost use Rattle.std.specs.Prelude.{drop, false, length, min, nat_lt, take, take_while, true, ℕ};
+ghost use Rattle.std.specs.Prelude.{◌==◌, ◌*◌, ◌+◌, ◌-◌, ◌<◌, ◌≡◌, ◌≤◌};
 
 // The most bytes of a packet.
 const MOST_BYTES: usize = 128;

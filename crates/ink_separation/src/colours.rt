@@ -33,8 +33,8 @@ fn riffled(bytes: &[u8; 96]) -> [u8; 96]
     mixed
 }
 
-// The colours of 32 pixels. Five riffles move byte 3 x + c to place 32 c + x; each is a loop that becomes vectors, where
-// a loop over every third byte does not.
+// The colours of 32 pixels. Five riffles move byte 3 x + c to place 32 c + x. Each is a loop that becomes vectors; a
+// loop over every third byte would not.
 #[inline(always)]
 fn parted(bytes: &[u8; 96]) -> Parted
     ensures { (colour x : ℕ) → colour < 3 → x < 32
