@@ -100,8 +100,8 @@ def ppd_header(profile, name):
 
 
 def ppd_filters():
-    """The costs steer CUPS: a PDF goes by CUPS Raster, for 0 is below 10, and a PWG file comes as it is, for 10 is below
-    197, the cost of the way by a PDF. The filters before this one make the copies."""
+    """The costs steer CUPS: a PDF goes by CUPS Raster, for 0 is below 10, and a PWG file comes as it is, for 10 is
+    below 197, the cost of the way by a PDF. The filters before this one make the copies."""
     return '''*cupsFilter2: "application/vnd.cups-raster application/vnd.cups-raw 0 rastertojinthbao"
 *cupsFilter2: "image/pwg-raster application/vnd.cups-raw 10 rastertojinthbao"
 *cupsManualCopies: True'''
