@@ -7,13 +7,12 @@ use Rattle.printer_definitions.specs.Printer.{Printer}
 use Rattle.printer_definitions.specs.declared.inks.Ink.{Ink}
 use Rattle.pwg_definitions.specs.declared.pages.Kind.{Kind}
 use Rattle.separation_definitions.specs.Amounts.{amount as amount_of, pixel_at}
+use Rattle.ink_separation.specs.Separated.{Separates}
 
 -- The row has the amounts of the first columns of a window that begins at pixel `left`.
-pub record HasColumns (p : Printer) (kind : Kind) (line : List ℕ) (left at columns : ℕ) (old new : AmountTable) : Type 0 where
-  pub size : HasSizeAs old new
-  pub amounts : (i : ℕ) (ink : Ink) → slice_get (inks_of p.inks) i ≡ Some ink → (x : ℕ) → x < columns
-      → amount new i at x ≡ amount_of p kind (pixel_at kind line (left + x)) ink
-  pub others : (i y x : ℕ) → y ≢ at → y < old.rows → amount new i y x ≡ amount old i y x
+abbrev pub HasColumns : Printer → Kind → List ℕ → ℕ → ℕ → ℕ → AmountTable → AmountTable → Type 0
+HasColumns p kind line left at columns old new =
+    Separates p kind line (record { left = left; top = 0; width = columns; height = 0 }) at old new
 
 -- many columns more
 pub columns_more : (p : Printer) (kind : Kind) (line chunk : List ℕ) (left at columns many : ℕ) (old now new : AmountTable)
@@ -26,14 +25,16 @@ pub columns_more : (p : Printer) (kind : Kind) (line chunk : List ℕ) (left at 
     → HasColumns p kind line left at (columns + many) old new
 columns_more p kind line chunk left at columns many old now new v size pixels put beside others = record {
   size = record { width = size.width ∙ v.size.width; rows = size.rows ∙ v.size.rows; inks = size.inks ∙ v.size.inks };
-  amounts = λ i ink is x low. elim (cases_lt x columns) [
-    | inl before ↦ beside i x (inl before) ∙ v.amounts i ink is x before
-    | inr from ↦
-        let k : ℕ = x - columns in
-        let place : columns + k ≡ x = omega arith in
-        let column : left + columns + k ≡ left + x = omega arith in
-        ap (λ n. amount new i at n) (sym place) ∙ put i ink is k (omega arith)
-        ∙ ap (λ pixel. amount_of p kind pixel ink) (pixels k (omega arith) ∙ ap (pixel_at kind line) column)
-  ];
+  row = record {
+    are = λ i ink is x low. elim (cases_lt x columns) [
+      | inl before ↦ beside i x (inl before) ∙ v.row.are i ink is x before
+      | inr from ↦
+          let k : ℕ = x - columns in
+          let place : columns + k ≡ x = omega arith in
+          let column : left + columns + k ≡ left + x = omega arith in
+          ap (λ n. amount new i at n) (sym place) ∙ put i ink is k (omega arith)
+          ∙ ap (λ pixel. amount_of p kind pixel ink) (pixels k (omega arith) ∙ ap (pixel_at kind line) column)
+    ];
+  };
   others = λ i y x other low. others i y x other (omega (arith, v.size.rows)) ∙ v.others i y x other low;
 }

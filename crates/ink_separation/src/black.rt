@@ -12,7 +12,7 @@ use std::marker::Model;
 #[derive(Drop)]
 pub struct BlackScale {
     least: u8,
-    // What black takes over for each step above the least darkness, in parts of 2^24, rounded up.
+    // What black takes over for each step above the least darkness, in parts of 2^24: the quotient and one more.
     scale: u32,
 }
 

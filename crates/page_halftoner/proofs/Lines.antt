@@ -14,9 +14,8 @@ use Rattle.separation_definitions.specs.Amounts.{amount as amount_of, pixel_at}
 use Rattle.slab_diffusion.specs.Slabs.{DiffusesSlab}
 use Rattle.tile_border.specs.Tops.{edges_of}
 use Rattle.tile_edges.specs.Tops.{IsBelow, top_of}
-use Rattle.ink_separation.specs.Separated.{Separates}
+use Rattle.ink_separation.specs.Separated.{HasLine, Separates}
 use Rattle.page_halftoner.specs.Halftones.{EndsWith, Halftoning, IsUpTo, StandsFor, held, plane_of, rows_done, window}
-use Rattle.page_halftoner.specs.Slabs.{HasLine}
 use Rattle.page_halftoner.proofs.SlabSteps.{row_more, slab_more}
 use Rattle.page_definitions.specs.Dots.{HasDots, halftone}
 
@@ -91,7 +90,7 @@ held_more h line lines more y i ink slab next s is =
     let Q : List (List ℕ) → Type 0 = λ all. IsUpTo (table_of h.kernel) (plane_of h ink all) i h.diffused (n + 1) h.planes h.top slab in
     subst Q (sym (behind lines line more)) (row_more
     (table_of h.kernel) (plane_of h ink ls) i h.diffused n h.planes h.top h.slab slab up (omega (arith, next.from, next.room))
-    (λ x across. next.puts.amounts i ink is x across
+    (λ x across. next.puts.row.are i ink is x across
     ∙ ap (λ l. amount_of (printer_of h.profile) h.form.kind (pixel_at h.form.kind l ((window h).left + x)) ink) (sym line_at)
     ∙ ap (λ m. (plane_of h ink ls).amount m x) (sym row)) (λ r x other low. next.puts.others i r x other low))
 
@@ -192,7 +191,7 @@ ends_with h line y slab next = record {
   last = λ n some.
       let here : y - h.diffused ≡ n = omega (arith, some, next.place, next.inside, next.from) in
       let Q : ℕ → Type 0 = λ m. HasLine (printer_of h.profile) h.form.kind line (window h) m slab in
-      subst Q here (record { are = next.puts.amounts });
+      subst Q here next.puts.row;
 }
 
 -- a line once more after its repeats

@@ -14,7 +14,7 @@ use Rattle.separation_definitions.specs.Windows.{window_of}
 use Rattle.separation_definitions.specs.declared.window.Window.{Window}
 use Rattle.tile_border.specs.Tops.{edges_of}
 use Rattle.tile_edges.specs.Tops.{IsBelow}
-use Rattle.page_halftoner.specs.Slabs.{HasLine}
+use Rattle.ink_separation.specs.Separated.{HasLine}
 
 -- A page that is being halftoned: its profile, form and kernel, how many lines have come, how many rows of the window
 -- are diffused, the dots so far, the bottom edges of the last diffused rows, the amounts of the rows after them, and

@@ -1,7 +1,7 @@
 //! The rows that wait for diffusion.
 ghost use Rattle.dot_planes.specs.Tables.{IsSize};
-ghost use Rattle.ink_separation.specs.Separated.{Separates};
-ghost use Rattle.page_halftoner.specs.Slabs.{HasLine, IsFirstSlab, IsNextSlab};
+ghost use Rattle.ink_separation.specs.Separated.{HasLine, Separates};
+ghost use Rattle.page_halftoner.specs.Slabs.{IsFirstSlab, IsNextSlab};
 ghost use Rattle.printer_definitions.specs.Inks.{inks_of};
 ghost use Rattle.printer_profile.specs.Profiles.{printer_of};
 ghost use Rattle.printer_profile.specs.Validity.{check};

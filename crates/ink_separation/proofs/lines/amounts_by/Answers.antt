@@ -31,4 +31,8 @@ returns c =
     (λ k low. ap (λ u. pixel_at c.args.kind (cut_off c.args.line.now ((c.args.w.left + x) * u)) k) c.unit_of-unit.ensures.is
     ∙ cut_off-pixel c.args.kind c.args.line.now c.args.w.left c.args.w.width x many k (omega (arith, end)) c.requires.inside low)
     e.put e.beside e.others in
-    record { size = all.size; amounts = λ i ink is n low. all.amounts i ink is n (omega (arith, end)); others = all.others }
+    record {
+      size = all.size;
+      row = record { are = λ i ink is n low. all.row.are i ink is n (omega (arith, end)) };
+      others = all.others;
+    }
