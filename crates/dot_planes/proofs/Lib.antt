@@ -13,3 +13,5 @@ pub mod LaidBytes
 pub mod LaidRows
 pub mod PutLaid
 pub mod Words
+pub mod BandRows
+pub mod PutBands

@@ -53,7 +53,7 @@ no_rows t first height p i bytes = record {
 }
 
 -- the bytes of a row of a tile
-row_of_tile : (bytes row : List ℕ) (r offset : ℕ)
+pub row_of_tile : (bytes row : List ℕ) (r offset : ℕ)
     → row ≡ row_at 8 bytes r → offset < 64 → row_dot row offset ≡ row_dot bytes (64 * r + offset)
 row_of_tile bytes row r offset is inside =
     let byte : r * 8 + offset / 8 ≡ (64 * r + offset) / 8 = omega arith in
@@ -62,7 +62,7 @@ row_of_tile bytes row r offset is inside =
     ∙ ap (λ b. bit_at b (offset % 8)) (row_byte 8 r (offset / 8) bytes (omega arith) ∙ ap (λ k. get_or bytes k 0) byte)
     ∙ ap (bit_at (get_or bytes ((64 * r + offset) / 8) 0)) bit
 
-same_size : (a b c : DotTable) → HasSizeOf a b → HasSizeOf b c → HasSizeOf a c
+pub same_size : (a b c : DotTable) → HasSizeOf a b → HasSizeOf b c → HasSizeOf a c
 same_size a b c p q = record { width = q.width ∙ p.width; rows = q.rows ∙ p.rows; inks = q.inks ∙ p.inks }
 
 pub rows_more : (old mid new : DotTable) (first height : ℕ) (p : Place) (i r : ℕ) (bytes dots : List ℕ)

@@ -5,3 +5,4 @@ pub mod InkRows
 pub mod Tiles
 pub mod TileBits
 pub mod Lending
+pub mod Bands

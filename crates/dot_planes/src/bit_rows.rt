@@ -13,7 +13,7 @@ use crate::places::are_bytes;
 
 // Eight dots of a row from bit `by` of byte i on. Byte i + 1 exists.
 #[inline(always)]
-fn row_eight(bytes: &[u8], i: usize, by: usize) -> u8
+pub(crate) fn row_eight(bytes: &[u8], i: usize, by: usize) -> u8
     requires by { by ≤ 8 }
     requires next { i + 1 < length bytes.now }
     ensures { (j : ℕ) → j < 8 → bit_at result j ≡ row_dot bytes.now (8 * i + by + j) }
@@ -38,7 +38,7 @@ fn window(bytes: &[u8], x: usize) -> u8
 
 // The dots of byte i of a row that has `dots` dots. Bits past the last dot are cleared.
 #[inline(always)]
-fn row_part(row: &[u8], dots: usize, i: usize) -> u8
+pub(crate) fn row_part(row: &[u8], dots: usize, i: usize) -> u8
     requires i { i < length row.now }
     requires some { 8 * i < dots }
     ensures { (j : ℕ) → j < 8 → bit_at result j ≡ (nat_lt (8 * i + j) dots && row_dot row.now (8 * i + j)) }

@@ -6,12 +6,13 @@
 //!
 //! Each `make` gives a table without dots or amounts, or answers `Memory`; no other call takes memory. Each call that
 //! sets dots or amounts says what it sets and that everything else is unchanged: `turn_on` one dot, `put_row` a row,
-//! `lay` the first dots of a row from any column on, `put_tile` the pixels of a tile in a slab, `put_part` a part of a
-//! row of amounts, `copy_row` a row of amounts in all inks.
+//! `lay` the first dots of a row from any column on, `put_tile` the pixels of a tile in a slab, `put_band` all dots of
+//! a band of its tiles at once, `put_part` a part of a row of amounts, `copy_row` a row of amounts in all inks.
 //!
 //! `TileBits` holds the dots of one tile, 256 bytes an ink.
 #![tactic(auto)]
 
+mod band_rows;
 mod bit_rows;
 mod eights;
 mod ink_rows;

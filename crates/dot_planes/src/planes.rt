@@ -7,6 +7,7 @@ ghost use Rattle.std.specs.List.{count_by, sum_by};
 ghost use Rattle.std.specs.Prelude.{IfOk, count_ones, false, length, map, ℕ, ◌*◌, ◌+◌, ◌<◌, ◌≡◌, ◌≤◌};
 ghost use Rattle.weave_definitions.specs.Weave.{count_from};
 
+mod bands;
 mod laying;
 
 use crate::places::{row_of, row_start};

@@ -1,8 +1,12 @@
 //! Dots and amounts worked by hand.
-ghost use Rattle.std.specs.Prelude.{length, ◌<◌, ◌≡◌};
+ghost use Rattle.dot_planes.specs.Tables.{HasSizeOf};
+ghost use Rattle.dot_planes.specs.Tiles.{slab_of};
+ghost use Rattle.std.specs.Prelude.{IfOk, length, ◌+◌, ◌<◌, ◌≡◌, ◌≤◌};
+ghost use Rattle.tile_shape.specs.Geometry.{bands_of, columns_of};
 
 use super::{InkRows, Planes, TileBits, TileDots, has_dot};
-use tile_shape::Place;
+use std::alloc::Global;
+use tile_shape::{Place, Shape};
 use weave_base::Memory;
 
 #[test]
@@ -166,4 +170,175 @@ fn rows_are_laid_between_bytes(rt: HostRuntime) {
     assert!(rt; planes.meets(2, 1, 11, &[0x80], 1) && !planes.meets(2, 1, 12, &[0x80], 1));
     assert!(rt; !planes.meets(2, 0, 11, &[0x80], 1) && !planes.meets(1, 1, 11, &[0x80], 1));
     assert!(rt; has_dot(&[0x00, 0x80], 9) && !has_dot(&[0x00, 0x40], 9));
+}
+
+// Planes of three inks, full of dots.
+fn full_planes(alloc: Global, width: u32, rows: u32) -> Result<Planes, Memory>
+    requires some_width { 1 ≤ width }
+    requires width { width ≤ 3000 }
+    requires some_rows { 1 ≤ rows }
+    requires rows { rows ≤ 100 }
+    ensures width { IfOk result (λ t. t.width ≡ width) }
+    ensures rows { IfOk result (λ t. t.rows ≡ rows) }
+    ensures inks { IfOk result (λ t. t.inks ≡ 3) }
+{
+    let mut planes = Planes::make(alloc, width, rows, 3)?;
+    for ink in 0..3 {
+        for y in 0..rows {
+            for x in 0..width {
+                planes.turn_on(ink, x, y);
+            }
+        }
+    }
+    Ok(planes)
+}
+
+// Pseudo-random bytes for an ink of a tile.
+fn fill_ink(bits: &mut TileBits, ink: u8, start: u32)
+    requires ink { ink < 2 }
+    requires inks { length bits.old ≡ 2 }
+    ensures { length bits.new ≡ 2 }
+{
+    let bytes = bits.ink_mut(ink);
+    let mut seed = start;
+    for n in 0..256 {
+        seed = seed.wrapping_mul(1_664_525).wrapping_add(1_013_904_223);
+        bytes[n] = (seed >> 24) as u8;
+    }
+}
+
+// A tile of two inks.
+fn tile_at(alloc: Global, c: u32, j: u32) -> Result<TileDots, Memory>
+    ensures column { IfOk result (λ d. d.place.c ≡ c) }
+    ensures band { IfOk result (λ d. d.place.j ≡ j) }
+{
+    let mut bits = TileBits::make(alloc, 2)?;
+    let start = c.wrapping_mul(64).wrapping_add(j.wrapping_mul(2));
+    fill_ink(&mut bits, 0, start);
+    fill_ink(&mut bits, 1, start | 1);
+    Ok(TileDots {
+        place: Place { c, j },
+        bits,
+    })
+}
+
+// The tiles of band j.
+fn band_at(alloc: Global, columns: u32, j: u32) -> Result<Vec<TileDots>, Memory>
+    requires { columns ≤ 129 }
+    ensures { IfOk result (λ v. length v.items ≡ columns) }
+{
+    let Ok(mut tiles) = Vec::with_capacity(alloc, columns as usize) else {
+        return Err(Memory);
+    };
+    for c in 0..columns {
+        let tile = tile_at(alloc, c, j)?;
+        tiles.push_reserved(tile);
+    }
+    Ok(tiles)
+}
+
+// Puts the tiles of band j one by one into a slab that begins at row 3.
+fn put_tiles(
+    planes: &mut Planes,
+    alloc: Global,
+    columns: u32,
+    height: u32,
+    j: u32,
+) -> Result<(), Memory>
+    requires height { 1 ≤ height }
+    requires slab { 3 + height ≤ planes.old.rows }
+    requires columns { columns ≡ columns_of (slab_of planes.old height) }
+    requires band { j < bands_of (slab_of planes.old height) }
+    ensures { HasSizeOf planes.old planes.new }
+{
+    for c in 0..columns {
+        let tile = tile_at(alloc, c, j)?;
+        planes.put_tile(3, height, &tile);
+    }
+    Ok(())
+}
+
+// Whether all rows of both are the same.
+fn are_same(one: &Planes, other: &Planes) -> bool
+    requires one { one.now.inks ≡ 3 }
+    requires other { other.now.inks ≡ 3 }
+    requires rows { one.now.rows ≡ other.now.rows }
+{
+    for ink in 0..3 {
+        for y in 0..one.rows() {
+            if one.row(ink, y) != other.row(ink, y) {
+                return false;
+            }
+        }
+    }
+    true
+}
+
+// Whether the bands of a slab, put one by one, are the same as its tiles.
+fn bands_are_tiles(alloc: Global, width: u32, height: u32) -> Result<bool, Memory>
+    requires some_width { 1 ≤ width }
+    requires width { width ≤ 3000 }
+    requires some_height { 1 ≤ height }
+    requires height { height ≤ 90 }
+{
+    let mut one = full_planes(alloc, width, height + 5)?;
+    let mut other = full_planes(alloc, width, height + 5)?;
+    let shape = Shape { width, height };
+    let columns = shape.columns();
+    for j in 0..shape.bands() {
+        put_tiles(&mut one, alloc, columns, height, j)?;
+        let tiles = band_at(alloc, columns, j)?;
+        other.put_band(3, height, j, tiles.as_slice());
+    }
+    Ok(are_same(&one, &other))
+}
+
+#[test]
+fn a_band_is_put_as_its_tiles_are(rt: HostRuntime) {
+    for width in [1, 2, 63, 64, 65, 200, 2976] {
+        for height in [1, 31, 32, 33, 70] {
+            assert!(rt; bands_are_tiles(rt.alloc(), width, height) == Ok(true));
+        }
+    }
+}
+
+// A tile of one ink with a few dots in its rows 0, 1 and 5.
+fn worked_tile(alloc: Global, c: u32) -> Result<TileDots, Memory> {
+    let mut bits = TileBits::make(alloc, 1)?;
+    let bytes = bits.ink_mut(0);
+    bytes[0] = 0x81;
+    bytes[1] = 0x7F;
+    bytes[8] = 0xD5;
+    bytes[9] = 0x7F;
+    bytes[41] = 0x20;
+    bytes[42] = 0xC3;
+    Ok(TileDots {
+        place: Place { c, j: 0 },
+        bits,
+    })
+}
+
+#[test]
+fn a_band_of_ten_columns_is_worked_by_hand(rt: HostRuntime) {
+    let Ok(mut planes) = full_planes(rt.alloc(), 10, 8) else {
+        assert!(rt; false);
+        return;
+    };
+    let Ok(first) = worked_tile(rt.alloc(), 0) else {
+        assert!(rt; false);
+        return;
+    };
+    let Ok(second) = worked_tile(rt.alloc(), 1) else {
+        assert!(rt; false);
+        return;
+    };
+    planes.put_band(1, 6, 0, &[first, second]);
+    assert_eq!(rt; planes.row(0, 0), [0xFF, 0xC0].as_slice());
+    assert_eq!(rt; planes.row(0, 1), [0x81, 0x40].as_slice());
+    assert_eq!(rt; planes.row(0, 2), [0x55, 0xC0].as_slice());
+    assert_eq!(rt; planes.row(0, 3), [0x00, 0x00].as_slice());
+    assert_eq!(rt; planes.row(0, 6), [0x83, 0x00].as_slice());
+    assert_eq!(rt; planes.row(0, 7), [0xFF, 0xC0].as_slice());
+    assert_eq!(rt; planes.row(2, 0), [0xFF, 0xC0].as_slice());
+    assert_eq!(rt; planes.row(2, 1), [0x00, 0x00].as_slice());
 }

@@ -42,7 +42,7 @@ impl Model for TileBits {
 }
 
 // The bytes of an ink that a tile does not have.
-const NO_DOTS: [u8; 256] = [0; 256];
+pub(crate) const NO_DOTS: [u8; 256] = [0; 256];
 
 impl TileBits {
     /// No dots, of 1 to 4 inks.

@@ -12,8 +12,10 @@ pub(crate) fn lay_tiles(tiles: &[TileDots], rows: &InkRows, out: &mut Planes, at
     requires at { at + rows.now.rows ≤ out.old.rows }
     ensures { LaysTiles (window_of rows.now) at (length tiles.now) tiles.now out.old out.new }
 {
-    let height = rows.shape().height;
-    for tile in tiles {
-        out.put_tile(at, height, tile);
+    let shape = rows.shape();
+    let columns = shape.columns() as usize;
+    for j in 0..shape.bands() {
+        let first = j as usize * columns;
+        out.put_band(at, shape.height, j, &tiles[first..first + columns]);
     }
 }

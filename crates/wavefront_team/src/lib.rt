@@ -1,5 +1,6 @@
 //! Slabs of a page, diffused by several workers. Each has a pass of one board, claims tiles in turn, and works and
-//! posts those that it gets. The caller works the tiles that the workers leave.
+//! posts those that it gets. The caller works the tiles that the workers leave, and then lays the dots of all into the
+//! planes, a band at a time.
 //!
 //! `diffuse`: whichever worker works which tile, and in whatever order, the rows of the slab have the dots of
 //! row-by-row diffusion below the given top, all other rows of the planes are unchanged, and the answer is the bottom

@@ -1,0 +1,121 @@
+-- Planes take the dots of a band of tiles, row by row and ink by ink.
+use Rattle.std.proofs.Common.{◌≡◌, ◌≢◌, ◌⊎◌, ℕ, ◌+◌, ◌-◌, ◌*◌, ◌<◌, ◌≤◌, false, List, length, get_or, map, min, sym, ◌∙◌, ap, arith, inl, inr, refl}
+use Rattle.std.proofs.lemmas.Bool.{cases_eq}
+use Rattle.weave_definitions.specs.Weave.{count_from}
+use Rattle.dot_planes.specs.Bands.{HasTileRows, PutsBand, PutsBandInk, PutsBandRow}
+use Rattle.dot_planes.specs.Tables.{DotTable, HasSizeOf, IsPackedRow, PutsRow, dot, row_dot, row_len}
+use Rattle.dot_planes.specs.Tiles.{tile_dot}
+use Rattle.dot_planes.specs.declared.tiles.TileDots.{TileDots}
+use Rattle.dot_planes.proofs.PackedRows.{counted-len, dot_of_packed, row_packed}
+use Rattle.dot_planes.proofs.PutTiles.{same_size}
+
+-- ---- a row
+
+-- a row without spare dots is packed
+pub wide_packed : (width : ℕ) (row : List ℕ) → length row ≡ row_len width → ((k : ℕ) → get_or row k 0 < 256)
+    → ((x : ℕ) → width ≤ x → row_dot row x ≡ false) → IsPackedRow width row
+wide_packed width row len bytes spare = record {
+  dots = map (row_dot row) (count_from 0 width);
+  width_is = counted-len (row_dot row) 0 width;
+  is = row_packed width row len bytes spare;
+}
+
+-- So planes in which it is put have the band's dots.
+pub puts_band_row : (old new : DotTable) (i y r : ℕ) (wide put : List ℕ) → PutsRow old new i y put → IsPackedRow old.width put
+    → ((x : ℕ) → x < old.width → row_dot put x ≡ row_dot wide (x + 2 * r)) → PutsBandRow old new i y r wide
+puts_band_row old new i y r wide put p packed_row is = record {
+  size = p.size;
+  pixels = λ x inside. p.row packed_row.dots packed_row.width_is packed_row.is x
+      ∙ sym (dot_of_packed packed_row.dots put x packed_row.is) ∙ is x inside;
+  others = λ k m x low other. p.others k m other low x;
+}
+
+-- ---- the rows of an ink
+
+pub no_band_rows : (t : DotTable) (first i : ℕ) (tiles : List TileDots) → PutsBandInk t t first 0 i tiles
+no_band_rows t first i tiles = record {
+  size = record { width = refl; rows = refl; inks = refl };
+  pixels = λ row offset c x d before inside in_row across. absurd (omega arith);
+  others = λ k y x low where_is. refl;
+}
+
+pub band_rows_more : (old mid new : DotTable) (first r i : ℕ) (tiles : List TileDots) (wide : List ℕ)
+    → r < 32 → first + r < old.rows → old.width + 62 ≤ 64 * length tiles → HasTileRows wide tiles i r (length tiles)
+    → PutsBandInk old mid first r i tiles → PutsBandRow mid new i (first + r) r wide → PutsBandInk old new first (r + 1) i tiles
+band_rows_more old mid new first r i tiles wide low room enough has before now = record {
+  size = same_size old mid new before.size now.size;
+  pixels = λ row offset c x d upto inside in_row across. elim (cases_eq row r) [
+    | inl here ↦
+        let place : x + 2 * r ≡ 64 * c + offset = omega arith in
+        ap (λ k. dot new i (first + k) x) here
+        ∙ now.pixels x (omega (arith, before.size.width))
+        ∙ ap (row_dot wide) place ∙ has.dots c offset d (omega arith) inside
+        ∙ ap (λ k. tile_dot (get_or tiles c d).bits i k offset) (sym here)
+    | inr differs ↦
+        let other : first + row ≢ first + r = omega arith in
+        now.others i (first + row) x (omega (arith, before.size.rows)) (inr other)
+        ∙ before.pixels row offset c x d (omega arith) inside in_row across
+  ];
+  others = λ k y x down where_is. now.others k y x (omega (arith, before.size.rows)) (elim where_is [
+    | inl ink ↦ inl ink
+    | inr rows ↦ inr (elim rows [ inl above ↦ omega arith | inr below ↦ omega arith ])
+  ]) ∙ before.others k y x down (elim where_is [
+    | inl ink ↦ inl ink
+    | inr rows ↦ inr (elim rows [ inl above ↦ inl above | inr below ↦ inr (omega arith) ])
+  ]);
+}
+
+-- ---- the inks of a band
+
+-- The inks before one have the first `rows` rows of a band, which begins at row `first`.
+pub record PutsBandInks (old new : DotTable) (first rows end : ℕ) (tiles : List TileDots) : Type 0 where
+  pub size : HasSizeOf old new
+  pub pixels : (i row offset c x : ℕ) (d : TileDots) → i < end → row < rows → offset < 64 → x < old.width
+      → x + 2 * row ≡ 64 * c + offset → dot new i (first + row) x ≡ tile_dot (get_or tiles c d).bits i row offset
+  pub others : (i y x : ℕ) → y < old.rows → (end ≤ i) ⊎ ((y < first) ⊎ (first + rows ≤ y)) → dot new i y x ≡ dot old i y x
+
+pub no_band_inks : (t : DotTable) (first rows : ℕ) (tiles : List TileDots) → PutsBandInks t t first rows 0 tiles
+no_band_inks t first rows tiles = record {
+  size = record { width = refl; rows = refl; inks = refl };
+  pixels = λ i row offset c x d few before inside in_row across. absurd (omega arith);
+  others = λ i y x low where_is. refl;
+}
+
+pub band_inks_more : (old mid new : DotTable) (first rows n : ℕ) (tiles : List TileDots) → first + rows ≤ old.rows
+    → PutsBandInks old mid first rows n tiles → PutsBandInk mid new first rows n tiles → PutsBandInks old new first rows (n + 1) tiles
+band_inks_more old mid new first rows n tiles room before now = record {
+  size = same_size old mid new before.size now.size;
+  pixels = λ i row offset c x d upto down inside in_row across. elim (cases_eq i n) [
+    | inl here ↦
+        ap (λ k. dot new k (first + row) x) here
+        ∙ now.pixels row offset c x d down inside (omega (arith, before.size.width)) across
+        ∙ ap (λ k. tile_dot (get_or tiles c d).bits k row offset) (sym here)
+    | inr differs ↦
+        now.others i (first + row) x (omega (arith, before.size.rows)) (inl differs)
+        ∙ before.pixels i row offset c x d (omega arith) down inside in_row across
+  ];
+  others = λ i y x down where_is. now.others i y x (omega (arith, before.size.rows)) (elim where_is [
+    | inl later ↦ inl (omega arith)
+    | inr outside ↦ inr outside
+  ]) ∙ before.others i y x down (elim where_is [
+    | inl later ↦ inl (omega arith)
+    | inr outside ↦ inr outside
+  ]);
+}
+
+-- all inks
+pub all_band_inks : (old new : DotTable) (at height j rows end : ℕ) (tiles : List TileDots) → end ≡ old.inks
+    → rows ≡ min (height - 32 * j) 32 → 32 * j < height
+    → PutsBandInks old new (at + 32 * j) rows end tiles → PutsBand old new at height j tiles
+all_band_inks old new at height j rows end tiles end_is rows_is some r = record {
+  size = r.size;
+  pixels = λ i row offset c y x d ink q.
+      let y_is : y ≡ at + 32 * j + row = omega (arith, q.down, q.place.down) in
+      ap (λ n. dot new i n x) y_is
+      ∙ r.pixels i row offset c x d (omega arith) (omega (arith, q.place.in_band, q.place.down, q.pixel.down))
+      q.place.in_tile q.pixel.across q.place.across;
+  others = λ i y x down where_is. r.others i y x down (inr (elim where_is [
+    | inl above ↦ inl above
+    | inr rest ↦ inr (elim rest [ inl below ↦ omega arith | inr past ↦ omega arith ])
+  ]));
+}
