@@ -1,4 +1,5 @@
 //! The workers of a slab.
+ghost use denote.Param.Send.{IsSync};
 ghost use Rattle.diffusion_kernel.specs.Tables.{table_of};
 ghost use Rattle.slab_diffusion.specs.Slabs.{DiffusesSlab};
 ghost use Rattle.tile_border.specs.Tops.{IsTopOf};
@@ -15,7 +16,7 @@ use crate::worker::Worker;
 use diffusion_kernel::Kernel;
 use dot_planes::{InkRows, Planes};
 use std::alloc::Global;
-use std::thread::{Threads, for_each_mut};
+use std::thread::{Threads, join_mut};
 use tile_board::{Board, Pass};
 use tile_border::TopEdges;
 use tile_shape::Shape;
@@ -83,7 +84,9 @@ fn team_of(
     Ok(team)
 }
 
-// Runs each worker, in a thread of its own where one can be started.
+// Runs each worker: the last one by the caller, each other in a thread of its own where one can be started. The caller
+// starts all threads: a thread that another worker starts often gets that one's processor, and waits for it.
+#[cycle(workers)]
 fn run_all<R: Threads + Sync, G: Gate + Sync>(
     rt: &R,
     board: &Board<'_>,
@@ -96,19 +99,43 @@ fn run_all<R: Threads + Sync, G: Gate + Sync>(
     requires sizes { IsShape shape }
     ensures { AllWorkers board.now team.new }
 {
-    if team.is_empty() {
+    let Some((first, rest)) = team.split_first_mut() else {
         return;
+    };
+    if rest.is_empty() {
+        first.run(board, shape, gate);
+    } else {
+        run_beside(rt, board, shape, gate, first, rest);
     }
-    let threads = team.len();
-    for_each_mut(
-        rt,
-        team,
-        threads,
-        &|_: usize, worker: &mut Worker|
-            requires { IsWorkerOf board.now worker.old.pass × (shape ≡ shape_of (slab board.now)) × IsShape shape }
-            ensures { IsWorkerOf board.entry.now worker.new.pass }
-        { worker.run(board, shape, gate) },
-    );
+}
+
+// Runs the first worker in a thread of its own, if one can be started, and the rest of them as `run_all` does.
+#[cycle(workers)]
+fn run_beside<R: Threads + Sync, G: Gate + Sync>(
+    rt: &R,
+    board: &Board<'_>,
+    shape: Shape,
+    gate: &G,
+    first: &mut Worker,
+    rest: &mut [Worker],
+)
+    requires first { IsWorkerOf board.now first.old.pass }
+    requires rest { AllWorkers board.now rest.old }
+    requires shape { shape ≡ shape_of (slab board.now) }
+    requires sizes { IsShape shape }
+    ensures first { IsWorkerOf board.now first.new.pass }
+    ensures rest { AllWorkers board.now rest.new }
+{
+    let mut one = ||
+        requires { IsWorkerOf board.now first.now.pass × (shape ≡ shape_of (slab board.now)) × IsShape shape }
+        ensures { IsWorkerOf board.entry.now first.exit.now.pass }
+    { first.run(board, shape, gate) };
+    let mut others = ||
+        requires { IsSync R.row × IsSync G.row × AllWorkers board.now rest.now × (shape ≡ shape_of (slab board.now))
+            × IsShape shape }
+        ensures { AllWorkers board.entry.now rest.exit.now }
+    { run_all(rt, board, shape, gate, rest) };
+    join_mut(rt, &mut one, &mut others);
 }
 
 // Joins the workers' passes to the first.

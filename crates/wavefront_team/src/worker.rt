@@ -8,6 +8,7 @@ ghost use Rattle.wavefront_team.specs.Passes.{IsWorkerOf};
 use crate::gate::Gate;
 use crate::work::work_held;
 use std::alloc::Global;
+use std::thread::yield_now;
 use tile_board::{Board, Claim, Pass};
 use tile_shape::{Place, Shape};
 use weave_base::Memory;
@@ -72,7 +73,7 @@ impl Worker {
                     self.go_on();
                     return true;
                 }
-                Claim::NotReady { .. } => self.turn(shape),
+                Claim::NotReady { .. } => self.look_further(shape),
                 Claim::Gone { .. } => self.go_on(),
             }
         }
@@ -95,6 +96,18 @@ impl Worker {
             self.turn(shape);
         }
         None
+    }
+
+    // Turns to the next band. After a round of all bands it yields the processor: a worker whose tile the others need may
+    // share it.
+    fn look_further(&mut self, shape: Shape)
+        requires { IsShape shape }
+        ensures { self.new.pass ≡ self.old.pass }
+    {
+        self.turn(shape);
+        if self.band == 0 {
+            yield_now();
+        }
     }
 
     // Goes on to the next column of its band.
