@@ -107,3 +107,11 @@ floyd_is a own u1 u2 u3 left b0 b4 far =
     let part : int_div_euclid z (pos 16) ≡ error_held (t / 16) = shifted z t (sum ∙ omega (arith, ints)) in
     let all : error_held (16 * a + t / 16) ≡ pos (16 * a) +ℤ error_held (t / 16) = omega (arith, ints) in
     all ∙ ap (λ q. pos (16 * a) +ℤ q) (sym part)
+
+-- Four errors have a share, and no others count.
+pub floyd_shares : (a : ℕ) (own left left2 b0 c0 u3 u2 u1 b4 c4 : ℤ) (far far2 : List ℤ)
+    → value floyd a (own ∷ left ∷ []) (b0 ∷ u3 ∷ u2 ∷ u1 ∷ b4 ∷ []) far ≡ value floyd a (own ∷ left2 ∷ []) (c0 ∷ u3 ∷ u2 ∷ u1 ∷ c4 ∷ []) far2
+unfolding value
+floyd_shares a own left left2 b0 c0 u3 u2 u1 b4 c4 far far2 =
+    ap (λ z. pos (16 * a) +ℤ int_div_euclid z (pos 16))
+    (floyd_sum own left b0 u3 u2 u1 b4 far ∙ sym (floyd_sum own left2 c0 u3 u2 u1 c4 far2))

@@ -1,13 +1,19 @@
 -- One more row of a step.
 use mir.Val.{bool_byte}
-use Rattle.std.proofs.Common.{ℕ, ℤ, Bool, true, false, ◌%◌, ◌≡◌, ◌≢◌, ◌+◌, ◌-◌, ◌*◌, ◌<◌, ◌≤◌, ◌∙◌, ap, refl, sym, arith, inl, inr, List}
-use Rattle.std.proofs.Common.{get_or, min, set, length, get_or-set_same, get_or-set_other}
-use Rattle.std.proofs.lemmas.Bool.{both_ways, cases_eq, cases_lt}
+use Rattle.std.proofs.Common.{ℕ, ℤ, Bool, ◌%◌, ◌≡◌, ◌≢◌, ◌+◌, ◌-◌, ◌*◌, ◌<◌, ◌≤◌, ◌∙◌, ap, refl, sym, arith, inl, inr}
+use Rattle.std.proofs.Common.{List}
+use Rattle.std.proofs.Common.{get_or, set, length, get_or-set_same, get_or-set_other}
+use Rattle.std.proofs.lemmas.Bool.{cases_eq, cases_lt}
 use Rattle.std.proofs.lemmas.List.{set_past}
-use Rattle.diffusion_definitions.specs.Diffusion.{Plane, Table, error_of, is_dot, value}
+use Rattle.diffusion_definitions.specs.Diffusion.{Table, error_of, is_dot, value}
+use Rattle.diffusion_kernel.specs.Tables.{table_of}
+use Rattle.diffusion_kernel.specs.declared.tables.Kernel.{Kernel}
 use Rattle.tile_lanes.specs.Held.{HeldInRange, error_held, same_in, up1_in, up2_in, value_in, value_in_row}
-use Rattle.tile_lanes.specs.Lanes.{AreCleared, IsCleared, IsStep}
-use Rattle.tile_lanes.specs.Rows.{bit_of, is_place}
+use Rattle.tile_lanes.specs.Lanes.{IsStep}
+use Rattle.tile_lanes.specs.Paces.{delay_of, pace_of}
+use Rattle.tile_lanes.specs.Rows.{bit_of}
+use Rattle.tile_lanes.specs.declared.lanes.pace.Pace.{Pace}
+use Rattle.tile_lanes.specs.declared.lanes.pace.Pace.TheVariants.{Level, Lagging}
 use Rattle.tile_lanes.proofs.RowCells.{five_are, two}
 use Rattle.tile_lanes.proofs.Bits.{bit_is}
 
@@ -23,8 +29,9 @@ held_more xs at v all fits i = elim (cases_lt at (length xs)) [
 
 -- ---- a step
 
-pub none_stepped : (k : Table) (amounts : List ℕ) (step first : ℕ) (xs dots : List ℕ) → IsStep k amounts step first 0 xs dots xs dots
-none_stepped k amounts step first xs dots = record {
+pub none_stepped : (kernel : Kernel) (amounts : List ℕ) (step first : ℕ) (xs dots : List ℕ)
+    → IsStep kernel amounts step first 0 xs dots xs dots
+none_stepped kernel amounts step first xs dots = record {
   errors = λ r o h g. let no : ⊥ = omega arith in absurd no;
   left = λ r h g. let no : ⊥ = omega arith in absurd no;
   dots = λ r o h g. let no : ⊥ = omega arith in absurd no;
@@ -35,49 +42,79 @@ none_stepped k amounts step first xs dots = record {
 }
 
 -- a value among the errors of a field, from one among the errors that were read from it
-pub value_here : (k : Table) (amount v : ℕ) (same up1 up2 : List ℤ) (xs : List ℕ) (at : ℕ)
-    → same ≡ same_in xs at → up1 ≡ up1_in xs at → up2 ≡ up2_in xs at → error_held v ≡ value k amount same up1 up2
-    → error_held v ≡ value_in k amount xs at
-value_here k amount v same up1 up2 xs at is_same is_up1 is_up2 is =
-    is ∙ ap (λ s. value k amount s up1 up2) is_same ∙ ap (λ u. value k amount (same_in xs at) u up2) is_up1
-    ∙ ap (value k amount (same_in xs at) (up1_in xs at)) is_up2
+pub value_here : (kernel : Kernel) (amount v : ℕ) (same up1 up2 : List ℤ) (xs : List ℕ) (at : ℕ)
+    → same ≡ same_in xs at → up1 ≡ up1_in (pace_of kernel) xs at → up2 ≡ up2_in (pace_of kernel) xs at
+    → error_held v ≡ value (table_of kernel) amount same up1 up2 → error_held v ≡ value_in kernel amount xs at
+value_here kernel amount v same up1 up2 xs at is_same is_up1 is_up2 is =
+    is ∙ ap (λ s. value (table_of kernel) amount s up1 up2) is_same
+    ∙ ap (λ u. value (table_of kernel) amount (same_in xs at) u up2) is_up1
+    ∙ ap (value (table_of kernel) amount (same_in xs at) (up1_in (pace_of kernel) xs at)) is_up2
 
--- A field that is as before in all earlier groups gives the same value.
-pub value_kept : (k : Table) (amount : ℕ) (xs old : List ℕ) (at bound : ℕ) → at < bound + 34 → 274 ≤ at
-    → ((m : ℕ) → m < bound → get_or xs m 0 ≡ get_or old m 0) → value_in k amount xs at ≡ value_in k amount old at
-value_kept k amount xs old at bound near far kept =
-    let cell = λ (d : ℕ) (h : 34 ≤ d) (i : d ≤ 274). let there : at - d < bound = omega arith in ap error_held (kept (at - d) there) in
-    let same : same_in xs at ≡ same_in old at = two (cell 34 (omega arith) (omega arith)) (cell 68 (omega arith) (omega arith)) in
-    let up1 : up1_in xs at ≡ up1_in old at =
+-- A field that is as before in all earlier groups has the same errors near a pixel.
+cell_kept : (xs old : List ℕ) (at bound d : ℕ) → at < bound + 34 → 274 ≤ at
+    → ((m : ℕ) → m < bound → get_or xs m 0 ≡ get_or old m 0)
+    → 34 ≤ d → d ≤ 274 → error_held (get_or xs (at - d) 0) ≡ error_held (get_or old (at - d) 0)
+cell_kept xs old at bound d near far kept h i = let there : at - d < bound = omega arith in ap error_held (kept (at - d) there)
+
+up1_kept : (pace : Pace) (xs old : List ℕ) (at : ℕ)
+    → ((d : ℕ) → 34 ≤ d → d ≤ 274 → error_held (get_or xs (at - d) 0) ≡ error_held (get_or old (at - d) 0))
+    → up1_in pace xs at ≡ up1_in pace old at
+up1_kept Level xs old at cell =
+    five_are (cell 137 (omega arith) (omega arith)) (cell 103 (omega arith) (omega arith)) (cell 69 (omega arith) (omega arith))
+    (cell 35 (omega arith) (omega arith)) (cell 35 (omega arith) (omega arith))
+up1_kept Lagging xs old at cell =
     five_are (cell 171 (omega arith) (omega arith)) (cell 137 (omega arith) (omega arith)) (cell 103 (omega arith) (omega arith))
-    (cell 69 (omega arith) (omega arith)) (cell 35 (omega arith) (omega arith)) in
-    let up2 : up2_in xs at ≡ up2_in old at =
-    five_are (cell 274 (omega arith) (omega arith)) (cell 240 (omega arith) (omega arith)) (cell 206 (omega arith) (omega arith))
-    (cell 172 (omega arith) (omega arith)) (cell 138 (omega arith) (omega arith)) in
-    ap (λ s. value k amount s (up1_in xs at) (up2_in xs at)) same ∙ ap (λ u. value k amount (same_in old at) u (up2_in xs at)) up1
-    ∙ ap (value k amount (same_in old at) (up1_in old at)) up2
+    (cell 69 (omega arith) (omega arith)) (cell 35 (omega arith) (omega arith))
 
-pub step_more : (k : Table) (amounts : List ℕ) (step first n at v d f : ℕ) (on : Bool) (z : ℤ) (old old_dots xs dots : List ℕ)
+up2_kept : (pace : Pace) (xs old : List ℕ) (at : ℕ)
+    → ((d : ℕ) → 34 ≤ d → d ≤ 274 → error_held (get_or xs (at - d) 0) ≡ error_held (get_or old (at - d) 0))
+    → up2_in pace xs at ≡ up2_in pace old at
+up2_kept Level xs old at cell =
+    five_are (cell 206 (omega arith) (omega arith)) (cell 172 (omega arith) (omega arith)) (cell 138 (omega arith) (omega arith))
+    (cell 104 (omega arith) (omega arith)) (cell 70 (omega arith) (omega arith))
+up2_kept Lagging xs old at cell =
+    five_are (cell 274 (omega arith) (omega arith)) (cell 240 (omega arith) (omega arith)) (cell 206 (omega arith) (omega arith))
+    (cell 172 (omega arith) (omega arith)) (cell 138 (omega arith) (omega arith))
+
+-- So it gives the same value.
+pub value_kept : (kernel : Kernel) (amount : ℕ) (xs old : List ℕ) (at bound : ℕ) → at < bound + 34 → 274 ≤ at
+    → ((m : ℕ) → m < bound → get_or xs m 0 ≡ get_or old m 0)
+    → value_in kernel amount xs at ≡ value_in kernel amount old at
+value_kept kernel amount xs old at bound near far kept =
+    let k : Table = table_of kernel in
+    let pace : Pace = pace_of kernel in
+    let cell = λ (d : ℕ) (h : 34 ≤ d) (i : d ≤ 274). cell_kept xs old at bound d near far kept h i in
+    let same : same_in xs at ≡ same_in old at = two (cell 34 (omega arith) (omega arith)) (cell 68 (omega arith) (omega arith)) in
+    ap (λ s. value k amount s (up1_in pace xs at) (up2_in pace xs at)) same
+    ∙ ap (λ u. value k amount (same_in old at) u (up2_in pace xs at)) (up1_kept pace xs old at cell)
+    ∙ ap (value k amount (same_in old at) (up1_in pace old at)) (up2_kept pace xs old at cell)
+
+pub step_more : (kernel : Kernel) (amounts : List ℕ) (step first n at v d f : ℕ) (on : Bool) (z : ℤ) (old old_dots xs dots : List ℕ)
     → at ≡ 34 * step + 2 + (first + n) → first + n < 32 → 8 ≤ step → at < length xs → first + n < length dots
-    → z ≡ value_in k (get_or amounts (32 * (step - 8) + (first + n)) 0) xs at → (first + n + 8 ≤ step → error_held v ≡ error_of z)
-    → (step < first + n + 8 → v ≡ get_or xs at 0)
+    → z ≡ value_in kernel (get_or amounts (32 * (step - 8) + (first + n)) 0) xs at
+    → (delay_of (pace_of kernel) (first + n) + 8 ≤ step → error_held v ≡ error_of z)
+    → (step < delay_of (pace_of kernel) (first + n) + 8 → v ≡ get_or xs at 0)
     → d ≡ (get_or dots (first + n) 0 * 2 % 65536 + f) % 65536 → f ≡ bool_byte on → on ≡ is_dot z
-    → IsStep k amounts step first n old old_dots xs dots
-    → IsStep k amounts step first (n + 1) old old_dots (set xs at v) (set dots (first + n) d)
-step_more k amounts step first n at v d f on z old old_dots xs dots is_at small late room more is_z is_v is_left is_d is_f is_on s =
+    → IsStep kernel amounts step first n old old_dots xs dots
+    → IsStep kernel amounts step first (n + 1) old old_dots (set xs at v) (set dots (first + n) d)
+step_more kernel amounts step first n at v d f on z old old_dots xs dots is_at small late room more is_z is_v is_left is_d is_f is_on s =
     let q : ℕ = first + n in
-    let here : z ≡ value_in_row k amounts step old q =
-    is_z ∙ value_kept k (get_or amounts (32 * (step - 8) + q) 0) xs old at (34 * step + 2) (omega arith) (omega arith)
+    let here : z ≡ value_in_row kernel amounts step old q =
+    is_z
+    ∙ value_kept kernel (get_or amounts (32 * (step - 8) + q) 0) xs old at (34 * step + 2) (omega arith) (omega arith)
     (λ m h. s.before m (omega arith))
-    ∙ ap (value_in k (get_or amounts (32 * (step - 8) + q) 0) old) is_at in
-    let bit : f ≡ bit_of (is_dot (value_in_row k amounts step old q)) = is_f ∙ bit_is on ∙ ap bit_of (is_on ∙ ap is_dot here) in
+    ∙ ap (value_in kernel (get_or amounts (32 * (step - 8) + q) 0) old) is_at in
+    let bit : f ≡ bit_of (is_dot (value_in_row kernel amounts step old q)) = is_f ∙ bit_is on
+    ∙ ap bit_of (is_on ∙ ap is_dot here) in
     let rest : get_or dots q 0 ≡ get_or old_dots q 0 = s.dots_after q (omega arith) in
     record {
       errors = λ r o h g few t. elim (cases_eq r q) [
         | inl last ↦
             let place : 34 * step + 2 + r ≡ at = omega arith in
-            ap (λ m. error_held (get_or (set xs at v) m 0)) place ∙ ap error_held (get_or-set_same xs at v 0 room) ∙ is_v (omega arith)
-            ∙ ap error_of here ∙ ap (λ m. error_of (value_in_row k amounts step old m)) (sym last)
+            let moved : delay_of (pace_of kernel) r ≡ delay_of (pace_of kernel) q = ap (delay_of (pace_of kernel)) last in
+            ap (λ m. error_held (get_or (set xs at v) m 0)) place ∙ ap error_held (get_or-set_same xs at v 0 room)
+            ∙ is_v (omega (arith, moved, t))
+            ∙ ap error_of here ∙ ap (λ m. error_of (value_in_row kernel amounts step old m)) (sym last)
         | inr not ↦
             let other : 34 * step + 2 + r ≢ at = omega arith in
             ap error_held (get_or-set_other xs at (34 * step + 2 + r) v 0 other) ∙ s.errors r o h (omega arith) few t
@@ -85,7 +122,9 @@ step_more k amounts step first n at v d f on z old old_dots xs dots is_at small 
       left = λ r h g beside. elim (cases_eq r q) [
         | inl last ↦
             let place : 34 * step + 2 + r ≡ at = omega arith in
-            ap (λ m. get_or (set xs at v) m 0) place ∙ get_or-set_same xs at v 0 room ∙ is_left (omega arith)
+            let moved : delay_of (pace_of kernel) r ≡ delay_of (pace_of kernel) q = ap (delay_of (pace_of kernel)) last in
+            ap (λ m. get_or (set xs at v) m 0) place ∙ get_or-set_same xs at v 0 room
+            ∙ is_left (omega (arith, moved, beside))
             ∙ ap (λ m. get_or xs m 0) (sym place) ∙ s.after (34 * step + 2 + r) (omega arith)
         | inr not ↦
             let other : 34 * step + 2 + r ≢ at = omega arith in
@@ -96,7 +135,7 @@ step_more k amounts step first n at v d f on z old old_dots xs dots is_at small 
             ap (λ m. get_or (set dots q d) m 0) last ∙ get_or-set_same dots q d 0 more ∙ is_d
             ∙ (let twice : (get_or dots q 0 * 2 % 65536 + f) % 65536 ≡ (2 * get_or old_dots q 0 + f) % 65536 = omega (arith, rest) in twice)
             ∙ ap (λ b. (2 * get_or old_dots q 0 + b) % 65536) bit
-            ∙ ap (λ m. (2 * get_or old_dots m 0 + bit_of (is_dot (value_in_row k amounts step old m))) % 65536) (sym last)
+            ∙ ap (λ m. (2 * get_or old_dots m 0 + bit_of (is_dot (value_in_row kernel amounts step old m))) % 65536) (sym last)
         | inr not ↦ get_or-set_other dots q r d 0 not ∙ s.dots r o h (omega arith) few t
       ];
       before = λ m h. let other : m ≢ at = omega arith in get_or-set_other xs at m v 0 other ∙ s.before m h;
@@ -106,9 +145,10 @@ step_more k amounts step first n at v d f on z old old_dots xs dots is_at small 
     }
 
 -- Sixteen rows, and then the others, among which are no errors that those read.
-pub both_stepped : (k : Table) (amounts : List ℕ) (step : ℕ) (f0 d0 f1 d1 f2 d2 : List ℕ) → 8 ≤ step
-    → IsStep k amounts step 0 16 f0 d0 f1 d1 → IsStep k amounts step 16 16 f1 d1 f2 d2 → IsStep k amounts step 0 32 f0 d0 f2 d2
-both_stepped k amounts step f0 d0 f1 d1 f2 d2 late a b = record {
+pub both_stepped : (kernel : Kernel) (amounts : List ℕ) (step : ℕ) (f0 d0 f1 d1 f2 d2 : List ℕ) → 8 ≤ step
+    → IsStep kernel amounts step 0 16 f0 d0 f1 d1 → IsStep kernel amounts step 16 16 f1 d1 f2 d2
+    → IsStep kernel amounts step 0 32 f0 d0 f2 d2
+both_stepped kernel amounts step f0 d0 f1 d1 f2 d2 late a b = record {
   errors = λ r o h g few t. elim (cases_lt r 16) [
     | inl up ↦ ap error_held (b.before (34 * step + 2 + r) (omega arith)) ∙ a.errors r o h up few t
     | inr down ↦ b.errors r o down (omega arith) few t ∙ ap error_of (same r g)
@@ -121,7 +161,7 @@ both_stepped k amounts step f0 d0 f1 d1 f2 d2 late a b = record {
     | inl up ↦ b.dots_before r up ∙ a.dots r o h up few t
     | inr down ↦
         b.dots r o down (omega arith) few t ∙ ap (λ z. (2 * get_or d1 r 0 + bit_of (is_dot z)) % 65536) (same r g)
-        ∙ ap (λ d. (2 * d + bit_of (is_dot (value_in_row k amounts step f0 r))) % 65536) (a.dots_after r down)
+        ∙ ap (λ d. (2 * d + bit_of (is_dot (value_in_row kernel amounts step f0 r))) % 65536) (a.dots_after r down)
   ];
   before = λ m h. b.before m (omega arith) ∙ a.before m h;
   after = λ m h. b.after m (omega arith) ∙ a.after m (omega arith);
@@ -129,85 +169,6 @@ both_stepped k amounts step f0 d0 f1 d1 f2 d2 late a b = record {
   dots_after = λ r h. b.dots_after r h ∙ a.dots_after r (omega arith);
 }
   where
-    same : (r : ℕ) → r < 32 → value_in_row k amounts step f1 r ≡ value_in_row k amounts step f0 r
-    same r small = value_kept k (get_or amounts (32 * (step - 8) + r) 0) f1 f0 (34 * step + 2 + r) (34 * step + 2) (omega arith)
+    same : (r : ℕ) → r < 32 → value_in_row kernel amounts step f1 r ≡ value_in_row kernel amounts step f0 r
+    same r small = value_kept kernel (get_or amounts (32 * (step - 8) + r) 0) f1 f0 (34 * step + 2 + r) (34 * step + 2) (omega arith)
         (omega arith) (λ m h. a.before m (omega arith))
-
--- ---- pixels that do not exist
-
-pub none_cleared : (step first : ℕ) (xs dots : List ℕ) → AreCleared step first first xs dots xs dots
-none_cleared step first xs dots = record {
-  none = λ r h g. let no : ⊥ = omega arith in absurd no;
-  no_dot = λ r h g. let no : ⊥ = omega arith in absurd no;
-  before = λ m h. refl;
-  after = λ m h. refl;
-  dots_before = λ r h. refl;
-  dots_after = λ r h. refl;
-}
-
-pub cleared_more : (step first n at d : ℕ) (old old_dots xs dots : List ℕ)
-    → at ≡ 34 * step + 2 + n → first ≤ n → at < length xs → n < length dots → d ≡ get_or dots n 0 - get_or dots n 0 % 2
-    → AreCleared step first n old old_dots xs dots → AreCleared step first (n + 1) old old_dots (set xs at 2040) (set dots n d)
-cleared_more step first n at d old old_dots xs dots is_at started room more is_d s =
-    let rest : get_or dots n 0 ≡ get_or old_dots n 0 = s.dots_after n (omega arith) in
-    let new : d ≡ get_or old_dots n 0 - get_or old_dots n 0 % 2 = is_d ∙ ap (λ m. m - m % 2) rest in
-    record {
-      none = λ r h g. elim (cases_eq r n) [
-        | inl last ↦
-            let here : 34 * step + 2 + r ≡ at = omega arith in
-            ap (λ m. get_or (set xs at 2040) m 0) here ∙ get_or-set_same xs at 2040 0 room
-        | inr not ↦
-            let other : 34 * step + 2 + r ≢ at = omega arith in
-            get_or-set_other xs at (34 * step + 2 + r) 2040 0 other ∙ s.none r h (omega arith)
-      ];
-      no_dot = λ r h g. elim (cases_eq r n) [
-        | inl last ↦ ap (λ m. get_or (set dots n d) m 0) last ∙ get_or-set_same dots n d 0 more ∙ new
-            ∙ ap (λ m. get_or old_dots m 0 - get_or old_dots m 0 % 2) (sym last)
-        | inr not ↦ get_or-set_other dots n r d 0 not ∙ s.no_dot r h (omega arith)
-      ];
-      before = λ m h. let other : m ≢ at = omega arith in get_or-set_other xs at m 2040 0 other ∙ s.before m h;
-      after = λ m h. let other : m ≢ at = omega arith in get_or-set_other xs at m 2040 0 other ∙ s.after m (omega arith);
-      dots_before = λ r h. let other : r ≢ n = omega arith in get_or-set_other dots n r d 0 other ∙ s.dots_before r h;
-      dots_after = λ r h. let other : r ≢ n = omega arith in get_or-set_other dots n r d 0 other ∙ s.dots_after r (omega arith);
-    }
-
--- Rows from the top and rows to the last in the tile are cleared, which have no pixel; those between them have one.
-pub both_cleared : (p : Plane) (c j step first end last up low : ℕ) (f0 d0 f1 d1 f2 d2 : List ℕ) → first ≤ end → last ≡ min (step - 7) 32
-    → up ≡ min first last → low ≡ min end last
-    → ((r o : ℕ) → first ≤ r → r < end → o + r + 8 ≡ step → is_place p j r (64 * c + o) ≡ true)
-    → ((r o : ℕ) → r < first → o + r + 8 ≡ step → is_place p j r (64 * c + o) ≡ false)
-    → ((r o : ℕ) → end ≤ r → r < 32 → o + r + 8 ≡ step → is_place p j r (64 * c + o) ≡ false)
-    → AreCleared step 0 up f0 d0 f1 d1 → AreCleared step low last f1 d1 f2 d2 → IsCleared p c j step f0 d0 f2 d2
-both_cleared p c j step first end last up low f0 d0 f1 d1 f2 d2 order is_last is_up is_low inside above below a b = record {
-  none = λ r o row small at gone. elim (cases_lt r first) [
-    | inl over ↦ b.before (34 * step + 2 + r) (omega arith) ∙ a.none r (omega arith) (omega arith)
-    | inr from ↦ elim (cases_lt r end) [
-      | inl here ↦ absurd (both_ways _ gone (inside r o from here at))
-      | inr down ↦ b.none r (omega arith) (omega arith)
-    ]
-  ];
-  no_dot = λ r o row small at gone. elim (cases_lt r first) [
-    | inl over ↦ b.dots_before r (omega arith) ∙ a.no_dot r (omega arith) (omega arith)
-    | inr from ↦ elim (cases_lt r end) [
-      | inl here ↦ absurd (both_ways _ gone (inside r o from here at))
-      | inr down ↦ b.no_dot r (omega arith) (omega arith) ∙ ap (λ m. m - m % 2) (a.dots_after r (omega arith))
-    ]
-  ];
-  pixel = λ r o row small at there. elim (cases_lt r first) [
-    | inl over ↦ absurd (both_ways _ (above r o over at) there)
-    | inr from ↦ elim (cases_lt r end) [
-      | inl here ↦ b.before (34 * step + 2 + r) (omega arith) ∙ a.after (34 * step + 2 + r) (omega arith)
-      | inr down ↦ absurd (both_ways _ (below r o down row at) there)
-    ]
-  ];
-  dot = λ r o row small at there. elim (cases_lt r first) [
-    | inl over ↦ absurd (both_ways _ (above r o over at) there)
-    | inr from ↦ elim (cases_lt r end) [
-      | inl here ↦ b.dots_before r (omega arith) ∙ a.dots_after r (omega arith)
-      | inr down ↦ absurd (both_ways _ (below r o down row at) there)
-    ]
-  ];
-  left = λ r row beside. b.after (34 * step + 2 + r) (omega arith) ∙ a.after (34 * step + 2 + r) (omega arith);
-  before = λ m h. b.before m (omega arith) ∙ a.before m (omega arith);
-  after = λ m h. b.after m (omega arith) ∙ a.after m (omega arith);
-}

@@ -4,9 +4,12 @@ pub mod Bits
 pub mod RowTile
 pub mod HeldValues
 pub mod LaneSteps
+pub mod LaneClears
 pub mod LaneBits
+pub mod Paces
 pub mod LaneAmounts
 pub mod HeldBlocks
+pub mod PaceCells
 pub mod LaneCells
 pub mod LaneTile
 pub mod Squares

@@ -1,6 +1,11 @@
 -- Errors that are held with 2040 added.
 use Rattle.std.specs.Prelude.{ℕ, ℤ, pos, ◌≤◌, ◌+◌, ◌-◌, ◌*◌, ◌-ℤ◌, List, [], ◌∷◌, slice_index}
-use Rattle.diffusion_definitions.specs.Diffusion.{Table, value}
+use Rattle.diffusion_definitions.specs.Diffusion.{value}
+use Rattle.diffusion_kernel.specs.Tables.{table_of}
+use Rattle.diffusion_kernel.specs.declared.tables.Kernel.{Kernel}
+use Rattle.tile_lanes.specs.Paces.{pace_of}
+use Rattle.tile_lanes.specs.declared.lanes.pace.Pace.{Pace}
+use Rattle.tile_lanes.specs.declared.lanes.pace.Pace.TheVariants.{Level, Lagging}
 use Rattle.tile_lanes.specs.declared.lanes.value.Around.{Around}
 
 -- the error that is held as n
@@ -40,20 +45,29 @@ pub record IsHeld (n : Around) : Type 0 where
 abbrev pub same_in : List ℕ → ℕ → List ℤ
 same_in xs at = error_held (slice_index xs (at - 34)) ∷ error_held (slice_index xs (at - 68)) ∷ []
 
-abbrev pub up1_in : List ℕ → ℕ → List ℤ
-up1_in xs at =
+-- The row above has the error at the place two to the right in the same step where rows are level: that of the place
+-- before it stands for it.
+abbrev pub up1_in : Pace → List ℕ → ℕ → List ℤ
+up1_in Level xs at =
+    error_held (slice_index xs (at - 137)) ∷ error_held (slice_index xs (at - 103)) ∷ error_held (slice_index xs (at - 69))
+    ∷ error_held (slice_index xs (at - 35)) ∷ error_held (slice_index xs (at - 35)) ∷ []
+up1_in Lagging xs at =
     error_held (slice_index xs (at - 171)) ∷ error_held (slice_index xs (at - 137)) ∷ error_held (slice_index xs (at - 103))
     ∷ error_held (slice_index xs (at - 69)) ∷ error_held (slice_index xs (at - 35)) ∷ []
 
-abbrev pub up2_in : List ℕ → ℕ → List ℤ
-up2_in xs at =
+abbrev pub up2_in : Pace → List ℕ → ℕ → List ℤ
+up2_in Level xs at =
+    error_held (slice_index xs (at - 206)) ∷ error_held (slice_index xs (at - 172)) ∷ error_held (slice_index xs (at - 138))
+    ∷ error_held (slice_index xs (at - 104)) ∷ error_held (slice_index xs (at - 70)) ∷ []
+up2_in Lagging xs at =
     error_held (slice_index xs (at - 274)) ∷ error_held (slice_index xs (at - 240)) ∷ error_held (slice_index xs (at - 206))
     ∷ error_held (slice_index xs (at - 172)) ∷ error_held (slice_index xs (at - 138)) ∷ []
 
 -- what that pixel has to show
-abbrev pub value_in : Table → ℕ → List ℕ → ℕ → ℤ
-value_in k amount xs at = value k amount (same_in xs at) (up1_in xs at) (up2_in xs at)
+abbrev pub value_in : Kernel → ℕ → List ℕ → ℕ → ℤ
+value_in kernel amount xs at =
+    value (table_of kernel) amount (same_in xs at) (up1_in (pace_of kernel) xs at) (up2_in (pace_of kernel) xs at)
 
 -- what the pixel at row r of a step has to show, where a step has 32 amounts
-abbrev pub value_in_row : Table → List ℕ → ℕ → List ℕ → ℕ → ℤ
-value_in_row k amounts step xs r = value_in k (slice_index amounts (32 * (step - 8) + r)) xs (34 * step + 2 + r)
+abbrev pub value_in_row : Kernel → List ℕ → ℕ → List ℕ → ℕ → ℤ
+value_in_row kernel amounts step xs r = value_in kernel (slice_index amounts (32 * (step - 8) + r)) xs (34 * step + 2 + r)

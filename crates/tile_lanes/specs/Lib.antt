@@ -1,5 +1,6 @@
 pub mod Done
 pub mod Rows
 pub mod Held
+pub mod Paces
 pub mod Lanes
 pub mod Square

@@ -1,15 +1,18 @@
-//! A tile with its rows in step. A field is 103 groups of 34 errors. Row p, counted from two rows above the tile, has
-//! its error at place l, counted from six left of the tile, in group l + p. A pixel reads only errors of earlier
-//! groups, so the pixels of one group are diffused in one step.
+//! A tile with its rows in step. A field is groups of 34 errors, one of each row, the two above the tile first. A pixel
+//! reads only errors of earlier groups, so the pixels of one group are diffused in one step. Where the kernel allows it
+//! all rows are at one offset; else each is one behind the row above it.
+
 ghost use Rattle.diffusion_definitions.specs.Diffusion.{EachInRange, Errors, Solves};
 ghost use Rattle.diffusion_kernel.specs.Tables.{table_of};
 ghost use Rattle.std.specs.Prelude.{true, ◌<◌, ◌≡◌, ◌≤◌};
 ghost use Rattle.tile_lanes.specs.Done.{DiffusesInk, plane_of};
 ghost use Rattle.tile_lanes.specs.Held.{HeldInRange};
 ghost use Rattle.tile_lanes.specs.Lanes.{HasBits, IsCleared, IsFilled, IsWhole};
+ghost use Rattle.tile_lanes.specs.Paces.{end_of, pace_of};
 
 mod edges;
 mod gather;
+mod pace;
 mod packing;
 mod squares;
 mod step;
@@ -20,6 +23,7 @@ use diffusion_kernel::Kernel;
 use dot_planes::InkRows;
 use edges::{put_above, put_corner, put_left, take_bottom, take_lower_corner, take_right};
 use gather::gather;
+use pace::Pace;
 use packing::put_words;
 use step::{clear_step, diffuse_step};
 use tile_shape::Place;
@@ -37,6 +41,7 @@ fn is_whole(place: Place, rows: &InkRows, ink: u8) -> bool
 #[inline(always)]
 fn clear_missing(
     whole: bool,
+    pace: Pace,
     place: Place,
     rows: &InkRows,
     ink: u8,
@@ -49,10 +54,11 @@ fn clear_missing(
     requires high { step < 103 }
     requires in_range { HeldInRange field.old }
     ensures in_range { HeldInRange field.new }
-    ensures cleared { IsCleared (plane_of rows.now ink) place.c place.j step field.old dots.old field.new dots.new }
+    ensures cleared { IsCleared pace (plane_of rows.now ink) place.c place.j step
+        field.old dots.old field.new dots.new }
 {
     if !whole {
-        clear_step(place, rows, ink, field, dots, step);
+        clear_step(pace, place, rows, ink, field, dots, step);
     }
 }
 
@@ -70,19 +76,21 @@ fn diffuse_steps(
     requires in_range { HeldInRange field.old }
     ensures in_range { HeldInRange field.new }
     ensures filled { (e : Errors) → Solves (table_of kernel) (plane_of rows.now ink) e
-        → IsFilled e place.c place.j 8 field.old → IsFilled e place.c place.j 103 field.new }
+        → IsFilled (pace_of kernel) e place.c place.j 8 field.old
+        → IsFilled (pace_of kernel) e place.c place.j (end_of (pace_of kernel)) field.new }
     ensures bits { (e : Errors) → Solves (table_of kernel) (plane_of rows.now ink) e
-        → IsFilled e place.c place.j 8 field.old
-        → HasBits (table_of kernel) (plane_of rows.now ink) e place.c place.j 103 bits.new }
+        → IsFilled (pace_of kernel) e place.c place.j 8 field.old
+        → HasBits kernel (plane_of rows.now ink) e place.c place.j (end_of (pace_of kernel)) bits.new }
 {
+    let pace = Pace::of(kernel);
     let mut amounts = [0u8; 3072];
-    gather(place, rows, ink, &mut amounts);
+    gather(pace, place, rows, ink, &mut amounts);
     let whole = is_whole(place, rows, ink);
     let mut dots = [0u16; 32];
-    for step in 8..103 {
+    for step in 8..pace.end() {
         diffuse_step(kernel, &amounts, field, &mut dots, step);
-        clear_missing(whole, place, rows, ink, field, &mut dots, step);
-        put_words(bits, step, &dots);
+        clear_missing(whole, pace, place, rows, ink, field, &mut dots, step);
+        put_words(pace, bits, step, &dots);
     }
 }
 
@@ -108,12 +116,13 @@ pub(crate) fn diffuse_lanes(
     ensures done { DiffusesInk (table_of kernel) (plane_of rows.now ink) place
         side.old band.old corner.old side.new band.new corner.new bits.new }
 {
+    let pace = Pace::of(kernel);
     let mut field = [0u16; 3502];
-    put_above(&mut field, band);
-    put_corner(&mut field, corner);
-    put_left(&mut field, side);
+    put_above(pace, &mut field, band);
+    put_corner(pace, &mut field, corner);
+    put_left(pace, &mut field, side);
     diffuse_steps(kernel, place, rows, ink, &mut field, bits);
-    take_right(&field, side);
-    take_bottom(&field, band);
-    take_lower_corner(&field, corner);
+    take_right(pace, &field, side);
+    take_bottom(pace, &field, band);
+    take_lower_corner(pace, &field, corner);
 }

@@ -1,4 +1,4 @@
-use Rattle.std.proofs.Common.{arith, refl}
+use Rattle.std.proofs.Common.{arith}
 use Rattle.tile_lanes.proofs.LaneSquares.{rows_more}
 use Rattle.tile_lanes.proofs.Squares.{square_more}
 use Rattle.tile_lanes.proofs.lanes.squares.square_of.Goals as goal
@@ -6,7 +6,7 @@ use Rattle.tile_lanes.proofs.lanes.squares.square_of.Goals as goal
 pub loop-i-preserved : goal.loop-i-preserved
 loop-i-preserved c = record {
   square = square_more _ _ _ (omega arith) c.part_of.ensures.long c.loop-i.invariant.square;
-  rows = rows_more _ c.args.place.c c.args.place.j c.args.first c.args.step c.loop-i.i _ _ _ _ (omega arith) c.loop-i.invariant.square
-      c.requires.left refl
+  rows = rows_more c.args.pace _ c.args.place.c c.args.place.j c.args.first c.args.step c.loop-i.i _ _ _ _ (omega arith)
+      c.loop-i.invariant.square c.requires.left (omega (arith, c.delay.ensures.is))
       c.row-row.ensures.amounts c.part_of.ensures.is c.loop-i.invariant.rows;
 }

@@ -1,5 +1,6 @@
 use Rattle.std.proofs.Common.{ℕ, ◌<◌, ◌+◌, ◌*◌, ◌∙◌, arith, refl, length, length-set}
-use Rattle.tile_lanes.proofs.LaneSteps.{cleared_more, held_more, none_cleared}
+use Rattle.tile_lanes.proofs.LaneClears.{cleared_more, none_cleared}
+use Rattle.tile_lanes.proofs.LaneSteps.{held_more}
 use Rattle.tile_lanes.proofs.lanes.step.clear_rows.Goals as goal
 
 pub loop-r-init : goal.loop-r-init

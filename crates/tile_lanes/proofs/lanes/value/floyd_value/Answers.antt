@@ -1,4 +1,4 @@
-use Rattle.std.proofs.Common.{◌≡◌, ◌+◌, ◌-◌, ◌*◌, ◌/◌, ap, ◌∙◌, arith}
+use Rattle.std.proofs.Common.{◌+◌, ◌-◌, ◌*◌, ◌/◌, ap, ◌∙◌}
 use Rattle.tile_lanes.specs.Held.{error_held}
 use Rattle.tile_lanes.proofs.HeldValues.{floyd_is, floyd_shifts}
 use Rattle.tile_lanes.proofs.lanes.value.floyd_value.Goals as goal

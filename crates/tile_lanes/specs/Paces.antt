@@ -1,0 +1,39 @@
+-- How the rows of a tile go in step. Row r's pixel at offset o is one of step o + r + 8 where rows lag, else of step
+-- o + 8.
+use Rattle.std.specs.Prelude.{ℕ, ◌+◌, ◌*◌}
+use Rattle.diffusion_kernel.specs.declared.tables.Kernel.{Kernel}
+use Rattle.diffusion_kernel.specs.declared.tables.Kernel.TheVariants.{Floyd, Jarvis, Stucki}
+use Rattle.tile_lanes.specs.declared.lanes.pace.Pace.{Pace}
+use Rattle.tile_lanes.specs.declared.lanes.pace.Pace.TheVariants.{Level, Lagging}
+
+-- only Floyd and Steinberg's kernel shares nothing between pixels of one offset
+abbrev pub pace_of : Kernel → Pace
+pace_of Floyd = Level
+pace_of Jarvis = Lagging
+pace_of Stucki = Lagging
+
+-- how many steps row r is behind row 0
+abbrev pub delay_of : Pace → ℕ → ℕ
+delay_of Level r = 0
+delay_of Lagging r = r
+
+-- the step after the last
+abbrev pub end_of : Pace → ℕ
+end_of Level = 72
+end_of Lagging = 103
+
+-- how many squares of sixteen steps hold all amounts of sixteen rows
+abbrev pub squares_of : Pace → ℕ
+squares_of Level = 4
+squares_of Lagging = 5
+
+-- Row p, counted from two rows above the tile, has its errors from this group of a field on, the one six places left of
+-- the tile first.
+abbrev pub first_group : Pace → ℕ → ℕ
+first_group Level p = 2
+first_group Lagging p = p
+
+-- Where a field has the error of row p at place l, counted from six left of the tile. A group is 34 errors, one of each
+-- row.
+abbrev pub cell_of : Pace → ℕ → ℕ → ℕ
+cell_of pace p l = 34 * (l + first_group pace p) + p
