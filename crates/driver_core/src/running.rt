@@ -96,8 +96,8 @@ pub fn tell<E: Sink>(answer: &Answer, err: &mut E)
 /// The word `cap=n` sets the cap of each meter once the words are accepted. The meters are asked for room for a page
 /// after its last line was read and before its first byte is written; where all have room, all count its dots.
 ///
-/// The word `workers=n` sets how many threads diffuse each slab of 256 rows; each enters the gate after it claims a
-/// tile and before it works it.
+/// The word `workers=n` sets how many threads diffuse each slab of up to 256 rows; each enters the gate after it claims
+/// a tile and before it works it.
 pub fn run<R: Threads + Sync, S: Source, K: Sink, E: Sink, F: Shelf, G: Gate + Sync>(
     rt: &R,
     alloc: Global,

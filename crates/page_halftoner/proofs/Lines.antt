@@ -1,5 +1,6 @@
 -- One more line of a page.
-use Rattle.std.proofs.Common.{◌≡◌, ◌⊎◌, ℕ, ℤ, ◌+◌, ◌-◌, ◌<◌, ◌≤◌, Bool, false, List, [], ◌∷◌, ◌++◌, Some, slice_get, length, get_or, refl}
+use Rattle.std.proofs.Common.{◌≡◌, ◌⊎◌, ℕ, ℤ, ◌%◌, ◌+◌, ◌-◌, ◌<◌, ◌≤◌, Bool, false, List, [], ◌∷◌, ◌++◌, Some}
+use Rattle.std.proofs.Common.{slice_get, length, get_or, refl}
 use Rattle.std.proofs.Common.{sym, ◌∙◌, ap, arith, inl, inr, subst, append_assoc, length-append, replicate, suc, zero, pos}
 use Rattle.std.proofs.lemmas.List.{append-nil, get_or_at}
 use Rattle.std.proofs.lemmas.Option.{slice_get_within}
@@ -116,7 +117,7 @@ pub record IsFull (h : Halftoning) (y : ℕ) (rows : AmountTable) (top bottom : 
   pub top_is : top ≡ h.top
   pub full : y + 1 ≡ h.diffused + rows.rows
   pub some : 1 ≤ rows.rows
-  pub whole : h.diffused + rows.rows < (window h).height → rows.rows ≡ 256
+  pub whole : h.diffused + rows.rows < (window h).height → rows.rows % 32 ≡ 0
   pub tall : h.planes.rows ≡ (window h).height
   pub done : DiffusesSlab (table_of h.kernel) rows top bottom h.diffused h.planes planes
 

@@ -1,7 +1,7 @@
 -- A plane, slab by slab.
-use Rattle.std.proofs.Common.{◌≡◌, ◌≢◌, ℕ, ℤ, ◌+◌, ◌-◌, ◌*◌, ◌<◌, ◌≤◌, List, [], ◌∷◌, ltb, ◌&&◌, sym, refl, ◌∙◌, ap, arith, inl, inr}
+use Rattle.std.proofs.Common.{◌≡◌, ◌≢◌, ℕ, ℤ, ◌%◌, ◌+◌, ◌-◌, ◌*◌, ◌<◌, ◌≤◌, List, [], ◌∷◌, ltb, ◌&&◌, sym, refl, ◌∙◌}
+use Rattle.std.proofs.Common.{ap, arith, inl, inr}
 use Rattle.std.proofs.lemmas.Bool.{cases_eq, cases_lt}
-use Rattle.std.specs.Int.{div_ceil}
 use Rattle.diffusion_definitions.specs.Diffusion.{Errors, Plane, Solves, Table, cut, error_of, errors, five, inside}
 use Rattle.diffusion_definitions.specs.Diffusion.{is_dot, no_top, on, rest, value, value_at}
 use Rattle.diffusion_laws.proofs.Slab.{first_rows, slab}
@@ -62,7 +62,7 @@ row_more k p i d n planes top old new up low are others = record {
 pub slab_more : (k : Table) (p : Plane) (i d : ℕ) (rows rows' : AmountTable) (top bottom : List (List (List ℤ))) (old new : DotTable)
     → DiffusesSlab k rows top bottom d old new
     → IsUpTo k p i d rows.rows old top rows → i < rows.inks → rows.width ≡ p.width → 1 ≤ rows.rows
-    → d + rows.rows ≤ p.height → old.rows ≡ p.height → (d + rows.rows < p.height → rows.rows ≡ 256)
+    → d + rows.rows ≤ p.height → old.rows ≡ p.height → (d + rows.rows < p.height → rows.rows % 32 ≡ 0)
     → IsUpTo k p i (d + rows.rows) 0 new bottom rows'
 slab_more k p i d rows rows' top bottom old new done up ink wide some low tall whole =
     let e : Errors = errors k p no_top in
@@ -91,13 +91,13 @@ slab_more k p i d rows rows' top bottom old new done up ink wide some low tall w
             ∙ ap (λ n. on k p e n x) row
       ];
       errors_are = λ more.
-          let is : h ≡ 256 = whole more in
-          let end : 32 * (bands_of (window_of rows) - 1 + 1) ≡ 256 = ap (λ n. 32 * (div_ceil n 32 - 1 + 1)) is in
+          let bands : h % 32 ≡ 0 = whole more in
+          let end : 32 * (bands_of (window_of rows) - 1 + 1) ≡ h = omega (arith, bands, some) in
           let next = bottoms_are_top k q g (window_of rows) (edges_of bottom i) (bands_of (window_of rows) - 1) solves
           (record { width = refl; height = refl }) (done.bottoms i g are) in
           λ t n two.
           let place : d + h + t ≡ d + (h + t) = omega arith in
-          let from : h + t ≡ 32 * (bands_of (window_of rows) - 1 + 1) + t = omega (arith, is, end) in
+          let from : h + t ≡ 32 * (bands_of (window_of rows) - 1 + 1) + t = omega (arith, end) in
           ap (λ m. e m n) place ∙ sym (ap (λ row. row n) (g_is (h + t) (omega arith))) ∙ ap (λ m. g m n) from ∙ next t n two;
       amounts = λ y x none across. absurd (omega arith);
     }

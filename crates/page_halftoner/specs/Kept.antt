@@ -1,5 +1,5 @@
 -- The invariant of a halftoner.
-use Rattle.std.specs.Prelude.{◌≡◌, ℤ, ◌+◌, ◌<◌, ◌≤◌, Bool, true, false, IsOk, List, [], Option, Some, None, length}
+use Rattle.std.specs.Prelude.{◌≡◌, ℤ, ◌%◌, ◌+◌, ◌<◌, ◌≤◌, Bool, true, false, IsOk, List, [], Option, Some, None, length}
 use Rattle.printer_definitions.specs.Inks.{inks_of}
 use Rattle.printer_profile.specs.Profiles.{printer_of}
 use Rattle.printer_profile.specs.Validity.{check}
@@ -47,11 +47,11 @@ pub record IsReady (h : Inside) : Type 0 where
   pub few : h.count ≤ h.form.height
   pub slab_width : h.slab.width ≡ (window_in h).width
   pub slab_inks : h.slab.inks ≡ length (inks_of h.profile.inks)
-  -- a slab has 256 rows, or those that are left
+  -- a slab has whole bands of rows, at most 256, or those that are left
   pub slab_some : 1 ≤ h.slab.rows
   pub slab_most : h.slab.rows ≤ 256
   pub slab_in : h.diffused < (window_in h).height → h.diffused + h.slab.rows ≤ (window_in h).height
-  pub slab_whole : h.diffused + h.slab.rows < (window_in h).height → h.slab.rows ≡ 256
+  pub slab_whole : h.diffused + h.slab.rows < (window_in h).height → h.slab.rows % 32 ≡ 0
   -- the rows so far are diffused, or held in a slab that is not full
   pub from : h.diffused ≤ rows_done (window_in h) h.count
   pub room : rows_done (window_in h) h.count < h.diffused + h.slab.rows

@@ -1,13 +1,17 @@
 -- The rows of a page that are held until they are diffused.
-use Rattle.std.specs.Prelude.{◌≡◌, ℕ, ℤ, pos, ◌<◌, ◌≤◌, List, min}
+use Rattle.std.specs.Prelude.{◌≡◌, ℕ, ℤ, pos, ◌%◌, ◌<◌, ◌≤◌, List, min}
 use Rattle.dot_planes.specs.Tables.{AmountTable}
 use Rattle.tile_border.specs.Tops.{IsTopOf, edges_of}
 use Rattle.tile_edges.specs.Tops.{top_of}
 
--- room for the first rows of a window: 256, or all where there are fewer; the errors above them are 0
+-- room for the first rows of a window: whole bands, at most 256 rows, or all where there are fewer; the errors above
+-- them are 0
 pub record IsFirstSlab (width height inks : ℕ) (slab : AmountTable) (top : List (List (List ℤ))) : Type 0 where
   pub width_is : slab.width ≡ width
-  pub rows_are : slab.rows ≡ min height 256
+  pub some : 1 ≤ slab.rows
+  pub most : slab.rows ≤ 256
+  pub inside : slab.rows ≤ height
+  pub bands : slab.rows < height → slab.rows % 32 ≡ 0
   pub inks_are : slab.inks ≡ inks
   pub is_top : IsTopOf width inks top
   pub zeros : (i t n : ℕ) → top_of (edges_of top i) t n ≡ pos 0

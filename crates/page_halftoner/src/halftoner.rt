@@ -26,8 +26,8 @@ use weave_base::Memory;
 /// A page that is halftoned line by line. Contracts see the profile, the form, the kernel, the number of lines so
 /// far, which lists of lines it stands for, and whether a call answered `Memory`.
 ///
-/// It keeps no lines; beside the planes of dots it keeps the amounts of one slab: 256 rows of the window, or those
-/// that are left. When the slab is full it is diffused, below the errors of the slab above.
+/// It keeps no lines; beside the planes of dots it keeps the amounts of one slab: at most 256 rows of the window in
+/// whole bands, or those that are left. When the slab is full it is diffused, below the errors of the slab above.
 #[derive(Drop)]
 pub struct Halftoner {
     alloc: Global,
@@ -93,7 +93,7 @@ impl Halftoner {
     {
         let window = p.window(f);
         let inks = p.inks.count();
-        let (slab, top) = first_slab(alloc, window.width, window.height, inks)?;
+        let (slab, top) = first_slab(alloc, window.width, window.height, inks, workers)?;
         let planes = Planes::make(alloc, window.width, window.height, inks)?;
         Ok(Halftoner {
             alloc,

@@ -7,7 +7,7 @@ ghost use Rattle.printer_profile.specs.Profiles.{printer_of};
 ghost use Rattle.printer_profile.specs.Validity.{check};
 ghost use Rattle.pwg_definitions.specs.Header.{IsWanted};
 ghost use Rattle.separation_definitions.specs.Windows.{wanted_by, window_of};
-ghost use Rattle.std.specs.Prelude.{IfOk, IsOk, length, true, ℕ, ◌+◌, ◌<◌, ◌≡◌, ◌≤◌};
+ghost use Rattle.std.specs.Prelude.{IfOk, IsOk, length, true, ℕ, ◌%◌, ◌+◌, ◌<◌, ◌≡◌, ◌≤◌};
 
 use dot_planes::InkRows;
 use ink_separation::{BlackScale, amounts_by};
@@ -16,20 +16,42 @@ use std::alloc::Global;
 use tile_border::TopEdges;
 use weave_base::Memory;
 
-// How many rows of a window are diffused together, while as many are left.
-const SLAB_ROWS: u32 = 256;
+// The most bands of 32 rows that are diffused together.
+const MOST_BANDS: u32 = 8;
 
-/// Room for the first rows of a window; the errors above them are 0.
+// About as many amounts as the second cache of a processor holds.
+const NEAR_AMOUNTS: u32 = 524_288;
+
+// How many rows of a window are diffused together, while as many are left. One worker takes no more bands than have
+// their amounts still in its processor's cache when it comes to them; more workers want as many tiles as there may be.
+fn slab_rows(width: u32, height: u32, inks: u8, workers: u8) -> u32
+    requires { IsSize width height inks }
+    ensures some { 1 ≤ result }
+    ensures most { result ≤ 256 }
+    ensures inside { result ≤ height }
+    ensures bands { result < height → result % 32 ≡ 0 }
+{
+    let near = NEAR_AMOUNTS / (32 * width * u32::from(inks));
+    let bands = if workers == 1 {
+        near.max(1).min(MOST_BANDS)
+    } else {
+        MOST_BANDS
+    };
+    height.min(32 * bands)
+}
+
+/// Room for the first rows of a window, which `workers` workers diffuse; the errors above them are 0.
 pub(crate) fn first_slab(
     alloc: Global,
     width: u32,
     height: u32,
     inks: u8,
+    workers: u8,
 ) -> Result<(InkRows, TopEdges), Memory>
     requires size { IsSize width height inks }
     ensures { IfOk result (λ first. IsFirstSlab width height inks first.0 first.1) }
 {
-    let rows = height.min(SLAB_ROWS);
+    let rows = slab_rows(width, height, inks, workers);
     let slab = InkRows::make(alloc, width, rows, inks)?;
     let top = TopEdges::zero(alloc, slab.shape().columns(), inks)?;
     Ok((slab, top))

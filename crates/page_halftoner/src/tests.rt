@@ -62,15 +62,18 @@ fn form(kind: Kind, width: u32, height: u32) -> PageForm {
     }
 }
 
+// The most bytes of a line.
+const LONGEST: usize = 3072;
+
 // A line of the page, and bytes after it.
-fn line_at(kind: Kind, y: u32) -> [u8; 64] {
-    let mut line = [0u8; 64];
+fn line_at(kind: Kind, y: u32) -> [u8; LONGEST] {
+    let mut line = [0u8; LONGEST];
     let unit = match kind {
         Kind::Gray8 | Kind::Black8 => 1,
         Kind::Rgb8 => 3,
     };
     for (n, byte) in line.iter_mut().enumerate() {
-        let n = (n % 64) as u32;
+        let n = (n % LONGEST) as u32;
         *byte = byte_at(n / unit, y, n % unit);
     }
     line
@@ -87,7 +90,7 @@ fn planes_of<R: Threads + Sync>(
 ) -> Option<Planes>
     requires { (1 ≤ workers) × (workers ≤ 64) }
 {
-    if p.check().is_err() || !is_taken(p, f) || f.bytes_per_line > 64 {
+    if p.check().is_err() || !is_taken(p, f) || f.bytes_per_line > LONGEST as u32 {
         return None;
     }
     let Ok(mut h) = Halftoner::begin(alloc, p, f, kernel, workers) else {
@@ -128,6 +131,27 @@ fn small_pages_have_the_dots_of_the_definition(rt: HostRuntime) {
                     );
                 }
             }
+        }
+    }
+}
+
+// One worker diffuses a page of this width in slabs of 32 rows, two in slabs of 256.
+#[test]
+fn errors_cross_the_slabs_of_a_wide_page(rt: HostRuntime) {
+    let p = printer(InkSet::Cmyk);
+    let f = form(Kind::Gray8, 3003, 133);
+    for workers in [1, 2] {
+        let Some(planes) = planes_of(&rt, rt.alloc(), &p, f, Kernel::Floyd, workers) else {
+            assert!(rt; false, "no planes by {workers}");
+            return;
+        };
+        assert_eq!(rt;
+            (planes.width(), planes.rows(), planes.inks()),
+            (3000, 130, 4)
+        );
+        for i in 0..4 {
+            let wrong = wrong_dots(&p, f, Kernel::Floyd, &planes, i, InkSet::Cmyk.at(i));
+            assert_eq!(rt; wrong, 0, "ink {i} by {workers}");
         }
     }
 }

@@ -73,7 +73,10 @@ fn amount_at(p: &Profile, kind: Kind, ink: Ink, x: u32, y: u32) -> i32 {
     given_at(p.inks, kind, ink, x, y).wrapping_mul(limit) / 255
 }
 
-// An error of a window of this width, 0 beside it and above it. Only the last 256 are kept.
+// How many errors are kept: those of two rows and more, where a row has up to 4,000.
+const KEPT: usize = 8192;
+
+// An error of a window of this width, 0 beside it and above it. Only the last ones are kept.
 fn error_at(errors: &[i32], width: u32, x: i64, y: i64) -> i32 {
     if x < 0 || y < 0 || x >= i64::from(width) {
         return 0;
@@ -81,7 +84,7 @@ fn error_at(errors: &[i32], width: u32, x: i64, y: i64) -> i32 {
     let at = (y as usize)
         .wrapping_mul(width as usize)
         .wrapping_add(x as usize);
-    errors.get(at % 256).copied().unwrap_or(0)
+    errors.get(at % KEPT).copied().unwrap_or(0)
 }
 
 // What the errors near a pixel give to it, in parts of the kernel's divisor.
@@ -109,7 +112,7 @@ pub(crate) fn wrong_dots(
     i: u8,
     ink: Ink,
 ) -> u32 {
-    let mut errors = [0i32; 256];
+    let mut errors = [0i32; KEPT];
     let mut wrong = 0u32;
     let width = planes.width();
     for y in 0..planes.rows() {
@@ -119,8 +122,8 @@ pub(crate) fn wrong_dots(
                 .wrapping_mul(16)
                 .wrapping_add(given(kernel, &errors, width, x, y));
             let on = value >= 2040;
-            let at = (y.wrapping_mul(width).wrapping_add(x) % 256) as usize;
-            errors[at] = if on { value.wrapping_sub(4080) } else { value };
+            let at = y.wrapping_mul(width).wrapping_add(x) as usize;
+            errors[at % KEPT] = if on { value.wrapping_sub(4080) } else { value };
             if i >= planes.inks() || planes.dot(i, x, y) != on {
                 wrong = wrong.wrapping_add(1);
             }

@@ -13,7 +13,10 @@ returns c =
     c.columns.ensures ∙ ap (λ (s : Shape). columns_of s) c.shape.ensures.is ∙ ap columns_across slab.width in
     record {
       width_is = slab.width;
-      rows_are = slab.rows ∙ c.min-rows.ensures;
+      some = omega (arith, slab.rows, c.slab_rows-rows.ensures.some);
+      most = omega (arith, slab.rows, c.slab_rows-rows.ensures.most);
+      inside = omega (arith, slab.rows, c.slab_rows-rows.ensures.inside);
+      bands = λ more. ap (λ n. n % 32) slab.rows ∙ c.slab_rows-rows.ensures.bands (omega (arith, slab.rows, more));
       inks_are = slab.inks;
       is_top = record {
         columns = top.has.columns ∙ columns;

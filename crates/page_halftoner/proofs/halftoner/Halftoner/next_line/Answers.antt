@@ -1,4 +1,4 @@
-use Rattle.std.proofs.Common.{◌≡◌, ◌⊎◌, ◌+◌, ◌-◌, ◌≤◌, ◌<◌, ℕ, ℤ, List, ap, arith, length, min, sym, subst, ◌∙◌}
+use Rattle.std.proofs.Common.{◌≡◌, ◌⊎◌, ◌%◌, ◌+◌, ◌-◌, ◌≤◌, ◌<◌, ℕ, ℤ, List, ap, arith, length, min, sym, subst, ◌∙◌}
 use Rattle.std.proofs.lemmas.Option.{same_Some}
 use Rattle.dot_planes.specs.Tables.{AmountTable}
 use Rattle.ink_separation.specs.Separated.{Separates}
@@ -103,7 +103,9 @@ invariant_of-self-2 g c =
       slab_some = next.some (omega (arith, size.rows, v.slab_some));
       slab_most = omega (arith, next.most, size.rows, v.slab_most);
       slab_in = λ more. omega (arith, rows more);
-      slab_whole = λ more. omega (arith, rows (omega arith), full, v.slab_whole);
+      slab_whole = λ more.
+          let kept : c.next_slab.new.slab.rows ≡ c.self.inside.slab.rows = omega (arith, rows (omega arith)) in
+          ap (λ n. n % 32) kept ∙ v.slab_whole (omega (arith, full));
       from = omega (arith, top, inside);
       room = omega (arith, top, inside, next.some (omega (arith, size.rows, v.slab_some)));
       top_is = λ edges is. let T : List (List (List ℤ)) → Type 0 = λ t. IsTopOf w.width (length (inks_of c.self.inside.profile.inks)) t in
@@ -128,7 +130,7 @@ returns-clause-stands g c = λ lines stands.
       top_is = ap edges_in (sym c.in-Some-take.is ∙ c.take.ensures.value);
       full = full;
       some = omega (arith, size.rows, v.slab_some);
-      whole = λ more. size.rows ∙ v.slab_whole (omega (arith, size.rows));
+      whole = λ more. ap (λ n. n % 32) size.rows ∙ v.slab_whole (omega (arith, size.rows));
       tall = v.planes_rows;
       done = c.in_ok-bottom.ensures.slab;
     } in
