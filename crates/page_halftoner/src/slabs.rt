@@ -22,22 +22,19 @@ const MOST_BANDS: u32 = 8;
 // About as many amounts as the second cache of a processor holds.
 const NEAR_AMOUNTS: u32 = 524_288;
 
-// How many rows of a window are diffused together, while as many are left. One worker takes no more bands than have
-// their amounts still in its processor's cache when it comes to them; more workers want as many tiles as there may be.
+// How many rows of a window are diffused together, while as many are left. For each worker there are as many bands as
+// have their amounts still in its processor's cache when it comes to them, at least one.
 fn slab_rows(width: u32, height: u32, inks: u8, workers: u8) -> u32
-    requires { IsSize width height inks }
+    requires size { IsSize width height inks }
+    requires some_workers { 1 ≤ workers }
     ensures some { 1 ≤ result }
     ensures most { result ≤ 256 }
     ensures inside { result ≤ height }
     ensures bands { result < height → result % 32 ≡ 0 }
 {
     let near = NEAR_AMOUNTS / (32 * width * u32::from(inks));
-    let bands = if workers == 1 {
-        near.max(1).min(MOST_BANDS)
-    } else {
-        MOST_BANDS
-    };
-    height.min(32 * bands)
+    let bands = u32::from(workers) * near.max(1);
+    height.min(32 * bands.min(MOST_BANDS))
 }
 
 /// Room for the first rows of a window, which `workers` workers diffuse; the errors above them are 0.
@@ -49,6 +46,7 @@ pub(crate) fn first_slab(
     workers: u8,
 ) -> Result<(InkRows, TopEdges), Memory>
     requires size { IsSize width height inks }
+    requires workers { 1 ≤ workers }
     ensures { IfOk result (λ first. IsFirstSlab width height inks first.0 first.1) }
 {
     let rows = slab_rows(width, height, inks, workers);

@@ -135,7 +135,7 @@ fn small_pages_have_the_dots_of_the_definition(rt: HostRuntime) {
     }
 }
 
-// One worker diffuses a page of this width in slabs of 32 rows, two in slabs of 256.
+// One worker diffuses a page of this width in slabs of 32 rows, two in slabs of 64.
 #[test]
 fn errors_cross_the_slabs_of_a_wide_page(rt: HostRuntime) {
     let p = printer(InkSet::Cmyk);
