@@ -1,4 +1,5 @@
-//! Small pages against the definitions, dot by dot.
+//! Small pages against the definitions, dot by dot, and the height of slabs.
+ghost use Rattle.dot_planes.specs.Tables.{IsSize};
 ghost use Rattle.printer_profile.specs.Profiles.{printer_of};
 ghost use Rattle.pwg_definitions.specs.Header.{IsWanted};
 ghost use Rattle.separation_definitions.specs.Windows.{wanted_by};
@@ -7,6 +8,7 @@ ghost use Rattle.std.specs.Prelude.{IsTrue, ◌≤◌};
 mod definition;
 
 use crate::Halftoner;
+use crate::slabs::first_slab;
 use definition::{byte_at, wrong_dots};
 use diffusion_kernel::Kernel;
 use dot_planes::Planes;
@@ -133,6 +135,29 @@ fn small_pages_have_the_dots_of_the_definition(rt: HostRuntime) {
             }
         }
     }
+}
+
+// How many rows the first slab of a window has, or `None` where there is no memory.
+fn first_rows(alloc: Global, width: u32, height: u32, inks: u8, workers: u8) -> Option<u32>
+    requires size { IsSize width height inks }
+    requires workers { 1 ≤ workers }
+{
+    let Ok((slab, _top)) = first_slab(alloc, width, height, inks, workers) else {
+        return None;
+    };
+    Some(slab.rows())
+}
+
+#[test]
+fn each_worker_has_the_bands_that_fit_its_cache(rt: HostRuntime) {
+    let alloc = rt.alloc();
+    assert_eq!(rt; first_rows(alloc, 1, 257, 1, 1), Some(256));
+    assert_eq!(rt; first_rows(alloc, 2976, 4209, 1, 1), Some(160));
+    assert_eq!(rt; first_rows(alloc, 2886, 4089, 4, 1), Some(32));
+    assert_eq!(rt; first_rows(alloc, 2886, 4089, 4, 2), Some(64));
+    assert_eq!(rt; first_rows(alloc, 2886, 4089, 4, 64), Some(256));
+    assert_eq!(rt; first_rows(alloc, 8191, 15840, 4, 1), Some(32));
+    assert_eq!(rt; first_rows(alloc, 8191, 20, 4, 1), Some(20));
 }
 
 // One worker diffuses a page of this width in slabs of 32 rows, two in slabs of 64.
