@@ -1,44 +1,107 @@
-//! A page for which each kernel sets other dots.
+//! Pages for which each kernel sets other dots.
 use crate::fixture::{hashes_to, one_page};
-use driver_fixtures::{Left, no_files, plain, roomy, run_over};
-use std::alloc::Global;
+use driver_fixtures::{no_files, plain, roomy, run_over};
+use std::alloc::{AllocError, Global};
+use std::process::Abort;
 use std::test::Fail;
 use std::thread::Threads;
-use weave_base::Memory;
 
-// A page of seventy equal lines of two hundred columns, printed with this kernel by this many workers.
-fn print_by<R: Threads + Sync>(
-    rt: &R,
-    alloc: Global,
-    kernel: &str,
-    workers: &str,
-) -> Result<Left, Memory> {
-    let Ok(bytes) = one_page(alloc, 200, 70, &[0x45, 0x7F, 0x9B, 0x47, 0x9B]) else {
-        return Err(Memory);
-    };
-    let texts = ["print", "profile=tiny1", kernel, workers];
-    run_over(
-        rt,
-        alloc,
-        &texts,
-        plain(alloc, bytes),
-        roomy(alloc)?,
-        no_files(alloc),
-    )
+// Pseudo-random bytes: the highest ones of a linear congruential sequence.
+#[derive(Drop)]
+struct Draws {
+    state: u32,
 }
 
+impl Draws {
+    fn next(&mut self) -> u8 {
+        self.state = self
+            .state
+            .wrapping_mul(1_664_525)
+            .wrapping_add(1_013_904_223);
+        (self.state >> 24) as u8
+    }
+}
+
+// Appends one to four equal lines of runs of one to eight grey pixels, and gives how many lines they are.
+fn add_lines(
+    draws: &mut Draws,
+    width: u32,
+    left: u32,
+    body: &mut Vec<u8>,
+) -> Result<u32, AllocError> {
+    let repeats = left.min(u32::from(draws.next() % 4).saturating_add(1));
+    body.push(repeats.saturating_sub(1) as u8)?;
+    let mut rest = width;
+    for _ in 0..width {
+        if rest == 0 {
+            break;
+        }
+        let length = rest.min(u32::from(draws.next() % 8).saturating_add(1));
+        body.extend_from_slice(&[length.saturating_sub(1) as u8, draws.next()])?;
+        rest = rest.saturating_sub(length);
+    }
+    Ok(repeats)
+}
+
+// A grey page of pseudo-random runs.
+fn drawn_page(alloc: Global, seed: u32, width: u32, height: u32) -> Result<Vec<u8>, AllocError> {
+    let mut draws = Draws { state: seed };
+    let mut body = Vec::new(alloc);
+    let mut left = height;
+    for _ in 0..height {
+        if left == 0 {
+            break;
+        }
+        left = left.saturating_sub(add_lines(&mut draws, width, left, &mut body)?);
+    }
+    one_page(alloc, width, height, &body)
+}
+
+// Asserts the length and the hash of a page's job by this kernel and several numbers of workers.
+fn prints_alike<R: Abort + Threads + Sync>(
+    rt: &R,
+    alloc: Global,
+    page: &Vec<u8>,
+    kernel: &str,
+    length: usize,
+    hash: u64,
+) -> Result<(), Fail> {
+    for workers in ["workers=1", "workers=2", "workers=64"] {
+        let texts = ["print", "profile=tiny1", kernel, workers];
+        let input = plain(alloc, page.clone()?);
+        let left = run_over(rt, alloc, &texts, input, roomy(alloc)?, no_files(alloc))?;
+        hashes_to(rt, &left, length, hash);
+    }
+    Ok(())
+}
+
+// Seventy equal lines of two hundred columns.
 #[test]
 fn tiles_give_the_row_by_row_page(rt: HostRuntime) -> Result<(), Fail> {
     let alloc = rt.alloc();
+    let page = one_page(alloc, 200, 70, &[0x45, 0x7F, 0x9B, 0x47, 0x9B])?;
     let cases: [(&str, usize, u64); 3] = [
         ("kernel=fs", 3192, 0x1AE9_8C03_27DA_88F0),
         ("kernel=jjn", 3094, 0x6675_D5C2_1BF2_E860),
         ("kernel=stucki", 3192, 0x354F_B3FA_36DD_A5A9),
     ];
     for (kernel, length, hash) in cases {
-        for workers in ["workers=1", "workers=2", "workers=64"] {
-            hashes_to(&rt, &print_by(&rt, alloc, kernel, workers)?, length, hash);
-        }
+        prints_alike(&rt, alloc, &page, kernel, length, hash)?;
+    }
+    Ok(())
+}
+
+#[test]
+fn worker_counts_give_equal_bytes(rt: HostRuntime) -> Result<(), Fail> {
+    let alloc = rt.alloc();
+    let page = drawn_page(alloc, 7, 200, 70)?;
+    let cases: [(&str, usize, u64); 3] = [
+        ("kernel=fs", 3192, 0xB0D6_C318_DC83_8AA0),
+        ("kernel=jjn", 3192, 0x7459_A118_9AA3_F52B),
+        ("kernel=stucki", 3191, 0xFBA5_FE1B_A5A2_5336),
+    ];
+    for (kernel, length, hash) in cases {
+        prints_alike(&rt, alloc, &page, kernel, length, hash)?;
     }
     Ok(())
 }
