@@ -1,45 +1,39 @@
-//! Readers and writers of std as a source and a sink. Neither says what it holds.
+//! Readers and writers of std as a source and a sink, which say what the reader or the writer says.
 ghost use Rattle.std.specs.Io.KnownBytes.{ReadConsumes, WriteAppends};
 ghost use Rattle.std.specs.Io.{ReadsAtMost, WritesAtMost};
-ghost use Rattle.std.specs.Prelude.{IfOk, None, if◌then◌else◌, is_ok, length, ℕ, ◌<◌, ◌≡◌};
+ghost use Rattle.std.specs.Prelude.{IfOk, if◌then◌else◌, is_ok, length, ◌<◌, ◌≡◌};
 ghost use Rattle.weave_base.specs.Causes.{HasCause, next_count};
 
 use crate::{Failed, Sink, Source};
 use std::io::{Read, Write};
-use std::marker::Model;
 
-/// A reader of std as a source, without a buffer of its own. Contracts see its count of faults.
+/// A reader of std as a source, without a buffer of its own: what the reader has left, the source has left.
 #[derive(Drop)]
 pub struct StdSource<R: Read> {
     reader: R,
     faults: u64,
 }
 
-impl<R: Read> Model for StdSource<R> {
-    ghost Value = { ℕ };
-
-    ghost view = { λ s. s.faults };
-}
-
 impl<R: Read> StdSource<R> {
     /// A source of what the reader gives.
     pub fn make(reader: R) -> StdSource<R>
-        ensures { result ≡ 0 }
+        ensures reader { result.reader ≡ reader }
+        ensures faults { result.faults ≡ 0 }
     {
         StdSource { reader, faults: 0 }
     }
 }
 
 impl<R: Read> Source for StdSource<R> {
-    ghost left = { λ s. None };
+    ghost left = { λ s. R.remaining s.reader };
 
-    ghost faults = { λ s. s };
+    ghost faults = { λ s. s.faults };
 
     fn read(&mut self, buf: &mut [u8]) -> Result<usize, Failed>
         ensures bound { ReadsAtMost result buf.new }
-        ensures bytes { ReadConsumes None None result buf.new }
-        ensures cause { HasCause self.old self.new result }
-        ensures faults { self.new ≡ (if is_ok result then self.old else next_count self.old) }
+        ensures bytes { ReadConsumes (R.remaining self.old.reader) (R.remaining self.new.reader) result buf.new }
+        ensures cause { HasCause self.old.faults self.new.faults result }
+        ensures faults { self.new.faults ≡ (if is_ok result then self.old.faults else next_count self.old.faults) }
     {
         match self.reader.read(buf) {
             Ok(count) => Ok(count),
@@ -51,39 +45,34 @@ impl<R: Read> Source for StdSource<R> {
     }
 }
 
-/// A writer of std as a sink, without a buffer of its own. Contracts see its count of faults.
+/// A writer of std as a sink, without a buffer of its own: what the writer holds, the sink holds.
 #[derive(Drop)]
 pub struct StdSink<W: Write> {
     writer: W,
     faults: u64,
 }
 
-impl<W: Write> Model for StdSink<W> {
-    ghost Value = { ℕ };
-
-    ghost view = { λ s. s.faults };
-}
-
 impl<W: Write> StdSink<W> {
     /// A sink to the writer.
     pub fn make(writer: W) -> StdSink<W>
-        ensures { result ≡ 0 }
+        ensures writer { result.writer ≡ writer }
+        ensures faults { result.faults ≡ 0 }
     {
         StdSink { writer, faults: 0 }
     }
 }
 
 impl<W: Write> Sink for StdSink<W> {
-    ghost held = { λ s. None };
+    ghost held = { λ s. W.contents s.writer };
 
-    ghost faults = { λ s. s };
+    ghost faults = { λ s. s.faults };
 
     fn write(&mut self, piece: &[u8]) -> Result<usize, Failed>
         ensures bound { WritesAtMost result piece.now }
         ensures some { IfOk result (λ n. 0 < length piece.now → 0 < n) }
-        ensures bytes { WriteAppends None None result piece.now }
-        ensures cause { HasCause self.old self.new result }
-        ensures faults { self.new ≡ (if is_ok result then self.old else next_count self.old) }
+        ensures bytes { WriteAppends (W.contents self.old.writer) (W.contents self.new.writer) result piece.now }
+        ensures cause { HasCause self.old.faults self.new.faults result }
+        ensures faults { self.new.faults ≡ (if is_ok result then self.old.faults else next_count self.old.faults) }
     {
         match self.writer.write(piece) {
             Ok(count) if count > 0 || piece.is_empty() => Ok(count),
