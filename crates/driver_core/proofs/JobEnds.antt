@@ -1,8 +1,7 @@
 -- The outcomes of the commands for print jobs, by the status.
 use Rattle.std.proofs.Common.{◌≡◌, ℕ, ◌⊎◌, List, Option, None, Some, Result, Ok, Err, inl, inr, refl, sym, ◌∙◌}
-use Rattle.std.proofs.Common.{ap, subst, arith, [], ◌++◌, append-nil, IfSome}
+use Rattle.std.proofs.Common.{ap, subst, arith, ◌++◌, append-nil, IfSome}
 use Rattle.std.specs.Io.KnownBytes.{Consumes, IsAtEnd}
-use Rattle.driver_answer.specs.declared.answer.Answer.{Answer}
 use Rattle.driver_answer.specs.declared.answer.Answer.TheVariants as answer
 use Rattle.driver_answer.specs.Answers.{status_of}
 use Rattle.escp2_definitions.specs.declared.stops.JobStop.{JobStop}

@@ -1,22 +1,20 @@
 -- The promises of a run for print jobs, from its answer.
-use Rattle.std.proofs.Common.{◌≡◌, ℕ, ◌⊎◌, List, [], Option, None, Some, Result, Ok, Err, inl, inr, refl}
-use Rattle.std.proofs.Common.{sym, ◌∙◌, ap, subst, arith, append-nil, take}
-use Rattle.std.specs.Io.KnownBytes.{Appends, Consumes, Keeps}
+use Rattle.std.proofs.Common.{◌≡◌, ℕ, ◌⊎◌, List, [], None, Some, Result, Ok, inl, inr, refl}
+use Rattle.std.proofs.Common.{◌∙◌, ap, subst, arith}
+use Rattle.std.specs.Io.KnownBytes.{Keeps}
 use Rattle.driver_answer.specs.declared.answer.Answer.{Answer}
 use Rattle.driver_answer.specs.declared.answer.Answer.TheVariants as answer
 use Rattle.driver_answer.specs.Answers.{status_of}
-use Rattle.driver_answer.specs.Stops.{profile_answer}
 use Rattle.escp2_definitions.specs.declared.stops.JobStop.{JobStop}
 use Rattle.escp2_definitions.specs.JobEnds.{job_end, stopped}
-use Rattle.job_lister.specs.Outcome.{ListsAll, ListsPart, ListsSome, ListsToStop}
+use Rattle.job_lister.specs.Outcome.{ListsPart, ListsToStop}
 use Rattle.job_player.specs.Outcome.{PlaysAll, PlaysSome, PlaysToStop, StopsInSheet, sheets_of}
-use Rattle.job_profile.specs.declared.stops.ProfileStop.{ProfileStop}
 use Rattle.job_profile.specs.declared.stops.ProfileStop.TheVariants as profile
 use Rattle.job_words.specs.declared.reading.Job.{Job}
 use Rattle.job_words.specs.declared.table.Verb.{Verb}
 use Rattle.job_words.specs.declared.table.Verb.TheVariants as verb
 use Rattle.job_words.specs.declared.usage.UsageFault.{UsageFault}
-use Rattle.job_words.specs.Meaning.{job_meaning, profile_named}
+use Rattle.job_words.specs.Meaning.{profile_named}
 use Rattle.printer_definitions.specs.Printer.{Printer}
 use Rattle.printer_profile.specs.declared.fields.Profile.{Profile}
 use Rattle.printer_profile.specs.Profiles.{printer_of}
@@ -26,7 +24,7 @@ use Rattle.driver_core.specs.Run.{AsksFor, LineOutcome, ListsJob, NoProfile, Out
 use Rattle.driver_core.proofs.Asked.{HasProfile, has_profile, told_line}
 use Rattle.driver_core.proofs.Asked.HasProfile.{HasNone, Does}
 use Rattle.driver_core.proofs.JobEnds.{list_calm, list_done, list_part, list_refused, list_some, list_statuses, list_stop, play_calm}
-use Rattle.driver_core.proofs.JobEnds.{play_done, play_part, play_refused, play_some, play_statuses, play_stop}
+use Rattle.driver_core.proofs.JobEnds.{play_done, play_part, play_refused, play_some, play_stop}
 use Rattle.driver_core.proofs.Promised.{at_work, appends_none, calm_work, consumes_none, dots_is_none, of_job_status}
 
 -- a command line that asks for a listing lists

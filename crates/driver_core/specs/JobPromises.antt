@@ -1,5 +1,5 @@
 -- What a run promises of the commands `list` and `dots`.
-use Rattle.std.specs.Prelude.{◌≡◌, ℕ, ◌⊎◌, List, Option, Some, None, Ok}
+use Rattle.std.specs.Prelude.{◌≡◌, ℕ, ◌⊎◌, List, Some, None, Ok}
 use Rattle.driver_answer.specs.declared.answer.Answer.TheVariants as answer
 use Rattle.escp2_definitions.specs.declared.stops.JobStop.{JobStop}
 use Rattle.escp2_definitions.specs.JobEnds.{job_end, stopped}

@@ -1,17 +1,15 @@
 -- What is printed is read back.
 use Rattle.std.proofs.Common.{◌≡◌, ℕ, zero, suc, ◌-◌, ◌<◌, ◌≤◌, ◌^◌, Bool, true, false, not, ◌&&◌, eqb, ltb, List, [], ◌∷◌, ◌++◌, length}
-use Rattle.std.proofs.Common.{get_or, codes, Some, Ok, refl, ap, sym, ◌∙◌, arith, rules, append_assoc}
+use Rattle.std.proofs.Common.{get_or, codes, Some, Ok, refl, ap, sym, ◌∙◌, arith, append_assoc}
 use Rattle.std.specs.Char.{is_ascii, is_ascii_digit}
 use Rattle.std.specs.Fmt.{decimal}
 use Rattle.std.specs.List.{flat_map, list_all, slice_split}
 use Rattle.std.specs.Option.{option_map}
 use Rattle.std.specs.Prelude.{slice_index, slice_set}
 use Rattle.std.specs.Str.Lines.{lines, lines_of_parts}
-use Rattle.std.specs.Str.Parse.{digits_value}
 use Rattle.std.proofs.lemmas.Bool.Decides.{nat_tests}
-use Rattle.std.proofs.lemmas.Fmt.{decimal_digit, decimal_nonempty, digits_decimal, digits_value-decimal, first_decimal}
+use Rattle.std.proofs.lemmas.Fmt.{digits_decimal}
 use Rattle.std.proofs.lemmas.List.Splits.{length-slice_split, slice_split-cons_no, slice_split-cons_yes}
-use Rattle.std.proofs.lemmas.Str.Parse.{IsNumeralModel, numerals_by_value}
 use Rattle.printer_definitions.specs.declared.inks.InkSet.{InkSet}
 use Rattle.printer_definitions.specs.declared.inks.InkSet.TheVariants.{K, Cmy, Cmyk}
 use Rattle.printer_profile.specs.declared.fields.Profile.{Profile}

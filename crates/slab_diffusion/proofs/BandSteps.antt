@@ -1,5 +1,5 @@
 -- A band, and bands one after another.
-use Rattle.std.proofs.Common.{◌≡◌, ◌⊎◌, ℕ, ℤ, ◌+◌, ◌-◌, ◌*◌, ◌/◌, ◌%◌, ◌<◌, ◌≤◌, List, [], get_or, length, map, pos, inl, inr, refl, sym}
+use Rattle.std.proofs.Common.{◌≡◌, ℕ, ℤ, ◌+◌, ◌-◌, ◌*◌, ◌/◌, ◌%◌, ◌<◌, ◌≤◌, List, [], get_or, pos, inl, inr, sym}
 use Rattle.std.proofs.Common.{◌∙◌, ap, arith, subst}
 use Rattle.std.proofs.lemmas.Bool.{cases_lt}
 use Rattle.std.proofs.lemmas.List.{get_or_past}
@@ -10,7 +10,6 @@ use Rattle.tile_border.specs.Tops.{IsTopOf, columns_across, edges_of}
 use Rattle.tile_edges.specs.Edges.{IsBottom}
 use Rattle.tile_edges.specs.Tops.{AreBottoms}
 use Rattle.tile_lanes.specs.Done.{window_of}
-use Rattle.tile_shape.specs.Geometry.{bands_of}
 use Rattle.slab_diffusion.specs.Hands.{AreErrorsOf, HasDotsBefore, HasRoom, IsBefore, IsBehind, IsNext, IsOver}
 use Rattle.slab_diffusion.specs.Hands.{bottom_of}
 use Rattle.slab_diffusion.specs.Slabs.{AreSlabErrors}

@@ -1,16 +1,11 @@
 -- The edges at hand, and those that tiles are handed.
-use Rattle.std.proofs.Common.{◌≡◌, ◌≢◌, ℕ, ℤ, zero, suc, ◌+◌, ◌-◌, ◌*◌, ◌/◌, ◌%◌, ◌<◌, ◌≤◌, List, [], get_or, set, length, replicate, pos}
-use Rattle.std.proofs.Common.{inl, inr, refl, sym, ◌∙◌, ap, arith, subst, get_or-set_other, get_or-set_same}
-use Rattle.std.proofs.lemmas.Bool.{cases_eq}
-use Rattle.std.proofs.lemmas.Int.{ints}
-use Rattle.tile_border.proofs.Zeros.{some_zeros}
-use Rattle.diffusion_definitions.specs.Diffusion.{EachInRange, Errors, InRange, Plane, Solves, Table}
+use Rattle.std.proofs.Common.{◌≡◌, ℕ, ℤ, zero, suc, ◌+◌, ◌-◌, ◌*◌, ◌/◌, ◌%◌, ◌≤◌, List, [], get_or, pos}
+use Rattle.std.proofs.Common.{refl, sym, ◌∙◌, ap, arith}
+use Rattle.diffusion_definitions.specs.Diffusion.{Errors, Plane, Solves, Table}
 use Rattle.dot_planes.specs.Tables.{AmountTable}
-use Rattle.tile_border.specs.Inks.{errors_of}
 use Rattle.tile_edges.proofs.Places.{moved}
 use Rattle.tile_edges.specs.Edges.{IsAbove, IsBottom, IsCorner, IsLeft}
 use Rattle.tile_edges.specs.Tops.{IsBelow, IsCut}
-use Rattle.tile_lanes.specs.Done.{plane_of}
 use Rattle.slab_diffusion.specs.Hands.{AreErrorsOf, IsOver}
 use Rattle.tile_border.specs.Tops.{columns_across}
 

@@ -1,15 +1,14 @@
 -- The tiles are taken in their order.
-use Rattle.std.proofs.Common.{◌≡◌, ◌≢◌, ◌⊎◌, ℕ, ◌+◌, ◌*◌, ◌<◌, ◌≤◌, Bool, true, false, inl, inr, refl, sym, ◌∙◌, ap, arith, subst}
+use Rattle.std.proofs.Common.{◌≡◌, ◌+◌, ◌*◌, ◌<◌, ◌≤◌, true, false, inl, inr, refl, sym, ◌∙◌, ap, arith, subst}
 use Rattle.std.proofs.Math.Nat.{mul-le-mul_right}
 use Rattle.std.proofs.lemmas.Bool.{cases_eq, cases_lt}
-use Rattle.std.proofs.lemmas.List.{get_or-replicate, get_or_past, length-replicate}
-use Rattle.board_core.proofs.Keeps.{posted_waits, taken_waits, whole_after}
-use Rattle.board_core.proofs.Numbers.{at_same, before_less, changed, goes_on, number_inside, same_place}
+use Rattle.std.proofs.lemmas.List.{get_or-replicate}
+use Rattle.board_core.proofs.Keeps.{posted_waits, whole_after}
+use Rattle.board_core.proofs.Numbers.{at_same, changed, goes_on, number_inside, same_place}
 use Rattle.board_core.proofs.Runs.{false_true, start_whole}
 use Rattle.board_core.specs.Numbers.{number_of}
 use Rattle.board_core.specs.States.{CoreState, IsCore, IsTakenBy, fresh, has_sent, sent, start, tile_at}
-use Rattle.board_core.specs.Steps.{Applies, Gives, IsAccepted, IsBefore, IsFirstReady, IsReadyTile, after, with_sent, with_tile}
-use Rattle.board_core.specs.declared.events.CoreFault.{CoreFault}
+use Rattle.board_core.specs.Steps.{Gives, IsAccepted, IsBefore, IsFirstReady, IsReadyTile, after, with_sent, with_tile}
 use Rattle.board_core.specs.declared.events.CoreFault.TheVariants.{NoSuchTile, Taken, NotReady, NotYours, Sent, Unsent}
 use Rattle.board_core.specs.declared.events.Event.TheVariants.{Take, Send, Post}
 use Rattle.board_core.specs.declared.tiles.Status.TheVariants as status

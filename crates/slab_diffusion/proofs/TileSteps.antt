@@ -1,18 +1,17 @@
 -- One tile more.
-use Rattle.std.proofs.Common.{◌≡◌, ◌≢◌, ◌⊎◌, ℕ, ℤ, ◌+◌, ◌-◌, ◌*◌, ◌<◌, ◌≤◌, List, [], get_or, set, length, pos, inl, inr, refl, sym, ◌∙◌}
+use Rattle.std.proofs.Common.{◌≡◌, ◌≢◌, ℕ, ℤ, ◌+◌, ◌-◌, ◌*◌, ◌<◌, ◌≤◌, List, [], get_or, set, length, inl, inr, refl, sym, ◌∙◌}
 use Rattle.std.proofs.Common.{ap, arith, subst, get_or-set_other, get_or-set_same, length-set}
 use Rattle.std.proofs.lemmas.Bool.{cases_eq, cases_lt}
-use Rattle.diffusion_definitions.specs.Diffusion.{Errors, Plane, Table, on}
+use Rattle.diffusion_definitions.specs.Diffusion.{Errors, Table, on}
 use Rattle.dot_planes.specs.Tables.{AmountTable, DotTable, dot}
 use Rattle.dot_planes.specs.Tiles.{IsTilePixel, PutsTile}
 use Rattle.tile_border.specs.Inks.{CutsEnds, errors_of}
 use Rattle.tile_edges.proofs.EdgeLaws.{given-taken}
 use Rattle.tile_edges.specs.Edges.{IsAbove, IsBottom}
-use Rattle.tile_lanes.specs.Done.{HasDots, IsDone, IsReady, plane_of}
+use Rattle.tile_lanes.specs.Done.{HasDots, IsDone, plane_of}
 use Rattle.tile_shape.specs.declared.tiles.Dir.TheVariants.{Right}
 use Rattle.tile_shape.specs.declared.tiles.Place.{Place}
 use Rattle.slab_diffusion.specs.Hands.{AreErrorsOf, ComesBefore, HasDotsBefore, HasRoom, IsNext, IsOver, StaysBeside, TakesAbove}
-use Rattle.slab_diffusion.specs.Hands.{bottom_of}
 use Rattle.tile_border.specs.Tops.{IsTopOf, columns_across}
 use Rattle.slab_diffusion.specs.declared.hands.Hand.{Hand}
 use Rattle.slab_diffusion.proofs.Edges.{over_above, over_corner, zero_above}

@@ -1,5 +1,5 @@
 -- What is kept while the tiles of a slab are diffused, band by band and in each from the left.
-use Rattle.std.specs.Prelude.{◌≡◌, ◌⊎◌, ℕ, ℤ, pos, ◌+◌, ◌-◌, ◌*◌, ◌/◌, ◌%◌, ◌<◌, ◌≤◌, List, [], length, slice_index_or}
+use Rattle.std.specs.Prelude.{◌≡◌, ◌⊎◌, ℕ, ℤ, pos, ◌+◌, ◌-◌, ◌*◌, ◌<◌, ◌≤◌, List, [], length, slice_index_or}
 use Rattle.diffusion_definitions.specs.Diffusion.{Errors, Solves, Table, on}
 use Rattle.dot_planes.specs.Tables.{AmountTable, DotTable, HasSizeOf, dot}
 use Rattle.dot_planes.specs.Tiles.{PutsTile}

@@ -1,5 +1,5 @@
 -- The order of the tiles of a slab, by the scheduler core.
-use Rattle.std.specs.Prelude.{◌≡◌, ℕ, ◌<◌, ◌≤◌, Bool, true, false}
+use Rattle.std.specs.Prelude.{◌≡◌, ℕ, ◌<◌, ◌≤◌, true, false}
 use Rattle.board_core.specs.Numbers.{number_of}
 use Rattle.board_core.specs.States.{CoreState, IsBegun, IsCore, IsTakenBy, fresh, sent, tile_at}
 use Rattle.board_core.specs.Steps.{Gives, IsFirstReady, IsReadyTile, after}

@@ -1,7 +1,7 @@
-use Rattle.std.proofs.Common.{◌≡◌, ◌∙◌, ℕ, ℤ, List, ap, arith, get_or, length, length-set, set}
+use Rattle.std.proofs.Common.{◌∙◌, ℕ, ℤ, List, ap, length}
 use Rattle.diffusion_definitions.specs.Diffusion.{Errors}
 use Rattle.diffusion_kernel.specs.Tables.{table_of}
-use Rattle.slab_diffusion.specs.Hands.{AreErrorsOf, HasRoom, IsNext}
+use Rattle.slab_diffusion.specs.Hands.{AreErrorsOf, IsNext}
 use Rattle.slab_diffusion.specs.declared.hands.Hand.{Hand}
 use Rattle.slab_diffusion.proofs.TileSteps.{above_taken, inks_kept, next_tile, puts_tile, room_kept}
 use Rattle.slab_diffusion.proofs.bands.diffuse_tile.Goals as goal

@@ -1,6 +1,5 @@
-use Rattle.std.proofs.Common.{◌≡◌, ◌<◌, ◌≤◌, ◌∙◌, ap, arith, length, pos, replicate}
+use Rattle.std.proofs.Common.{◌≡◌, ◌∙◌, ap, arith, length, pos, replicate}
 use Rattle.std.proofs.lemmas.List.{length-replicate}
-use Rattle.tile_border.specs.Tops.{columns_across}
 use Rattle.slab_diffusion.proofs.hands.hand_of.Goals as goal
 
 pub returns-clause-room : goal.returns-clause-room

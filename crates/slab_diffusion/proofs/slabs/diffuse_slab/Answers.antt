@@ -1,10 +1,9 @@
-use Rattle.std.proofs.Common.{◌≡◌, ◌∙◌, ◌+◌, ◌-◌, ◌*◌, ◌<◌, ◌≤◌, ℕ, ap, arith, inl, refl, subst}
-use Rattle.diffusion_definitions.specs.Diffusion.{Errors}
+use Rattle.std.proofs.Common.{◌≡◌, ◌∙◌, ◌+◌, ◌-◌, ◌*◌, ◌≤◌, ℕ, ap, arith, inl, subst}
 use Rattle.diffusion_kernel.specs.Tables.{table_of}
 use Rattle.tile_lanes.specs.Done.{window_of}
 use Rattle.tile_shape.specs.Geometry.{IsShape, bands_of, columns_of}
 use Rattle.tile_shape.specs.declared.tiles.Shape.{Shape}
-use Rattle.slab_diffusion.specs.Hands.{HasDotsBefore, IsBehind}
+use Rattle.slab_diffusion.specs.Hands.{IsBehind}
 use Rattle.board_core.specs.States.{start}
 use Rattle.slab_diffusion.specs.Order.{IsWorkedTo}
 use Rattle.slab_diffusion.proofs.OrderSteps.{none_worked}

@@ -1,4 +1,4 @@
-use Rattle.std.proofs.Common.{◌≡◌, ◌∙◌, ℤ, List, ap, arith, get_or, length, length-set, pos, replicate}
+use Rattle.std.proofs.Common.{◌∙◌, ℤ, List, ap, arith, get_or, length, length-set, pos, replicate}
 use Rattle.tile_border.specs.Inks.{errors_of}
 use Rattle.tile_border.proofs.Zeros.{cleared_more}
 use Rattle.tile_border.proofs.edges.Edge.clear.Goals as goal

@@ -1,4 +1,4 @@
-use Rattle.std.proofs.Common.{◌≡◌, ℕ, ℤ, ◌<◌, List, get_or, length, pos}
+use Rattle.std.proofs.Common.{◌≡◌, ℕ, ◌<◌, get_or, length, pos}
 use Rattle.tile_border.specs.Inks.{errors_of}
 use Rattle.tile_border.proofs.edges.Edge.clear.Given as goal
 
