@@ -12,10 +12,10 @@ ghost use Rattle.tile_shape.specs.declared.tiles.Place.{Place};
 
 use crate::events::{CoreFault, Event};
 use crate::tiles::{Status, TileState};
+use base_definitions::Memory;
 use std::alloc::Global;
 use std::marker::Model;
 use tile_shape::{Dir, Place, Shape};
-use weave_base::Memory;
 
 /// The tiles of a window: which wait, which seat has which, and which edges were sent.
 #[derive(Drop)]

@@ -9,8 +9,8 @@ ghost use Rattle.board_steps.specs.Steps.{fresh_slots};
 
 use crate::rule::{Cell, Seated, Slab, Tiles, View};
 use atomic_table::{Closed, Refused, Table};
+use base_definitions::Memory;
 use std::alloc::Global;
-use weave_base::Memory;
 
 /// The words and slots of a board, with their memory.
 pub type BoardTable = Table<Cell, View, Slab, Tiles, Global>;

@@ -4,13 +4,13 @@ ghost use Rattle.board_steps.specs.Rule.{fresh_in};
 ghost use Rattle.board_steps.specs.Steps.{fresh_slots};
 
 use crate::{Cell, Slab, look, open, take};
+use base_definitions::Memory;
 use diffusion_kernel::Kernel;
 use dot_planes::InkRows;
 use std::alloc::Global;
 use std::snapshot::Snapshot;
 use tile_border::{BottomEdge, CornerEdge, RightEdge, TopEdges};
 use tile_content::no_dots;
-use weave_base::Memory;
 
 // The slots of a waiting tile of one ink to which no tile sends an edge: errors 0, and dots with none set.
 fn waiting_slots(alloc: Global) -> Result<Vec<Cell>, Memory>

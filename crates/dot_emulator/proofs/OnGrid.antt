@@ -5,7 +5,8 @@ use Rattle.std.specs.List.{AllByRecursion}
 use Rattle.std.proofs.Math.Nat.{mul-div_cancel, mul-mod_left}
 use Rattle.std.proofs.lemmas.Bool.{cases_lt}
 use Rattle.printer_definitions.specs.declared.inks.Ink.{Ink}
-use Rattle.escp2_definitions.specs.Machine.{Dot, bits, row_dots}
+use Rattle.base_definitions.specs.Packed.{bits}
+use Rattle.escp2_definitions.specs.Machine.{Dot, row_dots}
 use Rattle.dot_emulator.specs.declared.firing.Raster.{Raster}
 use Rattle.dot_emulator.specs.Firing.{Grid, HasRows, IsAbove, Stands, fired}
 use Rattle.dot_emulator.specs.Sheets.{IsOnGrid}

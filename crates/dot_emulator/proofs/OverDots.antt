@@ -6,8 +6,9 @@ use Rattle.std.proofs.lemmas.Bool.{cases_Bool, cases_eq, cases_lt, eq-eqb, and_r
 use Rattle.std.proofs.lemmas.List.Folds.{list_any-append}
 use Rattle.printer_definitions.specs.declared.inks.Ink.{Ink}
 use Rattle.printer_definitions.specs.Inks.{ink_place, same_ink}
-use Rattle.escp2_definitions.specs.Machine.{Dot, bits, is_at, row_dots}
-use Rattle.weave_definitions.specs.Weave.{count_from}
+use Rattle.base_definitions.specs.Packed.{bits}
+use Rattle.escp2_definitions.specs.Machine.{Dot, is_at, row_dots}
+use Rattle.base_definitions.specs.Counting.{count_from}
 use Rattle.dot_planes.specs.Laying.{Lays, meets}
 use Rattle.dot_planes.specs.Tables.{DotTable, dot, row_dot}
 use Rattle.dot_planes.proofs.LaidRows.{any-no, any-some}

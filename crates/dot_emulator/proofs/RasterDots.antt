@@ -6,7 +6,8 @@ use Rattle.std.proofs.lemmas.Bool.{false≢true, le-leb, lt-leb, lt-ltb, or_part
 use Rattle.std.proofs.lemmas.List.{drop-drop}
 use Rattle.std.proofs.lemmas.List.Folds.{list_any-append}
 use Rattle.escp2_definitions.specs.Commands.{row_bytes}
-use Rattle.escp2_definitions.specs.Machine.{Dot, bits, row_dots, rows_dots}
+use Rattle.base_definitions.specs.Packed.{bits}
+use Rattle.escp2_definitions.specs.Machine.{Dot, row_dots, rows_dots}
 use Rattle.dot_planes.specs.Laying.{has_dot}
 use Rattle.dot_emulator.specs.declared.firing.Raster.{Raster}
 use Rattle.dot_emulator.specs.Firing.{Grid, HasRows, IsAbove, Stands, fired}

@@ -6,9 +6,10 @@ use Rattle.std.proofs.Math.Nat.{mul-div_cancel}
 use Rattle.std.proofs.lemmas.Bool.{cases_eq, eq-eqb, ne_eqb}
 use Rattle.std.proofs.lemmas.List.{get_or-take}
 use Rattle.printer_definitions.specs.declared.inks.Ink.{Ink}
-use Rattle.escp2_definitions.specs.Machine.{Dot, bits, byte_bits, row_dots}
-use Rattle.escp2_definitions.specs.Packed.{at}
-use Rattle.weave_definitions.specs.Weave.{count_from}
+use Rattle.base_definitions.specs.Packed.{bits, byte_bits}
+use Rattle.escp2_definitions.specs.Machine.{Dot, row_dots}
+use Rattle.base_definitions.specs.Packed.{at}
+use Rattle.base_definitions.specs.Counting.{count_from}
 use Rattle.dot_planes.specs.Laying.{has_dot}
 use Rattle.dot_planes.specs.Tables.{row_dot}
 use Rattle.dot_planes.proofs.PackedRows.{next_byte, no_bit}

@@ -12,7 +12,7 @@ use Rattle.dot_emulator.specs.declared.sheet.Sheet.{Sheet}
 use Rattle.dot_emulator.specs.Sheets.{HasDots, HasPlaces}
 use Rattle.dot_emulator.specs.Firing.{Grid, fired}
 use Rattle.dot_emulator.specs.declared.firing.Raster.{Raster}
-use Rattle.weave_base.specs.declared.Memory.{Memory as MemoryOut}
+use Rattle.base_definitions.specs.declared.answers.Memory.{Memory as MemoryOut}
 use Rattle.dot_emulator.specs.States.{machine_of}
 use Rattle.dot_emulator.specs.Steps.{AreStepsOf}
 

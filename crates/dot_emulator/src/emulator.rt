@@ -12,11 +12,11 @@ use crate::firing::Raster;
 use crate::raster::Steps;
 use crate::state::State;
 use crate::{Command, EmuFault, RasterHead, Sheet};
+use base_definitions::Memory;
 use dot_planes::Planes;
 use printer_profile::{Profile, checked_can_print};
 use pwg_definitions::MOST_COLUMNS;
 use std::alloc::Global;
-use weave_base::Memory;
 
 /// Why the emulator does not run a command.
 #[derive(Clone, Copy, Debug, PartialEq, Eq)]

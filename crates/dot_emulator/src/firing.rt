@@ -2,12 +2,12 @@
 ghost use Rattle.dot_planes.specs.Tables.{HasSizeOf};
 ghost use Rattle.escp2_definitions.specs.Commands.{last_column, row_bytes};
 ghost use Rattle.printer_definitions.specs.Inks.{ink_place};
-ghost use Rattle.pwg_definitions.specs.Limits.{most_rows};
+ghost use Rattle.base_definitions.specs.Limits.{most_rows};
 ghost use Rattle.std.specs.Prelude.{drop, length, take, ◌*◌, ◌+◌, ◌<◌, ◌≡◌, ◌≤◌};
 
 use crate::RasterHead;
 use dot_planes::{Planes, has_dot};
-use weave_base::Ink;
+use printer_definitions::Ink;
 
 /// A raster in columns and rows of its sheet.
 #[derive(Clone, Copy)]

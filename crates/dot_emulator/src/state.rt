@@ -4,7 +4,7 @@ ghost use Rattle.escp2_definitions.specs.Commands.{last_column};
 ghost use Rattle.escp2_definitions.specs.Machine.{bottom_margin, page_length, start, top_margin, units};
 ghost use Rattle.std.specs.Prelude.{[], unwrap_or, ◌*◌, ◌≡◌, ◌≤◌};
 
-use weave_base::Ink;
+use printer_definitions::Ink;
 
 /// Margins from the paper's top, in 1/3600 inch.
 #[derive(Clone, Copy)]

@@ -6,11 +6,11 @@ ghost use Rattle.std.specs.Prelude.{◌≡◌};
 use crate::{Command, EmuFault, EmuStop, Emulator, RasterHead, Sheet};
 use escp2_commands::in_table;
 use known_jobs::TINY_COMMANDS;
+use printer_definitions::Ink;
 use printer_profile::TINY;
 use std::alloc::Global;
 use std::process::Abort;
 use std::test::Fail;
-use weave_base::Ink;
 
 const HEADER: RasterHead = RasterHead {
     c: 0,

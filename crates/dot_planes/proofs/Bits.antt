@@ -2,8 +2,8 @@
 use Rattle.std.proofs.Common.{◌≡◌, ℕ, zero, suc, ◌+◌, ◌<◌, Bool, true, false, ◌&&◌, refl, ◌∙◌, ap, arith, inl, inr, count_ones, eqb}
 use Rattle.std.proofs.lemmas.Bool.{cases_lt, eqb-true}
 use lib.Count.{ones, ones_in}
-use Rattle.escp2_definitions.specs.Machine.{bit_at}
-use Rattle.escp2_definitions.specs.Packed.{worth}
+use Rattle.base_definitions.specs.Packed.{bit_at}
+use Rattle.base_definitions.specs.Packed.{worth}
 
 -- the byte of eight dots
 abbrev pub byte_of : Bool → Bool → Bool → Bool → Bool → Bool → Bool → Bool → ℕ

@@ -6,7 +6,7 @@ use Rattle.std.proofs.lemmas.Nat.{and_le_l, pow-add}
 use Rattle.std.proofs.lemmas.Nat.Bits.{bit_at-lt, bit_at_and, bit_at_cat_low, bit_at_not}
 use Rattle.std.proofs.lemmas.Nat.Bits.{bit_at_ones, bit_at_ones_above, bit_at_or, ones_shr}
 use Rattle.std.specs.Int.{w8, bit_at as bit}
-use Rattle.escp2_definitions.specs.Machine.{bit_at}
+use Rattle.base_definitions.specs.Packed.{bit_at}
 
 -- ---- bits of a number
 

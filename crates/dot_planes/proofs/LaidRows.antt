@@ -7,8 +7,8 @@ use Rattle.std.proofs.lemmas.Bool.{ltb-true, ne_eqb, or_cases, false≢true}
 use Rattle.std.proofs.lemmas.Nat.{and_le_l, le_or_l, le_or_r}
 use Rattle.std.specs.Int.Bits.{or_zero_l}
 use Rattle.std.proofs.lemmas.Nat.Bits.{bit_at_and, bit_at-lt}
-use Rattle.weave_definitions.specs.Weave.{count_from}
-use Rattle.escp2_definitions.specs.Machine.{bit_at}
+use Rattle.base_definitions.specs.Counting.{count_from}
+use Rattle.base_definitions.specs.Packed.{bit_at}
 use Rattle.dot_planes.specs.Tables.{row_dot}
 use Rattle.dot_planes.proofs.LaidBytes.{IsPart}
 use Rattle.dot_planes.proofs.PackedRows.{no_bit}

@@ -5,9 +5,9 @@ use Rattle.std.proofs.Common.{length-drop}
 use Rattle.std.proofs.lemmas.Bool.{cases_lt}
 use Rattle.std.proofs.lemmas.List.{get_or-drop, get_or_past}
 use Rattle.std.proofs.lemmas.List.Sums.{sum_by-cons, sum_by_push}
-use Rattle.escp2_definitions.specs.Machine.{bit_at}
-use Rattle.escp2_definitions.specs.Packed.{at, packed, packed_byte, packed_bytes, worth}
-use Rattle.weave_definitions.specs.Weave.{count_from}
+use Rattle.base_definitions.specs.Packed.{bit_at}
+use Rattle.base_definitions.specs.Packed.{at, packed, packed_byte, packed_bytes, worth}
+use Rattle.base_definitions.specs.Counting.{count_from}
 use Rattle.dot_planes.specs.Tables.{row_dot, row_len}
 use Rattle.dot_planes.proofs.Bits.{byte_of, byte_of-bits, byte_of-says}
 

@@ -1,7 +1,7 @@
 -- Planes take the dots of a band of tiles, row by row and ink by ink.
 use Rattle.std.proofs.Common.{◌≡◌, ◌≢◌, ◌⊎◌, ℕ, ◌+◌, ◌-◌, ◌*◌, ◌<◌, ◌≤◌, false, List, length, get_or, map, min, sym, ◌∙◌, ap, arith, inl, inr, refl}
 use Rattle.std.proofs.lemmas.Bool.{cases_eq}
-use Rattle.weave_definitions.specs.Weave.{count_from}
+use Rattle.base_definitions.specs.Counting.{count_from}
 use Rattle.dot_planes.specs.Bands.{HasTileRows, PutsBand, PutsBandInk, PutsBandRow}
 use Rattle.dot_planes.specs.Tables.{DotTable, HasSizeOf, IsPackedRow, PutsRow, dot, row_dot, row_len}
 use Rattle.dot_planes.specs.Tiles.{tile_dot}

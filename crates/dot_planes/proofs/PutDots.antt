@@ -6,7 +6,7 @@ use Rattle.std.proofs.lemmas.List.{get_or_past}
 use Rattle.std.proofs.lemmas.Nat.Bits.{bit_at_set_other, bit_at_set_same}
 use Rattle.std.specs.Int.{w8}
 use borrow.Rule.Slice.PartMut.{put_mid}
-use Rattle.escp2_definitions.specs.Machine.{bit_at}
+use Rattle.base_definitions.specs.Packed.{bit_at}
 use Rattle.dot_planes.specs.Tables.{DotTable, IsPackedRow, PutsRow, TurnsOn, dot, row_at, row_dot, row_len}
 use Rattle.dot_planes.proofs.PackedRows.{dot_of_packed, packed-len}
 use Rattle.dot_planes.proofs.RowBytes.{apart, bytes_inside, no_byte, row_byte, row_inside, row_kept, rows_differ}

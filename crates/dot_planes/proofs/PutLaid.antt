@@ -3,7 +3,7 @@ use Rattle.std.proofs.Common.{◌≡◌, ℕ, ◌+◌, ◌-◌, ◌*◌, ◌<◌
 use Rattle.std.proofs.Common.{map, refl, subst, sym, ◌∙◌, ap, arith, inl, inr, get_or}
 use Rattle.std.proofs.lemmas.Bool.{le-leb, le-ltb, lt-leb, lt-ltb}
 use Rattle.std.specs.List.{list_any}
-use Rattle.weave_definitions.specs.Weave.{count_from}
+use Rattle.base_definitions.specs.Counting.{count_from}
 use Rattle.dot_planes.specs.Laying.{Lays, laid_dot, meets}
 use Rattle.dot_planes.specs.Tables.{DotTable, IsPackedRow, PutsRow, dot, row_at, row_dot, row_len}
 use Rattle.dot_planes.proofs.LaidBytes.{and-none, or-nothing}

@@ -2,8 +2,8 @@
 use Rattle.std.proofs.Common.{◌≡◌, ◌≢◌, ◌⊎◌, ℕ, ◌+◌, ◌-◌, ◌*◌, ◌/◌, ◌%◌, ◌<◌, ◌≤◌, false, List, [], length, get_or, map, min}
 use Rattle.std.proofs.Common.{replicate, slice_index_or, sym, ◌∙◌, ap, arith, inl, inr, refl}
 use Rattle.std.proofs.lemmas.Bool.{cases_eq, cases_lt}
-use Rattle.escp2_definitions.specs.Machine.{bit_at}
-use Rattle.weave_definitions.specs.Weave.{count_from}
+use Rattle.base_definitions.specs.Packed.{bit_at}
+use Rattle.base_definitions.specs.Counting.{count_from}
 use Rattle.std.proofs.lemmas.List.{get_or-replicate, get_or_past, length-replicate}
 use Rattle.tile_shape.specs.declared.tiles.Place.{Place}
 use Rattle.dot_planes.specs.Tables.{DotTable, HasSizeOf, IsPackedRow, PutsRow, dot, row_at, row_dot, row_len}

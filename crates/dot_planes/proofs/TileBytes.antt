@@ -1,7 +1,7 @@
 -- Which dots of a tile's row a byte of a packed row takes.
 use Rattle.std.proofs.Common.{◌≡◌, ◌⊎◌, ℕ, ◌+◌, ◌-◌, ◌*◌, ◌/◌, ◌%◌, ◌<◌, ◌≤◌, List, get_or, min, ◌∙◌, ap, arith, inl, inr}
 use Rattle.std.proofs.lemmas.Bool.{cases_lt}
-use Rattle.escp2_definitions.specs.Machine.{bit_at}
+use Rattle.base_definitions.specs.Packed.{bit_at}
 use Rattle.dot_planes.specs.Tables.{row_dot}
 
 -- Byte n of the nine that the eight bytes of a tile's row go to: it begins at offset 8 n + shift - 8 of the tile.

@@ -4,7 +4,7 @@ use Rattle.std.proofs.Math.Nat.{mod-eq-sub-div-mul, div-mul-le_self, mod-lt}
 use Rattle.std.proofs.lemmas.Nat.{be_bytes_8}
 use Rattle.std.proofs.lemmas.Nat.Bits.{bit_at-zero, bit_at_above, bit_at_cat_high, bit_at_cat_low, bit_at_or}
 use Rattle.std.specs.Int.{w64, bit_at as bit, from_be_bytes, to_be_bytes}
-use Rattle.escp2_definitions.specs.Machine.{bit_at}
+use Rattle.base_definitions.specs.Packed.{bit_at}
 use Rattle.dot_planes.specs.Tables.{row_dot}
 use Rattle.dot_planes.proofs.Bytes.{low_bit, shr_bit}
 

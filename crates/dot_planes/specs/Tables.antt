@@ -1,8 +1,8 @@
 -- Tables of dots and of amounts: ink by ink in the order of a printer's set, row by row, from the left.
-use Rattle.pwg_definitions.specs.Limits.{most_columns, most_rows}
+use Rattle.base_definitions.specs.Limits.{most_columns, most_rows}
 use Rattle.std.specs.Prelude.{◌≡◌, ℕ, ◌+◌, ◌*◌, ◌/◌, ◌%◌, ◌<◌, ◌≤◌, ◌⊎◌, ◌≢◌, Bool, true, List, length, take, drop, slice_index}
-use Rattle.escp2_definitions.specs.Machine.{bit_at}
-use Rattle.escp2_definitions.specs.Packed.{at, packed}
+use Rattle.base_definitions.specs.Packed.{bit_at}
+use Rattle.base_definitions.specs.Packed.{at, packed}
 
 -- ---- dots
 

@@ -1,7 +1,7 @@
 //! A row of all tiles of a band, laid over a packed row at once.
 ghost use Rattle.dot_planes.specs.Bands.{HasTileRow, HasTileRows};
 ghost use Rattle.dot_planes.specs.Tables.{row_dot, row_len};
-ghost use Rattle.pwg_definitions.specs.Limits.{most_columns};
+ghost use Rattle.base_definitions.specs.Limits.{most_columns};
 ghost use Rattle.std.specs.Prelude.{false, length, slice_index, ℕ, ◌*◌, ◌+◌, ◌<◌, ◌≡◌, ◌≤◌};
 
 use crate::bit_rows::{row_eight, row_part};

@@ -1,12 +1,12 @@
 //! Packed rows laid over other packed rows, from any column on.
 ghost use Rattle.dot_planes.specs.Laying.{has_dot as has_dot_of, is_in_bytes, laid_dot};
 ghost use Rattle.dot_planes.specs.Tables.{row_dot, row_len};
-ghost use Rattle.escp2_definitions.specs.Machine.{bit_at};
-ghost use Rattle.pwg_definitions.specs.Limits.{most_columns};
+ghost use Rattle.base_definitions.specs.Packed.{bit_at};
+ghost use Rattle.base_definitions.specs.Limits.{most_columns};
 ghost use Rattle.std.specs.List.{list_any};
 ghost use Rattle.std.specs.Prelude.{length, nat_lt, slice_index, true, ℕ, ◌&&◌, ◌*◌, ◌+◌};
 ghost use Rattle.std.specs.Prelude.{◌-◌, ◌/◌, ◌<◌, ◌||◌, ◌≡◌, ◌≤◌};
-ghost use Rattle.weave_definitions.specs.Weave.{count_from};
+ghost use Rattle.base_definitions.specs.Counting.{count_from};
 
 use crate::eights::eight_from;
 use crate::places::are_bytes;

@@ -1,5 +1,5 @@
 //! Eight dots that begin inside a byte.
-ghost use Rattle.escp2_definitions.specs.Machine.{bit_at};
+ghost use Rattle.base_definitions.specs.Packed.{bit_at};
 ghost use Rattle.std.specs.Prelude.{nat_le, nat_lt, ℕ, ◌&&◌, ◌+◌, ◌-◌, ◌<◌, ◌≡◌, ◌≤◌};
 
 // The dots of a byte, moved `by` places to the left: `left` are those that leave it, at the end of a byte, and `stay`

@@ -4,10 +4,10 @@ ghost use Rattle.tile_shape.specs.Geometry.{IsShape};
 ghost use Rattle.std.specs.Prelude.{IfOk, [], length, slice_index, ℕ, ◌+◌, ◌<◌, ◌∷◌, ◌≡◌, ◌≤◌};
 
 use crate::places::{row_of, row_start};
+use base_definitions::Memory;
 use std::alloc::Global;
 use std::marker::Model;
 use tile_shape::Shape;
-use weave_base::Memory;
 
 /// Amounts of inks, 0 to 255, ink by ink in the order of the printer's set. Contracts see a table of amounts.
 #[derive(Drop)]

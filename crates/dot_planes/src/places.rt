@@ -1,6 +1,6 @@
 //! Where the rows of inks begin in a table's bytes.
 ghost use Rattle.dot_planes.specs.Tables.{row_at};
-ghost use Rattle.pwg_definitions.specs.Limits.{most_columns, most_rows};
+ghost use Rattle.base_definitions.specs.Limits.{most_columns, most_rows};
 ghost use Rattle.std.specs.Prelude.{length, slice_index, ◌*◌, ◌+◌, ◌<◌, ◌≡◌, ◌≤◌, ℕ};
 
 /// The index of the first byte of row y of an ink, in a table of `inks` inks with `rows` rows of `len` bytes each.

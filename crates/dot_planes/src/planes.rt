@@ -1,21 +1,21 @@
 //! Packed planes of dots.
 ghost use Rattle.dot_planes.specs.Tables.{IsPackedRow, IsSize, PutsRow, TurnsOn, dot, row_len as row_len_of};
 ghost use Rattle.dot_planes.specs.Tiles.{PutsTileRow};
-ghost use Rattle.escp2_definitions.specs.Packed.{packed};
-ghost use Rattle.pwg_definitions.specs.Limits.{most_columns};
+ghost use Rattle.base_definitions.specs.Packed.{packed};
+ghost use Rattle.base_definitions.specs.Limits.{most_columns};
 ghost use Rattle.std.specs.List.{count_by, sum_by};
 ghost use Rattle.std.specs.Prelude.{IfOk, count_ones, false, length, map, ℕ, ◌*◌, ◌+◌, ◌<◌, ◌≡◌, ◌≤◌};
-ghost use Rattle.weave_definitions.specs.Weave.{count_from};
+ghost use Rattle.base_definitions.specs.Counting.{count_from};
 
 mod bands;
 mod laying;
 
 use crate::places::{row_of, row_start};
 use crate::tile_rows::put_dots;
+use base_definitions::Memory;
 use std::alloc::Global;
 use std::marker::Model;
 use tile_shape::Place;
-use weave_base::Memory;
 
 /// The dots of a window, ink by ink in the order of the printer's set. Contracts see a table of dots.
 ///

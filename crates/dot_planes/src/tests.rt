@@ -5,9 +5,9 @@ ghost use Rattle.std.specs.Prelude.{IfOk, length, ◌+◌, ◌<◌, ◌≡◌, �
 ghost use Rattle.tile_shape.specs.Geometry.{bands_of, columns_of};
 
 use super::{InkRows, Planes, TileBits, TileDots, has_dot};
+use base_definitions::Memory;
 use std::alloc::Global;
 use tile_shape::{Place, Shape};
-use weave_base::Memory;
 
 #[test]
 fn dots_begin_at_the_highest_bit(rt: HostRuntime) {

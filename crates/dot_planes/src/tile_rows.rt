@@ -1,8 +1,8 @@
 //! A row of a tile's dots, put at its columns of a packed row.
 ghost use Rattle.dot_planes.specs.Tables.{row_dot, row_len};
 ghost use Rattle.dot_planes.specs.Tiles.{PutsDots};
-ghost use Rattle.escp2_definitions.specs.Machine.{bit_at};
-ghost use Rattle.pwg_definitions.specs.Limits.{most_columns};
+ghost use Rattle.base_definitions.specs.Packed.{bit_at};
+ghost use Rattle.base_definitions.specs.Limits.{most_columns};
 ghost use Rattle.std.specs.Prelude.{length, slice_index, ℕ, ◌*◌, ◌+◌, ◌-◌, ◌<◌, ◌≡◌, ◌≤◌, ◌⊎◌};
 
 use crate::eights::eight_from;

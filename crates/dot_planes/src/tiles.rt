@@ -5,10 +5,10 @@ ghost use Rattle.std.specs.Borrow.{sem};
 ghost use Rattle.std.specs.Prelude.{IfOk, [], length, slice_index_or, ◌+◌, ◌<◌, ◌≡◌, ◌≤◌};
 
 use crate::planes::Planes;
+use base_definitions::Memory;
 use std::alloc::Global;
 use std::marker::Model;
 use tile_shape::Place;
-use weave_base::Memory;
 
 /// The dots of a tile.
 #[derive(Drop)]

@@ -6,7 +6,7 @@ use Rattle.page_meter.specs.Counts.{page_dots}
 use Rattle.page_meter.proofs.Pages.{admitted-append, counted-append}
 use Rattle.printer_definitions.specs.Printer.{Printer}
 use Rattle.pwg_definitions.specs.Stream.{Page}
-use Rattle.weave_base.specs.declared.answers.InkCounts.{InkCounts}
+use Rattle.printer_definitions.specs.declared.inks.InkCounts.{InkCounts}
 use Rattle.driver_core.specs.Printing.{CountsPages}
 
 pub none_counted : (p : Printer) (k : Table) (accounts : List Account) → CountsPages p k (record { before = accounts; now = accounts }) []

@@ -28,7 +28,7 @@ use Rattle.pwg_stream.specs.declared.stops.StreamStop.TheVariants as stop
 use Rattle.pwg_stream.specs.Reading.{page_of, text_of}
 use Rattle.pwg_stream.specs.Stops.{OnInput}
 use Rattle.unread_bytes.specs.Text.{UsesSome, text_behind}
-use Rattle.weave_base.specs.declared.answers.InkCounts.{InkCounts}
+use Rattle.printer_definitions.specs.declared.inks.InkCounts.{InkCounts}
 use Rattle.weave_base.specs.Causes.{Rose}
 use Rattle.weave_base.specs.Parts.{AppendsPart}
 use Rattle.driver_core.specs.declared.stops.PrintStop.{PrintStop}

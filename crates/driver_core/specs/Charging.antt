@@ -1,7 +1,7 @@
 -- A page that meters refuse.
 use Rattle.std.specs.Prelude.{◌≡◌, ℕ, List}
 use Rattle.ink_meter.specs.Accounts.{Account, IsFirstOver, all_inks}
-use Rattle.weave_base.specs.declared.answers.InkCounts.{InkCounts}
+use Rattle.printer_definitions.specs.declared.inks.InkCounts.{InkCounts}
 use Rattle.driver_core.specs.declared.stops.PrintStop.{PrintStop}
 use Rattle.driver_core.specs.declared.stops.PrintStop.TheVariants as stop
 

@@ -1,6 +1,6 @@
 //! The ends of each range of the command table, written here by hand.
 use crate::{Command, RasterHead, in_table};
-use weave_base::Ink;
+use printer_definitions::Ink;
 
 const HEADER: RasterHead = RasterHead {
     c: 0,

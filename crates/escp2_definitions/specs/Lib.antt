@@ -1,6 +1,5 @@
 pub mod RowCode
 pub mod Canonical
-pub mod Packed
 pub mod Commands
 pub mod Written
 pub mod Machine

@@ -1,6 +1,7 @@
 -- The machine: what the commands of a job put on its sheets. Lengths and places are in 1/3600 inch.
 use Rattle.std.specs.Prelude.{ℕ, zero, suc, ◌+◌, ◌-◌, ◌*◌, ◌/◌, ◌%◌, ◌^◌, Bool, true, false, not, ◌==◌, nat_lt, nat_le, ◌&&◌, ◌||◌}
 use Rattle.std.specs.Prelude.{if◌then◌else◌, List, [], ◌∷◌, ◌++◌, length, take, drop, map, max, unwrap_or, is_none, Option, Some, None}
+use Rattle.base_definitions.specs.Packed.{bits}
 use Rattle.std.specs.List.{list_any}
 use Rattle.printer_definitions.specs.declared.inks.Ink.{Ink}
 use Rattle.printer_definitions.specs.declared.inks.Ink.TheVariants.{Black}
@@ -73,19 +74,6 @@ abbrev pub from_top : Machine → ℕ
 from_top s = top_margin s + s.down
 
 -- ---- the dots of a raster
-
--- the bit of a byte at a place, the highest at place 0
-abbrev pub bit_at : ℕ → ℕ → Bool
-bit_at byte k = (byte / 2 ^ (7 - k)) % 2 == 1
-
--- the bits of a byte, the highest first
-abbrev pub byte_bits : ℕ → List Bool
-byte_bits b = bit_at b 0 ∷ bit_at b 1 ∷ bit_at b 2 ∷ bit_at b 3 ∷ bit_at b 4 ∷ bit_at b 5 ∷ bit_at b 6 ∷ bit_at b 7 ∷ []
-
--- the bits of bytes, from the left
-abbrev pub bits : List ℕ → List Bool
-bits [] = []
-bits (b ∷ bytes) = byte_bits b ++ bits bytes
 
 -- The dots of a row's bits, from place x on, one step apart.
 abbrev pub row_dots : Ink → ℕ → ℕ → ℕ → List Bool → List Dot

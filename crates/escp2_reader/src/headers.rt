@@ -6,7 +6,7 @@ ghost use Rattle.std.specs.Prelude.{◌∷◌, ◌≡◌};
 use crate::sized::after_paren;
 use crate::{Command, JobCause, RasterHead};
 use escp2_commands::MOST_COLUMNS;
-use weave_base::Ink;
+use printer_definitions::Ink;
 
 /// What the gathered bytes of a command are.
 #[derive(Clone, Copy)]

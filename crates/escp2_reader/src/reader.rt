@@ -13,10 +13,10 @@ ghost use Rattle.std.specs.Prelude.{vec_len, ℕ, List, ◌++◌, ◌-◌, ◌*�
 use crate::headers::{HeaderState, header_of};
 use crate::{Command, JobCause, RasterHead};
 use arrayvec::ArrayVec;
+use base_definitions::Memory;
 use escp2_rows::{RowReader, RowState};
 use std::alloc::Global;
 use std::mem;
-use weave_base::Memory;
 
 // The bytes of a command, without the rows of a raster.
 type HeaderBytes = ArrayVec<u8, 9>;

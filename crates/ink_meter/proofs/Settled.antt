@@ -1,7 +1,7 @@
 -- The sum of the meters so far, and one meter more.
 use Rattle.std.proofs.Common.{◌≡◌, ℕ, ◌+◌, ◌<◌, List, ◌∷◌, Option, Some, None, IsNone, refl, map, length, drop, get_or, ap, sym, ◌∙◌, arith}
 use Rattle.std.proofs.lemmas.List.{drop_more, length-map}
-use Rattle.weave_base.specs.declared.answers.InkCounts.{InkCounts}
+use Rattle.printer_definitions.specs.declared.inks.InkCounts.{InkCounts}
 use Rattle.ink_meter.specs.Accounts.{Account, Fits, settled, together}
 use Rattle.ink_meter.proofs.Places.{value_at}
 

@@ -1,6 +1,6 @@
 -- What meters count, and where they have no room for a page.
 use Rattle.std.specs.Prelude.{◌≡◌, ℕ, ◌+◌, ◌^◌, ◌<◌, ◌≤◌, List, [], ◌∷◌, take, Some, slice_get, All}
-use Rattle.weave_base.specs.declared.answers.InkCounts.{InkCounts}
+use Rattle.printer_definitions.specs.declared.inks.InkCounts.{InkCounts}
 use Rattle.ink_meter.specs.declared.meters.OverCap.{OverCap}
 
 -- A meter: the dots of each ink that it has counted, and the most that it may count of all inks together.

@@ -3,8 +3,8 @@ ghost use Rattle.ink_meter.specs.Accounts.{Account, HasRoom, added, all_inks, ca
 ghost use Rattle.std.specs.Prelude.{IsTrue, ◌-◌, ◌<◌, ◌^◌, ◌↔◌, ◌≡◌};
 
 use crate::Meter;
+use printer_definitions::InkCounts;
 use std::marker::Model;
-use weave_base::InkCounts;
 
 /// A meter that counts and does nothing else. Contracts see its totals and its cap.
 #[derive(Drop)]

@@ -18,7 +18,7 @@ mod meters;
 pub use dot_meter::DotMeter;
 pub use meter::Meter;
 pub use meters::{OverCap, add_all, admit, can_settle, cap_all, settle};
-pub use weave_base::InkCounts;
+pub use printer_definitions::InkCounts;
 
 #[cfg(test)]
 mod tests;

@@ -2,7 +2,7 @@
 ghost use Rattle.ink_meter.specs.Accounts.{Account, HasRoom, added, all_inks, capped};
 ghost use Rattle.std.specs.Prelude.{IsTrue, ◌<◌, ◌^◌, ◌↔◌, ◌≡◌};
 
-use weave_base::InkCounts;
+use printer_definitions::InkCounts;
 
 /// Counts dots, ink by ink, up to a cap on all of them together.
 pub trait Meter: Drop {

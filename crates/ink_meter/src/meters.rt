@@ -3,7 +3,7 @@ ghost use Rattle.ink_meter.specs.Accounts.{Fits, HasRoom, IsFirstOver, added, al
 ghost use Rattle.std.specs.Prelude.{All, IfErr, IfSome, IsNone, IsTrue, OnOk, map, ◌<◌, ◌^◌, ◌↔◌, ◌≡◌};
 
 use crate::Meter;
-use weave_base::InkCounts;
+use printer_definitions::InkCounts;
 
 // No dots of any ink.
 const NO_DOTS: InkCounts = InkCounts {

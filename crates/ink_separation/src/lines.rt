@@ -8,7 +8,7 @@ ghost use Rattle.printer_definitions.specs.declared.inks.Ink.{Ink};
 ghost use Rattle.printer_profile.specs.Profiles.{printer_of};
 ghost use Rattle.printer_profile.specs.Validity.{check};
 ghost use Rattle.pwg_definitions.specs.Header.{row_of};
-ghost use Rattle.pwg_definitions.specs.Limits.{most_columns};
+ghost use Rattle.base_definitions.specs.Limits.{most_columns};
 ghost use Rattle.separation_definitions.specs.Amounts.{amount as amount_of, pixel_at};
 ghost use Rattle.std.specs.Prelude.{IsOk, Some, length, slice_get, slice_index, ℕ, ◌*◌, ◌+◌, ◌/◌};
 ghost use Rattle.std.specs.Prelude.{◌<◌, ◌≡◌, ◌≢◌, ◌≤◌, ◌⊎◌};
@@ -59,7 +59,7 @@ pub fn amounts_by(
     requires at { at < out.old.rows }
     ensures { Separates (printer_of p.now) kind line.now w at out.old out.new }
 {
-    let unit = unit_of(kind);
+    let unit = kind.unit();
     let left = w.left as usize;
     let whole = w.width / 64;
     for n in 0..whole {
@@ -99,18 +99,6 @@ fn separate(
 {
     let given = Given::make(p, kind, pixels, many, black);
     put(p, &given, many, x, at, out);
-}
-
-// How many bytes a pixel has.
-fn unit_of(kind: Kind) -> usize
-    ensures is { result ≡ (row_of kind).unit }
-    ensures some { 1 ≤ result }
-    ensures most { result ≤ 3 }
-{
-    match kind {
-        Kind::Gray8 | Kind::Black8 => 1,
-        Kind::Rgb8 => 3,
-    }
 }
 
 // The limit of an ink.

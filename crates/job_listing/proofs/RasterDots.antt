@@ -7,7 +7,8 @@ use Rattle.printer_definitions.specs.declared.inks.Ink.{Ink}
 use Rattle.printer_definitions.specs.declared.inks.Ink.TheVariants.{Black}
 use Rattle.escp2_definitions.specs.declared.command.RasterHead.{RasterHead}
 use Rattle.escp2_definitions.specs.Commands.{row_bytes}
-use Rattle.escp2_definitions.specs.Machine.{bits, row_dots, rows_dots}
+use Rattle.base_definitions.specs.Packed.{bits}
+use Rattle.escp2_definitions.specs.Machine.{row_dots, rows_dots}
 use Rattle.job_listing.specs.Listing.{dot_count}
 use Rattle.job_listing.proofs.RowBits.{on_count}
 

@@ -6,7 +6,7 @@ use Rattle.std.proofs.lemmas.List.{take-append-le}
 use Rattle.std.proofs.lemmas.List.Sums.{sum_by-append, sum_by-cons, sum_by_more}
 use Rattle.std.proofs.Math.Seq.{take-append-add}
 use lib.Count.{ones, ones_in}
-use Rattle.escp2_definitions.specs.Machine.{bits, byte_bits}
+use Rattle.base_definitions.specs.Packed.{bits, byte_bits}
 use Rattle.escp2_laws.proofs.Grammar.{AreBytes}
 use Rattle.escp2_laws.proofs.Reading.{and-left, and-right}
 

@@ -1,6 +1,6 @@
 //! Counting the dots of a raster.
 ghost use Rattle.escp2_definitions.specs.Commands.{in_table, rows_len};
-ghost use Rattle.escp2_definitions.specs.Machine.{bits};
+ghost use Rattle.base_definitions.specs.Packed.{bits};
 ghost use Rattle.escp2_definitions.specs.declared.command.Command.TheVariants as command;
 ghost use Rattle.job_listing.specs.Listing.{dot_count};
 ghost use Rattle.std.specs.List.{sum_by};

@@ -8,13 +8,13 @@ use Rattle.dot_emulator.specs.declared.sheet.Sheet.{Sheet}
 use Rattle.dot_emulator.specs.Runs.{IsSheet}
 use Rattle.dot_planes.specs.Tables.{DotTable, dot}
 use Rattle.escp2_definitions.specs.Machine.{Sheet as PrintedSheet}
-use Rattle.escp2_definitions.specs.Packed.{packed}
+use Rattle.base_definitions.specs.Packed.{packed}
 use Rattle.pbm_out.specs.Images.{image, image_header, image_row}
 use Rattle.printer_definitions.specs.declared.inks.Ink.{Ink}
 use Rattle.printer_definitions.specs.declared.inks.Ink.TheVariants.{Black, Cyan, Magenta, Yellow}
 use Rattle.printer_definitions.specs.Inks.{ink_place}
 use Rattle.printer_definitions.specs.Printer.{Printer}
-use Rattle.weave_definitions.specs.Weave.{count_from}
+use Rattle.base_definitions.specs.Counting.{count_from}
 use Rattle.weave_base.specs.Parts.{AppendsPart}
 use Rattle.weave_base.proofs.Parting.{part_behind, part_of_front}
 use Rattle.job_player.specs.Pictures.{has_dot, sheet_image, sheet_images, sheet_row, table_images}

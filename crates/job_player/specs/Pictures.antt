@@ -4,13 +4,13 @@ use Rattle.std.specs.List.{flat_map, list_any}
 use Rattle.dot_emulator.specs.Sheets.{dot_at}
 use Rattle.dot_planes.specs.Tables.{DotTable}
 use Rattle.escp2_definitions.specs.Machine.{Sheet, is_at}
-use Rattle.escp2_definitions.specs.Packed.{packed}
+use Rattle.base_definitions.specs.Packed.{packed}
 use Rattle.pbm_out.specs.Images.{image, image_header}
 use Rattle.printer_definitions.specs.declared.inks.Ink.{Ink}
 use Rattle.printer_definitions.specs.declared.inks.InkSet.TheVariants.{Cmyk}
 use Rattle.printer_definitions.specs.Inks.{inks_of}
 use Rattle.printer_definitions.specs.Printer.{Printer, column_step, row_step}
-use Rattle.weave_definitions.specs.Weave.{count_from}
+use Rattle.base_definitions.specs.Counting.{count_from}
 
 -- whether an ink has a dot in a row at a column of a sheet
 abbrev pub has_dot : Printer → Sheet → Ink → ℕ → ℕ → Bool

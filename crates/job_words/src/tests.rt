@@ -2,9 +2,9 @@
 ghost use Rattle.std.specs.Prelude.{length, ◌≤◌};
 
 use crate::{Job, Kernel, UsageCause, UsageFault, Verb, Words, profile_name, read_words};
+use base_definitions::Memory;
 use std::alloc::Global;
 use std::test::Fail;
-use weave_base::Memory;
 
 fn words_of(alloc: Global, line: &[&str]) -> Result<Words, Memory>
     requires { length line.now ≤ 4 }

@@ -10,7 +10,7 @@ use Rattle.separation_definitions.specs.declared.window.Window.{Window}
 use Rattle.separation_definitions.specs.Amounts.{ink_plane}
 use Rattle.separation_definitions.specs.Windows.{window_of}
 use Rattle.pwg_definitions.specs.Stream.{Page}
-use Rattle.weave_definitions.specs.Weave.{count_from}
+use Rattle.base_definitions.specs.Counting.{count_from}
 
 -- The dots of a window: whether an ink has a dot in row y at column x.
 pub record Halftone : Type 0 where

@@ -7,7 +7,8 @@ use Rattle.escp2_definitions.specs.Written.{Coding, canonical}
 use Rattle.page_definitions.specs.Dots.{Halftone, halftone}
 use Rattle.page_definitions.specs.Strokes.{Stroke, Strokes, strokes_bytes}
 use Rattle.pwg_definitions.specs.Stream.{Page}
-use Rattle.weave_definitions.specs.Weave.{count_from, nozzle_row, pass_count}
+use Rattle.base_definitions.specs.Counting.{count_from}
+use Rattle.weave_definitions.specs.Weave.{nozzle_row, pass_count}
 
 -- the dots of an ink in a row
 abbrev pub dot_row : Halftone → Ink → ℕ → List Bool

@@ -11,6 +11,7 @@ ghost use Rattle.std.specs.Prelude.{IfNone, IfOk, IfSome, IsErr, IsOk, List, OnE
 ghost use Rattle.std.specs.Prelude.{replicate, true, ℕ, ◌++◌, ◌+◌, ◌<◌, ◌∷◌, ◌≡◌, ◌≤◌, ◌⊎◌, ◌^◌};
 
 use crate::slabs::{first_slab, next_slab, put_line};
+use base_definitions::Memory;
 use diffusion_kernel::Kernel;
 use dot_planes::{InkRows, Planes};
 use ink_separation::BlackScale;
@@ -21,7 +22,6 @@ use std::marker::Model;
 use std::thread::Threads;
 use tile_border::TopEdges;
 use wavefront_team::{Gate, diffuse};
-use weave_base::Memory;
 
 /// A page that is halftoned line by line. Contracts see the profile, the form, the kernel, the number of lines so
 /// far, which lists of lines it stands for, and whether a call answered `Memory`.

@@ -9,12 +9,12 @@ ghost use Rattle.pwg_definitions.specs.Header.{IsWanted};
 ghost use Rattle.separation_definitions.specs.Windows.{wanted_by, window_of};
 ghost use Rattle.std.specs.Prelude.{IfOk, IsOk, length, true, ℕ, ◌%◌, ◌+◌, ◌<◌, ◌≡◌, ◌≤◌};
 
+use base_definitions::Memory;
 use dot_planes::InkRows;
 use ink_separation::{BlackScale, amounts_by};
 use printer_profile::{PageForm, Profile};
 use std::alloc::Global;
 use tile_border::TopEdges;
-use weave_base::Memory;
 
 // The most bands of 32 rows that are diffused together.
 const MOST_BANDS: u32 = 8;

@@ -8,8 +8,9 @@ use Rattle.printer_definitions.specs.declared.inks.Ink.{Ink}
 use Rattle.printer_definitions.specs.Printer.{Printer, column_step, nozzle_step, row_step}
 use Rattle.escp2_definitions.specs.declared.command.RasterHead.{RasterHead}
 use Rattle.escp2_definitions.specs.Commands.{row_bytes}
-use Rattle.escp2_definitions.specs.Machine.{Dot, bits, row_dots, rows_dots}
-use Rattle.escp2_definitions.specs.Packed.{packed}
+use Rattle.base_definitions.specs.Packed.{bits}
+use Rattle.escp2_definitions.specs.Machine.{Dot, row_dots, rows_dots}
+use Rattle.base_definitions.specs.Packed.{packed}
 use Rattle.page_definitions.specs.Dots.{place_of}
 use Rattle.page_definitions.specs.Strokes.{IsOnWindow, has_dot, row_fired, rows_fired}
 use Rattle.separation_definitions.specs.CanPrint.{CanPrint}

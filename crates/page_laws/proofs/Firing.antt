@@ -12,7 +12,7 @@ use Rattle.escp2_definitions.specs.declared.stops.EmuFault.TheVariants.{NotGraph
 use Rattle.escp2_definitions.specs.declared.stops.EmuFault.TheVariants.{OffSheet, Overprint}
 use Rattle.escp2_definitions.specs.Machine.{Dot, Machine, after, first_fault, is_off_grid, is_off_sheet, is_other_density}
 use Rattle.escp2_definitions.specs.Machine.{overprints, raster_dots, refusals, refuse, rows_dots}
-use Rattle.escp2_definitions.specs.Packed.{packed}
+use Rattle.base_definitions.specs.Packed.{packed}
 use Rattle.page_definitions.specs.Strokes.{IsOnWindow, IsWhole, Spoken, Stroke, has_dot, ink_commands, raster_header, rows_fired, say}
 use Rattle.page_laws.proofs.Numbers.{column_step-some, on_grid, row_step-some, row_units-is}
 use Rattle.page_laws.proofs.Once.{Once, once-front, once-regroup}

@@ -6,7 +6,7 @@ use Rattle.printer_definitions.specs.declared.inks.Ink.{Ink}
 use Rattle.printer_definitions.specs.Inks.{inks_of}
 use Rattle.printer_definitions.specs.Printer.{Printer}
 use Rattle.escp2_definitions.specs.Machine.{Dot, is_at}
-use Rattle.escp2_definitions.specs.Packed.{at}
+use Rattle.base_definitions.specs.Packed.{at}
 use Rattle.page_definitions.specs.Dots.{Halftone, dots_wanted, place_of}
 use Rattle.page_definitions.specs.Exact.{Exactly}
 use Rattle.page_definitions.specs.Strokes.{IsOnWindow, IsWhole, Stroke, Strokes, fired, row_fired, rows_fired, stroke_fired}

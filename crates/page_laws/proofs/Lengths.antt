@@ -9,14 +9,15 @@ use Rattle.printer_definitions.specs.declared.inks.Ink.{Ink}
 use Rattle.printer_definitions.specs.Inks.{inks_of}
 use Rattle.printer_definitions.specs.Printer.{Printer, row_units}
 use Rattle.escp2_definitions.specs.declared.command.Command.TheVariants as c
-use Rattle.escp2_definitions.specs.Packed.{packed}
+use Rattle.base_definitions.specs.Packed.{packed}
 use Rattle.escp2_definitions.specs.Written.{Coding, rows_apart, written_rows}
 use Rattle.escp2_laws.proofs.Canonical.{canonical-short}
 use Rattle.page_definitions.specs.Dots.{Halftone}
 use Rattle.page_definitions.specs.PageBytes.{halftone_bytes, page_coding, pass_stroke, weave}
 use Rattle.page_definitions.specs.Strokes.{IsWhole, Spoken, Stroke, Strokes, bytes_of, down_by, fires, has_dot, ink_commands, inks_commands}
 use Rattle.page_definitions.specs.Strokes.{prologue, raster_header, say, strokes_bytes, strokes_commands}
-use Rattle.weave_definitions.specs.Weave.{count_from, pass_count}
+use Rattle.base_definitions.specs.Counting.{count_from}
+use Rattle.weave_definitions.specs.Weave.{pass_count}
 use Rattle.page_laws.proofs.Spelled.{rows-len}
 use Rattle.page_laws.proofs.Printed.{bytes-append}
 use Rattle.page_laws.proofs.Passes.{count_from-len, pass-whole}

@@ -17,7 +17,7 @@ use Rattle.page_definitions.specs.Exact.{Exactly}
 use Rattle.separation_definitions.specs.CanPrint.{CanPrint}
 use Rattle.page_laws.proofs.Counts.{count-append, count-cons, few, flat-most, flat-none}
 use Rattle.page_laws.proofs.Numbers.{column_place, column_step-some, rises, row_place, row_step-some}
-use Rattle.weave_definitions.specs.Weave.{count_from}
+use Rattle.base_definitions.specs.Counting.{count_from}
 
 -- ---- one number among rising ones
 

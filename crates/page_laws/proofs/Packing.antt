@@ -2,8 +2,8 @@
 use Rattle.std.proofs.Common.{◌≡◌, ℕ, zero, suc, ◌+◌, ◌*◌, ◌/◌, ◌≤◌, Bool, true, false, ◌&&◌, List, [], ◌∷◌, ◌++◌}
 use Rattle.std.proofs.Common.{length, take, drop, refl, sym, ◌∙◌, ap, arith}
 use Rattle.std.proofs.lemmas.List.{take_all}
-use Rattle.escp2_definitions.specs.Machine.{bits, byte_bits}
-use Rattle.escp2_definitions.specs.Packed.{at, packed, packed_bytes, worth}
+use Rattle.base_definitions.specs.Packed.{bits, byte_bits}
+use Rattle.base_definitions.specs.Packed.{at, packed, packed_bytes, worth}
 use Rattle.escp2_laws.proofs.Reading.{and-left, and-right}
 
 -- the byte of eight bits

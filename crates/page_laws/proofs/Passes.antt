@@ -6,11 +6,12 @@ use Rattle.std.specs.List.{list_any}
 use Rattle.std.proofs.lemmas.List.{length-map, length-replicate}
 use Rattle.printer_definitions.specs.declared.inks.Ink.{Ink}
 use Rattle.printer_definitions.specs.Printer.{Printer, head_rows}
-use Rattle.escp2_definitions.specs.Packed.{at}
+use Rattle.base_definitions.specs.Packed.{at}
 use Rattle.page_definitions.specs.Dots.{Halftone}
 use Rattle.page_definitions.specs.PageBytes.{fired_row, pass_rows}
 use Rattle.page_definitions.specs.Strokes.{IsOnWindow, IsWhole}
-use Rattle.weave_definitions.specs.Weave.{count_from, nozzle_row}
+use Rattle.base_definitions.specs.Counting.{count_from}
+use Rattle.weave_definitions.specs.Weave.{nozzle_row}
 use Rattle.weave_laws.proofs.Rows.{stands_on}
 use Rattle.page_laws.proofs.Fired.{AllWide}
 

@@ -11,7 +11,7 @@ use Rattle.printer_definitions.specs.Inks.{ink_place, inks_of, same_ink}
 use Rattle.printer_definitions.specs.Printer.{Printer}
 use Rattle.escp2_definitions.specs.Machine.{Dot}
 use Rattle.page_definitions.specs.Dots.{Halftone, HasDots, dots_wanted}
-use Rattle.weave_definitions.specs.Weave.{count_from}
+use Rattle.base_definitions.specs.Counting.{count_from}
 use Rattle.std.proofs.lemmas.Bool.{eq-eqb}
 use Rattle.page_laws.proofs.Counts.{each-from, each-of, sum-none, sum-same}
 use Rattle.page_laws.proofs.Fired.{or-false}

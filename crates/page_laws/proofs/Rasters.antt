@@ -22,11 +22,12 @@ use Rattle.page_definitions.specs.Dots.{Halftone, halftone}
 use Rattle.page_definitions.specs.PageBytes.{halftone_bytes, page_bytes, page_coding, pass_stroke, weave}
 use Rattle.page_definitions.specs.Printing.{HasPasses, HavePasses}
 use Rattle.page_definitions.specs.Strokes.{Fires, Spoken, Stroke, Strokes, down_by, fires, has_dot, page_commands, say, strokes_bytes}
-use Rattle.weave_definitions.specs.Weave.{count_from, pass_count}
+use Rattle.base_definitions.specs.Counting.{count_from}
+use Rattle.weave_definitions.specs.Weave.{pass_count}
 use Rattle.page_laws.specs.Sized.{Sized}
 use Rattle.page_laws.proofs.Counts.{count-cons}
 use Rattle.page_laws.proofs.Running.{Layout, entries}
-use Rattle.escp2_definitions.specs.Packed.{packed}
+use Rattle.base_definitions.specs.Packed.{packed}
 use Rattle.page_laws.proofs.Firing.{fires_ink, header_of}
 use Rattle.page_laws.proofs.Pages.{fires_strokes, page_says}
 use Rattle.page_laws.proofs.Printed.{commands-spoken, layout_of, read}

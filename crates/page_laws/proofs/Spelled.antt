@@ -8,7 +8,7 @@ use Rattle.printer_definitions.specs.Inks.{inks_of}
 use Rattle.printer_definitions.specs.Printer.{Printer, column_step, nozzle_step, row_units}
 use Rattle.escp2_definitions.specs.declared.command.Command.TheVariants as c
 use Rattle.escp2_definitions.specs.Commands.{Spells, in_table, is_between, rows_len}
-use Rattle.escp2_definitions.specs.Packed.{packed}
+use Rattle.base_definitions.specs.Packed.{packed}
 use Rattle.escp2_definitions.specs.Written.{Coding, IsCoding, written}
 use Rattle.escp2_laws.specs.Coded.{HasCoding}
 use Rattle.escp2_laws.proofs.Written.{written-spells}

@@ -8,10 +8,10 @@ use Rattle.printer_definitions.specs.declared.inks.Ink.{Ink}
 use Rattle.printer_definitions.specs.Inks.{inks_of}
 use Rattle.printer_definitions.specs.Printer.{Printer}
 use Rattle.escp2_definitions.specs.Machine.{Dot, is_at}
-use Rattle.escp2_definitions.specs.Packed.{at}
+use Rattle.base_definitions.specs.Packed.{at}
 use Rattle.page_definitions.specs.Dots.{Halftone, dots_wanted, ink_wanted, pixel_dots, place_of, row_wanted}
 use Rattle.page_definitions.specs.Strokes.{row_fired}
-use Rattle.weave_definitions.specs.Weave.{count_from}
+use Rattle.base_definitions.specs.Counting.{count_from}
 use Rattle.page_laws.proofs.Counts.{count-append, count-cons, count-flat, each-from, each-of, if-none, if-plus}
 use Rattle.page_laws.proofs.Counts.{sum-none, sum-one, sum-plus, sum-same}
 

@@ -7,12 +7,13 @@ use Rattle.std.proofs.lemmas.List.Sums.{sum_by-cons}
 use Rattle.printer_definitions.specs.declared.inks.Ink.{Ink}
 use Rattle.printer_definitions.specs.Inks.{inks_of}
 use Rattle.printer_definitions.specs.Printer.{Printer, head_rows}
-use Rattle.escp2_definitions.specs.Packed.{at}
+use Rattle.base_definitions.specs.Packed.{at}
 use Rattle.separation_definitions.specs.CanPrint.{CanPrint}
 use Rattle.page_definitions.specs.Dots.{Halftone}
 use Rattle.page_definitions.specs.PageBytes.{dot_row, fired_row, pass_stroke, weave}
 use Rattle.page_definitions.specs.Strokes.{Fires, IsOnWindow, IsRising, IsWhole, Stroke}
-use Rattle.weave_definitions.specs.Weave.{Firing, count_from, firing, nozzle_row, pass_count, passes}
+use Rattle.base_definitions.specs.Counting.{count_from}
+use Rattle.weave_definitions.specs.Weave.{Firing, firing, nozzle_row, pass_count, passes}
 use Rattle.weave_laws.proofs.Firings.{each_row}
 use Rattle.weave_laws.proofs.Rows.{stands_on}
 use Rattle.page_laws.proofs.Counts.{count-append, count-cons, each-of, if-none, if-plus}

@@ -1,5 +1,5 @@
 -- The size of a window and of its sheet.
-use Rattle.pwg_definitions.specs.Limits.{most_columns, most_rows}
+use Rattle.base_definitions.specs.Limits.{most_columns, most_rows}
 use Rattle.std.specs.Prelude.{ℕ, ◌+◌, ◌*◌, ◌≤◌}
 use Rattle.printer_definitions.specs.Printer.{Printer, row_units}
 use Rattle.page_definitions.specs.Dots.{Halftone}

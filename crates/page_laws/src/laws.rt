@@ -18,7 +18,8 @@ ghost use Rattle.separation_definitions.specs.CanPrint.{ArePages, CanPrint};
 ghost use Rattle.separation_definitions.specs.Windows.{wanted_by};
 ghost use Rattle.std.specs.List.{flat_map, list_any, sum_by};
 ghost use Rattle.std.specs.Prelude.{Bool, List, Some, count_by, false, length, slice_get, ℕ, ◌*◌, ◌+◌, ◌/◌, ◌≡◌, ◌≤◌};
-ghost use Rattle.weave_definitions.specs.Weave.{count_from, pass_count};
+ghost use Rattle.base_definitions.specs.Counting.{count_from};
+ghost use Rattle.weave_definitions.specs.Weave.{pass_count};
 
 /// The dots that a page asks for are distinct.
 pub fn wanted_are_distinct()

@@ -13,8 +13,8 @@ use Rattle.printer_definitions.specs.declared.inks.InkSet.{InkSet}
 use Rattle.printer_definitions.specs.declared.inks.InkSet.TheVariants.{K, Cmy, Cmyk}
 use Rattle.printer_definitions.specs.Inks.{inks_of, same_ink}
 use Rattle.printer_definitions.specs.Printer.{Printer}
-use Rattle.weave_base.specs.declared.answers.InkCounts.{InkCounts}
-use Rattle.weave_definitions.specs.Weave.{count_from}
+use Rattle.printer_definitions.specs.declared.inks.InkCounts.{InkCounts}
+use Rattle.base_definitions.specs.Counting.{count_from}
 
 length-count_from : (a n : ℕ) → length (count_from a n) ≡ n
 length-count_from a zero = refl

@@ -9,7 +9,7 @@ use Rattle.printer_definitions.specs.declared.inks.Ink.TheVariants.{Black, Cyan,
 use Rattle.printer_definitions.specs.Inks.{same_ink}
 use Rattle.printer_definitions.specs.Printer.{Printer}
 use Rattle.pwg_definitions.specs.Stream.{Page}
-use Rattle.weave_base.specs.declared.answers.InkCounts.{InkCounts}
+use Rattle.printer_definitions.specs.declared.inks.InkCounts.{InkCounts}
 
 -- the dots of an ink
 abbrev pub dots_of : List Dot → Ink → ℕ

@@ -5,11 +5,11 @@ ghost use Rattle.page_definitions.specs.Dots.{Halftone, HasDots};
 ghost use Rattle.page_meter.specs.Counts.{halftone_dots};
 ghost use Rattle.printer_definitions.specs.Inks.{inks_of};
 ghost use Rattle.printer_definitions.specs.Printer.{Printer};
-ghost use Rattle.pwg_definitions.specs.Limits.{most_columns};
+ghost use Rattle.base_definitions.specs.Limits.{most_columns};
 ghost use Rattle.std.specs.Prelude.{length, ◌<◌, ◌^◌, ◌≡◌, ◌≤◌};
 
 use dot_planes::Planes;
-use weave_base::{InkCounts, InkSet};
+use printer_definitions::{InkCounts, InkSet};
 
 /// The number of dots of each ink in planes of these inks. An ink outside the set has none.
 pub fn count_dots(inks: InkSet, planes: &Planes) -> InkCounts

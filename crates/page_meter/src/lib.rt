@@ -6,7 +6,7 @@ mod counts;
 
 pub use counts::count_dots;
 pub use dot_planes::Planes;
-pub use weave_base::{InkCounts, InkSet};
+pub use printer_definitions::{InkCounts, InkSet};
 
 #[cfg(test)]
 mod tests;

@@ -5,7 +5,7 @@ use Rattle.std.specs.List.{list_all, list_any}
 use Rattle.std.proofs.lemmas.Bool.Decides.{nat_tests}
 use Rattle.std.proofs.lemmas.List.{drop-drop, drop-replicate, length-replicate}
 use Rattle.std.proofs.lemmas.List.Folds.{list_all_more}
-use Rattle.escp2_definitions.specs.Packed.{at, packed, packed_byte, packed_bytes, worth}
+use Rattle.base_definitions.specs.Packed.{at, packed, packed_byte, packed_bytes, worth}
 use Rattle.page_laws.proofs.Passes.{no-dot}
 
 -- ---- the greatest byte

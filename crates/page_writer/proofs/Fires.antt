@@ -6,7 +6,7 @@ use Rattle.std.proofs.lemmas.List.{drop_at, length-map, length-replicate, take_a
 use Rattle.dot_planes.specs.Tables.{DotTable, dot}
 use Rattle.escp2_definitions.specs.Canonical.{canonical_row}
 use Rattle.escp2_definitions.specs.Commands.{command_bytes, row_bytes}
-use Rattle.escp2_definitions.specs.Packed.{packed}
+use Rattle.base_definitions.specs.Packed.{packed}
 use Rattle.escp2_definitions.specs.Written.{rows_apart}
 use Rattle.escp2_definitions.specs.declared.command.Command.TheVariants as c
 use Rattle.escp2_definitions.specs.declared.command.RasterHead.{RasterHead}
@@ -14,7 +14,8 @@ use Rattle.page_definitions.specs.Strokes.{Spoken, bytes_of, has_dot, say}
 use Rattle.page_laws.proofs.Fired.{AllWide, packed-len}
 use Rattle.page_laws.proofs.Passes.{count_from-len}
 use Rattle.printer_definitions.specs.declared.inks.Ink.{Ink}
-use Rattle.weave_definitions.specs.Weave.{count_from, nozzle_row}
+use Rattle.base_definitions.specs.Counting.{count_from}
+use Rattle.weave_definitions.specs.Weave.{nozzle_row}
 use Rattle.weave_plan.specs.Weaving.{Weaving}
 use Rattle.page_writer.specs.Rows.{nozzle_plane_row, plane_row, plane_rows, rows_commands}
 use Rattle.page_writer.specs.Sums.{rasters_in}

@@ -18,7 +18,8 @@ use Rattle.printer_definitions.specs.declared.inks.InkSet.{InkSet}
 use Rattle.printer_definitions.specs.declared.inks.InkSet.TheVariants.{K, Cmy, Cmyk}
 use Rattle.printer_definitions.specs.Inks.{inks_of}
 use Rattle.printer_definitions.specs.Printer.{Printer}
-use Rattle.weave_definitions.specs.Weave.{count_from, nozzle_row}
+use Rattle.base_definitions.specs.Counting.{count_from}
+use Rattle.weave_definitions.specs.Weave.{nozzle_row}
 use Rattle.weave_laws.proofs.Rows.{stands_on}
 use Rattle.weave_plan.specs.Weaving.{Weaving}
 use Rattle.page_writer.specs.Passes.{IsPass}

@@ -1,9 +1,9 @@
 -- The rows under the nozzles of a head, one after another.
 use Rattle.std.proofs.Common.{◌≡◌, ℕ, suc, ◌+◌, ◌==◌, Bool, true, false, not, ◌||◌, List, map, sym, ◌∙◌, ap}
 use Rattle.std.specs.List.{list_all, list_any}
-use Rattle.escp2_definitions.specs.Packed.{packed}
+use Rattle.base_definitions.specs.Packed.{packed}
 use Rattle.page_writer.proofs.Dotless.{packed-any}
-use Rattle.weave_definitions.specs.Weave.{count_from}
+use Rattle.base_definitions.specs.Counting.{count_from}
 
 -- a row is packed without a dot
 pub nozzle_blank : (f : ℕ → List Bool) (i left n many : ℕ) (row : List ℕ) (blank : Bool) → left ≡ suc n

@@ -16,7 +16,8 @@ use Rattle.printer_definitions.specs.Printer.{Printer, head_rows, row_units}
 use Rattle.separation_definitions.specs.CanPrint.{CanPrint}
 use Rattle.weave_base.specs.Parts.{AppendsPart}
 use Rattle.weave_base.proofs.Parting.{part_behind, part_of_front}
-use Rattle.weave_definitions.specs.Weave.{count_from, pass_count}
+use Rattle.base_definitions.specs.Counting.{count_from}
+use Rattle.weave_definitions.specs.Weave.{pass_count}
 use Rattle.weave_plan.specs.Weaving.{Weaving}
 use Rattle.page_writer.specs.Passes.{IsPassSum, fired_strokes, pass_bytes}
 use Rattle.page_writer.specs.Sums.{rasters_in}

@@ -2,12 +2,13 @@
 use Rattle.std.specs.Prelude.{ℕ, Bool, false, if◌then◌else◌, List, [], ◌∷◌, map, replicate, Option, Some, None}
 use Rattle.std.specs.List.{flat_map}
 use Rattle.dot_planes.specs.Tables.{DotTable, dot}
-use Rattle.escp2_definitions.specs.Packed.{packed}
+use Rattle.base_definitions.specs.Packed.{packed}
 use Rattle.escp2_definitions.specs.declared.command.Command.TheVariants as c
 use Rattle.escp2_definitions.specs.declared.command.RasterHead.{RasterHead}
 use Rattle.page_definitions.specs.Strokes.{Spoken, has_dot, say}
 use Rattle.printer_definitions.specs.declared.inks.Ink.{Ink}
-use Rattle.weave_definitions.specs.Weave.{count_from, nozzle_row}
+use Rattle.base_definitions.specs.Counting.{count_from}
+use Rattle.weave_definitions.specs.Weave.{nozzle_row}
 use Rattle.weave_plan.specs.Weaving.{Weaving}
 
 -- the row of an ink, by its place in the set, that a nozzle fires: one of its plane; blank off the window

@@ -1,5 +1,5 @@
 -- What fits together while a page is written.
-use Rattle.pwg_definitions.specs.Limits.{most_columns, most_rows}
+use Rattle.base_definitions.specs.Limits.{most_columns, most_rows}
 use Rattle.std.specs.Prelude.{◌≡◌, ◌≤◌, length}
 use Rattle.dot_planes.specs.Tables.{DotTable, dot}
 use Rattle.page_definitions.specs.Dots.{Halftone, HasDots}

@@ -3,7 +3,7 @@ ghost use Rattle.escp2_definitions.specs.Canonical.{canonical_row};
 ghost use Rattle.page_definitions.specs.Strokes.{bytes_of};
 ghost use Rattle.page_writer.specs.Rows.{plane_rows, rows_commands};
 ghost use Rattle.page_writer.specs.Sums.{rasters_in};
-ghost use Rattle.pwg_definitions.specs.Limits.{most_columns};
+ghost use Rattle.base_definitions.specs.Limits.{most_columns};
 ghost use Rattle.std.specs.Prelude.{length, vec_capacity, vec_len, ◌*◌, ◌++◌, ◌+◌, ◌/◌, ◌<◌, ◌≡◌, ◌≤◌};
 ghost use Rattle.weave_definitions.specs.Weave.{pass_count};
 

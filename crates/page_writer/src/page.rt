@@ -12,7 +12,7 @@ ghost use Rattle.printer_definitions.specs.Printer.{row_units as row_units_of};
 ghost use Rattle.printer_profile.specs.Profiles.{printer_of};
 ghost use Rattle.printer_profile.specs.Validity.{check};
 ghost use Rattle.pwg_definitions.specs.Header.{IsWanted};
-ghost use Rattle.pwg_definitions.specs.Limits.{most_rows};
+ghost use Rattle.base_definitions.specs.Limits.{most_rows};
 ghost use Rattle.separation_definitions.specs.Windows.{wanted_by, window_of};
 ghost use Rattle.std.specs.Io.KnownBytes.{Appends, Keeps};
 ghost use Rattle.std.specs.Prelude.{IfOk, IsErrOf, IsOk, OnErr, OnOk, [], if◌then◌else◌, length, nat_lt};

@@ -8,7 +8,7 @@ ghost use Rattle.page_writer.specs.Suits.{Shows, Suits};
 ghost use Rattle.page_writer.specs.Sums.{most_of_pass, rasters_in};
 ghost use Rattle.printer_definitions.specs.Printer.{row_units as row_units_of};
 ghost use Rattle.printer_profile.specs.Profiles.{printer_of};
-ghost use Rattle.pwg_definitions.specs.Limits.{most_rows};
+ghost use Rattle.base_definitions.specs.Limits.{most_rows};
 ghost use Rattle.std.specs.Io.KnownBytes.{Appends};
 ghost use Rattle.std.specs.Prelude.{IfOk, OnErr, OnOk, nat_lt, vec_capacity, vec_len, ◌*◌, ◌++◌};
 ghost use Rattle.std.specs.Prelude.{◌+◌, ◌-◌, ◌/◌, ◌<◌, ◌≡◌, ◌≤◌};

@@ -1,8 +1,8 @@
 //! The rows that an ink's nozzles fire in a pass.
-ghost use Rattle.escp2_definitions.specs.Packed.{packed};
+ghost use Rattle.base_definitions.specs.Packed.{packed};
 ghost use Rattle.page_definitions.specs.Strokes.{has_dot};
 ghost use Rattle.page_writer.specs.Rows.{nozzle_plane_row, plane_rows};
-ghost use Rattle.pwg_definitions.specs.Limits.{most_columns};
+ghost use Rattle.base_definitions.specs.Limits.{most_columns};
 ghost use Rattle.std.specs.Prelude.{◌<◌, ◌≡◌, ◌≤◌};
 ghost use Rattle.weave_definitions.specs.Weave.{pass_count};
 

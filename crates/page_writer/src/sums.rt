@@ -2,7 +2,7 @@
 ghost use Rattle.page_writer.specs.Sums.{most_of_page, most_of_pass as most_of_pass_of};
 ghost use Rattle.printer_definitions.specs.Inks.{inks_of};
 ghost use Rattle.printer_profile.specs.Profiles.{printer_of};
-ghost use Rattle.pwg_definitions.specs.Limits.{most_columns, most_rows};
+ghost use Rattle.base_definitions.specs.Limits.{most_columns, most_rows};
 ghost use Rattle.separation_definitions.specs.CanPrint.{CanPrint};
 ghost use Rattle.std.specs.Prelude.{length, ◌*◌, ◌+◌, ◌/◌, ◌≡◌, ◌≤◌};
 

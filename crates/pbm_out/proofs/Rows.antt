@@ -3,8 +3,8 @@ use Rattle.std.proofs.Common.{◌≡◌, ℕ, zero, suc, ◌+◌, ◌/◌, ◌<�
 use Rattle.std.proofs.Common.{drop, map, refl, sym, ◌∙◌, ap, arith, ◌⊎◌, inl, inr}
 use Rattle.std.proofs.lemmas.Bool.{cases_lt}
 use Rattle.std.proofs.lemmas.List.{get_or-drop, get_or_past}
-use Rattle.escp2_definitions.specs.Packed.{at, packed, packed_byte, packed_bytes}
-use Rattle.weave_definitions.specs.Weave.{count_from}
+use Rattle.base_definitions.specs.Packed.{at, packed, packed_byte, packed_bytes}
+use Rattle.base_definitions.specs.Counting.{count_from}
 use Rattle.dot_planes.specs.Tables.{DotTable, dot}
 use Rattle.dot_planes.proofs.PackedRows.{counted-at, counted-len}
 use Rattle.dot_emulator.specs.Sheets.{IsBlankFrom}

@@ -3,8 +3,8 @@
 -- spare bits are 0.
 use Rattle.std.specs.Prelude.{ℕ, List, ◌++◌, codes, decimal, map}
 use Rattle.std.specs.List.{flat_map}
-use Rattle.escp2_definitions.specs.Packed.{packed}
-use Rattle.weave_definitions.specs.Weave.{count_from}
+use Rattle.base_definitions.specs.Packed.{packed}
+use Rattle.base_definitions.specs.Counting.{count_from}
 use Rattle.dot_planes.specs.Tables.{DotTable, dot}
 
 abbrev pub image_header : ℕ → ℕ → List ℕ

@@ -21,6 +21,15 @@ pub enum InkSet {
     Cmyk,
 }
 
+/// How many dots of each ink: black, cyan, magenta and yellow.
+#[derive(Clone, Copy, Debug, PartialEq, Eq)]
+pub struct InkCounts {
+    pub k: u64,
+    pub c: u64,
+    pub m: u64,
+    pub y: u64,
+}
+
 impl InkSet {
     ghost use Rattle.printer_definitions.specs.Inks.{inks_of};
 

@@ -10,8 +10,8 @@ use crate::fields::Profile;
 use crate::keys::Key;
 use crate::values::ink_set_name;
 use arrayvec::ArrayString;
+use base_definitions::Memory;
 use itoa::Buffer;
-use weave_base::Memory;
 
 /// The first line of a profile's text.
 pub(crate) const HEADER: &str = "escp2-profile 1";

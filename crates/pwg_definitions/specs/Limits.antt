@@ -1,14 +1,5 @@
--- The limits of a stream of pages. A page's size and a stream's pages are bounded by this project; the other numbers
--- are those of PWG 5102.4.
+-- The limits of a stream of pages. Its pages are bounded by this project; the other numbers are those of PWG 5102.4.
 use Rattle.std.specs.Prelude.{ℕ}
-
--- the most columns of a page: as many as a raster command prints
-abbrev pub most_columns : ℕ
-most_columns = 8191
-
--- the most lines of a page: 22 inches at 720 lines an inch
-abbrev pub most_rows : ℕ
-most_rows = 15840
 
 -- the most pages of a stream
 abbrev pub most_pages : ℕ

@@ -1,4 +1,5 @@
 //! The header of a page, and the pages that a driver wants.
+ghost use Rattle.std.specs.Prelude.{length, ◌≡◌, ◌≤◌};
 
 /// A kind of pixel, one row of the table of kinds.
 #[derive(Clone, Copy, Debug, PartialEq, Eq)]
@@ -9,6 +10,35 @@ pub enum Kind {
     Black8,
     /// Red, green and blue of 8 bits each (sRGB), side by side.
     Rgb8,
+}
+
+impl Kind {
+    ghost use Rattle.pwg_definitions.specs.Header.{row_of};
+
+    /// How many bytes a pixel has: 1 or 3.
+    #[inline]
+    pub fn unit(self) -> usize
+        ensures value { result ≡ (row_of self).unit }
+        ensures some { 1 ≤ result }
+        ensures few { result ≤ 3 }
+    {
+        match self {
+            Kind::Gray8 | Kind::Black8 => 1,
+            Kind::Rgb8 => 3,
+        }
+    }
+
+    /// A white pixel.
+    pub fn white(self) -> &'static [u8]
+        ensures value { result.now ≡ (row_of self).white }
+        ensures sized { length result.now ≡ (row_of self).unit }
+    {
+        match self {
+            Kind::Gray8 => &[255],
+            Kind::Black8 => &[0],
+            Kind::Rgb8 => &[255, 255, 255],
+        }
+    }
 }
 
 /// The form of a page: its size in pixels, its kind of pixel, and the length of its lines in bytes.

@@ -21,7 +21,6 @@ mod buffer;
 mod laws;
 mod reader;
 mod states;
-mod unit;
 mod writer;
 
 pub use answers::{Fed, Fill};

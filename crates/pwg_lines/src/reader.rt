@@ -2,16 +2,15 @@
 ghost use Rattle.pwg_lines.specs.States.{gives, least_gives, least_left, least_repeats, pending, read_in};
 ghost use Rattle.std.specs.Prelude.{[], length, ◌*◌, ◌+◌, ◌<◌, ◌≡◌, ◌≤◌};
 ghost use Rattle.pwg_definitions.specs.Header.{line_bytes, line_units, row_of};
-ghost use Rattle.pwg_definitions.specs.Limits.{most_columns, most_rows};
+ghost use Rattle.base_definitions.specs.Limits.{most_columns, most_rows};
 
 mod steps;
 
 use crate::answers::{Fed, Fill};
 use crate::states::State;
-use crate::unit::unit_of;
+use base_definitions::Memory;
 use pwg_definitions::PageForm;
 use std::alloc::Global;
-use weave_base::Memory;
 
 /// Reads the groups of the lines of one page from pieces of any length.
 #[derive(Drop)]
@@ -63,7 +62,7 @@ impl LineReader {
             repeats: 0,
             line,
             filled: 0,
-            left: form.bytes_per_line as usize / unit_of(form.kind),
+            left: form.bytes_per_line as usize / form.kind.unit(),
             state: State::Start,
         })
     }
@@ -90,7 +89,7 @@ impl LineReader {
         self.lines_left = form.height;
         self.repeats = 0;
         self.filled = 0;
-        self.left = self.line.len() / unit_of(form.kind);
+        self.left = self.line.len() / form.kind.unit();
         self.state = State::Start;
         Ok(())
     }

@@ -1,7 +1,7 @@
 //! Groups fed whole, in two pieces and byte by byte, and groups written.
 ghost use Rattle.std.specs.Prelude.{◌≡◌, ◌≤◌};
 ghost use Rattle.pwg_definitions.specs.Header.{line_bytes, row_of};
-ghost use Rattle.pwg_definitions.specs.Limits.{most_columns, most_rows};
+ghost use Rattle.base_definitions.specs.Limits.{most_columns, most_rows};
 
 use crate::{Fill, Kind, LineFault, LineReader, PageForm, code_line};
 use std::alloc::Global;

@@ -4,8 +4,8 @@ ghost use Rattle.std.specs.Prelude.{List, OnErr, OnOk, IfOk, length, take, ℕ, 
 ghost use Rattle.pwg_definitions.specs.Groups.{packet_spelling, packet_units};
 ghost use Rattle.pwg_definitions.specs.Limits.{most_repeats};
 
+use base_definitions::Memory;
 use std::alloc::AllocError;
-use weave_base::Memory;
 
 // The most pixels of a packet.
 const MOST_UNITS: usize = 128;

@@ -1,6 +1,7 @@
 //! A reader of the pages of a stream.
 ghost use Rattle.pwg_lines.specs.Reading.{IsAnew, form_of as form_of_lines, lines_left_of as lines_left_of_lines};
-ghost use Rattle.pwg_definitions.specs.Limits.{most_columns, most_pages, most_rows};
+ghost use Rattle.base_definitions.specs.Limits.{most_columns, most_rows};
+ghost use Rattle.pwg_definitions.specs.Limits.{most_pages};
 ghost use Rattle.pwg_stream.specs.Stops.{line_stop};
 ghost use Rattle.std.specs.Option.{ForSome};
 ghost use Rattle.std.specs.Prelude.{None, ◌+◌, ◌≡◌, ◌≤◌};

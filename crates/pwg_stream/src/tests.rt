@@ -1,6 +1,6 @@
 //! Streams read whole and in pieces, and where they stop.
 ghost use Rattle.std.specs.Prelude.{All, ◌≤◌};
-ghost use Rattle.pwg_definitions.specs.Limits.{most_columns};
+ghost use Rattle.base_definitions.specs.Limits.{most_columns};
 
 use crate::{PageReader, StreamStop};
 use pwg_header::{HEADER_LEN, Kind, PageForm, Wanted, write_header};

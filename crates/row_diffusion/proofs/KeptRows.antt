@@ -3,7 +3,7 @@ use Rattle.std.proofs.Common.{◌≡◌, ℕ, ℤ, pos, zero, suc, ◌+◌, ◌<
 use Rattle.std.proofs.Common.{take, drop, map, get_or, refl, ◌∙◌, ap, arith}
 use Rattle.std.proofs.lemmas.List.{take_at}
 use Rattle.diffusion_definitions.specs.Diffusion.{Errors}
-use Rattle.weave_definitions.specs.Weave.{count_from}
+use Rattle.base_definitions.specs.Counting.{count_from}
 use Rattle.row_diffusion.specs.Rows.{RowIs}
 
 -- a vector whose elements were all written

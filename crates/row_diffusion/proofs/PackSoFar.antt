@@ -2,7 +2,7 @@
 use Rattle.std.proofs.Common.{◌≡◌, ℕ, suc, ◌+◌, ◌-◌, ◌<◌, Bool, List, ◌∷◌, ◌++◌, length, take, drop, set, sym, ◌∙◌, ap, arith, length-set}
 use Rattle.std.proofs.lemmas.List.{take_more_set}
 use Rattle.std.proofs.Math.Seq.{append_snoc}
-use Rattle.escp2_definitions.specs.Packed.{packed, packed_byte, packed_bytes}
+use Rattle.base_definitions.specs.Packed.{packed, packed_byte, packed_bytes}
 
 pub pack_step : (row rest rest' : List Bool) (out : List ℕ) (i b : ℕ) → i < length out
     → b ≡ packed_byte rest

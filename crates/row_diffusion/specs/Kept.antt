@@ -1,5 +1,5 @@
 -- The invariant of kept rows of errors.
-use Rattle.pwg_definitions.specs.Limits.{most_columns}
+use Rattle.base_definitions.specs.Limits.{most_columns}
 use Rattle.std.specs.Prelude.{◌≡◌, ◌+◌, ◌≤◌, length}
 use Rattle.diffusion_definitions.specs.Diffusion.{EachInRange}
 use Rattle.row_diffusion.specs.Errors.{TwoRows}

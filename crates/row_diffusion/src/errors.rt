@@ -2,20 +2,20 @@
 ghost use Rattle.diffusion_definitions.specs.Diffusion.{Errors, Plane, Solves, no_top, on};
 ghost use Rattle.diffusion_kernel.specs.Tables.{table_of};
 ghost use Rattle.dot_planes.specs.Tables.{IsPackedRow};
-ghost use Rattle.escp2_definitions.specs.Packed.{packed as packed_of};
-ghost use Rattle.pwg_definitions.specs.Limits.{most_columns};
+ghost use Rattle.base_definitions.specs.Packed.{packed as packed_of};
+ghost use Rattle.base_definitions.specs.Limits.{most_columns};
 ghost use Rattle.row_diffusion.specs.Errors.{IsReached};
 ghost use Rattle.row_diffusion.specs.Rows.{AreRows, HasRow, IsDiffused};
 ghost use Rattle.std.specs.Prelude.{IfOk, length, map, ℕ, ◌+◌, ◌/◌, ◌≡◌, ◌≤◌};
-ghost use Rattle.weave_definitions.specs.Weave.{count_from};
+ghost use Rattle.base_definitions.specs.Counting.{count_from};
 
 use crate::packing::pack_row;
 use crate::rows::diffuse_row;
+use base_definitions::Memory;
 use diffusion_kernel::Kernel;
 use std::alloc::{AllocError, Global};
 use std::marker::Model;
 use std::mem;
-use weave_base::Memory;
 
 /// The errors of one ink in the two rows above the next row. Contracts see the width and both rows of errors as
 /// lists, the error of column x at place x + 4.

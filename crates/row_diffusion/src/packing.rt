@@ -1,5 +1,5 @@
 //! Rows of dots as bytes.
-ghost use Rattle.escp2_definitions.specs.Packed.{at as at_of, packed, packed_byte, worth as worth_of};
+ghost use Rattle.base_definitions.specs.Packed.{at as at_of, packed, packed_byte, worth as worth_of};
 ghost use Rattle.std.specs.Prelude.{drop, length, ℕ, ◌+◌, ◌/◌, ◌≡◌, ◌≤◌};
 
 fn at(row: &[bool], k: usize) -> bool

@@ -4,7 +4,7 @@ use Rattle.printer_definitions.specs.Printer.{Printer}
 use Rattle.separation_definitions.specs.declared.window.Window.{Window}
 use Rattle.pwg_definitions.specs.declared.pages.PageForm.{PageForm}
 use Rattle.pwg_definitions.specs.declared.pages.Wanted.{Wanted}
-use Rattle.pwg_definitions.specs.Limits.{most_columns, most_rows}
+use Rattle.base_definitions.specs.Limits.{most_columns, most_rows}
 
 -- the page without its four margins
 abbrev pub window_of : PageForm → Printer → Window

@@ -4,10 +4,10 @@ ghost use Rattle.tile_border.specs.Tops.{IsTopOf};
 ghost use Rattle.dot_planes.specs.Tables.{AmountTable};
 ghost use Rattle.std.specs.Prelude.{IfOk, length, ◌<◌, ◌≡◌, ◌≤◌};
 
+use base_definitions::Memory;
 use dot_planes::TileBits;
 use std::alloc::Global;
 use tile_border::{BottomEdge, CornerEdge, RightEdge, TopEdges};
-use weave_base::Memory;
 
 /// What is kept while the tiles of a slab are diffused, band by band and in each from the left: the edges that tiles
 /// gave and no tile has taken, and allocations for those of one more tile. A corner edge is the end of a bottom edge.

@@ -6,12 +6,12 @@ ghost use Rattle.std.specs.Prelude.{IfOk, OnErr, ◌+◌, ◌≡◌, ◌≤◌};
 
 use crate::bands::diffuse_band;
 use crate::hands::hand_of;
+use base_definitions::Memory;
 use board_core::Core;
 use diffusion_kernel::Kernel;
 use dot_planes::{InkRows, Planes};
 use std::alloc::Global;
 use tile_border::TopEdges;
-use weave_base::Memory;
 
 /// Diffuses a slab below its top, tile by tile on the caller's thread, and puts its dots into rows `at` and on of the
 /// planes. The answer is the top of the rows below the slab, where the slab's rows are whole bands of 32.

@@ -1,5 +1,5 @@
 //! An ink that is diffused row by row, and its dots counted.
-ghost use Rattle.pwg_definitions.specs.Limits.{most_columns};
+ghost use Rattle.base_definitions.specs.Limits.{most_columns};
 ghost use Rattle.std.specs.Prelude.{length, ◌+◌, ◌/◌, ◌≡◌, ◌≤◌};
 
 use diffusion_kernel::Kernel;

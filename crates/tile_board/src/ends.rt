@@ -13,6 +13,7 @@ ghost use Rattle.tile_shape.specs.declared.tiles.Place.{Place};
 
 use crate::emptying::empty_all;
 use crate::kinds::{Board, Closed, Pass};
+use base_definitions::Memory;
 use board_steps::{Cell, Slab, open};
 use diffusion_kernel::Kernel;
 use dot_planes::InkRows;
@@ -21,7 +22,6 @@ use std::snapshot::Snapshot;
 use tile_border::{BottomEdge, CornerEdge, RightEdge, TopEdges};
 use tile_content::no_dots;
 use tile_shape::Shape;
-use weave_base::Memory;
 
 impl<'a> Board<'a> {
     /// A board of rows of amounts, which are diffused below `top`, and its first pass, which has 256 parts. The top

@@ -4,9 +4,9 @@ ghost use Rattle.std.specs.Prelude.{IfOk, length, pos, replicate, slice_set, ◌
 ghost use Rattle.tile_border.specs.Inks.{CutsEnds, IsCleared, errors_of};
 ghost use Rattle.tile_edges.specs.Tops.{IsCut};
 
+use base_definitions::Memory;
 use std::alloc::Global;
 use std::marker::Model;
-use weave_base::Memory;
 
 /// An edge of a tile: N errors of each ink, of 1 to 4 inks.
 /// Contracts see a list of errors for each ink, each error from -2040 to 2039; an ink past the last has the error 0

@@ -4,11 +4,11 @@ ghost use Rattle.std.specs.Prelude.{IfOk, length, ◌<◌, ◌≡◌};
 ghost use Rattle.tile_border.specs.Works.{HasInks};
 
 use crate::{BottomEdge, CornerEdge, Done, RightEdge, Task, TopEdges, work};
+use base_definitions::Memory;
 use diffusion_kernel::Kernel;
 use dot_planes::{InkRows, TileBits, TileDots};
 use std::alloc::Global;
 use tile_shape::Place;
-use weave_base::Memory;
 
 // A tile of two inks, handed errors 0.
 fn zero_task(alloc: Global, place: Place) -> Result<Task, Memory>

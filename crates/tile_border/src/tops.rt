@@ -3,10 +3,10 @@ ghost use Rattle.std.specs.Prelude.{IfOk, [], length, slice_index_or, slice_set,
 ghost use Rattle.tile_border.specs.Tops.{IsZeroTop};
 
 use crate::edges::BottomEdge;
+use base_definitions::Memory;
 use std::alloc::Global;
 use std::marker::Model;
 use std::mem;
-use weave_base::Memory;
 
 /// The bottom edges above the first band of a board, one for each column of tiles. Contracts see a list by columns, and
 /// in each column a list of errors for each ink.

@@ -6,9 +6,9 @@ use Rattle.std.proofs.lemmas.List.{ext_get_or, get_or_past}
 use Rattle.diffusion_definitions.specs.Diffusion.{Errors, Plane, Table, on}
 use Rattle.dot_planes.specs.Tables.{row_dot}
 use Rattle.dot_planes.proofs.PackedRows.{counted-at, counted-len, dot_of_packed, no_bit, packed-len, row_packed}
-use Rattle.escp2_definitions.specs.Machine.{bit_at}
-use Rattle.escp2_definitions.specs.Packed.{packed}
-use Rattle.weave_definitions.specs.Weave.{count_from}
+use Rattle.base_definitions.specs.Packed.{bit_at}
+use Rattle.base_definitions.specs.Packed.{packed}
+use Rattle.base_definitions.specs.Counting.{count_from}
 use Rattle.tile_shape.specs.Geometry.{IsAt}
 use Rattle.tile_shape.specs.declared.tiles.Place.{Place}
 use Rattle.tile_lanes.specs.Done.{HasDots}

@@ -6,7 +6,7 @@ use Rattle.std.proofs.lemmas.List.{ext_get_or, get_or-replicate, get_or_past, le
 use Rattle.dot_planes.specs.Tables.{row_dot}
 use Rattle.dot_planes.specs.Tiles.{IsBlank}
 use Rattle.dot_planes.proofs.PackedRows.{no_bit}
-use Rattle.escp2_definitions.specs.Machine.{bit_at}
+use Rattle.base_definitions.specs.Packed.{bit_at}
 use Rattle.tile_content.specs.Tiles.{AllBytes, AllLong}
 use Rattle.tile_content.proofs.Bits.{tests-are}
 

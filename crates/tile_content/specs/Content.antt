@@ -6,8 +6,8 @@ use Rattle.diffusion_definitions.specs.Diffusion.{Errors, Plane, Table, errors, 
 use Rattle.diffusion_kernel.specs.Tables.{table_of}
 use Rattle.diffusion_kernel.specs.declared.tables.Kernel.{Kernel}
 use Rattle.dot_planes.specs.Tables.{AmountTable}
-use Rattle.escp2_definitions.specs.Packed.{packed}
-use Rattle.weave_definitions.specs.Weave.{count_from}
+use Rattle.base_definitions.specs.Packed.{packed}
+use Rattle.base_definitions.specs.Counting.{count_from}
 use Rattle.tile_shape.specs.declared.tiles.Place.{Place}
 use Rattle.tile_edges.specs.Edges.{skewed}
 use Rattle.tile_edges.specs.Tops.{top_of}

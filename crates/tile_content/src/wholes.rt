@@ -3,10 +3,10 @@
 ghost use Rattle.std.specs.Prelude.{IfOk, length, replicate, slice_index, ℕ, ◌<◌, ◌^◌, ◌≡◌, ◌≤◌};
 ghost use Rattle.tile_content.specs.Tiles.{AllBytes, AllLong, IsWhole};
 
+use base_definitions::Memory;
 use dot_planes::TileBits;
 use std::alloc::Global;
 use tile_border::{Done, Edge};
-use weave_base::Memory;
 
 /// Each ink of a tile's right, bottom and corner edge has 192, 128 and 12 errors, and each ink of its dots 256 bytes.
 pub fn done_is_whole(done: &Done)

@@ -2,7 +2,7 @@
 -- the columns that this makes are a tile: so what a pixel reads in its own band is in its own column or left of it.
 use Rattle.std.specs.Prelude.{ℕ, ◌≡◌, ◌+◌, ◌*◌, ◌<◌, ◌≤◌, ◌⊎◌}
 use Rattle.std.specs.Int.{div_ceil}
-use Rattle.pwg_definitions.specs.Limits.{most_columns, most_rows}
+use Rattle.base_definitions.specs.Limits.{most_columns, most_rows}
 use Rattle.tile_shape.specs.declared.tiles.Dir.{Dir}
 use Rattle.tile_shape.specs.declared.tiles.Dir.TheVariants.{Right, Bottom, Corner}
 use Rattle.tile_shape.specs.declared.tiles.Place.{Place}

@@ -13,6 +13,7 @@ use crate::gate::Gate;
 use crate::laying::lay_tiles;
 use crate::work::work_rest;
 use crate::worker::Worker;
+use base_definitions::Memory;
 use diffusion_kernel::Kernel;
 use dot_planes::{InkRows, Planes};
 use std::alloc::Global;
@@ -20,7 +21,6 @@ use std::thread::{Threads, join_mut};
 use tile_board::{Board, Pass};
 use tile_border::TopEdges;
 use tile_shape::Shape;
-use weave_base::Memory;
 
 /// Diffuses a slab below its top by 1 to 64 workers, and puts its dots into the planes from row `at` on. The answer is
 /// the bottom edges of its last band: the top of the rows below it, where its rows are whole bands of 32. One worker

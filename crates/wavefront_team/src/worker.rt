@@ -7,11 +7,11 @@ ghost use Rattle.wavefront_team.specs.Passes.{IsWorkerOf};
 
 use crate::gate::Gate;
 use crate::work::work_held;
+use base_definitions::Memory;
 use std::alloc::Global;
 use std::thread::yield_now;
 use tile_board::{Board, Claim, Pass};
 use tile_shape::{Place, Shape};
-use weave_base::Memory;
 
 // A worker that gets no tile in this many claims leaves the rest to the caller.
 const MOST_CLAIMS: u32 = 16_777_216;

@@ -32,13 +32,14 @@ mod sink;
 mod source;
 
 pub use adapters::{StdSink, StdSource};
-pub use answers::{Failed, InkCounts, Memory};
+pub use answers::Failed;
+pub use base_definitions::Memory;
 pub use command_line::Words;
 pub use directory::DirShelf;
 pub use memory_shelf::{MemShelf, ShelfFile};
 pub use memory_sink::MemSink;
 pub use memory_source::MemSource;
-pub use printer_definitions::{Ink, InkSet};
+pub use printer_definitions::{Ink, InkCounts, InkSet};
 pub use shelf::{Found, Shelf, ShelfStop};
 pub use sink::{Sink, put_all};
 pub use source::Source;

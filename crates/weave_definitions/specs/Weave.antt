@@ -1,12 +1,8 @@
 -- Interleaved passes: which nozzle fires which row of a window in which pass.
-use Rattle.std.specs.Prelude.{◌≡◌, ℕ, zero, suc, ◌+◌, ◌-◌, ◌*◌, ◌/◌, ◌==◌, nat_lt, nat_le, ◌&&◌, if◌then◌else◌, List, [], ◌∷◌, count_by}
+use Rattle.base_definitions.specs.Counting.{count_from}
+use Rattle.std.specs.Prelude.{◌≡◌, ℕ, ◌+◌, ◌-◌, ◌*◌, ◌/◌, ◌==◌, nat_lt, nat_le, ◌&&◌, if◌then◌else◌, List, [], ◌∷◌, count_by}
 use Rattle.std.specs.Prelude.{Option, Some, None}
 use Rattle.std.specs.List.{flat_map}
-
--- `many` numbers, from n on
-abbrev pub count_from : ℕ → ℕ → List ℕ
-count_from n zero = []
-count_from n (suc many) = n ∷ count_from (n + 1) many
 
 -- The row of the window under nozzle i in pass t, of a head of n nozzles that are `pitch` rows apart. The head
 -- moves down n rows a pass, and its last nozzle begins on row 0.

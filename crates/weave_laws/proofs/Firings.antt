@@ -6,7 +6,7 @@ use Rattle.std.proofs.lemmas.Nat.{mod_below}
 use Rattle.std.proofs.lemmas.List.Sums.{sum_by-append}
 use Rattle.std.specs.Int.{IsGcd}
 use Rattle.std.specs.List.{count_by, flat_map, sum_by}
-use Rattle.weave_definitions.specs.Weave.{count_from}
+use Rattle.base_definitions.specs.Counting.{count_from}
 use Rattle.weave_definitions.specs.Weave.{Firing, firing, nozzle_row, pass_count, passes}
 use Rattle.weave_definitions.specs.Weave.{FiresEachRowOnce}
 use Rattle.weave_laws.proofs.Rounds.{Inverse, inverse}

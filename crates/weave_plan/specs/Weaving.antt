@@ -1,5 +1,5 @@
 -- What a plan is for, and its invariant.
-use Rattle.pwg_definitions.specs.Limits.{most_rows}
+use Rattle.base_definitions.specs.Limits.{most_rows}
 use Rattle.std.specs.Prelude.{◌≡◌, ℕ, ◌*◌, ◌%◌, ◌≤◌}
 
 -- A head of `nozzles` nozzles that are `pitch` rows apart, over a window of `height` rows.

@@ -1,5 +1,5 @@
 //! Heads whose rows were worked out by hand, and both directions of a plan against a search.
-ghost use Rattle.pwg_definitions.specs.Limits.{most_rows};
+ghost use Rattle.base_definitions.specs.Limits.{most_rows};
 ghost use Rattle.std.specs.Int.{IsGcd};
 ghost use Rattle.std.specs.Prelude.{◌≡◌, ◌≤◌};
 

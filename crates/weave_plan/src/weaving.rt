@@ -1,5 +1,5 @@
 //! A plan answers both ways: the row under a nozzle in a pass, and the pass and nozzle of a row.
-ghost use Rattle.pwg_definitions.specs.Limits.{most_rows};
+ghost use Rattle.base_definitions.specs.Limits.{most_rows};
 ghost use Rattle.weave_definitions.specs.Weave.{nozzle_row, pass_count};
 ghost use Rattle.std.specs.Int.{IsGcd};
 ghost use Rattle.std.specs.Prelude.{Some, ℕ, ◌*◌, ◌-◌, ◌<◌, ◌≡◌, ◌≤◌};

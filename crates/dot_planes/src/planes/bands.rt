@@ -1,7 +1,7 @@
 //! Bands of tiles, put into planes.
 ghost use Rattle.dot_planes.specs.Bands.{PutsBand, PutsBandInk, PutsBandRow};
 ghost use Rattle.dot_planes.specs.Tiles.{slab_of};
-ghost use Rattle.pwg_definitions.specs.Limits.{most_rows};
+ghost use Rattle.base_definitions.specs.Limits.{most_rows};
 ghost use Rattle.std.specs.Prelude.{length, ◌*◌, ◌+◌, ◌<◌, ◌≡◌, ◌≤◌};
 ghost use Rattle.tile_shape.specs.Geometry.{columns_of};
 

@@ -7,7 +7,6 @@ ghost use Rattle.pwg_definitions.specs.Header.{row_of};
 use crate::buffer::{fill_bytes, fill_units};
 use crate::reader::LineReader;
 use crate::states::{State, state_after, units_of};
-use crate::unit::{unit_of, white_of};
 use pwg_definitions::LineFault;
 
 impl LineReader {
@@ -41,7 +40,7 @@ impl LineReader {
         }
         self.repeats = repeats;
         self.filled = 0;
-        self.left = self.line.len() / unit_of(self.form.kind);
+        self.left = self.line.len() / self.form.kind.unit();
         self.state = State::Packet;
     }
 
@@ -63,7 +62,7 @@ impl LineReader {
         self.state = if first < 128 {
             State::Run { units, read: 0 }
         } else {
-            State::Literal(units * unit_of(self.form.kind))
+            State::Literal(units * self.form.kind.unit())
         };
     }
 
@@ -72,7 +71,7 @@ impl LineReader {
         requires { self.old.state ≡ State.Packet }
         ensures { Takes self.old self.new (128 ∷ []) }
     {
-        let white = white_of(self.form.kind);
+        let white = self.form.kind.white();
         fill_units(&mut self.line, self.filled, 0, white, self.left);
         self.filled = self.line.len();
         self.left = 0;
@@ -85,7 +84,7 @@ impl LineReader {
         ensures count { result ≡ min (length bytes.now) ((row_of self.old.form.kind).unit - read) }
         ensures takes { Takes self.old self.new (take result bytes.now) }
     {
-        let unit = unit_of(self.form.kind);
+        let unit = self.form.kind.unit();
         let wanted = unit - read;
         if bytes.len() < wanted {
             fill_bytes(&mut self.line, self.filled + read, bytes);

@@ -1,6 +1,6 @@
 use Rattle.std.proofs.Common.{◌≡◌, ◌+◌, ◌-◌, ◌/◌, ◌%◌, ◌∙◌, sym, ap, get_or}
 use Rattle.std.proofs.lemmas.List.{get_or_past}
-use Rattle.escp2_definitions.specs.Machine.{bit_at}
+use Rattle.base_definitions.specs.Packed.{bit_at}
 use Rattle.dot_planes.proofs.LaidBytes.{window-is}
 use Rattle.dot_planes.proofs.bit_rows.window.Goals as goal
 use Rattle.dot_planes.proofs.bit_rows.window.Goals.{then-place-bytes, else-place-bytes}

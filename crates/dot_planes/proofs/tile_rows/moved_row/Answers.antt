@@ -2,7 +2,7 @@ use Rattle.std.proofs.Common.{◌≡◌, ℕ, List, ◌*◌, ◌<◌, ◌%◌, �
 use Rattle.std.proofs.Math.Pow.{pow-lt}
 use Rattle.std.proofs.lemmas.Nat.{pow_pos}
 use Rattle.std.specs.Int.{w64, from_be_bytes, to_be_bytes}
-use Rattle.escp2_definitions.specs.Machine.{bit_at}
+use Rattle.base_definitions.specs.Packed.{bit_at}
 use Rattle.dot_planes.proofs.Words.{moved_dot, moved_rest, moved_word}
 use Rattle.dot_planes.proofs.tile_rows.moved_row.Goals as goal
 

@@ -1,6 +1,6 @@
 use Rattle.std.proofs.Common.{◌≡◌, ◌<◌, ◌≤◌, ℕ, ◌+◌, ◌-◌, ◌*◌, ◌∙◌, ap, arith, get_or, get_or-set_other, inl, inr, length, refl, set, sym, subst}
 use Rattle.std.proofs.lemmas.Bool.{cases_lt}
-use Rattle.escp2_definitions.specs.Machine.{bit_at}
+use Rattle.base_definitions.specs.Packed.{bit_at}
 use Rattle.dot_planes.specs.Tiles.{PutsDots}
 use Rattle.dot_planes.proofs.TileRows.{TakesDots, put_all, put_more, put_none, takes_whole}
 use Rattle.dot_planes.proofs.tile_rows.put_whole.Goals as goal

@@ -1,5 +1,5 @@
 use Rattle.std.proofs.Common.{◌≡◌, ℕ, ◌*◌, ◌+◌, ◌<◌, ◌≤◌, get_or}
-use Rattle.escp2_definitions.specs.Machine.{bit_at}
+use Rattle.base_definitions.specs.Packed.{bit_at}
 use Rattle.dot_planes.specs.Tiles.{PutsDots}
 use Rattle.dot_planes.proofs.tile_rows.put_whole.Given as goal
 

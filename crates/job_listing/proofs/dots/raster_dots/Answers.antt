@@ -1,6 +1,6 @@
 use Rattle.std.proofs.Common.{◌≡◌, ℕ, ◌+◌, ◌-◌, ◌*◌, ◌∙◌, ap, arith, drop, take}
 use Rattle.escp2_definitions.specs.Commands.{row_bytes}
-use Rattle.escp2_definitions.specs.Machine.{bits}
+use Rattle.base_definitions.specs.Packed.{bits}
 use Rattle.job_listing.proofs.RowBits.{on_count}
 use Rattle.job_listing.proofs.RasterDots.{count_begin, count_end, count_step}
 use Rattle.job_listing.proofs.dots.raster_dots.Goals as goal

@@ -1,5 +1,5 @@
 use Rattle.std.proofs.Common.{◌≡◌, ◌+◌, ◌*◌, ◌/◌, ◌%◌, ◌-◌, ◌^◌, ◌∙◌, ap, sym, get_or, count_ones, arith, take}
-use Rattle.escp2_definitions.specs.Machine.{bits}
+use Rattle.base_definitions.specs.Packed.{bits}
 use Rattle.job_listing.proofs.RowBits.{on_count, row_bits, whole_bits}
 use Rattle.job_listing.proofs.dots.row_dots.Goals as goal
 

@@ -1,5 +1,5 @@
 use Rattle.std.proofs.Common.{◌+◌, ◌/◌, ap, ◌∙◌, replicate, sym}
-use Rattle.escp2_definitions.specs.Packed.{packed}
+use Rattle.base_definitions.specs.Packed.{packed}
 use Rattle.page_writer.specs.Rows.{plane_row}
 use Rattle.page_writer.proofs.Dotless.{packed-blank}
 use Rattle.page_writer.proofs.rows.fired_row.Goals as goal

@@ -1,7 +1,7 @@
 use Rattle.std.proofs.Common.{◌≡◌, ◌-◌, map}
 use Rattle.std.specs.List.{list_any}
 use Rattle.page_writer.specs.Rows.{nozzle_plane_row}
-use Rattle.weave_definitions.specs.Weave.{count_from}
+use Rattle.base_definitions.specs.Counting.{count_from}
 use Rattle.page_writer.proofs.rows.has_fire.Given as goal
 
 abbrev pub invariant-loop-nozzle : goal.invariant-loop-nozzle

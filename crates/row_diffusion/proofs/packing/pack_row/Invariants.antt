@@ -1,5 +1,5 @@
 use Rattle.std.proofs.Common.{◌≡◌, ◌-◌, ◌++◌, length, take}
-use Rattle.escp2_definitions.specs.Packed.{packed, packed_bytes}
+use Rattle.base_definitions.specs.Packed.{packed, packed_bytes}
 use Rattle.row_diffusion.proofs.packing.pack_row.Given as goal
 
 abbrev pub invariant-loop-byte : goal.invariant-loop-byte

@@ -1,5 +1,5 @@
 use Rattle.std.proofs.Common.{◌≡◌, ◌+◌, ℕ, ap, arith, map, length, ◌∙◌, sum_by, count_by, List, Bool}
-use Rattle.weave_definitions.specs.Weave.{count_from}
+use Rattle.base_definitions.specs.Counting.{count_from}
 use Rattle.dot_planes.specs.Tables.{DotTable, dot, row_len}
 use Rattle.dot_planes.proofs.PackedRows.{counted-len, packed-len, row_count, sum_counted}
 use Rattle.dot_planes.proofs.planes.Planes.count.Goals as goal

@@ -1,5 +1,5 @@
 use Rattle.std.proofs.Common.{◌+◌, ◌*◌, ◌/◌, ◌%◌, ap, ◌∙◌}
-use Rattle.escp2_definitions.specs.Machine.{bit_at}
+use Rattle.base_definitions.specs.Packed.{bit_at}
 use Rattle.dot_planes.specs.Tables.{dot, row_len}
 use Rattle.dot_planes.proofs.PackedRows.{no_bit}
 use Rattle.dot_planes.proofs.RowBytes.{blank_row}

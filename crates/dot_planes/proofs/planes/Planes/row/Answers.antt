@@ -1,6 +1,6 @@
 use Rattle.std.proofs.Common.{◌≡◌, ◌+◌, ◌*◌, ◌<◌, ℕ, ap, arith, map, ◌∙◌, sym, List, length, get_or}
-use Rattle.escp2_definitions.specs.Packed.{packed}
-use Rattle.weave_definitions.specs.Weave.{count_from}
+use Rattle.base_definitions.specs.Packed.{packed}
+use Rattle.base_definitions.specs.Counting.{count_from}
 use Rattle.dot_planes.specs.Tables.{DotTable, dot, row_at, row_len}
 use Rattle.dot_planes.proofs.PackedRows.{row_packed}
 use Rattle.dot_planes.proofs.RowBytes.{row_inside}

@@ -1,7 +1,7 @@
 use Rattle.std.proofs.Common.{◌≡◌, ◌+◌, ◌∙◌, ap, arith, length, refl}
 use Rattle.diffusion_definitions.specs.Diffusion.{on}
 use Rattle.diffusion_kernel.specs.Tables.{table_of}
-use Rattle.escp2_definitions.specs.Packed.{packed}
+use Rattle.base_definitions.specs.Packed.{packed}
 use Rattle.row_diffusion.specs.Errors.{TwoRows}
 use Rattle.row_diffusion.proofs.KeptRows.{dots_are, errors_as, written}
 use Rattle.row_diffusion.proofs.errors.ErrorRows.diffuse.Goals as goal

@@ -1,5 +1,7 @@
--- Rows of dots in bytes, as the rows of a raster have them (ESC/P Reference Manual, `ESC .`).
-use Rattle.std.specs.Prelude.{ℕ, zero, suc, ◌+◌, ◌/◌, Bool, true, false, List, [], ◌∷◌, length, drop, slice_index_or}
+-- Rows of dots in bytes, as the rows of a raster have them (ESC/P Reference Manual, `ESC .`), and bytes as dots.
+use Rattle.std.specs.Prelude.{ℕ, zero, suc, ◌+◌, ◌-◌, ◌/◌, ◌%◌, ◌^◌, ◌==◌, Bool, true, false, List, [], ◌∷◌, ◌++◌, length, drop, slice_index_or}
+
+-- ---- dots into bytes
 
 -- the value of a dot in its byte
 abbrev pub worth : Bool → ℕ → ℕ
@@ -24,3 +26,18 @@ packed_bytes (suc n) row = packed_byte row ∷ packed_bytes n (drop 8 row)
 -- A row of dots in bytes; bits past the row are 0.
 abbrev pub packed : List Bool → List ℕ
 packed row = packed_bytes ((length row + 7) / 8) row
+
+-- ---- bytes into dots
+
+-- the bit of a byte at a place, the highest at place 0
+abbrev pub bit_at : ℕ → ℕ → Bool
+bit_at byte k = (byte / 2 ^ (7 - k)) % 2 == 1
+
+-- the bits of a byte, the highest first
+abbrev pub byte_bits : ℕ → List Bool
+byte_bits b = bit_at b 0 ∷ bit_at b 1 ∷ bit_at b 2 ∷ bit_at b 3 ∷ bit_at b 4 ∷ bit_at b 5 ∷ bit_at b 6 ∷ bit_at b 7 ∷ []
+
+-- the bits of bytes, from the left
+abbrev pub bits : List ℕ → List Bool
+bits [] = []
+bits (b ∷ bytes) = byte_bits b ++ bits bytes

@@ -1,0 +1,3 @@
+pub mod Counting
+pub mod Packed
+pub mod Limits

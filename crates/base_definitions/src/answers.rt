@@ -1,0 +1,5 @@
+//! Answers that every layer gives.
+
+/// The allocator refused memory.
+#[derive(Clone, Copy, Debug, PartialEq, Eq)]
+pub struct Memory;
