@@ -13,7 +13,7 @@ loop-n-preserved c =
     c.args.out.now c.separate.new.out in
     subst Q next (columns_more (printer_of c.args.p.now) c.args.kind c.args.line.now _ c.args.w.left c.args.at (64 * c.loop-n.n) 64
     c.args.out.now c.loop-n.out c.separate.new.out c.loop-n.invariant e.size
-    (λ k low. ap (λ u. pixel_at c.args.kind (cut_off c.args.line.now ((c.args.w.left + 64 * c.loop-n.n) * u)) k) c.unit_of-unit.ensures.is
+    (λ k low. ap (λ u. pixel_at c.args.kind (cut_off c.args.line.now ((c.args.w.left + 64 * c.loop-n.n) * u)) k) c.unit-unit.ensures.value
     ∙ cut_off-pixel c.args.kind c.args.line.now c.args.w.left c.args.w.width (64 * c.loop-n.n) 64 k (omega arith) c.requires.inside low)
     e.put e.beside e.others)
 
@@ -28,7 +28,7 @@ returns c =
     c.args.out.now c.loop-n.out in
     let all = columns_more (printer_of c.args.p.now) c.args.kind c.args.line.now _ c.args.w.left c.args.at x many
     c.args.out.now c.loop-n.out c.separate-2.new.out (subst Q whole c.loop-n.invariant) e.size
-    (λ k low. ap (λ u. pixel_at c.args.kind (cut_off c.args.line.now ((c.args.w.left + x) * u)) k) c.unit_of-unit.ensures.is
+    (λ k low. ap (λ u. pixel_at c.args.kind (cut_off c.args.line.now ((c.args.w.left + x) * u)) k) c.unit-unit.ensures.value
     ∙ cut_off-pixel c.args.kind c.args.line.now c.args.w.left c.args.w.width x many k (omega (arith, end)) c.requires.inside low)
     e.put e.beside e.others in
     record {

@@ -32,7 +32,7 @@ returns c = record {
         units-literal _ c.args.first _ c.units_of-units.ensures (omega arith) in
         in_state _ _ _ _ _ _ c.args.self.now.line.items c.args.self.now.filled _ _
         (ap state.Literal (ap (λ k. k * (row_of c.args.self.now.form.kind).unit) (sym units_are)
-        ∙ ap (λ k. c.units_of-units.result * k) (sym w.unit_of.ensures.value)) ∙ sym w.self-is)
+        ∙ ap (λ k. c.units_of-units.result * k) (sym w.unit.ensures.value)) ∙ sym w.self-is)
         (packet-literal _ _ _ _ _ _ _ sofar c.args.first _ _ (kind_row c.args.self.now.form.kind).some
         (in_state _ _ _ _ _ _ c.args.self.now.line.items c.args.self.now.filled _ sofar c.requires so_far)
         (omega arith) (omega arith) (omega arith) (ap (λ k. c.args.self.now.left - k) units_are)))

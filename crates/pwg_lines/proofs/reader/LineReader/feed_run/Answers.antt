@@ -28,7 +28,7 @@ returns-then-bytes-wanted-clause-takes c =
       lines_left = refl;
       stands = λ sofar so_far. run-part _ _ _ _ _ _ _ sofar c.args.units c.args.read (take (length c.args.bytes.now) c.args.bytes.now) _ _ _
           (in_state _ _ _ _ _ _ c.args.self.now.line.items c.args.self.now.filled _ sofar c.requires so_far)
-          (ap (λ bs. c.args.read + length bs) (sym (take-length c.args.bytes.now))) (omega (arith, c.unit_of-unit.ensures.value)) kept.0
+          (ap (λ bs. c.args.read + length bs) (sym (take-length c.args.bytes.now))) (omega (arith, c.unit-unit.ensures.value)) kept.0
           (kept.1 ∙ ap (λ bs. take c.args.read (drop c.args.self.now.filled c.args.self.now.line.items) ++ bs)
           (sym (take-length c.args.bytes.now)));
     }
@@ -38,10 +38,10 @@ returns-clause-takes c =
     let fits : RunFits c.args.self.now c.args.units c.args.read = run_fits c.args.self.now c.args.units c.args.read c.requires in
     let sized : length c.fill_units.new.line ≡ c.args.self.now.line.len = c.fill_units.auto.line ∙ c.deref_mut-2.ensures.len in
     let new : _ = written c.args.self.now.line.len c.args.self.now.line.items c.fill_units.new.line in
-    let others : _ = take (c.unit_of-unit.result - c.args.read) c.args.bytes.now in
-    let count : length others ≡ c.unit_of-unit.result - c.args.read = length-take-le _ c.args.bytes.now (omega arith) in
-    let unit : c.args.read + length others ≡ c.unit_of-unit.result = omega (arith, count, c.unit_of-unit.ensures.value) in
-    let grown : take (c.args.self.now.filled + c.args.units * c.unit_of-unit.result) new
+    let others : _ = take (c.unit-unit.result - c.args.read) c.args.bytes.now in
+    let count : length others ≡ c.unit-unit.result - c.args.read = length-take-le _ c.args.bytes.now (omega arith) in
+    let unit : c.args.read + length others ≡ c.unit-unit.result = omega (arith, count, c.unit-unit.ensures.value) in
+    let grown : take (c.args.self.now.filled + c.args.units * c.unit-unit.result) new
     ≡ take c.args.self.now.filled c.args.self.now.line.items
     ++ copies c.args.units (take c.args.read (drop c.args.self.now.filled c.args.self.now.line.items) ++ others) =
     ap (λ k. take (c.args.self.now.filled + c.args.units * k) new) (sym unit)
@@ -52,9 +52,9 @@ returns-clause-takes c =
       form = refl;
       lines_left = refl;
       stands =
-          λ sofar so_far. in_state _ _ _ _ _ _ new (c.args.self.now.filled + c.args.units * c.unit_of-unit.result) _ _
+          λ sofar so_far. in_state _ _ _ _ _ _ new (c.args.self.now.filled + c.args.units * c.unit-unit.result) _ _
           (sym c.state_after-self.ensures)
           (run-end _ _ _ _ _ _ _ sofar c.args.units c.args.read others _ _
           (in_state _ _ _ _ _ _ c.args.self.now.line.items c.args.self.now.filled _ sofar c.requires so_far)
-          (count ∙ ap (λ k. k - c.args.read) c.unit_of-unit.ensures.value) grown);
+          (count ∙ ap (λ k. k - c.args.read) c.unit-unit.ensures.value) grown);
     }

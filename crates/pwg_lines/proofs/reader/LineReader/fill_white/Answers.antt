@@ -10,14 +10,14 @@ returns c =
     let sized : length c.fill_units.new.line ≡ c.args.self.now.line.len = c.fill_units.auto.line ∙ c.deref_mut.ensures.len in
     let none_pending : pending (row_of c.args.self.now.form.kind) c.args.self.now.state
     ≡ 0 = ap (pending (row_of c.args.self.now.form.kind)) c.requires in
-    let whole : c.len-self.result ≡ c.args.self.now.filled + c.args.self.now.left * (0 + length c.white_of-white.result.now) =
+    let whole : c.len-self.result ≡ c.args.self.now.filled + c.args.self.now.left * (0 + length c.white-white.result.now) =
     omega (
       arith,
       c.len-self.ensures,
       c.args.self.now.fits,
       none_pending,
       c.args.self.now.line.ok.0,
-      ap (λ k. c.args.self.now.left * (0 + k)) c.white_of-white.ensures.sized,
+      ap (λ k. c.args.self.now.left * (0 + k)) c.white-white.ensures.sized,
     ) in
     record {
       form = refl;
@@ -25,8 +25,8 @@ returns c =
       stands = λ sofar so_far. packet-white _ _ _ _ _ _ _ sofar _ _ _ refl
           (in_state _ _ _ _ _ _ c.args.self.now.line.items c.args.self.now.filled _ sofar c.requires so_far)
           (ap (λ k. take k (written c.args.self.now.line.len c.args.self.now.line.items c.fill_units.new.line)) whole
-          ∙ written-front _ _ _ _ _ (λ bs. take c.args.self.now.filled bs ++ copies c.args.self.now.left c.white_of-white.result.now) sized
+          ∙ written-front _ _ _ _ _ (λ bs. take c.args.self.now.filled bs ++ copies c.args.self.now.left c.white-white.result.now) sized
           c.deref_mut.ensures.value c.fill_units.ensures
           ∙ ap (λ bs. take c.args.self.now.filled c.args.self.now.line.items ++ copies c.args.self.now.left bs)
-          c.white_of-white.ensures.value);
+          c.white-white.ensures.value);
     }
