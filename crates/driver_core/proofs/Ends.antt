@@ -27,7 +27,7 @@ use Rattle.pwg_stream.specs.declared.stops.StreamStop.{StreamStop}
 use Rattle.pwg_stream.specs.declared.stops.StreamStop.TheVariants as stop
 use Rattle.pwg_stream.specs.Reading.{page_of, text_of}
 use Rattle.pwg_stream.specs.Stops.{OnInput}
-use Rattle.unread_bytes.specs.Text.{UsesSome, text_behind}
+use Rattle.buffered_bytes.specs.Text.{UsesSome, text_behind}
 use Rattle.printer_definitions.specs.declared.inks.InkCounts.{InkCounts}
 use Rattle.weave_base.specs.Causes.{Rose}
 use Rattle.weave_base.specs.Parts.{AppendsPart}

@@ -4,7 +4,7 @@ use Rattle.std.specs.Io.KnownBytes.{Keeps}
 use Rattle.ink_meter.specs.Accounts.{Account}
 use Rattle.weave_base.specs.Causes.{Rose}
 use Rattle.weave_base.specs.Shelf.{NamedText}
-pub use Rattle.outside_definitions.specs.Outside.{HasRisen, IsCalm, Outside, outside_of}
+pub use Rattle.buffered_bytes.specs.Outside.{HasRisen, IsCalm, Outside, outside_of}
 
 -- A shelf: its texts, where it reports them, and its count of faults at the call and at the return.
 pub record Texts : Type 0 where

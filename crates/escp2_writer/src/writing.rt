@@ -10,8 +10,8 @@ ghost use Rattle.weave_base.specs.Parts.{AppendsPart};
 
 use crate::headers::{header_bytes, row_bytes};
 use crate::{Command, RasterHead};
+use buffered_bytes::Gathered;
 use escp2_rows::code_row;
-use gathered_bytes::Gathered;
 use weave_base::{Failed, Sink, put_all};
 
 // The most bytes of a row's code: twice the widest row.

@@ -8,7 +8,7 @@ ghost use Rattle.pwg_definitions.specs.Stream.StreamEnd.{Fault};
 ghost use Rattle.pwg_definitions.specs.Stream.{pages_from};
 ghost use Rattle.pwg_stream.specs.Reading.{has_ended, page_of, text_of};
 ghost use Rattle.pwg_stream.specs.Stops.{OnInput};
-ghost use Rattle.unread_bytes.specs.Text.{UsesSome};
+ghost use Rattle.buffered_bytes.specs.Text.{UsesSome};
 ghost use Rattle.pwg_stream.specs.declared.stops.StreamStop.TheVariants as stop;
 ghost use Rattle.separation_definitions.specs.Windows.{wanted_by};
 ghost use Rattle.std.specs.Io.KnownBytes.{IsAtEnd};

@@ -13,7 +13,7 @@ use Rattle.escp2_reader.specs.Reading.{StandsFor, is_failed_of}
 use Rattle.job_feed.specs.declared.feed.JobFeed.{JobFeed}
 use Rattle.job_feed.specs.Feeding.{IsBetween, MeetsFault, TakesCommand, TakesPart, at_of, text_of}
 use Rattle.job_feed.specs.Pieces.{FeedsSome}
-use Rattle.unread_bytes.proofs.Texts.{text_used}
+use Rattle.buffered_bytes.proofs.Texts.{text_used}
 
 -- Since the last command less than a command was taken, and the reader used it.
 pub record GoesOn (old : JobFeed) (reader : JobReader) (fed most : ℕ) (before text : Option (List ℕ)) : Type 0 where

@@ -11,7 +11,7 @@ use Rattle.job_feed.specs.declared.feed.FeedStop.{FeedStop}
 use Rattle.job_feed.specs.declared.feed.FeedStop.TheVariants as stop
 use Rattle.job_feed.specs.declared.feed.JobFeed.{JobFeed}
 use Rattle.job_feed.specs.declared.feed.PlacedCommand.{PlacedCommand}
-use Rattle.unread_bytes.specs.Text.{text_behind}
+use Rattle.buffered_bytes.specs.Text.{text_behind}
 use Rattle.weave_base.specs.Causes.{Rose}
 
 -- the bytes that were taken of the source and are not used, and then what it has left; `None` where it does not say

@@ -6,10 +6,10 @@ ghost use Rattle.std.specs.Prelude.{IfErr, IfNone, IfOk, IfSome, IsOk, List, Non
 ghost use Rattle.std.specs.Prelude.{◌≡◌, ◌≤◌, ◌^◌};
 ghost use Rattle.weave_base.specs.Causes.{Rose};
 
+use buffered_bytes::Unread;
 use escp2_definitions::{Command, JobStop};
 use escp2_reader::{HeardState, JobReader};
 use std::alloc::Global;
-use unread_bytes::Unread;
 use weave_base::{Failed, Memory, Source};
 
 /// A whole command of a job, and the offset of its first byte.

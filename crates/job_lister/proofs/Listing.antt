@@ -4,9 +4,9 @@ use Rattle.std.proofs.lemmas.List.Concat.{flat_map-append}
 use Rattle.std.specs.Io.KnownBytes.{Appends, Consumes}
 use Rattle.std.proofs.KnownBytes.{Appends-nil, Consumes-nil}
 use Rattle.escp2_definitions.specs.Commands.{Entry, commands}
-use Rattle.gathered_bytes.specs.declared.gathered.Gathered.{Gathered}
-use Rattle.gathered_bytes.specs.Gathering.{Writes, gathered}
-use Rattle.gathered_bytes.proofs.Writing.{GathersSoFar, gathers_all, gathers_begin, gathers_more, gathers_part}
+use Rattle.buffered_bytes.specs.declared.gathered.Gathered.{Gathered}
+use Rattle.buffered_bytes.specs.Gathering.{Writes, gathered}
+use Rattle.buffered_bytes.proofs.Writing.{GathersSoFar, gathers_all, gathers_begin, gathers_more, gathers_part}
 use Rattle.job_feed.specs.declared.feed.FeedStop.{FeedStop}
 use Rattle.job_feed.specs.declared.feed.FeedStop.TheVariants as feed_is
 use Rattle.job_feed.specs.declared.feed.JobFeed.{JobFeed}
@@ -18,7 +18,7 @@ use Rattle.job_lister.specs.declared.lister.ListStop.{ListStop}
 use Rattle.job_lister.specs.declared.lister.ListStop.TheVariants as stop
 use Rattle.job_lister.specs.Lines.{feed_stop}
 use Rattle.job_lister.specs.Outcome.{ListOutcome, ListsAll}
-use Rattle.outside_definitions.specs.Outside.{Outside}
+use Rattle.buffered_bytes.specs.Outside.{Outside}
 use Rattle.weave_base.specs.Causes.{Rose}
 use Rattle.weave_base.specs.Parts.{AppendsPart}
 

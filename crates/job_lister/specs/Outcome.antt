@@ -7,7 +7,7 @@ use Rattle.job_feed.specs.Jobs.{MeetsStop, TakesCommands, TakesJob}
 use Rattle.job_listing.specs.Listing.{listing}
 use Rattle.job_lister.specs.declared.lister.ListStop.{ListStop}
 use Rattle.job_lister.specs.declared.lister.ListStop.TheVariants as stop
-use Rattle.outside_definitions.specs.Outside.{HasRisen, Outside}
+use Rattle.buffered_bytes.specs.Outside.{HasRisen, Outside}
 use Rattle.weave_base.specs.Parts.{AppendsPart}
 
 -- The job was taken whole, and all its commands are listed.

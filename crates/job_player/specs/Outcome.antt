@@ -8,7 +8,7 @@ use Rattle.escp2_definitions.specs.Machine.{Sheet, execute}
 use Rattle.job_player.specs.declared.player.PlayStop.{PlayStop}
 use Rattle.job_player.specs.declared.player.PlayStop.TheVariants as stop
 use Rattle.job_player.specs.Pictures.{images, sheet_images}
-use Rattle.outside_definitions.specs.Outside.{HasRisen, Outside}
+use Rattle.buffered_bytes.specs.Outside.{HasRisen, Outside}
 use Rattle.printer_definitions.specs.Printer.{Printer}
 use Rattle.weave_base.specs.Parts.{AppendsPart}
 

@@ -2,7 +2,7 @@
 ghost use Rattle.job_player.specs.Outcome.{PlayOutcome};
 ghost use Rattle.job_player.specs.Stops.{emu_stop};
 ghost use Rattle.job_player.specs.declared.player.PlayStop.TheVariants as PlayStop;
-ghost use Rattle.outside_definitions.specs.Outside.{outside_of};
+ghost use Rattle.buffered_bytes.specs.Outside.{outside_of};
 ghost use Rattle.printer_profile.specs.Profiles.{printer_of};
 ghost use Rattle.printer_profile.specs.Validity.{check};
 ghost use Rattle.std.specs.Prelude.{IsOk, ◌<◌, ◌≡◌, ◌≤◌, ◌^◌};

@@ -1,13 +1,13 @@
 //! The image of one ink.
 ghost use Rattle.pbm_out.specs.Images.{image, image_header};
-ghost use Rattle.gathered_bytes.specs.Gathering.{gathered};
+ghost use Rattle.buffered_bytes.specs.Gathering.{gathered};
 ghost use Rattle.std.specs.Io.KnownBytes.{Appends};
 ghost use Rattle.std.specs.Prelude.{OnErr, OnOk, ◌<◌, ◌≡◌};
 ghost use Rattle.weave_base.specs.Causes.{HasCause};
 ghost use Rattle.weave_base.specs.Parts.{AppendsPart};
 
+use buffered_bytes::Gathered;
 use dot_emulator::Sheet;
-use gathered_bytes::Gathered;
 use itoa::Buffer;
 use weave_base::{Failed, Sink};
 

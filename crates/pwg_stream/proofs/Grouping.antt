@@ -14,7 +14,7 @@ use Rattle.pwg_lines.specs.declared.reader.LineReader.{LineReader}
 use Rattle.pwg_lines.specs.Reading.{IsAnew, IsFault, IsLine, IsMore, StandsFor, form_of, lines_left_of, next_group}
 use Rattle.pwg_lines.proofs.Feeding.{anew_stands}
 use Rattle.pwg_stream.specs.Groups.{GivesLine, IsBadGroup, IsNoGroup}
-use Rattle.unread_bytes.specs.Text.{UsesSome}
+use Rattle.buffered_bytes.specs.Text.{UsesSome}
 use Rattle.pwg_stream.proofs.GroupSizes.{group_at-part}
 
 -- The reader has read these bytes of a group that is not yet whole, and the text before them is used up to them.

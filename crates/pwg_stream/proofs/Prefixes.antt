@@ -22,8 +22,8 @@ use Rattle.pwg_definitions.specs.Stream.{PageRead, page_at, page_behind, pages_f
 use Rattle.pwg_definitions.specs.Stream.PageRead.{Whole, Broken}
 use Rattle.pwg_definitions.specs.Stream.StreamEnd.{Fault}
 use Rattle.pwg_stream.specs.Pages.{GivesHeader}
-use Rattle.unread_bytes.specs.Text.{UsesSome, text_behind}
-use Rattle.unread_bytes.proofs.Texts.{text_fed}
+use Rattle.buffered_bytes.specs.Text.{UsesSome, text_behind}
+use Rattle.buffered_bytes.proofs.Texts.{text_fed}
 
 -- ---- texts
 

@@ -15,7 +15,7 @@ use Rattle.pwg_lines.specs.Reading as lines
 use Rattle.pwg_stream.specs.declared.reader.PageReader.{PageReader}
 use Rattle.pwg_stream.specs.declared.stops.StreamStop.{StreamStop}
 use Rattle.pwg_stream.specs.Pages.{GivesHeader}
-use Rattle.unread_bytes.specs.Text.{text_behind}
+use Rattle.buffered_bytes.specs.Text.{text_behind}
 
 -- the text that the reader has before it: the bytes that it took and did not use, and then what the source has left
 abbrev pub text_of : PageReader → Option (List ℕ) → Option (List ℕ)

@@ -1,14 +1,14 @@
 //! Reading one group of lines, from as many pieces as it needs.
 ghost use Rattle.pwg_lines.specs.Reading.{IsAnew, form_of, lines_left_of, next_group};
 ghost use Rattle.pwg_stream.specs.Groups.{GivesLine, IsBadGroup, IsNoGroup, OnNoGroup};
-ghost use Rattle.unread_bytes.specs.Text.{UsesSome, text_behind};
+ghost use Rattle.buffered_bytes.specs.Text.{UsesSome, text_behind};
 ghost use Rattle.pwg_stream.specs.declared.groups.GroupStop.TheVariants as stop;
 ghost use Rattle.std.specs.Prelude.{IfOk, IfSome, IsErrOf, OnErr, OnOk, ◌≡◌, ◌≤◌, ◌⊎◌};
 ghost use Rattle.weave_base.specs.Causes.{Rose};
 
+use buffered_bytes::Unread;
 use pwg_definitions::InputCause;
 use pwg_lines::{Fill, LineReader};
-use unread_bytes::Unread;
 use weave_base::Source;
 
 /// Why no group was read.

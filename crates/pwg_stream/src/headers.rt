@@ -1,7 +1,7 @@
 //! Reading the header of a page (PWG 5102.4, section 4.3).
 ghost use Rattle.pwg_stream.specs.Pages.{GivesHeader};
 ghost use Rattle.pwg_stream.specs.Stops.{OnInput};
-ghost use Rattle.unread_bytes.specs.Text.{UsesSome, text_behind};
+ghost use Rattle.buffered_bytes.specs.Text.{UsesSome, text_behind};
 ghost use Rattle.pwg_stream.specs.declared.stops.StreamStop.TheVariants as stop;
 ghost use Rattle.std.specs.Io.KnownBytes.{IsAtEnd};
 ghost use Rattle.std.specs.Prelude.{IfNone, IfOk, IfSome, IsErrOf, IsSome, MatchOption, [], drop, length, take, ◌+◌};
@@ -12,9 +12,9 @@ ghost use Rattle.pwg_definitions.specs.Limits.{header_length, most_pages};
 ghost use Rattle.weave_base.specs.Causes.{Rose};
 
 use crate::stops::StreamStop;
+use buffered_bytes::Unread;
 use pwg_definitions::InputCause;
 use pwg_header::{HEADER_LEN, PageForm, Wanted, check, read_header};
-use unread_bytes::Unread;
 use weave_base::Source;
 
 /// The most pages of a stream.

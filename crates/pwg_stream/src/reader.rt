@@ -10,10 +10,10 @@ use crate::groups::{GroupStop, read_group};
 use crate::headers::read_page_header;
 use crate::stops::StreamStop;
 use crate::sync::read_sync;
+use buffered_bytes::Unread;
 use pwg_header::{PageForm, Wanted};
 use pwg_lines::LineReader;
 use std::alloc::Global;
-use unread_bytes::Unread;
 use weave_base::{Memory, Source};
 
 /// Reads the pages of a stream, line by line. It does not hold the source: each call borrows the same one.
@@ -47,7 +47,7 @@ impl PageReader {
     ghost use Rattle.pwg_stream.specs.Reading.{BeginsPage, GivesLines, HasLineFault, form_of, has_ended, line_of};
     ghost use Rattle.pwg_stream.specs.Reading.{lines_left_of, page_of, stop_of, text_of};
     ghost use Rattle.pwg_stream.specs.Stops.{OnInput};
-    ghost use Rattle.unread_bytes.specs.Text.{UsesSome};
+    ghost use Rattle.buffered_bytes.specs.Text.{UsesSome};
     ghost use Rattle.pwg_stream.specs.declared.stops.StreamStop.{StreamStop};
     ghost use Rattle.pwg_stream.specs.declared.stops.StreamStop.TheVariants as stop;
     ghost use Rattle.std.specs.Io.KnownBytes.{Consumes, IsAtEnd};

@@ -1,6 +1,6 @@
 //! Reading the sync word (PWG 5102.4, section 4.1).
 ghost use Rattle.pwg_stream.specs.Stops.{OnInput};
-ghost use Rattle.unread_bytes.specs.Text.{UsesSome, text_behind};
+ghost use Rattle.buffered_bytes.specs.Text.{UsesSome, text_behind};
 ghost use Rattle.pwg_stream.specs.declared.stops.StreamStop.TheVariants as stop;
 ghost use Rattle.std.specs.Io.KnownBytes.{Consumes};
 ghost use Rattle.std.specs.Prelude.{IfSome, IsErrOf, OnOk, [], ◌≡◌, ◌≤◌};
@@ -10,8 +10,8 @@ ghost use Rattle.pwg_definitions.specs.declared.pages.Wanted.{Wanted};
 ghost use Rattle.weave_base.specs.Causes.{Rose};
 
 use crate::stops::StreamStop;
+use buffered_bytes::Unread;
 use pwg_definitions::InputCause;
-use unread_bytes::Unread;
 use weave_base::Source;
 
 /// Reads the sync word.

@@ -1,7 +1,7 @@
 use Rattle.std.proofs.Common.{◌≡◌, ◌-◌, ◌+◌, ◌*◌, ◌++◌, suc, arith, take, drop, sym, ap, ◌∙◌}
 use Rattle.weave_base.proofs.Parting.{on_err_anyway, two_ok, two_part}
 use Rattle.escp2_definitions.specs.Commands.{row_bytes}
-use Rattle.gathered_bytes.proofs.Writing.{puts_begin, puts_end, puts_more, puts_part}
+use Rattle.buffered_bytes.proofs.Writing.{puts_begin, puts_end, puts_more, puts_part}
 use Rattle.escp2_writer.proofs.Coding.{codes, codes-next, codes-none, row_left, rows-next}
 use Rattle.escp2_writer.proofs.writing.put_coded.Goals as goal
 

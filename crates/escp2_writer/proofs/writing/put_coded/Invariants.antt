@@ -1,7 +1,7 @@
 use Rattle.std.proofs.Common.{◌≡◌, ◌-◌, ◌*◌, ◌≤◌, ◌++◌, length}
 use Rattle.escp2_definitions.specs.Commands.{row_bytes}
-use Rattle.gathered_bytes.specs.Gathering.{gathered}
-use Rattle.gathered_bytes.proofs.Writing.{PutsSoFar}
+use Rattle.buffered_bytes.specs.Gathering.{gathered}
+use Rattle.buffered_bytes.proofs.Writing.{PutsSoFar}
 use Rattle.escp2_writer.proofs.Coding.{codes}
 use Rattle.escp2_writer.proofs.writing.put_coded.Given as goal
 

@@ -1,7 +1,7 @@
 use Rattle.std.proofs.Common.{◌≡◌, ◌-◌, ◌+◌, ◌/◌, ◌++◌, take, ap, arith, sym, ◌∙◌}
 use Rattle.std.proofs.lemmas.List.{length-take-le}
 use Rattle.weave_base.proofs.Parting.{on_err_anyway, two_ok, two_part}
-use Rattle.gathered_bytes.proofs.Writing.{puts_begin, puts_end, puts_more, puts_part}
+use Rattle.buffered_bytes.proofs.Writing.{puts_begin, puts_end, puts_more, puts_part}
 use Rattle.pbm_out.specs.Images.{image_header, image_rows}
 use Rattle.pbm_out.proofs.Rows.{cut-row, row-long, rows-next, rows-none}
 use Rattle.pbm_out.proofs.image.write_plane.Goals as goal

@@ -1,7 +1,7 @@
 use Rattle.std.proofs.Common.{◌-◌, ◌≤◌}
 use Rattle.pbm_out.specs.Images.{image, image_rows}
-use Rattle.gathered_bytes.specs.Gathering.{gathered}
-use Rattle.gathered_bytes.proofs.Writing.{PutsSoFar}
+use Rattle.buffered_bytes.specs.Gathering.{gathered}
+use Rattle.buffered_bytes.proofs.Writing.{PutsSoFar}
 use Rattle.pbm_out.proofs.image.write_plane.Given as goal
 
 abbrev pub invariant-rows : goal.invariant-rows

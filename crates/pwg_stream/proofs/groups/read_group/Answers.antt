@@ -2,7 +2,7 @@ use Rattle.std.proofs.Common.{arith, ap, length, length-append}
 use Rattle.pwg_lines.specs.Reading.{form_of}
 use Rattle.pwg_laws.proofs.KindRows.{kind_row}
 use Rattle.pwg_stream.proofs.Grouping.{group_begin, group_ends, group_fed, group_refused, group_turn, group_whole, uses_fed, uses_kept}
-use Rattle.unread_bytes.proofs.Texts.{text_fed}
+use Rattle.buffered_bytes.proofs.Texts.{text_fed}
 use Rattle.pwg_stream.proofs.groups.read_group.Goals as goal
 
 pub returns-in-Line-clause-line : goal.returns-in-Line-clause-line

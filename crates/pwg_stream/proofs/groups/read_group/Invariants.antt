@@ -1,5 +1,5 @@
 use Rattle.std.proofs.Common.{◌≤◌}
-use Rattle.unread_bytes.specs.Text.{text_behind}
+use Rattle.buffered_bytes.specs.Text.{text_behind}
 use Rattle.pwg_stream.proofs.Grouping.{InGroup}
 use Rattle.pwg_stream.proofs.groups.read_group.Given as goal
 

@@ -1,6 +1,6 @@
 use Rattle.std.proofs.Common.{◌≡◌, List, ℕ, [], Option, None, Some, subst, sym, ◌++◌, append_assoc, ◌∙◌}
 use Rattle.weave_base.proofs.Parting.{on_err_anyway}
-use Rattle.unread_bytes.specs.Text.{UsesSome, text_behind}
+use Rattle.buffered_bytes.specs.Text.{UsesSome, text_behind}
 use Rattle.pwg_stream.proofs.reader.PageReader.begin.Goals as goal
 
 uses_left : (before now : Option (List ℕ)) (unread unread' : List ℕ) → unread ≡ []

@@ -1,7 +1,7 @@
 -- The text that a reader has before it, as bytes are read and used.
 use Rattle.std.proofs.Common.{◌≡◌, ℕ, List, ◌++◌, take, drop, Option, None, Some, sym, ap, ◌∙◌, append_assoc, take-append-drop}
 use Rattle.std.specs.Io.KnownBytes.{Consumes, Keeps}
-use Rattle.unread_bytes.specs.Text.{text_behind}
+use Rattle.buffered_bytes.specs.Text.{text_behind}
 
 -- a read keeps the text
 pub text_grown : (before now : Option (List ℕ)) (unread chunk : List ℕ) → Consumes before now chunk

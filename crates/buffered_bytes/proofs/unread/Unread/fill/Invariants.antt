@@ -1,7 +1,7 @@
 use Rattle.std.proofs.Common.{◌-◌, ◌≤◌, length}
 use Rattle.std.specs.Io.KnownBytes.{Keeps}
-use Rattle.unread_bytes.specs.Text.{text_behind}
-use Rattle.unread_bytes.proofs.unread.Unread.fill.Given as goal
+use Rattle.buffered_bytes.specs.Text.{text_behind}
+use Rattle.buffered_bytes.proofs.unread.Unread.fill.Given as goal
 
 abbrev pub invariant-reads : goal.invariant-reads
 invariant-reads g l = record {

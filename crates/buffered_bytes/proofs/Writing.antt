@@ -4,7 +4,7 @@ use Rattle.std.specs.Io.KnownBytes.{Appends}
 use Rattle.std.proofs.KnownBytes.{Appends-nil, Appends-trans}
 use Rattle.weave_base.specs.Parts.{AppendsPart}
 use Rattle.weave_base.proofs.Parting.{part_behind, part_of_front}
-use Rattle.gathered_bytes.specs.Gathering.{Writes}
+use Rattle.buffered_bytes.specs.Gathering.{Writes}
 
 -- Of this text the sink took the first part, and the rest is gathered.
 pub record GathersSoFar (old now : Option (List ℕ)) (text pending : List ℕ) : Type 0 where

@@ -1,7 +1,7 @@
 -- Bytes that are gathered before they are written.
 use Rattle.std.specs.Prelude.{◌≡◌, ℕ, List, ◌++◌, take, Option}
 use Rattle.std.specs.Io.KnownBytes.{Appends}
-use Rattle.gathered_bytes.specs.declared.gathered.Gathered.{Gathered}
+use Rattle.buffered_bytes.specs.declared.gathered.Gathered.{Gathered}
 
 -- the bytes that are gathered
 abbrev pub gathered : Gathered → List ℕ

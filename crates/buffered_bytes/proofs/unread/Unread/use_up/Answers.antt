@@ -1,6 +1,6 @@
 use Rattle.std.proofs.Common.{arith, ap, length, sym, ◌∙◌}
-use Rattle.unread_bytes.proofs.Filling.{unread-long, used_up}
-use Rattle.unread_bytes.proofs.unread.Unread.use_up.Goals as goal
+use Rattle.buffered_bytes.proofs.Filling.{unread-long, used_up}
+use Rattle.buffered_bytes.proofs.unread.Unread.use_up.Goals as goal
 
 pub returns : goal.returns
 returns c =

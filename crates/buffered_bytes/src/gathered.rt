@@ -7,7 +7,7 @@ ghost use Rattle.weave_base.specs.Parts.{AppendsPart};
 use weave_base::{Failed, Sink, put_all};
 
 /// The most bytes that are gathered.
-pub const ROOM: usize = 8192;
+pub const MOST_GATHERED: usize = 8192;
 
 /// Bytes that are gathered before they are written, so that a sink gets few writes. It takes no memory.
 #[derive(Drop)]
@@ -18,7 +18,7 @@ pub struct Gathered {
 }
 
 impl Gathered {
-    ghost use Rattle.gathered_bytes.specs.Gathering.{Passes, Writes, gathered};
+    ghost use Rattle.buffered_bytes.specs.Gathering.{Passes, Writes, gathered};
 
     /// No bytes.
     pub fn new() -> Gathered
@@ -26,7 +26,7 @@ impl Gathered {
         ensures len { result.len ≡ 0 }
     {
         Gathered {
-            bytes: [0; ROOM],
+            bytes: [0; MOST_GATHERED],
             len: 0,
         }
     }
@@ -50,7 +50,7 @@ impl Gathered {
         ensures part { OnErr result (AppendsPart (K.held k.old) (K.held k.new) (gathered self.old)) }
         ensures cause { HasCause (K.faults k.old) (K.faults k.new) result }
     {
-        if most <= ROOM - self.len {
+        if most <= MOST_GATHERED - self.len {
             return Ok(());
         }
         self.put(k)?;

@@ -3,10 +3,10 @@ use Rattle.std.proofs.lemmas.List.{with_items_is, places}
 use Rattle.std.specs.Vec.{with_items}
 use Rattle.std.specs.Io.KnownBytes.{Keeps}
 use borrow.Rule.Slice.PartMut.{put_mid}
-use Rattle.unread_bytes.specs.Text.{text_behind}
-use Rattle.unread_bytes.proofs.Filling.{unread_after}
-use Rattle.unread_bytes.proofs.Texts.{text_grown}
-use Rattle.unread_bytes.proofs.unread.Unread.more.Goals as goal
+use Rattle.buffered_bytes.specs.Text.{text_behind}
+use Rattle.buffered_bytes.proofs.Filling.{unread_after}
+use Rattle.buffered_bytes.proofs.Texts.{text_grown}
+use Rattle.buffered_bytes.proofs.unread.Unread.more.Goals as goal
 
 pub returns-clause-grown : goal.returns-clause-grown
 returns-clause-grown g c =

@@ -1,5 +1,5 @@
 //! The bytes that were taken of a source and are not yet used.
-ghost use Rattle.unread_bytes.specs.Text.{Grows, text_behind};
+ghost use Rattle.buffered_bytes.specs.Text.{Grows, text_behind};
 ghost use Rattle.std.specs.Io.KnownBytes.{IsAtEnd, Keeps};
 ghost use Rattle.std.specs.Prelude.{IfOk, List, OnErr, OnOk, [], drop, length, slice_index, take, vec_len, ℕ, ◌-◌, ◌<◌};
 ghost use Rattle.std.specs.Prelude.{◌≡◌, ◌≤◌};
@@ -10,7 +10,7 @@ use std::marker::Model;
 use weave_base::{Failed, Memory, Source};
 
 /// The most bytes that are kept.
-pub const ROOM: usize = 65536;
+pub const MOST_UNREAD: usize = 65536;
 
 /// The bytes that were taken of a source and are not yet used, in a buffer of fixed size. Contracts see their list.
 #[derive(Drop)]
@@ -43,7 +43,7 @@ impl Unread {
     pub fn make(alloc: Global) -> Result<Unread, Memory>
         ensures { IfOk result (λ u. u ≡ []) }
     {
-        let Ok(buffer) = vec![in alloc; 0; ROOM] else {
+        let Ok(buffer) = vec![in alloc; 0; MOST_UNREAD] else {
             return Err(Memory);
         };
         Ok(Unread {
@@ -53,10 +53,10 @@ impl Unread {
         })
     }
 
-    /// The bytes, at most `ROOM`.
+    /// The bytes, at most `MOST_UNREAD`.
     pub fn bytes(&self) -> &[u8]
         ensures bytes { result.now ≡ self.now }
-        ensures most { length result.now ≤ ROOM }
+        ensures most { length result.now ≤ MOST_UNREAD }
         ensures are { (k : ℕ) → slice_index result.now k < 256 }
     {
         between(&self.buffer, self.start, self.end)
@@ -72,7 +72,7 @@ impl Unread {
 
     /// Reads once, appends what came, and gives its length: 0 only at the end of the source.
     pub fn more<S: Source>(&mut self, s: &mut S) -> Result<usize, Failed>
-        requires { length self.old < ROOM }
+        requires { length self.old < MOST_UNREAD }
         ensures grown { IfOk result (Grows self.old self.new) }
         ensures end { IfOk result (λ count. count ≡ 0 → IsAtEnd (S.left s.new)) }
         ensures same { OnErr result (self.new ≡ self.old) }
@@ -89,7 +89,7 @@ impl Unread {
 
     /// Reads until there are `need` bytes or more, or the source is at its end.
     pub fn fill<S: Source>(&mut self, s: &mut S, need: usize) -> Result<(), Failed>
-        requires { need ≤ ROOM }
+        requires { need ≤ MOST_UNREAD }
         ensures end { OnOk result (length self.new < need → IsAtEnd (S.left s.new)) }
         ensures text { Keeps (text_behind self.old (S.left s.old)) (text_behind self.new (S.left s.new)) }
         ensures cause { HasCause (S.faults s.old) (S.faults s.new) result }
