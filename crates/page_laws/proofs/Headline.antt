@@ -5,7 +5,7 @@ use Rattle.diffusion_definitions.specs.Diffusion.{Table}
 use Rattle.escp2_definitions.specs.Commands.{CommandList, commands}
 use Rattle.escp2_definitions.specs.Commands.ListEnd.{Whole}
 use Rattle.escp2_definitions.specs.Machine.{Dot, Printed, Sheet, execute, execute_from, start, with_sheets}
-use Rattle.escp2_definitions.specs.Written.{Coding, IsCoding, canonical}
+use Rattle.escp2_definitions.specs.Written.{Coding, IsCoding}
 use Rattle.escp2_laws.proofs.Canonical.{canonical-codes}
 use Rattle.separation_definitions.specs.CanPrint.{ArePages, CanPrint}
 use Rattle.separation_definitions.specs.Windows.{wanted_by}
@@ -25,9 +25,9 @@ use Rattle.page_laws.proofs.Spelled.{AllSpoken, spoken-append}
 use Rattle.page_laws.proofs.Printed.{bytes-append, commands-spoken, layout_of, read, strokes-lie}
 use Rattle.page_laws.proofs.Weaving.{weave-fires}
 
--- rows by their canonical codes are coded
-pub canonical-coding : IsCoding canonical
-canonical-coding = inr (refl, canonical-codes)
+-- the rows of pages are coded
+pub page-coded : IsCoding page_coding
+page-coded = inr (refl, canonical-codes)
 
 -- the window of a page has a size that can be printed
 pub page-sized : (p : Printer) (k : Table) (page : Page)
@@ -108,4 +108,4 @@ pub pages-print : (p : Printer) (k : Table) (pages : List Page) → CanPrint p �
     → Prints p k pages (flat_map (λ page. page_bytes page p k) pages)
 unfolding page_bytes halftone_bytes
 pages-print p k pages can are = stroked-print page_coding
-    (weave p) p k pages can canonical-coding (λ page is. weave-fires p (halftone page p k) can) are
+    (weave p) p k pages can page-coded (λ page is. weave-fires p (halftone page p k) can) are

@@ -31,7 +31,7 @@ use Rattle.base_definitions.specs.Packed.{packed}
 use Rattle.page_laws.proofs.Firing.{fires_ink, header_of}
 use Rattle.page_laws.proofs.Pages.{fires_strokes, page_says}
 use Rattle.page_laws.proofs.Printed.{commands-spoken, layout_of, read}
-use Rattle.page_laws.proofs.Headline.{canonical-coding, page-sized}
+use Rattle.page_laws.proofs.Headline.{page-coded, page-sized}
 use Rattle.page_laws.proofs.Passes.{count_from-len}
 use Rattle.page_laws.proofs.Weaving.{weave-fires}
 
@@ -192,7 +192,7 @@ page-has p k page can is = record {
       omega (
         arith,
         strokes-have p h page_coding
-            (weave p h) page.form.height can canonical-coding (page-sized p k page can is) (weave-fires p h can) ink,
+            (weave p h) page.form.height can page-coded (page-sized p k page can is) (weave-fires p h can) ink,
         count_by-le-length (fires_with ink) (weave p h).list,
         many,
       );

@@ -3,9 +3,9 @@ ghost use Rattle.diffusion_definitions.specs.Diffusion.{Table};
 ghost use Rattle.escp2_definitions.specs.Commands.{commands};
 ghost use Rattle.escp2_definitions.specs.Machine.{Dot, is_at};
 ghost use Rattle.escp2_definitions.specs.Rasters.{ink_rasters};
-ghost use Rattle.escp2_definitions.specs.Written.{Coding, IsCoding, canonical, plain};
+ghost use Rattle.escp2_definitions.specs.Written.{Coding, IsCoding, plain};
 ghost use Rattle.page_definitions.specs.Dots.{Halftone, HasDots, dots_wanted, wanted};
-ghost use Rattle.page_definitions.specs.PageBytes.{halftone_bytes, page_bytes, weave};
+ghost use Rattle.page_definitions.specs.PageBytes.{halftone_bytes, page_bytes, page_coding, weave};
 ghost use Rattle.page_definitions.specs.Printing.{GivesSheet, HasPasses, HavePasses, Prints};
 ghost use Rattle.page_definitions.specs.Strokes.{Fires, Strokes, has_dot, strokes_bytes};
 ghost use Rattle.page_laws.specs.Sized.{Sized};
@@ -41,10 +41,10 @@ pub fn weave_fires()
     ensures { (p : Printer) (h : Halftone) → CanPrint p → Fires p h (weave p h) }
 {}
 
-/// Rows may be plain or coded by their canonical codes.
+/// Rows may be plain or coded, as those of pages are.
 pub fn rows_are_coded()
     ensures plain_rows { IsCoding plain }
-    ensures canonical_rows { IsCoding canonical }
+    ensures page_rows { IsCoding page_coding }
 {}
 
 /// The bytes of pages, one after another, are a job that prints them: a sheet for each page, with each dot that the

@@ -4,8 +4,8 @@
 
 ghost use Rattle.escp2_definitions.specs.Commands.{commands};
 ghost use Rattle.escp2_definitions.specs.Machine.{execute};
-ghost use Rattle.escp2_definitions.specs.Written.{canonical};
 ghost use Rattle.escp2_laws.specs.Examples.{three_nozzles};
+ghost use Rattle.page_definitions.specs.PageBytes.{page_coding};
 ghost use Rattle.page_definitions.specs.Strokes.{Fires, fired, strokes_bytes};
 ghost use Rattle.page_laws.specs.Shingles.{made_up, made_up_bytes, made_up_dots, shingles, shingles_bytes};
 ghost use Rattle.page_laws.specs.Shingles.{shingles_dots, two_black_rows};
@@ -21,7 +21,7 @@ pub fn worked_strokes_fire()
 /// The bytes of rows that are fired twice, and the dots of their strokes.
 pub fn shingled_rows_fire_even_and_odd_columns()
     ensures len { length shingles_bytes ≡ 142 }
-    ensures bytes { strokes_bytes canonical three_nozzles 8 2 12 shingles ≡ shingles_bytes }
+    ensures bytes { strokes_bytes page_coding three_nozzles 8 2 12 shingles ≡ shingles_bytes }
     ensures dots { fired three_nozzles shingles ≡ shingles_dots }
 {}
 
@@ -37,7 +37,7 @@ pub fn shingled_rows_are_printed()
 /// stroke without a dot is left out.
 pub fn rows_of_a_dead_nozzle_are_made_up()
     ensures len { length made_up_bytes ≡ 99 }
-    ensures bytes { strokes_bytes canonical three_nozzles 8 2 12 made_up ≡ made_up_bytes }
+    ensures bytes { strokes_bytes page_coding three_nozzles 8 2 12 made_up ≡ made_up_bytes }
     ensures dots { fired three_nozzles made_up ≡ made_up_dots }
 {}
 

@@ -4,7 +4,7 @@ use Rattle.std.proofs.Common.{map, drop, Option, Some, None, refl, sym, ◌∙�
 use Rattle.std.specs.List.{flat_map}
 use Rattle.std.proofs.lemmas.List.{drop_at, length-map, length-replicate, take_at}
 use Rattle.dot_planes.specs.Tables.{DotTable, dot}
-use Rattle.escp2_definitions.specs.Canonical.{canonical_row}
+use Rattle.page_definitions.specs.PageBytes.{page_coding}
 use Rattle.escp2_definitions.specs.Commands.{command_bytes, row_bytes}
 use Rattle.base_definitions.specs.Packed.{packed}
 use Rattle.escp2_definitions.specs.Written.{rows_apart}
@@ -45,21 +45,21 @@ rows-wide t plan place pass (nozzle ∷ nozzles) =
 
 -- the codes of rows, one by one
 abbrev pub codes_of : List (List Bool) → List ℕ
-codes_of rows = flat_map (λ row. canonical_row (packed row)) rows
+codes_of rows = flat_map (λ row. page_coding.code (packed row)) rows
 
 -- rows of one width, one after another, are cut into the rows again
 codes-apart : (width : ℕ) (rows : List (List Bool)) → AllWide width rows
-    → flat_map canonical_row (rows_apart (length rows) ((width + 7) / 8) (flat_map packed rows)) ≡ codes_of rows
+    → flat_map page_coding.code (rows_apart (length rows) ((width + 7) / 8) (flat_map packed rows)) ≡ codes_of rows
 codes-apart width [] wide = refl
 codes-apart width (row ∷ rows) wide =
     let bytes : ℕ = (width + 7) / 8 in
     let more : List ℕ = flat_map packed rows in
     let len : length (packed row) ≡ bytes = packed-len width row wide.0 in
-    ap (λ bs. canonical_row bs ++ flat_map canonical_row
+    ap (λ bs. page_coding.code bs ++ flat_map page_coding.code
     (rows_apart (length rows) bytes (drop bytes (packed row ++ more)))) (take_at (packed row) more bytes len)
-    ∙ ap (λ bs. canonical_row (packed row) ++ flat_map canonical_row (rows_apart (length rows) bytes bs))
+    ∙ ap (λ bs. page_coding.code (packed row) ++ flat_map page_coding.code (rows_apart (length rows) bytes bs))
     (drop_at (packed row) more bytes len)
-    ∙ ap (λ bs. canonical_row (packed row) ++ bs) (codes-apart width rows wide.1)
+    ∙ ap (λ bs. page_coding.code (packed row) ++ bs) (codes-apart width rows wide.1)
 
 -- ---- the commands of an ink
 
@@ -70,14 +70,14 @@ header_of header ink = (command_bytes (c.Colour ink) ++ command_bytes c.Return) 
 -- an ink that has a dot to fire
 fired-bytes : (header : RasterHead) (ink : Ink) (rows : List (List Bool))
     → has_dot rows ≡ true → header.c ≡ 1 → length rows ≡ header.m → AllWide header.n rows
-    → bytes_of canonical_row (rows_commands header ink rows) ≡ header_of header ink ++ codes_of rows
+    → bytes_of page_coding.code (rows_commands header ink rows) ≡ header_of header ink ++ codes_of rows
 fired-bytes header ink rows fires coded many wide =
     let raster : Spoken = record { command = c.Raster header; rows = flat_map packed rows } in
     let is_coded : (header.c == 0) ≡ false = ap (λ n. n == 0) coded in
-    let text : List ℕ = flat_map canonical_row (rows_apart header.m (row_bytes header) (flat_map packed rows)) in
+    let text : List ℕ = flat_map page_coding.code (rows_apart header.m (row_bytes header) (flat_map packed rows)) in
     let codes : text ≡ codes_of rows =
-    ap (λ n. flat_map canonical_row (rows_apart n (row_bytes header) (flat_map packed rows))) (sym many) ∙ codes-apart header.n rows wide in
-    ap (λ b. bytes_of canonical_row (if b then say (c.Colour ink) ∷ say c.Return ∷ raster ∷ [] else [])) fires
+    ap (λ n. flat_map page_coding.code (rows_apart n (row_bytes header) (flat_map packed rows))) (sym many) ∙ codes-apart header.n rows wide in
+    ap (λ b. bytes_of page_coding.code (if b then say (c.Colour ink) ∷ say c.Return ∷ raster ∷ [] else [])) fires
     ∙ ap (λ b. header_of header ink ++ ((if b then flat_map packed rows else text) ++ [])) is_coded
     ∙ ap (λ bs. header_of header ink ++ bs) (append-nil text ∙ codes)
 
@@ -91,7 +91,7 @@ pub record RowsSoFar (t : DotTable) (plan : Weaving) (place pass : ℕ) (whole o
 pub rows_begin : (t : DotTable) (plan : Weaving) (place pass : ℕ) (header : RasterHead) (ink : Ink) (old out : List ℕ) (left : ℕ)
     → has_dot (plane_rows t plan place pass) ≡ true → header.c ≡ 1 → header.m ≡ plan.nozzles → header.n ≡ t.width → left ≡ plan.nozzles
     → out ≡ old ++ header_of header ink
-    → RowsSoFar t plan place pass (old ++ bytes_of canonical_row (rows_commands header ink (plane_rows t plan place pass))) out 0 left
+    → RowsSoFar t plan place pass (old ++ bytes_of page_coding.code (rows_commands header ink (plane_rows t plan place pass))) out 0 left
 rows_begin t plan place pass header ink old out left fires coded nozzles columns all begun =
     let rows : List (List Bool) = plane_rows t plan place pass in
     let many : length rows ≡ header.m = length-map (count_from 0 plan.nozzles) (nozzle_plane_row t plan place pass)
@@ -108,15 +108,15 @@ rows_begin t plan place pass header ink old out left fires coded nozzles columns
 -- one more row is appended
 pub rows_step : (t : DotTable) (plan : Weaving) (place pass : ℕ) (whole out out' row : List ℕ) (nozzle left next : ℕ)
     → RowsSoFar t plan place pass whole out nozzle left → left ≡ suc next → row ≡ packed (nozzle_plane_row t plan place pass nozzle)
-    → out' ≡ out ++ canonical_row row → RowsSoFar t plan place pass whole out' (nozzle + 1) next
+    → out' ≡ out ++ page_coding.code row → RowsSoFar t plan place pass whole out' (nozzle + 1) next
 rows_step t plan place pass whole out out' row nozzle left next so_far more is appended =
     let f : ℕ → List Bool = nozzle_plane_row t plan place pass in
     let later : List ℕ = codes_of (map f (count_from (nozzle + 1) next)) in
     record {
       is = so_far.is
           ∙ ap (λ n. out ++ codes_of (map f (count_from nozzle n))) more
-          ∙ ap (λ bs. out ++ (canonical_row bs ++ later)) (sym is)
-          ∙ sym (append_assoc out (canonical_row row) later)
+          ∙ ap (λ bs. out ++ (page_coding.code bs ++ later)) (sym is)
+          ∙ sym (append_assoc out (page_coding.code row) later)
           ∙ ap (λ bs. bs ++ later) (sym appended);
     }
 
@@ -144,10 +144,10 @@ room_more len len' most left next bytes more room taken =
 
 -- the commands of an ink that has no dot
 pub none_fired : (header : RasterHead) (ink : Ink) (rows : List (List Bool)) (old : List ℕ) → has_dot rows ≡ false
-    → old ≡ old ++ bytes_of canonical_row (rows_commands header ink rows)
+    → old ≡ old ++ bytes_of page_coding.code (rows_commands header ink rows)
 none_fired header ink rows old none =
     let raster : Spoken = record { command = c.Raster header; rows = flat_map packed rows } in
-    sym (ap (λ b. old ++ bytes_of canonical_row (if b then say (c.Colour ink) ∷ say c.Return ∷ raster ∷ [] else [])) none ∙ append-nil old)
+    sym (ap (λ b. old ++ bytes_of page_coding.code (if b then say (c.Colour ink) ∷ say c.Return ∷ raster ∷ [] else [])) none ∙ append-nil old)
 
 -- the rasters of an ink
 pub none_counted : (header : RasterHead) (ink : Ink) (rows : List (List Bool))

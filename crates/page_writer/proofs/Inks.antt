@@ -6,10 +6,9 @@ use Rattle.std.specs.List.{flat_map, list_any}
 use Rattle.std.proofs.lemmas.Bool.{lt-ltb}
 use Rattle.std.proofs.Math.Bool.{or-false}
 use Rattle.dot_planes.specs.Tables.{DotTable, dot}
-use Rattle.escp2_definitions.specs.Canonical.{canonical_row}
 use Rattle.escp2_definitions.specs.declared.command.RasterHead.{RasterHead}
 use Rattle.page_definitions.specs.Dots.{Halftone}
-use Rattle.page_definitions.specs.PageBytes.{fired_row, pass_rows, pass_stroke}
+use Rattle.page_definitions.specs.PageBytes.{fired_row, page_coding, pass_rows, pass_stroke}
 use Rattle.page_definitions.specs.Strokes.{Spoken, bytes_of, fires, has_dot, ink_commands, inks_commands, raster_header}
 use Rattle.page_laws.proofs.Printed.{bytes-append}
 use Rattle.std.proofs.Math.Nat.{mul-le-mul}
@@ -80,8 +79,8 @@ drop-ink (i ∷ inks) (suc place) ink is = drop-ink inks place ink is
 
 -- The inks from a place on are left to append.
 pub record InksSoFar (p : Printer) (h : Halftone) (pass : ℕ) (old out : List ℕ) (rasters place : ℕ) : Type 0 where
-  pub items : old ++ bytes_of canonical_row (inks_commands p h.width 1 (pass_stroke p h pass))
-      ≡ out ++ bytes_of canonical_row (flat_map (ink_commands p h.width 1 (pass_stroke p h pass)) (drop place (inks_of p.inks)))
+  pub items : old ++ bytes_of page_coding.code (inks_commands p h.width 1 (pass_stroke p h pass))
+      ≡ out ++ bytes_of page_coding.code (flat_map (ink_commands p h.width 1 (pass_stroke p h pass)) (drop place (inks_of p.inks)))
   pub rasters_are : rasters_in (inks_commands p h.width 1 (pass_stroke p h pass))
       ≡ rasters + rasters_in (flat_map (ink_commands p h.width 1 (pass_stroke p h pass)) (drop place (inks_of p.inks)))
   pub fire : fires p (pass_stroke p h pass)
@@ -102,7 +101,7 @@ pub inks_step : (p : Printer) (plan : Weaving) (t : DotTable)
     (h : Halftone) (pass : ℕ) (old out out' : List ℕ) (header : RasterHead) (ink : Ink) (rasters place one : ℕ)
     → InksSoFar p h pass old out rasters place
     → Suits p plan t → Shows p t h → slice_get (inks_of p.inks) place ≡ Some ink → header ≡ raster_header p t.width 1
-    → out' ≡ out ++ bytes_of canonical_row (rows_commands header ink (plane_rows t plan place pass))
+    → out' ≡ out ++ bytes_of page_coding.code (rows_commands header ink (plane_rows t plan place pass))
     → one ≡ rasters_in (rows_commands header ink (plane_rows t plan place pass))
     → InksSoFar p h pass old out' (rasters + one) (place + 1)
 inks_step p plan t h pass old out out' header ink rasters place one so_far suits shows is header_is appended counted =
@@ -117,11 +116,11 @@ inks_step p plan t h pass old out out' header ink rasters place one so_far suits
     let has : Bool = list_any (λ ink. has_dot (pass_rows p h pass ink)) left in
     record {
       items = so_far.items
-          ∙ ap (λ inks. out ++ bytes_of canonical_row (flat_map job inks)) next
-          ∙ ap (λ bs. out ++ bs) (bytes-append canonical_row (job ink) (flat_map job left))
-          ∙ sym (append_assoc out (bytes_of canonical_row (job ink)) (bytes_of canonical_row (flat_map job left)))
-          ∙ ap (λ j. (out ++ bytes_of canonical_row j) ++ bytes_of canonical_row (flat_map job left)) first
-          ∙ ap (λ bs. bs ++ bytes_of canonical_row (flat_map job left)) (sym appended);
+          ∙ ap (λ inks. out ++ bytes_of page_coding.code (flat_map job inks)) next
+          ∙ ap (λ bs. out ++ bs) (bytes-append page_coding.code (job ink) (flat_map job left))
+          ∙ sym (append_assoc out (bytes_of page_coding.code (job ink)) (bytes_of page_coding.code (flat_map job left)))
+          ∙ ap (λ j. (out ++ bytes_of page_coding.code j) ++ bytes_of page_coding.code (flat_map job left)) first
+          ∙ ap (λ bs. bs ++ bytes_of page_coding.code (flat_map job left)) (sym appended);
       rasters_are = so_far.rasters_are
           ∙ ap (λ inks. rasters + rasters_in (flat_map job inks)) next
           ∙ ap (λ n. rasters + n) (rasters-append (job ink) (flat_map job left)
@@ -150,7 +149,7 @@ inks_end p h pass old out rasters place so_far all =
     let job : Ink → List Spoken = ink_commands p h.width 1 (pass_stroke p h pass) in
     let none : drop place (inks_of p.inks) ≡ [] = drop-all (inks_of p.inks) place all in
     record {
-      items = sym (so_far.items ∙ ap (λ inks. out ++ bytes_of canonical_row (flat_map job inks)) none ∙ append-nil out);
+      items = sym (so_far.items ∙ ap (λ inks. out ++ bytes_of page_coding.code (flat_map job inks)) none ∙ append-nil out);
       rasters_are = sym (so_far.rasters_are ∙ ap (λ inks. rasters + rasters_in (flat_map job inks)) none ∙ omega arith);
       fire = sym (so_far.fire ∙ ap (λ inks. nat_lt 0 rasters
           || list_any (λ ink. has_dot (pass_rows p h pass ink)) inks) none ∙ or-false (nat_lt 0 rasters));

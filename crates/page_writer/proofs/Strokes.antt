@@ -6,9 +6,8 @@ use Rattle.std.specs.Io.KnownBytes.{Appends}
 use Rattle.std.proofs.KnownBytes.{Appends-nil, Appends-trans}
 use Rattle.std.proofs.Math.Nat.{div-le_self, mul-le-mul_left, mul-le-mul_right}
 use Rattle.std.proofs.lemmas.Bool.{ltb-false}
-use Rattle.escp2_definitions.specs.Canonical.{canonical_row}
 use Rattle.page_definitions.specs.Dots.{Halftone}
-use Rattle.page_definitions.specs.PageBytes.{pass_stroke}
+use Rattle.page_definitions.specs.PageBytes.{page_coding, pass_stroke}
 use Rattle.page_definitions.specs.Strokes.{Spoken, Stroke, bytes_of, down_by, fires, inks_commands, strokes_commands}
 use Rattle.page_laws.proofs.Numbers.{pass-low, row_units-some}
 use Rattle.page_laws.proofs.Printed.{bytes-append}
@@ -37,8 +36,8 @@ down-rasters (suc n) = refl
 
 -- A pass among the passes from it on: its bytes and rasters, and those of the passes after it.
 record NextPass (p : Printer) (h : Halftone) (last pass next behind : ℕ) : Type 0 where
-  bytes : bytes_of canonical_row (strokes_from p h last pass (suc next))
-      ≡ pass_bytes p h pass (pass * p.nozzles - last) ++ bytes_of canonical_row (strokes_from p h behind (pass + 1) next)
+  bytes : bytes_of page_coding.code (strokes_from p h last pass (suc next))
+      ≡ pass_bytes p h pass (pass * p.nozzles - last) ++ bytes_of page_coding.code (strokes_from p h behind (pass + 1) next)
   rasters : rasters_in (strokes_from p h last pass (suc next))
       ≡ (if fires p (pass_stroke p h pass) then rasters_in (inks_commands p h.width 1 (pass_stroke p h pass)) else 0)
       + rasters_in (strokes_from p h behind (pass + 1) next)
@@ -69,13 +68,13 @@ next-pass p h last pass next behind is = by_fire (fires p (pass_stroke p h pass)
         ap (λ b. strokes_commands p h.width 1 last (cond b (stroke ∷ later) later)) e in
         let same : rest ≡ strokes_from p h behind (pass + 1) next = ap (λ n. strokes_commands p h.width 1 n later) (sym there) in
         record {
-          bytes = ap (bytes_of canonical_row) all
-              ∙ bytes-append canonical_row down (inks ++ rest)
-              ∙ ap (λ bs. bytes_of canonical_row down ++ bs) (bytes-append canonical_row inks rest)
-              ∙ sym (append_assoc (bytes_of canonical_row down) (bytes_of canonical_row inks) (bytes_of canonical_row rest))
-              ∙ ap (λ j. (bytes_of canonical_row down ++ bytes_of canonical_row inks) ++ bytes_of canonical_row j) same
-              ∙ ap (λ b. (if b then bytes_of canonical_row down ++ bytes_of canonical_row inks else [])
-              ++ bytes_of canonical_row (strokes_from p h behind (pass + 1) next)) (sym e);
+          bytes = ap (bytes_of page_coding.code) all
+              ∙ bytes-append page_coding.code down (inks ++ rest)
+              ∙ ap (λ bs. bytes_of page_coding.code down ++ bs) (bytes-append page_coding.code inks rest)
+              ∙ sym (append_assoc (bytes_of page_coding.code down) (bytes_of page_coding.code inks) (bytes_of page_coding.code rest))
+              ∙ ap (λ j. (bytes_of page_coding.code down ++ bytes_of page_coding.code inks) ++ bytes_of page_coding.code j) same
+              ∙ ap (λ b. (if b then bytes_of page_coding.code down ++ bytes_of page_coding.code inks else [])
+              ++ bytes_of page_coding.code (strokes_from p h behind (pass + 1) next)) (sym e);
           rasters = ap rasters_in all
               ∙ (let sum : rasters_in (down ++ (inks ++ rest)) ≡ rasters_in inks + rasters_in rest =
               omega (
@@ -93,9 +92,9 @@ next-pass p h last pass next behind is = by_fire (fires p (pass_stroke p h pass)
         ap (λ b. strokes_commands p h.width 1 last (cond b (stroke ∷ later) later)) e
         ∙ ap (λ n. strokes_commands p h.width 1 n later) (sym there) in
         record {
-          bytes = ap (bytes_of canonical_row) all
-              ∙ ap (λ b. (if b then bytes_of canonical_row down ++ bytes_of canonical_row inks else [])
-              ++ bytes_of canonical_row (strokes_from p h behind (pass + 1) next)) (sym e);
+          bytes = ap (bytes_of page_coding.code) all
+              ∙ ap (λ b. (if b then bytes_of page_coding.code down ++ bytes_of page_coding.code inks else [])
+              ++ bytes_of page_coding.code (strokes_from p h behind (pass + 1) next)) (sym e);
           rasters = ap rasters_in all
               ∙ (let sum : rasters_in (strokes_from p h behind (pass + 1) next)
               ≡ 0 + rasters_in (strokes_from p h behind (pass + 1) next) = omega arith in sum)
@@ -121,7 +120,7 @@ pub record PassesSoFar (old now : Option (List ℕ)) (p : Printer) (h : Halftone
   pub sent : List ℕ
   pub appends : Appends old now sent
   pub bytes_are : bytes ≡ length sent
-  pub is : bytes_of canonical_row (fired_strokes p h) ≡ sent ++ bytes_of canonical_row (strokes_from p h last pass left)
+  pub is : bytes_of page_coding.code (fired_strokes p h) ≡ sent ++ bytes_of page_coding.code (strokes_from p h last pass left)
   pub rasters_are : rasters_in (fired_strokes p h) ≡ rasters + rasters_in (strokes_from p h last pass left)
 
 -- no pass is written
@@ -131,7 +130,7 @@ passes_begin held p h left all = record {
   sent = [];
   appends = Appends-nil held;
   bytes_are = refl;
-  is = ap (λ n. bytes_of canonical_row (strokes_from p h 0 0 n)) (sym all);
+  is = ap (λ n. bytes_of page_coding.code (strokes_from p h 0 0 n)) (sym all);
   rasters_are = ap (λ n. rasters_in (strokes_from p h 0 0 n)) (sym all) ∙ omega arith;
 }
 
@@ -147,13 +146,13 @@ passes_step old now now' p h bytes rasters last pass left next behind down done 
     next-pass p h last pass next behind (there ∙ ap (λ b. if b then pass * p.nozzles else last) sum.fire) in
     let out : List ℕ = so_far.sent in
     let text : List ℕ = pass_bytes p h pass down in
-    let later : List ℕ = bytes_of canonical_row (strokes_from p h behind (pass + 1) next) in
+    let later : List ℕ = bytes_of page_coding.code (strokes_from p h behind (pass + 1) next) in
     record {
       sent = out ++ text;
       appends = Appends-trans old now now' out text so_far.appends appended;
       bytes_are = omega (arith, so_far.bytes_are, sum.bytes, length-append out text);
       is = so_far.is
-          ∙ ap (λ n. out ++ bytes_of canonical_row (strokes_from p h last pass n)) more
+          ∙ ap (λ n. out ++ bytes_of page_coding.code (strokes_from p h last pass n)) more
           ∙ ap (λ bs. out ++ bs) step.bytes
           ∙ ap (λ n. out ++ (pass_bytes p h pass n ++ later)) (sym down_is)
           ∙ sym (append_assoc out text later);
@@ -169,16 +168,16 @@ passes_step old now now' p h bytes rasters last pass left next behind down done 
 pub passes_part : (old now now' : Option (List ℕ)) (p : Printer) (h : Halftone) (bytes rasters last pass left next down : ℕ)
     → PassesSoFar old now p h bytes rasters last pass left
     → left ≡ suc next → down ≡ pass * p.nozzles - last → AppendsPart now now' (pass_bytes p h pass down)
-    → AppendsPart old now' (bytes_of canonical_row (fired_strokes p h))
+    → AppendsPart old now' (bytes_of page_coding.code (fired_strokes p h))
 passes_part old now now' p h bytes rasters last pass left next down so_far more down_is part =
     let behind : ℕ = if fires p (pass_stroke p h pass) then pass * p.nozzles else last in
     let step : NextPass p h last pass next behind = next-pass p h last pass next behind refl in
     let out : List ℕ = so_far.sent in
     let text : List ℕ = pass_bytes p h pass down in
-    let later : List ℕ = bytes_of canonical_row (strokes_from p h behind (pass + 1) next) in
-    let whole : bytes_of canonical_row (fired_strokes p h) ≡ out ++ (text ++ later) =
+    let later : List ℕ = bytes_of page_coding.code (strokes_from p h behind (pass + 1) next) in
+    let whole : bytes_of page_coding.code (fired_strokes p h) ≡ out ++ (text ++ later) =
     so_far.is
-    ∙ ap (λ n. out ++ bytes_of canonical_row (strokes_from p h last pass n)) more
+    ∙ ap (λ n. out ++ bytes_of page_coding.code (strokes_from p h last pass n)) more
     ∙ ap (λ bs. out ++ bs) step.bytes
     ∙ ap (λ n. out ++ (pass_bytes p h pass n ++ later)) (sym down_is) in
     let P : List ℕ → Type 0 = AppendsPart old now' in
@@ -188,14 +187,14 @@ passes_part old now now' p h bytes rasters last pass left next down so_far more 
 pub passes_end : (old now : Option (List ℕ)) (p : Printer) (h : Halftone) (bytes rasters last pass left : ℕ)
     → PassesSoFar old now p h bytes rasters last pass left → left ≡ 0
     → record {
-      ok : Appends old now (bytes_of canonical_row (fired_strokes p h));
+      ok : Appends old now (bytes_of page_coding.code (fired_strokes p h));
       bytes : bytes
-          ≡ length (bytes_of canonical_row (fired_strokes p h));
+          ≡ length (bytes_of page_coding.code (fired_strokes p h));
       rasters : rasters ≡ rasters_in (fired_strokes p h);
     }
 passes_end old now p h bytes rasters last pass left so_far none =
-    let whole : bytes_of canonical_row (fired_strokes p h) ≡ so_far.sent =
-    so_far.is ∙ ap (λ n. so_far.sent ++ bytes_of canonical_row (strokes_from p h last pass n)) none ∙ append-nil so_far.sent in
+    let whole : bytes_of page_coding.code (fired_strokes p h) ≡ so_far.sent =
+    so_far.is ∙ ap (λ n. so_far.sent ++ bytes_of page_coding.code (strokes_from p h last pass n)) none ∙ append-nil so_far.sent in
     let P : List ℕ → Type 0 = Appends old now in
     record {
       ok = subst P (sym whole) so_far.appends;

@@ -6,10 +6,9 @@ use Rattle.std.specs.Io.KnownBytes.{Appends}
 use Rattle.std.proofs.KnownBytes.{Appends-trans}
 use Rattle.std.proofs.Math.Nat.{mul-le-mul_left, mul-le-mul_right}
 use Rattle.dot_planes.specs.Tables.{DotTable, dot}
-use Rattle.escp2_definitions.specs.Canonical.{canonical_row}
 use Rattle.escp2_definitions.specs.declared.command.Command.TheVariants as c
 use Rattle.page_definitions.specs.Dots.{Halftone}
-use Rattle.page_definitions.specs.PageBytes.{halftone_bytes}
+use Rattle.page_definitions.specs.PageBytes.{halftone_bytes, page_coding}
 use Rattle.page_definitions.specs.Strokes.{Spoken, bytes_of, prologue, say}
 use Rattle.page_laws.specs.Sized.{Sized}
 use Rattle.page_laws.proofs.Lengths.{halftone-short}
@@ -37,7 +36,7 @@ use Rattle.page_writer.proofs.Inks.{rasters-append}
 
 -- the bytes before the passes, on a sheet of this length, of which the part from top to bottom is printed
 abbrev pub begin_bytes : ℕ → ℕ → ℕ → List ℕ
-begin_bytes len top bottom = bytes_of canonical_row (
+begin_bytes len top bottom = bytes_of page_coding.code (
     say c.Init ∷ say c.Graphics ∷ say (c.Unit 5) ∷ say (c.MicroWeave 0) ∷ say (c.OneWay 1)
     ∷ say (c.Length len) ∷ say (c.Margins top bottom) ∷ say (c.DownTo 0) ∷ [])
 
@@ -47,11 +46,11 @@ end_commands = say c.Eject ∷ say c.Init ∷ []
 
 -- the bytes of the passes, and those after them
 abbrev pub strokes_bytes : Printer → Halftone → List ℕ
-strokes_bytes p h = bytes_of canonical_row (fired_strokes p h)
+strokes_bytes p h = bytes_of page_coding.code (fired_strokes p h)
 
 -- the bytes after the passes
 abbrev pub end_bytes : List ℕ
-end_bytes = bytes_of canonical_row (say c.Eject ∷ say c.Init ∷ [])
+end_bytes = bytes_of page_coding.code (say c.Eject ∷ say c.Init ∷ [])
 
 -- the bytes of a page are those of its parts
 pub page_is : (p : Printer) (h : Halftone) (len length top bottom : ℕ)
@@ -60,8 +59,8 @@ pub page_is : (p : Printer) (h : Halftone) (len length top bottom : ℕ)
 unfolding halftone_bytes
 page_is p h len length top bottom length_is top_is bottom_is =
     let first : List Spoken = prologue p (head_rows p) h.height len in
-    bytes-append canonical_row first (fired_strokes p h ++ end_commands)
-    ∙ ap (λ bs. bytes_of canonical_row first ++ bs) (bytes-append canonical_row (fired_strokes p h) end_commands)
+    bytes-append page_coding.code first (fired_strokes p h ++ end_commands)
+    ∙ ap (λ bs. bytes_of page_coding.code first ++ bs) (bytes-append page_coding.code (fired_strokes p h) end_commands)
     ∙ sym (ap (λ n. begin_bytes n top bottom ++ (strokes_bytes p h ++ end_bytes)) length_is
     ∙ ap (λ n. begin_bytes len n bottom ++ (strokes_bytes p h ++ end_bytes)) top_is
     ∙ ap (λ n. begin_bytes len ((p.top - head_rows p) * row_units p) n ++ (strokes_bytes p h ++ end_bytes)) bottom_is)

@@ -1,5 +1,5 @@
 //! One ink of a pass.
-ghost use Rattle.escp2_definitions.specs.Canonical.{canonical_row};
+ghost use Rattle.page_definitions.specs.PageBytes.{page_coding};
 ghost use Rattle.page_definitions.specs.Strokes.{bytes_of};
 ghost use Rattle.page_writer.specs.Rows.{plane_rows, rows_commands};
 ghost use Rattle.page_writer.specs.Sums.{rasters_in};
@@ -35,7 +35,7 @@ pub fn append_ink(
     ensures rasters { result ≡ rasters_in (rows_commands header ink (plane_rows planes.now plan.now place pass)) }
     ensures few { result ≤ 1 }
     ensures items { out.new.items ≡ out.old.items
-        ++ bytes_of canonical_row (rows_commands header ink (plane_rows planes.now plan.now place pass)) }
+        ++ bytes_of page_coding.code (rows_commands header ink (plane_rows planes.now plan.now place pass)) }
     ensures most { vec_len out.new ≤ vec_len out.old + (12 + 2 * header.m * ((header.n + 7) / 8)) }
     ensures capacity { vec_capacity out.old ≤ vec_capacity out.new }
 {

@@ -1,7 +1,6 @@
 //! A whole page.
-ghost use Rattle.escp2_definitions.specs.Canonical.{canonical_row};
 ghost use Rattle.page_definitions.specs.Dots.{Halftone};
-ghost use Rattle.page_definitions.specs.PageBytes.{halftone_bytes};
+ghost use Rattle.page_definitions.specs.PageBytes.{halftone_bytes, page_coding};
 ghost use Rattle.page_definitions.specs.Strokes.{bytes_of};
 ghost use Rattle.page_writer.specs.Passes.{fired_strokes};
 ghost use Rattle.page_writer.specs.Suits.{Shows, Suits, plan_of};
@@ -57,13 +56,13 @@ fn put_passes<K: Sink>(
     requires sheet { (p.now.top + planes.now.rows) * row_units_of (printer_of p.now) ≤ most_rows }
     requires room { most_of_pass_of (printer_of p.now) planes.now.width ≤ vec_capacity out.old }
     ensures ok { (h : Halftone) → Shows (printer_of p.now) planes.now h → OnOk result
-        (Appends (K.held k.old) (K.held k.new) (bytes_of canonical_row (fired_strokes (printer_of p.now) h))) }
+        (Appends (K.held k.old) (K.held k.new) (bytes_of page_coding.code (fired_strokes (printer_of p.now) h))) }
     ensures bytes { (h : Halftone) → Shows (printer_of p.now) planes.now h → IfOk result
-        (λ sum. sum.bytes ≡ length (bytes_of canonical_row (fired_strokes (printer_of p.now) h))) }
+        (λ sum. sum.bytes ≡ length (bytes_of page_coding.code (fired_strokes (printer_of p.now) h))) }
     ensures rasters { (h : Halftone) → Shows (printer_of p.now) planes.now h → IfOk result
         (λ sum. sum.rasters ≡ rasters_in (fired_strokes (printer_of p.now) h)) }
     ensures part { (h : Halftone) → Shows (printer_of p.now) planes.now h → OnErr result
-        (AppendsPart (K.held k.old) (K.held k.new) (bytes_of canonical_row (fired_strokes (printer_of p.now) h))) }
+        (AppendsPart (K.held k.old) (K.held k.new) (bytes_of page_coding.code (fired_strokes (printer_of p.now) h))) }
     ensures cause { HasCause (K.faults k.old) (K.faults k.new) result }
     ensures most { IfOk result (λ sum. sum.bytes ≤ 33620607410) }
     ensures capacity { vec_capacity out.old ≤ vec_capacity out.new }

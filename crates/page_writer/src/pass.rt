@@ -1,7 +1,6 @@
 //! A pass of the head over a page's window.
-ghost use Rattle.escp2_definitions.specs.Canonical.{canonical_row};
 ghost use Rattle.page_definitions.specs.Dots.{Halftone};
-ghost use Rattle.page_definitions.specs.PageBytes.{pass_stroke};
+ghost use Rattle.page_definitions.specs.PageBytes.{page_coding, pass_stroke};
 ghost use Rattle.page_definitions.specs.Strokes.{bytes_of, down_by, fires, inks_commands};
 ghost use Rattle.page_writer.specs.Passes.{IsPass, IsPassSum, pass_bytes};
 ghost use Rattle.page_writer.specs.Suits.{Shows, Suits};
@@ -28,7 +27,7 @@ use weave_plan::Plan;
 /// Appends a step down by this many units; nothing for 0.
 fn append_step(units: u16, out: &mut Vec<u8>)
     requires { vec_len out.old + 7 ≤ vec_capacity out.old }
-    ensures items { out.new.items ≡ out.old.items ++ bytes_of canonical_row (down_by units) }
+    ensures items { out.new.items ≡ out.old.items ++ bytes_of page_coding.code (down_by units) }
     ensures most { vec_len out.new ≤ vec_len out.old + 7 }
     ensures capacity { vec_capacity out.old ≤ vec_capacity out.new }
 {

@@ -1,5 +1,5 @@
 //! The commands before and after the passes of a page.
-ghost use Rattle.escp2_definitions.specs.Canonical.{canonical_row};
+ghost use Rattle.page_definitions.specs.PageBytes.{page_coding};
 ghost use Rattle.escp2_definitions.specs.declared.command.Command.TheVariants as c;
 ghost use Rattle.page_definitions.specs.Strokes.{bytes_of, say};
 ghost use Rattle.std.specs.Prelude.{[], vec_capacity, vec_len, ◌++◌, ◌+◌, ◌∷◌, ◌≡◌, ◌≤◌};
@@ -10,7 +10,7 @@ use escp2_writer::{Command, append_header};
 /// Appends the commands before the passes, 46 bytes.
 pub fn append_prologue(sheet: Sheet, out: &mut Vec<u8>)
     requires { vec_len out.old + 46 ≤ vec_capacity out.old }
-    ensures items { out.new.items ≡ out.old.items ++ bytes_of canonical_row (
+    ensures items { out.new.items ≡ out.old.items ++ bytes_of page_coding.code (
         say c.Init ∷ say c.Graphics ∷ say (c.Unit 5) ∷ say (c.MicroWeave 0) ∷ say (c.OneWay 1)
         ∷ say (c.Length sheet.length) ∷ say (c.Margins sheet.top sheet.bottom) ∷ say (c.DownTo 0) ∷ []) }
     ensures len { vec_len out.new ≡ vec_len out.old + 46 }
@@ -35,7 +35,7 @@ pub fn append_prologue(sheet: Sheet, out: &mut Vec<u8>)
 /// Appends the commands after the passes, 3 bytes.
 pub fn append_end(out: &mut Vec<u8>)
     requires { vec_len out.old + 3 ≤ vec_capacity out.old }
-    ensures items { out.new.items ≡ out.old.items ++ bytes_of canonical_row (say c.Eject ∷ say c.Init ∷ []) }
+    ensures items { out.new.items ≡ out.old.items ++ bytes_of page_coding.code (say c.Eject ∷ say c.Init ∷ []) }
     ensures len { vec_len out.new ≡ vec_len out.old + 3 }
     ensures capacity { vec_capacity out.old ≤ vec_capacity out.new }
 {

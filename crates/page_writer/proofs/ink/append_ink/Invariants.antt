@@ -1,5 +1,5 @@
 use Rattle.std.proofs.Common.{◌-◌, ◌+◌, ◌*◌, ◌/◌, ◌≤◌, ◌++◌, vec_capacity, vec_len}
-use Rattle.escp2_definitions.specs.Canonical.{canonical_row}
+use Rattle.page_definitions.specs.PageBytes.{page_coding}
 use Rattle.page_definitions.specs.Strokes.{bytes_of}
 use Rattle.page_writer.specs.Rows.{plane_rows, rows_commands}
 use Rattle.page_writer.proofs.Fires.{RowsSoFar}
@@ -8,7 +8,7 @@ use Rattle.page_writer.proofs.ink.append_ink.Given as goal
 abbrev pub invariant-rows : goal.invariant-rows
 invariant-rows l = record {
   so_far : RowsSoFar l.planes l.plan l.place l.pass
-      (l.fn.out.items ++ bytes_of canonical_row (rows_commands l.fn.header l.fn.ink
+      (l.fn.out.items ++ bytes_of page_coding.code (rows_commands l.fn.header l.fn.ink
       (plane_rows l.planes l.plan l.place l.pass))) l.out.items l.nozzle (l.fn.header.m - l.nozzle);
   room : vec_len l.out + 2 * (l.fn.header.m - l.nozzle) * ((l.fn.header.n + 7) / 8) ≤ vec_capacity l.out;
   most : vec_len l.out + 2 * (l.fn.header.m - l.nozzle) * ((l.fn.header.n + 7) / 8)
