@@ -14,6 +14,3 @@ pub use escp2_definitions::{EmuFault, JobCause, JobStop};
 pub use job_profile::ProfileCause;
 pub use job_words::{UsageCause, UsageFault};
 pub use printer_profile::{ProfileFault, TextCause};
-
-#[cfg(test)]
-mod tests;

@@ -12,15 +12,15 @@ usage: driver_program print [profile=NAME] [kernel=NAME] [workers=NUMBER] [cap=N
 
 print    reads pages from standard input (PWG Raster, PWG 5102.4; 8-bit grey, 8-bit black, 8-bit RGB),
          separates and diffuses each, and writes their job to standard output
-dots     reads a job from standard input, runs it on the profile's printer, and writes four plain images of each
-         sheet (PBM, kind P4): black, cyan, magenta and yellow
+dots     reads a job from standard input, runs it on the profile's printer, and writes four images of each
+         sheet (raw PBM, kind P4): black, cyan, magenta and yellow
 list     reads a job from standard input, and writes a line for each command
 profile  writes the text of a profile to standard output
 
 profile=NAME    tiny1, tiny, p360k, p360cmyk, p720cmyk, or a file of the current folder
                 (default p360cmyk)
 kernel=NAME     fs (Floyd and Steinberg), jjn (Jarvis, Judice and Ninke) or stucki (default fs)
-workers=NUMBER  1 to 64 (default 1): so many threads diffuse each 256 rows of a page; the job is the same for each number
+workers=NUMBER  1 to 64 (default 1): so many threads diffuse each slab of up to 256 rows; the job is the same for each number
 cap=NUMBER      the most dots that the job may print, all inks together (default: no limit): a kiosk's quota,
                 or what is left in a label desk's cartridge; a page that would go past it is not printed,
                 and ends the job

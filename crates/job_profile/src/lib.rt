@@ -10,8 +10,6 @@
 
 mod finding;
 mod stops;
-#[cfg(test)]
-mod tests;
 
 pub use finding::find_profile;
 pub use printer_profile::Profile;

@@ -17,6 +17,3 @@ pub use reading::{Job, profile_name, read_words};
 pub use table::Verb;
 pub use usage::{UsageCause, UsageFault};
 pub use weave_base::Words;
-
-#[cfg(test)]
-mod tests;

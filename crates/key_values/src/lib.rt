@@ -9,6 +9,3 @@ mod pairs;
 pub use laws::written_number_is_read;
 pub use numbers::number_within;
 pub use pairs::{cut_at, cut_word};
-
-#[cfg(test)]
-mod tests;

@@ -1,6 +1,6 @@
 //! The keys of a profile's text, in one table: place, name, and whether a text must have them.
 ghost use Rattle.printer_profile.specs.Keys.{name_at};
-ghost use Rattle.std.specs.Prelude.{◌≡◌, ◌≤◌, length};
+ghost use Rattle.std.specs.Prelude.{false, length, true, ◌≡◌, ◌≤◌};
 
 /// A key of a profile's text.
 #[derive(Clone, Copy)]
@@ -19,6 +19,38 @@ pub(crate) enum Key {
     Right,
     Top,
     Bottom,
+}
+
+// What a text says of a key: its place in the table, its name, and whether a text must have it.
+#[derive(Clone, Copy)]
+struct Row {
+    place: u8,
+    name: &'static str,
+    required: bool,
+}
+
+fn required(place: u8, name: &'static str) -> Row
+    ensures place { result.place ≡ place }
+    ensures name { result.name.now ≡ name.now }
+    ensures required { result.required ≡ true }
+{
+    Row {
+        place,
+        name,
+        required: true,
+    }
+}
+
+fn optional(place: u8, name: &'static str) -> Row
+    ensures place { result.place ≡ place }
+    ensures name { result.name.now ≡ name.now }
+    ensures required { result.required ≡ false }
+{
+    Row {
+        place,
+        name,
+        required: false,
+    }
 }
 
 impl Key {
@@ -42,60 +74,54 @@ impl Key {
         Key::Bottom,
     ];
 
+    // The key's row of the table.
+    fn row(self) -> Row
+        ensures place { result.place ≡ (row_of self).place }
+        ensures name { result.name.now ≡ (row_of self).name }
+        ensures required { result.required ≡ (row_of self).required }
+        ensures least { 1 ≤ result.place }
+        ensures most { result.place ≤ 14 }
+        ensures len { length result.name.now ≤ 11 }
+    {
+        match self {
+            Key::Hdpi => required(1, "hdpi"),
+            Key::Vdpi => required(2, "vdpi"),
+            Key::Nozzles => required(3, "nozzles"),
+            Key::Pitch => required(4, "pitch"),
+            Key::Inks => required(5, "inks"),
+            Key::BlackStart => optional(6, "black_start"),
+            Key::LimitBlack => optional(7, "limit_k"),
+            Key::LimitCyan => optional(8, "limit_c"),
+            Key::LimitMagenta => optional(9, "limit_m"),
+            Key::LimitYellow => optional(10, "limit_y"),
+            Key::Left => optional(11, "left"),
+            Key::Right => optional(12, "right"),
+            Key::Top => optional(13, "top"),
+            Key::Bottom => optional(14, "bottom"),
+        }
+    }
+
     // The key's place in the table, counted from 1.
     pub(crate) fn place(self) -> u8
         ensures place { result ≡ (row_of self).place }
         ensures least { 1 ≤ result }
         ensures most { result ≤ 14 }
     {
-        match self {
-            Key::Hdpi => 1,
-            Key::Vdpi => 2,
-            Key::Nozzles => 3,
-            Key::Pitch => 4,
-            Key::Inks => 5,
-            Key::BlackStart => 6,
-            Key::LimitBlack => 7,
-            Key::LimitCyan => 8,
-            Key::LimitMagenta => 9,
-            Key::LimitYellow => 10,
-            Key::Left => 11,
-            Key::Right => 12,
-            Key::Top => 13,
-            Key::Bottom => 14,
-        }
+        self.row().place
     }
 
     pub(crate) fn name(self) -> &'static str
         ensures name { result.now ≡ (row_of self).name }
         ensures len { length result.now ≤ 11 }
     {
-        match self {
-            Key::Hdpi => "hdpi",
-            Key::Vdpi => "vdpi",
-            Key::Nozzles => "nozzles",
-            Key::Pitch => "pitch",
-            Key::Inks => "inks",
-            Key::BlackStart => "black_start",
-            Key::LimitBlack => "limit_k",
-            Key::LimitCyan => "limit_c",
-            Key::LimitMagenta => "limit_m",
-            Key::LimitYellow => "limit_y",
-            Key::Left => "left",
-            Key::Right => "right",
-            Key::Top => "top",
-            Key::Bottom => "bottom",
-        }
+        self.row().name
     }
 
     // Whether a text must have the key.
     pub(crate) fn is_required(self) -> bool
         ensures { result ≡ (row_of self).required }
     {
-        match self {
-            Key::Hdpi | Key::Vdpi | Key::Nozzles | Key::Pitch | Key::Inks => true,
-            _ => false,
-        }
+        self.row().required
     }
 
     // The key at a place of the table.

@@ -24,8 +24,6 @@ mod lines;
 mod printing;
 mod reading;
 mod setting;
-#[cfg(test)]
-mod tests;
 mod validity;
 mod values;
 
