@@ -43,6 +43,3 @@ pub use printer_definitions::{Ink, InkCounts, InkSet};
 pub use shelf::{Found, Shelf, ShelfStop};
 pub use sink::{Sink, put_all};
 pub use source::Source;
-
-#[cfg(test)]
-mod tests;

@@ -1,0 +1,69 @@
+//! Sources in memory and of std.
+use crate::checks::same;
+use std::alloc::Global;
+use std::io;
+use std::io::{ErrorKind, Read};
+use std::process::Abort;
+use std::test::Fail;
+use weave_base::{Failed, MemSource, Source, StdSource};
+
+// What a read is to answer, and the whole buffer after it.
+type Wanted = (Result<usize, Failed>, [u8; 4]);
+
+// Reads into a buffer of four bytes for each row.
+fn reads<S: Source>(rt: &impl Abort, source: &mut S, rows: &[Wanted]) {
+    let mut buffer = [0; 4];
+    for wanted in rows {
+        let got = source.read(&mut buffer);
+        same(rt, "a read", &(got, buffer), wanted);
+    }
+}
+
+// A source of the bytes 7 and 8: whether it gives one byte a call, and whether its first call fails.
+fn source(alloc: Global, is_slow: bool, fails: bool) -> Result<MemSource, Fail> {
+    let mut pieces = Vec::new(alloc);
+    if is_slow {
+        pieces.push(1)?;
+    }
+    let mut failing = Vec::new(alloc);
+    if fails {
+        failing.push(1)?;
+    }
+    Ok(MemSource::make(vec![in alloc; 7, 8]?, pieces, failing))
+}
+
+#[test]
+fn a_source_gives_one_byte_a_call(rt: HostRuntime) -> Result<(), Fail> {
+    const ROWS: [Wanted; 3] = [
+        (Ok(1), [7, 0, 0, 0]),
+        (Ok(1), [8, 0, 0, 0]),
+        (Ok(0), [8, 0, 0, 0]),
+    ];
+    reads(&rt, &mut source(rt.alloc(), true, false)?, &ROWS);
+    Ok(())
+}
+
+#[test]
+fn a_source_fails_its_first_call_and_loses_nothing(rt: HostRuntime) -> Result<(), Fail> {
+    const ROWS: [Wanted; 2] = [(Err(Failed), [0; 4]), (Ok(2), [7, 8, 0, 0])];
+    reads(&rt, &mut source(rt.alloc(), false, true)?, &ROWS);
+    Ok(())
+}
+
+// A reader that always fails.
+#[derive(Drop)]
+struct Broken;
+
+impl Read for Broken {
+    fn read(&mut self, _buf: &mut [u8]) -> io::Result<usize> {
+        Err(io::Error::from(ErrorKind::BrokenPipe))
+    }
+}
+
+#[test]
+fn a_std_reader_is_a_source(rt: HostRuntime) {
+    let bytes: &[u8] = &[7, 8];
+    const ROWS: [Wanted; 2] = [(Ok(2), [7, 8, 0, 0]), (Ok(0), [7, 8, 0, 0])];
+    reads(&rt, &mut StdSource::make(bytes), &ROWS);
+    reads(&rt, &mut StdSource::make(Broken), &[(Err(Failed), [0; 4])]);
+}
