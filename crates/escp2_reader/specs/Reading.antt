@@ -14,6 +14,10 @@ use Rattle.escp2_reader.specs.Stages.{Stands, is_failed_at, rows_at}
 abbrev pub StandsFor : JobReader → List ℕ → Type 0
 StandsFor reader sofar = Stands reader.stage reader.begin reader.next reader.rows.items sofar
 
+-- the offset of the first byte after the last command
+abbrev pub begin_of : JobReader → ℕ
+begin_of reader = reader.begin
+
 -- how many bytes were fed
 abbrev pub fed_of : JobReader → ℕ
 fed_of reader = reader.next
@@ -50,7 +54,7 @@ OnFault (heard.Fault offset cause) P = P
 pub record HeardMore (begin : ℕ) (new : JobReader) (bytes : List ℕ) : Type 0 where
   pub part : command_at bytes ≡ Part
   pub stands : StandsFor new bytes
-  pub begins : new.begin ≡ begin
+  pub begins : begin_of new ≡ begin
   pub none : rows_of new ≡ []
 
 -- The bytes since the last command are a command, whatever follows, and the next one begins after them.
@@ -58,14 +62,14 @@ pub record HeardOne (begin : ℕ) (command : Command) (new : JobReader) (bytes :
   pub whole : (rest : List ℕ) → command_at (bytes ++ rest) ≡ One command (rows_of new) (length bytes)
   pub spelled : Spells command (rows_of new) bytes
   pub stands : StandsFor new []
-  pub begins : new.begin ≡ begin + length bytes
+  pub begins : begin_of new ≡ begin + length bytes
 
 -- The bytes since the last command have a fault, whatever follows.
 pub record HeardFault (begin offset : ℕ) (cause : JobCause) (new : JobReader) (bytes : List ℕ) : Type 0 where
   pub behind : begin ≤ offset
   pub wrong : (rest : List ℕ) → command_at (bytes ++ rest) ≡ Wrong (offset - begin) cause
   pub stands : StandsFor new bytes
-  pub begins : new.begin ≡ begin
+  pub begins : begin_of new ≡ begin
   pub none : rows_of new ≡ []
 
 -- what an answer means for the bytes since the last command, which began at this offset

@@ -83,8 +83,8 @@ pub struct JobReader {
 
 impl JobReader {
     ghost use Rattle.escp2_reader.specs.Stages.{Stands};
-    ghost use Rattle.escp2_reader.specs.Reading.{BeginsRows, IsHeard, OnFault, OnMore, ShowsLast, StandsFor, fed_of};
-    ghost use Rattle.escp2_reader.specs.Reading.{is_failed_of, rows_of, shows_fault};
+    ghost use Rattle.escp2_reader.specs.Reading.{BeginsRows, IsHeard, OnFault, OnMore, ShowsLast, StandsFor, begin_of};
+    ghost use Rattle.escp2_reader.specs.Reading.{fed_of, is_failed_of, rows_of, shows_fault};
 
     /// A reader of a job from its first byte on.
     pub fn make(alloc: Global) -> Result<JobReader, Memory>
@@ -114,7 +114,7 @@ impl JobReader {
         ensures failed { is_failed_of self.new ≡ shows_fault result.state }
         ensures all { OnMore result.state (result.used ≡ length piece.now) }
         ensures heard { (sofar : List ℕ) → StandsFor self.old sofar
-            → IsHeard result.state self.old.begin self.new (sofar ++ take result.used piece.now) }
+            → IsHeard result.state (begin_of self.old) self.new (sofar ++ take result.used piece.now) }
         ensures last { OnFault result.state (is_failed_of self.old ≡ false → (sofar : List ℕ) → StandsFor self.old sofar
             → ShowsLast sofar piece.now result.used) }
         ensures again { is_failed_of self.old ≡ true → (result.used ≡ 0) × (is_failed_of self.new ≡ true) }
@@ -142,7 +142,7 @@ impl JobReader {
         requires { is_failed_of self.now ≡ false }
         ensures whole { OnOk result ((sofar : List ℕ) → StandsFor self.now sofar → sofar ≡ []) }
         ensures cut { IfErr result (λ cut. (sofar : List ℕ) → StandsFor self.now sofar → (sofar ≡ [] → ⊥)) }
-        ensures begin { IfErr result (λ cut. cut.offset ≡ self.now.begin) }
+        ensures begin { IfErr result (λ cut. cut.offset ≡ begin_of self.now) }
     {
         if self.next == self.begin {
             Ok(())

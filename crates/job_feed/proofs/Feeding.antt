@@ -9,7 +9,7 @@ use Rattle.escp2_definitions.specs.Commands.Heard.{Wrong}
 use Rattle.escp2_reader.specs.declared.reader.HeardState.{HeardState}
 use Rattle.escp2_reader.specs.declared.reader.HeardState.TheVariants as heard
 use Rattle.escp2_reader.specs.declared.reader.JobReader.{JobReader}
-use Rattle.escp2_reader.specs.Reading.{StandsFor, is_failed_of}
+use Rattle.escp2_reader.specs.Reading.{StandsFor, begin_of, is_failed_of}
 use Rattle.job_feed.specs.declared.feed.JobFeed.{JobFeed}
 use Rattle.job_feed.specs.Feeding.{IsBetween, MeetsFault, TakesCommand, TakesPart, at_of, text_of}
 use Rattle.job_feed.specs.Pieces.{FeedsSome}
@@ -71,7 +71,7 @@ fed old feed new state before left goes feeds most = record {
 
 -- the current command began where the feed stood
 begins : (old feed : JobFeed) (before text : Option (List ℕ)) → GoesOn old feed.reader feed.fed feed.most before text
-    → feed.reader.begin ≡ at_of old
+    → begin_of feed.reader ≡ at_of old
 begins old feed before text goes = omega (arith, goes.stands.fed, goes.fed_is, feed.fed_is)
 
 pub goes_more : (old feed new : JobFeed) (before left : Option (List ℕ))

@@ -21,7 +21,7 @@ use Rattle.job_feed.specs.declared.feed.FeedStop.TheVariants as feed_stop
 use Rattle.job_feed.specs.declared.feed.JobFeed.{JobFeed}
 use Rattle.weave_base.specs.Causes.{Rose}
 use Rattle.job_feed.specs.declared.feed.PlacedCommand.{PlacedCommand}
-use Rattle.job_feed.specs.Feeding.{HasEnded, IsRefused, IsStopped, TakesCommand, at_of, heard_of, most_of, text_of}
+use Rattle.job_feed.specs.Feeding.{HasEnded, IsRefused, IsStopped, TakesCommand, at_of, heard_of, most_of, text_of, unread_of}
 use Rattle.job_feed.specs.Jobs.{AreCommands, Ends, MeetsStop, TakesCommands, TakesJob, commands_behind, with_entries}
 
 -- as many steps as there are bytes are enough
@@ -207,7 +207,7 @@ pub record GaveCommands (feed : JobFeed) (before text : Option (List ℕ)) (entr
   pub are : AreCommands done entries
   pub at : at_of feed ≡ length done
 
-pub gave_none : (feed : JobFeed) (left : Option (List ℕ)) → at_of feed ≡ 0 → feed.unread ≡ []
+pub gave_none : (feed : JobFeed) (left : Option (List ℕ)) → at_of feed ≡ 0 → unread_of feed ≡ []
     → GaveCommands feed left (text_of feed left) []
 gave_none feed left at none =
     let P : Option (List ℕ) → Type 0 = λ text. Consumes left text [] in

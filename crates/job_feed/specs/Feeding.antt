@@ -14,13 +14,17 @@ use Rattle.job_feed.specs.declared.feed.PlacedCommand.{PlacedCommand}
 use Rattle.buffered_bytes.specs.Text.{text_behind}
 use Rattle.weave_base.specs.Causes.{Rose}
 
--- the bytes that were taken of the source and are not used, and then what it has left; `None` where it does not say
-abbrev pub text_of : JobFeed → Option (List ℕ) → Option (List ℕ)
-text_of feed left = text_behind feed.unread left
+-- the bytes that were taken of the source and are not used
+abbrev pub unread_of : JobFeed → List ℕ
+unread_of feed = feed.unread
 
 -- the offset of the byte that is used next
 abbrev pub at_of : JobFeed → ℕ
 at_of feed = feed.fed
+
+-- the bytes that are not used, and then what the source has left; `None` where it does not say
+abbrev pub text_of : JobFeed → Option (List ℕ) → Option (List ℕ)
+text_of feed left = text_behind (unread_of feed) left
 
 -- the most bytes of a job
 abbrev pub most_of : JobFeed → ℕ

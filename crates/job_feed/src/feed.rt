@@ -1,5 +1,5 @@
 //! Reading the commands of a job from a source.
-ghost use Rattle.escp2_reader.specs.Reading.{StandsFor, fed_of, is_failed_of, rows_of};
+ghost use Rattle.escp2_reader.specs.Reading.{StandsFor, begin_of, fed_of, is_failed_of, rows_of};
 ghost use Rattle.job_feed.specs.declared.feed.FeedStop.TheVariants as FeedStop;
 ghost use Rattle.escp2_definitions.specs.declared.stops.JobStop.TheVariants as JobStop;
 ghost use Rattle.std.specs.Prelude.{IfErr, IfNone, IfOk, IfSome, IsOk, List, None, [], false, length, take, ℕ, ◌<◌};
@@ -54,7 +54,7 @@ fn first_bytes(bytes: &[u8], count: u64) -> &[u8]
 
 impl JobFeed {
     ghost use Rattle.job_feed.specs.Feeding.{HasEnded, IsBetween, IsStopped, TakesCommand, at_of, heard_of, most_of};
-    ghost use Rattle.job_feed.specs.Feeding.{text_of};
+    ghost use Rattle.job_feed.specs.Feeding.{text_of, unread_of};
     ghost use Rattle.job_feed.specs.Pieces.{FeedsSome};
 
     /// A feed of a job from its first byte on. It takes the memory of the reader and of a buffer; no other call takes
@@ -64,7 +64,7 @@ impl JobFeed {
         ensures between { IfOk result IsBetween }
         ensures at { IfOk result (λ feed. at_of feed ≡ 0) }
         ensures most { IfOk result (λ feed. most_of feed ≡ most) }
-        ensures unread { IfOk result (λ feed. feed.unread ≡ []) }
+        ensures unread { IfOk result (λ feed. unread_of feed ≡ []) }
     {
         Ok(JobFeed {
             unread: Unread::make(alloc)?,
@@ -139,7 +139,7 @@ impl JobFeed {
         requires { is_failed_of self.now.reader ≡ false }
         ensures none { IfOk result (λ o. o ≡ None) }
         ensures whole { IsOk result → (sofar : List ℕ) → StandsFor self.now.reader sofar → sofar ≡ [] }
-        ensures cut { IfErr result (λ stop. (stop ≡ FeedStop.Job self.now.reader.begin JobStop.Cut)
+        ensures cut { IfErr result (λ stop. (stop ≡ FeedStop.Job (begin_of self.now.reader) JobStop.Cut)
             × ((sofar : List ℕ) → StandsFor self.now.reader sofar → (sofar ≡ [] → ⊥))) }
     {
         match self.reader.end() {

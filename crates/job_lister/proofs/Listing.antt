@@ -11,7 +11,7 @@ use Rattle.job_feed.specs.declared.feed.FeedStop.{FeedStop}
 use Rattle.job_feed.specs.declared.feed.FeedStop.TheVariants as feed_is
 use Rattle.job_feed.specs.declared.feed.JobFeed.{JobFeed}
 use Rattle.job_feed.specs.declared.feed.PlacedCommand.{PlacedCommand}
-use Rattle.job_feed.specs.Feeding.{HasEnded, IsStopped, TakesCommand, at_of, heard_of, most_of, text_of}
+use Rattle.job_feed.specs.Feeding.{HasEnded, IsStopped, TakesCommand, at_of, heard_of, most_of, text_of, unread_of}
 use Rattle.job_feed.proofs.Jobs.{GaveCommands, entry_of, gave_more, gave_none, job_ended, job_refused, rose_within, takes_gave}
 use Rattle.job_listing.specs.Listing.{line_of, listing}
 use Rattle.job_lister.specs.declared.lister.ListStop.{ListStop}
@@ -28,7 +28,7 @@ pub record ListsSoFar (feed : JobFeed) (g : Gathered) (before text held now : Op
   pub gave : GaveCommands feed before text entries
   pub gathers : GathersSoFar held now (listing entries) (gathered g)
 
-pub lists_none : (feed : JobFeed) (g : Gathered) (left held : Option (List ℕ)) → at_of feed ≡ 0 → feed.unread ≡ [] → gathered g ≡ []
+pub lists_none : (feed : JobFeed) (g : Gathered) (left held : Option (List ℕ)) → at_of feed ≡ 0 → unread_of feed ≡ [] → gathered g ≡ []
     → ListsSoFar feed g left (text_of feed left) held held
 lists_none feed g left held at unread none = record {
   entries = [];
