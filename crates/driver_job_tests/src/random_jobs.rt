@@ -111,23 +111,31 @@ fn is_alike<R: Abort + Threads + Sync>(
     played(alloc, job)?.is(rt, alloc, &["dots", "profile=tiny"], job, piece)
 }
 
+// Asserts the same of a job, of the job cut somewhere, and of the job with a byte changed.
+fn are_alike<R: Abort + Threads + Sync>(
+    rt: &R,
+    alloc: Global,
+    random: &mut Random,
+) -> Result<(), Fail> {
+    let mut job = random_job(alloc, random)?;
+    let piece = 1 + u32::from(random.byte(200));
+    is_alike(rt, alloc, &job, piece)?;
+    let len = job.len() as u64;
+    let cut = job.get(..random.below(len + 1) as usize);
+    is_alike(rt, alloc, cut.unwrap_or(&[]), piece)?;
+    if let Some(byte) = job.get_mut(random.below(len + 1) as usize) {
+        *byte = random.any_byte();
+    }
+    is_alike(rt, alloc, &job, piece)
+}
+
 #[test]
 fn random_jobs_are_listed_and_played_as_plain_programs_do(rt: HostRuntime) -> Result<(), Fail> {
-    let alloc = rt.alloc();
     let mut random = Random {
         state: 0x9E37_79B9_7F4A_7C15,
     };
     for _ in 0..120 {
-        let mut job = random_job(alloc, &mut random)?;
-        let piece = 1 + u32::from(random.byte(200));
-        is_alike(&rt, alloc, &job, piece)?;
-        let len = job.len() as u64;
-        let cut = job.get(..random.below(len + 1) as usize);
-        is_alike(&rt, alloc, cut.unwrap_or(&[]), piece)?;
-        if let Some(byte) = job.get_mut(random.below(len + 1) as usize) {
-            *byte = random.any_byte();
-        }
-        is_alike(&rt, alloc, &job, piece)?;
+        are_alike(&rt, rt.alloc(), &mut random)?;
     }
     Ok(())
 }

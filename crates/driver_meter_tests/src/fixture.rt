@@ -44,16 +44,17 @@ pub fn run_metered<R: Threads + Sync>(
     Ok(Left { status, out, err })
 }
 
-/// Runs these words over these bytes, with no file on the shelf, and asserts the status, the output and the error line.
+/// Runs these words over so many black pages, with no file on the shelf, and asserts the status, the output and the
+/// error line.
 pub fn runs_to<R: Abort + Threads + Sync>(
     rt: &R,
     alloc: Global,
     texts: &[&str],
-    bytes: Vec<u8>,
-    out: MemSink,
+    pages: u32,
     meters: &mut Vec<Box<dyn Meter>>,
     wanted: (u8, &[u8], &[u8]),
-) -> Result<(), Memory> {
+) -> Result<(), Fail> {
+    let (bytes, out) = (black_pages(alloc, pages)?, roomy(alloc)?);
     let left = run_metered(rt, alloc, texts, bytes, out, no_files(alloc), meters)?;
     assert_eq!(rt; left.all(), wanted);
     Ok(())

@@ -1,11 +1,11 @@
 //! How often a run asks a shelf and writes to a sink, and the most pages of a stream.
-use crate::fixture::{PRINT, one_page, print_bytes};
+use crate::fixture::{PRINT, leaves, one_page, run_bytes};
 use driver_core::OpenGate;
 use driver_fixtures::{
-    Left, add_page, begin, no_files, one_file, plain, roomy, run_over, run_with, sink,
+    add_page, begin, no_files, one_file, plain, roomy, run_over, run_with, sink,
 };
 use pwg_header::Kind;
-use std::alloc::Global;
+use std::alloc::{AllocError, Global};
 use std::process::Abort;
 use std::test::Fail;
 use std::thread::Threads;
@@ -36,38 +36,52 @@ impl Shelf for ListeningShelf {
     }
 }
 
-// Asserts that words give this status, and ask a shelf of one file for exactly these names.
-fn asks<R: Abort + Threads + Sync>(
+// Words, their status, and the names that a shelf of one file is asked for.
+type Question = (&'static [&'static str], u8, &'static [&'static str]);
+
+// The names that words ask a shelf of one file for, after the status.
+fn asked<R: Threads + Sync>(
     rt: &R,
     alloc: Global,
-    texts: &[&str],
-    status: u8,
-    names: &[&str],
-) -> Result<(), Fail> {
+    words: &[&str],
+) -> Result<(u8, Vec<String>), Fail> {
     let mut shelf = ListeningShelf {
         shelf: one_file(alloc, "m1.txt", b"escp2-profile 1\n")?,
         names: Vec::new(alloc),
     };
     let (input, mut out) = (plain(alloc, begin(alloc)?), roomy(alloc)?);
-    let (answer, _) = run_with(rt, alloc, texts, input, &mut out, &mut shelf, &OpenGate)?;
-    assert_eq!(rt; answer, status);
-    assert_eq!(rt; shelf.names.len(), names.len());
-    for (asked, name) in shelf.names.iter().zip(names.iter()) {
-        assert_eq!(rt; asked.as_str(), *name);
+    let (status, _) = run_with(rt, alloc, words, input, &mut out, &mut shelf, &OpenGate)?;
+    Ok((status, shelf.names))
+}
+
+// Asserts the status of words and the names that they ask for, each with the number of names.
+fn asks_all<R: Abort + Threads + Sync>(
+    rt: &R,
+    alloc: Global,
+    questions: &[Question],
+) -> Result<(), Fail> {
+    for (words, status, names) in questions {
+        let (answer, asked) = asked(rt, alloc, words)?;
+        let name = asked.first().map(String::as_str);
+        assert_eq!(rt;
+            (answer, asked.len(), name),
+            (*status, names.len(), names.first().copied())
+        );
     }
     Ok(())
 }
 
 #[test]
 fn a_shelf_is_asked_once_for_what_is_not_built_in(rt: HostRuntime) -> Result<(), Fail> {
-    let alloc = rt.alloc();
-    asks(&rt, alloc, &["print", "profile=m1.txt"], 2, &["m1.txt"])?;
-    asks(&rt, alloc, &["profile", "profile=m2.txt"], 2, &["m2.txt"])?;
-    asks(&rt, alloc, &["print", "profile=tiny1"], 0, &[])?;
-    asks(&rt, alloc, &["print"], 0, &[])?;
-    asks(&rt, alloc, &["print", "profile=m1.txt", "x"], 1, &[])?;
-    asks(&rt, alloc, &["plot", "profile=m1.txt"], 1, &[])?;
-    Ok(())
+    const CASES: [Question; 6] = [
+        (&["print", "profile=m1.txt"], 2, &["m1.txt"]),
+        (&["profile", "profile=m2.txt"], 2, &["m2.txt"]),
+        (&["print", "profile=tiny1"], 0, &[]),
+        (&["print"], 0, &[]),
+        (&["print", "profile=m1.txt", "x"], 1, &[]),
+        (&["plot", "profile=m1.txt"], 1, &[]),
+    ];
+    asks_all(&rt, rt.alloc(), &CASES)
 }
 
 // A sink that counts its writes.
@@ -90,51 +104,69 @@ impl Sink for CountingSink {
     }
 }
 
-#[test]
-fn a_pass_is_one_write(rt: HostRuntime) -> Result<(), Fail> {
-    let alloc = rt.alloc();
-    // 120 lines of margins, and 300 lines that 15 nozzles four rows apart fire in 24 passes
+// How many writes a page takes by a head of 15 nozzles four rows apart: 120 lines of margins, and 300 lines that are
+// fired in 24 passes. `None` where the run does not succeed.
+fn writes_of<R: Threads + Sync>(rt: &R, alloc: Global) -> Result<Option<u32>, Fail> {
     let bytes = one_page(alloc, 218, 420, &[255, 127, 0, 89, 0, 163, 127, 0, 89, 0])?;
     let mut out = CountingSink {
         sink: roomy(alloc)?,
         writes: 0,
     };
     let (input, mut shelf) = (plain(alloc, bytes), no_files(alloc));
-    let texts = ["print", "profile=p360cmyk"];
-    let (status, err) = run_with(&rt, alloc, &texts, input, &mut out, &mut shelf, &OpenGate)?;
-    assert_eq!(rt; err.bytes(), b"".as_slice());
-    assert_eq!(rt; status, 0);
-    assert!(rt; out.writes <= 24 + 2, "{} writes", out.writes);
+    let words = ["print", "profile=p360cmyk"];
+    let (status, err) = run_with(rt, alloc, &words, input, &mut out, &mut shelf, &OpenGate)?;
+    if status == 0 && err.bytes().is_empty() {
+        Ok(Some(out.writes))
+    } else {
+        Ok(None)
+    }
+}
+
+#[test]
+fn a_pass_is_one_write(rt: HostRuntime) -> Result<(), Fail> {
+    let writes = writes_of(&rt, rt.alloc())?;
+    assert!(rt; writes.is_some_and(|writes| writes <= 24 + 2), "{writes:?}");
     Ok(())
 }
 
-// Prints a stream of `count` pages of one black pixel.
-fn print_pages<R: Threads + Sync>(rt: &R, alloc: Global, count: u32) -> Result<Left, Fail> {
+// A stream of `count` pages of one black pixel.
+fn black_pixels(alloc: Global, count: u32) -> Result<Vec<u8>, AllocError> {
     let mut page = Vec::new(alloc);
     add_page(&mut page, Kind::Gray8, (1, 1), &[0, 0, 0])?;
     let mut bytes = begin(alloc)?;
     for _ in 0..count {
         bytes.extend_from_slice(&page)?;
     }
-    let out = sink(alloc, 800_000)?;
-    let input = plain(alloc, bytes);
-    Ok(run_over(rt, alloc, &PRINT, input, out, no_files(alloc))?)
+    Ok(bytes)
+}
+
+// These bytes, so many times.
+fn repeated(alloc: Global, bytes: &[u8], count: u32) -> Result<Vec<u8>, AllocError> {
+    let mut whole = Vec::new(alloc);
+    for _ in 0..count {
+        whole.extend_from_slice(bytes)?;
+    }
+    Ok(whole)
 }
 
 #[test]
 fn a_byte_after_page_9999_is_too_many_pages(rt: HostRuntime) -> Result<(), Fail> {
     let alloc = rt.alloc();
-    let one = print_bytes(&rt, alloc, one_page(alloc, 1, 1, &[0, 0, 0])?)?;
-    let left = print_pages(&rt, alloc, 10_000)?;
-    assert_eq!(rt;
-        left.err.bytes(),
-        b"input: page 10000 line 0: TooManyPages\n".as_slice()
+    let one = run_bytes(&rt, alloc, &PRINT, &[], black_pixels(alloc, 1)?)?;
+    let input = plain(alloc, black_pixels(alloc, 10_000)?);
+    let left = run_over(
+        &rt,
+        alloc,
+        &PRINT,
+        input,
+        sink(alloc, 800_000)?,
+        no_files(alloc),
+    )?;
+    let jobs = repeated(alloc, one.out.bytes(), 9999)?;
+    leaves(
+        &rt,
+        &left,
+        (3, &jobs, b"input: page 10000 line 0: TooManyPages\n"),
     );
-    assert_eq!(rt; left.status, 3);
-    let length = one.out.bytes().len();
-    assert_eq!(rt; left.out.bytes().len(), length.saturating_mul(9999));
-    for job in left.out.bytes().chunks(length.max(1)) {
-        assert_eq!(rt; job, one.out.bytes());
-    }
     Ok(())
 }

@@ -70,6 +70,34 @@ struct CountingGate {
     others: AtomicU64,
 }
 
+impl CountingGate {
+    fn make() -> CountingGate {
+        let none = || AtomicU64::new(0);
+        CountingGate {
+            bands: [
+                none(),
+                none(),
+                none(),
+                none(),
+                none(),
+                none(),
+                none(),
+                none(),
+            ],
+            others: none(),
+        }
+    }
+
+    // How often a tile of each band, and any other, was entered.
+    fn counts(&self) -> ([u64; 8], u64) {
+        let mut counts = [0; 8];
+        for (count, band) in counts.iter_mut().zip(self.bands.iter()) {
+            *count = band.load(Ordering::SeqCst);
+        }
+        (counts, self.others.load(Ordering::SeqCst))
+    }
+}
+
 impl Gate for CountingGate {
     fn enter(&self, p: Place) {
         let count = match self.bands.get(p.j as usize) {
@@ -84,25 +112,9 @@ impl Gate for CountingGate {
 fn errors_cross_the_slab_at_row_256(rt: HostRuntime) -> Result<(), Fail> {
     let alloc = rt.alloc();
     let page = one_page(alloc, 1, 257, &[0xFF, 0, 0x9B, 0, 0, 0x9B])?;
-    let gate = CountingGate {
-        bands: [
-            AtomicU64::new(0),
-            AtomicU64::new(0),
-            AtomicU64::new(0),
-            AtomicU64::new(0),
-            AtomicU64::new(0),
-            AtomicU64::new(0),
-            AtomicU64::new(0),
-            AtomicU64::new(0),
-        ],
-        others: AtomicU64::new(0),
-    };
+    let gate = CountingGate::make();
     let left = print_through(&rt, alloc, "workers=2", page, &gate)?;
     hashes_to(&rt, &left, 1855, 0xB1BB_344A_C3B2_09A4);
-    for (j, band) in gate.bands.iter().enumerate() {
-        let entered = if j == 0 { 2 } else { 1 };
-        assert_eq!(rt; band.load(Ordering::SeqCst), entered, "band {j}");
-    }
-    assert_eq!(rt; gate.others.load(Ordering::SeqCst), 0);
+    assert_eq!(rt; gate.counts(), ([2, 1, 1, 1, 1, 1, 1, 1], 0));
     Ok(())
 }

@@ -94,7 +94,7 @@ fn small_heads_fire_each_dot_once(rt: HostRuntime) -> Result<(), Fail> {
 
 #[test]
 fn large_heads_fire_each_dot_once(rt: HostRuntime) -> Result<(), Fail> {
-    let heads: [(u8, u8, u16); 12] = [
+    const HEADS: [(u8, u8, u16); 12] = [
         (16, 7, 8),
         (31, 8, 11),
         (59, 9, 13),
@@ -108,7 +108,7 @@ fn large_heads_fire_each_dot_once(rt: HostRuntime) -> Result<(), Fail> {
         (3, 25, 30),
         (5, 51, 33),
     ];
-    for (nozzles, pitch, turn) in heads {
+    for (nozzles, pitch, turn) in HEADS {
         try_head(&rt, rt.alloc(), nozzles, pitch, turn)?;
     }
     Ok(())

@@ -1,6 +1,5 @@
 //! Pages for which each kernel sets other dots.
-use crate::fixture::{hashes_to, one_page};
-use driver_fixtures::{no_files, plain, roomy, run_over};
+use crate::fixture::{hashes_to, one_page, run_bytes};
 use std::alloc::{AllocError, Global};
 use std::process::Abort;
 use std::test::Fail;
@@ -57,20 +56,33 @@ fn drawn_page(alloc: Global, seed: u32, width: u32, height: u32) -> Result<Vec<u
     one_page(alloc, width, height, &body)
 }
 
-// Asserts the length and the hash of a page's job by this kernel and several numbers of workers.
+// A kernel's word, and the length and the hash of its job.
+type Hashed = (&'static str, usize, u64);
+
+// Asserts the length and the hash of a page's job by a kernel and several numbers of workers.
 fn prints_alike<R: Abort + Threads + Sync>(
     rt: &R,
     alloc: Global,
     page: &Vec<u8>,
-    kernel: &str,
-    length: usize,
-    hash: u64,
+    (kernel, length, hash): Hashed,
 ) -> Result<(), Fail> {
     for workers in ["workers=1", "workers=2", "workers=64"] {
-        let texts = ["print", "profile=tiny1", kernel, workers];
-        let input = plain(alloc, page.clone()?);
-        let left = run_over(rt, alloc, &texts, input, roomy(alloc)?, no_files(alloc))?;
+        let words = ["print", "profile=tiny1", kernel, workers];
+        let left = run_bytes(rt, alloc, &words, &[], page.clone()?)?;
         hashes_to(rt, &left, length, hash);
+    }
+    Ok(())
+}
+
+// Asserts the same for each kernel.
+fn try_kernels<R: Abort + Threads + Sync>(
+    rt: &R,
+    alloc: Global,
+    page: &Vec<u8>,
+    cases: &[Hashed],
+) -> Result<(), Fail> {
+    for case in cases {
+        prints_alike(rt, alloc, page, *case)?;
     }
     Ok(())
 }
@@ -78,30 +90,22 @@ fn prints_alike<R: Abort + Threads + Sync>(
 // Seventy equal lines of two hundred columns.
 #[test]
 fn tiles_give_the_row_by_row_page(rt: HostRuntime) -> Result<(), Fail> {
-    let alloc = rt.alloc();
-    let page = one_page(alloc, 200, 70, &[0x45, 0x7F, 0x9B, 0x47, 0x9B])?;
-    let cases: [(&str, usize, u64); 3] = [
+    const CASES: [Hashed; 3] = [
         ("kernel=fs", 3192, 0x1AE9_8C03_27DA_88F0),
         ("kernel=jjn", 3094, 0x6675_D5C2_1BF2_E860),
         ("kernel=stucki", 3192, 0x354F_B3FA_36DD_A5A9),
     ];
-    for (kernel, length, hash) in cases {
-        prints_alike(&rt, alloc, &page, kernel, length, hash)?;
-    }
-    Ok(())
+    let page = one_page(rt.alloc(), 200, 70, &[0x45, 0x7F, 0x9B, 0x47, 0x9B])?;
+    try_kernels(&rt, rt.alloc(), &page, &CASES)
 }
 
 #[test]
 fn worker_counts_give_equal_bytes(rt: HostRuntime) -> Result<(), Fail> {
-    let alloc = rt.alloc();
-    let page = drawn_page(alloc, 7, 200, 70)?;
-    let cases: [(&str, usize, u64); 3] = [
+    const CASES: [Hashed; 3] = [
         ("kernel=fs", 3192, 0xB0D6_C318_DC83_8AA0),
         ("kernel=jjn", 3192, 0x7459_A118_9AA3_F52B),
         ("kernel=stucki", 3191, 0xFBA5_FE1B_A5A2_5336),
     ];
-    for (kernel, length, hash) in cases {
-        prints_alike(&rt, alloc, &page, kernel, length, hash)?;
-    }
-    Ok(())
+    let page = drawn_page(rt.alloc(), 7, 200, 70)?;
+    try_kernels(&rt, rt.alloc(), &page, &CASES)
 }

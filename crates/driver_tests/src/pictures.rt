@@ -157,6 +157,31 @@ pub fn print_picture<R: Threads + Sync>(
     Ok(left)
 }
 
+// Asserts that a job of one sheet fires each dot that the picture asks for once, and no other.
+fn fires_its_dots<R: Abort>(
+    rt: &R,
+    alloc: Global,
+    printer: &Printer,
+    picture: &Picture,
+    kernel: &Kernel,
+    job: &[u8],
+) -> Result<(), Fail> {
+    let window = printer.window(picture.width, picture.height);
+    let printed = execute(alloc, printer, window, job)?;
+    let length = printed.length.checked_mul(i64::from(printer.vdpi));
+    let wanted_length = i64::from(picture.height).checked_mul(3600);
+    assert_eq!(rt; (printed.sheets, length), (1, wanted_length));
+    for (ink, dots) in INKS.iter().zip(printed.dots.iter()) {
+        let wanted = wanted(alloc, printer, picture, kernel, *ink)?;
+        assert!(rt;
+            dots.cells() == wanted.cells(),
+            "{ink:?} by {}",
+            kernel.word
+        );
+    }
+    Ok(())
+}
+
 /// Prints a picture, and asserts that its job fires each dot that the picture asks for once, and no other.
 pub fn prints_its_dots<R: Abort + Threads + Sync>(
     rt: &R,
@@ -166,23 +191,7 @@ pub fn prints_its_dots<R: Abort + Threads + Sync>(
     kernel: &Kernel,
 ) -> Result<(), Fail> {
     let left = print_picture(rt, alloc, printer, picture, kernel)?;
-    assert_eq!(rt; left.err.bytes(), b"".as_slice());
-    assert_eq!(rt; left.status, 0);
-    let window = printer.window(picture.width, picture.height);
-    let printed = execute(alloc, printer, window, left.out.bytes())?;
-    assert_eq!(rt; printed.sheets, 1);
-    let length = printed.length.checked_mul(i64::from(printer.vdpi));
-    assert_eq!(rt; length, i64::from(picture.height).checked_mul(3600));
-    for (ink, dots) in INKS.iter().zip(printed.dots.iter()) {
-        let wanted = wanted(alloc, printer, picture, kernel, *ink)?;
-        assert_eq!(rt;
-            dots.cells(),
-            wanted.cells(),
-            "{ink:?} by {} nozzles, pitch {}, {}",
-            printer.nozzles,
-            printer.pitch,
-            kernel.word
-        );
-    }
-    Ok(())
+    let (status, job, line) = left.all();
+    assert_eq!(rt; (status, line), (0, b"".as_slice()));
+    fires_its_dots(rt, alloc, printer, picture, kernel, job)
 }

@@ -1,10 +1,10 @@
 //! Pages that are printed and then played: the images have the dots that the page asks for.
 use crate::any_printer::{PLAINEST, Printer};
-use crate::fixture::leaves;
+use crate::fixture::{leaves, run_bytes};
 use crate::grid::Grid;
 use crate::pictures::{Picture, print_picture};
 use crate::plain::{INKS, KERNELS, Kernel, wanted};
-use driver_fixtures::{one_file, plain, roomy, run_over};
+use driver_fixtures::Left;
 use pwg_header::Kind;
 use std::alloc::{AllocError, Global};
 use std::process::Abort;
@@ -44,31 +44,49 @@ fn add_image(
     Ok(())
 }
 
-// Prints a picture, plays the job, and asserts that the images have the dots that the picture asks for.
-fn plays_its_dots<R: Abort + Threads + Sync>(
-    rt: &R,
+// The images of a sheet that has the dots that the picture asks for.
+fn images_of(
     alloc: Global,
     printer: &Printer,
     picture: &Picture,
     kernel: &Kernel,
-) -> Result<(), Fail> {
-    let job = print_picture(rt, alloc, printer, picture, kernel)?;
-    assert_eq!(rt; job.status, 0);
-    let text = printer.text(alloc)?;
-    let left = run_over(
-        rt,
-        alloc,
-        &["dots", "profile=any.txt"],
-        plain(alloc, job.out.bytes().to_vec(alloc)?),
-        roomy(alloc)?,
-        one_file(alloc, "any.txt", text.as_bytes())?,
-    )?;
+) -> Result<Vec<u8>, Fail> {
     let mut images = Vec::new(alloc);
     for ink in INKS {
         let dots = wanted(alloc, printer, picture, kernel, ink)?;
         add_image(alloc, &dots, picture.height, printer.top, &mut images)?;
     }
-    leaves(rt, &left, (0, images.as_slice(), b""));
+    Ok(images)
+}
+
+// Prints a picture and plays the job.
+fn played<R: Abort + Threads + Sync>(
+    rt: &R,
+    alloc: Global,
+    printer: &Printer,
+    picture: &Picture,
+    kernel: &Kernel,
+) -> Result<Left, Fail> {
+    let job = print_picture(rt, alloc, printer, picture, kernel)?;
+    assert_eq!(rt; job.status, 0);
+    let text = printer.text(alloc)?;
+    let job = job.out.bytes().to_vec(alloc)?;
+    let words = ["dots", "profile=m1.txt"];
+    run_bytes(rt, alloc, &words, &[text.as_bytes()], job)
+}
+
+// Asserts that the images of a printed picture have the dots that it asks for, with each kernel.
+fn plays_its_dots<R: Abort + Threads + Sync>(
+    rt: &R,
+    alloc: Global,
+    printer: &Printer,
+    picture: &Picture,
+) -> Result<(), Fail> {
+    for kernel in &KERNELS {
+        let left = played(rt, alloc, printer, picture, kernel)?;
+        let images = images_of(alloc, printer, picture, kernel)?;
+        leaves(rt, &left, (0, &images, b""));
+    }
     Ok(())
 }
 
@@ -87,19 +105,24 @@ fn printer_of(inks: InkSet) -> Printer {
     }
 }
 
+// Prints and plays a picture of each kind on a printer with these inks.
+fn plays_each_kind<R: Abort + Threads + Sync>(
+    rt: &R,
+    alloc: Global,
+    inks: InkSet,
+) -> Result<(), Fail> {
+    const KINDS: [(Kind, u64); 3] = [(Kind::Gray8, 7), (Kind::Black8, 8), (Kind::Rgb8, 9)];
+    for (kind, seed) in KINDS {
+        let picture = Picture::random(alloc, kind, (20, 23), seed)?;
+        plays_its_dots(rt, alloc, &printer_of(inks), &picture)?;
+    }
+    Ok(())
+}
+
 #[test]
 fn printed_pages_are_played_to_their_dots(rt: HostRuntime) -> Result<(), Fail> {
-    let alloc = rt.alloc();
     for inks in [InkSet::K, InkSet::Cmy, InkSet::Cmyk] {
-        for (kind, seed) in [Kind::Gray8, Kind::Black8, Kind::Rgb8]
-            .into_iter()
-            .zip(7u64..10)
-        {
-            let picture = Picture::random(alloc, kind, (20, 23), seed)?;
-            for kernel in &KERNELS {
-                plays_its_dots(&rt, alloc, &printer_of(inks), &picture, kernel)?;
-            }
-        }
+        plays_each_kind(&rt, rt.alloc(), inks)?;
     }
     Ok(())
 }

@@ -1,65 +1,126 @@
 //! Streams of pages, whole and refused.
 use crate::fixture::{
-    GREY_BODY, GREY_JOB, GREY_STREAM, PRINT, hashes_to, leaves, one_page, print_bytes, two_pages,
+    Case, GREY, GREY_BODY, GREY_JOB, GREY_PAGE, GREY_STREAM, GivenPage, NO_PAGE, Output, PRINT,
+    hashes_to, leaves, one_page, run_bytes, try_all, two_pages,
 };
-use driver_fixtures::{add_page, no_files, prefix, roomy, run_over};
-use pwg_header::Kind;
+use driver_fixtures::{no_files, prefix, roomy, run_over};
 use std::alloc::Global;
 use std::process::Abort;
 use std::test::Fail;
 use std::thread::Threads;
 use weave_base::{MemSource, Memory};
 
+// A stream that is refused.
+const REFUSED: Case = Case {
+    status: 3,
+    ..NO_PAGE
+};
+
 #[test]
 fn the_first_path_prints_one_grey_page(rt: HostRuntime) -> Result<(), Fail> {
-    let alloc = rt.alloc();
-    let left = print_bytes(&rt, alloc, one_page(alloc, 4, 2, &GREY_BODY)?)?;
-    leaves(&rt, &left, (0, &GREY_JOB, b""));
-    Ok(())
+    const CASES: [Case; 1] = [Case {
+        pages: &[GREY_PAGE],
+        out: Output::Parts(&[&GREY_JOB]),
+        ..NO_PAGE
+    }];
+    try_all(&rt, rt.alloc(), &CASES)
 }
 
 #[test]
 fn a_run_past_its_line_is_refused_at_its_byte(rt: HostRuntime) -> Result<(), Fail> {
-    let alloc = rt.alloc();
-    let whole = print_bytes(&rt, alloc, one_page(alloc, 8, 6, &[0, 8, 0])?)?;
-    leaves(
-        &rt,
-        &whole,
-        (3, b"", b"input: page 1 line 1: RunPastLine\n"),
-    );
-    let cut = print_bytes(&rt, alloc, one_page(alloc, 8, 6, &[0, 8])?)?;
-    leaves(&rt, &cut, (3, b"", b"input: page 1 line 1: RunPastLine\n"));
-    let later = print_bytes(&rt, alloc, one_page(alloc, 8, 6, &[2, 7, 0, 1, 0xF9])?)?;
-    leaves(&rt, &later, (3, b"", b"input: page 1 line 4: Truncated\n"));
-    let past = print_bytes(&rt, alloc, one_page(alloc, 8, 6, &[2, 7, 0, 1, 0xF8])?)?;
-    leaves(&rt, &past, (3, b"", b"input: page 1 line 4: RunPastLine\n"));
-    Ok(())
+    const SIZED: GivenPage = GivenPage {
+        size: (8, 6),
+        ..GREY
+    };
+    const CASES: [Case; 4] = [
+        Case {
+            pages: &[GivenPage {
+                body: &[0, 8, 0],
+                ..SIZED
+            }],
+            line: b"input: page 1 line 1: RunPastLine\n",
+            ..REFUSED
+        },
+        Case {
+            pages: &[GivenPage {
+                body: &[0, 8],
+                ..SIZED
+            }],
+            line: b"input: page 1 line 1: RunPastLine\n",
+            ..REFUSED
+        },
+        Case {
+            pages: &[GivenPage {
+                body: &[2, 7, 0, 1, 0xF9],
+                ..SIZED
+            }],
+            line: b"input: page 1 line 4: Truncated\n",
+            ..REFUSED
+        },
+        Case {
+            pages: &[GivenPage {
+                body: &[2, 7, 0, 1, 0xF8],
+                ..SIZED
+            }],
+            line: b"input: page 1 line 4: RunPastLine\n",
+            ..REFUSED
+        },
+    ];
+    try_all(&rt, rt.alloc(), &CASES)
 }
 
 #[test]
 fn a_group_past_the_page_is_refused_at_its_count(rt: HostRuntime) -> Result<(), Fail> {
-    let alloc = rt.alloc();
-    let line = b"input: page 1 line 1: GroupPastPage\n";
-    let whole = print_bytes(&rt, alloc, one_page(alloc, 8, 255, &[0xFF, 7, 0])?)?;
-    leaves(&rt, &whole, (3, b"", line));
-    let cut = print_bytes(&rt, alloc, one_page(alloc, 8, 255, &[0xFF])?)?;
-    leaves(&rt, &cut, (3, b"", line));
-    Ok(())
+    const SIZED: GivenPage = GivenPage {
+        size: (8, 255),
+        ..GREY
+    };
+    const PAST: Case = Case {
+        line: b"input: page 1 line 1: GroupPastPage\n",
+        ..REFUSED
+    };
+    const CASES: [Case; 2] = [
+        Case {
+            pages: &[GivenPage {
+                body: &[0xFF, 7, 0],
+                ..SIZED
+            }],
+            ..PAST
+        },
+        Case {
+            pages: &[GivenPage {
+                body: &[0xFF],
+                ..SIZED
+            }],
+            ..PAST
+        },
+    ];
+    try_all(&rt, rt.alloc(), &CASES)
 }
 
-// A stream of one page of grey with one byte changed.
-fn changed(alloc: Global, at: usize, byte: u8) -> Result<Vec<u8>, Fail> {
-    let mut bytes = one_page(alloc, 4, 2, &GREY_BODY)?;
-    if at < bytes.len() {
-        bytes[at] = byte;
+// A byte of the header of a page of grey that is changed, and the error line.
+type HeaderCase = (usize, u8, &'static [u8]);
+
+// Asserts that a stream of a page of grey with one byte changed is refused.
+fn try_headers<R: Abort + Threads + Sync>(
+    rt: &R,
+    alloc: Global,
+    cases: &[HeaderCase],
+) -> Result<(), Fail> {
+    for (at, byte, line) in cases {
+        let mut bytes = one_page(alloc, 4, 2, &GREY_BODY)?;
+        if let Some(changed) = bytes.get_mut(*at) {
+            *changed = *byte;
+        }
+        let left = run_bytes(rt, alloc, &PRINT, &[], bytes)?;
+        leaves(rt, &left, (3, b"", line));
     }
-    Ok(bytes)
+    Ok(())
 }
 
 #[test]
 fn a_refused_header_is_named_by_its_cause(rt: HostRuntime) -> Result<(), Fail> {
-    let alloc = rt.alloc();
-    let cases: [(usize, u8, &[u8]); 12] = [
+    const CASES: [HeaderCase; 12] = [
         (4, b'p', b"input: page 1 line 0: NotPwg\n"),
         (13, 1, b"input: page 1 line 0: NotPwg\n"),
         (283, 0, b"input: page 1 line 0: Resolution\n"),
@@ -74,25 +135,24 @@ fn a_refused_header_is_named_by_its_cause(rt: HostRuntime) -> Result<(), Fail> {
         (463, 2, b"input: page 1 line 0: Transform\n"),
         (467, 255, b"input: page 1 line 0: Transform\n"),
     ];
-    for (at, byte, line) in cases {
-        let left = print_bytes(&rt, alloc, changed(alloc, at, byte)?)?;
-        leaves(&rt, &left, (3, b"", line));
-    }
-    Ok(())
+    try_headers(&rt, rt.alloc(), &CASES)
 }
 
 #[test]
 fn a_fault_of_the_second_page_keeps_the_first(rt: HostRuntime) -> Result<(), Fail> {
-    let alloc = rt.alloc();
-    let mut bytes = one_page(alloc, 4, 2, &GREY_BODY)?;
-    add_page(&mut bytes, Kind::Gray8, (4, 2), &[0, 3, 0, 0, 4])?;
-    let left = print_bytes(&rt, alloc, bytes)?;
-    leaves(
-        &rt,
-        &left,
-        (3, &GREY_JOB, b"input: page 2 line 2: RunPastLine\n"),
-    );
-    Ok(())
+    const CASES: [Case; 1] = [Case {
+        pages: &[
+            GREY_PAGE,
+            GivenPage {
+                body: &[0, 3, 0, 0, 4],
+                ..GREY_PAGE
+            },
+        ],
+        out: Output::Parts(&[&GREY_JOB]),
+        line: b"input: page 2 line 2: RunPastLine\n",
+        ..REFUSED
+    }];
+    try_all(&rt, rt.alloc(), &CASES)
 }
 
 // Whether two pages of grey are printed where the first read gives this many bytes and the second the rest.
@@ -127,9 +187,8 @@ fn every_cut_in_the_first_page_gives_the_job(rt: HostRuntime) -> Result<(), Fail
 
 #[test]
 fn every_cut_in_the_second_page_gives_the_job(rt: HostRuntime) -> Result<(), Fail> {
-    let alloc = rt.alloc();
-    assert_eq!(rt; two_pages(alloc)?.len(), 3612);
-    try_cuts(&rt, alloc, 1808, 3613)?;
+    assert_eq!(rt; two_pages(rt.alloc())?.len(), 3612);
+    try_cuts(&rt, rt.alloc(), 1808, 3613)?;
     Ok(())
 }
 
@@ -142,47 +201,73 @@ fn a_stream_byte_by_byte_gives_the_job(rt: HostRuntime) -> Result<(), Fail> {
     Ok(())
 }
 
-// The status and the line of the first bytes of a stream of one page of grey.
-fn answer_to_prefix(count: usize) -> (u8, &'static [u8]) {
+// The status, the output and the error line of the first bytes of a stream of one page of grey.
+fn answer_to_prefix(count: usize) -> (u8, &'static [u8], &'static [u8]) {
     match count {
-        0..=3 => (3, b"input: page 0 line 0: BadSync\n"),
-        4 => (0, b""),
-        5..=1799 => (3, b"input: page 1 line 0: Truncated\n"),
-        1800..=1802 => (3, b"input: page 1 line 1: Truncated\n"),
-        1803..=1807 => (3, b"input: page 1 line 2: Truncated\n"),
-        _ => (0, b""),
+        0..=3 => (3, b"", b"input: page 0 line 0: BadSync\n"),
+        4 => (0, b"", b""),
+        5..=1799 => (3, b"", b"input: page 1 line 0: Truncated\n"),
+        1800..=1802 => (3, b"", b"input: page 1 line 1: Truncated\n"),
+        1803..=1807 => (3, b"", b"input: page 1 line 2: Truncated\n"),
+        _ => (0, &GREY_JOB, b""),
     }
+}
+
+// Asserts the answer to each prefix of these bytes.
+fn try_prefixes<R: Abort + Threads + Sync>(
+    rt: &R,
+    alloc: Global,
+    whole: &[u8],
+) -> Result<(), Fail> {
+    for count in 0..GREY_STREAM + 1 {
+        let bytes = prefix(whole, count).to_vec(alloc)?;
+        let left = run_bytes(rt, alloc, &PRINT, &[], bytes)?;
+        leaves(rt, &left, answer_to_prefix(count));
+    }
+    Ok(())
 }
 
 #[test]
 fn every_prefix_of_a_stream_has_its_answer(rt: HostRuntime) -> Result<(), Fail> {
-    let alloc = rt.alloc();
-    let whole = one_page(alloc, 4, 2, &GREY_BODY)?;
+    let whole = one_page(rt.alloc(), 4, 2, &GREY_BODY)?;
     assert_eq!(rt; whole.len(), GREY_STREAM);
-    for count in 0..GREY_STREAM + 1 {
-        let left = print_bytes(&rt, alloc, prefix(&whole, count).to_vec(alloc)?)?;
-        let (status, line) = answer_to_prefix(count);
-        let job = if count < GREY_STREAM {
-            b"".as_slice()
-        } else {
-            GREY_JOB.as_slice()
-        };
-        leaves(&rt, &left, (status, job, line));
-    }
-    Ok(())
+    try_prefixes(&rt, rt.alloc(), &whole)
 }
+
+// A black line of 8191 columns.
+const WIDE_BODY: [u8; 129] = [
+    0, 127, 0, 127, 0, 127, 0, 127, 0, 127, 0, 127, 0, 127, 0, 127, 0, 127, 0, 127, 0, 127, 0, 127,
+    0, 127, 0, 127, 0, 127, 0, 127, 0, 127, 0, 127, 0, 127, 0, 127, 0, 127, 0, 127, 0, 127, 0, 127,
+    0, 127, 0, 127, 0, 127, 0, 127, 0, 127, 0, 127, 0, 127, 0, 127, 0, 127, 0, 127, 0, 127, 0, 127,
+    0, 127, 0, 127, 0, 127, 0, 127, 0, 127, 0, 127, 0, 127, 0, 127, 0, 127, 0, 127, 0, 127, 0, 127,
+    0, 127, 0, 127, 0, 127, 0, 127, 0, 127, 0, 127, 0, 127, 0, 127, 0, 127, 0, 127, 0, 127, 0, 127,
+    0, 127, 0, 127, 0, 127, 0, 126, 0,
+];
 
 #[test]
 fn a_page_of_the_greatest_width_is_printed(rt: HostRuntime) -> Result<(), Fail> {
-    let alloc = rt.alloc();
-    let mut body = vec![in alloc; 0]?;
-    for _ in 0..63 {
-        body.extend_from_slice(&[127, 0])?;
-    }
-    body.extend_from_slice(&[126, 0])?;
-    let left = print_bytes(&rt, alloc, one_page(alloc, 8191, 1, &body)?)?;
-    hashes_to(&rt, &left, 79, 0x1276_6F55_193F_5370);
-    let wider = print_bytes(&rt, alloc, one_page(alloc, 8192, 1, &body)?)?;
-    leaves(&rt, &wider, (3, b"", b"input: page 1 line 0: Width\n"));
-    Ok(())
+    const CASES: [Case; 2] = [
+        Case {
+            pages: &[GivenPage {
+                size: (8191, 1),
+                body: &WIDE_BODY,
+                ..GREY
+            }],
+            out: Output::Hash {
+                length: 79,
+                hash: 0x1276_6F55_193F_5370,
+            },
+            ..NO_PAGE
+        },
+        Case {
+            pages: &[GivenPage {
+                size: (8192, 1),
+                body: &WIDE_BODY,
+                ..GREY
+            }],
+            line: b"input: page 1 line 0: Width\n",
+            ..REFUSED
+        },
+    ];
+    try_all(&rt, rt.alloc(), &CASES)
 }

@@ -1,55 +1,76 @@
 //! Pages printed by heads of several nozzles, and a run without a word for the profile.
 use crate::any_printer::{PLAINEST, Printer};
-use crate::fixture::{hashes_to, leaves, one_page, print_on};
-use crate::machine::execute;
-use driver_fixtures::{
-    BLACK_BODY, add_header, add_page, begin, no_files, plain, prefix, roomy, run_over,
+use crate::fixture::{
+    Case, GREY, GivenPage, NO_PAGE, Output, PRINT, hashes_to, leaves, run_bytes, try_all,
 };
+use crate::machine::execute;
+use driver_fixtures::{BLACK_BODY, add_header, begin};
 use known_jobs::TINY_JOB;
 use pwg_header::Kind;
 use std::alloc::Global;
 use std::test::Fail;
 use weave_base::InkSet;
 
+// The words of runs on a printer of three nozzles.
+const TINY: [&str; 2] = ["print", "profile=tiny"];
+
+// A black page.
+const BLACK_PAGE: GivenPage = GivenPage {
+    size: (8, 6),
+    body: &BLACK_BODY,
+    ..GREY
+};
+
 #[test]
 fn tiny_prints_ninety_two_bytes(rt: HostRuntime) -> Result<(), Fail> {
-    let alloc = rt.alloc();
-    let left = print_on(
-        &rt,
-        alloc,
-        "profile=tiny",
-        one_page(alloc, 8, 6, &BLACK_BODY)?,
-    )?;
-    leaves(&rt, &left, (0, &TINY_JOB, b""));
-    Ok(())
+    const CASES: [Case; 1] = [Case {
+        words: &TINY,
+        pages: &[BLACK_PAGE],
+        out: Output::Parts(&[&TINY_JOB]),
+        ..NO_PAGE
+    }];
+    try_all(&rt, rt.alloc(), &CASES)
 }
 
 #[test]
 fn a_stream_without_a_page_prints_nothing(rt: HostRuntime) -> Result<(), Fail> {
-    let alloc = rt.alloc();
-    for profile in ["profile=tiny", "profile=tiny1"] {
-        let left = print_on(&rt, alloc, profile, begin(alloc)?)?;
-        leaves(&rt, &left, (0, b"", b""));
-    }
-    Ok(())
+    const CASES: [Case; 2] = [
+        Case {
+            words: &TINY,
+            ..NO_PAGE
+        },
+        Case {
+            words: &PRINT,
+            ..NO_PAGE
+        },
+    ];
+    try_all(&rt, rt.alloc(), &CASES)
 }
 
 #[test]
 fn a_short_input_is_bad_sync(rt: HostRuntime) -> Result<(), Fail> {
-    let alloc = rt.alloc();
-    for bytes in [b"".as_slice(), b"Ra".as_slice(), b"RaS3".as_slice()] {
-        let input = plain(alloc, bytes.to_vec(alloc)?);
-        let left = run_over(
-            &rt,
-            alloc,
-            &["print"],
-            input,
-            roomy(alloc)?,
-            no_files(alloc),
-        )?;
-        leaves(&rt, &left, (3, b"", b"input: page 0 line 0: BadSync\n"));
-    }
-    Ok(())
+    const BAD_SYNC: Case = Case {
+        words: &["print"],
+        status: 3,
+        line: b"input: page 0 line 0: BadSync\n",
+        ..NO_PAGE
+    };
+    // no byte, `Ra` and `RaS3`
+    const CASES: [Case; 3] = [
+        Case {
+            most: 0,
+            ..BAD_SYNC
+        },
+        Case {
+            most: 2,
+            ..BAD_SYNC
+        },
+        Case {
+            changes: &[(3, b'3')],
+            ..BAD_SYNC
+        },
+    ];
+    try_all(&rt, rt.alloc(), &CASES)
 }
 
 // Three rasters of one dot.
@@ -64,50 +85,56 @@ const THREE_RASTERS: [u8; 105] = [
 
 #[test]
 fn one_nozzle_prints_three_rasters(rt: HostRuntime) -> Result<(), Fail> {
-    let alloc = rt.alloc();
-    let left = print_on(
-        &rt,
-        alloc,
-        "profile=tiny1",
-        one_page(alloc, 1, 3, &[2, 0, 0])?,
-    )?;
-    leaves(&rt, &left, (0, &THREE_RASTERS, b""));
-    Ok(())
+    const CASES: [Case; 1] = [Case {
+        pages: &[GivenPage {
+            size: (1, 3),
+            body: &[2, 0, 0],
+            ..GREY
+        }],
+        out: Output::Parts(&[&THREE_RASTERS]),
+        ..NO_PAGE
+    }];
+    try_all(&rt, rt.alloc(), &CASES)
 }
 
 #[test]
 fn a_cut_third_header_leaves_two_pages(rt: HostRuntime) -> Result<(), Fail> {
-    let alloc = rt.alloc();
-    let mut bytes = one_page(alloc, 8, 6, &BLACK_BODY)?;
-    for _ in 0..2 {
-        add_page(&mut bytes, Kind::Gray8, (8, 6), &BLACK_BODY)?;
-    }
-    let cut = prefix(&bytes, 5397).to_vec(alloc)?;
-    let left = print_on(&rt, alloc, "profile=tiny", cut)?;
-    let mut jobs = TINY_JOB.to_vec(alloc)?;
-    jobs.extend_from_slice(&TINY_JOB)?;
-    leaves(&rt, &left, (3, &jobs, b"input: page 3 line 0: Truncated\n"));
-    Ok(())
+    const CASES: [Case; 1] = [Case {
+        words: &TINY,
+        pages: &[BLACK_PAGE, BLACK_PAGE, BLACK_PAGE],
+        most: 5397,
+        status: 3,
+        out: Output::Parts(&[&TINY_JOB, &TINY_JOB]),
+        line: b"input: page 3 line 0: Truncated\n",
+        ..NO_PAGE
+    }];
+    try_all(&rt, rt.alloc(), &CASES)
 }
 
 #[test]
 fn sixteen_bits_and_a_short_page_are_refused(rt: HostRuntime) -> Result<(), Fail> {
-    let alloc = rt.alloc();
-    let mut wide = one_page(alloc, 8, 6, &BLACK_BODY)?;
-    assert_eq!(rt; wide.len(), 1803);
-    wide[391] = 16;
-    wide[395] = 16;
-    wide[399] = 16;
-    let left = print_on(&rt, alloc, "profile=tiny", wide)?;
-    leaves(&rt, &left, (3, b"", b"input: page 1 line 0: Kind\n"));
-    let short = print_on(
-        &rt,
-        alloc,
-        "profile=tiny",
-        one_page(alloc, 8, 4, &[3, 7, 0])?,
-    )?;
-    leaves(&rt, &short, (3, b"", b"input: page 1 line 0: Height\n"));
-    Ok(())
+    const CASES: [Case; 2] = [
+        Case {
+            words: &TINY,
+            pages: &[BLACK_PAGE],
+            changes: &[(391, 16), (395, 16), (399, 16)],
+            status: 3,
+            line: b"input: page 1 line 0: Kind\n",
+            ..NO_PAGE
+        },
+        Case {
+            words: &TINY,
+            pages: &[GivenPage {
+                size: (8, 4),
+                body: &[3, 7, 0],
+                ..GREY
+            }],
+            status: 3,
+            line: b"input: page 1 line 0: Height\n",
+            ..NO_PAGE
+        },
+    ];
+    try_all(&rt, rt.alloc(), &CASES)
 }
 
 // The built-in printer of that name.
@@ -122,18 +149,34 @@ const P360CMYK: Printer = Printer {
     ..PLAINEST
 };
 
+// Appends a line of 2976 pixels, all of one byte.
+fn add_line(bytes: &mut Vec<u8>, byte: u8) -> Result<(), Fail> {
+    for packet in 0..24 {
+        let run = if packet < 23 { 127 } else { 31 };
+        bytes.extend_from_slice(&[run, byte, byte, byte])?;
+    }
+    Ok(())
+}
+
 // An A4 page of red, green and blue at 360 dots an inch, all of one byte.
 fn a4(alloc: Global, byte: u8) -> Result<Vec<u8>, Fail> {
     let mut bytes = begin(alloc)?;
     add_header(&mut bytes, Kind::Rgb8, (360, 360), (2976, 4209))?;
     for group in 0..17 {
         bytes.push(if group < 16 { 255 } else { 112 })?;
-        for packet in 0..24 {
-            let run = if packet < 23 { 127 } else { 31 };
-            bytes.extend_from_slice(&[run, byte, byte, byte])?;
-        }
+        add_line(&mut bytes, byte)?;
     }
     Ok(bytes)
+}
+
+// How many rasters a job of an A4 page fires, and how many dots of each ink.
+fn fired(alloc: Global, job: &[u8]) -> Result<(u32, [i64; 4]), Fail> {
+    let printed = execute(alloc, &P360CMYK, (2886, 4089), job)?;
+    let [black, cyan, magenta, yellow] = &printed.dots;
+    Ok((
+        printed.rasters,
+        [black.sum(), cyan.sum(), magenta.sum(), yellow.sum()],
+    ))
 }
 
 #[test]
@@ -141,27 +184,27 @@ fn a_black_a4_takes_277_rasters(rt: HostRuntime) -> Result<(), Fail> {
     let alloc = rt.alloc();
     let bytes = a4(alloc, 0)?;
     assert_eq!(rt; bytes.len(), 3449);
-    let left = print_on(&rt, alloc, "profile=p360cmyk", bytes)?;
+    let left = run_bytes(&rt, alloc, &["print", "profile=p360cmyk"], &[], bytes)?;
     hashes_to(&rt, &left, 38_413, 0xAC5A_E1A3_CCA8_296C);
-    let printed = execute(alloc, &P360CMYK, (2886, 4089), left.out.bytes())?;
-    assert_eq!(rt; printed.rasters, 277);
-    let [black, cyan, magenta, yellow] = &printed.dots;
-    assert_eq!(rt; black.sum(), 11_800_854);
-    for colour in [cyan, magenta, yellow] {
-        assert_eq!(rt; colour.sum(), 0);
-    }
+    assert_eq!(rt;
+        fired(alloc, left.out.bytes())?,
+        (277, [11_800_854, 0, 0, 0])
+    );
     Ok(())
 }
 
+// The job of a white A4 page.
+const WHITE_A4: [u8; 49] = [
+    0x1B, 0x40, 0x1B, 0x28, 0x47, 1, 0, 1, 0x1B, 0x28, 0x55, 1, 0, 5, 0x1B, 0x28, 0x69, 1, 0, 0,
+    0x1B, 0x55, 1, 0x1B, 0x28, 0x43, 2, 0, 0xE2, 0x20, 0x1B, 0x28, 0x63, 4, 0, 8, 0, 0x6A, 0x20,
+    0x1B, 0x28, 0x56, 2, 0, 0, 0, 0x0C, 0x1B, 0x40,
+];
+
 #[test]
 fn a_white_a4_is_forty_nine_bytes(rt: HostRuntime) -> Result<(), Fail> {
-    let alloc = rt.alloc();
-    let left = print_on(&rt, alloc, "profile=p360cmyk", a4(alloc, 0xFF)?)?;
-    let job: [u8; 49] = [
-        0x1B, 0x40, 0x1B, 0x28, 0x47, 1, 0, 1, 0x1B, 0x28, 0x55, 1, 0, 5, 0x1B, 0x28, 0x69, 1, 0,
-        0, 0x1B, 0x55, 1, 0x1B, 0x28, 0x43, 2, 0, 0xE2, 0x20, 0x1B, 0x28, 0x63, 4, 0, 8, 0, 0x6A,
-        0x20, 0x1B, 0x28, 0x56, 2, 0, 0, 0, 0x0C, 0x1B, 0x40,
-    ];
-    leaves(&rt, &left, (0, &job, b""));
+    let bytes = a4(rt.alloc(), 0xFF)?;
+    let words = ["print", "profile=p360cmyk"];
+    let left = run_bytes(&rt, rt.alloc(), &words, &[], bytes)?;
+    leaves(&rt, &left, (0, &WHITE_A4, b""));
     Ok(())
 }
