@@ -22,6 +22,3 @@ mod tiles;
 pub use events::{CoreFault, Event};
 pub use scheduler::Core;
 pub use tiles::{Status, TileState};
-
-#[cfg(test)]
-mod tests;

@@ -26,6 +26,3 @@ mod steps;
 pub use ends::{BoardTable, close, open};
 pub use rule::{Cell, Seated, Slab, Tiles, View, Words};
 pub use steps::{cut, look, post, send, take, unite};
-
-#[cfg(test)]
-mod tests;

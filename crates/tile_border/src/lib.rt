@@ -21,6 +21,3 @@ mod tops;
 pub use edges::{BottomEdge, CornerEdge, Edge, RightEdge};
 pub use task::{Done, Task, work};
 pub use tops::TopEdges;
-
-#[cfg(test)]
-mod tests;

@@ -17,6 +17,3 @@ pub mod laws;
 mod wholes;
 
 pub use wholes::{done_is_whole, no_dots};
-
-#[cfg(test)]
-mod tests;

@@ -1,5 +1,4 @@
 pub mod RowCells
-pub mod Blocks
 pub mod Bits
 pub mod RowTile
 pub mod HeldValues

@@ -1,20 +1,13 @@
 //! Error diffusion of one ink of one tile, from the edges that the tile is handed to those that it hands on. No call
 //! takes memory.
 //!
-//! - `diffuse_tile`: take any errors that solve the kernel's rule for the ink's amounts. Where the three edges handed
-//!   in hold these errors, so do the three handed on, and each dot is the rule's; there is no dot left of the window,
-//!   right of it or below it (`done`). The errors handed on are from -2040 to 2039 (`side_fits`, `band_fits`,
-//!   `corner_fits`). The contract fixes no order of pixels.
-//! - `diffuse_tile_plainly`: the same contract, met pixel by pixel and row by row. Tests compare `diffuse_tile` with
-//!   it.
+//! `diffuse_tile`: take any errors that solve the kernel's rule for the ink's amounts. Where the three edges handed
+//! in hold these errors, so do the three handed on, and each dot is the rule's; there is no dot left of the window,
+//! right of it or below it (`done`). The errors handed on are from -2040 to 2039 (`side_fits`, `band_fits`,
+//! `corner_fits`). The contract fixes no order of pixels.
 #![tactic(auto)]
 
 mod lanes;
-mod plain;
 mod tile;
 
-pub use plain::diffuse_tile_plainly;
 pub use tile::diffuse_tile;
-
-#[cfg(test)]
-mod tests;

@@ -12,6 +12,3 @@ pub mod laws;
 mod tiles;
 
 pub use tiles::{Dir, Needs, Place, Shape};
-
-#[cfg(test)]
-mod tests;
