@@ -1,9 +1,8 @@
--- What an ink fires in a pass, row by row.
+-- What an ink fires in a stroke, row by row.
 use Rattle.std.proofs.Common.{◌≡◌, ℕ, suc, ◌+◌, ◌*◌, ◌/◌, ◌≤◌, ◌==◌, nat_lt, Bool, true, false, if◌then◌else◌, List, [], ◌∷◌, ◌++◌, length}
-use Rattle.std.proofs.Common.{map, drop, Option, Some, None, refl, sym, ◌∙◌, ap, arith, append_assoc, append-nil, subst}
+use Rattle.std.proofs.Common.{map, drop, refl, sym, ◌∙◌, ap, arith, append_assoc, append-nil}
 use Rattle.std.specs.List.{flat_map}
-use Rattle.std.proofs.lemmas.List.{drop_at, length-map, length-replicate, take_at}
-use Rattle.dot_planes.specs.Tables.{DotTable, dot}
+use Rattle.std.proofs.lemmas.List.{drop_at, length-map, take_at}
 use Rattle.page_definitions.specs.PageBytes.{page_coding}
 use Rattle.escp2_definitions.specs.Commands.{command_bytes, row_bytes}
 use Rattle.base_definitions.specs.Packed.{packed}
@@ -15,31 +14,16 @@ use Rattle.page_laws.proofs.Fired.{AllWide, packed-len}
 use Rattle.page_laws.proofs.Passes.{count_from-len}
 use Rattle.printer_definitions.specs.declared.inks.Ink.{Ink}
 use Rattle.base_definitions.specs.Counting.{count_from}
-use Rattle.weave_definitions.specs.Weave.{nozzle_row}
-use Rattle.weave_plan.specs.Weaving.{Weaving}
-use Rattle.page_writer.specs.Rows.{nozzle_plane_row, plane_row, plane_rows, rows_commands}
+use Rattle.page_writer.specs.Rows.{rows_commands}
 use Rattle.page_writer.specs.Sums.{rasters_in}
 
--- ---- rows as wide as their planes
+-- ---- rows of one width
 
--- a row is as wide as its plane
-plane_row-len : (t : DotTable) (place : ℕ) (row : Option ℕ) → length (plane_row t place row) ≡ t.width
-plane_row-len t place None = length-replicate {A = Bool} t.width false
-plane_row-len t place (Some y) = length-map (count_from 0 t.width) (dot t place y) ∙ count_from-len 0 t.width
-
--- the bytes of a row
-pub row-len : (t : DotTable) (plan : Weaving) (place pass nozzle : ℕ)
-    → length (packed (nozzle_plane_row t plan place pass nozzle)) ≡ (t.width + 7) / 8
-row-len t plan place pass nozzle =
-    packed-len t.width (nozzle_plane_row t plan place pass nozzle)
-    (plane_row-len t place (nozzle_row plan.nozzles plan.pitch plan.height pass nozzle))
-
--- the same for each of the rows
-rows-wide : (t : DotTable) (plan : Weaving) (place pass : ℕ) (nozzles : List ℕ)
-    → AllWide t.width (map (nozzle_plane_row t plan place pass) nozzles)
-rows-wide t plan place pass [] = tt
-rows-wide t plan place pass (nozzle ∷ nozzles) =
-    (plane_row-len t place (nozzle_row plan.nozzles plan.pitch plan.height pass nozzle), rows-wide t plan place pass nozzles)
+-- the bytes of rows, and so the bytes that they are packed in
+rows-wide : (width : ℕ) (row : ℕ → List Bool) (nozzles : List ℕ)
+    → ((nozzle : ℕ) → length (row nozzle) ≡ width) → AllWide width (map row nozzles)
+rows-wide width row [] wide = tt
+rows-wide width row (nozzle ∷ nozzles) wide = (wide nozzle, rows-wide width row nozzles wide)
 
 -- ---- the codes of rows
 
@@ -69,7 +53,7 @@ header_of header ink = (command_bytes (c.Colour ink) ++ command_bytes c.Return) 
 
 -- an ink that has a dot to fire
 fired-bytes : (header : RasterHead) (ink : Ink) (rows : List (List Bool))
-    → has_dot rows ≡ true → header.c ≡ 1 → length rows ≡ header.m → AllWide header.n rows
+    → has_dot rows ≡ true → header.c ≡ page_coding.c → length rows ≡ header.m → AllWide header.n rows
     → bytes_of page_coding.code (rows_commands header ink rows) ≡ header_of header ink ++ codes_of rows
 fired-bytes header ink rows fires coded many wide =
     let raster : Spoken = record { command = c.Raster header; rows = flat_map packed rows } in
@@ -84,48 +68,42 @@ fired-bytes header ink rows fires coded many wide =
 -- ---- the rows of an ink, one after another
 
 -- So many rows are left to append, from a nozzle on, of bytes that are to become the whole.
-pub record RowsSoFar (t : DotTable) (plan : Weaving) (place pass : ℕ) (whole out : List ℕ) (nozzle left : ℕ) : Type 0 where
-  pub is : whole ≡ out ++ codes_of (map (nozzle_plane_row t plan place pass) (count_from nozzle left))
+pub record RowsSoFar (row : ℕ → List Bool) (whole out : List ℕ) (nozzle left : ℕ) : Type 0 where
+  pub is : whole ≡ out ++ codes_of (map row (count_from nozzle left))
 
 -- no row is appended
-pub rows_begin : (t : DotTable) (plan : Weaving) (place pass : ℕ) (header : RasterHead) (ink : Ink) (old out : List ℕ) (left : ℕ)
-    → has_dot (plane_rows t plan place pass) ≡ true → header.c ≡ 1 → header.m ≡ plan.nozzles → header.n ≡ t.width → left ≡ plan.nozzles
-    → out ≡ old ++ header_of header ink
-    → RowsSoFar t plan place pass (old ++ bytes_of page_coding.code (rows_commands header ink (plane_rows t plan place pass))) out 0 left
-rows_begin t plan place pass header ink old out left fires coded nozzles columns all begun =
-    let rows : List (List Bool) = plane_rows t plan place pass in
-    let many : length rows ≡ header.m = length-map (count_from 0 plan.nozzles) (nozzle_plane_row t plan place pass)
-    ∙ count_from-len 0 plan.nozzles ∙ sym nozzles in
-    let P : ℕ → Type 0 = λ n. AllWide n rows in
-    let wide : AllWide header.n rows = subst P (sym columns) (rows-wide t plan place pass (count_from 0 plan.nozzles)) in
+pub rows_begin : (row : ℕ → List Bool) (nozzles : ℕ) (header : RasterHead) (ink : Ink) (old out : List ℕ) (left : ℕ)
+    → ((nozzle : ℕ) → length (row nozzle) ≡ header.n) → has_dot (map row (count_from 0 nozzles)) ≡ true
+    → header.c ≡ page_coding.c → header.m ≡ nozzles → left ≡ nozzles → out ≡ old ++ header_of header ink
+    → RowsSoFar row (old ++ bytes_of page_coding.code (rows_commands header ink (map row (count_from 0 nozzles)))) out 0 left
+rows_begin row nozzles header ink old out left wide fires coded many all begun =
+    let rows : List (List Bool) = map row (count_from 0 nozzles) in
+    let count : length rows ≡ header.m = length-map (count_from 0 nozzles) row ∙ count_from-len 0 nozzles ∙ sym many in
     record {
-      is = ap (λ bs. old ++ bs) (fired-bytes header ink rows fires coded many wide)
+      is = ap (λ bs. old ++ bs) (fired-bytes header ink rows fires coded count (rows-wide header.n row (count_from 0 nozzles) wide))
           ∙ sym (append_assoc old (header_of header ink) (codes_of rows))
           ∙ ap (λ bs. bs ++ codes_of rows) (sym begun)
-          ∙ ap (λ n. out ++ codes_of (map (nozzle_plane_row t plan place pass) (count_from 0 n))) (sym all);
+          ∙ ap (λ n. out ++ codes_of (map row (count_from 0 n))) (sym all);
     }
 
 -- one more row is appended
-pub rows_step : (t : DotTable) (plan : Weaving) (place pass : ℕ) (whole out out' row : List ℕ) (nozzle left next : ℕ)
-    → RowsSoFar t plan place pass whole out nozzle left → left ≡ suc next → row ≡ packed (nozzle_plane_row t plan place pass nozzle)
-    → out' ≡ out ++ page_coding.code row → RowsSoFar t plan place pass whole out' (nozzle + 1) next
-rows_step t plan place pass whole out out' row nozzle left next so_far more is appended =
-    let f : ℕ → List Bool = nozzle_plane_row t plan place pass in
-    let later : List ℕ = codes_of (map f (count_from (nozzle + 1) next)) in
+pub rows_step : (row : ℕ → List Bool) (whole out out' : List ℕ) (nozzle left next : ℕ)
+    → RowsSoFar row whole out nozzle left → left ≡ suc next
+    → out' ≡ out ++ page_coding.code (packed (row nozzle)) → RowsSoFar row whole out' (nozzle + 1) next
+rows_step row whole out out' nozzle left next so_far more appended =
+    let later : List ℕ = codes_of (map row (count_from (nozzle + 1) next)) in
     record {
       is = so_far.is
-          ∙ ap (λ n. out ++ codes_of (map f (count_from nozzle n))) more
-          ∙ ap (λ bs. out ++ (page_coding.code bs ++ later)) (sym is)
-          ∙ sym (append_assoc out (page_coding.code row) later)
+          ∙ ap (λ n. out ++ codes_of (map row (count_from nozzle n))) more
+          ∙ sym (append_assoc out (page_coding.code (packed (row nozzle))) later)
           ∙ ap (λ bs. bs ++ later) (sym appended);
     }
 
 -- all rows are appended
-pub rows_end : (t : DotTable) (plan : Weaving) (place pass : ℕ) (whole out : List ℕ) (nozzle left : ℕ)
-    → RowsSoFar t plan place pass whole out nozzle left
-    → left ≡ 0 → out ≡ whole
-rows_end t plan place pass whole out nozzle left so_far none =
-    sym (so_far.is ∙ ap (λ n. out ++ codes_of (map (nozzle_plane_row t plan place pass) (count_from nozzle n))) none ∙ append-nil out)
+pub rows_end : (row : ℕ → List Bool) (whole out : List ℕ) (nozzle left : ℕ)
+    → RowsSoFar row whole out nozzle left → left ≡ 0 → out ≡ whole
+rows_end row whole out nozzle left so_far none =
+    sym (so_far.is ∙ ap (λ n. out ++ codes_of (map row (count_from nozzle n))) none ∙ append-nil out)
 
 -- ---- room for rows
 

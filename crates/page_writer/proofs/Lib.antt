@@ -2,6 +2,8 @@ pub mod Dotless
 pub mod Nozzles
 pub mod Fires
 pub mod Inks
-pub mod PassBytes
-pub mod Strokes
+pub mod StrokeBytes
+pub mod InTurn
 pub mod Whole
+pub mod PassesOver
+pub mod Meaning

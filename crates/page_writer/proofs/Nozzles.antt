@@ -6,24 +6,24 @@ use Rattle.page_writer.proofs.Dotless.{packed-any}
 use Rattle.base_definitions.specs.Counting.{count_from}
 
 -- a row is packed without a dot
-pub nozzle_blank : (f : ℕ → List Bool) (i left n many : ℕ) (row : List ℕ) (blank : Bool) → left ≡ suc n
+pub nozzle_blank : (f : ℕ → List Bool) (i left n many : ℕ) (blank : Bool) → left ≡ suc n
     → list_any (list_any (λ on. on)) (map f (count_from 0 many)) ≡ list_any (list_any (λ on. on)) (map f (count_from i left))
-    → row ≡ packed (f i) → blank ≡ list_all (λ byte. byte == 0) row → blank ≡ true
+    → blank ≡ list_all (λ byte. byte == 0) (packed (f i)) → blank ≡ true
     → list_any (list_any (λ on. on)) (map f (count_from 0 many)) ≡ list_any (list_any (λ on. on)) (map f (count_from (i + 1) n))
-nozzle_blank f i left n many row blank more so_far is test none =
+nozzle_blank f i left n many blank more so_far test none =
     so_far ∙ ap (λ n. list_any (list_any (λ on. on)) (map f (count_from i n))) more
     ∙ ap (λ t. t || list_any (list_any (λ on. on)) (map f (count_from (i + 1) n))) (packed-any (f i)
-    ∙ ap not (ap (list_all (λ byte. byte == 0)) (sym is) ∙ sym test ∙ none))
+    ∙ ap not (sym test ∙ none))
 
 -- a row has a dot
-pub nozzle_fires : (f : ℕ → List Bool) (i left n many : ℕ) (row : List ℕ) (blank : Bool) → left ≡ suc n
+pub nozzle_fires : (f : ℕ → List Bool) (i left n many : ℕ) (blank : Bool) → left ≡ suc n
     → list_any (list_any (λ on. on)) (map f (count_from 0 many)) ≡ list_any (list_any (λ on. on)) (map f (count_from i left))
-    → row ≡ packed (f i) → blank ≡ list_all (λ byte. byte == 0) row → blank ≡ false
+    → blank ≡ list_all (λ byte. byte == 0) (packed (f i)) → blank ≡ false
     → true ≡ list_any (list_any (λ on. on)) (map f (count_from 0 many))
-nozzle_fires f i left n many row blank more so_far is test some =
+nozzle_fires f i left n many blank more so_far test some =
     sym (so_far ∙ ap (λ n. list_any (list_any (λ on. on)) (map f (count_from i n))) more
     ∙ ap (λ t. t || list_any (list_any (λ on. on)) (map f (count_from (i + 1) n))) (packed-any (f i)
-    ∙ ap not (ap (list_all (λ byte. byte == 0)) (sym is) ∙ sym test ∙ some)))
+    ∙ ap not (sym test ∙ some)))
 
 -- no nozzle is left
 pub nozzles_none : (f : ℕ → List Bool) (i left many : ℕ) → left ≡ 0

@@ -1,69 +1,53 @@
 -- A page, from its prologue to its end.
 use Rattle.std.proofs.Common.{◌≡◌, ℕ, zero, suc, ◌+◌, ◌-◌, ◌*◌, ◌≤◌, if◌then◌else◌, List, [], ◌∷◌, ◌++◌, length, Option}
-use Rattle.std.proofs.Common.{Some, refl, sym, ◌∙◌, ap, subst, arith, length-append}
-use Rattle.std.specs.Prelude.{slice_get}
+use Rattle.std.proofs.Common.{sym, ◌∙◌, ap, subst, arith, length-append}
 use Rattle.std.specs.Io.KnownBytes.{Appends}
 use Rattle.std.proofs.KnownBytes.{Appends-trans}
-use Rattle.std.proofs.Math.Nat.{mul-le-mul_left, mul-le-mul_right}
-use Rattle.dot_planes.specs.Tables.{DotTable, dot}
 use Rattle.escp2_definitions.specs.declared.command.Command.TheVariants as c
-use Rattle.page_definitions.specs.Dots.{Halftone}
-use Rattle.page_definitions.specs.PageBytes.{halftone_bytes, page_coding}
-use Rattle.page_definitions.specs.Strokes.{Spoken, bytes_of, prologue, say}
-use Rattle.page_laws.specs.Sized.{Sized}
-use Rattle.page_laws.proofs.Lengths.{halftone-short}
-use Rattle.page_laws.proofs.Numbers.{form-sized, row_units-some}
+use Rattle.page_definitions.specs.PageBytes.{page_coding}
+use Rattle.page_definitions.specs.Strokes.{Spoken, Strokes, bytes_of, page_commands, prologue, say, strokes_bytes}
 use Rattle.page_laws.proofs.Printed.{bytes-append}
-use Rattle.printer_definitions.specs.declared.inks.Ink.{Ink}
-use Rattle.printer_definitions.specs.declared.inks.Ink.TheVariants.{Black, Cyan, Magenta, Yellow}
-use Rattle.printer_definitions.specs.declared.inks.InkSet.{InkSet}
-use Rattle.printer_definitions.specs.declared.inks.InkSet.TheVariants.{K, Cmy, Cmyk}
-use Rattle.printer_definitions.specs.Inks.{inks_of, same_ink}
-use Rattle.printer_definitions.specs.Printer.{Printer, head_rows, row_units}
-use Rattle.pwg_definitions.specs.declared.pages.PageForm.{PageForm}
-use Rattle.pwg_definitions.specs.Header.{IsWanted}
-use Rattle.separation_definitions.specs.CanPrint.{CanPrint}
-use Rattle.separation_definitions.specs.Windows.{wanted_by, window_of}
+use Rattle.printer_definitions.specs.Printer.{Printer, row_units}
 use Rattle.weave_base.specs.Parts.{AppendsPart}
 use Rattle.weave_base.proofs.Parting.{part_behind, part_of_front}
-use Rattle.page_writer.specs.Passes.{fired_strokes}
-use Rattle.page_writer.specs.Suits.{Shows, Suits, plan_of}
-use Rattle.page_writer.specs.Sums.{SumsUp, halftone_commands, most_of_page, rasters_in}
+use Rattle.page_writer.specs.StrokeBytes.{fired_strokes}
+use Rattle.page_writer.specs.Sums.{SumsStrokes, rasters_in}
 use Rattle.page_writer.specs.declared.sums.PageSum.{PageSum}
 use Rattle.page_writer.proofs.Inks.{rasters-append}
 
 -- ---- three parts
 
--- the bytes before the passes, on a sheet of this length, of which the part from top to bottom is printed
+-- the bytes before the strokes, on a sheet of this length, of which the part from top to bottom is printed
 abbrev pub begin_bytes : ℕ → ℕ → ℕ → List ℕ
 begin_bytes len top bottom = bytes_of page_coding.code (
     say c.Init ∷ say c.Graphics ∷ say (c.Unit 5) ∷ say (c.MicroWeave 0) ∷ say (c.OneWay 1)
     ∷ say (c.Length len) ∷ say (c.Margins top bottom) ∷ say (c.DownTo 0) ∷ [])
 
--- the commands after the passes
+-- the commands after the strokes
 abbrev end_commands : List Spoken
 end_commands = say c.Eject ∷ say c.Init ∷ []
 
--- the bytes of the passes, and those after them
-abbrev pub strokes_bytes : Printer → Halftone → List ℕ
-strokes_bytes p h = bytes_of page_coding.code (fired_strokes p h)
+-- the bytes of the strokes
+abbrev pub fired_bytes : Printer → ℕ → Strokes → List ℕ
+fired_bytes p width strokes = bytes_of page_coding.code (fired_strokes p width strokes)
 
--- the bytes after the passes
+-- the bytes after the strokes
 abbrev pub end_bytes : List ℕ
 end_bytes = bytes_of page_coding.code (say c.Eject ∷ say c.Init ∷ [])
 
--- the bytes of a page are those of its parts
-pub page_is : (p : Printer) (h : Halftone) (len length top bottom : ℕ)
-    → length ≡ len → top ≡ (p.top - head_rows p) * row_units p → bottom ≡ (p.top + h.height) * row_units p
-    → halftone_bytes p h len ≡ begin_bytes length top bottom ++ (strokes_bytes p h ++ end_bytes)
-unfolding halftone_bytes
-page_is p h len length top bottom length_is top_is bottom_is =
-    let first : List Spoken = prologue p (head_rows p) h.height len in
-    bytes-append page_coding.code first (fired_strokes p h ++ end_commands)
-    ∙ ap (λ bs. bytes_of page_coding.code first ++ bs) (bytes-append page_coding.code (fired_strokes p h) end_commands)
-    ∙ sym (ap (λ n. begin_bytes n top bottom ++ (strokes_bytes p h ++ end_bytes)) length_is
-    ∙ ap (λ n. begin_bytes len n bottom ++ (strokes_bytes p h ++ end_bytes)) top_is
-    ∙ ap (λ n. begin_bytes len ((p.top - head_rows p) * row_units p) n ++ (strokes_bytes p h ++ end_bytes)) bottom_is)
+-- the bytes of a page are those of its parts, where the sheet's numbers are these
+pub page_is : (p : Printer) (width height len : ℕ) (strokes : Strokes) (length top bottom : ℕ)
+    → length ≡ len → top ≡ (p.top - strokes.above) * row_units p → bottom ≡ (p.top + height) * row_units p
+    → strokes_bytes page_coding p width height len strokes
+    ≡ begin_bytes length top bottom ++ (fired_bytes p width strokes ++ end_bytes)
+page_is p width height len strokes length top bottom length_is top_is bottom_is =
+    let first : List Spoken = prologue p strokes.above height len in
+    let rest : List ℕ = fired_bytes p width strokes ++ end_bytes in
+    bytes-append page_coding.code first (fired_strokes p width strokes ++ end_commands)
+    ∙ ap (λ bs. bytes_of page_coding.code first ++ bs) (bytes-append page_coding.code (fired_strokes p width strokes) end_commands)
+    ∙ sym (ap (λ n. begin_bytes n top bottom ++ rest) length_is
+    ∙ ap (λ n. begin_bytes len n bottom ++ rest) top_is
+    ∙ ap (λ n. begin_bytes len ((p.top - strokes.above) * row_units p) n ++ rest) bottom_is)
 
 -- ---- what a page leaves in a sink
 
@@ -92,117 +76,30 @@ last_part a b d e whole xs ys zs is p q s =
 -- ---- what a page takes
 
 -- the sums of a page are those of its parts
-pub page_sums : (p : Printer) (h : Halftone) (len length' top bottom : ℕ) (sum : PageSum) (bytes : ℕ)
-    → halftone_bytes p h len ≡ begin_bytes length' top bottom ++ (strokes_bytes p h ++ end_bytes)
-    → bytes ≡ length (strokes_bytes p h) → sum.bytes ≡ 49 + bytes → sum.rasters ≡ rasters_in (fired_strokes p h) → SumsUp p h len sum
-page_sums p h len length' top bottom sum bytes is strokes all rasters = record {
+pub page_sums : (p : Printer) (width height len : ℕ) (strokes : Strokes) (length' top bottom : ℕ) (sum : PageSum) (bytes : ℕ)
+    → strokes_bytes page_coding p width height len strokes
+    ≡ begin_bytes length' top bottom ++ (fired_bytes p width strokes ++ end_bytes)
+    → bytes ≡ length (fired_bytes p width strokes) → sum.bytes ≡ 49 + bytes
+    → sum.rasters ≡ rasters_in (fired_strokes p width strokes) → SumsStrokes p width height len strokes sum
+page_sums p width height len strokes length' top bottom sum bytes is fired all rasters = record {
   bytes = omega (
     arith,
     all,
-    strokes,
+    fired,
     ap length is,
-    length-append
-        (begin_bytes length' top bottom) (strokes_bytes p h ++ end_bytes),
-    length-append (strokes_bytes p h) end_bytes,
+    length-append (begin_bytes length' top bottom) (fired_bytes p width strokes ++ end_bytes),
+    length-append (fired_bytes p width strokes) end_bytes,
   );
-  rasters = rasters ∙ (let none : rasters_in (fired_strokes p h) ≡ rasters_in (halftone_commands p h len) =
+  rasters = rasters ∙ (let none : rasters_in (fired_strokes p width strokes)
+      ≡ rasters_in (page_commands p width height page_coding.c len strokes) =
       omega (
         arith,
-        rasters-append (prologue p (head_rows p) h.height len) (fired_strokes p h ++ end_commands),
-        rasters-append (fired_strokes p h) end_commands,
+        rasters-append (prologue p strokes.above height len) (fired_strokes p width strokes ++ end_commands),
+        rasters-append (fired_strokes p width strokes) end_commands,
       ) in none);
 }
 
--- ---- a page that the printer takes
-
--- the size of a window and its sheet
-sized : (p : Printer) (t : DotTable) (f : PageForm)
-    → CanPrint p → IsWanted (wanted_by p) f → t.width ≡ (window_of f p).width → t.rows ≡ (window_of f p).height
-    → Sized p (record { width = t.width; height = t.rows; dot = λ ink y x. dot t 0 y x }) f.height
-sized p t f can wanted width rows =
-    form-sized p (record { width = t.width; height = t.rows; dot = λ ink y x. dot t 0 y x }) f can wanted width rows
-
--- the window ends on its sheet
-pub on_sheet : (p : Printer) (t : DotTable) (f : PageForm)
-    → CanPrint p → IsWanted (wanted_by p) f → t.width ≡ (window_of f p).width → t.rows ≡ (window_of f p).height
-    → (p.top + t.rows) * row_units p ≤ 15840
-on_sheet p t f can wanted width rows =
-    let size = sized p t f can wanted width rows in
-    let less : (p.top + t.rows) * row_units p ≤ f.height * row_units p = mul-le-mul_right (row_units p) size.low in
-    omega (arith, less, size.short)
-
--- planes of the window suit the printer
-pub planes_suit : (p : Printer) (t : DotTable) (f : PageForm)
-    → CanPrint p → IsWanted (wanted_by p) f → t.width ≡ (window_of f p).width → t.rows ≡ (window_of f p).height
-    → t.inks ≡ length (inks_of p.inks) → Suits p (plan_of p t) t
-planes_suit p t f can wanted width rows inks =
-    let size = sized p t f can wanted width rows in
-    let units : (p.top + t.rows) * 1 ≤ (p.top + t.rows) * row_units p = mul-le-mul_left (p.top + t.rows) (row_units-some p can) in
-    record {
-      can = can;
-      nozzles = refl;
-      pitch = refl;
-      height = refl;
-      inks = inks;
-      some_columns = size.some_width;
-      most_columns = size.most_width;
-      some_rows = size.some_height;
-      most_rows = omega (arith, units, on_sheet p t f can wanted width rows);
-    }
-
--- ---- a halftone of the planes
-
--- an ink's place in a set
-place_in : List Ink → Ink → ℕ
-place_in [] ink = 0
-place_in (i ∷ inks) ink = if same_ink i ink then 0 else suc (place_in inks ink)
-
--- the ink at a place is at that place
-place_is : (set : InkSet) (place : ℕ) (ink : Ink) → slice_get (inks_of set) place ≡ Some ink → place_in (inks_of set) ink ≡ place
-unfolding place_in
-place_is K zero ink is = let same : Black ≡ ink = cc in ap (λ k. place_in (inks_of K) k) (sym same)
-place_is K (suc place) ink is = absurd (let no : ⊥ = cc in no)
-place_is Cmy zero ink is = let same : Cyan ≡ ink = cc in ap (λ k. place_in (inks_of Cmy) k) (sym same)
-place_is Cmy (suc zero) ink is = let same : Magenta ≡ ink = cc in ap (λ k. place_in (inks_of Cmy) k) (sym same)
-place_is Cmy (suc (suc zero)) ink is = let same : Yellow ≡ ink = cc in ap (λ k. place_in (inks_of Cmy) k) (sym same)
-place_is Cmy (suc (suc (suc place))) ink is = absurd (let no : ⊥ = cc in no)
-place_is Cmyk zero ink is = let same : Black ≡ ink = cc in ap (λ k. place_in (inks_of Cmyk) k) (sym same)
-place_is Cmyk (suc zero) ink is = let same : Cyan ≡ ink = cc in ap (λ k. place_in (inks_of Cmyk) k) (sym same)
-place_is Cmyk (suc (suc zero)) ink is = let same : Magenta ≡ ink = cc in ap (λ k. place_in (inks_of Cmyk) k) (sym same)
-place_is Cmyk (suc (suc (suc zero))) ink is = let same : Yellow ≡ ink = cc in ap (λ k. place_in (inks_of Cmyk) k) (sym same)
-place_is Cmyk (suc (suc (suc (suc place)))) ink is = absurd (let no : ⊥ = cc in no)
-
--- planes show a halftone
-shown : Printer → DotTable → Halftone
-shown p t = record { width = t.width; height = t.rows; dot = λ ink y x. dot t (place_in (inks_of p.inks) ink) y x }
-
--- the planes have the dots of that halftone
-planes_show : (p : Printer) (t : DotTable) → t.inks ≡ length (inks_of p.inks) → Shows p t (shown p t)
-unfolding shown
-planes_show p t inks = record {
-  width_is = refl;
-  rows_is = refl;
-  inks_is = inks;
-  dots = λ i y x ink is low_y low_x. ap (λ n. dot t n y x) (sym (place_is p.inks i ink is));
-}
-
--- So what is written of any halftone that the planes show is no longer than the longest page.
-pub page_short : (p : Printer) (t : DotTable) (len bytes : ℕ) → t.inks ≡ length (inks_of p.inks)
-    → ((h : Halftone) → Shows p t h → bytes ≡ length (halftone_bytes p h len)) → bytes ≤ most_of_page p t.width t.rows
-unfolding shown
-page_short p t len bytes inks is =
-    let h : Halftone = shown p t in omega (arith, is h (planes_show p t inks), halftone-short p h len)
-
--- ---- the page of planes
-
--- the bytes of a halftone that the planes show, where the sheet's numbers are these
-pub page_of : (p : Printer) (h : Halftone) (t : DotTable) (f : PageForm) (length top bottom : ℕ)
-    → Shows p t h → t.rows ≡ (window_of f p).height
-    → length ≡ f.height * row_units p → top ≡ (p.top - head_rows p) * row_units p → bottom ≡ (p.top + (window_of f p).height) * row_units p
-    → halftone_bytes p h (f.height * row_units p) ≡ begin_bytes length top bottom ++ (strokes_bytes p h ++ end_bytes)
-page_of p h t f length top bottom shows rows length_is top_is bottom_is =
-    page_is p h (f.height * row_units p) length top bottom length_is top_is (bottom_is
-    ∙ ap (λ n. (p.top + n) * row_units p) (sym rows ∙ shows.rows_is))
+-- ---- what is appended to nothing
 
 -- bytes appended to nothing
 alone : (cleared out text : List ℕ) → cleared ≡ [] → out ≡ cleared ++ text → out ≡ text

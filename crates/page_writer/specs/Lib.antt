@@ -1,4 +1,6 @@
+pub mod Heads
 pub mod Rows
 pub mod Sums
-pub mod Suits
+pub mod Shows
 pub mod Passes
+pub mod StrokeBytes

@@ -3,7 +3,7 @@ use Rattle.std.specs.Prelude.{◌≡◌, ℕ, ◌+◌, ◌*◌, ◌/◌, List, [
 use Rattle.escp2_definitions.specs.Rasters.{raster_count}
 use Rattle.page_definitions.specs.Dots.{Halftone}
 use Rattle.page_definitions.specs.PageBytes.{halftone_bytes, page_coding, weave}
-use Rattle.page_definitions.specs.Strokes.{Spoken, page_commands}
+use Rattle.page_definitions.specs.Strokes.{Spoken, Strokes, page_commands, strokes_bytes}
 use Rattle.page_writer.specs.declared.sums.PageSum.{PageSum}
 use Rattle.printer_definitions.specs.Inks.{inks_of}
 use Rattle.printer_definitions.specs.Printer.{Printer}
@@ -17,6 +17,11 @@ rasters_in (spoken ∷ job) = raster_count spoken.command + rasters_in job
 -- the commands that print a halftone, on a sheet of this length in units
 abbrev pub halftone_commands : Printer → Halftone → ℕ → List Spoken
 halftone_commands p h len = page_commands p h.width h.height page_coding.c len (weave p h)
+
+-- The sum has the bytes and the rasters that print strokes over a window of this size.
+pub record SumsStrokes (p : Printer) (width height len : ℕ) (strokes : Strokes) (sum : PageSum) : Type 0 where
+  pub bytes : sum.bytes ≡ length (strokes_bytes page_coding p width height len strokes)
+  pub rasters : sum.rasters ≡ rasters_in (page_commands p width height page_coding.c len strokes)
 
 -- The sum has the bytes and the rasters that print a halftone.
 pub record SumsUp (p : Printer) (h : Halftone) (len : ℕ) (sum : PageSum) : Type 0 where

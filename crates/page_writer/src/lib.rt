@@ -1,28 +1,38 @@
-//! Writes the job of a page from its dots: pass by pass of the head over the page's window, ink by ink, with coded
+//! Writes the job of a page from its dots: stroke by stroke of a head over the page's window, ink by ink, with coded
 //! rows.
 //!
-//! `write_page` takes a profile that passes its checks, a form that the printer takes, and planes of the window's
-//! size. For each halftone whose dots the planes have: on success exactly the halftone's bytes for a sheet of the
-//! form's length are appended to the sink (`ok`), and the answer says how many bytes and rasters they are (`sum`). On
-//! `Write` a proper prefix of them was appended (`part`), and the sink's count of faults rose (`write`). On `Memory`
-//! nothing was written (`memory`): the room for one pass is taken before the first byte.
+//! A `Head` tells its strokes: where each begins, and which row each nozzle fires. `write_strokes` takes any head that
+//! suits the printer and the planes: on success exactly the bytes of its strokes are appended to the sink (`ok`), and
+//! the answer says how many bytes and rasters they are (`sum`). On `Write` a proper prefix of them was appended
+//! (`part`), and the sink's count of faults rose (`write`). On `Memory` nothing was written (`memory`): the room for
+//! one stroke is taken before the first byte.
 //!
-//! `short` bounds the bytes: at most 49 + passes * (7 + inks * (12 + 2 * nozzles * bytes of a row)). That a pass is
-//! one call of `put_all`, and so are the commands before the passes and those after them, is left to tests.
+//! `write_page` writes the interleaved passes of `weave_plan::Plan`. It takes a profile that passes its checks, a form
+//! that the printer takes, and planes of the window's size. The same holds of the bytes of each halftone whose dots
+//! the planes have; and they give one sheet with exactly the halftone's dots (`prints`), with at most one raster of an
+//! ink for each pass (`passes`).
+//!
+//! `short` bounds the bytes: at most 49 + passes * (7 + inks * (12 + 2 * nozzles * bytes of a row)). That a stroke is
+//! one call of `put_all`, and so are the commands before the strokes and those after them, is left to tests.
 #![tactic(auto)]
 
 mod blank;
+mod head;
 mod ink;
 mod numbers;
 mod page;
-mod pass;
+mod passes;
 mod prologue;
 mod rows;
+mod stroke;
+mod strokes;
 mod sums;
 
 pub use dot_planes::Planes;
-pub use page::{WriteStop, write_page};
+pub use head::Head;
+pub use page::write_page;
 pub use printer_profile::{PageForm, Profile, Window};
+pub use strokes::{WriteStop, write_strokes};
 pub use sums::{PageSum, most_bytes};
 
 #[cfg(test)]

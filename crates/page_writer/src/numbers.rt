@@ -1,6 +1,7 @@
 //! The numbers of a page's commands.
+ghost use Rattle.page_definitions.specs.PageBytes.{page_coding};
 ghost use Rattle.page_definitions.specs.Strokes.{raster_header as raster_header_of};
-ghost use Rattle.printer_definitions.specs.Printer.{head_rows as head_rows_of, row_units as row_units_of};
+ghost use Rattle.printer_definitions.specs.Printer.{row_units as row_units_of};
 ghost use Rattle.printer_profile.specs.Profiles.{printer_of};
 ghost use Rattle.pwg_definitions.specs.Header.{IsWanted};
 ghost use Rattle.separation_definitions.specs.CanPrint.{CanPrint};
@@ -30,18 +31,10 @@ pub fn row_units(p: &Profile) -> u16
     720 / p.vdpi
 }
 
-/// How many rows the first nozzle is above the last.
-pub fn head_rows(p: &Profile) -> u16
-    requires { CanPrint (printer_of p.now) }
-    ensures { result ≡ head_rows_of (printer_of p.now) }
-{
-    (u16::from(p.nozzles) - 1) * u16::from(p.pitch)
-}
-
 /// The header of rasters of this many columns, with coded rows.
 pub fn raster_header(p: &Profile, width: u16) -> RasterHead
     requires { CanPrint (printer_of p.now) }
-    ensures { result ≡ raster_header_of (printer_of p.now) width 1 }
+    ensures { result ≡ raster_header_of (printer_of p.now) width page_coding.c }
 {
     RasterHead {
         c: 1,
@@ -52,12 +45,13 @@ pub fn raster_header(p: &Profile, width: u16) -> RasterHead
     }
 }
 
-/// The sheet of a page.
-pub fn sheet_of(p: &Profile, f: PageForm) -> Sheet
+/// The sheet of a page, over which the head begins `above` rows above the window.
+pub fn sheet_of(p: &Profile, f: PageForm, above: u32) -> Sheet
     requires can { CanPrint (printer_of p.now) }
     requires wanted { IsWanted (wanted_by (printer_of p.now)) f }
+    requires room { above ≤ p.now.top }
     ensures length { result.length ≡ f.height * row_units_of (printer_of p.now) }
-    ensures top { result.top ≡ (p.now.top - head_rows_of (printer_of p.now)) * row_units_of (printer_of p.now) }
+    ensures top { result.top ≡ (p.now.top - above) * row_units_of (printer_of p.now) }
     ensures bottom { result.bottom ≡
         (p.now.top + (window_of f (printer_of p.now)).height) * row_units_of (printer_of p.now) }
 {
@@ -65,7 +59,7 @@ pub fn sheet_of(p: &Profile, f: PageForm) -> Sheet
     let height = f.height as u16;
     Sheet {
         length: height * units,
-        top: (p.top - head_rows(p)) * units,
+        top: (p.top - above as u16) * units,
         bottom: (height - p.bottom) * units,
     }
 }

@@ -59,7 +59,15 @@ impl Plan {
         ensures { result ≡ pass_count self.now.nozzles self.now.pitch self.now.height }
     {
         let nozzles = u32::from(self.nozzles);
-        (self.height + self.last_nozzle_row() + (nozzles - 1)) / nozzles
+        (self.height + self.head_rows() + (nozzles - 1)) / nozzles
+    }
+
+    /// The row of the first nozzle in a pass, counted from where it is in the first pass.
+    pub fn first_row(&self, pass: u32) -> u32
+        requires { pass < pass_count self.now.nozzles self.now.pitch self.now.height }
+        ensures { result ≡ pass * self.now.nozzles }
+    {
+        pass * u32::from(self.nozzles)
     }
 
     /// The row of the window under a nozzle in a pass, counted from the top, or `None` where the nozzle is above the
@@ -70,7 +78,7 @@ impl Plan {
         ensures { result ≡ nozzle_row self.now.nozzles self.now.pitch self.now.height pass nozzle }
     {
         let place = pass * u32::from(self.nozzles) + u32::from(nozzle) * u32::from(self.pitch);
-        let first = self.last_nozzle_row();
+        let first = self.head_rows();
         if first <= place && place - first < self.height {
             Some(place - first)
         } else {
@@ -90,7 +98,7 @@ impl Plan {
             → (t ≡ result.pass) × (i ≡ result.nozzle) }
     {
         let nozzles = u32::from(self.nozzles);
-        let place = row + self.last_nozzle_row();
+        let place = row + self.head_rows();
         let nozzle = place * u32::from(self.inverse) % nozzles;
         let pass = (place - nozzle * u32::from(self.pitch)) / nozzles;
         PassPlace {
@@ -99,8 +107,8 @@ impl Plan {
         }
     }
 
-    // How many rows the last nozzle is below the first.
-    fn last_nozzle_row(&self) -> u32
+    /// How many rows the last nozzle is below the first. So many rows above the window the head begins.
+    pub fn head_rows(&self) -> u32
         ensures { result ≡ (self.now.nozzles - 1) * self.now.pitch }
     {
         (u32::from(self.nozzles) - 1) * u32::from(self.pitch)

@@ -1,13 +1,75 @@
+use Rattle.std.proofs.Common.{◌≡◌, ℕ, ◌*◌, List, subst, sym, ◌∙◌, ap}
+use Rattle.std.specs.Io.KnownBytes.{Appends}
+use Rattle.std.specs.Prelude.{IsErrOf, OnOk}
+use Rattle.std.proofs.lemmas.Result.{IfOk-weaker}
+use Rattle.dot_planes.specs.Tables.{DotTable}
+use Rattle.page_definitions.specs.Dots.{Halftone}
+use Rattle.page_definitions.specs.PageBytes.{halftone_bytes}
+use Rattle.printer_definitions.specs.Printer.{Printer, row_units}
 use Rattle.printer_profile.specs.Profiles.{printer_of}
-use Rattle.page_writer.proofs.Whole.{page_short, planes_suit}
+use Rattle.weave_base.specs.Parts.{AppendsPart}
+use Rattle.weave_plan.specs.Weaving.{Weaving}
+use Rattle.page_writer.specs.Heads.{Suits, strokes_over}
+use Rattle.page_writer.specs.Passes.{pass_strokes}
+use Rattle.page_writer.specs.Shows.{Shows}
+use Rattle.page_writer.specs.StrokeBytes.{head_bytes}
+use Rattle.page_writer.specs.Sums.{SumsStrokes}
+use Rattle.page_writer.specs.declared.strokes.WriteStop.TheVariants as stop
+use Rattle.page_writer.proofs.Meaning.{bytes_are, halftone_passes, halftone_prints, sums_are}
+use Rattle.page_writer.proofs.PassesOver.{passes_suit}
 use Rattle.page_writer.proofs.page.write_page.Goals as goal
 
-pub put_page-requires-clause-suits : goal.put_page-requires-clause-suits
-put_page-requires-clause-suits g c =
-    planes_suit (printer_of c.args.p.now) c.args.planes.now c.args.f (c.checked_can_print.ensures c.requires.checked)
-    c.requires.wanted c.requires.width c.requires.rows c.requires.inks
+pub write_strokes-requires-clause-suits : goal.write_strokes-requires-clause-suits
+write_strokes-requires-clause-suits g c =
+    let p : Printer = printer_of c.args.p.now in
+    let t : DotTable = c.args.planes.now in
+    let same : c.make-plan.result ≡ record { nozzles = p.nozzles; pitch = p.pitch; height = t.rows } =
+    c.make-plan.ensures ∙ ap (λ n. record { nozzles = p.nozzles; pitch = p.pitch; height = n }) c.rows.ensures in
+    let P : Weaving → Type 0 = λ plan. Suits p (pass_strokes plan) t in
+    subst P (sym same) (passes_suit p t c.args.f (c.checked_can_print.ensures c.requires.checked)
+    c.requires.wanted c.requires.width c.requires.rows c.requires.inks)
 
-pub returns-in-Ok-put_page-clause-short : goal.returns-in-Ok-put_page-clause-short
-returns-in-Ok-put_page-clause-short g c =
-    page_short (printer_of c.args.p.now) c.args.planes.now _ c.in-Ok-put_page.sum.bytes c.requires.inks
-    (λ h shows. (c.in-Ok-put_page.ensures.sum h shows).bytes)
+pub returns-clause-ok : goal.returns-clause-ok
+returns-clause-ok g c = λ h shows.
+    let p : Printer = printer_of c.args.p.now in
+    let t : DotTable = c.args.planes.now in
+    let len : ℕ = c.args.f.height * row_units p in
+    let same : c.make-plan.result ≡ record { nozzles = p.nozzles; pitch = p.pitch; height = t.rows } =
+    c.make-plan.ensures ∙ ap (λ n. record { nozzles = p.nozzles; pitch = p.pitch; height = n }) c.rows.ensures in
+    let bytes : head_bytes p (pass_strokes c.make-plan.result) t len ≡ halftone_bytes p h len =
+    ap (λ (plan : Weaving). head_bytes p (pass_strokes plan) t len) same ∙ bytes_are p t h len shows in
+    let P : List ℕ → Type 0 = λ bs. OnOk c.write_strokes.result (Appends (g.K.Sink.held c.args.k.now) (g.K.Sink.held c.write_strokes.new.k) bs) in
+    subst P bytes c.write_strokes.ensures.ok
+
+pub returns-clause-part : goal.returns-clause-part
+returns-clause-part g c = λ h shows failed.
+    let p : Printer = printer_of c.args.p.now in
+    let t : DotTable = c.args.planes.now in
+    let len : ℕ = c.args.f.height * row_units p in
+    let same : c.make-plan.result ≡ record { nozzles = p.nozzles; pitch = p.pitch; height = t.rows } =
+    c.make-plan.ensures ∙ ap (λ n. record { nozzles = p.nozzles; pitch = p.pitch; height = n }) c.rows.ensures in
+    let bytes : head_bytes p (pass_strokes c.make-plan.result) t len ≡ halftone_bytes p h len =
+    ap (λ (plan : Weaving). head_bytes p (pass_strokes plan) t len) same ∙ bytes_are p t h len shows in
+    let P : List ℕ → Type 0 = AppendsPart (g.K.Sink.held c.args.k.now) (g.K.Sink.held c.write_strokes.new.k) in
+    subst P bytes (c.write_strokes.ensures.part failed)
+
+pub returns-clause-sum : goal.returns-clause-sum
+returns-clause-sum g c = λ h shows.
+    let p : Printer = printer_of c.args.p.now in
+    let t : DotTable = c.args.planes.now in
+    let len : ℕ = c.args.f.height * row_units p in
+    let same : c.make-plan.result ≡ record { nozzles = p.nozzles; pitch = p.pitch; height = t.rows } =
+    c.make-plan.ensures ∙ ap (λ n. record { nozzles = p.nozzles; pitch = p.pitch; height = n }) c.rows.ensures in
+    IfOk-weaker c.write_strokes.result _ _ (λ sum is.
+    let P : Weaving → Type 0 = λ plan. SumsStrokes p t.width t.rows len (strokes_over p (pass_strokes plan) t) sum in
+    sums_are p t h len sum shows (subst P same is)) c.write_strokes.ensures.sum
+
+pub returns-clause-prints : goal.returns-clause-prints
+returns-clause-prints g c = λ h shows.
+    halftone_prints _ c.args.planes.now h c.args.f (c.checked_can_print.ensures c.requires.checked)
+    c.requires.wanted c.requires.width c.requires.rows shows
+
+pub returns-clause-passes : goal.returns-clause-passes
+returns-clause-passes g c = λ h shows ink.
+    halftone_passes _ c.args.planes.now h c.args.f (c.checked_can_print.ensures c.requires.checked)
+    c.requires.wanted c.requires.width c.requires.rows shows ink

@@ -5,11 +5,11 @@ use Rattle.weave_plan.proofs.weaving.Plan.place_of.Goals as goal
 
 -- what the code has read is the plan's
 counts : (c : goal.After-from-2)
-    → Counts c.args.self.now.nozzles c.args.self.now.pitch c.from-nozzles.result c.from-2.result c.from.result c.last_nozzle_row.result
+    → Counts c.args.self.now.nozzles c.args.self.now.pitch c.from-nozzles.result c.from-2.result c.from.result c.head_rows.result
 counts c = record {
   round_is = omega (arith, c.from-nozzles.ensures, ap (λ (v : Weaving). v.nozzles) c.self.view_is);
   step_is = omega (arith, c.from-2.ensures, ap (λ (v : Weaving). v.pitch) c.self.view_is);
-  first_is = c.last_nozzle_row.ensures;
+  first_is = c.head_rows.ensures;
   some = omega arith;
   inverse_is = cc;
 }

@@ -1,8 +1,8 @@
 use Rattle.std.proofs.Common.{◌+◌, ◌/◌, ap, ◌∙◌, replicate, sym}
 use Rattle.base_definitions.specs.Packed.{packed}
-use Rattle.page_writer.specs.Rows.{plane_row}
+use Rattle.page_writer.specs.Passes.{plane_row}
 use Rattle.page_writer.proofs.Dotless.{packed-blank}
-use Rattle.page_writer.proofs.rows.fired_row.Goals as goal
+use Rattle.page_writer.proofs.passes.pass_row.Goals as goal
 
 pub returns-in-None : goal.returns-in-None
 returns-in-None c =

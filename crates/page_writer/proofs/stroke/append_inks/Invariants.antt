@@ -1,16 +1,15 @@
 use Rattle.std.proofs.Common.{◌-◌, ◌+◌, ◌*◌, ◌/◌, ◌≤◌, vec_capacity, vec_len}
-use Rattle.page_definitions.specs.Dots.{Halftone}
-use Rattle.page_writer.specs.Suits.{Shows}
+use Rattle.page_writer.specs.Heads.{stroke_over}
 use Rattle.page_writer.proofs.Inks.{InksSoFar}
 use Rattle.printer_profile.specs.Profiles.{printer_of}
-use Rattle.page_writer.proofs.pass.append_inks.Given as goal
+use Rattle.page_writer.proofs.stroke.append_inks.Given as goal
 
 abbrev pub invariant-inks : goal.invariant-inks
-invariant-inks l = record {
-  so_far : (h : Halftone) → Shows (printer_of l.p) l.planes h
-      → InksSoFar (printer_of l.p) h l.pass l.fn.out.items l.out.items l.rasters l.place;
+invariant-inks g l = record {
+  so_far : InksSoFar (printer_of l.p) l.planes.width
+      (stroke_over (printer_of l.p) (g.H.Head.strokes l.head) l.planes l.stroke) l.fn.out.items l.out.items l.rasters l.place;
   few : l.rasters ≤ l.place;
-  room : vec_len l.out + (l.planes.inks - l.place) * (12 + 2 * l.p.nozzles * ((l.planes.width + 7) / 8)) ≤ vec_capacity l.out;
+  space : vec_len l.out + (l.planes.inks - l.place) * (12 + 2 * l.p.nozzles * ((l.planes.width + 7) / 8)) ≤ vec_capacity l.out;
   most : vec_len l.out + (l.planes.inks - l.place) * (12 + 2 * l.p.nozzles * ((l.planes.width + 7) / 8))
       ≤ vec_len l.fn.out + l.planes.inks * (12 + 2 * l.p.nozzles * ((l.planes.width + 7) / 8));
   capacity : vec_capacity l.fn.out ≤ vec_capacity l.out;

@@ -1,32 +1,34 @@
-use Rattle.std.proofs.Common.{◌≡◌, ◌-◌, ◌+◌, ◌*◌, ◌/◌, ◌≤◌, suc, ap, ◌∙◌, arith, vec_capacity, vec_len}
+use Rattle.std.proofs.Common.{◌≡◌, ◌-◌, ◌+◌, ◌*◌, ◌/◌, ◌≤◌, suc, ap, ◌∙◌, sym, arith, vec_capacity, vec_len}
+use Rattle.page_definitions.specs.PageBytes.{page_coding}
 use Rattle.page_definitions.specs.Strokes.{raster_header}
 use Rattle.printer_profile.specs.Profiles.{printer_of}
-use Rattle.page_writer.proofs.Inks.{inks_begin, inks_end, ink_most, inks_room_more, inks_room_one, inks_step}
-use Rattle.page_writer.proofs.pass.append_inks.Goals as goal
+use Rattle.page_writer.specs.Heads.{stroke_rows}
+use Rattle.page_writer.proofs.Inks.{inks_begin, inks_end, ink_most, inks_room_more, inks_room_one, inks_step, place_is}
+use Rattle.page_writer.proofs.stroke.append_inks.Goals as goal
 
 pub inks-init : goal.inks-init
-inks-init c =
+inks-init g c =
     let all : c.args.planes.now.inks - 0 ≡ c.args.planes.now.inks = omega arith in
     record {
-      so_far = λ h shows. inks_begin _ _ _ _;
+      so_far = inks_begin _ _ _ _;
       few = omega arith;
-      room = omega (arith, c.requires.room, ap (λ n. n * (12 + 2 * c.args.p.now.nozzles * ((c.args.planes.now.width + 7) / 8))) all);
+      space = omega (arith, c.requires.space, ap (λ n. n * (12 + 2 * c.args.p.now.nozzles * ((c.args.planes.now.width + 7) / 8))) all);
       most = omega (arith, ap (λ n. n * (12 + 2 * c.args.p.now.nozzles * ((c.args.planes.now.width + 7) / 8))) all);
       capacity = omega arith;
     }
 
-pub append_ink-rasters-requires-clause-room : goal.append_ink-rasters-requires-clause-room
-append_ink-rasters-requires-clause-room c =
+pub append_ink-rasters-requires-clause-space : goal.append_ink-rasters-requires-clause-space
+append_ink-rasters-requires-clause-space g c =
     let left : c.args.planes.now.inks - c.inks.place ≡ suc (c.args.planes.now.inks - (c.inks.place + 1)) =
     omega (arith, c.inks-test.true, c.inks-place-end.ensures) in
     omega (
       arith,
       ink_most (printer_of c.args.p.now) _ _ _ c.raster_header-header.ensures c.width.ensures,
-      inks_room_one _ _ _ _ _ left c.inks.invariant.room,
+      inks_room_one _ _ _ _ _ left c.inks.invariant.space,
     )
 
 pub inks-preserved : goal.inks-preserved
-inks-preserved c =
+inks-preserved g c =
     let left : c.args.planes.now.inks - c.inks.place ≡ suc (c.args.planes.now.inks - (c.inks.place + 1)) =
     omega (arith, c.inks-test.true, c.inks-place-end.ensures) in
     let taken : vec_len c.append_ink-rasters.new.out
@@ -37,18 +39,21 @@ inks-preserved c =
       ink_most (printer_of c.args.p.now) _ _ _ c.raster_header-header.ensures c.width.ensures,
     ) in
     record {
-      so_far = λ h shows. inks_step _ c.args.plan.now c.args.planes.now h _ _ _ _ c.raster_header-header.result
-          c.at-ink.result _ _ _ (c.inks.invariant.so_far h shows) c.requires.suits shows c.at-ink.ensures
-          (c.raster_header-header.ensures ∙ ap (λ n. raster_header (printer_of c.args.p.now) n 1) c.width.ensures)
+      so_far = inks_step _ _ _ _ _ _ c.raster_header-header.result c.at-ink.result
+          (stroke_rows (g.H.Head.strokes c.args.head.now) c.args.planes.now c.args.stroke c.inks.place) _ _ _
+          c.inks.invariant.so_far c.at-ink.ensures
+          (c.raster_header-header.ensures ∙ ap (λ n. raster_header (printer_of c.args.p.now) n page_coding.c) c.width.ensures)
+          (ap (stroke_rows (g.H.Head.strokes c.args.head.now) c.args.planes.now c.args.stroke)
+          (place_is c.args.p.now.inks c.inks.place c.at-ink.result c.at-ink.ensures))
           c.append_ink-rasters.ensures.items c.append_ink-rasters.ensures.rasters;
       few = omega (arith, c.inks.invariant.few, c.append_ink-rasters.ensures.few);
-      room = let room : vec_len c.append_ink-rasters.new.out + (c.args.planes.now.inks - (c.inks.place + 1))
+      space = let space : vec_len c.append_ink-rasters.new.out + (c.args.planes.now.inks - (c.inks.place + 1))
           * (12 + 2 * c.args.p.now.nozzles * ((c.args.planes.now.width + 7) / 8)) ≤ vec_capacity c.inks.out =
-          inks_room_more _ _ _ _ _ _ left c.inks.invariant.room taken in omega (arith, room, c.append_ink-rasters.ensures.capacity);
+          inks_room_more _ _ _ _ _ _ left c.inks.invariant.space taken in omega (arith, space, c.append_ink-rasters.ensures.capacity);
       most = inks_room_more _ _ _ _ _ _ left c.inks.invariant.most taken;
       capacity = omega (arith, c.inks.invariant.capacity, c.append_ink-rasters.ensures.capacity);
     }
 
 pub returns-clause-inks : goal.returns-clause-inks
-returns-clause-inks c = λ h shows. inks_end _ _ _ _ _ _ _ (c.inks.invariant.so_far h shows)
+returns-clause-inks g c = inks_end _ _ _ _ _ _ _ c.inks.invariant.so_far
     (omega (arith, c.requires.suits.inks, c.inks-test.false, c.inks-place-end.ensures))

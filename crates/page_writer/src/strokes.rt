@@ -1,0 +1,164 @@
+//! A whole page, from the strokes of a head.
+ghost use Rattle.page_definitions.specs.PageBytes.{page_coding};
+ghost use Rattle.page_definitions.specs.Strokes.{bytes_of};
+ghost use Rattle.page_writer.specs.Heads.{Suits, strokes_over};
+ghost use Rattle.page_writer.specs.StrokeBytes.{fired_strokes, head_bytes};
+ghost use Rattle.page_writer.specs.Sums.{SumsStrokes, most_of_pass as most_of_pass_of, rasters_in};
+ghost use Rattle.page_writer.specs.declared.strokes.WriteStop.TheVariants as stop;
+ghost use Rattle.printer_definitions.specs.Printer.{row_units as row_units_of};
+ghost use Rattle.printer_profile.specs.Profiles.{printer_of};
+ghost use Rattle.pwg_definitions.specs.Header.{IsWanted};
+ghost use Rattle.separation_definitions.specs.Windows.{wanted_by, window_of};
+ghost use Rattle.std.specs.Io.KnownBytes.{Appends, Keeps};
+ghost use Rattle.std.specs.Prelude.{IfOk, IsErrOf, OnErr, OnOk, [], if◌then◌else◌, length, nat_lt};
+ghost use Rattle.std.specs.Prelude.{vec_capacity, vec_len, ◌*◌, ◌+◌, ◌/◌, ◌≡◌, ◌≤◌};
+ghost use Rattle.weave_base.specs.Causes.{HasCause, Rose};
+ghost use Rattle.weave_base.specs.Parts.{AppendsPart};
+
+use crate::head::Head;
+use crate::numbers::sheet_of;
+use crate::prologue::{append_end, append_prologue};
+use crate::stroke::put_stroke;
+use crate::sums::{PageSum, most_of_pass};
+use dot_planes::Planes;
+use printer_profile::{PageForm, Profile};
+use std::alloc::Global;
+use weave_base::{Failed, Sink, put_all};
+
+/// Why a page was not written whole.
+#[derive(Clone, Copy, Debug, PartialEq, Eq)]
+pub enum WriteStop {
+    /// A write failed.
+    Write,
+    /// Memory ran out, before the first byte was written.
+    Memory,
+}
+
+/// Where the head is after a stroke: where the stroke begins if it fired, else where it was.
+fn head_after(last: u32, begin: u32, rasters: u32) -> u32
+    ensures { result ≡ (if nat_lt 0 rasters then begin else last) }
+{
+    if rasters > 0 { begin } else { last }
+}
+
+/// Writes the strokes of a head, each in one write.
+fn put_strokes<H: Head, K: Sink>(
+    p: &Profile,
+    planes: &Planes,
+    head: &H,
+    room: &mut [u8],
+    out: &mut Vec<u8>,
+    k: &mut K,
+) -> Result<PageSum, Failed>
+    requires suits { Suits (printer_of p.now) (H.strokes head.now) planes.now }
+    requires room { length room.old ≡ (planes.now.width + 7) / 8 }
+    requires space { most_of_pass_of (printer_of p.now) planes.now.width ≤ vec_capacity out.old }
+    ensures ok { OnOk result (Appends (K.held k.old) (K.held k.new) (bytes_of page_coding.code (fired_strokes
+        (printer_of p.now) planes.now.width (strokes_over (printer_of p.now) (H.strokes head.now) planes.now)))) }
+    ensures bytes { IfOk result (λ sum. sum.bytes ≡ length (bytes_of page_coding.code (fired_strokes
+        (printer_of p.now) planes.now.width (strokes_over (printer_of p.now) (H.strokes head.now) planes.now)))) }
+    ensures rasters { IfOk result (λ sum. sum.rasters ≡ rasters_in (fired_strokes
+        (printer_of p.now) planes.now.width (strokes_over (printer_of p.now) (H.strokes head.now) planes.now))) }
+    ensures part { OnErr result (AppendsPart (K.held k.old) (K.held k.new) (bytes_of page_coding.code (fired_strokes
+        (printer_of p.now) planes.now.width (strokes_over (printer_of p.now) (H.strokes head.now) planes.now)))) }
+    ensures cause { HasCause (K.faults k.old) (K.faults k.new) result }
+    ensures most { IfOk result (λ sum. sum.bytes
+        ≤ (H.strokes head.now).count * most_of_pass_of (printer_of p.now) planes.now.width) }
+    ensures capacity { vec_capacity out.old ≤ vec_capacity out.new }
+{
+    let mut sum = PageSum {
+        bytes: 0,
+        rasters: 0,
+    };
+    let mut last = 0;
+    'strokes: for stroke in 0..head.count() {
+        let begin = head.start(stroke);
+        let down = begin - last;
+        let done = put_stroke(p, planes, head, stroke, down, room, out, k)?;
+        last = head_after(last, begin, done.rasters);
+        sum.bytes += done.bytes;
+        sum.rasters += done.rasters;
+    }
+    Ok(sum)
+}
+
+/// Writes a page whose room is reserved: its prologue, its strokes, and its end.
+fn put_page<H: Head, K: Sink>(
+    p: &Profile,
+    f: PageForm,
+    planes: &Planes,
+    head: &H,
+    out: &mut Vec<u8>,
+    k: &mut K,
+) -> Result<PageSum, Failed>
+    requires suits { Suits (printer_of p.now) (H.strokes head.now) planes.now }
+    requires wanted { IsWanted (wanted_by (printer_of p.now)) f }
+    requires rows { planes.now.rows ≡ (window_of f (printer_of p.now)).height }
+    requires empty { out.old.items ≡ [] }
+    requires none { vec_len out.old ≡ 0 }
+    requires prologue { 46 ≤ vec_capacity out.old }
+    requires space { most_of_pass_of (printer_of p.now) planes.now.width ≤ vec_capacity out.old }
+    ensures ok { OnOk result (Appends (K.held k.old) (K.held k.new) (head_bytes (printer_of p.now) (H.strokes head.now)
+        planes.now (f.height * row_units_of (printer_of p.now)))) }
+    ensures sum { IfOk result (SumsStrokes (printer_of p.now) planes.now.width planes.now.rows
+        (f.height * row_units_of (printer_of p.now))
+        (strokes_over (printer_of p.now) (H.strokes head.now) planes.now)) }
+    ensures part { OnErr result (AppendsPart (K.held k.old) (K.held k.new) (head_bytes (printer_of p.now)
+        (H.strokes head.now) planes.now (f.height * row_units_of (printer_of p.now)))) }
+    ensures cause { HasCause (K.faults k.old) (K.faults k.new) result }
+    ensures short { IfOk result (λ sum. sum.bytes
+        ≤ 49 + (H.strokes head.now).count * most_of_pass_of (printer_of p.now) planes.now.width) }
+{
+    append_prologue(sheet_of(p, f, head.above()), out);
+    put_all(k, out)?;
+    let mut row = [0u8; 1024];
+    let len = (planes.width() as usize + 7) / 8;
+    let strokes = put_strokes(p, planes, head, &mut row[..len], out, k)?;
+    out.clear();
+    append_end(out);
+    put_all(k, out)?;
+    Ok(PageSum {
+        bytes: 49 + strokes.bytes,
+        rasters: strokes.rasters,
+    })
+}
+
+/// Writes the job of a page from the strokes of a head over planes of its dots, and gives the number of its bytes and
+/// rasters: graphics mode and the sheet, then the strokes that have a dot, and the end of the sheet (ESC/P Reference
+/// Manual, graphics commands). Rows of rasters are coded.
+///
+/// It takes its memory, the room for one stroke, before the first byte. A stroke is one call of `put_all`; so are the
+/// commands before the strokes and those after them. On `Write` the sink took a proper prefix of the bytes.
+pub fn write_strokes<H: Head, K: Sink>(
+    alloc: Global,
+    p: &Profile,
+    f: PageForm,
+    planes: &Planes,
+    head: &H,
+    k: &mut K,
+) -> Result<PageSum, WriteStop>
+    requires suits { Suits (printer_of p.now) (H.strokes head.now) planes.now }
+    requires wanted { IsWanted (wanted_by (printer_of p.now)) f }
+    requires rows { planes.now.rows ≡ (window_of f (printer_of p.now)).height }
+    ensures ok { OnOk result (Appends (K.held k.old) (K.held k.new) (head_bytes (printer_of p.now) (H.strokes head.now)
+        planes.now (f.height * row_units_of (printer_of p.now)))) }
+    ensures sum { IfOk result (SumsStrokes (printer_of p.now) planes.now.width planes.now.rows
+        (f.height * row_units_of (printer_of p.now))
+        (strokes_over (printer_of p.now) (H.strokes head.now) planes.now)) }
+    ensures part { IsErrOf result stop.Write → AppendsPart (K.held k.old) (K.held k.new) (head_bytes
+        (printer_of p.now) (H.strokes head.now) planes.now (f.height * row_units_of (printer_of p.now))) }
+    ensures short { IfOk result (λ sum. sum.bytes
+        ≤ 49 + (H.strokes head.now).count * most_of_pass_of (printer_of p.now) planes.now.width) }
+    ensures write { IsErrOf result stop.Write → Rose (K.faults k.old) (K.faults k.new) }
+    ensures memory { IsErrOf result stop.Memory → Keeps (K.held k.old) (K.held k.new) }
+    ensures later { K.faults k.old ≤ K.faults k.new }
+{
+    let most = most_of_pass(p, planes.width()).max(46) as usize;
+    let Ok(mut out) = Vec::with_capacity(alloc, most) else {
+        return Err(WriteStop::Memory);
+    };
+    match put_page(p, f, planes, head, &mut out, k) {
+        Ok(sum) => Ok(sum),
+        Err(Failed) => Err(WriteStop::Write),
+    }
+}
