@@ -1,6 +1,4 @@
 //! Runs in memory over jobs.
-ghost use Rattle.std.specs.Prelude.{length, ◌≤◌};
-
 use driver_fixtures::{no_files, run_over, sink};
 use known_jobs::TINY_JOB;
 use std::alloc::{AllocError, Global};
@@ -19,9 +17,7 @@ pub fn runs_to<R: Abort + Threads + Sync>(
     reads: (u32, u32),
     room: usize,
     wanted: (u8, &[u8], &[u8]),
-) -> Result<(), Fail>
-    requires { length texts.now ≤ 9 }
-{
+) -> Result<(), Fail> {
     let (piece, fails) = reads;
     let pieces = vec![in alloc; piece.max(1)]?;
     let input = MemSource::make(job.to_vec(alloc)?, pieces, vec![in alloc; fails]?);
@@ -85,7 +81,6 @@ fn joined(alloc: Global, parts: &[&[u8]]) -> Result<Vec<u8>, AllocError> {
 
 // Asserts what a case leaves.
 fn try_case<R: Abort + Threads + Sync>(rt: &R, alloc: Global, case: &Case) -> Result<(), Fail> {
-    assert!(rt; case.words.len() <= 9);
     let (job, out) = (job_of(alloc, case.job)?, joined(alloc, case.out)?);
     let wanted = (case.status, out.as_slice(), case.line);
     runs_to(rt, alloc, case.words, &job, case.reads, case.room, wanted)

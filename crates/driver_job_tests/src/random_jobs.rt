@@ -29,7 +29,6 @@ impl Outcome {
             Some((at, cause)) => (8, format!(in alloc; "job: offset {at}: {cause}\n")?),
             None => (0, String::new(alloc)),
         };
-        assert!(rt; words.len() <= 2);
         let wanted = (status, self.out.as_slice(), line.as_bytes());
         runs_to(rt, alloc, words, job, (piece, 0), 70_000, wanted)
     }

@@ -54,6 +54,14 @@ fn asked<R: Threads + Sync>(
     Ok((status, shelf.names))
 }
 
+// The first of these names.
+fn first(names: &[String]) -> Option<&str> {
+    match names.first() {
+        Some(name) => Some(name.as_str()),
+        None => None,
+    }
+}
+
 // Asserts the status of words and the names that they ask for, each with the number of names.
 fn asks_all<R: Abort + Threads + Sync>(
     rt: &R,
@@ -62,9 +70,8 @@ fn asks_all<R: Abort + Threads + Sync>(
 ) -> Result<(), Fail> {
     for (words, status, names) in questions {
         let (answer, asked) = asked(rt, alloc, words)?;
-        let name = asked.first().map(String::as_str);
         assert_eq!(rt;
-            (answer, asked.len(), name),
+            (answer, asked.len(), first(&asked)),
             (*status, names.len(), names.first().copied())
         );
     }

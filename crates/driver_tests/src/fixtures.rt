@@ -9,7 +9,8 @@ use weave_base::Memory;
 // How many words of so many there are.
 fn words_of(alloc: Global, given: usize) -> Result<u32, Memory> {
     let texts = ["a", "b", "c", "d", "e", "f", "g", "h", "i", "j", "k"];
-    Ok(words(alloc, &texts[..given.min(11)])?.len())
+    let few = texts.get(..given).unwrap_or(texts.as_slice());
+    Ok(words(alloc, few)?.len())
 }
 
 #[test]

@@ -72,19 +72,18 @@ struct CountingGate {
 
 impl CountingGate {
     fn make() -> CountingGate {
-        let none = || AtomicU64::new(0);
         CountingGate {
             bands: [
-                none(),
-                none(),
-                none(),
-                none(),
-                none(),
-                none(),
-                none(),
-                none(),
+                AtomicU64::new(0),
+                AtomicU64::new(0),
+                AtomicU64::new(0),
+                AtomicU64::new(0),
+                AtomicU64::new(0),
+                AtomicU64::new(0),
+                AtomicU64::new(0),
+                AtomicU64::new(0),
             ],
-            others: none(),
+            others: AtomicU64::new(0),
         }
     }
 
