@@ -10,8 +10,6 @@ mod checking;
 mod fields;
 mod kinds;
 mod reading;
-#[cfg(test)]
-mod tests;
 mod writing;
 
 pub use checking::check;

@@ -28,6 +28,3 @@ pub use laws::canonical_spells;
 pub use pwg_definitions::{Kind, LineFault, PageForm};
 pub use reader::LineReader;
 pub use writer::code_line;
-
-#[cfg(test)]
-mod tests;

@@ -24,8 +24,6 @@ mod headers;
 mod reader;
 mod stops;
 mod sync;
-#[cfg(test)]
-mod tests;
 
 pub use headers::MOST_PAGES;
 pub use reader::PageReader;
