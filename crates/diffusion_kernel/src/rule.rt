@@ -134,6 +134,3 @@ impl Kernel {
         dot_of(16 * i32::from(a) + self.carried(errs))
     }
 }
-
-#[cfg(test)]
-mod tests;

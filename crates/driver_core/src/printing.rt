@@ -17,7 +17,7 @@ use printer_profile::Profile;
 use pwg_stream::{MOST_PAGES, PageReader};
 use std::alloc::Global;
 use std::thread::Threads;
-use wavefront_team::Gate;
+use wavefront_team::{Gate, Team};
 use weave_base::{Sink, Source};
 
 /// Prints the pages of the input, each once it is read to its last line and every meter has room for it. `workers`
@@ -42,19 +42,14 @@ pub fn print_pages<R: Threads + Sync, S: Source, K: Sink, G: Gate + Sync>(
         (meters_of (λ meter. account meter) meters.old.items meters.new.items) result }
 {
     prove!(profile.nozzles <= 255);
+    let team = Team {
+        threads: rt,
+        workers,
+        gate,
+    };
     let mut reader = PageReader::begin(alloc, input)?;
     'pages: for number in 1..MOST_PAGES + 2 {
-        let Some(page) = read_page(
-            rt,
-            alloc,
-            &mut reader,
-            profile,
-            kernel,
-            workers,
-            input,
-            gate,
-        )?
-        else {
+        let Some(page) = read_page(&team, alloc, &mut reader, profile, kernel, input)? else {
             return Ok(());
         };
         charge(number, &count_dots(profile.inks, &page.planes), meters)?;

@@ -23,7 +23,7 @@ use pwg_definitions::PageForm;
 use pwg_stream::{PageReader, StreamStop};
 use std::alloc::Global;
 use std::thread::Threads;
-use wavefront_team::Gate;
+use wavefront_team::{Gate, Team};
 use weave_base::Source;
 
 /// A page that was read: its form, and the dots of its halftone inside the margins.
@@ -33,21 +33,17 @@ pub struct HalftonedPage {
     pub planes: Planes,
 }
 
-/// Reads the next page with all its lines and halftones each line as it comes; `workers` workers that share the gate
-/// diffuse its slabs. `None` at the end of the stream.
+/// Reads the next page with all its lines and halftones each line as it comes; the team diffuses its slabs. `None` at
+/// the end of the stream.
 pub fn read_page<R: Threads + Sync, S: Source, G: Gate + Sync>(
-    rt: &R,
+    team: &Team<'_, R, G>,
     alloc: Global,
     reader: &mut PageReader,
     profile: &Profile,
     kernel: Kernel,
-    workers: u8,
     s: &mut S,
-    gate: &G,
 ) -> Result<Option<HalftonedPage>, StreamStop>
     requires checked { IsOk (check profile.now) }
-    requires some_workers { 1 ≤ workers }
-    requires most_workers { workers ≤ 64 }
     requires between { IsBetween reader.old }
     requires unended { has_ended reader.old ≡ false }
     ensures page { IfOk result (λ o. IfSome o (λ page.
@@ -66,10 +62,10 @@ pub fn read_page<R: Threads + Sync, S: Source, G: Gate + Sync>(
     let Some(form) = reader.next_page(s, profile.wanted())? else {
         return Ok(None);
     };
-    let mut halftoner = Halftoner::begin(alloc, profile, form, kernel, workers)?;
+    let mut halftoner = Halftoner::begin(alloc, profile, form, kernel, team.workers)?;
     'groups: while reader.lines_left() > 0 {
         let repeats = reader.next_line(s)?;
-        halftoner.lines(rt, reader.line(), repeats, gate)?;
+        halftoner.lines(team, reader.line(), repeats)?;
     }
     let planes = halftoner.finish();
     Ok(Some(HalftonedPage { form, planes }))

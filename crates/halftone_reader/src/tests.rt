@@ -8,7 +8,7 @@ use std::alloc::Global;
 use std::process::Abort;
 use std::test::Fail;
 use std::thread::Threads;
-use wavefront_team::OpenGate;
+use wavefront_team::{OpenGate, Team};
 use weave_base::MemSource;
 
 /// What is not 0 in the numbers of a header for eight columns and two lines of grey, by places in a stream, in which
@@ -53,16 +53,12 @@ fn read<R: Abort + Threads + Sync>(
     let Ok(mut reader) = PageReader::begin(alloc, &mut s) else {
         return Err("no sync word")?;
     };
-    Ok(read_page(
-        rt,
-        alloc,
-        &mut reader,
-        &TINY1,
-        Kernel::Floyd,
-        2,
-        &mut s,
-        &OpenGate,
-    ))
+    let team = Team {
+        threads: rt,
+        workers: 2,
+        gate: &OpenGate,
+    };
+    Ok(read_page(&team, alloc, &mut reader, &TINY1, Kernel::Floyd, &mut s))
 }
 
 #[test]

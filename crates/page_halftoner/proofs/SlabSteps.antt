@@ -8,7 +8,7 @@ use Rattle.diffusion_laws.proofs.Slab.{first_rows, slab}
 use Rattle.diffusion_laws.proofs.SlabDots.{first_dots, slab_dots}
 use Rattle.diffusion_laws.proofs.Solve.{errors_solve}
 use Rattle.dot_planes.specs.Tables.{AmountTable, DotTable, amount, dot}
-use Rattle.slab_diffusion.specs.Slabs.{AreSlabErrors, DiffusesSlab}
+use Rattle.wavefront_team.specs.Slabs.{AreSlabErrors, DiffusesSlab}
 use Rattle.tile_border.specs.Tops.{edges_of}
 use Rattle.tile_edges.proofs.TopLaws.{bottoms_are_top}
 use Rattle.tile_edges.specs.Tops.{IsBelow}

@@ -36,14 +36,12 @@ halftoning h = record {
 abbrev pub window_in : Inside → Window
 window_in h = window_of h.form (printer_of h.profile)
 
--- The profile passes its checks, its black generation is worked out, the printer takes the page, there are 1 to 64 workers, and
--- there is room for the window's rows in all inks.
+-- The profile passes its checks, its black generation is worked out, the printer takes the page, and there is room for the
+-- window's rows in all inks.
 pub record IsReady (h : Inside) : Type 0 where
   pub checked : IsOk (check h.profile)
   pub black : h.black ≡ h.profile.black_start
   pub wanted : IsWanted (wanted_by (printer_of h.profile)) h.form
-  pub some_workers : 1 ≤ h.workers
-  pub most_workers : h.workers ≤ 64
   pub few : h.count ≤ h.form.height
   pub slab_width : h.slab.width ≡ (window_in h).width
   pub slab_inks : h.slab.inks ≡ length (inks_of h.profile.inks)

@@ -21,7 +21,7 @@ use std::alloc::Global;
 use std::marker::Model;
 use std::thread::Threads;
 use tile_border::TopEdges;
-use wavefront_team::{Gate, diffuse};
+use wavefront_team::{Gate, Team, diffuse};
 
 /// A page that is halftoned line by line. Contracts see the profile, the form, the kernel, the number of lines so
 /// far, which lists of lines it stands for, and whether a call answered `Memory`.
@@ -35,8 +35,6 @@ pub struct Halftoner {
     black: BlackScale,
     form: PageForm,
     kernel: Kernel,
-    /// How many workers diffuse each slab: 1 to 64.
-    workers: u8,
     /// How many lines of the page have come, those in the margins too.
     count: u32,
     /// How many rows of the window are diffused.
@@ -74,7 +72,7 @@ fn row_of_line(window: Window, line: u32) -> Option<u32>
 }
 
 impl Halftoner {
-    /// Begins a page whose slabs `workers` workers diffuse, and takes the memory that the page itself needs.
+    /// Begins a page whose slabs have work for this many workers, and takes the memory that the page itself needs.
     pub fn begin(
         alloc: Global,
         p: &Profile,
@@ -85,7 +83,6 @@ impl Halftoner {
         requires checked { IsOk (check p.now) }
         requires wanted { IsWanted (wanted_by (printer_of p.now)) f }
         requires some_workers { 1 ≤ workers }
-        requires most_workers { workers ≤ 64 }
         ensures page { IfOk result (λ h. (h.profile ≡ p.now) × (h.form ≡ f) × (h.kernel ≡ k)) }
         ensures count { IfOk result (λ h. h.count ≡ 0) }
         ensures stands { IfOk result (λ h. StandsFor h []) }
@@ -101,7 +98,6 @@ impl Halftoner {
             black: BlackScale::make(p),
             form: f,
             kernel: k,
-            workers,
             count: 0,
             diffused: 0,
             slab,
@@ -110,14 +106,13 @@ impl Halftoner {
         })
     }
 
-    /// Takes a line of the page that occurs `repeats` times in a row. When a slab is full, its workers enter the
-    /// gate, one with each tile. `Memory` comes where memory for diffusing a slab runs out, and at each later call.
+    /// Takes a line of the page that occurs `repeats` times in a row. When a slab is full, the team diffuses it.
+    /// `Memory` comes where memory for that runs out, and at each later call.
     pub fn lines<R: Threads + Sync, G: Gate + Sync>(
         &mut self,
-        rt: &R,
+        team: &Team<'_, R, G>,
         line: &[u8],
         repeats: u32,
-        gate: &G,
     ) -> Result<(), Memory>
         requires line { length line.now ≡ self.old.form.bytes_per_line }
         requires repeats { self.old.count + repeats ≤ self.old.form.height }
@@ -133,7 +128,7 @@ impl Halftoner {
             return Err(Memory);
         }
         for repeat in 0..repeats {
-            self.next_line(rt, line, 0 < repeat, gate)?;
+            self.next_line(team, line, 0 < repeat)?;
         }
         Ok(())
     }
@@ -152,10 +147,9 @@ impl Halftoner {
     // Takes a line once. `again`: it is the line before, too.
     fn next_line<R: Threads + Sync, G: Gate + Sync>(
         &mut self,
-        rt: &R,
+        team: &Team<'_, R, G>,
         line: &[u8],
         again: bool,
-        gate: &G,
     ) -> Result<(), Memory>
         requires line { length line.now ≡ self.old.form.bytes_per_line }
         requires count { self.old.count < self.old.form.height }
@@ -190,13 +184,11 @@ impl Halftoner {
             return Err(Memory);
         };
         let bottom = diffuse(
-            rt,
+            team,
             self.alloc,
             &self.slab,
             self.kernel,
             top,
-            self.workers,
-            gate,
             &mut self.planes,
             self.diffused,
         )?;

@@ -37,7 +37,7 @@ fn slab_rows(width: u32, height: u32, inks: u8, workers: u8) -> u32
     height.min(32 * bands.min(MOST_BANDS))
 }
 
-/// Room for the first rows of a window, which `workers` workers diffuse; the errors above them are 0.
+/// Room for the first rows of a window, with work for this many workers; the errors above them are 0.
 pub(crate) fn first_slab(
     alloc: Global,
     width: u32,

@@ -16,7 +16,7 @@ use printer_profile::{InkSet, PageForm, Profile};
 use pwg_definitions::Kind;
 use std::alloc::Global;
 use std::thread::Threads;
-use wavefront_team::OpenGate;
+use wavefront_team::{OpenGate, Team};
 
 // Whether the printer takes a page.
 fn is_taken(p: &Profile, f: PageForm) -> bool
@@ -98,10 +98,15 @@ fn planes_of<R: Threads + Sync>(
     let Ok(mut h) = Halftoner::begin(alloc, p, f, kernel, workers) else {
         return None;
     };
+    let team = Team {
+        threads: rt,
+        workers,
+        gate: &OpenGate,
+    };
     for y in 0..f.height {
         let line = line_at(f.kind, y);
         let line = &line[..f.bytes_per_line as usize];
-        if h.lines(rt, line, 1, &OpenGate).is_err() {
+        if h.lines(&team, line, 1).is_err() {
             return None;
         }
     }
@@ -200,7 +205,12 @@ fn errors_cross_the_slab_at_row_256(rt: HostRuntime) {
         assert!(rt; false);
         return;
     };
-    let Ok(()) = h.lines(&rt, &[0x9B], 257, &OpenGate) else {
+    let team = Team {
+        threads: &rt,
+        workers: 1,
+        gate: &OpenGate,
+    };
+    let Ok(()) = h.lines(&team, &[0x9B], 257) else {
         assert!(rt; false);
         return;
     };

@@ -157,6 +157,3 @@ impl Definition {
         }
     }
 }
-
-#[cfg(test)]
-mod tests;

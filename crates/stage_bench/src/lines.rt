@@ -2,9 +2,7 @@
 ghost use Rattle.printer_profile.specs.Validity.{check};
 ghost use Rattle.std.specs.Prelude.{IsOk, ◌≡◌};
 
-use crate::inks::InkErrors;
 use crate::stages::Stage;
-use diffusion_kernel::Kernel;
 use dot_planes::InkRows;
 use ink_separation::{BlackScale, amounts_by};
 use printer_profile::Profile;
@@ -24,40 +22,23 @@ pub struct Page {
 #[derive(Drop)]
 pub struct Lines {
     stage: Stage,
-    kernel: Kernel,
     page: Page,
     // How many lines there were.
     lines: u64,
     // The amounts of the current line.
     row: InkRows,
-    inks: Vec<InkErrors>,
 }
 
 impl Lines {
     /// No lines yet, for a printer with this many inks.
-    pub fn make(
-        alloc: Global,
-        stage: Stage,
-        kernel: Kernel,
-        page: Page,
-        inks: u8,
-    ) -> Result<Lines, Memory> {
+    pub fn make(alloc: Global, stage: Stage, page: Page, inks: u8) -> Result<Lines, Memory> {
         let width = page.window.width.clamp(1, MOST_COLUMNS);
         let row = InkRows::make(alloc, width, 1, inks.clamp(1, 4))?;
-        let mut errors = Vec::new(alloc);
-        for _ in 0..row.inks() {
-            let ink = InkErrors::make(alloc, width)?;
-            let Ok(()) = errors.push(ink) else {
-                return Err(Memory);
-            };
-        }
         Ok(Lines {
             stage,
-            kernel,
             page,
             lines: 0,
             row,
-            inks: errors,
         })
     }
 
@@ -91,30 +72,11 @@ impl Lines {
             window,
             &mut self.row,
         );
-        if self.stage == Stage::Rows {
-            self.diffuse();
-        }
     }
 
-    // Diffuses each ink of the current line.
-    fn diffuse(&mut self) {
-        for (i, ink) in self.inks.iter_mut().enumerate() {
-            if i < usize::from(self.row.inks()) && self.row.rows() > 0 {
-                ink.diffuse(self.kernel, self.row.row(i as u8, 0));
-            }
-        }
-    }
-
-    /// How many dots there were if the stage is `Rows`, and else how many lines.
+    /// How many lines there were.
     pub fn count(&self) -> u64 {
-        if self.stage != Stage::Rows {
-            return self.lines;
-        }
-        let mut dots = 0u64;
-        for ink in self.inks.iter() {
-            dots = dots.saturating_add(ink.dots());
-        }
-        dots
+        self.lines
     }
 }
 

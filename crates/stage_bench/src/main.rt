@@ -2,18 +2,16 @@
 //!
 //!     stage_bench STAGE [profile=NAME] [kernel=NAME] [workers=NUMBER] < page.pwg
 //!
-//! `read` reads the lines of the first page, `separate` also separates their inks, and `rows` also diffuses these row
-//! by row. `slabs` halftones the page in slabs as the driver does, by this many workers. `read` and `separate` print
-//! the number of lines, `rows` and `slabs` the number of dots.
+//! `read` reads the lines of the first page, and `separate` also separates their inks. `slabs` halftones the page in
+//! slabs as the driver does, by this many workers. `read` and `separate` print the number of lines, `slabs` the number of
+//! dots.
 //!
-//! `slab-rows`, `slab-loop` and `slab-team` diffuse a slab of 2976 by 256 pseudo-random amounts in the profile's inks,
-//! row by row, tile by tile in one loop, or by workers, and print the fewest nanoseconds of twenty runs. They read no
-//! page.
+//! `slab-team` diffuses a slab of 2976 by 256 pseudo-random amounts in the profile's inks by this many workers, and
+//! prints the fewest nanoseconds of twenty runs. It reads no page.
 //!
-//! Nothing is proved of it but safety. Its stored run counts the dots of a small page by `rows`.
+//! Nothing is proved of it but safety. Its stored run counts the dots of a small page.
 #![tactic(auto)]
 
-mod inks;
 mod lines;
 mod slab;
 mod stages;
@@ -22,7 +20,7 @@ mod tests;
 
 use job_profile::find_profile;
 use job_words::{Words, profile_name, read_words};
-use slab::{time_slab, way_named};
+use slab::time_slab;
 use stages::{run_stage, stage_named};
 use std::env;
 use std::process::ExitCode;
@@ -50,8 +48,8 @@ fn measure<R: Threads + Sync>(rt: &HostRuntime, threads: &R) -> Option<u128> {
     let workers = job.workers.clamp(1, 64);
     let mut shelf = DirShelf::make(rt);
     let profile = find_profile(rt.alloc(), &mut shelf, profile_name(&words, &job)).ok()?;
-    if let Some(way) = way_named(&name) {
-        return time_slab(rt, threads, way, job.kernel, profile.inks.count(), workers);
+    if name.as_str() == "slab-team" {
+        return time_slab(rt, threads, job.kernel, profile.inks.count(), workers);
     }
     let stage = stage_named(&name)?;
     let mut input = StdSource::make(rt.stdin());

@@ -2,15 +2,13 @@
 ghost use Rattle.tile_border.specs.Tops.{IsTopOf};
 ghost use Rattle.std.specs.Prelude.{IfSome};
 
-use crate::inks::InkErrors;
 use diffusion_kernel::Kernel;
 use dot_planes::{InkRows, Planes};
-use slab_diffusion::diffuse_slab;
 use std::alloc::Global;
 use std::thread::Threads;
 use std::time::Instant;
 use tile_border::TopEdges;
-use wavefront_team::{OpenGate, diffuse};
+use wavefront_team::{OpenGate, Team, diffuse};
 
 // The columns of A4 at 360 dots an inch.
 const WIDTH: u32 = 2976;
@@ -21,46 +19,26 @@ const ROWS: u32 = 256;
 // How often the slab is diffused; the least time counts.
 const RUNS: u32 = 20;
 
-/// How a slab is diffused.
-#[derive(Clone, Copy, Debug, PartialEq, Eq)]
-pub enum Way {
-    /// Row by row.
-    Rows,
-    /// Tile by tile, in one loop.
-    Loop,
-    /// By workers that share a board.
-    Team,
-}
-
-/// The way of a name.
-pub fn way_named(name: &str) -> Option<Way> {
-    match name {
-        "slab-rows" => Some(Way::Rows),
-        "slab-loop" => Some(Way::Loop),
-        "slab-team" => Some(Way::Team),
-        _ => None,
-    }
-}
-
-/// The fewest nanoseconds that a slab of this many inks took. `None` where there is no memory for it, or no clock.
+/// The fewest nanoseconds that a slab of this many inks took these workers. `None` where there is no memory for it, or
+/// no clock.
 pub fn time_slab<R: Threads + Sync>(
     rt: &HostRuntime,
     threads: &R,
-    way: Way,
     kernel: Kernel,
     inks: u8,
     workers: u8,
 ) -> Option<u128> {
+    let team = Team {
+        threads,
+        workers: workers.clamp(1, 64),
+        gate: &OpenGate,
+    };
     let rows = amounts(rt.alloc(), inks)?;
     let mut planes = Planes::make(rt.alloc(), WIDTH, ROWS, rows.inks()).ok()?;
     let mut least = u128::MAX;
     for _ in 0..RUNS {
         let start = Instant::now(rt).ok()?;
-        match way {
-            Way::Rows => by_rows(rt.alloc(), &rows, kernel)?,
-            Way::Loop => by_loop(rt.alloc(), &rows, kernel, &mut planes)?,
-            Way::Team => by_team(threads, rt.alloc(), &rows, kernel, workers, &mut planes)?,
-        }
+        diffuse_once(&team, rt.alloc(), &rows, kernel, &mut planes)?;
         least = least.min(start.elapsed(rt).ok()?.as_nanos());
     }
     Some(least)
@@ -100,37 +78,12 @@ fn no_errors(alloc: Global, width: u32, inks: u8) -> Option<TopEdges>
     TopEdges::zero(alloc, (width + 62).div_ceil(64), inks).ok()
 }
 
-// Diffuses the slab row by row.
-fn by_rows(alloc: Global, rows: &InkRows, kernel: Kernel) -> Option<()> {
-    for ink in 0..rows.inks() {
-        let mut errors = InkErrors::make(alloc, WIDTH).ok()?;
-        for y in 0..rows.rows() {
-            errors.diffuse(kernel, rows.row(ink, y));
-        }
-    }
-    Some(())
-}
-
-// Diffuses the slab tile by tile, in one loop.
-fn by_loop(alloc: Global, rows: &InkRows, kernel: Kernel, planes: &mut Planes) -> Option<()> {
-    if rows.width() != planes.width()
-        || rows.inks() != planes.inks()
-        || rows.rows() > planes.rows()
-    {
-        return None;
-    }
-    let top = no_errors(alloc, rows.width(), rows.inks())?;
-    diffuse_slab(alloc, rows, kernel, top, planes, 0).ok()?;
-    Some(())
-}
-
-// Diffuses the slab by workers.
-fn by_team<R: Threads + Sync>(
-    threads: &R,
+// Diffuses the slab.
+fn diffuse_once<R: Threads + Sync>(
+    team: &Team<'_, R, OpenGate>,
     alloc: Global,
     rows: &InkRows,
     kernel: Kernel,
-    workers: u8,
     planes: &mut Planes,
 ) -> Option<()> {
     if rows.width() != planes.width()
@@ -140,10 +93,6 @@ fn by_team<R: Threads + Sync>(
         return None;
     }
     let top = no_errors(alloc, rows.width(), rows.inks())?;
-    let workers = workers.clamp(1, 64);
-    diffuse(
-        threads, alloc, rows, kernel, top, workers, &OpenGate, planes, 0,
-    )
-    .ok()?;
+    diffuse(team, alloc, rows, kernel, top, planes, 0).ok()?;
     Some(())
 }

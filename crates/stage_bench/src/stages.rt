@@ -13,7 +13,7 @@ use pwg_definitions::MOST_ROWS;
 use pwg_stream::{PageReader, StreamStop};
 use std::alloc::Global;
 use std::thread::Threads;
-use wavefront_team::OpenGate;
+use wavefront_team::{OpenGate, Team};
 use weave_base::Source;
 
 /// How far a page is taken.
@@ -23,9 +23,7 @@ pub enum Stage {
     Read,
     /// Its inks are separated, too.
     Separate,
-    /// And diffused row by row.
-    Rows,
-    /// Or it is halftoned in slabs, as the driver does it.
+    /// It is halftoned, as the driver does it.
     Slabs,
 }
 
@@ -34,14 +32,13 @@ pub fn stage_named(name: &str) -> Option<Stage> {
     match name {
         "read" => Some(Stage::Read),
         "separate" => Some(Stage::Separate),
-        "rows" => Some(Stage::Rows),
         "slabs" => Some(Stage::Slabs),
         _ => None,
     }
 }
 
-/// Takes the first page of the input as far as a stage, and counts its lines, or its dots where they are diffused.
-/// Slabs are diffused by this many workers. The count is 0 where the stream has no page.
+/// Takes the first page of the input as far as a stage, and counts its lines, or its dots where it is halftoned.
+/// This many workers diffuse its slabs. The count is 0 where the stream has no page.
 pub fn run_stage<R: Threads + Sync, S: Source>(
     rt: &R,
     alloc: Global,
@@ -57,22 +54,18 @@ pub fn run_stage<R: Threads + Sync, S: Source>(
 {
     let mut reader = PageReader::begin(alloc, input)?;
     if stage == Stage::Slabs {
-        let page = read_page(
-            rt,
-            alloc,
-            &mut reader,
-            profile,
-            kernel,
+        let team = Team {
+            threads: rt,
             workers,
-            input,
-            &OpenGate,
-        )?;
+            gate: &OpenGate,
+        };
+        let page = read_page(&team, alloc, &mut reader, profile, kernel, input)?;
         return match page {
             None => Ok(0),
             Some(page) => Ok(count_dots(&page.planes)),
         };
     }
-    take_lines(alloc, stage, profile, kernel, &mut reader, input)
+    take_lines(alloc, stage, profile, &mut reader, input)
 }
 
 // Reads the next page line by line, and takes each line as far as the stage.
@@ -80,7 +73,6 @@ fn take_lines<S: Source>(
     alloc: Global,
     stage: Stage,
     profile: &Profile,
-    kernel: Kernel,
     reader: &mut PageReader,
     input: &mut S,
 ) -> Result<u64, StreamStop>
@@ -91,7 +83,7 @@ fn take_lines<S: Source>(
         return Ok(0);
     };
     let black = BlackScale::make(profile);
-    let mut lines = Lines::make(alloc, stage, kernel, page, profile.inks.count())?;
+    let mut lines = Lines::make(alloc, stage, page, profile.inks.count())?;
     for _ in 0..MOST_ROWS {
         if reader.lines_left() == 0 {
             break;

@@ -1,5 +1,5 @@
-//! The stages over a small page, and a slab each way.
-use crate::slab::{Way, time_slab};
+//! The stages over a small page, and a slab.
+use crate::slab::time_slab;
 use crate::stages::{Stage, run_stage};
 use diffusion_kernel::Kernel;
 use job_profile::find_profile;
@@ -34,21 +34,14 @@ fn count_of<R: Threads + Sync>(rt: &R, alloc: Global, stage: Stage) -> Option<u6
 
 #[test]
 fn stages_count_lines_and_dots(rt: HostRuntime) {
-    for (stage, count) in [
-        (Stage::Read, 6),
-        (Stage::Separate, 6),
-        (Stage::Rows, 16),
-        (Stage::Slabs, 16),
-    ] {
+    for (stage, count) in [(Stage::Read, 6), (Stage::Separate, 6), (Stage::Slabs, 16)] {
         let found = count_of(&rt, rt.alloc(), stage);
         assert_eq!(rt; found, Some(count), "{stage:?}");
     }
 }
 
 #[test]
-fn a_slab_is_timed_each_way(rt: HostRuntime) {
-    for way in [Way::Rows, Way::Loop, Way::Team] {
-        let time = time_slab(&rt, &rt, way, Kernel::Floyd, 1, 2);
-        assert!(rt; time.is_some(), "{way:?}");
-    }
+fn a_slab_is_timed(rt: HostRuntime) {
+    let time = time_slab(&rt, &rt, Kernel::Floyd, 1, 2);
+    assert!(rt; time.is_some());
 }

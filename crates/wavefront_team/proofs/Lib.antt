@@ -1,3 +1,4 @@
+pub mod Tops
 pub mod Numbers
 pub mod Passes
 pub mod Laid

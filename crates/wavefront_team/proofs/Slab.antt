@@ -13,7 +13,7 @@ use Rattle.diffusion_laws.proofs.Unique.{unique}
 use Rattle.dot_planes.specs.Tables.{AmountTable, DotTable}
 use Rattle.dot_planes.specs.Tiles.{tile_dot}
 use Rattle.dot_planes.specs.declared.tiles.TileDots.{TileDots}
-use Rattle.slab_diffusion.specs.Slabs.{AreSlabErrors, DiffusesSlab}
+use Rattle.wavefront_team.specs.Slabs.{AreSlabErrors, DiffusesSlab}
 use Rattle.tile_board.specs.Closing.{Closes}
 use Rattle.tile_board.specs.Slabs.{amounts_of, number_in, shape_of, top_edges}
 use Rattle.tile_board.specs.declared.kinds.Closed.{Closed}

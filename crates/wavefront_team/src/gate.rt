@@ -1,4 +1,6 @@
-//! The gate between the claim of a tile and its work.
+//! What is lent to all workers: the threads, and the gate between the claim of a tile and its work.
+ghost use Rattle.std.specs.Prelude.{◌≤◌};
+
 use tile_shape::Place;
 
 /// What a worker calls between the claim of a tile and its work. All workers share one.
@@ -14,4 +16,14 @@ impl Gate for OpenGate {
     fn enter(&self, p: Place) {
         let _ = p;
     }
+}
+
+/// What slabs are diffused by: 1 to 64 workers, what starts their threads, and the gate that they share.
+#[derive(Drop)]
+pub struct Team<'a, R, G> {
+    pub threads: &'a R,
+    pub workers: u8,
+    pub gate: &'a G,
+    pub ghost some: { 1 ≤ workers },
+    pub ghost most: { workers ≤ 64 },
 }

@@ -11,14 +11,11 @@
 //! once, and the dots are the same however long tiles are held back.
 #![tactic(auto)]
 
+mod diffusing;
 mod gate;
 mod laying;
-mod team;
 mod work;
 mod worker;
 
-pub use gate::{Gate, OpenGate};
-pub use team::diffuse;
-
-#[cfg(test)]
-mod tests;
+pub use diffusing::diffuse;
+pub use gate::{Gate, OpenGate, Team};

@@ -2,7 +2,7 @@ use Rattle.std.proofs.Common.{◌≡◌, ◌+◌, ◌*◌, ◌/◌, ◌%◌, ℕ
 use Rattle.tile_border.specs.Tops.{columns_across}
 use Rattle.tile_shape.specs.Geometry.{columns_of}
 use Rattle.tile_shape.specs.declared.tiles.Shape.{Shape}
-use Rattle.slab_diffusion.proofs.Tops.{edge_at}
+use Rattle.wavefront_team.proofs.Tops.{edge_at}
 use Rattle.page_halftoner.proofs.slabs.first_slab.Goals as goal
 
 pub returns : goal.returns

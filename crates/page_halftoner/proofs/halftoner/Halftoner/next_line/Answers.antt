@@ -90,8 +90,6 @@ invariant_of-self-2 g c =
       checked = v.checked;
       black = v.black;
       wanted = v.wanted;
-      some_workers = v.some_workers;
-      most_workers = v.most_workers;
       few = omega (
         arith,
         c.requires.count,

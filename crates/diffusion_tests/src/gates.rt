@@ -1,0 +1,63 @@
+//! Gates that watch the workers, or hold them back.
+use std::sync::atomic::{AtomicU64, Ordering};
+use tile_shape::Place;
+use wavefront_team::Gate;
+
+// How many turns a tile waits for another at most.
+const TURNS: u32 = 100_000_000;
+
+/// Holds two tiles, of which neither needs the other, until both have entered.
+#[derive(Drop)]
+pub(crate) struct MeetingGate {
+    pub(crate) came: AtomicU64,
+    pub(crate) met: AtomicU64,
+}
+
+impl Gate for MeetingGate {
+    fn enter(&self, p: Place) {
+        if p != (Place { c: 2, j: 0 }) && p != (Place { c: 0, j: 1 }) {
+            return;
+        }
+        self.came.fetch_add(1, Ordering::SeqCst);
+        for _ in 0..TURNS {
+            if self.came.load(Ordering::SeqCst) == 2 {
+                self.met.fetch_add(1, Ordering::SeqCst);
+                return;
+            }
+        }
+    }
+}
+
+/// Counts how often each tile of five columns and three bands enters, in four bits each.
+#[derive(Drop)]
+pub(crate) struct CountingGate {
+    pub(crate) entered: AtomicU64,
+}
+
+impl Gate for CountingGate {
+    fn enter(&self, p: Place) {
+        if p.c < 5 && p.j < 3 {
+            self.entered
+                .fetch_add(1 << (4 * (5 * p.j + p.c)), Ordering::SeqCst);
+        }
+    }
+}
+
+/// Holds each tile for a number of turns that varies from tile to tile.
+#[derive(Drop)]
+pub(crate) struct HoldingGate {
+    pub(crate) turns: AtomicU64,
+}
+
+impl Gate for HoldingGate {
+    fn enter(&self, p: Place) {
+        let n = self
+            .turns
+            .fetch_add(1, Ordering::SeqCst)
+            .wrapping_add(u64::from(p.c));
+        let held = n.wrapping_mul(6364136223846793005) >> 48;
+        for _ in 0..held % 4096 {
+            self.turns.load(Ordering::SeqCst);
+        }
+    }
+}

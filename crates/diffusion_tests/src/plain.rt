@@ -1,0 +1,35 @@
+//! The plain program against counts and rows that are known from elsewhere.
+use diffusion_kernel::Kernel;
+use plain_diffusion::{Above, Definition, Fill};
+use std::alloc::Global;
+
+// How many dots a window of one amount has by Floyd and Steinberg, and which its first four pixels have.
+fn dots_of(alloc: Global, amount: u8, width: u32, height: u32) -> Option<(u32, [bool; 4])> {
+    let (fill, above) = (Fill::All(amount), Above::Edges(0));
+    let known = Definition::make(alloc, Kernel::Floyd, fill, above, width, height)?;
+    let mut count = 0u32;
+    for y in 0..height {
+        for x in 0..width {
+            count = count.wrapping_add(u32::from(known.dot(i64::from(x), i64::from(y))));
+        }
+    }
+    let first = [
+        known.dot(0, 0),
+        known.dot(1, 0),
+        known.dot(2, 0),
+        known.dot(3, 0),
+    ];
+    Some((count, first))
+}
+
+#[test]
+fn even_amounts_have_the_known_count_of_dots(rt: HostRuntime) {
+    let count = dots_of(rt.alloc(), 100, 200, 70).map(|dots| dots.0);
+    assert_eq!(rt; count, Some(5478));
+}
+
+#[test]
+fn four_halves_give_every_other_dot(rt: HostRuntime) {
+    let dots = dots_of(rt.alloc(), 128, 4, 1);
+    assert_eq!(rt; dots, Some((2, [true, false, true, false])));
+}

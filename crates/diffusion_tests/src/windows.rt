@@ -1,0 +1,255 @@
+//! Windows that a team diffuses slab by slab, compared with the plain program.
+ghost use Rattle.diffusion_definitions.specs.Diffusion.{InRange};
+ghost use Rattle.std.specs.Prelude.{IfSome, length, ◌≡◌};
+ghost use Rattle.tile_border.specs.Tops.{IsTopOf};
+
+use diffusion_kernel::Kernel;
+use dot_planes::{InkRows, Planes};
+use plain_diffusion::{Above, Definition, Fill, amount_at};
+use std::alloc::Global;
+use std::process::Abort;
+use std::thread::Threads;
+use tile_border::{BottomEdge, TopEdges};
+use wavefront_team::{Gate, Team, diffuse};
+
+// Rows of the planes above the window.
+const ABOVE: u32 = 3;
+
+// Rows of the planes below the window.
+const BELOW: u32 = 2;
+
+/// A window of one amount, or of pseudo-random amounts, below errors that are all the same, and how many rows its slabs
+/// have.
+#[derive(Clone, Copy, Debug)]
+pub(crate) struct Case {
+    pub(crate) kernel: Kernel,
+    pub(crate) all: Option<u8>,
+    pub(crate) error: i16,
+    pub(crate) width: u32,
+    pub(crate) inks: u8,
+    pub(crate) slabs: &'static [u32],
+}
+
+impl Case {
+    fn height(&self) -> u32 {
+        let mut height = 0u32;
+        for rows in self.slabs {
+            height = height.saturating_add(*rows);
+        }
+        height
+    }
+
+    fn fill(&self, ink: u8) -> Fill {
+        match self.all {
+            Some(amount) => Fill::All(amount),
+            None => Fill::Mixed(ink),
+        }
+    }
+}
+
+// Whether a dot stands at a place before the window is diffused.
+fn was_on(x: u32, y: u32) -> bool {
+    x.wrapping_add(y) % 3 == 0
+}
+
+// Planes with some dots.
+fn spotted(alloc: Global, width: u32, height: u32, inks: u8) -> Option<Planes>
+    ensures width { IfSome result (λ planes. planes.width ≡ width) }
+    ensures inks { IfSome result (λ planes. planes.inks ≡ inks) }
+{
+    if width < 1 || width > 200 || height > 300 || inks < 1 || inks > 4 {
+        return None;
+    }
+    let mut planes = Planes::make(alloc, width, ABOVE + height + BELOW, inks).ok()?;
+    for i in 0..inks {
+        for y in 0..ABOVE + height + BELOW {
+            spot_row(&mut planes, i, y);
+        }
+    }
+    Some(planes)
+}
+
+fn spot_row(planes: &mut Planes, i: u8, y: u32)
+    ensures width { planes.new.width ≡ planes.old.width }
+    ensures inks { planes.new.inks ≡ planes.old.inks }
+{
+    for x in 0..planes.width() {
+        if was_on(x, y) && i < planes.inks() && y < planes.rows() && x < planes.width() {
+            planes.turn_on(i, x, y);
+        }
+    }
+}
+
+// The amounts of rows of the window from row `first` on.
+fn amounts(alloc: Global, case: &Case, first: u32, height: u32) -> Option<InkRows> {
+    let (width, inks) = (case.width, case.inks);
+    if width < 1 || width > 200 || height < 1 || height > 300 || inks < 1 || inks > 4 {
+        return None;
+    }
+    let mut rows = InkRows::make(alloc, width, height, inks).ok()?;
+    for i in 0..inks {
+        for y in 0..height {
+            for x in 0..width {
+                if i < rows.inks() && y < rows.rows() && x < rows.width() {
+                    let amount = amount_at(case.fill(i), x, first.wrapping_add(y));
+                    rows.set(i, x, y, amount);
+                }
+            }
+        }
+    }
+    Some(rows)
+}
+
+// A bottom edge of one error in every ink.
+fn edge_of(alloc: Global, inks: u8, error: i16) -> Option<BottomEdge>
+    requires { InRange error }
+    ensures { IfSome result (λ edge. length edge ≡ inks) }
+{
+    if inks < 1 || inks > 4 {
+        return None;
+    }
+    let mut edge = BottomEdge::zero(alloc, inks).ok()?;
+    for ink in 0..inks {
+        edge.put(ink, &[error; 128]);
+    }
+    Some(edge)
+}
+
+// A top of one error everywhere.
+fn top_of(alloc: Global, width: u32, inks: u8, error: i16) -> Option<TopEdges>
+    ensures { IfSome result (IsTopOf width inks) }
+{
+    if width > 200 || inks < 1 || inks > 4 || error < -2040 || error > 2039 {
+        return None;
+    }
+    let mut top = TopEdges::zero(alloc, (width + 62).div_ceil(64), inks).ok()?;
+    for c in 0..(width + 62).div_ceil(64) {
+        top.put(c, edge_of(alloc, inks, error)?);
+    }
+    Some(top)
+}
+
+// Diffuses rows of the window from row `first` on, and gives the top of the rows below them.
+fn next_slab<R: Threads + Sync, G: Gate + Sync>(
+    team: &Team<'_, R, G>,
+    alloc: Global,
+    case: &Case,
+    top: TopEdges,
+    first: u32,
+    height: u32,
+    planes: &mut Planes,
+) -> Option<TopEdges>
+    requires { IsTopOf planes.old.width planes.old.inks top }
+    ensures width { planes.new.width ≡ planes.old.width }
+    ensures inks { planes.new.inks ≡ planes.old.inks }
+    ensures top { IfSome result (IsTopOf planes.old.width planes.old.inks) }
+{
+    let rows = amounts(alloc, case, first, height)?;
+    let fits = first <= 300 && rows.rows() <= 300 && first + ABOVE + rows.rows() <= planes.rows();
+    if !fits || rows.width() != planes.width() || rows.inks() != planes.inks() {
+        return None;
+    }
+    diffuse(team, alloc, &rows, case.kernel, top, planes, first + ABOVE).ok()
+}
+
+// Diffuses the slabs of a window one below another, and gives the top of the rows below them.
+fn diffuse_slabs<R: Threads + Sync, G: Gate + Sync>(
+    team: &Team<'_, R, G>,
+    alloc: Global,
+    case: &Case,
+    top: TopEdges,
+    planes: &mut Planes,
+) -> Option<TopEdges>
+    requires { IsTopOf planes.old.width planes.old.inks top }
+    ensures { IfSome result (IsTopOf planes.old.width planes.old.inks) }
+{
+    let mut top = top;
+    let mut first = 0u32;
+    'slabs: for rows in case.slabs {
+        top = next_slab(team, alloc, case, top, first, *rows, planes)?;
+        first = first.wrapping_add(*rows);
+    }
+    Some(top)
+}
+
+// How many dots of an ink are not the plain program's, or are changed outside the window.
+fn wrong_dots(planes: &Planes, known: &Definition, i: u8, height: u32) -> u32 {
+    let mut wrong = 0u32;
+    for y in 0..planes.rows() {
+        for x in 0..planes.width() {
+            let wanted = if ABOVE <= y && y < height.wrapping_add(ABOVE) {
+                known.dot(i64::from(x), i64::from(y - ABOVE))
+            } else {
+                was_on(x, y)
+            };
+            let there = i < planes.inks()
+                && y < planes.rows()
+                && x < planes.width()
+                && planes.dot(i, x, y) == wanted;
+            if !there {
+                wrong = wrong.wrapping_add(1);
+            }
+        }
+    }
+    wrong
+}
+
+// How many errors of an ink's bottom edges are not the plain program's, below a window of this number of bands.
+fn wrong_errors(bottom: &TopEdges, known: &Definition, case: &Case, i: u8, bands: u32) -> u32
+    requires { IsTopOf case.now.width case.now.inks bottom.now }
+{
+    if case.width > 200 || i >= case.inks {
+        return 1;
+    }
+    let mut wrong = 0u32;
+    for c in 0..(case.width + 62).div_ceil(64) {
+        for n in 0..128 {
+            // two rows of 64, of which the first begins 60 pixels left of the column, and the second 62
+            let (row, offset) = ((n / 64) as i64, (n % 64) as i64);
+            let x = i64::from(c).wrapping_mul(64) + offset - 60 - 2 * row;
+            let y = i64::from(bands).wrapping_mul(32) + row - 2;
+            if i32::from(bottom.at(c).ink(i)[n]) != known.error(x, y) {
+                wrong = wrong.wrapping_add(1);
+            }
+        }
+    }
+    wrong
+}
+
+// How many dots and bottom errors of a window are wrong.
+fn wrong_in<R: Threads + Sync, G: Gate + Sync>(
+    team: &Team<'_, R, G>,
+    alloc: Global,
+    case: &Case,
+) -> Option<u32> {
+    let height = case.height();
+    let mut planes = spotted(alloc, case.width, height, case.inks)?;
+    let top = top_of(alloc, case.width, case.inks, case.error)?;
+    let bottom = diffuse_slabs(team, alloc, case, top, &mut planes)?;
+    let mut wrong = 0u32;
+    for i in 0..case.inks {
+        let (fill, above) = (case.fill(i), Above::Edges(case.error));
+        let known = Definition::make(alloc, case.kernel, fill, above, case.width, height)?;
+        let errors = wrong_errors(&bottom, &known, case, i, height.div_ceil(32));
+        wrong = wrong.wrapping_add(errors);
+        wrong = wrong.wrapping_add(wrong_dots(&planes, &known, i, height));
+    }
+    Some(wrong)
+}
+
+/// Diffuses a window by this many workers, and compares its dots and its bottom errors with the plain program's.
+pub(crate) fn is_right<R: Abort + Threads + Sync, G: Gate + Sync>(
+    rt: &R,
+    alloc: Global,
+    case: &Case,
+    workers: u8,
+    gate: &G,
+) {
+    let team = Team {
+        threads: rt,
+        workers: workers.clamp(1, 64),
+        gate,
+    };
+    let wrong = wrong_in(&team, alloc, case);
+    assert_eq!(rt; wrong, Some(0), "{case:?} by {workers}");
+}

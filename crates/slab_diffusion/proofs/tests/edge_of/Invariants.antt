@@ -1,5 +1,0 @@
-use Rattle.std.proofs.Common.{◌≡◌, length}
-use Rattle.slab_diffusion.proofs.tests.edge_of.Given as goal
-
-abbrev pub invariant-loop-ink : goal.invariant-loop-ink
-invariant-loop-ink l = length l.edge ≡ l.inks

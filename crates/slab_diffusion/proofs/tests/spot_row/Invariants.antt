@@ -1,5 +1,0 @@
-use Rattle.std.proofs.Common.{◌≡◌}
-use Rattle.slab_diffusion.proofs.tests.spot_row.Given as goal
-
-abbrev pub invariant-loop-x : goal.invariant-loop-x
-invariant-loop-x l = record { width : l.planes.width ≡ l.initial.planes.width; inks : l.planes.inks ≡ l.initial.planes.inks }

@@ -1,5 +1,0 @@
-use Rattle.tile_border.specs.Tops.{IsTopOf}
-use Rattle.slab_diffusion.proofs.tests.top_of.Given as goal
-
-abbrev pub invariant-loop-c : goal.invariant-loop-c
-invariant-loop-c l = IsTopOf l.width l.inks l.top
