@@ -1,3 +1,0 @@
-pub mod RowSteps
-pub mod PackSoFar
-pub mod KeptRows
