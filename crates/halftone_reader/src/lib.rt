@@ -10,6 +10,3 @@
 mod pages;
 
 pub use pages::{HalftonedPage, read_page};
-
-#[cfg(test)]
-mod tests;

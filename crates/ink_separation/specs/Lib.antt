@@ -1,3 +1,4 @@
 pub mod Given
 pub mod Black
 pub mod Separated
+pub mod Separators

@@ -1,17 +1,14 @@
 //! What pixels give to each ink, before the inks' limits.
-ghost use Rattle.ink_separation.specs.Given.{IsGiven, colour_at, given_to};
+ghost use Rattle.ink_separation.specs.Given.{colour_at, given_to};
 ghost use Rattle.printer_definitions.specs.declared.inks.Ink.{Ink};
-ghost use Rattle.printer_profile.specs.Profiles.{printer_of};
-ghost use Rattle.pwg_definitions.specs.Header.{row_of};
 ghost use Rattle.separation_definitions.specs.Amounts.{colour_ink, complement as complement_of, grey_ink};
 ghost use Rattle.std.specs.Prelude.{length, slice_index, ℕ, ◌*◌, ◌<◌, ◌≡◌, ◌≤◌};
 
 use crate::black::BlackScale;
 use crate::colours::{colours_of, complement};
-use crate::pixels::{PIXELS, Values, darkness_of, inverted, least_of, less, same};
+use crate::pixels::{PIXELS, Values, darkness_of, least_of, less};
 use printer_definitions::Ink;
-use printer_profile::{InkSet, Profile};
-use pwg_definitions::Kind;
+use printer_profile::InkSet;
 
 /// What up to 64 pixels give to each ink. An ink outside the printer's set may have any values.
 #[derive(Drop)]
@@ -23,27 +20,6 @@ pub(crate) struct Given {
 }
 
 impl Given {
-    /// What the first `many` pixels with these bytes give.
-    #[inline(always)]
-    pub(crate) fn make(
-        p: &Profile,
-        kind: Kind,
-        pixels: &[u8],
-        many: usize,
-        black: &BlackScale,
-    ) -> Given
-        requires black { black.now ≡ p.now.black_start }
-        requires many { many ≤ 64 }
-        requires pixels { many * (row_of kind).unit ≤ length pixels.now }
-        ensures { IsGiven (printer_of p.now) kind pixels.now many result }
-    {
-        match kind {
-            Kind::Gray8 => grey_given(p.inks, inverted(pixels, many)),
-            Kind::Black8 => grey_given(p.inks, same(pixels, many)),
-            Kind::Rgb8 => colour_given(p.inks, black, pixels, many),
-        }
-    }
-
     /// What the pixels give to an ink.
     #[inline(always)]
     pub(crate) fn to(&self, ink: Ink) -> &Values
@@ -58,9 +34,9 @@ impl Given {
     }
 }
 
-// What pixels of these darknesses give.
+/// What pixels of these darknesses give.
 #[inline(always)]
-fn grey_given(inks: InkSet, dark: Values) -> Given
+pub(crate) fn grey_given(inks: InkSet, dark: Values) -> Given
     ensures { (ink : Ink) (x : ℕ)
         → x < 64 → slice_index (given_to result ink) x ≡ grey_ink inks ink (slice_index dark x) }
 {
@@ -80,9 +56,9 @@ fn grey_given(inks: InkSet, dark: Values) -> Given
     }
 }
 
-// What the first `many` pixels of red, green and blue give.
+/// What the first `many` pixels of red, green and blue give.
 #[inline(always)]
-fn colour_given(inks: InkSet, black: &BlackScale, pixels: &[u8], many: usize) -> Given
+pub(crate) fn colour_given(inks: InkSet, black: &BlackScale, pixels: &[u8], many: usize) -> Given
     requires many { many ≤ 64 }
     requires pixels { 3 * many ≤ length pixels.now }
     ensures { (least : ℕ) → black.now ≡ least → (ink : Ink) (x : ℕ) → x < many

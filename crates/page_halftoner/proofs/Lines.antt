@@ -11,7 +11,13 @@ use Rattle.dot_planes.specs.Tables.{AmountTable, DotTable, dot}
 use Rattle.printer_definitions.specs.Inks.{inks_of}
 use Rattle.printer_definitions.specs.declared.inks.Ink.{Ink}
 use Rattle.printer_profile.specs.Profiles.{printer_of}
+use Rattle.printer_definitions.specs.Printer.{Printer}
+use Rattle.pwg_definitions.specs.Header.{IsWanted, line_bytes, row_of}
+use Rattle.pwg_definitions.specs.declared.pages.Kind.{Kind}
+use Rattle.pwg_definitions.specs.declared.pages.Kind.TheVariants.{Gray8, Black8, Rgb8}
+use Rattle.pwg_definitions.specs.declared.pages.PageForm.{PageForm}
 use Rattle.separation_definitions.specs.Amounts.{amount as amount_of, pixel_at}
+use Rattle.separation_definitions.specs.Windows.{wanted_by, window_of}
 use Rattle.wavefront_team.specs.Slabs.{DiffusesSlab}
 use Rattle.tile_border.specs.Tops.{edges_of}
 use Rattle.tile_edges.specs.Tops.{IsBelow, top_of}
@@ -40,6 +46,19 @@ behind lines line more = append_assoc lines (line ∷ []) more
 
 count_more : (lines : List (List ℕ)) (line : List ℕ) (n : ℕ) → length lines ≡ n → length (lines ++ line ∷ []) ≡ n + 1
 count_more lines line n e = omega (arith, length-append lines (line ∷ []))
+
+-- A line of a page holds the pixels of its window.
+pub line_holds : (form : PageForm) (p : Printer) → IsWanted (wanted_by p) form
+    → ((window_of form p).left + (window_of form p).width) * (row_of form.kind).unit ≤ form.bytes_per_line
+line_holds form p wanted =
+    fits form.kind (window_of form p).left (window_of form p).width form.width form.bytes_per_line
+    (omega (arith, wanted.least_width)) wanted.bytes_per_line
+  where
+    fits : (kind : Kind) (left width across bytes : ℕ) → left + width ≤ across
+        → bytes ≡ line_bytes across (row_of kind).bits_per_pixel → (left + width) * (row_of kind).unit ≤ bytes
+    fits Gray8 left width across bytes inside is = omega arith
+    fits Black8 left width across bytes inside is = omega arith
+    fits Rgb8 left width across bytes inside is = omega arith
 
 -- A line in a margin changes no row.
 pub in_margin : (h : Halftoning) (line : List ℕ) (lines : List (List ℕ))

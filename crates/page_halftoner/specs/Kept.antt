@@ -7,6 +7,7 @@ use Rattle.pwg_definitions.specs.Header.{IsWanted}
 use Rattle.separation_definitions.specs.Windows.{wanted_by, window_of}
 use Rattle.separation_definitions.specs.declared.window.Window.{Window}
 use Rattle.tile_border.specs.Tops.{IsTopOf}
+use Rattle.ink_separation.specs.Separators.{IsSeparatorOf}
 use Rattle.page_halftoner.specs.Halftones.{Halftoning, rows_done}
 use Rattle.page_halftoner.specs.declared.halftoner.Halftoner.TheInside.{Inside}
 
@@ -36,12 +37,12 @@ halftoning h = record {
 abbrev pub window_in : Inside → Window
 window_in h = window_of h.form (printer_of h.profile)
 
--- The profile passes its checks, its black generation is worked out, the printer takes the page, and there is room for the
--- window's rows in all inks.
+-- The profile passes its checks, the printer takes the page, the separator is of both, and there is room for the window's
+-- rows in all inks.
 pub record IsReady (h : Inside) : Type 0 where
   pub checked : IsOk (check h.profile)
-  pub black : h.black ≡ h.profile.black_start
   pub wanted : IsWanted (wanted_by (printer_of h.profile)) h.form
+  pub separator : IsSeparatorOf (printer_of h.profile) h.form.kind (window_in h) h.separator
   pub few : h.count ≤ h.form.height
   pub slab_width : h.slab.width ≡ (window_in h).width
   pub slab_inks : h.slab.inks ≡ length (inks_of h.profile.inks)

@@ -14,7 +14,7 @@ use crate::slabs::{first_slab, next_slab, put_line};
 use base_definitions::Memory;
 use diffusion_kernel::Kernel;
 use dot_planes::{InkRows, Planes};
-use ink_separation::BlackScale;
+use ink_separation::Separator;
 use printer_profile::{PageForm, Profile};
 use separation_definitions::Window;
 use std::alloc::Global;
@@ -32,9 +32,10 @@ use wavefront_team::{Gate, Team, diffuse};
 pub struct Halftoner {
     alloc: Global,
     profile: Profile,
-    black: BlackScale,
     form: PageForm,
     kernel: Kernel,
+    /// The separator of the profile's inks, for the window of the page.
+    separator: Separator,
     /// How many lines of the page have come, those in the margins too.
     count: u32,
     /// How many rows of the window are diffused.
@@ -95,9 +96,9 @@ impl Halftoner {
         Ok(Halftoner {
             alloc,
             profile: *p,
-            black: BlackScale::make(p),
             form: f,
             kernel: k,
+            separator: Separator::make(p, f.kind, window),
             count: 0,
             diffused: 0,
             slab,
@@ -162,20 +163,13 @@ impl Halftoner {
         ensures working { OnOk result (self.new.failed ≡ self.old.failed) }
         ensures failed { OnErr result (self.new.failed ≡ true) }
     {
-        let window = self.profile.window(self.form);
+        let window = self.separator.window();
         let Some(y) = row_of_line(window, self.count) else {
             self.count += 1;
             return Ok(());
         };
-        put_line(
-            &self.profile,
-            &self.black,
-            self.form,
-            line,
-            again,
-            y - self.diffused,
-            &mut self.slab,
-        );
+        let row = y - self.diffused;
+        put_line(&self.separator, line, again, row, &mut self.slab);
         if y + 1 < self.diffused + self.slab.rows() {
             self.count += 1;
             return Ok(());

@@ -1,18 +1,19 @@
 //! The rows that wait for diffusion.
-ghost use Rattle.dot_planes.specs.Tables.{IsSize};
+ghost use Rattle.base_definitions.specs.Limits.{most_columns};
+ghost use Rattle.dot_planes.specs.Tables.{HasSizeAs, IsSize};
 ghost use Rattle.ink_separation.specs.Separated.{HasLine, Separates};
+ghost use Rattle.ink_separation.specs.Separators.{IsSeparatorOf};
 ghost use Rattle.page_halftoner.specs.Slabs.{IsFirstSlab, IsNextSlab};
 ghost use Rattle.printer_definitions.specs.Inks.{inks_of};
-ghost use Rattle.printer_profile.specs.Profiles.{printer_of};
-ghost use Rattle.printer_profile.specs.Validity.{check};
-ghost use Rattle.pwg_definitions.specs.Header.{IsWanted};
-ghost use Rattle.separation_definitions.specs.Windows.{wanted_by, window_of};
-ghost use Rattle.std.specs.Prelude.{IfOk, IsOk, length, true, ℕ, ◌%◌, ◌+◌, ◌<◌, ◌≡◌, ◌≤◌};
+ghost use Rattle.printer_definitions.specs.Printer.{Printer};
+ghost use Rattle.pwg_definitions.specs.Header.{row_of};
+ghost use Rattle.pwg_definitions.specs.declared.pages.Kind.{Kind};
+ghost use Rattle.separation_definitions.specs.declared.window.Window.{Window};
+ghost use Rattle.std.specs.Prelude.{IfOk, length, true, ℕ, ◌%◌, ◌*◌, ◌+◌, ◌<◌, ◌≡◌, ◌≤◌};
 
 use base_definitions::Memory;
 use dot_planes::InkRows;
-use ink_separation::{BlackScale, amounts_by};
-use printer_profile::{PageForm, Profile};
+use ink_separation::Separator;
 use std::alloc::Global;
 use tile_border::TopEdges;
 
@@ -65,30 +66,21 @@ pub(crate) fn next_slab(slab: &mut InkRows, left: u32)
 }
 
 /// Puts the amounts of a line of a page into row y of a slab. `again`: the row above has them, too.
-pub(crate) fn put_line(
-    p: &Profile,
-    black: &BlackScale,
-    f: PageForm,
-    line: &[u8],
-    again: bool,
-    y: u32,
-    slab: &mut InkRows,
-)
-    requires checked { IsOk (check p.now) }
-    requires black { black.now ≡ p.now.black_start }
-    requires wanted { IsWanted (wanted_by (printer_of p.now)) f }
-    requires line { length line.now ≡ f.bytes_per_line }
-    requires width { slab.old.width ≡ (window_of f (printer_of p.now)).width }
-    requires inks { slab.old.inks ≡ length (inks_of p.now.inks) }
+pub(crate) fn put_line(separator: &Separator, line: &[u8], again: bool, y: u32, slab: &mut InkRows)
+    requires wide { separator.now.window.width ≤ most_columns }
+    requires line { let s = separator.now in
+        (s.window.left + s.window.width) * (row_of s.kind).unit ≤ length line.now }
+    requires width { slab.old.width ≡ separator.now.window.width }
+    requires inks { slab.old.inks ≡ length (inks_of separator.now.inks) }
     requires y { y < slab.old.rows }
-    requires again { again ≡ true → (n : ℕ) → y ≡ n + 1
-        → HasLine (printer_of p.now) f.kind line.now (window_of f (printer_of p.now)) n slab.old }
-    ensures { Separates (printer_of p.now) f.kind line.now (window_of f (printer_of p.now)) y slab.old slab.new }
+    ensures size { HasSizeAs slab.old slab.new }
+    ensures separated { (p : Printer) (kind : Kind) (w : Window) → IsSeparatorOf p kind w separator.now
+        → (again ≡ true → (n : ℕ) → y ≡ n + 1 → HasLine p kind line.now w n slab.old)
+        → Separates p kind line.now w y slab.old slab.new }
 {
-    let window = p.window(f);
     if again && 0 < y {
         slab.copy_row(y - 1, y);
     } else {
-        amounts_by(p, black, f.kind, line, window, y, slab);
+        separator.separate(line, y, slab);
     }
 }

@@ -1,12 +1,12 @@
 //! The lines of a page, each taken as far as the stage.
 ghost use Rattle.printer_profile.specs.Validity.{check};
-ghost use Rattle.std.specs.Prelude.{IsOk, ◌≡◌};
+ghost use Rattle.std.specs.Prelude.{IsOk};
 
 use crate::stages::Stage;
 use dot_planes::InkRows;
-use ink_separation::{BlackScale, amounts_by};
+use ink_separation::Separator;
 use printer_profile::Profile;
-use pwg_definitions::{Kind, MOST_COLUMNS, PageForm};
+use pwg_definitions::{MOST_COLUMNS, PageForm};
 use separation_definitions::Window;
 use std::alloc::Global;
 use weave_base::Memory;
@@ -23,6 +23,7 @@ pub struct Page {
 pub struct Lines {
     stage: Stage,
     page: Page,
+    separator: Separator,
     // How many lines there were.
     lines: u64,
     // The amounts of the current line.
@@ -30,33 +31,30 @@ pub struct Lines {
 }
 
 impl Lines {
-    /// No lines yet, for a printer with this many inks.
-    pub fn make(alloc: Global, stage: Stage, page: Page, inks: u8) -> Result<Lines, Memory> {
+    /// No lines yet, for a printer with this profile.
+    pub fn make(alloc: Global, stage: Stage, page: Page, profile: &Profile) -> Result<Lines, Memory>
+        requires checked { IsOk (check profile.now) }
+    {
         let width = page.window.width.clamp(1, MOST_COLUMNS);
-        let row = InkRows::make(alloc, width, 1, inks.clamp(1, 4))?;
+        let row = InkRows::make(alloc, width, 1, profile.inks.count())?;
         Ok(Lines {
             stage,
             page,
+            separator: Separator::make(profile, page.form.kind, page.window),
             lines: 0,
             row,
         })
     }
 
     /// Takes a line this many times.
-    pub fn take(&mut self, profile: &Profile, black: &BlackScale, line: &[u8], repeats: u32)
-        requires checked { IsOk (check profile.now) }
-        requires black { black.now ≡ profile.now.black_start }
-    {
+    pub fn take(&mut self, line: &[u8], repeats: u32) {
         for _ in 0..repeats {
-            self.take_once(profile, black, line);
+            self.take_once(line);
         }
     }
 
     // Takes a line. One in the margins is only counted.
-    fn take_once(&mut self, profile: &Profile, black: &BlackScale, line: &[u8])
-        requires checked { IsOk (check profile.now) }
-        requires black { black.now ≡ profile.now.black_start }
-    {
+    fn take_once(&mut self, line: &[u8]) {
         let window = self.page.window;
         let top = u64::from(window.top);
         let printed = top <= self.lines && self.lines - top < u64::from(window.height);
@@ -64,14 +62,7 @@ impl Lines {
         if self.stage == Stage::Read || !printed {
             return;
         }
-        separate(
-            profile,
-            black,
-            self.page.form.kind,
-            line,
-            window,
-            &mut self.row,
-        );
+        separate(&self.separator, line, &mut self.row);
     }
 
     /// How many lines there were.
@@ -80,22 +71,13 @@ impl Lines {
     }
 }
 
-// Separates a line into the amounts of a row. Skips it unless the row has the window's width and the profile's inks.
-fn separate(
-    profile: &Profile,
-    black: &BlackScale,
-    kind: Kind,
-    line: &[u8],
-    window: Window,
-    row: &mut InkRows,
-)
-    requires checked { IsOk (check profile.now) }
-    requires black { black.now ≡ profile.now.black_start }
-{
-    let unit = if kind == Kind::Rgb8 { 3 } else { 1 };
-    let inside = (window.left as usize + window.width as usize) * unit <= line.len();
-    let fits = row.width() == window.width && row.inks() == profile.inks.count();
+// Separates a line into the amounts of a row. Skips it unless the row has the window's width and the printer's inks.
+fn separate(separator: &Separator, line: &[u8], row: &mut InkRows) {
+    let window = separator.window();
+    let pixels = window.left as usize + window.width as usize;
+    let inside = pixels * separator.kind().unit() <= line.len();
+    let fits = row.width() == window.width && row.inks() == separator.inks().count();
     if inside && fits && window.width <= MOST_COLUMNS && row.rows() > 0 {
-        amounts_by(profile, black, kind, line, window, 0, row);
+        separator.separate(line, 0, row);
     }
 }

@@ -7,7 +7,6 @@ use crate::lines::{Lines, Page};
 use diffusion_kernel::Kernel;
 use dot_planes::Planes;
 use halftone_reader::read_page;
-use ink_separation::BlackScale;
 use printer_profile::Profile;
 use pwg_definitions::MOST_ROWS;
 use pwg_stream::{PageReader, StreamStop};
@@ -82,14 +81,13 @@ fn take_lines<S: Source>(
     let Some(page) = next_page(profile, reader, input)? else {
         return Ok(0);
     };
-    let black = BlackScale::make(profile);
-    let mut lines = Lines::make(alloc, stage, page, profile.inks.count())?;
+    let mut lines = Lines::make(alloc, stage, page, profile)?;
     for _ in 0..MOST_ROWS {
         if reader.lines_left() == 0 {
             break;
         }
         let repeats = reader.next_line(input)?;
-        lines.take(profile, &black, reader.line(), repeats);
+        lines.take(reader.line(), repeats);
     }
     Ok(lines.count())
 }

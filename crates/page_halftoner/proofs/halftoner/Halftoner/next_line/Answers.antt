@@ -1,7 +1,11 @@
-use Rattle.std.proofs.Common.{◌≡◌, ◌⊎◌, ◌%◌, ◌+◌, ◌-◌, ◌≤◌, ◌<◌, ℕ, ℤ, List, ap, arith, length, min, sym, subst, ◌∙◌}
+use Rattle.std.proofs.Common.{◌≡◌, ◌⊎◌, ◌%◌, ◌+◌, ◌-◌, ◌*◌, ◌≤◌, ◌<◌, ℕ, ℤ, Bool, true, List, ap, arith, length, min, sym, subst, ◌∙◌}
 use Rattle.std.proofs.lemmas.Option.{same_Some}
 use Rattle.dot_planes.specs.Tables.{AmountTable}
-use Rattle.ink_separation.specs.Separated.{Separates}
+use Rattle.ink_separation.specs.Separated.{HasLine, Separates}
+use Rattle.ink_separation.specs.Separators.{IsSeparatorOf}
+use Rattle.printer_definitions.specs.Printer.{Printer}
+use Rattle.pwg_definitions.specs.Header.{row_of}
+use Rattle.pwg_definitions.specs.declared.pages.Kind.{Kind}
 use Rattle.printer_profile.specs.Profiles.{printer_of}
 use Rattle.printer_definitions.specs.Inks.{inks_of}
 use Rattle.separation_definitions.specs.declared.window.Window.{Window}
@@ -9,42 +13,66 @@ use Rattle.tile_border.specs.Tops.{IsTopOf}
 use Rattle.page_halftoner.specs.Halftones.{EndsWith, Halftoning, StandsFor, held}
 use Rattle.page_halftoner.specs.Kept.{IsReady, edges_in, halftoning, window_in}
 use Rattle.page_halftoner.specs.declared.halftoner.Halftoner.TheInside.{Inside}
-use Rattle.page_halftoner.proofs.Lines.{IsFull, IsNextRow, ends_with, in_margin, in_slab, slab_full}
+use Rattle.page_halftoner.proofs.Lines.{IsFull, IsNextRow, ends_with, in_margin, in_slab, line_holds, slab_full}
 use Rattle.page_halftoner.proofs.halftoner.Halftoner.next_line.Goals as goal
 
--- how many rows are held before a row of the window
-held_before : (inside : Inside) (w : Window) (y : ℕ) → w ≡ window_in inside → w.top + y ≡ inside.count → y < w.height
-    → held (halftoning inside) ≡ y - inside.diffused
-held_before inside w y is place low =
-    let here : (window_in inside).top + y ≡ inside.count = ap (λ (win : Window). win.top + y) (sym is) ∙ place in
-    let in_window : y < (window_in inside).height = omega (arith, low, ap (λ (win : Window). win.height) is) in
-    omega (arith, here, in_window)
+-- the window of the separator is that of the page
+page_window : (inside : Inside) (w : Window) → IsReady inside → w ≡ inside.separator.window → w ≡ window_in inside
+page_window inside w v is = is ∙ v.separator.window_is
 
-pub put_line-requires-clause-again : goal.put_line-requires-clause-again
-put_line-requires-clause-again g c = λ again n here.
-    let Q : Halftoning → Type 0 = λ h. EndsWith h c.args.line.now in
-    (subst Q (sym c.self.view_is) (c.requires.again again)).last n (held_before c.self.inside c.window-window.result c.in-Some.y
-    c.window-window.ensures c.in-Some.ensures.row.0 c.in-Some.ensures.row.1 ∙ here)
+pub put_line-requires-clause-wide : goal.put_line-requires-clause-wide
+put_line-requires-clause-wide g c = omega (
+  arith,
+  ap (λ (win : Window). win.width) c.self.invariant.separator.window_is,
+  c.self.invariant.wanted.most_width,
+)
+
+pub put_line-requires-clause-line : goal.put_line-requires-clause-line
+put_line-requires-clause-line g c =
+    let h : Inside = c.self.inside in
+    let is = c.self.invariant.separator in
+    let holds = line_holds h.form (printer_of h.profile) c.self.invariant.wanted in
+    omega (
+      arith,
+      ap (λ (win : Window). (win.left + win.width) * (row_of h.separator.kind).unit) is.window_is,
+      ap (λ kind. ((window_in h).left + (window_in h).width) * (row_of kind).unit) is.kind_is,
+      holds,
+      c.requires.line,
+      ap (λ (s : Halftoning). s.form.bytes_per_line) c.self.view_is,
+    )
+
+pub put_line-requires-clause-width : goal.put_line-requires-clause-width
+put_line-requires-clause-width g c =
+    c.self.invariant.slab_width ∙ ap (λ (win : Window). win.width) (sym c.self.invariant.separator.window_is)
+
+pub put_line-requires-clause-inks : goal.put_line-requires-clause-inks
+put_line-requires-clause-inks g c =
+    c.self.invariant.slab_inks ∙ ap (λ set. length (inks_of set)) (sym c.self.invariant.separator.inks)
 
 pub returns-in_default-clause-stands : goal.returns-in_default-clause-stands
 returns-in_default-clause-stands g c = λ lines stands.
     let h : Halftoning = halftoning c.self.inside in
     let Q : Halftoning → Type 0 = λ h'. StandsFor h' lines in
     let R : Window → Type 0 = λ w. (h.count < w.top) ⊎ (w.top + w.height ≤ h.count) in
-    in_margin h c.args.line.now lines (subst R c.window-window.ensures c.in_default.ensures.margin) (subst Q (sym c.self.view_is) stands)
+    in_margin h c.args.line.now lines (subst R (page_window c.self.inside _ c.self.invariant c.window-window.ensures) c.in_default.ensures.margin) (subst Q (sym c.self.view_is) stands)
 
 -- The line is the next row.
-next_row : (inside : Inside) (w : Window) (line : List ℕ) (y : ℕ) (slab : AmountTable) → IsReady inside → w ≡ window_in inside
-    → w.top + y ≡ inside.count → y < w.height
-    → Separates (printer_of inside.profile) inside.form.kind line (window_in inside) (y - inside.diffused) inside.slab slab
+next_row : (inside : Inside) (w : Window) (line : List ℕ) (again : Bool) (y : ℕ) (slab : AmountTable) → IsReady inside
+    → w ≡ inside.separator.window → w.top + y ≡ inside.count → y < w.height → (again ≡ true → EndsWith (halftoning inside) line)
+    → ((p : Printer) (kind : Kind) (win : Window) → IsSeparatorOf p kind win inside.separator
+    → (again ≡ true → (n : ℕ) → y - inside.diffused ≡ n + 1 → HasLine p kind line win n inside.slab)
+    → Separates p kind line win (y - inside.diffused) inside.slab slab)
     → IsNextRow (halftoning inside) line y slab
-next_row inside w line y slab v is place low puts =
-    let here : (window_in inside).top + y ≡ inside.count = ap (λ (win : Window). win.top + y) (sym is) ∙ place in
-    let in_window : y < (window_in inside).height = omega (arith, low, ap (λ (win : Window). win.height) is) in
+next_row inside w line again y slab v is place low last puts =
+    let same : w ≡ window_in inside = page_window inside w v is in
+    let here : (window_in inside).top + y ≡ inside.count = ap (λ (win : Window). win.top + y) (sym same) ∙ place in
+    let in_window : y < (window_in inside).height = omega (arith, low, ap (λ (win : Window). win.height) same) in
+    let before : held (halftoning inside) ≡ y - inside.diffused = omega (arith, here, in_window) in
     record {
       place = here;
       inside = in_window;
-      puts = puts;
+      puts = puts (printer_of inside.profile) inside.form.kind (window_in inside) v.separator
+          (λ repeated n is. (last repeated).last n (before ∙ is));
       from = omega (arith, here, in_window, v.from);
       room = omega (arith, here, in_window, v.room);
       few = v.slab_most;
@@ -56,27 +84,32 @@ pub returns-then-y-self-clause-stands : goal.returns-then-y-self-clause-stands
 returns-then-y-self-clause-stands g c = λ lines stands.
     let h : Halftoning = halftoning c.self.inside in
     let Q : Halftoning → Type 0 = λ h'. StandsFor h' lines in
-    let next = next_row c.self.inside c.window-window.result c.args.line.now c.in-Some.y c.put_line.new.slab
-    c.self.invariant c.window-window.ensures c.in-Some.ensures.row.0 c.in-Some.ensures.row.1 c.put_line.ensures in
+    let L : Halftoning → Type 0 = λ h'. EndsWith h' c.args.line.now in
+    let next = next_row c.self.inside c.window-window.result c.args.line.now c.args.again c.in-Some.y c.put_line.new.slab
+    c.self.invariant c.window-window.ensures c.in-Some.ensures.row.0 c.in-Some.ensures.row.1
+    (λ again. subst L (sym c.self.view_is) (c.requires.again again)) c.put_line.ensures.separated in
     in_slab h c.args.line.now lines c.in-Some.y c.put_line.new.slab next (subst Q (sym c.self.view_is) stands)
 
 pub returns-then-y-self-clause-last : goal.returns-then-y-self-clause-last
 returns-then-y-self-clause-last g c =
+    let L : Halftoning → Type 0 = λ h'. EndsWith h' c.args.line.now in
     ends_with (halftoning c.self.inside) c.args.line.now c.in-Some.y c.put_line.new.slab
-    (next_row c.self.inside c.window-window.result c.args.line.now c.in-Some.y c.put_line.new.slab
-    c.self.invariant c.window-window.ensures c.in-Some.ensures.row.0 c.in-Some.ensures.row.1 c.put_line.ensures)
+    (next_row c.self.inside c.window-window.result c.args.line.now c.args.again c.in-Some.y c.put_line.new.slab
+    c.self.invariant c.window-window.ensures c.in-Some.ensures.row.0 c.in-Some.ensures.row.1
+    (λ again. subst L (sym c.self.view_is) (c.requires.again again)) c.put_line.ensures.separated)
 
 pub invariant_of-self-2 : goal.invariant_of-self-2
 invariant_of-self-2 g c =
     let v = c.self.invariant in
     let y : ℕ = c.in-Some.y in
     let w : Window = window_in c.self.inside in
+    let same : c.window-window.result ≡ w = page_window c.self.inside _ v c.window-window.ensures in
     let size = c.put_line.ensures.size in
     let next = c.next_slab.ensures in
     let done = c.in_ok-bottom.ensures.slab in
     let top : w.top + y ≡ c.self.inside.count =
-    ap (λ (win : Window). win.top + y) (sym c.window-window.ensures) ∙ c.in-Some.ensures.row.0 in
-    let tall : c.window-window.result.height ≡ w.height = ap (λ (win : Window). win.height) c.window-window.ensures in
+    ap (λ (win : Window). win.top + y) (sym same) ∙ c.in-Some.ensures.row.0 in
+    let tall : c.window-window.result.height ≡ w.height = ap (λ (win : Window). win.height) same in
     let inside : y < w.height = omega (arith, c.in-Some.ensures.row.1, tall) in
     let full : y + 1 ≡ c.self.inside.diffused + c.self.inside.slab.rows =
     omega (arith, top, inside, v.room, v.from, c.if-y-self.false, c.rows.ensures, size.rows) in
@@ -88,8 +121,8 @@ invariant_of-self-2 g c =
     let is_top = subst W (size.width ∙ v.slab_width) (subst I (size.inks ∙ v.slab_inks) done.is_top) in
     record {
       checked = v.checked;
-      black = v.black;
       wanted = v.wanted;
+      separator = v.separator;
       few = omega (
         arith,
         c.requires.count,
@@ -121,8 +154,10 @@ returns-clause-stands g c = λ lines stands.
     let y : ℕ = c.in-Some.y in
     let Q : Halftoning → Type 0 = λ h'. StandsFor h' lines in
     let size = c.put_line.ensures.size in
-    let next = next_row c.self.inside c.window-window.result line y c.put_line.new.slab v c.window-window.ensures
-    c.in-Some.ensures.row.0 c.in-Some.ensures.row.1 c.put_line.ensures in
+    let L : Halftoning → Type 0 = λ h'. EndsWith h' line in
+    let next = next_row c.self.inside c.window-window.result line c.args.again y c.put_line.new.slab v c.window-window.ensures
+    c.in-Some.ensures.row.0 c.in-Some.ensures.row.1
+    (λ again. subst L (sym c.self.view_is) (c.requires.again again)) c.put_line.ensures.separated in
     let full : y + 1 ≡ h.diffused + c.put_line.new.slab.rows = omega (arith, next.room, size.rows, c.if-y-self.false, c.rows.ensures) in
     let all : IsFull h y c.put_line.new.slab c.in-Some-take.top c.in_ok-bottom.bottom c.diffuse.new.out = record {
       top_is = ap edges_in (sym c.in-Some-take.is ∙ c.take.ensures.value);

@@ -1,6 +1,6 @@
 //! A page of one black line and one white line, and a stream that ends inside it.
-use crate::{HalftonedPage, read_page};
 use diffusion_kernel::Kernel;
+use halftone_reader::{HalftonedPage, read_page};
 use printer_profile::TINY1;
 use pwg_definitions::InputCause;
 use pwg_stream::{PageReader, StreamStop};
@@ -43,13 +43,14 @@ fn stream(alloc: Global, lines: &[u8]) -> Result<MemSource, Fail> {
     Ok(MemSource::make(bytes, Vec::new(alloc), Vec::new(alloc)))
 }
 
-/// Reads the first page of a stream.
+/// Reads the first page of a stream with these bytes of lines.
 fn read<R: Abort + Threads + Sync>(
     rt: &R,
     alloc: Global,
-    mut s: MemSource,
+    lines: &[u8],
 ) -> Result<Result<Option<HalftonedPage>, StreamStop>, Fail> {
-    assert_eq!(rt; TINY1.check(), Ok(()));
+    let mut s = stream(alloc, lines)?;
+    assert!(rt; TINY1.check().is_ok());
     let Ok(mut reader) = PageReader::begin(alloc, &mut s) else {
         return Err("no sync word")?;
     };
@@ -63,27 +64,22 @@ fn read<R: Abort + Threads + Sync>(
 
 #[test]
 fn a_black_line_is_all_dots_and_a_white_line_none(rt: HostRuntime) -> Result<(), Fail> {
-    let s = stream(rt.alloc(), &[0, 7, 0x00, 0, 7, 0xFF])?;
-    let Ok(Some(page)) = read(&rt, rt.alloc(), s)? else {
-        assert!(rt; false);
-        return Ok(());
-    };
-    assert!(rt; page.planes.inks() == 1 && page.planes.rows() == 2);
-    assert_eq!(rt; page.planes.width(), 8);
-    assert_eq!(rt; page.planes.row(0, 0), [0xFF].as_slice());
-    assert_eq!(rt; page.planes.row(0, 1), [0].as_slice());
+    let page = read(&rt, rt.alloc(), &[0, 7, 0x00, 0, 7, 0xFF])?;
+    let planes = page?.ok_or("no page")?.planes;
+    assert!(rt; planes.inks() == 1 && planes.width() == 8 && planes.rows() == 2);
+    assert!(rt; planes.row(0, 0) == [0xFF].as_slice());
+    assert!(rt; planes.row(0, 1) == [0].as_slice());
     Ok(())
 }
 
 #[test]
 fn a_stream_that_ends_in_a_page_stops_at_its_line(rt: HostRuntime) -> Result<(), Fail> {
-    let s = stream(rt.alloc(), &[0, 7, 0x00])?;
-    let stop = read(&rt, rt.alloc(), s)?.err();
+    let stop = read(&rt, rt.alloc(), &[0, 7, 0x00])?.err();
     let cut = StreamStop::Input {
         page: 1,
         line: 2,
         cause: InputCause::Truncated,
     };
-    assert_eq!(rt; stop, Some(cut));
+    assert!(rt; stop == Some(cut));
     Ok(())
 }

@@ -1,0 +1,12 @@
+//! Tests of what is made of a page's pixels: amounts of inks worked by hand, small pages against the definitions, and
+//! pages of a stream.
+#![tactic(auto)]
+
+#[cfg(test)]
+mod definition;
+#[cfg(test)]
+mod halftoner;
+#[cfg(test)]
+mod reader;
+#[cfg(test)]
+mod separator;
