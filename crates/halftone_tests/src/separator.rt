@@ -1,6 +1,6 @@
 //! Cells of the table of inks, worked by hand.
 use dot_planes::InkRows;
-use ink_separation::Separator;
+use ink_separation::amounts;
 use printer_profile::{InkSet, Profile, TINY1};
 use pwg_definitions::Kind;
 use separation_definitions::Window;
@@ -46,19 +46,19 @@ fn amounts_of(alloc: Global, cell: &Cell) -> Option<[u8; 4]> {
         return None;
     }
     let mut rows = InkRows::make(alloc, 1, 1, cell.inks.count()).ok()?;
-    Separator::make(&profile, cell.kind, FIRST_PIXEL).separate(&cell.pixel, 0, &mut rows);
-    let mut amounts = [0; 4];
+    amounts(&profile, cell.kind, &cell.pixel, FIRST_PIXEL, 0, &mut rows);
+    let mut given = [0; 4];
     for i in 0..cell.inks.count() {
-        amounts[usize::from(i)] = rows.get(i, 0, 0);
+        given[usize::from(i)] = rows.get(i, 0, 0);
     }
-    Some(amounts)
+    Some(given)
 }
 
 fn each(rt: &impl Abort, alloc: Global, cells: &[Cell]) {
     for cell in cells {
-        let amounts = amounts_of(alloc, cell);
+        let given = amounts_of(alloc, cell);
         assert!(rt;
-            amounts == Some(cell.want),
+            given == Some(cell.want),
             "at {:?} in {:?} from {}",
             cell.pixel,
             cell.inks,

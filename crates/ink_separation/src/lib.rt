@@ -2,7 +2,8 @@
 //!
 //! A `Separator` is made once for a page, of a profile, the kind of the page's pixels and its window. `separate` sets
 //! row `at` of each ink's amounts to exactly the amounts of the definition, for each pixel of a line inside the window;
-//! other rows are unchanged. It takes no memory. Up to 64 pixels are separated at a time.
+//! other rows are unchanged. `amounts` does the same for one line. Neither takes memory. Up to 64 pixels are separated
+//! at a time.
 #![tactic(auto)]
 
 mod black;
@@ -12,4 +13,4 @@ mod limits;
 mod pixels;
 mod separator;
 
-pub use separator::Separator;
+pub use separator::{Separator, amounts};

@@ -173,3 +173,16 @@ impl Separator {
         }
     }
 }
+
+/// Separates one line by a separator that is made for it alone.
+pub fn amounts(p: &Profile, kind: Kind, line: &[u8], w: Window, at: u32, out: &mut InkRows)
+    requires checked { IsOk (check p.now) }
+    requires wide { w.width ≤ most_columns }
+    requires inside { (w.left + w.width) * (row_of kind).unit ≤ length line.now }
+    requires width { out.old.width ≡ w.width }
+    requires inks { out.old.inks ≡ length (inks_of p.now.inks) }
+    requires at { at < out.old.rows }
+    ensures { Separates (printer_of p.now) kind line.now w at out.old out.new }
+{
+    Separator::make(p, kind, w).separate(line, at, out);
+}
