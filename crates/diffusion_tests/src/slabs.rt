@@ -1,4 +1,4 @@
-//! Slabs of a window by two workers.
+//! Slabs of a window, by one worker and by two.
 use crate::windows::{Case, is_right};
 use diffusion_kernel::Kernel;
 use wavefront_team::OpenGate;
@@ -46,7 +46,7 @@ fn a_slab_has_the_dots_of_rows_one_after_another(rt: HostRuntime) {
                     inks,
                     slabs,
                 };
-                is_right(&rt, rt.alloc(), &case, 2, &OpenGate);
+                is_right(&rt, rt.alloc(), &case, 1, &OpenGate);
             }
         }
     }
@@ -67,7 +67,7 @@ fn slabs_below_extreme_errors_have_the_dots_and_bottom_edges_of_the_rule(rt: Hos
                         inks: 1,
                         slabs,
                     };
-                    is_right(&rt, rt.alloc(), &case, 2, &OpenGate);
+                    is_right(&rt, rt.alloc(), &case, 1, &OpenGate);
                 }
             }
         }

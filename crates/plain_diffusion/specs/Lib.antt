@@ -1,0 +1,4 @@
+pub mod Fills
+pub mod Shares
+pub mod Known
+pub mod Whole
