@@ -19,6 +19,3 @@ pub use emulator::{EmuStop, Emulator};
 pub use escp2_commands::{Command, RasterHead};
 pub use escp2_definitions::EmuFault;
 pub use sheet::Sheet;
-
-#[cfg(test)]
-mod tests;

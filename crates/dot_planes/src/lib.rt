@@ -25,6 +25,3 @@ pub use bit_rows::has_dot;
 pub use ink_rows::InkRows;
 pub use planes::Planes;
 pub use tiles::{TileBits, TileDots};
-
-#[cfg(test)]
-mod tests;

@@ -2,8 +2,8 @@
 use Rattle.std.proofs.Common.{◌≡◌, List, [], ◌∷◌, ◌++◌, All, map, refl, sym, ◌∙◌, ap, subst}
 use Rattle.diffusion_definitions.specs.Diffusion.{Table}
 use Rattle.ink_meter.specs.Accounts.{Account, HasRoom, added}
-use Rattle.page_meter.specs.Counts.{page_dots}
-use Rattle.page_meter.proofs.Pages.{admitted-append, counted-append}
+use Rattle.ink_meter.specs.Counts.{page_dots}
+use Rattle.ink_meter.proofs.Pages.{admitted-append, counted-append}
 use Rattle.printer_definitions.specs.Printer.{Printer}
 use Rattle.pwg_definitions.specs.Stream.{Page}
 use Rattle.printer_definitions.specs.declared.inks.InkCounts.{InkCounts}

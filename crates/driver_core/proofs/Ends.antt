@@ -11,7 +11,7 @@ use Rattle.page_definitions.specs.Dots.{halftone}
 use Rattle.page_definitions.specs.PageBytes.{halftone_bytes, page_bytes}
 use Rattle.page_laws.proofs.Headline.{pages-print}
 use Rattle.page_laws.proofs.Rasters.{pages-have}
-use Rattle.page_meter.specs.Counts.{page_dots}
+use Rattle.ink_meter.specs.Counts.{page_dots}
 use Rattle.printer_definitions.specs.Printer.{Printer, row_units}
 use Rattle.separation_definitions.specs.CanPrint.{CanPrint}
 use Rattle.separation_definitions.specs.Windows.{wanted_by}

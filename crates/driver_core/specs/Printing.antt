@@ -7,7 +7,7 @@ use Rattle.driver_answer.specs.declared.answer.Answer.TheVariants as answer
 use Rattle.ink_meter.specs.Accounts.{IsFirstOver, all_inks}
 use Rattle.page_definitions.specs.PageBytes.{page_bytes}
 use Rattle.page_definitions.specs.Printing.{HavePasses, Prints}
-use Rattle.page_meter.specs.Counts.{Admitted, counted, page_dots}
+use Rattle.ink_meter.specs.Counts.{Admitted, counted, page_dots}
 use Rattle.printer_definitions.specs.Printer.{Printer}
 use Rattle.pwg_definitions.specs.declared.faults.InputCause.{InputCause}
 use Rattle.pwg_definitions.specs.Stream.{Page}

@@ -20,7 +20,7 @@ use Rattle.job_words.specs.declared.table.Verb.{Verb}
 use Rattle.job_words.specs.declared.table.Verb.TheVariants as verb
 use Rattle.job_words.specs.declared.usage.UsageFault.{UsageFault}
 use Rattle.job_words.specs.Meaning.{job_meaning, profile_named}
-use Rattle.page_meter.specs.Counts.{Admitted, counted, page_dots}
+use Rattle.ink_meter.specs.Counts.{Admitted, counted, page_dots}
 use Rattle.printer_profile.specs.declared.fields.Profile.{Profile}
 use Rattle.printer_profile.specs.Profiles.{built_in, printer_of}
 use Rattle.printer_profile.specs.Text.{profile_text_of}

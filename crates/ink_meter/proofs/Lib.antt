@@ -1,2 +1,4 @@
 pub mod Places
 pub mod Settled
+pub mod Pages
+pub mod PlaneDots

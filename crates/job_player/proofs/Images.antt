@@ -9,7 +9,7 @@ use Rattle.dot_emulator.specs.Runs.{IsSheet}
 use Rattle.dot_planes.specs.Tables.{DotTable, dot}
 use Rattle.escp2_definitions.specs.Machine.{Sheet as PrintedSheet}
 use Rattle.base_definitions.specs.Packed.{packed}
-use Rattle.pbm_out.specs.Images.{image, image_header, image_row}
+use Rattle.job_player.specs.Images.{image, image_header, image_row}
 use Rattle.printer_definitions.specs.declared.inks.Ink.{Ink}
 use Rattle.printer_definitions.specs.declared.inks.Ink.TheVariants.{Black, Cyan, Magenta, Yellow}
 use Rattle.printer_definitions.specs.Inks.{ink_place}

@@ -1,3 +1,4 @@
+pub mod Rows
 pub mod Images
 pub mod Running
 pub mod Playing

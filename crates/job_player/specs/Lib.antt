@@ -1,3 +1,4 @@
+pub mod Images
 pub mod Outcome
 pub mod Pictures
 pub mod Stops

@@ -5,7 +5,7 @@ use Rattle.dot_emulator.specs.Sheets.{dot_at}
 use Rattle.dot_planes.specs.Tables.{DotTable}
 use Rattle.escp2_definitions.specs.Machine.{Sheet, is_at}
 use Rattle.base_definitions.specs.Packed.{packed}
-use Rattle.pbm_out.specs.Images.{image, image_header}
+use Rattle.job_player.specs.Images.{image, image_header}
 use Rattle.printer_definitions.specs.declared.inks.Ink.{Ink}
 use Rattle.printer_definitions.specs.declared.inks.InkSet.TheVariants.{Cmyk}
 use Rattle.printer_definitions.specs.Inks.{inks_of}

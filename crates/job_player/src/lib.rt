@@ -4,13 +4,15 @@
 //! that the printer takes, and the images of its sheets were written; on a refusal, a failed read or write, or
 //! `Memory`, the images of some first sheets were written, and after a failed write a proper prefix of the next
 //! sheet's. A failed read or write comes only where the source's or sink's count of faults rose.
+//!
+//! `write_plane` appends exactly the image of one ink (raw PBM, of kind P4, of the Netpbm formats); where a write
+//! fails, a proper prefix of it, and the sink's count of faults rose. It takes no memory.
 #![tactic(auto)]
 
+mod image;
 mod player;
 mod sheets;
 
 pub use escp2_definitions::JobStop;
+pub use image::write_plane;
 pub use player::{PlayStop, play_job};
-
-#[cfg(test)]
-mod tests;

@@ -5,8 +5,8 @@ ghost use Rattle.std.specs.Prelude.{OnErr, OnOk};
 ghost use Rattle.weave_base.specs.Causes.{HasCause};
 ghost use Rattle.weave_base.specs.Parts.{AppendsPart};
 
+use crate::image::write_plane;
 use dot_emulator::Sheet;
-use pbm_out::write_plane;
 use weave_base::{Failed, Sink};
 
 /// Writes the images of a sheet: black, cyan, magenta and yellow.

@@ -3,7 +3,7 @@ use Rattle.std.proofs.lemmas.Result.{err_from_is_err_and}
 use Rattle.diffusion_kernel.specs.Tables.{table_of}
 use Rattle.halftone_reader.specs.declared.pages.HalftonedPage.{HalftonedPage}
 use Rattle.page_definitions.specs.Dots.{halftone}
-use Rattle.page_meter.proofs.Pages.{page_dots-is}
+use Rattle.ink_meter.proofs.Pages.{page_dots-is}
 use Rattle.printer_profile.specs.Profiles.{printer_of}
 use Rattle.printer_profile.proofs.CheckedProfiles.{can_print}
 use Rattle.pwg_definitions.specs.declared.pages.PageForm.{PageForm}

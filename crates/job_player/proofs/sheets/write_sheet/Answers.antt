@@ -1,5 +1,5 @@
 use Rattle.std.proofs.Common.{arith}
-use Rattle.pbm_out.specs.Images.{image}
+use Rattle.job_player.specs.Images.{image}
 use Rattle.weave_base.proofs.Parting.{on_err_anyway}
 use Rattle.job_player.proofs.Images.{images_more, images_none, images_part}
 use Rattle.job_player.proofs.sheets.write_sheet.Goals as goal

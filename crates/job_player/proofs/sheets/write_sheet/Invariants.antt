@@ -1,5 +1,5 @@
 use Rattle.std.proofs.Common.{◌≤◌}
-use Rattle.pbm_out.specs.Images.{image}
+use Rattle.job_player.specs.Images.{image}
 use Rattle.job_player.proofs.Images.{ImagesSoFar}
 use Rattle.job_player.proofs.sheets.write_sheet.Given as goal
 

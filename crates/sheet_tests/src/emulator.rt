@@ -1,0 +1,219 @@
+//! Commands on the small printer, with refusals and sheets worked by hand.
+use crate::machine::{Case, at_start, each, eject};
+use dot_emulator::{Command, EmuFault, Emulator, RasterHead};
+use known_jobs::TINY_COMMANDS;
+use printer_definitions::Ink;
+use std::alloc::Global;
+use std::process::Abort;
+use std::test::Fail;
+
+const HEADER: RasterHead = RasterHead {
+    c: 0,
+    v: 20,
+    h: 10,
+    m: 3,
+    n: 8,
+};
+
+/// Runs the commands before a page of six rows of dots, without margins.
+fn begin_page(rt: &impl Abort, emulator: &mut Emulator) {
+    for i in 0..7 {
+        each(rt, emulator, &[(TINY_COMMANDS[i], &[], None)]);
+    }
+}
+
+fn on_page(rt: &impl Abort, alloc: Global) -> Emulator {
+    let mut emulator = at_start(rt, alloc);
+    begin_page(rt, &mut emulator);
+    emulator
+}
+
+const FIRE: Command = Command::Raster { head: HEADER };
+
+const LAST_ROW: &[u8] = &[0x00, 0x00, 0xFF];
+
+const BLANK: &[u8] = &[0, 0, 0];
+
+#[test]
+fn a_raster_fired_twice_is_overprint(rt: HostRuntime) {
+    const CASES: [Case; 3] = [
+        (FIRE, LAST_ROW, None),
+        (Command::Return, &[], None),
+        (FIRE, LAST_ROW, Some(EmuFault::Overprint)),
+    ];
+    each(&rt, &mut on_page(&rt, rt.alloc()), &CASES);
+}
+
+#[test]
+fn a_sheet_has_its_dots_and_the_next_is_blank(rt: HostRuntime) -> Result<(), Fail> {
+    const CASES: [Case; 4] = [
+        (FIRE, LAST_ROW, None),
+        (Command::DownBy { n: 6 }, &[], None),
+        (Command::Return, &[], None),
+        (FIRE, &[0x00, 0xFF, 0x00], None),
+    ];
+    let mut emulator = on_page(&rt, rt.alloc());
+    each(&rt, &mut emulator, &CASES);
+    eject(&rt, &mut emulator, [6, 8, 16, 0], &[(0, 0, 4), (0, 7, 5)])?;
+    eject(&rt, &mut emulator, [6, 1, 0, 0], &[])
+}
+
+#[test]
+fn dots_begin_at_across_and_blank_rasters_widen_the_sheet(rt: HostRuntime) -> Result<(), Fail> {
+    const NARROW: RasterHead = RasterHead { n: 5, ..HEADER };
+    const WIDE: RasterHead = RasterHead { n: 6, ..HEADER };
+    const CASES: [Case; 3] = [
+        (Command::Across { n: 4 }, &[], None),
+        (Command::Raster { head: NARROW }, &[0xAF, 0x07, 0x00], None),
+        (Command::Raster { head: WIDE }, &[0x00, 0x03, 0x00], None),
+    ];
+    let mut emulator = on_page(&rt, rt.alloc());
+    each(&rt, &mut emulator, &CASES);
+    eject(
+        &rt,
+        &mut emulator,
+        [6, 13, 3, 0],
+        &[(0, 2, 0), (0, 4, 0), (0, 6, 0)],
+    )
+}
+
+#[test]
+fn init_and_eject_set_the_columns_back(rt: HostRuntime) -> Result<(), Fail> {
+    let mut emulator = on_page(&rt, rt.alloc());
+    each(&rt, &mut emulator, &[(FIRE, BLANK, None)]);
+    begin_page(&rt, &mut emulator);
+    eject(&rt, &mut emulator, [6, 1, 0, 0], &[])?;
+    each(&rt, &mut emulator, &[(FIRE, BLANK, None)]);
+    eject(&rt, &mut emulator, [6, 8, 0, 0], &[])?;
+    eject(&rt, &mut emulator, [6, 1, 0, 0], &[])
+}
+
+#[test]
+fn each_ink_has_a_plane(rt: HostRuntime) -> Result<(), Fail> {
+    const CASES: [Case; 12] = [
+        (Command::Colour { ink: Ink::Magenta }, &[], None),
+        (Command::Return, &[], None),
+        (FIRE, &[0x80, 0, 0], None),
+        (Command::Colour { ink: Ink::Cyan }, &[], None),
+        (Command::Return, &[], None),
+        (FIRE, &[0x40, 0, 0], None),
+        (Command::Colour { ink: Ink::Yellow }, &[], None),
+        (Command::Return, &[], None),
+        (FIRE, &[0x20, 0, 0], None),
+        (Command::Colour { ink: Ink::Black }, &[], None),
+        (Command::Return, &[], None),
+        (FIRE, &[0x10, 0, 0], None),
+    ];
+    let mut emulator = on_page(&rt, rt.alloc());
+    each(&rt, &mut emulator, &CASES);
+    let dots = [(0, 3, 0), (1, 1, 0), (2, 0, 0), (3, 2, 0)];
+    eject(&rt, &mut emulator, [6, 8, 1, 1], &dots)
+}
+
+const TWO_ROWS: RasterHead = RasterHead { m: 2, ..HEADER };
+
+const OTHER: RasterHead = RasterHead { h: 11, ..TWO_ROWS };
+
+#[test]
+fn what_is_missing_is_refused_first(rt: HostRuntime) {
+    const CASES: [Case; 17] = [
+        (FIRE, BLANK, Some(EmuFault::NotGraphics)),
+        (Command::Graphics, &[], None),
+        (FIRE, BLANK, Some(EmuFault::NoUnit)),
+        (Command::Length { n: 1 }, &[], Some(EmuFault::NoUnit)),
+        (
+            Command::Margins { top: 0, bottom: 1 },
+            &[],
+            Some(EmuFault::NoUnit),
+        ),
+        (Command::DownTo { n: 0 }, &[], Some(EmuFault::NoUnit)),
+        (Command::DownBy { n: 0 }, &[], Some(EmuFault::NoUnit)),
+        (Command::Across { n: 0 }, &[], Some(EmuFault::NoUnit)),
+        (Command::Eject, &[], Some(EmuFault::NoMargins)),
+        (Command::Unit { m: 5 }, &[], None),
+        (Command::Length { n: 32_767 }, &[], Some(EmuFault::OffSheet)),
+        (
+            Command::Margins { top: 0, bottom: 1 },
+            &[],
+            Some(EmuFault::NoMargins),
+        ),
+        (Command::Length { n: 12 }, &[], None),
+        (
+            Command::Margins { top: 0, bottom: 13 },
+            &[],
+            Some(EmuFault::OffSheet),
+        ),
+        (Command::DownTo { n: 99 }, &[], Some(EmuFault::NoMargins)),
+        (Command::DownBy { n: 99 }, &[], Some(EmuFault::NoMargins)),
+        (
+            Command::Raster { head: OTHER },
+            &[0, 0],
+            Some(EmuFault::NoMargins),
+        ),
+    ];
+    each(&rt, &mut at_start(&rt, rt.alloc()), &CASES);
+}
+
+#[test]
+fn the_numbers_of_a_raster_are_refused_in_their_order(rt: HostRuntime) {
+    const WIDER: RasterHead = RasterHead { v: 10, ..TWO_ROWS };
+    const WIDEST: Command = Command::Raster {
+        head: RasterHead { n: 8191, ..HEADER },
+    };
+    const LONG: &[u8] = &[0; 3072];
+    const CASES: [Case; 11] = [
+        (Command::Across { n: 1 }, &[], None),
+        (
+            Command::Raster { head: OTHER },
+            &[0, 0],
+            Some(EmuFault::Density),
+        ),
+        (
+            Command::Raster { head: WIDER },
+            &[0, 0],
+            Some(EmuFault::Density),
+        ),
+        (
+            Command::Raster { head: TWO_ROWS },
+            &[0, 0],
+            Some(EmuFault::Rows),
+        ),
+        (WIDEST, LONG, Some(EmuFault::OffGrid)),
+        (Command::Across { n: 2 }, &[], None),
+        (WIDEST, LONG, Some(EmuFault::OffSheet)),
+        (Command::Return, &[], None),
+        (WIDEST, LONG, None),
+        (Command::Return, &[], None),
+        (Command::DownBy { n: 1 }, &[], None),
+    ];
+    let mut emulator = on_page(&rt, rt.alloc());
+    each(&rt, &mut emulator, &CASES);
+    each(
+        &rt,
+        &mut emulator,
+        &[(FIRE, BLANK, Some(EmuFault::OffGrid))],
+    );
+}
+
+#[test]
+fn a_sheet_with_dots_goes_on_downwards(rt: HostRuntime) {
+    const CASES: [Case; 12] = [
+        (FIRE, &[0x00, 0x80, 0x00], None),
+        (Command::Init, &[], Some(EmuFault::Backward)),
+        (Command::Length { n: 32_767 }, &[], Some(EmuFault::Backward)),
+        (
+            Command::Margins { top: 0, bottom: 13 },
+            &[],
+            Some(EmuFault::Backward),
+        ),
+        (Command::DownTo { n: 4 }, &[], None),
+        (Command::DownTo { n: 3 }, &[], Some(EmuFault::Backward)),
+        (Command::DownTo { n: 13 }, &[], Some(EmuFault::OffSheet)),
+        (Command::DownBy { n: 9 }, &[], Some(EmuFault::OffSheet)),
+        (Command::Return, &[], None),
+        (FIRE, &[0x80, 0x00, 0x80], Some(EmuFault::OffSheet)),
+        (FIRE, &[0x80, 0x00, 0x00], Some(EmuFault::Overprint)),
+        (FIRE, &[0x40, 0x80, 0x00], None),
+    ];
+    each(&rt, &mut on_page(&rt, rt.alloc()), &CASES);
+}
