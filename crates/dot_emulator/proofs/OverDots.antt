@@ -1,22 +1,23 @@
 -- A row of a raster over the dots of a sheet.
-use Rattle.std.proofs.Common.{◌≡◌, ◌≢◌, ℕ, ◌+◌, ◌-◌, ◌*◌, ◌==◌, ◌<◌, ◌≤◌, ◌⊎◌, Bool, true, false, ◌&&◌, ◌||◌, List, [], ◌++◌, length}
-use Rattle.std.proofs.Common.{take, refl, ◌∙◌, sym, ap, arith, inl, inr, subst, append_assoc, append-nil}
+use Rattle.std.proofs.Common.{◌≡◌, ◌≢◌, ℕ, ◌+◌, ◌-◌, ◌*◌, ◌==◌, ◌<◌, ◌≤◌, ◌⊎◌, Bool, true, false, ◌&&◌, ◌||◌, nat_le, nat_lt, List, [], ◌∷◌, ◌++◌}
+use Rattle.std.proofs.Common.{Option, Some, None, length, take, refl, ◌∙◌, sym, ap, arith, inl, inr, subst, append_assoc, append-nil}
 use Rattle.std.specs.List.{list_any}
-use Rattle.std.proofs.lemmas.Bool.{cases_Bool, cases_eq, cases_lt, eq-eqb, and_right, ne_eqb}
+use Rattle.std.proofs.lemmas.Bool.{cases_Bool, cases_eq, cases_lt, eq-eqb, and_right, le-leb, le-ltb, lt-ltb, ne_eqb}
 use Rattle.std.proofs.lemmas.List.Folds.{list_any-append}
 use Rattle.printer_definitions.specs.declared.inks.Ink.{Ink}
 use Rattle.printer_definitions.specs.Inks.{ink_place, same_ink}
 use Rattle.base_definitions.specs.Packed.{bits}
-use Rattle.escp2_definitions.specs.Machine.{Dot, is_at, row_dots}
+use Rattle.escp2_definitions.specs.Machine.{Dot, is_at, overprints, row_dots}
 use Rattle.base_definitions.specs.Counting.{count_from}
-use Rattle.dot_planes.specs.Laying.{Lays, meets}
+use Rattle.dot_planes.specs.Laying.{Lays, has_dot, meets}
 use Rattle.dot_planes.specs.Tables.{DotTable, dot, row_dot}
 use Rattle.dot_planes.proofs.LaidRows.{any-no, any-some}
 use Rattle.dot_emulator.specs.declared.firing.Raster.{Raster}
-use Rattle.dot_emulator.specs.Firing.{Grid, HasRows, Stands, fired}
+use Rattle.dot_emulator.specs.Current.{meets_in, rows_or}
+use Rattle.dot_emulator.specs.Firing.{Grid, HasRows, PlanesHave, Stands, fired}
 use Rattle.dot_emulator.specs.Sheets.{HasPlaces, dot_at}
 use Rattle.dot_emulator.proofs.RasterDots.{IsAboveFrom, below-none, packed_row, rest, rest-first, rest-next}
-use Rattle.dot_emulator.proofs.RasterDots.{rest-none, row-long, row_fired, sheet_row}
+use Rattle.dot_emulator.proofs.RasterDots.{rest-none, row-long, row-none, row_fired, sheet_row}
 use Rattle.dot_emulator.proofs.RowDots.{any-same, eqb-times, row-any}
 
 -- a row of dots that begins at column x
@@ -30,6 +31,15 @@ pub row-meets : (g : Grid) (dots : List Dot) (t : DotTable) (ink : Ink) (y x n :
 row-meets g dots t ink y x n row long inside has =
     row-any (λ d. list_any (is_at d) dots) ink x g.column (y * g.row) n row long
     ∙ any-same _ _ 0 n (λ k low. ap (λ b. row_dot row (0 + k) && b) (sym (has ink y (x + (0 + k)) inside)))
+
+-- nothing is overprinted on a sheet without dots
+no-over : (new : List Dot) → overprints [] new ≡ false
+no-over [] = refl
+no-over (d ∷ new) = no-over new
+
+none-over : (dots new : List Dot) → length dots ≡ 0 → overprints dots new ≡ false
+none-over [] new none = no-over new
+none-over (d ∷ dots) new none = absurd (omega arith)
 
 -- ---- the row laid over
 
@@ -155,17 +165,30 @@ pub record IsRow (r : Raster) (rows : List ℕ) (i plane y n : ℕ) (bytes : Lis
   pub wide : n ≡ r.header.n
   pub bytes_are : bytes ≡ packed_row r rows i
 
-pub meets-code : (g : Grid) (dots : List Dot) (t : DotTable) (r : Raster)
-    (rows : List ℕ) (i plane y n : ℕ) (bytes : List ℕ) (b : Bool) → HasRows r rows → i < r.header.m → y < t.rows
-    → HasPlaces g.column g.row dots t → IsRow r rows i plane y n bytes
-    → b ≡ meets t plane y r.x bytes n → list_any (λ d. list_any (is_at d) dots) (row_fired g r rows i) ≡ b
-meets-code g dots t r rows i plane y n bytes b fits low inside has is tested =
-    row-meets g dots t r.ink (sheet_row r i) r.x r.header.n (packed_row r rows i) (row-long r rows i fits low) (omega (arith, is.down)) has
-    ∙ sym (tested
-    ∙ ap (λ p. meets t p y r.x bytes n) is.plane_is
-    ∙ ap (λ d. meets t (ink_place r.ink) d r.x bytes n) is.down
-    ∙ ap (λ (bs : List ℕ). meets t (ink_place r.ink) (sheet_row r i) r.x bs n) is.bytes_are
-    ∙ ap (meets t (ink_place r.ink) (sheet_row r i) r.x (packed_row r rows i)) is.wide)
+-- whether a dot of row i, which has none below the bottom margin, is on the sheet already
+pub row-over : (g : Grid) (dots : List Dot) (planes : Option DotTable) (r : Raster) (rows bytes : List ℕ) (i y : ℕ)
+    → HasRows r rows → i < r.header.m → r.end ≤ rows_or r.end planes → PlanesHave g dots planes
+    → y ≡ sheet_row r i → bytes ≡ packed_row r rows i → (nat_le r.end y && has_dot bytes r.header.n) ≡ false
+    → list_any (λ d. list_any (is_at d) dots) (row_fired g r rows i)
+    ≡ (nat_lt y r.end && meets_in planes (ink_place r.ink) y r.x bytes r.header.n)
+row-over g dots planes r rows bytes i y fits low high have down is above = elim (cases_lt y r.end) [
+  | inl inside ↦ met planes high have inside
+      ∙ sym (ap (λ b. b && meets_in planes (ink_place r.ink) y r.x bytes r.header.n) (lt-ltb y r.end inside))
+  | inr below ↦
+      let none : has_dot bytes r.header.n ≡ false =
+      sym (ap (λ b. b && has_dot bytes r.header.n) (le-leb r.end y below)) ∙ above in
+      ap (list_any (λ d. list_any (is_at d) dots)) (row-none g r rows bytes i fits low is none)
+      ∙ sym (ap (λ b. b && meets_in planes (ink_place r.ink) y r.x bytes r.header.n) (le-ltb y r.end below))
+]
+  where
+    met : (o : Option DotTable) → r.end ≤ rows_or r.end o → PlanesHave g dots o → y < r.end
+        → list_any (λ d. list_any (is_at d) dots) (row_fired g r rows i) ≡ meets_in o (ink_place r.ink) y r.x bytes r.header.n
+    met None high none inside = none-over dots (row_fired g r rows i) none
+    met (Some t) high has inside =
+        row-meets g dots t r.ink (sheet_row r i) r.x r.header.n (packed_row r rows i) (row-long r rows i fits low)
+        (omega (arith, down)) has
+        ∙ sym (ap (λ k. meets t (ink_place r.ink) k r.x bytes r.header.n) down
+        ∙ ap (λ (bs : List ℕ). meets t (ink_place r.ink) (sheet_row r i) r.x bs r.header.n) is)
 
 -- The planes have the dots of the rows before row i too.
 pub record LaidSoFar (g : Grid) (r : Raster) (rows : List ℕ) (i : ℕ) (dots : List Dot) (t : DotTable) : Type 0 where

@@ -2,7 +2,7 @@
 use Rattle.std.proofs.Common.{◌≡◌, ℕ, suc, ◌+◌, ◌-◌, ◌*◌, ◌<◌, ◌≤◌, Bool, true, false, ◌&&◌, ◌||◌, nat_le, nat_lt, List, [], ◌∷◌, ◌++◌}
 use Rattle.std.proofs.Common.{length, take, drop, refl, ◌∙◌, sym, ap, arith, length-take, length-drop}
 use Rattle.std.specs.List.{list_any}
-use Rattle.std.proofs.lemmas.Bool.{false≢true, le-leb, lt-leb, lt-ltb, or_parts}
+use Rattle.std.proofs.lemmas.Bool.{false≢true, le-leb, lt-ltb, or_parts}
 use Rattle.std.proofs.lemmas.List.{drop-drop}
 use Rattle.std.proofs.lemmas.List.Folds.{list_any-append}
 use Rattle.escp2_definitions.specs.Commands.{row_bytes}
@@ -64,31 +64,41 @@ rest-next g r rows i stands low =
 
 -- ---- a test of the dots
 
--- a test that no dot before row i passes
-abbrev pub IsLeft : (Dot → Bool) → Grid → Raster → List ℕ → ℕ → Type 0
-IsLeft f g r rows i = list_any f (fired g r rows) ≡ list_any f (rest g r rows i)
+-- What was seen of a test before row i: `b` is whether a dot before it passes.
+abbrev pub SeenSoFar : (Dot → Bool) → Grid → Raster → List ℕ → ℕ → Bool → Type 0
+SeenSoFar f g r rows i b = list_any f (fired g r rows) ≡ (b || list_any f (rest g r rows i))
 
-pub left-first : (f : Dot → Bool) (g : Grid) (r : Raster) (rows : List ℕ) → IsLeft f g r rows 0
-left-first f g r rows = ap (list_any f) (rest-first g r rows)
+pub seen-first : (f : Dot → Bool) (g : Grid) (r : Raster) (rows : List ℕ) → SeenSoFar f g r rows 0 false
+seen-first f g r rows = ap (list_any f) (rest-first g r rows)
 
 any-next : (f : Dot → Bool) (g : Grid) (r : Raster) (rows : List ℕ) (i : ℕ) → Stands g r → i < r.header.m
     → list_any f (rest g r rows i) ≡ (list_any f (row_fired g r rows i) || list_any f (rest g r rows (i + 1)))
 any-next f g r rows i stands low = ap (list_any f) (rest-next g r rows i stands low)
     ∙ list_any-append f (row_fired g r rows i) (rest g r rows (i + 1))
 
-pub left-next : (f : Dot → Bool) (g : Grid) (r : Raster) (rows : List ℕ) (i : ℕ) → Stands g r → i < r.header.m
-    → IsLeft f g r rows i → list_any f (row_fired g r rows i) ≡ false → IsLeft f g r rows (i + 1)
-left-next f g r rows i stands low left none =
-    left ∙ any-next f g r rows i stands low ∙ ap (λ b. b || list_any f (rest g r rows (i + 1))) none
+or_assoc : (a b d : Bool) → (a || (b || d)) ≡ ((a || b) || d)
+or_assoc true b d = refl
+or_assoc false b d = refl
 
-pub left-found : (f : Dot → Bool) (g : Grid) (r : Raster) (rows : List ℕ) (i : ℕ) → Stands g r → i < r.header.m
-    → IsLeft f g r rows i → list_any f (row_fired g r rows i) ≡ true → true ≡ list_any f (fired g r rows)
-left-found f g r rows i stands low left some =
-    sym (left ∙ any-next f g r rows i stands low ∙ ap (λ b. b || list_any f (rest g r rows (i + 1))) some)
+or_false : (b : Bool) → (b || false) ≡ b
+or_false true = refl
+or_false false = refl
 
-pub left-none : (f : Dot → Bool) (g : Grid) (r : Raster) (rows : List ℕ) (i : ℕ)
-    → r.header.m ≤ i → IsLeft f g r rows i → false ≡ list_any f (fired g r rows)
-left-none f g r rows i all left = sym (left ∙ ap (list_any f) (rest-none g r rows i all))
+-- one row more, of which `row` is whether a dot passes
+pub seen-next : (f : Dot → Bool) (g : Grid) (r : Raster) (rows : List ℕ) (i : ℕ) (before row now : Bool)
+    → Stands g r → i < r.header.m → SeenSoFar f g r rows i before
+    → list_any f (row_fired g r rows i) ≡ row → now ≡ (before || row) → SeenSoFar f g r rows (i + 1) now
+seen-next f g r rows i before row now stands low so_far row_is now_is =
+    let left : Bool = list_any f (rest g r rows (i + 1)) in
+    so_far
+    ∙ ap (λ b. before || b) (any-next f g r rows i stands low)
+    ∙ ap (λ b. before || (b || left)) row_is
+    ∙ or_assoc before row left
+    ∙ ap (λ b. b || left) (sym now_is)
+
+pub seen-all : (f : Dot → Bool) (g : Grid) (r : Raster) (rows : List ℕ) (i : ℕ) (b : Bool)
+    → r.header.m ≤ i → SeenSoFar f g r rows i b → list_any f (fired g r rows) ≡ b
+seen-all f g r rows i b all so_far = so_far ∙ ap (λ ds. b || list_any f ds) (rest-none g r rows i all) ∙ or_false b
 
 -- whether there is a dot
 pub some-dot : (dots : List Dot) → list_any (λ d. true) dots ≡ nat_lt 0 (length dots)
@@ -115,27 +125,18 @@ row-is-below g r rows i stands fits low =
     row-below g.bottom r.ink r.x g.column (sheet_row r i * g.row) r.header.n (packed_row r rows i) (row-long r rows i fits low)
     ∙ ap (λ b. b && has_dot (packed_row r rows i) r.header.n) (stands.ends (sheet_row r i))
 
--- the bytes of a row, as they are cut out
-pub row-is : (r : Raster) (rows bytes : List ℕ) (i len : ℕ)
-    → len ≡ row_bytes r.header → bytes ≡ take len (drop (i * len) rows) → bytes ≡ packed_row r rows i
-row-is r rows bytes i len len_is is = is ∙ ap (λ l. take l (drop (i * l) rows)) len_is
+-- the same with the numbers and the bytes that the code takes
+pub row-some : (g : Grid) (r : Raster) (rows bytes : List ℕ) (i : ℕ) → HasRows r rows → i < r.header.m
+    → bytes ≡ packed_row r rows i → list_any (λ d. true) (row_fired g r rows i) ≡ has_dot bytes r.header.n
+row-some g r rows bytes i fits low is = row-has-dot g r rows i fits low ∙ ap (λ (bs : List ℕ). has_dot bs r.header.n) (sym is)
 
--- a row at or below the bottom margin, which has a dot or none
-pub below-row : (g : Grid) (r : Raster) (rows : List ℕ) (i : ℕ) (b : Bool) (bytes : List ℕ)
-    → Stands g r → HasRows r rows → i < r.header.m → r.end ≤ sheet_row r i
-    → bytes ≡ packed_row r rows i → b ≡ has_dot bytes r.header.n → list_any (λ d. nat_le g.bottom d.y) (row_fired g r rows i) ≡ b
-below-row g r rows i b bytes stands fits low below is tested =
+pub row-under : (g : Grid) (r : Raster) (rows bytes : List ℕ) (i y : ℕ) → Stands g r → HasRows r rows → i < r.header.m
+    → y ≡ sheet_row r i → bytes ≡ packed_row r rows i
+    → list_any (λ d. nat_le g.bottom d.y) (row_fired g r rows i) ≡ (nat_le r.end y && has_dot bytes r.header.n)
+row-under g r rows bytes i y stands fits low down is =
     row-is-below g r rows i stands fits low
-    ∙ ap (λ t. t && has_dot (packed_row r rows i) r.header.n) (le-leb r.end (sheet_row r i) below)
-    ∙ ap (λ (row : List ℕ). has_dot row r.header.n) (sym is)
-    ∙ sym tested
-
--- no dot of a row above it is at or below it
-pub above-row : (g : Grid) (r : Raster) (rows : List ℕ) (i : ℕ) → Stands g r → HasRows r rows → i < r.header.m → sheet_row r i < r.end
-    → list_any (λ d. nat_le g.bottom d.y) (row_fired g r rows i) ≡ false
-above-row g r rows i stands fits low above =
-    row-is-below g r rows i stands fits low
-    ∙ ap (λ t. t && has_dot (packed_row r rows i) r.header.n) (lt-leb r.end (sheet_row r i) above)
+    ∙ ap (λ k. nat_le r.end k && has_dot (packed_row r rows i) r.header.n) (sym down)
+    ∙ ap (λ (bs : List ℕ). nat_le r.end y && has_dot bs r.header.n) (sym is)
 
 -- ---- rows that have no dots
 
@@ -144,7 +145,7 @@ abbrev pub IsAboveFrom : Grid → Raster → List ℕ → ℕ → Type 0
 IsAboveFrom g r rows i = list_any (λ d. nat_le g.bottom d.y) (rest g r rows i) ≡ false
 
 pub above-first : (g : Grid) (r : Raster) (rows : List ℕ) → IsAbove g r rows → IsAboveFrom g r rows 0
-above-first g r rows above = sym (left-first (λ d. nat_le g.bottom d.y) g r rows) ∙ above
+above-first g r rows above = sym (seen-first (λ d. nat_le g.bottom d.y) g r rows) ∙ above
 
 -- the same for row i, and for those after it
 pub record AreAbove (g : Grid) (r : Raster) (rows : List ℕ) (i : ℕ) : Type 0 where
@@ -161,6 +162,11 @@ above-next g r rows i stands low above =
 none-in : (dots : List Dot) → list_any (λ d. true) dots ≡ false → dots ≡ []
 none-in [] none = refl
 none-in (d ∷ dots) none = absurd (false≢true (sym none))
+
+-- a row without a dot has none
+pub row-none : (g : Grid) (r : Raster) (rows bytes : List ℕ) (i : ℕ) → HasRows r rows → i < r.header.m
+    → bytes ≡ packed_row r rows i → has_dot bytes r.header.n ≡ false → row_fired g r rows i ≡ []
+row-none g r rows bytes i fits low is none = none-in (row_fired g r rows i) (row-some g r rows bytes i fits low is ∙ none)
 
 -- a row below the bottom margin has no dots
 pub below-none : (g : Grid) (r : Raster) (rows : List ℕ) (i : ℕ)

@@ -16,7 +16,7 @@ use Rattle.dot_emulator.specs.declared.state.State.{State}
 use Rattle.dot_emulator.specs.Current.{IsBlankPast, rows_or}
 use Rattle.dot_emulator.specs.Pages.{sheet_rows}
 use Rattle.dot_emulator.specs.declared.firing.Raster.{Raster}
-use Rattle.dot_emulator.specs.Firing.{Grid, HasRows, IsAbove, PlanesHave, fired}
+use Rattle.dot_emulator.specs.Firing.{Grid, HasRows, IsAbove, PlanesHave, fired, late_fault}
 use Rattle.dot_emulator.specs.Places.{Placed, grid_of}
 use Rattle.dot_emulator.specs.Runs.{AreTaken, LaidIn, Runs, Shows, ShowsDots}
 use Rattle.dot_emulator.specs.declared.emulator.Emulator.{Emulator}
@@ -146,13 +146,16 @@ planes-have p m (Some t) shows = shows.1.places
 
 -- the refusals that depend on the dots, from the raster's place
 pub late : (p : Printer) (m : Machine) (header : RasterHead) (r : Raster) (rows : List ℕ) → Placed p m header r
-    → first_fault (refusals p m (c.Raster header) rows)
-    ≡ first_fault (refuse (list_any (λ d. nat_le (bottom_margin m) d.y) (fired (grid_of p m) r rows)) OffSheet
-    ∷ refuse (overprints m.dots (fired (grid_of p m) r rows)) Overprint ∷ [])
+    → first_fault (refusals p m (c.Raster header) rows) ≡ late_fault (grid_of p m) r rows m.dots
 late p m header r rows placed =
     placed.left rows
     ∙ ap (λ (new : List Dot). first_fault (refuse (list_any (λ d. nat_le (bottom_margin m) d.y) new) OffSheet
     ∷ refuse (overprints m.dots new) Overprint ∷ [])) (placed.fires rows)
+
+-- the planes of a sheet have the rows down to its bottom margin
+pub rows-high : (planes : Option DotTable) (height end : ℕ) → rows_or height planes ≡ height → end ≤ height → end ≤ rows_or end planes
+rows-high None height end rows low = omega arith
+rows-high (Some t) height end rows low = omega (arith, rows)
 
 -- where neither refusal holds, no dot is at or below the bottom margin
 pub above-margin : (off over : Bool) → first_fault (refuse off OffSheet ∷ refuse over Overprint ∷ []) ≡ None → off ≡ false
@@ -224,15 +227,6 @@ blank-shows p m header r rows planes placed none shows = by_planes planes shows
 
 -- ---- planes that are taken
 
-no-over : (new : List Dot) → overprints [] new ≡ false
-no-over [] = refl
-no-over (d ∷ new) = no-over new
-
--- nothing is overprinted on a sheet without dots
-pub blank-over : (dots new : List Dot) → length dots ≡ 0 → overprints dots new ≡ false
-blank-over [] new none = no-over new
-blank-over (d ∷ dots) new none = absurd (omega arith)
-
 pub blank-taken : (old : Option DotTable) (t : DotTable) (columns : ℕ)
     → AreTaken old t → IsBlankPast columns old → IsBlankPast columns (Some t)
 blank-taken None t columns taken blank = λ ink y x low past. taken ink y x
@@ -297,8 +291,7 @@ eject-runs p m rows old new sheet shows e =
 pub record IsFired (p : Printer) (m : Machine) (header : RasterHead) (r : Raster) (rows : List ℕ) (old new : Emulator) : Type 0 where
   pub placed : Placed p m header r
   pub fits : HasRows r rows
-  pub none : None ≡ first_fault (refuse (list_any (λ d. nat_le (bottom_margin m) d.y) (fired (grid_of p m) r rows)) OffSheet
-      ∷ refuse (overprints m.dots (fired (grid_of p m) r rows)) Overprint ∷ [])
+  pub none : late_fault (grid_of p m) r rows m.dots ≡ None
   pub steps : new.steps ≡ old.steps
   pub step : machine_of new.state (after p m (c.Raster header) rows).dots ≡ after p m (c.Raster header) rows
 
@@ -319,4 +312,4 @@ pub fire-runs : (p : Printer) (m : Machine) (header : RasterHead) (r : Raster) (
     → ShowsDots p (after p m (c.Raster header) rows) new.planes → Runs p m (c.Raster header) rows old new (Ok None)
 fire-runs p m header r rows old new shows f dots =
     let A : Steps → Type 0 = AreStepsOf p in
-    (late p m header r rows f.placed ∙ sym f.none, refl, record { steps = subst A (sym f.steps) shows.steps; state = f.step; dots = dots })
+    (late p m header r rows f.placed ∙ f.none, refl, record { steps = subst A (sym f.steps) shows.steps; state = f.step; dots = dots })

@@ -1,8 +1,10 @@
 -- The dots that a raster fires, at their columns and rows.
-use Rattle.std.specs.Prelude.{◌≡◌, ℕ, ◌*◌, ◌≤◌, false, nat_le, List, length, Option, Some, None}
+use Rattle.std.specs.Prelude.{◌≡◌, ℕ, ◌*◌, ◌≤◌, Bool, false, nat_le, nat_lt, List, [], ◌∷◌, length, Option, Some, None, Result, Ok, Err}
 use Rattle.std.specs.List.{list_any}
 use Rattle.escp2_definitions.specs.Commands.{row_bytes}
-use Rattle.escp2_definitions.specs.Machine.{Dot, rows_dots}
+use Rattle.escp2_definitions.specs.declared.stops.EmuFault.{EmuFault}
+use Rattle.escp2_definitions.specs.declared.stops.EmuFault.TheVariants.{OffSheet, Overprint}
+use Rattle.escp2_definitions.specs.Machine.{Dot, first_fault, overprints, refuse, rows_dots}
 use Rattle.dot_planes.specs.Tables.{DotTable}
 use Rattle.dot_emulator.specs.declared.firing.Raster.{Raster}
 use Rattle.dot_emulator.specs.Sheets.{HasPlaces}
@@ -37,3 +39,16 @@ HasRows r rows = length rows ≡ r.header.m * row_bytes r.header
 abbrev pub PlanesHave : Grid → List Dot → Option DotTable → Type 0
 PlanesHave g dots None = length dots ≡ 0
 PlanesHave g dots (Some t) = HasPlaces g.column g.row dots t
+
+-- why the dots of a raster are refused on a sheet with these dots: one is at or below the bottom margin, or where there
+-- is one already
+abbrev pub late_fault : Grid → Raster → List ℕ → List Dot → Option EmuFault
+late_fault g r rows dots = first_fault (
+    refuse (list_any (λ d. nat_le g.bottom d.y) (fired g r rows)) OffSheet
+    ∷ refuse (overprints dots (fired g r rows)) Overprint
+    ∷ [])
+
+-- the answer is whether the raster has a dot, or why its dots are refused
+abbrev pub IsLooked : Grid → Raster → List ℕ → List Dot → Result Bool EmuFault → Type 0
+IsLooked g r rows dots (Ok has_dots) = (late_fault g r rows dots ≡ None) × (has_dots ≡ nat_lt 0 (length (fired g r rows)))
+IsLooked g r rows dots (Err fault) = late_fault g r rows dots ≡ Some fault

@@ -58,18 +58,16 @@ pub struct Emulator {
 }
 
 impl Emulator {
-    ghost use Rattle.dot_emulator.specs.Firing.{Grid, HasRows, IsAbove, PlanesHave, Stands, fired};
+    ghost use Rattle.dot_emulator.specs.Firing.{Grid, IsAbove, HasRows, PlanesHave, Stands};
     ghost use Rattle.dot_emulator.specs.Places.{IsPlaced};
     ghost use Rattle.dot_emulator.specs.Runs.{LaidIn, Runs, Shows, TakesPlanes};
     ghost use Rattle.dot_emulator.specs.Sheets.{HasPlaces};
     ghost use Rattle.dot_emulator.specs.Steps.{AreStepsOf};
     ghost use Rattle.dot_emulator.specs.States.{is_plain, machine_of};
-    ghost use Rattle.escp2_definitions.specs.Machine.{Dot, Machine, first_fault, overprints, refuse};
+    ghost use Rattle.escp2_definitions.specs.Machine.{Dot, Machine};
     ghost use Rattle.escp2_definitions.specs.declared.command.Command.TheVariants as c;
-    ghost use Rattle.escp2_definitions.specs.declared.stops.EmuFault.TheVariants.{OffSheet, Overprint};
     ghost use Rattle.printer_definitions.specs.Printer.{Printer};
-    ghost use Rattle.std.specs.List.{list_any};
-    ghost use Rattle.std.specs.Prelude.{IfOk, List, [], OnErr, OnOk, None, nat_le, ℕ, ◌∷◌, ◌*◌};
+    ghost use Rattle.std.specs.Prelude.{IfOk, List, OnErr, OnOk, None, ℕ, ◌*◌};
     ghost use Rattle.std.specs.Prelude.{◌+◌, ◌/◌, ◌≤◌, unwrap_or};
 
     /// A printer whose profile passes its checks, at the start of a job. `make` takes no memory; `run` does, for the
@@ -138,11 +136,9 @@ impl Emulator {
             → Shows p self.old m → Runs p m (c.Raster header) rows.now self.old self.new result }
     {
         let raster = self.place(header)?;
-        if let Some(fault) = self.refuses_dots(raster, rows) {
-            return Err(EmuStop::Refused(fault));
-        }
+        let has_dots = raster.look(rows, &self.planes)?;
         let next = self.state.after_raster(raster);
-        if raster.has_dots(rows) {
+        if has_dots {
             self.lay(raster, rows, next)?;
         } else {
             self.state = next;
@@ -161,23 +157,6 @@ impl Emulator {
         ensures on_page { IfOk result (λ r. r.end ≤ sheet_rows self.now.state.page self.now.steps.row) }
     {
         self.state.place(self.steps, header)
-    }
-
-    // Why the dots of a raster are refused.
-    fn refuses_dots(&self, raster: Raster, rows: &[u8]) -> Option<EmuFault>
-        requires rows { HasRows raster rows.now }
-        requires on_page { raster.end ≤ sheet_rows self.now.state.page self.now.steps.row }
-        ensures { (g : Grid) (dots : List Dot) → Stands g raster → PlanesHave g dots self.now.planes
-            → result ≡ first_fault (refuse (list_any (λ d. nat_le g.bottom d.y) (fired g raster rows.now)) OffSheet
-            ∷ refuse (overprints dots (fired g raster rows.now)) Overprint ∷ []) }
-    {
-        if raster.is_off_sheet(rows) {
-            return Some(EmuFault::OffSheet);
-        }
-        match &self.planes {
-            Some(planes) if raster.overprints(rows, planes) => Some(EmuFault::Overprint),
-            _ => None,
-        }
     }
 
     // Adds the dots of a raster to the planes of the current sheet, which are made for its first dot.

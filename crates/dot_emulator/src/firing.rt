@@ -1,11 +1,13 @@
 //! The dots that a raster fires.
+ghost use Rattle.dot_emulator.specs.Current.{inks_of, meets_in, rows_or, width_of};
+ghost use Rattle.dot_planes.specs.Laying.{has_dot as has_dot_of};
 ghost use Rattle.dot_planes.specs.Tables.{HasSizeOf};
 ghost use Rattle.escp2_definitions.specs.Commands.{last_column, row_bytes};
 ghost use Rattle.printer_definitions.specs.Inks.{ink_place};
 ghost use Rattle.base_definitions.specs.Limits.{most_rows};
-ghost use Rattle.std.specs.Prelude.{drop, length, take, ◌*◌, ◌+◌, ◌<◌, ◌≡◌, ◌≤◌};
+ghost use Rattle.std.specs.Prelude.{drop, length, nat_le, nat_lt, take, ◌&&◌, ◌*◌, ◌+◌, ◌<◌, ◌||◌, ◌≡◌, ◌≤◌};
 
-use crate::RasterHead;
+use crate::{EmuFault, RasterHead};
 use dot_planes::{Planes, has_dot};
 use printer_definitions::Ink;
 
@@ -40,91 +42,118 @@ fn plane_of(ink: Ink) -> u8
     }
 }
 
-// Row i of bytes, where each row has `len` bytes.
-#[inline]
-fn row_of(rows: &[u8], len: usize, i: u8) -> &[u8]
-    requires len { len ≤ 1024 }
-    requires inside { i * len + len ≤ length rows.now }
-    ensures is { result.now ≡ take len (drop (i * len) rows.now) }
-    ensures len { length result.now ≡ len }
-{
-    let start = usize::from(i) * len;
-    &rows[start..start + len]
+// What was seen of the dots of a raster.
+#[derive(Clone, Copy)]
+struct Seen {
+    // There is a dot.
+    some: bool,
+    // One is at or below the bottom margin.
+    below: bool,
+    // One above the margin is in the planes already.
+    over: bool,
 }
 
 impl Raster {
-    ghost use Rattle.dot_emulator.specs.Firing.{Grid, HasRows, IsAbove, Stands, fired};
+    ghost use Rattle.dot_emulator.specs.Firing.{Grid, HasRows, IsAbove, IsLooked, PlanesHave, Stands, fired};
     ghost use Rattle.dot_emulator.specs.Sheets.{HasPlaces, IsKeptFrom};
-    ghost use Rattle.escp2_definitions.specs.Machine.{Dot, overprints};
-    ghost use Rattle.std.specs.List.{list_any};
-    ghost use Rattle.std.specs.Prelude.{List, ◌++◌, nat_le, nat_lt};
+    ghost use Rattle.escp2_definitions.specs.Machine.{Dot};
+    ghost use Rattle.std.specs.Prelude.{List, ◌++◌};
 
-    // How many bytes each of its rows has.
-    fn row_len(&self) -> usize
-        ensures is { result ≡ row_bytes self.now.header }
-        ensures most { result ≤ 1024 }
+    // The bytes of its row i.
+    #[inline]
+    fn row<'a>(&self, rows: &'a [u8], i: u8) -> &'a [u8]
+        requires rows { HasRows self.now rows.now }
+        requires i { i < self.now.header.m }
+        ensures is { result.now ≡ take (row_bytes self.now.header) (drop (i * row_bytes self.now.header) rows.now) }
+        ensures len { length result.now ≡ row_bytes self.now.header }
     {
-        (usize::from(self.header.n) + 7) / 8
+        let len = (usize::from(self.header.n) + 7) / 8;
+        let start = usize::from(i) * len;
+        &rows[start..start + len]
     }
 
     // The row of the sheet where its row i is.
+    #[inline]
     fn row_at(&self, i: u8) -> u32
         ensures { result ≡ self.now.y + i * self.now.pitch }
     {
         self.y + u32::from(i) * u32::from(self.pitch)
     }
 
-    /// Whether it has a dot at or below the bottom margin.
-    pub(crate) fn is_off_sheet(&self, rows: &[u8]) -> bool
-        requires { HasRows self.now rows.now }
-        ensures { (g : Grid) → Stands g self.now
-            → result ≡ list_any (λ d. nat_le g.bottom d.y) (fired g self.now rows.now) }
+    // Whether a row of it has a dot.
+    #[inline]
+    fn has_dot(&self, row: &[u8]) -> bool
+        requires { length row.now ≡ row_bytes self.now.header }
+        ensures { result ≡ has_dot_of row.now self.now.header.n }
     {
-        let len = self.row_len();
-        for i in 0..self.header.m {
-            if self.row_at(i) >= self.end
-                && has_dot(row_of(rows, len, i), usize::from(self.header.n))
-            {
-                return true;
-            }
-        }
-        false
+        has_dot(row, usize::from(self.header.n))
     }
 
-    /// Whether it has a dot.
-    pub(crate) fn has_dots(&self, rows: &[u8]) -> bool
-        requires { HasRows self.now rows.now }
-        ensures { (g : Grid) → Stands g self.now → result ≡ nat_lt 0 (length (fired g self.now rows.now)) }
+    // Whether one of the dots of a row of it, at row y of the sheet, is in the planes already.
+    #[inline]
+    fn is_over(&self, y: u32, row: &[u8], planes: &Option<Planes>) -> bool
+        requires row { length row.now ≡ row_bytes self.now.header }
+        requires inks { inks_of planes.now ≡ 4 }
+        requires width { width_of planes.now ≡ last_column }
+        requires y { y < rows_or self.now.end planes.now }
+        ensures { result ≡ meets_in planes.now (ink_place self.now.ink) y self.now.x row.now self.now.header.n }
     {
-        let len = self.row_len();
-        for i in 0..self.header.m {
-            if has_dot(row_of(rows, len, i), usize::from(self.header.n)) {
-                return true;
-            }
+        match planes {
+            Some(planes) => planes.meets(
+                plane_of(self.ink),
+                y,
+                self.x,
+                row,
+                u32::from(self.header.n),
+            ),
+            None => false,
         }
-        false
     }
 
-    /// Whether one of its dots is in the planes already.
-    pub(crate) fn overprints(&self, rows: &[u8], planes: &Planes) -> bool
+    // What was seen, with the dots of one row more, at row y of the sheet.
+    #[inline]
+    fn see(&self, seen: Seen, y: u32, row: &[u8], planes: &Option<Planes>) -> Seen
+        requires row { length row.now ≡ row_bytes self.now.header }
+        requires inks { inks_of planes.now ≡ 4 }
+        requires width { width_of planes.now ≡ last_column }
+        requires height { self.now.end ≤ rows_or self.now.end planes.now }
+        ensures some { result.some ≡ (seen.some || has_dot_of row.now self.now.header.n) }
+        ensures below { result.below
+            ≡ (seen.below || (nat_le self.now.end y && has_dot_of row.now self.now.header.n)) }
+        ensures over { result.over ≡ (seen.over || (nat_lt y self.now.end
+            && meets_in planes.now (ink_place self.now.ink) y self.now.x row.now self.now.header.n)) }
+    {
+        Seen {
+            some: seen.some || self.has_dot(row),
+            below: seen.below || self.end <= y && self.has_dot(row),
+            over: seen.over || y < self.end && self.is_over(y, row, planes),
+        }
+    }
+
+    /// Looks at its dots, over the planes of the sheet so far: whether it has a dot, or why its dots are refused.
+    pub(crate) fn look(&self, rows: &[u8], planes: &Option<Planes>) -> Result<bool, EmuFault>
         requires rows { HasRows self.now rows.now }
-        requires inks { planes.now.inks ≡ 4 }
-        requires width { planes.now.width ≡ last_column }
-        requires height { self.now.end ≤ planes.now.rows }
-        ensures { (g : Grid) (dots : List Dot)
-            → Stands g self.now → IsAbove g self.now rows.now → HasPlaces g.column g.row dots planes.now
-            → result ≡ overprints dots (fired g self.now rows.now) }
+        requires inks { inks_of planes.now ≡ 4 }
+        requires width { width_of planes.now ≡ last_column }
+        requires height { self.now.end ≤ rows_or self.now.end planes.now }
+        ensures { (g : Grid) (dots : List Dot) → Stands g self.now → PlanesHave g dots planes.now
+            → IsLooked g self.now rows.now dots result }
     {
-        let len = self.row_len();
-        let ink = plane_of(self.ink);
-        let dots = u32::from(self.header.n);
+        let mut seen = Seen {
+            some: false,
+            below: false,
+            over: false,
+        };
         for i in 0..self.header.m {
-            let y = self.row_at(i);
-            if y < self.end && planes.meets(ink, y, self.x, row_of(rows, len, i), dots) {
-                return true;
-            }
+            seen = self.see(seen, self.row_at(i), self.row(rows, i), planes);
         }
-        false
+        if seen.below {
+            return Err(EmuFault::OffSheet);
+        }
+        if seen.over {
+            return Err(EmuFault::Overprint);
+        }
+        Ok(seen.some)
     }
 
     /// Adds its dots to the planes.
@@ -139,13 +168,12 @@ impl Raster {
             → HasPlaces g.column g.row dots planes.old
             → HasPlaces g.column g.row (dots ++ fired g self.now rows.now) planes.new }
     {
-        let len = self.row_len();
         let ink = plane_of(self.ink);
         let dots = u32::from(self.header.n);
         for i in 0..self.header.m {
             let y = self.row_at(i);
             if y < self.end {
-                planes.lay(ink, y, self.x, row_of(rows, len, i), dots);
+                planes.lay(ink, y, self.x, self.row(rows, i), dots);
             }
         }
     }

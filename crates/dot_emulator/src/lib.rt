@@ -5,7 +5,8 @@
 //! answers the machine's first refusal, or `Memory`. After a refusal and after `Memory` the emulator is unchanged.
 //! The planes of a sheet are made for its first dot, and for a blank sheet at its eject.
 //!
-//! A `Sheet` has exactly the dots that the machine printed, in planes of black, cyan, magenta and yellow.
+//! A `Sheet` has exactly the dots that the machine printed, in planes of black, cyan, magenta and yellow, 8,191 columns
+//! wide.
 #![tactic(auto)]
 
 mod emulator;

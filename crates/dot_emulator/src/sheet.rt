@@ -5,7 +5,8 @@ ghost use Rattle.std.specs.Prelude.{◌≡◌, ◌≤◌};
 
 use dot_planes::Planes;
 
-/// An ejected sheet. Its planes are black, cyan, magenta and yellow, and have no dot at or past column `columns`.
+/// An ejected sheet. Its planes are black, cyan, magenta and yellow, each of 8,191 columns, and have no dot at or past
+/// column `columns`.
 #[derive(Drop)]
 pub struct Sheet {
     /// Rows of dots, as many as the page has.
@@ -17,6 +18,6 @@ pub struct Sheet {
     ghost height: { planes.rows ≡ rows },
     ghost some: { 1 ≤ columns },
     ghost most: { columns ≤ last_column },
-    ghost width: { columns ≤ planes.width },
+    ghost width: { planes.width ≡ last_column },
     ghost blank: { IsBlankFrom columns planes },
 }

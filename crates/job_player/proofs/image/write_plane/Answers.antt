@@ -18,12 +18,13 @@ rows-init g c =
 
 pub slice_bounds-write-end : goal.slice_bounds-write-end
 slice_bounds-write-end g c = sym (length-take-le _ c.row.result.now
-    (row-long c.args.s.now.planes c.args.ink c.rows.y c.args.s.now.columns c.row.result.now c.args.s.now.width c.row.ensures))
+    (row-long c.args.s.now.planes c.args.ink c.rows.y c.args.s.now.columns c.row.result.now
+    (omega (arith, c.args.s.now.most, c.args.s.now.width)) c.row.ensures))
 
 pub rows-preserved : goal.rows-preserved
 rows-preserved g c =
     let s = c.args.s.now in
-    let row = ap (take ((s.columns + 7) / 8)) c.row.ensures ∙ cut-row s.planes c.args.ink c.rows.y s.columns s.width
+    let row = ap (take ((s.columns + 7) / 8)) c.row.ensures ∙ cut-row s.planes c.args.ink c.rows.y s.columns (omega (arith, s.most, s.width))
     (omega (arith, s.inks)) (omega (arith, s.height)) s.blank in
     record {
       so_far = puts_more _ _ _ _ _ _ _ _ _ c.rows.invariant.so_far c.in_ok-write.ensures.ok

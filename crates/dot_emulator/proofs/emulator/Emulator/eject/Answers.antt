@@ -1,4 +1,4 @@
-use Rattle.std.proofs.Common.{ap, arith, refl, subst, sym, ◌∙◌}
+use Rattle.std.proofs.Common.{ap, refl, subst, sym, ◌∙◌}
 use Rattle.std.specs.Prelude.{Ok, Err}
 use Rattle.std.proofs.lemmas.Result.{err_from_is_err_and}
 use Rattle.escp2_definitions.specs.Machine.{Machine}
@@ -32,7 +32,7 @@ invariant_of-sheet c =
       height = sym c.rows.ensures;
       some = c.take_planes.new.self.state.columns_some;
       most = c.take_planes.new.self.state.columns_most;
-      width = omega (arith, c.take_planes.new.self.state.columns_most, taken.width);
+      width = taken.width;
       blank = subst B (sym c.in_ok-planes.ensures.state) (λ ink y x in_inks low past.
           blank-taken c.args.self.now.planes
           c.in_ok-planes.planes c.args.self.now.state.columns taken.taken c.args.self.now.blank ink y x low past);

@@ -1,7 +1,7 @@
 use Rattle.std.proofs.Common.{◌+◌, ◌∙◌, arith, subst, sym, refl}
 use Rattle.dot_planes.specs.Tables.{DotTable, HasSizeOf}
 use Rattle.dot_emulator.specs.Sheets.{IsKeptFrom}
-use Rattle.dot_emulator.proofs.RasterDots.{above-first, above-next, row-is}
+use Rattle.dot_emulator.proofs.RasterDots.{above-first, above-next}
 use Rattle.dot_emulator.proofs.OverDots.{LaidSoFar, laid-all, laid-first, laid-next, laid-none, lays-past}
 use Rattle.dot_emulator.proofs.firing.Raster.lay.Goals as goal
 use Rattle.dot_emulator.proofs.firing.Raster.lay.Goals.{then-y-self, else-y-self}
@@ -47,14 +47,13 @@ loop-i-preserved c =
           elim c.if-y-self.branch [
             | then-y-self w ↦ subst L (sym w.planes-is)
                 (laid-next g c.args.self.now c.args.rows.now c.loop-i.i dots c.loop-i.planes
-                w.lay.new.self c.plane_of-ink.result c.row_at-y.result c.from-dots.result w.row_of.result.now
+                w.lay.new.self c.plane_of-ink.result c.row_at-y.result c.from-dots.result w.row.result.now
                 stands c.requires.rows c.loop-i-test.true so_far
                 (record {
                   plane_is = c.plane_of-ink.ensures.is;
                   down = c.row_at-y.ensures;
                   wide = c.from-dots.ensures;
-                  bytes_are = row-is c.args.self.now c.args.rows.now w.row_of.result.now
-                      c.loop-i.i c.row_len-len.result c.row_len-len.ensures.is w.row_of.ensures.is;
+                  bytes_are = w.row.ensures.is;
                 })
                 w.lay.ensures)
             | else-y-self w ↦ subst L (sym w.planes-is)

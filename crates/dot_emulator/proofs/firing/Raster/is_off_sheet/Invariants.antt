@@ -1,9 +1,0 @@
-use Rattle.std.proofs.Common.{nat_le}
-use Rattle.dot_emulator.specs.Firing.{Grid, Stands}
-use Rattle.dot_emulator.proofs.RasterDots.{IsLeft}
-use Rattle.dot_emulator.proofs.firing.Raster.is_off_sheet.Given as goal
-
-abbrev pub invariant-loop-i : goal.invariant-loop-i
-invariant-loop-i l = record {
-  left : (g : Grid) → Stands g l.self → IsLeft (λ d. nat_le g.bottom d.y) g l.self l.rows l.i;
-}
