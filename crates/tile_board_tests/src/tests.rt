@@ -12,6 +12,8 @@ mod boards;
 use diffusion_kernel::Kernel;
 use dot_planes::{InkRows, Planes, TileDots};
 use std::alloc::Global;
+use std::fmt::Debug;
+use std::process::Abort;
 use std::thread::{Threads, for_each_mut};
 use tile_board::{Board, Claim, Closed, Pass};
 use tile_border::TopEdges;
@@ -274,6 +276,25 @@ fn hash_of(planes: &Planes) -> u64
     hash
 }
 
+// How many of the known rows the planes have.
+fn known_rows(planes: &Planes) -> usize
+    requires rows { planes.now.rows ≡ 70 }
+    requires inks { planes.now.inks ≡ 1 }
+{
+    let mut known = 0usize;
+    for (y, row) in KNOWN_ROWS {
+        if y < 70 && planes.row(0, y) == row.as_slice() {
+            known = known.wrapping_add(1);
+        }
+    }
+    known
+}
+
+// Stops the test where a call did not give what was wanted.
+fn same<T: PartialEq + Debug>(rt: &impl Abort, at: &str, got: &T, want: &T) {
+    assert_eq!(rt; *got, *want, "at {at}");
+}
+
 #[test]
 fn two_passes_give_the_known_dots(rt: HostRuntime) {
     let Some(rows) = level_rows(rt.alloc()) else {
@@ -283,16 +304,12 @@ fn two_passes_give_the_known_dots(rt: HostRuntime) {
         let Some(closed) = diffuse(&rt, rt.alloc(), &rows, with_threads) else {
             panic!(rt; "not closed");
         };
-        assert_eq!(rt; closed.dots.len(), 15);
         let Some(planes) = laid(rt.alloc(), closed.dots.as_slice()) else {
             panic!(rt; "memory");
         };
-        for (y, row) in KNOWN_ROWS {
-            if y < 70 {
-                assert_eq!(rt; planes.row(0, y), row.as_slice(), "row {y}");
-            }
-        }
-        assert_eq!(rt; planes.count(0), KNOWN_COUNT);
-        assert_eq!(rt; hash_of(&planes), KNOWN_HASH);
+        let sizes = (closed.dots.len(), planes.count(0));
+        same(&rt, "the tiles and dots", &sizes, &(15, KNOWN_COUNT));
+        let found = (known_rows(&planes), hash_of(&planes));
+        same(&rt, "the known rows", &found, &(5, KNOWN_HASH));
     }
 }

@@ -7,7 +7,7 @@ ghost use Rattle.board_steps.specs.Rule.{times};
 ghost use Rattle.tile_shape.specs.Geometry.{IsShape, IsTile};
 ghost use Rattle.tile_shape.specs.declared.tiles.Place.{Place};
 
-use super::{finish, level_rows};
+use super::{finish, level_rows, same};
 use diffusion_kernel::Kernel;
 use dot_planes::InkRows;
 use plain_diffusion::{Above, Definition, Fill, amount_at};
@@ -233,9 +233,8 @@ fn boards_give_the_dots_of_the_whole_window(rt: HostRuntime) {
     for kernel in [Kernel::Floyd, Kernel::Stucki] {
         for (width, height, inks, passes) in windows {
             let wrong = wrong_in_slabs(rt.alloc(), kernel, width, height, inks, passes);
-            assert_eq!(rt;
-                wrong,
-                Some(0),
+            assert!(rt;
+                wrong == Some(0),
                 "{kernel:?} at {width} by {height}, {passes} passes"
             );
         }
@@ -253,51 +252,64 @@ fn is_handed_zeros(task: &Task) -> bool
         && task.corner.ink(0).iter().all(|e| *e == 0)
 }
 
-#[test]
-fn claims_carry_the_word_they_found(rt: HostRuntime) {
-    let alloc = rt.alloc();
-    let Some(rows) = level_rows(alloc) else {
-        panic!(rt; "memory");
-    };
-    let Some(top) = no_errors(alloc, &rows, 1) else {
-        panic!(rt; "memory");
-    };
+// Claims a tile that is not to be handed out: whether it is gone, and its word. `None` where it was handed out.
+fn refusal(board: &Board<'_>, p: &mut Pass, t: Place) -> Option<(bool, u64)>
+    requires tile { IsTile (shape_of (slab board.now)) t }
+    requires pass { IsPassOf board.now p.old }
+    requires idle { (view p.old).held ≡ None }
+    ensures pass { IsPassOf board.now p.new }
+    ensures idle { IfSome result (λ _. (view p.new).held ≡ None) }
+{
+    match board.claim(p, t) {
+        Claim::Got(_) => None,
+        Claim::NotReady { word } => Some((false, word)),
+        Claim::Gone { word } => Some((true, word)),
+    }
+}
+
+// What two passes are told around the work on the first tile, and what they have after it.
+#[derive(Clone, Copy, Debug, PartialEq, Eq)]
+struct Told {
+    refusals: [(bool, u64); 4],
+    is_handed_zeros: bool,
+    parts: [u16; 2],
+    holds: [Option<Place>; 2],
+}
+
+fn tell(alloc: Global) -> Option<Told> {
+    let rows = level_rows(alloc)?;
+    let top = no_errors(alloc, &rows, 1)?;
     let Ok((board, mut p)) = Board::make(alloc, &rows, Kernel::Floyd, top) else {
-        panic!(rt; "memory");
+        return None;
     };
     let mut q = board.split(&mut p);
-    assert!(rt;
-        matches!(
-            board.claim(&mut p, Place { c: 1, j: 0 }),
-            Claim::NotReady { word: 0 }
-        )
-    );
+    let second = refusal(&board, &mut p, Place { c: 1, j: 0 })?;
     let Claim::Got(task) = board.claim(&mut p, Place { c: 0, j: 0 }) else {
-        panic!(rt; "the first tile");
+        return None;
     };
-    assert!(rt; is_handed_zeros(&task));
-    assert!(rt;
-        matches!(
-            board.claim(&mut q, Place { c: 0, j: 0 }),
-            Claim::Gone { word: 8 }
-        )
-    );
+    let is_handed_zeros = is_handed_zeros(&task);
+    let taken = refusal(&board, &mut q, Place { c: 0, j: 0 })?;
     let done = board.work(task);
     board.post(&mut p, done);
-    assert!(rt;
-        matches!(
-            board.claim(&mut q, Place { c: 0, j: 1 }),
-            Claim::NotReady { word: 4 }
-        )
-    );
-    assert!(rt;
-        matches!(
-            board.claim(&mut q, Place { c: 0, j: 0 }),
-            Claim::Gone { word: 24 }
-        )
-    );
-    assert_eq!(rt; (p.parts(), q.parts()), (255, 1));
-    assert_eq!(rt; (p.holds(), q.holds()), (None, None));
+    let below = refusal(&board, &mut q, Place { c: 0, j: 1 })?;
+    let posted = refusal(&board, &mut q, Place { c: 0, j: 0 })?;
+    Some(Told {
+        refusals: [second, taken, below, posted],
+        is_handed_zeros,
+        parts: [p.parts(), q.parts()],
+        holds: [p.holds(), q.holds()],
+    })
+}
+
+#[test]
+fn claims_carry_the_word_they_found(rt: HostRuntime) {
+    let wanted = Told {
+        refusals: [(false, 0), (true, 8), (false, 4), (true, 24)],
+        is_handed_zeros: true,
+        parts: [255, 1],
+        holds: [None, None],
+    };
+    same(&rt, "two passes", &tell(rt.alloc()), &Some(wanted));
 }
 
 // The words of the tile in column 1 of band 1, whose number is 6, before each of four other tiles is worked.
@@ -320,9 +332,12 @@ fn words_before(alloc: Global, tiles: [u32; 4]) -> Option<[Option<u64>; 4]> {
 fn a_tile_with_three_needs_carries_each_word(rt: HostRuntime) {
     // bit 4 comes from the tile above, 2 from the one above and to the right, and 1 from the left
     for (tiles, words) in [([0, 1, 2, 5], [0, 0, 4, 6]), ([0, 1, 5, 2], [0, 0, 4, 5])] {
-        let Some(found) = words_before(rt.alloc(), tiles) else {
-            panic!(rt; "memory");
-        };
-        assert_eq!(rt; found, words.map(Some));
+        let found = words_before(rt.alloc(), tiles);
+        same(
+            &rt,
+            "a tile with three needs",
+            &found,
+            &Some(words.map(Some)),
+        );
     }
 }
