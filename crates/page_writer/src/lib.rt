@@ -34,6 +34,3 @@ pub use page::write_page;
 pub use printer_profile::{PageForm, Profile, Window};
 pub use strokes::{WriteStop, write_strokes};
 pub use sums::{PageSum, most_bytes};
-
-#[cfg(test)]
-mod tests;

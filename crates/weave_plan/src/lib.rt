@@ -7,8 +7,6 @@
 #![tactic(auto)]
 
 mod inverse;
-#[cfg(test)]
-mod tests;
 mod weaving;
 
 pub use weaving::{PassPlace, Plan};

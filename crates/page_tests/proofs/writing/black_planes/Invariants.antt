@@ -1,5 +1,5 @@
 use Rattle.std.proofs.Common.{◌≡◌}
-use Rattle.page_writer.proofs.tests.black_planes.Given as goal
+use Rattle.page_tests.proofs.writing.black_planes.Given as goal
 
 abbrev pub invariant-columns : goal.invariant-columns
 invariant-columns l = record {

@@ -1,6 +1,6 @@
 use Rattle.std.proofs.Common.{refl}
 use Rattle.std.proofs.lemmas.Nat.Gcd.{IsGcd-from_mod, IsGcd-from_zero}
-use Rattle.weave_plan.proofs.tests.each_row_is_where_a_search_finds_it.Goals as goal
+use Rattle.page_tests.proofs.weaving.each_row_is_where_a_search_finds_it.Goals as goal
 
 pub seek_each_row-requires-2-clause-coprime : goal.seek_each_row-requires-2-clause-coprime
 seek_each_row-requires-2-clause-coprime g c = IsGcd-from_mod 3 2 1 (IsGcd-from_mod 2 1 1 (IsGcd-from_zero 1 0 refl))

@@ -1,0 +1,8 @@
+//! The assertion of all tests.
+use std::fmt::Debug;
+use std::process::Abort;
+
+/// Stops the test where a call did not give what was wanted.
+pub fn same<T: PartialEq + Debug>(rt: &impl Abort, at: &str, got: &T, want: &T) {
+    assert_eq!(rt; *got, *want, "at {at}");
+}
