@@ -12,7 +12,7 @@ use Rattle.page_definitions.specs.PageBytes.{fired_row, pass_rows}
 use Rattle.page_definitions.specs.Strokes.{IsOnWindow, IsWhole}
 use Rattle.base_definitions.specs.Counting.{count_from}
 use Rattle.weave_definitions.specs.Weave.{nozzle_row}
-use Rattle.weave_laws.proofs.Rows.{stands_on}
+use Rattle.weave_definitions.proofs.Rows.{stands_on}
 use Rattle.page_laws.proofs.Fired.{AllWide}
 
 -- ---- lists of numbers

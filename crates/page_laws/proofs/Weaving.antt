@@ -14,8 +14,8 @@ use Rattle.page_definitions.specs.PageBytes.{dot_row, fired_row, pass_stroke, we
 use Rattle.page_definitions.specs.Strokes.{Fires, IsOnWindow, IsRising, IsWhole, Stroke}
 use Rattle.base_definitions.specs.Counting.{count_from}
 use Rattle.weave_definitions.specs.Weave.{Firing, firing, nozzle_row, pass_count, passes}
-use Rattle.weave_laws.proofs.Firings.{each_row}
-use Rattle.weave_laws.proofs.Rows.{stands_on}
+use Rattle.weave_definitions.proofs.Firings.{each_row}
+use Rattle.weave_definitions.proofs.Rows.{stands_on}
 use Rattle.page_laws.proofs.Counts.{count-append, count-cons, each-of, if-none, if-plus}
 use Rattle.page_laws.proofs.Hits.{FiresEachDot, fires-exactly, hits, rows_hits}
 use Rattle.page_laws.proofs.Passes.{at-counted, no-dot, pass-on_window, pass-whole}

@@ -24,7 +24,7 @@ use Rattle.pwg_definitions.specs.Header.{IsWanted}
 use Rattle.separation_definitions.specs.CanPrint.{CanPrint}
 use Rattle.separation_definitions.specs.Windows.{wanted_by, window_of}
 use Rattle.weave_definitions.specs.Weave.{nozzle_row, pass_count}
-use Rattle.weave_laws.proofs.Rows.{stands_on}
+use Rattle.weave_definitions.proofs.Rows.{stands_on}
 use Rattle.weave_plan.specs.Weaving.{Weaving}
 use Rattle.page_writer.specs.Heads.{HeadStrokes, Suits, place_in, stroke_over, stroke_rows, strokes_over}
 use Rattle.page_writer.specs.Passes.{nozzle_plane_row, pass_strokes, plane_row}

@@ -1,5 +1,5 @@
 use Rattle.std.proofs.Common.{arith}
-use Rattle.weave_laws.proofs.Rounds.{Inverse, inverse}
+use Rattle.weave_definitions.proofs.Rounds.{Inverse, inverse}
 use Rattle.weave_plan.proofs.inverse.inverse_of.Goals as goal
 
 pub unreachable-requires : goal.unreachable-requires

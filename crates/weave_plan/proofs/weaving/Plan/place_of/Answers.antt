@@ -1,6 +1,6 @@
 use Rattle.std.proofs.Common.{ap, arith}
 use Rattle.weave_plan.specs.Weaving.{Weaving}
-use Rattle.weave_laws.proofs.Rows.{Counts, place-fires, place-only}
+use Rattle.weave_definitions.proofs.Rows.{Counts, place-fires, place-only}
 use Rattle.weave_plan.proofs.weaving.Plan.place_of.Goals as goal
 
 -- what the code has read is the plan's

@@ -9,8 +9,8 @@ use Rattle.std.specs.List.{count_by, flat_map, sum_by}
 use Rattle.base_definitions.specs.Counting.{count_from}
 use Rattle.weave_definitions.specs.Weave.{Firing, firing, nozzle_row, pass_count, passes}
 use Rattle.weave_definitions.specs.Weave.{FiresEachRowOnce}
-use Rattle.weave_laws.proofs.Rounds.{Inverse, inverse}
-use Rattle.weave_laws.proofs.Rows.{Counts, StandsOn, pass-low, place-fires, place-only, stands_on}
+use Rattle.weave_definitions.proofs.Rounds.{Inverse, inverse}
+use Rattle.weave_definitions.proofs.Rows.{Counts, StandsOn, pass-low, place-fires, place-only, stands_on}
 
 -- ---- sums and counts
 

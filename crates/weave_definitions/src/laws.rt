@@ -1,8 +1,7 @@
 //! The law is the contract of an empty function.
-ghost use Rattle.weave_definitions.specs.Weave.{passes};
 ghost use Rattle.std.specs.Int.{IsGcd};
 ghost use Rattle.std.specs.Prelude.{ℕ, ◌≤◌};
-ghost use Rattle.weave_definitions.specs.Weave.{FiresEachRowOnce};
+ghost use Rattle.weave_definitions.specs.Weave.{FiresEachRowOnce, passes};
 
 /// Where the nozzles and the pitch have no common divisor, the passes of a head fire each row of a window once, and
 /// no other row.

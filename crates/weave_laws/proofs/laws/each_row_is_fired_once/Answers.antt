@@ -1,5 +1,0 @@
-use Rattle.weave_laws.proofs.Firings.{each_row}
-use Rattle.weave_laws.proofs.laws.each_row_is_fired_once.Goals as goal
-
-pub returns : goal.returns
-returns c = each_row
