@@ -18,3 +18,6 @@ returns-then-y-gt0-clause-separated c = λ p kind w is above. record {
   };
   others = c.copy_row.ensures.others;
 }
+
+pub returns-else-again-clause-separated : goal.returns-else-again-clause-separated
+returns-else-again-clause-separated c = λ p kind w is above. c.separate.ensures.separated p kind w is
