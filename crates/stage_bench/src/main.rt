@@ -7,7 +7,7 @@
 //! dots.
 //!
 //! `slab-team` diffuses a slab of 2976 by 256 pseudo-random amounts in the profile's inks by this many workers, and
-//! prints the fewest nanoseconds of twenty runs. It reads no page.
+//! prints the fewest nanoseconds of twenty runs; `slab-plain` does so by the plain program. They read no page.
 //!
 //! Nothing is proved of it but safety. Its stored run counts the dots of a small page.
 #![tactic(auto)]
@@ -20,7 +20,7 @@ mod tests;
 
 use job_profile::find_profile;
 use job_words::{Words, profile_name, read_words};
-use slab::time_slab;
+use slab::{time_plainly, time_slab};
 use stages::{run_stage, stage_named};
 use std::env;
 use std::process::ExitCode;
@@ -48,8 +48,11 @@ fn measure<R: Threads + Sync>(rt: &HostRuntime, threads: &R) -> Option<u128> {
     let workers = job.workers.clamp(1, 64);
     let mut shelf = DirShelf::make(rt);
     let profile = find_profile(rt.alloc(), &mut shelf, profile_name(&words, &job)).ok()?;
-    if name.as_str() == "slab-team" {
-        return time_slab(rt, threads, job.kernel, profile.inks.count(), workers);
+    let inks = profile.inks.count();
+    match name.as_str() {
+        "slab-team" => return time_slab(rt, threads, job.kernel, inks, workers),
+        "slab-plain" => return time_plainly(rt, job.kernel, inks),
+        _ => {}
     }
     let stage = stage_named(&name)?;
     let mut input = StdSource::make(rt.stdin());

@@ -4,6 +4,7 @@ ghost use Rattle.std.specs.Prelude.{IfSome};
 
 use diffusion_kernel::Kernel;
 use dot_planes::{InkRows, Planes};
+use plain_diffusion::{Above, Definition, Fill};
 use std::alloc::Global;
 use std::thread::Threads;
 use std::time::Instant;
@@ -42,6 +43,33 @@ pub fn time_slab<R: Threads + Sync>(
         least = least.min(start.elapsed(rt).ok()?.as_nanos());
     }
     Some(least)
+}
+
+/// The fewest nanoseconds that a slab of this many inks took the plain program, which is proved against the definition
+/// as the workers are.
+pub fn time_plainly(rt: &HostRuntime, kernel: Kernel, inks: u8) -> Option<u128> {
+    let mut least = u128::MAX;
+    for _ in 0..RUNS {
+        let start = Instant::now(rt).ok()?;
+        diffuse_plainly(rt.alloc(), kernel, inks)?;
+        least = least.min(start.elapsed(rt).ok()?.as_nanos());
+    }
+    Some(least)
+}
+
+// Diffuses pseudo-random amounts of each ink pixel by pixel.
+fn diffuse_plainly(alloc: Global, kernel: Kernel, inks: u8) -> Option<()> {
+    for ink in 0..inks {
+        Definition::make(
+            alloc,
+            kernel,
+            Fill::Mixed(ink),
+            Above::Edges(0),
+            WIDTH,
+            ROWS,
+        )?;
+    }
+    Some(())
 }
 
 // Pseudo-random amounts.
