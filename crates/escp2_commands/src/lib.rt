@@ -6,6 +6,3 @@ mod table;
 
 pub use escp2_definitions::{Command, RasterHead};
 pub use table::{MOST_COLUMNS, in_table};
-
-#[cfg(test)]
-mod tests;

@@ -17,6 +17,3 @@ mod sized;
 pub use escp2_commands::{Command, RasterHead};
 pub use escp2_definitions::JobCause;
 pub use reader::{Cut, Heard, HeardState, JobReader};
-
-#[cfg(test)]
-mod tests;

@@ -17,6 +17,3 @@ mod writer;
 
 pub use reader::{RowFed, RowReader, RowState};
 pub use writer::code_row;
-
-#[cfg(test)]
-mod tests;

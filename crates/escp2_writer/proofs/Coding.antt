@@ -30,6 +30,12 @@ rows-next m n width rows behind left more later =
     let row : suc n * width ≡ width + n * width = omega arith in
     ap length later ∙ length-drop width rows ∙ omega (arith, row, left, ap (λ k. k * width) more)
 
+-- a row is left, as long as the others
+pub row_left : (rest : List ℕ) (m n width : ℕ) → length rest ≡ m * width → m ≡ suc n → width ≤ length rest
+row_left rest m n width left more =
+    let rows : suc n * width ≡ width + n * width = omega arith in
+    omega (arith, rows, left, ap (λ k. k * width) more)
+
 -- ---- into a vector
 
 -- a row's code is written after the first bytes
@@ -41,36 +47,3 @@ row_behind out part row begin len k room within coded =
     ap (λ n. take (n + len) (put_mid begin k out part)) (sym sized)
     ∙ take-append-add front (part ++ drop k (drop begin out)) len
     ∙ ap (λ bs. front ++ bs) (take-append-le len part (drop k (drop begin out)) within ∙ coded)
-
--- This many rows are left to append to bytes that are to become the whole.
-pub record AppendsSoFar (whole out rest : List ℕ) (m width : ℕ) : Type 0 where
-  pub left : length rest ≡ m * width
-  pub is : whole ≡ out ++ codes m width rest
-
--- no row is appended
-pub appends_begin : (out rows : List ℕ) (m n width : ℕ) → length rows ≡ m * width → m ≡ n
-    → AppendsSoFar (out ++ codes m width rows) out rows n width
-appends_begin out rows m n width fits same = record {
-  left = fits ∙ ap (λ k. k * width) same;
-  is = ap (λ k. out ++ codes k width rows) same;
-}
-
--- one more row is appended
-pub appends_step : (whole out out' rest rest' row : List ℕ) (m n width : ℕ) → AppendsSoFar whole out rest m width → m ≡ suc n
-    → out' ≡ out ++ canonical_row row → row ≡ take width rest → rest' ≡ drop width rest → AppendsSoFar whole out' rest' n width
-appends_step whole out out' rest rest' row m n width so_far more appended first behind = record {
-  left = rows-next m n width rest rest' so_far.left more behind;
-  is = so_far.is ∙ ap (λ bs. out ++ bs) (codes-next m n width rest row rest' more first behind)
-      ∙ sym (append_assoc out (canonical_row row) (codes n width rest'))
-      ∙ ap (λ bs. bs ++ codes n width rest') (sym appended);
-}
-
--- all rows are appended
-pub appends_end : (whole out rest : List ℕ) (m width : ℕ) → AppendsSoFar whole out rest m width → m ≡ 0 → out ≡ whole
-appends_end whole out rest m width so_far none = sym (so_far.is ∙ ap (λ bs. out ++ bs) (codes-none m width rest none) ∙ append-nil out)
-
--- a row is left, as long as the others
-pub row_left : (rest : List ℕ) (m n width : ℕ) → length rest ≡ m * width → m ≡ suc n → width ≤ length rest
-row_left rest m n width left more =
-    let rows : suc n * width ≡ width + n * width = omega arith in
-    omega (arith, rows, left, ap (λ k. k * width) more)

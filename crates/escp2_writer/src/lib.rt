@@ -1,20 +1,17 @@
 //! Print commands as bytes, appended to a vector or written to a sink, with the rows of a raster plain or by their
 //! canonical codes.
 //!
-//! `append` appends exactly the bytes of a command and of its rows, or answers `Memory` and leaves the vector
-//! unchanged. `append_header` and `append_row` are its parts, for a vector that has room, and take no memory. `put`
-//! asks for a command of the table with rows of its length, and writes exactly its bytes and rows; where a write of the
-//! sink fails, a proper prefix of them, and the sink's count of faults rose. It takes no memory.
+//! `append_header` appends the bytes of a command, of a raster without its rows, and `append_row` the code of a row, to
+//! a vector that has room. `put` asks for a command of the table with rows of its length, and writes exactly its bytes
+//! and rows; where a write of the sink fails, a proper prefix of them, and the sink's count of faults rose. No call
+//! takes memory.
 #![tactic(auto)]
 
 mod appending;
 mod headers;
 mod writing;
 
-pub use appending::{append, append_header, append_row};
+pub use appending::{append_header, append_row};
 pub use escp2_commands::{Command, RasterHead};
 pub use headers::{HeaderBytes, header_bytes};
 pub use writing::put;
-
-#[cfg(test)]
-mod tests;

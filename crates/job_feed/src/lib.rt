@@ -14,6 +14,3 @@ pub mod laws;
 
 pub use escp2_definitions::{Command, JobStop};
 pub use feed::{FeedStop, JobFeed, PlacedCommand};
-
-#[cfg(test)]
-mod tests;

@@ -1,1 +1,4 @@
+pub mod RowBits
+pub mod RasterDots
+pub mod Numbering
 pub mod Listing

@@ -13,7 +13,7 @@ use Rattle.job_feed.specs.declared.feed.JobFeed.{JobFeed}
 use Rattle.job_feed.specs.declared.feed.PlacedCommand.{PlacedCommand}
 use Rattle.job_feed.specs.Feeding.{HasEnded, IsStopped, TakesCommand, at_of, heard_of, most_of, text_of, unread_of}
 use Rattle.job_feed.proofs.Jobs.{GaveCommands, entry_of, gave_more, gave_none, job_ended, job_refused, rose_within, takes_gave}
-use Rattle.job_listing.specs.Listing.{line_of, listing}
+use Rattle.job_lister.specs.Listing.{line_of, listing}
 use Rattle.job_lister.specs.declared.lister.ListStop.{ListStop}
 use Rattle.job_lister.specs.declared.lister.ListStop.TheVariants as stop
 use Rattle.job_lister.specs.Lines.{feed_stop}

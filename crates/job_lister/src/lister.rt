@@ -3,16 +3,16 @@ ghost use Rattle.job_lister.specs.Outcome.{ListOutcome};
 ghost use Rattle.job_lister.specs.declared.lister.ListStop.TheVariants as ListStop;
 ghost use Rattle.escp2_definitions.specs.Commands.{in_table, rows_len};
 ghost use Rattle.buffered_bytes.specs.Gathering.{Writes, gathered as gathered_of};
-ghost use Rattle.job_listing.specs.Listing.{line_of};
+ghost use Rattle.job_lister.specs.Listing.{line_of};
 ghost use Rattle.buffered_bytes.specs.Outside.{outside_of};
 ghost use Rattle.weave_base.specs.Causes.{HasCause};
 ghost use Rattle.weave_base.specs.Parts.{AppendsPart};
 ghost use Rattle.std.specs.Prelude.{OnErr, OnOk, length, true, ◌<◌, ◌≡◌, ◌≤◌, ◌^◌};
 
+use crate::line::{Line, push_line};
 use buffered_bytes::Gathered;
 use escp2_definitions::JobStop;
 use job_feed::{FeedStop, JobFeed, PlacedCommand};
-use job_listing::{Line, push_line};
 use std::alloc::Global;
 use weave_base::{Failed, Memory, Sink, Source};
 

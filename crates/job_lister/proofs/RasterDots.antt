@@ -1,0 +1,87 @@
+-- How many dots the rows of a raster have.
+use Rattle.std.proofs.Common.{◌≡◌, ℕ, zero, suc, ◌+◌, ◌-◌, ◌*◌, ◌<◌, ◌≤◌, Bool, true, false, cond, List, [], ◌∷◌, length, take}
+use Rattle.std.proofs.Common.{drop, refl, sym, ◌∙◌, ap, arith, length-append}
+use Rattle.std.proofs.lemmas.List.{drop-drop}
+use Rattle.std.proofs.lemmas.List.Sums.{sum_by-cons}
+use Rattle.printer_definitions.specs.declared.inks.Ink.{Ink}
+use Rattle.printer_definitions.specs.declared.inks.Ink.TheVariants.{Black}
+use Rattle.escp2_definitions.specs.declared.command.RasterHead.{RasterHead}
+use Rattle.escp2_definitions.specs.Commands.{row_bytes}
+use Rattle.base_definitions.specs.Packed.{bits}
+use Rattle.escp2_definitions.specs.Machine.{row_dots, rows_dots}
+use Rattle.job_lister.specs.Listing.{dot_count}
+use Rattle.job_lister.proofs.RowBits.{on_count}
+
+-- the dots of a row are as many as its bits that are 1
+row-count : (ink : Ink) (x step y : ℕ) (row : List Bool) → length (row_dots ink x step y row) ≡ on_count row
+row-count ink x step y [] = refl
+row-count ink x step y (true ∷ row) =
+    let rest : length (row_dots ink (x + step) step y row) ≡ on_count row = row-count ink (x + step) step y row in
+    let first : on_count (true ∷ row) ≡ 1 + on_count row = sum_by-cons (λ on. cond on 1 0) true row in
+    omega (arith, rest, first)
+row-count ink x step y (false ∷ row) =
+    let rest : length (row_dots ink (x + step) step y row) ≡ on_count row = row-count ink (x + step) step y row in
+    let first : on_count (false ∷ row) ≡ 0 + on_count row = sum_by-cons (λ on. cond on 1 0) false row in
+    omega (arith, rest, first)
+
+-- the dots of m rows
+pub dots_of : ℕ → RasterHead → List ℕ → ℕ
+dots_of zero header bytes = 0
+dots_of (suc m) header bytes =
+    on_count (take header.n (bits (take (row_bytes header) bytes))) + dots_of m header (drop (row_bytes header) bytes)
+
+rows-count : (m : ℕ) (header : RasterHead) (ink : Ink) (x y : ℕ) (bytes : List ℕ)
+    → length (rows_dots m header ink x y bytes) ≡ dots_of m header bytes
+unfolding rows_dots dots_of
+rows-count zero header ink x y bytes = refl
+rows-count (suc m) header ink x y bytes =
+    let row : List Bool = take header.n (bits (take (row_bytes header) bytes)) in
+    length-append (row_dots ink x header.h y row) (rows_dots m header ink x (y + header.v) (drop (row_bytes header) bytes))
+    ∙ ap (λ n. n + length (rows_dots m header ink x (y + header.v) (drop (row_bytes header) bytes))) (row-count ink x header.h y row)
+    ∙ ap (λ n. on_count row + n) (rows-count m header ink x (y + header.v) (drop (row_bytes header) bytes))
+
+pub count-is : (header : RasterHead) (bytes : List ℕ) → dot_count header bytes ≡ dots_of header.m header bytes
+unfolding dot_count
+count-is header bytes = rows-count header.m header Black 0 0 bytes
+
+-- The dots of the first rows, and those of the rows that follow.
+pub record CountSoFar (header : RasterHead) (bytes : List ℕ) (i sum : ℕ) : Type 0 where
+  pub is : sum + dots_of (header.m - i) header (drop (i * row_bytes header) bytes) ≡ dot_count header bytes
+  pub most : sum ≤ 8192 * i
+
+pub count_begin : (header : RasterHead) (bytes : List ℕ) → CountSoFar header bytes 0 0
+count_begin header bytes = record {
+  is = let none : 0 * row_bytes header ≡ 0 = omega arith in
+      let all : header.m - 0 ≡ header.m = omega arith in
+      let zero_more : 0 + dots_of (header.m - 0) header (drop (0 * row_bytes header) bytes)
+      ≡ dots_of (header.m - 0) header (drop (0 * row_bytes header) bytes) = omega arith in
+      zero_more ∙ ap (λ n. dots_of (header.m - 0) header (drop n bytes)) none ∙ ap (λ n. dots_of n header bytes) all
+      ∙ sym (count-is header bytes);
+  most = omega arith;
+}
+
+pub count_step : (header : RasterHead) (bytes : List ℕ) (i sum row : ℕ) → CountSoFar header bytes i sum → i < header.m
+    → row ≡ on_count (take header.n (bits (take (row_bytes header) (drop (i * row_bytes header) bytes)))) → row ≤ 8192
+    → CountSoFar header bytes (i + 1) (sum + row)
+unfolding dots_of
+count_step header bytes i sum row so_far more is few = record {
+  is = let rest : header.m - i ≡ suc (header.m - (i + 1)) = omega arith in
+      let place : i * row_bytes header + row_bytes header ≡ (i + 1) * row_bytes header = omega arith in
+      let next : dots_of (header.m - i) header (drop (i * row_bytes header) bytes)
+      ≡ row + dots_of (header.m - (i + 1)) header (drop ((i + 1) * row_bytes header) bytes) =
+      ap (λ n. dots_of n header (drop (i * row_bytes header) bytes)) rest
+      ∙ ap (λ n. n + dots_of (header.m - (i + 1)) header (drop (row_bytes header) (drop (i * row_bytes header) bytes))) (sym is)
+      ∙ ap (λ bs. row + dots_of (header.m - (i + 1)) header bs) (drop-drop (row_bytes header) (i * row_bytes header) bytes)
+      ∙ ap (λ n. row + dots_of (header.m - (i + 1)) header (drop n bytes)) place in
+      omega (arith, next, so_far.is);
+  most = omega (arith, so_far.most);
+}
+
+pub count_end : (header : RasterHead) (bytes : List ℕ) (i sum : ℕ)
+    → CountSoFar header bytes i sum → header.m ≤ i → sum ≡ dot_count header bytes
+unfolding dots_of
+count_end header bytes i sum so_far all =
+    let none : header.m - i ≡ 0 = omega arith in
+    let nothing : dots_of (header.m - i) header (drop (i * row_bytes header) bytes)
+    ≡ 0 = ap (λ n. dots_of n header (drop (i * row_bytes header) bytes)) none in
+    omega (arith, nothing, so_far.is)

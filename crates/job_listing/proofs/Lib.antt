@@ -1,3 +1,0 @@
-pub mod RowBits
-pub mod RasterDots
-pub mod Numbering
