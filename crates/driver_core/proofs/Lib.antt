@@ -1,10 +1,5 @@
-pub mod Counting
-pub mod Workers
-pub mod StreamSteps
-pub mod Ends
-pub mod Asked
-pub mod Worked
-pub mod Promised
-pub mod JobEnds
-pub mod JobPromised
-pub mod AllPromised
+pub mod Printing
+pub mod Playing
+pub mod Listing
+pub mod Showing
+pub mod Runs

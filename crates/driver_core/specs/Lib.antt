@@ -1,10 +1,7 @@
-pub mod Caps
-pub mod Charging
 pub mod Outside
-pub mod Pages
+pub mod Caps
 pub mod Printing
+pub mod Playing
+pub mod Listing
 pub mod Showing
-pub mod Run
-pub mod Jobs
-pub mod JobPromises
-pub mod AllPromises
+pub mod Runs

@@ -1,24 +1,24 @@
 //! The whole run of the driver: words and bytes in, bytes, a status and an error line out.
 //!
-//! `run` promises `AllPromises`: the record `Promises`, and `JobPromises` for the commands `list` and `dots`. The
-//! README lists their fields. The first, `answered`, says that there is an answer: its status is returned, its cause
-//! holds for what was read and written (`Outcome`), and the error sink got its line (`Told`). The shelf is unchanged
-//! where the profile is built in (`unasked`) and where a word is refused (`refused_unasked`).
+//! `run` promises `AllPromises`: the record `Promises`, whatever the command, and a record for each command. The README
+//! lists their fields. The first, `answered`, says that there is an answer: its status is returned, its cause holds for
+//! what was read and written (`Outcome`), and the error sink got its line (`Told`). The shelf is unchanged where the
+//! profile is built in (`unasked`) and where a word is refused (`refused_unasked`).
 //!
-//! Inside, each command ends as a definition says: `print_pages` as `PrintOutcome`, `show_profile` as `ShowOutcome`,
-//! `list` as `ListOutcome`, `play` as `PlayOutcome`. `PrintOutcome` has the headline: on `Ok` the job of all pages
-//! was written, and it prints them (`PrintsAll`). `charge` counts a page on each meter where all have room, else on
-//! none.
+//! Each command has a module, and its outcome, promises and proofs stand together: `print` in `Printing`, `dots` in
+//! `Playing`, `list` in `Listing`, `profile` in `Showing`, and what they have in common in `Runs`. A command ends in an
+//! `Answer`, as `PrintOutcome`, `PlayOutcome`, `ListOutcome` and `ShowOutcome` say. `PrintOutcome` has the headline: on
+//! `Done` the job of all pages was written, and it prints them (`PrintsAll`). `charge` counts a page on each meter where
+//! all have room, else on none.
 //!
 //! No clause says when memory runs out. The status is then 7, and tests show that it is not given with ample memory.
 #![tactic(auto)]
 
-mod charging;
-mod jobs;
-mod printing;
+mod dots;
+mod list;
+mod print;
+mod profile;
 mod running;
-mod showing;
-mod stops;
 
 pub use driver_answer::{Answer, ProfileCause, UsageCause, UsageFault};
 pub use page_halftoner::Halftoner;

@@ -1,15 +1,15 @@
 //! A run.
-ghost use Rattle.driver_core.specs.AllPromises.{AllPromises};
+ghost use Rattle.driver_core.specs.Runs.AllPromises.{AllPromises};
 ghost use Rattle.driver_core.specs.Outside.{meters_of, outside_of, texts_of};
-ghost use Rattle.driver_core.specs.Run.{Outcome, Told, answer_of};
+ghost use Rattle.driver_core.specs.Runs.Outcome.{Outcome, Told, answer_of};
 ghost use Rattle.job_words.specs.Meaning.{job_meaning, profile_named};
 ghost use Rattle.printer_profile.specs.Profiles.{built_in};
 ghost use Rattle.std.specs.Prelude.{IsErr, IsSome, ◌≡◌};
 
-use crate::charging::set_caps;
-use crate::jobs::{list, play};
-use crate::printing::print_pages;
-use crate::showing::show_profile;
+use crate::dots::play;
+use crate::list::list;
+use crate::print::{print_pages, set_caps};
+use crate::profile::show_profile;
 use arrayvec::ArrayString;
 use driver_answer::Answer;
 use ink_meter::Meter;
@@ -37,7 +37,7 @@ fn work<R: Threads + Sync, S: Source, K: Sink, F: Shelf, G: Gate + Sync>(
           input = outside_of S.left S.faults input.old input.new;
           out = outside_of K.held K.faults out.old out.new;
           meters = meters_of (λ meter. account meter) meters.old.items meters.new.items;
-        }) (answer_of (λ a. a) result) }
+        }) (answer_of result) }
     ensures unasked { IsSome (built_in (profile_named words.now)) → (shelf.new ≡ shelf.old) }
     ensures refused_unasked { IsErr (job_meaning words.now) → (shelf.new ≡ shelf.old) }
 {
@@ -58,17 +58,16 @@ fn work<R: Threads + Sync, S: Source, K: Sink, F: Shelf, G: Gate + Sync>(
             out,
             gate,
             meters,
-        )?,
-        Verb::Dots => return play(alloc, &profile, job.most, input, out),
-        Verb::Profile => show_profile(alloc, &profile, out)?,
+        ),
+        Verb::Dots => play(alloc, &profile, job.most, input, out),
+        Verb::Profile => show_profile(alloc, &profile, out),
         Verb::List => unreachable!(),
     }
-    Ok(())
 }
 
 // The answer of a run, by what its work gave.
 fn answer_to(worked: Result<(), Answer>) -> Answer
-    ensures { result ≡ answer_of (λ a. a) worked }
+    ensures { result ≡ answer_of worked }
 {
     match worked {
         Ok(()) => Answer::Done,

@@ -1,4 +1,4 @@
-use Rattle.driver_core.proofs.AllPromised.{all_promises}
+use Rattle.driver_core.proofs.Runs.AllPromised.{all_promises}
 use Rattle.driver_core.proofs.running.run.Goals as goal
 
 pub returns-clause-promises : goal.returns-clause-promises

@@ -1,9 +1,8 @@
-use Rattle.std.proofs.Common.{Err, Ok, sym, arith}
-use Rattle.std.proofs.lemmas.Result.{err_from_is_err_and}
+use Rattle.std.proofs.Common.{sym, arith}
 use Rattle.job_words.proofs.Most.{most_of_job}
-use Rattle.driver_core.proofs.Asked.{keeps}
-use Rattle.driver_core.proofs.Worked.{listed, played, printed, shown}
-use Rattle.driver_core.proofs.Workers.{workers_of_job}
+use Rattle.driver_core.proofs.Runs.Asked.{keeps}
+use Rattle.driver_core.proofs.Runs.Worked.{listed, played, printed, shown}
+use Rattle.driver_core.proofs.Runs.Workers.{workers_of_job}
 use Rattle.driver_core.proofs.running.work.Goals as goal
 
 pub list-requires : goal.list-requires
@@ -29,33 +28,13 @@ returns-in-Dots-clause-outcome g c =
     played c.args.words.now c.in_ok-job.job c.in_ok-profile.profile _ _ c.in_ok-job.ensures c.in-Dots.is
     (rw c.profile_name.ensures at c.in_ok-profile.ensures.found) c.set_caps.ensures c.play.ensures
 
-pub returns-in_err-print_pages-in-Print-clause-outcome : goal.returns-in_err-print_pages-in-Print-clause-outcome
-returns-in_err-print_pages-in-Print-clause-outcome g c =
-    let error = err_from_is_err_and
-    c.from_residual-in_err-print_pages-in-Print.result c.from_residual-in_err-print_pages-in-Print.ensures.1 in
-    rw (error.1, error.2) (printed c.args.words.now c.in_ok-job.job c.in_ok-profile.profile _ _
-    (Err c.in_err-print_pages-in-Print.field-0.0) c.in_ok-job.ensures c.in-Print.is
-    (rw c.profile_name.ensures at c.in_ok-profile.ensures.found)
-    c.set_caps.ensures c.in_err-print_pages-in-Print.ensures)
+pub returns-in-Print-clause-outcome : goal.returns-in-Print-clause-outcome
+returns-in-Print-clause-outcome g c =
+    printed c.args.words.now c.in_ok-job.job c.in_ok-profile.profile _ _ _ c.in_ok-job.ensures c.in-Print.is
+    (rw c.profile_name.ensures at c.in_ok-profile.ensures.found) c.set_caps.ensures c.print_pages.ensures
 
-pub returns-in_err-show_profile-in-Profile-clause-outcome : goal.returns-in_err-show_profile-in-Profile-clause-outcome
-returns-in_err-show_profile-in-Profile-clause-outcome g c =
-    let error = err_from_is_err_and c.from_residual-in_err-show_profile-in-Profile.result
-    c.from_residual-in_err-show_profile-in-Profile.ensures.1 in
-    rw (error.1, error.2) (shown c.args.words.now c.in_ok-job.job c.in_ok-profile.profile _
-    (Err c.in_err-show_profile-in-Profile.field-0.0) c.in_ok-job.ensures c.in-Profile.is
+pub returns-in-Profile-clause-outcome : goal.returns-in-Profile-clause-outcome
+returns-in-Profile-clause-outcome g c =
+    shown c.args.words.now c.in_ok-job.job c.in_ok-profile.profile _ _ c.in_ok-job.ensures c.in-Profile.is
     (rw c.profile_name.ensures at c.in_ok-profile.ensures.found) (keeps (g.S.Source.left c.args.input.now))
-    c.set_caps.ensures c.in_err-show_profile-in-Profile.ensures.outcome)
-
-pub returns-in_ok-print_pages-in-Print-clause-outcome : goal.returns-in_ok-print_pages-in-Print-clause-outcome
-returns-in_ok-print_pages-in-Print-clause-outcome g c =
-    printed c.args.words.now c.in_ok-job.job c.in_ok-profile.profile _ _
-    (Ok c.in_ok-print_pages-in-Print.field-0) c.in_ok-job.ensures c.in-Print.is (rw c.profile_name.ensures
-    at c.in_ok-profile.ensures.found) c.set_caps.ensures c.in_ok-print_pages-in-Print.ensures
-
-pub returns-in_ok-show_profile-in-Profile-clause-outcome : goal.returns-in_ok-show_profile-in-Profile-clause-outcome
-returns-in_ok-show_profile-in-Profile-clause-outcome g c =
-    shown c.args.words.now c.in_ok-job.job c.in_ok-profile.profile _ (Ok c.in_ok-show_profile-in-Profile.field-0)
-    c.in_ok-job.ensures c.in-Profile.is (rw c.profile_name.ensures at c.in_ok-profile.ensures.found)
-    (keeps (g.S.Source.left c.args.input.now)) c.set_caps.ensures
-    c.in_ok-show_profile-in-Profile.ensures.outcome
+    c.set_caps.ensures c.show_profile.ensures

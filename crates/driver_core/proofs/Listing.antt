@@ -1,0 +1,3 @@
+-- Proofs for the command `list`.
+pub mod ByStatus
+pub mod Promised

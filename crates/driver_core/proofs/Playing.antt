@@ -1,0 +1,3 @@
+-- Proofs for the command `dots`.
+pub mod ByStatus
+pub mod Promised

@@ -1,0 +1,6 @@
+-- Proofs for the command `print`.
+pub mod Counting
+pub mod StreamSteps
+pub mod Ends
+pub mod ByStatus
+pub mod Promised

@@ -1,0 +1,369 @@
+-- The outcome of printing, at each of its ends.
+use Rattle.std.proofs.Common.{◌≡◌, ℕ, ◌+◌, ◌-◌, ◌*◌, inl, inr, ◌≤◌, List, [], ◌∷◌, ◌++◌, length, Option, None, Some, IfSome}
+use Rattle.std.proofs.Common.{Err, IsErrOf, refl, sym, ◌∙◌, ap, subst, arith, append_assoc, append-nil}
+use Rattle.std.specs.List.{AllByRecursion}
+use Rattle.std.specs.Io.KnownBytes.{Appends, Consumes, IsAtEnd, Keeps}
+use Rattle.std.proofs.KnownBytes.{Appends-nil, Consumes-nil, Consumes-trans}
+use Rattle.diffusion_definitions.specs.Diffusion.{Table}
+use Rattle.driver_answer.specs.declared.answer.Answer.{Answer}
+use Rattle.driver_answer.specs.declared.answer.Answer.TheVariants as answer
+use Rattle.ink_meter.specs.Accounts.{Account, IsFirstOver, all_inks}
+use Rattle.ink_meter.specs.declared.meters.OverCap.{OverCap}
+use Rattle.page_definitions.specs.Dots.{halftone}
+use Rattle.page_definitions.specs.PageBytes.{halftone_bytes, page_bytes}
+use Rattle.page_laws.proofs.Headline.{pages-print}
+use Rattle.page_laws.proofs.Rasters.{pages-have}
+use Rattle.ink_meter.specs.Counts.{page_dots}
+use Rattle.printer_definitions.specs.Printer.{Printer, row_units}
+use Rattle.separation_definitions.specs.CanPrint.{CanPrint}
+use Rattle.separation_definitions.specs.Windows.{wanted_by}
+use Rattle.pwg_definitions.specs.declared.pages.PageForm.{PageForm}
+use Rattle.pwg_definitions.specs.declared.pages.Wanted.{Wanted}
+use Rattle.pwg_definitions.specs.Header.{IsWanted}
+use Rattle.pwg_definitions.specs.Stream.{IsPage, Page, Stream, page_at, pages_from, stream, sync_word}
+use Rattle.pwg_definitions.specs.Stream.PageRead.{Whole}
+use Rattle.pwg_definitions.specs.Stream.StreamEnd.{Done, Fault}
+use Rattle.pwg_laws.proofs.PageLaws.{stream-pages}
+use Rattle.pwg_stream.specs.declared.reader.PageReader.{PageReader}
+use Rattle.pwg_stream.specs.declared.stops.StreamStop.{StreamStop}
+use Rattle.pwg_stream.specs.declared.stops.StreamStop.TheVariants as stop
+use Rattle.pwg_stream.specs.Reading.{page_of, text_of}
+use Rattle.pwg_stream.specs.Stops.{OnInput}
+use Rattle.buffered_bytes.specs.Text.{UsesSome, text_behind}
+use Rattle.printer_definitions.specs.declared.inks.InkCounts.{InkCounts}
+use Rattle.weave_base.specs.Causes.{Rose}
+use Rattle.weave_base.specs.Parts.{AppendsPart}
+use Rattle.driver_core.specs.Printing.Charging.{RefusesPage}
+use Rattle.driver_core.specs.Outside.{Meters, Outside}
+use Rattle.driver_core.specs.Printing.Pages.{BeginsStream, IsStream, TakesPages, job_bytes}
+use Rattle.driver_core.specs.Printing.Outcome.{CountsPages, PrintOutcome, PrintsAll, PrintsSome, stream_answer}
+use Rattle.halftone_reader.proofs.PageSteps.{EndsSo}
+use Rattle.driver_core.proofs.Printing.Counting.{none_counted}
+use Rattle.driver_core.proofs.Printing.StreamSteps.{StreamRead, StreamSoFar, with_pages, pages-first}
+
+-- ---- pages are pages
+
+page-is : (want : Wanted) (bytes : List ℕ) (page : Page)
+    → ((rest : List ℕ) → page_at want (bytes ++ rest) ≡ Whole page rest) → IsPage want page
+page-is want bytes page is =
+    let P : List Page → Type 0 = AllByRecursion (IsPage want) in
+    (subst P (ap (λ (s : Stream). s.pages) (pages-first want bytes page is)) (stream-pages want (sync_word ++ (bytes ++ [])))).0
+
+-- a page that was read is one that the printer takes
+pub page-wanted : (want : Wanted) (bytes : List ℕ) (page : Page) (form : PageForm)
+    → form ≡ page.form → ((rest : List ℕ) → page_at want (bytes ++ rest) ≡ Whole page rest) → IsWanted want form
+page-wanted want bytes page form e is = subst (IsWanted want) (sym e) (page-is want bytes page is).wanted
+
+-- ---- what was taken
+
+nil_behind : (xs ys : List ℕ) → xs ++ ys ≡ [] → ys ≡ []
+nil_behind [] ys e = e
+nil_behind (x ∷ xs) ys e = absurd (let never : x ∷ (xs ++ ys) ≡ [] = e in cc)
+
+left_end : (left : Option (List ℕ)) (unread : List ℕ) → IsAtEnd (text_behind unread left) → IsAtEnd left
+left_end None unread end = tt
+left_end (Some ys) unread end = nil_behind unread ys end
+
+-- bytes that were used and bytes that are unread were taken
+text_taken : (before left : Option (List ℕ)) (unread bytes : List ℕ)
+    → Consumes before (text_behind unread left) bytes → Consumes before left (bytes ++ unread)
+text_taken None left unread bytes uses = tt
+text_taken (Some xs) None unread bytes uses = absurd uses
+text_taken (Some xs) (Some ys) unread bytes uses = uses ∙ sym (append_assoc bytes unread ys)
+
+-- the text ended, and another read found no more
+text_ended : (before text left : Option (List ℕ)) (unread bytes : List ℕ) → Consumes before text bytes
+    → IsAtEnd text → UsesSome text (text_behind unread left) → IsAtEnd (text_behind unread left)
+    → Consumes before left bytes
+text_ended None text left unread bytes uses end more end' = tt
+text_ended (Some xs) None left unread bytes uses end more end' = absurd uses
+text_ended (Some xs) (Some t) None unread bytes uses end more end' = absurd more.is
+text_ended (Some xs) (Some t) (Some ys) unread bytes uses end more end' =
+    uses ∙ ap (λ bs. bytes ++ bs) (end ∙ sym (nil_behind unread ys end'))
+
+-- ---- causes
+
+pub rose_from : (a b d : ℕ) → a ≤ b → Rose b d → Rose a d
+rose_from a b d later rose = record { rose = omega (arith, rose.rose) }
+
+pub rose_on : (a b d : ℕ) → Rose a b → b ≤ d → Rose a d
+rose_on a b d rose later = record { rose = omega (arith, rose.rose) }
+
+pub appends_kept : (a b d : Option (List ℕ)) (bytes : List ℕ) → Appends a b bytes → Keeps b d → Appends a d bytes
+appends_kept None b d bytes grown kept = tt
+appends_kept (Some x) None d bytes grown kept = absurd grown
+appends_kept (Some x) (Some y) None bytes grown kept = absurd kept
+appends_kept (Some x) (Some y) (Some z) bytes grown kept = kept ∙ grown
+
+-- ---- the ends
+
+-- the first pages of what was taken, where the rest of the text is not known
+taken_pages : (p : Printer) (before text left : Option (List ℕ)) (unread bytes : List ℕ) (pages : List Page) (most number : ℕ)
+    → Consumes before text bytes → ((rest : List ℕ)
+    → stream (wanted_by p) (bytes ++ rest) ≡ with_pages pages (pages_from (wanted_by p) most number rest))
+    → UsesSome text (text_behind unread left) → TakesPages p before left pages
+taken_pages p before text left unread bytes pages most number uses is more = record {
+  bytes = (bytes ++ more.bytes) ++ unread;
+  taken = text_taken before left unread
+      (bytes ++ more.bytes) (Consumes-trans before text (text_behind unread left) bytes more.bytes uses more.is);
+  others = (pages_from (wanted_by p) most number (more.bytes ++ unread)).pages;
+  are = ap (λ bs. (stream (wanted_by p) bs).pages) (append_assoc bytes more.bytes unread)
+      ∙ ap (λ (s : Stream). s.pages) (is (more.bytes ++ unread));
+}
+
+-- some pages were printed, and these were counted
+abbrev PrintsCounted : Printer → Table → Outside → Outside → Meters → Type 0
+PrintsCounted p k input out meters = (some : PrintsSome p k input out) × CountsPages p k meters some.pages
+
+-- no page was printed
+none_printed : (p : Printer) (k : Table)
+    (before left held : Option (List ℕ)) (accounts : List Account) (f0 f1 g0 g1 : ℕ) → UsesSome before left
+    → PrintsCounted p k (record { before = before; now = left; faults_before = f0; faults_now = f1 })
+    (record { before = held; now = held; faults_before = g0; faults_now = g1 })
+    (record { before = accounts; now = accounts })
+none_printed p k before left held accounts f0 f1 g0 g1 more = (
+  record {
+    pages = [];
+    taken = record { bytes = more.bytes; taken = more.is; others = (stream (wanted_by p) more.bytes).pages; are = refl };
+    writes = Appends-nil held;
+  },
+  none_counted p k accounts,
+)
+
+-- the pages that were read so far were printed, and no other
+some_printed : (p : Printer) (k : Table)
+    (before left left' held now : Option (List ℕ)) (meters : Meters) (old new : PageReader) (number f0 f2 g0 g1 : ℕ)
+    → (so_far : StreamSoFar p k before left held now old number)
+    → CountsPages p k meters so_far.done → UsesSome (text_of old left) (text_of new left')
+    → PrintsCounted p k (record { before = before; now = left'; faults_before = f0; faults_now = f2 })
+    (record { before = held; now = now; faults_before = g0; faults_now = g1 }) meters
+some_printed p k before left left' held now meters old new number f0 f2 g0 g1 so_far counts more = (
+  record {
+    pages = so_far.done;
+    taken = taken_pages p before (text_of old left) left' new.unread so_far.bytes so_far.done _ _ so_far.used so_far.is more;
+    writes = so_far.written;
+  },
+  counts,
+)
+
+-- memory runs out before the next page is counted
+full_before : (p : Printer) (k : Table) (input out : Outside) (meters : Meters)
+    → PrintsCounted p k input out meters → PrintOutcome p k input out meters answer.Memory
+full_before p k input out meters printed = (printed.0, inl printed.1)
+
+-- the stream does not begin as one
+without_sync : (p : Printer) (k : Table) (before left held : Option (List ℕ)) (accounts : List Account) (f0 f1 g0 g1 : ℕ) (why : StreamStop)
+    → OnInput {T = PageReader} (Err why) (λ page line cause. IfSome before (λ bytes. (want : Wanted)
+    → stream want bytes ≡ record { pages = []; end = Fault page line cause }))
+    → (IsErrOf {T = PageReader} (Err why) stop.Read → Rose f0 f1) → UsesSome before left
+    → PrintOutcome p k (record { before = before; now = left; faults_before = f0; faults_now = f1 })
+    (record { before = held; now = held; faults_before = g0; faults_now = g1 })
+    (record { before = accounts; now = accounts }) (stream_answer why)
+without_sync p k before left held accounts f0 f1 g0 g1 (stop.Input page line cause) bad cause_is more =
+    (record { pages = []; told = some before bad; writes = Appends-nil held }, none_counted p k accounts)
+  where
+    some : (o : Option (List ℕ))
+        → IfSome o (λ bytes. (want : Wanted) → stream want bytes ≡ record { pages = []; end = Fault page line cause })
+        → IsStream p o [] (Fault page line cause)
+    some None h = tt
+    some (Some bytes) h = h (wanted_by p)
+without_sync p k before left held accounts f0 f1 g0 g1 stop.Read bad cause_is more =
+    let none = none_printed p k before left held accounts f0 f1 g0 g1 more in (cause_is refl, none.0, none.1)
+without_sync p k before left held accounts f0 f1 g0 g1 stop.Memory bad cause_is more =
+    full_before p k _ _ _ (none_printed p k before left held accounts f0 f1 g0 g1 more)
+
+pub no_sync : (p : Printer) (k : Table) (before left held : Option (List ℕ))
+    (accounts : List Account) (f0 f1 g0 g1 : ℕ) (why : StreamStop) (a : Answer)
+    → OnInput {T = PageReader} (Err why) (λ page line cause. IfSome before (λ bytes. (want : Wanted)
+    → stream want bytes ≡ record { pages = []; end = Fault page line cause }))
+    → (IsErrOf {T = PageReader} (Err why) stop.Read → Rose f0 f1) → UsesSome before left → a ≡ stream_answer why
+    → PrintOutcome p k (record { before = before; now = left; faults_before = f0; faults_now = f1 })
+    (record { before = held; now = held; faults_before = g0; faults_now = g1 })
+    (record { before = accounts; now = accounts }) a
+no_sync p k before left held accounts f0 f1 g0 g1 why a bad cause_is more is =
+    subst (PrintOutcome p k (record { before = before; now = left; faults_before = f0; faults_now = f1 })
+    (record { before = held; now = held; faults_before = g0; faults_now = g1 })
+    (record { before = accounts; now = accounts })) (sym is)
+    (without_sync p k before left held accounts f0 f1 g0 g1 why bad cause_is more)
+
+-- the same in a page
+in_page : (T : Type 0) (p : Printer) (k : Table) (before left left' held now : Option (List ℕ))
+    (meters : Meters) (old new : PageReader) (number f0 f1 f2 g0 g1 : ℕ) (why : StreamStop)
+    → (so_far : StreamSoFar p k before left held now old number)
+    → CountsPages p k meters so_far.done → OnInput {T = T} (Err why) (EndsSo (wanted_by p) old left)
+    → f0 ≤ f1 → (IsErrOf {T = T} (Err why) stop.Read → Rose f1 f2) → UsesSome (text_of old left) (text_of new left')
+    → PrintOutcome p k (record { before = before; now = left'; faults_before = f0; faults_now = f2 })
+    (record { before = held; now = now; faults_before = g0; faults_now = g1 }) meters (stream_answer why)
+in_page T p k before left left' held now meters old new number f0 f1 f2 g0 g1
+    (stop.Input page line cause) so_far counts bad later cause_is more =
+    (record { pages = so_far.done; told = told before (text_of old left) so_far.used bad; writes = so_far.written }, counts)
+  where
+    told : (a b : Option (List ℕ)) → Consumes a b so_far.bytes
+        → IfSome b (λ text. pages_from (wanted_by p) (9999 - page_of old) (page_of old + 1) text
+        ≡ record { pages = []; end = Fault page line cause }) → IsStream p a so_far.done (Fault page line cause)
+    told None b uses h = tt
+    told (Some xs) None uses h = absurd uses
+    told (Some xs) (Some ys) uses h =
+        ap (stream (wanted_by p)) uses
+        ∙ so_far.is ys
+        ∙ ap (λ n. with_pages so_far.done (pages_from (wanted_by p) (9999 - n) (n + 1) ys)) (sym so_far.many)
+        ∙ ap (with_pages so_far.done) h
+        ∙ ap (λ ps. record { pages = ps; end = Fault page line cause }) (append-nil so_far.done)
+in_page T p k before left left' held now meters old new number f0 f1 f2 g0 g1 stop.Read so_far counts bad later cause_is more =
+    let some = some_printed p k before left left' held now meters old new number f0 f2 g0 g1 so_far counts more in
+    (rose_from f0 f1 f2 later (cause_is refl), some.0, some.1)
+in_page T p k before left left' held now meters old new number f0 f1 f2 g0 g1 stop.Memory so_far counts bad later cause_is more =
+    full_before p k _ _ _ (some_printed p k before left left' held now meters old new number f0 f2 g0 g1 so_far counts more)
+
+-- the stream stops in its next page
+pub page_stopped : (T : Type 0) (p : Printer) (k : Table) (before left left' held now : Option (List ℕ))
+    (meters : Meters) (old new : PageReader) (number f0 f1 f2 g0 g1 : ℕ) (why : StreamStop) (a : Answer)
+    → (so_far : StreamSoFar p k before left held now old number)
+    → CountsPages p k meters so_far.done → OnInput {T = T} (Err why) (EndsSo (wanted_by p) old left)
+    → f0 ≤ f1 → (IsErrOf {T = T} (Err why) stop.Read → Rose f1 f2) → UsesSome (text_of old left) (text_of new left')
+    → a ≡ stream_answer why
+    → PrintOutcome p k (record { before = before; now = left'; faults_before = f0; faults_now = f2 })
+    (record { before = held; now = now; faults_before = g0; faults_now = g1 }) meters a
+page_stopped T p k before left left' held now meters old new number f0 f1 f2 g0 g1 why a so_far counts bad later cause_is more is =
+    subst (PrintOutcome p k (record { before = before; now = left'; faults_before = f0; faults_now = f2 })
+    (record { before = held; now = now; faults_before = g0; faults_now = g1 }) meters) (sym is)
+    (in_page T p k before left left' held now meters old new number f0 f1 f2 g0 g1 why so_far counts bad later cause_is more)
+
+pages-none : (want : Wanted) (most number : ℕ) → pages_from want most number [] ≡ record { pages = []; end = Done }
+unfolding pages_from
+pages-none want most number = refl
+
+-- the stream ended
+pub stream_done : (p : Printer) (k : Table)
+    (before left left' held now : Option (List ℕ)) (meters : Meters) (old new : PageReader) (number f0 f2 g0 g1 : ℕ)
+    → CanPrint p → (so_far : StreamSoFar p k before left held now old number) → CountsPages p k meters so_far.done
+    → IsAtEnd (text_of old left) → IsAtEnd (text_of new left') → UsesSome (text_of old left) (text_of new left')
+    → (all : PrintsAll p k (record { before = before; now = left'; faults_before = f0; faults_now = f2 })
+    (record { before = held; now = now; faults_before = g0; faults_now = g1 }))
+    × CountsPages p k meters all.pages
+stream_done p k before left left' held now meters old new number f0 f2 g0 g1 can so_far counts end end' more =
+    let is : stream (wanted_by p) so_far.bytes ≡ record { pages = so_far.done; end = Done } =
+    ap (stream (wanted_by p)) (sym (append-nil so_far.bytes))
+    ∙ so_far.is []
+    ∙ ap (with_pages so_far.done) (pages-none (wanted_by p) (9999 - length so_far.done) (length so_far.done + 1))
+    ∙ ap (λ ps. record { pages = ps; end = Done }) (append-nil so_far.done) in
+    let P : List Page → Type 0 = AllByRecursion (IsPage (wanted_by p)) in
+    let are : P so_far.done = subst P (ap (λ (s : Stream). s.pages) is) (stream-pages (wanted_by p) so_far.bytes) in (
+      record {
+        pages = so_far.done;
+        reads = record {
+          bytes = so_far.bytes;
+          taken = text_ended before (text_of old left) left' new.unread so_far.bytes so_far.used end more end';
+          end = left_end left' new.unread end';
+          is = is;
+        };
+        told = told before (text_of old left) so_far.used is end;
+        writes = so_far.written;
+        prints = pages-print p k so_far.done can are;
+        passes = pages-have p k so_far.done can are;
+      },
+      counts,
+    )
+  where
+    told : (a b : Option (List ℕ)) → Consumes a b so_far.bytes → stream (wanted_by p) so_far.bytes
+        ≡ record { pages = so_far.done; end = Done } → IsAtEnd b → IsStream p a so_far.done Done
+    told None b uses is end = tt
+    told (Some xs) None uses is end = absurd uses
+    told (Some xs) (Some ys) uses is end =
+        ap (stream (wanted_by p)) (uses ∙ ap (λ bs. so_far.bytes ++ bs) end ∙ append-nil so_far.bytes) ∙ is
+
+-- a page was read, and a part of its job written
+pub page_not_written : (p : Printer) (k : Table) (before left held now now' : Option (List ℕ))
+    (meters : Meters) (reader : PageReader) (number f0 f2 g0 g1 g2 : ℕ) (page : Page)
+    → (read : StreamRead p k before left held now reader number page) → CountsPages p k meters
+    (read.done ++ page ∷ []) → AppendsPart now now' (page_bytes page p k) → g0 ≤ g1 → Rose g1 g2
+    → PrintOutcome p k (record { before = before; now = left; faults_before = f0; faults_now = f2 })
+    (record { before = held; now = now'; faults_before = g0; faults_now = g2 }) meters (answer.Write number)
+page_not_written p k before left held now now' meters reader number f0 f2 g0 g1 g2 page read counts part later rose = (
+  rose_from g0 g1 g2 later rose,
+  record {
+    pages = read.done;
+    page = page;
+    taken = taken_pages p before (text_of reader left) left reader.unread read.bytes (read.done ++ page ∷ [])
+        _ _ read.used read.is (record { bytes = []; is = Consumes-nil (text_of reader left) });
+    number_is = read.next;
+    between = now;
+    whole = read.written;
+    part = part;
+  },
+  counts,
+)
+
+-- a page was read, and nothing of its job was written
+pub page_without_room : (p : Printer) (k : Table) (before left held now now' : Option (List ℕ))
+    (meters : Meters) (reader : PageReader) (number f0 f2 g0 g2 : ℕ) (page : Page)
+    → (read : StreamRead p k before left held now reader number page) → CountsPages p k meters (read.done ++ page ∷ []) → Keeps now now'
+    → PrintOutcome p k (record { before = before; now = left; faults_before = f0; faults_now = f2 })
+    (record { before = held; now = now'; faults_before = g0; faults_now = g2 }) meters answer.Memory
+page_without_room p k before left held now now' meters reader number f0 f2 g0 g2 page read counts kept =
+    let all = taken_pages p before (text_of reader left) left reader.unread read.bytes (read.done ++ page ∷ [])
+    _ _ read.used read.is (record { bytes = []; is = Consumes-nil (text_of reader left) }) in (
+      record {
+        pages = read.done;
+        taken = record {
+          bytes = all.bytes;
+          taken = all.taken;
+          others = page ∷ all.others;
+          are = all.are ∙ append_assoc read.done (page ∷ []) all.others;
+        };
+        writes = appends_kept held now now' (job_bytes p k read.done) read.written kept;
+      },
+      inr (record { page = page; later = all.others; next = refl; pages_counted = counts }),
+    )
+
+-- the input begins with the pages that were read of it
+begins : (p : Printer) (before text : Option (List ℕ)) (bytes : List ℕ) (pages : List Page) (most number : ℕ) → Consumes before text bytes
+    → ((rest : List ℕ) → stream (wanted_by p) (bytes ++ rest)
+    ≡ with_pages pages (pages_from (wanted_by p) most number rest)) → BeginsStream p before pages
+begins p None text bytes pages most number uses is = tt
+begins p (Some xs) None bytes pages most number uses is = absurd uses
+begins p (Some xs) (Some ys) bytes pages most number uses is = (
+  (pages_from (wanted_by p) most number ys).pages,
+  ap (λ bs. (stream (wanted_by p) bs).pages) uses
+      ∙ ap (λ (s : Stream). s.pages) (is ys),
+)
+
+-- a page was read, and goes past a cap
+pub page_over : (p : Printer) (k : Table) (before left held now : Option (List ℕ)) (first last next : List Account)
+    (reader : PageReader) (number f0 f2 g0 g1 : ℕ) (page : Page) (n : InkCounts) (a : Answer)
+    → (read : StreamRead p k before left held now reader number page)
+    → CountsPages p k (record { before = first; now = last }) read.done
+    → n ≡ page_dots page p k → RefusesPage number n last a → next ≡ last
+    → PrintOutcome p k (record { before = before; now = left; faults_before = f0; faults_now = f2 })
+    (record { before = held; now = now; faults_before = g0; faults_now = g1 })
+    (record { before = first; now = next }) a
+page_over p k before left held now first last next reader number f0 f2 g0 g1 page n a read counts are refuses kept =
+    let S : Answer → Type 0 = λ b. PrintOutcome p k (record {
+      before = before;
+      now = left;
+      faults_before = f0;
+      faults_now = f2;
+    }) (record { before = held; now = now; faults_before = g0; faults_now = g1 })
+    (record { before = first; now = next }) b in
+    let over : OverCap = record { index = refuses.index; total = refuses.total; cap = refuses.cap } in
+    let F : InkCounts → Type 0 = λ m. IsFirstOver last m over in
+    let M : List Account → Type 0 = λ accounts. IsFirstOver accounts (page_dots page p k) over in
+    subst S (sym refuses.is) (record {
+      pages = read.done;
+      page = page;
+      taken = taken_pages p before (text_of reader left) left reader.unread read.bytes (read.done ++ page ∷ [])
+          _ _ read.used read.is (record { bytes = []; is = Consumes-nil (text_of reader left) });
+      told = begins p before (text_of reader left) read.bytes (read.done ++ page ∷ []) _ _ read.used read.is;
+      number_is = read.next;
+      writes = read.written;
+      pages_counted = record { admitted = counts.admitted; counts = kept ∙ counts.counts };
+      index = refuses.index;
+      first = subst M (sym kept) (subst F are refuses.first);
+      dots_are = ap all_inks are;
+    })
+
+-- the bytes of a page are those of its halftone
+pub page-bytes-is : (p : Printer) (k : Table) (page : Page) (form : PageForm)
+    → form ≡ page.form → halftone_bytes p (halftone page p k) (form.height * row_units p) ≡ page_bytes page p k
+unfolding page_bytes
+page-bytes-is p k page form e = ap (λ (f : PageForm). halftone_bytes p (halftone page p k) (f.height * row_units p)) e

@@ -1,0 +1,10 @@
+-- Proofs for a whole run.
+pub mod Statuses
+pub mod Workers
+pub mod Asked
+pub mod AtWork
+pub mod Nothing
+pub mod WholeJobs
+pub mod Worked
+pub mod Promised
+pub mod AllPromised

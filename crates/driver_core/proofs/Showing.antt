@@ -1,0 +1,2 @@
+-- Proofs for the command `profile`.
+pub mod Promised

@@ -1,0 +1,3 @@
+-- The command `list`.
+pub mod Outcome
+pub mod Promises

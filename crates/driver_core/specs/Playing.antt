@@ -1,0 +1,3 @@
+-- The command `dots`.
+pub mod Outcome
+pub mod Promises

@@ -1,0 +1,103 @@
+-- The outcomes of printing the pages of a stream: what was read and written, by why it stopped.
+use Rattle.std.specs.Prelude.{◌≡◌, ℕ, ◌+◌, ◌⊎◌, List, [], ◌∷◌, ◌++◌, length, Option}
+use Rattle.std.specs.Io.KnownBytes.{Appends}
+use Rattle.diffusion_definitions.specs.Diffusion.{Table}
+use Rattle.driver_answer.specs.declared.answer.Answer.{Answer}
+use Rattle.driver_answer.specs.declared.answer.Answer.TheVariants as answer
+use Rattle.ink_meter.specs.Accounts.{IsFirstOver, all_inks}
+use Rattle.page_definitions.specs.PageBytes.{page_bytes}
+use Rattle.page_definitions.specs.Printing.{HavePasses, Prints}
+use Rattle.ink_meter.specs.Counts.{Admitted, counted, page_dots}
+use Rattle.printer_definitions.specs.Printer.{Printer}
+use Rattle.pwg_definitions.specs.declared.faults.InputCause.{InputCause}
+use Rattle.pwg_definitions.specs.Stream.{Page}
+use Rattle.pwg_definitions.specs.Stream.StreamEnd.{Done, Fault}
+use Rattle.pwg_stream.specs.declared.stops.StreamStop.{StreamStop}
+use Rattle.pwg_stream.specs.declared.stops.StreamStop.TheVariants as stream
+use Rattle.weave_base.specs.Parts.{AppendsPart}
+use Rattle.driver_core.specs.Outside.{HasRisen, Meters, Outside}
+use Rattle.driver_core.specs.Printing.Pages.{BeginsStream, IsStream, ReadsStream, TakesPages, job_bytes}
+
+-- All pages of the input were printed: it is a stream with a clean end, and was read to this end; the job of its
+-- pages was written, prints them, and has no more rasters of an ink than the head takes passes over a page.
+pub record PrintsAll (p : Printer) (k : Table) (input out : Outside) : Type 0 where
+  pub pages : List Page
+  pub reads : ReadsStream p input.before input.now pages
+  pub told : IsStream p input.before pages Done
+  pub writes : Appends out.before out.now (job_bytes p k pages)
+  pub prints : Prints p k pages (job_bytes p k pages)
+  pub passes : HavePasses p k pages
+
+-- The input is a stream of some pages that ends with this fault, and the job of these pages was written.
+pub record MeetsFault (p : Printer) (k : Table) (input out : Outside) (page line : ℕ) (cause : InputCause) : Type 0 where
+  pub pages : List Page
+  pub told : IsStream p input.before pages (Fault page line cause)
+  pub writes : Appends out.before out.now (job_bytes p k pages)
+
+-- The job of some first pages of what was read was written.
+pub record PrintsSome (p : Printer) (k : Table) (input out : Outside) : Type 0 where
+  pub pages : List Page
+  pub taken : TakesPages p input.before input.now pages
+  pub writes : Appends out.before out.now (job_bytes p k pages)
+
+-- The jobs of the pages before this one were written, and a proper prefix of its own. All of them are the first pages
+-- of what was read.
+pub record StopsInPage (p : Printer) (k : Table) (input out : Outside) (number : ℕ) : Type 0 where
+  pub pages : List Page
+  pub page : Page
+  pub taken : TakesPages p input.before input.now (pages ++ page ∷ [])
+  pub number_is : number ≡ length pages + 1
+  pub between : Option (List ℕ)
+  pub whole : Appends out.before between (job_bytes p k pages)
+  pub part : AppendsPart between out.now (page_bytes page p k)
+
+-- Each meter had room for each of these pages, and counted their dots and no others.
+pub record CountsPages (p : Printer) (k : Table) (meters : Meters) (pages : List Page) : Type 0 where
+  pub admitted : Admitted p k pages meters.before
+  pub counts : meters.now ≡ counted p k pages meters.before
+
+-- The meters counted these pages and the first of the others.
+pub record CountsOneMore (p : Printer) (k : Table) (meters : Meters) (pages others : List Page) : Type 0 where
+  pub page : Page
+  pub later : List Page
+  pub next : others ≡ page ∷ later
+  pub pages_counted : CountsPages p k meters (pages ++ page ∷ [])
+
+-- This page was read whole, and the first meter without room for its dots has this total and this cap. The job of the
+-- pages before it was written, and these were counted.
+pub record GoesOver (p : Printer) (k : Table) (input out : Outside) (meters : Meters) (number total dots cap : ℕ) : Type 0 where
+  pub pages : List Page
+  pub page : Page
+  pub taken : TakesPages p input.before input.now (pages ++ page ∷ [])
+  pub told : BeginsStream p input.before (pages ++ page ∷ [])
+  pub number_is : number ≡ length pages + 1
+  pub writes : Appends out.before out.now (job_bytes p k pages)
+  pub pages_counted : CountsPages p k meters pages
+  pub index : ℕ
+  pub first : IsFirstOver meters.now (page_dots page p k) (record { index = index; total = total; cap = cap })
+  pub dots_are : dots ≡ all_inks (page_dots page p k)
+
+-- What was read, written and counted, by the answer.
+abbrev pub PrintOutcome : Printer → Table → Outside → Outside → Meters → Answer → Type 0
+PrintOutcome p k input out meters answer.Done = (all : PrintsAll p k input out) × CountsPages p k meters all.pages
+PrintOutcome p k input out meters (answer.Input page line cause) =
+    (meets : MeetsFault p k input out page line cause) × CountsPages p k meters meets.pages
+PrintOutcome p k input out meters answer.Read =
+    HasRisen input × (some : PrintsSome p k input out) × CountsPages p k meters some.pages
+PrintOutcome p k input out meters (answer.Write number) =
+    HasRisen out × (stops : StopsInPage p k input out number) × CountsPages p k meters (stops.pages ++ stops.page ∷ [])
+PrintOutcome p k input out meters (answer.OverCap number total dots cap) = GoesOver p k input out meters number total dots cap
+PrintOutcome p k input out meters answer.Memory =
+    (some : PrintsSome p k input out)
+    × (CountsPages p k meters some.pages ⊎ CountsOneMore p k meters some.pages some.taken.others)
+PrintOutcome p k input out meters (answer.Usage fault) = ⊥
+PrintOutcome p k input out meters (answer.Profile line cause) = ⊥
+PrintOutcome p k input out meters (answer.Job offset cause) = ⊥
+
+-- ---- answers
+
+-- the answer where the stream stops
+abbrev pub stream_answer : StreamStop → Answer
+stream_answer (stream.Input page line cause) = answer.Input page line cause
+stream_answer stream.Read = answer.Read
+stream_answer stream.Memory = answer.Memory

@@ -1,0 +1,26 @@
+-- How a promise speaks of a command line.
+use Rattle.std.specs.Prelude.{◌≡◌, ℕ, List, Option, Result, Ok}
+use Rattle.job_profile.specs.Named.{IsJobProfile, Refusal}
+use Rattle.job_words.specs.declared.reading.Job.{Job}
+use Rattle.job_words.specs.declared.table.Verb.{Verb}
+use Rattle.job_words.specs.declared.table.Verb.TheVariants as verb
+use Rattle.job_words.specs.Meaning.{job_meaning, profile_named}
+use Rattle.printer_profile.specs.declared.fields.Profile.{Profile}
+use Rattle.weave_base.specs.Shelf.{NamedText}
+
+-- the profile of a name is this one, or is refused for this reason, whatever a shelf holds that does not report its
+-- texts
+abbrev pub ProfileIs : Option (List NamedText) → List ℕ → Result Profile Refusal → Type 0
+ProfileIs told name r = (other : Result Profile Refusal) → IsJobProfile told name other → other ≡ r
+
+-- The words ask for this command, with this profile or one that is refused for this reason.
+pub record AsksFor (words : List (List ℕ))
+    (told : Option (List NamedText)) (command : Verb) (job : Job) (r : Result Profile Refusal) : Type 0 where
+  pub means : job_meaning words ≡ Ok job
+  pub command_is : job.verb ≡ command
+  pub profile_is : ProfileIs told (profile_named words) r
+
+-- the words ask for the listing of a job
+pub record AsksForList (words : List (List ℕ)) (job : Job) : Type 0 where
+  pub means : job_meaning words ≡ Ok job
+  pub command_is : job.verb ≡ verb.List

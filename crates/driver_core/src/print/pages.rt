@@ -1,0 +1,79 @@
+//! Printing the pages of a stream.
+ghost use Rattle.diffusion_kernel.specs.Tables.{table_of};
+ghost use Rattle.driver_core.specs.Outside.{meters_of, outside_of};
+ghost use Rattle.driver_core.specs.Printing.Outcome.{PrintOutcome, stream_answer as stream_answer_of};
+ghost use Rattle.driver_core.specs.Runs.Outcome.{answer_of};
+ghost use Rattle.printer_profile.specs.Profiles.{printer_of};
+ghost use Rattle.printer_profile.specs.Validity.{check};
+ghost use Rattle.std.specs.Prelude.{IsOk, ◌≡◌, ◌≤◌};
+
+use crate::print::charging::charge;
+use diffusion_kernel::Kernel;
+use driver_answer::Answer;
+use halftone_reader::read_page;
+use ink_meter::{Meter, count_dots};
+use page_writer::{WriteStop, write_page};
+use printer_profile::Profile;
+use pwg_stream::{MOST_PAGES, PageReader, StreamStop};
+use std::alloc::Global;
+use std::thread::Threads;
+use wavefront_team::{Gate, Team};
+use weave_base::{Sink, Source};
+
+// The answer where the stream stops.
+fn stream_answer(stop: StreamStop) -> Answer
+    ensures { result ≡ stream_answer_of stop }
+{
+    match stop {
+        StreamStop::Input { page, line, cause } => Answer::Input { page, line, cause },
+        StreamStop::Read => Answer::Read,
+        StreamStop::Memory => Answer::Memory,
+    }
+}
+
+/// Prints the pages of the input, each once it is read to its last line and every meter has room for it. `workers`
+/// workers diffuse each slab and share the gate. `Err` is the answer where printing stops.
+pub fn print_pages<R: Threads + Sync, S: Source, K: Sink, G: Gate + Sync>(
+    rt: &R,
+    alloc: Global,
+    profile: &Profile,
+    kernel: Kernel,
+    workers: u8,
+    input: &mut S,
+    out: &mut K,
+    gate: &G,
+    meters: &mut Vec<Box<dyn Meter>>,
+) -> Result<(), Answer>
+    requires checked { IsOk (check profile.now) }
+    requires some_workers { 1 ≤ workers }
+    requires most_workers { workers ≤ 64 }
+    ensures { PrintOutcome (printer_of profile.now) (table_of kernel)
+        (outside_of S.left S.faults input.old input.new)
+        (outside_of K.held K.faults out.old out.new)
+        (meters_of (λ meter. account meter) meters.old.items meters.new.items) (answer_of result) }
+{
+    prove!(profile.nozzles <= 255);
+    let team = Team {
+        threads: rt,
+        workers,
+        gate,
+    };
+    let mut reader = match PageReader::begin(alloc, input) {
+        Ok(reader) => reader,
+        Err(stop) => return Err(stream_answer(stop)),
+    };
+    'pages: for number in 1..MOST_PAGES + 2 {
+        let page = match read_page(&team, alloc, &mut reader, profile, kernel, input) {
+            Ok(Some(page)) => page,
+            Ok(None) => return Ok(()),
+            Err(stop) => return Err(stream_answer(stop)),
+        };
+        charge(number, &count_dots(profile.inks, &page.planes), meters)?;
+        match write_page(alloc, profile, page.form, &page.planes, out) {
+            Err(WriteStop::Write) => return Err(Answer::Write { page: number }),
+            Err(WriteStop::Memory) => return Err(Answer::Memory),
+            Ok(_) => {}
+        }
+    }
+    unreachable!()
+}
