@@ -147,7 +147,7 @@ fn errors_cross_the_slabs_of_a_wide_page(rt: HostRuntime) {
 fn rows_with_dots<R: Threads + Sync>(rt: &R, alloc: Global, height: u32) -> Option<Vec<u32>> {
     let p = TINY1;
     let f = form(Kind::Gray8, 1, height);
-    if p.check().is_err() || !is_taken(&p, f) || f.bytes_per_line != 1 {
+    if p.check().is_err() || !is_taken(&p, f) || f.bytes_per_line != 1 || f.height != height {
         return None;
     }
     let mut h = Halftoner::begin(alloc, &p, f, Kernel::Floyd, 1).ok()?;
