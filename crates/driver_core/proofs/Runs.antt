@@ -6,5 +6,6 @@ pub mod AtWork
 pub mod Nothing
 pub mod WholeJobs
 pub mod Worked
+pub mod Performed
 pub mod Promised
 pub mod AllPromised

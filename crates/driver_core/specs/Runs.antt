@@ -1,5 +1,6 @@
 -- What the commands have in common: a whole run.
 pub mod Outcome
+pub mod Prepared
 pub mod Asking
 pub mod Promises
 pub mod AllPromises

@@ -5,6 +5,9 @@
 //! what was read and written (`Outcome`), and the error sink got its line (`Told`). The shelf is unchanged where the
 //! profile is built in (`unasked`) and where a word is refused (`refused_unasked`).
 //!
+//! A run prepares a command and performs it: `prepare` reads the words, sets the caps and finds the profile, `perform`
+//! does the command over input, output and meters.
+//!
 //! Each command has a module, and its outcome, promises and proofs stand together: `print` in `Printing`, `dots` in
 //! `Playing`, `list` in `Listing`, `profile` in `Showing`, and what they have in common in `Runs`. A command ends in an
 //! `Answer`, as `PrintOutcome`, `PlayOutcome`, `ListOutcome` and `ShowOutcome` say. `PrintOutcome` has the headline: on
@@ -16,6 +19,8 @@
 
 mod dots;
 mod list;
+mod performing;
+mod preparing;
 mod print;
 mod profile;
 mod running;

@@ -6,15 +6,11 @@ ghost use Rattle.job_words.specs.Meaning.{job_meaning, profile_named};
 ghost use Rattle.printer_profile.specs.Profiles.{built_in};
 ghost use Rattle.std.specs.Prelude.{IsErr, IsSome, ◌≡◌};
 
-use crate::dots::play;
-use crate::list::list;
-use crate::print::{print_pages, set_caps};
-use crate::profile::show_profile;
+use crate::performing::perform;
+use crate::preparing::prepare;
 use arrayvec::ArrayString;
 use driver_answer::Answer;
 use ink_meter::Meter;
-use job_profile::find_profile;
-use job_words::{Verb, profile_name, read_words};
 use std::alloc::Global;
 use std::thread::Threads;
 use wavefront_team::Gate;
@@ -41,28 +37,8 @@ fn work<R: Threads + Sync, S: Source, K: Sink, F: Shelf, G: Gate + Sync>(
     ensures unasked { IsSome (built_in (profile_named words.now)) → (shelf.new ≡ shelf.old) }
     ensures refused_unasked { IsErr (job_meaning words.now) → (shelf.new ≡ shelf.old) }
 {
-    let job = read_words(words)?;
-    set_caps(&job, meters);
-    if let Verb::List = job.verb {
-        return list(alloc, job.most, input, out);
-    }
-    let profile = find_profile(alloc, shelf, profile_name(words, &job))?;
-    match job.verb {
-        Verb::Print => print_pages(
-            rt,
-            alloc,
-            &profile,
-            job.kernel,
-            job.workers,
-            input,
-            out,
-            gate,
-            meters,
-        ),
-        Verb::Dots => play(alloc, &profile, job.most, input, out),
-        Verb::Profile => show_profile(alloc, &profile, out),
-        Verb::List => unreachable!(),
-    }
+    let prepared = prepare(alloc, words, shelf, meters)?;
+    perform(rt, alloc, prepared, input, out, gate, meters)
 }
 
 // The answer of a run, by what its work gave.

@@ -31,39 +31,30 @@ fn stream_answer(stop: StreamStop) -> Answer
     }
 }
 
-/// Prints the pages of the input, each once it is read to its last line and every meter has room for it. `workers`
-/// workers diffuse each slab and share the gate. `Err` is the answer where printing stops.
+/// Prints the pages of the input, each once it is read to its last line and every meter has room for it. The team
+/// diffuses each slab. `Err` is the answer where printing stops.
 pub fn print_pages<R: Threads + Sync, S: Source, K: Sink, G: Gate + Sync>(
-    rt: &R,
+    team: &Team<'_, R, G>,
     alloc: Global,
     profile: &Profile,
     kernel: Kernel,
-    workers: u8,
     input: &mut S,
     out: &mut K,
-    gate: &G,
     meters: &mut Vec<Box<dyn Meter>>,
 ) -> Result<(), Answer>
-    requires checked { IsOk (check profile.now) }
-    requires some_workers { 1 ≤ workers }
-    requires most_workers { workers ≤ 64 }
+    requires { IsOk (check profile.now) }
     ensures { PrintOutcome (printer_of profile.now) (table_of kernel)
         (outside_of S.left S.faults input.old input.new)
         (outside_of K.held K.faults out.old out.new)
         (meters_of (λ meter. account meter) meters.old.items meters.new.items) (answer_of result) }
 {
     prove!(profile.nozzles <= 255);
-    let team = Team {
-        threads: rt,
-        workers,
-        gate,
-    };
     let mut reader = match PageReader::begin(alloc, input) {
         Ok(reader) => reader,
         Err(stop) => return Err(stream_answer(stop)),
     };
     'pages: for number in 1..MOST_PAGES + 2 {
-        let page = match read_page(&team, alloc, &mut reader, profile, kernel, input) {
+        let page = match read_page(team, alloc, &mut reader, profile, kernel, input) {
             Ok(Some(page)) => page,
             Ok(None) => return Ok(()),
             Err(stop) => return Err(stream_answer(stop)),

@@ -40,7 +40,7 @@ returns-in-Ok-None g c =
     let end = rw c.in-Ok-None.field-0-is at c.in-Ok-None.ensures.none in
     stream_done (printer_of c.args.profile.now) (table_of c.args.kernel) _ _ _ _ _ _ c.pages.reader c.read_page.new.reader c.pages.number
     (g.S.Source.faults c.args.input.now) (g.S.Source.faults c.read_page.new.s) (g.K.Sink.faults c.args.out.now)
-    (g.K.Sink.faults c.pages.out) (can_print c.args.profile.now (omega arith) c.requires.checked)
+    (g.K.Sink.faults c.pages.out) (can_print c.args.profile.now (omega arith) c.requires)
     c.pages.invariant.stream.0 c.pages.invariant.stream.1 end.0 end.1 c.read_page.ensures.used
 
 pub write_page-requires-clause-wanted : goal.write_page-requires-clause-wanted

@@ -1,0 +1,64 @@
+//! What a command line asks for.
+ghost use Rattle.driver_core.specs.Caps.{begun_by};
+ghost use Rattle.driver_core.specs.Outside.{Outside, meters_of, texts_of};
+ghost use Rattle.driver_core.specs.Runs.Outcome.{Outcome};
+ghost use Rattle.driver_core.specs.Runs.Prepared.{IsPrepared, job_in};
+ghost use Rattle.job_words.specs.Meaning.{job_meaning, profile_named};
+ghost use Rattle.printer_profile.specs.Profiles.{built_in};
+ghost use Rattle.std.specs.Io.KnownBytes.{Keeps};
+ghost use Rattle.std.specs.Prelude.{IfErr, IfOk, IsErr, IsSome, map, ◌≡◌};
+
+use crate::print::set_caps;
+use driver_answer::Answer;
+use ink_meter::Meter;
+use job_profile::find_profile;
+use job_words::{Job, Verb, profile_name, read_words};
+use printer_profile::Profile;
+use std::alloc::Global;
+use weave_base::{Shelf, Words};
+
+/// A command that can be done: its job, and the profile that it takes, which passes its checks.
+#[derive(Drop)]
+pub enum Prepared {
+    Print { job: Job, profile: Profile },
+    Dots { job: Job, profile: Profile },
+    List { job: Job },
+    Profile { job: Job, profile: Profile },
+}
+
+/// Reads the words of a command line, sets the caps of the meters where a word gives one, and finds the profile that
+/// the command takes. `Err` is the answer of a run that goes no further.
+pub fn prepare<F: Shelf>(
+    alloc: Global,
+    words: &Words,
+    shelf: &mut F,
+    meters: &mut Vec<Box<dyn Meter>>,
+) -> Result<Prepared, Answer>
+    ensures prepared { IfOk result (IsPrepared words.now (F.files shelf.old)) }
+    ensures caps { IfOk result (λ prepared. map (λ meter. account meter) meters.new.items
+        ≡ begun_by (job_in prepared).verb (job_in prepared).cap (map (λ meter. account meter) meters.old.items)) }
+    // Where nothing of the input and the output was used, this is the outcome of the run.
+    ensures answered { IfErr result (λ a. (input out : Outside) → Keeps input.before input.now → Keeps out.before out.now
+        → Outcome words.now
+        (record {
+          shelf = texts_of F.files F.faults shelf.old shelf.new;
+          input = input;
+          out = out;
+          meters = meters_of (λ meter. account meter) meters.old.items meters.new.items;
+        }) a) }
+    ensures unasked { IsSome (built_in (profile_named words.now)) → (shelf.new ≡ shelf.old) }
+    ensures refused_unasked { IsErr (job_meaning words.now) → (shelf.new ≡ shelf.old) }
+{
+    let job = read_words(words)?;
+    set_caps(&job, meters);
+    if let Verb::List = job.verb {
+        return Ok(Prepared::List { job });
+    }
+    let profile = find_profile(alloc, shelf, profile_name(words, &job))?;
+    match job.verb {
+        Verb::Print => Ok(Prepared::Print { job, profile }),
+        Verb::Dots => Ok(Prepared::Dots { job, profile }),
+        Verb::List => Ok(Prepared::List { job }),
+        Verb::Profile => Ok(Prepared::Profile { job, profile }),
+    }
+}
