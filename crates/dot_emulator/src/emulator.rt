@@ -1,7 +1,6 @@
 //! The state of a printer, with its sheet.
 ghost use Rattle.escp2_definitions.specs.Commands.{in_table, last_column, rows_len};
 ghost use Rattle.escp2_definitions.specs.Machine.{start};
-ghost use Rattle.printer_profile.specs.Profiles.{printer_of};
 ghost use Rattle.printer_profile.specs.Validity.{check};
 ghost use Rattle.dot_emulator.specs.Current.{IsBlankPast, inks_of, rows_or, width_of};
 ghost use Rattle.dot_emulator.specs.Pages.{sheet_rows};
@@ -74,7 +73,7 @@ impl Emulator {
     /// dots of a sheet.
     pub fn make(alloc: Global, p: &Profile) -> Emulator
         requires { IsOk (check p.now) }
-        ensures { Shows (printer_of p.now) result start }
+        ensures { Shows p.now result start }
     {
         checked_can_print(*p);
         Emulator {

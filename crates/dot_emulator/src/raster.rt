@@ -2,7 +2,6 @@
 ghost use Rattle.dot_emulator.specs.States.{early_fault, machine_of};
 ghost use Rattle.escp2_definitions.specs.Commands.{last_column};
 ghost use Rattle.printer_definitions.specs.Printer.{column_step, nozzle_step, row_step};
-ghost use Rattle.printer_profile.specs.Profiles.{printer_of};
 ghost use Rattle.separation_definitions.specs.CanPrint.{CanPrint};
 ghost use Rattle.std.specs.Prelude.{[], ◌%◌, ◌*◌, ◌/◌, ◌<◌, ◌≡◌, ◌≤◌};
 
@@ -35,8 +34,8 @@ impl Steps {
 
     /// The steps of a printer.
     pub(crate) fn of(p: &Profile) -> Steps
-        requires { CanPrint (printer_of p.now) }
-        ensures { AreStepsOf (printer_of p.now) result }
+        requires { CanPrint p.now }
+        ensures { AreStepsOf p.now result }
     {
         Steps {
             column: 3600 / u32::from(p.hdpi),

@@ -2,7 +2,6 @@
 ghost use Rattle.driver_core.specs.Outside.{outside_of};
 ghost use Rattle.driver_core.specs.Playing.Outcome.{PlayOutcome};
 ghost use Rattle.driver_core.specs.Runs.Outcome.{answer_of};
-ghost use Rattle.printer_profile.specs.Profiles.{printer_of};
 ghost use Rattle.printer_profile.specs.Validity.{check};
 ghost use Rattle.std.specs.Prelude.{IsOk, ◌<◌, ◌^◌};
 
@@ -22,7 +21,7 @@ pub fn play<S: Source, K: Sink>(
 ) -> Result<(), Answer>
     requires checked { IsOk (check profile.now) }
     requires most { most < 2 ^ 63 }
-    ensures { PlayOutcome (printer_of profile.now) most
+    ensures { PlayOutcome profile.now most
         (outside_of S.left S.faults input.old input.new)
         (outside_of K.held K.faults out.old out.new) (answer_of result) }
 {

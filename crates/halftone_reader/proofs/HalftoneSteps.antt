@@ -5,8 +5,7 @@ use Rattle.diffusion_kernel.specs.declared.tables.Kernel.{Kernel}
 use Rattle.dot_planes.specs.Tables.{DotTable, dot}
 use Rattle.page_definitions.specs.Dots.{HasDots, halftone}
 use Rattle.page_halftoner.specs.Halftones.{Halftoning, IsSamePage, StandsFor}
-use Rattle.printer_profile.specs.Profiles.{printer_of}
-use Rattle.printer_profile.specs.declared.fields.Profile.{Profile}
+use Rattle.printer_definitions.specs.Printer.{Printer}
 use Rattle.pwg_definitions.specs.Header.{IsWanted, header_of}
 use Rattle.pwg_definitions.specs.declared.pages.PageForm.{PageForm}
 use Rattle.pwg_definitions.specs.declared.pages.Wanted.{Wanted}
@@ -23,24 +22,24 @@ pub begun-wanted : (want : Wanted) (old now : PageReader) (before left : Option 
 begun-wanted want old now before left form begins = check-wanted want (header_of begins.header.header) form begins.header.accepted
 
 -- What was read so far is a prefix of a page, and the halftoning stands for its lines.
-pub record HalftonedSoFar (profile : Profile) (kernel : Kernel)
+pub record HalftonedSoFar (profile : Printer) (kernel : Kernel)
     (form : PageForm) (old now : PageReader) (before left : Option (List ℕ)) (h : Halftoning) : Type 0 where
   pub lines : List (List ℕ)
-  pub page : PageSoFar (wanted_by (printer_of profile)) old now before left (record { form = form; lines = lines })
+  pub page : PageSoFar (wanted_by profile) old now before left (record { form = form; lines = lines })
   pub stands : StandsFor h lines
   pub count : h.count + lines_left_of now ≡ form.height
   pub profile_is : h.profile ≡ profile
   pub form_is : h.form ≡ form
   pub kernel_is : h.kernel ≡ kernel
 
-pub halftone_begin : (profile : Profile)
+pub halftone_begin : (profile : Printer)
     (kernel : Kernel) (form : PageForm) (old now : PageReader) (before left : Option (List ℕ)) (h : Halftoning)
-    → BeginsPage (wanted_by (printer_of profile)) old now before left form → has_ended old ≡ false → stop_of now ≡ None
+    → BeginsPage (wanted_by profile) old now before left form → has_ended old ≡ false → stop_of now ≡ None
     → (h.profile ≡ profile) × (h.form ≡ form) × (h.kernel ≡ kernel)
     → h.count ≡ 0 → StandsFor h [] → HalftonedSoFar profile kernel form old now before left h
 halftone_begin profile kernel form old now before left h begins unended going same none stands = record {
   lines = [];
-  page = page_begin (wanted_by (printer_of profile)) old now before left form begins unended going;
+  page = page_begin (wanted_by profile) old now before left form begins unended going;
   stands = stands;
   count = omega (arith, none, begins.lines);
   profile_is = same.0;
@@ -49,7 +48,7 @@ halftone_begin profile kernel form old now before left h begins unended going sa
 }
 
 -- one more group
-pub halftone_step : (profile : Profile) (kernel : Kernel) (form : PageForm)
+pub halftone_step : (profile : Printer) (kernel : Kernel) (form : PageForm)
     (old now next : PageReader) (before left left' : Option (List ℕ)) (h h' : Halftoning) (repeats : ℕ)
     → HalftonedSoFar profile kernel form old now before left h
     → 0 < lines_left_of now → GivesLines now next left left' repeats → stop_of next ≡ None
@@ -58,7 +57,7 @@ pub halftone_step : (profile : Profile) (kernel : Kernel) (form : PageForm)
     → HalftonedSoFar profile kernel form old next before left' h'
 halftone_step profile kernel form old now next before left left' h h' repeats so_far some gives going same count stands = record {
   lines = so_far.lines ++ replicate repeats (line_of next);
-  page = page_step (wanted_by (printer_of profile)) old now next before left left'
+  page = page_step (wanted_by profile) old now next before left left'
       (record { form = form; lines = so_far.lines }) repeats so_far.page some gives going;
   stands = stands so_far.lines so_far.stands;
   count = omega (arith, so_far.count, count, gives.fall);
@@ -68,20 +67,20 @@ halftone_step profile kernel form old now next before left left' h h' repeats so
 }
 
 -- the last line was read
-pub halftone_end : (profile : Profile) (kernel : Kernel)
+pub halftone_end : (profile : Printer) (kernel : Kernel)
     (form : PageForm) (old now : PageReader) (before left : Option (List ℕ)) (h : Halftoning) (planes : DotTable)
     → HalftonedSoFar profile kernel form old now before left h → lines_left_of now ≤ 0
     → ((lines : List (List ℕ)) → StandsFor h lines
-    → HasDots (printer_of h.profile) (halftone (record { form = h.form; lines = lines })
-    (printer_of h.profile) (table_of h.kernel)) planes.width planes.rows planes.inks (dot planes))
-    → ReadsHalftone (printer_of profile) (table_of kernel) old now before left form planes
+    → HasDots h.profile (halftone (record { form = h.form; lines = lines })
+    h.profile (table_of h.kernel)) planes.width planes.rows planes.inks (dot planes))
+    → ReadsHalftone profile (table_of kernel) old now before left form planes
 halftone_end profile kernel form old now before left h planes so_far none dots =
-    let Has : Profile → PageForm → Kernel → Type 0 =
-    λ q f k. HasDots (printer_of q) (halftone (record { form = f; lines = so_far.lines }) (printer_of q) (table_of k))
+    let Has : Printer → PageForm → Kernel → Type 0 =
+    λ q f k. HasDots q (halftone (record { form = f; lines = so_far.lines }) q (table_of k))
     planes.width planes.rows planes.inks (dot planes) in
     record {
       page = record { form = form; lines = so_far.lines };
-      reads = page_end (wanted_by (printer_of profile)) old now before left (record { form = form; lines = so_far.lines }) so_far.page none;
+      reads = page_end (wanted_by profile) old now before left (record { form = form; lines = so_far.lines }) so_far.page none;
       form_is = refl;
       dots = subst (λ q. Has q form kernel) so_far.profile_is (subst (λ f. Has h.profile f kernel) so_far.form_is
           (subst (λ k. Has h.profile h.form k) so_far.kernel_is (dots so_far.lines so_far.stands)));

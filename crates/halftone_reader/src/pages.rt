@@ -1,7 +1,6 @@
 //! Pages that are read and halftoned.
 ghost use Rattle.diffusion_kernel.specs.Tables.{table_of};
 ghost use Rattle.halftone_reader.specs.Reading.{IsBetween, ReadsHalftone};
-ghost use Rattle.printer_profile.specs.Profiles.{printer_of};
 ghost use Rattle.printer_profile.specs.Validity.{check};
 ghost use Rattle.pwg_definitions.specs.Limits.{most_pages};
 ghost use Rattle.pwg_definitions.specs.Stream.StreamEnd.{Fault};
@@ -47,13 +46,13 @@ pub fn read_page<R: Threads + Sync, S: Source, G: Gate + Sync>(
     requires between { IsBetween reader.old }
     requires unended { has_ended reader.old ≡ false }
     ensures page { IfOk result (λ o. IfSome o (λ page.
-        ReadsHalftone (printer_of profile.now) (table_of kernel) reader.old reader.new (S.left s.old) (S.left s.new)
+        ReadsHalftone profile.now (table_of kernel) reader.old reader.new (S.left s.old) (S.left s.new)
         page.form page.planes)) }
     ensures none { IfOk result
         (λ o. IfNone o (IsAtEnd (text_of reader.old (S.left s.old)) × IsAtEnd (text_of reader.new (S.left s.new)))) }
     ensures between { IfOk result (λ o. IfSome o (λ page. IsBetween reader.new)) }
     ensures input { OnInput result (λ number line cause. IfSome (text_of reader.old (S.left s.old)) (λ text.
-        pages_from (wanted_by (printer_of profile.now)) (most_pages - page_of reader.old) (page_of reader.old + 1) text
+        pages_from (wanted_by profile.now) (most_pages - page_of reader.old) (page_of reader.old + 1) text
         ≡ record { pages = []; end = Fault number line cause })) }
     ensures read { IsErrOf result stop.Read → Rose (S.faults s.old) (S.faults s.new) }
     ensures used { UsesSome (text_of reader.old (S.left s.old)) (text_of reader.new (S.left s.new)) }

@@ -1,5 +1,4 @@
 //! Small pages against the definitions, dot by dot.
-ghost use Rattle.printer_profile.specs.Profiles.{printer_of};
 ghost use Rattle.pwg_definitions.specs.Header.{IsWanted};
 ghost use Rattle.separation_definitions.specs.Windows.{wanted_by};
 ghost use Rattle.std.specs.Prelude.{IsTrue, ◌≤◌};
@@ -17,7 +16,7 @@ use wavefront_team::{OpenGate, Team};
 
 // Whether the printer takes a page.
 fn is_taken(p: &Profile, f: PageForm) -> bool
-    ensures { IsTrue result → IsWanted (wanted_by (printer_of p.now)) f }
+    ensures { IsTrue result → IsWanted (wanted_by p.now) f }
 {
     let wanted = p.wanted();
     wanted.least_width <= f.width

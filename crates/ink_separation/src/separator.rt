@@ -7,7 +7,6 @@ ghost use Rattle.ink_separation.specs.Separators.{IsSeparatorOf, printer_in};
 ghost use Rattle.printer_definitions.specs.Inks.{inks_of};
 ghost use Rattle.printer_definitions.specs.Printer.{Printer, limit_of as limit_of_printer};
 ghost use Rattle.printer_definitions.specs.declared.inks.Ink.{Ink};
-ghost use Rattle.printer_profile.specs.Profiles.{printer_of};
 ghost use Rattle.printer_profile.specs.Validity.{check};
 ghost use Rattle.pwg_definitions.specs.Header.{row_of};
 ghost use Rattle.pwg_definitions.specs.declared.pages.Kind.{Kind};
@@ -45,7 +44,7 @@ impl Separator {
     /// That of a printer, for pixels of this kind and for this window.
     pub fn make(p: &Profile, kind: Kind, window: Window) -> Separator
         requires { IsOk (check p.now) }
-        ensures { IsSeparatorOf (printer_of p.now) kind window result }
+        ensures { IsSeparatorOf p.now kind window result }
     {
         Separator {
             kind,
@@ -182,7 +181,7 @@ pub fn amounts(p: &Profile, kind: Kind, line: &[u8], w: Window, at: u32, out: &m
     requires width { out.old.width ≡ w.width }
     requires inks { out.old.inks ≡ length (inks_of p.now.inks) }
     requires at { at < out.old.rows }
-    ensures { Separates (printer_of p.now) kind line.now w at out.old out.new }
+    ensures { Separates p.now kind line.now w at out.old out.new }
 {
     Separator::make(p, kind, w).separate(line, at, out);
 }

@@ -3,7 +3,6 @@ ghost use Rattle.job_player.specs.Outcome.{PlayOutcome};
 ghost use Rattle.job_player.specs.Stops.{emu_stop};
 ghost use Rattle.job_player.specs.declared.player.PlayStop.TheVariants as PlayStop;
 ghost use Rattle.buffered_bytes.specs.Outside.{outside_of};
-ghost use Rattle.printer_profile.specs.Profiles.{printer_of};
 ghost use Rattle.printer_profile.specs.Validity.{check};
 ghost use Rattle.std.specs.Prelude.{IsOk, ◌<◌, ◌≡◌, ◌≤◌, ◌^◌};
 
@@ -39,7 +38,7 @@ pub fn play_job<S: Source, K: Sink>(
 ) -> Result<(), PlayStop>
     requires checked { IsOk (check profile.now) }
     requires most { most < 2 ^ 63 }
-    ensures { PlayOutcome (printer_of profile.now) most
+    ensures { PlayOutcome profile.now most
         (outside_of S.left S.faults input.old input.new)
         (outside_of K.held K.faults out.old out.new) result }
 {

@@ -5,7 +5,7 @@ use Rattle.std.proofs.lemmas.List.{length-replicate}
 use Rattle.std.specs.Option.{IsSomeAnd}
 use Rattle.std.proofs.lemmas.Bool.{le-ltb, lt-ltb}
 use Rattle.job_profile.specs.declared.stops.ProfileCause.TheVariants as cause
-use Rattle.printer_profile.specs.declared.fields.Profile.{Profile}
+use Rattle.printer_definitions.specs.Printer.{Printer}
 use Rattle.std.specs.declared.alloc.Global.{Global}
 use Rattle.std.specs.Vec.{vec_len}
 use Rattle.weave_base.specs.Shelf.{Finds, IsWithin, NamedText, text_named}
@@ -17,7 +17,7 @@ use Rattle.weave_base.specs.declared.shelf.Found.TheVariants as found
 use Rattle.job_profile.specs.Named.{Refusal, refused_at, shelf_result, text_result}
 
 -- the text of a name, where the shelf reports its texts, and what it describes
-abbrev pub Says : Option (List NamedText) → List ℕ → Result Profile Refusal → Type 0
+abbrev pub Says : Option (List NamedText) → List ℕ → Result Printer Refusal → Type 0
 Says told name r = (held : Option (List ℕ)) × IfSome told (λ files. held ≡ text_named name files) × (shelf_result held ≡ r)
 
 -- some text or none; where the shelf reports its texts, that of the name
@@ -26,7 +26,7 @@ pub held_for : (told : Option (List NamedText)) (name : List ℕ)
 held_for None name = (None, tt)
 held_for (Some files) name = (text_named name files, refl)
 
-pub text_says : (told : Option (List NamedText)) (name bytes : List ℕ) (r : Result Profile Refusal)
+pub text_says : (told : Option (List NamedText)) (name bytes : List ℕ) (r : Result Printer Refusal)
     → IfSome told (λ files. text_named name files ≡ Some bytes)
     → length bytes ≤ 65536 → text_result bytes ≡ r → Says told name r
 text_says told name bytes r is within says = (Some bytes, same told is, short)
@@ -59,7 +59,7 @@ found_text (Some files) name answer text is h = let P : Found → Type 0 = λ a.
 within_text : (answer : Found) (text : Vec ℕ Global) → answer ≡ found.Text text → IsWithin 65536 answer → vec_len text ≤ 65536
 within_text answer text is h = let P : Found → Type 0 = λ a. IsWithin 65536 a in subst P is h
 
-pub ok_says : (r : Result Profile ProfileStop) (told : Option (List NamedText))
+pub ok_says : (r : Result Printer ProfileStop) (told : Option (List NamedText))
     (name bytes : List ℕ) (answer : Found) (text : Vec ℕ Global) → answer ≡ found.Text text
     → Finds told name 65536 answer → IsWithin 65536 answer → bytes ≡ text.items
     → IfOk r (λ p. text_result bytes ≡ Ok p) → IfOk r (λ p. Says told name (Ok p))
@@ -68,7 +68,7 @@ ok_says (Ok p) told name bytes answer text is finds within same h =
     text_says told name text.items (Ok p) (found_text told name answer text is finds)
     (omega (arith, within_text answer text is within, text.ok)) (ap text_result (sym same) ∙ h)
 
-pub refused_says : (r : Result Profile ProfileStop) (told : Option (List NamedText))
+pub refused_says : (r : Result Printer ProfileStop) (told : Option (List NamedText))
     (name bytes : List ℕ) (answer : Found) (text : Vec ℕ Global) → answer ≡ found.Text text
     → Finds told name 65536 answer → IsWithin 65536 answer → bytes ≡ text.items
     → OnRefused r (λ refusal. text_result bytes ≡ Err refusal) → OnRefused r (λ refusal. Says told name (Err refusal))

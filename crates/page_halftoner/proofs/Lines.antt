@@ -10,7 +10,6 @@ use Rattle.diffusion_kernel.specs.Tables.{table_of}
 use Rattle.dot_planes.specs.Tables.{AmountTable, DotTable, dot}
 use Rattle.printer_definitions.specs.Inks.{inks_of}
 use Rattle.printer_definitions.specs.declared.inks.Ink.{Ink}
-use Rattle.printer_profile.specs.Profiles.{printer_of}
 use Rattle.printer_definitions.specs.Printer.{Printer}
 use Rattle.pwg_definitions.specs.Header.{IsWanted, line_bytes, row_of}
 use Rattle.pwg_definitions.specs.declared.pages.Kind.{Kind}
@@ -86,7 +85,7 @@ in_margin h line lines margin s =
 pub record IsNextRow (h : Halftoning) (line : List ℕ) (y : ℕ) (slab : AmountTable) : Type 0 where
   pub place : (window h).top + y ≡ h.count
   pub inside : y < (window h).height
-  pub puts : Separates (printer_of h.profile) h.form.kind line (window h) (y - h.diffused) h.slab slab
+  pub puts : Separates h.profile h.form.kind line (window h) (y - h.diffused) h.slab slab
   pub from : h.diffused ≤ y
   pub room : y < h.diffused + h.slab.rows
   pub few : h.slab.rows ≤ 256
@@ -111,7 +110,7 @@ held_more h line lines more y i ink slab next s is =
     subst Q (sym (behind lines line more)) (row_more
     (table_of h.kernel) (plane_of h ink ls) i h.diffused n h.planes h.top h.slab slab up (omega (arith, next.from, next.room))
     (λ x across. next.puts.row.are i ink is x across
-    ∙ ap (λ l. amount_of (printer_of h.profile) h.form.kind (pixel_at h.form.kind l ((window h).left + x)) ink) (sym line_at)
+    ∙ ap (λ l. amount_of h.profile h.form.kind (pixel_at h.form.kind l ((window h).left + x)) ink) (sym line_at)
     ∙ ap (λ m. (plane_of h ink ls).amount m x) (sym row)) (λ r x other low. next.puts.others i r x other low))
 
 -- A row is held in a slab that is not full.
@@ -210,7 +209,7 @@ pub ends_with : (h : Halftoning) (line : List ℕ) (y : ℕ) (slab : AmountTable
 ends_with h line y slab next = record {
   last = λ n some.
       let here : y - h.diffused ≡ n = omega (arith, some, next.place, next.inside, next.from) in
-      let Q : ℕ → Type 0 = λ m. HasLine (printer_of h.profile) h.form.kind line (window h) m slab in
+      let Q : ℕ → Type 0 = λ m. HasLine h.profile h.form.kind line (window h) m slab in
       subst Q here next.puts.row;
 }
 
@@ -229,8 +228,8 @@ repeats_more lines n line =
 -- After the last line of the page each row of the window is diffused.
 pub whole_page : (h : Halftoning) (lines : List (List ℕ)) → StandsFor h lines → h.diffused ≡ (window h).height
     → h.planes.width ≡ (window h).width → h.planes.rows ≡ (window h).height → h.planes.inks ≡ length (inks_of h.profile.inks)
-    → HasDots (printer_of h.profile) (halftone (record { form = h.form; lines = lines })
-    (printer_of h.profile) (table_of h.kernel)) h.planes.width h.planes.rows h.planes.inks (dot h.planes)
+    → HasDots h.profile (halftone (record { form = h.form; lines = lines })
+    h.profile (table_of h.kernel)) h.planes.width h.planes.rows h.planes.inks (dot h.planes)
 whole_page h lines s all wide tall inks = record {
   width_is = wide;
   rows_is = tall;

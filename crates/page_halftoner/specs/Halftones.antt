@@ -6,8 +6,7 @@ use Rattle.diffusion_kernel.specs.declared.tables.Kernel.{Kernel}
 use Rattle.dot_planes.specs.Tables.{AmountTable, DotTable, amount, dot}
 use Rattle.printer_definitions.specs.Inks.{inks_of}
 use Rattle.printer_definitions.specs.declared.inks.Ink.{Ink}
-use Rattle.printer_profile.specs.Profiles.{printer_of}
-use Rattle.printer_profile.specs.declared.fields.Profile.{Profile}
+use Rattle.printer_definitions.specs.Printer.{Printer}
 use Rattle.pwg_definitions.specs.declared.pages.PageForm.{PageForm}
 use Rattle.separation_definitions.specs.Amounts.{ink_plane}
 use Rattle.separation_definitions.specs.Windows.{window_of}
@@ -20,7 +19,7 @@ use Rattle.ink_separation.specs.Separated.{HasLine}
 -- are diffused, the dots so far, the bottom edges of the last diffused rows, the amounts of the rows after them, and
 -- whether memory ran out.
 pub record Halftoning : Type 0 where
-  pub profile : Profile
+  pub profile : Printer
   pub form : PageForm
   pub kernel : Kernel
   pub count : ℕ
@@ -31,7 +30,7 @@ pub record Halftoning : Type 0 where
   pub failed : Bool
 
 abbrev pub window : Halftoning → Window
-window h = window_of h.form (printer_of h.profile)
+window h = window_of h.form h.profile
 
 -- how many rows of the window the first n lines reach
 abbrev pub rows_done : Window → ℕ → ℕ
@@ -43,7 +42,7 @@ held h = rows_done (window h) h.count - h.diffused
 
 -- the amounts of an ink over the window, on a page with these lines
 abbrev pub plane_of : Halftoning → Ink → List (List ℕ) → Plane
-plane_of h ink lines = ink_plane (record { form = h.form; lines = lines }) (printer_of h.profile) ink
+plane_of h ink lines = ink_plane (record { form = h.form; lines = lines }) h.profile ink
 
 -- An ink of a plane, of which the first rows are diffused and the next ones are held.
 pub record IsUpTo (k : Table) (p : Plane) (i diffused held : ℕ) (planes : DotTable)
@@ -66,7 +65,7 @@ pub record StandsFor (h : Halftoning) (lines : List (List ℕ)) : Type 0 where
 
 -- The last row that is held, where one is held, has the amounts of a line.
 pub record EndsWith (h : Halftoning) (line : List ℕ) : Type 0 where
-  pub last : (n : ℕ) → held h ≡ n + 1 → HasLine (printer_of h.profile) h.form.kind line (window h) n h.slab
+  pub last : (n : ℕ) → held h ≡ n + 1 → HasLine h.profile h.form.kind line (window h) n h.slab
 
 -- the same printer, form and kernel
 pub record IsSamePage (old new : Halftoning) : Type 0 where

@@ -1,7 +1,6 @@
 -- The invariant of a halftoner.
 use Rattle.std.specs.Prelude.{◌≡◌, ℤ, ◌%◌, ◌+◌, ◌<◌, ◌≤◌, Bool, true, false, IsOk, List, [], Option, Some, None, length}
 use Rattle.printer_definitions.specs.Inks.{inks_of}
-use Rattle.printer_profile.specs.Profiles.{printer_of}
 use Rattle.printer_profile.specs.Validity.{check}
 use Rattle.pwg_definitions.specs.Header.{IsWanted}
 use Rattle.separation_definitions.specs.Windows.{wanted_by, window_of}
@@ -35,14 +34,14 @@ halftoning h = record {
 }
 
 abbrev pub window_in : Inside → Window
-window_in h = window_of h.form (printer_of h.profile)
+window_in h = window_of h.form h.profile
 
 -- The profile passes its checks, the printer takes the page, the separator is of both, and there is room for the window's
 -- rows in all inks.
 pub record IsReady (h : Inside) : Type 0 where
   pub checked : IsOk (check h.profile)
-  pub wanted : IsWanted (wanted_by (printer_of h.profile)) h.form
-  pub separator : IsSeparatorOf (printer_of h.profile) h.form.kind (window_in h) h.separator
+  pub wanted : IsWanted (wanted_by h.profile) h.form
+  pub separator : IsSeparatorOf h.profile h.form.kind (window_in h) h.separator
   pub few : h.count ≤ h.form.height
   pub slab_width : h.slab.width ≡ (window_in h).width
   pub slab_inks : h.slab.inks ≡ length (inks_of h.profile.inks)

@@ -3,7 +3,6 @@ ghost use Rattle.diffusion_kernel.specs.Tables.{table_of};
 ghost use Rattle.dot_planes.specs.Tables.{dot};
 ghost use Rattle.page_definitions.specs.Dots.{HasDots, halftone};
 ghost use Rattle.page_halftoner.specs.Halftones.{EndsWith, IsSamePage, StandsFor, held};
-ghost use Rattle.printer_profile.specs.Profiles.{printer_of};
 ghost use Rattle.printer_profile.specs.Validity.{check};
 ghost use Rattle.pwg_definitions.specs.Header.{IsWanted};
 ghost use Rattle.separation_definitions.specs.Windows.{wanted_by};
@@ -82,7 +81,7 @@ impl Halftoner {
         workers: u8,
     ) -> Result<Halftoner, Memory>
         requires checked { IsOk (check p.now) }
-        requires wanted { IsWanted (wanted_by (printer_of p.now)) f }
+        requires wanted { IsWanted (wanted_by p.now) f }
         requires some_workers { 1 ≤ workers }
         ensures page { IfOk result (λ h. (h.profile ≡ p.now) × (h.form ≡ f) × (h.kernel ≡ k)) }
         ensures count { IfOk result (λ h. h.count ≡ 0) }
@@ -139,8 +138,8 @@ impl Halftoner {
         requires count { self.count ≡ self.form.height }
         requires working { self.failed ≡ false }
         ensures { (lines : List (List ℕ)) → StandsFor self lines
-            → HasDots (printer_of self.profile) (halftone (record { form = self.form; lines = lines })
-            (printer_of self.profile) (table_of self.kernel)) result.width result.rows result.inks (dot result) }
+            → HasDots self.profile (halftone (record { form = self.form; lines = lines })
+            self.profile (table_of self.kernel)) result.width result.rows result.inks (dot result) }
     {
         self.planes
     }

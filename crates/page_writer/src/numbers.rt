@@ -2,7 +2,6 @@
 ghost use Rattle.page_definitions.specs.PageBytes.{page_coding};
 ghost use Rattle.page_definitions.specs.Strokes.{raster_header as raster_header_of};
 ghost use Rattle.printer_definitions.specs.Printer.{row_units as row_units_of};
-ghost use Rattle.printer_profile.specs.Profiles.{printer_of};
 ghost use Rattle.pwg_definitions.specs.Header.{IsWanted};
 ghost use Rattle.separation_definitions.specs.CanPrint.{CanPrint};
 ghost use Rattle.separation_definitions.specs.Windows.{wanted_by, window_of};
@@ -24,8 +23,8 @@ pub struct Sheet {
 
 /// The height of a row of dots in units.
 pub fn row_units(p: &Profile) -> u16
-    requires { CanPrint (printer_of p.now) }
-    ensures is { result ≡ row_units_of (printer_of p.now) }
+    requires { CanPrint p.now }
+    ensures is { result ≡ row_units_of p.now }
     ensures most { result ≤ 2 }
 {
     720 / p.vdpi
@@ -33,8 +32,8 @@ pub fn row_units(p: &Profile) -> u16
 
 /// The header of rasters of this many columns, with coded rows.
 pub fn raster_header(p: &Profile, width: u16) -> RasterHead
-    requires { CanPrint (printer_of p.now) }
-    ensures { result ≡ raster_header_of (printer_of p.now) width page_coding.c }
+    requires { CanPrint p.now }
+    ensures { result ≡ raster_header_of p.now width page_coding.c }
 {
     RasterHead {
         c: 1,
@@ -47,13 +46,13 @@ pub fn raster_header(p: &Profile, width: u16) -> RasterHead
 
 /// The sheet of a page, over which the head begins `above` rows above the window.
 pub fn sheet_of(p: &Profile, f: PageForm, above: u32) -> Sheet
-    requires can { CanPrint (printer_of p.now) }
-    requires wanted { IsWanted (wanted_by (printer_of p.now)) f }
+    requires can { CanPrint p.now }
+    requires wanted { IsWanted (wanted_by p.now) f }
     requires room { above ≤ p.now.top }
-    ensures length { result.length ≡ f.height * row_units_of (printer_of p.now) }
-    ensures top { result.top ≡ (p.now.top - above) * row_units_of (printer_of p.now) }
+    ensures length { result.length ≡ f.height * row_units_of p.now }
+    ensures top { result.top ≡ (p.now.top - above) * row_units_of p.now }
     ensures bottom { result.bottom ≡
-        (p.now.top + (window_of f (printer_of p.now)).height) * row_units_of (printer_of p.now) }
+        (p.now.top + (window_of f p.now).height) * row_units_of p.now }
 {
     let units = row_units(p);
     let height = f.height as u16;

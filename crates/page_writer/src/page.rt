@@ -10,7 +10,6 @@ ghost use Rattle.page_writer.specs.declared.strokes.WriteStop.TheVariants as sto
 ghost use Rattle.printer_definitions.specs.Inks.{inks_of};
 ghost use Rattle.printer_definitions.specs.Printer.{row_units as row_units_of};
 ghost use Rattle.printer_definitions.specs.declared.inks.Ink.{Ink};
-ghost use Rattle.printer_profile.specs.Profiles.{printer_of};
 ghost use Rattle.printer_profile.specs.Validity.{check};
 ghost use Rattle.pwg_definitions.specs.Header.{IsWanted};
 ghost use Rattle.separation_definitions.specs.Windows.{wanted_by, window_of};
@@ -42,32 +41,32 @@ pub fn write_page<K: Sink>(
     k: &mut K,
 ) -> Result<PageSum, WriteStop>
     requires checked { IsOk (check p.now) }
-    requires wanted { IsWanted (wanted_by (printer_of p.now)) f }
-    requires width { planes.now.width ≡ (window_of f (printer_of p.now)).width }
-    requires rows { planes.now.rows ≡ (window_of f (printer_of p.now)).height }
+    requires wanted { IsWanted (wanted_by p.now) f }
+    requires width { planes.now.width ≡ (window_of f p.now).width }
+    requires rows { planes.now.rows ≡ (window_of f p.now).height }
     requires inks { planes.now.inks ≡ length (inks_of p.now.inks) }
 
     // of each halftone whose dots are in the planes
-    ensures ok { (h : Halftone) → Shows (printer_of p.now) planes.now h → OnOk result
+    ensures ok { (h : Halftone) → Shows p.now planes.now h → OnOk result
         (Appends (K.held k.old) (K.held k.new)
-        (halftone_bytes (printer_of p.now) h (f.height * row_units_of (printer_of p.now)))) }
-    ensures sum { (h : Halftone) → Shows (printer_of p.now) planes.now h → IfOk result
-        (SumsUp (printer_of p.now) h (f.height * row_units_of (printer_of p.now))) }
-    ensures part { (h : Halftone) → Shows (printer_of p.now) planes.now h → IsErrOf result stop.Write
+        (halftone_bytes p.now h (f.height * row_units_of p.now))) }
+    ensures sum { (h : Halftone) → Shows p.now planes.now h → IfOk result
+        (SumsUp p.now h (f.height * row_units_of p.now)) }
+    ensures part { (h : Halftone) → Shows p.now planes.now h → IsErrOf result stop.Write
         → AppendsPart (K.held k.old) (K.held k.new)
-        (halftone_bytes (printer_of p.now) h (f.height * row_units_of (printer_of p.now))) }
+        (halftone_bytes p.now h (f.height * row_units_of p.now)) }
 
     // what those bytes mean: one sheet with the halftone's dots, and at most one raster of an ink for each pass
-    ensures prints { (h : Halftone) → Shows (printer_of p.now) planes.now h → GivesSheet (printer_of p.now)
-        (halftone_bytes (printer_of p.now) h (f.height * row_units_of (printer_of p.now)))
-        (dots_wanted (printer_of p.now) h) }
-    ensures passes { (h : Halftone) → Shows (printer_of p.now) planes.now h → (ink : Ink)
+    ensures prints { (h : Halftone) → Shows p.now planes.now h → GivesSheet p.now
+        (halftone_bytes p.now h (f.height * row_units_of p.now))
+        (dots_wanted p.now h) }
+    ensures passes { (h : Halftone) → Shows p.now planes.now h → (ink : Ink)
         → ink_rasters ink
-        (commands (halftone_bytes (printer_of p.now) h (f.height * row_units_of (printer_of p.now)))).entries
+        (commands (halftone_bytes p.now h (f.height * row_units_of p.now))).entries
         ≤ pass_count p.now.nozzles p.now.pitch planes.now.rows }
 
     // by the page's form alone
-    ensures short { IfOk result (λ sum. sum.bytes ≤ most_of_page (printer_of p.now) planes.now.width planes.now.rows) }
+    ensures short { IfOk result (λ sum. sum.bytes ≤ most_of_page p.now planes.now.width planes.now.rows) }
     ensures write { IsErrOf result stop.Write → Rose (K.faults k.old) (K.faults k.new) }
     ensures memory { IsErrOf result stop.Memory → Keeps (K.held k.old) (K.held k.new) }
     ensures later { K.faults k.old ≤ K.faults k.new }

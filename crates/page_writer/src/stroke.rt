@@ -5,7 +5,6 @@ ghost use Rattle.page_writer.specs.Heads.{Suits, stroke_over};
 ghost use Rattle.page_writer.specs.StrokeBytes.{IsStroke, IsStrokeSum, stroke_bytes};
 ghost use Rattle.page_writer.specs.Sums.{most_of_pass};
 ghost use Rattle.printer_definitions.specs.Printer.{row_units as row_units_of};
-ghost use Rattle.printer_profile.specs.Profiles.{printer_of};
 ghost use Rattle.base_definitions.specs.Limits.{most_rows};
 ghost use Rattle.std.specs.Io.KnownBytes.{Appends};
 ghost use Rattle.std.specs.Prelude.{IfOk, OnErr, OnOk, length, vec_capacity, vec_len, ◌*◌, ◌++◌};
@@ -43,13 +42,13 @@ fn append_inks<H: Head>(
     room: &mut [u8],
     out: &mut Vec<u8>,
 ) -> u32
-    requires suits { Suits (printer_of p.now) (H.strokes head.now) planes.now }
+    requires suits { Suits p.now (H.strokes head.now) planes.now }
     requires stroke { stroke < (H.strokes head.now).count }
     requires room { length room.old ≡ (planes.now.width + 7) / 8 }
     requires space { vec_len out.old + planes.now.inks * (12 + 2 * p.now.nozzles * ((planes.now.width + 7) / 8)) ≤
         vec_capacity out.old }
-    ensures inks { IsStroke (printer_of p.now) planes.now.width
-        (stroke_over (printer_of p.now) (H.strokes head.now) planes.now stroke) out.old.items out.new.items result }
+    ensures inks { IsStroke p.now planes.now.width
+        (stroke_over p.now (H.strokes head.now) planes.now stroke) out.old.items out.new.items result }
     ensures few { result ≤ planes.now.inks }
     ensures most { vec_len out.new ≤
         vec_len out.old + planes.now.inks * (12 + 2 * p.now.nozzles * ((planes.now.width + 7) / 8)) }
@@ -75,21 +74,21 @@ pub fn put_stroke<H: Head, K: Sink>(
     out: &mut Vec<u8>,
     k: &mut K,
 ) -> Result<PageSum, Failed>
-    requires suits { Suits (printer_of p.now) (H.strokes head.now) planes.now }
+    requires suits { Suits p.now (H.strokes head.now) planes.now }
     requires stroke { stroke < (H.strokes head.now).count }
-    requires down { down * row_units_of (printer_of p.now) ≤ most_rows }
+    requires down { down * row_units_of p.now ≤ most_rows }
     requires room { length room.old ≡ (planes.now.width + 7) / 8 }
-    requires space { most_of_pass (printer_of p.now) planes.now.width ≤ vec_capacity out.old }
-    ensures ok { OnOk result (Appends (K.held k.old) (K.held k.new) (stroke_bytes (printer_of p.now) planes.now.width
-        (stroke_over (printer_of p.now) (H.strokes head.now) planes.now stroke) down)) }
-    ensures sum { IfOk result (IsStrokeSum (printer_of p.now) planes.now.width
-        (stroke_over (printer_of p.now) (H.strokes head.now) planes.now stroke) down) }
+    requires space { most_of_pass p.now planes.now.width ≤ vec_capacity out.old }
+    ensures ok { OnOk result (Appends (K.held k.old) (K.held k.new) (stroke_bytes p.now planes.now.width
+        (stroke_over p.now (H.strokes head.now) planes.now stroke) down)) }
+    ensures sum { IfOk result (IsStrokeSum p.now planes.now.width
+        (stroke_over p.now (H.strokes head.now) planes.now stroke) down) }
     ensures part { OnErr result (AppendsPart (K.held k.old) (K.held k.new)
-        (stroke_bytes (printer_of p.now) planes.now.width
-        (stroke_over (printer_of p.now) (H.strokes head.now) planes.now stroke) down)) }
+        (stroke_bytes p.now planes.now.width
+        (stroke_over p.now (H.strokes head.now) planes.now stroke) down)) }
     ensures cause { HasCause (K.faults k.old) (K.faults k.new) result }
     ensures few { IfOk result (λ sum. sum.rasters ≤ 4) }
-    ensures short { IfOk result (λ sum. sum.bytes ≤ most_of_pass (printer_of p.now) planes.now.width) }
+    ensures short { IfOk result (λ sum. sum.bytes ≤ most_of_pass p.now planes.now.width) }
     ensures capacity { vec_capacity out.old ≤ vec_capacity out.new }
 {
     out.clear();

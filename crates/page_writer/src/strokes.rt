@@ -6,7 +6,6 @@ ghost use Rattle.page_writer.specs.StrokeBytes.{fired_strokes, head_bytes};
 ghost use Rattle.page_writer.specs.Sums.{SumsStrokes, most_of_pass as most_of_pass_of, rasters_in};
 ghost use Rattle.page_writer.specs.declared.strokes.WriteStop.TheVariants as stop;
 ghost use Rattle.printer_definitions.specs.Printer.{row_units as row_units_of};
-ghost use Rattle.printer_profile.specs.Profiles.{printer_of};
 ghost use Rattle.pwg_definitions.specs.Header.{IsWanted};
 ghost use Rattle.separation_definitions.specs.Windows.{wanted_by, window_of};
 ghost use Rattle.std.specs.Io.KnownBytes.{Appends, Keeps};
@@ -50,20 +49,20 @@ fn put_strokes<H: Head, K: Sink>(
     out: &mut Vec<u8>,
     k: &mut K,
 ) -> Result<PageSum, Failed>
-    requires suits { Suits (printer_of p.now) (H.strokes head.now) planes.now }
+    requires suits { Suits p.now (H.strokes head.now) planes.now }
     requires room { length room.old ≡ (planes.now.width + 7) / 8 }
-    requires space { most_of_pass_of (printer_of p.now) planes.now.width ≤ vec_capacity out.old }
+    requires space { most_of_pass_of p.now planes.now.width ≤ vec_capacity out.old }
     ensures ok { OnOk result (Appends (K.held k.old) (K.held k.new) (bytes_of page_coding.code (fired_strokes
-        (printer_of p.now) planes.now.width (strokes_over (printer_of p.now) (H.strokes head.now) planes.now)))) }
+        p.now planes.now.width (strokes_over p.now (H.strokes head.now) planes.now)))) }
     ensures bytes { IfOk result (λ sum. sum.bytes ≡ length (bytes_of page_coding.code (fired_strokes
-        (printer_of p.now) planes.now.width (strokes_over (printer_of p.now) (H.strokes head.now) planes.now)))) }
+        p.now planes.now.width (strokes_over p.now (H.strokes head.now) planes.now)))) }
     ensures rasters { IfOk result (λ sum. sum.rasters ≡ rasters_in (fired_strokes
-        (printer_of p.now) planes.now.width (strokes_over (printer_of p.now) (H.strokes head.now) planes.now))) }
+        p.now planes.now.width (strokes_over p.now (H.strokes head.now) planes.now))) }
     ensures part { OnErr result (AppendsPart (K.held k.old) (K.held k.new) (bytes_of page_coding.code (fired_strokes
-        (printer_of p.now) planes.now.width (strokes_over (printer_of p.now) (H.strokes head.now) planes.now)))) }
+        p.now planes.now.width (strokes_over p.now (H.strokes head.now) planes.now)))) }
     ensures cause { HasCause (K.faults k.old) (K.faults k.new) result }
     ensures most { IfOk result (λ sum. sum.bytes
-        ≤ (H.strokes head.now).count * most_of_pass_of (printer_of p.now) planes.now.width) }
+        ≤ (H.strokes head.now).count * most_of_pass_of p.now planes.now.width) }
     ensures capacity { vec_capacity out.old ≤ vec_capacity out.new }
 {
     let mut sum = PageSum {
@@ -91,23 +90,23 @@ fn put_page<H: Head, K: Sink>(
     out: &mut Vec<u8>,
     k: &mut K,
 ) -> Result<PageSum, Failed>
-    requires suits { Suits (printer_of p.now) (H.strokes head.now) planes.now }
-    requires wanted { IsWanted (wanted_by (printer_of p.now)) f }
-    requires rows { planes.now.rows ≡ (window_of f (printer_of p.now)).height }
+    requires suits { Suits p.now (H.strokes head.now) planes.now }
+    requires wanted { IsWanted (wanted_by p.now) f }
+    requires rows { planes.now.rows ≡ (window_of f p.now).height }
     requires empty { out.old.items ≡ [] }
     requires none { vec_len out.old ≡ 0 }
     requires prologue { 46 ≤ vec_capacity out.old }
-    requires space { most_of_pass_of (printer_of p.now) planes.now.width ≤ vec_capacity out.old }
-    ensures ok { OnOk result (Appends (K.held k.old) (K.held k.new) (head_bytes (printer_of p.now) (H.strokes head.now)
-        planes.now (f.height * row_units_of (printer_of p.now)))) }
-    ensures sum { IfOk result (SumsStrokes (printer_of p.now) planes.now.width planes.now.rows
-        (f.height * row_units_of (printer_of p.now))
-        (strokes_over (printer_of p.now) (H.strokes head.now) planes.now)) }
-    ensures part { OnErr result (AppendsPart (K.held k.old) (K.held k.new) (head_bytes (printer_of p.now)
-        (H.strokes head.now) planes.now (f.height * row_units_of (printer_of p.now)))) }
+    requires space { most_of_pass_of p.now planes.now.width ≤ vec_capacity out.old }
+    ensures ok { OnOk result (Appends (K.held k.old) (K.held k.new) (head_bytes p.now (H.strokes head.now)
+        planes.now (f.height * row_units_of p.now))) }
+    ensures sum { IfOk result (SumsStrokes p.now planes.now.width planes.now.rows
+        (f.height * row_units_of p.now)
+        (strokes_over p.now (H.strokes head.now) planes.now)) }
+    ensures part { OnErr result (AppendsPart (K.held k.old) (K.held k.new) (head_bytes p.now
+        (H.strokes head.now) planes.now (f.height * row_units_of p.now))) }
     ensures cause { HasCause (K.faults k.old) (K.faults k.new) result }
     ensures short { IfOk result (λ sum. sum.bytes
-        ≤ 49 + (H.strokes head.now).count * most_of_pass_of (printer_of p.now) planes.now.width) }
+        ≤ 49 + (H.strokes head.now).count * most_of_pass_of p.now planes.now.width) }
 {
     append_prologue(sheet_of(p, f, head.above()), out);
     put_all(k, out)?;
@@ -137,18 +136,18 @@ pub fn write_strokes<H: Head, K: Sink>(
     head: &H,
     k: &mut K,
 ) -> Result<PageSum, WriteStop>
-    requires suits { Suits (printer_of p.now) (H.strokes head.now) planes.now }
-    requires wanted { IsWanted (wanted_by (printer_of p.now)) f }
-    requires rows { planes.now.rows ≡ (window_of f (printer_of p.now)).height }
-    ensures ok { OnOk result (Appends (K.held k.old) (K.held k.new) (head_bytes (printer_of p.now) (H.strokes head.now)
-        planes.now (f.height * row_units_of (printer_of p.now)))) }
-    ensures sum { IfOk result (SumsStrokes (printer_of p.now) planes.now.width planes.now.rows
-        (f.height * row_units_of (printer_of p.now))
-        (strokes_over (printer_of p.now) (H.strokes head.now) planes.now)) }
+    requires suits { Suits p.now (H.strokes head.now) planes.now }
+    requires wanted { IsWanted (wanted_by p.now) f }
+    requires rows { planes.now.rows ≡ (window_of f p.now).height }
+    ensures ok { OnOk result (Appends (K.held k.old) (K.held k.new) (head_bytes p.now (H.strokes head.now)
+        planes.now (f.height * row_units_of p.now))) }
+    ensures sum { IfOk result (SumsStrokes p.now planes.now.width planes.now.rows
+        (f.height * row_units_of p.now)
+        (strokes_over p.now (H.strokes head.now) planes.now)) }
     ensures part { IsErrOf result stop.Write → AppendsPart (K.held k.old) (K.held k.new) (head_bytes
-        (printer_of p.now) (H.strokes head.now) planes.now (f.height * row_units_of (printer_of p.now))) }
+        p.now (H.strokes head.now) planes.now (f.height * row_units_of p.now)) }
     ensures short { IfOk result (λ sum. sum.bytes
-        ≤ 49 + (H.strokes head.now).count * most_of_pass_of (printer_of p.now) planes.now.width) }
+        ≤ 49 + (H.strokes head.now).count * most_of_pass_of p.now planes.now.width) }
     ensures write { IsErrOf result stop.Write → Rose (K.faults k.old) (K.faults k.new) }
     ensures memory { IsErrOf result stop.Memory → Keeps (K.held k.old) (K.held k.new) }
     ensures later { K.faults k.old ≤ K.faults k.new }

@@ -1,7 +1,6 @@
 //! The size of a page's job.
 ghost use Rattle.page_writer.specs.Sums.{most_of_page, most_of_pass as most_of_pass_of};
 ghost use Rattle.printer_definitions.specs.Inks.{inks_of};
-ghost use Rattle.printer_profile.specs.Profiles.{printer_of};
 ghost use Rattle.base_definitions.specs.Limits.{most_columns, most_rows};
 ghost use Rattle.separation_definitions.specs.CanPrint.{CanPrint};
 ghost use Rattle.std.specs.Prelude.{length, ◌*◌, ◌+◌, ◌/◌, ◌≡◌, ◌≤◌};
@@ -31,7 +30,7 @@ fn most_of_ink(nozzles: u8, width: u32) -> u64
 /// The most bytes of a pass over this many columns: a step down, and each of its inks.
 pub(crate) fn most_of_pass(p: &Profile, width: u32) -> u64
     requires { width ≤ most_columns }
-    ensures is { result ≡ most_of_pass_of (printer_of p.now) width }
+    ensures is { result ≡ most_of_pass_of p.now width }
     ensures most { result ≤ 2089015 }
 {
     7 + u64::from(p.inks.count()) * most_of_ink(p.nozzles, width)
@@ -40,11 +39,11 @@ pub(crate) fn most_of_pass(p: &Profile, width: u32) -> u64
 /// The most bytes that `write_page` writes of a page with this window: 49 and, for each pass of the head, 7 and, for
 /// each ink, 12 and twice the bytes of a row for each nozzle.
 pub fn most_bytes(p: &Profile, w: Window) -> u64
-    requires can { CanPrint (printer_of p.now) }
+    requires can { CanPrint p.now }
     requires width { w.width ≤ most_columns }
     requires some_rows { 1 ≤ w.height }
     requires most_rows { w.height ≤ most_rows }
-    ensures { result ≡ most_of_page (printer_of p.now) w.width w.height }
+    ensures { result ≡ most_of_page p.now w.width w.height }
 {
     let plan = Plan::make(p.nozzles, p.pitch, w.height);
     49 + u64::from(plan.passes()) * most_of_pass(p, w.width)

@@ -3,10 +3,8 @@ use Rattle.std.proofs.Common.{◌≡◌, ℕ, ◌≤◌, ◌⊎◌, Bool, true, 
 use Rattle.std.specs.Prelude.{IsOk}
 use Rattle.std.proofs.lemmas.Bool.Decides.{nat_tests}
 use Rattle.separation_definitions.specs.CanPrint.{CanPrint}
-use Rattle.printer_definitions.specs.Printer.{head_rows, nozzle_step}
-use Rattle.printer_profile.specs.declared.fields.Profile.{Profile}
+use Rattle.printer_definitions.specs.Printer.{Printer, head_rows, nozzle_step}
 use Rattle.printer_profile.specs.declared.validity.ProfileFault.{ProfileFault}
-use Rattle.printer_profile.specs.Profiles.{printer_of}
 use Rattle.printer_profile.specs.Validity.{check, gcd_of, is_resolution}
 use Rattle.printer_profile.proofs.Divisors.{coprime_is}
 use Rattle.std.specs.Int.{IsGcd}
@@ -32,7 +30,7 @@ some n h = grind (arith, nat_tests)
 at_most : (most n : ℕ) → ltb most n ≡ false → n ≤ most
 at_most most n h = grind (arith, nat_tests)
 
-pub is_coprime : (p : Profile) → IsOk (check p) → IsGcd p.nozzles p.pitch 1
+pub is_coprime : (p : Printer) → IsOk (check p) → IsGcd p.nozzles p.pitch 1
 is_coprime p h =
     let resolution = passed _ _ _ h in
     let nozzles = passed _ _ _ resolution.1 in
@@ -40,7 +38,7 @@ is_coprime p h =
     let coprime = passed _ _ _ pitch.1 in
     coprime_is p.nozzles p.pitch (some p.nozzles nozzles.0) (at_most 1 (gcd_of p.nozzles p.pitch) coprime.0)
 
-pub can_print : (p : Profile) → p.nozzles ≤ 255 → IsOk (check p) → CanPrint (printer_of p)
+pub can_print : (p : Printer) → p.nozzles ≤ 255 → IsOk (check p) → CanPrint p
 can_print p small h =
     let resolution = passed _ _ _ h in
     let nozzles = passed _ _ _ resolution.1 in
@@ -56,6 +54,6 @@ can_print p small h =
       most_nozzles = small;
       some_pitch = some p.pitch pitch.0;
       coprime = is_coprime p h;
-      small_step = at_most 255 (nozzle_step (printer_of p)) step.0;
-      head_room = at_most p.top (head_rows (printer_of p)) margin.0;
+      small_step = at_most 255 (nozzle_step p) step.0;
+      head_room = at_most p.top (head_rows p) margin.0;
     }

@@ -12,7 +12,7 @@ use Rattle.std.proofs.lemmas.Fmt.{digits_decimal}
 use Rattle.std.proofs.lemmas.List.Splits.{length-slice_split, slice_split-cons_no, slice_split-cons_yes}
 use Rattle.printer_definitions.specs.declared.inks.InkSet.{InkSet}
 use Rattle.printer_definitions.specs.declared.inks.InkSet.TheVariants.{K, Cmy, Cmyk}
-use Rattle.printer_profile.specs.declared.fields.Profile.{Profile}
+use Rattle.printer_definitions.specs.Printer.{Printer}
 use Rattle.printer_profile.specs.declared.keys.Key.{Key}
 use Rattle.printer_profile.specs.declared.keys.Key.TheVariants as key
 use Rattle.printer_profile.specs.declared.reading.Given.{Given}
@@ -65,7 +65,7 @@ line_read line rest h =
 -- ---- keys
 
 -- a profile that its types allow
-pub record InRange (p : Profile) : Type 0 where
+pub record InRange (p : Printer) : Type 0 where
   pub hdpi : p.hdpi ≤ 65535
   pub vdpi : p.vdpi ≤ 65535
   pub nozzles : p.nozzles ≤ 255
@@ -79,7 +79,7 @@ pub record InRange (p : Profile) : Type 0 where
   pub bottom : p.bottom ≤ 65535
 
 -- a profile with one field of another
-copy_key : Profile → Key → Profile → Profile
+copy_key : Printer → Key → Printer → Printer
 copy_key p key.Hdpi q = record q { hdpi = p.hdpi }
 copy_key p key.Vdpi q = record q { vdpi = p.vdpi }
 copy_key p key.Nozzles q = record q { nozzles = p.nozzles }
@@ -95,7 +95,7 @@ copy_key p key.Right q = record q { right = p.right }
 copy_key p key.Top q = record q { top = p.top }
 copy_key p key.Bottom q = record q { bottom = p.bottom }
 
-number_put : (most n : ℕ) (with_field : ℕ → Profile)
+number_put : (most n : ℕ) (with_field : ℕ → Printer)
     → n ≤ most → most < 2 ^ 64 → option_map with_field (number_within 0 most (decimal n)) ≡ Some (with_field n)
 number_put most n with_field small fits = ap (option_map with_field) (number_of_decimal 0 most n (omega arith) small fits)
 
@@ -105,7 +105,7 @@ ink_set_read Cmy = refl
 ink_set_read Cmyk = refl
 
 -- a key takes the value that it has in another profile
-taken : (p : Profile) → InRange p → (q : Profile) (k : Key) → (row_of k).put ((row_of k).text p) q ≡ Some (copy_key p k q)
+taken : (p : Printer) → InRange p → (q : Printer) (k : Key) → (row_of k).put ((row_of k).text p) q ≡ Some (copy_key p k q)
 unfolding copy_key
 taken p range q key.Hdpi = number_put 65535 p.hdpi _ range.hdpi (omega arith)
 taken p range q key.Vdpi = number_put 65535 p.vdpi _ range.vdpi (omega arith)
@@ -145,7 +145,7 @@ ink_set_printable K = refl
 ink_set_printable Cmy = refl
 ink_set_printable Cmyk = refl
 
-value_printable : (p : Profile) → InRange p → (k : Key) → list_all printable ((row_of k).text p) ≡ true
+value_printable : (p : Printer) → InRange p → (k : Key) → list_all printable ((row_of k).text p) ≡ true
 value_printable p range key.Hdpi = decimal_printable 65535 p.hdpi range.hdpi (omega arith)
 value_printable p range key.Vdpi = decimal_printable 65535 p.vdpi range.vdpi (omega arith)
 value_printable p range key.Nozzles = decimal_printable 255 p.nozzles range.nozzles (omega arith)
@@ -178,7 +178,7 @@ bare_line_gives given key.Hdpi value h = line_of_key given _ value (Some key.Hdp
 bare_line_gives given k value h = line_of_key given _ value (Some k) refl h refl refl refl
 
 -- a key's line is the first of the lines
-key_line_read : (p : Profile) → InRange p
+key_line_read : (p : Printer) → InRange p
     → (k : Key) (rest : List ℕ) → lines (key_line p k ++ rest) ≡ bare_line k ((row_of k).text p) ∷ lines rest
 unfolding bare_line
 key_line_read p range k rest =
@@ -187,22 +187,22 @@ key_line_read p range k rest =
 
 -- ---- all keys
 
-copied : Profile → Given → Key → Given
+copied : Printer → Given → Key → Given
 copied p given k = record {
   profile = copy_key p k given.profile;
   keys = slice_set given.keys ((row_of k).place - 1) true;
 }
 
-all_copied : Profile → Given → List Key → Given
+all_copied : Printer → Given → List Key → Given
 all_copied p given [] = given
 all_copied p given (k ∷ keys) = all_copied p (copied p given k) keys
 
 -- no key is given before its line
-all_new : Profile → Given → List Key → Bool
+all_new : Printer → Given → List Key → Bool
 all_new p given [] = true
 all_new p given (k ∷ keys) = not (is_given given k) && all_new p (copied p given k) keys
 
-key_read : (p : Profile) → InRange p → (given : Given) (k : Key)
+key_read : (p : Printer) → InRange p → (given : Given) (k : Key)
     → is_given given k ≡ false → with_line given (bare_line k ((row_of k).text p)) ≡ Ok (copied p given k)
 unfolding copied
 key_read p range given k new =
@@ -212,7 +212,7 @@ key_read p range given k new =
 not_true : (b : Bool) → not b ≡ true → b ≡ false
 not_true b h = grind (arith, nat_tests)
 
-keys_read : (p : Profile) → InRange p → (keys : List Key) (number : ℕ) (given : Given) → all_new p given keys ≡ true
+keys_read : (p : Printer) → InRange p → (keys : List Key) (number : ℕ) (given : Given) → all_new p given keys ≡ true
     → with_lines number given (lines (flat_map (key_line p) keys)) ≡ Ok (all_copied p given keys)
 unfolding all_copied all_new
 keys_read p range [] number given new = lines_done number given [] refl
@@ -231,11 +231,11 @@ four (a ∷ b ∷ c ∷ []) h = absurd (omega arith)
 four (a ∷ b ∷ c ∷ d ∷ []) h = refl
 four (a ∷ b ∷ c ∷ d ∷ e ∷ xs) h = absurd (omega arith)
 
-whole : (p : Profile) → InRange p → profile_given (Ok (all_copied p nothing all_keys)) ≡ Ok p
+whole : (p : Printer) → InRange p → profile_given (Ok (all_copied p nothing all_keys)) ≡ Ok p
 unfolding all_copied copied copy_key
 whole p range = ap (λ (limits : List ℕ). Ok (record p { limits = limits })) (four p.limits range.limits)
 
-all_absent : (p : Profile) → all_new p nothing all_keys ≡ true
+all_absent : (p : Printer) → all_new p nothing all_keys ≡ true
 unfolding all_new copied
 all_absent p = refl
 
@@ -243,7 +243,7 @@ header_read : (rest : List ℕ) → lines (header ++ 10 ∷ rest) ≡ header ∷
 unfolding printable
 header_read rest = line_read header rest refl
 
-pub printed_text : (p : Profile) → InRange p → profile_text (profile_text_of p) ≡ Ok p
+pub printed_text : (p : Printer) → InRange p → profile_text (profile_text_of p) ≡ Ok p
 unfolding profile_text_of
 printed_text p range =
     let keys : List ℕ = flat_map (key_line p) all_keys in

@@ -4,7 +4,7 @@ use Rattle.std.specs.Char.{is_ascii}
 use Rattle.std.specs.List.{after_first, before_first, list_all, list_any}
 use Rattle.std.specs.Str.{bytes_eq}
 use Rattle.std.specs.Str.Lines.{lines}
-use Rattle.printer_profile.specs.declared.fields.Profile.{Profile}
+use Rattle.printer_definitions.specs.Printer.{Printer}
 use Rattle.printer_profile.specs.declared.keys.Key.{Key}
 use Rattle.printer_profile.specs.declared.reading.Given.{Given}
 use Rattle.printer_profile.specs.declared.reading.TextCause.{TextCause}
@@ -77,7 +77,7 @@ text_with_header text first rest cut same = sym (ap profile_of_lines cut ∙ rw 
 
 -- what the lines after the first one give
 pub lines_end : (text first : List ℕ) (rest : List (List ℕ)) (read : Result Given TextFault)
-    (answer : Result Profile TextFault) → lines text ≡ first ∷ rest → bytes_eq first header ≡ true
+    (answer : Result Printer TextFault) → lines text ≡ first ∷ rest → bytes_eq first header ≡ true
     → read ≡ with_lines 2 nothing rest → answer ≡ profile_given read → answer ≡ profile_text text
 lines_end text first rest read answer cut same read_is answer_is =
     answer_is ∙ ap profile_given read_is ∙ text_with_header text first rest cut same

@@ -5,7 +5,7 @@ use Rattle.std.specs.Fmt.{decimal}
 use Rattle.std.specs.Option.{option_map}
 use Rattle.std.specs.Str.{bytes_eq}
 use Rattle.printer_definitions.specs.declared.inks.InkSet.TheVariants.{K}
-use Rattle.printer_profile.specs.declared.fields.Profile.{Profile}
+use Rattle.printer_definitions.specs.Printer.{Printer, straight_curve}
 use Rattle.printer_profile.specs.declared.keys.Key.{Key}
 use Rattle.printer_profile.specs.declared.keys.Key.TheVariants as key
 use Rattle.printer_profile.specs.declared.setting.SetFault.{SetFault}
@@ -19,11 +19,11 @@ pub record Row : Type 0 where
   pub place : ℕ
   pub name : List ℕ
   pub required : Bool
-  pub put : List ℕ → Profile → Option Profile
-  pub text : Profile → List ℕ
+  pub put : List ℕ → Printer → Option Printer
+  pub text : Printer → List ℕ
 
 -- a key whose value is a number up to `most`
-abbrev pub number_row : ℕ → List ℕ → Bool → ℕ → (Profile → ℕ) → (Profile → ℕ → Profile) → Row
+abbrev pub number_row : ℕ → List ℕ → Bool → ℕ → (Printer → ℕ) → (Printer → ℕ → Printer) → Row
 number_row place name required most field with_field = record {
   place = place;
   name = name;
@@ -87,7 +87,7 @@ abbrev pub name_at : ℕ → List ℕ
 name_at place = name_of (key_at place)
 
 -- the profile before any key is set: the defaults, and 0 and `k` where there is no default
-abbrev pub unset : Profile
+abbrev pub unset : Printer
 unset = record {
   hdpi = 0;
   vdpi = 0;
@@ -96,6 +96,7 @@ unset = record {
   inks = K;
   black_start = 0;
   limits = 255 ∷ 255 ∷ 255 ∷ 255 ∷ [];
+  curves = straight_curve ∷ straight_curve ∷ straight_curve ∷ straight_curve ∷ [];
   left = 0;
   right = 0;
   top = 0;
@@ -103,14 +104,14 @@ unset = record {
 }
 
 -- the profile with the new value, where the key takes it
-abbrev pub put_or_fault : Option Profile → Result Profile SetFault
+abbrev pub put_or_fault : Option Printer → Result Printer SetFault
 put_or_fault None = Err BadValue
 put_or_fault (Some p) = Ok p
 
-abbrev pub set_found : List ℕ → Profile → Option Key → Result Profile SetFault
+abbrev pub set_found : List ℕ → Printer → Option Key → Result Printer SetFault
 set_found value p None = Err UnknownKey
 set_found value p (Some key) = put_or_fault ((row_of key).put value p)
 
 -- the profile with the value that a text gives the key of a name
-abbrev pub set_key : List ℕ → List ℕ → Profile → Result Profile SetFault
+abbrev pub set_key : List ℕ → List ℕ → Printer → Result Printer SetFault
 set_key name value p = set_found value p (key_named name)

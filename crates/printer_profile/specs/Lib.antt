@@ -3,3 +3,4 @@ pub mod Profiles
 pub mod Text
 pub mod Validity
 pub mod Values
+pub mod Views

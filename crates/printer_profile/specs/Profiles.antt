@@ -1,59 +1,23 @@
--- Profiles as printers, and the table of the built-in ones.
+-- The table of the built-in profiles.
 use Rattle.std.specs.Prelude.{ℕ, List, [], ◌∷◌, codes, find, Option}
 use Rattle.std.specs.Option.{option_map}
 use Rattle.std.specs.Str.{bytes_eq}
-use Rattle.printer_definitions.specs.Printer.{Printer, tiny1 as plainest}
+use Rattle.printer_definitions.specs.Printer.{Printer, straight_curve, tiny1}
 use Rattle.printer_definitions.specs.declared.inks.InkSet.TheVariants.{Cmyk}
-use Rattle.printer_profile.specs.declared.fields.Profile.{Profile}
-
--- the printer that a profile describes
-abbrev pub printer_of : Profile → Printer
-printer_of p = record {
-  hdpi = p.hdpi;
-  vdpi = p.vdpi;
-  nozzles = p.nozzles;
-  pitch = p.pitch;
-  inks = p.inks;
-  black_start = p.black_start;
-  limits = p.limits;
-  left = p.left;
-  right = p.right;
-  top = p.top;
-  bottom = p.bottom;
-}
 
 -- A profile with a name.
 pub record Named : Type 0 where
   pub name : List ℕ
-  pub profile : Profile
+  pub profile : Printer
 
--- the profile of a printer
-abbrev pub profile_of : Printer → Profile
-profile_of p = record {
-  hdpi = p.hdpi;
-  vdpi = p.vdpi;
-  nozzles = p.nozzles;
-  pitch = p.pitch;
-  inks = p.inks;
-  black_start = p.black_start;
-  limits = p.limits;
-  left = p.left;
-  right = p.right;
-  top = p.top;
-  bottom = p.bottom;
-}
-
-abbrev pub tiny1 : Profile
-tiny1 = profile_of plainest
-
-abbrev pub tiny : Profile
+abbrev pub tiny : Printer
 tiny = record tiny1 {
   nozzles = 3;
   pitch = 2;
   top = 4;
 }
 
-abbrev pub p360k : Profile
+abbrev pub p360k : Printer
 p360k = record tiny1 {
   nozzles = 31;
   pitch = 4;
@@ -63,7 +27,7 @@ p360k = record tiny1 {
   bottom = 60;
 }
 
-abbrev pub p360cmyk : Profile
+abbrev pub p360cmyk : Printer
 p360cmyk = record tiny1 {
   nozzles = 15;
   pitch = 4;
@@ -74,7 +38,7 @@ p360cmyk = record tiny1 {
   bottom = 60;
 }
 
-abbrev pub p720cmyk : Profile
+abbrev pub p720cmyk : Printer
 p720cmyk = record {
   hdpi = 720;
   vdpi = 720;
@@ -83,6 +47,7 @@ p720cmyk = record {
   inks = Cmyk;
   black_start = 64;
   limits = 255 ∷ 224 ∷ 224 ∷ 224 ∷ [];
+  curves = straight_curve ∷ straight_curve ∷ straight_curve ∷ straight_curve ∷ [];
   left = 90;
   right = 90;
   top = 240;
@@ -100,5 +65,5 @@ built_ins =
     ∷ []
 
 -- the built-in profile of a name
-abbrev pub built_in : List ℕ → Option Profile
+abbrev pub built_in : List ℕ → Option Printer
 built_in name = option_map (λ entry. entry.profile) (find (λ entry. bytes_eq name entry.name) built_ins)

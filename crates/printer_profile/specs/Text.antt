@@ -6,7 +6,7 @@ use Rattle.std.specs.List.{flat_map, list_all}
 use Rattle.std.specs.Str.{bytes_eq}
 use Rattle.std.specs.Str.Lines.{lines}
 use Rattle.key_values.specs.Pairs.{is_key_value, key_of, value_of}
-use Rattle.printer_profile.specs.declared.fields.Profile.{Profile}
+use Rattle.printer_definitions.specs.Printer.{Printer}
 use Rattle.printer_profile.specs.declared.keys.Key.{Key}
 use Rattle.printer_profile.specs.declared.reading.Given.{Given}
 use Rattle.printer_profile.specs.declared.reading.TextCause.{TextCause}
@@ -22,11 +22,11 @@ header = codes "escp2-profile 1"
 -- ---- printed
 
 -- a key's line, with its end
-abbrev pub key_line : Profile → Key → List ℕ
+abbrev pub key_line : Printer → Key → List ℕ
 key_line p key = (row_of key).name ++ codes "=" ++ (row_of key).text p ++ codes "\n"
 
 -- The canonical text: the header, and a line of each key in the order of the table.
-unfoldable pub profile_text_of : Profile → List ℕ
+unfoldable pub profile_text_of : Printer → List ℕ
 profile_text_of p = header ++ codes "\n" ++ flat_map (key_line p) all_keys
 
 -- ---- read
@@ -45,7 +45,7 @@ abbrev pub is_given : Given → Key → Bool
 is_given given key = slice_index_or given.keys ((row_of key).place - 1) false
 
 -- with a value that a key takes
-abbrev pub with_value : Given → Key → Option Profile → Result Given TextCause
+abbrev pub with_value : Given → Key → Option Printer → Result Given TextCause
 with_value given key None = Err BadValue
 with_value given key (Some profile) =
     Ok (record { profile = profile; keys = slice_set given.keys ((row_of key).place - 1) true })
@@ -84,19 +84,19 @@ abbrev pub missing : Given → Option Key
 missing given = find (λ key. (row_of key).required && not (is_given given key)) all_keys
 
 -- the profile, if no required key is absent
-abbrev pub profile_unless : Given → Option Key → Result Profile TextFault
+abbrev pub profile_unless : Given → Option Key → Result Printer TextFault
 profile_unless given None = Ok given.profile
 profile_unless given (Some key) = Err (fault_at 0 (Missing (row_of key).place))
 
-abbrev pub profile_given : Result Given TextFault → Result Profile TextFault
+abbrev pub profile_given : Result Given TextFault → Result Printer TextFault
 profile_given (Err fault) = Err fault
 profile_given (Ok given) = profile_unless given (missing given)
 
-abbrev pub profile_of_lines : List (List ℕ) → Result Profile TextFault
+abbrev pub profile_of_lines : List (List ℕ) → Result Printer TextFault
 profile_of_lines [] = Err (fault_at 1 BadHead)
 profile_of_lines (first ∷ rest) =
     if bytes_eq first header then profile_given (with_lines 2 nothing rest) else Err (fault_at 1 BadHead)
 
 -- What a text means: a profile, or the first fault.
-unfoldable pub profile_text : List ℕ → Result Profile TextFault
+unfoldable pub profile_text : List ℕ → Result Printer TextFault
 profile_text text = profile_of_lines (lines text)

@@ -1,10 +1,8 @@
 -- Which profiles make sense.
-use Rattle.std.specs.Prelude.{ℕ, zero, suc, ◌%◌, Bool, not, ◌==◌, ◌&&◌, ◌||◌, nat_lt, if◌then◌else◌, List, [], ◌∷◌, Result, Ok, Err}
-use Rattle.printer_definitions.specs.Printer.{head_rows, nozzle_step}
-use Rattle.printer_profile.specs.declared.fields.Profile.{Profile}
+use Rattle.std.specs.Prelude.{ℕ, zero, suc, ◌%◌, Bool, true, not, ◌==◌, ◌&&◌, ◌||◌, nat_lt, if◌then◌else◌, List, [], ◌∷◌, slice_index, slice_index_or, Result, Ok, Err}
+use Rattle.printer_definitions.specs.Printer.{Printer, head_rows, nozzle_step}
 use Rattle.printer_profile.specs.declared.validity.ProfileFault.{ProfileFault}
 use Rattle.printer_profile.specs.declared.validity.ProfileFault.TheVariants as fault
-use Rattle.printer_profile.specs.Profiles.{printer_of}
 
 -- whether a number divides two others
 abbrev pub divides_both : ℕ → ℕ → ℕ → Bool
@@ -22,16 +20,31 @@ gcd_of a b = greatest_divisor a a b
 abbrev pub is_resolution : ℕ → Bool
 is_resolution dpi = (dpi == 360) || (dpi == 720)
 
+-- whether no number is below the one before
+abbrev pub is_rising : List ℕ → Bool
+is_rising [] = true
+is_rising (a ∷ []) = true
+is_rising (a ∷ b ∷ others) = not (nat_lt b a) && is_rising (b ∷ others)
+
+-- whether a curve begins with 0 and does not fall
+abbrev pub is_curve : List ℕ → Bool
+is_curve curve = (slice_index curve 0 == 0) && is_rising curve
+
+-- the fault of the curve at a place, with its test
+abbrev pub curve_test : Printer → ℕ → Bool × ProfileFault
+curve_test p ink = (not (is_curve (slice_index_or p.curves ink [])), fault.Curve ink)
+
 -- each fault of a profile with the test for it, in the order of the checks
-abbrev pub profile_tests : Profile → List (Bool × ProfileFault)
+abbrev pub profile_tests : Printer → List (Bool × ProfileFault)
 profile_tests p =
     (not (is_resolution p.hdpi) || not (is_resolution p.vdpi), fault.Resolution)
     ∷ (p.nozzles == 0, fault.Nozzles)
     ∷ (p.pitch == 0, fault.Pitch)
     ∷ (nat_lt 1 (gcd_of p.nozzles p.pitch), fault.NotCoprime (gcd_of p.nozzles p.pitch))
-    ∷ (nat_lt 255 (nozzle_step (printer_of p)), fault.RowStep)
-    ∷ (nat_lt p.top (head_rows (printer_of p)), fault.TopMargin (head_rows (printer_of p)))
+    ∷ (nat_lt 255 (nozzle_step p), fault.RowStep)
+    ∷ (nat_lt p.top (head_rows p), fault.TopMargin (head_rows p))
     ∷ (p.black_start == 255, fault.BlackStart)
+    ∷ curve_test p 0 ∷ curve_test p 1 ∷ curve_test p 2 ∷ curve_test p 3
     ∷ []
 
 -- the fault of the first test that holds
@@ -40,5 +53,5 @@ first_fault [] = Ok tt
 first_fault (test ∷ tests) = if test.0 then Err test.1 else first_fault tests
 
 -- a profile's first fault, if it has one
-abbrev pub check : Profile → Result (Unit {0}) ProfileFault
+abbrev pub check : Printer → Result (Unit {0}) ProfileFault
 check p = first_fault (profile_tests p)

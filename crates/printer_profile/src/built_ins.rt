@@ -2,7 +2,7 @@
 ghost use Rattle.printer_profile.specs.Profiles.{built_in as built_in_of};
 ghost use Rattle.std.specs.Prelude.{◌≡◌};
 
-use crate::fields::Profile;
+use crate::fields::{Profile, STRAIGHT_CURVE};
 use printer_definitions::InkSet;
 
 /// `tiny1`: 360 dots an inch, one nozzle, black, no margins.
@@ -14,6 +14,7 @@ pub const TINY1: Profile = Profile {
     inks: InkSet::K,
     black_start: 0,
     limits: [255, 255, 255, 255],
+    curves: [STRAIGHT_CURVE; 4],
     left: 0,
     right: 0,
     top: 0,
@@ -57,6 +58,7 @@ pub(crate) const P720CMYK: Profile = Profile {
     inks: InkSet::Cmyk,
     black_start: 64,
     limits: [255, 224, 224, 224],
+    curves: [STRAIGHT_CURVE; 4],
     left: 90,
     right: 90,
     top: 240,

@@ -6,6 +6,7 @@ ghost use Rattle.pwg_definitions.specs.Header.{IsWanted};
 use printer_definitions::InkSet;
 use pwg_definitions::{MOST_COLUMNS, MOST_ROWS, PageForm, Wanted};
 use separation_definitions::Window;
+use std::marker::Model;
 
 /// A printer as a profile describes it. The fields are independent: `check` says whether they make sense together.
 #[derive(Clone, Copy, Debug, PartialEq, Eq)]
@@ -23,6 +24,9 @@ pub struct Profile {
     pub black_start: u8,
     /// The greatest amounts of black, cyan, magenta and yellow, 0 to 255.
     pub limits: [u8; 4],
+    /// The tone curves of black, cyan, magenta and yellow: 17 points each, the tones of the amounts 0, 16, .. 256. No
+    /// point is above 256.
+    pub curves: [[u16; 17]; 4],
     /// The left margin in pixels of the page; so are the other three.
     pub left: u16,
     pub right: u16,
@@ -30,13 +34,29 @@ pub struct Profile {
     pub bottom: u16,
 }
 
-impl Profile {
-    ghost use Rattle.printer_profile.specs.Profiles.{printer_of};
+impl Model for Profile {
+    ghost use Rattle.printer_definitions.specs.Printer.{Printer};
+    ghost use Rattle.printer_profile.specs.Views.{HasPoints, fields_of, printer_in};
 
+    ghost Value = { Printer };
+
+    ghost view = { printer_in };
+
+    ghost inverse = { fields_of };
+
+    ghost invariant = { HasPoints };
+}
+
+/// The curve that leaves each amount as it is.
+pub const STRAIGHT_CURVE: [u16; 17] = [
+    0, 16, 32, 48, 64, 80, 96, 112, 128, 144, 160, 176, 192, 208, 224, 240, 256,
+];
+
+impl Profile {
     /// The pages that the printer takes: its resolution, and sizes in pixels that leave at least one inside the
     /// margins.
     pub fn wanted(&self) -> Wanted
-        ensures { result ≡ wanted_by (printer_of self.now) }
+        ensures { result ≡ wanted_by self.now }
     {
         Wanted {
             hdpi: u32::from(self.hdpi),
@@ -50,8 +70,8 @@ impl Profile {
 
     /// The part of a page inside the margins, in pixels.
     pub fn window(&self, f: PageForm) -> Window
-        requires { IsWanted (wanted_by (printer_of self.now)) f }
-        ensures { result ≡ window_of f (printer_of self.now) }
+        requires { IsWanted (wanted_by self.now) f }
+        ensures { result ≡ window_of f self.now }
     {
         let left = u32::from(self.left);
         let top = u32::from(self.top);

@@ -1,6 +1,5 @@
 //! What holds of all profiles.
 ghost use Rattle.separation_definitions.specs.CanPrint.{CanPrint};
-ghost use Rattle.printer_profile.specs.Profiles.{printer_of};
 ghost use Rattle.printer_profile.specs.Text.{profile_text, profile_text_of};
 ghost use Rattle.printer_profile.specs.Validity.{check};
 ghost use Rattle.std.specs.Int.{IsGcd};
@@ -21,7 +20,7 @@ pub fn printed_is_read(p: Profile)
 
 /// A printer that passes its checks can print: it meets what the laws of the page ask of a printer.
 pub fn checked_can_print(p: Profile)
-    ensures { IsOk (check p) → CanPrint (printer_of p) }
+    ensures { IsOk (check p) → CanPrint p }
 {}
 
 /// The nozzles and the pitch of a printer that passes its checks have no common divisor, so that its passes fire each

@@ -28,7 +28,7 @@ mod validity;
 mod values;
 
 pub use built_ins::{TINY, TINY1, built_in};
-pub use fields::Profile;
+pub use fields::{Profile, STRAIGHT_CURVE};
 pub use keys::key_name;
 pub use laws::{checked_can_print, checked_is_coprime, printed_is_read};
 pub use printer_definitions::InkSet;

@@ -6,7 +6,7 @@ ghost use Rattle.std.specs.Str.Lines.{lines};
 ghost use Rattle.std.specs.Char.{is_ascii};
 ghost use Rattle.std.specs.Prelude.{Some, ◌≡◌};
 
-use crate::fields::Profile;
+use crate::fields::{Profile, STRAIGHT_CURVE};
 use crate::keys::Key;
 use crate::lines::first_line;
 use crate::printing::HEADER;
@@ -80,6 +80,7 @@ impl Given {
                 inks: InkSet::K,
                 black_start: 0,
                 limits: [255, 255, 255, 255],
+                curves: [STRAIGHT_CURVE; 4],
                 left: 0,
                 right: 0,
                 top: 0,

@@ -25,6 +25,9 @@ pub enum ProfileFault {
     TopMargin { needs: u32 },
     #[error("no darkness is moved into black")]
     BlackStart,
+    /// The ink counts from 0 in the order black, cyan, magenta and yellow.
+    #[error("the curve of ink {ink} does not begin with 0, or it falls")]
+    Curve { ink: u8 },
 }
 
 /// The greatest common divisor.

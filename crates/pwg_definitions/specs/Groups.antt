@@ -1,4 +1,5 @@
--- The lines of a page (PWG 5102.4, section 4.4): packets, lines and groups of equal lines, spelled and read.
+-- The lines of a page (PWG 5102.4, section 4.4): packets, lines and groups of equal lines, spelled and read. A unit is a
+-- pixel, or a byte with eight pixels of one bit.
 use Rattle.std.specs.Prelude.{◌≡◌, ℕ, zero, suc, ◌+◌, ◌-◌, ◌*◌, ◌<◌, ◌≤◌, ◌==◌, nat_lt, if◌then◌else◌, List, [], ◌∷◌, ◌++◌, length, take}
 use Rattle.std.specs.Prelude.{drop, slice_index}
 use Rattle.std.specs.List.{flat_map}
@@ -9,13 +10,13 @@ use Rattle.pwg_definitions.specs.Header.{KindRow}
 
 -- ---- spelling
 
--- A part of a line: one pixel n times, white to the end of the line, or n pixels as they are.
+-- A part of a line: one unit n times, white to the end of the line, or n units as they are.
 pub data Packet : Type 0 where
   Run : ℕ → List ℕ → Packet
   Clear : Packet
   Literal : ℕ → List ℕ → Packet
 
--- n copies of a pixel
+-- n copies of a unit
 abbrev pub copies : ℕ → List ℕ → List ℕ
 copies zero unit = []
 copies (suc n) unit = unit ++ copies n unit
@@ -26,25 +27,25 @@ packet_spelling (Run n unit) = (n - 1) ∷ unit
 packet_spelling Clear = 128 ∷ []
 packet_spelling (Literal n bytes) = (257 - n) ∷ bytes
 
--- how many pixels a packet gives where the line has `left` pixels left
+-- how many units a packet gives where the line has `left` units left
 abbrev pub packet_units : ℕ → Packet → ℕ
 packet_units left (Run n unit) = n
 packet_units left Clear = left
 packet_units left (Literal n bytes) = n
 
--- the bytes that a packet gives where the line has `left` pixels left
+-- the bytes that a packet gives where the line has `left` units left
 abbrev pub packet_gives : KindRow → ℕ → Packet → List ℕ
 packet_gives row left (Run n unit) = copies n unit
 packet_gives row left Clear = copies left row.white
 packet_gives row left (Literal n bytes) = bytes
 
--- a packet fits a line that has `left` pixels left: a run of 1 to 128 pixels, white, or 2 to 128 pixels as they are
+-- a packet fits a line that has `left` units left: a run of 1 to 128 units, white, or 2 to 128 units as they are
 abbrev pub IsPacket : KindRow → ℕ → Packet → Type 0
 IsPacket row left (Run n unit) = (1 ≤ n) × (n ≤ most_units) × (n ≤ left) × (length unit ≡ row.unit)
 IsPacket row left Clear = 1 ≤ left
 IsPacket row left (Literal n bytes) = (2 ≤ n) × (n ≤ most_units) × (n ≤ left) × (length bytes ≡ n * row.unit)
 
--- the packets are a line of `left` pixels
+-- the packets are a line of `left` units
 abbrev pub SpellsLine : KindRow → ℕ → List Packet → Type 0
 SpellsLine row left [] = left ≡ 0
 SpellsLine row left (p ∷ packets) = IsPacket row left p × SpellsLine row (left - packet_units left p) packets
@@ -54,7 +55,7 @@ abbrev pub line_gives : KindRow → ℕ → List Packet → List ℕ
 line_gives row left [] = []
 line_gives row left (p ∷ packets) = packet_gives row left p ++ line_gives row (left - packet_units left p) packets
 
--- The bytes spell a group: this line of `units` pixels, `repeats` times, where the page has `left` lines left.
+-- The bytes spell a group: this line of `units` units, `repeats` times, where the page has `left` lines left.
 pub record SpellsGroup (row : KindRow) (units left : ℕ) (bytes : List ℕ) (repeats : ℕ) (line : List ℕ) : Type 0 where
   pub packets : List Packet
   pub spelling : bytes ≡ (repeats - 1) ∷ flat_map packet_spelling packets
@@ -70,13 +71,13 @@ IsBytes bytes = (k : ℕ) → slice_index bytes k < 256
 
 -- ---- reading
 
--- What the bytes begin with: a packet, and the bytes after it; a part of a packet; or a packet of too many pixels.
+-- What the bytes begin with: a packet, and the bytes after it; a part of a packet; or a packet of too many units.
 pub data PacketRead : Type 0 where
   One : Packet → List ℕ → PacketRead
   Short : PacketRead
   Long : PacketRead
 
--- how many pixels the packet with this first byte gives
+-- how many units the packet with this first byte gives
 abbrev pub units_of : ℕ → ℕ → ℕ
 units_of left n = if nat_lt n 128 then n + 1 else (if n == 128 then left else 257 - n)
 
@@ -91,7 +92,7 @@ packet_of row n bytes =
     if nat_lt n 128 then packet_from (Run (n + 1)) row.unit bytes
     else (if n == 128 then One Clear bytes else packet_from (Literal (257 - n)) ((257 - n) * row.unit) bytes)
 
--- the next packet, where the line has `left` pixels left
+-- the next packet, where the line has `left` units left
 abbrev pub packet_at : KindRow → ℕ → List ℕ → PacketRead
 packet_at row left [] = Short
 packet_at row left (n ∷ bytes) = if nat_lt left (units_of left n) then Long else packet_of row n bytes
@@ -117,7 +118,7 @@ with_packet row left p front = record {
   place = front.place + length (packet_spelling p);
 }
 
--- The group that is read in part, whose line has `left` pixels left, in at most `most` packets: each has a pixel or
+-- The group that is read in part, whose line has `left` units left, in at most `most` packets: each has a unit or
 -- more.
 unfoldable pub line_at : KindRow → ℕ → ℕ → GroupFront → List ℕ → GroupRead
 line_at row most zero front bytes = Group front.repeats front.line bytes
@@ -129,7 +130,7 @@ line_at row (suc most) (suc left) front bytes = elim (packet_at row (suc left) b
   | Long ↦ Wrong front.place RunPastLine
 ]
 
--- the next group, where a line has `units` pixels and the page has `left` lines left
+-- the next group, where a line has `units` units and the page has `left` lines left
 abbrev pub group_at : KindRow → ℕ → ℕ → List ℕ → GroupRead
 group_at row units left [] = Part
 group_at row units left (c ∷ bytes) =

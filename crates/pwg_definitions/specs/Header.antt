@@ -4,7 +4,7 @@ use Rattle.std.specs.Prelude.{length, take, drop, replicate, find, Option, Some,
 use Rattle.std.specs.List.{starts_with}
 use Rattle.std.specs.Int.{w32, from_be_bytes, to_be_bytes}
 use Rattle.pwg_definitions.specs.declared.pages.Kind.{Kind}
-use Rattle.pwg_definitions.specs.declared.pages.Kind.TheVariants.{Gray8, Black8, Rgb8}
+use Rattle.pwg_definitions.specs.declared.pages.Kind.TheVariants.{Gray8, Black8, Rgb8, Black1, Cmyk8}
 use Rattle.pwg_definitions.specs.declared.pages.PageForm.{PageForm}
 use Rattle.pwg_definitions.specs.declared.pages.Header.{Header}
 use Rattle.pwg_definitions.specs.declared.pages.Wanted.{Wanted}
@@ -14,8 +14,8 @@ use Rattle.pwg_definitions.specs.Limits.{header_length}
 
 -- ---- kinds of pixel
 
--- A row of the table of kinds: the numbers by which a header names the kind, the length of a pixel in bytes (`unit`),
--- and a white pixel.
+-- A row of the table of kinds: the numbers by which a header names the kind, the length in bytes of what packets of a
+-- line repeat (`unit`: a pixel, or eight pixels of one bit), and a white one.
 pub record KindRow : Type 0 where
   pub kind : Kind
   pub color_space : ℕ
@@ -50,6 +50,22 @@ row_of Rgb8 = record {
   unit = 3;
   white = 255 ∷ 255 ∷ 255 ∷ [];
 }
+row_of Black1 = record {
+  kind = Black1;
+  color_space = 3;
+  bits_per_color = 1;
+  bits_per_pixel = 1;
+  unit = 1;
+  white = 0 ∷ [];
+}
+row_of Cmyk8 = record {
+  kind = Cmyk8;
+  color_space = 6;
+  bits_per_color = 8;
+  bits_per_pixel = 32;
+  unit = 4;
+  white = 0 ∷ 0 ∷ 0 ∷ 0 ∷ [];
+}
 
 -- how many colours a pixel has
 abbrev pub colors_of : KindRow → ℕ
@@ -57,13 +73,13 @@ colors_of row = row.bits_per_pixel / row.bits_per_color
 
 -- the table of kinds
 abbrev pub kinds : List KindRow
-kinds = row_of Gray8 ∷ row_of Black8 ∷ row_of Rgb8 ∷ []
+kinds = row_of Gray8 ∷ row_of Black8 ∷ row_of Rgb8 ∷ row_of Black1 ∷ row_of Cmyk8 ∷ []
 
--- the bytes of a line: its bits, in whole bytes
+-- the bytes of a line: its bits, in whole bytes; bits past the last pixel mean nothing
 abbrev pub line_bytes : ℕ → ℕ → ℕ
 line_bytes width bits = (width * bits + 7) / 8
 
--- the pixels of a line
+-- the units of a line: its pixels, or its bytes where a byte has eight of them
 abbrev pub line_units : KindRow → ℕ → ℕ
 line_units row width = line_bytes width row.bits_per_pixel / row.unit
 

@@ -13,6 +13,6 @@ header_length = 1796
 abbrev pub most_repeats : ℕ
 most_repeats = 256
 
--- the most pixels of a packet (section 4.4)
+-- the most units of a packet (section 4.4)
 abbrev pub most_units : ℕ
 most_units = 128

@@ -24,7 +24,7 @@ pub enum HeaderFault {
 /// Why a group of lines is refused.
 #[derive(Clone, Copy, Debug, PartialEq, Eq)]
 pub enum LineFault {
-    /// A packet has more pixels than are left in the line.
+    /// A packet has more pixels, or more bytes of eight pixels, than are left in the line.
     RunPastLine,
     /// The line is repeated more often than the page has lines left.
     GroupPastPage,

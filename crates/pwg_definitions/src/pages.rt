@@ -10,33 +10,40 @@ pub enum Kind {
     Black8,
     /// Red, green and blue of 8 bits each (sRGB), side by side.
     Rgb8,
+    /// Black of one bit, 0 white. A byte has eight pixels, the first in its highest bit.
+    Black1,
+    /// Cyan, magenta, yellow and black of 8 bits each, side by side; 0 is white.
+    Cmyk8,
 }
 
 impl Kind {
     ghost use Rattle.pwg_definitions.specs.Header.{row_of};
 
-    /// How many bytes a pixel has: 1 or 3.
+    /// How many bytes the unit of a line has, which its packets repeat: a pixel of 1, 3 or 4 bytes, or eight pixels of
+    /// one bit.
     #[inline]
     pub fn unit(self) -> usize
         ensures value { result ≡ (row_of self).unit }
         ensures some { 1 ≤ result }
-        ensures few { result ≤ 3 }
+        ensures few { result ≤ 4 }
     {
         match self {
-            Kind::Gray8 | Kind::Black8 => 1,
+            Kind::Gray8 | Kind::Black8 | Kind::Black1 => 1,
             Kind::Rgb8 => 3,
+            Kind::Cmyk8 => 4,
         }
     }
 
-    /// A white pixel.
+    /// A white unit of a line: a white pixel, or eight of one bit.
     pub fn white(self) -> &'static [u8]
         ensures value { result.now ≡ (row_of self).white }
         ensures sized { length result.now ≡ (row_of self).unit }
     {
         match self {
             Kind::Gray8 => &[255],
-            Kind::Black8 => &[0],
+            Kind::Black8 | Kind::Black1 => &[0],
             Kind::Rgb8 => &[255, 255, 255],
+            Kind::Cmyk8 => &[0, 0, 0, 0],
         }
     }
 }
@@ -49,7 +56,7 @@ pub struct PageForm {
     /// Lines down the page.
     pub height: u32,
     pub kind: Kind,
-    /// Bytes of a line, the pixels of which are packed without gaps.
+    /// Bytes of a line, whose pixels are packed without gaps; bits past the last pixel mean nothing.
     pub bytes_per_line: u32,
 }
 
@@ -74,7 +81,7 @@ pub struct Header {
     pub bytes_per_line: u32,
     /// ColorOrder: 0 where the colours of a pixel are side by side.
     pub color_order: u32,
-    /// ColorSpace: 18 for grey, 3 for black, 19 for red, green and blue.
+    /// ColorSpace: 18 for grey, 3 for black, 19 for red, green and blue, 6 for cyan, magenta, yellow and black.
     pub color_space: u32,
     /// CrossFeedTransform: 0 or 1.
     pub cross_transform: u32,

@@ -10,8 +10,6 @@ use Rattle.job_player.specs.Outcome.{PlaysAll, PlaysSome, PlaysToStop, StopsInSh
 use Rattle.job_words.specs.declared.reading.Job.{Job}
 use Rattle.job_words.specs.declared.table.Verb.TheVariants as verb
 use Rattle.printer_definitions.specs.Printer.{Printer}
-use Rattle.printer_profile.specs.declared.fields.Profile.{Profile}
-use Rattle.printer_profile.specs.Profiles.{printer_of}
 use Rattle.driver_core.specs.Outside.{HasFailed, IsCalm, Outside, Outsides}
 use Rattle.driver_core.specs.Playing.Promises.{DotsPromises}
 use Rattle.driver_core.specs.Runs.Asking.{AsksFor}
@@ -30,63 +28,63 @@ plays_none p most input out unread unwritten = record {
   writes = appends_none out.before out.now unwritten;
 }
 
-play_zero : (words : List (List ℕ)) (o : Outsides) (a : Answer) (s : ℕ) (job : Job) (p : Profile)
+play_zero : (words : List (List ℕ)) (o : Outsides) (a : Answer) (s : ℕ) (job : Job) (p : Printer)
     → Outcome words o a → s ≡ status_of a → AsksFor words o.shelf.told verb.Dots job (Ok p) → s ≡ 0
-    → PlaysAll (printer_of p) job.most o.input o.out
+    → PlaysAll p job.most o.input o.out
 play_zero words o a s job p outcome is asks zero =
     let does = at_work words verb.Dots job p o a s is (λ e. omega arith) (λ e. omega arith) dots_is_none asks outcome in
-    play_done (printer_of p) job.most o.input o.out s a does.1 is zero
+    play_done p job.most o.input o.out s a does.1 is zero
 
-play_eight : (words : List (List ℕ)) (o : Outsides) (err : Outside) (a : Answer) (s : ℕ) (job : Job) (p : Profile)
+play_eight : (words : List (List ℕ)) (o : Outsides) (err : Outside) (a : Answer) (s : ℕ) (job : Job) (p : Printer)
     → Outcome words o a → Told err a → s ≡ status_of a → AsksFor words o.shelf.told verb.Dots job (Ok p) → s ≡ 8
     → (offset : ℕ) × (cause : JobStop)
-    × PlaysToStop (printer_of p) job.most o.input o.out offset cause × Tells err (answer.Job offset cause)
+    × PlaysToStop p job.most o.input o.out offset cause × Tells err (answer.Job offset cause)
 play_eight words o err a s job p outcome told is asks eight =
     let does = at_work words verb.Dots job p o a s is (λ e. omega arith) (λ e. omega arith) dots_is_none asks outcome in
-    let stop = play_stop (printer_of p) job.most o.input o.out s a does.1 is eight in
+    let stop = play_stop p job.most o.input o.out s a does.1 is eight in
     let T : Answer → Type 0 = λ b. Told err b in
     (stop.0, stop.1, stop.2, told_line err (answer.Job stop.0 stop.1) (subst T stop.3 told))
 
-play_stopped : (words : List (List ℕ)) (o : Outsides) (a : Answer) (s : ℕ) (job : Job) (p : Profile)
+play_stopped : (words : List (List ℕ)) (o : Outsides) (a : Answer) (s : ℕ) (job : Job) (p : Printer)
     → Outcome words o a → s ≡ status_of a → AsksFor words o.shelf.told verb.Dots job (Ok p) → (s ≡ 4) ⊎ (s ≡ 7)
-    → PlaysSome (printer_of p) job.most o.input o.out
+    → PlaysSome p job.most o.input o.out
 play_stopped words o a s job p outcome is asks which = by_case (has_profile words verb.Dots job p o a dots_is_none asks outcome)
   where
-    by_case : HasProfile words verb.Dots job p o a → PlaysSome (printer_of p) job.most o.input o.out
-    by_case (HasNone none untouched uncounted) = plays_none (printer_of p) job.most o.input o.out untouched.0 untouched.1
-    by_case (Does does) = play_some (printer_of p) job.most o.input o.out s a does.1 is which
+    by_case : HasProfile words verb.Dots job p o a → PlaysSome p job.most o.input o.out
+    by_case (HasNone none untouched uncounted) = plays_none p job.most o.input o.out untouched.0 untouched.1
+    by_case (Does does) = play_some p job.most o.input o.out s a does.1 is which
 
-play_five : (words : List (List ℕ)) (o : Outsides) (err : Outside) (a : Answer) (s : ℕ) (job : Job) (p : Profile)
+play_five : (words : List (List ℕ)) (o : Outsides) (err : Outside) (a : Answer) (s : ℕ) (job : Job) (p : Printer)
     → Outcome words o a → Told err a → s ≡ status_of a → AsksFor words o.shelf.told verb.Dots job (Ok p) → s ≡ 5
-    → (number : ℕ) × StopsInSheet (printer_of p) job.most o.input o.out number × Tells err (answer.Write number)
+    → (number : ℕ) × StopsInSheet p job.most o.input o.out number × Tells err (answer.Write number)
 play_five words o err a s job p outcome told is asks five =
     let does = at_work words verb.Dots job p o a s is (λ e. omega arith) (λ e. omega arith) dots_is_none asks outcome in
-    let part = play_part (printer_of p) job.most o.input o.out s a does.1 is five in
+    let part = play_part p job.most o.input o.out s a does.1 is five in
     let T : Answer → Type 0 = λ b. Told err b in
     (part.0, part.1, told_line err (answer.Write part.0) (subst T part.3 told))
 
-play_valid : (words : List (List ℕ)) (o : Outsides) (a : Answer) (s : ℕ) (job : Job) (p : Profile) (bytes : List ℕ)
+play_valid : (words : List (List ℕ)) (o : Outsides) (a : Answer) (s : ℕ) (job : Job) (p : Printer) (bytes : List ℕ)
     → Outcome words o a → s ≡ status_of a → AsksFor words o.shelf.told verb.Dots job (Ok p)
-    → o.input.before ≡ Some bytes → job_end bytes job.most (Some (printer_of p)) ≡ None
+    → o.input.before ≡ Some bytes → job_end bytes job.most (Some p) ≡ None
     → (HasFailed o.shelf → ⊥) → IsCalm o.input → IsCalm o.out → (s ≡ 0) ⊎ (s ≡ 7)
 play_valid words o a s job p bytes outcome is asks told whole calm calm_in calm_out =
     by_case (calm_work words verb.Dots job p o a s is calm dots_is_none asks outcome)
   where
     by_case : (s ≡ 7) ⊎ VerbOutcome verb.Dots job p o (metered job o.meters) a → (s ≡ 0) ⊎ (s ≡ 7)
     by_case (inl seven) = inr seven
-    by_case (inr does) = play_calm (printer_of p) job.most o.input o.out s a bytes does.1 is told whole calm_in calm_out
+    by_case (inr does) = play_calm p job.most o.input o.out s a bytes does.1 is told whole calm_in calm_out
 
 play_bad : (words : List (List ℕ)) (o : Outsides) (a : Answer) (s : ℕ)
-    (job : Job) (p : Profile) (bytes : List ℕ) (offset : ℕ) (cause : JobStop) → Outcome words o a → s ≡ status_of a
+    (job : Job) (p : Printer) (bytes : List ℕ) (offset : ℕ) (cause : JobStop) → Outcome words o a → s ≡ status_of a
     → AsksFor words o.shelf.told verb.Dots job (Ok p)
-    → o.input.before ≡ Some bytes → job_end bytes job.most (Some (printer_of p)) ≡ stopped offset cause
+    → o.input.before ≡ Some bytes → job_end bytes job.most (Some p) ≡ stopped offset cause
     → (HasFailed o.shelf → ⊥) → IsCalm o.input → IsCalm o.out → (s ≡ 8) ⊎ (s ≡ 7)
 play_bad words o a s job p bytes offset cause outcome is asks told stops calm calm_in calm_out =
     by_case (calm_work words verb.Dots job p o a s is calm dots_is_none asks outcome)
   where
     by_case : (s ≡ 7) ⊎ VerbOutcome verb.Dots job p o (metered job o.meters) a → (s ≡ 8) ⊎ (s ≡ 7)
     by_case (inl seven) = inr seven
-    by_case (inr does) = play_refused (printer_of p) job.most o.input o.out
+    by_case (inr does) = play_refused p job.most o.input o.out
         s a bytes offset cause does.1 is told stops calm_in calm_out
 
 pub dots_promises : (words : List (List ℕ)) (o : Outsides) (err : Outside) (a : Answer) (s : ℕ)

@@ -5,7 +5,7 @@ use Rattle.driver_answer.specs.declared.answer.Answer.{Answer}
 use Rattle.job_words.specs.declared.reading.Job.{Job}
 use Rattle.job_words.specs.declared.table.Verb.TheVariants as verb
 use Rattle.job_words.specs.declared.table.Verb.{Verb}
-use Rattle.printer_profile.specs.declared.fields.Profile.{Profile}
+use Rattle.printer_definitions.specs.Printer.{Printer}
 use Rattle.driver_core.specs.Outside.{HasFailed, Outsides}
 use Rattle.driver_core.specs.Runs.Asking.{AsksFor}
 use Rattle.driver_core.specs.Runs.Outcome.{Outcome, VerbOutcome, metered}
@@ -29,7 +29,7 @@ pub dots_is_none : verb.Dots ≡ verb.List → ⊥
 dots_is_none same = cc
 
 -- on every other status the command did its work
-pub at_work : (words : List (List ℕ)) (command : Verb) (job : Job) (p : Profile) (o : Outsides) (a : Answer) (s : ℕ)
+pub at_work : (words : List (List ℕ)) (command : Verb) (job : Job) (p : Printer) (o : Outsides) (a : Answer) (s : ℕ)
     → s ≡ status_of a → (s ≡ 4 → ⊥) → (s ≡ 7 → ⊥) → (command ≡ verb.List → ⊥)
     → AsksFor words o.shelf.told command job (Ok p) → Outcome words o a → VerbOutcome command job p o (metered job o.meters) a
 at_work words command job p o a s is not_read not_full other asks outcome = by_case (has_profile words command job p o a other asks outcome)
@@ -43,7 +43,7 @@ at_work words command job p o a s is not_read not_full other asks outcome = by_c
     by_case (Does does) = does
 
 -- nothing failed, so that a command that did not do its work ran out of memory
-pub calm_work : (words : List (List ℕ)) (command : Verb) (job : Job) (p : Profile) (o : Outsides) (a : Answer) (s : ℕ)
+pub calm_work : (words : List (List ℕ)) (command : Verb) (job : Job) (p : Printer) (o : Outsides) (a : Answer) (s : ℕ)
     → s ≡ status_of a → (HasFailed o.shelf → ⊥) → (command ≡ verb.List → ⊥)
     → AsksFor words o.shelf.told command job (Ok p) → Outcome words o a → (s ≡ 7) ⊎ VerbOutcome command job p o (metered job o.meters) a
 calm_work words command job p o a s is calm other asks outcome = by_case (has_profile words command job p o a other asks outcome)

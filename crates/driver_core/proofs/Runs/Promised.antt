@@ -16,8 +16,8 @@ use Rattle.job_words.specs.declared.table.Verb.TheVariants as verb
 use Rattle.job_words.specs.declared.table.Verb.{Verb}
 use Rattle.job_words.specs.declared.usage.UsageFault.{UsageFault}
 use Rattle.job_words.specs.Meaning.{job_meaning, profile_named}
-use Rattle.printer_profile.specs.declared.fields.Profile.{Profile}
-use Rattle.printer_profile.specs.Profiles.{built_in, printer_of}
+use Rattle.printer_definitions.specs.Printer.{Printer}
+use Rattle.printer_profile.specs.Profiles.{built_in}
 use Rattle.weave_base.specs.Parts.{AppendsPart}
 use Rattle.driver_core.specs.Outside.{HasFailed, HasRisen, Meters, Outside, Outsides, Untouched}
 use Rattle.driver_core.specs.Caps.{begun_by}
@@ -40,21 +40,21 @@ use Rattle.driver_core.proofs.Showing.Promised.{show_part}
 
 -- ---- the statuses that a command itself does not give
 
-verb_refuses_no_word : (v : Verb) (job : Job) (p : Profile) (o : Outsides) (meters : Meters) (fault : UsageFault)
+verb_refuses_no_word : (v : Verb) (job : Job) (p : Printer) (o : Outsides) (meters : Meters) (fault : UsageFault)
     → VerbOutcome v job p o meters (answer.Usage fault) → ⊥
 verb_refuses_no_word verb.Print job p o meters fault does = does
 verb_refuses_no_word verb.Dots job p o meters fault does = does.1
 verb_refuses_no_word verb.List job p o meters fault does = does
 verb_refuses_no_word verb.Profile job p o meters fault does = does.2
 
-verb_refuses_no_profile : (v : Verb) (job : Job) (p : Profile) (o : Outsides) (meters : Meters) (line : ℕ) (cause : ProfileCause)
+verb_refuses_no_profile : (v : Verb) (job : Job) (p : Printer) (o : Outsides) (meters : Meters) (line : ℕ) (cause : ProfileCause)
     → VerbOutcome v job p o meters (answer.Profile line cause) → ⊥
 verb_refuses_no_profile verb.Print job p o meters line cause does = does
 verb_refuses_no_profile verb.Dots job p o meters line cause does = does.1
 verb_refuses_no_profile verb.List job p o meters line cause does = does
 verb_refuses_no_profile verb.Profile job p o meters line cause does = does.2
 
-verb_refuses_none : (v : Verb) (job : Job) (p : Profile) (o : Outsides) (meters : Meters) (a : Answer) (s : ℕ)
+verb_refuses_none : (v : Verb) (job : Job) (p : Printer) (o : Outsides) (meters : Meters) (a : Answer) (s : ℕ)
     → VerbOutcome v job p o meters a → s ≡ status_of a → (s ≡ 1) ⊎ (s ≡ 2) → ⊥
 verb_refuses_none v job p o meters a s does is (inl one) =
     let at = is_usage a (sym one ∙ is) in
@@ -151,7 +151,7 @@ refused_status words command job refusal o a s outcome is other asks calm =
     by_case (WithoutShelf (ShelfFailed e failed none) untouched uncounted) = absurd (calm failed)
     by_case (WithoutShelf (ShelfFull e) untouched uncounted) = inr (is ∙ ap status_of e)
     by_case (IsRefused line cause same e untouched) = inl (is ∙ ap status_of e)
-    by_case (Works p same does) = absurd (let never : ◌≡◌ {A = Result Profile Refusal} (Err refusal) (Ok p) = same in cc)
+    by_case (Works p same does) = absurd (let never : ◌≡◌ {A = Result Printer Refusal} (Err refusal) (Ok p) = same in cc)
 
 -- ---- causes outside
 
@@ -165,9 +165,9 @@ read_status words o a s outcome is four = by_meaning (job_meaning words) outcome
     by_stop profile.Failed stopped e = stopped
     by_stop profile.Memory stopped e = absurd (omega arith)
 
-    by_verb : (v : Verb) (job : Job) (p : Profile) (meters : Meters) → VerbOutcome v job p o meters a → HasRisen o.input
-    by_verb verb.Print job p meters does = (print_some (printer_of p) (table_of job.kernel) o.input o.out meters s a does is four).0
-    by_verb verb.Dots job p meters does = (play_read (printer_of p) job.most o.input o.out s a does.1 is four).0
+    by_verb : (v : Verb) (job : Job) (p : Printer) (meters : Meters) → VerbOutcome v job p o meters a → HasRisen o.input
+    by_verb verb.Print job p meters does = (print_some p (table_of job.kernel) o.input o.out meters s a does is four).0
+    by_verb verb.Dots job p meters does = (play_read p job.most o.input o.out s a does.1 is four).0
     by_verb verb.List job p meters does = absurd does
     by_verb verb.Profile job p meters does =
         absurd (let never : ShowOutcome p o.out answer.Read = subst (ShowOutcome p o.out) (is_read a (sym four ∙ is)) does.2 in never)
@@ -187,9 +187,9 @@ write_status words o a s outcome is five = by_meaning (job_meaning words) outcom
     by_stop profile.Failed e = omega arith
     by_stop profile.Memory e = omega arith
 
-    by_verb : (v : Verb) (job : Job) (p : Profile) (meters : Meters) → VerbOutcome v job p o meters a → HasRisen o.out
-    by_verb verb.Print job p meters does = (print_part (printer_of p) (table_of job.kernel) o.input o.out meters s a does is five).3
-    by_verb verb.Dots job p meters does = (play_part (printer_of p) job.most o.input o.out s a does.1 is five).2
+    by_verb : (v : Verb) (job : Job) (p : Printer) (meters : Meters) → VerbOutcome v job p o meters a → HasRisen o.out
+    by_verb verb.Print job p meters does = (print_part p (table_of job.kernel) o.input o.out meters s a does is five).3
+    by_verb verb.Dots job p meters does = (play_part p job.most o.input o.out s a does.1 is five).2
     by_verb verb.List job p meters does = absurd does
     by_verb verb.Profile job p meters does = (show_part p o.out s a does.2 is five).1
 
@@ -209,14 +209,14 @@ of_print_status words o a s outcome is three = by_meaning (job_meaning words) re
     by_stop profile.Failed e = omega arith
     by_stop profile.Memory e = omega arith
 
-    plays_none : (job : Job) (p : Profile) → PlayOutcome (printer_of p) job.most o.input o.out a → ⊥
+    plays_none : (job : Job) (p : Printer) → PlayOutcome p job.most o.input o.out a → ⊥
     plays_none job p does =
-        let at = is_input a (sym three ∙ is) in subst (PlayOutcome (printer_of p) job.most o.input o.out) at.3 does
+        let at = is_input a (sym three ∙ is) in subst (PlayOutcome p job.most o.input o.out) at.3 does
 
-    shows_none : (p : Profile) → ShowOutcome p o.out a → ⊥
+    shows_none : (p : Printer) → ShowOutcome p o.out a → ⊥
     shows_none p does = let at = is_input a (sym three ∙ is) in subst (ShowOutcome p o.out) at.3 does
 
-    by_verb : (job : Job) (p : Profile) (v : Verb) → job.verb ≡ v
+    by_verb : (job : Job) (p : Printer) (v : Verb) → job.verb ≡ v
         → VerbOutcome v job p o (metered job o.meters) a → job.verb ≡ verb.Print
     by_verb job p verb.Print command_is does = command_is
     by_verb job p verb.Dots command_is does = absurd (plays_none job p does.1)
@@ -240,16 +240,16 @@ of_job_status words o a s outcome is eight = by_meaning (job_meaning words) refl
     by_stop profile.Failed e = omega arith
     by_stop profile.Memory e = omega arith
 
-    print_plays_none : (job : Job) (p : Profile)
-        → PrintOutcome (printer_of p) (table_of job.kernel) o.input o.out (metered job o.meters) a → ⊥
+    print_plays_none : (job : Job) (p : Printer)
+        → PrintOutcome p (table_of job.kernel) o.input o.out (metered job o.meters) a → ⊥
     print_plays_none job p does =
         let at = is_job a (sym eight ∙ is) in
-        subst (PrintOutcome (printer_of p) (table_of job.kernel) o.input o.out (metered job o.meters)) at.2 does
+        subst (PrintOutcome p (table_of job.kernel) o.input o.out (metered job o.meters)) at.2 does
 
-    show_plays_none : (p : Profile) → ShowOutcome p o.out a → ⊥
+    show_plays_none : (p : Printer) → ShowOutcome p o.out a → ⊥
     show_plays_none p does = let at = is_job a (sym eight ∙ is) in subst (ShowOutcome p o.out) at.2 does
 
-    by_verb : (job : Job) (p : Profile) (v : Verb) → job.verb ≡ v
+    by_verb : (job : Job) (p : Printer) (v : Verb) → job.verb ≡ v
         → VerbOutcome v job p o (metered job o.meters) a → (job.verb ≡ verb.List) ⊎ (job.verb ≡ verb.Dots)
     by_verb job p verb.Print command_is does = absurd (print_plays_none job p does)
     by_verb job p verb.Dots command_is does = inr command_is
@@ -302,18 +302,18 @@ over_status words o err a s outcome told is six = by_meaning (job_meaning words)
     by_stop profile.Failed e = omega arith
     by_stop profile.Memory e = omega arith
 
-    plays_under : (p : Profile) (job : Job) → PlayOutcome (printer_of p) job.most o.input o.out a → ⊥
+    plays_under : (p : Printer) (job : Job) → PlayOutcome p job.most o.input o.out a → ⊥
     plays_under p job does =
-        let at = is_over_cap a (sym six ∙ is) in subst (PlayOutcome (printer_of p) job.most o.input o.out) at.4 does
+        let at = is_over_cap a (sym six ∙ is) in subst (PlayOutcome p job.most o.input o.out) at.4 does
 
-    shows_under : (p : Profile) → ShowOutcome p o.out a → ⊥
+    shows_under : (p : Printer) → ShowOutcome p o.out a → ⊥
     shows_under p does = let at = is_over_cap a (sym six ∙ is) in subst (ShowOutcome p o.out) at.4 does
 
-    by_verb : (job : Job) (p : Profile) → job_meaning words ≡ Ok job
+    by_verb : (job : Job) (p : Printer) → job_meaning words ≡ Ok job
         → IsJobProfile o.shelf.told (profile_named words) (Ok p) → (v : Verb) → job.verb ≡ v
         → VerbOutcome v job p o (metered job o.meters) a → WentOver words o err
     by_verb job p means has verb.Print command_is does =
-        let over = print_over (printer_of p) (table_of job.kernel) o.input o.out (metered job o.meters) s a does is six in
+        let over = print_over p (table_of job.kernel) o.input o.out (metered job o.meters) s a does is six in
         let T : Answer → Type 0 = λ b. Told err b in (
           job,
           p,
@@ -356,7 +356,7 @@ unmetered_job words job o a outcome means unprinted =
     before : (metered job o.meters).before ≡ o.meters.before
     before = begun job.verb unprinted
 
-    by_verb : (v : Verb) (p : Profile) → (v ≡ verb.Print → ⊥)
+    by_verb : (v : Verb) (p : Printer) → (v ≡ verb.Print → ⊥)
         → VerbOutcome v job p o (metered job o.meters) a → o.meters.now ≡ (metered job o.meters).before
     by_verb verb.Print p other does = absurd (other refl)
     by_verb verb.Dots p other does = does.0

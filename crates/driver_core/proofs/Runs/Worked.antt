@@ -10,8 +10,7 @@ use Rattle.job_words.specs.declared.table.Verb.{Verb}
 use Rattle.job_words.specs.declared.table.Verb.TheVariants as verb
 use Rattle.job_words.specs.declared.usage.UsageFault.{UsageFault}
 use Rattle.job_words.specs.Meaning.{job_meaning, profile_named}
-use Rattle.printer_profile.specs.declared.fields.Profile.{Profile}
-use Rattle.printer_profile.specs.Profiles.{printer_of}
+use Rattle.printer_definitions.specs.Printer.{Printer}
 use Rattle.driver_core.specs.Caps.{begun_by}
 use Rattle.driver_core.specs.Listing.Outcome.{ListOutcome}
 use Rattle.driver_core.specs.Outside.{Outsides}
@@ -20,25 +19,25 @@ use Rattle.driver_core.specs.Printing.Outcome.{PrintOutcome}
 use Rattle.driver_core.specs.Runs.Outcome.{LineOutcome, Outcome, VerbOutcome, metered}
 use Rattle.driver_core.specs.Showing.Outcome.{ShowOutcome}
 
-worked : (words : List (List ℕ)) (job : Job) (p : Profile) (o : Outsides) (a : Answer)
+worked : (words : List (List ℕ)) (job : Job) (p : Printer) (o : Outsides) (a : Answer)
     → Ok job ≡ job_meaning words → IsJobProfile o.shelf.told (profile_named words) (Ok p)
     → VerbOutcome job.verb job p o (metered job o.meters) a → Outcome words o a
 worked words job p o a means has outcome =
     let L : Result Job UsageFault → Type 0 = λ r. LineOutcome r (profile_named words) o a in
     subst L means (inr (inr (record { p = p; is = has; outcome = outcome })))
 
-pub printed : (words : List (List ℕ)) (job : Job) (p : Profile) (o : Outsides)
+pub printed : (words : List (List ℕ)) (job : Job) (p : Printer) (o : Outsides)
     (set : List Account) (a : Answer) → Ok job ≡ job_meaning words → job.verb ≡ verb.Print
     → IsJobProfile o.shelf.told (profile_named words) (Ok p) → set ≡ begun_by job.verb job.cap o.meters.before
-    → PrintOutcome (printer_of p) (table_of job.kernel) o.input o.out
+    → PrintOutcome p (table_of job.kernel) o.input o.out
     (record { before = set; now = o.meters.now }) a → Outcome words o a
 printed words job p o set a means command_is has is does =
     let M : List Account → Type 0 = λ accounts. PrintOutcome
-    (printer_of p) (table_of job.kernel) o.input o.out (record { before = accounts; now = o.meters.now }) a in
+    p (table_of job.kernel) o.input o.out (record { before = accounts; now = o.meters.now }) a in
     let V : Verb → Type 0 = λ v. VerbOutcome v job p o (metered job o.meters) a in
     worked words job p o a means has (subst V (sym command_is) (subst M is does))
 
-pub shown : (words : List (List ℕ)) (job : Job) (p : Profile) (o : Outsides) (a : Answer)
+pub shown : (words : List (List ℕ)) (job : Job) (p : Printer) (o : Outsides) (a : Answer)
     → Ok job ≡ job_meaning words → job.verb ≡ verb.Profile
     → IsJobProfile o.shelf.told (profile_named words) (Ok p)
     → Keeps o.input.before o.input.now → o.meters.now ≡ begun_by job.verb job.cap o.meters.before
@@ -47,10 +46,10 @@ shown words job p o a means command_is has unread is does =
     let V : Verb → Type 0 = λ v. VerbOutcome v job p o (metered job o.meters) a in
     worked words job p o a means has (subst V (sym command_is) (unread, is, does))
 
-pub played : (words : List (List ℕ)) (job : Job) (p : Profile) (o : Outsides) (a : Answer)
+pub played : (words : List (List ℕ)) (job : Job) (p : Printer) (o : Outsides) (a : Answer)
     → Ok job ≡ job_meaning words → job.verb ≡ verb.Dots
     → IsJobProfile o.shelf.told (profile_named words) (Ok p) → o.meters.now ≡ begun_by job.verb job.cap o.meters.before
-    → PlayOutcome (printer_of p) job.most o.input o.out a → Outcome words o a
+    → PlayOutcome p job.most o.input o.out a → Outcome words o a
 played words job p o a means command_is has is does =
     let V : Verb → Type 0 = λ v. VerbOutcome v job p o (metered job o.meters) a in
     worked words job p o a means has (subst V (sym command_is) (is, does))

@@ -9,7 +9,7 @@ use Rattle.job_words.specs.declared.table.Verb.TheVariants as verb
 use Rattle.job_words.specs.declared.table.Verb.{Verb}
 use Rattle.job_words.specs.declared.usage.UsageFault.{UsageFault}
 use Rattle.job_words.specs.Meaning.{job_meaning, profile_named}
-use Rattle.printer_profile.specs.declared.fields.Profile.{Profile}
+use Rattle.printer_definitions.specs.Printer.{Printer}
 use Rattle.printer_profile.specs.Text.{profile_text_of}
 use Rattle.weave_base.specs.Parts.{AppendsPart}
 use Rattle.driver_core.specs.Outside.{HasFailed, HasRisen, IsCalm, Outside, Outsides}
@@ -23,23 +23,23 @@ use Rattle.driver_core.proofs.Runs.Asked.HasProfile.{HasNone, Does}
 use Rattle.driver_core.proofs.Runs.AtWork.{at_work, calm_work, profile_is_none}
 use Rattle.driver_core.proofs.Runs.Statuses.{is_done, is_memory, is_read, is_write}
 
-show_done : (p : Profile) (out : Outside) (s : ℕ) (a : Answer) → ShowOutcome p out a → s ≡ status_of a → s ≡ 0
+show_done : (p : Printer) (out : Outside) (s : ℕ) (a : Answer) → ShowOutcome p out a → s ≡ status_of a → s ≡ 0
     → Appends out.before out.now (profile_text_of p)
 show_done p out s a does e zero = subst (ShowOutcome p out) (is_done a (sym zero ∙ e)) does
 
-pub show_part : (p : Profile) (out : Outside) (s : ℕ) (a : Answer) → ShowOutcome p out a → s ≡ status_of a → s ≡ 5
+pub show_part : (p : Printer) (out : Outside) (s : ℕ) (a : Answer) → ShowOutcome p out a → s ≡ status_of a → s ≡ 5
     → AppendsPart out.before out.now (profile_text_of p) × HasRisen out × (a ≡ answer.Write 0)
 show_part p out s a does e five =
     let at = is_write a (sym five ∙ e) in
     let stops : ShowOutcome p out (answer.Write at.0) = subst (ShowOutcome p out) at.1 does in
     (stops.2, stops.1, at.1 ∙ ap answer.Write stops.0)
 
-show_none : (p : Profile) (out : Outside) (s : ℕ) (a : Answer) → ShowOutcome p out a → s ≡ status_of a → (s ≡ 4) ⊎ (s ≡ 7)
+show_none : (p : Printer) (out : Outside) (s : ℕ) (a : Answer) → ShowOutcome p out a → s ≡ status_of a → (s ≡ 4) ⊎ (s ≡ 7)
     → Keeps out.before out.now
 show_none p out s a does e (inl four) = absurd (let never : ShowOutcome p out answer.Read = subst (ShowOutcome p out) (is_read a (sym four ∙ e)) does in never)
 show_none p out s a does e (inr seven) = subst (ShowOutcome p out) (is_memory a (sym seven ∙ e)) does
 
-show_calm : (p : Profile) (out : Outside) (s : ℕ) (a : Answer) → ShowOutcome p out a → s ≡ status_of a → IsCalm out → (s ≡ 0) ⊎ (s ≡ 7)
+show_calm : (p : Printer) (out : Outside) (s : ℕ) (a : Answer) → ShowOutcome p out a → s ≡ status_of a → IsCalm out → (s ≡ 0) ⊎ (s ≡ 7)
 show_calm p out s answer.Done does e calm = inl e
 show_calm p out s (answer.Write page) does e calm = absurd (calm does.1)
 show_calm p out s answer.Memory does e calm = inr e
@@ -50,7 +50,7 @@ show_calm p out s answer.Read does e calm = absurd does
 show_calm p out s (answer.OverCap page total dots cap) does e calm = absurd does
 show_calm p out s (answer.Job offset cause) does e calm = absurd does
 
-show_valid : (words : List (List ℕ)) (o : Outsides) (a : Answer) (s : ℕ) (job : Job) (p : Profile)
+show_valid : (words : List (List ℕ)) (o : Outsides) (a : Answer) (s : ℕ) (job : Job) (p : Printer)
     → Outcome words o a → s ≡ status_of a → AsksFor words o.shelf.told verb.Profile job (Ok p)
     → (HasFailed o.shelf → ⊥) → IsCalm o.out → (s ≡ 0) ⊎ (s ≡ 7)
 show_valid words o a s job p outcome is asks calm calm_out =
@@ -60,14 +60,14 @@ show_valid words o a s job p outcome is asks calm calm_out =
     by_case (inl seven) = inr seven
     by_case (inr does) = show_calm p o.out s a does.2 is calm_out
 
-show_zero : (words : List (List ℕ)) (o : Outsides) (a : Answer) (s : ℕ) (job : Job) (p : Profile)
+show_zero : (words : List (List ℕ)) (o : Outsides) (a : Answer) (s : ℕ) (job : Job) (p : Printer)
     → Outcome words o a → s ≡ status_of a → AsksFor words o.shelf.told verb.Profile job (Ok p) → s ≡ 0
     → Appends o.out.before o.out.now (profile_text_of p)
 show_zero words o a s job p outcome is asks zero =
     let does = at_work words verb.Profile job p o a s is (λ e. omega arith) (λ e. omega arith) profile_is_none asks outcome in
     show_done p o.out s a does.2 is zero
 
-show_five : (words : List (List ℕ)) (o : Outsides) (err : Outside) (a : Answer) (s : ℕ) (job : Job) (p : Profile)
+show_five : (words : List (List ℕ)) (o : Outsides) (err : Outside) (a : Answer) (s : ℕ) (job : Job) (p : Printer)
     → Outcome words o a → Told err a → s ≡ status_of a → AsksFor words o.shelf.told verb.Profile job (Ok p) → s ≡ 5
     → AppendsPart o.out.before o.out.now (profile_text_of p) × Tells err (answer.Write 0)
 show_five words o err a s job p outcome told is asks five =
@@ -76,7 +76,7 @@ show_five words o err a s job p outcome told is asks five =
     let T : Answer → Type 0 = λ b. Told err b in
     (part.0, told_line err (answer.Write 0) (subst T part.2 told))
 
-show_stopped : (words : List (List ℕ)) (o : Outsides) (a : Answer) (s : ℕ) (job : Job) (p : Profile)
+show_stopped : (words : List (List ℕ)) (o : Outsides) (a : Answer) (s : ℕ) (job : Job) (p : Printer)
     → Outcome words o a → s ≡ status_of a → AsksFor words o.shelf.told verb.Profile job (Ok p) → (s ≡ 4) ⊎ (s ≡ 7)
     → Keeps o.out.before o.out.now
 show_stopped words o a s job p outcome is asks which = by_case (has_profile words verb.Profile job p o a profile_is_none asks outcome)

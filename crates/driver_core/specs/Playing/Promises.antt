@@ -6,8 +6,7 @@ use Rattle.escp2_definitions.specs.JobEnds.{job_end, stopped}
 use Rattle.job_player.specs.Outcome.{PlaysAll, PlaysSome, PlaysToStop, StopsInSheet}
 use Rattle.job_words.specs.declared.reading.Job.{Job}
 use Rattle.job_words.specs.declared.table.Verb.TheVariants as verb
-use Rattle.printer_profile.specs.declared.fields.Profile.{Profile}
-use Rattle.printer_profile.specs.Profiles.{printer_of}
+use Rattle.printer_definitions.specs.Printer.{Printer}
 use Rattle.driver_core.specs.Outside.{HasFailed, IsCalm, Outside, Outsides}
 use Rattle.driver_core.specs.Runs.Outcome.{Tells}
 use Rattle.driver_core.specs.Runs.Asking.{AsksFor}
@@ -16,23 +15,23 @@ use Rattle.driver_core.specs.Runs.Asking.{AsksFor}
 -- returns.
 pub record DotsPromises (words : List (List ℕ)) (o : Outsides) (err : Outside) (status : ℕ) : Type 0 where
   -- On 0 the whole job was read, nothing stops it, and `dots` wrote the images of its sheets.
-  pub played : (job : Job) (p : Profile) → AsksFor words o.shelf.told verb.Dots job (Ok p) → status ≡ 0
-      → PlaysAll (printer_of p) job.most o.input o.out
+  pub played : (job : Job) (p : Printer) → AsksFor words o.shelf.told verb.Dots job (Ok p) → status ≡ 0
+      → PlaysAll p job.most o.input o.out
   -- On 8 the job stops, the error line says where and why, and the images of the sheets before that were written.
-  pub played_to_stop : (job : Job) (p : Profile) → AsksFor words o.shelf.told verb.Dots job (Ok p) → status ≡ 8
-      → (offset : ℕ) × (cause : JobStop) × PlaysToStop (printer_of p) job.most o.input o.out offset cause
+  pub played_to_stop : (job : Job) (p : Printer) → AsksFor words o.shelf.told verb.Dots job (Ok p) → status ≡ 8
+      → (offset : ℕ) × (cause : JobStop) × PlaysToStop p job.most o.input o.out offset cause
       × Tells err (answer.Job offset cause)
   -- On 4 and 7 the images of some first sheets of what was read were written; on 5 those before the named sheet, and
   -- a proper prefix of its own.
-  pub played_some : (job : Job) (p : Profile) → AsksFor words o.shelf.told verb.Dots job (Ok p) → (status ≡ 4) ⊎ (status ≡ 7)
-      → PlaysSome (printer_of p) job.most o.input o.out
-  pub played_part : (job : Job) (p : Profile) → AsksFor words o.shelf.told verb.Dots job (Ok p) → status ≡ 5
-      → (number : ℕ) × StopsInSheet (printer_of p) job.most o.input o.out number × Tells err (answer.Write number)
+  pub played_some : (job : Job) (p : Printer) → AsksFor words o.shelf.told verb.Dots job (Ok p) → (status ≡ 4) ⊎ (status ≡ 7)
+      → PlaysSome p job.most o.input o.out
+  pub played_part : (job : Job) (p : Printer) → AsksFor words o.shelf.told verb.Dots job (Ok p) → status ≡ 5
+      → (number : ℕ) × StopsInSheet p job.most o.input o.out number × Tells err (answer.Write number)
   -- Where nothing fails, the job and the printer decide between 0 and 8.
-  pub valid_dots : (job : Job) (p : Profile) (bytes : List ℕ) → AsksFor words o.shelf.told verb.Dots job (Ok p)
-      → o.input.before ≡ Some bytes → job_end bytes job.most (Some (printer_of p)) ≡ None
+  pub valid_dots : (job : Job) (p : Printer) (bytes : List ℕ) → AsksFor words o.shelf.told verb.Dots job (Ok p)
+      → o.input.before ≡ Some bytes → job_end bytes job.most (Some p) ≡ None
       → (HasFailed o.shelf → ⊥) → IsCalm o.input → IsCalm o.out → (status ≡ 0) ⊎ (status ≡ 7)
-  pub refused_dots : (job : Job) (p : Profile) (bytes : List ℕ) (offset : ℕ) (cause : JobStop)
+  pub refused_dots : (job : Job) (p : Printer) (bytes : List ℕ) (offset : ℕ) (cause : JobStop)
       → AsksFor words o.shelf.told verb.Dots job (Ok p) → o.input.before ≡ Some bytes
-      → job_end bytes job.most (Some (printer_of p)) ≡ stopped offset cause
+      → job_end bytes job.most (Some p) ≡ stopped offset cause
       → (HasFailed o.shelf → ⊥) → IsCalm o.input → IsCalm o.out → (status ≡ 8) ⊎ (status ≡ 7)

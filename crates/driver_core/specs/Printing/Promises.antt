@@ -8,8 +8,7 @@ use Rattle.job_words.specs.declared.reading.Job.{Job}
 use Rattle.job_words.specs.declared.table.Verb.TheVariants as verb
 use Rattle.job_words.specs.Meaning.{job_meaning, profile_named}
 use Rattle.ink_meter.specs.Counts.{Admitted, counted, page_dots}
-use Rattle.printer_profile.specs.declared.fields.Profile.{Profile}
-use Rattle.printer_profile.specs.Profiles.{printer_of}
+use Rattle.printer_definitions.specs.Printer.{Printer}
 use Rattle.pwg_definitions.specs.declared.faults.InputCause.{InputCause}
 use Rattle.pwg_definitions.specs.Stream.{Page, StreamEnd, stream}
 use Rattle.pwg_definitions.specs.Stream.StreamEnd.{Done, Fault}
@@ -25,49 +24,49 @@ use Rattle.driver_core.specs.Runs.Asking.{AsksFor}
 pub record PrintPromises (words : List (List ℕ)) (o : Outsides) (err : Outside) (status : ℕ) : Type 0 where
   -- A valid job prints unless something outside fails or memory runs out: its stream has a clean end, and no page
   -- goes past the cap of a meter.
-  pub valid : (job : Job) (p : Profile) (bytes : List ℕ) (pages : List Page) → AsksFor words o.shelf.told verb.Print job (Ok p)
-      → o.input.before ≡ Some bytes → stream (wanted_by (printer_of p)) bytes ≡ record { pages = pages; end = Done }
-      → Admitted (printer_of p) (table_of job.kernel) pages (metered job o.meters).before → NothingFailed o → (status ≡ 0) ⊎ (status ≡ 7)
+  pub valid : (job : Job) (p : Printer) (bytes : List ℕ) (pages : List Page) → AsksFor words o.shelf.told verb.Print job (Ok p)
+      → o.input.before ≡ Some bytes → stream (wanted_by p) bytes ≡ record { pages = pages; end = Done }
+      → Admitted p (table_of job.kernel) pages (metered job o.meters).before → NothingFailed o → (status ≡ 0) ⊎ (status ≡ 7)
   -- On 0 all pages of the input are printed: the bytes that were written print exactly their dots. Each meter counted
   -- them.
-  pub printed : (job : Job) (p : Profile) → AsksFor words o.shelf.told verb.Print job (Ok p) → status ≡ 0
-      → (all : PrintsAll (printer_of p) (table_of job.kernel) o.input o.out)
-      × CountsPages (printer_of p) (table_of job.kernel) (metered job o.meters) all.pages
+  pub printed : (job : Job) (p : Printer) → AsksFor words o.shelf.told verb.Print job (Ok p) → status ≡ 0
+      → (all : PrintsAll p (table_of job.kernel) o.input o.out)
+      × CountsPages p (table_of job.kernel) (metered job o.meters) all.pages
   -- On 3 the error line names the fault; only the pages before it were written and counted.
-  pub input : (job : Job) (p : Profile) → AsksFor words o.shelf.told verb.Print job (Ok p) → status ≡ 3
+  pub input : (job : Job) (p : Printer) → AsksFor words o.shelf.told verb.Print job (Ok p) → status ≡ 3
       → (page line : ℕ) × (cause : InputCause)
-      × (meets : MeetsFault (printer_of p) (table_of job.kernel) o.input o.out page line cause)
-      × CountsPages (printer_of p) (table_of job.kernel) (metered job o.meters) meets.pages
+      × (meets : MeetsFault p (table_of job.kernel) o.input o.out page line cause)
+      × CountsPages p (table_of job.kernel) (metered job o.meters) meets.pages
       × Tells err (answer.Input page line cause)
-  pub refused : (job : Job) (p : Profile) (bytes : List ℕ) (pages : List Page) (page line : ℕ) (cause : InputCause)
+  pub refused : (job : Job) (p : Printer) (bytes : List ℕ) (pages : List Page) (page line : ℕ) (cause : InputCause)
       → AsksFor words o.shelf.told verb.Print job (Ok p)
-      → o.input.before ≡ Some bytes → stream (wanted_by (printer_of p)) bytes ≡ record { pages = pages; end = Fault page line cause }
-      → Admitted (printer_of p) (table_of job.kernel) pages (metered job o.meters).before
+      → o.input.before ≡ Some bytes → stream (wanted_by p) bytes ≡ record { pages = pages; end = Fault page line cause }
+      → Admitted p (table_of job.kernel) pages (metered job o.meters).before
       → NothingFailed o → (status ≡ 3) ⊎ (status ≡ 7)
   -- On 4 and 7 some first pages of what was read were written whole, and nothing else. On 4 these are counted; on 7
   -- these, or these and the next page.
-  pub stopped : (job : Job) (p : Profile) → AsksFor words o.shelf.told verb.Print job (Ok p) → status ≡ 4
-      → (some : PrintsSome (printer_of p) (table_of job.kernel) o.input o.out)
-      × CountsPages (printer_of p) (table_of job.kernel) (metered job o.meters) some.pages
-  pub full : (job : Job) (p : Profile) → AsksFor words o.shelf.told verb.Print job (Ok p) → status ≡ 7
-      → (some : PrintsSome (printer_of p) (table_of job.kernel) o.input o.out)
-      × (CountsPages (printer_of p) (table_of job.kernel) (metered job o.meters) some.pages
-      ⊎ CountsOneMore (printer_of p) (table_of job.kernel) (metered job o.meters) some.pages some.taken.others)
+  pub stopped : (job : Job) (p : Printer) → AsksFor words o.shelf.told verb.Print job (Ok p) → status ≡ 4
+      → (some : PrintsSome p (table_of job.kernel) o.input o.out)
+      × CountsPages p (table_of job.kernel) (metered job o.meters) some.pages
+  pub full : (job : Job) (p : Printer) → AsksFor words o.shelf.told verb.Print job (Ok p) → status ≡ 7
+      → (some : PrintsSome p (table_of job.kernel) o.input o.out)
+      × (CountsPages p (table_of job.kernel) (metered job o.meters) some.pages
+      ⊎ CountsOneMore p (table_of job.kernel) (metered job o.meters) some.pages some.taken.others)
   -- On 5 a proper prefix of the named page was written after the pages before it; it is counted with them.
-  pub part : (job : Job) (p : Profile) → AsksFor words o.shelf.told verb.Print job (Ok p) → status ≡ 5
-      → (number : ℕ) × (stops : StopsInPage (printer_of p) (table_of job.kernel) o.input o.out number)
-      × CountsPages (printer_of p) (table_of job.kernel) (metered job o.meters) (stops.pages ++ stops.page ∷ [])
+  pub part : (job : Job) (p : Printer) → AsksFor words o.shelf.told verb.Print job (Ok p) → status ≡ 5
+      → (number : ℕ) × (stops : StopsInPage p (table_of job.kernel) o.input o.out number)
+      × CountsPages p (table_of job.kernel) (metered job o.meters) (stops.pages ++ stops.page ∷ [])
       × Tells err (answer.Write number)
   -- On 6 the named page was read whole, and goes past the cap of the first meter without room for it. Only the pages
   -- before it were written and counted.
-  pub over : status ≡ 6 → (job : Job) × (p : Profile) × (job_meaning words ≡ Ok job) × (job.verb ≡ verb.Print)
+  pub over : status ≡ 6 → (job : Job) × (p : Printer) × (job_meaning words ≡ Ok job) × (job.verb ≡ verb.Print)
       × IsJobProfile o.shelf.told (profile_named words) (Ok p) × (page total dots cap : ℕ)
-      × GoesOver (printer_of p) (table_of job.kernel) o.input o.out (metered job o.meters) page total dots cap
+      × GoesOver p (table_of job.kernel) o.input o.out (metered job o.meters) page total dots cap
       × Tells err (answer.OverCap page total dots cap)
   -- The first page that goes past a cap is refused, whatever follows it.
-  pub capped : (job : Job) (p : Profile) (bytes : List ℕ) (pages later : List Page) (page : Page) (end : StreamEnd)
+  pub capped : (job : Job) (p : Printer) (bytes : List ℕ) (pages later : List Page) (page : Page) (end : StreamEnd)
       → AsksFor words o.shelf.told verb.Print job (Ok p) → o.input.before ≡ Some bytes
-      → stream (wanted_by (printer_of p)) bytes ≡ record { pages = pages ++ page ∷ later; end = end }
+      → stream (wanted_by p) bytes ≡ record { pages = pages ++ page ∷ later; end = end }
       → (let before : List Account = (metered job o.meters).before in
-      (All (HasRoom (page_dots page (printer_of p) (table_of job.kernel))) (counted (printer_of p) (table_of job.kernel) pages before) → ⊥))
+      (All (HasRoom (page_dots page p (table_of job.kernel))) (counted p (table_of job.kernel) pages before) → ⊥))
       → NothingFailed o → (status ≡ 6) ⊎ (status ≡ 7)

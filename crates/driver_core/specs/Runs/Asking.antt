@@ -5,17 +5,17 @@ use Rattle.job_words.specs.declared.reading.Job.{Job}
 use Rattle.job_words.specs.declared.table.Verb.{Verb}
 use Rattle.job_words.specs.declared.table.Verb.TheVariants as verb
 use Rattle.job_words.specs.Meaning.{job_meaning, profile_named}
-use Rattle.printer_profile.specs.declared.fields.Profile.{Profile}
+use Rattle.printer_definitions.specs.Printer.{Printer}
 use Rattle.weave_base.specs.Shelf.{NamedText}
 
 -- the profile of a name is this one, or is refused for this reason, whatever a shelf holds that does not report its
 -- texts
-abbrev pub ProfileIs : Option (List NamedText) → List ℕ → Result Profile Refusal → Type 0
-ProfileIs told name r = (other : Result Profile Refusal) → IsJobProfile told name other → other ≡ r
+abbrev pub ProfileIs : Option (List NamedText) → List ℕ → Result Printer Refusal → Type 0
+ProfileIs told name r = (other : Result Printer Refusal) → IsJobProfile told name other → other ≡ r
 
 -- The words ask for this command, with this profile or one that is refused for this reason.
 pub record AsksFor (words : List (List ℕ))
-    (told : Option (List NamedText)) (command : Verb) (job : Job) (r : Result Profile Refusal) : Type 0 where
+    (told : Option (List NamedText)) (command : Verb) (job : Job) (r : Result Printer Refusal) : Type 0 where
   pub means : job_meaning words ≡ Ok job
   pub command_is : job.verb ≡ command
   pub profile_is : ProfileIs told (profile_named words) r

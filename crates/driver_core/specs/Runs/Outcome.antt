@@ -16,8 +16,8 @@ use Rattle.job_words.specs.declared.table.Verb.{Verb}
 use Rattle.job_words.specs.declared.table.Verb.TheVariants as verb
 use Rattle.job_words.specs.declared.usage.UsageFault.{UsageFault}
 use Rattle.job_words.specs.Meaning.{job_meaning, profile_named}
-use Rattle.printer_profile.specs.declared.fields.Profile.{Profile}
-use Rattle.printer_profile.specs.Profiles.{built_in, printer_of}
+use Rattle.printer_definitions.specs.Printer.{Printer}
+use Rattle.printer_profile.specs.Profiles.{built_in}
 use Rattle.weave_base.specs.Parts.{AppendsPart}
 use Rattle.driver_core.specs.Caps.{begun_by}
 use Rattle.driver_core.specs.Outside.{HasFailed, HasRisen, IsCalm, Meters, Outside, Outsides, Texts, Untouched}
@@ -34,10 +34,10 @@ abbrev pub metered : Job → Meters → Meters
 metered job meters = record { before = begun_by job.verb job.cap meters.before; now = meters.now }
 
 -- the outcome of a command with its profile, on meters whose caps are set
-abbrev pub VerbOutcome : Verb → Job → Profile → Outsides → Meters → Answer → Type 0
-VerbOutcome verb.Print job p o meters a = PrintOutcome (printer_of p) (table_of job.kernel) o.input o.out meters a
+abbrev pub VerbOutcome : Verb → Job → Printer → Outsides → Meters → Answer → Type 0
+VerbOutcome verb.Print job p o meters a = PrintOutcome p (table_of job.kernel) o.input o.out meters a
 VerbOutcome verb.Dots job p o meters a =
-    (meters.now ≡ meters.before) × PlayOutcome (printer_of p) job.most o.input o.out a
+    (meters.now ≡ meters.before) × PlayOutcome p job.most o.input o.out a
 VerbOutcome verb.List job p o meters a = ⊥
 VerbOutcome verb.Profile job p o meters a =
     Keeps o.input.before o.input.now × (meters.now ≡ meters.before) × ShowOutcome p o.out a
@@ -59,7 +59,7 @@ pub record NoProfile (name : List ℕ) (job : Job) (o : Outsides) (a : Answer) :
 
 -- There is this profile, and the command did its work with it.
 pub record WithProfile (name : List ℕ) (job : Job) (o : Outsides) (a : Answer) : Type 0 where
-  pub p : Profile
+  pub p : Printer
   pub is : IsJobProfile o.shelf.told name (Ok p)
   pub outcome : VerbOutcome job.verb job p o (metered job o.meters) a
 

@@ -8,8 +8,7 @@ use Rattle.job_words.specs.declared.reading.Job.{Job}
 use Rattle.job_words.specs.declared.table.Verb.{Verb}
 use Rattle.job_words.specs.declared.table.Verb.TheVariants as verb
 use Rattle.job_words.specs.Meaning.{job_meaning, profile_named}
-use Rattle.printer_profile.specs.declared.fields.Profile.{Profile}
-use Rattle.printer_profile.specs.Profiles.{printer_of}
+use Rattle.printer_definitions.specs.Printer.{Printer}
 use Rattle.printer_profile.specs.Validity.{check}
 use Rattle.weave_base.specs.Shelf.{NamedText}
 use Rattle.driver_core.specs.declared.preparing.Prepared.{Prepared}
@@ -21,7 +20,7 @@ use Rattle.driver_core.specs.Printing.Outcome.{PrintOutcome}
 use Rattle.driver_core.specs.Showing.Outcome.{ShowOutcome}
 
 -- The words ask for this command, and this is its profile, by the texts that the shelf tells of; it passes its checks.
-pub record Takes (words : List (List ℕ)) (told : Option (List NamedText)) (command : Verb) (job : Job) (p : Profile) : Type 0 where
+pub record Takes (words : List (List ℕ)) (told : Option (List NamedText)) (command : Verb) (job : Job) (p : Printer) : Type 0 where
   pub means : job_meaning words ≡ Ok job
   pub command_is : job.verb ≡ command
   pub profile_is : IsJobProfile told (profile_named words) (Ok p)
@@ -49,9 +48,9 @@ IsReady (prepared.Profile job p) = Unit {0}
 
 -- The outcome of a prepared command. Only printing counts.
 abbrev pub DoneOutcome : Prepared → Outside → Outside → Meters → Answer → Type 0
-DoneOutcome (prepared.Print job p) input out meters a = PrintOutcome (printer_of p) (table_of job.kernel) input out meters a
+DoneOutcome (prepared.Print job p) input out meters a = PrintOutcome p (table_of job.kernel) input out meters a
 DoneOutcome (prepared.Dots job p) input out meters a =
-    (meters.now ≡ meters.before) × PlayOutcome (printer_of p) job.most input out a
+    (meters.now ≡ meters.before) × PlayOutcome p job.most input out a
 DoneOutcome (prepared.List job) input out meters a = (meters.now ≡ meters.before) × ListOutcome job.most input out a
 DoneOutcome (prepared.Profile job p) input out meters a =
     Keeps input.before input.now × (meters.now ≡ meters.before) × ShowOutcome p out a

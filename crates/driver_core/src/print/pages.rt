@@ -3,7 +3,6 @@ ghost use Rattle.diffusion_kernel.specs.Tables.{table_of};
 ghost use Rattle.driver_core.specs.Outside.{meters_of, outside_of};
 ghost use Rattle.driver_core.specs.Printing.Outcome.{PrintOutcome, stream_answer as stream_answer_of};
 ghost use Rattle.driver_core.specs.Runs.Outcome.{answer_of};
-ghost use Rattle.printer_profile.specs.Profiles.{printer_of};
 ghost use Rattle.printer_profile.specs.Validity.{check};
 ghost use Rattle.std.specs.Prelude.{IsOk, ◌≡◌, ◌≤◌};
 
@@ -43,7 +42,7 @@ pub fn print_pages<R: Threads + Sync, S: Source, K: Sink, G: Gate + Sync>(
     meters: &mut Vec<Box<dyn Meter>>,
 ) -> Result<(), Answer>
     requires { IsOk (check profile.now) }
-    ensures { PrintOutcome (printer_of profile.now) (table_of kernel)
+    ensures { PrintOutcome profile.now (table_of kernel)
         (outside_of S.left S.faults input.old input.new)
         (outside_of K.held K.faults out.old out.new)
         (meters_of (λ meter. account meter) meters.old.items meters.new.items) (answer_of result) }

@@ -1,6 +1,5 @@
 use Rattle.std.proofs.Common.{ap, arith, sym, ◌∙◌, Option}
 use Rattle.std.proofs.lemmas.Result.{err_from_is_err_and}
-use Rattle.printer_profile.specs.Profiles.{printer_of}
 use Rattle.pwg_definitions.specs.declared.pages.PageForm.{PageForm}
 use Rattle.separation_definitions.specs.Windows.{wanted_by}
 use Rattle.halftone_reader.specs.declared.pages.HalftonedPage.{HalftonedPage}
@@ -11,7 +10,7 @@ use Rattle.halftone_reader.proofs.pages.read_page.Goals as goal
 pub begin-requires-clause-wanted : goal.begin-requires-clause-wanted
 begin-requires-clause-wanted g c =
     let begins = rw (c.in-Some.is, c.wanted.ensures) at c.in_ok-form.ensures.page in
-    begun-wanted (wanted_by (printer_of c.args.profile.now)) c.args.reader.now c.next_page.new.self _ _ c.in-Some.form begins
+    begun-wanted (wanted_by c.args.profile.now) c.args.reader.now c.next_page.new.self _ _ c.in-Some.form begins
 
 pub groups-init : goal.groups-init
 groups-init g c =
@@ -29,7 +28,7 @@ pub returns-in_err-repeats-clause-input : goal.returns-in_err-repeats-clause-inp
 returns-in_err-repeats-clause-input g c =
     let error = err_from_is_err_and c.from_residual-in_err-repeats.result c.from_residual-in_err-repeats.ensures.1 in
     rw (error.1, error.2) (fault_in_page (Option HalftonedPage)
-    (wanted_by (printer_of c.args.profile.now)) c.args.reader.now c.groups.reader _ _ _ c.in_err-repeats.field-0.0
+    (wanted_by c.args.profile.now) c.args.reader.now c.groups.reader _ _ _ c.in_err-repeats.field-0.0
     c.groups.invariant.page.page (c.in_err-repeats.ensures.input c.groups.invariant.page.page.going))
 
 pub returns-in_err-repeats-clause-used : goal.returns-in_err-repeats-clause-used

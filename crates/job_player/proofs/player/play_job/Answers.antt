@@ -1,7 +1,6 @@
 use Rattle.std.proofs.Common.{arith, subst, ◌∙◌, ℕ, List, Err}
 use Rattle.std.proofs.lemmas.Result.{err_from_is_err_and}
 use Rattle.dot_emulator.specs.Runs.{Runs}
-use Rattle.printer_profile.specs.Profiles.{printer_of}
 use Rattle.job_player.proofs.Playing.{gives_sheet, if_none, is_none, plays_all, plays_more, plays_none, plays_nothing}
 use Rattle.job_player.proofs.Playing.{plays_to_emu_stop, plays_to_feed_stop, sheet_unwritten, sheet_written}
 use Rattle.job_player.proofs.player.play_job.Goals as goal
@@ -9,7 +8,7 @@ use Rattle.job_player.proofs.player.play_job.Goals as goal
 pub returns-in_err-feed : goal.returns-in_err-feed
 returns-in_err-feed g c =
     let error = err_from_is_err_and c.from_residual.result c.from_residual.ensures.1 in
-    rw (error.1, error.2) (plays_nothing (printer_of c.args.profile.now) c.args.most _ _ _ _ _ _)
+    rw (error.1, error.2) (plays_nothing c.args.profile.now c.args.most _ _ _ _ _ _)
 
 pub commands-init : goal.commands-init
 commands-init g c = record {
@@ -37,7 +36,7 @@ commands-preserved-in_default-given g c =
     let so_far = c.commands.invariant.so_far in
     let takes = rw c.in-Some.is at c.in_ok-placed.ensures.command in
     let none = is_none c.in-Ok.given c.in_default-given.not-Some in
-    let runs = rw none at (rw c.rows.ensures at (c.in-Ok.ensures (printer_of c.args.profile.now) so_far.runs.m so_far.runs.shows)) in
+    let runs = rw none at (rw c.rows.ensures at (c.in-Ok.ensures c.args.profile.now so_far.runs.m so_far.runs.shows)) in
     record {
       so_far = plays_more _ _ _ _ _ _ _ _ _ _ _ c.in-Some.placed so_far takes runs;
       between = takes.between;
@@ -50,9 +49,9 @@ pub returns-in-Err : goal.returns-in-Err
 returns-in-Err g c =
     let so_far = c.commands.invariant.so_far in
     let takes = rw c.in-Some.is at c.in_ok-placed.ensures.command in
-    let P : List ℕ → Type 0 = λ rows. Runs (printer_of c.args.profile.now)
+    let P : List ℕ → Type 0 = λ rows. Runs c.args.profile.now
     so_far.runs.m c.in-Some.placed.command rows c.commands.emulator c.run.new.self (Err c.in-Err.stop) in
-    let runs = subst P c.rows.ensures (c.in-Err.ensures (printer_of c.args.profile.now) so_far.runs.m so_far.runs.shows) in
+    let runs = subst P c.rows.ensures (c.in-Err.ensures c.args.profile.now so_far.runs.m so_far.runs.shows) in
     plays_to_emu_stop _ c.args.most _ _ c.commands.feed c.next.new.self _ _ _ _ _ _ _ _ _ _ c.in-Some.placed
     c.in-Err.stop c.refused_at.result so_far takes runs c.commands.invariant.most c.refused_at.ensures
 
@@ -61,7 +60,7 @@ returns-in-Err-write_sheet g c =
     let so_far = c.commands.invariant.so_far in
     let takes = rw c.in-Some.is at c.in_ok-placed.ensures.command in
     let runs = rw c.in-Some-given.is at
-    (rw c.rows.ensures at (c.in-Ok.ensures (printer_of c.args.profile.now) so_far.runs.m so_far.runs.shows)) in
+    (rw c.rows.ensures at (c.in-Ok.ensures c.args.profile.now so_far.runs.m so_far.runs.shows)) in
     let has = gives_sheet _ _ _ _ _ _ _ _ _ _ _ c.in-Some.placed c.in-Some-given.sheet so_far takes runs in
     sheet_unwritten _ c.args.most _ c.next.new.self _ _ _ _ _ _ _ _ _ _ _ _ c.in-Some-given.sheet
     has c.in-Err-write_sheet.ensures.part c.saturating_add-sheets.ensures (takes.most ∙ c.commands.invariant.most)
@@ -72,7 +71,7 @@ commands-preserved g c =
     let so_far = c.commands.invariant.so_far in
     let takes = rw c.in-Some.is at c.in_ok-placed.ensures.command in
     let runs = rw c.in-Some-given.is at
-    (rw c.rows.ensures at (c.in-Ok.ensures (printer_of c.args.profile.now) so_far.runs.m so_far.runs.shows)) in
+    (rw c.rows.ensures at (c.in-Ok.ensures c.args.profile.now so_far.runs.m so_far.runs.shows)) in
     let has = gives_sheet _ _ _ _ _ _ _ _ _ _ _ c.in-Some.placed c.in-Some-given.sheet so_far takes runs in
     record {
       so_far = sheet_written _ _ _ _ _ _ _ _ _ _ c.in-Some-given.sheet has c.in-Ok-write_sheet.ensures.ok c.saturating_add-sheets.ensures;

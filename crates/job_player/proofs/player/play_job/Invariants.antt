@@ -1,12 +1,11 @@
 use Rattle.std.proofs.Common.{◌≡◌, ◌≤◌, ◌-◌}
 use Rattle.job_feed.specs.Feeding.{IsBetween, at_of, most_of, text_of}
 use Rattle.job_player.proofs.Playing.{PlaysSoFar}
-use Rattle.printer_profile.specs.Profiles.{printer_of}
 use Rattle.job_player.proofs.player.play_job.Given as goal
 
 abbrev pub invariant-commands : goal.invariant-commands
 invariant-commands g l = record {
-  so_far : PlaysSoFar (printer_of l.profile) l.emulator l.feed (g.S.Source.left l.fn.input)
+  so_far : PlaysSoFar l.profile l.emulator l.feed (g.S.Source.left l.fn.input)
       (text_of l.feed (g.S.Source.left l.input)) (g.K.Sink.held l.fn.out) (g.K.Sink.held l.out) l.sheets;
   between : IsBetween l.feed;
   most : most_of l.feed ≡ l.most;

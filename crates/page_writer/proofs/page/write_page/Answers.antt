@@ -6,7 +6,6 @@ use Rattle.dot_planes.specs.Tables.{DotTable}
 use Rattle.page_definitions.specs.Dots.{Halftone}
 use Rattle.page_definitions.specs.PageBytes.{halftone_bytes}
 use Rattle.printer_definitions.specs.Printer.{Printer, row_units}
-use Rattle.printer_profile.specs.Profiles.{printer_of}
 use Rattle.weave_base.specs.Parts.{AppendsPart}
 use Rattle.weave_plan.specs.Weaving.{Weaving}
 use Rattle.page_writer.specs.Heads.{Suits, strokes_over}
@@ -21,7 +20,7 @@ use Rattle.page_writer.proofs.page.write_page.Goals as goal
 
 pub write_strokes-requires-clause-suits : goal.write_strokes-requires-clause-suits
 write_strokes-requires-clause-suits g c =
-    let p : Printer = printer_of c.args.p.now in
+    let p : Printer = c.args.p.now in
     let t : DotTable = c.args.planes.now in
     let same : c.make-plan.result ≡ record { nozzles = p.nozzles; pitch = p.pitch; height = t.rows } =
     c.make-plan.ensures ∙ ap (λ n. record { nozzles = p.nozzles; pitch = p.pitch; height = n }) c.rows.ensures in
@@ -31,7 +30,7 @@ write_strokes-requires-clause-suits g c =
 
 pub returns-clause-ok : goal.returns-clause-ok
 returns-clause-ok g c = λ h shows.
-    let p : Printer = printer_of c.args.p.now in
+    let p : Printer = c.args.p.now in
     let t : DotTable = c.args.planes.now in
     let len : ℕ = c.args.f.height * row_units p in
     let same : c.make-plan.result ≡ record { nozzles = p.nozzles; pitch = p.pitch; height = t.rows } =
@@ -43,7 +42,7 @@ returns-clause-ok g c = λ h shows.
 
 pub returns-clause-part : goal.returns-clause-part
 returns-clause-part g c = λ h shows failed.
-    let p : Printer = printer_of c.args.p.now in
+    let p : Printer = c.args.p.now in
     let t : DotTable = c.args.planes.now in
     let len : ℕ = c.args.f.height * row_units p in
     let same : c.make-plan.result ≡ record { nozzles = p.nozzles; pitch = p.pitch; height = t.rows } =
@@ -55,7 +54,7 @@ returns-clause-part g c = λ h shows failed.
 
 pub returns-clause-sum : goal.returns-clause-sum
 returns-clause-sum g c = λ h shows.
-    let p : Printer = printer_of c.args.p.now in
+    let p : Printer = c.args.p.now in
     let t : DotTable = c.args.planes.now in
     let len : ℕ = c.args.f.height * row_units p in
     let same : c.make-plan.result ≡ record { nozzles = p.nozzles; pitch = p.pitch; height = t.rows } =

@@ -1,7 +1,6 @@
 use Rattle.std.proofs.Common.{◌≡◌, ◌-◌, ◌+◌, ◌*◌, ◌/◌, ◌≤◌, suc, ap, ◌∙◌, sym, arith, vec_capacity, vec_len}
 use Rattle.page_definitions.specs.PageBytes.{page_coding}
 use Rattle.page_definitions.specs.Strokes.{raster_header}
-use Rattle.printer_profile.specs.Profiles.{printer_of}
 use Rattle.page_writer.specs.Heads.{stroke_rows}
 use Rattle.page_writer.proofs.Inks.{inks_begin, inks_end, ink_most, inks_room_more, inks_room_one, inks_step, place_is}
 use Rattle.page_writer.proofs.stroke.append_inks.Goals as goal
@@ -23,7 +22,7 @@ append_ink-rasters-requires-clause-space g c =
     omega (arith, c.inks-test.true, c.inks-place-end.ensures) in
     omega (
       arith,
-      ink_most (printer_of c.args.p.now) _ _ _ c.raster_header-header.ensures c.width.ensures,
+      ink_most c.args.p.now _ _ _ c.raster_header-header.ensures c.width.ensures,
       inks_room_one _ _ _ _ _ left c.inks.invariant.space,
     )
 
@@ -36,13 +35,13 @@ inks-preserved g c =
     omega (
       arith,
       c.append_ink-rasters.ensures.most,
-      ink_most (printer_of c.args.p.now) _ _ _ c.raster_header-header.ensures c.width.ensures,
+      ink_most c.args.p.now _ _ _ c.raster_header-header.ensures c.width.ensures,
     ) in
     record {
       so_far = inks_step _ _ _ _ _ _ c.raster_header-header.result c.at-ink.result
           (stroke_rows (g.H.Head.strokes c.args.head.now) c.args.planes.now c.args.stroke c.inks.place) _ _ _
           c.inks.invariant.so_far c.at-ink.ensures
-          (c.raster_header-header.ensures ∙ ap (λ n. raster_header (printer_of c.args.p.now) n page_coding.c) c.width.ensures)
+          (c.raster_header-header.ensures ∙ ap (λ n. raster_header c.args.p.now n page_coding.c) c.width.ensures)
           (ap (stroke_rows (g.H.Head.strokes c.args.head.now) c.args.planes.now c.args.stroke)
           (place_is c.args.p.now.inks c.inks.place c.at-ink.result c.at-ink.ensures))
           c.append_ink-rasters.ensures.items c.append_ink-rasters.ensures.rasters;

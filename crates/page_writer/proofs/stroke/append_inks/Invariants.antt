@@ -1,13 +1,12 @@
 use Rattle.std.proofs.Common.{◌-◌, ◌+◌, ◌*◌, ◌/◌, ◌≤◌, vec_capacity, vec_len}
 use Rattle.page_writer.specs.Heads.{stroke_over}
 use Rattle.page_writer.proofs.Inks.{InksSoFar}
-use Rattle.printer_profile.specs.Profiles.{printer_of}
 use Rattle.page_writer.proofs.stroke.append_inks.Given as goal
 
 abbrev pub invariant-inks : goal.invariant-inks
 invariant-inks g l = record {
-  so_far : InksSoFar (printer_of l.p) l.planes.width
-      (stroke_over (printer_of l.p) (g.H.Head.strokes l.head) l.planes l.stroke) l.fn.out.items l.out.items l.rasters l.place;
+  so_far : InksSoFar l.p l.planes.width
+      (stroke_over l.p (g.H.Head.strokes l.head) l.planes l.stroke) l.fn.out.items l.out.items l.rasters l.place;
   few : l.rasters ≤ l.place;
   space : vec_len l.out + (l.planes.inks - l.place) * (12 + 2 * l.p.nozzles * ((l.planes.width + 7) / 8)) ≤ vec_capacity l.out;
   most : vec_len l.out + (l.planes.inks - l.place) * (12 + 2 * l.p.nozzles * ((l.planes.width + 7) / 8))

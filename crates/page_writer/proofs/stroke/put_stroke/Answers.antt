@@ -1,7 +1,6 @@
 use Rattle.std.proofs.Common.{◌≡◌, ◌*◌, List, ℕ, ap, ◌∙◌, sym, subst, length, arith}
 use Rattle.std.specs.Io.KnownBytes.{Appends}
 use Rattle.page_definitions.specs.Strokes.{Stroke}
-use Rattle.printer_profile.specs.Profiles.{printer_of}
 use Rattle.weave_base.specs.Parts.{AppendsPart}
 use Rattle.weave_base.proofs.Parting.{on_err_anyway}
 use Rattle.page_writer.specs.Heads.{stroke_over}
@@ -22,8 +21,8 @@ returns-then-rasters-eq0-clause-sum g c = record {
 
 pub returns-in_err-put_all-clause-part : goal.returns-in_err-put_all-clause-part
 returns-in_err-put_all-clause-part g c =
-    let stroke : Stroke = stroke_over (printer_of c.args.p.now) (g.H.Head.strokes c.args.head.now) c.args.planes.now c.args.stroke in
-    let whole : c.append_inks-rasters.new.out.items ≡ stroke_bytes (printer_of c.args.p.now) c.args.planes.now.width stroke c.args.down =
+    let stroke : Stroke = stroke_over c.args.p.now (g.H.Head.strokes c.args.head.now) c.args.planes.now c.args.stroke in
+    let whole : c.append_inks-rasters.new.out.items ≡ stroke_bytes c.args.p.now c.args.planes.now.width stroke c.args.down =
     stroke_fires _ _ _ _ _ _ _ _ _ c.clear.ensures.items c.append_step.ensures.items (ap (λ n. c.args.down * n)
     c.row_units.ensures.is) c.append_inks-rasters.ensures.inks c.if-rasters-eq0.false in
     let P : List ℕ → Type 0 = AppendsPart (g.K.Sink.held c.args.k.now) (g.K.Sink.held c.put_all.new.k) in
@@ -31,8 +30,8 @@ returns-in_err-put_all-clause-part g c =
 
 pub returns-clause-ok : goal.returns-clause-ok
 returns-clause-ok g c =
-    let stroke : Stroke = stroke_over (printer_of c.args.p.now) (g.H.Head.strokes c.args.head.now) c.args.planes.now c.args.stroke in
-    let whole : c.append_inks-rasters.new.out.items ≡ stroke_bytes (printer_of c.args.p.now) c.args.planes.now.width stroke c.args.down =
+    let stroke : Stroke = stroke_over c.args.p.now (g.H.Head.strokes c.args.head.now) c.args.planes.now c.args.stroke in
+    let whole : c.append_inks-rasters.new.out.items ≡ stroke_bytes c.args.p.now c.args.planes.now.width stroke c.args.down =
     stroke_fires _ _ _ _ _ _ _ _ _ c.clear.ensures.items c.append_step.ensures.items (ap (λ n. c.args.down * n)
     c.row_units.ensures.is) c.append_inks-rasters.ensures.inks c.if-rasters-eq0.false in
     let P : List ℕ → Type 0 = Appends (g.K.Sink.held c.args.k.now) (g.K.Sink.held c.put_all.new.k) in
@@ -40,8 +39,8 @@ returns-clause-ok g c =
 
 pub returns-clause-sum : goal.returns-clause-sum
 returns-clause-sum g c =
-    let stroke : Stroke = stroke_over (printer_of c.args.p.now) (g.H.Head.strokes c.args.head.now) c.args.planes.now c.args.stroke in
-    let whole : c.append_inks-rasters.new.out.items ≡ stroke_bytes (printer_of c.args.p.now) c.args.planes.now.width stroke c.args.down =
+    let stroke : Stroke = stroke_over c.args.p.now (g.H.Head.strokes c.args.head.now) c.args.planes.now c.args.stroke in
+    let whole : c.append_inks-rasters.new.out.items ≡ stroke_bytes c.args.p.now c.args.planes.now.width stroke c.args.down =
     stroke_fires _ _ _ _ _ _ _ _ _ c.clear.ensures.items c.append_step.ensures.items (ap (λ n. c.args.down * n)
     c.row_units.ensures.is) c.append_inks-rasters.ensures.inks c.if-rasters-eq0.false in
     record {

@@ -1,7 +1,6 @@
 use Rattle.std.proofs.Common.{◌-◌, ◌+◌, ◌*◌, refl, sym, ap, ◌∙◌, arith}
 use Rattle.page_definitions.specs.Strokes.{Strokes}
 use Rattle.printer_definitions.specs.Printer.{Printer, row_units}
-use Rattle.printer_profile.specs.Profiles.{printer_of}
 use Rattle.weave_base.proofs.Parting.{on_err_anyway}
 use Rattle.page_writer.specs.Heads.{strokes_over}
 use Rattle.page_writer.proofs.Inks.{pass_short}
@@ -12,7 +11,7 @@ use Rattle.page_writer.proofs.strokes.put_page.Goals as goal
 
 pub returns-in_err-put_all-clause-part : goal.returns-in_err-put_all-clause-part
 returns-in_err-put_all-clause-part g c =
-    let p : Printer = printer_of c.args.p.now in
+    let p : Printer = c.args.p.now in
     let strokes : Strokes = strokes_over p (g.H.Head.strokes c.args.head.now) c.args.planes.now in
     let whole = page_is p c.args.planes.now.width c.args.planes.now.rows (c.args.f.height * row_units p) strokes _ _ _
     c.sheet_of.ensures.length (c.sheet_of.ensures.top ∙ ap (λ n. (p.top - n) * row_units p) c.above.ensures)
@@ -22,7 +21,7 @@ returns-in_err-put_all-clause-part g c =
 
 pub returns-in_err-strokes-clause-part : goal.returns-in_err-strokes-clause-part
 returns-in_err-strokes-clause-part g c =
-    let p : Printer = printer_of c.args.p.now in
+    let p : Printer = c.args.p.now in
     let strokes : Strokes = strokes_over p (g.H.Head.strokes c.args.head.now) c.args.planes.now in
     let whole = page_is p c.args.planes.now.width c.args.planes.now.rows (c.args.f.height * row_units p) strokes _ _ _
     c.sheet_of.ensures.length (c.sheet_of.ensures.top ∙ ap (λ n. (p.top - n) * row_units p) c.above.ensures)
@@ -33,7 +32,7 @@ returns-in_err-strokes-clause-part g c =
 
 pub returns-in_err-put_all-2-clause-part : goal.returns-in_err-put_all-2-clause-part
 returns-in_err-put_all-2-clause-part g c =
-    let p : Printer = printer_of c.args.p.now in
+    let p : Printer = c.args.p.now in
     let strokes : Strokes = strokes_over p (g.H.Head.strokes c.args.head.now) c.args.planes.now in
     let whole = page_is p c.args.planes.now.width c.args.planes.now.rows (c.args.f.height * row_units p) strokes _ _ _
     c.sheet_of.ensures.length (c.sheet_of.ensures.top ∙ ap (λ n. (p.top - n) * row_units p) c.above.ensures)
@@ -45,7 +44,7 @@ returns-in_err-put_all-2-clause-part g c =
 
 pub returns-clause-ok : goal.returns-clause-ok
 returns-clause-ok g c =
-    let p : Printer = printer_of c.args.p.now in
+    let p : Printer = c.args.p.now in
     let strokes : Strokes = strokes_over p (g.H.Head.strokes c.args.head.now) c.args.planes.now in
     let whole = page_is p c.args.planes.now.width c.args.planes.now.rows (c.args.f.height * row_units p) strokes _ _ _
     c.sheet_of.ensures.length (c.sheet_of.ensures.top ∙ ap (λ n. (p.top - n) * row_units p) c.above.ensures)
@@ -57,7 +56,7 @@ returns-clause-ok g c =
 
 pub returns-clause-sum : goal.returns-clause-sum
 returns-clause-sum g c =
-    let p : Printer = printer_of c.args.p.now in
+    let p : Printer = c.args.p.now in
     let strokes : Strokes = strokes_over p (g.H.Head.strokes c.args.head.now) c.args.planes.now in
     let whole = page_is p c.args.planes.now.width c.args.planes.now.rows (c.args.f.height * row_units p) strokes _ _ _
     c.sheet_of.ensures.length (c.sheet_of.ensures.top ∙ ap (λ n. (p.top - n) * row_units p) c.above.ensures)
@@ -67,5 +66,5 @@ returns-clause-sum g c =
 pub overflow_add-result : goal.overflow_add-result
 overflow_add-result g c =
     let fit = strokes_fit _ (g.H.Head.strokes c.args.head.now).count _ c.in_ok-strokes.ensures.most c.requires.suits.few
-    (pass_short (printer_of c.args.p.now) c.args.planes.now.width c.requires.suits.can c.requires.suits.over.columns) in
+    (pass_short c.args.p.now c.args.planes.now.width c.requires.suits.can c.requires.suits.over.columns) in
     omega (arith, fit)

@@ -3,7 +3,6 @@ use Rattle.weave_base.proofs.Parting.{on_err_anyway}
 use Rattle.page_writer.specs.Heads.{HeadStrokes}
 use Rattle.page_writer.specs.Sums.{most_of_pass}
 use Rattle.printer_definitions.specs.Printer.{row_units}
-use Rattle.printer_profile.specs.Profiles.{printer_of}
 use Rattle.page_writer.proofs.Inks.{pass_short}
 use Rattle.page_writer.proofs.InTurn.{head_stands, step_low, strokes_begin, strokes_end, strokes_few, strokes_fit, strokes_most}
 use Rattle.page_writer.proofs.InTurn.{strokes_part, strokes_step}
@@ -31,7 +30,7 @@ overflow_sub-down g c =
 pub put_stroke-requires-clause-down : goal.put_stroke-requires-clause-down
 put_stroke-requires-clause-down g c =
     let head : HeadStrokes = g.H.Head.strokes c.args.head.now in
-    let units : ℕ = row_units (printer_of c.args.p.now) in
+    let units : ℕ = row_units c.args.p.now in
     let low : c.strokes.stroke < head.count = omega (arith, c.strokes-test.true, c.count-stroke-end.ensures) in
     let begin : c.start-begin.result * units ≤ 15840 =
     omega (arith, ap (λ n. n * units) c.start-begin.ensures, c.requires.suits.low c.strokes.stroke low) in
@@ -52,7 +51,7 @@ overflow_add-sum g c =
     let most = strokes_most _ _ _ _ c.strokes.invariant.bytes c.in_ok-done.ensures.short in
     let all = strokes_few _ _ head.count _ most (omega (arith, low)) in
     let fit = strokes_fit _ head.count _ all c.requires.suits.few
-    (pass_short (printer_of c.args.p.now) c.args.planes.now.width c.requires.suits.can c.requires.suits.over.columns) in
+    (pass_short c.args.p.now c.args.planes.now.width c.requires.suits.can c.requires.suits.over.columns) in
     omega (arith, fit)
 
 pub strokes-preserved : goal.strokes-preserved

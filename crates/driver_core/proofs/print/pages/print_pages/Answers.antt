@@ -4,7 +4,6 @@ use Rattle.diffusion_kernel.specs.Tables.{table_of}
 use Rattle.halftone_reader.specs.declared.pages.HalftonedPage.{HalftonedPage}
 use Rattle.page_definitions.specs.Dots.{halftone}
 use Rattle.ink_meter.proofs.Pages.{page_dots-is}
-use Rattle.printer_profile.specs.Profiles.{printer_of}
 use Rattle.printer_profile.proofs.CheckedProfiles.{can_print}
 use Rattle.pwg_definitions.specs.declared.pages.PageForm.{PageForm}
 use Rattle.separation_definitions.specs.Windows.{wanted_by, window_of}
@@ -16,7 +15,7 @@ use Rattle.driver_core.proofs.print.pages.print_pages.Goals as goal
 
 pub returns-in-Err : goal.returns-in-Err
 returns-in-Err g c =
-    no_sync (printer_of c.args.profile.now) (table_of c.args.kernel) _ _ _ _ _ _ _ _ c.in-Err.stop c.stream_answer.result
+    no_sync c.args.profile.now (table_of c.args.kernel) _ _ _ _ _ _ _ _ c.in-Err.stop c.stream_answer.result
     c.in-Err.ensures.input c.in-Err.ensures.read c.in-Err.ensures.used c.stream_answer.ensures
 
 pub pages-init : goal.pages-init
@@ -29,7 +28,7 @@ pages-init g c = record {
 
 pub returns-in-Err-read_page : goal.returns-in-Err-read_page
 returns-in-Err-read_page g c =
-    page_stopped (Option HalftonedPage) (printer_of c.args.profile.now) (table_of c.args.kernel)
+    page_stopped (Option HalftonedPage) c.args.profile.now (table_of c.args.kernel)
     _ _ _ _ _ _ c.pages.reader c.read_page.new.reader c.pages.number _ _ _ _ _ c.in-Err-read_page.stop
     c.stream_answer-in-Err-read_page.result c.pages.invariant.stream.0 c.pages.invariant.stream.1
     c.in-Err-read_page.ensures.input c.pages.invariant.read_later c.in-Err-read_page.ensures.read c.read_page.ensures.used
@@ -38,7 +37,7 @@ returns-in-Err-read_page g c =
 pub returns-in-Ok-None : goal.returns-in-Ok-None
 returns-in-Ok-None g c =
     let end = rw c.in-Ok-None.field-0-is at c.in-Ok-None.ensures.none in
-    stream_done (printer_of c.args.profile.now) (table_of c.args.kernel) _ _ _ _ _ _ c.pages.reader c.read_page.new.reader c.pages.number
+    stream_done c.args.profile.now (table_of c.args.kernel) _ _ _ _ _ _ c.pages.reader c.read_page.new.reader c.pages.number
     (g.S.Source.faults c.args.input.now) (g.S.Source.faults c.read_page.new.s) (g.K.Sink.faults c.args.out.now)
     (g.K.Sink.faults c.pages.out) (can_print c.args.profile.now (omega arith) c.requires)
     c.pages.invariant.stream.0 c.pages.invariant.stream.1 end.0 end.1 c.read_page.ensures.used
@@ -46,17 +45,17 @@ returns-in-Ok-None g c =
 pub write_page-requires-clause-wanted : goal.write_page-requires-clause-wanted
 write_page-requires-clause-wanted g c =
     let read = rw c.in-Ok-Some.field-0-is at c.in-Ok-Some.ensures.page in
-    page-wanted (wanted_by (printer_of c.args.profile.now)) read.reads.bytes read.page c.in-Ok-Some.page.form read.form_is read.reads.is
+    page-wanted (wanted_by c.args.profile.now) read.reads.bytes read.page c.in-Ok-Some.page.form read.form_is read.reads.is
 
 pub write_page-requires-clause-width : goal.write_page-requires-clause-width
 write_page-requires-clause-width g c =
     let read = rw c.in-Ok-Some.field-0-is at c.in-Ok-Some.ensures.page in
-    read.dots.width_is ∙ ap (λ (f : PageForm). (window_of f (printer_of c.args.profile.now)).width) (sym read.form_is)
+    read.dots.width_is ∙ ap (λ (f : PageForm). (window_of f c.args.profile.now).width) (sym read.form_is)
 
 pub write_page-requires-clause-rows : goal.write_page-requires-clause-rows
 write_page-requires-clause-rows g c =
     let read = rw c.in-Ok-Some.field-0-is at c.in-Ok-Some.ensures.page in
-    read.dots.rows_is ∙ ap (λ (f : PageForm). (window_of f (printer_of c.args.profile.now)).height) (sym read.form_is)
+    read.dots.rows_is ∙ ap (λ (f : PageForm). (window_of f c.args.profile.now).height) (sym read.form_is)
 
 pub write_page-requires-clause-inks : goal.write_page-requires-clause-inks
 write_page-requires-clause-inks g c =
@@ -65,7 +64,7 @@ write_page-requires-clause-inks g c =
 
 pub returns-in-Err-Write : goal.returns-in-Err-Write
 returns-in-Err-Write g c =
-    let p = printer_of c.args.profile.now in
+    let p = c.args.profile.now in
     let k = table_of c.args.kernel in
     let halftoned = rw c.in-Ok-Some.field-0-is at c.in-Ok-Some.ensures.page in
     let page = halftoned.page in
@@ -81,7 +80,7 @@ returns-in-Err-Write g c =
 
 pub returns-in-Err-Memory : goal.returns-in-Err-Memory
 returns-in-Err-Memory g c =
-    let p = printer_of c.args.profile.now in
+    let p = c.args.profile.now in
     let k = table_of c.args.kernel in
     let halftoned = rw c.in-Ok-Some.field-0-is at c.in-Ok-Some.ensures.page in
     let read = metered_read p k _ _ _ _ _ _ c.pages.reader c.read_page.new.reader c.pages.number
@@ -96,7 +95,7 @@ returns-in-Err-Memory g c =
 
 pub pages-preserved : goal.pages-preserved
 pages-preserved g c =
-    let p = printer_of c.args.profile.now in
+    let p = c.args.profile.now in
     let k = table_of c.args.kernel in
     let halftoned = rw c.in-Ok-Some.field-0-is at c.in-Ok-Some.ensures.page in
     let page = halftoned.page in
@@ -113,7 +112,7 @@ pages-preserved g c =
 
 pub returns-in_err-charge : goal.returns-in_err-charge
 returns-in_err-charge g c =
-    let p = printer_of c.args.profile.now in
+    let p = c.args.profile.now in
     let k = table_of c.args.kernel in
     let halftoned = rw c.in-Ok-Some.field-0-is at c.in-Ok-Some.ensures.page in
     let page = halftoned.page in

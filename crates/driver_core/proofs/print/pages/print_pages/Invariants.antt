@@ -1,13 +1,12 @@
 use Rattle.std.proofs.Common.{◌≤◌}
 use Rattle.diffusion_kernel.specs.Tables.{table_of}
-use Rattle.printer_profile.specs.Profiles.{printer_of}
 use Rattle.driver_core.specs.Outside.{meters_of}
 use Rattle.driver_core.proofs.Printing.StreamSteps.{MeteredSoFar}
 use Rattle.driver_core.proofs.print.pages.print_pages.Given as goal
 
 abbrev pub invariant-pages : goal.invariant-pages
 invariant-pages g l = record {
-  stream : MeteredSoFar (printer_of l.fn.profile) (table_of l.fn.kernel)
+  stream : MeteredSoFar l.fn.profile (table_of l.fn.kernel)
       (g.S.Source.left l.fn.input) (g.S.Source.left l.input) (g.K.Sink.held l.fn.out) (g.K.Sink.held l.out)
       (meters_of (λ m. (goal.Meter-dyn g (m.vtable, m.value)).account m.value) l.fn.meters.items l.meters.items)
       l.reader l.number;

@@ -3,7 +3,6 @@ use Rattle.std.proofs.lemmas.Bool.{cases_lt}
 use Rattle.diffusion_kernel.specs.Tables.{table_of}
 use Rattle.dot_planes.specs.Tables.{dot}
 use Rattle.page_definitions.specs.Dots.{HasDots, halftone}
-use Rattle.printer_profile.specs.Profiles.{printer_of}
 use Rattle.page_halftoner.specs.Halftones.{Halftoning, StandsFor, rows_done, window}
 use Rattle.page_halftoner.specs.Kept.{halftoning}
 use Rattle.page_halftoner.proofs.Lines.{whole_page}
@@ -23,6 +22,6 @@ returns c = λ lines stands.
     ] in
     let dots = whole_page h lines (subst Q (sym c.self.view_is) stands) diffused v.planes_width v.planes_rows v.planes_inks in
     let R : Halftoning → Type 0 =
-    λ g. HasDots (printer_of g.profile) (halftone (record { form = g.form; lines = lines })
-    (printer_of g.profile) (table_of g.kernel)) h.planes.width h.planes.rows h.planes.inks (dot h.planes) in
+    λ g. HasDots g.profile (halftone (record { form = g.form; lines = lines })
+    g.profile (table_of g.kernel)) h.planes.width h.planes.rows h.planes.inks (dot h.planes) in
     subst R c.self.view_is dots

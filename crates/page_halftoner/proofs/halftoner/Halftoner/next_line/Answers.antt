@@ -6,7 +6,6 @@ use Rattle.ink_separation.specs.Separators.{IsSeparatorOf}
 use Rattle.printer_definitions.specs.Printer.{Printer}
 use Rattle.pwg_definitions.specs.Header.{row_of}
 use Rattle.pwg_definitions.specs.declared.pages.Kind.{Kind}
-use Rattle.printer_profile.specs.Profiles.{printer_of}
 use Rattle.printer_definitions.specs.Inks.{inks_of}
 use Rattle.separation_definitions.specs.declared.window.Window.{Window}
 use Rattle.tile_border.specs.Tops.{IsTopOf}
@@ -31,7 +30,7 @@ pub put_line-requires-clause-line : goal.put_line-requires-clause-line
 put_line-requires-clause-line g c =
     let h : Inside = c.self.inside in
     let is = c.self.invariant.separator in
-    let holds = line_holds h.form (printer_of h.profile) c.self.invariant.wanted in
+    let holds = line_holds h.form h.profile c.self.invariant.wanted in
     omega (
       arith,
       ap (λ (win : Window). (win.left + win.width) * (row_of h.separator.kind).unit) is.window_is,
@@ -71,7 +70,7 @@ next_row inside w line again y slab v is place low last puts =
     record {
       place = here;
       inside = in_window;
-      puts = puts (printer_of inside.profile) inside.form.kind (window_in inside) v.separator
+      puts = puts inside.profile inside.form.kind (window_in inside) v.separator
           (λ repeated n is. (last repeated).last n (before ∙ is));
       from = omega (arith, here, in_window, v.from);
       room = omega (arith, here, in_window, v.room);
