@@ -33,10 +33,13 @@ pub fn add_header(
     (hdpi, vdpi): (u32, u32),
     (width, height): (u32, u32),
 ) -> Result<(), AllocError> {
-    let bytes_per_line = match kind {
-        Kind::Gray8 | Kind::Black8 => width,
-        Kind::Rgb8 => width.wrapping_mul(3),
+    let bits: u32 = match kind {
+        Kind::Black1 => 1,
+        Kind::Gray8 | Kind::Black8 => 8,
+        Kind::Rgb8 => 24,
+        Kind::Cmyk8 => 32,
     };
+    let bytes_per_line = width.wrapping_mul(bits).wrapping_add(7) / 8;
     let form = PageForm {
         width,
         height,

@@ -14,6 +14,8 @@ pub struct Printer {
     pub black_start: u8,
     /// Of black, cyan, magenta and yellow.
     pub limits: (u8, u8, u8, u8),
+    /// The tone curves of black, cyan, magenta and yellow; those of none are straight, and its text has no keys of them.
+    pub curves: Option<[[u16; 17]; 4]>,
     pub left: u16,
     pub right: u16,
     pub top: u16,
@@ -29,11 +31,22 @@ pub const PLAINEST: Printer = Printer {
     inks: InkSet::K,
     black_start: 0,
     limits: (255, 255, 255, 255),
+    curves: None,
     left: 0,
     right: 0,
     top: 0,
     bottom: 0,
 };
+
+// Appends the line of an ink's curve.
+fn push_curve(alloc: Global, ink: &str, curve: &[u16; 17], text: &mut String) -> Result<(), Fail> {
+    text.push_str(&format!(in alloc; "curve_{}=", ink)?)?;
+    for (place, point) in curve.iter().enumerate() {
+        let end = if place == 16 { "\n" } else { "," };
+        text.push_str(&format!(in alloc; "{}{}", point, end)?)?;
+    }
+    Ok(())
+}
 
 impl Printer {
     /// The text of its profile.
@@ -44,9 +57,10 @@ impl Printer {
             InkSet::Cmyk => "cmyk",
         };
         let (k, c, m, y) = self.limits;
+        let version = if self.curves.is_some() { 2 } else { 1 };
         let head = format!(in alloc;
-            "escp2-profile 1\nhdpi={}\nvdpi={}\nnozzles={}\npitch={}\n",
-            self.hdpi, self.vdpi, self.nozzles, self.pitch
+            "escp2-profile {}\nhdpi={}\nvdpi={}\nnozzles={}\npitch={}\n",
+            version, self.hdpi, self.vdpi, self.nozzles, self.pitch
         )?;
         let colours = format!(in alloc;
             "inks={}\nblack_start={}\nlimit_k={}\nlimit_c={}\nlimit_m={}\nlimit_y={}\n",
@@ -56,7 +70,30 @@ impl Printer {
             "left={}\nright={}\ntop={}\nbottom={}\n",
             self.left, self.right, self.top, self.bottom
         )?;
-        Ok(format!(in alloc; "{}{}{}", head, colours, margins)?)
+        let mut text = format!(in alloc; "{}{}{}", head, colours, margins)?;
+        if let Some(curves) = &self.curves {
+            for (ink, curve) in ["k", "c", "m", "y"].iter().zip(curves) {
+                push_curve(alloc, ink, curve, &mut text)?;
+            }
+        }
+        Ok(text)
+    }
+
+    /// The tone of an amount of an ink.
+    pub fn tone(&self, ink: Ink, amount: u8) -> u8 {
+        let Some([black, cyan, magenta, yellow]) = &self.curves else {
+            return amount;
+        };
+        let curve = match ink {
+            Ink::Black => black,
+            Ink::Cyan => cyan,
+            Ink::Magenta => magenta,
+            Ink::Yellow => yellow,
+        };
+        let before = curve[usize::from(amount / 16)];
+        let behind = curve[usize::from(amount / 16) + 1];
+        let step = u32::from(behind.saturating_sub(before)).wrapping_mul(u32::from(amount % 16));
+        u8::try_from(u32::from(before).wrapping_add(step / 16)).unwrap_or(255)
     }
 
     /// The limit of an ink.

@@ -155,6 +155,79 @@ fn pages_without_colour_take_black_or_all_colours(rt: HostRuntime) -> Result<(),
     try_all(&rt, rt.alloc(), &CASES)
 }
 
+// Pages of one row of pixels of one bit.
+const BITS: GivenPage = GivenPage {
+    kind: Kind::Black1,
+    size: (12, 1),
+    body: &[0, 1, 0xAA],
+};
+
+// The passes of every other of twelve dots.
+const TWELVE: [u8; 15] = [
+    0x1B, 0x72, 0, 0x0D, 0x1B, 0x2E, 1, 10, 10, 1, 12, 0, 1, 0xAA, 0xA0,
+];
+
+#[test]
+fn spare_bits_of_a_line_are_read_past(rt: HostRuntime) -> Result<(), Fail> {
+    const PLAIN: Case = Case {
+        words: &["print", "profile=tiny1"],
+        pages: &[BITS],
+        out: Output::Parts(&[&PROLOGUE, &TWELVE, &END]),
+        ..NO_PAGE
+    };
+    const CASES: [Case; 2] = [
+        PLAIN,
+        Case {
+            pages: &[GivenPage {
+                body: &[0, 0xFF, 0xAA, 0xAF],
+                ..BITS
+            }],
+            ..PLAIN
+        },
+    ];
+    try_all(&rt, rt.alloc(), &CASES)
+}
+
+// A page of one pixel of cyan, magenta, yellow and black.
+const FOUR: GivenPage = GivenPage {
+    kind: Kind::Cmyk8,
+    size: (1, 1),
+    body: &[0, 0, 0, 0, 0, 0xFF],
+};
+
+#[test]
+fn four_inks_take_their_own_numbers_and_three_take_black_too(rt: HostRuntime) -> Result<(), Fail> {
+    const CASES: [Case; 4] = [
+        Case {
+            pages: &[FOUR],
+            out: BLACK_JOB,
+            ..BY_FOUR
+        },
+        Case {
+            pages: &[FOUR],
+            out: COLOURS_JOB,
+            ..BY_THREE
+        },
+        Case {
+            pages: &[GivenPage {
+                body: &[0, 0, 0, 0xFF, 0xFF, 0],
+                ..FOUR
+            }],
+            out: Output::Parts(&[&PROLOGUE, &MAGENTA, &YELLOW, &END]),
+            ..BY_FOUR
+        },
+        Case {
+            pages: &[GivenPage {
+                body: &[0, 0x80],
+                ..FOUR
+            }],
+            out: NONE_JOB,
+            ..BY_FOUR
+        },
+    ];
+    try_all(&rt, rt.alloc(), &CASES)
+}
+
 #[test]
 fn a_colour_page_is_refused_at_its_line(rt: HostRuntime) -> Result<(), Fail> {
     const CASES: [Case; 3] = [

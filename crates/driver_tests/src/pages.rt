@@ -1,8 +1,10 @@
 //! Pages of each kind of pixel, for each set of inks with each kernel: the job fires exactly the dots that a page
 //! asks for.
 use crate::any_printer::{PLAINEST, Printer};
-use crate::pictures::{Picture, prints_its_dots};
+use crate::fixture::{leaves, run_bytes};
+use crate::pictures::{Picture, print_picture, prints_its_dots};
 use crate::plain::KERNELS;
+use driver_fixtures::begin;
 use pwg_header::Kind;
 use std::alloc::Global;
 use std::process::Abort;
@@ -10,7 +12,30 @@ use std::test::Fail;
 use std::thread::Threads;
 use weave_base::InkSet;
 
-const KINDS: [Kind; 3] = [Kind::Gray8, Kind::Black8, Kind::Rgb8];
+const KINDS: [Kind; 5] = [
+    Kind::Gray8,
+    Kind::Black8,
+    Kind::Rgb8,
+    Kind::Black1,
+    Kind::Cmyk8,
+];
+
+// Curves of black, cyan, magenta and yellow: one that is bent, the straight one, one that is full from its second point
+// on, and one with flat parts that ends below 255.
+const CURVES: [[u16; 17]; 4] = [
+    [
+        0, 6, 13, 22, 31, 42, 54, 67, 81, 97, 114, 133, 153, 176, 200, 227, 256,
+    ],
+    [
+        0, 16, 32, 48, 64, 80, 96, 112, 128, 144, 160, 176, 192, 208, 224, 240, 256,
+    ],
+    [
+        0, 256, 256, 256, 256, 256, 256, 256, 256, 256, 256, 256, 256, 256, 256, 256, 256,
+    ],
+    [
+        0, 0, 0, 40, 40, 40, 80, 81, 82, 100, 100, 100, 150, 150, 150, 200, 200,
+    ],
+];
 
 // A printer of one nozzle with these inks, with a black start and limits unlike the simplest printer's.
 fn printer_of(inks: InkSet) -> Printer {
@@ -30,7 +55,7 @@ fn try_width<R: Abort + Threads + Sync>(
     width: u32,
 ) -> Result<(), Fail> {
     let printer = printer_of(inks);
-    for (kind, seed) in KINDS.into_iter().zip(1u64..4) {
+    for (kind, seed) in KINDS.into_iter().zip(1u64..6) {
         let picture = Picture::random(alloc, kind, (width, 11), seed)?;
         for kernel in &KERNELS {
             prints_its_dots(rt, alloc, &printer, &picture, kernel)?;
@@ -50,11 +75,60 @@ fn each_kind_is_printed_by_each_set_and_kernel(rt: HostRuntime) -> Result<(), Fa
 }
 
 #[test]
-fn a_colour_page_of_the_greatest_width_is_printed(rt: HostRuntime) -> Result<(), Fail> {
+fn each_kind_is_printed_through_curves(rt: HostRuntime) -> Result<(), Fail> {
     let alloc = rt.alloc();
-    let picture = Picture::random(alloc, Kind::Rgb8, (8191, 2), 5)?;
-    for kernel in &KERNELS {
-        prints_its_dots(&rt, alloc, &printer_of(InkSet::Cmyk), &picture, kernel)?;
+    for inks in [InkSet::K, InkSet::Cmy, InkSet::Cmyk] {
+        let printer = Printer {
+            curves: Some(CURVES),
+            ..printer_of(inks)
+        };
+        for (kind, seed) in KINDS.into_iter().zip(11u64..16) {
+            let picture = Picture::random(alloc, kind, (13, 9), seed)?;
+            prints_its_dots(&rt, alloc, &printer, &picture, &KERNELS[0])?;
+        }
+    }
+    Ok(())
+}
+
+#[test]
+fn pixels_of_one_bit_are_printed_behind_any_left_margin(rt: HostRuntime) -> Result<(), Fail> {
+    let alloc = rt.alloc();
+    for left in 1u16..10 {
+        let printer = Printer { left, ..PLAINEST };
+        for width in [10, 16, 17, 90] {
+            let picture = Picture::random(alloc, Kind::Black1, (width, 5), u64::from(left))?;
+            prints_its_dots(&rt, alloc, &printer, &picture, &KERNELS[0])?;
+        }
+    }
+    Ok(())
+}
+
+#[test]
+fn a_stream_of_five_kinds_is_printed_page_by_page(rt: HostRuntime) -> Result<(), Fail> {
+    let alloc = rt.alloc();
+    let printer = printer_of(InkSet::Cmyk);
+    let (mut stream, mut jobs) = (begin(alloc)?, Vec::new(alloc));
+    for (kind, seed) in KINDS.into_iter().zip(21u64..26) {
+        let picture = Picture::random(alloc, kind, (9, 6), seed)?;
+        picture.add_to(&mut stream, (360, 360))?;
+        let left = print_picture(&rt, alloc, &printer, &picture, &KERNELS[0])?;
+        jobs.extend_from_slice(left.out.bytes())?;
+    }
+    let text = printer.text(alloc)?;
+    let words = ["print", "profile=m1.txt"];
+    let left = run_bytes(&rt, alloc, &words, &[text.as_bytes()], stream)?;
+    leaves(&rt, &left, (0, &jobs, b""));
+    Ok(())
+}
+
+#[test]
+fn pages_of_the_greatest_width_are_printed(rt: HostRuntime) -> Result<(), Fail> {
+    let alloc = rt.alloc();
+    for kind in [Kind::Rgb8, Kind::Black1, Kind::Cmyk8] {
+        let picture = Picture::random(alloc, kind, (8191, 2), 5)?;
+        for kernel in &KERNELS {
+            prints_its_dots(&rt, alloc, &printer_of(InkSet::Cmyk), &picture, kernel)?;
+        }
     }
     Ok(())
 }

@@ -18,11 +18,20 @@ pub struct Picture {
     pub bytes: Vec<u8>,
 }
 
-// How many bytes a pixel has.
+// How many bytes a unit of a line has: a pixel, or eight pixels of one bit.
 fn unit_of(kind: Kind) -> u32 {
     match kind {
-        Kind::Gray8 | Kind::Black8 => 1,
+        Kind::Gray8 | Kind::Black8 | Kind::Black1 => 1,
         Kind::Rgb8 => 3,
+        Kind::Cmyk8 => 4,
+    }
+}
+
+// How many bytes a line of so many pixels has.
+fn line_length(kind: Kind, width: u32) -> u32 {
+    match kind {
+        Kind::Black1 => width.wrapping_add(7) / 8,
+        _ => width.wrapping_mul(unit_of(kind)),
     }
 }
 
@@ -49,7 +58,10 @@ fn add_line(
     length: u32,
     random: &mut Random,
 ) -> Result<(), AllocError> {
-    let white = if kind == Kind::Black8 { 0 } else { 255 };
+    let white = match kind {
+        Kind::Gray8 | Kind::Rgb8 => 255,
+        Kind::Black8 | Kind::Black1 | Kind::Cmyk8 => 0,
+    };
     let sort = random.next();
     let flat = random.next();
     for _ in 0..length {
@@ -75,12 +87,7 @@ impl Picture {
         let mut random = Random { state: seed };
         let mut bytes = Vec::new(alloc);
         for _ in 0..height {
-            add_line(
-                &mut bytes,
-                kind,
-                width.wrapping_mul(unit_of(kind)),
-                &mut random,
-            )?;
+            add_line(&mut bytes, kind, line_length(kind, width), &mut random)?;
         }
         Ok(Picture {
             kind,
@@ -90,33 +97,52 @@ impl Picture {
         })
     }
 
-    /// A byte of the pixel at x, y.
-    pub fn byte(&self, x: i64, y: i64, part: i64) -> u8 {
-        let pixel = y.wrapping_mul(i64::from(self.width)).wrapping_add(x);
-        let place = pixel
-            .wrapping_mul(i64::from(unit_of(self.kind)))
-            .wrapping_add(part);
-        match usize::try_from(place) {
+    // A byte of line y.
+    fn byte_of_line(&self, y: i64, place: i64) -> u8 {
+        let line = i64::from(line_length(self.kind, self.width));
+        match usize::try_from(y.wrapping_mul(line).wrapping_add(place)) {
             Ok(place) => self.bytes.get(place).copied().unwrap_or(0),
             Err(_) => 0,
         }
     }
 
+    /// A byte of the pixel at x, y, whose pixels have whole bytes.
+    pub fn byte(&self, x: i64, y: i64, part: i64) -> u8 {
+        let unit = i64::from(unit_of(self.kind));
+        self.byte_of_line(y, x.wrapping_mul(unit).wrapping_add(part))
+    }
+
+    /// The pixel at x, y of a picture of one bit a pixel, the leftmost in the highest bit of a byte.
+    pub fn bit(&self, x: i64, y: i64) -> bool {
+        let worth: u8 = match x.rem_euclid(8) {
+            0 => 128,
+            1 => 64,
+            2 => 32,
+            3 => 16,
+            4 => 8,
+            5 => 4,
+            6 => 2,
+            _ => 1,
+        };
+        self.byte_of_line(y, x.div_euclid(8)) & worth != 0
+    }
+
     /// A stream of this page alone, for a printer of these dots an inch.
     pub fn stream(&self, alloc: Global, resolution: (u32, u32)) -> Result<Vec<u8>, AllocError> {
         let mut stream = begin(alloc)?;
-        add_header(
-            &mut stream,
-            self.kind,
-            resolution,
-            (self.width, self.height),
-        )?;
-        let unit = unit_of(self.kind) as usize;
-        let line = self.width as usize * unit;
-        for bytes in self.bytes.chunks(line.max(1)) {
-            code_line(&mut stream, bytes, unit)?;
-        }
+        self.add_to(&mut stream, resolution)?;
         Ok(stream)
+    }
+
+    /// Appends this page to a stream.
+    pub fn add_to(&self, stream: &mut Vec<u8>, resolution: (u32, u32)) -> Result<(), AllocError> {
+        add_header(stream, self.kind, resolution, (self.width, self.height))?;
+        let unit = unit_of(self.kind) as usize;
+        let line = line_length(self.kind, self.width) as usize;
+        for bytes in self.bytes.chunks(line.max(1)) {
+            code_line(stream, bytes, unit)?;
+        }
+        Ok(())
     }
 }
 

@@ -112,6 +112,22 @@ fn of_colour(printer: &Printer, ink: Ink, colour: (u8, u8, u8)) -> u8 {
     }
 }
 
+// What a pixel of cyan, magenta, yellow and black gives to an ink of the set.
+fn of_four(printer: &Printer, ink: Ink, (cyan, magenta, yellow, black): (u8, u8, u8, u8)) -> u8 {
+    let own = match ink {
+        Ink::Black => black,
+        Ink::Cyan => cyan,
+        Ink::Magenta => magenta,
+        Ink::Yellow => yellow,
+    };
+    let left = |ink: u8| 255 - ink.saturating_add(black);
+    match printer.inks {
+        InkSet::Cmyk => own,
+        InkSet::Cmy => own.saturating_add(black),
+        InkSet::K => of_colour(printer, ink, (left(cyan), left(magenta), left(yellow))),
+    }
+}
+
 // The amount of an ink at a pixel of a picture.
 fn amount(printer: &Printer, picture: &Picture, ink: Ink, x: i64, y: i64) -> i64 {
     let first = picture.byte(x, y, 0);
@@ -123,8 +139,19 @@ fn amount(printer: &Printer, picture: &Picture, ink: Ink, x: i64, y: i64) -> i64
             ink,
             (first, picture.byte(x, y, 1), picture.byte(x, y, 2)),
         ),
+        Kind::Black1 => of_grey(printer.inks, ink, if picture.bit(x, y) { 255 } else { 0 }),
+        Kind::Cmyk8 => of_four(
+            printer,
+            ink,
+            (
+                first,
+                picture.byte(x, y, 1),
+                picture.byte(x, y, 2),
+                picture.byte(x, y, 3),
+            ),
+        ),
     };
-    i64::from(given) * i64::from(printer.limit(ink)) / 255
+    i64::from(printer.tone(ink, given)) * i64::from(printer.limit(ink)) / 255
 }
 
 // What the errors near a pixel give to it, in sixteenths of an amount.

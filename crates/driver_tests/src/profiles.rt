@@ -1,5 +1,8 @@
 //! Words and profiles that are refused, and profiles that are shown.
-use crate::fixture::{Case, NO_PAGE, Output, Refusal, leaves, refuses_all, run_bytes, try_all};
+use crate::fixture::{
+    Case, GREY, GivenPage, NO_PAGE, Output, Refusal, leaves, left_by, refuses_all, run_bytes,
+    stream_of, try_all,
+};
 use driver_fixtures::{no_files, plain, roomy, run_over, sink};
 use std::alloc::Global;
 use std::test::Fail;
@@ -34,8 +37,12 @@ fn each_bad_word_has_its_cause(rt: HostRuntime) -> Result<(), Fail> {
 }
 
 const TINY: &[u8] =
-    b"escp2-profile 1\nhdpi=360\nvdpi=360\nnozzles=3\npitch=2\ninks=k\nblack_start=0\nlimit_k=255\nlimit_c=255\n\
-    limit_m=255\nlimit_y=255\nleft=0\nright=0\ntop=4\nbottom=0\n";
+    b"escp2-profile 2\nhdpi=360\nvdpi=360\nnozzles=3\npitch=2\ninks=k\nblack_start=0\nlimit_k=255\nlimit_c=255\n\
+    limit_m=255\nlimit_y=255\nleft=0\nright=0\ntop=4\nbottom=0\n\
+    curve_k=0,16,32,48,64,80,96,112,128,144,160,176,192,208,224,240,256\n\
+    curve_c=0,16,32,48,64,80,96,112,128,144,160,176,192,208,224,240,256\n\
+    curve_m=0,16,32,48,64,80,96,112,128,144,160,176,192,208,224,240,256\n\
+    curve_y=0,16,32,48,64,80,96,112,128,144,160,176,192,208,224,240,256\n";
 
 #[test]
 fn profile_prints_its_canonical_text(rt: HostRuntime) -> Result<(), Fail> {
@@ -54,7 +61,7 @@ fn profile_prints_its_canonical_text(rt: HostRuntime) -> Result<(), Fail> {
             ..NO_PAGE
         },
     ];
-    assert_eq!(rt; TINY.len(), 151);
+    assert_eq!(rt; TINY.len(), 423);
     try_all(&rt, rt.alloc(), &CASES)
 }
 
@@ -107,8 +114,16 @@ const JUST_ENOUGH: &[u8] =
     b"escp2-profile 1\nhdpi=360\nvdpi=720\nnozzles=31\npitch=8\ninks=k\ntop=240\n";
 
 const JUST_ENOUGH_WHOLE: &[u8] =
-    b"escp2-profile 1\nhdpi=360\nvdpi=720\nnozzles=31\npitch=8\ninks=k\nblack_start=0\nlimit_k=255\nlimit_c=255\n\
-    limit_m=255\nlimit_y=255\nleft=0\nright=0\ntop=240\nbottom=0\n";
+    b"escp2-profile 2\nhdpi=360\nvdpi=720\nnozzles=31\npitch=8\ninks=k\nblack_start=0\nlimit_k=255\nlimit_c=255\n\
+    limit_m=255\nlimit_y=255\nleft=0\nright=0\ntop=240\nbottom=0\n\
+    curve_k=0,16,32,48,64,80,96,112,128,144,160,176,192,208,224,240,256\n\
+    curve_c=0,16,32,48,64,80,96,112,128,144,160,176,192,208,224,240,256\n\
+    curve_m=0,16,32,48,64,80,96,112,128,144,160,176,192,208,224,240,256\n\
+    curve_y=0,16,32,48,64,80,96,112,128,144,160,176,192,208,224,240,256\n";
+
+// The same in version 2.
+const JUST_ENOUGH_2: &[u8] =
+    b"escp2-profile 2\nhdpi=360\nvdpi=720\nnozzles=31\npitch=8\ninks=k\ntop=240\n";
 
 #[test]
 fn a_profile_with_just_enough_margin_is_shown_whole(rt: HostRuntime) -> Result<(), Fail> {
@@ -129,7 +144,23 @@ fn a_profile_with_just_enough_margin_is_shown_whole(rt: HostRuntime) -> Result<(
 
 #[test]
 fn profile_checks_name_gcd_margin_and_step(rt: HostRuntime) -> Result<(), Fail> {
-    const CASES: [Case; 7] = [
+    const CASES: [Case; 9] = [
+        Case {
+            file: &[
+                JUST_ENOUGH_2,
+                b"curve_k=0,16,8,256,256,256,256,256,256,256,256,256,256,256,256,256,256\n",
+            ],
+            line: b"profile: line 0: Curve 0\n",
+            ..REFUSED
+        },
+        Case {
+            file: &[
+                JUST_ENOUGH_2,
+                b"curve_y=1,1,1,1,1,1,1,1,1,1,1,1,1,1,1,1,1\n",
+            ],
+            line: b"profile: line 0: Curve 3\n",
+            ..REFUSED
+        },
         Case {
             file: &[b"escp2-profile 1\nvdpi=720\nnozzles=32\npitch=8\ninks=k\ntop=300\nhdpi=360\n"],
             line: b"profile: line 0: NotCoprime 8\n",
@@ -173,14 +204,24 @@ fn profile_checks_name_gcd_margin_and_step(rt: HostRuntime) -> Result<(), Fail> 
 
 #[test]
 fn a_bad_text_is_refused_at_its_line(rt: HostRuntime) -> Result<(), Fail> {
-    const CASES: [Case; 8] = [
+    const CASES: [Case; 10] = [
+        Case {
+            file: &[JUST_ENOUGH_2, b"curve_k=0,16\n"],
+            line: b"profile: line 8: BadValue\n",
+            ..REFUSED
+        },
+        Case {
+            file: &[JUST_ENOUGH, b"curve_k=0,16\n"],
+            line: b"profile: line 8: UnknownKey\n",
+            ..REFUSED
+        },
         Case {
             file: &[b""],
             line: b"profile: line 1: BadHead\n",
             ..REFUSED
         },
         Case {
-            file: &[b"escp2-profile 2\n"],
+            file: &[b"escp2-profile 3\n"],
             line: b"profile: line 1: BadHead\n",
             ..REFUSED
         },
@@ -216,6 +257,55 @@ fn a_bad_text_is_refused_at_its_line(rt: HostRuntime) -> Result<(), Fail> {
         },
     ];
     try_all(&rt, rt.alloc(), &CASES)
+}
+
+// A printer of one nozzle and black, whose margins cut one pixel off at the left and at the top.
+const CUT: &[u8] =
+    b"escp2-profile 1\nhdpi=360\nvdpi=360\nnozzles=1\npitch=1\ninks=k\nleft=1\ntop=1\n";
+
+const CUT_PAGE: GivenPage = GivenPage {
+    size: (4, 2),
+    body: &[1, 3, 0],
+    ..GREY
+};
+
+#[test]
+fn a_version_1_text_migrates(rt: HostRuntime) -> Result<(), Fail> {
+    const PRINTED: Case = Case {
+        words: &["print", "profile=m1.txt"],
+        file: &[CUT],
+        pages: &[CUT_PAGE],
+        ..NO_PAGE
+    };
+    let alloc = rt.alloc();
+    let shown = run_bytes(&rt, alloc, SHOWN.words, &[CUT], Vec::new(alloc))?;
+    let text = shown.out.bytes();
+    assert!(rt; text.starts_with(b"escp2-profile 2\n"));
+    let stream = stream_of(alloc, &[CUT_PAGE])?;
+    let migrated = run_bytes(&rt, alloc, PRINTED.words, &[text], stream)?;
+    let job = left_by(&rt, alloc, &PRINTED)?;
+    assert_eq!(rt; (migrated.all(), job.out.bytes().len()), (job.all(), 63));
+    Ok(())
+}
+
+#[test]
+fn a_tone_below_the_threshold_leaves_a_blank_page(rt: HostRuntime) -> Result<(), Fail> {
+    const HALF: &[u8] = b"escp2-profile 2\nhdpi=360\nvdpi=360\nnozzles=1\npitch=1\ninks=k\n\
+        curve_k=0,8,16,24,32,40,48,56,64,72,80,88,96,104,112,120,128\n";
+    const BLACK_PIXEL: GivenPage = GivenPage {
+        size: (1, 1),
+        body: &[0, 0, 0],
+        ..GREY
+    };
+    const PRINTED: Case = Case {
+        words: &["print", "profile=m1.txt"],
+        file: &[HALF],
+        pages: &[BLACK_PIXEL],
+        ..NO_PAGE
+    };
+    let left = left_by(&rt, rt.alloc(), &PRINTED)?;
+    assert_eq!(rt; (left.status, left.out.bytes().len()), (0, 49));
+    Ok(())
 }
 
 // The text of a profile followed by a comment, of this many bytes in all.

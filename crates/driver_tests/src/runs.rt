@@ -32,10 +32,19 @@ fn a_run_past_its_line_is_refused_at_its_byte(rt: HostRuntime) -> Result<(), Fai
         size: (8, 6),
         ..GREY
     };
-    const CASES: [Case; 4] = [
+    const CASES: [Case; 5] = [
         Case {
             pages: &[GivenPage {
                 body: &[0, 8, 0],
+                ..SIZED
+            }],
+            line: b"input: page 1 line 1: RunPastLine\n",
+            ..REFUSED
+        },
+        Case {
+            words: &["print", "profile=tiny"],
+            pages: &[GivenPage {
+                body: &[0, 8],
                 ..SIZED
             }],
             line: b"input: page 1 line 1: RunPastLine\n",

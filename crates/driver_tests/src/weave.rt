@@ -23,12 +23,24 @@ const BLACK_PAGE: GivenPage = GivenPage {
 
 #[test]
 fn tiny_prints_ninety_two_bytes(rt: HostRuntime) -> Result<(), Fail> {
-    const CASES: [Case; 1] = [Case {
+    const GREY_CASE: Case = Case {
         words: &TINY,
         pages: &[BLACK_PAGE],
         out: Output::Parts(&[&TINY_JOB]),
         ..NO_PAGE
-    }];
+    };
+    // The same page of one bit a pixel.
+    const CASES: [Case; 2] = [
+        GREY_CASE,
+        Case {
+            pages: &[GivenPage {
+                kind: Kind::Black1,
+                body: &[5, 0, 0xFF],
+                ..BLACK_PAGE
+            }],
+            ..GREY_CASE
+        },
+    ];
     try_all(&rt, rt.alloc(), &CASES)
 }
 
@@ -169,11 +181,12 @@ fn a4(alloc: Global, byte: u8) -> Result<Vec<u8>, Fail> {
     Ok(bytes)
 }
 
-// How many rasters a job of an A4 page fires, and how many dots of each ink.
-fn fired(alloc: Global, job: &[u8]) -> Result<(u32, [i64; 4]), Fail> {
+// How many sheets a job of an A4 page gives, how many rasters it fires, and how many dots of each ink.
+fn fired(alloc: Global, job: &[u8]) -> Result<(u32, u32, [i64; 4]), Fail> {
     let printed = execute(alloc, &P360CMYK, (2886, 4089), job)?;
     let [black, cyan, magenta, yellow] = &printed.dots;
     Ok((
+        printed.sheets,
         printed.rasters,
         [black.sum(), cyan.sum(), magenta.sum(), yellow.sum()],
     ))
@@ -184,11 +197,12 @@ fn a_black_a4_takes_277_rasters(rt: HostRuntime) -> Result<(), Fail> {
     let alloc = rt.alloc();
     let bytes = a4(alloc, 0)?;
     assert_eq!(rt; bytes.len(), 3449);
-    let left = run_bytes(&rt, alloc, &["print", "profile=p360cmyk"], &[], bytes)?;
+    let words = ["print", "profile=p360cmyk", "workers=4"];
+    let left = run_bytes(&rt, alloc, &words, &[], bytes)?;
     hashes_to(&rt, &left, 38_413, 0xAC5A_E1A3_CCA8_296C);
     assert_eq!(rt;
         fired(alloc, left.out.bytes())?,
-        (277, [11_800_854, 0, 0, 0])
+        (1, 277, [11_800_854, 0, 0, 0])
     );
     Ok(())
 }
