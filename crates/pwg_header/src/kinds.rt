@@ -7,6 +7,8 @@ use crate::{Header, Kind};
 
 // ColorSpace of black, 0 white.
 const BLACK: u32 = 3;
+// ColorSpace of cyan, magenta, yellow and black, 0 white.
+const CMYK: u32 = 6;
 // ColorSpace of grey (sGray).
 const GREY: u32 = 18;
 // ColorSpace of red, green and blue (sRGB).
@@ -47,6 +49,18 @@ pub fn numbers_of(kind: Kind) -> KindNumbers
             bits_per_pixel: 24,
             colors: 3,
         },
+        Kind::Black1 => KindNumbers {
+            color_space: BLACK,
+            bits_per_color: 1,
+            bits_per_pixel: 1,
+            colors: 1,
+        },
+        Kind::Cmyk8 => KindNumbers {
+            color_space: CMYK,
+            bits_per_color: 8,
+            bits_per_pixel: 32,
+            colors: 4,
+        },
     }
 }
 
@@ -58,6 +72,8 @@ pub fn kind_of(h: &Header) -> Option<Kind>
         (GREY, 8, 8) => Some(Kind::Gray8),
         (BLACK, 8, 8) => Some(Kind::Black8),
         (RED_GREEN_BLUE, 8, 24) => Some(Kind::Rgb8),
+        (BLACK, 1, 1) => Some(Kind::Black1),
+        (CMYK, 8, 32) => Some(Kind::Cmyk8),
         _ => None,
     }
 }

@@ -57,7 +57,7 @@ check-wanted want h form accepted = by_fault (first_fault (header_tests want h))
         let made : PageForm = record { width = h.width; height = h.height; kind = row.kind; bytes_per_line = h.bytes_per_line } in
         let same : Ok made ≡ Ok form = e in
         let is_form : made ≡ form = cc in
-        let known : row_of row.kind ≡ row = find-among (λ r. row_of r.kind ≡ r) (has_kind h) kinds row (refl, (refl, (refl, tt))) is in
+        let known : row_of row.kind ≡ row = find-among (λ r. row_of r.kind ≡ r) (has_kind h) kinds row (refl, (refl, (refl, (refl, (refl, tt))))) is in
         let named : has_kind h row ≡ true = find-passes (has_kind h) kinds row is in
         let bits : h.bits_per_pixel ≡ row.bits_per_pixel = eqb-true _ _ (and_parts _ _ named).1 in
         let width : _ × _ = or_parts (nat_lt h.width want.least_width) (nat_lt want.most_width h.width) passes.1.1.0 in

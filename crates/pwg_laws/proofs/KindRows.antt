@@ -1,7 +1,7 @@
 -- What holds of each kind of pixel.
 use Rattle.std.proofs.Common.{◌≡◌, ℕ, ◌*◌, ◌<◌, ◌≤◌, ◌^◌, length, Some, refl, arith, lit<}
 use Rattle.pwg_definitions.specs.declared.pages.Kind.{Kind}
-use Rattle.pwg_definitions.specs.declared.pages.Kind.TheVariants.{Gray8, Black8, Rgb8}
+use Rattle.pwg_definitions.specs.declared.pages.Kind.TheVariants.{Gray8, Black8, Rgb8, Black1, Cmyk8}
 use Rattle.pwg_definitions.specs.declared.pages.Header.{Header}
 use Rattle.pwg_definitions.specs.Header.{KindRow, kind_of, line_bytes, line_units, row_of}
 
@@ -13,7 +13,7 @@ named_by row h = record h {
   bits_per_pixel = row.bits_per_pixel;
 }
 
--- The row of a kind: its pixels fill a line, its white is a pixel, and its numbers fit a header and name it.
+-- The row of a kind: its units fill a line, its white is a unit, and its numbers fit a header and name it.
 pub record IsKindRow (kind : Kind) (row : KindRow) : Type 0 where
   pub kind_is : row.kind ≡ kind
   pub some : 1 ≤ row.unit
@@ -46,6 +46,26 @@ kind_row Black8 = record {
   pixel_fits = lit< tt;
 }
 kind_row Rgb8 = record {
+  kind_is = refl;
+  some = omega arith;
+  white_sized = refl;
+  whole = λ width. omega arith;
+  named = λ h. refl;
+  space_fits = lit< tt;
+  bits_fit = lit< tt;
+  pixel_fits = lit< tt;
+}
+kind_row Black1 = record {
+  kind_is = refl;
+  some = omega arith;
+  white_sized = refl;
+  whole = λ width. omega arith;
+  named = λ h. refl;
+  space_fits = lit< tt;
+  bits_fit = lit< tt;
+  pixel_fits = lit< tt;
+}
+kind_row Cmyk8 = record {
   kind_is = refl;
   some = omega arith;
   white_sized = refl;

@@ -46,7 +46,7 @@ packet_at-spelling row left (Literal n bytes) rest is =
     (omega (arith, is.1, is.2)) (is.3 ∙ ap (λ k. k * row.unit) (sym again))
     ∙ ap (λ k. One (Literal k bytes) rest) again
 
--- a packet has a pixel, and no more than are left
+-- a packet has a unit, and no more than are left
 pub IsPacket-sizes : (row : KindRow) (left : ℕ) (p : Packet) → IsPacket row left p → (1 ≤ packet_units left p)
     × (packet_units left p ≤ left)
 IsPacket-sizes row left (Run n unit) is = (is.0, is.2)

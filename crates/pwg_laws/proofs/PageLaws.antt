@@ -28,7 +28,7 @@ use Rattle.pwg_laws.proofs.KindRows.{kind_row}
 
 -- ---- a line
 
--- A line that was read is as long as its pixels say.
+-- A line that was read is as long as its units say.
 record IsLong (row : KindRow) (left : ℕ) (front : GroupFront) (repeats : ℕ) (line : List ℕ) : Type 0 where
   same : repeats ≡ front.repeats
   long : length line ≡ length front.line + left * row.unit

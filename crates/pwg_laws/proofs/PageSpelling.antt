@@ -11,7 +11,7 @@ use Rattle.pwg_definitions.specs.Header.{KindRow, check, header_of, line_units, 
 use Rattle.pwg_definitions.specs.Groups.{GroupRead, group_at}
 use Rattle.pwg_definitions.specs.Groups.GroupRead.{Group, Part, Wrong}
 use Rattle.pwg_definitions.specs.Spelling.{LineGroup, SpellsLines, SpellsPage, SpellsPages, SpellsStream, groups_bytes, groups_lines}
-use Rattle.pwg_definitions.specs.Stream.{LinesRead, Page, PageRead, Stream, lines_at, lines_of, page_at, page_behind, page_of, pages_from}
+use Rattle.pwg_definitions.specs.Stream.{Page, PageRead, Stream, lines_at, lines_of, page_at, page_behind, page_of, pages_from}
 use Rattle.pwg_definitions.specs.Stream.{stream, with_lines, with_page}
 use Rattle.pwg_definitions.specs.Stream.LinesRead.{Lines, Stop}
 use Rattle.pwg_definitions.specs.Stream.PageRead.{Whole, Broken}

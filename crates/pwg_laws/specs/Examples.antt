@@ -1,7 +1,7 @@
 -- The values that the examples share.
 use Rattle.std.specs.Prelude.{ℕ, List, [], ◌∷◌, ◌++◌, true, Result}
 use Rattle.pwg_definitions.specs.declared.pages.Kind.{Kind}
-use Rattle.pwg_definitions.specs.declared.pages.Kind.TheVariants.{Gray8}
+use Rattle.pwg_definitions.specs.declared.pages.Kind.TheVariants.{Gray8, Black1, Cmyk8}
 use Rattle.pwg_definitions.specs.declared.pages.PageForm.{PageForm}
 use Rattle.pwg_definitions.specs.declared.pages.Header.{Header}
 use Rattle.pwg_definitions.specs.declared.pages.Wanted.{Wanted}
@@ -36,6 +36,38 @@ small_bytes = small_header ++ (0x00 ∷ 0x03 ∷ 0xD1 ∷ 0x00 ∷ 0x02 ∷ 0x9F
 -- its bytes without the last one
 abbrev pub small_prefix : List ℕ
 small_prefix = small_header ++ (0x00 ∷ 0x03 ∷ 0xD1 ∷ 0x00 ∷ 0x02 ∷ 0x9F ∷ 0x00 ∷ [])
+
+-- a page of 12 by 2 pixels of one bit
+abbrev pub bits_form : PageForm
+bits_form = record { width = 12; height = 2; kind = Black1; bytes_per_line = 2 }
+
+-- the page of this form: four black pixels, four white ones and four black ones; and four white pixels and eight black
+-- ones. The four bits behind each line mean nothing.
+abbrev pub bits_page : Page
+bits_page = record { form = bits_form; lines = (0xF0 ∷ 0xF0 ∷ []) ∷ (0x0F ∷ 0xFF ∷ []) ∷ [] }
+
+-- its bytes
+abbrev pub bits_bytes : List ℕ
+bits_bytes = header_bytes bits_form 360 360 ++ (0x00 ∷ 0x01 ∷ 0xF0 ∷ 0x00 ∷ 0xFF ∷ 0x0F ∷ 0xFF ∷ [])
+
+-- a page of 2 by 2 pixels of four inks
+abbrev pub inks_form : PageForm
+inks_form = record { width = 2; height = 2; kind = Cmyk8; bytes_per_line = 8 }
+
+-- the page of this form: a line of two equal pixels, and a white line
+abbrev pub inks_page : Page
+inks_page = record {
+  form = inks_form;
+  lines = (0x01 ∷ 0x02 ∷ 0x03 ∷ 0x04 ∷ 0x01 ∷ 0x02 ∷ 0x03 ∷ 0x04 ∷ []) ∷ (0 ∷ 0 ∷ 0 ∷ 0 ∷ 0 ∷ 0 ∷ 0 ∷ 0 ∷ []) ∷ [];
+}
+
+-- the header of this page
+abbrev pub inks_header : List ℕ
+inks_header = header_bytes inks_form 360 360
+
+-- its bytes
+abbrev pub inks_bytes : List ℕ
+inks_bytes = inks_header ++ (0x00 ∷ 0x01 ∷ 0x01 ∷ 0x02 ∷ 0x03 ∷ 0x04 ∷ 0x00 ∷ 0x80 ∷ [])
 
 -- what a stream of the sync word and these bytes is read as
 abbrev pub read : List ℕ → Stream

@@ -9,9 +9,9 @@ ghost use Rattle.pwg_definitions.specs.Stream.{pages_from, stream};
 ghost use Rattle.pwg_definitions.specs.declared.faults.HeaderFault.TheVariants as fault;
 ghost use Rattle.pwg_definitions.specs.declared.faults.InputCause.TheVariants as cause;
 ghost use Rattle.pwg_definitions.specs.declared.faults.LineFault.TheVariants.{GroupPastPage, RunPastLine};
-ghost use Rattle.pwg_definitions.specs.declared.pages.Kind.TheVariants.{Black8, Rgb8};
+ghost use Rattle.pwg_definitions.specs.declared.pages.Kind.TheVariants.{Black1, Black8, Cmyk8, Rgb8};
 ghost use Rattle.pwg_laws.specs.Examples.{checked, form_sized, good, grey_group, group_of, header_sized, of_kind};
-ghost use Rattle.pwg_laws.specs.Examples.{wants};
+ghost use Rattle.pwg_laws.specs.Examples.{bits_bytes, bits_page, inks_bytes, inks_header, inks_page, wants};
 ghost use Rattle.pwg_laws.specs.Examples.{pages_then, read, small_bytes, small_form, small_prefix, small_header};
 ghost use Rattle.pwg_laws.specs.Examples.{small_page};
 
@@ -50,6 +50,19 @@ pub fn small_streams()
         ≡ pages_then [] (Fault 1 2 (cause.Line RunPastLine)) }
 {}
 
+/// Streams of pixels of one bit, eight in a byte, and of pixels of four inks.
+pub fn streams_of_bits_and_inks()
+    ensures bits { read bits_bytes ≡ pages_then (bits_page ∷ []) Done }
+    ensures inks { read inks_bytes ≡ pages_then (inks_page ∷ []) Done }
+    ensures both { read (bits_bytes ++ inks_bytes) ≡ pages_then (bits_page ∷ inks_page ∷ []) Done }
+    ensures cut { read (bits_bytes ++ inks_header ++ (0x00 ∷ 0x01 ∷ 0x01 ∷ 0x02 ∷ 0x03 ∷ []))
+        ≡ pages_then (bits_page ∷ []) (Fault 2 1 cause.Truncated) }
+    ensures long_run { read (inks_header ++ (0x00 ∷ 0x80 ∷ 0x00 ∷ 0x02 ∷ []))
+        ≡ pages_then [] (Fault 1 2 (cause.Line RunPastLine)) }
+    ensures ink_colours { take 4 (drop 420 inks_header) ≡ 0 ∷ 0 ∷ 0 ∷ 4 ∷ [] }
+    ensures bit_colours { take 4 (drop 420 bits_bytes) ≡ 0 ∷ 0 ∷ 0 ∷ 1 ∷ [] }
+{}
+
 /// A page's number is at most 9,999.
 pub fn last_page()
     ensures last { pages_from wants 1 9999 small_bytes ≡ pages_then (small_page ∷ []) Done }
@@ -78,6 +91,12 @@ pub fn header_bounds()
 pub fn header_kinds()
     ensures black { checked (of_kind 3 8 8 4) ≡ Ok (record small_form { kind = Black8 }) }
     ensures colours { checked (of_kind 19 8 24 12) ≡ Ok (record small_form { kind = Rgb8; bytes_per_line = 12 }) }
+    ensures bits { checked (of_kind 3 1 1 1) ≡ Ok (record small_form { kind = Black1; bytes_per_line = 1 }) }
+    ensures inks { checked (of_kind 6 8 32 16) ≡ Ok (record small_form { kind = Cmyk8; bytes_per_line = 16 }) }
+    ensures grey_bits { checked (of_kind 18 1 1 1) ≡ Err fault.Kind }
+    ensures inks_of_three_bytes { checked (of_kind 6 8 24 12) ≡ Err fault.Kind }
+    ensures long_bits { checked (of_kind 3 1 1 4) ≡ Err fault.BytesPerLine }
+    ensures short_inks { checked (of_kind 6 8 32 15) ≡ Err fault.BytesPerLine }
     ensures colours_in_a_byte { checked (of_kind 19 8 8 4) ≡ Err fault.Kind }
     ensures deep_colours { checked (of_kind 19 16 48 24) ≡ Err fault.Kind }
     ensures deep_black { checked (of_kind 3 16 16 8) ≡ Err fault.Kind }
@@ -129,10 +148,16 @@ pub fn groups()
     ensures nothing { grey_group 8 1 [] ≡ Part }
 {}
 
-/// Groups of a page in black and in colours, whose pixels have three bytes.
+/// Groups of pages of other kinds: pixels of three bytes and of four, and bytes of eight pixels.
 pub fn groups_of_kinds()
     ensures black_white { group_of Black8 8 1 (0x00 ∷ 0x80 ∷ []) ≡ Group 1 (replicate 8 0x00) [] }
     ensures colour_white { group_of Rgb8 2 1 (0x00 ∷ 0x80 ∷ []) ≡ Group 1 (replicate 6 0xFF) [] }
+    ensures bit_white { group_of Black1 2 1 (0x00 ∷ 0x80 ∷ []) ≡ Group 1 (0x00 ∷ 0x00 ∷ []) [] }
+    ensures bit_run { group_of Black1 2 1 (0x00 ∷ 0x01 ∷ 0xA5 ∷ []) ≡ Group 1 (0xA5 ∷ 0xA5 ∷ []) [] }
+    ensures ink_white { group_of Cmyk8 1 1 (0x00 ∷ 0x80 ∷ []) ≡ Group 1 (replicate 4 0x00) [] }
+    ensures ink_run { group_of Cmyk8 2 1 (0x00 ∷ 0x01 ∷ 0x01 ∷ 0x02 ∷ 0x03 ∷ 0x04 ∷ [])
+        ≡ Group 1 (0x01 ∷ 0x02 ∷ 0x03 ∷ 0x04 ∷ 0x01 ∷ 0x02 ∷ 0x03 ∷ 0x04 ∷ []) [] }
+    ensures ink_past_line { group_of Cmyk8 1 1 (0x00 ∷ 0x01 ∷ []) ≡ Wrong 1 RunPastLine }
     ensures run { group_of Rgb8 2 1 (0x00 ∷ 0x01 ∷ 0x01 ∷ 0x02 ∷ 0x03 ∷ [])
         ≡ Group 1 (0x01 ∷ 0x02 ∷ 0x03 ∷ 0x01 ∷ 0x02 ∷ 0x03 ∷ []) [] }
     ensures literal { group_of Rgb8 2 1 (0x00 ∷ 0xFF ∷ 0x01 ∷ 0x02 ∷ 0x03 ∷ 0x04 ∷ 0x05 ∷ 0x06 ∷ 0x99 ∷ [])

@@ -141,7 +141,7 @@ feed_fault old now piece used fault so_far failed = record {
               ∙ here.is rest,
         )
 
--- where no pixel is left, the line is filled
+-- where no unit is left, the line is filled
 full_line : (now : LineReader) → now.state ≡ state.Full → now.left ≡ 0 → length now.line.items ≤ now.filled
 full_line now full none =
     let none_pending : pending (row_of now.form.kind) now.state ≡ 0 = ap (pending (row_of now.form.kind)) full in

@@ -1,4 +1,4 @@
--- Copies of a pixel in a line.
+-- Copies of a unit in a line.
 use Rattle.std.proofs.Common.{◌≡◌, ℕ, zero, suc, ◌+◌, ◌-◌, ◌*◌, ◌<◌, ◌≤◌, get_or, List, [], ◌∷◌, ◌++◌, length, take, drop, replicate, refl}
 use Rattle.std.proofs.Common.{sym, ◌∙◌, ap, arith, append_assoc, length-append, length-drop}
 use Rattle.std.proofs.lemmas.List.{drop_at, length-replicate, length-take-le, take-take, take_at}
@@ -25,15 +25,15 @@ take-copies m len unit rest sized =
     ap (λ k. take k (copies m unit ++ rest)) (ap (λ k. m * k) (sym sized) ∙ sym (length-copies m unit))
     ∙ take-append_seam (copies m unit) rest
 
--- a first pixel is whole
+-- a first unit is whole
 pub first_unit : (count unit : ℕ) (bytes : List ℕ) → 1 ≤ count → length bytes ≡ count * unit → length (take unit bytes) ≡ unit
 first_unit count unit bytes some whole = length-take-le unit bytes (omega (arith, whole, mul-le-mul_right unit some))
 
--- this many more pixels are within the bytes
+-- this many more units are within the bytes
 pub more_within : (count unit times more len : ℕ) → len + times * unit ≡ count * unit → more + times ≤ count → more * unit ≤ len
 more_within count unit times more len sized most = omega (arith, sized, mul-le-mul_right unit most)
 
--- fewer pixels are within the copies
+-- fewer units are within the copies
 pub fewer : (unit more times len : ℕ) → more ≤ times → len ≡ times * unit → more * unit ≤ len
 fewer unit more times len few is = omega (arith, is, mul-le-mul_right unit few)
 
@@ -52,7 +52,7 @@ copies_more times more len unit front copied rest sized is few again =
 
 -- ---- bytes after the filled ones
 
--- more bytes of a pixel after those that are read: the filled bytes stay, and the pixel grows
+-- more bytes of a unit after those that are read: the filled bytes stay, and the unit grows
 pub unit_grows : (filled read : ℕ) (old new others : List ℕ) → filled + read ≤ length old → filled ≤ length new
     → take (filled + (read + length others)) new ≡ take (filled + read) old ++ others
     → (take filled new ≡ take filled old) × (take (read + length others) (drop filled new) ≡ take read (drop filled old) ++ others)
@@ -71,7 +71,7 @@ unit_grows filled read old new others within within' e = (
     parted = sym (take-add filled (read + length others) new) ∙ e ∙ ap (λ bs. bs ++ others) (take-add filled read old)
         ∙ append_assoc (take filled old) (take read (drop filled old)) others
 
--- a pixel whose last bytes are put after the first, and then all the copies of it
+-- a unit whose last bytes are put after the first, and then all the copies of it
 pub units_filled : (filled read count total : ℕ) (line others new first copied : List ℕ) (k k' : ℕ)
     → 1 ≤ count → filled + count * (read + length others) ≤ length line → total ≡ count * (read + length others)
     → new ≡ others → first ≡ put_mid (filled + read) k line new
@@ -115,7 +115,7 @@ units_filled filled read count total line others new first copied k k' some fits
         ∙ ap (λ n. count * n) (length-append (take read (drop filled line)) others
         ∙ ap (λ n. n + length others) (length-take-le read (drop filled line) (omega (arith, in_line, length-drop filled line))))
 
--- copies of a pixel of one byte
+-- copies of a unit of one byte
 pub byte_filled : (filled read count : ℕ) (line others new : List ℕ) (k : ℕ) → read ≡ 0 → 1 ≤ length others → length others < 2
     → filled + count * (read + length others) ≤ length line
     → new ≡ replicate (length (take (filled + count - filled) (drop filled line))) (get_or others 0 0)

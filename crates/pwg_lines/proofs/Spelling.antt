@@ -10,7 +10,7 @@ use Rattle.pwg_definitions.specs.Groups.Packet.{Run, Literal}
 use Rattle.pwg_lines.specs.Canonical.{as_they_are, canonical, copies_at, next_packet, packets_from, unequal_at}
 use Rattle.pwg_lines.proofs.Writing.{IsCounted, copies_at-front, counted, one_unit}
 
--- The first packet of a line of whole pixels: it fits the line, and gives the bytes up to the rest.
+-- The first packet of a line of whole units: it fits the line, and gives the bytes up to the rest.
 record IsFront (row : KindRow) (units : ℕ) (line : List ℕ) (p : Packet) : Type 0 where
   fits : IsPacket row units p
   some : 1 ≤ packet_units units p
@@ -76,7 +76,7 @@ front-next row units line unit whole one = by_run (nat_lt 1 (copies_at 128 (take
         front-literal row units line (unequal_at 128 row.unit line) whole (counts.unequal_some (ltb-false _ _ e)) counts.few_unequal
         counts.unequal_within
 
--- The packets of a line of whole pixels are a line, and give its bytes.
+-- The packets of a line of whole units are a line, and give its bytes.
 record SpellsWhole (row : KindRow) (units : ℕ) (line : List ℕ) (packets : List Packet) : Type 0 where
   full : SpellsLine row units packets
   gives : line ≡ line_gives row units packets

@@ -52,7 +52,7 @@ pub written-front : (len : ℕ) (items lent new : List ℕ) (end : ℕ) (makes :
 written-front len items lent new end makes sized same grown =
     ap (λ bs. take end bs) (written-is len items new sized) ∙ grown ∙ ap makes same
 
--- ---- the pixels of a packet
+-- ---- the units of a packet
 
 pub units-past : (left n u : ℕ) → u ≡ units_of left n → left < u → left < units_of left n
 units-past left n u is past = omega arith
@@ -76,7 +76,7 @@ with_byte : (row : KindRow) (units lines : ℕ) (s : State) (repeats : ℕ) (lin
 with_byte row units lines s repeats line part left sofar so_far b rest =
     ap (group_at row units lines) (append_assoc sofar (b ∷ []) rest) ∙ so_far.is (b ∷ rest)
 
--- a packet is read where a pixel is left
+-- a packet is read where a unit is left
 with_first : (row : KindRow) (units lines repeats : ℕ) (line part : List ℕ) (left : ℕ) (sofar : List ℕ)
     (so_far : Stands row units lines state.Packet repeats line part left sofar) (n : ℕ) (rest : List ℕ)
     → group_at row units lines (snoc sofar n ++ rest)
@@ -107,7 +107,7 @@ packet_at-literal row left n bytes large fits =
 packet_at-white : (row : KindRow) (left : ℕ) (bytes : List ℕ) → packet_at row left (128 ∷ bytes) ≡ One Clear bytes
 packet_at-white row left bytes = ap (λ b. if b then Long else One Clear bytes) (le-ltb left left (omega arith))
 
--- more pixels than are left
+-- more units than are left
 pub packet-past : (row : KindRow) (units lines repeats : ℕ) (line part : List ℕ) (left : ℕ) (sofar : List ℕ) (n repeats' : ℕ)
     (line' part' : List ℕ) (left' : ℕ)
     → Stands row units lines state.Packet repeats line part left sofar → left < units_of left n
@@ -127,7 +127,7 @@ packet-past row units lines repeats line part left sofar n repeats' line' part' 
           ∙ ap (λ k. Wrong k RunPastLine) at_last;
     }
 
--- A packet of `units` pixels whose first byte is n: where the line has `left` pixels left, `count` bytes follow, and
+-- A packet of `units` units whose first byte is n: where the line has `left` units left, `count` bytes follow, and
 -- the packet makes this of them.
 record IsBegun (row : KindRow) (left n units count : ℕ) (make : List ℕ → Packet) (makes : List ℕ → List ℕ) : Type 0 where
   read : (rest : List ℕ) → packet_at row left (n ∷ rest) ≡ packet_from make count rest
@@ -326,7 +326,7 @@ behind_all row units lines repeats most left line line' part' sofar bytes count 
     ∙ ap (λ k. line_at row most left (front_of repeats line' k) rest) (let p : length (sofar ++ bytes) + 0 ≡ length (sofar ++ bytes) =
     omega arith in p))
 
--- a part of the pixel of a run
+-- a part of the unit of a run
 pub run-part : (row : KindRow) (units lines repeats : ℕ) (line part : List ℕ) (left : ℕ) (sofar : List ℕ) (n read : ℕ)
     (bytes line' part' : List ℕ) (read' : ℕ)
     → Stands row units lines (state.Run n read) repeats line part left sofar → read' ≡ read + length bytes → read' < row.unit → line' ≡ line
@@ -343,7 +343,7 @@ run-part row units lines repeats line part left sofar n read bytes line' part' r
       ∙ ap (λ bs. line' ++ copies n bs) (sym (append_assoc part bytes others) ∙ ap (λ bs. bs ++ others) (sym grown)));
 }
 
--- the rest of the pixel of a run
+-- the rest of the unit of a run
 pub run-end : (row : KindRow) (units lines repeats : ℕ) (line part : List ℕ) (left : ℕ) (sofar : List ℕ) (n read : ℕ)
     (bytes line' part' : List ℕ)
     → Stands row units lines (state.Run n read) repeats line part left sofar → length bytes ≡ row.unit - read

@@ -7,7 +7,7 @@ use Rattle.pwg_lines.specs.declared.states.State.{State}
 use Rattle.pwg_lines.specs.declared.states.State.TheVariants as state
 use Rattle.pwg_lines.specs.States.{gives, least_gives, pending, read_in}
 
--- Within the pixel of a run of `units` pixels, of which `read` bytes are read: the whole run fits the line.
+-- Within the unit of a run of `units` units, of which `read` bytes are read: the whole run fits the line.
 pub record RunFits (reader : LineReader) (units read : ℕ) : Type 0 where
   pub some : 1 ≤ units
   pub part : read < (row_of reader.form.kind).unit

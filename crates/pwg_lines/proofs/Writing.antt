@@ -10,9 +10,9 @@ use Rattle.pwg_definitions.specs.Groups.{Packet, copies, packet_spelling, packet
 use Rattle.pwg_laws.proofs.Packets.{length-copies}
 use Rattle.pwg_lines.specs.Canonical.{canonical, copies_at, next_packet, packets_from, unequal_at}
 
--- ---- counting pixels
+-- ---- counting units
 
--- This many copies of the pixel are counted.
+-- This many copies of the unit are counted.
 pub record CopiesSoFar (most : ℕ) (unit line : List ℕ) (count : ℕ) (rest : List ℕ) : Type 0 where
   pub within : count ≤ most
   pub is : copies_at most unit line ≡ count + copies_at (most - count) unit rest
@@ -54,14 +54,14 @@ pub copies_end : (most : ℕ) (unit line : List ℕ) (count : ℕ) (rest : List 
     → most ≤ count → count ≡ copies_at most unit line
 copies_end most unit line count rest so_far all = omega (arith, so_far.is, copies-none (most - count) unit rest (omega arith))
 
--- This many unequal pixels are counted, and the rest is whole pixels.
+-- This many unequal units are counted, and the rest is whole units.
 pub record UnequalSoFar (most unit : ℕ) (line : List ℕ) (count : ℕ) (rest : List ℕ) : Type 0 where
   pub within : count ≤ most
   pub units : ℕ
   pub whole : length rest ≡ units * unit
   pub is : unequal_at most unit line ≡ count + unequal_at (most - count) unit rest
 
--- this many pixels are in it
+-- this many units are in it
 pub units_in : (unit len : ℕ) → 1 ≤ unit → len % unit ≡ 0 → len ≡ len / unit * unit
 units_in unit len some whole = omega arith
 
@@ -74,7 +74,7 @@ unequal_begin most unit line some whole = record {
       ∙ (let e : unequal_at (most - 0) unit line ≡ 0 + unequal_at (most - 0) unit line = omega arith in e);
 }
 
--- where there is a byte, there is a pixel
+-- where there is a byte, there is a unit
 pub one_unit : (units unit len : ℕ) → len ≡ units * unit → 0 < len → unit ≤ len
 one_unit zero unit len e some = omega arith
 one_unit (suc units) unit len e some = omega (arith, e)
@@ -137,13 +137,13 @@ pub unequal_end : (most unit : ℕ) (line : List ℕ) (count : ℕ) (rest : List
     → length rest ≡ 0 → count ≡ unequal_at most unit line
 unequal_end most unit line count rest so_far none = omega (arith, so_far.is, unequal-nothing (most - count) unit rest none)
 
--- a test of the first pixels, made on their parts
+-- a test of the first units, made on their parts
 pub parts_tested : (rest front behind : List ℕ) (unit : ℕ) (result b : Bool) → front ≡ take unit rest → behind ≡ drop unit rest
     → result ≡ starts_with nat_eq behind front → result ≡ b → starts_with nat_eq (drop unit rest) (take unit rest) ≡ b
 parts_tested rest front behind unit result b front_is behind_is tested is =
     ap (starts_with nat_eq (drop unit rest)) (sym front_is) ∙ ap (λ bs. starts_with nat_eq bs front) (sym behind_is) ∙ sym tested ∙ is
 
--- ---- the first pixels of a line
+-- ---- the first units of a line
 
 -- what begins with some bytes is these and the rest
 begins-is : (bytes unit : List ℕ) → starts_with nat_eq bytes unit ≡ true → bytes ≡ unit ++ drop (length unit) bytes
@@ -222,7 +222,7 @@ unequal_at-within (suc most) unit (b ∷ bytes) (suc units) whole =
     by_test after true = omega arith
     by_test after false = omega (arith, after)
 
--- The counts of the first pixels of a line, which has one pixel or more.
+-- The counts of the first units of a line, which has one unit or more.
 pub record IsCounted (unit : ℕ) (line : List ℕ) (units : ℕ) : Type 0 where
   pub few_equal : copies_at 128 (take unit line) line ≤ 128
   pub equal_within : copies_at 128 (take unit line) line ≤ units
@@ -271,7 +271,7 @@ counted unit line units some whole one = record {
         copies-more 127 (take unit line) (drop (length (take unit line)) line) (omega arith) second in
         absurd (omega (arith, few, first, third))
 
--- The counts of the first pixels of a line that is not empty, in pixels and in bytes.
+-- The counts of the first units of a line that is not empty, in units and in bytes.
 pub record IsCountedLine (unit : ℕ) (line : List ℕ) : Type 0 where
   pub few_equal : copies_at 128 (take unit line) line ≤ 128
   pub equal_bytes : copies_at 128 (take unit line) line * unit ≤ length line
@@ -291,7 +291,7 @@ counted_line unit line some whole one =
       unequal_some = counts.unequal_some;
     }
 
--- a number of pixels in bytes
+-- a number of units in bytes
 pub scaled : (n m unit len : ℕ) → n ≡ m → m * unit ≤ len → n * unit ≤ len
 scaled n m unit len same within = let P : ℕ → Type 0 = λ k. k * unit ≤ len in subst P (sym same) within
 
@@ -314,7 +314,7 @@ unfolding packets_from
 packets-nothing most unit [] none = refl
 packets-nothing most unit (b ∷ rest) none = absurd (omega arith)
 
--- Packets are appended for a prefix of the line, and whole pixels are left.
+-- Packets are appended for a prefix of the line, and whole units are left.
 pub record GroupSoFar (unit more : ℕ) (line old now rest : List ℕ) : Type 0 where
   pub units : ℕ
   pub whole : length rest ≡ units * unit

@@ -1,4 +1,4 @@
--- The canonical spelling of a group, which is written (PWG 5102.4, section 4.4): runs where pixels are equal, and
+-- The canonical spelling of a group, which is written (PWG 5102.4, section 4.4): runs where units are equal, and
 -- literals between them. White to the end of the line is never written.
 use Rattle.std.specs.Prelude.{ℕ, zero, suc, ◌+◌, ◌-◌, ◌*◌, ◌==◌, nat_eq, nat_lt, if◌then◌else◌, List, [], ◌∷◌, length, take, drop}
 use Rattle.std.specs.List.{flat_map, starts_with}
@@ -6,13 +6,13 @@ use Rattle.pwg_definitions.specs.Limits.{most_units}
 use Rattle.pwg_definitions.specs.Groups.{Packet, packet_spelling, packet_units}
 use Rattle.pwg_definitions.specs.Groups.Packet.{Run, Literal}
 
--- how many times the bytes begin with the pixel, one after another, up to `most`
+-- how many times the bytes begin with the unit, one after another, up to `most`
 unfoldable pub copies_at : ℕ → List ℕ → List ℕ → ℕ
 copies_at zero unit bytes = 0
 copies_at (suc most) unit bytes =
     if starts_with nat_eq bytes unit then 1 + copies_at most unit (drop (length unit) bytes) else 0
 
--- how many pixels come before the first two that are equal, or before the end, up to `most`
+-- how many units come before the first two that are equal, or before the end, up to `most`
 unfoldable pub unequal_at : ℕ → ℕ → List ℕ → ℕ
 unequal_at zero unit bytes = 0
 unequal_at (suc most) unit [] = 0
@@ -20,11 +20,11 @@ unequal_at (suc most) unit (b ∷ bytes) =
     if starts_with nat_eq (drop unit (b ∷ bytes)) (take unit (b ∷ bytes)) then 0
     else 1 + unequal_at most unit (drop unit (b ∷ bytes))
 
--- n pixels as they are; one alone is a run of one
+-- n units as they are; one alone is a run of one
 abbrev pub as_they_are : ℕ → List ℕ → Packet
 as_they_are n bytes = if n == 1 then Run 1 bytes else Literal n bytes
 
--- the first packet of a line: a run of two pixels or more, else a literal up to the next run
+-- the first packet of a line: a run of two units or more, else a literal up to the next run
 abbrev pub next_packet : ℕ → List ℕ → Packet
 next_packet unit line =
     let run = copies_at most_units (take unit line) line in

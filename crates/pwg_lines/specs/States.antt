@@ -12,7 +12,7 @@ pending row (Run units read) = units * row.unit
 pending row (Literal bytes) = bytes
 pending row other = 0
 
--- how many pixels the current run gives, or how many bytes the current literal
+-- how many units the current run gives, or how many bytes the current literal
 abbrev pub gives : State → ℕ
 gives (Run units read) = units
 gives (Literal bytes) = bytes
@@ -24,12 +24,12 @@ least_gives (Run units read) = 1
 least_gives (Literal bytes) = 1
 least_gives other = 0
 
--- how many bytes of the pixel of a run are read; they are put after the filled bytes of the line
+-- how many bytes of the unit of a run are read; they are put after the filled bytes of the line
 abbrev pub read_in : State → ℕ
 read_in (Run units read) = read
 read_in other = 0
 
--- the least number of pixels of the line after the current packet
+-- the least number of units of the line after the current packet
 abbrev pub least_left : State → ℕ
 least_left Packet = 1
 least_left other = 0
@@ -46,7 +46,7 @@ IsOpen Full = ⊥
 IsOpen (Failed fault) = ⊥
 IsOpen other = Unit {0}
 
--- the state after a packet: before the next one, or after the group where no pixels are left
+-- the state after a packet: before the next one, or after the group where no units are left
 abbrev pub behind_packet : ℕ → State
 behind_packet zero = Full
 behind_packet (suc left) = Packet
@@ -60,14 +60,14 @@ longer front more count = record {
 }
 
 -- What the bytes that follow are read as, where the current packet waits for `count` bytes, of which it makes more of
--- the line, and the line has `left` pixels after it.
+-- the line, and the line has `left` units after it.
 abbrev pub read_behind : KindRow → ℕ → ℕ → GroupFront → (List ℕ → List ℕ) → ℕ → List ℕ → GroupRead
 read_behind row most left front makes count rest =
     if nat_lt (length rest) count then Part
     else line_at row most left (longer front (makes (take count rest)) count) (drop count rest)
 
--- What the bytes that follow are read as, where the line has `left` pixels after the current packet, and `part` is what
--- is read of the pixel of a run.
+-- What the bytes that follow are read as, where the line has `left` units after the current packet, and `part` is what
+-- is read of the unit of a run.
 abbrev pub read_on : State → KindRow → ℕ → ℕ → ℕ → ℕ → GroupFront → List ℕ → List ℕ → GroupRead
 read_on Start row units lines most left front part rest = group_at row units lines rest
 read_on Packet row units lines most left front part rest = line_at row most left front rest
@@ -86,7 +86,7 @@ IsAt (Literal n) row left sofar = 1 ≤ n
 IsAt Full row left sofar = left ≡ 0
 IsAt (Failed fault) row left sofar = 1 ≤ length sofar
 
--- A reader in this state, with this much of the line and of the pixel of a run, reads what follows as the group is read
+-- A reader in this state, with this much of the line and of the unit of a run, reads what follows as the group is read
 -- that the bytes `sofar` begin.
 pub record Stands (row : KindRow) (units lines : ℕ) (state : State) (repeats : ℕ) (line part : List ℕ) (left : ℕ)
     (sofar : List ℕ) : Type 0 where

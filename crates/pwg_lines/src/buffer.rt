@@ -10,7 +10,7 @@ pub fn fill_bytes(line: &mut [u8], filled: usize, bytes: &[u8])
     line[filled..filled + bytes.len()].copy_from_slice(bytes);
 }
 
-/// Puts `count` copies of a pixel after the filled bytes. The pixel's first `read` bytes are there already, and
+/// Puts `count` copies of a unit after the filled bytes. The unit's first `read` bytes are there already, and
 /// `others` are the rest of it.
 pub fn fill_units(line: &mut [u8], filled: usize, read: usize, others: &[u8], count: usize)
     requires some { 1 ≤ count }
@@ -27,7 +27,7 @@ pub fn fill_units(line: &mut [u8], filled: usize, read: usize, others: &[u8], co
     repeat_unit(&mut line[filled..filled + count * unit], unit, count);
 }
 
-// Fills the bytes with their first pixel. It is not inlined, since the reader's loop is faster without it.
+// Fills the bytes with their first unit. It is not inlined, since the reader's loop is faster without it.
 #[inline(never)]
 fn repeat_unit(bytes: &mut [u8], unit: usize, count: usize)
     requires some { 1 ≤ count }

@@ -1,6 +1,6 @@
 //! The run-coded lines of a page of PWG Raster (PWG 5102.4, section 4.4): groups of equal lines, read from pieces of
-//! any length, and written. A line is a whole number of pixels; a pixel has one byte in grey and black, three in RGB.
-//! Names call the bytes of a pixel a `unit`.
+//! any length, and written. A line is a whole number of units, which its packets repeat. A unit is a pixel of 1, 3 or 4
+//! bytes, or a byte with eight pixels of one bit.
 //!
 //! A `LineReader` stands for the bytes of a group that it has read (`StandsFor`), however they were cut into pieces.
 //! `feed` answers `More` where the whole piece was used and the group is not yet whole; `Line` where the group ends

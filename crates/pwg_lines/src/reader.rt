@@ -21,7 +21,7 @@ pub struct LineReader {
     line: Vec<u8>,
     // how many bytes of the line are filled, by the packets before the one that is read
     filled: usize,
-    // how many pixels of the line come after that packet
+    // how many units of the line come after that packet
     left: usize,
     state: State,
     ghost sized: { length line.items ≡ line_units (row_of form.kind) form.width * (row_of form.kind).unit },
@@ -96,7 +96,7 @@ impl LineReader {
 
     /// Reads the next bytes of the page's lines, of any number, and takes no memory. It stops after the last byte of
     /// a group, or after the byte that shows a fault: a count past the page, or the first byte of a packet with more
-    /// pixels than the line has left. The next call is given the rest of the piece, and more.
+    /// units than the line has left. The next call is given the rest of the piece, and more.
     pub fn feed(&mut self, piece: &[u8]) -> Fed
         ensures used { result.used ≤ length piece.now }
         ensures form { form_of self.new ≡ form_of self.old }

@@ -10,9 +10,9 @@ use pwg_definitions::LineFault;
 pub enum State {
     /// Before the group's count.
     Start,
-    /// Before a packet, with one pixel of the line left or more.
+    /// Before a packet, with one unit of the line left or more.
     Packet,
-    /// Within the pixel of a run of `units` pixels, of which `read` bytes are read.
+    /// Within the unit of a run of `units` units, of which `read` bytes are read.
     Run { units: usize, read: usize },
     /// Before this many bytes of a literal, one or more.
     Literal(usize),
@@ -22,7 +22,7 @@ pub enum State {
     Failed(LineFault),
 }
 
-/// How many pixels the packet with this first byte gives, where the line has `left` pixels left.
+/// How many units the packet with this first byte gives, where the line has `left` units left.
 pub fn units_of(left: usize, first: u8) -> usize
     ensures { result ≡ groups.units_of left first }
 {
@@ -33,7 +33,7 @@ pub fn units_of(left: usize, first: u8) -> usize
     }
 }
 
-/// Where a reader stands after a packet, where the line has `left` pixels left.
+/// Where a reader stands after a packet, where the line has `left` units left.
 pub fn state_after(left: usize) -> State
     ensures { result ≡ behind_packet left }
 {

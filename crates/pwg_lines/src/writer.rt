@@ -7,11 +7,11 @@ ghost use Rattle.pwg_definitions.specs.Limits.{most_repeats};
 use base_definitions::Memory;
 use std::alloc::AllocError;
 
-// The most pixels of a packet.
+// The most units of a packet.
 const MOST_UNITS: usize = 128;
 
-/// Appends the group of a line and its repeats, 1 to 256, in the canonical spelling. `unit` is the length of a pixel in
-/// bytes. On `Memory` the output is unchanged.
+/// Appends the group of a line and its repeats, 1 to 256, in the canonical spelling. `unit` is the length of a unit in
+/// bytes, 1, 3 or 4 in a page. On `Memory` the output is unchanged.
 pub fn code_line(line: &[u8], unit: usize, repeats: u32, out: &mut Vec<u8>) -> Result<(), Memory>
     requires unit { 1 ≤ unit }
     requires whole { length line.now % unit ≡ 0 }
@@ -44,7 +44,7 @@ fn push_group(line: &[u8], unit: usize, more: u8, out: &mut Vec<u8>) -> Result<(
     Ok(())
 }
 
-// Appends the first packet of a line and gives the number of its pixels, or on `Err` appends some bytes.
+// Appends the first packet of a line and gives the number of its units, or on `Err` appends some bytes.
 fn push_packet(line: &[u8], unit: usize, out: &mut Vec<u8>) -> Result<usize, AllocError>
     requires unit { 1 ≤ unit }
     requires whole { length line.now % unit ≡ 0 }
@@ -75,7 +75,7 @@ fn push_part(first: u8, bytes: &[u8], out: &mut Vec<u8>) -> Result<(), AllocErro
     out.extend_from_slice(bytes)
 }
 
-// How many pixels at the beginning of the line are equal, up to `MOST_UNITS`.
+// How many units at the beginning of the line are equal, up to `MOST_UNITS`.
 fn equal_units(line: &[u8], unit: usize) -> usize
     requires { unit ≤ length line.now }
     ensures { result ≡ copies_at MOST_UNITS (take unit line.now) line.now }
@@ -93,7 +93,7 @@ fn equal_units(line: &[u8], unit: usize) -> usize
     count
 }
 
-// How many pixels come before the first two that are equal, or before the end, up to `MOST_UNITS`.
+// How many units come before the first two that are equal, or before the end, up to `MOST_UNITS`.
 fn unequal_units(line: &[u8], unit: usize) -> usize
     requires unit { 1 ≤ unit }
     requires whole { length line.now % unit ≡ 0 }

@@ -96,7 +96,7 @@ line_at-part row (suc most) (suc left) front (n ∷ bytes) some enough are e =
     by_packet after Long is fits =
         absurd (let never : Wrong front.place RunPastLine ≡ Part = sym (line_at-long row most left front (n ∷ bytes) is) ∙ e in cc)
 
--- a part of a group has at most a count, and a byte and a pixel for each pixel of its line
+-- a part of a group has at most a count, and a byte and a unit for each unit of its line
 pub group_at-part : (row : KindRow) (units left : ℕ) (bytes : List ℕ) → 1 ≤ row.unit → IsBytes bytes
     → group_at row units left bytes ≡ Part → length bytes ≤ 2 * (units * row.unit) + 1
 group_at-part row units left [] some are e = omega arith

@@ -91,3 +91,67 @@ fn what_is_written_is_read(rt: HostRuntime) {
     same_bytes(&rt, "its colours", &bytes[420..424], &[0, 0, 0, 3]);
     assert!(rt; check(&read_header(&bytes), WANTED) == Ok(SMALL));
 }
+
+// A page of 9 by 3 pixels: its kind, and the bytes of a line.
+macro_rules! form {
+    ($kind:ident, $bytes_per_line:literal) => {
+        PageForm {
+            width: 9,
+            height: 3,
+            kind: Kind::$kind,
+            bytes_per_line: $bytes_per_line,
+        }
+    };
+}
+
+#[test]
+fn each_kind_is_written_with_its_colours_and_read_back(rt: HostRuntime) {
+    // a form, and its NumColors
+    const CASES: [(PageForm, u8); 5] = [
+        (form!(Gray8, 9), 1),
+        (form!(Black8, 9), 1),
+        (form!(Rgb8, 27), 3),
+        (form!(Black1, 2), 1),
+        (form!(Cmyk8, 36), 4),
+    ];
+    let mut bytes = [0xFF; HEADER_LEN];
+    for (form, colours) in &CASES {
+        write_header(form, 360, 720, &mut bytes);
+        same_bytes(&rt, "its colours", &bytes[420..424], &[0, 0, 0, *colours]);
+        assert!(rt;
+            check(&read_header(&bytes), WANTED) == Ok(*form),
+            "at {form:?}"
+        );
+    }
+}
+
+// The fields of a page of 8,191 pixels a line: its colour space, its bits, and the bytes of a line.
+macro_rules! pixels {
+    ($space:literal, $bits_per_color:literal, $bits_per_pixel:literal, $bytes_per_line:literal) => {
+        Header {
+            color_space: $space,
+            bits_per_color: $bits_per_color,
+            bits_per_pixel: $bits_per_pixel,
+            bytes_per_line: $bytes_per_line,
+            ..COLOURS
+        }
+    };
+}
+
+#[test]
+fn other_pixels_and_other_lengths_of_lines_are_refused(rt: HostRuntime) {
+    const CASES: [(Header, HeaderFault); 8] = [
+        // grey of one bit, black of 16 bits, colours of a device, and four inks in three bytes
+        (pixels!(18, 1, 1, 1024), HeaderFault::Kind),
+        (pixels!(3, 16, 16, 16382), HeaderFault::Kind),
+        (pixels!(17, 8, 24, 24573), HeaderFault::Kind),
+        (pixels!(6, 8, 24, 24573), HeaderFault::Kind),
+        (pixels!(6, 8, 32, 32763), HeaderFault::BytesPerLine),
+        (pixels!(6, 8, 32, 32765), HeaderFault::BytesPerLine),
+        (pixels!(3, 1, 1, 1023), HeaderFault::BytesPerLine),
+        (pixels!(3, 1, 1, 1025), HeaderFault::BytesPerLine),
+    ];
+    for (header, fault) in &CASES {
+        assert!(rt; check(header, WANTED) == Err(*fault), "at {header:?}");
+    }
+}

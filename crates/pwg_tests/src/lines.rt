@@ -30,6 +30,8 @@ fn form(kind: Kind, width: u32, height: u32) -> PageForm
     let bytes_per_line = match kind {
         Kind::Gray8 | Kind::Black8 => width,
         Kind::Rgb8 => 3 * width,
+        Kind::Black1 => (width + 7) / 8,
+        Kind::Cmyk8 => 4 * width,
     };
     PageForm {
         width,
@@ -85,14 +87,57 @@ fn fill_white(rt: &impl Abort, reader: &mut LineReader, bytes: usize, white: u8)
 #[test]
 fn byte_128_fills_the_line_with_white(rt: HostRuntime) -> Result<(), Fail> {
     for width in [1, 7, 8, 9, 8191] {
-        for (kind, unit, white) in [
-            (Kind::Gray8, 1, 0xFF),
-            (Kind::Black8, 1, 0x00),
-            (Kind::Rgb8, 3, 0xFF),
+        for (kind, bits, white) in [
+            (Kind::Gray8, 8, 0xFF),
+            (Kind::Black8, 8, 0x00),
+            (Kind::Rgb8, 24, 0xFF),
+            (Kind::Black1, 1, 0x00),
+            (Kind::Cmyk8, 32, 0x00),
         ] {
             let mut reader = reader_of(rt.alloc(), kind, width, 1)?;
-            fill_white(&rt, &mut reader, unit * width as usize, white);
+            let bytes = (bits * width as usize + 7) / 8;
+            fill_white(&rt, &mut reader, bytes, white);
         }
+    }
+    Ok(())
+}
+
+#[test]
+fn a_cmyk_line_fills_white_and_refuses_a_long_run(rt: HostRuntime) -> Result<(), Fail> {
+    const PAST_LINE: Fill = Fill::Fault(LineFault::RunPastLine);
+    let mut reader = reader_of(rt.alloc(), Kind::Cmyk8, 1, 1)?;
+    fill_white(&rt, &mut reader, 4, 0x00);
+    let mut reader = reader_of(rt.alloc(), Kind::Cmyk8, 1, 1)?;
+    feeds(&rt, &mut reader, &[(&[0x00, 0x01], 2, PAST_LINE)]);
+    Ok(())
+}
+
+#[test]
+fn lines_of_one_bit_are_whole_bytes_and_their_spare_bits_may_be_set(
+    rt: HostRuntime,
+) -> Result<(), Fail> {
+    const BYTE: &[u8] = &[0x00, 0x00, 0xFF];
+    const MANY: &[u8] = &[
+        0x00, 0x7F, 0xFF, 0x7F, 0xFF, 0x7F, 0xFF, 0x7F, 0xFF, 0x7F, 0xFF, 0x7F, 0xFF, 0x7F, 0xFF,
+        0x7F, 0xFF,
+    ];
+    // a width, its group, and how many bytes its line has
+    const CASES: [(u32, &[u8], usize); 5] = [
+        (1, BYTE, 1),
+        (7, BYTE, 1),
+        (8, BYTE, 1),
+        (9, &[0x00, 0x01, 0xFF], 2),
+        (8191, MANY, 1024),
+    ];
+    for (width, group, bytes) in CASES {
+        let mut reader = reader_of(rt.alloc(), Kind::Black1, width, 1)?;
+        feeds(
+            &rt,
+            &mut reader,
+            &[(group, group.len(), Fill::Line { repeats: 1 })],
+        );
+        let shown = (reader.line().len(), all_are(reader.line(), 0xFF));
+        same(&rt, "a line of set bits", &shown, &(bytes, true));
     }
     Ok(())
 }
@@ -216,5 +261,23 @@ fn code_line_writes_the_canonical_group(rt: HostRuntime) -> Result<(), Fail> {
         0x00, 0x01, 0x01, 0x02, 0x03, // pixels of three bytes
     ];
     same_bytes(&rt, "three groups", out.as_slice(), &wanted);
+    Ok(())
+}
+
+#[test]
+fn code_line_takes_four_byte_units(rt: HostRuntime) -> Result<(), Fail> {
+    let mut out = Vec::new(rt.alloc());
+    code_line(
+        &[0x01, 0x02, 0x03, 0x04, 0x01, 0x02, 0x03, 0x04],
+        4,
+        1,
+        &mut out,
+    )?;
+    same_bytes(
+        &rt,
+        "a group",
+        out.as_slice(),
+        &[0x00, 0x01, 0x01, 0x02, 0x03, 0x04],
+    );
     Ok(())
 }

@@ -166,28 +166,52 @@ fn read_all(
     Ok(given)
 }
 
-// Reads the two pages.
-fn read_two_pages(
+// Reads the stream of these pages.
+fn read_pages(
     rt: &impl Abort,
     alloc: Global,
-    is_slow: bool,
-    failing: u32,
+    pages: &[PageBytes],
+    (is_slow, failing): (bool, u32),
     groups: &mut Vec<u8>,
 ) -> Result<Given, Fail> {
-    let source = source(alloc, stream_of(alloc, &TWO_PAGES)?, is_slow, failing)?;
+    let source = source(alloc, stream_of(alloc, pages)?, is_slow, failing)?;
     read_all(rt, alloc, source, groups)
+}
+
+// The stream of these pages gives these groups, read whole and a byte a call.
+fn gives(rt: &impl Abort, alloc: Global, pages: &[PageBytes], wanted: &[u8]) -> Result<(), Fail> {
+    for is_slow in [false, true] {
+        let mut groups = Vec::new(alloc);
+        let given = read_pages(rt, alloc, pages, (is_slow, 0), &mut groups)?;
+        same(rt, "the end", &given, &Given::End);
+        same_bytes(rt, "the groups", groups.as_slice(), wanted);
+    }
+    Ok(())
 }
 
 #[test]
 fn pieces_give_the_same_pages(rt: HostRuntime) -> Result<(), Fail> {
     const GROUPS: [u8; 18] = [2, 1, 2, 3, 4, 1, 5, 5, 255, 255, 3, 7, 7, 7, 7, 1, 255, 255];
-    for is_slow in [false, true] {
-        let mut groups = Vec::new(rt.alloc());
-        let given = read_two_pages(&rt, rt.alloc(), is_slow, 0, &mut groups)?;
-        same(&rt, "the end", &given, &Given::End);
-        same_bytes(&rt, "the groups", groups.as_slice(), &GROUPS);
-    }
-    Ok(())
+    gives(&rt, rt.alloc(), &TWO_PAGES, &GROUPS)
+}
+
+#[test]
+fn pages_of_five_kinds_follow_each_other(rt: HostRuntime) -> Result<(), Fail> {
+    const PAGES: [PageBytes; 5] = [
+        (form!(Gray8, 2, 1, 2), &[0x00, 0x80]),
+        (form!(Cmyk8, 2, 1, 8), &[0x00, 0x01, 0x01, 0x02, 0x03, 0x04]),
+        (form!(Black1, 9, 1, 2), &[0x00, 0xFF, 0xA5, 0xFF]),
+        (form!(Rgb8, 1, 2, 3), &[0x01, 0x00, 0x01, 0x02, 0x03]),
+        (form!(Black8, 2, 1, 2), &[0x00, 0x80]),
+    ];
+    const GROUPS: [u8; 22] = [
+        1, 255, 255, // grey
+        1, 1, 2, 3, 4, 1, 2, 3, 4, // four inks
+        1, 0xA5, 0xFF, // bits
+        2, 1, 2, 3, // colours
+        1, 0, 0, // black
+    ];
+    gives(&rt, rt.alloc(), &PAGES, &GROUPS)
 }
 
 #[test]
@@ -195,7 +219,7 @@ fn a_failing_read_stops_the_reader(rt: HostRuntime) -> Result<(), Fail> {
     // one byte a call: inside the sync word, a header, and the second group of a page
     for (call, length) in [(3, 0), (1000, 0), (1808, 5)] {
         let mut groups = Vec::new(rt.alloc());
-        let given = read_two_pages(&rt, rt.alloc(), true, call, &mut groups)?;
+        let given = read_pages(&rt, rt.alloc(), &TWO_PAGES, (true, call), &mut groups)?;
         let wanted = (Given::Stop(StreamStop::Read), length);
         same(&rt, "a failing call", &(given, groups.len()), &wanted);
     }

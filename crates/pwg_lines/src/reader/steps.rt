@@ -1,4 +1,4 @@
-//! The steps of a reader of lines: it reads a count, the first byte of a packet, or bytes of a pixel or of a literal.
+//! The steps of a reader of lines: it reads a count, the first byte of a packet, or bytes of a unit or of a literal.
 ghost use Rattle.pwg_lines.specs.Reading.{Takes};
 ghost use Rattle.pwg_lines.specs.States.{IsOpen};
 ghost use Rattle.std.specs.Prelude.{[], length, min, take, ◌-◌, ◌<◌, ◌∷◌, ◌≡◌, ◌≤◌};
@@ -78,7 +78,7 @@ impl LineReader {
         self.state = State::Full;
     }
 
-    // Reads bytes of the pixel of a run, as many as are wanted or as there are, and gives their number.
+    // Reads bytes of the unit of a run, as many as are wanted or as there are, and gives their number.
     fn feed_run(&mut self, units: usize, read: usize, bytes: &[u8]) -> usize
         requires { self.old.state ≡ State.Run units read }
         ensures count { result ≡ min (length bytes.now) ((row_of self.old.form.kind).unit - read) }
