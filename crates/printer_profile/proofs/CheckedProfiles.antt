@@ -1,11 +1,12 @@
 -- What a profile that passes its checks can do.
-use Rattle.std.proofs.Common.{◌≡◌, ℕ, ◌≤◌, ◌⊎◌, Bool, true, false, not, cond, ◌||◌, eqb, ltb, Result, Err, inl, inr, refl, arith}
-use Rattle.std.specs.Prelude.{IsOk}
+use Rattle.std.proofs.Common.{List, ◌∷◌, drop, ◌≡◌, ℕ, zero, suc, ◌<◌, ◌≤◌, ◌⊎◌, [], Bool, true, false, not, cond, ◌||◌, eqb, ltb, Result, Err, inl, inr, refl, arith}
+use Rattle.std.specs.Prelude.{IsOk, slice_index_or}
 use Rattle.std.proofs.lemmas.Bool.Decides.{nat_tests}
 use Rattle.separation_definitions.specs.CanPrint.{CanPrint}
 use Rattle.printer_definitions.specs.Printer.{Printer, head_rows, nozzle_step}
 use Rattle.printer_profile.specs.declared.validity.ProfileFault.{ProfileFault}
-use Rattle.printer_profile.specs.Validity.{check, gcd_of, is_resolution}
+use Rattle.printer_profile.specs.Validity.{check, curve_tests, first_fault, gcd_of, is_curve, is_resolution, profile_tests}
+use Rattle.printer_profile.specs.declared.validity.ProfileFault.TheVariants as fault
 use Rattle.printer_profile.proofs.Divisors.{coprime_is}
 use Rattle.std.specs.Int.{IsGcd}
 
@@ -57,3 +58,35 @@ can_print p small h =
       small_step = at_most 255 (nozzle_step p) step.0;
       head_room = at_most p.top (head_rows p) margin.0;
     }
+
+-- where no test fails, none of the later ones does
+later_pass : (tests : List (Bool × ProfileFault)) (n : ℕ) → IsOk (first_fault tests) → IsOk (first_fault (drop n tests))
+later_pass tests zero h = h
+later_pass [] (suc n) h = h
+later_pass (test ∷ tests) (suc n) h = later_pass tests n (passed test.0 test.1 (first_fault tests) h).1
+
+four_good : (a b c d : Bool)
+    → IsOk (first_fault ((not a, fault.Curve 0) ∷ (not b, fault.Curve 1) ∷ (not c, fault.Curve 2) ∷ (not d, fault.Curve 3) ∷ []))
+    → (a ≡ true) × (b ≡ true) × (c ≡ true) × (d ≡ true)
+four_good false b c d h = absurd (cc)
+four_good true false c d h = absurd (cc)
+four_good true true false d h = absurd (cc)
+four_good true true true false h = absurd (cc)
+four_good true true true true h = (refl, refl, refl, refl)
+
+curve_at : (curves : List (List ℕ)) (ink : ℕ) → IsOk (first_fault (curve_tests curves)) → ink < 4
+    → is_curve (slice_index_or curves ink []) ≡ true
+curve_at curves ink h within = by_place ink within (four_good (good_at 0) (good_at 1) (good_at 2) (good_at 3) h) where
+  good_at : ℕ → Bool
+  good_at place = is_curve (slice_index_or curves place [])
+  by_place : (ink : ℕ) → ink < 4
+      → (good_at 0 ≡ true) × (good_at 1 ≡ true) × (good_at 2 ≡ true) × (good_at 3 ≡ true) → good_at ink ≡ true
+  by_place zero within good = good.0
+  by_place (suc zero) within good = good.1
+  by_place (suc (suc zero)) within good = good.2
+  by_place (suc (suc (suc zero))) within good = good.3
+  by_place (suc (suc (suc (suc ink)))) within good = absurd (omega arith)
+
+-- the curve of each ink begins with 0 and does not fall
+pub curve_good : (p : Printer) (ink : ℕ) → IsOk (check p) → ink < 4 → is_curve (slice_index_or p.curves ink []) ≡ true
+curve_good p ink h within = curve_at p.curves ink (later_pass (profile_tests p) 7 h) within

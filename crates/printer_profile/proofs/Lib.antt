@@ -1,4 +1,5 @@
 pub mod CheckedProfiles
+pub mod Curves
 pub mod Divisors
 pub mod LineParts
 pub mod Printed

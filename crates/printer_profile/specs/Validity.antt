@@ -30,9 +30,13 @@ is_rising (a ∷ b ∷ others) = not (nat_lt b a) && is_rising (b ∷ others)
 abbrev pub is_curve : List ℕ → Bool
 is_curve curve = (slice_index curve 0 == 0) && is_rising curve
 
--- the fault of the curve at a place, with its test
-abbrev pub curve_test : Printer → ℕ → Bool × ProfileFault
-curve_test p ink = (not (is_curve (slice_index_or p.curves ink [])), fault.Curve ink)
+-- the fault of the curve of an ink, with its test
+abbrev pub curve_test : List (List ℕ) → ℕ → Bool × ProfileFault
+curve_test curves ink = (not (is_curve (slice_index_or curves ink [])), fault.Curve ink)
+
+-- the faults of the curves of the four inks, with their tests
+abbrev pub curve_tests : List (List ℕ) → List (Bool × ProfileFault)
+curve_tests curves = curve_test curves 0 ∷ curve_test curves 1 ∷ curve_test curves 2 ∷ curve_test curves 3 ∷ []
 
 -- each fault of a profile with the test for it, in the order of the checks
 abbrev pub profile_tests : Printer → List (Bool × ProfileFault)
@@ -44,8 +48,7 @@ profile_tests p =
     ∷ (nat_lt 255 (nozzle_step p), fault.RowStep)
     ∷ (nat_lt p.top (head_rows p), fault.TopMargin (head_rows p))
     ∷ (p.black_start == 255, fault.BlackStart)
-    ∷ curve_test p 0 ∷ curve_test p 1 ∷ curve_test p 2 ∷ curve_test p 3
-    ∷ []
+    ∷ curve_tests p.curves
 
 -- the fault of the first test that holds
 abbrev pub first_fault : List (Bool × ProfileFault) → Result (Unit {0}) ProfileFault

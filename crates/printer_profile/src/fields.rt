@@ -1,7 +1,9 @@
 //! What a profile says of a printer, and what follows for its pages.
 ghost use Rattle.separation_definitions.specs.Windows.{wanted_by, window_of};
-ghost use Rattle.std.specs.Prelude.{◌≡◌};
+ghost use Rattle.std.specs.Prelude.{◌≡◌, ◌<◌, [], IsOk, slice_index_or, true};
 ghost use Rattle.pwg_definitions.specs.Header.{IsWanted};
+ghost use Rattle.printer_definitions.specs.Printer.{tone_on as tone_of_curve};
+ghost use Rattle.printer_profile.specs.Validity.{check, is_curve};
 
 use printer_definitions::InkSet;
 use pwg_definitions::{MOST_COLUMNS, MOST_ROWS, PageForm, Wanted};
@@ -52,7 +54,29 @@ pub const STRAIGHT_CURVE: [u16; 17] = [
     0, 16, 32, 48, 64, 80, 96, 112, 128, 144, 160, 176, 192, 208, 224, 240, 256,
 ];
 
+// The tone of an amount by a curve that does not fall.
+fn tone_on(curve: &[u16; 17], a: u8) -> u8
+    requires { is_curve curve.now ≡ true }
+    ensures { result ≡ tone_of_curve curve.now a }
+{
+    let place = usize::from(a / 16);
+    let before = u32::from(curve[place]);
+    let behind = u32::from(curve[place + 1]);
+    let tone = before + (behind - before) * u32::from(a % 16) / 16;
+    tone.min(255) as u8
+}
+
 impl Profile {
+    /// The tone of an amount of an ink, which counts from 0 in the order black, cyan, magenta and yellow: on the
+    /// straight line between two points of the ink's curve, rounded down.
+    pub fn tone(&self, ink: u8, a: u8) -> u8
+        requires ink { ink < 4 }
+        requires checked { IsOk (check self.now) }
+        ensures { result ≡ tone_of_curve (slice_index_or self.now.curves ink []) a }
+    {
+        tone_on(&self.curves[usize::from(ink)], a)
+    }
+
     /// The pages that the printer takes: its resolution, and sizes in pixels that leave at least one inside the
     /// margins.
     pub fn wanted(&self) -> Wanted

@@ -1,6 +1,6 @@
 //! Whether a profile makes sense.
-ghost use Rattle.printer_profile.specs.Validity.{gcd_of, is_resolution as is_resolution_of};
-ghost use Rattle.std.specs.Prelude.{◌≡◌, ◌<◌};
+ghost use Rattle.printer_profile.specs.Validity.{curve_tests, first_fault, gcd_of, is_curve as is_curve_of, is_resolution as is_resolution_of};
+ghost use Rattle.std.specs.Prelude.{◌≡◌, ◌<◌, not, position};
 
 use crate::fields::Profile;
 use thiserror::Error;
@@ -51,6 +51,37 @@ fn is_resolution(dpi: u16) -> bool
     dpi == 360 || dpi == 720
 }
 
+// Whether a curve begins with 0 and does not fall.
+fn is_curve(curve: &[u16; 17]) -> bool
+    ensures { result ≡ is_curve_of curve.now }
+{
+    if curve[0] != 0 {
+        return false;
+    }
+    'points: for place in 1..17 {
+        if curve[place] < curve[place - 1] {
+            return false;
+        }
+    }
+    true
+}
+
+// The place of the first curve that does not begin with 0, or that falls.
+fn broken_curve(curves: &[[u16; 17]; 4]) -> Option<usize>
+    ensures { result ≡ position (λ curve. not (is_curve_of curve)) curves.now }
+{
+    curves.iter().position(|curve| !is_curve(curve))
+}
+
+fn check_curves(curves: &[[u16; 17]; 4]) -> Result<(), ProfileFault>
+    ensures { result ≡ first_fault (curve_tests curves.now) }
+{
+    match broken_curve(curves) {
+        None => Ok(()),
+        Some(ink) => Err(ProfileFault::Curve { ink: ink as u8 }),
+    }
+}
+
 impl Profile {
     ghost use Rattle.printer_profile.specs.Validity.{check as check_of};
 
@@ -81,6 +112,6 @@ impl Profile {
         if self.black_start == 255 {
             return Err(ProfileFault::BlackStart);
         }
-        Ok(())
+        check_curves(&self.curves)
     }
 }
