@@ -1,64 +1,64 @@
 -- Pixels of a part of a line.
-use Rattle.std.proofs.Common.{◌≡◌, ℕ, ◌+◌, ◌*◌, ◌<◌, ◌≤◌, List, [], ◌∷◌, get_or, ◌∙◌, ◌-◌, ap, arith, drop}
+use Rattle.std.proofs.Common.{◌≡◌, ℕ, ◌+◌, ◌*◌, ◌/◌, ◌%◌, ◌<◌, ◌≤◌, List, [], ◌∷◌, get_or, ◌∙◌, ◌-◌, ap, arith, drop}
 use Rattle.std.proofs.Common.{length, length-drop, length-take, take}
-use Rattle.std.proofs.Math.Nat.{mul-le-mul_right}
 use Rattle.std.proofs.lemmas.List.{get_or-drop, get_or-take}
 use Rattle.pwg_definitions.specs.declared.pages.Kind.{Kind}
-use Rattle.pwg_definitions.specs.declared.pages.Kind.TheVariants.{Gray8, Black8, Rgb8}
-use Rattle.pwg_definitions.specs.Header.{row_of}
+use Rattle.pwg_definitions.specs.declared.pages.Kind.TheVariants.{Gray8, Black8, Rgb8, Black1, Cmyk8}
+use Rattle.pwg_definitions.specs.Header.{line_bytes, row_of}
 use Rattle.separation_definitions.specs.Amounts.{pixel_at}
 
--- The bytes are those of `many` pixels of a line from pixel `first` on.
-record IsChunk (line chunk : List ℕ) (unit first many : ℕ) : Type 0 where
-  pub at : (i : ℕ) → i < many * unit → get_or chunk i 0 ≡ get_or line (first * unit + i) 0
-
-pixel_is : (kind : Kind) (line chunk : List ℕ) (first many k : ℕ) → IsChunk line chunk (row_of kind).unit first many → k < many
-    → pixel_at kind chunk k ≡ pixel_at kind line (first + k)
-pixel_is Gray8 line chunk first many k part inside =
-    let place : first * 1 + k ≡ first + k = omega arith in
-    ap (λ b. b ∷ []) (part.at k (omega arith) ∙ ap (λ n. get_or line n 0) place)
-pixel_is Black8 line chunk first many k part inside =
-    let place : first * 1 + k ≡ first + k = omega arith in
-    ap (λ b. b ∷ []) (part.at k (omega arith) ∙ ap (λ n. get_or line n 0) place)
-pixel_is Rgb8 line chunk first many k part inside =
-    let red : first * 3 + 3 * k ≡ 3 * (first + k) = omega arith in
-    let green : first * 3 + (3 * k + 1) ≡ 3 * (first + k) + 1 = omega arith in
-    let blue : first * 3 + (3 * k + 2) ≡ 3 * (first + k) + 2 = omega arith in
-    ap (λ b. b ∷ get_or chunk (3 * k + 1) 0 ∷ get_or chunk (3 * k + 2) 0 ∷ []) (part.at (3 * k) (omega arith)
-    ∙ ap (λ n. get_or line n 0) red)
-    ∙ ap (λ b. get_or line (3 * (first + k)) 0 ∷ b ∷ get_or chunk (3 * k + 2) 0 ∷ [])
-    (part.at (3 * k + 1) (omega arith) ∙ ap (λ n. get_or line n 0) green)
-    ∙ ap (λ b. get_or line (3 * (first + k)) 0 ∷ get_or line (3 * (first + k) + 1) 0 ∷ b ∷ [])
-    (part.at (3 * k + 2) (omega arith) ∙ ap (λ n. get_or line n 0) blue)
-
--- a line from pixel `first` on, as it is cut off
+-- a line from a byte on, as it is cut off
 abbrev pub cut_off : List ℕ → ℕ → List ℕ
 cut_off line at = take (length line - at) (drop at line)
 
-room : (line : List ℕ) (left width x many unit : ℕ)
-    → x + many ≤ width → (left + width) * unit ≤ length line → (left + x) * unit + many * unit ≤ length line
-room line left width x many unit inside fits =
-    let whole : (left + x + many) * unit ≤ (left + width) * unit = mul-le-mul_right unit (omega arith) in grind arith
+-- a byte of the part
+pub cut_off-byte : (line : List ℕ) (at k : ℕ) → at + k < length line → get_or (cut_off line at) k 0 ≡ get_or line (at + k) 0
+cut_off-byte line at k inside =
+    get_or-take (length line - at) (drop at line) k 0 (omega arith) ∙ get_or-drop at line k 0
 
-pub cut_off-len : (line : List ℕ) (left width x many unit : ℕ) → x + many ≤ width → (left + width) * unit ≤ length line
-    → many * unit ≤ length (cut_off line ((left + x) * unit))
-cut_off-len line left width x many unit inside fits =
-    omega (
-      arith,
-      room line left width x many unit inside fits,
-      length-take (length line - (left + x) * unit) (drop ((left + x) * unit) line),
-      length-drop ((left + x) * unit) line,
-    )
+pub cut_off-len : (line : List ℕ) (at many : ℕ) → at + many ≤ length line → many ≤ length (cut_off line at)
+cut_off-len line at many inside =
+    omega (arith, length-take (length line - at) (drop at line), length-drop at line)
 
--- a pixel of the part is a pixel of the line
-pub cut_off-pixel : (kind : Kind) (line : List ℕ) (left width x many k : ℕ)
-    → x + many ≤ width → (left + width) * (row_of kind).unit ≤ length line → k < many
-    → pixel_at kind (cut_off line ((left + x) * (row_of kind).unit)) k ≡ pixel_at kind line (left + x + k)
-cut_off-pixel kind line left width x many k inside fits low =
-    let unit : ℕ = (row_of kind).unit in
-    let at : ℕ = (left + x) * unit in
-    pixel_is kind line (cut_off line at) (left + x) many k (record {
-      at = λ i within.
-          get_or-take (length line - at) (drop at line) i 0 (omega (arith, room line left width x many unit inside fits))
-          ∙ get_or-drop at line i 0;
-    }) low
+-- a pixel of three bytes
+pub three_bytes : (line : List ℕ) (first many k : ℕ) → 3 * (first + many) ≤ length line → k < many
+    → pixel_at Rgb8 (cut_off line (3 * first)) k ≡ pixel_at Rgb8 line (first + k)
+three_bytes line first many k fits low =
+    let chunk : List ℕ = cut_off line (3 * first) in
+    let red : 3 * first + 3 * k ≡ 3 * (first + k) = omega arith in
+    let green : 3 * first + (3 * k + 1) ≡ 3 * (first + k) + 1 = omega arith in
+    let blue : 3 * first + (3 * k + 2) ≡ 3 * (first + k) + 2 = omega arith in
+    ap (λ b. b ∷ get_or chunk (3 * k + 1) 0 ∷ get_or chunk (3 * k + 2) 0 ∷ [])
+    (cut_off-byte line (3 * first) (3 * k) (omega arith) ∙ ap (λ n. get_or line n 0) red)
+    ∙ ap (λ b. get_or line (3 * (first + k)) 0 ∷ b ∷ get_or chunk (3 * k + 2) 0 ∷ [])
+    (cut_off-byte line (3 * first) (3 * k + 1) (omega arith) ∙ ap (λ n. get_or line n 0) green)
+    ∙ ap (λ b. get_or line (3 * (first + k)) 0 ∷ get_or line (3 * (first + k) + 1) 0 ∷ b ∷ [])
+    (cut_off-byte line (3 * first) (3 * k + 2) (omega arith) ∙ ap (λ n. get_or line n 0) blue)
+
+-- a pixel of four bytes
+pub four_bytes : (line : List ℕ) (first many k : ℕ) → 4 * (first + many) ≤ length line → k < many
+    → pixel_at Cmyk8 (cut_off line (4 * first)) k ≡ pixel_at Cmyk8 line (first + k)
+four_bytes line first many k fits low =
+    let at : ℕ = 4 * first in
+    let chunk : List ℕ = cut_off line at in
+    let cyan : at + 4 * k ≡ 4 * (first + k) = omega arith in
+    let magenta : at + (4 * k + 1) ≡ 4 * (first + k) + 1 = omega arith in
+    let yellow : at + (4 * k + 2) ≡ 4 * (first + k) + 2 = omega arith in
+    let black : at + (4 * k + 3) ≡ 4 * (first + k) + 3 = omega arith in
+    ap (λ b. b ∷ get_or chunk (4 * k + 1) 0 ∷ get_or chunk (4 * k + 2) 0 ∷ get_or chunk (4 * k + 3) 0 ∷ [])
+    (cut_off-byte line at (4 * k) (omega arith) ∙ ap (λ n. get_or line n 0) cyan)
+    ∙ ap (λ b. get_or line (4 * (first + k)) 0 ∷ b ∷ get_or chunk (4 * k + 2) 0 ∷ get_or chunk (4 * k + 3) 0 ∷ [])
+    (cut_off-byte line at (4 * k + 1) (omega arith) ∙ ap (λ n. get_or line n 0) magenta)
+    ∙ ap (λ b. get_or line (4 * (first + k)) 0 ∷ get_or line (4 * (first + k) + 1) 0 ∷ b ∷ get_or chunk (4 * k + 3) 0 ∷ [])
+    (cut_off-byte line at (4 * k + 2) (omega arith) ∙ ap (λ n. get_or line n 0) yellow)
+    ∙ ap (λ b. get_or line (4 * (first + k)) 0 ∷ get_or line (4 * (first + k) + 1) 0 ∷ get_or line (4 * (first + k) + 2) 0 ∷ b ∷ [])
+    (cut_off-byte line at (4 * k + 3) (omega arith) ∙ ap (λ n. get_or line n 0) black)
+
+-- fewer pixels have no more bytes
+pub fewer_bytes : (kind : Kind) (few many : ℕ) → few ≤ many
+    → line_bytes few (row_of kind).bits_per_pixel ≤ line_bytes many (row_of kind).bits_per_pixel
+fewer_bytes Gray8 few many most = omega arith
+fewer_bytes Black8 few many most = omega arith
+fewer_bytes Rgb8 few many most = omega arith
+fewer_bytes Black1 few many most = omega arith
+fewer_bytes Cmyk8 few many most = omega arith

@@ -15,15 +15,14 @@ HasColumns p kind line left at columns old new =
     Separates p kind line (record { left = left; top = 0; width = columns; height = 0 }) at old new
 
 -- many columns more
-pub columns_more : (p : Printer) (kind : Kind) (line chunk : List ℕ) (left at columns many : ℕ) (old now new : AmountTable)
+pub columns_more : (p : Printer) (kind : Kind) (line : List ℕ) (left at columns many : ℕ) (old now new : AmountTable)
     → HasColumns p kind line left at columns old now → HasSizeAs now new
-    → ((k : ℕ) → k < many → pixel_at kind chunk k ≡ pixel_at kind line (left + columns + k))
     → ((i : ℕ) (ink : Ink) → slice_get (inks_of p.inks) i ≡ Some ink → (k : ℕ) → k < many
-    → amount new i at (columns + k) ≡ amount_of p kind (pixel_at kind chunk k) ink)
+    → amount new i at (columns + k) ≡ amount_of p kind (pixel_at kind line (left + columns + k)) ink)
     → ((i c : ℕ) → (c < columns) ⊎ (columns + many ≤ c) → amount new i at c ≡ amount now i at c)
     → ((i y c : ℕ) → y ≢ at → y < now.rows → amount new i y c ≡ amount now i y c)
     → HasColumns p kind line left at (columns + many) old new
-columns_more p kind line chunk left at columns many old now new v size pixels put beside others = record {
+columns_more p kind line left at columns many old now new v size put beside others = record {
   size = record { width = size.width ∙ v.size.width; rows = size.rows ∙ v.size.rows; inks = size.inks ∙ v.size.inks };
   row = record {
     are = λ i ink is x low. elim (cases_lt x columns) [
@@ -33,7 +32,7 @@ columns_more p kind line chunk left at columns many old now new v size pixels pu
           let place : columns + k ≡ x = omega arith in
           let column : left + columns + k ≡ left + x = omega arith in
           ap (λ n. amount new i at n) (sym place) ∙ put i ink is k (omega arith)
-          ∙ ap (λ pixel. amount_of p kind pixel ink) (pixels k (omega arith) ∙ ap (pixel_at kind line) column)
+          ∙ ap (λ n. amount_of p kind (pixel_at kind line n) ink) column
     ];
   };
   others = λ i y x other low. others i y x other (omega (arith, v.size.rows)) ∙ v.others i y x other low;

@@ -1,7 +1,11 @@
-pub mod Filled
-pub mod Inks
+pub mod BlackScales
+pub mod ByInk
 pub mod Chunks
-pub mod Riffles
 pub mod Columns
+pub mod Eights
+pub mod Filled
 pub mod Formulas
-pub mod Scales
+pub mod FourInks
+pub mod Inks
+pub mod Riffles
+pub mod Straight

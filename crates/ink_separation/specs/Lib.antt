@@ -1,4 +1,5 @@
-pub mod Given
 pub mod Black
+pub mod Given
+pub mod Scaling
 pub mod Separated
 pub mod Separators

@@ -1,12 +1,13 @@
 //! What pixels give to each ink, before the inks' limits.
-ghost use Rattle.ink_separation.specs.Given.{colour_at, given_to};
+ghost use Rattle.ink_separation.specs.Given.{colour_at, four_at, given_to};
 ghost use Rattle.printer_definitions.specs.declared.inks.Ink.{Ink};
-ghost use Rattle.separation_definitions.specs.Amounts.{colour_ink, complement as complement_of, grey_ink};
-ghost use Rattle.std.specs.Prelude.{length, slice_index, ℕ, ◌*◌, ◌<◌, ◌≡◌, ◌≤◌};
+ghost use Rattle.separation_definitions.specs.Amounts.{cmyk_ink, colour_ink, complement as complement_of, grey_ink, own_ink};
+ghost use Rattle.std.specs.Prelude.{length, min, slice_index, ℕ, ◌*◌, ◌+◌, ◌<◌, ◌≡◌, ◌≤◌};
 
 use crate::black::BlackScale;
 use crate::colours::{colours_of, complement};
 use crate::pixels::{PIXELS, Values, darkness_of, least_of, less};
+use crate::quarters::{darkness_left, ink_of, inks_of, more};
 use printer_definitions::Ink;
 use printer_profile::InkSet;
 
@@ -95,5 +96,55 @@ fn complements_given(pixels: &[u8], many: usize) -> Given
         cyan: complement(&first, &others, 0),
         magenta: complement(&first, &others, 1),
         yellow: complement(&first, &others, 2),
+    }
+}
+
+/// What the first `many` pixels of cyan, magenta, yellow and black give.
+#[inline(always)]
+pub(crate) fn four_given(inks: InkSet, pixels: &[u8], many: usize) -> Given
+    requires many { many ≤ 64 }
+    requires pixels { 4 * many ≤ length pixels.now }
+    ensures { (ink : Ink) (x : ℕ) → x < many
+        → slice_index (given_to result ink) x ≡ cmyk_ink inks (four_at pixels.now x) ink }
+{
+    let own = own_given(pixels, many);
+    match inks {
+        InkSet::Cmyk => own,
+        InkSet::Cmy => blackened(&own),
+        InkSet::K => {
+            let sums = blackened(&own);
+            grey_given(inks, darkness_left(&sums.cyan, &sums.magenta, &sums.yellow))
+        }
+    }
+}
+
+// The four numbers of the first `many` pixels.
+#[inline(always)]
+fn own_given(pixels: &[u8], many: usize) -> Given
+    requires many { many ≤ 64 }
+    requires pixels { 4 * many ≤ length pixels.now }
+    ensures { (ink : Ink) (x : ℕ) → x < many
+        → slice_index (given_to result ink) x ≡ own_ink (four_at pixels.now x) ink }
+{
+    let (first, others) = inks_of(pixels, many);
+    Given {
+        black: ink_of(&first, &others, 3),
+        cyan: ink_of(&first, &others, 0),
+        magenta: ink_of(&first, &others, 1),
+        yellow: ink_of(&first, &others, 2),
+    }
+}
+
+// Each ink with black added, at most 255.
+#[inline(always)]
+fn blackened(own: &Given) -> Given
+    ensures { (ink : Ink) (x : ℕ) → x < 64 → slice_index (given_to result ink) x
+        ≡ min 255 (slice_index (given_to own.now ink) x + slice_index own.now.black x) }
+{
+    Given {
+        black: more(&own.black, &own.black),
+        cyan: more(&own.cyan, &own.black),
+        magenta: more(&own.magenta, &own.black),
+        yellow: more(&own.yellow, &own.black),
     }
 }

@@ -3,14 +3,16 @@
 //! A `Separator` is made once for a page, of a profile, the kind of the page's pixels and its window. `separate` sets
 //! row `at` of each ink's amounts to exactly the amounts of the definition, for each pixel of a line inside the window;
 //! other rows are unchanged. `amounts` does the same for one line. Neither takes memory. Up to 64 pixels are separated
-//! at a time.
+//! at a time. An ink whose curve is not straight has a table of its tones, scaled by its limit.
 #![tactic(auto)]
 
+mod bits;
 mod black;
 mod colours;
 mod given;
-mod limits;
 mod pixels;
+mod quarters;
+mod scales;
 mod separator;
 
 pub use separator::{Separator, amounts};

@@ -1,7 +1,7 @@
 use Rattle.std.proofs.Common.{◌∙◌, ap, arith, get_or, length-set}
 use Rattle.separation_definitions.specs.Amounts.{moved_to_black}
 use Rattle.ink_separation.proofs.Filled.{filled_more}
-use Rattle.ink_separation.proofs.Scales.{part_is, product_fits}
+use Rattle.ink_separation.proofs.BlackScales.{part_is, product_fits}
 use Rattle.ink_separation.proofs.black.BlackScale.black_of.Goals as goal
 
 pub overflow_mul-black : goal.overflow_mul-black

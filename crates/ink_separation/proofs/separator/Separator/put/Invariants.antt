@@ -1,17 +1,17 @@
-use Rattle.std.proofs.Common.{◌≡◌, ◌≢◌, ◌⊎◌, ℕ, ◌+◌, ◌*◌, ◌/◌, ◌<◌, ◌≤◌, Some, slice_get, get_or}
+use Rattle.std.proofs.Common.{◌≡◌, ◌≢◌, ◌⊎◌, ℕ, ◌+◌, ◌<◌, ◌≤◌, Some, slice_get, get_or}
 use Rattle.dot_planes.specs.Tables.{HasSizeAs, amount}
 use Rattle.printer_definitions.specs.Inks.{inks_of}
-use Rattle.printer_definitions.specs.Printer.{limit_of}
 use Rattle.printer_definitions.specs.declared.inks.Ink.{Ink}
 use Rattle.ink_separation.specs.Given.{given_to}
-use Rattle.ink_separation.specs.Separators.{printer_in}
+use Rattle.ink_separation.specs.Separators.{amount_in}
 use Rattle.ink_separation.proofs.separator.Separator.put.Given as goal
 
 abbrev pub invariant-loop-i : goal.invariant-loop-i
 invariant-loop-i l = record {
   size : HasSizeAs l.initial.out l.out;
   put : (i : ℕ) (ink : Ink) → i < l.i → slice_get (inks_of l.self.inks) i ≡ Some ink → (k : ℕ) → k < l.many
-      → amount l.out i l.at (l.x + k) ≡ get_or (given_to l.given ink) k 0 * limit_of (printer_in l.self) ink / 255;
+      → amount l.out i l.at (l.x + k)
+      ≡ amount_in l.self ink (get_or (given_to l.given ink) k 0);
   rest : (i c : ℕ) → l.i ≤ i → amount l.out i l.at c ≡ amount l.initial.out i l.at c;
   beside : (i c : ℕ) → (c < l.x) ⊎ (l.x + l.many ≤ c) → amount l.out i l.at c ≡ amount l.initial.out i l.at c;
   others : (i y c : ℕ) → y ≢ l.at → y < l.initial.out.rows → amount l.out i y c ≡ amount l.initial.out i y c;

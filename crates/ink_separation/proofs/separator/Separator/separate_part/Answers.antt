@@ -1,8 +1,8 @@
-use Rattle.std.proofs.Common.{◌*◌, ◌/◌, ◌∙◌, ap}
-use Rattle.printer_definitions.specs.Printer.{limit_of}
-use Rattle.ink_separation.specs.Separators.{printer_in}
+use Rattle.std.proofs.Common.{◌∙◌, ap}
+use Rattle.ink_separation.specs.Separators.{amount_in}
 use Rattle.ink_separation.proofs.separator.Separator.separate_part.Goals as goal
 
 pub returns-clause-put : goal.returns-clause-put
+unfolding amount_in
 returns-clause-put c = λ i ink is k low. c.put.ensures.put i ink is k low
-    ∙ ap (λ n. n * limit_of (printer_in c.args.self.now) ink / 255) (c.given-given.ensures.inks ink k low)
+    ∙ ap (amount_in c.args.self.now ink) (c.given-given.ensures.inks ink k low)

@@ -1,0 +1,147 @@
+//! From what pixels give to an ink to its amounts: the ink's tones and its limit.
+ghost use Rattle.ink_separation.specs.Scaling.{by_ink, scaled};
+ghost use Rattle.printer_definitions.specs.Inks.{ink_place};
+ghost use Rattle.printer_definitions.specs.Printer.{straight_curve, tone_on};
+ghost use Rattle.printer_definitions.specs.declared.inks.Ink.{Ink};
+ghost use Rattle.printer_profile.specs.Validity.{check};
+ghost use Rattle.std.specs.Prelude.{IsOk, [], slice_index, slice_index_or, true, ℕ, ◌*◌, ◌/◌, ◌<◌, ◌≡◌};
+
+use crate::pixels::{PIXELS, Values};
+use printer_definitions::Ink;
+use printer_profile::{Profile, STRAIGHT_CURVE};
+
+/// How an ink's amounts are made of what pixels give to it.
+#[derive(Drop)]
+pub(crate) enum Scale {
+    /// By this limit alone: the ink's curve is straight.
+    Straight(u8),
+    /// By a table of tones, scaled by the ink's limit.
+    Table([u8; 256]),
+}
+
+// The amount of a tone, scaled by a limit.
+#[inline(always)]
+fn part(tone: u8, limit: u8) -> u8
+    ensures { result ≡ tone * limit / 255 }
+{
+    (u16::from(tone) * u16::from(limit) / 255) as u8
+}
+
+// Whether a curve leaves each amount as it is.
+fn is_straight(curve: &[u16; 17]) -> bool
+    ensures { result ≡ true → curve.now ≡ straight_curve }
+{
+    *curve == STRAIGHT_CURVE
+}
+
+// The tones of an ink, 0 to 3 for black, cyan, magenta and yellow, scaled by this limit.
+fn table_of(p: &Profile, ink: u8, limit: u8) -> [u8; 256]
+    requires ink { ink < 4 }
+    requires checked { IsOk (check p.now) }
+    ensures { (a : ℕ) → a < 256
+        → slice_index result a ≡ tone_on (slice_index_or p.now.curves ink []) a * limit / 255 }
+{
+    let mut amounts = [0; 256];
+    for a in 0..256usize {
+        amounts[a] = part(p.tone(ink, a as u8), limit);
+    }
+    amounts
+}
+
+impl Scale {
+    /// That of an ink, 0 to 3 for black, cyan, magenta and yellow.
+    pub(crate) fn of(p: &Profile, ink: u8) -> Scale
+        requires ink { ink < 4 }
+        requires checked { IsOk (check p.now) }
+        ensures { (a : ℕ) → a < 256
+            → scaled result a ≡ tone_on (slice_index_or p.now.curves ink []) a * slice_index p.now.limits ink / 255 }
+    {
+        let limit = p.limits[usize::from(ink)];
+        if is_straight(&p.curves[usize::from(ink)]) {
+            Scale::Straight(limit)
+        } else {
+            Scale::Table(table_of(p, ink, limit))
+        }
+    }
+
+    /// The amounts of what pixels give.
+    #[inline(always)]
+    pub(crate) fn amounts(&self, given: &Values) -> Values
+        ensures { (x : ℕ) → x < 64 → slice_index result x ≡ scaled self.now (slice_index given.now x) }
+    {
+        match self {
+            Scale::Straight(limit) => limited(given, *limit),
+            Scale::Table(amounts) => looked_up(given, amounts),
+        }
+    }
+}
+
+/// The scales of a printer's inks. Contracts see its limits and curves, of black, cyan, magenta and yellow.
+#[derive(Drop)]
+pub(crate) struct Scales {
+    limits: [u8; 4],
+    curves: [[u16; 17]; 4],
+    black: Scale,
+    cyan: Scale,
+    magenta: Scale,
+    yellow: Scale,
+    ghost made: { (ink : Ink) (a : ℕ) → a < 256 → scaled (by_ink black cyan magenta yellow ink) a
+        ≡ tone_on (slice_index_or curves (ink_place ink) []) a * slice_index limits (ink_place ink) / 255 },
+}
+
+impl Scales {
+    /// Those of a printer.
+    pub(crate) fn make(p: &Profile) -> Scales
+        requires { IsOk (check p.now) }
+        ensures limits { result.limits ≡ p.now.limits }
+        ensures curves { result.curves ≡ p.now.curves }
+    {
+        Scales {
+            limits: p.limits,
+            curves: p.curves,
+            black: Scale::of(p, 0),
+            cyan: Scale::of(p, 1),
+            magenta: Scale::of(p, 2),
+            yellow: Scale::of(p, 3),
+        }
+    }
+
+    /// The amounts of what pixels give to an ink.
+    #[inline(always)]
+    pub(crate) fn amounts(&self, ink: Ink, given: &Values) -> Values
+        ensures { (x : ℕ) → x < 64 → slice_index result x
+            ≡ tone_on (slice_index_or self.now.curves (ink_place ink) []) (slice_index given.now x)
+            * slice_index self.now.limits (ink_place ink) / 255 }
+    {
+        match ink {
+            Ink::Black => self.black.amounts(given),
+            Ink::Cyan => self.cyan.amounts(given),
+            Ink::Magenta => self.magenta.amounts(given),
+            Ink::Yellow => self.yellow.amounts(given),
+        }
+    }
+}
+
+// The amounts by a limit.
+#[inline(always)]
+fn limited(given: &Values, limit: u8) -> Values
+    ensures { (x : ℕ) → x < 64 → slice_index result x ≡ slice_index given.now x * limit / 255 }
+{
+    let mut amounts = [0; PIXELS];
+    for x in 0..PIXELS {
+        amounts[x] = part(given[x], limit);
+    }
+    amounts
+}
+
+// The amounts by a table.
+#[inline(always)]
+fn looked_up(given: &Values, table: &[u8; 256]) -> Values
+    ensures { (x : ℕ) → x < 64 → slice_index result x ≡ slice_index table.now (slice_index given.now x) }
+{
+    let mut amounts = [0; PIXELS];
+    for x in 0..PIXELS {
+        amounts[x] = table[usize::from(given[x])];
+    }
+    amounts
+}
