@@ -1,5 +1,7 @@
 pub mod CheckedProfiles
+pub mod CurveParts
 pub mod Curves
+pub mod CurveTexts
 pub mod Divisors
 pub mod LineParts
 pub mod Printed

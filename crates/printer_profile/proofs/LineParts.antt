@@ -25,7 +25,7 @@ first_of_lines text line rest some line_is rest_is =
 or_fails : (a b : Bool) → (a || b) ≡ false → (a ≡ false) × (b ≡ false)
 or_fails a b h = (grind (arith, nat_tests), grind (arith, nat_tests))
 
-one_part : (p : ℕ → Bool) (text : List ℕ) → list_any p text ≡ false → slice_split p text ≡ text ∷ []
+pub one_part : (p : ℕ → Bool) (text : List ℕ) → list_any p text ≡ false → slice_split p text ≡ text ∷ []
 one_part p [] h = refl
 one_part p (b ∷ text) h =
     let tests = or_fails (p b) (list_any p text) h in

@@ -1,5 +1,5 @@
 -- The table of keys.
-use Rattle.std.specs.Prelude.{ℕ, Bool, true, false, ◌==◌, List, [], ◌∷◌, codes, find, slice_index}
+use Rattle.std.specs.Prelude.{ℕ, Bool, true, false, ◌==◌, List, [], ◌∷◌, ◌++◌, codes, find, slice_index, slice_index_or}
 use Rattle.std.specs.Prelude.{slice_set, Option, Some, None, Result, Ok, Err}
 use Rattle.std.specs.Fmt.{decimal}
 use Rattle.std.specs.Option.{option_map}
@@ -8,10 +8,12 @@ use Rattle.printer_definitions.specs.declared.inks.InkSet.TheVariants.{K}
 use Rattle.printer_definitions.specs.Printer.{Printer, straight_curve}
 use Rattle.printer_profile.specs.declared.keys.Key.{Key}
 use Rattle.printer_profile.specs.declared.keys.Key.TheVariants as key
+use Rattle.printer_profile.specs.declared.keys.Version.{Version}
+use Rattle.printer_profile.specs.declared.keys.Version.TheVariants.{One, Two}
 use Rattle.printer_profile.specs.declared.setting.SetFault.{SetFault}
 use Rattle.printer_profile.specs.declared.setting.SetFault.TheVariants.{UnknownKey, BadValue}
 use Rattle.key_values.specs.Numbers.{number_within}
-use Rattle.printer_profile.specs.Values.{ink_set_name, ink_set_named}
+use Rattle.printer_profile.specs.Values.{curve_text, curve_written, ink_set_name, ink_set_named}
 
 -- A key: its place, counted from 1, its name, whether a text must have it, the profile with the value that a text
 -- gives it, if the key takes it, and the text of its value.
@@ -36,6 +38,16 @@ number_row place name required most field with_field = record {
 abbrev pub limit_row : ℕ → List ℕ → ℕ → Row
 limit_row place name ink =
     number_row place name false 255 (λ p. slice_index p.limits ink) (λ p n. record p { limits = slice_set p.limits ink n })
+
+-- the key of an ink's curve, by the ink's place
+abbrev pub curve_row : ℕ → List ℕ → ℕ → Row
+curve_row place name ink = record {
+  place = place;
+  name = name;
+  required = false;
+  put = λ text p. option_map (λ curve. record p { curves = slice_set p.curves ink curve }) (curve_written text);
+  text = λ p. curve_text (slice_index_or p.curves ink []);
+}
 
 abbrev pub inks_row : Row
 inks_row = record {
@@ -63,16 +75,33 @@ row_of key.Left = number_row 11 (codes "left") false 65535 (λ p. p.left) (λ p 
 row_of key.Right = number_row 12 (codes "right") false 65535 (λ p. p.right) (λ p n. record p { right = n })
 row_of key.Top = number_row 13 (codes "top") false 65535 (λ p. p.top) (λ p n. record p { top = n })
 row_of key.Bottom = number_row 14 (codes "bottom") false 65535 (λ p. p.bottom) (λ p n. record p { bottom = n })
+row_of key.CurveBlack = curve_row 15 (codes "curve_k") 0
+row_of key.CurveCyan = curve_row 16 (codes "curve_c") 1
+row_of key.CurveMagenta = curve_row 17 (codes "curve_m") 2
+row_of key.CurveYellow = curve_row 18 (codes "curve_y") 3
 
--- the keys in the order of the table
-abbrev pub all_keys : List Key
-all_keys =
+-- the keys of version 1, in the order of the table
+abbrev pub first_keys : List Key
+first_keys =
     key.Hdpi ∷ key.Vdpi ∷ key.Nozzles ∷ key.Pitch ∷ key.Inks ∷ key.BlackStart ∷ key.LimitBlack ∷ key.LimitCyan
     ∷ key.LimitMagenta ∷ key.LimitYellow ∷ key.Left ∷ key.Right ∷ key.Top ∷ key.Bottom ∷ []
 
--- the key of a name
-abbrev pub key_named : List ℕ → Option Key
-key_named name = find (λ key. bytes_eq (row_of key).name name) all_keys
+-- the keys of the curves
+abbrev pub curve_keys : List Key
+curve_keys = key.CurveBlack ∷ key.CurveCyan ∷ key.CurveMagenta ∷ key.CurveYellow ∷ []
+
+-- all keys, in the order of the table
+abbrev pub all_keys : List Key
+all_keys = first_keys ++ curve_keys
+
+-- the keys of a version
+abbrev pub keys_of : Version → List Key
+keys_of One = first_keys
+keys_of Two = all_keys
+
+-- the key of a name, in a version
+abbrev pub key_named : Version → List ℕ → Option Key
+key_named version name = find (λ key. bytes_eq (row_of key).name name) (keys_of version)
 
 -- the key at a place of the table
 abbrev pub key_at : ℕ → Option Key
@@ -114,4 +143,4 @@ set_found value p (Some key) = put_or_fault ((row_of key).put value p)
 
 -- the profile with the value that a text gives the key of a name
 abbrev pub set_key : List ℕ → List ℕ → Printer → Result Printer SetFault
-set_key name value p = set_found value p (key_named name)
+set_key name value p = set_found value p (key_named Two name)

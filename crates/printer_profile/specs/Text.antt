@@ -8,6 +8,8 @@ use Rattle.std.specs.Str.Lines.{lines}
 use Rattle.key_values.specs.Pairs.{is_key_value, key_of, value_of}
 use Rattle.printer_definitions.specs.Printer.{Printer}
 use Rattle.printer_profile.specs.declared.keys.Key.{Key}
+use Rattle.printer_profile.specs.declared.keys.Version.{Version}
+use Rattle.printer_profile.specs.declared.keys.Version.TheVariants.{One, Two}
 use Rattle.printer_profile.specs.declared.reading.Given.{Given}
 use Rattle.printer_profile.specs.declared.reading.TextCause.{TextCause}
 use Rattle.printer_profile.specs.declared.reading.TextCause.TheVariants.{BadHead, NotAscii, NoEquals, UnknownKey, RepeatedKey}
@@ -15,9 +17,14 @@ use Rattle.printer_profile.specs.declared.reading.TextCause.TheVariants.{BadValu
 use Rattle.printer_profile.specs.declared.reading.TextFault.{TextFault}
 use Rattle.printer_profile.specs.Keys.{all_keys, key_named, row_of, unset}
 
--- the first line
-abbrev pub header : List ℕ
-header = codes "escp2-profile 1"
+-- the first line of a version
+abbrev pub head_of : Version → List ℕ
+head_of One = codes "escp2-profile 1"
+head_of Two = codes "escp2-profile 2"
+
+-- the version with a first line
+abbrev pub version_of : List ℕ → Option Version
+version_of first = find (λ version. bytes_eq first (head_of version)) (One ∷ Two ∷ [])
 
 -- ---- printed
 
@@ -25,9 +32,9 @@ header = codes "escp2-profile 1"
 abbrev pub key_line : Printer → Key → List ℕ
 key_line p key = (row_of key).name ++ codes "=" ++ (row_of key).text p ++ codes "\n"
 
--- The canonical text: the header, and a line of each key in the order of the table.
+-- The canonical text: the first line of version 2, and a line of each key in the order of the table.
 unfoldable pub profile_text_of : Printer → List ℕ
-profile_text_of p = header ++ codes "\n" ++ flat_map (key_line p) all_keys
+profile_text_of p = head_of Two ++ codes "\n" ++ flat_map (key_line p) all_keys
 
 -- ---- read
 
@@ -38,7 +45,7 @@ is_skipped (first ∷ line) = first == 35
 
 -- before the first key line
 abbrev pub nothing : Given
-nothing = record { profile = unset; keys = replicate 14 false }
+nothing = record { profile = unset; keys = replicate 18 false }
 
 -- whether a key was given
 abbrev pub is_given : Given → Key → Bool
@@ -57,12 +64,12 @@ with_key given value (Some key) =
     if is_given given key then Err RepeatedKey else with_value given key ((row_of key).put value given.profile)
 
 -- with a line after the first
-unfoldable pub with_line : Given → List ℕ → Result Given TextCause
-with_line given line =
+unfoldable pub with_line : Version → Given → List ℕ → Result Given TextCause
+with_line version given line =
     if is_skipped line then Ok given
     else if not (list_all is_ascii line) then Err NotAscii
     else if not (is_key_value line) then Err NoEquals
-    else with_key given (value_of line) (key_named (key_of line))
+    else with_key given (value_of line) (key_named version (key_of line))
 
 -- the number of the next line, up to what 32 bits hold
 abbrev pub next_line : ℕ → ℕ
@@ -72,10 +79,10 @@ abbrev pub fault_at : ℕ → TextCause → TextFault
 fault_at line cause = record { line = line; cause = cause }
 
 -- with these lines, the first of which has this number
-unfoldable pub with_lines : ℕ → Given → List (List ℕ) → Result Given TextFault
-with_lines number given [] = Ok given
-with_lines number given (line ∷ rest) = elim (with_line given line) [
-  | Ok more ↦ with_lines (next_line number) more rest
+unfoldable pub with_lines : Version → ℕ → Given → List (List ℕ) → Result Given TextFault
+with_lines version number given [] = Ok given
+with_lines version number given (line ∷ rest) = elim (with_line version given line) [
+  | Ok more ↦ with_lines version (next_line number) more rest
   | Err cause ↦ Err (fault_at number cause)
 ]
 
@@ -92,10 +99,14 @@ abbrev pub profile_given : Result Given TextFault → Result Printer TextFault
 profile_given (Err fault) = Err fault
 profile_given (Ok given) = profile_unless given (missing given)
 
+-- what the lines after the first give, by the version of the first
+abbrev pub profile_under : Option Version → List (List ℕ) → Result Printer TextFault
+profile_under None rest = Err (fault_at 1 BadHead)
+profile_under (Some version) rest = profile_given (with_lines version 2 nothing rest)
+
 abbrev pub profile_of_lines : List (List ℕ) → Result Printer TextFault
 profile_of_lines [] = Err (fault_at 1 BadHead)
-profile_of_lines (first ∷ rest) =
-    if bytes_eq first header then profile_given (with_lines 2 nothing rest) else Err (fault_at 1 BadHead)
+profile_of_lines (first ∷ rest) = profile_under (version_of first) rest
 
 -- What a text means: a profile, or the first fault.
 unfoldable pub profile_text : List ℕ → Result Printer TextFault

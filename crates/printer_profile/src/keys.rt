@@ -1,4 +1,5 @@
-//! The keys of a profile's text, in one table: place, name, and whether a text must have them.
+//! The keys of a profile's text, in one table: place, name, and whether a text must have them; and the versions of the
+//! text.
 ghost use Rattle.printer_profile.specs.Keys.{name_at};
 ghost use Rattle.std.specs.Prelude.{false, length, true, ◌≡◌, ◌≤◌};
 
@@ -19,6 +20,17 @@ pub(crate) enum Key {
     Right,
     Top,
     Bottom,
+    CurveBlack,
+    CurveCyan,
+    CurveMagenta,
+    CurveYellow,
+}
+
+/// A version of the text. Version 2 has the keys of version 1 and those of the curves.
+#[derive(Clone, Copy)]
+pub(crate) enum Version {
+    One,
+    Two,
 }
 
 // What a text says of a key: its place in the table, its name, and whether a text must have it.
@@ -54,10 +66,10 @@ fn optional(place: u8, name: &'static str) -> Row
 }
 
 impl Key {
-    ghost use Rattle.printer_profile.specs.Keys.{key_at, key_named, row_of};
+    ghost use Rattle.printer_profile.specs.Keys.{key_at, row_of};
 
     /// All keys, in the order of the table.
-    pub(crate) const ALL: [Key; 14] = [
+    pub(crate) const ALL: [Key; 18] = [
         Key::Hdpi,
         Key::Vdpi,
         Key::Nozzles,
@@ -72,6 +84,10 @@ impl Key {
         Key::Right,
         Key::Top,
         Key::Bottom,
+        Key::CurveBlack,
+        Key::CurveCyan,
+        Key::CurveMagenta,
+        Key::CurveYellow,
     ];
 
     // The key's row of the table.
@@ -80,7 +96,7 @@ impl Key {
         ensures name { result.name.now ≡ (row_of self).name }
         ensures required { result.required ≡ (row_of self).required }
         ensures least { 1 ≤ result.place }
-        ensures most { result.place ≤ 14 }
+        ensures most { result.place ≤ 18 }
         ensures len { length result.name.now ≤ 11 }
     {
         match self {
@@ -98,6 +114,10 @@ impl Key {
             Key::Right => optional(12, "right"),
             Key::Top => optional(13, "top"),
             Key::Bottom => optional(14, "bottom"),
+            Key::CurveBlack => optional(15, "curve_k"),
+            Key::CurveCyan => optional(16, "curve_c"),
+            Key::CurveMagenta => optional(17, "curve_m"),
+            Key::CurveYellow => optional(18, "curve_y"),
         }
     }
 
@@ -105,7 +125,7 @@ impl Key {
     pub(crate) fn place(self) -> u8
         ensures place { result ≡ (row_of self).place }
         ensures least { 1 ≤ result }
-        ensures most { result ≤ 14 }
+        ensures most { result ≤ 18 }
     {
         self.row().place
     }
@@ -130,12 +150,50 @@ impl Key {
     {
         Key::ALL.iter().copied().find(|key| key.place() == place)
     }
+}
 
-    // The key of a name.
-    pub(crate) fn named(name: &[u8]) -> Option<Key>
-        ensures { result ≡ key_named name.now }
+impl Version {
+    ghost use Rattle.printer_profile.specs.Keys.{key_named, keys_of};
+    ghost use Rattle.printer_profile.specs.Text.{head_of, version_of};
+
+    const ALL: [Version; 2] = [Version::One, Version::Two];
+
+    /// The first line of a text.
+    pub(crate) fn head(self) -> &'static str
+        ensures head { result.now ≡ head_of self }
+        ensures len { length result.now ≡ 15 }
     {
-        Key::ALL
+        match self {
+            Version::One => "escp2-profile 1",
+            Version::Two => "escp2-profile 2",
+        }
+    }
+
+    /// The version of a text with this first line.
+    pub(crate) fn with_head(line: &[u8]) -> Option<Version>
+        ensures { result ≡ version_of line.now }
+    {
+        Version::ALL
+            .iter()
+            .copied()
+            .find(|version| line == version.head().as_bytes())
+    }
+
+    // The keys, in the order of the table.
+    fn keys(self) -> &'static [Key]
+        ensures { result.now ≡ keys_of self }
+    {
+        match self {
+            Version::One => &Key::ALL[..14],
+            Version::Two => &Key::ALL,
+        }
+    }
+
+    /// The key of a name.
+    pub(crate) fn key_named(self, name: &[u8]) -> Option<Key>
+        ensures { result ≡ key_named self name.now }
+    {
+        self.keys()
             .iter()
             .copied()
             .find(|key| key.name().as_bytes() == name)

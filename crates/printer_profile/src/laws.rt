@@ -3,7 +3,7 @@ ghost use Rattle.separation_definitions.specs.CanPrint.{CanPrint};
 ghost use Rattle.printer_profile.specs.Text.{profile_text, profile_text_of};
 ghost use Rattle.printer_profile.specs.Validity.{check};
 ghost use Rattle.std.specs.Int.{IsGcd};
-ghost use Rattle.std.specs.Prelude.{IsOk, ℕ, ◌≡◌, ◌≤◌, slice_index};
+ghost use Rattle.std.specs.Prelude.{IsOk, ℕ, ◌≡◌, ◌≤◌, length, slice_index};
 
 use crate::fields::Profile;
 
@@ -11,11 +11,24 @@ fn are_bytes(limits: &[u8])
     ensures { (k : ℕ) → slice_index limits.now k ≤ 255 }
 {}
 
+fn are_four(curves: &[[u16; 17]; 4])
+    ensures { length curves.now ≡ 4 }
+{}
+
+fn has_17_points(curve: &[u16; 17])
+    ensures { length curve.now ≡ 17 }
+{}
+
 /// A printed profile is read back.
 pub fn printed_is_read(p: Profile)
     ensures { profile_text (profile_text_of p) ≡ Ok p }
 {
     are_bytes(&p.limits);
+    are_four(&p.curves);
+    has_17_points(&p.curves[0]);
+    has_17_points(&p.curves[1]);
+    has_17_points(&p.curves[2]);
+    has_17_points(&p.curves[3]);
 }
 
 /// A printer that passes its checks can print: it meets what the laws of the page ask of a printer.

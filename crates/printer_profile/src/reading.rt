@@ -7,9 +7,8 @@ ghost use Rattle.std.specs.Char.{is_ascii};
 ghost use Rattle.std.specs.Prelude.{Some, ◌≡◌};
 
 use crate::fields::{Profile, STRAIGHT_CURVE};
-use crate::keys::Key;
+use crate::keys::{Key, Version};
 use crate::lines::first_line;
-use crate::printing::HEADER;
 use key_values::cut_at;
 use printer_definitions::InkSet;
 use thiserror::Error;
@@ -17,7 +16,7 @@ use thiserror::Error;
 /// Why a text is not a profile. Where a line has several causes, the first in the order of these variants counts.
 #[derive(Clone, Copy, Debug, PartialEq, Eq, Error)]
 pub enum TextCause {
-    #[error("not `escp2-profile 1`")]
+    #[error("neither `escp2-profile 1` nor `escp2-profile 2`")]
     BadHead,
     #[error("a byte outside of ASCII")]
     NotAscii,
@@ -47,7 +46,7 @@ pub struct TextFault {
 #[derive(Clone, Copy)]
 struct Given {
     profile: Profile,
-    keys: [bool; 14],
+    keys: [bool; 18],
 }
 
 fn is_skipped(line: &[u8]) -> bool
@@ -86,7 +85,7 @@ impl Given {
                 top: 0,
                 bottom: 0,
             },
-            keys: [false; 14],
+            keys: [false; 18],
         }
     }
 
@@ -106,9 +105,9 @@ impl Given {
         Ok(Given { profile, keys })
     }
 
-    // Takes a line.
-    fn with_line(self, line: &[u8]) -> Result<Given, TextCause>
-        ensures { result ≡ with_line self line.now }
+    // Takes a line of a text of this version.
+    fn with_line(self, version: Version, line: &[u8]) -> Result<Given, TextCause>
+        ensures { result ≡ with_line version self line.now }
     {
         if is_skipped(line) {
             return Ok(self);
@@ -118,7 +117,7 @@ impl Given {
         }
         match cut_at(b'=', line) {
             None => Err(TextCause::NoEquals),
-            Some((name, value)) => match Key::named(name) {
+            Some((name, value)) => match version.key_named(name) {
                 None => Err(TextCause::UnknownKey),
                 Some(key) => self.with_key(key, value),
             },
@@ -147,15 +146,15 @@ impl Given {
 }
 
 // What the lines after the first line of a text set; they are numbered from 2.
-fn read_lines(text: &[u8]) -> Result<Given, TextFault>
-    ensures { result ≡ with_lines 2 nothing (lines text.now) }
+fn read_lines(version: Version, text: &[u8]) -> Result<Given, TextFault>
+    ensures { result ≡ with_lines version 2 nothing (lines text.now) }
 {
     let mut given = Given::nothing();
     let mut number: u32 = 2;
     let mut rest = text;
     'lines: while !rest.is_empty() {
         let (line, suffix) = first_line(rest);
-        given = match given.with_line(line) {
+        given = match given.with_line(version, line) {
             Ok(more) => more,
             Err(cause) => return Err(TextFault {
                 line: number,
@@ -168,7 +167,7 @@ fn read_lines(text: &[u8]) -> Result<Given, TextFault>
     Ok(given)
 }
 
-/// Reads a profile's text: its first line, and lines `key=value`. The answer is the profile, or the first refused
+/// Reads a profile's text, of either version: its first line, and lines `key=value`. The answer is the profile, or the first refused
 /// line; where all lines are good, the first required key that is absent.
 pub fn read(text: &[u8]) -> Result<Profile, TextFault>
     ensures { result ≡ profile_text text.now }
@@ -180,9 +179,9 @@ pub fn read(text: &[u8]) -> Result<Profile, TextFault>
     if text.is_empty() {
         return Err(bad_head);
     }
-    let (header, rest) = first_line(text);
-    if header != HEADER.as_bytes() {
+    let (head, rest) = first_line(text);
+    let Some(version) = Version::with_head(head) else {
         return Err(bad_head);
-    }
-    read_lines(rest)?.profile()
+    };
+    read_lines(version, rest)?.profile()
 }

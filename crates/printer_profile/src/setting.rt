@@ -2,8 +2,8 @@
 ghost use Rattle.std.specs.Prelude.{◌≡◌, IfErr, OnErr, OnOk};
 
 use crate::fields::Profile;
-use crate::keys::Key;
-use crate::values::{byte_of, ink_set_named, pixels_of};
+use crate::keys::{Key, Version};
+use crate::values::{byte_of, curve_of, ink_set_named, pixels_of};
 use thiserror::Error;
 
 /// Why a key is not set.
@@ -19,6 +19,7 @@ impl Profile {
     ghost use Rattle.printer_profile.specs.Keys.{row_of, set_key};
 
     // The profile with the value of a key, if the key takes the value.
+    #[tactic(auto, using(crate::proofs::CurveTexts::points_kept))]
     pub(crate) fn with_value(self, key: Key, text: &[u8]) -> Option<Profile>
         ensures { result ≡ (row_of key).put text.now self }
     {
@@ -38,6 +39,10 @@ impl Profile {
             Key::Right => profile.right = pixels_of(text)?,
             Key::Top => profile.top = pixels_of(text)?,
             Key::Bottom => profile.bottom = pixels_of(text)?,
+            Key::CurveBlack => profile.curves[0] = curve_of(text)?,
+            Key::CurveCyan => profile.curves[1] = curve_of(text)?,
+            Key::CurveMagenta => profile.curves[2] = curve_of(text)?,
+            Key::CurveYellow => profile.curves[3] = curve_of(text)?,
         }
         Some(profile)
     }
@@ -48,7 +53,9 @@ impl Profile {
         ensures fault { IfErr result (λ fault. set_key key.now value.now self.old ≡ Err fault) }
         ensures err { OnErr result (self.new ≡ self.old) }
     {
-        let key = Key::named(key.as_bytes()).ok_or(SetFault::UnknownKey)?;
+        let key = Version::Two
+            .key_named(key.as_bytes())
+            .ok_or(SetFault::UnknownKey)?;
         *self = self
             .with_value(key, value.as_bytes())
             .ok_or(SetFault::BadValue)?;

@@ -1,9 +1,11 @@
 //! The values of keys.
 ghost use Rattle.key_values.specs.Numbers.{number_within as number_of};
+ghost use Rattle.printer_profile.specs.Values.{curve_written};
+ghost use Rattle.printer_profile.specs.Views.{has_points};
 ghost use Rattle.printer_profile.specs.Values.{ink_set_name as ink_set_name_of, ink_set_named as ink_set_of};
-ghost use Rattle.std.specs.Prelude.{◌≡◌, ◌≤◌, length};
+ghost use Rattle.std.specs.Prelude.{◌≡◌, ◌≤◌, IfSome, length, true};
 
-use key_values::number_within;
+use key_values::{cut_at, number_within};
 use printer_definitions::InkSet;
 
 /// A number from 0 to 65535.
@@ -20,6 +22,31 @@ pub fn byte_of(text: &[u8]) -> Option<u8>
 {
     let number = number_within(0, 255, text)?;
     Some(number as u8)
+}
+
+/// A point of a curve: a number from 0 to 256.
+fn point_of(text: &[u8]) -> Option<u16>
+    ensures point { result ≡ number_of 0 256 text.now }
+    ensures most { IfSome result (λ point. point ≤ 256) }
+{
+    let number = number_within(0, 256, text)?;
+    Some(number as u16)
+}
+
+/// A curve: 17 points with commas between.
+pub fn curve_of(text: &[u8]) -> Option<[u16; 17]>
+    ensures curve { result ≡ curve_written text.now }
+    ensures points { IfSome result (λ curve. has_points curve ≡ true) }
+{
+    let mut curve = [0; 17];
+    let mut rest = text;
+    'points: for place in 0..16 {
+        let (point, others) = cut_at(b',', rest)?;
+        curve[place] = point_of(point)?;
+        rest = others;
+    }
+    curve[16] = point_of(rest)?;
+    Some(curve)
 }
 
 /// The set of inks of a name.

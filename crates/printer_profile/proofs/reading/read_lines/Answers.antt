@@ -9,16 +9,16 @@ lines-init c = rw c.nothing-given.ensures refl
 
 pub returns-in-Err : goal.returns-in-Err
 returns-in-Err c =
-    sym (c.lines.invariant ∙ ap (with_lines c.lines.number c.lines.given) c.first_line.ensures.lines
-    ∙ lines_fault _ _ _ _ _ (sym c.with_line.ensures ∙ c.in-Err.is))
+    sym (c.lines.invariant ∙ ap (with_lines c.args.version c.lines.number c.lines.given) c.first_line.ensures.lines
+    ∙ lines_fault _ _ _ _ _ _ (sym c.with_line.ensures ∙ c.in-Err.is))
 
 pub lines-preserved : goal.lines-preserved
 lines-preserved c =
-    c.lines.invariant ∙ ap (with_lines c.lines.number c.lines.given) c.first_line.ensures.lines
-    ∙ lines_more _ _ _ _ _ (sym c.with_line.ensures ∙ c.in-Ok.is)
+    c.lines.invariant ∙ ap (with_lines c.args.version c.lines.number c.lines.given) c.first_line.ensures.lines
+    ∙ lines_more _ _ _ _ _ _ (sym c.with_line.ensures ∙ c.in-Ok.is)
     ∙ rw c.saturating_add-number.ensures refl
 
 pub returns : goal.returns
 returns c =
     let empty : length c.lines.rest.now ≡ 0 = grind (arith, nat_tests, c.is_empty.ensures, c.lines-test.false) in
-    sym (c.lines.invariant ∙ lines_done _ _ c.lines.rest.now empty)
+    sym (c.lines.invariant ∙ lines_done c.args.version _ _ c.lines.rest.now empty)
