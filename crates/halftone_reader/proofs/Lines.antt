@@ -1,7 +1,7 @@
 -- The lines of a page, group by group.
 use Rattle.std.proofs.Common.{◌≡◌, ℕ, zero, suc, ◌-◌, ◌≤◌, List, [], ◌++◌, length, replicate, refl, sym, ◌∙◌, ap, arith, append_assoc}
 use Rattle.pwg_definitions.specs.declared.pages.Kind.{Kind}
-use Rattle.pwg_definitions.specs.declared.pages.Kind.TheVariants.{Gray8, Black8, Rgb8}
+use Rattle.pwg_definitions.specs.declared.pages.Kind.TheVariants.{Gray8, Black8, Rgb8, Black1, Cmyk8}
 use Rattle.pwg_definitions.specs.Header.{KindRow, row_of}
 use Rattle.pwg_definitions.specs.Groups.{GroupRead, group_at}
 use Rattle.pwg_definitions.specs.Groups.GroupRead.{Group, Part, Wrong}
@@ -52,3 +52,5 @@ pub white-unit : (kind : Kind) → length (row_of kind).white ≡ (row_of kind).
 white-unit Gray8 = refl
 white-unit Black8 = refl
 white-unit Rgb8 = refl
+white-unit Black1 = refl
+white-unit Cmyk8 = refl

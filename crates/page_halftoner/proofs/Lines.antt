@@ -1,5 +1,5 @@
 -- One more line of a page.
-use Rattle.std.proofs.Common.{◌≡◌, ◌⊎◌, ℕ, ℤ, ◌%◌, ◌+◌, ◌-◌, ◌*◌, ◌<◌, ◌≤◌, Bool, false, List, [], ◌∷◌, ◌++◌, Some}
+use Rattle.std.proofs.Common.{◌≡◌, ◌⊎◌, ℕ, ℤ, ◌%◌, ◌+◌, ◌-◌, ◌<◌, ◌≤◌, Bool, false, List, [], ◌∷◌, ◌++◌, Some}
 use Rattle.std.proofs.Common.{slice_get, length, get_or, refl}
 use Rattle.std.proofs.Common.{sym, ◌∙◌, ap, arith, inl, inr, subst, append_assoc, length-append, replicate, suc, zero, pos}
 use Rattle.std.proofs.lemmas.List.{append-nil, get_or_at}
@@ -13,7 +13,7 @@ use Rattle.printer_definitions.specs.declared.inks.Ink.{Ink}
 use Rattle.printer_definitions.specs.Printer.{Printer}
 use Rattle.pwg_definitions.specs.Header.{IsWanted, line_bytes, row_of}
 use Rattle.pwg_definitions.specs.declared.pages.Kind.{Kind}
-use Rattle.pwg_definitions.specs.declared.pages.Kind.TheVariants.{Gray8, Black8, Rgb8}
+use Rattle.pwg_definitions.specs.declared.pages.Kind.TheVariants.{Gray8, Black8, Rgb8, Black1, Cmyk8}
 use Rattle.pwg_definitions.specs.declared.pages.PageForm.{PageForm}
 use Rattle.separation_definitions.specs.Amounts.{amount as amount_of, pixel_at}
 use Rattle.separation_definitions.specs.Windows.{wanted_by, window_of}
@@ -48,16 +48,18 @@ count_more lines line n e = omega (arith, length-append lines (line ∷ []))
 
 -- A line of a page holds the pixels of its window.
 pub line_holds : (form : PageForm) (p : Printer) → IsWanted (wanted_by p) form
-    → ((window_of form p).left + (window_of form p).width) * (row_of form.kind).unit ≤ form.bytes_per_line
+    → line_bytes ((window_of form p).left + (window_of form p).width) (row_of form.kind).bits_per_pixel ≤ form.bytes_per_line
 line_holds form p wanted =
     fits form.kind (window_of form p).left (window_of form p).width form.width form.bytes_per_line
     (omega (arith, wanted.least_width)) wanted.bytes_per_line
   where
     fits : (kind : Kind) (left width across bytes : ℕ) → left + width ≤ across
-        → bytes ≡ line_bytes across (row_of kind).bits_per_pixel → (left + width) * (row_of kind).unit ≤ bytes
+        → bytes ≡ line_bytes across (row_of kind).bits_per_pixel → line_bytes (left + width) (row_of kind).bits_per_pixel ≤ bytes
     fits Gray8 left width across bytes inside is = omega arith
     fits Black8 left width across bytes inside is = omega arith
     fits Rgb8 left width across bytes inside is = omega arith
+    fits Black1 left width across bytes inside is = omega arith
+    fits Cmyk8 left width across bytes inside is = omega arith
 
 -- A line in a margin changes no row.
 pub in_margin : (h : Halftoning) (line : List ℕ) (lines : List (List ℕ))

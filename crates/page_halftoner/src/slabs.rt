@@ -6,10 +6,10 @@ ghost use Rattle.ink_separation.specs.Separators.{IsSeparatorOf};
 ghost use Rattle.page_halftoner.specs.Slabs.{IsFirstSlab, IsNextSlab};
 ghost use Rattle.printer_definitions.specs.Inks.{inks_of};
 ghost use Rattle.printer_definitions.specs.Printer.{Printer};
-ghost use Rattle.pwg_definitions.specs.Header.{row_of};
+ghost use Rattle.pwg_definitions.specs.Header.{line_bytes, row_of};
 ghost use Rattle.pwg_definitions.specs.declared.pages.Kind.{Kind};
 ghost use Rattle.separation_definitions.specs.declared.window.Window.{Window};
-ghost use Rattle.std.specs.Prelude.{IfOk, length, true, ℕ, ◌%◌, ◌*◌, ◌+◌, ◌<◌, ◌≡◌, ◌≤◌};
+ghost use Rattle.std.specs.Prelude.{IfOk, length, true, ℕ, ◌%◌, ◌+◌, ◌<◌, ◌≡◌, ◌≤◌};
 
 use base_definitions::Memory;
 use dot_planes::InkRows;
@@ -69,7 +69,7 @@ pub(crate) fn next_slab(slab: &mut InkRows, left: u32)
 pub(crate) fn put_line(separator: &Separator, line: &[u8], again: bool, y: u32, slab: &mut InkRows)
     requires wide { separator.now.window.width ≤ most_columns }
     requires line { let s = separator.now in
-        (s.window.left + s.window.width) * (row_of s.kind).unit ≤ length line.now }
+        line_bytes (s.window.left + s.window.width) (row_of s.kind).bits_per_pixel ≤ length line.now }
     requires width { slab.old.width ≡ separator.now.window.width }
     requires inks { slab.old.inks ≡ length (inks_of separator.now.inks) }
     requires y { y < slab.old.rows }

@@ -1,10 +1,10 @@
-use Rattle.std.proofs.Common.{◌≡◌, ◌⊎◌, ◌%◌, ◌+◌, ◌-◌, ◌*◌, ◌≤◌, ◌<◌, ℕ, ℤ, Bool, true, List, ap, arith, length, min, sym, subst, ◌∙◌}
+use Rattle.std.proofs.Common.{◌≡◌, ◌⊎◌, ◌%◌, ◌+◌, ◌-◌, ◌≤◌, ◌<◌, ℕ, ℤ, Bool, true, List, ap, arith, length, min, sym, subst, ◌∙◌}
 use Rattle.std.proofs.lemmas.Option.{same_Some}
 use Rattle.dot_planes.specs.Tables.{AmountTable}
 use Rattle.ink_separation.specs.Separated.{HasLine, Separates}
 use Rattle.ink_separation.specs.Separators.{IsSeparatorOf}
 use Rattle.printer_definitions.specs.Printer.{Printer}
-use Rattle.pwg_definitions.specs.Header.{row_of}
+use Rattle.pwg_definitions.specs.Header.{line_bytes, row_of}
 use Rattle.pwg_definitions.specs.declared.pages.Kind.{Kind}
 use Rattle.printer_definitions.specs.Inks.{inks_of}
 use Rattle.separation_definitions.specs.declared.window.Window.{Window}
@@ -33,8 +33,8 @@ put_line-requires-clause-line g c =
     let holds = line_holds h.form h.profile c.self.invariant.wanted in
     omega (
       arith,
-      ap (λ (win : Window). (win.left + win.width) * (row_of h.separator.kind).unit) is.window_is,
-      ap (λ kind. ((window_in h).left + (window_in h).width) * (row_of kind).unit) is.kind_is,
+      ap (λ (win : Window). line_bytes (win.left + win.width) (row_of h.separator.kind).bits_per_pixel) is.window_is,
+      ap (λ kind. line_bytes ((window_in h).left + (window_in h).width) (row_of kind).bits_per_pixel) is.kind_is,
       holds,
       c.requires.line,
       ap (λ (s : Halftoning). s.form.bytes_per_line) c.self.view_is,
