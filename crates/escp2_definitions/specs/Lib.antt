@@ -1,5 +1,5 @@
 pub mod RowCode
-pub mod Canonical
+pub mod Least
 pub mod Commands
 pub mod Written
 pub mod Machine

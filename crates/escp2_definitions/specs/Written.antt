@@ -3,7 +3,7 @@ use Rattle.std.specs.Prelude.{◌≡◌, ℕ, zero, suc, ◌==◌, if◌then◌e
 use Rattle.std.specs.List.{flat_map}
 use Rattle.escp2_definitions.specs.declared.command.Command.{Command}
 use Rattle.escp2_definitions.specs.declared.command.Command.TheVariants as c
-use Rattle.escp2_definitions.specs.Canonical.{canonical_row}
+use Rattle.escp2_definitions.specs.Least.{least_row}
 use Rattle.escp2_definitions.specs.Commands.{command_bytes, row_bytes}
 use Rattle.escp2_definitions.specs.RowCode.{RowCode}
 
@@ -16,9 +16,9 @@ pub record Coding : Type 0 where
 abbrev pub plain : Coding
 plain = record { c = 0; code = λ row. row }
 
--- rows by their canonical codes
-abbrev pub canonical : Coding
-canonical = record { c = 1; code = canonical_row }
+-- rows by their least codes
+abbrev pub shortest : Coding
+shortest = record { c = 1; code = least_row }
 
 -- rows are written plain, or each by a code of its own
 abbrev pub IsCoding : Coding → Type 0

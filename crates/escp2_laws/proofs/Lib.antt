@@ -1,6 +1,7 @@
 pub mod Rows
-pub mod Packets
-pub mod Canonical
+pub mod Fewest
+pub mod Least
+pub mod PacketsStand
 pub mod Prefixes
 pub mod Grammar
 pub mod RowsTold

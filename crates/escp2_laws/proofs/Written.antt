@@ -10,9 +10,9 @@ use Rattle.escp2_definitions.specs.declared.command.Command.TheVariants as c
 use Rattle.escp2_definitions.specs.Commands.{Spells, in_table, is_switch, row_bytes, rows_len}
 use Rattle.escp2_definitions.specs.RowCode.{RowCode, RowsCode}
 use Rattle.escp2_definitions.specs.Written.{Coding, IsCoding, rows_apart, written, written_rows}
-use Rattle.escp2_definitions.specs.Canonical.{canonical_row}
+use Rattle.escp2_definitions.specs.Least.{least_row}
 use Rattle.escp2_laws.specs.Coded.{HasCoding}
-use Rattle.escp2_laws.proofs.Canonical.{canonical-codes}
+use Rattle.escp2_laws.proofs.Least.{least-codes}
 use Rattle.escp2_laws.proofs.Reading.{and-left, no_rows}
 
 -- ---- rows one by one
@@ -66,16 +66,16 @@ written-spells coding (c.Raster header) rows codes has ok fits = record {
 }
 written-spells coding other rows codes has ok fits = record { in_range = ok; rows_fit = fits; text = rows; rows_are = refl; spelled = refl }
 
--- the canonical code, where the rows are coded
-switch-is : (k : ℕ) → is_switch k ≡ true → IsCoding (record { c = k; code = canonical_row })
+-- the least code, where the rows are coded
+switch-is : (k : ℕ) → is_switch k ≡ true → IsCoding (record { c = k; code = least_row })
 switch-is zero ok = inl refl
-switch-is (suc zero) ok = inr (refl, canonical-codes)
+switch-is (suc zero) ok = inr (refl, least-codes)
 switch-is (suc (suc k)) ok = absurd (let high : suc (suc k) ≤ 1 = leb-true (suc (suc k)) 1 ok in omega arith)
 
--- so does what is written with canonical codes
-pub canonical-spells : (command : Command) (rows : List ℕ) → in_table command ≡ true → length rows ≡ rows_len command
-    → Spells command rows (written canonical_row command rows)
-canonical-spells (c.Raster header) rows ok fits =
+-- so does what is written with least codes
+pub least-spells : (command : Command) (rows : List ℕ) → in_table command ≡ true → length rows ≡ rows_len command
+    → Spells command rows (written least_row command rows)
+least-spells (c.Raster header) rows ok fits =
     let coded : is_switch header.c ≡ true = and-left _ _ (and-left _ _ (and-left _ _ (and-left _ _ ok))) in
-    written-spells (record { c = header.c; code = canonical_row }) (c.Raster header) rows (switch-is header.c coded) refl ok fits
-canonical-spells other rows ok fits = record { in_range = ok; rows_fit = fits; text = rows; rows_are = refl; spelled = refl }
+    written-spells (record { c = header.c; code = least_row }) (c.Raster header) rows (switch-is header.c coded) refl ok fits
+least-spells other rows ok fits = record { in_range = ok; rows_fit = fits; text = rows; rows_are = refl; spelled = refl }

@@ -1,17 +1,35 @@
 //! Laws of the code of rows, each the contract of an empty function.
-ghost use Rattle.escp2_definitions.specs.Canonical.{canonical_row};
-ghost use Rattle.escp2_definitions.specs.RowCode.{RowCode, RowsCode, rows_at};
+ghost use Rattle.escp2_definitions.specs.Least.{costs, least_row, packets_at};
+ghost use Rattle.escp2_definitions.specs.RowCode.{RowCode, RowPacket, RowsCode, rows_at};
 ghost use Rattle.escp2_definitions.specs.RowCode.RowsRead.{RowsAre};
-ghost use Rattle.std.specs.Prelude.{List, [], length, slice_index, take, ℕ, ◌*◌, ◌++◌, ◌<◌, ◌≡◌, ◌≤◌};
+ghost use Rattle.escp2_laws.specs.PacketStands.{MayStand};
+ghost use Rattle.std.specs.List.{Contains};
+ghost use Rattle.std.specs.Prelude.{List, [], drop, length, slice_index, take, ℕ, ◌*◌, ◌++◌, ◌<◌, ◌↔◌, ◌≡◌, ◌≤◌};
 
-/// The canonical code of a row is a code of the row.
-pub fn canonical_is_a_code()
-    ensures { (row : List ℕ) → RowCode (canonical_row row) row }
+/// The packets that are weighed at a place are those that may stand there, and no others.
+pub fn packets_are_all()
+    ensures { (packet : RowPacket) (row : List ℕ) → Contains (packets_at row) packet ↔ MayStand packet row }
 {}
 
-/// The canonical code has at most twice as many bytes as its row.
-pub fn canonical_is_short()
-    ensures { (row : List ℕ) → length (canonical_row row) ≤ 2 * length row }
+/// The least code of a row is a code of the row.
+pub fn least_is_a_code()
+    ensures { (row : List ℕ) → RowCode (least_row row) row }
+{}
+
+/// The cost of each place is the length of the least code from there on; so the first cost is that of the whole row.
+pub fn costs_are_reached()
+    ensures { (row : List ℕ) (at : ℕ) → at ≤ length row
+        → length (least_row (drop at row)) ≡ slice_index (costs row) at }
+{}
+
+/// No code of the row is shorter.
+pub fn no_code_is_shorter()
+    ensures { (code row : List ℕ) → RowCode code row → length (least_row row) ≤ length code }
+{}
+
+/// The least code has at most twice as many bytes as its row.
+pub fn least_is_short()
+    ensures { (row : List ℕ) → length (least_row row) ≤ 2 * length row }
 {}
 
 /// No code of m rows of one width is a proper prefix of another, and a code is of one list of rows.

@@ -1,11 +1,12 @@
 //! Worked jobs: each function does nothing, and the checker computes its contract. They hold the definitions against
 //! results that were worked by hand.
-#![tactic(auto, unfolding(escp2_definitions::specs::Commands::command_at, escp2_definitions::specs::Commands::commands_from, escp2_definitions::specs::Machine::execute_from, escp2_definitions::specs::Machine::rows_dots, escp2_definitions::specs::RowCode::row_at, escp2_definitions::specs::RowCode::rows_at))]
+#![tactic(auto, unfolding(escp2_definitions::specs::Least::cost_from, escp2_definitions::specs::Least::costs, escp2_definitions::specs::Least::equal_at, escp2_definitions::specs::Least::least, escp2_definitions::specs::Least::least_packet, escp2_definitions::specs::Least::least_row, escp2_definitions::specs::Least::literals, escp2_definitions::specs::Least::packets_at, escp2_definitions::specs::Least::packets_from, escp2_definitions::specs::Least::runs, escp2_definitions::specs::Commands::command_at, escp2_definitions::specs::Commands::commands_from, escp2_definitions::specs::Machine::execute_from, escp2_definitions::specs::Machine::rows_dots, escp2_definitions::specs::RowCode::row_at, escp2_definitions::specs::RowCode::rows_at))]
 
 ghost use Rattle.escp2_definitions.specs.Commands.Heard.{One, Wrong};
 ghost use Rattle.escp2_definitions.specs.Commands.ListEnd.{Cut, Fault, Whole};
 ghost use Rattle.escp2_definitions.specs.Commands.{command_at, commands};
 ghost use Rattle.escp2_definitions.specs.JobEnds.{job_end};
+ghost use Rattle.escp2_definitions.specs.Least.{costs, least_row};
 ghost use Rattle.escp2_definitions.specs.Machine.{execute};
 ghost use Rattle.escp2_definitions.specs.declared.command.Command.TheVariants as c;
 ghost use Rattle.escp2_definitions.specs.declared.stops.EmuFault.TheVariants.{Backward, Density, NoMargins, NoUnit};
@@ -146,4 +147,11 @@ pub fn numbers_are_limited()
 pub fn widest_row_is_read()
     ensures { command_at (0x1B ∷ 0x2E ∷ 0x00 ∷ 0x0A ∷ 0x0A ∷ 0x01 ∷ 0xFF ∷ 0x1F ∷ replicate 1024 0) ≡
         One (c.Raster (record { c = 0; v = 10; h = 10; m = 1; n = 8191 })) (replicate 1024 0) 1032 }
+{}
+
+/// A row of two runs and a byte between them, whose second run costs no less than a literal: a repeated byte, and then
+/// a literal over the second run.
+pub fn least_row_is_worked()
+    ensures costs { costs (0 ∷ 0 ∷ 1 ∷ 0 ∷ 0 ∷ []) ≡ 6 ∷ 5 ∷ 4 ∷ 2 ∷ 2 ∷ 0 ∷ [] }
+    ensures code { least_row (0 ∷ 0 ∷ 1 ∷ 0 ∷ 0 ∷ []) ≡ 0xFF ∷ 0x00 ∷ 0x02 ∷ 0x01 ∷ 0x00 ∷ 0x00 ∷ [] }
 {}

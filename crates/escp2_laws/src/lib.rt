@@ -1,7 +1,7 @@
 //! Laws of print jobs and of the code of rows, and worked jobs that the check computes. Commands and rows that are
 //! spelled are read, whatever follows; what is read as whole is spelled; and no spelling is a proper prefix of another.
-//! The canonical code of a row is a code of it, of at most twice as many bytes. What is read of a command stays read
-//! while more bytes come. Each law is the contract of an empty function.
+//! The least code of a row is a code of it, and no other code is shorter. What is read of a command stays read while
+//! more bytes come. Each law is the contract of an empty function.
 #![tactic(auto)]
 
 mod codes;
@@ -11,11 +11,11 @@ mod machine_examples;
 mod standing;
 
 pub use codes::{
-    canonical_is_a_code, canonical_is_short, code_is_read, no_code_begins_another,
-    what_is_read_is_a_code,
+    code_is_read, costs_are_reached, least_is_a_code, least_is_short, no_code_begins_another,
+    no_code_is_shorter, packets_are_all, what_is_read_is_a_code,
 };
 pub use examples::{
-    columns_are_limited, commands_are_refused, early_rasters_are_refused, faults_are_told,
+    columns_are_limited, commands_are_refused, early_rasters_are_refused, faults_are_told, least_row_is_worked,
     listing_is_printed, listing_is_read, listing_is_refused, numbers_are_limited,
     pages_are_limited, widest_row_is_read,
 };

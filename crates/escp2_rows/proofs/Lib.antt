@@ -1,3 +1,4 @@
 pub mod Writing
 pub mod Steps
 pub mod Feeding
+pub mod Ends

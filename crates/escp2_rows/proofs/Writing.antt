@@ -1,231 +1,271 @@
--- The canonical code, step by step.
-use Rattle.std.proofs.Common.{◌≡◌, ℕ, zero, suc, ◌+◌, ◌-◌, ◌*◌, ◌<◌, ◌≤◌, ◌==◌, ◌&&◌, nat_lt, Bool, true, false, if◌then◌else◌, List, []}
-use Rattle.std.proofs.Common.{◌∷◌, ◌++◌, length, take, drop, min, get_or, set, refl, sym, ◌∙◌, ap, arith, subst, append_assoc, append-nil}
-use Rattle.std.proofs.Common.{◌⊎◌, ◌≢◌, inl, inr, length-append, length-drop, eq-eqb}
-use Rattle.std.specs.List.{flat_map}
-use Rattle.std.proofs.lemmas.Bool.{cases_eq, ltb-true, ltb-false, le-ltb, lt-ltb, ne_eqb}
-use Rattle.std.proofs.lemmas.Bool.Decides.{nat_tests}
-use Rattle.std.proofs.lemmas.List.{drop-drop, drop_all, get_or-drop, length-take-le, take_all}
+-- The least code, step by step.
+use Rattle.std.proofs.Common.{◌≡◌, ℕ, zero, suc, ◌+◌, ◌-◌, ◌*◌, ◌<◌, ◌≤◌, ◌==◌, ◌≢◌, ◌⊎◌, inl, inr, Bool, true, false, cond, if◌then◌else◌}
+use Rattle.std.proofs.Common.{List, [], ◌∷◌, ◌++◌, length, take, drop, min, get_or, set, refl, sym, ◌∙◌, ap, subst, arith, append_assoc}
+use Rattle.std.proofs.Common.{append-nil, length-append, length-drop, eq-eqb}
+use Rattle.std.specs.List.{flat_map, filter}
+use Rattle.std.proofs.lemmas.Bool.{cases_lt, eqb-true}
+use Rattle.std.proofs.lemmas.List.{drop-drop, drop_all, length-replicate, length-take-le}
 use Rattle.std.proofs.lemmas.Slice.{take-put_mid}
 use Rattle.std.proofs.Math.Seq.{take-append-add}
 use borrow.Rule.Slice.PartMut.{put_mid}
-use Rattle.escp2_definitions.specs.RowCode.{packet_code, packet_row}
+use Rattle.escp2_definitions.specs.RowCode.{RowPacket, packet_code, packet_row}
 use Rattle.escp2_definitions.specs.RowCode.RowPacket.{Bytes, Repeat}
-use Rattle.escp2_definitions.specs.Canonical.{apart_at, canonical_row, equal_at, next_packet, packets_from}
-use Rattle.escp2_laws.proofs.Packets.{apart-more, counted, same, same-cons}
+use Rattle.escp2_definitions.specs.Least.{cost_from, costs, equal_at, least_packet, least_row, literals, packets_at, packets_from, runs}
+use Rattle.escp2_rows.specs.Literals.{IsLongest}
+use Rattle.escp2_laws.proofs.Fewest.{ByLiteral, ByRun, cost_is, costs_drop, equal_within, equal_is, fewest, first_step, length_costs, literal_costs}
+use Rattle.escp2_laws.proofs.Fewest.{run_costs, same, same_cons, same_within}
+use Rattle.escp2_laws.proofs.Least.{IsFirst, first_of_row}
+use Rattle.escp2_rows.proofs.Ends.{entry_small, run_longest}
 
--- ---- equal bytes
+-- ---- which packet is the first one that passes
 
--- the equal bytes, counted in the first bytes
-pub equal_counted : (row : List ℕ) (first count : ℕ) → first ≡ min (length row) 128 → count ≡ same (get_or row 0 0) (take first row)
-    → count ≡ equal_at row
-unfolding equal_at
-equal_counted row first count first_is counted =
-    counted ∙ ap (λ k. same (get_or row 0 0) (take k row)) first_is
-    ∙ ap (λ bs. same (get_or row 0 0) bs) (few (nat_lt (length row) 128) refl)
+not_equal : (a b : ℕ) → a ≢ b → (a == b) ≡ false
+not_equal a b apart = by_test (a == b) refl
   where
-    few : (t : Bool) → nat_lt (length row) 128 ≡ t → take (min (length row) 128) row ≡ take 128 row
-    few true e =
-        let short : length row < 128 = ltb-true _ _ e in
-        take_all (min (length row) 128) row (omega arith) ∙ sym (take_all 128 row (omega arith))
-    few false e =
-        let long : 128 ≤ length row = ltb-false _ _ e in
-        ap (λ k. take k row) (let p : min (length row) 128 ≡ 128 = omega arith in p)
+    by_test : (t : Bool) → (a == b) ≡ t → (a == b) ≡ false
+    by_test true e = absurd (apart (eqb-true a b e))
+    by_test false e = e
 
--- three bytes or more, of which the first three are equal or not
-three-equal : (row : List ℕ) (a b d : ℕ) (rest : List ℕ) → row ≡ a ∷ b ∷ d ∷ rest → nat_lt 2 (equal_at row) ≡ ((a == b) && (b == d))
-unfolding equal_at
-three-equal row a b d rest is = ap (λ bs. nat_lt 2 (equal_at bs)) is ∙ by_second (a == b) (b == d) refl refl
+passes : (test : RowPacket → Bool) (p : RowPacket) (ps : List RowPacket) (d : RowPacket) → test p ≡ true → get_or (filter test (p ∷ ps)) 0 d ≡ p
+passes test p ps d e = ap (λ t. get_or (cond t (p ∷ filter test ps) (filter test ps)) 0 d) e
+
+fails : (test : RowPacket → Bool) (p : RowPacket) (ps : List RowPacket) → test p ≡ false → filter test (p ∷ ps) ≡ filter test ps
+fails test p ps e = ap (λ t. cond t (p ∷ filter test ps) (filter test ps)) e
+
+no_runs : (test : RowPacket → Bool) (n byte : ℕ) (ps : List RowPacket) → ((k : ℕ) → 2 ≤ k → k ≤ n → test (Repeat k byte) ≡ false)
+    → filter test (runs n byte ++ ps) ≡ filter test ps
+unfolding runs
+no_runs test zero byte ps none = refl
+no_runs test (suc zero) byte ps none = refl
+no_runs test (suc (suc n)) byte ps none =
+    fails test (Repeat (suc (suc n)) byte) (runs (suc n) byte ++ ps) (none (suc (suc n)) (omega arith) (omega arith))
+    ∙ no_runs test (suc n) byte ps (λ k some few. none k some (omega arith))
+
+longest_first : (test : RowPacket → Bool) (n m : ℕ) (row : List ℕ) (d : RowPacket) → 1 ≤ n → n ≤ m → test (Bytes (take n row)) ≡ true
+    → ((k : ℕ) → n < k → k ≤ m → test (Bytes (take k row)) ≡ false) → get_or (filter test (literals m row)) 0 d ≡ Bytes (take n row)
+unfolding literals
+longest_first test n zero row d some few is none = absurd (omega arith)
+longest_first test n (suc m) row d some few is none =
+    by_test (cases_lt n (suc m)) (λ less. longest_first test n m row d some less is (λ k more few. none k more (omega arith)))
   where
-    tail : List ℕ
-    tail = take 125 rest
+    by_test : (n < suc m) ⊎ (suc m ≤ n) → (n ≤ m → get_or (filter test (literals m row)) 0 d ≡ Bytes (take n row))
+        → get_or (filter test (Bytes (take (suc m) row) ∷ literals m row)) 0 d ≡ Bytes (take n row)
+    by_test (inl less) rest =
+        ap (λ ps. get_or ps 0 d) (fails test (Bytes (take (suc m) row)) (literals m row) (none (suc m) less (omega arith))) ∙ rest (omega arith)
+    by_test (inr all) rest =
+        let same : n ≡ suc m = omega arith in
+        passes test (Bytes (take (suc m) row)) (literals m row) d (sym (ap (λ k. test (Bytes (take k row))) same) ∙ is) ∙ sym (ap (λ k. Bytes (take k row)) same)
 
-    first : same a (a ∷ b ∷ d ∷ tail) ≡ 1 + same a (b ∷ d ∷ tail)
-    first = same-cons a a (b ∷ d ∷ tail) ∙ ap (λ t. if t then 1 + same a (b ∷ d ∷ tail) else 0) (eq-eqb a a refl)
+-- ---- the packet of a row
 
-    second : (t : Bool) → (b == a) ≡ t → same a (b ∷ d ∷ tail) ≡ (if t then 1 + same a (d ∷ tail) else 0)
-    second t e = same-cons a b (d ∷ tail) ∙ ap (λ t. if t then 1 + same a (d ∷ tail) else 0) e
+run_cost : (b : ℕ) (row : List ℕ) (n : ℕ) → 1 ≤ n → n ≤ length (b ∷ row) → cost_from (costs row) (Repeat n b) ≡ 2 + fewest (drop n (b ∷ row))
+run_cost b row zero some within = absurd (omega arith)
+run_cost b row (suc n) some within = cost_is b row (Repeat (suc n) b) n (length-replicate {A = ℕ} (suc n) b) (omega arith)
 
-    third : (t : Bool) → (d == a) ≡ t → same a (d ∷ tail) ≡ (if t then 1 + same a tail else 0)
-    third t e = same-cons a d tail ∙ ap (λ t. if t then 1 + same a tail else 0) e
+literal_cost : (b : ℕ) (row : List ℕ) (n : ℕ) → 1 ≤ n → n ≤ length (b ∷ row) → cost_from (costs row) (Bytes (take n (b ∷ row))) ≡ 1 + n + fewest (drop n (b ∷ row))
+literal_cost b row zero some within = absurd (omega arith)
+literal_cost b row (suc n) some within =
+    let len : length (take (suc n) (b ∷ row)) ≡ suc n = length-take-le (suc n) (b ∷ row) within in
+    omega (arith, len, cost_is b row (Bytes (take (suc n) (b ∷ row))) n len (omega arith))
 
-    by_second : (t u : Bool) → (a == b) ≡ t → (b == d) ≡ u → nat_lt 2 (same a (a ∷ b ∷ d ∷ tail)) ≡ ((a == b) && (b == d))
-    by_second false u e f =
-        le-ltb _ _ (omega (arith, first, second false (grind (arith, nat_tests)))) ∙ sym (ap (λ t. t && (b == d)) e)
-    by_second true false e f =
-        le-ltb _ _ (omega (arith, first, second true (grind (arith, nat_tests)), third false (grind (arith, nat_tests))))
-        ∙ sym (ap (λ t. t && (b == d)) e ∙ f)
-    by_second true true e f =
-        lt-ltb _ _ (omega (arith, first, second true (grind (arith, nat_tests)), third true (grind (arith, nat_tests))))
-        ∙ sym (ap (λ t. t && (b == d)) e ∙ f)
+run_found : (b : ℕ) (row : List ℕ) (n : ℕ) (ps : List RowPacket) (test : RowPacket → Bool) (d : RowPacket) → 2 ≤ n → test (Repeat n b) ≡ true
+    → get_or (filter test (runs n b ++ ps)) 0 d ≡ Repeat n b
+unfolding runs
+run_found b row zero ps test d some e = absurd (omega arith)
+run_found b row (suc zero) ps test d some e = absurd (omega arith)
+run_found b row (suc (suc n)) ps test d some e = passes test (Repeat (suc (suc n)) b) (runs (suc n) b ++ ps) d e
 
--- the first two are equal, so that the third decides
-pub third-tells : (row : List ℕ) → 3 ≤ length row → get_or row 0 0 ≡ get_or row 1 0
-    → (get_or row 1 0 == get_or row 2 0) ≡ nat_lt 2 (equal_at row)
-third-tells [] some e = absurd (omega arith)
-third-tells (a ∷ []) some e = absurd (omega arith)
-third-tells (a ∷ b ∷ []) some e = absurd (omega arith)
-third-tells (a ∷ b ∷ d ∷ rest) some e =
-    sym (three-equal (a ∷ b ∷ d ∷ rest) a b d rest refl ∙ ap (λ t. t && (b == d)) (eq-eqb a b e))
+pub least_run : (row : List ℕ) → 0 < length row → 2 ≤ equal_at row → fewest row ≡ 2 + fewest (drop (equal_at row) row)
+    → least_packet row ≡ Repeat (equal_at row) (get_or row 0 0)
+unfolding least_packet packets_at costs
+least_run [] some many is = absurd (omega arith)
+least_run (b ∷ row) some many is =
+    run_found b row (equal_at (b ∷ row)) _ (λ p. cost_from (costs row) p == fewest (b ∷ row)) (Bytes []) many
+    (eq-eqb _ _ (run_cost b row (equal_at (b ∷ row)) (omega arith) (equal_within (b ∷ row)).1 ∙ sym is))
 
--- the first two are not
-pub second-tells : (row : List ℕ) → 3 ≤ length row → (get_or row 0 0 ≡ get_or row 1 0 → ⊥)
-    → (get_or row 0 0 == get_or row 1 0) ≡ nat_lt 2 (equal_at row)
-second-tells [] some ne = absurd (omega arith)
-second-tells (a ∷ []) some ne = absurd (omega arith)
-second-tells (a ∷ b ∷ []) some ne = absurd (omega arith)
-second-tells (a ∷ b ∷ d ∷ rest) some ne =
-    ne_eqb a b ne ∙ sym (three-equal (a ∷ b ∷ d ∷ rest) a b d rest refl ∙ ap (λ t. t && (b == d)) (ne_eqb a b ne))
+pub least_literal : (row : List ℕ) (n : ℕ) → 0 < length row → (2 ≤ equal_at row → fewest row ≢ 2 + fewest (drop (equal_at row) row))
+    → IsLongest row n → least_packet row ≡ Bytes (take n row)
+unfolding least_packet packets_at costs
+least_literal [] n some no_run is = absurd (omega arith)
+least_literal (b ∷ row) n some no_run is =
+    ap (λ ps. get_or ps 0 (Bytes [])) (no_runs test (equal_at (b ∷ row)) b (literals (min 128 (length (b ∷ row))) (b ∷ row)) none)
+    ∙ longest_first test n (min 128 (length (b ∷ row))) (b ∷ row) (Bytes []) is.some (omega (arith, is.few, is.within))
+    (eq-eqb _ _ (literal_cost b row n is.some is.within ∙ sym is.is))
+    (λ k more few. not_equal _ _ (longer k more few))
+  where
+    test : RowPacket → Bool
+    test p = cost_from (costs row) p == fewest (b ∷ row)
 
--- fewer than three bytes
-pub few-apart : (row : List ℕ) → length row < 3 → false ≡ nat_lt 2 (equal_at row)
-unfolding equal_at
-few-apart [] few = refl
-few-apart (b ∷ row) few = sym (le-ltb _ _ (omega (arith, (counted (b ∷ row) (omega arith)).equal_within)))
+    none : (k : ℕ) → 2 ≤ k → k ≤ equal_at (b ∷ row) → test (Repeat k b) ≡ false
+    none k many few =
+        not_equal _ _ (λ e. no_run (omega arith) (omega (
+          arith,
+          e,
+          run_cost b row k (omega arith) (omega (arith, (equal_within (b ∷ row)).1)),
+          run_longest (b ∷ row) k (equal_at (b ∷ row)) few,
+          run_costs (b ∷ row) (equal_at (b ∷ row)) (omega arith) (omega arith),
+        )))
 
--- ---- bytes up to a place of equal ones
+    longer : (k : ℕ) → n < k → k ≤ min 128 (length (b ∷ row)) → cost_from (costs row) (Bytes (take k (b ∷ row))) ≢ fewest (b ∷ row)
+    longer k more few = λ e. absurd (omega (arith, e, literal_cost b row k (omega arith) (omega arith), is.longest k more (omega arith) (omega arith)))
 
--- This many bytes are counted.
-pub record ApartSoFar (most : ℕ) (row : List ℕ) (count : ℕ) : Type 0 where
-  pub within : count ≤ most
-  pub is : apart_at most row ≡ count + apart_at (most - count) (drop count row)
+-- ---- the longest literal
 
--- nothing is before three equal bytes
-apart-equal : (left : ℕ) (rest : List ℕ) → nat_lt 2 (equal_at rest) ≡ true → apart_at left rest ≡ 0
-unfolding apart_at
-apart-equal zero rest many = refl
-apart-equal (suc left) [] many = refl
-apart-equal (suc left) (b ∷ rest) many = ap (λ t. if t then 0 else 1 + apart_at left rest) many
+-- All longer literals cost more, and one that is no longer does not.
+pub record LongestSoFar (row : List ℕ) (count : ℕ) : Type 0 where
+  pub some : ℕ
+  pub one : 1 ≤ some
+  pub below : some ≤ count
+  pub few : count ≤ 128
+  pub within : count ≤ length row
+  pub reached : fewest row ≡ 1 + some + fewest (drop some row)
+  pub longer : (k : ℕ) → count < k → k ≤ 128 → k ≤ length row → fewest row < 1 + k + fewest (drop k row)
 
--- nothing is counted where nothing is wanted
-apart-none : (left : ℕ) (rest : List ℕ) → left ≡ 0 → apart_at left rest ≡ 0
-unfolding apart_at
-apart-none left rest none = ap (λ k. apart_at k rest) none
+pub longest_begin : (row : List ℕ) (count : ℕ) → 0 < length row → (2 ≤ equal_at row → fewest row ≢ 2 + fewest (drop (equal_at row) row))
+    → count ≡ min (length row) 128 → LongestSoFar row count
+longest_begin [] count some no_run is = absurd (omega arith)
+longest_begin (b ∷ row) count some no_run is = by_step (first_step b row)
+  where
+    by_step : ByLiteral (b ∷ row) ⊎ ByRun (b ∷ row) → LongestSoFar (b ∷ row) count
+    by_step (inl lit) = record {
+      some = lit.count;
+      one = lit.some;
+      below = omega (arith, lit.few, lit.within);
+      few = omega arith;
+      within = omega arith;
+      reached = lit.is;
+      longer = λ k more few within. absurd (omega arith);
+    }
+    by_step (inr run) =
+        absurd (no_run (omega (arith, run.some, run.few)) (omega (
+          arith,
+          run.is,
+          run_longest (b ∷ row) run.count (equal_at (b ∷ row)) run.few,
+          run_costs (b ∷ row) (equal_at (b ∷ row)) (omega (arith, run.some, run.few)) (omega arith),
+        )))
 
--- nor at the end of a row
-apart-nothing : (left : ℕ) (rest : List ℕ) → length rest ≡ 0 → apart_at left rest ≡ 0
-unfolding apart_at
-apart-nothing zero rest none = refl
-apart-nothing (suc left) [] none = refl
-apart-nothing (suc left) (b ∷ rest) none = absurd (omega arith)
+pub longest_step : (row : List ℕ) (count passed : ℕ) → LongestSoFar row count → fewest row + passed ≡ 1 + count + fewest (drop count row) → 0 < passed
+    → (passed < count) × LongestSoFar row (count - passed)
+longest_step row count passed so_far is some =
+    let below : so_far.some + passed ≤ count = omega (arith, is, so_far.reached, so_far.below, run_longest row so_far.some count so_far.below) in (
+      omega (arith, below, so_far.one),
+      record {
+        some = so_far.some;
+        one = so_far.one;
+        below = omega (arith, below);
+        few = omega (arith, so_far.few);
+        within = omega (arith, so_far.within);
+        reached = so_far.reached;
+        longer = λ k more few within. by_place k more few within (cases_lt count k);
+      },
+    )
+  where
+    by_place : (k : ℕ) → count - passed < k → k ≤ 128 → k ≤ length row → (count < k) ⊎ (k ≤ count) → fewest row < 1 + k + fewest (drop k row)
+    by_place k more few within (inl far) = so_far.longer k far few within
+    by_place k more few within (inr near) = omega (arith, is, run_longest row k count near)
 
--- one more byte is counted
-pub apart_step : (most : ℕ) (row : List ℕ) (count : ℕ) (begins : Bool) (rest : List ℕ) → ApartSoFar most row count
-    → count < min (length row) most
-    → begins ≡ nat_lt 2 (equal_at rest) → rest ≡ drop count row → begins ≡ false → ApartSoFar most row (count + 1)
-apart_step most row count begins rest so_far less test behind apart = record {
-  within = omega arith;
-  is =
-      let fewer : most - count - 1 ≡ most - (count + 1) = omega arith in
-      let next : drop 1 (drop count row) ≡ drop (count + 1) row = drop-drop 1 count row in
-      let same : apart_at (most - count - 1) (drop 1 (drop count row)) ≡ apart_at (most - (count + 1)) (drop (count + 1) row) =
-      ap (λ k. apart_at k (drop 1 (drop count row))) fewer ∙ ap (apart_at (most - (count + 1))) next in
-      let few : nat_lt 2 (equal_at (drop count row)) ≡ false = sym (ap (λ bs. nat_lt 2 (equal_at bs)) behind) ∙ sym test ∙ apart in
-      omega (
-        arith,
-        so_far.is,
-        apart-more (most - count) (drop count row) (omega arith) (omega (arith, length-drop count row)) (ltb-false _ _ few),
-        same,
-      );
+pub longest_end : (row : List ℕ) (count : ℕ) → LongestSoFar row count → 1 + count + fewest (drop count row) ≤ fewest row → IsLongest row count
+longest_end row count so_far le = record {
+  some = omega (arith, so_far.one, so_far.below);
+  few = so_far.few;
+  within = so_far.within;
+  is = omega (arith, le, literal_costs row count (omega (arith, so_far.one, so_far.below)) so_far.few so_far.within);
+  longest = so_far.longer;
 }
 
--- many more bytes are counted
-pub apart_steps : (most : ℕ) (row : List ℕ) (count n : ℕ) → ApartSoFar most row count → count + n ≤ min (length row) most
-    → ((i : ℕ) → i < n → nat_lt 2 (equal_at (drop i (drop count row))) ≡ false) → ApartSoFar most row (count + n)
-apart_steps most row count zero so_far room apart =
-    let same : count ≡ count + 0 = omega arith in
-    subst (ApartSoFar most row) same so_far
-apart_steps most row count (suc n) so_far room apart =
-    let before = apart_steps most row count n so_far (omega arith) (λ i less. apart i (omega arith)) in
-    let next : count + n + 1 ≡ count + suc n = omega arith in
-    let place : drop n (drop count row) ≡ drop (count + n) row = drop-drop n count row in
-    let few : nat_lt 2 (equal_at (drop (count + n) row)) ≡ false =
-    sym (ap (λ (bs : List ℕ). nat_lt 2 (equal_at bs)) place) ∙ apart n (omega arith) in
-    subst (ApartSoFar most row) next (apart_step most row (count + n) (nat_lt 2 (equal_at (drop (count + n) row)))
-    (drop (count + n) row) before (omega arith) refl refl few)
+-- the first packet of a row may stand there
+pub first_is : (row : List ℕ) → 0 < length row → IsFirst row (least_packet row)
+first_is [] some = absurd (omega arith)
+first_is (b ∷ row) some = first_of_row b row
 
--- two of three bytes that follow each other differ
-pub three_apart : (row : List ℕ) (i : ℕ) → i + 2 < length row
-    → ((get_or row i 0 == get_or row (i + 1) 0) && (get_or row (i + 1) 0 == get_or row (i + 2) 0)) ≡ false
-    → nat_lt 2 (equal_at (drop i row)) ≡ false
-three_apart row i room apart = by_pair (cases_eq (get_or row i 0) (get_or row (i + 1) 0))
+-- ---- equal bytes, counted from the front
+
+same_take : (byte m : ℕ) (row : List ℕ) → same byte (take m row) ≡ min m (same byte row)
+same_take byte zero row = omega arith
+same_take byte (suc m) [] = omega arith
+same_take byte (suc m) (b ∷ row) = by_test (b == byte) (same_cons byte b (take m row)) (same_cons byte b row) (same_take byte m row)
   where
-    at : (k : ℕ) → get_or (drop i row) k 0 ≡ get_or row (i + k) 0
-    at k = get_or-drop i row k 0
+    by_test : (t : Bool) → same byte (b ∷ take m row) ≡ (if t then 1 + same byte (take m row) else 0) → same byte (b ∷ row) ≡ (if t then 1 + same byte row else 0)
+        → same byte (take m row) ≡ min m (same byte row) → same byte (b ∷ take m row) ≡ min (suc m) (same byte (b ∷ row))
+    by_test true one two rest = omega (arith, one, two, rest)
+    by_test false one two rest = omega (arith, one, two)
 
-    first : get_or (drop i row) 0 0 ≡ get_or row i 0
-    first = at 0 ∙ ap (λ n. get_or row n 0) (omega arith)
+pub equal_counted : (row : List ℕ) (first count : ℕ) → first ≡ min (length row) 128 → count ≡ same (get_or row 0 0) (take first row) → count ≡ equal_at row
+equal_counted row first count first_is counted =
+    omega (arith, counted, first_is, same_take (get_or row 0 0) first row, same_within (get_or row 0 0) row, equal_is row)
 
-    long : 3 ≤ length (drop i row)
-    long = omega (arith, length-drop i row)
+-- ---- what is read from the table
 
-    by_pair : (get_or row i 0 ≡ get_or row (i + 1) 0) ⊎ (get_or row i 0 ≢ get_or row (i + 1) 0)
-        → nat_lt 2 (equal_at (drop i row)) ≡ false
-    by_pair (inl same) =
-        sym (third-tells (drop i row) long (first ∙ same ∙ sym (at 1)))
-        ∙ ap (λ b. b == get_or (drop i row) 2 0) (at 1) ∙ ap (λ b. get_or row (i + 1) 0 == b) (at 2)
-        ∙ sym (ap (λ t. t && (get_or row (i + 1) 0 == get_or row (i + 2) 0)) (eq-eqb _ _ same)) ∙ apart
-    by_pair (inr other) =
-        sym (second-tells (drop i row) long (λ e. other (sym first ∙ e ∙ at 1)))
-        ∙ ap (λ b. b == get_or (drop i row) 1 0) first ∙ ap (λ b. get_or row i 0 == b) (at 1) ∙ ne_eqb _ _ other
+pub entry_is : (row table : List ℕ) (j : ℕ) → table ≡ costs row → j ≤ length row → get_or table j 0 ≡ fewest (drop j row)
+entry_is row table j is within = ap (λ cs. get_or cs j 0) is ∙ costs_drop j row within
 
--- the count ends at three equal bytes
-pub apart_stop : (most : ℕ) (row : List ℕ) (count : ℕ) (begins : Bool) (rest : List ℕ) → ApartSoFar most row count
-    → begins ≡ nat_lt 2 (equal_at rest) → rest ≡ drop count row → begins ≡ true → count ≡ apart_at most row
-apart_stop most row count begins rest so_far test behind equal =
-    let many : nat_lt 2 (equal_at (drop count row)) ≡ true = sym (ap (λ bs. nat_lt 2 (equal_at bs)) behind) ∙ sym test ∙ equal in
-    omega (arith, so_far.is, apart-equal (most - count) (drop count row) many)
+pub table_sized : (row table : List ℕ) → table ≡ costs row → length table ≡ length row + 1
+table_sized row table is = ap length is ∙ length_costs row
 
--- or at its end
-pub apart_end : (most : ℕ) (row : List ℕ) (count end : ℕ) → ApartSoFar most row count → end ≡ min (length row) most → end ≤ count
-    → count ≤ end
-    → end ≡ apart_at most row
-apart_end most row count end so_far is all within = by_length (nat_lt (length row) most) refl
-  where
-    by_length : (t : Bool) → nat_lt (length row) most ≡ t → end ≡ apart_at most row
-    by_length true e =
-        omega (
-          arith,
-          so_far.is,
-          ltb-true _ _ e,
-          apart-nothing (most - count) (drop count row) (omega (arith, ltb-true _ _ e, length-drop count row)),
-        )
-    by_length false e =
-        omega (arith, so_far.is, ltb-false _ _ e, apart-none (most - count) (drop count row) (omega (arith, ltb-false _ _ e)))
+pub literal_shrinks : (row table : List ℕ) (count least cost : ℕ) → table ≡ costs row → LongestSoFar row count → least ≡ get_or table 0 0 → cost ≡ get_or table count 0
+    → least < count + 1 + cost → (count + 1 + cost - least ≤ count) × LongestSoFar row (count - (count + 1 + cost - least))
+literal_shrinks row table count least cost is so_far first there more =
+    let step : (count + 1 + cost - least < count) × LongestSoFar row (count - (count + 1 + cost - least)) =
+    longest_step row count (count + 1 + cost - least) so_far
+    (omega (arith, first, there, entry_is row table 0 is (omega arith), entry_is row table count is so_far.within)) (omega arith) in
+    (omega (arith, step.0), step.1)
 
--- a byte is counted where the row begins with no three equal ones
-pub apart_some : (row : List ℕ) (count : ℕ) → count ≡ apart_at 128 row → 0 < length row → equal_at row ≤ 2 → 1 ≤ count
-apart_some row count is some few = omega (arith, is, (counted row some).apart_some few)
+pub literal_stays : (row table : List ℕ) (count least cost : ℕ) → table ≡ costs row → LongestSoFar row count → least ≡ get_or table 0 0 → cost ≡ get_or table count 0
+    → count + 1 + cost ≤ least → IsLongest row count
+literal_stays row table count least cost is so_far first there le =
+    longest_end row count so_far (omega (arith, first, there, le, entry_is row table 0 is (omega arith), entry_is row table count is so_far.within))
 
--- ---- the first packet of a row
+-- ---- the packet that is written
 
--- the packet by its test
-pub repeat-is : (row : List ℕ) → 2 < equal_at row → next_packet row ≡ Repeat (equal_at row) (get_or row 0 0)
-repeat-is row many = ap (λ t. if t then Repeat (equal_at row) (get_or row 0 0) else Bytes (take (apart_at 128 row) row)) (lt-ltb _ _ many)
+run_is : (row table : List ℕ) (n : ℕ) → 0 < length row → table ≡ costs row → n ≡ equal_at row → 2 ≤ n → get_or table n 0 + 2 ≡ get_or table 0 0
+    → least_packet row ≡ Repeat n (get_or row 0 0)
+run_is row table n some is equal many reached =
+    let cost : get_or table n 0 ≡ fewest (drop (equal_at row) row) =
+    ap (λ k. get_or table k 0) equal ∙ entry_is row table (equal_at row) is (equal_within row).1 in
+    least_run row some (omega arith) (omega (arith, cost, entry_is row table 0 is (omega arith), reached))
+    ∙ ap (λ k. Repeat k (get_or row 0 0)) (sym equal)
 
--- the packet of bytes, where no three are equal
-pub bytes-is : (row : List ℕ) → equal_at row ≤ 2 → next_packet row ≡ Bytes (take (apart_at 128 row) row)
-bytes-is row few = ap (λ t. if t then Repeat (equal_at row) (get_or row 0 0) else Bytes (take (apart_at 128 row) row)) (le-ltb _ _ few)
+pub run_coded : (row table out : List ℕ) (n : ℕ) → 0 < length row → 2 ≤ length out → table ≡ costs row → n ≡ equal_at row → 2 ≤ n
+    → get_or table n 0 + 2 ≡ get_or table 0 0 → take 2 (set (set out 0 (257 - n)) 1 (get_or row 0 0)) ≡ packet_code (least_packet row)
+run_coded row table [] n some room is equal many reached = absurd (omega arith)
+run_coded row table (a ∷ []) n some room is equal many reached = absurd (omega arith)
+run_coded row table (a ∷ b ∷ out) n some room is equal many reached = ap packet_code (sym (run_is row table n some is equal many reached))
 
--- a repeated byte is written in two bytes
-pub repeat_coded : (row out : List ℕ) (n : ℕ) → 2 ≤ length out → n ≡ equal_at row → 2 < n
-    → take 2 (set (set out 0 (257 - n)) 1 (get_or row 0 0)) ≡ packet_code (next_packet row)
-repeat_coded row [] n room is many = absurd (omega arith)
-repeat_coded row (a ∷ []) n room is many = absurd (omega arith)
-repeat_coded row (a ∷ b ∷ out) n room is many =
-    ap (λ k. (257 - k) ∷ get_or row 0 0 ∷ []) is ∙ ap packet_code (sym (repeat-is row (omega (arith, is))))
+pub run_counted : (row table : List ℕ) (n : ℕ) → 0 < length row → table ≡ costs row → n ≡ equal_at row → 2 ≤ n
+    → get_or table n 0 + 2 ≡ get_or table 0 0 → n ≡ length (packet_row (least_packet row))
+run_counted row table n some is equal many reached =
+    sym (length-replicate {A = ℕ} n (get_or row 0 0)) ∙ ap (λ p. length (packet_row p)) (sym (run_is row table n some is equal many reached))
 
--- bytes are written after their control byte
-pub bytes_coded : (row out bytes : List ℕ) (n k : ℕ) → 0 < length row → equal_at row ≤ 2 → n ≡ apart_at 128 row → n < length out
-    → bytes ≡ take n row → take (1 + n) (put_mid 1 k (set out 0 (n - 1)) bytes) ≡ packet_code (next_packet row)
-bytes_coded row [] bytes n k some few is room are = absurd (omega arith)
-bytes_coded row (a ∷ out) bytes n k some few is room are =
-    let len : length (take n row) ≡ n = length-take-le n row (omega (arith, is, (counted row some).apart_within)) in
+pub no_run_is : (row table : List ℕ) (n : ℕ) → table ≡ costs row → n ≡ equal_at row → (2 ≤ n → get_or table n 0 + 2 ≢ get_or table 0 0)
+    → 2 ≤ equal_at row → fewest row ≢ 2 + fewest (drop (equal_at row) row)
+no_run_is row table n is equal apart many = λ e.
+    let cost : get_or table n 0 ≡ fewest (drop (equal_at row) row) =
+    ap (λ k. get_or table k 0) equal ∙ entry_is row table (equal_at row) is (equal_within row).1 in
+    apart (omega arith) (omega (arith, e, cost, entry_is row table 0 is (omega arith)))
+
+pub literal_coded : (row out bytes : List ℕ) (n k : ℕ) → 0 < length row → (2 ≤ equal_at row → fewest row ≢ 2 + fewest (drop (equal_at row) row))
+    → IsLongest row n → n < length out → bytes ≡ take n row → take (1 + n) (put_mid 1 k (set out 0 (n - 1)) bytes) ≡ packet_code (least_packet row)
+literal_coded row [] bytes n k some no_run is room are = absurd (omega arith)
+literal_coded row (a ∷ out) bytes n k some no_run is room are =
+    let len : length (take n row) ≡ n = length-take-le n row is.within in
     take-put_mid 1 k (set (a ∷ out) 0 (n - 1)) bytes (1 + n) (omega (arith, len, ap length are)) (omega arith)
     ∙ ap (λ bs. (n - 1) ∷ bs) are
     ∙ ap (λ k. (k - 1) ∷ take n row) (sym len)
-    ∙ ap (λ k. packet_code (Bytes (take k row))) is
-    ∙ ap packet_code (sym (bytes-is row few))
+    ∙ ap packet_code (sym (least_literal row n some no_run is))
+
+pub literal_counted : (row : List ℕ) (n : ℕ) → 0 < length row → (2 ≤ equal_at row → fewest row ≢ 2 + fewest (drop (equal_at row) row))
+    → IsLongest row n → n ≡ length (packet_row (least_packet row))
+literal_counted row n some no_run is =
+    sym (length-take-le n row is.within) ∙ ap (λ p. length (packet_row p)) (sym (least_literal row n some no_run is))
+
+pub costs_behind : (row : List ℕ) (at : ℕ) → at ≤ length row → drop at (costs row) ≡ costs (drop at row)
+unfolding costs
+costs_behind row zero within = refl
+costs_behind [] (suc at) within = absurd (omega arith)
+costs_behind (b ∷ row) (suc at) within = costs_behind row at (omega arith)
+
+pub entry_fits : (row table : List ℕ) (j : ℕ) → table ≡ costs row → j ≤ length row → get_or table j 0 ≤ 2 * length row
+entry_fits row table j is within = omega (arith, ap (λ cs. get_or cs j 0) is, entry_small row j within)
 
 -- ---- the row
 
@@ -235,11 +275,11 @@ pub record RowSoFar (row out : List ℕ) (len : ℕ) (rest : List ℕ) : Type 0 
   pub short : len + 2 * length rest ≤ 2 * length row
   pub most : ℕ
   pub enough : length rest ≤ most
-  pub is : canonical_row row ≡ take len out ++ flat_map packet_code (packets_from most rest)
+  pub is : least_row row ≡ take len out ++ flat_map packet_code (packets_from most rest)
 
 -- nothing is coded
 pub row_begin : (row out : List ℕ) → 2 * length row ≤ length out → RowSoFar row out 0 row
-unfolding canonical_row
+unfolding least_row
 row_begin row out room = record {
   room = omega arith;
   short = omega arith;
@@ -250,15 +290,15 @@ row_begin row out room = record {
 
 -- the packets begin with the next one
 packets-more : (most : ℕ) (rest : List ℕ) → 0 < length rest
-    → packets_from (suc most) rest ≡ next_packet rest ∷ packets_from most (drop (length (packet_row (next_packet rest))) rest)
+    → packets_from (suc most) rest ≡ least_packet rest ∷ packets_from most (drop (length (packet_row (least_packet rest))) rest)
 unfolding packets_from
 packets-more most [] some = absurd (omega arith)
 packets-more most (b ∷ rest) some = refl
 
 -- What a packet is written as, in the bytes after those that are written.
 pub record IsWritten (rest part part' : List ℕ) (row code : ℕ) : Type 0 where
-  pub coded : take code part' ≡ packet_code (next_packet rest)
-  pub counted : row ≡ length (packet_row (next_packet rest))
+  pub coded : take code part' ≡ packet_code (least_packet rest)
+  pub counted : row ≡ length (packet_row (least_packet rest))
   pub some : 1 ≤ row
   pub within : row ≤ length rest
   pub short : code ≤ 2 * row
@@ -275,10 +315,10 @@ row-more : (row out part part' out' rest : List ℕ) (len count code : ℕ) → 
     → IsWritten rest part part' count code → length part ≡ length out - len → out' ≡ take len out ++ part'
     → RowSoFar row out' (len + code) (drop count rest)
 row-more row out part part' out' rest len count code so_far some written part_len put =
-    let n : ℕ = length (packet_row (next_packet rest)) in
+    let n : ℕ = length (packet_row (least_packet rest)) in
     let more : so_far.most ≡ suc (so_far.most - 1) = omega (arith, so_far.enough) in
     let front_len : length (take len out) ≡ len = length-take-le len out (omega (arith, so_far.room)) in
-    let front : take (len + code) out' ≡ take len out ++ packet_code (next_packet rest) =
+    let front : take (len + code) out' ≡ take len out ++ packet_code (least_packet rest) =
     ap (take (len + code)) put
     ∙ ap (λ k. take (k + code) (take len out ++ part')) (sym front_len)
     ∙ take-append-add (take len out) part' code
@@ -303,9 +343,9 @@ row-more row out part part' out' rest len count code so_far some written part_le
       is = so_far.is
           ∙ ap (λ k. take len out ++ flat_map packet_code (packets_from k rest)) more
           ∙ ap (λ ps. take len out ++ flat_map packet_code ps) (packets-more (so_far.most - 1) rest some)
-          ∙ ap (λ k. take len out ++ (packet_code (next_packet rest)
+          ∙ ap (λ k. take len out ++ (packet_code (least_packet rest)
           ++ flat_map packet_code (packets_from (so_far.most - 1) (drop k rest)))) (sym written.counted)
-          ∙ sym (append_assoc (take len out) (packet_code (next_packet rest)) codes)
+          ∙ sym (append_assoc (take len out) (packet_code (least_packet rest)) codes)
           ∙ ap (λ bs. bs ++ codes) (sym front);
     }
 
@@ -320,7 +360,7 @@ row_step row out part part' rest rest' len count code so_far some written part_l
     subst P (sym behind) (row-more row out part part' out' rest len count code so_far some written part_len put)
 
 -- the row is coded
-pub row_end : (row out rest : List ℕ) (len : ℕ) → RowSoFar row out len rest → length rest ≡ 0 → take len out ≡ canonical_row row
+pub row_end : (row out rest : List ℕ) (len : ℕ) → RowSoFar row out len rest → length rest ≡ 0 → take len out ≡ least_row row
 unfolding packets_from
 row_end row out [] len so_far none = sym (so_far.is ∙ append-nil (take len out))
 row_end row out (b ∷ rest) len so_far none = absurd (omega arith)

@@ -1,2 +1,4 @@
 pub mod Places
 pub mod Reading
+pub mod Ends
+pub mod Literals

@@ -1,6 +1,6 @@
 //! The code of raster rows (ESC/P Reference Manual, run length encoding of `ESC .`): rows read from pieces of any
-//! length, and the canonical code of a row, which is written. `escp2_laws` shows that this code is one of its row, and
-//! at most twice as long.
+//! length, and the least code of a row, which is written. `escp2_laws` shows that this code is one of its row, and that no
+//! other is shorter.
 //!
 //! A `RowReader` stands for the bytes of rows that it has read (`StandsFor`), however they were cut into pieces. `feed`
 //! appends exactly what the bytes that it uses give, to a vector that has room for all that is left, and answers `More`
@@ -8,12 +8,15 @@
 //! was used, whatever follows; and `Fault` where that byte is a control byte of 128, or one whose count passes the end
 //! of its row, whatever follows. After the last two the reader is done and may not be fed.
 //!
-//! `code_row` writes exactly the canonical code, into a slice of at least twice the row's length. No call takes memory.
+//! `cost_table` gives the costs of a row of at most 1,024 bytes, and `code_row` writes exactly the least code of such a
+//! row, into a slice of at least twice the row's length. No call takes memory.
 #![tactic(auto)]
 
 mod buffer;
+mod costs;
 mod reader;
 mod writer;
 
+pub use costs::{CostTable, cost_table};
 pub use reader::{RowFed, RowReader, RowState};
 pub use writer::code_row;

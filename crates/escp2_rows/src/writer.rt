@@ -1,14 +1,11 @@
-//! Writing the canonical code of a row.
-ghost use Rattle.escp2_definitions.specs.Canonical.{apart_at, canonical_row, equal_at, next_packet};
+//! Writing the least code of a row.
+ghost use Rattle.escp2_definitions.specs.Least.{costs, equal_at, least_packet, least_row};
 ghost use Rattle.escp2_definitions.specs.RowCode.{packet_code, packet_row};
-ghost use Rattle.std.specs.Prelude.{drop, false, length, min, nat_lt, take, take_while, true, ℕ};
-ghost use Rattle.std.specs.Prelude.{◌==◌, ◌*◌, ◌+◌, ◌-◌, ◌<◌, ◌≡◌, ◌≤◌};
+ghost use Rattle.escp2_rows.specs.Literals.{IsLongest};
+ghost use Rattle.std.specs.Prelude.{drop, length, slice_index, take, take_while};
+ghost use Rattle.std.specs.Prelude.{◌==◌, ◌*◌, ◌+◌, ◌-◌, ◌<◌, ◌≡◌, ◌≢◌, ◌≤◌};
 
-// The most bytes of a packet.
-const MOST_BYTES: usize = 128;
-
-// The fewest equal bytes that are written as one repeated byte.
-const LEAST_EQUAL: usize = 3;
+use crate::costs::{MOST_BYTES, fill_costs};
 
 // A packet that is written: how many bytes of the row it gives, and how many bytes its code has.
 #[derive(Clone, Copy)]
@@ -34,72 +31,38 @@ fn equal_bytes(row: &[u8]) -> usize
     copies(&row[..row.len().min(MOST_BYTES)], row[0])
 }
 
-// Whether a row begins with `LEAST_EQUAL` equal bytes.
-fn begins_equal(row: &[u8]) -> bool
-    ensures { result ≡ nat_lt 2 (equal_at row.now) }
+// How many bytes the longest literal at the beginning of a row has that costs least, where no run does.
+fn literal_bytes(row: &[u8], table: &[u16]) -> usize
+    requires some { 0 < length row.now }
+    requires most { length row.now ≤ 1024 }
+    requires table { table.now ≡ costs row.now }
+    requires no_run { 2 ≤ equal_at row.now
+        → slice_index (costs row.now) 0 ≢ 2 + slice_index (costs (drop (equal_at row.now) row.now)) 0 }
+    ensures { IsLongest row.now result }
 {
-    match row {
-        [first, second, third, ..] => first == second && second == third,
-        _ => false,
-    }
-}
-
-// Whether none of the first sixteen bytes begins three equal ones. The loop never ends early, so that it runs over all
-// at once.
-#[inline]
-fn sixteen_apart(row: &[u8]) -> bool
-    requires { 18 ≤ length row.now }
-    ensures { result ≡ true → (i : ℕ) → i < 16 → nat_lt 2 (equal_at (drop i row.now)) ≡ false }
-{
-    let mut equal = false;
-    for i in 0..16 {
-        equal |= (row[i] == row[i + 1]) & (row[i + 1] == row[i + 2]);
-    }
-    !equal
-}
-
-// How many bytes at the beginning surely come before three equal ones, by sixteens, up to `most`.
-#[inline]
-fn sixteens_apart(row: &[u8], most: usize) -> usize
-    requires { most ≡ min (length row.now) 128 }
-    ensures within { result ≤ most }
-    ensures is { apart_at 128 row.now ≡ result + apart_at (128 - result) (drop result row.now) }
-{
-    let mut count = 0;
-    'sixteens: while count + 16 <= most && count + 18 <= row.len() && sixteen_apart(&row[count..]) {
-        count += 16;
+    let least = usize::from(table[0]);
+    let mut count = row.len().min(MOST_BYTES);
+    'counts: while count + 1 + usize::from(table[count]) > least {
+        count -= count + 1 + usize::from(table[count]) - least;
     }
     count
 }
 
-// How many bytes come before the first three equal bytes, or before the end, up to `MOST_BYTES`.
-fn apart_bytes(row: &[u8]) -> usize
-    ensures is { result ≡ apart_at MOST_BYTES row.now }
-    ensures few { result ≤ 128 }
-    ensures within { result ≤ length row.now }
-    ensures some { 0 < length row.now → equal_at row.now ≤ 2 → 1 ≤ result }
-{
-    let most = row.len().min(MOST_BYTES);
-    for count in sixteens_apart(row, most)..most {
-        if begins_equal(&row[count..]) {
-            return count;
-        }
-    }
-    most
-}
-
-// Writes the code of the first packet of a row to the beginning of `out`.
-fn write_packet(row: &[u8], out: &mut [u8]) -> Written
+// Writes the code of the first packet of a row to the beginning of `out`, by the row's costs.
+fn write_packet(row: &[u8], table: &[u16], out: &mut [u8]) -> Written
     requires some { 0 < length row.now }
+    requires most { length row.now ≤ 1024 }
+    requires table { table.now ≡ costs row.now }
     requires room { 2 * length row.now ≤ length out.old }
-    ensures code { take result.code out.new ≡ packet_code (next_packet row.now) }
-    ensures row { result.row ≡ length (packet_row (next_packet row.now)) }
+    ensures code { take result.code out.new ≡ packet_code (least_packet row.now) }
+    ensures row { result.row ≡ length (packet_row (least_packet row.now)) }
     ensures some { 1 ≤ result.row }
     ensures within { result.row ≤ length row.now }
     ensures short { result.code ≤ 2 * result.row }
 {
+    let least = table[0];
     let equal = equal_bytes(row);
-    if equal >= LEAST_EQUAL {
+    if equal >= 2 && table[equal] + 2 == least {
         out[0] = (257 - equal) as u8;
         out[1] = row[0];
         return Written {
@@ -107,27 +70,43 @@ fn write_packet(row: &[u8], out: &mut [u8]) -> Written
             code: 2,
         };
     }
-    let apart = apart_bytes(row);
-    out[0] = (apart - 1) as u8;
-    out[1..1 + apart].copy_from_slice(&row[..apart]);
+    let count = literal_bytes(row, table);
+    out[0] = (count - 1) as u8;
+    out[1..1 + count].copy_from_slice(&row[..count]);
     Written {
-        row: apart,
-        code: 1 + apart,
+        row: count,
+        code: 1 + count,
     }
 }
 
-/// Writes the canonical code of a row to the beginning of `out`, and gives its length: at most twice that of the row.
-pub fn code_row(row: &[u8], out: &mut [u8]) -> usize
-    requires { 2 * length row.now ≤ length out.old }
-    ensures code { take result out.new ≡ canonical_row row.now }
-    ensures most { result ≤ 2 * length row.now }
+// Writes the code of a row by its costs, and gives its length.
+fn write_packets(row: &[u8], table: &[u16], out: &mut [u8]) -> usize
+    requires most { length row.now ≤ 1024 }
+    requires table { table.now ≡ costs row.now }
+    requires room { 2 * length row.now ≤ length out.old }
+    ensures code { take result out.new ≡ least_row row.now }
+    ensures short { result ≤ 2 * length row.now }
 {
+    let mut at = 0;
     let mut len = 0;
-    let mut rest = row;
-    'packets: while !rest.is_empty() {
-        let written = write_packet(rest, &mut out[len..]);
-        rest = &rest[written.row..];
+    'packets: while at < row.len() {
+        let written = write_packet(&row[at..], &table[at..], &mut out[len..]);
+        at += written.row;
         len += written.code;
     }
     len
+}
+
+/// Writes the least code of a row of at most 1,024 bytes to the beginning of `out`, and gives its length: at most twice
+/// that of the row. It takes no memory.
+pub fn code_row(row: &[u8], out: &mut [u8]) -> usize
+    requires most { length row.now ≤ 1024 }
+    requires room { 2 * length row.now ≤ length out.old }
+    ensures code { take result out.new ≡ least_row row.now }
+    ensures short { result ≤ 2 * length row.now }
+{
+    let mut room = [0; 1025];
+    let table = &mut room[..=row.len()];
+    fill_costs(row, table);
+    write_packets(row, table, out)
 }

@@ -1,0 +1,8 @@
+use Rattle.escp2_rows.proofs.Writing.{LongestSoFar}
+use Rattle.escp2_rows.proofs.writer.literal_bytes.Given as goal
+
+abbrev pub invariant-counts : goal.invariant-counts
+invariant-counts l = LongestSoFar l.row l.count
+
+abbrev pub decreases-counts : goal.decreases-counts
+decreases-counts l = l.count
