@@ -5,20 +5,20 @@ use Rattle.std.proofs.lemmas.List.{length-take-le, take-append-le}
 use Rattle.std.proofs.Math.Seq.{take-append-add}
 use borrow.Rule.Slice.PartMut.{put_mid}
 use Rattle.std.specs.List.{flat_map}
-use Rattle.escp2_definitions.specs.Canonical.{canonical_row}
+use Rattle.escp2_definitions.specs.Least.{least_row}
 use Rattle.escp2_definitions.specs.Written.{rows_apart}
 
 -- the codes of m rows of this width
 abbrev pub codes : ℕ → ℕ → List ℕ → List ℕ
-codes m width rows = flat_map canonical_row (rows_apart m width rows)
+codes m width rows = flat_map least_row (rows_apart m width rows)
 
 -- the code of the next row comes first
 pub codes-next : (m n width : ℕ) (rows row behind : List ℕ) → m ≡ suc n → row ≡ take width rows → behind ≡ drop width rows
-    → codes m width rows ≡ canonical_row row ++ codes n width behind
+    → codes m width rows ≡ least_row row ++ codes n width behind
 codes-next m n width rows row behind more first later =
     ap (λ k. codes k width rows) more
-    ∙ ap (λ bs. canonical_row bs ++ codes n width (drop width rows)) (sym first)
-    ∙ ap (λ bs. canonical_row row ++ codes n width bs) (sym later)
+    ∙ ap (λ bs. least_row bs ++ codes n width (drop width rows)) (sym first)
+    ∙ ap (λ bs. least_row row ++ codes n width bs) (sym later)
 
 pub codes-none : (m width : ℕ) (rows : List ℕ) → m ≡ 0 → codes m width rows ≡ []
 codes-none m width rows none = ap (λ k. codes k width rows) none
@@ -39,8 +39,8 @@ row_left rest m n width left more =
 -- ---- into a vector
 
 -- a row's code is written after the first bytes
-pub row_behind : (out part row : List ℕ) (begin len k : ℕ) → begin ≤ length out → len ≤ length part → take len part ≡ canonical_row row
-    → take (begin + len) (put_mid begin k out part) ≡ take begin out ++ canonical_row row
+pub row_behind : (out part row : List ℕ) (begin len k : ℕ) → begin ≤ length out → len ≤ length part → take len part ≡ least_row row
+    → take (begin + len) (put_mid begin k out part) ≡ take begin out ++ least_row row
 row_behind out part row begin len k room within coded =
     let front : List ℕ = take begin out in
     let sized : length front ≡ begin = length-take-le begin out room in

@@ -1,5 +1,5 @@
 //! Commands written to a sink.
-ghost use Rattle.escp2_definitions.specs.Canonical.{canonical_row};
+ghost use Rattle.escp2_definitions.specs.Least.{least_row};
 ghost use Rattle.escp2_definitions.specs.Commands.{Spells, in_table, row_bytes as row_bytes_of, rows_len};
 ghost use Rattle.escp2_definitions.specs.Written.{rows_apart, written};
 ghost use Rattle.std.specs.Io.KnownBytes.{Appends};
@@ -28,9 +28,9 @@ fn put_coded<K: Sink>(
     requires narrow { row_bytes_of header ≤ 1024 }
     requires rows_fit { length rows.now ≡ header.m * row_bytes_of header }
     ensures ok { OnOk result (Appends (K.held k.old) (K.held k.new)
-        (front.now ++ flat_map canonical_row (rows_apart header.m (row_bytes_of header) rows.now))) }
+        (front.now ++ flat_map least_row (rows_apart header.m (row_bytes_of header) rows.now))) }
     ensures part { OnErr result (AppendsPart (K.held k.old) (K.held k.new)
-        (front.now ++ flat_map canonical_row (rows_apart header.m (row_bytes_of header) rows.now))) }
+        (front.now ++ flat_map least_row (rows_apart header.m (row_bytes_of header) rows.now))) }
     ensures cause { HasCause (K.faults k.old) (K.faults k.new) result }
 {
     let width = row_bytes(header);
@@ -56,11 +56,11 @@ pub fn put<K: Sink>(c: &Command, rows: &[u8], k: &mut K) -> Result<(), Failed>
     requires in_range { in_table c.now ≡ true }
     requires rows_fit { length rows.now ≡ rows_len c.now }
     ensures ok { OnOk result (Appends (K.held k.old) (K.held k.new)
-        (written canonical_row c.now rows.now)) }
+        (written least_row c.now rows.now)) }
     ensures part { OnErr result (AppendsPart (K.held k.old) (K.held k.new)
-        (written canonical_row c.now rows.now)) }
+        (written least_row c.now rows.now)) }
     ensures cause { HasCause (K.faults k.old) (K.faults k.new) result }
-    ensures spelled { Spells c.now rows.now (written canonical_row c.now rows.now) }
+    ensures spelled { Spells c.now rows.now (written least_row c.now rows.now) }
 {
     let front = header_bytes(c);
     match *c {

@@ -3,7 +3,7 @@ use Rattle.std.specs.Prelude.{ℕ, ◌*◌, Bool, false, List, map, replicate, O
 use Rattle.printer_definitions.specs.declared.inks.Ink.{Ink}
 use Rattle.printer_definitions.specs.Printer.{Printer, row_units, head_rows}
 use Rattle.diffusion_definitions.specs.Diffusion.{Table}
-use Rattle.escp2_definitions.specs.Written.{Coding, canonical}
+use Rattle.escp2_definitions.specs.Written.{Coding, shortest}
 use Rattle.page_definitions.specs.Dots.{Halftone, halftone}
 use Rattle.page_definitions.specs.Strokes.{Stroke, Strokes, strokes_bytes}
 use Rattle.pwg_definitions.specs.Stream.{Page}
@@ -33,7 +33,7 @@ weave p h = record { above = head_rows p; list = map (pass_stroke p h) (count_fr
 
 -- how the rows of rasters are coded
 abbrev pub page_coding : Coding
-page_coding = canonical
+page_coding = shortest
 
 -- The bytes that print a halftone on a sheet of this length in units.
 unfoldable pub halftone_bytes : Printer → Halftone → ℕ → List ℕ

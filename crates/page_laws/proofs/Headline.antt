@@ -6,7 +6,7 @@ use Rattle.escp2_definitions.specs.Commands.{CommandList, commands}
 use Rattle.escp2_definitions.specs.Commands.ListEnd.{Whole}
 use Rattle.escp2_definitions.specs.Machine.{Dot, Printed, Sheet, execute, execute_from, start, with_sheets}
 use Rattle.escp2_definitions.specs.Written.{Coding, IsCoding}
-use Rattle.escp2_laws.proofs.Canonical.{canonical-codes}
+use Rattle.escp2_laws.proofs.Least.{least-codes}
 use Rattle.separation_definitions.specs.CanPrint.{ArePages, CanPrint}
 use Rattle.separation_definitions.specs.Windows.{wanted_by}
 use Rattle.pwg_definitions.specs.Stream.{IsPage, Page}
@@ -27,7 +27,7 @@ use Rattle.page_laws.proofs.Weaving.{weave-fires}
 
 -- the rows of pages are coded
 pub page-coded : IsCoding page_coding
-page-coded = inr (refl, canonical-codes)
+page-coded = inr (refl, least-codes)
 
 -- the window of a page has a size that can be printed
 pub page-sized : (p : Printer) (k : Table) (page : Page)

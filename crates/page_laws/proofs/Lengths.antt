@@ -11,7 +11,7 @@ use Rattle.printer_definitions.specs.Printer.{Printer, row_units}
 use Rattle.escp2_definitions.specs.declared.command.Command.TheVariants as c
 use Rattle.base_definitions.specs.Packed.{packed}
 use Rattle.escp2_definitions.specs.Written.{Coding, rows_apart, written_rows}
-use Rattle.escp2_laws.proofs.Canonical.{canonical-short}
+use Rattle.escp2_laws.proofs.Least.{least-short}
 use Rattle.page_definitions.specs.Dots.{Halftone}
 use Rattle.page_definitions.specs.PageBytes.{halftone_bytes, page_coding, pass_stroke, weave}
 use Rattle.page_definitions.specs.Strokes.{IsWhole, Spoken, Stroke, Strokes, bytes_of, down_by, fires, has_dot, ink_commands, inks_commands}
@@ -173,6 +173,6 @@ halftone-short p h len =
     let whole = each-pass p h (λ stroke. (ink : Ink)
     → IsWhole p.nozzles h.width (stroke.rows ink)) (count_from 0 passes) (pass-whole p h) in
     let all : length (halftone_bytes p h len) ≤ 49 + length (weave p h).list * most_stroke p h.width =
-    bytes-short page_coding p h.width h.height len (weave p h) canonical-short whole in
+    bytes-short page_coding p h.width h.height len (weave p h) least-short whole in
     let grouped : 2 * (p.nozzles * ((h.width + 7) / 8)) ≡ 2 * p.nozzles * ((h.width + 7) / 8) = omega arith in
     omega (arith, all, ap (λ n. n * most_stroke p h.width) many, ap (λ n. passes * (7 + length (inks_of p.inks) * (12 + n))) grouped)

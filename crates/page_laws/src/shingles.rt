@@ -1,6 +1,6 @@
 //! Worked strokes that are not passes of the weave: each function does nothing, and the checker computes its
 //! contract.
-#![tactic(auto, unfolding(escp2_definitions::specs::Canonical::apart_at, escp2_definitions::specs::Canonical::canonical_row, escp2_definitions::specs::Canonical::equal_at, escp2_definitions::specs::Canonical::packets_from, escp2_definitions::specs::Commands::command_at, escp2_definitions::specs::Commands::commands_from, escp2_definitions::specs::Machine::execute_from, escp2_definitions::specs::Machine::rows_dots, escp2_definitions::specs::RowCode::row_at, escp2_definitions::specs::RowCode::rows_at))]
+#![tactic(auto, unfolding(escp2_definitions::specs::Commands::command_at, escp2_definitions::specs::Commands::commands_from, escp2_definitions::specs::Least::cost_from, escp2_definitions::specs::Least::costs, escp2_definitions::specs::Least::equal_at, escp2_definitions::specs::Least::least, escp2_definitions::specs::Least::least_packet, escp2_definitions::specs::Least::least_row, escp2_definitions::specs::Least::literals, escp2_definitions::specs::Least::packets_at, escp2_definitions::specs::Least::packets_from, escp2_definitions::specs::Least::runs, escp2_definitions::specs::Machine::execute_from, escp2_definitions::specs::Machine::rows_dots, escp2_definitions::specs::RowCode::row_at, escp2_definitions::specs::RowCode::rows_at))]
 
 ghost use Rattle.escp2_definitions.specs.Commands.{commands};
 ghost use Rattle.escp2_definitions.specs.Machine.{execute};

@@ -7,7 +7,7 @@ returns-clause-code c = row_behind _ _ _ _ _ _ (omega arith)
     (omega (
       arith,
       c.code_row.auto.out,
-      c.code_row.ensures.most,
+      c.code_row.ensures.short,
       length-drop c.args.begin c.args.out.now,
       length-take (length c.args.out.now - c.args.begin) (drop c.args.begin c.args.out.now),
     )) c.code_row.ensures.code
