@@ -3,7 +3,8 @@ use Rattle.std.proofs.Common.{◌≡◌, ℕ, zero, suc, ◌+◌, ◌-◌, ◌*�
 use Rattle.std.proofs.lemmas.Bool.{cases_lt}
 use Rattle.std.proofs.lemmas.List.{drop-drop, drop-set, drop_more, drop_all, length-set}
 use Rattle.escp2_definitions.specs.Least.{costs, equal_at}
-use Rattle.escp2_rows.specs.Ends.{IsEnd, upto}
+use Rattle.escp2_rows.specs.declared.costs.Filled.{Filled}
+use Rattle.escp2_rows.specs.Ends.{IsEnd, IsFilled, upto}
 use Rattle.escp2_laws.proofs.Fewest.{ByLiteral, ByRun, costs_drop, equal_is, equal_within, falls_by, fewest, fewest_most, first_step, literal_costs, run_costs, same, same_first, same_more}
 
 -- where the best end is too far away, all places are as good
@@ -170,18 +171,9 @@ entry_behind (b ∷ row) j some = ap (λ k. get_or (costs (b ∷ row)) k 0) (let
 
 -- ---- the table
 
--- The costs from a place on are in the table, and a literal before this place ends best so many bytes behind it.
-pub record CostsFrom (row table : List ℕ) (at literal best equal : ℕ) : Type 0 where
-  pub sized : length table ≡ length row + 1
-  pub within : at ≤ length row
-  pub done : drop at table ≡ costs (drop at row)
-  pub counted : equal ≡ equal_at (drop at row)
-  pub few : equal ≤ 128
-  pub near : literal ≤ 128
-  pub least : best ≡ get_or (costs (drop at row)) literal 0
-  pub ends : IsEnd 128 (drop at row) literal
-
-pub costs_begin : (row table : List ℕ) → length table ≡ length row + 1 → CostsFrom row (set table (length row) 0) (length row) 0 0 0
+-- nothing but the end is filled
+pub costs_begin : (row table : List ℕ) → length table ≡ length row + 1
+    → IsFilled row (set table (length row) 0) (record { at = length row; equal = 0; literal = 0; best = 0 })
 unfolding costs
 costs_begin row table sized =
     let none : drop (length row) row ≡ [] = drop_all (length row) row (omega arith) in
@@ -207,11 +199,14 @@ costs_begin row table sized =
     equal_none : equal_at [] ≡ 0
     equal_none = omega (arith, equal_is [])
 
-pub costs_step : (row table : List ℕ) (at literal best equal cost literal' best' equal' : ℕ) → CostsFrom row table at literal best equal → 0 < at
-    → equal' ≡ equal_at (drop (at - 1) row) → cost ≡ get_or (costs (drop (at - 1) row)) 0 0 → IsEnd 128 (drop (at - 1) row) literal'
-    → best' ≡ get_or (costs (drop (at - 1) row)) literal' 0 → CostsFrom row (set table (at - 1) cost) (at - 1) literal' best' equal'
+-- one more place is filled
+pub costs_step : (row table : List ℕ) (filled : Filled) (cost literal best equal : ℕ) → IsFilled row table filled → 0 < filled.at
+    → equal ≡ equal_at (drop (filled.at - 1) row) → cost ≡ get_or (costs (drop (filled.at - 1) row)) 0 0
+    → IsEnd 128 (drop (filled.at - 1) row) literal → best ≡ get_or (costs (drop (filled.at - 1) row)) literal 0
+    → IsFilled row (set table (filled.at - 1) cost) (record { at = filled.at - 1; equal = equal; literal = literal; best = best })
 unfolding costs
-costs_step row table at literal best equal cost literal' best' equal' so_far some counted least ends near =
+costs_step row table filled cost literal best equal so_far some counted least ends near =
+    let at : ℕ = filled.at in
     let again : at - 1 + 1 ≡ at = omega arith in
     let here : at - 1 < length row = omega (arith, so_far.within) in
     let rest : drop (at - 1) row ≡ get_or row (at - 1) 0 ∷ drop at row = drop_more row (at - 1) 0 here ∙ ap (λ k. get_or row (at - 1) 0 ∷ drop k row) again in
@@ -232,5 +227,6 @@ costs_step row table at literal best equal cost literal' best' equal' so_far som
       ends = ends;
     }
 
-pub costs_end : (row table : List ℕ) (at literal best equal : ℕ) → CostsFrom row table at literal best equal → at ≡ 0 → table ≡ costs row
-costs_end row table at literal best equal so_far none = sym (ap (λ k. drop k table) none) ∙ so_far.done ∙ ap (λ k. costs (drop k row)) none
+-- all places are filled
+pub costs_end : (row table : List ℕ) (filled : Filled) → IsFilled row table filled → filled.at ≡ 0 → table ≡ costs row
+costs_end row table filled so_far none = sym (ap (λ k. drop k table) none) ∙ so_far.done ∙ ap (λ k. costs (drop k row)) none

@@ -2,3 +2,4 @@ pub mod Writing
 pub mod Steps
 pub mod Feeding
 pub mod Ends
+pub mod Sixteens

@@ -1,6 +1,7 @@
--- Where a literal from before a row ends best.
-use Rattle.std.specs.Prelude.{ℕ, ◌+◌, ◌<◌, ◌≤◌, List, length, drop, slice_index}
-use Rattle.escp2_definitions.specs.Least.{costs}
+-- Where a literal from before a row ends best, and what is known of a table that is filled from a place on.
+use Rattle.std.specs.Prelude.{◌≡◌, ℕ, zero, suc, ◌+◌, ◌-◌, ◌<◌, ◌≤◌, ◌==◌, ◌&&◌, false, List, [], ◌∷◌, length, drop, slice_index}
+use Rattle.escp2_definitions.specs.Least.{costs, equal_at}
+use Rattle.escp2_rows.specs.declared.costs.Filled.{Filled}
 
 -- the bytes of a literal up to this place, and what the row costs behind it
 abbrev pub upto : List ℕ → ℕ → ℕ
@@ -12,3 +13,39 @@ pub record IsEnd (most : ℕ) (row : List ℕ) (end : ℕ) : Type 0 where
   pub within : end ≤ length row
   pub best : (j : ℕ) → j ≤ most → j ≤ length row → upto row end ≤ upto row j
   pub nearest : (j : ℕ) → j < end → upto row end < upto row j
+
+-- The table has the costs of a row from a place on; what it has before that place is not said.
+pub record IsFilled (row table : List ℕ) (filled : Filled) : Type 0 where
+  pub sized : length table ≡ length row + 1
+  pub within : filled.at ≤ length row
+  pub done : drop filled.at table ≡ costs (drop filled.at row)
+  pub counted : filled.equal ≡ equal_at (drop filled.at row)
+  pub few : filled.equal ≤ 128
+  pub near : filled.literal ≤ 128
+  pub least : filled.best ≡ slice_index (costs (drop filled.at row)) filled.literal
+  pub ends : IsEnd 128 (drop filled.at row) filled.literal
+
+-- two of the three bytes from a place on differ
+abbrev pub IsApart : List ℕ → ℕ → Type 0
+IsApart row i = ((slice_index row i == slice_index row (i + 1)) && (slice_index row (i + 1) == slice_index row (i + 2))) ≡ false
+
+-- No three of the sixteen bytes before a place and the two behind it are equal, and a literal goes on over the sixteen.
+pub record LiteralGoesOn (row : List ℕ) (filled : Filled) : Type 0 where
+  pub room : 16 ≤ filled.at
+  pub behind : filled.at + 2 ≤ length row
+  pub some : 2 ≤ filled.literal
+  pub few : filled.literal + 16 ≤ 128
+  pub apart : (i : ℕ) → i < 16 → IsApart (drop (filled.at - 16) row) i
+
+-- The sixteen bytes before a place are the byte there, and the run there goes on over them.
+pub record RunGoesOn (row : List ℕ) (filled : Filled) : Type 0 where
+  pub room : 16 ≤ filled.at
+  pub behind : filled.at < length row
+  pub none : filled.literal ≡ 0
+  pub few : filled.equal + 16 ≤ 128
+  pub same : (i : ℕ) → i < 16 → slice_index (drop (filled.at - 16) row) i ≡ slice_index (drop (filled.at - 16) row) 16
+
+-- costs that rise by one from place to place leftwards, behind which is this one
+unfoldable pub rising : ℕ → ℕ → List ℕ
+rising zero base = []
+rising (suc n) base = (base + suc n) ∷ rising n base

@@ -1,8 +1,8 @@
 //! The costs of a row: the fewest bytes that code it from each of its places on.
 ghost use Rattle.arrayvec.specs.ArrayVec.{array_vec_len};
-ghost use Rattle.escp2_rows.specs.Ends.{IsEnd};
+ghost use Rattle.escp2_rows.specs.Ends.{IsApart, IsEnd, IsFilled, LiteralGoesOn, RunGoesOn, rising};
 ghost use Rattle.escp2_definitions.specs.Least.{costs, equal_at};
-ghost use Rattle.std.specs.Prelude.{[], drop, length, slice_index, ◌%◌, ◌+◌, ◌<◌, ◌≡◌, ◌≤◌};
+ghost use Rattle.std.specs.Prelude.{[], drop, length, replicate, slice_index, true, ℕ, ◌%◌, ◌+◌, ◌<◌, ◌≡◌, ◌≤◌};
 
 use arrayvec::ArrayVec;
 
@@ -24,6 +24,16 @@ fn equal_from(row: &[u8], behind: usize) -> usize
     } else {
         1
     }
+}
+
+// How many of the first bytes are equal, where no three are.
+#[inline]
+fn equal_two(row: &[u8]) -> usize
+    requires two { 2 ≤ length row.now }
+    requires few { equal_at row.now ≤ 2 }
+    ensures { result ≡ equal_at row.now }
+{
+    if row[0] == row[1] { 2 } else { 1 }
 }
 
 /// The cost of the place where a literal from before the row ends best, where it is not too far away.
@@ -82,29 +92,193 @@ fn front_of(row: &[u8], behind: &[u16], equal: usize, literal: usize, best: u16)
     }
 }
 
+// How far a table of a row's costs is filled, from the row's end on.
+#[derive(Clone, Copy)]
+struct Filled {
+    // From this place on.
+    at: usize,
+    // How many bytes are equal from there on, up to `MOST_BYTES`.
+    equal: usize,
+    // How many bytes from there on a literal from before ends best.
+    literal: usize,
+    // The cost of the row behind these.
+    best: u16,
+}
+
+// Whether three of the first eighteen bytes that follow each other are equal. The loop never ends early, so that it
+// runs over all at once.
+#[inline]
+fn sixteen_apart(row: &[u8]) -> bool
+    requires { 18 ≤ length row.now }
+    ensures { result ≡ true → (i : ℕ) → i < 16 → IsApart row.now i }
+{
+    let mut equal = false;
+    for i in 0..16 {
+        equal |= (row[i] == row[i + 1]) & (row[i + 1] == row[i + 2]);
+    }
+    !equal
+}
+
+// Whether each of the first sixteen bytes is the one after them.
+#[inline]
+fn sixteen_equal(row: &[u8]) -> bool
+    requires { 17 ≤ length row.now }
+    ensures { result ≡ true → (i : ℕ) → i < 16 → slice_index row.now i ≡ slice_index row.now 16 }
+{
+    let byte = row[16];
+    let mut other = false;
+    for i in 0..16 {
+        other |= row[i] != byte;
+    }
+    !other
+}
+
+// Whether a literal goes on over the sixteen bytes before a place: no three of them are equal.
+#[inline]
+fn literal_goes_on(row: &[u8], filled: Filled) -> bool
+    requires { filled.at ≤ length row.now }
+    ensures { result ≡ true → LiteralGoesOn row.now filled }
+{
+    filled.at >= 16
+        && filled.at + 2 <= row.len()
+        && filled.literal >= 2
+        && filled.literal <= MOST_BYTES - 16
+        && sixteen_apart(&row[filled.at - 16..])
+}
+
+// Whether a run goes on over the sixteen bytes before a place.
+#[inline]
+fn run_goes_on(row: &[u8], filled: Filled) -> bool
+    requires { filled.at ≤ length row.now }
+    ensures { result ≡ true → RunGoesOn row.now filled }
+{
+    filled.at >= 16
+        && filled.at < row.len()
+        && filled.literal == 0
+        && filled.equal <= MOST_BYTES - 16
+        && sixteen_equal(&row[filled.at - 16..])
+}
+
+// Writes sixteen costs, each one more than the next, which is `base` behind the last.
+#[inline]
+fn fill_rising(costs: &mut [u16], base: u16)
+    requires sixteen { length costs.old ≡ 16 }
+    requires fits { base ≤ 4000 }
+    ensures { costs.new ≡ rising 16 base }
+{
+    for i in 0..16 {
+        costs[i] = base + 16 - i as u16;
+    }
+}
+
+// Writes the same cost sixteen times.
+#[inline]
+fn fill_level(costs: &mut [u16], cost: u16)
+    requires { length costs.old ≡ 16 }
+    ensures { costs.new ≡ replicate 16 cost }
+{
+    for i in 0..16 {
+        costs[i] = cost;
+    }
+}
+
+// Fills sixteen places before a place, which a literal takes.
+#[inline]
+fn fill_literal(row: &[u8], table: &mut [u16], filled: Filled) -> Filled
+    requires most { length row.now ≤ 1024 }
+    requires filled { IsFilled row.now table.old filled }
+    requires on { LiteralGoesOn row.now filled }
+    ensures filled { IsFilled row.now table.new result }
+    ensures before { result.at < filled.at }
+{
+    let at = filled.at - 16;
+    fill_rising(&mut table[at..filled.at], filled.best + filled.literal as u16 + 1);
+    Filled {
+        at,
+        equal: equal_two(&row[at..]),
+        literal: filled.literal + 16,
+        best: filled.best,
+    }
+}
+
+// Fills sixteen places before a place, which a run takes: their costs are that of the place.
+#[inline]
+fn fill_run(row: &[u8], table: &mut [u16], filled: Filled) -> Filled
+    requires filled { IsFilled row.now table.old filled }
+    requires on { RunGoesOn row.now filled }
+    ensures filled { IsFilled row.now table.new result }
+    ensures before { result.at < filled.at }
+{
+    let at = filled.at - 16;
+    fill_level(&mut table[at..filled.at], filled.best);
+    Filled {
+        at,
+        equal: filled.equal + 16,
+        literal: 0,
+        best: filled.best,
+    }
+}
+
+// Fills the place before a place.
+#[inline]
+fn fill_byte(row: &[u8], table: &mut [u16], filled: Filled) -> Filled
+    requires most { length row.now ≤ 1024 }
+    requires filled { IsFilled row.now table.old filled }
+    requires some { 0 < filled.at }
+    ensures filled { IsFilled row.now table.new result }
+    ensures before { result.at < filled.at }
+{
+    let at = filled.at - 1;
+    let rest = &row[at..];
+    let equal = equal_from(rest, filled.equal);
+    let front = front_of(rest, &table[at + 1..], equal, filled.literal, filled.best);
+    table[at] = front.cost;
+    Filled {
+        at,
+        equal,
+        literal: front.literal,
+        best: front.best,
+    }
+}
+
+// Fills the place before a place, or sixteen of them at once.
+#[inline]
+fn fill_before(row: &[u8], table: &mut [u16], filled: Filled) -> Filled
+    requires most { length row.now ≤ 1024 }
+    requires filled { IsFilled row.now table.old filled }
+    requires some { 0 < filled.at }
+    ensures filled { IsFilled row.now table.new result }
+    ensures before { result.at < filled.at }
+{
+    if literal_goes_on(row, filled) {
+        return fill_literal(row, table, filled);
+    }
+    if run_goes_on(row, filled) {
+        return fill_run(row, table, filled);
+    }
+    fill_byte(row, table, filled)
+}
+
 /// Writes the costs of a row over what the table has.
 pub fn fill_costs(row: &[u8], table: &mut [u16])
     requires most { length row.now ≤ 1024 }
     requires sized { length table.old ≡ length row.now + 1 }
     ensures { table.new ≡ costs row.now }
 {
-    let mut at = row.len();
-    let mut equal = 0;
-    let mut literal = 0;
-    let mut best = 0;
-    table[at] = 0;
-    'bytes: while at > 0 {
-        at -= 1;
-        let rest = &row[at..];
-        equal = equal_from(rest, equal);
-        let front = front_of(rest, &table[at + 1..], equal, literal, best);
-        literal = front.literal;
-        best = front.best;
-        table[at] = front.cost;
+    let mut filled = Filled {
+        at: row.len(),
+        equal: 0,
+        literal: 0,
+        best: 0,
+    };
+    table[filled.at] = 0;
+    'bytes: while filled.at > 0 {
+        filled = fill_before(row, table, filled);
     }
 }
 
-/// The fewest bytes that code a row from each of its places on. It takes no memory.
+/// The fewest bytes that code a row of at most 1,024 bytes from each of its places on, which `out` has none of before
+/// (ESC/P Reference Manual, run length encoding of `ESC .`). It takes no memory.
 pub fn cost_table(row: &[u8], out: &mut CostTable)
     requires most { length row.now ≤ 1024 }
     requires empty { out.old.items ≡ [] }

@@ -1,0 +1,322 @@
+-- Sixteen places that are filled at once.
+use Rattle.std.proofs.Common.{◌≡◌, ℕ, zero, suc, ◌+◌, ◌-◌, ◌*◌, ◌<◌, ◌≤◌, ◌==◌, ◌&&◌, ◌≢◌, ◌⊎◌, inl, inr, Bool, true, false, List, []}
+use Rattle.std.proofs.Common.{◌∷◌, ◌++◌, length, take, drop, min, replicate, get_or, refl, sym, ◌∙◌, ap, subst, arith, length-append}
+use Rattle.std.proofs.Common.{length-drop, eq-eqb}
+use Rattle.std.proofs.lemmas.Bool.{cases_eq, cases_lt, ne_eqb}
+use Rattle.std.proofs.lemmas.List.{drop-drop, drop_at, get_or-drop, get_or_append_left, length-replicate, length-take-le, take-append-drop}
+use borrow.Rule.Slice.PartMut.{put_mid}
+use Rattle.escp2_definitions.specs.Least.{costs, equal_at}
+use Rattle.escp2_rows.specs.declared.costs.Filled.{Filled}
+use Rattle.escp2_rows.specs.Ends.{IsApart, IsEnd, IsFilled, LiteralGoesOn, RunGoesOn, rising, upto}
+use Rattle.escp2_laws.proofs.Fewest.{ByLiteral, ByRun, costs_drop, equal_within, fewest, first_step, run_costs}
+use Rattle.escp2_rows.proofs.Ends.{Next, end_near, entry_small, equal_apart, equal_first, equal_last, literal_next, run_longest, run_next}
+
+-- ---- a literal that goes on
+
+-- What is known of a row in front of which a literal goes on.
+record LiteralOn (front rest : List ℕ) (end : ℕ) : Type 0 where
+  ends : IsEnd 128 (front ++ rest) (end + length front)
+  are : costs (front ++ rest) ≡ rising (length front) (1 + upto rest end) ++ costs rest
+
+-- the rest of a row behind bytes before it
+behind_front : (front rest : List ℕ) (end : ℕ) → drop (end + length front) (front ++ rest) ≡ drop end rest
+behind_front front rest end =
+    ap (λ k. drop k (front ++ rest)) (let e : end + length front ≡ length front + end = omega arith in e)
+    ∙ sym (drop-drop end (length front) (front ++ rest))
+    ∙ ap (drop end) (drop_at front rest (length front) refl)
+
+-- a literal goes on over bytes of which no three are equal
+literal_on : (front rest : List ℕ) (end : ℕ) → IsEnd 128 rest end → 2 ≤ end → end + length front ≤ 128
+    → ((i : ℕ) → i < length front → equal_at (drop i (front ++ rest)) ≤ 2) → LiteralOn front rest end
+unfolding costs rising
+literal_on [] rest end is some few apart =
+    let P : ℕ → Type 0 = λ k. IsEnd 128 rest k in
+    let same : end ≡ end + 0 = omega arith in
+    record { ends = subst P same is; are = refl }
+literal_on (b ∷ front) rest end is some few apart =
+    let row : List ℕ = front ++ rest in
+    let before : LiteralOn front rest end = literal_on front rest end is some (omega arith) (λ i less. apart (suc i) (omega arith)) in
+    let place : ℕ = end + length front in
+    let near : IsEnd 127 row place = end_near row place before.ends (omega arith) in
+    let next : Next (b ∷ row) (2 + upto row place) (suc place) =
+    literal_next b row place (equal_at (b ∷ row)) (2 + upto row place) near refl
+    (λ many. let two : equal_at (b ∷ row) ≡ 2 = omega (arith, apart 0 (omega arith)) in
+    omega (arith, before.ends.nearest 1 (omega arith), ap (λ k. fewest (drop k (b ∷ row))) two)) refl in
+    let P : ℕ → Type 0 = λ k. IsEnd 128 (b ∷ row) k in
+    let same : suc place ≡ end + length (b ∷ front) = omega arith in
+    let cost : fewest (b ∷ row) ≡ 1 + upto rest end + suc (length front) =
+    omega (arith, next.least, ap fewest (behind_front front rest end)) in
+    record {
+      ends = subst P same next.ends;
+      are = ap (λ cs. fewest (b ∷ row) ∷ cs) before.are ∙ ap (λ k. k ∷ (rising (length front) (1 + upto rest end) ++ costs rest)) cost;
+    }
+
+-- ---- a run that goes on
+
+-- where a literal from before ends best at once, the row begins with a run
+run_won : (b : ℕ) (row : List ℕ) → IsEnd 128 (b ∷ row) 0
+    → (2 ≤ equal_at (b ∷ row)) × (fewest (b ∷ row) ≡ 2 + fewest (drop (equal_at (b ∷ row)) (b ∷ row)))
+run_won b row is = by_step (first_step b row)
+  where
+    by_step : ByLiteral (b ∷ row) ⊎ ByRun (b ∷ row)
+        → (2 ≤ equal_at (b ∷ row)) × (fewest (b ∷ row) ≡ 2 + fewest (drop (equal_at (b ∷ row)) (b ∷ row)))
+    by_step (inl lit) = absurd (omega (arith, lit.is, is.best lit.count lit.few lit.within))
+    by_step (inr run) = (
+      omega (arith, run.some, run.few),
+      omega (
+        arith,
+        run.is,
+        run_longest (b ∷ row) run.count (equal_at (b ∷ row)) run.few,
+        run_costs (b ∷ row) (equal_at (b ∷ row)) (omega (arith, run.some, run.few)) (omega arith),
+      ),
+    )
+
+-- What is known of a row in front of which a run goes on.
+record RunOn (front rest : List ℕ) : Type 0 where
+  first : get_or (front ++ rest) 0 0 ≡ get_or rest 0 0
+  some : 0 < length (front ++ rest)
+  ends : IsEnd 128 (front ++ rest) 0
+  equal : equal_at (front ++ rest) ≡ equal_at rest + length front
+  cost : fewest (front ++ rest) ≡ fewest rest
+  are : costs (front ++ rest) ≡ replicate (length front) (fewest rest) ++ costs rest
+
+-- one more byte
+run_more : (b : ℕ) (row : List ℕ) → 0 < length row → b ≡ get_or row 0 0 → IsEnd 128 row 0 → equal_at row < 128
+    → Next (b ∷ row) (fewest row) 0 × (equal_at (b ∷ row) ≡ suc (equal_at row))
+run_more b [] some is ends few = absurd (omega arith)
+run_more b (c ∷ row) some is ends few =
+    let won = run_won c row ends in
+    let equal : equal_at (b ∷ c ∷ row) ≡ suc (equal_at (c ∷ row)) = omega (arith, equal_first b c row is) in (
+      run_next b (c ∷ row) 0 (suc (equal_at (c ∷ row))) (fewest (c ∷ row)) (end_near (c ∷ row) 0 ends (omega arith)) (sym equal)
+      (omega (arith, won.0)) won.1 (omega arith),
+      equal,
+    )
+
+-- a run goes on over bytes that are its own
+run_on : (front rest : List ℕ) → 0 < length rest → IsEnd 128 rest 0 → equal_at rest + length front ≤ 128
+    → ((i : ℕ) → i < length front → get_or front i 0 ≡ get_or rest 0 0) → RunOn front rest
+unfolding costs
+run_on [] rest some is few same = record { first = refl; some = some; ends = is; equal = omega arith; cost = refl; are = refl }
+run_on (b ∷ front) rest some is few same =
+    let row : List ℕ = front ++ rest in
+    let before : RunOn front rest = run_on front rest some is (omega arith) (λ i less. same (suc i) (omega arith)) in
+    let more = run_more b row before.some (same 0 (omega arith) ∙ sym before.first) before.ends (omega (arith, before.equal)) in
+    let cost : fewest (b ∷ row) ≡ fewest rest = omega (arith, more.0.least, before.cost) in
+    record {
+      first = same 0 (omega arith);
+      some = omega arith;
+      ends = more.0.ends;
+      equal = omega (arith, more.1, before.equal);
+      cost = cost;
+      are = ap (λ cs. fewest (b ∷ row) ∷ cs) before.are ∙ ap (λ k. k ∷ (replicate (length front) (fewest rest) ++ costs rest)) cost;
+    }
+
+-- ---- equal bytes
+
+-- the first two bytes are equal or not
+pub two_counted : (row : List ℕ) → 2 ≤ length row → equal_at row ≤ 2 → get_or row 0 0 ≡ get_or row 1 0 → 2 ≡ equal_at row
+two_counted [] some few e = absurd (omega arith)
+two_counted (b ∷ []) some few e = absurd (omega arith)
+two_counted (b ∷ c ∷ row) some few e = omega (arith, few, equal_first b c row e, one c row)
+  where
+    one : (c : ℕ) (row : List ℕ) → 1 ≤ equal_at (c ∷ row)
+    one c [] = omega (arith, equal_last c)
+    one c (d ∷ row) = by_test (cases_eq c d)
+      where
+        by_test : (c ≡ d) ⊎ (c ≢ d) → 1 ≤ equal_at (c ∷ d ∷ row)
+        by_test (inl e) = omega (arith, equal_first c d row e)
+        by_test (inr ne) = omega (arith, equal_apart c d row ne)
+
+-- two of three bytes differ
+pub three_apart : (row : List ℕ) (i : ℕ) → i + 2 < length row → IsApart row i → equal_at (drop i row) ≤ 2
+three_apart row i room apart = by_rest (drop i row) (omega (arith, length-drop i row)) first (get_or-drop i row 1 0) (get_or-drop i row 2 0)
+  where
+    first : get_or (drop i row) 0 0 ≡ get_or row i 0
+    first = get_or-drop i row 0 0 ∙ ap (λ n. get_or row n 0) (omega arith)
+
+    by_three : (a b c : ℕ) (rest : List ℕ) → ((a == b) && (b == c)) ≡ false → equal_at (a ∷ b ∷ c ∷ rest) ≤ 2
+    by_three a b c rest e = by_test (cases_eq a b) (cases_eq b c)
+      where
+        by_test : (a ≡ b) ⊎ (a ≢ b) → (b ≡ c) ⊎ (b ≢ c) → equal_at (a ∷ b ∷ c ∷ rest) ≤ 2
+        by_test (inr ne) t = omega (arith, equal_apart a b (c ∷ rest) ne)
+        by_test (inl ab) (inr ne) = omega (arith, equal_first a b (c ∷ rest) ab, equal_apart b c rest ne)
+        by_test (inl ab) (inl bc) =
+            absurd (let no : true ≡ false = sym (ap (λ t. t && (b == c)) (eq-eqb a b ab) ∙ eq-eqb b c bc) ∙ e in cc)
+
+    by_rest : (rest : List ℕ) → 3 ≤ length rest → get_or rest 0 0 ≡ get_or row i 0 → get_or rest 1 0 ≡ get_or row (i + 1) 0
+        → get_or rest 2 0 ≡ get_or row (i + 2) 0 → equal_at rest ≤ 2
+    by_rest [] some a b c = absurd (omega arith)
+    by_rest (x ∷ []) some a b c = absurd (omega arith)
+    by_rest (x ∷ y ∷ []) some a b c = absurd (omega arith)
+    by_rest (x ∷ y ∷ z ∷ rest) some a b c =
+        by_three x y z rest
+        (ap (λ k. (k == y) && (y == z)) a ∙ ap (λ k. (get_or row i 0 == k) && (k == z)) b
+        ∙ ap (λ k. (get_or row i 0 == get_or row (i + 1) 0) && (get_or row (i + 1) 0 == k)) c ∙ apart)
+
+-- ---- the table
+
+-- costs that rise, one by one
+pub rising_is : (n base : ℕ) (costs : List ℕ) → length costs ≡ n → ((j : ℕ) → j < n → get_or costs j 0 ≡ base + n - j) → costs ≡ rising n base
+unfolding rising
+rising_is zero base [] len are = refl
+rising_is zero base (c ∷ costs) len are = absurd (omega arith)
+rising_is (suc n) base [] len are = absurd (omega arith)
+rising_is (suc n) base (c ∷ costs) len are =
+    ap (λ k. k ∷ costs) (let first : c ≡ base + suc n = omega (arith, are 0 (omega arith)) in first)
+    ∙ ap (λ cs. (base + suc n) ∷ cs) (rising_is n base costs (omega arith) (λ j less. omega (arith, are (suc j) (omega arith))))
+
+-- costs that are all the same
+pub level_is : (n cost : ℕ) (costs : List ℕ) → length costs ≡ n → ((j : ℕ) → j < n → get_or costs j 0 ≡ cost) → costs ≡ replicate n cost
+level_is zero cost [] len are = refl
+level_is zero cost (c ∷ costs) len are = absurd (omega arith)
+level_is (suc n) cost [] len are = absurd (omega arith)
+level_is (suc n) cost (c ∷ costs) len are =
+    ap (λ k. k ∷ costs) (are 0 (omega arith))
+    ∙ ap (λ cs. cost ∷ cs) (level_is n cost costs (omega arith) (λ j less. are (suc j) (omega arith)))
+
+-- the table from a place on, where a piece before the next is written
+put_before : (table block : List ℕ) (at : ℕ) (n : ℕ) → at + n ≤ length table → length block ≡ n
+    → drop at (put_mid at n table block) ≡ block ++ drop (at + n) table
+put_before table block at n within len =
+    drop_at (take at table) (block ++ drop n (drop at table)) at (length-take-le at table (omega arith))
+    ∙ ap (λ rest. block ++ rest) (drop-drop n at table)
+
+-- the sixteen bytes before a place
+before_is : (row : List ℕ) (at : ℕ) → 16 ≤ at → take 16 (drop (at - 16) row) ++ drop at row ≡ drop (at - 16) row
+before_is row at room =
+    ap (λ rest. take 16 (drop (at - 16) row) ++ rest)
+    (sym (ap (λ k. drop k row) (let e : at - 16 + 16 ≡ at = omega arith in e)) ∙ sym (drop-drop 16 (at - 16) row))
+    ∙ take-append-drop 16 (drop (at - 16) row)
+
+-- the table keeps its length
+put_len : (table block : List ℕ) (at n : ℕ) → at + n ≤ length table → length block ≡ n → length (put_mid at n table block) ≡ length table
+put_len table block at n within len =
+    omega (
+      arith,
+      length-append (take at table) (block ++ drop n (drop at table)),
+      length-append block (drop n (drop at table)),
+      length-take-le at table (omega arith),
+      length-drop n (drop at table),
+      length-drop at table,
+    )
+
+-- What is known of the sixteen bytes before a place, and of those from there on.
+record Before (row : List ℕ) (at : ℕ) : Type 0 where
+  front : List ℕ
+  sixteen : length front ≡ 16
+  joined : front ++ drop at row ≡ drop (at - 16) row
+
+-- the sixteen bytes are there
+sixteen_before : (row : List ℕ) (at : ℕ) → 16 ≤ at → at ≤ length row → Before row at
+sixteen_before row at room within = record {
+  front = take 16 (drop (at - 16) row);
+  sixteen = length-take-le 16 (drop (at - 16) row) (omega (arith, length-drop (at - 16) row));
+  joined = before_is row at room;
+}
+
+-- the table is filled before a place
+block_done : (row table block : List ℕ) (at : ℕ) → 16 ≤ at → at ≤ length row → length table ≡ length row + 1 → length block ≡ 16
+    → drop at table ≡ costs (drop at row) → costs (drop (at - 16) row) ≡ block ++ costs (drop at row)
+    → drop (at - 16) (put_mid (at - 16) 16 table block) ≡ costs (drop (at - 16) row)
+block_done row table block at room within sized len done are =
+    put_before table block (at - 16) 16 (omega arith) len
+    ∙ ap (λ k. block ++ drop k table) (let e : at - 16 + 16 ≡ at = omega arith in e)
+    ∙ ap (λ cs. block ++ cs) done
+    ∙ sym are
+
+-- sixteen places that a literal takes are filled
+pub filled_literal : (row table block : List ℕ) (filled : Filled) (equal k : ℕ) → IsFilled row table filled → LiteralGoesOn row filled → k ≡ 16
+    → block ≡ rising 16 (filled.best + filled.literal + 1) → length block ≡ 16 → equal ≡ equal_at (drop (filled.at - 16) row)
+    → IsFilled row (put_mid (filled.at - 16) k table block)
+    (record { at = filled.at - 16; equal = equal; literal = filled.literal + 16; best = filled.best })
+filled_literal row table block filled equal k is goes sixteen block_is len counted =
+    let at : ℕ = filled.at in
+    let rest : List ℕ = drop at row in
+    let there : Before row at = sixteen_before row at goes.room is.within in
+    let base : filled.best + filled.literal + 1 ≡ 1 + upto rest filled.literal =
+    omega (arith, is.least, costs_drop filled.literal rest is.ends.within) in
+    let on : LiteralOn there.front rest filled.literal =
+    literal_on there.front rest filled.literal is.ends goes.some (omega (arith, goes.few, there.sixteen)) (λ i less. few there i (omega (arith, there.sixteen))) in
+    let P : List ℕ → Type 0 = λ bs. IsEnd 128 bs (filled.literal + 16) in
+    let Q : ℕ → Type 0 = λ n. IsEnd 128 (there.front ++ rest) (filled.literal + n) in
+    let ends : IsEnd 128 (drop (at - 16) row) (filled.literal + 16) = subst P there.joined (subst Q there.sixteen on.ends) in
+    let are : costs (drop (at - 16) row) ≡ block ++ costs rest =
+    ap costs (sym there.joined) ∙ on.are ∙ ap (λ n. rising n (1 + upto rest filled.literal) ++ costs rest) there.sixteen
+    ∙ ap (λ c. rising 16 c ++ costs rest) (sym base) ∙ ap (λ bs. bs ++ costs rest) (sym block_is) in
+    let R : ℕ → Type 0 = λ n. IsFilled row (put_mid (at - 16) n table block)
+    (record { at = at - 16; equal = equal; literal = filled.literal + 16; best = filled.best }) in
+    subst R (sym sixteen) (record {
+      sized = put_len table block (at - 16) 16 (omega (arith, is.sized, is.within, goes.room)) len ∙ is.sized;
+      within = omega (arith, is.within);
+      done = block_done row table block at goes.room is.within is.sized len is.done are;
+      counted = counted;
+      few = omega (arith, counted, (equal_within (drop (at - 16) row)).0);
+      near = goes.few;
+      least = is.least ∙ costs_drop filled.literal rest is.ends.within
+          ∙ ap fewest (sym (behind_front there.front rest filled.literal))
+          ∙ ap (λ n. fewest (drop (filled.literal + n) (there.front ++ rest))) there.sixteen
+          ∙ ap (λ bs. fewest (drop (filled.literal + 16) bs)) there.joined
+          ∙ sym (costs_drop (filled.literal + 16) (drop (at - 16) row) ends.within);
+      ends = ends;
+    })
+  where
+    few : (there : Before row filled.at) (i : ℕ) → i < 16 → equal_at (drop i (there.front ++ drop filled.at row)) ≤ 2
+    few there i less =
+        let P : List ℕ → Type 0 = λ bs. equal_at (drop i bs) ≤ 2 in
+        subst P (sym there.joined) (three_apart (drop (filled.at - 16) row) i
+        (omega (arith, less, length-drop (filled.at - 16) row, goes.behind, goes.room)) (goes.apart i less))
+
+-- no three of the bytes from there on are equal
+pub literal_few : (row : List ℕ) (filled : Filled) → LiteralGoesOn row filled → equal_at (drop (filled.at - 16) row) ≤ 2
+literal_few row filled goes =
+    three_apart (drop (filled.at - 16) row) 0 (omega (arith, length-drop (filled.at - 16) row, goes.behind, goes.room)) (goes.apart 0 (omega arith))
+
+-- the best cost is small
+pub best_small : (row table : List ℕ) (filled : Filled) → IsFilled row table filled → length row ≤ 1024 → filled.best ≤ 2048
+best_small row table filled is short =
+    omega (arith, short, is.least, entry_small (drop filled.at row) filled.literal is.ends.within, length-drop filled.at row)
+
+-- sixteen places that a run takes are filled
+pub filled_run : (row table block : List ℕ) (filled : Filled) (k : ℕ) → IsFilled row table filled → RunGoesOn row filled → k ≡ 16
+    → block ≡ replicate 16 filled.best
+    → IsFilled row (put_mid (filled.at - 16) k table block)
+    (record { at = filled.at - 16; equal = filled.equal + 16; literal = 0; best = filled.best })
+filled_run row table block filled k is goes sixteen block_is =
+    let at : ℕ = filled.at in
+    let rest : List ℕ = drop at row in
+    let there : Before row at = sixteen_before row at goes.room is.within in
+    let E : ℕ → Type 0 = λ n. IsEnd 128 rest n in
+    let best : filled.best ≡ fewest rest = is.least ∙ ap (λ n. get_or (costs rest) n 0) goes.none in
+    let on : RunOn there.front rest =
+    run_on there.front rest (omega (arith, length-drop at row, goes.behind)) (subst E goes.none is.ends)
+    (omega (arith, goes.few, is.counted, there.sixteen)) (λ i less. same there i (omega (arith, there.sixteen))) in
+    let len : length block ≡ 16 = ap length block_is ∙ length-replicate {A = ℕ} 16 filled.best in
+    let P : List ℕ → Type 0 = λ bs. IsEnd 128 bs 0 in
+    let are : costs (drop (at - 16) row) ≡ block ++ costs rest =
+    ap costs (sym there.joined) ∙ on.are ∙ ap (λ n. replicate n (fewest rest) ++ costs rest) there.sixteen
+    ∙ ap (λ c. replicate 16 c ++ costs rest) (sym best) ∙ ap (λ bs. bs ++ costs rest) (sym block_is) in
+    let counted : filled.equal + 16 ≡ equal_at (drop (at - 16) row) =
+    omega (arith, is.counted, on.equal, there.sixteen, ap equal_at there.joined) in
+    let R : ℕ → Type 0 = λ n. IsFilled row (put_mid (at - 16) n table block)
+    (record { at = at - 16; equal = filled.equal + 16; literal = 0; best = filled.best }) in
+    subst R (sym sixteen) (record {
+      sized = put_len table block (at - 16) 16 (omega (arith, is.sized, is.within, goes.room)) len ∙ is.sized;
+      within = omega (arith, is.within);
+      done = block_done row table block at goes.room is.within is.sized len is.done are;
+      counted = counted;
+      few = goes.few;
+      near = omega arith;
+      least = best ∙ sym on.cost ∙ ap fewest there.joined;
+      ends = subst P there.joined on.ends;
+    })
+  where
+    here : (there : Before row filled.at) → get_or (drop (filled.at - 16) row) 16 0 ≡ get_or (drop filled.at row) 0 0
+    here there =
+        sym (get_or-drop 16 (drop (filled.at - 16) row) 0 0)
+        ∙ ap (λ bs. get_or bs 0 0) (drop-drop 16 (filled.at - 16) row)
+        ∙ ap (λ n. get_or (drop n row) 0 0) (let e : filled.at - 16 + 16 ≡ filled.at = omega (arith, goes.room) in e)
+
+    same : (there : Before row filled.at) (i : ℕ) → i < 16 → get_or there.front i 0 ≡ get_or (drop filled.at row) 0 0
+    same there i less =
+        sym (get_or_append_left there.front (drop filled.at row) 0 i (omega (arith, less, there.sixteen)))
+        ∙ ap (λ bs. get_or bs i 0) there.joined ∙ goes.same i less ∙ here there
