@@ -1,11 +1,13 @@
 use Rattle.std.proofs.Common.{◌≡◌, ℕ, ◌*◌, List, subst, sym, ◌∙◌, ap}
 use Rattle.std.specs.Io.KnownBytes.{Appends}
-use Rattle.std.specs.Prelude.{IsErrOf, OnOk}
+use Rattle.std.specs.Prelude.{IsErrOf, IsOk, OnOk}
 use Rattle.std.proofs.lemmas.Result.{IfOk-weaker}
 use Rattle.dot_planes.specs.Tables.{DotTable}
 use Rattle.page_definitions.specs.Dots.{Halftone}
 use Rattle.page_definitions.specs.PageBytes.{halftone_bytes}
 use Rattle.printer_definitions.specs.Printer.{Printer, row_units}
+use Rattle.printer_profile.specs.Validity.{check}
+use Rattle.separation_definitions.specs.CanPrint.{CanPrint}
 use Rattle.weave_base.specs.Parts.{AppendsPart}
 use Rattle.weave_plan.specs.Weaving.{Weaving}
 use Rattle.page_writer.specs.Heads.{Suits, strokes_over}
@@ -18,14 +20,27 @@ use Rattle.page_writer.proofs.Meaning.{bytes_are, halftone_passes, halftone_prin
 use Rattle.page_writer.proofs.PassesOver.{passes_suit}
 use Rattle.page_writer.proofs.page.write_page.Goals as goal
 
+-- the plan that is made is that of the printer
+plan_is : (q p : Printer) (plan : Weaving) (n rows : ℕ) → q ≡ p → plan ≡ record { nozzles = q.nozzles; pitch = q.pitch; height = n } → n ≡ rows
+    → plan ≡ record { nozzles = p.nozzles; pitch = p.pitch; height = rows }
+plan_is q p plan n rows same made rows_are =
+    made ∙ ap (λ (p : Printer). record { nozzles = p.nozzles; pitch = p.pitch; height = n }) same
+    ∙ ap (λ n. record { nozzles = p.nozzles; pitch = p.pitch; height = n }) rows_are
+
+-- a printer that passes its checks can print
+can_print : (q p : Printer) → q ≡ p → (IsOk (check q) → CanPrint q) → IsOk (check p) → CanPrint p
+can_print q p same can checked =
+    let P : Printer → Type 0 = λ p. IsOk (check p) in
+    subst CanPrint same (can (subst P (sym same) checked))
+
 pub write_strokes-requires-clause-suits : goal.write_strokes-requires-clause-suits
 write_strokes-requires-clause-suits g c =
     let p : Printer = c.args.p.now in
     let t : DotTable = c.args.planes.now in
     let same : c.make-plan.result ≡ record { nozzles = p.nozzles; pitch = p.pitch; height = t.rows } =
-    c.make-plan.ensures ∙ ap (λ n. record { nozzles = p.nozzles; pitch = p.pitch; height = n }) c.rows.ensures in
+    plan_is _ _ _ _ _ c.p.view_is c.make-plan.ensures c.rows.ensures in
     let P : Weaving → Type 0 = λ plan. Suits p (pass_strokes plan) t in
-    subst P (sym same) (passes_suit p t c.args.f (c.checked_can_print.ensures c.requires.checked)
+    subst P (sym same) (passes_suit p t c.args.f (can_print _ _ c.p.view_is c.checked_can_print.ensures c.requires.checked)
     c.requires.wanted c.requires.width c.requires.rows c.requires.inks)
 
 pub returns-clause-ok : goal.returns-clause-ok
@@ -34,7 +49,7 @@ returns-clause-ok g c = λ h shows.
     let t : DotTable = c.args.planes.now in
     let len : ℕ = c.args.f.height * row_units p in
     let same : c.make-plan.result ≡ record { nozzles = p.nozzles; pitch = p.pitch; height = t.rows } =
-    c.make-plan.ensures ∙ ap (λ n. record { nozzles = p.nozzles; pitch = p.pitch; height = n }) c.rows.ensures in
+    plan_is _ _ _ _ _ c.p.view_is c.make-plan.ensures c.rows.ensures in
     let bytes : head_bytes p (pass_strokes c.make-plan.result) t len ≡ halftone_bytes p h len =
     ap (λ (plan : Weaving). head_bytes p (pass_strokes plan) t len) same ∙ bytes_are p t h len shows in
     let P : List ℕ → Type 0 = λ bs. OnOk c.write_strokes.result (Appends (g.K.Sink.held c.args.k.now) (g.K.Sink.held c.write_strokes.new.k) bs) in
@@ -46,7 +61,7 @@ returns-clause-part g c = λ h shows failed.
     let t : DotTable = c.args.planes.now in
     let len : ℕ = c.args.f.height * row_units p in
     let same : c.make-plan.result ≡ record { nozzles = p.nozzles; pitch = p.pitch; height = t.rows } =
-    c.make-plan.ensures ∙ ap (λ n. record { nozzles = p.nozzles; pitch = p.pitch; height = n }) c.rows.ensures in
+    plan_is _ _ _ _ _ c.p.view_is c.make-plan.ensures c.rows.ensures in
     let bytes : head_bytes p (pass_strokes c.make-plan.result) t len ≡ halftone_bytes p h len =
     ap (λ (plan : Weaving). head_bytes p (pass_strokes plan) t len) same ∙ bytes_are p t h len shows in
     let P : List ℕ → Type 0 = AppendsPart (g.K.Sink.held c.args.k.now) (g.K.Sink.held c.write_strokes.new.k) in
@@ -58,17 +73,17 @@ returns-clause-sum g c = λ h shows.
     let t : DotTable = c.args.planes.now in
     let len : ℕ = c.args.f.height * row_units p in
     let same : c.make-plan.result ≡ record { nozzles = p.nozzles; pitch = p.pitch; height = t.rows } =
-    c.make-plan.ensures ∙ ap (λ n. record { nozzles = p.nozzles; pitch = p.pitch; height = n }) c.rows.ensures in
+    plan_is _ _ _ _ _ c.p.view_is c.make-plan.ensures c.rows.ensures in
     IfOk-weaker c.write_strokes.result _ _ (λ sum is.
     let P : Weaving → Type 0 = λ plan. SumsStrokes p t.width t.rows len (strokes_over p (pass_strokes plan) t) sum in
     sums_are p t h len sum shows (subst P same is)) c.write_strokes.ensures.sum
 
 pub returns-clause-prints : goal.returns-clause-prints
 returns-clause-prints g c = λ h shows.
-    halftone_prints _ c.args.planes.now h c.args.f (c.checked_can_print.ensures c.requires.checked)
+    halftone_prints _ c.args.planes.now h c.args.f (can_print _ _ c.p.view_is c.checked_can_print.ensures c.requires.checked)
     c.requires.wanted c.requires.width c.requires.rows shows
 
 pub returns-clause-passes : goal.returns-clause-passes
 returns-clause-passes g c = λ h shows ink.
-    halftone_passes _ c.args.planes.now h c.args.f (c.checked_can_print.ensures c.requires.checked)
+    halftone_passes _ c.args.planes.now h c.args.f (can_print _ _ c.p.view_is c.checked_can_print.ensures c.requires.checked)
     c.requires.wanted c.requires.width c.requires.rows shows ink

@@ -1,4 +1,7 @@
-use Rattle.std.proofs.Common.{◌≡◌, ◌-◌, ◌+◌, ◌*◌, ◌/◌, ◌≤◌, suc, ap, ◌∙◌, sym, arith, vec_capacity, vec_len}
+use Rattle.std.proofs.Common.{◌≡◌, ◌-◌, ◌+◌, ◌*◌, ◌/◌, ◌≤◌, suc, ap, ◌∙◌, sym, arith, vec_capacity, vec_len, Some}
+use Rattle.std.specs.List.{slice_get}
+use Rattle.printer_definitions.specs.Inks.{inks_of}
+use Rattle.printer_definitions.specs.Printer.{Printer}
 use Rattle.page_definitions.specs.PageBytes.{page_coding}
 use Rattle.page_definitions.specs.Strokes.{raster_header}
 use Rattle.page_writer.specs.Heads.{stroke_rows}
@@ -37,13 +40,15 @@ inks-preserved g c =
       c.append_ink-rasters.ensures.most,
       ink_most c.args.p.now _ _ _ c.raster_header-header.ensures c.width.ensures,
     ) in
+    let ink : slice_get (inks_of c.args.p.now.inks) c.inks.place ≡ Some c.at-ink.result =
+    ap (λ (p : Printer). slice_get (inks_of p.inks) c.inks.place) (sym c.p.view_is) ∙ c.at-ink.ensures in
     record {
       so_far = inks_step _ _ _ _ _ _ c.raster_header-header.result c.at-ink.result
           (stroke_rows (g.H.Head.strokes c.args.head.now) c.args.planes.now c.args.stroke c.inks.place) _ _ _
-          c.inks.invariant.so_far c.at-ink.ensures
+          c.inks.invariant.so_far ink
           (c.raster_header-header.ensures ∙ ap (λ n. raster_header c.args.p.now n page_coding.c) c.width.ensures)
           (ap (stroke_rows (g.H.Head.strokes c.args.head.now) c.args.planes.now c.args.stroke)
-          (place_is c.args.p.now.inks c.inks.place c.at-ink.result c.at-ink.ensures))
+          (place_is c.args.p.now.inks c.inks.place c.at-ink.result ink))
           c.append_ink-rasters.ensures.items c.append_ink-rasters.ensures.rasters;
       few = omega (arith, c.inks.invariant.few, c.append_ink-rasters.ensures.few);
       space = let space : vec_len c.append_ink-rasters.new.out + (c.args.planes.now.inks - (c.inks.place + 1))
