@@ -3,3 +3,4 @@ pub mod Steps
 pub mod Feeding
 pub mod Ends
 pub mod Sixteens
+pub mod Even

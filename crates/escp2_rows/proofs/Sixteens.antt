@@ -1,8 +1,8 @@
 -- Sixteen places that are filled at once.
-use Rattle.std.proofs.Common.{◌≡◌, ℕ, zero, suc, ◌+◌, ◌-◌, ◌*◌, ◌<◌, ◌≤◌, ◌==◌, ◌&&◌, ◌≢◌, ◌⊎◌, inl, inr, Bool, true, false, List, []}
-use Rattle.std.proofs.Common.{◌∷◌, ◌++◌, length, take, drop, min, replicate, get_or, refl, sym, ◌∙◌, ap, subst, arith, length-append}
+use Rattle.std.proofs.Common.{◌≡◌, ℕ, zero, suc, ◌+◌, ◌-◌, ◌<◌, ◌≤◌, ◌==◌, ◌&&◌, ◌≢◌, ◌⊎◌, inl, inr, true, false, List, []}
+use Rattle.std.proofs.Common.{◌∷◌, ◌++◌, length, take, drop, replicate, get_or, refl, sym, ◌∙◌, ap, subst, arith, length-append}
 use Rattle.std.proofs.Common.{length-drop, eq-eqb}
-use Rattle.std.proofs.lemmas.Bool.{cases_eq, cases_lt, ne_eqb}
+use Rattle.std.proofs.lemmas.Bool.{cases_eq}
 use Rattle.std.proofs.lemmas.List.{drop-drop, drop_at, get_or-drop, get_or_append_left, length-replicate, length-take-le, take-append-drop}
 use borrow.Rule.Slice.PartMut.{put_mid}
 use Rattle.escp2_definitions.specs.Least.{costs, equal_at}
@@ -88,7 +88,7 @@ run_more b (c ∷ row) some is ends few =
     let won = run_won c row ends in
     let equal : equal_at (b ∷ c ∷ row) ≡ suc (equal_at (c ∷ row)) = omega (arith, equal_first b c row is) in (
       run_next b (c ∷ row) 0 (suc (equal_at (c ∷ row))) (fewest (c ∷ row)) (end_near (c ∷ row) 0 ends (omega arith)) (sym equal)
-      (omega (arith, won.0)) won.1 (omega arith),
+          (omega (arith, won.0)) won.1 (omega arith),
       equal,
     )
 

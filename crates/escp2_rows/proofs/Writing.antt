@@ -4,7 +4,7 @@ use Rattle.std.proofs.Common.{List, [], ◌∷◌, ◌++◌, length, take, drop,
 use Rattle.std.proofs.Common.{append-nil, length-append, length-drop, eq-eqb}
 use Rattle.std.specs.List.{flat_map, filter}
 use Rattle.std.proofs.lemmas.Bool.{cases_lt, eqb-true}
-use Rattle.std.proofs.lemmas.List.{drop-drop, drop_all, length-replicate, length-take-le}
+use Rattle.std.proofs.lemmas.List.{drop_all, length-replicate, length-take-le}
 use Rattle.std.proofs.lemmas.Slice.{take-put_mid}
 use Rattle.std.proofs.Math.Seq.{take-append-add}
 use borrow.Rule.Slice.PartMut.{put_mid}

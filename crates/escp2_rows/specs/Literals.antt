@@ -1,10 +1,16 @@
--- The longest literal at the front of a row that costs least.
-use Rattle.std.specs.Prelude.{◌≡◌, ℕ, ◌+◌, ◌<◌, ◌≤◌, List, length, drop, slice_index}
+-- Rows of one byte, and the longest literal at the front of a row that costs least.
+use Rattle.std.specs.Prelude.{◌≡◌, ◌==◌, ℕ, ◌+◌, ◌<◌, ◌≤◌, List, length, drop, slice_index}
+use Rattle.std.specs.List.{take_while}
 use Rattle.escp2_definitions.specs.Least.{costs}
 
+-- A literal of n bytes at the front of a row costs least, and none that is longer does.
 pub record IsLongest (row : List ℕ) (n : ℕ) : Type 0 where
   pub some : 1 ≤ n
   pub few : n ≤ 128
   pub within : n ≤ length row
   pub is : slice_index (costs row) 0 ≡ 1 + n + slice_index (costs (drop n row)) 0
   pub longest : (k : ℕ) → n < k → k ≤ 128 → k ≤ length row → slice_index (costs row) 0 < 1 + k + slice_index (costs (drop k row)) 0
+
+-- All bytes of the row are the first one.
+abbrev pub IsEven : List ℕ → Type 0
+IsEven row = length (take_while (λ byte. byte == slice_index row 0) row) ≡ length row

@@ -192,7 +192,10 @@ fn fill_literal(row: &[u8], table: &mut [u16], filled: Filled) -> Filled
     ensures before { result.at < filled.at }
 {
     let at = filled.at - 16;
-    fill_rising(&mut table[at..filled.at], filled.best + filled.literal as u16 + 1);
+    fill_rising(
+        &mut table[at..filled.at],
+        filled.best + filled.literal as u16 + 1,
+    );
     Filled {
         at,
         equal: equal_two(&row[at..]),

@@ -1,8 +1,8 @@
 //! Writing the least code of a row.
 ghost use Rattle.escp2_definitions.specs.Least.{costs, equal_at, least_packet, least_row};
 ghost use Rattle.escp2_definitions.specs.RowCode.{packet_code, packet_row};
-ghost use Rattle.escp2_rows.specs.Literals.{IsLongest};
-ghost use Rattle.std.specs.Prelude.{drop, length, slice_index, take, take_while};
+ghost use Rattle.escp2_rows.specs.Literals.{IsEven, IsLongest};
+ghost use Rattle.std.specs.Prelude.{drop, length, slice_index, take, take_while, true};
 ghost use Rattle.std.specs.Prelude.{◌==◌, ◌*◌, ◌+◌, ◌-◌, ◌<◌, ◌≡◌, ◌≢◌, ◌≤◌};
 
 use crate::costs::{MOST_BYTES, fill_costs};
@@ -97,9 +97,50 @@ fn write_packets(row: &[u8], table: &[u16], out: &mut [u8]) -> usize
     len
 }
 
-/// Writes the least code of a row of at most 1,024 bytes to the beginning of `out`, and gives its length: at most twice
-/// that of the row. It takes no memory.
-pub fn code_row(row: &[u8], out: &mut [u8]) -> usize
+// Writes the code of the first packet of a row of one byte: as many as a packet may have.
+#[inline]
+fn write_even_packet(row: &[u8], out: &mut [u8]) -> Written
+    requires some { 0 < length row.now }
+    requires even { IsEven row.now }
+    requires room { 2 * length row.now ≤ length out.old }
+    ensures code { take result.code out.new ≡ packet_code (least_packet row.now) }
+    ensures row { result.row ≡ length (packet_row (least_packet row.now)) }
+    ensures some { 1 ≤ result.row }
+    ensures within { result.row ≤ length row.now }
+    ensures short { result.code ≤ 2 * result.row }
+{
+    let count = row.len().min(MOST_BYTES);
+    out[1] = row[0];
+    if count == 1 {
+        out[0] = 0;
+        return Written { row: 1, code: 2 };
+    }
+    out[0] = (257 - count) as u8;
+    Written {
+        row: count,
+        code: 2,
+    }
+}
+
+// Writes the code of a row of one byte, and gives its length.
+fn write_even(row: &[u8], out: &mut [u8]) -> usize
+    requires even { IsEven row.now }
+    requires room { 2 * length row.now ≤ length out.old }
+    ensures code { take result out.new ≡ least_row row.now }
+    ensures short { result ≤ 2 * length row.now }
+{
+    let mut at = 0;
+    let mut len = 0;
+    'packets: while at < row.len() {
+        let written = write_even_packet(&row[at..], &mut out[len..]);
+        at += written.row;
+        len += written.code;
+    }
+    len
+}
+
+// Writes the code of a row by the costs of its places, and gives its length.
+fn write_by_costs(row: &[u8], out: &mut [u8]) -> usize
     requires most { length row.now ≤ 1024 }
     requires room { 2 * length row.now ≤ length out.old }
     ensures code { take result out.new ≡ least_row row.now }
@@ -109,4 +150,25 @@ pub fn code_row(row: &[u8], out: &mut [u8]) -> usize
     let table = &mut room[..=row.len()];
     fill_costs(row, table);
     write_packets(row, table, out)
+}
+
+// Whether all bytes of a row are the same.
+fn is_even(row: &[u8]) -> bool
+    ensures { result ≡ true → IsEven row.now }
+{
+    row.is_empty() || copies(row, row[0]) == row.len()
+}
+
+/// Writes the least code of a row of at most 1,024 bytes to the beginning of `out`, and gives its length: at most twice
+/// that of the row. It takes no memory.
+pub fn code_row(row: &[u8], out: &mut [u8]) -> usize
+    requires most { length row.now ≤ 1024 }
+    requires room { 2 * length row.now ≤ length out.old }
+    ensures code { take result out.new ≡ least_row row.now }
+    ensures short { result ≤ 2 * length row.now }
+{
+    if is_even(row) {
+        return write_even(row, out);
+    }
+    write_by_costs(row, out)
 }

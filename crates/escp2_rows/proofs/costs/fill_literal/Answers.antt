@@ -1,4 +1,4 @@
-use Rattle.std.proofs.Common.{◌≡◌, ◌-◌, ◌≤◌, ℕ, List, arith, length, take, drop, subst, sym, ap, ◌∙◌, length-drop, length-take}
+use Rattle.std.proofs.Common.{◌-◌, ◌≤◌, ℕ, List, arith, drop, subst, sym, ap, ◌∙◌, length-drop, length-take}
 use Rattle.std.proofs.lemmas.List.{take_rest}
 use Rattle.escp2_definitions.specs.Least.{equal_at}
 use Rattle.escp2_rows.proofs.Sixteens.{best_small, filled_literal, literal_few}
