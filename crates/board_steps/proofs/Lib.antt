@@ -8,6 +8,7 @@ pub mod Taking
 pub mod Sending
 pub mod Posting
 pub mod Passes
+pub mod Parts
 pub mod Grid
 pub mod Places
 pub mod Wording

@@ -1,5 +1,5 @@
 -- A split and a join keep the rule.
-use Rattle.std.proofs.Common.{min, ◌≡◌, ◌≢◌, ℕ, zero, suc, ◌+◌, ◌-◌, ◌≤◌, ◌⊎◌, inl, inr, ⊎_elim, List, [], ◌∷◌, ◌++◌, length, set, refl}
+use Rattle.std.proofs.Common.{◌≡◌, ◌≢◌, ℕ, zero, suc, ◌+◌, ◌-◌, ◌≤◌, ◌⊎◌, inl, inr, ⊎_elim, List, [], ◌∷◌, ◌++◌, length, set, refl}
 use Rattle.std.proofs.Common.{sym, ap, ◌∙◌, subst, arith, length-set, length-append, None}
 use mathlib.Core.Option.{some, some-ne-none, some-injective}
 use lib.ListN.{get_elem?}
@@ -98,7 +98,7 @@ total_join f views id other v u w at at' e z = let a = total_set f views id v w 
     let b = total_set f (set views id w) other u spent at' in omega arith
 
 -- two views together have at most 256 parts
-two_parts : (views : List View) (id other : ℕ) (v u : View) → get_elem? views id ≡ some v → get_elem? views other ≡ some u → other ≢ id
+pub two_parts : (views : List View) (id other : ℕ) (v u : View) → get_elem? views id ≡ some v → get_elem? views other ≡ some u → other ≢ id
     → v.parts + u.parts ≤ total (λ y. y.parts) views
 two_parts views id other v u at there ne =
     let a = total_set (λ y. y.parts) views id v spent at in let z : spent.parts ≡ 0 = refl in
@@ -116,7 +116,7 @@ joins B id other v u part part' idle s r at ne at' =
       number = o.number;
       made = o.made;
       board = o.board;
-      some_part = (let p : w.parts ≡ min 256 (v.parts + u.parts) = refl in omega arith);
+      some_part = (let p : w.parts ≡ v.parts + u.parts = refl in omega arith);
       numbers = Numbered-append n v.mine u.mine o.numbers o'.numbers;
       sees = o.sees;
     } in
@@ -128,8 +128,7 @@ joins B id other v u part part' idle s r at ne at' =
       inside = λ p far. l p ∙ r.inside p far;
       tiles = same_counts B s r all l (λ q d. total_join (sends q d) s.views id other v u w at at' (joined_sends v u idle q d)
           (spent_sends q d)) (λ q. total_join (posts q) s.views id other v u w at at' (joined_posts v u q) (spent_posts q));
-      parts = total_join (λ y. y.parts) s.views id other v u w at at' (let p : w.parts ≡ min 256 (v.parts + u.parts) = refl in
-          let q = two_parts s.views id other v u at there ne in let e = r.parts in omega arith) refl ∙ r.parts;
+      parts = total_join (λ y. y.parts) s.views id other v u w at at' refl refl ∙ r.parts;
       views = λ j y e. subst (λ (c : ℕ). Fine B s c j y) (sym longer) (⊎_elim
           (λ (x : (j ≡ other) × (spent ≡ y)). inl (sym x.1))
           (λ (x : (j ≢ other) × (get_elem? vs j ≡ some y)). ⊎_elim (λ (z : (j ≡ id) × (w ≡ y)). fine_at B s n j id y w z.0 z.1 (inr both))

@@ -4,3 +4,4 @@ pub mod Rule
 pub mod Steps
 pub mod Clauses
 pub mod Shown
+pub mod Examples

@@ -1,6 +1,6 @@
 -- What a pass knows, and which slots it has, after each step.
-use Rattle.std.specs.Prelude.{min, ◌≡◌, ℕ, zero, suc, ◌+◌, ◌-◌, ◌*◌, ◌/◌, ◌%◌, ◌<◌, ◌≤◌, true, false, List, [], ◌∷◌, ◌++◌, Option, Some}
-use Rattle.std.specs.Prelude.{None}
+use Rattle.std.specs.Prelude.{◌≡◌, ℕ, zero, suc, ◌+◌, ◌-◌, ◌*◌, ◌/◌, ◌%◌, ◌<◌, ◌≤◌, true, false, List, [], ◌∷◌, ◌++◌, Option, Some}
+use Rattle.std.specs.Prelude.{None, ◌==◌, filter}
 use Rattle.atomic_table.specs.Table.{Me, rest}
 use Rattle.tile_shape.specs.declared.tiles.Dir.{Dir}
 use Rattle.tile_shape.specs.declared.tiles.Dir.TheVariants as dir
@@ -172,9 +172,18 @@ pub record MayPost (B : Setting) (m : Me Cell View) (t : ℕ) : Type 0 where
 abbrev pub posted_view : View → ℕ → View
 posted_view v t = record v { held = None; sent = []; mine = (t, v.number) ∷ v.mine }
 
--- tile t is posted, and the pass has no slots
-abbrev pub Posted : ℕ → Me Cell View → Me Cell View → Type 0
-Posted t m n = n ≡ (posted_view m.0 t, [])
+-- the posts of tile t in the list of what the pass has posted
+abbrev pub posts_of : ℕ → View → List (ℕ × ℕ)
+posts_of t v = filter (λ x. x.0 == t) v.mine
+
+-- the pass has posted tile t once, by its own number
+abbrev pub HasPostedOnce : ℕ → View → Type 0
+HasPostedOnce t v = posts_of t v ≡ (t, v.number) ∷ []
+
+-- tile t is posted, for the first time, and the pass has no slots
+pub record Posted (t : ℕ) (m n : Me Cell View) : Type 0 where
+  pub after : n ≡ (posted_view m.0 t, [])
+  pub once : HasPostedOnce t n.0
 
 -- ---- split and join
 
@@ -187,4 +196,8 @@ new_view v = record { number = v.made; made = 0; seen = None; looks = 0; held = 
 
 -- the view after a join with a pass of view u
 abbrev pub joined_view : View → View → View
-joined_view v u = record v { mine = v.mine ++ u.mine; parts = min 256 (v.parts + u.parts) }
+joined_view v u = record v { mine = v.mine ++ u.mine; parts = v.parts + u.parts }
+
+-- the pass is unchanged, and has no more parts than the board
+abbrev pub Counted : Me Cell View → Me Cell View → Type 0
+Counted m n = (n ≡ m) × (n.0.parts ≤ 256)

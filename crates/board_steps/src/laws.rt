@@ -1,5 +1,5 @@
 //! What the rule means, each law as the contract of a function with an empty body.
-ghost use Rattle.std.specs.Prelude.{◌≡◌, ◌<◌, ◌↔◌, None, Some, false, ℕ};
+ghost use Rattle.std.specs.Prelude.{[], ◌+◌, ◌≡◌, ◌<◌, ◌≤◌, ◌∷◌, ◌↔◌, None, Some, false, ℕ};
 ghost use Rattle.atomic_table.specs.Table.{State};
 ghost use Rattle.board_core.specs.Legal.{Legal};
 ghost use Rattle.board_core.specs.Steps.{Gives};
@@ -10,12 +10,13 @@ ghost use Rattle.tile_shape.specs.declared.tiles.Dir.{Dir};
 ghost use Rattle.tile_shape.specs.declared.tiles.Place.{Place};
 ghost use Rattle.tile_shape.specs.declared.tiles.Shape.{Shape};
 ghost use Rattle.board_steps.specs.Clauses.{Clauses};
+ghost use Rattle.board_steps.specs.Examples.{holder, poster};
 ghost use Rattle.board_steps.specs.Graph.{IsGraph, graph_of};
 ghost use Rattle.board_core.specs.Numbers.{number_of, place_of};
 ghost use Rattle.board_steps.specs.Rule.{Ruled, has, setting_of, spent};
 ghost use Rattle.board_steps.specs.Shown.{IsEvent, Joins, Moves, Splits, shown};
 ghost use Rattle.board_steps.specs.Steps.{AllSent, index_of, joined_view, kept_view, looked, new_view, posted_view};
-ghost use Rattle.board_steps.specs.Steps.{sent_view, taken};
+ghost use Rattle.board_steps.specs.Steps.{HasPostedOnce, posts_of, sent_view, taken};
 ghost use Rattle.board_steps.specs.declared.rule.Cell.{Cell};
 ghost use Rattle.board_steps.specs.declared.rule.Slab.{Slab};
 ghost use Rattle.board_steps.specs.declared.rule.View.{View};
@@ -55,6 +56,23 @@ pub fn steps_are_events()
         → IsTile (window_of b.rows.value) p → v.held ≡ Some (number_of (window_of b.rows.value) p)
         → AllSent (setting_of b).graph (number_of (window_of b.rows.value) p) v
         → Moves b s s' id v (posted_view v (number_of (window_of b.rows.value) p)) → IsEvent b s s' (Post p v.number) }
+{}
+
+/// A join adds the parts of the two passes: together they have no more than the board's 256.
+pub fn a_join_adds_the_parts()
+    ensures { (b : Slab) (s : State Cell View) (s' : State Cell View) (id : ℕ) (other : ℕ) (v : View) (u : View)
+        → Joins b s s' id other v u (joined_view v u) spent
+        → ((joined_view v u).parts ≡ v.parts + u.parts) × (v.parts + u.parts ≤ 256) }
+{}
+
+/// Of the tiles that a pass posts each is in its list once, also where it joins another pass while it holds a tile:
+/// here pass 0, which has posted tiles 0 and 1, holds tile 4, joins pass 2, which has posted 2 and 3, and posts tile 4.
+pub fn a_post_after_a_join()
+    ensures joined { (b : Slab) → (joined_view (holder b) (poster b)).mine
+        ≡ (1, 0) ∷ (0, 0) ∷ (3, 2) ∷ (2, 2) ∷ [] }
+    ensures posted { (b : Slab) → HasPostedOnce 4 (posted_view (joined_view (holder b) (poster b)) 4) }
+    ensures others { (b : Slab) → posts_of 2 (posted_view (joined_view (holder b) (poster b)) 4) ≡ (2, 2) ∷ [] }
+    ensures twice { (b : Slab) → HasPostedOnce 1 (posted_view (holder b) 1) → ⊥ }
 {}
 
 /// A look, a split and a join leave what is shown unchanged.

@@ -7,7 +7,8 @@
 //!   is tested.
 //! - `look`, `take`, `send` and `post` are one atomic step on a word each, and `cut` and `unite` make two passes of one
 //!   and one of two. Each keeps the rule `Tiles`, whatever other passes do meanwhile, and none takes memory. `Looked`,
-//!   `Took`, `SentTo` and `Posted` say what the pass knows and which slots it has after a step.
+//!   `Took`, `SentTo` and `Posted` say what the pass knows and which slots it has after a step; a tile that is posted
+//!   is in the pass's list just once. A join adds the parts of the two passes, which together have at most 256.
 //! - `close`: a pass that has posted every tile posted each once, and the slots that no tile receives have what the
 //!   tiles give.
 //!
@@ -15,7 +16,7 @@
 //! exactly where one does, and an arrival bit exactly where the edge was sent (`the_rule_in_plain_words`). Such a state
 //! shows a legal state of `board_core` (`what_is_shown_is_legal`). `take`, `send` and `post` show as the events of that
 //! name, which the core accepts (`steps_are_events`), and the other steps leave what is shown
-//! (`other_steps_show_nothing`).
+//! (`other_steps_show_nothing`). Two passes that join have at most 256 parts together (`a_join_adds_the_parts`).
 #![tactic(auto)]
 
 mod ends;

@@ -101,6 +101,15 @@ impl Play<Cell, View> for Posts {
     ghost then = { λ st m r n. Posted st.word m n };
 }
 
+/// A count of parts: an atomic load.
+pub struct Counts;
+
+impl Play<Cell, View> for Counts {
+    ghost use Rattle.board_steps.specs.Steps.{Counted};
+
+    ghost then = { λ st m r n. Counted m n };
+}
+
 /// A cut: one pass becomes two.
 pub struct Cuts;
 

@@ -1,10 +1,10 @@
 //! The atomic steps of a pass.
-ghost use Rattle.std.specs.Prelude.{◌≡◌, ◌<◌, ◌≤◌, None, [], ℕ};
+ghost use Rattle.std.specs.Prelude.{◌≡◌, ◌<◌, ◌≤◌, None, [], ℕ, ◌+◌};
 ghost use Rattle.board_steps.specs.Rule.{setting_of};
 ghost use Rattle.board_steps.specs.Steps.{IsReadyFor, Looked, MayPost, MaySend, Posted, SentTo, Took, bit_of, index_of};
 ghost use Rattle.board_steps.specs.Steps.{joined_view, kept_view, new_view};
 
-use crate::rule::{Cuts, Joins, Looks, Posts, Seated, Sends, Takes, Words};
+use crate::rule::{Counts, Cuts, Joins, Looks, Posts, Seated, Sends, Takes, Words};
 use tile_shape::Dir;
 
 // The bit of a word that says that the tile is taken.
@@ -62,7 +62,8 @@ pub fn send(words: &Words, seat: &mut Seated, dir: Dir, to: usize)
     words.fetch_or::<Sends>(seat, to, arrival_bit(dir));
 }
 
-/// Posts tile `at`, which the pass holds. All slots that the pass has go back to the table.
+/// Posts tile `at`, which the pass holds. All slots that the pass has go back to the table. No pass has posted the tile
+/// before, so the pass's list has it once, also where the pass has joined another since it took the tile.
 pub fn post(words: &Words, seat: &mut Seated, at: usize)
     requires table { (seat.old.table_id ≡ words.now.table_id) × (at < words.now.table_id.words) }
     requires part { 1 ≤ seat.old.me.0.parts }
@@ -85,7 +86,8 @@ pub fn cut(words: &Words, seat: &mut Seated) -> Seated
     words.split_seat::<Cuts>(seat)
 }
 
-/// Joins `other`, which holds nothing, to a pass, which then has its parts and the tiles that it posted.
+/// Joins `other`, which holds nothing, to a pass, which then has its parts and the tiles that it posted. Together they
+/// have at most the board's 256 parts.
 pub fn unite(words: &Words, seat: &mut Seated, other: Seated)
     requires table { (seat.old.table_id ≡ words.now.table_id) × (other.table_id ≡ words.now.table_id)
         × (0 < words.now.table_id.words) }
@@ -93,6 +95,8 @@ pub fn unite(words: &Words, seat: &mut Seated, other: Seated)
     requires idle { (other.me.0.held ≡ None) × (other.me.1 ≡ []) }
     ensures seat { (seat.new.table_id ≡ seat.old.table_id) × (seat.new.id ≡ seat.old.id) }
     ensures joined { seat.new.me ≡ (joined_view seat.old.me.0 other.me.0, seat.old.me.1) }
+    ensures parts { seat.old.me.0.parts + other.me.0.parts ≤ 256 }
 {
     words.join_seat::<Joins>(seat, other);
+    words.load::<Counts>(seat, 0);
 }

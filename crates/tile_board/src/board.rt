@@ -1,6 +1,6 @@
 //! The calls of a board and of its passes.
-ghost use Rattle.board_steps.specs.Steps.{joined_view, kept_view, new_view, posted_view};
-ghost use Rattle.std.specs.Prelude.{IsTrue, None, Some, ◌%◌, ◌/◌, ◌<◌, ◌≡◌, ◌≤◌, ◌↔◌};
+ghost use Rattle.board_steps.specs.Steps.{HasPostedOnce, joined_view, kept_view, new_view, posted_view};
+ghost use Rattle.std.specs.Prelude.{IsTrue, None, Some, ◌%◌, ◌+◌, ◌/◌, ◌<◌, ◌≡◌, ◌≤◌, ◌↔◌};
 ghost use Rattle.tile_board.specs.Board.{Claimed, IsPassOf, Lacks, got, holding, slab, view};
 ghost use Rattle.tile_board.specs.Hand.{held_number};
 ghost use Rattle.tile_board.specs.Slabs.{number_in, shape_of};
@@ -13,9 +13,6 @@ use board_steps::{Cell, cut, look, post, take, unite};
 use tile_border::{Done, Task};
 use tile_content::done_is_whole;
 use tile_shape::{Dir, Needs, Place};
-
-// The parts of all passes of a board together.
-const MOST_PARTS: u16 = 256;
 
 impl Pass {
     /// The tile that the pass holds.
@@ -73,13 +70,15 @@ impl<'a> Board<'a> {
     }
 
     /// Takes back what the tile that a pass holds gives: sends its edges to the tiles that receive them, and keeps its
-    /// dots. The pass holds no tile then, and has posted this one.
+    /// dots. The pass holds no tile then, and its list has this one just once, with the pass's number, also where the
+    /// pass has joined another since it claimed the tile.
     pub fn post(&self, p: &mut Pass, d: Done)
         requires pass { IsPassOf self.now p.old }
         requires held { holding p.old ≡ Some d.place }
         requires done { IsDoneOf (slab self.now) d }
         ensures pass { IsPassOf self.now p.new }
         ensures view { view p.new ≡ posted_view (view p.old) (number_in (slab self.now) d.place) }
+        ensures once { HasPostedOnce (number_in (slab self.now) d.place) (view p.new) }
         ensures holds { holding p.new ≡ None }
     {
         done_is_whole(&d);
@@ -119,12 +118,15 @@ impl<'a> Board<'a> {
         }
     }
 
-    /// Joins pass `q`, which holds nothing, to pass `p`, which then has its parts and the tiles that it posted.
+    /// Joins pass `q`, which holds nothing, to pass `p`, which then has its parts and the tiles that it posted. `p` may
+    /// hold a tile, and goes on holding it.
     pub fn join(&self, p: &mut Pass, q: Pass)
         requires passes { IsPassOf self.now p.old × IsPassOf self.now q }
         requires idle { (view q).held ≡ None }
         ensures pass { IsPassOf self.now p.new }
         ensures view { view p.new ≡ joined_view (view p.old) (view q) }
+        ensures parts { (view p.new).parts ≡ (view p.old).parts + (view q).parts }
+        ensures few { (view p.new).parts ≤ 256 }
         ensures holds { holding p.new ≡ holding p.old }
     {
         let Pass {
@@ -133,7 +135,7 @@ impl<'a> Board<'a> {
             parts,
         } = q;
         unite(&self.table.shared, &mut p.seat, seat);
-        p.parts = MOST_PARTS.min(p.parts + parts);
+        p.parts += parts;
     }
 }
 
