@@ -1,6 +1,6 @@
 //! Teams of several sizes, and workers that gates watch or hold back.
 use crate::gates::{CountingGate, HoldingGate, MeetingGate};
-use crate::windows::{Case, is_right};
+use crate::windows::{Case, is_right, rows_of};
 use diffusion_kernel::Kernel;
 use std::sync::atomic::{AtomicU64, Ordering};
 use wavefront_team::OpenGate;
@@ -54,6 +54,76 @@ fn two_tiles_are_inside_the_gate_at_once(rt: HostRuntime) {
     };
     is_right(&rt, rt.alloc(), &LEVEL, 2, &gate);
     assert_eq!(rt; gate.met.load(Ordering::SeqCst), 2);
+}
+
+// Rows of the dots of the level slab by Floyd and Steinberg's kernel, as an independent program computed them.
+const KNOWN_ROWS: [(usize, [u8; 25]); 5] = [
+    (
+        0,
+        [
+            0x49, 0x24, 0x92, 0x49, 0x24, 0x92, 0x49, 0x24, 0x92, 0x49, 0x24, 0x92, 0x49, 0x24,
+            0x92, 0x49, 0x24, 0x92, 0x49, 0x24, 0x92, 0x49, 0x24, 0x92, 0x49,
+        ],
+    ),
+    (
+        1,
+        [
+            0x54, 0xAA, 0x55, 0x2A, 0x95, 0x4A, 0xA5, 0x52, 0xA9, 0x54, 0xAA, 0x55, 0x2A, 0x95,
+            0x4A, 0xA5, 0x52, 0xA9, 0x54, 0xAA, 0x55, 0x2A, 0x95, 0x4A, 0xA4,
+        ],
+    ),
+    (
+        2,
+        [
+            0x4A, 0x92, 0xA4, 0xA4, 0xA9, 0x29, 0x2A, 0x4A, 0x4A, 0x92, 0x92, 0xA4, 0xA4, 0xA9,
+            0x29, 0x2A, 0x4A, 0x4A, 0x92, 0x92, 0xA4, 0xA4, 0xA9, 0x29, 0x2A,
+        ],
+    ),
+    (
+        3,
+        [
+            0x24, 0xA9, 0x12, 0x92, 0x44, 0xA4, 0x91, 0x29, 0x24, 0x4A, 0x49, 0x12, 0x92, 0x44,
+            0xA4, 0x91, 0x29, 0x24, 0x4A, 0x49, 0x12, 0x92, 0x44, 0xA4, 0x92,
+        ],
+    ),
+    (
+        69,
+        [
+            0x24, 0xA8, 0xA5, 0x29, 0x24, 0x92, 0x52, 0x49, 0x29, 0x2A, 0x54, 0x8A, 0x4A, 0x45,
+            0x52, 0x4A, 0x95, 0x54, 0x92, 0xA5, 0x2A, 0xA2, 0x54, 0x95, 0x55,
+        ],
+    ),
+];
+
+// How many bytes and dots rows have, and the hash FNV-1a of all of them.
+fn measured(rows: &[u8]) -> (usize, u64, u64) {
+    let mut dots = 0u64;
+    let mut hash = 0xCBF2_9CE4_8422_2325u64;
+    for byte in rows {
+        dots = dots.wrapping_add(u64::from(byte.count_ones()));
+        hash = (hash ^ u64::from(*byte)).wrapping_mul(0x100_0000_01B3);
+    }
+    (rows.len(), dots, hash)
+}
+
+#[test]
+fn two_tiles_inside_the_gate_give_the_known_dots(rt: HostRuntime) {
+    let gate = MeetingGate {
+        came: AtomicU64::new(0),
+        met: AtomicU64::new(0),
+    };
+    let Some(rows) = rows_of(&rt, rt.alloc(), &LEVEL, 2, &gate) else {
+        panic!(rt; "memory");
+    };
+    assert_eq!(rt; gate.met.load(Ordering::SeqCst), 2);
+    assert_eq!(rt;
+        measured(rows.as_slice()),
+        (1750, 5478, 0x2A21_B4D5_2C4F_EE94)
+    );
+    for (y, row) in &KNOWN_ROWS {
+        let found = rows.as_slice().chunks_exact(25).nth(*y);
+        assert!(rt; found == Some(row.as_slice()), "row {y}");
+    }
 }
 
 #[test]

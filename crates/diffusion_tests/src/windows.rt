@@ -237,6 +237,32 @@ fn wrong_in<R: Threads + Sync, G: Gate + Sync>(
     Some(wrong)
 }
 
+/// The rows of a window of one ink, one after another, as this many workers diffuse it.
+pub(crate) fn rows_of<R: Threads + Sync, G: Gate + Sync>(
+    threads: &R,
+    alloc: Global,
+    case: &Case,
+    workers: u8,
+    gate: &G,
+) -> Option<Vec<u8>> {
+    let team = Team {
+        threads,
+        workers: workers.clamp(1, 64),
+        gate,
+    };
+    let mut planes = spotted(alloc, case.width, case.height(), case.inks)?;
+    let top = top_of(alloc, case.width, case.inks, case.error)?;
+    let _bottom = diffuse_slabs(&team, alloc, case, top, &mut planes)?;
+    let mut rows = Vec::new(alloc);
+    for y in 0..case.height() {
+        let at = y.saturating_add(ABOVE);
+        if at < planes.rows() && 0 < planes.inks() {
+            rows.extend_from_slice(planes.row(0, at)).ok()?;
+        }
+    }
+    Some(rows)
+}
+
 /// Diffuses a window by this many workers, and compares its dots and its bottom errors with the plain program's.
 pub(crate) fn is_right<R: Abort + Threads + Sync, G: Gate + Sync>(
     rt: &R,

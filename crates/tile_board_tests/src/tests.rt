@@ -246,6 +246,31 @@ fn diffuse<R: Threads + Sync>(
     }
 }
 
+// Diffuses the level rows by two passes, of which the first joins the other while it holds a tile.
+fn diffuse_joining(alloc: Global) -> Option<Closed> {
+    let rows = level_rows(alloc)?;
+    let Ok(top) = TopEdges::zero(alloc, rows.shape().columns(), 1) else {
+        return None;
+    };
+    let Ok((board, mut p)) = Board::make(alloc, &rows, Kernel::Floyd, top) else {
+        return None;
+    };
+    let mut q = board.split(&mut p);
+    has_posted(&board, &mut p, Place { c: 0, j: 0 });
+    has_posted(&board, &mut q, Place { c: 1, j: 0 });
+    let Claim::Got(task) = board.claim(&mut p, Place { c: 0, j: 1 }) else {
+        return None;
+    };
+    board.join(&mut p, q);
+    let done = board.work(task);
+    board.post(&mut p, done);
+    if finish(&board, rows.shape(), &mut p) {
+        Some(board.close(p))
+    } else {
+        None
+    }
+}
+
 // The dots of 200 columns and 70 rows of one ink, laid into planes.
 fn laid(alloc: Global, tiles: &[TileDots]) -> Option<Planes>
     ensures rows { IfSome result (λ planes. planes.rows ≡ 70) }
@@ -295,21 +320,32 @@ fn same<T: PartialEq + Debug>(rt: &impl Abort, at: &str, got: &T, want: &T) {
     assert_eq!(rt; *got, *want, "at {at}");
 }
 
+// Stops the test where a board was not closed with the known dots.
+fn has_known_dots(rt: &impl Abort, alloc: Global, closed: Option<Closed>) {
+    let Some(closed) = closed else {
+        panic!(rt; "not closed");
+    };
+    let Some(planes) = laid(alloc, closed.dots.as_slice()) else {
+        panic!(rt; "memory");
+    };
+    let sizes = (closed.dots.len(), planes.count(0));
+    same(rt, "the tiles and dots", &sizes, &(15, KNOWN_COUNT));
+    let found = (known_rows(&planes), hash_of(&planes));
+    same(rt, "the known rows", &found, &(5, KNOWN_HASH));
+}
+
 #[test]
 fn two_passes_give_the_known_dots(rt: HostRuntime) {
     let Some(rows) = level_rows(rt.alloc()) else {
         panic!(rt; "memory");
     };
     for with_threads in [false, true] {
-        let Some(closed) = diffuse(&rt, rt.alloc(), &rows, with_threads) else {
-            panic!(rt; "not closed");
-        };
-        let Some(planes) = laid(rt.alloc(), closed.dots.as_slice()) else {
-            panic!(rt; "memory");
-        };
-        let sizes = (closed.dots.len(), planes.count(0));
-        same(&rt, "the tiles and dots", &sizes, &(15, KNOWN_COUNT));
-        let found = (known_rows(&planes), hash_of(&planes));
-        same(&rt, "the known rows", &found, &(5, KNOWN_HASH));
+        let closed = diffuse(&rt, rt.alloc(), &rows, with_threads);
+        has_known_dots(&rt, rt.alloc(), closed);
     }
+}
+
+#[test]
+fn a_pass_joins_another_while_it_holds_a_tile(rt: HostRuntime) {
+    has_known_dots(&rt, rt.alloc(), diffuse_joining(rt.alloc()));
 }
