@@ -11,7 +11,6 @@ use crate::kinds::{Board, Claim, Pass};
 use crate::room::{DOTS, slot_of};
 use board_steps::{Cell, cut, look, post, take, unite};
 use tile_border::{Done, Task};
-use tile_content::done_is_whole;
 use tile_shape::{Dir, Needs, Place};
 
 impl Pass {
@@ -81,7 +80,6 @@ impl<'a> Board<'a> {
         ensures once { HasPostedOnce (number_in (slab self.now) d.place) (view p.new) }
         ensures holds { holding p.new ≡ None }
     {
-        done_is_whole(&d);
         let Done {
             place,
             dots,

@@ -10,20 +10,20 @@ use Rattle.dot_planes.specs.Tables.{AmountTable}
 use Rattle.tile_lanes.specs.Done.{IsDone, IsReady, plane_of}
 use Rattle.tile_shape.specs.declared.tiles.Place.{Place}
 use Rattle.tile_border.specs.Inks.{AreInks, errors_of}
-use Rattle.tile_border.specs.Works.{Border, SameInk, Works, WorksInk}
+use Rattle.tile_border.specs.Works.{Border, IsWholeInk, SameInk, Works, WorksInk}
 
-done_same : (k : Kernel) (rows : AmountTable) (p : Place) (i : ℕ) (e : Errors) (s s1 b b1 q q1 : List ℤ) (d d1 : List ℕ) → s1 ≡ s → b1 ≡ b
+done_same : (k : Kernel) (rows : AmountTable) (p : Place) (i : ℕ) (e : Errors) {s s1 b b1 q q1 : List ℤ} {d d1 : List ℕ} → s1 ≡ s → b1 ≡ b
     → q1 ≡ q → d1 ≡ d
     → IsDone (table_of k) (plane_of rows i) e p s b q d → IsDone (table_of k) (plane_of rows i) e p s1 b1 q1 d1
-done_same k rows p i e s s1 b b1 q q1 d d1 side band corner bits done =
+done_same k rows p i e {s} {s1} {b} {b1} {q} {q1} {d} {d1} side band corner bits done =
     let S : List ℤ → Type 0 = λ x. IsDone (table_of k) (plane_of rows i) e p x b q d in
     let B : List ℤ → Type 0 = λ x. IsDone (table_of k) (plane_of rows i) e p s1 x q d in
     let Q : List ℤ → Type 0 = λ x. IsDone (table_of k) (plane_of rows i) e p s1 b1 x d in
     let D : List ℕ → Type 0 = λ x. IsDone (table_of k) (plane_of rows i) e p s1 b1 q1 x in
     subst D (sym bits) (subst Q (sym corner) (subst B (sym band) (subst S (sym side) done)))
 
-ready_same : (p : Place) (e : Errors) (s s1 b b1 q q1 : List ℤ) → s1 ≡ s → b1 ≡ b → q1 ≡ q → IsReady e p s b q → IsReady e p s1 b1 q1
-ready_same p e s s1 b b1 q q1 side band corner ready =
+ready_same : (p : Place) (e : Errors) {s s1 b b1 q q1 : List ℤ} → s1 ≡ s → b1 ≡ b → q1 ≡ q → IsReady e p s b q → IsReady e p s1 b1 q1
+ready_same p e {s} {s1} {b} {b1} {q} {q1} side band corner ready =
     let S : List ℤ → Type 0 = λ x. IsReady e p x b q in
     let B : List ℤ → Type 0 = λ x. IsReady e p s1 x q in
     let Q : List ℤ → Type 0 = λ x. IsReady e p s1 b1 x in
@@ -33,13 +33,13 @@ ready_same p e s s1 b b1 q q1 side band corner ready =
 stays : (k : Kernel) (rows : AmountTable) (p : Place) (i : ℕ) (old mid new : Border) → SameInk i mid new → Works k rows p i old mid
     → Works k rows p i old new
 stays k rows p i old mid new same works = λ e solves ready.
-    done_same k rows p i e _ _ _ _ _ _ _ _ same.side same.band same.corner same.bits (works e solves ready)
+    done_same k rows p i e same.side same.band same.corner same.bits (works e solves ready)
 
 -- what was not begun is as it was
 begins : (k : Kernel) (rows : AmountTable) (p : Place) (i : ℕ) (old mid new : Border) → SameInk i old mid → Works k rows p i mid new
     → Works k rows p i old new
 begins k rows p i old mid new same works = λ e solves ready.
-    works e solves (ready_same p e _ _ _ _ _ _ same.side same.band same.corner ready)
+    works e solves (ready_same p e same.side same.band same.corner ready)
 
 pub same_all : (i : ℕ) (b : Border) → SameInk i b b
 same_all i b = record { side = refl; band = refl; corner = refl; bits = refl }
@@ -64,6 +64,22 @@ done_more k rows p n old mid new step done rest i upto = elim (cases_eq i n) [
 pub rest_more : (k : Kernel) (rows : AmountTable) (p : Place) (n : ℕ) (old mid new : Border) → WorksInk k rows p n mid new
     → ((i : ℕ) → n ≤ i → SameInk i old mid) → (i : ℕ) → n + 1 ≤ i → SameInk i old new
 rest_more k rows p n old mid new step rest i after = then_same i old mid new (rest i (omega arith)) (step.others i (omega arith))
+
+whole_same : (i : ℕ) (mid new : Border) → SameInk i mid new → IsWholeInk i mid → IsWholeInk i new
+whole_same i mid new same whole = record {
+  side = ap length same.side ∙ whole.side;
+  band = ap length same.band ∙ whole.band;
+  corner = ap length same.corner ∙ whole.corner;
+  bits = ap length same.bits ∙ whole.bits;
+  bytes = λ n. let Q : List ℕ → Type 0 = λ xs. get_or xs n 0 < 256 in subst Q (sym same.bits) (whole.bytes n);
+}
+
+pub whole_more : (k : Kernel) (rows : AmountTable) (p : Place) (n : ℕ) (mid new : Border) → WorksInk k rows p n mid new
+    → IsWholeInk n new → ((i : ℕ) → i < n → IsWholeInk i mid) → (i : ℕ) → i < n + 1 → IsWholeInk i new
+whole_more k rows p n mid new step now before i upto = elim (cases_eq i n) [
+  | inl here ↦ let Q : ℕ → Type 0 = λ m. IsWholeInk m new in subst Q (sym here) now
+  | inr earlier ↦ whole_same i mid new (step.others i earlier) (before i (omega arith))
+]
 
 -- ---- one ink is set
 
@@ -120,9 +136,9 @@ pub works_ink : (k : Kernel) (rows : AmountTable) (p : Place) (i at : ℕ) (s sv
     → WorksInk k rows p i (record { side = sv; band = bv; corner = qv; bits = d })
     (record { side = set s at sx; band = set b at bx; corner = set q at qx; bits = set d i dx })
 works_ink k rows p i at s sv b bv q qv d sx so bx bo qx qo dx same room ws wb wq done = record {
-  works = λ e solves ready. done_same k rows p i e sx _ bx _ qx _ dx _
+  works = λ e solves ready. done_same k rows p i e
       (set_here s at i sx same ws.room) (set_here b at i bx same wb.room) (set_here q at i qx same wq.room) (set_here d i i dx refl room)
-      (done e solves (ready_same p e _ so _ bo _ qo
+      (done e solves (ready_same p e
       (sym (read_here s sv at i so ws.is same ws.room ws.read)) (sym (read_here b bv at i bo wb.is same wb.room wb.read))
       (sym (read_here q qv at i qo wq.is same wq.room wq.read)) ready));
   others = λ j other. record {

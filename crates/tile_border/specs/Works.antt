@@ -1,5 +1,5 @@
 -- What a tile gives for what it is handed.
-use Rattle.std.specs.Prelude.{◌≡◌, ◌≢◌, ℕ, ℤ, List, [], length, slice_index_or}
+use Rattle.std.specs.Prelude.{◌≡◌, ◌≢◌, ℕ, ℤ, ◌<◌, List, [], length, slice_index, slice_index_or}
 use Rattle.diffusion_kernel.specs.Tables.{table_of}
 use Rattle.diffusion_kernel.specs.declared.tables.Kernel.{Kernel}
 use Rattle.dot_planes.specs.Tables.{AmountTable}
@@ -20,6 +20,30 @@ pub record HasInks (inks : ℕ) (b : Border) : Type 0 where
   pub band : length b.band ≡ inks
   pub corner : length b.corner ≡ inks
   pub bits : length b.bits ≡ inks
+
+-- each of the lists has this length
+abbrev pub AllLong : {A : Type 0} → ℕ → List (List A) → Type 0
+AllLong len xs = (i : ℕ) → i < length xs → length (slice_index_or xs i []) ≡ len
+
+-- each value of each of the lists is below 256
+abbrev pub AllBytes : List (List ℕ) → Type 0
+AllBytes xs = (i : ℕ) → i < length xs → (n : ℕ) → slice_index (slice_index_or xs i []) n < 256
+
+-- in each ink the edges have 192, 128 and 12 errors, and the dots 256 bytes
+pub record IsWhole (b : Border) : Type 0 where
+  pub side : AllLong 192 b.side
+  pub band : AllLong 128 b.band
+  pub corner : AllLong 12 b.corner
+  pub bits : AllLong 256 b.bits
+  pub bytes : AllBytes b.bits
+
+-- the same of one ink
+pub record IsWholeInk (i : ℕ) (b : Border) : Type 0 where
+  pub side : length (errors_of b.side i) ≡ 192
+  pub band : length (errors_of b.band i) ≡ 128
+  pub corner : length (errors_of b.corner i) ≡ 12
+  pub bits : length (slice_index_or {A = List ℕ} b.bits i []) ≡ 256
+  pub bytes : (n : ℕ) → slice_index (slice_index_or b.bits i []) n < 256
 
 -- one ink is diffused
 abbrev pub Works : Kernel → AmountTable → Place → ℕ → Border → Border → Type 0

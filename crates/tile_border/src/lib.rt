@@ -7,7 +7,8 @@
 //!   them.
 //! - `work`: take any errors that solve the rule for an ink. Where the three edges of the task hold these errors, so do
 //!   the three edges that it gives, and its dots are the rule's; this holds for each ink (`works`). It takes no memory:
-//!   the edges and dots that it gives use the allocations of the task.
+//!   the edges and dots that it gives use the allocations of the task. A `Done` has as many errors and bytes in each
+//!   ink as a tile gives (`IsWhole`).
 //! - `laws::what_work_gives_is_a_record`, `laws::any_order`: tiles of a board are worked, each from the edges that the
 //!   tiles before it gave, from errors 0 where there is no such tile, and in the first band from the top. Whatever the
 //!   order, each tile that is taken or posted has the dots and edges of row-by-row diffusion below the top.
@@ -17,7 +18,9 @@ mod edges;
 pub mod laws;
 mod task;
 mod tops;
+mod wholes;
 
 pub use edges::{BottomEdge, CornerEdge, Edge, RightEdge};
 pub use task::{Done, Task, work};
 pub use tops::TopEdges;
+pub use wholes::dots_are_whole;

@@ -1,10 +1,11 @@
 //! One tile in all its inks.
 ghost use Rattle.std.specs.Prelude.{ℕ, ◌<◌, ◌≡◌};
-ghost use Rattle.tile_border.specs.Works.{HasInks, Works, WorksInk};
+ghost use Rattle.tile_border.specs.Works.{HasInks, IsWhole, Works, WorksInk};
 ghost use Rattle.tile_lanes.specs.Done.{window_of};
 ghost use Rattle.tile_shape.specs.Geometry.{IsTile};
 
 use crate::edges::{BottomEdge, CornerEdge, RightEdge};
+use crate::wholes::ink_is_whole;
 use diffusion_kernel::Kernel;
 use dot_planes::{InkRows, TileBits, TileDots};
 use tile_lanes::diffuse_tile;
@@ -38,6 +39,7 @@ pub struct Done {
     pub bottom: BottomEdge,
     /// Its corner edge.
     pub corner: CornerEdge,
+    pub ghost whole: { IsWhole (record { side = right; band = bottom; corner = corner; bits = dots.bits }) },
 }
 
 /// Diffuses a tile in each ink of the rows. The edges and the dots of the task have as many inks as the rows.
@@ -71,6 +73,7 @@ pub fn work(task: Task, rows: &InkRows, kernel: Kernel) -> Done
             &mut corner,
             &mut bits,
         );
+        ink_is_whole(ink, &right, &bottom, &corner, &bits);
     }
     Done {
         place,

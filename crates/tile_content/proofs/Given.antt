@@ -18,10 +18,10 @@ use Rattle.tile_lanes.specs.Done.{HasDots, plane_of, window_of}
 use Rattle.tile_border.specs.Inks.{errors_of}
 use Rattle.tile_border.specs.Tops.{edges_of}
 use Rattle.tile_border.specs.Worked.{edge_of}
-use Rattle.tile_border.specs.Works.{Border, HasInks, Works}
+use Rattle.tile_border.specs.Works.{Border, HasInks, Works, IsWhole}
 use Rattle.tile_border.proofs.Worked.{HandedLaw}
 use Rattle.tile_content.specs.Content.{block, bottom_of, bottoms, corner_of, dots_of, errors_below, given, list_of, right_of}
-use Rattle.tile_content.specs.Tiles.{AreDone, AreHanded, AreReady, IsHandedTo, IsWhole}
+use Rattle.tile_content.specs.Tiles.{AreDone, AreHanded, AreReady, IsHandedTo}
 use Rattle.tile_content.proofs.Bits.{dots-are, dots-is}
 use Rattle.tile_content.proofs.Blocks.{block-holds, block-is}
 use Rattle.tile_content.proofs.Lists.{list-at, list-is, list-len}

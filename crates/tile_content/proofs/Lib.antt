@@ -2,4 +2,4 @@ pub mod Lists
 pub mod Blocks
 pub mod Bits
 pub mod Given
-pub mod Blanks
+pub mod NoDots

@@ -1,5 +1,5 @@
 -- What it means that the edges that a tile is handed, and the edges and dots that it gives, are right.
-use Rattle.std.specs.Prelude.{◌≡◌, ℕ, ℤ, pos, ◌<◌, List, [], length, replicate, slice_index, slice_index_or}
+use Rattle.std.specs.Prelude.{◌≡◌, ℕ, ℤ, pos, ◌<◌, List, [], length, replicate, slice_index_or}
 use Rattle.diffusion_kernel.specs.Tables.{table_of}
 use Rattle.diffusion_kernel.specs.declared.tables.Kernel.{Kernel}
 use Rattle.dot_planes.specs.Tables.{AmountTable}
@@ -14,22 +14,6 @@ use Rattle.tile_border.specs.Tops.{edges_of}
 use Rattle.tile_border.specs.Worked.{edge_of}
 use Rattle.tile_border.specs.Works.{Border}
 use Rattle.tile_content.specs.Content.{errors_below, given}
-
--- each of the lists has this length
-abbrev pub AllLong : {A : Type 0} → ℕ → List (List A) → Type 0
-AllLong len xs = (i : ℕ) → i < length xs → length (slice_index_or xs i []) ≡ len
-
--- each value of each of the lists is below 256
-abbrev pub AllBytes : List (List ℕ) → Type 0
-AllBytes xs = (i : ℕ) → i < length xs → (n : ℕ) → slice_index (slice_index_or xs i []) n < 256
-
--- in each ink the edges have 192, 128 and 12 errors, and the dots 256 bytes
-pub record IsWhole (b : Border) : Type 0 where
-  pub side : AllLong 192 b.side
-  pub band : AllLong 128 b.band
-  pub corner : AllLong 12 b.corner
-  pub bits : AllLong 256 b.bits
-  pub bytes : AllBytes b.bits
 
 -- In each ink the edges that a tile is handed are those of row-by-row diffusion.
 abbrev pub AreReady : Kernel → AmountTable → List (List (List ℤ)) → Place → Border → Type 0

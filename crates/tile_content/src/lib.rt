@@ -9,11 +9,10 @@
 //!   right edges is right (`what_work_gives_is_right`).
 //! - The bottom edges that `given` says of a band are the band's errors in its last two rows (`bottoms_are_given`).
 //!
-//! `done_is_whole` does nothing: its contract is the lengths of all that a tile gives. `no_dots` makes the dots of a
-//! tile with none set, or answers `Memory`; that it succeeds with ample memory is tested.
+//! `no_dots` makes the dots of a tile with none set, or answers `Memory`; that it succeeds with ample memory is tested.
 #![tactic(auto)]
 
+mod blanks;
 pub mod laws;
-mod wholes;
 
-pub use wholes::{done_is_whole, no_dots};
+pub use blanks::no_dots;

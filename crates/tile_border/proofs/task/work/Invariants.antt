@@ -1,5 +1,5 @@
 use Rattle.std.proofs.Common.{ℕ, ◌<◌, ◌≤◌}
-use Rattle.tile_border.specs.Works.{Border, HasInks, SameInk, Works}
+use Rattle.tile_border.specs.Works.{Border, HasInks, IsWholeInk, SameInk, Works}
 use Rattle.tile_border.proofs.task.work.Given as goal
 
 abbrev pub invariant-loop-ink : goal.invariant-loop-ink
@@ -9,5 +9,6 @@ invariant-loop-ink l =
     record {
       inks : HasInks l.rows.inks now;
       done : (i : ℕ) → i < l.ink → Works l.kernel l.rows l.place i old now;
+      whole : (i : ℕ) → i < l.ink → IsWholeInk i now;
       rest : (i : ℕ) → l.ink ≤ i → SameInk i old now;
     }

@@ -7,7 +7,7 @@ use Rattle.dot_planes.specs.Tables.{row_dot}
 use Rattle.dot_planes.specs.Tiles.{IsBlank}
 use Rattle.dot_planes.proofs.PackedRows.{no_bit}
 use Rattle.base_definitions.specs.Packed.{bit_at}
-use Rattle.tile_content.specs.Tiles.{AllBytes, AllLong}
+use Rattle.tile_border.specs.Works.{AllBytes, AllLong}
 use Rattle.tile_content.proofs.Bits.{tests-are}
 
 zero-at : (len n : ℕ) → get_or (replicate {A = ℕ} len 0) n 0 ≡ 0

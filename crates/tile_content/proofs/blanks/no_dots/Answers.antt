@@ -1,5 +1,5 @@
-use Rattle.tile_content.proofs.Blanks.{blanks}
-use Rattle.tile_content.proofs.wholes.no_dots.Goals as goal
+use Rattle.tile_content.proofs.NoDots.{blanks}
+use Rattle.tile_content.proofs.blanks.no_dots.Goals as goal
 
 pub returns : goal.returns
 returns c =

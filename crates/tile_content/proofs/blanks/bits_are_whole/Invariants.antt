@@ -1,5 +1,5 @@
 use Rattle.std.proofs.Common.{◌≡◌, ℕ, ◌<◌, [], get_or, length}
-use Rattle.tile_content.proofs.wholes.bits_are_whole.Given as goal
+use Rattle.tile_content.proofs.blanks.bits_are_whole.Given as goal
 
 abbrev pub invariant-loop-ink : goal.invariant-loop-ink
 invariant-loop-ink l =
