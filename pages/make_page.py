@@ -5,6 +5,7 @@ colours from white to full, and a ramp of grey.
 """
 
 import struct
+from collections import namedtuple
 from pathlib import Path
 
 WIDTH, HEIGHT, DPI = 200, 120, 360
@@ -12,13 +13,15 @@ COLOUR_WIDTH, COLOUR_HEIGHT = 314, 280
 BLACK, WHITE = b"\x00", b"\xff"
 SYNC_WORD = b"RaS2"
 HEADER_BYTES = 1796
-# ColorSpace, and the colours of a pixel
-SGRAY, SRGB = (18, 1), (19, 3)
+# ColorSpace, the colours of a pixel, and the bits of a colour
+Kind = namedtuple("Kind", "space colours bits")
+SGRAY_8, SRGB_8 = Kind(18, 1, 8), Kind(19, 3, 8)
+BLACK_1, CMYK_8 = Kind(3, 1, 1), Kind(6, 4, 8)
 
 
 def page_header(width, height, dpi, kind):
     """The 1,796 bytes before a page's lines. Every field that is not named here is 0."""
-    space, colours = kind
+    pixel_bits = kind.colours * kind.bits
     header = bytearray(HEADER_BYTES)
     header[0:10] = b"PwgRaster\0"
     fields = {
@@ -27,12 +30,12 @@ def page_header(width, height, dpi, kind):
         340: 1,  # NumCopies
         372: width,  # Width
         376: height,  # Height
-        384: 8,  # BitsPerColor
-        388: 8 * colours,  # BitsPerPixel
-        392: width * colours,  # BytesPerLine
+        384: kind.bits,  # BitsPerColor
+        388: pixel_bits,  # BitsPerPixel
+        392: (width * pixel_bits + 7) // 8,  # BytesPerLine
         396: 0,  # ColorOrder: the colours of a pixel together
-        400: space,  # ColorSpace
-        420: colours,  # NumColors
+        400: kind.space,  # ColorSpace
+        420: kind.colours,  # NumColors
         456: 1,  # CrossFeedTransform
         460: 1,  # FeedTransform
     }
@@ -42,37 +45,40 @@ def page_header(width, height, dpi, kind):
 
 
 def runs_of(line):
-    """The line as (how many, which pixel)."""
+    """The line as (how many, which unit).
+
+    A unit is a pixel, or a byte with eight pixels of one bit.
+    """
     runs = []
-    for pixel in line:
-        if runs and runs[-1][1] == pixel:
+    for unit in line:
+        if runs and runs[-1][1] == unit:
             runs[-1][0] += 1
         else:
-            runs.append([1, pixel])
+            runs.append([1, unit])
     return runs
 
 
 def coded_line(line):
-    """The packets of one line: a run of 2 to 128 like pixels, or a literal of 1 to 128 pixels."""
+    """The packets of one line: a run of 2 to 128 like units, or a literal of 1 to 128 units."""
     packets = bytearray()
     literal = []
 
     def end_literal():
         while literal:
             part = literal[:128]
-            # a literal of one pixel is written as a run of one
+            # a literal of one unit is written as a run of one
             packets.append(257 - len(part) if len(part) > 1 else 0)
             packets.extend(b"".join(part))
             del literal[:128]
 
-    for count, pixel in runs_of(line):
+    for count, unit in runs_of(line):
         if count == 1:
-            literal.append(pixel)
+            literal.append(unit)
             continue
         end_literal()
         for start in range(0, count, 128):
             packets.append(min(128, count - start) - 1)
-            packets += pixel
+            packets += unit
     end_literal()
     return bytes(packets)
 
@@ -124,15 +130,24 @@ def colour_at(x, y):
 
 
 def write_page(name, size, kind, pixel):
+    """Writes a page of this name beside this file; `pixel` gives the bytes of a pixel at a place, or its one bit."""
     width, height = size
     lines = [[pixel(x, y) for x in range(width)] for y in range(height)]
+    if kind.bits == 1:
+        lines = [packed(line) for line in lines]
     page = SYNC_WORD + page_header(width, height, DPI, kind) + coded_lines(lines)
     Path(__file__).with_name(name).write_bytes(page)
 
 
+def packed(bits):
+    """The bytes of a line of bits, the leftmost pixel in the highest bit, and zeros past the last pixel."""
+    whole = bits + [0] * (-len(bits) % 8)
+    return [bytes([sum(128 >> place for place in range(8) if whole[x + place])]) for x in range(0, len(whole), 8)]
+
+
 def main():
-    write_page("sample.pwg", (WIDTH, HEIGHT), SGRAY, pixel_at)
-    write_page("colour.pwg", (COLOUR_WIDTH, COLOUR_HEIGHT), SRGB, colour_at)
+    write_page("sample.pwg", (WIDTH, HEIGHT), SGRAY_8, pixel_at)
+    write_page("colour.pwg", (COLOUR_WIDTH, COLOUR_HEIGHT), SRGB_8, colour_at)
 
 
 if __name__ == "__main__":
