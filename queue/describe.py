@@ -36,10 +36,15 @@ SHEETS = {
     ],
 }
 
+# A kind of pixel: the text that users see, the name in IPP, and its numbers in a page's header (PWG 5102.4)
+Pixels = namedtuple("Pixels", "text ipp_name space bits")
 PIXELS = {
-    "Gray": ("Grayscale", 18),
-    "RGB": ("Color", 19),
+    "RGB": Pixels("Color", "srgb_8", 19, 8),
+    "Gray": Pixels("Grayscale", "sgray_8", 18, 8),
+    "CMYK": Pixels("Cyan, Magenta, Yellow and Black", "cmyk_8", 6, 8),
+    "Black": Pixels("Black, 1 Bit a Pixel", "black_1", 3, 1),
 }
+HEADS = ("escp2-profile 1\n", "escp2-profile 2\n")
 
 KERNELS = [("fs", "Floyd and Steinberg"), ("jjn", "Jarvis, Judice and Ninke"), ("stucki", "Stucki")]
 
@@ -53,7 +58,7 @@ class Profile:
         self.across, self.down = int(pairs["hdpi"]), int(pairs["vdpi"])
         self.left, self.right = (int(pairs[key]) / self.across for key in ("left", "right"))  # inches
         self.top, self.bottom = (int(pairs[key]) / self.down for key in ("top", "bottom"))
-        self.models = ["Gray"] if pairs["inks"] == "k" else ["RGB", "Gray"]
+        self.models = ["Gray", "Black"] if pairs["inks"] == "k" else list(PIXELS)
 
     def takes(self, sheet):
         return sheet.width / 25.4 * self.across <= MOST_COLUMNS and sheet.height / 25.4 <= MOST_INCHES
@@ -153,8 +158,9 @@ def ppd_custom_sheet(profile):
 def ppd_choices(profile):
     resolution = resolution_of(profile)
     models = [
-        (model, PIXELS[model][0],
-         f"<</cupsColorSpace {PIXELS[model][1]}/cupsColorOrder 0/cupsBitsPerColor 8>>setpagedevice")
+        (model, PIXELS[model].text,
+         f"<</cupsColorSpace {PIXELS[model].space}/cupsColorOrder 0/cupsBitsPerColor {PIXELS[model].bits}>>"
+         "setpagedevice")
         for model in profile.models]
     return "\n".join([
         ppd_option("Resolution", "Resolution", [(resolution, resolution.replace("dpi", " DPI"),
@@ -171,6 +177,7 @@ def attributes(profile, name, sheets):
     """The attributes; lengths are in hundredths of a millimetre, and margins are rounded up."""
     colour = profile.models[0] == "RGB"
     names = ",".join(sheet.ipp_name for sheet in sheets)
+    types = ",".join(PIXELS[model].ipp_name for model in profile.models)
     mode = "color" if colour else "monochrome"
     resolution = resolution_of(profile)
     lines = [
@@ -185,7 +192,7 @@ def attributes(profile, name, sheets):
         f"ATTR resolution printer-resolution-supported {resolution}",
         f"ATTR resolution pwg-raster-document-resolution-supported {resolution}",
         "ATTR keyword pwg-raster-document-sheet-back normal",
-        f"ATTR keyword pwg-raster-document-type-supported {'srgb_8,sgray_8' if colour else 'sgray_8'}",
+        f"ATTR keyword pwg-raster-document-type-supported {types}",
         f"ATTR keyword media-default {sheets[0].ipp_name}", f"ATTR keyword media-supported {names}",
         f"ATTR keyword media-ready {sheets[0].ipp_name}"]
     lines += [f"ATTR integer media-{side}-margin-supported {margin}" for side, margin in ipp_margins(profile)]
@@ -209,7 +216,7 @@ def main(words):
     if len(words) not in (2, 3) or words[0] not in descriptions or words[2:] not in ([], ["paper"], ["labels"]):
         sys.exit(__doc__)
     text = sys.stdin.read()
-    if not text.startswith("escp2-profile 1\n"):
+    if not text.startswith(HEADS):
         sys.exit("describe.py: standard input is not the text of a profile")
     profile = Profile(text)
     sheets = [sheet for sheet in SHEETS[(words[2:] or ["paper"])[0]] if profile.takes(sheet)]
