@@ -193,6 +193,15 @@ fault_in_page T want old now before left page (stop.Input number line why) so_fa
 fault_in_page T want old now before left page stop.Read so_far bad = tt
 fault_in_page T want old now before left page stop.Memory so_far bad = tt
 
+-- it is a fault of the page after those that were begun before
+pub place_in_page : (T : Type 0) (want : Wanted) (old now : PageReader)
+    (before left : Option (List ℕ)) (page : Page) (stop : StreamStop) → PageSoFar want old now before left page
+    → OnInput {T = T} (Err stop) (HasLineFault now left)
+    → OnInput {T = T} (Err stop) (λ number line why. number ≡ page_of old + 1)
+place_in_page T want old now before left page (stop.Input number line why) so_far bad = bad.page_is ∙ so_far.number
+place_in_page T want old now before left page stop.Read so_far bad = tt
+place_in_page T want old now before left page stop.Memory so_far bad = tt
+
 -- what was used
 pub uses_more : (a b c : Option (List ℕ)) (bytes : List ℕ) → Consumes a b bytes → UsesSome b c → UsesSome a c
 uses_more a b c bytes first more = record { bytes = bytes ++ more.bytes; is = Consumes-trans a b c bytes more.bytes first more.is }

@@ -54,6 +54,7 @@ pub fn read_page<R: Threads + Sync, S: Source, G: Gate + Sync>(
     ensures input { OnInput result (λ number line cause. IfSome (text_of reader.old (S.left s.old)) (λ text.
         pages_from (wanted_by profile.now) (most_pages - page_of reader.old) (page_of reader.old + 1) text
         ≡ record { pages = []; end = Fault number line cause })) }
+    ensures place { OnInput result (λ number line cause. number ≡ page_of reader.old + 1) }
     ensures read { IsErrOf result stop.Read → Rose (S.faults s.old) (S.faults s.new) }
     ensures used { UsesSome (text_of reader.old (S.left s.old)) (text_of reader.new (S.left s.new)) }
     ensures later { S.faults s.old ≤ S.faults s.new }

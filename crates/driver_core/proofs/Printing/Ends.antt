@@ -10,6 +10,7 @@ use Rattle.driver_answer.specs.declared.answer.Answer.TheVariants as answer
 use Rattle.ink_meter.specs.Accounts.{Account, IsFirstOver, all_inks}
 use Rattle.ink_meter.specs.declared.meters.OverCap.{OverCap}
 use Rattle.page_definitions.specs.Dots.{halftone}
+use Rattle.page_definitions.specs.Printing.{HavePasses}
 use Rattle.page_definitions.specs.PageBytes.{halftone_bytes, page_bytes}
 use Rattle.page_laws.proofs.Headline.{pages-print}
 use Rattle.page_laws.proofs.Rasters.{pages-have}
@@ -95,6 +96,27 @@ appends_kept (Some x) None d bytes grown kept = absurd grown
 appends_kept (Some x) (Some y) None bytes grown kept = absurd kept
 appends_kept (Some x) (Some y) (Some z) bytes grown kept = kept ∙ grown
 
+-- ---- the passes of pages
+
+first_pages : (want : Wanted) (pages others : List Page)
+    → AllByRecursion (IsPage want) (pages ++ others) → AllByRecursion (IsPage want) pages
+first_pages want [] others are = tt
+first_pages want (page ∷ pages) others are = (are.0, first_pages want pages others are.1)
+
+-- pages that a text begins with have no more rasters than passes
+passes_of : (p : Printer) (k : Table) (bytes : List ℕ) (pages : List Page) (most number : ℕ)
+    → CanPrint p → ((rest : List ℕ) → stream (wanted_by p) (bytes ++ rest)
+    ≡ with_pages pages (pages_from (wanted_by p) most number rest)) → HavePasses p k pages
+passes_of p k bytes pages most number can is =
+    let P : List Page → Type 0 = AllByRecursion (IsPage (wanted_by p)) in
+    pages-have p k pages can (first_pages (wanted_by p) pages (pages_from (wanted_by p) most number []).pages
+    (subst P (ap (λ (s : Stream). s.pages) (is [])) (stream-pages (wanted_by p) (bytes ++ []))))
+
+-- the same for the pages before the last
+first_passes : (p : Printer) (k : Table) (pages others : List Page) → HavePasses p k (pages ++ others) → HavePasses p k pages
+first_passes p k [] others have = tt
+first_passes p k (page ∷ pages) others have = (have.0, first_passes p k pages others have.1)
+
 -- ---- the ends
 
 -- the first pages of what was taken, where the rest of the text is not known
@@ -126,6 +148,7 @@ none_printed p k before left held accounts f0 f1 g0 g1 more = (
     pages = [];
     taken = record { bytes = more.bytes; taken = more.is; others = (stream (wanted_by p) more.bytes).pages; are = refl };
     writes = Appends-nil held;
+    passes = tt;
   },
   none_counted p k accounts,
 )
@@ -133,15 +156,16 @@ none_printed p k before left held accounts f0 f1 g0 g1 more = (
 -- the pages that were read so far were printed, and no other
 some_printed : (p : Printer) (k : Table)
     (before left left' held now : Option (List ℕ)) (meters : Meters) (old new : PageReader) (number f0 f2 g0 g1 : ℕ)
-    → (so_far : StreamSoFar p k before left held now old number)
+    → CanPrint p → (so_far : StreamSoFar p k before left held now old number)
     → CountsPages p k meters so_far.done → UsesSome (text_of old left) (text_of new left')
     → PrintsCounted p k (record { before = before; now = left'; faults_before = f0; faults_now = f2 })
     (record { before = held; now = now; faults_before = g0; faults_now = g1 }) meters
-some_printed p k before left left' held now meters old new number f0 f2 g0 g1 so_far counts more = (
+some_printed p k before left left' held now meters old new number f0 f2 g0 g1 can so_far counts more = (
   record {
     pages = so_far.done;
     taken = taken_pages p before (text_of old left) left' new.unread so_far.bytes so_far.done _ _ so_far.used so_far.is more;
     writes = so_far.written;
+    passes = passes_of p k so_far.bytes so_far.done _ _ can so_far.is;
   },
   counts,
 )
@@ -155,48 +179,69 @@ full_before p k input out meters printed = (printed.0, inl printed.1)
 without_sync : (p : Printer) (k : Table) (before left held : Option (List ℕ)) (accounts : List Account) (f0 f1 g0 g1 : ℕ) (why : StreamStop)
     → OnInput {T = PageReader} (Err why) (λ page line cause. IfSome before (λ bytes. (want : Wanted)
     → stream want bytes ≡ record { pages = []; end = Fault page line cause }))
+    → OnInput {T = PageReader} (Err why) (λ page line cause. (page ≡ 0) × (line ≡ 0))
     → (IsErrOf {T = PageReader} (Err why) stop.Read → Rose f0 f1) → UsesSome before left
     → PrintOutcome p k (record { before = before; now = left; faults_before = f0; faults_now = f1 })
     (record { before = held; now = held; faults_before = g0; faults_now = g1 })
     (record { before = accounts; now = accounts }) (stream_answer why)
-without_sync p k before left held accounts f0 f1 g0 g1 (stop.Input page line cause) bad cause_is more =
-    (record { pages = []; told = some before bad; writes = Appends-nil held }, none_counted p k accounts)
+without_sync p k before left held accounts f0 f1 g0 g1 (stop.Input page line cause) bad place cause_is more =
+    (
+      record {
+        pages = [];
+        told = some before bad;
+        stand = omega (arith, place.0);
+        writes = Appends-nil held;
+        passes = tt;
+      },
+      none_counted p k accounts,
+    )
   where
     some : (o : Option (List ℕ))
         → IfSome o (λ bytes. (want : Wanted) → stream want bytes ≡ record { pages = []; end = Fault page line cause })
         → IsStream p o [] (Fault page line cause)
     some None h = tt
     some (Some bytes) h = h (wanted_by p)
-without_sync p k before left held accounts f0 f1 g0 g1 stop.Read bad cause_is more =
+without_sync p k before left held accounts f0 f1 g0 g1 stop.Read bad place cause_is more =
     let none = none_printed p k before left held accounts f0 f1 g0 g1 more in (cause_is refl, none.0, none.1)
-without_sync p k before left held accounts f0 f1 g0 g1 stop.Memory bad cause_is more =
+without_sync p k before left held accounts f0 f1 g0 g1 stop.Memory bad place cause_is more =
     full_before p k _ _ _ (none_printed p k before left held accounts f0 f1 g0 g1 more)
 
 pub no_sync : (p : Printer) (k : Table) (before left held : Option (List ℕ))
     (accounts : List Account) (f0 f1 g0 g1 : ℕ) (why : StreamStop) (a : Answer)
     → OnInput {T = PageReader} (Err why) (λ page line cause. IfSome before (λ bytes. (want : Wanted)
     → stream want bytes ≡ record { pages = []; end = Fault page line cause }))
+    → OnInput {T = PageReader} (Err why) (λ page line cause. (page ≡ 0) × (line ≡ 0))
     → (IsErrOf {T = PageReader} (Err why) stop.Read → Rose f0 f1) → UsesSome before left → a ≡ stream_answer why
     → PrintOutcome p k (record { before = before; now = left; faults_before = f0; faults_now = f1 })
     (record { before = held; now = held; faults_before = g0; faults_now = g1 })
     (record { before = accounts; now = accounts }) a
-no_sync p k before left held accounts f0 f1 g0 g1 why a bad cause_is more is =
+no_sync p k before left held accounts f0 f1 g0 g1 why a bad place cause_is more is =
     subst (PrintOutcome p k (record { before = before; now = left; faults_before = f0; faults_now = f1 })
     (record { before = held; now = held; faults_before = g0; faults_now = g1 })
     (record { before = accounts; now = accounts })) (sym is)
-    (without_sync p k before left held accounts f0 f1 g0 g1 why bad cause_is more)
+    (without_sync p k before left held accounts f0 f1 g0 g1 why bad place cause_is more)
 
 -- the same in a page
 in_page : (T : Type 0) (p : Printer) (k : Table) (before left left' held now : Option (List ℕ))
     (meters : Meters) (old new : PageReader) (number f0 f1 f2 g0 g1 : ℕ) (why : StreamStop)
-    → (so_far : StreamSoFar p k before left held now old number)
+    → CanPrint p → (so_far : StreamSoFar p k before left held now old number)
     → CountsPages p k meters so_far.done → OnInput {T = T} (Err why) (EndsSo (wanted_by p) old left)
+    → OnInput {T = T} (Err why) (λ page line cause. page ≡ page_of old + 1)
     → f0 ≤ f1 → (IsErrOf {T = T} (Err why) stop.Read → Rose f1 f2) → UsesSome (text_of old left) (text_of new left')
     → PrintOutcome p k (record { before = before; now = left'; faults_before = f0; faults_now = f2 })
     (record { before = held; now = now; faults_before = g0; faults_now = g1 }) meters (stream_answer why)
 in_page T p k before left left' held now meters old new number f0 f1 f2 g0 g1
-    (stop.Input page line cause) so_far counts bad later cause_is more =
-    (record { pages = so_far.done; told = told before (text_of old left) so_far.used bad; writes = so_far.written }, counts)
+    (stop.Input page line cause) can so_far counts bad place later cause_is more =
+    (
+      record {
+        pages = so_far.done;
+        told = told before (text_of old left) so_far.used bad;
+        stand = omega (arith, place, so_far.many);
+        writes = so_far.written;
+        passes = passes_of p k so_far.bytes so_far.done _ _ can so_far.is;
+      },
+      counts,
+    )
   where
     told : (a b : Option (List ℕ)) → Consumes a b so_far.bytes
         → IfSome b (λ text. pages_from (wanted_by p) (9999 - page_of old) (page_of old + 1) text
@@ -209,25 +254,26 @@ in_page T p k before left left' held now meters old new number f0 f1 f2 g0 g1
         ∙ ap (λ n. with_pages so_far.done (pages_from (wanted_by p) (9999 - n) (n + 1) ys)) (sym so_far.many)
         ∙ ap (with_pages so_far.done) h
         ∙ ap (λ ps. record { pages = ps; end = Fault page line cause }) (append-nil so_far.done)
-in_page T p k before left left' held now meters old new number f0 f1 f2 g0 g1 stop.Read so_far counts bad later cause_is more =
-    let some = some_printed p k before left left' held now meters old new number f0 f2 g0 g1 so_far counts more in
+in_page T p k before left left' held now meters old new number f0 f1 f2 g0 g1 stop.Read can so_far counts bad place later cause_is more =
+    let some = some_printed p k before left left' held now meters old new number f0 f2 g0 g1 can so_far counts more in
     (rose_from f0 f1 f2 later (cause_is refl), some.0, some.1)
-in_page T p k before left left' held now meters old new number f0 f1 f2 g0 g1 stop.Memory so_far counts bad later cause_is more =
-    full_before p k _ _ _ (some_printed p k before left left' held now meters old new number f0 f2 g0 g1 so_far counts more)
+in_page T p k before left left' held now meters old new number f0 f1 f2 g0 g1 stop.Memory can so_far counts bad place later cause_is more =
+    full_before p k _ _ _ (some_printed p k before left left' held now meters old new number f0 f2 g0 g1 can so_far counts more)
 
 -- the stream stops in its next page
 pub page_stopped : (T : Type 0) (p : Printer) (k : Table) (before left left' held now : Option (List ℕ))
     (meters : Meters) (old new : PageReader) (number f0 f1 f2 g0 g1 : ℕ) (why : StreamStop) (a : Answer)
-    → (so_far : StreamSoFar p k before left held now old number)
+    → CanPrint p → (so_far : StreamSoFar p k before left held now old number)
     → CountsPages p k meters so_far.done → OnInput {T = T} (Err why) (EndsSo (wanted_by p) old left)
+    → OnInput {T = T} (Err why) (λ page line cause. page ≡ page_of old + 1)
     → f0 ≤ f1 → (IsErrOf {T = T} (Err why) stop.Read → Rose f1 f2) → UsesSome (text_of old left) (text_of new left')
     → a ≡ stream_answer why
     → PrintOutcome p k (record { before = before; now = left'; faults_before = f0; faults_now = f2 })
     (record { before = held; now = now; faults_before = g0; faults_now = g1 }) meters a
-page_stopped T p k before left left' held now meters old new number f0 f1 f2 g0 g1 why a so_far counts bad later cause_is more is =
+page_stopped T p k before left left' held now meters old new number f0 f1 f2 g0 g1 why a can so_far counts bad place later cause_is more is =
     subst (PrintOutcome p k (record { before = before; now = left'; faults_before = f0; faults_now = f2 })
     (record { before = held; now = now; faults_before = g0; faults_now = g1 }) meters) (sym is)
-    (in_page T p k before left left' held now meters old new number f0 f1 f2 g0 g1 why so_far counts bad later cause_is more)
+    (in_page T p k before left left' held now meters old new number f0 f1 f2 g0 g1 why can so_far counts bad place later cause_is more)
 
 pages-none : (want : Wanted) (most number : ℕ) → pages_from want most number [] ≡ record { pages = []; end = Done }
 unfolding pages_from
@@ -275,11 +321,11 @@ stream_done p k before left left' held now meters old new number f0 f2 g0 g1 can
 -- a page was read, and a part of its job written
 pub page_not_written : (p : Printer) (k : Table) (before left held now now' : Option (List ℕ))
     (meters : Meters) (reader : PageReader) (number f0 f2 g0 g1 g2 : ℕ) (page : Page)
-    → (read : StreamRead p k before left held now reader number page) → CountsPages p k meters
+    → CanPrint p → (read : StreamRead p k before left held now reader number page) → CountsPages p k meters
     (read.done ++ page ∷ []) → AppendsPart now now' (page_bytes page p k) → g0 ≤ g1 → Rose g1 g2
     → PrintOutcome p k (record { before = before; now = left; faults_before = f0; faults_now = f2 })
     (record { before = held; now = now'; faults_before = g0; faults_now = g2 }) meters (answer.Write number)
-page_not_written p k before left held now now' meters reader number f0 f2 g0 g1 g2 page read counts part later rose = (
+page_not_written p k before left held now now' meters reader number f0 f2 g0 g1 g2 page can read counts part later rose = (
   rose_from g0 g1 g2 later rose,
   record {
     pages = read.done;
@@ -290,6 +336,7 @@ page_not_written p k before left held now now' meters reader number f0 f2 g0 g1 
     between = now;
     whole = read.written;
     part = part;
+    passes = passes_of p k read.bytes (read.done ++ page ∷ []) _ _ can read.is;
   },
   counts,
 )
@@ -297,10 +344,10 @@ page_not_written p k before left held now now' meters reader number f0 f2 g0 g1 
 -- a page was read, and nothing of its job was written
 pub page_without_room : (p : Printer) (k : Table) (before left held now now' : Option (List ℕ))
     (meters : Meters) (reader : PageReader) (number f0 f2 g0 g2 : ℕ) (page : Page)
-    → (read : StreamRead p k before left held now reader number page) → CountsPages p k meters (read.done ++ page ∷ []) → Keeps now now'
+    → CanPrint p → (read : StreamRead p k before left held now reader number page) → CountsPages p k meters (read.done ++ page ∷ []) → Keeps now now'
     → PrintOutcome p k (record { before = before; now = left; faults_before = f0; faults_now = f2 })
     (record { before = held; now = now'; faults_before = g0; faults_now = g2 }) meters answer.Memory
-page_without_room p k before left held now now' meters reader number f0 f2 g0 g2 page read counts kept =
+page_without_room p k before left held now now' meters reader number f0 f2 g0 g2 page can read counts kept =
     let all = taken_pages p before (text_of reader left) left reader.unread read.bytes (read.done ++ page ∷ [])
     _ _ read.used read.is (record { bytes = []; is = Consumes-nil (text_of reader left) }) in (
       record {
@@ -312,6 +359,8 @@ page_without_room p k before left held now now' meters reader number f0 f2 g0 g2
           are = all.are ∙ append_assoc read.done (page ∷ []) all.others;
         };
         writes = appends_kept held now now' (job_bytes p k read.done) read.written kept;
+        passes = first_passes p k read.done (page ∷ [])
+            (passes_of p k read.bytes (read.done ++ page ∷ []) _ _ can read.is);
       },
       inr (record { page = page; later = all.others; next = refl; pages_counted = counts }),
     )
@@ -331,13 +380,13 @@ begins p (Some xs) (Some ys) bytes pages most number uses is = (
 -- a page was read, and goes past a cap
 pub page_over : (p : Printer) (k : Table) (before left held now : Option (List ℕ)) (first last next : List Account)
     (reader : PageReader) (number f0 f2 g0 g1 : ℕ) (page : Page) (n : InkCounts) (a : Answer)
-    → (read : StreamRead p k before left held now reader number page)
+    → CanPrint p → (read : StreamRead p k before left held now reader number page)
     → CountsPages p k (record { before = first; now = last }) read.done
     → n ≡ page_dots page p k → RefusesPage number n last a → next ≡ last
     → PrintOutcome p k (record { before = before; now = left; faults_before = f0; faults_now = f2 })
     (record { before = held; now = now; faults_before = g0; faults_now = g1 })
     (record { before = first; now = next }) a
-page_over p k before left held now first last next reader number f0 f2 g0 g1 page n a read counts are refuses kept =
+page_over p k before left held now first last next reader number f0 f2 g0 g1 page n a can read counts are refuses kept =
     let S : Answer → Type 0 = λ b. PrintOutcome p k (record {
       before = before;
       now = left;
@@ -356,6 +405,8 @@ page_over p k before left held now first last next reader number f0 f2 g0 g1 pag
       told = begins p before (text_of reader left) read.bytes (read.done ++ page ∷ []) _ _ read.used read.is;
       number_is = read.next;
       writes = read.written;
+      passes = first_passes p k read.done (page ∷ [])
+          (passes_of p k read.bytes (read.done ++ page ∷ []) _ _ can read.is);
       pages_counted = record { admitted = counts.admitted; counts = kept ∙ counts.counts };
       index = refuses.index;
       first = subst M (sym kept) (subst F are refuses.first);

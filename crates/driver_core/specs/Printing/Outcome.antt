@@ -1,5 +1,5 @@
 -- The outcomes of printing the pages of a stream: what was read and written, by why it stopped.
-use Rattle.std.specs.Prelude.{◌≡◌, ℕ, ◌+◌, ◌⊎◌, List, [], ◌∷◌, ◌++◌, length, Option}
+use Rattle.std.specs.Prelude.{◌≡◌, ℕ, ◌+◌, ◌-◌, ◌⊎◌, List, [], ◌∷◌, ◌++◌, length, Option}
 use Rattle.std.specs.Io.KnownBytes.{Appends}
 use Rattle.diffusion_definitions.specs.Diffusion.{Table}
 use Rattle.driver_answer.specs.declared.answer.Answer.{Answer}
@@ -28,20 +28,24 @@ pub record PrintsAll (p : Printer) (k : Table) (input out : Outside) : Type 0 wh
   pub prints : Prints p k pages (job_bytes p k pages)
   pub passes : HavePasses p k pages
 
--- The input is a stream of some pages that ends with this fault, and the job of these pages was written.
+-- The input is a stream of some pages that ends with this fault, and the job of these pages was written: those before
+-- the named page, none where page 0, the sync word, is named. They have no more rasters than passes.
 pub record MeetsFault (p : Printer) (k : Table) (input out : Outside) (page line : ℕ) (cause : InputCause) : Type 0 where
   pub pages : List Page
   pub told : IsStream p input.before pages (Fault page line cause)
+  pub stand : length pages ≡ page - 1
   pub writes : Appends out.before out.now (job_bytes p k pages)
+  pub passes : HavePasses p k pages
 
--- The job of some first pages of what was read was written.
+-- The job of some first pages of what was read was written, with no more rasters than passes.
 pub record PrintsSome (p : Printer) (k : Table) (input out : Outside) : Type 0 where
   pub pages : List Page
   pub taken : TakesPages p input.before input.now pages
   pub writes : Appends out.before out.now (job_bytes p k pages)
+  pub passes : HavePasses p k pages
 
 -- The jobs of the pages before this one were written, and a proper prefix of its own. All of them are the first pages
--- of what was read.
+-- of what was read, and have no more rasters than passes.
 pub record StopsInPage (p : Printer) (k : Table) (input out : Outside) (number : ℕ) : Type 0 where
   pub pages : List Page
   pub page : Page
@@ -50,6 +54,7 @@ pub record StopsInPage (p : Printer) (k : Table) (input out : Outside) (number :
   pub between : Option (List ℕ)
   pub whole : Appends out.before between (job_bytes p k pages)
   pub part : AppendsPart between out.now (page_bytes page p k)
+  pub passes : HavePasses p k (pages ++ page ∷ [])
 
 -- Each meter had room for each of these pages, and counted their dots and no others.
 pub record CountsPages (p : Printer) (k : Table) (meters : Meters) (pages : List Page) : Type 0 where
@@ -64,7 +69,7 @@ pub record CountsOneMore (p : Printer) (k : Table) (meters : Meters) (pages othe
   pub pages_counted : CountsPages p k meters (pages ++ page ∷ [])
 
 -- This page was read whole, and the first meter without room for its dots has this total and this cap. The job of the
--- pages before it was written, and these were counted.
+-- pages before it was written, with no more rasters than passes, and these were counted.
 pub record GoesOver (p : Printer) (k : Table) (input out : Outside) (meters : Meters) (number total dots cap : ℕ) : Type 0 where
   pub pages : List Page
   pub page : Page
@@ -72,6 +77,7 @@ pub record GoesOver (p : Printer) (k : Table) (input out : Outside) (meters : Me
   pub told : BeginsStream p input.before (pages ++ page ∷ [])
   pub number_is : number ≡ length pages + 1
   pub writes : Appends out.before out.now (job_bytes p k pages)
+  pub passes : HavePasses p k pages
   pub pages_counted : CountsPages p k meters pages
   pub index : ℕ
   pub first : IsFirstOver meters.now (page_dots page p k) (record { index = index; total = total; cap = cap })

@@ -3,7 +3,7 @@ use Rattle.std.proofs.lemmas.Result.{err_from_is_err_and}
 use Rattle.pwg_definitions.specs.declared.pages.PageForm.{PageForm}
 use Rattle.separation_definitions.specs.Windows.{wanted_by}
 use Rattle.halftone_reader.specs.declared.pages.HalftonedPage.{HalftonedPage}
-use Rattle.halftone_reader.proofs.PageSteps.{fault_in_page, uses_more}
+use Rattle.halftone_reader.proofs.PageSteps.{fault_in_page, place_in_page, uses_more}
 use Rattle.halftone_reader.proofs.HalftoneSteps.{begun-wanted, halftone_begin, halftone_end, halftone_step}
 use Rattle.halftone_reader.proofs.pages.read_page.Goals as goal
 
@@ -28,6 +28,13 @@ pub returns-in_err-repeats-clause-input : goal.returns-in_err-repeats-clause-inp
 returns-in_err-repeats-clause-input g c =
     let error = err_from_is_err_and c.from_residual-in_err-repeats.result c.from_residual-in_err-repeats.ensures.1 in
     rw (error.1, error.2) (fault_in_page (Option HalftonedPage)
+    (wanted_by c.args.profile.now) c.args.reader.now c.groups.reader _ _ _ c.in_err-repeats.field-0.0
+    c.groups.invariant.page.page (c.in_err-repeats.ensures.input c.groups.invariant.page.page.going))
+
+pub returns-in_err-repeats-clause-place : goal.returns-in_err-repeats-clause-place
+returns-in_err-repeats-clause-place g c =
+    let error = err_from_is_err_and c.from_residual-in_err-repeats.result c.from_residual-in_err-repeats.ensures.1 in
+    rw (error.1, error.2) (place_in_page (Option HalftonedPage)
     (wanted_by c.args.profile.now) c.args.reader.now c.groups.reader _ _ _ c.in_err-repeats.field-0.0
     c.groups.invariant.page.page (c.in_err-repeats.ensures.input c.groups.invariant.page.page.going))
 

@@ -16,7 +16,7 @@ use Rattle.driver_core.proofs.print.pages.print_pages.Goals as goal
 pub returns-in-Err : goal.returns-in-Err
 returns-in-Err g c =
     no_sync c.args.profile.now (table_of c.args.kernel) _ _ _ _ _ _ _ _ c.in-Err.stop c.stream_answer.result
-    c.in-Err.ensures.input c.in-Err.ensures.read c.in-Err.ensures.used c.stream_answer.ensures
+    c.in-Err.ensures.input c.in-Err.ensures.place c.in-Err.ensures.read c.in-Err.ensures.used c.stream_answer.ensures
 
 pub pages-init : goal.pages-init
 pages-init g c = record {
@@ -30,8 +30,9 @@ pub returns-in-Err-read_page : goal.returns-in-Err-read_page
 returns-in-Err-read_page g c =
     page_stopped (Option HalftonedPage) c.args.profile.now (table_of c.args.kernel)
     _ _ _ _ _ _ c.pages.reader c.read_page.new.reader c.pages.number _ _ _ _ _ c.in-Err-read_page.stop
-    c.stream_answer-in-Err-read_page.result c.pages.invariant.stream.0 c.pages.invariant.stream.1
-    c.in-Err-read_page.ensures.input c.pages.invariant.read_later c.in-Err-read_page.ensures.read c.read_page.ensures.used
+    c.stream_answer-in-Err-read_page.result (can_print c.args.profile.now (omega arith) c.requires)
+    c.pages.invariant.stream.0 c.pages.invariant.stream.1
+    c.in-Err-read_page.ensures.input c.in-Err-read_page.ensures.place c.pages.invariant.read_later c.in-Err-read_page.ensures.read c.read_page.ensures.used
     c.stream_answer-in-Err-read_page.ensures
 
 pub returns-in-Ok-None : goal.returns-in-Ok-None
@@ -76,7 +77,7 @@ returns-in-Err-Write g c =
     (c.in-Err-Write.ensures.part (halftone page p k) halftoned.dots (ap Err c.in-Err-Write.field-0-is)) in
     page_not_written p k _ _ _ _ _ _ c.read_page.new.reader c.pages.number
     (g.S.Source.faults c.args.input.now) (g.S.Source.faults c.read_page.new.s) _ _ _ page
-    read.0 counts part c.pages.invariant.written_later (c.in-Err-Write.ensures.write (ap Err c.in-Err-Write.field-0-is))
+    (can_print c.args.profile.now (omega arith) c.requires) read.0 counts part c.pages.invariant.written_later (c.in-Err-Write.ensures.write (ap Err c.in-Err-Write.field-0-is))
 
 pub returns-in-Err-Memory : goal.returns-in-Err-Memory
 returns-in-Err-Memory g c =
@@ -91,7 +92,7 @@ returns-in-Err-Memory g c =
     page_without_room p k _ _ _ _ _ _ c.read_page.new.reader c.pages.number
     (g.S.Source.faults c.args.input.now) (g.S.Source.faults c.read_page.new.s)
     (g.K.Sink.faults c.args.out.now) (g.K.Sink.faults c.write_page.new.k) halftoned.page
-    read.0 counts (c.in-Err-Memory.ensures.memory (ap Err c.in-Err-Memory.field-0-is))
+    (can_print c.args.profile.now (omega arith) c.requires) read.0 counts (c.in-Err-Memory.ensures.memory (ap Err c.in-Err-Memory.field-0-is))
 
 pub pages-preserved : goal.pages-preserved
 pages-preserved g c =
@@ -123,4 +124,4 @@ returns-in_err-charge g c =
     rw (error.1, error.2) (page_over p k _ _ _ _ _ _ _ c.read_page.new.reader c.pages.number
     (g.S.Source.faults c.args.input.now) (g.S.Source.faults c.read_page.new.s) (g.K.Sink.faults c.args.out.now)
     (g.K.Sink.faults c.pages.out) page c.count_dots.result c.in_err-charge.field-0.0
-    read.0 read.1 are c.in_err-charge.ensures.over c.in_err-charge.ensures.kept)
+    (can_print c.args.profile.now (omega arith) c.requires) read.0 read.1 are c.in_err-charge.ensures.over c.in_err-charge.ensures.kept)
