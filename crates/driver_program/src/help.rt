@@ -10,12 +10,12 @@ usage: driver_program print [profile=NAME] [kernel=NAME] [workers=NUMBER] [cap=N
        driver_program profile [profile=NAME]
        driver_program --help | --version
 
-print    reads pages from standard input (PWG Raster, PWG 5102.4; 8-bit grey, 8-bit black, 8-bit RGB),
-         separates and diffuses each, and writes their job to standard output
+print    reads pages from standard input (PWG Raster, PWG 5102.4; grey, black, RGB and CMYK of 8 bits a colour,
+         black of one bit), separates and diffuses each, and writes their job to standard output
 dots     reads a job from standard input, runs it on the profile's printer, and writes four images of each
          sheet (raw PBM, kind P4): black, cyan, magenta and yellow
 list     reads a job from standard input, and writes a line for each command
-profile  writes the text of a profile to standard output
+profile  writes the text of a profile to standard output, with all keys: a text of version 1 as one of version 2
 
 profile=NAME    tiny1, tiny, p360k, p360cmyk, p720cmyk, or a file of the current folder
                 (default p360cmyk)
