@@ -79,6 +79,7 @@ curve_at : (curves : List (List ℕ)) (ink : ℕ) → IsOk (first_fault (curve_t
 curve_at curves ink h within = by_place ink within (four_good (good_at 0) (good_at 1) (good_at 2) (good_at 3) h) where
   good_at : ℕ → Bool
   good_at place = is_curve (slice_index_or curves place [])
+
   by_place : (ink : ℕ) → ink < 4
       → (good_at 0 ≡ true) × (good_at 1 ≡ true) × (good_at 2 ≡ true) × (good_at 3 ≡ true) → good_at ink ≡ true
   by_place zero within good = good.0

@@ -9,7 +9,7 @@ use Rattle.std.proofs.lemmas.List.{get_or-set_same, length-set, take_all, take_m
 use Rattle.std.proofs.lemmas.List.Splits.{length-slice_split, slice_split_first, slice_split_none}
 use Rattle.key_values.proofs.Cuts.{some_place}
 use Rattle.key_values.specs.Numbers.{number_within}
-use Rattle.printer_profile.specs.Values.{curve_of_parts, curve_written, is_comma, points_of, with_point}
+use Rattle.printer_profile.specs.Values.{curve_written, is_comma, points_of}
 use Rattle.printer_profile.specs.Views.{has_points}
 use Rattle.printer_profile.proofs.CurveTexts.{digits_no_comma}
 use Rattle.printer_profile.proofs.LineParts.{one_part}
@@ -145,7 +145,7 @@ parts_more curve rest point others place n before long some point_is others_is n
     ∙ ap (λ count. with_front (take place curve) count (point ∷ slice_split is_comma others)) left
     ∙ more_points (take place curve) point (17 - (place + 1)) n (slice_split is_comma others) number
     ∙ ap (λ front. with_front front (17 - (place + 1)) (slice_split is_comma others))
-      (sym (points_more curve place n (omega arith)))
+    (sym (points_more curve place n (omega arith)))
 
 pub parts_bad : (curve rest : List ℕ) (place : ℕ) → place ≡ 16 → number_within 0 256 rest ≡ None
     → with_front (take place curve) (17 - place) (slice_split is_comma rest) ≡ None

@@ -7,3 +7,4 @@ pub mod LineParts
 pub mod Printed
 pub mod RoundTrip
 pub mod TextLemmas
+pub mod TwoHeads

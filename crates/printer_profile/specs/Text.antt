@@ -1,8 +1,8 @@
 -- The text of a profile.
-use Rattle.std.specs.Prelude.{ℕ, ◌+◌, ◌-◌, ◌^◌, min, Bool, false, true, not, ◌==◌, ◌&&◌, if◌then◌else◌, List, [], ◌∷◌, ◌++◌, codes, find}
+use Rattle.std.specs.Prelude.{◌≡◌, ◌<◌, ◌⊎◌, length, ℕ, ◌+◌, ◌-◌, ◌^◌, min, Bool, false, true, not, ◌==◌, ◌&&◌, if◌then◌else◌, List, [], ◌∷◌, ◌++◌, codes, find}
 use Rattle.std.specs.Prelude.{replicate, slice_index_or, slice_set, Option, Some, None, Result, Ok, Err}
 use Rattle.std.specs.Char.{is_ascii}
-use Rattle.std.specs.List.{flat_map, list_all}
+use Rattle.std.specs.List.{flat_map, list_all, list_any}
 use Rattle.std.specs.Str.{bytes_eq}
 use Rattle.std.specs.Str.Lines.{lines}
 use Rattle.key_values.specs.Pairs.{is_key_value, key_of, value_of}
@@ -15,7 +15,7 @@ use Rattle.printer_profile.specs.declared.reading.TextCause.{TextCause}
 use Rattle.printer_profile.specs.declared.reading.TextCause.TheVariants.{BadHead, NotAscii, NoEquals, UnknownKey, RepeatedKey}
 use Rattle.printer_profile.specs.declared.reading.TextCause.TheVariants.{BadValue, Missing}
 use Rattle.printer_profile.specs.declared.reading.TextFault.{TextFault}
-use Rattle.printer_profile.specs.Keys.{all_keys, key_named, row_of, unset}
+use Rattle.printer_profile.specs.Keys.{all_keys, curve_keys, key_named, row_of, unset}
 
 -- the first line of a version
 abbrev pub head_of : Version → List ℕ
@@ -111,3 +111,22 @@ profile_of_lines (first ∷ rest) = profile_under (version_of first) rest
 -- What a text means: a profile, or the first fault.
 unfoldable pub profile_text : List ℕ → Result Printer TextFault
 profile_text text = profile_of_lines (lines text)
+
+-- ---- the two versions
+
+-- whether a line has the key of a curve
+abbrev pub is_curve_line : List ℕ → Bool
+is_curve_line line = list_any (λ key. bytes_eq (row_of key).name (key_of line)) curve_keys
+
+-- The answer is an unknown key, in a line that has the key of a curve. The lines are those after the first.
+pub record StopsAtCurve (rest : List (List ℕ)) (answer : Result Printer TextFault) : Type 0 where
+  pub place : ℕ
+  pub within : place < length rest
+  pub curve : is_curve_line (slice_index_or rest place []) ≡ true
+  pub fault : answer ≡ Err (fault_at (min (place + 2) (2 ^ 32 - 1)) UnknownKey)
+
+-- Two texts that differ in their first lines alone, of version 1 and of version 2, give the same answer; or the first
+-- stops at a key of a curve.
+abbrev pub VersionsAgree : List ℕ → List ℕ → Type 0
+VersionsAgree a b = (rest : List (List ℕ)) → lines a ≡ head_of One ∷ rest → lines b ≡ head_of Two ∷ rest
+    → (profile_text a ≡ profile_text b) ⊎ StopsAtCurve rest (profile_text a)

@@ -1,9 +1,9 @@
 //! What holds of all profiles.
 ghost use Rattle.separation_definitions.specs.CanPrint.{CanPrint};
-ghost use Rattle.printer_profile.specs.Text.{profile_text, profile_text_of};
+ghost use Rattle.printer_profile.specs.Text.{VersionsAgree, profile_text, profile_text_of};
 ghost use Rattle.printer_profile.specs.Validity.{check};
 ghost use Rattle.std.specs.Int.{IsGcd};
-ghost use Rattle.std.specs.Prelude.{IsOk, ℕ, ◌≡◌, ◌≤◌, length, slice_index};
+ghost use Rattle.std.specs.Prelude.{IsOk, List, ℕ, ◌≡◌, ◌≤◌, length, slice_index};
 
 use crate::fields::Profile;
 
@@ -30,6 +30,12 @@ pub fn printed_is_read(p: Profile)
     has_17_points(&p.curves[2]);
     has_17_points(&p.curves[3]);
 }
+
+/// Two texts whose first lines are `escp2-profile 1` and `escp2-profile 2` and whose other lines are equal give the same
+/// answer; or the text of version 1 has an unknown key in a line with the key of a curve.
+pub fn versions_agree()
+    ensures { (a b : List ℕ) → VersionsAgree a b }
+{}
 
 /// A printer that passes its checks can print: it meets what the laws of the page ask of a printer.
 pub fn checked_can_print(p: Profile)

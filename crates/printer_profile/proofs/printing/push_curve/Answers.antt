@@ -1,4 +1,4 @@
-use Rattle.std.proofs.Common.{◌++◌, ap, sym, ◌∙◌, arith, append_assoc}
+use Rattle.std.proofs.Common.{◌++◌, ap, sym, ◌∙◌, arith}
 use Rattle.printer_profile.proofs.CurveTexts.{curve_first, curve_more, curve_whole}
 use Rattle.printer_profile.proofs.printing.push_curve.Goals as goal
 

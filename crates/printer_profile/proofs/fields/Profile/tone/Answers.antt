@@ -1,4 +1,4 @@
-use Rattle.std.proofs.Common.{◌≡◌, true, get_or, [], ap, sym, ◌∙◌}
+use Rattle.std.proofs.Common.{get_or, [], ap, ◌∙◌}
 use Rattle.printer_profile.specs.Validity.{is_curve}
 use Rattle.printer_profile.proofs.CheckedProfiles.{curve_good}
 use Rattle.printer_profile.proofs.fields.Profile.tone.Goals as goal
