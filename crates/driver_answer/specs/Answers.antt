@@ -84,6 +84,7 @@ check_name (check.NotCoprime gcd) = codes "NotCoprime"
 check_name check.RowStep = codes "RowStep"
 check_name (check.TopMargin needs) = codes "TopMargin"
 check_name check.BlackStart = codes "BlackStart"
+check_name (check.Curve ink) = codes "Curve"
 
 -- what a cause carries follows its name after a blank: a key by its name, a number in decimal
 abbrev pub text_words : TextCause → List ℕ
@@ -93,6 +94,7 @@ text_words other = text_name other
 abbrev pub check_words : ProfileFault → List ℕ
 check_words (check.NotCoprime gcd) = codes "NotCoprime" ++ (codes " " ++ decimal gcd)
 check_words (check.TopMargin needs) = codes "TopMargin" ++ (codes " " ++ decimal needs)
+check_words (check.Curve ink) = codes "Curve" ++ (codes " " ++ decimal ink)
 check_words other = check_name other
 
 abbrev pub profile_words : ProfileCause → List ℕ

@@ -90,6 +90,10 @@ fn push_check(fault: ProfileFault, out: &mut ArrayString<160>)
             out.push_str(" ");
             push_number(needs, out);
         }
+        ProfileFault::Curve { ink } => {
+            out.push_str(" ");
+            push_number(u32::from(ink), out);
+        }
         _ => {}
     }
 }

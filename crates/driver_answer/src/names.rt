@@ -91,6 +91,7 @@ pub fn check_name(fault: ProfileFault) -> &'static str
         ProfileFault::RowStep => "RowStep",
         ProfileFault::TopMargin { .. } => "TopMargin",
         ProfileFault::BlackStart => "BlackStart",
+        ProfileFault::Curve { .. } => "Curve",
     }
 }
 
