@@ -5,7 +5,7 @@ use driver_answer::{
 };
 use pwg_definitions::{InputCause, LineFault};
 
-const CASES: [(Answer, u8, &str); 11] = [
+const CASES: [(Answer, u8, &str); 12] = [
     (Answer::Done, 0, ""),
     (
         Answer::Usage(UsageFault {
@@ -22,6 +22,14 @@ const CASES: [(Answer, u8, &str); 11] = [
         },
         2,
         "profile: line 0: TopMargin 4\n",
+    ),
+    (
+        Answer::Profile {
+            line: 0,
+            cause: ProfileCause::Check(ProfileFault::Curve { ink: 3 }),
+        },
+        2,
+        "profile: line 0: Curve 3\n",
     ),
     (
         Answer::Input {

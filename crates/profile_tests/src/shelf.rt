@@ -59,7 +59,7 @@ fn the_shelf_is_asked_for_what_is_not_built_in(rt: HostRuntime) -> Result<(), Fa
     Ok(())
 }
 
-const TEXTS: [(&[u8], Found); 3] = [
+const TEXTS: [(&[u8], Found); 4] = [
     (TINY1_TEXT, Ok(TINY1)),
     (
         b"escp2-profile 1\n\npitch=0360\n",
@@ -73,6 +73,14 @@ const TEXTS: [(&[u8], Found); 3] = [
         Err(ProfileStop::Refused {
             line: 0,
             cause: ProfileCause::Check(ProfileFault::Nozzles),
+        }),
+    ),
+    (
+        b"escp2-profile 2\nhdpi=360\nvdpi=360\nnozzles=1\npitch=1\ninks=k\n\
+        curve_c=0,1,2,3,4,5,6,7,8,9,10,11,12,13,14,15,14\n",
+        Err(ProfileStop::Refused {
+            line: 0,
+            cause: ProfileCause::Check(ProfileFault::Curve { ink: 1 }),
         }),
     ),
 ];
