@@ -69,8 +69,12 @@ fn a_job_without_a_meter_has_no_cap(rt: HostRuntime) -> Result<(), Fail> {
 
 // A profile's text.
 const TEXT: &[u8] =
-    b"escp2-profile 1\nhdpi=360\nvdpi=360\nnozzles=3\npitch=2\ninks=k\nblack_start=0\nlimit_k=255\nlimit_c=255\n\
-    limit_m=255\nlimit_y=255\nleft=0\nright=0\ntop=4\nbottom=0\n";
+    b"escp2-profile 2\nhdpi=360\nvdpi=360\nnozzles=3\npitch=2\ninks=k\nblack_start=0\nlimit_k=255\nlimit_c=255\n\
+    limit_m=255\nlimit_y=255\nleft=0\nright=0\ntop=4\nbottom=0\n\
+    curve_k=0,16,32,48,64,80,96,112,128,144,160,176,192,208,224,240,256\n\
+    curve_c=0,16,32,48,64,80,96,112,128,144,160,176,192,208,224,240,256\n\
+    curve_m=0,16,32,48,64,80,96,112,128,144,160,176,192,208,224,240,256\n\
+    curve_y=0,16,32,48,64,80,96,112,128,144,160,176,192,208,224,240,256\n";
 
 #[test]
 fn showing_a_profile_counts_nothing(rt: HostRuntime) -> Result<(), Fail> {
