@@ -27,7 +27,7 @@ use Rattle.weave_definitions.specs.Weave.{pass_count}
 use Rattle.page_writer.specs.Heads.{strokes_over}
 use Rattle.page_writer.specs.Shows.{Shows}
 use Rattle.page_writer.specs.StrokeBytes.{head_bytes}
-use Rattle.page_writer.specs.Sums.{SumsStrokes, SumsUp, rasters_in}
+use Rattle.page_writer.specs.Sums.{SumsHalftone, SumsStrokes, rasters_in}
 use Rattle.page_writer.specs.declared.sums.PageSum.{PageSum}
 use Rattle.page_writer.proofs.PassesOver.{passes-same, passes_of}
 
@@ -41,10 +41,10 @@ bytes_are p t h len shows = ap (bytes_of page_coding.code) (passes-same p t h le
 
 -- and so are their sums
 pub sums_are : (p : Printer) (t : DotTable) (h : Halftone) (len : ℕ) (sum : PageSum) → Shows p t h
-    → SumsStrokes p t.width t.rows len (strokes_over p (passes_of p t) t) sum → SumsUp p h len sum
+    → SumsStrokes p t.width t.rows len (strokes_over p (passes_of p t) t) sum → SumsHalftone p h len sum
 sums_are p t h len sum shows is = record {
-  bytes = is.bytes ∙ ap length (bytes_are p t h len shows);
-  rasters = is.rasters ∙ ap rasters_in (passes-same p t h len shows);
+  bytes_are = is.bytes_are ∙ ap length (bytes_are p t h len shows);
+  rasters_are = is.rasters_are ∙ ap rasters_in (passes-same p t h len shows);
 }
 
 -- ---- what they mean

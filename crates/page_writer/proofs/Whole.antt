@@ -82,7 +82,7 @@ pub page_sums : (p : Printer) (width height len : ℕ) (strokes : Strokes) (leng
     → bytes ≡ length (fired_bytes p width strokes) → sum.bytes ≡ 49 + bytes
     → sum.rasters ≡ rasters_in (fired_strokes p width strokes) → SumsStrokes p width height len strokes sum
 page_sums p width height len strokes length' top bottom sum bytes is fired all rasters = record {
-  bytes = omega (
+  bytes_are = omega (
     arith,
     all,
     fired,
@@ -90,7 +90,7 @@ page_sums p width height len strokes length' top bottom sum bytes is fired all r
     length-append (begin_bytes length' top bottom) (fired_bytes p width strokes ++ end_bytes),
     length-append (fired_bytes p width strokes) end_bytes,
   );
-  rasters = rasters ∙ (let none : rasters_in (fired_strokes p width strokes)
+  rasters_are = rasters ∙ (let none : rasters_in (fired_strokes p width strokes)
       ≡ rasters_in (page_commands p width height page_coding.c len strokes) =
       omega (
         arith,

@@ -18,15 +18,19 @@ rasters_in (spoken ∷ job) = raster_count spoken.command + rasters_in job
 abbrev pub halftone_commands : Printer → Halftone → ℕ → List Spoken
 halftone_commands p h len = page_commands p h.width h.height page_coding.c len (weave p h)
 
+-- The sum has these bytes and the rasters of these commands.
+pub record SumsUp (bytes : List ℕ) (job : List Spoken) (sum : PageSum) : Type 0 where
+  pub bytes_are : sum.bytes ≡ length bytes
+  pub rasters_are : sum.rasters ≡ rasters_in job
+
 -- The sum has the bytes and the rasters that print strokes over a window of this size.
-pub record SumsStrokes (p : Printer) (width height len : ℕ) (strokes : Strokes) (sum : PageSum) : Type 0 where
-  pub bytes : sum.bytes ≡ length (strokes_bytes page_coding p width height len strokes)
-  pub rasters : sum.rasters ≡ rasters_in (page_commands p width height page_coding.c len strokes)
+abbrev pub SumsStrokes : Printer → ℕ → ℕ → ℕ → Strokes → PageSum → Type 0
+SumsStrokes p width height len strokes =
+    SumsUp (strokes_bytes page_coding p width height len strokes) (page_commands p width height page_coding.c len strokes)
 
 -- The sum has the bytes and the rasters that print a halftone.
-pub record SumsUp (p : Printer) (h : Halftone) (len : ℕ) (sum : PageSum) : Type 0 where
-  pub bytes : sum.bytes ≡ length (halftone_bytes p h len)
-  pub rasters : sum.rasters ≡ rasters_in (halftone_commands p h len)
+abbrev pub SumsHalftone : Printer → Halftone → ℕ → PageSum → Type 0
+SumsHalftone p h len = SumsUp (halftone_bytes p h len) (halftone_commands p h len)
 
 -- the most bytes of one pass over a window of this width
 abbrev pub most_of_pass : Printer → ℕ → ℕ

@@ -5,7 +5,7 @@ ghost use Rattle.page_definitions.specs.Dots.{Halftone, dots_wanted};
 ghost use Rattle.page_definitions.specs.PageBytes.{halftone_bytes};
 ghost use Rattle.page_definitions.specs.Printing.{GivesSheet};
 ghost use Rattle.page_writer.specs.Shows.{Shows};
-ghost use Rattle.page_writer.specs.Sums.{SumsUp, most_of_page};
+ghost use Rattle.page_writer.specs.Sums.{SumsHalftone, most_of_page};
 ghost use Rattle.page_writer.specs.declared.strokes.WriteStop.TheVariants as stop;
 ghost use Rattle.printer_definitions.specs.Inks.{inks_of};
 ghost use Rattle.printer_definitions.specs.Printer.{row_units as row_units_of};
@@ -51,7 +51,7 @@ pub fn write_page<K: Sink>(
         (Appends (K.held k.old) (K.held k.new)
         (halftone_bytes p.now h (f.height * row_units_of p.now))) }
     ensures sum { (h : Halftone) → Shows p.now planes.now h → IfOk result
-        (SumsUp p.now h (f.height * row_units_of p.now)) }
+        (SumsHalftone p.now h (f.height * row_units_of p.now)) }
     ensures part { (h : Halftone) → Shows p.now planes.now h → IsErrOf result stop.Write
         → AppendsPart (K.held k.old) (K.held k.new)
         (halftone_bytes p.now h (f.height * row_units_of p.now)) }
