@@ -3,9 +3,12 @@ use Rattle.std.proofs.Common.{◌≡◌, ℕ, zero, suc, ◌+◌, ◌-◌, ◌<�
 use Rattle.std.proofs.Common.{arith, append_assoc, length-append, length-drop}
 use Rattle.std.proofs.lemmas.List.{drop-append-le, length-take, take_at, take-append-drop}
 use Rattle.std.proofs.Math.Seq.{take-append-add}
+use Rattle.printer_definitions.specs.declared.inks.Ink.{Ink}
+use Rattle.printer_definitions.specs.declared.inks.Ink.TheVariants.{Black}
+use Rattle.escp2_definitions.specs.Rasters.{colour_after, ink_rasters, ink_rasters_from}
 use Rattle.escp2_definitions.specs.declared.command.Command.{Command}
 use Rattle.escp2_definitions.specs.declared.stops.JobCause.{JobCause}
-use Rattle.escp2_definitions.specs.Commands.{CommandList, Heard, Spells, command_at, commands, commands_from, with_entry}
+use Rattle.escp2_definitions.specs.Commands.{CommandList, Entry, Heard, Spells, command_at, commands, commands_from, with_entry}
 use Rattle.escp2_definitions.specs.Commands.Heard.{One, Part, Wrong}
 use Rattle.escp2_definitions.specs.Commands.ListEnd.{Whole, Cut, Fault}
 use Rattle.escp2_laws.proofs.Grammar.{AreBytes}
@@ -191,3 +194,66 @@ pub fault-stays : (bytes rest : List ℕ) (at : ℕ) (cause : JobCause) → (com
     → commands (bytes ++ rest) ≡ commands bytes
 fault-stays bytes rest at cause e =
     fault-from (length bytes) (length (bytes ++ rest)) 0 bytes rest at cause (omega arith) (omega arith) e
+
+-- the commands of a prefix come first
+record FirstOf (all some : List Entry) : Type 0 where
+  later : List Entry
+  is : all ≡ some ++ later
+
+-- from a place on
+first-from : (most more at : ℕ) (bytes rest : List ℕ) → length bytes ≤ most → length (bytes ++ rest) ≤ more
+    → FirstOf (commands_from more at (bytes ++ rest)).entries (commands_from most at bytes).entries
+unfolding commands_from
+first-from most more at [] rest few fits = record { later = (commands_from more at rest).entries; is = refl }
+first-from zero more at (b ∷ bytes) rest few fits = absurd (omega arith)
+first-from (suc most) zero at (b ∷ bytes) rest few fits = absurd (omega (arith, length-append (b ∷ bytes) rest))
+first-from (suc most) (suc more) at (b ∷ bytes) rest few fits =
+    let inner = by_heard (λ more at bytes few fits. first-from most more at bytes rest few fits) (command_at (b ∷ bytes)) refl in
+    record {
+      later = inner.later;
+      is = ap (λ (l : CommandList). l.entries) (first-of more at b (bytes ++ rest)) ∙ inner.is
+          ∙ ap (λ (l : CommandList). l.entries ++ inner.later) (sym (first-of most at b bytes));
+    }
+  where
+    by_heard : ((more at : ℕ) (bytes : List ℕ) → length bytes ≤ most → length (bytes ++ rest) ≤ more
+        → FirstOf (commands_from more at (bytes ++ rest)).entries (commands_from most at bytes).entries)
+        → (h : Heard) → command_at (b ∷ bytes) ≡ h
+        → FirstOf (after (command_at (b ∷ (bytes ++ rest))) more at (b ∷ (bytes ++ rest))).entries
+        (after (command_at (b ∷ bytes)) most at (b ∷ bytes)).entries
+    by_heard behind (One command rows len) is =
+        let whole : command_at (b ∷ (bytes ++ rest)) ≡ One command rows len = one-stands_behind (b ∷ bytes) rest command rows len is in
+        let sized : (1 ≤ len) × (len ≤ length (b ∷ bytes)) = one-len (b ∷ bytes) command rows len is in
+        let left : drop len (b ∷ (bytes ++ rest)) ≡ drop len (b ∷ bytes) ++ rest = drop-append-le len (b ∷ bytes) rest sized.1 in
+        let entry : Entry = record { at = at; command = command; rows = rows } in
+        let next : FirstOf (commands_from more (at + len) (drop len (b ∷ bytes) ++ rest)).entries
+        (commands_from most (at + len) (drop len (b ∷ bytes))).entries =
+        behind more (at + len) (drop len (b ∷ bytes)) (omega (arith, sized.0, length-drop len (b ∷ bytes)))
+        (omega (arith, sized.0, ap length left, length-drop len (b ∷ (bytes ++ rest)))) in
+        record {
+          later = next.later;
+          is = ap (λ h. (after h more at (b ∷ (bytes ++ rest))).entries) whole
+              ∙ ap (λ bs. entry ∷ (commands_from more (at + len) bs).entries) left
+              ∙ ap (λ es. entry ∷ es) next.is
+              ∙ sym (ap (λ h. (after h most at (b ∷ bytes)).entries ++ next.later) is);
+        }
+    by_heard behind Part is = record {
+      later = (after (command_at (b ∷ (bytes ++ rest))) more at (b ∷ (bytes ++ rest))).entries;
+      is = sym (ap (λ h. (after h most at (b ∷ bytes)).entries
+          ++ (after (command_at (b ∷ (bytes ++ rest))) more at (b ∷ (bytes ++ rest))).entries) is);
+    }
+    by_heard behind (Wrong k other) is = record {
+      later = (after (command_at (b ∷ (bytes ++ rest))) more at (b ∷ (bytes ++ rest))).entries;
+      is = sym (ap (λ h. (after h most at (b ∷ bytes)).entries
+          ++ (after (command_at (b ∷ (bytes ++ rest))) more at (b ∷ (bytes ++ rest))).entries) is);
+    }
+
+-- more commands have no fewer rasters of an ink
+rasters_more : (ink colour : Ink) (some later : List Entry) → ink_rasters_from ink colour some ≤ ink_rasters_from ink colour (some ++ later)
+rasters_more ink colour [] later = omega arith
+rasters_more ink colour (entry ∷ some) later = omega (arith, rasters_more ink (colour_after colour entry.command) some later)
+
+-- the bytes of a job have no fewer rasters of an ink than a prefix of them
+pub prefix-rasters : (ink : Ink) (bytes rest : List ℕ) → ink_rasters ink (commands bytes).entries ≤ ink_rasters ink (commands (bytes ++ rest)).entries
+prefix-rasters ink bytes rest =
+    let first = first-from (length bytes) (length (bytes ++ rest)) 0 bytes rest (omega arith) (omega arith) in
+    omega (arith, rasters_more ink Black (commands bytes).entries first.later, ap (ink_rasters ink) first.is)

@@ -15,9 +15,9 @@ pub use codes::{
     no_code_is_shorter, packets_are_all, what_is_read_is_a_code,
 };
 pub use examples::{
-    columns_are_limited, commands_are_refused, early_rasters_are_refused, faults_are_told, least_row_is_worked,
-    listing_is_printed, listing_is_read, listing_is_refused, numbers_are_limited,
-    pages_are_limited, widest_row_is_read,
+    columns_are_limited, commands_are_refused, early_rasters_are_refused, faults_are_told,
+    least_row_is_worked, listing_is_printed, listing_is_read, listing_is_refused,
+    numbers_are_limited, pages_are_limited, widest_row_is_read,
 };
 pub use laws::{
     job_is_its_commands, no_spelling_begins_another, spelled_is_read, written_is_spelled,
@@ -27,5 +27,6 @@ pub use machine_examples::{
     single_refusals_are_told, the_earlier_refusal_is_told,
 };
 pub use standing::{
-    a_command_stands, a_fault_ends_a_job, a_fault_stands, a_prefix_is_incomplete, heard_is_spelled,
+    a_command_stands, a_fault_ends_a_job, a_fault_stands, a_prefix_has_no_more_rasters,
+    a_prefix_is_incomplete, heard_is_spelled,
 };

@@ -3,8 +3,10 @@
 ghost use Rattle.escp2_definitions.specs.Commands.Heard.{One, Part, Wrong};
 ghost use Rattle.escp2_definitions.specs.Commands.ListEnd.{Fault};
 ghost use Rattle.escp2_definitions.specs.Commands.{Spells, command_at, commands};
+ghost use Rattle.escp2_definitions.specs.Rasters.{ink_rasters};
 ghost use Rattle.escp2_definitions.specs.declared.command.Command.{Command};
 ghost use Rattle.escp2_definitions.specs.declared.stops.JobCause.{JobCause};
+ghost use Rattle.printer_definitions.specs.declared.inks.Ink.{Ink};
 ghost use Rattle.std.specs.Prelude.{List, length, slice_index, take, ℕ, ◌++◌, ◌+◌, ◌<◌, ◌≡◌, ◌≤◌};
 
 /// What is read as a whole command is spelled, with its rows, by the bytes up to its length.
@@ -41,4 +43,10 @@ pub fn a_prefix_is_incomplete()
 pub fn a_fault_ends_a_job()
     ensures { (bytes rest : List ℕ) (at : ℕ) (cause : JobCause) → (commands bytes).end ≡ Fault at cause
         → commands (bytes ++ rest) ≡ commands bytes }
+{}
+
+/// The bytes of a job have no fewer rasters of an ink than a prefix of them.
+pub fn a_prefix_has_no_more_rasters()
+    ensures { (ink : Ink) (bytes rest : List ℕ)
+        → ink_rasters ink (commands bytes).entries ≤ ink_rasters ink (commands (bytes ++ rest)).entries }
 {}

@@ -40,10 +40,7 @@ fn rows_have_their_codes(rt: HostRuntime) {
         // a run of two between two runs
         (&[1, 1, 1, 2, 2, 3, 3, 3], &[0xFE, 1, 0xFF, 2, 0xFE, 3]),
         // a literal goes on over runs that save nothing
-        (
-            &[1, 2, 2, 3, 4, 4, 4, 5],
-            &[0x07, 1, 2, 2, 3, 4, 4, 4, 5],
-        ),
+        (&[1, 2, 2, 3, 4, 4, 4, 5], &[0x07, 1, 2, 2, 3, 4, 4, 4, 5]),
         (&[0; 128], &[0x81, 0x00]),
         (&[0; 129], &[0x81, 0x00, 0x00, 0x00]),
     ];
@@ -69,7 +66,13 @@ fn slow_cost(row: &[u8], costs: &[u16]) -> u16
 {
     let mut least = u16::MAX;
     let mut equal = true;
-    for (before, behind) in costs.iter().take(row.len() + 1).skip(1).take(128).enumerate() {
+    for (before, behind) in costs
+        .iter()
+        .take(row.len() + 1)
+        .skip(1)
+        .take(128)
+        .enumerate()
+    {
         equal &= row.get(before) == row.first();
         let literal = behind.saturating_add(before as u16).saturating_add(2);
         least = least.min(literal);
@@ -114,7 +117,12 @@ fn same_costs(rt: &impl Abort, row: &[u8])
     cost_table(row, &mut costs);
     assert_eq!(rt; costs.as_slice(), &wanted[..=row.len()]);
     let mut code = [0; 2048];
-    same(rt, "a code's length", &code_row(row, &mut code), &usize::from(wanted[0]));
+    same(
+        rt,
+        "a code's length",
+        &code_row(row, &mut code),
+        &usize::from(wanted[0]),
+    );
 }
 
 // A row as its code, of this length at most, is read back.

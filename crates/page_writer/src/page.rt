@@ -5,7 +5,7 @@ ghost use Rattle.page_definitions.specs.Dots.{Halftone, dots_wanted};
 ghost use Rattle.page_definitions.specs.PageBytes.{halftone_bytes};
 ghost use Rattle.page_definitions.specs.Printing.{GivesSheet};
 ghost use Rattle.page_writer.specs.Shows.{Shows};
-ghost use Rattle.page_writer.specs.Sums.{SumsHalftone, most_of_page};
+ghost use Rattle.page_writer.specs.Sums.{AppendsFew, SumsHalftone, most_of_page};
 ghost use Rattle.page_writer.specs.declared.strokes.WriteStop.TheVariants as stop;
 ghost use Rattle.printer_definitions.specs.Inks.{inks_of};
 ghost use Rattle.printer_definitions.specs.Printer.{row_units as row_units_of};
@@ -64,6 +64,10 @@ pub fn write_page<K: Sink>(
         → ink_rasters ink
         (commands (halftone_bytes p.now h (f.height * row_units_of p.now))).entries
         ≤ pass_count p.now.nozzles p.now.pitch planes.now.rows }
+
+    // at every answer
+    ensures few { (h : Halftone) → Shows p.now planes.now h
+        → AppendsFew p.now planes.now.rows (K.held k.old) (K.held k.new) }
 
     // by the page's form alone
     ensures short { IfOk result (λ sum. sum.bytes ≤ most_of_page p.now planes.now.width planes.now.rows) }

@@ -16,7 +16,7 @@ use Rattle.page_writer.specs.Shows.{Shows}
 use Rattle.page_writer.specs.StrokeBytes.{head_bytes}
 use Rattle.page_writer.specs.Sums.{SumsStrokes}
 use Rattle.page_writer.specs.declared.strokes.WriteStop.TheVariants as stop
-use Rattle.page_writer.proofs.Meaning.{bytes_are, halftone_passes, halftone_prints, sums_are}
+use Rattle.page_writer.proofs.Meaning.{appends_few, bytes_are, halftone_passes, halftone_prints, sums_are}
 use Rattle.page_writer.proofs.PassesOver.{passes_suit}
 use Rattle.page_writer.proofs.page.write_page.Goals as goal
 
@@ -87,3 +87,8 @@ pub returns-clause-passes : goal.returns-clause-passes
 returns-clause-passes g c = λ h shows ink.
     halftone_passes _ c.args.planes.now h c.args.f (can_print _ _ c.p.view_is c.checked_can_print.ensures c.requires.checked)
     c.requires.wanted c.requires.width c.requires.rows shows ink
+
+pub returns-clause-few : goal.returns-clause-few
+returns-clause-few g c = λ h shows.
+    appends_few _ _ _ _ _ c.write_strokes.result (returns-clause-ok g c h shows) (returns-clause-part g c h shows)
+    c.write_strokes.ensures.memory (returns-clause-passes g c h shows)

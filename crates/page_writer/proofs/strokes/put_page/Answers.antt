@@ -61,7 +61,7 @@ returns-clause-sum g c =
     let whole = page_is p c.args.planes.now.width c.args.planes.now.rows (c.args.f.height * row_units p) strokes _ _ _
     c.sheet_of.ensures.length (c.sheet_of.ensures.top ∙ ap (λ n. (p.top - n) * row_units p) c.above.ensures)
     (c.sheet_of.ensures.bottom ∙ ap (λ n. (p.top + n) * row_units p) (sym c.requires.rows)) in
-    page_sums _ _ _ _ _ _ _ _ _ _ whole c.in_ok-strokes.ensures.bytes refl c.in_ok-strokes.ensures.rasters
+    page_sums p c.args.planes.now.width c.args.planes.now.rows (c.args.f.height * row_units p) strokes _ _ _ _ _ whole c.in_ok-strokes.ensures.bytes refl c.in_ok-strokes.ensures.rasters
 
 pub overflow_add-result : goal.overflow_add-result
 overflow_add-result g c =
