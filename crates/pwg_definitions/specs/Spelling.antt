@@ -14,7 +14,7 @@ pub record LineGroup : Type 0 where
   pub repeats : ℕ
   pub line : List ℕ
 
--- the groups are the last `left` lines of a page that has `units` pixels a line
+-- the groups are the last `left` lines of a page whose lines have `units` units
 abbrev pub SpellsLines : KindRow → ℕ → ℕ → List LineGroup → Type 0
 SpellsLines row units left [] = left ≡ 0
 SpellsLines row units left (g ∷ groups) =

@@ -15,13 +15,13 @@ four : (l : List Cell) (x y z w : Cell) → (((l ++ x ∷ []) ++ y ∷ []) ++ z 
 four l x y z w = simp (append_assoc) refl
 
 -- The slots of tile n, in a window of C columns, after those of the tiles before it.
-pub one-more : (s : Shape) (inks C n : ℕ) (l₀ l₁ l₂ l₃ l₄ : List Cell) (x y z : Cell) (w : List (List ℕ)) → C ≡ columns_of s
+pub one-more : (s : Shape) (inks C n : ℕ) {l₀ l₁ l₂ l₃ l₄ : List Cell} {x y z : Cell} {w : List (List ℕ)} → C ≡ columns_of s
     → l₀ ≡ fresh_slots (fresh_in s inks) n → l₁ ≡ l₀ ++ x ∷ [] → l₂ ≡ l₁ ++ y ∷ [] → l₃ ≡ l₂ ++ z ∷ []
     → l₄ ≡ l₃ ++ Dots w ∷ [] → w ≡ replicate inks (replicate {A = ℕ} 256 0)
     → ((q : ℕ) → x ≡ fresh_of inks 0 (only_if (nat_lt 0 (n % C)) q))
     → ((q : ℕ) → y ≡ fresh_of inks 1 (only_if (nat_lt (n % C + 1) C && nat_lt 0 (n / C)) q))
     → ((q : ℕ) → z ≡ fresh_of inks 2 (only_if (nat_lt 0 (n / C)) q)) → l₄ ≡ fresh_slots (fresh_in s inks) (n + 1)
-one-more s inks C n l₀ l₁ l₂ l₃ l₄ x y z w is e₀ e₁ e₂ e₃ e₄ ew ex ey ez =
+one-more s inks C n {l₀} {l₁} {l₂} {l₃} {l₄} {x} {y} {z} {w} is e₀ e₁ e₂ e₃ e₄ ew ex ey ez =
     let f : ℕ → Cell = fresh_in s inks n in
     let P : ℕ → Type 0 = λ C. ((q : ℕ) → x ≡ fresh_of inks 0 (only_if (nat_lt 0 (n % C)) q)) in
     let Q : ℕ → Type 0 = λ C. ((q : ℕ) → y ≡ fresh_of inks 1 (only_if (nat_lt (n % C + 1) C && nat_lt 0 (n / C)) q)) in

@@ -9,9 +9,10 @@
 //!   not posted itself. `Gone` comes only where the tile was taken; a pass with all 256 parts has posted it itself
 //!   then. So a pass that is alone and goes through the tiles by band and then column is never told `NotReady`.
 //! - `work` diffuses a tile that was handed out. `post` gives its edges to the tiles that receive them and keeps its
-//!   dots.
-//! - `split` cuts a pass of one part off the first pass, and `join` gives the parts and the posted tiles of one pass to
-//!   another.
+//!   dots. The pass's list of posted tiles then has the tile just once, with the pass's number, also where the pass
+//!   has joined another while it held the tile.
+//! - `split` cuts a pass of one part off the first pass, and `join` adds the parts and the posted tiles of one pass to
+//!   those of another, which may hold a tile.
 //! - `close`, by a pass that has posted every tile: the dots of all tiles are those of row-by-row diffusion, by band
 //!   and then column, and the bottom edges of the last band are the top of the rows below (`Closes`). It has posted
 //!   each tile once.
