@@ -57,7 +57,7 @@ fn two_tiles_are_inside_the_gate_at_once(rt: HostRuntime) {
 }
 
 // Rows of the dots of the level slab by Floyd and Steinberg's kernel, as an independent program computed them.
-const KNOWN_ROWS: [(usize, [u8; 25]); 5] = [
+const KNOWN_ROWS: [(u8, [u8; 25]); 5] = [
     (
         0,
         [
@@ -106,6 +106,18 @@ fn measured(rows: &[u8]) -> (usize, u64, u64) {
     (rows.len(), dots, hash)
 }
 
+// How many of the known rows are among these of 25 bytes each.
+fn known_rows(rows: &[u8]) -> usize {
+    let mut known = 0usize;
+    for (y, row) in KNOWN_ROWS {
+        let at = 25 * usize::from(y);
+        if at + 25 <= rows.len() && rows[at..at + 25] == row[..] {
+            known = known.wrapping_add(1);
+        }
+    }
+    known
+}
+
 #[test]
 fn two_tiles_inside_the_gate_give_the_known_dots(rt: HostRuntime) {
     let gate = MeetingGate {
@@ -115,15 +127,12 @@ fn two_tiles_inside_the_gate_give_the_known_dots(rt: HostRuntime) {
     let Some(rows) = rows_of(&rt, rt.alloc(), &LEVEL, 2, &gate) else {
         panic!(rt; "memory");
     };
-    assert_eq!(rt; gate.met.load(Ordering::SeqCst), 2);
-    assert_eq!(rt;
+    let found = (
         measured(rows.as_slice()),
-        (1750, 5478, 0x2A21_B4D5_2C4F_EE94)
+        known_rows(rows.as_slice()),
+        gate.met.load(Ordering::SeqCst),
     );
-    for (y, row) in &KNOWN_ROWS {
-        let found = rows.as_slice().chunks_exact(25).nth(*y);
-        assert!(rt; found == Some(row.as_slice()), "row {y}");
-    }
+    assert_eq!(rt; found, ((1750, 5478, 0x2A21_B4D5_2C4F_EE94), 5, 2));
 }
 
 #[test]
