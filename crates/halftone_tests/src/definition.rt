@@ -2,7 +2,7 @@
 use diffusion_kernel::Kernel;
 use dot_planes::Planes;
 use printer_definitions::Ink;
-use printer_profile::{InkSet, PageForm, Profile};
+use printer_profile::{InkSet, PageForm, Profile, STRAIGHT_CURVE};
 use pwg_definitions::Kind;
 
 // The byte of colour c at a pixel: numbers without a pattern.
@@ -44,33 +44,112 @@ fn black_at(x: u32, y: u32) -> i32 {
     }
 }
 
+// The bit of a pixel of one bit: the highest bit of a byte is its leftmost pixel.
+fn bit_at(x: u32, y: u32) -> bool {
+    byte_at(x / 8, y, 0) & (128 >> (x % 8)) != 0
+}
+
+// The number that a pixel of four inks has for an ink.
+fn own_at(ink: Ink, x: u32, y: u32) -> i32 {
+    let place = match ink {
+        Ink::Cyan => 0,
+        Ink::Magenta => 1,
+        Ink::Yellow => 2,
+        Ink::Black => 3,
+    };
+    i32::from(byte_at(x, y, place))
+}
+
+// The same with the pixel's black added.
+fn blackened_at(ink: Ink, x: u32, y: u32) -> i32 {
+    let black = own_at(Ink::Black, x, y);
+    own_at(ink, x, y).wrapping_add(black).min(255)
+}
+
+// The darkness as a grey of the colour that a pixel of four inks leaves.
+fn darkness_left(x: u32, y: u32) -> i32 {
+    let mut light = 0i32;
+    for (ink, weight) in [(Ink::Cyan, 77i32), (Ink::Magenta, 150), (Ink::Yellow, 29)] {
+        let left = 255i32.wrapping_sub(blackened_at(ink, x, y));
+        light = light.wrapping_add(left.wrapping_mul(weight));
+    }
+    255i32.wrapping_sub(light / 256)
+}
+
+// What a pixel without colour gives to an ink.
+fn grey_at(inks: InkSet, ink: Ink, dark: i32) -> i32 {
+    if inks == InkSet::Cmyk && ink != Ink::Black {
+        0
+    } else {
+        dark
+    }
+}
+
+// What a pixel of red, green and blue gives to an ink.
+fn colour_at(inks: InkSet, ink: Ink, x: u32, y: u32) -> i32 {
+    match inks {
+        InkSet::K => darkness_at(x, y),
+        InkSet::Cmy => complement_at(ink, x, y),
+        InkSet::Cmyk if ink == Ink::Black => black_at(x, y),
+        InkSet::Cmyk => complement_at(ink, x, y).wrapping_sub(black_at(x, y)),
+    }
+}
+
+// What a pixel of four inks gives to an ink.
+fn four_at(inks: InkSet, ink: Ink, x: u32, y: u32) -> i32 {
+    match inks {
+        InkSet::K => darkness_left(x, y),
+        InkSet::Cmy => blackened_at(ink, x, y),
+        InkSet::Cmyk => own_at(ink, x, y),
+    }
+}
+
 // What a pixel gives to an ink.
 fn given_at(inks: InkSet, kind: Kind, ink: Ink, x: u32, y: u32) -> i32 {
-    let grey = match kind {
-        Kind::Gray8 => i32::from(!byte_at(x, y, 0)),
-        Kind::Black8 => i32::from(byte_at(x, y, 0)),
-        Kind::Rgb8 => darkness_at(x, y),
-    };
-    match inks {
-        InkSet::K => grey,
-        InkSet::Cmy if kind == Kind::Rgb8 => complement_at(ink, x, y),
-        InkSet::Cmy => grey,
-        InkSet::Cmyk if kind == Kind::Rgb8 && ink == Ink::Black => black_at(x, y),
-        InkSet::Cmyk if kind == Kind::Rgb8 => complement_at(ink, x, y).wrapping_sub(black_at(x, y)),
-        InkSet::Cmyk if ink == Ink::Black => grey,
-        InkSet::Cmyk => 0,
+    match kind {
+        Kind::Gray8 => grey_at(inks, ink, i32::from(!byte_at(x, y, 0))),
+        Kind::Black8 => grey_at(inks, ink, i32::from(byte_at(x, y, 0))),
+        Kind::Black1 => grey_at(inks, ink, if bit_at(x, y) { 255 } else { 0 }),
+        Kind::Rgb8 => colour_at(inks, ink, x, y),
+        Kind::Cmyk8 => four_at(inks, ink, x, y),
     }
+}
+
+/// The greatest amounts of black, cyan, magenta and yellow.
+pub(crate) const LIMITS: [u8; 4] = [255, 224, 200, 180];
+
+/// The curve whose tones are half of the amounts.
+pub(crate) const HALF: [u16; 17] = [
+    0, 8, 16, 24, 32, 40, 48, 56, 64, 72, 80, 88, 96, 104, 112, 120, 128,
+];
+
+/// A curve with steps, flat parts and an end below 256.
+pub(crate) const BENT: [u16; 17] = [
+    0, 0, 5, 40, 41, 90, 90, 90, 120, 150, 151, 170, 200, 201, 220, 239, 250,
+];
+
+/// The curves of black, cyan, magenta and yellow.
+pub(crate) const CURVES: [[u16; 17]; 4] = [BENT, STRAIGHT_CURVE, HALF, BENT];
+
+// The tone of an amount on a curve.
+fn tone_of(curve: &[u16; 17], a: i32) -> i32 {
+    let place = (a / 16).clamp(0, 15) as usize;
+    let before = i32::from(curve[place]);
+    let rise = i32::from(curve[place + 1]).wrapping_sub(before);
+    let more = rise.wrapping_mul(a % 16) / 16;
+    before.wrapping_add(more).min(255)
 }
 
 // The amount of an ink at a pixel of the page, by the definition.
 fn amount_at(p: &Profile, kind: Kind, ink: Ink, x: u32, y: u32) -> i32 {
-    let limit = match ink {
-        Ink::Black => 255,
-        Ink::Cyan => 224,
-        Ink::Magenta => 200,
-        Ink::Yellow => 180,
+    let place = match ink {
+        Ink::Black => 0,
+        Ink::Cyan => 1,
+        Ink::Magenta => 2,
+        Ink::Yellow => 3,
     };
-    given_at(p.inks, kind, ink, x, y).wrapping_mul(limit) / 255
+    let tone = tone_of(&CURVES[place], given_at(p.inks, kind, ink, x, y));
+    tone.wrapping_mul(i32::from(LIMITS[place])) / 255
 }
 
 // How many errors are kept: those of two rows and more, where a row has up to 4,000.

@@ -3,7 +3,8 @@ ghost use Rattle.pwg_definitions.specs.Header.{IsWanted};
 ghost use Rattle.separation_definitions.specs.Windows.{wanted_by};
 ghost use Rattle.std.specs.Prelude.{IsTrue, ◌≤◌};
 
-use crate::definition::{byte_at, wrong_dots};
+use crate::definition::{CURVES, LIMITS, byte_at, wrong_dots};
+use crate::lengths::line_bytes;
 use diffusion_kernel::Kernel;
 use dot_planes::Planes;
 use page_halftoner::Halftoner;
@@ -23,15 +24,16 @@ fn is_taken(p: &Profile, f: PageForm) -> bool
         && f.width <= wanted.most_width
         && wanted.least_height <= f.height
         && f.height <= wanted.most_height
-        && u64::from(f.bytes_per_line) == u64::from(f.width) * f.kind.unit() as u64
+        && f.bytes_per_line as usize == line_bytes(f.kind, f.width)
 }
 
-// A printer with these inks, limits and margins.
+// A printer with these inks, and with limits, curves and margins.
 fn printer(inks: InkSet) -> Profile {
     Profile {
         inks,
         black_start: 64,
-        limits: [255, 224, 200, 180],
+        limits: LIMITS,
+        curves: CURVES,
         left: 2,
         right: 1,
         top: 1,
@@ -45,7 +47,7 @@ fn form(kind: Kind, width: u32, height: u32) -> PageForm {
         width,
         height,
         kind,
-        bytes_per_line: width.wrapping_mul(kind.unit() as u32),
+        bytes_per_line: line_bytes(kind, width) as u32,
     }
 }
 
@@ -111,9 +113,17 @@ fn wrong_in<R: Threads + Sync>(
     Some((planes.inks(), planes.width(), planes.rows(), wrong))
 }
 
+const KINDS: [Kind; 5] = [
+    Kind::Gray8,
+    Kind::Black8,
+    Kind::Rgb8,
+    Kind::Black1,
+    Kind::Cmyk8,
+];
+
 // All small pages on a printer by a kernel.
 fn each_page<R: Abort + Threads + Sync>(rt: &R, alloc: Global, p: &Profile, kernel: Kernel) {
-    for kind in [Kind::Gray8, Kind::Black8, Kind::Rgb8] {
+    for kind in KINDS {
         for (width, height) in [(1, 5), (7, 256), (8, 257), (9, 515)] {
             let f = form(kind, width + 3, height + 3);
             let found = wrong_in(rt, alloc, p, f, kernel, 2);

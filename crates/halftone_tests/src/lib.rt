@@ -1,5 +1,5 @@
-//! Tests of what is made of a page's pixels: amounts of inks worked by hand, small pages against the definitions, and
-//! pages of a stream.
+//! Tests of what is made of a page's pixels: amounts of inks worked by hand, whole lines against a plain loop, small pages
+//! against the definitions, and pages of a stream.
 #![tactic(auto)]
 
 #[cfg(test)]
@@ -7,6 +7,10 @@ mod definition;
 #[cfg(test)]
 mod halftoner;
 #[cfg(test)]
+mod lengths;
+#[cfg(test)]
 mod reader;
 #[cfg(test)]
 mod separator;
+#[cfg(test)]
+mod whole_lines;

@@ -1,7 +1,9 @@
 //! Cells of the table of inks, worked by hand.
+use crate::definition::HALF;
+use crate::lengths::line_bytes;
 use dot_planes::InkRows;
 use ink_separation::amounts;
-use printer_profile::{InkSet, Profile, TINY1};
+use printer_profile::{InkSet, Profile, STRAIGHT_CURVE, TINY1};
 use pwg_definitions::Kind;
 use separation_definitions::Window;
 use std::alloc::Global;
@@ -13,7 +15,8 @@ struct Cell {
     inks: InkSet,
     black_start: u8,
     limits: [u8; 4],
-    pixel: [u8; 3],
+    curves: [[u16; 17]; 4],
+    pixel: [u8; 4],
     want: [u8; 4],
 }
 
@@ -23,8 +26,17 @@ const GREY: Cell = Cell {
     inks: InkSet::Cmyk,
     black_start: 0,
     limits: [255, 255, 255, 255],
-    pixel: [100, 100, 100],
+    curves: [STRAIGHT_CURVE; 4],
+    pixel: [100, 100, 100, 0],
     want: [155, 0, 0, 0],
+};
+
+/// A pixel of four inks on a printer of four inks.
+const FOUR: Cell = Cell {
+    kind: Kind::Cmyk8,
+    pixel: [10, 20, 30, 200],
+    want: [200, 10, 20, 30],
+    ..GREY
 };
 
 const FIRST_PIXEL: Window = Window {
@@ -40,9 +52,10 @@ fn amounts_of(alloc: Global, cell: &Cell) -> Option<[u8; 4]> {
         inks: cell.inks,
         black_start: cell.black_start,
         limits: cell.limits,
+        curves: cell.curves,
         ..TINY1
     };
-    if profile.check().is_err() {
+    if profile.check().is_err() || line_bytes(cell.kind, 1) > cell.pixel.len() {
         return None;
     }
     let mut rows = InkRows::make(alloc, 1, 1, cell.inks.count()).ok()?;
@@ -90,19 +103,19 @@ fn red_as_grey_and_an_amount_under_a_limit(rt: HostRuntime) {
     const CELLS: [Cell; 12] = [
         Cell {
             inks: InkSet::K,
-            pixel: [255, 0, 0],
+            pixel: [255, 0, 0, 0],
             want: [179, 0, 0, 0],
             ..GREY
         },
         Cell {
             inks: InkSet::K,
-            pixel: [0, 255, 0],
+            pixel: [0, 255, 0, 0],
             want: [106, 0, 0, 0],
             ..GREY
         },
         Cell {
             inks: InkSet::K,
-            pixel: [0, 0, 255],
+            pixel: [0, 0, 255, 0],
             want: [227, 0, 0, 0],
             ..GREY
         },
@@ -110,7 +123,7 @@ fn red_as_grey_and_an_amount_under_a_limit(rt: HostRuntime) {
             kind: Kind::Gray8,
             inks: InkSet::K,
             limits: [224, 255, 255, 255],
-            pixel: [154, 0, 0],
+            pixel: [154, 0, 0, 0],
             want: [88, 0, 0, 0],
             ..GREY
         },
@@ -118,7 +131,7 @@ fn red_as_grey_and_an_amount_under_a_limit(rt: HostRuntime) {
             kind: Kind::Black8,
             inks: InkSet::K,
             limits: [224, 255, 255, 255],
-            pixel: [101, 0, 0],
+            pixel: [101, 0, 0, 0],
             want: [88, 0, 0, 0],
             ..GREY
         },
@@ -126,7 +139,7 @@ fn red_as_grey_and_an_amount_under_a_limit(rt: HostRuntime) {
             kind: Kind::Gray8,
             inks: InkSet::Cmy,
             limits: [1, 255, 224, 128],
-            pixel: [154, 0, 0],
+            pixel: [154, 0, 0, 0],
             want: [101, 88, 50, 0],
             ..GREY
         },
@@ -134,43 +147,124 @@ fn red_as_grey_and_an_amount_under_a_limit(rt: HostRuntime) {
             kind: Kind::Black8,
             inks: InkSet::Cmy,
             limits: [1, 255, 224, 128],
-            pixel: [101, 0, 0],
+            pixel: [101, 0, 0, 0],
             want: [101, 88, 50, 0],
             ..GREY
         },
         Cell {
             inks: InkSet::Cmy,
             limits: [1, 255, 224, 128],
-            pixel: [10, 154, 55],
+            pixel: [10, 154, 55, 0],
             want: [245, 88, 100, 0],
             ..GREY
         },
         Cell {
             kind: Kind::Gray8,
             limits: [128, 255, 255, 255],
-            pixel: [55, 0, 0],
+            pixel: [55, 0, 0, 0],
             want: [100, 0, 0, 0],
             ..GREY
         },
         Cell {
             kind: Kind::Black8,
             limits: [128, 255, 255, 255],
-            pixel: [200, 0, 0],
+            pixel: [200, 0, 0, 0],
             want: [100, 0, 0, 0],
             ..GREY
         },
         Cell {
             black_start: 64,
-            pixel: [192, 100, 0],
+            pixel: [192, 100, 0, 0],
             want: [0, 63, 155, 255],
             ..GREY
         },
         Cell {
             black_start: 64,
             limits: [255, 224, 200, 180],
-            pixel: [55, 0, 155],
+            pixel: [55, 0, 155, 0],
             want: [48, 133, 162, 36],
             ..GREY
+        },
+    ];
+    each(&rt, rt.alloc(), &CELLS);
+}
+
+#[test]
+fn a_cmyk_pixel_in_each_ink_set(rt: HostRuntime) {
+    const CELLS: [Cell; 4] = [
+        FOUR,
+        Cell {
+            inks: InkSet::Cmy,
+            want: [210, 220, 230, 0],
+            ..FOUR
+        },
+        Cell {
+            inks: InkSet::K,
+            want: [219, 0, 0, 0],
+            ..FOUR
+        },
+        Cell {
+            limits: [128, 255, 128, 51],
+            want: [100, 10, 10, 6],
+            ..FOUR
+        },
+    ];
+    each(&rt, rt.alloc(), &CELLS);
+}
+
+#[test]
+fn cyan_and_black_saturate(rt: HostRuntime) {
+    const CELLS: [Cell; 2] = [
+        Cell {
+            inks: InkSet::Cmy,
+            pixel: [100, 0, 0, 200],
+            want: [255, 200, 200, 0],
+            ..FOUR
+        },
+        // red 0, green and blue 55
+        Cell {
+            inks: InkSet::K,
+            pixel: [100, 0, 0, 200],
+            want: [217, 0, 0, 0],
+            ..FOUR
+        },
+    ];
+    each(&rt, rt.alloc(), &CELLS);
+}
+
+#[test]
+fn an_ink_has_its_own_tone_before_its_limit(rt: HostRuntime) {
+    /// Twice the amount, at most 255.
+    const DOUBLE: [u16; 17] = [
+        0, 32, 64, 96, 128, 160, 192, 224, 256, 256, 256, 256, 256, 256, 256, 256, 256,
+    ];
+    const CURVES: [[u16; 17]; 4] = [DOUBLE, HALF, STRAIGHT_CURVE, DOUBLE];
+    const CELLS: [Cell; 4] = [
+        Cell {
+            curves: CURVES,
+            want: [255, 5, 20, 60],
+            ..FOUR
+        },
+        Cell {
+            curves: CURVES,
+            limits: [128, 128, 128, 128],
+            want: [128, 2, 10, 30],
+            ..FOUR
+        },
+        Cell {
+            inks: InkSet::Cmy,
+            curves: CURVES,
+            limits: [1, 255, 128, 128],
+            want: [105, 110, 128, 0],
+            ..FOUR
+        },
+        Cell {
+            kind: Kind::Black1,
+            inks: InkSet::K,
+            curves: [HALF, STRAIGHT_CURVE, STRAIGHT_CURVE, STRAIGHT_CURVE],
+            pixel: [0x80, 0, 0, 0],
+            want: [127, 0, 0, 0],
+            ..FOUR
         },
     ];
     each(&rt, rt.alloc(), &CELLS);

@@ -1,12 +1,13 @@
 //! The lines of a page, each taken as far as the stage.
 ghost use Rattle.printer_profile.specs.Validity.{check};
-ghost use Rattle.std.specs.Prelude.{IsOk};
+ghost use Rattle.pwg_definitions.specs.Header.{line_bytes as line_bytes_of, row_of};
+ghost use Rattle.std.specs.Prelude.{IsOk, ◌<◌, ◌≡◌, ◌^◌};
 
 use crate::stages::Stage;
 use dot_planes::InkRows;
 use ink_separation::Separator;
 use printer_profile::Profile;
-use pwg_definitions::{MOST_COLUMNS, PageForm};
+use pwg_definitions::{Kind, MOST_COLUMNS, PageForm};
 use separation_definitions::Window;
 use std::alloc::Global;
 use weave_base::Memory;
@@ -71,11 +72,24 @@ impl Lines {
     }
 }
 
-// Separates a line into the amounts of a row. Skips it unless the row has the window's width and the printer's inks.
-fn separate(separator: &Separator, line: &[u8], row: &mut InkRows) {
+// How many bytes pixels of a kind take.
+fn line_bytes(kind: Kind, pixels: usize) -> usize
+    requires { pixels < 2 ^ 33 }
+    ensures { result ≡ line_bytes_of pixels (row_of kind).bits_per_pixel }
+{
+    match kind {
+        Kind::Gray8 | Kind::Black8 => pixels,
+        Kind::Rgb8 => 3 * pixels,
+        Kind::Black1 => (pixels + 7) / 8,
+        Kind::Cmyk8 => 4 * pixels,
+    }
+}
+
+/// Separates a line into the amounts of a row. Skips it unless the row has the window's width and the printer's inks.
+pub fn separate(separator: &Separator, line: &[u8], row: &mut InkRows) {
     let window = separator.window();
     let pixels = window.left as usize + window.width as usize;
-    let inside = pixels * separator.kind().unit() <= line.len();
+    let inside = line_bytes(separator.kind(), pixels) <= line.len();
     let fits = row.width() == window.width && row.inks() == separator.inks().count();
     if inside && fits && window.width <= MOST_COLUMNS && row.rows() > 0 {
         separator.separate(line, 0, row);

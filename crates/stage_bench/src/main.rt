@@ -7,12 +7,15 @@
 //! dots.
 //!
 //! `slab-team` diffuses a slab of 2976 by 256 pseudo-random amounts in the profile's inks by this many workers, and
-//! prints the fewest nanoseconds of twenty runs; `slab-plain` does so by the plain program. They read no page.
+//! prints the fewest nanoseconds of twenty runs; `slab-plain` does so by the plain program. `separate-gray`,
+//! `separate-black`, `separate-rgb`, `separate-black1` and `separate-cmyk` separate 256 lines of 2886 pseudo-random
+//! pixels of that kind, and print the fewest nanoseconds of a hundred runs. They read no page.
 //!
 //! Nothing is proved of it but safety. Its stored run counts the dots of a small page.
 #![tactic(auto)]
 
 mod lines;
+mod separation;
 mod slab;
 mod stages;
 #[cfg(test)]
@@ -20,6 +23,7 @@ mod tests;
 
 use job_profile::find_profile;
 use job_words::{Words, profile_name, read_words};
+use separation::{kind_named, time_separation};
 use slab::{time_plainly, time_slab};
 use stages::{run_stage, stage_named};
 use std::env;
@@ -53,6 +57,9 @@ fn measure<R: Threads + Sync>(rt: &HostRuntime, threads: &R) -> Option<u128> {
         "slab-team" => return time_slab(rt, threads, job.kernel, inks, workers),
         "slab-plain" => return time_plainly(rt, job.kernel, inks),
         _ => {}
+    }
+    if let Some(kind) = kind_named(&name) {
+        return time_separation(rt, &profile, kind);
     }
     let stage = stage_named(&name)?;
     let mut input = StdSource::make(rt.stdin());
