@@ -191,6 +191,7 @@ prints_none p k input out meters unread unwritten uncounted = (
       are = refl;
     };
     writes = appends_none out.before out.now unwritten;
+    passes = tt;
   },
   record { admitted = tt; counts = uncounted },
 )

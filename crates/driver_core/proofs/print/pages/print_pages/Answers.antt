@@ -1,9 +1,10 @@
-use Rattle.std.proofs.Common.{Err, Option, refl, arith, ap, sym, ◌∙◌}
+use Rattle.std.proofs.Common.{Err, Option, arith, ap, subst, sym, ◌∙◌, ◌≤◌}
 use Rattle.std.proofs.lemmas.Result.{err_from_is_err_and}
 use Rattle.diffusion_kernel.specs.Tables.{table_of}
 use Rattle.halftone_reader.specs.declared.pages.HalftonedPage.{HalftonedPage}
 use Rattle.page_definitions.specs.Dots.{halftone}
 use Rattle.ink_meter.proofs.Pages.{page_dots-is}
+use Rattle.printer_definitions.specs.Printer.{Printer}
 use Rattle.printer_profile.proofs.CheckedProfiles.{can_print}
 use Rattle.pwg_definitions.specs.declared.pages.PageForm.{PageForm}
 use Rattle.separation_definitions.specs.Windows.{wanted_by, window_of}
@@ -30,7 +31,8 @@ pub returns-in-Err-read_page : goal.returns-in-Err-read_page
 returns-in-Err-read_page g c =
     page_stopped (Option HalftonedPage) c.args.profile.now (table_of c.args.kernel)
     _ _ _ _ _ _ c.pages.reader c.read_page.new.reader c.pages.number _ _ _ _ _ c.in-Err-read_page.stop
-    c.stream_answer-in-Err-read_page.result (can_print c.args.profile.now (omega arith) c.requires)
+    c.stream_answer-in-Err-read_page.result (can_print c.args.profile.now
+    (subst (λ (p : Printer). p.nozzles ≤ 255) c.profile.view_is (omega (arith, c.if-prove.false))) c.requires)
     c.pages.invariant.stream.0 c.pages.invariant.stream.1
     c.in-Err-read_page.ensures.input c.in-Err-read_page.ensures.place c.pages.invariant.read_later c.in-Err-read_page.ensures.read c.read_page.ensures.used
     c.stream_answer-in-Err-read_page.ensures
@@ -40,7 +42,8 @@ returns-in-Ok-None g c =
     let end = rw c.in-Ok-None.field-0-is at c.in-Ok-None.ensures.none in
     stream_done c.args.profile.now (table_of c.args.kernel) _ _ _ _ _ _ c.pages.reader c.read_page.new.reader c.pages.number
     (g.S.Source.faults c.args.input.now) (g.S.Source.faults c.read_page.new.s) (g.K.Sink.faults c.args.out.now)
-    (g.K.Sink.faults c.pages.out) (can_print c.args.profile.now (omega arith) c.requires)
+    (g.K.Sink.faults c.pages.out) (can_print c.args.profile.now
+    (subst (λ (p : Printer). p.nozzles ≤ 255) c.profile.view_is (omega (arith, c.if-prove.false))) c.requires)
     c.pages.invariant.stream.0 c.pages.invariant.stream.1 end.0 end.1 c.read_page.ensures.used
 
 pub write_page-requires-clause-wanted : goal.write_page-requires-clause-wanted
@@ -71,13 +74,14 @@ returns-in-Err-Write g c =
     let page = halftoned.page in
     let read = metered_read p k _ _ _ _ _ _ c.pages.reader c.read_page.new.reader c.pages.number
     page c.pages.invariant.stream halftoned.reads (rw c.in-Ok-Some.field-0-is at c.in-Ok-Some.ensures.between) in
-    let are = c.count_dots.ensures.dots p (halftone page p k) refl halftoned.dots ∙ page_dots-is p k page in
+    let are = c.count_dots.ensures.dots p (halftone page p k) (ap (λ (q : Printer). q.inks) (sym c.profile.view_is)) halftoned.dots ∙ page_dots-is p k page in
     let counts = one_counted p k _ _ _ _ page c.count_dots.result are read.1 c.in_ok-charge.ensures.room c.in_ok-charge.ensures.counted in
     let part = rw (page-bytes-is p k page c.in-Ok-Some.page.form halftoned.form_is) at
     (c.in-Err-Write.ensures.part (halftone page p k) halftoned.dots (ap Err c.in-Err-Write.field-0-is)) in
     page_not_written p k _ _ _ _ _ _ c.read_page.new.reader c.pages.number
     (g.S.Source.faults c.args.input.now) (g.S.Source.faults c.read_page.new.s) _ _ _ page
-    (can_print c.args.profile.now (omega arith) c.requires) read.0 counts part c.pages.invariant.written_later (c.in-Err-Write.ensures.write (ap Err c.in-Err-Write.field-0-is))
+    (can_print c.args.profile.now
+    (subst (λ (p : Printer). p.nozzles ≤ 255) c.profile.view_is (omega (arith, c.if-prove.false))) c.requires) read.0 counts part c.pages.invariant.written_later (c.in-Err-Write.ensures.write (ap Err c.in-Err-Write.field-0-is))
 
 pub returns-in-Err-Memory : goal.returns-in-Err-Memory
 returns-in-Err-Memory g c =
@@ -86,13 +90,14 @@ returns-in-Err-Memory g c =
     let halftoned = rw c.in-Ok-Some.field-0-is at c.in-Ok-Some.ensures.page in
     let read = metered_read p k _ _ _ _ _ _ c.pages.reader c.read_page.new.reader c.pages.number
     halftoned.page c.pages.invariant.stream halftoned.reads (rw c.in-Ok-Some.field-0-is at c.in-Ok-Some.ensures.between) in
-    let are = c.count_dots.ensures.dots p (halftone halftoned.page p k) refl halftoned.dots ∙ page_dots-is p k halftoned.page in
+    let are = c.count_dots.ensures.dots p (halftone halftoned.page p k) (ap (λ (q : Printer). q.inks) (sym c.profile.view_is)) halftoned.dots ∙ page_dots-is p k halftoned.page in
     let counts = one_counted p k _ _ _
     _ halftoned.page c.count_dots.result are read.1 c.in_ok-charge.ensures.room c.in_ok-charge.ensures.counted in
     page_without_room p k _ _ _ _ _ _ c.read_page.new.reader c.pages.number
     (g.S.Source.faults c.args.input.now) (g.S.Source.faults c.read_page.new.s)
     (g.K.Sink.faults c.args.out.now) (g.K.Sink.faults c.write_page.new.k) halftoned.page
-    (can_print c.args.profile.now (omega arith) c.requires) read.0 counts (c.in-Err-Memory.ensures.memory (ap Err c.in-Err-Memory.field-0-is))
+    (can_print c.args.profile.now
+    (subst (λ (p : Printer). p.nozzles ≤ 255) c.profile.view_is (omega (arith, c.if-prove.false))) c.requires) read.0 counts (c.in-Err-Memory.ensures.memory (ap Err c.in-Err-Memory.field-0-is))
 
 pub pages-preserved : goal.pages-preserved
 pages-preserved g c =
@@ -102,7 +107,7 @@ pages-preserved g c =
     let page = halftoned.page in
     let read = metered_read p k _ _ _ _ _ _ c.pages.reader c.read_page.new.reader c.pages.number
     page c.pages.invariant.stream halftoned.reads (rw c.in-Ok-Some.field-0-is at c.in-Ok-Some.ensures.between) in
-    let are = c.count_dots.ensures.dots p (halftone page p k) refl halftoned.dots ∙ page_dots-is p k page in
+    let are = c.count_dots.ensures.dots p (halftone page p k) (ap (λ (q : Printer). q.inks) (sym c.profile.view_is)) halftoned.dots ∙ page_dots-is p k page in
     let counts = one_counted p k _ _ _ _ page c.count_dots.result are read.1 c.in_ok-charge.ensures.room c.in_ok-charge.ensures.counted in
     record {
       stream = metered_written p k _ _ _ _ _ _ c.read_page.new.reader c.pages.number page read.0 counts
@@ -119,9 +124,10 @@ returns-in_err-charge g c =
     let page = halftoned.page in
     let read = metered_read p k _ _ _ _ _ _ c.pages.reader c.read_page.new.reader c.pages.number
     page c.pages.invariant.stream halftoned.reads (rw c.in-Ok-Some.field-0-is at c.in-Ok-Some.ensures.between) in
-    let are = c.count_dots.ensures.dots p (halftone page p k) refl halftoned.dots ∙ page_dots-is p k page in
+    let are = c.count_dots.ensures.dots p (halftone page p k) (ap (λ (q : Printer). q.inks) (sym c.profile.view_is)) halftoned.dots ∙ page_dots-is p k page in
     let error = err_from_is_err_and c.from_residual.result c.from_residual.ensures.1 in
     rw (error.1, error.2) (page_over p k _ _ _ _ _ _ _ c.read_page.new.reader c.pages.number
     (g.S.Source.faults c.args.input.now) (g.S.Source.faults c.read_page.new.s) (g.K.Sink.faults c.args.out.now)
     (g.K.Sink.faults c.pages.out) page c.count_dots.result c.in_err-charge.field-0.0
-    (can_print c.args.profile.now (omega arith) c.requires) read.0 read.1 are c.in_err-charge.ensures.over c.in_err-charge.ensures.kept)
+    (can_print c.args.profile.now
+    (subst (λ (p : Printer). p.nozzles ≤ 255) c.profile.view_is (omega (arith, c.if-prove.false))) c.requires) read.0 read.1 are c.in_err-charge.ensures.over c.in_err-charge.ensures.kept)
