@@ -88,7 +88,7 @@ fn fill(row: &mut [u8], kinds: u32, first: u32) -> u32 {
     let mut seed = first;
     for byte in row {
         seed = seed.wrapping_mul(1_664_525).wrapping_add(1_013_904_223);
-        *byte = ((seed >> 16) % kinds.max(1)) as u8;
+        *byte = u8::try_from((seed >> 16) % kinds.max(1)).unwrap_or(0);
     }
     seed
 }

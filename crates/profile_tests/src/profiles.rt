@@ -131,34 +131,41 @@ fn tones(profile: &Profile, a: u8) -> Option<[u8; 2]> {
     }
 }
 
-/// Stops the test where amounts do not have their tones by a curve of black.
-fn same_tones(rt: &impl Abort, curve: [u16; 17], cases: &[(u8, u8)]) {
-    let profile = Profile {
-        curves: [curve, FULL, FULL, STRAIGHT_CURVE],
-        ..GOOD
-    };
+/// Profiles with the half curve, the full one and the one with flat parts for black, and the straight one for yellow.
+const HALVED: Profile = Profile {
+    curves: [HALF, FULL, FULL, STRAIGHT_CURVE],
+    ..GOOD
+};
+
+const FILLED: Profile = Profile {
+    curves: [FULL, HALF, HALF, STRAIGHT_CURVE],
+    ..GOOD
+};
+
+const STEPPED: Profile = Profile {
+    curves: [STEPS, FULL, FULL, STRAIGHT_CURVE],
+    ..GOOD
+};
+
+/// Stops the test where amounts do not have these tones of black.
+fn same_tones(rt: &impl Abort, profile: &Profile, cases: &[(u8, u8)]) {
     for (a, tone) in cases {
-        assert!(rt; tones(&profile, *a) == Some([*tone, *a]), "{a}");
+        assert!(rt; tones(profile, *a) == Some([*tone, *a]), "{a}");
     }
 }
 
 #[test]
 fn tones_of_the_half_curve(rt: HostRuntime) {
-    same_tones(&rt, HALF, &[(255, 127), (16, 8), (1, 0), (2, 1), (0, 0)]);
+    const CASES: [(u8, u8); 5] = [(255, 127), (16, 8), (1, 0), (2, 1), (0, 0)];
+    same_tones(&rt, &HALVED, &CASES);
 }
 
 #[test]
 fn tones_of_curves_with_flat_parts(rt: HostRuntime) {
-    same_tones(
-        &rt,
-        FULL,
-        &[(0, 0), (1, 16), (15, 240), (16, 255), (255, 255)],
-    );
-    same_tones(
-        &rt,
-        STEPS,
-        &[(16, 10), (31, 10), (32, 10), (40, 15), (255, 20)],
-    );
+    const FULL_TONES: [(u8, u8); 5] = [(0, 0), (1, 16), (15, 240), (16, 255), (255, 255)];
+    const STEP_TONES: [(u8, u8); 5] = [(16, 10), (31, 10), (32, 10), (40, 15), (255, 20)];
+    same_tones(&rt, &FILLED, &FULL_TONES);
+    same_tones(&rt, &STEPPED, &STEP_TONES);
 }
 
 #[test]

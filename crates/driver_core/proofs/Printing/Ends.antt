@@ -184,17 +184,16 @@ without_sync : (p : Printer) (k : Table) (before left held : Option (List ℕ)) 
     → PrintOutcome p k (record { before = before; now = left; faults_before = f0; faults_now = f1 })
     (record { before = held; now = held; faults_before = g0; faults_now = g1 })
     (record { before = accounts; now = accounts }) (stream_answer why)
-without_sync p k before left held accounts f0 f1 g0 g1 (stop.Input page line cause) bad place cause_is more =
-    (
-      record {
-        pages = [];
-        told = some before bad;
-        stand = omega (arith, place.0);
-        writes = Appends-nil held;
-        passes = tt;
-      },
-      none_counted p k accounts,
-    )
+without_sync p k before left held accounts f0 f1 g0 g1 (stop.Input page line cause) bad place cause_is more = (
+  record {
+    pages = [];
+    told = some before bad;
+    stand = omega (arith, place.0);
+    writes = Appends-nil held;
+    passes = tt;
+  },
+  none_counted p k accounts,
+)
   where
     some : (o : Option (List ℕ))
         → IfSome o (λ bytes. (want : Wanted) → stream want bytes ≡ record { pages = []; end = Fault page line cause })
@@ -231,8 +230,7 @@ in_page : (T : Type 0) (p : Printer) (k : Table) (before left left' held now : O
     → PrintOutcome p k (record { before = before; now = left'; faults_before = f0; faults_now = f2 })
     (record { before = held; now = now; faults_before = g0; faults_now = g1 }) meters (stream_answer why)
 in_page T p k before left left' held now meters old new number f0 f1 f2 g0 g1
-    (stop.Input page line cause) can so_far counts bad place later cause_is more =
-    (
+    (stop.Input page line cause) can so_far counts bad place later cause_is more = (
       record {
         pages = so_far.done;
         told = told before (text_of old left) so_far.used bad;
