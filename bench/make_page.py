@@ -3,22 +3,23 @@
 
     make_page.py KIND WIDTH HEIGHT DPI SEED FILE
 
-KIND is gray, black or rgb. The page is the same for the same words, and has no two equal lines, so that neither runs of
-units nor repeated lines make it easy.
+KIND is gray, black, rgb, black1 (black of one bit) or cmyk. The page is the same for the same words, and has no two
+equal lines, so that neither runs of units nor repeated lines make it easy.
 """
 import math
 import struct
 import sys
 
-# ColorSpace, BitsPerPixel and channels of each kind (PWG 5102.4, section 4.3)
-KINDS = {"gray": (18, 8, 1), "black": (3, 8, 1), "rgb": (19, 24, 3)}
+# ColorSpace, BitsPerColor and channels of each kind (PWG 5102.4, section 4.3)
+KINDS = {"gray": (18, 8, 1), "black": (3, 8, 1), "rgb": (19, 8, 3), "black1": (3, 1, 1), "cmyk": (6, 8, 4)}
 
 
 def header(kind, width, height, dpi):
-    space, bits, channels = KINDS[kind]
+    space, depth, channels = KINDS[kind]
+    bits = depth * channels
     page = bytearray(1796)
     page[:9] = b"PwgRaster"
-    fields = {276: dpi, 280: dpi, 340: 1, 372: width, 376: height, 384: 8, 388: bits,
+    fields = {276: dpi, 280: dpi, 340: 1, 372: width, 376: height, 384: depth, 388: bits,
               392: (width * bits + 7) // 8, 400: space, 420: channels, 456: 1, 460: 1}
     for offset, number in fields.items():
         struct.pack_into(">I", page, offset, number)
@@ -52,7 +53,17 @@ def lines(kind, width, height, seed):
             row = across[c]
             level = down[c][y]
             line[c::channels] = bytes((row[x] * 3 + level) // 4 for x in range(width))
-        yield bytes(a + b for a, b in zip(line, speck))
+        if KINDS[kind][1] == 1:
+            yield packed(line, noise, (y * 6007) % len(noise))
+        else:
+            yield bytes(a + b for a, b in zip(line, speck))
+
+
+def packed(line, noise, start):
+    """A line of one bit a pixel, black where the pixel's level is under a threshold of noise."""
+    thresholds = (noise * (2 + len(line) // len(noise)))[start:start + len(line)]
+    bits = "".join("1" if level < 5 * threshold else "0" for level, threshold in zip(line, thresholds))
+    return int(bits.ljust((len(line) + 7) // 8 * 8, "0"), 2).to_bytes((len(line) + 7) // 8, "big")
 
 
 def literal(line, unit):
