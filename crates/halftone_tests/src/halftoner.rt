@@ -47,7 +47,7 @@ fn form(kind: Kind, width: u32, height: u32) -> PageForm {
         width,
         height,
         kind,
-        bytes_per_line: line_bytes(kind, width) as u32,
+        bytes_per_line: u32::try_from(line_bytes(kind, width)).unwrap_or(0),
     }
 }
 
@@ -88,7 +88,10 @@ fn planes_of<R: Threads + Sync>(
     for y in 0..f.height {
         let line = line_at(f.kind, y);
         let line = &line[..f.bytes_per_line as usize];
-        h.lines(&team, line, 1).ok()?;
+        match h.lines(&team, line, 1) {
+            Ok(()) => {}
+            Err(_) => return None,
+        }
     }
     Some(h.finish())
 }
@@ -165,7 +168,10 @@ fn rows_with_dots<R: Threads + Sync>(rt: &R, alloc: Global, height: u32) -> Opti
         workers: 1,
         gate: &OpenGate,
     };
-    h.lines(&team, &[0x9B], height).ok()?;
+    match h.lines(&team, &[0x9B], height) {
+        Ok(()) => {}
+        Err(_) => return None,
+    }
     let planes = h.finish();
     if planes.inks() != 1 || planes.width() != 1 || planes.rows() != height {
         return None;

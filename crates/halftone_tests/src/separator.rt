@@ -1,6 +1,7 @@
 //! Cells of the table of inks, worked by hand.
 use crate::definition::HALF;
 use crate::lengths::line_bytes;
+use crate::whole_lines::HALVED;
 use dot_planes::InkRows;
 use ink_separation::amounts;
 use printer_profile::{InkSet, Profile, STRAIGHT_CURVE, TINY1};
@@ -9,13 +10,43 @@ use separation_definitions::Window;
 use std::alloc::Global;
 use std::process::Abort;
 
+/// Tone curves of a printer.
+#[derive(Clone, Copy)]
+enum Curves {
+    Straight,
+    /// Twice the amount of black and yellow, half of cyan, and magenta as it is.
+    Mixed,
+    /// Half the amount of black.
+    HalfBlack,
+}
+
+/// Twice the amount, at most 255.
+const DOUBLE: [u16; 17] = [
+    0, 32, 64, 96, 128, 160, 192, 224, 256, 256, 256, 256, 256, 256, 256, 256, 256,
+];
+
+/// A printer with mixed curves.
+const MIXED: Profile = Profile {
+    curves: [DOUBLE, HALF, STRAIGHT_CURVE, DOUBLE],
+    ..TINY1
+};
+
+// A printer with these curves.
+fn printer(curves: Curves) -> Profile {
+    match curves {
+        Curves::Straight => TINY1,
+        Curves::Mixed => MIXED,
+        Curves::HalfBlack => HALVED,
+    }
+}
+
 /// A pixel on a printer, and its amounts in the order of the printer's inks.
 struct Cell {
     kind: Kind,
     inks: InkSet,
     black_start: u8,
     limits: [u8; 4],
-    curves: [[u16; 17]; 4],
+    curves: Curves,
     pixel: [u8; 4],
     want: [u8; 4],
 }
@@ -26,7 +57,7 @@ const GREY: Cell = Cell {
     inks: InkSet::Cmyk,
     black_start: 0,
     limits: [255, 255, 255, 255],
-    curves: [STRAIGHT_CURVE; 4],
+    curves: Curves::Straight,
     pixel: [100, 100, 100, 0],
     want: [155, 0, 0, 0],
 };
@@ -52,8 +83,7 @@ fn amounts_of(alloc: Global, cell: &Cell) -> Option<[u8; 4]> {
         inks: cell.inks,
         black_start: cell.black_start,
         limits: cell.limits,
-        curves: cell.curves,
-        ..TINY1
+        ..printer(cell.curves)
     };
     if profile.check().is_err() || line_bytes(cell.kind, 1) > cell.pixel.len() {
         return None;
@@ -234,26 +264,21 @@ fn cyan_and_black_saturate(rt: HostRuntime) {
 
 #[test]
 fn an_ink_has_its_own_tone_before_its_limit(rt: HostRuntime) {
-    /// Twice the amount, at most 255.
-    const DOUBLE: [u16; 17] = [
-        0, 32, 64, 96, 128, 160, 192, 224, 256, 256, 256, 256, 256, 256, 256, 256, 256,
-    ];
-    const CURVES: [[u16; 17]; 4] = [DOUBLE, HALF, STRAIGHT_CURVE, DOUBLE];
     const CELLS: [Cell; 4] = [
         Cell {
-            curves: CURVES,
+            curves: Curves::Mixed,
             want: [255, 5, 20, 60],
             ..FOUR
         },
         Cell {
-            curves: CURVES,
+            curves: Curves::Mixed,
             limits: [128, 128, 128, 128],
             want: [128, 2, 10, 30],
             ..FOUR
         },
         Cell {
             inks: InkSet::Cmy,
-            curves: CURVES,
+            curves: Curves::Mixed,
             limits: [1, 255, 128, 128],
             want: [105, 110, 128, 0],
             ..FOUR
@@ -261,7 +286,7 @@ fn an_ink_has_its_own_tone_before_its_limit(rt: HostRuntime) {
         Cell {
             kind: Kind::Black1,
             inks: InkSet::K,
-            curves: [HALF, STRAIGHT_CURVE, STRAIGHT_CURVE, STRAIGHT_CURVE],
+            curves: Curves::HalfBlack,
             pixel: [0x80, 0, 0, 0],
             want: [127, 0, 0, 0],
             ..FOUR

@@ -8,8 +8,8 @@ use pwg_definitions::Kind;
 use separation_definitions::Window;
 use std::alloc::Global;
 
-/// Half of each amount of black.
-const HALVED: Profile = Profile {
+/// A printer whose curve halves black.
+pub(crate) const HALVED: Profile = Profile {
     curves: [HALF, STRAIGHT_CURVE, STRAIGHT_CURVE, STRAIGHT_CURVE],
     ..TINY1
 };
