@@ -11,4 +11,6 @@ mod profiles;
 #[cfg(test)]
 mod shelf;
 #[cfg(test)]
+mod texts;
+#[cfg(test)]
 mod words;
