@@ -11,6 +11,8 @@
 mod fits;
 mod laws;
 mod plan;
+#[cfg(test)]
+mod tests;
 
 pub use fits::shingle_fits;
 pub use laws::{
