@@ -1,0 +1,217 @@
+-- How often a stroke and the regular strokes fire a row.
+use Rattle.std.proofs.Common.{◌≡◌, ◌≢◌, ℕ, ◌+◌, ◌-◌, ◌*◌, ◌<◌, ◌≤◌, Bool, true, false, cond, not, ◌&&◌, ◌||◌, ◌==◌, inl, inr, ◌⊎◌}
+use Rattle.std.proofs.Common.{List, [], ◌∷◌, map, Option, None, Some, refl, sym, ◌∙◌, ap, subst, arith, nat_lt, nat_le, if◌then◌else◌}
+use Rattle.std.proofs.Math.Nat.{mul-le-mul_right}
+use Rattle.std.proofs.lemmas.Bool.{cases_eq, not-true, eq-eqb, eqb-true, and_from, cases_lt, le-leb, leb-true, lt-ltb, ltb-true}
+use Rattle.std.specs.Int.{IsGcd}
+use Rattle.std.specs.List.{count_by, sum_by}
+use Rattle.base_definitions.specs.Counting.{count_from}
+use Rattle.weave_definitions.specs.Weave.{pass_count}
+use Rattle.weave_definitions.proofs.Rounds.{Inverse, inverse}
+use Rattle.weave_definitions.proofs.Rows.{Counts, StandsOn, pass-low, place-only, row_under as weave_row}
+use Rattle.dead_nozzles.specs.Dead.{has}
+use Rattle.dead_nozzles.specs.Strokes.{Head, Shot, Stroke, firings_of, head_rows, is_fired, regular_strokes, row_under, shot, stroke_at}
+use Rattle.dead_nozzles.proofs.Lists.{One, Nowhere, Tells, both-true, count-cons, count-flat, sum-map, sum-tells}
+
+-- how often a row is fired
+abbrev pub count : ℕ → List Shot → ℕ
+count y shots = count_by (λ (s : Shot). s.row == y) shots
+
+pub fired-none : (y : ℕ) (shots : List Shot) → is_fired shots y ≡ false → count y shots ≡ 0
+fired-none y [] e = refl
+fired-none y (s ∷ shots) e = by_first (s.row == y) (fired-none y shots) refl e
+  where
+    by_first : (b : Bool) → (is_fired shots y ≡ false → count y shots ≡ 0) → (s.row == y) ≡ b → (b || is_fired shots y) ≡ false → count y (s ∷ shots) ≡ 0
+    by_first true later es e = cc
+    by_first false later es e =
+        omega (arith, count-cons (λ (s : Shot). s.row == y) s shots, ap {B = ℕ} (λ b. cond b 1 0) es, later e)
+
+pub fired-some : (y : ℕ) (shots : List Shot) → is_fired shots y ≡ true → 1 ≤ count y shots
+fired-some y [] e = cc
+fired-some y (s ∷ shots) e = by_first (s.row == y) (fired-some y shots) refl e
+  where
+    by_first : (b : Bool) → (is_fired shots y ≡ true → 1 ≤ count y shots) → (s.row == y) ≡ b → (b || is_fired shots y) ≡ true → 1 ≤ count y (s ∷ shots)
+    by_first true later es e = omega (arith, count-cons (λ (s : Shot). s.row == y) s shots, ap {B = ℕ} (λ b. cond b 1 0) es)
+    by_first false later es e = omega (arith, count-cons (λ (s : Shot). s.row == y) s shots, later e)
+
+pub is-fired : (y : ℕ) (shots : List Shot) → count y shots ≡ 1 → is_fired shots y ≡ true
+is-fired y shots e = by_test (is_fired shots y) refl
+  where
+    by_test : (b : Bool) → is_fired shots y ≡ b → b ≡ true
+    by_test true eb = refl
+    by_test false eb = absurd (omega (arith, e, fired-none y shots eb))
+
+pub not-fired : (y : ℕ) (shots : List Shot) → count y shots ≡ 0 → is_fired shots y ≡ false
+not-fired y shots e = by_test (is_fired shots y) refl
+  where
+    by_test : (b : Bool) → is_fired shots y ≡ b → b ≡ false
+    by_test true eb = absurd (omega (arith, e, fired-some y shots eb))
+    by_test false eb = refl
+
+-- ---- one nozzle in one stroke
+
+-- a nozzle is over a row of the window
+pub record Over (h : Head) (start i y : ℕ) : Type 0 where
+  pub place : start + i * h.pitch ≡ head_rows h + y
+  pub low : y < h.height
+
+pub over : (h : Head) (start i y : ℕ) → row_under h start i ≡ Some y → Over h start i y
+over h start i y e = by_test (nat_le first place) (nat_lt (place - first) h.height) refl refl e
+  where
+    place : ℕ
+    place = start + i * h.pitch
+
+    first : ℕ
+    first = head_rows h
+
+    by_test : (a b : Bool) → nat_le first place ≡ a → nat_lt (place - first) h.height ≡ b
+        → (if a && b then Some (place - first) else None) ≡ Some y → Over h start i y
+    by_test true true ea eb e =
+        let row : place - first ≡ y = cc in
+        let reached : first ≤ place = leb-true first place ea in
+        let inside : place - first < h.height = ltb-true (place - first) h.height eb in
+        record { place = omega arith; low = omega arith }
+    by_test true false ea eb e = cc
+    by_test false b ea eb e = cc
+
+pub under : (h : Head) (start i y : ℕ) → Over h start i y → row_under h start i ≡ Some y
+under h start i y o =
+    let place : ℕ = start + i * h.pitch in
+    let first : ℕ = head_rows h in
+    let same : place - first ≡ y = omega (arith, o.place) in
+    let reached : first ≤ place = omega (arith, o.place) in
+    let inside : place - first < h.height = omega (arith, o.place, o.low) in
+    ap (λ b. if b then Some (place - first) else None) (and_from _ _ (le-leb first place reached) (lt-ltb (place - first) h.height inside))
+    ∙ ap Some same
+
+-- a live nozzle is over a row that is wanted
+pub record Hits (h : Head) (wanted : ℕ → Bool) (start y i : ℕ) : Type 0 where
+  pub live : has h.dead i ≡ false
+  pub is_wanted : wanted y ≡ true
+  pub over : Over h start i y
+
+shot-tells : (h : Head) (wanted : ℕ → Bool) (start y i : ℕ)
+    → Tells (Hits h wanted start y) (λ i. count y (shot h wanted i (row_under h start i))) i
+shot-tells h wanted start y i = by_row (row_under h start i) refl
+  where
+    test : ℕ → Bool
+    test row = not (has h.dead i) && wanted row
+
+    by_row : (row : Option ℕ) → row_under h start i ≡ row
+        → (Hits h wanted start y i × (count y (shot h wanted i row) ≡ 1)) ⊎ ((Hits h wanted start y i → ⊥) × (count y (shot h wanted i row) ≡ 0))
+    by_row None e = inr (λ hit. let other : row_under h start i ≡ Some y = under h start i y hit.over in cc, refl)
+    by_row (Some row) e = by_test (test row) (row == y) refl refl
+      where
+        same : Hits h wanted start y i → row ≡ y
+        same hit = let both : Some row ≡ Some y = sym e ∙ under h start i y hit.over in cc
+
+        by_test : (b c : Bool) → (not (has h.dead i) && wanted row) ≡ b → (row == y) ≡ c
+            → (Hits h wanted start y i × (count y (cond b (record { nozzle = i; row = row } ∷ []) []) ≡ 1))
+            ⊎ ((Hits h wanted start y i → ⊥) × (count y (cond b (record { nozzle = i; row = row } ∷ []) []) ≡ 0))
+        by_test true true eb ec =
+            let is : row ≡ y = eqb-true row y ec in
+            let parts = both-true (not (has h.dead i)) (wanted row) eb in
+            inl (
+              record {
+                live = not-true (has h.dead i) parts.0;
+                is_wanted = ap wanted (sym is) ∙ parts.1;
+                over = over h start i y (e ∙ ap Some is);
+              },
+              ap {B = ℕ} (λ d. 0 + cond d 1 0) ec ∙ omega arith,
+            )
+        by_test true false eb ec =
+            inr (λ hit. let yes : (row == y) ≡ true = eq-eqb row y (same hit) in cc, ap {B = ℕ} (λ d. 0 + cond d 1 0) ec ∙ omega arith)
+        by_test false c eb ec =
+            inr (
+              λ hit. let all : (not (has h.dead i) && wanted row) ≡ true =
+                  ap (λ d. not d && wanted row) hit.live ∙ ap wanted (same hit) ∙ hit.is_wanted in cc,
+              refl,
+            )
+
+-- nozzles that stand over one row are one
+one-nozzle : (h : Head) (wanted : ℕ → Bool) (start y : ℕ) → 1 ≤ h.pitch → (k l : ℕ) → Hits h wanted start y k → Hits h wanted start y l → k ≡ l
+one-nozzle h wanted start y near k l a b =
+    elim (cases_eq k l) [
+      | inl e ↦ e
+      | inr apart ↦ absurd (by_order (k + 1) (l + 1) apart)
+    ]
+  where
+    equal : k * h.pitch ≡ l * h.pitch
+    equal = omega (arith, a.over.place, b.over.place)
+
+    lower : (small big : ℕ) → small < big → small * h.pitch ≡ big * h.pitch → ⊥
+    lower small big less e =
+        let most : (small + 1) * h.pitch ≤ big * h.pitch = mul-le-mul_right h.pitch (omega arith) in
+        let spread : (small + 1) * h.pitch ≡ small * h.pitch + h.pitch = omega arith in
+        omega (arith, most, spread, e, near)
+
+    by_order : (a b : ℕ) → k ≢ l → ⊥
+    by_order a b apart = elim (cases_lt k l) [ inl less ↦ lower k l less equal | inr le ↦ lower l k (omega (arith, apart)) (sym equal) ]
+
+-- how often a stroke fires a row
+pub stroke-tells : (h : Head) (wanted : ℕ → Bool) (start y : ℕ) → 1 ≤ h.pitch
+    → One (Hits h wanted start y) (count y (stroke_at h wanted start).shots) 0 h.nozzles
+    ⊎ Nowhere (Hits h wanted start y) (count y (stroke_at h wanted start).shots) 0 h.nozzles
+stroke-tells h wanted start y near =
+    let parts : count y (stroke_at h wanted start).shots ≡ sum_by (λ i. count y (shot h wanted i (row_under h start i))) (count_from 0 h.nozzles) =
+    count-flat (λ (s : Shot). s.row == y) (λ i. shot h wanted i (row_under h start i)) (count_from 0 h.nozzles) in
+    subst (λ n. One (Hits h wanted start y) n 0 h.nozzles ⊎ Nowhere (Hits h wanted start y) n 0 h.nozzles) (sym parts)
+    (sum-tells (Hits h wanted start y) (λ i. count y (shot h wanted i (row_under h start i))) 0 h.nozzles
+    (shot-tells h wanted start y) (one-nozzle h wanted start y near))
+
+-- ---- the regular strokes
+
+-- a live nozzle is over a row in a pass
+pub record InPass (h : Head) (y t : ℕ) : Type 0 where
+  pub nozzle : ℕ
+  pub few : nozzle < h.nozzles
+  pub hits : Hits h (λ row. true) (t * h.nozzles) y nozzle
+
+pub stands : (h : Head) (y t i : ℕ) → Over h (t * h.nozzles) i y → StandsOn h.nozzles h.pitch h.height t i y
+stands h y t i o = record { sum = o.place; low = o.low }
+
+-- one pass and one nozzle are over a row
+pub one-place : (h : Head) (y t i t' i' : ℕ) → 1 ≤ h.nozzles → 1 ≤ h.pitch → IsGcd h.nozzles h.pitch 1 → i < h.nozzles → i' < h.nozzles
+    → Over h (t * h.nozzles) i y → Over h (t' * h.nozzles) i' y → (t ≡ t') × (i ≡ i')
+one-place h y t i t' i' some near gcd few few' a b =
+    let n : ℕ = h.nozzles in
+    let found : Inverse h.nozzles h.pitch = inverse h.nozzles h.pitch some near gcd in
+    let first : ℕ = (h.nozzles - 1) * h.pitch in
+    let counts : Counts h.nozzles h.pitch h.nozzles h.pitch found.number first = record {
+      round_is = refl;
+      step_is = refl;
+      first_is = refl;
+      some = some;
+      inverse_is = found.is;
+    } in
+    let one = place-only h.nozzles h.pitch h.height y h.nozzles h.pitch found.number first t i counts few
+    (weave_row h.nozzles h.pitch h.height t i y (stands h y t i a)) in
+    let other = place-only h.nozzles h.pitch h.height y h.nozzles h.pitch found.number first t' i' counts few'
+    (weave_row h.nozzles h.pitch h.height t' i' y (stands h y t' i' b)) in
+    (one.0 ∙ sym other.0, one.1 ∙ sym other.1)
+
+pass-tells : (h : Head) (y : ℕ) → 1 ≤ h.pitch → (t : ℕ)
+    → Tells (InPass h y) (λ t. count y (stroke_at h (λ row. true) (t * h.nozzles)).shots) t
+pass-tells h y near t =
+    elim (stroke-tells h (λ row. true) (t * h.nozzles) y near) [
+      | inl one ↦ inl (record { nozzle = one.at; few = omega (arith, one.inside); hits = one.has }, one.once)
+      | inr nowhere ↦ inr (λ p. nowhere.none p.nozzle (omega arith) (omega (arith, p.few)) p.hits, nowhere.never)
+    ]
+
+-- how often the regular strokes fire a row
+pub regular-tells : (h : Head) (y : ℕ) → 1 ≤ h.nozzles → 1 ≤ h.pitch → IsGcd h.nozzles h.pitch 1
+    → One (InPass h y) (count y (firings_of (regular_strokes h))) 0 (pass_count h.nozzles h.pitch h.height)
+    ⊎ Nowhere (InPass h y) (count y (firings_of (regular_strokes h))) 0 (pass_count h.nozzles h.pitch h.height)
+regular-tells h y some near gcd =
+    let pass : ℕ → Stroke = λ t. stroke_at h (λ row. true) (t * h.nozzles) in
+    let many : ℕ = pass_count h.nozzles h.pitch h.height in
+    let parts : count y (firings_of (regular_strokes h)) ≡ sum_by (λ t. count y (pass t).shots) (count_from 0 many) =
+    count-flat (λ (s : Shot). s.row == y) (λ (s : Stroke). s.shots) (map pass (count_from 0 many))
+    ∙ sum-map (λ (s : Stroke). count y s.shots) pass (count_from 0 many) in
+    subst (λ n. One (InPass h y) n 0 (pass_count h.nozzles h.pitch h.height) ⊎ Nowhere (InPass h y) n 0 (pass_count h.nozzles h.pitch h.height)) (sym parts)
+    (sum-tells (InPass h y) (λ t. count y (pass t).shots) 0 many (pass-tells h y near)
+    (λ k l a b. (one-place h y k a.nozzle l b.nozzle some near gcd a.few b.few a.hits.over b.hits.over).0))
+
+-- the pass in which a nozzle is over a row is one of those
+pub pass-is : (h : Head) (y t i : ℕ) → 1 ≤ h.nozzles → Over h (t * h.nozzles) i y → t < pass_count h.nozzles h.pitch h.height
+pass-is h y t i some o = pass-low h.nozzles h.pitch h.height t i y some (stands h y t i o)

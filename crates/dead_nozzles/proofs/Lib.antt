@@ -1,0 +1,5 @@
+pub mod Lists
+pub mod Firing
+pub mod MakeUp
+pub mod Starts
+pub mod DeadLists

@@ -1,0 +1,190 @@
+-- Sums, counts and tests over lists.
+use Rattle.std.proofs.Common.{◌≡◌, ◌≢◌, ℕ, zero, suc, ◌+◌, ◌<◌, ◌≤◌, Bool, true, false, cond, ◌&&◌, ◌||◌, ◌==◌, inl, inr, ◌⊎◌}
+use Rattle.std.proofs.Common.{List, [], ◌∷◌, ◌++◌, map, refl, sym, ◌∙◌, ap, subst, arith}
+use Rattle.std.proofs.lemmas.Bool.{cases_eq, eq-eqb, eqb-true}
+use Rattle.std.proofs.lemmas.List.Sums.{sum_by-append, sum_by-cons}
+use Rattle.std.specs.List.{AllByRecursion, count_by, filter, flat_map, list_any, sum_by}
+use Rattle.base_definitions.specs.Counting.{count_from}
+use Rattle.dead_nozzles.specs.Dead.{has}
+
+-- ---- sums
+
+-- a list that is put together has as many as its parts
+pub count-flat : {X Y : Type 0} (test : Y → Bool) (f : X → List Y) (xs : List X)
+    → count_by test (flat_map f xs) ≡ sum_by (λ x. count_by test (f x)) xs
+count-flat test f [] = refl
+count-flat test f (x ∷ xs) =
+    sum_by-append (λ y. cond (test y) 1 0) (f x) (flat_map f xs)
+    ∙ ap (λ n. count_by test (f x) + n) (count-flat test f xs)
+    ∙ sym (sum_by-cons (λ x. count_by test (f x)) x xs)
+
+pub sum-map : {X Y : Type 0} (g : Y → ℕ) (f : X → Y) (xs : List X) → sum_by g (map f xs) ≡ sum_by (λ x. g (f x)) xs
+sum-map g f [] = refl
+sum-map g f (x ∷ xs) =
+    sum_by-cons g (f x) (map f xs) ∙ ap (λ n. g (f x) + n) (sum-map g f xs) ∙ sym (sum_by-cons (λ x. g (f x)) x xs)
+
+pub count-more : {Y : Type 0} (test : Y → Bool) (xs ys : List Y) → count_by test (xs ++ ys) ≡ count_by test xs + count_by test ys
+count-more test xs ys = sum_by-append (λ y. cond (test y) 1 0) xs ys
+
+pub count-cons : {Y : Type 0} (test : Y → Bool) (x : Y) (xs : List Y) → count_by test (x ∷ xs) ≡ cond (test x) 1 0 + count_by test xs
+count-cons test x xs = sum_by-cons (λ y. cond (test y) 1 0) x xs
+
+-- one of several numbers has the property, and they add up to 1
+pub record One (P : ℕ → Type 0) (sum n many : ℕ) : Type 0 where
+  pub at : ℕ
+  pub after : n ≤ at
+  pub inside : at < n + many
+  pub has : P at
+  pub once : sum ≡ 1
+
+-- none of them has it, and they add up to 0
+pub record Nowhere (P : ℕ → Type 0) (sum n many : ℕ) : Type 0 where
+  pub none : (k : ℕ) → n ≤ k → k < n + many → P k → ⊥
+  pub never : sum ≡ 0
+
+-- a number has the property, and is 1, or it has not, and is 0
+abbrev pub Tells : (ℕ → Type 0) → (ℕ → ℕ) → ℕ → Type 0
+Tells P g k = (P k × (g k ≡ 1)) ⊎ ((P k → ⊥) × (g k ≡ 0))
+
+sum-none : (P : ℕ → Type 0) (g : ℕ → ℕ) (n many : ℕ) → ((k : ℕ) → Tells P g k) → ((k : ℕ) → n ≤ k → P k → ⊥)
+    → sum_by g (count_from n many) ≡ 0
+sum-none P g n zero tells none = refl
+sum-none P g n (suc many) tells none =
+    elim (tells n) [
+      | inl found ↦ absurd (none n (omega arith) found.0)
+      | inr other ↦ omega (
+        arith,
+        other.1,
+        sum_by-cons g n (count_from (n + 1) many),
+        sum-none P g (n + 1) many tells (λ k from. none k (omega arith)),
+      )
+    ]
+
+-- where no two numbers have the property
+pub sum-tells : (P : ℕ → Type 0) (g : ℕ → ℕ) (n many : ℕ) → ((k : ℕ) → Tells P g k) → ((k l : ℕ) → P k → P l → k ≡ l)
+    → One P (sum_by g (count_from n many)) n many ⊎ Nowhere P (sum_by g (count_from n many)) n many
+sum-tells P g n zero tells unique = inr (record { none = λ k from below p. absurd (omega arith); never = refl })
+sum-tells P g n (suc many) tells unique =
+    elim (tells n) [
+      | inl found ↦ inl (record {
+        at = n;
+        after = omega arith;
+        inside = omega arith;
+        has = found.0;
+        once = omega (
+          arith,
+          found.1,
+          sum_by-cons g n (count_from (n + 1) many),
+          sum-none P g (n + 1) many tells (λ k from p. let e : k ≡ n = unique k n p found.0 in omega arith),
+        );
+      })
+      | inr other ↦ elim (sum-tells P g (n + 1) many tells unique) [
+        | inl one ↦ inl (record {
+          at = one.at;
+          after = omega (arith, one.after);
+          inside = omega (arith, one.inside);
+          has = one.has;
+          once = omega (arith, other.1, sum_by-cons g n (count_from (n + 1) many), one.once);
+        })
+        | inr nowhere ↦ inr (record {
+          none = λ k from below p. by_first k from below p (cases_eq k n) other.0 nowhere.none;
+          never = omega (arith, other.1, sum_by-cons g n (count_from (n + 1) many), nowhere.never);
+        })
+      ]
+    ]
+  where
+    by_first : (k : ℕ) → n ≤ k → k < n + suc many → P k → (k ≡ n) ⊎ (k ≢ n) → (P n → ⊥)
+        → ((l : ℕ) → n + 1 ≤ l → l < n + 1 + many → P l → ⊥) → ⊥
+    by_first k from below p (inl e) never none = never (subst (λ m. P m) e p)
+    by_first k from below p (inr apart) never none = none k (omega (arith, apart)) (omega arith) p
+
+-- ---- tests
+
+pub both-true : (a b : Bool) → (a && b) ≡ true → (a ≡ true) × (b ≡ true)
+both-true true true e = (refl, refl)
+both-true true false e = cc
+both-true false b e = cc
+
+or-right : (a b : Bool) → b ≡ true → (a || b) ≡ true
+or-right true b e = refl
+or-right false b e = e
+
+-- a list has what a longer one has that passes the test
+pub has-filter : (test : ℕ → Bool) (xs : List ℕ) (y : ℕ) → has (filter test xs) y ≡ (has xs y && test y)
+has-filter test [] y = refl
+has-filter test (x ∷ xs) y = by_test (test x) (x == y) (has-filter test xs y) refl refl
+  where
+    past : (b : Bool) → (false || b) ≡ b
+    past b = refl
+
+    kept : (b c : Bool) → c ≡ true → (true || b) ≡ ((true || b) && c)
+    kept b c e = sym e
+
+    lost : (b c : Bool) → c ≡ false → (b && c) ≡ ((true || b) && c)
+    lost true c e = refl
+    lost false c e = sym e
+
+    by_test : (b c : Bool) → has (filter test xs) y ≡ (has xs y && test y) → test x ≡ b → (x == y) ≡ c
+        → list_any (λ other. other == y) (cond b (x ∷ filter test xs) (filter test xs)) ≡ ((c || has xs y) && test y)
+    by_test true true later eb ec =
+        let same : test y ≡ true = ap test (sym (eqb-true x y ec)) ∙ eb in
+        ap (λ d. d || has (filter test xs) y) ec ∙ kept (has xs y) (test y) same
+    by_test true false later eb ec = ap (λ d. d || has (filter test xs) y) ec ∙ later
+    by_test false true later eb ec =
+        let same : test y ≡ false = ap test (sym (eqb-true x y ec)) ∙ eb in
+        later ∙ lost (has xs y) (test y) same
+    by_test false false later eb ec = later
+
+pub has-inside : (n many y : ℕ) → n ≤ y → y < n + many → has (count_from n many) y ≡ true
+has-inside n zero y from below = absurd (omega arith)
+has-inside n (suc many) y from below =
+    by_first (cases_eq n y) (λ apart. has-inside (n + 1) many y (omega (arith, apart)) (omega arith))
+  where
+    by_first : (n ≡ y) ⊎ (n ≢ y) → (n ≢ y → has (count_from (n + 1) many) y ≡ true) → ((n == y) || has (count_from (n + 1) many) y) ≡ true
+    by_first (inl e) later = ap (λ b. b || has (count_from (n + 1) many) y) (eq-eqb n y e)
+    by_first (inr apart) later = or-right (n == y) (has (count_from (n + 1) many) y) (later apart)
+
+pub has-outside : (n many y : ℕ) → has (count_from n many) y ≡ true → y < n + many
+has-outside n zero y e = cc
+has-outside n (suc many) y e = by_first (n == y) (λ all. has-outside (n + 1) many y all) refl e
+  where
+    by_first : (b : Bool) → (has (count_from (n + 1) many) y ≡ true → y < n + 1 + many) → (n == y) ≡ b
+        → (b || has (count_from (n + 1) many) y) ≡ true → y < n + suc many
+    by_first true later e all = omega (arith, eqb-true n y e)
+    by_first false later e all = omega (arith, later all)
+
+-- ---- lists all of whose elements have a property
+
+pub all-map : {X : Type 0} (P Q : X → Type 0) (xs : List X) → ((x : X) → P x → Q x) → AllByRecursion P xs → AllByRecursion Q xs
+all-map P Q [] to all = tt
+all-map P Q (x ∷ xs) to all = (to x all.0, all-map P Q xs to all.1)
+
+pub all-append : {X : Type 0} (P : X → Type 0) (xs ys : List X) → AllByRecursion P xs → AllByRecursion P ys → AllByRecursion P (xs ++ ys)
+all-append P [] ys all more = more
+all-append P (x ∷ xs) ys all more = (all.0, all-append P xs ys all.1 more)
+
+pub all-filter : {X : Type 0} (P : X → Type 0) (test : X → Bool) (xs : List X) → AllByRecursion P xs → AllByRecursion P (filter test xs)
+all-filter P test [] all = tt
+all-filter {X = X} P test (x ∷ xs) all = by_head (test x) (all-filter P test xs all.1)
+  where
+    by_head : (b : Bool) → AllByRecursion P (filter test xs) → AllByRecursion P (cond b (x ∷ filter test xs) (filter test xs))
+    by_head true rest = (all.0, rest)
+    by_head false rest = rest
+
+pub all-numbers : (P : ℕ → Type 0) (n many : ℕ) → ((k : ℕ) → n ≤ k → k < n + many → P k) → AllByRecursion P (count_from n many)
+all-numbers P n zero each = tt
+all-numbers P n (suc many) each =
+    (each n (omega arith) (omega arith), all-numbers P (n + 1) many (λ k from below. each k (omega arith) (omega arith)))
+
+pub all-mapped : {X : Type 0} (P : X → Type 0) (f : ℕ → X) (n many : ℕ) → ((k : ℕ) → n ≤ k → k < n + many → P (f k))
+    → AllByRecursion P (map f (count_from n many))
+all-mapped P f n zero each = tt
+all-mapped P f n (suc many) each =
+    (each n (omega arith) (omega arith), all-mapped P f (n + 1) many (λ k from below. each k (omega arith) (omega arith)))
+
+pub all-flat : {X : Type 0} (P : X → Type 0) (f : ℕ → List X) (n many : ℕ)
+    → ((k : ℕ) → n ≤ k → k < n + many → AllByRecursion P (f k)) → AllByRecursion P (flat_map f (count_from n many))
+all-flat P f n zero each = tt
+all-flat P f n (suc many) each =
+    all-append P (f n) (flat_map f (count_from (n + 1) many)) (each n (omega arith) (omega arith))
+    (all-flat P f (n + 1) many (λ k from below. each k (omega arith) (omega arith)))
