@@ -10,5 +10,7 @@
 
 mod checking;
 pub mod laws;
+#[cfg(test)]
+mod tests;
 
 pub use checking::{DeadFault, check_dead};
