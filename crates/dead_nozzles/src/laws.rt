@@ -33,7 +33,7 @@ pub fn starts_rise()
 {}
 
 /// The worked strokes are those of three nozzles, of which the last, the first, or all but the last are dead.
-pub fn worked_strokes_are_the_head_s()
+pub fn strokes_are_worked()
     ensures last { all_strokes (three_nozzles (2 ∷ [])) ≡ last_is_dead }
     ensures first { all_strokes (three_nozzles (0 ∷ [])) ≡ first_is_dead }
     ensures one { all_strokes (three_nozzles (0 ∷ 1 ∷ [])) ≡ one_is_live }
