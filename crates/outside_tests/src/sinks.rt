@@ -5,7 +5,7 @@ use std::io;
 use std::io::{ErrorKind, Write};
 use std::process::Abort;
 use std::test::Fail;
-use weave_base::{Failed, MemSink, Sink, StdSink, put_all};
+use weave_base::{Failed, MOST_INTERRUPTIONS, MemSink, Sink, StdSink, put_all};
 
 // A sink of this room: whether it takes one byte a call, and whether its first call fails.
 fn sink(alloc: Global, room: usize, is_slow: bool, fails: bool) -> Result<MemSink, Fail> {
@@ -94,4 +94,64 @@ fn a_std_writer_is_a_sink(rt: HostRuntime) {
         &mut StdSink::make(Idle),
         &[(&[7], refused), (&[], Ok(0))],
     );
+}
+
+// A writer that takes one byte a call, and answers this error so often before each of them.
+#[derive(Drop)]
+struct Hindered<'a> {
+    held: &'a mut Vec<u8>,
+    error: ErrorKind,
+    before_each: u32,
+    so_far: u32,
+}
+
+impl<'a> Write for Hindered<'a> {
+    fn write(&mut self, buf: &[u8]) -> io::Result<usize> {
+        if self.so_far < self.before_each {
+            self.so_far += 1;
+            return Err(io::Error::from(self.error));
+        }
+        self.so_far = 0;
+        self.held.write(&buf[..buf.len().min(1)])
+    }
+
+    fn flush(&mut self) -> io::Result<()> {
+        Ok(())
+    }
+}
+
+#[test]
+fn only_an_interrupted_write_is_made_again_and_not_for_ever(rt: HostRuntime) {
+    // how the first of two pieces ends, and what is held after both
+    type Case = (ErrorKind, u32, Result<(), Failed>, &'static [u8]);
+    const CASES: [Case; 6] = [
+        (ErrorKind::Interrupted, 0, Ok(()), &[7, 8, 9]),
+        (ErrorKind::Interrupted, 1, Ok(()), &[7, 8, 9]),
+        (ErrorKind::Interrupted, 3, Ok(()), &[7, 8, 9]),
+        (
+            ErrorKind::Interrupted,
+            MOST_INTERRUPTIONS,
+            Ok(()),
+            &[7, 8, 9],
+        ),
+        (
+            ErrorKind::Interrupted,
+            MOST_INTERRUPTIONS + 1,
+            Err(Failed),
+            &[9],
+        ),
+        (ErrorKind::BrokenPipe, 1, Err(Failed), &[9]),
+    ];
+    for (error, before_each, wanted, bytes) in &CASES {
+        let mut held = Vec::new(rt.alloc());
+        let mut sink = StdSink::make(Hindered {
+            held: &mut held,
+            error: *error,
+            before_each: *before_each,
+            so_far: 0,
+        });
+        same(&rt, "the first piece", &put_all(&mut sink, &[7, 8]), wanted);
+        same(&rt, "the second piece", &put_all(&mut sink, &[9]), &Ok(()));
+        same_bytes(&rt, "the writer", held.as_slice(), bytes);
+    }
 }

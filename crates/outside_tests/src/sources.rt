@@ -5,7 +5,7 @@ use std::io;
 use std::io::{ErrorKind, Read};
 use std::process::Abort;
 use std::test::Fail;
-use weave_base::{Failed, MemSource, Source, StdSource};
+use weave_base::{Failed, MOST_INTERRUPTIONS, MemSource, Source, StdSource};
 
 // What a read is to answer, and the whole buffer after it.
 type Wanted = (Result<usize, Failed>, [u8; 4]);
@@ -66,4 +66,56 @@ fn a_std_reader_is_a_source(rt: HostRuntime) {
     const ROWS: [Wanted; 2] = [(Ok(2), [7, 8, 0, 0]), (Ok(0), [7, 8, 0, 0])];
     reads(&rt, &mut StdSource::make(bytes), &ROWS);
     reads(&rt, &mut StdSource::make(Broken), &[(Err(Failed), [0; 4])]);
+}
+
+// A reader that gives one byte a call, and answers this error so often before each of them.
+#[derive(Drop)]
+struct Hindered {
+    bytes: &'static [u8],
+    error: ErrorKind,
+    before_each: u32,
+    so_far: u32,
+}
+
+impl Read for Hindered {
+    fn read(&mut self, buf: &mut [u8]) -> io::Result<usize> {
+        if self.so_far < self.before_each {
+            self.so_far += 1;
+            return Err(io::Error::from(self.error));
+        }
+        self.so_far = 0;
+        let room = buf.len().min(1);
+        self.bytes.read(&mut buf[..room])
+    }
+}
+
+#[test]
+fn only_an_interrupted_read_is_made_again_and_not_for_ever(rt: HostRuntime) {
+    const READ: [Wanted; 3] = [
+        (Ok(1), [7, 0, 0, 0]),
+        (Ok(1), [8, 0, 0, 0]),
+        (Ok(0), [8, 0, 0, 0]),
+    ];
+    const FAILED: [Wanted; 3] = [
+        (Err(Failed), [0; 4]),
+        (Ok(1), [7, 0, 0, 0]),
+        (Err(Failed), [7, 0, 0, 0]),
+    ];
+    const CASES: [(ErrorKind, u32, [Wanted; 3]); 6] = [
+        (ErrorKind::Interrupted, 0, READ),
+        (ErrorKind::Interrupted, 1, READ),
+        (ErrorKind::Interrupted, 3, READ),
+        (ErrorKind::Interrupted, MOST_INTERRUPTIONS, READ),
+        (ErrorKind::Interrupted, MOST_INTERRUPTIONS + 1, FAILED),
+        (ErrorKind::BrokenPipe, 1, FAILED),
+    ];
+    for (error, before_each, rows) in &CASES {
+        let reader = Hindered {
+            bytes: &[7, 8],
+            error: *error,
+            before_each: *before_each,
+            so_far: 0,
+        };
+        reads(&rt, &mut StdSource::make(reader), rows);
+    }
 }

@@ -22,10 +22,10 @@ read_copies bytes buf copied at n e within =
 no_room : (buf left at n m : ℕ) → (1 ≤ m → 1 ≤ n) → m ≡ min buf (left - at) → n ≡ 0 → 0 < buf → left ≤ at + n
 no_room buf left at n m some is none room = grind arith
 
-pub read_ends : (bytes buf copied : List ℕ) (at n m : ℕ)
+pub read_ends : (bytes buf copied : List ℕ) (at : ℕ) {n m : ℕ}
     → (1 ≤ m → 1 ≤ n) → m ≡ min (length buf) (length bytes - at) → length copied ≡ length (take n buf)
     → n ≡ 0 → 0 < length (copied ++ drop n buf) → drop (at + n) bytes ≡ []
-read_ends bytes buf copied at n m some is len none room =
+read_ends bytes buf copied at {n} {m} some is len none room =
     let full : 0 < length buf = omega (arith, length-append copied (drop n buf), length-take n buf, length-drop n buf) in
     drop_all (at + n) bytes (no_room (length buf) (length bytes) at n m some is none full)
 

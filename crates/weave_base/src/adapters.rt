@@ -5,7 +5,11 @@ ghost use Rattle.std.specs.Prelude.{IfOk, if◌then◌else◌, is_ok, length, �
 ghost use Rattle.weave_base.specs.Causes.{HasCause, next_count};
 
 use crate::{Failed, Sink, Source};
-use std::io::{Read, Write};
+use std::io;
+use std::io::{ErrorKind, Read, Write};
+
+/// How many answers `Interrupted` one read or one write passes over before it fails, so that each call returns.
+pub const MOST_INTERRUPTIONS: u32 = 1_000;
 
 /// A reader of std as a source, without a buffer of its own: what the reader has left, the source has left.
 #[derive(Drop)]
@@ -35,7 +39,7 @@ impl<R: Read> Source for StdSource<R> {
         ensures cause { HasCause self.old.faults self.new.faults result }
         ensures faults { self.new.faults ≡ (if is_ok result then self.old.faults else next_count self.old.faults) }
     {
-        match self.reader.read(buf) {
+        match read_again(&mut self.reader, buf) {
             Ok(count) => Ok(count),
             Err(_) => {
                 self.faults = self.faults.saturating_add(1);
@@ -43,6 +47,20 @@ impl<R: Read> Source for StdSource<R> {
             }
         }
     }
+}
+
+// A read that a signal interrupted took no byte, so the next one loses none.
+fn read_again<R: Read>(reader: &mut R, buf: &mut [u8]) -> io::Result<usize>
+    ensures bound { ReadsAtMost result buf.new }
+    ensures bytes { ReadConsumes (R.remaining reader.old) (R.remaining reader.new) result buf.new }
+{
+    for _ in 0..MOST_INTERRUPTIONS {
+        match reader.read(buf) {
+            Err(error) if error.kind() == ErrorKind::Interrupted => {}
+            answer => return answer,
+        }
+    }
+    reader.read(buf)
 }
 
 /// A writer of std as a sink, without a buffer of its own: what the writer holds, the sink holds.
@@ -74,7 +92,7 @@ impl<W: Write> Sink for StdSink<W> {
         ensures cause { HasCause self.old.faults self.new.faults result }
         ensures faults { self.new.faults ≡ (if is_ok result then self.old.faults else next_count self.old.faults) }
     {
-        match self.writer.write(piece) {
+        match write_again(&mut self.writer, piece) {
             Ok(count) if count > 0 || piece.is_empty() => Ok(count),
             // a writer that takes nothing of a piece would be asked for ever
             _ => {
@@ -83,4 +101,18 @@ impl<W: Write> Sink for StdSink<W> {
             }
         }
     }
+}
+
+// A write that a signal interrupted appended no byte, so the next one repeats none.
+fn write_again<W: Write>(writer: &mut W, piece: &[u8]) -> io::Result<usize>
+    ensures bound { WritesAtMost result piece.now }
+    ensures bytes { WriteAppends (W.contents writer.old) (W.contents writer.new) result piece.now }
+{
+    for _ in 0..MOST_INTERRUPTIONS {
+        match writer.write(piece) {
+            Err(error) if error.kind() == ErrorKind::Interrupted => {}
+            answer => return answer,
+        }
+    }
+    writer.write(piece)
 }

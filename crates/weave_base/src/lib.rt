@@ -7,9 +7,11 @@
 //!
 //! - `MemSource`, `MemSink` and `MemShelf` show what they hold to contracts. They fail exactly at the listed calls, and
 //!   the sink also where a piece finds no room.
-//! - `StdSource` and `StdSink` are readers and writers of std. They count each error of std, `Interrupted` too, and a
-//!   write that takes nothing of a piece that is not empty. They hand on what the reader gives and the writer takes,
+//! - `StdSource` and `StdSink` are readers and writers of std. They hand on what the reader gives and the writer takes,
 //!   and show to contracts what these show; of standard input and output that is nothing, and tests show the bytes.
+//!   They count each error of std, and a write that takes nothing of a piece that is not empty. But after `Interrupted`
+//!   they call std again, at most `MOST_INTERRUPTIONS` times in one call, and count only one more. No clause says how
+//!   often std is called, and tests show it.
 //! - `DirShelf` is the current folder, and does not say what it holds. Its contract says that a text is at most as long
 //!   as is asked for, and that exactly each `Failed` is counted. Tests show the rest: a name that is empty, `.`, `..`
 //!   or has a `/` is absent, so is a file that is not there, and a folder in the place of a file is `Failed`. A read of
@@ -31,7 +33,7 @@ mod shelf;
 mod sink;
 mod source;
 
-pub use adapters::{StdSink, StdSource};
+pub use adapters::{MOST_INTERRUPTIONS, StdSink, StdSource};
 pub use answers::Failed;
 pub use base_definitions::Memory;
 pub use command_line::Words;

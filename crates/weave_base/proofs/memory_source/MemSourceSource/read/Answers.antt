@@ -18,4 +18,4 @@ returns-clause-bytes c =
     let most : c.min-most.result ≡ min (length c.args.buf.now) (length s.bytes.items - s.at) =
     omega (arith, c.min-most.ensures, c.len.ensures, s.bytes.ok.0) in
     rw (← c.self.view_is)
-    (read_copies _ _ _ _ _ copied within, read_ends _ _ _ _ _ _ c.bytes_moved-count.ensures.some most c.copy_from_slice.ensures.len)
+    (read_copies _ _ _ _ _ copied within, read_ends _ _ _ _ c.bytes_moved-count.ensures.some most c.copy_from_slice.ensures.len)

@@ -1,0 +1,6 @@
+-- The reads that were interrupted took nothing.
+use Rattle.std.specs.Io.KnownBytes.{Keeps}
+use Rattle.weave_base.proofs.adapters.read_again.Given as goal
+
+abbrev pub invariant-loop : goal.invariant-loop
+invariant-loop g l = Keeps (g.R.Read.remaining l.fn.reader) (g.R.Read.remaining l.reader)

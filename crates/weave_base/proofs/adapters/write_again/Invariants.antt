@@ -1,0 +1,6 @@
+-- The writes that were interrupted appended nothing.
+use Rattle.std.specs.Io.KnownBytes.{Keeps}
+use Rattle.weave_base.proofs.adapters.write_again.Given as goal
+
+abbrev pub invariant-loop : goal.invariant-loop
+invariant-loop g l = Keeps (g.W.Write.contents l.fn.writer) (g.W.Write.contents l.writer)
