@@ -40,10 +40,10 @@ in_groups : (a b c d : ℤ) → ((a +ℤ b) +ℤ c) +ℤ d ≡ (a +ℤ (b +ℤ p
 in_groups a b c d = omega (arith, ints)
 
 -- the sum of a row's five shares
-pub row_sum : (r0 r1 r2 r3 r4 y0 y1 y2 y3 y4 : ℤ) → IsParts 255 r0 → IsParts 255 r1 → IsParts 255 r2 → IsParts 255 r3 → IsParts 255 r4
+pub row_sum : {r0 r1 r2 r3 r4 y0 y1 y2 y3 y4 : ℤ} → IsParts 255 r0 → IsParts 255 r1 → IsParts 255 r2 → IsParts 255 r3 → IsParts 255 r4
     → r0 ≡ y0 → r1 ≡ y1 → r2 ≡ y2 → r3 ≡ y3 → r4 ≡ y4
     → fixed (fixed (fixed (fixed (fixed r0 +ℤ fixed r1) +ℤ fixed r2) +ℤ fixed r3) +ℤ fixed r4) ≡ y0 +ℤ (y1 +ℤ (y2 +ℤ (y3 +ℤ (y4 +ℤ pos 0))))
-row_sum r0 r1 r2 r3 r4 y0 y1 y2 y3 y4 h0 h1 h2 h3 h4 e0 e1 e2 e3 e4 =
+row_sum {y0} {y1} {y2} {y3} {y4} h0 h1 h2 h3 h4 e0 e1 e2 e3 e4 =
     let f0 = same h0 (lit≤ tt) in
     let f1 = same h1 (lit≤ tt) in
     let f2 = same h2 (lit≤ tt) in
@@ -61,10 +61,10 @@ row_sum r0 r1 r2 r3 r4 y0 y1 y2 y3 y4 h0 h1 h2 h3 h4 e0 e1 e2 e3 e4 =
     cc
 
 -- the sum of two shares and two rows
-pub near_sum : (r0 r1 r2 r3 y0 y1 y2 y3 : ℤ) → IsParts 255 r0 → IsParts 255 r1 → IsParts 1275 r2 → IsParts 1275 r3
+pub near_sum : {r0 r1 r2 r3 y0 y1 y2 y3 : ℤ} → IsParts 255 r0 → IsParts 255 r1 → IsParts 1275 r2 → IsParts 1275 r3
     → r0 ≡ y0 → r1 ≡ y1 → r2 ≡ y2 → r3 ≡ y3
     → fixed (fixed (fixed (fixed r0 +ℤ fixed r1) +ℤ fixed r2) +ℤ fixed r3) ≡ (y0 +ℤ (y1 +ℤ pos 0)) +ℤ (y2 +ℤ y3)
-near_sum r0 r1 r2 r3 y0 y1 y2 y3 h0 h1 h2 h3 e0 e1 e2 e3 =
+near_sum {y0} {y1} {y2} {y3} h0 h1 h2 h3 e0 e1 e2 e3 =
     let f0 = same h0 (lit≤ tt) in
     let f1 = same h1 (lit≤ tt) in
     let f2 = same h2 (lit≤ tt) in

@@ -166,7 +166,7 @@ alone one other rows other_rows bytes more s t =
     command_at-spelled other other_rows (bytes ++ more) [] t in
     let same : One one rows (length bytes) ≡ One other other_rows (length (bytes ++ more)) = sym first
     ∙ ap command_at (sym (append-nil (bytes ++ more))) ∙ second in
-    nothing_left bytes more (lengths _ _ _ _ _ _ same)
+    nothing_left bytes more (lengths same)
   where
-    lengths : (a b : Command) (rs ss : List ℕ) (m n : ℕ) → One a rs m ≡ One b ss n → m ≡ n
-    lengths a b rs ss m n e = cc
+    lengths : {a b : Command} {rs ss : List ℕ} {m n : ℕ} → One a rs m ≡ One b ss n → m ≡ n
+    lengths e = cc

@@ -214,24 +214,24 @@ last-behind used more sofar piece rest is shows = record {
       ∙ shows.before;
 }
 
--- the same where the numbers of a raster were gathered
-pub header-last : (state : HeardState) (raster : RasterHead) (header : Stage) (begin next begin' next' used more : ℕ) (piece : List ℕ)
-    → ((sofar rows : List ℕ) → Stands header begin next rows sofar → BeginsRows raster begin' next' sofar (take used piece))
-    → OnFault state ((sofar : List ℕ) → BeginsRows raster begin' next' sofar (take used piece) → ShowsLast sofar piece more)
-    → OnFault state ((sofar rows : List ℕ) → Stands header begin next rows sofar → ShowsLast sofar piece more)
-header-last heard.More raster header begin next begin' next' used more piece begins shows = tt
-header-last (heard.One command) raster header begin next begin' next' used more piece begins shows = tt
-header-last (heard.Fault offset cause) raster header begin next begin' next' used more piece begins shows =
-    λ sofar rows stood. shows sofar (begins sofar rows stood)
+-- from one fact of a fault another
+pub on_fault : {P Q : Type 0} (state : HeardState) → OnFault state P → (P → Q) → OnFault state Q
+on_fault heard.More holds shows = tt
+on_fault (heard.One command) holds shows = tt
+on_fault (heard.Fault offset cause) holds shows = shows holds
 
--- and for a call
-pub feed-last : (state : HeardState) (stage header : Stage) (begin next used : ℕ) (rows piece : List ℕ) → header ≡ stage
-    → OnFault state ((sofar rows : List ℕ) → Stands header begin next rows sofar → ShowsLast sofar piece used)
-    → OnFault state (is_failed_at stage ≡ false → (sofar : List ℕ) → Stands stage begin next rows sofar → ShowsLast sofar piece used)
-feed-last heard.More stage header begin next used rows piece is shows = tt
-feed-last (heard.One command) stage header begin next used rows piece is shows = tt
-feed-last (heard.Fault offset cause) stage header begin next used rows piece is shows =
-    λ still sofar stood. shows sofar rows (let P : Stage → Type 0 = λ s. Stands s begin next rows sofar in subst P (sym is) stood)
+-- a fact that holds whatever is answered
+pub on_fault_anyway : {P : Type 0} (state : HeardState) → P → OnFault state P
+on_fault_anyway heard.More holds = tt
+on_fault_anyway (heard.One command) holds = tt
+on_fault_anyway (heard.Fault offset cause) holds = holds
+
+-- the same for a call
+pub feed-last : {stage header : Stage} {begin next used : ℕ} {rows piece : List ℕ} → header ≡ stage
+    → ((sofar rows : List ℕ) → Stands header begin next rows sofar → ShowsLast sofar piece used)
+    → is_failed_at stage ≡ false → (sofar : List ℕ) → Stands stage begin next rows sofar → ShowsLast sofar piece used
+feed-last {begin} {next} {rows} is shows still sofar stood =
+    shows sofar rows (let P : Stage → Type 0 = λ s. Stands s begin next rows sofar in subst P (sym is) stood)
 
 -- a fault, shown by the last byte that was gathered
 pub wrong-more : (now more rest : List ℕ) (place at : ℕ) (cause : JobCause) → now ≡ more → command_at more ≡ Wrong place cause → place ≡ at

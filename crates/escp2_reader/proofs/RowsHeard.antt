@@ -18,9 +18,7 @@ use Rattle.escp2_reader.specs.declared.reader.JobReader.{JobReader}
 use Rattle.escp2_reader.specs.declared.reader.Stage.{Stage}
 use Rattle.escp2_reader.specs.declared.reader.Stage.TheVariants.{Rows}
 use Rattle.escp2_reader.specs.Stages.{AtStage, InRows, Stands, form_of, rows_at}
-use Rattle.escp2_reader.specs.declared.reader.HeardState.{HeardState}
-use Rattle.escp2_reader.specs.declared.reader.HeardState.TheVariants as heard
-use Rattle.escp2_reader.specs.Reading.{BeginsRows, HeardMore, OnFault, ShowsLast}
+use Rattle.escp2_reader.specs.Reading.{BeginsRows, HeardMore, ShowsLast}
 use Rattle.escp2_reader.proofs.Hearing.{bytes-append, bytes-take, last-behind}
 
 -- what is read of a raster goes on after its numbers
@@ -37,12 +35,12 @@ sofar-len raster reader rows sofar in_rows =
     omega (arith, ap length in_rows.is, length-append in_rows.front in_rows.code, in_rows.front_len)
 
 -- more of the rows
-pub rows-more : (raster : RasterHead) (old new : RowReader) (begin next used : ℕ) (before after sofar piece : List ℕ) (job : JobReader)
+pub rows-more : {raster : RasterHead} {old new : RowReader} {begin next : ℕ} (used : ℕ) {before after : List ℕ} (sofar piece : List ℕ) {job : JobReader}
     → Stands (Rows raster old) begin next before sofar → AreBytes piece → Takes old new (take used piece) before after
     → IsMore old new piece used
     → job.stage ≡ Rows raster new → job.begin ≡ begin → job.next ≡ next + used → job.rows.items ≡ after
     → HeardMore begin job (sofar ++ take used piece)
-rows-more raster old new begin next used before after sofar piece job stood are takes more stage begins nexts rows_are = record {
+rows-more {raster} {old} {new} {begin} used {before} sofar piece {job} stood are takes more stage begins nexts rows_are = record {
   part =
       ap command_at (sym (append-nil (sofar ++ take used piece)))
       ∙ reads-on raster old before sofar (take used piece) [] in_rows
@@ -84,11 +82,11 @@ read-rows : (raster : RasterHead) (bytes : List ℕ) → raster_rows raster byte
 read-rows raster bytes = refl
 
 -- the last of the rows
-pub rows-whole : (raster : RasterHead) (old new : RowReader) (begin next used : ℕ) (before after sofar piece rest : List ℕ)
+pub rows-whole : {raster : RasterHead} {old new : RowReader} {begin next : ℕ} (used : ℕ) {before after : List ℕ} (sofar piece rest : List ℕ)
     → Stands (Rows raster old) begin next before sofar → used ≤ length piece → Takes old new (take used piece) before after
     → IsWhole old new piece used before after
     → command_at ((sofar ++ take used piece) ++ rest) ≡ One (c.Raster raster) after (length (sofar ++ take used piece))
-rows-whole raster old new begin next used before after sofar piece rest stood within takes whole =
+rows-whole {raster} {old} used {before} {after} sofar piece rest stood within takes whole =
     reads-on raster old before sofar (take used piece) rest in_rows
     ∙ in_rows.reads (in_rows.code ++ (take used piece ++ rest))
     ∙ read-rows raster (in_rows.code ++ (take used piece ++ rest))
@@ -114,10 +112,10 @@ rows-whole raster old new begin next used before after sofar piece rest stood wi
     )
 
 -- a control byte that is refused
-pub rows-wrong : (raster : RasterHead) (old new : RowReader) (begin next used at place : ℕ) (before sofar piece rest : List ℕ)
+pub rows-wrong : {raster : RasterHead} {old new : RowReader} {begin next : ℕ} (used : ℕ) {at place : ℕ} {before : List ℕ} (sofar piece rest : List ℕ)
     → Stands (Rows raster old) begin next before sofar → IsFault old new piece used at → place ≡ next + at - begin
     → command_at ((sofar ++ take used piece) ++ rest) ≡ Wrong place RunCode
-rows-wrong raster old new begin next used at place before sofar piece rest stood fault stands =
+rows-wrong {raster} {old} used {at} {place} {before} sofar piece rest stood fault stands =
     reads-on raster old before sofar (take used piece) rest in_rows
     ∙ in_rows.reads (in_rows.code ++ (take used piece ++ rest))
     ∙ read-rows raster (in_rows.code ++ (take used piece ++ rest))
@@ -139,7 +137,7 @@ rows-last raster old new begin next used at before sofar piece stood fault = rec
   before = ap (λ k. command_at (sofar ++ take k piece)) (let p : used - 1 ≡ at = omega (arith, fault.last) in p)
       ∙ ap command_at (sym front)
       ∙ (fault-stands ((sofar ++ take used piece) ++ []) (next + at - begin) RunCode
-      (rows-wrong raster old new begin next used at (next + at - begin) before sofar piece [] stood fault refl)).before;
+      (rows-wrong used sofar piece [] stood fault refl)).before;
 }
   where
     front : take (next + at - begin) ((sofar ++ take used piece) ++ []) ≡ sofar ++ take at piece
@@ -149,11 +147,11 @@ rows-last raster old new begin next used at before sofar piece stood fault = rec
         ∙ ap (λ bs. sofar ++ bs) (take-take at used piece (omega (arith, fault.last)))
 
 -- before the rows of a raster
-pub rows-begin : (raster : RasterHead) (reader : RowReader) (begin next used : ℕ) (rows sofar piece : List ℕ)
+pub rows-begin : {raster : RasterHead} {reader : RowReader} {begin next : ℕ} (used : ℕ) {rows : List ℕ} (sofar piece : List ℕ)
     → BeginsRows raster begin next sofar (take used piece)
     → used ≤ length piece → RowsStandFor (form_of raster) reader [] [] → rows ≡ []
     → Stands (Rows raster reader) begin (next + used) rows (sofar ++ take used piece)
-rows-begin raster reader begin next used rows sofar piece begins within anew none = record {
+rows-begin {raster} {reader} used sofar piece begins within anew none = record {
   fed = omega (arith, begins.fed, length-append sofar (take used piece), length-take-le used piece within);
   bytes = begins.are;
   heard = record {
@@ -167,22 +165,17 @@ rows-begin raster reader begin next used rows sofar piece begins within anew non
 }
 
 -- a fault in rows that begin within a piece shows with the last byte that was used
-pub begin-last : (state : HeardState) (raster : RasterHead) (reader : RowReader) (begin next used more : ℕ) (rows piece rest : List ℕ)
+pub begin-last : {raster : RasterHead} (reader : RowReader) {begin next : ℕ} (used : ℕ) {more : ℕ} {rows : List ℕ} (piece : List ℕ)
+    {rest : List ℕ}
     → rest ≡ drop used piece → used ≤ length piece → RowsStandFor (form_of raster) reader [] [] → rows ≡ []
-    → OnFault state ((sofar : List ℕ) → Stands (Rows raster reader) begin (next + used) rows sofar → ShowsLast sofar rest more)
-    → OnFault state ((sofar : List ℕ) → BeginsRows raster begin next sofar (take used piece) → ShowsLast sofar piece (used + more))
-begin-last heard.More raster reader begin next used more rows piece rest is within anew none shows = tt
-begin-last (heard.One command) raster reader begin next used more rows piece rest is within anew none shows = tt
-begin-last (heard.Fault offset cause) raster reader begin next used more rows piece rest is within anew none shows =
-    λ sofar begins. last-behind used more sofar piece rest is
-    (shows (sofar ++ take used piece) (rows-begin raster reader begin next used rows sofar piece begins within anew none))
+    → ((sofar : List ℕ) → Stands (Rows raster reader) begin (next + used) rows sofar → ShowsLast sofar rest more)
+    → (sofar : List ℕ) → BeginsRows raster begin next sofar (take used piece) → ShowsLast sofar piece (used + more)
+begin-last reader used {more} piece {rest} is within anew none shows sofar begins =
+    last-behind used more sofar piece rest is (shows (sofar ++ take used piece) (rows-begin used sofar piece begins within anew none))
 
 -- a fault in rows shows with the last byte that was used
-pub fault-last : (state : HeardState) (raster : RasterHead) (old new : RowReader) (begin next used count at : ℕ) (before piece : List ℕ)
+pub fault-last : {raster : RasterHead} {old new : RowReader} {begin next used count at : ℕ} {before piece : List ℕ}
     → count ≡ used → IsFault old new piece used at
-    → OnFault state ((sofar : List ℕ) → Stands (Rows raster old) begin next before sofar → ShowsLast sofar piece count)
-fault-last heard.More raster old new begin next used count at before piece same fault = tt
-fault-last (heard.One command) raster old new begin next used count at before piece same fault = tt
-fault-last (heard.Fault offset cause) raster old new begin next used count at before piece same fault =
-    λ sofar stood. let P : ℕ → Type 0 =
+    → (sofar : List ℕ) → Stands (Rows raster old) begin next before sofar → ShowsLast sofar piece count
+fault-last {raster} {old} {new} {begin} {next} {used} {at} {before} {piece} same fault sofar stood = let P : ℕ → Type 0 =
     ShowsLast sofar piece in subst P (sym same) (rows-last raster old new begin next used at before sofar piece stood fault)

@@ -13,9 +13,9 @@ abbrev pub codes : ℕ → ℕ → List ℕ → List ℕ
 codes m width rows = flat_map least_row (rows_apart m width rows)
 
 -- the code of the next row comes first
-pub codes-next : (m n width : ℕ) (rows row behind : List ℕ) → m ≡ suc n → row ≡ take width rows → behind ≡ drop width rows
+pub codes-next : {m n : ℕ} (width : ℕ) (rows : List ℕ) {row behind : List ℕ} → m ≡ suc n → row ≡ take width rows → behind ≡ drop width rows
     → codes m width rows ≡ least_row row ++ codes n width behind
-codes-next m n width rows row behind more first later =
+codes-next {m} {n} width rows {row} {behind} more first later =
     ap (λ k. codes k width rows) more
     ∙ ap (λ bs. least_row bs ++ codes n width (drop width rows)) (sym first)
     ∙ ap (λ bs. least_row row ++ codes n width bs) (sym later)
@@ -39,9 +39,9 @@ row_left rest m n width left more =
 -- ---- into a vector
 
 -- a row's code is written after the first bytes
-pub row_behind : (out part row : List ℕ) (begin len k : ℕ) → begin ≤ length out → len ≤ length part → take len part ≡ least_row row
+pub row_behind : (out part row : List ℕ) {begin len : ℕ} (k : ℕ) → begin ≤ length out → len ≤ length part → take len part ≡ least_row row
     → take (begin + len) (put_mid begin k out part) ≡ take begin out ++ least_row row
-row_behind out part row begin len k room within coded =
+row_behind out part row {begin} {len} k room within coded =
     let front : List ℕ = take begin out in
     let sized : length front ≡ begin = length-take-le begin out room in
     ap (λ n. take (n + len) (put_mid begin k out part)) (sym sized)

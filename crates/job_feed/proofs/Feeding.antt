@@ -37,10 +37,10 @@ goes_first old text between = record {
 }
 
 -- a read keeps the text
-pub goes_filled : (old : JobFeed) (reader : JobReader) (fed most : ℕ) (before text now : Option (List ℕ))
+pub goes_filled : {old : JobFeed} {reader : JobReader} {fed most : ℕ} {before text now : Option (List ℕ)}
     → GoesOn old reader fed most before text → Keeps text now
     → GoesOn old reader fed most before now
-goes_filled old reader fed most before text now goes kept = record {
+goes_filled {before} {text} {now} goes kept = record {
   bytes = goes.bytes;
   takes = record {
     taken = Consumes-kept before text now goes.bytes goes.takes.taken kept;
@@ -74,10 +74,10 @@ begins : (old feed : JobFeed) (before text : Option (List ℕ)) → GoesOn old f
     → begin_of feed.reader ≡ at_of old
 begins old feed before text goes = omega (arith, goes.stands.fed, goes.fed_is, feed.fed_is)
 
-pub goes_more : (old feed new : JobFeed) (before left : Option (List ℕ))
+pub goes_more : {old feed new : JobFeed} {before : Option (List ℕ)} (left : Option (List ℕ))
     → GoesOn old feed.reader feed.fed feed.most before (text_of feed left) → FeedsSome feed new heard.More
     → new.most ≡ feed.most → GoesOn old new.reader new.fed new.most before (text_of new left)
-goes_more old feed new before left goes feeds most =
+goes_more {old} {feed} {new} {before} left goes feeds most =
     let more = fed old feed new heard.More before left goes feeds most in
     let hears = feeds.heard goes.bytes goes.stands in
     record {
@@ -89,11 +89,11 @@ goes_more old feed new before left goes feeds most =
       most_is = most ∙ goes.most_is;
     }
 
-pub takes_command : (old feed new : JobFeed) (command : Command) (before left : Option (List ℕ))
+pub takes_command : {old feed new : JobFeed} {command : Command} {before : Option (List ℕ)} (left : Option (List ℕ))
     → GoesOn old feed.reader feed.fed feed.most before (text_of feed left)
     → FeedsSome feed new (heard.One command) → new.most ≡ feed.most
     → TakesCommand old new before (text_of new left) (record { at = old.fed; command = command })
-takes_command old feed new command before left goes feeds most =
+takes_command {old} {feed} {new} {command} {before} left goes feeds most =
     let more = fed old feed new (heard.One command) before left goes feeds most in
     let hears = feeds.heard goes.bytes goes.stands in
     record {
@@ -108,10 +108,10 @@ takes_command old feed new command before left goes feeds most =
       between = record { stands = hears.stands; is_open = feeds.failed };
     }
 
-pub meets_fault : (old feed new : JobFeed) (offset : ℕ) (cause : JobCause) (before left : Option (List ℕ))
+pub meets_fault : {old feed new : JobFeed} {offset : ℕ} {cause : JobCause} {before : Option (List ℕ)} (left : Option (List ℕ))
     → GoesOn old feed.reader feed.fed feed.most before (text_of feed left)
     → FeedsSome feed new (heard.Fault offset cause) → new.most ≡ feed.most → MeetsFault old before (text_of new left) offset cause
-meets_fault old feed new offset cause before left goes feeds most =
+meets_fault {old} {feed} {new} {offset} {cause} {before} left goes feeds most =
     let more = fed old feed new (heard.Fault offset cause) before left goes feeds most in
     let hears = feeds.heard goes.bytes goes.stands in
     let began = begins old feed before (text_of feed left) goes in

@@ -36,12 +36,12 @@ lists_none feed g left held at unread none = record {
   gathers = gathers_begin held [] (gathered g) none;
 }
 
-pub lists_more : (old new : JobFeed) (g after : Gathered) (before text left held now now' : Option (List ℕ)) (placed : PlacedCommand)
+pub lists_more : (old new : JobFeed) (g after : Gathered) {before text : Option (List ℕ)} (left : Option (List ℕ)) {held now now' : Option (List ℕ)} (placed : PlacedCommand)
     → ListsSoFar old g before text held now
     → TakesCommand old new text (text_of new left) placed
     → Writes now now' (gathered g) (gathered after) (line_of placed.at placed.command (heard_of new))
     → ListsSoFar new after before (text_of new left) held now'
-lists_more old new g after before text left held now now' placed so_far takes writes =
+lists_more old new g after {before} {text} left {held} {now} {now'} placed so_far takes writes =
     let line : List ℕ = line_of placed.at placed.command (heard_of new) in
     let P : List ℕ → Type 0 = λ text. GathersSoFar held now' text (gathered after) in
     record {
@@ -54,12 +54,12 @@ lists_more old new g after before text left held now now' placed so_far takes wr
     }
 
 -- a write failed before the line of what was taken last
-pub lists_part : (feed new : JobFeed) (g : Gathered) (before text left held now now' : Option (List ℕ)) (bytes : List ℕ)
-    (f0 f1 g0 g1 g2 : ℕ) → ListsSoFar feed g before text held now
+pub lists_part : (feed new : JobFeed) (g : Gathered) {before text left held now now' : Option (List ℕ)} (bytes : List ℕ)
+    {f0 f1 g0 g1 g2 : ℕ} → ListsSoFar feed g before text held now
     → Consumes text (text_of new left) bytes → AppendsPart now now' (gathered g) → g0 ≤ g1 → Rose g1 g2
     → ListOutcome (most_of feed) (record { before = before; now = left; faults_before = f0; faults_now = f1 })
     (record { before = held; now = now'; faults_before = g0; faults_now = g2 }) (Err stop.Write)
-lists_part feed new g before text left held now now' bytes f0 f1 g0 g1 g2 so_far takes part later rose = (
+lists_part feed new g {before} {text} {left} {held} {now} {now'} bytes {g0} {g1} {g2} so_far takes part later rose = (
   rose_within g0 g1 g2 g2 later rose (omega arith),
   record {
     entries = so_far.entries;
@@ -68,52 +68,49 @@ lists_part feed new g before text left held now now' bytes f0 f1 g0 g1 g2 so_far
   },
 )
 
-pub lists_all : (feed new : JobFeed) (g : Gathered) (before text left held now now' : Option (List ℕ)) (f0 f1 g0 g1 : ℕ)
+pub lists_all : (feed new : JobFeed) (g : Gathered) {before text left held now now' : Option (List ℕ)} {f0 f1 g0 g1 : ℕ}
     → ListsSoFar feed g before text held now
     → HasEnded text (text_of new left) → Appends now now' (gathered g)
     → ListsAll (most_of feed) (record { before = before; now = left; faults_before = f0; faults_now = f1 })
     (record { before = held; now = now'; faults_before = g0; faults_now = g1 })
-lists_all feed new g before text left held now now' f0 f1 g0 g1 so_far ended all = record {
+lists_all feed new g {before} {text} {left} {held} {now} {now'} so_far ended all = record {
   entries = so_far.entries;
   takes = job_ended feed new before text left so_far.entries so_far.gave ended;
   writes = gathers_all held now now' (listing so_far.entries) (gathered g) so_far.gathers all;
 }
 
-pub lists_to_stop : (most : ℕ) (feed new : JobFeed) (g : Gathered) (before text left held now now' : Option (List ℕ)) (f0 f1 f2 g0 g1 : ℕ)
+pub lists_to_stop : (most : ℕ) (feed new : JobFeed) (g : Gathered) {text now : Option (List ℕ)} (input out : Outside) (faults : ℕ)
     (why : FeedStop) (answer : ListStop)
-    → ListsSoFar feed g before text held now → IsStopped feed text (text_of new left) f1 f2 why → f0 ≤ f1 → Appends now now' (gathered g)
+    → ListsSoFar feed g input.before text out.before now → IsStopped feed text (text_of new input.now) faults input.faults_now why
+    → input.faults_before ≤ faults → Appends now out.now (gathered g)
     → most_of feed ≡ most → answer ≡ feed_stop why
-    → ListOutcome most (record { before = before; now = left; faults_before = f0; faults_now = f2 })
-    (record { before = held; now = now'; faults_before = g0; faults_now = g1 }) (Err answer)
-lists_to_stop most feed new g before text left held now now' f0 f1 f2 g0 g1 why answer so_far stopped later all most_is is =
-    let input : Outside = record { before = before; now = left; faults_before = f0; faults_now = f2 } in
-    let out : Outside = record { before = held; now = now'; faults_before = g0; faults_now = g1 } in
+    → ListOutcome most input out (Err answer)
+lists_to_stop most feed new g {text} {now} input out faults why answer so_far stopped later all most_is is =
     let P : ℕ → Type 0 = λ n. ListOutcome n input out (Err answer) in
     let Q : ListStop → Type 0 = λ stop. ListOutcome (most_of feed) input out (Err stop) in
     subst P most_is (subst Q (sym is) (by_stop why stopped))
   where
-    by_stop : (why : FeedStop) → IsStopped feed text (text_of new left) f1 f2 why
-        → ListOutcome (most_of feed) (record { before = before; now = left; faults_before = f0; faults_now = f2 })
-        (record { before = held; now = now'; faults_before = g0; faults_now = g1 }) (Err (feed_stop why))
+    by_stop : (why : FeedStop) → IsStopped feed text (text_of new input.now) faults input.faults_now why
+        → ListOutcome (most_of feed) input out (Err (feed_stop why))
     by_stop (feed_is.Job offset cause) stopped = record {
       entries = so_far.entries;
-      meets = job_refused feed before text (text_of new left) so_far.entries offset cause so_far.gave stopped;
-      writes = gathers_all held now now' (listing so_far.entries) (gathered g) so_far.gathers all;
+      meets = job_refused feed input.before text (text_of new input.now) so_far.entries offset cause so_far.gave stopped;
+      writes = gathers_all out.before now out.now (listing so_far.entries) (gathered g) so_far.gathers all;
     }
     by_stop feed_is.Read failed = (
-      rose_within f0 f1 f2 f2 later failed.rose (omega arith),
+      rose_within input.faults_before faults input.faults_now input.faults_now later failed.rose (omega arith),
       record {
         entries = so_far.entries;
-        takes = takes_gave feed new before text left so_far.entries failed.bytes so_far.gave failed.takes.taken;
-        writes = gathers_all held now now' (listing so_far.entries) (gathered g) so_far.gathers all;
+        takes = takes_gave feed new input.before text input.now so_far.entries failed.bytes so_far.gave failed.takes.taken;
+        writes = gathers_all out.before now out.now (listing so_far.entries) (gathered g) so_far.gathers all;
       },
     )
 
 -- there is no memory at the beginning
-pub lists_nothing : (most : ℕ) (left held : Option (List ℕ)) (f0 f1 g0 g1 : ℕ)
+pub lists_nothing : (most : ℕ) {left held : Option (List ℕ)} {f0 f1 g0 g1 : ℕ}
     → ListOutcome most (record { before = left; now = left; faults_before = f0; faults_now = f1 })
     (record { before = held; now = held; faults_before = g0; faults_now = g1 }) (Err stop.Memory)
-lists_nothing most left held f0 f1 g0 g1 = record {
+lists_nothing most {left} {held} = record {
   entries = [];
   takes = record { bytes = []; taken = Consumes-nil left; others = (commands (take most [])).entries; are = refl };
   writes = Appends-nil held;

@@ -256,7 +256,7 @@ keys_read p range [] number given new = lines_done Two number given [] refl
 keys_read p range (k ∷ keys) number given new =
     let both = and_true (not (is_given given k)) (all_new p (copied p given k) keys) new in
     ap (with_lines Two number given) (key_line_read p range k (flat_map (key_line p) keys))
-    ∙ lines_more Two number given (copied p given k) _ _ (key_read p range given k (not_true _ both.0))
+    ∙ lines_more Two number given _ _ (key_read p range given k (not_true _ both.0))
     ∙ keys_read p range keys _ (copied p given k) both.1
 
 -- all keys copied are the profile

@@ -39,17 +39,17 @@ line_of_key version given line value key counts ascii equals value_is key_is = r
 
 -- ---- lines
 
-pub lines_more : (version : Version) (number : ℕ) (given more : Given) (line : List ℕ) (rest : List (List ℕ))
+pub lines_more : (version : Version) (number : ℕ) (given : Given) {more : Given} (line : List ℕ) (rest : List (List ℕ))
     → with_line version given line ≡ Ok more → with_lines version number given (line ∷ rest) ≡ with_lines version (next_line number) more rest
 unfolding with_lines
-lines_more version number given more line rest h =
+lines_more version number given {more} line rest h =
     ap (λ (o : Result Given TextCause).
     elim o [ Ok more ↦ with_lines version (next_line number) more rest | Err cause ↦ Err (fault_at number cause) ]) h
 
-pub lines_fault : (version : Version) (number : ℕ) (given : Given) (cause : TextCause) (line : List ℕ) (rest : List (List ℕ))
+pub lines_fault : (version : Version) (number : ℕ) (given : Given) {cause : TextCause} (line : List ℕ) (rest : List (List ℕ))
     → with_line version given line ≡ Err cause → with_lines version number given (line ∷ rest) ≡ Err (fault_at number cause)
 unfolding with_lines
-lines_fault version number given cause line rest h =
+lines_fault version number given {cause} line rest h =
     ap (λ (o : Result Given TextCause).
     elim o [ Ok more ↦ with_lines version (next_line number) more rest | Err cause ↦ Err (fault_at number cause) ]) h
 

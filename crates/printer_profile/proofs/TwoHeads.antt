@@ -83,13 +83,13 @@ further : (number : ℕ) (given more : Given) (line : List ℕ) (rest : List (Li
     → with_line Two given line ≡ Ok more → Agree (next_line number) more rest → Agree number given (line ∷ rest)
 unfolding Agree Stops
 further number given more line rest one two (inl same) =
-    inl (lines_more One number given more line rest one ∙ same ∙ sym (lines_more Two number given more line rest two))
+    inl (lines_more One number given line rest one ∙ same ∙ sym (lines_more Two number given line rest two))
 further number given more line rest one two (inr (place, within, curve, fault)) =
     inr (
       suc place,
       omega arith,
       curve,
-      lines_more One number given more line rest one ∙ fault
+      lines_more One number given line rest one ∙ fault
           ∙ ap (λ line. Err (fault_at line UnknownKey)) (numbered place number),
     )
 
@@ -103,11 +103,11 @@ by_line number given line rest answer small is (inr only) later =
       zero,
       omega arith,
       only.0,
-      lines_fault One number given UnknownKey line rest only.1
+      lines_fault One number given line rest only.1
           ∙ ap (λ line. Err (fault_at line UnknownKey)) (same_number number small),
     )
 by_line number given line rest (Err cause) small is (inl same) later =
-    inl (lines_fault One number given cause line rest is ∙ sym (lines_fault Two number given cause line rest (same ∙ is)))
+    inl (lines_fault One number given line rest is ∙ sym (lines_fault Two number given line rest (same ∙ is)))
 by_line number given line rest (Ok more) small is (inl same) later =
     further number given more line rest is (same ∙ is) (later more)
 

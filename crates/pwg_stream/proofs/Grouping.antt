@@ -63,11 +63,11 @@ group_begin lines text unread fresh = record {
 }
 
 -- a piece was fed, and the group is not yet whole
-pub group_fed : (old now next : LineReader) (before text text' : Option (List ℕ)) (piece : List ℕ) (used turn : ℕ)
+pub group_fed : {old now next : LineReader} {before text text' : Option (List ℕ)} {piece : List ℕ} {used turn : ℕ}
     → InGroup old now before text piece turn
     → IsMore now next piece used → form_of next ≡ form_of now → IsBytes piece → Consumes text text' (take used piece)
     → (fed : IsFed old next before text') × (turn + 1 ≤ length fed.sofar + 1)
-group_fed old now next before text text' piece used turn so_far more form are step =
+group_fed {old} {now} {before} {text} {text'} {piece} {used} {turn} so_far more form are step =
     let sofar : List ℕ = so_far.fed.sofar in
     let all : take used piece ≡ piece = take_all used piece (omega (arith, more.all)) in
     let P : List ℕ → Type 0 = λ bytes. Consumes text text' bytes in
@@ -91,10 +91,10 @@ group_fed old now next before text text' piece used turn so_far more form are st
     by_turn (suc n) turns some long = omega (arith, some (omega arith))
 
 -- another read gave a byte at least
-pub group_turn : (old next : LineReader) (before text' text'' : Option (List ℕ)) (unread : List ℕ) (turn : ℕ)
+pub group_turn : {old next : LineReader} {before text' text'' : Option (List ℕ)} {unread : List ℕ} (turn : ℕ)
     → (so_far : (fed : IsFed old next before text') × (turn + 1 ≤ length fed.sofar + 1)) → Keeps text' text'' → 1 ≤ length unread
     → InGroup old next before text'' unread (turn + 1)
-group_turn old next before text' text'' unread turn so_far kept some = record {
+group_turn {before} {text'} {text''} turn so_far kept some = record {
   fed = record {
     sofar = so_far.0.sofar;
     are = so_far.0.are;
@@ -109,10 +109,10 @@ group_turn old next before text' text'' unread turn so_far kept some = record {
 }
 
 -- the group is whole
-pub group_whole : (old now next : LineReader) (before text text' : Option (List ℕ)) (piece : List ℕ) (used turn repeats : ℕ)
+pub group_whole : {old now next : LineReader} {before text text' : Option (List ℕ)} {piece : List ℕ} {used turn repeats : ℕ}
     → InGroup old now before text piece turn
     → IsLine now next piece used repeats → Consumes text text' (take used piece) → GivesLine old next before text' repeats
-group_whole old now next before text text' piece used turn repeats so_far line step =
+group_whole {old} {now} {before} {text} {text'} {piece} {used} so_far line step =
     let sofar : List ℕ = so_far.fed.sofar in
     record {
       some = line.some;
@@ -125,11 +125,11 @@ group_whole old now next before text text' piece used turn repeats so_far line s
     }
 
 -- the group is refused
-pub group_refused : (old now next : LineReader) (before text text' : Option (List ℕ)) (piece : List ℕ) (used turn : ℕ) (fault : LineFault)
+pub group_refused : {old now next : LineReader} {before text : Option (List ℕ)} (text' : Option (List ℕ)) {piece : List ℕ} {used turn : ℕ} {fault : LineFault}
     → InGroup old now before text piece turn
     → IsFault now next piece used fault → Consumes text text' (take used piece)
     → IfSome before (λ text. IsNoGroup (next_group old text) (cause.Line fault) ⊎ IsBadGroup (next_group old text) (cause.Line fault))
-group_refused old now next before text text' piece used turn fault so_far wrong step =
+group_refused {old} {now} {before} {text} text' {piece} {used} {fault} so_far wrong step =
     told before text' (Consumes-trans before text text' sofar (take used piece) so_far.fed.used step)
   where
     sofar : List ℕ
@@ -150,12 +150,12 @@ group_refused old now next before text text' piece used turn fault so_far wrong 
         })
 
 -- no group has this many bytes
-pub group_ends : (old now : LineReader) (before text : Option (List ℕ)) (unread : List ℕ) (turn long : ℕ)
+pub group_ends : {old now : LineReader} {before text : Option (List ℕ)} {unread : List ℕ} {turn : ℕ} (long : ℕ)
     → InGroup old now before text unread turn
     → 1 ≤ (row_of (form_of old).kind).unit
     → line_units (row_of (form_of old).kind) (form_of old).width * (row_of (form_of old).kind).unit ≤ long
     → 2 * long + 1 + 2 ≤ turn → ⊥
-group_ends old now before text unread turn long so_far some fits many =
+group_ends {old} long so_far some fits many =
     let row = row_of (form_of old).kind in
     let few = group_at-part row (line_units row (form_of old).width) (lines_left_of old) so_far.fed.sofar some so_far.fed.are
     so_far.fed.part in
@@ -163,17 +163,17 @@ group_ends old now before text unread turn long so_far some fits many =
 
 -- ---- what of the text was used
 
-pub uses_fed : (old now : LineReader) (before text text' : Option (List ℕ)) (piece : List ℕ) (used turn : ℕ)
+pub uses_fed : {old now : LineReader} {before text text' : Option (List ℕ)} {piece : List ℕ} (used : ℕ) {turn : ℕ}
     → InGroup old now before text piece turn
     → Consumes text text' (take used piece) → UsesSome before text'
-uses_fed old now before text text' piece used turn so_far step = record {
+uses_fed {before} {text} {text'} {piece} used so_far step = record {
   bytes = so_far.fed.sofar ++ take used piece;
   is = Consumes-trans before text text' so_far.fed.sofar (take used piece) so_far.fed.used step;
 }
 
-pub uses_kept : (old now : LineReader) (before text text' text'' : Option (List ℕ)) (piece : List ℕ) (used turn : ℕ)
+pub uses_kept : {old now : LineReader} {before text : Option (List ℕ)} (text' : Option (List ℕ)) {text'' : Option (List ℕ)} {piece : List ℕ} (used : ℕ) {turn : ℕ}
     → InGroup old now before text piece turn
     → Consumes text text' (take used piece) → Keeps text' text'' → UsesSome before text''
-uses_kept old now before text text' text'' piece used turn so_far step kept =
-    let uses = uses_fed old now before text text' piece used turn so_far step in
+uses_kept {old} {now} {before} {text} text' {text''} {piece} used {turn} so_far step kept =
+    let uses = uses_fed used so_far step in
     record { bytes = uses.bytes; is = Consumes-kept before text' text'' uses.bytes uses.is kept }

@@ -107,10 +107,12 @@ value_near : (kernel : Kernel) (e : Errors) (c j t r o y x a : ℕ) (xs : List �
     ≡ value (table_of kernel) a (e (y + 2) (x + 3) ∷ e (y + 2) (x + 2) ∷ []) (five (e (y + 1)) (x + 2)) (five (e y) (x + 2))
 value_near Floyd e c j t r o y x a xs f row small is_t is_y is_x =
     let at : ℕ = 34 * t + 2 + r in
+    let up : ℕ → ℤ = e (y + 1) in
     ap (λ s. value floyd a s (up1_in Level xs at) (up2_in Level xs at)) (same_right Level e c j t r o y x xs f row small is_t is_y is_x)
     ∙ ap (λ u. value floyd a (e (y + 2) (x + 3) ∷ e (y + 2) (x + 2) ∷ []) u (up2_in Level xs at))
     (up1_level e c j t r o y x xs f row small (omega (arith, is_t)) is_y is_x)
-    ∙ floyd_shares a _ _ _ _ _ _ _ _ _ _ _ _
+    ∙ floyd_shares a (e (y + 2) (x + 3)) _ _ (up (x + 2)) _ (up (x + 2 + 1)) (up (x + 2 + 2)) (up (x + 2 + 3)) _ _
+    (up2_in Level xs at) (five (e y) (x + 2))
 value_near Jarvis e c j t r o y x a xs f row small is_t is_y is_x = value_lagging jarvis e c j t r o y x a xs f row small is_t is_y is_x
 value_near Stucki e c j t r o y x a xs f row small is_t is_y is_x = value_lagging stucki e c j t r o y x a xs f row small is_t is_y is_x
 
@@ -188,11 +190,11 @@ step_kept kernel p e c j t amounts f0 d0 f1 d1 f2 d2 f s g = record {
       ]) ∙ f.left q l band small;
 }
 
-pub step_right : (kernel : Kernel) (p : Plane) (e : Errors) (c j t : ℕ) (amounts f0 d0 f1 d1 f2 d2 : List ℕ)
+pub step_right : (kernel : Kernel) (p : Plane) (e : Errors) (c j t : ℕ) {amounts f0 d0 f1 d1 f2 d2 : List ℕ}
     → Solves (table_of kernel) p e → HasAmounts (pace_of kernel) p c j 32 amounts
     → IsFilled (pace_of kernel) e c j t f0 → IsStep kernel amounts t 0 32 f0 d0 f1 d1
     → IsCleared (pace_of kernel) p c j t f1 d1 f2 d2 → IsStepped (pace_of kernel) e c j t f2
-step_right kernel p e c j t amounts f0 d0 f1 d1 f2 d2 solves h f s g = record {
+step_right kernel p e c j t {amounts} {f0} {d0} {f1} {d1} {f2} {d2} solves h f s g = record {
   filled = step_kept kernel p e c j t amounts f0 d0 f1 d1 f2 d2 f s g;
   pixels = λ r o row small is_t. elim (cases_Bool (is_place p j r (64 * c + o))) [
     | inl place ↦ ap error_held (g.pixel r o row small is_t place) ∙ s.errors r o (omega arith) row small is_t
@@ -231,11 +233,11 @@ higher d new (suc (suc (suc (suc (suc (suc (suc (suc (suc (suc (suc (suc (suc ze
 higher d new (suc (suc (suc (suc (suc (suc (suc (suc (suc (suc (suc (suc (suc (suc zero)))))))))))))) h is = omega (arith, is)
 higher d new (suc (suc (suc (suc (suc (suc (suc (suc (suc (suc (suc (suc (suc (suc (suc i))))))))))))))) h is = let no : ⊥ = omega arith in absurd no
 
-pub dots_right : (kernel : Kernel) (p : Plane) (e : Errors) (c j t : ℕ) (amounts f0 d0 f1 d1 f2 d2 : List ℕ)
+pub dots_right : (kernel : Kernel) (p : Plane) (e : Errors) (c j t : ℕ) {amounts f0 d0 f1 d1 f2 d2 : List ℕ}
     → HasAmounts (pace_of kernel) p c j 32 amounts → IsFilled (pace_of kernel) e c j t f0
     → IsStep kernel amounts t 0 32 f0 d0 f1 d1 → IsCleared (pace_of kernel) p c j t f1 d1 f2 d2
     → HasLastDots kernel p e c j t d0 → HasLastDots kernel p e c j (t + 1) d2
-dots_right kernel p e c j t amounts f0 d0 f1 d1 f2 d2 h f s g last = record { at = go }
+dots_right kernel p e c j t {amounts} {f0} {d0} {d1} {d2} h f s g last = record { at = go }
   where
     half : (r o : ℕ) → r < 32 → o < 64 → o + delay_of (pace_of kernel) r + 8 ≡ t → get_or d2 r 0 / 2 ≡ get_or d1 r 0 / 2
     half r o row small now = elim (cases_Bool (is_place p j r (64 * c + o))) [

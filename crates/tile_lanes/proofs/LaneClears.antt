@@ -49,7 +49,7 @@ cleared_more step first n at d old old_dots xs dots is_at started room more is_d
     }
 
 -- Rows from the top and rows to the last in the tile are cleared, which have no pixel; those between them have one.
-pub both_cleared : (pace : Pace) (p : Plane) (c j step first end last up low : ℕ) (f0 d0 f1 d1 f2 d2 : List ℕ)
+pub both_cleared : (pace : Pace) {p : Plane} (c j step first end : ℕ) {last up low : ℕ} {f0 d0 f1 d1 f2 d2 : List ℕ}
     → first ≤ end → last ≤ 32 → ((r : ℕ) → r < 32 → delay_of pace r + 8 ≤ step → r < last)
     → ((r : ℕ) → r < 32 → step < delay_of pace r + 8 → last ≤ r)
     → up ≡ min first last → low ≡ min end last
@@ -57,7 +57,7 @@ pub both_cleared : (pace : Pace) (p : Plane) (c j step first end last up low : �
     → ((r o : ℕ) → r < first → o + delay_of pace r + 8 ≡ step → is_place p j r (64 * c + o) ≡ false)
     → ((r o : ℕ) → end ≤ r → r < 32 → o + delay_of pace r + 8 ≡ step → is_place p j r (64 * c + o) ≡ false)
     → AreCleared step 0 up f0 d0 f1 d1 → AreCleared step low last f1 d1 f2 d2 → IsCleared pace p c j step f0 d0 f2 d2
-both_cleared pace p c j step first end last up low f0 d0 f1 d1 f2 d2 order most entered outside is_up is_low inside above below
+both_cleared pace c j step first end {last} order most entered outside is_up is_low inside above below
     a b = record {
       none = λ r o row small at gone. let in_tile = in_last r o row at in elim (cases_lt r first) [
         | inl over ↦ b.before (34 * step + 2 + r) (omega arith) ∙ a.none r (omega arith) (omega arith)

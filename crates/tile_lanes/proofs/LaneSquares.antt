@@ -61,12 +61,12 @@ put_more xs first step i at part old now new row_in step_in long part_long is_at
 }
 
 -- one more square of sixteen rows
-pub half_more : (pace : Pace) (p : Plane) (c j first n step : ℕ) (rows columns : List (List ℕ)) (old now new : List ℕ)
+pub half_more : (pace : Pace) {p : Plane} (c j first n : ℕ) {step : ℕ} {rows columns : List (List ℕ)} {old now new : List ℕ}
     → first ≤ 16 → step ≡ delay_of pace first + 16 * n
     → HasRows pace p c j first step 16 rows → ((i m : ℕ) → i < 16 → m < 16 → lane columns i m ≡ lane rows m i)
     → IsPutInto columns first step 16 now new
     → HasHalf pace p c j first n old now → HasHalf pace p c j first (n + 1) old new
-half_more pace p c j first n step rows columns old now new half is_step has turned put f = record {
+half_more pace {p} c j first n {step} {new} half is_step has turned put f = record {
   there = λ t r from to start end. elim (cases_lt t step) [
     | inl before ↦
         put.kept (32 * t + r) (λ i m in_step in_rows same. omega arith) ∙ f.there t r from to start (omega arith)

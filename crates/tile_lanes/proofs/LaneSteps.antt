@@ -29,9 +29,9 @@ held_more xs at v all fits i = elim (cases_lt at (length xs)) [
 
 -- ---- a step
 
-pub none_stepped : (kernel : Kernel) (amounts : List ℕ) (step first : ℕ) (xs dots : List ℕ)
+pub none_stepped : {kernel : Kernel} {amounts : List ℕ} {step first : ℕ} {xs dots : List ℕ}
     → IsStep kernel amounts step first 0 xs dots xs dots
-none_stepped kernel amounts step first xs dots = record {
+none_stepped {dots} = record {
   errors = λ r o h g. let no : ⊥ = omega arith in absurd no;
   left = λ r h g. let no : ⊥ = omega arith in absurd no;
   dots = λ r o h g. let no : ⊥ = omega arith in absurd no;
@@ -89,7 +89,7 @@ value_kept kernel amount xs old at bound near far kept =
     ∙ ap (λ u. value k amount (same_in old at) u (up2_in pace xs at)) (up1_kept pace xs old at cell)
     ∙ ap (value k amount (same_in old at) (up1_in pace old at)) (up2_kept pace xs old at cell)
 
-pub step_more : (kernel : Kernel) (amounts : List ℕ) (step first n at v d f : ℕ) (on : Bool) (z : ℤ) (old old_dots xs dots : List ℕ)
+pub step_more : (kernel : Kernel) (amounts : List ℕ) (step first n at v : ℕ) {d f : ℕ} {on : Bool} {z : ℤ} {old old_dots xs dots : List ℕ}
     → at ≡ 34 * step + 2 + (first + n) → first + n < 32 → 8 ≤ step → at < length xs → first + n < length dots
     → z ≡ value_in kernel (get_or amounts (32 * (step - 8) + (first + n)) 0) xs at
     → (delay_of (pace_of kernel) (first + n) + 8 ≤ step → error_held v ≡ error_of z)
@@ -97,7 +97,7 @@ pub step_more : (kernel : Kernel) (amounts : List ℕ) (step first n at v d f : 
     → d ≡ (get_or dots (first + n) 0 * 2 % 65536 + f) % 65536 → f ≡ bool_byte on → on ≡ is_dot z
     → IsStep kernel amounts step first n old old_dots xs dots
     → IsStep kernel amounts step first (n + 1) old old_dots (set xs at v) (set dots (first + n) d)
-step_more kernel amounts step first n at v d f on z old old_dots xs dots is_at small late room more is_z is_v is_left is_d is_f is_on s =
+step_more kernel amounts step first n at v {d} {f} {on} {z} {old} {old_dots} {xs} {dots} is_at small late room more is_z is_v is_left is_d is_f is_on s =
     let q : ℕ = first + n in
     let here : z ≡ value_in_row kernel amounts step old q =
     is_z
@@ -145,10 +145,10 @@ step_more kernel amounts step first n at v d f on z old old_dots xs dots is_at s
     }
 
 -- Sixteen rows, and then the others, among which are no errors that those read.
-pub both_stepped : (kernel : Kernel) (amounts : List ℕ) (step : ℕ) (f0 d0 f1 d1 f2 d2 : List ℕ) → 8 ≤ step
+pub both_stepped : {kernel : Kernel} {amounts : List ℕ} (step : ℕ) {f0 d0 f1 d1 f2 d2 : List ℕ} → 8 ≤ step
     → IsStep kernel amounts step 0 16 f0 d0 f1 d1 → IsStep kernel amounts step 16 16 f1 d1 f2 d2
     → IsStep kernel amounts step 0 32 f0 d0 f2 d2
-both_stepped kernel amounts step f0 d0 f1 d1 f2 d2 late a b = record {
+both_stepped {kernel} {amounts} step {f0} {f1} {d1} late a b = record {
   errors = λ r o h g few t. elim (cases_lt r 16) [
     | inl up ↦ ap error_held (b.before (34 * step + 2 + r) (omega arith)) ∙ a.errors r o h up few t
     | inr down ↦ b.errors r o down (omega arith) few t ∙ ap error_of (same r g)

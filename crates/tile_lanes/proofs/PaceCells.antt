@@ -26,13 +26,13 @@ dots_end Level r o row small = omega arith
 dots_end Lagging r o row small = omega arith
 
 -- One more error is put, at row p and place l.
-pub put_cell : (pace : Pace) (row place : ℕ → ℕ) (n next p l at v : ℕ) (errors : List ℤ) (old xs : List ℕ)
+pub put_cell : (pace : Pace) (row place : ℕ → ℕ) (n next p l : ℕ) {at : ℕ} (v : ℕ) {errors : List ℤ} {old : List ℕ} (xs : List ℕ)
     → n + 1 ≡ next → row n ≡ p → place n ≡ l → at ≡ cell_of pace p l → at < 3502
     → ((i : ℕ) → i ≤ n → row i < 34) → ((i : ℕ) → i < n → row i ≡ row n → place i ≢ place n)
     → EachInRange errors → v ≤ 4079 → error_held v ≡ to_z w16 (of_z w16 (get_or errors n (pos 0)))
     → IsPut (λ i. cell_of pace (row i) (place i)) (λ i. i) 0 n errors old xs
     → IsPut (λ i. cell_of pace (row i) (place i)) (λ i. i) 0 next errors old (set xs at v)
-put_cell pace row place n next p l at v errors old xs is_next is_row is_place is_at inside few apart each fits is f =
+put_cell pace row place n next p l {at} v {errors} {old} xs is_next is_row is_place is_at inside few apart each fits is f =
     let cell : ℕ → ℕ = λ i. cell_of pace (row i) (place i) in
     let here : cell n ≡ at = cells_same pace (row n) (place n) p l is_row is_place ∙ sym is_at in
     let more : IsPut cell (λ i. i) 0 (n + 1) errors old (set xs (cell n) v) =

@@ -22,7 +22,7 @@ overflow_add-result-4 c =
 
 pub returns-clause-parts : goal.returns-clause-parts
 returns-clause-parts c =
-    row_sum _ _ _ _ _ _ _ _ _ _
+    row_sum
     c.parts.ensures.in_range c.parts-2.ensures.in_range c.parts-3.ensures.in_range c.parts-4.ensures.in_range c.parts-5.ensures.in_range
     (share_is _ _ _ (c.requires 4) c.parts.ensures.parts)
     (share_is _ _ _ (c.requires 3) c.parts-2.ensures.parts)

@@ -17,7 +17,7 @@ overflow_add-result-3 c =
 
 pub returns-clause-parts : goal.returns-clause-parts
 returns-clause-parts c =
-    near_sum _ _ _ _ _ _ _ _
+    near_sum
     c.parts.ensures.in_range c.parts-2.ensures.in_range c.row_parts.ensures.in_range c.row_parts-2.ensures.in_range
     (share_is _ _ _ (c.requires.same 0) c.parts.ensures.parts)
     (share_is _ _ _ (c.requires.same 1) c.parts-2.ensures.parts)

@@ -3,7 +3,7 @@ use Rattle.escp2_writer.proofs.Coding.{row_behind}
 use Rattle.escp2_writer.proofs.appending.code_behind.Goals as goal
 
 pub returns-clause-code : goal.returns-clause-code
-returns-clause-code c = row_behind _ _ _ _ _ _ (omega arith)
+returns-clause-code c = row_behind _ _ c.args.row.now _ (omega arith)
     (omega (
       arith,
       c.code_row.auto.out,

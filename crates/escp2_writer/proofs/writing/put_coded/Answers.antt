@@ -27,7 +27,7 @@ rows-preserved g c =
     let behind = c.split_at.ensures.back ∙ ap (λ n. drop n c.rows.rest.now) c.row_bytes-width.ensures.is in
     record {
       so_far = puts_more _ _ _ _ _ _ _ _ _ c.rows.invariant.so_far c.in_ok-write.ensures.ok
-          (codes-next _ _ _ _ _ _ left row behind ∙ ap (λ bs. bs ++ codes (c.args.header.m - (c.rows.counter + 1))
+          (codes-next _ _ left row behind ∙ ap (λ bs. bs ++ codes (c.args.header.m - (c.rows.counter + 1))
           (row_bytes c.args.header) c.split_at.result.1.now) (sym c.code_row-len.ensures.code));
       left = rows-next _ _ _ _ _ c.rows.invariant.left left behind;
       later = omega (arith, c.rows.invariant.later, c.in_ok-write.ensures.cause.later);

@@ -10,12 +10,12 @@ lines-init c = rw c.nothing-given.ensures refl
 pub returns-in-Err : goal.returns-in-Err
 returns-in-Err c =
     sym (c.lines.invariant ∙ ap (with_lines c.args.version c.lines.number c.lines.given) c.first_line.ensures.lines
-    ∙ lines_fault _ _ _ _ _ _ (sym c.with_line.ensures ∙ c.in-Err.is))
+    ∙ lines_fault c.args.version c.lines.number c.lines.given _ _ (sym c.with_line.ensures ∙ c.in-Err.is))
 
 pub lines-preserved : goal.lines-preserved
 lines-preserved c =
     c.lines.invariant ∙ ap (with_lines c.args.version c.lines.number c.lines.given) c.first_line.ensures.lines
-    ∙ lines_more _ _ _ _ _ _ (sym c.with_line.ensures ∙ c.in-Ok.is)
+    ∙ lines_more c.args.version c.lines.number c.lines.given _ _ (sym c.with_line.ensures ∙ c.in-Ok.is)
     ∙ rw c.saturating_add-number.ensures refl
 
 pub returns : goal.returns

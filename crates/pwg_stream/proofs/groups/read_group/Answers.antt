@@ -8,53 +8,53 @@ use Rattle.pwg_stream.proofs.groups.read_group.Goals as goal
 pub returns-in-Line-clause-line : goal.returns-in-Line-clause-line
 returns-in-Line-clause-line g c =
     let line = rw c.bytes.ensures.bytes at (rw c.in-Line.is at c.feed-fed.ensures.line) in
-    group_whole _ _ _ _ _ _ _ _ _ _ c.pieces.invariant.group line
+    group_whole c.pieces.invariant.group line
     (text_fed (g.S.Source.left c.pieces.s) c.pieces.unread c.use_up.new.self c.feed-fed.result.used c.use_up.ensures)
 
 pub returns-in-Line-clause-used : goal.returns-in-Line-clause-used
 returns-in-Line-clause-used g c =
-    uses_fed _ _ _ _ _ _ _ _ c.pieces.invariant.group
+    uses_fed _ c.pieces.invariant.group
     (text_fed (g.S.Source.left c.pieces.s) c.pieces.unread c.use_up.new.self c.feed-fed.result.used c.use_up.ensures)
 
 pub returns-in-Fault-clause-input : goal.returns-in-Fault-clause-input
 returns-in-Fault-clause-input g c =
     let fault = rw c.bytes.ensures.bytes at (rw c.in-Fault.is at c.feed-fed.ensures.fault) in
-    group_refused _ _ _ _ _ _ _ _ _ _ c.pieces.invariant.group fault
+    group_refused _ c.pieces.invariant.group fault
     (text_fed (g.S.Source.left c.pieces.s) c.pieces.unread c.use_up.new.self c.feed-fed.result.used c.use_up.ensures)
 
 pub returns-in-Fault-clause-used : goal.returns-in-Fault-clause-used
 returns-in-Fault-clause-used g c =
-    uses_fed _ _ _ _ _ _ _ _ c.pieces.invariant.group
+    uses_fed _ c.pieces.invariant.group
     (text_fed (g.S.Source.left c.pieces.s) c.pieces.unread c.use_up.new.self c.feed-fed.result.used c.use_up.ensures)
 
 pub returns-in-Err-clause-used : goal.returns-in-Err-clause-used
 returns-in-Err-clause-used g c =
-    uses_kept _ _ _ _ _ _ _ _ _ c.pieces.invariant.group
+    uses_kept _ _ c.pieces.invariant.group
     (text_fed (g.S.Source.left c.pieces.s) c.pieces.unread c.use_up.new.self c.feed-fed.result.used c.use_up.ensures)
     c.more.ensures.text
 
 pub returns-then-count-eq0-clause-used : goal.returns-then-count-eq0-clause-used
 returns-then-count-eq0-clause-used g c =
-    uses_kept _ _ _ _ _ _ _ _ _ c.pieces.invariant.group
+    uses_kept _ _ c.pieces.invariant.group
     (text_fed (g.S.Source.left c.pieces.s) c.pieces.unread c.use_up.new.self c.feed-fed.result.used c.use_up.ensures)
     c.more.ensures.text
 
 pub pieces-preserved : goal.pieces-preserved
 pieces-preserved g c =
     let more = rw c.bytes.ensures.bytes at (rw c.in-More.is at c.feed-fed.ensures.more) in
-    let fed = group_fed _ _ _ _ _ _ _ _ _ c.pieces.invariant.group more c.feed-fed.ensures.form
+    let fed = group_fed c.pieces.invariant.group more c.feed-fed.ensures.form
     (rw c.bytes.ensures.bytes at c.bytes.ensures.are)
     (text_fed (g.S.Source.left c.pieces.s) c.pieces.unread c.use_up.new.self c.feed-fed.result.used c.use_up.ensures) in
     let grown = c.in-Ok.ensures.grown in
     record {
-      group = group_turn _ _ _ _ _ _ _ fed c.more.ensures.text
+      group = group_turn _ fed c.more.ensures.text
           (omega (arith, grown.long, ap length grown.is, length-append c.use_up.new.self grown.chunk, c.if-count-eq0.false));
       later = omega (arith, c.pieces.invariant.later, c.more.ensures.cause.later);
     }
 
 pub unreachable-requires : goal.unreachable-requires
 unreachable-requires g c =
-    group_ends _ _ _ _ _ _ (length c.line.result.now) c.pieces.invariant.group (kind_row (form_of c.args.lines.now).kind).some
+    group_ends (length c.line.result.now) c.pieces.invariant.group (kind_row (form_of c.args.lines.now).kind).some
     (omega (arith, c.line.ensures.sized, c.args.lines.now.whole, c.args.lines.now.sized)) c.pieces-test.false
 
 pub pieces-init : goal.pieces-init

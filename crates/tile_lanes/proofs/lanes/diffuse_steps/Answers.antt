@@ -23,10 +23,10 @@ loop-step-preserved c =
     record {
       in_range = c.clear_missing.ensures.in_range;
       filled = λ e s start. step_filled (pace_of k) e column band t _
-          (step_right k p e column band t _ _ _ _ _ _ _ s amounts (v.filled e s start) step clear);
-      dots = λ e s start. dots_right k p e column band t _ _ _ _ _ _ _ amounts (v.filled e s start) step clear (v.dots e s start);
+          (step_right k p e column band t s amounts (v.filled e s start) step clear);
+      dots = λ e s start. dots_right k p e column band t amounts (v.filled e s start) step clear (v.dots e s start);
       bits = λ e s start. bits_more k p e column band t _ _ _
-          (dots_right k p e column band t _ _ _ _ _ _ _ amounts (v.filled e s start) step clear (v.dots e s start))
+          (dots_right k p e column band t amounts (v.filled e s start) step clear (v.dots e s start))
           (v.bits e s start)
           (λ r o row small now. let is = delay r in c.put_words.ensures.there r o row small (omega (arith, is, now)))
           (λ r o row small other. let is = delay r in c.put_words.ensures.kept r o row small (omega (arith, is, other)));

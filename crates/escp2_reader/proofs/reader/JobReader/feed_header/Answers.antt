@@ -2,7 +2,7 @@ use Rattle.std.proofs.Common.{ℕ, ◌+◌, List, take, refl, arith, sym, ap, su
 use Rattle.escp2_definitions.specs.Commands.{command_at}
 use Rattle.escp2_laws.proofs.Grammar.{AreBytes}
 use Rattle.escp2_reader.specs.Headers.{IsRaster}
-use Rattle.escp2_reader.proofs.Hearing.{at-begin, bytes-take, gathered-more, header-last, heard-fault, heard-one, raster-more, whole-more}
+use Rattle.escp2_reader.proofs.Hearing.{at-begin, bytes-take, gathered-more, heard-fault, heard-one, on_fault, raster-more, whole-more}
 use Rattle.escp2_reader.proofs.Hearing.{wrong-more}
 use Rattle.escp2_reader.proofs.reader.JobReader.feed_header.Goals as goal
 
@@ -48,10 +48,9 @@ returns-in-Rows-clause-last c =
     let are : AreBytes c.args.piece.now = λ k. omega (arith, c.type_inv.piece k) in
     let reads : IsRaster c.in-Rows.raster 0 command_at c.push.new.self.items =
     let P : List ℕ → Type 0 = IsRaster c.in-Rows.raster 0 command_at in subst P c.as_slice.ensures.value c.in-Rows.ensures in
-    header-last _ _ _ _ _ _ _ _ _ c.args.piece.now (λ sofar rows stood.
-    raster-more _ _ _ _ sofar (take (c.bytes.i + 1) c.args.piece.now) _ _
+    on_fault c.begin_rows.result.state c.begin_rows.ensures.last (λ shows sofar rows stood. shows sofar
+    (raster-more _ _ _ _ sofar (take (c.bytes.i + 1) c.args.piece.now) _ _
     (gathered-more _ sofar c.args.piece.now _ _ _ _ _ stood.heard c.bytes.invariant.gathered c.push.ensures.items refl
     c.bytes-test.true refl)
     c.push.ensures.items c.bytes.invariant.short reads (omega (arith, stood.fed, c.bytes.invariant.begin, c.bytes.invariant.next))
-    stood.bytes (bytes-take _ _ are))
-    c.begin_rows.ensures.last
+    stood.bytes (bytes-take _ _ are)))

@@ -11,7 +11,7 @@ pieces-init g c = record {
 
 pub pieces-preserved : goal.pieces-preserved
 pieces-preserved g c = record {
-  goes = goes_more _ _ _ _ _ (goes_filled _ _ _ _ _ _ _ c.pieces.invariant.goes c.fill.ensures.text) c.in-More.ensures.fed
+  goes = goes_more _ (goes_filled c.pieces.invariant.goes c.fill.ensures.text) c.in-More.ensures.fed
       c.in-More.ensures.most;
   at = refl;
   later = omega (arith, c.pieces.invariant.later, c.fill.ensures.cause.later);
@@ -19,10 +19,10 @@ pieces-preserved g c = record {
 
 pub returns-in-One-clause-command : goal.returns-in-One-clause-command
 returns-in-One-clause-command g c =
-    takes_command _ _ _ _ _ _ (goes_filled _ _ _ _ _ _ _ c.pieces.invariant.goes c.fill.ensures.text) c.in-One.ensures.fed
+    takes_command _ (goes_filled c.pieces.invariant.goes c.fill.ensures.text) c.in-One.ensures.fed
     c.in-One.ensures.most
 
 pub returns-in-Fault-clause-stop : goal.returns-in-Fault-clause-stop
 returns-in-Fault-clause-stop g c =
-    meets_fault _ _ _ _ _ _ _ (goes_filled _ _ _ _ _ _ _ c.pieces.invariant.goes c.fill.ensures.text) c.in-Fault.ensures.fed
+    meets_fault _ (goes_filled c.pieces.invariant.goes c.fill.ensures.text) c.in-Fault.ensures.fed
     c.in-Fault.ensures.most

@@ -22,7 +22,7 @@ loop-i-preserved c =
     let t : ℕ = c.loop-t.t in
     let i : ℕ = c.loop-i.i in
     put_cell c.args.pace (λ n. n / 64) (λ n. 6 + n % 64) (64 * t + i) (64 * t + (i + 1)) t (6 + i)
-    _ _ _ _ c.loop-i.field (omega arith) (omega arith) (omega arith) c.cell.ensures.is c.cell.ensures.few
+    _ c.loop-i.field (omega arith) (omega arith) (omega arith) c.cell.ensures.is c.cell.ensures.few
     (λ m below. omega arith) (λ m below row place. omega arith)
     c.requires.above c.hold.ensures.most c.hold.ensures.is c.loop-i.invariant
 

@@ -8,7 +8,7 @@ pub loop-n-init : goal.loop-n-init
 loop-n-init c = none_put (λ n. cell_of c.args.pace (n / 6) (n % 6)) (λ n. n) 0 _ _ (omega arith) c.requires.field
 
 pub loop-n-preserved : goal.loop-n-preserved
-loop-n-preserved c = put_cell c.args.pace (λ n. n / 6) (λ n. n % 6) c.loop-n.n _ _ _ _ _ _ _ c.loop-n.field
+loop-n-preserved c = put_cell c.args.pace (λ n. n / 6) (λ n. n % 6) c.loop-n.n _ _ _ _ c.loop-n.field
     refl refl refl c.cell.ensures.is c.cell.ensures.few
     (λ i below. omega arith) (λ i below row place. omega arith)
     c.requires.corner c.hold.ensures.most c.hold.ensures.is c.loop-n.invariant

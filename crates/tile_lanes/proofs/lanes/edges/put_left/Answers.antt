@@ -22,7 +22,7 @@ loop-i-preserved c =
     let t : ℕ = c.loop-t.t in
     let i : ℕ = c.loop-i.i in
     put_cell c.args.pace (λ n. 2 + n / 6) (λ n. n % 6) (6 * t + i) (6 * t + (i + 1)) (2 + t) i
-    _ _ _ _ c.loop-i.field (omega arith) (omega arith) (omega arith) c.cell.ensures.is c.cell.ensures.few
+    _ c.loop-i.field (omega arith) (omega arith) (omega arith) c.cell.ensures.is c.cell.ensures.few
     (λ m below. omega arith) (λ m below row place. omega arith)
     c.requires.left c.hold.ensures.most c.hold.ensures.is c.loop-i.invariant
 

@@ -5,6 +5,6 @@ pub returns-clause-cleared : goal.returns-clause-cleared
 returns-clause-cleared c =
     let last = c.entered_rows-last.ensures in
     let span = c.span_of-span.ensures in
-    both_cleared c.args.pace _ c.args.place.c c.args.place.j c.args.step _ _ _ _ _ _ _ _ _ _ _
+    both_cleared c.args.pace c.args.place.c c.args.place.j c.args.step _ _
     span.order last.most last.inside last.left c.min.ensures c.min-2.ensures span.inside span.before span.after
     c.clear_rows.ensures.cleared c.clear_rows-2.ensures.cleared

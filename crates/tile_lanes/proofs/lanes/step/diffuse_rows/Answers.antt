@@ -15,7 +15,7 @@ entered-requires-clause-all c = λ all.
     omega (arith, behind, up, last)
 
 pub loop-i-init : goal.loop-i-init
-loop-i-init c = record { long = omega arith; dots_long = omega arith; in_range = c.requires.in_range; stepped = none_stepped _ _ _ _ _ _ }
+loop-i-init c = record { long = omega arith; dots_long = omega arith; in_range = c.requires.in_range; stepped = none_stepped }
 
 pub loop-i-preserved : goal.loop-i-preserved
 loop-i-preserved c =
@@ -34,7 +34,7 @@ loop-i-preserved c =
       long = length-set _ _ _ ∙ v.long;
       dots_long = length-set _ _ _ ∙ v.dots_long;
       in_range = held_more _ at _ v.in_range c.entered.ensures.most;
-      stepped = step_more c.args.kernel c.args.amounts.now step c.args.first c.loop-i.i at _ _ _ _ _ _ _ _ _ refl (omega arith)
+      stepped = step_more c.args.kernel c.args.amounts.now step c.args.first c.loop-i.i at _ refl (omega arith)
           (omega arith) room (omega (arith, v.dots_long)) value
           (λ inside. ap error_held (c.entered.ensures.inside (omega (arith, behind, inside))) ∙ c.held_error.ensures.error)
           (λ left. c.entered.ensures.left (omega (arith, behind, left))) refl c.from.ensures c.shows_dot.ensures v.stepped;
