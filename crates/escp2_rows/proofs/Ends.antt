@@ -200,12 +200,12 @@ costs_begin row table sized =
     equal_none = omega (arith, equal_is [])
 
 -- one more place is filled
-pub costs_step : (row table : List ℕ) (filled : Filled) (cost literal best equal : ℕ) → IsFilled row table filled → 0 < filled.at
+pub costs_step : {row table : List ℕ} {filled : Filled} {cost literal best equal : ℕ} → IsFilled row table filled → 0 < filled.at
     → equal ≡ equal_at (drop (filled.at - 1) row) → cost ≡ get_or (costs (drop (filled.at - 1) row)) 0 0
     → IsEnd 128 (drop (filled.at - 1) row) literal → best ≡ get_or (costs (drop (filled.at - 1) row)) literal 0
     → IsFilled row (set table (filled.at - 1) cost) (record { at = filled.at - 1; equal = equal; literal = literal; best = best })
 unfolding costs
-costs_step row table filled cost literal best equal so_far some counted least ends near =
+costs_step {row} {table} {filled} {cost} {literal} {best} {equal} so_far some counted least ends near =
     let at : ℕ = filled.at in
     let again : at - 1 + 1 ≡ at = omega arith in
     let here : at - 1 < length row = omega (arith, so_far.within) in

@@ -181,13 +181,6 @@ put_before table block at n within len =
     drop_at (take at table) (block ++ drop n (drop at table)) at (length-take-le at table (omega arith))
     ∙ ap (λ rest. block ++ rest) (drop-drop n at table)
 
--- the sixteen bytes before a place
-before_is : (row : List ℕ) (at : ℕ) → 16 ≤ at → take 16 (drop (at - 16) row) ++ drop at row ≡ drop (at - 16) row
-before_is row at room =
-    ap (λ rest. take 16 (drop (at - 16) row) ++ rest)
-    (sym (ap (λ k. drop k row) (let e : at - 16 + 16 ≡ at = omega arith in e)) ∙ sym (drop-drop 16 (at - 16) row))
-    ∙ take-append-drop 16 (drop (at - 16) row)
-
 -- the table keeps its length
 put_len : (table block : List ℕ) (at n : ℕ) → at + n ≤ length table → length block ≡ n → length (put_mid at n table block) ≡ length table
 put_len table block at n within len =
@@ -200,109 +193,141 @@ put_len table block at n within len =
       length-drop at table,
     )
 
--- What is known of the sixteen bytes before a place, and of those from there on.
-record Before (row : List ℕ) (at : ℕ) : Type 0 where
+-- What is known of some bytes before a place, and of those from there on.
+record Before (row : List ℕ) (at count : ℕ) : Type 0 where
   front : List ℕ
-  sixteen : length front ≡ 16
-  joined : front ++ drop at row ≡ drop (at - 16) row
+  counted : length front ≡ count
+  joined : front ++ drop at row ≡ drop (at - count) row
 
--- the sixteen bytes are there
-sixteen_before : (row : List ℕ) (at : ℕ) → 16 ≤ at → at ≤ length row → Before row at
-sixteen_before row at room within = record {
-  front = take 16 (drop (at - 16) row);
-  sixteen = length-take-le 16 (drop (at - 16) row) (omega (arith, length-drop (at - 16) row));
-  joined = before_is row at room;
+-- the bytes are there
+bytes_before : (row : List ℕ) (at count : ℕ) → count ≤ at → at ≤ length row → Before row at count
+bytes_before row at count room within = record {
+  front = take count (drop (at - count) row);
+  counted = length-take-le count (drop (at - count) row) (omega (arith, length-drop (at - count) row));
+  joined = ap (λ rest. take count (drop (at - count) row) ++ rest)
+      (sym (ap (λ k. drop k row) (let e : at - count + count ≡ at = omega arith in e)) ∙ sym (drop-drop count (at - count) row))
+      ∙ take-append-drop count (drop (at - count) row);
 }
 
+-- the front of a joined list, shortened
+drop_front : (n : ℕ) (front rest : List ℕ) → n ≤ length front → drop n (front ++ rest) ≡ drop n front ++ rest
+drop_front zero front rest within = refl
+drop_front (suc n) [] rest within = absurd (omega arith)
+drop_front (suc n) (b ∷ front) rest within = drop_front n front rest (omega arith)
+
+-- costs that rise, but for the first
+drop_rising : (m n k base : ℕ) → k ≡ m + n → drop m (rising k base) ≡ rising n base
+unfolding rising
+drop_rising zero n k base e = ap (λ j. rising j base) (let same : k ≡ n = omega arith in same)
+drop_rising (suc m) n zero base e = absurd (omega arith)
+drop_rising (suc m) n (suc k) base e = drop_rising m n k base (omega arith)
+
+-- the same cost again and again, but for the first
+drop_level : (m n k cost : ℕ) → k ≡ m + n → drop m (replicate k cost) ≡ replicate n cost
+drop_level zero n k cost e = ap (λ j. replicate j cost) (let same : k ≡ n = omega arith in same)
+drop_level (suc m) n zero cost e = absurd (omega arith)
+drop_level (suc m) n (suc k) cost e = drop_level m n k cost (omega arith)
+
 -- the table is filled before a place
-block_done : (row table block : List ℕ) (at : ℕ) → 16 ≤ at → at ≤ length row → length table ≡ length row + 1 → length block ≡ 16
-    → drop at table ≡ costs (drop at row) → costs (drop (at - 16) row) ≡ block ++ costs (drop at row)
-    → drop (at - 16) (put_mid (at - 16) 16 table block) ≡ costs (drop (at - 16) row)
-block_done row table block at room within sized len done are =
-    put_before table block (at - 16) 16 (omega arith) len
+block_done : (row table block : List ℕ) (at count : ℕ) → 16 ≤ at → count ≤ 16 → at ≤ length row → length table ≡ length row + 1 → length block ≡ 16
+    → drop at table ≡ costs (drop at row) → costs (drop (at - count) row) ≡ drop (16 - count) block ++ costs (drop at row)
+    → drop (at - count) (put_mid (at - 16) 16 table block) ≡ costs (drop (at - count) row)
+block_done row table block at count room few within sized len done are =
+    ap (λ k. drop k (put_mid (at - 16) 16 table block)) (let e : at - count ≡ at - 16 + (16 - count) = omega arith in e)
+    ∙ sym (drop-drop (16 - count) (at - 16) (put_mid (at - 16) 16 table block))
+    ∙ ap (drop (16 - count)) (put_before table block (at - 16) 16 (omega arith) len
     ∙ ap (λ k. block ++ drop k table) (let e : at - 16 + 16 ≡ at = omega arith in e)
-    ∙ ap (λ cs. block ++ cs) done
+    ∙ ap (λ cs. block ++ cs) done)
+    ∙ drop_front (16 - count) block (costs (drop at row)) (omega arith)
     ∙ sym are
 
--- sixteen places that a literal takes are filled
-pub filled_literal : (row table block : List ℕ) (filled : Filled) (equal k : ℕ) → IsFilled row table filled → LiteralGoesOn row filled → k ≡ 16
-    → block ≡ rising 16 (filled.best + filled.literal + 1) → length block ≡ 16 → equal ≡ equal_at (drop (filled.at - 16) row)
+-- the places that a literal takes are filled
+pub filled_literal : (row table block : List ℕ) (filled : Filled) (count equal k : ℕ) → IsFilled row table filled → LiteralGoesOn row filled count → k ≡ 16
+    → block ≡ rising 16 (filled.best + filled.literal + 1) → length block ≡ 16 → equal ≡ equal_at (drop (filled.at - count) row)
     → IsFilled row (put_mid (filled.at - 16) k table block)
-    (record { at = filled.at - 16; equal = equal; literal = filled.literal + 16; best = filled.best })
-filled_literal row table block filled equal k is goes sixteen block_is len counted =
+    (record { at = filled.at - count; equal = equal; literal = filled.literal + count; best = filled.best })
+filled_literal row table block filled count equal k is goes sixteen block_is len counted =
     let at : ℕ = filled.at in
     let rest : List ℕ = drop at row in
-    let there : Before row at = sixteen_before row at goes.room is.within in
+    let there : Before row at count = bytes_before row at count (omega (arith, goes.room, goes.within)) is.within in
     let base : filled.best + filled.literal + 1 ≡ 1 + upto rest filled.literal =
     omega (arith, is.least, costs_drop filled.literal rest is.ends.within) in
     let on : LiteralOn there.front rest filled.literal =
-    literal_on there.front rest filled.literal is.ends goes.some (omega (arith, goes.few, there.sixteen)) (λ i less. few there i (omega (arith, there.sixteen))) in
-    let P : List ℕ → Type 0 = λ bs. IsEnd 128 bs (filled.literal + 16) in
+    literal_on there.front rest filled.literal is.ends goes.some (omega (arith, goes.few, there.counted)) (λ i less. few there i (omega (arith, there.counted))) in
+    let P : List ℕ → Type 0 = λ bs. IsEnd 128 bs (filled.literal + count) in
     let Q : ℕ → Type 0 = λ n. IsEnd 128 (there.front ++ rest) (filled.literal + n) in
-    let ends : IsEnd 128 (drop (at - 16) row) (filled.literal + 16) = subst P there.joined (subst Q there.sixteen on.ends) in
-    let are : costs (drop (at - 16) row) ≡ block ++ costs rest =
-    ap costs (sym there.joined) ∙ on.are ∙ ap (λ n. rising n (1 + upto rest filled.literal) ++ costs rest) there.sixteen
-    ∙ ap (λ c. rising 16 c ++ costs rest) (sym base) ∙ ap (λ bs. bs ++ costs rest) (sym block_is) in
+    let ends : IsEnd 128 (drop (at - count) row) (filled.literal + count) = subst P there.joined (subst Q there.counted on.ends) in
+    let last : drop (16 - count) block ≡ rising count (1 + upto rest filled.literal) =
+    ap (drop (16 - count)) (block_is ∙ ap (rising 16) base)
+    ∙ drop_rising (16 - count) count 16 (1 + upto rest filled.literal) (omega (arith, goes.within)) in
+    let are : costs (drop (at - count) row) ≡ drop (16 - count) block ++ costs rest =
+    ap costs (sym there.joined) ∙ on.are ∙ ap (λ n. rising n (1 + upto rest filled.literal) ++ costs rest) there.counted
+    ∙ ap (λ bs. bs ++ costs rest) (sym last) in
     let R : ℕ → Type 0 = λ n. IsFilled row (put_mid (at - 16) n table block)
-    (record { at = at - 16; equal = equal; literal = filled.literal + 16; best = filled.best }) in
+    (record { at = at - count; equal = equal; literal = filled.literal + count; best = filled.best }) in
     subst R (sym sixteen) (record {
       sized = put_len table block (at - 16) 16 (omega (arith, is.sized, is.within, goes.room)) len ∙ is.sized;
       within = omega (arith, is.within);
-      done = block_done row table block at goes.room is.within is.sized len is.done are;
+      done = block_done row table block at count goes.room goes.within is.within is.sized len is.done are;
       counted = counted;
-      few = omega (arith, counted, (equal_within (drop (at - 16) row)).0);
+      few = omega (arith, counted, (equal_within (drop (at - count) row)).0);
       near = goes.few;
       least = is.least ∙ costs_drop filled.literal rest is.ends.within
           ∙ ap fewest (sym (behind_front there.front rest filled.literal))
-          ∙ ap (λ n. fewest (drop (filled.literal + n) (there.front ++ rest))) there.sixteen
-          ∙ ap (λ bs. fewest (drop (filled.literal + 16) bs)) there.joined
-          ∙ sym (costs_drop (filled.literal + 16) (drop (at - 16) row) ends.within);
+          ∙ ap (λ n. fewest (drop (filled.literal + n) (there.front ++ rest))) there.counted
+          ∙ ap (λ bs. fewest (drop (filled.literal + count) bs)) there.joined
+          ∙ sym (costs_drop (filled.literal + count) (drop (at - count) row) ends.within);
       ends = ends;
     })
   where
-    few : (there : Before row filled.at) (i : ℕ) → i < 16 → equal_at (drop i (there.front ++ drop filled.at row)) ≤ 2
+    few : (there : Before row filled.at count) (i : ℕ) → i < count → equal_at (drop i (there.front ++ drop filled.at row)) ≤ 2
     few there i less =
-        let P : List ℕ → Type 0 = λ bs. equal_at (drop i bs) ≤ 2 in
-        subst P (sym there.joined) (three_apart (drop (filled.at - 16) row) i
-        (omega (arith, less, length-drop (filled.at - 16) row, goes.behind, goes.room)) (goes.apart i less))
+        let P : List ℕ → Type 0 = λ bs. equal_at bs ≤ 2 in
+        subst P (sym (ap (drop i) there.joined ∙ drop-drop i (filled.at - count) row))
+        (three_apart row (filled.at - count + i) (omega (arith, less, goes.behind, goes.room, goes.within))
+        (goes.apart (filled.at - count + i) (omega (arith, goes.room, goes.within)) (omega (arith, less, goes.room, goes.within))))
 
 -- no three of the bytes from there on are equal
-pub literal_few : (row : List ℕ) (filled : Filled) → LiteralGoesOn row filled → equal_at (drop (filled.at - 16) row) ≤ 2
-literal_few row filled goes =
-    three_apart (drop (filled.at - 16) row) 0 (omega (arith, length-drop (filled.at - 16) row, goes.behind, goes.room)) (goes.apart 0 (omega arith))
+pub literal_few : (row : List ℕ) (filled : Filled) (count : ℕ) → 0 < count → LiteralGoesOn row filled count → equal_at (drop (filled.at - count) row) ≤ 2
+literal_few row filled count some goes =
+    three_apart row (filled.at - count) (omega (arith, some, goes.behind, goes.room, goes.within))
+    (goes.apart (filled.at - count) (omega (arith, goes.room, goes.within)) (omega (arith, some, goes.room, goes.within)))
 
 -- the best cost is small
 pub best_small : (row table : List ℕ) (filled : Filled) → IsFilled row table filled → length row ≤ 1024 → filled.best ≤ 2048
 best_small row table filled is short =
     omega (arith, short, is.least, entry_small (drop filled.at row) filled.literal is.ends.within, length-drop filled.at row)
 
--- sixteen places that a run takes are filled
-pub filled_run : (row table block : List ℕ) (filled : Filled) (k : ℕ) → IsFilled row table filled → RunGoesOn row filled → k ≡ 16
+-- the places that a run takes are filled
+pub filled_run : (row table block : List ℕ) (filled : Filled) (count k : ℕ) → IsFilled row table filled → RunGoesOn row filled count → k ≡ 16
     → block ≡ replicate 16 filled.best
     → IsFilled row (put_mid (filled.at - 16) k table block)
-    (record { at = filled.at - 16; equal = filled.equal + 16; literal = 0; best = filled.best })
-filled_run row table block filled k is goes sixteen block_is =
+    (record { at = filled.at - count; equal = filled.equal + count; literal = 0; best = filled.best })
+filled_run row table block filled count k is goes sixteen block_is =
     let at : ℕ = filled.at in
     let rest : List ℕ = drop at row in
-    let there : Before row at = sixteen_before row at goes.room is.within in
+    let there : Before row at count = bytes_before row at count (omega (arith, goes.room, goes.within)) is.within in
     let E : ℕ → Type 0 = λ n. IsEnd 128 rest n in
     let best : filled.best ≡ fewest rest = is.least ∙ ap (λ n. get_or (costs rest) n 0) goes.none in
     let on : RunOn there.front rest =
     run_on there.front rest (omega (arith, length-drop at row, goes.behind)) (subst E goes.none is.ends)
-    (omega (arith, goes.few, is.counted, there.sixteen)) (λ i less. same there i (omega (arith, there.sixteen))) in
+    (omega (arith, goes.few, is.counted, there.counted)) (λ i less. same there i (omega (arith, there.counted))) in
     let len : length block ≡ 16 = ap length block_is ∙ length-replicate {A = ℕ} 16 filled.best in
     let P : List ℕ → Type 0 = λ bs. IsEnd 128 bs 0 in
-    let are : costs (drop (at - 16) row) ≡ block ++ costs rest =
-    ap costs (sym there.joined) ∙ on.are ∙ ap (λ n. replicate n (fewest rest) ++ costs rest) there.sixteen
-    ∙ ap (λ c. replicate 16 c ++ costs rest) (sym best) ∙ ap (λ bs. bs ++ costs rest) (sym block_is) in
-    let counted : filled.equal + 16 ≡ equal_at (drop (at - 16) row) =
-    omega (arith, is.counted, on.equal, there.sixteen, ap equal_at there.joined) in
+    let last : drop (16 - count) block ≡ replicate count (fewest rest) =
+    ap (drop (16 - count)) (block_is ∙ ap (λ c. replicate 16 c) best)
+    ∙ drop_level (16 - count) count 16 (fewest rest) (omega (arith, goes.within)) in
+    let are : costs (drop (at - count) row) ≡ drop (16 - count) block ++ costs rest =
+    ap costs (sym there.joined) ∙ on.are ∙ ap (λ n. replicate n (fewest rest) ++ costs rest) there.counted
+    ∙ ap (λ bs. bs ++ costs rest) (sym last) in
+    let counted : filled.equal + count ≡ equal_at (drop (at - count) row) =
+    omega (arith, is.counted, on.equal, there.counted, ap equal_at there.joined) in
     let R : ℕ → Type 0 = λ n. IsFilled row (put_mid (at - 16) n table block)
-    (record { at = at - 16; equal = filled.equal + 16; literal = 0; best = filled.best }) in
+    (record { at = at - count; equal = filled.equal + count; literal = 0; best = filled.best }) in
     subst R (sym sixteen) (record {
       sized = put_len table block (at - 16) 16 (omega (arith, is.sized, is.within, goes.room)) len ∙ is.sized;
       within = omega (arith, is.within);
-      done = block_done row table block at goes.room is.within is.sized len is.done are;
+      done = block_done row table block at count goes.room goes.within is.within is.sized len is.done are;
       counted = counted;
       few = goes.few;
       near = omega arith;
@@ -310,13 +335,44 @@ filled_run row table block filled k is goes sixteen block_is =
       ends = subst P there.joined on.ends;
     })
   where
-    here : (there : Before row filled.at) → get_or (drop (filled.at - 16) row) 16 0 ≡ get_or (drop filled.at row) 0 0
-    here there =
-        sym (get_or-drop 16 (drop (filled.at - 16) row) 0 0)
-        ∙ ap (λ bs. get_or bs 0 0) (drop-drop 16 (filled.at - 16) row)
-        ∙ ap (λ n. get_or (drop n row) 0 0) (let e : filled.at - 16 + 16 ≡ filled.at = omega (arith, goes.room) in e)
-
-    same : (there : Before row filled.at) (i : ℕ) → i < 16 → get_or there.front i 0 ≡ get_or (drop filled.at row) 0 0
+    same : (there : Before row filled.at count) (i : ℕ) → i < count → get_or there.front i 0 ≡ get_or (drop filled.at row) 0 0
     same there i less =
-        sym (get_or_append_left there.front (drop filled.at row) 0 i (omega (arith, less, there.sixteen)))
-        ∙ ap (λ bs. get_or bs i 0) there.joined ∙ goes.same i less ∙ here there
+        sym (get_or_append_left there.front (drop filled.at row) 0 i (omega (arith, less, there.counted)))
+        ∙ ap (λ bs. get_or bs i 0) there.joined
+        ∙ get_or-drop (filled.at - count) row i 0
+        ∙ goes.same (filled.at - count + i) (omega (arith, goes.room, goes.within)) (omega (arith, less, goes.room, goes.within))
+        ∙ ap (λ n. get_or row n 0) (let e : filled.at ≡ filled.at + 0 = omega arith in e)
+        ∙ sym (get_or-drop filled.at row 0 0)
+
+-- ---- where a literal or a run goes on
+
+-- two of three bytes differ in a row from a place on as in the row
+pub apart_from : (row : List ℕ) (at i : ℕ) → IsApart (drop at row) i → IsApart row (at + i)
+apart_from row at i apart =
+    let there : (j : ℕ) → get_or (drop at row) j 0 ≡ get_or row (at + j) 0 = λ j. get_or-drop at row j 0 in
+    let second : get_or (drop at row) (i + 1) 0 ≡ get_or row (at + i + 1) 0 =
+    there (i + 1) ∙ ap (λ n. get_or row n 0) (let e : at + (i + 1) ≡ at + i + 1 = omega arith in e) in
+    let third : get_or (drop at row) (i + 2) 0 ≡ get_or row (at + i + 2) 0 =
+    there (i + 2) ∙ ap (λ n. get_or row n 0) (let e : at + (i + 2) ≡ at + i + 2 = omega arith in e) in
+    sym (ap (λ k. (k == get_or (drop at row) (i + 1) 0) && (get_or (drop at row) (i + 1) 0 == get_or (drop at row) (i + 2) 0)) (there i)
+    ∙ ap (λ k. (get_or row (at + i) 0 == k) && (k == get_or (drop at row) (i + 2) 0)) second
+    ∙ ap (λ k. (get_or row (at + i) 0 == get_or row (at + i + 1) 0) && (get_or row (at + i + 1) 0 == k)) third) ∙ apart
+
+-- so the places of sixteen bytes before a place are those of the row
+pub places_apart : (row : List ℕ) (at count : ℕ) → 16 ≤ at
+    → ((i : ℕ) → i < 16 → 16 ≤ i + count → IsApart (drop (at - 16) row) i) → (i : ℕ) → at ≤ i + count → count ≤ 16 → i < at → IsApart row i
+places_apart row at count room apart i from few less =
+    let P : ℕ → Type 0 = λ n. IsApart row n in
+    let e : at - 16 + (i + 16 - at) ≡ i = omega arith in
+    subst P e (apart_from row (at - 16) (i + 16 - at) (apart (i + 16 - at) (omega arith) (omega arith)))
+
+-- and the bytes of a run
+pub places_equal : (row : List ℕ) (at count : ℕ) → 16 ≤ at
+    → ((i : ℕ) → i < 16 → 16 ≤ i + count → get_or (drop (at - 16) row) i 0 ≡ get_or (drop (at - 16) row) 16 0)
+    → (i : ℕ) → at ≤ i + count → count ≤ 16 → i < at → get_or row i 0 ≡ get_or row at 0
+places_equal row at count room same i from few less =
+    ap (λ n. get_or row n 0) (let e : i ≡ at - 16 + (i + 16 - at) = omega arith in e)
+    ∙ sym (get_or-drop (at - 16) row (i + 16 - at) 0)
+    ∙ same (i + 16 - at) (omega arith) (omega arith)
+    ∙ get_or-drop (at - 16) row 16 0
+    ∙ ap (λ n. get_or row n 0) (let e : at - 16 + 16 ≡ at = omega arith in e)

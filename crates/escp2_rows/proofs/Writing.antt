@@ -11,7 +11,7 @@ use borrow.Rule.Slice.PartMut.{put_mid}
 use Rattle.escp2_definitions.specs.RowCode.{RowPacket, packet_code, packet_row}
 use Rattle.escp2_definitions.specs.RowCode.RowPacket.{Bytes, Repeat}
 use Rattle.escp2_definitions.specs.Least.{cost_from, costs, equal_at, least_packet, least_row, literals, packets_at, packets_from, runs}
-use Rattle.escp2_rows.specs.Literals.{IsLongest}
+use Rattle.escp2_rows.specs.Literals.{IsLongest, LongestSoFar}
 use Rattle.escp2_laws.proofs.Fewest.{ByLiteral, ByRun, cost_is, costs_drop, equal_within, equal_is, fewest, first_step, length_costs, literal_costs}
 use Rattle.escp2_laws.proofs.Fewest.{run_costs, same, same_cons, same_within}
 use Rattle.escp2_laws.proofs.Least.{IsFirst, first_of_row}
@@ -111,16 +111,6 @@ least_literal (b ∷ row) n some no_run is =
 
 -- ---- the longest literal
 
--- All longer literals cost more, and one that is no longer does not.
-pub record LongestSoFar (row : List ℕ) (count : ℕ) : Type 0 where
-  pub some : ℕ
-  pub one : 1 ≤ some
-  pub below : some ≤ count
-  pub few : count ≤ 128
-  pub within : count ≤ length row
-  pub reached : fewest row ≡ 1 + some + fewest (drop some row)
-  pub longer : (k : ℕ) → count < k → k ≤ 128 → k ≤ length row → fewest row < 1 + k + fewest (drop k row)
-
 pub longest_begin : (row : List ℕ) (count : ℕ) → 0 < length row → (2 ≤ equal_at row → fewest row ≢ 2 + fewest (drop (equal_at row) row))
     → count ≡ min (length row) 128 → LongestSoFar row count
 longest_begin [] count some no_run is = absurd (omega arith)
@@ -173,6 +163,38 @@ longest_end row count so_far le = record {
   longest = so_far.longer;
 }
 
+-- sixteen places at none of which a literal that costs least ends
+pub longest_jump : (row table : List ℕ) (count : ℕ) → table ≡ costs row → LongestSoFar row count → 15 < count
+    → ((i : ℕ) → i < 16 → 1 + (count - 15 + i) + get_or table (count - 15 + i) 0 ≢ fewest row) → LongestSoFar row (count - 16)
+longest_jump row table count is so_far room none = record {
+  some = so_far.some;
+  one = so_far.one;
+  below = by_some (cases_lt (count - 16) so_far.some);
+  few = omega (arith, so_far.few);
+  within = omega (arith, so_far.within);
+  reached = so_far.reached;
+  longer = λ k more few within. by_place k more few within (cases_lt count k);
+}
+  where
+    cost : (k : ℕ) → k ≤ length row → get_or table k 0 ≡ fewest (drop k row)
+    cost k within = ap (λ cs. get_or cs k 0) is ∙ costs_drop k row within
+
+    dearer : (k : ℕ) → count - 16 < k → k ≤ count → 1 + k + fewest (drop k row) ≢ fewest row
+    dearer k more near = λ e.
+        let there : count - 15 + (k + 15 - count) ≡ k = omega (arith, more, room) in
+        none (k + 15 - count) (omega (arith, near)) (ap (λ n. 1 + n + get_or table n 0) there
+        ∙ ap (λ c. 1 + k + c) (cost k (omega (arith, near, so_far.within))) ∙ e)
+
+    by_some : (count - 16 < so_far.some) ⊎ (so_far.some ≤ count - 16) → so_far.some ≤ count - 16
+    by_some (inr le) = le
+    by_some (inl more) = absurd (dearer so_far.some more so_far.below (sym so_far.reached))
+
+    by_place : (k : ℕ) → count - 16 < k → k ≤ 128 → k ≤ length row → (count < k) ⊎ (k ≤ count) → fewest row < 1 + k + fewest (drop k row)
+    by_place k more few within (inl far) = so_far.longer k far few within
+    by_place k more few within (inr near) =
+        let least : fewest row ≤ 1 + k + fewest (drop k row) = literal_costs row k (omega (arith, more)) few within in
+        omega (arith, least, dearer k more near)
+
 -- the first packet of a row may stand there
 pub first_is : (row : List ℕ) → 0 < length row → IsFirst row (least_packet row)
 first_is [] some = absurd (omega arith)
@@ -190,6 +212,16 @@ same_take byte (suc m) (b ∷ row) = by_test (b == byte) (same_cons byte b (take
     by_test true one two rest = omega (arith, one, two, rest)
     by_test false one two rest = omega (arith, one, two)
 
+-- so many bytes in front of others
+pub same_front : (byte n : ℕ) (row : List ℕ) → n ≤ length row → ((i : ℕ) → i < n → get_or row i 0 ≡ byte) → n + same byte (drop n row) ≡ same byte row
+same_front byte zero row within are = omega arith
+same_front byte (suc n) [] within are = absurd (omega arith)
+same_front byte (suc n) (b ∷ row) within are =
+    let rest : n + same byte (drop n row) ≡ same byte row = same_front byte n row (omega arith) (λ i less. are (suc i) (omega arith)) in
+    let more : same byte (b ∷ row) ≡ 1 + same byte row =
+    same_cons byte b row ∙ ap (λ t. if t then 1 + same byte row else 0) (eq-eqb b byte (are 0 (omega arith))) in
+    omega (arith, rest, more)
+
 pub equal_counted : (row : List ℕ) (first count : ℕ) → first ≡ min (length row) 128 → count ≡ same (get_or row 0 0) (take first row) → count ≡ equal_at row
 equal_counted row first count first_is counted =
     omega (arith, counted, first_is, same_take (get_or row 0 0) first row, same_within (get_or row 0 0) row, equal_is row)
@@ -201,6 +233,9 @@ entry_is row table j is within = ap (λ cs. get_or cs j 0) is ∙ costs_drop j r
 
 pub table_sized : (row table : List ℕ) → table ≡ costs row → length table ≡ length row + 1
 table_sized row table is = ap length is ∙ length_costs row
+
+pub table_small : (row table : List ℕ) (j : ℕ) → table ≡ costs row → j ≤ length row → get_or table j 0 ≤ 2 * length row
+table_small row table j is within = omega (arith, ap (λ cs. get_or cs j 0) is, entry_small row j within)
 
 pub literal_shrinks : (row table : List ℕ) (count least cost : ℕ) → table ≡ costs row → LongestSoFar row count → least ≡ get_or table 0 0 → cost ≡ get_or table count 0
     → least < count + 1 + cost → (count + 1 + cost - least ≤ count) × LongestSoFar row (count - (count + 1 + cost - least))
@@ -350,10 +385,10 @@ row-more row out part part' out' rest len count code so_far some written part_le
     }
 
 -- the same, as it is written
-pub row_step : (row out part part' rest rest' : List ℕ) (len count code : ℕ) → RowSoFar row out len rest → 0 < length rest
+pub row_step : {row out part part' rest rest' : List ℕ} {len count code : ℕ} → RowSoFar row out len rest → 0 < length rest
     → IsWritten rest part part' count code → length part ≡ length out - len → rest' ≡ drop count rest
     → RowSoFar row (put_mid len (length out - len) out part') (len + code) rest'
-row_step row out part part' rest rest' len count code so_far some written part_len behind =
+row_step {row} {out} {part} {part'} {rest} {rest'} {len} {count} {code} so_far some written part_len behind =
     let out' : List ℕ = put_mid len (length out - len) out part' in
     let put : out' ≡ take len out ++ part' = put_mid-end out part' len (length out - len) refl in
     let P : List ℕ → Type 0 = RowSoFar row out' (len + code) in

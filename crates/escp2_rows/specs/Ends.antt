@@ -1,5 +1,5 @@
 -- Where a literal from before a row ends best, and what is known of a table that is filled from a place on.
-use Rattle.std.specs.Prelude.{◌≡◌, ℕ, zero, suc, ◌+◌, ◌-◌, ◌<◌, ◌≤◌, ◌==◌, ◌&&◌, false, List, [], ◌∷◌, length, drop, slice_index}
+use Rattle.std.specs.Prelude.{◌≡◌, ℕ, zero, suc, ◌+◌, ◌<◌, ◌≤◌, ◌==◌, ◌&&◌, false, List, [], ◌∷◌, length, drop, slice_index}
 use Rattle.escp2_definitions.specs.Least.{costs, equal_at}
 use Rattle.escp2_rows.specs.declared.costs.Filled.{Filled}
 
@@ -29,21 +29,23 @@ pub record IsFilled (row table : List ℕ) (filled : Filled) : Type 0 where
 abbrev pub IsApart : List ℕ → ℕ → Type 0
 IsApart row i = ((slice_index row i == slice_index row (i + 1)) && (slice_index row (i + 1) == slice_index row (i + 2))) ≡ false
 
--- No three of the sixteen bytes before a place and the two behind it are equal, and a literal goes on over the sixteen.
-pub record LiteralGoesOn (row : List ℕ) (filled : Filled) : Type 0 where
+-- A literal goes on over this many bytes before a place: at none of them three equal bytes begin.
+pub record LiteralGoesOn (row : List ℕ) (filled : Filled) (count : ℕ) : Type 0 where
   pub room : 16 ≤ filled.at
+  pub within : count ≤ 16
   pub behind : filled.at + 2 ≤ length row
   pub some : 2 ≤ filled.literal
-  pub few : filled.literal + 16 ≤ 128
-  pub apart : (i : ℕ) → i < 16 → IsApart (drop (filled.at - 16) row) i
+  pub few : filled.literal + count ≤ 128
+  pub apart : (i : ℕ) → filled.at ≤ i + count → i < filled.at → IsApart row i
 
--- The sixteen bytes before a place are the byte there, and the run there goes on over them.
-pub record RunGoesOn (row : List ℕ) (filled : Filled) : Type 0 where
+-- A run goes on over this many bytes before a place: they are the byte there.
+pub record RunGoesOn (row : List ℕ) (filled : Filled) (count : ℕ) : Type 0 where
   pub room : 16 ≤ filled.at
+  pub within : count ≤ 16
   pub behind : filled.at < length row
   pub none : filled.literal ≡ 0
-  pub few : filled.equal + 16 ≤ 128
-  pub same : (i : ℕ) → i < 16 → slice_index (drop (filled.at - 16) row) i ≡ slice_index (drop (filled.at - 16) row) 16
+  pub few : filled.equal + count ≤ 128
+  pub same : (i : ℕ) → filled.at ≤ i + count → i < filled.at → slice_index row i ≡ slice_index row filled.at
 
 -- costs that rise by one from place to place leftwards, behind which is this one
 unfoldable pub rising : ℕ → ℕ → List ℕ

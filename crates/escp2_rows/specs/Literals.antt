@@ -11,6 +11,16 @@ pub record IsLongest (row : List ℕ) (n : ℕ) : Type 0 where
   pub is : slice_index (costs row) 0 ≡ 1 + n + slice_index (costs (drop n row)) 0
   pub longest : (k : ℕ) → n < k → k ≤ 128 → k ≤ length row → slice_index (costs row) 0 < 1 + k + slice_index (costs (drop k row)) 0
 
+-- All literals at the front of a row with more bytes than this cost more, and one with no more costs least.
+pub record LongestSoFar (row : List ℕ) (count : ℕ) : Type 0 where
+  pub some : ℕ
+  pub one : 1 ≤ some
+  pub below : some ≤ count
+  pub few : count ≤ 128
+  pub within : count ≤ length row
+  pub reached : slice_index (costs row) 0 ≡ 1 + some + slice_index (costs (drop some row)) 0
+  pub longer : (k : ℕ) → count < k → k ≤ 128 → k ≤ length row → slice_index (costs row) 0 < 1 + k + slice_index (costs (drop k row)) 0
+
 -- All bytes of the row are the first one.
 abbrev pub IsEven : List ℕ → Type 0
 IsEven row = length (take_while (λ byte. byte == slice_index row 0) row) ≡ length row

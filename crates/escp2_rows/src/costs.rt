@@ -2,7 +2,8 @@
 ghost use Rattle.arrayvec.specs.ArrayVec.{array_vec_len};
 ghost use Rattle.escp2_rows.specs.Ends.{IsApart, IsEnd, IsFilled, LiteralGoesOn, RunGoesOn, rising};
 ghost use Rattle.escp2_definitions.specs.Least.{costs, equal_at};
-ghost use Rattle.std.specs.Prelude.{[], drop, length, replicate, slice_index, true, ℕ, ◌%◌, ◌+◌, ◌<◌, ◌≡◌, ◌≤◌};
+ghost use Rattle.std.specs.Prelude.{[], drop, false, length, replicate, slice_index, true, ℕ, ◌%◌, ◌&&◌, ◌+◌, ◌<◌, ◌==◌};
+ghost use Rattle.std.specs.Prelude.{◌≡◌, ◌≤◌};
 
 use arrayvec::ArrayVec;
 
@@ -105,58 +106,106 @@ struct Filled {
     best: u16,
 }
 
-// Whether three of the first eighteen bytes that follow each other are equal. The loop never ends early, so that it
-// runs over all at once.
+// How far apart the greatest and the least of three bytes are that follow each other.
+#[inline]
+fn spread(a: u8, b: u8, c: u8) -> u8
+    ensures apart { 0 < result → ((a == b) && (b == c)) ≡ false }
+    ensures equal { result ≡ 0 → a ≡ b }
+{
+    a.max(b).max(c) - a.min(b).min(c)
+}
+
+// Nought for nought, and at least sixteen for any other number.
+#[inline]
+fn sixteenfold(number: u8) -> u8
+    ensures none { number ≡ 0 → result ≡ 0 }
+    ensures many { 0 < number → 16 ≤ result }
+{
+    let twice = number.saturating_add(number);
+    let four = twice.saturating_add(twice);
+    let eight = four.saturating_add(four);
+    eight.saturating_add(eight)
+}
+
+// Whether no three of the first eighteen bytes that follow each other are equal. The loop never ends early, so that
+// it runs over all at once.
 #[inline]
 fn sixteen_apart(row: &[u8]) -> bool
     requires { 18 ≤ length row.now }
     ensures { result ≡ true → (i : ℕ) → i < 16 → IsApart row.now i }
 {
-    let mut equal = false;
+    let mut least = 255u8;
     for i in 0..16 {
-        equal |= (row[i] == row[i + 1]) & (row[i + 1] == row[i + 2]);
+        least = least.min(spread(row[i], row[i + 1], row[i + 2]));
     }
-    !equal
+    least > 0
 }
 
-// Whether each of the first sixteen bytes is the one after them.
+// At how many of the first sixteen places, from the last of them back, no three equal bytes begin.
 #[inline]
-fn sixteen_equal(row: &[u8]) -> bool
+fn apart_places(row: &[u8]) -> usize
+    requires { 18 ≤ length row.now }
+    ensures few { result ≤ 16 }
+    ensures apart { (i : ℕ) → i < 16 → 16 ≤ i + result → IsApart row.now i }
+{
+    let mut count = 16u8;
+    for i in 0..16 {
+        let apart = sixteenfold(spread(row[i], row[i + 1], row[i + 2]));
+        count = count.min(apart.max(15 - i as u8));
+    }
+    usize::from(count)
+}
+
+// How many of the first sixteen bytes, from the last of them back, are the one after them.
+#[inline]
+fn equal_places(row: &[u8]) -> usize
     requires { 17 ≤ length row.now }
-    ensures { result ≡ true → (i : ℕ) → i < 16 → slice_index row.now i ≡ slice_index row.now 16 }
+    ensures few { result ≤ 16 }
+    ensures equal { (i : ℕ) → i < 16 → 16 ≤ i + result → slice_index row.now i ≡ slice_index row.now 16 }
 {
     let byte = row[16];
-    let mut other = false;
+    let mut count = 16u8;
     for i in 0..16 {
-        other |= row[i] != byte;
+        let other = sixteenfold(spread(row[i], byte, byte));
+        count = count.min(16u8.saturating_sub(other).max(15 - i as u8));
     }
-    !other
+    usize::from(count)
 }
 
-// Whether a literal goes on over the sixteen bytes before a place: no three of them are equal.
+// How many of the sixteen bytes before a place a literal goes on over, from the last of them back.
 #[inline]
-fn literal_goes_on(row: &[u8], filled: Filled) -> bool
+fn literal_places(row: &[u8], filled: Filled) -> usize
     requires { filled.at ≤ length row.now }
-    ensures { result ≡ true → LiteralGoesOn row.now filled }
+    ensures few { result ≤ 16 }
+    ensures on { 0 < result → LiteralGoesOn row.now filled result }
 {
-    filled.at >= 16
-        && filled.at + 2 <= row.len()
-        && filled.literal >= 2
-        && filled.literal <= MOST_BYTES - 16
-        && sixteen_apart(&row[filled.at - 16..])
+    if filled.literal < 2 || filled.literal > MOST_BYTES - 16 {
+        return 0;
+    }
+    if filled.at < 16 || filled.at + 2 > row.len() {
+        return 0;
+    }
+    let part = &row[filled.at - 16..];
+    if sixteen_apart(part) {
+        return 16;
+    }
+    apart_places(part)
 }
 
-// Whether a run goes on over the sixteen bytes before a place.
+// How many of the sixteen bytes before a place a run goes on over, from the last of them back.
 #[inline]
-fn run_goes_on(row: &[u8], filled: Filled) -> bool
+fn run_places(row: &[u8], filled: Filled) -> usize
     requires { filled.at ≤ length row.now }
-    ensures { result ≡ true → RunGoesOn row.now filled }
+    ensures few { result ≤ 16 }
+    ensures on { 0 < result → RunGoesOn row.now filled result }
 {
-    filled.at >= 16
-        && filled.at < row.len()
-        && filled.literal == 0
-        && filled.equal <= MOST_BYTES - 16
-        && sixteen_equal(&row[filled.at - 16..])
+    if filled.literal > 0 || filled.equal > MOST_BYTES - 16 {
+        return 0;
+    }
+    if filled.at < 16 || filled.at >= row.len() {
+        return 0;
+    }
+    equal_places(&row[filled.at - 16..])
 }
 
 // Writes sixteen costs, each one more than the next, which is `base` behind the last.
@@ -182,44 +231,82 @@ fn fill_level(costs: &mut [u16], cost: u16)
     }
 }
 
-// Fills sixteen places before a place, which a literal takes.
+// Fills the places before a place that a literal takes. It writes over sixteen, and these are the last of them.
 #[inline]
-fn fill_literal(row: &[u8], table: &mut [u16], filled: Filled) -> Filled
+fn fill_literal(row: &[u8], table: &mut [u16], filled: Filled, count: usize) -> Filled
     requires most { length row.now ≤ 1024 }
     requires filled { IsFilled row.now table.old filled }
-    requires on { LiteralGoesOn row.now filled }
+    requires some { 0 < count }
+    requires on { LiteralGoesOn row.now filled count }
     ensures filled { IsFilled row.now table.new result }
-    ensures before { result.at < filled.at }
+    ensures before { result.at + count ≡ filled.at }
 {
-    let at = filled.at - 16;
     fill_rising(
-        &mut table[at..filled.at],
+        &mut table[filled.at - 16..filled.at],
         filled.best + filled.literal as u16 + 1,
     );
+    let at = filled.at - count;
     Filled {
         at,
         equal: equal_two(&row[at..]),
-        literal: filled.literal + 16,
+        literal: filled.literal + count,
         best: filled.best,
     }
 }
 
-// Fills sixteen places before a place, which a run takes: their costs are that of the place.
+// Fills the places before a place that a run takes: their costs are that of the place. It writes over sixteen, and
+// these are the last of them.
 #[inline]
-fn fill_run(row: &[u8], table: &mut [u16], filled: Filled) -> Filled
+fn fill_run(row: &[u8], table: &mut [u16], filled: Filled, count: usize) -> Filled
     requires filled { IsFilled row.now table.old filled }
-    requires on { RunGoesOn row.now filled }
+    requires on { RunGoesOn row.now filled count }
     ensures filled { IsFilled row.now table.new result }
-    ensures before { result.at < filled.at }
+    ensures before { result.at + count ≡ filled.at }
 {
-    let at = filled.at - 16;
-    fill_level(&mut table[at..filled.at], filled.best);
+    fill_level(&mut table[filled.at - 16..filled.at], filled.best);
     Filled {
-        at,
-        equal: filled.equal + 16,
+        at: filled.at - count,
+        equal: filled.equal + count,
         literal: 0,
         best: filled.best,
     }
+}
+
+// Fills the places before a place for as long as a literal goes on.
+#[inline]
+fn fill_literals(row: &[u8], table: &mut [u16], start: Filled) -> Filled
+    requires most { length row.now ≤ 1024 }
+    requires filled { IsFilled row.now table.old start }
+    ensures filled { IsFilled row.now table.new result }
+    ensures before { result.at ≤ start.at }
+{
+    let mut filled = start;
+    let mut count = 16;
+    'sixteens: while count == 16 {
+        count = literal_places(row, filled);
+        if count > 0 {
+            filled = fill_literal(row, table, filled, count);
+        }
+    }
+    filled
+}
+
+// Fills the places before a place for as long as a run goes on.
+#[inline]
+fn fill_runs(row: &[u8], table: &mut [u16], start: Filled) -> Filled
+    requires filled { IsFilled row.now table.old start }
+    ensures filled { IsFilled row.now table.new result }
+    ensures before { result.at ≤ start.at }
+{
+    let mut filled = start;
+    let mut count = 16;
+    'sixteens: while count == 16 {
+        count = run_places(row, filled);
+        if count > 0 {
+            filled = fill_run(row, table, filled, count);
+        }
+    }
+    filled
 }
 
 // Fills the place before a place.
@@ -244,7 +331,7 @@ fn fill_byte(row: &[u8], table: &mut [u16], filled: Filled) -> Filled
     }
 }
 
-// Fills the place before a place, or sixteen of them at once.
+// Fills the place before a place, and those before it for as long as its packet goes on.
 #[inline]
 fn fill_before(row: &[u8], table: &mut [u16], filled: Filled) -> Filled
     requires most { length row.now ≤ 1024 }
@@ -253,13 +340,11 @@ fn fill_before(row: &[u8], table: &mut [u16], filled: Filled) -> Filled
     ensures filled { IsFilled row.now table.new result }
     ensures before { result.at < filled.at }
 {
-    if literal_goes_on(row, filled) {
-        return fill_literal(row, table, filled);
+    let next = fill_byte(row, table, filled);
+    if next.literal == 0 {
+        return fill_runs(row, table, next);
     }
-    if run_goes_on(row, filled) {
-        return fill_run(row, table, filled);
-    }
-    fill_byte(row, table, filled)
+    fill_literals(row, table, next)
 }
 
 /// Writes the costs of a row over what the table has.

@@ -1,8 +1,8 @@
 //! Writing the least code of a row.
 ghost use Rattle.escp2_definitions.specs.Least.{costs, equal_at, least_packet, least_row};
 ghost use Rattle.escp2_definitions.specs.RowCode.{packet_code, packet_row};
-ghost use Rattle.escp2_rows.specs.Literals.{IsEven, IsLongest};
-ghost use Rattle.std.specs.Prelude.{drop, length, slice_index, take, take_while, true};
+ghost use Rattle.escp2_rows.specs.Literals.{IsEven, IsLongest, LongestSoFar};
+ghost use Rattle.std.specs.Prelude.{drop, length, slice_index, take, take_while, true, ℕ};
 ghost use Rattle.std.specs.Prelude.{◌==◌, ◌*◌, ◌+◌, ◌-◌, ◌<◌, ◌≡◌, ◌≢◌, ◌≤◌};
 
 use crate::costs::{MOST_BYTES, fill_costs};
@@ -14,14 +14,51 @@ struct Written {
     code: usize,
 }
 
-// How many bytes at the beginning are this byte.
-fn copies(row: &[u8], byte: u8) -> usize
+// Whether the first sixteen bytes are this byte.
+#[inline]
+fn sixteen_copies(row: &[u8], byte: u8) -> bool
+    requires { 16 ≤ length row.now }
+    ensures { result ≡ true → (i : ℕ) → i < 16 → slice_index row.now i ≡ byte }
+{
+    let mut other = false;
+    for i in 0..16 {
+        other |= row[i] != byte;
+    }
+    !other
+}
+
+// How many bytes at the beginning are surely this byte, by sixteens.
+#[inline]
+fn sixteens_of(row: &[u8], byte: u8) -> usize
+    ensures within { result ≤ length row.now }
+    ensures copies { (i : ℕ) → i < result → slice_index row.now i ≡ byte }
+{
+    let mut count = 0;
+    'sixteens: while row.len() - count >= 16 && sixteen_copies(&row[count..], byte) {
+        count += 16;
+    }
+    count
+}
+
+// How many bytes at the beginning are this byte, one by one.
+#[inline]
+fn few_copies(row: &[u8], byte: u8) -> usize
     ensures { result ≡ length (take_while (λ other. other == byte) row.now) }
 {
     row.iter().take_while(|other| **other == byte).count()
 }
 
+// How many bytes at the beginning are this byte.
+#[inline]
+fn copies(row: &[u8], byte: u8) -> usize
+    ensures { result ≡ length (take_while (λ other. other == byte) row.now) }
+{
+    let count = sixteens_of(row, byte);
+    count + few_copies(&row[count..], byte)
+}
+
 // How many bytes at the beginning are equal, up to `MOST_BYTES`.
+#[inline]
 fn equal_bytes(row: &[u8]) -> usize
     requires { 0 < length row.now }
     ensures is { result ≡ equal_at row.now }
@@ -31,7 +68,43 @@ fn equal_bytes(row: &[u8]) -> usize
     copies(&row[..row.len().min(MOST_BYTES)], row[0])
 }
 
+// Whether none of sixteen costs is this much, counted from one less at each next place.
+#[inline]
+fn sixteen_miss(costs: &[u16], least: u16) -> bool
+    requires sized { 16 ≤ length costs.now }
+    requires small { (i : ℕ) → i < 16 → slice_index costs.now i ≤ 4000 }
+    ensures { result ≡ true → (i : ℕ) → i < 16 → slice_index costs.now i + i ≢ least }
+{
+    let mut hit = false;
+    for i in 0..16 {
+        hit |= costs[i] + i as u16 == least;
+    }
+    !hit
+}
+
+// How many bytes a literal at the beginning of a row may have that costs least: none with more does. By sixteens.
+#[inline]
+fn literal_most(row: &[u8], table: &[u16]) -> usize
+    requires some { 0 < length row.now }
+    requires most { length row.now ≤ 1024 }
+    requires table { table.now ≡ costs row.now }
+    requires no_run { 2 ≤ equal_at row.now
+        → slice_index (costs row.now) 0 ≢ 2 + slice_index (costs (drop (equal_at row.now) row.now)) 0 }
+    ensures { LongestSoFar row.now result }
+{
+    let least = table[0] + 14;
+    let mut count = row.len().min(MOST_BYTES);
+    'sixteens: while count > 15
+        && usize::from(least) >= count
+        && sixteen_miss(&table[count - 15..], least - count as u16)
+    {
+        count -= 16;
+    }
+    count
+}
+
 // How many bytes the longest literal at the beginning of a row has that costs least, where no run does.
+#[inline]
 fn literal_bytes(row: &[u8], table: &[u16]) -> usize
     requires some { 0 < length row.now }
     requires most { length row.now ≤ 1024 }
@@ -41,7 +114,7 @@ fn literal_bytes(row: &[u8], table: &[u16]) -> usize
     ensures { IsLongest row.now result }
 {
     let least = usize::from(table[0]);
-    let mut count = row.len().min(MOST_BYTES);
+    let mut count = literal_most(row, table);
     'counts: while count + 1 + usize::from(table[count]) > least {
         count -= count + 1 + usize::from(table[count]) - least;
     }

@@ -35,7 +35,7 @@ pub returns-clause-filled : goal.returns-clause-filled
 returns-clause-filled c =
     let rest = take_rest c.args.row.now (c.args.filled.at - 1) in
     let P : List ℕ → Type 0 = λ rest. IsEnd 128 rest c.front_of-front.result.literal in
-    costs_step _ _ _ _ _ _ _ c.requires.filled c.requires.some
+    costs_step c.requires.filled c.requires.some
     (c.equal_from-equal.ensures ∙ ap equal_at rest)
     (c.front_of-front.ensures.cost ∙ ap (λ rest. get_or (costs rest) 0 0) rest)
     (subst P rest c.front_of-front.ensures.ends)

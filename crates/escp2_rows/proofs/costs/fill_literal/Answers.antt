@@ -16,11 +16,12 @@ fill_rising-requires-clause-fits c = omega (arith, best_small c.args.row.now c.a
 pub equal_two-requires-clause-few : goal.equal_two-requires-clause-few
 equal_two-requires-clause-few c =
     let P : List ℕ → Type 0 = λ bs. equal_at bs ≤ 2 in
-    subst P (sym (take_rest c.args.row.now (c.args.filled.at - 16))) (literal_few c.args.row.now c.args.filled c.requires.on)
+    subst P (sym (take_rest c.args.row.now (c.args.filled.at - c.args.count)))
+    (literal_few c.args.row.now c.args.filled c.args.count c.requires.some c.requires.on)
 
 pub returns-clause-filled : goal.returns-clause-filled
 returns-clause-filled c =
-    filled_literal _ _ _ _ _ _ c.requires.filled c.requires.on (omega (arith, c.requires.on.room)) c.fill_rising.ensures
+    filled_literal _ _ _ c.args.filled c.args.count _ _ c.requires.filled c.requires.on (omega (arith, c.requires.on.room)) c.fill_rising.ensures
     (c.fill_rising.auto.costs
     ∙ omega (
       arith,
@@ -30,4 +31,4 @@ returns-clause-filled c =
       length-drop (c.args.filled.at - 16) c.args.table.now,
       length-take (c.args.filled.at - (c.args.filled.at - 16)) (drop (c.args.filled.at - 16) c.args.table.now),
     ))
-    (c.equal_two.ensures ∙ ap equal_at (take_rest c.args.row.now (c.args.filled.at - 16)))
+    (c.equal_two.ensures ∙ ap equal_at (take_rest c.args.row.now (c.args.filled.at - c.args.count)))

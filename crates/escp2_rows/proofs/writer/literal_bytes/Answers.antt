@@ -1,12 +1,12 @@
 use Rattle.std.proofs.Common.{arith}
-use Rattle.escp2_rows.proofs.Writing.{literal_shrinks, literal_stays, longest_begin, table_sized}
+use Rattle.escp2_rows.proofs.Writing.{literal_shrinks, literal_stays, table_sized}
 use Rattle.escp2_rows.proofs.writer.literal_bytes.Goals as goal
 
 pub bounds-table-0 : goal.bounds-table-0
 bounds-table-0 c = omega (arith, table_sized c.args.row.now c.args.table.now c.requires.table)
 
 pub counts-init : goal.counts-init
-counts-init c = longest_begin _ _ c.requires.some c.requires.no_run c.min-count.ensures
+counts-init c = c.literal_most-count.ensures
 
 pub bounds-table-count : goal.bounds-table-count
 bounds-table-count c = omega (arith, table_sized c.args.row.now c.args.table.now c.requires.table, c.counts.invariant.within)

@@ -1,4 +1,4 @@
-use Rattle.escp2_rows.proofs.Writing.{LongestSoFar}
+use Rattle.escp2_rows.specs.Literals.{LongestSoFar}
 use Rattle.escp2_rows.proofs.writer.literal_bytes.Given as goal
 
 abbrev pub invariant-counts : goal.invariant-counts

@@ -36,7 +36,7 @@ packets-preserved c =
     omega (arith, c.write_packet-written.ensures.within, ap length rest) in
     record {
       within = omega (arith, within, left, c.packets.invariant.within);
-      so_far = row_step _ _ _ _ _ _ _ _ _ c.packets.invariant.so_far (omega (arith, left, c.packets-test.true))
+      so_far = row_step c.packets.invariant.so_far (omega (arith, left, c.packets-test.true))
           (record {
             coded = c.write_packet-written.ensures.code ∙ ap (λ bs. packet_code (least_packet bs)) rest;
             counted = c.write_packet-written.ensures.row ∙ ap (λ bs. length (packet_row (least_packet bs))) rest;
