@@ -21,10 +21,10 @@ pub record IsMoved (left right shift new : ℕ) : Type 0 where
   pub at_right : (k : ℕ) → k < 8 → 8 ≤ k + shift → bit_at new k ≡ bit_at right (k + shift - 8)
 
 -- it takes the tile's dots from one place to before another
-pub taken_dot : (dots : List ℕ) (n shift left right from to new k offset : ℕ)
+pub taken_dot : {dots : List ℕ} {n shift left right from to new : ℕ} (k offset : ℕ)
     → IsByte dots n shift left right from to → IsMoved left right shift new
     → k < 8 → offset < 64 → 8 * n + shift + k ≡ offset + 8 → bit_at new k ≡ row_dot dots offset
-taken_dot dots n shift left right from to new k offset b m low inside here = elim (cases_lt (k + shift) 8) [
+taken_dot {dots} {n} {shift} k offset b m low inside here = elim (cases_lt (k + shift) 8) [
   | inl before ↦
       let byte : n - 1 ≡ offset / 8 = omega (arith, b.low) in
       let bit : k + shift ≡ offset % 8 = omega (arith, b.low) in
@@ -37,24 +37,24 @@ taken_dot dots n shift left right from to new k offset b m low inside here = eli
       ∙ ap (λ i. get_or dots i 0) byte) ∙ ap (bit_at (get_or dots (offset / 8) 0)) bit
 ]
 
-pub taken_from : (dots : List ℕ) (n shift left right from to k offset : ℕ) → IsByte dots n shift left right from to
+pub taken_from : {dots : List ℕ} {n shift left right from to : ℕ} (k offset : ℕ) → IsByte dots n shift left right from to
     → 8 * n + shift + k ≡ offset + 8 → from ≤ k
-taken_from dots n shift left right from to k offset b here = elim (cases_lt 0 n) [
+taken_from {n} k offset b here = elim (cases_lt 0 n) [
   | inl later ↦ omega (arith, b.from_is later)
   | inr first ↦ omega (arith, b.first_from (omega arith))
 ]
 
-pub taken_to : (dots : List ℕ) (n shift left right from to k offset : ℕ) → IsByte dots n shift left right from to
+pub taken_to : {dots : List ℕ} {n shift left right from to : ℕ} (k offset : ℕ) → IsByte dots n shift left right from to
     → k < 8 → offset < 64 → 8 * n + shift + k ≡ offset + 8 → k < to
-taken_to dots n shift left right from to k offset b low inside here = elim (cases_lt n 8) [
+taken_to {n} k offset b low inside here = elim (cases_lt n 8) [
   | inl earlier ↦ omega (arith, b.to_is earlier)
   | inr last ↦ omega (arith, b.last_to (omega (arith, b.few)))
 ]
 
 -- all others are unchanged
-pub not_taken : (dots : List ℕ) (n shift left right from to most k : ℕ) → IsByte dots n shift left right from to
+pub not_taken : {dots : List ℕ} {n shift left right from to : ℕ} (most k : ℕ) → IsByte dots n shift left right from to
     → k < 8 → ((offset : ℕ) → k < most → offset < 64 → ¬ (8 * n + shift + k ≡ offset + 8)) → (k < from) ⊎ (min to most ≤ k)
-not_taken dots n shift left right from to most k b low none = elim (cases_lt k most) [
+not_taken {n} {shift} {from} {to} most k b low none = elim (cases_lt k most) [
   | inr past ↦ inr (omega arith)
   | inl before ↦ elim (cases_lt (8 * n + shift + k) 8) [
     | inl first ↦ let from_here : from ≡ 8 - shift = b.first_from (omega arith) in inl (omega arith)

@@ -5,6 +5,7 @@ use Rattle.std.proofs.lemmas.List.{get_or-drop, get_or-take}
 use Rattle.pwg_definitions.specs.declared.pages.Kind.{Kind}
 use Rattle.pwg_definitions.specs.declared.pages.Kind.TheVariants.{Gray8, Black8, Rgb8, Black1, Cmyk8}
 use Rattle.pwg_definitions.specs.Header.{line_bytes, row_of}
+use Rattle.base_definitions.specs.Packed.{bit_at, worth}
 use Rattle.separation_definitions.specs.Amounts.{pixel_at}
 
 -- a line from a byte on, as it is cut off
@@ -53,6 +54,17 @@ four_bytes line first many k fits low =
     (cut_off-byte line at (4 * k + 2) (omega arith) ∙ ap (λ n. get_or line n 0) yellow)
     ∙ ap (λ b. get_or line (4 * (first + k)) 0 ∷ get_or line (4 * (first + k) + 1) 0 ∷ get_or line (4 * (first + k) + 2) 0 ∷ b ∷ [])
     (cut_off-byte line at (4 * k + 3) (omega arith) ∙ ap (λ n. get_or line n 0) black)
+
+-- a pixel of one bit
+pub one_bit : (line : List ℕ) (first many k : ℕ) → (first + many + 7) / 8 ≤ length line → k < many
+    → 255 * worth (bit_at (get_or (cut_off line (first / 8)) ((first % 8 + k) / 8) 0) ((first % 8 + k) % 8)) 1
+    ≡ 255 * worth (bit_at (get_or line ((first + k) / 8) 0) ((first + k) % 8)) 1
+one_bit line first many k fits low =
+    let byte : first / 8 + (first % 8 + k) / 8 ≡ (first + k) / 8 = omega arith in
+    let bit : (first % 8 + k) % 8 ≡ (first + k) % 8 = omega arith in
+    ap (λ n. 255 * worth (bit_at n ((first % 8 + k) % 8)) 1)
+    (cut_off-byte line (first / 8) ((first % 8 + k) / 8) (omega (arith, fits, low, byte)) ∙ ap (λ n. get_or line n 0) byte)
+    ∙ ap (λ n. 255 * worth (bit_at (get_or line ((first + k) / 8) 0) n) 1) bit
 
 -- fewer pixels have no more bytes
 pub fewer_bytes : (kind : Kind) (few many : ℕ) → few ≤ many

@@ -7,5 +7,6 @@ pub mod Filled
 pub mod Formulas
 pub mod FourInks
 pub mod Inks
+pub mod OneBit
 pub mod Riffles
 pub mod Straight

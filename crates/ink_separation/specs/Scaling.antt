@@ -1,5 +1,5 @@
 -- From what pixels give to an ink to its amounts.
-use Rattle.std.specs.Prelude.{◌≡◌, ℕ, ◌*◌, ◌/◌, ◌<◌, List, slice_index}
+use Rattle.std.specs.Prelude.{ℕ, ◌*◌, ◌/◌, slice_index}
 use Rattle.printer_definitions.specs.declared.inks.Ink.{Ink}
 use Rattle.printer_definitions.specs.declared.inks.Ink.TheVariants.{Black, Cyan, Magenta, Yellow}
 use Rattle.ink_separation.specs.declared.scales.Scale.{Scale}

@@ -7,7 +7,7 @@ ghost use Rattle.std.specs.Prelude.{length, min, slice_index, ℕ, ◌*◌, ◌+
 use crate::black::BlackScale;
 use crate::colours::{colours_of, complement};
 use crate::pixels::{PIXELS, Values, darkness_of, least_of, less};
-use crate::quarters::{darkness_left, ink_of, inks_of, more};
+use crate::quarters::{byte_of, darkness_left, fours_of, more};
 use printer_definitions::Ink;
 use printer_profile::InkSet;
 
@@ -53,6 +53,20 @@ pub(crate) fn grey_given(inks: InkSet, dark: Values) -> Given
             cyan: [0; PIXELS],
             magenta: [0; PIXELS],
             yellow: [0; PIXELS],
+        },
+    }
+}
+
+/// What a pixel of full darkness gives to an ink.
+#[inline(always)]
+pub(crate) fn full_given(inks: InkSet, ink: Ink) -> u8
+    ensures { result ≡ grey_ink inks ink 255 }
+{
+    match inks {
+        InkSet::K | InkSet::Cmy => 255,
+        InkSet::Cmyk => match ink {
+            Ink::Black => 255,
+            Ink::Cyan | Ink::Magenta | Ink::Yellow => 0,
         },
     }
 }
@@ -126,12 +140,12 @@ fn own_given(pixels: &[u8], many: usize) -> Given
     ensures { (ink : Ink) (x : ℕ) → x < many
         → slice_index (given_to result ink) x ≡ own_ink (four_at pixels.now x) ink }
 {
-    let (first, others) = inks_of(pixels, many);
+    let fours = fours_of(pixels, many);
     Given {
-        black: ink_of(&first, &others, 3),
-        cyan: ink_of(&first, &others, 0),
-        magenta: ink_of(&first, &others, 1),
-        yellow: ink_of(&first, &others, 2),
+        black: byte_of(&fours, 3),
+        cyan: byte_of(&fours, 0),
+        magenta: byte_of(&fours, 1),
+        yellow: byte_of(&fours, 2),
     }
 }
 

@@ -4,7 +4,7 @@ ghost use Rattle.printer_definitions.specs.Inks.{ink_place};
 ghost use Rattle.printer_definitions.specs.Printer.{straight_curve, tone_on};
 ghost use Rattle.printer_definitions.specs.declared.inks.Ink.{Ink};
 ghost use Rattle.printer_profile.specs.Validity.{check};
-ghost use Rattle.std.specs.Prelude.{IsOk, [], slice_index, slice_index_or, true, ℕ, ◌*◌, ◌/◌, ◌<◌, ◌≡◌};
+ghost use Rattle.std.specs.Prelude.{IsOk, [], slice_index, slice_index_or, true, ℕ, ◌*◌, ◌+◌, ◌/◌, ◌<◌, ◌≡◌, ◌≤◌};
 
 use crate::pixels::{PIXELS, Values};
 use printer_definitions::Ink;
@@ -74,6 +74,17 @@ impl Scale {
             Scale::Table(amounts) => looked_up(given, amounts),
         }
     }
+
+    // The amount of a number that is given.
+    #[inline(always)]
+    fn amount(&self, a: u8) -> u8
+        ensures { result ≡ scaled self.now a }
+    {
+        match self {
+            Scale::Straight(limit) => part(a, *limit),
+            Scale::Table(amounts) => amounts[usize::from(a)],
+        }
+    }
 }
 
 /// The scales of a printer's inks. Contracts see its limits and curves, of black, cyan, magenta and yellow.
@@ -106,6 +117,19 @@ impl Scales {
         }
     }
 
+    // That of an ink.
+    #[inline(always)]
+    fn of(&self, ink: Ink) -> &Scale
+        ensures { result.now ≡ by_ink self.now.black self.now.cyan self.now.magenta self.now.yellow ink }
+    {
+        match ink {
+            Ink::Black => &self.black,
+            Ink::Cyan => &self.cyan,
+            Ink::Magenta => &self.magenta,
+            Ink::Yellow => &self.yellow,
+        }
+    }
+
     /// The amounts of what pixels give to an ink.
     #[inline(always)]
     pub(crate) fn amounts(&self, ink: Ink, given: &Values) -> Values
@@ -113,12 +137,16 @@ impl Scales {
             ≡ tone_on (slice_index_or self.now.curves (ink_place ink) []) (slice_index given.now x)
             * slice_index self.now.limits (ink_place ink) / 255 }
     {
-        match ink {
-            Ink::Black => self.black.amounts(given),
-            Ink::Cyan => self.cyan.amounts(given),
-            Ink::Magenta => self.magenta.amounts(given),
-            Ink::Yellow => self.yellow.amounts(given),
-        }
+        self.of(ink).amounts(given)
+    }
+
+    /// The amount of a number that is given to an ink.
+    #[inline(always)]
+    pub(crate) fn amount(&self, ink: Ink, a: u8) -> u8
+        ensures { result ≡ tone_on (slice_index_or self.now.curves (ink_place ink) []) a
+            * slice_index self.now.limits (ink_place ink) / 255 }
+    {
+        self.of(ink).amount(a)
     }
 }
 
@@ -140,8 +168,32 @@ fn looked_up(given: &Values, table: &[u8; 256]) -> Values
     ensures { (x : ℕ) → x < 64 → slice_index result x ≡ slice_index table.now (slice_index given.now x) }
 {
     let mut amounts = [0; PIXELS];
-    for x in 0..PIXELS {
+    look_up(given, table, &mut amounts);
+    amounts
+}
+
+// The same. It is not inlined, so that each amount is written where it belongs: a loop over known places becomes 64
+// lookups without a counter.
+#[inline(never)]
+fn look_up(given: &Values, table: &[u8; 256], amounts: &mut Values)
+    ensures { (x : ℕ) → x < 64 → slice_index amounts.new x ≡ slice_index table.now (slice_index given.now x) }
+{
+    look_up_sixteen(given, table, 0, amounts);
+    look_up_sixteen(given, table, 16, amounts);
+    look_up_sixteen(given, table, 32, amounts);
+    look_up_sixteen(given, table, 48, amounts);
+}
+
+// The amounts of 16 pixels after those of the first.
+#[inline(always)]
+fn look_up_sixteen(given: &Values, table: &[u8; 256], first: usize, amounts: &mut Values)
+    requires first { first ≤ 48 }
+    requires before { (x : ℕ) → x < first
+        → slice_index amounts.old x ≡ slice_index table.now (slice_index given.now x) }
+    ensures { (x : ℕ) → x < first + 16
+        → slice_index amounts.new x ≡ slice_index table.now (slice_index given.now x) }
+{
+    for x in first..first + 16 {
         amounts[x] = table[usize::from(given[x])];
     }
-    amounts
 }

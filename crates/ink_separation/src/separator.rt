@@ -1,5 +1,6 @@
 //! The separation of a page's lines.
 ghost use Rattle.base_definitions.specs.Limits.{most_columns};
+ghost use Rattle.base_definitions.specs.Packed.{bit_at, worth};
 ghost use Rattle.dot_planes.specs.Tables.{HasSizeAs, amount};
 ghost use Rattle.ink_separation.specs.Given.{IsGiven, given_to};
 ghost use Rattle.ink_separation.specs.Separated.{Separates};
@@ -10,14 +11,14 @@ ghost use Rattle.printer_definitions.specs.declared.inks.Ink.{Ink};
 ghost use Rattle.printer_profile.specs.Validity.{check};
 ghost use Rattle.pwg_definitions.specs.Header.{line_bytes, row_of};
 ghost use Rattle.pwg_definitions.specs.declared.pages.Kind.{Kind};
-ghost use Rattle.separation_definitions.specs.Amounts.{amount as amount_of, pixel_at};
+ghost use Rattle.separation_definitions.specs.Amounts.{amount as amount_of, grey_ink, pixel_at};
 ghost use Rattle.separation_definitions.specs.declared.window.Window.{Window};
-ghost use Rattle.std.specs.Prelude.{IsOk, Some, length, slice_get, slice_index, ℕ, ◌*◌, ◌+◌, ◌/◌};
+ghost use Rattle.std.specs.Prelude.{IsOk, Some, length, slice_get, slice_index, ℕ, ◌%◌, ◌*◌, ◌+◌, ◌/◌};
 ghost use Rattle.std.specs.Prelude.{◌<◌, ◌≡◌, ◌≢◌, ◌≤◌, ◌⊎◌};
 
-use crate::bits::bits_of;
+use crate::bits::{Eights, chosen};
 use crate::black::BlackScale;
-use crate::given::{Given, colour_given, four_given, grey_given};
+use crate::given::{Given, colour_given, four_given, full_given, grey_given};
 use crate::pixels::{PIXELS, Values, inverted, same};
 use crate::scales::Scales;
 use dot_planes::InkRows;
@@ -35,6 +36,7 @@ pub struct Separator {
     kind: Kind,
     window: Window,
     inks: InkSet,
+    eights: Eights,
     black: BlackScale,
     scales: Scales,
 }
@@ -49,6 +51,7 @@ impl Separator {
             kind,
             window,
             inks: p.inks,
+            eights: Eights::make(),
             black: BlackScale::make(p),
             scales: Scales::make(p),
         }
@@ -125,8 +128,54 @@ impl Separator {
         ensures beside { (i c : ℕ) → (c < x) ⊎ (x + many ≤ c) → amount out.new i at c ≡ amount out.old i at c }
         ensures others { (i y c : ℕ) → y ≢ at → y < out.old.rows → amount out.new i y c ≡ amount out.old i y c }
     {
-        let given = self.given(line, first, many);
-        self.put(&given, many, x, at, out);
+        match self.kind {
+            Kind::Black1 => self.put_bits(&self.bits(line, first, many), many, x, at, out),
+            _ => self.put(&self.given(line, first, many), many, x, at, out),
+        }
+    }
+
+    // The pixels of one bit from pixel `first` of the line on: 255 for 1, 0 for 0.
+    #[inline(always)]
+    fn bits(&self, line: &[u8], first: usize, many: usize) -> Values
+        requires many { many ≤ 64 }
+        requires pixels { first + many ≤ 8 * length line.now }
+        ensures { (k : ℕ) → k < many → slice_index result k
+            ≡ 255 * worth (bit_at (slice_index line.now ((first + k) / 8)) ((first + k) % 8)) 1 }
+    {
+        self.eights.bits_of(&line[first / 8..], first % 8, many)
+    }
+
+    // Sets the amounts of each ink in row `at` from column x on from `many` pixels of one bit. An ink has but two
+    // amounts there.
+    #[inline(always)]
+    fn put_bits(&self, bits: &Values, many: usize, x: u32, at: u32, out: &mut InkRows)
+        requires many { many ≤ 64 }
+        requires inside { x + many ≤ out.old.width }
+        requires inks { out.old.inks ≡ length (inks_of self.now.inks) }
+        requires at { at < out.old.rows }
+        requires bits { (k : ℕ) → k < many → (slice_index bits.now k ≡ 0) ⊎ (slice_index bits.now k ≡ 255) }
+        ensures size { HasSizeAs out.old out.new }
+        ensures put { (i : ℕ) (ink : Ink) → slice_get (inks_of self.now.inks) i ≡ Some ink → (k : ℕ) → k < many
+            → amount out.new i at (x + k)
+            ≡ amount_in self.now ink (grey_ink self.now.inks ink (slice_index bits.now k)) }
+        ensures beside { (i c : ℕ) → (c < x) ⊎ (x + many ≤ c) → amount out.new i at c ≡ amount out.old i at c }
+        ensures others { (i y c : ℕ) → y ≢ at → y < out.old.rows → amount out.new i y c ≡ amount out.old i y c }
+    {
+        for i in 0..self.inks.count() {
+            let amounts = self.amounts_of_bits(self.inks.at(i), bits);
+            out.put_part(i, x, at, &amounts[..many]);
+        }
+    }
+
+    // The amounts of an ink at pixels of one bit.
+    #[inline(always)]
+    fn amounts_of_bits(&self, ink: Ink, bits: &Values) -> Values
+        ensures { (x : ℕ) → x < 64 → (slice_index bits.now x ≡ 0) ⊎ (slice_index bits.now x ≡ 255)
+            → slice_index result x ≡ amount_in self.now ink (grey_ink self.now.inks ink (slice_index bits.now x)) }
+    {
+        let none = self.scales.amount(ink, 0);
+        let full = self.scales.amount(ink, full_given(self.inks, ink));
+        chosen(bits, none, full)
     }
 
     // What `many` pixels of the line from pixel `first` on give.
@@ -140,7 +189,7 @@ impl Separator {
             Kind::Gray8 => grey_given(self.inks, inverted(&line[first..], many)),
             Kind::Black8 => grey_given(self.inks, same(&line[first..], many)),
             Kind::Rgb8 => colour_given(self.inks, &self.black, &line[3 * first..], many),
-            Kind::Black1 => grey_given(self.inks, bits_of(&line[first / 8..], first % 8, many)),
+            Kind::Black1 => grey_given(self.inks, self.bits(line, first, many)),
             Kind::Cmyk8 => four_given(self.inks, &line[4 * first..], many),
         }
     }

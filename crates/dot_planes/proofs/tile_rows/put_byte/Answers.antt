@@ -40,13 +40,13 @@ is_moved c = record { at_left = c.eight_from.ensures.left; at_right = c.eight_fr
 
 pub returns-clause-pixels : goal.returns-clause-pixels
 returns-clause-pixels c = λ k offset low before inside here.
-    c.splice.ensures.inside k (taken_from _ _ _ _ _ _ _ k offset (is_byte c) here)
-    (omega (arith, c.min.ensures, taken_to _ _ _ _ _ _ _ k offset (is_byte c) low inside here))
-    ∙ taken_dot _ _ _ _ _ _ _ _ k offset (is_byte c) (is_moved c) low inside here
+    c.splice.ensures.inside k (taken_from k offset (is_byte c) here)
+    (omega (arith, c.min.ensures, taken_to k offset (is_byte c) low inside here))
+    ∙ taken_dot k offset (is_byte c) (is_moved c) low inside here
 
 pub returns-clause-others : goal.returns-clause-others
 returns-clause-others c = λ k low none.
-    c.splice.ensures.outside k low (elim (not_taken _ _ _ _ _ _ _ c.args.most k (is_byte c) low none) [
+    c.splice.ensures.outside k low (elim (not_taken c.args.most k (is_byte c) low none) [
       | inl before ↦ inl before
       | inr past ↦ inr (omega (arith, c.min.ensures))
     ])

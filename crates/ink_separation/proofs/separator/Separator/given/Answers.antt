@@ -1,4 +1,4 @@
-use Rattle.std.proofs.Common.{ℕ, ◌+◌, ◌*◌, ◌≤◌, ◌∙◌, ap, arith, length, refl, sym}
+use Rattle.std.proofs.Common.{◌+◌, ◌*◌, ◌≤◌, ◌∙◌, ap, arith, length, refl, sym}
 use Rattle.pwg_definitions.specs.declared.pages.Kind.{Kind}
 use Rattle.separation_definitions.specs.Amounts.{cmyk_ink, colour_ink, colour_of, pixel_at, pixel_ink}
 use Rattle.ink_separation.specs.Separators.{printer_in}

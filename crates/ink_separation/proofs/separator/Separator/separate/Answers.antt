@@ -1,4 +1,4 @@
-use Rattle.std.proofs.Common.{◌≡◌, ℕ, ◌+◌, ◌-◌, ◌*◌, ◌/◌, ◌∙◌, arith, subst}
+use Rattle.std.proofs.Common.{◌≡◌, ℕ, ◌+◌, ◌-◌, ◌*◌, ◌/◌, arith, subst}
 use Rattle.separation_definitions.specs.declared.window.Window.{Window}
 use Rattle.ink_separation.specs.Separated.{Separates}
 use Rattle.ink_separation.specs.Separators.{printer_in}

@@ -1,5 +1,5 @@
 use Rattle.std.proofs.Common.{◌≡◌, ℕ, ◌<◌, get_or, length}
-use Rattle.ink_separation.proofs.scales.looked_up.Given as goal
+use Rattle.ink_separation.proofs.scales.look_up_sixteen.Given as goal
 
 abbrev pub invariant-loop-x : goal.invariant-loop-x
 invariant-loop-x l = record {

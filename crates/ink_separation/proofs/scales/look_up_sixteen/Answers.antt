@@ -1,6 +1,6 @@
 use Rattle.std.proofs.Common.{ap, arith, get_or, ◌∙◌, length-set}
 use Rattle.ink_separation.proofs.Filled.{filled_more}
-use Rattle.ink_separation.proofs.scales.looked_up.Goals as goal
+use Rattle.ink_separation.proofs.scales.look_up_sixteen.Goals as goal
 
 pub loop-x-preserved : goal.loop-x-preserved
 loop-x-preserved c = record {

@@ -1,6 +1,6 @@
 use Rattle.std.proofs.Common.{◌≡◌, ℕ, ◌*◌, ◌/◌, ◌%◌, ◌<◌, get_or, length}
 use Rattle.base_definitions.specs.Packed.{bit_at, worth}
-use Rattle.ink_separation.proofs.bits.spread.Given as goal
+use Rattle.ink_separation.proofs.bits.Eights.spread.Given as goal
 
 abbrev pub invariant-loop-n : goal.invariant-loop-n
 invariant-loop-n l = record {
