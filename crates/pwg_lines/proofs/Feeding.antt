@@ -19,7 +19,7 @@ use Rattle.pwg_lines.proofs.Steps.{front_of, in_state}
 
 -- a reader before a group stands for no bytes
 pub anew_stands : (reader : LineReader) → IsAnew reader → StandsFor reader []
-anew_stands reader fresh = in_state _ _ _ _ _ _ _ _ _ _ (sym (is_start-is reader.state fresh))
+anew_stands reader fresh = in_state _ _ _ (sym (is_start-is reader.state fresh))
     (record { at = refl; most = reader.left; enough = omega arith; is = λ rest. refl })
   where
     is_start-is : (s : State) → IsTrue (is_start s) → s ≡ state.Start
@@ -53,9 +53,9 @@ still_open state.Full full failed = full refl
 still_open (state.Failed fault) full failed = failed fault refl
 
 -- and this many more
-pub feed_step : (old now new : LineReader) (piece rest : List ℕ) (used more : ℕ) → FedSoFar old now piece used → IsOpen now.state
+pub feed_step : {old now new : LineReader} {piece : List ℕ} (rest : List ℕ) {used more : ℕ} → FedSoFar old now piece used → IsOpen now.state
     → rest ≡ drop used piece → more ≤ length rest → Takes now new (take more rest) → FedSoFar old new piece (used + more)
-feed_step old now new piece rest used more so_far is_open behind fits takes = record {
+feed_step {now} {new} {piece} rest {used} {more} so_far is_open behind fits takes = record {
   within = omega (arith, so_far.within, length-drop used piece, ap length behind);
   takes = record {
     form = takes.form ∙ so_far.takes.form;
@@ -90,6 +90,12 @@ read_on-nothing (state.Literal n) row units lines most left repeats line place p
 read_on-nothing state.Full row units lines most left repeats line place part sofar is at = absurd is
 read_on-nothing (state.Failed fault) row units lines most left repeats line place part sofar is at = absurd is
 
+-- nothing is known where a reader stands
+nothing_known : {row : KindRow} {units lines repeats left : ℕ} {s : State} {line part sofar : List ℕ}
+    → Stands row units lines s repeats line part left sofar → IsOpen s → group_at row units lines (sofar ++ []) ≡ Part
+nothing_known {row} {units} {lines} {repeats} {left} {s} {line} {part} {sofar} here is_open =
+    here.is [] ∙ read_on-nothing s row units lines here.most left repeats line (length sofar) part sofar is_open here.at
+
 -- the group is read as its reader reads it, in a page of the same form
 same_group : (old now : LineReader) (bytes : List ℕ) → now.form ≡ old.form → now.lines_left ≡ old.lines_left
     → next_group old bytes ≡ next_group now bytes
@@ -115,8 +121,7 @@ feed_more old now piece used so_far is_open all = record {
         let here : StandsFor now (sofar ++ piece) = stands sofar stood in
         same_group old now (sofar ++ piece) so_far.takes.form so_far.takes.lines_left
         ∙ ap (next_group now) (sym (append-nil (sofar ++ piece)))
-        ∙ here.is []
-        ∙ read_on-nothing now.state _ _ _ _ _ _ _ _ _ (sofar ++ piece) is_open here.at
+        ∙ nothing_known here is_open
 
 pub feed_fault : (old now : LineReader) (piece : List ℕ) (used : ℕ) (fault : LineFault) → FedSoFar old now piece used
     → now.state ≡ state.Failed fault
@@ -132,7 +137,7 @@ feed_fault old now piece used fault so_far failed = record {
         × (next_group old (sofar ++ take used piece ++ rest) ≡ Wrong place fault)
     wrong sofar rest stood =
         let read : List ℕ = sofar ++ take used piece in
-        let here : Stands _ _ _ (state.Failed fault) _ _ _ _ read = in_state _ _ _ _ _ _ _ _ _ _ failed (so_far.takes.stands sofar stood) in
+        let here : Stands _ _ _ (state.Failed fault) _ _ _ _ read = in_state _ _ _ failed (so_far.takes.stands sofar stood) in
         let sized : length read ≡ length sofar + used = length-append sofar (take used piece)
         ∙ ap (λ k. length sofar + k) (length-take-le used piece so_far.within) in (
           length read - 1,
@@ -148,10 +153,10 @@ full_line now full none =
     let none_left : now.left * (row_of now.form.kind).unit ≡ 0 = ap (λ k. k * (row_of now.form.kind).unit) none ∙ omega arith in
     omega (arith, now.fits, none_pending, none_left)
 
-pub feed_line : (old now new : LineReader) (answer : Fill) (piece : List ℕ) (used : ℕ) → FedSoFar old now piece used
+pub feed_line : {old now new : LineReader} {answer : Fill} {piece : List ℕ} {used : ℕ} → FedSoFar old now piece used
     → now.state ≡ state.Full → Ends now new answer
     → IsLine old new piece used now.repeats
-feed_line old now new answer piece used so_far full ends = record {
+feed_line {old} {now} {new} {piece} {used} so_far full ends = record {
   some = ends.some;
   fall = ends.fall ∙ so_far.takes.lines_left;
   group = group;
@@ -163,7 +168,7 @@ feed_line old now new answer piece used so_far full ends = record {
         → next_group old (sofar ++ take used piece ++ rest) ≡ Group now.repeats (line_of new) rest
     group sofar rest stood =
         let read : List ℕ = sofar ++ take used piece in
-        let here : Stands _ _ _ state.Full _ _ _ _ read = in_state _ _ _ _ _ _ _ _ _ _ full (so_far.takes.stands sofar stood) in
+        let here : Stands _ _ _ state.Full _ _ _ _ read = in_state _ _ _ full (so_far.takes.stands sofar stood) in
         let whole : take now.filled now.line.items ≡ now.line.items =
         take_all now.filled now.line.items (omega (arith, full_line now full here.at)) in
         same_group old now (read ++ rest) so_far.takes.form so_far.takes.lines_left

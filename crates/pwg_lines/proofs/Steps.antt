@@ -32,9 +32,9 @@ StandsIn row units lines s repeats items filled left sofar =
     Stands row units lines s repeats (take filled items) (take (read_in s) (drop filled items)) left sofar
 
 -- the same reader, by an equal state
-pub in_state : (row : KindRow) (units lines : ℕ) (s s' : State) (repeats : ℕ) (items : List ℕ) (filled left : ℕ) (sofar : List ℕ)
+pub in_state : {row : KindRow} {units lines : ℕ} {s s' : State} {repeats : ℕ} (items : List ℕ) (filled : ℕ) {left : ℕ} (sofar : List ℕ)
     → s ≡ s' → StandsIn row units lines s repeats items filled left sofar → StandsIn row units lines s' repeats items filled left sofar
-in_state row units lines s s' repeats items filled left sofar same so_far =
+in_state {row} {units} {lines} {repeats} items filled {left} sofar same so_far =
     let P : State → Type 0 = λ k. StandsIn row units lines k repeats items filled left sofar in subst P same so_far
 
 -- ---- the bytes of the line
@@ -108,11 +108,11 @@ packet_at-white : (row : KindRow) (left : ℕ) (bytes : List ℕ) → packet_at 
 packet_at-white row left bytes = ap (λ b. if b then Long else One Clear bytes) (le-ltb left left (omega arith))
 
 -- more units than are left
-pub packet-past : (row : KindRow) (units lines repeats : ℕ) (line part : List ℕ) (left : ℕ) (sofar : List ℕ) (n repeats' : ℕ)
-    (line' part' : List ℕ) (left' : ℕ)
+pub packet-past : {row : KindRow} {units lines repeats : ℕ} {line part : List ℕ} {left : ℕ} (sofar : List ℕ) (n : ℕ) {repeats' : ℕ}
+    {line' part' : List ℕ} {left' : ℕ}
     → Stands row units lines state.Packet repeats line part left sofar → left < units_of left n
     → Stands row units lines (state.Failed RunPastLine) repeats' line' part' left' (snoc sofar n)
-packet-past row units lines repeats line part left sofar n repeats' line' part' left' so_far past =
+packet-past {row} {units} {lines} {repeats} {line} {part} {left} sofar n {left'} so_far past =
     let at_last : length sofar ≡ length (snoc sofar n) - 1 = omega (arith, length-snoc sofar n) in
     let one_left : left ≡ suc (left - 1) = omega (arith, so_far.at) in
     let is_past : (rest : List ℕ) → packet_at row (suc (left - 1)) (n ∷ rest) ≡ Long =
@@ -201,10 +201,10 @@ packet_on row units lines repeats line part left sofar n u count make makes left
         ∙ ap (λ k. line_at row (so_far.most - 1) left' (front_of repeats (line ++ makes bytes) k) (drop count rest)) place
         ∙ ap (λ b. if b then Part else behind) (sym e)
 
-pub packet-run : (row : KindRow) (units lines repeats : ℕ) (line part : List ℕ) (left : ℕ) (sofar : List ℕ) (n left' : ℕ)
+pub packet-run : {row : KindRow} {units lines repeats : ℕ} {line part : List ℕ} {left : ℕ} (sofar : List ℕ) (n : ℕ) {left' : ℕ}
     → 1 ≤ row.unit → Stands row units lines state.Packet repeats line part left sofar → n < 128 → n + 1 ≤ left → left' ≡ left - (n + 1)
     → Stands row units lines (state.Run (n + 1) 0) repeats line [] left' (snoc sofar n)
-packet-run row units lines repeats line part left sofar n left' unit so_far small fits less = record {
+packet-run {row} {units} {lines} {repeats} {line} {part} {left} sofar n {left'} unit so_far small fits less = record {
   at = omega arith;
   most = so_far.most - 1;
   enough = omega (arith, so_far.enough);
@@ -214,12 +214,12 @@ packet-run row units lines repeats line part left sofar n left' unit so_far smal
       (let whole : row.unit ≡ row.unit - 0 = omega arith in whole);
 }
 
-pub packet-literal : (row : KindRow) (units lines repeats : ℕ) (line part : List ℕ) (left : ℕ) (sofar : List ℕ) (n : ℕ) (part' : List ℕ)
-    (left' : ℕ)
+pub packet-literal : {row : KindRow} {units lines repeats : ℕ} {line part : List ℕ} {left : ℕ} (sofar : List ℕ) (n : ℕ) {part' : List ℕ}
+    {left' : ℕ}
     → 1 ≤ row.unit → Stands row units lines state.Packet repeats line part left sofar → 128 < n → n < 256 → 257 - n ≤ left
     → left' ≡ left - (257 - n)
     → Stands row units lines (state.Literal ((257 - n) * row.unit)) repeats line part' left' (snoc sofar n)
-packet-literal row units lines repeats line part left sofar n part' left' unit so_far large byte fits less = record {
+packet-literal {row} {units} {lines} {repeats} {line} {part} {left} sofar n {left'} unit so_far large byte fits less = record {
   at = some_bytes (257 - n) row.unit (omega arith) unit;
   most = so_far.most - 1;
   enough = omega (arith, so_far.enough);
@@ -236,11 +236,11 @@ line_at-full : (row : KindRow) (most left repeats : ℕ) (line : List ℕ) (plac
 unfolding line_at
 line_at-full row most left repeats line place rest none = ap (λ k. line_at row most k (front_of repeats line place) rest) none
 
-pub packet-white : (row : KindRow) (units lines repeats : ℕ) (line part : List ℕ) (left : ℕ) (sofar : List ℕ) (line' part' : List ℕ)
-    (left' : ℕ)
+pub packet-white : {row : KindRow} {units lines repeats : ℕ} {line part : List ℕ} {left : ℕ} (sofar : List ℕ) {line' part' : List ℕ}
+    {left' : ℕ}
     → left' ≡ 0 → Stands row units lines state.Packet repeats line part left sofar → line' ≡ line ++ copies left row.white
     → Stands row units lines state.Full repeats line' part' left' (snoc sofar 128)
-packet-white row units lines repeats line part left sofar line' part' left' none_left so_far grown =
+packet-white {row} {units} {lines} {repeats} {line} {part} {left} sofar {line'} {left'} none_left so_far grown =
     let one_left : left ≡ suc (left - 1) = omega (arith, so_far.at) in
     let none : suc (left - 1) - suc (left - 1) ≡ 0 = omega arith in
     let filled : line ++ copies (suc (left - 1)) row.white ≡ line' = ap (λ k. line ++ copies k row.white) (sym one_left) ∙ sym grown in
@@ -327,12 +327,12 @@ behind_all row units lines repeats most left line line' part' sofar bytes count 
     omega arith in p))
 
 -- a part of the unit of a run
-pub run-part : (row : KindRow) (units lines repeats : ℕ) (line part : List ℕ) (left : ℕ) (sofar : List ℕ) (n read : ℕ)
-    (bytes line' part' : List ℕ) (read' : ℕ)
+pub run-part : {row : KindRow} {units lines repeats : ℕ} {line part : List ℕ} {left : ℕ} (sofar : List ℕ) (n read : ℕ)
+    (bytes : List ℕ) {line' part' : List ℕ} {read' : ℕ}
     → Stands row units lines (state.Run n read) repeats line part left sofar → read' ≡ read + length bytes → read' < row.unit → line' ≡ line
     → part' ≡ part ++ bytes
     → Stands row units lines (state.Run n read') repeats line' part' left (sofar ++ bytes)
-run-part row units lines repeats line part left sofar n read bytes line' part' read' so_far more within same grown = record {
+run-part {row} {units} {lines} {repeats} {line} {part} {left} sofar n read bytes {line'} {part'} {read'} so_far more within same grown = record {
   at = within;
   most = so_far.most;
   enough = so_far.enough;
@@ -344,21 +344,21 @@ run-part row units lines repeats line part left sofar n read bytes line' part' r
 }
 
 -- the rest of the unit of a run
-pub run-end : (row : KindRow) (units lines repeats : ℕ) (line part : List ℕ) (left : ℕ) (sofar : List ℕ) (n read : ℕ)
-    (bytes line' part' : List ℕ)
+pub run-end : {row : KindRow} {units lines repeats : ℕ} {line part : List ℕ} {left : ℕ} (sofar : List ℕ) (n read : ℕ)
+    (bytes : List ℕ) {line' part' : List ℕ}
     → Stands row units lines (state.Run n read) repeats line part left sofar → length bytes ≡ row.unit - read
     → line' ≡ line ++ copies n (part ++ bytes)
     → Stands row units lines (behind_packet left) repeats line' part' left (sofar ++ bytes)
-run-end row units lines repeats line part left sofar n read bytes line' part' so_far whole grown =
+run-end {row} {units} {lines} {repeats} {line} {part} {left} sofar n read bytes {line'} {part'} so_far whole grown =
     behind_all row units lines repeats so_far.most left line line' part' sofar bytes (row.unit - read) (λ bs. copies n (part ++ bs))
     so_far.is whole grown so_far.enough
 
 -- a part of a literal
-pub literal-part : (row : KindRow) (units lines repeats : ℕ) (line part : List ℕ) (left : ℕ) (sofar : List ℕ) (n : ℕ)
-    (bytes line' part' : List ℕ) (more : ℕ)
+pub literal-part : {row : KindRow} {units lines repeats : ℕ} {line part : List ℕ} {left : ℕ} (sofar : List ℕ) (n : ℕ)
+    (bytes : List ℕ) {line' part' : List ℕ} {more : ℕ}
     → Stands row units lines (state.Literal n) repeats line part left sofar → length bytes + more ≡ n → line' ≡ line ++ bytes → 1 ≤ more
     → Stands row units lines (state.Literal more) repeats line' part' left (sofar ++ bytes)
-literal-part row units lines repeats line part left sofar n bytes line' part' more so_far whole grown some = record {
+literal-part {row} {units} {lines} {repeats} {line} {left} sofar n bytes {line'} {more} so_far whole grown some = record {
   at = some;
   most = so_far.most;
   enough = so_far.enough;
@@ -367,9 +367,9 @@ literal-part row units lines repeats line part left sofar n bytes line' part' mo
 }
 
 -- the rest of a literal
-pub literal-end : (row : KindRow) (units lines repeats : ℕ) (line part : List ℕ) (left : ℕ) (sofar : List ℕ) (n : ℕ)
-    (bytes line' part' : List ℕ)
+pub literal-end : {row : KindRow} {units lines repeats : ℕ} {line part : List ℕ} {left : ℕ} (sofar : List ℕ) (n : ℕ)
+    (bytes : List ℕ) {line' part' : List ℕ}
     → Stands row units lines (state.Literal n) repeats line part left sofar → length bytes ≡ n → line' ≡ line ++ bytes
     → Stands row units lines (behind_packet left) repeats line' part' left (sofar ++ bytes)
-literal-end row units lines repeats line part left sofar n bytes line' part' so_far whole grown =
+literal-end {row} {units} {lines} {repeats} {line} {left} sofar n bytes {line'} {part'} so_far whole grown =
     behind_all row units lines repeats so_far.most left line line' part' sofar bytes n (λ bs. bs) so_far.is whole grown so_far.enough

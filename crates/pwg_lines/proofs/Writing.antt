@@ -138,9 +138,9 @@ pub unequal_end : (most unit : ℕ) (line : List ℕ) (count : ℕ) (rest : List
 unequal_end most unit line count rest so_far none = omega (arith, so_far.is, unequal-nothing (most - count) unit rest none)
 
 -- a test of the first units, made on their parts
-pub parts_tested : (rest front behind : List ℕ) (unit : ℕ) (result b : Bool) → front ≡ take unit rest → behind ≡ drop unit rest
+pub parts_tested : (rest : List ℕ) {front behind : List ℕ} (unit : ℕ) {result b : Bool} → front ≡ take unit rest → behind ≡ drop unit rest
     → result ≡ starts_with nat_eq behind front → result ≡ b → starts_with nat_eq (drop unit rest) (take unit rest) ≡ b
-parts_tested rest front behind unit result b front_is behind_is tested is =
+parts_tested rest {front} unit front_is behind_is tested is =
     ap (starts_with nat_eq (drop unit rest)) (sym front_is) ∙ ap (λ bs. starts_with nat_eq bs front) (sym behind_is) ∙ sym tested ∙ is
 
 -- ---- the first units of a line

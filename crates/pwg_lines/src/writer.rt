@@ -1,6 +1,7 @@
 //! Writing the groups of a page's lines.
 ghost use Rattle.pwg_lines.specs.Canonical.{canonical, copies_at, next_packet, unequal_at};
-ghost use Rattle.std.specs.Prelude.{List, OnErr, OnOk, IfOk, length, take, ℕ, ◌%◌, ◌*◌, ◌++◌, ◌+◌, ◌<◌, ◌∷◌, ◌≡◌, ◌≤◌};
+ghost use Rattle.std.specs.Prelude.{IfOk, IsOk, List, OnErr, OnOk, length, take, vec_capacity, vec_len, ℕ, ◌%◌, ◌*◌};
+ghost use Rattle.std.specs.Prelude.{◌++◌, ◌+◌, ◌<◌, ◌∷◌, ◌≡◌, ◌≤◌};
 ghost use Rattle.pwg_definitions.specs.Groups.{packet_spelling, packet_units};
 ghost use Rattle.pwg_definitions.specs.Limits.{most_repeats};
 
@@ -19,6 +20,10 @@ pub fn code_line(line: &[u8], unit: usize, repeats: u32, out: &mut Vec<u8>) -> R
     requires most { repeats ≤ most_repeats }
     ensures ok { OnOk result (out.new.items ≡ out.old.items ++ canonical unit repeats line.now) }
     ensures err { OnErr result (out.new.items ≡ out.old.items) }
+
+    // The capacity never shrinks, and is enough with a byte more than two for each byte of the line.
+    ensures capacity { vec_capacity out.old ≤ vec_capacity out.new }
+    ensures room { vec_len out.old + 1 + 2 * length line.now ≤ vec_capacity out.old → IsOk result }
 {
     let before = out.len();
     if push_group(line, unit, (repeats - 1) as u8, out).is_err() {
@@ -34,6 +39,8 @@ fn push_group(line: &[u8], unit: usize, more: u8, out: &mut Vec<u8>) -> Result<(
     requires whole { length line.now % unit ≡ 0 }
     ensures ok { OnOk result (out.new.items ≡ out.old.items ++ canonical unit (more + 1) line.now) }
     ensures part { (part : List ℕ) × (out.new.items ≡ out.old.items ++ part) }
+    ensures capacity { vec_capacity out.old ≤ vec_capacity out.new }
+    ensures room { vec_len out.old + 1 + 2 * length line.now ≤ vec_capacity out.old → IsOk result }
 {
     out.push(more)?;
     let mut rest = line;
@@ -54,6 +61,9 @@ fn push_packet(line: &[u8], unit: usize, out: &mut Vec<u8>) -> Result<usize, All
     ensures some { IfOk result (λ units. 1 ≤ units) }
     ensures within { IfOk result (λ units. units * unit ≤ length line.now) }
     ensures part { (part : List ℕ) × (out.new.items ≡ out.old.items ++ part) }
+    ensures short { IfOk result (λ units. vec_len out.new ≤ vec_len out.old + 2 * (units * unit)) }
+    ensures capacity { vec_capacity out.old ≤ vec_capacity out.new }
+    ensures room { vec_len out.old + 2 * length line.now ≤ vec_capacity out.old → IsOk result }
 {
     let run = equal_units(line, unit);
     if run > 1 {
@@ -70,6 +80,9 @@ fn push_packet(line: &[u8], unit: usize, out: &mut Vec<u8>) -> Result<usize, All
 fn push_part(first: u8, bytes: &[u8], out: &mut Vec<u8>) -> Result<(), AllocError>
     ensures ok { OnOk result (out.new.items ≡ out.old.items ++ first ∷ bytes.now) }
     ensures part { (part : List ℕ) × (out.new.items ≡ out.old.items ++ part) }
+    ensures len { OnOk result (vec_len out.new ≡ vec_len out.old + 1 + length bytes.now) }
+    ensures capacity { vec_capacity out.old ≤ vec_capacity out.new }
+    ensures room { vec_len out.old + 1 + length bytes.now ≤ vec_capacity out.old → IsOk result }
 {
     out.push(first)?;
     out.extend_from_slice(bytes)

@@ -1,4 +1,4 @@
-//! Tests of the page stream: headers, run-coded lines, and whole streams, by worked examples.
+//! Tests of the page stream: headers, run-coded lines, whole streams, and made ones, by worked examples.
 #![tactic(auto)]
 
 #[cfg(test)]
@@ -7,5 +7,7 @@ mod checks;
 mod headers;
 #[cfg(test)]
 mod lines;
+#[cfg(test)]
+mod made;
 #[cfg(test)]
 mod streams;

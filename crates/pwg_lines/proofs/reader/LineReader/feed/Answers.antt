@@ -18,11 +18,11 @@ returns-then-used-piece-clause-again c = λ fault e. absurd
 
 pub steps-preserved : goal.steps-preserved
 steps-preserved c =
-    feed_step _ _ _ _ _ _ _ c.steps.invariant (still_open c.steps.self.state c.in_default.not-Full c.in_default.not-Failed)
+    feed_step _ c.steps.invariant (still_open c.steps.self.state c.in_default.not-Full c.in_default.not-Failed)
     (take_all _ _ (omega (arith, length-drop c.steps.used c.args.piece.now))) c.step-used.ensures.most c.step-used.ensures.takes
 
 pub returns-in-Full-clause-line : goal.returns-in-Full-clause-line
 returns-in-Full-clause-line c =
     let P : Fill → Type 0 = λ answer. OnLine answer
     (λ repeats. IsLine c.args.self.now c.end_group.new.self c.args.piece.now c.steps.used repeats) in
-    subst P (sym c.end_group.ensures.answer_is) (feed_line _ _ _ _ _ _ c.steps.invariant c.in-Full.is c.end_group.ensures)
+    subst P (sym c.end_group.ensures.answer_is) (feed_line c.steps.invariant c.in-Full.is c.end_group.ensures)

@@ -19,13 +19,13 @@ returns-clause-takes c =
       form = refl;
       lines_left = refl;
       stands = λ sofar so_far. elim c.if-count-wanted.branch [
-        | then-count-wanted w ↦ in_state _ _ _ _ _ _ new (c.args.self.now.filled + c.min-count.result) _ _ (sym w.self-is)
-            (literal-part _ _ _ _ _ _ _ sofar c.args.wanted _ _ _ _
-            (in_state _ _ _ _ _ _ c.args.self.now.line.items c.args.self.now.filled _ sofar c.requires so_far) (omega arith) grown
+        | then-count-wanted w ↦ in_state new (c.args.self.now.filled + c.min-count.result) _ (sym w.self-is)
+            (literal-part sofar c.args.wanted _
+            (in_state c.args.self.now.line.items c.args.self.now.filled sofar c.requires so_far) (omega arith) grown
             (omega arith))
-        | else-count-wanted w ↦ in_state _ _ _ _ _ _ new (c.args.self.now.filled + c.min-count.result) _ _ (sym w.state_after-self.ensures
+        | else-count-wanted w ↦ in_state new (c.args.self.now.filled + c.min-count.result) _ (sym w.state_after-self.ensures
             ∙ sym w.self-is)
-            (literal-end _ _ _ _ _ _ _ sofar c.args.wanted _ _ _
-            (in_state _ _ _ _ _ _ c.args.self.now.line.items c.args.self.now.filled _ sofar c.requires so_far) (omega arith) grown)
+            (literal-end sofar c.args.wanted _
+            (in_state c.args.self.now.line.items c.args.self.now.filled sofar c.requires so_far) (omega arith) grown)
       ];
     }

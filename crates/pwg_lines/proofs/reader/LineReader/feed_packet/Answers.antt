@@ -10,8 +10,8 @@ pub returns-then-self-units : goal.returns-then-self-units
 returns-then-self-units c = record {
   form = refl;
   lines_left = refl;
-  stands = λ sofar so_far. packet-past _ _ _ _ _ _ _ sofar c.args.first _ _ _ _
-      (in_state _ _ _ _ _ _ c.args.self.now.line.items c.args.self.now.filled _ sofar c.requires so_far)
+  stands = λ sofar so_far. packet-past sofar c.args.first
+      (in_state c.args.self.now.line.items c.args.self.now.filled sofar c.requires so_far)
       (units-past _ c.args.first _ c.units_of-units.ensures c.if-self-units.true);
 }
 
@@ -23,18 +23,18 @@ returns c = record {
     | then-first-lt128 w ↦
         (let units_are : c.units_of-units.result ≡ c.args.first + 1 =
         units-run _ c.args.first _ c.units_of-units.ensures w.if-first-lt128.true in
-        in_state _ _ _ _ _ _ c.args.self.now.line.items c.args.self.now.filled _ _ (ap (λ k. state.Run k 0) (sym units_are) ∙ sym w.self-is)
-        (packet-run _ _ _ _ _ _ _ sofar c.args.first _ (kind_row c.args.self.now.form.kind).some
-        (in_state _ _ _ _ _ _ c.args.self.now.line.items c.args.self.now.filled _ sofar c.requires so_far)
+        in_state c.args.self.now.line.items c.args.self.now.filled _ (ap (λ k. state.Run k 0) (sym units_are) ∙ sym w.self-is)
+        (packet-run sofar c.args.first (kind_row c.args.self.now.form.kind).some
+        (in_state c.args.self.now.line.items c.args.self.now.filled sofar c.requires so_far)
         w.if-first-lt128.true (omega arith) (ap (λ k. c.args.self.now.left - k) units_are)))
     | else-first-lt128 w ↦
         (let units_are : c.units_of-units.result ≡ 257 - c.args.first =
         units-literal _ c.args.first _ c.units_of-units.ensures (omega arith) in
-        in_state _ _ _ _ _ _ c.args.self.now.line.items c.args.self.now.filled _ _
+        in_state c.args.self.now.line.items c.args.self.now.filled _
         (ap state.Literal (ap (λ k. k * (row_of c.args.self.now.form.kind).unit) (sym units_are)
         ∙ ap (λ k. c.units_of-units.result * k) (sym w.unit.ensures.value)) ∙ sym w.self-is)
-        (packet-literal _ _ _ _ _ _ _ sofar c.args.first _ _ (kind_row c.args.self.now.form.kind).some
-        (in_state _ _ _ _ _ _ c.args.self.now.line.items c.args.self.now.filled _ sofar c.requires so_far)
+        (packet-literal sofar c.args.first (kind_row c.args.self.now.form.kind).some
+        (in_state c.args.self.now.line.items c.args.self.now.filled sofar c.requires so_far)
         (omega arith) (omega arith) (omega arith) (ap (λ k. c.args.self.now.left - k) units_are)))
   ];
 }

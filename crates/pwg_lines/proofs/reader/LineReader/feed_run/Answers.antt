@@ -26,8 +26,8 @@ returns-then-bytes-wanted-clause-takes c =
     record {
       form = refl;
       lines_left = refl;
-      stands = λ sofar so_far. run-part _ _ _ _ _ _ _ sofar c.args.units c.args.read (take (length c.args.bytes.now) c.args.bytes.now) _ _ _
-          (in_state _ _ _ _ _ _ c.args.self.now.line.items c.args.self.now.filled _ sofar c.requires so_far)
+      stands = λ sofar so_far. run-part sofar c.args.units c.args.read (take (length c.args.bytes.now) c.args.bytes.now)
+          (in_state c.args.self.now.line.items c.args.self.now.filled sofar c.requires so_far)
           (ap (λ bs. c.args.read + length bs) (sym (take-length c.args.bytes.now))) (omega (arith, c.unit-unit.ensures.value)) kept.0
           (kept.1 ∙ ap (λ bs. take c.args.read (drop c.args.self.now.filled c.args.self.now.line.items) ++ bs)
           (sym (take-length c.args.bytes.now)));
@@ -52,9 +52,9 @@ returns-clause-takes c =
       form = refl;
       lines_left = refl;
       stands =
-          λ sofar so_far. in_state _ _ _ _ _ _ new (c.args.self.now.filled + c.args.units * c.unit-unit.result) _ _
+          λ sofar so_far. in_state new (c.args.self.now.filled + c.args.units * c.unit-unit.result) _
           (sym c.state_after-self.ensures)
-          (run-end _ _ _ _ _ _ _ sofar c.args.units c.args.read others _ _
-          (in_state _ _ _ _ _ _ c.args.self.now.line.items c.args.self.now.filled _ sofar c.requires so_far)
+          (run-end sofar c.args.units c.args.read others
+          (in_state c.args.self.now.line.items c.args.self.now.filled sofar c.requires so_far)
           (count ∙ ap (λ k. k - c.args.read) c.unit-unit.ensures.value) grown);
     }

@@ -22,8 +22,8 @@ returns c =
     record {
       form = refl;
       lines_left = refl;
-      stands = λ sofar so_far. packet-white _ _ _ _ _ _ _ sofar _ _ _ refl
-          (in_state _ _ _ _ _ _ c.args.self.now.line.items c.args.self.now.filled _ sofar c.requires so_far)
+      stands = λ sofar so_far. packet-white sofar refl
+          (in_state c.args.self.now.line.items c.args.self.now.filled sofar c.requires so_far)
           (ap (λ k. take k (written c.args.self.now.line.len c.args.self.now.line.items c.fill_units.new.line)) whole
           ∙ written-front _ _ _ _ _ (λ bs. take c.args.self.now.filled bs ++ copies c.args.self.now.left c.white-white.result.now) sized
           c.deref_mut.ensures.value c.fill_units.ensures

@@ -1,0 +1,25 @@
+//! The forms of made pages.
+ghost use Rattle.base_definitions.specs.Limits.{most_columns};
+ghost use Rattle.page_maker.specs.Made.{made_form};
+ghost use Rattle.std.specs.Prelude.{◌≡◌, ◌≤◌};
+
+use pwg_header::{Kind, PageForm};
+
+/// The form of a page of this size: its lines are as long as its width takes.
+pub fn made_form(width: u32, height: u32, kind: Kind) -> PageForm
+    requires { width ≤ most_columns }
+    ensures { result ≡ made_form width height kind }
+{
+    let bytes_per_line = match kind {
+        Kind::Black1 => width.div_ceil(8),
+        Kind::Gray8 | Kind::Black8 => width,
+        Kind::Rgb8 => 3 * width,
+        Kind::Cmyk8 => 4 * width,
+    };
+    PageForm {
+        width,
+        height,
+        kind,
+        bytes_per_line,
+    }
+}
