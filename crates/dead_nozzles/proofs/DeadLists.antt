@@ -37,7 +37,7 @@ all-inside n (k ∷ dead) e = by_first (nat_lt k n) (all-inside n dead) refl e
 
 -- ---- live nozzles
 
-has-none : (n : ℕ) (rest : List ℕ) → AllByRecursion (λ k. n < k) rest → has rest n ≡ false
+pub has-none : (n : ℕ) (rest : List ℕ) → AllByRecursion (λ k. n < k) rest → has rest n ≡ false
 has-none n [] all = refl
 has-none n (k ∷ rest) all = by_first (k == n) refl ∙ has-none n rest all.1
   where

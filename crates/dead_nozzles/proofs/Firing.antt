@@ -129,15 +129,15 @@ shot-tells h wanted start y i = by_row (row_under h start i) refl
             )
 
 -- nozzles that stand over one row are one
-one-nozzle : (h : Head) (wanted : ℕ → Bool) (start y : ℕ) → 1 ≤ h.pitch → (k l : ℕ) → Hits h wanted start y k → Hits h wanted start y l → k ≡ l
-one-nozzle h wanted start y near k l a b =
+pub one-over : (h : Head) (start y : ℕ) → 1 ≤ h.pitch → (k l : ℕ) → Over h start k y → Over h start l y → k ≡ l
+one-over h start y near k l a b =
     elim (cases_eq k l) [
       | inl e ↦ e
-      | inr apart ↦ absurd (by_order (k + 1) (l + 1) apart)
+      | inr apart ↦ absurd (by_order apart)
     ]
   where
     equal : k * h.pitch ≡ l * h.pitch
-    equal = omega (arith, a.over.place, b.over.place)
+    equal = omega (arith, a.place, b.place)
 
     lower : (small big : ℕ) → small < big → small * h.pitch ≡ big * h.pitch → ⊥
     lower small big less e =
@@ -145,8 +145,11 @@ one-nozzle h wanted start y near k l a b =
         let spread : (small + 1) * h.pitch ≡ small * h.pitch + h.pitch = omega arith in
         omega (arith, most, spread, e, near)
 
-    by_order : (a b : ℕ) → k ≢ l → ⊥
-    by_order a b apart = elim (cases_lt k l) [ inl less ↦ lower k l less equal | inr le ↦ lower l k (omega (arith, apart)) (sym equal) ]
+    by_order : k ≢ l → ⊥
+    by_order apart = elim (cases_lt k l) [ inl less ↦ lower k l less equal | inr le ↦ lower l k (omega (arith, apart)) (sym equal) ]
+
+one-nozzle : (h : Head) (wanted : ℕ → Bool) (start y : ℕ) → 1 ≤ h.pitch → (k l : ℕ) → Hits h wanted start y k → Hits h wanted start y l → k ≡ l
+one-nozzle h wanted start y near k l a b = one-over h start y near k l a.over b.over
 
 -- how often a stroke fires a row
 pub stroke-tells : (h : Head) (wanted : ℕ → Bool) (start y : ℕ) → 1 ≤ h.pitch

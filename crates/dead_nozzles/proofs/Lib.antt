@@ -3,3 +3,9 @@ pub mod Firing
 pub mod MakeUp
 pub mod Starts
 pub mod DeadLists
+pub mod Tables
+pub mod RowsOf
+pub mod Taking
+pub mod Scanning
+pub mod Making
+pub mod Strokes

@@ -155,6 +155,14 @@ has-outside n (suc many) y e = by_first (n == y) (λ all. has-outside (n + 1) ma
 
 -- ---- lists all of whose elements have a property
 
+pub all-has : (P : ℕ → Type 0) (rows : List ℕ) (y : ℕ) → AllByRecursion P rows → has rows y ≡ true → P y
+all-has P [] y all e = cc
+all-has P (row ∷ rows) y all e = by_first (row == y) (all-has P rows y all.1) refl e
+  where
+    by_first : (b : Bool) → (has rows y ≡ true → P y) → (row == y) ≡ b → (b || has rows y) ≡ true → P y
+    by_first true later eb e = subst P (eqb-true row y eb) all.0
+    by_first false later eb e = later e
+
 pub all-map : {X : Type 0} (P Q : X → Type 0) (xs : List X) → ((x : X) → P x → Q x) → AllByRecursion P xs → AllByRecursion Q xs
 all-map P Q [] to all = tt
 all-map P Q (x ∷ xs) to all = (to x all.0, all-map P Q xs to all.1)

@@ -7,7 +7,7 @@ use Rattle.std.proofs.lemmas.List.Sums.{count_by-le-length, length-filter}
 use Rattle.std.specs.List.{AllByRecursion, filter}
 use Rattle.base_definitions.specs.Counting.{count_from}
 use Rattle.weave_definitions.specs.Weave.{nozzle_row, pass_count}
-use Rattle.dead_nozzles.specs.Dead.{first_live, has}
+use Rattle.dead_nozzles.specs.Dead.{first_live, has, least_live}
 use Rattle.dead_nozzles.specs.Strokes.{Head, IsHead, Shot, Stroke, all_strokes, firings_of, head_rows, insert, inserted, is_fired, left_by}
 use Rattle.dead_nozzles.specs.Strokes.{made_up, made_up_by, make_up_stroke, make_up_strokes, missing, regular_strokes}
 use Rattle.dead_nozzles.proofs.Lists.{Nowhere, all-filter, all-numbers, count-more, has-filter, has-inside, has-outside}
@@ -46,7 +46,7 @@ pub has-left : (shots : List Shot) (rows : List ℕ) (y : ℕ) → has (left_by 
 has-left shots rows y = has-filter (λ row. not (is_fired shots row)) rows y
 
 -- a stroke leaves fewer rows
-fewer : (h : Head) (j y : ℕ) (rows : List ℕ) (most : ℕ) → Maker h j → y < h.height → suc (length rows) ≤ suc most
+pub fewer : (h : Head) (j y : ℕ) (rows : List ℕ) (most : ℕ) → Maker h j → y < h.height → suc (length rows) ≤ suc most
     → length (left_by (make_up_stroke h j y (y ∷ rows)).shots (y ∷ rows)) ≤ most
 fewer h j y rows most m low few =
     let shots : List Shot = (make_up_stroke h j y (y ∷ rows)).shots in
@@ -104,10 +104,13 @@ live-is dead n (suc many) j e = by_first (has dead n) (live-is dead (n + 1) many
     by_first true later eb e = let is = later e in (omega (arith, is.0), is.1)
     by_first false later eb e = let same : n ≡ j = cc in (omega (arith, same), ap (has dead) (sym same) ∙ eb)
 
-pub maker : (h : Head) (is : IsHead h) → Maker h is.live
-maker h is =
-    let found = live-is h.dead 0 h.nozzles is.live is.is_live in
+pub maker-of : (h : Head) (j : ℕ) → IsHead h → least_live h.nozzles h.dead ≡ Some j → Maker h j
+maker-of h j is e =
+    let found = live-is h.dead 0 h.nozzles j e in
     record { near = is.some_pitch; low = omega (arith, found.0); live = found.1 }
+
+pub maker : (h : Head) (is : IsHead h) → Maker h is.live
+maker h is = maker-of h is.live is is.is_live
 
 pub missing-low : (h : Head) → AreLow h (missing h)
 missing-low h =

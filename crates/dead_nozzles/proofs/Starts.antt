@@ -23,7 +23,7 @@ all-insert P s (t ∷ ts) p all = by_order (nat_le s.start t.start) (all-insert 
     by_order true later = (p, all)
     by_order false later = (all.0, later)
 
-all-inserted : (P : Stroke → Type 0) (ss ts : List Stroke) → AllByRecursion P ss → AllByRecursion P ts → AllByRecursion P (inserted ss ts)
+pub all-inserted : (P : Stroke → Type 0) (ss ts : List Stroke) → AllByRecursion P ss → AllByRecursion P ts → AllByRecursion P (inserted ss ts)
 all-inserted P [] ts more all = all
 all-inserted P (s ∷ ss) ts more all = all-insert P s (inserted ss ts) more.0 (all-inserted P ss ts more.1 all)
 
@@ -93,15 +93,15 @@ insert-rises s (t ∷ ts) rises apart = by_order (nat_le s.start t.start) (inser
         (all-insert (λ (k : Stroke). t.start < k.start) s ts less rises.0, later)
 
 -- where a make-up stroke starts
-record StartsAt (h : Head) (j : ℕ) (rows : List ℕ) (k : Stroke) : Type 0 where
-  row : ℕ
-  is : has rows row ≡ true
-  start : k.start ≡ row + head_rows h - j * h.pitch
+pub record StartsAt (h : Head) (j : ℕ) (rows : List ℕ) (k : Stroke) : Type 0 where
+  pub row : ℕ
+  pub is : has rows row ≡ true
+  pub start : k.start ≡ row + head_rows h - j * h.pitch
 
 left-has : (shots : List Shot) (rows : List ℕ) (y : ℕ) → has (left_by shots rows) y ≡ true → (has rows y ≡ true) × (not (is_fired shots y) ≡ true)
 left-has shots rows y e = both-true (has rows y) (not (is_fired shots y)) (sym (has-left shots rows y) ∙ e)
 
-made-starts : (h : Head) (j most : ℕ) (rows : List ℕ) → AllByRecursion (StartsAt h j rows) (made_up h j most rows)
+pub made-starts : (h : Head) (j most : ℕ) (rows : List ℕ) → AllByRecursion (StartsAt h j rows) (made_up h j most rows)
 made-starts h j zero rows = tt
 made-starts h j (suc most) [] = tt
 made-starts h j (suc most) (row ∷ rows) =

@@ -1,3 +1,4 @@
 pub mod Dead
 pub mod Strokes
+pub mod Plans
 pub mod Examples

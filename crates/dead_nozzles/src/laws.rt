@@ -1,10 +1,10 @@
 //! The laws of strokes, each the contract of an empty function.
-ghost use Rattle.dead_nozzles.specs.Dead.{has, least_live};
+ghost use Rattle.dead_nozzles.specs.Dead.{has};
 ghost use Rattle.dead_nozzles.specs.Examples.{first_is_dead, last_is_dead, one_is_live, three_nozzles};
-ghost use Rattle.dead_nozzles.specs.Strokes.{AreLive, FiresEachOnce, Head, IsHead, StartsRise, all_strokes, firings_of, make_up_strokes, missing};
-ghost use Rattle.std.specs.Int.{IsGcd};
-ghost use Rattle.std.specs.Prelude.{[], Some, nat_lt, ℕ, ◌<◌, ◌≡◌, ◌∷◌};
-ghost use Rattle.weave_definitions.specs.Weave.{nozzle_row};
+ghost use Rattle.dead_nozzles.specs.Strokes.{AreLive, FiresEachOnce, Head, IsHead, StartsRise, all_strokes, head_rows, make_up_strokes, missing};
+ghost use Rattle.std.specs.List.{AllByRecursion};
+ghost use Rattle.std.specs.Prelude.{[], Some, length, nat_lt, ℕ, ◌+◌, ◌<◌, ◌≡◌, ◌≤◌, ◌∷◌};
+ghost use Rattle.weave_definitions.specs.Weave.{nozzle_row, pass_count};
 
 /// Regular and make-up strokes fire each row of the window exactly once, and no other row.
 pub fn each_row_is_fired_once()
@@ -30,6 +30,18 @@ pub fn live_nozzles_fire()
 /// Each stroke starts below the one before it, so no two start at one place.
 pub fn starts_rise()
     ensures { (h : Head) → IsHead h → StartsRise (all_strokes h) }
+{}
+
+/// Each stroke starts above the end of the window.
+pub fn strokes_start_above_the_end()
+    ensures { (h : Head) → IsHead h → AllByRecursion (λ s. s.start < head_rows h + h.height) (all_strokes h) }
+{}
+
+/// There are no more strokes than passes of the weave and missing rows, and no more missing rows than rows.
+pub fn strokes_are_few()
+    ensures strokes { (h : Head) → IsHead h
+        → length (all_strokes h) ≤ pass_count h.nozzles h.pitch h.height + length (missing h) }
+    ensures rows { (h : Head) → length (missing h) ≤ h.height }
 {}
 
 /// The worked strokes are those of three nozzles, of which the last, the first, or all but the last are dead.

@@ -15,11 +15,13 @@ use Rattle.printer_definitions.specs.declared.inks.InkCounts.{InkCounts}
 abbrev pub dots_of : List Dot → Ink → ℕ
 dots_of dots ink = count_by (λ (d : Dot). same_ink ink d.ink) dots
 
+-- The dots of each ink in a list.
+abbrev pub ink_dots : List Dot → InkCounts
+ink_dots dots = record { k = dots_of dots Black; c = dots_of dots Cyan; m = dots_of dots Magenta; y = dots_of dots Yellow }
+
 -- The dots of each ink in a halftone.
 abbrev pub halftone_dots : Printer → Halftone → InkCounts
-halftone_dots p h =
-    let dots : List Dot = dots_wanted p h in
-    record { k = dots_of dots Black; c = dots_of dots Cyan; m = dots_of dots Magenta; y = dots_of dots Yellow }
+halftone_dots p h = ink_dots (dots_wanted p h)
 
 -- The dots of each ink that a page asks for.
 unfoldable pub page_dots : Page → Printer → Table → InkCounts

@@ -1,5 +1,5 @@
 -- Each dot once, and no other.
-use Rattle.std.specs.Prelude.{◌≡◌, ℕ, if◌then◌else◌, List, count_by}
+use Rattle.std.specs.Prelude.{◌≡◌, if◌then◌else◌, List, count_by}
 use Rattle.std.specs.List.{list_any}
 use Rattle.escp2_definitions.specs.Machine.{Dot, is_at}
 

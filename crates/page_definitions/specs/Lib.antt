@@ -3,3 +3,7 @@ pub mod Exact
 pub mod Strokes
 pub mod PageBytes
 pub mod Printing
+pub mod RasterRows
+pub mod Shingled
+pub mod Healed
+pub mod Ways

@@ -4,9 +4,9 @@ use Rattle.std.specs.List.{AllByRecursion}
 use Rattle.printer_definitions.specs.declared.inks.Ink.{Ink}
 use Rattle.printer_definitions.specs.Printer.{Printer}
 use Rattle.diffusion_definitions.specs.Diffusion.{Table}
-use Rattle.escp2_definitions.specs.Commands.{commands}
+use Rattle.escp2_definitions.specs.Commands.{Entry, commands}
 use Rattle.escp2_definitions.specs.Commands.ListEnd.{Whole}
-use Rattle.escp2_definitions.specs.Machine.{Dot, Machine, Printed, Sheet, execute, execute_from}
+use Rattle.escp2_definitions.specs.Machine.{Dot, Machine, Printed, Sheet, after, execute, execute_from}
 use Rattle.escp2_definitions.specs.Rasters.{ink_rasters}
 use Rattle.page_definitions.specs.Dots.{wanted}
 use Rattle.page_definitions.specs.Exact.{Exactly}
@@ -34,11 +34,17 @@ pub record IsOneSheet (run : Printed) (dots : List Dot) : Type 0 where
   pub is : run ≡ record { sheets = sheet ∷ []; refused = None }
   pub exactly : Exactly sheet.dots dots
 
+-- the state after commands none of which is refused
+abbrev pub state_after : Printer → Machine → List Entry → Machine
+state_after p m [] = m
+state_after p m (entry ∷ entries) = state_after p (after p m entry.command entry.rows) entries
+
 -- The bytes are whole commands, and from any state of the printer without a dot on the sheet they give one sheet with
--- exactly these dots.
+-- exactly these dots, and leave no dot on the next.
 pub record GivesSheet (p : Printer) (bytes : List ℕ) (dots : List Dot) : Type 0 where
   pub whole : (commands bytes).end ≡ Whole
   pub gives : (m : Machine) → m.dots ≡ [] → IsOneSheet (execute_from p m (commands bytes).entries) dots
+  pub leaves : (m : Machine) → m.dots ≡ [] → (state_after p m (commands bytes).entries).dots ≡ []
 
 -- The job of a page has no more rasters of an ink than the head takes passes over the page's window.
 pub record HasPasses (p : Printer) (k : Table) (page : Page) : Type 0 where

@@ -10,11 +10,10 @@ use Rattle.escp2_definitions.specs.declared.command.RasterHead.{RasterHead}
 use Rattle.escp2_definitions.specs.declared.command.Command.{Command}
 use Rattle.escp2_definitions.specs.declared.command.Command.TheVariants as c
 use Rattle.escp2_definitions.specs.Machine.{Dot}
-use Rattle.base_definitions.specs.Packed.{at, packed}
+use Rattle.base_definitions.specs.Packed.{packed}
 use Rattle.escp2_definitions.specs.Written.{Coding, written}
 use Rattle.page_definitions.specs.Dots.{Halftone, dots_wanted, place_of}
 use Rattle.page_definitions.specs.Exact.{Exactly}
-use Rattle.base_definitions.specs.Counting.{count_from}
 
 -- ---- strokes
 

@@ -9,6 +9,7 @@ pub mod Prologue
 pub mod Firing
 pub mod Pages
 pub mod Spelled
+pub mod Left
 pub mod Printed
 pub mod Totals
 pub mod Hits
@@ -16,6 +17,11 @@ pub mod Passes
 pub mod Weaving
 pub mod Headline
 pub mod Rasters
+pub mod RasterRows
+pub mod Halves
+pub mod Shingling
+pub mod Healing
+pub mod WaysKept
 pub mod Planes
 pub mod Lengths
 pub mod Worked

@@ -7,7 +7,7 @@ use Rattle.base_definitions.specs.Packed.{at, packed, packed_bytes, worth}
 use Rattle.escp2_laws.proofs.Reading.{and-left, and-right}
 
 -- the byte of eight bits
-abbrev worths : Bool → Bool → Bool → Bool → Bool → Bool → Bool → Bool → ℕ
+abbrev pub worths : Bool → Bool → Bool → Bool → Bool → Bool → Bool → Bool → ℕ
 worths a b d e f g h i = worth a 128 + worth b 64 + worth d 32 + worth e 16 + worth f 8 + worth g 4 + worth h 2 + worth i 1
 
 -- whether two rows are equal
@@ -34,11 +34,11 @@ same_bits-is (false ∷ xs) (true ∷ ys) e = cc
 same_bits-is (false ∷ xs) (false ∷ ys) e = ap (λ zs. false ∷ zs) (same_bits-is xs ys e)
 
 -- a test of both truth values
-abbrev both : (Bool → Bool) → Bool
+abbrev pub both : (Bool → Bool) → Bool
 both test = test true && test false
 
 -- a test that both truth values pass
-both-at : (test : Bool → Bool) → both test ≡ true → (b : Bool) → test b ≡ true
+pub both-at : (test : Bool → Bool) → both test ≡ true → (b : Bool) → test b ≡ true
 both-at test e true = and-left (test true) (test false) e
 both-at test e false = and-right (test true) (test false) e
 

@@ -36,14 +36,14 @@ no-dot (suc n) zero = refl
 no-dot (suc n) (suc x) = no-dot n x
 
 -- the test finds a blank row blank
-blank : (n : ℕ) → list_any (λ on. on) (replicate n false) ≡ false
+pub blank : (n : ℕ) → list_any (λ on. on) (replicate n false) ≡ false
 blank zero = refl
 blank (suc n) = blank n
 
 -- ---- the rows of a pass
 
 -- a row that is fired is as wide as the window
-fired_row-len : (h : Halftone) (ink : Ink) (row : Option ℕ) → length (fired_row h ink row) ≡ h.width
+pub fired_row-len : (h : Halftone) (ink : Ink) (row : Option ℕ) → length (fired_row h ink row) ≡ h.width
 fired_row-len h ink None = length-replicate {A = Bool} h.width false
 fired_row-len h ink (Some y) = length-map (count_from 0 h.width) (h.dot ink y) ∙ count_from-len 0 h.width
 

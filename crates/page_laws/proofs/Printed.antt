@@ -2,6 +2,7 @@
 use Rattle.std.proofs.Common.{◌≡◌, ℕ, ◌*◌, List, [], ◌∷◌, ◌++◌, map, None, refl, sym, ◌∙◌, ap, subst, append-nil, append_assoc, filter}
 use Rattle.std.specs.List.{AllByRecursion}
 use Rattle.printer_definitions.specs.Printer.{Printer, row_units}
+use Rattle.escp2_definitions.specs.declared.command.Command.TheVariants as c
 use Rattle.escp2_definitions.specs.Commands.{CommandList, commands}
 use Rattle.escp2_definitions.specs.Commands.ListEnd.{Whole}
 use Rattle.escp2_definitions.specs.Machine.{Dot, Printed, Sheet, execute_from}
@@ -11,12 +12,13 @@ use Rattle.escp2_laws.proofs.Jobs.{commands-said}
 use Rattle.separation_definitions.specs.CanPrint.{CanPrint}
 use Rattle.page_definitions.specs.Dots.{Halftone, dots_wanted}
 use Rattle.page_definitions.specs.Exact.{Exactly}
-use Rattle.page_definitions.specs.Printing.{GivesSheet}
-use Rattle.page_definitions.specs.Strokes.{Fires, Spoken, Strokes, bytes_of, fires, page_commands, strokes_bytes}
+use Rattle.page_definitions.specs.Printing.{GivesSheet, state_after}
+use Rattle.page_definitions.specs.Strokes.{Fires, Spoken, Strokes, bytes_of, fires, page_commands, say, strokes_bytes}
 use Rattle.page_laws.specs.Sized.{Sized}
 use Rattle.page_laws.proofs.Once.{exactly-once}
 use Rattle.page_laws.proofs.Running.{IsLayout, Layout, entries, said}
 use Rattle.page_laws.proofs.Firing.{Lies}
+use Rattle.page_laws.proofs.Left.{leaves-none}
 use Rattle.page_laws.proofs.Pages.{all-lie, page-run}
 use Rattle.page_laws.proofs.Spelled.{AllSayable, AllSpoken, page-sayable, sayable-spoken}
 
@@ -100,4 +102,8 @@ strokes-print p h coding strokes tall can is_coding size fire =
                 ∙ ap (λ j. execute_from p m (entries coding.code 0 j)) (sym (append-nil job)) ∙ run.3;
             exactly = subst E (sym run.2) fire.once;
           };
+      leaves = λ m blank.
+          let run = page-run w strokes.list m (say c.Init ∷ []) 0 is blank fire.rising lie (exactly-once _ _ fire.once) in
+          ap (λ (j : CommandList). (state_after p m j.entries).dots) reads
+          ∙ leaves-none p m coding.code job (ap (λ (r : Printed). r.refused) run.3);
     }

@@ -1,6 +1,6 @@
 -- How many rasters of an ink the strokes of a page take.
 use Rattle.std.proofs.Common.{◌≡◌, ℕ, zero, suc, ◌+◌, ◌-◌, ◌*◌, ◌≤◌, Bool, true, false, cond, if◌then◌else◌, List, [], ◌∷◌, ◌++◌}
-use Rattle.std.proofs.Common.{length, refl, ◌∙◌, ap, arith, append_assoc, filter, flat_map}
+use Rattle.std.proofs.Common.{length, refl, sym, ◌∙◌, ap, arith, append_assoc, filter, flat_map}
 use Rattle.std.specs.List.{count_by, sum_by}
 use Rattle.std.proofs.lemmas.List.{length-map}
 use Rattle.std.proofs.lemmas.List.Sums.{count_by-le-length, sum_by-cons}
@@ -12,7 +12,7 @@ use Rattle.printer_definitions.specs.Inks.{inks_of, same_ink}
 use Rattle.printer_definitions.specs.Printer.{Printer, row_units}
 use Rattle.diffusion_definitions.specs.Diffusion.{Table}
 use Rattle.escp2_definitions.specs.declared.command.Command.TheVariants as c
-use Rattle.escp2_definitions.specs.Commands.{CommandList, commands}
+use Rattle.escp2_definitions.specs.Commands.{CommandList, Entry, commands}
 use Rattle.escp2_definitions.specs.Rasters.{colour_after, ink_rasters, ink_rasters_from, raster_count}
 use Rattle.escp2_definitions.specs.Written.{Coding, IsCoding, written}
 use Rattle.separation_definitions.specs.CanPrint.{ArePages, CanPrint}
@@ -180,6 +180,28 @@ strokes-have p h coding strokes tall can is_coding size fire ink =
       entries-rasters ink Black coding.code 0 job,
       page-rasters (layout_of p h coding strokes.above tall) strokes.list ink,
     )
+
+-- all rasters among commands that are to be written
+entries-all : (code : List ℕ → List ℕ) (at : ℕ) (job : List Spoken)
+    → sum_by (λ (e : Entry). raster_count e.command) (entries code at job) ≡ sum_by (λ (s : Spoken). raster_count s.command) job
+entries-all code at [] = refl
+entries-all code at (s ∷ job) =
+    sum_by-cons (λ (e : Entry). raster_count e.command) (record { at = at; command = s.command; rows = s.rows })
+    (entries code (at + length (written code s.command s.rows)) job)
+    ∙ ap (λ n. raster_count s.command + n) (entries-all code (at + length (written code s.command s.rows)) job)
+    ∙ sym (sum_by-cons (λ (s : Spoken). raster_count s.command) s job)
+
+-- The bytes of strokes have as many rasters as their commands.
+pub all-rasters : (p : Printer) (h : Halftone) (coding : Coding) (strokes : Strokes) (tall : ℕ)
+    → CanPrint p → IsCoding coding → Sized p h tall → Fires p h strokes
+    → sum_by (λ (e : Entry). raster_count e.command)
+    (commands (strokes_bytes coding p h.width h.height (tall * row_units p) strokes)).entries
+    ≡ sum_by (λ (s : Spoken). raster_count s.command) (page_commands p h.width h.height coding.c (tall * row_units p) strokes)
+all-rasters p h coding strokes tall can is_coding size fire =
+    let job : List Spoken = page_commands p h.width h.height coding.c (tall * row_units p) strokes in
+    ap (λ (j : CommandList). sum_by (λ (e : Entry). raster_count e.command) j.entries)
+    (read coding job (commands-spoken p h coding tall strokes can is_coding size fire))
+    ∙ entries-all coding.code 0 job
 
 -- A page takes no more rasters of an ink than passes.
 pub page-has : (p : Printer) (k : Table) (page : Page) → CanPrint p → IsPage (wanted_by p) page → HasPasses p k page

@@ -20,7 +20,7 @@ abbrev AllOn : Strokes → Type 0
 AllOn strokes = AllByRecursion (λ stroke. (ink : Ink) → IsOnWindow 2 strokes.above 2 stroke.start (stroke.rows ink)) strokes.list
 
 -- the printer can print
-three-can : CanPrint three_nozzles
+pub three-can : CanPrint three_nozzles
 three-can = record {
   across = inl refl;
   down = inl refl;

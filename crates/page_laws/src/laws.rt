@@ -28,8 +28,8 @@ pub fn wanted_are_distinct()
 {}
 
 /// Strokes that print a halftone give it on one sheet: their bytes are whole commands, the printer takes them from
-/// any state without a dot on the sheet, and the sheet has each dot of the halftone once and no other. The rows of
-/// the rasters are plain or coded (`IsCoding`).
+/// any state without a dot on the sheet, the sheet has each dot of the halftone once and no other, and the next sheet
+/// has none yet. The rows of the rasters are plain or coded (`IsCoding`).
 pub fn strokes_are_printed()
     ensures { (p : Printer) (h : Halftone) (coding : Coding) (strokes : Strokes) (tall : ℕ)
         → CanPrint p → IsCoding coding → Sized p h tall → Fires p h strokes

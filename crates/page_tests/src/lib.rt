@@ -1,8 +1,17 @@
-//! Tests of the writer of pages, and of the interleaved passes that it writes.
+//! Tests of the writer of pages, and of the interleaved and the shingled passes and the strokes of heads with dead nozzles
+//! that it writes.
 #![tactic(auto)]
 
 #[cfg(test)]
 mod checks;
+#[cfg(test)]
+mod healed;
+#[cfg(test)]
+mod making_up;
+#[cfg(test)]
+mod shingled;
+#[cfg(test)]
+mod shingling;
 #[cfg(test)]
 mod weaving;
 #[cfg(test)]

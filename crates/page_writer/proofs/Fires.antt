@@ -87,10 +87,10 @@ rows_begin row nozzles header ink old out left wide fires coded many all begun =
     }
 
 -- one more row is appended
-pub rows_step : (row : ℕ → List Bool) (whole out out' : List ℕ) (nozzle left next : ℕ)
+pub rows_step : {row : ℕ → List Bool} {whole out out' : List ℕ} {nozzle left next : ℕ}
     → RowsSoFar row whole out nozzle left → left ≡ suc next
     → out' ≡ out ++ page_coding.code (packed (row nozzle)) → RowsSoFar row whole out' (nozzle + 1) next
-rows_step row whole out out' nozzle left next so_far more appended =
+rows_step {row} {out} {nozzle} {next} so_far more appended =
     let later : List ℕ = codes_of (map row (count_from (nozzle + 1) next)) in
     record {
       is = so_far.is
@@ -114,9 +114,9 @@ room_one len most left next bytes more room =
     omega (arith, room, rows, ap (λ n. 2 * n * bytes) more)
 
 -- and for the rows after it
-pub room_more : (len len' most left next bytes : ℕ)
+pub room_more : (len len' most : ℕ) {left next : ℕ} (bytes : ℕ)
     → left ≡ suc next → len + 2 * left * bytes ≤ most → len' ≤ len + 2 * bytes → len' + 2 * next * bytes ≤ most
-room_more len len' most left next bytes more room taken =
+room_more len len' most {next} bytes more room taken =
     let rows : 2 * suc next * bytes ≡ 2 * bytes + 2 * next * bytes = omega arith in
     omega (arith, room, taken, rows, ap (λ n. 2 * n * bytes) more)
 

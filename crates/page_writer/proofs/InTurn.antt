@@ -133,13 +133,13 @@ strokes_begin held p width stroke count left all = record {
 }
 
 -- one more stroke is written
-pub strokes_step : (old now now' : Option (List ℕ)) (p : Printer) (width : ℕ) (stroke : ℕ → Stroke)
-    (all : List Spoken) (bytes rasters last at left next behind down : ℕ) (done : PageSum)
+pub strokes_step : {old now now' : Option (List ℕ)} {p : Printer} {width : ℕ} {stroke : ℕ → Stroke}
+    {all : List Spoken} {bytes rasters last at left next behind down : ℕ} (done : PageSum)
     → StrokesSoFar old now p width stroke all bytes rasters last at left
     → left ≡ suc next → Appends now now' (stroke_bytes p width (stroke at) down) → IsStrokeSum p width (stroke at) down done
     → down ≡ (stroke at).start - last → behind ≡ (if nat_lt 0 done.rasters then (stroke at).start else last)
     → StrokesSoFar old now' p width stroke all (bytes + done.bytes) (rasters + done.rasters) behind (at + 1) next
-strokes_step old now now' p width stroke all bytes rasters last at left next behind down done so_far more appended sum down_is there =
+strokes_step {old} {now} {now'} {p} {width} {stroke} {bytes} {rasters} {last} {at} {next} {behind} {down} done so_far more appended sum down_is there =
     let step : NextStroke p width stroke last at next behind =
     next-stroke p width stroke last at next behind (there ∙ ap (λ b. if b then (stroke at).start else last) sum.fire) in
     let out : List ℕ = so_far.sent in
@@ -163,12 +163,12 @@ strokes_step old now now' p width stroke all bytes rasters last at left next beh
     }
 
 -- a stroke was written in part
-pub strokes_part : (old now now' : Option (List ℕ)) (p : Printer) (width : ℕ) (stroke : ℕ → Stroke)
-    (all : List Spoken) (bytes rasters last at left next down : ℕ)
+pub strokes_part : {old now now' : Option (List ℕ)} {p : Printer} {width : ℕ} {stroke : ℕ → Stroke}
+    {all : List Spoken} {bytes rasters last at left next down : ℕ}
     → StrokesSoFar old now p width stroke all bytes rasters last at left
     → left ≡ suc next → down ≡ (stroke at).start - last → AppendsPart now now' (stroke_bytes p width (stroke at) down)
     → AppendsPart old now' (bytes_of page_coding.code all)
-strokes_part old now now' p width stroke all bytes rasters last at left next down so_far more down_is part =
+strokes_part {old} {now} {now'} {p} {width} {stroke} {all} {last} {at} {next} {down} so_far more down_is part =
     let behind : ℕ = if fires p (stroke at) then (stroke at).start else last in
     let step : NextStroke p width stroke last at next behind = next-stroke p width stroke last at next behind refl in
     let out : List ℕ = so_far.sent in
@@ -183,8 +183,8 @@ strokes_part old now now' p width stroke all bytes rasters last at left next dow
     subst P (sym whole) (part_behind old now now' out (text ++ later) so_far.appends (part_of_front now now' text later part))
 
 -- no stroke is left
-pub strokes_end : (old now : Option (List ℕ)) (p : Printer) (width : ℕ) (stroke : ℕ → Stroke)
-    (all : List Spoken) (bytes rasters last at left : ℕ)
+pub strokes_end : {old now : Option (List ℕ)} {p : Printer} {width : ℕ} {stroke : ℕ → Stroke}
+    {all : List Spoken} {bytes rasters last at left : ℕ}
     → StrokesSoFar old now p width stroke all bytes rasters last at left → left ≡ 0
     → record {
       ok : Appends old now (bytes_of page_coding.code all);
@@ -192,7 +192,7 @@ pub strokes_end : (old now : Option (List ℕ)) (p : Printer) (width : ℕ) (str
           ≡ length (bytes_of page_coding.code all);
       rasters : rasters ≡ rasters_in all;
     }
-strokes_end old now p width stroke all bytes rasters last at left so_far none =
+strokes_end {old} {now} {p} {width} {stroke} {all} {bytes} {rasters} {last} {at} so_far none =
     let whole : bytes_of page_coding.code all ≡ so_far.sent =
     so_far.is ∙ ap (λ n. so_far.sent ++ bytes_of page_coding.code (strokes_from p width stroke last at n)) none ∙ append-nil so_far.sent in
     let P : List ℕ → Type 0 = Appends old now in

@@ -75,14 +75,14 @@ lt-add (suc m) n rest =
     ap (λ b. b || (nat_lt 0 n || rest)) (lt-ltb 0 (suc m) (omega arith)) ∙ sym (ap (λ b. b || rest) (lt-ltb 0 (suc m + n) (omega arith)))
 
 -- one more ink is appended
-pub inks_step : (p : Printer) (width : ℕ) (stroke : Stroke) (old out out' : List ℕ)
-    (header : RasterHead) (ink : Ink) (rows : List (List Bool)) (rasters place one : ℕ)
+pub inks_step : {p : Printer} {width : ℕ} {stroke : Stroke} {old out out' : List ℕ}
+    (header : RasterHead) (ink : Ink) (rows : List (List Bool)) {rasters place one : ℕ}
     → InksSoFar p width stroke old out rasters place
     → slice_get (inks_of p.inks) place ≡ Some ink → header ≡ raster_header p width page_coding.c → stroke.rows ink ≡ rows
     → out' ≡ out ++ bytes_of page_coding.code (rows_commands header ink rows)
     → one ≡ rasters_in (rows_commands header ink rows)
     → InksSoFar p width stroke old out' (rasters + one) (place + 1)
-inks_step p width stroke old out out' header ink rows rasters place one so_far is header_is rows_are appended counted =
+inks_step {p} {width} {stroke} {out} header ink rows {rasters} {place} {one} so_far is header_is rows_are appended counted =
     let job : Ink → List Spoken = ink_commands p width page_coding.c stroke in
     let first : job ink ≡ rows_commands header ink rows =
     ap (rows_commands (raster_header p width page_coding.c) ink) rows_are ∙ ap (λ x. rows_commands x ink rows) (sym header_is) in
@@ -118,10 +118,10 @@ drop-all (i ∷ inks) zero all = absurd (omega arith)
 drop-all (i ∷ inks) (suc place) all = drop-all inks place (omega arith)
 
 -- all inks are appended
-pub inks_end : (p : Printer) (width : ℕ) (stroke : Stroke) (old out : List ℕ) (rasters place : ℕ)
+pub inks_end : {p : Printer} {width : ℕ} {stroke : Stroke} {old out : List ℕ} {rasters place : ℕ}
     → InksSoFar p width stroke old out rasters place → length (inks_of p.inks) ≤ place
     → IsStroke p width stroke old out rasters
-inks_end p width stroke old out rasters place so_far all =
+inks_end {p} {width} {stroke} {out} {rasters} {place} so_far all =
     let job : Ink → List Spoken = ink_commands p width page_coding.c stroke in
     let none : drop place (inks_of p.inks) ≡ [] = drop-all (inks_of p.inks) place all in
     record {
@@ -139,9 +139,9 @@ inks_room_one len cap left next most more room =
     let split : suc next * most ≡ most + next * most = omega arith in omega (arith, room, split, ap (λ n. n * most) more)
 
 -- and for those after it
-pub inks_room_more : (len len' cap left next most : ℕ)
+pub inks_room_more : (len len' cap : ℕ) {left next : ℕ} (most : ℕ)
     → left ≡ suc next → len + left * most ≤ cap → len' ≤ len + most → len' + next * most ≤ cap
-inks_room_more len len' cap left next most more room taken =
+inks_room_more len len' cap {next} most more room taken =
     let split : suc next * most ≡ most + next * most = omega arith in omega (arith, room, taken, split, ap (λ n. n * most) more)
 
 -- the bound for the bytes of an ink, from the numbers of its raster

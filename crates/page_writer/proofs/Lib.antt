@@ -7,3 +7,9 @@ pub mod InTurn
 pub mod Whole
 pub mod PassesOver
 pub mod Meaning
+pub mod AtMost
+pub mod EveryOther
+pub mod ShinglesOver
+pub mod ShingledMeaning
+pub mod HealedOver
+pub mod HealedMeaning

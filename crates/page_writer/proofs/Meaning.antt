@@ -1,17 +1,10 @@
 -- What the bytes of a page mean.
-use Rattle.std.proofs.Common.{◌≡◌, ℕ, ◌*◌, ◌≤◌, List, [], length, take, drop, refl, sym, ◌∙◌, ap, arith, append-nil, take-append-drop}
-use Rattle.std.proofs.Common.{Option, None, Some, Result, Ok, Err}
-use Rattle.std.specs.Prelude.{IsErrOf, OnOk}
-use Rattle.std.specs.Io.KnownBytes.{Appends, Keeps}
-use Rattle.weave_base.specs.Parts.{AppendsPart}
-use Rattle.escp2_laws.proofs.Stands.{prefix-rasters}
-use Rattle.page_writer.specs.declared.strokes.WriteStop.{WriteStop}
-use Rattle.page_writer.specs.declared.strokes.WriteStop.TheVariants as stop
+use Rattle.std.proofs.Common.{◌≡◌, ℕ, ◌*◌, ◌≤◌, length, sym, ◌∙◌, ap, arith}
 use Rattle.std.proofs.lemmas.List.{length-map}
 use Rattle.std.proofs.lemmas.List.Sums.{count_by-le-length}
 use Rattle.base_definitions.specs.Counting.{count_from}
 use Rattle.dot_planes.specs.Tables.{DotTable}
-use Rattle.escp2_definitions.specs.Commands.{commands, commands_from}
+use Rattle.escp2_definitions.specs.Commands.{commands}
 use Rattle.escp2_definitions.specs.Rasters.{ink_rasters}
 use Rattle.page_definitions.specs.Dots.{Halftone, dots_wanted}
 use Rattle.page_definitions.specs.PageBytes.{halftone_bytes, page_coding, pass_stroke, weave}
@@ -34,7 +27,7 @@ use Rattle.weave_definitions.specs.Weave.{pass_count}
 use Rattle.page_writer.specs.Heads.{strokes_over}
 use Rattle.page_writer.specs.Shows.{Shows}
 use Rattle.page_writer.specs.StrokeBytes.{head_bytes}
-use Rattle.page_writer.specs.Sums.{AppendsFew, SumsHalftone, SumsStrokes, rasters_in}
+use Rattle.page_writer.specs.Sums.{SumsHalftone, SumsStrokes, rasters_in}
 use Rattle.page_writer.specs.declared.sums.PageSum.{PageSum}
 use Rattle.page_writer.proofs.PassesOver.{passes-same, passes_of}
 
@@ -85,40 +78,3 @@ halftone_passes p t h f can wanted width rows shows ink =
       many,
       ap (pass_count p.nozzles p.pitch) shows.rows_is,
     )
-
--- ---- what was appended
-
--- no bytes have no rasters
-no_rasters : (ink : Ink) (passes : ℕ) → ink_rasters ink (commands []).entries ≤ passes
-unfolding commands_from
-no_rasters ink passes = omega arith
-
--- Whatever the answer, what was appended has as few rasters as the whole page.
-pub appends_few : (p : Printer) (rows : ℕ) (old new : Option (List ℕ)) (whole : List ℕ) (result : Result PageSum WriteStop)
-    → OnOk result (Appends old new whole) → (IsErrOf result stop.Write → AppendsPart old new whole)
-    → (IsErrOf result stop.Memory → Keeps old new)
-    → ((ink : Ink) → ink_rasters ink (commands whole).entries ≤ pass_count p.nozzles p.pitch rows) → AppendsFew p rows old new
-appends_few p rows old new whole (Ok sum) ok part kept few = record { bytes = whole; is = ok; few = few }
-appends_few p rows old new whole (Err stop.Write) ok part kept few =
-    let piece : AppendsPart old new whole = part refl in
-    let front : List ℕ = take piece.len whole in
-    record {
-      bytes = front;
-      is = piece.is;
-      few = λ ink. omega (
-        arith,
-        few ink,
-        prefix-rasters ink front (drop piece.len whole),
-        ap (λ bs. ink_rasters ink (commands bs).entries) (take-append-drop piece.len whole),
-      );
-    }
-appends_few p rows old new whole (Err stop.Memory) ok part kept few = record {
-  bytes = [];
-  is = kept_nothing old new (kept refl);
-  few = λ ink. no_rasters ink (pass_count p.nozzles p.pitch rows);
-}
-  where
-    kept_nothing : (old new : Option (List ℕ)) → Keeps old new → Appends old new []
-    kept_nothing None new is = tt
-    kept_nothing (Some x) None is = absurd is
-    kept_nothing (Some x) (Some y) is = is ∙ sym (append-nil x)

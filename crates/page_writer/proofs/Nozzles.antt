@@ -6,21 +6,21 @@ use Rattle.page_writer.proofs.Dotless.{packed-any}
 use Rattle.base_definitions.specs.Counting.{count_from}
 
 -- a row is packed without a dot
-pub nozzle_blank : (f : ℕ → List Bool) (i left n many : ℕ) (blank : Bool) → left ≡ suc n
+pub nozzle_blank : (f : ℕ → List Bool) (i : ℕ) {left n : ℕ} (many : ℕ) {blank : Bool} → left ≡ suc n
     → list_any (list_any (λ on. on)) (map f (count_from 0 many)) ≡ list_any (list_any (λ on. on)) (map f (count_from i left))
     → blank ≡ list_all (λ byte. byte == 0) (packed (f i)) → blank ≡ true
     → list_any (list_any (λ on. on)) (map f (count_from 0 many)) ≡ list_any (list_any (λ on. on)) (map f (count_from (i + 1) n))
-nozzle_blank f i left n many blank more so_far test none =
+nozzle_blank f i {n} many more so_far test none =
     so_far ∙ ap (λ n. list_any (list_any (λ on. on)) (map f (count_from i n))) more
     ∙ ap (λ t. t || list_any (list_any (λ on. on)) (map f (count_from (i + 1) n))) (packed-any (f i)
     ∙ ap not (sym test ∙ none))
 
 -- a row has a dot
-pub nozzle_fires : (f : ℕ → List Bool) (i left n many : ℕ) (blank : Bool) → left ≡ suc n
+pub nozzle_fires : (f : ℕ → List Bool) (i : ℕ) {left n : ℕ} (many : ℕ) {blank : Bool} → left ≡ suc n
     → list_any (list_any (λ on. on)) (map f (count_from 0 many)) ≡ list_any (list_any (λ on. on)) (map f (count_from i left))
     → blank ≡ list_all (λ byte. byte == 0) (packed (f i)) → blank ≡ false
     → true ≡ list_any (list_any (λ on. on)) (map f (count_from 0 many))
-nozzle_fires f i left n many blank more so_far test some =
+nozzle_fires f i {n} many more so_far test some =
     sym (so_far ∙ ap (λ n. list_any (list_any (λ on. on)) (map f (count_from i n))) more
     ∙ ap (λ t. t || list_any (list_any (λ on. on)) (map f (count_from (i + 1) n))) (packed-any (f i)
     ∙ ap not (sym test ∙ some)))

@@ -1,5 +1,5 @@
 -- The passes of a head as strokes over planes.
-use Rattle.std.proofs.Common.{◌≡◌, ℕ, zero, suc, ◌+◌, ◌-◌, ◌*◌, ◌/◌, ◌<◌, ◌≤◌, ◌^◌, ◌||◌, Bool, true, false, cond, List, [], ◌∷◌, ◌++◌, length, map}
+use Rattle.std.proofs.Common.{◌≡◌, ℕ, zero, suc, ◌+◌, ◌-◌, ◌*◌, ◌/◌, ◌<◌, ◌≤◌, ◌||◌, Bool, true, false, cond, List, [], ◌∷◌, ◌++◌, length, map}
 use Rattle.std.proofs.Common.{filter, replicate, Option, Some, None, refl, sym, ◌∙◌, ap, arith}
 use Rattle.std.specs.Prelude.{slice_get}
 use Rattle.std.specs.List.{AllByRecursion, flat_map, list_any}
@@ -25,9 +25,8 @@ use Rattle.separation_definitions.specs.CanPrint.{CanPrint}
 use Rattle.separation_definitions.specs.Windows.{wanted_by, window_of}
 use Rattle.weave_definitions.specs.Weave.{nozzle_row, pass_count}
 use Rattle.weave_definitions.proofs.Rows.{stands_on}
-use Rattle.weave_plan.specs.Weaving.{Weaving}
 use Rattle.page_writer.specs.Heads.{HeadStrokes, Suits, place_in, stroke_over, stroke_rows, strokes_over}
-use Rattle.page_writer.specs.Passes.{nozzle_plane_row, pass_strokes, plane_row}
+use Rattle.page_writer.specs.Passes.{pass_strokes, plane_row}
 use Rattle.page_writer.specs.Rows.{rows_commands}
 use Rattle.page_writer.specs.Shows.{Shows}
 use Rattle.page_writer.specs.Sums.{halftone_commands}
@@ -40,7 +39,7 @@ passes_of p t = pass_strokes (record { nozzles = p.nozzles; pitch = p.pitch; hei
 -- ---- a head of the printer
 
 -- a row is as wide as its plane
-plane_row-len : (t : DotTable) (place : ℕ) (row : Option ℕ) → length (plane_row t place row) ≡ t.width
+pub plane_row-len : (t : DotTable) (place : ℕ) (row : Option ℕ) → length (plane_row t place row) ≡ t.width
 plane_row-len t place None = length-replicate {A = Bool} t.width false
 plane_row-len t place (Some y) = length-map (count_from 0 t.width) (dot t place y) ∙ count_from-len 0 t.width
 
@@ -88,7 +87,7 @@ passes_suit p t f can wanted width rows inks =
 -- ---- the planes' rows are those of the halftone
 
 -- two tables of numbers agree below a bound
-map-counted : {X : Type 0} (f g : ℕ → X) (n many : ℕ)
+pub map-counted : {X : Type 0} (f g : ℕ → X) (n many : ℕ)
     → ((x : ℕ) → x < n + many → f x ≡ g x) → map f (count_from n many) ≡ map g (count_from n many)
 map-counted f g n zero same = refl
 map-counted f g n (suc many) same =
@@ -96,7 +95,7 @@ map-counted f g n (suc many) same =
     ∙ ap (λ xs. g n ∷ xs) (map-counted f g (n + 1) many (λ x low. same x (omega arith)))
 
 -- a row that a nozzle fires
-plane_row-is : (p : Printer) (t : DotTable) (h : Halftone) (place : ℕ) (ink : Ink)
+pub plane_row-is : (p : Printer) (t : DotTable) (h : Halftone) (place : ℕ) (ink : Ink)
     → Shows p t h → slice_get (inks_of p.inks) place ≡ Some ink
     → (row : Option ℕ) → ((y : ℕ) → row ≡ Some y → y < h.height) → fired_row h ink row ≡ plane_row t place row
 plane_row-is p t h place ink shows is None on = ap (λ n. replicate n false) (sym shows.width_is)
@@ -118,12 +117,12 @@ pass_rows-are p t h place pass ink shows is =
 -- ---- strokes with the same rows
 
 -- Both strokes begin on one row, and fire the same rows of each of these inks.
-record IsSame (inks : List Ink) (a b : Stroke) : Type 0 where
-  start : a.start ≡ b.start
-  rows : AllByRecursion (λ ink. a.rows ink ≡ b.rows ink) inks
+pub record IsSame (inks : List Ink) (a b : Stroke) : Type 0 where
+  pub start : a.start ≡ b.start
+  pub rows : AllByRecursion (λ ink. a.rows ink ≡ b.rows ink) inks
 
 -- what holds at each place of a list of inks
-each-ink : (P : Ink → Type 0) (inks : List Ink)
+pub each-ink : (P : Ink → Type 0) (inks : List Ink)
     → ((place : ℕ) (ink : Ink) → slice_get inks place ≡ Some ink → P ink) → AllByRecursion P inks
 each-ink P [] each = tt
 each-ink P (ink ∷ inks) each = (each 0 ink refl, each-ink P inks (λ place other is. each (suc place) other is))
@@ -145,7 +144,7 @@ same-fires a b (ink ∷ inks) same =
     ∙ ap (λ x. has_dot (b.rows ink) || x) (same-fires a b inks same.1)
 
 -- the commands of such strokes, one after another
-same-strokes : (p : Printer) (width coded : ℕ) (f g : ℕ → Stroke) (last at many : ℕ) → ((s : ℕ) → IsSame (inks_of p.inks) (f s) (g s))
+pub same-strokes : (p : Printer) (width coded : ℕ) (f g : ℕ → Stroke) (last at many : ℕ) → ((s : ℕ) → IsSame (inks_of p.inks) (f s) (g s))
     → strokes_commands p width coded last (filter (fires p) (map f (count_from at many)))
     ≡ strokes_commands p width coded last (filter (fires p) (map g (count_from at many)))
 same-strokes p width coded f g last at zero same = refl

@@ -9,10 +9,10 @@ use Rattle.printer_definitions.specs.Printer.{Printer, row_units}
 use Rattle.page_writer.specs.StrokeBytes.{IsStroke, stroke_bytes}
 
 -- a stroke with a dot: its step down, and its inks
-pub stroke_fires : (p : Printer) (width : ℕ) (stroke : Stroke) (down units rasters : ℕ) (cleared stepped out : List ℕ)
+pub stroke_fires : {p : Printer} {width : ℕ} {stroke : Stroke} (down : ℕ) {units rasters : ℕ} {cleared stepped out : List ℕ}
     → cleared ≡ [] → stepped ≡ cleared ++ bytes_of page_coding.code (down_by units) → units ≡ down * row_units p
     → IsStroke p width stroke stepped out rasters → (rasters ≡ 0 → ⊥) → out ≡ stroke_bytes p width stroke down
-stroke_fires p width stroke down units rasters cleared stepped out clear step is inks some =
+stroke_fires {p} {width} {stroke} down {units} {rasters} clear step is inks some =
     let text : List ℕ = bytes_of page_coding.code (inks_commands p width page_coding.c stroke) in
     let fire : fires p stroke ≡ true = sym inks.fire ∙ lt-ltb 0 rasters (omega (arith, some)) in
     inks.items

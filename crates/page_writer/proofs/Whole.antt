@@ -52,9 +52,9 @@ page_is p width height len strokes length top bottom length_is top_is bottom_is 
 -- ---- what a page leaves in a sink
 
 -- all three were appended
-pub all_appended : (a b d e : Option (List ℕ)) (whole xs ys zs : List ℕ)
+pub all_appended : (a b d e : Option (List ℕ)) {whole : List ℕ} (xs ys zs : List ℕ)
     → whole ≡ xs ++ (ys ++ zs) → Appends a b xs → Appends b d ys → Appends d e zs → Appends a e whole
-all_appended a b d e whole xs ys zs is p q s =
+all_appended a b d e xs ys zs is p q s =
     let P : List ℕ → Type 0 = Appends a e in subst P (sym is) (Appends-trans a b e xs (ys ++ zs) p (Appends-trans b d e ys zs q s))
 
 -- the first was appended in part
@@ -62,15 +62,15 @@ pub first_part : (a b : Option (List ℕ)) (whole xs ys : List ℕ) → whole �
 first_part a b whole xs ys is p = let P : List ℕ → Type 0 = AppendsPart a b in subst P (sym is) (part_of_front a b xs ys p)
 
 -- the second was appended in part
-pub middle_part : (a b d : Option (List ℕ)) (whole xs ys zs : List ℕ)
+pub middle_part : {a b d : Option (List ℕ)} {whole : List ℕ} (xs : List ℕ) {ys : List ℕ} (zs : List ℕ)
     → whole ≡ xs ++ (ys ++ zs) → Appends a b xs → AppendsPart b d ys → AppendsPart a d whole
-middle_part a b d whole xs ys zs is p q =
+middle_part {a} {b} {d} xs {ys} zs is p q =
     let P : List ℕ → Type 0 = AppendsPart a d in subst P (sym is) (part_behind a b d xs (ys ++ zs) p (part_of_front b d ys zs q))
 
 -- the third was appended in part
-pub last_part : (a b d e : Option (List ℕ)) (whole xs ys zs : List ℕ)
+pub last_part : {a : Option (List ℕ)} (b : Option (List ℕ)) {d e : Option (List ℕ)} {whole : List ℕ} (xs ys : List ℕ) {zs : List ℕ}
     → whole ≡ xs ++ (ys ++ zs) → Appends a b xs → Appends b d ys → AppendsPart d e zs → AppendsPart a e whole
-last_part a b d e whole xs ys zs is p q s =
+last_part {a} b {d} {e} xs ys {zs} is p q s =
     let P : List ℕ → Type 0 = AppendsPart a e in subst P (sym is) (part_behind a b e xs (ys ++ zs) p (part_behind b d e ys zs q s))
 
 -- ---- what a page takes
@@ -106,12 +106,12 @@ alone : (cleared out text : List ℕ) → cleared ≡ [] → out ≡ cleared ++ 
 alone cleared out text clear is = is ∙ ap (λ bs. bs ++ text) clear
 
 -- what is written of a buffer that has these bytes alone
-pub appends_alone : (old new : Option (List ℕ)) (bytes cleared out text : List ℕ) → bytes ≡ out → cleared ≡ [] → out ≡ cleared ++ text
+pub appends_alone : (old new : Option (List ℕ)) {bytes cleared out : List ℕ} (text : List ℕ) → bytes ≡ out → cleared ≡ [] → out ≡ cleared ++ text
     → Appends old new bytes → Appends old new text
-appends_alone old new bytes cleared out text same clear is =
+appends_alone old new {cleared} {out} text same clear is =
     let P : List ℕ → Type 0 = Appends old new in subst P (same ∙ alone cleared out text clear is)
 
-pub part_alone : (old new : Option (List ℕ)) (bytes cleared out text : List ℕ) → bytes ≡ out → cleared ≡ [] → out ≡ cleared ++ text
+pub part_alone : {old new : Option (List ℕ)} {bytes cleared out : List ℕ} {text : List ℕ} → bytes ≡ out → cleared ≡ [] → out ≡ cleared ++ text
     → AppendsPart old new bytes → AppendsPart old new text
-part_alone old new bytes cleared out text same clear is =
+part_alone {old} {new} {cleared} {out} {text} same clear is =
     let P : List ℕ → Type 0 = AppendsPart old new in subst P (same ∙ alone cleared out text clear is)

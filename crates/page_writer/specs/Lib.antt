@@ -4,3 +4,6 @@ pub mod Sums
 pub mod Shows
 pub mod Passes
 pub mod StrokeBytes
+pub mod AtMost
+pub mod Shingles
+pub mod Healed

@@ -1,13 +1,11 @@
 -- The size of a page's job.
-use Rattle.std.specs.Prelude.{◌≡◌, ℕ, ◌+◌, ◌*◌, ◌/◌, ◌≤◌, List, [], ◌∷◌, length, Option}
-use Rattle.std.specs.Io.KnownBytes.{Appends}
-use Rattle.escp2_definitions.specs.Commands.{commands}
-use Rattle.escp2_definitions.specs.Rasters.{ink_rasters, raster_count}
+use Rattle.std.specs.Prelude.{◌≡◌, ℕ, ◌+◌, ◌*◌, ◌/◌, List, [], ◌∷◌, length, Option}
+use Rattle.escp2_definitions.specs.Rasters.{raster_count}
 use Rattle.page_definitions.specs.Dots.{Halftone}
 use Rattle.page_definitions.specs.PageBytes.{halftone_bytes, page_coding, weave}
 use Rattle.page_definitions.specs.Strokes.{Spoken, Strokes, page_commands, strokes_bytes}
+use Rattle.page_writer.specs.AtMost.{AppendsAtMost}
 use Rattle.page_writer.specs.declared.sums.PageSum.{PageSum}
-use Rattle.printer_definitions.specs.declared.inks.Ink.{Ink}
 use Rattle.printer_definitions.specs.Inks.{inks_of}
 use Rattle.printer_definitions.specs.Printer.{Printer}
 use Rattle.weave_definitions.specs.Weave.{pass_count}
@@ -44,7 +42,5 @@ abbrev pub most_of_page : Printer → ℕ → ℕ → ℕ
 most_of_page p width height = 49 + pass_count p.nozzles p.pitch height * most_of_pass p width
 
 -- What was appended has no more rasters of an ink than the head has passes over this many rows.
-pub record AppendsFew (p : Printer) (rows : ℕ) (old new : Option (List ℕ)) : Type 0 where
-  pub bytes : List ℕ
-  pub is : Appends old new bytes
-  pub few : (ink : Ink) → ink_rasters ink (commands bytes).entries ≤ pass_count p.nozzles p.pitch rows
+abbrev pub AppendsFew : Printer → ℕ → Option (List ℕ) → Option (List ℕ) → Type 0
+AppendsFew p rows old new = AppendsAtMost (pass_count p.nozzles p.pitch rows) old new

@@ -13,7 +13,7 @@ pub fn shingle_fits(nozzles: u8, pitch: u8) -> bool
 }
 
 /// The greatest common divisor, by Euclid's algorithm; 0 of two zeros.
-fn greatest_common_divisor(first: u8, second: u8) -> u8
+pub fn greatest_common_divisor(first: u8, second: u8) -> u8
     ensures { IsGcd first second result }
 {
     let mut larger = first;

@@ -2,19 +2,17 @@
 //! so that no row depends on a single nozzle.
 //!
 //! `shingle_fits` is exactly the test of the heads that can. `ShinglePlan::make` asks for such a head. `passes` is
-//! exactly the count, and `row` exactly the row that a nozzle fires in a pass, `None` where it fires nothing;
-//! `fires_even` says which columns it fires. `each_row_is_fired_twice` is the law: each row of a window is fired once at
-//! its even columns and once at its odd ones, and no other row is fired. `specs/Shingles.antt` has the definitions. No
-//! call takes memory.
+//! exactly the count, `first_row` exactly where a pass begins, and `row` exactly the row that a nozzle fires in a pass,
+//! `None` where it fires nothing; `fires_even` says which columns it fires. `each_row_is_fired_twice` is the law: each
+//! row of a window is fired once at its even columns and once at its odd ones, and no other row is fired.
+//! `specs/Shingles.antt` has the definitions. No call takes memory.
 #![tactic(auto)]
 
 mod fits;
 mod laws;
 mod plan;
-#[cfg(test)]
-mod tests;
 
-pub use fits::shingle_fits;
+pub use fits::{greatest_common_divisor, shingle_fits};
 pub use laws::{
     each_row_is_fired_twice, five_nozzles_are_worked, three_nozzles_are_worked,
     two_nozzles_are_worked,

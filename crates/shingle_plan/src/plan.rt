@@ -1,8 +1,8 @@
 //! A plan of shingled passes answers which row a nozzle fires in a pass, and at which columns.
 ghost use Rattle.base_definitions.specs.Limits.{most_rows};
 ghost use Rattle.shingle_plan.specs.Fits.{Shingles};
-ghost use Rattle.shingle_plan.specs.Shingles.{fires_even, rows_above, shingle_count, shingle_row};
-ghost use Rattle.std.specs.Prelude.{◌<◌, ◌≡◌, ◌≤◌};
+ghost use Rattle.shingle_plan.specs.Shingles.{fires_even, half, rows_above, shingle_count, shingle_row};
+ghost use Rattle.std.specs.Prelude.{◌*◌, ◌<◌, ◌≡◌, ◌≤◌};
 
 use std::marker::Model;
 
@@ -54,6 +54,14 @@ impl ShinglePlan {
         ensures { result ≡ rows_above self.now.nozzles self.now.pitch }
     {
         (2 * u32::from(self.nozzles / 2) - 1) * u32::from(self.pitch)
+    }
+
+    /// The row of the first nozzle in a pass, counted from where it is in the first pass.
+    pub fn first_row(&self, pass: u32) -> u32
+        requires { pass < shingle_count self.now.nozzles self.now.pitch self.now.height }
+        ensures { result ≡ pass * half self.now.nozzles }
+    {
+        pass * u32::from(self.nozzles / 2)
     }
 
     /// The row of the window that a nozzle fires in a pass, counted from the top, or `None` where the nozzle is above

@@ -50,12 +50,12 @@ rows-preserved g k =
     let taken : vec_len k.append_fired.new.out ≤ vec_len k.rows.out + 2 * ((k.args.header.n + 7) / 8) =
     omega (arith, k.append_fired.ensures.most, ap (λ n. (n + 7) / 8) k.requires.columns) in
     record {
-      so_far = rows_step _ _ _ _ _ _ _ k.rows.invariant.so_far left k.append_fired.ensures.items;
+      so_far = rows_step k.rows.invariant.so_far left k.append_fired.ensures.items;
       space = let space : vec_len k.append_fired.new.out
           + 2 * (k.args.header.m - (k.rows.nozzle + 1)) * ((k.args.header.n + 7) / 8) ≤ vec_capacity k.rows.out =
-          room_more _ _ _ _ _ _ left k.rows.invariant.space taken in
+          room_more _ _ _ _ left k.rows.invariant.space taken in
           omega (arith, space, k.append_fired.ensures.capacity);
-      most = room_more _ _ _ _ _ _ left k.rows.invariant.most taken;
+      most = room_more _ _ _ _ left k.rows.invariant.most taken;
       capacity = omega (arith, k.rows.invariant.capacity, k.append_fired.ensures.capacity);
     }
 

@@ -1,9 +1,8 @@
 use Rattle.std.proofs.Common.{◌≡◌, ℕ, ◌*◌, List, subst, sym, ◌∙◌, ap}
 use Rattle.std.specs.Io.KnownBytes.{Appends}
-use Rattle.std.specs.Prelude.{IsErrOf, IsOk, OnOk}
+use Rattle.std.specs.Prelude.{IsOk, OnOk}
 use Rattle.std.proofs.lemmas.Result.{IfOk-weaker}
 use Rattle.dot_planes.specs.Tables.{DotTable}
-use Rattle.page_definitions.specs.Dots.{Halftone}
 use Rattle.page_definitions.specs.PageBytes.{halftone_bytes}
 use Rattle.printer_definitions.specs.Printer.{Printer, row_units}
 use Rattle.printer_profile.specs.Validity.{check}
@@ -12,11 +11,10 @@ use Rattle.weave_base.specs.Parts.{AppendsPart}
 use Rattle.weave_plan.specs.Weaving.{Weaving}
 use Rattle.page_writer.specs.Heads.{Suits, strokes_over}
 use Rattle.page_writer.specs.Passes.{pass_strokes}
-use Rattle.page_writer.specs.Shows.{Shows}
 use Rattle.page_writer.specs.StrokeBytes.{head_bytes}
 use Rattle.page_writer.specs.Sums.{SumsStrokes}
-use Rattle.page_writer.specs.declared.strokes.WriteStop.TheVariants as stop
-use Rattle.page_writer.proofs.Meaning.{appends_few, bytes_are, halftone_passes, halftone_prints, sums_are}
+use Rattle.page_writer.proofs.AtMost.{appends_at_most}
+use Rattle.page_writer.proofs.Meaning.{bytes_are, halftone_passes, halftone_prints, sums_are}
 use Rattle.page_writer.proofs.PassesOver.{passes_suit}
 use Rattle.page_writer.proofs.page.write_page.Goals as goal
 
@@ -90,5 +88,5 @@ returns-clause-passes g c = λ h shows ink.
 
 pub returns-clause-few : goal.returns-clause-few
 returns-clause-few g c = λ h shows.
-    appends_few _ _ _ _ _ c.write_strokes.result (returns-clause-ok g c h shows) (returns-clause-part g c h shows)
+    appends_at_most _ _ _ _ c.write_strokes.result (returns-clause-ok g c h shows) (returns-clause-part g c h shows)
     c.write_strokes.ensures.memory (returns-clause-passes g c h shows)

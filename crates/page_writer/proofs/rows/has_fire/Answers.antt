@@ -7,13 +7,13 @@ pub returns-then-not-fires_blank : goal.returns-then-not-fires_blank
 returns-then-not-fires_blank g c =
     let head : HeadStrokes = g.H.Head.strokes c.args.head.now in
     let left : head.nozzles - c.loop-nozzle.nozzle ≡ suc (head.nozzles - (c.loop-nozzle.nozzle + 1)) = omega (arith, c.requires.nozzles) in
-    nozzle_fires _ _ _ _ _ _ left c.loop-nozzle.invariant c.fires_blank.ensures c.if-not-fires_blank.true
+    nozzle_fires _ _ _ left c.loop-nozzle.invariant c.fires_blank.ensures c.if-not-fires_blank.true
 
 pub loop-nozzle-preserved : goal.loop-nozzle-preserved
 loop-nozzle-preserved g c =
     let head : HeadStrokes = g.H.Head.strokes c.args.head.now in
     let left : head.nozzles - c.loop-nozzle.nozzle ≡ suc (head.nozzles - (c.loop-nozzle.nozzle + 1)) = omega (arith, c.requires.nozzles) in
-    nozzle_blank _ _ _ _ _ _ left c.loop-nozzle.invariant c.fires_blank.ensures c.if-not-fires_blank.false
+    nozzle_blank _ _ _ left c.loop-nozzle.invariant c.fires_blank.ensures c.if-not-fires_blank.false
 
 pub returns : goal.returns
 returns g c =

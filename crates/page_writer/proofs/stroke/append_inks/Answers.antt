@@ -43,8 +43,8 @@ inks-preserved g c =
     let ink : slice_get (inks_of c.args.p.now.inks) c.inks.place ≡ Some c.at-ink.result =
     ap (λ (p : Printer). slice_get (inks_of p.inks) c.inks.place) (sym c.p.view_is) ∙ c.at-ink.ensures in
     record {
-      so_far = inks_step _ _ _ _ _ _ c.raster_header-header.result c.at-ink.result
-          (stroke_rows (g.H.Head.strokes c.args.head.now) c.args.planes.now c.args.stroke c.inks.place) _ _ _
+      so_far = inks_step c.raster_header-header.result c.at-ink.result
+          (stroke_rows (g.H.Head.strokes c.args.head.now) c.args.planes.now c.args.stroke c.inks.place)
           c.inks.invariant.so_far ink
           (c.raster_header-header.ensures ∙ ap (λ n. raster_header c.args.p.now n page_coding.c) c.width.ensures)
           (ap (stroke_rows (g.H.Head.strokes c.args.head.now) c.args.planes.now c.args.stroke)
@@ -53,11 +53,11 @@ inks-preserved g c =
       few = omega (arith, c.inks.invariant.few, c.append_ink-rasters.ensures.few);
       space = let space : vec_len c.append_ink-rasters.new.out + (c.args.planes.now.inks - (c.inks.place + 1))
           * (12 + 2 * c.args.p.now.nozzles * ((c.args.planes.now.width + 7) / 8)) ≤ vec_capacity c.inks.out =
-          inks_room_more _ _ _ _ _ _ left c.inks.invariant.space taken in omega (arith, space, c.append_ink-rasters.ensures.capacity);
-      most = inks_room_more _ _ _ _ _ _ left c.inks.invariant.most taken;
+          inks_room_more _ _ _ _ left c.inks.invariant.space taken in omega (arith, space, c.append_ink-rasters.ensures.capacity);
+      most = inks_room_more _ _ _ _ left c.inks.invariant.most taken;
       capacity = omega (arith, c.inks.invariant.capacity, c.append_ink-rasters.ensures.capacity);
     }
 
 pub returns-clause-inks : goal.returns-clause-inks
-returns-clause-inks g c = inks_end _ _ _ _ _ _ _ c.inks.invariant.so_far
+returns-clause-inks g c = inks_end c.inks.invariant.so_far
     (omega (arith, c.requires.suits.inks, c.inks-test.false, c.inks-place-end.ensures))

@@ -17,7 +17,7 @@ returns-in_err-put_all-clause-part g c =
     c.sheet_of.ensures.length (c.sheet_of.ensures.top ∙ ap (λ n. (p.top - n) * row_units p) c.above.ensures)
     (c.sheet_of.ensures.bottom ∙ ap (λ n. (p.top + n) * row_units p) (sym c.requires.rows)) in
     on_err_anyway _ (first_part _ _ _ _ _ whole
-    (part_alone _ _ _ _ _ _ c.deref.ensures.value c.requires.empty c.append_prologue.ensures.items c.in_err-put_all.ensures.part))
+    (part_alone c.deref.ensures.value c.requires.empty c.append_prologue.ensures.items c.in_err-put_all.ensures.part))
 
 pub returns-in_err-strokes-clause-part : goal.returns-in_err-strokes-clause-part
 returns-in_err-strokes-clause-part g c =
@@ -26,9 +26,9 @@ returns-in_err-strokes-clause-part g c =
     let whole = page_is p c.args.planes.now.width c.args.planes.now.rows (c.args.f.height * row_units p) strokes _ _ _
     c.sheet_of.ensures.length (c.sheet_of.ensures.top ∙ ap (λ n. (p.top - n) * row_units p) c.above.ensures)
     (c.sheet_of.ensures.bottom ∙ ap (λ n. (p.top + n) * row_units p) (sym c.requires.rows)) in
-    let begun = appends_alone _ _ _ _ _ _ c.deref.ensures.value c.requires.empty c.append_prologue.ensures.items
+    let begun = appends_alone _ _ _ c.deref.ensures.value c.requires.empty c.append_prologue.ensures.items
     c.in_ok-put_all.ensures.ok in
-    on_err_anyway _ (middle_part _ _ _ _ _ _ _ whole begun c.in_err-strokes.ensures.part)
+    on_err_anyway _ (middle_part _ _ whole begun c.in_err-strokes.ensures.part)
 
 pub returns-in_err-put_all-2-clause-part : goal.returns-in_err-put_all-2-clause-part
 returns-in_err-put_all-2-clause-part g c =
@@ -37,10 +37,10 @@ returns-in_err-put_all-2-clause-part g c =
     let whole = page_is p c.args.planes.now.width c.args.planes.now.rows (c.args.f.height * row_units p) strokes _ _ _
     c.sheet_of.ensures.length (c.sheet_of.ensures.top ∙ ap (λ n. (p.top - n) * row_units p) c.above.ensures)
     (c.sheet_of.ensures.bottom ∙ ap (λ n. (p.top + n) * row_units p) (sym c.requires.rows)) in
-    let begun = appends_alone _ _ _ _ _ _ c.deref.ensures.value c.requires.empty c.append_prologue.ensures.items
+    let begun = appends_alone _ _ _ c.deref.ensures.value c.requires.empty c.append_prologue.ensures.items
     c.in_ok-put_all.ensures.ok in
-    on_err_anyway _ (last_part _ _ _ _ _ _ _ _ whole begun c.in_ok-strokes.ensures.ok
-    (part_alone _ _ _ _ _ _ c.deref-2.ensures.value c.clear.ensures.items c.append_end.ensures.items c.in_err-put_all-2.ensures.part))
+    on_err_anyway _ (last_part _ _ _ whole begun c.in_ok-strokes.ensures.ok
+    (part_alone c.deref-2.ensures.value c.clear.ensures.items c.append_end.ensures.items c.in_err-put_all-2.ensures.part))
 
 pub returns-clause-ok : goal.returns-clause-ok
 returns-clause-ok g c =
@@ -49,10 +49,11 @@ returns-clause-ok g c =
     let whole = page_is p c.args.planes.now.width c.args.planes.now.rows (c.args.f.height * row_units p) strokes _ _ _
     c.sheet_of.ensures.length (c.sheet_of.ensures.top ∙ ap (λ n. (p.top - n) * row_units p) c.above.ensures)
     (c.sheet_of.ensures.bottom ∙ ap (λ n. (p.top + n) * row_units p) (sym c.requires.rows)) in
-    let begun = appends_alone _ _ _ _ _ _ c.deref.ensures.value c.requires.empty c.append_prologue.ensures.items
+    let begun = appends_alone _ _ _ c.deref.ensures.value c.requires.empty c.append_prologue.ensures.items
     c.in_ok-put_all.ensures.ok in
-    all_appended _ _ _ _ _ _ _ _ whole begun c.in_ok-strokes.ensures.ok
-    (appends_alone _ _ _ _ _ _ c.deref-2.ensures.value c.clear.ensures.items c.append_end.ensures.items c.in_ok-put_all-2.ensures.ok)
+    let held = g.K.Sink.held in
+    all_appended (held c.args.k.now) (held c.put_all.new.k) (held c.put_strokes.new.k) (held c.put_all-2.new.k) _ _ _ whole begun c.in_ok-strokes.ensures.ok
+    (appends_alone _ _ _ c.deref-2.ensures.value c.clear.ensures.items c.append_end.ensures.items c.in_ok-put_all-2.ensures.ok)
 
 pub returns-clause-sum : goal.returns-clause-sum
 returns-clause-sum g c =

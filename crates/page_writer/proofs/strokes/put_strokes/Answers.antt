@@ -41,7 +41,7 @@ returns-in_err-done-clause-part g c =
     let head : HeadStrokes = g.H.Head.strokes c.args.head.now in
     let left : head.count - c.strokes.stroke ≡ suc (head.count - (c.strokes.stroke + 1)) =
     omega (arith, c.strokes-test.true, c.count-stroke-end.ensures) in
-    on_err_anyway _ (strokes_part _ _ _ _ _ _ _ _ _ _ _ _ _ _ c.strokes.invariant.so_far left
+    on_err_anyway _ (strokes_part c.strokes.invariant.so_far left
     (ap (λ n. n - c.strokes.last) c.start-begin.ensures) c.in_err-done.ensures.part)
 
 pub overflow_add-sum : goal.overflow_add-sum
@@ -60,7 +60,7 @@ strokes-preserved g c =
     let low : c.strokes.stroke < head.count = omega (arith, c.strokes-test.true, c.count-stroke-end.ensures) in
     let left : head.count - c.strokes.stroke ≡ suc (head.count - (c.strokes.stroke + 1)) = omega (arith, low) in
     record {
-      so_far = strokes_step _ _ _ _ _ _ _ _ _ _ _ _ _ _ _ c.in_ok-done.done c.strokes.invariant.so_far left
+      so_far = strokes_step c.in_ok-done.done c.strokes.invariant.so_far left
           c.in_ok-done.ensures.ok c.in_ok-done.ensures.sum (ap (λ n. n - c.strokes.last) c.start-begin.ensures)
           (c.head_after-last.ensures
           ∙ ap (λ n. if nat_lt 0 c.in_ok-done.done.rasters then n else c.strokes.last) c.start-begin.ensures);
@@ -78,19 +78,19 @@ pub returns-clause-ok : goal.returns-clause-ok
 returns-clause-ok g c =
     let head : HeadStrokes = g.H.Head.strokes c.args.head.now in
     let none : head.count - c.strokes.stroke ≡ 0 = omega (arith, c.strokes-test.false, c.count-stroke-end.ensures) in
-    (strokes_end _ _ _ _ _ _ _ _ _ _ _ c.strokes.invariant.so_far none).ok
+    (strokes_end c.strokes.invariant.so_far none).ok
 
 pub returns-clause-bytes : goal.returns-clause-bytes
 returns-clause-bytes g c =
     let head : HeadStrokes = g.H.Head.strokes c.args.head.now in
     let none : head.count - c.strokes.stroke ≡ 0 = omega (arith, c.strokes-test.false, c.count-stroke-end.ensures) in
-    (strokes_end _ _ _ _ _ _ _ _ _ _ _ c.strokes.invariant.so_far none).bytes
+    (strokes_end c.strokes.invariant.so_far none).bytes
 
 pub returns-clause-rasters : goal.returns-clause-rasters
 returns-clause-rasters g c =
     let head : HeadStrokes = g.H.Head.strokes c.args.head.now in
     let none : head.count - c.strokes.stroke ≡ 0 = omega (arith, c.strokes-test.false, c.count-stroke-end.ensures) in
-    (strokes_end _ _ _ _ _ _ _ _ _ _ _ c.strokes.invariant.so_far none).rasters
+    (strokes_end c.strokes.invariant.so_far none).rasters
 
 pub returns-clause-most : goal.returns-clause-most
 returns-clause-most g c = strokes_few _ _ _ _ c.strokes.invariant.bytes

@@ -3,15 +3,9 @@ ghost use Rattle.base_definitions.specs.Limits.{most_rows};
 ghost use Rattle.shingle_plan.specs.Fits.{Shingles};
 ghost use Rattle.std.specs.Prelude.{◌≡◌, ◌≤◌};
 
-use crate::fits::shingle_fits;
-use crate::plan::ShinglePlan;
-use std::fmt::Debug;
+use crate::checks::same;
+use shingle_plan::{ShinglePlan, shingle_fits};
 use std::process::Abort;
-
-/// Stops the test where a call did not give what was wanted.
-fn same<T: PartialEq + Debug>(rt: &impl Abort, at: &str, got: &T, want: &T) {
-    assert_eq!(rt; *got, *want, "at {at}");
-}
 
 #[test]
 fn heads_fit_by_half_their_nozzles(rt: HostRuntime) {

@@ -1,0 +1,257 @@
+-- The starts of all strokes: where they begin, how they step, and where they end; and how many strokes there are.
+use Rattle.std.proofs.Common.{◌≡◌, ℕ, zero, suc, ◌+◌, ◌-◌, ◌*◌, ◌<◌, ◌≤◌, Bool, true, false, cond, not, ◌&&◌, inl, inr}
+use Rattle.std.proofs.Common.{List, [], ◌∷◌, ◌++◌, length, map, Option, None, Some, refl, sym, ◌∙◌, ap, subst, arith, nat_le, append-nil, get_or}
+use Rattle.std.proofs.Math.Nat.{div-le_self, mul-le-mul}
+use Rattle.std.proofs.lemmas.Bool.{cases_lt}
+use Rattle.std.proofs.lemmas.List.{get_or-map, get_or_past, length-map}
+use Rattle.std.proofs.lemmas.List.Elements.{All-from_recursion}
+use Rattle.std.proofs.lemmas.List.Sums.{count_by-le-length, length-filter}
+use Rattle.std.specs.List.{AllByRecursion, filter}
+use Rattle.base_definitions.specs.Counting.{count_from}
+use Rattle.weave_definitions.specs.Weave.{pass_count}
+use Rattle.dead_nozzles.specs.Dead.{has, least_live}
+use Rattle.dead_nozzles.specs.Plans.{ArePassOwners, Begins, IsStrokePlan, IsWorn, Owns, is_free, owner, row_of, stroke_in}
+use Rattle.dead_nozzles.specs.Plans.Begins.{a_make_up, a_pass, nothing}
+use Rattle.dead_nozzles.specs.Strokes.{Head, IsHead, StartsRise, Stroke, all_strokes, firings_of, head_rows, insert, is_fired, inserted, left_by, made_up, made_up_by, make_up_stroke}
+use Rattle.dead_nozzles.specs.Strokes.{make_up_strokes, missing, regular_strokes, row_under, stroke_at}
+use Rattle.dead_nozzles.proofs.Firing.{Over, over}
+use Rattle.dead_nozzles.proofs.Lists.{all-has, all-map, all-mapped}
+use Rattle.dead_nozzles.proofs.MakeUp.{Maker, missing-low, reach}
+use Rattle.dead_nozzles.proofs.Making.{scan-made}
+use Rattle.dead_nozzles.proofs.RowsOf.{stroke-row, wanted_row}
+use Rattle.dead_nozzles.proofs.Scanning.{Scan, free-past, free_from, pass-begins, passes_from, row_at, scan-nothing, scan-pass}
+use Rattle.dead_nozzles.proofs.Starts.{StartsAt, all-inserted, made-starts}
+use Rattle.dead_nozzles.proofs.Taking.{missing-free, pass-owner, passes-own}
+
+-- ---- the first start
+
+pub scan-begin : (h : Head) (j : ℕ) (owners : List (Option ℕ)) → IsHead h → Maker h j → least_live h.nozzles h.dead ≡ Some j
+    → ArePassOwners h owners → Scan h j 0 owners []
+scan-begin h j owners is m e are =
+    let at : row_at h j 0 ≡ 0 = omega (arith, reach h j m) in
+    let rows : missing h ≡ free_from h owners (row_at h j 0) = missing-free h owners is are
+    ∙ ap (λ n. filter (λ y. is_free (owner owners y)) (count_from 0 n)) (let same : h.height ≡ h.height - 0 = omega arith in same)
+    ∙ sym (ap (free_from h owners) at) in
+    record {
+      done = [];
+      next = 0;
+      left = pass_count h.nozzles h.pitch h.height;
+      most = length (missing h);
+      rows = are.rows;
+      passes = omega arith;
+      above = omega arith;
+      near = omega (arith, is.some_nozzles);
+      all = ap (λ o. inserted (made_up_by h o) (regular_strokes h)) e
+          ∙ ap (λ ys. inserted (made_up h j (length (missing h)) ys) (regular_strokes h)) rows;
+      enough = omega (arith, ap length rows);
+      starts_are = refl;
+      own = tt;
+      higher = tt;
+      owned = λ row less low. absurd (omega (arith, less, at));
+      of_passes = passes-own h owners is are;
+      before = λ row k low its. inr (pass-owner h owners are row k low its);
+    }
+
+-- ---- the next one
+
+pub scan-step : (h : Head) (j start : ℕ) (old new : List (Option ℕ)) (starts : List ℕ) (begins : Bool) → Maker h j → 1 ≤ h.nozzles
+    → start < head_rows h + h.height → Begins h j start old new begins → Scan h j start old starts
+    → Scan h j (start + 1) new (cond begins (starts ++ start ∷ []) starts)
+scan-step h j start old new starts true m some low (a_pass t e same) s =
+    subst (λ owners. Scan h j (start + 1) owners (starts ++ start ∷ [])) (sym same) (scan-pass h j start old starts t m some low e s)
+scan-step h j start old new starts true m some low (a_make_up row u free takes) s =
+    scan-made h j start row old new starts (record { maker = m; under = u; none = free; of_passes = s.of_passes; takes = takes }) s
+scan-step h j start old new starts false m some low (nothing apart taken same) s =
+    subst (λ owners. Scan h j (start + 1) owners starts) (sym same) (scan-nothing h j start old starts apart taken s)
+
+-- ---- past the last one
+
+nothing-left : (h : Head) (j most : ℕ) → made_up h j most [] ≡ []
+nothing-left h j zero = refl
+nothing-left h j (suc most) = refl
+
+pub scan-end : (h : Head) (j start : ℕ) (owners : List (Option ℕ)) (starts : List ℕ) → IsHead h → IsWorn h.nozzles h.pitch h.height
+    → head_rows h + h.height ≤ start → Scan h j start owners starts → IsStrokePlan h starts owners
+scan-end h j start owners starts is worn past s = record {
+  head = is;
+  worn = worn;
+  starts_are = s.starts_are ∙ ap (map (λ (d : Stroke). d.start)) (sym all);
+  rows = s.rows;
+  own = subst (AllByRecursion (Owns h owners)) (sym all) s.own;
+}
+  where
+    none : s.left ≡ 0
+    none = by_left s.left refl
+      where
+        by_left : (n : ℕ) → s.left ≡ n → n ≡ 0
+        by_left zero e = refl
+        by_left (suc n) e =
+            absurd (omega (arith, s.above, past, pass-begins h s.next is.some_nozzles (omega (arith, s.passes, e))))
+
+    all : all_strokes h ≡ s.done
+    all =
+        s.all
+        ∙ ap (λ ys. s.done ++ inserted (made_up h j s.most ys) (passes_from h s.next s.left)) (free-past h owners (row_at h j start) (omega (arith, past)))
+        ∙ ap (λ ss. s.done ++ inserted ss (passes_from h s.next s.left)) (nothing-left h j s.most)
+        ∙ ap (λ n. s.done ++ passes_from h s.next n) none
+        ∙ append-nil s.done
+
+-- ---- which strokes they are
+
+-- A stroke in which live nozzles fire the rows under them that are wanted.
+pub record IsStrokeAt (h : Head) (s : Stroke) : Type 0 where
+  pub wanted : ℕ → Bool
+  pub start : ℕ
+  pub is : s ≡ stroke_at h wanted start
+
+made-are : (h : Head) (j most : ℕ) (rows : List ℕ) → AllByRecursion (IsStrokeAt h) (made_up h j most rows)
+made-are h j zero rows = tt
+made-are h j (suc most) [] = tt
+made-are h j (suc most) (row ∷ rows) = (
+  record { wanted = has (row ∷ rows); start = row + head_rows h - j * h.pitch; is = refl },
+  made-are h j most (left_by (make_up_stroke h j row (row ∷ rows)).shots (row ∷ rows)),
+)
+
+-- all strokes are
+pub all-are : (h : Head) → IsHead h → AllByRecursion (IsStrokeAt h) (all_strokes h)
+all-are h is =
+    all-inserted (IsStrokeAt h) (make_up_strokes h) (regular_strokes h)
+    (subst (λ o. AllByRecursion (IsStrokeAt h) (made_up_by h o)) (sym is.is_live) (made-are h is.live (length (missing h)) (missing h)))
+    (all-mapped (IsStrokeAt h) (λ t. stroke_at h (λ row. true) (t * h.nozzles)) 0 (pass_count h.nozzles h.pitch h.height)
+    (λ t from below. record { wanted = λ row. true; start = t * h.nozzles; is = refl }))
+
+-- the row of a nozzle is under it
+pub row-over : (h : Head) (s : Stroke) (i y : ℕ) → i < h.nozzles → IsStrokeAt h s → row_of s.shots i ≡ Some y → Over h s.start i y
+row-over h s i y few shape e =
+    subst (λ (s : Stroke). Over h s.start i y) (sym shape.is)
+    (by_row (row_under h shape.start i) refl
+    (sym (stroke-row h shape.wanted shape.start i few) ∙ ap (λ (s : Stroke). row_of s.shots i) (sym shape.is) ∙ e))
+  where
+    by_test : (row : ℕ) (b : Bool) → row_under h shape.start i ≡ Some row → cond b (Some row) None ≡ Some y → Over h shape.start i y
+    by_test row true u same = over h shape.start i y (u ∙ same)
+    by_test row false u same = cc
+
+    by_row : (r : Option ℕ) → row_under h shape.start i ≡ r → wanted_row h shape.wanted i r ≡ Some y → Over h shape.start i y
+    by_row None u same = cc
+    by_row (Some row) u same = by_test row (not (has h.dead i) && shape.wanted row) u same
+
+-- ---- how far down, and how many
+
+-- each stroke starts above the end of the window
+pub all-low : (h : Head) → IsHead h → AllByRecursion (λ (s : Stroke). s.start < head_rows h + h.height) (all_strokes h)
+all-low h is =
+    all-inserted (λ (s : Stroke). s.start < head_rows h + h.height) (make_up_strokes h) (regular_strokes h)
+    (subst (λ o. AllByRecursion (λ (s : Stroke). s.start < head_rows h + h.height) (made_up_by h o)) (sym is.is_live)
+    (all-map (StartsAt h is.live (missing h)) (λ (s : Stroke). s.start < head_rows h + h.height) (made_up h is.live (length (missing h)) (missing h))
+    (λ s at. let low : at.row < h.height = all-has (λ y. y < h.height) (missing h) at.row (missing-low h) at.is in
+    omega (arith, low, at.start)) (made-starts h is.live (length (missing h)) (missing h))))
+    (all-mapped (λ (s : Stroke). s.start < head_rows h + h.height) (λ t. stroke_at h (λ row. true) (t * h.nozzles)) 0
+    (pass_count h.nozzles h.pitch h.height) (λ t from below. pass-begins h t is.some_nozzles (omega (arith, below))))
+
+insert-len : (s : Stroke) (ts : List Stroke) → length (insert s ts) ≡ suc (length ts)
+insert-len s [] = refl
+insert-len s (t ∷ ts) = by_order (nat_le s.start t.start) (insert-len s ts)
+  where
+    by_order : (b : Bool) → length (insert s ts) ≡ suc (length ts) → length (cond b (s ∷ t ∷ ts) (t ∷ insert s ts)) ≡ suc (suc (length ts))
+    by_order true e = refl
+    by_order false e = ap suc e
+
+inserted-len : (ss ts : List Stroke) → length (inserted ss ts) ≡ length ss + length ts
+inserted-len [] ts = omega arith
+inserted-len (s ∷ ss) ts = omega (arith, insert-len s (inserted ss ts), inserted-len ss ts)
+
+made-len : (h : Head) (j most : ℕ) (rows : List ℕ) → length (made_up h j most rows) ≤ most
+made-len h j zero rows = omega arith
+made-len h j (suc most) [] = omega arith
+made-len h j (suc most) (row ∷ rows) = omega (arith, made-len h j most (left_by (make_up_stroke h j row (row ∷ rows)).shots (row ∷ rows)))
+
+count-len : (n many : ℕ) → length (count_from n many) ≡ many
+count-len n zero = refl
+count-len n (suc many) = ap suc (count-len (n + 1) many)
+
+-- there are no more strokes than passes and missing rows
+pub all-few : (h : Head) → IsHead h → length (all_strokes h) ≤ pass_count h.nozzles h.pitch h.height + length (missing h)
+all-few h is =
+    let passes : ℕ = pass_count h.nozzles h.pitch h.height in
+    let many : length (regular_strokes h) ≡ passes =
+    length-map (count_from 0 passes) (λ t. stroke_at h (λ row. true) (t * h.nozzles)) ∙ count-len 0 passes in
+    omega (
+      arith,
+      inserted-len (make_up_strokes h) (regular_strokes h),
+      many,
+      ap (λ o. length (made_up_by h o)) is.is_live,
+      made-len h is.live (length (missing h)) (missing h),
+    )
+
+-- no more rows are missing than the window has
+pub missing-few : (h : Head) → length (missing h) ≤ h.height
+missing-few h =
+    let left : ℕ → Bool = λ row. not (is_fired (firings_of (regular_strokes h)) row) in
+    omega (arith, length-filter left (count_from 0 h.height), count_by-le-length left (count_from 0 h.height), count-len 0 h.height)
+
+-- ---- the stroke at a place
+
+pub start-in : (h : Head) (starts : List ℕ) (owners : List (Option ℕ)) (place : ℕ) → IsStrokePlan h starts owners → place < length (all_strokes h)
+    → get_or starts place 0 ≡ (stroke_in (all_strokes h) place).start
+start-in h starts owners place is low =
+    ap (λ ns. get_or ns place 0) is.starts_are
+    ∙ get_or-map (λ (s : Stroke). s.start) (all_strokes h) place (record { start = 0; shots = [] }) 0 low
+
+pub in-low : (h : Head) (place : ℕ) → IsHead h → place < length (all_strokes h) → (stroke_in (all_strokes h) place).start < head_rows h + h.height
+in-low h place is low =
+    All-from_recursion (λ (s : Stroke). s.start < head_rows h + h.height) (all_strokes h) (all-low h is) place (record { start = 0; shots = [] }) low
+
+-- the row of a nozzle at a place, if it has one, is on the window
+pub in-over : (h : Head) (place i y : ℕ) → IsHead h → i < h.nozzles → row_of (stroke_in (all_strokes h) place).shots i ≡ Some y
+    → Over h (stroke_in (all_strokes h) place).start i y
+in-over h place i y is few e =
+    elim (cases_lt place (length (all_strokes h))) [
+      | inl low ↦ row-over h (stroke_in (all_strokes h) place) i y few
+          (All-from_recursion (IsStrokeAt h) (all_strokes h) (all-are h is) place (record { start = 0; shots = [] }) low) e
+      | inr past ↦ absurd (none (ap (λ (s : Stroke). row_of s.shots i) (sym (get_or_past (all_strokes h) place (record { start = 0; shots = [] }) past)) ∙ e))
+    ]
+  where
+    none : None ≡ Some y → ⊥
+    none e = cc
+
+-- strokes further on start no higher
+pub in-rises : (strokes : List Stroke) (i j : ℕ) → StartsRise strokes → i ≤ j → j < length strokes → (stroke_in strokes i).start ≤ (stroke_in strokes j).start
+in-rises [] i j rises le low = absurd (omega arith)
+in-rises (s ∷ strokes) zero zero rises le low = omega arith
+in-rises (s ∷ strokes) zero (suc j) rises le low =
+    let less : s.start < (stroke_in strokes j).start =
+    All-from_recursion (λ (t : Stroke). s.start < t.start) strokes rises.0 j (record { start = 0; shots = [] }) (omega (arith, low)) in omega (arith, less)
+in-rises (s ∷ strokes) (suc i) zero rises le low = absurd (omega arith)
+in-rises (s ∷ strokes) (suc i) (suc j) rises le low = in-rises strokes i j rises.1 (omega (arith, le)) (omega (arith, low))
+
+-- each stroke at its place, one after another
+pub map-places : {B : Type 0} (f : Stroke → B) (strokes : List Stroke) (g : ℕ → Stroke) (n : ℕ)
+    → ((k : ℕ) → k < length strokes → g (n + k) ≡ stroke_in strokes k) → map f strokes ≡ map (λ k. f (g k)) (count_from n (length strokes))
+map-places f [] g n same = refl
+map-places f (s ∷ strokes) g n same =
+    let first : g n ≡ s = ap g (let here : n ≡ n + 0 = omega arith in here) ∙ same 0 (omega arith) in
+    ap (λ t. f t ∷ map f strokes) (sym first)
+    ∙ ap (λ ts. f (g n) ∷ ts) (map-places f strokes g (n + 1)
+    (λ k low. ap g (let next : n + 1 + k ≡ n + suc k = omega arith in next) ∙ same (suc k) (omega (arith, low))))
+
+pub in-owns : (h : Head) (starts : List ℕ) (owners : List (Option ℕ)) (place : ℕ) → IsStrokePlan h starts owners → place < length (all_strokes h)
+    → Owns h owners (stroke_in (all_strokes h) place)
+in-owns h starts owners place is low = All-from_recursion (Owns h owners) (all_strokes h) is.own place (record { start = 0; shots = [] }) low
+
+-- there are few enough strokes to count
+pub all-count : (h : Head) (starts : List ℕ) (owners : List (Option ℕ)) → IsStrokePlan h starts owners → length starts ≤ 96704
+all-count h starts owners is =
+    let passes : ℕ = h.height + (h.nozzles - 1) * h.pitch + (h.nozzles - 1) in
+    let long : (h.nozzles - 1) * h.pitch ≤ 254 * 255 =
+    mul-le-mul (let most : h.nozzles - 1 ≤ 254 = omega (arith, is.worn.most_nozzles) in most) is.worn.most_pitch in
+    omega (
+      arith,
+      ap length is.starts_are,
+      length-map (all_strokes h) (λ (s : Stroke). s.start),
+      all-few h is.head,
+      missing-few h,
+      div-le_self passes h.nozzles,
+      long,
+      is.worn.most_nozzles,
+      is.worn.most_rows,
+    )

@@ -1,0 +1,269 @@
+-- The strokes of a head with dead nozzles print the halftone of their window.
+use Rattle.std.proofs.Common.{◌≡◌, ℕ, zero, suc, ◌+◌, ◌-◌, ◌*◌, ◌<◌, ◌≤◌, Bool, true, false, cond, not, ◌&&◌, ◌==◌}
+use Rattle.std.proofs.Common.{List, [], ◌∷◌, length, map, replicate, Option, None, Some, Ok, refl, sym, ◌∙◌, ap, arith, subst}
+use Rattle.std.specs.List.{AllByRecursion, count_by, flat_map, list_any}
+use Rattle.std.specs.Prelude.{slice_index_or}
+use Rattle.std.proofs.lemmas.Bool.{and_right, eqb-true, lt-ltb}
+use Rattle.std.proofs.lemmas.List.{length-map}
+use Rattle.std.proofs.lemmas.List.Sums.{count_by-le-length, sum_by-cons}
+use Rattle.printer_definitions.specs.declared.inks.Ink.{Ink}
+use Rattle.printer_definitions.specs.Inks.{inks_of}
+use Rattle.printer_definitions.specs.Printer.{Printer, head_rows, row_units}
+use Rattle.base_definitions.specs.Counting.{count_from}
+use Rattle.base_definitions.specs.Packed.{at}
+use Rattle.dead_nozzles.specs.Dead.{checked, has}
+use Rattle.dead_nozzles.specs.Plans.{row_of}
+use Rattle.dead_nozzles.specs.Strokes.{Head, IsHead, Shot, StartsRise, Stroke as HeadStroke, all_strokes, firings_of, row_under, shot, stroke_at}
+use Rattle.dead_nozzles.proofs.Firing.{Over, over}
+use Rattle.dead_nozzles.proofs.MakeUp.{each-row}
+use Rattle.dead_nozzles.proofs.RowsOf.{stroke-row, wanted_row}
+use Rattle.dead_nozzles.proofs.Starts.{all-rise}
+use Rattle.dead_nozzles.proofs.Strokes.{IsStrokeAt, all-are, all-few, row-over}
+use Rattle.dead_nozzles.proofs.Tables.{head-of}
+use Rattle.escp2_definitions.specs.Commands.{commands}
+use Rattle.escp2_definitions.specs.Rasters.{ink_rasters}
+use Rattle.separation_definitions.specs.CanPrint.{CanPrint}
+use Rattle.page_definitions.specs.Dots.{Halftone}
+use Rattle.page_definitions.specs.Healed.{IsSpared, healed, healed_bytes, healed_passes, healed_stroke, shot_rows, worn_head}
+use Rattle.page_definitions.specs.PageBytes.{dot_row, fired_row, page_coding}
+use Rattle.page_definitions.specs.RasterRows.{RasterRows, StrokeRows}
+use Rattle.page_definitions.specs.Strokes.{Fires, IsOnWindow, IsRising, IsWhole, Stroke}
+use Rattle.page_laws.specs.Sized.{Sized}
+use Rattle.page_laws.proofs.Counts.{count-append, count-cons, each-of, if-none, if-plus}
+use Rattle.page_laws.proofs.Headline.{page-coded}
+use Rattle.page_laws.proofs.Hits.{FiresEachDot, fires-exactly, hits, rows_hits}
+use Rattle.page_laws.proofs.Fired.{AllWide}
+use Rattle.page_laws.proofs.Passes.{at-counted, count_from-len, fired_row-len, no-dot}
+use Rattle.page_laws.proofs.RasterRows.{rasters-have-rows}
+use Rattle.page_laws.proofs.Rasters.{fires_with, strokes-have}
+use Rattle.page_laws.proofs.Shingling.{counted-any, counted-row, fired-some}
+
+-- ---- how often a stroke fires a place
+
+-- whether a shot is of a row
+of_row : ℕ → Shot → Bool
+of_row y s = s.row == y
+
+-- the row that a nozzle fires by these shots
+abbrev row_by : Halftone → List Shot → Ink → ℕ → List Bool
+row_by h shots ink i = fired_row h ink (row_of shots i)
+
+-- one nozzle of a stroke fires a dot of its row, once
+nozzle-hits : (dead : List ℕ) (p : Printer) (h : Halftone) (wanted : ℕ → Bool) (ink : Ink) (y x start i : ℕ) → x < h.width
+    → cond ((start + i * p.pitch - head_rows p == y)
+    && at (fired_row h ink (wanted_row (worn_head dead p h.height) wanted i (row_under (worn_head dead p h.height) start i))) x) 1 0
+    ≡ cond (h.dot ink y x) (count_by (of_row y)
+    (shot (worn_head dead p h.height) wanted i (row_under (worn_head dead p h.height) start i))) 0
+unfolding of_row
+nozzle-hits dead p h wanted ink y x start i low = by_row (row_under head start i) refl
+  where
+    head : Head
+    head = worn_head dead p h.height
+
+    place : ℕ
+    place = start + i * p.pitch - head_rows p
+
+    one_if : Bool → ℕ
+    one_if b = cond b 1 0
+
+    none : one_if ((place == y) && at (replicate h.width false) x) ≡ 0
+    none = ap one_if (and_right (place == y) (at (replicate h.width false) x) (no-dot h.width x))
+
+    by_same : (row : ℕ) (b : Bool) → (row == y) ≡ b → one_if ((row == y) && h.dot ink row x) ≡ cond (h.dot ink y x) (one_if (row == y) + 0) 0
+    by_same row true e =
+        ap (λ b. one_if (b && h.dot ink row x)) e ∙ ap (λ k. one_if (h.dot ink k x)) (eqb-true row y e)
+        ∙ sym (ap (λ b. cond (h.dot ink y x) (one_if b + 0) 0) e)
+    by_same row false e =
+        ap (λ b. one_if (b && h.dot ink row x)) e
+        ∙ sym (ap (λ b. cond (h.dot ink y x) (one_if b + 0) 0) e ∙ if-none (h.dot ink y x) 0 refl)
+
+    by_test : (row : ℕ) (b : Bool) → row_under head start i ≡ Some row
+        → one_if ((place == y) && at (fired_row h ink (cond b (Some row) None)) x)
+        ≡ cond (h.dot ink y x) (count_by (of_row y) (cond b (record { nozzle = i; row = row } ∷ []) [])) 0
+    by_test row true e =
+        let o : Over head start i row = over head start i row e in
+        let stands : place ≡ row = omega (arith, o.place) in
+        let column : 0 + x ≡ x = omega arith in
+        let dot : at (dot_row h ink row) x ≡ h.dot ink row x = at-counted (h.dot ink row) 0 h.width x low ∙ ap (h.dot ink row) column in
+        let one : Shot = record { nozzle = i; row = row } in
+        ap (λ n. one_if ((n == y) && at (dot_row h ink row) x)) stands
+        ∙ ap (λ b. one_if ((row == y) && b)) dot
+        ∙ by_same row (row == y) refl
+        ∙ sym (ap (λ n. cond (h.dot ink y x) n 0) (count-cons (of_row y) one []))
+    by_test row false e = none ∙ sym (if-none (h.dot ink y x) 0 refl)
+
+    by_row : (r : Option ℕ) → row_under head start i ≡ r
+        → one_if ((place == y) && at (fired_row h ink (wanted_row head wanted i r)) x)
+        ≡ cond (h.dot ink y x) (count_by (of_row y) (shot head wanted i r)) 0
+    by_row None e = none ∙ sym (if-none (h.dot ink y x) 0 refl)
+    by_row (Some row) e = by_test row (not (has dead i) && wanted row) e
+
+-- the nozzles of a stroke
+nozzles-hit : (dead : List ℕ) (p : Printer) (h : Halftone) (wanted : ℕ → Bool) (ink : Ink) (y x start from i many : ℕ)
+    → x < h.width → from ≡ start + i * p.pitch → i + many ≤ p.nozzles
+    → rows_hits p.pitch (head_rows p) y x from
+    (map (row_by h (stroke_at (worn_head dead p h.height) wanted start).shots ink) (count_from i many))
+    ≡ cond (h.dot ink y x) (count_by (of_row y)
+    (flat_map (λ i. shot (worn_head dead p h.height) wanted i (row_under (worn_head dead p h.height) start i)) (count_from i many))) 0
+nozzles-hit dead p h wanted ink y x start from i zero low e few = sym (if-none (h.dot ink y x) 0 refl)
+nozzles-hit dead p h wanted ink y x start from i (suc many) low e few =
+    let head : Head = worn_head dead p h.height in
+    let shots : List Shot = (stroke_at head wanted start).shots in
+    let rows : List (List Bool) = map (row_by h shots ink) (count_from (i + 1) many) in
+    let others : List Shot = flat_map (λ i. shot head wanted i (row_under head start i)) (count_from (i + 1) many) in
+    let own : List Shot = shot head wanted i (row_under head start i) in
+    let next : from + p.pitch ≡ start + (i + 1) * p.pitch = omega (arith, e) in
+    ap (λ n. cond ((n - head_rows p == y) && at (row_by h shots ink i) x) 1 0 + rows_hits p.pitch (head_rows p) y x (from + p.pitch) rows) e
+    ∙ ap (λ r. cond ((start + i * p.pitch - head_rows p == y) && at (fired_row h ink r) x) 1 0
+    + rows_hits p.pitch (head_rows p) y x (from + p.pitch) rows) (stroke-row head wanted start i (omega (arith, few)))
+    ∙ ap (λ n. n + rows_hits p.pitch (head_rows p) y x (from + p.pitch) rows) (nozzle-hits dead p h wanted ink y x start i low)
+    ∙ ap (λ n. cond (h.dot ink y x) (count_by (of_row y) own) 0 + n)
+    (nozzles-hit dead p h wanted ink y x start (from + p.pitch) (i + 1) many low next (omega (arith, few)))
+    ∙ if-plus (h.dot ink y x) (count_by (of_row y) own) (count_by (of_row y) others)
+    ∙ ap (λ n. cond (h.dot ink y x) n 0) (sym (count-append (of_row y) own others))
+
+-- one stroke
+stroke-hits : (dead : List ℕ) (p : Printer) (h : Halftone) (ink : Ink) (y x : ℕ) (s : HeadStroke) → x < h.width → IsStrokeAt (worn_head dead p h.height) s
+    → rows_hits p.pitch (head_rows p) y x s.start (shot_rows p h s.shots ink) ≡ cond (h.dot ink y x) (count_by (of_row y) s.shots) 0
+stroke-hits dead p h ink y x s low shape =
+    let P : HeadStroke → Type 0 = λ s. rows_hits p.pitch (head_rows p) y x s.start (shot_rows p h s.shots ink)
+    ≡ cond (h.dot ink y x) (count_by (of_row y) s.shots) 0 in
+    subst P (sym shape.is) (nozzles-hit dead p h shape.wanted ink y x shape.start shape.start 0 p.nozzles low (omega arith) (omega arith))
+
+-- all strokes
+strokes-hit : (dead : List ℕ) (p : Printer) (h : Halftone) (ink : Ink) (y x : ℕ) (strokes : List HeadStroke) → x < h.width
+    → AllByRecursion (IsStrokeAt (worn_head dead p h.height)) strokes
+    → hits p (head_rows p) (map (healed_stroke p h) strokes) ink y x ≡ cond (h.dot ink y x) (count_by (of_row y) (firings_of strokes)) 0
+strokes-hit dead p h ink y x [] low all = sym (if-none (h.dot ink y x) 0 refl)
+strokes-hit dead p h ink y x (s ∷ strokes) low all =
+    let dot : Bool = h.dot ink y x in
+    sum_by-cons (λ (stroke : Stroke). rows_hits p.pitch (head_rows p) y x stroke.start (stroke.rows ink))
+    (healed_stroke p h s) (map (healed_stroke p h) strokes)
+    ∙ ap (λ n. n + hits p (head_rows p) (map (healed_stroke p h) strokes) ink y x) (stroke-hits dead p h ink y x s low all.0)
+    ∙ ap (λ n. cond dot (count_by (of_row y) s.shots) 0 + n) (strokes-hit dead p h ink y x strokes low all.1)
+    ∙ if-plus dot (count_by (of_row y) s.shots) (count_by (of_row y) (firings_of strokes))
+    ∙ ap (λ n. cond dot n 0) (sym (count-append (of_row y) s.shots (firings_of strokes)))
+
+-- the strokes fire each dot once
+healed-hit : (dead : List ℕ) (p : Printer) (h : Halftone) → IsHead (worn_head dead p h.height) → FiresEachDot p h (healed dead p h)
+unfolding of_row
+healed-hit dead p h is =
+    let head : Head = worn_head dead p h.height in
+    each-of (λ ink. (y x : ℕ) → y < h.height → x < h.width → hits p (head_rows p) (healed dead p h).list ink y x
+    ≡ cond (h.dot ink y x) 1 0) (inks_of p.inks) (λ ink y x low_y low_x.
+    strokes-hit dead p h ink y x (all_strokes head) low_x (all-are head is)
+    ∙ ap (λ n. cond (h.dot ink y x) n 0) (each-row head is y ∙ ap {B = ℕ} (λ b. cond b 1 0) (lt-ltb y h.height low_y)))
+
+-- ---- the strokes go down the page, and are on the window
+
+-- what holds of each stroke of the head holds of each stroke of the page
+each-stroke : (p : Printer) (h : Halftone) (P : HeadStroke → Type 0) (Q : Stroke → Type 0) (strokes : List HeadStroke)
+    → ((s : HeadStroke) → P s → Q (healed_stroke p h s)) → AllByRecursion P strokes → AllByRecursion Q (map (healed_stroke p h) strokes)
+each-stroke p h P Q [] every all = tt
+each-stroke p h P Q (s ∷ strokes) every all = (every s all.0, each-stroke p h P Q strokes every all.1)
+
+at-or-below : (start : ℕ) (strokes : List HeadStroke) → AllByRecursion (λ (t : HeadStroke). start < t.start) strokes
+    → AllByRecursion (λ (t : HeadStroke). start ≤ t.start) strokes
+at-or-below start [] all = tt
+at-or-below start (t ∷ strokes) all = (omega (arith, all.0), at-or-below start strokes all.1)
+
+healed-rise : (p : Printer) (h : Halftone) (last : ℕ) (strokes : List HeadStroke) → AllByRecursion (λ (s : HeadStroke). last ≤ s.start) strokes
+    → StartsRise strokes → IsRising last (map (healed_stroke p h) strokes)
+healed-rise p h last [] above rises = tt
+healed-rise p h last (s ∷ strokes) above rises =
+    (above.0, healed-rise p h s.start strokes (at-or-below s.start strokes rises.0) rises.1)
+
+from-zero : (strokes : List HeadStroke) → AllByRecursion (λ (s : HeadStroke). 0 ≤ s.start) strokes
+from-zero [] = tt
+from-zero (s ∷ strokes) = (omega arith, from-zero strokes)
+
+-- one row for each nozzle, as wide as the window
+rows-wide : (h : Halftone) (shots : List Shot) (ink : Ink) (is : List ℕ) → AllWide h.width (map (row_by h shots ink) is)
+rows-wide h shots ink [] = tt
+rows-wide h shots ink (i ∷ is) = (fired_row-len h ink (row_of shots i), rows-wide h shots ink is)
+
+stroke-whole : (p : Printer) (h : Halftone) (s : HeadStroke) (ink : Ink) → IsWhole p.nozzles h.width ((healed_stroke p h s).rows ink)
+stroke-whole p h s ink = record {
+  many = length-map (count_from 0 p.nozzles) (row_by h s.shots ink) ∙ count_from-len 0 p.nozzles;
+  wide = rows-wide h s.shots ink (count_from 0 p.nozzles);
+}
+
+-- the row at a nozzle's place is the nozzle's
+nozzle-row : (p : Printer) (h : Halftone) (s : HeadStroke) (ink : Ink) (i : ℕ) → i < p.nozzles
+    → slice_index_or ((healed_stroke p h s).rows ink) i [] ≡ row_by h s.shots ink i
+nozzle-row p h s ink i few =
+    let place : 0 + i ≡ i = omega arith in
+    counted-row (row_by h s.shots ink) 0 p.nozzles i few ∙ ap (row_by h s.shots ink) place
+
+stroke-on_window : (dead : List ℕ) (p : Printer) (h : Halftone) (s : HeadStroke) → IsStrokeAt (worn_head dead p h.height) s → (ink : Ink)
+    → IsOnWindow p.pitch (head_rows p) h.height s.start ((healed_stroke p h s).rows ink)
+stroke-on_window dead p h s shape ink = record {
+  row = λ i e.
+      let few : i < p.nozzles = counted-any (row_by h s.shots ink) 0 p.nozzles i e in
+      let some = fired-some h ink (row_of s.shots i) (ap (list_any (λ on. on)) (sym (nozzle-row p h s ink i few)) ∙ e) in
+      let o : Over (worn_head dead p h.height) s.start i some.0 = row-over (worn_head dead p h.height) s i some.0 few shape some.1 in
+      (omega (arith, o.place), omega (arith, o.place, o.low));
+}
+
+-- a head of a printer that can print
+pub worn-is : (dead : List ℕ) (p : Printer) (height : ℕ) → CanPrint p → checked p.nozzles dead ≡ Ok tt → IsHead (worn_head dead p height)
+worn-is dead p height can good =
+    head-of p.nozzles p.pitch height dead (worn_head dead p height) can.some_nozzles can.some_pitch can.coprime good refl
+
+-- The strokes of a head with dead nozzles print the halftone of their window.
+pub healed-fires : (dead : List ℕ) (p : Printer) (h : Halftone) → CanPrint p → checked p.nozzles dead ≡ Ok tt → Fires p h (healed dead p h)
+healed-fires dead p h can good =
+    let head : Head = worn_head dead p h.height in
+    let is : IsHead head = worn-is dead p h.height can good in
+    let all = all-are head is in
+    let whole = each-stroke p h (IsStrokeAt head) (λ stroke. (ink : Ink) → IsWhole p.nozzles h.width (stroke.rows ink)) (all_strokes head)
+    (λ s shape. stroke-whole p h s) all in
+    let on = each-stroke p h (IsStrokeAt head) (λ stroke. (ink : Ink)
+    → IsOnWindow p.pitch (head_rows p) h.height stroke.start (stroke.rows ink)) (all_strokes head) (stroke-on_window dead p h) all in
+    record {
+      room = can.head_room;
+      rising = healed-rise p h 0 (all_strokes head) (from-zero (all_strokes head)) (all-rise head is);
+      whole = whole;
+      on_window = on;
+      once = fires-exactly p h (healed dead p h) can whole on (healed-hit dead p h is);
+    }
+
+-- ---- the bytes of the strokes
+
+-- a dead nozzle fires nothing
+dead-row : (head : Head) (s : HeadStroke) (i : ℕ) → i < head.nozzles → IsStrokeAt head s → has head.dead i ≡ true → row_of s.shots i ≡ None
+dead-row head s i few shape e =
+    ap (λ (s : HeadStroke). row_of s.shots i) shape.is ∙ stroke-row head shape.wanted shape.start i few ∙ by_row (row_under head shape.start i)
+  where
+    by_row : (r : Option ℕ) → wanted_row head shape.wanted i r ≡ None
+    by_row None = refl
+    by_row (Some row) = ap (λ b. cond (not b && shape.wanted row) (Some row) None) e
+
+-- No row of their rasters has a dot where its nozzle is dead.
+pub healed-spared : (dead : List ℕ) (p : Printer) (h : Halftone) (tall : ℕ) → CanPrint p → checked p.nozzles dead ≡ Ok tt → Sized p h tall
+    → RasterRows (IsSpared dead) (commands (healed_bytes dead p h (tall * row_units p))).entries
+unfolding healed_bytes
+healed-spared dead p h tall can good size =
+    let head : Head = worn_head dead p h.height in
+    let is : IsHead head = worn-is dead p h.height can good in
+    rasters-have-rows p h page_coding (healed dead p h) tall (IsSpared dead) can page-coded size (healed-fires dead p h can good)
+    (each-stroke p h (IsStrokeAt head) (StrokeRows (IsSpared dead) p.nozzles) (all_strokes head) spared (all-are head is))
+  where
+    spared : (s : HeadStroke) → IsStrokeAt (worn_head dead p h.height) s → StrokeRows (IsSpared dead) p.nozzles (healed_stroke p h s)
+    spared s shape ink i few e x =
+        ap (λ row. at row x) (nozzle-row p h s ink i few ∙ ap (fired_row h ink) (dead-row (worn_head dead p h.height) s i few shape e))
+        ∙ no-dot h.width x
+
+-- They have no more rasters of an ink than passes and missing rows.
+pub healed-rasters : (dead : List ℕ) (p : Printer) (h : Halftone) (tall : ℕ) → CanPrint p → checked p.nozzles dead ≡ Ok tt → Sized p h tall → (ink : Ink)
+    → ink_rasters ink (commands (healed_bytes dead p h (tall * row_units p))).entries ≤ healed_passes dead p h.height
+unfolding healed_bytes
+healed-rasters dead p h tall can good size ink =
+    let head : Head = worn_head dead p h.height in
+    omega (
+      arith,
+      strokes-have p h page_coding (healed dead p h) tall can page-coded size (healed-fires dead p h can good) ink,
+      count_by-le-length (fires_with ink) (healed dead p h).list,
+      length-map (all_strokes head) (healed_stroke p h),
+      all-few head (worn-is dead p h.height can good),
+    )

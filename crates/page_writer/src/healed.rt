@@ -1,0 +1,92 @@
+//! A page from a head with dead nozzles.
+ghost use Rattle.dead_nozzles.specs.Dead.{IsRising, checked as checked_dead};
+ghost use Rattle.escp2_definitions.specs.Commands.{commands};
+ghost use Rattle.escp2_definitions.specs.Rasters.{ink_rasters};
+ghost use Rattle.page_definitions.specs.Dots.{Halftone, dots_wanted};
+ghost use Rattle.page_definitions.specs.Healed.{IsSpared, healed_bytes, healed_passes};
+ghost use Rattle.page_definitions.specs.Printing.{GivesSheet};
+ghost use Rattle.page_definitions.specs.RasterRows.{RasterRows};
+ghost use Rattle.page_writer.specs.AtMost.{AppendsAtMost};
+ghost use Rattle.page_writer.specs.Healed.{SumsHealed, most_of_healed};
+ghost use Rattle.page_writer.specs.Shows.{Shows};
+ghost use Rattle.page_writer.specs.declared.strokes.WriteStop.TheVariants as stop;
+ghost use Rattle.printer_definitions.specs.Inks.{inks_of};
+ghost use Rattle.printer_definitions.specs.Printer.{row_units as row_units_of};
+ghost use Rattle.printer_definitions.specs.declared.inks.Ink.{Ink};
+ghost use Rattle.printer_profile.specs.Validity.{check};
+ghost use Rattle.pwg_definitions.specs.Header.{IsWanted};
+ghost use Rattle.separation_definitions.specs.Windows.{wanted_by, window_of};
+ghost use Rattle.std.specs.Io.KnownBytes.{Appends, Keeps};
+ghost use Rattle.std.specs.Prelude.{IfOk, IsErrOf, IsOk, Ok, OnOk, length, ◌*◌, ◌≡◌, ◌≤◌};
+ghost use Rattle.weave_base.specs.Causes.{Rose};
+ghost use Rattle.weave_base.specs.Parts.{AppendsPart};
+
+use crate::strokes::{WriteStop, write_strokes};
+use crate::sums::PageSum;
+use dead_nozzles::StrokePlan;
+use dot_planes::Planes;
+use printer_profile::{PageForm, Profile, checked_can_print};
+use std::alloc::Global;
+use weave_base::Sink;
+
+/// Writes the job of a page whose dots are in planes with the nozzles of `dead` dead: the passes of the head without
+/// these nozzles, and strokes in which live nozzles make up for them. It gives the number of bytes and rasters. The
+/// numbers of `dead` are in rising order, and `check_dead` tests them.
+///
+/// Its memory is the plan of the strokes and the room for one of them, and is taken before the first byte. All else is
+/// as in `write_page`: the commands, the calls of `put_all`, and what a failed write leaves.
+pub fn write_healed<K: Sink>(
+    alloc: Global,
+    p: &Profile,
+    f: PageForm,
+    planes: &Planes,
+    dead: &[u8],
+    k: &mut K,
+) -> Result<PageSum, WriteStop>
+    requires checked { IsOk (check p.now) }
+    requires rising { IsRising dead.now }
+    requires nozzles { checked_dead p.now.nozzles dead.now ≡ Ok tt }
+    requires wanted { IsWanted (wanted_by p.now) f }
+    requires width { planes.now.width ≡ (window_of f p.now).width }
+    requires rows { planes.now.rows ≡ (window_of f p.now).height }
+    requires inks { planes.now.inks ≡ length (inks_of p.now.inks) }
+
+    // of each halftone whose dots are in the planes
+    ensures ok { (h : Halftone) → Shows p.now planes.now h → OnOk result
+        (Appends (K.held k.old) (K.held k.new)
+        (healed_bytes dead.now p.now h (f.height * row_units_of p.now))) }
+    ensures sum { (h : Halftone) → Shows p.now planes.now h → IfOk result
+        (SumsHealed dead.now p.now h (f.height * row_units_of p.now)) }
+    ensures part { (h : Halftone) → Shows p.now planes.now h → IsErrOf result stop.Write
+        → AppendsPart (K.held k.old) (K.held k.new)
+        (healed_bytes dead.now p.now h (f.height * row_units_of p.now)) }
+
+    // what those bytes mean: one sheet with the halftone's dots, at most one raster of an ink for each pass and for
+    // each row that is made up, and no dot in a row of a raster whose nozzle is dead
+    ensures prints { (h : Halftone) → Shows p.now planes.now h → GivesSheet p.now
+        (healed_bytes dead.now p.now h (f.height * row_units_of p.now))
+        (dots_wanted p.now h) }
+    ensures passes { (h : Halftone) → Shows p.now planes.now h → (ink : Ink)
+        → ink_rasters ink
+        (commands (healed_bytes dead.now p.now h (f.height * row_units_of p.now))).entries
+        ≤ healed_passes dead.now p.now planes.now.rows }
+    ensures spared { (h : Halftone) → Shows p.now planes.now h → RasterRows (IsSpared dead.now)
+        (commands (healed_bytes dead.now p.now h (f.height * row_units_of p.now))).entries }
+
+    // at every answer
+    ensures few { (h : Halftone) → Shows p.now planes.now h
+        → AppendsAtMost (healed_passes dead.now p.now planes.now.rows)
+        (K.held k.old) (K.held k.new) }
+
+    // by the page's form and the dead nozzles alone
+    ensures short { IfOk result (λ sum. sum.bytes ≤ most_of_healed dead.now p.now planes.now.width planes.now.rows) }
+    ensures write { IsErrOf result stop.Write → Rose (K.faults k.old) (K.faults k.new) }
+    ensures memory { IsErrOf result stop.Memory → Keeps (K.held k.old) (K.held k.new) }
+    ensures later { K.faults k.old ≤ K.faults k.new }
+{
+    checked_can_print(*p);
+    let Ok(plan) = StrokePlan::make(alloc, p.nozzles, p.pitch, planes.rows(), dead) else {
+        return Err(WriteStop::Memory);
+    };
+    write_strokes(alloc, p, f, planes, &plan, k)
+}

@@ -1,0 +1,87 @@
+//! A page from shingled passes of the head.
+ghost use Rattle.escp2_definitions.specs.Commands.{commands};
+ghost use Rattle.escp2_definitions.specs.Rasters.{ink_rasters};
+ghost use Rattle.page_definitions.specs.Dots.{Halftone, dots_wanted};
+ghost use Rattle.page_definitions.specs.Printing.{GivesSheet};
+ghost use Rattle.page_definitions.specs.RasterRows.{FiresHalf, RasterRows};
+ghost use Rattle.page_definitions.specs.Shingled.{shingled_bytes};
+ghost use Rattle.page_writer.specs.AtMost.{AppendsAtMost};
+ghost use Rattle.page_writer.specs.Shingles.{SumsShingled, most_of_shingles};
+ghost use Rattle.page_writer.specs.Shows.{Shows};
+ghost use Rattle.page_writer.specs.declared.strokes.WriteStop.TheVariants as stop;
+ghost use Rattle.printer_definitions.specs.Inks.{inks_of};
+ghost use Rattle.printer_definitions.specs.Printer.{row_units as row_units_of};
+ghost use Rattle.printer_definitions.specs.declared.inks.Ink.{Ink};
+ghost use Rattle.printer_profile.specs.Validity.{check};
+ghost use Rattle.pwg_definitions.specs.Header.{IsWanted};
+ghost use Rattle.separation_definitions.specs.Windows.{wanted_by, window_of};
+ghost use Rattle.shingle_plan.specs.Fits.{Shingles};
+ghost use Rattle.shingle_plan.specs.Shingles.{shingle_count};
+ghost use Rattle.std.specs.Io.KnownBytes.{Appends, Keeps};
+ghost use Rattle.std.specs.Prelude.{IfOk, IsErrOf, IsOk, OnOk, length, ◌*◌, ◌≡◌, ◌≤◌};
+ghost use Rattle.weave_base.specs.Causes.{Rose};
+ghost use Rattle.weave_base.specs.Parts.{AppendsPart};
+
+use crate::strokes::{WriteStop, write_strokes};
+use crate::sums::PageSum;
+use dot_planes::Planes;
+use printer_profile::{PageForm, Profile, checked_can_print};
+use shingle_plan::ShinglePlan;
+use std::alloc::Global;
+use weave_base::Sink;
+
+/// Writes the job of a page whose dots are in planes, each row of them in two passes of the head: its even columns in
+/// one, and its odd columns in the other. It gives the number of bytes and rasters. `shingle_fits` tests the head.
+///
+/// All else is as in `write_page`: the commands, the memory, the calls of `put_all`, and what a failed write leaves.
+pub fn write_shingled<K: Sink>(
+    alloc: Global,
+    p: &Profile,
+    f: PageForm,
+    planes: &Planes,
+    k: &mut K,
+) -> Result<PageSum, WriteStop>
+    requires checked { IsOk (check p.now) }
+    requires fits { Shingles p.now.nozzles p.now.pitch }
+    requires wanted { IsWanted (wanted_by p.now) f }
+    requires width { planes.now.width ≡ (window_of f p.now).width }
+    requires rows { planes.now.rows ≡ (window_of f p.now).height }
+    requires inks { planes.now.inks ≡ length (inks_of p.now.inks) }
+
+    // of each halftone whose dots are in the planes
+    ensures ok { (h : Halftone) → Shows p.now planes.now h → OnOk result
+        (Appends (K.held k.old) (K.held k.new)
+        (shingled_bytes p.now h (f.height * row_units_of p.now))) }
+    ensures sum { (h : Halftone) → Shows p.now planes.now h → IfOk result
+        (SumsShingled p.now h (f.height * row_units_of p.now)) }
+    ensures part { (h : Halftone) → Shows p.now planes.now h → IsErrOf result stop.Write
+        → AppendsPart (K.held k.old) (K.held k.new)
+        (shingled_bytes p.now h (f.height * row_units_of p.now)) }
+
+    // what those bytes mean: one sheet with the halftone's dots, at most one raster of an ink for each pass, and no
+    // row of a raster with dots both at even and at odd columns
+    ensures prints { (h : Halftone) → Shows p.now planes.now h → GivesSheet p.now
+        (shingled_bytes p.now h (f.height * row_units_of p.now))
+        (dots_wanted p.now h) }
+    ensures passes { (h : Halftone) → Shows p.now planes.now h → (ink : Ink)
+        → ink_rasters ink
+        (commands (shingled_bytes p.now h (f.height * row_units_of p.now))).entries
+        ≤ shingle_count p.now.nozzles p.now.pitch planes.now.rows }
+    ensures columns { (h : Halftone) → Shows p.now planes.now h → RasterRows FiresHalf
+        (commands (shingled_bytes p.now h (f.height * row_units_of p.now))).entries }
+
+    // at every answer
+    ensures few { (h : Halftone) → Shows p.now planes.now h
+        → AppendsAtMost (shingle_count p.now.nozzles p.now.pitch planes.now.rows)
+        (K.held k.old) (K.held k.new) }
+
+    // by the page's form alone
+    ensures short { IfOk result (λ sum. sum.bytes ≤ most_of_shingles p.now planes.now.width planes.now.rows) }
+    ensures write { IsErrOf result stop.Write → Rose (K.faults k.old) (K.faults k.new) }
+    ensures memory { IsErrOf result stop.Memory → Keeps (K.held k.old) (K.held k.new) }
+    ensures later { K.faults k.old ≤ K.faults k.new }
+{
+    checked_can_print(*p);
+    let plan = ShinglePlan::make(p.nozzles, p.pitch, planes.rows());
+    write_strokes(alloc, p, f, planes, &plan, k)
+}
