@@ -2,3 +2,5 @@ pub mod Rows
 pub mod Images
 pub mod Running
 pub mod Playing
+pub mod SheetDots
+pub mod PageRuns

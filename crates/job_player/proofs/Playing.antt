@@ -4,6 +4,7 @@ use Rattle.std.proofs.Common.{length, length-append, refl, sym, ◌∙◌, ap, s
 use Rattle.std.proofs.lemmas.List.Concat.{flat_map-append}
 use Rattle.std.specs.Io.KnownBytes.{Appends}
 use Rattle.std.proofs.KnownBytes.{Appends-nil, Appends-trans, Consumes-nil}
+use Rattle.buffered_bytes.specs.Outside.{Outside}
 use Rattle.dot_emulator.specs.declared.emulator.EmuStop.{EmuStop}
 use Rattle.dot_emulator.specs.declared.emulator.EmuStop.TheVariants as emu
 use Rattle.dot_emulator.specs.declared.emulator.Emulator.{Emulator}
@@ -53,7 +54,7 @@ pub plays_none : (p : Printer) (e : Emulator) (feed : JobFeed) (left held : Opti
     → PlaysSoFar p e feed left (text_of feed left) held held 0
 plays_none p e feed left held at unread shows = record {
   sheets = [];
-  runs = record { entries = []; gave = gave_none feed left at unread; m = start; executes = executes_none p; shows = shows };
+  runs = record { entries = []; gave = gave_none feed left at unread; m = start; executes = executes_none p start; shows = shows };
   writes = Appends-nil held;
   number_is = refl;
 }
@@ -70,16 +71,16 @@ ran p e e' old new before text left placed sheets sheet so_far takes runs = reco
   entries = so_far.entries ++ entry_of new placed ∷ [];
   gave = gave_more old new before text (text_of new left) so_far.entries placed so_far.gave takes;
   m = after p so_far.m placed.command (heard_of new);
-  executes = executes_more p so_far.entries (entry_of new placed) so_far.m sheets so_far.executes runs.0;
+  executes = executes_more p start so_far.entries (entry_of new placed) so_far.m sheets so_far.executes runs.0;
   shows = runs.2;
 }
 
 -- it gave no sheet
-pub plays_more : (p : Printer) (e e' : Emulator)
-    (old new : JobFeed) (before text left held now : Option (List ℕ)) (number : ℕ) (placed : PlacedCommand)
+pub plays_more : {p : Printer} {e e' : Emulator}
+    {old new : JobFeed} {before text : Option (List ℕ)} (left : Option (List ℕ)) {held now : Option (List ℕ)} {number : ℕ} (placed : PlacedCommand)
     (so_far : PlaysSoFar p e old before text held now number) → TakesCommand old new text (text_of new left) placed
     → Runs p so_far.runs.m placed.command (heard_of new) e e' (Ok None) → PlaysSoFar p e' new before (text_of new left) held now number
-plays_more p e e' old new before text left held now number placed so_far takes runs =
+plays_more {p} {e} {e'} {old} {new} {before} {text} left placed so_far takes runs =
     let all = ran p e e' old new before text left placed so_far.sheets None so_far.runs takes runs in
     let P : List PrintedSheet → Type 0 = λ more. RunsSoFar p e' new before (text_of new left) (so_far.sheets ++ more) in
     let Q : List PrintedSheet → Type 0 = RunsSoFar p e' new before (text_of new left) in
@@ -100,12 +101,12 @@ pub record HasSheet (p : Printer) (e : Emulator)
   pub number_is : number ≡ counted (length sheets)
   pub is : IsSheet p printed sheet
 
-pub gives_sheet : (p : Printer) (e e' : Emulator) (old new : JobFeed)
-    (before text left held now : Option (List ℕ)) (number : ℕ) (placed : PlacedCommand) (sheet : Sheet)
+pub gives_sheet : {p : Printer} {e e' : Emulator} {old new : JobFeed}
+    {before text : Option (List ℕ)} (left : Option (List ℕ)) {held now : Option (List ℕ)} {number : ℕ} (placed : PlacedCommand) (sheet : Sheet)
     (so_far : PlaysSoFar p e old before text held now number) → TakesCommand old new text (text_of new left) placed
     → Runs p so_far.runs.m placed.command (heard_of new) e e' (Ok (Some sheet))
     → HasSheet p e' new before (text_of new left) held now number sheet
-gives_sheet p e e' old new before text left held now number placed sheet so_far takes runs =
+gives_sheet {p} {e} {e'} {old} {new} {before} {text} left placed sheet so_far takes runs =
     let all = ran p e e' old new before text left placed so_far.sheets (Some sheet) so_far.runs takes runs in
     let gives = runs.1 in
     let P : List PrintedSheet → Type 0 = λ more. RunsSoFar p e' new before (text_of new left) (so_far.sheets ++ more) in
@@ -121,11 +122,11 @@ gives_sheet p e e' old new before text left held now number placed sheet so_far 
 counts_on : (n number : ℕ) → number ≡ counted n → min (number + 1) (2 ^ 32 - 1) ≡ counted (n + 1)
 counts_on n number is = omega (arith, is)
 
-pub sheet_written : (p : Printer) (e : Emulator) (feed : JobFeed) (before text held now now' : Option (List ℕ))
-    (number more : ℕ) (sheet : Sheet) → HasSheet p e feed before text held now number sheet
+pub sheet_written : {p : Printer} {e : Emulator} {feed : JobFeed} {before text held now now' : Option (List ℕ)}
+    {number more : ℕ} (sheet : Sheet) → HasSheet p e feed before text held now number sheet
     → Appends now now' (table_images sheet.columns sheet.rows sheet.planes)
     → more ≡ min (number + 1) (2 ^ 32 - 1) → PlaysSoFar p e feed before text held now' more
-sheet_written p e feed before text held now now' number more sheet has written more_is =
+sheet_written {p} {held} {now} {now'} {number} sheet has written more_is =
     let P : List ℕ → Type 0 = Appends now now' in
     let Q : List ℕ → Type 0 = Appends held now' in
     record {
@@ -155,14 +156,14 @@ mapped : (before : Option (List ℕ)) (P Q : List ℕ → Type 0) → ((bytes : 
 mapped None P Q f holds = tt
 mapped (Some bytes) P Q f holds = f bytes holds
 
-pub sheet_unwritten : (p : Printer) (most : ℕ) (e : Emulator)
-    (feed : JobFeed) (before left held now now' : Option (List ℕ)) (number more f0 f1 g0 g1 g2 : ℕ) (sheet : Sheet)
+pub sheet_unwritten : {p : Printer} (most : ℕ) {e : Emulator}
+    (feed : JobFeed) {before left held now now' : Option (List ℕ)} {number more f0 f1 g0 g1 g2 : ℕ} (sheet : Sheet)
     → HasSheet p e feed before (text_of feed left) held now number sheet
     → AppendsPart now now' (table_images sheet.columns sheet.rows sheet.planes) → more ≡ min (number + 1) (2 ^ 32 - 1)
     → most_of feed ≡ most → g0 ≤ g1 → Rose g1 g2
     → PlayOutcome p most (record { before = before; now = left; faults_before = f0; faults_now = f1 })
     (record { before = held; now = now'; faults_before = g0; faults_now = g2 }) (Err (stop.Write more))
-sheet_unwritten p most e feed before left held now now' number more f0 f1 g0 g1 g2 sheet has part more_is most_is later rose =
+sheet_unwritten {p} most feed {before} {left} {now} {now'} {number} {g0} {g1} {g2} sheet has part more_is most_is later rose =
     let P : List ℕ → Type 0 = AppendsPart now now' in
     let Q : ℕ → Type 0 = λ n. TakesSheets p n before left (has.sheets ++ has.printed ∷ []) in (
       rose_within g0 g1 g2 g2 later rose (omega arith),
@@ -179,12 +180,11 @@ sheet_unwritten p most e feed before left held now now' number more f0 f1 g0 g1 
       },
     )
 
-pub plays_all : (p : Printer) (most : ℕ) (e : Emulator) (feed new : JobFeed) (before text left held now : Option
-    (List ℕ)) (number f0 f1 g0 g1 : ℕ) → PlaysSoFar p e feed before text held now number
+pub plays_all : {p : Printer} (most : ℕ) {e : Emulator} (feed new : JobFeed) {before text left held now : Option (List ℕ)} {number f0 f1 g0 g1 : ℕ} → PlaysSoFar p e feed before text held now number
     → HasEnded text (text_of new left) → most_of feed ≡ most
     → PlaysAll p most (record { before = before; now = left; faults_before = f0; faults_now = f1 })
     (record { before = held; now = now; faults_before = g0; faults_now = g1 })
-plays_all p most e feed new before text left held now number f0 f1 g0 g1 so_far ended most_is =
+plays_all {p} most feed new {before} {text} {left} {held} {now} {f0} {f1} {g0} {g1} so_far ended most_is =
     let takes = job_ended feed new before text left so_far.runs.entries so_far.runs.gave ended in
     let stops = stops_as_bytes p (most_of feed)
     takes.bytes so_far.runs.entries so_far.runs.m so_far.sheets None so_far.runs.executes takes.ends in
@@ -267,53 +267,44 @@ plays_without_room p most e old new before text left held now number f0 f1 g0 g1
     }
 
 -- memory runs out at the beginning
-pub plays_nothing : (p : Printer) (most : ℕ) (left held : Option (List ℕ)) (f0 f1 g0 g1 : ℕ)
+pub plays_nothing : (p : Printer) (most : ℕ) {left held : Option (List ℕ)} {f0 f1 g0 g1 : ℕ}
     → PlayOutcome p most (record { before = left; now = left; faults_before = f0; faults_now = f1 })
     (record { before = held; now = held; faults_before = g0; faults_now = g1 }) (Err stop.Memory)
-plays_nothing p most left held f0 f1 g0 g1 = record {
+plays_nothing p most {left} {held} = record {
   sheets = [];
   takes = record { bytes = []; taken = Consumes-nil left; others = sheets_of p most []; are = refl };
   writes = Appends-nil held;
 }
 
 -- the emulator does not run a command
-pub plays_to_emu_stop : (p : Printer) (most : ℕ) (e e' : Emulator) (old new : JobFeed)
-    (before text left held now : Option (List ℕ)) (number f0 f1 g0 g1 : ℕ) (placed : PlacedCommand) (why : EmuStop)
-    (answer : PlayStop) (so_far : PlaysSoFar p e old before text held now number) → TakesCommand old new text (text_of new left) placed
+pub plays_to_emu_stop : {p : Printer} (most : ℕ) {e : Emulator} (e' : Emulator) (old new : JobFeed) {text : Option (List ℕ)} {number : ℕ}
+    (input out : Outside) (placed : PlacedCommand) (why : EmuStop) (answer : PlayStop)
+    (so_far : PlaysSoFar p e old input.before text out.before out.now number)
+    → TakesCommand old new text (text_of new input.now) placed
     → Runs p so_far.runs.m placed.command (heard_of new) e e' (Err why) → most_of old ≡ most → answer ≡ emu_stop placed.at why
-    → PlayOutcome p most (record { before = before; now = left; faults_before = f0; faults_now = f1 })
-    (record { before = held; now = now; faults_before = g0; faults_now = g1 }) (Err answer)
-plays_to_emu_stop p most e e' old new before text left held now number f0 f1 g0 g1 placed why answer so_far takes runs most_is is =
-    let P : PlayStop → Type 0 = λ stop. PlayOutcome p most (record {
-      before = before;
-      now = left;
-      faults_before = f0;
-      faults_now = f1;
-    }) (record { before = held; now = now; faults_before = g0; faults_now = g1 }) (Err stop) in
+    → PlayOutcome p most input out (Err answer)
+plays_to_emu_stop {p} most {e} e' old new {text} {number} input out placed why answer so_far takes runs most_is is =
+    let P : PlayStop → Type 0 = λ stop. PlayOutcome p most input out (Err stop) in
     subst P (sym is) (by_stop why runs)
   where
     by_stop : (why : EmuStop) → Runs p so_far.runs.m placed.command (heard_of new) e e' (Err why)
-        → PlayOutcome p most (record { before = before; now = left; faults_before = f0; faults_now = f1 })
-        (record { before = held; now = now; faults_before = g0; faults_now = g1 }) (Err (emu_stop placed.at why))
-    by_stop (emu.Refused fault) runs = plays_to_refusal p most e
-        e' old new before text left held now number f0 f1 g0 g1 placed fault so_far takes runs (takes.most ∙ most_is)
-    by_stop emu.Memory runs = plays_without_room p most e old new before text left held now number f0 f1 g0 g1 placed so_far takes most_is
+        → PlayOutcome p most input out (Err (emu_stop placed.at why))
+    by_stop (emu.Refused fault) runs = plays_to_refusal p most e e' old new input.before text input.now out.before out.now number
+        input.faults_before input.faults_now out.faults_before out.faults_now placed fault so_far takes runs (takes.most ∙ most_is)
+    by_stop emu.Memory runs = plays_without_room p most e old new input.before text input.now out.before out.now number
+        input.faults_before input.faults_now out.faults_before out.faults_now placed so_far takes most_is
 
 -- the feed stops
-pub plays_to_feed_stop : (p : Printer) (most : ℕ) (e : Emulator) (feed new : JobFeed)
-    (before text left held now : Option (List ℕ)) (number f0 f1 f2 g0 g1 : ℕ) (why : FeedStop) (answer : PlayStop)
-    → PlaysSoFar p e feed before text held now number
-    → IsStopped feed text (text_of new left) f1 f2 why → f0 ≤ f1 → most_of feed ≡ most → answer ≡ feed_stop why
-    → PlayOutcome p most (record { before = before; now = left; faults_before = f0; faults_now = f2 })
-    (record { before = held; now = now; faults_before = g0; faults_now = g1 }) (Err answer)
-plays_to_feed_stop p most e feed new before text left held now number f0 f1 f2 g0 g1 why answer so_far stopped later most_is is =
-    let P : PlayStop → Type 0 = λ stop. PlayOutcome p most (record {
-      before = before;
-      now = left;
-      faults_before = f0;
-      faults_now = f2;
-    }) (record { before = held; now = now; faults_before = g0; faults_now = g1 }) (Err stop) in
-    subst P (sym is) (plays_to_stop p most e feed new before text left held now number f0 f1 f2 g0 g1 why so_far stopped later most_is)
+pub plays_to_feed_stop : {p : Printer} (most : ℕ) {e : Emulator} (feed new : JobFeed) {text : Option (List ℕ)} {number : ℕ}
+    (input out : Outside) (faults : ℕ) (why : FeedStop) (answer : PlayStop)
+    → PlaysSoFar p e feed input.before text out.before out.now number
+    → IsStopped feed text (text_of new input.now) faults input.faults_now why → input.faults_before ≤ faults
+    → most_of feed ≡ most → answer ≡ feed_stop why
+    → PlayOutcome p most input out (Err answer)
+plays_to_feed_stop {p} most {e} feed new {text} {number} input out faults why answer so_far stopped later most_is is =
+    let P : PlayStop → Type 0 = λ stop. PlayOutcome p most input out (Err stop) in
+    subst P (sym is) (plays_to_stop p most e feed new input.before text input.now out.before out.now number
+    input.faults_before faults input.faults_now out.faults_before out.faults_now why so_far stopped later most_is)
 
 -- what holds of an option that is none
 pub if_none : {T : Type 0} (o : Option T) (P : Type 0) → ((x : T) → o ≡ Some x → ⊥) → IfNone o P → P

@@ -9,12 +9,16 @@ use Rattle.escp2_definitions.specs.Machine.{given, refusals, start, with_sheets}
 use Rattle.job_feed.specs.Jobs.{Ends}
 use Rattle.printer_definitions.specs.Printer.{Printer}
 
--- After these commands the machine is in this state, and they gave these sheets.
-pub record Executes (p : Printer) (entries : List Entry) (m : Machine) (sheets : List Sheet) : Type 0 where
-  pub is : (rest : List Entry) → execute p (entries ++ rest) ≡ with_sheets sheets (execute_from p m rest)
+-- From the first state the machine comes to this one by these commands, which gave these sheets.
+pub record ExecutesFrom (p : Printer) (first : Machine) (entries : List Entry) (m : Machine) (sheets : List Sheet) : Type 0 where
+  pub is : (rest : List Entry) → execute_from p first (entries ++ rest) ≡ with_sheets sheets (execute_from p m rest)
 
-pub executes_none : (p : Printer) → Executes p [] start []
-executes_none p = record { is = λ rest. refl }
+-- After these commands of a job the machine is in this state, and they gave these sheets.
+abbrev pub Executes : Printer → List Entry → Machine → List Sheet → Type 0
+Executes p entries m sheets = ExecutesFrom p start entries m sheets
+
+pub executes_none : (p : Printer) (first : Machine) → ExecutesFrom p first [] first []
+executes_none p first = record { is = λ rest. refl }
 
 -- a command that is not refused
 accepted : (p : Printer) (m : Machine) (entry : Entry) (rest : List Entry) → first_fault (refusals p m entry.command entry.rows) ≡ None
@@ -26,7 +30,7 @@ accepted p m entry rest none = ap (λ o. elim o [
 ]) none
 
 -- a command that is refused
-refused : (p : Printer) (m : Machine) (entry : Entry) (rest : List Entry) (fault : EmuFault)
+pub refused : (p : Printer) (m : Machine) (entry : Entry) (rest : List Entry) (fault : EmuFault)
     → first_fault (refusals p m entry.command entry.rows) ≡ Some fault
     → execute_from p m (entry ∷ rest) ≡ record { sheets = []; refused = Some (record { at = entry.at; fault = fault }) }
 unfolding execute_from
@@ -35,13 +39,14 @@ refused p m entry rest fault some = ap (λ o. elim o [
   | None ↦ with_sheets (given p m entry.command) (execute_from p (after p m entry.command entry.rows) rest)
 ]) some
 
-pub executes_more : (p : Printer) (entries : List Entry) (entry : Entry) (m : Machine) (sheets : List Sheet) → Executes p entries m sheets
+pub executes_more : (p : Printer) (first : Machine) (entries : List Entry) (entry : Entry) (m : Machine) (sheets : List Sheet)
+    → ExecutesFrom p first entries m sheets
     → first_fault (refusals p m entry.command entry.rows) ≡ None
-    → Executes p (entries ++ entry ∷ []) (after p m entry.command entry.rows) (sheets ++ given p m entry.command)
-executes_more p entries entry m sheets so_far none = record {
+    → ExecutesFrom p first (entries ++ entry ∷ []) (after p m entry.command entry.rows) (sheets ++ given p m entry.command)
+executes_more p first entries entry m sheets so_far none = record {
   is = λ rest.
       let run : Printed = execute_from p (after p m entry.command entry.rows) rest in
-      ap (execute p) (append_assoc entries (entry ∷ []) rest)
+      ap (execute_from p first) (append_assoc entries (entry ∷ []) rest)
       ∙ so_far.is (entry ∷ rest)
       ∙ ap (with_sheets sheets) (accepted p m entry rest none)
       ∙ ap (λ all. record { sheets = all; refused = run.refused }) (sym (append_assoc sheets (given p m entry.command) run.sheets));

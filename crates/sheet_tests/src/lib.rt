@@ -6,6 +6,8 @@ mod bands;
 #[cfg(test)]
 mod checks;
 #[cfg(test)]
+mod counting;
+#[cfg(test)]
 mod emulator;
 #[cfg(test)]
 mod images;

@@ -8,7 +8,7 @@ use Rattle.job_player.proofs.player.play_job.Goals as goal
 pub returns-in_err-feed : goal.returns-in_err-feed
 returns-in_err-feed g c =
     let error = err_from_is_err_and c.from_residual.result c.from_residual.ensures.1 in
-    rw (error.1, error.2) (plays_nothing c.args.profile.now c.args.most _ _ _ _ _ _)
+    rw (error.1, error.2) (plays_nothing c.args.profile.now c.args.most)
 
 pub commands-init : goal.commands-init
 commands-init g c = record {
@@ -22,13 +22,13 @@ commands-init g c = record {
 pub returns-in_err-placed : goal.returns-in_err-placed
 returns-in_err-placed g c =
     let error = err_from_is_err_and c.from_residual-in_err-placed.result c.from_residual-in_err-placed.ensures.1 in
-    rw error.1 (plays_to_feed_stop _ c.args.most _
-    c.commands.feed c.next.new.self _ _ _ _ _ _ _ _ _ _ _ c.in_err-placed.field-0.0 _ c.commands.invariant.so_far
+    rw error.1 (plays_to_feed_stop c.args.most
+    c.commands.feed c.next.new.self _ _ _ c.in_err-placed.field-0.0 _ c.commands.invariant.so_far
     c.in_err-placed.ensures.stop c.commands.invariant.later c.commands.invariant.most error.2)
 
 pub returns-in_default : goal.returns-in_default
 returns-in_default g c =
-    plays_all _ c.args.most _ c.commands.feed c.next.new.self _ _ _ _ _ _ _ _ _ _ c.commands.invariant.so_far
+    plays_all c.args.most c.commands.feed c.next.new.self c.commands.invariant.so_far
     (if_none c.in_ok-placed.field-0 _ c.in_default.not-Some c.in_ok-placed.ensures.end) c.commands.invariant.most
 
 pub commands-preserved-in_default-given : goal.commands-preserved-in_default-given
@@ -38,7 +38,7 @@ commands-preserved-in_default-given g c =
     let none = is_none c.in-Ok.given c.in_default-given.not-Some in
     let runs = rw none at (rw c.rows.ensures at (c.in-Ok.ensures c.args.profile.now so_far.runs.m so_far.runs.shows)) in
     record {
-      so_far = plays_more _ _ _ _ _ _ _ _ _ _ _ c.in-Some.placed so_far takes runs;
+      so_far = plays_more _ c.in-Some.placed so_far takes runs;
       between = takes.between;
       most = takes.most ∙ c.commands.invariant.most;
       later = omega (arith, c.commands.invariant.later, c.next.ensures.later);
@@ -52,7 +52,7 @@ returns-in-Err g c =
     let P : List ℕ → Type 0 = λ rows. Runs c.args.profile.now
     so_far.runs.m c.in-Some.placed.command rows c.commands.emulator c.run.new.self (Err c.in-Err.stop) in
     let runs = subst P c.rows.ensures (c.in-Err.ensures c.args.profile.now so_far.runs.m so_far.runs.shows) in
-    plays_to_emu_stop _ c.args.most _ _ c.commands.feed c.next.new.self _ _ _ _ _ _ _ _ _ _ c.in-Some.placed
+    plays_to_emu_stop c.args.most c.run.new.self c.commands.feed c.next.new.self _ _ c.in-Some.placed
     c.in-Err.stop c.refused_at.result so_far takes runs c.commands.invariant.most c.refused_at.ensures
 
 pub returns-in-Err-write_sheet : goal.returns-in-Err-write_sheet
@@ -61,8 +61,8 @@ returns-in-Err-write_sheet g c =
     let takes = rw c.in-Some.is at c.in_ok-placed.ensures.command in
     let runs = rw c.in-Some-given.is at
     (rw c.rows.ensures at (c.in-Ok.ensures c.args.profile.now so_far.runs.m so_far.runs.shows)) in
-    let has = gives_sheet _ _ _ _ _ _ _ _ _ _ _ c.in-Some.placed c.in-Some-given.sheet so_far takes runs in
-    sheet_unwritten _ c.args.most _ c.next.new.self _ _ _ _ _ _ _ _ _ _ _ _ c.in-Some-given.sheet
+    let has = gives_sheet _ c.in-Some.placed c.in-Some-given.sheet so_far takes runs in
+    sheet_unwritten c.args.most c.next.new.self c.in-Some-given.sheet
     has c.in-Err-write_sheet.ensures.part c.saturating_add-sheets.ensures (takes.most ∙ c.commands.invariant.most)
     c.commands.invariant.out_later c.in-Err-write_sheet.ensures.cause.failed
 
@@ -72,9 +72,9 @@ commands-preserved g c =
     let takes = rw c.in-Some.is at c.in_ok-placed.ensures.command in
     let runs = rw c.in-Some-given.is at
     (rw c.rows.ensures at (c.in-Ok.ensures c.args.profile.now so_far.runs.m so_far.runs.shows)) in
-    let has = gives_sheet _ _ _ _ _ _ _ _ _ _ _ c.in-Some.placed c.in-Some-given.sheet so_far takes runs in
+    let has = gives_sheet _ c.in-Some.placed c.in-Some-given.sheet so_far takes runs in
     record {
-      so_far = sheet_written _ _ _ _ _ _ _ _ _ _ c.in-Some-given.sheet has c.in-Ok-write_sheet.ensures.ok c.saturating_add-sheets.ensures;
+      so_far = sheet_written c.in-Some-given.sheet has c.in-Ok-write_sheet.ensures.ok c.saturating_add-sheets.ensures;
       between = takes.between;
       most = takes.most ∙ c.commands.invariant.most;
       later = omega (arith, c.commands.invariant.later, c.next.ensures.later);
