@@ -3,6 +3,8 @@ use Rattle.std.specs.Prelude.{ℕ, List, [], ◌++◌, codes}
 use Rattle.std.specs.Fmt.{decimal}
 use Rattle.job_words.specs.declared.usage.UsageCause.{UsageCause}
 use Rattle.job_words.specs.declared.usage.UsageCause.TheVariants as usage
+use Rattle.dead_nozzles.specs.declared.checking.DeadFault.{DeadFault}
+use Rattle.dead_nozzles.specs.declared.checking.DeadFault.TheVariants as dead
 use Rattle.driver_answer.specs.declared.answer.Answer.{Answer}
 use Rattle.driver_answer.specs.declared.answer.Answer.TheVariants as answer
 use Rattle.escp2_definitions.specs.declared.stops.EmuFault.{EmuFault}
@@ -45,6 +47,7 @@ usage_name usage.NotKeyValue = codes "NotKeyValue"
 usage_name usage.UnknownKey = codes "UnknownKey"
 usage_name usage.RepeatedKey = codes "RepeatedKey"
 usage_name usage.BadValue = codes "BadValue"
+usage_name usage.Together = codes "Together"
 
 abbrev pub header_name : HeaderFault → List ℕ
 header_name header.NotPwg = codes "NotPwg"
@@ -97,11 +100,20 @@ check_words (check.TopMargin needs) = codes "TopMargin" ++ (codes " " ++ decimal
 check_words (check.Curve ink) = codes "Curve" ++ (codes " " ++ decimal ink)
 check_words other = check_name other
 
+abbrev pub dead_words : DeadFault → List ℕ
+dead_words (dead.NoSuchNozzle nozzle) = codes "NoSuchNozzle" ++ (codes " " ++ decimal nozzle)
+dead_words (dead.AllDead nozzles) = codes "AllDead" ++ (codes " " ++ decimal nozzles)
+
+abbrev pub shingle_words : ℕ → ℕ → List ℕ
+shingle_words half gcd = codes "NoShingle" ++ (codes " " ++ decimal half) ++ (codes " " ++ decimal gcd)
+
 abbrev pub profile_words : ProfileCause → List ℕ
 profile_words profile.Absent = codes "Absent"
 profile_words profile.TooLong = codes "TooLong"
 profile_words (profile.Text cause) = text_words cause
 profile_words (profile.Check fault) = check_words fault
+profile_words (profile.Dead fault) = dead_words fault
+profile_words (profile.NoShingle half gcd) = shingle_words half gcd
 
 abbrev pub reader_name : JobCause → List ℕ
 reader_name reader.Unknown = codes "Unknown"

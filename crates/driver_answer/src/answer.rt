@@ -1,6 +1,7 @@
 //! The answers of a run.
-ghost use Rattle.driver_answer.specs.Answers.{check_words, input_name as input_name_of, job_name as job_name_of};
-ghost use Rattle.driver_answer.specs.Answers.{profile_words, text_words, usage_name as usage_name_of};
+ghost use Rattle.driver_answer.specs.Answers.{check_words, dead_words, input_name as input_name_of};
+ghost use Rattle.driver_answer.specs.Answers.{job_name as job_name_of, profile_words, shingle_words, text_words};
+ghost use Rattle.driver_answer.specs.Answers.{usage_name as usage_name_of};
 ghost use Rattle.arrayvec.specs.ArrayString.{array_string_len};
 ghost use Rattle.std.specs.Fmt.{decimal};
 ghost use Rattle.std.specs.Prelude.{codes, ◌+◌, ◌++◌, ◌≡◌, ◌≤◌, []};
@@ -9,7 +10,7 @@ use crate::names::{check_name, input_name, job_name, text_name, usage_name};
 use arrayvec::ArrayString;
 use escp2_definitions::JobStop;
 use itoa::Buffer;
-use job_profile::ProfileCause;
+use job_profile::{DeadFault, ProfileCause};
 use job_words::UsageFault;
 use printer_profile::{ProfileFault, TextCause, key_name};
 use pwg_definitions::InputCause;
@@ -111,16 +112,57 @@ fn push_text(cause: TextCause, out: &mut ArrayString<160>)
     }
 }
 
+// Appends a blank and a number of 8 bits.
+fn push_carried(n: u8, out: &mut ArrayString<160>)
+    requires { array_string_len out.old + 11 ≤ 160 }
+    ensures bytes { out.new.bytes ≡ out.old.bytes ++ (codes " " ++ decimal n) }
+    ensures len { array_string_len out.new ≤ array_string_len out.old + 11 }
+{
+    out.push_str(" ");
+    push_number(u32::from(n), out);
+}
+
+// Appends the fault of a list of dead nozzles, and the number that it carries.
+fn push_dead(fault: DeadFault, out: &mut ArrayString<160>)
+    requires { array_string_len out.old + 23 ≤ 160 }
+    ensures bytes { out.new.bytes ≡ out.old.bytes ++ dead_words fault }
+    ensures len { array_string_len out.new ≤ array_string_len out.old + 23 }
+{
+    match fault {
+        DeadFault::NoSuchNozzle { nozzle } => {
+            out.push_str("NoSuchNozzle");
+            push_carried(nozzle, out);
+        }
+        DeadFault::AllDead { nozzles } => {
+            out.push_str("AllDead");
+            push_carried(nozzles, out);
+        }
+    }
+}
+
+// Appends that a head cannot shingle, with half its nozzles and their greatest common divisor with the pitch.
+fn push_shingle(half: u8, gcd: u8, out: &mut ArrayString<160>)
+    requires { array_string_len out.old + 31 ≤ 160 }
+    ensures bytes { out.new.bytes ≡ out.old.bytes ++ shingle_words half gcd }
+    ensures len { array_string_len out.new ≤ array_string_len out.old + 31 }
+{
+    out.push_str("NoShingle");
+    push_carried(half, out);
+    push_carried(gcd, out);
+}
+
 fn push_profile_cause(cause: ProfileCause, out: &mut ArrayString<160>)
-    requires { array_string_len out.old + 22 ≤ 160 }
+    requires { array_string_len out.old + 31 ≤ 160 }
     ensures bytes { out.new.bytes ≡ out.old.bytes ++ profile_words cause }
-    ensures len { array_string_len out.new ≤ array_string_len out.old + 22 }
+    ensures len { array_string_len out.new ≤ array_string_len out.old + 31 }
 {
     match cause {
         ProfileCause::Absent => out.push_str("Absent"),
         ProfileCause::TooLong => out.push_str("TooLong"),
         ProfileCause::Text(cause) => push_text(cause, out),
         ProfileCause::Check(fault) => push_check(fault, out),
+        ProfileCause::Dead(fault) => push_dead(fault, out),
+        ProfileCause::NoShingle { half, gcd } => push_shingle(half, gcd, out),
     }
 }
 

@@ -11,6 +11,6 @@ mod stops;
 
 pub use answer::Answer;
 pub use escp2_definitions::{EmuFault, JobCause, JobStop};
-pub use job_profile::ProfileCause;
+pub use job_profile::{DeadFault, ProfileCause};
 pub use job_words::{UsageCause, UsageFault};
 pub use printer_profile::{ProfileFault, TextCause};

@@ -22,6 +22,7 @@ pub fn usage_name(cause: UsageCause) -> &'static str
         UsageCause::UnknownKey => "UnknownKey",
         UsageCause::RepeatedKey => "RepeatedKey",
         UsageCause::BadValue => "BadValue",
+        UsageCause::Together => "Together",
     }
 }
 

@@ -3,3 +3,4 @@ pub mod Playing
 pub mod Listing
 pub mod Showing
 pub mod Runs
+pub mod Trying

@@ -2,5 +2,6 @@
 pub mod Counting
 pub mod StreamSteps
 pub mod Ends
+pub mod Writing
 pub mod ByStatus
 pub mod Promised

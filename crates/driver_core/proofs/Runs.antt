@@ -1,6 +1,5 @@
 -- Proofs for a whole run.
 pub mod Statuses
-pub mod Workers
 pub mod Asked
 pub mod AtWork
 pub mod Nothing

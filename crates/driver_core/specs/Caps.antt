@@ -15,3 +15,4 @@ begun_by verb.Print cap accounts = with_cap cap accounts
 begun_by verb.Dots cap accounts = accounts
 begun_by verb.List cap accounts = accounts
 begun_by verb.Profile cap accounts = accounts
+begun_by verb.Trial cap accounts = accounts

@@ -4,4 +4,5 @@ pub mod Printing
 pub mod Playing
 pub mod Listing
 pub mod Showing
+pub mod Trying
 pub mod Runs

@@ -1,4 +1,5 @@
 -- What the commands have in common: a whole run.
+pub mod Fitting
 pub mod Outcome
 pub mod Prepared
 pub mod Asking

@@ -18,12 +18,14 @@
 #![tactic(auto)]
 
 mod dots;
+mod fitting;
 mod list;
 mod performing;
 mod preparing;
 mod print;
 mod profile;
 mod running;
+mod trial;
 
 pub use driver_answer::{Answer, ProfileCause, UsageCause, UsageFault};
 pub use page_halftoner::Halftoner;

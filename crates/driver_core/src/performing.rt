@@ -8,6 +8,7 @@ use crate::list::list;
 use crate::preparing::Prepared;
 use crate::print::print_pages;
 use crate::profile::show_profile;
+use crate::trial::try_pages;
 use driver_answer::Answer;
 use ink_meter::Meter;
 use std::alloc::Global;
@@ -38,10 +39,18 @@ pub fn perform<R: Threads + Sync, S: Source, K: Sink, G: Gate + Sync>(
                 workers: job.workers,
                 gate,
             };
-            print_pages(&team, alloc, &profile, job.kernel, input, out, meters)
+            print_pages(&team, alloc, &profile, &job, input, out, meters)
         }
         Prepared::Dots { job, profile } => play(alloc, &profile, job.most, input, out),
         Prepared::List { job } => list(alloc, job.most, input, out),
         Prepared::Profile { profile, .. } => show_profile(alloc, &profile, out),
+        Prepared::Trial { job, profile } => {
+            let team = Team {
+                threads,
+                workers: job.workers,
+                gate,
+            };
+            try_pages(&team, alloc, &profile, &job, out)
+        }
     }
 }

@@ -8,6 +8,7 @@ ghost use Rattle.printer_profile.specs.Profiles.{built_in};
 ghost use Rattle.std.specs.Io.KnownBytes.{Keeps};
 ghost use Rattle.std.specs.Prelude.{IfErr, IfOk, IsErr, IsSome, map, ◌≡◌};
 
+use crate::fitting::check_way;
 use crate::print::set_caps;
 use driver_answer::Answer;
 use ink_meter::Meter;
@@ -24,10 +25,11 @@ pub enum Prepared {
     Dots { job: Job, profile: Profile },
     List { job: Job },
     Profile { job: Job, profile: Profile },
+    Trial { job: Job, profile: Profile },
 }
 
-/// Reads the words of a command line, sets the caps of the meters where a word gives one, and finds the profile that
-/// the command takes. `Err` is the answer of a run that goes no further.
+/// Reads the words of a command line, sets the caps of the meters where a word gives one, finds the profile that the
+/// command takes, and checks that its head can go over pages as the job asks. `Err` is the answer of a run that goes no further.
 pub fn prepare<F: Shelf>(
     alloc: Global,
     words: &Words,
@@ -55,10 +57,14 @@ pub fn prepare<F: Shelf>(
         return Ok(Prepared::List { job });
     }
     let profile = find_profile(alloc, shelf, profile_name(words, &job))?;
+    if let Err(cause) = check_way(&job, &profile) {
+        return Err(Answer::Profile { line: 0, cause });
+    }
     match job.verb {
         Verb::Print => Ok(Prepared::Print { job, profile }),
         Verb::Dots => Ok(Prepared::Dots { job, profile }),
         Verb::List => Ok(Prepared::List { job }),
         Verb::Profile => Ok(Prepared::Profile { job, profile }),
+        Verb::Trial => Ok(Prepared::Trial { job, profile }),
     }
 }

@@ -4,10 +4,13 @@ use weave_base::Words;
 const HELP: &str = "\
 jinthbao - prints PWG Raster pages as ESC/P2 jobs, and shows what such jobs print
 
-usage: driver_program print [profile=NAME] [kernel=NAME] [workers=NUMBER] [cap=NUMBER] < pages.pwg > job.prn
+usage: driver_program print [profile=NAME] [kernel=NAME] [workers=NUMBER] [cap=NUMBER]
+                            [shingle=1 | dead=NUMBER,..] < pages.pwg > job.prn
        driver_program dots [profile=NAME] [most=NUMBER] < job.prn > images.pbm
        driver_program list [most=NUMBER] < job.prn
        driver_program profile [profile=NAME]
+       driver_program trial [profile=NAME] [kernel=NAME] [workers=NUMBER] [seed=NUMBER] [pages=NUMBER]
+                            [width=NUMBER] [height=NUMBER] [kind=NAME] [shingle=1 | dead=NUMBER,..]
        driver_program --help | --version
 
 print    reads pages from standard input (PWG Raster, PWG 5102.4; grey, black, RGB and CMYK of 8 bits a colour,
@@ -16,6 +19,8 @@ dots     reads a job from standard input, runs it on the profile's printer, and 
          sheet (raw PBM, kind P4): black, cyan, magenta and yellow
 list     reads a job from standard input, and writes a line for each command
 profile  writes the text of a profile to standard output, with all keys: a text of version 1 as one of version 2
+trial    makes pages of drawn lines, prints them into memory, runs the job on the profile's printer, and writes a line
+         of what it counted: pages, sheets, bytes, rasters, and the dots of each ink; it reads nothing
 
 profile=NAME    tiny1, tiny, p360k, p360cmyk, p720cmyk, or a file of the current folder
                 (default p360cmyk)
@@ -24,6 +29,12 @@ workers=NUMBER  1 to 64 (default 1): so many threads diffuse each slab of up to 
 cap=NUMBER      the most dots that the job may print, all inks together (default: no limit): a kiosk's quota,
                 or what is left in a label desk's cartridge; a page that would go past it is not printed,
                 and ends the job
+shingle=1       each row is fired in two passes, one on its even columns and one on its odd ones (default 0: in one)
+dead=NUMBER,..  nozzles that do not fire, counted from 0, in rising order; others fire their rows in further strokes
+seed=NUMBER     of 32 bits (default 1): the same seed makes the same pages
+pages=NUMBER    1 to 16 (default 1)
+width=NUMBER    1 to 8191 pixels (default 256), height=NUMBER 1 to 15840 (default 300)
+kind=NAME       gray, black, rgb, black1 or cmyk (default gray)
 most=NUMBER     the most bytes of a job that are taken, up to 17179869184 (the default)
                 Keys stand in any order, each at most once.
 

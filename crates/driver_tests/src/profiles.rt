@@ -10,10 +10,9 @@ use weave_base::MemShelf;
 
 #[test]
 fn each_bad_word_has_its_cause(rt: HostRuntime) -> Result<(), Fail> {
-    const CASES: [Refusal; 13] = [
+    const CASES: [Refusal; 12] = [
         (&[], 1, b"usage: word 1: NoCommand\n"),
         (&["plot"], 1, b"usage: word 1: UnknownCommand\n"),
-        (&["trial"], 1, b"usage: word 1: UnknownCommand\n"),
         (&["Print"], 1, b"usage: word 1: UnknownCommand\n"),
         (&["print", "workers=0"], 1, b"usage: word 2: BadValue\n"),
         (&["print", "workers=65"], 1, b"usage: word 2: BadValue\n"),

@@ -11,6 +11,7 @@
 mod finding;
 mod stops;
 
+pub use dead_nozzles::DeadFault;
 pub use finding::find_profile;
 pub use printer_profile::Profile;
 pub use stops::{ProfileCause, ProfileStop};

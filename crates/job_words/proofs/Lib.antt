@@ -1,6 +1,13 @@
+pub mod Accepted
+pub mod Bounds
+pub mod DeadLists
 pub mod Faults
-pub mod Kept
+pub mod FirstWords
+pub mod Given
+pub mod Heads
+pub mod Jobs
 pub mod Meanings
+pub mod Most
+pub mod NozzleLists
 pub mod Profiles
 pub mod Steps
-pub mod Most

@@ -9,7 +9,7 @@ use Rattle.key_values.specs.Pairs.{value_of}
 use Rattle.job_words.specs.Meaning.{gives, given, refused, given_profile_word, job_of, job_unless}
 use Rattle.job_words.specs.Meaning.{command_meaning, job_meaning, profile_named}
 use Rattle.job_words.specs.declared.reading.Job.{Job}
-use Rattle.job_words.proofs.Steps.{behind}
+use Rattle.job_words.proofs.FirstWords.{behind}
 
 -- a job has the number of the profile's word
 job_number : (words : List (List ℕ)) (job : Job)

@@ -1,6 +1,7 @@
 -- Jobs of command lines that give few keys.
-use Rattle.std.specs.Prelude.{None}
+use Rattle.std.specs.Prelude.{None, false, []}
 use Rattle.diffusion_kernel.specs.declared.tables.Kernel.TheVariants.{Floyd}
+use Rattle.pwg_definitions.specs.declared.pages.Kind.TheVariants.{Gray8}
 use Rattle.job_words.specs.declared.reading.Job.{Job}
 use Rattle.job_words.specs.declared.table.Verb.{Verb}
 
@@ -13,4 +14,11 @@ plain_job verb = record {
   workers = 1;
   cap = None;
   most = 17179869184;
+  shingle = false;
+  dead = record { items = [] };
+  seed = 1;
+  pages = 1;
+  width = 256;
+  height = 300;
+  kind = Gray8;
 }

@@ -1,6 +1,7 @@
+pub mod DeadLists
 pub mod Examples
+pub mod Jobs
 pub mod Meaning
-pub mod Reading
 pub mod Rows
 pub mod Table
 pub mod Values

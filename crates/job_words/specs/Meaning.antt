@@ -1,30 +1,46 @@
 -- What the words of a command line ask for, and which of them is refused.
-use Rattle.std.specs.Prelude.{ℕ, Bool, ◌+◌, if◌then◌else◌, List, [], ◌∷◌, ◌++◌, codes, drop, length, find}
+use Rattle.std.specs.Prelude.{ℕ, Bool, false, ◌+◌, ◌&&◌, ◌||◌, if◌then◌else◌, List, [], ◌∷◌, ◌++◌, codes, drop, length, find}
 use Rattle.std.specs.Prelude.{Option, Some, None, Result, Ok, Err, unwrap_or}
 use Rattle.std.specs.List.{list_any, position_from}
 use Rattle.std.specs.Option.{option_and_then, option_map}
 use Rattle.job_words.specs.declared.usage.UsageCause.{UsageCause}
-use Rattle.job_words.specs.declared.usage.UsageCause.TheVariants.{NoCommand, UnknownCommand, NotKeyValue, UnknownKey, RepeatedKey, BadValue}
+use Rattle.job_words.specs.declared.usage.UsageCause.TheVariants.{NoCommand, UnknownCommand, NotKeyValue, UnknownKey}
+use Rattle.job_words.specs.declared.usage.UsageCause.TheVariants.{RepeatedKey, BadValue, Together}
 use Rattle.job_words.specs.declared.usage.UsageFault.{UsageFault}
-use Rattle.diffusion_kernel.specs.declared.tables.Kernel.{Kernel}
 use Rattle.diffusion_kernel.specs.declared.tables.Kernel.TheVariants.{Floyd}
+use Rattle.pwg_definitions.specs.declared.pages.Kind.TheVariants.{Gray8}
 use Rattle.key_values.specs.Pairs.{is_key_value, key_of, value_of}
-use Rattle.job_words.specs.Values.{cap_value, greatest_most, is_text, kernel_named, most_value, worker_count}
-use Rattle.job_words.specs.Table.{KeyRow, CommandRow, command_named, key_named, profile_key, kernel_key, workers_key, cap_key, most_key}
+use Rattle.job_words.specs.DeadLists.{dead_value}
+use Rattle.job_words.specs.Values.{cap_value, greatest_most, height_value, is_text, kernel_named, kind_named, most_value}
+use Rattle.job_words.specs.Values.{page_count, seed_value, shingle_value, width_value, worker_count}
+use Rattle.job_words.specs.Table.{KeyRow, CommandRow, command_named, key_named, profile_key, kernel_key, workers_key}
+use Rattle.job_words.specs.Table.{cap_key, most_key, shingle_key, dead_key, seed_key, pages_key, width_key, height_key, kind_key}
 use Rattle.job_words.specs.declared.reading.Job.{Job}
 
 -- whether a word gives this key
 abbrev pub gives : KeyRow → List ℕ → Bool
 gives key word = is_text (key_of word) key.name
 
--- why a word with a key of the command is refused: the key was given before, else it does not take the value
-abbrev pub value_fault : Bool → Bool → Option UsageCause
-value_fault repeated taken = if repeated then Some RepeatedKey else if taken then None else Some BadValue
+-- whether a word asks for shingled passes
+abbrev pub asks_for_shingles : List ℕ → Bool
+asks_for_shingles word = gives shingle_key word && is_text (value_of word) (codes "1")
+
+-- Whether two words exclude each other: one asks for shingled passes, and the other lists dead nozzles. No strokes
+-- do both.
+abbrev pub excludes : List ℕ → List ℕ → Bool
+excludes word other = (asks_for_shingles word && gives dead_key other) || (gives dead_key word && asks_for_shingles other)
+
+-- why a word with a key of the command is refused: the key was given before; else it does not take the value; else an
+-- earlier word excludes the word
+abbrev pub value_fault : Bool → Bool → Bool → Option UsageCause
+value_fault repeated taken excluded =
+    if repeated then Some RepeatedKey else if taken then (if excluded then Some Together else None) else Some BadValue
 
 -- why a word whose key has this row in the table is refused
 abbrev pub key_fault : List (List ℕ) → List ℕ → Option KeyRow → Option UsageCause
 key_fault earlier word None = Some UnknownKey
-key_fault earlier word (Some key) = value_fault (list_any (gives key) earlier) (key.takes (value_of word))
+key_fault earlier word (Some key) =
+    value_fault (list_any (gives key) earlier) (key.takes (value_of word)) (list_any (excludes word) earlier)
 
 -- Why a word after the command is refused, if it is; `earlier` are the words between the command and it.
 unfoldable pub word_fault : List KeyRow → List (List ℕ) → List ℕ → Option UsageCause
@@ -55,31 +71,26 @@ given key words = option_map value_of (find (gives key) words)
 abbrev pub given_profile_word : List (List ℕ) → Option ℕ
 given_profile_word words = position_from (gives profile_key) 2 words
 
--- the kernel that the words give
-abbrev pub given_kernel : List (List ℕ) → Option Kernel
-given_kernel words = option_and_then kernel_named (given kernel_key words)
-
--- the count of workers that the words give
-abbrev pub given_workers : List (List ℕ) → Option ℕ
-given_workers words = option_and_then worker_count (given workers_key words)
-
--- the cap that the words give
-abbrev pub given_cap : List (List ℕ) → Option ℕ
-given_cap words = option_and_then cap_value (given cap_key words)
-
--- the most bytes that the words give
-abbrev pub given_most : List (List ℕ) → Option ℕ
-given_most words = option_and_then most_value (given most_key words)
+-- what the value says that the words give a key, where they give it one
+abbrev pub given_as : {T : Type 0} → KeyRow → (List ℕ → Option T) → List (List ℕ) → Option T
+given_as key read words = option_and_then read (given key words)
 
 -- The job of a command and the words after it: each key's value, or its default.
 abbrev pub job_of : CommandRow → List (List ℕ) → Job
 job_of command words = record {
   verb = command.verb;
   profile_word = unwrap_or (given_profile_word words) 0;
-  kernel = unwrap_or (given_kernel words) Floyd;
-  workers = unwrap_or (given_workers words) 1;
-  cap = given_cap words;
-  most = unwrap_or (given_most words) greatest_most;
+  kernel = unwrap_or (given_as kernel_key kernel_named words) Floyd;
+  workers = unwrap_or (given_as workers_key worker_count words) 1;
+  cap = given_as cap_key cap_value words;
+  most = unwrap_or (given_as most_key most_value words) greatest_most;
+  shingle = unwrap_or (given_as shingle_key shingle_value words) false;
+  dead = record { items = unwrap_or (given_as dead_key dead_value words) [] };
+  seed = unwrap_or (given_as seed_key seed_value words) 1;
+  pages = unwrap_or (given_as pages_key page_count words) 1;
+  width = unwrap_or (given_as width_key width_value words) 256;
+  height = unwrap_or (given_as height_key height_value words) 300;
+  kind = unwrap_or (given_as kind_key kind_named words) Gray8;
 }
 
 -- The first fault, if there is one; else the job.

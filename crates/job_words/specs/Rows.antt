@@ -1,10 +1,11 @@
 -- The rows of the table for the commands and keys in the code.
-use Rattle.job_words.specs.Table.{CommandRow, KeyRow, cap_key, dots_command, kernel_key, list_command, most_key}
-use Rattle.job_words.specs.Table.{print_command, profile_command, profile_key, workers_key}
+use Rattle.job_words.specs.Table.{CommandRow, KeyRow, cap_key, dead_key, dots_command, height_key, kernel_key, kind_key}
+use Rattle.job_words.specs.Table.{list_command, most_key, pages_key, print_command, profile_command, profile_key}
+use Rattle.job_words.specs.Table.{seed_key, shingle_key, trial_command, width_key, workers_key}
 use Rattle.job_words.specs.declared.table.Verb.{Verb}
 use Rattle.job_words.specs.declared.table.Verb.TheVariants as verb
-use Rattle.job_words.specs.declared.table.Key.{Key}
-use Rattle.job_words.specs.declared.table.Key.TheVariants as key
+use Rattle.job_words.specs.declared.keys.Key.{Key}
+use Rattle.job_words.specs.declared.keys.Key.TheVariants as key
 
 -- the row of a command
 abbrev pub command_row : Verb → CommandRow
@@ -12,6 +13,7 @@ command_row verb.Print = print_command
 command_row verb.Dots = dots_command
 command_row verb.List = list_command
 command_row verb.Profile = profile_command
+command_row verb.Trial = trial_command
 
 -- the row of a key
 abbrev pub key_row : Key → KeyRow
@@ -20,3 +22,10 @@ key_row key.Kernel = kernel_key
 key_row key.Workers = workers_key
 key_row key.Cap = cap_key
 key_row key.Most = most_key
+key_row key.Shingle = shingle_key
+key_row key.Dead = dead_key
+key_row key.Seed = seed_key
+key_row key.Pages = pages_key
+key_row key.Width = width_key
+key_row key.Height = height_key
+key_row key.Kind = kind_key

@@ -3,16 +3,26 @@
 //! `read_words` gives exactly the meaning of a command line: its job, or its first refused word and the cause.
 //! `profile_name` gives the value of the word `profile=..`, or the name of the built-in profile. Neither takes
 //! memory. The commands, their keys and the values that they take are the table of `specs/Table.antt`.
+//!
+//! `laws`: the numbers of a job lie within the bounds of their keys (`a_job_is_within_bounds`); dead nozzles are
+//! numbers below 255 in rising order (`dead_nozzles_rise`), and a list of them is read as it is written
+//! (`a_written_list_is_read`); no job has both shingled passes and dead nozzles (`shingled_heads_have_no_dead_nozzle`),
+//! and those of commands that print nothing have neither (`other_commands_have_whole_heads`).
 #![tactic(auto)]
 
+mod dead_lists;
+mod earlier;
 pub mod examples;
+mod keys;
 pub mod laws;
 mod reading;
 mod table;
 mod usage;
 mod values;
 
+pub use dead_lists::DeadNozzles;
 pub use diffusion_kernel::Kernel;
+pub use pwg_definitions::Kind;
 pub use reading::{Job, profile_name, read_words};
 pub use table::Verb;
 pub use usage::{UsageCause, UsageFault};

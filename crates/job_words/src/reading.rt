@@ -1,22 +1,28 @@
 //! Reading the words of a command line.
-ghost use Rattle.job_words.specs.Meaning.{job_meaning, profile_named, refused, value_fault, word_fault};
-ghost use Rattle.key_values.specs.Pairs.{value_of as value_in};
-ghost use Rattle.job_words.specs.Reading.{IsGiven};
+ghost use Rattle.job_words.specs.DeadLists.{dead_value as dead_of};
+ghost use Rattle.job_words.specs.Meaning.{given_as, job_meaning, job_of, profile_named};
+ghost use Rattle.job_words.specs.Meaning.{refused, word_fault};
 ghost use Rattle.job_words.specs.Rows.{command_row};
-ghost use Rattle.job_words.specs.Table.{profile_key};
-ghost use Rattle.std.specs.Prelude.{IfErr, IfOk, List, OnOk, [], drop, is_some, length, slice_get, ℕ};
-ghost use Rattle.std.specs.Prelude.{◌+◌, ◌++◌, ◌∷◌, ◌≡◌, if◌then◌else◌};
-ghost use Rattle.std.specs.Result.{result_err};
+ghost use Rattle.job_words.specs.Table.{dead_key};
+ghost use Rattle.std.specs.Prelude.{IfErr, OnOk, [], drop, length, slice_get, take, unwrap_or};
+ghost use Rattle.std.specs.Prelude.{◌-◌, ◌≡◌, ◌≤◌};
 
-use crate::table::{Key, Verb};
+use crate::dead_lists::{DeadNozzles, dead_value};
+use crate::earlier::{is_excluded_before, is_given_before, profile_word, value_given, value_of};
+use crate::keys::Key;
+use crate::table::Verb;
 use crate::usage::{UsageCause, UsageFault};
-use crate::values::{GREATEST_MOST, cap_value, kernel_named, most_value, worker_count};
+use crate::values::{
+    GREATEST_MOST, cap_value, height_value, kernel_named, kind_named, most_value, page_count,
+    seed_value, shingle_value, width_value, worker_count,
+};
 use diffusion_kernel::Kernel;
 use key_values::cut_word;
+use pwg_definitions::Kind;
 use weave_base::Words;
 
 /// What a command line asks for.
-#[derive(Clone, Copy, Debug, PartialEq, Eq)]
+#[derive(Clone, Debug, PartialEq, Eq, Drop)]
 pub struct Job {
     /// The command.
     pub verb: Verb,
@@ -31,97 +37,105 @@ pub struct Job {
     pub cap: Option<u64>,
     /// The most bytes of a job that are read, at most 16 GiB.
     pub most: u64,
+    /// Whether each row is fired by two passes, one on its even and one on its odd columns.
+    pub shingle: bool,
+    /// The dead nozzles, counted from 0, in rising order.
+    pub dead: DeadNozzles,
+    /// The seed of the pages that are made.
+    pub seed: u32,
+    /// How many pages are made: 1 to 16.
+    pub pages: u8,
+    /// Pixels across a made page: 1 to 8,191.
+    pub width: u32,
+    /// Lines down a made page: 1 to 15,840.
+    pub height: u32,
+    /// The kind of the made pages.
+    pub kind: Kind,
 }
 
-// What the words so far give.
-#[derive(Clone, Copy)]
-struct Given {
-    profile_word: Option<u32>,
-    kernel: Option<Kernel>,
-    workers: Option<u8>,
-    cap: Option<u64>,
-    most: Option<u64>,
-}
-
-// Keeps a key's value, unless the key has one already.
-fn keep<T: Copy>(kept: &mut Option<T>, value: Option<T>) -> Result<(), UsageCause>
-    ensures cause { result_err result ≡ value_fault (is_some kept.old) (is_some value) }
-    ensures kept { OnOk result (kept.new ≡ value) }
+// Why a word is refused, if it is, where the words between the command and this place stand before it.
+fn refusal(verb: Verb, words: &Words, place: u32, word: &str) -> Option<UsageCause>
+    requires some { 1 ≤ place }
+    requires within { place ≤ length words.now }
+    ensures { result ≡ word_fault (command_row verb).keys (take (place - 1) (drop 1 words.now)) word.now }
 {
-    if kept.is_some() {
-        return Err(UsageCause::RepeatedKey);
-    }
-    *kept = Some(value.ok_or(UsageCause::BadValue)?);
-    Ok(())
-}
-
-// The value of a word; empty where it has none.
-fn value_of(word: &str) -> &str
-    ensures { result.now ≡ value_in word.now }
-{
-    match cut_word(word) {
-        Some((_, value)) => value,
-        None => "",
-    }
-}
-
-// The number of the word that gives the profile, if the profile takes its value.
-fn profile_at(number: u32, value: &str) -> Option<u32>
-    ensures { result ≡ (if profile_key.takes value.now then Some number else None) }
-{
-    if 1 <= value.len() && value.len() <= 255 {
-        Some(number)
+    let Some((name, value)) = cut_word(word) else {
+        return Some(UsageCause::NotKeyValue);
+    };
+    let Some(key) = verb.key(name) else {
+        return Some(UsageCause::UnknownKey);
+    };
+    if is_given_before(place, words, key) {
+        Some(UsageCause::RepeatedKey)
+    } else if !key.takes(value) {
+        Some(UsageCause::BadValue)
+    } else if is_excluded_before(place, words, word) {
+        Some(UsageCause::Together)
     } else {
         None
     }
 }
 
-impl Given {
-    // Reads the word of this number.
-    fn take(&mut self, verb: Verb, number: u32, word: &str) -> Result<(), UsageCause>
-        ensures cause { (earlier : List (List ℕ)) → IsGiven earlier self.old
-            → result_err result ≡ word_fault (command_row verb).keys earlier word.now }
-        ensures given { (earlier : List (List ℕ)) → IsGiven earlier self.old → length earlier + 2 ≡ number
-            → OnOk result (IsGiven (earlier ++ word.now ∷ []) self.new) }
-    {
-        let Some((name, value)) = cut_word(word) else {
-            return Err(UsageCause::NotKeyValue);
-        };
-        match verb.key(name) {
-            Some(Key::Profile) => keep(&mut self.profile_word, profile_at(number, value)),
-            Some(Key::Kernel) => keep(&mut self.kernel, kernel_named(value)),
-            Some(Key::Workers) => keep(&mut self.workers, worker_count(value)),
-            Some(Key::Cap) => keep(&mut self.cap, cap_value(value)),
-            Some(Key::Most) => keep(&mut self.most, most_value(value)),
-            None => Err(UsageCause::UnknownKey),
-        }
-    }
-}
-
-// What the words after the command give.
-fn read_keys(verb: Verb, words: &Words) -> Result<Given, UsageFault>
+// Refuses the first bad word after the command.
+fn check_words(verb: Verb, words: &Words) -> Result<(), UsageFault>
     ensures accepted { OnOk result (refused (command_row verb).keys (drop 1 words.now) [] ≡ []) }
-    ensures given { IfOk result (IsGiven (drop 1 words.now)) }
     ensures fault { IfErr result (λ fault.
         slice_get (refused (command_row verb).keys (drop 1 words.now) []) 0 ≡ Some fault) }
 {
-    let mut given = Given {
-        profile_word: None,
-        kernel: None,
-        workers: None,
-        cap: None,
-        most: None,
-    };
     for i in 1..words.len() {
-        let number = i + 1;
-        if let Err(cause) = given.take(verb, number, words.get(i)) {
-            return Err(UsageFault {
-                word: number,
-                cause,
-            });
+        if let Some(cause) = refusal(verb, words, i, words.get(i)) {
+            return Err(UsageFault { word: i + 1, cause });
         }
     }
-    Ok(given)
+    Ok(())
+}
+
+// The dead nozzles that the words list; none where no word lists them.
+fn dead_given(words: &Words) -> DeadNozzles
+    ensures { result.items ≡ unwrap_or (given_as dead_key dead_of (drop 1 words.now)) [] }
+{
+    value_given(words, Key::Dead)
+        .and_then(dead_value)
+        .unwrap_or_default()
+}
+
+// The job of accepted words: for each key its value, or its default.
+fn job_given(verb: Verb, words: &Words) -> Job
+    ensures { result ≡ job_of (command_row verb) (drop 1 words.now) }
+{
+    Job {
+        verb,
+        profile_word: profile_word(words),
+        kernel: value_given(words, Key::Kernel)
+            .and_then(kernel_named)
+            .unwrap_or(Kernel::Floyd),
+        workers: value_given(words, Key::Workers)
+            .and_then(worker_count)
+            .unwrap_or(1),
+        cap: value_given(words, Key::Cap).and_then(cap_value),
+        most: value_given(words, Key::Most)
+            .and_then(most_value)
+            .unwrap_or(GREATEST_MOST),
+        shingle: value_given(words, Key::Shingle)
+            .and_then(shingle_value)
+            .unwrap_or(false),
+        dead: dead_given(words),
+        seed: value_given(words, Key::Seed)
+            .and_then(seed_value)
+            .unwrap_or(1),
+        pages: value_given(words, Key::Pages)
+            .and_then(page_count)
+            .unwrap_or(1),
+        width: value_given(words, Key::Width)
+            .and_then(width_value)
+            .unwrap_or(256),
+        height: value_given(words, Key::Height)
+            .and_then(height_value)
+            .unwrap_or(300),
+        kind: value_given(words, Key::Kind)
+            .and_then(kind_named)
+            .unwrap_or(Kind::Gray8),
+    }
 }
 
 /// Reads the words of a command line as a job: the command, then `key=value` in any order. Words are numbered from 1.
@@ -141,15 +155,8 @@ pub fn read_words(words: &Words) -> Result<Job, UsageFault>
             cause: UsageCause::UnknownCommand,
         });
     };
-    let given = read_keys(verb, words)?;
-    Ok(Job {
-        verb,
-        profile_word: given.profile_word.unwrap_or(0),
-        kernel: given.kernel.unwrap_or(Kernel::Floyd),
-        workers: given.workers.unwrap_or(1),
-        cap: given.cap,
-        most: given.most.unwrap_or(GREATEST_MOST),
-    })
+    check_words(verb, words)?;
+    Ok(job_given(verb, words))
 }
 
 /// The name of the job's profile, of 1 to 255 bytes: `p360cmyk`, which is built in, where no word gives one. The job

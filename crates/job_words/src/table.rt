@@ -1,6 +1,8 @@
 //! The commands, and the keys that each of them takes.
 ghost use Rattle.std.specs.Prelude.{◌≡◌};
 
+use crate::keys::Key;
+
 /// A command.
 #[derive(Clone, Copy, Debug, PartialEq, Eq)]
 pub enum Verb {
@@ -12,16 +14,8 @@ pub enum Verb {
     List,
     /// Shows a profile.
     Profile,
-}
-
-/// A key of some command.
-#[derive(Clone, Copy)]
-pub(crate) enum Key {
-    Profile,
-    Kernel,
-    Workers,
-    Cap,
-    Most,
+    /// Prints made pages into memory, and sums up what their bytes put on the sheets.
+    Trial,
 }
 
 impl Verb {
@@ -38,6 +32,7 @@ impl Verb {
             "dots" => Some(Verb::Dots),
             "list" => Some(Verb::List),
             "profile" => Some(Verb::Profile),
+            "trial" => Some(Verb::Trial),
             _ => None,
         }
     }
@@ -47,11 +42,20 @@ impl Verb {
         ensures { option_map key_row result ≡ key_named (command_row self).keys name.now }
     {
         match (self, name) {
-            (Verb::Print | Verb::Dots | Verb::Profile, "profile") => Some(Key::Profile),
-            (Verb::Print, "kernel") => Some(Key::Kernel),
-            (Verb::Print, "workers") => Some(Key::Workers),
+            (Verb::Print | Verb::Dots | Verb::Profile | Verb::Trial, "profile") => Some(
+                Key::Profile,
+            ),
+            (Verb::Print | Verb::Trial, "kernel") => Some(Key::Kernel),
+            (Verb::Print | Verb::Trial, "workers") => Some(Key::Workers),
             (Verb::Print, "cap") => Some(Key::Cap),
             (Verb::Dots | Verb::List, "most") => Some(Key::Most),
+            (Verb::Print | Verb::Trial, "shingle") => Some(Key::Shingle),
+            (Verb::Print | Verb::Trial, "dead") => Some(Key::Dead),
+            (Verb::Trial, "seed") => Some(Key::Seed),
+            (Verb::Trial, "pages") => Some(Key::Pages),
+            (Verb::Trial, "width") => Some(Key::Width),
+            (Verb::Trial, "height") => Some(Key::Height),
+            (Verb::Trial, "kind") => Some(Key::Kind),
             _ => None,
         }
     }

@@ -15,6 +15,8 @@ pub enum UsageCause {
     RepeatedKey,
     /// The key does not take the value.
     BadValue,
+    /// The word and an earlier one exclude each other: one asks for shingled passes, the other lists dead nozzles.
+    Together,
 }
 
 /// The first refused word, counted from 1, and why.

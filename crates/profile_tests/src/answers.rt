@@ -1,11 +1,12 @@
 //! The status and the line of each answer.
 use arrayvec::ArrayString;
 use driver_answer::{
-    Answer, EmuFault, JobCause, JobStop, ProfileCause, ProfileFault, UsageCause, UsageFault,
+    Answer, DeadFault, EmuFault, JobCause, JobStop, ProfileCause, ProfileFault, UsageCause,
+    UsageFault,
 };
 use pwg_definitions::{InputCause, LineFault};
 
-const CASES: [(Answer, u8, &str); 12] = [
+const CASES: [(Answer, u8, &str); 16] = [
     (Answer::Done, 0, ""),
     (
         Answer::Usage(UsageFault {
@@ -30,6 +31,38 @@ const CASES: [(Answer, u8, &str); 12] = [
         },
         2,
         "profile: line 0: Curve 3\n",
+    ),
+    (
+        Answer::Usage(UsageFault {
+            word: 4,
+            cause: UsageCause::Together,
+        }),
+        1,
+        "usage: word 4: Together\n",
+    ),
+    (
+        Answer::Profile {
+            line: 0,
+            cause: ProfileCause::NoShingle { half: 0, gcd: 1 },
+        },
+        2,
+        "profile: line 0: NoShingle 0 1\n",
+    ),
+    (
+        Answer::Profile {
+            line: 0,
+            cause: ProfileCause::Dead(DeadFault::AllDead { nozzles: 3 }),
+        },
+        2,
+        "profile: line 0: AllDead 3\n",
+    ),
+    (
+        Answer::Profile {
+            line: 0,
+            cause: ProfileCause::Dead(DeadFault::NoSuchNozzle { nozzle: 3 }),
+        },
+        2,
+        "profile: line 0: NoSuchNozzle 3\n",
     ),
     (
         Answer::Input {

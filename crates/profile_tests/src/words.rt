@@ -1,14 +1,16 @@
 //! Command lines, good and bad.
-use job_words::{Job, Kernel, UsageCause, UsageFault, Verb, Words, profile_name, read_words};
+use job_words::{
+    DeadNozzles, Job, Kernel, Kind, UsageCause, UsageFault, Verb, Words, profile_name, read_words,
+};
 use std::alloc::Global;
 use std::process::Abort;
 use std::test::Fail;
 
-/// The words of a line, of which there are at most four.
+/// The words of a line, of which there are at most twelve.
 fn words_of(alloc: Global, line: &[&str]) -> Result<Words, Fail> {
     let mut words = Words::make(alloc);
     for word in line {
-        if words.len() < 4 {
+        if words.len() < 12 {
             words.push(word)?;
         }
     }
@@ -29,18 +31,49 @@ fn same_fault(
     Ok(())
 }
 
+/// A job as a constant, with the name of its profile.
+#[derive(Drop)]
+struct Wanted {
+    verb: Verb,
+    profile_word: u32,
+    kernel: Kernel,
+    workers: u8,
+    cap: Option<u64>,
+    most: u64,
+    shingle: bool,
+    dead: &'static [u8],
+    seed: u32,
+    pages: u8,
+    width: u32,
+    height: u32,
+    kind: Kind,
+    name: &'static str,
+}
+
+fn job_of(wanted: &Wanted) -> Result<Job, Fail> {
+    Ok(Job {
+        verb: wanted.verb,
+        profile_word: wanted.profile_word,
+        kernel: wanted.kernel,
+        workers: wanted.workers,
+        cap: wanted.cap,
+        most: wanted.most,
+        shingle: wanted.shingle,
+        dead: DeadNozzles::try_from(wanted.dead)?,
+        seed: wanted.seed,
+        pages: wanted.pages,
+        width: wanted.width,
+        height: wanted.height,
+        kind: wanted.kind,
+    })
+}
+
 /// Stops the test where a line is not read as this job with a profile of this name.
-fn same_job(
-    rt: &impl Abort,
-    alloc: Global,
-    line: &[&str],
-    wanted: &Job,
-    name: &str,
-) -> Result<(), Fail> {
+fn same_job(rt: &impl Abort, alloc: Global, line: &[&str], wanted: &Wanted) -> Result<(), Fail> {
     let words = words_of(alloc, line)?;
     let job = read_words(&words)?;
     assert!(rt;
-        job == *wanted && profile_name(&words, &job) == name,
+        job == job_of(wanted)? && profile_name(&words, &job) == wanted.name,
         "{line:?}"
     );
     Ok(())
@@ -48,7 +81,7 @@ fn same_job(
 
 #[test]
 fn each_bad_word_has_its_cause(rt: HostRuntime) -> Result<(), Fail> {
-    const LINES: [(&[&str], u32, UsageCause); 9] = [
+    const LINES: [(&[&str], u32, UsageCause); 11] = [
         (&[], 1, UsageCause::NoCommand),
         (&["plot"], 1, UsageCause::UnknownCommand),
         (&["print", "workers=0"], 2, UsageCause::BadValue),
@@ -60,6 +93,8 @@ fn each_bad_word_has_its_cause(rt: HostRuntime) -> Result<(), Fail> {
         (&["print", "x"], 2, UsageCause::NotKeyValue),
         (&["print", "most=1"], 2, UsageCause::UnknownKey),
         (&["profile", "kernel=fs"], 2, UsageCause::UnknownKey),
+        (&["profile", "dead=0"], 2, UsageCause::UnknownKey),
+        (&["dots", "shingle=0"], 2, UsageCause::UnknownKey),
         (&["list", "most=17179869185"], 2, UsageCause::BadValue),
         (
             &["print", "profile=tiny", "cap=18446744073709551616"],
@@ -73,71 +108,170 @@ fn each_bad_word_has_its_cause(rt: HostRuntime) -> Result<(), Fail> {
     Ok(())
 }
 
+#[test]
+fn shingled_passes_and_dead_nozzles_are_refused_at_the_later_word(
+    rt: HostRuntime,
+) -> Result<(), Fail> {
+    const LINES: [(&[&str], u32, UsageCause); 10] = [
+        (
+            &["print", "profile=tiny", "shingle=1", "dead=2"],
+            4,
+            UsageCause::Together,
+        ),
+        (&["print", "dead=2", "shingle=1"], 3, UsageCause::Together),
+        (
+            &["trial", "shingle=1", "seed=2", "dead=0"],
+            4,
+            UsageCause::Together,
+        ),
+        (
+            &["trial", "dead=0", "kind=rgb", "shingle=1", "x"],
+            4,
+            UsageCause::Together,
+        ),
+        (&["print", "shingle=1", "dead=2,1"], 3, UsageCause::BadValue),
+        (&["print", "dead=2", "shingle=2"], 3, UsageCause::BadValue),
+        (
+            &["print", "shingle=1", "shingle=1", "dead=2"],
+            3,
+            UsageCause::RepeatedKey,
+        ),
+        (
+            &["print", "shingle=1", "x", "dead=2"],
+            3,
+            UsageCause::NotKeyValue,
+        ),
+        (
+            &["print", "shingle=0", "dead=2", "shingle=1"],
+            4,
+            UsageCause::RepeatedKey,
+        ),
+        (
+            &["print", "profile=tiny", "dead=2,1"],
+            3,
+            UsageCause::BadValue,
+        ),
+    ];
+    for (line, word, cause) in LINES {
+        same_fault(&rt, rt.alloc(), line, word, Some(cause))?;
+    }
+    Ok(())
+}
+
 /// What `print` means without further words.
-const PRINT: Job = Job {
+const PRINT: Wanted = Wanted {
     verb: Verb::Print,
     profile_word: 0,
     kernel: Kernel::Floyd,
     workers: 1,
     cap: None,
     most: 17_179_869_184,
+    shingle: false,
+    dead: &[],
+    seed: 1,
+    pages: 1,
+    width: 256,
+    height: 300,
+    kind: Kind::Gray8,
+    name: "p360cmyk",
 };
 
 #[test]
 fn a_line_is_read_as_a_job(rt: HostRuntime) -> Result<(), Fail> {
-    const LINES: [(&[&str], Job, &str); 5] = [
+    const LINES: [(&[&str], Wanted); 9] = [
         (
             &["print", "profile=a=b", "kernel=stucki", "workers=64"],
-            Job {
+            Wanted {
                 profile_word: 2,
                 kernel: Kernel::Stucki,
                 workers: 64,
+                name: "a=b",
                 ..PRINT
             },
-            "a=b",
         ),
         (
             &["profile"],
-            Job {
+            Wanted {
                 verb: Verb::Profile,
                 ..PRINT
             },
-            "p360cmyk",
         ),
         (
             &["dots", "most=10"],
-            Job {
+            Wanted {
                 verb: Verb::Dots,
                 most: 10,
                 ..PRINT
             },
-            "p360cmyk",
         ),
         (
             &["list", "most=10"],
-            Job {
+            Wanted {
                 verb: Verb::List,
                 most: 10,
                 ..PRINT
             },
-            "p360cmyk",
         ),
         (
             &["print", "cap=18446744073709551615"],
-            Job {
+            Wanted {
                 cap: Some(18_446_744_073_709_551_615),
                 ..PRINT
             },
-            "p360cmyk",
+        ),
+        (
+            &["print", "shingle=1"],
+            Wanted {
+                shingle: true,
+                ..PRINT
+            },
+        ),
+        (
+            &["print", "shingle=0", "dead=0,7,254"],
+            Wanted {
+                dead: &[0, 7, 254],
+                ..PRINT
+            },
+        ),
+        (
+            &["trial"],
+            Wanted {
+                verb: Verb::Trial,
+                ..PRINT
+            },
+        ),
+        (
+            &[
+                "trial",
+                "kind=cmyk",
+                "height=15840",
+                "width=8191",
+                "pages=16",
+                "seed=0",
+                "dead=2",
+                "profile=c",
+            ],
+            Wanted {
+                verb: Verb::Trial,
+                profile_word: 8,
+                dead: &[2],
+                seed: 0,
+                pages: 16,
+                width: 8191,
+                height: 15_840,
+                kind: Kind::Cmyk8,
+                name: "c",
+                ..PRINT
+            },
         ),
     ];
-    for (line, job, name) in &LINES {
-        same_job(&rt, rt.alloc(), line, job, name)?;
+    for (line, wanted) in &LINES {
+        same_job(&rt, rt.alloc(), line, wanted)?;
     }
     Ok(())
 }
 
-const VALUES: [(&str, Option<UsageCause>); 27] = [
+const VALUES: [(&str, Option<UsageCause>); 56] = [
     ("workers=1", None),
     ("workers=64", None),
     ("workers=0", Some(UsageCause::BadValue)),
@@ -163,6 +297,35 @@ const VALUES: [(&str, Option<UsageCause>); 27] = [
     ("kernel=stucki", None),
     ("kernel=Fs", Some(UsageCause::BadValue)),
     ("kernel=", Some(UsageCause::BadValue)),
+    ("shingle=0", None),
+    ("shingle=1", None),
+    ("dead=0", None),
+    ("dead=254", None),
+    ("dead=0,254", None),
+    ("dead=1,2,3", None),
+    ("shingle=2", Some(UsageCause::BadValue)),
+    ("shingle=", Some(UsageCause::BadValue)),
+    ("shingle=01", Some(UsageCause::BadValue)),
+    ("shingle=true", Some(UsageCause::BadValue)),
+    ("dead=", Some(UsageCause::BadValue)),
+    ("dead=0,", Some(UsageCause::BadValue)),
+    ("dead=,0", Some(UsageCause::BadValue)),
+    ("dead=0,,1", Some(UsageCause::BadValue)),
+    ("dead=00", Some(UsageCause::BadValue)),
+    ("dead=0,01", Some(UsageCause::BadValue)),
+    ("dead=2,2", Some(UsageCause::BadValue)),
+    ("dead=2,1", Some(UsageCause::BadValue)),
+    ("dead=0,2,1", Some(UsageCause::BadValue)),
+    ("dead=255", Some(UsageCause::BadValue)),
+    ("dead=0,255", Some(UsageCause::BadValue)),
+    ("dead=256", Some(UsageCause::BadValue)),
+    ("dead=+1", Some(UsageCause::BadValue)),
+    ("dead= 1", Some(UsageCause::BadValue)),
+    ("dead=1 ", Some(UsageCause::BadValue)),
+    ("dead=0, 1", Some(UsageCause::BadValue)),
+    ("dead=1;2", Some(UsageCause::BadValue)),
+    ("dead=none", Some(UsageCause::BadValue)),
+    ("seed=1", Some(UsageCause::UnknownKey)),
     ("=1", Some(UsageCause::UnknownKey)),
     ("worker=1", Some(UsageCause::UnknownKey)),
     ("Workers=1", Some(UsageCause::UnknownKey)),
@@ -198,6 +361,73 @@ fn a_profile_has_1_to_255_bytes(rt: HostRuntime) -> Result<(), Fail> {
         }
         let words = words_of(rt.alloc(), &["print", word.as_str()])?;
         assert!(rt; read_words(&words).is_ok() == is_taken, "{len}");
+    }
+    Ok(())
+}
+
+#[test]
+fn each_value_of_a_trial_is_taken_or_refused(rt: HostRuntime) -> Result<(), Fail> {
+    const TRIAL_VALUES: [(&str, Option<UsageCause>); 33] = [
+        ("seed=0", None),
+        ("seed=4294967295", None),
+        ("pages=1", None),
+        ("pages=16", None),
+        ("width=1", None),
+        ("width=8191", None),
+        ("height=1", None),
+        ("height=15840", None),
+        ("kind=gray", None),
+        ("kind=black", None),
+        ("kind=rgb", None),
+        ("kind=black1", None),
+        ("kind=cmyk", None),
+        ("kernel=jjn", None),
+        ("workers=64", None),
+        ("shingle=1", None),
+        ("dead=254", None),
+        ("seed=4294967296", Some(UsageCause::BadValue)),
+        ("seed=-1", Some(UsageCause::BadValue)),
+        ("seed=", Some(UsageCause::BadValue)),
+        ("pages=0", Some(UsageCause::BadValue)),
+        ("pages=17", Some(UsageCause::BadValue)),
+        ("width=0", Some(UsageCause::BadValue)),
+        ("width=8192", Some(UsageCause::BadValue)),
+        ("height=0", Some(UsageCause::BadValue)),
+        ("height=15841", Some(UsageCause::BadValue)),
+        ("kind=Gray", Some(UsageCause::BadValue)),
+        ("kind=grey", Some(UsageCause::BadValue)),
+        ("kind=", Some(UsageCause::BadValue)),
+        ("workers=65", Some(UsageCause::BadValue)),
+        ("cap=1", Some(UsageCause::UnknownKey)),
+        ("most=1", Some(UsageCause::UnknownKey)),
+        ("page=1", Some(UsageCause::UnknownKey)),
+    ];
+    for (word, cause) in TRIAL_VALUES {
+        same_fault(&rt, rt.alloc(), &["trial", word, "profile=c"], 2, cause)?;
+    }
+    Ok(())
+}
+
+/// The word that lists the first nozzles, with commas between.
+fn first_nozzles(alloc: Global, count: u32) -> Result<String, Fail> {
+    let mut word = String::from_str(alloc, "dead=0")?;
+    for nozzle in 1..count {
+        word.push(',')?;
+        word.push_str(&format!(in alloc; "{nozzle}")?)?;
+    }
+    Ok(word)
+}
+
+#[test]
+fn all_nozzles_of_the_greatest_head_are_listed_and_no_more(rt: HostRuntime) -> Result<(), Fail> {
+    for (count, is_taken) in [(1, true), (254, true), (255, true), (256, false)] {
+        let word = first_nozzles(rt.alloc(), count)?;
+        let words = words_of(rt.alloc(), &["print", word.as_str()])?;
+        let listed = read_words(&words).ok().map(|job| job.dead.len() as u32);
+        assert!(rt;
+            listed == if is_taken { Some(count) } else { None },
+            "{count}"
+        );
     }
     Ok(())
 }

@@ -13,6 +13,7 @@ use Rattle.ink_meter.specs.declared.meters.OverCap.{OverCap}
 use Rattle.ink_meter.proofs.Pages.{admitted-next}
 use Rattle.ink_meter.specs.Counts.{Admitted, counted, page_dots}
 use Rattle.printer_definitions.specs.declared.inks.InkCounts.{InkCounts}
+use Rattle.page_definitions.specs.Ways.{Way}
 use Rattle.printer_definitions.specs.Printer.{Printer}
 use Rattle.pwg_definitions.specs.declared.faults.InputCause.{InputCause}
 use Rattle.pwg_definitions.specs.Stream.StreamEnd.{Done, Fault}
@@ -27,48 +28,48 @@ use Rattle.driver_core.proofs.Runs.Statuses.{is_done, is_input, is_memory, is_ov
 
 -- ---- what printing came to, by the status
 
-pub print_done : (p : Printer) (k : Table) (input out : Outside) (meters : Meters) (s : ℕ) (a : Answer)
-    → PrintOutcome p k input out meters a → s ≡ status_of a → s ≡ 0
-    → (all : PrintsAll p k input out) × CountsPages p k meters all.pages
-print_done p k input out meters s a does e zero = subst (PrintOutcome p k input out meters) (is_done a (sym zero ∙ e)) does
+pub print_done : (way : Way) (p : Printer) (k : Table) (input out : Outside) (meters : Meters) (s : ℕ) (a : Answer)
+    → PrintOutcome way p k input out meters a → s ≡ status_of a → s ≡ 0
+    → (all : PrintsAll way p k input out) × CountsPages p k meters all.pages
+print_done way p k input out meters s a does e zero = subst (PrintOutcome way p k input out meters) (is_done a (sym zero ∙ e)) does
 
 -- the fault of an input, and its answer
-pub print_fault : (p : Printer) (k : Table) (input out : Outside) (meters : Meters) (s : ℕ) (a : Answer)
-    → PrintOutcome p k input out meters a → s ≡ status_of a → s ≡ 3
-    → (page line : ℕ) × (cause : InputCause) × (meets : MeetsFault p k input out page line cause)
+pub print_fault : (way : Way) (p : Printer) (k : Table) (input out : Outside) (meters : Meters) (s : ℕ) (a : Answer)
+    → PrintOutcome way p k input out meters a → s ≡ status_of a → s ≡ 3
+    → (page line : ℕ) × (cause : InputCause) × (meets : MeetsFault way p k input out page line cause)
     × CountsPages p k meters meets.pages × (a ≡ answer.Input page line cause)
-print_fault p k input out meters s a does e three =
+print_fault way p k input out meters s a does e three =
     let at = is_input a (sym three ∙ e) in
-    let met : PrintOutcome p k input out meters (answer.Input at.0 at.1 at.2) = subst (PrintOutcome p k input out meters) at.3 does in
+    let met : PrintOutcome way p k input out meters (answer.Input at.0 at.1 at.2) = subst (PrintOutcome way p k input out meters) at.3 does in
     (at.0, at.1, at.2, met.0, met.1, at.3)
 
-pub print_some : (p : Printer) (k : Table) (input out : Outside) (meters : Meters) (s : ℕ) (a : Answer)
-    → PrintOutcome p k input out meters a → s ≡ status_of a → s ≡ 4
-    → HasRisen input × (some : PrintsSome p k input out) × CountsPages p k meters some.pages
-print_some p k input out meters s a does e four = subst (PrintOutcome p k input out meters) (is_read a (sym four ∙ e)) does
+pub print_some : (way : Way) (p : Printer) (k : Table) (input out : Outside) (meters : Meters) (s : ℕ) (a : Answer)
+    → PrintOutcome way p k input out meters a → s ≡ status_of a → s ≡ 4
+    → HasRisen input × (some : PrintsSome way p k input out) × CountsPages p k meters some.pages
+print_some way p k input out meters s a does e four = subst (PrintOutcome way p k input out meters) (is_read a (sym four ∙ e)) does
 
-pub print_full : (p : Printer) (k : Table) (input out : Outside) (meters : Meters) (s : ℕ) (a : Answer)
-    → PrintOutcome p k input out meters a → s ≡ status_of a → s ≡ 7
-    → (some : PrintsSome p k input out)
+pub print_full : (way : Way) (p : Printer) (k : Table) (input out : Outside) (meters : Meters) (s : ℕ) (a : Answer)
+    → PrintOutcome way p k input out meters a → s ≡ status_of a → s ≡ 7
+    → (some : PrintsSome way p k input out)
     × (CountsPages p k meters some.pages ⊎ CountsOneMore p k meters some.pages some.taken.others)
-print_full p k input out meters s a does e seven = subst (PrintOutcome p k input out meters) (is_memory a (sym seven ∙ e)) does
+print_full way p k input out meters s a does e seven = subst (PrintOutcome way p k input out meters) (is_memory a (sym seven ∙ e)) does
 
-pub print_part : (p : Printer) (k : Table) (input out : Outside) (meters : Meters) (s : ℕ) (a : Answer)
-    → PrintOutcome p k input out meters a → s ≡ status_of a → s ≡ 5
-    → (number : ℕ) × (stops : StopsInPage p k input out number)
+pub print_part : (way : Way) (p : Printer) (k : Table) (input out : Outside) (meters : Meters) (s : ℕ) (a : Answer)
+    → PrintOutcome way p k input out meters a → s ≡ status_of a → s ≡ 5
+    → (number : ℕ) × (stops : StopsInPage way p k input out number)
     × CountsPages p k meters (stops.pages ++ stops.page ∷ []) × HasRisen out × (a ≡ answer.Write number)
-print_part p k input out meters s a does e five =
+print_part way p k input out meters s a does e five =
     let at = is_write a (sym five ∙ e) in
-    let stops : PrintOutcome p k input out meters (answer.Write at.0) = subst (PrintOutcome p k input out meters) at.1 does in
+    let stops : PrintOutcome way p k input out meters (answer.Write at.0) = subst (PrintOutcome way p k input out meters) at.1 does in
     (at.0, stops.1, stops.2, stops.0, at.1)
 
-pub print_over : (p : Printer) (k : Table) (input out : Outside) (meters : Meters) (s : ℕ) (a : Answer)
-    → PrintOutcome p k input out meters a → s ≡ status_of a → s ≡ 6
-    → (page total dots cap : ℕ) × GoesOver p k input out meters page total dots cap
+pub print_over : (way : Way) (p : Printer) (k : Table) (input out : Outside) (meters : Meters) (s : ℕ) (a : Answer)
+    → PrintOutcome way p k input out meters a → s ≡ status_of a → s ≡ 6
+    → (page total dots cap : ℕ) × GoesOver way p k input out meters page total dots cap
     × (a ≡ answer.OverCap page total dots cap)
-print_over p k input out meters s a does e six =
+print_over way p k input out meters s a does e six =
     let at = is_over_cap a (sym six ∙ e) in
-    (at.0, at.1, at.2, at.3, subst (PrintOutcome p k input out meters) at.4 does, at.4)
+    (at.0, at.1, at.2, at.3, subst (PrintOutcome way p k input out meters) at.4 does, at.4)
 
 -- the two ends of one stream
 one_end : (p : Printer) (before : Option (List ℕ)) (bytes : List ℕ) (pages pages' : List Page) (end end' : StreamEnd)
@@ -96,10 +97,10 @@ has_no_room accounts n over first room =
     omega (arith, has, first.full)
 
 -- a page that goes past a cap is not among pages that are admitted
-never_over : (p : Printer) (k : Table) (input out : Outside) (meters : Meters) (bytes : List ℕ) (pages : List Page)
-    (end : StreamEnd) (number total dots cap : ℕ) → GoesOver p k input out meters number total dots cap
+never_over : (way : Way) (p : Printer) (k : Table) (input out : Outside) (meters : Meters) (bytes : List ℕ) (pages : List Page)
+    (end : StreamEnd) (number total dots cap : ℕ) → GoesOver way p k input out meters number total dots cap
     → input.before ≡ Some bytes → stream (wanted_by p) bytes ≡ record { pages = pages; end = end } → Admitted p k pages meters.before → ⊥
-never_over p k input out meters bytes pages end number total dots cap over told is admitted =
+never_over way p k input out meters bytes pages end number total dots cap over told is admitted =
     let B : Option (List ℕ) → Type 0 = λ b. BeginsStream p b (over.pages ++ over.page ∷ []) in
     let begins = subst B told over.told in
     let all : pages ≡ over.pages ++ over.page ∷ begins.0 =
@@ -110,78 +111,78 @@ never_over p k input out meters bytes pages end number total dots cap over told 
     (subst (All (HasRoom (page_dots over.page p k))) (sym over.pages_counted.counts) room)
 
 -- nothing failed and no cap was met: a stream with a clean end is printed, and a faulty one is refused
-pub print_calm : (p : Printer) (k : Table) (input out : Outside) (meters : Meters) (s : ℕ)
-    (a : Answer) (bytes : List ℕ) (pages : List Page) → PrintOutcome p k input out meters a
+pub print_calm : (way : Way) (p : Printer) (k : Table) (input out : Outside) (meters : Meters) (s : ℕ)
+    (a : Answer) (bytes : List ℕ) (pages : List Page) → PrintOutcome way p k input out meters a
     → s ≡ status_of a → input.before ≡ Some bytes
     → stream (wanted_by p) bytes ≡ record { pages = pages; end = Done } → Admitted p k pages meters.before
     → IsCalm input → IsCalm out → (s ≡ 0) ⊎ (s ≡ 7)
-print_calm p k input out meters s answer.Done bytes pages does e told is admitted calm_in calm_out = inl e
-print_calm p k input out meters s (answer.Input page line cause) bytes pages does e told is admitted calm_in calm_out =
+print_calm way p k input out meters s answer.Done bytes pages does e told is admitted calm_in calm_out = inl e
+print_calm way p k input out meters s (answer.Input page line cause) bytes pages does e told is admitted calm_in calm_out =
     absurd (let never : Done ≡ Fault page line cause =
     one_end p input.before bytes pages does.0.pages Done (Fault page line cause) told is does.0.told in cc)
-print_calm p k input out meters s answer.Read bytes pages does e told is admitted calm_in calm_out = absurd (calm_in does.0)
-print_calm p k input out meters s (answer.Write number) bytes pages does e told is admitted calm_in calm_out = absurd (calm_out does.0)
-print_calm p k input out meters s (answer.OverCap page total dots cap) bytes pages does e told is admitted calm_in calm_out =
-    absurd (never_over p k input out meters bytes pages Done page total dots cap does told is admitted)
-print_calm p k input out meters s answer.Memory bytes pages does e told is admitted calm_in calm_out = inr e
-print_calm p k input out meters s (answer.Usage fault) bytes pages does e told is admitted calm_in calm_out = absurd does
-print_calm p k input out meters s (answer.Profile line0 cause0) bytes pages does e told is admitted calm_in calm_out = absurd does
-print_calm p k input out meters s (answer.Job offset cause0) bytes pages does e told is admitted calm_in calm_out = absurd does
+print_calm way p k input out meters s answer.Read bytes pages does e told is admitted calm_in calm_out = absurd (calm_in does.0)
+print_calm way p k input out meters s (answer.Write number) bytes pages does e told is admitted calm_in calm_out = absurd (calm_out does.0)
+print_calm way p k input out meters s (answer.OverCap page total dots cap) bytes pages does e told is admitted calm_in calm_out =
+    absurd (never_over way p k input out meters bytes pages Done page total dots cap does told is admitted)
+print_calm way p k input out meters s answer.Memory bytes pages does e told is admitted calm_in calm_out = inr e
+print_calm way p k input out meters s (answer.Usage fault) bytes pages does e told is admitted calm_in calm_out = absurd does
+print_calm way p k input out meters s (answer.Profile line0 cause0) bytes pages does e told is admitted calm_in calm_out = absurd does
+print_calm way p k input out meters s (answer.Job offset cause0) bytes pages does e told is admitted calm_in calm_out = absurd does
 
-pub print_bad : (p : Printer) (k : Table) (input out : Outside) (meters : Meters) (s : ℕ)
+pub print_bad : (way : Way) (p : Printer) (k : Table) (input out : Outside) (meters : Meters) (s : ℕ)
     (a : Answer) (bytes : List ℕ) (pages : List Page) (page line : ℕ) (cause : InputCause)
-    → PrintOutcome p k input out meters a
+    → PrintOutcome way p k input out meters a
     → s ≡ status_of a → input.before ≡ Some bytes → stream (wanted_by p) bytes
     ≡ record { pages = pages; end = Fault page line cause } → Admitted p k pages meters.before
     → IsCalm input → IsCalm out → (s ≡ 3) ⊎ (s ≡ 7)
-print_bad p k input out meters s answer.Done bytes pages page line cause does e told is admitted calm_in calm_out =
+print_bad way p k input out meters s answer.Done bytes pages page line cause does e told is admitted calm_in calm_out =
     absurd (let never : Fault page line cause ≡ Done =
     one_end p input.before bytes pages does.0.pages (Fault page line cause) Done told is does.0.told in cc)
-print_bad p k input out meters s (answer.Input page' line' cause')
+print_bad way p k input out meters s (answer.Input page' line' cause')
     bytes pages page line cause does e told is admitted calm_in calm_out = inl e
-print_bad p k input out meters s
+print_bad way p k input out meters s
     answer.Read bytes pages page line cause does e told is admitted calm_in calm_out = absurd (calm_in does.0)
-print_bad p k input out meters s (answer.Write number)
+print_bad way p k input out meters s (answer.Write number)
     bytes pages page line cause does e told is admitted calm_in calm_out = absurd (calm_out does.0)
-print_bad p k input out meters s
+print_bad way p k input out meters s
     (answer.OverCap page' total dots cap) bytes pages page line cause does e told is admitted calm_in calm_out =
-    absurd (never_over p k input out meters bytes pages (Fault page line cause) page' total dots cap does told is admitted)
-print_bad p k input out meters s answer.Memory bytes pages page line cause does e told is admitted calm_in calm_out = inr e
-print_bad p k input out meters s (answer.Usage fault) bytes pages page line cause does e told is admitted calm_in calm_out = absurd does
-print_bad p k input out meters s (answer.Profile line0 cause0) bytes pages page line cause does e told is admitted calm_in calm_out = absurd does
-print_bad p k input out meters s (answer.Job offset cause0) bytes pages page line cause does e told is admitted calm_in calm_out = absurd does
+    absurd (never_over way p k input out meters bytes pages (Fault page line cause) page' total dots cap does told is admitted)
+print_bad way p k input out meters s answer.Memory bytes pages page line cause does e told is admitted calm_in calm_out = inr e
+print_bad way p k input out meters s (answer.Usage fault) bytes pages page line cause does e told is admitted calm_in calm_out = absurd does
+print_bad way p k input out meters s (answer.Profile line0 cause0) bytes pages page line cause does e told is admitted calm_in calm_out = absurd does
+print_bad way p k input out meters s (answer.Job offset cause0) bytes pages page line cause does e told is admitted calm_in calm_out = absurd does
 
 -- nothing failed: a page without room is refused
-pub print_capped : (p : Printer) (k : Table) (input out : Outside) (meters : Meters) (s : ℕ)
+pub print_capped : (way : Way) (p : Printer) (k : Table) (input out : Outside) (meters : Meters) (s : ℕ)
     (a : Answer) (bytes : List ℕ) (pages later : List Page) (page : Page) (e' : StreamEnd)
-    → PrintOutcome p k input out meters a
+    → PrintOutcome way p k input out meters a
     → s ≡ status_of a
     → input.before ≡ Some bytes → stream (wanted_by p) bytes ≡ record { pages = pages ++ page ∷ later; end = e' }
     → (All (HasRoom (page_dots page p k)) (counted p k pages meters.before) → ⊥) → IsCalm input → IsCalm out → (s ≡ 6) ⊎ (s ≡ 7)
-print_capped p k input out meters s answer.Done bytes pages later page e' does e told is full calm_in calm_out =
+print_capped way p k input out meters s answer.Done bytes pages later page e' does e told is full calm_in calm_out =
     let P : List Page → Type 0 = λ pages. Admitted p k pages meters.before in
     absurd (full (admitted-next p k pages page later meters.before (subst P (same_pages p input.before bytes
     (pages ++ page ∷ later) does.0.pages e' Done told is does.0.told) does.1.admitted)))
-print_capped p k input out meters s (answer.Input page' line cause) bytes pages later page e' does e told is full calm_in calm_out =
+print_capped way p k input out meters s (answer.Input page' line cause) bytes pages later page e' does e told is full calm_in calm_out =
     let P : List Page → Type 0 = λ pages. Admitted p k pages meters.before in
     absurd (full (admitted-next p k pages page later meters.before (subst P (same_pages p input.before bytes
     (pages ++ page ∷ later) does.0.pages e' (Fault page' line cause) told is does.0.told) does.1.admitted)))
-print_capped p k input out meters s answer.Read bytes pages later page e' does e told is full calm_in calm_out =
+print_capped way p k input out meters s answer.Read bytes pages later page e' does e told is full calm_in calm_out =
     absurd (calm_in does.0)
-print_capped p k input out meters s (answer.Write number)
+print_capped way p k input out meters s (answer.Write number)
     bytes pages later page e' does e told is full calm_in calm_out = absurd (calm_out does.0)
-print_capped p k input out meters s
+print_capped way p k input out meters s
     (answer.OverCap page' total dots cap) bytes pages later page e' does e told is full calm_in calm_out = inl e
-print_capped p k input out meters s answer.Memory bytes pages later page e' does e told is full calm_in calm_out = inr e
-print_capped p k input out meters s (answer.Usage fault) bytes pages later page e' does e told is full calm_in calm_out = absurd does
-print_capped p k input out meters s (answer.Profile line0 cause0) bytes pages later page e' does e told is full calm_in calm_out = absurd does
-print_capped p k input out meters s (answer.Job offset cause0) bytes pages later page e' does e told is full calm_in calm_out = absurd does
+print_capped way p k input out meters s answer.Memory bytes pages later page e' does e told is full calm_in calm_out = inr e
+print_capped way p k input out meters s (answer.Usage fault) bytes pages later page e' does e told is full calm_in calm_out = absurd does
+print_capped way p k input out meters s (answer.Profile line0 cause0) bytes pages later page e' does e told is full calm_in calm_out = absurd does
+print_capped way p k input out meters s (answer.Job offset cause0) bytes pages later page e' does e told is full calm_in calm_out = absurd does
 
 -- nothing was printed
-pub prints_none : (p : Printer) (k : Table) (input out : Outside) (meters : Meters)
+pub prints_none : (way : Way) (p : Printer) (k : Table) (input out : Outside) (meters : Meters)
     → Keeps input.before input.now → Keeps out.before out.now → meters.now ≡ meters.before
-    → (some : PrintsSome p k input out) × CountsPages p k meters some.pages
-prints_none p k input out meters unread unwritten uncounted = (
+    → (some : PrintsSome way p k input out) × CountsPages p k meters some.pages
+prints_none way p k input out meters unread unwritten uncounted = (
   record {
     pages = [];
     taken = record {

@@ -1,6 +1,6 @@
 -- The outcome of printing, at each of its ends.
 use Rattle.std.proofs.Common.{◌≡◌, ℕ, ◌+◌, ◌-◌, ◌*◌, inl, inr, ◌≤◌, List, [], ◌∷◌, ◌++◌, length, Option, None, Some, IfSome}
-use Rattle.std.proofs.Common.{Err, IsErrOf, refl, sym, ◌∙◌, ap, subst, arith, append_assoc, append-nil}
+use Rattle.std.proofs.Common.{Err, IsErrOf, IsOk, refl, sym, ◌∙◌, ap, subst, arith, append_assoc, append-nil}
 use Rattle.std.specs.List.{AllByRecursion}
 use Rattle.std.specs.Io.KnownBytes.{Appends, Consumes, IsAtEnd, Keeps}
 use Rattle.std.proofs.KnownBytes.{Appends-nil, Consumes-nil, Consumes-trans}
@@ -10,14 +10,15 @@ use Rattle.driver_answer.specs.declared.answer.Answer.TheVariants as answer
 use Rattle.ink_meter.specs.Accounts.{Account, IsFirstOver, all_inks}
 use Rattle.ink_meter.specs.declared.meters.OverCap.{OverCap}
 use Rattle.page_definitions.specs.Dots.{halftone}
-use Rattle.page_definitions.specs.Printing.{HavePasses}
-use Rattle.page_definitions.specs.PageBytes.{halftone_bytes, page_bytes}
-use Rattle.page_laws.proofs.Headline.{pages-print}
-use Rattle.page_laws.proofs.Rasters.{pages-have}
+use Rattle.page_definitions.specs.Ways.{CanGo, KeepTo, Way, halftone_bytes_by, page_bytes_by}
+use Rattle.page_laws.proofs.WaysKept.{ways-keep, ways-print}
 use Rattle.ink_meter.specs.Counts.{page_dots}
 use Rattle.printer_definitions.specs.Printer.{Printer, row_units}
+use Rattle.printer_profile.proofs.CheckedProfiles.{can_print}
+use Rattle.printer_profile.specs.Validity.{check}
 use Rattle.separation_definitions.specs.CanPrint.{CanPrint}
 use Rattle.separation_definitions.specs.Windows.{wanted_by}
+use Rattle.pwg_definitions.specs.declared.faults.InputCause.{InputCause}
 use Rattle.pwg_definitions.specs.declared.pages.PageForm.{PageForm}
 use Rattle.pwg_definitions.specs.declared.pages.Wanted.{Wanted}
 use Rattle.pwg_definitions.specs.Header.{IsWanted}
@@ -41,6 +42,15 @@ use Rattle.driver_core.specs.Printing.Outcome.{CountsPages, PrintOutcome, Prints
 use Rattle.halftone_reader.proofs.PageSteps.{EndsSo}
 use Rattle.driver_core.proofs.Printing.Counting.{none_counted}
 use Rattle.driver_core.proofs.Printing.StreamSteps.{StreamRead, StreamSoFar, with_pages, pages-first}
+
+-- a printer whose head can go this way
+pub record CanPrintBy (way : Way) (p : Printer) : Type 0 where
+  pub can : CanPrint p
+  pub go : CanGo way p
+
+-- the printer of a profile that passes its checks
+pub can_go : (p : Printer) (way : Way) → p.nozzles ≤ 255 → IsOk (check p) → CanGo way p → CanPrintBy way p
+can_go p way few checked go = record { can = can_print p few checked; go = go }
 
 -- ---- pages are pages
 
@@ -104,18 +114,18 @@ first_pages want [] others are = tt
 first_pages want (page ∷ pages) others are = (are.0, first_pages want pages others are.1)
 
 -- pages that a text begins with have no more rasters than passes
-passes_of : (p : Printer) (k : Table) (bytes : List ℕ) (pages : List Page) (most number : ℕ)
-    → CanPrint p → ((rest : List ℕ) → stream (wanted_by p) (bytes ++ rest)
-    ≡ with_pages pages (pages_from (wanted_by p) most number rest)) → HavePasses p k pages
-passes_of p k bytes pages most number can is =
+passes_of : (way : Way) (p : Printer) (k : Table) (bytes : List ℕ) (pages : List Page) (most number : ℕ)
+    → CanPrintBy way p → ((rest : List ℕ) → stream (wanted_by p) (bytes ++ rest)
+    ≡ with_pages pages (pages_from (wanted_by p) most number rest)) → KeepTo way p k pages
+passes_of way p k bytes pages most number can is =
     let P : List Page → Type 0 = AllByRecursion (IsPage (wanted_by p)) in
-    pages-have p k pages can (first_pages (wanted_by p) pages (pages_from (wanted_by p) most number []).pages
+    ways-keep way p k pages can.can can.go (first_pages (wanted_by p) pages (pages_from (wanted_by p) most number []).pages
     (subst P (ap (λ (s : Stream). s.pages) (is [])) (stream-pages (wanted_by p) (bytes ++ []))))
 
 -- the same for the pages before the last
-first_passes : (p : Printer) (k : Table) (pages others : List Page) → HavePasses p k (pages ++ others) → HavePasses p k pages
-first_passes p k [] others have = tt
-first_passes p k (page ∷ pages) others have = (have.0, first_passes p k pages others have.1)
+first_passes : (way : Way) (p : Printer) (k : Table) (pages others : List Page) → KeepTo way p k (pages ++ others) → KeepTo way p k pages
+first_passes way p k [] others have = tt
+first_passes way p k (page ∷ pages) others have = (have.0, first_passes way p k pages others have.1)
 
 -- ---- the ends
 
@@ -134,16 +144,16 @@ taken_pages p before text left unread bytes pages most number uses is more = rec
 }
 
 -- some pages were printed, and these were counted
-abbrev PrintsCounted : Printer → Table → Outside → Outside → Meters → Type 0
-PrintsCounted p k input out meters = (some : PrintsSome p k input out) × CountsPages p k meters some.pages
+abbrev PrintsCounted : Way → Printer → Table → Outside → Outside → Meters → Type 0
+PrintsCounted way p k input out meters = (some : PrintsSome way p k input out) × CountsPages p k meters some.pages
 
 -- no page was printed
-none_printed : (p : Printer) (k : Table)
+none_printed : (way : Way) (p : Printer) (k : Table)
     (before left held : Option (List ℕ)) (accounts : List Account) (f0 f1 g0 g1 : ℕ) → UsesSome before left
-    → PrintsCounted p k (record { before = before; now = left; faults_before = f0; faults_now = f1 })
+    → PrintsCounted way p k (record { before = before; now = left; faults_before = f0; faults_now = f1 })
     (record { before = held; now = held; faults_before = g0; faults_now = g1 })
     (record { before = accounts; now = accounts })
-none_printed p k before left held accounts f0 f1 g0 g1 more = (
+none_printed way p k before left held accounts f0 f1 g0 g1 more = (
   record {
     pages = [];
     taken = record { bytes = more.bytes; taken = more.is; others = (stream (wanted_by p) more.bytes).pages; are = refl };
@@ -154,37 +164,37 @@ none_printed p k before left held accounts f0 f1 g0 g1 more = (
 )
 
 -- the pages that were read so far were printed, and no other
-some_printed : (p : Printer) (k : Table)
+some_printed : (way : Way) (p : Printer) (k : Table)
     (before left left' held now : Option (List ℕ)) (meters : Meters) (old new : PageReader) (number f0 f2 g0 g1 : ℕ)
-    → CanPrint p → (so_far : StreamSoFar p k before left held now old number)
+    → CanPrintBy way p → (so_far : StreamSoFar way p k before left held now old number)
     → CountsPages p k meters so_far.done → UsesSome (text_of old left) (text_of new left')
-    → PrintsCounted p k (record { before = before; now = left'; faults_before = f0; faults_now = f2 })
+    → PrintsCounted way p k (record { before = before; now = left'; faults_before = f0; faults_now = f2 })
     (record { before = held; now = now; faults_before = g0; faults_now = g1 }) meters
-some_printed p k before left left' held now meters old new number f0 f2 g0 g1 can so_far counts more = (
+some_printed way p k before left left' held now meters old new number f0 f2 g0 g1 can so_far counts more = (
   record {
     pages = so_far.done;
     taken = taken_pages p before (text_of old left) left' new.unread so_far.bytes so_far.done _ _ so_far.used so_far.is more;
     writes = so_far.written;
-    passes = passes_of p k so_far.bytes so_far.done _ _ can so_far.is;
+    passes = passes_of way p k so_far.bytes so_far.done _ _ can so_far.is;
   },
   counts,
 )
 
 -- memory runs out before the next page is counted
-full_before : (p : Printer) (k : Table) (input out : Outside) (meters : Meters)
-    → PrintsCounted p k input out meters → PrintOutcome p k input out meters answer.Memory
-full_before p k input out meters printed = (printed.0, inl printed.1)
+full_before : (way : Way) (p : Printer) (k : Table) (input out : Outside) (meters : Meters)
+    → PrintsCounted way p k input out meters → PrintOutcome way p k input out meters answer.Memory
+full_before way p k input out meters printed = (printed.0, inl printed.1)
 
 -- the stream does not begin as one
-without_sync : (p : Printer) (k : Table) (before left held : Option (List ℕ)) (accounts : List Account) (f0 f1 g0 g1 : ℕ) (why : StreamStop)
+without_sync : (way : Way) (p : Printer) (k : Table) (before left held : Option (List ℕ)) (accounts : List Account) (f0 f1 g0 g1 : ℕ) (why : StreamStop)
     → OnInput {T = PageReader} (Err why) (λ page line cause. IfSome before (λ bytes. (want : Wanted)
     → stream want bytes ≡ record { pages = []; end = Fault page line cause }))
     → OnInput {T = PageReader} (Err why) (λ page line cause. (page ≡ 0) × (line ≡ 0))
     → (IsErrOf {T = PageReader} (Err why) stop.Read → Rose f0 f1) → UsesSome before left
-    → PrintOutcome p k (record { before = before; now = left; faults_before = f0; faults_now = f1 })
+    → PrintOutcome way p k (record { before = before; now = left; faults_before = f0; faults_now = f1 })
     (record { before = held; now = held; faults_before = g0; faults_now = g1 })
     (record { before = accounts; now = accounts }) (stream_answer why)
-without_sync p k before left held accounts f0 f1 g0 g1 (stop.Input page line cause) bad place cause_is more = (
+without_sync way p k before left held accounts f0 f1 g0 g1 (stop.Input page line cause) bad place cause_is more = (
   record {
     pages = [];
     told = some before bad;
@@ -200,46 +210,57 @@ without_sync p k before left held accounts f0 f1 g0 g1 (stop.Input page line cau
         → IsStream p o [] (Fault page line cause)
     some None h = tt
     some (Some bytes) h = h (wanted_by p)
-without_sync p k before left held accounts f0 f1 g0 g1 stop.Read bad place cause_is more =
-    let none = none_printed p k before left held accounts f0 f1 g0 g1 more in (cause_is refl, none.0, none.1)
-without_sync p k before left held accounts f0 f1 g0 g1 stop.Memory bad place cause_is more =
-    full_before p k _ _ _ (none_printed p k before left held accounts f0 f1 g0 g1 more)
+without_sync way p k before left held accounts f0 f1 g0 g1 stop.Read bad place cause_is more =
+    let none = none_printed way p k before left held accounts f0 f1 g0 g1 more in (cause_is refl, none.0, none.1)
+without_sync way p k before left held accounts f0 f1 g0 g1 stop.Memory bad place cause_is more =
+    full_before way p k _ _ _ (none_printed way p k before left held accounts f0 f1 g0 g1 more)
 
-pub no_sync : (p : Printer) (k : Table) (before left held : Option (List ℕ))
-    (accounts : List Account) (f0 f1 g0 g1 : ℕ) (why : StreamStop) (a : Answer)
+pub no_sync : (way : Way) (p : Printer) (k : Table) {before left : Option (List ℕ)} (held : Option (List ℕ))
+    (accounts : List Account) {f0 f1 : ℕ} (g0 g1 : ℕ) (why : StreamStop) (a : Answer)
     → OnInput {T = PageReader} (Err why) (λ page line cause. IfSome before (λ bytes. (want : Wanted)
     → stream want bytes ≡ record { pages = []; end = Fault page line cause }))
     → OnInput {T = PageReader} (Err why) (λ page line cause. (page ≡ 0) × (line ≡ 0))
     → (IsErrOf {T = PageReader} (Err why) stop.Read → Rose f0 f1) → UsesSome before left → a ≡ stream_answer why
-    → PrintOutcome p k (record { before = before; now = left; faults_before = f0; faults_now = f1 })
+    → PrintOutcome way p k (record { before = before; now = left; faults_before = f0; faults_now = f1 })
     (record { before = held; now = held; faults_before = g0; faults_now = g1 })
     (record { before = accounts; now = accounts }) a
-no_sync p k before left held accounts f0 f1 g0 g1 why a bad place cause_is more is =
-    subst (PrintOutcome p k (record { before = before; now = left; faults_before = f0; faults_now = f1 })
+no_sync way p k {before} {left} held accounts {f0} {f1} g0 g1 why a bad place cause_is more is =
+    subst (PrintOutcome way p k (record { before = before; now = left; faults_before = f0; faults_now = f1 })
     (record { before = held; now = held; faults_before = g0; faults_now = g1 })
     (record { before = accounts; now = accounts })) (sym is)
-    (without_sync p k before left held accounts f0 f1 g0 g1 why bad place cause_is more)
+    (without_sync way p k before left held accounts f0 f1 g0 g1 why bad place cause_is more)
 
--- the same in a page
-in_page : (T : Type 0) (p : Printer) (k : Table) (before left left' held now : Option (List ℕ))
-    (meters : Meters) (old new : PageReader) (number f0 f1 f2 g0 g1 : ℕ) (why : StreamStop)
-    → CanPrint p → (so_far : StreamSoFar p k before left held now old number)
-    → CountsPages p k meters so_far.done → OnInput {T = T} (Err why) (EndsSo (wanted_by p) old left)
-    → OnInput {T = T} (Err why) (λ page line cause. page ≡ page_of old + 1)
-    → f0 ≤ f1 → (IsErrOf {T = T} (Err why) stop.Read → Rose f1 f2) → UsesSome (text_of old left) (text_of new left')
-    → PrintOutcome p k (record { before = before; now = left'; faults_before = f0; faults_now = f2 })
-    (record { before = held; now = now; faults_before = g0; faults_now = g1 }) meters (stream_answer why)
-in_page T p k before left left' held now meters old new number f0 f1 f2 g0 g1
-    (stop.Input page line cause) can so_far counts bad place later cause_is more = (
-      record {
-        pages = so_far.done;
-        told = told before (text_of old left) so_far.used bad;
-        stand = omega (arith, place, so_far.many);
-        writes = so_far.written;
-        passes = passes_of p k so_far.bytes so_far.done _ _ can so_far.is;
-      },
-      counts,
-    )
+-- the pages that were read are all, where the text is at its end
+pages-none : (want : Wanted) (most number : ℕ) → pages_from want most number [] ≡ record { pages = []; end = Done }
+unfolding pages_from
+pages-none want most number = refl
+
+bytes_end : {way : Way} {p : Printer} {k : Table} {before left held now : Option (List ℕ)} {old : PageReader} {number : ℕ}
+    → (so_far : StreamSoFar way p k before left held now old number)
+    → stream (wanted_by p) so_far.bytes ≡ record { pages = so_far.done; end = Done }
+bytes_end {p = p} so_far =
+    ap (stream (wanted_by p)) (sym (append-nil so_far.bytes))
+    ∙ so_far.is []
+    ∙ ap (with_pages so_far.done) (pages-none (wanted_by p) (9999 - length so_far.done) (length so_far.done + 1))
+    ∙ ap (λ ps. record { pages = ps; end = Done }) (append-nil so_far.done)
+
+pub stream_ends : {way : Way} {p : Printer} {k : Table} {before left held now : Option (List ℕ)} {old : PageReader} {number : ℕ}
+    → (so_far : StreamSoFar way p k before left held now old number) → IsAtEnd (text_of old left) → IsStream p before so_far.done Done
+stream_ends {p = p} {before = before} {left = left} {old = old} so_far end = told before (text_of old left) so_far.used end
+  where
+    told : (a b : Option (List ℕ)) → Consumes a b so_far.bytes → IsAtEnd b → IsStream p a so_far.done Done
+    told None b uses end = tt
+    told (Some xs) None uses end = absurd uses
+    told (Some xs) (Some ys) uses end =
+        ap (stream (wanted_by p)) (uses ∙ ap (λ bs. so_far.bytes ++ bs) end ∙ append-nil so_far.bytes) ∙ bytes_end so_far
+
+-- or the text goes on with a fault
+pub stream_faults : {way : Way} {p : Printer} {k : Table} {before left held now : Option (List ℕ)} {old : PageReader} {number : ℕ}
+    → (so_far : StreamSoFar way p k before left held now old number) (page line : ℕ) (cause : InputCause)
+    → IfSome (text_of old left) (λ text. pages_from (wanted_by p) (9999 - page_of old) (page_of old + 1) text
+    ≡ record { pages = []; end = Fault page line cause }) → IsStream p before so_far.done (Fault page line cause)
+stream_faults {p = p} {before = before} {left = left} {old = old} so_far page line cause bad =
+    told before (text_of old left) so_far.used bad
   where
     told : (a b : Option (List ℕ)) → Consumes a b so_far.bytes
         → IfSome b (λ text. pages_from (wanted_by p) (9999 - page_of old) (page_of old + 1) text
@@ -252,45 +273,58 @@ in_page T p k before left left' held now meters old new number f0 f1 f2 g0 g1
         ∙ ap (λ n. with_pages so_far.done (pages_from (wanted_by p) (9999 - n) (n + 1) ys)) (sym so_far.many)
         ∙ ap (with_pages so_far.done) h
         ∙ ap (λ ps. record { pages = ps; end = Fault page line cause }) (append-nil so_far.done)
-in_page T p k before left left' held now meters old new number f0 f1 f2 g0 g1 stop.Read can so_far counts bad place later cause_is more =
-    let some = some_printed p k before left left' held now meters old new number f0 f2 g0 g1 can so_far counts more in
+
+-- the same in a page
+in_page : (T : Type 0) (way : Way) (p : Printer) (k : Table) (before left left' held now : Option (List ℕ))
+    (meters : Meters) (old new : PageReader) (number f0 f1 f2 g0 g1 : ℕ) (why : StreamStop)
+    → CanPrintBy way p → (so_far : StreamSoFar way p k before left held now old number)
+    → CountsPages p k meters so_far.done → OnInput {T = T} (Err why) (EndsSo (wanted_by p) old left)
+    → OnInput {T = T} (Err why) (λ page line cause. page ≡ page_of old + 1)
+    → f0 ≤ f1 → (IsErrOf {T = T} (Err why) stop.Read → Rose f1 f2) → UsesSome (text_of old left) (text_of new left')
+    → PrintOutcome way p k (record { before = before; now = left'; faults_before = f0; faults_now = f2 })
+    (record { before = held; now = now; faults_before = g0; faults_now = g1 }) meters (stream_answer why)
+in_page T way p k before left left' held now meters old new number f0 f1 f2 g0 g1
+    (stop.Input page line cause) can so_far counts bad place later cause_is more = (
+      record {
+        pages = so_far.done;
+        told = stream_faults so_far page line cause bad;
+        stand = omega (arith, place, so_far.many);
+        writes = so_far.written;
+        passes = passes_of way p k so_far.bytes so_far.done _ _ can so_far.is;
+      },
+      counts,
+    )
+in_page T way p k before left left' held now meters old new number f0 f1 f2 g0 g1 stop.Read can so_far counts bad place later cause_is more =
+    let some = some_printed way p k before left left' held now meters old new number f0 f2 g0 g1 can so_far counts more in
     (rose_from f0 f1 f2 later (cause_is refl), some.0, some.1)
-in_page T p k before left left' held now meters old new number f0 f1 f2 g0 g1 stop.Memory can so_far counts bad place later cause_is more =
-    full_before p k _ _ _ (some_printed p k before left left' held now meters old new number f0 f2 g0 g1 can so_far counts more)
+in_page T way p k before left left' held now meters old new number f0 f1 f2 g0 g1 stop.Memory can so_far counts bad place later cause_is more =
+    full_before way p k _ _ _ (some_printed way p k before left left' held now meters old new number f0 f2 g0 g1 can so_far counts more)
 
 -- the stream stops in its next page
-pub page_stopped : (T : Type 0) (p : Printer) (k : Table) (before left left' held now : Option (List ℕ))
-    (meters : Meters) (old new : PageReader) (number f0 f1 f2 g0 g1 : ℕ) (why : StreamStop) (a : Answer)
-    → CanPrint p → (so_far : StreamSoFar p k before left held now old number)
+pub page_stopped : (T : Type 0) (way : Way) (p : Printer) (k : Table) {before left held now : Option (List ℕ)}
+    (left' : Option (List ℕ)) {meters : Meters} (old new : PageReader) (number : ℕ) {f0 f1 f2 : ℕ} (g0 g1 : ℕ) (why : StreamStop) (a : Answer)
+    → CanPrintBy way p → (so_far : StreamSoFar way p k before left held now old number)
     → CountsPages p k meters so_far.done → OnInput {T = T} (Err why) (EndsSo (wanted_by p) old left)
     → OnInput {T = T} (Err why) (λ page line cause. page ≡ page_of old + 1)
     → f0 ≤ f1 → (IsErrOf {T = T} (Err why) stop.Read → Rose f1 f2) → UsesSome (text_of old left) (text_of new left')
     → a ≡ stream_answer why
-    → PrintOutcome p k (record { before = before; now = left'; faults_before = f0; faults_now = f2 })
+    → PrintOutcome way p k (record { before = before; now = left'; faults_before = f0; faults_now = f2 })
     (record { before = held; now = now; faults_before = g0; faults_now = g1 }) meters a
-page_stopped T p k before left left' held now meters old new number f0 f1 f2 g0 g1 why a can so_far counts bad place later cause_is more is =
-    subst (PrintOutcome p k (record { before = before; now = left'; faults_before = f0; faults_now = f2 })
+page_stopped T way p k {before} {left} {held} {now} left' {meters} old new number {f0} {f1} {f2} g0 g1 why a can so_far counts bad place later cause_is more is =
+    subst (PrintOutcome way p k (record { before = before; now = left'; faults_before = f0; faults_now = f2 })
     (record { before = held; now = now; faults_before = g0; faults_now = g1 }) meters) (sym is)
-    (in_page T p k before left left' held now meters old new number f0 f1 f2 g0 g1 why can so_far counts bad place later cause_is more)
-
-pages-none : (want : Wanted) (most number : ℕ) → pages_from want most number [] ≡ record { pages = []; end = Done }
-unfolding pages_from
-pages-none want most number = refl
+    (in_page T way p k before left left' held now meters old new number f0 f1 f2 g0 g1 why can so_far counts bad place later cause_is more)
 
 -- the stream ended
-pub stream_done : (p : Printer) (k : Table)
-    (before left left' held now : Option (List ℕ)) (meters : Meters) (old new : PageReader) (number f0 f2 g0 g1 : ℕ)
-    → CanPrint p → (so_far : StreamSoFar p k before left held now old number) → CountsPages p k meters so_far.done
+pub stream_done : (way : Way) (p : Printer) (k : Table)
+    {before left left' held now : Option (List ℕ)} {meters : Meters} (old new : PageReader) (number f0 f2 g0 g1 : ℕ)
+    → CanPrintBy way p → (so_far : StreamSoFar way p k before left held now old number) → CountsPages p k meters so_far.done
     → IsAtEnd (text_of old left) → IsAtEnd (text_of new left') → UsesSome (text_of old left) (text_of new left')
-    → (all : PrintsAll p k (record { before = before; now = left'; faults_before = f0; faults_now = f2 })
+    → (all : PrintsAll way p k (record { before = before; now = left'; faults_before = f0; faults_now = f2 })
     (record { before = held; now = now; faults_before = g0; faults_now = g1 }))
     × CountsPages p k meters all.pages
-stream_done p k before left left' held now meters old new number f0 f2 g0 g1 can so_far counts end end' more =
-    let is : stream (wanted_by p) so_far.bytes ≡ record { pages = so_far.done; end = Done } =
-    ap (stream (wanted_by p)) (sym (append-nil so_far.bytes))
-    ∙ so_far.is []
-    ∙ ap (with_pages so_far.done) (pages-none (wanted_by p) (9999 - length so_far.done) (length so_far.done + 1))
-    ∙ ap (λ ps. record { pages = ps; end = Done }) (append-nil so_far.done) in
+stream_done way p k {before} {left} {left'} {held} {now} {meters} old new number f0 f2 g0 g1 can so_far counts end end' more =
+    let is : stream (wanted_by p) so_far.bytes ≡ record { pages = so_far.done; end = Done } = bytes_end so_far in
     let P : List Page → Type 0 = AllByRecursion (IsPage (wanted_by p)) in
     let are : P so_far.done = subst P (ap (λ (s : Stream). s.pages) is) (stream-pages (wanted_by p) so_far.bytes) in (
       record {
@@ -301,29 +335,22 @@ stream_done p k before left left' held now meters old new number f0 f2 g0 g1 can
           end = left_end left' new.unread end';
           is = is;
         };
-        told = told before (text_of old left) so_far.used is end;
+        told = stream_ends so_far end;
         writes = so_far.written;
-        prints = pages-print p k so_far.done can are;
-        passes = pages-have p k so_far.done can are;
+        prints = ways-print way p k so_far.done can.can can.go are;
+        passes = ways-keep way p k so_far.done can.can can.go are;
       },
       counts,
     )
-  where
-    told : (a b : Option (List ℕ)) → Consumes a b so_far.bytes → stream (wanted_by p) so_far.bytes
-        ≡ record { pages = so_far.done; end = Done } → IsAtEnd b → IsStream p a so_far.done Done
-    told None b uses is end = tt
-    told (Some xs) None uses is end = absurd uses
-    told (Some xs) (Some ys) uses is end =
-        ap (stream (wanted_by p)) (uses ∙ ap (λ bs. so_far.bytes ++ bs) end ∙ append-nil so_far.bytes) ∙ is
 
 -- a page was read, and a part of its job written
-pub page_not_written : (p : Printer) (k : Table) (before left held now now' : Option (List ℕ))
-    (meters : Meters) (reader : PageReader) (number f0 f2 g0 g1 g2 : ℕ) (page : Page)
-    → CanPrint p → (read : StreamRead p k before left held now reader number page) → CountsPages p k meters
-    (read.done ++ page ∷ []) → AppendsPart now now' (page_bytes page p k) → g0 ≤ g1 → Rose g1 g2
-    → PrintOutcome p k (record { before = before; now = left; faults_before = f0; faults_now = f2 })
+pub page_not_written : (way : Way) (p : Printer) (k : Table) {before left held now now' : Option (List ℕ)}
+    {meters : Meters} (reader : PageReader) (number f0 f2 : ℕ) {g0 g1 g2 : ℕ} (page : Page)
+    → CanPrintBy way p → (read : StreamRead way p k before left held now reader number page) → CountsPages p k meters
+    (read.done ++ page ∷ []) → AppendsPart now now' (page_bytes_by way page p k) → g0 ≤ g1 → Rose g1 g2
+    → PrintOutcome way p k (record { before = before; now = left; faults_before = f0; faults_now = f2 })
     (record { before = held; now = now'; faults_before = g0; faults_now = g2 }) meters (answer.Write number)
-page_not_written p k before left held now now' meters reader number f0 f2 g0 g1 g2 page can read counts part later rose = (
+page_not_written way p k {before} {left} {held} {now} {now'} {meters} reader number f0 f2 {g0} {g1} {g2} page can read counts part later rose = (
   rose_from g0 g1 g2 later rose,
   record {
     pages = read.done;
@@ -334,18 +361,18 @@ page_not_written p k before left held now now' meters reader number f0 f2 g0 g1 
     between = now;
     whole = read.written;
     part = part;
-    passes = passes_of p k read.bytes (read.done ++ page ∷ []) _ _ can read.is;
+    passes = passes_of way p k read.bytes (read.done ++ page ∷ []) _ _ can read.is;
   },
   counts,
 )
 
 -- a page was read, and nothing of its job was written
-pub page_without_room : (p : Printer) (k : Table) (before left held now now' : Option (List ℕ))
-    (meters : Meters) (reader : PageReader) (number f0 f2 g0 g2 : ℕ) (page : Page)
-    → CanPrint p → (read : StreamRead p k before left held now reader number page) → CountsPages p k meters (read.done ++ page ∷ []) → Keeps now now'
-    → PrintOutcome p k (record { before = before; now = left; faults_before = f0; faults_now = f2 })
+pub page_without_room : (way : Way) (p : Printer) (k : Table) {before left held now now' : Option (List ℕ)}
+    {meters : Meters} (reader : PageReader) (number f0 f2 g0 g2 : ℕ) (page : Page)
+    → CanPrintBy way p → (read : StreamRead way p k before left held now reader number page) → CountsPages p k meters (read.done ++ page ∷ []) → Keeps now now'
+    → PrintOutcome way p k (record { before = before; now = left; faults_before = f0; faults_now = f2 })
     (record { before = held; now = now'; faults_before = g0; faults_now = g2 }) meters answer.Memory
-page_without_room p k before left held now now' meters reader number f0 f2 g0 g2 page can read counts kept =
+page_without_room way p k {before} {left} {held} {now} {now'} {meters} reader number f0 f2 g0 g2 page can read counts kept =
     let all = taken_pages p before (text_of reader left) left reader.unread read.bytes (read.done ++ page ∷ [])
     _ _ read.used read.is (record { bytes = []; is = Consumes-nil (text_of reader left) }) in (
       record {
@@ -356,9 +383,9 @@ page_without_room p k before left held now now' meters reader number f0 f2 g0 g2
           others = page ∷ all.others;
           are = all.are ∙ append_assoc read.done (page ∷ []) all.others;
         };
-        writes = appends_kept held now now' (job_bytes p k read.done) read.written kept;
-        passes = first_passes p k read.done (page ∷ [])
-            (passes_of p k read.bytes (read.done ++ page ∷ []) _ _ can read.is);
+        writes = appends_kept held now now' (job_bytes way p k read.done) read.written kept;
+        passes = first_passes way p k read.done (page ∷ [])
+            (passes_of way p k read.bytes (read.done ++ page ∷ []) _ _ can read.is);
       },
       inr (record { page = page; later = all.others; next = refl; pages_counted = counts }),
     )
@@ -376,16 +403,16 @@ begins p (Some xs) (Some ys) bytes pages most number uses is = (
 )
 
 -- a page was read, and goes past a cap
-pub page_over : (p : Printer) (k : Table) (before left held now : Option (List ℕ)) (first last next : List Account)
+pub page_over : (way : Way) (p : Printer) (k : Table) {before left held now : Option (List ℕ)} {first last next : List Account}
     (reader : PageReader) (number f0 f2 g0 g1 : ℕ) (page : Page) (n : InkCounts) (a : Answer)
-    → CanPrint p → (read : StreamRead p k before left held now reader number page)
+    → CanPrintBy way p → (read : StreamRead way p k before left held now reader number page)
     → CountsPages p k (record { before = first; now = last }) read.done
     → n ≡ page_dots page p k → RefusesPage number n last a → next ≡ last
-    → PrintOutcome p k (record { before = before; now = left; faults_before = f0; faults_now = f2 })
+    → PrintOutcome way p k (record { before = before; now = left; faults_before = f0; faults_now = f2 })
     (record { before = held; now = now; faults_before = g0; faults_now = g1 })
     (record { before = first; now = next }) a
-page_over p k before left held now first last next reader number f0 f2 g0 g1 page n a can read counts are refuses kept =
-    let S : Answer → Type 0 = λ b. PrintOutcome p k (record {
+page_over way p k {before} {left} {held} {now} {first} {last} {next} reader number f0 f2 g0 g1 page n a can read counts are refuses kept =
+    let S : Answer → Type 0 = λ b. PrintOutcome way p k (record {
       before = before;
       now = left;
       faults_before = f0;
@@ -403,8 +430,8 @@ page_over p k before left held now first last next reader number f0 f2 g0 g1 pag
       told = begins p before (text_of reader left) read.bytes (read.done ++ page ∷ []) _ _ read.used read.is;
       number_is = read.next;
       writes = read.written;
-      passes = first_passes p k read.done (page ∷ [])
-          (passes_of p k read.bytes (read.done ++ page ∷ []) _ _ can read.is);
+      passes = first_passes way p k read.done (page ∷ [])
+          (passes_of way p k read.bytes (read.done ++ page ∷ []) _ _ can read.is);
       pages_counted = record { admitted = counts.admitted; counts = kept ∙ counts.counts };
       index = refuses.index;
       first = subst M (sym kept) (subst F are refuses.first);
@@ -412,7 +439,7 @@ page_over p k before left held now first last next reader number f0 f2 g0 g1 pag
     })
 
 -- the bytes of a page are those of its halftone
-pub page-bytes-is : (p : Printer) (k : Table) (page : Page) (form : PageForm)
-    → form ≡ page.form → halftone_bytes p (halftone page p k) (form.height * row_units p) ≡ page_bytes page p k
-unfolding page_bytes
-page-bytes-is p k page form e = ap (λ (f : PageForm). halftone_bytes p (halftone page p k) (f.height * row_units p)) e
+pub page-bytes-is : (way : Way) (p : Printer) (k : Table) (page : Page) (form : PageForm)
+    → form ≡ page.form → halftone_bytes_by way p (halftone page p k) (form.height * row_units p) ≡ page_bytes_by way page p k
+unfolding page_bytes_by
+page-bytes-is way p k page form e = ap (λ (f : PageForm). halftone_bytes_by way p (halftone page p k) (f.height * row_units p)) e

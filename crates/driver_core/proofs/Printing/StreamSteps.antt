@@ -4,7 +4,7 @@ use Rattle.std.proofs.Common.{subst, arith, append_assoc, append-nil, length-app
 use Rattle.std.specs.Io.KnownBytes.{Appends, Consumes}
 use Rattle.std.proofs.KnownBytes.{Appends-nil, Appends-trans, Consumes-trans}
 use Rattle.diffusion_definitions.specs.Diffusion.{Table}
-use Rattle.page_definitions.specs.PageBytes.{page_bytes}
+use Rattle.page_definitions.specs.Ways.{Way, page_bytes_by}
 use Rattle.printer_definitions.specs.Printer.{Printer}
 use Rattle.separation_definitions.specs.Windows.{wanted_by}
 use Rattle.pwg_definitions.specs.declared.faults.InputCause.TheVariants as cause
@@ -32,14 +32,14 @@ with_pages-none : (s : Stream) → with_pages [] s ≡ s
 with_pages-none s = refl
 
 -- These pages of the input were read and their jobs written; the rest of the text is the rest of the stream.
-pub record StreamSoFar (p : Printer) (k : Table)
+pub record StreamSoFar (way : Way) (p : Printer) (k : Table)
     (before left : Option (List ℕ)) (held now : Option (List ℕ)) (reader : PageReader) (number : ℕ) : Type 0 where
   pub bytes : List ℕ
   pub used : Consumes before (text_of reader left) bytes
   pub done : List Page
   pub is : (rest : List ℕ) → stream (wanted_by p) (bytes ++ rest)
       ≡ with_pages done (pages_from (wanted_by p) (9999 - length done) (length done + 1) rest)
-  pub written : Appends held now (job_bytes p k done)
+  pub written : Appends held now (job_bytes way p k done)
   pub many : page_of reader ≡ length done
   pub next : number ≡ length done + 1
   pub between : IsBetween reader
@@ -49,10 +49,10 @@ stream-synced : (want : Wanted) (rest : List ℕ) → stream want (sync_word ++ 
 unfolding stream
 stream-synced want rest = refl
 
-pub stream_begin : (p : Printer) (k : Table) (before left held : Option (List ℕ)) (reader : PageReader)
+pub stream_begin : (way : Way) (p : Printer) (k : Table) (before left held : Option (List ℕ)) (reader : PageReader)
     → Consumes before (text_of reader left) sync_word
-    → page_of reader ≡ 0 → IsBetween reader → has_ended reader ≡ false → StreamSoFar p k before left held held reader 1
-stream_begin p k before left held reader sync none between unended = record {
+    → page_of reader ≡ 0 → IsBetween reader → has_ended reader ≡ false → StreamSoFar way p k before left held held reader 1
+stream_begin way p k before left held reader sync none between unended = record {
   bytes = sync_word;
   used = sync;
   done = [];
@@ -70,31 +70,31 @@ page-some : (want : Wanted) (bytes : List ℕ) (page : Page)
 page-some want [] page is = absurd (let never : Broken 0 cause.Truncated ≡ Whole page [] = is [] in cc)
 page-some want (b ∷ bytes) page is = omega arith
 
-job-append : (p : Printer) (k : Table) (done : List Page) (page : Page)
-    → job_bytes p k (done ++ page ∷ []) ≡ job_bytes p k done ++ page_bytes page p k
-job-append p k [] page = append-nil (page_bytes page p k)
-job-append p k (first ∷ done) page =
-    ap (λ bs. page_bytes first p k ++ bs) (job-append p k done page)
-    ∙ sym (append_assoc (page_bytes first p k) (job_bytes p k done) (page_bytes page p k))
+pub job-append : (way : Way) (p : Printer) (k : Table) (done : List Page) (page : Page)
+    → job_bytes way p k (done ++ page ∷ []) ≡ job_bytes way p k done ++ page_bytes_by way page p k
+job-append way p k [] page = append-nil (page_bytes_by way page p k)
+job-append way p k (first ∷ done) page =
+    ap (λ bs. page_bytes_by way first p k ++ bs) (job-append way p k done page)
+    ∙ sym (append_assoc (page_bytes_by way first p k) (job_bytes way p k done) (page_bytes_by way page p k))
 
 -- one more page was read
-pub record StreamRead (p : Printer) (k : Table) (before left : Option (List ℕ))
+pub record StreamRead (way : Way) (p : Printer) (k : Table) (before left : Option (List ℕ))
     (held now : Option (List ℕ)) (reader : PageReader) (number : ℕ) (page : Page) : Type 0 where
   pub bytes : List ℕ
   pub used : Consumes before (text_of reader left) bytes
   pub done : List Page
   pub is : (rest : List ℕ) → stream (wanted_by p) (bytes ++ rest)
       ≡ with_pages (done ++ page ∷ []) (pages_from (wanted_by p) (9998 - length done) (length done + 2) rest)
-  pub written : Appends held now (job_bytes p k done)
+  pub written : Appends held now (job_bytes way p k done)
   pub many : page_of reader ≡ length done + 1
   pub next : number ≡ length done + 1
   pub between : IsBetween reader
   pub unended : has_ended reader ≡ false
 
-pub stream_read : (p : Printer) (k : Table) (before left left' held now : Option (List ℕ))
-    (old new : PageReader) (number : ℕ) (page : Page) → StreamSoFar p k before left held now old number
-    → ReadsPage (wanted_by p) old new left left' page → IsBetween new → StreamRead p k before left' held now new number page
-stream_read p k before left left' held now old new number page so_far reads between = record {
+pub stream_read : (way : Way) (p : Printer) (k : Table) (before left left' held now : Option (List ℕ))
+    (old new : PageReader) (number : ℕ) (page : Page) → StreamSoFar way p k before left held now old number
+    → ReadsPage (wanted_by p) old new left left' page → IsBetween new → StreamRead way p k before left' held now new number page
+stream_read way p k before left left' held now old new number page so_far reads between = record {
   bytes = so_far.bytes ++ reads.bytes;
   used = Consumes-trans before (text_of old left) (text_of new left') so_far.bytes reads.bytes so_far.used reads.used;
   done = so_far.done;
@@ -118,10 +118,10 @@ stream_read p k before left left' held now old new number page so_far reads betw
 }
 
 -- and its job written
-pub stream_written : (p : Printer) (k : Table) (before left held now now' : Option (List ℕ))
-    (reader : PageReader) (number : ℕ) (page : Page) → StreamRead p k before left held now reader number page
-    → Appends now now' (page_bytes page p k) → StreamSoFar p k before left held now' reader (number + 1)
-stream_written p k before left held now now' reader number page read wrote =
+pub stream_written : (way : Way) (p : Printer) (k : Table) (before left held now now' : Option (List ℕ))
+    (reader : PageReader) (number : ℕ) (page : Page) → StreamRead way p k before left held now reader number page
+    → Appends now now' (page_bytes_by way page p k) → StreamSoFar way p k before left held now' reader (number + 1)
+stream_written way p k before left held now now' reader number page read wrote =
     let long : length (read.done ++ page ∷ []) ≡ length read.done + 1 = length-append read.done (page ∷ []) in
     let P : List ℕ → Type 0 = λ bs. Appends held now' bs in
     record {
@@ -134,8 +134,8 @@ stream_written p k before left held now now' reader number page read wrote =
           read.is rest
           ∙ ap (λ m. with_pages (read.done ++ page ∷ []) (pages_from (wanted_by p) m (length read.done + 2) rest)) fuel
           ∙ ap (λ m. with_pages (read.done ++ page ∷ []) (pages_from (wanted_by p) (9999 - length (read.done ++ page ∷ [])) m rest)) next;
-      written = subst P (sym (job-append p k read.done page))
-          (Appends-trans held now now' (job_bytes p k read.done) (page_bytes page p k) read.written wrote);
+      written = subst P (sym (job-append way p k read.done page))
+          (Appends-trans held now now' (job_bytes way p k read.done) (page_bytes_by way page p k) read.written wrote);
       many = omega (arith, read.many, long);
       next = omega (arith, read.next, long);
       between = read.between;
@@ -149,37 +149,62 @@ pages-first want bytes page is =
     stream-synced want (bytes ++ [])
     ∙ pages-read want 9998 1 (bytes ++ []) (Whole page []) (omega (arith, page-some want bytes page is, length-append bytes [])) (is [])
 
+-- ---- which pages these are
+
+pub begun : {way : Way} {p : Printer} {k : Table} {before left held : Option (List ℕ)} (reader : PageReader)
+    → Consumes before (text_of reader left) sync_word → page_of reader ≡ 0 → IsBetween reader → has_ended reader ≡ false
+    → (so_far : StreamSoFar way p k before left held held reader 1) × (so_far.done ≡ [])
+unfolding stream_begin
+begun {way} {p} {k} {before} {left} {held} reader sync none between unended =
+    (stream_begin way p k before left held reader sync none between unended, refl)
+
+pub read_on : {way : Way} {p : Printer} {k : Table} {before left left' held now : Option (List ℕ)} (old new : PageReader)
+    (number : ℕ) (page : Page) → (so_far : StreamSoFar way p k before left held now old number)
+    → ReadsPage (wanted_by p) old new left left' page → IsBetween new
+    → (read : StreamRead way p k before left' held now new number page) × (read.done ≡ so_far.done)
+unfolding stream_read
+read_on {way} {p} {k} {before} {left} {left'} {held} {now} old new number page so_far reads between =
+    (stream_read way p k before left left' held now old new number page so_far reads between, refl)
+
+pub written_on : {way : Way} {p : Printer} {k : Table} {before left held now now' : Option (List ℕ)} (reader : PageReader)
+    (number : ℕ) (page : Page) → (read : StreamRead way p k before left held now reader number page)
+    → Appends now now' (page_bytes_by way page p k)
+    → (so_far : StreamSoFar way p k before left held now' reader (number + 1)) × (so_far.done ≡ read.done ++ page ∷ [])
+unfolding stream_written
+written_on {way} {p} {k} {before} {left} {held} {now} {now'} reader number page read wrote =
+    (stream_written way p k before left held now now' reader number page read wrote, refl)
+
 -- ---- the same, on meters
 
-abbrev pub MeteredSoFar : (p : Printer)
+abbrev pub MeteredSoFar : (way : Way) (p : Printer)
     (k : Table) (before left held now : Option (List ℕ)) (meters : Meters) (reader : PageReader) (number : ℕ) → Type 0
-MeteredSoFar p k before left held now meters reader number =
-    (so_far : StreamSoFar p k before left held now reader number) × CountsPages p k meters so_far.done
+MeteredSoFar way p k before left held now meters reader number =
+    (so_far : StreamSoFar way p k before left held now reader number) × CountsPages p k meters so_far.done
 
-abbrev pub MeteredRead : (p : Printer) (k : Table) (before left held now : Option (List ℕ))
+abbrev pub MeteredRead : (way : Way) (p : Printer) (k : Table) (before left held now : Option (List ℕ))
     (meters : Meters) (reader : PageReader) (number : ℕ) (page : Page) → Type 0
-MeteredRead p k before left held now meters reader number page =
-    (read : StreamRead p k before left held now reader number page) × CountsPages p k meters read.done
+MeteredRead way p k before left held now meters reader number page =
+    (read : StreamRead way p k before left held now reader number page) × CountsPages p k meters read.done
 
-pub metered_begin : (p : Printer) (k : Table) (before left held : Option (List ℕ))
-    (accounts : List Account) (reader : PageReader) → Consumes before (text_of reader left) sync_word
+pub metered_begin : {way : Way} {p : Printer} {k : Table} {before left held : Option (List ℕ)}
+    {accounts : List Account} (reader : PageReader) → Consumes before (text_of reader left) sync_word
     → page_of reader ≡ 0 → IsBetween reader → has_ended reader ≡ false
-    → MeteredSoFar p k before left held held (record { before = accounts; now = accounts }) reader 1
+    → MeteredSoFar way p k before left held held (record { before = accounts; now = accounts }) reader 1
 unfolding stream_begin
-metered_begin p k before left held accounts reader sync none between unended =
-    (stream_begin p k before left held reader sync none between unended, none_counted p k accounts)
+metered_begin {way} {p} {k} {before} {left} {held} {accounts} reader sync none between unended =
+    (stream_begin way p k before left held reader sync none between unended, none_counted p k accounts)
 
-pub metered_read : (p : Printer) (k : Table) (before left left' held now : Option (List ℕ)) (meters : Meters)
-    (old new : PageReader) (number : ℕ) (page : Page) → MeteredSoFar p k before left held now meters old number
-    → ReadsPage (wanted_by p) old new left left' page → IsBetween new → MeteredRead p k before left' held now meters new number page
+pub metered_read : (way : Way) (p : Printer) (k : Table) {before left left' held now : Option (List ℕ)} {meters : Meters}
+    (old new : PageReader) (number : ℕ) (page : Page) → MeteredSoFar way p k before left held now meters old number
+    → ReadsPage (wanted_by p) old new left left' page → IsBetween new → MeteredRead way p k before left' held now meters new number page
 unfolding stream_read
-metered_read p k before left left' held now meters old new number page so_far reads between =
-    (stream_read p k before left left' held now old new number page so_far.0 reads between, so_far.1)
+metered_read way p k {before} {left} {left'} {held} {now} {meters} old new number page so_far reads between =
+    (stream_read way p k before left left' held now old new number page so_far.0 reads between, so_far.1)
 
-pub metered_written : (p : Printer) (k : Table) (before left held now now' : Option (List ℕ)) (meters : Meters)
-    (reader : PageReader) (number : ℕ) (page : Page) → (read : StreamRead p k before left held now reader number page)
+pub metered_written : (way : Way) (p : Printer) (k : Table) {before left held now now' : Option (List ℕ)} {meters : Meters}
+    (reader : PageReader) (number : ℕ) (page : Page) → (read : StreamRead way p k before left held now reader number page)
     → CountsPages p k meters (read.done ++ page ∷ [])
-    → Appends now now' (page_bytes page p k) → MeteredSoFar p k before left held now' meters reader (number + 1)
+    → Appends now now' (page_bytes_by way page p k) → MeteredSoFar way p k before left held now' meters reader (number + 1)
 unfolding stream_written
-metered_written p k before left held now now' meters reader number page read counts wrote =
-    (stream_written p k before left held now now' reader number page read wrote, counts)
+metered_written way p k {before} {left} {held} {now} {now'} {meters} reader number page read counts wrote =
+    (stream_written way p k before left held now now' reader number page read wrote, counts)

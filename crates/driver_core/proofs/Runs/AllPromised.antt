@@ -10,6 +10,7 @@ use Rattle.driver_core.proofs.Playing.Promised.{dots_promises}
 use Rattle.driver_core.proofs.Printing.Promised.{print_promises}
 use Rattle.driver_core.proofs.Runs.Promised.{over_status, promises}
 use Rattle.driver_core.proofs.Showing.Promised.{profile_promises}
+use Rattle.driver_core.proofs.Trying.Promised.{trial_promises}
 
 pub all_promises : (words : List (List ℕ)) (o : Outsides) (err : Outside) (worked a : Answer) (s : ℕ)
     → Outcome words o worked → a ≡ worked → Told err a → s ≡ status_of a → AllPromises words o err s
@@ -21,4 +22,5 @@ all_promises words o err worked a s outcome same told is =
       dots = dots_promises words o err a s own told is;
       list = list_promises words o err a s own told is;
       profile = profile_promises words o err a s own told is;
+      trial = trial_promises words o err a s own told is;
     }

@@ -39,7 +39,7 @@ no_profile : (words : List (List ℕ)) (command : Verb)
 no_profile words command job r o a asks none = by_stop none.why none.stopped none.answered
   where
     by_stop : (why : ProfileStop)
-        → ProfileStopped (profile_named words) o.shelf why → a ≡ profile_answer why → Asked words command job r o a
+        → ProfileStopped job (profile_named words) o.shelf why → a ≡ profile_answer why → Asked words command job r o a
     by_stop (profile.Refused line cause) is e =
         IsRefused line cause (sym (asks.profile_is (Err (refused_at line cause)) is)) e none.untouched
     by_stop profile.Failed is e = WithoutShelf (ShelfFailed e is.0 is.1) none.untouched none.uncounted

@@ -28,6 +28,9 @@ profile_is_none same = cc
 pub dots_is_none : verb.Dots ≡ verb.List → ⊥
 dots_is_none same = cc
 
+pub trial_is_none : verb.Trial ≡ verb.List → ⊥
+trial_is_none same = cc
+
 -- on every other status the command did its work
 pub at_work : (words : List (List ℕ)) (command : Verb) (job : Job) (p : Printer) (o : Outsides) (a : Answer) (s : ℕ)
     → s ≡ status_of a → (s ≡ 4 → ⊥) → (s ≡ 7 → ⊥) → (command ≡ verb.List → ⊥)

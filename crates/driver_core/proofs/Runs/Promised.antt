@@ -10,7 +10,7 @@ use Rattle.driver_answer.specs.Stops.{profile_answer}
 use Rattle.job_profile.specs.declared.stops.ProfileCause.{ProfileCause}
 use Rattle.job_profile.specs.declared.stops.ProfileStop.TheVariants as profile
 use Rattle.job_profile.specs.declared.stops.ProfileStop.{ProfileStop}
-use Rattle.job_profile.specs.Named.{IsJobProfile, Refusal, refused_at}
+use Rattle.job_profile.specs.Named.{Refusal, refused_at}
 use Rattle.job_words.specs.declared.reading.Job.{Job}
 use Rattle.job_words.specs.declared.table.Verb.TheVariants as verb
 use Rattle.job_words.specs.declared.table.Verb.{Verb}
@@ -25,9 +25,11 @@ use Rattle.driver_core.specs.Playing.Outcome.{PlayOutcome}
 use Rattle.driver_core.specs.Printing.Outcome.{PrintOutcome}
 use Rattle.driver_core.specs.Runs.Asking.{AsksFor}
 use Rattle.driver_core.specs.Runs.Outcome.{LineOutcome, ListsJob, NoProfile, Outcome, ProfileStopped, Tells, Told}
+use Rattle.driver_core.specs.Runs.Fitting.{IsProfileOf, way_of}
 use Rattle.driver_core.specs.Runs.Outcome.{VerbOutcome, WithProfile, metered}
 use Rattle.driver_core.specs.Runs.Promises.{Promises}
 use Rattle.driver_core.specs.Showing.Outcome.{ShowOutcome}
+use Rattle.driver_core.specs.Trying.Outcome.{TrialOutcome}
 use Rattle.driver_core.proofs.Runs.Asked.{Asked, asked, told_line}
 use Rattle.driver_core.proofs.Runs.Asked.Asked.{WithoutShelf, IsRefused, Works}
 use Rattle.driver_core.proofs.Runs.Asked.NoShelf.{ShelfFailed, ShelfFull}
@@ -37,6 +39,7 @@ use Rattle.driver_core.proofs.Playing.ByStatus.{play_part, play_read}
 use Rattle.driver_core.proofs.Printing.ByStatus.{print_over, print_part, print_some}
 use Rattle.driver_core.proofs.Printing.Promised.{WentOver}
 use Rattle.driver_core.proofs.Showing.Promised.{show_part}
+use Rattle.driver_core.proofs.Trying.Promised.{trial_part, trial_read}
 
 -- ---- the statuses that a command itself does not give
 
@@ -46,6 +49,7 @@ verb_refuses_no_word verb.Print job p o meters fault does = does
 verb_refuses_no_word verb.Dots job p o meters fault does = does.1
 verb_refuses_no_word verb.List job p o meters fault does = does
 verb_refuses_no_word verb.Profile job p o meters fault does = does.2
+verb_refuses_no_word verb.Trial job p o meters fault does = does.2
 
 verb_refuses_no_profile : (v : Verb) (job : Job) (p : Printer) (o : Outsides) (meters : Meters) (line : ℕ) (cause : ProfileCause)
     → VerbOutcome v job p o meters (answer.Profile line cause) → ⊥
@@ -53,6 +57,7 @@ verb_refuses_no_profile verb.Print job p o meters line cause does = does
 verb_refuses_no_profile verb.Dots job p o meters line cause does = does.1
 verb_refuses_no_profile verb.List job p o meters line cause does = does
 verb_refuses_no_profile verb.Profile job p o meters line cause does = does.2
+verb_refuses_no_profile verb.Trial job p o meters line cause does = does.2
 
 verb_refuses_none : (v : Verb) (job : Job) (p : Printer) (o : Outsides) (meters : Meters) (a : Answer) (s : ℕ)
     → VerbOutcome v job p o meters a → s ≡ status_of a → (s ≡ 1) ⊎ (s ≡ 2) → ⊥
@@ -105,13 +110,13 @@ usage_means words o a s outcome is bad = by_meaning (job_meaning words) bad outc
 profile_status : (words : List (List ℕ)) (o : Outsides) (err : Outside) (a : Answer) (s : ℕ)
     → Outcome words o a → Told err a → s ≡ status_of a → s ≡ 2
     → (job : Job) × (line : ℕ) × (cause : ProfileCause) × (job_meaning words ≡ Ok job)
-    × IsJobProfile o.shelf.told (profile_named words) (Err (refused_at line cause)) × Tells err (answer.Profile line cause)
+    × IsProfileOf job o.shelf.told (profile_named words) (Err (refused_at line cause)) × Tells err (answer.Profile line cause)
 profile_status words o err a s outcome told is two = by_meaning (job_meaning words) refl outcome
   where
     by_stop : (job : Job) → job_meaning words ≡ Ok job
-        → (why : ProfileStop) → ProfileStopped (profile_named words) o.shelf why → a ≡ profile_answer why
+        → (why : ProfileStop) → ProfileStopped job (profile_named words) o.shelf why → a ≡ profile_answer why
         → (job : Job) × (line : ℕ) × (cause : ProfileCause) × (job_meaning words ≡ Ok job)
-        × IsJobProfile o.shelf.told (profile_named words) (Err (refused_at line cause)) × Tells err (answer.Profile line cause)
+        × IsProfileOf job o.shelf.told (profile_named words) (Err (refused_at line cause)) × Tells err (answer.Profile line cause)
     by_stop job means (profile.Refused line cause) stopped e =
         let T : Answer → Type 0 = λ b. Told err b in
         (job, line, cause, means, stopped, told_line err (answer.Profile line cause) (subst T e told))
@@ -120,7 +125,7 @@ profile_status words o err a s outcome told is two = by_meaning (job_meaning wor
 
     by_meaning : (r : Result Job UsageFault) → job_meaning words ≡ r → LineOutcome r (profile_named words) o a
         → (job : Job) × (line : ℕ) × (cause : ProfileCause) × (job_meaning words ≡ Ok job)
-        × IsJobProfile o.shelf.told (profile_named words) (Err (refused_at line cause)) × Tells err (answer.Profile line cause)
+        × IsProfileOf job o.shelf.told (profile_named words) (Err (refused_at line cause)) × Tells err (answer.Profile line cause)
     by_meaning (Err fault) means did = absurd (let one : s ≡ 1 = is ∙ ap status_of did.0 in omega arith)
     by_meaning (Ok job) means (inl lists) = absurd (list_refuses_none job o a s lists is (inr (inl two)))
     by_meaning (Ok job) means (inr (inl none)) = by_stop job means none.why none.stopped none.answered
@@ -159,24 +164,25 @@ read_status : (words : List (List ℕ)) (o : Outsides) (a : Answer) (s : ℕ) �
     → HasRisen o.input ⊎ (HasFailed o.shelf × (built_in (profile_named words) ≡ None))
 read_status words o a s outcome is four = by_meaning (job_meaning words) outcome
   where
-    by_stop : (why : ProfileStop) → ProfileStopped (profile_named words) o.shelf why
+    by_stop : (job : Job) (why : ProfileStop) → ProfileStopped job (profile_named words) o.shelf why
         → s ≡ status_of (profile_answer why) → HasFailed o.shelf × (built_in (profile_named words) ≡ None)
-    by_stop (profile.Refused line cause) stopped e = absurd (omega arith)
-    by_stop profile.Failed stopped e = stopped
-    by_stop profile.Memory stopped e = absurd (omega arith)
+    by_stop job (profile.Refused line cause) stopped e = absurd (omega arith)
+    by_stop job profile.Failed stopped e = stopped
+    by_stop job profile.Memory stopped e = absurd (omega arith)
 
     by_verb : (v : Verb) (job : Job) (p : Printer) (meters : Meters) → VerbOutcome v job p o meters a → HasRisen o.input
-    by_verb verb.Print job p meters does = (print_some p (table_of job.kernel) o.input o.out meters s a does is four).0
+    by_verb verb.Print job p meters does = (print_some (way_of job) p (table_of job.kernel) o.input o.out meters s a does is four).0
     by_verb verb.Dots job p meters does = (play_read p job.most o.input o.out s a does.1 is four).0
     by_verb verb.List job p meters does = absurd does
     by_verb verb.Profile job p meters does =
         absurd (let never : ShowOutcome p o.out answer.Read = subst (ShowOutcome p o.out) (is_read a (sym four ∙ is)) does.2 in never)
+    by_verb verb.Trial job p meters does = absurd (trial_read job p o.out s a does.2 is four)
 
     by_meaning : (r : Result Job UsageFault) → LineOutcome r (profile_named words) o a
         → HasRisen o.input ⊎ (HasFailed o.shelf × (built_in (profile_named words) ≡ None))
     by_meaning (Err fault) did = absurd (let one : s ≡ 1 = is ∙ ap status_of did.0 in omega arith)
     by_meaning (Ok job) (inl lists) = inl (list_read job.most o.input o.out s a lists.lists is four).0
-    by_meaning (Ok job) (inr (inl none)) = inr (by_stop none.why none.stopped (is ∙ ap status_of none.answered))
+    by_meaning (Ok job) (inr (inl none)) = inr (by_stop job none.why none.stopped (is ∙ ap status_of none.answered))
     by_meaning (Ok job) (inr (inr has)) = inl (by_verb job.verb job has.p (metered job o.meters) has.outcome)
 
 write_status : (words : List (List ℕ)) (o : Outsides) (a : Answer) (s : ℕ) → Outcome words o a → s ≡ status_of a → s ≡ 5 → HasRisen o.out
@@ -188,10 +194,11 @@ write_status words o a s outcome is five = by_meaning (job_meaning words) outcom
     by_stop profile.Memory e = omega arith
 
     by_verb : (v : Verb) (job : Job) (p : Printer) (meters : Meters) → VerbOutcome v job p o meters a → HasRisen o.out
-    by_verb verb.Print job p meters does = (print_part p (table_of job.kernel) o.input o.out meters s a does is five).3
+    by_verb verb.Print job p meters does = (print_part (way_of job) p (table_of job.kernel) o.input o.out meters s a does is five).3
     by_verb verb.Dots job p meters does = (play_part p job.most o.input o.out s a does.1 is five).2
     by_verb verb.List job p meters does = absurd does
     by_verb verb.Profile job p meters does = (show_part p o.out s a does.2 is five).1
+    by_verb verb.Trial job p meters does = (trial_part job p o.out s a does.2 is five).1
 
     by_meaning : (r : Result Job UsageFault) → LineOutcome r (profile_named words) o a → HasRisen o.out
     by_meaning (Err fault) did = absurd (let one : s ≡ 1 = is ∙ ap status_of did.0 in omega arith)
@@ -199,9 +206,9 @@ write_status words o a s outcome is five = by_meaning (job_meaning words) outcom
     by_meaning (Ok job) (inr (inl none)) = absurd (by_stop none.why (is ∙ ap status_of none.answered))
     by_meaning (Ok job) (inr (inr has)) = by_verb job.verb job has.p (metered job o.meters) has.outcome
 
--- 3 is the status of printing
+-- 3 is the status of printing, and of trying
 of_print_status : (words : List (List ℕ)) (o : Outsides) (a : Answer) (s : ℕ) → Outcome words o a → s ≡ status_of a → s ≡ 3
-    → (job : Job) × (job_meaning words ≡ Ok job) × (job.verb ≡ verb.Print)
+    → (job : Job) × (job_meaning words ≡ Ok job) × ((job.verb ≡ verb.Print) ⊎ (job.verb ≡ verb.Trial))
 of_print_status words o a s outcome is three = by_meaning (job_meaning words) refl outcome
   where
     by_stop : (why : ProfileStop) → s ≡ status_of (profile_answer why) → ⊥
@@ -217,14 +224,15 @@ of_print_status words o a s outcome is three = by_meaning (job_meaning words) re
     shows_none p does = let at = is_input a (sym three ∙ is) in subst (ShowOutcome p o.out) at.3 does
 
     by_verb : (job : Job) (p : Printer) (v : Verb) → job.verb ≡ v
-        → VerbOutcome v job p o (metered job o.meters) a → job.verb ≡ verb.Print
-    by_verb job p verb.Print command_is does = command_is
+        → VerbOutcome v job p o (metered job o.meters) a → (job.verb ≡ verb.Print) ⊎ (job.verb ≡ verb.Trial)
+    by_verb job p verb.Print command_is does = inl command_is
     by_verb job p verb.Dots command_is does = absurd (plays_none job p does.1)
     by_verb job p verb.List command_is does = absurd does
     by_verb job p verb.Profile command_is does = absurd (shows_none p does.2)
+    by_verb job p verb.Trial command_is does = inr command_is
 
     by_meaning : (r : Result Job UsageFault) → job_meaning words ≡ r → LineOutcome r (profile_named words) o a
-        → (job : Job) × (job_meaning words ≡ Ok job) × (job.verb ≡ verb.Print)
+        → (job : Job) × (job_meaning words ≡ Ok job) × ((job.verb ≡ verb.Print) ⊎ (job.verb ≡ verb.Trial))
     by_meaning (Err fault) means did = absurd (let one : s ≡ 1 = is ∙ ap status_of did.0 in omega arith)
     by_meaning (Ok job) means (inl lists) = absurd (list_refuses_none job o a s lists is (inr (inr (inl three))))
     by_meaning (Ok job) means (inr (inl none)) = absurd (by_stop none.why (is ∙ ap status_of none.answered))
@@ -241,13 +249,16 @@ of_job_status words o a s outcome is eight = by_meaning (job_meaning words) refl
     by_stop profile.Memory e = omega arith
 
     print_plays_none : (job : Job) (p : Printer)
-        → PrintOutcome p (table_of job.kernel) o.input o.out (metered job o.meters) a → ⊥
+        → PrintOutcome (way_of job) p (table_of job.kernel) o.input o.out (metered job o.meters) a → ⊥
     print_plays_none job p does =
         let at = is_job a (sym eight ∙ is) in
-        subst (PrintOutcome p (table_of job.kernel) o.input o.out (metered job o.meters)) at.2 does
+        subst (PrintOutcome (way_of job) p (table_of job.kernel) o.input o.out (metered job o.meters)) at.2 does
 
     show_plays_none : (p : Printer) → ShowOutcome p o.out a → ⊥
     show_plays_none p does = let at = is_job a (sym eight ∙ is) in subst (ShowOutcome p o.out) at.2 does
+
+    trial_plays_none : (job : Job) (p : Printer) → TrialOutcome job p o.out a → ⊥
+    trial_plays_none job p does = let at = is_job a (sym eight ∙ is) in subst (TrialOutcome job p o.out) at.2 does
 
     by_verb : (job : Job) (p : Printer) (v : Verb) → job.verb ≡ v
         → VerbOutcome v job p o (metered job o.meters) a → (job.verb ≡ verb.List) ⊎ (job.verb ≡ verb.Dots)
@@ -255,6 +266,7 @@ of_job_status words o a s outcome is eight = by_meaning (job_meaning words) refl
     by_verb job p verb.Dots command_is does = inr command_is
     by_verb job p verb.List command_is does = inl command_is
     by_verb job p verb.Profile command_is does = absurd (show_plays_none p does.2)
+    by_verb job p verb.Trial command_is does = absurd (trial_plays_none job p does.2)
 
     by_meaning : (r : Result Job UsageFault) → job_meaning words ≡ r → LineOutcome r (profile_named words) o a
         → (job : Job) × (job_meaning words ≡ Ok job) × ((job.verb ≡ verb.List) ⊎ (job.verb ≡ verb.Dots))
@@ -309,11 +321,14 @@ over_status words o err a s outcome told is six = by_meaning (job_meaning words)
     shows_under : (p : Printer) → ShowOutcome p o.out a → ⊥
     shows_under p does = let at = is_over_cap a (sym six ∙ is) in subst (ShowOutcome p o.out) at.4 does
 
+    tries_under : (job : Job) (p : Printer) → TrialOutcome job p o.out a → ⊥
+    tries_under job p does = let at = is_over_cap a (sym six ∙ is) in subst (TrialOutcome job p o.out) at.4 does
+
     by_verb : (job : Job) (p : Printer) → job_meaning words ≡ Ok job
-        → IsJobProfile o.shelf.told (profile_named words) (Ok p) → (v : Verb) → job.verb ≡ v
+        → IsProfileOf job o.shelf.told (profile_named words) (Ok p) → (v : Verb) → job.verb ≡ v
         → VerbOutcome v job p o (metered job o.meters) a → WentOver words o err
     by_verb job p means has verb.Print command_is does =
-        let over = print_over p (table_of job.kernel) o.input o.out (metered job o.meters) s a does is six in
+        let over = print_over (way_of job) p (table_of job.kernel) o.input o.out (metered job o.meters) s a does is six in
         let T : Answer → Type 0 = λ b. Told err b in (
           job,
           p,
@@ -332,6 +347,8 @@ over_status words o err a s outcome told is six = by_meaning (job_meaning words)
     by_verb job p means has verb.List command_is does = absurd does
     by_verb job p means has verb.Profile command_is does =
         absurd (shows_under p does.2)
+    by_verb job p means has verb.Trial command_is does =
+        absurd (tries_under job p does.2)
 
     by_meaning : (r : Result Job UsageFault) → job_meaning words ≡ r → LineOutcome r (profile_named words) o a → WentOver words o err
     by_meaning (Err fault) means did = absurd (let one : s ≡ 1 = is ∙ ap status_of did.0 in omega arith)
@@ -352,6 +369,7 @@ unmetered_job words job o a outcome means unprinted =
     begun verb.Dots other = refl
     begun verb.List other = refl
     begun verb.Profile other = refl
+    begun verb.Trial other = refl
 
     before : (metered job o.meters).before ≡ o.meters.before
     before = begun job.verb unprinted
@@ -362,6 +380,7 @@ unmetered_job words job o a outcome means unprinted =
     by_verb verb.Dots p other does = does.0
     by_verb verb.List p other does = absurd does
     by_verb verb.Profile p other does = does.1
+    by_verb verb.Trial p other does = does.1
 
     by_case : ListsJob job o a ⊎ (NoProfile (profile_named words) job o a ⊎ WithProfile (profile_named words) job o a)
         → o.meters.now ≡ o.meters.before

@@ -1,10 +1,9 @@
 -- The outcome of a run where there is a profile.
-use Rattle.std.proofs.Common.{◌≡◌, ℕ, List, Result, Ok, inl, inr, sym, ap, ◌∙◌, subst}
+use Rattle.std.proofs.Common.{◌≡◌, ℕ, List, Result, Ok, inl, inr, refl, sym, ap, ◌∙◌, subst}
 use Rattle.std.specs.Io.KnownBytes.{Keeps}
 use Rattle.diffusion_kernel.specs.Tables.{table_of}
 use Rattle.driver_answer.specs.declared.answer.Answer.{Answer}
 use Rattle.ink_meter.specs.Accounts.{Account}
-use Rattle.job_profile.specs.Named.{IsJobProfile}
 use Rattle.job_words.specs.declared.reading.Job.{Job}
 use Rattle.job_words.specs.declared.table.Verb.{Verb}
 use Rattle.job_words.specs.declared.table.Verb.TheVariants as verb
@@ -16,11 +15,17 @@ use Rattle.driver_core.specs.Listing.Outcome.{ListOutcome}
 use Rattle.driver_core.specs.Outside.{Outsides}
 use Rattle.driver_core.specs.Playing.Outcome.{PlayOutcome}
 use Rattle.driver_core.specs.Printing.Outcome.{PrintOutcome}
+use Rattle.driver_answer.specs.declared.answer.Answer.TheVariants as answer
+use Rattle.job_profile.specs.Named.{IsJobProfile}
+use Rattle.job_profile.specs.declared.stops.ProfileCause.{ProfileCause}
+use Rattle.job_profile.specs.declared.stops.ProfileStop.TheVariants as stop
+use Rattle.driver_core.specs.Runs.Fitting.{IsProfileOf, RefusesWay, way_of}
 use Rattle.driver_core.specs.Runs.Outcome.{LineOutcome, Outcome, VerbOutcome, metered}
 use Rattle.driver_core.specs.Showing.Outcome.{ShowOutcome}
+use Rattle.driver_core.specs.Trying.Outcome.{TrialOutcome}
 
 worked : (words : List (List ℕ)) (job : Job) (p : Printer) (o : Outsides) (a : Answer)
-    → Ok job ≡ job_meaning words → IsJobProfile o.shelf.told (profile_named words) (Ok p)
+    → Ok job ≡ job_meaning words → IsProfileOf job o.shelf.told (profile_named words) (Ok p)
     → VerbOutcome job.verb job p o (metered job o.meters) a → Outcome words o a
 worked words job p o a means has outcome =
     let L : Result Job UsageFault → Type 0 = λ r. LineOutcome r (profile_named words) o a in
@@ -28,27 +33,36 @@ worked words job p o a means has outcome =
 
 pub printed : (words : List (List ℕ)) (job : Job) (p : Printer) (o : Outsides)
     (set : List Account) (a : Answer) → Ok job ≡ job_meaning words → job.verb ≡ verb.Print
-    → IsJobProfile o.shelf.told (profile_named words) (Ok p) → set ≡ begun_by job.verb job.cap o.meters.before
-    → PrintOutcome p (table_of job.kernel) o.input o.out
+    → IsProfileOf job o.shelf.told (profile_named words) (Ok p) → set ≡ begun_by job.verb job.cap o.meters.before
+    → PrintOutcome (way_of job) p (table_of job.kernel) o.input o.out
     (record { before = set; now = o.meters.now }) a → Outcome words o a
 printed words job p o set a means command_is has is does =
     let M : List Account → Type 0 = λ accounts. PrintOutcome
-    p (table_of job.kernel) o.input o.out (record { before = accounts; now = o.meters.now }) a in
+    (way_of job) p (table_of job.kernel) o.input o.out (record { before = accounts; now = o.meters.now }) a in
     let V : Verb → Type 0 = λ v. VerbOutcome v job p o (metered job o.meters) a in
     worked words job p o a means has (subst V (sym command_is) (subst M is does))
 
 pub shown : (words : List (List ℕ)) (job : Job) (p : Printer) (o : Outsides) (a : Answer)
     → Ok job ≡ job_meaning words → job.verb ≡ verb.Profile
-    → IsJobProfile o.shelf.told (profile_named words) (Ok p)
+    → IsProfileOf job o.shelf.told (profile_named words) (Ok p)
     → Keeps o.input.before o.input.now → o.meters.now ≡ begun_by job.verb job.cap o.meters.before
     → ShowOutcome p o.out a → Outcome words o a
 shown words job p o a means command_is has unread is does =
     let V : Verb → Type 0 = λ v. VerbOutcome v job p o (metered job o.meters) a in
     worked words job p o a means has (subst V (sym command_is) (unread, is, does))
 
+pub tried : (words : List (List ℕ)) (job : Job) (p : Printer) (o : Outsides) (a : Answer)
+    → Ok job ≡ job_meaning words → job.verb ≡ verb.Trial
+    → IsProfileOf job o.shelf.told (profile_named words) (Ok p)
+    → Keeps o.input.before o.input.now → o.meters.now ≡ begun_by job.verb job.cap o.meters.before
+    → TrialOutcome job p o.out a → Outcome words o a
+tried words job p o a means command_is has unread is does =
+    let V : Verb → Type 0 = λ v. VerbOutcome v job p o (metered job o.meters) a in
+    worked words job p o a means has (subst V (sym command_is) (unread, is, does))
+
 pub played : (words : List (List ℕ)) (job : Job) (p : Printer) (o : Outsides) (a : Answer)
     → Ok job ≡ job_meaning words → job.verb ≡ verb.Dots
-    → IsJobProfile o.shelf.told (profile_named words) (Ok p) → o.meters.now ≡ begun_by job.verb job.cap o.meters.before
+    → IsProfileOf job o.shelf.told (profile_named words) (Ok p) → o.meters.now ≡ begun_by job.verb job.cap o.meters.before
     → PlayOutcome p job.most o.input o.out a → Outcome words o a
 played words job p o a means command_is has is does =
     let V : Verb → Type 0 = λ v. VerbOutcome v job p o (metered job o.meters) a in
@@ -61,3 +75,20 @@ listed words job o a means command_is is lists =
     let L : Result Job UsageFault → Type 0 = λ r. LineOutcome r (profile_named words) o a in
     let none : begun_by job.verb job.cap o.meters.before ≡ o.meters.before = ap (λ v. begun_by v job.cap o.meters.before) command_is in
     subst L means (inl (record { command_is = command_is; uncounted = is ∙ none; lists = lists }))
+
+-- the head of the profile cannot go the job's way
+pub unfit : (words : List (List ℕ)) (job : Job) (p : Printer) (o : Outsides) (cause : ProfileCause) → Ok job ≡ job_meaning words
+    → IsJobProfile o.shelf.told (profile_named words) (Ok p) → RefusesWay (way_of job) p cause
+    → Keeps o.input.before o.input.now → Keeps o.out.before o.out.now
+    → o.meters.now ≡ begun_by job.verb job.cap o.meters.before → (job.verb ≡ verb.List → ⊥)
+    → Outcome words o (answer.Profile 0 cause)
+unfit words job p o cause means has refuses unread unwritten is other =
+    let L : Result Job UsageFault → Type 0 = λ r. LineOutcome r (profile_named words) o (answer.Profile 0 cause) in
+    subst L means (inr (inl (record {
+      why = stop.Refused 0 cause;
+      stopped = record { named = Ok p; named_is = has; fits = (refl, refuses) };
+      answered = refl;
+      untouched = (unread, unwritten);
+      uncounted = is;
+      needed = other;
+    })))

@@ -5,8 +5,8 @@ use Rattle.diffusion_definitions.specs.Diffusion.{Table}
 use Rattle.driver_answer.specs.declared.answer.Answer.{Answer}
 use Rattle.driver_answer.specs.declared.answer.Answer.TheVariants as answer
 use Rattle.ink_meter.specs.Accounts.{IsFirstOver, all_inks}
-use Rattle.page_definitions.specs.PageBytes.{page_bytes}
-use Rattle.page_definitions.specs.Printing.{HavePasses, Prints}
+use Rattle.page_definitions.specs.Printing.{Prints}
+use Rattle.page_definitions.specs.Ways.{KeepTo, Way, page_bytes_by}
 use Rattle.ink_meter.specs.Counts.{Admitted, counted, page_dots}
 use Rattle.printer_definitions.specs.Printer.{Printer}
 use Rattle.pwg_definitions.specs.declared.faults.InputCause.{InputCause}
@@ -20,41 +20,41 @@ use Rattle.driver_core.specs.Printing.Pages.{BeginsStream, IsStream, ReadsStream
 
 -- All pages of the input were printed: it is a stream with a clean end, and was read to this end; the job of its
 -- pages was written, prints them, and has no more rasters of an ink than the head takes passes over a page.
-pub record PrintsAll (p : Printer) (k : Table) (input out : Outside) : Type 0 where
+pub record PrintsAll (way : Way) (p : Printer) (k : Table) (input out : Outside) : Type 0 where
   pub pages : List Page
   pub reads : ReadsStream p input.before input.now pages
   pub told : IsStream p input.before pages Done
-  pub writes : Appends out.before out.now (job_bytes p k pages)
-  pub prints : Prints p k pages (job_bytes p k pages)
-  pub passes : HavePasses p k pages
+  pub writes : Appends out.before out.now (job_bytes way p k pages)
+  pub prints : Prints p k pages (job_bytes way p k pages)
+  pub passes : KeepTo way p k pages
 
 -- The input is a stream of some pages that ends with this fault, and the job of these pages was written: those before
 -- the named page, none where page 0, the sync word, is named. They have no more rasters than passes.
-pub record MeetsFault (p : Printer) (k : Table) (input out : Outside) (page line : ℕ) (cause : InputCause) : Type 0 where
+pub record MeetsFault (way : Way) (p : Printer) (k : Table) (input out : Outside) (page line : ℕ) (cause : InputCause) : Type 0 where
   pub pages : List Page
   pub told : IsStream p input.before pages (Fault page line cause)
   pub stand : length pages ≡ page - 1
-  pub writes : Appends out.before out.now (job_bytes p k pages)
-  pub passes : HavePasses p k pages
+  pub writes : Appends out.before out.now (job_bytes way p k pages)
+  pub passes : KeepTo way p k pages
 
 -- The job of some first pages of what was read was written, with no more rasters than passes.
-pub record PrintsSome (p : Printer) (k : Table) (input out : Outside) : Type 0 where
+pub record PrintsSome (way : Way) (p : Printer) (k : Table) (input out : Outside) : Type 0 where
   pub pages : List Page
   pub taken : TakesPages p input.before input.now pages
-  pub writes : Appends out.before out.now (job_bytes p k pages)
-  pub passes : HavePasses p k pages
+  pub writes : Appends out.before out.now (job_bytes way p k pages)
+  pub passes : KeepTo way p k pages
 
 -- The jobs of the pages before this one were written, and a proper prefix of its own. All of them are the first pages
 -- of what was read, and have no more rasters than passes.
-pub record StopsInPage (p : Printer) (k : Table) (input out : Outside) (number : ℕ) : Type 0 where
+pub record StopsInPage (way : Way) (p : Printer) (k : Table) (input out : Outside) (number : ℕ) : Type 0 where
   pub pages : List Page
   pub page : Page
   pub taken : TakesPages p input.before input.now (pages ++ page ∷ [])
   pub number_is : number ≡ length pages + 1
   pub between : Option (List ℕ)
-  pub whole : Appends out.before between (job_bytes p k pages)
-  pub part : AppendsPart between out.now (page_bytes page p k)
-  pub passes : HavePasses p k (pages ++ page ∷ [])
+  pub whole : Appends out.before between (job_bytes way p k pages)
+  pub part : AppendsPart between out.now (page_bytes_by way page p k)
+  pub passes : KeepTo way p k (pages ++ page ∷ [])
 
 -- Each meter had room for each of these pages, and counted their dots and no others.
 pub record CountsPages (p : Printer) (k : Table) (meters : Meters) (pages : List Page) : Type 0 where
@@ -70,35 +70,35 @@ pub record CountsOneMore (p : Printer) (k : Table) (meters : Meters) (pages othe
 
 -- This page was read whole, and the first meter without room for its dots has this total and this cap. The job of the
 -- pages before it was written, with no more rasters than passes, and these were counted.
-pub record GoesOver (p : Printer) (k : Table) (input out : Outside) (meters : Meters) (number total dots cap : ℕ) : Type 0 where
+pub record GoesOver (way : Way) (p : Printer) (k : Table) (input out : Outside) (meters : Meters) (number total dots cap : ℕ) : Type 0 where
   pub pages : List Page
   pub page : Page
   pub taken : TakesPages p input.before input.now (pages ++ page ∷ [])
   pub told : BeginsStream p input.before (pages ++ page ∷ [])
   pub number_is : number ≡ length pages + 1
-  pub writes : Appends out.before out.now (job_bytes p k pages)
-  pub passes : HavePasses p k pages
+  pub writes : Appends out.before out.now (job_bytes way p k pages)
+  pub passes : KeepTo way p k pages
   pub pages_counted : CountsPages p k meters pages
   pub index : ℕ
   pub first : IsFirstOver meters.now (page_dots page p k) (record { index = index; total = total; cap = cap })
   pub dots_are : dots ≡ all_inks (page_dots page p k)
 
 -- What was read, written and counted, by the answer.
-abbrev pub PrintOutcome : Printer → Table → Outside → Outside → Meters → Answer → Type 0
-PrintOutcome p k input out meters answer.Done = (all : PrintsAll p k input out) × CountsPages p k meters all.pages
-PrintOutcome p k input out meters (answer.Input page line cause) =
-    (meets : MeetsFault p k input out page line cause) × CountsPages p k meters meets.pages
-PrintOutcome p k input out meters answer.Read =
-    HasRisen input × (some : PrintsSome p k input out) × CountsPages p k meters some.pages
-PrintOutcome p k input out meters (answer.Write number) =
-    HasRisen out × (stops : StopsInPage p k input out number) × CountsPages p k meters (stops.pages ++ stops.page ∷ [])
-PrintOutcome p k input out meters (answer.OverCap number total dots cap) = GoesOver p k input out meters number total dots cap
-PrintOutcome p k input out meters answer.Memory =
-    (some : PrintsSome p k input out)
+abbrev pub PrintOutcome : Way → Printer → Table → Outside → Outside → Meters → Answer → Type 0
+PrintOutcome way p k input out meters answer.Done = (all : PrintsAll way p k input out) × CountsPages p k meters all.pages
+PrintOutcome way p k input out meters (answer.Input page line cause) =
+    (meets : MeetsFault way p k input out page line cause) × CountsPages p k meters meets.pages
+PrintOutcome way p k input out meters answer.Read =
+    HasRisen input × (some : PrintsSome way p k input out) × CountsPages p k meters some.pages
+PrintOutcome way p k input out meters (answer.Write number) =
+    HasRisen out × (stops : StopsInPage way p k input out number) × CountsPages p k meters (stops.pages ++ stops.page ∷ [])
+PrintOutcome way p k input out meters (answer.OverCap number total dots cap) = GoesOver way p k input out meters number total dots cap
+PrintOutcome way p k input out meters answer.Memory =
+    (some : PrintsSome way p k input out)
     × (CountsPages p k meters some.pages ⊎ CountsOneMore p k meters some.pages some.taken.others)
-PrintOutcome p k input out meters (answer.Usage fault) = ⊥
-PrintOutcome p k input out meters (answer.Profile line cause) = ⊥
-PrintOutcome p k input out meters (answer.Job offset cause) = ⊥
+PrintOutcome way p k input out meters (answer.Usage fault) = ⊥
+PrintOutcome way p k input out meters (answer.Profile line cause) = ⊥
+PrintOutcome way p k input out meters (answer.Job offset cause) = ⊥
 
 -- ---- answers
 

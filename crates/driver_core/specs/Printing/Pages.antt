@@ -3,15 +3,15 @@ use Rattle.std.specs.Prelude.{◌≡◌, ℕ, List, ◌++◌, Option, IfSome}
 use Rattle.std.specs.List.{flat_map}
 use Rattle.std.specs.Io.KnownBytes.{Consumes, IsAtEnd}
 use Rattle.diffusion_definitions.specs.Diffusion.{Table}
-use Rattle.page_definitions.specs.PageBytes.{page_bytes}
+use Rattle.page_definitions.specs.Ways.{Way, page_bytes_by}
 use Rattle.printer_definitions.specs.Printer.{Printer}
 use Rattle.separation_definitions.specs.Windows.{wanted_by}
 use Rattle.pwg_definitions.specs.Stream.{Page, StreamEnd, stream}
 use Rattle.pwg_definitions.specs.Stream.StreamEnd.{Done}
 
--- the job of pages: their bytes, one page after another
-abbrev pub job_bytes : Printer → Table → List Page → List ℕ
-job_bytes p k pages = flat_map (λ page. page_bytes page p k) pages
+-- the job of pages that are printed this way: their bytes, one page after another
+abbrev pub job_bytes : Way → Printer → Table → List Page → List ℕ
+job_bytes way p k pages = flat_map (λ page. page_bytes_by way page p k) pages
 
 -- the input, if the source reports its bytes, is a stream of these pages with this end
 abbrev pub IsStream : Printer → Option (List ℕ) → List Page → StreamEnd → Type 0

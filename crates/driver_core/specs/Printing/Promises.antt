@@ -3,7 +3,6 @@ use Rattle.std.specs.Prelude.{◌≡◌, ℕ, ◌⊎◌, List, [], ◌∷◌, �
 use Rattle.diffusion_kernel.specs.Tables.{table_of}
 use Rattle.driver_answer.specs.declared.answer.Answer.TheVariants as answer
 use Rattle.ink_meter.specs.Accounts.{Account, HasRoom}
-use Rattle.job_profile.specs.Named.{IsJobProfile}
 use Rattle.job_words.specs.declared.reading.Job.{Job}
 use Rattle.job_words.specs.declared.table.Verb.TheVariants as verb
 use Rattle.job_words.specs.Meaning.{job_meaning, profile_named}
@@ -16,6 +15,7 @@ use Rattle.separation_definitions.specs.Windows.{wanted_by}
 use Rattle.driver_core.specs.Outside.{NothingFailed, Outside, Outsides}
 use Rattle.driver_core.specs.Printing.Outcome.{CountsOneMore, CountsPages, GoesOver, MeetsFault, PrintsAll}
 use Rattle.driver_core.specs.Printing.Outcome.{PrintsSome, StopsInPage}
+use Rattle.driver_core.specs.Runs.Fitting.{IsProfileOf, way_of}
 use Rattle.driver_core.specs.Runs.Outcome.{Tells, metered}
 use Rattle.driver_core.specs.Runs.Asking.{AsksFor}
 
@@ -30,12 +30,12 @@ pub record PrintPromises (words : List (List ℕ)) (o : Outsides) (err : Outside
   -- On 0 all pages of the input are printed: the bytes that were written print exactly their dots. Each meter counted
   -- them.
   pub printed : (job : Job) (p : Printer) → AsksFor words o.shelf.told verb.Print job (Ok p) → status ≡ 0
-      → (all : PrintsAll p (table_of job.kernel) o.input o.out)
+      → (all : PrintsAll (way_of job) p (table_of job.kernel) o.input o.out)
       × CountsPages p (table_of job.kernel) (metered job o.meters) all.pages
   -- On 3 the error line names the fault; only the pages before it were written and counted.
   pub input : (job : Job) (p : Printer) → AsksFor words o.shelf.told verb.Print job (Ok p) → status ≡ 3
       → (page line : ℕ) × (cause : InputCause)
-      × (meets : MeetsFault p (table_of job.kernel) o.input o.out page line cause)
+      × (meets : MeetsFault (way_of job) p (table_of job.kernel) o.input o.out page line cause)
       × CountsPages p (table_of job.kernel) (metered job o.meters) meets.pages
       × Tells err (answer.Input page line cause)
   pub refused : (job : Job) (p : Printer) (bytes : List ℕ) (pages : List Page) (page line : ℕ) (cause : InputCause)
@@ -46,22 +46,22 @@ pub record PrintPromises (words : List (List ℕ)) (o : Outsides) (err : Outside
   -- On 4 and 7 some first pages of what was read were written whole, and nothing else. On 4 these are counted; on 7
   -- these, or these and the next page.
   pub stopped : (job : Job) (p : Printer) → AsksFor words o.shelf.told verb.Print job (Ok p) → status ≡ 4
-      → (some : PrintsSome p (table_of job.kernel) o.input o.out)
+      → (some : PrintsSome (way_of job) p (table_of job.kernel) o.input o.out)
       × CountsPages p (table_of job.kernel) (metered job o.meters) some.pages
   pub full : (job : Job) (p : Printer) → AsksFor words o.shelf.told verb.Print job (Ok p) → status ≡ 7
-      → (some : PrintsSome p (table_of job.kernel) o.input o.out)
+      → (some : PrintsSome (way_of job) p (table_of job.kernel) o.input o.out)
       × (CountsPages p (table_of job.kernel) (metered job o.meters) some.pages
       ⊎ CountsOneMore p (table_of job.kernel) (metered job o.meters) some.pages some.taken.others)
   -- On 5 a proper prefix of the named page was written after the pages before it; it is counted with them.
   pub part : (job : Job) (p : Printer) → AsksFor words o.shelf.told verb.Print job (Ok p) → status ≡ 5
-      → (number : ℕ) × (stops : StopsInPage p (table_of job.kernel) o.input o.out number)
+      → (number : ℕ) × (stops : StopsInPage (way_of job) p (table_of job.kernel) o.input o.out number)
       × CountsPages p (table_of job.kernel) (metered job o.meters) (stops.pages ++ stops.page ∷ [])
       × Tells err (answer.Write number)
   -- On 6 the named page was read whole, and goes past the cap of the first meter without room for it. Only the pages
   -- before it were written and counted.
   pub over : status ≡ 6 → (job : Job) × (p : Printer) × (job_meaning words ≡ Ok job) × (job.verb ≡ verb.Print)
-      × IsJobProfile o.shelf.told (profile_named words) (Ok p) × (page total dots cap : ℕ)
-      × GoesOver p (table_of job.kernel) o.input o.out (metered job o.meters) page total dots cap
+      × IsProfileOf job o.shelf.told (profile_named words) (Ok p) × (page total dots cap : ℕ)
+      × GoesOver (way_of job) p (table_of job.kernel) o.input o.out (metered job o.meters) page total dots cap
       × Tells err (answer.OverCap page total dots cap)
   -- The first page that goes past a cap is refused, whatever follows it.
   pub capped : (job : Job) (p : Printer) (bytes : List ℕ) (pages later : List Page) (page : Page) (end : StreamEnd)

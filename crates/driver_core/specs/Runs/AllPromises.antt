@@ -6,6 +6,7 @@ use Rattle.driver_core.specs.Playing.Promises.{DotsPromises}
 use Rattle.driver_core.specs.Printing.Promises.{PrintPromises}
 use Rattle.driver_core.specs.Runs.Promises.{Promises}
 use Rattle.driver_core.specs.Showing.Promises.{ProfilePromises}
+use Rattle.driver_core.specs.Trying.Promises.{TrialPromises}
 
 -- The promises of a run whatever its command, and those for each command.
 pub record AllPromises (words : List (List ℕ)) (o : Outsides) (err : Outside) (status : ℕ) : Type 0 where
@@ -14,3 +15,4 @@ pub record AllPromises (words : List (List ℕ)) (o : Outsides) (err : Outside) 
   pub dots : DotsPromises words o err status
   pub list : ListPromises words o err status
   pub profile : ProfilePromises words o err status
+  pub trial : TrialPromises words o err status

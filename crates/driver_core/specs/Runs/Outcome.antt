@@ -10,7 +10,7 @@ use Rattle.driver_core.specs.Listing.Outcome.{ListOutcome}
 use Rattle.driver_core.specs.Playing.Outcome.{PlayOutcome}
 use Rattle.job_profile.specs.declared.stops.ProfileStop.{ProfileStop}
 use Rattle.job_profile.specs.declared.stops.ProfileStop.TheVariants as profile
-use Rattle.job_profile.specs.Named.{IsJobProfile, refused_at}
+use Rattle.job_profile.specs.Named.{refused_at}
 use Rattle.job_words.specs.declared.reading.Job.{Job}
 use Rattle.job_words.specs.declared.table.Verb.{Verb}
 use Rattle.job_words.specs.declared.table.Verb.TheVariants as verb
@@ -22,7 +22,9 @@ use Rattle.weave_base.specs.Parts.{AppendsPart}
 use Rattle.driver_core.specs.Caps.{begun_by}
 use Rattle.driver_core.specs.Outside.{HasFailed, HasRisen, IsCalm, Meters, Outside, Outsides, Texts, Untouched}
 use Rattle.driver_core.specs.Printing.Outcome.{PrintOutcome}
+use Rattle.driver_core.specs.Runs.Fitting.{IsProfileOf, way_of}
 use Rattle.driver_core.specs.Showing.Outcome.{ShowOutcome}
+use Rattle.driver_core.specs.Trying.Outcome.{TrialOutcome}
 
 -- the answer of a call: `Done`, or the one that it gives in place of its work
 abbrev pub answer_of : Result (Unit {0}) Answer → Answer
@@ -35,23 +37,25 @@ metered job meters = record { before = begun_by job.verb job.cap meters.before; 
 
 -- the outcome of a command with its profile, on meters whose caps are set
 abbrev pub VerbOutcome : Verb → Job → Printer → Outsides → Meters → Answer → Type 0
-VerbOutcome verb.Print job p o meters a = PrintOutcome p (table_of job.kernel) o.input o.out meters a
+VerbOutcome verb.Print job p o meters a = PrintOutcome (way_of job) p (table_of job.kernel) o.input o.out meters a
 VerbOutcome verb.Dots job p o meters a =
     (meters.now ≡ meters.before) × PlayOutcome p job.most o.input o.out a
 VerbOutcome verb.List job p o meters a = ⊥
 VerbOutcome verb.Profile job p o meters a =
     Keeps o.input.before o.input.now × (meters.now ≡ meters.before) × ShowOutcome p o.out a
+VerbOutcome verb.Trial job p o meters a =
+    Keeps o.input.before o.input.now × (meters.now ≡ meters.before) × TrialOutcome job p o.out a
 
--- why there is no profile of a name
-abbrev pub ProfileStopped : List ℕ → Texts → ProfileStop → Type 0
-ProfileStopped name shelf (profile.Refused line cause) = IsJobProfile shelf.told name (Err (refused_at line cause))
-ProfileStopped name shelf profile.Failed = HasFailed shelf × (built_in name ≡ None)
-ProfileStopped name shelf profile.Memory = built_in name ≡ None
+-- why there is no profile of a name for a job
+abbrev pub ProfileStopped : Job → List ℕ → Texts → ProfileStop → Type 0
+ProfileStopped job name shelf (profile.Refused line cause) = IsProfileOf job shelf.told name (Err (refused_at line cause))
+ProfileStopped job name shelf profile.Failed = HasFailed shelf × (built_in name ≡ None)
+ProfileStopped job name shelf profile.Memory = built_in name ≡ None
 
 -- There is no profile, and this is the answer.
 pub record NoProfile (name : List ℕ) (job : Job) (o : Outsides) (a : Answer) : Type 0 where
   pub why : ProfileStop
-  pub stopped : ProfileStopped name o.shelf why
+  pub stopped : ProfileStopped job name o.shelf why
   pub answered : a ≡ profile_answer why
   pub untouched : Untouched o
   pub uncounted : o.meters.now ≡ (metered job o.meters).before
@@ -60,7 +64,7 @@ pub record NoProfile (name : List ℕ) (job : Job) (o : Outsides) (a : Answer) :
 -- There is this profile, and the command did its work with it.
 pub record WithProfile (name : List ℕ) (job : Job) (o : Outsides) (a : Answer) : Type 0 where
   pub p : Printer
-  pub is : IsJobProfile o.shelf.told name (Ok p)
+  pub is : IsProfileOf job o.shelf.told name (Ok p)
   pub outcome : VerbOutcome job.verb job p o (metered job o.meters) a
 
 -- The commands of the job in the input were listed; that takes no profile.

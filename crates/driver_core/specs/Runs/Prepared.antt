@@ -3,7 +3,6 @@ use Rattle.std.specs.Prelude.{◌≡◌, ℕ, ◌<◌, ◌≤◌, ◌^◌, List,
 use Rattle.std.specs.Io.KnownBytes.{Keeps}
 use Rattle.diffusion_kernel.specs.Tables.{table_of}
 use Rattle.driver_answer.specs.declared.answer.Answer.{Answer}
-use Rattle.job_profile.specs.Named.{IsJobProfile}
 use Rattle.job_words.specs.declared.reading.Job.{Job}
 use Rattle.job_words.specs.declared.table.Verb.{Verb}
 use Rattle.job_words.specs.declared.table.Verb.TheVariants as verb
@@ -17,14 +16,19 @@ use Rattle.driver_core.specs.Listing.Outcome.{ListOutcome}
 use Rattle.driver_core.specs.Outside.{Meters, Outside}
 use Rattle.driver_core.specs.Playing.Outcome.{PlayOutcome}
 use Rattle.driver_core.specs.Printing.Outcome.{PrintOutcome}
+use Rattle.driver_core.specs.Runs.Fitting.{IsProfileOf, way_of}
 use Rattle.driver_core.specs.Showing.Outcome.{ShowOutcome}
+use Rattle.driver_core.specs.Trying.Outcome.{TrialOutcome}
+use Rattle.job_words.specs.Jobs.{IsWithinBounds}
+use Rattle.page_definitions.specs.Ways.{CanGo}
 
 -- The words ask for this command, and this is its profile, by the texts that the shelf tells of; it passes its checks.
 pub record Takes (words : List (List ℕ)) (told : Option (List NamedText)) (command : Verb) (job : Job) (p : Printer) : Type 0 where
   pub means : job_meaning words ≡ Ok job
   pub command_is : job.verb ≡ command
-  pub profile_is : IsJobProfile told (profile_named words) (Ok p)
+  pub profile_is : IsProfileOf job told (profile_named words) (Ok p)
   pub checked : IsOk (check p)
+  pub way : CanGo (way_of job) p
 
 -- this command is what the words ask for
 abbrev pub IsPrepared : List (List ℕ) → Option (List NamedText) → Prepared → Type 0
@@ -32,25 +36,37 @@ IsPrepared words told (prepared.Print job p) = Takes words told verb.Print job p
 IsPrepared words told (prepared.Dots job p) = Takes words told verb.Dots job p
 IsPrepared words told (prepared.List job) = (job_meaning words ≡ Ok job) × (job.verb ≡ verb.List)
 IsPrepared words told (prepared.Profile job p) = Takes words told verb.Profile job p
+IsPrepared words told (prepared.Trial job p) = Takes words told verb.Trial job p
 
 abbrev pub job_in : Prepared → Job
 job_in (prepared.Print job p) = job
 job_in (prepared.Dots job p) = job
 job_in (prepared.List job) = job
 job_in (prepared.Profile job p) = job
+job_in (prepared.Trial job p) = job
+
+-- Pages can be printed as a job asks: by 1 to 64 workers, and by a head that can go its way.
+pub record CanBePrinted (job : Job) (p : Printer) : Type 0 where
+  pub checked : IsOk (check p)
+  pub some_workers : 1 ≤ job.workers
+  pub most_workers : job.workers ≤ 64
+  pub way : CanGo (way_of job) p
 
 -- what a command needs of its job and its profile
 abbrev pub IsReady : Prepared → Type 0
-IsReady (prepared.Print job p) = IsOk (check p) × (1 ≤ job.workers) × (job.workers ≤ 64)
+IsReady (prepared.Print job p) = CanBePrinted job p
 IsReady (prepared.Dots job p) = IsOk (check p) × (job.most < 2 ^ 63)
 IsReady (prepared.List job) = job.most < 2 ^ 63
 IsReady (prepared.Profile job p) = Unit {0}
+IsReady (prepared.Trial job p) = CanBePrinted job p × IsWithinBounds job
 
 -- The outcome of a prepared command. Only printing counts.
 abbrev pub DoneOutcome : Prepared → Outside → Outside → Meters → Answer → Type 0
-DoneOutcome (prepared.Print job p) input out meters a = PrintOutcome p (table_of job.kernel) input out meters a
+DoneOutcome (prepared.Print job p) input out meters a = PrintOutcome (way_of job) p (table_of job.kernel) input out meters a
 DoneOutcome (prepared.Dots job p) input out meters a =
     (meters.now ≡ meters.before) × PlayOutcome p job.most input out a
 DoneOutcome (prepared.List job) input out meters a = (meters.now ≡ meters.before) × ListOutcome job.most input out a
 DoneOutcome (prepared.Profile job p) input out meters a =
     Keeps input.before input.now × (meters.now ≡ meters.before) × ShowOutcome p out a
+DoneOutcome (prepared.Trial job p) input out meters a =
+    Keeps input.before input.now × (meters.now ≡ meters.before) × TrialOutcome job p out a

@@ -5,13 +5,14 @@ use Rattle.driver_answer.specs.declared.answer.Answer.{Answer}
 use Rattle.driver_answer.specs.declared.answer.Answer.TheVariants as answer
 use Rattle.driver_answer.specs.Answers.{line_of, status_of}
 use Rattle.job_profile.specs.declared.stops.ProfileCause.{ProfileCause}
-use Rattle.job_profile.specs.Named.{IsJobProfile, Refusal, refused_at}
+use Rattle.job_profile.specs.Named.{Refusal, refused_at}
 use Rattle.job_words.specs.declared.reading.Job.{Job}
 use Rattle.job_words.specs.declared.table.Verb.{Verb}
 use Rattle.job_words.specs.declared.table.Verb.TheVariants as verb
 use Rattle.job_words.specs.Meaning.{job_meaning, profile_named}
 use Rattle.printer_profile.specs.Profiles.{built_in}
 use Rattle.driver_core.specs.Outside.{HasFailed, HasRisen, IsCalm, Outside, Outsides, Untouched}
+use Rattle.driver_core.specs.Runs.Fitting.{IsProfileOf}
 use Rattle.driver_core.specs.Runs.Outcome.{Outcome, Tells, Told, metered}
 use Rattle.driver_core.specs.Runs.Asking.{AsksFor}
 
@@ -32,13 +33,13 @@ pub record Promises (words : List (List ℕ)) (o : Outsides) (err : Outside) (st
   -- Each other status has its cause: the words first, then the profile, then the input.
   pub usage : (status ≡ 1) ↔ IsErr (job_meaning words)
   pub profile : status ≡ 2 → (job : Job) × (line : ℕ) × (cause : ProfileCause) × (job_meaning words ≡ Ok job)
-      × IsJobProfile o.shelf.told (profile_named words) (Err (refused_at line cause)) × Tells err (answer.Profile line cause)
+      × IsProfileOf job o.shelf.told (profile_named words) (Err (refused_at line cause)) × Tells err (answer.Profile line cause)
   pub refused_profile : (command : Verb) (job : Job) (refusal : Refusal) → (command ≡ verb.List → ⊥)
       → AsksFor words o.shelf.told command job (Err refusal) → (HasFailed o.shelf → ⊥) → (status ≡ 2) ⊎ (status ≡ 7)
   pub read : status ≡ 4 → HasRisen o.input ⊎ (HasFailed o.shelf × (built_in (profile_named words) ≡ None))
   pub write : status ≡ 5 → HasRisen o.out
-  -- Only `print` answers 3, and only `list` and `dots` answer 8.
-  pub of_print : status ≡ 3 → (job : Job) × (job_meaning words ≡ Ok job) × (job.verb ≡ verb.Print)
+  -- Only `print` and `trial` answer 3, and only `list` and `dots` answer 8.
+  pub of_print : status ≡ 3 → (job : Job) × (job_meaning words ≡ Ok job) × ((job.verb ≡ verb.Print) ⊎ (job.verb ≡ verb.Trial))
   pub of_jobs : status ≡ 8 → (job : Job) × (job_meaning words ≡ Ok job) × ((job.verb ≡ verb.List) ⊎ (job.verb ≡ verb.Dots))
   pub range : (status ≡ 0) ⊎ (status ≡ 1) ⊎ (status ≡ 2) ⊎ (status ≡ 3) ⊎ (status ≡ 4) ⊎ (status ≡ 5) ⊎ (status ≡ 6) ⊎ (status ≡ 7)
       ⊎ (status ≡ 8)

@@ -2,16 +2,19 @@
 ghost use Rattle.diffusion_kernel.specs.Tables.{table_of};
 ghost use Rattle.driver_core.specs.Outside.{meters_of, outside_of};
 ghost use Rattle.driver_core.specs.Printing.Outcome.{PrintOutcome, stream_answer as stream_answer_of};
+ghost use Rattle.driver_core.specs.Runs.Fitting.{way_of};
 ghost use Rattle.driver_core.specs.Runs.Outcome.{answer_of};
+ghost use Rattle.page_definitions.specs.Ways.{CanGo};
 ghost use Rattle.printer_profile.specs.Validity.{check};
 ghost use Rattle.std.specs.Prelude.{IsOk, ◌≡◌, ◌≤◌};
 
 use crate::print::charging::charge;
-use diffusion_kernel::Kernel;
+use crate::print::writing::write_by_way;
 use driver_answer::Answer;
 use halftone_reader::read_page;
 use ink_meter::{Meter, count_dots};
-use page_writer::{WriteStop, write_page};
+use job_words::Job;
+use page_writer::WriteStop;
 use printer_profile::Profile;
 use pwg_stream::{MOST_PAGES, PageReader, StreamStop};
 use std::alloc::Global;
@@ -19,8 +22,8 @@ use std::thread::Threads;
 use wavefront_team::{Gate, Team};
 use weave_base::{Sink, Source};
 
-// The answer where the stream stops.
-fn stream_answer(stop: StreamStop) -> Answer
+/// The answer where the stream stops.
+pub fn stream_answer(stop: StreamStop) -> Answer
     ensures { result ≡ stream_answer_of stop }
 {
     match stop {
@@ -36,13 +39,14 @@ pub fn print_pages<R: Threads + Sync, S: Source, K: Sink, G: Gate + Sync>(
     team: &Team<'_, R, G>,
     alloc: Global,
     profile: &Profile,
-    kernel: Kernel,
+    job: &Job,
     input: &mut S,
     out: &mut K,
     meters: &mut Vec<Box<dyn Meter>>,
 ) -> Result<(), Answer>
-    requires { IsOk (check profile.now) }
-    ensures { PrintOutcome profile.now (table_of kernel)
+    requires checked { IsOk (check profile.now) }
+    requires way { CanGo (way_of job.now) profile.now }
+    ensures { PrintOutcome (way_of job.now) profile.now (table_of job.now.kernel)
         (outside_of S.left S.faults input.old input.new)
         (outside_of K.held K.faults out.old out.new)
         (meters_of (λ meter. account meter) meters.old.items meters.new.items) (answer_of result) }
@@ -53,13 +57,13 @@ pub fn print_pages<R: Threads + Sync, S: Source, K: Sink, G: Gate + Sync>(
         Err(stop) => return Err(stream_answer(stop)),
     };
     'pages: for number in 1..MOST_PAGES + 2 {
-        let page = match read_page(team, alloc, &mut reader, profile, kernel, input) {
+        let page = match read_page(team, alloc, &mut reader, profile, job.kernel, input) {
             Ok(Some(page)) => page,
             Ok(None) => return Ok(()),
             Err(stop) => return Err(stream_answer(stop)),
         };
         charge(number, &count_dots(profile.inks, &page.planes), meters)?;
-        match write_page(alloc, profile, page.form, &page.planes, out) {
+        match write_by_way(alloc, profile, job, page.form, &page.planes, out) {
             Err(WriteStop::Write) => return Err(Answer::Write { page: number }),
             Err(WriteStop::Memory) => return Err(Answer::Memory),
             Ok(_) => {}

@@ -15,5 +15,5 @@ perform-requires-after_bounds g c κs within =
 
 pub returns-clause-outcome : goal.returns-clause-outcome
 returns-clause-outcome g c =
-    performed c.args.words.now _ _ _ _ _ _ c.in_ok-prepared.prepared _
+    performed c.args.words.now _ _ c.in_ok-prepared.prepared _
     c.in_ok-prepared.ensures.prepared c.in_ok-prepared.ensures.caps c.perform.ensures

@@ -9,12 +9,11 @@ returns-then-is_empty c = no_words _ (c.is_empty.ensures.0 c.if-is_empty.true)
 pub returns-in_default : goal.returns-in_default
 returns-in_default c = no_command _ _ c.get.ensures c.in_default.ensures
 
-pub returns-in_err-given : goal.returns-in_err-given
-returns-in_err-given c =
+pub returns-in_err-check_words : goal.returns-in_err-check_words
+returns-in_err-check_words c =
     let error = err_from_is_err_and c.from_residual.result c.from_residual.ensures.1 in
-    rw (error.1, error.2) (refused_words _ _ (command_row c.in-Some.verb) _ c.get.ensures c.in-Some.ensures c.in_err-given.ensures.fault)
+    rw (error.1, error.2) (refused_words _ _ (command_row c.in-Some.verb) _ c.get.ensures c.in-Some.ensures c.in_err-check_words.ensures.fault)
 
 pub returns : goal.returns
-returns c = rw (c.unwrap_or.ensures, c.unwrap_or-2.ensures, c.unwrap_or-3.ensures, c.unwrap_or-4.ensures)
-    (accepted_words _ _ c.in-Some.verb c.in_ok-given.given
-    c.get.ensures c.in-Some.ensures c.in_ok-given.ensures.accepted c.in_ok-given.ensures.given)
+returns c =
+    accepted_words _ _ c.in-Some.verb _ c.get.ensures c.in-Some.ensures c.in_ok-check_words.ensures.accepted c.job_given.ensures

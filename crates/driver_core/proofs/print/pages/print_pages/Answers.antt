@@ -5,10 +5,10 @@ use Rattle.halftone_reader.specs.declared.pages.HalftonedPage.{HalftonedPage}
 use Rattle.page_definitions.specs.Dots.{halftone}
 use Rattle.ink_meter.proofs.Pages.{page_dots-is}
 use Rattle.printer_definitions.specs.Printer.{Printer}
-use Rattle.printer_profile.proofs.CheckedProfiles.{can_print}
 use Rattle.pwg_definitions.specs.declared.pages.PageForm.{PageForm}
 use Rattle.separation_definitions.specs.Windows.{wanted_by, window_of}
-use Rattle.driver_core.proofs.Printing.Ends.{no_sync, page_over, page-bytes-is, page-wanted, page_not_written}
+use Rattle.driver_core.specs.Runs.Fitting.{way_of}
+use Rattle.driver_core.proofs.Printing.Ends.{can_go, no_sync, page_over, page-bytes-is, page-wanted, page_not_written}
 use Rattle.driver_core.proofs.Printing.Ends.{page_stopped, page_without_room, stream_done}
 use Rattle.driver_core.proofs.Printing.Counting.{one_counted}
 use Rattle.driver_core.proofs.Printing.StreamSteps.{metered_begin, metered_read, metered_written}
@@ -16,12 +16,12 @@ use Rattle.driver_core.proofs.print.pages.print_pages.Goals as goal
 
 pub returns-in-Err : goal.returns-in-Err
 returns-in-Err g c =
-    no_sync c.args.profile.now (table_of c.args.kernel) _ _ _ _ _ _ _ _ c.in-Err.stop c.stream_answer.result
+    no_sync (way_of c.args.job.now) c.args.profile.now (table_of c.args.job.now.kernel) _ _ _ _ c.in-Err.stop c.stream_answer.result
     c.in-Err.ensures.input c.in-Err.ensures.place c.in-Err.ensures.read c.in-Err.ensures.used c.stream_answer.ensures
 
 pub pages-init : goal.pages-init
 pages-init g c = record {
-  stream = metered_begin _ _ _ _ _ _ c.in-Ok.reader c.in-Ok.ensures.sync c.in-Ok.ensures.none.0
+  stream = metered_begin c.in-Ok.reader c.in-Ok.ensures.sync c.in-Ok.ensures.none.0
       (record { whole = c.in-Ok.ensures.none.1; going = c.in-Ok.ensures.going }) c.in-Ok.ensures.none.2;
   read_later = c.begin.ensures.later;
   written_later = omega arith;
@@ -29,10 +29,10 @@ pages-init g c = record {
 
 pub returns-in-Err-read_page : goal.returns-in-Err-read_page
 returns-in-Err-read_page g c =
-    page_stopped (Option HalftonedPage) c.args.profile.now (table_of c.args.kernel)
-    _ _ _ _ _ _ c.pages.reader c.read_page.new.reader c.pages.number _ _ _ _ _ c.in-Err-read_page.stop
-    c.stream_answer-in-Err-read_page.result (can_print c.args.profile.now
-    (subst (λ (p : Printer). p.nozzles ≤ 255) c.profile.view_is (omega (arith, c.if-prove.false))) c.requires)
+    page_stopped (Option HalftonedPage) (way_of c.args.job.now) c.args.profile.now (table_of c.args.job.now.kernel)
+    _ c.pages.reader c.read_page.new.reader c.pages.number _ _ c.in-Err-read_page.stop
+    c.stream_answer-in-Err-read_page.result (can_go c.args.profile.now (way_of c.args.job.now)
+    (subst (λ (p : Printer). p.nozzles ≤ 255) c.profile.view_is (omega (arith, c.if-prove.false))) c.requires.checked c.requires.way)
     c.pages.invariant.stream.0 c.pages.invariant.stream.1
     c.in-Err-read_page.ensures.input c.in-Err-read_page.ensures.place c.pages.invariant.read_later c.in-Err-read_page.ensures.read c.read_page.ensures.used
     c.stream_answer-in-Err-read_page.ensures
@@ -40,94 +40,98 @@ returns-in-Err-read_page g c =
 pub returns-in-Ok-None : goal.returns-in-Ok-None
 returns-in-Ok-None g c =
     let end = rw c.in-Ok-None.field-0-is at c.in-Ok-None.ensures.none in
-    stream_done c.args.profile.now (table_of c.args.kernel) _ _ _ _ _ _ c.pages.reader c.read_page.new.reader c.pages.number
+    stream_done (way_of c.args.job.now) c.args.profile.now (table_of c.args.job.now.kernel) c.pages.reader c.read_page.new.reader c.pages.number
     (g.S.Source.faults c.args.input.now) (g.S.Source.faults c.read_page.new.s) (g.K.Sink.faults c.args.out.now)
-    (g.K.Sink.faults c.pages.out) (can_print c.args.profile.now
-    (subst (λ (p : Printer). p.nozzles ≤ 255) c.profile.view_is (omega (arith, c.if-prove.false))) c.requires)
+    (g.K.Sink.faults c.pages.out) (can_go c.args.profile.now (way_of c.args.job.now)
+    (subst (λ (p : Printer). p.nozzles ≤ 255) c.profile.view_is (omega (arith, c.if-prove.false))) c.requires.checked c.requires.way)
     c.pages.invariant.stream.0 c.pages.invariant.stream.1 end.0 end.1 c.read_page.ensures.used
 
-pub write_page-requires-clause-wanted : goal.write_page-requires-clause-wanted
-write_page-requires-clause-wanted g c =
+pub write_by_way-requires-clause-wanted : goal.write_by_way-requires-clause-wanted
+write_by_way-requires-clause-wanted g c =
     let read = rw c.in-Ok-Some.field-0-is at c.in-Ok-Some.ensures.page in
     page-wanted (wanted_by c.args.profile.now) read.reads.bytes read.page c.in-Ok-Some.page.form read.form_is read.reads.is
 
-pub write_page-requires-clause-width : goal.write_page-requires-clause-width
-write_page-requires-clause-width g c =
+pub write_by_way-requires-clause-width : goal.write_by_way-requires-clause-width
+write_by_way-requires-clause-width g c =
     let read = rw c.in-Ok-Some.field-0-is at c.in-Ok-Some.ensures.page in
     read.dots.width_is ∙ ap (λ (f : PageForm). (window_of f c.args.profile.now).width) (sym read.form_is)
 
-pub write_page-requires-clause-rows : goal.write_page-requires-clause-rows
-write_page-requires-clause-rows g c =
+pub write_by_way-requires-clause-rows : goal.write_by_way-requires-clause-rows
+write_by_way-requires-clause-rows g c =
     let read = rw c.in-Ok-Some.field-0-is at c.in-Ok-Some.ensures.page in
     read.dots.rows_is ∙ ap (λ (f : PageForm). (window_of f c.args.profile.now).height) (sym read.form_is)
 
-pub write_page-requires-clause-inks : goal.write_page-requires-clause-inks
-write_page-requires-clause-inks g c =
+pub write_by_way-requires-clause-inks : goal.write_by_way-requires-clause-inks
+write_by_way-requires-clause-inks g c =
     let read = rw c.in-Ok-Some.field-0-is at c.in-Ok-Some.ensures.page in
     read.dots.inks_is
 
 pub returns-in-Err-Write : goal.returns-in-Err-Write
 returns-in-Err-Write g c =
     let p = c.args.profile.now in
-    let k = table_of c.args.kernel in
+    let k = table_of c.args.job.now.kernel in
+    let way = way_of c.args.job.now in
     let halftoned = rw c.in-Ok-Some.field-0-is at c.in-Ok-Some.ensures.page in
     let page = halftoned.page in
-    let read = metered_read p k _ _ _ _ _ _ c.pages.reader c.read_page.new.reader c.pages.number
+    let read = metered_read way p k c.pages.reader c.read_page.new.reader c.pages.number
     page c.pages.invariant.stream halftoned.reads (rw c.in-Ok-Some.field-0-is at c.in-Ok-Some.ensures.between) in
     let are = c.count_dots.ensures.dots p (halftone page p k) (ap (λ (q : Printer). q.inks) (sym c.profile.view_is)) halftoned.dots ∙ page_dots-is p k page in
     let counts = one_counted p k _ _ _ _ page c.count_dots.result are read.1 c.in_ok-charge.ensures.room c.in_ok-charge.ensures.counted in
-    let part = rw (page-bytes-is p k page c.in-Ok-Some.page.form halftoned.form_is) at
+    let part = rw (page-bytes-is way p k page c.in-Ok-Some.page.form halftoned.form_is) at
     (c.in-Err-Write.ensures.part (halftone page p k) halftoned.dots (ap Err c.in-Err-Write.field-0-is)) in
-    page_not_written p k _ _ _ _ _ _ c.read_page.new.reader c.pages.number
-    (g.S.Source.faults c.args.input.now) (g.S.Source.faults c.read_page.new.s) _ _ _ page
-    (can_print c.args.profile.now
-    (subst (λ (p : Printer). p.nozzles ≤ 255) c.profile.view_is (omega (arith, c.if-prove.false))) c.requires) read.0 counts part c.pages.invariant.written_later (c.in-Err-Write.ensures.write (ap Err c.in-Err-Write.field-0-is))
+    page_not_written way p k c.read_page.new.reader c.pages.number
+    (g.S.Source.faults c.args.input.now) (g.S.Source.faults c.read_page.new.s) page
+    (can_go c.args.profile.now (way_of c.args.job.now)
+    (subst (λ (p : Printer). p.nozzles ≤ 255) c.profile.view_is (omega (arith, c.if-prove.false))) c.requires.checked c.requires.way) read.0 counts part c.pages.invariant.written_later (c.in-Err-Write.ensures.write (ap Err c.in-Err-Write.field-0-is))
 
 pub returns-in-Err-Memory : goal.returns-in-Err-Memory
 returns-in-Err-Memory g c =
     let p = c.args.profile.now in
-    let k = table_of c.args.kernel in
+    let k = table_of c.args.job.now.kernel in
+    let way = way_of c.args.job.now in
     let halftoned = rw c.in-Ok-Some.field-0-is at c.in-Ok-Some.ensures.page in
-    let read = metered_read p k _ _ _ _ _ _ c.pages.reader c.read_page.new.reader c.pages.number
+    let read = metered_read way p k c.pages.reader c.read_page.new.reader c.pages.number
     halftoned.page c.pages.invariant.stream halftoned.reads (rw c.in-Ok-Some.field-0-is at c.in-Ok-Some.ensures.between) in
     let are = c.count_dots.ensures.dots p (halftone halftoned.page p k) (ap (λ (q : Printer). q.inks) (sym c.profile.view_is)) halftoned.dots ∙ page_dots-is p k halftoned.page in
     let counts = one_counted p k _ _ _
     _ halftoned.page c.count_dots.result are read.1 c.in_ok-charge.ensures.room c.in_ok-charge.ensures.counted in
-    page_without_room p k _ _ _ _ _ _ c.read_page.new.reader c.pages.number
+    page_without_room way p k c.read_page.new.reader c.pages.number
     (g.S.Source.faults c.args.input.now) (g.S.Source.faults c.read_page.new.s)
-    (g.K.Sink.faults c.args.out.now) (g.K.Sink.faults c.write_page.new.k) halftoned.page
-    (can_print c.args.profile.now
-    (subst (λ (p : Printer). p.nozzles ≤ 255) c.profile.view_is (omega (arith, c.if-prove.false))) c.requires) read.0 counts (c.in-Err-Memory.ensures.memory (ap Err c.in-Err-Memory.field-0-is))
+    (g.K.Sink.faults c.args.out.now) (g.K.Sink.faults c.write_by_way.new.out) halftoned.page
+    (can_go c.args.profile.now (way_of c.args.job.now)
+    (subst (λ (p : Printer). p.nozzles ≤ 255) c.profile.view_is (omega (arith, c.if-prove.false))) c.requires.checked c.requires.way) read.0 counts (c.in-Err-Memory.ensures.memory (ap Err c.in-Err-Memory.field-0-is))
 
 pub pages-preserved : goal.pages-preserved
 pages-preserved g c =
     let p = c.args.profile.now in
-    let k = table_of c.args.kernel in
+    let k = table_of c.args.job.now.kernel in
+    let way = way_of c.args.job.now in
     let halftoned = rw c.in-Ok-Some.field-0-is at c.in-Ok-Some.ensures.page in
     let page = halftoned.page in
-    let read = metered_read p k _ _ _ _ _ _ c.pages.reader c.read_page.new.reader c.pages.number
+    let read = metered_read way p k c.pages.reader c.read_page.new.reader c.pages.number
     page c.pages.invariant.stream halftoned.reads (rw c.in-Ok-Some.field-0-is at c.in-Ok-Some.ensures.between) in
     let are = c.count_dots.ensures.dots p (halftone page p k) (ap (λ (q : Printer). q.inks) (sym c.profile.view_is)) halftoned.dots ∙ page_dots-is p k page in
     let counts = one_counted p k _ _ _ _ page c.count_dots.result are read.1 c.in_ok-charge.ensures.room c.in_ok-charge.ensures.counted in
     record {
-      stream = metered_written p k _ _ _ _ _ _ c.read_page.new.reader c.pages.number page read.0 counts
-          (rw (page-bytes-is p k page c.in-Ok-Some.page.form halftoned.form_is) at (c.in-Ok-write_page.ensures.ok (halftone page p k) halftoned.dots));
+      stream = metered_written way p k c.read_page.new.reader c.pages.number page read.0 counts
+          (rw (page-bytes-is way p k page c.in-Ok-Some.page.form halftoned.form_is) at (c.in-Ok-write_by_way.ensures.ok (halftone page p k) halftoned.dots));
       read_later = omega (arith, c.pages.invariant.read_later, c.read_page.ensures.later);
-      written_later = omega (arith, c.pages.invariant.written_later, c.write_page.ensures.later);
+      written_later = omega (arith, c.pages.invariant.written_later, c.write_by_way.ensures.later);
     }
 
 pub returns-in_err-charge : goal.returns-in_err-charge
 returns-in_err-charge g c =
     let p = c.args.profile.now in
-    let k = table_of c.args.kernel in
+    let k = table_of c.args.job.now.kernel in
+    let way = way_of c.args.job.now in
     let halftoned = rw c.in-Ok-Some.field-0-is at c.in-Ok-Some.ensures.page in
     let page = halftoned.page in
-    let read = metered_read p k _ _ _ _ _ _ c.pages.reader c.read_page.new.reader c.pages.number
+    let read = metered_read way p k c.pages.reader c.read_page.new.reader c.pages.number
     page c.pages.invariant.stream halftoned.reads (rw c.in-Ok-Some.field-0-is at c.in-Ok-Some.ensures.between) in
     let are = c.count_dots.ensures.dots p (halftone page p k) (ap (λ (q : Printer). q.inks) (sym c.profile.view_is)) halftoned.dots ∙ page_dots-is p k page in
     let error = err_from_is_err_and c.from_residual.result c.from_residual.ensures.1 in
-    rw (error.1, error.2) (page_over p k _ _ _ _ _ _ _ c.read_page.new.reader c.pages.number
+    rw (error.1, error.2) (page_over way p k c.read_page.new.reader c.pages.number
     (g.S.Source.faults c.args.input.now) (g.S.Source.faults c.read_page.new.s) (g.K.Sink.faults c.args.out.now)
     (g.K.Sink.faults c.pages.out) page c.count_dots.result c.in_err-charge.field-0.0
-    (can_print c.args.profile.now
-    (subst (λ (p : Printer). p.nozzles ≤ 255) c.profile.view_is (omega (arith, c.if-prove.false))) c.requires) read.0 read.1 are c.in_err-charge.ensures.over c.in_err-charge.ensures.kept)
+    (can_go c.args.profile.now (way_of c.args.job.now)
+    (subst (λ (p : Printer). p.nozzles ≤ 255) c.profile.view_is (omega (arith, c.if-prove.false))) c.requires.checked c.requires.way) read.0 read.1 are c.in_err-charge.ensures.over c.in_err-charge.ensures.kept)

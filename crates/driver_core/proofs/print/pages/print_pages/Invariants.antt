@@ -1,12 +1,13 @@
 use Rattle.std.proofs.Common.{◌≤◌}
 use Rattle.diffusion_kernel.specs.Tables.{table_of}
 use Rattle.driver_core.specs.Outside.{meters_of}
+use Rattle.driver_core.specs.Runs.Fitting.{way_of}
 use Rattle.driver_core.proofs.Printing.StreamSteps.{MeteredSoFar}
 use Rattle.driver_core.proofs.print.pages.print_pages.Given as goal
 
 abbrev pub invariant-pages : goal.invariant-pages
 invariant-pages g l = record {
-  stream : MeteredSoFar l.fn.profile (table_of l.fn.kernel)
+  stream : MeteredSoFar (way_of l.fn.job) l.fn.profile (table_of l.fn.job.kernel)
       (g.S.Source.left l.fn.input) (g.S.Source.left l.input) (g.K.Sink.held l.fn.out) (g.K.Sink.held l.out)
       (meters_of (λ m. (goal.Meter-dyn g (m.vtable, m.value)).account m.value) l.fn.meters.items l.meters.items)
       l.reader l.number;

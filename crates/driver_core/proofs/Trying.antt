@@ -1,0 +1,3 @@
+-- Proofs for the command `trial`.
+pub mod Steps
+pub mod Promised

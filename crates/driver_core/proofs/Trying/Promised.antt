@@ -1,0 +1,199 @@
+-- The promises of a run for the command `trial`.
+use Rattle.std.proofs.Common.{◌≡◌, ℕ, ◌⊎◌, List, [], Result, Ok, inl, inr, sym, ◌∙◌, ap, subst, arith}
+use Rattle.std.specs.Io.KnownBytes.{Appends, Keeps}
+use Rattle.driver_answer.specs.Answers.{status_of}
+use Rattle.driver_answer.specs.declared.answer.Answer.TheVariants as answer
+use Rattle.driver_answer.specs.declared.answer.Answer.{Answer}
+use Rattle.driver_answer.specs.Stops.{profile_answer}
+use Rattle.job_profile.specs.declared.stops.ProfileStop.TheVariants as profile
+use Rattle.job_profile.specs.declared.stops.ProfileStop.{ProfileStop}
+use Rattle.job_words.specs.declared.reading.Job.{Job}
+use Rattle.job_words.specs.declared.table.Verb.TheVariants as verb
+use Rattle.job_words.specs.declared.table.Verb.{Verb}
+use Rattle.job_words.specs.declared.usage.UsageFault.{UsageFault}
+use Rattle.job_words.specs.Meaning.{job_meaning, profile_named}
+use Rattle.printer_definitions.specs.Printer.{Printer}
+use Rattle.pwg_definitions.specs.declared.faults.InputCause.{InputCause}
+use Rattle.pwg_definitions.specs.Stream.{StreamEnd}
+use Rattle.pwg_definitions.specs.Stream.StreamEnd.{Done, Fault}
+use Rattle.weave_base.specs.Parts.{AppendsPart}
+use Rattle.driver_core.specs.Outside.{HasFailed, HasRisen, IsCalm, Outside, Outsides}
+use Rattle.driver_core.specs.Runs.Asking.{AsksFor}
+use Rattle.driver_core.specs.Runs.Outcome.{LineOutcome, ListsJob, NoProfile, Outcome, ProfileStopped, Tells, Told, VerbOutcome}
+use Rattle.driver_core.specs.Runs.Outcome.{WithProfile, metered}
+use Rattle.driver_core.specs.Trying.Outcome.{RefusesMade, TakesMade, TrialOutcome, job_summary}
+use Rattle.driver_core.specs.Trying.Promises.{TrialPromises}
+use Rattle.driver_core.proofs.Runs.Asked.{HasProfile, has_profile, told_line}
+use Rattle.driver_core.proofs.Runs.Asked.HasProfile.{HasNone, Does}
+use Rattle.driver_core.proofs.Runs.Asked.NoShelf.{ShelfFailed, ShelfFull}
+use Rattle.driver_core.proofs.Runs.AtWork.{at_work, calm_work, trial_is_none}
+use Rattle.driver_core.proofs.Runs.Statuses.{is_done, is_input, is_memory, is_read, is_write}
+
+-- ---- what a trial came to, by the status
+
+trial_done : (job : Job) (p : Printer) (out : Outside) (s : ℕ) (a : Answer) → TrialOutcome job p out a → s ≡ status_of a → s ≡ 0
+    → TakesMade job p × Appends out.before out.now (job_summary job p)
+trial_done job p out s a does e zero = subst (TrialOutcome job p out) (is_done a (sym zero ∙ e)) does
+
+pub trial_part : (job : Job) (p : Printer) (out : Outside) (s : ℕ) (a : Answer) → TrialOutcome job p out a → s ≡ status_of a → s ≡ 5
+    → AppendsPart out.before out.now (job_summary job p) × HasRisen out × (a ≡ answer.Write 0)
+trial_part job p out s a does e five =
+    let at = is_write a (sym five ∙ e) in
+    let stops : TrialOutcome job p out (answer.Write at.0) = subst (TrialOutcome job p out) at.1 does in
+    (stops.3, stops.2, at.1 ∙ ap answer.Write stops.0)
+
+trial_refused : (job : Job) (p : Printer) (out : Outside) (s : ℕ) (a : Answer) → TrialOutcome job p out a → s ≡ status_of a → s ≡ 3
+    → (page line : ℕ) × (cause : InputCause) × RefusesMade job p page line cause × Keeps out.before out.now
+    × (a ≡ answer.Input page line cause)
+trial_refused job p out s a does e three =
+    let at = is_input a (sym three ∙ e) in
+    let met : TrialOutcome job p out (answer.Input at.0 at.1 at.2) = subst (TrialOutcome job p out) at.3 does in
+    (at.0, at.1, at.2, met.0, met.1, at.3)
+
+pub trial_read : (job : Job) (p : Printer) (out : Outside) (s : ℕ) (a : Answer) → TrialOutcome job p out a → s ≡ status_of a → s ≡ 4 → ⊥
+trial_read job p out s a does e four =
+    let never : TrialOutcome job p out answer.Read = subst (TrialOutcome job p out) (is_read a (sym four ∙ e)) does in never
+
+trial_none : (job : Job) (p : Printer) (out : Outside) (s : ℕ) (a : Answer) → TrialOutcome job p out a → s ≡ status_of a
+    → (s ≡ 3) ⊎ (s ≡ 4) ⊎ (s ≡ 7) → Keeps out.before out.now
+trial_none job p out s a does e (inl three) = (trial_refused job p out s a does e three).4
+trial_none job p out s a does e (inr (inl four)) = absurd (trial_read job p out s a does e four)
+trial_none job p out s a does e (inr (inr seven)) = subst (TrialOutcome job p out) (is_memory a (sym seven ∙ e)) does
+
+-- made pages are not both taken and refused
+never_both : (end : StreamEnd) (page line : ℕ) (cause : InputCause) → end ≡ Done → end ≡ Fault page line cause → ⊥
+never_both end page line cause taken refused = let differ : Done ≡ Fault page line cause = sym taken ∙ refused in cc
+
+trial_calm : (job : Job) (p : Printer) (out : Outside) (s : ℕ) (a : Answer) → TrialOutcome job p out a → s ≡ status_of a
+    → TakesMade job p → IsCalm out → (s ≡ 0) ⊎ (s ≡ 7)
+trial_calm job p out s answer.Done does e takes calm = inl e
+trial_calm job p out s (answer.Input page line cause) does e takes calm =
+    absurd (never_both _ page line cause takes does.0)
+trial_calm job p out s (answer.Write page) does e takes calm = absurd (calm does.2)
+trial_calm job p out s answer.Memory does e takes calm = inr e
+trial_calm job p out s (answer.Usage fault) does e takes calm = absurd does
+trial_calm job p out s (answer.Profile line cause) does e takes calm = absurd does
+trial_calm job p out s answer.Read does e takes calm = absurd does
+trial_calm job p out s (answer.OverCap page total dots cap) does e takes calm = absurd does
+trial_calm job p out s (answer.Job offset cause) does e takes calm = absurd does
+
+trial_bad : (job : Job) (p : Printer) (out : Outside) (s : ℕ) (a : Answer) (page line : ℕ) (cause : InputCause)
+    → TrialOutcome job p out a → s ≡ status_of a → RefusesMade job p page line cause → (s ≡ 3) ⊎ (s ≡ 7)
+trial_bad job p out s answer.Done page line cause does e refuses = absurd (never_both _ page line cause does.0 refuses)
+trial_bad job p out s (answer.Input page' line' cause') page line cause does e refuses = inl e
+trial_bad job p out s (answer.Write page') page line cause does e refuses = absurd (never_both _ page line cause does.1 refuses)
+trial_bad job p out s answer.Memory page line cause does e refuses = inr e
+trial_bad job p out s (answer.Usage fault) page line cause does e refuses = absurd does
+trial_bad job p out s (answer.Profile line' cause') page line cause does e refuses = absurd does
+trial_bad job p out s answer.Read page line cause does e refuses = absurd does
+trial_bad job p out s (answer.OverCap page' total dots cap) page line cause does e refuses = absurd does
+trial_bad job p out s (answer.Job offset cause') page line cause does e refuses = absurd does
+
+-- ---- of a run
+
+try_zero : (words : List (List ℕ)) (o : Outsides) (a : Answer) (s : ℕ) (job : Job) (p : Printer)
+    → Outcome words o a → s ≡ status_of a → AsksFor words o.shelf.told verb.Trial job (Ok p) → s ≡ 0
+    → TakesMade job p × Appends o.out.before o.out.now (job_summary job p)
+try_zero words o a s job p outcome is asks zero =
+    let does = at_work words verb.Trial job p o a s is (λ e. omega arith) (λ e. omega arith) trial_is_none asks outcome in
+    trial_done job p o.out s a does.2 is zero
+
+try_five : (words : List (List ℕ)) (o : Outsides) (err : Outside) (a : Answer) (s : ℕ) (job : Job) (p : Printer)
+    → Outcome words o a → Told err a → s ≡ status_of a → AsksFor words o.shelf.told verb.Trial job (Ok p) → s ≡ 5
+    → AppendsPart o.out.before o.out.now (job_summary job p) × Tells err (answer.Write 0)
+try_five words o err a s job p outcome told is asks five =
+    let does = at_work words verb.Trial job p o a s is (λ e. omega arith) (λ e. omega arith) trial_is_none asks outcome in
+    let part = trial_part job p o.out s a does.2 is five in
+    let T : Answer → Type 0 = λ b. Told err b in
+    (part.0, told_line err (answer.Write 0) (subst T part.2 told))
+
+try_three : (words : List (List ℕ)) (o : Outsides) (err : Outside) (a : Answer) (s : ℕ) (job : Job) (p : Printer)
+    → Outcome words o a → Told err a → s ≡ status_of a → AsksFor words o.shelf.told verb.Trial job (Ok p) → s ≡ 3
+    → (page line : ℕ) × (cause : InputCause) × RefusesMade job p page line cause × Tells err (answer.Input page line cause)
+try_three words o err a s job p outcome told is asks three =
+    let does = at_work words verb.Trial job p o a s is (λ e. omega arith) (λ e. omega arith) trial_is_none asks outcome in
+    let refused = trial_refused job p o.out s a does.2 is three in
+    let T : Answer → Type 0 = λ b. Told err b in (
+      refused.0,
+      refused.1,
+      refused.2,
+      refused.3,
+      told_line err (answer.Input refused.0 refused.1 refused.2) (subst T refused.5 told),
+    )
+
+try_none : (words : List (List ℕ)) (o : Outsides) (a : Answer) (s : ℕ) (job : Job) (p : Printer)
+    → Outcome words o a → s ≡ status_of a → AsksFor words o.shelf.told verb.Trial job (Ok p)
+    → (s ≡ 3) ⊎ (s ≡ 4) ⊎ (s ≡ 7) → Keeps o.out.before o.out.now
+try_none words o a s job p outcome is asks which = by_case (has_profile words verb.Trial job p o a trial_is_none asks outcome)
+  where
+    by_case : HasProfile words verb.Trial job p o a → Keeps o.out.before o.out.now
+    by_case (HasNone none untouched uncounted) = untouched.1
+    by_case (Does does) = trial_none job p o.out s a does.2 is which
+
+try_valid : (words : List (List ℕ)) (o : Outsides) (a : Answer) (s : ℕ) (job : Job) (p : Printer)
+    → Outcome words o a → s ≡ status_of a → AsksFor words o.shelf.told verb.Trial job (Ok p) → TakesMade job p
+    → (HasFailed o.shelf → ⊥) → IsCalm o.out → (s ≡ 0) ⊎ (s ≡ 7)
+try_valid words o a s job p outcome is asks takes calm calm_out =
+    by_case (calm_work words verb.Trial job p o a s is calm trial_is_none asks outcome)
+  where
+    by_case : (s ≡ 7) ⊎ VerbOutcome verb.Trial job p o (metered job o.meters) a → (s ≡ 0) ⊎ (s ≡ 7)
+    by_case (inl seven) = inr seven
+    by_case (inr does) = trial_calm job p o.out s a does.2 is takes calm_out
+
+try_refused : (words : List (List ℕ)) (o : Outsides) (a : Answer) (s : ℕ) (job : Job) (p : Printer) (page line : ℕ) (cause : InputCause)
+    → Outcome words o a → s ≡ status_of a → AsksFor words o.shelf.told verb.Trial job (Ok p) → RefusesMade job p page line cause
+    → (HasFailed o.shelf → ⊥) → (s ≡ 3) ⊎ (s ≡ 7)
+try_refused words o a s job p page line cause outcome is asks refuses calm =
+    by_case (calm_work words verb.Trial job p o a s is calm trial_is_none asks outcome)
+  where
+    by_case : (s ≡ 7) ⊎ VerbOutcome verb.Trial job p o (metered job o.meters) a → (s ≡ 3) ⊎ (s ≡ 7)
+    by_case (inl seven) = inr seven
+    by_case (inr does) = trial_bad job p o.out s a page line cause does.2 is refuses
+
+-- a trial reads nothing, and its status is 4 where the shelf failed alone
+unread_trial : (words : List (List ℕ)) (job : Job) (o : Outsides) (a : Answer)
+    → Outcome words o a → job_meaning words ≡ Ok job → job.verb ≡ verb.Trial → Keeps o.input.before o.input.now
+unread_trial words job o a outcome means command_is =
+    let L : Result Job UsageFault → Type 0 = λ r. LineOutcome r (profile_named words) o a in
+    by_case (subst L means outcome)
+  where
+    by_case : ListsJob job o a ⊎ (NoProfile (profile_named words) job o a ⊎ WithProfile (profile_named words) job o a)
+        → Keeps o.input.before o.input.now
+    by_case (inl lists) = absurd (trial_is_none (sym command_is ∙ lists.command_is))
+    by_case (inr (inl none)) = none.untouched.0
+    by_case (inr (inr has)) =
+        let V : Verb → Type 0 = λ v. VerbOutcome v job has.p o (metered job o.meters) a in
+        (subst V command_is has.outcome).0
+
+shelf_trial : (words : List (List ℕ)) (job : Job) (o : Outsides) (a : Answer) (s : ℕ) → Outcome words o a → s ≡ status_of a
+    → job_meaning words ≡ Ok job → job.verb ≡ verb.Trial → s ≡ 4 → HasFailed o.shelf
+shelf_trial words job o a s outcome is means command_is four =
+    let L : Result Job UsageFault → Type 0 = λ r. LineOutcome r (profile_named words) o a in
+    by_case (subst L means outcome)
+  where
+    by_stop : (why : ProfileStop) → ProfileStopped job (profile_named words) o.shelf why
+        → s ≡ status_of (profile_answer why) → HasFailed o.shelf
+    by_stop (profile.Refused line cause) stopped e = absurd (omega arith)
+    by_stop profile.Failed stopped e = stopped.0
+    by_stop profile.Memory stopped e = absurd (omega arith)
+
+    by_case : ListsJob job o a ⊎ (NoProfile (profile_named words) job o a ⊎ WithProfile (profile_named words) job o a)
+        → HasFailed o.shelf
+    by_case (inl lists) = absurd (trial_is_none (sym command_is ∙ lists.command_is))
+    by_case (inr (inl none)) = by_stop none.why none.stopped (is ∙ ap status_of none.answered)
+    by_case (inr (inr has)) =
+        let V : Verb → Type 0 = λ v. VerbOutcome v job has.p o (metered job o.meters) a in
+        absurd (trial_read job has.p o.out s a (subst V command_is has.outcome).2 is four)
+
+pub trial_promises : (words : List (List ℕ)) (o : Outsides) (err : Outside) (a : Answer) (s : ℕ)
+    → Outcome words o a → Told err a → s ≡ status_of a → TrialPromises words o err s
+trial_promises words o err a s outcome told is = record {
+  tried = λ job p asks zero. try_zero words o a s job p outcome is asks zero;
+  part_tried = λ job p asks five. try_five words o err a s job p outcome told is asks five;
+  refused_made = λ job p asks three. try_three words o err a s job p outcome told is asks three;
+  none_tried = λ job p asks which. try_none words o a s job p outcome is asks which;
+  valid_trial = λ job p asks takes calm calm_out. try_valid words o a s job p outcome is asks takes calm calm_out;
+  refused_trial = λ job p page line cause asks refuses calm. try_refused words o a s job p page line cause outcome is asks refuses calm;
+  untried = λ job means command_is. unread_trial words job o a outcome means command_is;
+  of_shelf = λ job means command_is four. shelf_trial words job o a s outcome is means command_is four;
+}

@@ -1,0 +1,5 @@
+-- The command `trial`.
+pub mod Summary
+pub mod Outcome
+pub mod Pages
+pub mod Promises

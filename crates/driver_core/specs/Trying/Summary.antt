@@ -1,0 +1,56 @@
+-- What `trial` writes.
+use Rattle.std.specs.Prelude.{ℕ, ◌+◌, List, [], ◌∷◌, ◌++◌, codes, decimal, length}
+use Rattle.std.specs.List.{sum_by}
+use Rattle.diffusion_definitions.specs.Diffusion.{Table}
+use Rattle.driver_core.specs.Printing.Pages.{job_bytes}
+use Rattle.escp2_definitions.specs.Commands.{Entry, commands}
+use Rattle.escp2_definitions.specs.Rasters.{raster_count}
+use Rattle.job_words.specs.declared.reading.Job.{Job}
+use Rattle.ink_meter.specs.Accounts.{together}
+use Rattle.ink_meter.specs.Counts.{page_dots}
+use Rattle.page_definitions.specs.Ways.{Way, page_bytes_by}
+use Rattle.driver_core.specs.declared.trial.summary.Totals.{Totals}
+use Rattle.page_maker.specs.Made.{made_form, made_stream}
+use Rattle.printer_definitions.specs.declared.inks.InkCounts.{InkCounts}
+use Rattle.printer_definitions.specs.Printer.{Printer}
+use Rattle.pwg_definitions.specs.Stream.{Page}
+
+-- the stream that a job has made for a printer, at its resolution
+abbrev pub stream_made : Job → Printer → List ℕ
+stream_made job p = made_stream job.seed job.pages (made_form job.width job.height job.kind) p.hdpi p.vdpi
+
+-- how many rasters a job of these bytes has
+abbrev pub rasters_of : List ℕ → ℕ
+rasters_of bytes = sum_by (λ (entry : Entry). raster_count entry.command) (commands bytes).entries
+
+-- how many rasters the jobs of pages have that are printed this way
+abbrev pub rasters_of_pages : Way → Printer → Table → List Page → ℕ
+rasters_of_pages way p k [] = 0
+rasters_of_pages way p k (page ∷ pages) = rasters_of (page_bytes_by way page p k) + rasters_of_pages way p k pages
+
+-- the line of a summary
+abbrev pub totals_line : Totals → List ℕ
+totals_line t =
+    codes "pages=" ++ decimal t.pages ++ codes " sheets=" ++ decimal t.sheets ++ codes " bytes=" ++ decimal t.bytes
+    ++ codes " rasters=" ++ decimal t.rasters ++ codes " k=" ++ decimal t.dots.k ++ codes " c=" ++ decimal t.dots.c
+    ++ codes " m=" ++ decimal t.dots.m ++ codes " y=" ++ decimal t.dots.y ++ codes "\n"
+
+-- the dots of each ink that pages ask for
+abbrev pub dots_of_pages : Printer → Table → List Page → InkCounts
+dots_of_pages p k [] = record { k = 0; c = 0; m = 0; y = 0 }
+dots_of_pages p k (page ∷ pages) = together (page_dots page p k) (dots_of_pages p k pages)
+
+-- what pages come to that are printed this way: how many they are, as many sheets, the bytes and rasters of their job,
+-- and the dots of each ink on all sheets
+abbrev pub totals_of : Way → Printer → Table → List Page → Totals
+totals_of way p k pages = record {
+  pages = length pages;
+  sheets = length pages;
+  bytes = length (job_bytes way p k pages);
+  rasters = rasters_of_pages way p k pages;
+  dots = dots_of_pages p k pages;
+}
+
+-- The summary of pages that are printed this way.
+abbrev pub summary : Way → Printer → Table → List Page → List ℕ
+summary way p k pages = totals_line (totals_of way p k pages)

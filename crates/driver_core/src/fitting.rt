@@ -1,0 +1,53 @@
+//! Whether a head can go over its pages as a job asks.
+ghost use Rattle.dead_nozzles.specs.Dead.{IsRising};
+ghost use Rattle.driver_core.specs.Runs.Fitting.{RefusesWay, way_of};
+ghost use Rattle.job_profile.specs.declared.stops.ProfileCause.TheVariants as cause;
+ghost use Rattle.page_definitions.specs.Ways.{CanGo};
+ghost use Rattle.printer_profile.specs.Validity.{check};
+ghost use Rattle.shingle_plan.specs.Fits.{Shingles};
+ghost use Rattle.shingle_plan.specs.Shingles.{half};
+ghost use Rattle.std.specs.Int.{IsGcd};
+ghost use Rattle.std.specs.Prelude.{IfErr, IsOk, OnErr, OnOk, ℕ, ◌≡◌};
+
+use dead_nozzles::check_dead;
+use job_profile::ProfileCause;
+use job_words::Job;
+use printer_profile::Profile;
+use shingle_plan::{greatest_common_divisor, shingle_fits};
+
+// Whether a head of these nozzles can shingle.
+fn check_shingles(nozzles: u8, pitch: u8) -> Result<(), ProfileCause>
+    ensures ok { OnOk result (Shingles nozzles pitch) }
+    ensures unfit { OnErr result (Shingles nozzles pitch → ⊥) }
+    ensures err { IfErr result (λ why. (gcd : ℕ) × IsGcd (half nozzles) pitch gcd × (why ≡ cause.NoShingle (half nozzles) gcd)) }
+{
+    if shingle_fits(nozzles, pitch) {
+        return Ok(());
+    }
+    let half = nozzles / 2;
+    Err(ProfileCause::NoShingle {
+        half,
+        gcd: greatest_common_divisor(half, pitch),
+    })
+}
+
+/// Whether the head of a profile can go over a page as the job asks: it can shingle where shingled passes are asked for,
+/// and its dead nozzles are nozzles of it and not all of them.
+pub fn check_way(job: &Job, profile: &Profile) -> Result<(), ProfileCause>
+    requires checked { IsOk (check profile.now) }
+    requires rising { IsRising job.now.dead.items }
+    ensures ok { OnOk result (CanGo (way_of job.now) profile.now) }
+    ensures err { IfErr result (RefusesWay (way_of job.now) profile.now) }
+{
+    prove!(profile.nozzles <= 255);
+    if job.shingle {
+        return check_shingles(profile.nozzles, profile.pitch);
+    }
+    if job.dead.is_empty() {
+        return Ok(());
+    }
+    match check_dead(profile.nozzles, &job.dead) {
+        Ok(()) => Ok(()),
+        Err(fault) => Err(ProfileCause::Dead(fault)),
+    }
+}

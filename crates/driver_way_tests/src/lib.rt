@@ -1,0 +1,11 @@
+//! Tests of whole runs by shingled passes, around dead nozzles, and of trials.
+//!
+//! The expected values were worked out independently of the driver, by hand or by another program.
+#![tactic(auto)]
+
+#[cfg(test)]
+mod fixture;
+#[cfg(test)]
+mod trials;
+#[cfg(test)]
+mod ways;

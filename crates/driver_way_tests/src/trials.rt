@@ -1,0 +1,400 @@
+//! Trials.
+use crate::fixture::{Case, try_unread};
+use driver_fixtures::{no_files, plain, run_over, sink};
+use std::alloc::Global;
+use std::process::Abort;
+use std::test::Fail;
+use std::thread::Threads;
+
+const SEED_ZERO: [Case; 1] = [Case {
+    words: &["trial", "profile=tiny1", "seed=0", "width=4", "height=2"],
+    status: 0,
+    out: b"pages=1 sheets=1 bytes=70 rasters=1 k=2 c=0 m=0 y=0\n",
+    line: b"",
+}];
+
+#[test]
+fn trial_of_seed_zero_counts_two_dots(rt: HostRuntime) -> Result<(), Fail> {
+    try_unread(&rt, rt.alloc(), &SEED_ZERO)
+}
+
+const NARROW: [Case; 4] = [
+    Case {
+        words: &["trial", "profile=p360k", "width=90"],
+        status: 3,
+        out: &[],
+        line: b"input: page 1 line 0: Width\n",
+    },
+    Case {
+        words: &["trial", "profile=p360k", "width=91", "height=180"],
+        status: 3,
+        out: &[],
+        line: b"input: page 1 line 0: Height\n",
+    },
+    Case {
+        words: &["trial", "profile=p360k", "width=90", "height=180"],
+        status: 3,
+        out: &[],
+        line: b"input: page 1 line 0: Width\n",
+    },
+    Case {
+        words: &["trial", "profile=p360k", "width=91", "height=7921"],
+        status: 3,
+        out: &[],
+        line: b"input: page 1 line 0: Height\n",
+    },
+];
+
+#[test]
+fn trial_refuses_a_page_too_narrow(rt: HostRuntime) -> Result<(), Fail> {
+    try_unread(&rt, rt.alloc(), &NARROW)
+}
+
+const REFUSED: [Case; 12] = [
+    Case {
+        words: &["trial", "profile=tiny", "dead=3"],
+        status: 2,
+        out: &[],
+        line: b"profile: line 0: NoSuchNozzle 3\n",
+    },
+    Case {
+        words: &["trial", "profile=none"],
+        status: 2,
+        out: &[],
+        line: b"profile: line 0: Absent\n",
+    },
+    Case {
+        words: &["trial", "pages=0"],
+        status: 1,
+        out: &[],
+        line: b"usage: word 2: BadValue\n",
+    },
+    Case {
+        words: &["trial", "pages=17"],
+        status: 1,
+        out: &[],
+        line: b"usage: word 2: BadValue\n",
+    },
+    Case {
+        words: &["trial", "width=0"],
+        status: 1,
+        out: &[],
+        line: b"usage: word 2: BadValue\n",
+    },
+    Case {
+        words: &["trial", "width=8192"],
+        status: 1,
+        out: &[],
+        line: b"usage: word 2: BadValue\n",
+    },
+    Case {
+        words: &["trial", "height=0"],
+        status: 1,
+        out: &[],
+        line: b"usage: word 2: BadValue\n",
+    },
+    Case {
+        words: &["trial", "height=15841"],
+        status: 1,
+        out: &[],
+        line: b"usage: word 2: BadValue\n",
+    },
+    Case {
+        words: &["trial", "seed=4294967296"],
+        status: 1,
+        out: &[],
+        line: b"usage: word 2: BadValue\n",
+    },
+    Case {
+        words: &["trial", "kind=grey"],
+        status: 1,
+        out: &[],
+        line: b"usage: word 2: BadValue\n",
+    },
+    Case {
+        words: &["trial", "cap=1"],
+        status: 1,
+        out: &[],
+        line: b"usage: word 2: UnknownKey\n",
+    },
+    Case {
+        words: &["trial", "most=1"],
+        status: 1,
+        out: &[],
+        line: b"usage: word 2: UnknownKey\n",
+    },
+];
+
+#[test]
+fn each_word_of_trial_has_its_bounds(rt: HostRuntime) -> Result<(), Fail> {
+    try_unread(&rt, rt.alloc(), &REFUSED)
+}
+
+macro_rules! odd {
+    ($($word:literal),*) => {
+        &["trial", "seed=11", "pages=2", "width=113", "height=193", $($word),*]
+    };
+}
+
+// The lines are those of a plain program that follows the definitions.
+const KINDS: [Case; 24] = [
+    Case {
+        words: &[
+            "trial",
+            "profile=tiny1",
+            "seed=4294967295",
+            "pages=16",
+            "width=1",
+            "height=1",
+        ],
+        status: 0,
+        out: b"pages=16 sheets=16 bytes=910 rasters=9 k=9 c=0 m=0 y=0\n",
+        line: b"",
+    },
+    Case {
+        words: &["trial", "profile=tiny1", "width=8191", "height=1"],
+        status: 0,
+        out: b"pages=1 sheets=1 bytes=1092 rasters=1 k=4128 c=0 m=0 y=0\n",
+        line: b"",
+    },
+    Case {
+        words: &["trial", "profile=tiny1", "width=1", "height=7920"],
+        status: 0,
+        out: b"pages=1 sheets=1 bytes=84574 rasters=4025 k=4025 c=0 m=0 y=0\n",
+        line: b"",
+    },
+    Case {
+        words: &["trial", "profile=tiny1"],
+        status: 0,
+        out: b"pages=1 sheets=1 bytes=15640 rasters=300 k=38356 c=0 m=0 y=0\n",
+        line: b"",
+    },
+    Case {
+        words: &[
+            "trial",
+            "profile=tiny1",
+            "kernel=fs",
+            "seed=7",
+            "width=200",
+            "height=70",
+        ],
+        status: 0,
+        out: b"pages=1 sheets=1 bytes=3192 rasters=70 k=7178 c=0 m=0 y=0\n",
+        line: b"",
+    },
+    Case {
+        words: &[
+            "trial",
+            "profile=tiny1",
+            "kernel=jjn",
+            "seed=7",
+            "width=200",
+            "height=70",
+        ],
+        status: 0,
+        out: b"pages=1 sheets=1 bytes=3192 rasters=70 k=7174 c=0 m=0 y=0\n",
+        line: b"",
+    },
+    Case {
+        words: &[
+            "trial",
+            "profile=tiny1",
+            "kernel=stucki",
+            "seed=7",
+            "width=200",
+            "height=70",
+        ],
+        status: 0,
+        out: b"pages=1 sheets=1 bytes=3191 rasters=70 k=7179 c=0 m=0 y=0\n",
+        line: b"",
+    },
+    Case {
+        words: odd!("profile=p360k", "kernel=fs", "kind=gray"),
+        status: 0,
+        out: b"pages=2 sheets=2 bytes=946 rasters=10 k=243 c=0 m=0 y=0\n",
+        line: b"",
+    },
+    Case {
+        words: odd!("profile=p360k", "kernel=jjn", "kind=black"),
+        status: 0,
+        out: b"pages=2 sheets=2 bytes=946 rasters=10 k=356 c=0 m=0 y=0\n",
+        line: b"",
+    },
+    Case {
+        words: odd!("profile=p360k", "kernel=stucki", "kind=rgb"),
+        status: 0,
+        out: b"pages=2 sheets=2 bytes=946 rasters=10 k=291 c=0 m=0 y=0\n",
+        line: b"",
+    },
+    Case {
+        words: odd!("profile=p360k", "kernel=fs", "kind=black1"),
+        status: 0,
+        out: b"pages=2 sheets=2 bytes=926 rasters=10 k=286 c=0 m=0 y=0\n",
+        line: b"",
+    },
+    Case {
+        words: odd!("profile=p360k", "kernel=jjn", "kind=cmyk"),
+        status: 0,
+        out: b"pages=2 sheets=2 bytes=946 rasters=10 k=512 c=0 m=0 y=0\n",
+        line: b"",
+    },
+    Case {
+        words: odd!("profile=mine", "kernel=fs", "kind=gray"),
+        status: 0,
+        out: b"pages=2 sheets=2 bytes=3354 rasters=54 k=0 c=1584 m=1584 y=1584\n",
+        line: b"",
+    },
+    Case {
+        words: odd!("profile=mine", "kernel=jjn", "kind=black"),
+        status: 0,
+        out: b"pages=2 sheets=2 bytes=3354 rasters=54 k=0 c=1776 m=1776 y=1776\n",
+        line: b"",
+    },
+    Case {
+        words: odd!("profile=mine", "kernel=stucki", "kind=rgb"),
+        status: 0,
+        out: b"pages=2 sheets=2 bytes=3350 rasters=54 k=0 c=1586 m=1675 y=1586\n",
+        line: b"",
+    },
+    Case {
+        words: odd!("profile=mine", "kernel=fs", "kind=black1"),
+        status: 0,
+        out: b"pages=2 sheets=2 bytes=3066 rasters=54 k=0 c=1814 m=1814 y=1814\n",
+        line: b"",
+    },
+    Case {
+        words: odd!("profile=mine", "kernel=jjn", "kind=cmyk"),
+        status: 0,
+        out: b"pages=2 sheets=2 bytes=3354 rasters=54 k=0 c=2804 m=2801 y=2759\n",
+        line: b"",
+    },
+    Case {
+        words: odd!("profile=p360cmyk", "kernel=fs", "kind=gray"),
+        status: 0,
+        out: b"pages=2 sheets=2 bytes=1258 rasters=18 k=1584 c=0 m=0 y=0\n",
+        line: b"",
+    },
+    Case {
+        words: odd!("profile=p360cmyk", "kernel=jjn", "kind=black"),
+        status: 0,
+        out: b"pages=2 sheets=2 bytes=1258 rasters=18 k=1776 c=0 m=0 y=0\n",
+        line: b"",
+    },
+    Case {
+        words: odd!("profile=p360cmyk", "kernel=stucki", "kind=rgb"),
+        status: 0,
+        out: b"pages=2 sheets=2 bytes=4236 rasters=69 k=730 c=825 m=907 y=824\n",
+        line: b"",
+    },
+    Case {
+        words: odd!("profile=p360cmyk", "kernel=fs", "kind=black1"),
+        status: 0,
+        out: b"pages=2 sheets=2 bytes=1162 rasters=18 k=1814 c=0 m=0 y=0\n",
+        line: b"",
+    },
+    Case {
+        words: odd!("profile=p360cmyk", "kernel=jjn", "kind=cmyk"),
+        status: 0,
+        out: b"pages=2 sheets=2 bytes=4400 rasters=72 k=1580 c=1686 m=1695 y=1704\n",
+        line: b"",
+    },
+    Case {
+        words: odd!("profile=p360cmyk", "kind=rgb", "shingle=1"),
+        status: 0,
+        out: b"pages=2 sheets=2 bytes=8364 rasters=142 k=742 c=822 m=911 y=821\n",
+        line: b"",
+    },
+    Case {
+        words: odd!("profile=p360cmyk", "kind=rgb", "dead=0,7,14"),
+        status: 0,
+        out: b"pages=2 sheets=2 bytes=6142 rasters=112 k=742 c=822 m=911 y=821\n",
+        line: b"",
+    },
+];
+
+#[test]
+fn each_kind_is_tried_by_each_set_of_inks(rt: HostRuntime) -> Result<(), Fail> {
+    try_unread(&rt, rt.alloc(), &KINDS)
+}
+
+const PLAIN: &[u8] =
+    b"pages=2 sheets=2 bytes=11790021 rasters=2216 k=5870606 c=5921779 m=5922593 y=5922293\n";
+
+macro_rules! a4 {
+    ($($word:literal),*) => {
+        &["trial", "profile=p360cmyk", "kind=rgb", "width=2976", "height=4209", "pages=2", $($word),*]
+    };
+}
+
+const LARGE: [Case; 6] = [
+    Case {
+        words: a4!("workers=1"),
+        status: 0,
+        out: PLAIN,
+        line: b"",
+    },
+    Case {
+        words: a4!("workers=4"),
+        status: 0,
+        out: PLAIN,
+        line: b"",
+    },
+    Case {
+        words: a4!("kernel=jjn", "workers=4"),
+        status: 0,
+        out: b"pages=2 sheets=2 bytes=11666579 rasters=2216 k=5869277 c=5921199 m=5921979 y=5921702\n",
+        line: b"",
+    },
+    Case {
+        words: a4!("kernel=stucki", "workers=4"),
+        status: 0,
+        out: b"pages=2 sheets=2 bytes=11699163 rasters=2216 k=5869511 c=5921281 m=5922091 y=5921759\n",
+        line: b"",
+    },
+    Case {
+        words: a4!("shingle=1", "workers=4"),
+        status: 0,
+        out: b"pages=2 sheets=2 bytes=22510414 rasters=4736 k=5870606 c=5921779 m=5922593 y=5922293\n",
+        line: b"",
+    },
+    Case {
+        words: a4!("dead=0,7,14", "workers=4"),
+        status: 0,
+        out: b"pages=2 sheets=2 bytes=12016625 rasters=4400 k=5870606 c=5921779 m=5922593 y=5922293\n",
+        line: b"",
+    },
+];
+
+#[test]
+fn trial_gives_one_line_for_every_worker_count(rt: HostRuntime) -> Result<(), Fail> {
+    try_unread(&rt, rt.alloc(), &LARGE)
+}
+
+// What a trial leaves whose line has room for so many bytes.
+fn leaves_part<R: Abort + Threads + Sync>(rt: &R, alloc: Global, room: usize) -> Result<(), Fail> {
+    let words = ["trial", "profile=tiny1", "seed=0", "width=4", "height=2"];
+    let input = plain(alloc, Vec::new(alloc));
+    let left = run_over(
+        rt,
+        alloc,
+        &words,
+        input,
+        sink(alloc, room)?,
+        no_files(alloc),
+    )?;
+    let line = b"pages=1 sheets=1 bytes=70 rasters=1 k=2 c=0 m=0 y=0\n";
+    let written = line.get(..room).unwrap_or(&[]);
+    assert_eq!(rt;
+        left.all(),
+        (5, written, b"write failed: page 0\n".as_slice())
+    );
+    Ok(())
+}
+
+#[test]
+fn a_failed_write_leaves_a_part_of_the_line(rt: HostRuntime) -> Result<(), Fail> {
+    for room in 0..52 {
+        leaves_part(&rt, rt.alloc(), room)?;
+    }
+    Ok(())
+}

@@ -1,0 +1,211 @@
+//! Pages by shingled passes, and around dead nozzles.
+use crate::fixture::{Case, black_page, try_all};
+use driver_fixtures::{no_files, plain, roomy, run_over};
+use known_jobs::TINY_IMAGES;
+use std::alloc::Global;
+use std::process::Abort;
+use std::test::Fail;
+use std::thread::Threads;
+
+const SHINGLED: [u8; 142] = [
+    0x1B, 0x40, 0x1B, 0x28, 0x47, 0x01, 0x00, 0x01, 0x1B, 0x28, 0x55, 0x01, 0x00, 0x05, 0x1B, 0x28,
+    0x69, 0x01, 0x00, 0x00, 0x1B, 0x55, 0x01, 0x1B, 0x28, 0x43, 0x02, 0x00, 0x0C, 0x00, 0x1B, 0x28,
+    0x63, 0x04, 0x00, 0x04, 0x00, 0x0C, 0x00, 0x1B, 0x28, 0x56, 0x02, 0x00, 0x00, 0x00, 0x1B, 0x72,
+    0x00, 0x0D, 0x1B, 0x2E, 0x01, 0x14, 0x0A, 0x03, 0x08, 0x00, 0x00, 0x00, 0x00, 0xAA, 0x00, 0x00,
+    0x1B, 0x28, 0x76, 0x02, 0x00, 0x02, 0x00, 0x1B, 0x72, 0x00, 0x0D, 0x1B, 0x2E, 0x01, 0x14, 0x0A,
+    0x03, 0x08, 0x00, 0x00, 0x00, 0x00, 0xAA, 0x00, 0x00, 0x1B, 0x28, 0x76, 0x02, 0x00, 0x02, 0x00,
+    0x1B, 0x72, 0x00, 0x0D, 0x1B, 0x2E, 0x01, 0x14, 0x0A, 0x03, 0x08, 0x00, 0x00, 0x55, 0x00, 0x00,
+    0x00, 0x00, 0x1B, 0x28, 0x76, 0x02, 0x00, 0x02, 0x00, 0x1B, 0x72, 0x00, 0x0D, 0x1B, 0x2E, 0x01,
+    0x14, 0x0A, 0x03, 0x08, 0x00, 0x00, 0x55, 0x00, 0x00, 0x00, 0x00, 0x0C, 0x1B, 0x40,
+];
+
+const HEALED: [u8; 99] = [
+    0x1B, 0x40, 0x1B, 0x28, 0x47, 0x01, 0x00, 0x01, 0x1B, 0x28, 0x55, 0x01, 0x00, 0x05, 0x1B, 0x28,
+    0x69, 0x01, 0x00, 0x00, 0x1B, 0x55, 0x01, 0x1B, 0x28, 0x43, 0x02, 0x00, 0x0C, 0x00, 0x1B, 0x28,
+    0x63, 0x04, 0x00, 0x00, 0x00, 0x0C, 0x00, 0x1B, 0x28, 0x56, 0x02, 0x00, 0x00, 0x00, 0x1B, 0x28,
+    0x76, 0x02, 0x00, 0x06, 0x00, 0x1B, 0x72, 0x00, 0x0D, 0x1B, 0x2E, 0x01, 0x14, 0x0A, 0x03, 0x08,
+    0x00, 0x00, 0x00, 0x00, 0xFF, 0x00, 0x00, 0x1B, 0x28, 0x76, 0x02, 0x00, 0x02, 0x00, 0x1B, 0x72,
+    0x00, 0x0D, 0x1B, 0x2E, 0x01, 0x14, 0x0A, 0x03, 0x08, 0x00, 0x00, 0xFF, 0x00, 0x00, 0x00, 0x00,
+    0x0C, 0x1B, 0x40,
+];
+
+const SHINGLED_JOB: [Case; 1] = [Case {
+    words: &["print", "profile=tiny", "shingle=1"],
+    status: 0,
+    out: &SHINGLED,
+    line: b"",
+}];
+
+const HEALED_JOB: [Case; 1] = [Case {
+    words: &["print", "profile=tiny", "dead=2"],
+    status: 0,
+    out: &HEALED,
+    line: b"",
+}];
+
+// What `dots` gives of the job that these words print of a black page.
+fn shows_tiny<R: Abort + Threads + Sync>(
+    rt: &R,
+    alloc: Global,
+    words: &[&str],
+) -> Result<(), Fail> {
+    let page = plain(alloc, black_page(alloc)?);
+    let job = run_over(rt, alloc, words, page, roomy(alloc)?, no_files(alloc))?;
+    let bytes = plain(alloc, job.out.bytes().to_vec(alloc)?);
+    let dots = ["dots", "profile=tiny"];
+    let left = run_over(rt, alloc, &dots, bytes, roomy(alloc)?, no_files(alloc))?;
+    assert_eq!(rt; left.all(), (0, TINY_IMAGES, b"".as_slice()));
+    Ok(())
+}
+
+// Each of these gives the images that a job without a further word gives.
+fn show_tiny<R: Abort + Threads + Sync>(
+    rt: &R,
+    alloc: Global,
+    runs: &[&[&str]],
+) -> Result<(), Fail> {
+    for words in runs {
+        shows_tiny(rt, alloc, words)?;
+    }
+    Ok(())
+}
+
+#[test]
+fn shingled_rows_fire_even_and_odd_columns(rt: HostRuntime) -> Result<(), Fail> {
+    const WORDS: [&[&str]; 3] = [
+        &["print", "profile=tiny"],
+        &["print", "profile=tiny", "shingle=0"],
+        &["print", "profile=tiny", "shingle=1"],
+    ];
+    try_all(&rt, rt.alloc(), &SHINGLED_JOB)?;
+    show_tiny(&rt, rt.alloc(), &WORDS)
+}
+
+#[test]
+fn rows_of_a_dead_nozzle_are_made_up(rt: HostRuntime) -> Result<(), Fail> {
+    const WORDS: [&[&str]; 3] = [
+        &["print", "profile=tiny", "dead=0"],
+        &["print", "profile=tiny", "dead=2"],
+        &["print", "profile=tiny", "dead=0,1"],
+    ];
+    try_all(&rt, rt.alloc(), &HEALED_JOB)?;
+    show_tiny(&rt, rt.alloc(), &WORDS)
+}
+
+const WITHOUT_HALVES: [Case; 4] = [
+    Case {
+        words: &["print", "profile=tiny1", "shingle=1"],
+        status: 2,
+        out: &[],
+        line: b"profile: line 0: NoShingle 0 1\n",
+    },
+    Case {
+        words: &["trial", "profile=tiny1", "shingle=1"],
+        status: 2,
+        out: &[],
+        line: b"profile: line 0: NoShingle 0 1\n",
+    },
+    Case {
+        words: &["print", "profile=absent", "shingle=1"],
+        status: 2,
+        out: &[],
+        line: b"profile: line 0: Absent\n",
+    },
+    Case {
+        words: &["print", "profile=tiny", "shingle=2"],
+        status: 1,
+        out: &[],
+        line: b"usage: word 3: BadValue\n",
+    },
+];
+
+#[test]
+fn one_nozzle_cannot_shingle(rt: HostRuntime) -> Result<(), Fail> {
+    try_all(&rt, rt.alloc(), &WITHOUT_HALVES)
+}
+
+const BAD_LISTS: [Case; 13] = [
+    Case {
+        words: &["print", "profile=tiny", "dead=0,1,2"],
+        status: 2,
+        out: &[],
+        line: b"profile: line 0: AllDead 3\n",
+    },
+    Case {
+        words: &["print", "profile=tiny", "dead=3"],
+        status: 2,
+        out: &[],
+        line: b"profile: line 0: NoSuchNozzle 3\n",
+    },
+    Case {
+        words: &["print", "profile=tiny", "dead=0,1,2,3"],
+        status: 2,
+        out: &[],
+        line: b"profile: line 0: NoSuchNozzle 3\n",
+    },
+    Case {
+        words: &["print", "profile=tiny", "dead=2,1"],
+        status: 1,
+        out: &[],
+        line: b"usage: word 3: BadValue\n",
+    },
+    Case {
+        words: &["print", "profile=tiny", "dead=2,2"],
+        status: 1,
+        out: &[],
+        line: b"usage: word 3: BadValue\n",
+    },
+    Case {
+        words: &["print", "profile=tiny", "dead="],
+        status: 1,
+        out: &[],
+        line: b"usage: word 3: BadValue\n",
+    },
+    Case {
+        words: &["print", "profile=tiny", "dead=0,"],
+        status: 1,
+        out: &[],
+        line: b"usage: word 3: BadValue\n",
+    },
+    Case {
+        words: &["print", "profile=tiny", "dead=00"],
+        status: 1,
+        out: &[],
+        line: b"usage: word 3: BadValue\n",
+    },
+    Case {
+        words: &["print", "profile=tiny", "dead=255"],
+        status: 1,
+        out: &[],
+        line: b"usage: word 3: BadValue\n",
+    },
+    Case {
+        words: &["print", "profile=tiny", "shingle=1", "dead=2"],
+        status: 1,
+        out: &[],
+        line: b"usage: word 4: Together\n",
+    },
+    Case {
+        words: &["print", "dead=2", "profile=tiny", "shingle=1"],
+        status: 1,
+        out: &[],
+        line: b"usage: word 4: Together\n",
+    },
+    Case {
+        words: &["print", "dead=2", "shingle=2"],
+        status: 1,
+        out: &[],
+        line: b"usage: word 3: BadValue\n",
+    },
+    Case {
+        words: &["dots", "profile=tiny", "dead=2"],
+        status: 1,
+        out: &[],
+        line: b"usage: word 3: UnknownKey\n",
+    },
+];
+
+#[test]
+fn bad_dead_lists_are_refused(rt: HostRuntime) -> Result<(), Fail> {
+    try_all(&rt, rt.alloc(), &BAD_LISTS)
+}

@@ -1,0 +1,122 @@
+-- The words after the command, and the first of them that passes a test.
+use Rattle.std.proofs.Common.{◌≡◌, ℕ, zero, suc, ◌<◌, ◌≤◌, ◌+◌, ◌-◌, Bool, true, false, ◌||◌, cond, ltb, List, [], ◌∷◌, ◌++◌, length, take, drop}
+use Rattle.std.proofs.Common.{Some, None, slice_get, add-one, length-drop, refl, ap, sym, ◌∙◌, arith}
+use Rattle.std.specs.List.{find, list_any, position_from, position_or_len}
+use Rattle.std.proofs.lemmas.Bool.Decides.{nat_tests}
+use Rattle.std.proofs.lemmas.List.{take_all, take_more}
+use Rattle.std.proofs.lemmas.List.Folds.{list_any-append}
+use Rattle.std.proofs.lemmas.Option.{get_or_from_slice_get, slice_get_within}
+use Rattle.key_values.specs.Pairs.{is_equals_sign, is_key_value, key_of}
+use Rattle.key_values.proofs.Cuts.{some_place}
+
+-- a word without a `=` is its key
+pub whole_key : (word : List ℕ) → is_key_value word ≡ false → word ≡ key_of word
+whole_key word h =
+    let outside : ltb (position_or_len is_equals_sign word) (length word) ≡ false = sym (some_place is_equals_sign word) ∙ h in
+    let past : length word ≤ position_or_len is_equals_sign word = grind (arith, nat_tests) in
+    sym (take_all _ word past)
+
+-- the words after the command are counted from 1
+pub behind : (words : List (List ℕ)) (k : ℕ) → slice_get (drop 1 words) k ≡ slice_get words (k + 1)
+behind [] k = refl
+behind (first ∷ words) k = rw add-one refl
+
+pub word_behind : (words : List (List ℕ)) (i : ℕ) (word : List ℕ)
+    → 1 ≤ i → slice_get words i ≡ Some word → slice_get (drop 1 words) (i - 1) ≡ Some word
+word_behind words i word counted here =
+    let place : i - 1 + 1 ≡ i = omega arith in
+    behind words (i - 1) ∙ ap (slice_get words) place ∙ here
+
+-- a word, in the list before it
+pub taken : {X : Type 0} (xs : List X) (k : ℕ) (x : X) → slice_get xs k ≡ Some x → take (k + 1) xs ≡ take k xs ++ x ∷ []
+taken xs k x here =
+    take_more xs k x (slice_get_within xs k x here)
+    ∙ ap (λ y. take k xs ++ y ∷ []) (get_or_from_slice_get xs k x x here)
+
+-- ---- whether a word passes
+
+none_more : {X : Type 0} (p : X → Bool) (xs : List X) (k : ℕ) (x : X) → slice_get xs k ≡ Some x
+    → list_any p (take k xs) ≡ false → p x ≡ false → list_any p (take (k + 1) xs) ≡ false
+none_more p xs k x here none fails = rw (taken xs k x here, list_any-append, none, fails) refl
+
+some_in : {X : Type 0} (p : X → Bool) (xs : List X) (k n : ℕ) (x : X) → slice_get xs k ≡ Some x
+    → k < n → p x ≡ true → list_any p (take n xs) ≡ true
+some_in p [] k n x here within passes = cc
+some_in p (y ∷ xs) k zero x here within passes = absurd (omega arith)
+some_in p (y ∷ xs) zero (suc n) x here within passes =
+    let same : y ≡ x = cc in
+    rw (same, passes) refl
+some_in p (y ∷ xs) (suc k) (suc n) x here within passes =
+    let later = some_in p xs k n x here (omega arith) passes in
+    rw later (grind (arith, nat_tests))
+
+pub no_word_more : (p : List ℕ → Bool) (words : List (List ℕ)) (i : ℕ) (word : List ℕ) → 1 ≤ i → slice_get words i ≡ Some word
+    → list_any p (take (i - 1) (drop 1 words)) ≡ false → p word ≡ false
+    → list_any p (take (i + 1 - 1) (drop 1 words)) ≡ false
+no_word_more p words i word counted here none fails =
+    let next : i + 1 - 1 ≡ i - 1 + 1 = omega arith in
+    rw next (none_more p (drop 1 words) (i - 1) word (word_behind words i word counted here) none fails)
+
+pub some_word : (p : List ℕ → Bool) (words : List (List ℕ)) (i place : ℕ) (word : List ℕ) → 1 ≤ i → i < place
+    → slice_get words i ≡ Some word → p word ≡ true → list_any p (take (place - 1) (drop 1 words)) ≡ true
+some_word p words i place word counted before here passes =
+    some_in p (drop 1 words) (i - 1) (place - 1) word (word_behind words i word counted here) (omega arith) passes
+
+-- ---- the first word that passes
+
+pub find_none : {X : Type 0} (p : X → Bool) (xs : List X) → list_any p xs ≡ false → find p xs ≡ None
+find_none p [] h = refl
+find_none p (x ∷ xs) h = grind (arith, nat_tests, find_none p xs)
+
+position_none : {X : Type 0} (p : X → Bool) (n : ℕ) (xs : List X) → list_any p xs ≡ false → position_from p n xs ≡ None
+position_none p n [] h = refl
+position_none p n (x ∷ xs) h = grind (arith, nat_tests, position_none p (n + 1) xs)
+
+find_at : {X : Type 0} (p : X → Bool) (xs : List X) (k : ℕ) (x : X) → slice_get xs k ≡ Some x
+    → list_any p (take k xs) ≡ false → p x ≡ true → find p xs ≡ Some x
+find_at p [] k x here none passes = cc
+find_at p (y ∷ xs) zero x here none passes =
+    let same : y ≡ x = cc in
+    rw (same, passes) refl
+find_at p (y ∷ xs) (suc k) x here none passes = by_test (p y) none (find_at p xs k x here) where
+  by_test : (test : Bool) → (test || list_any p (take k xs)) ≡ false
+      → (list_any p (take k xs) ≡ false → p x ≡ true → find p xs ≡ Some x) → cond test (Some y) (find p xs) ≡ Some x
+  by_test true none later = cc
+  by_test false none later = later none passes
+
+position_at : {X : Type 0} (p : X → Bool) (n : ℕ) (xs : List X) (k : ℕ) (x : X) → slice_get xs k ≡ Some x
+    → list_any p (take k xs) ≡ false → p x ≡ true → position_from p n xs ≡ Some (n + k)
+position_at p n [] k x here none passes = cc
+position_at p n (y ∷ xs) zero x here none passes =
+    let same : y ≡ x = cc in
+    rw (same, passes) (ap Some (omega arith))
+position_at p n (y ∷ xs) (suc k) x here none passes = by_test (p y) none (position_at p (n + 1) xs k x here) where
+  by_test : (test : Bool) → (test || list_any p (take k xs)) ≡ false
+      → (list_any p (take k xs) ≡ false → p x ≡ true → position_from p (n + 1) xs ≡ Some (n + 1 + k))
+      → cond test (Some n) (position_from p (n + 1) xs) ≡ Some (n + suc k)
+  by_test true none later = cc
+  by_test false none later = later none passes ∙ ap Some (omega arith)
+
+none_at_all : (p : List ℕ → Bool) (words : List (List ℕ)) (i : ℕ) → length words ≤ i
+    → list_any p (take (i - 1) (drop 1 words)) ≡ false → list_any p (drop 1 words) ≡ false
+none_at_all p words i all none =
+    ap (list_any p) (sym (take_all (i - 1) (drop 1 words) (omega (arith, length-drop 1 words)))) ∙ none
+
+pub first_word : (p : List ℕ → Bool) (words : List (List ℕ)) (i : ℕ) (word : List ℕ) → 1 ≤ i → slice_get words i ≡ Some word
+    → list_any p (take (i - 1) (drop 1 words)) ≡ false → p word ≡ true → find p (drop 1 words) ≡ Some word
+first_word p words i word counted here none passes =
+    find_at p (drop 1 words) (i - 1) word (word_behind words i word counted here) none passes
+
+pub no_first_word : (p : List ℕ → Bool) (words : List (List ℕ)) (i : ℕ) → length words ≤ i
+    → list_any p (take (i - 1) (drop 1 words)) ≡ false → find p (drop 1 words) ≡ None
+no_first_word p words i all none = find_none p (drop 1 words) (none_at_all p words i all none)
+
+pub first_place : (p : List ℕ → Bool) (words : List (List ℕ)) (i : ℕ) (word : List ℕ) → 1 ≤ i → slice_get words i ≡ Some word
+    → list_any p (take (i - 1) (drop 1 words)) ≡ false → p word ≡ true
+    → position_from p 2 (drop 1 words) ≡ Some (i + 1)
+first_place p words i word counted here none passes =
+    position_at p 2 (drop 1 words) (i - 1) word (word_behind words i word counted here) none passes ∙ ap Some (omega arith)
+
+pub no_first_place : (p : List ℕ → Bool) (words : List (List ℕ)) (i : ℕ) → length words ≤ i
+    → list_any p (take (i - 1) (drop 1 words)) ≡ false → position_from p 2 (drop 1 words) ≡ None
+no_first_place p words i all none = position_none p 2 (drop 1 words) (none_at_all p words i all none)

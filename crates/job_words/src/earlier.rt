@@ -1,0 +1,106 @@
+//! What words give, and which earlier words stand in their way.
+ghost use Rattle.job_words.specs.Meaning.{asks_for_shingles, excludes as excludes_of, given, given_profile_word};
+ghost use Rattle.job_words.specs.Meaning.{gives as gives_of};
+ghost use Rattle.job_words.specs.Rows.{key_row};
+ghost use Rattle.key_values.specs.Pairs.{key_of as key_in, value_of as value_in};
+ghost use Rattle.std.specs.List.{list_any};
+ghost use Rattle.std.specs.Option.{option_map};
+ghost use Rattle.std.specs.Prelude.{drop, length, take, unwrap_or, ◌-◌, ◌≡◌, ◌≤◌};
+
+use crate::keys::Key;
+use key_values::cut_word;
+use weave_base::Words;
+
+// The key of a word; the whole word where it has none.
+fn key_of(word: &str) -> &str
+    ensures { result.now ≡ key_in word.now }
+{
+    match cut_word(word) {
+        Some((key, _)) => key,
+        None => word,
+    }
+}
+
+/// The value of a word; empty where it has none.
+pub fn value_of(word: &str) -> &str
+    ensures { result.now ≡ value_in word.now }
+{
+    match cut_word(word) {
+        Some((_, value)) => value,
+        None => "",
+    }
+}
+
+// Whether a word gives this key.
+fn gives(key: Key, word: &str) -> bool
+    ensures { result ≡ gives_of (key_row key) word.now }
+{
+    key_of(word) == key.name()
+}
+
+// Whether a word asks for shingled passes.
+fn is_shingled(word: &str) -> bool
+    ensures { result ≡ asks_for_shingles word.now }
+{
+    gives(Key::Shingle, word) && value_of(word) == "1"
+}
+
+// Whether two words exclude each other.
+fn excludes(word: &str, other: &str) -> bool
+    ensures { result ≡ excludes_of word.now other.now }
+{
+    is_shingled(word) && gives(Key::Dead, other) || gives(Key::Dead, word) && is_shingled(other)
+}
+
+/// Whether a word between the command and this place gives the key.
+pub fn is_given_before(place: u32, words: &Words, key: Key) -> bool
+    requires some { 1 ≤ place }
+    requires within { place ≤ length words.now }
+    ensures { result ≡ list_any (gives_of (key_row key)) (take (place - 1) (drop 1 words.now)) }
+{
+    for i in 1..place {
+        if gives(key, words.get(i)) {
+            return true;
+        }
+    }
+    false
+}
+
+/// Whether a word between the command and this place excludes the word.
+pub fn is_excluded_before(place: u32, words: &Words, word: &str) -> bool
+    requires some { 1 ≤ place }
+    requires within { place ≤ length words.now }
+    ensures { result ≡ list_any (excludes_of word.now) (take (place - 1) (drop 1 words.now)) }
+{
+    for i in 1..place {
+        if excludes(word, words.get(i)) {
+            return true;
+        }
+    }
+    false
+}
+
+/// The number of the first word after the command that gives the profile, counted from 1; 0 where none does.
+pub fn profile_word(words: &Words) -> u32
+    ensures { result ≡ unwrap_or (given_profile_word (drop 1 words.now)) 0 }
+{
+    for i in 1..words.len() {
+        if gives(Key::Profile, words.get(i)) {
+            return i + 1;
+        }
+    }
+    0
+}
+
+/// The value that the words after the command give the key.
+pub fn value_given(words: &Words, key: Key) -> Option<&str>
+    ensures { option_map (λ value. value.now) result ≡ given (key_row key) (drop 1 words.now) }
+{
+    for i in 1..words.len() {
+        let word = words.get(i);
+        if gives(key, word) {
+            return Some(value_of(word));
+        }
+    }
+    None
+}
