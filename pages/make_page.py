@@ -19,14 +19,14 @@ SGRAY_8, SRGB_8 = Kind(18, 1, 8), Kind(19, 3, 8)
 BLACK_1, CMYK_8 = Kind(3, 1, 1), Kind(6, 4, 8)
 
 
-def page_header(width, height, dpi, kind):
+def page_header(width, height, resolution, kind):
     """The 1,796 bytes before a page's lines. Every field that is not named here is 0."""
     pixel_bits = kind.colours * kind.bits
     header = bytearray(HEADER_BYTES)
     header[0:10] = b"PwgRaster\0"
     fields = {
-        276: dpi,  # HWResolution across the page
-        280: dpi,  # and down it
+        276: resolution[0],  # HWResolution across the page
+        280: resolution[1],  # and down it
         340: 1,  # NumCopies
         372: width,  # Width
         376: height,  # Height
@@ -129,13 +129,13 @@ def colour_at(x, y):
     return 3 * WHITE
 
 
-def write_page(name, size, kind, pixel):
+def write_page(name, size, kind, pixel, resolution=(DPI, DPI)):
     """Writes a page of this name beside this file; `pixel` gives the bytes of a pixel at a place, or its one bit."""
     width, height = size
     lines = [[pixel(x, y) for x in range(width)] for y in range(height)]
     if kind.bits == 1:
         lines = [packed(line) for line in lines]
-    page = SYNC_WORD + page_header(width, height, DPI, kind) + coded_lines(lines)
+    page = SYNC_WORD + page_header(width, height, resolution, kind) + coded_lines(lines)
     Path(__file__).with_name(name).write_bytes(page)
 
 

@@ -1,0 +1,90 @@
+#!/usr/bin/env python3
+"""Draws which stroke of a head fires which row and column, as an SVG: the jobs side by side, each stroke a picture of
+the window's dots of its own, those that it fires filled.
+
+    strokes.py COLUMNS ROWS JOB .. > FILE.svg
+
+COLUMNS and ROWS are those of the window. The jobs are of one ink and begin with a page; what is drawn is read from
+their commands, as `page.py` reads them.
+"""
+import struct
+import sys
+
+from page import commands, read_row
+
+DOT, GAP, BETWEEN, LEFT, TOP = 8, 12, 40, 60, 40
+INK, PAPER, LINE, TEXT = "#1f2933", "#fdf6e3", "#d0c8b0", "#52606d"
+
+
+def strokes(job):
+    """The strokes of the first sheet: the dots of each, as columns and rows of the window."""
+    y, found = 0, []
+    steps = commands(job)
+    name, numbers, at = next(steps)
+    while name != "\f":
+        send = None
+        if name == "(v":
+            y += struct.unpack("<H", numbers)[0] * 5
+        elif name == ".":
+            dots, send = stroke(job, at, numbers, y)
+            found.append(dots)
+        name, numbers, at = steps.send(send)
+    return shifted(found)
+
+
+def stroke(job, at, numbers, y):
+    """The dots of a raster by column and row, and where it ends; rows are as far apart as columns."""
+    columns, dots = numbers[4] + 256 * numbers[5], []
+    for nozzle in range(numbers[3]):
+        row, at = read_row(job, at, (columns + 7) // 8)
+        place = (y + nozzle * numbers[1]) // numbers[2]
+        dots += [(x, place) for x in range(columns) if row[x // 8] & 128 >> x % 8]
+    return dots, at
+
+
+def shifted(found):
+    """The strokes with the first row that has a dot as row 0."""
+    first = min(y for dots in found for _, y in dots)
+    return [[(x, y - first) for x, y in dots] for dots in found]
+
+
+def text(x, y, anchor, words):
+    return (f'<text x="{x}" y="{y}" font-size="10" text-anchor="{anchor}" '
+            f'font-family="sans-serif" fill="{TEXT}">{words}</text>')
+
+
+def panel(left, dots, columns, rows):
+    """The window with the dots of one stroke."""
+    out = [f'<rect x="{left}" y="{TOP}" width="{columns * DOT}" height="{rows * DOT}" fill="{PAPER}" stroke="{LINE}"/>']
+    for x, y in dots:
+        out.append(f'<circle cx="{left + x * DOT + DOT // 2}" cy="{TOP + y * DOT + DOT // 2}" r="3" fill="{INK}"/>')
+    return out
+
+
+def draw(columns, rows, jobs):
+    left, out = LEFT, [text(LEFT - 8, TOP - 8, "end", "stroke")]
+    out += [text(LEFT - 8, TOP + row * DOT + 8, "end", f"row {row}") for row in range(0, rows, 2)]
+    for job in jobs:
+        for number, dots in enumerate(strokes(job)):
+            out.append(text(left + columns * DOT // 2, TOP - 8, "middle", number))
+            out += panel(left, dots, columns, rows)
+            left += columns * DOT + GAP
+        left += BETWEEN
+    width, height = left - BETWEEN, TOP + rows * DOT + 16
+    head = f'<svg xmlns="http://www.w3.org/2000/svg" width="{width}" height="{height}" viewBox="0 0 {width} {height}">'
+    return "\n".join([head, '<title>What each stroke fires</title>',
+                      '<rect width="100%" height="100%" fill="white"/>', *out, "</svg>"])
+
+
+def main(words):
+    jobs = []
+    for name in words[2:]:
+        with open(name, "rb") as file:
+            jobs.append(file.read())
+    print(draw(int(words[0]), int(words[1]), jobs))
+
+
+if __name__ == "__main__":
+    if len(sys.argv) < 4:
+        sys.exit(__doc__)
+    main(sys.argv[1:])
