@@ -55,18 +55,18 @@ puts_begin held whole front pending left begun is = record {
   is = is;
 }
 
-pub puts_more : (old now after : Option (List ℕ)) (whole pending kept bytes left left' : List ℕ) → PutsSoFar old now whole pending left
+pub puts_more : {old now after : Option (List ℕ)} {whole pending kept bytes left left' : List ℕ} → PutsSoFar old now whole pending left
     → Writes now after pending kept bytes → left ≡ bytes ++ left' → PutsSoFar old after whole kept left'
-puts_more old now after whole pending kept bytes left left' so_far writes next = record {
+puts_more {old} {now} {after} {pending} {kept} {bytes} {left'} so_far writes next = record {
   text = so_far.text ++ bytes;
   gathers = gathers_more old now after so_far.text pending kept bytes so_far.gathers writes;
   is = so_far.is ∙ ap (λ bs. so_far.text ++ bs) next ∙ sym (append_assoc so_far.text bytes left');
 }
 
 -- a failed write of what is gathered leaves a part of the whole
-pub puts_part : (old now after : Option (List ℕ)) (whole pending left : List ℕ) → PutsSoFar old now whole pending left
+pub puts_part : {old now after : Option (List ℕ)} {whole pending left : List ℕ} → PutsSoFar old now whole pending left
     → AppendsPart now after pending → AppendsPart old after whole
-puts_part old now after whole pending left so_far part =
+puts_part {old} {now} {after} {pending} {left} so_far part =
     let P : List ℕ → Type 0 = AppendsPart old after in
     subst P (sym so_far.is)
     (part_of_front old after so_far.text left (gathers_part old now after so_far.text pending so_far.gathers part))

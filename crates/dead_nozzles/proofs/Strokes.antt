@@ -1,5 +1,5 @@
 -- The starts of all strokes: where they begin, how they step, and where they end; and how many strokes there are.
-use Rattle.std.proofs.Common.{◌≡◌, ℕ, zero, suc, ◌+◌, ◌-◌, ◌*◌, ◌<◌, ◌≤◌, Bool, true, false, cond, not, ◌&&◌, inl, inr}
+use Rattle.std.proofs.Common.{◌≡◌, ℕ, zero, suc, ◌+◌, ◌-◌, ◌*◌, ◌^◌, ◌<◌, ◌≤◌, Bool, true, false, cond, not, ◌&&◌, inl, inr}
 use Rattle.std.proofs.Common.{List, [], ◌∷◌, ◌++◌, length, map, Option, None, Some, refl, sym, ◌∙◌, ap, subst, arith, nat_le, append-nil, get_or}
 use Rattle.std.proofs.Math.Nat.{div-le_self, mul-le-mul}
 use Rattle.std.proofs.lemmas.Bool.{cases_lt}
@@ -8,6 +8,7 @@ use Rattle.std.proofs.lemmas.List.Elements.{All-from_recursion}
 use Rattle.std.proofs.lemmas.List.Sums.{count_by-le-length, length-filter}
 use Rattle.std.specs.List.{AllByRecursion, filter}
 use Rattle.base_definitions.specs.Counting.{count_from}
+use Rattle.base_definitions.specs.Limits.{most_rows}
 use Rattle.weave_definitions.specs.Weave.{pass_count}
 use Rattle.dead_nozzles.specs.Dead.{has, least_live}
 use Rattle.dead_nozzles.specs.Plans.{ArePassOwners, Begins, IsStrokePlan, IsWorn, Owns, is_free, owner, row_of, stroke_in}
@@ -188,6 +189,14 @@ pub missing-few : (h : Head) → length (missing h) ≤ h.height
 missing-few h =
     let left : ℕ → Bool = λ row. not (is_fired (firings_of (regular_strokes h)) row) in
     omega (arith, length-filter left (count_from 0 h.height), count_by-le-length left (count_from 0 h.height), count-len 0 h.height)
+
+-- 8 bytes for each row and each stroke are less than a megabyte
+pub plan-small : (h : Head) → IsHead h → h.nozzles ≤ 255 → h.pitch ≤ 255 → h.height ≤ most_rows
+    → 8 * h.height + 8 * length (all_strokes h) ≤ 2 ^ 20
+plan-small h is few near low =
+    let over : ℕ = h.height + (h.nozzles - 1) * h.pitch + (h.nozzles - 1) in
+    let apart : (h.nozzles - 1) * h.pitch ≤ 254 * 255 = mul-le-mul {n₂ = 254} (omega (arith, few)) near in
+    omega (arith, all-few h is, missing-few h, div-le_self over h.nozzles, apart, few, low)
 
 -- ---- the stroke at a place
 

@@ -109,9 +109,9 @@ taken-end h start old now n many so_far none = record {
 }
 
 -- a nozzle fires nothing
-pub taken-skip : (h : Head) (start : ℕ) (old now : List (Option ℕ)) (n many next : ℕ) → TakenSoFar h start old now n many → many ≡ suc next
+pub taken-skip : {h : Head} {start : ℕ} {old now : List (Option ℕ)} {n many next : ℕ} → TakenSoFar h start old now n many → many ≡ suc next
     → shot h (λ y. is_free (owner old y)) n (row_under h start n) ≡ [] → TakenSoFar h start old now (n + 1) next
-taken-skip h start old now n many next so_far more none = record {
+taken-skip {h} {start} {old} {now} {n} {next} so_far more none = record {
   rows = so_far.rows;
   kept = so_far.kept;
   rest = λ y. so_far.rest y
@@ -162,10 +162,10 @@ none-and true b e = e
 none-and false b e = refl
 
 -- a live nozzle takes the row under it
-pub taken-step : (h : Head) (start : ℕ) (old now : List (Option ℕ)) (n many next row : ℕ) → TakenSoFar h start old now n many → many ≡ suc next
-    → has h.dead n ≡ false → row_under h start n ≡ Some row → row < length now
+pub taken-step : {h : Head} {start : ℕ} {old now : List (Option ℕ)} {n many next : ℕ} (row : ℕ)
+    → TakenSoFar h start old now n many → many ≡ suc next → has h.dead n ≡ false → row_under h start n ≡ Some row → row < length now
     → TakenSoFar h start old (set now row (taken start (owner now row))) (n + 1) next
-taken-step h start old now n many next row so_far more live under inside = record {
+taken-step {h} {start} {old} {now} {n} {many} {next} row so_far more live under inside = record {
   rows = length-set now row (taken start (owner now row)) ∙ so_far.rows;
   kept = λ y. by_kept y (cases_eq y row);
   rest = λ y. so_far.rest y

@@ -4,7 +4,7 @@ ghost use Rattle.dead_nozzles.specs.Dead.{IsRising, checked};
 ghost use Rattle.dead_nozzles.specs.Plans.{row_of, stroke_in};
 ghost use Rattle.dead_nozzles.specs.Strokes.{all_strokes, head_rows};
 ghost use Rattle.std.specs.Int.{IsGcd};
-ghost use Rattle.std.specs.Prelude.{IfOk, IfSome, Ok, length, ◌<◌, ◌≡◌, ◌≤◌};
+ghost use Rattle.std.specs.Prelude.{IfOk, IfSome, Ok, length, ◌*◌, ◌+◌, ◌<◌, ◌^◌, ◌≡◌, ◌≤◌};
 
 use crate::finding::find_starts;
 use crate::owners::pass_owners;
@@ -36,7 +36,8 @@ impl Model for StrokePlan {
 impl StrokePlan {
     /// A plan for a head of `nozzles` nozzles that are `pitch` rows apart, over a window of `height` rows: at most 22
     /// inches, at 720 rows an inch. `dead` has the numbers of the dead nozzles in rising order, and passes
-    /// `check_dead`. The plan takes its memory here: 8 bytes for each row of the window, and 4 for each stroke.
+    /// `check_dead`. The plan takes its memory here: 8 bytes for each row of the window, and at most 8
+    /// for each stroke, which is less than a megabyte (`small`).
     pub fn make(
         alloc: Global,
         nozzles: u8,
@@ -51,7 +52,8 @@ impl StrokePlan {
         requires most_rows { height ≤ most_rows }
         requires rising { IsRising dead.now }
         requires checked { checked nozzles dead.now ≡ Ok tt }
-        ensures { IfOk result (λ plan. plan ≡ record { nozzles = nozzles; pitch = pitch; height = height; dead = dead.now }) }
+        ensures plan { IfOk result (λ plan. plan ≡ record { nozzles = nozzles; pitch = pitch; height = height; dead = dead.now }) }
+        ensures small { IfOk result (λ plan. 8 * height + 8 * length (all_strokes plan) ≤ 2 ^ 20) }
     {
         let head = WornHead::make(nozzles, pitch, height, dead);
         let mut owners = pass_owners(alloc, &head)?;

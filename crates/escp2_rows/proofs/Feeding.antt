@@ -52,12 +52,12 @@ fed_begin reader piece bytes len capacity is_open room = record {
 }
 
 -- one more part is read
-pub fed_step : (old now new : RowReader) (piece rest : List ℕ) (used more : ℕ) (before middle after : List ℕ)
-    (len capacity len' capacity' : ℕ)
+pub fed_step : {old now new : RowReader} {piece rest : List ℕ} {used more : ℕ} {before middle after : List ℕ}
+    {len capacity len' capacity' : ℕ}
     → FedSoFar old now piece used before middle len capacity → rest ≡ drop used piece → 0 < more → more ≤ length rest
     → Takes now new (take more rest) middle after → len' + bytes_left_of new ≤ capacity'
     → FedSoFar old new piece (used + more) before after len' capacity'
-fed_step old now new piece rest used more before middle after len capacity len' capacity' so_far behind some fits takes room = record {
+fed_step {new} {piece} {rest} {used} {more} {before} so_far behind some fits takes room = record {
   within = omega (arith, so_far.within, length-drop used piece, ap length behind);
   begun = λ failed. omega arith;
   takes = record {
@@ -102,9 +102,9 @@ read_on-nothing (Repeated n) most left m width at still some begun enough = refl
 read_on-nothing Failed most left m width at still some begun enough = absurd (let no : true ≡ false = still in cc)
 
 -- the piece ends
-pub fed_more : (old now : RowReader) (piece : List ℕ) (used : ℕ) (before after : List ℕ) (len capacity : ℕ)
+pub fed_more : {old now : RowReader} {piece : List ℕ} {used : ℕ} {before after : List ℕ} {len capacity : ℕ}
     → FedSoFar old now piece used before after len capacity → is_done_of now ≡ false → used ≡ length piece → IsMore old now piece used
-fed_more old now piece used before after len capacity so_far is_open all = record {
+fed_more {now} {piece} {used} so_far is_open all = record {
   all = all;
   is_open = is_open;
   part = λ form sofar given stood.
@@ -146,10 +146,10 @@ not-failed (Repeated n) not = refl
 not-failed Failed not = absurd (not refl)
 
 -- the rows end
-pub fed_whole : (old now : RowReader) (piece : List ℕ) (used : ℕ) (before after : List ℕ) (len capacity : ℕ)
+pub fed_whole : {old now : RowReader} {piece : List ℕ} {used : ℕ} {before after : List ℕ} {len capacity : ℕ}
     → FedSoFar old now piece used before after len capacity → is_done_of now ≡ true → (now.place ≡ Failed → ⊥)
     → IsWhole old now piece used before after
-fed_whole old now piece used before after len capacity so_far done not = record {
+fed_whole {now} {piece} {used} {before} {after} so_far done not = record {
   none_left = none;
   whole = λ form sofar given rest stood.
       let gave : List ℕ = so_far.takes.gave in
@@ -187,9 +187,9 @@ or-left true b e = refl
 or-left false b e = absurd (let no : false ≡ true = e in cc)
 
 -- a fault is found
-pub fed_fault : (old now : RowReader) (piece : List ℕ) (used : ℕ) (before after : List ℕ) (len capacity : ℕ)
+pub fed_fault : {old now : RowReader} {piece : List ℕ} {used : ℕ} {before after : List ℕ} {len capacity : ℕ}
     → FedSoFar old now piece used before after len capacity → now.place ≡ Failed → IsFault old now piece used (used - 1)
-fed_fault old now piece used before after len capacity so_far failed = record {
+fed_fault {now} {piece} {used} so_far failed = record {
   last = omega (arith, some);
   done = or-left _ _ (failed-is now.place failed);
   wrong = λ form sofar given rest stood.

@@ -227,10 +227,10 @@ pub record Moves (place : Place) (left m width : ℕ) (bytes gave : List ℕ) (p
       ≡ with_front gave (read_on place' most' left' m' width' (at + length bytes) rest))
 
 -- a reader stands after what it moved over
-pub stands_moved : (form : RowsForm) (place place' : Place) (left m width left' m' width' : ℕ) (bytes gave sofar given : List ℕ)
+pub stands_moved : {form : RowsForm} {place place' : Place} {left m width left' m' width' : ℕ} {bytes gave sofar given : List ℕ}
     → Moves place left m width bytes gave place' left' m' width' → Stands form place left m width sofar given
     → Stands form place' left' m' width' (sofar ++ bytes) (given ++ gave)
-stands_moved form place place' left m width left' m' width' bytes gave sofar given moves so_far =
+stands_moved {form} {place} {place'} {left} {m} {width} {left'} {m'} {width'} {bytes} {gave} {sofar} {given} moves so_far =
     let most : ℕ = so_far.most in
     let moved : (most' : ℕ) × (is_failed place' ≡ false → left' - pending place' ≤ most')
     × ((at : ℕ) (rest : List ℕ) → read_on place most left m width at (bytes ++ rest)
@@ -341,10 +341,10 @@ Follows left m width left' m' width' = (most : ℕ) → left ≤ most → (most'
     × ((at : ℕ) (bytes : List ℕ) → rest_at most left m width at bytes ≡ rest_at most' left' m' width' at bytes)
 
 -- the last of the bytes of a packet as they are
-pub literal_ends : (n left m width left' m' width' count : ℕ) (bytes : List ℕ) → length bytes ≡ count → count ≡ n
+pub literal_ends : {n left m width left' m' width' count : ℕ} {bytes : List ℕ} → length bytes ≡ count → count ≡ n
     → Follows (left - count) m width left' m' width'
     → Moves (Literal n) left m width bytes bytes Packet left' m' width'
-literal_ends n left m width left' m' width' count bytes counted whole follows = record {
+literal_ends {n} {left} {m} {width} {left'} {m'} {width'} {count} {bytes} counted whole follows = record {
   on = λ most enough.
       let next : (most' : ℕ) × (left' ≤ most')
       × ((at : ℕ) (bytes : List ℕ) → rest_at most (left - count) m width at bytes ≡ rest_at most' left' m' width' at bytes)
@@ -360,9 +360,9 @@ literal_ends n left m width left' m' width' count bytes counted whole follows = 
 }
 
 -- the byte that is repeated
-pub repeated_moves : (n left m width left' m' width' byte : ℕ) → Follows (left - n) m width left' m' width'
+pub repeated_moves : {n left m width left' m' width' : ℕ} (byte : ℕ) → Follows (left - n) m width left' m' width'
     → Moves (Repeated n) left m width (byte ∷ []) (replicate n byte) Packet left' m' width'
-repeated_moves n left m width left' m' width' byte follows = record {
+repeated_moves {n} {left} {m} {width} {left'} {m'} {width'} byte follows = record {
   on = λ most enough.
       let next : (most' : ℕ) × (left' ≤ most')
       × ((at : ℕ) (bytes : List ℕ) → rest_at most (left - n) m width at bytes ≡ rest_at most' left' m' width' at bytes)
@@ -371,9 +371,9 @@ repeated_moves n left m width left' m' width' byte follows = record {
 }
 
 -- the same reader, by an equal place
-pub at_place : (form : RowsForm) (place place' : Place) (left m width : ℕ) (sofar given : List ℕ) → place ≡ place'
+pub at_place : {form : RowsForm} {place place' : Place} {left m width : ℕ} {sofar given : List ℕ} → place ≡ place'
     → Stands form place left m width sofar given → Stands form place' left m width sofar given
-at_place form place place' left m width sofar given same so_far =
+at_place {form} {left} {m} {width} {sofar} {given} same so_far =
     let P : Place → Type 0 = λ p. Stands form p left m width sofar given in subst P same so_far
 
 -- where no byte of a row is left, the next row follows
@@ -392,9 +392,9 @@ pub next_left : (left m width count m' : ℕ) → count ≡ left → m ≡ suc m
 next_left left m width count m' all more = omega (arith, ap (λ k. k * width) more)
 
 -- bytes as they are, before the last
-pub literal_part : (n left m width more left' : ℕ) (bytes : List ℕ) → length bytes + more ≡ n → left' ≡ left - length bytes
+pub literal_part : {n left m width more left' : ℕ} {bytes : List ℕ} → length bytes + more ≡ n → left' ≡ left - length bytes
     → Moves (Literal n) left m width bytes bytes (Literal more) left' m width
-literal_part n left m width more left' bytes whole less =
+literal_part {n} {left} {m} {width} {more} {bytes} whole less =
     let P : ℕ → Type 0 = λ k. Moves (Literal n) left m width bytes bytes (Literal more) k m width in
     subst P (sym less) (literal_moves n left m width more bytes whole)
 

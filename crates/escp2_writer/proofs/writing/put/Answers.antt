@@ -9,8 +9,8 @@ returns-in-Raster-clause-spelled g c = least-spells _ _ c.requires.in_range c.re
 
 pub returns-in_ok-put_all-in_default-clause-part : goal.returns-in_ok-put_all-in_default-clause-part
 returns-in_ok-put_all-in_default-clause-part g c = elim c.in_default.branch [
-  | in_default-via-in-Raster+else-header-ne0 w ↦ two_part _ _ _ _ _ _ _ (search rules) c.in_ok-put_all-in_default.ensures.ok
+  | in_default-via-in-Raster+else-header-ne0 w ↦ two_part c.put_all-in_default.result _ _ _ _ _ c.args.rows.now (search rules) c.in_ok-put_all-in_default.ensures.ok
       c.put_all-in_default.ensures.part
-  | in_default-via-in_default w ↦ two_part _ _ _ _ _ _ _ (search rules) c.in_ok-put_all-in_default.ensures.ok
+  | in_default-via-in_default w ↦ two_part c.put_all-in_default.result _ _ _ _ _ c.args.rows.now (search rules) c.in_ok-put_all-in_default.ensures.ok
       c.put_all-in_default.ensures.part
 ]

@@ -26,7 +26,7 @@ rows-preserved g c =
     let row = c.split_at.ensures.front ∙ ap (λ n. take n c.rows.rest.now) c.row_bytes-width.ensures.is in
     let behind = c.split_at.ensures.back ∙ ap (λ n. drop n c.rows.rest.now) c.row_bytes-width.ensures.is in
     record {
-      so_far = puts_more _ _ _ _ _ _ _ _ _ c.rows.invariant.so_far c.in_ok-write.ensures.ok
+      so_far = puts_more c.rows.invariant.so_far c.in_ok-write.ensures.ok
           (codes-next _ _ left row behind ∙ ap (λ bs. bs ++ codes (c.args.header.m - (c.rows.counter + 1))
           (row_bytes c.args.header) c.split_at.result.1.now) (sym c.code_row-len.ensures.code));
       left = rows-next _ _ _ _ _ c.rows.invariant.left left behind;
@@ -35,14 +35,14 @@ rows-preserved g c =
 
 pub returns-in_err-write-clause-part : goal.returns-in_err-write-clause-part
 returns-in_err-write-clause-part g c =
-    on_err_anyway _ (puts_part _ _ _ _ _ _ c.rows.invariant.so_far c.in_err-write.ensures.part)
+    on_err_anyway _ (puts_part c.rows.invariant.so_far c.in_err-write.ensures.part)
 
 pub returns-clause-ok : goal.returns-clause-ok
 returns-clause-ok g c =
-    two_ok _ _ _ _ _ _ _ (puts_end _ _ _ _ _ c.rows.invariant.so_far (codes-none _ _ _ (omega arith)))
+    two_ok c.put.result _ _ _ _ c.rows.invariant.so_far.gathers.sent _ (puts_end _ _ _ _ _ c.rows.invariant.so_far (codes-none _ _ _ (omega arith)))
     c.rows.invariant.so_far.gathers.appends c.put.ensures.ok
 
 pub returns-clause-part : goal.returns-clause-part
 returns-clause-part g c =
-    two_part _ _ _ _ _ _ _ (puts_end _ _ _ _ _ c.rows.invariant.so_far (codes-none _ _ _ (omega arith)))
+    two_part c.put.result _ _ _ _ c.rows.invariant.so_far.gathers.sent _ (puts_end _ _ _ _ _ c.rows.invariant.so_far (codes-none _ _ _ (omega arith)))
     c.rows.invariant.so_far.gathers.appends c.put.ensures.part

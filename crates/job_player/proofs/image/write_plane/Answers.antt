@@ -27,21 +27,21 @@ rows-preserved g c =
     let row = ap (take ((s.columns + 7) / 8)) c.row.ensures ∙ cut-row s.planes c.args.ink c.rows.y s.columns (omega (arith, s.most, s.width))
     (omega (arith, s.inks)) (omega (arith, s.height)) s.blank in
     record {
-      so_far = puts_more _ _ _ _ _ _ _ _ _ c.rows.invariant.so_far c.in_ok-write.ensures.ok
+      so_far = puts_more c.rows.invariant.so_far c.in_ok-write.ensures.ok
           (rows-next s.columns s.planes c.args.ink c.rows.y (s.rows - c.rows.y) (s.rows - (c.rows.y + 1)) (omega arith)
           ∙ ap (λ bs. bs ++ image_rows s.columns s.planes c.args.ink (c.rows.y + 1) (s.rows - (c.rows.y + 1))) (sym row));
       later = omega (arith, c.rows.invariant.later, c.in_ok-write.ensures.cause.later);
     }
 
 pub returns-in_err-write-clause-part : goal.returns-in_err-write-clause-part
-returns-in_err-write-clause-part g c = on_err_anyway _ (puts_part _ _ _ _ _ _ c.rows.invariant.so_far c.in_err-write.ensures.part)
+returns-in_err-write-clause-part g c = on_err_anyway _ (puts_part c.rows.invariant.so_far c.in_err-write.ensures.part)
 
 pub returns-clause-ok : goal.returns-clause-ok
-returns-clause-ok g c = two_ok _ _ _ _ _ _ _
+returns-clause-ok g c = two_ok c.put.result _ _ _ _ c.rows.invariant.so_far.gathers.sent _
     (puts_end _ _ _ _ _ c.rows.invariant.so_far (rows-none c.args.s.now.columns
     c.args.s.now.planes c.args.ink c.rows.y _ (omega arith))) c.rows.invariant.so_far.gathers.appends c.put.ensures.ok
 
 pub returns-clause-part : goal.returns-clause-part
-returns-clause-part g c = two_part _ _ _ _ _ _ _
+returns-clause-part g c = two_part c.put.result _ _ _ _ c.rows.invariant.so_far.gathers.sent _
     (puts_end _ _ _ _ _ c.rows.invariant.so_far (rows-none c.args.s.now.columns
     c.args.s.now.planes c.args.ink c.rows.y _ (omega arith))) c.rows.invariant.so_far.gathers.appends c.put.ensures.part

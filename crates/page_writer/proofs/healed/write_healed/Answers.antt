@@ -20,9 +20,9 @@ use Rattle.page_writer.proofs.HealedOver.{healed_suit}
 use Rattle.page_writer.proofs.healed.write_healed.Goals as goal
 
 -- the head that is planned is that of the printer
-head_is : (dead : List ℕ) (q p : Printer) (head : Head) (n rows : ℕ) → q ≡ p
+head_is : {dead : List ℕ} {q p : Printer} {head : Head} {n rows : ℕ} → q ≡ p
     → head ≡ record { nozzles = q.nozzles; pitch = q.pitch; height = n; dead = dead } → n ≡ rows → head ≡ worn_head dead p rows
-head_is dead q p head n rows same made rows_are =
+head_is {dead} {p} {n} same made rows_are =
     made ∙ ap (λ (p : Printer). worn_head dead p n) same ∙ ap (worn_head dead p) rows_are
 
 -- a printer that passes its checks can print
@@ -35,7 +35,7 @@ pub write_strokes-requires-clause-suits : goal.write_strokes-requires-clause-sui
 write_strokes-requires-clause-suits g c =
     let p : Printer = c.args.p.now in
     let t : DotTable = c.args.planes.now in
-    let same : c.in-Ok.plan ≡ worn_head c.args.dead.now p t.rows = head_is _ _ _ _ _ _ c.p.view_is c.in-Ok.ensures c.rows.ensures in
+    let same : c.in-Ok.plan ≡ worn_head c.args.dead.now p t.rows = head_is c.p.view_is c.in-Ok.ensures.plan c.rows.ensures in
     let P : Head → Type 0 = λ head. Suits p (healed_strokes head) t in
     subst P (sym same) (healed_suit c.args.dead.now p t c.args.f (can_print _ _ c.p.view_is c.checked_can_print.ensures c.requires.checked)
     c.requires.nozzles c.requires.wanted c.requires.width c.requires.rows c.requires.inks)
@@ -45,7 +45,7 @@ returns-clause-ok g c = λ h shows.
     let p : Printer = c.args.p.now in
     let t : DotTable = c.args.planes.now in
     let len : ℕ = c.args.f.height * row_units p in
-    let same : c.in-Ok.plan ≡ worn_head c.args.dead.now p t.rows = head_is _ _ _ _ _ _ c.p.view_is c.in-Ok.ensures c.rows.ensures in
+    let same : c.in-Ok.plan ≡ worn_head c.args.dead.now p t.rows = head_is c.p.view_is c.in-Ok.ensures.plan c.rows.ensures in
     let bytes : head_bytes p (healed_strokes c.in-Ok.plan) t len ≡ healed_bytes c.args.dead.now p h len =
     ap (λ (head : Head). head_bytes p (healed_strokes head) t len) same
     ∙ healed_bytes_are c.args.dead.now p t h len (can_print _ _ c.p.view_is c.checked_can_print.ensures c.requires.checked) c.requires.nozzles shows in
@@ -57,7 +57,7 @@ returns-clause-part g c = λ h shows failed.
     let p : Printer = c.args.p.now in
     let t : DotTable = c.args.planes.now in
     let len : ℕ = c.args.f.height * row_units p in
-    let same : c.in-Ok.plan ≡ worn_head c.args.dead.now p t.rows = head_is _ _ _ _ _ _ c.p.view_is c.in-Ok.ensures c.rows.ensures in
+    let same : c.in-Ok.plan ≡ worn_head c.args.dead.now p t.rows = head_is c.p.view_is c.in-Ok.ensures.plan c.rows.ensures in
     let bytes : head_bytes p (healed_strokes c.in-Ok.plan) t len ≡ healed_bytes c.args.dead.now p h len =
     ap (λ (head : Head). head_bytes p (healed_strokes head) t len) same
     ∙ healed_bytes_are c.args.dead.now p t h len (can_print _ _ c.p.view_is c.checked_can_print.ensures c.requires.checked) c.requires.nozzles shows in
@@ -69,7 +69,7 @@ returns-clause-sum g c = λ h shows.
     let p : Printer = c.args.p.now in
     let t : DotTable = c.args.planes.now in
     let len : ℕ = c.args.f.height * row_units p in
-    let same : c.in-Ok.plan ≡ worn_head c.args.dead.now p t.rows = head_is _ _ _ _ _ _ c.p.view_is c.in-Ok.ensures c.rows.ensures in
+    let same : c.in-Ok.plan ≡ worn_head c.args.dead.now p t.rows = head_is c.p.view_is c.in-Ok.ensures.plan c.rows.ensures in
     IfOk-weaker c.write_strokes.result _ _ (λ sum is.
     let P : Head → Type 0 = λ head. SumsStrokes p t.width t.rows len (strokes_over p (healed_strokes head) t) sum in
     healed_sums_are c.args.dead.now p t h len sum (can_print _ _ c.p.view_is c.checked_can_print.ensures c.requires.checked) c.requires.nozzles
@@ -79,7 +79,7 @@ pub returns-clause-short : goal.returns-clause-short
 returns-clause-short g c =
     let p : Printer = c.args.p.now in
     let t : DotTable = c.args.planes.now in
-    let same : c.in-Ok.plan ≡ worn_head c.args.dead.now p t.rows = head_is _ _ _ _ _ _ c.p.view_is c.in-Ok.ensures c.rows.ensures in
+    let same : c.in-Ok.plan ≡ worn_head c.args.dead.now p t.rows = head_is c.p.view_is c.in-Ok.ensures.plan c.rows.ensures in
     IfOk-weaker c.write_strokes.result _ _ (λ sum short.
     let P : Head → Type 0 = λ head. sum.bytes ≤ 49 + length (all_strokes head) * most_of_pass p t.width in
     healed_short c.args.dead.now p t.width t.rows sum.bytes (can_print _ _ c.p.view_is c.checked_can_print.ensures c.requires.checked)

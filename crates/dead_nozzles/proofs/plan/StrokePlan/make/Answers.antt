@@ -1,3 +1,6 @@
+use Rattle.std.proofs.Common.{◌≡◌, ap, arith}
+use Rattle.dead_nozzles.specs.Strokes.{Head}
+use Rattle.dead_nozzles.proofs.Strokes.{plan-small}
 use Rattle.dead_nozzles.proofs.Tables.{head-of}
 use Rattle.dead_nozzles.proofs.plan.StrokePlan.make.Goals as goal
 
@@ -10,3 +13,13 @@ pub find_starts-requires-clause-head : goal.find_starts-requires-clause-head
 find_starts-requires-clause-head c =
     head-of c.args.nozzles c.args.pitch c.args.height c.args.dead.now c.make-head.result c.requires.some_nozzles c.requires.some_pitch
     c.requires.coprime c.requires.checked c.make-head.ensures
+
+pub returns-clause-small : goal.returns-clause-small
+returns-clause-small c =
+    let plan = c.in_ok-starts.ensures in
+    let low : c.make-head.result.height ≡ c.args.height = ap (λ (h : Head). h.height) c.make-head.ensures in
+    omega (
+      arith,
+      low,
+      plan-small c.make-head.result plan.head plan.worn.most_nozzles plan.worn.most_pitch plan.worn.most_rows,
+    )

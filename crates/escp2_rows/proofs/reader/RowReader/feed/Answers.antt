@@ -12,11 +12,11 @@ steps-init c = record {
 
 pub returns-then-used-piece-clause-more : goal.returns-then-used-piece-clause-more
 returns-then-used-piece-clause-more c =
-    fed_more _ _ _ _ _ _ _ _ c.steps.invariant.fed (sym c.is_done.ensures ∙ c.steps-test.true) c.if-used-piece.true
+    fed_more c.steps.invariant.fed (sym c.is_done.ensures ∙ c.steps-test.true) c.if-used-piece.true
 
 pub steps-preserved : goal.steps-preserved
 steps-preserved c = record {
-  fed = fed_step _ _ _ _ _ _ _ _ _ _ _ _ _ _ c.steps.invariant.fed
+  fed = fed_step c.steps.invariant.fed
       (take_all _ _ (omega (arith, length-drop c.steps.used c.args.piece.now))) c.step-used.ensures.least c.step-used.ensures.most
       c.step-used.ensures.takes
       c.step-used.ensures.room;
@@ -25,8 +25,8 @@ steps-preserved c = record {
 }
 
 pub returns-in-Failed-clause-fault : goal.returns-in-Failed-clause-fault
-returns-in-Failed-clause-fault c = fed_fault _ _ _ _ _ _ _ _ c.steps.invariant.fed c.in-Failed.is
+returns-in-Failed-clause-fault c = fed_fault c.steps.invariant.fed c.in-Failed.is
 
 pub returns-in_default-clause-whole : goal.returns-in_default-clause-whole
 returns-in_default-clause-whole c =
-    fed_whole _ _ _ _ _ _ _ _ c.steps.invariant.fed (sym c.is_done.ensures ∙ c.steps-test.false) c.in_default.not-Failed
+    fed_whole c.steps.invariant.fed (sym c.is_done.ensures ∙ c.steps-test.false) c.in_default.not-Failed

@@ -10,9 +10,9 @@ returns-then-count-wanted-clause-gives c =
     length-take-le c.min-count.result c.args.bytes.now (omega (arith, c.min-count.ensures)) in
     record {
       left = omega (arith, count, ap pending c.requires.place, c.args.self.now.fits);
-      stands = λ form sofar given so_far. stands_moved form _ _ _ _ _ _ _ _ _ _ sofar given
-          (literal_part _ _ _ _ _ _ _ (omega (arith, count, c.if-count-wanted.true)) (ap (λ k. c.args.self.now.row_left - k) (sym count)))
-          (at_place _ _ _ _ _ _ sofar given c.requires.place so_far);
+      stands = λ form sofar given so_far. stands_moved
+          (literal_part (omega (arith, count, c.if-count-wanted.true)) (ap (λ k. c.args.self.now.row_left - k) (sym count)))
+          (at_place c.requires.place so_far);
     }
 
 pub returns-clause-gives : goal.returns-clause-gives
@@ -22,7 +22,7 @@ returns-clause-gives c =
     let all : c.min-count.result ≡ c.args.wanted = omega (arith, c.min-count.ensures, c.if-count-wanted.false) in
     record {
       left = omega (arith, count, c.end_packet.ensures.left);
-      stands = λ form sofar given so_far. at_place _ _ _ _ _ _ _ _ (sym c.end_packet.ensures.place)
-          (stands_moved form _ _ _ _ _ _ _ _ _ _ sofar given (literal_ends _ _ _ _ _ _ _ _ _ count all c.end_packet.ensures.reads)
-          (at_place _ _ _ _ _ _ sofar given c.requires.place so_far));
+      stands = λ form sofar given so_far. at_place (sym c.end_packet.ensures.place)
+          (stands_moved (literal_ends count all c.end_packet.ensures.reads)
+          (at_place c.requires.place so_far));
     }
