@@ -4,4 +4,5 @@ pub mod StreamSteps
 pub mod Ends
 pub mod Writing
 pub mod ByStatus
+pub mod One
 pub mod Promised

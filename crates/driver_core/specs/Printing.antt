@@ -1,5 +1,6 @@
 -- The command `print`.
 pub mod Pages
 pub mod Outcome
+pub mod One
 pub mod Charging
 pub mod Promises

@@ -31,8 +31,8 @@ fn check_shingles(nozzles: u8, pitch: u8) -> Result<(), ProfileCause>
     })
 }
 
-/// Whether the head of a profile can go over a page as the job asks: it can shingle where shingled passes are asked for,
-/// and its dead nozzles are nozzles of it and not all of them.
+/// Whether the head of a profile can go over a page as the job asks: it can shingle where shingled passes are asked
+/// for, and its dead nozzles are nozzles of it and not all of them.
 pub fn check_way(job: &Job, profile: &Profile) -> Result<(), ProfileCause>
     requires checked { IsOk (check profile.now) }
     requires rising { IsRising job.now.dead.items }

@@ -6,17 +6,20 @@
 //! profile is built in (`unasked`) and where a word is refused (`refused_unasked`).
 //!
 //! A run prepares a command and performs it: `prepare` reads the words, sets the caps and finds the profile, `perform`
-//! does the command over input, output and meters.
+//! does the command over input, output and meters. `print_one` prints one stream by a checked profile; it is what
+//! `perform` calls for `print`, and what a spool calls for each of its jobs.
 //!
 //! Each command has a module, and its outcome, promises and proofs stand together: `print` in `Printing`, `dots` in
-//! `Playing`, `list` in `Listing`, `profile` in `Showing`, and what they have in common in `Runs`. A command ends in an
-//! `Answer`, as `PrintOutcome`, `PlayOutcome`, `ListOutcome` and `ShowOutcome` say. `PrintOutcome` has the headline: on
-//! `Done` the job of all pages was written, and it prints them (`PrintsAll`). `charge` counts a page on each meter where
-//! all have room, else on none.
+//! `Playing`, `list` in `Listing`, `profile` in `Showing`, `trial` in `Trying`, and what they have in common in `Runs`.
+//! A command ends in an `Answer`, as `PrintOutcome`, `PlayOutcome`, `ListOutcome`, `ShowOutcome` and `TrialOutcome` say.
+//! `PrintOutcome` has the headline: on `Done` the job of all pages was written, and it prints them (`PrintsAll`).
+//! `PrintedOutcome` says besides how many pages were written whole. `charge` counts a page on each meter where all have
+//! room, else on none.
 //!
 //! No clause says when memory runs out. The status is then 7, and tests show that it is not given with ample memory.
 #![tactic(auto)]
 
+mod answers;
 mod dots;
 mod fitting;
 mod list;
@@ -29,6 +32,7 @@ mod trial;
 
 pub use driver_answer::{Answer, ProfileCause, UsageCause, UsageFault};
 pub use page_halftoner::Halftoner;
+pub use print::{Printed, print_one};
 pub use running::{run, tell};
 pub use tile_shape::Place;
 pub use wavefront_team::{Gate, OpenGate};

@@ -3,10 +3,11 @@ ghost use Rattle.driver_core.specs.Outside.{meters_of, outside_of};
 ghost use Rattle.driver_core.specs.Runs.Outcome.{answer_of};
 ghost use Rattle.driver_core.specs.Runs.Prepared.{DoneOutcome, IsReady};
 
+use crate::answers::work_of;
 use crate::dots::play;
 use crate::list::list;
 use crate::preparing::Prepared;
-use crate::print::print_pages;
+use crate::print::print_one;
 use crate::profile::show_profile;
 use crate::trial::try_pages;
 use driver_answer::Answer;
@@ -34,12 +35,8 @@ pub fn perform<R: Threads + Sync, S: Source, K: Sink, G: Gate + Sync>(
 {
     match prepared {
         Prepared::Print { job, profile } => {
-            let team = Team {
-                threads,
-                workers: job.workers,
-                gate,
-            };
-            print_pages(&team, alloc, &profile, &job, input, out, meters)
+            let printed = print_one(threads, alloc, &job, &profile, input, out, gate, meters);
+            work_of(printed.answer)
         }
         Prepared::Dots { job, profile } => play(alloc, &profile, job.most, input, out),
         Prepared::List { job } => list(alloc, job.most, input, out),

@@ -29,7 +29,8 @@ pub enum Prepared {
 }
 
 /// Reads the words of a command line, sets the caps of the meters where a word gives one, finds the profile that the
-/// command takes, and checks that its head can go over pages as the job asks. `Err` is the answer of a run that goes no further.
+/// command takes, and checks that its head can go over pages as the job asks. `Err` is the answer of a run that goes no
+/// further.
 pub fn prepare<F: Shelf>(
     alloc: Global,
     words: &Words,

@@ -1,9 +1,11 @@
 //! The command `print`.
 
 mod charging;
+mod one;
 mod pages;
 mod writing;
 
 pub use charging::set_caps;
+pub use one::{Printed, print_one};
 pub use pages::{print_pages, stream_answer};
 pub use writing::write_by_way;

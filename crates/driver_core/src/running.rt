@@ -6,6 +6,7 @@ ghost use Rattle.job_words.specs.Meaning.{job_meaning, profile_named};
 ghost use Rattle.printer_profile.specs.Profiles.{built_in};
 ghost use Rattle.std.specs.Prelude.{IsErr, IsSome, ◌≡◌};
 
+use crate::answers::answer_to;
 use crate::performing::perform;
 use crate::preparing::prepare;
 use arrayvec::ArrayString;
@@ -39,16 +40,6 @@ fn work<R: Threads + Sync, S: Source, K: Sink, F: Shelf, G: Gate + Sync>(
 {
     let prepared = prepare(alloc, words, shelf, meters)?;
     perform(rt, alloc, prepared, input, out, gate, meters)
-}
-
-// The answer of a run, by what its work gave.
-fn answer_to(worked: Result<(), Answer>) -> Answer
-    ensures { result ≡ answer_of worked }
-{
-    match worked {
-        Ok(()) => Answer::Done,
-        Err(answer) => answer,
-    }
 }
 
 /// Writes an answer's error line to a sink, as much of it as the sink takes.

@@ -38,7 +38,7 @@ use Rattle.weave_base.specs.Parts.{AppendsPart}
 use Rattle.driver_core.specs.Printing.Charging.{RefusesPage}
 use Rattle.driver_core.specs.Outside.{Meters, Outside}
 use Rattle.driver_core.specs.Printing.Pages.{BeginsStream, IsStream, TakesPages, job_bytes}
-use Rattle.driver_core.specs.Printing.Outcome.{CountsPages, PrintOutcome, PrintsAll, PrintsSome, stream_answer}
+use Rattle.driver_core.specs.Printing.Outcome.{CountsPages, PrintedOutcome, PrintsSome, stream_answer}
 use Rattle.halftone_reader.proofs.PageSteps.{EndsSo}
 use Rattle.driver_core.proofs.Printing.Counting.{none_counted}
 use Rattle.driver_core.proofs.Printing.StreamSteps.{StreamRead, StreamSoFar, with_pages, pages-first}
@@ -143,16 +143,17 @@ taken_pages p before text left unread bytes pages most number uses is more = rec
       ∙ ap (λ (s : Stream). s.pages) (is (more.bytes ++ unread));
 }
 
--- some pages were printed, and these were counted
-abbrev PrintsCounted : Way → Printer → Table → Outside → Outside → Meters → Type 0
-PrintsCounted way p k input out meters = (some : PrintsSome way p k input out) × CountsPages p k meters some.pages
+-- some pages were printed, so many, and these were counted
+abbrev PrintsCounted : Way → Printer → Table → Outside → Outside → Meters → ℕ → Type 0
+PrintsCounted way p k input out meters pages =
+    (some : PrintsSome way p k input out) × CountsPages p k meters some.pages × (length some.pages ≡ pages)
 
 -- no page was printed
 none_printed : (way : Way) (p : Printer) (k : Table)
     (before left held : Option (List ℕ)) (accounts : List Account) (f0 f1 g0 g1 : ℕ) → UsesSome before left
     → PrintsCounted way p k (record { before = before; now = left; faults_before = f0; faults_now = f1 })
     (record { before = held; now = held; faults_before = g0; faults_now = g1 })
-    (record { before = accounts; now = accounts })
+    (record { before = accounts; now = accounts }) 0
 none_printed way p k before left held accounts f0 f1 g0 g1 more = (
   record {
     pages = [];
@@ -161,16 +162,17 @@ none_printed way p k before left held accounts f0 f1 g0 g1 more = (
     passes = tt;
   },
   none_counted p k accounts,
+  refl,
 )
 
 -- the pages that were read so far were printed, and no other
 some_printed : (way : Way) (p : Printer) (k : Table)
-    (before left left' held now : Option (List ℕ)) (meters : Meters) (old new : PageReader) (number f0 f2 g0 g1 : ℕ)
-    → CanPrintBy way p → (so_far : StreamSoFar way p k before left held now old number)
+    (before left left' held now : Option (List ℕ)) (meters : Meters) (old new : PageReader) (number pages f0 f2 g0 g1 : ℕ)
+    → CanPrintBy way p → (so_far : StreamSoFar way p k before left held now old number) → pages + 1 ≡ number
     → CountsPages p k meters so_far.done → UsesSome (text_of old left) (text_of new left')
     → PrintsCounted way p k (record { before = before; now = left'; faults_before = f0; faults_now = f2 })
-    (record { before = held; now = now; faults_before = g0; faults_now = g1 }) meters
-some_printed way p k before left left' held now meters old new number f0 f2 g0 g1 can so_far counts more = (
+    (record { before = held; now = now; faults_before = g0; faults_now = g1 }) meters pages
+some_printed way p k before left left' held now meters old new number pages f0 f2 g0 g1 can so_far next counts more = (
   record {
     pages = so_far.done;
     taken = taken_pages p before (text_of old left) left' new.unread so_far.bytes so_far.done _ _ so_far.used so_far.is more;
@@ -178,12 +180,13 @@ some_printed way p k before left left' held now meters old new number f0 f2 g0 g
     passes = passes_of way p k so_far.bytes so_far.done _ _ can so_far.is;
   },
   counts,
+  omega (arith, next, so_far.next),
 )
 
 -- memory runs out before the next page is counted
-full_before : (way : Way) (p : Printer) (k : Table) (input out : Outside) (meters : Meters)
-    → PrintsCounted way p k input out meters → PrintOutcome way p k input out meters answer.Memory
-full_before way p k input out meters printed = (printed.0, inl printed.1)
+full_before : (way : Way) (p : Printer) (k : Table) (input out : Outside) (meters : Meters) (pages : ℕ)
+    → PrintsCounted way p k input out meters pages → PrintedOutcome way p k input out meters pages answer.Memory
+full_before way p k input out meters pages printed = ((printed.0, inl printed.1), printed.2)
 
 -- the stream does not begin as one
 without_sync : (way : Way) (p : Printer) (k : Table) (before left held : Option (List ℕ)) (accounts : List Account) (f0 f1 g0 g1 : ℕ) (why : StreamStop)
@@ -191,18 +194,21 @@ without_sync : (way : Way) (p : Printer) (k : Table) (before left held : Option 
     → stream want bytes ≡ record { pages = []; end = Fault page line cause }))
     → OnInput {T = PageReader} (Err why) (λ page line cause. (page ≡ 0) × (line ≡ 0))
     → (IsErrOf {T = PageReader} (Err why) stop.Read → Rose f0 f1) → UsesSome before left
-    → PrintOutcome way p k (record { before = before; now = left; faults_before = f0; faults_now = f1 })
+    → PrintedOutcome way p k (record { before = before; now = left; faults_before = f0; faults_now = f1 })
     (record { before = held; now = held; faults_before = g0; faults_now = g1 })
-    (record { before = accounts; now = accounts }) (stream_answer why)
+    (record { before = accounts; now = accounts }) 0 (stream_answer why)
 without_sync way p k before left held accounts f0 f1 g0 g1 (stop.Input page line cause) bad place cause_is more = (
-  record {
-    pages = [];
-    told = some before bad;
-    stand = omega (arith, place.0);
-    writes = Appends-nil held;
-    passes = tt;
-  },
-  none_counted p k accounts,
+  (
+    record {
+      pages = [];
+      told = some before bad;
+      stand = omega (arith, place.0);
+      writes = Appends-nil held;
+      passes = tt;
+    },
+    none_counted p k accounts,
+  ),
+  refl,
 )
   where
     some : (o : Option (List ℕ))
@@ -211,9 +217,9 @@ without_sync way p k before left held accounts f0 f1 g0 g1 (stop.Input page line
     some None h = tt
     some (Some bytes) h = h (wanted_by p)
 without_sync way p k before left held accounts f0 f1 g0 g1 stop.Read bad place cause_is more =
-    let none = none_printed way p k before left held accounts f0 f1 g0 g1 more in (cause_is refl, none.0, none.1)
+    let none = none_printed way p k before left held accounts f0 f1 g0 g1 more in ((cause_is refl, none.0, none.1), none.2)
 without_sync way p k before left held accounts f0 f1 g0 g1 stop.Memory bad place cause_is more =
-    full_before way p k _ _ _ (none_printed way p k before left held accounts f0 f1 g0 g1 more)
+    full_before way p k _ _ _ 0 (none_printed way p k before left held accounts f0 f1 g0 g1 more)
 
 pub no_sync : (way : Way) (p : Printer) (k : Table) {before left : Option (List ℕ)} (held : Option (List ℕ))
     (accounts : List Account) {f0 f1 : ℕ} (g0 g1 : ℕ) (why : StreamStop) (a : Answer)
@@ -221,13 +227,13 @@ pub no_sync : (way : Way) (p : Printer) (k : Table) {before left : Option (List 
     → stream want bytes ≡ record { pages = []; end = Fault page line cause }))
     → OnInput {T = PageReader} (Err why) (λ page line cause. (page ≡ 0) × (line ≡ 0))
     → (IsErrOf {T = PageReader} (Err why) stop.Read → Rose f0 f1) → UsesSome before left → a ≡ stream_answer why
-    → PrintOutcome way p k (record { before = before; now = left; faults_before = f0; faults_now = f1 })
+    → PrintedOutcome way p k (record { before = before; now = left; faults_before = f0; faults_now = f1 })
     (record { before = held; now = held; faults_before = g0; faults_now = g1 })
-    (record { before = accounts; now = accounts }) a
+    (record { before = accounts; now = accounts }) 0 a
 no_sync way p k {before} {left} held accounts {f0} {f1} g0 g1 why a bad place cause_is more is =
-    subst (PrintOutcome way p k (record { before = before; now = left; faults_before = f0; faults_now = f1 })
+    subst (PrintedOutcome way p k (record { before = before; now = left; faults_before = f0; faults_now = f1 })
     (record { before = held; now = held; faults_before = g0; faults_now = g1 })
-    (record { before = accounts; now = accounts })) (sym is)
+    (record { before = accounts; now = accounts }) 0) (sym is)
     (without_sync way p k before left held accounts f0 f1 g0 g1 why bad place cause_is more)
 
 -- the pages that were read are all, where the text is at its end
@@ -276,118 +282,132 @@ stream_faults {p = p} {before = before} {left = left} {old = old} so_far page li
 
 -- the same in a page
 in_page : (T : Type 0) (way : Way) (p : Printer) (k : Table) (before left left' held now : Option (List ℕ))
-    (meters : Meters) (old new : PageReader) (number f0 f1 f2 g0 g1 : ℕ) (why : StreamStop)
-    → CanPrintBy way p → (so_far : StreamSoFar way p k before left held now old number)
+    (meters : Meters) (old new : PageReader) (number pages f0 f1 f2 g0 g1 : ℕ) (why : StreamStop)
+    → CanPrintBy way p → (so_far : StreamSoFar way p k before left held now old number) → pages + 1 ≡ number
     → CountsPages p k meters so_far.done → OnInput {T = T} (Err why) (EndsSo (wanted_by p) old left)
     → OnInput {T = T} (Err why) (λ page line cause. page ≡ page_of old + 1)
     → f0 ≤ f1 → (IsErrOf {T = T} (Err why) stop.Read → Rose f1 f2) → UsesSome (text_of old left) (text_of new left')
-    → PrintOutcome way p k (record { before = before; now = left'; faults_before = f0; faults_now = f2 })
-    (record { before = held; now = now; faults_before = g0; faults_now = g1 }) meters (stream_answer why)
-in_page T way p k before left left' held now meters old new number f0 f1 f2 g0 g1
-    (stop.Input page line cause) can so_far counts bad place later cause_is more = (
-      record {
-        pages = so_far.done;
-        told = stream_faults so_far page line cause bad;
-        stand = omega (arith, place, so_far.many);
-        writes = so_far.written;
-        passes = passes_of way p k so_far.bytes so_far.done _ _ can so_far.is;
-      },
-      counts,
+    → PrintedOutcome way p k (record { before = before; now = left'; faults_before = f0; faults_now = f2 })
+    (record { before = held; now = now; faults_before = g0; faults_now = g1 }) meters pages (stream_answer why)
+in_page T way p k before left left' held now meters old new number pages f0 f1 f2 g0 g1
+    (stop.Input page line cause) can so_far next counts bad place later cause_is more = (
+      (
+        record {
+          pages = so_far.done;
+          told = stream_faults so_far page line cause bad;
+          stand = omega (arith, place, so_far.many);
+          writes = so_far.written;
+          passes = passes_of way p k so_far.bytes so_far.done _ _ can so_far.is;
+        },
+        counts,
+      ),
+      omega (arith, next, so_far.next),
     )
-in_page T way p k before left left' held now meters old new number f0 f1 f2 g0 g1 stop.Read can so_far counts bad place later cause_is more =
-    let some = some_printed way p k before left left' held now meters old new number f0 f2 g0 g1 can so_far counts more in
-    (rose_from f0 f1 f2 later (cause_is refl), some.0, some.1)
-in_page T way p k before left left' held now meters old new number f0 f1 f2 g0 g1 stop.Memory can so_far counts bad place later cause_is more =
-    full_before way p k _ _ _ (some_printed way p k before left left' held now meters old new number f0 f2 g0 g1 can so_far counts more)
+in_page T way p k before left left' held now meters old new number pages f0 f1 f2 g0 g1 stop.Read can so_far next counts bad place later cause_is more =
+    let some = some_printed way p k before left left' held now meters old new number pages f0 f2 g0 g1 can so_far next counts more in
+    ((rose_from f0 f1 f2 later (cause_is refl), some.0, some.1), some.2)
+in_page T way p k before left left' held now meters old new number pages f0 f1 f2 g0 g1 stop.Memory can so_far next counts bad place later cause_is more =
+    full_before way p k _ _ _ pages
+    (some_printed way p k before left left' held now meters old new number pages f0 f2 g0 g1 can so_far next counts more)
 
 -- the stream stops in its next page
 pub page_stopped : (T : Type 0) (way : Way) (p : Printer) (k : Table) {before left held now : Option (List ℕ)}
-    (left' : Option (List ℕ)) {meters : Meters} (old new : PageReader) (number : ℕ) {f0 f1 f2 : ℕ} (g0 g1 : ℕ) (why : StreamStop) (a : Answer)
-    → CanPrintBy way p → (so_far : StreamSoFar way p k before left held now old number)
+    (left' : Option (List ℕ)) {meters : Meters} (old new : PageReader) (number pages : ℕ) {f0 f1 f2 : ℕ} (g0 g1 : ℕ) (why : StreamStop) (a : Answer)
+    → CanPrintBy way p → (so_far : StreamSoFar way p k before left held now old number) → pages + 1 ≡ number
     → CountsPages p k meters so_far.done → OnInput {T = T} (Err why) (EndsSo (wanted_by p) old left)
     → OnInput {T = T} (Err why) (λ page line cause. page ≡ page_of old + 1)
     → f0 ≤ f1 → (IsErrOf {T = T} (Err why) stop.Read → Rose f1 f2) → UsesSome (text_of old left) (text_of new left')
     → a ≡ stream_answer why
-    → PrintOutcome way p k (record { before = before; now = left'; faults_before = f0; faults_now = f2 })
-    (record { before = held; now = now; faults_before = g0; faults_now = g1 }) meters a
-page_stopped T way p k {before} {left} {held} {now} left' {meters} old new number {f0} {f1} {f2} g0 g1 why a can so_far counts bad place later cause_is more is =
-    subst (PrintOutcome way p k (record { before = before; now = left'; faults_before = f0; faults_now = f2 })
-    (record { before = held; now = now; faults_before = g0; faults_now = g1 }) meters) (sym is)
-    (in_page T way p k before left left' held now meters old new number f0 f1 f2 g0 g1 why can so_far counts bad place later cause_is more)
+    → PrintedOutcome way p k (record { before = before; now = left'; faults_before = f0; faults_now = f2 })
+    (record { before = held; now = now; faults_before = g0; faults_now = g1 }) meters pages a
+page_stopped T way p k {before} {left} {held} {now} left' {meters} old new number pages {f0} {f1} {f2} g0 g1 why a can so_far next counts bad place later cause_is more is =
+    subst (PrintedOutcome way p k (record { before = before; now = left'; faults_before = f0; faults_now = f2 })
+    (record { before = held; now = now; faults_before = g0; faults_now = g1 }) meters pages) (sym is)
+    (in_page T way p k before left left' held now meters old new number pages f0 f1 f2 g0 g1 why can so_far next counts bad place later cause_is more)
 
 -- the stream ended
 pub stream_done : (way : Way) (p : Printer) (k : Table)
-    {before left left' held now : Option (List ℕ)} {meters : Meters} (old new : PageReader) (number f0 f2 g0 g1 : ℕ)
-    → CanPrintBy way p → (so_far : StreamSoFar way p k before left held now old number) → CountsPages p k meters so_far.done
+    {before left left' held now : Option (List ℕ)} {meters : Meters} (old new : PageReader) (number pages f0 f2 g0 g1 : ℕ)
+    → CanPrintBy way p → (so_far : StreamSoFar way p k before left held now old number) → pages + 1 ≡ number
+    → CountsPages p k meters so_far.done
     → IsAtEnd (text_of old left) → IsAtEnd (text_of new left') → UsesSome (text_of old left) (text_of new left')
-    → (all : PrintsAll way p k (record { before = before; now = left'; faults_before = f0; faults_now = f2 })
-    (record { before = held; now = now; faults_before = g0; faults_now = g1 }))
-    × CountsPages p k meters all.pages
-stream_done way p k {before} {left} {left'} {held} {now} {meters} old new number f0 f2 g0 g1 can so_far counts end end' more =
+    → PrintedOutcome way p k (record { before = before; now = left'; faults_before = f0; faults_now = f2 })
+    (record { before = held; now = now; faults_before = g0; faults_now = g1 }) meters pages answer.Done
+stream_done way p k {before} {left} {left'} {held} {now} {meters} old new number pages f0 f2 g0 g1 can so_far next counts end end' more =
     let is : stream (wanted_by p) so_far.bytes ≡ record { pages = so_far.done; end = Done } = bytes_end so_far in
     let P : List Page → Type 0 = AllByRecursion (IsPage (wanted_by p)) in
     let are : P so_far.done = subst P (ap (λ (s : Stream). s.pages) is) (stream-pages (wanted_by p) so_far.bytes) in (
-      record {
-        pages = so_far.done;
-        reads = record {
-          bytes = so_far.bytes;
-          taken = text_ended before (text_of old left) left' new.unread so_far.bytes so_far.used end more end';
-          end = left_end left' new.unread end';
-          is = is;
-        };
-        told = stream_ends so_far end;
-        writes = so_far.written;
-        prints = ways-print way p k so_far.done can.can can.go are;
-        passes = ways-keep way p k so_far.done can.can can.go are;
-      },
-      counts,
+      (
+        record {
+          pages = so_far.done;
+          reads = record {
+            bytes = so_far.bytes;
+            taken = text_ended before (text_of old left) left' new.unread so_far.bytes so_far.used end more end';
+            end = left_end left' new.unread end';
+            is = is;
+          };
+          told = stream_ends so_far end;
+          writes = so_far.written;
+          prints = ways-print way p k so_far.done can.can can.go are;
+          passes = ways-keep way p k so_far.done can.can can.go are;
+        },
+        counts,
+      ),
+      omega (arith, next, so_far.next),
     )
 
 -- a page was read, and a part of its job written
 pub page_not_written : (way : Way) (p : Printer) (k : Table) {before left held now now' : Option (List ℕ)}
-    {meters : Meters} (reader : PageReader) (number f0 f2 : ℕ) {g0 g1 g2 : ℕ} (page : Page)
-    → CanPrintBy way p → (read : StreamRead way p k before left held now reader number page) → CountsPages p k meters
-    (read.done ++ page ∷ []) → AppendsPart now now' (page_bytes_by way page p k) → g0 ≤ g1 → Rose g1 g2
-    → PrintOutcome way p k (record { before = before; now = left; faults_before = f0; faults_now = f2 })
-    (record { before = held; now = now'; faults_before = g0; faults_now = g2 }) meters (answer.Write number)
-page_not_written way p k {before} {left} {held} {now} {now'} {meters} reader number f0 f2 {g0} {g1} {g2} page can read counts part later rose = (
-  rose_from g0 g1 g2 later rose,
-  record {
-    pages = read.done;
-    page = page;
-    taken = taken_pages p before (text_of reader left) left reader.unread read.bytes (read.done ++ page ∷ [])
-        _ _ read.used read.is (record { bytes = []; is = Consumes-nil (text_of reader left) });
-    number_is = read.next;
-    between = now;
-    whole = read.written;
-    part = part;
-    passes = passes_of way p k read.bytes (read.done ++ page ∷ []) _ _ can read.is;
-  },
-  counts,
+    {meters : Meters} (reader : PageReader) (number pages f0 f2 : ℕ) {g0 g1 g2 : ℕ} (page : Page)
+    → CanPrintBy way p → (read : StreamRead way p k before left held now reader number page) → pages + 1 ≡ number
+    → CountsPages p k meters (read.done ++ page ∷ []) → AppendsPart now now' (page_bytes_by way page p k) → g0 ≤ g1 → Rose g1 g2
+    → PrintedOutcome way p k (record { before = before; now = left; faults_before = f0; faults_now = f2 })
+    (record { before = held; now = now'; faults_before = g0; faults_now = g2 }) meters pages (answer.Write number)
+page_not_written way p k {before} {left} {held} {now} {now'} {meters} reader number pages f0 f2 {g0} {g1} {g2} page can read next counts part later rose = (
+  (
+    rose_from g0 g1 g2 later rose,
+    record {
+      pages = read.done;
+      page = page;
+      taken = taken_pages p before (text_of reader left) left reader.unread read.bytes (read.done ++ page ∷ [])
+          _ _ read.used read.is (record { bytes = []; is = Consumes-nil (text_of reader left) });
+      number_is = read.next;
+      between = now;
+      whole = read.written;
+      part = part;
+      passes = passes_of way p k read.bytes (read.done ++ page ∷ []) _ _ can read.is;
+    },
+    counts,
+  ),
+  omega (arith, next, read.next),
 )
 
 -- a page was read, and nothing of its job was written
 pub page_without_room : (way : Way) (p : Printer) (k : Table) {before left held now now' : Option (List ℕ)}
-    {meters : Meters} (reader : PageReader) (number f0 f2 g0 g2 : ℕ) (page : Page)
-    → CanPrintBy way p → (read : StreamRead way p k before left held now reader number page) → CountsPages p k meters (read.done ++ page ∷ []) → Keeps now now'
-    → PrintOutcome way p k (record { before = before; now = left; faults_before = f0; faults_now = f2 })
-    (record { before = held; now = now'; faults_before = g0; faults_now = g2 }) meters answer.Memory
-page_without_room way p k {before} {left} {held} {now} {now'} {meters} reader number f0 f2 g0 g2 page can read counts kept =
+    {meters : Meters} (reader : PageReader) (number pages f0 f2 g0 g2 : ℕ) (page : Page)
+    → CanPrintBy way p → (read : StreamRead way p k before left held now reader number page) → pages + 1 ≡ number
+    → CountsPages p k meters (read.done ++ page ∷ []) → Keeps now now'
+    → PrintedOutcome way p k (record { before = before; now = left; faults_before = f0; faults_now = f2 })
+    (record { before = held; now = now'; faults_before = g0; faults_now = g2 }) meters pages answer.Memory
+page_without_room way p k {before} {left} {held} {now} {now'} {meters} reader number pages f0 f2 g0 g2 page can read next counts kept =
     let all = taken_pages p before (text_of reader left) left reader.unread read.bytes (read.done ++ page ∷ [])
     _ _ read.used read.is (record { bytes = []; is = Consumes-nil (text_of reader left) }) in (
-      record {
-        pages = read.done;
-        taken = record {
-          bytes = all.bytes;
-          taken = all.taken;
-          others = page ∷ all.others;
-          are = all.are ∙ append_assoc read.done (page ∷ []) all.others;
-        };
-        writes = appends_kept held now now' (job_bytes way p k read.done) read.written kept;
-        passes = first_passes way p k read.done (page ∷ [])
-            (passes_of way p k read.bytes (read.done ++ page ∷ []) _ _ can read.is);
-      },
-      inr (record { page = page; later = all.others; next = refl; pages_counted = counts }),
+      (
+        record {
+          pages = read.done;
+          taken = record {
+            bytes = all.bytes;
+            taken = all.taken;
+            others = page ∷ all.others;
+            are = all.are ∙ append_assoc read.done (page ∷ []) all.others;
+          };
+          writes = appends_kept held now now' (job_bytes way p k read.done) read.written kept;
+          passes = first_passes way p k read.done (page ∷ [])
+              (passes_of way p k read.bytes (read.done ++ page ∷ []) _ _ can read.is);
+        },
+        inr (record { page = page; later = all.others; next = refl; pages_counted = counts }),
+      ),
+      omega (arith, next, read.next),
     )
 
 -- the input begins with the pages that were read of it
@@ -404,39 +424,42 @@ begins p (Some xs) (Some ys) bytes pages most number uses is = (
 
 -- a page was read, and goes past a cap
 pub page_over : (way : Way) (p : Printer) (k : Table) {before left held now : Option (List ℕ)} {first last next : List Account}
-    (reader : PageReader) (number f0 f2 g0 g1 : ℕ) (page : Page) (n : InkCounts) (a : Answer)
-    → CanPrintBy way p → (read : StreamRead way p k before left held now reader number page)
+    (reader : PageReader) (number pages f0 f2 g0 g1 : ℕ) (page : Page) (n : InkCounts) (a : Answer)
+    → CanPrintBy way p → (read : StreamRead way p k before left held now reader number page) → pages + 1 ≡ number
     → CountsPages p k (record { before = first; now = last }) read.done
     → n ≡ page_dots page p k → RefusesPage number n last a → next ≡ last
-    → PrintOutcome way p k (record { before = before; now = left; faults_before = f0; faults_now = f2 })
+    → PrintedOutcome way p k (record { before = before; now = left; faults_before = f0; faults_now = f2 })
     (record { before = held; now = now; faults_before = g0; faults_now = g1 })
-    (record { before = first; now = next }) a
-page_over way p k {before} {left} {held} {now} {first} {last} {next} reader number f0 f2 g0 g1 page n a can read counts are refuses kept =
-    let S : Answer → Type 0 = λ b. PrintOutcome way p k (record {
+    (record { before = first; now = next }) pages a
+page_over way p k {before} {left} {held} {now} {first} {last} {next} reader number pages f0 f2 g0 g1 page n a can read so_many counts are refuses kept =
+    let S : Answer → Type 0 = λ b. PrintedOutcome way p k (record {
       before = before;
       now = left;
       faults_before = f0;
       faults_now = f2;
     }) (record { before = held; now = now; faults_before = g0; faults_now = g1 })
-    (record { before = first; now = next }) b in
+    (record { before = first; now = next }) pages b in
     let over : OverCap = record { index = refuses.index; total = refuses.total; cap = refuses.cap } in
     let F : InkCounts → Type 0 = λ m. IsFirstOver last m over in
     let M : List Account → Type 0 = λ accounts. IsFirstOver accounts (page_dots page p k) over in
-    subst S (sym refuses.is) (record {
-      pages = read.done;
-      page = page;
-      taken = taken_pages p before (text_of reader left) left reader.unread read.bytes (read.done ++ page ∷ [])
-          _ _ read.used read.is (record { bytes = []; is = Consumes-nil (text_of reader left) });
-      told = begins p before (text_of reader left) read.bytes (read.done ++ page ∷ []) _ _ read.used read.is;
-      number_is = read.next;
-      writes = read.written;
-      passes = first_passes way p k read.done (page ∷ [])
-          (passes_of way p k read.bytes (read.done ++ page ∷ []) _ _ can read.is);
-      pages_counted = record { admitted = counts.admitted; counts = kept ∙ counts.counts };
-      index = refuses.index;
-      first = subst M (sym kept) (subst F are refuses.first);
-      dots_are = ap all_inks are;
-    })
+    subst S (sym refuses.is) (
+      (record {
+        pages = read.done;
+        page = page;
+        taken = taken_pages p before (text_of reader left) left reader.unread read.bytes (read.done ++ page ∷ [])
+            _ _ read.used read.is (record { bytes = []; is = Consumes-nil (text_of reader left) });
+        told = begins p before (text_of reader left) read.bytes (read.done ++ page ∷ []) _ _ read.used read.is;
+        number_is = read.next;
+        writes = read.written;
+        passes = first_passes way p k read.done (page ∷ [])
+            (passes_of way p k read.bytes (read.done ++ page ∷ []) _ _ can read.is);
+        pages_counted = record { admitted = counts.admitted; counts = kept ∙ counts.counts };
+        index = refuses.index;
+        first = subst M (sym kept) (subst F are refuses.first);
+        dots_are = ap all_inks are;
+      }),
+      omega (arith, so_many, read.next),
+    )
 
 -- the bytes of a page are those of its halftone
 pub page-bytes-is : (way : Way) (p : Printer) (k : Table) (page : Page) (form : PageForm)

@@ -100,6 +100,24 @@ PrintOutcome way p k input out meters (answer.Usage fault) = ⊥
 PrintOutcome way p k input out meters (answer.Profile line cause) = ⊥
 PrintOutcome way p k input out meters (answer.Job offset cause) = ⊥
 
+-- how many pages were written whole
+abbrev pub pages_written : (way : Way) (p : Printer) (k : Table) (input out : Outside) (meters : Meters) (a : Answer)
+    → PrintOutcome way p k input out meters a → ℕ
+pages_written way p k input out meters answer.Done does = length does.0.pages
+pages_written way p k input out meters (answer.Input page line cause) does = length does.0.pages
+pages_written way p k input out meters answer.Read does = length does.1.pages
+pages_written way p k input out meters (answer.Write number) does = length does.1.pages
+pages_written way p k input out meters (answer.OverCap number total dots cap) does = length does.pages
+pages_written way p k input out meters answer.Memory does = length does.0.pages
+pages_written way p k input out meters (answer.Usage fault) does = 0
+pages_written way p k input out meters (answer.Profile line cause) does = 0
+pages_written way p k input out meters (answer.Job offset cause) does = 0
+
+-- the same, where so many pages were written whole
+abbrev pub PrintedOutcome : Way → Printer → Table → Outside → Outside → Meters → ℕ → Answer → Type 0
+PrintedOutcome way p k input out meters pages a =
+    (does : PrintOutcome way p k input out meters a) × (pages_written way p k input out meters a does ≡ pages)
+
 -- ---- answers
 
 -- the answer where the stream stops

@@ -1,7 +1,7 @@
 //! Printing the pages of a stream.
 ghost use Rattle.diffusion_kernel.specs.Tables.{table_of};
 ghost use Rattle.driver_core.specs.Outside.{meters_of, outside_of};
-ghost use Rattle.driver_core.specs.Printing.Outcome.{PrintOutcome, stream_answer as stream_answer_of};
+ghost use Rattle.driver_core.specs.Printing.Outcome.{PrintedOutcome, stream_answer as stream_answer_of};
 ghost use Rattle.driver_core.specs.Runs.Fitting.{way_of};
 ghost use Rattle.driver_core.specs.Runs.Outcome.{answer_of};
 ghost use Rattle.page_definitions.specs.Ways.{CanGo};
@@ -34,7 +34,7 @@ pub fn stream_answer(stop: StreamStop) -> Answer
 }
 
 /// Prints the pages of the input, each once it is read to its last line and every meter has room for it. The team
-/// diffuses each slab. `Err` is the answer where printing stops.
+/// diffuses each slab. `pages` becomes how many were written whole. `Err` is the answer where printing stops.
 pub fn print_pages<R: Threads + Sync, S: Source, K: Sink, G: Gate + Sync>(
     team: &Team<'_, R, G>,
     alloc: Global,
@@ -43,15 +43,17 @@ pub fn print_pages<R: Threads + Sync, S: Source, K: Sink, G: Gate + Sync>(
     input: &mut S,
     out: &mut K,
     meters: &mut Vec<Box<dyn Meter>>,
+    pages: &mut u32,
 ) -> Result<(), Answer>
     requires checked { IsOk (check profile.now) }
     requires way { CanGo (way_of job.now) profile.now }
-    ensures { PrintOutcome (way_of job.now) profile.now (table_of job.now.kernel)
+    ensures { PrintedOutcome (way_of job.now) profile.now (table_of job.now.kernel)
         (outside_of S.left S.faults input.old input.new)
         (outside_of K.held K.faults out.old out.new)
-        (meters_of (λ meter. account meter) meters.old.items meters.new.items) (answer_of result) }
+        (meters_of (λ meter. account meter) meters.old.items meters.new.items) pages.new (answer_of result) }
 {
     prove!(profile.nozzles <= 255);
+    *pages = 0;
     let mut reader = match PageReader::begin(alloc, input) {
         Ok(reader) => reader,
         Err(stop) => return Err(stream_answer(stop)),
@@ -66,7 +68,7 @@ pub fn print_pages<R: Threads + Sync, S: Source, K: Sink, G: Gate + Sync>(
         match write_by_way(alloc, profile, job, page.form, &page.planes, out) {
             Err(WriteStop::Write) => return Err(Answer::Write { page: number }),
             Err(WriteStop::Memory) => return Err(Answer::Memory),
-            Ok(_) => {}
+            Ok(_) => *pages = number,
         }
     }
     unreachable!()

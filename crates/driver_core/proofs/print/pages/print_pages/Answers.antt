@@ -23,6 +23,7 @@ pub pages-init : goal.pages-init
 pages-init g c = record {
   stream = metered_begin c.in-Ok.reader c.in-Ok.ensures.sync c.in-Ok.ensures.none.0
       (record { whole = c.in-Ok.ensures.none.1; going = c.in-Ok.ensures.going }) c.in-Ok.ensures.none.2;
+  whole = omega arith;
   read_later = c.begin.ensures.later;
   written_later = omega arith;
 }
@@ -30,21 +31,21 @@ pages-init g c = record {
 pub returns-in-Err-read_page : goal.returns-in-Err-read_page
 returns-in-Err-read_page g c =
     page_stopped (Option HalftonedPage) (way_of c.args.job.now) c.args.profile.now (table_of c.args.job.now.kernel)
-    _ c.pages.reader c.read_page.new.reader c.pages.number _ _ c.in-Err-read_page.stop
+    _ c.pages.reader c.read_page.new.reader c.pages.number c.pages.pages _ _ c.in-Err-read_page.stop
     c.stream_answer-in-Err-read_page.result (can_go c.args.profile.now (way_of c.args.job.now)
     (subst (λ (p : Printer). p.nozzles ≤ 255) c.profile.view_is (omega (arith, c.if-prove.false))) c.requires.checked c.requires.way)
-    c.pages.invariant.stream.0 c.pages.invariant.stream.1
+    c.pages.invariant.stream.0 c.pages.invariant.whole c.pages.invariant.stream.1
     c.in-Err-read_page.ensures.input c.in-Err-read_page.ensures.place c.pages.invariant.read_later c.in-Err-read_page.ensures.read c.read_page.ensures.used
     c.stream_answer-in-Err-read_page.ensures
 
 pub returns-in-Ok-None : goal.returns-in-Ok-None
 returns-in-Ok-None g c =
     let end = rw c.in-Ok-None.field-0-is at c.in-Ok-None.ensures.none in
-    stream_done (way_of c.args.job.now) c.args.profile.now (table_of c.args.job.now.kernel) c.pages.reader c.read_page.new.reader c.pages.number
+    stream_done (way_of c.args.job.now) c.args.profile.now (table_of c.args.job.now.kernel) c.pages.reader c.read_page.new.reader c.pages.number c.pages.pages
     (g.S.Source.faults c.args.input.now) (g.S.Source.faults c.read_page.new.s) (g.K.Sink.faults c.args.out.now)
     (g.K.Sink.faults c.pages.out) (can_go c.args.profile.now (way_of c.args.job.now)
     (subst (λ (p : Printer). p.nozzles ≤ 255) c.profile.view_is (omega (arith, c.if-prove.false))) c.requires.checked c.requires.way)
-    c.pages.invariant.stream.0 c.pages.invariant.stream.1 end.0 end.1 c.read_page.ensures.used
+    c.pages.invariant.stream.0 c.pages.invariant.whole c.pages.invariant.stream.1 end.0 end.1 c.read_page.ensures.used
 
 pub write_by_way-requires-clause-wanted : goal.write_by_way-requires-clause-wanted
 write_by_way-requires-clause-wanted g c =
@@ -79,10 +80,10 @@ returns-in-Err-Write g c =
     let counts = one_counted p k _ _ _ _ page c.count_dots.result are read.1 c.in_ok-charge.ensures.room c.in_ok-charge.ensures.counted in
     let part = rw (page-bytes-is way p k page c.in-Ok-Some.page.form halftoned.form_is) at
     (c.in-Err-Write.ensures.part (halftone page p k) halftoned.dots (ap Err c.in-Err-Write.field-0-is)) in
-    page_not_written way p k c.read_page.new.reader c.pages.number
+    page_not_written way p k c.read_page.new.reader c.pages.number c.pages.pages
     (g.S.Source.faults c.args.input.now) (g.S.Source.faults c.read_page.new.s) page
     (can_go c.args.profile.now (way_of c.args.job.now)
-    (subst (λ (p : Printer). p.nozzles ≤ 255) c.profile.view_is (omega (arith, c.if-prove.false))) c.requires.checked c.requires.way) read.0 counts part c.pages.invariant.written_later (c.in-Err-Write.ensures.write (ap Err c.in-Err-Write.field-0-is))
+    (subst (λ (p : Printer). p.nozzles ≤ 255) c.profile.view_is (omega (arith, c.if-prove.false))) c.requires.checked c.requires.way) read.0 c.pages.invariant.whole counts part c.pages.invariant.written_later (c.in-Err-Write.ensures.write (ap Err c.in-Err-Write.field-0-is))
 
 pub returns-in-Err-Memory : goal.returns-in-Err-Memory
 returns-in-Err-Memory g c =
@@ -95,11 +96,11 @@ returns-in-Err-Memory g c =
     let are = c.count_dots.ensures.dots p (halftone halftoned.page p k) (ap (λ (q : Printer). q.inks) (sym c.profile.view_is)) halftoned.dots ∙ page_dots-is p k halftoned.page in
     let counts = one_counted p k _ _ _
     _ halftoned.page c.count_dots.result are read.1 c.in_ok-charge.ensures.room c.in_ok-charge.ensures.counted in
-    page_without_room way p k c.read_page.new.reader c.pages.number
+    page_without_room way p k c.read_page.new.reader c.pages.number c.pages.pages
     (g.S.Source.faults c.args.input.now) (g.S.Source.faults c.read_page.new.s)
     (g.K.Sink.faults c.args.out.now) (g.K.Sink.faults c.write_by_way.new.out) halftoned.page
     (can_go c.args.profile.now (way_of c.args.job.now)
-    (subst (λ (p : Printer). p.nozzles ≤ 255) c.profile.view_is (omega (arith, c.if-prove.false))) c.requires.checked c.requires.way) read.0 counts (c.in-Err-Memory.ensures.memory (ap Err c.in-Err-Memory.field-0-is))
+    (subst (λ (p : Printer). p.nozzles ≤ 255) c.profile.view_is (omega (arith, c.if-prove.false))) c.requires.checked c.requires.way) read.0 c.pages.invariant.whole counts (c.in-Err-Memory.ensures.memory (ap Err c.in-Err-Memory.field-0-is))
 
 pub pages-preserved : goal.pages-preserved
 pages-preserved g c =
@@ -115,6 +116,7 @@ pages-preserved g c =
     record {
       stream = metered_written way p k c.read_page.new.reader c.pages.number page read.0 counts
           (rw (page-bytes-is way p k page c.in-Ok-Some.page.form halftoned.form_is) at (c.in-Ok-write_by_way.ensures.ok (halftone page p k) halftoned.dots));
+      whole = omega arith;
       read_later = omega (arith, c.pages.invariant.read_later, c.read_page.ensures.later);
       written_later = omega (arith, c.pages.invariant.written_later, c.write_by_way.ensures.later);
     }
@@ -130,8 +132,8 @@ returns-in_err-charge g c =
     page c.pages.invariant.stream halftoned.reads (rw c.in-Ok-Some.field-0-is at c.in-Ok-Some.ensures.between) in
     let are = c.count_dots.ensures.dots p (halftone page p k) (ap (λ (q : Printer). q.inks) (sym c.profile.view_is)) halftoned.dots ∙ page_dots-is p k page in
     let error = err_from_is_err_and c.from_residual.result c.from_residual.ensures.1 in
-    rw (error.1, error.2) (page_over way p k c.read_page.new.reader c.pages.number
+    rw (error.1, error.2) (page_over way p k c.read_page.new.reader c.pages.number c.pages.pages
     (g.S.Source.faults c.args.input.now) (g.S.Source.faults c.read_page.new.s) (g.K.Sink.faults c.args.out.now)
     (g.K.Sink.faults c.pages.out) page c.count_dots.result c.in_err-charge.field-0.0
     (can_go c.args.profile.now (way_of c.args.job.now)
-    (subst (λ (p : Printer). p.nozzles ≤ 255) c.profile.view_is (omega (arith, c.if-prove.false))) c.requires.checked c.requires.way) read.0 read.1 are c.in_err-charge.ensures.over c.in_err-charge.ensures.kept)
+    (subst (λ (p : Printer). p.nozzles ≤ 255) c.profile.view_is (omega (arith, c.if-prove.false))) c.requires.checked c.requires.way) read.0 c.pages.invariant.whole read.1 are c.in_err-charge.ensures.over c.in_err-charge.ensures.kept)

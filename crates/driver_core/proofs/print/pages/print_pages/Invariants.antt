@@ -1,4 +1,4 @@
-use Rattle.std.proofs.Common.{◌≤◌}
+use Rattle.std.proofs.Common.{◌≡◌, ◌+◌, ◌≤◌}
 use Rattle.diffusion_kernel.specs.Tables.{table_of}
 use Rattle.driver_core.specs.Outside.{meters_of}
 use Rattle.driver_core.specs.Runs.Fitting.{way_of}
@@ -11,6 +11,7 @@ invariant-pages g l = record {
       (g.S.Source.left l.fn.input) (g.S.Source.left l.input) (g.K.Sink.held l.fn.out) (g.K.Sink.held l.out)
       (meters_of (λ m. (goal.Meter-dyn g (m.vtable, m.value)).account m.value) l.fn.meters.items l.meters.items)
       l.reader l.number;
+  whole : l.pages + 1 ≡ l.number;
   read_later : g.S.Source.faults l.fn.input ≤ g.S.Source.faults l.input;
   written_later : g.K.Sink.faults l.fn.out ≤ g.K.Sink.faults l.out;
 }

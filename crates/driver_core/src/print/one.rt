@@ -1,0 +1,78 @@
+//! Printing one stream.
+ghost use Rattle.diffusion_kernel.specs.Tables.{table_of};
+ghost use Rattle.driver_answer.specs.Answers.{status_of};
+ghost use Rattle.driver_core.specs.Outside.{IsCalm, meters_of, outside_of};
+ghost use Rattle.driver_core.specs.Printing.One.{IsCapped, IsFaulty, IsValid};
+ghost use Rattle.driver_core.specs.Printing.Outcome.{PrintedOutcome};
+ghost use Rattle.driver_core.specs.Runs.Fitting.{way_of};
+ghost use Rattle.driver_core.specs.Runs.Prepared.{CanBePrinted};
+ghost use Rattle.std.specs.Prelude.{◌⊎◌, ◌≡◌};
+
+use crate::answers::answer_to;
+use crate::print::print_pages;
+use driver_answer::Answer;
+use ink_meter::Meter;
+use job_words::Job;
+use printer_profile::Profile;
+use std::alloc::Global;
+use std::thread::Threads;
+use wavefront_team::{Gate, Team};
+use weave_base::{Sink, Source};
+
+/// How the printing of a stream ended, and how many of its pages were written whole.
+#[derive(Clone, Copy, Debug, PartialEq, Eq)]
+pub struct Printed {
+    pub answer: Answer,
+    pub pages: u32,
+}
+
+/// Prints the pages of one stream (PWG Raster, PWG 5102.4) by a profile, as `run` does once its words and its profile
+/// are accepted: `job` says by which kernel, with how many workers, and in which way the head goes over a page; its other
+/// words are not looked at. A page is written once it is read to its last line and every meter has room for it.
+///
+/// The answer is never `Usage`, `Profile` or `Job`. Where memory runs out it is `Memory`.
+pub fn print_one<R: Threads + Sync, S: Source, K: Sink, G: Gate + Sync>(
+    threads: &R,
+    alloc: Global,
+    job: &Job,
+    profile: &Profile,
+    input: &mut S,
+    out: &mut K,
+    gate: &G,
+    meters: &mut Vec<Box<dyn Meter>>,
+) -> Printed
+    requires { CanBePrinted job.now profile.now }
+    ensures outcome { PrintedOutcome (way_of job.now) profile.now (table_of job.now.kernel)
+        (outside_of S.left S.faults input.old input.new)
+        (outside_of K.held K.faults out.old out.new)
+        (meters_of (λ meter. account meter) meters.old.items meters.new.items) result.pages result.answer }
+    // Where nothing outside fails, a valid stream is printed, a faulty one refused, and a page that goes past a cap
+    // too, unless memory runs out.
+    ensures valid { IsValid profile.now (table_of job.now.kernel)
+        (outside_of S.left S.faults input.old input.new)
+        (meters_of (λ meter. account meter) meters.old.items meters.new.items)
+        → IsCalm (outside_of S.left S.faults input.old input.new) → IsCalm (outside_of K.held K.faults out.old out.new)
+        → (status_of result.answer ≡ 0) ⊎ (status_of result.answer ≡ 7) }
+    ensures refused { IsFaulty profile.now (table_of job.now.kernel)
+        (outside_of S.left S.faults input.old input.new)
+        (meters_of (λ meter. account meter) meters.old.items meters.new.items)
+        → IsCalm (outside_of S.left S.faults input.old input.new) → IsCalm (outside_of K.held K.faults out.old out.new)
+        → (status_of result.answer ≡ 3) ⊎ (status_of result.answer ≡ 7) }
+    ensures capped { IsCapped profile.now (table_of job.now.kernel)
+        (outside_of S.left S.faults input.old input.new)
+        (meters_of (λ meter. account meter) meters.old.items meters.new.items)
+        → IsCalm (outside_of S.left S.faults input.old input.new) → IsCalm (outside_of K.held K.faults out.old out.new)
+        → (status_of result.answer ≡ 6) ⊎ (status_of result.answer ≡ 7) }
+{
+    let team = Team {
+        threads,
+        workers: job.workers,
+        gate,
+    };
+    let mut pages = 0;
+    let printed = print_pages(&team, alloc, profile, job, input, out, meters, &mut pages);
+    Printed {
+        answer: answer_to(printed),
+        pages,
+    }
+}
