@@ -1,98 +1,104 @@
 //! Pixels of one bit.
 ghost use Rattle.base_definitions.specs.Packed.{bit_at, worth};
-ghost use Rattle.std.specs.Prelude.{length, slice_index, ℕ, ◌%◌, ◌*◌, ◌+◌, ◌/◌, ◌<◌, ◌==◌, ◌≡◌, ◌≤◌};
+ghost use Rattle.std.specs.Prelude.{length, slice_index, ℕ, ◌%◌, ◌*◌, ◌+◌, ◌-◌, ◌/◌, ◌<◌, ◌^◌, ◌≡◌, ◌≢◌, ◌≤◌};
 
 use crate::pixels::{PIXELS, Values};
 
-// How many pixels nine bytes have: 64 and up to seven before them.
-const SPREAD: usize = 72;
+// The masks of 64 pixels, for each of the eight bits of a byte that may be the first pixel.
+const MASKS: usize = 8 * PIXELS;
 
-// 255 where the byte has the bit of this value, else 0.
-fn full_where(byte: u8, value: u8) -> u8
-    requires { 1 ≤ value }
-    ensures { result ≡ 255 * worth ((byte / value) % 2 == 1) 1 }
-{
-    if byte / value % 2 == 1 { 255 } else { 0 }
-}
-
-// The eight pixels of a byte, the first in its highest bit: 255 for 1, 0 for 0.
-fn eight(byte: u8) -> [u8; 8]
-    ensures { (k : ℕ) → k < 8 → slice_index result k ≡ 255 * worth (bit_at byte k) 1 }
-{
-    [
-        full_where(byte, 128),
-        full_where(byte, 64),
-        full_where(byte, 32),
-        full_where(byte, 16),
-        full_where(byte, 8),
-        full_where(byte, 4),
-        full_where(byte, 2),
-        full_where(byte, 1),
-    ]
-}
-
-// The first nine bytes, or all where there are fewer.
-#[inline(always)]
-fn nine_of(bytes: &[u8]) -> [u8; 9]
-    ensures { (n : ℕ) → n < 9 → n < length bytes.now → slice_index result n ≡ slice_index bytes.now n }
+// Fewer than nine bytes, and zeros after them.
+fn padded(bytes: &[u8]) -> [u8; 9]
+    requires { length bytes.now < 9 }
+    ensures { (n : ℕ) → n < length bytes.now → slice_index result n ≡ slice_index bytes.now n }
 {
     let mut nine = [0; 9];
-    if bytes.len() >= 9 {
-        nine.copy_from_slice(&bytes[..9]);
-    } else {
-        nine[..bytes.len()].copy_from_slice(bytes);
-    }
+    nine[..bytes.len()].copy_from_slice(bytes);
     nine
 }
 
-// The pixels of each byte, byte by byte.
-fn pixels_of_bytes() -> [u8; 2048]
-    ensures { (x : ℕ) → x < 2048 → slice_index result x ≡ 255 * worth (bit_at (x / 8) (x % 8)) 1 }
+// Each of the first 32 values twice.
+#[inline(always)]
+fn doubled(values: &Values) -> Values
+    ensures { (x : ℕ) → x < 64 → slice_index result x ≡ slice_index values.now (x / 2) }
 {
-    let mut pixels = [0; 2048];
-    for byte in 0..256usize {
-        pixels[8 * byte..8 * byte + 8].copy_from_slice(&eight(byte as u8));
+    let mut twice = [0; PIXELS];
+    for i in 0..PIXELS / 2 {
+        twice[2 * i] = values[i];
+        twice[2 * i + 1] = values[i];
     }
-    pixels
+    twice
 }
 
-/// The pixels of each byte in a table, made once for many lines.
+// Each of eight bytes from place `first` on eight times. Doubling becomes vectors; a loop over x / 8 would not.
+#[inline(always)]
+fn eightfold(bytes: &[u8], first: usize) -> Values
+    requires { first + 8 ≤ length bytes.now }
+    ensures { (x : ℕ) → x < 64 → slice_index result x ≡ slice_index bytes.now (first + x / 8) }
+{
+    let mut values = [0; PIXELS];
+    values[..8].copy_from_slice(&bytes[first..first + 8]);
+    doubled(&doubled(&doubled(&values)))
+}
+
+// 255 where one of these bits is 1, else 0.
+#[inline(always)]
+fn full_where(bits: u8) -> u8
+    ensures none { bits ≡ 0 → result ≡ 0 }
+    ensures some { bits ≢ 0 → result ≡ 255 }
+{
+    if bits == 0 { 0 } else { 255 }
+}
+
+// The bit of each pixel in two bytes, where the first pixel is bit i / 64 of the first byte: that of the first byte is
+// the quotient by 256, that of the second one the rest.
+fn masks(divisor: u16) -> [u8; MASKS]
+    requires { 1 ≤ divisor }
+    ensures { (i : ℕ) → i < 512 → slice_index result i ≡ 2 ^ 15 / 2 ^ (i / 64 + i % 8) / divisor % 256 }
+{
+    let mut masks = [0; MASKS];
+    for i in 0..MASKS {
+        let bit = 0x8000u16 >> (i / PIXELS + i % 8);
+        masks[i] = (bit / divisor % 256) as u8;
+    }
+    masks
+}
+
+/// Which bit of its byte, or of the byte after it, each pixel is: made once for many lines.
 #[derive(Drop)]
-pub(crate) struct Eights {
-    pixels: [u8; 2048],
-    ghost made: { (x : ℕ) → x < 2048 → slice_index pixels x ≡ 255 * worth (bit_at (x / 8) (x % 8)) 1 },
+pub(crate) struct BitMasks {
+    here: [u8; MASKS],
+    next: [u8; MASKS],
+    ghost here_is: { (i : ℕ) → i < 512 → slice_index here i ≡ 2 ^ 15 / 2 ^ (i / 64 + i % 8) / 256 % 256 },
+    ghost next_is: { (i : ℕ) → i < 512 → slice_index next i ≡ 2 ^ 15 / 2 ^ (i / 64 + i % 8) / 1 % 256 },
 }
 
-impl Eights {
-    /// The table.
-    pub(crate) fn make() -> Eights {
-        Eights {
-            pixels: pixels_of_bytes(),
+impl BitMasks {
+    /// The masks.
+    pub(crate) fn make() -> BitMasks {
+        BitMasks {
+            here: masks(256),
+            next: masks(1),
         }
     }
 
-    // The eight pixels of a byte.
+    // The 64 pixels of nine bytes from bit `first` on.
     #[inline(always)]
-    fn of(&self, byte: u8) -> [u8; 8]
-        ensures { (k : ℕ) → k < 8 → slice_index result k ≡ 255 * worth (bit_at byte k) 1 }
+    fn pixels(&self, nine: &[u8], first: usize) -> Values
+        requires first { first < 8 }
+        requires nine { length nine.now ≡ 9 }
+        ensures { (x : ℕ) → x < 64 → slice_index result x
+            ≡ 255 * worth (bit_at (slice_index nine.now ((first + x) / 8)) ((first + x) % 8)) 1 }
     {
-        let first = 8 * usize::from(byte);
-        let mut eight = [0; 8];
-        eight.copy_from_slice(&self.pixels[first..first + 8]);
-        eight
-    }
-
-    // The pixels of nine bytes.
-    #[inline(always)]
-    fn spread(&self, bytes: &[u8; 9]) -> [u8; SPREAD]
-        ensures { (x : ℕ) → x < 72
-            → slice_index result x ≡ 255 * worth (bit_at (slice_index bytes.now (x / 8)) (x % 8)) 1 }
-    {
-        let mut pixels = [0; SPREAD];
-        for n in 0..9usize {
-            pixels[8 * n..8 * n + 8].copy_from_slice(&self.of(bytes[n]));
+        let here = eightfold(nine, 0);
+        let next = eightfold(nine, 1);
+        let start = PIXELS * first;
+        let mut values = [0; PIXELS];
+        for x in 0..PIXELS {
+            let bits = here[x] & self.here[start + x] | next[x] & self.next[start + x];
+            values[x] = full_where(bits);
         }
-        pixels
+        values
     }
 
     /// The first `many` pixels from bit `first` of the bytes on: 255 for 1, 0 for 0.
@@ -104,12 +110,11 @@ impl Eights {
         ensures { (x : ℕ) → x < many → slice_index result x
             ≡ 255 * worth (bit_at (slice_index bytes.now ((first + x) / 8)) ((first + x) % 8)) 1 }
     {
-        let pixels = self.spread(&nine_of(bytes));
-        let mut values = [0; PIXELS];
-        for x in 0..PIXELS {
-            values[x] = pixels[first + x];
+        if bytes.len() >= 9 {
+            self.pixels(&bytes[..9], first)
+        } else {
+            self.pixels(&padded(bytes), first)
         }
-        values
     }
 }
 

@@ -16,7 +16,7 @@ ghost use Rattle.separation_definitions.specs.declared.window.Window.{Window};
 ghost use Rattle.std.specs.Prelude.{IsOk, Some, length, slice_get, slice_index, ℕ, ◌%◌, ◌*◌, ◌+◌, ◌/◌};
 ghost use Rattle.std.specs.Prelude.{◌<◌, ◌≡◌, ◌≢◌, ◌≤◌, ◌⊎◌};
 
-use crate::bits::{Eights, chosen};
+use crate::bits::{BitMasks, chosen};
 use crate::black::BlackScale;
 use crate::given::{Given, colour_given, four_given, full_given, grey_given};
 use crate::pixels::{PIXELS, Values, inverted, same};
@@ -36,7 +36,7 @@ pub struct Separator {
     kind: Kind,
     window: Window,
     inks: InkSet,
-    eights: Eights,
+    masks: BitMasks,
     black: BlackScale,
     scales: Scales,
 }
@@ -51,7 +51,7 @@ impl Separator {
             kind,
             window,
             inks: p.inks,
-            eights: Eights::make(),
+            masks: BitMasks::make(),
             black: BlackScale::make(p),
             scales: Scales::make(p),
         }
@@ -142,7 +142,7 @@ impl Separator {
         ensures { (k : ℕ) → k < many → slice_index result k
             ≡ 255 * worth (bit_at (slice_index line.now ((first + k) / 8)) ((first + k) % 8)) 1 }
     {
-        self.eights.bits_of(&line[first / 8..], first % 8, many)
+        self.masks.bits_of(&line[first / 8..], first % 8, many)
     }
 
     // Sets the amounts of each ink in row `at` from column x on from `many` pixels of one bit. An ink has but two
