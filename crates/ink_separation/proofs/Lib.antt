@@ -1,4 +1,4 @@
-pub mod BitMasks
+pub mod BitPixels
 pub mod BlackScales
 pub mod ByInk
 pub mod Chunks

@@ -1,44 +1,59 @@
 //! Pixels of one bit.
 ghost use Rattle.base_definitions.specs.Packed.{bit_at, worth};
+ghost use Rattle.std.specs.Int.RustNames.{bit_and};
 ghost use Rattle.std.specs.Prelude.{length, slice_index, ℕ, ◌%◌, ◌*◌, ◌+◌, ◌-◌, ◌/◌, ◌<◌, ◌^◌, ◌≡◌, ◌≢◌, ◌≤◌};
 
 use crate::pixels::{PIXELS, Values};
+use std::simd::prelude::*;
 
-// The masks of 64 pixels, for each of the eight bits of a byte that may be the first pixel.
-const MASKS: usize = 8 * PIXELS;
+// The byte of each of 72 pixels: 64 of them, and up to seven before these in the first byte.
+const BYTES: [u8; 72] = [
+    0, 0, 0, 0, 0, 0, 0, 0, 1, 1, 1, 1, 1, 1, 1, 1, 2, 2, 2, 2, 2, 2, 2, 2, 3, 3, 3, 3, 3, 3, 3, 3,
+    4, 4, 4, 4, 4, 4, 4, 4, 5, 5, 5, 5, 5, 5, 5, 5, 6, 6, 6, 6, 6, 6, 6, 6, 7, 7, 7, 7, 7, 7, 7, 7,
+    8, 8, 8, 8, 8, 8, 8, 8,
+];
 
-// Fewer than nine bytes, and zeros after them.
-fn padded(bytes: &[u8]) -> [u8; 9]
-    requires { length bytes.now < 9 }
-    ensures { (n : ℕ) → n < length bytes.now → slice_index result n ≡ slice_index bytes.now n }
+// The bit of each of them in its byte.
+const BITS: [u8; 72] = [
+    128, 64, 32, 16, 8, 4, 2, 1, 128, 64, 32, 16, 8, 4, 2, 1, 128, 64, 32, 16, 8, 4, 2, 1, 128, 64,
+    32, 16, 8, 4, 2, 1, 128, 64, 32, 16, 8, 4, 2, 1, 128, 64, 32, 16, 8, 4, 2, 1, 128, 64, 32, 16,
+    8, 4, 2, 1, 128, 64, 32, 16, 8, 4, 2, 1, 128, 64, 32, 16, 8, 4, 2, 1,
+];
+
+// Sixteen numbers of a table from place `first` on.
+#[inline(always)]
+fn sixteen_of(table: &[u8; 72], first: usize) -> u8x16
+    requires { first ≤ 56 }
+    ensures len { length result ≡ 16 }
+    ensures lanes { (k : ℕ) → k < 16 → slice_index result k ≡ slice_index table.now (first + k) }
 {
-    let mut nine = [0; 9];
-    nine[..bytes.len()].copy_from_slice(bytes);
-    nine
+    u8x16::from_slice(&table[first..])
 }
 
-// Each of the first 32 values twice.
+// The bits of sixteen pixels from pixel `first` of the bytes on, each where it is in its byte.
 #[inline(always)]
-fn doubled(values: &Values) -> Values
-    ensures { (x : ℕ) → x < 64 → slice_index result x ≡ slice_index values.now (x / 2) }
+fn sixteen_bits(bytes: u8x16, first: usize) -> [u8; 16]
+    requires { first ≤ 56 }
+    ensures { (k : ℕ) → k < 16 → slice_index result k
+        ≡ bit_and (slice_index bytes ((first + k) / 8)) (2 ^ (7 - (first + k) % 8)) }
 {
-    let mut twice = [0; PIXELS];
-    for i in 0..PIXELS / 2 {
-        twice[2 * i] = values[i];
-        twice[2 * i + 1] = values[i];
+    let places = sixteen_of(&BYTES, first);
+    let bits = sixteen_of(&BITS, first);
+    (bytes.swizzle_dyn(places) & bits).to_array()
+}
+
+// The bits of 64 pixels from pixel `first` of the bytes on.
+#[inline(always)]
+fn chunk_bits(bytes: u8x16, first: usize) -> Values
+    requires { first < 8 }
+    ensures { (x : ℕ) → x < 64 → slice_index result x
+        ≡ bit_and (slice_index bytes ((first + x) / 8)) (2 ^ (7 - (first + x) % 8)) }
+{
+    let mut bits = [0; PIXELS];
+    for n in 0..4usize {
+        bits[16 * n..16 * n + 16].copy_from_slice(&sixteen_bits(bytes, first + 16 * n));
     }
-    twice
-}
-
-// Each of eight bytes from place `first` on eight times. Doubling becomes vectors; a loop over x / 8 would not.
-#[inline(always)]
-fn eightfold(bytes: &[u8], first: usize) -> Values
-    requires { first + 8 ≤ length bytes.now }
-    ensures { (x : ℕ) → x < 64 → slice_index result x ≡ slice_index bytes.now (first + x / 8) }
-{
-    let mut values = [0; PIXELS];
-    values[..8].copy_from_slice(&bytes[first..first + 8]);
-    doubled(&doubled(&doubled(&values)))
+    bits
 }
 
 // 255 where one of these bits is 1, else 0.
@@ -50,71 +65,48 @@ fn full_where(bits: u8) -> u8
     if bits == 0 { 0 } else { 255 }
 }
 
-// The bit of each pixel in two bytes, where the first pixel is bit i / 64 of the first byte: that of the first byte is
-// the quotient by 256, that of the second one the rest.
-fn masks(divisor: u16) -> [u8; MASKS]
-    requires { 1 ≤ divisor }
-    ensures { (i : ℕ) → i < 512 → slice_index result i ≡ 2 ^ 15 / 2 ^ (i / 64 + i % 8) / divisor % 256 }
+// 64 pixels of sixteen bytes, from bit `first` on.
+#[inline(always)]
+fn chunk_of(bytes: &[u8], first: usize) -> Values
+    requires first { first < 8 }
+    requires bytes { 16 ≤ length bytes.now }
+    ensures { (x : ℕ) → x < 64 → slice_index result x
+        ≡ 255 * worth (bit_at (slice_index bytes.now ((first + x) / 8)) ((first + x) % 8)) 1 }
 {
-    let mut masks = [0; MASKS];
-    for i in 0..MASKS {
-        let bit = 0x8000u16 >> (i / PIXELS + i % 8);
-        masks[i] = (bit / divisor % 256) as u8;
+    let bits = chunk_bits(u8x16::from_slice(bytes), first);
+    let mut values = [0; PIXELS];
+    for x in 0..PIXELS {
+        values[x] = full_where(bits[x]);
     }
-    masks
+    values
 }
 
-/// Which bit of its byte, or of the byte after it, each pixel is: made once for many lines.
-#[derive(Drop)]
-pub(crate) struct BitMasks {
-    here: [u8; MASKS],
-    next: [u8; MASKS],
-    ghost here_is: { (i : ℕ) → i < 512 → slice_index here i ≡ 2 ^ 15 / 2 ^ (i / 64 + i % 8) / 256 % 256 },
-    ghost next_is: { (i : ℕ) → i < 512 → slice_index next i ≡ 2 ^ 15 / 2 ^ (i / 64 + i % 8) / 1 % 256 },
+// The same of fewer bytes. It is not inlined, to keep the loop over a line short.
+#[inline(never)]
+fn last_chunk_of(bytes: &[u8], first: usize) -> Values
+    requires first { first < 8 }
+    requires bytes { length bytes.now < 16 }
+    ensures { (x : ℕ) → x < 64 → first + x < 8 * length bytes.now → slice_index result x
+        ≡ 255 * worth (bit_at (slice_index bytes.now ((first + x) / 8)) ((first + x) % 8)) 1 }
+{
+    let mut padded = [0; 16];
+    padded[..bytes.len()].copy_from_slice(bytes);
+    chunk_of(&padded, first)
 }
 
-impl BitMasks {
-    /// The masks.
-    pub(crate) fn make() -> BitMasks {
-        BitMasks {
-            here: masks(256),
-            next: masks(1),
-        }
-    }
-
-    // The 64 pixels of nine bytes from bit `first` on.
-    #[inline(always)]
-    fn pixels(&self, nine: &[u8], first: usize) -> Values
-        requires first { first < 8 }
-        requires nine { length nine.now ≡ 9 }
-        ensures { (x : ℕ) → x < 64 → slice_index result x
-            ≡ 255 * worth (bit_at (slice_index nine.now ((first + x) / 8)) ((first + x) % 8)) 1 }
-    {
-        let here = eightfold(nine, 0);
-        let next = eightfold(nine, 1);
-        let start = PIXELS * first;
-        let mut values = [0; PIXELS];
-        for x in 0..PIXELS {
-            let bits = here[x] & self.here[start + x] | next[x] & self.next[start + x];
-            values[x] = full_where(bits);
-        }
-        values
-    }
-
-    /// The first `many` pixels from bit `first` of the bytes on: 255 for 1, 0 for 0.
-    #[inline(always)]
-    pub(crate) fn bits_of(&self, bytes: &[u8], first: usize, many: usize) -> Values
-        requires first { first < 8 }
-        requires many { many ≤ 64 }
-        requires bytes { first + many ≤ 8 * length bytes.now }
-        ensures { (x : ℕ) → x < many → slice_index result x
-            ≡ 255 * worth (bit_at (slice_index bytes.now ((first + x) / 8)) ((first + x) % 8)) 1 }
-    {
-        if bytes.len() >= 9 {
-            self.pixels(&bytes[..9], first)
-        } else {
-            self.pixels(&padded(bytes), first)
-        }
+/// The first `many` pixels from bit `first` of the bytes on: 255 for 1, 0 for 0.
+#[inline(always)]
+pub(crate) fn bits_of(bytes: &[u8], first: usize, many: usize) -> Values
+    requires first { first < 8 }
+    requires many { many ≤ 64 }
+    requires bytes { first + many ≤ 8 * length bytes.now }
+    ensures { (x : ℕ) → x < many → slice_index result x
+        ≡ 255 * worth (bit_at (slice_index bytes.now ((first + x) / 8)) ((first + x) % 8)) 1 }
+{
+    if bytes.len() >= 16 {
+        chunk_of(bytes, first)
+    } else {
+        last_chunk_of(bytes, first)
     }
 }
 
