@@ -1,8 +1,8 @@
+pub mod BitPixels
 pub mod BlackScales
 pub mod ByInk
 pub mod Chunks
 pub mod Columns
-pub mod Eights
 pub mod Filled
 pub mod Formulas
 pub mod FourInks

@@ -16,7 +16,7 @@ ghost use Rattle.separation_definitions.specs.declared.window.Window.{Window};
 ghost use Rattle.std.specs.Prelude.{IsOk, Some, length, slice_get, slice_index, ℕ, ◌%◌, ◌*◌, ◌+◌, ◌/◌};
 ghost use Rattle.std.specs.Prelude.{◌<◌, ◌≡◌, ◌≢◌, ◌≤◌, ◌⊎◌};
 
-use crate::bits::{Eights, chosen};
+use crate::bits::{bits_of, chosen};
 use crate::black::BlackScale;
 use crate::given::{Given, colour_given, four_given, full_given, grey_given};
 use crate::pixels::{PIXELS, Values, inverted, same};
@@ -36,7 +36,6 @@ pub struct Separator {
     kind: Kind,
     window: Window,
     inks: InkSet,
-    eights: Eights,
     black: BlackScale,
     scales: Scales,
 }
@@ -51,7 +50,6 @@ impl Separator {
             kind,
             window,
             inks: p.inks,
-            eights: Eights::make(),
             black: BlackScale::make(p),
             scales: Scales::make(p),
         }
@@ -142,7 +140,7 @@ impl Separator {
         ensures { (k : ℕ) → k < many → slice_index result k
             ≡ 255 * worth (bit_at (slice_index line.now ((first + k) / 8)) ((first + k) % 8)) 1 }
     {
-        self.eights.bits_of(&line[first / 8..], first % 8, many)
+        bits_of(&line[first / 8..], first % 8, many)
     }
 
     // Sets the amounts of each ink in row `at` from column x on from `many` pixels of one bit. An ink has but two
@@ -189,9 +187,20 @@ impl Separator {
             Kind::Gray8 => grey_given(self.inks, inverted(&line[first..], many)),
             Kind::Black8 => grey_given(self.inks, same(&line[first..], many)),
             Kind::Rgb8 => colour_given(self.inks, &self.black, &line[3 * first..], many),
-            Kind::Black1 => grey_given(self.inks, self.bits(line, first, many)),
+            Kind::Black1 => self.bits_given(line, first, many),
             Kind::Cmyk8 => four_given(self.inks, &line[4 * first..], many),
         }
+    }
+
+    // What `many` pixels of one bit give. It is not inlined: `separate_part` puts them by `put_bits`.
+    #[inline(never)]
+    fn bits_given(&self, line: &[u8], first: usize, many: usize) -> Given
+        requires many { many ≤ 64 }
+        requires pixels { first + many ≤ 8 * length line.now }
+        ensures { (ink : Ink) (k : ℕ) → k < many → slice_index (given_to result ink) k
+            ≡ grey_ink self.now.inks ink (255 * worth (bit_at (slice_index line.now ((first + k) / 8)) ((first + k) % 8)) 1) }
+    {
+        grey_given(self.inks, self.bits(line, first, many))
     }
 
     // The amounts of what pixels give to an ink.

@@ -1,8 +1,0 @@
-use Rattle.std.proofs.Common.{◌≡◌, ℕ, ◌+◌, ◌<◌, get_or, length}
-use Rattle.ink_separation.proofs.bits.Eights.bits_of.Given as goal
-
-abbrev pub invariant-loop-x : goal.invariant-loop-x
-invariant-loop-x l = record {
-  len : length l.values ≡ 64;
-  filled : (k : ℕ) → k < l.x → get_or l.values k 0 ≡ get_or l.pixels (l.first + k) 0;
-}
