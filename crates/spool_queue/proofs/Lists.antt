@@ -37,11 +37,11 @@ pub numbered_length : (s n : ℕ) (bs : List Stream) → length (numbered s n bs
 numbered_length s n [] = refl
 numbered_length s n (b ∷ bs) = ap suc (numbered_length s (suc n) bs)
 
-abbrev first_or : SpoolJob → List SpoolJob → SpoolJob
+abbrev pub first_or : SpoolJob → List SpoolJob → SpoolJob
 first_or d [] = d
 first_or d (x ∷ xs) = x
 
-abbrev rest_of : List SpoolJob → List SpoolJob
+abbrev pub rest_of : List SpoolJob → List SpoolJob
 rest_of [] = []
 rest_of (x ∷ xs) = xs
 
@@ -125,18 +125,3 @@ pub length_sent : (lists : List (List Stream)) (xs : List SpoolJob) → AreSent 
 length_sent lists xs h none_above =
     sym (all_below (suc (length lists)) xs (λ s le. h s ∙ ap (numbered s 1) (none_above s le)))
     ∙ below_sent (sent_by lists) (suc (length lists)) xs h ∙ sent_below-all lists
-
--- the stream behind xs
-stream_at : (s n : ℕ) (bs : List Stream) (xs ys : List SpoolJob) (x : SpoolJob) → xs ++ x ∷ ys ≡ numbered s n bs → x.stream ≡ get_or bs (length xs) []
-stream_at s n [] xs ys x e = absurd (not_empty xs ys x e)
-stream_at s n (b ∷ bs) [] ys x e = ap (λ l. (first_or x l).stream) e
-stream_at s n (b ∷ bs) (y ∷ xs) ys x e = stream_at s (suc n) bs xs ys x (ap rest_of e)
-
--- a job that was taken is the one that its sender sent under its number
-pub is_the_sent : (bs : List Stream) (before after : List SpoolJob) (x : SpoolJob) → jobs_of x.sender (before ++ x ∷ after) ≡ numbered x.sender 1 bs → x.stream ≡ get_or bs (x.number - 1) []
-is_the_sent bs before after x e =
-    let s : ℕ = x.sender in
-    let split : jobs_of s before ++ x ∷ jobs_of s after ≡ numbered s 1 bs = ap (λ l. jobs_of s before ++ l) (sym (jobs_of_here s x after refl)) ∙ sym (jobs_of-append s before (x ∷ after)) ∙ e in
-    let n : x.number ≡ 1 + length (jobs_of s before) = next_number s 1 bs (jobs_of s before) (jobs_of s after) x split in
-    let k : length (jobs_of s before) ≡ x.number - 1 = omega arith in
-    stream_at s 1 bs (jobs_of s before) (jobs_of s after) x split ∙ ap (λ m. get_or bs m []) k

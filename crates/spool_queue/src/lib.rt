@@ -19,8 +19,10 @@
 
 mod calls;
 mod ends;
+pub mod examples;
 mod job;
 mod kinds;
+pub mod laws;
 mod rule;
 
 pub use job::{SpoolJob, StreamBytes};
