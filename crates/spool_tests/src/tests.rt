@@ -6,6 +6,7 @@ use std::process::Abort;
 use std::test::*;
 
 mod team;
+mod threads;
 
 // Stops the test where a call did not give what was wanted.
 fn same<T: PartialEq + Debug>(rt: &impl Abort, at: &str, got: &T, want: &T) {
