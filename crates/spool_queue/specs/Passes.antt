@@ -1,7 +1,7 @@
 -- What a clause says of a spool and its passes.
 use Rattle.std.specs.Prelude.{◌≡◌, ◌≤◌, ℕ, List, map, All, suc, length}
 use Rattle.base_definitions.specs.Counting.{count_from}
-use Rattle.crossbeam_queue.specs.Passes.{view, IsPassOf}
+use Rattle.crossbeam_queue.specs.Passes.{view, IsPassOf, ruled_capacity}
 use Rattle.spool_queue.specs.Jobs.{Stream, jobs_of}
 use Rattle.spool_queue.specs.declared.job.SpoolJob.{SpoolJob}
 use Rattle.spool_queue.specs.declared.kinds.PrintPass.{PrintPass}
@@ -23,6 +23,10 @@ taken_of pass = (view pass.pass).taken
 -- how many senders its spool has
 abbrev pub senders_of : PrintPass → ℕ
 senders_of pass = (view pass.pass).senders
+
+-- how many jobs its queue has room for
+abbrev pub room_of : Spool → ℕ
+room_of spool = ruled_capacity spool.queue
 
 -- the pass is one of the spool
 abbrev pub IsSenderOf : Spool → SendPass → Type 0

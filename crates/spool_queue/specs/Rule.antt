@@ -6,7 +6,7 @@ use Rattle.spool_queue.specs.Jobs.{Stream, jobs_of, AreSent, sent_by, count_sent
 use Rattle.spool_queue.specs.declared.job.SpoolJob.{SpoolJob}
 use Rattle.spool_queue.specs.declared.rule.View.{View}
 
--- what the printer knows: how many senders there are, what it has taken, and what the senders sent whose passes are spent
+-- what the printer knows: how many senders there are, what it has taken, and what those sent whose passes are spent
 abbrev pub printer_view : ℕ → List SpoolJob → List (List Stream) → View
 printer_view senders taken ended = record {
   sends = false;
@@ -34,9 +34,10 @@ FitsSender seat sent pass v = v.sends ≡ true → (seat v.sender ≡ some pass)
 abbrev pub HasEnded : (ℕ → Option ℕ) → (ℕ → List Stream) → ℕ → List Stream → Type 0
 HasEnded seat sent s streams = (seat s ≡ none) × (sent s ≡ streams)
 
--- The printer is one pass, which knows what was taken. It knows of each number that is no sender, and of each sender whose
--- pass is spent, what that sent.
-pub record FitsPrinter (seat : ℕ → Option ℕ) (sent : ℕ → List Stream) (taken : List SpoolJob) (reader pass : ℕ) (v : View) : Type 0 where
+-- The printer is one pass, which knows what was taken. It knows of each number that is no sender, and of each sender
+-- whose pass is spent, what that sent.
+pub record FitsPrinter (seat : ℕ → Option ℕ) (sent : ℕ → List Stream) (taken : List SpoolJob) (reader pass : ℕ) (v : View)
+    : Type 0 where
   pub here : pass ≡ reader
   pub taken_is : v.taken ≡ taken
   pub nobody : HasEnded seat sent 0 []
@@ -52,7 +53,8 @@ pub record FollowsRule (items : List SpoolJob) (views : List View) : Type 0 wher
   pub reader : ℕ
   pub each : AreSent sent (taken ++ items)
   pub senders : (pass : ℕ) (v : View) → get_elem? views pass ≡ some v → FitsSender seat sent pass v
-  pub printers : (pass : ℕ) (v : View) → get_elem? views pass ≡ some v → v.prints ≡ true → FitsPrinter seat sent taken reader pass v
+  pub printers : (pass : ℕ) (v : View) → get_elem? views pass ≡ some v → v.prints ≡ true
+      → FitsPrinter seat sent taken reader pass v
 
 -- the job is of a sender of the spool, and the next of its jobs
 abbrev pub IsNext : View → SpoolJob → Type 0

@@ -3,7 +3,7 @@ ghost use Rattle.std.specs.Prelude.{All, IfOk, List, [], length, map, vec_capaci
 ghost use Rattle.base_definitions.specs.Counting.{count_from};
 ghost use Rattle.crossbeam_queue.specs.Passes.{IsPassOf, ruled_capacity, view};
 ghost use Rattle.spool_queue.specs.Jobs.{AreSent, count_sent, sent_by};
-ghost use Rattle.spool_queue.specs.Passes.{AreAllPasses, sender_of, sent_lists, sent_of, senders_of, taken_of};
+ghost use Rattle.spool_queue.specs.Passes.{AreAllPasses, room_of, sender_of, sent_lists, sent_of, senders_of, taken_of};
 ghost use Rattle.spool_queue.specs.Rule.{printer_view};
 ghost use Rattle.spool_queue.specs.declared.job.SpoolJob.{SpoolJob};
 
@@ -16,8 +16,8 @@ use std::alloc::Global;
 use std::sync::Wait;
 
 impl Spool {
-    /// A spool whose queue has room for `room` jobs, 1 to 65,536, with the passes of 1 to 8 senders, in their order, and
-    /// that of the printer. `Memory` where there is no room for all that the spool ever needs.
+    /// A spool whose queue has room for `room` jobs, 1 to 65,536, with the passes of 1 to 8 senders, in their order,
+    /// and that of the printer. `Memory` where there is no room for all that the spool ever needs.
     pub fn make(
         alloc: Global,
         senders: u8,
@@ -26,6 +26,7 @@ impl Spool {
         requires senders { (1 ≤ senders) × (senders ≤ 8) }
         requires room { (1 ≤ room) × (room ≤ 65536) }
         ensures passes { IfOk result (λ r. AreAllPasses r.0 r.1.items r.2) }
+        ensures room { IfOk result (λ r. room_of r.0 ≡ room) }
         ensures senders { IfOk result (λ r. (length r.1.items ≡ senders) × (senders_of r.2 ≡ senders)) }
         ensures sent { IfOk result (λ r. All (λ pass. sent_of pass ≡ []) r.1.items) }
         ensures taken { IfOk result (λ r. taken_of r.2 ≡ []) }

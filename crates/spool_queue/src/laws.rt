@@ -1,11 +1,13 @@
-//! What it means that jobs are those that were sent (`AreSent`): the functions do nothing; their contracts are the laws.
+//! What follows where jobs are those that were sent (`AreSent`): the functions do nothing; their contracts are the
+//! laws.
 ghost use Rattle.spool_queue.specs.Jobs.{AreSent, Stream, job};
 ghost use Rattle.spool_queue.specs.declared.job.SpoolJob.{SpoolJob};
 ghost use Rattle.std.specs.Prelude.{Contains, List, [], length, slice_index_or, suc, ℕ, ◌++◌, ◌-◌, ◌<◌, ◌≡◌, ◌≤◌, ◌∷◌};
 
 /// A job is the one that its sender sent under its number.
 pub fn each_job_was_sent()
-    ensures { (sent : ℕ → List Stream) (before after : List SpoolJob) (x : SpoolJob) → AreSent sent (before ++ x ∷ after)
+    ensures { (sent : ℕ → List Stream) (before after : List SpoolJob) (x : SpoolJob)
+        → AreSent sent (before ++ x ∷ after)
         → (1 ≤ x.number) × (x.number ≤ length (sent x.sender))
         × (x.stream ≡ slice_index_or (sent x.sender) (x.number - 1) []) }
 {}

@@ -128,7 +128,7 @@ fn two_senders_share_a_room_of_three(rt: HostRuntime) -> Result<(), Fail> {
     Ok(())
 }
 
-// What the printer takes of three jobs through a room of one, where the sender and the printer begin after these whiles.
+// What the printer takes of three jobs through a room of one, where sender and printer begin after these whiles.
 fn through_one<R: Threads + Wait + Clock + Copy + Send + 'static>(
     rt: R,
     alloc: Global,

@@ -21,7 +21,7 @@ run_all-requires-clause-works g c κs within =
     let few : length first.streams.items < 2 ^ 31 = let n = c.in_ok-streams.ensures in omega arith in
     let few' : length second.streams.items < 2 ^ 31 = let n = c.in_ok-streams-2.ensures in omega arith in
     let items : c.push_reserved-2.new.self.items ≡ first ∷ second ∷ [] =
-      c.push_reserved-2.ensures.items ∙ ap (λ l. l ++ second ∷ []) (c.push_reserved.ensures.items ∙ ap (λ l. l ++ first ∷ []) c.in_ok-works.ensures.items) in
+    c.push_reserved-2.ensures.items ∙ ap (λ l. l ++ second ∷ []) (c.push_reserved.ensures.items ∙ ap (λ l. l ++ first ∷ []) c.in_ok-works.ensures.items) in
     subst (All Can) (sym items)
     (All-cons Can first (second ∷ []) (All-head (IsSenderOf c.args.spool.now) one (two ∷ []) senders, All-head Fresh one (two ∷ []) fresh, few)
     (All-cons Can second [] (All-head (IsSenderOf c.args.spool.now) two [] (All-tail (IsSenderOf c.args.spool.now) one (two ∷ []) senders), All-head Fresh two [] (All-tail Fresh one (two ∷ []) fresh), few') (All-nil Can)))
