@@ -5,7 +5,7 @@ use Rattle.driver_answer.specs.declared.answer.Answer.TheVariants as answer
 use Rattle.driver_answer.specs.declared.answer.Answer.{Answer}
 use Rattle.escp2_definitions.specs.declared.stops.JobStop.{JobStop}
 use Rattle.escp2_definitions.specs.JobEnds.{job_end, stopped}
-use Rattle.job_player.specs.Outcome.{PlaysAll, PlaysSome, PlaysToStop, StopsInSheet, sheets_of}
+use Rattle.job_player.specs.Outcome.{PlaysAll, PlaysSome, PlaysTaken, PlaysToStop, StopsInSheet, sheets_of}
 use Rattle.printer_definitions.specs.Printer.{Printer}
 use Rattle.driver_core.specs.Outside.{HasRisen, IsCalm, Outside}
 use Rattle.driver_core.specs.Playing.Outcome.{PlayOutcome}
@@ -23,13 +23,12 @@ play_stop p most input out s a does e eight =
     (at.0, at.1, subst (PlayOutcome p most input out) at.2 does, at.2)
 
 pub play_read : (p : Printer) (most : ℕ) (input out : Outside) (s : ℕ) (a : Answer)
-    → PlayOutcome p most input out a → s ≡ status_of a → s ≡ 4 → HasRisen input × PlaysSome p most input out
+    → PlayOutcome p most input out a → s ≡ status_of a → s ≡ 4 → HasRisen input × PlaysTaken p most input out
 play_read p most input out s a does e four = subst (PlayOutcome p most input out) (is_read a (sym four ∙ e)) does
 
 pub play_some : (p : Printer) (most : ℕ) (input out : Outside) (s : ℕ) (a : Answer)
-    → PlayOutcome p most input out a → s ≡ status_of a → (s ≡ 4) ⊎ (s ≡ 7) → PlaysSome p most input out
-play_some p most input out s a does e (inl four) = (play_read p most input out s a does e four).1
-play_some p most input out s a does e (inr seven) = subst (PlayOutcome p most input out) (is_memory a (sym seven ∙ e)) does
+    → PlayOutcome p most input out a → s ≡ status_of a → s ≡ 7 → PlaysSome p most input out
+play_some p most input out s a does e seven = subst (PlayOutcome p most input out) (is_memory a (sym seven ∙ e)) does
 
 pub play_part : (p : Printer) (most : ℕ) (input out : Outside) (s : ℕ) (a : Answer) → PlayOutcome p most input out a → s ≡ status_of a → s ≡ 5
     → (number : ℕ) × StopsInSheet p most input out number × HasRisen out × (a ≡ answer.Write number)

@@ -6,7 +6,8 @@ use Rattle.driver_answer.specs.declared.answer.Answer.TheVariants as answer
 use Rattle.driver_answer.specs.declared.answer.Answer.{Answer}
 use Rattle.escp2_definitions.specs.declared.stops.JobStop.{JobStop}
 use Rattle.escp2_definitions.specs.JobEnds.{job_end, stopped}
-use Rattle.job_player.specs.Outcome.{PlaysAll, PlaysSome, PlaysToStop, StopsInSheet, sheets_of}
+use Rattle.job_player.specs.Outcome.{PlaysAll, PlaysSome, PlaysTaken, PlaysToStop, StopsInSheet, sheets_of}
+use Rattle.job_player.proofs.Playing.{plays_untaken}
 use Rattle.job_words.specs.declared.reading.Job.{Job}
 use Rattle.job_words.specs.declared.table.Verb.TheVariants as verb
 use Rattle.printer_definitions.specs.Printer.{Printer}
@@ -18,7 +19,7 @@ use Rattle.driver_core.proofs.Runs.Asked.{HasProfile, has_profile, told_line}
 use Rattle.driver_core.proofs.Runs.Asked.HasProfile.{HasNone, Does}
 use Rattle.driver_core.proofs.Runs.AtWork.{at_work, calm_work, dots_is_none}
 use Rattle.driver_core.proofs.Runs.Nothing.{appends_none, consumes_none}
-use Rattle.driver_core.proofs.Playing.ByStatus.{play_calm, play_done, play_part, play_refused, play_some, play_stop}
+use Rattle.driver_core.proofs.Playing.ByStatus.{play_calm, play_done, play_part, play_read, play_refused, play_some, play_stop}
 
 plays_none : (p : Printer) (most : ℕ) (input out : Outside)
     → Keeps input.before input.now → Keeps out.before out.now → PlaysSome p most input out
@@ -45,14 +46,24 @@ play_eight words o err a s job p outcome told is asks eight =
     let T : Answer → Type 0 = λ b. Told err b in
     (stop.0, stop.1, stop.2, told_line err (answer.Job stop.0 stop.1) (subst T stop.3 told))
 
-play_stopped : (words : List (List ℕ)) (o : Outsides) (a : Answer) (s : ℕ) (job : Job) (p : Printer)
-    → Outcome words o a → s ≡ status_of a → AsksFor words o.shelf.told verb.Dots job (Ok p) → (s ≡ 4) ⊎ (s ≡ 7)
+play_four : (words : List (List ℕ)) (o : Outsides) (a : Answer) (s : ℕ) (job : Job) (p : Printer)
+    → Outcome words o a → s ≡ status_of a → AsksFor words o.shelf.told verb.Dots job (Ok p) → s ≡ 4 → PlaysTaken p job.most o.input o.out
+play_four words o a s job p outcome is asks four = by_case (has_profile words verb.Dots job p o a dots_is_none asks outcome)
+  where
+    by_case : HasProfile words verb.Dots job p o a → PlaysTaken p job.most o.input o.out
+    by_case (HasNone none untouched uncounted) =
+        plays_untaken p job.most o.input o.out (consumes_none o.input.before o.input.now untouched.0)
+        (appends_none o.out.before o.out.now untouched.1)
+    by_case (Does does) = (play_read p job.most o.input o.out s a does.1 is four).1
+
+play_seven : (words : List (List ℕ)) (o : Outsides) (a : Answer) (s : ℕ) (job : Job) (p : Printer)
+    → Outcome words o a → s ≡ status_of a → AsksFor words o.shelf.told verb.Dots job (Ok p) → s ≡ 7
     → PlaysSome p job.most o.input o.out
-play_stopped words o a s job p outcome is asks which = by_case (has_profile words verb.Dots job p o a dots_is_none asks outcome)
+play_seven words o a s job p outcome is asks seven = by_case (has_profile words verb.Dots job p o a dots_is_none asks outcome)
   where
     by_case : HasProfile words verb.Dots job p o a → PlaysSome p job.most o.input o.out
     by_case (HasNone none untouched uncounted) = plays_none p job.most o.input o.out untouched.0 untouched.1
-    by_case (Does does) = play_some p job.most o.input o.out s a does.1 is which
+    by_case (Does does) = play_some p job.most o.input o.out s a does.1 is seven
 
 play_five : (words : List (List ℕ)) (o : Outsides) (err : Outside) (a : Answer) (s : ℕ) (job : Job) (p : Printer)
     → Outcome words o a → Told err a → s ≡ status_of a → AsksFor words o.shelf.told verb.Dots job (Ok p) → s ≡ 5
@@ -92,7 +103,8 @@ pub dots_promises : (words : List (List ℕ)) (o : Outsides) (err : Outside) (a 
 dots_promises words o err a s outcome told is = record {
   played = λ job p asks zero. play_zero words o a s job p outcome is asks zero;
   played_to_stop = λ job p asks eight. play_eight words o err a s job p outcome told is asks eight;
-  played_some = λ job p asks which. play_stopped words o a s job p outcome is asks which;
+  played_taken = λ job p asks four. play_four words o a s job p outcome is asks four;
+  played_some = λ job p asks seven. play_seven words o a s job p outcome is asks seven;
   played_part = λ job p asks five. play_five words o err a s job p outcome told is asks five;
   valid_dots = λ job p bytes asks before whole calm calm_in calm_out.
       play_valid words o a s job p bytes outcome is asks before whole calm calm_in calm_out;

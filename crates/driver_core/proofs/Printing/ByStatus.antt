@@ -21,7 +21,7 @@ use Rattle.pwg_definitions.specs.Stream.{Page, Stream, StreamEnd, stream}
 use Rattle.separation_definitions.specs.Windows.{wanted_by}
 use Rattle.driver_core.specs.Outside.{HasRisen, IsCalm, Meters, Outside}
 use Rattle.driver_core.specs.Printing.Outcome.{CountsOneMore, CountsPages, GoesOver, MeetsFault, PrintOutcome}
-use Rattle.driver_core.specs.Printing.Outcome.{PrintsAll, PrintsSome, StopsInPage}
+use Rattle.driver_core.specs.Printing.Outcome.{PrintsAll, PrintsSome, PrintsTaken, StopsInPage}
 use Rattle.driver_core.specs.Printing.Pages.{BeginsStream, IsStream}
 use Rattle.driver_core.proofs.Runs.Nothing.{appends_none, consumes_none}
 use Rattle.driver_core.proofs.Runs.Statuses.{is_done, is_input, is_memory, is_over_cap, is_read, is_write}
@@ -43,10 +43,10 @@ print_fault way p k input out meters s a does e three =
     let met : PrintOutcome way p k input out meters (answer.Input at.0 at.1 at.2) = subst (PrintOutcome way p k input out meters) at.3 does in
     (at.0, at.1, at.2, met.0, met.1, at.3)
 
-pub print_some : (way : Way) (p : Printer) (k : Table) (input out : Outside) (meters : Meters) (s : ℕ) (a : Answer)
+pub print_taken : (way : Way) (p : Printer) (k : Table) (input out : Outside) (meters : Meters) (s : ℕ) (a : Answer)
     → PrintOutcome way p k input out meters a → s ≡ status_of a → s ≡ 4
-    → HasRisen input × (some : PrintsSome way p k input out) × CountsPages p k meters some.pages
-print_some way p k input out meters s a does e four = subst (PrintOutcome way p k input out meters) (is_read a (sym four ∙ e)) does
+    → HasRisen input × (all : PrintsTaken way p k input out) × CountsPages p k meters all.pages
+print_taken way p k input out meters s a does e four = subst (PrintOutcome way p k input out meters) (is_read a (sym four ∙ e)) does
 
 pub print_full : (way : Way) (p : Printer) (k : Table) (input out : Outside) (meters : Meters) (s : ℕ) (a : Answer)
     → PrintOutcome way p k input out meters a → s ≡ status_of a → s ≡ 7
@@ -177,6 +177,20 @@ print_capped way p k input out meters s answer.Memory bytes pages later page e' 
 print_capped way p k input out meters s (answer.Usage fault) bytes pages later page e' does e told is full calm_in calm_out = absurd does
 print_capped way p k input out meters s (answer.Profile line0 cause0) bytes pages later page e' does e told is full calm_in calm_out = absurd does
 print_capped way p k input out meters s (answer.Job offset cause0) bytes pages later page e' does e told is full calm_in calm_out = absurd does
+
+-- nothing was read, and nothing was printed
+pub prints_untaken : (way : Way) (p : Printer) (k : Table) (input out : Outside) (meters : Meters)
+    → Keeps input.before input.now → Keeps out.before out.now → meters.now ≡ meters.before
+    → (all : PrintsTaken way p k input out) × CountsPages p k meters all.pages
+prints_untaken way p k input out meters unread unwritten uncounted = (
+  record {
+    pages = [];
+    taken = record { bytes = []; taken = consumes_none input.before input.now unread; are = refl; end = inr (omega arith) };
+    writes = appends_none out.before out.now unwritten;
+    passes = tt;
+  },
+  record { admitted = tt; counts = uncounted },
+)
 
 -- nothing was printed
 pub prints_none : (way : Way) (p : Printer) (k : Table) (input out : Outside) (meters : Meters)

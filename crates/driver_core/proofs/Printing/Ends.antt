@@ -31,6 +31,7 @@ use Rattle.pwg_stream.specs.declared.stops.StreamStop.{StreamStop}
 use Rattle.pwg_stream.specs.declared.stops.StreamStop.TheVariants as stop
 use Rattle.pwg_stream.specs.Reading.{page_of, text_of}
 use Rattle.pwg_stream.specs.Stops.{OnInput}
+use Rattle.pwg_stream.specs.Taken.{MoreMayMend, TakesAllPages, TakesNoPage}
 use Rattle.buffered_bytes.specs.Text.{UsesSome, text_behind}
 use Rattle.printer_definitions.specs.declared.inks.InkCounts.{InkCounts}
 use Rattle.weave_base.specs.Causes.{Rose}
@@ -38,7 +39,7 @@ use Rattle.weave_base.specs.Parts.{AppendsPart}
 use Rattle.driver_core.specs.Printing.Charging.{RefusesPage}
 use Rattle.driver_core.specs.Outside.{Meters, Outside}
 use Rattle.driver_core.specs.Printing.Pages.{BeginsStream, IsStream, TakesPages, job_bytes}
-use Rattle.driver_core.specs.Printing.Outcome.{CountsPages, PrintedOutcome, PrintsSome, stream_answer}
+use Rattle.driver_core.specs.Printing.Outcome.{CountsPages, PrintedOutcome, PrintsSome, PrintsTaken, stream_answer}
 use Rattle.halftone_reader.proofs.PageSteps.{EndsSo}
 use Rattle.driver_core.proofs.Printing.Counting.{none_counted}
 use Rattle.driver_core.proofs.Printing.StreamSteps.{StreamRead, StreamSoFar, with_pages, pages-first}
@@ -183,6 +184,42 @@ some_printed way p k before left left' held now meters old new number pages f0 f
   omega (arith, next, so_far.next),
 )
 
+-- a read failed in the next page: what was taken has the pages that were read so far, and no other
+all_taken : (way : Way) (p : Printer) (k : Table) (before left left' held now : Option (List ℕ)) (old : PageReader) (number : ℕ)
+    → (so_far : StreamSoFar way p k before left held now old number)
+    → TakesNoPage (wanted_by p) (page_of old) (text_of old left) left' → TakesAllPages (wanted_by p) before left' so_far.done
+all_taken way p k before left left' held now old number so_far none =
+    let bytes : List ℕ = so_far.bytes ++ none.bytes in
+    let behind : Stream = pages_from (wanted_by p) (9999 - page_of old) (page_of old + 1) none.bytes in
+    let is : stream (wanted_by p) bytes ≡ with_pages so_far.done behind =
+    so_far.is none.bytes
+    ∙ ap (λ n. with_pages so_far.done (pages_from (wanted_by p) (9999 - n) (n + 1) none.bytes)) (sym so_far.many) in
+    let P : Stream → Type 0 = λ s. MoreMayMend s.end in record {
+      bytes = bytes;
+      taken = Consumes-trans before (text_of old left) left' so_far.bytes none.bytes so_far.used none.taken;
+      are = ap (λ (s : Stream). s.pages) is ∙ ap (λ ps. so_far.done ++ ps) none.none ∙ append-nil so_far.done;
+      end = inl (subst P (sym is) none.end);
+    }
+
+-- these were printed
+all_printed : (way : Way) (p : Printer) (k : Table)
+    (before left left' held now : Option (List ℕ)) (meters : Meters) (old : PageReader) (number pages f0 f2 g0 g1 : ℕ)
+    → CanPrintBy way p → (so_far : StreamSoFar way p k before left held now old number) → pages + 1 ≡ number
+    → CountsPages p k meters so_far.done → TakesNoPage (wanted_by p) (page_of old) (text_of old left) left'
+    → (all : PrintsTaken way p k (record { before = before; now = left'; faults_before = f0; faults_now = f2 })
+    (record { before = held; now = now; faults_before = g0; faults_now = g1 }))
+    × CountsPages p k meters all.pages × (length all.pages ≡ pages)
+all_printed way p k before left left' held now meters old number pages f0 f2 g0 g1 can so_far next counts none = (
+  record {
+    pages = so_far.done;
+    taken = all_taken way p k before left left' held now old number so_far none;
+    writes = so_far.written;
+    passes = passes_of way p k so_far.bytes so_far.done _ _ can so_far.is;
+  },
+  counts,
+  omega (arith, next, so_far.next),
+)
+
 -- memory runs out before the next page is counted
 full_before : (way : Way) (p : Printer) (k : Table) (input out : Outside) (meters : Meters) (pages : ℕ)
     → PrintsCounted way p k input out meters pages → PrintedOutcome way p k input out meters pages answer.Memory
@@ -193,11 +230,12 @@ without_sync : (way : Way) (p : Printer) (k : Table) (before left held : Option 
     → OnInput {T = PageReader} (Err why) (λ page line cause. IfSome before (λ bytes. (want : Wanted)
     → stream want bytes ≡ record { pages = []; end = Fault page line cause }))
     → OnInput {T = PageReader} (Err why) (λ page line cause. (page ≡ 0) × (line ≡ 0))
-    → (IsErrOf {T = PageReader} (Err why) stop.Read → Rose f0 f1) → UsesSome before left
+    → (IsErrOf {T = PageReader} (Err why) stop.Read → Rose f0 f1)
+    → (IsErrOf {T = PageReader} (Err why) stop.Read → (want : Wanted) → TakesAllPages want before left []) → UsesSome before left
     → PrintedOutcome way p k (record { before = before; now = left; faults_before = f0; faults_now = f1 })
     (record { before = held; now = held; faults_before = g0; faults_now = g1 })
     (record { before = accounts; now = accounts }) 0 (stream_answer why)
-without_sync way p k before left held accounts f0 f1 g0 g1 (stop.Input page line cause) bad place cause_is more = (
+without_sync way p k before left held accounts f0 f1 g0 g1 (stop.Input page line cause) bad place cause_is taken more = (
   (
     record {
       pages = [];
@@ -216,9 +254,15 @@ without_sync way p k before left held accounts f0 f1 g0 g1 (stop.Input page line
         → IsStream p o [] (Fault page line cause)
     some None h = tt
     some (Some bytes) h = h (wanted_by p)
-without_sync way p k before left held accounts f0 f1 g0 g1 stop.Read bad place cause_is more =
-    let none = none_printed way p k before left held accounts f0 f1 g0 g1 more in ((cause_is refl, none.0, none.1), none.2)
-without_sync way p k before left held accounts f0 f1 g0 g1 stop.Memory bad place cause_is more =
+without_sync way p k before left held accounts f0 f1 g0 g1 stop.Read bad place cause_is taken more = (
+  (
+    cause_is refl,
+    record { pages = []; taken = taken refl (wanted_by p); writes = Appends-nil held; passes = tt },
+    none_counted p k accounts,
+  ),
+  refl,
+)
+without_sync way p k before left held accounts f0 f1 g0 g1 stop.Memory bad place cause_is taken more =
     full_before way p k _ _ _ 0 (none_printed way p k before left held accounts f0 f1 g0 g1 more)
 
 pub no_sync : (way : Way) (p : Printer) (k : Table) {before left : Option (List ℕ)} (held : Option (List ℕ))
@@ -226,15 +270,17 @@ pub no_sync : (way : Way) (p : Printer) (k : Table) {before left : Option (List 
     → OnInput {T = PageReader} (Err why) (λ page line cause. IfSome before (λ bytes. (want : Wanted)
     → stream want bytes ≡ record { pages = []; end = Fault page line cause }))
     → OnInput {T = PageReader} (Err why) (λ page line cause. (page ≡ 0) × (line ≡ 0))
-    → (IsErrOf {T = PageReader} (Err why) stop.Read → Rose f0 f1) → UsesSome before left → a ≡ stream_answer why
+    → (IsErrOf {T = PageReader} (Err why) stop.Read → Rose f0 f1)
+    → (IsErrOf {T = PageReader} (Err why) stop.Read → (want : Wanted) → TakesAllPages want before left [])
+    → UsesSome before left → a ≡ stream_answer why
     → PrintedOutcome way p k (record { before = before; now = left; faults_before = f0; faults_now = f1 })
     (record { before = held; now = held; faults_before = g0; faults_now = g1 })
     (record { before = accounts; now = accounts }) 0 a
-no_sync way p k {before} {left} held accounts {f0} {f1} g0 g1 why a bad place cause_is more is =
+no_sync way p k {before} {left} held accounts {f0} {f1} g0 g1 why a bad place cause_is taken more is =
     subst (PrintedOutcome way p k (record { before = before; now = left; faults_before = f0; faults_now = f1 })
     (record { before = held; now = held; faults_before = g0; faults_now = g1 })
     (record { before = accounts; now = accounts }) 0) (sym is)
-    (without_sync way p k before left held accounts f0 f1 g0 g1 why bad place cause_is more)
+    (without_sync way p k before left held accounts f0 f1 g0 g1 why bad place cause_is taken more)
 
 -- the pages that were read are all, where the text is at its end
 pages-none : (want : Wanted) (most number : ℕ) → pages_from want most number [] ≡ record { pages = []; end = Done }
@@ -286,11 +332,13 @@ in_page : (T : Type 0) (way : Way) (p : Printer) (k : Table) (before left left' 
     → CanPrintBy way p → (so_far : StreamSoFar way p k before left held now old number) → pages + 1 ≡ number
     → CountsPages p k meters so_far.done → OnInput {T = T} (Err why) (EndsSo (wanted_by p) old left)
     → OnInput {T = T} (Err why) (λ page line cause. page ≡ page_of old + 1)
-    → f0 ≤ f1 → (IsErrOf {T = T} (Err why) stop.Read → Rose f1 f2) → UsesSome (text_of old left) (text_of new left')
+    → f0 ≤ f1 → (IsErrOf {T = T} (Err why) stop.Read → Rose f1 f2)
+    → (IsErrOf {T = T} (Err why) stop.Read → TakesNoPage (wanted_by p) (page_of old) (text_of old left) left')
+    → UsesSome (text_of old left) (text_of new left')
     → PrintedOutcome way p k (record { before = before; now = left'; faults_before = f0; faults_now = f2 })
     (record { before = held; now = now; faults_before = g0; faults_now = g1 }) meters pages (stream_answer why)
 in_page T way p k before left left' held now meters old new number pages f0 f1 f2 g0 g1
-    (stop.Input page line cause) can so_far next counts bad place later cause_is more = (
+    (stop.Input page line cause) can so_far next counts bad place later cause_is taken more = (
       (
         record {
           pages = so_far.done;
@@ -303,10 +351,10 @@ in_page T way p k before left left' held now meters old new number pages f0 f1 f
       ),
       omega (arith, next, so_far.next),
     )
-in_page T way p k before left left' held now meters old new number pages f0 f1 f2 g0 g1 stop.Read can so_far next counts bad place later cause_is more =
-    let some = some_printed way p k before left left' held now meters old new number pages f0 f2 g0 g1 can so_far next counts more in
-    ((rose_from f0 f1 f2 later (cause_is refl), some.0, some.1), some.2)
-in_page T way p k before left left' held now meters old new number pages f0 f1 f2 g0 g1 stop.Memory can so_far next counts bad place later cause_is more =
+in_page T way p k before left left' held now meters old new number pages f0 f1 f2 g0 g1 stop.Read can so_far next counts bad place later cause_is taken more =
+    let all = all_printed way p k before left left' held now meters old number pages f0 f2 g0 g1 can so_far next counts (taken refl) in
+    ((rose_from f0 f1 f2 later (cause_is refl), all.0, all.1), all.2)
+in_page T way p k before left left' held now meters old new number pages f0 f1 f2 g0 g1 stop.Memory can so_far next counts bad place later cause_is taken more =
     full_before way p k _ _ _ pages
     (some_printed way p k before left left' held now meters old new number pages f0 f2 g0 g1 can so_far next counts more)
 
@@ -316,14 +364,16 @@ pub page_stopped : (T : Type 0) (way : Way) (p : Printer) (k : Table) {before le
     → CanPrintBy way p → (so_far : StreamSoFar way p k before left held now old number) → pages + 1 ≡ number
     → CountsPages p k meters so_far.done → OnInput {T = T} (Err why) (EndsSo (wanted_by p) old left)
     → OnInput {T = T} (Err why) (λ page line cause. page ≡ page_of old + 1)
-    → f0 ≤ f1 → (IsErrOf {T = T} (Err why) stop.Read → Rose f1 f2) → UsesSome (text_of old left) (text_of new left')
+    → f0 ≤ f1 → (IsErrOf {T = T} (Err why) stop.Read → Rose f1 f2)
+    → (IsErrOf {T = T} (Err why) stop.Read → TakesNoPage (wanted_by p) (page_of old) (text_of old left) left')
+    → UsesSome (text_of old left) (text_of new left')
     → a ≡ stream_answer why
     → PrintedOutcome way p k (record { before = before; now = left'; faults_before = f0; faults_now = f2 })
     (record { before = held; now = now; faults_before = g0; faults_now = g1 }) meters pages a
-page_stopped T way p k {before} {left} {held} {now} left' {meters} old new number pages {f0} {f1} {f2} g0 g1 why a can so_far next counts bad place later cause_is more is =
+page_stopped T way p k {before} {left} {held} {now} left' {meters} old new number pages {f0} {f1} {f2} g0 g1 why a can so_far next counts bad place later cause_is taken more is =
     subst (PrintedOutcome way p k (record { before = before; now = left'; faults_before = f0; faults_now = f2 })
     (record { before = held; now = now; faults_before = g0; faults_now = g1 }) meters pages) (sym is)
-    (in_page T way p k before left left' held now meters old new number pages f0 f1 f2 g0 g1 why can so_far next counts bad place later cause_is more)
+    (in_page T way p k before left left' held now meters old new number pages f0 f1 f2 g0 g1 why can so_far next counts bad place later cause_is taken more)
 
 -- the stream ended
 pub stream_done : (way : Way) (p : Printer) (k : Table)

@@ -16,7 +16,7 @@ use Rattle.pwg_definitions.specs.Stream.{Page, StreamEnd, stream}
 use Rattle.separation_definitions.specs.Windows.{wanted_by}
 use Rattle.driver_core.specs.Outside.{NothingFailed, Outside, Outsides}
 use Rattle.driver_core.specs.Printing.Outcome.{CountsOneMore, CountsPages, GoesOver, MeetsFault, PrintOutcome}
-use Rattle.driver_core.specs.Printing.Outcome.{PrintsAll, PrintsSome, StopsInPage}
+use Rattle.driver_core.specs.Printing.Outcome.{PrintsAll, PrintsSome, PrintsTaken, StopsInPage}
 use Rattle.driver_core.specs.Printing.Promises.{PrintPromises}
 use Rattle.driver_core.specs.Runs.Asking.{AsksFor}
 use Rattle.driver_core.specs.Runs.Fitting.{IsProfileOf, way_of}
@@ -25,7 +25,7 @@ use Rattle.driver_core.proofs.Runs.Asked.{HasProfile, has_profile, told_line}
 use Rattle.driver_core.proofs.Runs.Asked.HasProfile.{HasNone, Does}
 use Rattle.driver_core.proofs.Runs.AtWork.{at_work, calm_work, print_is_none}
 use Rattle.driver_core.proofs.Printing.ByStatus.{print_bad, print_calm, print_capped, print_done, print_fault}
-use Rattle.driver_core.proofs.Printing.ByStatus.{print_full, print_part, print_some, prints_none}
+use Rattle.driver_core.proofs.Printing.ByStatus.{print_full, print_part, print_taken, prints_none, prints_untaken}
 
 -- what a run with status 6 did
 abbrev pub WentOver : List (List ℕ) → Outsides → Outside → Type 0
@@ -73,17 +73,17 @@ print_five words o err a s job p outcome told is asks five =
 
 print_four : (words : List (List ℕ)) (o : Outsides) (a : Answer) (s : ℕ) (job : Job) (p : Printer)
     → Outcome words o a → s ≡ status_of a → AsksFor words o.shelf.told verb.Print job (Ok p) → s ≡ 4
-    → (some : PrintsSome (way_of job) p (table_of job.kernel) o.input o.out)
-    × CountsPages p (table_of job.kernel) (metered job o.meters) some.pages
+    → (all : PrintsTaken (way_of job) p (table_of job.kernel) o.input o.out)
+    × CountsPages p (table_of job.kernel) (metered job o.meters) all.pages
 print_four words o a s job p outcome is asks four = by_case (has_profile words verb.Print job p o a print_is_none asks outcome)
   where
     by_case : HasProfile words verb.Print job p o a
-        → (some : PrintsSome (way_of job) p (table_of job.kernel) o.input o.out)
-        × CountsPages p (table_of job.kernel) (metered job o.meters) some.pages
-    by_case (HasNone none untouched uncounted) = prints_none (way_of job)
+        → (all : PrintsTaken (way_of job) p (table_of job.kernel) o.input o.out)
+        × CountsPages p (table_of job.kernel) (metered job o.meters) all.pages
+    by_case (HasNone none untouched uncounted) = prints_untaken (way_of job)
         p (table_of job.kernel) o.input o.out (metered job o.meters) untouched.0 untouched.1 uncounted
-    by_case (Does does) = let some = print_some (way_of job) p (table_of job.kernel) o.input o.out
-        (metered job o.meters) s a does is four in (some.1, some.2)
+    by_case (Does does) = let all = print_taken (way_of job) p (table_of job.kernel) o.input o.out
+        (metered job o.meters) s a does is four in (all.1, all.2)
 
 print_seven : (words : List (List ℕ)) (o : Outsides) (a : Answer) (s : ℕ) (job : Job) (p : Printer)
     → Outcome words o a → s ≡ status_of a → AsksFor words o.shelf.told verb.Print job (Ok p) → s ≡ 7

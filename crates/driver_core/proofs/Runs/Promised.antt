@@ -36,7 +36,7 @@ use Rattle.driver_core.proofs.Runs.Asked.NoShelf.{ShelfFailed, ShelfFull}
 use Rattle.driver_core.proofs.Runs.Statuses.{in_range, is_input, is_job, is_over_cap, is_profile, is_read, is_usage}
 use Rattle.driver_core.proofs.Listing.ByStatus.{list_part, list_read, list_statuses}
 use Rattle.driver_core.proofs.Playing.ByStatus.{play_part, play_read}
-use Rattle.driver_core.proofs.Printing.ByStatus.{print_over, print_part, print_some}
+use Rattle.driver_core.proofs.Printing.ByStatus.{print_over, print_part, print_taken}
 use Rattle.driver_core.proofs.Printing.Promised.{WentOver}
 use Rattle.driver_core.proofs.Showing.Promised.{show_part}
 use Rattle.driver_core.proofs.Trying.Promised.{trial_part, trial_read}
@@ -171,7 +171,7 @@ read_status words o a s outcome is four = by_meaning (job_meaning words) outcome
     by_stop job profile.Memory stopped e = absurd (omega arith)
 
     by_verb : (v : Verb) (job : Job) (p : Printer) (meters : Meters) → VerbOutcome v job p o meters a → HasRisen o.input
-    by_verb verb.Print job p meters does = (print_some (way_of job) p (table_of job.kernel) o.input o.out meters s a does is four).0
+    by_verb verb.Print job p meters does = (print_taken (way_of job) p (table_of job.kernel) o.input o.out meters s a does is four).0
     by_verb verb.Dots job p meters does = (play_read p job.most o.input o.out s a does.1 is four).0
     by_verb verb.List job p meters does = absurd does
     by_verb verb.Profile job p meters does =

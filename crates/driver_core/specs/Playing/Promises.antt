@@ -3,7 +3,7 @@ use Rattle.std.specs.Prelude.{◌≡◌, ℕ, ◌⊎◌, List, Some, None, Ok}
 use Rattle.driver_answer.specs.declared.answer.Answer.TheVariants as answer
 use Rattle.escp2_definitions.specs.declared.stops.JobStop.{JobStop}
 use Rattle.escp2_definitions.specs.JobEnds.{job_end, stopped}
-use Rattle.job_player.specs.Outcome.{PlaysAll, PlaysSome, PlaysToStop, StopsInSheet}
+use Rattle.job_player.specs.Outcome.{PlaysAll, PlaysSome, PlaysTaken, PlaysToStop, StopsInSheet}
 use Rattle.job_words.specs.declared.reading.Job.{Job}
 use Rattle.job_words.specs.declared.table.Verb.TheVariants as verb
 use Rattle.printer_definitions.specs.Printer.{Printer}
@@ -21,9 +21,12 @@ pub record DotsPromises (words : List (List ℕ)) (o : Outsides) (err : Outside)
   pub played_to_stop : (job : Job) (p : Printer) → AsksFor words o.shelf.told verb.Dots job (Ok p) → status ≡ 8
       → (offset : ℕ) × (cause : JobStop) × PlaysToStop p job.most o.input o.out offset cause
       × Tells err (answer.Job offset cause)
-  -- On 4 and 7 the images of some first sheets of what was read were written; on 5 those before the named sheet, and
-  -- a proper prefix of its own.
-  pub played_some : (job : Job) (p : Printer) → AsksFor words o.shelf.told verb.Dots job (Ok p) → (status ≡ 4) ⊎ (status ≡ 7)
+  -- On 4 the images of all sheets that what was read ejects were written, and more bytes could mend where it stops.
+  pub played_taken : (job : Job) (p : Printer) → AsksFor words o.shelf.told verb.Dots job (Ok p) → status ≡ 4
+      → PlaysTaken p job.most o.input o.out
+  -- On 7 the images of some first sheets of what was read were written; on 5 those before the named sheet, and a proper
+  -- prefix of its own.
+  pub played_some : (job : Job) (p : Printer) → AsksFor words o.shelf.told verb.Dots job (Ok p) → status ≡ 7
       → PlaysSome p job.most o.input o.out
   pub played_part : (job : Job) (p : Printer) → AsksFor words o.shelf.told verb.Dots job (Ok p) → status ≡ 5
       → (number : ℕ) × StopsInSheet p job.most o.input o.out number × Tells err (answer.Write number)

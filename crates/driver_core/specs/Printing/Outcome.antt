@@ -12,7 +12,9 @@ use Rattle.printer_definitions.specs.Printer.{Printer}
 use Rattle.pwg_definitions.specs.declared.faults.InputCause.{InputCause}
 use Rattle.pwg_definitions.specs.Stream.{Page}
 use Rattle.pwg_definitions.specs.Stream.StreamEnd.{Done, Fault}
+use Rattle.pwg_stream.specs.Taken.{TakesAllPages}
 use Rattle.pwg_stream.specs.declared.stops.StreamStop.{StreamStop}
+use Rattle.separation_definitions.specs.Windows.{wanted_by}
 use Rattle.pwg_stream.specs.declared.stops.StreamStop.TheVariants as stream
 use Rattle.weave_base.specs.Parts.{AppendsPart}
 use Rattle.driver_core.specs.Outside.{HasRisen, Meters, Outside}
@@ -41,6 +43,14 @@ pub record MeetsFault (way : Way) (p : Printer) (k : Table) (input out : Outside
 pub record PrintsSome (way : Way) (p : Printer) (k : Table) (input out : Outside) : Type 0 where
   pub pages : List Page
   pub taken : TakesPages p input.before input.now pages
+  pub writes : Appends out.before out.now (job_bytes way p k pages)
+  pub passes : KeepTo way p k pages
+
+-- The job of all whole pages of what was read was written, with no more rasters than passes, and what was read has no
+-- fault but one that more bytes could mend.
+pub record PrintsTaken (way : Way) (p : Printer) (k : Table) (input out : Outside) : Type 0 where
+  pub pages : List Page
+  pub taken : TakesAllPages (wanted_by p) input.before input.now pages
   pub writes : Appends out.before out.now (job_bytes way p k pages)
   pub passes : KeepTo way p k pages
 
@@ -89,7 +99,7 @@ PrintOutcome way p k input out meters answer.Done = (all : PrintsAll way p k inp
 PrintOutcome way p k input out meters (answer.Input page line cause) =
     (meets : MeetsFault way p k input out page line cause) × CountsPages p k meters meets.pages
 PrintOutcome way p k input out meters answer.Read =
-    HasRisen input × (some : PrintsSome way p k input out) × CountsPages p k meters some.pages
+    HasRisen input × (all : PrintsTaken way p k input out) × CountsPages p k meters all.pages
 PrintOutcome way p k input out meters (answer.Write number) =
     HasRisen out × (stops : StopsInPage way p k input out number) × CountsPages p k meters (stops.pages ++ stops.page ∷ [])
 PrintOutcome way p k input out meters (answer.OverCap number total dots cap) = GoesOver way p k input out meters number total dots cap

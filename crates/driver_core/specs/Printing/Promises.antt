@@ -14,7 +14,7 @@ use Rattle.pwg_definitions.specs.Stream.StreamEnd.{Done, Fault}
 use Rattle.separation_definitions.specs.Windows.{wanted_by}
 use Rattle.driver_core.specs.Outside.{NothingFailed, Outside, Outsides}
 use Rattle.driver_core.specs.Printing.Outcome.{CountsOneMore, CountsPages, GoesOver, MeetsFault, PrintsAll}
-use Rattle.driver_core.specs.Printing.Outcome.{PrintsSome, StopsInPage}
+use Rattle.driver_core.specs.Printing.Outcome.{PrintsSome, PrintsTaken, StopsInPage}
 use Rattle.driver_core.specs.Runs.Fitting.{IsProfileOf, way_of}
 use Rattle.driver_core.specs.Runs.Outcome.{Tells, metered}
 use Rattle.driver_core.specs.Runs.Asking.{AsksFor}
@@ -43,11 +43,13 @@ pub record PrintPromises (words : List (List ℕ)) (o : Outsides) (err : Outside
       → o.input.before ≡ Some bytes → stream (wanted_by p) bytes ≡ record { pages = pages; end = Fault page line cause }
       → Admitted p (table_of job.kernel) pages (metered job o.meters).before
       → NothingFailed o → (status ≡ 3) ⊎ (status ≡ 7)
-  -- On 4 and 7 some first pages of what was read were written whole, and nothing else. On 4 these are counted; on 7
-  -- these, or these and the next page.
+  -- On 4 all whole pages of what was read were written and counted, and nothing else; what was read has no fault but
+  -- one that more bytes could mend.
   pub stopped : (job : Job) (p : Printer) → AsksFor words o.shelf.told verb.Print job (Ok p) → status ≡ 4
-      → (some : PrintsSome (way_of job) p (table_of job.kernel) o.input o.out)
-      × CountsPages p (table_of job.kernel) (metered job o.meters) some.pages
+      → (all : PrintsTaken (way_of job) p (table_of job.kernel) o.input o.out)
+      × CountsPages p (table_of job.kernel) (metered job o.meters) all.pages
+  -- On 7 some first pages of what was read were written whole, and nothing else. These are counted, or these and the
+  -- next page.
   pub full : (job : Job) (p : Printer) → AsksFor words o.shelf.told verb.Print job (Ok p) → status ≡ 7
       → (some : PrintsSome (way_of job) p (table_of job.kernel) o.input o.out)
       × (CountsPages p (table_of job.kernel) (metered job o.meters) some.pages

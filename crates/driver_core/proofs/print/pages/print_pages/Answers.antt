@@ -17,7 +17,7 @@ use Rattle.driver_core.proofs.print.pages.print_pages.Goals as goal
 pub returns-in-Err : goal.returns-in-Err
 returns-in-Err g c =
     no_sync (way_of c.args.job.now) c.args.profile.now (table_of c.args.job.now.kernel) _ _ _ _ c.in-Err.stop c.stream_answer.result
-    c.in-Err.ensures.input c.in-Err.ensures.place c.in-Err.ensures.read c.in-Err.ensures.used c.stream_answer.ensures
+    c.in-Err.ensures.input c.in-Err.ensures.place c.in-Err.ensures.read c.in-Err.ensures.taken c.in-Err.ensures.used c.stream_answer.ensures
 
 pub pages-init : goal.pages-init
 pages-init g c = record {
@@ -35,7 +35,7 @@ returns-in-Err-read_page g c =
     c.stream_answer-in-Err-read_page.result (can_go c.args.profile.now (way_of c.args.job.now)
     (subst (λ (p : Printer). p.nozzles ≤ 255) c.profile.view_is (omega (arith, c.if-prove.false))) c.requires.checked c.requires.way)
     c.pages.invariant.stream.0 c.pages.invariant.whole c.pages.invariant.stream.1
-    c.in-Err-read_page.ensures.input c.in-Err-read_page.ensures.place c.pages.invariant.read_later c.in-Err-read_page.ensures.read c.read_page.ensures.used
+    c.in-Err-read_page.ensures.input c.in-Err-read_page.ensures.place c.pages.invariant.read_later c.in-Err-read_page.ensures.read c.in-Err-read_page.ensures.taken c.read_page.ensures.used
     c.stream_answer-in-Err-read_page.ensures
 
 pub returns-in-Ok-None : goal.returns-in-Ok-None
