@@ -91,6 +91,7 @@ impl Unread {
     pub fn fill<S: Source>(&mut self, s: &mut S, need: usize) -> Result<(), Failed>
         requires { need ≤ MOST_UNREAD }
         ensures end { OnOk result (length self.new < need → IsAtEnd (S.left s.new)) }
+        ensures short { OnErr result (length self.new < need) }
         ensures text { Keeps (text_behind self.old (S.left s.old)) (text_behind self.new (S.left s.new)) }
         ensures cause { HasCause (S.faults s.old) (S.faults s.new) result }
     {

@@ -2,7 +2,7 @@
 use Rattle.std.proofs.Common.{◌≡◌, ℕ, ◌+◌, ◌-◌, ◌≤◌, ◌^◌, min, List, Option, Some, None, IfSome, IfNone, Err, Ok, [], ◌∷◌, ◌++◌}
 use Rattle.std.proofs.Common.{length, length-append, refl, sym, ◌∙◌, ap, subst, arith, append-nil}
 use Rattle.std.proofs.lemmas.List.Concat.{flat_map-append}
-use Rattle.std.specs.Io.KnownBytes.{Appends}
+use Rattle.std.specs.Io.KnownBytes.{Appends, Consumes}
 use Rattle.std.proofs.KnownBytes.{Appends-nil, Appends-trans, Consumes-nil}
 use Rattle.buffered_bytes.specs.Outside.{Outside}
 use Rattle.dot_emulator.specs.declared.emulator.EmuStop.{EmuStop}
@@ -13,18 +13,19 @@ use Rattle.dot_emulator.specs.Runs.{IsSheet, Runs, Shows}
 use Rattle.escp2_definitions.specs.declared.stops.EmuFault.{EmuFault}
 use Rattle.escp2_definitions.specs.declared.stops.JobStop.TheVariants as job
 use Rattle.escp2_definitions.specs.Commands.{Entry}
-use Rattle.escp2_definitions.specs.JobEnds.{job_end}
+use Rattle.escp2_definitions.specs.JobEnds.{Stopped, job_end}
 use Rattle.escp2_definitions.specs.Machine.{Machine, Sheet as PrintedSheet, after, execute, execute_from, given, start}
 use Rattle.job_feed.specs.declared.feed.FeedStop.{FeedStop}
 use Rattle.job_feed.specs.declared.feed.FeedStop.TheVariants as feed_is
 use Rattle.job_feed.specs.declared.feed.JobFeed.{JobFeed}
 use Rattle.job_feed.specs.declared.feed.PlacedCommand.{PlacedCommand}
-use Rattle.job_feed.specs.Feeding.{HasEnded, IsStopped, TakesCommand, at_of, heard_of, most_of, text_of}
-use Rattle.job_feed.specs.Jobs.{TakesCommands}
-use Rattle.job_feed.proofs.Jobs.{GaveCommands, entry_of, gave_first, gave_more, gave_none, job_ended, job_refused, rose_within, takes_gave}
+use Rattle.job_feed.specs.Feeding.{HasEnded, IsStopped, TakesCommand, at_of, heard_of, most_of, text_of, unread_of}
+use Rattle.job_feed.specs.Jobs.{MoreMayMend, TakesCommands}
+use Rattle.job_feed.proofs.Jobs.{GaveCommands, commands_none, ends_whole, entry_of, gave_first, gave_more, gave_none, job_ended}
+use Rattle.job_feed.proofs.Jobs.{job_refused, rose_within, takes_all, takes_gave}
 use Rattle.job_player.specs.declared.player.PlayStop.{PlayStop}
 use Rattle.job_player.specs.declared.player.PlayStop.TheVariants as stop
-use Rattle.job_player.specs.Outcome.{PlayOutcome, PlaysAll, TakesSheets, counted, sheets_of}
+use Rattle.job_player.specs.Outcome.{PlayOutcome, PlaysAll, PlaysSome, PlaysTaken, TakesSheets, counted, sheets_of}
 use Rattle.job_player.specs.Pictures.{images, sheet_images, table_images}
 use Rattle.job_player.specs.Stops.{emu_stop, feed_stop}
 use Rattle.job_player.proofs.Images.{images_are}
@@ -205,10 +206,11 @@ plays_all {p} most feed new {before} {text} {left} {held} {now} {f0} {f1} {g0} {
 
 pub plays_to_stop : (p : Printer) (most : ℕ) (e : Emulator)
     (feed new : JobFeed) (before text left held now : Option (List ℕ)) (number f0 f1 f2 g0 g1 : ℕ) (why : FeedStop)
-    → PlaysSoFar p e feed before text held now number → IsStopped feed text (text_of new left) f1 f2 why → f0 ≤ f1 → most_of feed ≡ most
+    → PlaysSoFar p e feed before text held now number → IsStopped feed text (text_of new left) f1 f2 why
+    → (why ≡ feed_is.Read → unread_of new ≡ []) → f0 ≤ f1 → most_of feed ≡ most
     → PlayOutcome p most (record { before = before; now = left; faults_before = f0; faults_now = f2 })
     (record { before = held; now = now; faults_before = g0; faults_now = g1 }) (Err (feed_stop why))
-plays_to_stop p most e feed new before text left held now number f0 f1 f2 g0 g1 (feed_is.Job offset cause) so_far stopped later most_is =
+plays_to_stop p most e feed new before text left held now number f0 f1 f2 g0 g1 (feed_is.Job offset cause) so_far stopped used later most_is =
     let P : ℕ → Type 0 = λ n. IfSome before (λ bytes. (sheets_of p n bytes ≡ so_far.sheets)
     × (job_end bytes n (Some p) ≡ Some (record { at = offset; why = cause }))) in
     record {
@@ -218,17 +220,48 @@ plays_to_stop p most e feed new before text left held now number f0 f1 f2 g0 g1 
           (job_refused feed before text (text_of new left) so_far.runs.entries offset cause so_far.runs.gave stopped));
       writes = so_far.writes;
     }
-plays_to_stop p most e feed new before text left held now number f0 f1 f2 g0 g1 feed_is.Read so_far failed later most_is =
-    let Q : ℕ → Type 0 = λ n. TakesSheets p n before left so_far.sheets in (
+plays_to_stop p most e feed new before text left held now number f0 f1 f2 g0 g1 feed_is.Read so_far failed used later most_is =
+    let takes = takes_all feed new before text left so_far.runs.entries failed.bytes so_far.runs.gave failed.takes (used refl) in
+    let stops = stops_as_bytes p (most_of feed) takes.bytes so_far.runs.entries so_far.runs.m so_far.sheets
+    (job_end takes.bytes (most_of feed) None) so_far.runs.executes (record { are = takes.are; stop_is = refl }) in
+    let P : ℕ → Type 0 = λ n. PlaysTaken p n (record { before = before; now = left; faults_before = f0; faults_now = f2 })
+    (record { before = held; now = now; faults_before = g0; faults_now = g1 }) in
+    let Q : Option Stopped → Type 0 = MoreMayMend in
+    let R : List PrintedSheet → Type 0 = λ sheets. Appends held now (images p sheets) in (
       rose_within f0 f1 f2 f2 later failed.rose (omega arith),
-      record {
-        sheets = so_far.sheets;
-        takes = subst Q most_is (takes_sheets p
-            (most_of feed) before left so_far.runs.entries so_far.runs.m so_far.sheets so_far.runs.executes
-            (takes_gave feed new before text left so_far.runs.entries failed.bytes so_far.runs.gave failed.takes.taken));
-        writes = so_far.writes;
-      },
+      subst P most_is (record {
+        bytes = takes.bytes;
+        taken = takes.taken;
+        end = subst Q (sym stops.1) takes.end;
+        writes = subst R (sym stops.0) so_far.writes;
+      }),
     )
+
+-- nothing was taken, and nothing was written
+pub plays_untaken : (p : Printer) (most : ℕ) (input out : Outside) → Consumes input.before input.now [] → Appends out.before out.now []
+    → PlaysTaken p most input out
+plays_untaken p most input out taken appends =
+    let stops = stops_as_bytes p most [] [] start [] None (executes_none p start) (ends_whole [] most [] commands_none (omega arith)) in
+    let Q : Option Stopped → Type 0 = MoreMayMend in
+    let R : List PrintedSheet → Type 0 = λ sheets. Appends out.before out.now (images p sheets) in record {
+      bytes = [];
+      taken = taken;
+      end = subst Q (sym stops.1) tt;
+      writes = subst R (sym stops.0) appends;
+    }
+
+-- what was taken begins with its own sheets
+pub plays_some : (p : Printer) (most : ℕ) (input out : Outside) → PlaysTaken p most input out → PlaysSome p most input out
+plays_some p most input out plays = record {
+  sheets = sheets_of p most plays.bytes;
+  takes = record {
+    bytes = plays.bytes;
+    taken = plays.taken;
+    others = [];
+    are = sym (append-nil (sheets_of p most plays.bytes));
+  };
+  writes = plays.writes;
+}
 
 -- the machine refuses a command
 pub plays_to_refusal : (p : Printer) (most : ℕ) (e e' : Emulator) (old new : JobFeed)
@@ -298,13 +331,14 @@ plays_to_emu_stop {p} most {e} e' old new {text} {number} input out placed why a
 pub plays_to_feed_stop : {p : Printer} (most : ℕ) {e : Emulator} (feed new : JobFeed) {text : Option (List ℕ)} {number : ℕ}
     (input out : Outside) (faults : ℕ) (why : FeedStop) (answer : PlayStop)
     → PlaysSoFar p e feed input.before text out.before out.now number
-    → IsStopped feed text (text_of new input.now) faults input.faults_now why → input.faults_before ≤ faults
+    → IsStopped feed text (text_of new input.now) faults input.faults_now why
+    → (why ≡ feed_is.Read → unread_of new ≡ []) → input.faults_before ≤ faults
     → most_of feed ≡ most → answer ≡ feed_stop why
     → PlayOutcome p most input out (Err answer)
-plays_to_feed_stop {p} most {e} feed new {text} {number} input out faults why answer so_far stopped later most_is is =
+plays_to_feed_stop {p} most {e} feed new {text} {number} input out faults why answer so_far stopped used later most_is is =
     let P : PlayStop → Type 0 = λ stop. PlayOutcome p most input out (Err stop) in
     subst P (sym is) (plays_to_stop p most e feed new input.before text input.now out.before out.now number
-    input.faults_before faults input.faults_now out.faults_before out.faults_now why so_far stopped later most_is)
+    input.faults_before faults input.faults_now out.faults_before out.faults_now why so_far stopped used later most_is)
 
 -- what holds of an option that is none
 pub if_none : {T : Type 0} (o : Option T) (P : Type 0) → ((x : T) → o ≡ Some x → ⊥) → IfNone o P → P

@@ -5,6 +5,7 @@ use Rattle.escp2_definitions.specs.declared.stops.JobStop.{JobStop}
 use Rattle.escp2_definitions.specs.Commands.{commands}
 use Rattle.escp2_definitions.specs.JobEnds.{job_end, stopped}
 use Rattle.escp2_definitions.specs.Machine.{Sheet, execute}
+use Rattle.job_feed.specs.Jobs.{MoreMayMend}
 use Rattle.job_player.specs.declared.player.PlayStop.{PlayStop}
 use Rattle.job_player.specs.declared.player.PlayStop.TheVariants as stop
 use Rattle.job_player.specs.Pictures.{images, sheet_images}
@@ -43,6 +44,13 @@ pub record PlaysSome (p : Printer) (most : ℕ) (input out : Outside) : Type 0 w
   pub takes : TakesSheets p most input.before input.now sheets
   pub writes : Appends out.before out.now (images p sheets)
 
+-- The images of all sheets that what was taken ejects were written, and more bytes could mend where it stops.
+pub record PlaysTaken (p : Printer) (most : ℕ) (input out : Outside) : Type 0 where
+  pub bytes : List ℕ
+  pub taken : Consumes input.before input.now bytes
+  pub end : MoreMayMend (job_end bytes most (Some p))
+  pub writes : Appends out.before out.now (images p (sheets_of p most bytes))
+
 -- the number of a sheet, up to the last value of 32 bits
 abbrev pub counted : ℕ → ℕ
 counted n = min n (2 ^ 32 - 1)
@@ -61,6 +69,6 @@ pub record StopsInSheet (p : Printer) (most : ℕ) (input out : Outside) (number
 abbrev pub PlayOutcome : Printer → ℕ → Outside → Outside → Result (Unit {0}) PlayStop → Type 0
 PlayOutcome p most input out (Ok u) = PlaysAll p most input out
 PlayOutcome p most input out (Err (stop.Job offset cause)) = PlaysToStop p most input out offset cause
-PlayOutcome p most input out (Err stop.Read) = HasRisen input × PlaysSome p most input out
+PlayOutcome p most input out (Err stop.Read) = HasRisen input × PlaysTaken p most input out
 PlayOutcome p most input out (Err (stop.Write number)) = HasRisen out × StopsInSheet p most input out number
 PlayOutcome p most input out (Err stop.Memory) = PlaysSome p most input out

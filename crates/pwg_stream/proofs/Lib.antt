@@ -2,3 +2,4 @@ pub mod GroupSizes
 pub mod Grouping
 pub mod Prefixes
 pub mod Faults
+pub mod Taken

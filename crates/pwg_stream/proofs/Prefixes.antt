@@ -57,7 +57,7 @@ broken want most page b bytes line why e = ap (λ (r : PageRead). elim r [
 abbrev pub NoPage : Wanted → ℕ → List ℕ → InputCause → Type 0
 NoPage want pages text why = pages_from want (most_pages - pages) (pages + 1) text ≡ record { pages = []; end = Fault (pages + 1) 0 why }
 
-no_page : (want : Wanted) (pages : ℕ) (text : List ℕ) (why : InputCause) → pages < most_pages → 1 ≤ length text
+pub no_page : (want : Wanted) (pages : ℕ) (text : List ℕ) (why : InputCause) → pages < most_pages → 1 ≤ length text
     → page_at want text ≡ Broken 0 why → NoPage want pages text why
 no_page want pages [] why few some e = absurd (omega arith)
 no_page want pages (b ∷ bytes) why few some e =

@@ -19,6 +19,12 @@ pub record GivesLine (old new : LineReader) (before now : Option (List ℕ)) (re
   pub used : Consumes before now bytes
   pub group : (rest : List ℕ) → next_group old (bytes ++ rest) ≡ Group repeats (line_of new) rest
 
+-- The bytes that were taken are a part of the next group, without a fault.
+pub record TakesPart (lines : LineReader) (before left : Option (List ℕ)) : Type 0 where
+  pub bytes : List ℕ
+  pub taken : Consumes before left bytes
+  pub part : next_group lines bytes ≡ Part
+
 -- the text begins with no group, for this cause
 abbrev pub IsNoGroup : GroupRead → InputCause → Type 0
 IsNoGroup read why = (read ≡ Part) × (why ≡ cause.Truncated)

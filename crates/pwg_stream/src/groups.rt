@@ -1,6 +1,6 @@
 //! Reading one group of lines, from as many pieces as it needs.
 ghost use Rattle.pwg_lines.specs.Reading.{IsAnew, form_of, lines_left_of, next_group};
-ghost use Rattle.pwg_stream.specs.Groups.{GivesLine, IsBadGroup, IsNoGroup, OnNoGroup};
+ghost use Rattle.pwg_stream.specs.Groups.{GivesLine, IsBadGroup, IsNoGroup, OnNoGroup, TakesPart};
 ghost use Rattle.buffered_bytes.specs.Text.{UsesSome, text_behind};
 ghost use Rattle.pwg_stream.specs.declared.groups.GroupStop.TheVariants as stop;
 ghost use Rattle.std.specs.Prelude.{IfOk, IfSome, IsErrOf, OnErr, OnOk, ◌≡◌, ◌≤◌, ◌⊎◌};
@@ -36,6 +36,7 @@ pub fn read_group<S: Source>(
     ensures input { OnNoGroup result (λ why. IfSome (text_behind unread.old (S.left s.old)) (λ text.
         IsNoGroup (next_group lines.old text) why ⊎ IsBadGroup (next_group lines.old text) why)) }
     ensures read { IsErrOf result stop.Read → Rose (S.faults s.old) (S.faults s.new) }
+    ensures part { IsErrOf result stop.Read → TakesPart lines.old (text_behind unread.old (S.left s.old)) (S.left s.new) }
     ensures used { UsesSome (text_behind unread.old (S.left s.old)) (text_behind unread.new (S.left s.new)) }
     ensures later { S.faults s.old ≤ S.faults s.new }
 {

@@ -1,6 +1,7 @@
 //! Reading the header of a page (PWG 5102.4, section 4.3).
 ghost use Rattle.pwg_stream.specs.Pages.{GivesHeader};
 ghost use Rattle.pwg_stream.specs.Stops.{OnInput};
+ghost use Rattle.pwg_stream.specs.Taken.{TakesNoPage};
 ghost use Rattle.buffered_bytes.specs.Text.{UsesSome, text_behind};
 ghost use Rattle.pwg_stream.specs.declared.stops.StreamStop.TheVariants as stop;
 ghost use Rattle.std.specs.Io.KnownBytes.{IsAtEnd};
@@ -59,6 +60,8 @@ pub fn read_page_header<S: Source>(
         pages_from want (most_pages - pages) (pages + 1) text ≡ record { pages = []; end = Fault page line cause })) }
     ensures place { OnInput result (λ page line cause. (page ≡ pages + 1) × (line ≡ 0)) }
     ensures read { IsErrOf result stop.Read → Rose (S.faults s.old) (S.faults s.new) }
+    ensures taken { IsErrOf result stop.Read
+        → TakesNoPage want pages (text_behind unread.old (S.left s.old)) (S.left s.new) }
     ensures memory { IsErrOf result stop.Memory → ⊥ }
     ensures used { UsesSome (text_behind unread.old (S.left s.old)) (text_behind unread.new (S.left s.new)) }
     ensures later { S.faults s.old ≤ S.faults s.new }

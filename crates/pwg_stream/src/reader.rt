@@ -47,6 +47,7 @@ impl PageReader {
     ghost use Rattle.pwg_stream.specs.Reading.{BeginsPage, GivesLines, HasLineFault, form_of, has_ended, line_of};
     ghost use Rattle.pwg_stream.specs.Reading.{lines_left_of, page_of, stop_of, text_of};
     ghost use Rattle.pwg_stream.specs.Stops.{OnInput};
+    ghost use Rattle.pwg_stream.specs.Taken.{TakesAllPages, TakesNoGroup, TakesNoPage};
     ghost use Rattle.buffered_bytes.specs.Text.{UsesSome};
     ghost use Rattle.pwg_stream.specs.declared.stops.StreamStop.{StreamStop};
     ghost use Rattle.pwg_stream.specs.declared.stops.StreamStop.TheVariants as stop;
@@ -70,6 +71,8 @@ impl PageReader {
             (want : Wanted) → stream want bytes ≡ record { pages = []; end = Fault page line cause })) }
         ensures place { OnInput result (λ page line cause. (page ≡ 0) × (line ≡ 0)) }
         ensures read { IsErrOf result stop.Read → Rose (S.faults s.old) (S.faults s.new) }
+        ensures taken { IsErrOf result stop.Read → (want : Wanted)
+            → TakesAllPages want (S.left s.old) (S.left s.new) [] }
         ensures used { OnErr result (UsesSome (S.left s.old) (S.left s.new)) }
         ensures later { S.faults s.old ≤ S.faults s.new }
     {
@@ -112,6 +115,8 @@ impl PageReader {
         ensures place { stop_of self.old ≡ None
             → OnInput result (λ page line cause. (page ≡ page_of self.old + 1) × (line ≡ 0)) }
         ensures read { stop_of self.old ≡ None → IsErrOf result stop.Read → Rose (S.faults s.old) (S.faults s.new) }
+        ensures taken { stop_of self.old ≡ None → IsErrOf result stop.Read
+            → TakesNoPage want (page_of self.old) (text_of self.old (S.left s.old)) (S.left s.new) }
 
         ensures used { UsesSome (text_of self.old (S.left s.old)) (text_of self.new (S.left s.new)) }
         ensures later { S.faults s.old ≤ S.faults s.new }
@@ -171,6 +176,8 @@ impl PageReader {
             })) }
         ensures place { OnInput result (λ page line cause. (page ≡ page_of self.old + 1) × (line ≡ 0)) }
         ensures read { IsErrOf result stop.Read → Rose (S.faults s.old) (S.faults s.new) }
+        ensures taken { IsErrOf result stop.Read
+            → TakesNoPage want (page_of self.old) (text_of self.old (S.left s.old)) (S.left s.new) }
         ensures used { UsesSome (text_of self.old (S.left s.old)) (text_of self.new (S.left s.new)) }
         ensures later { S.faults s.old ≤ S.faults s.new }
         ensures none_left { IfOk result (λ o. IfNone o (lines_left_of self.new ≡ lines_left_of self.old)) }
@@ -219,6 +226,8 @@ impl PageReader {
         ensures lines { IfOk result (GivesLines self.old self.new (S.left s.old) (S.left s.new)) }
         ensures input { stop_of self.old ≡ None → OnInput result (HasLineFault self.old (S.left s.old)) }
         ensures read { stop_of self.old ≡ None → IsErrOf result stop.Read → Rose (S.faults s.old) (S.faults s.new) }
+        ensures taken { stop_of self.old ≡ None → IsErrOf result stop.Read
+            → TakesNoGroup self.old (S.left s.old) (S.left s.new) }
         ensures memory { stop_of self.old ≡ None → IsErrOf result stop.Memory → ⊥ }
 
         ensures used { UsesSome (text_of self.old (S.left s.old)) (text_of self.new (S.left s.new)) }

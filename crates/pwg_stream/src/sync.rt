@@ -1,5 +1,6 @@
 //! Reading the sync word (PWG 5102.4, section 4.1).
 ghost use Rattle.pwg_stream.specs.Stops.{OnInput};
+ghost use Rattle.pwg_stream.specs.Taken.{TakesAllPages};
 ghost use Rattle.buffered_bytes.specs.Text.{UsesSome, text_behind};
 ghost use Rattle.pwg_stream.specs.declared.stops.StreamStop.TheVariants as stop;
 ghost use Rattle.std.specs.Io.KnownBytes.{Consumes};
@@ -22,6 +23,8 @@ pub fn read_sync<S: Source>(unread: &mut Unread, s: &mut S) -> Result<(), Stream
         (want : Wanted) → stream want text ≡ record { pages = []; end = Fault page line cause })) }
     ensures place { OnInput result (λ page line cause. (page ≡ 0) × (line ≡ 0)) }
     ensures read { IsErrOf result stop.Read → Rose (S.faults s.old) (S.faults s.new) }
+    ensures taken { IsErrOf result stop.Read → (want : Wanted)
+        → TakesAllPages want (text_behind unread.old (S.left s.old)) (S.left s.new) [] }
     ensures memory { IsErrOf result stop.Memory → ⊥ }
     ensures used { UsesSome (text_behind unread.old (S.left s.old)) (text_behind unread.new (S.left s.new)) }
     ensures later { S.faults s.old ≤ S.faults s.new }

@@ -1,5 +1,6 @@
 //! A job's sheet, and where a job stops.
 use crate::checks::same;
+use escp2_definitions::EmuFault;
 use job_player::{JobStop, PlayStop, play_job};
 use known_jobs::{TINY_IMAGES, TINY_JOB};
 use printer_profile::TINY;
@@ -47,4 +48,48 @@ fn a_cut_job_leaves_no_image(rt: HostRuntime) -> Result<(), Fail> {
 fn a_full_sink_names_the_sheet(rt: HostRuntime) -> Result<(), Fail> {
     let stop = PlayStop::Write { sheet: 1 };
     plays(&rt, rt.alloc(), (&TINY_JOB, 5), (Err(stop), b"P4\n8 "))
+}
+
+// Plays a job a byte a call, of which the call of this number fails: the bytes before it are all that is read.
+fn plays_until(
+    rt: &impl Abort,
+    alloc: Global,
+    (job, call): (&[u8], u32),
+    (end, images): (Result<(), PlayStop>, &[u8]),
+) -> Result<(), Fail> {
+    assert!(rt; TINY.check() == Ok(()));
+    let bytes = Vec::from_slice(alloc, job)?;
+    let pieces = vec![in alloc; 1]?;
+    let mut input = MemSource::make(bytes, pieces, vec![in alloc; call]?);
+    let mut out = MemSink::make(alloc, 64, Vec::new(alloc), Vec::new(alloc))?;
+    let played = play_job(alloc, &TINY, 92, &mut input, &mut out);
+    same(rt, "a failing call", &played, &end);
+    assert!(rt; out.bytes() == images);
+    Ok(())
+}
+
+const READ: Result<(), PlayStop> = Err(PlayStop::Read);
+
+#[test]
+fn a_failed_read_leaves_the_images_of_all_ejected_sheets(rt: HostRuntime) -> Result<(), Fail> {
+    // The command that ejects the sheet is the byte 90 of the job.
+    for call in 1..=93 {
+        let images: &[u8] = if call <= 90 { b"" } else { TINY_IMAGES };
+        plays_until(&rt, rt.alloc(), (&TINY_JOB, call), (READ, images))?;
+    }
+    Ok(())
+}
+
+#[test]
+fn a_refused_command_comes_before_a_failed_read(rt: HostRuntime) -> Result<(), Fail> {
+    // The first pass twice: the second time ends with byte 79.
+    let mut job = Vec::from_slice(rt.alloc(), &TINY_JOB[..64])?;
+    job.push(0x0D)?;
+    job.extend_from_slice(&TINY_JOB[50..64])?;
+    let refused = Err(PlayStop::Job {
+        offset: 65,
+        cause: JobStop::Machine(EmuFault::Overprint),
+    });
+    plays_until(&rt, rt.alloc(), (job.as_slice(), 79), (READ, b""))?;
+    plays_until(&rt, rt.alloc(), (job.as_slice(), 80), (refused, b""))
 }

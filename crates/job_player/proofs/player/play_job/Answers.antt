@@ -1,4 +1,4 @@
-use Rattle.std.proofs.Common.{arith, subst, ◌∙◌, ℕ, List, Err}
+use Rattle.std.proofs.Common.{arith, ap, subst, ◌∙◌, ℕ, List, Err}
 use Rattle.std.proofs.lemmas.Result.{err_from_is_err_and}
 use Rattle.dot_emulator.specs.Runs.{Runs}
 use Rattle.job_player.proofs.Playing.{gives_sheet, if_none, is_none, plays_all, plays_more, plays_none, plays_nothing}
@@ -24,7 +24,8 @@ returns-in_err-placed g c =
     let error = err_from_is_err_and c.from_residual-in_err-placed.result c.from_residual-in_err-placed.ensures.1 in
     rw error.1 (plays_to_feed_stop c.args.most
     c.commands.feed c.next.new.self _ _ _ c.in_err-placed.field-0.0 _ c.commands.invariant.so_far
-    c.in_err-placed.ensures.stop c.commands.invariant.later c.commands.invariant.most error.2)
+    c.in_err-placed.ensures.stop (λ is. c.in_err-placed.ensures.all_used (ap Err is))
+    c.commands.invariant.later c.commands.invariant.most error.2)
 
 pub returns-in_default : goal.returns-in_default
 returns-in_default g c =

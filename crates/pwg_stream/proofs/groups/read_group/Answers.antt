@@ -2,6 +2,7 @@ use Rattle.std.proofs.Common.{arith, ap, length, length-append}
 use Rattle.pwg_lines.specs.Reading.{form_of}
 use Rattle.pwg_laws.proofs.KindRows.{kind_row}
 use Rattle.pwg_stream.proofs.Grouping.{group_begin, group_ends, group_fed, group_refused, group_turn, group_whole, uses_fed, uses_kept}
+use Rattle.pwg_stream.proofs.Taken.{all_fed, takes_part}
 use Rattle.buffered_bytes.proofs.Texts.{text_fed}
 use Rattle.pwg_stream.proofs.groups.read_group.Goals as goal
 
@@ -62,3 +63,13 @@ pieces-init g c = record {
   group = group_begin c.args.lines.now _ c.args.unread.now c.requires;
   later = omega arith;
 }
+
+pub returns-in-Err-clause-part : goal.returns-in-Err-clause-part
+returns-in-Err-clause-part g c = λ _.
+    let more = rw c.bytes.ensures.bytes at (rw c.in-More.is at c.feed-fed.ensures.more) in
+    let fed = group_fed c.pieces.invariant.group more c.feed-fed.ensures.form
+    (rw c.bytes.ensures.bytes at c.bytes.ensures.are)
+    (text_fed (g.S.Source.left c.pieces.s) c.pieces.unread c.use_up.new.self c.feed-fed.result.used c.use_up.ensures) in
+    takes_part _ c.more.new.self fed.0 c.more.ensures.text
+    (all_fed c.pieces.unread c.use_up.new.self c.more.new.self c.feed-fed.result.used (omega (arith, more.all)) c.use_up.ensures
+    c.in-Err.ensures.same)
