@@ -182,6 +182,7 @@ print_capped way p k input out meters s (answer.Job offset cause0) bytes pages l
 pub prints_untaken : (way : Way) (p : Printer) (k : Table) (input out : Outside) (meters : Meters)
     → Keeps input.before input.now → Keeps out.before out.now → meters.now ≡ meters.before
     → (all : PrintsTaken way p k input out) × CountsPages p k meters all.pages
+unfolding stream
 prints_untaken way p k input out meters unread unwritten uncounted = (
   record {
     pages = [];

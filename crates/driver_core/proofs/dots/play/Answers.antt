@@ -1,13 +1,10 @@
-use Rattle.job_player.proofs.Playing.{plays_some}
 use Rattle.driver_core.proofs.dots.play.Goals as goal
 
 pub returns-in-Err-Job : goal.returns-in-Err-Job
 returns-in-Err-Job g c = rw c.in-Err-Job.field-0-is at c.in-Err-Job.ensures
 
 pub returns-in-Err-Read : goal.returns-in-Err-Read
-returns-in-Err-Read g c =
-    let plays = rw c.in-Err-Read.field-0-is at c.in-Err-Read.ensures in
-    (plays.0, plays_some c.args.profile.now c.args.most _ _ plays.1)
+returns-in-Err-Read g c = rw c.in-Err-Read.field-0-is at c.in-Err-Read.ensures
 
 pub returns-in-Err-Write : goal.returns-in-Err-Write
 returns-in-Err-Write g c = rw c.in-Err-Write.field-0-is at c.in-Err-Write.ensures
