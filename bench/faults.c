@@ -1,21 +1,18 @@
 /* Faults that a program meets outside of itself, for bench/outside and bench/allocations.
  *
- *   cc -shared -fPIC -O2 -o faults.so faults.c -ldl
+ *   cc -shared -fPIC -O2 -o faults.so faults.c
  *   LD_PRELOAD=faults.so FAULT=VALUE PROGRAM ..
  *
- * FAIL_ALLOC=N       the Nth call for memory gives none, and at the end the number of calls is written to COUNT_FILE
+ * FAIL_ALLOC=N       the Nth call for memory gives none, and the file MARK_FILE is made then
  * INTERRUPT=N        N of N + 1 calls of read and write are interrupted, and move nothing
  * READ_AT_MOST=N     a read gives at most N bytes
  * WRITE_AT_MOST=N    a write takes at most N bytes
  */
 #define _GNU_SOURCE
-#include <dlfcn.h>
 #include <errno.h>
 #include <fcntl.h>
 #include <stddef.h>
-#include <stdio.h>
 #include <stdlib.h>
-#include <string.h>
 #include <sys/syscall.h>
 #include <unistd.h>
 
@@ -25,7 +22,7 @@ extern void *__libc_realloc(void *, size_t);
 extern void *__libc_memalign(size_t, size_t);
 
 static long failing, calls, interruptions, most_read, most_write;
-static int counts;
+static const char *mark;
 
 static long number(const char *name)
 {
@@ -39,30 +36,18 @@ __attribute__((constructor)) static void begin(void)
     interruptions = number("INTERRUPT");
     most_read = number("READ_AT_MOST");
     most_write = number("WRITE_AT_MOST");
-    counts = 1;
-}
-
-__attribute__((destructor)) static void end(void)
-{
-    const char *path = getenv("COUNT_FILE");
-    counts = 0;
-    if (path) {
-        char text[32];
-        int file = open(path, O_WRONLY | O_CREAT | O_TRUNC, 0644);
-        int length = snprintf(text, sizeof text, "%ld\n", calls);
-        syscall(SYS_write, file, text, length);
-        close(file);
-    }
+    mark = getenv("MARK_FILE");
 }
 
 /* Whether this call for memory is the one that fails */
 static int fails(void)
 {
-    if (counts && __atomic_add_fetch(&calls, 1, __ATOMIC_SEQ_CST) == failing) {
-        errno = ENOMEM;
-        return 1;
-    }
-    return 0;
+    if (!failing || __atomic_add_fetch(&calls, 1, __ATOMIC_SEQ_CST) != failing)
+        return 0;
+    if (mark)
+        close(open(mark, O_WRONLY | O_CREAT, 0644));
+    errno = ENOMEM;
+    return 1;
 }
 
 void *malloc(size_t size) { return fails() ? NULL : __libc_malloc(size); }

@@ -43,7 +43,7 @@ def program_of(words):
 def build_faults(folder):
     """The library of faults, compiled."""
     library = Path(folder, "faults.so")
-    words = ["cc", "-shared", "-fPIC", "-O2", "-o", library, TOP / "bench/faults.c", "-ldl"]
+    words = ["cc", "-shared", "-fPIC", "-O2", "-o", library, TOP / "bench/faults.c"]
     subprocess.run([str(word) for word in words], check=True)
     return library
 
