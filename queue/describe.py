@@ -5,16 +5,19 @@
     driver_program profile profile=NAME | describe.py attributes NAME [paper|labels]
 
 `ppd` writes a PPD for a queue, in which the text of the profile stands, `attributes` the attributes of an IPP printer
-for `ippeveprinter -a`. Resolution, margins and colours are those of the profile. NAME is what users see. The last word
-chooses the sizes of sheets that are offered, of which those that the driver takes at the profile's resolution are kept.
+for `ippeveprinter -a`. Resolution, margins and colours are those of the profile. NAME is what users see: up to 31
+letters, digits, blanks and _ . + -. The last word chooses the sizes of sheets that are offered, of which those that the
+driver takes at the profile's resolution are kept.
 """
 import math
+import re
 import sys
 from collections import namedtuple
 
 MOST_COLUMNS = 8191
 MOST_INCHES = 22
 SHORTEST = 36  # points of a custom sheet inside the margins
+LONGEST_NAME = 31  # characters of a PPD's ShortNickName
 
 # The name in a PPD, the text that users see, the name in IPP, and the width and height in millimetres
 Sheet = namedtuple("Sheet", "name text ipp_name width height")
@@ -81,6 +84,7 @@ def ppd(profile, name, sheets):
 
 def ppd_header(profile, name):
     colour = profile.models[0] == "RGB"
+    full = f"Jinthbao {name}"
     return f'''*PPD-Adobe: "4.3"
 *FormatVersion: "4.3"
 *FileVersion: "1.0"
@@ -90,7 +94,7 @@ def ppd_header(profile, name):
 *Product: "(Jinthbao {name})"
 *Manufacturer: "Jinthbao"
 *ModelName: "Jinthbao {name}"
-*ShortNickName: "Jinthbao {name}"
+*ShortNickName: "{full if len(full) <= LONGEST_NAME else name}"
 *NickName: "Jinthbao {name}, PWG Raster to ESC/P2"
 *PSVersion: "(3010.000) 0"
 *LanguageLevel: "3"
@@ -211,10 +215,27 @@ def ipp_size(sheet):
     return f"{{ MEMBER integer x-dimension {x} MEMBER integer y-dimension {y} }}"
 
 
+def fault_of(name):
+    """Why a name cannot stand in a PPD, in words, or None."""
+    if not name:
+        return "it is empty"
+    if len(name) > LONGEST_NAME:
+        return f"it has {len(name)} characters, and a PPD takes {LONGEST_NAME}"
+    if not name.isascii():
+        return "it has characters that are not ASCII"
+    wrong = re.search("[^A-Za-z0-9 _.+-]", name)
+    if wrong:
+        return f"it has the character {wrong[0]!r}, and a PPD takes letters, digits, blanks and _ . + -"
+    return None
+
+
 def main(words):
     descriptions = {"ppd": ppd, "attributes": attributes}
     if len(words) not in (2, 3) or words[0] not in descriptions or words[2:] not in ([], ["paper"], ["labels"]):
         sys.exit(__doc__)
+    fault = fault_of(words[1])
+    if fault:
+        sys.exit(f"describe.py: {words[1]!r} cannot be the name of a printer: {fault}")
     text = sys.stdin.read()
     if not text.startswith(HEADS):
         sys.exit("describe.py: standard input is not the text of a profile")

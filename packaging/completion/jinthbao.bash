@@ -1,0 +1,65 @@
+# Completion of jinthbao and jinthbao-spool in bash, for /usr/share/bash-completion/completions
+
+_jinthbao_profiles() {
+    printf '%s\n' tiny1 tiny p360k p360cmyk p720cmyk
+    # another profile is a file of the current folder
+    grep -l --binary-files=text -m1 -E '^escp2-profile [12]' -- * 2>/dev/null
+}
+
+# _jinthbao_value KEY: the values of a key that are worth a list
+_jinthbao_value() {
+    case $1 in
+    profile) _jinthbao_profiles ;;
+    kernel) printf '%s\n' fs jjn stucki ;;
+    kind) printf '%s\n' gray black rgb black1 cmyk ;;
+    workers) printf '%s\n' 1 2 4 8 ;;
+    shingle) printf '%s\n' 0 1 ;;
+    esac
+}
+
+# _jinthbao_keys COMMAND: its keys
+_jinthbao_keys() {
+    case $1 in
+    print) printf '%s\n' profile kernel workers cap shingle dead ;;
+    dots) printf '%s\n' profile most ;;
+    list) printf '%s\n' most ;;
+    profile) printf '%s\n' profile ;;
+    trial) printf '%s\n' profile kernel workers seed pages width height kind shingle dead ;;
+    spool) printf '%s\n' profile kernel workers send ;;
+    esac
+}
+
+# _jinthbao_words COMMAND: the keys that no word has yet, each with its =, or the values of the word's key
+_jinthbao_words() {
+    # bash splits a word at =, so the line is looked at up to the cursor
+    local line=${COMP_LINE:0:COMP_POINT} key word
+    word=${line##*[[:blank:]]}
+    if [[ $word == *=* ]]; then
+        mapfile -t COMPREPLY < <(compgen -W "$(_jinthbao_value "${word%%=*}")" -- "${word#*=}")
+        return
+    fi
+    compopt -o nospace
+    for key in $(_jinthbao_keys "$1"); do
+        # send alone may stand more than once
+        if [[ $key == send || " $COMP_LINE" != *[[:blank:]]"$key="* ]]; then
+            COMPREPLY+=($(compgen -W "$key=" -- "$word"))
+        fi
+    done
+}
+
+_jinthbao() {
+    COMPREPLY=()
+    if ((COMP_CWORD == 1)); then
+        COMPREPLY=($(compgen -W "print dots list profile trial --help --version" -- "${COMP_WORDS[1]}"))
+    else
+        _jinthbao_words "${COMP_WORDS[1]}"
+    fi
+}
+
+_jinthbao_spool() {
+    COMPREPLY=()
+    _jinthbao_words spool
+}
+
+complete -F _jinthbao jinthbao
+complete -F _jinthbao_spool jinthbao-spool
