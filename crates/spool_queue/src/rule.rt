@@ -1,0 +1,103 @@
+//! What a pass knows, the rule of the queue, and its kinds of step.
+use crate::job::SpoolJob;
+use crossbeam_queue::protocol::{Join, Lesson, Outcome, Protocol, Split};
+use std::collections::LinkedList;
+
+/// What a pass knows. Only proofs see such a value; none is made.
+pub struct View {
+    /// It is the one pass of a sender.
+    pub sends: bool,
+    /// That sender, and the streams that it has sent.
+    pub sender: u64,
+    pub sent: LinkedList<LinkedList<u8>>,
+    /// It is the one pass that takes.
+    pub prints: bool,
+    /// The jobs that it has taken.
+    pub taken: LinkedList<SpoolJob>,
+    /// How many senders there are: 1, 2 and so on.
+    pub senders: u64,
+    /// What the first of them sent in all, whose passes are spent.
+    pub ended: LinkedList<LinkedList<LinkedList<u8>>>,
+}
+
+/// The rule of the spool.
+pub struct SpoolRule;
+
+impl Protocol<SpoolJob, View> for SpoolRule {
+    ghost use Rattle.std.specs.Prelude.{[]};
+    ghost use Rattle.spool_queue.specs.Rule.{FollowsRule, printer_view};
+
+    ghost holds = { FollowsRule };
+
+    ghost first = { printer_view 0 [] [] };
+}
+
+/// One more sender gets its pass.
+pub struct Enrols;
+
+impl Split<View> for Enrols {
+    ghost use Rattle.std.specs.Prelude.{[], suc};
+    ghost use Rattle.spool_queue.specs.Rule.{printer_view, sender_view};
+
+    ghost left = { λ v. printer_view (suc v.senders) v.taken v.ended };
+
+    ghost right = { λ v. sender_view (suc v.senders) [] };
+}
+
+/// The next sender ends: the printer has its pass.
+pub struct Ends;
+
+impl Join<View> for Ends {
+    ghost use Rattle.std.specs.Prelude.{[], ◌++◌, ◌∷◌};
+    ghost use Rattle.spool_queue.specs.Rule.{printer_view, spent_view};
+
+    ghost both = { λ v w. printer_view v.senders v.taken (v.ended ++ w.sent ∷ []) };
+
+    ghost spent = { spent_view };
+}
+
+/// A sender pushes its next job.
+pub struct Sends;
+
+impl Outcome<SpoolJob, View> for Sends {
+    ghost use Rattle.std.specs.Prelude.{[], ◌++◌, ◌≡◌, ◌∷◌};
+    ghost use Rattle.spool_queue.specs.Rule.{sender_view};
+
+    ghost then = { λ v x w. w ≡ sender_view v.sender (v.sent ++ x.stream ∷ []) };
+}
+
+impl Lesson<SpoolJob, View> for Sends {
+    ghost fact = { λ v items. Unit {0} };
+}
+
+/// The printer takes a job.
+pub struct Takes;
+
+impl Outcome<SpoolJob, View> for Takes {
+    ghost use Rattle.std.specs.Prelude.{[], ◌++◌, ◌≡◌, ◌∷◌};
+    ghost use Rattle.spool_queue.specs.Rule.{IsNext, printer_view};
+
+    ghost then = { λ v x w. (w ≡ printer_view v.senders (v.taken ++ x ∷ []) v.ended) × IsNext v x };
+}
+
+impl Lesson<SpoolJob, View> for Takes {
+    ghost fact = { λ v items. Unit {0} };
+}
+
+/// The printer takes a job after all senders have ended.
+pub struct Drains;
+
+impl Outcome<SpoolJob, View> for Drains {
+    ghost use Rattle.std.specs.Prelude.{[], length, ◌++◌, ◌≡◌, ◌≤◌, ◌∷◌};
+    ghost use Rattle.spool_queue.specs.Jobs.{count_sent};
+    ghost use Rattle.spool_queue.specs.Rule.{printer_view};
+
+    ghost then = { λ v x w. (w ≡ printer_view v.senders (v.taken ++ x ∷ []) v.ended)
+        × (length (v.taken ++ x ∷ []) ≤ count_sent v.ended) };
+}
+
+impl Lesson<SpoolJob, View> for Drains {
+    ghost use Rattle.spool_queue.specs.Rule.{IsSettled};
+
+    ghost fact = { IsSettled };
+}

@@ -1,0 +1,62 @@
+//! The queue on one thread, and what the tests share.
+use spool_queue::{Spool, SpoolJob, StreamBytes};
+use std::alloc::Global;
+use std::fmt::Debug;
+use std::process::Abort;
+use std::test::*;
+
+mod team;
+mod threads;
+
+// Stops the test where a call did not give what was wanted.
+fn same<T: PartialEq + Debug>(rt: &impl Abort, at: &str, got: &T, want: &T) {
+    assert_eq!(rt; *got, *want, "at {at}");
+}
+
+// A stream of one byte.
+fn stream(alloc: Global, byte: u8) -> Result<StreamBytes, Fail> {
+    Ok(StreamBytes::new(vec![in alloc; byte]?))
+}
+
+// A job's sender, number and first byte.
+type Shown = (u8, u32, Option<u8>);
+
+fn shown(job: &SpoolJob) -> Shown {
+    (
+        job.sender,
+        job.number,
+        job.stream.as_slice().first().copied(),
+    )
+}
+
+// Stops the test where the jobs are others.
+fn same_jobs(rt: &impl Abort, at: &str, jobs: &[SpoolJob], wanted: &[Shown]) {
+    same(rt, at, &jobs.len(), &wanted.len());
+    for (job, want) in jobs.iter().zip(wanted) {
+        same(rt, at, &shown(job), want);
+    }
+}
+
+#[test]
+fn the_queue_keeps_its_order_on_one_thread(rt: HostRuntime) -> Result<(), Fail> {
+    let alloc = rt.alloc();
+    let Ok((spool, mut senders, mut printer)) = Spool::make(alloc, 1, 2) else {
+        panic!(rt; "memory");
+    };
+    let first = &mut senders[0];
+    let one = spool.submit(&rt, first, stream(alloc, 7)?);
+    let two = spool.submit(&rt, first, stream(alloc, 8)?);
+    let job = spool.take(&rt, &mut printer);
+    let three = spool.submit(&rt, first, stream(alloc, 9)?);
+    same(&rt, "submit", &(one, two, three), &(1, 2, 3));
+    same(&rt, "take", &shown(&job), &(1, 1, Some(7)));
+    same(&rt, "the lists", &(first.sent(), printer.taken()), &(3, 1));
+    let rest = spool.finish(&rt, senders, printer);
+    same_jobs(
+        &rt,
+        "finish",
+        rest.as_slice(),
+        &[(1, 2, Some(8)), (1, 3, Some(9))],
+    );
+    Ok(())
+}
