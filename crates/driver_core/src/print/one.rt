@@ -6,7 +6,7 @@ ghost use Rattle.driver_core.specs.Printing.One.{IsCapped, IsFaulty, IsValid};
 ghost use Rattle.driver_core.specs.Printing.Outcome.{PrintedOutcome};
 ghost use Rattle.driver_core.specs.Runs.Fitting.{way_of};
 ghost use Rattle.driver_core.specs.Runs.Prepared.{CanBePrinted};
-ghost use Rattle.std.specs.Prelude.{◌⊎◌, ◌≡◌};
+ghost use Rattle.std.specs.Prelude.{◌⊎◌, ◌≡◌, ◌≤◌};
 
 use crate::answers::answer_to;
 use crate::print::print_pages;
@@ -46,6 +46,7 @@ pub fn print_one<R: Threads + Sync, S: Source, K: Sink, G: Gate + Sync>(
         (outside_of S.left S.faults input.old input.new)
         (outside_of K.held K.faults out.old out.new)
         (meters_of (λ meter. account meter) meters.old.items meters.new.items) result.pages result.answer }
+    ensures later { K.faults out.old ≤ K.faults out.new }
     // Where nothing outside fails, a valid stream is printed, a faulty one refused, and a page that goes past a cap
     // too, unless memory runs out.
     ensures valid { IsValid profile.now (table_of job.now.kernel)

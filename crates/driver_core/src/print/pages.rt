@@ -47,10 +47,11 @@ pub fn print_pages<R: Threads + Sync, S: Source, K: Sink, G: Gate + Sync>(
 ) -> Result<(), Answer>
     requires checked { IsOk (check profile.now) }
     requires way { CanGo (way_of job.now) profile.now }
-    ensures { PrintedOutcome (way_of job.now) profile.now (table_of job.now.kernel)
+    ensures outcome { PrintedOutcome (way_of job.now) profile.now (table_of job.now.kernel)
         (outside_of S.left S.faults input.old input.new)
         (outside_of K.held K.faults out.old out.new)
         (meters_of (λ meter. account meter) meters.old.items meters.new.items) pages.new (answer_of result) }
+    ensures later { K.faults out.old ≤ K.faults out.new }
 {
     prove!(profile.nozzles <= 255);
     *pages = 0;

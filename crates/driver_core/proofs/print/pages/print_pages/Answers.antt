@@ -14,8 +14,8 @@ use Rattle.driver_core.proofs.Printing.Counting.{one_counted}
 use Rattle.driver_core.proofs.Printing.StreamSteps.{metered_begin, metered_read, metered_written}
 use Rattle.driver_core.proofs.print.pages.print_pages.Goals as goal
 
-pub returns-in-Err : goal.returns-in-Err
-returns-in-Err g c =
+pub returns-in-Err-clause-outcome : goal.returns-in-Err-clause-outcome
+returns-in-Err-clause-outcome g c =
     no_sync (way_of c.args.job.now) c.args.profile.now (table_of c.args.job.now.kernel) _ _ _ _ c.in-Err.stop c.stream_answer.result
     c.in-Err.ensures.input c.in-Err.ensures.place c.in-Err.ensures.read c.in-Err.ensures.taken c.in-Err.ensures.used c.stream_answer.ensures
 
@@ -28,8 +28,8 @@ pages-init g c = record {
   written_later = omega arith;
 }
 
-pub returns-in-Err-read_page : goal.returns-in-Err-read_page
-returns-in-Err-read_page g c =
+pub returns-in-Err-read_page-clause-outcome : goal.returns-in-Err-read_page-clause-outcome
+returns-in-Err-read_page-clause-outcome g c =
     page_stopped (Option HalftonedPage) (way_of c.args.job.now) c.args.profile.now (table_of c.args.job.now.kernel)
     _ c.pages.reader c.read_page.new.reader c.pages.number c.pages.pages _ _ c.in-Err-read_page.stop
     c.stream_answer-in-Err-read_page.result (can_go c.args.profile.now (way_of c.args.job.now)
@@ -38,8 +38,8 @@ returns-in-Err-read_page g c =
     c.in-Err-read_page.ensures.input c.in-Err-read_page.ensures.place c.pages.invariant.read_later c.in-Err-read_page.ensures.read c.in-Err-read_page.ensures.taken c.read_page.ensures.used
     c.stream_answer-in-Err-read_page.ensures
 
-pub returns-in-Ok-None : goal.returns-in-Ok-None
-returns-in-Ok-None g c =
+pub returns-in-Ok-None-clause-outcome : goal.returns-in-Ok-None-clause-outcome
+returns-in-Ok-None-clause-outcome g c =
     let end = rw c.in-Ok-None.field-0-is at c.in-Ok-None.ensures.none in
     stream_done (way_of c.args.job.now) c.args.profile.now (table_of c.args.job.now.kernel) c.pages.reader c.read_page.new.reader c.pages.number c.pages.pages
     (g.S.Source.faults c.args.input.now) (g.S.Source.faults c.read_page.new.s) (g.K.Sink.faults c.args.out.now)
@@ -67,8 +67,8 @@ write_by_way-requires-clause-inks g c =
     let read = rw c.in-Ok-Some.field-0-is at c.in-Ok-Some.ensures.page in
     read.dots.inks_is
 
-pub returns-in-Err-Write : goal.returns-in-Err-Write
-returns-in-Err-Write g c =
+pub returns-in-Err-Write-clause-outcome : goal.returns-in-Err-Write-clause-outcome
+returns-in-Err-Write-clause-outcome g c =
     let p = c.args.profile.now in
     let k = table_of c.args.job.now.kernel in
     let way = way_of c.args.job.now in
@@ -85,8 +85,8 @@ returns-in-Err-Write g c =
     (can_go c.args.profile.now (way_of c.args.job.now)
     (subst (λ (p : Printer). p.nozzles ≤ 255) c.profile.view_is (omega (arith, c.if-prove.false))) c.requires.checked c.requires.way) read.0 c.pages.invariant.whole counts part c.pages.invariant.written_later (c.in-Err-Write.ensures.write (ap Err c.in-Err-Write.field-0-is))
 
-pub returns-in-Err-Memory : goal.returns-in-Err-Memory
-returns-in-Err-Memory g c =
+pub returns-in-Err-Memory-clause-outcome : goal.returns-in-Err-Memory-clause-outcome
+returns-in-Err-Memory-clause-outcome g c =
     let p = c.args.profile.now in
     let k = table_of c.args.job.now.kernel in
     let way = way_of c.args.job.now in
@@ -121,8 +121,8 @@ pages-preserved g c =
       written_later = omega (arith, c.pages.invariant.written_later, c.write_by_way.ensures.later);
     }
 
-pub returns-in_err-charge : goal.returns-in_err-charge
-returns-in_err-charge g c =
+pub returns-in_err-charge-clause-outcome : goal.returns-in_err-charge-clause-outcome
+returns-in_err-charge-clause-outcome g c =
     let p = c.args.profile.now in
     let k = table_of c.args.job.now.kernel in
     let way = way_of c.args.job.now in
