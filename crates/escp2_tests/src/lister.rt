@@ -119,22 +119,100 @@ fn list_names_each_reader_fault(rt: HostRuntime) -> Result<(), Fail> {
     Ok(())
 }
 
-#[test]
-fn failures_leave_the_lines_before(rt: HostRuntime) -> Result<(), Fail> {
-    let read = Way {
-        most: 92,
-        piece: 1,
-        fails: 9,
-        ..WAY
+// A command of the job: where it begins and ends, and the length of the listing before it.
+type Part = (usize, usize, usize);
+
+const PARTS: [Part; 18] = [
+    (0, 2, 0),
+    (2, 8, 7),
+    (8, 14, 18),
+    (14, 20, 27),
+    (20, 23, 43),
+    (23, 30, 55),
+    (30, 39, 68),
+    (39, 46, 84),
+    (46, 49, 96),
+    (49, 50, 108),
+    (50, 64, 118),
+    (64, 71, 142),
+    (71, 74, 154),
+    (74, 75, 166),
+    (75, 89, 176),
+    (89, 90, 200),
+    (90, 92, 209),
+    (92, 93, 217),
+];
+
+// The first bytes of the job, up to a place in this command: as the whole of a job, and as all that is read of it.
+fn lists_prefix(
+    rt: &impl Abort,
+    alloc: Global,
+    length: usize,
+    (start, _, listed): Part,
+) -> Result<(), Fail> {
+    let (job, _) = TINY_JOB.split_at(length.min(92));
+    let (listing, _) = LISTING.split_at(listed.min(217));
+    let cut = ListStop::Job {
+        offset: start as u64,
+        cause: JobStop::Cut,
     };
-    lists(
-        &rt,
-        rt.alloc(),
-        &TINY_JOB,
-        read,
-        Err(ListStop::Read),
-        &LISTING[..18],
-    )?;
+    let end = if length == start { Ok(()) } else { Err(cut) };
+    let way = Way { piece: 1, ..WAY };
+    lists(rt, alloc, job, way, end, listing)?;
+    let fails = u32::try_from(length + 1).unwrap_or(0);
+    let read = Err(ListStop::Read);
+    lists(rt, alloc, &TINY_JOB, Way { fails, ..way }, read, listing)
+}
+
+// The same for each place in this command.
+fn lists_prefixes(rt: &impl Abort, alloc: Global, part: Part) -> Result<(), Fail> {
+    for length in part.0..part.1 {
+        lists_prefix(rt, alloc, length, part)?;
+    }
+    Ok(())
+}
+
+#[test]
+fn a_cut_or_a_failed_read_leaves_the_lines_of_all_whole_commands(
+    rt: HostRuntime,
+) -> Result<(), Fail> {
+    for part in PARTS {
+        lists_prefixes(&rt, rt.alloc(), part)?;
+    }
+    Ok(())
+}
+
+#[test]
+fn a_fault_that_was_read_comes_before_a_failed_read(rt: HostRuntime) -> Result<(), Fail> {
+    const UNKNOWN: JobStop = JobStop::Reader(JobCause::Unknown);
+    const VALUE: JobStop = JobStop::Reader(JobCause::BadValue);
+    // A job, the most bytes of one, the byte after which reads fail, and where and why it is then refused.
+    let cases: [(&[u8], u64, u32, u64, JobStop, usize); 3] = [
+        (&[0x1B, 0x41], 99, 2, 1, UNKNOWN, 0),
+        (&[0x1B, 0x72, 0x03], 99, 3, 2, VALUE, 0),
+        (&TINY_JOB[..11], 10, 11, 10, JobStop::TooLong, 18),
+    ];
+    for (job, most, shown, offset, cause, len) in cases {
+        let (listed, _) = LISTING.split_at(len.min(18));
+        let early = Way {
+            most,
+            piece: 1,
+            fails: shown,
+            ..WAY
+        };
+        lists(&rt, rt.alloc(), job, early, Err(ListStop::Read), listed)?;
+        let stop = Err(ListStop::Job { offset, cause });
+        let late = Way {
+            fails: shown + 1,
+            ..early
+        };
+        lists(&rt, rt.alloc(), job, late, stop, listed)?;
+    }
+    Ok(())
+}
+
+#[test]
+fn a_full_sink_leaves_the_front_of_the_listing(rt: HostRuntime) -> Result<(), Fail> {
     let full = Way {
         most: 92,
         piece: 92,

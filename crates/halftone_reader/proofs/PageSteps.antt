@@ -1,7 +1,7 @@
 -- A page that is read, group by group.
 use Rattle.std.proofs.Common.{◌≡◌, ℕ, zero, suc, ◌+◌, ◌-◌, ◌<◌, ◌≤◌, nat_lt, false, if◌then◌else◌, List, [], ◌∷◌, ◌++◌}
 use Rattle.std.proofs.Common.{length, take, drop, replicate, Option, None, Some, IfSome, Result, Ok, Err, refl, sym, ◌∙◌, ap}
-use Rattle.std.proofs.Common.{arith, append_assoc, append-nil, length-append}
+use Rattle.std.proofs.Common.{arith, append_assoc, append-nil, length-append, subst}
 use Rattle.std.specs.Io.KnownBytes.{Consumes}
 use Rattle.std.proofs.KnownBytes.{Consumes-trans}
 use Rattle.std.proofs.lemmas.Bool.{le-ltb}
@@ -13,8 +13,8 @@ use Rattle.pwg_definitions.specs.declared.pages.PageForm.{PageForm}
 use Rattle.pwg_definitions.specs.declared.pages.Wanted.{Wanted}
 use Rattle.pwg_definitions.specs.Header.{check, header_of, line_units, row_of}
 use Rattle.pwg_definitions.specs.Groups.{group_at}
-use Rattle.pwg_definitions.specs.Groups.GroupRead.{Group}
-use Rattle.pwg_definitions.specs.Stream.{LinesRead, Page, PageRead, lines_at, page_at, page_behind}
+use Rattle.pwg_definitions.specs.Groups.GroupRead.{Group, Part}
+use Rattle.pwg_definitions.specs.Stream.{LinesRead, Page, PageRead, Stream, lines_at, page_at, page_behind}
 use Rattle.pwg_definitions.specs.Stream.{page_of as page_of_lines, pages_from, with_lines, with_page}
 use Rattle.pwg_definitions.specs.Stream.StreamEnd.{Fault}
 use Rattle.pwg_definitions.specs.Stream.LinesRead.{Stop}
@@ -23,6 +23,7 @@ use Rattle.pwg_stream.specs.declared.reader.PageReader.{PageReader}
 use Rattle.pwg_stream.specs.Reading.{BeginsPage, GivesLines, HasLineFault, form_of, has_ended, line_of}
 use Rattle.pwg_stream.specs.Reading.{lines_left_of, lines_of, page_of, stop_of, text_of}
 use Rattle.pwg_stream.specs.Stops.{OnInput}
+use Rattle.pwg_stream.specs.Taken.{MoreMayMend, TakesNoGroup, TakesNoPage}
 use Rattle.buffered_bytes.specs.Text.{UsesSome}
 use Rattle.pwg_stream.specs.declared.stops.StreamStop.{StreamStop}
 use Rattle.pwg_stream.specs.declared.stops.StreamStop.TheVariants as stop
@@ -184,6 +185,40 @@ page_fault want old now before left page number line why so_far bad =
         ∙ pages-read want (9998 - page_of old) (page_of old + 1)
         (so_far.bytes ++ ys) (Broken line why) (omega (arith, so_far.some, length-append so_far.bytes ys)) stops
         ∙ ap (λ k. record { pages = []; end = Fault k line why }) at
+
+-- a read failed inside of the page: what was taken of it is cut
+pub page_cut : (want : Wanted) (old now : PageReader) (before left left' : Option (List ℕ)) (page : Page)
+    → PageSoFar want old now before left page → 0 < lines_left_of now → TakesNoGroup now left left'
+    → TakesNoPage want (page_of old) (text_of old before) left'
+page_cut want old now before left left' page so_far some takes =
+    let line : ℕ = page.form.height - lines_left_of now + 1 in
+    let bytes : List ℕ = so_far.bytes ++ takes.bytes in
+    let fuel : 9999 - page_of old ≡ suc (9998 - page_of old) = omega (arith, so_far.number, so_far.last) in
+    let cut : page_at want bytes ≡ Broken line cause.Truncated =
+    so_far.is takes.bytes
+    ∙ ap (λ r. page_of_lines page.form (with_lines page.lines r)) (by_sizes so_far.most (lines_left_of now) refl refl) in
+    let is = ap (λ k. pages_from want k (page_of old + 1) bytes) fuel
+    ∙ pages-read want (9998 - page_of old) (page_of old + 1) bytes (Broken line cause.Truncated)
+    (omega (arith, so_far.some, length-append so_far.bytes takes.bytes)) cut in
+    let P : Stream → Type 0 = λ s. MoreMayMend s.end in record {
+      bytes = bytes;
+      taken = Consumes-trans (text_of old before) (text_of now left) left' so_far.bytes takes.bytes so_far.used takes.taken;
+      none = ap (λ (s : Stream). s.pages) is;
+      end = subst P (sym is) refl;
+    }
+  where
+    by_sizes : (m l : ℕ) → so_far.most ≡ m → lines_left_of now ≡ l
+        → rest_of page.form so_far.most (lines_left_of now) takes.bytes
+        ≡ Stop (page.form.height - lines_left_of now + 1) cause.Truncated
+    by_sizes m zero em el = absurd (omega arith)
+    by_sizes zero (suc l) em el = absurd (omega (arith, so_far.enough))
+    by_sizes (suc m) (suc l) em el =
+        let row = row_of page.form.kind in
+        ap (λ k. rest_of page.form k (lines_left_of now) takes.bytes) em
+        ∙ ap (λ k. rest_of page.form (suc m) k takes.bytes) el
+        ∙ lines_at-read row (line_units row page.form.width) page.form.height m l takes.bytes Part
+        (ap (λ k. group_at row (line_units row page.form.width) k takes.bytes) (sym el) ∙ takes.part page.form so_far.form_is)
+        ∙ ap (λ k. Stop (page.form.height - k + 1) cause.Truncated) (sym el)
 
 pub fault_in_page : (T : Type 0) (want : Wanted) (old now : PageReader)
     (before left : Option (List ℕ)) (page : Page) (stop : StreamStop) → PageSoFar want old now before left page

@@ -3,8 +3,9 @@
 //! `read_page` gives the next page (`page`): its bytes come next in the input, whatever follows them, and are used,
 //! and the planes have the dots of its halftone. It gives `None` at the end of the input (`none`), or the fault at
 //! which the remaining pages end (`input`). Whatever the answer, what was used is a prefix of the input (`used`).
-//! `Read` comes only where the source's count of faults rose (`read`), which never falls (`later`). When memory may
-//! run out is left to tests.
+//! `Read` comes only where the source's count of faults rose (`read`), which never falls (`later`), and where what was
+//! taken has no further whole page, and no fault but one that more bytes could mend (`taken`). When memory may run out is
+//! left to tests.
 #![tactic(auto)]
 
 mod pages;

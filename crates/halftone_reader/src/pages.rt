@@ -7,6 +7,7 @@ ghost use Rattle.pwg_definitions.specs.Stream.StreamEnd.{Fault};
 ghost use Rattle.pwg_definitions.specs.Stream.{pages_from};
 ghost use Rattle.pwg_stream.specs.Reading.{has_ended, page_of, text_of};
 ghost use Rattle.pwg_stream.specs.Stops.{OnInput};
+ghost use Rattle.pwg_stream.specs.Taken.{TakesNoPage};
 ghost use Rattle.buffered_bytes.specs.Text.{UsesSome};
 ghost use Rattle.pwg_stream.specs.declared.stops.StreamStop.TheVariants as stop;
 ghost use Rattle.separation_definitions.specs.Windows.{wanted_by};
@@ -56,6 +57,8 @@ pub fn read_page<R: Threads + Sync, S: Source, G: Gate + Sync>(
         ≡ record { pages = []; end = Fault number line cause })) }
     ensures place { OnInput result (λ number line cause. number ≡ page_of reader.old + 1) }
     ensures read { IsErrOf result stop.Read → Rose (S.faults s.old) (S.faults s.new) }
+    ensures taken { IsErrOf result stop.Read
+        → TakesNoPage (wanted_by profile.now) (page_of reader.old) (text_of reader.old (S.left s.old)) (S.left s.new) }
     ensures used { UsesSome (text_of reader.old (S.left s.old)) (text_of reader.new (S.left s.new)) }
     ensures later { S.faults s.old ≤ S.faults s.new }
 {

@@ -21,8 +21,8 @@ use Rattle.job_feed.specs.declared.feed.FeedStop.TheVariants as feed_stop
 use Rattle.job_feed.specs.declared.feed.JobFeed.{JobFeed}
 use Rattle.weave_base.specs.Causes.{Rose}
 use Rattle.job_feed.specs.declared.feed.PlacedCommand.{PlacedCommand}
-use Rattle.job_feed.specs.Feeding.{HasEnded, IsRefused, IsStopped, TakesCommand, at_of, heard_of, most_of, text_of, unread_of}
-use Rattle.job_feed.specs.Jobs.{AreCommands, Ends, MeetsStop, TakesCommands, TakesJob, commands_behind, with_entries}
+use Rattle.job_feed.specs.Feeding.{HasEnded, IsRefused, IsStopped, TakesCommand, TakesPart, at_of, heard_of, most_of, text_of, unread_of}
+use Rattle.job_feed.specs.Jobs.{AreCommands, Ends, MeetsStop, MoreMayMend, TakesAllCommands, TakesCommands, TakesJob, commands_behind, with_entries}
 
 -- as many steps as there are bytes are enough
 enough : (most more at : ℕ) (bytes : List ℕ) → length bytes ≤ most → length bytes ≤ more
@@ -271,6 +271,44 @@ takes_gave feed now before text left entries part gave takes = record {
   are = ap (λ bs. (commands (take (most_of feed) bs)).entries) (append_assoc gave.done part now.unread)
       ∙ first_commands gave.done (part ++ now.unread) (most_of feed) entries gave.are (omega (arith, gave.at, feed.within));
 }
+
+-- where a read failed, what was taken of the source is these commands and less than a further one
+pub takes_all : (feed now : JobFeed) (before text left : Option (List ℕ)) (entries : List Entry) (part : List ℕ)
+    → GaveCommands feed before text entries → TakesPart feed text (text_of now left) part → unread_of now ≡ []
+    → TakesAllCommands (most_of feed) before left entries
+takes_all feed now before text left entries part gave takes none =
+    let bytes : List ℕ = gave.done ++ part in
+    let same : bytes ++ now.unread ≡ bytes = ap (λ bs. bytes ++ bs) none ∙ append-nil bytes in
+    let P : List ℕ → Type 0 = Consumes before left in
+    let taken : Consumes before left bytes =
+    subst P same (source_taken now before left bytes
+    (Consumes-trans before text (text_of now left) gave.done part gave.taken takes.taken)) in
+    let ends = by_part part takes.part takes.within in
+    let Q : Option Stopped → Type 0 = MoreMayMend in
+    record { bytes = bytes; taken = taken; are = ends.1.are; end = subst Q (sym ends.1.stop_is) ends.2 }
+  where
+    by_part : (part : List ℕ) → command_at part ≡ Part → at_of feed + length part ≤ most_of feed
+        → (why : Option Stopped) × Ends (most_of feed) (gave.done ++ part) entries why × MoreMayMend why
+    by_part [] less within =
+        let P : List ℕ → Type 0 = λ bs. Ends (most_of feed) bs entries None in (
+          None,
+          subst P (sym (append-nil gave.done))
+              (ends_whole gave.done (most_of feed) entries gave.are (omega (arith, gave.at, feed.within))),
+          tt,
+        )
+    by_part (b ∷ bytes) less within =
+        let some : b ∷ bytes ≡ [] → ⊥ = λ e. omega (arith, ap length e) in (
+          stopped (length gave.done) stop.Cut,
+          ends_cut gave.done (b ∷ bytes) (most_of feed) entries gave.are (omega (arith, gave.at, within)) less some,
+          refl,
+        )
+
+-- nothing was taken
+pub nothing_taken : (most : ℕ) (left : Option (List ℕ)) → TakesAllCommands most left left []
+nothing_taken most left =
+    let ends = ends_whole [] most [] commands_none (omega arith) in
+    let Q : Option Stopped → Type 0 = MoreMayMend in
+    record { bytes = []; taken = Consumes-nil left; are = ends.are; end = subst Q (sym ends.stop_is) tt }
 
 pub job_ended : (feed now : JobFeed) (before text left : Option (List ℕ)) (entries : List Entry) → GaveCommands feed before text entries
     → HasEnded text (text_of now left)

@@ -1,9 +1,10 @@
 -- The commands at the beginning of a job, and how the job goes on.
-use Rattle.std.specs.Prelude.{◌≡◌, ℕ, List, ◌++◌, length, take, Option, None, IfSome}
+use Rattle.std.specs.Prelude.{◌≡◌, ℕ, List, ◌++◌, length, take, Option, None, Some, IfSome}
 use Rattle.std.specs.Io.KnownBytes.{Consumes, IsAtEnd}
 use Rattle.escp2_definitions.specs.declared.stops.JobStop.{JobStop}
+use Rattle.escp2_definitions.specs.declared.stops.JobStop.TheVariants as job_stop
 use Rattle.escp2_definitions.specs.Commands.{CommandList, Entry, commands, commands_from}
-use Rattle.escp2_definitions.specs.JobEnds.{Stopped, list_stop, stopped}
+use Rattle.escp2_definitions.specs.JobEnds.{Stopped, job_end, list_stop, stopped}
 
 -- these commands, and then those of a list
 abbrev pub with_entries : List Entry → CommandList → CommandList
@@ -28,6 +29,18 @@ pub record TakesCommands (most : ℕ) (before now : Option (List ℕ)) (entries 
 pub record Ends (most : ℕ) (bytes : List ℕ) (entries : List Entry) (stop : Option Stopped) : Type 0 where
   pub are : (commands (take most bytes)).entries ≡ entries
   pub stop_is : list_stop (commands (take most bytes)).end most (length bytes) ≡ stop
+
+-- Where a job stops, more bytes could mend it: nothing stops it, or it ends inside a command.
+abbrev pub MoreMayMend : Option Stopped → Type 0
+MoreMayMend None = Unit {0}
+MoreMayMend (Some stop) = stop.why ≡ job_stop.Cut
+
+-- These are all commands of the bytes that were taken of a job, which more bytes could mend.
+pub record TakesAllCommands (most : ℕ) (before now : Option (List ℕ)) (entries : List Entry) : Type 0 where
+  pub bytes : List ℕ
+  pub taken : Consumes before now bytes
+  pub are : (commands (take most bytes)).entries ≡ entries
+  pub end : MoreMayMend (job_end bytes most None)
 
 -- The job was taken whole, and its commands are these.
 pub record TakesJob (most : ℕ) (before now : Option (List ℕ)) (entries : List Entry) : Type 0 where

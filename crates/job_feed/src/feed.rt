@@ -2,8 +2,8 @@
 ghost use Rattle.escp2_reader.specs.Reading.{StandsFor, begin_of, fed_of, is_failed_of, rows_of};
 ghost use Rattle.job_feed.specs.declared.feed.FeedStop.TheVariants as FeedStop;
 ghost use Rattle.escp2_definitions.specs.declared.stops.JobStop.TheVariants as JobStop;
-ghost use Rattle.std.specs.Prelude.{IfErr, IfNone, IfOk, IfSome, IsOk, List, None, [], false, length, take, ℕ, ◌<◌};
-ghost use Rattle.std.specs.Prelude.{◌≡◌, ◌≤◌, ◌^◌};
+ghost use Rattle.std.specs.Prelude.{IfErr, IfNone, IfOk, IfSome, IsErrOf, IsOk, List, None, [], false, length, take};
+ghost use Rattle.std.specs.Prelude.{ℕ, ◌<◌, ◌≡◌, ◌≤◌, ◌^◌};
 ghost use Rattle.weave_base.specs.Causes.{Rose};
 
 use buffered_bytes::Unread;
@@ -85,6 +85,7 @@ impl JobFeed {
         ensures stop { IfErr result
             (IsStopped self.old (text_of self.old (S.left s.old)) (text_of self.new (S.left s.new)) (S.faults s.old)
             (S.faults s.new)) }
+        ensures all_used { IsErrOf result FeedStop.Read → unread_of self.new ≡ [] }
         ensures later { S.faults s.old ≤ S.faults s.new }
     {
         let at = self.fed;

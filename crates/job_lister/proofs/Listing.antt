@@ -1,9 +1,9 @@
 -- The listing of the commands that a feed answered.
-use Rattle.std.proofs.Common.{◌≡◌, ℕ, ◌≤◌, List, Option, Err, [], ◌∷◌, ◌++◌, sym, ◌∙◌, ap, subst, arith, append-nil, take, refl}
+use Rattle.std.proofs.Common.{◌≡◌, ℕ, ◌≤◌, List, Option, Err, [], ◌∷◌, ◌++◌, sym, ◌∙◌, ap, subst, arith, append-nil, refl}
 use Rattle.std.proofs.lemmas.List.Concat.{flat_map-append}
 use Rattle.std.specs.Io.KnownBytes.{Appends, Consumes}
-use Rattle.std.proofs.KnownBytes.{Appends-nil, Consumes-nil}
-use Rattle.escp2_definitions.specs.Commands.{Entry, commands}
+use Rattle.std.proofs.KnownBytes.{Appends-nil}
+use Rattle.escp2_definitions.specs.Commands.{Entry}
 use Rattle.buffered_bytes.specs.declared.gathered.Gathered.{Gathered}
 use Rattle.buffered_bytes.specs.Gathering.{Writes, gathered}
 use Rattle.buffered_bytes.proofs.Writing.{GathersSoFar, gathers_all, gathers_begin, gathers_more, gathers_part}
@@ -12,7 +12,7 @@ use Rattle.job_feed.specs.declared.feed.FeedStop.TheVariants as feed_is
 use Rattle.job_feed.specs.declared.feed.JobFeed.{JobFeed}
 use Rattle.job_feed.specs.declared.feed.PlacedCommand.{PlacedCommand}
 use Rattle.job_feed.specs.Feeding.{HasEnded, IsStopped, TakesCommand, at_of, heard_of, most_of, text_of, unread_of}
-use Rattle.job_feed.proofs.Jobs.{GaveCommands, entry_of, gave_more, gave_none, job_ended, job_refused, rose_within, takes_gave}
+use Rattle.job_feed.proofs.Jobs.{GaveCommands, entry_of, gave_more, gave_none, job_ended, job_refused, nothing_taken, rose_within, takes_all, takes_gave}
 use Rattle.job_lister.specs.Listing.{line_of, listing}
 use Rattle.job_lister.specs.declared.lister.ListStop.{ListStop}
 use Rattle.job_lister.specs.declared.lister.ListStop.TheVariants as stop
@@ -83,25 +83,25 @@ pub lists_to_stop : (most : ℕ) (feed new : JobFeed) (g : Gathered) {text now :
     (why : FeedStop) (answer : ListStop)
     → ListsSoFar feed g input.before text out.before now → IsStopped feed text (text_of new input.now) faults input.faults_now why
     → input.faults_before ≤ faults → Appends now out.now (gathered g)
-    → most_of feed ≡ most → answer ≡ feed_stop why
+    → (why ≡ feed_is.Read → unread_of new ≡ []) → most_of feed ≡ most → answer ≡ feed_stop why
     → ListOutcome most input out (Err answer)
-lists_to_stop most feed new g {text} {now} input out faults why answer so_far stopped later all most_is is =
+lists_to_stop most feed new g {text} {now} input out faults why answer so_far stopped later all used most_is is =
     let P : ℕ → Type 0 = λ n. ListOutcome n input out (Err answer) in
     let Q : ListStop → Type 0 = λ stop. ListOutcome (most_of feed) input out (Err stop) in
-    subst P most_is (subst Q (sym is) (by_stop why stopped))
+    subst P most_is (subst Q (sym is) (by_stop why stopped used))
   where
     by_stop : (why : FeedStop) → IsStopped feed text (text_of new input.now) faults input.faults_now why
-        → ListOutcome (most_of feed) input out (Err (feed_stop why))
-    by_stop (feed_is.Job offset cause) stopped = record {
+        → (why ≡ feed_is.Read → unread_of new ≡ []) → ListOutcome (most_of feed) input out (Err (feed_stop why))
+    by_stop (feed_is.Job offset cause) stopped used = record {
       entries = so_far.entries;
       meets = job_refused feed input.before text (text_of new input.now) so_far.entries offset cause so_far.gave stopped;
       writes = gathers_all out.before now out.now (listing so_far.entries) (gathered g) so_far.gathers all;
     }
-    by_stop feed_is.Read failed = (
+    by_stop feed_is.Read failed used = (
       rose_within input.faults_before faults input.faults_now input.faults_now later failed.rose (omega arith),
       record {
         entries = so_far.entries;
-        takes = takes_gave feed new input.before text input.now so_far.entries failed.bytes so_far.gave failed.takes.taken;
+        takes = takes_all feed new input.before text input.now so_far.entries failed.bytes so_far.gave failed.takes (used refl);
         writes = gathers_all out.before now out.now (listing so_far.entries) (gathered g) so_far.gathers all;
       },
     )
@@ -112,6 +112,6 @@ pub lists_nothing : (most : ℕ) {left held : Option (List ℕ)} {f0 f1 g0 g1 : 
     (record { before = held; now = held; faults_before = g0; faults_now = g1 }) (Err stop.Memory)
 lists_nothing most {left} {held} = record {
   entries = [];
-  takes = record { bytes = []; taken = Consumes-nil left; others = (commands (take most [])).entries; are = refl };
+  takes = nothing_taken most left;
   writes = Appends-nil held;
 }

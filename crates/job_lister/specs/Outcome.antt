@@ -3,7 +3,7 @@ use Rattle.std.specs.Prelude.{ℕ, List, Result, Ok, Err}
 use Rattle.std.specs.Io.KnownBytes.{Appends}
 use Rattle.escp2_definitions.specs.declared.stops.JobStop.{JobStop}
 use Rattle.escp2_definitions.specs.Commands.{Entry}
-use Rattle.job_feed.specs.Jobs.{MeetsStop, TakesCommands, TakesJob}
+use Rattle.job_feed.specs.Jobs.{MeetsStop, TakesAllCommands, TakesCommands, TakesJob}
 use Rattle.job_lister.specs.Listing.{listing}
 use Rattle.job_lister.specs.declared.lister.ListStop.{ListStop}
 use Rattle.job_lister.specs.declared.lister.ListStop.TheVariants as stop
@@ -22,10 +22,10 @@ pub record ListsToStop (most : ℕ) (input out : Outside) (offset : ℕ) (cause 
   pub meets : MeetsStop most input.before entries offset cause
   pub writes : Appends out.before out.now (listing entries)
 
--- The first commands of what was taken are listed.
+-- All commands of what was taken are listed, and more bytes could mend where it stops.
 pub record ListsSome (most : ℕ) (input out : Outside) : Type 0 where
   pub entries : List Entry
-  pub takes : TakesCommands most input.before input.now entries
+  pub takes : TakesAllCommands most input.before input.now entries
   pub writes : Appends out.before out.now (listing entries)
 
 -- A proper prefix of the listing of what was taken was written.

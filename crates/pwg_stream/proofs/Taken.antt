@@ -1,6 +1,6 @@
 -- What was taken of a source where a read failed.
 use Rattle.std.proofs.Common.{◌≡◌, ℕ, ◌+◌, ◌-◌, ◌<◌, ◌≤◌, Bool, true, false, if◌then◌else◌, List, [], ◌∷◌, length, take, drop}
-use Rattle.std.proofs.Common.{Option, None, Some, Result, Err, refl, sym, ◌∙◌, ap, subst, arith, length-append, length-drop, inl, inr}
+use Rattle.std.proofs.Common.{Option, None, Some, Result, Err, refl, sym, ◌∙◌, ap, subst, arith, length-append, length-drop, inr}
 use Rattle.std.specs.List.{starts_with}
 use Rattle.std.specs.Prelude.{nat_eq}
 use Rattle.std.specs.Io.KnownBytes.{Consumes, Keeps}
@@ -65,12 +65,11 @@ few_are_no_stream want bytes few = by_start (starts_with nat_eq bytes sync_word)
 pub takes_no_sync : (before left : Option (List ℕ)) (unread : List ℕ) → Keeps before (text_behind unread left) → length unread < 4
     → (want : Wanted) → TakesAllPages want before left []
 takes_no_sync before left unread kept few want =
-    let is = few_are_no_stream want unread few in
-    let P : Stream → Type 0 = λ s. MoreMayMend unread s.end in record {
+    record {
       bytes = unread;
       taken = kept_taken before left unread kept;
-      are = ap (λ (s : Stream). s.pages) is;
-      end = subst P (sym is) (inr (refl, few));
+      are = ap (λ (s : Stream). s.pages) (few_are_no_stream want unread few);
+      end = inr few;
     }
 
 -- the same of a reader that had no bytes yet
@@ -80,6 +79,12 @@ pub takes_from_left : (before left : Option (List ℕ)) (unread : List ℕ) → 
 takes_from_left before left unread none takes want =
     let P : Option (List ℕ) → Type 0 = λ text. TakesAllPages want text left [] in
     subst P (none_unread before unread none) (takes want)
+
+-- nothing was taken
+pub takes_nothing : (want : Wanted) (before left : Option (List ℕ)) → Keeps before left → TakesAllPages want before left []
+takes_nothing want before left kept =
+    let P : Option (List ℕ) → Type 0 = Keeps before in
+    takes_no_sync before left [] (subst P (sym (prepend_known-nil left)) kept) (omega arith) want
 
 -- ---- headers
 
@@ -92,7 +97,7 @@ pub takes_none : (want : Wanted) (pages : ℕ) (before left : Option (List ℕ))
     → Keeps before (text_behind unread left) → length unread < 1 → TakesNoPage want pages before left
 takes_none want pages before left unread kept few =
     let is = no_pages want (most_pages - pages) (pages + 1) in
-    let P : Stream → Type 0 = λ s. MoreMayMend [] s.end in
+    let P : Stream → Type 0 = λ s. MoreMayMend s.end in
     let Q : List ℕ → Type 0 = Consumes before left in record {
       bytes = [];
       taken = subst Q (none_of unread few) (kept_taken before left unread kept);
@@ -109,11 +114,11 @@ takes_short_header want pages before left (b ∷ bytes) kept few short =
     let is = no_page want pages text cause.Truncated few (omega arith)
     (ap (λ c. if c then Broken 0 cause.Truncated else page_behind (check want (header_of (take header_length text)))
     (drop header_length text)) (lt-ltb _ _ short)) in
-    let P : Stream → Type 0 = λ s. MoreMayMend text s.end in record {
+    let P : Stream → Type 0 = λ s. MoreMayMend s.end in record {
       bytes = text;
       taken = kept_taken before left text kept;
       none = ap (λ (s : Stream). s.pages) is;
-      end = subst P (sym is) (inl refl);
+      end = subst P (sym is) refl;
     }
 
 -- ---- groups

@@ -12,25 +12,25 @@ use Rattle.pwg_definitions.specs.Stream.StreamEnd.{Done, Fault}
 use Rattle.pwg_stream.specs.declared.reader.PageReader.{PageReader}
 use Rattle.pwg_stream.specs.Reading.{form_of, group_of, lines_left_of, text_of}
 
--- Bytes with this end could be the front of a stream without a fault: it is after a whole page, or inside of one, or
--- there are fewer than four bytes where the sync word is to stand.
-abbrev pub MoreMayMend : List ℕ → StreamEnd → Type 0
-MoreMayMend bytes Done = Unit {0}
-MoreMayMend bytes (Fault page line why) = (why ≡ cause.Truncated) ⊎ ((why ≡ cause.BadSync) × (length bytes < 4))
+-- More bytes could mend this end of a stream: it is after a whole page, or inside of one.
+abbrev pub MoreMayMend : StreamEnd → Type 0
+MoreMayMend Done = Unit {0}
+MoreMayMend (Fault page line why) = why ≡ cause.Truncated
 
--- The bytes that were taken are a stream of exactly these pages, with an end that more bytes could mend.
+-- The bytes that were taken are a stream of exactly these pages. Its end is one that more bytes could mend, or there are
+-- fewer than four bytes where the sync word is to stand.
 pub record TakesAllPages (want : Wanted) (before left : Option (List ℕ)) (pages : List Page) : Type 0 where
   pub bytes : List ℕ
   pub taken : Consumes before left bytes
   pub are : (stream want bytes).pages ≡ pages
-  pub end : MoreMayMend bytes (stream want bytes).end
+  pub end : MoreMayMend (stream want bytes).end ⊎ (length bytes < 4)
 
 -- The bytes that were taken after this many pages have no further whole page, and an end that more bytes could mend.
 pub record TakesNoPage (want : Wanted) (pages : ℕ) (before left : Option (List ℕ)) : Type 0 where
   pub bytes : List ℕ
   pub taken : Consumes before left bytes
   pub none : (pages_from want (most_pages - pages) (pages + 1) bytes).pages ≡ []
-  pub end : MoreMayMend bytes (pages_from want (most_pages - pages) (pages + 1) bytes).end
+  pub end : MoreMayMend (pages_from want (most_pages - pages) (pages + 1) bytes).end
 
 -- The bytes that were taken are a part of the next group of the current page, without a fault.
 pub record TakesNoGroup (reader : PageReader) (before left : Option (List ℕ)) : Type 0 where

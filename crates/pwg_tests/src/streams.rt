@@ -1,6 +1,6 @@
 //! Streams read whole and in pieces, and where they stop.
 use crate::checks::{same, same_bytes};
-use pwg_definitions::{InputCause, LineFault};
+use pwg_definitions::{HeaderFault, InputCause, LineFault};
 use pwg_header::{HEADER_LEN, Kind, PageForm, Wanted, write_header};
 use pwg_stream::{PageReader, StreamStop};
 use std::alloc::Global;
@@ -214,16 +214,60 @@ fn pages_of_five_kinds_follow_each_other(rt: HostRuntime) -> Result<(), Fail> {
     gives(&rt, rt.alloc(), &PAGES, &GROUPS)
 }
 
-#[test]
-fn a_failing_read_stops_the_reader(rt: HostRuntime) -> Result<(), Fail> {
-    // one byte a call: inside the sync word, a header, and the second group of a page
-    for (call, length) in [(3, 0), (1000, 0), (1808, 5)] {
-        let mut groups = Vec::new(rt.alloc());
-        let given = read_pages(&rt, rt.alloc(), &TWO_PAGES, (true, call), &mut groups)?;
-        let wanted = (Given::Stop(StreamStop::Read), length);
-        same(&rt, "a failing call", &(given, groups.len()), &wanted);
+// Reads of which one fails: whether each gives one byte, and not all; the first and the last call that is to fail; how
+// reading then ends; and how many bytes of groups were given.
+type Failing = (bool, u32, u32, Given, usize);
+
+// Reads a stream whose call of this number fails.
+fn fails_at(
+    rt: &impl Abort,
+    alloc: Global,
+    stream: &[u8],
+    call: u32,
+    (is_slow, _, _, wanted, length): Failing,
+) -> Result<(), Fail> {
+    let source = source(alloc, Vec::from_slice(alloc, stream)?, is_slow, call)?;
+    let mut groups = Vec::new(alloc);
+    let given = read_all(rt, alloc, source, &mut groups)?;
+    same(
+        rt,
+        "a failing call",
+        &(given, groups.len()),
+        &(wanted, length),
+    );
+    Ok(())
+}
+
+// The same for the first and for the last call of a row.
+fn fails_at_ends(rt: &impl Abort, alloc: Global, stream: &[u8], row: Failing) -> Result<(), Fail> {
+    fails_at(rt, alloc, stream, row.1, row)?;
+    fails_at(rt, alloc, stream, row.2, row)
+}
+
+// The same for each row of a table.
+fn fails_so(rt: &impl Abort, alloc: Global, stream: &[u8], rows: &[Failing]) -> Result<(), Fail> {
+    for row in rows {
+        fails_at_ends(rt, alloc, stream, *row)?;
     }
     Ok(())
+}
+
+const READ: Given = Given::Stop(StreamStop::Read);
+
+#[test]
+fn a_failing_read_leaves_all_whole_groups(rt: HostRuntime) -> Result<(), Fail> {
+    // the groups of the first page end at 1806, 1810 and 1813, and the second page at 3611
+    const ROWS: [Failing; 7] = [
+        (true, 1, 1806, READ, 0),
+        (true, 1807, 1810, READ, 5),
+        (true, 1811, 1813, READ, 10),
+        (true, 1814, 3611, READ, 15),
+        (true, 3612, 3612, READ, 18),
+        (true, 3613, 3613, Given::End, 18),
+        (false, 2, 2, READ, 18),
+    ];
+    let stream = stream_of(rt.alloc(), &TWO_PAGES)?;
+    fails_so(&rt, rt.alloc(), stream.as_slice(), &ROWS)
 }
 
 // Reads a stream, which is to end or to stop so.
@@ -247,6 +291,45 @@ fn a_short_input_is_bad_sync(rt: HostRuntime) -> Result<(), Fail> {
         ends(&rt, rt.alloc(), Vec::from_slice(rt.alloc(), bytes)?, wanted)?;
     }
     Ok(())
+}
+
+#[test]
+fn a_bad_sync_word_comes_before_a_failed_read(rt: HostRuntime) -> Result<(), Fail> {
+    let bad = fault(0, 0, InputCause::BadSync);
+    let rows = [
+        (true, 1, 4, READ, 0),
+        (true, 5, 5, bad, 0),
+        (false, 2, 2, bad, 0),
+    ];
+    fails_so(&rt, rt.alloc(), b"XaS2", &rows)
+}
+
+#[test]
+fn a_refused_header_comes_before_a_failed_read(rt: HostRuntime) -> Result<(), Fail> {
+    let bad = fault(1, 0, InputCause::Header(HeaderFault::NotPwg));
+    let rows = [
+        (true, 1, 1800, READ, 0),
+        (true, 1801, 1801, bad, 0),
+        (false, 2, 2, bad, 0),
+    ];
+    let mut stream = stream_of(rt.alloc(), &[])?;
+    stream.extend_from_slice(&[0; HEADER_LEN])?;
+    fails_so(&rt, rt.alloc(), stream.as_slice(), &rows)
+}
+
+#[test]
+fn a_refused_line_comes_before_a_failed_read(rt: HostRuntime) -> Result<(), Fail> {
+    // The first group ends at 1803, and the second is refused at its second byte.
+    const PAGE: PageBytes = (form!(Gray8, 2, 3, 2), &[0x01, 0x01, 0x07, 0x00, 0x02]);
+    let bad = fault(1, 3, InputCause::Line(LineFault::RunPastLine));
+    let rows = [
+        (true, 1, 1803, READ, 0),
+        (true, 1804, 1805, READ, 3),
+        (true, 1806, 1806, bad, 3),
+        (false, 2, 2, bad, 3),
+    ];
+    let stream = stream_of(rt.alloc(), &[PAGE])?;
+    fails_so(&rt, rt.alloc(), stream.as_slice(), &rows)
 }
 
 // A stream of the most pages, and a byte behind them.

@@ -1,9 +1,11 @@
-use Rattle.std.proofs.Common.{ap, arith, sym, ◌∙◌, Option}
+use Rattle.std.proofs.Common.{◌≡◌, ap, arith, sym, ◌∙◌, Err, Option}
 use Rattle.std.proofs.lemmas.Result.{err_from_is_err_and}
 use Rattle.pwg_definitions.specs.declared.pages.PageForm.{PageForm}
 use Rattle.separation_definitions.specs.Windows.{wanted_by}
 use Rattle.halftone_reader.specs.declared.pages.HalftonedPage.{HalftonedPage}
-use Rattle.halftone_reader.proofs.PageSteps.{fault_in_page, place_in_page, uses_more}
+use Rattle.halftone_reader.proofs.PageSteps.{fault_in_page, page_cut, place_in_page, uses_more}
+use Rattle.pwg_stream.proofs.Taken.{same_error}
+use Rattle.pwg_stream.specs.declared.stops.StreamStop.TheVariants as stop
 use Rattle.halftone_reader.proofs.HalftoneSteps.{begun-wanted, halftone_begin, halftone_end, halftone_step}
 use Rattle.halftone_reader.proofs.pages.read_page.Goals as goal
 
@@ -67,3 +69,22 @@ returns-clause-page g c =
     halftone_end c.args.profile.now
     c.args.kernel c.in-Some.form c.args.reader.now c.groups.reader _ _ c.groups.halftoner c.finish-planes.result
     c.groups.invariant.page (omega (arith, c.groups-test.false, c.lines_left.ensures)) c.finish-planes.ensures
+
+pub returns-in_err-form-clause-taken : goal.returns-in_err-form-clause-taken
+returns-in_err-form-clause-taken g c = λ is.
+    let error = err_from_is_err_and c.from_residual.result c.from_residual.ensures.1 in
+    rw c.wanted.ensures at
+    (c.in_err-form.ensures.taken c.requires.between.going (ap Err (sym error.2 ∙ same_error (sym error.1 ∙ is))))
+
+pub returns-in_err-repeats-clause-taken : goal.returns-in_err-repeats-clause-taken
+returns-in_err-repeats-clause-taken g c = λ is.
+    let error = err_from_is_err_and c.from_residual-in_err-repeats.result c.from_residual-in_err-repeats.ensures.1 in
+    page_cut (wanted_by c.args.profile.now) c.args.reader.now c.groups.reader _ _ _ _ c.groups.invariant.page.page
+    (omega (arith, c.groups-test.true, c.lines_left.ensures))
+    (c.in_err-repeats.ensures.taken c.groups.invariant.page.page.going
+    (ap Err (sym error.2 ∙ same_error (sym error.1 ∙ is))))
+
+pub returns-in_err-lines-clause-taken : goal.returns-in_err-lines-clause-taken
+returns-in_err-lines-clause-taken g c = λ is.
+    let error = err_from_is_err_and c.from_residual-in_err-lines.result c.from_residual-in_err-lines.ensures.1 in
+    absurd (let never : stop.Memory ≡ stop.Read = sym error.2 ∙ same_error (sym error.1 ∙ is) in cc)

@@ -1,4 +1,4 @@
-use Rattle.std.proofs.Common.{arith, sym, ◌∙◌, []}
+use Rattle.std.proofs.Common.{arith, ap, sym, ◌∙◌, [], Err}
 use Rattle.std.proofs.KnownBytes.{Consumes-kept, Consumes-nil}
 use Rattle.std.proofs.lemmas.Result.{err_from_is_err_and}
 use Rattle.job_feed.proofs.Jobs.{some_bytes, stop_taken}
@@ -77,4 +77,5 @@ pub returns-in-Err : goal.returns-in-Err
 returns-in-Err g c =
     lists_to_stop c.args.most c.commands.feed c.next.new.self c.commands.gathered _ _ _ c.in-Err.stop c.from.result
     c.commands.invariant.so_far
-    c.in-Err.ensures.stop c.commands.invariant.later c.in_ok-put-in-Err.ensures.ok c.commands.invariant.most c.from.ensures
+    c.in-Err.ensures.stop c.commands.invariant.later c.in_ok-put-in-Err.ensures.ok (λ is. c.in-Err.ensures.all_used (ap Err is))
+    c.commands.invariant.most c.from.ensures

@@ -1,5 +1,6 @@
 use Rattle.std.proofs.Common.{arith, refl}
 use Rattle.job_feed.proofs.Feeding.{goes_filled, goes_first, goes_more, meets_fault, takes_command}
+use Rattle.job_feed.proofs.Pieces.{none_of}
 use Rattle.job_feed.proofs.feed.JobFeed.next.Goals as goal
 
 pub pieces-init : goal.pieces-init
@@ -26,3 +27,6 @@ pub returns-in-Fault-clause-stop : goal.returns-in-Fault-clause-stop
 returns-in-Fault-clause-stop g c =
     meets_fault _ (goes_filled c.pieces.invariant.goes c.fill.ensures.text) c.in-Fault.ensures.fed
     c.in-Fault.ensures.most
+
+pub returns-in_err-fill-clause-all_used : goal.returns-in_err-fill-clause-all_used
+returns-in_err-fill-clause-all_used g c = λ _. none_of c.fill.new.self c.in_err-fill.ensures.short
