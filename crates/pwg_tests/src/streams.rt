@@ -238,18 +238,16 @@ fn fails_at(
     Ok(())
 }
 
-// The same for each call.
-fn fails_in_turn(rt: &impl Abort, alloc: Global, stream: &[u8], row: Failing) -> Result<(), Fail> {
-    for call in row.1..=row.2 {
-        fails_at(rt, alloc, stream, call, row)?;
-    }
-    Ok(())
+// The same for the first and for the last call of a row.
+fn fails_at_ends(rt: &impl Abort, alloc: Global, stream: &[u8], row: Failing) -> Result<(), Fail> {
+    fails_at(rt, alloc, stream, row.1, row)?;
+    fails_at(rt, alloc, stream, row.2, row)
 }
 
 // The same for each row of a table.
 fn fails_so(rt: &impl Abort, alloc: Global, stream: &[u8], rows: &[Failing]) -> Result<(), Fail> {
     for row in rows {
-        fails_in_turn(rt, alloc, stream, *row)?;
+        fails_at_ends(rt, alloc, stream, *row)?;
     }
     Ok(())
 }
