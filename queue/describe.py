@@ -47,9 +47,12 @@ PIXELS = {
     "CMYK": Pixels("Cyan, Magenta, Yellow and Black", "cmyk_8", 6, 8),
     "Black": Pixels("Black, 1 Bit a Pixel", "black_1", 3, 1),
 }
+INKS = {"k": "black", "c": "cyan", "m": "magenta", "y": "yellow"}
 HEADS = ("escp2-profile 1\n", "escp2-profile 2\n")
 
 KERNELS = [("fs", "Floyd and Steinberg"), ("jjn", "Jarvis, Judice and Ninke"), ("stucki", "Stucki")]
+QUALITIES = [("Normal", "Normal"), ("Draft", "Draft, by Floyd and Steinberg"), ("High", "High, by Stucki")]
+WORKERS = (1, 2, 4, 8, 16, 32, 64)
 
 
 class Profile:
@@ -61,7 +64,10 @@ class Profile:
         self.across, self.down = int(pairs["hdpi"]), int(pairs["vdpi"])
         self.left, self.right = (int(pairs[key]) / self.across for key in ("left", "right"))  # inches
         self.top, self.bottom = (int(pairs[key]) / self.down for key in ("top", "bottom"))
+        self.inks = [name for letter, name in INKS.items() if letter in pairs["inks"]]
         self.models = ["Gray", "Black"] if pairs["inks"] == "k" else list(PIXELS)
+        half = int(pairs["nozzles"]) // 2
+        self.shingles = half > 0 and math.gcd(half, int(pairs["pitch"])) == 1
 
     def takes(self, sheet):
         return sheet.width / 25.4 * self.across <= MOST_COLUMNS and sheet.height / 25.4 <= MOST_INCHES
@@ -105,14 +111,19 @@ def ppd_header(profile, name):
 *LandscapeOrientation: Plus90
 *TTRasterizer: Type42
 *cupsVersion: 2.4
-*cupsLanguages: "en"'''
+*cupsLanguages: "en"
+*1284DeviceID: "MFG:Jinthbao;MDL:{name};CLS:PRINTER;CMD:ESCPL2;"
+*cupsIPPReason jinthbao-profile-error/The profile in the queue's PPD is missing or refused: ""'''
 
 
 def ppd_filters():
     """The costs steer CUPS: a PDF goes by CUPS Raster, for 0 is below 10, and a PWG file comes as it is, for 10 is
-    below 197, the cost of the way by a PDF. The filters before this one make the copies."""
+    below 197, the cost of the way by a PDF. The filters before this one make the copies. There are no commands, as for
+    the cleaning of heads, and where one comes the filter says so."""
     return '''*cupsFilter2: "application/vnd.cups-raster application/vnd.cups-raw 0 rastertojinthbao"
 *cupsFilter2: "image/pwg-raster application/vnd.cups-raw 10 rastertojinthbao"
+*cupsFilter2: "application/vnd.cups-command application/vnd.cups-raw 0 rastertojinthbao"
+*cupsCommands: "none"
 *cupsManualCopies: True'''
 
 
@@ -170,7 +181,27 @@ def ppd_choices(profile):
         ppd_option("Resolution", "Resolution", [(resolution, resolution.replace("dpi", " DPI"),
                    f"<</HWResolution[{profile.across} {profile.down}]>>setpagedevice")], 10),
         ppd_option("ColorModel", "Color Mode", models, 10),
-        ppd_option("Kernel", "Error Diffusion", [(name, text, "") for name, text in KERNELS], 20)])
+        ppd_option("cupsPrintQuality", "Print Quality", [(name, text, "") for name, text in QUALITIES], 20),
+        ppd_option("Kernel", "Error Diffusion", [(name, text, "") for name, text in KERNELS], 20),
+        ppd_option("Workers", "Threads of Diffusion", [(str(count), str(count), "") for count in WORKERS], 20),
+        ppd_custom_option("Cap", "Most Dots of a Job", "No Limit", "Dots", 20),
+        ppd_passes(profile)])
+
+
+def ppd_passes(profile):
+    """Shingled passes, where the head can do them, and dead nozzles; the driver does not do both."""
+    dead = ppd_custom_option("Dead", "Dead Nozzles", "None", "Nozzles", 255)
+    if not profile.shingles:
+        return dead
+    shingle = ppd_option("Shingle", "Shingled Passes", [("0", "Off", ""), ("1", "On", "")], 20)
+    return "\n".join([shingle, dead, "*UIConstraints: *Shingle 1 *Dead", "*UIConstraints: *Dead *Shingle 1"])
+
+
+def ppd_custom_option(key, text, none, parameter, most):
+    """An option that is off, or a text of at most so many characters, as Cap=Custom.5000."""
+    return "\n".join([
+        ppd_option(key, text, [("None", none, "")], 20), f'*Custom{key} True: ""',
+        f"*ParamCustom{key} {parameter}/{parameter}: 1 string 1 {most}"])
 
 
 def resolution_of(profile):
@@ -179,31 +210,75 @@ def resolution_of(profile):
 
 def attributes(profile, name, sheets):
     """The attributes; lengths are in hundredths of a millimetre, and margins are rounded up."""
+    return "\n".join([*ipp_printer(profile, name), *ipp_raster(profile), *ipp_media(profile, sheets),
+                      *(f"ATTR {line}" for line in IPP_CONSTANT), ""])
+
+
+# In what all printers are alike: no finishing, one tray, front sides, and levels of ink that nobody knows.
+IPP_CONSTANT = (
+    "integer copies-default 1", "rangeOfInteger copies-supported 1-999",
+    "keyword sides-default one-sided", "keyword sides-supported one-sided",
+    "enum print-quality-default 4", "enum print-quality-supported 3,4,5",
+    "enum orientation-requested-default 3", "enum orientation-requested-supported 3",
+    "enum finishings-default 3", "enum finishings-supported 3", "enum finishings-ready 3",
+    "collection finishings-col-default { MEMBER keyword finishing-template none }",
+    "collection finishings-col-ready { MEMBER keyword finishing-template none }",
+    "collection finishings-col-database { MEMBER keyword finishing-template none }",
+    "keyword finishings-col-supported finishing-template",
+    "keyword output-bin-default face-up", "keyword output-bin-supported face-up",
+    "boolean page-ranges-supported false", "keyword print-content-optimize-default auto",
+    "keyword print-content-optimize-supported auto", "keyword print-rendering-intent-default auto",
+    "keyword print-rendering-intent-supported auto", "keyword media-source-supported main",
+    'octetString printer-input-tray "type=sheetFeedManual;mediafeed=0;mediaxfeed=0;maxcapacity=-2;level=-2;status=0;'
+    'name=main;"')
+
+
+def ipp_printer(profile, name):
     colour = profile.models[0] == "RGB"
-    names = ",".join(sheet.ipp_name for sheet in sheets)
-    types = ",".join(PIXELS[model].ipp_name for model in profile.models)
     mode = "color" if colour else "monochrome"
-    resolution = resolution_of(profile)
-    lines = [
+    inks = ", ".join(f'"index={place};class=supplyThatIsConsumed;type=ink;unit=percent;maxcapacity=100;level=-2;'
+                     f'colorantname={ink};"' for place, ink in enumerate(profile.inks, 1))
+    return [
         f'ATTR text printer-make-and-model "Jinthbao {name}"',
+        f'ATTR text printer-device-id "MFG:Jinthbao;MDL:{name};CMD:PWGRaster;"',
         f"ATTR boolean color-supported {str(colour).lower()}",
+        "ATTR integer pages-per-minute 1", *(["ATTR integer pages-per-minute-color 1"] if colour else []),
         f"ATTR keyword print-color-mode-default {mode}",
         f"ATTR keyword print-color-mode-supported {'color,monochrome' if colour else mode}",
-        "ATTR integer copies-default 1", "ATTR rangeOfInteger copies-supported 1-999",
-        "ATTR keyword sides-default one-sided", "ATTR keyword sides-supported one-sided",
-        "ATTR enum print-quality-default 4", "ATTR enum print-quality-supported 4",
+        f"ATTR octetString printer-supply {inks}",
+        "ATTR text printer-supply-description " + ", ".join(f'"{ink.capitalize()} Ink"' for ink in profile.inks)]
+
+
+def ipp_raster(profile):
+    resolution = resolution_of(profile)
+    types = ",".join(PIXELS[model].ipp_name for model in profile.models)
+    return [
         f"ATTR resolution printer-resolution-default {resolution}",
         f"ATTR resolution printer-resolution-supported {resolution}",
         f"ATTR resolution pwg-raster-document-resolution-supported {resolution}",
         "ATTR keyword pwg-raster-document-sheet-back normal",
-        f"ATTR keyword pwg-raster-document-type-supported {types}",
+        f"ATTR keyword pwg-raster-document-type-supported {types}"]
+
+
+def ipp_media(profile, sheets):
+    names = ",".join(sheet.ipp_name for sheet in sheets)
+    kind = "labels" if sheets[0].ipp_name.startswith("om_label") else "stationery"
+    lines = [
         f"ATTR keyword media-default {sheets[0].ipp_name}", f"ATTR keyword media-supported {names}",
-        f"ATTR keyword media-ready {sheets[0].ipp_name}"]
+        f"ATTR keyword media-ready {sheets[0].ipp_name}", f"ATTR keyword media-type-supported {kind}"]
     lines += [f"ATTR integer media-{side}-margin-supported {margin}" for side, margin in ipp_margins(profile)]
     lines.append("ATTR collection media-size-supported " + ",".join(ipp_size(sheet) for sheet in sheets))
-    lines.append(f"ATTR collection media-col-default {{ MEMBER collection media-size {ipp_size(sheets[0])}")
-    lines += [f"    MEMBER integer media-{side}-margin {margin}" for side, margin in ipp_margins(profile)]
-    return "\n".join(lines + ["}", ""])
+    columns = [ipp_column(profile, sheet, kind) for sheet in sheets]
+    lines += [f"ATTR collection media-col-{key} {columns[0]}" for key in ("default", "ready")]
+    return lines + ["ATTR collection media-col-database " + ",".join(columns)]
+
+
+def ipp_column(profile, sheet, kind):
+    """The members of a sheet's media-col."""
+    members = [f"MEMBER collection media-size {ipp_size(sheet)}", f"MEMBER keyword media-size-name {sheet.ipp_name}",
+               "MEMBER keyword media-source main", f"MEMBER keyword media-type {kind}"]
+    members += [f"MEMBER integer media-{side}-margin {margin}" for side, margin in ipp_margins(profile)]
+    return "{ " + " ".join(members) + " }"
 
 
 def ipp_margins(profile):
