@@ -49,6 +49,8 @@ exit status and line on standard error:
                                      a page would go past the cap: the dots before it, its own, the cap
 7  out of memory                     memory ran out
 8  job: offset N: CAUSE              the job is no list of commands, or the printer refuses one
+
+What each CAUSE means, and what helps, stands in the manual page jinthbao(1) and in docs/USING.md.
 ";
 
 const VERSION: &str = "jinthbao 0.1.0\n";
