@@ -59,6 +59,7 @@ _jinthbao() {
 _jinthbao_spool() {
     COMPREPLY=()
     _jinthbao_words spool
+    ((COMP_CWORD > 1)) || COMPREPLY+=($(compgen -W "--help --version" -- "${COMP_WORDS[1]}"))
 }
 
 complete -F _jinthbao jinthbao
