@@ -50,7 +50,7 @@ exit status and line on standard error:
 7  out of memory                     memory ran out
 8  job: offset N: CAUSE              the job is no list of commands, or the printer refuses one
 
-What each CAUSE means, and what helps, stands in the manual page jinthbao(1) and in docs/USING.md.
+What each CAUSE means, and what helps, stands in the manual pages (man jinthbao) and in docs/USING.md.
 ";
 
 const VERSION: &str = "jinthbao 0.1.0\n";
