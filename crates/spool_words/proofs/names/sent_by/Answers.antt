@@ -11,7 +11,8 @@ use Rattle.spool_words.proofs.names.sent_by.Goals.{then-gives+else-senders-sende
 pub returns-then-senders-sender : goal.returns-then-senders-sender
 returns-then-senders-sender c =
     sent_here c.args.words.now c.loop-i.i c.args.sender c.loop-i.senders _ c.value_of.result.now c.get-word.ensures
-    (sym c.gives.ensures ∙ c.if-gives.true) c.loop-i.invariant.count c.if-senders-sender.true c.value_of.ensures
+    (sym c.gives.ensures ∙ c.if-gives.true) c.loop-i.invariant.count
+    (omega (arith, c.if-senders-sender.true)) c.value_of.ensures
 
 pub loop-i-preserved : goal.loop-i-preserved
 loop-i-preserved c =

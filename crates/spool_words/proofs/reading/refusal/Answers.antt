@@ -1,4 +1,4 @@
-use Rattle.std.proofs.Common.{true, false}
+use Rattle.std.proofs.Common.{true, false, arith}
 use Rattle.spool_words.specs.Rows.{key_row}
 use Rattle.spool_words.proofs.Causes.{by_value, no_key, no_key_value, too_many}
 use Rattle.spool_words.proofs.reading.refusal.Goals as goal
@@ -14,14 +14,14 @@ returns-in_default-named c =
 pub returns-then-count_before-most : goal.returns-then-count_before-most
 returns-then-count_before-most c =
     too_many _ c.args.word.now _ _ (key_row c.in-Some-named.key) _ _ _ c.in-Some.ensures c.in-Some-named.ensures c.count_before.ensures
-    c.most.ensures c.if-count_before-most.true c.excess.ensures
+    c.most.ensures (omega (arith, c.if-count_before-most.true)) c.excess.ensures
 
 pub returns-then-not-takes : goal.returns-then-not-takes
 returns-then-not-takes c =
     by_value _ c.args.word.now _ _ (key_row c.in-Some-named.key) _ _ false c.in-Some.ensures c.in-Some-named.ensures c.count_before.ensures
-    c.most.ensures c.if-count_before-most.false c.if-not-takes.ensures
+    c.most.ensures (omega (arith, c.if-count_before-most.false)) c.if-not-takes.ensures
 
 pub returns-else-not-takes : goal.returns-else-not-takes
 returns-else-not-takes c =
     by_value _ c.args.word.now _ _ (key_row c.in-Some-named.key) _ _ true c.in-Some.ensures c.in-Some-named.ensures c.count_before.ensures
-    c.most.ensures c.if-count_before-most.false c.if-not-takes.ensures
+    c.most.ensures (omega (arith, c.if-count_before-most.false)) c.if-not-takes.ensures
