@@ -27,6 +27,7 @@ fn sent_by(words: &Words, sender: u8) -> &str
             }
         }
     }
+    // Not reached, since there are as many senders.
     ""
 }
 
