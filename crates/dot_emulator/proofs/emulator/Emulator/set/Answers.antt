@@ -19,6 +19,9 @@ invariant_of-self-2 c =
       blank = blank-still c.args.self.now.planes c.args.self.now.state c.in_ok-self.field-0 stays c.args.self.now.blank;
       rows = rows-still c.args.self.now.planes
           c.args.self.now.state c.in_ok-self.field-0 c.args.self.now.steps.row stays c.args.self.now.rows;
+      spare_inks = c.args.self.now.spare_inks;
+      spare_width = c.args.self.now.spare_width;
+      spare_blank = c.args.self.now.spare_blank;
     }
 
 pub returns : goal.returns
