@@ -118,8 +118,8 @@ impl Emulator {
     /// Takes back an ejected sheet without a dot. A later sheet of as many rows gets its planes, which are then neither
     /// made nor cleared. What the emulator stands for is unchanged.
     pub fn keep(&mut self, sheet: Sheet)
-        requires blank { IsBlankFrom 0 sheet.planes }
-        ensures same { (p : Printer) (m : Machine) → Shows p self.old m → Shows p self.new m }
+        requires { IsBlankFrom 0 sheet.planes }
+        ensures { (p : Printer) (m : Machine) → Shows p self.old m → Shows p self.new m }
     {
         self.spare = Some(sheet.planes);
     }
@@ -132,7 +132,26 @@ impl Emulator {
             → Shows p self.old m → Runs p m command rows self.old self.new result }
     {
         self.state = self.state.after(command, self.planes.is_some())?;
+        self.drop_unfit();
         Ok(None)
+    }
+
+    // Spare planes of another height than the page's go before others are made, so that the peak of memory is that of
+    // one sheet. While no length is set they stay.
+    fn drop_unfit(&mut self)
+        ensures { (p : Printer) (m : Machine) → Shows p self.old m → Shows p self.new m }
+    {
+        let rows = self.rows();
+        if 0 < rows && !has_rows(&self.spare, rows) {
+            self.spare = None;
+        }
+    }
+
+    // The rows of the current sheet.
+    fn rows(&self) -> u32
+        ensures { result ≡ sheet_rows self.now.state.page self.now.steps.row }
+    {
+        (self.state.page_length() + self.steps.row - 1) / self.steps.row
     }
 
     fn eject(&mut self) -> Result<Option<Sheet>, EmuStop>
@@ -225,7 +244,7 @@ impl Emulator {
         ensures taken { IfOk result (Taken (sheet_rows self.old.state.page self.old.steps.row) None) }
         ensures unchanged { OnErr result (self.new ≡ self.old) }
     {
-        let rows = (self.state.page_length() + self.steps.row - 1) / self.steps.row;
+        let rows = self.rows();
         if has_rows(&self.spare, rows) {
             if let Some(spare) = self.spare.take() {
                 return Ok(spare);

@@ -31,9 +31,9 @@ returns c = λ p m rows shows.
     (c.in_ok-self.ensures p m.dots (c.is_some.ensures ∙ shown-dots p m c.args.self.now.planes shows.dots)) in (
       (step rows).0,
       plain-gives p m c.args.command c.requires.plain,
-      record {
+      c.drop_unfit.ensures p _ (record {
         steps = shows.steps;
         state = (step rows).1;
         dots = plain-shows p m c.args.command rows c.args.self.now.planes c.requires.plain (step rows).0 shows.dots;
-      },
+      }),
     )
