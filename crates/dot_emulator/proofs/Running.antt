@@ -1,10 +1,11 @@
 -- What the emulator stands for after a command.
-use Rattle.std.proofs.Common.{◌≡◌, ℕ, suc, ◌+◌, ◌-◌, ◌/◌, ◌≤◌, Bool, true, false, nat_le, nat_lt, List, [], ◌∷◌, ◌++◌, length}
+use Rattle.std.proofs.Common.{◌≡◌, ℕ, suc, ◌+◌, ◌-◌, ◌/◌, ◌<◌, ◌≤◌, Bool, true, false, nat_le, nat_lt, List, [], ◌∷◌, ◌++◌, length}
 use Rattle.std.proofs.Common.{refl, ◌∙◌, sym, ap, arith, subst, append-nil, length-append}
 use Rattle.std.specs.Prelude.{Option, Some, None, Ok, is_some, is_none, if◌then◌else◌}
 use Rattle.std.specs.List.{AllByRecursion, list_any}
 use Rattle.std.proofs.lemmas.Bool.{false≢true, lt-ltb, ltb-false, ltb-true}
 use Rattle.printer_definitions.specs.Printer.{Printer, column_step, row_step}
+use Rattle.escp2_definitions.specs.Commands.{last_column}
 use Rattle.escp2_definitions.specs.declared.command.RasterHead.{RasterHead}
 use Rattle.escp2_definitions.specs.declared.command.Command.{Command}
 use Rattle.escp2_definitions.specs.declared.command.Command.TheVariants as c
@@ -13,17 +14,19 @@ use Rattle.escp2_definitions.specs.Machine.{Dot, Machine, after, bottom_margin, 
 use Rattle.escp2_definitions.specs.Machine.{overprints, page_length, refusals, refuse}
 use Rattle.dot_planes.specs.Tables.{DotTable}
 use Rattle.dot_emulator.specs.declared.state.State.{State}
-use Rattle.dot_emulator.specs.Current.{IsBlankPast, rows_or}
+use Rattle.dot_emulator.specs.Current.{HasHeight, IsBlankPast, inks_of, rows_or, width_of}
 use Rattle.dot_emulator.specs.Pages.{sheet_rows}
 use Rattle.dot_emulator.specs.declared.firing.Raster.{Raster}
 use Rattle.dot_emulator.specs.Firing.{Grid, HasRows, IsAbove, PlanesHave, fired, late_fault}
 use Rattle.dot_emulator.specs.Places.{Placed, grid_of}
-use Rattle.dot_emulator.specs.Runs.{AreTaken, LaidIn, Runs, Shows, ShowsDots}
+use Rattle.dot_emulator.specs.Runs.{AreTaken, LaidIn, Runs, Shows, ShowsDots, Taken}
 use Rattle.dot_emulator.specs.declared.emulator.Emulator.{Emulator}
 use Rattle.dot_emulator.specs.declared.raster.Steps.{Steps}
 use Rattle.dot_emulator.specs.declared.sheet.Sheet.{Sheet}
 use Rattle.dot_emulator.specs.Steps.{AreStepsOf}
 use Rattle.printer_definitions.specs.Inks.{ink_place}
+use Rattle.printer_definitions.specs.declared.inks.Ink.{Ink}
+use Rattle.printer_definitions.specs.declared.inks.Ink.TheVariants.{Black, Cyan, Magenta, Yellow}
 use Rattle.dot_emulator.specs.Sheets.{HasDots, HasPlaces, IsOnGrid}
 use Rattle.dot_emulator.proofs.OnGrid.{all-append, fired-on-grid, wider}
 use Rattle.dot_emulator.specs.States.{IsStep, is_plain, machine_of}
@@ -135,8 +138,8 @@ rows-still (Some t) s0 s row stays is = is ∙ ap (λ page. sheet_rows page row)
 
 pub blank-still : (planes : Option DotTable) (s0 s : State)
     → (is_some planes ≡ true → IsStill s0 s) → IsBlankPast s0.columns planes → IsBlankPast s.columns planes
-blank-still None s0 s stays blank = λ ink y x low past. refl
-blank-still (Some t) s0 s stays blank = λ ink y x low past. blank ink y x low (let same = (stays refl).columns in omega (arith, same))
+blank-still None s0 s stays blank = λ ink y x few low past. refl
+blank-still (Some t) s0 s stays blank = λ ink y x few low past. blank ink y x few low (let same = (stays refl).columns in omega (arith, same))
 
 -- ---- rasters
 
@@ -227,27 +230,46 @@ blank-shows p m header r rows planes placed none shows = by_planes planes shows
 
 -- ---- planes that are taken
 
+-- spare planes of the sheet's rows
+pub spare-taken : (n rows : ℕ) (spare : Option DotTable) (t : DotTable) → spare ≡ Some t → HasHeight n spare → n ≡ rows
+    → inks_of spare ≡ 4 → width_of spare ≡ last_column → IsBlankPast 0 spare → Taken rows None t
+spare-taken n rows None t is height n_is four wide blank = absurd height
+spare-taken n rows (Some o) t is height n_is four wide blank =
+    let T : DotTable → Type 0 = Taken rows None in
+    let same : o ≡ t = cc in
+    subst T same (record { inks = four; width = wide; height = height ∙ n_is; taken = blank })
+
 pub blank-taken : (old : Option DotTable) (t : DotTable) (columns : ℕ)
     → AreTaken old t → IsBlankPast columns old → IsBlankPast columns (Some t)
-blank-taken None t columns taken blank = λ ink y x low past. taken ink y x
+blank-taken None t columns taken blank = λ ink y x few low past. taken ink y x few low (omega arith)
 blank-taken (Some o) t columns taken blank =
     let P : DotTable → Type 0 = λ s. IsBlankPast columns (Some s) in
     subst P (sym taken) blank
 
+-- the place of an ink among four planes
+in-four : (t : DotTable) (ink : Ink) → t.inks ≡ 4 → ink_place ink < t.inks
+in-four t Black four = omega (arith, four)
+in-four t Cyan four = omega (arith, four)
+in-four t Magenta four = omega (arith, four)
+in-four t Yellow four = omega (arith, four)
+
 pub places-taken : (g : Grid) (dots : List Dot) (old : Option DotTable) (t : DotTable)
-    → AreTaken old t → PlanesHave g dots old → HasPlaces g.column g.row dots t
-places-taken g [] None t taken have = λ ink y x low. taken (ink_place ink) y x
-places-taken g (d ∷ dots) None t taken have = absurd (omega arith)
-places-taken g dots (Some o) t taken have =
+    → t.inks ≡ 4 → AreTaken old t → PlanesHave g dots old → HasPlaces g.column g.row dots t
+places-taken g [] None t four taken have = λ ink y x low. taken (ink_place ink) y x (in-four t ink four) low (omega arith)
+places-taken g (d ∷ dots) None t four taken have = absurd (omega arith)
+places-taken g dots (Some o) t four taken have =
     let P : DotTable → Type 0 = HasPlaces g.column g.row dots in
     subst P (sym taken) have
 
 has-taken : (p : Printer) (m : Machine) (old : Option DotTable) (t : DotTable)
-    → AreTaken old t → ShowsDots p m old → HasDots (column_step p) (row_step p) m.columns m.dots t
-has-taken p m None t taken shows =
+    → t.inks ≡ 4 → AreTaken old t → ShowsDots p m old → HasDots (column_step p) (row_step p) m.columns m.dots t
+has-taken p m None t four taken shows =
     let P : List Dot → Type 0 = λ ds. HasDots (column_step p) (row_step p) m.columns ds t in
-    subst P (sym shows) (record { places = λ ink y x low. taken (ink_place ink) y x; inside = tt })
-has-taken p m (Some o) t taken shows =
+    subst P (sym shows) (record {
+      places = λ ink y x low. taken (ink_place ink) y x (in-four t ink four) low (omega arith);
+      inside = tt;
+    })
+has-taken p m (Some o) t four taken shows =
     let P : DotTable → Type 0 = λ s. HasDots (column_step p) (row_step p) m.columns m.dots s in
     subst P (sym taken) shows.1
 
@@ -259,6 +281,7 @@ pub record IsEjected (p : Printer) (m : Machine) (old new : Emulator) (sheet : S
   pub none : new.planes ≡ None
   pub rows : sheet.rows ≡ sheet_rows old.state.page old.steps.row
   pub columns : sheet.columns ≡ old.state.columns
+  pub inks : sheet.planes.inks ≡ 4
   pub taken : AreTaken old.planes sheet.planes
 
 pub eject-runs : (p : Printer) (m : Machine) (rows : List ℕ) (old new : Emulator) (sheet : Sheet)
@@ -276,7 +299,7 @@ eject-runs p m rows old new sheet shows e =
         record {
           rows = e.rows ∙ ap (λ o. sheet_rows o old.steps.row) page ∙ ap (λ n. sheet_rows m.page n) shows.steps.row;
           columns = e.columns ∙ ap (λ (n : Machine). n.columns) shows.state;
-          dots = has-taken p m old.planes sheet.planes e.taken shows.dots;
+          dots = has-taken p m old.planes sheet.planes e.inks e.taken shows.dots;
         },
       ),
       record {

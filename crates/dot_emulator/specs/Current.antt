@@ -17,13 +17,19 @@ abbrev pub rows_or : ℕ → Option DotTable → ℕ
 rows_or n None = n
 rows_or n (Some t) = t.rows
 
+-- there are planes, of this many rows
+abbrev pub HasHeight : ℕ → Option DotTable → Type 0
+HasHeight rows None = ⊥
+HasHeight rows (Some t) = t.rows ≡ rows
+
 abbrev pub dot_in : Option DotTable → ℕ → ℕ → ℕ → Bool
 dot_in None ink y x = false
 dot_in (Some t) ink y x = dot t ink y x
 
 -- none of their dots is at or past this column
 abbrev pub IsBlankPast : ℕ → Option DotTable → Type 0
-IsBlankPast column planes = (ink y x : ℕ) → y < rows_or 0 planes → column ≤ x → dot_in planes ink y x ≡ false
+IsBlankPast column planes =
+    (ink y x : ℕ) → ink < inks_of planes → y < rows_or 0 planes → column ≤ x → dot_in planes ink y x ≡ false
 
 -- whether one of the first `dots` dots of a packed row is on where the ink has a dot in row y, with the row's first at
 -- column x

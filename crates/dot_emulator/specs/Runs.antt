@@ -4,12 +4,12 @@ use Rattle.printer_definitions.specs.Printer.{Printer, column_step, row_step}
 use Rattle.escp2_definitions.specs.Commands.{last_column}
 use Rattle.escp2_definitions.specs.declared.command.Command.{Command}
 use Rattle.escp2_definitions.specs.Machine.{Dot, Machine, Sheet as PrintedSheet, after, first_fault, given, has_dots, refusals}
-use Rattle.dot_planes.specs.Tables.{DotTable, dot}
+use Rattle.dot_planes.specs.Tables.{DotTable}
 use Rattle.dot_emulator.specs.declared.emulator.Emulator.{Emulator}
 use Rattle.dot_emulator.specs.declared.emulator.EmuStop.{EmuStop}
 use Rattle.dot_emulator.specs.declared.emulator.EmuStop.TheVariants.{Refused, Memory}
 use Rattle.dot_emulator.specs.declared.sheet.Sheet.{Sheet}
-use Rattle.dot_emulator.specs.Sheets.{HasDots, HasPlaces}
+use Rattle.dot_emulator.specs.Sheets.{HasDots, HasPlaces, IsBlankFrom}
 use Rattle.dot_emulator.specs.Firing.{Grid, fired}
 use Rattle.dot_emulator.specs.declared.firing.Raster.{Raster}
 use Rattle.base_definitions.specs.declared.answers.Memory.{Memory as MemoryOut}
@@ -49,13 +49,9 @@ Runs p m command rows old new (Err Memory) = (first_fault (refusals p m command 
 
 -- ---- parts of a step
 
--- planes without a dot
-abbrev pub IsBlank : DotTable → Type 0
-IsBlank t = (ink y x : ℕ) → dot t ink y x ≡ false
-
 -- the planes are the current ones, or blank where there were none
 abbrev pub AreTaken : Option DotTable → DotTable → Type 0
-AreTaken None t = IsBlank t
+AreTaken None t = IsBlankFrom 0 t
 AreTaken (Some old) t = t ≡ old
 
 pub record Taken (rows : ℕ) (old : Option DotTable) (t : DotTable) : Type 0 where

@@ -2,7 +2,7 @@
 ghost use Rattle.escp2_definitions.specs.Commands.{in_table, last_column, rows_len};
 ghost use Rattle.escp2_definitions.specs.Machine.{start};
 ghost use Rattle.printer_profile.specs.Validity.{check};
-ghost use Rattle.dot_emulator.specs.Current.{IsBlankPast, inks_of, rows_or, width_of};
+ghost use Rattle.dot_emulator.specs.Current.{HasHeight, IsBlankPast, inks_of, rows_or, width_of};
 ghost use Rattle.dot_emulator.specs.Pages.{sheet_rows};
 ghost use Rattle.dot_emulator.specs.declared.emulator.EmuStop.TheVariants as stop;
 ghost use Rattle.std.specs.Prelude.{IsOk, length, true, ◌≡◌};
@@ -54,16 +54,21 @@ pub struct Emulator {
     ghost width: { width_of planes ≡ last_column },
     ghost blank: { IsBlankPast state.columns planes },
     ghost rows: { rows_or (sheet_rows state.page steps.row) planes ≡ sheet_rows state.page steps.row },
+    /// Planes without a dot that were handed back, of any height.
+    spare: Option<Planes>,
+    ghost spare_inks: { inks_of spare ≡ 4 },
+    ghost spare_width: { width_of spare ≡ last_column },
+    ghost spare_blank: { IsBlankPast 0 spare },
 }
 
 impl Emulator {
     ghost use Rattle.dot_emulator.specs.Firing.{Grid, IsAbove, HasRows, PlanesHave, Stands};
     ghost use Rattle.dot_emulator.specs.Places.{IsPlaced};
-    ghost use Rattle.dot_emulator.specs.Runs.{LaidIn, Runs, Shows, TakesPlanes};
-    ghost use Rattle.dot_emulator.specs.Sheets.{HasPlaces};
+    ghost use Rattle.dot_emulator.specs.Runs.{LaidIn, Runs, Shows, Taken, TakesPlanes};
+    ghost use Rattle.dot_emulator.specs.Sheets.{HasPlaces, IsBlankFrom};
     ghost use Rattle.dot_emulator.specs.Steps.{AreStepsOf};
     ghost use Rattle.dot_emulator.specs.States.{is_plain, machine_of};
-    ghost use Rattle.escp2_definitions.specs.Machine.{Dot, Machine};
+    ghost use Rattle.escp2_definitions.specs.Machine.{Dot, Machine, has_dots};
     ghost use Rattle.escp2_definitions.specs.declared.command.Command.TheVariants as c;
     ghost use Rattle.printer_definitions.specs.Printer.{Printer};
     ghost use Rattle.std.specs.Prelude.{IfOk, List, OnErr, OnOk, None, ℕ, ◌*◌};
@@ -81,6 +86,7 @@ impl Emulator {
             steps: Steps::of(p),
             state: State::start(),
             planes: None,
+            spare: None,
         }
     }
 
@@ -102,6 +108,22 @@ impl Emulator {
         }
     }
 
+    /// Whether a dot was fired on the current sheet.
+    pub fn has_dots(&self) -> bool
+        ensures { (p : Printer) (m : Machine) → Shows p self.now m → result ≡ has_dots m }
+    {
+        self.planes.is_some()
+    }
+
+    /// Takes back an ejected sheet without a dot. A later sheet of as many rows gets its planes, which are then neither
+    /// made nor cleared. What the emulator stands for is unchanged.
+    pub fn keep(&mut self, sheet: Sheet)
+        requires { IsBlankFrom 0 sheet.planes }
+        ensures { (p : Printer) (m : Machine) → Shows p self.old m → Shows p self.new m }
+    {
+        self.spare = Some(sheet.planes);
+    }
+
     // A command that fires no dots and gives no sheet.
     fn set(&mut self, command: Command) -> Result<Option<Sheet>, EmuStop>
         requires plain { is_plain command ≡ true }
@@ -110,7 +132,26 @@ impl Emulator {
             → Shows p self.old m → Runs p m command rows self.old self.new result }
     {
         self.state = self.state.after(command, self.planes.is_some())?;
+        self.drop_unfit();
         Ok(None)
+    }
+
+    // Spare planes of another height than the page's go before others are made, so that the peak of memory is that of
+    // one sheet. While no length is set they stay.
+    fn drop_unfit(&mut self)
+        ensures { (p : Printer) (m : Machine) → Shows p self.old m → Shows p self.new m }
+    {
+        let rows = self.rows();
+        if 0 < rows && !has_rows(&self.spare, rows) {
+            self.spare = None;
+        }
+    }
+
+    // The rows of the current sheet.
+    fn rows(&self) -> u32
+        ensures { result ≡ sheet_rows self.now.state.page self.now.steps.row }
+    {
+        (self.state.page_length() + self.steps.row - 1) / self.steps.row
     }
 
     fn eject(&mut self) -> Result<Option<Sheet>, EmuStop>
@@ -179,7 +220,7 @@ impl Emulator {
         Ok(())
     }
 
-    // The planes of the current sheet; for a sheet without dots they are made.
+    // The planes of the current sheet; those of a sheet without dots are spare ones, or made.
     fn take_planes(&mut self) -> Result<Planes, Memory>
         requires { 1 ≤ unwrap_or self.old.state.page 0 }
         ensures state { self.new.state ≡ self.old.state }
@@ -190,10 +231,35 @@ impl Emulator {
     {
         match self.planes.take() {
             Some(planes) => Ok(planes),
-            None => {
-                let rows = (self.state.page_length() + self.steps.row - 1) / self.steps.row;
-                Planes::make(self.alloc, MOST_COLUMNS, rows, 4)
+            None => self.take_blank(),
+        }
+    }
+
+    // Planes of the current sheet's rows without a dot: the spare ones where they have these rows, else new ones.
+    fn take_blank(&mut self) -> Result<Planes, Memory>
+        requires { 1 ≤ unwrap_or self.old.state.page 0 }
+        ensures state { self.new.state ≡ self.old.state }
+        ensures steps { self.new.steps ≡ self.old.steps }
+        ensures planes { self.new.planes ≡ self.old.planes }
+        ensures taken { IfOk result (Taken (sheet_rows self.old.state.page self.old.steps.row) None) }
+        ensures unchanged { OnErr result (self.new ≡ self.old) }
+    {
+        let rows = self.rows();
+        if has_rows(&self.spare, rows) {
+            if let Some(spare) = self.spare.take() {
+                return Ok(spare);
             }
         }
+        Planes::make(self.alloc, MOST_COLUMNS, rows, 4)
+    }
+}
+
+// Whether there are planes of so many rows.
+fn has_rows(planes: &Option<Planes>, rows: u32) -> bool
+    ensures { result ≡ true → HasHeight rows planes.now }
+{
+    match planes {
+        Some(planes) => planes.rows() == rows,
+        None => false,
     }
 }

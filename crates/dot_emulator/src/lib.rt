@@ -3,7 +3,8 @@
 //! An `Emulator` stands for a machine of the definitions (`Shows`), with the dots on its sheet. `run` does exactly
 //! what the machine does (`Runs`): it takes the machine's next state and gives the sheet that the command ejects, or
 //! answers the machine's first refusal, or `Memory`. After a refusal and after `Memory` the emulator is unchanged.
-//! The planes of a sheet are made for its first dot, and for a blank sheet at its eject.
+//! The planes of a sheet are made for its first dot, and for a blank sheet at its eject. A blank sheet can be handed
+//! back (`keep`), and a later sheet of as many rows then gets its planes.
 //!
 //! A `Sheet` has exactly the dots that the machine printed, in planes of black, cyan, magenta and yellow, 8,191 columns
 //! wide.

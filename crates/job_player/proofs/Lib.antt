@@ -4,3 +4,4 @@ pub mod Running
 pub mod Playing
 pub mod SheetDots
 pub mod PageRuns
+pub mod Blanks

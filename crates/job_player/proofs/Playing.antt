@@ -141,6 +141,23 @@ sheet_written {p} {held} {now} {now'} {number} sheet has written more_is =
           ∙ ap counted (sym (length-append has.sheets (has.printed ∷ [])));
     }
 
+-- its planes were handed back
+pub kept_back : {p : Printer} {e e' : Emulator} {feed : JobFeed} {before text held now : Option (List ℕ)} {number : ℕ}
+    → PlaysSoFar p e feed before text held now number → ((m : Machine) → Shows p e m → Shows p e' m)
+    → PlaysSoFar p e' feed before text held now number
+kept_back so_far shows = record {
+  sheets = so_far.sheets;
+  runs = record {
+    entries = so_far.runs.entries;
+    gave = so_far.runs.gave;
+    m = so_far.runs.m;
+    executes = so_far.runs.executes;
+    shows = shows so_far.runs.m so_far.runs.shows;
+  };
+  writes = so_far.writes;
+  number_is = so_far.number_is;
+}
+
 -- ---- how playing ends
 
 takes_sheets : (p : Printer) (most : ℕ) (before now : Option (List ℕ))

@@ -49,6 +49,7 @@ pub fn play_job<S: Source, K: Sink>(
         let Some(placed) = feed.next(input)? else {
             return Ok(());
         };
+        let is_blank = !emulator.has_dots();
         let given = match emulator.run(&placed.command, feed.rows()) {
             Ok(given) => given,
             Err(stop) => return Err(refused_at(placed.at, stop)),
@@ -60,6 +61,9 @@ pub fn play_job<S: Source, K: Sink>(
         match write_sheet(&sheet, out) {
             Ok(()) => {}
             Err(_) => return Err(PlayStop::Write { sheet: sheets }),
+        }
+        if is_blank {
+            emulator.keep(sheet);
         }
     }
 }

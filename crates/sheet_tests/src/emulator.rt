@@ -217,3 +217,15 @@ fn a_sheet_with_dots_goes_on_downwards(rt: HostRuntime) {
     ];
     each(&rt, &mut on_page(&rt, rt.alloc()), &CASES);
 }
+
+#[test]
+fn a_sheet_has_dots_from_its_first_dot_on(rt: HostRuntime) -> Result<(), Fail> {
+    let mut emulator = on_page(&rt, rt.alloc());
+    each(&rt, &mut emulator, &[(FIRE, BLANK, None)]);
+    assert!(rt; !emulator.has_dots());
+    each(&rt, &mut emulator, &[(FIRE, LAST_ROW, None)]);
+    assert!(rt; emulator.has_dots());
+    eject(&rt, &mut emulator, [6, 16, 8, 0], &[])?;
+    assert!(rt; !emulator.has_dots());
+    Ok(())
+}

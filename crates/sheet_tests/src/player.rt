@@ -23,7 +23,7 @@ fn plays(
     same(
         rt,
         "the end",
-        &play_job(alloc, &TINY, 92, &mut input, &mut out),
+        &play_job(alloc, &TINY, 200, &mut input, &mut out),
         &end,
     );
     assert!(rt; out.bytes() == images);
@@ -33,6 +33,54 @@ fn plays(
 #[test]
 fn a_sheet_is_four_images(rt: HostRuntime) -> Result<(), Fail> {
     plays(&rt, rt.alloc(), (&TINY_JOB, 64), (Ok(()), TINY_IMAGES))
+}
+
+// The beginning of a page of six rows, and of one of four.
+const SIX_ROWS: &[u8] = b"\x1B@\x1B(G\x01\x00\x01\x1B(U\x01\x00\x05\
+    \x1B(C\x02\x00\x0C\x00\x1B(c\x04\x00\x00\x00\x0C\x00";
+
+const FOUR_ROWS: &[u8] = b"\x1B(C\x02\x00\x08\x00\x1B(c\x04\x00\x00\x00\x08\x00";
+
+const EJECT: &[u8] = b"\x0C";
+
+// Fires row 4, and ejects the sheet.
+const FILL: &[u8] = b"\x1B.\x00\x14\x0A\x03\x08\x00\x00\x00\xFF\x0C";
+
+const SIX_BLANK: &[u8] = b"P4\n1 6\n\x00\x00\x00\x00\x00\x00\
+    P4\n1 6\n\x00\x00\x00\x00\x00\x00\
+    P4\n1 6\n\x00\x00\x00\x00\x00\x00\
+    P4\n1 6\n\x00\x00\x00\x00\x00\x00";
+
+const FOUR_BLANK: &[u8] = b"P4\n1 4\n\x00\x00\x00\x00P4\n1 4\n\x00\x00\x00\x00\
+    P4\n1 4\n\x00\x00\x00\x00P4\n1 4\n\x00\x00\x00\x00";
+
+const FILLED: &[u8] = b"P4\n8 6\n\x00\x00\x00\x00\xFF\x00\
+    P4\n8 6\n\x00\x00\x00\x00\x00\x00\
+    P4\n8 6\n\x00\x00\x00\x00\x00\x00\
+    P4\n8 6\n\x00\x00\x00\x00\x00\x00";
+
+#[test]
+fn sheets_show_their_own_dots_alone_whatever_was_before(rt: HostRuntime) -> Result<(), Fail> {
+    const PIECES: [(&[u8], &[u8]); 11] = [
+        (SIX_ROWS, b""),
+        (EJECT, SIX_BLANK),
+        (EJECT, SIX_BLANK),
+        (FILL, FILLED),
+        (EJECT, SIX_BLANK),
+        (FOUR_ROWS, b""),
+        (EJECT, FOUR_BLANK),
+        (EJECT, FOUR_BLANK),
+        (SIX_ROWS, b""),
+        (FILL, FILLED),
+        (EJECT, SIX_BLANK),
+    ];
+    let mut job = Vec::new(rt.alloc());
+    let mut images = Vec::new(rt.alloc());
+    for (bytes, shown) in &PIECES {
+        job.extend_from_slice(bytes)?;
+        images.extend_from_slice(shown)?;
+    }
+    plays(&rt, rt.alloc(), (&job, 1000), (Ok(()), &images))
 }
 
 #[test]

@@ -1,7 +1,8 @@
 use Rattle.std.proofs.Common.{arith, ap, subst, ◌∙◌, ℕ, List, Err}
 use Rattle.std.proofs.lemmas.Result.{err_from_is_err_and}
 use Rattle.dot_emulator.specs.Runs.{Runs}
-use Rattle.job_player.proofs.Playing.{gives_sheet, if_none, is_none, plays_all, plays_more, plays_none, plays_nothing}
+use Rattle.job_player.proofs.Blanks.{given_blank}
+use Rattle.job_player.proofs.Playing.{gives_sheet, if_none, is_none, kept_back, plays_all, plays_more, plays_none, plays_nothing}
 use Rattle.job_player.proofs.Playing.{plays_to_emu_stop, plays_to_feed_stop, sheet_unwritten, sheet_written}
 use Rattle.job_player.proofs.player.play_job.Goals as goal
 
@@ -76,6 +77,30 @@ commands-preserved g c =
     let has = gives_sheet _ c.in-Some.placed c.in-Some-given.sheet so_far takes runs in
     record {
       so_far = sheet_written c.in-Some-given.sheet has c.in-Ok-write_sheet.ensures.ok c.saturating_add-sheets.ensures;
+      between = takes.between;
+      most = takes.most ∙ c.commands.invariant.most;
+      later = omega (arith, c.commands.invariant.later, c.next.ensures.later);
+      out_later = omega (arith, c.commands.invariant.out_later, c.write_sheet.ensures.cause.later);
+    }
+
+pub keep-requires : goal.keep-requires
+keep-requires g c =
+    let so_far = c.commands.invariant.so_far in
+    let runs = rw c.in-Some-given.is at
+    (rw c.rows.ensures at (c.in-Ok.ensures c.args.profile.now so_far.runs.m so_far.runs.shows)) in
+    given_blank c.args.profile.now so_far.runs.m c.in-Some.placed.command c.in-Some-given.sheet _ runs.1
+    (c.has_dots-is_blank.ensures c.args.profile.now so_far.runs.m so_far.runs.shows) c.if-is_blank.true
+
+pub commands-preserved-then-is_blank : goal.commands-preserved-then-is_blank
+commands-preserved-then-is_blank g c =
+    let so_far = c.commands.invariant.so_far in
+    let takes = rw c.in-Some.is at c.in_ok-placed.ensures.command in
+    let runs = rw c.in-Some-given.is at
+    (rw c.rows.ensures at (c.in-Ok.ensures c.args.profile.now so_far.runs.m so_far.runs.shows)) in
+    let has = gives_sheet _ c.in-Some.placed c.in-Some-given.sheet so_far takes runs in
+    record {
+      so_far = kept_back (sheet_written c.in-Some-given.sheet has c.in-Ok-write_sheet.ensures.ok c.saturating_add-sheets.ensures)
+          (c.keep.ensures c.args.profile.now);
       between = takes.between;
       most = takes.most ∙ c.commands.invariant.most;
       later = omega (arith, c.commands.invariant.later, c.next.ensures.later);

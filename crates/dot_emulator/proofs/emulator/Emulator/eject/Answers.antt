@@ -35,7 +35,7 @@ invariant_of-sheet c =
       width = taken.width;
       blank = subst B (sym c.in_ok-planes.ensures.state) (λ ink y x in_inks low past.
           blank-taken c.args.self.now.planes
-          c.in_ok-planes.planes c.args.self.now.state.columns taken.taken c.args.self.now.blank ink y x low past);
+          c.in_ok-planes.planes c.args.self.now.state.columns taken.taken c.args.self.now.blank ink y x in_inks low past);
     }
 
 pub returns : goal.returns
@@ -45,5 +45,6 @@ returns c = λ p m rows shows. eject-runs p m rows c.args.self.now _ _ shows (re
   none = c.in_ok-planes.ensures.none;
   rows = c.rows.ensures ∙ c.in_ok-planes.ensures.taken.height;
   columns = ap (λ (s : State). s.columns) c.in_ok-planes.ensures.state;
+  inks = c.in_ok-planes.ensures.taken.inks;
   taken = c.in_ok-planes.ensures.taken.taken;
 })

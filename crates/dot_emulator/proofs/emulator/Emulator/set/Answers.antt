@@ -19,6 +19,9 @@ invariant_of-self-2 c =
       blank = blank-still c.args.self.now.planes c.args.self.now.state c.in_ok-self.field-0 stays c.args.self.now.blank;
       rows = rows-still c.args.self.now.planes
           c.args.self.now.state c.in_ok-self.field-0 c.args.self.now.steps.row stays c.args.self.now.rows;
+      spare_inks = c.args.self.now.spare_inks;
+      spare_width = c.args.self.now.spare_width;
+      spare_blank = c.args.self.now.spare_blank;
     }
 
 pub returns : goal.returns
@@ -28,9 +31,9 @@ returns c = λ p m rows shows.
     (c.in_ok-self.ensures p m.dots (c.is_some.ensures ∙ shown-dots p m c.args.self.now.planes shows.dots)) in (
       (step rows).0,
       plain-gives p m c.args.command c.requires.plain,
-      record {
+      c.drop_unfit.ensures p _ (record {
         steps = shows.steps;
         state = (step rows).1;
         dots = plain-shows p m c.args.command rows c.args.self.now.planes c.requires.plain (step rows).0 shows.dots;
-      },
+      }),
     )
