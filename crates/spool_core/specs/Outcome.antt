@@ -60,7 +60,7 @@ WriteStopped done other = ⊥
 
 -- the job was printed, its input refused, one of its pages went past a cap, or memory ran out
 pub record HasPlainStatus (ran : Ran) : Type 0 where
-  pub is : (ran.status ≡ 0) ⊎ (ran.status ≡ 3) ⊎ (ran.status ≡ 6) ⊎ (ran.status ≡ 7)
+  pub is : (ran.status ≡ 0) ⊎ ((ran.status ≡ 3) ⊎ ((ran.status ≡ 6) ⊎ (ran.status ≡ 7)))
 
 -- the answer to jobs of which none failed in a write
 abbrev pub SumsUp : List Ran → SpoolAnswer → Type 0

@@ -15,7 +15,7 @@ use Rattle.spool_core.specs.declared.report.Ran.{Ran}
 use Rattle.spool_queue.specs.Jobs.{Stream}
 use Rattle.spool_words.specs.Meaning.{names_of, profile_named, spool_meaning}
 use Rattle.spool_words.specs.declared.reading.SpoolRequest.{SpoolRequest}
-use Rattle.weave_base.specs.Parts.{AppendsPart}
+use Rattle.weave_base.specs.Shelf.{NamedText}
 
 -- the stream's pages are whole, and nothing stands behind them
 abbrev pub IsValidStream : Printer → Stream → Type 0

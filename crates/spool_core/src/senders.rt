@@ -27,9 +27,9 @@ pub fn assign(
     ensures passes { map (λ w. w.pass) result.items ≡ passes.items }
     ensures lists { map (λ w. w.streams) result.items ≡ lists.items }
 {
-    let mut lists = lists.into_iter();
+    let mut rest = lists.into_iter();
     for pass in passes {
-        let Some(streams) = lists.next() else {
+        let Some(streams) = rest.next() else {
             unreachable!()
         };
         works.push_reserved(Work { pass, streams });

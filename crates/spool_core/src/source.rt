@@ -1,7 +1,7 @@
 //! The stream of a job as a source.
 ghost use Rattle.std.specs.Io.{ReadsAtMost};
 ghost use Rattle.std.specs.Io.KnownBytes.{ReadConsumes};
-ghost use Rattle.std.specs.Prelude.{Some, drop, ◌≡◌, ◌≤◌, length};
+ghost use Rattle.std.specs.Prelude.{Some, ◌≡◌};
 ghost use Rattle.weave_base.specs.Causes.{HasCause};
 
 use spool_queue::StreamBytes;
@@ -16,7 +16,7 @@ pub struct StreamSource {
 }
 
 impl Model for StreamSource {
-    ghost use Rattle.std.specs.Prelude.{List, ℕ};
+    ghost use Rattle.std.specs.Prelude.{List, drop, length, ℕ, ◌≤◌};
 
     ghost Value = { List ℕ };
 
