@@ -7,6 +7,7 @@ use std::test::*;
 
 mod team;
 mod threads;
+mod words;
 
 // Stops the test where a call did not give what was wanted.
 fn same<T: PartialEq + Debug>(rt: &impl Abort, at: &str, got: &T, want: &T) {

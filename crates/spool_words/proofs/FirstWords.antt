@@ -1,0 +1,95 @@
+-- The first of some words that passes a test, and how many of them pass it.
+use Rattle.std.proofs.Common.{◌≡◌, ℕ, zero, suc, ◌≤◌, ◌+◌, Bool, true, false, ◌||◌, cond, List, [], ◌∷◌, length, take}
+use Rattle.std.proofs.Common.{Some, None, slice_get, refl, ap, sym, subst, ◌∙◌, arith}
+use Rattle.std.specs.List.{count_by, filter, find, list_any, position_from}
+use Rattle.std.proofs.lemmas.Bool.Decides.{nat_tests}
+use Rattle.std.proofs.lemmas.List.{length-take-le, take_all}
+use Rattle.std.proofs.lemmas.List.Folds.{list_any-append}
+use Rattle.std.proofs.lemmas.List.Sums.{count_by-le-length, count_by_more_no, count_by_more_yes, sum_by-cons}
+use Rattle.std.proofs.lemmas.Option.{get_or_from_slice_get, slice_get_within}
+use Rattle.job_words.proofs.FirstWords.{find_none, taken}
+
+-- ---- the first
+
+pub none_more : {X : Type 0} (p : X → Bool) (xs : List X) (k : ℕ) (x : X) → slice_get xs k ≡ Some x
+    → list_any p (take k xs) ≡ false → p x ≡ false → list_any p (take (k + 1) xs) ≡ false
+none_more p xs k x here none fails = rw (taken xs k x here, list_any-append, none, fails) refl
+
+none_at_all : {X : Type 0} (p : X → Bool) (xs : List X) (k : ℕ) → length xs ≤ k → list_any p (take k xs) ≡ false
+    → list_any p xs ≡ false
+none_at_all p xs k all none = ap (list_any p) (sym (take_all k xs all)) ∙ none
+
+pub no_first : {X : Type 0} (p : X → Bool) (xs : List X) (k : ℕ) → length xs ≤ k → list_any p (take k xs) ≡ false
+    → find p xs ≡ None
+no_first p xs k all none = find_none p xs (none_at_all p xs k all none)
+
+position_none : {X : Type 0} (p : X → Bool) (n : ℕ) (xs : List X) → list_any p xs ≡ false → position_from p n xs ≡ None
+position_none p n [] h = refl
+position_none p n (x ∷ xs) h = grind (arith, nat_tests, position_none p (n + 1) xs)
+
+pub no_place : {X : Type 0} (p : X → Bool) (xs : List X) (k : ℕ) → length xs ≤ k → list_any p (take k xs) ≡ false
+    → position_from p 1 xs ≡ None
+no_place p xs k all none = position_none p 1 xs (none_at_all p xs k all none)
+
+pub find_at : {X : Type 0} (p : X → Bool) (xs : List X) (k : ℕ) (x : X) → slice_get xs k ≡ Some x
+    → list_any p (take k xs) ≡ false → p x ≡ true → find p xs ≡ Some x
+find_at p [] k x here none passes = cc
+find_at p (y ∷ xs) zero x here none passes =
+    let same : y ≡ x = cc in
+    rw (same, passes) refl
+find_at p (y ∷ xs) (suc k) x here none passes = by_test (p y) none (find_at p xs k x here) where
+  by_test : (test : Bool) → (test || list_any p (take k xs)) ≡ false
+      → (list_any p (take k xs) ≡ false → p x ≡ true → find p xs ≡ Some x) → cond test (Some y) (find p xs) ≡ Some x
+  by_test true none later = cc
+  by_test false none later = later none passes
+
+position_at : {X : Type 0} (p : X → Bool) (n : ℕ) (xs : List X) (k : ℕ) (x : X) → slice_get xs k ≡ Some x
+    → list_any p (take k xs) ≡ false → p x ≡ true → position_from p n xs ≡ Some (n + k)
+position_at p n [] k x here none passes = cc
+position_at p n (y ∷ xs) zero x here none passes =
+    let same : y ≡ x = cc in
+    rw (same, passes) (ap Some (omega arith))
+position_at p n (y ∷ xs) (suc k) x here none passes = by_test (p y) none (position_at p (n + 1) xs k x here) where
+  by_test : (test : Bool) → (test || list_any p (take k xs)) ≡ false
+      → (list_any p (take k xs) ≡ false → p x ≡ true → position_from p (n + 1) xs ≡ Some (n + 1 + k))
+      → cond test (Some n) (position_from p (n + 1) xs) ≡ Some (n + suc k)
+  by_test true none later = cc
+  by_test false none later = later none passes ∙ ap Some (omega arith)
+
+pub place_at : {X : Type 0} (p : X → Bool) (xs : List X) (k : ℕ) (x : X) → slice_get xs k ≡ Some x
+    → list_any p (take k xs) ≡ false → p x ≡ true → position_from p 1 xs ≡ Some (k + 1)
+place_at p xs k x here none passes = position_at p 1 xs k x here none passes ∙ ap Some (omega arith)
+
+-- ---- how many
+
+pub one_passes : {X : Type 0} (p : X → Bool) (xs : List X) (k : ℕ) (x : X) → slice_get xs k ≡ Some x → p x ≡ true
+    → count_by p (take (k + 1) xs) ≡ count_by p (take k xs) + 1
+one_passes p xs k x here passes =
+    count_by_more_yes p xs k x (slice_get_within xs k x here) (ap p (get_or_from_slice_get xs k x x here) ∙ passes)
+
+pub one_fails : {X : Type 0} (p : X → Bool) (xs : List X) (k : ℕ) (x : X) → slice_get xs k ≡ Some x → p x ≡ false
+    → count_by p (take (k + 1) xs) ≡ count_by p (take k xs)
+one_fails p xs k x here fails =
+    count_by_more_no p xs k x (slice_get_within xs k x here) (ap p (get_or_from_slice_get xs k x x here) ∙ fails)
+
+pub counted : {X : Type 0} (p : X → Bool) (xs : List X) (k : ℕ) → k ≤ length xs → count_by p (take k xs) ≤ k
+counted p xs k within = omega (arith, count_by-le-length p (take k xs), length-take-le k xs within)
+
+-- an element that passes, among those that do
+pub kept_at : {X : Type 0} (p : X → Bool) (xs : List X) (k : ℕ) (x : X) → slice_get xs k ≡ Some x → p x ≡ true
+    → slice_get (filter p xs) (count_by p (take k xs)) ≡ Some x
+kept_at p [] k x here passes = cc
+kept_at p (y ∷ xs) zero x here passes =
+    let same : y ≡ x = cc in
+    rw (same, passes) refl
+kept_at p (y ∷ xs) (suc k) x here passes =
+    ap (slice_get (filter p (y ∷ xs))) (sum_by-cons (λ z. cond (p z) 1 0) y (take k xs))
+    ∙ by_test (p y) (count_by p (take k xs)) (kept_at p xs k x here passes) where
+      by_test : (test : Bool) (n : ℕ) → slice_get (filter p xs) n ≡ Some x
+          → slice_get (cond test (y ∷ filter p xs) (filter p xs)) (cond test 1 0 + n) ≡ Some x
+      by_test true n later =
+          let next : suc n ≡ 1 + n = omega arith in
+          subst (λ (m : ℕ). slice_get (y ∷ filter p xs) m ≡ Some x) next later
+      by_test false n later =
+          let same : n ≡ 0 + n = omega arith in
+          subst (λ (m : ℕ). slice_get (filter p xs) m ≡ Some x) same later

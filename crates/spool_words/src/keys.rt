@@ -1,0 +1,76 @@
+//! The keys of the spool, and the values that each of them takes.
+ghost use Rattle.std.specs.Prelude.{◌≡◌};
+
+use crate::faults::SpoolCause;
+use crate::values::{is_name, kernel_named, lists_names, worker_count};
+
+/// A key of the spool.
+#[derive(Clone, Copy)]
+pub enum Key {
+    Profile,
+    Kernel,
+    Workers,
+    Send,
+}
+
+impl Key {
+    ghost use Rattle.spool_words.specs.Keys.{key_named};
+    ghost use Rattle.spool_words.specs.Rows.{key_row};
+    ghost use Rattle.std.specs.Option.{option_map};
+
+    /// The key of this name.
+    pub fn named(name: &str) -> Option<Key>
+        ensures { option_map key_row result ≡ key_named name.now }
+    {
+        match name {
+            "profile" => Some(Key::Profile),
+            "kernel" => Some(Key::Kernel),
+            "workers" => Some(Key::Workers),
+            "send" => Some(Key::Send),
+            _ => None,
+        }
+    }
+
+    pub fn name(self) -> &'static str
+        ensures { result.now ≡ (key_row self).row.name }
+    {
+        match self {
+            Key::Profile => "profile",
+            Key::Kernel => "kernel",
+            Key::Workers => "workers",
+            Key::Send => "send",
+        }
+    }
+
+    /// How many words may give the key.
+    pub fn most(self) -> u32
+        ensures { result ≡ (key_row self).most }
+    {
+        match self {
+            Key::Send => 8,
+            _ => 1,
+        }
+    }
+
+    /// Why one word more than may give the key is refused.
+    pub fn excess(self) -> SpoolCause
+        ensures { result ≡ (key_row self).excess }
+    {
+        match self {
+            Key::Send => SpoolCause::BadValue,
+            _ => SpoolCause::RepeatedKey,
+        }
+    }
+
+    /// Whether the key takes the value.
+    pub fn takes(self, value: &str) -> bool
+        ensures { result ≡ (key_row self).row.takes value.now }
+    {
+        match self {
+            Key::Profile => is_name(value),
+            Key::Kernel => kernel_named(value).is_some(),
+            Key::Workers => worker_count(value).is_some(),
+            Key::Send => lists_names(value),
+        }
+    }
+}
