@@ -1,5 +1,5 @@
 -- Jobs printed one after another.
-use Rattle.std.proofs.Common.{◌≡◌, ◌≢◌, ℕ, suc, ◌+◌, ◌<◌, ◌≤◌, ◌⊎◌, inl, inr, ⊎_elim, List, [], ◌∷◌, ◌++◌, length, sym, refl, ◌∙◌, ap, subst, arith, All, Bool, true, false, cond, count_by}
+use Rattle.std.proofs.Common.{◌≡◌, ◌≢◌, ℕ, suc, ◌+◌, ◌<◌, ◌≤◌, ◌⊎◌, inl, inr, ⊎_elim, List, [], ◌∷◌, ◌++◌, length, sym, refl, ◌∙◌, ap, subst, arith, All, Bool, true, false, cond, count_by, Some}
 use Rattle.std.specs.Prelude.{◌==◌, ◌||◌}
 use Rattle.std.proofs.lemmas.List.Elements.{All-cons, All-head, All-nil, All-push, All-tail}
 use Rattle.std.proofs.lemmas.List.Sums.{sum_by-cons}
@@ -7,12 +7,16 @@ use Rattle.diffusion_definitions.specs.Diffusion.{Table}
 use Rattle.driver_answer.specs.Answers.{status_of}
 use Rattle.driver_answer.specs.declared.answer.Answer.{Answer}
 use Rattle.driver_answer.specs.declared.answer.Answer.TheVariants as answer
+use Rattle.driver_core.specs.Outside.{IsCalm, Outside}
+use Rattle.driver_core.specs.Printing.Outcome.{PrintedOutcome}
+use Rattle.page_definitions.specs.Ways.{Way}
+use Rattle.page_definitions.specs.Ways.Way.{Woven}
 use Rattle.printer_definitions.specs.Printer.{Printer}
 use Rattle.spool_queue.specs.Jobs.{Stream}
 use Rattle.spool_queue.specs.declared.job.SpoolJob.{SpoolJob}
 use Rattle.weave_base.specs.Causes.{Rose}
 use Rattle.spool_core.specs.Outcome.{HasPlainStatus, is_refused}
-use Rattle.spool_core.specs.Printed.{Between, PrintsJob, PrintsJobs, PrintsStream}
+use Rattle.spool_core.specs.Printed.{AreDone, Between, PrintsJob, PrintsJobs, PrintsStream, meters_from, out_from}
 use Rattle.spool_core.specs.declared.report.Ran.{Ran}
 
 pub one_job_more : (p : Printer) (k : Table) (jobs : List SpoolJob) (job : SpoolJob) (done : List Ran) (ran : Ran) (a m b : Between)
@@ -68,25 +72,62 @@ write_stopped p k bytes pages number x y prints =
     (omega arith, prints.printed.0.0)
 
 -- the status of a job of which none of two counts tells
-zero_one : (ran : Ran) → HasPlainStatus ran → is_refused ran ≡ false → (ran.status == 7) ≡ false → ran.status ≡ 0
+zero_one : (ran : Ran) → HasPlainStatus ran → is_refused ran ≡ false → ran.status ≢ 7 → ran.status ≡ 0
 zero_one ran plain refused full =
     ⊎_elim (λ e. e)
-    (⊎_elim (λ e. absurd (no (ap (λ s. (s == 3) || (s == 6)) e ∙ refl) refused))
-    (⊎_elim (λ e. absurd (no (ap (λ s. (s == 3) || (s == 6)) e ∙ refl) refused)) (λ e. absurd (no (ap (λ s. s == 7) e) full)))) plain.is
+    (⊎_elim (λ e. absurd (no (ap (λ s. (s == 3) || (s == 6)) e) refused))
+    (⊎_elim (λ e. absurd (no (ap (λ s. (s == 3) || (s == 6)) e) refused)) (λ e. absurd (full e)))) plain.is
   where
     no : {b : Bool} → b ≡ true → b ≡ false → ⊥
-    no yes not = absurd (let e : true ≡ false = sym yes ∙ not in cc)
+    no t f = absurd (let e : true ≡ false = sym t ∙ f in cc)
 
 none_of : (b : Bool) (n : ℕ) → cond b 1 0 + n ≡ 0 → (b ≡ false) × (n ≡ 0)
 none_of true n e = absurd (omega arith)
 none_of false n e = (refl, omega arith)
 
--- where neither a refused job nor one without memory is counted, all were printed
+-- where neither a refused job nor one without memory is there, all were printed
 pub all_zero : (done : List Ran) → All HasPlainStatus done → count_by is_refused done ≡ 0
-    → count_by (λ (ran : Ran). ran.status == 7) done ≡ 0 → All (λ ran. ran.status ≡ 0) done
+    → All (λ (ran : Ran). ran.status ≢ 7) done → All (λ ran. ran.status ≡ 0) done
 all_zero [] plain refused full = All-nil (λ ran. ran.status ≡ 0)
 all_zero (ran ∷ done) plain refused full =
+    let Q : Ran → Type 0 = λ r. r.status ≢ 7 in
     let one = none_of (is_refused ran) (count_by is_refused done) (sym (sum_by-cons (λ (r : Ran). cond (is_refused r) 1 0) ran done) ∙ refused) in
-    let two = none_of (ran.status == 7) (count_by (λ (r : Ran). r.status == 7) done) (sym (sum_by-cons (λ (r : Ran). cond (r.status == 7) 1 0) ran done) ∙ full) in
-    All-cons (λ r. r.status ≡ 0) ran done (zero_one ran (All-head HasPlainStatus ran done plain) one.0 two.0)
-    (all_zero done (All-tail HasPlainStatus ran done plain) one.1 two.1)
+    All-cons (λ r. r.status ≡ 0) ran done (zero_one ran (All-head HasPlainStatus ran done plain) one.0 (All-head Q ran done full))
+    (all_zero done (All-tail HasPlainStatus ran done plain) one.1 (All-tail Q ran done full))
+
+-- a stream was printed in the way of the spool
+pub stream_printed : {p : Printer} {k : Table} {pages : ℕ} {a : Answer} {bytes : Stream} {x y : Between} (way : Way) (input : Outside)
+    → way ≡ Woven → input.before ≡ Some bytes → IsCalm input
+    → PrintedOutcome way p k input (out_from x y) (meters_from x y) pages a → PrintsStream p k bytes pages a x y
+stream_printed {p} {k} {pages} {a} {bytes} {x} {y} way input is stream_is calm printed = record {
+  input = input;
+  stream_is = stream_is;
+  calm = calm;
+  printed = subst (λ (w : Way). PrintedOutcome w p k input (out_from x y) (meters_from x y) pages a) is printed;
+}
+
+-- one more job was printed
+pub more_done : {p : Printer} {k : Table} {x m y : Between} (jobs next : List SpoolJob) (job : SpoolJob) (done now : List Ran) (pages status : ℕ)
+    (a : Answer) → next ≡ jobs ++ job ∷ []
+    → now ≡ done ++ record { sender = job.sender; number = job.number; pages = pages; status = status } ∷ []
+    → AreDone p k jobs done x m → PrintsStream p k job.stream pages a m y → status ≡ status_of a → AreDone p k next now x y
+more_done {p} {k} {x} {m} {y} jobs next job done now pages status a jobs_are done_are so_far prints is =
+    let ran : Ran = record { sender = job.sender; number = job.number; pages = pages; status = status } in
+    let one : PrintsJob p k job ran m y = record { answer = a; prints = prints; status_is = is; sender_is = refl; number_is = refl } in
+    let all : PrintsJobs p k (jobs ++ job ∷ []) (done ++ ran ∷ []) x y = one_job_more p k jobs job done ran x m y so_far.are one in
+    record {
+      are = subst (λ (js : List SpoolJob). PrintsJobs p k js now x y) (sym jobs_are)
+          (subst (λ (ds : List Ran). PrintsJobs p k (jobs ++ job ∷ []) ds x y) (sym done_are) all);
+    }
+
+-- an answer other than a failed write
+pub not_write : (a : Answer) → ((page : ℕ) → a ≡ answer.Write page → ⊥) → status_of a ≢ 5
+not_write (answer.Write page) other five = other page refl
+not_write answer.Done other five = absurd (omega arith)
+not_write (answer.Input page line cause) other five = absurd (omega arith)
+not_write answer.Read other five = absurd (omega arith)
+not_write (answer.OverCap page total dots cap) other five = absurd (omega arith)
+not_write answer.Memory other five = absurd (omega arith)
+not_write (answer.Usage fault) other five = absurd (omega arith)
+not_write (answer.Profile line cause) other five = absurd (omega arith)
+not_write (answer.Job offset cause) other five = absurd (omega arith)

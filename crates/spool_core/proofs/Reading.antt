@@ -13,8 +13,11 @@ use Rattle.spool_core.specs.declared.files.FileCause.{FileCause}
 use Rattle.spool_core.proofs.Lists.{cut_at, flat_map-append, more_taken, read_at, rose_later}
 
 pub bytes_in-append : (xs ys : List (List ℕ)) → bytes_in (xs ++ ys) ≡ bytes_in xs + bytes_in ys
-bytes_in-append [] ys = refl
+bytes_in-append [] ys = omega arith
 bytes_in-append (x ∷ xs) ys = let more = bytes_in-append xs ys in omega arith
+
+pub bytes_in_push : (xs : List (List ℕ)) (x : List ℕ) → bytes_in (xs ++ x ∷ []) ≡ bytes_in xs + length x
+bytes_in_push xs x = let push = bytes_in-append xs (x ∷ []) in omega arith
 
 pub has_streams-append : (told : Option (List NamedText)) (taken : ℕ) (xs ss ys zs : List (List ℕ)) → HasStreams told taken xs ss
     → HasStreams told (taken + bytes_in ss) ys zs → HasStreams told taken (xs ++ ys) (ss ++ zs)
@@ -146,3 +149,15 @@ stops_at_sender shelf last names lists i j taken sender (answer.Usage fault) tol
 stops_at_sender shelf last names lists i j taken sender (answer.Profile line cause) told later now lt same counted so_far stops = absurd stops
 stops_at_sender shelf last names lists i j taken sender (answer.Write s n page) told later now lt same counted so_far stops = absurd stops
 stops_at_sender shelf last names lists i j taken sender (answer.Failed count) told later now lt same counted so_far stops = absurd stops
+
+-- the files are read after the shelf was asked for something else
+pub later_files : (names : List (List (List ℕ))) (shelf last : Texts) (a : SpoolAnswer) → last.told ≡ shelf.told
+    → shelf.faults_before ≤ last.faults_before → last.faults_now ≡ shelf.faults_now → FilesOutcome names last a → FilesOutcome names shelf a
+later_files names shelf last (answer.File s n cause) told later now stops = subst (λ t. IsRefusedFile t names s n cause) told stops
+later_files names shelf last answer.Read told later now stops = rose_later later (subst (λ n. Rose last.faults_before n) now stops)
+later_files names shelf last answer.Memory told later now stops = tt
+later_files names shelf last answer.Done told later now stops = absurd stops
+later_files names shelf last (answer.Usage fault) told later now stops = absurd stops
+later_files names shelf last (answer.Profile line cause) told later now stops = absurd stops
+later_files names shelf last (answer.Write s n page) told later now stops = absurd stops
+later_files names shelf last (answer.Failed count) told later now stops = absurd stops

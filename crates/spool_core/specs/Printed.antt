@@ -51,6 +51,10 @@ PrintsJobs p k [] (ran ∷ done) a b = ⊥
 PrintsJobs p k (job ∷ jobs) [] a b = ⊥
 PrintsJobs p k (job ∷ jobs) (ran ∷ done) a b = (m : Between) × PrintsJob p k job ran a m × PrintsJobs p k jobs done m b
 
+-- the same as a fact with a name
+pub record AreDone (p : Printer) (k : Table) (jobs : List SpoolJob) (done : List Ran) (a b : Between) : Type 0 where
+  pub are : PrintsJobs p k jobs done a b
+
 -- Of what the senders sent, these jobs were printed and the others not: of each sender its jobs, in order and numbered
 -- from 1, are the first of its streams.
 pub record PrintsFirst (p : Printer) (k : Table) (sent : List (List Stream)) (done : List Ran) (a b : Between) : Type 0 where

@@ -2,7 +2,7 @@
 ghost use Rattle.diffusion_kernel.specs.Tables.{table_of};
 ghost use Rattle.spool_core.specs.Outcome.{HasPlainStatus, SumsUp, WriteStopped};
 ghost use Rattle.spool_core.specs.Prepared.{CanPrint};
-ghost use Rattle.spool_core.specs.Printed.{PrintsJobs, PrintsStream, between};
+ghost use Rattle.spool_core.specs.Printed.{AreDone, PrintsStream, between};
 ghost use Rattle.spool_queue.specs.Passes.{IsPrinterOf, senders_of, taken_of};
 ghost use Rattle.std.specs.Prelude.{All, IfErr, OnErr, OnOk, [], length, map, vec_capacity, ◌<◌, ◌^◌, ◌≡◌, ◌≢◌, ◌≤◌};
 ghost use Rattle.weave_base.specs.Causes.{Rose};
@@ -65,7 +65,7 @@ pub fn print_jobs<R: Threads + Wait + Sync, K: Sink, G: Gate + Sync>(
     requires room { count ≤ vec_capacity done.old }
     ensures pass { IsPrinterOf spool.now printer.new }
     ensures senders { senders_of printer.new ≡ senders_of printer.old }
-    ensures prints { PrintsJobs profile.now (table_of job.now.kernel) (taken_of printer.new) done.new.items
+    ensures prints { AreDone profile.now (table_of job.now.kernel) (taken_of printer.new) done.new.items
         (between (K.held out.old) (K.faults out.old) (map (λ meter. account meter) meters.old.items))
         (between (K.held out.new) (K.faults out.new) (map (λ meter. account meter) meters.new.items)) }
     ensures every { OnOk result (length (taken_of printer.new) ≡ count) }
@@ -97,9 +97,9 @@ pub fn print_jobs<R: Threads + Wait + Sync, K: Sink, G: Gate + Sync>(
     Ok(())
 }
 
-/// The answer where all jobs ran, and no write failed: `Memory` where it ran out in one of them; else how many were
-/// refused, if any were.
-pub fn sum_up(done: &[Ran]) -> SpoolAnswer
+// The answer where all jobs ran, and no write failed: `Memory` where it ran out in one of them; else how many were
+// refused, if any were.
+fn sum_up(done: &[Ran]) -> SpoolAnswer
     requires few { length done.now < 2 ^ 31 }
     requires plain { All HasPlainStatus done.now }
     ensures { SumsUp done.now result }
@@ -115,5 +115,18 @@ pub fn sum_up(done: &[Ran]) -> SpoolAnswer
         SpoolAnswer::Done
     } else {
         SpoolAnswer::Failed { count }
+    }
+}
+
+/// The answer to what the printer did: that of its failed write, or what its jobs come to.
+pub fn answer_for(printed: Result<(), SpoolAnswer>, done: &[Ran]) -> SpoolAnswer
+    requires few { length done.now < 2 ^ 31 }
+    requires plain { OnOk printed (All HasPlainStatus done.now) }
+    ensures ran { OnOk printed (SumsUp done.now result) }
+    ensures stopped { IfErr printed (λ stop. result ≡ stop) }
+{
+    match printed {
+        Ok(()) => sum_up(done),
+        Err(stop) => stop,
     }
 }

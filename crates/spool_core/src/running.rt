@@ -2,7 +2,7 @@
 ghost use Rattle.diffusion_kernel.specs.Tables.{table_of};
 ghost use Rattle.driver_core.specs.Outside.{meters_of, outside_of, texts_of};
 ghost use Rattle.spool_core.specs.Desks.{IsDesk};
-ghost use Rattle.spool_core.specs.Outcome.{PrintingOutcome};
+ghost use Rattle.spool_core.specs.Outcome.{PrintingOutcome, SpoolOutcome};
 ghost use Rattle.spool_core.specs.Prepared.{AreFew, CanPrint, sent_in};
 ghost use Rattle.spool_core.specs.Senders.{lists_in};
 ghost use Rattle.spool_core.specs.Promises.{SpoolPromises};
@@ -13,7 +13,7 @@ ghost use Rattle.std.specs.Prelude.{IsErr, List, ◌≡◌};
 use crate::answer::SpoolAnswer;
 use crate::desks::Desk;
 use crate::preparing::{Prepared, prepare};
-use crate::printing::{print_jobs, sum_up};
+use crate::printing::{answer_for, print_jobs};
 use crate::report::{Ran, SpoolReport, tell};
 use crate::senders::send_all;
 use driver_core::Gate;
@@ -72,10 +72,7 @@ fn run_desk<R: Threads + Wait + Sync, K: Sink, G: Gate + Sync>(
         &mut done,
     );
     spool.settle(ended, printer);
-    let answer = match printed {
-        Ok(()) => sum_up(&done),
-        Err(stop) => stop,
-    };
+    let answer = answer_for(printed, &done);
     Finished { answer, done }
 }
 
@@ -103,6 +100,33 @@ fn perform<R: Threads + Wait + Sync, K: Sink, G: Gate + Sync>(
         Ok(desk) => run_desk(rt, alloc, &job, &profile, desk, out, gate, meters),
         Err(_) => Finished {
             answer: SpoolAnswer::Memory,
+            done: Vec::new(alloc),
+        },
+    }
+}
+
+// All of a run except its lines.
+fn work<R: Threads + Wait + Sync, K: Sink, F: Shelf, G: Gate + Sync>(
+    rt: &R,
+    alloc: Global,
+    words: &Words,
+    out: &mut K,
+    shelf: &mut F,
+    gate: &G,
+    meters: &mut Vec<Box<dyn Meter>>,
+) -> Finished
+    ensures outcome { SpoolOutcome words.now
+        (record {
+          shelf = texts_of F.files F.faults shelf.old shelf.new;
+          out = outside_of K.held K.faults out.old out.new;
+          meters = meters_of (λ meter. account meter) meters.old.items meters.new.items;
+        }) result.done.items result.answer }
+    ensures refused_unasked { IsErr (spool_meaning words.now) → (shelf.new ≡ shelf.old) }
+{
+    match prepare(alloc, words, shelf) {
+        Ok(prepared) => perform(rt, alloc, prepared, out, gate, meters),
+        Err(answer) => Finished {
+            answer,
             done: Vec::new(alloc),
         },
     }
@@ -139,13 +163,7 @@ pub fn run_spool<R: Threads + Wait + Sync, K: Sink, E: Sink, F: Shelf, G: Gate +
     // Nothing is read from the shelf where a word is refused.
     ensures refused_unasked { IsErr (spool_meaning words.now) → (shelf.new ≡ shelf.old) }
 {
-    let Finished { answer, done } = match prepare(alloc, words, shelf) {
-        Ok(prepared) => perform(rt, alloc, prepared, out, gate, meters),
-        Err(answer) => Finished {
-            answer,
-            done: Vec::new(alloc),
-        },
-    };
+    let Finished { answer, done } = work(rt, alloc, words, out, shelf, gate, meters);
     tell(&done, &answer, err);
     SpoolReport {
         status: answer.status(),
