@@ -23,11 +23,11 @@ use Rattle.spool_words.specs.Meaning.{names_of, profile_named, spool_meaning}
 use Rattle.spool_words.specs.declared.faults.SpoolFault.{SpoolFault}
 use Rattle.spool_words.specs.declared.reading.SpoolRequest.{SpoolRequest}
 use Rattle.weave_base.specs.Shelf.{NamedText, text_named}
-use Rattle.spool_core.specs.Answers.{spool_status}
+use Rattle.spool_core.specs.Answers.{Tells, spool_status, spool_text}
 use Rattle.spool_core.specs.Files.{AreFiles, FilesOutcome, HasStreams, IsFile, IsRefusedFile, RefusesFile, bytes_in, joined, most_next}
 use Rattle.spool_core.specs.Outcome.{PrintingOutcome, ProfileOutcome, RequestOutcome, SpoolOutcome, SpoolOutside, WithFiles, WithoutFiles, is_refused}
 use Rattle.spool_core.specs.Printed.{Between, PrintsJob, PrintsJobs, PrintsStream}
-use Rattle.spool_core.specs.Promises.{IsValidSpool, IsValidStream}
+use Rattle.spool_core.specs.Promises.{IsValidSpool, IsValidStream, SpoolPromises}
 use Rattle.spool_core.specs.declared.answer.SpoolAnswer.{SpoolAnswer}
 use Rattle.spool_core.specs.declared.answer.SpoolAnswer.TheVariants as answer
 use Rattle.spool_core.specs.declared.files.FileCause.{FileCause}
@@ -233,4 +233,18 @@ module _ (words : List (List ℕ)) (o : SpoolOutside) (done : List Ran) (valid :
       (⊎_elim (λ (h : WithoutFiles words o done a). by_files a h.stopped)
       (λ (h : WithFiles words valid.request o done a).
       let same : Ok h.p ≡ Ok valid.p = one_profile o.shelf.told files (profile_named words) (Ok h.p) (Ok valid.p) is h.profile valid.profile in
-      by_printing h.p _ h.sent a cc h.files h.printed)) by_request
+      by_printing h.p _ h.sent a (cc) h.files h.printed)) by_request
+
+-- what a run promises, by its answer
+pub promised : {words : List (List ℕ)} {o : SpoolOutside} {err : Outside} {status : ℕ} {done : List Ran} (a : SpoolAnswer) → SpoolOutcome words o done a
+    → status ≡ spool_status a → Tells err (spool_text done a) → SpoolPromises words o err status done
+promised {words} {o} {err} {status} {done} a outcome is told =
+    let P : ℕ → Type 0 = λ s. (s ≡ 0) ⊎ (s ≡ 7) in
+    record {
+      answer = a;
+      outcome = outcome;
+      status_is = is;
+      told = told;
+      valid = λ valid shelf calm calm_out fine.
+          subst P (sym is) (valid_run words o done valid shelf.0 shelf.1 calm calm_out fine a outcome);
+    }

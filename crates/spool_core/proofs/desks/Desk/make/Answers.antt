@@ -24,6 +24,9 @@ returns c =
     let count : length passes ≡ c.len-senders.result = c.in_ok-spool.ensures.senders.0 in
     let counted : c.count_streams-count.result ≡ count_sent (map (λ list. list.items) c.args.lists.items) =
     c.count_streams-count.ensures.count ∙ ap (λ ls. count_sent (map (λ list. list.items) ls)) c.deref.ensures.value in
+    let listed = length-map c.args.lists.items (λ list. list.items) in
+    let now : length c.deref.result.now ≡ length c.args.lists.items = ap length c.deref.ensures.value in
+    let most = c.requires.most_senders in
     record {
       works = can_send c.in_ok-spool.spool works (subst (All (IsSenderOf c.in_ok-spool.spool)) (sym back) are.senders)
           (subst (All (λ (p : SendPass). sent_of p ≡ [])) (sym back) c.in_ok-spool.ensures.sent)
@@ -33,9 +36,9 @@ returns c =
       printer = are.printer;
       none_taken = c.in_ok-spool.ensures.taken;
       count_is = counted;
-      few = ?;
+      few = omega (arith, c.count_streams-count.ensures.most);
       none_ended = c.in-Ok-with_capacity.ensures.items;
-      ended_room = ?;
+      ended_room = omega (arith, c.in-Ok-with_capacity.ensures.capacity, c.len-senders.ensures, c.len-2.ensures);
       none_done = c.in-Ok-with_capacity-2.ensures.items;
-      done_room = ?;
+      done_room = omega (arith, c.in-Ok-with_capacity-2.ensures.capacity);
     }
