@@ -1,0 +1,163 @@
+-- Files read one after another, and where that stops.
+use Rattle.std.proofs.Common.{◌≡◌, ℕ, ◌+◌, ◌-◌, ◌<◌, ◌≤◌, List, [], ◌∷◌, ◌++◌, length, map, get_or, take, drop, sym, refl, ◌∙◌, ap, subst, arith, append-nil, append_assoc, length-append, Option, Some}
+use Rattle.std.specs.Prelude.{slice_get}
+use Rattle.std.proofs.lemmas.List.{get_or_default, length-take-le, map_push, take_all}
+use Rattle.driver_core.specs.Outside.{Texts}
+use Rattle.weave_base.specs.Causes.{Rose}
+use Rattle.weave_base.specs.Shelf.{NamedText}
+use Rattle.spool_core.specs.Files.{AreFiles, FilesOutcome, HasStreams, IsFile, IsRefusedFile, IsRefusedName, RefusesFile}
+use Rattle.spool_core.specs.Files.{StopsAtFile, StopsAtName, bytes_in, joined, most_files}
+use Rattle.spool_core.specs.declared.answer.SpoolAnswer.{SpoolAnswer}
+use Rattle.spool_core.specs.declared.answer.SpoolAnswer.TheVariants as answer
+use Rattle.spool_core.specs.declared.files.FileCause.{FileCause}
+use Rattle.spool_core.proofs.Lists.{cut_at, flat_map-append, more_taken, read_at, rose_later}
+
+pub bytes_in-append : (xs ys : List (List ℕ)) → bytes_in (xs ++ ys) ≡ bytes_in xs + bytes_in ys
+bytes_in-append [] ys = omega arith
+bytes_in-append (x ∷ xs) ys = let more = bytes_in-append xs ys in omega arith
+
+pub bytes_in_push : (xs : List (List ℕ)) (x : List ℕ) → bytes_in (xs ++ x ∷ []) ≡ bytes_in xs + length x
+bytes_in_push xs x = let push = bytes_in-append xs (x ∷ []) in omega arith
+
+pub has_streams-append : (told : Option (List NamedText)) (taken : ℕ) (xs ss ys zs : List (List ℕ)) → HasStreams told taken xs ss
+    → HasStreams told (taken + bytes_in ss) ys zs → HasStreams told taken (xs ++ ys) (ss ++ zs)
+has_streams-append told taken [] [] ys zs h more = subst (λ n. HasStreams told n ys zs) (omega arith) more
+has_streams-append told taken [] (s ∷ ss) ys zs h more = absurd h
+has_streams-append told taken (x ∷ xs) [] ys zs h more = absurd h
+has_streams-append told taken (x ∷ xs) (s ∷ ss) ys zs h more =
+    let there : taken + (length s + bytes_in ss) ≡ taken + length s + bytes_in ss = omega arith in
+    (h.0, has_streams-append told (taken + length s) xs ss ys zs h.1 (subst (λ n. HasStreams told n ys zs) there more))
+
+pub has_streams_length : (told : Option (List NamedText)) (taken : ℕ) (xs ss : List (List ℕ)) → HasStreams told taken xs ss → length ss ≡ length xs
+has_streams_length told taken [] [] h = refl
+has_streams_length told taken [] (s ∷ ss) h = absurd h
+has_streams_length told taken (x ∷ xs) [] h = absurd h
+has_streams_length told taken (x ∷ xs) (s ∷ ss) h =
+    let more = has_streams_length told (taken + length s) xs ss h.1 in omega arith
+
+-- one more file of a sender
+pub one_more : (told : Option (List NamedText)) (before taken : ℕ) (names : List (List ℕ)) (i j : ℕ) (list : List (List ℕ)) (name stream : List ℕ)
+    → HasStreams told before (take i names) list → taken ≡ before + bytes_in list → slice_get names j ≡ Some name → j ≡ i
+    → IsFile told taken name stream → HasStreams told before (take (i + 1) names) (list ++ stream ∷ [])
+one_more told before taken names i j list name stream has is got same file =
+    let at = read_at names i name (subst (λ n. slice_get names n ≡ Some name) same got) in
+    subst (λ ns. HasStreams told before ns (list ++ stream ∷ [])) (sym (more_taken names i name at.0 at.1))
+    (has_streams-append told before (take i names) list (name ∷ []) (stream ∷ []) has
+    (subst (λ n. IsFile told n name stream) is file, tt))
+
+-- a file of a sender is not read
+pub stops_at_name : (shelf last : Texts) (before taken : ℕ) (names : List (List ℕ)) (i j sender number : ℕ) (list : List (List ℕ)) (name : List ℕ)
+    (a : SpoolAnswer) → last.told ≡ shelf.told → shelf.faults_before ≤ last.faults_before → last.faults_now ≡ shelf.faults_now
+    → HasStreams shelf.told before (take i names) list → taken ≡ before + bytes_in list → slice_get names j ≡ Some name → j ≡ i
+    → number ≡ i + 1 → StopsAtFile last taken name sender number a → StopsAtName shelf before names sender a
+stops_at_name shelf last before taken names i j sender number list name (answer.File s n cause) told later now has is got same counted stops =
+    let at = read_at names i name (subst (λ m. slice_get names m ≡ Some name) same got) in
+    let front = length-take-le i names (omega (arith, at.0)) in
+    let refused = subst (λ t. RefusesFile t taken name cause) told stops.2 in (
+      stops.0,
+      record {
+        first = take i names;
+        name = name;
+        later = drop (i + 1) names;
+        names_are = cut_at names i name at.0 at.1;
+        job_is = let e = stops.1 in omega arith;
+        streams = list;
+        earlier = has;
+        refused = subst (λ m. RefusesFile shelf.told m name cause) is refused;
+      },
+    )
+stops_at_name shelf last before taken names i j sender number list name answer.Read told later now has is got same counted stops =
+    rose_later later (subst (λ n. Rose last.faults_before n) now stops)
+stops_at_name shelf last before taken names i j sender number list name answer.Memory told later now has is got same counted stops = tt
+stops_at_name shelf last before taken names i j sender number list name answer.Done told later now has is got same counted stops = absurd stops
+stops_at_name shelf last before taken names i j sender number list name (answer.Usage fault) told later now has is got same counted stops = absurd stops
+stops_at_name shelf last before taken names i j sender number list name (answer.Profile line cause) told later now has is got same counted stops = absurd stops
+stops_at_name shelf last before taken names i j sender number list name (answer.Write s n page) told later now has is got same counted stops = absurd stops
+stops_at_name shelf last before taken names i j sender number list name (answer.Failed count) told later now has is got same counted stops = absurd stops
+
+-- What was read of the first `i` senders.
+pub record ReadSoFar (told : Option (List NamedText)) (names lists : List (List (List ℕ))) (i taken : ℕ) : Type 0 where
+  pub streams : HasStreams told 0 (joined (take i names)) (joined lists)
+  pub lengths : map length lists ≡ map length (take i names)
+  pub taken_is : taken ≡ bytes_in (joined lists)
+
+joined_push : (lists : List (List (List ℕ))) (list : List (List ℕ)) → joined (lists ++ list ∷ []) ≡ joined lists ++ list
+joined_push lists list = flat_map-append (λ l. l) lists (list ∷ []) ∙ ap (λ l. joined lists ++ l) (append-nil list)
+
+-- the files of one more sender
+pub one_sender_more : (told : Option (List NamedText)) (names lists : List (List (List ℕ))) (list : List (List ℕ)) (i j taken now : ℕ)
+    → i < length names → j ≡ i → ReadSoFar told names lists i taken → HasStreams told taken (get_or names j []) list
+    → now ≡ taken + bytes_in list → ReadSoFar told names (lists ++ list ∷ []) (i + 1) now
+one_sender_more told names lists list i j taken now lt same so_far has is =
+    let here = get_or names i [] in
+    let read : HasStreams told taken here list = subst (λ n. HasStreams told taken (get_or names n []) list) same has in
+    let front : take (i + 1) names ≡ take i names ++ here ∷ [] = more_taken names i here lt (get_or_default names i [] here lt) in
+    let all : HasStreams told 0 (joined (take i names) ++ here) (joined lists ++ list) =
+    has_streams-append told 0 (joined (take i names)) (joined lists) here list so_far.streams
+    (subst (λ n. HasStreams told n here list) (let e = so_far.taken_is in omega arith) read) in
+    record {
+      streams = subst (λ ns. HasStreams told 0 ns (joined (lists ++ list ∷ []))) (sym (ap joined front ∙ joined_push (take i names) here))
+          (subst (λ ss. HasStreams told 0 (joined (take i names) ++ here) ss) (sym (joined_push lists list)) all);
+      lengths = map_push length lists list
+          ∙ ap (λ l. map length lists ++ l ∷ []) (has_streams_length told taken here list read)
+          ∙ ap (λ ls. ls ++ length here ∷ []) so_far.lengths
+          ∙ sym (ap (map length) front ∙ map_push length (take i names) here);
+      taken_is = let e = so_far.taken_is in
+          let f = ap bytes_in (joined_push lists list) ∙ bytes_in-append (joined lists) list in omega arith;
+    }
+
+-- the files of all senders
+pub all_read : (told : Option (List NamedText)) (names lists : List (List (List ℕ))) (i taken : ℕ) → length names ≤ i
+    → ReadSoFar told names lists i taken → AreFiles told names lists
+all_read told names lists i taken le so_far =
+    let whole = take_all i names le in
+    record {
+      senders = subst (λ ns. map length lists ≡ map length ns) whole so_far.lengths;
+      streams = subst (λ ns. HasStreams told 0 (joined ns) (joined lists)) whole so_far.streams;
+    }
+
+-- not all files of a sender are read
+pub stops_at_sender : (shelf last : Texts) (names lists : List (List (List ℕ))) (i j taken sender : ℕ) (a : SpoolAnswer)
+    → last.told ≡ shelf.told → shelf.faults_before ≤ last.faults_before → last.faults_now ≡ shelf.faults_now
+    → i < length names → j ≡ i → sender ≡ i + 1 → ReadSoFar shelf.told names lists i taken
+    → StopsAtName last taken (get_or names j []) sender a → FilesOutcome names shelf a
+stops_at_sender shelf last names lists i j taken sender (answer.File s n cause) told later now lt same counted so_far stops =
+    let here = get_or names i [] in
+    let refused : IsRefusedName shelf.told taken here n cause =
+    subst (λ m. IsRefusedName shelf.told taken (get_or names m []) n cause) same (subst (λ t. IsRefusedName t taken (get_or names j []) n cause) told stops.1) in
+    let front = length-take-le i names (omega arith) in
+    let sum = bytes_in-append (joined lists) refused.streams in
+    record {
+      before = take i names;
+      first = refused.first;
+      name = refused.name;
+      later = refused.later;
+      after = drop (i + 1) names;
+      names_are = subst (λ (l : List (List ℕ)). names ≡ take i names ++ l ∷ drop (i + 1) names) refused.names_are (cut_at names i here lt (get_or_default names i [] here lt));
+      sender_is = let e = stops.0 in omega arith;
+      job_is = refused.job_is;
+      streams = joined lists ++ refused.streams;
+      earlier = has_streams-append shelf.told 0 (joined (take i names)) (joined lists) refused.first refused.streams so_far.streams
+          (subst (λ m. HasStreams shelf.told m refused.first refused.streams) (let e = so_far.taken_is in omega arith) refused.earlier);
+      refused = subst (λ m. RefusesFile shelf.told m refused.name cause) (let e = so_far.taken_is in omega arith) refused.refused;
+    }
+stops_at_sender shelf last names lists i j taken sender answer.Read told later now lt same counted so_far stops =
+    rose_later later (subst (λ n. Rose last.faults_before n) now stops)
+stops_at_sender shelf last names lists i j taken sender answer.Memory told later now lt same counted so_far stops = tt
+stops_at_sender shelf last names lists i j taken sender answer.Done told later now lt same counted so_far stops = absurd stops
+stops_at_sender shelf last names lists i j taken sender (answer.Usage fault) told later now lt same counted so_far stops = absurd stops
+stops_at_sender shelf last names lists i j taken sender (answer.Profile line cause) told later now lt same counted so_far stops = absurd stops
+stops_at_sender shelf last names lists i j taken sender (answer.Write s n page) told later now lt same counted so_far stops = absurd stops
+stops_at_sender shelf last names lists i j taken sender (answer.Failed count) told later now lt same counted so_far stops = absurd stops
+
+-- the files are read after the shelf was asked for something else
+pub later_files : (names : List (List (List ℕ))) (shelf last : Texts) (a : SpoolAnswer) → last.told ≡ shelf.told
+    → shelf.faults_before ≤ last.faults_before → last.faults_now ≡ shelf.faults_now → FilesOutcome names last a → FilesOutcome names shelf a
+later_files names shelf last (answer.File s n cause) told later now stops = subst (λ t. IsRefusedFile t names s n cause) told stops
+later_files names shelf last answer.Read told later now stops = rose_later later (subst (λ n. Rose last.faults_before n) now stops)
+later_files names shelf last answer.Memory told later now stops = tt
+later_files names shelf last answer.Done told later now stops = absurd stops
+later_files names shelf last (answer.Usage fault) told later now stops = absurd stops
+later_files names shelf last (answer.Profile line cause) told later now stops = absurd stops
+later_files names shelf last (answer.Write s n page) told later now stops = absurd stops
+later_files names shelf last (answer.Failed count) told later now stops = absurd stops

@@ -1,0 +1,9 @@
+pub mod Answers
+pub mod Desks
+pub mod Files
+pub mod Outcome
+pub mod Prepared
+pub mod Printed
+pub mod Promises
+pub mod Senders
+pub mod Stops
