@@ -159,7 +159,7 @@ fn lists_prefix(
     let end = if length == start { Ok(()) } else { Err(cut) };
     let way = Way { piece: 1, ..WAY };
     lists(rt, alloc, job, way, end, listing)?;
-    let fails = u32::try_from(length + 1).unwrap_or(0);
+    let fails = u32::try_from(length.saturating_add(1)).unwrap_or(0);
     let read = Err(ListStop::Read);
     lists(rt, alloc, &TINY_JOB, Way { fails, ..way }, read, listing)
 }
