@@ -14,6 +14,6 @@ mod stops;
 
 pub use answer::SpoolAnswer;
 pub use files::{FileCause, MOST_FILE, MOST_FILES};
-pub use report::{Ran, SpoolReport};
+pub use report::{Ran, SpoolReport, tell};
 pub use running::run_spool;
 pub use spool_words::{SpoolCause, SpoolFault};

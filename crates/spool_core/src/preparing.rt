@@ -61,7 +61,7 @@ pub fn prepare<F: Shelf>(
     // Where nothing was printed, this is the outcome of the run.
     ensures answered { IfErr result (λ a. (out : Outside) (meters : Meters) → PrintsNone out meters []
         → SpoolOutcome words.now
-        (record { shelf = texts_of F.files F.faults shelf.old shelf.new; out = out; meters = meters; }) [] a) }
+        (record { shelf = texts_of F.files F.faults shelf.old shelf.new; out = out; meters = meters }) [] a) }
     // Nothing is read from the shelf where a word is refused.
     ensures refused_unasked { IsErr (spool_meaning words.now) → (shelf.new ≡ shelf.old) }
 {

@@ -5,6 +5,7 @@ use std::fmt::Debug;
 use std::process::Abort;
 use std::test::*;
 
+mod running;
 mod team;
 mod threads;
 mod words;

@@ -18,6 +18,7 @@ returns-clause-bytes c =
     ∙ ap (take n) (take_all (length c.as_slice.result.now - s.at) (drop s.at c.as_slice.result.now) (omega arith))
     ∙ ap (λ (xs : List ℕ). take n (drop s.at xs)) stream
     ∙ ap (λ k. take k (drop s.at s.stream)) (omega arith) in
-    rw (← c.self.view_is)
-    (read_copies s.stream c.args.buf.now c.copy_from_slice.new.self s.at n copied within,
-    read_ends s.stream c.args.buf.now c.copy_from_slice.new.self s.at (λ some. some) most c.copy_from_slice.ensures.len)
+    rw (← c.self.view_is) (
+      read_copies s.stream c.args.buf.now c.copy_from_slice.new.self s.at n copied within,
+      read_ends s.stream c.args.buf.now c.copy_from_slice.new.self s.at (λ some. some) most c.copy_from_slice.ensures.len,
+    )

@@ -1,0 +1,455 @@
+//! Runs of the spool over files in memory.
+use super::same;
+use driver_core::OpenGate;
+use driver_fixtures::{BLACK_BODY, add_page, begin, roomy, words};
+use ink_meter::{DotMeter, Meter, can_settle, settle};
+use known_jobs::TINY_JOB;
+use pwg_header::Kind;
+use spool_core::{Ran, SpoolReport, run_spool};
+use std::alloc::{AllocError, Global};
+use std::process::Abort;
+use std::sync::Wait;
+use std::test::*;
+use std::thread::Threads;
+use weave_base::{MemShelf, MemSink, ShelfFile};
+
+// A stream of so many black pages; no byte where there is none.
+fn black_pages(alloc: Global, count: u32) -> Result<Vec<u8>, AllocError> {
+    if count == 0 {
+        return Ok(Vec::new(alloc));
+    }
+    let mut bytes = begin(alloc)?;
+    for _ in 0..count {
+        add_page(&mut bytes, Kind::Gray8, (8, 6), &BLACK_BODY)?;
+    }
+    Ok(bytes)
+}
+
+// A shelf of streams by their names, each of so many black pages. The listed reads fail.
+fn shelf_of(alloc: Global, files: &[(&str, u32)], fails: &[u32]) -> Result<MemShelf, Fail> {
+    let mut shelf = Vec::new(alloc);
+    for (name, pages) in files {
+        shelf.push(ShelfFile {
+            name: String::from_str(alloc, name)?,
+            bytes: black_pages(alloc, *pages)?,
+        })?;
+    }
+    Ok(MemShelf::make(shelf, fails.to_vec(alloc)?))
+}
+
+// What a run left.
+#[derive(Drop)]
+struct Left {
+    report: SpoolReport,
+    out: MemSink,
+    err: MemSink,
+    black: Option<u64>,
+}
+
+// Runs these words, at most nine, with one meter of this cap.
+fn run_words<R: Threads + Wait + Sync>(
+    rt: &R,
+    alloc: Global,
+    texts: &[&str],
+    mut shelf: MemShelf,
+    mut out: MemSink,
+    cap: u64,
+) -> Result<Left, Fail> {
+    let words = words(alloc, texts)?;
+    let mut err = roomy(alloc)?;
+    let mut meter = DotMeter::make();
+    meter.set_cap(cap);
+    let mut meters: Vec<Box<dyn Meter>> = Vec::new(alloc);
+    meters.push(Box::new(alloc, meter)?)?;
+    let report = run_spool(
+        rt,
+        alloc,
+        &words,
+        &mut out,
+        &mut err,
+        &mut shelf,
+        &OpenGate,
+        &mut meters,
+    );
+    let black = if can_settle(&meters) {
+        Some(settle(meters).k)
+    } else {
+        None
+    };
+    Ok(Left {
+        report,
+        out,
+        err,
+        black,
+    })
+}
+
+// The report's lines, in its order, and then this one.
+fn lines_of(alloc: Global, done: &[Ran], last: &str) -> Result<String, Fail> {
+    let mut text = String::new(alloc);
+    for ran in done {
+        let line = format!(in alloc;
+            "job {}.{}: status {}, pages {}\n",
+            ran.sender, ran.number, ran.status, ran.pages
+        )?;
+        text.push_str(&line)?;
+    }
+    text.push_str(last)?;
+    Ok(text)
+}
+
+// The number, the status and the pages of each job of a sender, in the report's order.
+fn jobs_of(alloc: Global, done: &[Ran], sender: u8) -> Result<Vec<(u32, u8, u32)>, Fail> {
+    let mut jobs = Vec::new(alloc);
+    for ran in done {
+        if ran.sender == sender {
+            jobs.push((ran.number, ran.status, ran.pages))?;
+        }
+    }
+    Ok(jobs)
+}
+
+// The job of a black page, so many times.
+fn tiny_jobs(alloc: Global, count: usize) -> Result<Vec<u8>, Fail> {
+    let mut bytes = Vec::new(alloc);
+    for _ in 0..count {
+        bytes.extend_from_slice(&TINY_JOB)?;
+    }
+    Ok(bytes)
+}
+
+// A run and what it leaves: the status, for each sender the number, the status and the pages of its jobs, how many jobs
+// of a black page are written, the black dots that are counted, and the last line.
+#[derive(Clone, Copy)]
+struct Case {
+    words: &'static [&'static str],
+    files: &'static [(&'static str, u32)],
+    failing_reads: &'static [u32],
+    failing_writes: &'static [u32],
+    cap: u64,
+    status: u8,
+    senders: &'static [&'static [(u32, u8, u32)]],
+    pages: usize,
+    black: u64,
+    line: &'static str,
+}
+
+const THREE_FILES: [(&str, u32); 3] = [("a", 1), ("b", 1), ("c", 1)];
+
+const THREE_JOBS: Case = Case {
+    words: &["profile=tiny", "send=a,b", "send=c"],
+    files: &THREE_FILES,
+    failing_reads: &[],
+    failing_writes: &[],
+    cap: 1_000,
+    status: 0,
+    senders: &[&[(1, 0, 1), (2, 0, 1)], &[(1, 0, 1)]],
+    pages: 3,
+    black: 48,
+    line: "",
+};
+
+// A run that prints nothing.
+const NONE: Case = Case {
+    senders: &[],
+    pages: 0,
+    black: 0,
+    ..THREE_JOBS
+};
+
+// The sink takes one byte a call.
+fn slow_sink(alloc: Global, fails: &[u32]) -> Result<MemSink, Fail> {
+    Ok(MemSink::make(
+        alloc,
+        1_000,
+        vec![in alloc; 1]?,
+        fails.to_vec(alloc)?,
+    )?)
+}
+
+// Stops the test where a run leaves something else.
+fn try_case<R: Abort + Threads + Wait + Sync>(
+    rt: &R,
+    alloc: Global,
+    at: &str,
+    case: &Case,
+) -> Result<(), Fail> {
+    let shelf = shelf_of(alloc, case.files, case.failing_reads)?;
+    let out = slow_sink(alloc, case.failing_writes)?;
+    let left = run_words(rt, alloc, case.words, shelf, out, case.cap)?;
+    let done = left.report.done.as_slice();
+    same(
+        rt,
+        at,
+        &(left.report.status, left.black),
+        &(case.status, Some(case.black)),
+    );
+    let mut sender = 0u8;
+    for wanted in case.senders {
+        sender = sender.wrapping_add(1);
+        let jobs = jobs_of(alloc, done, sender)?;
+        same(rt, at, &jobs.as_slice(), wanted);
+    }
+    let lines = lines_of(alloc, done, case.line)?;
+    same(rt, at, &left.err.bytes(), &lines.as_bytes());
+    let jobs = tiny_jobs(alloc, case.pages)?;
+    same(rt, at, &left.out.bytes(), &jobs.as_slice());
+    Ok(())
+}
+
+#[test]
+fn the_spool_prints_three_jobs(rt: HostRuntime) -> Result<(), Fail> {
+    try_case(&rt, rt.alloc(), "three jobs", &THREE_JOBS)
+}
+
+#[test]
+fn the_spool_counts_a_failed_job(rt: HostRuntime) -> Result<(), Fail> {
+    const CASE: Case = Case {
+        files: &[("a", 1), ("b", 0), ("c", 1)],
+        status: 9,
+        senders: &[&[(1, 0, 1), (2, 3, 0)], &[(1, 0, 1)]],
+        pages: 2,
+        black: 32,
+        line: "jobs failed: 1\n",
+        ..THREE_JOBS
+    };
+    try_case(&rt, rt.alloc(), "an empty file", &CASE)
+}
+
+#[test]
+fn the_spool_refuses_an_absent_file_and_no_send(rt: HostRuntime) -> Result<(), Fail> {
+    const CASES: [(&str, Case); 3] = [
+        (
+            "absent",
+            Case {
+                words: &["profile=tiny", "send=x"],
+                files: &[],
+                status: 3,
+                line: "file: sender 1 job 1: Absent\n",
+                ..NONE
+            },
+        ),
+        (
+            "absent later",
+            Case {
+                words: &["profile=tiny", "send=a", "send=b,c,d,a"],
+                status: 3,
+                line: "file: sender 2 job 3: Absent\n",
+                ..NONE
+            },
+        ),
+        (
+            "no send",
+            Case {
+                words: &["profile=tiny"],
+                files: &[],
+                status: 1,
+                line: "usage: word 2: NoSend\n",
+                ..NONE
+            },
+        ),
+    ];
+    for (at, case) in &CASES {
+        try_case(&rt, rt.alloc(), at, case)?;
+    }
+    Ok(())
+}
+
+// The jobs of one sender, in its order.
+const ONE_SENDER: Case = Case {
+    words: &["profile=tiny", "send=a,b,c"],
+    senders: &[&[(1, 0, 1), (2, 0, 1), (3, 0, 1)]],
+    ..THREE_JOBS
+};
+
+#[test]
+fn a_shelf_that_fails_ends_the_run(rt: HostRuntime) -> Result<(), Fail> {
+    const FAILED: Case = Case {
+        status: 4,
+        line: "read failed\n",
+        ..NONE
+    };
+    const CASES: [(&str, Case); 4] = [
+        (
+            "read 1",
+            Case {
+                failing_reads: &[1],
+                ..FAILED
+            },
+        ),
+        (
+            "read 2",
+            Case {
+                failing_reads: &[2],
+                ..FAILED
+            },
+        ),
+        (
+            "read 3",
+            Case {
+                failing_reads: &[3],
+                ..FAILED
+            },
+        ),
+        (
+            "the profile",
+            Case {
+                words: &["profile=own", "send=a"],
+                failing_reads: &[1],
+                ..FAILED
+            },
+        ),
+    ];
+    for (at, case) in &CASES {
+        try_case(&rt, rt.alloc(), at, case)?;
+    }
+    Ok(())
+}
+
+#[test]
+fn a_failed_write_ends_the_run_in_its_job(rt: HostRuntime) -> Result<(), Fail> {
+    const CASES: [(&str, Case); 3] = [
+        (
+            "job 1",
+            Case {
+                failing_writes: &[1],
+                status: 5,
+                senders: &[&[(1, 5, 0)]],
+                pages: 0,
+                black: 16,
+                line: "write failed: sender 1 job 1 page 1\n",
+                ..ONE_SENDER
+            },
+        ),
+        (
+            "job 2",
+            Case {
+                failing_writes: &[93],
+                status: 5,
+                senders: &[&[(1, 0, 1), (2, 5, 0)]],
+                pages: 1,
+                black: 32,
+                line: "write failed: sender 1 job 2 page 1\n",
+                ..ONE_SENDER
+            },
+        ),
+        (
+            "job 3, page 2",
+            Case {
+                files: &[("a", 1), ("b", 1), ("c", 3)],
+                failing_writes: &[277],
+                status: 5,
+                senders: &[&[(1, 0, 1), (2, 0, 1), (3, 5, 1)]],
+                pages: 3,
+                black: 64,
+                line: "write failed: sender 1 job 3 page 2\n",
+                ..ONE_SENDER
+            },
+        ),
+    ];
+    for (at, case) in &CASES {
+        try_case(&rt, rt.alloc(), at, case)?;
+    }
+    Ok(())
+}
+
+#[test]
+fn the_third_job_goes_past_the_cap(rt: HostRuntime) -> Result<(), Fail> {
+    const CASE: Case = Case {
+        cap: 47,
+        status: 9,
+        senders: &[&[(1, 0, 1), (2, 0, 1), (3, 6, 0)]],
+        pages: 2,
+        black: 32,
+        line: "jobs failed: 1\n",
+        ..ONE_SENDER
+    };
+    try_case(&rt, rt.alloc(), "a cap", &CASE)
+}
+
+#[test]
+fn the_spool_stops_at_a_failed_write(rt: HostRuntime) -> Result<(), Fail> {
+    let alloc = rt.alloc();
+    let shelf = shelf_of(alloc, &THREE_FILES, &[])?;
+    let out = slow_sink(alloc, &[93])?;
+    let left = run_words(&rt, alloc, THREE_JOBS.words, shelf, out, 1_000)?;
+    let done = left.report.done.as_slice();
+    same(
+        &rt,
+        "the run",
+        &(left.report.status, done.len(), left.out.bytes()),
+        &(5, 2, TINY_JOB.as_slice()),
+    );
+    let Some(last) = done.last() else {
+        panic!(rt; "no job");
+    };
+    same(&rt, "the last job", &(last.status, last.pages), &(5, 0));
+    let line = format!(in alloc;
+        "write failed: sender {} job {} page 1\n",
+        last.sender, last.number
+    )?;
+    let lines = lines_of(alloc, done, &line)?;
+    same(&rt, "the lines", &left.err.bytes(), &lines.as_bytes());
+    Ok(())
+}
+
+// The word of a sender that sends a file so many times.
+fn send_word(alloc: Global, name: &str, count: u32) -> Result<String, Fail> {
+    let mut word = String::from_str(alloc, "send=")?;
+    for i in 0..count {
+        if i > 0 {
+            word.push(',')?;
+        }
+        word.push_str(name)?;
+    }
+    Ok(word)
+}
+
+// Runs eight senders of so many jobs each, every one with a stream of so many black pages. Stops the test where one of
+// them is not there, not in its order, or ends otherwise.
+fn run_eight<R: Abort + Threads + Wait + Sync>(
+    rt: &R,
+    alloc: Global,
+    (count, pages): (u32, u32),
+    (status, job_status): (u8, u8),
+) -> Result<(), Fail> {
+    let word = send_word(alloc, "a", count)?;
+    let send = word.as_str();
+    let texts = [
+        "profile=tiny",
+        send,
+        send,
+        send,
+        send,
+        send,
+        send,
+        send,
+        send,
+    ];
+    let shelf = shelf_of(alloc, &[("a", pages)], &[])?;
+    let left = run_words(rt, alloc, &texts, shelf, roomy(alloc)?, 1_000_000)?;
+    let done = left.report.done.as_slice();
+    same(rt, "the status", &left.report.status, &status);
+    let mut wanted = Vec::new(alloc);
+    for number in 1..=count {
+        wanted.push((number, job_status, pages))?;
+    }
+    for sender in 1..=8 {
+        let jobs = jobs_of(alloc, done, sender)?;
+        same(rt, "a sender", &jobs, &wanted);
+    }
+    Ok(())
+}
+
+#[test]
+fn eight_senders_of_64_names_are_printed(rt: HostRuntime) -> Result<(), Fail> {
+    run_eight(&rt, rt.alloc(), (64, 1), (0, 0))
+}
+
+#[test]
+fn every_run_has_each_sender_in_its_order(rt: HostRuntime) -> Result<(), Fail> {
+    for _ in 0..200 {
+        run_eight(&rt, rt.alloc(), (3, 0), (9, 3))?;
+    }
+    Ok(())
+}
