@@ -31,8 +31,8 @@ const SECOND_BODY: [u8; 20] = [
     0x00, 0x00,
 ];
 
-// Graphics mode, the unit, a page of twenty units and a margin of two. Then cyan from column 2 on, in 37 columns, by runs
-// and literal bytes; black by plain rows; yellow on a second sheet.
+// Graphics mode, the unit, a page of twenty units and a margin of two. Then cyan from column 2 on, in 37 columns, by
+// runs and literal bytes; black by plain rows; yellow on a second sheet.
 const CODED_JOB: &[u8] = b"\x1B@\x1B(G\x01\x00\x01\x1B(U\x01\x00\x05\x1B(C\x02\x00\x14\x00\
     \x1B(c\x04\x00\x02\x00\x14\x00\x1Br\x02\x1B$\x04\x00\
     \x1B.\x01\x14\x0A\x03\x25\x00\xFC\xAA\xFF\x0F\x02\xF0\x01\x80\x00\x55\xFD\x00\

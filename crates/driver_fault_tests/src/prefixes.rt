@@ -37,7 +37,7 @@ fn try_all<R: Abort + Threads + Sync>(rt: &R, alloc: Global, cases: &[Case]) -> 
 #[test]
 fn every_prefix_of_two_colour_pages_has_its_answer(rt: HostRuntime) -> Result<(), Fail> {
     const CASES: [Case; 2] = [
-        (Command::PrintColours, Input::ColourPages, 1),
+        (Command::PrintColours, Input::ColourPages, 64),
         (Command::PrintBlack, Input::ColourPages, 1000),
     ];
     try_all(&rt, rt.alloc(), &CASES)

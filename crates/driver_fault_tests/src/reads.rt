@@ -29,8 +29,8 @@ fn bytes_of(alloc: Global, case: &Case) -> Result<Vec<u8>, Fail> {
     Ok(bytes)
 }
 
-// Asserts what is left where the read fails after so many whole pieces: the answer to what was taken, and status 4 where
-// more bytes could mend its end.
+// Asserts what is left where the read fails after so many whole pieces: the answer to what was taken, and status 4
+// where more bytes could mend its end.
 fn try_read<R: Abort + Threads + Sync>(
     rt: &R,
     alloc: Global,
@@ -124,6 +124,7 @@ fn a_fault_that_was_read_comes_before_a_failing_read(rt: HostRuntime) -> Result<
         // two lines where one is left, on the second page
         Case {
             change: Some((3619, 1)),
+            piece: 13,
             ..PRINTED
         },
         Case {
@@ -230,7 +231,7 @@ fn try_both<R: Abort + Threads + Sync>(rt: &R, alloc: Global, case: Both) -> Res
 #[test]
 fn failing_sink_and_source_keep_what_was_done(rt: HostRuntime) -> Result<(), Fail> {
     const CASES: [Both; 4] = [
-        (Command::PrintColours, Input::ColourPages, 79, 1),
+        (Command::PrintColours, Input::ColourPages, 79, 3),
         (Command::Dots, Input::TinyJob, 1, 5),
         (Command::Dots, Input::CodedJob, 1, 5),
         (Command::List, Input::CodedJob, 1, 5),
