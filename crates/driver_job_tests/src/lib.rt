@@ -8,10 +8,6 @@ mod fixture;
 #[cfg(test)]
 mod lists;
 #[cfg(test)]
-mod plain_machine;
-#[cfg(test)]
-mod plain_reader;
-#[cfg(test)]
 mod random;
 #[cfg(test)]
 mod random_jobs;

@@ -1,0 +1,243 @@
+//! Every failing read, and failing reads and writes together.
+use crate::inputs::Input;
+use crate::runs::{BY_BYTES, Calls, Command, call_behind, leaves};
+use driver_fixtures::prefix;
+use std::alloc::Global;
+use std::process::Abort;
+use std::test::Fail;
+use std::thread::Threads;
+
+// A run whose reads fail.
+#[derive(Clone, Copy)]
+struct Case {
+    command: Command,
+    input: Input,
+    // A byte of the input that is changed, by its place.
+    change: Option<(usize, u8)>,
+    // The most bytes of a read.
+    piece: u32,
+}
+
+// The bytes of a case.
+fn bytes_of(alloc: Global, case: &Case) -> Result<Vec<u8>, Fail> {
+    let mut bytes = case.input.bytes(alloc)?;
+    if let Some((place, byte)) = case.change {
+        if let Some(changed) = bytes.get_mut(place) {
+            *changed = byte;
+        }
+    }
+    Ok(bytes)
+}
+
+// Asserts what is left where the read fails after so many whole pieces: the answer to what was taken, and status 4
+// where more bytes could mend its end.
+fn try_read<R: Abort + Threads + Sync>(
+    rt: &R,
+    alloc: Global,
+    case: &Case,
+    bytes: &[u8],
+    pieces: usize,
+) -> Result<(), Fail> {
+    let taken = prefix(bytes, pieces.wrapping_mul(case.piece as usize));
+    let wanted = case.command.answer(alloc, taken)?.unread(alloc)?;
+    let calls = Calls {
+        piece: case.piece,
+        failing_read: call_behind(pieces),
+        ..BY_BYTES
+    };
+    leaves(rt, alloc, case.command, bytes, calls, &wanted)
+}
+
+// Asserts what each failing read leaves, the one at the end included.
+fn try_reads<R: Abort + Threads + Sync>(rt: &R, alloc: Global, case: &Case) -> Result<(), Fail> {
+    let bytes = bytes_of(alloc, case)?;
+    let pieces = bytes.len().div_ceil(case.piece.max(1) as usize);
+    for read in 0..pieces.saturating_add(1) {
+        try_read(rt, alloc, case, &bytes, read)?;
+    }
+    Ok(())
+}
+
+// Asserts what the failing reads of each case leave.
+fn try_all<R: Abort + Threads + Sync>(rt: &R, alloc: Global, cases: &[Case]) -> Result<(), Fail> {
+    for case in cases {
+        try_reads(rt, alloc, case)?;
+    }
+    Ok(())
+}
+
+// The colour pages are printed, a byte a read.
+const PRINTED: Case = Case {
+    command: Command::PrintColours,
+    input: Input::ColourPages,
+    change: None,
+    piece: 1,
+};
+
+#[test]
+fn every_failing_read_is_status_four(rt: HostRuntime) -> Result<(), Fail> {
+    const CASES: [Case; 5] = [
+        PRINTED,
+        // the second page ends after its first group, and a third begins
+        Case {
+            change: Some((3614, 2)),
+            piece: 11,
+            ..PRINTED
+        },
+        Case {
+            piece: 7,
+            ..PRINTED
+        },
+        Case {
+            piece: 1000,
+            ..PRINTED
+        },
+        Case {
+            command: Command::PrintBlack,
+            piece: 65_536,
+            ..PRINTED
+        },
+    ];
+    try_all(&rt, rt.alloc(), &CASES)
+}
+
+#[test]
+fn a_fault_that_was_read_comes_before_a_failing_read(rt: HostRuntime) -> Result<(), Fail> {
+    const CASES: [Case; 7] = [
+        // no sync word: three bytes could still be mended
+        Case {
+            change: Some((1, b'b')),
+            ..PRINTED
+        },
+        // three literal pixels where two are left
+        Case {
+            change: Some((1805, 0xFE)),
+            piece: 5,
+            ..PRINTED
+        },
+        // the header of the second page
+        Case {
+            change: Some((1818, b'p')),
+            piece: 7,
+            ..PRINTED
+        },
+        // two lines where one is left, on the second page
+        Case {
+            change: Some((3619, 1)),
+            piece: 13,
+            ..PRINTED
+        },
+        Case {
+            change: Some((3619, 1)),
+            piece: 1000,
+            ..PRINTED
+        },
+        Case {
+            change: Some((3619, 1)),
+            piece: 65_536,
+            ..PRINTED
+        },
+        // a run past its line, on the second page
+        Case {
+            change: Some((3615, 9)),
+            piece: 19,
+            ..PRINTED
+        },
+    ];
+    try_all(&rt, rt.alloc(), &CASES)
+}
+
+#[test]
+fn every_failing_read_of_a_job_is_status_four(rt: HostRuntime) -> Result<(), Fail> {
+    const PLAYED: Case = Case {
+        command: Command::Dots,
+        input: Input::CodedJob,
+        change: None,
+        piece: 1,
+    };
+    const LISTED: Case = Case {
+        command: Command::List,
+        ..PLAYED
+    };
+    const CASES: [Case; 9] = [
+        PLAYED,
+        Case { piece: 7, ..PLAYED },
+        Case {
+            input: Input::TinyJob,
+            ..PLAYED
+        },
+        LISTED,
+        Case { piece: 7, ..LISTED },
+        Case {
+            input: Input::TinyJob,
+            ..LISTED
+        },
+        // a byte that begins no command, on the second sheet
+        Case {
+            change: Some((105, 0x0E)),
+            piece: 3,
+            ..PLAYED
+        },
+        Case {
+            change: Some((105, 0x0E)),
+            piece: 3,
+            ..LISTED
+        },
+        // a raster of two rows
+        Case {
+            change: Some((42, 2)),
+            piece: 2,
+            ..PLAYED
+        },
+    ];
+    try_all(&rt, rt.alloc(), &CASES)
+}
+
+// A command, its input, and from one to the next of the reads and the writes that fail.
+type Both = (Command, Input, usize, usize);
+
+// Asserts what is left where a read of one byte fails, by a step of writes that fail too.
+fn try_writes<R: Abort + Threads + Sync>(
+    rt: &R,
+    alloc: Global,
+    (command, input, _, step): Both,
+    taken: usize,
+) -> Result<(), Fail> {
+    let bytes = input.bytes(alloc)?;
+    let length = command.answer(alloc, prefix(&bytes, taken))?.out.len();
+    for written in (0..length.saturating_add(step)).step_by(step.max(1)) {
+        let whole = command.answer(alloc, prefix(&bytes, taken))?.unread(alloc)?;
+        let wanted = whole.unwritten(alloc, written)?;
+        let calls = Calls {
+            failing_read: call_behind(taken),
+            failing_write: call_behind(written),
+            ..BY_BYTES
+        };
+        leaves(rt, alloc, command, &bytes, calls, &wanted)?;
+    }
+    Ok(())
+}
+
+// Asserts what a step of reads that fail leaves, each with a step of writes that fail too.
+fn try_both<R: Abort + Threads + Sync>(rt: &R, alloc: Global, case: Both) -> Result<(), Fail> {
+    let (_, input, step, _) = case;
+    let length = input.bytes(alloc)?.len();
+    for taken in (0..length.saturating_add(1)).step_by(step.max(1)) {
+        try_writes(rt, alloc, case, taken)?;
+    }
+    Ok(())
+}
+
+#[test]
+fn failing_sink_and_source_keep_what_was_done(rt: HostRuntime) -> Result<(), Fail> {
+    const CASES: [Both; 4] = [
+        (Command::PrintColours, Input::ColourPages, 79, 3),
+        (Command::Dots, Input::TinyJob, 1, 5),
+        (Command::Dots, Input::CodedJob, 1, 5),
+        (Command::List, Input::CodedJob, 1, 5),
+    ];
+    for case in CASES {
+        try_both(&rt, rt.alloc(), case)?;
+    }
+    Ok(())
+}

@@ -1,0 +1,98 @@
+//! Every failing write.
+use crate::answers::Answer;
+use crate::inputs::Input;
+use crate::runs::{BY_BYTES, Calls, Command, call_behind, leaves, words_leave};
+use std::alloc::Global;
+use std::process::Abort;
+use std::test::Fail;
+use std::thread::Threads;
+
+// Asserts what each failing write leaves.
+fn try_writes<R: Abort + Threads + Sync>(
+    rt: &R,
+    alloc: Global,
+    command: Command,
+    input: Input,
+) -> Result<(), Fail> {
+    let bytes = input.bytes(alloc)?;
+    let length = command.answer(alloc, &bytes)?.out.len();
+    for written in 0..length.saturating_add(1) {
+        let wanted = command.answer(alloc, &bytes)?.unwritten(alloc, written)?;
+        let calls = Calls {
+            piece: 65_536,
+            failing_write: call_behind(written),
+            ..BY_BYTES
+        };
+        leaves(rt, alloc, command, &bytes, calls, &wanted)?;
+    }
+    Ok(())
+}
+
+#[test]
+fn every_failing_write_leaves_its_prefix(rt: HostRuntime) -> Result<(), Fail> {
+    const CASES: [(Command, Input); 7] = [
+        (Command::PrintBlack, Input::GreyPage),
+        (Command::PrintBlack, Input::ColourPages),
+        (Command::PrintColours, Input::ColourPages),
+        (Command::Dots, Input::TinyJob),
+        (Command::Dots, Input::CodedJob),
+        (Command::List, Input::TinyJob),
+        (Command::List, Input::CodedJob),
+    ];
+    for (command, input) in CASES {
+        try_writes(&rt, rt.alloc(), command, input)?;
+    }
+    Ok(())
+}
+
+// The canonical text of the printer `tiny`.
+const TINY: &str =
+    "escp2-profile 1\nhdpi=360\nvdpi=360\nnozzles=3\npitch=2\ninks=k\nblack_start=0\n\
+    limit_k=255\nlimit_c=255\nlimit_m=255\nlimit_y=255\nleft=0\nright=0\ntop=4\nbottom=0\n";
+
+// Words that read no input, and what they write.
+const LINES: [(&[&str], &str); 2] = [
+    (
+        &["trial", "profile=tiny1", "seed=0", "width=4", "height=2"],
+        "pages=1 sheets=1 bytes=70 rasters=1 k=2 c=0 m=0 y=0\n",
+    ),
+    (&["profile", "profile=tiny"], TINY),
+];
+
+// What words that write this text and read nothing leave where a write fails after so many bytes.
+fn cut(alloc: Global, text: &str, written: usize) -> Result<Answer, Fail> {
+    let whole = Answer {
+        status: 0,
+        out: text.as_bytes().to_vec(alloc)?,
+        ends: Vec::new(alloc),
+        line: String::new(alloc),
+        mends: true,
+    };
+    Ok(whole.unwritten(alloc, written)?)
+}
+
+// Asserts what each failing write leaves of a text. Every read fails.
+fn try_text<R: Abort + Threads + Sync>(
+    rt: &R,
+    alloc: Global,
+    words: &[&str],
+    text: &str,
+) -> Result<(), Fail> {
+    for written in 0..text.len().saturating_add(1) {
+        let calls = Calls {
+            failing_read: 1,
+            failing_write: call_behind(written),
+            ..BY_BYTES
+        };
+        words_leave(rt, alloc, words, b"", calls, &cut(alloc, text, written)?)?;
+    }
+    Ok(())
+}
+
+#[test]
+fn every_failing_write_of_a_text_leaves_its_prefix(rt: HostRuntime) -> Result<(), Fail> {
+    for (words, text) in LINES {
+        try_text(&rt, rt.alloc(), words, text)?;
+    }
+    Ok(())
+}
