@@ -1,7 +1,7 @@
 //! What runs are to leave, by the slow programs.
 use crate::plain_head::add_job;
 use crate::plain_stream::{StreamFault, read_stream};
-use driver_fixtures::{PlainOutcome, listed, played};
+use job_fixtures::{PlainOutcome, listed, played};
 use std::alloc::{AllocError, Global};
 use weave_base::InkSet;
 

@@ -1,7 +1,7 @@
 //! Pseudo-random jobs, whole, cut and with a byte changed: the driver answers as the slow programs do.
 use crate::fixture::runs_to;
 use crate::random::{Random, random_job};
-use driver_fixtures::{PlainOutcome, listed, played};
+use job_fixtures::{PlainOutcome, listed, played};
 use std::alloc::Global;
 use std::process::Abort;
 use std::test::Fail;

@@ -1,6 +1,6 @@
 //! What the commands for print jobs write, by the slow programs.
-use crate::plain_machine::Machine;
-use crate::plain_reader::{Name, Said, Stop, Unread};
+use crate::machine::Machine;
+use crate::reader::{Name, Said, Stop, Unread};
 use std::alloc::{AllocError, Global};
 
 /// What a command makes of a job, by a slow program.

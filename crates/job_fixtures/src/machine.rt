@@ -1,5 +1,5 @@
 //! A slow emulator of the printer `tiny`: it runs commands dot by dot, and is independent of the driver.
-use crate::plain_reader::{Name, Said};
+use crate::reader::{Name, Said};
 use std::alloc::{AllocError, Global};
 
 /// From column to column and from row to row, in 1/3600 inch.
