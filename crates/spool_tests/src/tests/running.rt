@@ -159,12 +159,7 @@ const NONE: Case = Case {
 
 // The sink takes one byte a call.
 fn slow_sink(alloc: Global, fails: &[u32]) -> Result<MemSink, Fail> {
-    Ok(MemSink::make(
-        alloc,
-        1_000,
-        vec![in alloc; 1]?,
-        fails.to_vec(alloc)?,
-    )?)
+    Ok(MemSink::make(alloc, 1_000, vec![in alloc; 1]?, fails.to_vec(alloc)?)?)
 }
 
 // Stops the test where a run leaves something else.
