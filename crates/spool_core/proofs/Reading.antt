@@ -1,15 +1,14 @@
 -- Files read one after another, and where that stops.
-use Rattle.std.proofs.Common.{◌≡◌, ℕ, ◌+◌, ◌-◌, ◌<◌, ◌≤◌, List, [], ◌∷◌, ◌++◌, length, map, get_or, take, drop, sym, refl, ◌∙◌, ap, subst, arith, append-nil, append_assoc, length-append, Option, Some}
+use Rattle.std.proofs.Common.{◌≡◌, ℕ, ◌+◌, ◌<◌, ◌≤◌, List, [], ◌∷◌, ◌++◌, length, map, get_or, take, drop, sym, refl, ◌∙◌, ap, subst, arith, append-nil, Option, Some}
 use Rattle.std.specs.Prelude.{slice_get}
 use Rattle.std.proofs.lemmas.List.{get_or_default, length-take-le, map_push, take_all}
 use Rattle.driver_core.specs.Outside.{Texts}
 use Rattle.weave_base.specs.Causes.{Rose}
 use Rattle.weave_base.specs.Shelf.{NamedText}
 use Rattle.spool_core.specs.Files.{AreFiles, FilesOutcome, HasStreams, IsFile, IsRefusedFile, IsRefusedName, RefusesFile}
-use Rattle.spool_core.specs.Files.{StopsAtFile, StopsAtName, bytes_in, joined, most_files}
+use Rattle.spool_core.specs.Files.{StopsAtFile, StopsAtName, bytes_in, joined}
 use Rattle.spool_core.specs.declared.answer.SpoolAnswer.{SpoolAnswer}
 use Rattle.spool_core.specs.declared.answer.SpoolAnswer.TheVariants as answer
-use Rattle.spool_core.specs.declared.files.FileCause.{FileCause}
 use Rattle.spool_core.proofs.Lists.{cut_at, flat_map-append, more_taken, read_at, rose_later}
 
 pub bytes_in-append : (xs ys : List (List ℕ)) → bytes_in (xs ++ ys) ≡ bytes_in xs + bytes_in ys

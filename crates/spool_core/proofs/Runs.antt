@@ -1,13 +1,13 @@
 -- What a run comes to, by what its parts came to.
-use Rattle.std.proofs.Common.{◌≡◌, ◌≢◌, ℕ, suc, ◌+◌, ◌<◌, ◌≤◌, ◌^◌, inl, inr, List, [], ◌∷◌, ◌++◌, length, map, sym, refl, ◌∙◌, ap, subst, arith, All, Option, None, Some, Result, Ok, Err, IsErrOf, IsSome, IfErr, OnErr, OnOk}
+use Rattle.std.proofs.Common.{◌≡◌, ◌≢◌, ℕ, suc, ◌<◌, ◌≤◌, ◌^◌, inl, inr, List, [], ◌∷◌, ◌++◌, length, map, sym, refl, ◌∙◌, ap, subst, arith, All, Option, None, Some, Result, Ok, Err, IsErrOf, IsSome, IfErr, OnErr, OnOk}
 use Rattle.std.specs.List.{AllByRecursion}
 use Rattle.std.proofs.lemmas.List.Elements.{All-cons, All-nil}
 use Rattle.std.proofs.KnownBytes.{Keeps-refl}
 use Rattle.diffusion_definitions.specs.Diffusion.{Table}
 use Rattle.diffusion_kernel.specs.Tables.{table_of}
 use Rattle.diffusion_kernel.specs.declared.tables.Kernel.{Kernel}
-use Rattle.driver_core.specs.Outside.{HasRisen, Meters, Outside, Texts}
-use Rattle.job_profile.specs.Named.{IsJobProfile, refused_at}
+use Rattle.driver_core.specs.Outside.{HasRisen, Meters, Outside}
+use Rattle.job_profile.specs.Named.{IsJobProfile}
 use Rattle.job_profile.specs.Stops.{OnRefused}
 use Rattle.job_profile.specs.declared.stops.ProfileStop.{ProfileStop}
 use Rattle.job_profile.specs.declared.stops.ProfileStop.TheVariants as profile
@@ -21,9 +21,9 @@ use Rattle.spool_words.specs.declared.faults.SpoolFault.{SpoolFault}
 use Rattle.spool_words.specs.declared.reading.SpoolRequest.{SpoolRequest}
 use Rattle.weave_base.specs.Causes.{Rose}
 use Rattle.spool_core.specs.Files.{AreFiles, FilesOutcome}
-use Rattle.spool_core.specs.Outcome.{HasPlainStatus, PrintingOutcome, PrintsNone, ProfileOutcome, RequestOutcome, WithFiles, SpoolOutcome, SpoolOutside, SumsUp, WriteStopped, at_call, at_return}
+use Rattle.spool_core.specs.Outcome.{HasPlainStatus, PrintingOutcome, PrintsNone, ProfileOutcome, RequestOutcome, SpoolOutcome, SpoolOutside, SumsUp, WriteStopped, at_call, at_return}
 use Rattle.spool_core.specs.Prepared.{AreFew}
-use Rattle.spool_core.specs.Printed.{AreDone, Between, PrintsEvery, PrintsJobs}
+use Rattle.spool_core.specs.Printed.{AreDone, Between, PrintsJobs}
 use Rattle.spool_core.specs.Stops.{profile_answer}
 use Rattle.spool_core.specs.declared.answer.SpoolAnswer.{SpoolAnswer}
 use Rattle.spool_core.specs.declared.answer.SpoolAnswer.TheVariants as answer

@@ -1,32 +1,31 @@
 -- A valid run prints every job.
-use Rattle.std.proofs.Common.{◌≡◌, ◌≢◌, ℕ, zero, suc, ◌+◌, ◌-◌, ◌<◌, ◌≤◌, ◌⊎◌, inl, inr, ⊎_elim, List, [], ◌∷◌, ◌++◌, length, map, get_or, take, drop, sym, refl, ◌∙◌, ap, subst, arith, All, Bool, true, false, cond, count_by, append_assoc, length-append, Option, None, Some, Result, Ok, Err, ne_eqb}
+use Rattle.std.proofs.Common.{◌≡◌, ◌≢◌, ℕ, zero, suc, ◌+◌, ◌-◌, ◌<◌, ◌⊎◌, inl, inr, ⊎_elim, List, [], ◌∷◌, ◌++◌, length, get_or, take, drop, sym, refl, ◌∙◌, ap, subst, arith, All, Bool, false, cond, count_by, append_assoc, length-append, Option, None, Some, Result, Ok, ne_eqb}
 use Rattle.std.specs.Prelude.{IfSome, slice_index_or, flat_map, ◌==◌, ◌||◌}
 use Rattle.std.proofs.lemmas.List.{get_or-append-add, get_or_append_left, get_or_default}
-use Rattle.std.proofs.lemmas.List.Elements.{All-append, All-cons, All-from_get_or, All-get_or, All-head, All-nil, All-tail}
+use Rattle.std.proofs.lemmas.List.Elements.{All-append, All-from_get_or, All-get_or, All-head, All-nil, All-tail}
 use Rattle.std.proofs.lemmas.List.Sums.{sum_by-cons}
 use Rattle.diffusion_definitions.specs.Diffusion.{Table}
 use Rattle.driver_answer.specs.Answers.{status_of}
 use Rattle.driver_answer.specs.declared.answer.Answer.{Answer}
 use Rattle.driver_answer.specs.declared.answer.Answer.TheVariants as print
-use Rattle.driver_core.specs.Outside.{HasFailed, IsCalm, Outside, Texts}
+use Rattle.driver_core.specs.Outside.{HasFailed, IsCalm, Outside}
 use Rattle.driver_core.specs.Printing.Pages.{IsStream}
 use Rattle.job_profile.specs.Named.{IsJobProfile, Refusal, job_profile}
 use Rattle.printer_definitions.specs.Printer.{Printer}
-use Rattle.pwg_definitions.specs.Stream.{Page, StreamEnd, stream}
+use Rattle.pwg_definitions.specs.Stream.{stream}
 use Rattle.pwg_definitions.specs.Stream.{Stream as Pages}
 use Rattle.pwg_definitions.specs.Stream.StreamEnd.{Done, Fault}
-use Rattle.separation_definitions.specs.Windows.{wanted_by}
 use Rattle.spool_queue.proofs.Sent.{was_sent}
 use Rattle.spool_queue.specs.Jobs.{AreSent, Stream, sent_by}
 use Rattle.spool_queue.specs.declared.job.SpoolJob.{SpoolJob}
-use Rattle.spool_words.specs.Meaning.{names_of, profile_named, spool_meaning}
+use Rattle.spool_words.specs.Meaning.{names_of, profile_named}
 use Rattle.spool_words.specs.declared.faults.SpoolFault.{SpoolFault}
 use Rattle.spool_words.specs.declared.reading.SpoolRequest.{SpoolRequest}
 use Rattle.weave_base.specs.Shelf.{NamedText, text_named}
 use Rattle.spool_core.specs.Answers.{Tells, spool_status, spool_text}
 use Rattle.spool_core.specs.Files.{AreFiles, FilesOutcome, HasStreams, IsFile, IsRefusedFile, RefusesFile, bytes_in, joined, most_next}
 use Rattle.spool_core.specs.Outcome.{PrintingOutcome, ProfileOutcome, RequestOutcome, SpoolOutcome, SpoolOutside, WithFiles, WithoutFiles, is_refused}
-use Rattle.spool_core.specs.Printed.{Between, PrintsJob, PrintsJobs, PrintsStream}
+use Rattle.spool_core.specs.Printed.{Between, PrintsJobs, PrintsStream}
 use Rattle.spool_core.specs.Promises.{IsValidSpool, IsValidStream, SpoolPromises}
 use Rattle.spool_core.specs.declared.answer.SpoolAnswer.{SpoolAnswer}
 use Rattle.spool_core.specs.declared.answer.SpoolAnswer.TheVariants as answer

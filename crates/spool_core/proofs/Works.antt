@@ -1,5 +1,5 @@
 -- The work of senders.
-use Rattle.std.proofs.Common.{◌≡◌, ℕ, ◌<◌, ◌≤◌, ◌^◌, List, [], ◌∷◌, length, map, All, refl, ap, arith}
+use Rattle.std.proofs.Common.{◌≡◌, ◌≤◌, List, [], ◌∷◌, length, map, All, refl, ap, arith}
 use Rattle.std.proofs.lemmas.List.Elements.{All-cons, All-head, All-nil, All-tail}
 use Rattle.spool_queue.specs.Jobs.{Stream}
 use Rattle.spool_queue.specs.Passes.{IsSenderOf, sent_of}

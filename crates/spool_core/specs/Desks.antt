@@ -1,5 +1,5 @@
 -- A desk: a spool, what its senders are to send, and the room for what is done.
-use Rattle.std.specs.Prelude.{◌≡◌, ℕ, ◌<◌, ◌≤◌, ◌^◌, List, [], length, map, All, vec_capacity}
+use Rattle.std.specs.Prelude.{◌≡◌, ◌<◌, ◌≤◌, ◌^◌, List, [], length, All, vec_capacity}
 use Rattle.base_definitions.specs.Counting.{count_from}
 use Rattle.spool_queue.specs.Jobs.{Stream, count_sent}
 use Rattle.spool_queue.specs.Passes.{IsPrinterOf, senders_of, taken_of}

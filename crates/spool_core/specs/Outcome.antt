@@ -1,12 +1,10 @@
 -- The outcome of a run of the spool, by its answer.
-use Rattle.std.specs.Prelude.{◌≡◌, ◌≢◌, ℕ, ◌+◌, ◌≤◌, ◌==◌, ◌||◌, ◌⊎◌, Bool, List, [], ◌∷◌, ◌++◌, All, count_by, Option, None, Some, Result, Ok, Err}
-use Rattle.std.specs.Io.KnownBytes.{Appends, Keeps}
+use Rattle.std.specs.Prelude.{◌≡◌, ◌≢◌, ℕ, ◌+◌, ◌≤◌, ◌==◌, ◌||◌, ◌⊎◌, Bool, List, [], ◌∷◌, ◌++◌, All, count_by, None, Result, Ok, Err}
+use Rattle.std.specs.Io.KnownBytes.{Keeps}
 use Rattle.diffusion_definitions.specs.Diffusion.{Table}
 use Rattle.diffusion_kernel.specs.Tables.{table_of}
 use Rattle.driver_core.specs.Outside.{HasFailed, HasRisen, Meters, Outside, Texts}
 use Rattle.job_profile.specs.Named.{IsJobProfile, refused_at}
-use Rattle.job_profile.specs.declared.stops.ProfileStop.{ProfileStop}
-use Rattle.job_profile.specs.declared.stops.ProfileStop.TheVariants as profile
 use Rattle.printer_definitions.specs.Printer.{Printer}
 use Rattle.printer_profile.specs.Profiles.{built_in}
 use Rattle.spool_core.specs.Files.{AreFiles, FilesOutcome}

@@ -1,5 +1,5 @@
 -- What words ask for, with its profile and its files.
-use Rattle.std.specs.Prelude.{◌≡◌, List, map, ℕ, ◌≤◌, All, length, Ok, Option, IsOk}
+use Rattle.std.specs.Prelude.{◌≡◌, List, map, ℕ, ◌≤◌, All, length, Ok, Option}
 use Rattle.driver_core.specs.Runs.Fitting.{way_of}
 use Rattle.driver_core.specs.Runs.Prepared.{CanBePrinted}
 use Rattle.job_profile.specs.Named.{IsJobProfile}

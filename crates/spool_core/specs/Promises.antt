@@ -1,7 +1,6 @@
 -- What a run of the spool promises, by its words, the outside, the error sink and its report.
 use Rattle.std.specs.Prelude.{◌≡◌, ◌≢◌, ℕ, ◌⊎◌, List, All, Some, Ok}
-use Rattle.std.specs.Io.KnownBytes.{Appends}
-use Rattle.driver_core.specs.Outside.{HasFailed, HasRisen, IsCalm, Outside}
+use Rattle.driver_core.specs.Outside.{HasFailed, IsCalm, Outside}
 use Rattle.job_profile.specs.Named.{IsJobProfile}
 use Rattle.printer_definitions.specs.Printer.{Printer}
 use Rattle.pwg_definitions.specs.Stream.{Page, stream}

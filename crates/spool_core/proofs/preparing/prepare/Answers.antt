@@ -1,4 +1,4 @@
-use Rattle.std.proofs.Common.{◌≡◌, [], Ok, List, ℕ, Option, arith, refl, sym, ap, subst, ◌∙◌, map}
+use Rattle.std.proofs.Common.{[], Ok, List, ℕ, Option, arith, refl, sym, subst, map}
 use Rattle.std.proofs.lemmas.Result.{err_from_is_err_and}
 use Rattle.driver_core.specs.Outside.{texts_of}
 use Rattle.job_profile.specs.Named.{IsJobProfile}

@@ -1,8 +1,7 @@
-use Rattle.std.proofs.Common.{◌≡◌, ◌∙◌, List, ℕ, subst, sym, refl, Option, Result, Ok, Err, false, OnOk}
-use Rattle.std.specs.Io.KnownBytes.{Appends}
+use Rattle.std.proofs.Common.{◌≡◌, ◌∙◌, refl}
 use Rattle.driver_core.specs.Outside.{outside_of}
 use Rattle.spool_core.specs.Answers.{report_lines, spool_line}
-use Rattle.spool_core.proofs.Reports.{all_told, tells_both, tells_part}
+use Rattle.spool_core.proofs.Reports.{all_told, tells_both}
 use Rattle.spool_core.proofs.report.tell.Goals as goal
 
 pub returns : goal.returns

@@ -1,6 +1,5 @@
-use Rattle.std.proofs.Common.{◌≡◌, ◌<◌, ◌≤◌, length, List, ℕ, arith, refl, sym, ap, subst, ◌∙◌, take, Err, Result, Ok, Option}
+use Rattle.std.proofs.Common.{arith, ◌∙◌}
 use Rattle.std.proofs.lemmas.Result.{err_from_is_err_and}
-use Rattle.spool_core.specs.Answers.{report_line}
 use Rattle.spool_core.proofs.Reports.{lines_so_far, part_of_lines}
 use Rattle.spool_core.proofs.report.tell_done.Goals as goal
 

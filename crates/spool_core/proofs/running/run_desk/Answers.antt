@@ -1,8 +1,8 @@
-use Rattle.std.proofs.Common.{◌≡◌, ◌≤◌, ◌<◌, ◌^◌, ◌++◌, List, length, arith, subst}
+use Rattle.std.proofs.Common.{◌≡◌, ◌≤◌, ◌++◌, List, length, arith, subst}
 use Rattle.diffusion_kernel.specs.Tables.{table_of}
 use Rattle.driver_core.specs.Outside.{meters_of, outside_of}
 use Rattle.spool_queue.specs.Jobs.{AreSent, Stream, count_sent, sent_by}
-use Rattle.spool_queue.specs.Passes.{sent_lists, taken_of}
+use Rattle.spool_queue.specs.Passes.{taken_of}
 use Rattle.spool_queue.specs.declared.job.SpoolJob.{SpoolJob}
 use Rattle.spool_core.specs.Senders.{lists_in}
 use Rattle.spool_core.proofs.Runs.{came_to, few_done, plain_jobs}

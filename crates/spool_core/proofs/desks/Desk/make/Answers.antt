@@ -1,4 +1,4 @@
-use Rattle.std.proofs.Common.{◌≡◌, ◌<◌, ◌≤◌, ◌^◌, arith, refl, sym, ap, subst, ◌∙◌, List, map, All, length, [], vec_capacity}
+use Rattle.std.proofs.Common.{◌≡◌, ◌≤◌, arith, sym, ap, subst, ◌∙◌, List, map, All, length, []}
 use Rattle.std.proofs.lemmas.List.{length-map}
 use Rattle.spool_queue.specs.Jobs.{Stream, count_sent}
 use Rattle.spool_queue.specs.Passes.{IsSenderOf, sender_of, sent_of}
