@@ -7,17 +7,23 @@ use weave_base::InkSet;
 // The numbers of the colours black, cyan, magenta and yellow, in the order in which they are fired.
 const COLOURS: [u8; 4] = [0, 2, 1, 4];
 
-// The amounts of black, cyan, magenta and yellow of a pixel.
-fn amounts(inks: InkSet, pixel: Pixel) -> [u8; 4] {
-    match (inks, pixel) {
-        (InkSet::Cmy, Pixel::Grey(dark)) => [0, dark, dark, dark],
-        (_, Pixel::Grey(dark)) => [dark, 0, 0, 0],
-        (InkSet::K, Pixel::Colour(red, green, blue)) => {
+// The amounts of black, cyan, magenta and yellow of a grey pixel.
+fn grey_amounts(inks: InkSet, dark: u8) -> [u8; 4] {
+    match inks {
+        InkSet::Cmy => [0, dark, dark, dark],
+        InkSet::K | InkSet::Cmyk => [dark, 0, 0, 0],
+    }
+}
+
+// Those of a pixel of three colours.
+fn colour_amounts(inks: InkSet, red: u8, green: u8, blue: u8) -> [u8; 4] {
+    match inks {
+        InkSet::K => {
             let light = (77 * u32::from(red) + 150 * u32::from(green) + 29 * u32::from(blue)) / 256;
             [255 - u8::try_from(light).unwrap_or(255), 0, 0, 0]
         }
-        (InkSet::Cmy, Pixel::Colour(red, green, blue)) => [0, 255 - red, 255 - green, 255 - blue],
-        (InkSet::Cmyk, Pixel::Colour(red, green, blue)) => {
+        InkSet::Cmy => [0, 255 - red, 255 - green, 255 - blue],
+        InkSet::Cmyk => {
             let lightest = red.max(green).max(blue);
             [
                 255 - lightest,
@@ -26,6 +32,13 @@ fn amounts(inks: InkSet, pixel: Pixel) -> [u8; 4] {
                 lightest.saturating_sub(blue),
             ]
         }
+    }
+}
+
+fn amounts(inks: InkSet, pixel: Pixel) -> [u8; 4] {
+    match pixel {
+        Pixel::Grey(dark) => grey_amounts(inks, dark),
+        Pixel::Colour(red, green, blue) => colour_amounts(inks, red, green, blue),
     }
 }
 

@@ -47,8 +47,12 @@ fn every_failing_write_leaves_its_prefix(rt: HostRuntime) -> Result<(), Fail> {
 
 // The canonical text of the printer `tiny`.
 const TINY: &str =
-    "escp2-profile 1\nhdpi=360\nvdpi=360\nnozzles=3\npitch=2\ninks=k\nblack_start=0\n\
-    limit_k=255\nlimit_c=255\nlimit_m=255\nlimit_y=255\nleft=0\nright=0\ntop=4\nbottom=0\n";
+    "escp2-profile 2\nhdpi=360\nvdpi=360\nnozzles=3\npitch=2\ninks=k\nblack_start=0\n\
+    limit_k=255\nlimit_c=255\nlimit_m=255\nlimit_y=255\nleft=0\nright=0\ntop=4\nbottom=0\n\
+    curve_k=0,16,32,48,64,80,96,112,128,144,160,176,192,208,224,240,256\n\
+    curve_c=0,16,32,48,64,80,96,112,128,144,160,176,192,208,224,240,256\n\
+    curve_m=0,16,32,48,64,80,96,112,128,144,160,176,192,208,224,240,256\n\
+    curve_y=0,16,32,48,64,80,96,112,128,144,160,176,192,208,224,240,256\n";
 
 // Words that read no input, and what they write.
 const LINES: [(&[&str], &str); 2] = [
