@@ -400,8 +400,8 @@ fn send_word(alloc: Global, name: &str, count: u32) -> Result<String, Fail> {
     Ok(word)
 }
 
-// Runs eight senders of so many jobs each, every one with a stream of so many black pages. Stops the test where one of
-// them is not there, not in its order, or ends otherwise.
+// Runs eight senders of so many jobs each, every one with a stream of so many black pages, by 64 workers. Stops the
+// test where one of them is not there, not in its order, or ends otherwise.
 fn run_eight<R: Abort + Threads + Wait + Sync>(
     rt: &R,
     alloc: Global,
@@ -412,6 +412,7 @@ fn run_eight<R: Abort + Threads + Wait + Sync>(
     let send = word.as_str();
     let texts = [
         "profile=tiny",
+        "workers=64",
         send,
         send,
         send,
@@ -443,7 +444,7 @@ fn eight_senders_of_64_names_are_printed(rt: HostRuntime) -> Result<(), Fail> {
 
 #[test]
 fn every_run_has_each_sender_in_its_order(rt: HostRuntime) -> Result<(), Fail> {
-    for _ in 0..200 {
+    for _ in 0..1000 {
         run_eight(&rt, rt.alloc(), (3, 0), (9, 3))?;
     }
     Ok(())
