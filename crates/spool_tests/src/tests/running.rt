@@ -1,7 +1,8 @@
 //! Runs of the spool over files in memory.
 use super::same;
+use super::words::words_of;
 use driver_core::OpenGate;
-use driver_fixtures::{BLACK_BODY, add_page, begin, roomy, words};
+use driver_fixtures::{BLACK_BODY, add_page, begin, roomy};
 use ink_meter::{DotMeter, Meter, can_settle, settle};
 use known_jobs::TINY_JOB;
 use pwg_header::Kind;
@@ -55,7 +56,7 @@ fn run_words<R: Threads + Wait + Sync>(
     mut out: MemSink,
     cap: u64,
 ) -> Result<Left, Fail> {
-    let words = words(alloc, texts)?;
+    let words = words_of(alloc, texts)?;
     let mut err = roomy(alloc)?;
     let mut meter = DotMeter::make();
     meter.set_cap(cap);

@@ -12,7 +12,7 @@ use std::process::Abort;
 use std::test::*;
 
 // The words of a line, of which there are at most twelve.
-fn words_of(alloc: Global, line: &[&str]) -> Result<Words, Fail> {
+pub(super) fn words_of(alloc: Global, line: &[&str]) -> Result<Words, Fail> {
     let mut words = Words::make(alloc);
     for word in line {
         if words.len() < 12 {
