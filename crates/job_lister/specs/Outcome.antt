@@ -23,7 +23,7 @@ pub record ListsToStop (most : ℕ) (input out : Outside) (offset : ℕ) (cause 
   pub writes : Appends out.before out.now (listing entries)
 
 -- All commands of what was taken are listed, and more bytes could mend where it stops.
-pub record ListsSome (most : ℕ) (input out : Outside) : Type 0 where
+pub record ListsTaken (most : ℕ) (input out : Outside) : Type 0 where
   pub entries : List Entry
   pub takes : TakesAllCommands most input.before input.now entries
   pub writes : Appends out.before out.now (listing entries)
@@ -38,6 +38,6 @@ pub record ListsPart (most : ℕ) (input out : Outside) : Type 0 where
 abbrev pub ListOutcome : ℕ → Outside → Outside → Result (Unit {0}) ListStop → Type 0
 ListOutcome most input out (Ok u) = ListsAll most input out
 ListOutcome most input out (Err (stop.Job offset cause)) = ListsToStop most input out offset cause
-ListOutcome most input out (Err stop.Read) = HasRisen input × ListsSome most input out
+ListOutcome most input out (Err stop.Read) = HasRisen input × ListsTaken most input out
 ListOutcome most input out (Err stop.Write) = HasRisen out × ListsPart most input out
-ListOutcome most input out (Err stop.Memory) = ListsSome most input out
+ListOutcome most input out (Err stop.Memory) = ListsTaken most input out

@@ -6,7 +6,7 @@ use Rattle.driver_answer.specs.declared.answer.Answer.{Answer}
 use Rattle.escp2_definitions.specs.declared.stops.JobStop.{JobStop}
 use Rattle.escp2_definitions.specs.JobEnds.{job_end, stopped}
 use Rattle.job_feed.specs.Jobs.{Ends, MeetsStop}
-use Rattle.job_lister.specs.Outcome.{ListsAll, ListsPart, ListsSome, ListsToStop}
+use Rattle.job_lister.specs.Outcome.{ListsAll, ListsPart, ListsTaken, ListsToStop}
 use Rattle.driver_core.specs.Outside.{HasRisen, IsCalm, Outside}
 use Rattle.driver_core.specs.Listing.Outcome.{ListOutcome}
 use Rattle.driver_core.proofs.Runs.Statuses.{is_done, is_job, is_memory, is_read, is_write}
@@ -23,11 +23,11 @@ list_stop most input out s a does e eight =
     (at.0, at.1, subst (ListOutcome most input out) at.2 does, at.2)
 
 pub list_read : (most : ℕ) (input out : Outside) (s : ℕ) (a : Answer)
-    → ListOutcome most input out a → s ≡ status_of a → s ≡ 4 → HasRisen input × ListsSome most input out
+    → ListOutcome most input out a → s ≡ status_of a → s ≡ 4 → HasRisen input × ListsTaken most input out
 list_read most input out s a does e four = subst (ListOutcome most input out) (is_read a (sym four ∙ e)) does
 
 pub list_some : (most : ℕ) (input out : Outside) (s : ℕ) (a : Answer)
-    → ListOutcome most input out a → s ≡ status_of a → (s ≡ 4) ⊎ (s ≡ 7) → ListsSome most input out
+    → ListOutcome most input out a → s ≡ status_of a → (s ≡ 4) ⊎ (s ≡ 7) → ListsTaken most input out
 list_some most input out s a does e (inl four) = (list_read most input out s a does e four).1
 list_some most input out s a does e (inr seven) = subst (ListOutcome most input out) (is_memory a (sym seven ∙ e)) does
 

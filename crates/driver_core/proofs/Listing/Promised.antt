@@ -51,7 +51,7 @@ pub list_promises : (words : List (List ℕ)) (o : Outsides) (err : Outside) (a 
 list_promises words o err a s outcome told is = record {
   listed = λ job asks zero. list_done job.most o.input o.out s a (lists words job o a asks outcome).lists is zero;
   listed_to_stop = λ job asks eight. list_eight words o err a s job outcome told is asks eight;
-  listed_some = λ job asks which. list_some job.most o.input o.out s a (lists words job o a asks outcome).lists is which;
+  listed_taken = λ job asks which. list_some job.most o.input o.out s a (lists words job o a asks outcome).lists is which;
   listed_part = λ job asks five. list_five words o err a s job outcome told is asks five;
   valid_list = λ job bytes asks before whole calm_in calm_out.
       list_calm job.most o.input o.out s a bytes (lists words job o a asks outcome).lists is before whole calm_in calm_out;

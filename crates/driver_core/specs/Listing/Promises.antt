@@ -3,7 +3,7 @@ use Rattle.std.specs.Prelude.{◌≡◌, ℕ, ◌⊎◌, List, Some, None}
 use Rattle.driver_answer.specs.declared.answer.Answer.TheVariants as answer
 use Rattle.escp2_definitions.specs.declared.stops.JobStop.{JobStop}
 use Rattle.escp2_definitions.specs.JobEnds.{job_end, stopped}
-use Rattle.job_lister.specs.Outcome.{ListsAll, ListsPart, ListsSome, ListsToStop}
+use Rattle.job_lister.specs.Outcome.{ListsAll, ListsPart, ListsTaken, ListsToStop}
 use Rattle.job_words.specs.declared.reading.Job.{Job}
 use Rattle.driver_core.specs.Outside.{IsCalm, Outside, Outsides}
 use Rattle.driver_core.specs.Runs.Outcome.{Tells}
@@ -19,7 +19,7 @@ pub record ListPromises (words : List (List ℕ)) (o : Outsides) (err : Outside)
       → (offset : ℕ) × (cause : JobStop) × ListsToStop job.most o.input o.out offset cause × Tells err (answer.Job offset cause)
   -- On 4 and 7 all commands of what was read are listed, and more bytes could mend where it stops; on 5 a proper prefix
   -- of the listing was written.
-  pub listed_some : (job : Job) → AsksForList words job → (status ≡ 4) ⊎ (status ≡ 7) → ListsSome job.most o.input o.out
+  pub listed_taken : (job : Job) → AsksForList words job → (status ≡ 4) ⊎ (status ≡ 7) → ListsTaken job.most o.input o.out
   pub listed_part : (job : Job) → AsksForList words job → status ≡ 5
       → ListsPart job.most o.input o.out × Tells err (answer.Write 0)
   -- Where nothing fails, the job itself decides between 0 and 8.
