@@ -1,0 +1,183 @@
+//! Each small head over black windows of eight columns.
+use crate::shots::{Shot, shots_of};
+use driver_fixtures::{add_page, begin, one_file, plain, roomy, run_over};
+use pwg_header::Kind;
+use std::alloc::Global;
+use std::process::Abort;
+use std::test::Fail;
+use std::thread::Threads;
+
+// A head and a window: how many nozzles, how many rows they stand apart, and the rows of the window.
+#[derive(Clone, Copy, Debug)]
+struct Work {
+    nozzles: u32,
+    pitch: u32,
+    rows: u32,
+}
+
+impl Work {
+    // The rows above the window, which the head needs.
+    fn top(self) -> u32 {
+        self.nozzles.saturating_sub(1).wrapping_mul(self.pitch)
+    }
+}
+
+// The greatest number by which both can be divided.
+fn divisor(a: u32, b: u32) -> u32 {
+    (1..=b)
+        .rev()
+        .find(|d| { a.checked_rem(*d) == Some(0) && b.checked_rem(*d) == Some(0) })
+        .unwrap_or(0)
+}
+
+// The job of a black page by these words after `print profile=mine`.
+fn job_of<R: Abort + Threads + Sync>(
+    rt: &R,
+    alloc: Global,
+    work: Work,
+    word: &str,
+) -> Result<Vec<u8>, Fail> {
+    let height = work.rows.wrapping_add(work.top());
+    let text = format!(in alloc;
+        "escp2-profile 1\nhdpi=360\nvdpi=360\nnozzles={}\npitch={}\ninks=k\ntop={}\n",
+        work.nozzles,
+        work.pitch,
+        work.top()
+    )?;
+    let mut page = begin(alloc)?;
+    let lines = u8::try_from(height.saturating_sub(1)).unwrap_or(255);
+    add_page(&mut page, Kind::Gray8, (8, height), &[lines, 7, 0])?;
+    let left = run_over(
+        rt,
+        alloc,
+        &["print", "profile=mine", word],
+        plain(alloc, page),
+        roomy(alloc)?,
+        one_file(alloc, "mine", text.as_bytes())?,
+    )?;
+    assert!(rt; left.status == 0, "{work:?} {word}");
+    Ok(left.out.bytes().to_vec(alloc)?)
+}
+
+// Whether these shots fire each row of the window with each of the dots once, by live nozzles, and nothing else.
+fn are_once(shots: &[Shot], work: Work, dots: &[u8], dead: &[u32]) -> bool {
+    let rows = work.top()..work.top().wrapping_add(work.rows);
+    let mut once = shots.len() == dots.len().wrapping_mul(work.rows as usize);
+    for row in rows {
+        for wanted in dots {
+            let found = shots
+                .iter()
+                .filter(|shot| shot.row == row as usize && shot.dots == *wanted)
+                .count();
+            once &= found == 1;
+        }
+    }
+    once && !shots
+        .iter()
+        .any(|shot| dead.iter().any(|n| *n as usize == shot.nozzle))
+}
+
+// The word that lists dead nozzles; a word that changes nothing where there is none.
+fn dead_word(alloc: Global, dead: &[u32]) -> Result<String, Fail> {
+    let mut word = String::new(alloc);
+    for nozzle in dead {
+        let next = format!(in alloc; "{}{}", if word.is_empty() { "dead=" } else { "," }, nozzle)?;
+        word.push_str(&next)?;
+    }
+    if word.is_empty() {
+        word.push_str("workers=1")?;
+    }
+    Ok(word)
+}
+
+// The dead nozzles of a set, which is a sum of powers of two.
+fn dead_of(alloc: Global, nozzles: u32, set: u32) -> Result<Vec<u32>, Fail> {
+    let mut dead = Vec::new(alloc);
+    for (nozzle, power) in (0..nozzles).zip([1u32, 2, 4, 8, 16, 32]) {
+        if set & power != 0 {
+            dead.push(nozzle)?;
+        }
+    }
+    Ok(dead)
+}
+
+// Prints the windows of a head around a set of dead nozzles.
+fn try_set<R: Abort + Threads + Sync>(
+    rt: &R,
+    alloc: Global,
+    (nozzles, pitch): (u32, u32),
+    set: u32,
+) -> Result<(), Fail> {
+    let dead = dead_of(alloc, nozzles, set)?;
+    let word = dead_word(alloc, &dead)?;
+    for rows in 1..=30 {
+        let work = Work {
+            nozzles,
+            pitch,
+            rows,
+        };
+        let job = job_of(rt, alloc, work, &word)?;
+        let shots = shots_of(alloc, &job, pitch as usize)?;
+        assert!(rt; are_once(&shots, work, &[0xFF], &dead), "{work:?} {word}");
+    }
+    Ok(())
+}
+
+// Prints them around every set of dead nozzles that leaves one.
+fn try_sets<R: Abort + Threads + Sync>(
+    rt: &R,
+    alloc: Global,
+    head: (u32, u32),
+    sets: u32,
+) -> Result<(), Fail> {
+    for set in 0..sets.saturating_sub(1) {
+        try_set(rt, alloc, head, set)?;
+    }
+    Ok(())
+}
+
+#[test]
+fn every_set_of_dead_nozzles_of_small_heads_is_made_up(rt: HostRuntime) -> Result<(), Fail> {
+    for (nozzles, sets) in (1..=6).zip([2u32, 4, 8, 16, 32, 64]) {
+        for pitch in 1..=6 {
+            if divisor(nozzles, pitch) == 1 {
+                try_sets(&rt, rt.alloc(), (nozzles, pitch), sets)?;
+            }
+        }
+    }
+    Ok(())
+}
+
+// Prints the windows of a head in shingled passes.
+fn try_shingles<R: Abort + Threads + Sync>(
+    rt: &R,
+    alloc: Global,
+    (nozzles, pitch): (u32, u32),
+) -> Result<(), Fail> {
+    for rows in 1..=40 {
+        let work = Work {
+            nozzles,
+            pitch,
+            rows,
+        };
+        let job = job_of(rt, alloc, work, "shingle=1")?;
+        let shots = shots_of(alloc, &job, pitch as usize)?;
+        assert!(rt;
+            are_once(&shots, work, &[0xAA, 0x55], &[]),
+            "{work:?} shingled"
+        );
+    }
+    Ok(())
+}
+
+#[test]
+fn small_heads_shingle_each_row(rt: HostRuntime) -> Result<(), Fail> {
+    for nozzles in 2..=12 {
+        for pitch in 1..=12 {
+            if divisor(nozzles, pitch) == 1 && divisor(nozzles / 2, pitch) == 1 {
+                try_shingles(&rt, rt.alloc(), (nozzles, pitch))?;
+            }
+        }
+    }
+    Ok(())
+}
