@@ -3,4 +3,6 @@ pub mod Steps
 pub mod Feeding
 pub mod Ends
 pub mod Sixteens
-pub mod Even
+pub mod Passing
+pub mod Triples
+pub mod Lanes

@@ -4,18 +4,19 @@ use Rattle.std.proofs.Common.{List, [], ◌∷◌, ◌++◌, length, take, drop,
 use Rattle.std.proofs.Common.{append-nil, length-append, length-drop, eq-eqb}
 use Rattle.std.specs.List.{flat_map, filter}
 use Rattle.std.proofs.lemmas.Bool.{cases_lt, eqb-true}
-use Rattle.std.proofs.lemmas.List.{drop_all, length-replicate, length-take-le}
+use Rattle.std.proofs.lemmas.List.{drop_all, get_or-drop, length-replicate, length-take-le}
 use Rattle.std.proofs.lemmas.Slice.{take-put_mid}
-use Rattle.std.proofs.Math.Seq.{take-append-add}
+use Rattle.std.proofs.Math.Seq.{take-append-add, take-append_seam}
 use borrow.Rule.Slice.PartMut.{put_mid}
 use Rattle.escp2_definitions.specs.RowCode.{RowPacket, packet_code, packet_row}
 use Rattle.escp2_definitions.specs.RowCode.RowPacket.{Bytes, Repeat}
 use Rattle.escp2_definitions.specs.Least.{cost_from, costs, equal_at, least_packet, least_row, literals, packets_at, packets_from, runs}
-use Rattle.escp2_rows.specs.Literals.{IsLongest, LongestSoFar}
+use Rattle.escp2_rows.specs.Literals.{IsLongest, LongestSoFar, WritesFirst}
 use Rattle.escp2_laws.proofs.Fewest.{ByLiteral, ByRun, cost_is, costs_drop, equal_within, equal_is, fewest, first_step, length_costs, literal_costs}
 use Rattle.escp2_laws.proofs.Fewest.{run_costs, same, same_cons, same_within}
 use Rattle.escp2_laws.proofs.Least.{IsFirst, first_of_row}
 use Rattle.escp2_rows.proofs.Ends.{entry_small, run_longest}
+use Rattle.escp2_rows.proofs.Passing.{run_is_least}
 
 -- ---- which packet is the first one that passes
 
@@ -222,6 +223,17 @@ same_front byte (suc n) (b ∷ row) within are =
     same_cons byte b row ∙ ap (λ t. if t then 1 + same byte row else 0) (eq-eqb b byte (are 0 (omega arith))) in
     omega (arith, rest, more)
 
+-- as many, where the next one is another
+pub same_none : (byte n : ℕ) (row : List ℕ) → n < length row → ((i : ℕ) → i < n → get_or row i 0 ≡ byte) → get_or row n 0 ≢ byte → n ≡ same byte row
+same_none byte n row less are other = omega (arith, same_front byte n row (omega arith) are, none (drop n row) (omega (arith, length-drop n row)) first)
+  where
+    first : get_or (drop n row) 0 0 ≢ byte
+    first e = other (ap (λ k. get_or row k 0) (let e : n ≡ n + 0 = omega arith in e) ∙ sym (get_or-drop n row 0 0) ∙ e)
+
+    none : (rest : List ℕ) → 0 < length rest → get_or rest 0 0 ≢ byte → same byte rest ≡ 0
+    none [] some other = absurd (omega arith)
+    none (b ∷ rest) some other = same_cons byte b rest ∙ ap (λ t. if t then 1 + same byte rest else 0) (not_equal b byte other)
+
 pub equal_counted : (row : List ℕ) (first count : ℕ) → first ≡ min (length row) 128 → count ≡ same (get_or row 0 0) (take first row) → count ≡ equal_at row
 equal_counted row first count first_is counted =
     omega (arith, counted, first_is, same_take (get_or row 0 0) first row, same_within (get_or row 0 0) row, equal_is row)
@@ -252,46 +264,52 @@ literal_stays row table count least cost is so_far first there le =
 
 -- ---- the packet that is written
 
-run_is : (row table : List ℕ) (n : ℕ) → 0 < length row → table ≡ costs row → n ≡ equal_at row → 2 ≤ n → get_or table n 0 + 2 ≡ get_or table 0 0
-    → least_packet row ≡ Repeat n (get_or row 0 0)
-run_is row table n some is equal many reached =
-    let cost : get_or table n 0 ≡ fewest (drop (equal_at row) row) =
-    ap (λ k. get_or table k 0) equal ∙ entry_is row table (equal_at row) is (equal_within row).1 in
-    least_run row some (omega arith) (omega (arith, cost, entry_is row table 0 is (omega arith), reached))
-    ∙ ap (λ k. Repeat k (get_or row 0 0)) (sym equal)
+pub run_first : (row out : List ℕ) (n : ℕ) → n ≡ equal_at row → 2 ≤ n → 2 * length row ≤ length out
+    → WritesFirst row n 2 (set (set out 0 (257 - n)) 1 (get_or row 0 0))
+run_first row out n equal many room =
+    let some : 0 < length row = omega (arith, equal, many, (equal_within row).1) in
+    let is : least_packet row ≡ Repeat n (get_or row 0 0) =
+    least_run row some (omega arith) (run_is_least row (omega arith)) ∙ ap (λ k. Repeat k (get_or row 0 0)) (sym equal) in
+    record {
+      code_is = coded out (omega (arith, equal, many, room, (equal_within row).1)) ∙ ap packet_code (sym is);
+      bytes_are = sym (length-replicate {A = ℕ} n (get_or row 0 0)) ∙ ap (λ p. length (packet_row p)) (sym is);
+      some = omega arith;
+      within = omega (arith, equal, (equal_within row).1);
+      short = omega arith;
+    }
+  where
+    coded : (out : List ℕ) → 2 ≤ length out → take 2 (set (set out 0 (257 - n)) 1 (get_or row 0 0)) ≡ (257 - n) ∷ get_or row 0 0 ∷ []
+    coded [] room = absurd (omega arith)
+    coded (a ∷ []) room = absurd (omega arith)
+    coded (a ∷ b ∷ out) room = refl
 
-pub run_coded : (row table out : List ℕ) (n : ℕ) → 0 < length row → 2 ≤ length out → table ≡ costs row → n ≡ equal_at row → 2 ≤ n
-    → get_or table n 0 + 2 ≡ get_or table 0 0 → take 2 (set (set out 0 (257 - n)) 1 (get_or row 0 0)) ≡ packet_code (least_packet row)
-run_coded row table [] n some room is equal many reached = absurd (omega arith)
-run_coded row table (a ∷ []) n some room is equal many reached = absurd (omega arith)
-run_coded row table (a ∷ b ∷ out) n some room is equal many reached = ap packet_code (sym (run_is row table n some is equal many reached))
+no_run : (row : List ℕ) → equal_at row ≡ 1 → 2 ≤ equal_at row → fewest row ≢ 2 + fewest (drop (equal_at row) row)
+no_run row alone many = absurd (omega arith)
 
-pub run_counted : (row table : List ℕ) (n : ℕ) → 0 < length row → table ≡ costs row → n ≡ equal_at row → 2 ≤ n
-    → get_or table n 0 + 2 ≡ get_or table 0 0 → n ≡ length (packet_row (least_packet row))
-run_counted row table n some is equal many reached =
-    sym (length-replicate {A = ℕ} n (get_or row 0 0)) ∙ ap (λ p. length (packet_row p)) (sym (run_is row table n some is equal many reached))
+pub literal_first : (row out bytes : List ℕ) (n k : ℕ) → equal_at row ≡ 1 → IsLongest row n → 2 * length row ≤ length out → bytes ≡ take n row
+    → WritesFirst row n (1 + n) (put_mid 1 k (set out 0 (n - 1)) bytes)
+literal_first row out bytes n k alone longest room are =
+    let is : least_packet row ≡ Bytes (take n row) = least_literal row n (omega (arith, longest.some, longest.within)) (no_run row alone) longest in
+    let len : length (take n row) ≡ n = length-take-le n row longest.within in
+    record {
+      code_is = coded out (omega (arith, longest.some, longest.within, room)) ∙ ap packet_code (sym is);
+      bytes_are = sym len ∙ ap (λ p. length (packet_row p)) (sym is);
+      some = longest.some;
+      within = longest.within;
+      short = omega (arith, longest.some);
+    }
+  where
+    coded : (out : List ℕ) → n < length out → take (1 + n) (put_mid 1 k (set out 0 (n - 1)) bytes) ≡ packet_code (Bytes (take n row))
+    coded [] room = absurd (omega arith)
+    coded (a ∷ out) room =
+        let len : length (take n row) ≡ n = length-take-le n row longest.within in
+        take-put_mid 1 k (set (a ∷ out) 0 (n - 1)) bytes (1 + n) (omega (arith, len, ap length are)) (omega arith)
+        ∙ ap (λ bs. (n - 1) ∷ bs) are
+        ∙ ap (λ k. (k - 1) ∷ take n row) (sym len)
 
-pub no_run_is : (row table : List ℕ) (n : ℕ) → table ≡ costs row → n ≡ equal_at row → (2 ≤ n → get_or table n 0 + 2 ≢ get_or table 0 0)
-    → 2 ≤ equal_at row → fewest row ≢ 2 + fewest (drop (equal_at row) row)
-no_run_is row table n is equal apart many = λ e.
-    let cost : get_or table n 0 ≡ fewest (drop (equal_at row) row) =
-    ap (λ k. get_or table k 0) equal ∙ entry_is row table (equal_at row) is (equal_within row).1 in
-    apart (omega arith) (omega (arith, e, cost, entry_is row table 0 is (omega arith)))
-
-pub literal_coded : (row out bytes : List ℕ) (n k : ℕ) → 0 < length row → (2 ≤ equal_at row → fewest row ≢ 2 + fewest (drop (equal_at row) row))
-    → IsLongest row n → n < length out → bytes ≡ take n row → take (1 + n) (put_mid 1 k (set out 0 (n - 1)) bytes) ≡ packet_code (least_packet row)
-literal_coded row [] bytes n k some no_run is room are = absurd (omega arith)
-literal_coded row (a ∷ out) bytes n k some no_run is room are =
-    let len : length (take n row) ≡ n = length-take-le n row is.within in
-    take-put_mid 1 k (set (a ∷ out) 0 (n - 1)) bytes (1 + n) (omega (arith, len, ap length are)) (omega arith)
-    ∙ ap (λ bs. (n - 1) ∷ bs) are
-    ∙ ap (λ k. (k - 1) ∷ take n row) (sym len)
-    ∙ ap packet_code (sym (least_literal row n some no_run is))
-
-pub literal_counted : (row : List ℕ) (n : ℕ) → 0 < length row → (2 ≤ equal_at row → fewest row ≢ 2 + fewest (drop (equal_at row) row))
-    → IsLongest row n → n ≡ length (packet_row (least_packet row))
-literal_counted row n some no_run is =
-    sym (length-take-le n row is.within) ∙ ap (λ p. length (packet_row p)) (sym (least_literal row n some no_run is))
+-- the same, of a row that is told in another way
+pub first_on : {row row' : List ℕ} {n code : ℕ} {out : List ℕ} → row ≡ row' → WritesFirst row n code out → WritesFirst row' n code out
+first_on {row} {row'} {n} {code} {out} e written = let P : List ℕ → Type 0 = λ bs. WritesFirst bs n code out in subst P e written
 
 pub costs_behind : (row : List ℕ) (at : ℕ) → at ≤ length row → drop at (costs row) ≡ costs (drop at row)
 unfolding costs
@@ -330,15 +348,6 @@ unfolding packets_from
 packets-more most [] some = absurd (omega arith)
 packets-more most (b ∷ rest) some = refl
 
--- What a packet is written as, in the bytes after those that are written.
-pub record IsWritten (rest part part' : List ℕ) (row code : ℕ) : Type 0 where
-  pub coded : take code part' ≡ packet_code (least_packet rest)
-  pub counted : row ≡ length (packet_row (least_packet rest))
-  pub some : 1 ≤ row
-  pub within : row ≤ length rest
-  pub short : code ≤ 2 * row
-  pub len : length part' ≡ length part
-
 -- bytes up to the last one are written
 put_mid-end : (out part : List ℕ) (len k : ℕ) → k ≡ length out - len → put_mid len k out part ≡ take len out ++ part
 put_mid-end out part len k all =
@@ -346,10 +355,10 @@ put_mid-end out part len k all =
     ∙ ap (λ bs. take len out ++ bs) (append-nil part)
 
 -- one more packet is coded
-row-more : (row out part part' out' rest : List ℕ) (len count code : ℕ) → RowSoFar row out len rest → 0 < length rest
-    → IsWritten rest part part' count code → length part ≡ length out - len → out' ≡ take len out ++ part'
+row-more : (row out part' out' rest : List ℕ) (len count code : ℕ) → RowSoFar row out len rest → 0 < length rest
+    → WritesFirst rest count code part' → length part' ≡ length out - len → out' ≡ take len out ++ part'
     → RowSoFar row out' (len + code) (drop count rest)
-row-more row out part part' out' rest len count code so_far some written part_len put =
+row-more row out part' out' rest len count code so_far some written part_len put =
     let n : ℕ = length (packet_row (least_packet rest)) in
     let more : so_far.most ≡ suc (so_far.most - 1) = omega (arith, so_far.enough) in
     let front_len : length (take len out) ≡ len = length-take-le len out (omega (arith, so_far.room)) in
@@ -357,7 +366,7 @@ row-more row out part part' out' rest len count code so_far some written part_le
     ap (take (len + code)) put
     ∙ ap (λ k. take (k + code) (take len out ++ part')) (sym front_len)
     ∙ take-append-add (take len out) part' code
-    ∙ ap (λ bs. take len out ++ bs) written.coded in
+    ∙ ap (λ bs. take len out ++ bs) written.code_is in
     let codes : List ℕ = flat_map packet_code (packets_from (so_far.most - 1) (drop count rest)) in
     record {
       room = omega (
@@ -365,7 +374,6 @@ row-more row out part part' out' rest len count code so_far some written part_le
         so_far.room,
         written.short,
         written.within,
-        written.len,
         length-drop count rest,
         part_len,
         ap length put,
@@ -379,20 +387,52 @@ row-more row out part part' out' rest len count code so_far some written part_le
           ∙ ap (λ k. take len out ++ flat_map packet_code (packets_from k rest)) more
           ∙ ap (λ ps. take len out ++ flat_map packet_code ps) (packets-more (so_far.most - 1) rest some)
           ∙ ap (λ k. take len out ++ (packet_code (least_packet rest)
-          ++ flat_map packet_code (packets_from (so_far.most - 1) (drop k rest)))) (sym written.counted)
+          ++ flat_map packet_code (packets_from (so_far.most - 1) (drop k rest)))) (sym written.bytes_are)
           ∙ sym (append_assoc (take len out) (packet_code (least_packet rest)) codes)
           ∙ ap (λ bs. bs ++ codes) (sym front);
     }
 
 -- the same, as it is written
-pub row_step : {row out part part' rest rest' : List ℕ} {len count code : ℕ} → RowSoFar row out len rest → 0 < length rest
-    → IsWritten rest part part' count code → length part ≡ length out - len → rest' ≡ drop count rest
+pub row_step : {row out part' rest rest' : List ℕ} {len count code : ℕ} → RowSoFar row out len rest → 0 < length rest
+    → WritesFirst rest count code part' → length part' ≡ length out - len → rest' ≡ drop count rest
     → RowSoFar row (put_mid len (length out - len) out part') (len + code) rest'
-row_step {row} {out} {part} {part'} {rest} {rest'} {len} {count} {code} so_far some written part_len behind =
+row_step {row} {out} {part'} {rest} {rest'} {len} {count} {code} so_far some written part_len behind =
     let out' : List ℕ = put_mid len (length out - len) out part' in
     let put : out' ≡ take len out ++ part' = put_mid-end out part' len (length out - len) refl in
     let P : List ℕ → Type 0 = RowSoFar row out' (len + code) in
-    subst P (sym behind) (row-more row out part part' out' rest len count code so_far some written part_len put)
+    subst P (sym behind) (row-more row out part' out' rest len count code so_far some written part_len put)
+
+-- as many packets as a row has bytes are enough
+packets_enough : (m n : ℕ) (row : List ℕ) → length row ≤ m → length row ≤ n → packets_from m row ≡ packets_from n row
+unfolding packets_from
+packets_enough zero zero [] a b = refl
+packets_enough zero (suc n) [] a b = refl
+packets_enough (suc m) zero [] a b = refl
+packets_enough (suc m) (suc n) [] a b = refl
+packets_enough zero n (b ∷ row) few few' = absurd (omega arith)
+packets_enough (suc m) zero (b ∷ row) few few' = absurd (omega arith)
+packets_enough (suc m) (suc n) (b ∷ row) few few' =
+    let count : ℕ = length (packet_row (least_packet (b ∷ row))) in
+    let some : 1 ≤ count = (first_is (b ∷ row) (omega arith)).some in
+    let left : length (drop count (b ∷ row)) ≡ length (b ∷ row) - count = length-drop count (b ∷ row) in
+    ap (λ ps. least_packet (b ∷ row) ∷ ps) (packets_enough m n (drop count (b ∷ row)) (omega (arith, some, left)) (omega (arith, some, left)))
+
+-- the rest is coded at once
+pub row_rest : (row out part part' rest : List ℕ) (len code : ℕ) → RowSoFar row out len rest → 0 < length rest
+    → take code part' ≡ least_row rest
+    → take (len + code) (put_mid len (length (put_mid len (length out - len) out part) - len) (put_mid len (length out - len) out part) part') ≡ least_row row
+unfolding least_row
+row_rest row out part part' rest len code so_far some coded =
+    let middle : List ℕ = put_mid len (length out - len) out part in
+    let front : middle ≡ take len out ++ part = put_mid-end out part len (length out - len) refl in
+    let len_is : length (take len out) ≡ len = length-take-le len out (omega (arith, so_far.room)) in
+    let kept : take len middle ≡ take len out =
+    ap (take len) front ∙ ap (λ k. take k (take len out ++ part)) (sym len_is) ∙ take-append_seam (take len out) part in
+    ap (take (len + code)) (put_mid-end middle part' len (length middle - len) refl ∙ ap (λ bs. bs ++ part') kept)
+    ∙ ap (λ k. take (k + code) (take len out ++ part')) (sym len_is)
+    ∙ take-append-add (take len out) part' code
+    ∙ ap (λ bs. take len out ++ bs) (coded ∙ ap (flat_map packet_code) (packets_enough (length rest) so_far.most rest (omega arith) so_far.enough))
+    ∙ sym so_far.is
 
 -- the row is coded
 pub row_end : (row out rest : List ℕ) (len : ℕ) → RowSoFar row out len rest → length rest ≡ 0 → take len out ≡ least_row row

@@ -2,3 +2,4 @@ pub mod Places
 pub mod Reading
 pub mod Ends
 pub mod Literals
+pub mod Passing

@@ -14,6 +14,7 @@
 
 mod buffer;
 mod costs;
+mod literals;
 mod reader;
 mod writer;
 

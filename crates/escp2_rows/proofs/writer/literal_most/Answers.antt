@@ -10,7 +10,7 @@ pub overflow_add-least : goal.overflow_add-least
 overflow_add-least c = omega (arith, table_small c.args.row.now c.args.table.now 0 c.requires.table (omega arith), c.requires.most)
 
 pub sixteens-init : goal.sixteens-init
-sixteens-init c = longest_begin _ _ c.requires.some c.requires.no_run c.min-count.ensures
+sixteens-init c = longest_begin _ _ c.requires.some (λ many. absurd (omega (arith, many, c.requires.alone))) c.min-count.ensures
 
 pub slice_bounds-sixteen_miss-count : goal.slice_bounds-sixteen_miss-count
 slice_bounds-sixteen_miss-count c = omega (arith, table_sized c.args.row.now c.args.table.now c.requires.table, c.sixteens.invariant.within)

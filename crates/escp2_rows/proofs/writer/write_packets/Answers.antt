@@ -1,8 +1,7 @@
 use Rattle.std.proofs.Common.{◌≡◌, ℕ, ◌<◌, ◌-◌, ◌≤◌, List, length, drop, sym, ap, ◌∙◌, arith, length-drop, length-take}
 use Rattle.std.proofs.lemmas.List.{take_rest, drop-drop}
-use Rattle.escp2_definitions.specs.Least.{costs, least_packet}
-use Rattle.escp2_definitions.specs.RowCode.{packet_code, packet_row}
-use Rattle.escp2_rows.proofs.Writing.{costs_behind, row_begin, row_end, row_step, table_sized}
+use Rattle.escp2_definitions.specs.Least.{costs}
+use Rattle.escp2_rows.proofs.Writing.{costs_behind, first_on, row_begin, row_end, row_step, table_sized}
 use Rattle.escp2_rows.proofs.writer.write_packets.Goals as goal
 
 pub packets-init : goal.packets-init
@@ -32,19 +31,10 @@ pub packets-preserved : goal.packets-preserved
 packets-preserved c =
     let rest = take_rest c.args.row.now c.packets.at in
     let left = length-drop c.packets.at c.args.row.now in
-    let within : c.write_packet-written.result.row ≤ length (drop c.packets.at c.args.row.now) =
-    omega (arith, c.write_packet-written.ensures.within, ap length rest) in
+    let written = first_on rest c.write_packet-written.ensures in
     record {
-      within = omega (arith, within, left, c.packets.invariant.within);
-      so_far = row_step c.packets.invariant.so_far (omega (arith, left, c.packets-test.true))
-          (record {
-            coded = c.write_packet-written.ensures.code ∙ ap (λ bs. packet_code (least_packet bs)) rest;
-            counted = c.write_packet-written.ensures.row ∙ ap (λ bs. length (packet_row (least_packet bs))) rest;
-            some = c.write_packet-written.ensures.some;
-            within = within;
-            short = c.write_packet-written.ensures.short;
-            len = c.write_packet-written.auto.out;
-          })
-          (omega (arith, length-drop c.packets.len c.packets.out, length-take (length c.packets.out - c.packets.len) (drop c.packets.len c.packets.out)))
+      within = omega (arith, written.within, left, c.packets.invariant.within);
+      so_far = row_step c.packets.invariant.so_far (omega (arith, left, c.packets-test.true)) written
+          (omega (arith, c.write_packet-written.auto.out, length-drop c.packets.len c.packets.out, length-take (length c.packets.out - c.packets.len) (drop c.packets.len c.packets.out)))
           (sym (drop-drop c.write_packet-written.result.row c.packets.at c.args.row.now));
     }

@@ -1,5 +1,5 @@
 use Rattle.std.proofs.Common.{◌≡◌, ℕ, ◌-◌, ◌<◌, ◌≤◌, get_or, length}
-use Rattle.escp2_rows.proofs.writer.sixteens_of.Given as goal
+use Rattle.escp2_rows.proofs.literals.copies.Given as goal
 
 abbrev pub invariant-sixteens : goal.invariant-sixteens
 invariant-sixteens l = record {

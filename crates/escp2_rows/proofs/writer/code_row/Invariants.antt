@@ -1,6 +1,6 @@
 use Rattle.std.proofs.Common.{length, drop, ◌-◌, ◌≤◌}
 use Rattle.escp2_rows.proofs.Writing.{RowSoFar}
-use Rattle.escp2_rows.proofs.writer.write_even.Given as goal
+use Rattle.escp2_rows.proofs.writer.code_row.Given as goal
 
 abbrev pub invariant-packets : goal.invariant-packets
 invariant-packets l = record {

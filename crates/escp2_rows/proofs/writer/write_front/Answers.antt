@@ -1,0 +1,9 @@
+use Rattle.std.proofs.Common.{arith}
+use Rattle.escp2_rows.proofs.Passing.{equal_some}
+use Rattle.escp2_rows.proofs.writer.write_front.Goals as goal
+
+pub literal_end-requires : goal.literal_end-requires
+literal_end-requires c = omega (arith, equal_some _ c.requires.some, c.equal_bytes-equal.ensures.is, c.if-equal-ge-LEAST_RUN.false)
+
+pub write_literal-requires-clause-alone : goal.write_literal-requires-clause-alone
+write_literal-requires-clause-alone c = omega (arith, equal_some _ c.requires.some, c.equal_bytes-equal.ensures.is, c.if-equal-ge-LEAST_RUN.false)
