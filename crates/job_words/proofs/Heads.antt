@@ -1,4 +1,4 @@
--- Jobs with shingled passes or dead nozzles.
+-- Jobs with shingled passes, dead nozzles or a cap.
 use Rattle.std.proofs.Common.{◌≡◌, ℕ, Bool, true, false, ◌&&◌, ◌||◌, if◌then◌else◌, List, [], ◌∷◌, ◌++◌}
 use Rattle.std.proofs.Common.{codes, Option, Some, None, Ok, is_some, unwrap_or, refl, ap, sym, ◌∙◌, subst, arith, append-nil, append_assoc}
 use Rattle.std.specs.List.{find, list_any}
@@ -13,9 +13,9 @@ use Rattle.job_words.specs.declared.table.Verb.TheVariants as verb
 use Rattle.job_words.specs.Jobs.{IsOneWay}
 use Rattle.job_words.specs.Meaning.{asks_for_shingles, given_as, gives, job_meaning, refused}
 use Rattle.job_words.specs.Rows.{command_row}
-use Rattle.job_words.specs.Table.{CommandRow, KeyRow, dead_key, key_named, shingle_key}
+use Rattle.job_words.specs.Table.{CommandRow, KeyRow, cap_key, dead_key, key_named, shingle_key}
 use Rattle.job_words.specs.DeadLists.{dead_value}
-use Rattle.job_words.specs.Values.{is_text, shingle_value}
+use Rattle.job_words.specs.Values.{cap_value, is_text, shingle_value}
 use Rattle.job_words.proofs.Accepted.{IsGood, first_good, found_any, found_passes, words_accepted}
 use Rattle.job_words.proofs.FirstWords.{find_none}
 
@@ -145,3 +145,28 @@ whole_head words job means print trial =
     by_verb verb.Dots others print trial none = whole (command_row verb.Dots).keys others refl refl none
     by_verb verb.List others print trial none = whole (command_row verb.List).keys others refl refl none
     by_verb verb.Profile others print trial none = whole (command_row verb.Profile).keys others refl refl none
+
+-- ---- commands without a cap
+
+no_cap : (keys : List KeyRow) (words : List (List ℕ)) → is_some (key_named keys cap_key.name) ≡ false → refused keys words [] ≡ []
+    → given_as cap_key cap_value words ≡ None
+no_cap keys words unknown none =
+    ap (λ o. option_and_then cap_value (option_map value_of o)) (find_none (gives cap_key) words (no_key_on keys cap_key words [] unknown none))
+
+-- only a job that prints has a cap
+pub uncapped : (words : List (List ℕ)) (job : Job) → job_meaning words ≡ Ok job → (job.verb ≡ verb.Print → ⊥) → job.cap ≡ None
+uncapped words job means print =
+    let all = words_accepted words job means in
+    let command : CommandRow = all.0 in
+    let good = all.2 in
+    subst (λ (j : Job). j.cap ≡ None) good.job_is
+    (by_verb command.verb all.1 (λ same. print (ap (λ (j : Job). j.verb) (sym good.job_is) ∙ same))
+    (ap (λ (row : CommandRow). refused row.keys all.1 []) good.row ∙ good.none_refused))
+  where
+    by_verb : (which : Verb) (others : List (List ℕ)) → (which ≡ verb.Print → ⊥) → refused (command_row which).keys others [] ≡ []
+        → given_as cap_key cap_value others ≡ None
+    by_verb verb.Print others print none = absurd (print refl)
+    by_verb verb.Trial others print none = no_cap (command_row verb.Trial).keys others refl none
+    by_verb verb.Dots others print none = no_cap (command_row verb.Dots).keys others refl none
+    by_verb verb.List others print none = no_cap (command_row verb.List).keys others refl none
+    by_verb verb.Profile others print none = no_cap (command_row verb.Profile).keys others refl none

@@ -49,10 +49,6 @@ dots_wanted p h = flat_map (ink_wanted p h) (inks_of p.inks)
 abbrev pub wanted : Page → Printer → Table → List Dot
 wanted page p k = dots_wanted p (halftone page p k)
 
--- How many dots of an ink a page asks for.
-abbrev pub ink_count : Page → Printer → Table → Ink → ℕ
-ink_count page p k ink = count_by (λ (d : Dot). same_ink ink d.ink) (wanted page p k)
-
 -- A table of dots, by the ink's place in the printer's set, row and column, has the dots of a halftone.
 pub record HasDots (p : Printer) (h : Halftone) (width rows inks : ℕ) (dot : ℕ → ℕ → ℕ → Bool) : Type 0 where
   pub width_is : width ≡ h.width

@@ -6,7 +6,7 @@ use Rattle.job_words.proofs.Most.{most_of_job}
 use Rattle.weave_base.specs.Shelf.{NamedText}
 use Rattle.driver_core.specs.declared.preparing.Prepared.{Prepared}
 use Rattle.driver_core.specs.declared.preparing.Prepared.TheVariants as prepared
-use Rattle.driver_core.specs.Caps.{begun_by}
+use Rattle.driver_core.specs.Caps.{with_cap}
 use Rattle.driver_core.specs.Outside.{Outsides}
 use Rattle.driver_core.specs.Runs.Outcome.{Outcome}
 use Rattle.driver_core.specs.Runs.Fitting.{way_of}
@@ -35,7 +35,7 @@ ready words told (prepared.Trial job p) is = (can_be_printed words job p is.mean
 
 -- what doing it came to is the outcome of the run, by the accounts of the meters once their caps were set
 pub performed : (words : List (List ℕ)) (o : Outsides) (set : List Account) (done : Prepared) (a : Answer)
-    → IsPrepared words o.shelf.told done → set ≡ begun_by (job_in done).verb (job_in done).cap o.meters.before
+    → IsPrepared words o.shelf.told done → set ≡ with_cap (job_in done).cap o.meters.before
     → DoneOutcome done o.input o.out (record { before = set; now = o.meters.now }) a → Outcome words o a
 performed words o set (prepared.Print job p) a is caps does =
     printed words job p o set a (sym is.means) is.command_is is.profile_is caps does

@@ -20,7 +20,8 @@ use Rattle.printer_definitions.specs.Printer.{Printer}
 use Rattle.printer_profile.specs.Profiles.{built_in}
 use Rattle.weave_base.specs.Parts.{AppendsPart}
 use Rattle.driver_core.specs.Outside.{HasFailed, HasRisen, Meters, Outside, Outsides, Untouched}
-use Rattle.driver_core.specs.Caps.{begun_by}
+use Rattle.driver_core.specs.Caps.{with_cap}
+use Rattle.job_words.proofs.Heads.{uncapped}
 use Rattle.driver_core.specs.Playing.Outcome.{PlayOutcome}
 use Rattle.driver_core.specs.Printing.Outcome.{PrintOutcome}
 use Rattle.driver_core.specs.Runs.Asking.{AsksFor}
@@ -364,15 +365,8 @@ unmetered_job words job o a outcome means unprinted =
     let L : Result Job UsageFault → Type 0 = λ r. LineOutcome r (profile_named words) o a in
     by_case (subst L means outcome)
   where
-    begun : (v : Verb) → (v ≡ verb.Print → ⊥) → begun_by v job.cap o.meters.before ≡ o.meters.before
-    begun verb.Print other = absurd (other refl)
-    begun verb.Dots other = refl
-    begun verb.List other = refl
-    begun verb.Profile other = refl
-    begun verb.Trial other = refl
-
     before : (metered job o.meters).before ≡ o.meters.before
-    before = begun job.verb unprinted
+    before = ap (λ cap. with_cap cap o.meters.before) (uncapped words job means unprinted)
 
     by_verb : (v : Verb) (p : Printer) → (v ≡ verb.Print → ⊥)
         → VerbOutcome v job p o (metered job o.meters) a → o.meters.now ≡ (metered job o.meters).before

@@ -19,7 +19,7 @@ use Rattle.job_words.specs.Meaning.{job_meaning, profile_named}
 use Rattle.printer_definitions.specs.Printer.{Printer}
 use Rattle.printer_profile.specs.Profiles.{built_in}
 use Rattle.weave_base.specs.Parts.{AppendsPart}
-use Rattle.driver_core.specs.Caps.{begun_by}
+use Rattle.driver_core.specs.Caps.{with_cap}
 use Rattle.driver_core.specs.Outside.{HasFailed, HasRisen, IsCalm, Meters, Outside, Outsides, Texts, Untouched}
 use Rattle.driver_core.specs.Printing.Outcome.{PrintOutcome}
 use Rattle.driver_core.specs.Runs.Fitting.{IsProfileOf, way_of}
@@ -33,7 +33,7 @@ answer_of (Err a) = a
 
 -- the meters of a job once their caps are set
 abbrev pub metered : Job → Meters → Meters
-metered job meters = record { before = begun_by job.verb job.cap meters.before; now = meters.now }
+metered job meters = record { before = with_cap job.cap meters.before; now = meters.now }
 
 -- the outcome of a command with its profile, on meters whose caps are set
 abbrev pub VerbOutcome : Verb → Job → Printer → Outsides → Meters → Answer → Type 0
@@ -51,6 +51,12 @@ abbrev pub ProfileStopped : Job → List ℕ → Texts → ProfileStop → Type 
 ProfileStopped job name shelf (profile.Refused line cause) = IsProfileOf job shelf.told name (Err (refused_at line cause))
 ProfileStopped job name shelf profile.Failed = HasFailed shelf × (built_in name ≡ None)
 ProfileStopped job name shelf profile.Memory = built_in name ≡ None
+
+-- A job lacks its profile, by the texts of the shelf, and this is the answer.
+pub record LacksProfile (job : Job) (name : List ℕ) (shelf : Texts) (a : Answer) : Type 0 where
+  pub why : ProfileStop
+  pub stopped : ProfileStopped job name shelf why
+  pub answered : a ≡ profile_answer why
 
 -- There is no profile, and this is the answer.
 pub record NoProfile (name : List ℕ) (job : Job) (o : Outsides) (a : Answer) : Type 0 where

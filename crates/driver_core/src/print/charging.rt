@@ -1,5 +1,5 @@
 //! Counting pages on meters.
-ghost use Rattle.driver_core.specs.Caps.{begun_by};
+ghost use Rattle.driver_core.specs.Caps.{with_cap};
 ghost use Rattle.driver_answer.specs.declared.answer.Answer.TheVariants as answer;
 ghost use Rattle.driver_core.specs.Printing.Charging.{RefusesPage};
 ghost use Rattle.ink_meter.specs.Accounts.{HasRoom, added, all_inks};
@@ -7,16 +7,13 @@ ghost use Rattle.std.specs.Prelude.{All, IfErr, OnErr, OnOk, map, ◌<◌, ◌^�
 
 use driver_answer::Answer;
 use ink_meter::{InkCounts, Meter, OverCap, add_all, admit, cap_all};
-use job_words::{Job, Verb};
+use job_words::Job;
 
-/// Sets the caps of the meters, where a word gives one. Only printing counts.
+/// Sets the caps of the meters, where a word gives one, as only a job that prints does.
 pub fn set_caps(job: &Job, meters: &mut Vec<Box<dyn Meter>>)
     ensures { map (λ meter. account meter) meters.new.items
-        ≡ begun_by job.now.verb job.now.cap (map (λ meter. account meter) meters.old.items) }
+        ≡ with_cap job.now.cap (map (λ meter. account meter) meters.old.items) }
 {
-    if job.verb != Verb::Print {
-        return;
-    }
     if let Some(cap) = job.cap {
         cap_all(meters, cap);
     }
