@@ -98,7 +98,7 @@ fn costs_are_those_of_every_packet(rt: HostRuntime) {
     const LENGTHS: [usize; 10] = [1, 2, 17, 18, 34, 128, 129, 147, 372, 1024];
     let mut seed = 1;
     for len in LENGTHS {
-        for kinds in [1, 2, 3, 256] {
+        for kinds in [1, 2, 3, 16, 256] {
             let mut row = [0; 1024];
             assert!(rt; len <= 1024);
             seed = fill(&mut row[..len], kinds, seed);
