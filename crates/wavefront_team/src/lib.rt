@@ -11,11 +11,13 @@
 //! once, and the dots are the same however long tiles are held back.
 #![tactic(auto)]
 
+mod beside;
 mod diffusing;
 mod gate;
 mod laying;
 mod work;
 mod worker;
 
+pub use beside::{Share, run_beside};
 pub use diffusing::diffuse;
 pub use gate::{Gate, OpenGate, Team};
