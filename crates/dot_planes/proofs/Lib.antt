@@ -15,3 +15,4 @@ pub mod PutLaid
 pub mod Words
 pub mod BandRows
 pub mod PutBands
+pub mod GatheredRows

@@ -9,12 +9,14 @@
 //! `lay` the first dots of a row from any column on, `put_tile` the pixels of a tile in a slab, `put_band` all dots of
 //! a band of its tiles at once, `put_part` a part of a row of amounts, `copy_row` a row of amounts in all inks.
 //!
-//! `TileBits` holds the dots of one tile, 256 bytes an ink.
+//! `TileBits` holds the dots of one tile, 256 bytes an ink, and `TileAmounts` its amounts, 2048 bytes an ink. `gather`
+//! sets them wherever the rows have a pixel of the tile.
 #![tactic(auto)]
 
 mod band_rows;
 mod bit_rows;
 mod eights;
+mod gathered;
 mod ink_rows;
 mod places;
 mod planes;
@@ -22,6 +24,7 @@ mod tile_rows;
 mod tiles;
 
 pub use bit_rows::has_dot;
+pub use gathered::TileAmounts;
 pub use ink_rows::InkRows;
 pub use planes::Planes;
 pub use tiles::{TileBits, TileDots};
