@@ -53,7 +53,8 @@ fn copy_part(row: &[u8], c: u32, r: usize, from: usize, to: usize, tile: &mut [u
 impl InkRows {
     /// Sets a tile's amounts in every ink, wherever the rows have a pixel of it. All else may become anything.
     pub fn gather(&self, place: Place, out: &mut TileAmounts)
-        ensures { HasTile (amounts_of self.now) place out.new.inks }
+        ensures tile { HasTile (amounts_of self.now) place out.new.inks }
+        ensures few { self.now.inks ≤ 4 }
     {
         for ink in 0..self.inks {
             self.gather_ink(ink, place, &mut out.inks[usize::from(ink)]);

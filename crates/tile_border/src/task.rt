@@ -1,5 +1,6 @@
 //! One tile in all its inks.
-ghost use Rattle.std.specs.Prelude.{ℕ, ◌<◌, ◌≡◌};
+ghost use Rattle.dot_planes.specs.Gathered.{HasTile, amounts_of};
+ghost use Rattle.std.specs.Prelude.{ℕ, ◌<◌, ◌≡◌, ◌≤◌};
 ghost use Rattle.tile_border.specs.Works.{HasInks, IsWhole, Works, WorksInk};
 ghost use Rattle.tile_lanes.specs.Done.{window_of};
 ghost use Rattle.tile_shape.specs.Geometry.{IsTile};
@@ -7,7 +8,7 @@ ghost use Rattle.tile_shape.specs.Geometry.{IsTile};
 use crate::edges::{BottomEdge, CornerEdge, RightEdge};
 use crate::wholes::ink_is_whole;
 use diffusion_kernel::Kernel;
-use dot_planes::{InkRows, TileBits, TileDots};
+use dot_planes::{InkRows, TileAmounts, TileBits, TileDots};
 use tile_lanes::diffuse_tile;
 use tile_shape::Place;
 
@@ -62,11 +63,14 @@ pub fn work(task: Task, rows: &InkRows, kernel: Kernel) -> Done
         mut corner,
         dots: TileDots { mut bits, .. },
     } = task;
+    let mut amounts = TileAmounts::zero();
+    rows.gather(place, &mut amounts);
     for ink in 0..rows.inks() {
         work_ink(
             kernel,
             place,
             rows,
+            &amounts,
             ink,
             &mut right,
             &mut bottom,
@@ -84,11 +88,13 @@ pub fn work(task: Task, rows: &InkRows, kernel: Kernel) -> Done
     }
 }
 
-// Diffuses one ink of a tile: the edges handed in become those handed on, and all other inks stay.
+// Diffuses one ink of a tile, whose amounts are gathered: the edges handed in become those handed on, and all other
+// inks stay.
 fn work_ink(
     kernel: Kernel,
     place: Place,
     rows: &InkRows,
+    amounts: &TileAmounts,
     ink: u8,
     side: &mut RightEdge,
     band: &mut BottomEdge,
@@ -96,6 +102,8 @@ fn work_ink(
     bits: &mut TileBits,
 )
     requires tile { IsTile (window_of rows.now) place }
+    requires gathered { HasTile (amounts_of rows.now) place amounts.now.inks }
+    requires few { rows.now.inks ≤ 4 }
     requires ink { ink < rows.now.inks }
     requires inks { HasInks rows.now.inks
         (record { side = side.old; band = band.old; corner = corner.old; bits = bits.old }) }
@@ -106,9 +114,9 @@ fn work_ink(
     let at = usize::from(ink);
     diffuse_tile(
         kernel,
+        rows.shape(),
         place,
-        rows,
-        ink,
+        &amounts.inks[at],
         &mut side.inks[at],
         &mut band.inks[at],
         &mut corner.inks[at],

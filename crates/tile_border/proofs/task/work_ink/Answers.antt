@@ -1,5 +1,5 @@
 use Rattle.std.proofs.Common.{arith}
-use Rattle.tile_border.proofs.InkSteps.{read_fits, room_for, works_ink}
+use Rattle.tile_border.proofs.InkSteps.{diffuses, read_fits, room_for, works_ink}
 use Rattle.tile_border.proofs.task.work_ink.Goals as goal
 
 pub diffuse_tile-requires-clause-side_fits : goal.diffuse_tile-requires-clause-side_fits
@@ -40,4 +40,5 @@ returns c =
       room = room_for _ _ _ _ _ c.from-at.ensures c.corner.view_is c.requires.inks.corner c.requires.ink;
       read = c.index_mut-3.ensures.value;
     })
-    c.diffuse_tile.ensures.done
+    (diffuses c.args.kernel c.args.rows.now c.args.place c.args.ink c.from-at.result c.shape.result c.args.amounts.now.inks
+    c.shape.ensures.is c.from-at.ensures c.requires.ink c.requires.gathered c.diffuse_tile.ensures.done)
