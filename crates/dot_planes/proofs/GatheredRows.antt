@@ -5,7 +5,8 @@ use Rattle.std.proofs.lemmas.Bool.{cases_eq}
 use Rattle.tile_shape.specs.Geometry.{IsAt, IsPixel}
 use Rattle.tile_shape.specs.declared.tiles.Place.{Place}
 use Rattle.tile_shape.specs.declared.tiles.Shape.{Shape}
-use Rattle.dot_planes.specs.Gathered.{Amounts, GathersRow, HasInks, HasPixels, HasRows, window_of}
+use Rattle.dot_planes.specs.Gathered.{GathersRow, HasInks, HasPixels, HasRows, shape_of}
+use Rattle.dot_planes.specs.Tables.{AmountTable, amount}
 
 -- no rows
 pub no_rows : (s : Shape) (f : ℕ → ℕ → ℕ) (p : Place) (tile : List ℕ) → HasRows s f p 0 tile
@@ -24,18 +25,18 @@ row_more s f p n old new has gathers = record {
 }
 
 -- one more ink
-pub ink_more : (a : Amounts) (p : Place) (n at : ℕ) (inks : List (List ℕ)) (tile : List ℕ) → at ≡ n → at < length inks
-    → HasPixels (window_of a) (a.at n) p tile → HasInks a p n inks → HasInks a p (n + 1) (set inks at tile)
+pub ink_more : (a : AmountTable) (p : Place) (n at : ℕ) (inks : List (List ℕ)) (tile : List ℕ) → at ≡ n → at < length inks
+    → HasPixels (shape_of a) (amount a n) p tile → HasInks a p n inks → HasInks a p (n + 1) (set inks at tile)
 ink_more a p n at inks tile is_at room here has = record {
   ink = λ i low. elim (cases_eq i n) [
     | inl last ↦
-        let Has : List ℕ → Type 0 = λ xs. HasPixels (window_of a) (a.at n) p xs in
-        let AtInk : ℕ → Type 0 = λ m. HasPixels (window_of a) (a.at m) p (get_or (set inks at tile) m []) in
+        let Has : List ℕ → Type 0 = λ xs. HasPixels (shape_of a) (amount a n) p xs in
+        let AtInk : ℕ → Type 0 = λ m. HasPixels (shape_of a) (amount a m) p (get_or (set inks at tile) m []) in
         let place : get_or (set inks at tile) n [] ≡ tile = ap (λ m. get_or (set inks at tile) m []) (sym is_at)
         ∙ get_or-set_same inks at tile [] room in
         subst AtInk (sym last) (subst Has (sym place) here)
     | inr other ↦
-        let Has : List ℕ → Type 0 = λ xs. HasPixels (window_of a) (a.at i) p xs in
+        let Has : List ℕ → Type 0 = λ xs. HasPixels (shape_of a) (amount a i) p xs in
         subst Has (sym (get_or-set_other inks at i tile [] (λ same. other (same ∙ is_at)))) (has.ink i (omega arith))
   ];
 }

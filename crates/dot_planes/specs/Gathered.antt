@@ -1,24 +1,13 @@
--- Amounts of inks, however they are kept, and those of a tile.
+-- The amounts of a tile.
 use Rattle.std.specs.Prelude.{◌≡◌, ℕ, ◌+◌, ◌*◌, ◌<◌, ◌≤◌, List, [], slice_index, slice_index_or}
 use Rattle.tile_shape.specs.Geometry.{IsAt, IsPixel}
 use Rattle.tile_shape.specs.declared.tiles.Place.{Place}
 use Rattle.tile_shape.specs.declared.tiles.Shape.{Shape}
 use Rattle.dot_planes.specs.Tables.{AmountTable, amount}
 
--- Amounts of inks: `at` gives that of an ink in row y at column x.
-pub record Amounts : Type 0 where
-  pub width : ℕ
-  pub rows : ℕ
-  pub inks : ℕ
-  pub at : ℕ → ℕ → ℕ → ℕ
-
--- the amounts of a table
-abbrev pub amounts_of : AmountTable → Amounts
-amounts_of t = record { width = t.width; rows = t.rows; inks = t.inks; at = amount t }
-
--- the window that they cover
-abbrev pub window_of : Amounts → Shape
-window_of a = record { width = a.width; height = a.rows }
+-- the window that rows of amounts cover
+abbrev pub shape_of : AmountTable → Shape
+shape_of t = record { width = t.width; height = t.rows }
 
 -- The first n rows of a tile have the amounts of one ink, wherever a window has a pixel of them. `tile` has 64 amounts
 -- of each row.
@@ -31,12 +20,12 @@ abbrev pub HasPixels : Shape → (ℕ → ℕ → ℕ) → Place → List ℕ �
 HasPixels s amount p tile = HasRows s amount p 32 tile
 
 -- A tile has its amounts in the first n inks.
-pub record HasInks (a : Amounts) (p : Place) (n : ℕ) (inks : List (List ℕ)) : Type 0 where
-  pub ink : (i : ℕ) → i < n → HasPixels (window_of a) (a.at i) p (slice_index_or inks i [])
+pub record HasInks (t : AmountTable) (p : Place) (n : ℕ) (inks : List (List ℕ)) : Type 0 where
+  pub ink : (i : ℕ) → i < n → HasPixels (shape_of t) (amount t i) p (slice_index_or inks i [])
 
 -- a tile has its amounts in every ink
-abbrev pub HasTile : Amounts → Place → List (List ℕ) → Type 0
-HasTile a p inks = HasInks a p a.inks inks
+abbrev pub HasTile : AmountTable → Place → List (List ℕ) → Type 0
+HasTile t p inks = HasInks t p t.inks inks
 
 -- Row r has its amounts of one ink, and those above it are unchanged.
 pub record GathersRow (s : Shape) (amount : ℕ → ℕ → ℕ) (p : Place) (r : ℕ) (old new : List ℕ) : Type 0 where

@@ -1,28 +1,11 @@
-//! The amounts of a tile, gathered from rows.
-ghost use Rattle.dot_planes.specs.Gathered.{GathersRow, HasPixels, HasTile, IsWhole, amounts_of, window_of};
+//! The amounts of a tile, gathered from rows of amounts.
+ghost use Rattle.dot_planes.specs.Gathered.{GathersRow, HasInks, HasPixels, IsWhole, shape_of};
 ghost use Rattle.dot_planes.specs.Tables.{amount};
 ghost use Rattle.std.specs.Prelude.{length, slice_index, true, ℕ, ◌*◌, ◌+◌, ◌-◌, ◌<◌, ◌≡◌, ◌≤◌, ◌⊎◌};
 
+use crate::amounts::{TileAmounts, TileRows};
 use crate::ink_rows::InkRows;
-use tile_shape::Place;
-
-/// The amounts of a tile, 2048 of each of up to four inks: 64 of each of its 32 rows. A place without a pixel has an
-/// amount too, which means nothing.
-#[derive(Drop)]
-pub struct TileAmounts {
-    /// The inks' amounts.
-    pub inks: [[u8; 2048]; 4],
-}
-
-impl TileAmounts {
-    /// Room for a tile's amounts.
-    #[inline]
-    pub fn zero() -> TileAmounts {
-        TileAmounts {
-            inks: [[0; 2048]; 4],
-        }
-    }
-}
+use tile_shape::{Place, Shape};
 
 // Puts bytes from an index on.
 #[inline(always)]
@@ -51,20 +34,10 @@ fn copy_part(row: &[u8], c: u32, r: usize, from: usize, to: usize, tile: &mut [u
 }
 
 impl InkRows {
-    /// Sets a tile's amounts in every ink, wherever the rows have a pixel of it. All else may become anything.
-    pub fn gather(&self, place: Place, out: &mut TileAmounts)
-        ensures tile { HasTile (amounts_of self.now) place out.new.inks }
-        ensures few { self.now.inks ≤ 4 }
-    {
-        for ink in 0..self.inks {
-            self.gather_ink(ink, place, &mut out.inks[usize::from(ink)]);
-        }
-    }
-
-    // The same for one ink.
+    // Sets a tile's amounts in one ink.
     fn gather_ink(&self, ink: u8, place: Place, tile: &mut [u8; 2048])
         requires { ink < self.now.inks }
-        ensures { HasPixels (window_of (amounts_of self.now)) (amount self.now ink) place tile.new }
+        ensures { HasPixels (shape_of self.now) (amount self.now ink) place tile.new }
     {
         if self.has_all(place) {
             self.gather_whole(ink, place, tile);
@@ -75,7 +48,7 @@ impl InkRows {
 
     // Whether the rows have all pixels of a tile.
     fn has_all(&self, place: Place) -> bool
-        ensures { result ≡ true → IsWhole (window_of (amounts_of self.now)) place }
+        ensures { result ≡ true → IsWhole (shape_of self.now) place }
     {
         place.c >= 1
             && 64 * place.c as usize + 64 <= self.width() as usize
@@ -85,8 +58,8 @@ impl InkRows {
     // Sets the amounts of a tile that has all its pixels.
     fn gather_whole(&self, ink: u8, place: Place, tile: &mut [u8; 2048])
         requires ink { ink < self.now.inks }
-        requires whole { IsWhole (window_of (amounts_of self.now)) place }
-        ensures { HasPixels (window_of (amounts_of self.now)) (amount self.now ink) place tile.new }
+        requires whole { IsWhole (shape_of self.now) place }
+        ensures { HasPixels (shape_of self.now) (amount self.now ink) place tile.new }
     {
         let _ = &self.rows;
         for r in 0..32 {
@@ -98,7 +71,7 @@ impl InkRows {
     // Sets the amounts of a tile row by row, as far as the rows go.
     fn gather_cut(&self, ink: u8, place: Place, tile: &mut [u8; 2048])
         requires { ink < self.now.inks }
-        ensures { HasPixels (window_of (amounts_of self.now)) (amount self.now ink) place tile.new }
+        ensures { HasPixels (shape_of self.now) (amount self.now ink) place tile.new }
     {
         for r in 0..32 {
             self.gather_row(ink, place, r, tile);
@@ -109,7 +82,7 @@ impl InkRows {
     fn gather_row(&self, ink: u8, place: Place, r: usize, tile: &mut [u8; 2048])
         requires ink { ink < self.now.inks }
         requires r { r < 32 }
-        ensures { GathersRow (window_of (amounts_of self.now)) (amount self.now ink) place r tile.old tile.new }
+        ensures { GathersRow (shape_of self.now) (amount self.now ink) place r tile.old tile.new }
     {
         let y = 32 * place.j as usize + r;
         if self.rows() as usize <= y {
@@ -121,6 +94,24 @@ impl InkRows {
         let to = (row.len() + 2 * r).saturating_sub(start).min(64);
         if from < to {
             copy_part(row, place.c, r, from, to, tile);
+        }
+    }
+}
+
+impl TileRows for InkRows {
+    ghost table = { λ t. t };
+
+    fn shape(&self) -> Shape {
+        InkRows::shape(self)
+    }
+
+    fn inks(&self) -> u8 {
+        self.inks
+    }
+
+    fn gather(&self, place: Place, out: &mut TileAmounts) {
+        for ink in 0..self.inks {
+            self.gather_ink(ink, place, &mut out.inks[usize::from(ink)]);
         }
     }
 }

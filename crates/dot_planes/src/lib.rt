@@ -10,9 +10,11 @@
 //! a band of its tiles at once, `put_part` a part of a row of amounts, `copy_row` a row of amounts in all inks.
 //!
 //! `TileBits` holds the dots of one tile, 256 bytes an ink, and `TileAmounts` its amounts, 2048 bytes an ink. `gather`
-//! sets them wherever the rows have a pixel of the tile.
+//! of `TileRows`, as which `InkRows` are one kind of rows, sets them wherever the rows have a pixel of the tile. A
+//! `Seen` stands for rows in contracts.
 #![tactic(auto)]
 
+mod amounts;
 mod band_rows;
 mod bit_rows;
 mod eights;
@@ -20,11 +22,13 @@ mod gathered;
 mod ink_rows;
 mod places;
 mod planes;
+mod seen;
 mod tile_rows;
 mod tiles;
 
+pub use amounts::{TileAmounts, TileRows};
 pub use bit_rows::has_dot;
-pub use gathered::TileAmounts;
 pub use ink_rows::InkRows;
 pub use planes::Planes;
+pub use seen::Seen;
 pub use tiles::{TileBits, TileDots};

@@ -6,7 +6,7 @@ use Rattle.std.proofs.lemmas.List.{get_or_read}
 use Rattle.diffusion_definitions.specs.Diffusion.{EachInRange, Errors, Solves}
 use Rattle.diffusion_kernel.specs.Tables.{table_of}
 use Rattle.diffusion_kernel.specs.declared.tables.Kernel.{Kernel}
-use Rattle.dot_planes.specs.Gathered.{HasPixels, HasTile, amounts_of}
+use Rattle.dot_planes.specs.Gathered.{HasPixels, HasTile}
 use Rattle.dot_planes.specs.Tables.{AmountTable, amount}
 use Rattle.tile_lanes.specs.Done.{DiffusesInk, IsDone, IsReady, plane_of, plane_with, window_of}
 use Rattle.tile_shape.specs.declared.tiles.Place.{Place}
@@ -132,7 +132,7 @@ pub record IsWritten (at i : ℕ) (xs ys : List (List ℤ)) (old : List ℤ) : T
 
 -- One ink of a tile is diffused, whose gathered amounts are those of the rows.
 pub diffuses : (k : Kernel) (rows : AmountTable) (p : Place) (i at : ℕ) (s : Shape) (tile : List (List ℕ))
-    {so bo qo sx bx qx : List ℤ} {dx : List ℕ} → s ≡ window_of rows → at ≡ i → i < rows.inks → HasTile (amounts_of rows) p tile
+    {so bo qo sx bx qx : List ℤ} {dx : List ℕ} → s ≡ window_of rows → at ≡ i → i < rows.inks → HasTile rows p tile
     → ((amount : ℕ → ℕ → ℕ) → HasPixels s amount p (get_or tile at [])
     → DiffusesInk (table_of k) (plane_with s amount) p so bo qo sx bx qx dx)
     → DiffusesInk (table_of k) (plane_of rows i) p so bo qo sx bx qx dx
