@@ -1,5 +1,5 @@
 -- The passes of a slab's workers.
-use Rattle.std.specs.Prelude.{◌≡◌, ℕ, ◌+◌, ◌*◌, ◌<◌, ◌≤◌, None, List, length, slice_index_or}
+use Rattle.std.specs.Prelude.{◌≡◌, ℕ, ◌+◌, ◌*◌, ◌<◌, ◌≤◌, None}
 use Rattle.board_steps.specs.Rule.{times}
 use Rattle.tile_board.specs.Board.{IsPassOf, slab, view}
 use Rattle.tile_board.specs.Slabs.{number_in, shape_of}
@@ -7,7 +7,6 @@ use Rattle.tile_board.specs.declared.kinds.Board.{Board}
 use Rattle.tile_board.specs.declared.kinds.Pass.{Pass}
 use Rattle.tile_shape.specs.Geometry.{IsTile, columns_of}
 use Rattle.tile_shape.specs.declared.tiles.Place.{Place}
-use Rattle.wavefront_team.specs.declared.worker.Worker.{Worker}
 
 -- a pass of the board that holds nothing and has this many parts
 abbrev pub IsIdle : Board → ℕ → Pass → Type 0
@@ -17,9 +16,10 @@ IsIdle b parts p = IsPassOf b p × ((view p).held ≡ None) × ((view p).parts �
 abbrev pub IsWorkerOf : Board → Pass → Type 0
 IsWorkerOf b p = IsIdle b 1 p
 
--- each worker of a team has such a pass
-abbrev pub AllWorkers : Board → List Worker → Type 0
-AllWorkers b team = (k : ℕ) (d : Worker) → k < length team → IsWorkerOf b (slice_index_or team k d).pass
+-- A worker's share of a board: it is lent this board, and its pass has one part.
+pub record IsShareOf (b lent : Board) (p : Pass) : Type 0 where
+  pub same : lent ≡ b
+  pub worker : IsWorkerOf b p
 
 -- the pass has all parts of the board
 abbrev pub HasAll : Board → Pass → Type 0

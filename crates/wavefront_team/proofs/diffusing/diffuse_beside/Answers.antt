@@ -4,7 +4,7 @@ use Rattle.tile_board.specs.Board.{slab}
 use Rattle.tile_lanes.specs.Done.{window_of}
 use Rattle.wavefront_team.specs.Laying.{AreTilesOf, LaysTiles}
 use Rattle.wavefront_team.proofs.Slab.{slab_diffused, tiles_are}
-use Rattle.wavefront_team.proofs.diffusing.diffuse.Goals as goal
+use Rattle.wavefront_team.proofs.diffusing.diffuse_beside.Goals as goal
 
 pub lay_tiles-requires-clause-tiles : goal.lay_tiles-requires-clause-tiles
 lay_tiles-requires-clause-tiles g c =
