@@ -6,7 +6,7 @@ ghost use Rattle.std.specs.Prelude.{IfOk, OnErr, length, ◌+◌, ◌≡◌, ◌
 ghost use Rattle.tile_board.specs.Board.{slab};
 ghost use Rattle.tile_board.specs.Slabs.{shape_of};
 ghost use Rattle.tile_shape.specs.Geometry.{IsShape};
-ghost use Rattle.wavefront_team.specs.Passes.{HasAll, HasPostedAll, IsFirst, IsRest, IsShareOf, IsWorkerOf};
+ghost use Rattle.wavefront_team.specs.Passes.{HasAll, HasPostedAll, IsFirst, IsRest, IsShareOf, IsWorkerOf, desk};
 ghost use Rattle.wavefront_team.specs.Shares.{AllReady};
 ghost use Rattle.tile_board.specs.Board.{IsPassOf};
 
@@ -18,7 +18,7 @@ use crate::work::work_rest;
 use crate::worker::Worker;
 use base_definitions::Memory;
 use diffusion_kernel::Kernel;
-use dot_planes::{InkRows, Planes};
+use dot_planes::{Planes, TileRows};
 use std::alloc::Global;
 use std::thread::Threads;
 use tile_board::{Board, Pass};
@@ -31,20 +31,20 @@ use tile_shape::Shape;
 /// leave. Each tile enters the gate before it is worked.
 ///
 /// On `Memory` the planes are unchanged.
-pub fn diffuse<R: Threads + Sync, G: Gate + Sync>(
+pub fn diffuse<R: Threads + Sync, G: Gate + Sync, A: TileRows + Sync>(
     team: &Team<'_, R, G>,
     alloc: Global,
-    rows: &InkRows,
+    rows: &A,
     kernel: Kernel,
     top: TopEdges,
     out: &mut Planes,
     at: u32,
 ) -> Result<TopEdges, Memory>
-    requires top { IsTopOf rows.now.width rows.now.inks top }
-    requires width { out.old.width ≡ rows.now.width }
-    requires inks { out.old.inks ≡ rows.now.inks }
-    requires at { at + rows.now.rows ≤ out.old.rows }
-    ensures slab { IfOk result (λ bottom. DiffusesSlab (table_of kernel) rows.now top bottom at out.old out.new) }
+    requires top { IsTopOf (A.table rows.now).width (A.table rows.now).inks top }
+    requires width { out.old.width ≡ (A.table rows.now).width }
+    requires inks { out.old.inks ≡ (A.table rows.now).inks }
+    requires at { at + (A.table rows.now).rows ≤ out.old.rows }
+    ensures slab { IfOk result (λ bottom. DiffusesSlab (table_of kernel) (A.table rows.now) top bottom at out.old out.new) }
     ensures unchanged { OnErr result (out.new ≡ out.old) }
 {
     let mut none = || {};
@@ -56,22 +56,22 @@ pub fn diffuse<R: Threads + Sync, G: Gate + Sync>(
 /// worker, else while the others work. Its answer stands beside the bottom edges.
 ///
 /// On `Memory` the planes are unchanged and the errand is not begun.
-pub fn diffuse_beside<R: Threads + Sync, G: Gate + Sync, F: FnMut() -> A, A>(
+pub fn diffuse_beside<R: Threads + Sync, G: Gate + Sync, A: TileRows + Sync, F: FnMut() -> E, E>(
     team: &Team<'_, R, G>,
     alloc: Global,
-    rows: &InkRows,
+    rows: &A,
     kernel: Kernel,
     top: TopEdges,
     out: &mut Planes,
     at: u32,
     errand: &mut F,
-) -> Result<(TopEdges, A), Memory>
-    requires top { IsTopOf rows.now.width rows.now.inks top }
-    requires width { out.old.width ≡ rows.now.width }
-    requires inks { out.old.inks ≡ rows.now.inks }
-    requires at { at + rows.now.rows ≤ out.old.rows }
+) -> Result<(TopEdges, E), Memory>
+    requires top { IsTopOf (A.table rows.now).width (A.table rows.now).inks top }
+    requires width { out.old.width ≡ (A.table rows.now).width }
+    requires inks { out.old.inks ≡ (A.table rows.now).inks }
+    requires at { at + (A.table rows.now).rows ≤ out.old.rows }
     requires errand { F.pre errand.old }
-    ensures slab { IfOk result (λ answer. DiffusesSlab (table_of kernel) rows.now top answer.0 at out.old out.new) }
+    ensures slab { IfOk result (λ answer. DiffusesSlab (table_of kernel) (A.table rows.now) top answer.0 at out.old out.new) }
     ensures errand { IfOk result (λ answer. F.step errand.old answer.1 errand.new) }
     ensures unchanged { OnErr result (out.new ≡ out.old) }
     ensures not_begun { OnErr result (errand.new ≡ errand.old) }
@@ -85,20 +85,20 @@ pub fn diffuse_beside<R: Threads + Sync, G: Gate + Sync, F: FnMut() -> A, A>(
 
 // Works all tiles of a board by a team, and does the errand. One worker's errand comes last, so that it finds the slab
 // still in its cache.
-fn work_tiles<R: Threads + Sync, G: Gate + Sync, F: FnMut() -> A, A>(
+fn work_tiles<R: Threads + Sync, G: Gate + Sync, A: TileRows + Sync, F: FnMut() -> E, E>(
     team: &Team<'_, R, G>,
     alloc: Global,
-    board: &Board<'_>,
+    board: &Board<'_, A>,
     shape: Shape,
     pass: &mut Pass,
     errand: &mut F,
-) -> Result<A, Memory>
-    requires pass { IsFirst board.now pass.old }
+) -> Result<E, Memory>
+    requires pass { IsFirst (desk board.now) pass.old }
     requires shape { shape ≡ shape_of (slab board.now) }
     requires sizes { IsShape shape }
     requires errand { F.pre errand.old }
     ensures pass { IfOk result (λ done. IsPassOf board.now pass.new) }
-    ensures all { IfOk result (λ done. HasPostedAll board.now pass.new) }
+    ensures all { IfOk result (λ done. HasPostedAll (desk board.now) pass.new) }
     ensures errand { IfOk result (λ done. F.step errand.old done errand.new) }
     ensures not_begun { OnErr result (errand.new ≡ errand.old) }
 {
@@ -126,22 +126,22 @@ fn work_tiles<R: Threads + Sync, G: Gate + Sync, F: FnMut() -> A, A>(
 }
 
 // Works tiles by as many workers, of which the last is the caller after its errand, and joins their passes to the first.
-fn work_shares<R: Threads + Sync, L: Lends + Copy + Send, F: FnMut() -> A, A>(
+fn work_shares<R: Threads + Sync, L: Lends + Copy + Send, A: TileRows, F: FnMut() -> E, E>(
     threads: &R,
     alloc: Global,
-    board: &Board<'_>,
+    board: &Board<'_, A>,
     shape: Shape,
     lent: L,
     pass: &mut Pass,
     count: u8,
     errand: &mut F,
-) -> Result<A, Memory>
-    requires pass { IsFirst board.now pass.old }
+) -> Result<E, Memory>
+    requires pass { IsFirst (desk board.now) pass.old }
     requires sizes { IsShape shape }
-    requires lent { L.board lent ≡ board.now }
+    requires lent { L.desk lent ≡ desk board.now }
     requires count { count ≤ 64 }
     requires errand { F.pre errand.old }
-    ensures pass { IfOk result (λ done. HasAll board.now pass.new) }
+    ensures pass { IfOk result (λ done. HasAll (desk board.now) pass.new) }
     ensures errand { IfOk result (λ done. F.step errand.old done errand.new) }
     ensures not_begun { OnErr result (errand.new ≡ errand.old) }
 {
@@ -152,21 +152,21 @@ fn work_shares<R: Threads + Sync, L: Lends + Copy + Send, F: FnMut() -> A, A>(
 }
 
 // As many shares, each with a pass of one part.
-fn shares_of<L: Lends + Copy>(
+fn shares_of<L: Lends + Copy, A: TileRows>(
     alloc: Global,
-    board: &Board<'_>,
+    board: &Board<'_, A>,
     shape: Shape,
     lent: L,
     pass: &mut Pass,
     count: u8,
 ) -> Result<Vec<TileShare<L>>, Memory>
-    requires pass { IsFirst board.now pass.old }
+    requires pass { IsFirst (desk board.now) pass.old }
     requires sizes { IsShape shape }
-    requires lent { L.board lent ≡ board.now }
+    requires lent { L.desk lent ≡ desk board.now }
     requires count { count ≤ 64 }
     ensures shares { IfOk result
-        (λ shares. AllReady (λ share. IsShareOf board.now (L.board share.lent) share.worker.pass) shares.items) }
-    ensures rest { IfOk result (λ shares. IsRest board.now (length shares.items) pass.new) }
+        (λ shares. AllReady (λ share. IsShareOf (desk board.now) (L.desk share.lent) share.worker.pass) shares.items) }
+    ensures rest { IfOk result (λ shares. IsRest (desk board.now) (length shares.items) pass.new) }
 {
     let Ok(mut shares) = Vec::with_capacity(alloc, usize::from(count)) else {
         return Err(Memory);
@@ -179,25 +179,29 @@ fn shares_of<L: Lends + Copy>(
 }
 
 // Runs each share, the last one after the errand on the caller's own thread.
-fn run_shares<R: Threads + Sync, L: Lends + Send, F: FnMut() -> A, A>(
+fn run_shares<R: Threads + Sync, L: Lends + Send, A: TileRows, F: FnMut() -> E, E>(
     threads: &R,
-    board: &Board<'_>,
+    board: &Board<'_, A>,
     shares: &mut [TileShare<L>],
     errand: &mut F,
-) -> A
-    requires shares { AllReady (λ share. IsShareOf board.now (L.board share.lent) share.worker.pass) shares.old }
+) -> E
+    requires shares { AllReady (λ share. IsShareOf (desk board.now) (L.desk share.lent) share.worker.pass) shares.old }
     requires errand { F.pre errand.old }
-    ensures shares { AllReady (λ share. IsWorkerOf board.now share.worker.pass) shares.new }
+    ensures shares { AllReady (λ share. IsWorkerOf (desk board.now) share.worker.pass) shares.new }
     ensures errand { F.step errand.old result errand.new }
 {
     run_beside(threads, shares, errand)
 }
 
 // Joins the workers' passes to the first.
-fn join_all<L: Drop>(board: &Board<'_>, pass: &mut Pass, mut shares: Vec<TileShare<L>>)
-    requires pass { IsRest board.now (length shares.items) pass.old }
-    requires shares { AllReady (λ share. IsWorkerOf board.now share.worker.pass) shares.items }
-    ensures { HasAll board.now pass.new }
+fn join_all<L: Drop, A: TileRows>(
+    board: &Board<'_, A>,
+    pass: &mut Pass,
+    mut shares: Vec<TileShare<L>>,
+)
+    requires pass { IsRest (desk board.now) (length shares.items) pass.old }
+    requires shares { AllReady (λ share. IsWorkerOf (desk board.now) share.worker.pass) shares.items }
+    ensures { HasAll (desk board.now) pass.new }
 {
     while let Some(share) = shares.pop() {
         let TileShare { lent: _, worker } = share;

@@ -3,11 +3,12 @@ ghost use Rattle.std.specs.Prelude.{IfOk, IfSome, ◌<◌, ◌≡◌};
 ghost use Rattle.tile_board.specs.Board.{slab};
 ghost use Rattle.tile_board.specs.Slabs.{shape_of};
 ghost use Rattle.tile_shape.specs.Geometry.{IsShape, IsTile};
-ghost use Rattle.wavefront_team.specs.Passes.{IsWorkerOf};
+ghost use Rattle.wavefront_team.specs.Passes.{IsWorkerOf, desk};
 
 use crate::gate::Gate;
 use crate::work::work_held;
 use base_definitions::Memory;
+use dot_planes::TileRows;
 use std::alloc::Global;
 use std::thread::yield_now;
 use tile_board::{Board, Claim, Pass};
@@ -46,11 +47,11 @@ impl Worker {
     }
 
     /// Works tiles until all are gone, or it has claimed long in vain.
-    pub(crate) fn run<G: Gate>(&mut self, board: &Board<'_>, shape: Shape, gate: &G)
-        requires worker { IsWorkerOf board.now self.old.pass }
+    pub(crate) fn run<G: Gate, A: TileRows>(&mut self, board: &Board<'_, A>, shape: Shape, gate: &G)
+        requires worker { IsWorkerOf (desk board.now) self.old.pass }
         requires shape { shape ≡ shape_of (slab board.now) }
         requires sizes { IsShape shape }
-        ensures { IsWorkerOf board.now self.new.pass }
+        ensures { IsWorkerOf (desk board.now) self.new.pass }
     {
         for _ in 0..shape.bands() * shape.columns() {
             if !self.work_next(board, shape, gate) {
@@ -60,11 +61,16 @@ impl Worker {
     }
 
     // Claims tiles until it gets one, and works that. False where all are gone, or after `MOST_CLAIMS` claims in vain.
-    fn work_next<G: Gate>(&mut self, board: &Board<'_>, shape: Shape, gate: &G) -> bool
-        requires worker { IsWorkerOf board.now self.old.pass }
+    fn work_next<G: Gate, A: TileRows>(
+        &mut self,
+        board: &Board<'_, A>,
+        shape: Shape,
+        gate: &G,
+    ) -> bool
+        requires worker { IsWorkerOf (desk board.now) self.old.pass }
         requires shape { shape ≡ shape_of (slab board.now) }
         requires sizes { IsShape shape }
-        ensures { IsWorkerOf board.now self.new.pass }
+        ensures { IsWorkerOf (desk board.now) self.new.pass }
     {
         for _ in 0..MOST_CLAIMS {
             let Some(place) = self.next_place(shape) else {
