@@ -6,7 +6,7 @@ ghost use Rattle.tile_shape.specs.Geometry.{IsTile};
 
 use crate::checks::same;
 use diffusion_kernel::Kernel;
-use dot_planes::{InkRows, TileAmounts};
+use dot_planes::{InkRows, TileAmounts, TileRows};
 use plain_diffusion::{Above, Definition, Fill, amount_at};
 use std::alloc::Global;
 use std::test::Fail;
