@@ -1,7 +1,7 @@
 //! The types of which the board's rule speaks, and the kinds of steps.
 use atomic_table::{Join, Play, Seat, Shared, Split, TableRule};
 use diffusion_kernel::Kernel;
-use dot_planes::{InkRows, TileBits};
+use dot_planes::{Seen, TileBits};
 use std::collections::LinkedList;
 use std::snapshot::Snapshot;
 use tile_border::{BottomEdge, CornerEdge, RightEdge, TopEdges};
@@ -18,7 +18,7 @@ pub enum Cell {
 
 /// What the tiles of a board are diffused from: the amounts, the kernel, and the errors above the first row.
 pub struct Slab {
-    pub rows: Snapshot<InkRows>,
+    pub rows: Seen,
     pub kernel: Kernel,
     pub top: Snapshot<TopEdges>,
 }

@@ -1,6 +1,6 @@
 //! Teams of several sizes, and workers that gates watch or hold back.
 use crate::gates::{CountingGate, HoldingGate, MeetingGate};
-use crate::windows::{Case, is_right, rows_of};
+use crate::windows::{Case, is_right, rows_of, wrong_beside};
 use diffusion_kernel::Kernel;
 use std::sync::atomic::{AtomicU64, Ordering};
 use wavefront_team::OpenGate;
@@ -161,5 +161,20 @@ fn tiles_that_are_held_back_change_nothing(rt: HostRuntime) {
     };
     for _ in 0..20 {
         is_right(&rt, rt.alloc(), &SMALL, 8, &gate);
+    }
+}
+
+#[test]
+fn an_errand_is_done_once_beside_the_workers(rt: HostRuntime) {
+    for workers in [1, 2, 4] {
+        let mut calls = 0u32;
+        let mut line = [0u8; 16];
+        let mut errand = || {
+            calls = calls.saturating_add(1);
+            line.fill(7);
+        };
+        let wrong = wrong_beside(&rt, rt.alloc(), &LEVEL, workers, &mut errand);
+        let right = wrong == Some(0) && calls == 1 && line == [7; 16];
+        assert!(rt; right, "{wrong:?} after {calls} by {workers}");
     }
 }

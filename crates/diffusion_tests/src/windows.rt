@@ -10,7 +10,7 @@ use std::alloc::Global;
 use std::process::Abort;
 use std::thread::Threads;
 use tile_border::{BottomEdge, TopEdges};
-use wavefront_team::{Gate, Team, diffuse};
+use wavefront_team::{Gate, OpenGate, Team, diffuse, diffuse_beside};
 
 // Rows of the planes above the window.
 const ABOVE: u32 = 3;
@@ -216,25 +216,69 @@ fn wrong_errors(bottom: &TopEdges, known: &Definition, case: &Case, i: u8, bands
     wrong
 }
 
+// How many dots and bottom errors are not the plain program's.
+fn wrong_of(alloc: Global, case: &Case, planes: &Planes, bottom: &TopEdges) -> Option<u32>
+    requires { IsTopOf case.now.width case.now.inks bottom.now }
+{
+    let height = case.height();
+    let mut wrong = 0u32;
+    for i in 0..case.inks {
+        let (fill, above) = (case.fill(i), Above::Edges(case.error));
+        let known = Definition::make(alloc, case.kernel, fill, above, case.width, height)?;
+        let errors = wrong_errors(bottom, &known, case, i, height.div_ceil(32));
+        wrong = wrong.wrapping_add(errors);
+        wrong = wrong.wrapping_add(wrong_dots(planes, &known, i, height));
+    }
+    Some(wrong)
+}
+
 // How many dots and bottom errors of a window are wrong.
 fn wrong_in<R: Threads + Sync, G: Gate + Sync>(
     team: &Team<'_, R, G>,
     alloc: Global,
     case: &Case,
 ) -> Option<u32> {
-    let height = case.height();
-    let mut planes = spotted(alloc, case.width, height, case.inks)?;
+    let mut planes = spotted(alloc, case.width, case.height(), case.inks)?;
     let top = top_of(alloc, case.width, case.inks, case.error)?;
     let bottom = diffuse_slabs(team, alloc, case, top, &mut planes)?;
-    let mut wrong = 0u32;
-    for i in 0..case.inks {
-        let (fill, above) = (case.fill(i), Above::Edges(case.error));
-        let known = Definition::make(alloc, case.kernel, fill, above, case.width, height)?;
-        let errors = wrong_errors(&bottom, &known, case, i, height.div_ceil(32));
-        wrong = wrong.wrapping_add(errors);
-        wrong = wrong.wrapping_add(wrong_dots(&planes, &known, i, height));
+    wrong_of(alloc, case, &planes, &bottom)
+}
+
+/// How many dots and bottom errors of a window of one slab are wrong, where this many workers diffuse it and the caller
+/// has an errand.
+pub(crate) fn wrong_beside<R: Threads + Sync, F: FnMut()>(
+    threads: &R,
+    alloc: Global,
+    case: &Case,
+    workers: u8,
+    errand: &mut F,
+) -> Option<u32>
+    requires { F.pre errand.old }
+{
+    let team = Team {
+        threads,
+        workers: workers.clamp(1, 64),
+        gate: &OpenGate,
+    };
+    let mut planes = spotted(alloc, case.width, case.height(), case.inks)?;
+    let top = top_of(alloc, case.width, case.inks, case.error)?;
+    let rows = amounts(alloc, case, 0, case.height())?;
+    let fits = rows.rows() <= 300 && ABOVE + rows.rows() <= planes.rows();
+    if !fits || rows.width() != planes.width() || rows.inks() != planes.inks() {
+        return None;
     }
-    Some(wrong)
+    let answer = diffuse_beside(
+        &team,
+        alloc,
+        &rows,
+        case.kernel,
+        top,
+        &mut planes,
+        ABOVE,
+        errand,
+    );
+    let (bottom, ()) = answer.ok()?;
+    wrong_of(alloc, case, &planes, &bottom)
 }
 
 /// The rows of a window of one ink, one after another, as this many workers diffuse it.

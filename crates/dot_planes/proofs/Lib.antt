@@ -6,7 +6,7 @@ pub mod PackedRows
 pub mod PutDots
 pub mod Bytes
 pub mod TileBytes
-pub mod TileRows
+pub mod RowsOfTiles
 pub mod PutTiles
 pub mod MovedBits
 pub mod LaidBytes
@@ -15,3 +15,4 @@ pub mod PutLaid
 pub mod Words
 pub mod BandRows
 pub mod PutBands
+pub mod GatheredRows

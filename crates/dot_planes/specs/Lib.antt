@@ -6,3 +6,4 @@ pub mod Tiles
 pub mod TileBits
 pub mod Lending
 pub mod Bands
+pub mod Gathered

@@ -13,8 +13,8 @@ use tile_shape::Shape;
 #[derive(Drop)]
 pub struct InkRows {
     width: u32,
-    rows: u32,
-    inks: u8,
+    pub(crate) rows: u32,
+    pub(crate) inks: u8,
     bytes: Vec<u8>,
 }
 

@@ -9,19 +9,26 @@
 //! `lay` the first dots of a row from any column on, `put_tile` the pixels of a tile in a slab, `put_band` all dots of
 //! a band of its tiles at once, `put_part` a part of a row of amounts, `copy_row` a row of amounts in all inks.
 //!
-//! `TileBits` holds the dots of one tile, 256 bytes an ink.
+//! `TileBits` holds the dots of one tile, 256 bytes an ink, and `TileAmounts` its amounts, 2048 bytes an ink. `gather`
+//! of `TileRows`, as which `InkRows` are one kind of rows, sets them wherever the rows have a pixel of the tile. A
+//! `Seen` stands for rows in contracts.
 #![tactic(auto)]
 
+mod amounts;
 mod band_rows;
 mod bit_rows;
 mod eights;
+mod gathered;
 mod ink_rows;
 mod places;
 mod planes;
+mod seen;
 mod tile_rows;
 mod tiles;
 
+pub use amounts::{TileAmounts, TileRows};
 pub use bit_rows::has_dot;
 pub use ink_rows::InkRows;
 pub use planes::Planes;
+pub use seen::Seen;
 pub use tiles::{TileBits, TileDots};

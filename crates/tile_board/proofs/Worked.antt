@@ -2,6 +2,7 @@
 use Rattle.std.proofs.Common.{◌≡◌, ℕ, ◌<◌, sym, subst}
 use Rattle.diffusion_kernel.specs.declared.tables.Kernel.{Kernel}
 use Rattle.dot_planes.specs.Tables.{AmountTable}
+use Rattle.dot_planes.specs.declared.amounts.TileRows.{Ghosts}
 use Rattle.tile_shape.specs.declared.tiles.Place.{Place}
 use Rattle.tile_border.specs.Works.{HasInks, Works}
 use Rattle.tile_border.specs.declared.task.Task.{Task}
@@ -13,9 +14,9 @@ use Rattle.tile_board.specs.Board.{slab}
 use Rattle.tile_board.specs.Slabs.{amounts_of, top_edges}
 use Rattle.tile_board.specs.Tasks.{IsDoneOf, IsTaskOf, gave, handed}
 
-pub worked : (b : Board) (task : Task) (done : Done) → IsTaskOf (slab b) task → done.place ≡ task.place
-    → HasInks b.rows.now.inks (gave done)
-    → ((i : ℕ) → i < b.rows.now.inks → Works b.kernel b.rows.now task.place i (handed task) (gave done)) → IsDoneOf (slab b) done
+pub worked : {A : Type 0} {G : Ghosts A} (b : Board A G) (task : Task) (done : Done) → IsTaskOf (slab b) task → done.place ≡ task.place
+    → HasInks (G.table b.rows.now).inks (gave done)
+    → ((i : ℕ) → i < (G.table b.rows.now).inks → Works b.kernel (G.table b.rows.now) task.place i (handed task) (gave done)) → IsDoneOf (slab b) done
 worked b task done is place inks works =
     let Inks : AmountTable → Type 0 = λ rows. HasInks rows.inks (gave done) in
     let AllWork : AmountTable → Type 0 = λ rows. (i : ℕ) → i < rows.inks → Works b.kernel rows task.place i (handed task) (gave done) in

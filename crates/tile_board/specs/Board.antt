@@ -18,7 +18,7 @@ use Rattle.tile_board.specs.Slabs.{number_in, shape_of}
 use Rattle.tile_board.specs.Tasks.{IsTaskOf}
 
 -- what the board is made for
-abbrev pub slab : Board → Slab
+abbrev pub slab : {A : Type 0} {g : _} → Board A g → Slab
 slab b = b.table.shared.key
 
 -- what the pass knows
@@ -30,7 +30,7 @@ abbrev pub holding : Pass → Option Place
 holding p = p.held
 
 -- the pass is one of this board
-abbrev pub IsPassOf : Board → Pass → Type 0
+abbrev pub IsPassOf : {A : Type 0} {g : _} → Board A g → Pass → Type 0
 IsPassOf b p = (p.seat.table_id ≡ b.table.shared.table_id) × (p.seat.me.0.board ≡ b.table.shared.key)
 
 -- A claim leaves all of these but the count of looks, and looks at least once.

@@ -10,6 +10,7 @@ ghost use Rattle.tile_shape.specs.Geometry.{IsTile};
 use crate::kinds::{Board, Claim, Pass};
 use crate::room::{DOTS, slot_of};
 use board_steps::{Cell, cut, look, post, take, unite};
+use dot_planes::TileRows;
 use tile_border::{Done, Task};
 use tile_shape::{Dir, Needs, Place};
 
@@ -30,7 +31,7 @@ impl Pass {
     }
 }
 
-impl<'a> Board<'a> {
+impl<'a, A: TileRows> Board<'a, A> {
     /// Claims a tile for a pass that holds none. `Got` hands the tile out with the edges of row-by-row diffusion: the
     /// pass holds the tile then, and had not posted it. `NotReady` and `Gone` carry the tile's word as it was found.
     /// That no other pass holds or has posted a tile that one holds is the rule of `board_steps`.

@@ -16,25 +16,25 @@ use crate::kinds::{Board, Closed, Pass};
 use base_definitions::Memory;
 use board_steps::{Cell, Slab, open};
 use diffusion_kernel::Kernel;
-use dot_planes::InkRows;
+use dot_planes::{Seen, TileRows};
 use std::alloc::Global;
 use std::snapshot::Snapshot;
 use tile_border::{BottomEdge, CornerEdge, RightEdge, TopEdges};
 use tile_content::no_dots;
 use tile_shape::Shape;
 
-impl<'a> Board<'a> {
+impl<'a, A: TileRows> Board<'a, A> {
     /// A board of rows of amounts, which are diffused below `top`, and its first pass, which has 256 parts. The top
     /// has a bottom edge for each column of tiles, in the inks of the rows. `Memory` where there is no room for all
     /// that the board ever needs.
     pub fn make(
         alloc: Global,
-        rows: &'a InkRows,
+        rows: &'a A,
         kernel: Kernel,
         top: TopEdges,
-    ) -> Result<(Board<'a>, Pass), Memory>
-        requires { IsTopOf rows.now.width rows.now.inks top }
-        ensures amounts { IfOk result (λ b. amounts_of (slab b.0) ≡ rows.now) }
+    ) -> Result<(Board<'a, A>, Pass), Memory>
+        requires { IsTopOf (A.table rows.now).width (A.table rows.now).inks top }
+        ensures amounts { IfOk result (λ b. amounts_of (slab b.0) ≡ A.table rows.now) }
         ensures kernel { IfOk result (λ b. (slab b.0).kernel ≡ kernel) }
         ensures top { IfOk result (λ b. top_edges (slab b.0) ≡ top) }
         ensures pass { IfOk result (λ b. IsPassOf b.0 b.1) }
@@ -50,7 +50,7 @@ impl<'a> Board<'a> {
             return Err(Memory);
         };
         let slab = Slab {
-            rows: Snapshot::of(rows),
+            rows: Seen::of(rows),
             kernel,
             top: Snapshot::of(&top),
         };

@@ -12,9 +12,10 @@ ghost use Rattle.tile_shape.specs.Geometry.{IsTile};
 use crate::kinds::Board;
 use crate::room::{BOTTOM, CORNER, RIGHT, slot_of};
 use board_steps::{Cell, Seated, send};
+use dot_planes::TileRows;
 use tile_shape::{Dir, Place};
 
-impl<'a> Board<'a> {
+impl<'a, A: TileRows> Board<'a, A> {
     /// Puts an edge into its slot, the first that the seat has. Where a tile receives the edge it is sent, and else the
     /// slot is moved after the others.
     pub(crate) fn give(&self, seat: &mut Seated, t: Place, dir: Dir, edge: Cell)

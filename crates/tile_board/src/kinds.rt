@@ -7,27 +7,27 @@ ghost use Rattle.tile_shape.specs.Geometry.{bands_of, columns_of};
 
 use board_steps::{BoardTable, Seated};
 use diffusion_kernel::Kernel;
-use dot_planes::{InkRows, TileDots};
+use dot_planes::{TileDots, TileRows};
 use tile_border::{Task, TopEdges};
 use tile_shape::Place;
 
 /// The tiles of a slab, shared by passes.
 #[derive(Drop)]
-pub struct Board<'a> {
-    pub(crate) rows: &'a InkRows,
+pub struct Board<'a, A: TileRows> {
+    pub(crate) rows: &'a A,
     pub(crate) kernel: Kernel,
     pub(crate) top: TopEdges,
     pub(crate) table: BoardTable,
     // Empty, with capacity for every tile, so that `close` takes no memory.
     pub(crate) dots: Vec<TileDots>,
-    ghost made_for: { (amounts_of table.shared.key ≡ rows.now) × (table.shared.key.kernel ≡ kernel)
+    ghost made_for: { (amounts_of table.shared.key ≡ A.table rows.now) × (table.shared.key.kernel ≡ kernel)
         × (top_edges table.shared.key ≡ top) },
     ghost sized: { table.shared.table_id.words
         ≡ bands_of (shape_of table.shared.key) * columns_of (shape_of table.shared.key) },
     ghost some: { 0 < table.shared.table_id.words },
     ghost topped: { (length top ≡ columns_of (shape_of table.shared.key))
         × ((c : ℕ) → c < columns_of (shape_of table.shared.key)
-        → length (slice_index_or top c []) ≡ rows.now.inks) },
+        → length (slice_index_or top c []) ≡ (A.table rows.now).inks) },
     ghost room: { (dots.items ≡ []) × (table.shared.table_id.words ≤ vec_capacity dots) },
 }
 

@@ -15,11 +15,11 @@ use crate::room::{
     BOTTOM, Blanks, CORNER, RIGHT, bottom_of, corner_of, right_of, slot_of, take_blanks, take_out,
 };
 use board_steps::{Cell, Seated};
-use dot_planes::TileDots;
+use dot_planes::{TileDots, TileRows};
 use tile_border::{BottomEdge, CornerEdge, RightEdge, Task};
 use tile_shape::Place;
 
-impl<'a> Board<'a> {
+impl<'a, A: TileRows> Board<'a, A> {
     /// The number of a tile, by band and then column.
     pub(crate) fn number(&self, t: Place) -> usize
         requires { IsTile (shape_of (slab self.now)) t }

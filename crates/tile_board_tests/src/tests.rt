@@ -80,7 +80,7 @@ fn level_rows(alloc: Global) -> Option<InkRows>
 }
 
 // Claims a tile, and works and posts it if it is handed out. Whether a pass that is alone has posted it then.
-fn has_posted(board: &Board<'_>, p: &mut Pass, t: Place) -> bool
+fn has_posted(board: &Board<'_, InkRows>, p: &mut Pass, t: Place) -> bool
     requires tile { IsTile (shape_of (slab board.now)) t }
     requires pass { IsPassOf board.now p.old }
     requires idle { (view p.old).held ≡ None }
@@ -103,7 +103,7 @@ fn has_posted(board: &Board<'_>, p: &mut Pass, t: Place) -> bool
 }
 
 // Tries all tiles in turn, again and again.
-fn work(board: &Board<'_>, shape: Shape, p: &mut Pass)
+fn work(board: &Board<'_, InkRows>, shape: Shape, p: &mut Pass)
     requires shape { shape ≡ shape_of (slab board.now) }
     requires sizes { IsShape shape }
     requires pass { IsIdle board.now p.old }
@@ -120,7 +120,7 @@ fn work(board: &Board<'_>, shape: Shape, p: &mut Pass)
 }
 
 // Works the tiles that are left, by number, with a pass that is alone. Whether it has posted all tiles then.
-fn finish(board: &Board<'_>, shape: Shape, p: &mut Pass) -> bool
+fn finish(board: &Board<'_, InkRows>, shape: Shape, p: &mut Pass) -> bool
     requires shape { shape ≡ shape_of (slab board.now) }
     requires sizes { IsShape shape }
     requires pass { IsIdle board.now p.old }
@@ -145,7 +145,7 @@ fn finish(board: &Board<'_>, shape: Shape, p: &mut Pass) -> bool
 }
 
 // Cuts two passes off the first.
-fn two_passes(alloc: Global, board: &Board<'_>, p: &mut Pass) -> Option<Vec<Pass>>
+fn two_passes(alloc: Global, board: &Board<'_, InkRows>, p: &mut Pass) -> Option<Vec<Pass>>
     requires pass { IsIdle board.now p.old }
     requires first { (view p.old).number ≡ 0 }
     requires parts { 3 ≤ (view p.old).parts }
@@ -161,7 +161,12 @@ fn two_passes(alloc: Global, board: &Board<'_>, p: &mut Pass) -> Option<Vec<Pass
 }
 
 // Works the board with all passes, each in a thread of its own where one can be started.
-fn work_together<R: Threads + Sync>(rt: &R, board: &Board<'_>, shape: Shape, passes: &mut [Pass])
+fn work_together<R: Threads + Sync>(
+    rt: &R,
+    board: &Board<'_, InkRows>,
+    shape: Shape,
+    passes: &mut [Pass],
+)
     requires shape { shape ≡ shape_of (slab board.now) }
     requires sizes { IsShape shape }
     requires passes { AllIdle board.now passes.old }
@@ -183,7 +188,7 @@ fn work_together<R: Threads + Sync>(rt: &R, board: &Board<'_>, shape: Shape, pas
 }
 
 // Joins the passes to the first.
-fn join_all(board: &Board<'_>, p: &mut Pass, mut passes: Vec<Pass>)
+fn join_all(board: &Board<'_, InkRows>, p: &mut Pass, mut passes: Vec<Pass>)
     requires pass { IsIdle board.now p.old }
     requires passes { AllIdle board.now passes.items }
     ensures { IsIdle board.now p.new }
@@ -194,7 +199,7 @@ fn join_all(board: &Board<'_>, p: &mut Pass, mut passes: Vec<Pass>)
 }
 
 // Works the tiles in order, the two passes in turn.
-fn work_in_turn(board: &Board<'_>, shape: Shape, p: &mut Pass, q: &mut Pass)
+fn work_in_turn(board: &Board<'_, InkRows>, shape: Shape, p: &mut Pass, q: &mut Pass)
     requires shape { shape ≡ shape_of (slab board.now) }
     requires sizes { IsShape shape }
     requires passes { IsIdle board.now p.old × IsIdle board.now q.old }

@@ -6,9 +6,11 @@ use Rattle.std.proofs.lemmas.List.{get_or_read}
 use Rattle.diffusion_definitions.specs.Diffusion.{EachInRange, Errors, Solves}
 use Rattle.diffusion_kernel.specs.Tables.{table_of}
 use Rattle.diffusion_kernel.specs.declared.tables.Kernel.{Kernel}
-use Rattle.dot_planes.specs.Tables.{AmountTable}
-use Rattle.tile_lanes.specs.Done.{IsDone, IsReady, plane_of}
+use Rattle.dot_planes.specs.Gathered.{HasPixels, HasTile}
+use Rattle.dot_planes.specs.Tables.{AmountTable, amount}
+use Rattle.tile_lanes.specs.Done.{DiffusesInk, IsDone, IsReady, plane_of, plane_with, window_of}
 use Rattle.tile_shape.specs.declared.tiles.Place.{Place}
+use Rattle.tile_shape.specs.declared.tiles.Shape.{Shape}
 use Rattle.tile_border.specs.Inks.{AreInks, errors_of}
 use Rattle.tile_border.specs.Works.{Border, IsWholeInk, SameInk, Works, WorksInk}
 
@@ -127,6 +129,19 @@ pub record IsWritten (at i : ℕ) (xs ys : List (List ℤ)) (old : List ℤ) : T
   pub is : xs ≡ ys
   pub room : at < length xs
   pub read : old ≡ get_or xs at old
+
+-- One ink of a tile is diffused, whose gathered amounts are those of the rows.
+pub diffuses : (k : Kernel) (rows : AmountTable) (p : Place) (i at : ℕ) (s : Shape) (tile : List (List ℕ))
+    {so bo qo sx bx qx : List ℤ} {dx : List ℕ} → s ≡ window_of rows → at ≡ i → i < rows.inks → HasTile rows p tile
+    → ((amount : ℕ → ℕ → ℕ) → HasPixels s amount p (get_or tile at [])
+    → DiffusesInk (table_of k) (plane_with s amount) p so bo qo sx bx qx dx)
+    → DiffusesInk (table_of k) (plane_of rows i) p so bo qo sx bx qx dx
+diffuses k rows p i at s tile {so} {bo} {qo} {sx} {bx} {qx} {dx} is same low has done =
+    let f : ℕ → ℕ → ℕ = amount rows i in
+    let InShape : Shape → Type 0 = λ q. (g : ℕ → ℕ → ℕ) → HasPixels q g p (get_or tile at [])
+    → DiffusesInk (table_of k) (plane_with q g) p so bo qo sx bx qx dx in
+    let OfInk : ℕ → Type 0 = λ n. HasPixels (window_of rows) f p (get_or tile n []) in
+    subst InShape is done f (subst OfInk (sym same) (has.ink i low))
 
 pub works_ink : (k : Kernel) (rows : AmountTable) (p : Place) (i at : ℕ) (s sv b bv q qv : List (List ℤ)) (d : List (List ℕ))
     (sx so bx bo qx qo : List ℤ) (dx : List ℕ)

@@ -1,5 +1,6 @@
 //! One tile in all its inks.
-ghost use Rattle.std.specs.Prelude.{ℕ, ◌<◌, ◌≡◌};
+ghost use Rattle.dot_planes.specs.Gathered.{HasTile};
+ghost use Rattle.std.specs.Prelude.{ℕ, ◌<◌, ◌≡◌, ◌≤◌};
 ghost use Rattle.tile_border.specs.Works.{HasInks, IsWhole, Works, WorksInk};
 ghost use Rattle.tile_lanes.specs.Done.{window_of};
 ghost use Rattle.tile_shape.specs.Geometry.{IsTile};
@@ -7,7 +8,7 @@ ghost use Rattle.tile_shape.specs.Geometry.{IsTile};
 use crate::edges::{BottomEdge, CornerEdge, RightEdge};
 use crate::wholes::ink_is_whole;
 use diffusion_kernel::Kernel;
-use dot_planes::{InkRows, TileBits, TileDots};
+use dot_planes::{TileAmounts, TileBits, TileDots, TileRows};
 use tile_lanes::diffuse_tile;
 use tile_shape::Place;
 
@@ -43,15 +44,15 @@ pub struct Done {
 }
 
 /// Diffuses a tile in each ink of the rows. The edges and the dots of the task have as many inks as the rows.
-pub fn work(task: Task, rows: &InkRows, kernel: Kernel) -> Done
-    requires tile { IsTile (window_of rows.now) task.place }
-    requires inks { HasInks rows.now.inks
+pub fn work<A: TileRows>(task: Task, rows: &A, kernel: Kernel) -> Done
+    requires tile { IsTile (window_of (A.table rows.now)) task.place }
+    requires inks { HasInks (A.table rows.now).inks
         (record { side = task.left; band = task.above; corner = task.corner; bits = task.dots.bits }) }
     ensures place { result.place ≡ task.place }
     ensures dots_place { result.dots.place ≡ task.place }
-    ensures inks { HasInks rows.now.inks
+    ensures inks { HasInks (A.table rows.now).inks
         (record { side = result.right; band = result.bottom; corner = result.corner; bits = result.dots.bits }) }
-    ensures works { (i : ℕ) → i < rows.now.inks → Works kernel rows.now task.place i
+    ensures works { (i : ℕ) → i < (A.table rows.now).inks → Works kernel (A.table rows.now) task.place i
         (record { side = task.left; band = task.above; corner = task.corner; bits = task.dots.bits })
         (record { side = result.right; band = result.bottom; corner = result.corner; bits = result.dots.bits }) }
 {
@@ -62,11 +63,14 @@ pub fn work(task: Task, rows: &InkRows, kernel: Kernel) -> Done
         mut corner,
         dots: TileDots { mut bits, .. },
     } = task;
+    let mut amounts = TileAmounts::zero();
+    rows.gather(place, &mut amounts);
     for ink in 0..rows.inks() {
         work_ink(
             kernel,
             place,
             rows,
+            &amounts,
             ink,
             &mut right,
             &mut bottom,
@@ -84,31 +88,35 @@ pub fn work(task: Task, rows: &InkRows, kernel: Kernel) -> Done
     }
 }
 
-// Diffuses one ink of a tile: the edges handed in become those handed on, and all other inks stay.
-fn work_ink(
+// Diffuses one ink of a tile, whose amounts are gathered: the edges handed in become those handed on, and all other
+// inks stay.
+fn work_ink<A: TileRows>(
     kernel: Kernel,
     place: Place,
-    rows: &InkRows,
+    rows: &A,
+    amounts: &TileAmounts,
     ink: u8,
     side: &mut RightEdge,
     band: &mut BottomEdge,
     corner: &mut CornerEdge,
     bits: &mut TileBits,
 )
-    requires tile { IsTile (window_of rows.now) place }
-    requires ink { ink < rows.now.inks }
-    requires inks { HasInks rows.now.inks
+    requires tile { IsTile (window_of (A.table rows.now)) place }
+    requires gathered { HasTile (A.table rows.now) place amounts.now.inks }
+    requires few { (A.table rows.now).inks ≤ 4 }
+    requires ink { ink < (A.table rows.now).inks }
+    requires inks { HasInks (A.table rows.now).inks
         (record { side = side.old; band = band.old; corner = corner.old; bits = bits.old }) }
-    ensures { WorksInk kernel rows.now place ink
+    ensures { WorksInk kernel (A.table rows.now) place ink
         (record { side = side.old; band = band.old; corner = corner.old; bits = bits.old })
         (record { side = side.new; band = band.new; corner = corner.new; bits = bits.new }) }
 {
     let at = usize::from(ink);
     diffuse_tile(
         kernel,
+        rows.shape(),
         place,
-        rows,
-        ink,
+        &amounts.inks[at],
         &mut side.inks[at],
         &mut band.inks[at],
         &mut corner.inks[at],

@@ -4,7 +4,7 @@ use Rattle.std.proofs.Common.{inr}
 use Rattle.std.proofs.Common.{List, get_or, min, set, length, get_or-set_same, get_or-set_other}
 use Rattle.std.proofs.lemmas.Bool.{both_ways, cases_eq, cases_lt}
 use Rattle.diffusion_definitions.specs.Diffusion.{Plane}
-use Rattle.tile_lanes.specs.Lanes.{AreCleared, IsCleared}
+use Rattle.tile_lanes.specs.Lanes.{AreCleared, IsCleared, IsWhole}
 use Rattle.tile_lanes.specs.Paces.{delay_of}
 use Rattle.tile_lanes.specs.Rows.{is_place}
 use Rattle.tile_lanes.specs.declared.lanes.pace.Pace.{Pace}
@@ -96,3 +96,15 @@ both_cleared pace c j step first end {last} order most entered outside is_up is_
   where
     in_last : (r o : ℕ) → r < 32 → o + delay_of pace r + 8 ≡ step → r < last
     in_last r o row at = entered r row (omega arith)
+
+-- Where each place has a pixel, nothing is to be cleared.
+pub none_missing : (pace : Pace) (p : Plane) (c j step : ℕ) (xs dots : List ℕ) → IsWhole p c j → IsCleared pace p c j step xs dots xs dots
+none_missing pace p c j step xs dots whole = record {
+  none = λ r o row small at gone. absurd (both_ways _ gone (whole.at r o row small));
+  no_dot = λ r o row small at gone. absurd (both_ways _ gone (whole.at r o row small));
+  pixel = λ r o row small at there. refl;
+  dot = λ r o row small at there. refl;
+  left = λ r row beside. refl;
+  before = λ m h. refl;
+  after = λ m h. refl;
+}

@@ -1,6 +1,7 @@
 -- How rows go in step, and where a field has their errors.
-use Rattle.std.proofs.Common.{ℕ, ◌≡◌, ◌+◌, ◌-◌, ◌*◌, ◌<◌, ◌≤◌, arith, refl}
+use Rattle.std.proofs.Common.{ℕ, ◌≡◌, ◌+◌, ◌-◌, ◌<◌, ◌≤◌, arith, refl}
 use Rattle.tile_lanes.specs.Paces.{cell_of, delay_of, first_group, squares_of}
+use Rattle.tile_lanes.specs.Square.{covered}
 use Rattle.tile_lanes.specs.declared.lanes.pace.Pace.{Pace}
 use Rattle.tile_lanes.specs.declared.lanes.pace.Pace.TheVariants.{Level, Lagging}
 
@@ -19,7 +20,7 @@ delay_plus Level a b = refl
 delay_plus Lagging a b = refl
 
 -- all steps of sixteen rows are in their squares
-pub delay_fits : (pace : Pace) → delay_of pace 15 + 64 ≤ 16 * squares_of pace
+pub delay_fits : (pace : Pace) → delay_of pace 15 + 64 ≤ covered (squares_of pace)
 delay_fits Level = omega arith
 delay_fits Lagging = omega arith
 

@@ -1,6 +1,6 @@
 -- Places of a tile with a pixel and without one.
-use Rattle.std.proofs.Common.{ℕ, ℤ, pos, ◌≡◌, ◌+◌, ◌-◌, ◌*◌, ◌<◌, ◌≤◌, ◌∙◌, Bool, true, false, ltb, leb, ap, sym, arith, inl, inr}
-use Rattle.std.proofs.Common.{List, [], ◌∷◌, ◌&&◌}
+use Rattle.std.proofs.Common.{ℕ, ℤ, pos, ◌≡◌, ◌+◌, ◌-◌, ◌*◌, ◌<◌, ◌≤◌, ◌∙◌, true, false, ltb, leb, ap, sym, arith, inl, inr}
+use Rattle.std.proofs.Common.{[], ◌∷◌, ◌&&◌}
 use Rattle.std.proofs.lemmas.Bool.{cases_lt, and_parts, and_cases, ltb-true, ltb-false, leb-true, leb-false}
 use Rattle.diffusion_definitions.specs.Diffusion.{Table, Plane, Errors, Solves, inside, is_dot, value_at}
 use Rattle.tile_edges.specs.Edges.{skewed}

@@ -11,6 +11,10 @@ use Rattle.tile_edges.specs.Edges.{IsAbove, IsBottom, IsCorner, IsLeft, IsLowerC
 abbrev pub window_of : AmountTable → Shape
 window_of t = record { width = t.width; height = t.rows }
 
+-- a window with these amounts
+abbrev pub plane_with : Shape → (ℕ → ℕ → ℕ) → Plane
+plane_with s amount = record { width = s.width; height = s.height; amount = amount }
+
 -- the amounts of one ink
 abbrev pub plane_of : AmountTable → ℕ → Plane
 plane_of t ink = record { width = t.width; height = t.rows; amount = amount t ink }

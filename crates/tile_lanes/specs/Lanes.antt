@@ -1,19 +1,32 @@
 -- A tile with its rows in step. The pixel at row r and offset o is one of the step o + delay_of pace r + 8, and its
 -- error stands in a field at 34 step + 2 + r.
 use Rattle.std.specs.Prelude.{ℕ, true, false, ◌≡◌, ◌+◌, ◌-◌, ◌*◌, ◌/◌, ◌%◌, ◌^◌, ◌<◌, ◌≤◌, List, slice_index}
-use Rattle.diffusion_definitions.specs.Diffusion.{Errors, Plane, error_of, is_dot}
+use Rattle.diffusion_definitions.specs.Diffusion.{Errors, Plane, Solves, error_of, is_dot}
 use Rattle.diffusion_kernel.specs.Tables.{table_of}
 use Rattle.diffusion_kernel.specs.declared.tables.Kernel.{Kernel}
+use Rattle.dot_planes.specs.Gathered.{HasPixels}
 use Rattle.tile_edges.specs.Edges.{skewed}
+use Rattle.tile_lanes.specs.Done.{plane_with}
 use Rattle.tile_lanes.specs.Held.{error_held, value_in_row}
 use Rattle.tile_lanes.specs.Paces.{cell_of, delay_of, first_group, pace_of}
 use Rattle.tile_lanes.specs.Rows.{bit, bit_of, is_place, shown}
 use Rattle.tile_lanes.specs.declared.lanes.pace.Pace.{Pace}
+use Rattle.tile_shape.specs.declared.tiles.Place.{Place}
+use Rattle.tile_shape.specs.declared.tiles.Shape.{Shape}
 
 -- The amounts of a tile's first n rows by steps.
 pub record HasAmounts (pace : Pace) (p : Plane) (c j n : ℕ) (amounts : List ℕ) : Type 0 where
   pub at : (r o : ℕ) → r < n → o < 64 → is_place p j r (64 * c + o) ≡ true
       → slice_index amounts (32 * (o + delay_of pace r) + r) ≡ p.amount (32 * j + r) (64 * c + o - 2 * r)
+
+-- The amounts of a tile, 64 of each row, by steps.
+pub record HasSteps (pace : Pace) (tile amounts : List ℕ) : Type 0 where
+  pub at : (r o : ℕ) → r < 32 → o < 64 → slice_index amounts (32 * (o + delay_of pace r) + r) ≡ slice_index tile (64 * r + o)
+
+-- Errors solve the rule for amounts that a tile has.
+pub record SolvesTile (kernel : Kernel) (s : Shape) (place : Place) (tile : List ℕ) (amount : ℕ → ℕ → ℕ) (e : Errors) : Type 0 where
+  pub has : HasPixels s amount place tile
+  pub solves : Solves (table_of kernel) (plane_with s amount) e
 
 -- The tile has all its pixels.
 pub record IsWhole (p : Plane) (c j : ℕ) : Type 0 where

@@ -1,16 +1,17 @@
 //! A tile by any kernel.
 ghost use Rattle.diffusion_definitions.specs.Diffusion.{EachInRange};
 ghost use Rattle.diffusion_kernel.specs.Tables.{table_of};
-ghost use Rattle.std.specs.Prelude.{◌<◌};
-ghost use Rattle.tile_lanes.specs.Done.{DiffusesInk, plane_of, window_of};
+ghost use Rattle.dot_planes.specs.Gathered.{HasPixels};
+ghost use Rattle.std.specs.Prelude.{ℕ};
+ghost use Rattle.tile_lanes.specs.Done.{DiffusesInk, plane_with};
 ghost use Rattle.tile_shape.specs.Geometry.{IsTile};
 
 use crate::lanes::diffuse_lanes;
 use diffusion_kernel::Kernel;
-use dot_planes::InkRows;
-use tile_shape::Place;
+use tile_shape::{Place, Shape};
 
-/// Diffuses one ink of a tile. Each array of errors, from -2040 to 2039, holds an edge that the tile is handed, and
+/// Diffuses one ink of a tile of a window from its amounts, 64 of each of its 32 rows; where the window has no pixel an
+/// amount means nothing. Each array of errors, from -2040 to 2039, holds an edge that the tile is handed, and
 /// after the call the one that it hands on:
 ///
 /// - `side`: 32 rows of six errors, before the call the left edge, after it the right one;
@@ -21,29 +22,56 @@ use tile_shape::Place;
 /// is no dot.
 pub fn diffuse_tile(
     kernel: Kernel,
+    shape: Shape,
     place: Place,
-    rows: &InkRows,
-    ink: u8,
+    amounts: &[u8; 2048],
     side: &mut [i16; 192],
     band: &mut [i16; 128],
     corner: &mut [i16; 12],
     dots: &mut [u8; 256],
 )
-    requires tile { IsTile (window_of rows.now) place }
-    requires ink { ink < rows.now.inks }
+    requires tile { IsTile shape place }
     requires side_fits { EachInRange side.old }
     requires band_fits { EachInRange band.old }
     requires corner_fits { EachInRange corner.old }
     ensures side_fits { EachInRange side.new }
     ensures band_fits { EachInRange band.new }
     ensures corner_fits { EachInRange corner.new }
-    ensures done { DiffusesInk (table_of kernel) (plane_of rows.now ink) place
+    ensures done { (amount : ℕ → ℕ → ℕ) → HasPixels shape amount place amounts.now
+        → DiffusesInk (table_of kernel) (plane_with shape amount) place
         side.old band.old corner.old side.new band.new corner.new dots.new }
 {
     // A call for each kernel: its shares are constants there.
     match kernel {
-        Kernel::Floyd => diffuse_lanes(Kernel::Floyd, place, rows, ink, side, band, corner, dots),
-        Kernel::Jarvis => diffuse_lanes(Kernel::Jarvis, place, rows, ink, side, band, corner, dots),
-        Kernel::Stucki => diffuse_lanes(Kernel::Stucki, place, rows, ink, side, band, corner, dots),
+        Kernel::Floyd => diffuse_lanes(
+            Kernel::Floyd,
+            shape,
+            place,
+            amounts,
+            side,
+            band,
+            corner,
+            dots,
+        ),
+        Kernel::Jarvis => diffuse_lanes(
+            Kernel::Jarvis,
+            shape,
+            place,
+            amounts,
+            side,
+            band,
+            corner,
+            dots,
+        ),
+        Kernel::Stucki => diffuse_lanes(
+            Kernel::Stucki,
+            shape,
+            place,
+            amounts,
+            side,
+            band,
+            corner,
+            dots,
+        ),
     }
 }

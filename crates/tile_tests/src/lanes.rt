@@ -6,7 +6,7 @@ ghost use Rattle.tile_shape.specs.Geometry.{IsTile};
 
 use crate::checks::same;
 use diffusion_kernel::Kernel;
-use dot_planes::InkRows;
+use dot_planes::{InkRows, TileAmounts, TileRows};
 use plain_diffusion::{Above, Definition, Fill, amount_at};
 use std::alloc::Global;
 use std::test::Fail;
@@ -176,18 +176,19 @@ struct Given {
 // A tile by `diffuse_tile`.
 fn diffused(kernel: Kernel, place: Place, rows: &InkRows, handed: Edges) -> Given
     requires tile { IsTile (window_of rows.now) place }
-    requires ink { 0 < rows.now.inks }
     requires side { EachInRange handed.side }
     requires band { EachInRange handed.band }
     requires corner { EachInRange handed.corner }
 {
     let mut edges = handed;
     let mut dots = [255u8; 256];
+    let mut amounts = TileAmounts::zero();
+    rows.gather(place, &mut amounts);
     diffuse_tile(
         kernel,
+        rows.shape(),
         place,
-        rows,
-        0,
+        &amounts.inks[0],
         &mut edges.side,
         &mut edges.band,
         &mut edges.corner,

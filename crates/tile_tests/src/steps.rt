@@ -7,7 +7,7 @@ use crate::checks::same;
 use base_definitions::Memory;
 use board_steps::{Cell, Slab, look, open, take};
 use diffusion_kernel::Kernel;
-use dot_planes::InkRows;
+use dot_planes::{InkRows, Seen};
 use std::alloc::Global;
 use std::snapshot::Snapshot;
 use std::test::Fail;
@@ -38,7 +38,7 @@ fn words_around_take(alloc: Global) -> Result<(u64, u64), Memory> {
     let top = TopEdges::zero(alloc, 1, 1)?;
     let slots = waiting_slots(alloc)?;
     let slab = Slab {
-        rows: Snapshot::of(&rows),
+        rows: Seen::of(&rows),
         kernel: Kernel::Floyd,
         top: Snapshot::of(&top),
     };

@@ -3,3 +3,4 @@ pub mod Numbers
 pub mod Passes
 pub mod Laid
 pub mod Slab
+pub mod Shares

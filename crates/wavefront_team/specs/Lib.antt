@@ -1,3 +1,4 @@
 pub mod Slabs
+pub mod Shares
 pub mod Passes
 pub mod Laying

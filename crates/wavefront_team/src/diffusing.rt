@@ -1,5 +1,4 @@
 //! The workers of a slab.
-ghost use denote.Param.Send.{IsSync};
 ghost use Rattle.diffusion_kernel.specs.Tables.{table_of};
 ghost use Rattle.wavefront_team.specs.Slabs.{DiffusesSlab};
 ghost use Rattle.tile_border.specs.Tops.{IsTopOf};
@@ -7,17 +6,21 @@ ghost use Rattle.std.specs.Prelude.{IfOk, OnErr, length, ◌+◌, ◌≡◌, ◌
 ghost use Rattle.tile_board.specs.Board.{slab};
 ghost use Rattle.tile_board.specs.Slabs.{shape_of};
 ghost use Rattle.tile_shape.specs.Geometry.{IsShape};
-ghost use Rattle.wavefront_team.specs.Passes.{AllWorkers, HasAll, IsFirst, IsRest, IsWorkerOf};
+ghost use Rattle.wavefront_team.specs.Passes.{HasAll, HasPostedAll, IsFirst, IsRest, IsShareOf, IsWorkerOf, desk};
+ghost use Rattle.wavefront_team.specs.Shares.{AllReady};
+ghost use Rattle.tile_board.specs.Board.{IsPassOf};
 
+use crate::beside::run_beside;
 use crate::gate::{Gate, Team};
 use crate::laying::lay_tiles;
+use crate::share::{Lends, Lent, TileShare};
 use crate::work::work_rest;
 use crate::worker::Worker;
 use base_definitions::Memory;
 use diffusion_kernel::Kernel;
-use dot_planes::{InkRows, Planes};
+use dot_planes::{Planes, TileRows};
 use std::alloc::Global;
-use std::thread::{Threads, join_mut};
+use std::thread::Threads;
 use tile_board::{Board, Pass};
 use tile_border::TopEdges;
 use tile_shape::Shape;
@@ -28,125 +31,180 @@ use tile_shape::Shape;
 /// leave. Each tile enters the gate before it is worked.
 ///
 /// On `Memory` the planes are unchanged.
-pub fn diffuse<R: Threads + Sync, G: Gate + Sync>(
+pub fn diffuse<R: Threads + Sync, G: Gate + Sync, A: TileRows + Sync>(
     team: &Team<'_, R, G>,
     alloc: Global,
-    rows: &InkRows,
+    rows: &A,
     kernel: Kernel,
     top: TopEdges,
     out: &mut Planes,
     at: u32,
 ) -> Result<TopEdges, Memory>
-    requires top { IsTopOf rows.now.width rows.now.inks top }
-    requires width { out.old.width ≡ rows.now.width }
-    requires inks { out.old.inks ≡ rows.now.inks }
-    requires at { at + rows.now.rows ≤ out.old.rows }
-    ensures slab { IfOk result (λ bottom. DiffusesSlab (table_of kernel) rows.now top bottom at out.old out.new) }
+    requires top { IsTopOf (A.table rows.now).width (A.table rows.now).inks top }
+    requires width { out.old.width ≡ (A.table rows.now).width }
+    requires inks { out.old.inks ≡ (A.table rows.now).inks }
+    requires at { at + (A.table rows.now).rows ≤ out.old.rows }
+    ensures slab { IfOk result (λ bottom. DiffusesSlab (table_of kernel) (A.table rows.now) top bottom at out.old out.new) }
     ensures unchanged { OnErr result (out.new ≡ out.old) }
 {
-    let shape = rows.shape();
-    let (board, mut pass) = Board::make(alloc, rows, kernel, top)?;
-    let mut workers = workers_of(alloc, &board, shape, &mut pass, team.workers)?;
-    run_all(
-        team.threads,
-        &board,
-        shape,
-        team.gate,
-        workers.as_mut_slice(),
-    );
-    join_all(&board, &mut pass, workers);
-    work_rest(&board, shape, team.gate, &mut pass);
-    let closed = board.close(pass);
-    lay_tiles(closed.dots.as_slice(), rows, out, at);
-    Ok(closed.bottom)
+    let mut none = || {};
+    let (bottom, _) = diffuse_beside(team, alloc, rows, kernel, top, out, at, &mut none)?;
+    Ok(bottom)
 }
 
-// As many workers, with a pass of one part each; for one worker none, since the caller works alone.
-fn workers_of(
+/// Diffuses a slab as `diffuse` does, and does the errand on the caller's own thread: after all tiles, where there is one
+/// worker, else while the others work. Its answer stands beside the bottom edges.
+///
+/// On `Memory` the planes are unchanged and the errand is not begun.
+pub fn diffuse_beside<R: Threads + Sync, G: Gate + Sync, A: TileRows + Sync, F: FnMut() -> E, E>(
+    team: &Team<'_, R, G>,
     alloc: Global,
-    board: &Board<'_>,
+    rows: &A,
+    kernel: Kernel,
+    top: TopEdges,
+    out: &mut Planes,
+    at: u32,
+    errand: &mut F,
+) -> Result<(TopEdges, E), Memory>
+    requires top { IsTopOf (A.table rows.now).width (A.table rows.now).inks top }
+    requires width { out.old.width ≡ (A.table rows.now).width }
+    requires inks { out.old.inks ≡ (A.table rows.now).inks }
+    requires at { at + (A.table rows.now).rows ≤ out.old.rows }
+    requires errand { F.pre errand.old }
+    ensures slab { IfOk result (λ answer. DiffusesSlab (table_of kernel) (A.table rows.now) top answer.0 at out.old out.new) }
+    ensures errand { IfOk result (λ answer. F.step errand.old answer.1 errand.new) }
+    ensures unchanged { OnErr result (out.new ≡ out.old) }
+    ensures not_begun { OnErr result (errand.new ≡ errand.old) }
+{
+    let (board, mut pass) = Board::make(alloc, rows, kernel, top)?;
+    let done = work_tiles(team, alloc, &board, rows.shape(), &mut pass, errand)?;
+    let closed = board.close(pass);
+    lay_tiles(closed.dots.as_slice(), rows, out, at);
+    Ok((closed.bottom, done))
+}
+
+// Works all tiles of a board by a team, and does the errand. One worker's errand comes last, so that it finds the slab
+// still in its cache.
+fn work_tiles<R: Threads + Sync, G: Gate + Sync, A: TileRows + Sync, F: FnMut() -> E, E>(
+    team: &Team<'_, R, G>,
+    alloc: Global,
+    board: &Board<'_, A>,
     shape: Shape,
     pass: &mut Pass,
-    count: u8,
-) -> Result<Vec<Worker>, Memory>
-    requires pass { IsFirst board.now pass.old }
+    errand: &mut F,
+) -> Result<E, Memory>
+    requires pass { IsFirst (desk board.now) pass.old }
+    requires shape { shape ≡ shape_of (slab board.now) }
     requires sizes { IsShape shape }
-    requires count { count ≤ 64 }
-    ensures workers { IfOk result (λ workers. AllWorkers board.now workers.items) }
-    ensures rest { IfOk result (λ workers. IsRest board.now (length workers.items) pass.new) }
+    requires errand { F.pre errand.old }
+    ensures pass { IfOk result (λ done. IsPassOf board.now pass.new) }
+    ensures all { IfOk result (λ done. HasPostedAll (desk board.now) pass.new) }
+    ensures errand { IfOk result (λ done. F.step errand.old done errand.new) }
+    ensures not_begun { OnErr result (errand.new ≡ errand.old) }
 {
-    let count = if count == 1 { 0 } else { count };
-    let Ok(mut workers) = Vec::with_capacity(alloc, usize::from(count)) else {
+    if team.workers == 1 {
+        work_rest(board, shape, team.gate, pass);
+        return Ok(errand());
+    }
+    let lent = Lent {
+        board,
+        shape,
+        gate: team.gate,
+    };
+    let done = work_shares(
+        team.threads,
+        alloc,
+        board,
+        shape,
+        &lent,
+        pass,
+        team.workers,
+        errand,
+    )?;
+    work_rest(board, shape, team.gate, pass);
+    Ok(done)
+}
+
+// Works tiles by as many workers, of which the last is the caller after its errand, and joins their passes to the first.
+fn work_shares<R: Threads + Sync, L: Lends + Copy + Send, A: TileRows, F: FnMut() -> E, E>(
+    threads: &R,
+    alloc: Global,
+    board: &Board<'_, A>,
+    shape: Shape,
+    lent: L,
+    pass: &mut Pass,
+    count: u8,
+    errand: &mut F,
+) -> Result<E, Memory>
+    requires pass { IsFirst (desk board.now) pass.old }
+    requires sizes { IsShape shape }
+    requires lent { L.desk lent ≡ desk board.now }
+    requires count { count ≤ 64 }
+    requires errand { F.pre errand.old }
+    ensures pass { IfOk result (λ done. HasAll (desk board.now) pass.new) }
+    ensures errand { IfOk result (λ done. F.step errand.old done errand.new) }
+    ensures not_begun { OnErr result (errand.new ≡ errand.old) }
+{
+    let mut shares = shares_of(alloc, board, shape, lent, pass, count)?;
+    let done = run_shares(threads, board, shares.as_mut_slice(), errand);
+    join_all(board, pass, shares);
+    Ok(done)
+}
+
+// As many shares, each with a pass of one part.
+fn shares_of<L: Lends + Copy, A: TileRows>(
+    alloc: Global,
+    board: &Board<'_, A>,
+    shape: Shape,
+    lent: L,
+    pass: &mut Pass,
+    count: u8,
+) -> Result<Vec<TileShare<L>>, Memory>
+    requires pass { IsFirst (desk board.now) pass.old }
+    requires sizes { IsShape shape }
+    requires lent { L.desk lent ≡ desk board.now }
+    requires count { count ≤ 64 }
+    ensures shares { IfOk result
+        (λ shares. AllReady (λ share. IsShareOf (desk board.now) (L.desk share.lent) share.worker.pass) shares.items) }
+    ensures rest { IfOk result (λ shares. IsRest (desk board.now) (length shares.items) pass.new) }
+{
+    let Ok(mut shares) = Vec::with_capacity(alloc, usize::from(count)) else {
         return Err(Memory);
     };
     for _ in 0..count {
         let worker = Worker::make(alloc, board.split(pass), shape)?;
-        workers.push_reserved(worker);
+        shares.push_reserved(TileShare { lent, worker });
     }
-    Ok(workers)
+    Ok(shares)
 }
 
-// Runs each worker: the last one by the caller, each other in a thread of its own where one can be started. The caller
-// starts all threads: a thread that another worker starts often gets that one's processor, and waits for it.
-#[cycle(workers)]
-fn run_all<R: Threads + Sync, G: Gate + Sync>(
+// Runs each share, the last one after the errand on the caller's own thread.
+fn run_shares<R: Threads + Sync, L: Lends + Send, A: TileRows, F: FnMut() -> E, E>(
     threads: &R,
-    board: &Board<'_>,
-    shape: Shape,
-    gate: &G,
-    workers: &mut [Worker],
-)
-    requires workers { AllWorkers board.now workers.old }
-    requires shape { shape ≡ shape_of (slab board.now) }
-    requires sizes { IsShape shape }
-    ensures { AllWorkers board.now workers.new }
+    board: &Board<'_, A>,
+    shares: &mut [TileShare<L>],
+    errand: &mut F,
+) -> E
+    requires shares { AllReady (λ share. IsShareOf (desk board.now) (L.desk share.lent) share.worker.pass) shares.old }
+    requires errand { F.pre errand.old }
+    ensures shares { AllReady (λ share. IsWorkerOf (desk board.now) share.worker.pass) shares.new }
+    ensures errand { F.step errand.old result errand.new }
 {
-    let Some((first, rest)) = workers.split_first_mut() else {
-        return;
-    };
-    if rest.is_empty() {
-        first.run(board, shape, gate);
-    } else {
-        run_beside(threads, board, shape, gate, first, rest);
-    }
-}
-
-// Runs the first worker in a thread of its own, if one can be started, and the rest of them as `run_all` does.
-#[cycle(workers)]
-fn run_beside<R: Threads + Sync, G: Gate + Sync>(
-    threads: &R,
-    board: &Board<'_>,
-    shape: Shape,
-    gate: &G,
-    first: &mut Worker,
-    rest: &mut [Worker],
-)
-    requires first { IsWorkerOf board.now first.old.pass }
-    requires rest { AllWorkers board.now rest.old }
-    requires shape { shape ≡ shape_of (slab board.now) }
-    requires sizes { IsShape shape }
-    ensures first { IsWorkerOf board.now first.new.pass }
-    ensures rest { AllWorkers board.now rest.new }
-{
-    let mut one = ||
-        requires { IsWorkerOf board.now first.now.pass × (shape ≡ shape_of (slab board.now)) × IsShape shape }
-        ensures { IsWorkerOf board.entry.now first.exit.now.pass }
-    { first.run(board, shape, gate) };
-    let mut others = ||
-        requires { IsSync R.row × IsSync G.row × AllWorkers board.now rest.now × (shape ≡ shape_of (slab board.now))
-            × IsShape shape }
-        ensures { AllWorkers board.entry.now rest.exit.now }
-    { run_all(threads, board, shape, gate, rest) };
-    join_mut(threads, &mut one, &mut others);
+    run_beside(threads, shares, errand)
 }
 
 // Joins the workers' passes to the first.
-fn join_all(board: &Board<'_>, pass: &mut Pass, mut workers: Vec<Worker>)
-    requires pass { IsRest board.now (length workers.items) pass.old }
-    requires workers { AllWorkers board.now workers.items }
-    ensures { HasAll board.now pass.new }
+fn join_all<L: Drop, A: TileRows>(
+    board: &Board<'_, A>,
+    pass: &mut Pass,
+    mut shares: Vec<TileShare<L>>,
+)
+    requires pass { IsRest (desk board.now) (length shares.items) pass.old }
+    requires shares { AllReady (λ share. IsWorkerOf (desk board.now) share.worker.pass) shares.items }
+    ensures { HasAll (desk board.now) pass.new }
 {
-    while let Some(worker) = workers.pop() {
+    while let Some(share) = shares.pop() {
+        let TileShare { lent: _, worker } = share;
         let Worker {
             pass: other,
             next_columns: _,

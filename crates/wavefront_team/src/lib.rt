@@ -5,17 +5,21 @@
 //! `diffuse`: whichever worker works which tile, and in whatever order, the rows of the slab have the dots of
 //! row-by-row diffusion below the given top, all other rows of the planes are unchanged, and the answer is the bottom
 //! edges of the slab's last band (`slab`). On `Memory` the planes are unchanged (`unchanged`); that it succeeds with
-//! ample memory is tested.
+//! ample memory is tested. `diffuse_beside` does the same, and the caller's errand beside the workers, just once
+//! (`errand`); on `Memory` it is not begun (`not_begun`). The errand runs on the caller's own thread.
 //!
 //! Every tile enters the gate before it is worked. Tests hold workers there: two tiles are inside at once, each enters
 //! once, and the dots are the same however long tiles are held back.
 #![tactic(auto)]
 
+mod beside;
 mod diffusing;
 mod gate;
 mod laying;
+mod share;
 mod work;
 mod worker;
 
-pub use diffusing::diffuse;
+pub use beside::{Share, run_beside};
+pub use diffusing::{diffuse, diffuse_beside};
 pub use gate::{Gate, OpenGate, Team};

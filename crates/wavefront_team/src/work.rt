@@ -5,15 +5,21 @@ ghost use Rattle.tile_board.specs.Board.{IsPassOf, holding, slab, view};
 ghost use Rattle.tile_board.specs.Slabs.{number_in, shape_of};
 ghost use Rattle.tile_board.specs.Tasks.{IsTaskOf};
 ghost use Rattle.tile_shape.specs.Geometry.{IsShape, bands_of};
-ghost use Rattle.wavefront_team.specs.Passes.{HasAll, HasPosted, HasPostedAll};
+ghost use Rattle.wavefront_team.specs.Passes.{HasAll, HasPosted, HasPostedAll, desk};
 
 use crate::gate::Gate;
+use dot_planes::TileRows;
 use tile_board::{Board, Claim, Pass};
 use tile_border::Task;
 use tile_shape::{Place, Shape};
 
 /// Works the tile that a pass holds, once the gate lets it in, and posts it.
-pub(crate) fn work_held<G: Gate>(board: &Board<'_>, gate: &G, pass: &mut Pass, task: Task)
+pub(crate) fn work_held<G: Gate, A: TileRows>(
+    board: &Board<'_, A>,
+    gate: &G,
+    pass: &mut Pass,
+    task: Task,
+)
     requires pass { IsPassOf board.now pass.old }
     requires held { holding pass.old ≡ Some task.place }
     requires task { IsTaskOf (slab board.now) task }
@@ -27,12 +33,17 @@ pub(crate) fn work_held<G: Gate>(board: &Board<'_>, gate: &G, pass: &mut Pass, t
 
 /// Works all tiles that are left, by band and then column. The pass has all 256 parts, so each tile in this order is
 /// ready, or the pass has posted it.
-pub(crate) fn work_rest<G: Gate>(board: &Board<'_>, shape: Shape, gate: &G, pass: &mut Pass)
-    requires pass { HasAll board.now pass.old }
+pub(crate) fn work_rest<G: Gate, A: TileRows>(
+    board: &Board<'_, A>,
+    shape: Shape,
+    gate: &G,
+    pass: &mut Pass,
+)
+    requires pass { HasAll (desk board.now) pass.old }
     requires shape { shape ≡ shape_of (slab board.now) }
     requires sizes { IsShape shape }
     ensures pass { IsPassOf board.now pass.new }
-    ensures all { HasPostedAll board.now pass.new }
+    ensures all { HasPostedAll (desk board.now) pass.new }
 {
     for j in 0..shape.bands() {
         work_band(board, shape, gate, pass, j);
@@ -40,14 +51,20 @@ pub(crate) fn work_rest<G: Gate>(board: &Board<'_>, shape: Shape, gate: &G, pass
 }
 
 // Works the tiles of band j that are left.
-fn work_band<G: Gate>(board: &Board<'_>, shape: Shape, gate: &G, pass: &mut Pass, j: u32)
-    requires pass { HasAll board.now pass.old }
+fn work_band<G: Gate, A: TileRows>(
+    board: &Board<'_, A>,
+    shape: Shape,
+    gate: &G,
+    pass: &mut Pass,
+    j: u32,
+)
+    requires pass { HasAll (desk board.now) pass.old }
     requires shape { shape ≡ shape_of (slab board.now) }
     requires sizes { IsShape shape }
     requires band { j < bands_of shape }
-    requires before { HasPosted board.now j 0 pass.old }
-    ensures pass { HasAll board.now pass.new }
-    ensures posted { HasPosted board.now (j + 1) 0 pass.new }
+    requires before { HasPosted (desk board.now) j 0 pass.old }
+    ensures pass { HasAll (desk board.now) pass.new }
+    ensures posted { HasPosted (desk board.now) (j + 1) 0 pass.new }
 {
     for c in 0..shape.columns() {
         match board.claim(pass, Place { c, j }) {

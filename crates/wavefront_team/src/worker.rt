@@ -3,11 +3,12 @@ ghost use Rattle.std.specs.Prelude.{IfOk, IfSome, ◌<◌, ◌≡◌};
 ghost use Rattle.tile_board.specs.Board.{slab};
 ghost use Rattle.tile_board.specs.Slabs.{shape_of};
 ghost use Rattle.tile_shape.specs.Geometry.{IsShape, IsTile};
-ghost use Rattle.wavefront_team.specs.Passes.{IsWorkerOf};
+ghost use Rattle.wavefront_team.specs.Passes.{IsWorkerOf, desk};
 
 use crate::gate::Gate;
 use crate::work::work_held;
 use base_definitions::Memory;
+use dot_planes::TileRows;
 use std::alloc::Global;
 use std::thread::yield_now;
 use tile_board::{Board, Claim, Pass};
@@ -15,6 +16,9 @@ use tile_shape::{Place, Shape};
 
 // A worker that gets no tile in this many claims leaves the rest to the caller.
 const MOST_CLAIMS: u32 = 16_777_216;
+
+// How many columns a worker's band may be ahead of the hindmost one, each band counted two columns behind the one above.
+const MOST_AHEAD: u32 = 8;
 
 /// A worker: its pass, and which tile it claims next.
 #[derive(Drop)]
@@ -43,11 +47,11 @@ impl Worker {
     }
 
     /// Works tiles until all are gone, or it has claimed long in vain.
-    pub(crate) fn run<G: Gate>(&mut self, board: &Board<'_>, shape: Shape, gate: &G)
-        requires worker { IsWorkerOf board.now self.old.pass }
+    pub(crate) fn run<G: Gate, A: TileRows>(&mut self, board: &Board<'_, A>, shape: Shape, gate: &G)
+        requires worker { IsWorkerOf (desk board.now) self.old.pass }
         requires shape { shape ≡ shape_of (slab board.now) }
         requires sizes { IsShape shape }
-        ensures { IsWorkerOf board.now self.new.pass }
+        ensures { IsWorkerOf (desk board.now) self.new.pass }
     {
         for _ in 0..shape.bands() * shape.columns() {
             if !self.work_next(board, shape, gate) {
@@ -57,11 +61,16 @@ impl Worker {
     }
 
     // Claims tiles until it gets one, and works that. False where all are gone, or after `MOST_CLAIMS` claims in vain.
-    fn work_next<G: Gate>(&mut self, board: &Board<'_>, shape: Shape, gate: &G) -> bool
-        requires worker { IsWorkerOf board.now self.old.pass }
+    fn work_next<G: Gate, A: TileRows>(
+        &mut self,
+        board: &Board<'_, A>,
+        shape: Shape,
+        gate: &G,
+    ) -> bool
+        requires worker { IsWorkerOf (desk board.now) self.old.pass }
         requires shape { shape ≡ shape_of (slab board.now) }
         requires sizes { IsShape shape }
-        ensures { IsWorkerOf board.now self.new.pass }
+        ensures { IsWorkerOf (desk board.now) self.new.pass }
     {
         for _ in 0..MOST_CLAIMS {
             let Some(place) = self.next_place(shape) else {
@@ -70,11 +79,11 @@ impl Worker {
             match board.claim(&mut self.pass, place) {
                 Claim::Got(task) => {
                     work_held(board, gate, &mut self.pass, task);
-                    self.go_on();
+                    self.go_on(shape);
                     return true;
                 }
                 Claim::NotReady { .. } => self.look_further(shape),
-                Claim::Gone { .. } => self.go_on(),
+                Claim::Gone { .. } => self.go_on(shape),
             }
         }
         false
@@ -110,12 +119,43 @@ impl Worker {
         }
     }
 
-    // Goes on to the next column of its band.
-    fn go_on(&mut self)
+    // Goes on to the next column of its band, and then to the band that is hindmost, where that is far behind.
+    fn go_on(&mut self, shape: Shape)
+        requires { IsShape shape }
         ensures { self.new.pass ≡ self.old.pass }
     {
         if let Some(c) = self.next_columns.get_mut(self.band as usize) {
             *c = c.saturating_add(1);
+        }
+        self.keep_level(shape);
+    }
+
+    // Turns to the hindmost band, where its own is more than `MOST_AHEAD` columns ahead of that, or has no tile left.
+    fn keep_level(&mut self, shape: Shape)
+        requires { IsShape shape }
+        ensures { self.new.pass ≡ self.old.pass }
+    {
+        let mut least = match self.diagonal(shape, self.band) {
+            Some(own) => own.saturating_sub(MOST_AHEAD),
+            None => u32::MAX,
+        };
+        for j in 0..shape.bands() {
+            if let Some(other) = self.diagonal(shape, j)
+                && other < least
+            {
+                least = other;
+                self.band = j;
+            }
+        }
+    }
+
+    // The diagonal c + 2 j of the next tile of band j. A tile needs only tiles of lower diagonals.
+    fn diagonal(&self, shape: Shape, j: u32) -> Option<u32>
+        requires { IsShape shape }
+    {
+        match self.next_columns.get(j as usize) {
+            Some(&c) if c < shape.columns() => Some(c.saturating_add(j.saturating_mul(2))),
+            _ => None,
         }
     }
 

@@ -61,7 +61,7 @@ fn no_errors(alloc: Global, rows: &InkRows, inks: u8) -> Option<TopEdges>
 }
 
 // Claims tile n for a pass that holds none, and works and posts it if it gets it. The tile's word if it is not ready.
-fn try_tile(board: &Board<'_>, shape: Shape, p: &mut Pass, n: u32) -> Option<u64>
+fn try_tile(board: &Board<'_, InkRows>, shape: Shape, p: &mut Pass, n: u32) -> Option<u64>
     requires shape { shape ≡ shape_of (slab board.now) }
     requires sizes { IsShape shape }
     requires pass { IsPassOf board.now p.old }
@@ -88,7 +88,7 @@ fn try_tile(board: &Board<'_>, shape: Shape, p: &mut Pass, n: u32) -> Option<u64
 }
 
 // Tries this many tiles, in a scattered order.
-fn try_tiles(board: &Board<'_>, shape: Shape, p: &mut Pass, seed: u32, tries: u32)
+fn try_tiles(board: &Board<'_, InkRows>, shape: Shape, p: &mut Pass, seed: u32, tries: u32)
     requires shape { shape ≡ shape_of (slab board.now) }
     requires sizes { IsShape shape }
     requires pass { IsPassOf board.now p.old }
@@ -103,7 +103,7 @@ fn try_tiles(board: &Board<'_>, shape: Shape, p: &mut Pass, seed: u32, tries: u3
 }
 
 // Cuts this many passes off the first, has all of them try tiles in turn, and joins them, the last one first.
-fn try_with(board: &Board<'_>, shape: Shape, p: &mut Pass, passes: u8)
+fn try_with(board: &Board<'_, InkRows>, shape: Shape, p: &mut Pass, passes: u8)
     requires shape { shape ≡ shape_of (slab board.now) }
     requires sizes { IsShape shape }
     requires pass { IsPassOf board.now p.old }
@@ -253,7 +253,7 @@ fn is_handed_zeros(task: &Task) -> bool
 }
 
 // Claims a tile that is not to be handed out: whether it is gone, and its word. `None` where it was handed out.
-fn refusal(board: &Board<'_>, p: &mut Pass, t: Place) -> Option<(bool, u64)>
+fn refusal(board: &Board<'_, InkRows>, p: &mut Pass, t: Place) -> Option<(bool, u64)>
     requires tile { IsTile (shape_of (slab board.now)) t }
     requires pass { IsPassOf board.now p.old }
     requires idle { (view p.old).held ≡ None }

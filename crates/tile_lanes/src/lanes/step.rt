@@ -1,6 +1,6 @@
 //! One step of a tile: one pixel of each row. None reads the error of another.
 ghost use Rattle.std.specs.Prelude.{true, false, ◌%◌, ◌*◌, ◌+◌, ◌-◌, ◌<◌, ◌≡◌, ◌≤◌, ℕ};
-ghost use Rattle.tile_lanes.specs.Done.{plane_of};
+ghost use Rattle.tile_lanes.specs.Done.{plane_with};
 ghost use Rattle.tile_lanes.specs.Held.{HeldInRange, IsHeld, same_in, same_of, up1_in, up1_of, up2_in, up2_of};
 ghost use Rattle.tile_lanes.specs.Lanes.{AreCleared, IsCleared, IsStep};
 ghost use Rattle.tile_lanes.specs.Paces.{delay_of, pace_of};
@@ -9,8 +9,7 @@ ghost use Rattle.tile_lanes.specs.Rows.{is_place};
 use super::pace::Pace;
 use super::value::{Around, held_error, held_value, shows_dot};
 use diffusion_kernel::Kernel;
-use dot_planes::InkRows;
-use tile_shape::Place;
+use tile_shape::{Place, Shape};
 
 // The errors near the pixel whose own stands at a place of the field. Where rows are level, the one two places to the
 // right in the row above is not there yet, and another stands for it.
@@ -160,22 +159,22 @@ struct Span {
 
 // The rows of a step that have a pixel. Rows above them are right of the window, rows below them left of it or below
 // it.
-fn span_of(pace: Pace, place: Place, rows: &InkRows, ink: u8, step: usize) -> Span
+fn span_of(pace: Pace, shape: Shape, place: Place, step: usize) -> Span
     requires low { 8 ≤ step }
     requires high { step < 103 }
     ensures order { result.first ≤ result.end }
     ensures most { result.end ≤ 32 }
-    ensures inside { (r o : ℕ) → result.first ≤ r → r < result.end → o + delay_of pace r + 8 ≡ step
-        → is_place (plane_of rows.now ink) place.j r (64 * place.c + o) ≡ true }
-    ensures before { (r o : ℕ) → r < result.first → o + delay_of pace r + 8 ≡ step
-        → is_place (plane_of rows.now ink) place.j r (64 * place.c + o) ≡ false }
-    ensures after { (r o : ℕ) → result.end ≤ r → r < 32 → o + delay_of pace r + 8 ≡ step
-        → is_place (plane_of rows.now ink) place.j r (64 * place.c + o) ≡ false }
+    ensures inside { (amount : ℕ → ℕ → ℕ) (r o : ℕ) → result.first ≤ r → r < result.end → o + delay_of pace r + 8 ≡ step
+        → is_place (plane_with shape amount) place.j r (64 * place.c + o) ≡ true }
+    ensures before { (amount : ℕ → ℕ → ℕ) (r o : ℕ) → r < result.first → o + delay_of pace r + 8 ≡ step
+        → is_place (plane_with shape amount) place.j r (64 * place.c + o) ≡ false }
+    ensures after { (amount : ℕ → ℕ → ℕ) (r o : ℕ) → result.end ≤ r → r < 32 → o + delay_of pace r + 8 ≡ step
+        → is_place (plane_with shape amount) place.j r (64 * place.c + o) ≡ false }
 {
     // the column of row 0's pixel; each further row's is 2 less, or 3 where it lags
     let x = 64 * place.c as usize + (step - 8);
-    let high = (rows.rows() as usize).saturating_sub(32 * place.j as usize);
-    let width = rows.width() as usize;
+    let high = (shape.height as usize).saturating_sub(32 * place.j as usize);
+    let width = shape.width as usize;
     let (end, past) = match pace {
         Pace::Level => (x / 2 + 1, (x + 2).saturating_sub(width) / 2),
         Pace::Lagging => (x / 3 + 1, (x + 3).saturating_sub(width) / 3),
@@ -220,9 +219,8 @@ fn entered_rows(pace: Pace, step: usize) -> usize
 #[inline(never)]
 pub(crate) fn clear_step(
     pace: Pace,
+    shape: Shape,
     place: Place,
-    rows: &InkRows,
-    ink: u8,
     field: &mut [u16; 3502],
     dots: &mut [u16; 32],
     step: usize,
@@ -231,11 +229,11 @@ pub(crate) fn clear_step(
     requires high { step < 103 }
     requires in_range { HeldInRange field.old }
     ensures in_range { HeldInRange field.new }
-    ensures cleared { IsCleared pace (plane_of rows.now ink) place.c place.j step
+    ensures cleared { (amount : ℕ → ℕ → ℕ) → IsCleared pace (plane_with shape amount) place.c place.j step
         field.old dots.old field.new dots.new }
 {
     let last = entered_rows(pace, step);
-    let span = span_of(pace, place, rows, ink, step);
+    let span = span_of(pace, shape, place, step);
     clear_rows(field, dots, step, 0, span.first.min(last));
     clear_rows(field, dots, step, span.end.min(last), last);
 }

@@ -1,6 +1,6 @@
 use Rattle.std.proofs.Common.{◌≡◌, ◌≤◌, ◌<◌, ◌⊎◌, ℕ, ◌+◌, ◌-◌, ◌*◌, arith, inl, inr, length}
 use Rattle.std.proofs.lemmas.Bool.{cases_lt}
-use Rattle.dot_planes.proofs.TileRows.{put_all, put_more, put_none, takes_dots}
+use Rattle.dot_planes.proofs.RowsOfTiles.{put_all, put_more, put_none, takes_dots}
 use Rattle.dot_planes.proofs.tile_rows.put_cut.Goals as goal
 
 pub loop-b-init : goal.loop-b-init

@@ -2,7 +2,7 @@ use Rattle.std.proofs.Common.{◌≡◌, ◌<◌, ◌≤◌, ℕ, ◌+◌, ◌-�
 use Rattle.std.proofs.lemmas.Bool.{cases_lt}
 use Rattle.base_definitions.specs.Packed.{bit_at}
 use Rattle.dot_planes.specs.Tiles.{PutsDots}
-use Rattle.dot_planes.proofs.TileRows.{TakesDots, put_all, put_more, put_none, takes_whole}
+use Rattle.dot_planes.proofs.RowsOfTiles.{TakesDots, put_all, put_more, put_none, takes_whole}
 use Rattle.dot_planes.proofs.tile_rows.put_whole.Goals as goal
 
 pub loop-n-init : goal.loop-n-init

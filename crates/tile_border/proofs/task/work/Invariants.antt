@@ -1,14 +1,16 @@
 use Rattle.std.proofs.Common.{ℕ, ◌<◌, ◌≤◌}
+use Rattle.dot_planes.specs.Tables.{AmountTable}
 use Rattle.tile_border.specs.Works.{Border, HasInks, IsWholeInk, SameInk, Works}
 use Rattle.tile_border.proofs.task.work.Given as goal
 
 abbrev pub invariant-loop-ink : goal.invariant-loop-ink
-invariant-loop-ink l =
+invariant-loop-ink g l =
     let old : Border = record { side = l.initial.right; band = l.initial.bottom; corner = l.initial.corner; bits = l.initial.bits } in
     let now : Border = record { side = l.right; band = l.bottom; corner = l.corner; bits = l.bits } in
+    let rows : AmountTable = g.A.TileRows.table l.rows in
     record {
-      inks : HasInks l.rows.inks now;
-      done : (i : ℕ) → i < l.ink → Works l.kernel l.rows l.place i old now;
+      inks : HasInks rows.inks now;
+      done : (i : ℕ) → i < l.ink → Works l.kernel rows l.place i old now;
       whole : (i : ℕ) → i < l.ink → IsWholeInk i now;
       rest : (i : ℕ) → l.ink ≤ i → SameInk i old now;
     }

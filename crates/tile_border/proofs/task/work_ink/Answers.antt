@@ -1,25 +1,25 @@
 use Rattle.std.proofs.Common.{arith}
-use Rattle.tile_border.proofs.InkSteps.{read_fits, room_for, works_ink}
+use Rattle.tile_border.proofs.InkSteps.{diffuses, read_fits, room_for, works_ink}
 use Rattle.tile_border.proofs.task.work_ink.Goals as goal
 
 pub diffuse_tile-requires-clause-side_fits : goal.diffuse_tile-requires-clause-side_fits
-diffuse_tile-requires-clause-side_fits c =
+diffuse_tile-requires-clause-side_fits g c =
     read_fits c.side.inside.inks.items c.from-at.result c.index_mut.result.now c.side.invariant
     (room_for _ _ _ _ _ c.from-at.ensures c.side.view_is c.requires.inks.side c.requires.ink) c.index_mut.ensures.value
 
 pub diffuse_tile-requires-clause-band_fits : goal.diffuse_tile-requires-clause-band_fits
-diffuse_tile-requires-clause-band_fits c =
+diffuse_tile-requires-clause-band_fits g c =
     read_fits c.band.inside.inks.items c.from-at.result c.index_mut-2.result.now c.band.invariant
     (room_for _ _ _ _ _ c.from-at.ensures c.band.view_is c.requires.inks.band c.requires.ink) c.index_mut-2.ensures.value
 
 pub diffuse_tile-requires-clause-corner_fits : goal.diffuse_tile-requires-clause-corner_fits
-diffuse_tile-requires-clause-corner_fits c =
+diffuse_tile-requires-clause-corner_fits g c =
     read_fits c.corner.inside.inks.items c.from-at.result c.index_mut-3.result.now c.corner.invariant
     (room_for _ _ _ _ _ c.from-at.ensures c.corner.view_is c.requires.inks.corner c.requires.ink) c.index_mut-3.ensures.value
 
 pub returns : goal.returns
-returns c =
-    works_ink c.args.kernel c.args.rows.now c.args.place c.args.ink c.from-at.result
+returns g c =
+    works_ink c.args.kernel (g.A.TileRows.table c.args.rows.now) c.args.place c.args.ink c.from-at.result
     c.side.inside.inks.items c.args.side.now c.band.inside.inks.items c.args.band.now c.corner.inside.inks.items c.args.corner.now
     c.args.bits.now
     c.diffuse_tile.new.side c.index_mut.result.now c.diffuse_tile.new.band c.index_mut-2.result.now c.diffuse_tile.new.corner
@@ -40,4 +40,5 @@ returns c =
       room = room_for _ _ _ _ _ c.from-at.ensures c.corner.view_is c.requires.inks.corner c.requires.ink;
       read = c.index_mut-3.ensures.value;
     })
-    c.diffuse_tile.ensures.done
+    (diffuses c.args.kernel (g.A.TileRows.table c.args.rows.now) c.args.place c.args.ink c.from-at.result c.shape.result c.args.amounts.now.inks
+    c.shape.ensures.is c.from-at.ensures c.requires.ink c.requires.gathered c.diffuse_tile.ensures.done)

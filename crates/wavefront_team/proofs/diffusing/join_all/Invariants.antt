@@ -1,12 +1,13 @@
 use Rattle.std.proofs.Common.{length, vec_len}
-use Rattle.wavefront_team.specs.Passes.{AllWorkers, IsRest}
+use Rattle.wavefront_team.specs.Passes.{IsRest, IsWorkerOf, desk}
+use Rattle.wavefront_team.specs.Shares.{AllReady}
 use Rattle.wavefront_team.proofs.diffusing.join_all.Given as goal
 
-abbrev pub invariant-loop-worker : goal.invariant-loop-worker
-invariant-loop-worker l = record {
-  workers : AllWorkers l.board l.workers.items;
-  rest : IsRest l.board (length l.workers.items) l.pass;
+abbrev pub invariant-loop-share : goal.invariant-loop-share
+invariant-loop-share g l = record {
+  shares : AllReady (λ share. IsWorkerOf (desk l.board) share.worker.pass) l.shares.items;
+  rest : IsRest (desk l.board) (length l.shares.items) l.pass;
 }
 
-abbrev pub decreases-loop-worker : goal.decreases-loop-worker
-decreases-loop-worker l = vec_len l.workers
+abbrev pub decreases-loop-share : goal.decreases-loop-share
+decreases-loop-share g l = vec_len l.shares

@@ -6,19 +6,19 @@ use Rattle.wavefront_team.proofs.Laid.{band_inside, lays_next, lays_none}
 use Rattle.wavefront_team.proofs.laying.lay_tiles.Goals as goal
 
 pub slice_bounds-put_band-end : goal.slice_bounds-put_band-end
-slice_bounds-put_band-end c =
-    let w : Shape = window_of c.args.rows.now in
+slice_bounds-put_band-end g c =
+    let w : Shape = window_of (g.A.TileRows.table c.args.rows.now) in
     let many : c.columns-columns.result ≡ columns_of w = c.columns-columns.ensures ∙ ap columns_of c.shape-shape.ensures.is in
     let bands : c.bands-j-end.result ≡ bands_of w = c.bands-j-end.ensures ∙ ap bands_of c.shape-shape.ensures.is in
     let P : ℕ → Type 0 = λ m. c.loop-j.j * m + m ≤ length c.args.tiles.now in
     subst P (sym many) (band_inside w c.args.tiles.now c.loop-j.j c.requires.tiles (omega (arith, bands)))
 
 pub loop-j-init : goal.loop-j-init
-loop-j-init c = lays_none (window_of c.args.rows.now) c.args.at c.args.tiles.now c.args.out.now
+loop-j-init g c = lays_none (window_of (g.A.TileRows.table c.args.rows.now)) c.args.at c.args.tiles.now c.args.out.now
 
 pub loop-j-preserved : goal.loop-j-preserved
-loop-j-preserved c =
-    let w : Shape = window_of c.args.rows.now in
+loop-j-preserved g c =
+    let w : Shape = window_of (g.A.TileRows.table c.args.rows.now) in
     let columns : ℕ = c.columns-columns.result in
     let first : ℕ = c.loop-j.j * columns in
     let many : columns ≡ columns_of w = c.columns-columns.ensures ∙ ap columns_of c.shape-shape.ensures.is in

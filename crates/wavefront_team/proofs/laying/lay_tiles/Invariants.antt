@@ -5,4 +5,4 @@ use Rattle.wavefront_team.specs.Laying.{LaysTiles}
 use Rattle.wavefront_team.proofs.laying.lay_tiles.Given as goal
 
 abbrev pub invariant-loop-j : goal.invariant-loop-j
-invariant-loop-j l = LaysTiles (window_of l.rows) l.at (l.j * columns_of (window_of l.rows)) l.tiles l.fn.out l.out
+invariant-loop-j g l = LaysTiles (window_of (g.A.TileRows.table l.rows)) l.at (l.j * columns_of (window_of (g.A.TileRows.table l.rows))) l.tiles l.fn.out l.out

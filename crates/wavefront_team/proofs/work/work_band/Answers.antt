@@ -2,7 +2,6 @@ use Rattle.std.proofs.Common.{◌≡◌, ℕ, ◌+◌, ◌*◌, ◌<◌, ◌≤�
 use Rattle.board_core.proofs.Numbers.{row_more}
 use Rattle.tile_board.specs.Board.{slab, view}
 use Rattle.tile_board.specs.Slabs.{number_in, shape_of}
-use Rattle.tile_board.specs.declared.kinds.Board.{Board}
 use Rattle.tile_board.specs.declared.kinds.Pass.{Pass}
 use Rattle.board_steps.specs.Rule.{times}
 use Rattle.board_steps.specs.declared.rule.Slab.{Slab}
@@ -10,7 +9,7 @@ use Rattle.board_steps.specs.declared.rule.View.{View}
 use Rattle.tile_shape.specs.Geometry.{columns_of}
 use Rattle.tile_shape.specs.declared.tiles.Place.{Place}
 use Rattle.tile_shape.specs.declared.tiles.Shape.{Shape}
-use Rattle.wavefront_team.specs.Passes.{HasAll}
+use Rattle.wavefront_team.specs.Passes.{Desk, HasAll, desk}
 use Rattle.wavefront_team.proofs.Passes.{lacks_none, posted_after, posted_more}
 use Rattle.wavefront_team.proofs.work.work_band.Goals as goal
 use Rattle.wavefront_team.proofs.work.work_band.Goals.{in-Got, in-Gone}
@@ -22,8 +21,8 @@ unreachable-requires g c =
 
 pub loop-c-preserved : goal.loop-c-preserved
 loop-c-preserved g c =
-    let b : Board = c.args.board.now in
-    let s : Slab = slab b in
+    let b : Desk = desk c.args.board.now in
+    let s : Slab = b.slab in
     let t : Place = record { c = c.loop-c.c; j = c.args.j } in
     let n : ℕ = number_in s t in
     let u : ℕ = c.args.j * columns_of (shape_of s) in

@@ -8,14 +8,14 @@ use Rattle.tile_board.proofs.Shapes.{needs-of}
 use Rattle.tile_board.proofs.kinds.Board.claim.Goals as goal
 
 pub returns-then-word-eq1-clause-claim : goal.returns-then-word-eq1-clause-claim
-returns-then-word-eq1-clause-claim c =
+returns-then-word-eq1-clause-claim g c =
     let b = slab c.args.self.now in
     let told =
     told-at b c.args.t c.number-at.result c.look-word.result _ _ c.number-at.ensures.is c.requires.pass.1 c.look-word.ensures.looked in
     gone-first b c.args.t c.look-word.result _ _ c.requires.idle told c.if-word-eq1.true
 
 pub returns-then-lacks_edge-clause-claim : goal.returns-then-lacks_edge-clause-claim
-returns-then-lacks_edge-clause-claim c =
+returns-then-lacks_edge-clause-claim g c =
     let b = slab c.args.self.now in
     let told =
     told-at b c.args.t c.number-at.result c.look-word.result _ _ c.number-at.ensures.is c.requires.pass.1 c.look-word.ensures.looked in
@@ -26,7 +26,7 @@ returns-then-lacks_edge-clause-claim c =
     (c.lacks_edge.ensures.0 c.if-lacks_edge.true)
 
 pub take-word-requires-clause-ready : goal.take-word-requires-clause-ready
-take-word-requires-clause-ready c =
+take-word-requires-clause-ready g c =
     let b = slab c.args.self.now in
     let told =
     told-at b c.args.t c.number-at.result c.look-word.result _ _ c.number-at.ensures.is c.requires.pass.1 c.look-word.ensures.looked in
@@ -37,7 +37,7 @@ take-word-requires-clause-ready c =
     (λ lacks. let h : true ≡ false = sym (c.lacks_edge.ensures.1 lacks) ∙ c.if-lacks_edge.false in cc)
 
 pub invariant_of-p-then-word-eq1-2 : goal.invariant_of-p-then-word-eq1-2
-invariant_of-p-then-word-eq1-2 c =
+invariant_of-p-then-word-eq1-2 g c =
     let p = c.args.p.now in
     let ok =
     looked-ok p.parts p.held c.number-at.result c.look-word.result c.take-word.result p.seat.me c.look-word.new.seat.me
@@ -47,7 +47,7 @@ invariant_of-p-then-word-eq1-2 c =
     record { counted = ok.counted; shown = ok.shown; inside = ok.inside; hand = ok.hand; unsent = ok.unsent }
 
 pub returns-then-word-eq1-2-clause-claim : goal.returns-then-word-eq1-2-clause-claim
-returns-then-word-eq1-2-clause-claim c =
+returns-then-word-eq1-2-clause-claim g c =
     let b = slab c.args.self.now in
     let told =
     told-at b c.args.t c.number-at.result c.look-word.result _ _ c.number-at.ensures.is c.requires.pass.1 c.look-word.ensures.looked in
@@ -57,7 +57,7 @@ returns-then-word-eq1-2-clause-claim c =
     gone-second b c.args.t c.look-word.result c.take-word.result _ _ _ c.requires.idle told took c.if-word-eq1-2.true
 
 pub returns-clause-claim : goal.returns-clause-claim
-returns-clause-claim c =
+returns-clause-claim g c =
     let b = slab c.args.self.now in
     let told =
     told-at b c.args.t c.number-at.result c.look-word.result _ _ c.number-at.ensures.is c.requires.pass.1 c.look-word.ensures.looked in

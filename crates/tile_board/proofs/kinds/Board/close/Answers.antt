@@ -11,10 +11,10 @@ use Rattle.tile_board.proofs.Shapes.{is-shape, shape-is}
 use Rattle.tile_board.proofs.kinds.Board.close.Goals as goal
 
 pub close-requires-clause-posted : goal.close-requires-clause-posted
-close-requires-clause-posted c = each-number (slab c.args.self) c.args.p.seat.me.0 c.requires.all
+close-requires-clause-posted g c = each-number (slab c.args.self) c.args.p.seat.me.0 c.requires.all
 
 pub empty_all-requires-clause-can : goal.empty_all-requires-clause-can
-empty_all-requires-clause-can c =
+empty_all-requires-clause-can g c =
     let b = slab c.args.self in
     let Q : Shape → Type 0 = λ s. CanEmpty s c.close.result in
     subst Q (sym (shape-is c.args.self c.shape-shape.result c.shape-shape.ensures.is)) (record {
@@ -24,10 +24,10 @@ empty_all-requires-clause-can c =
     })
 
 pub returns-clause-once : goal.returns-clause-once
-returns-clause-once c = λ t tile. c.close.ensures.once (number_in (slab c.args.self) t) (number_below (shape_of (slab c.args.self)) t tile)
+returns-clause-once g c = λ t tile. c.close.ensures.once (number_in (slab c.args.self) t) (number_below (shape_of (slab c.args.self)) t tile)
 
 pub returns-clause-closes : goal.returns-clause-closes
-returns-clause-closes c =
+returns-clause-closes g c =
     let b = slab c.args.self in
     let Q : Shape → Type 0 = λ s. EmptiedBefore s (bands_of s * columns_of s) (slots_items c.close.result.slots) c.empty_all.result in
     closes b (slots_items c.close.result.slots) c.empty_all.result

@@ -14,7 +14,7 @@ use Rattle.tile_board.proofs.Shapes.{none-there, tile-there}
 use Rattle.tile_board.proofs.kinds.Board.give.Goals as goal
 
 pub send-requires-clause-edge : goal.send-requires-clause-edge
-send-requires-clause-edge c =
+send-requires-clause-edge g c =
     let b = slab c.args.self.now in
     let there = tile-there c.args.self.now c.shape.result c.in-Some.to c.shape.ensures.is c.in-Some.ensures.receiver.0 in
     record {
@@ -31,7 +31,7 @@ send-requires-clause-edge c =
     }
 
 pub returns-in-Some-clause-gives : goal.returns-in-Some-clause-gives
-returns-in-Some-clause-gives c =
+returns-in-Some-clause-gives g c =
     let b = slab c.args.self.now in
     let there = tile-there c.args.self.now c.shape.result c.in-Some.to c.shape.ensures.is c.in-Some.ensures.receiver.0 in
     sent-gives b (number_in b c.args.t) (index_of c.args.dir) (number_in b c.in-Some.to) c.slot_of-slot.result c.args.edge _ _ _
@@ -40,7 +40,7 @@ returns-in-Some-clause-gives c =
     c.send.ensures.sent
 
 pub returns-in-None-clause-gives : goal.returns-in-None-clause-gives
-returns-in-None-clause-gives c =
+returns-in-None-clause-gives g c =
     let b = slab c.args.self.now in
     kept-gives b (number_in b c.args.t) (index_of c.args.dir) c.slot_of-slot.result c.args.edge _ _ _
     (next-none (shape_of b) c.args.dir c.args.t c.requires.tile

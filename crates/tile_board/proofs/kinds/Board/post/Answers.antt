@@ -3,25 +3,25 @@ use Rattle.tile_board.proofs.Posts.{gave-cell, held-tile, may-post}
 use Rattle.tile_board.proofs.kinds.Board.post.Goals as goal
 
 pub give-requires-clause-edge : goal.give-requires-clause-edge
-give-requires-clause-edge c =
+give-requires-clause-edge g c =
     let b = slab c.args.self.now in
     gave-cell b c.args.d 0 (held-tile b _ c.args.d.place c.args.p.now.seat.me.0 c.requires.pass.1 c.requires.held c.args.p.now.inside)
     c.requires.done c.args.d.whole
 
 pub give-requires-2-clause-edge : goal.give-requires-2-clause-edge
-give-requires-2-clause-edge c =
+give-requires-2-clause-edge g c =
     let b = slab c.args.self.now in
     gave-cell b c.args.d 1 (held-tile b _ c.args.d.place c.args.p.now.seat.me.0 c.requires.pass.1 c.requires.held c.args.p.now.inside)
     c.requires.done c.args.d.whole
 
 pub give-requires-3-clause-edge : goal.give-requires-3-clause-edge
-give-requires-3-clause-edge c =
+give-requires-3-clause-edge g c =
     let b = slab c.args.self.now in
     gave-cell b c.args.d 2 (held-tile b _ c.args.d.place c.args.p.now.seat.me.0 c.requires.pass.1 c.requires.held c.args.p.now.inside)
     c.requires.done c.args.d.whole
 
 pub post-requires-clause-done : goal.post-requires-clause-done
-post-requires-clause-done c =
+post-requires-clause-done g c =
     let b = slab c.args.self.now in
     let p = c.args.p.now in
     let tile = held-tile b _ c.args.d.place p.seat.me.0 c.requires.pass.1 c.requires.held p.inside in

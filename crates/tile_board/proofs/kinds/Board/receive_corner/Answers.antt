@@ -11,7 +11,7 @@ use Rattle.tile_board.proofs.Shapes.{top-of}
 use Rattle.tile_board.proofs.kinds.Board.receive_corner.Goals as goal
 
 pub corner_of-corner-requires : goal.corner_of-corner-requires
-corner_of-corner-requires c =
+corner_of-corner-requires g c =
     let b = slab c.args.self.now in (
       _,
       blank-is b 2 (number_in b c.args.t) c.args.blank c.requires.blank
@@ -19,7 +19,7 @@ corner_of-corner-requires c =
     )
 
 pub returns-then-t-eq0-clause-edge : goal.returns-then-t-eq0-clause-edge
-returns-then-t-eq0-clause-edge c =
+returns-then-t-eq0-clause-edge g c =
     let b = slab c.args.self.now in
     let none = no-corner (shape_of b) c.args.t c.requires.tile c.if-t-eq0.true in
     let blank = ap corner_in (sym c.corner_of-corner.ensures ∙ blank-is b 2 (number_in b c.args.t) c.args.blank c.requires.blank none) in
@@ -28,7 +28,7 @@ returns-then-t-eq0-clause-edge c =
     (ap length blank ∙ length-replicate (amounts_of b).inks (replicate 12 (pos 0))) c.cut_ends.ensures
 
 pub take_out-requires-clause-front : goal.take_out-requires-clause-front
-take_out-requires-clause-front c =
+take_out-requires-clause-front g c =
     let b = slab c.args.self.now in
     let p : Place = record { c = c.args.t.c; j = c.args.t.j - 1 } in
     let source = corner-source (shape_of b) c.args.t c.requires.tile (let h = c.if-t-eq0.false in omega arith) in
@@ -36,7 +36,7 @@ take_out-requires-clause-front c =
     source.number (c.slot_of-slot.ensures ∙ ap (λ n. 4 * n + 2) c.number.ensures.is) c.requires.next
 
 pub corner_of-requires : goal.corner_of-requires
-corner_of-requires c =
+corner_of-requires g c =
     let b = slab c.args.self.now in
     let p : Place = record { c = c.args.t.c; j = c.args.t.j - 1 } in
     let source = corner-source (shape_of b) c.args.t c.requires.tile (let h = c.if-t-eq0.false in omega arith) in (
@@ -47,7 +47,7 @@ corner_of-requires c =
     )
 
 pub returns-clause-edge : goal.returns-clause-edge
-returns-clause-edge c =
+returns-clause-edge g c =
     let b = slab c.args.self.now in
     let p : Place = record { c = c.args.t.c; j = c.args.t.j - 1 } in
     let source = corner-source (shape_of b) c.args.t c.requires.tile (let h = c.if-t-eq0.false in omega arith) in
@@ -57,7 +57,7 @@ returns-clause-edge c =
     ∙ content-is b 2 p source.tile))
 
 pub returns-clause-takes : goal.returns-clause-takes
-returns-clause-takes c =
+returns-clause-takes g c =
     let b = slab c.args.self.now in
     let p : Place = record { c = c.args.t.c; j = c.args.t.j - 1 } in
     let source = corner-source (shape_of b) c.args.t c.requires.tile (let h = c.if-t-eq0.false in omega arith) in

@@ -1,0 +1,68 @@
+-- Rows of a tile, gathered one after the other.
+use Rattle.std.proofs.Common.{ℕ, ◌≡◌, ◌+◌, ◌*◌, ◌<◌, ◌≤◌, ◌∙◌, List, [], ap, arith, get_or, inl, inr, length, refl, set, subst, sym}
+use Rattle.std.proofs.Common.{get_or-set_other, get_or-set_same}
+use Rattle.std.proofs.lemmas.Bool.{cases_eq}
+use Rattle.tile_shape.specs.Geometry.{IsAt, IsPixel}
+use Rattle.tile_shape.specs.declared.tiles.Place.{Place}
+use Rattle.tile_shape.specs.declared.tiles.Shape.{Shape}
+use Rattle.dot_planes.specs.Gathered.{GathersRow, HasInks, HasPixels, HasRows, shape_of}
+use Rattle.dot_planes.specs.Tables.{AmountTable, amount}
+
+-- no rows
+pub no_rows : (s : Shape) (f : ℕ → ℕ → ℕ) (p : Place) (tile : List ℕ) → HasRows s f p 0 tile
+no_rows s f p tile = record { pixel = λ row offset x y low pixel at. absurd (omega arith) }
+
+-- one more row
+pub row_more : (s : Shape) (f : ℕ → ℕ → ℕ) (p : Place) (n : ℕ) (old new : List ℕ) → HasRows s f p n old → GathersRow s f p n old new
+    → HasRows s f p (n + 1) new
+row_more s f p n old new has gathers = record {
+  pixel = λ row offset x y low pixel at. elim (cases_eq row n) [
+    | inl here ↦
+        let AtRow : ℕ → Type 0 = λ m. IsAt p m offset x y in
+        ap (λ m. get_or new (64 * m + offset) 0) here ∙ gathers.pixel offset x y pixel (subst AtRow here at)
+    | inr other ↦ gathers.above (64 * row + offset) (omega (arith, at.in_tile)) ∙ has.pixel row offset x y (omega arith) pixel at
+  ];
+}
+
+-- one more ink
+pub ink_more : (a : AmountTable) (p : Place) (n at : ℕ) (inks : List (List ℕ)) (tile : List ℕ) → at ≡ n → at < length inks
+    → HasPixels (shape_of a) (amount a n) p tile → HasInks a p n inks → HasInks a p (n + 1) (set inks at tile)
+ink_more a p n at inks tile is_at room here has = record {
+  ink = λ i low. elim (cases_eq i n) [
+    | inl last ↦
+        let Has : List ℕ → Type 0 = λ xs. HasPixels (shape_of a) (amount a n) p xs in
+        let AtInk : ℕ → Type 0 = λ m. HasPixels (shape_of a) (amount a m) p (get_or (set inks at tile) m []) in
+        let place : get_or (set inks at tile) n [] ≡ tile = ap (λ m. get_or (set inks at tile) m []) (sym is_at)
+        ∙ get_or-set_same inks at tile [] room in
+        subst AtInk (sym last) (subst Has (sym place) here)
+    | inr other ↦
+        let Has : List ℕ → Type 0 = λ xs. HasPixels (shape_of a) (amount a i) p xs in
+        subst Has (sym (get_or-set_other inks at i tile [] (λ same. other (same ∙ is_at)))) (has.ink i (omega arith))
+  ];
+}
+
+-- The row of a window that is copied, at offsets from `from` to before `to`.
+pub record CopiesPart (row old new : List ℕ) (c r from to : ℕ) : Type 0 where
+  pub part : (o x : ℕ) → from ≤ o → o < to → x + 2 * r ≡ 64 * c + o → get_or new (64 * r + o) 0 ≡ get_or row x 0
+  pub above : (m : ℕ) → m < 64 * r → get_or new m 0 ≡ get_or old m 0
+
+-- a row that is copied as far as the window goes
+pub part_gathers : (s : Shape) (f : ℕ → ℕ → ℕ) (p : Place) (r from to : ℕ) (row old new : List ℕ)
+    → ((x : ℕ) → get_or row x 0 ≡ f (32 * p.j + r) x)
+    → ((o x : ℕ) → o < 64 → x < s.width → x + 2 * r ≡ 64 * p.c + o → from ≤ o)
+    → ((o x : ℕ) → o < 64 → x < s.width → x + 2 * r ≡ 64 * p.c + o → o < to)
+    → CopiesPart row old new p.c r from to → GathersRow s f p r old new
+part_gathers s f p r from to row old new is low high copies = record {
+  pixel = λ offset x y pixel at.
+      copies.part offset x (low offset x at.in_tile pixel.across at.across) (high offset x at.in_tile pixel.across at.across) at.across
+      ∙ is x ∙ ap (λ m. f m x) (sym at.down);
+  above = copies.above;
+}
+
+-- a row of which the window has no pixel
+pub none_gathers : (s : Shape) (f : ℕ → ℕ → ℕ) (p : Place) (r : ℕ) (tile : List ℕ)
+    → ((offset x y : ℕ) → IsPixel s x y → IsAt p r offset x y → ⊥) → GathersRow s f p r tile tile
+none_gathers s f p r tile none = record {
+  pixel = λ offset x y pixel at. absurd (none offset x y pixel at);
+  above = λ m low. refl;
+}

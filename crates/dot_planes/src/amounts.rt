@@ -1,0 +1,45 @@
+//! What a tile needs of rows of amounts, however these are kept.
+use tile_shape::{Place, Shape};
+
+/// The amounts of a tile, 2048 of each of up to four inks: 64 of each of its 32 rows. A place without a pixel has an
+/// amount too, which means nothing.
+#[derive(Drop)]
+pub struct TileAmounts {
+    /// The inks' amounts.
+    pub inks: [[u8; 2048]; 4],
+}
+
+impl TileAmounts {
+    /// Room for a tile's amounts.
+    #[inline]
+    pub fn zero() -> TileAmounts {
+        TileAmounts {
+            inks: [[0; 2048]; 4],
+        }
+    }
+}
+
+/// Rows of amounts of inks, from which tiles are gathered. Contracts see a table of amounts, and not how these are kept.
+pub trait TileRows {
+    ghost use Rattle.dot_planes.specs.Gathered.{HasTile, shape_of};
+    ghost use Rattle.dot_planes.specs.Tables.{AmountTable};
+    ghost use Rattle.tile_shape.specs.Geometry.{IsShape};
+    ghost use Rattle.std.specs.Prelude.{◌≡◌, ◌≤◌};
+
+    /// The amounts.
+    ghost table: { Self → AmountTable };
+
+    /// The window that the rows cover.
+    fn shape(&self) -> Shape
+        ensures is { result ≡ shape_of (table self.now) }
+        ensures sizes { IsShape result };
+
+    /// The number of inks.
+    fn inks(&self) -> u8
+        ensures { result ≡ (table self.now).inks };
+
+    /// Sets a tile's amounts in every ink, wherever the window has a pixel of it. All else may become anything.
+    fn gather(&self, place: Place, out: &mut TileAmounts)
+        ensures tile { HasTile (table self.now) place out.new.inks }
+        ensures few { (table self.now).inks ≤ 4 };
+}
