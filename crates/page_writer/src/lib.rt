@@ -24,12 +24,15 @@
 #![tactic(auto)]
 
 mod blank;
+mod coded;
+mod coding;
 mod halves;
 mod head;
 mod healed;
 mod ink;
 mod numbers;
 mod page;
+mod page_strokes;
 mod passes;
 mod prologue;
 mod rows;
