@@ -10,6 +10,7 @@ use Rattle.page_writer.specs.StrokeBytes.{IsStroke}
 use Rattle.page_writer.specs.Sums.{most_of_pass, rasters_in}
 use Rattle.page_writer.specs.declared.coded.Coded.{Coded}
 use Rattle.page_writer.specs.declared.coded.Piece.{Piece}
+use Rattle.page_writer.specs.declared.coded.Run.{Run}
 use Rattle.page_writer.specs.declared.coded.Sent.{Sent}
 use Rattle.printer_definitions.specs.Printer.{Printer}
 
@@ -44,6 +45,10 @@ pub record Sends (page : HeadPage) (last at count : ℕ) (old new : Option (List
   pub left : sent.last ≡ left_at page.p last (strokes_in page at count)
   pub short : sent.bytes ≤ count * most_of_pass page.p page.t.width
   pub few : sent.rasters ≤ count * 4
+
+-- what is sent first, and what then
+abbrev pub sent_both : Sent → Sent → Sent
+sent_both one two = record { bytes = one.bytes + two.bytes; rasters = one.rasters + two.rasters; last = two.last }
 
 -- ---- strokes that are coded
 
@@ -81,3 +86,26 @@ pub record CodesPiece (page : HeadPage) (before after : Piece) : Type 0 where
   pub many : length after.strokes.items ≡ length before.strokes.items
   pub room : AllRoomy page after.strokes.items
   pub coded : AreCoded page before.first before.end after.strokes.items
+
+-- ---- groups of pieces
+
+-- where the strokes of piece k of a group begin, and those of the piece before it end
+abbrev pub bound_of : Run → ℕ → ℕ
+bound_of run k = min (run.first + k * run.each) run.count
+
+-- A piece of this page has room for so many strokes.
+pub record IsRoomy (page : HeadPage) (each : ℕ) (own : HeadPage) (piece : Piece) : Type 0 where
+  pub own_is : own ≡ page
+  pub many : length piece.strokes.items ≡ each
+  pub room : AllRoomy page piece.strokes.items
+
+-- Piece k of a group has its strokes to code.
+pub record IsAssigned (page : HeadPage) (run : Run) (k : ℕ) (own : HeadPage) (piece : Piece) : Type 0 where
+  pub roomy : IsRoomy page run.each own piece
+  pub first_is : piece.first ≡ bound_of run k
+  pub end_is : piece.end ≡ bound_of run (k + 1)
+
+-- Piece k of a group is coded.
+pub record IsFilled (page : HeadPage) (run : Run) (k : ℕ) (own : HeadPage) (piece : Piece) : Type 0 where
+  pub roomy : IsRoomy page run.each own piece
+  pub coded : AreCoded page (bound_of run k) (bound_of run (k + 1)) piece.strokes.items

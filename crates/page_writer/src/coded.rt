@@ -23,3 +23,11 @@ pub(crate) struct Sent {
     pub(crate) rasters: u32,
     pub(crate) last: u32,
 }
+
+/// The strokes of a group of pieces: `each` for a piece, from `first` on, but none from `count` on.
+#[derive(Clone, Copy)]
+pub(crate) struct Run {
+    pub(crate) first: u32,
+    pub(crate) each: u32,
+    pub(crate) count: u32,
+}

@@ -25,7 +25,9 @@
 
 mod blank;
 mod coded;
+mod coder;
 mod coding;
+mod groups;
 mod halves;
 mod head;
 mod healed;
@@ -36,6 +38,7 @@ mod page_strokes;
 mod passes;
 mod prologue;
 mod rows;
+mod sending;
 mod shingled;
 mod shingles;
 mod stroke;
