@@ -16,9 +16,11 @@ use Rattle.printer_definitions.specs.Printer.{Printer, row_units}
 use Rattle.weave_base.specs.Parts.{AppendsPart}
 use Rattle.weave_base.proofs.Parting.{part_behind, part_of_front}
 use Rattle.page_writer.specs.Heads.{HeadPage, IsPage, stroke_over}
-use Rattle.page_writer.specs.Pieces.{Each, IsCoded, Sends, left_at, sent_both, sent_bytes, sent_commands, strokes_in}
+use Rattle.page_writer.specs.Pieces.{AllRoomy, AreCoded, CodesPiece, Each, IsAssigned, IsCoded, IsFilled, IsReady, Sends, bound_of, left_at, sent_both, sent_bytes, sent_commands, strokes_in}
 use Rattle.page_writer.specs.Sums.{most_of_pass, rasters_in}
 use Rattle.page_writer.specs.declared.coded.Coded.{Coded}
+use Rattle.page_writer.specs.declared.coded.Piece.{Piece}
+use Rattle.page_writer.specs.declared.coded.Run.{Run}
 use Rattle.page_writer.specs.declared.coded.Sent.{Sent}
 use Rattle.page_writer.proofs.Inks.{pass_short, rasters-append}
 use Rattle.page_writer.proofs.InTurn.{strokes_fit}
@@ -39,6 +41,27 @@ each_set {W} P list i x all here = record { at = λ k d low. by_place k d (omega
     by_place k d low false e =
         let R : W → Type 0 = P k in
         subst R (sym (get_or-set_other list i k x d (eqb-false k i e))) (all.at k d low)
+
+-- a fact of each that goes on as another one, where one of them changes
+pub each_step : {W : Type 0} (P Q : ℕ → W → Type 0) (list : List W) (i : ℕ) (x : W)
+    → Each P list → ((k : ℕ) (w : W) → (k ≡ i → ⊥) → P k w → Q k w) → Q i x → Each Q (slice_set list i x)
+each_step {W} P Q list i x all others here =
+    record { at = λ k d low. by_place k d (omega (arith, low, length-set list i x)) (nat_eq k i) refl }
+  where
+    by_place : (k : ℕ) (d : W) → k < length list → (b : Bool) → nat_eq k i ≡ b → Q k (slice_index_or (slice_set list i x) k d)
+    by_place k d low true e =
+        let same : k ≡ i = eqb-true k i e in
+        let R : ℕ → Type 0 = λ n. Q n (slice_index_or (slice_set list i x) n d) in
+        let S : W → Type 0 = Q i in
+        subst R (sym same) (subst S (sym (get_or-set_same list i x d (omega (arith, same, low)))) here)
+    by_place k d low false e =
+        let R : W → Type 0 = Q k in
+        subst R (sym (get_or-set_other list i k x d (eqb-false k i e))) (others k (slice_index_or list k d) (eqb-false k i e) (all.at k d low))
+
+-- a fact of one of them
+pub each_at : {W : Type 0} (P : ℕ → W → Type 0) {list : List W} (i : ℕ) (x : W)
+    → Each P list → i < length list → x ≡ slice_index_or list i x → P i x
+each_at {W} P {list} i x all low is = let R : W → Type 0 = P i in subst R (sym is) (all.at i x low)
 
 -- ---- lists of strokes in two parts
 
@@ -199,14 +222,75 @@ part_more {page} {last} {first} {mid} {a} {b} {d} {one} n end low within done pa
     let Q : ℕ → Type 0 = λ k. AppendsPart a d (sent_bytes page last first k) in
     subst Q whole (part_join n (end - (mid + n)) done (subst P there part))
 
+-- the same of a piece, whose bounds are these
+pub sends_piece : {page : HeadPage} {last first begin end : ℕ} {a b d : Option (List ℕ)} {one two : Sent} (mid stop : ℕ)
+    → begin ≡ mid → end ≡ stop → first ≤ mid → mid ≤ stop
+    → Sends page last first (mid - first) a b one → Sends page one.last begin (end - begin) b d two
+    → Sends page last first (stop - first) a d (sent_both one two)
+sends_piece {page} {last} {first} {begin} {end} {a} {b} {d} {one} {two} mid stop begins ends low rises done more =
+    let P : ℕ → Type 0 = λ n. Sends page one.last n (end - n) b d two in
+    let Q : ℕ → Type 0 = λ n. Sends page one.last mid (n - mid) b d two in
+    sends_more low (omega arith) done (subst Q ends (subst P begins more))
+
+pub part_piece : {page : HeadPage} {last first begin end : ℕ} {a b d : Option (List ℕ)} {one : Sent} (mid stop whole : ℕ)
+    → begin ≡ mid → end ≡ stop → first ≤ mid → mid ≤ stop → stop ≤ whole
+    → Sends page last first (mid - first) a b one → AppendsPart b d (sent_bytes page one.last begin (end - begin))
+    → AppendsPart a d (sent_bytes page last first (whole - first))
+part_piece {page} {last} {first} {begin} {end} {a} {b} {d} {one} mid stop whole begins ends low rises within done part =
+    let P : ℕ → Type 0 = λ n. AppendsPart b d (sent_bytes page one.last n (end - n)) in
+    let Q : ℕ → Type 0 = λ n. AppendsPart b d (sent_bytes page one.last mid (n - mid)) in
+    part_more (stop - mid) whole low (omega arith) done (subst Q ends (subst P begins part))
+
+-- ---- the bounds of a group's pieces
+
+pub bound_above : (run : Run) (k : ℕ) → run.first ≤ run.count → run.first ≤ bound_of run k
+bound_above run k low = omega arith
+
+pub bound_rises : (run : Run) (j k : ℕ) → j ≤ k → bound_of run j ≤ bound_of run k
+bound_rises run j k low = let less : j * run.each ≤ k * run.each = mul-le-mul_right run.each low in omega (arith, less)
+
+pub bound_short : (run : Run) (k : ℕ) → bound_of run (k + 1) ≤ bound_of run k + run.each
+bound_short run k = let more : (k + 1) * run.each ≡ k * run.each + run.each = omega arith in omega (arith, more)
+
+-- ---- pieces before and after they are coded
+
+-- a piece with strokes of its page can be coded
+pub ready_of : {page own : HeadPage} {run : Run} {k : ℕ} {piece : Piece}
+    → IsPage page → run.count ≤ page.head.count → IsAssigned page run k own piece → IsReady own piece
+ready_of {page} {own} {run} {k} {piece} is low has =
+    let P : HeadPage → Type 0 = λ it. IsReady it piece in
+    subst P (sym has.roomy.own_is) (record {
+      page_is = is;
+      low = omega (arith, low, has.end_is);
+      within = omega (arith, bound_short run k, has.first_is, has.end_is, has.roomy.many);
+      room = has.roomy.room;
+    })
+
+-- and once it is coded, those strokes are
+pub filled_of : {page own own' : HeadPage} {run : Run} {k : ℕ} {before after : Piece}
+    → IsAssigned page run k own before → own' ≡ own → CodesPiece own before after → IsFilled page run k own' after
+filled_of {page} {own} {own'} {run} {k} {before} {after} has same codes =
+    let P : HeadPage → Type 0 = λ it. AllRoomy it after.strokes.items in
+    let Q : HeadPage → Type 0 = λ it. AreCoded it before.first before.end after.strokes.items in
+    let R : ℕ → Type 0 = λ n. AreCoded page n before.end after.strokes.items in
+    let S : ℕ → Type 0 = λ n. AreCoded page (bound_of run k) n after.strokes.items in
+    record {
+      roomy = record {
+        own_is = same ∙ has.roomy.own_is;
+        many = codes.many ∙ has.roomy.many;
+        room = subst P has.roomy.own_is codes.room;
+      };
+      coded = subst S has.end_is (subst R has.first_is (subst Q has.roomy.own_is codes.coded));
+    }
+
 -- the bytes of some of the strokes fit a number
-pub sent_fits : {page : HeadPage} {last first mid n : ℕ} {a b d e : Option (List ℕ)} {one two : Sent}
-    → IsPage page → Sends page last first (mid - first) a b one → Sends page one.last mid n d e two
-    → first ≤ mid → mid + n ≤ page.head.count → one.bytes + two.bytes < 2 ^ 52
-sent_fits {page} {last} {first} {mid} {n} {a} {b} {d} {e} {one} {two} is first_sent then_sent low within =
+pub sent_fits : {page : HeadPage} {last at m there begin n : ℕ} {a b d e : Option (List ℕ)} {one two : Sent}
+    → IsPage page → Sends page last at m a b one → Sends page there begin n d e two
+    → m + n ≤ page.head.count → one.bytes + two.bytes < 2 ^ 52
+sent_fits {page} {last} {at} {m} {there} {begin} {n} {a} {b} {d} {e} {one} {two} is first_sent then_sent within =
     let most : ℕ = most_of_pass page.p page.t.width in
-    let split : (mid - first + n) * most ≡ (mid - first) * most + n * most = omega arith in
-    strokes_fit (one.bytes + two.bytes) (mid - first + n) most (omega (arith, first_sent.short, then_sent.short, split))
+    let split : (m + n) * most ≡ m * most + n * most = omega arith in
+    strokes_fit (one.bytes + two.bytes) (m + n) most (omega (arith, first_sent.short, then_sent.short, split))
     (omega (arith, is.few)) (pass_short page.p page.t.width is.can is.over.columns)
 
 -- ---- one stroke

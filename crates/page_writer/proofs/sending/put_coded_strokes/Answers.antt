@@ -17,7 +17,7 @@ returns-in_err-one-clause-room g c = each_set _ _ _ _ c.strokes.invariant.room c
 
 pub and_then-sent-requires-clause-bytes : goal.and_then-sent-requires-clause-bytes
 and_then-sent-requires-clause-bytes g c =
-    let fit = sent_fits c.requires.page c.strokes.invariant.sent c.in_ok-one.ensures.ok (omega arith) (omega arith) in
+    let fit = sent_fits c.requires.page c.strokes.invariant.sent c.in_ok-one.ensures.ok (omega arith) in
     omega (arith, fit)
 
 pub strokes-preserved : goal.strokes-preserved
