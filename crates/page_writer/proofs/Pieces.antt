@@ -241,6 +241,26 @@ part_piece {page} {last} {first} {begin} {end} {a} {b} {d} {one} mid stop whole 
     let Q : ℕ → Type 0 = λ n. AppendsPart b d (sent_bytes page one.last mid (n - mid)) in
     part_more (stop - mid) whole low (omega arith) done (subst Q ends (subst P begins part))
 
+-- the same of the first strokes of a page
+pub sends_first : {page : HeadPage} {last mid n end : ℕ} {a b d : Option (List ℕ)} {one two : Sent}
+    → end ≡ mid + n → Sends page last 0 mid a b one → Sends page one.last mid n b d two
+    → Sends page last 0 end a d (sent_both one two)
+sends_first {page} {last} {mid} {n} {end} {a} {b} {d} {one} {two} is done more =
+    let there : mid ≡ 0 + mid = omega arith in
+    let P : ℕ → Type 0 = λ k. Sends page one.last k n b d two in
+    let Q : ℕ → Type 0 = λ k. Sends page last 0 k a d (sent_both one two) in
+    subst Q (sym is) (sends_join done (subst P there more))
+
+pub part_first : {page : HeadPage} {last mid : ℕ} {a b d : Option (List ℕ)} {one : Sent} (n end : ℕ)
+    → mid + n ≤ end → Sends page last 0 mid a b one → AppendsPart b d (sent_bytes page one.last mid n)
+    → AppendsPart a d (sent_bytes page last 0 end)
+part_first {page} {last} {mid} {a} {b} {d} {one} n end within done part =
+    let there : mid ≡ 0 + mid = omega arith in
+    let whole : mid + (n + (end - (mid + n))) ≡ end = omega arith in
+    let P : ℕ → Type 0 = λ k. AppendsPart b d (sent_bytes page one.last k n) in
+    let Q : ℕ → Type 0 = λ k. AppendsPart a d (sent_bytes page last 0 k) in
+    subst Q whole (part_join n (end - (mid + n)) done (subst P there part))
+
 -- ---- the bounds of a group's pieces
 
 pub bound_above : (run : Run) (k : ℕ) → run.first ≤ run.count → run.first ≤ bound_of run k

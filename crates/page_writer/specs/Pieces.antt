@@ -12,6 +12,7 @@ use Rattle.page_writer.specs.declared.coded.Coded.{Coded}
 use Rattle.page_writer.specs.declared.coded.Piece.{Piece}
 use Rattle.page_writer.specs.declared.coded.Run.{Run}
 use Rattle.page_writer.specs.declared.coded.Sent.{Sent}
+use Rattle.page_writer.specs.declared.cut.Cut.{Cut}
 use Rattle.printer_definitions.specs.Printer.{Printer}
 
 -- each of a list, by its place
@@ -109,3 +110,19 @@ pub record IsAssigned (page : HeadPage) (run : Run) (k : ℕ) (own : HeadPage) (
 pub record IsFilled (page : HeadPage) (run : Run) (k : ℕ) (own : HeadPage) (piece : Piece) : Type 0 where
   pub roomy : IsRoomy page run.each own piece
   pub coded : AreCoded page (bound_of run k) (bound_of run (k + 1)) piece.strokes.items
+
+-- Groups are cut into two pieces or more, of a stroke or more each, and the code of two groups of strokes of `most`
+-- bytes takes 8 MB at most.
+pub record IsCut (most : ℕ) (cut : Cut) : Type 0 where
+  pub some : 2 ≤ cut.pieces
+  pub few : cut.pieces ≤ 64
+  pub each : 1 ≤ cut.each
+  pub room : 2 * (cut.pieces * cut.each * most) ≤ 8388608
+
+-- so many pieces of so many strokes each
+pub record AreGroups (each ahead behind : ℕ) : Type 0 where
+  pub each_some : 1 ≤ each
+  pub ahead_some : 1 ≤ ahead
+  pub ahead_few : ahead ≤ 64
+  pub behind_some : 1 ≤ behind
+  pub behind_few : behind ≤ 64

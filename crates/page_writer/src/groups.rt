@@ -1,7 +1,7 @@
 //! Groups of pieces: one is coded by the workers while the caller sends the one before.
 ghost use denote.Param.Send.{IsSync};
 ghost use Rattle.page_writer.specs.Heads.{HeadPage, IsPage};
-ghost use Rattle.page_writer.specs.Pieces.{AllRoomy, AreCoded, Each, IsAssigned, IsFilled, IsRoomy, Sends};
+ghost use Rattle.page_writer.specs.Pieces.{AllRoomy, AreCoded, AreGroups, Each, IsAssigned, IsFilled, IsRoomy, Sends};
 ghost use Rattle.page_writer.specs.Pieces.{bound_of, sent_bytes};
 ghost use Rattle.std.specs.Prelude.{IfOk, OnErr, OnOk, length, vec_capacity};
 ghost use Rattle.std.specs.Prelude.{◌+◌, ◌-◌, ◌<◌, ◌^◌, ◌≡◌, ◌≤◌};
@@ -11,7 +11,9 @@ ghost use Rattle.weave_base.specs.Parts.{AppendsPart};
 use crate::coded::{Piece, Run, Sent};
 use crate::coder::Coder;
 use crate::page_strokes::Strokes;
+use crate::room::Groups;
 use crate::sending::put_coded_strokes;
+use std::mem;
 use std::thread::Threads;
 use wavefront_team::run_beside;
 use weave_base::{Failed, Sink};
@@ -24,6 +26,18 @@ impl Run {
     {
         let begin = u64::from(self.first) + k as u64 * u64::from(self.each);
         begin.min(u64::from(self.count)) as u32
+    }
+
+    /// The strokes behind so many pieces.
+    fn behind(&self, pieces: usize) -> Run
+        requires { pieces ≤ 64 }
+        ensures { result ≡ record { first = bound_of self.now pieces; each = self.now.each; count = self.now.count } }
+    {
+        Run {
+            first: self.bound(pieces),
+            each: self.each,
+            count: self.count,
+        }
     }
 }
 
@@ -173,4 +187,56 @@ fn code_beside<R: Threads + Sync, S: Strokes + Sync, K: Sink>(
             × (vec_capacity step.entry.now ≤ vec_capacity step.exit.now) }
     { put_group(page, behind, last, step, k) };
     run_beside(threads, ahead.coders.as_mut_slice(), &mut errand)
+}
+
+/// Sends the strokes of a page, which the workers code in groups while the caller sends.
+pub(crate) fn put_groups<R: Threads + Sync, S: Strokes + Sync, K: Sink>(
+    threads: &R,
+    page: &S,
+    groups: Groups<'_, S>,
+    step: &mut Vec<u8>,
+    k: &mut K,
+) -> Result<Sent, Failed>
+    requires page { IsPage (S.page page.now) }
+    requires groups { AreGroups groups.each (length groups.ahead.items) (length groups.behind.items) }
+    requires ahead { Each (λ k coder. IsRoomy (S.page page.now) groups.each (S.page coder.page.now) coder.piece)
+        groups.ahead.items }
+    requires behind { Each (λ k coder. IsRoomy (S.page page.now) groups.each (S.page coder.page.now) coder.piece)
+        groups.behind.items }
+    requires step { 7 ≤ vec_capacity step.old }
+    ensures ok { IfOk result (Sends (S.page page.now) 0 0 (S.page page.now).head.count (K.held k.old) (K.held k.new)) }
+    ensures part { OnErr result (AppendsPart (K.held k.old) (K.held k.new)
+        (sent_bytes (S.page page.now) 0 0 (S.page page.now).head.count)) }
+    ensures cause { HasCause (K.faults k.old) (K.faults k.new) result }
+    ensures step { vec_capacity step.old ≤ vec_capacity step.new }
+{
+    let Groups {
+        each,
+        ahead: coders,
+        behind: others,
+    } = groups;
+    let count = page.count();
+    let run = Run {
+        first: 0,
+        each,
+        count,
+    };
+    let none = Run {
+        first: 0,
+        each,
+        count: 0,
+    };
+    let mut ahead = Group { run, coders };
+    let mut behind = Group {
+        run: none,
+        coders: others,
+    };
+    let mut sent = Sent::nothing(0);
+    'groups: while behind.run.first < count {
+        let one = code_beside(threads, page, &mut ahead, &mut behind, sent.last, step, k)?;
+        sent = sent.and_then(one);
+        behind.run = ahead.run.behind(ahead.coders.len());
+        mem::swap(&mut ahead, &mut behind);
+    }
+    Ok(sent)
 }
