@@ -1,5 +1,5 @@
 -- What a head fires over planes, stroke by stroke.
-use Rattle.std.specs.Prelude.{◌≡◌, ℕ, zero, suc, ◌+◌, ◌*◌, ◌<◌, ◌≤◌, ◌^◌, Bool, if◌then◌else◌, List, [], ◌∷◌, length, map}
+use Rattle.std.specs.Prelude.{◌≡◌, ℕ, suc, ◌*◌, ◌<◌, ◌≤◌, ◌^◌, Bool, if◌then◌else◌, List, [], ◌∷◌, length, map}
 use Rattle.dot_planes.specs.Tables.{DotTable}
 use Rattle.page_definitions.specs.Strokes.{Stroke, Strokes}
 use Rattle.printer_definitions.specs.declared.inks.Ink.{Ink}

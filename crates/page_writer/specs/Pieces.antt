@@ -13,6 +13,7 @@ use Rattle.page_writer.specs.declared.coded.Piece.{Piece}
 use Rattle.page_writer.specs.declared.coded.Run.{Run}
 use Rattle.page_writer.specs.declared.coded.Sent.{Sent}
 use Rattle.page_writer.specs.declared.cut.Cut.{Cut}
+use Rattle.page_writer.specs.declared.room.Groups.{Groups}
 use Rattle.printer_definitions.specs.Printer.{Printer}
 
 -- each of a list, by its place
@@ -119,10 +120,12 @@ pub record IsCut (most : ℕ) (cut : Cut) : Type 0 where
   pub each : 1 ≤ cut.each
   pub room : 2 * (cut.pieces * cut.each * most) ≤ 8388608
 
--- so many pieces of so many strokes each
-pub record AreGroups (each ahead behind : ℕ) : Type 0 where
-  pub each_some : 1 ≤ each
-  pub ahead_some : 1 ≤ ahead
-  pub ahead_few : ahead ≤ 64
-  pub behind_some : 1 ≤ behind
-  pub behind_few : behind ≤ 64
+-- Two groups of pieces of a page have room for their code.
+pub record HaveRoom {S : Type 0} (page_of : S → HeadPage) (page : HeadPage) (groups : Groups S) : Type 0 where
+  pub each_some : 1 ≤ groups.each
+  pub ahead_some : 1 ≤ length groups.ahead.items
+  pub ahead_few : length groups.ahead.items ≤ 64
+  pub behind_some : 1 ≤ length groups.behind.items
+  pub behind_few : length groups.behind.items ≤ 64
+  pub ahead : Each (λ k coder. IsRoomy page groups.each (page_of coder.page.now) coder.piece) groups.ahead.items
+  pub behind : Each (λ k coder. IsRoomy page groups.each (page_of coder.page.now) coder.piece) groups.behind.items

@@ -46,6 +46,11 @@ pub(crate) fn code_strokes<S: Strokes>(page: &S, first: u32, end: u32, strokes: 
 {
     let mut row = [0u8; 1024];
     'strokes: for stroke in first..end {
-        code_stroke(page, stroke, &mut row, &mut strokes[(stroke - first) as usize]);
+        code_stroke(
+            page,
+            stroke,
+            &mut row,
+            &mut strokes[(stroke - first) as usize],
+        );
     }
 }

@@ -1,7 +1,7 @@
 //! Groups of pieces: one is coded by the workers while the caller sends the one before.
 ghost use denote.Param.Send.{IsSync};
 ghost use Rattle.page_writer.specs.Heads.{HeadPage, IsPage};
-ghost use Rattle.page_writer.specs.Pieces.{AllRoomy, AreCoded, AreGroups, Each, IsAssigned, IsFilled, IsRoomy, Sends};
+ghost use Rattle.page_writer.specs.Pieces.{AllRoomy, AreCoded, Each, HaveRoom, IsAssigned, IsFilled, IsRoomy, Sends};
 ghost use Rattle.page_writer.specs.Pieces.{bound_of, sent_bytes};
 ghost use Rattle.std.specs.Prelude.{IfOk, OnErr, OnOk, length, vec_capacity};
 ghost use Rattle.std.specs.Prelude.{◌+◌, ◌-◌, ◌<◌, ◌^◌, ◌≡◌, ◌≤◌};
@@ -122,7 +122,15 @@ fn put_group<S: Strokes, K: Sink>(
     let mut sent = Sent::nothing(last);
     'pieces: for i in 0..group.coders.len() {
         let piece = &mut group.coders[i].piece;
-        let one = put_piece(page, run.bound(i), run.bound(i + 1), piece, sent.last, step, k)?;
+        let one = put_piece(
+            page,
+            run.bound(i),
+            run.bound(i + 1),
+            piece,
+            sent.last,
+            step,
+            k,
+        )?;
         sent = sent.and_then(one);
     }
     Ok(sent)
@@ -198,11 +206,7 @@ pub(crate) fn put_groups<R: Threads + Sync, S: Strokes + Sync, K: Sink>(
     k: &mut K,
 ) -> Result<Sent, Failed>
     requires page { IsPage (S.page page.now) }
-    requires groups { AreGroups groups.each (length groups.ahead.items) (length groups.behind.items) }
-    requires ahead { Each (λ k coder. IsRoomy (S.page page.now) groups.each (S.page coder.page.now) coder.piece)
-        groups.ahead.items }
-    requires behind { Each (λ k coder. IsRoomy (S.page page.now) groups.each (S.page coder.page.now) coder.piece)
-        groups.behind.items }
+    requires groups { HaveRoom (λ it. S.page it) (S.page page.now) groups }
     requires step { 7 ≤ vec_capacity step.old }
     ensures ok { IfOk result (Sends (S.page page.now) 0 0 (S.page page.now).head.count (K.held k.old) (K.held k.new)) }
     ensures part { OnErr result (AppendsPart (K.held k.old) (K.held k.new)

@@ -57,6 +57,7 @@ pub(crate) trait Strokes {
 }
 
 /// The strokes of a head of a printer over planes.
+#[derive(Drop)]
 pub(crate) struct PageStrokes<'a, H> {
     pub(crate) p: &'a Profile,
     pub(crate) planes: &'a Planes,
@@ -76,7 +77,14 @@ impl<'a, H: Head> Strokes for PageStrokes<'a, H> {
 
     fn append(&self, stroke: u32, room: &mut [u8], out: &mut Vec<u8>) -> u32 {
         let len = (self.planes.width() as usize + 7) / 8;
-        append_inks(self.p, self.planes, self.head, stroke, &mut room[..len], out)
+        append_inks(
+            self.p,
+            self.planes,
+            self.head,
+            stroke,
+            &mut room[..len],
+            out,
+        )
     }
 
     fn append_step(&self, row: u32, last: u32, out: &mut Vec<u8>) {

@@ -1,5 +1,5 @@
 //! Room for the code of two groups of pieces, which is taken before the first byte.
-ghost use Rattle.page_writer.specs.Pieces.{AreGroups, Each, IsCut, IsRoomy};
+ghost use Rattle.page_writer.specs.Pieces.{Each, HaveRoom, IsCut, IsRoomy};
 ghost use Rattle.page_writer.specs.Sums.{most_of_pass};
 ghost use Rattle.std.specs.Prelude.{IfOk, IfSome, length, vec_capacity, ◌*◌, ◌/◌, ◌<◌, ◌≡◌, ◌≤◌};
 
@@ -27,7 +27,9 @@ pub(crate) fn cut(workers: u8, count: u32, most: u64) -> Option<Cut>
     ensures { IfSome result (IsCut most) }
 {
     let room = MOST_ROOM / 2 / most;
-    let pieces = u64::from(workers).min(room).min(u64::from(count / LEAST_STROKES));
+    let pieces = u64::from(workers)
+        .min(room)
+        .min(u64::from(count / LEAST_STROKES));
     if pieces < 2 {
         return None;
     }
@@ -69,7 +71,12 @@ fn make_piece(alloc: Global, each: u32, most: usize) -> Result<Piece, Memory>
 }
 
 // A coder for each piece of a group.
-fn make_coders<'a, S: Strokes>(alloc: Global, page: &'a S, cut: Cut, most: usize) -> Result<Vec<Coder<'a, S>>, Memory>
+fn make_coders<'a, S: Strokes>(
+    alloc: Global,
+    page: &'a S,
+    cut: Cut,
+    most: usize,
+) -> Result<Vec<Coder<'a, S>>, Memory>
     requires { most_of_pass (S.page page.now).p (S.page page.now).t.width ≤ most }
     ensures many { IfOk result (λ coders. length coders.items ≡ cut.pieces) }
     ensures room { IfOk result (λ coders.
@@ -87,16 +94,15 @@ fn make_coders<'a, S: Strokes>(alloc: Global, page: &'a S, cut: Cut, most: usize
 
 impl<'a, S: Strokes> Groups<'a, S> {
     /// Room for two groups that are cut in this way, of strokes of so many bytes at most.
-    pub(crate) fn make(alloc: Global, page: &'a S, cut: Cut, most: usize) -> Result<Groups<'a, S>, Memory>
+    pub(crate) fn make(
+        alloc: Global,
+        page: &'a S,
+        cut: Cut,
+        most: usize,
+    ) -> Result<Groups<'a, S>, Memory>
         requires cut { IsCut most cut }
         requires most { most_of_pass (S.page page.now).p (S.page page.now).t.width ≤ most }
-        ensures many { IfOk result (λ groups. AreGroups groups.each (length groups.ahead.items) (length groups.behind.items)) }
-        ensures ahead { IfOk result (λ groups.
-            Each (λ k coder. IsRoomy (S.page page.now) groups.each (S.page coder.page.now) coder.piece)
-            groups.ahead.items) }
-        ensures behind { IfOk result (λ groups.
-            Each (λ k coder. IsRoomy (S.page page.now) groups.each (S.page coder.page.now) coder.piece)
-            groups.behind.items) }
+        ensures { IfOk result (HaveRoom (λ it. S.page it) (S.page page.now)) }
     {
         let ahead = make_coders(alloc, page, cut, most)?;
         let behind = make_coders(alloc, page, cut, most)?;

@@ -1,4 +1,4 @@
-use Rattle.std.proofs.Common.{◌≡◌, ℕ, ◌+◌, ◌<◌, ◌≤◌, length}
+use Rattle.std.proofs.Common.{◌≤◌, length}
 use Rattle.page_writer.specs.Pieces.{AllRoomy, AreCoded}
 use Rattle.page_writer.proofs.coding.code_strokes.Given as goal
 

@@ -1,6 +1,4 @@
-use Rattle.std.proofs.Common.{◌≡◌, ◌∙◌, ◌+◌, ◌<◌, ℕ, arith, length-set}
-use Rattle.page_writer.specs.Heads.{HeadPage}
-use Rattle.page_writer.specs.Pieces.{Each, IsAssigned, IsRoomy}
+use Rattle.std.proofs.Common.{◌∙◌, arith, length-set}
 use Rattle.page_writer.proofs.Pieces.{each_at, each_step}
 use Rattle.page_writer.proofs.groups.assign.Goals as goal
 
@@ -10,8 +8,7 @@ pieces-preserved g c = record {
   assigned = λ page roomy.
       let here = (each_at _ c.pieces.i c.index_mut.result.now (c.pieces.invariant.assigned page roomy) (omega arith) c.index_mut.ensures.value).0 in
       each_step _ _ _ _ _ (c.pieces.invariant.assigned page roomy)
-      (λ k w other both. (both.0, λ low. both.1 (omega arith)))
-      (
+      (λ k w other both. (both.0, λ low. both.1 (omega arith))) (
         record { own_is = here.own_is; many = here.many; room = here.room },
         λ low. record {
           roomy = record { own_is = here.own_is; many = here.many; room = here.room };

@@ -1,4 +1,4 @@
-use Rattle.std.proofs.Common.{◌≡◌, ℕ, ◌<◌, ◌≤◌, length, slice_index_or}
+use Rattle.std.proofs.Common.{◌≡◌, ◌<◌, length}
 use Rattle.page_writer.specs.Heads.{HeadPage}
 use Rattle.page_writer.specs.Pieces.{Each, IsAssigned, IsRoomy}
 use Rattle.page_writer.proofs.groups.assign.Given as goal

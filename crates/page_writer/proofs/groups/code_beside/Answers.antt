@@ -1,7 +1,7 @@
-use Rattle.std.proofs.Common.{◌≡◌, ◌∙◌, ◌<◌, ℕ, List, arith, length, slice_index_or, subst, sym}
+use Rattle.std.proofs.Common.{◌≡◌, ◌∙◌, ◌<◌, List, arith, length, subst, sym}
 use Rattle.std.proofs.lemmas.List.{take_at}
 use Rattle.page_writer.specs.Heads.{HeadPage}
-use Rattle.page_writer.specs.Pieces.{Each, IsAssigned, IsFilled, bound_of}
+use Rattle.page_writer.specs.Pieces.{Each, IsAssigned, IsFilled}
 use Rattle.page_writer.specs.declared.coder.Coder.{Coder}
 use Rattle.page_writer.proofs.Pieces.{filled_of, ready_of}
 use Rattle.page_writer.proofs.groups.code_beside.Goals as goal

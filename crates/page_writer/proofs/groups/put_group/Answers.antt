@@ -1,7 +1,7 @@
-use Rattle.std.proofs.Common.{◌≡◌, ◌∙◌, ◌+◌, ◌-◌, ◌<◌, ◌≤◌, ℕ, arith, length, length-set, subst, sym}
+use Rattle.std.proofs.Common.{◌∙◌, ◌+◌, ◌-◌, ◌≤◌, ℕ, arith, length, length-set, subst, sym}
 use Rattle.weave_base.proofs.Parting.{on_err_anyway}
 use Rattle.page_writer.specs.Heads.{HeadPage}
-use Rattle.page_writer.specs.Pieces.{Each, IsFilled, IsRoomy, Sends, bound_of}
+use Rattle.page_writer.specs.Pieces.{Sends, bound_of}
 use Rattle.page_writer.specs.declared.coded.Run.{Run}
 use Rattle.page_writer.specs.declared.coded.Sent.{Sent}
 use Rattle.page_writer.proofs.Pieces.{bound_above, bound_rises, each_at, each_step, part_piece, sends_piece, sent_fits}
@@ -38,8 +38,7 @@ pieces-preserved g c =
       run = c.pieces.invariant.run;
       many = length-set _ _ _ ∙ c.pieces.invariant.many;
       pieces = each_step _ _ _ _ _ c.pieces.invariant.pieces
-          (λ k w other both. (both.0, λ low. both.1 (omega arith)))
-          (
+          (λ k w other both. (both.0, λ low. both.1 (omega arith))) (
             record { own_is = here.own_is; many = c.in_ok-one.ensures.many ∙ here.many; room = c.in_ok-one.ensures.room },
             λ low. absurd (omega (arith, low)),
           );
