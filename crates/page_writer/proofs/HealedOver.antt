@@ -1,5 +1,5 @@
 -- The strokes of a head with dead nozzles as strokes over planes.
-use Rattle.std.proofs.Common.{◌≡◌, ℕ, ◌+◌, ◌-◌, ◌*◌, ◌/◌, ◌<◌, ◌≤◌, ◌^◌, List, [], ◌∷◌, ◌++◌, length, map, filter, Option, Some, Ok}
+use Rattle.std.proofs.Common.{◌≡◌, ℕ, ◌+◌, ◌-◌, ◌*◌, ◌<◌, ◌≤◌, List, [], ◌∷◌, ◌++◌, length, map, filter, Some, Ok}
 use Rattle.std.proofs.Common.{refl, sym, ◌∙◌, ap, arith}
 use Rattle.std.specs.Prelude.{slice_get}
 use Rattle.std.proofs.Math.Nat.{div-le_self, mul-le-mul_left, mul-le-mul_right}
@@ -28,7 +28,6 @@ use Rattle.separation_definitions.specs.CanPrint.{CanPrint}
 use Rattle.separation_definitions.specs.Windows.{wanted_by, window_of}
 use Rattle.page_writer.specs.Heads.{HeadStrokes, Suits, place_in, stroke_over, stroke_rows, strokes_over}
 use Rattle.page_writer.specs.Healed.{healed_commands, healed_plane_row, healed_strokes}
-use Rattle.page_writer.specs.Passes.{plane_row}
 use Rattle.page_writer.specs.Shows.{Shows}
 use Rattle.page_writer.proofs.Inks.{place_is}
 use Rattle.page_writer.proofs.PassesOver.{IsSame, each-ink, map-counted, plane_row-is, plane_row-len, same-strokes}

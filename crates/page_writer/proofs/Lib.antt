@@ -13,3 +13,4 @@ pub mod ShinglesOver
 pub mod ShingledMeaning
 pub mod HealedOver
 pub mod HealedMeaning
+pub mod Pieces

@@ -1,5 +1,5 @@
 -- What a head fires over planes, stroke by stroke.
-use Rattle.std.specs.Prelude.{◌≡◌, ℕ, zero, suc, ◌+◌, ◌*◌, ◌<◌, ◌≤◌, ◌^◌, Bool, if◌then◌else◌, List, [], ◌∷◌, length, map}
+use Rattle.std.specs.Prelude.{◌≡◌, ℕ, suc, ◌*◌, ◌<◌, ◌≤◌, ◌^◌, Bool, if◌then◌else◌, List, [], ◌∷◌, length, map}
 use Rattle.dot_planes.specs.Tables.{DotTable}
 use Rattle.page_definitions.specs.Strokes.{Stroke, Strokes}
 use Rattle.printer_definitions.specs.declared.inks.Ink.{Ink}
@@ -54,3 +54,13 @@ pub record Suits (p : Printer) (head : HeadStrokes) (t : DotTable) : Type 0 wher
   pub few : head.count < 2 ^ 30
   pub rising : (i j : ℕ) → i ≤ j → j < head.count → head.start i ≤ head.start j
   pub low : (stroke : ℕ) → stroke < head.count → head.start stroke * row_units p ≤ most_rows
+
+-- A page to print: the strokes of a head of a printer over planes.
+pub record HeadPage : Type 0 where
+  pub p : Printer
+  pub head : HeadStrokes
+  pub t : DotTable
+
+-- the head suits the printer and the planes
+abbrev pub IsPage : HeadPage → Type 0
+IsPage page = Suits page.p page.head page.t

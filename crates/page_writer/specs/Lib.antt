@@ -7,3 +7,4 @@ pub mod StrokeBytes
 pub mod AtMost
 pub mod Shingles
 pub mod Healed
+pub mod Pieces

@@ -1,5 +1,5 @@
 -- The commands of rows.
-use Rattle.std.specs.Prelude.{ℕ, Bool, if◌then◌else◌, List, [], ◌∷◌}
+use Rattle.std.specs.Prelude.{Bool, if◌then◌else◌, List, [], ◌∷◌}
 use Rattle.std.specs.List.{flat_map}
 use Rattle.base_definitions.specs.Packed.{packed}
 use Rattle.escp2_definitions.specs.declared.command.Command.TheVariants as c

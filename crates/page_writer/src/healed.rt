@@ -27,15 +27,18 @@ use dead_nozzles::StrokePlan;
 use dot_planes::Planes;
 use printer_profile::{PageForm, Profile, checked_can_print};
 use std::alloc::Global;
+use std::thread::Threads;
+use wavefront_team::Team;
 use weave_base::Sink;
 
 /// Writes the job of a page whose dots are in planes with the nozzles of `dead` dead: the passes of the head without
 /// these nozzles, and strokes in which live nozzles make up for them. It gives the number of bytes and rasters. The
 /// numbers of `dead` are in rising order, and `check_dead` tests them.
 ///
-/// Its memory is the plan of the strokes and the room for one of them, and is taken before the first byte. All else is
+/// Its memory is the plan of the strokes and the room for their code, and is taken before the first byte. All else is
 /// as in `write_page`: the commands, the calls of `put_all`, and what a failed write leaves.
-pub fn write_healed<K: Sink>(
+pub fn write_healed<R: Threads + Sync, G, K: Sink>(
+    team: &Team<'_, R, G>,
     alloc: Global,
     p: &Profile,
     f: PageForm,
@@ -88,5 +91,5 @@ pub fn write_healed<K: Sink>(
     let Ok(plan) = StrokePlan::make(alloc, p.nozzles, p.pitch, planes.rows(), dead) else {
         return Err(WriteStop::Memory);
     };
-    write_strokes(alloc, p, f, planes, &plan, k)
+    write_strokes(team, alloc, p, f, planes, &plan, k)
 }

@@ -4,8 +4,13 @@
 //! A `Head` tells its strokes: where each begins, and which row each nozzle fires. `write_strokes` takes any head that
 //! suits the printer and the planes: on success exactly the bytes of its strokes are appended to the sink (`ok`), and
 //! the answer says how many bytes and rasters they are (`sum`). On `Write` a proper prefix of them was appended
-//! (`part`), and the sink's count of faults rose (`write`). On `Memory` nothing was written (`memory`): the room for
-//! one stroke is taken before the first byte.
+//! (`part`), and the sink's count of faults rose (`write`). On `Memory` nothing was written (`memory`): all memory is
+//! taken before the first byte.
+//!
+//! With several workers the strokes are cut into pieces of consecutive strokes. A group of pieces is coded by all
+//! workers while the caller sends the group above it. The step down to a stroke depends on which strokes above it have
+//! a dot, so a stroke is coded behind seven bytes of room, into which the caller puts the step. The bytes are the same
+//! for any number of workers; that several work at once is not claimed.
 //!
 //! `write_page` writes the interleaved passes of `weave_plan::Plan`. It takes a profile that passes its checks, a form
 //! that the printer takes, and planes of the window's size. The same holds of the bytes of each halftone whose dots
@@ -24,15 +29,23 @@
 #![tactic(auto)]
 
 mod blank;
+mod coded;
+mod coder;
+mod coding;
+mod cut;
+mod groups;
 mod halves;
 mod head;
 mod healed;
 mod ink;
 mod numbers;
 mod page;
+mod page_strokes;
 mod passes;
 mod prologue;
+mod room;
 mod rows;
+mod sending;
 mod shingled;
 mod shingles;
 mod stroke;

@@ -24,6 +24,8 @@ use crate::sums::PageSum;
 use dot_planes::Planes;
 use printer_profile::{PageForm, Profile, checked_can_print};
 use std::alloc::Global;
+use std::thread::Threads;
+use wavefront_team::Team;
 use weave_base::Sink;
 use weave_plan::Plan;
 
@@ -31,9 +33,10 @@ use weave_plan::Plan;
 /// and the sheet, then the passes of the head over the page's window that have a dot, and the end of the sheet (ESC/P
 /// Reference Manual, graphics commands). Rows of rasters are coded.
 ///
-/// It takes its memory, the room for one pass, before the first byte. A pass is one call of `put_all`; so are the
+/// It takes its memory before the first byte, as `write_strokes` does. A pass is one call of `put_all`; so are the
 /// commands before the passes and those after them. On `Write` the sink took a proper prefix of the bytes.
-pub fn write_page<K: Sink>(
+pub fn write_page<R: Threads + Sync, G, K: Sink>(
+    team: &Team<'_, R, G>,
     alloc: Global,
     p: &Profile,
     f: PageForm,
@@ -77,5 +80,5 @@ pub fn write_page<K: Sink>(
 {
     checked_can_print(*p);
     let plan = Plan::make(p.nozzles, p.pitch, planes.rows());
-    write_strokes(alloc, p, f, planes, &plan, k)
+    write_strokes(team, alloc, p, f, planes, &plan, k)
 }

@@ -28,13 +28,16 @@ use dot_planes::Planes;
 use printer_profile::{PageForm, Profile, checked_can_print};
 use shingle_plan::ShinglePlan;
 use std::alloc::Global;
+use std::thread::Threads;
+use wavefront_team::Team;
 use weave_base::Sink;
 
 /// Writes the job of a page whose dots are in planes, each row of them in two passes of the head: its even columns in
 /// one, and its odd columns in the other. It gives the number of bytes and rasters. `shingle_fits` tests the head.
 ///
 /// All else is as in `write_page`: the commands, the memory, the calls of `put_all`, and what a failed write leaves.
-pub fn write_shingled<K: Sink>(
+pub fn write_shingled<R: Threads + Sync, G, K: Sink>(
+    team: &Team<'_, R, G>,
     alloc: Global,
     p: &Profile,
     f: PageForm,
@@ -83,5 +86,5 @@ pub fn write_shingled<K: Sink>(
 {
     checked_can_print(*p);
     let plan = ShinglePlan::make(p.nozzles, p.pitch, planes.rows());
-    write_strokes(alloc, p, f, planes, &plan, k)
+    write_strokes(team, alloc, p, f, planes, &plan, k)
 }

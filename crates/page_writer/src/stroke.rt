@@ -22,7 +22,7 @@ use printer_profile::Profile;
 use weave_base::{Failed, Sink, put_all};
 
 /// Appends a step down by this many units; nothing for 0.
-fn append_step(units: u16, out: &mut Vec<u8>)
+pub(crate) fn append_step(units: u16, out: &mut Vec<u8>)
     requires { vec_len out.old + 7 ≤ vec_capacity out.old }
     ensures items { out.new.items ≡ out.old.items ++ bytes_of page_coding.code (down_by units) }
     ensures most { vec_len out.new ≤ vec_len out.old + 7 }
@@ -34,7 +34,7 @@ fn append_step(units: u16, out: &mut Vec<u8>)
 }
 
 /// Appends what the inks fire in a stroke, and gives the number of their rasters.
-fn append_inks<H: Head>(
+pub(crate) fn append_inks<H: Head>(
     p: &Profile,
     planes: &Planes,
     head: &H,

@@ -2,6 +2,7 @@
 ghost use Rattle.page_definitions.specs.PageBytes.{page_coding};
 ghost use Rattle.page_definitions.specs.Strokes.{bytes_of};
 ghost use Rattle.page_writer.specs.Heads.{Suits, strokes_over};
+ghost use Rattle.page_writer.specs.Pieces.{HaveRoom};
 ghost use Rattle.page_writer.specs.StrokeBytes.{fired_strokes, head_bytes};
 ghost use Rattle.page_writer.specs.Sums.{SumsStrokes, most_of_pass as most_of_pass_of, rasters_in};
 ghost use Rattle.page_writer.specs.declared.strokes.WriteStop.TheVariants as stop;
@@ -9,19 +10,25 @@ ghost use Rattle.printer_definitions.specs.Printer.{row_units as row_units_of};
 ghost use Rattle.pwg_definitions.specs.Header.{IsWanted};
 ghost use Rattle.separation_definitions.specs.Windows.{wanted_by, window_of};
 ghost use Rattle.std.specs.Io.KnownBytes.{Appends, Keeps};
-ghost use Rattle.std.specs.Prelude.{IfOk, IsErrOf, OnErr, OnOk, [], if◌then◌else◌, length, nat_lt};
+ghost use Rattle.std.specs.Prelude.{IfOk, IfSome, IsErrOf, OnErr, OnOk, [], if◌then◌else◌, length, nat_lt};
 ghost use Rattle.std.specs.Prelude.{vec_capacity, vec_len, ◌*◌, ◌+◌, ◌/◌, ◌≡◌, ◌≤◌};
 ghost use Rattle.weave_base.specs.Causes.{HasCause, Rose};
 ghost use Rattle.weave_base.specs.Parts.{AppendsPart};
 
+use crate::groups::put_groups;
 use crate::head::Head;
 use crate::numbers::sheet_of;
+use crate::page_strokes::{PageStrokes, Strokes};
 use crate::prologue::{append_end, append_prologue};
+use crate::room::{Groups, cut};
 use crate::stroke::put_stroke;
 use crate::sums::{PageSum, most_of_pass};
+use base_definitions::Memory;
 use dot_planes::Planes;
 use printer_profile::{PageForm, Profile};
 use std::alloc::Global;
+use std::thread::Threads;
+use wavefront_team::Team;
 use weave_base::{Failed, Sink, put_all};
 
 /// Why a page was not written whole.
@@ -81,38 +88,83 @@ fn put_strokes<H: Head, K: Sink>(
     Ok(sum)
 }
 
-/// Writes a page whose room is reserved: its prologue, its strokes, and its end.
-fn put_page<H: Head, K: Sink>(
-    p: &Profile,
-    f: PageForm,
-    planes: &Planes,
-    head: &H,
+/// Writes the strokes of a page, each in one write: coded by all workers where there is room for their groups, else by
+/// the caller alone.
+fn put_by_all<R: Threads + Sync, H: Head + Sync, K: Sink>(
+    threads: &R,
+    page: &PageStrokes<'_, H>,
+    groups: Option<Groups<'_, PageStrokes<'_, H>>>,
     out: &mut Vec<u8>,
     k: &mut K,
 ) -> Result<PageSum, Failed>
-    requires suits { Suits p.now (H.strokes head.now) planes.now }
-    requires wanted { IsWanted (wanted_by p.now) f }
-    requires rows { planes.now.rows ≡ (window_of f p.now).height }
+    requires suits { Suits page.now.p.now (H.strokes page.now.head.now) page.now.planes.now }
+    requires groups { IfSome groups (HaveRoom
+        (λ it. record { p = it.p.now; head = H.strokes it.head.now; t = it.planes.now })
+        (record { p = page.now.p.now; head = H.strokes page.now.head.now; t = page.now.planes.now })) }
+    requires step { 7 ≤ vec_capacity out.old }
+    requires space { most_of_pass_of page.now.p.now page.now.planes.now.width ≤ vec_capacity out.old }
+    ensures ok { OnOk result (Appends (K.held k.old) (K.held k.new) (bytes_of page_coding.code (fired_strokes
+        page.now.p.now page.now.planes.now.width
+        (strokes_over page.now.p.now (H.strokes page.now.head.now) page.now.planes.now)))) }
+    ensures bytes { IfOk result (λ sum. sum.bytes ≡ length (bytes_of page_coding.code (fired_strokes
+        page.now.p.now page.now.planes.now.width
+        (strokes_over page.now.p.now (H.strokes page.now.head.now) page.now.planes.now)))) }
+    ensures rasters { IfOk result (λ sum. sum.rasters ≡ rasters_in (fired_strokes
+        page.now.p.now page.now.planes.now.width
+        (strokes_over page.now.p.now (H.strokes page.now.head.now) page.now.planes.now))) }
+    ensures part { OnErr result (AppendsPart (K.held k.old) (K.held k.new) (bytes_of page_coding.code (fired_strokes
+        page.now.p.now page.now.planes.now.width
+        (strokes_over page.now.p.now (H.strokes page.now.head.now) page.now.planes.now)))) }
+    ensures cause { HasCause (K.faults k.old) (K.faults k.new) result }
+    ensures most { IfOk result (λ sum. sum.bytes
+        ≤ (H.strokes page.now.head.now).count * most_of_pass_of page.now.p.now page.now.planes.now.width) }
+    ensures capacity { vec_capacity out.old ≤ vec_capacity out.new }
+{
+    let Some(groups) = groups else {
+        let mut row = [0u8; 1024];
+        let len = (page.planes.width() as usize + 7) / 8;
+        return put_strokes(page.p, page.planes, page.head, &mut row[..len], out, k);
+    };
+    let sent = put_groups(threads, page, groups, out, k)?;
+    Ok(PageSum {
+        bytes: sent.bytes,
+        rasters: sent.rasters,
+    })
+}
+
+/// Writes a page whose room is reserved: its prologue, its strokes, and its end.
+fn put_page<R: Threads + Sync, H: Head + Sync, K: Sink>(
+    threads: &R,
+    page: &PageStrokes<'_, H>,
+    groups: Option<Groups<'_, PageStrokes<'_, H>>>,
+    f: PageForm,
+    out: &mut Vec<u8>,
+    k: &mut K,
+) -> Result<PageSum, Failed>
+    requires suits { Suits page.now.p.now (H.strokes page.now.head.now) page.now.planes.now }
+    requires wanted { IsWanted (wanted_by page.now.p.now) f }
+    requires rows { page.now.planes.now.rows ≡ (window_of f page.now.p.now).height }
+    requires groups { IfSome groups (HaveRoom
+        (λ it. record { p = it.p.now; head = H.strokes it.head.now; t = it.planes.now })
+        (record { p = page.now.p.now; head = H.strokes page.now.head.now; t = page.now.planes.now })) }
     requires empty { out.old.items ≡ [] }
     requires none { vec_len out.old ≡ 0 }
     requires prologue { 46 ≤ vec_capacity out.old }
-    requires space { most_of_pass_of p.now planes.now.width ≤ vec_capacity out.old }
-    ensures ok { OnOk result (Appends (K.held k.old) (K.held k.new) (head_bytes p.now (H.strokes head.now)
-        planes.now (f.height * row_units_of p.now))) }
-    ensures sum { IfOk result (SumsStrokes p.now planes.now.width planes.now.rows
-        (f.height * row_units_of p.now)
-        (strokes_over p.now (H.strokes head.now) planes.now)) }
-    ensures part { OnErr result (AppendsPart (K.held k.old) (K.held k.new) (head_bytes p.now
-        (H.strokes head.now) planes.now (f.height * row_units_of p.now))) }
+    requires space { most_of_pass_of page.now.p.now page.now.planes.now.width ≤ vec_capacity out.old }
+    ensures ok { OnOk result (Appends (K.held k.old) (K.held k.new) (head_bytes page.now.p.now (H.strokes page.now.head.now)
+        page.now.planes.now (f.height * row_units_of page.now.p.now))) }
+    ensures sum { IfOk result (SumsStrokes page.now.p.now page.now.planes.now.width page.now.planes.now.rows
+        (f.height * row_units_of page.now.p.now)
+        (strokes_over page.now.p.now (H.strokes page.now.head.now) page.now.planes.now)) }
+    ensures part { OnErr result (AppendsPart (K.held k.old) (K.held k.new) (head_bytes page.now.p.now
+        (H.strokes page.now.head.now) page.now.planes.now (f.height * row_units_of page.now.p.now))) }
     ensures cause { HasCause (K.faults k.old) (K.faults k.new) result }
     ensures short { IfOk result (λ sum. sum.bytes
-        ≤ 49 + (H.strokes head.now).count * most_of_pass_of p.now planes.now.width) }
+        ≤ 49 + (H.strokes page.now.head.now).count * most_of_pass_of page.now.p.now page.now.planes.now.width) }
 {
-    append_prologue(sheet_of(p, f, head.above()), out);
+    append_prologue(sheet_of(page.p, f, page.head.above()), out);
     put_all(k, out)?;
-    let mut row = [0u8; 1024];
-    let len = (planes.width() as usize + 7) / 8;
-    let strokes = put_strokes(p, planes, head, &mut row[..len], out, k)?;
+    let strokes = put_by_all(threads, page, groups, out, k)?;
     out.clear();
     append_end(out);
     put_all(k, out)?;
@@ -122,13 +174,38 @@ fn put_page<H: Head, K: Sink>(
     })
 }
 
+// Room for the groups of these workers. `None` says that the caller codes alone: one worker does as well, or there is
+// no memory for more.
+fn groups_of<'a, H: Head>(
+    alloc: Global,
+    workers: u8,
+    page: &'a PageStrokes<'a, H>,
+    most: u64,
+) -> Option<Groups<'a, PageStrokes<'a, H>>>
+    requires workers { workers ≤ 64 }
+    requires some { 1 ≤ most }
+    requires most { most_of_pass_of page.now.p.now page.now.planes.now.width ≤ most }
+    ensures groups { IfSome result (HaveRoom
+        (λ it. record { p = it.p.now; head = H.strokes it.head.now; t = it.planes.now })
+        (record { p = page.now.p.now; head = H.strokes page.now.head.now; t = page.now.planes.now })) }
+{
+    let cut = cut(workers, page.count(), most)?;
+    match Groups::make(alloc, page, cut, most as usize) {
+        Ok(groups) => Some(groups),
+        Err(Memory) => None,
+    }
+}
+
 /// Writes the job of a page from the strokes of a head over planes of its dots, and gives the number of its bytes and
 /// rasters: graphics mode and the sheet, then the strokes that have a dot, and the end of the sheet (ESC/P Reference
 /// Manual, graphics commands). Rows of rasters are coded.
 ///
-/// It takes its memory, the room for one stroke, before the first byte. A stroke is one call of `put_all`; so are the
-/// commands before the strokes and those after them. On `Write` the sink took a proper prefix of the bytes.
-pub fn write_strokes<H: Head, K: Sink>(
+/// The team's workers code the strokes; the caller alone writes. It takes its memory before the first byte: the room for
+/// one stroke, and for several workers that of two groups of strokes, which is 8 MB at most. Without memory for the
+/// groups the caller codes alone. A stroke is one call of `put_all`; so are the commands before the strokes and those
+/// after them. On `Write` the sink took a proper prefix of the bytes.
+pub fn write_strokes<R: Threads + Sync, G, H: Head + Sync, K: Sink>(
+    team: &Team<'_, R, G>,
     alloc: Global,
     p: &Profile,
     f: PageForm,
@@ -152,11 +229,13 @@ pub fn write_strokes<H: Head, K: Sink>(
     ensures memory { IsErrOf result stop.Memory → Keeps (K.held k.old) (K.held k.new) }
     ensures later { K.faults k.old ≤ K.faults k.new }
 {
-    let most = most_of_pass(p, planes.width()).max(46) as usize;
-    let Ok(mut out) = Vec::with_capacity(alloc, most) else {
+    let most = most_of_pass(p, planes.width()).max(46);
+    let Ok(mut out) = Vec::with_capacity(alloc, most as usize) else {
         return Err(WriteStop::Memory);
     };
-    match put_page(p, f, planes, head, &mut out, k) {
+    let page = PageStrokes { p, planes, head };
+    let groups = groups_of(alloc, team.workers, &page, most);
+    match put_page(team.threads, &page, groups, f, &mut out, k) {
         Ok(sum) => Ok(sum),
         Err(Failed) => Err(WriteStop::Write),
     }

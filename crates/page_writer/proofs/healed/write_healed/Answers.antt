@@ -1,4 +1,4 @@
-use Rattle.std.proofs.Common.{◌≡◌, ℕ, ◌*◌, ◌+◌, ◌≤◌, List, Ok, length, subst, sym, ◌∙◌, ap}
+use Rattle.std.proofs.Common.{◌≡◌, ℕ, ◌*◌, ◌+◌, ◌≤◌, List, length, subst, sym, ◌∙◌, ap}
 use Rattle.std.specs.Io.KnownBytes.{Appends}
 use Rattle.std.specs.Prelude.{IsOk, OnOk}
 use Rattle.std.proofs.lemmas.Result.{IfOk-weaker}
@@ -32,7 +32,7 @@ can_print q p same can checked =
     subst CanPrint same (can (subst P (sym same) checked))
 
 pub write_strokes-requires-clause-suits : goal.write_strokes-requires-clause-suits
-write_strokes-requires-clause-suits g c =
+write_strokes-requires-clause-suits g c κs within =
     let p : Printer = c.args.p.now in
     let t : DotTable = c.args.planes.now in
     let same : c.in-Ok.plan ≡ worn_head c.args.dead.now p t.rows = head_is c.p.view_is c.in-Ok.ensures.plan c.rows.ensures in

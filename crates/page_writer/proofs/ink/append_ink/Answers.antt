@@ -1,4 +1,4 @@
-use Rattle.std.proofs.Common.{◌≡◌, ℕ, ◌-◌, ◌+◌, ◌*◌, ◌/◌, ◌≤◌, ◌++◌, suc, ap, ◌∙◌, sym, arith, append_assoc, vec_capacity, vec_len}
+use Rattle.std.proofs.Common.{◌≡◌, ◌-◌, ◌+◌, ◌*◌, ◌/◌, ◌≤◌, ◌++◌, suc, ap, ◌∙◌, sym, arith, append_assoc, vec_capacity, vec_len}
 use Rattle.escp2_definitions.specs.Commands.{command_bytes}
 use Rattle.escp2_definitions.specs.declared.command.Command.TheVariants as c
 use Rattle.page_writer.specs.Heads.{stroke_rows}

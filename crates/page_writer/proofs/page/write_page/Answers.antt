@@ -32,7 +32,7 @@ can_print q p same can checked =
     subst CanPrint same (can (subst P (sym same) checked))
 
 pub write_strokes-requires-clause-suits : goal.write_strokes-requires-clause-suits
-write_strokes-requires-clause-suits g c =
+write_strokes-requires-clause-suits g c κs within =
     let p : Printer = c.args.p.now in
     let t : DotTable = c.args.planes.now in
     let same : c.make-plan.result ≡ record { nozzles = p.nozzles; pitch = p.pitch; height = t.rows } =

@@ -1,4 +1,4 @@
-use Rattle.std.proofs.Common.{◌≡◌, ◌*◌, List, ℕ, ap, ◌∙◌, sym, subst, length, arith}
+use Rattle.std.proofs.Common.{◌≡◌, ◌*◌, List, ℕ, ap, ◌∙◌, sym, subst, length}
 use Rattle.std.specs.Io.KnownBytes.{Appends}
 use Rattle.page_definitions.specs.Strokes.{Stroke}
 use Rattle.weave_base.specs.Parts.{AppendsPart}

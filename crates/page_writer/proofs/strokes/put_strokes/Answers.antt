@@ -1,7 +1,6 @@
 use Rattle.std.proofs.Common.{◌≡◌, ℕ, ◌-◌, ◌+◌, ◌*◌, ◌<◌, ◌≤◌, suc, nat_lt, if◌then◌else◌, ap, ◌∙◌, arith}
 use Rattle.weave_base.proofs.Parting.{on_err_anyway}
 use Rattle.page_writer.specs.Heads.{HeadStrokes}
-use Rattle.page_writer.specs.Sums.{most_of_pass}
 use Rattle.printer_definitions.specs.Printer.{row_units}
 use Rattle.page_writer.proofs.Inks.{pass_short}
 use Rattle.page_writer.proofs.InTurn.{head_stands, step_low, strokes_begin, strokes_end, strokes_few, strokes_fit, strokes_most}

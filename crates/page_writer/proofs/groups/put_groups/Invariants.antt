@@ -1,0 +1,30 @@
+use Rattle.std.proofs.Common.{◌≡◌, ◌+◌, ◌-◌, ◌≤◌, length, vec_capacity}
+use Rattle.page_writer.specs.Pieces.{Each, IsFilled, IsRoomy, Sends, bound_of}
+use Rattle.page_writer.proofs.groups.put_groups.Given as goal
+
+abbrev pub invariant-groups : goal.invariant-groups
+invariant-groups g l = record {
+  each : 1 ≤ l.each;
+  count : l.count ≡ (g.S.Strokes.page l.page).head.count;
+  ahead_each : l.ahead.run.each ≡ l.each;
+  ahead_count : l.ahead.run.count ≡ l.count;
+  ahead_low : l.ahead.run.first ≤ l.count;
+  ahead_some : 1 ≤ length l.ahead.coders.items;
+  ahead_few : length l.ahead.coders.items ≤ 64;
+  ahead_room : Each (λ k coder. IsRoomy (g.S.Strokes.page l.page) l.each (g.S.Strokes.page coder.page.now) coder.piece)
+      l.ahead.coders.items;
+  each_is : l.behind.run.each ≡ l.each;
+  low : l.behind.run.count ≤ l.count;
+  first : l.behind.run.first ≤ l.behind.run.count;
+  some : 1 ≤ length l.behind.coders.items;
+  few : length l.behind.coders.items ≤ 64;
+  filled : Each (λ k coder. IsFilled (g.S.Strokes.page l.page) l.behind.run k (g.S.Strokes.page coder.page.now) coder.piece)
+      l.behind.coders.items;
+  next : bound_of l.behind.run (length l.behind.coders.items) ≡ l.ahead.run.first;
+  sent : Sends (g.S.Strokes.page l.page) 0 0 l.behind.run.first (g.K.Sink.held l.fn.k) (g.K.Sink.held l.k) l.sent;
+  step : vec_capacity l.fn.step ≤ vec_capacity l.step;
+  later : g.K.Sink.faults l.fn.k ≤ g.K.Sink.faults l.k;
+}
+
+abbrev pub decreases-groups : goal.decreases-groups
+decreases-groups g l = l.count - l.behind.run.first + (l.count - l.ahead.run.first)

@@ -1,0 +1,33 @@
+//! Strokes that are coded and not yet sent.
+
+/// The code of a stroke, and how many rasters it has. It begins with room for the step down to the stroke, which
+/// depends on the strokes above it.
+#[derive(Drop)]
+pub(crate) struct Coded {
+    pub(crate) code: Vec<u8>,
+    pub(crate) rasters: u32,
+}
+
+/// Consecutive strokes, from `first` to before `end`, and room for their code.
+#[derive(Drop)]
+pub(crate) struct Piece {
+    pub(crate) first: u32,
+    pub(crate) end: u32,
+    pub(crate) strokes: Vec<Coded>,
+}
+
+/// What was sent of a page, and the row that the head is on.
+#[derive(Clone, Copy)]
+pub(crate) struct Sent {
+    pub(crate) bytes: u64,
+    pub(crate) rasters: u32,
+    pub(crate) last: u32,
+}
+
+/// The strokes of a group of pieces: `each` for a piece, from `first` on, but none from `count` on.
+#[derive(Clone, Copy)]
+pub(crate) struct Run {
+    pub(crate) first: u32,
+    pub(crate) each: u32,
+    pub(crate) count: u32,
+}

@@ -1,0 +1,246 @@
+//! Groups of pieces: one is coded by the workers while the caller sends the one before.
+ghost use denote.Param.Send.{IsSync};
+ghost use Rattle.page_writer.specs.Heads.{HeadPage, IsPage};
+ghost use Rattle.page_writer.specs.Pieces.{AllRoomy, AreCoded, Each, HaveRoom, IsAssigned, IsFilled, IsRoomy, Sends};
+ghost use Rattle.page_writer.specs.Pieces.{bound_of, sent_bytes};
+ghost use Rattle.std.specs.Prelude.{IfOk, OnErr, OnOk, length, vec_capacity};
+ghost use Rattle.std.specs.Prelude.{◌+◌, ◌-◌, ◌<◌, ◌^◌, ◌≡◌, ◌≤◌};
+ghost use Rattle.weave_base.specs.Causes.{HasCause};
+ghost use Rattle.weave_base.specs.Parts.{AppendsPart};
+
+use crate::coded::{Piece, Run, Sent};
+use crate::coder::Coder;
+use crate::page_strokes::Strokes;
+use crate::room::Groups;
+use crate::sending::put_coded_strokes;
+use std::mem;
+use std::thread::Threads;
+use wavefront_team::run_beside;
+use weave_base::{Failed, Sink};
+
+impl Run {
+    /// Where the strokes of piece `k` begin, and those of the piece before it end.
+    pub(crate) fn bound(&self, k: usize) -> u32
+        requires { k ≤ 64 }
+        ensures { result ≡ bound_of self.now k }
+    {
+        let begin = u64::from(self.first) + k as u64 * u64::from(self.each);
+        begin.min(u64::from(self.count)) as u32
+    }
+
+    /// The strokes behind so many pieces.
+    fn behind(&self, pieces: usize) -> Run
+        requires { pieces ≤ 64 }
+        ensures { result ≡ record { first = bound_of self.now pieces; each = self.now.each; count = self.now.count } }
+    {
+        Run {
+            first: self.bound(pieces),
+            each: self.each,
+            count: self.count,
+        }
+    }
+}
+
+// Sends a piece whose strokes from `first` to before `end` are coded.
+fn put_piece<S: Strokes, K: Sink>(
+    page: &S,
+    first: u32,
+    end: u32,
+    piece: &mut Piece,
+    last: u32,
+    step: &mut Vec<u8>,
+    k: &mut K,
+) -> Result<Sent, Failed>
+    requires page { IsPage (S.page page.now) }
+    requires rising { first ≤ end }
+    requires low { end ≤ (S.page page.now).head.count }
+    requires within { end ≤ first + length piece.old.strokes.items }
+    requires coded { AreCoded (S.page page.now) first end piece.old.strokes.items }
+    requires room { AllRoomy (S.page page.now) piece.old.strokes.items }
+    requires step { 7 ≤ vec_capacity step.old }
+    ensures ok { IfOk result (Sends (S.page page.now) last first (end - first) (K.held k.old) (K.held k.new)) }
+    ensures part { OnErr result
+        (AppendsPart (K.held k.old) (K.held k.new) (sent_bytes (S.page page.now) last first (end - first))) }
+    ensures cause { HasCause (K.faults k.old) (K.faults k.new) result }
+    ensures many { length piece.new.strokes.items ≡ length piece.old.strokes.items }
+    ensures room { AllRoomy (S.page page.now) piece.new.strokes.items }
+    ensures step { vec_capacity step.old ≤ vec_capacity step.new }
+{
+    let strokes = piece.strokes.as_mut_slice();
+    put_coded_strokes(page, first, end, strokes, last, step, k)
+}
+
+/// Pieces of a page, and which strokes they have.
+#[derive(Drop)]
+pub(crate) struct Group<'a, S> {
+    pub(crate) run: Run,
+    pub(crate) coders: Vec<Coder<'a, S>>,
+}
+
+// Gives each piece its strokes of this run to code.
+fn assign<S: Strokes>(run: Run, coders: &mut Vec<Coder<'_, S>>)
+    requires few { length coders.old.items ≤ 64 }
+    ensures assigned { (page : HeadPage)
+        → Each (λ k coder. IsRoomy page run.each (S.page coder.page.now) coder.piece) coders.old.items
+        → Each (λ k coder. IsAssigned page run k (S.page coder.page.now) coder.piece) coders.new.items }
+    ensures many { length coders.new.items ≡ length coders.old.items }
+{
+    'pieces: for i in 0..coders.len() {
+        let piece = &mut coders[i].piece;
+        piece.first = run.bound(i);
+        piece.end = run.bound(i + 1);
+    }
+}
+
+// Sends the strokes of a group whose pieces are coded. The head is on row `last`.
+fn put_group<S: Strokes, K: Sink>(
+    page: &S,
+    group: &mut Group<'_, S>,
+    last: u32,
+    step: &mut Vec<u8>,
+    k: &mut K,
+) -> Result<Sent, Failed>
+    requires page { IsPage (S.page page.now) }
+    requires few { length group.old.coders.items ≤ 64 }
+    requires low { group.old.run.count ≤ (S.page page.now).head.count }
+    requires first { group.old.run.first ≤ group.old.run.count }
+    requires filled { Each (λ k coder. IsFilled (S.page page.now) group.old.run k (S.page coder.page.now) coder.piece)
+        group.old.coders.items }
+    requires step { 7 ≤ vec_capacity step.old }
+    ensures ok { IfOk result (Sends (S.page page.now) last group.old.run.first
+        (bound_of group.old.run (length group.old.coders.items) - group.old.run.first) (K.held k.old) (K.held k.new)) }
+    ensures part { OnErr result (AppendsPart (K.held k.old) (K.held k.new) (sent_bytes (S.page page.now) last
+        group.old.run.first (bound_of group.old.run (length group.old.coders.items) - group.old.run.first))) }
+    ensures cause { HasCause (K.faults k.old) (K.faults k.new) result }
+    ensures run { group.new.run ≡ group.old.run }
+    ensures many { length group.new.coders.items ≡ length group.old.coders.items }
+    ensures room { OnOk result (Each (λ k coder. IsRoomy (S.page page.now) group.old.run.each (S.page coder.page.now) coder.piece)
+        group.new.coders.items) }
+    ensures step { vec_capacity step.old ≤ vec_capacity step.new }
+{
+    let run = group.run;
+    let mut sent = Sent::nothing(last);
+    'pieces: for i in 0..group.coders.len() {
+        let piece = &mut group.coders[i].piece;
+        let one = put_piece(
+            page,
+            run.bound(i),
+            run.bound(i + 1),
+            piece,
+            sent.last,
+            step,
+            k,
+        )?;
+        sent = sent.and_then(one);
+    }
+    Ok(sent)
+}
+
+// Codes the strokes of the group ahead by all workers, while the caller sends those of the group behind, whose pieces
+// are coded. The head is on row `last`.
+fn code_beside<R: Threads + Sync, S: Strokes + Sync, K: Sink>(
+    threads: &R,
+    page: &S,
+    ahead: &mut Group<'_, S>,
+    behind: &mut Group<'_, S>,
+    last: u32,
+    step: &mut Vec<u8>,
+    k: &mut K,
+) -> Result<Sent, Failed>
+    requires page { IsPage (S.page page.now) }
+    requires ahead_few { length ahead.old.coders.items ≤ 64 }
+    requires ahead_low { ahead.old.run.count ≤ (S.page page.now).head.count }
+    requires ahead_room { Each (λ k coder. IsRoomy (S.page page.now) ahead.old.run.each (S.page coder.page.now) coder.piece)
+        ahead.old.coders.items }
+    requires few { length behind.old.coders.items ≤ 64 }
+    requires low { behind.old.run.count ≤ (S.page page.now).head.count }
+    requires first { behind.old.run.first ≤ behind.old.run.count }
+    requires filled { Each (λ k coder. IsFilled (S.page page.now) behind.old.run k (S.page coder.page.now) coder.piece)
+        behind.old.coders.items }
+    requires step { 7 ≤ vec_capacity step.old }
+    ensures ok { IfOk result (Sends (S.page page.now) last behind.old.run.first
+        (bound_of behind.old.run (length behind.old.coders.items) - behind.old.run.first)
+        (K.held k.old) (K.held k.new)) }
+    ensures part { OnErr result (AppendsPart (K.held k.old) (K.held k.new) (sent_bytes (S.page page.now) last
+        behind.old.run.first (bound_of behind.old.run (length behind.old.coders.items) - behind.old.run.first))) }
+    ensures cause { HasCause (K.faults k.old) (K.faults k.new) result }
+    ensures run { behind.new.run ≡ behind.old.run }
+    ensures many { length behind.new.coders.items ≡ length behind.old.coders.items }
+    ensures room { OnOk result (Each (λ k coder. IsRoomy (S.page page.now) behind.old.run.each (S.page coder.page.now)
+        coder.piece) behind.new.coders.items) }
+    ensures step { vec_capacity step.old ≤ vec_capacity step.new }
+    ensures ahead_run { ahead.new.run ≡ ahead.old.run }
+    ensures ahead_many { length ahead.new.coders.items ≡ length ahead.old.coders.items }
+    ensures ahead_filled { Each (λ k coder. IsFilled (S.page page.now) ahead.old.run k (S.page coder.page.now) coder.piece)
+        ahead.new.coders.items }
+{
+    assign(ahead.run, &mut ahead.coders);
+    let mut errand = || -> Result<Sent, Failed>
+        requires { IsPage (S.page page.now) × (length behind.now.coders.items ≤ 64)
+            × (behind.now.run.count ≤ (S.page page.now).head.count) × (behind.now.run.first ≤ behind.now.run.count)
+            × Each (λ k coder. IsFilled (S.page page.now) behind.now.run k (S.page coder.page.now) coder.piece)
+            behind.now.coders.items
+            × (7 ≤ vec_capacity step.now) }
+        ensures { IfOk result (Sends (S.page page.entry.now) last behind.entry.now.run.first
+            (bound_of behind.entry.now.run (length behind.entry.now.coders.items) - behind.entry.now.run.first)
+            (K.held k.entry.now) (K.held k.exit.now))
+            × OnErr result (AppendsPart (K.held k.entry.now) (K.held k.exit.now) (sent_bytes (S.page page.entry.now) last
+            behind.entry.now.run.first
+            (bound_of behind.entry.now.run (length behind.entry.now.coders.items) - behind.entry.now.run.first)))
+            × HasCause (K.faults k.entry.now) (K.faults k.exit.now) result
+            × (behind.exit.now.run ≡ behind.entry.now.run)
+            × (length behind.exit.now.coders.items ≡ length behind.entry.now.coders.items)
+            × OnOk result (Each (λ k coder. IsRoomy (S.page page.entry.now) behind.entry.now.run.each
+            (S.page coder.page.now) coder.piece) behind.exit.now.coders.items)
+            × (vec_capacity step.entry.now ≤ vec_capacity step.exit.now) }
+    { put_group(page, behind, last, step, k) };
+    run_beside(threads, ahead.coders.as_mut_slice(), &mut errand)
+}
+
+/// Sends the strokes of a page, which the workers code in groups while the caller sends.
+pub(crate) fn put_groups<R: Threads + Sync, S: Strokes + Sync, K: Sink>(
+    threads: &R,
+    page: &S,
+    groups: Groups<'_, S>,
+    step: &mut Vec<u8>,
+    k: &mut K,
+) -> Result<Sent, Failed>
+    requires page { IsPage (S.page page.now) }
+    requires groups { HaveRoom (λ it. S.page it) (S.page page.now) groups }
+    requires step { 7 ≤ vec_capacity step.old }
+    ensures ok { IfOk result (Sends (S.page page.now) 0 0 (S.page page.now).head.count (K.held k.old) (K.held k.new)) }
+    ensures part { OnErr result (AppendsPart (K.held k.old) (K.held k.new)
+        (sent_bytes (S.page page.now) 0 0 (S.page page.now).head.count)) }
+    ensures cause { HasCause (K.faults k.old) (K.faults k.new) result }
+    ensures step { vec_capacity step.old ≤ vec_capacity step.new }
+{
+    let Groups {
+        each,
+        ahead: coders,
+        behind: others,
+    } = groups;
+    let count = page.count();
+    let run = Run {
+        first: 0,
+        each,
+        count,
+    };
+    let none = Run {
+        first: 0,
+        each,
+        count: 0,
+    };
+    let mut ahead = Group { run, coders };
+    let mut behind = Group {
+        run: none,
+        coders: others,
+    };
+    let mut sent = Sent::nothing(0);
+    'groups: while behind.run.first < count {
+        let one = code_beside(threads, page, &mut ahead, &mut behind, sent.last, step, k)?;
+        sent = sent.and_then(one);
+        behind.run = ahead.run.behind(ahead.coders.len());
+        mem::swap(&mut ahead, &mut behind);
+    }
+    Ok(sent)
+}

@@ -1,0 +1,93 @@
+//! The strokes of a page, whichever head they are of.
+ghost use Rattle.base_definitions.specs.Limits.{most_rows};
+ghost use Rattle.page_definitions.specs.PageBytes.{page_coding};
+ghost use Rattle.page_definitions.specs.Strokes.{bytes_of, down_by};
+ghost use Rattle.page_writer.specs.Heads.{HeadPage, IsPage, stroke_over};
+ghost use Rattle.page_writer.specs.StrokeBytes.{IsStroke};
+ghost use Rattle.printer_definitions.specs.Printer.{row_units as row_units_of};
+ghost use Rattle.std.specs.Prelude.{length, vec_capacity, vec_len, ◌*◌, ◌++◌, ◌-◌};
+ghost use Rattle.std.specs.Prelude.{◌+◌, ◌/◌, ◌<◌, ◌≡◌, ◌≤◌};
+
+use crate::head::Head;
+use crate::numbers::row_units;
+use crate::stroke::{append_inks, append_step};
+use dot_planes::Planes;
+use printer_profile::Profile;
+
+/// The strokes of a page.
+pub(crate) trait Strokes {
+    /// The head, the printer and the planes that they are of.
+    ghost page: { Self → HeadPage };
+
+    /// How many there are.
+    fn count(&self) -> u32
+        ensures { result ≡ (page self.now).head.count };
+
+    /// The row where one begins.
+    fn start(&self, stroke: u32) -> u32
+        requires { stroke < (page self.now).head.count }
+        ensures { result ≡ (page self.now).head.start stroke };
+
+    /// Appends what the inks fire in a stroke, and gives the number of their rasters. The room is as long as the widest
+    /// row.
+    fn append(&self, stroke: u32, room: &mut [u8], out: &mut Vec<u8>) -> u32
+        requires page { IsPage (page self.now) }
+        requires stroke { stroke < (page self.now).head.count }
+        requires room { 1024 ≤ length room.old }
+        requires space { vec_len out.old + (page self.now).t.inks
+            * (12 + 2 * (page self.now).p.nozzles * (((page self.now).t.width + 7) / 8)) ≤ vec_capacity out.old }
+        ensures inks { IsStroke (page self.now).p (page self.now).t.width
+            (stroke_over (page self.now).p (page self.now).head (page self.now).t stroke)
+            out.old.items out.new.items result }
+        ensures few { result ≤ 4 }
+        ensures most { vec_len out.new ≤ vec_len out.old + (page self.now).t.inks
+            * (12 + 2 * (page self.now).p.nozzles * (((page self.now).t.width + 7) / 8)) }
+        ensures capacity { vec_capacity out.old ≤ vec_capacity out.new }
+        ensures long { length room.new ≡ length room.old };
+
+    /// Appends the step down to a row from the row `last`; nothing where the head is there.
+    fn append_step(&self, row: u32, last: u32, out: &mut Vec<u8>)
+        requires page { IsPage (page self.now) }
+        requires low { row * row_units_of (page self.now).p ≤ most_rows }
+        requires space { vec_len out.old + 7 ≤ vec_capacity out.old }
+        ensures items { out.new.items ≡ out.old.items
+            ++ bytes_of page_coding.code (down_by ((row - last) * row_units_of (page self.now).p)) }
+        ensures most { vec_len out.new ≤ vec_len out.old + 7 }
+        ensures capacity { vec_capacity out.old ≤ vec_capacity out.new };
+}
+
+/// The strokes of a head of a printer over planes.
+#[derive(Drop)]
+pub(crate) struct PageStrokes<'a, H> {
+    pub(crate) p: &'a Profile,
+    pub(crate) planes: &'a Planes,
+    pub(crate) head: &'a H,
+}
+
+impl<'a, H: Head> Strokes for PageStrokes<'a, H> {
+    ghost page = { λ page. record { p = page.p.now; head = H.strokes page.head.now; t = page.planes.now } };
+
+    fn count(&self) -> u32 {
+        self.head.count()
+    }
+
+    fn start(&self, stroke: u32) -> u32 {
+        self.head.start(stroke)
+    }
+
+    fn append(&self, stroke: u32, room: &mut [u8], out: &mut Vec<u8>) -> u32 {
+        let len = (self.planes.width() as usize + 7) / 8;
+        append_inks(
+            self.p,
+            self.planes,
+            self.head,
+            stroke,
+            &mut room[..len],
+            out,
+        )
+    }
+
+    fn append_step(&self, row: u32, last: u32, out: &mut Vec<u8>) {
+        append_step(row.saturating_sub(last) as u16 * row_units(self.p), out);
+    }
+}

@@ -1,0 +1,115 @@
+//! Room for the code of two groups of pieces, which is taken before the first byte.
+ghost use Rattle.page_writer.specs.Pieces.{Each, HaveRoom, IsCut, IsRoomy};
+ghost use Rattle.page_writer.specs.Sums.{most_of_pass};
+ghost use Rattle.std.specs.Prelude.{IfOk, IfSome, length, vec_capacity, ◌*◌, ◌/◌, ◌<◌, ◌≡◌, ◌≤◌};
+
+use crate::coded::{Coded, Piece};
+use crate::coder::Coder;
+use crate::cut::Cut;
+use crate::page_strokes::Strokes;
+use base_definitions::Memory;
+use std::alloc::Global;
+
+/// The most bytes of room for the code of pieces.
+const MOST_ROOM: u64 = 8 << 20;
+
+/// A group has a worker's piece for each of so many strokes of the page at least.
+const LEAST_STROKES: u32 = 4;
+
+/// In how many groups the strokes of a page are coded, where there is room.
+const GROUPS: u64 = 8;
+
+/// How so many strokes are cut for these workers, where a stroke takes so many bytes at most. `None` says that one
+/// worker does as well: there are few strokes, or no room for two of them at once.
+pub(crate) fn cut(workers: u8, count: u32, most: u64) -> Option<Cut>
+    requires most { 1 ≤ most }
+    requires workers { workers ≤ 64 }
+    ensures { IfSome result (IsCut most) }
+{
+    let room = MOST_ROOM / 2 / most;
+    let pieces = u64::from(workers)
+        .min(room)
+        .min(u64::from(count / LEAST_STROKES));
+    if pieces < 2 {
+        return None;
+    }
+    let wanted = u64::from(count) / (GROUPS * pieces);
+    let each = wanted.max(1).min(room / pieces);
+    Some(Cut {
+        pieces: pieces as u32,
+        each: each as u32,
+    })
+}
+
+/// Room for the code of two groups, of `each` strokes for a piece.
+#[derive(Drop)]
+pub(crate) struct Groups<'a, S> {
+    pub(crate) each: u32,
+    pub(crate) ahead: Vec<Coder<'a, S>>,
+    pub(crate) behind: Vec<Coder<'a, S>>,
+}
+
+// A piece with room for so many strokes, of so many bytes each.
+fn make_piece(alloc: Global, each: u32, most: usize) -> Result<Piece, Memory>
+    ensures many { IfOk result (λ piece. length piece.strokes.items ≡ each) }
+    ensures room { IfOk result (λ piece. Each (λ k coded. most ≤ vec_capacity coded.code) piece.strokes.items) }
+{
+    let Ok(mut strokes) = Vec::with_capacity(alloc, each as usize) else {
+        return Err(Memory);
+    };
+    'strokes: for _ in 0..each {
+        let Ok(code) = Vec::with_capacity(alloc, most) else {
+            return Err(Memory);
+        };
+        strokes.push_reserved(Coded { code, rasters: 0 });
+    }
+    Ok(Piece {
+        first: 0,
+        end: 0,
+        strokes,
+    })
+}
+
+// A coder for each piece of a group.
+fn make_coders<'a, S: Strokes>(
+    alloc: Global,
+    page: &'a S,
+    cut: Cut,
+    most: usize,
+) -> Result<Vec<Coder<'a, S>>, Memory>
+    requires { most_of_pass (S.page page.now).p (S.page page.now).t.width ≤ most }
+    ensures many { IfOk result (λ coders. length coders.items ≡ cut.pieces) }
+    ensures room { IfOk result (λ coders.
+        Each (λ k coder. IsRoomy (S.page page.now) cut.each (S.page coder.page.now) coder.piece) coders.items) }
+{
+    let Ok(mut coders) = Vec::with_capacity(alloc, cut.pieces as usize) else {
+        return Err(Memory);
+    };
+    'pieces: for _ in 0..cut.pieces {
+        let piece = make_piece(alloc, cut.each, most)?;
+        coders.push_reserved(Coder { page, piece });
+    }
+    Ok(coders)
+}
+
+impl<'a, S: Strokes> Groups<'a, S> {
+    /// Room for two groups that are cut in this way, of strokes of so many bytes at most.
+    pub(crate) fn make(
+        alloc: Global,
+        page: &'a S,
+        cut: Cut,
+        most: usize,
+    ) -> Result<Groups<'a, S>, Memory>
+        requires cut { IsCut most cut }
+        requires most { most_of_pass (S.page page.now).p (S.page page.now).t.width ≤ most }
+        ensures { IfOk result (HaveRoom (λ it. S.page it) (S.page page.now)) }
+    {
+        let ahead = make_coders(alloc, page, cut, most)?;
+        let behind = make_coders(alloc, page, cut, most)?;
+        Ok(Groups {
+            each: cut.each,
+            ahead,
+            behind,
+        })
+    }
+}

@@ -1,0 +1,125 @@
+//! Coded strokes are sent, each in one write.
+ghost use Rattle.page_definitions.specs.PageBytes.{page_coding};
+ghost use Rattle.page_writer.specs.Heads.{IsPage};
+ghost use Rattle.page_writer.specs.Pieces.{AllRoomy, AreCoded, HasRoom, IsCoded, Sends, sent_both, sent_bytes};
+ghost use Rattle.page_writer.specs.Sums.{most_of_pass};
+ghost use Rattle.std.specs.Prelude.{IfOk, OnErr, drop, length, vec_capacity, vec_len, ◌++◌};
+ghost use Rattle.std.specs.Prelude.{◌+◌, ◌-◌, ◌<◌, ◌^◌, ◌≡◌, ◌≤◌};
+ghost use Rattle.weave_base.specs.Causes.{HasCause};
+ghost use Rattle.weave_base.specs.Parts.{AppendsPart};
+
+use crate::coded::{Coded, Sent};
+use crate::coding::STEP;
+use crate::page_strokes::Strokes;
+use weave_base::{Failed, Sink, put_all};
+
+impl Sent {
+    /// Nothing is sent, and the head is on this row.
+    pub(crate) fn nothing(last: u32) -> Sent
+        ensures { result ≡ record { bytes = 0; rasters = 0; last = last } }
+    {
+        Sent {
+            bytes: 0,
+            rasters: 0,
+            last,
+        }
+    }
+
+    /// This is sent, and then more.
+    pub(crate) fn and_then(self, more: Sent) -> Sent
+        requires bytes { self.bytes + more.bytes < 2 ^ 64 }
+        requires rasters { self.rasters + more.rasters < 2 ^ 32 }
+        ensures { result ≡ sent_both self more }
+    {
+        Sent {
+            bytes: self.bytes + more.bytes,
+            rasters: self.rasters + more.rasters,
+            last: more.last,
+        }
+    }
+}
+
+// Puts a step right before the code of a stroke, into the room in front of it, and gives where the step begins.
+fn put_step(step: &[u8], code: &mut [u8]) -> usize
+    requires step { length step.now ≤ 7 }
+    requires room { 7 ≤ length code.old }
+    ensures bytes { drop result code.new ≡ step.now ++ drop 7 code.old }
+    ensures begin { result ≡ 7 - length step.now }
+    ensures long { length code.new ≡ length code.old }
+{
+    let begin = STEP - step.len();
+    code[begin..STEP].copy_from_slice(step);
+    begin
+}
+
+// Sends a stroke, or nothing where no ink has a dot in it. The head is on row `last`.
+fn put_coded<S: Strokes, K: Sink>(
+    page: &S,
+    stroke: u32,
+    coded: &mut Coded,
+    last: u32,
+    step: &mut Vec<u8>,
+    k: &mut K,
+) -> Result<Sent, Failed>
+    requires page { IsPage (S.page page.now) }
+    requires stroke { stroke < (S.page page.now).head.count }
+    requires coded { IsCoded (S.page page.now) stroke coded.old }
+    requires room { HasRoom (S.page page.now) coded.old }
+    requires step { 7 ≤ vec_capacity step.old }
+    ensures ok { IfOk result (Sends (S.page page.now) last stroke 1 (K.held k.old) (K.held k.new)) }
+    ensures part { OnErr result
+        (AppendsPart (K.held k.old) (K.held k.new) (sent_bytes (S.page page.now) last stroke 1)) }
+    ensures cause { HasCause (K.faults k.old) (K.faults k.new) result }
+    ensures room { HasRoom (S.page page.now) coded.new }
+    ensures step { vec_capacity step.old ≤ vec_capacity step.new }
+{
+    if coded.rasters == 0 {
+        return Ok(Sent::nothing(last));
+    }
+    let row = page.start(stroke);
+    step.clear();
+    page.append_step(row, last, step);
+    let rasters = coded.rasters;
+    let code = coded.code.as_mut_slice();
+    let begin = put_step(step, code);
+    put_all(k, &code[begin..])?;
+    Ok(Sent {
+        bytes: (code.len() - begin) as u64,
+        rasters,
+        last: row,
+    })
+}
+
+/// Sends the strokes from `first` to before `end`, which are coded. The head is on row `last`. The vector has room for
+/// a step.
+pub(crate) fn put_coded_strokes<S: Strokes, K: Sink>(
+    page: &S,
+    first: u32,
+    end: u32,
+    strokes: &mut [Coded],
+    last: u32,
+    step: &mut Vec<u8>,
+    k: &mut K,
+) -> Result<Sent, Failed>
+    requires page { IsPage (S.page page.now) }
+    requires rising { first ≤ end }
+    requires low { end ≤ (S.page page.now).head.count }
+    requires within { end ≤ first + length strokes.old }
+    requires coded { AreCoded (S.page page.now) first end strokes.old }
+    requires room { AllRoomy (S.page page.now) strokes.old }
+    requires step { 7 ≤ vec_capacity step.old }
+    ensures ok { IfOk result (Sends (S.page page.now) last first (end - first) (K.held k.old) (K.held k.new)) }
+    ensures part { OnErr result
+        (AppendsPart (K.held k.old) (K.held k.new) (sent_bytes (S.page page.now) last first (end - first))) }
+    ensures cause { HasCause (K.faults k.old) (K.faults k.new) result }
+    ensures room { AllRoomy (S.page page.now) strokes.new }
+    ensures step { vec_capacity step.old ≤ vec_capacity step.new }
+{
+    let mut sent = Sent::nothing(last);
+    'strokes: for stroke in first..end {
+        let coded = &mut strokes[(stroke - first) as usize];
+        let one = put_coded(page, stroke, coded, sent.last, step, k)?;
+        sent = sent.and_then(one);
+    }
+    Ok(sent)
+}
