@@ -2,7 +2,7 @@
 ghost use Rattle.dot_planes.specs.Lending.{LendsInk};
 ghost use Rattle.dot_planes.specs.Tiles.{IsBlank, IsTileOf, PutsInk, PutsTile};
 ghost use Rattle.std.specs.Borrow.{sem};
-ghost use Rattle.std.specs.Prelude.{IfOk, [], length, slice_index_or, ◌+◌, ◌<◌, ◌≡◌, ◌≤◌};
+ghost use Rattle.std.specs.Prelude.{IfOk, [], length, replicate, slice_index_or, ◌+◌, ◌<◌, ◌≡◌, ◌≤◌};
 
 use crate::planes::Planes;
 use base_definitions::Memory;
@@ -51,6 +51,7 @@ impl TileBits {
         requires most { inks ≤ 4 }
         ensures inks { IfOk result (λ b. length b ≡ inks) }
         ensures blank { IfOk result IsBlank }
+        ensures bytes { IfOk result (λ b. b ≡ replicate inks (replicate 256 0)) }
     {
         match vec![in alloc; [0; 256]; usize::from(inks)] {
             Ok(inks) => Ok(TileBits { inks }),

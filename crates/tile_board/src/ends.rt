@@ -16,11 +16,10 @@ use crate::kinds::{Board, Closed, Pass};
 use base_definitions::Memory;
 use board_steps::{Cell, Slab, open};
 use diffusion_kernel::Kernel;
-use dot_planes::{Seen, TileRows};
+use dot_planes::{Seen, TileBits, TileRows};
 use std::alloc::Global;
 use std::snapshot::Snapshot;
 use tile_border::{BottomEdge, CornerEdge, RightEdge, TopEdges};
-use tile_content::no_dots;
 use tile_shape::Shape;
 
 impl<'a, A: TileRows> Board<'a, A> {
@@ -133,7 +132,7 @@ fn waiting_slots(alloc: Global, shape: Shape, inks: u8) -> Result<Vec<Cell>, Mem
         let right = right_slot(alloc, 0 < c, inks)?;
         let bottom = bottom_slot(alloc, c + 1 < columns, 0 < j, inks)?;
         let corner = corner_slot(alloc, 0 < j, inks)?;
-        let dots = no_dots(alloc, inks)?;
+        let dots = TileBits::make(alloc, inks)?;
         slots.push_reserved(right);
         slots.push_reserved(bottom);
         slots.push_reserved(corner);

@@ -23,4 +23,3 @@ mod wholes;
 pub use edges::{BottomEdge, CornerEdge, Edge, RightEdge};
 pub use task::{Done, Task, work};
 pub use tops::TopEdges;
-pub use wholes::dots_are_whole;

@@ -6,7 +6,7 @@ ghost use Rattle.tile_border.specs.Works.{IsWholeInk};
 use crate::edges::{BottomEdge, CornerEdge, RightEdge};
 use dot_planes::TileBits;
 
-/// An ink of a tile's edges and dots has all its errors and bytes.
+// An ink of a tile's edges and dots has all its errors and bytes.
 pub(crate) fn ink_is_whole(
     ink: u8,
     side: &RightEdge,
@@ -26,8 +26,8 @@ pub(crate) fn ink_is_whole(
     dots_are_whole(bits, ink);
 }
 
-/// An ink of a tile's dots has 256 values, and each is a byte.
-pub fn dots_are_whole(bits: &TileBits, ink: u8)
+// An ink of a tile's dots has 256 values, and each is a byte.
+fn dots_are_whole(bits: &TileBits, ink: u8)
     requires { ink < length bits.now }
     ensures long { length (slice_index_or bits.now ink []) ≡ 256 }
     ensures bytes { (n : ℕ) → slice_index (slice_index_or bits.now ink []) n < 256 }

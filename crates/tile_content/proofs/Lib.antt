@@ -2,4 +2,3 @@ pub mod Lists
 pub mod Blocks
 pub mod Bits
 pub mod Given
-pub mod NoDots

@@ -8,11 +8,6 @@
 //!   edges above the first band, is handed right edges (`what_is_handed_is_right`). What `tile_border::work` makes of
 //!   right edges is right (`what_work_gives_is_right`).
 //! - The bottom edges that `given` says of a band are the band's errors in its last two rows (`bottoms_are_given`).
-//!
-//! `no_dots` makes the dots of a tile with none set, or answers `Memory`; that it succeeds with ample memory is tested.
 #![tactic(auto)]
 
-mod blanks;
 pub mod laws;
-
-pub use blanks::no_dots;

@@ -7,12 +7,11 @@ use crate::checks::same;
 use base_definitions::Memory;
 use board_steps::{Cell, Slab, look, open, take};
 use diffusion_kernel::Kernel;
-use dot_planes::{InkRows, Seen};
+use dot_planes::{InkRows, Seen, TileBits};
 use std::alloc::Global;
 use std::snapshot::Snapshot;
 use std::test::Fail;
 use tile_border::{BottomEdge, CornerEdge, RightEdge, TopEdges};
-use tile_content::no_dots;
 
 // The slots of a waiting tile of one ink to which no tile sends an edge: errors 0, and dots with none set.
 fn waiting_slots(alloc: Global) -> Result<Vec<Cell>, Memory>
@@ -24,7 +23,7 @@ fn waiting_slots(alloc: Global) -> Result<Vec<Cell>, Memory>
     let right = RightEdge::zero(alloc, 1)?;
     let bottom = BottomEdge::zero(alloc, 1)?;
     let corner = CornerEdge::zero(alloc, 1)?;
-    let dots = no_dots(alloc, 1)?;
+    let dots = TileBits::make(alloc, 1)?;
     slots.push_reserved(Cell::Right(right));
     slots.push_reserved(Cell::Bottom(bottom));
     slots.push_reserved(Cell::Corner(corner));
