@@ -13,7 +13,7 @@ loop-n-preserved c =
     let a₁ = a.capacity in let b₁ = b.capacity in let d₁ = d.capacity in let e₁ = e.capacity in let i₁ = i.room in
     record {
       items = one-more c.args.shape c.args.inks c.columns-columns.result c.loop-n.n c.columns-columns.ensures
-          i.items a.items b.items d.items e.items c.in_ok-dots.ensures c.in_ok-right.ensures c.in_ok-bottom.ensures c.in_ok-corner.ensures;
+          i.items a.items b.items d.items e.items c.in_ok-dots.ensures.bytes c.in_ok-right.ensures c.in_ok-bottom.ensures c.in_ok-corner.ensures;
       long = omega arith;
       room = omega arith;
     }
