@@ -24,7 +24,7 @@ gives_the_same p q inks black Black1 pixel ink = ap (λ set. grey_ink set ink (2
 gives_the_same p q inks black Cmyk8 pixel ink = ap (λ set. cmyk_ink set pixel ink) inks
 
 -- the amount of an ink
-same_amount : (p : Printer) (kind : Kind) (w : Window) (s : Separator) → IsSeparatorOf p kind w s
+pub same_amount : (p : Printer) (kind : Kind) (w : Window) (s : Separator) → IsSeparatorOf p kind w s
     → (pixel : List ℕ) (ink : Ink) → amount_of (printer_in s) kind pixel ink ≡ amount_of p kind pixel ink
 same_amount p kind w s is pixel ink =
     let given : ℕ = pixel_ink p kind pixel ink in

@@ -10,3 +10,4 @@ pub mod Inks
 pub mod OneBit
 pub mod Riffles
 pub mod Straight
+pub mod TileInks

@@ -1,5 +1,5 @@
 -- The amounts of a line.
-use Rattle.std.specs.Prelude.{◌≡◌, ◌≢◌, ℕ, ◌+◌, ◌<◌, List, Some, slice_get}
+use Rattle.std.specs.Prelude.{◌≡◌, ◌≢◌, ℕ, ◌+◌, ◌<◌, List, [], Some, slice_get, slice_index, slice_index_or}
 use Rattle.dot_planes.specs.Tables.{AmountTable, HasSizeAs, amount}
 use Rattle.printer_definitions.specs.Inks.{inks_of}
 use Rattle.printer_definitions.specs.Printer.{Printer}
@@ -18,3 +18,11 @@ pub record Separates (p : Printer) (kind : Kind) (line : List ℕ) (w : Window) 
   pub size : HasSizeAs old new
   pub row : HasLine p kind line w at new
   pub others : (i y x : ℕ) → y ≢ at → y < old.rows → amount new i y x ≡ amount old i y x
+
+-- the amount of ink i at an index of a tile
+abbrev pub tile_amount : List (List ℕ) → ℕ → ℕ → ℕ
+tile_amount inks i n = slice_index (slice_index_or inks i []) n
+
+-- all amounts before an index of a tile are unchanged
+abbrev pub KeepsBefore : ℕ → List (List ℕ) → List (List ℕ) → Type 0
+KeepsBefore at old new = (i n : ℕ) → n < at → tile_amount new i n ≡ tile_amount old i n

@@ -33,9 +33,9 @@ use separation_definitions::Window;
 /// and its window.
 #[derive(Drop)]
 pub struct Separator {
-    kind: Kind,
+    pub(crate) kind: Kind,
     window: Window,
-    inks: InkSet,
+    pub(crate) inks: InkSet,
     black: BlackScale,
     scales: Scales,
 }
@@ -134,7 +134,7 @@ impl Separator {
 
     // The pixels of one bit from pixel `first` of the line on: 255 for 1, 0 for 0.
     #[inline(always)]
-    fn bits(&self, line: &[u8], first: usize, many: usize) -> Values
+    pub(crate) fn bits(&self, line: &[u8], first: usize, many: usize) -> Values
         requires many { many ≤ 64 }
         requires pixels { first + many ≤ 8 * length line.now }
         ensures { (k : ℕ) → k < many → slice_index result k
@@ -167,7 +167,7 @@ impl Separator {
 
     // The amounts of an ink at pixels of one bit.
     #[inline(always)]
-    fn amounts_of_bits(&self, ink: Ink, bits: &Values) -> Values
+    pub(crate) fn amounts_of_bits(&self, ink: Ink, bits: &Values) -> Values
         ensures { (x : ℕ) → x < 64 → (slice_index bits.now x ≡ 0) ⊎ (slice_index bits.now x ≡ 255)
             → slice_index result x ≡ amount_in self.now ink (grey_ink self.now.inks ink (slice_index bits.now x)) }
     {
@@ -178,7 +178,7 @@ impl Separator {
 
     // What `many` pixels of the line from pixel `first` on give.
     #[inline(always)]
-    fn given(&self, line: &[u8], first: usize, many: usize) -> Given
+    pub(crate) fn given(&self, line: &[u8], first: usize, many: usize) -> Given
         requires many { many ≤ 64 }
         requires pixels { line_bytes (first + many) (row_of self.now.kind).bits_per_pixel ≤ length line.now }
         ensures { IsGiven (printer_in self.now) self.now.kind line.now first many result }
@@ -205,7 +205,7 @@ impl Separator {
 
     // The amounts of what pixels give to an ink.
     #[inline(always)]
-    fn amounts_of(&self, ink: Ink, given: &Values) -> Values
+    pub(crate) fn amounts_of(&self, ink: Ink, given: &Values) -> Values
         ensures { (x : ℕ) → x < 64 → slice_index result x
             ≡ amount_in self.now ink (slice_index given.now x) }
     {

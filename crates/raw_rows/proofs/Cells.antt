@@ -1,0 +1,35 @@
+-- The table of raw lines has their amounts.
+use Rattle.std.proofs.Common.{ℕ, zero, suc, ◌≡◌, ◌+◌, ◌*◌, ◌/◌, ◌%◌, ◌<◌, length, map, ap, arith, drop, get_or, zero-add, ◌∙◌}
+use Rattle.std.proofs.lemmas.List.{get_or-drop, get_or-take}
+use Rattle.std.proofs.lemmas.Nat.{div-mul-add, mod-mul-add}
+use Rattle.base_definitions.specs.Counting.{count_from}
+use Rattle.dot_planes.specs.Tables.{amount}
+use Rattle.printer_definitions.specs.Inks.{inks_of}
+use Rattle.raw_rows.specs.Raw.{amount_in, amounts_in, table_of}
+use Rattle.raw_rows.specs.declared.kept.RawRows.{RawRows}
+
+-- a value of each of some numbers
+counted : (f : ℕ → ℕ) (n many k : ℕ) → k < many → get_or (map f (count_from n many)) k 0 ≡ f (n + k)
+counted f n zero k low = absurd (omega arith)
+counted f n (suc many) zero low = ap f (omega arith)
+counted f n (suc many) (suc k) low = counted f (n + 1) many k (omega arith) ∙ ap f (omega arith)
+
+inside : (inks rows width i y x : ℕ) → i < inks → y < rows → x < width → (i * rows + y) * width + x < inks * rows * width
+inside inks rows width i y x ink row column = grind arith
+
+pub amount_is : (raw : RawRows) (i y x : ℕ) → i < length (inks_of raw.separator.inks) → y < raw.rows → x < raw.separator.window.width
+    → amount (table_of raw) i y x ≡ amount_in raw i y x
+unfolding amount amounts_in
+amount_is raw i y x ink row column =
+    let width : ℕ = raw.separator.window.width in
+    let inks : ℕ = length (inks_of raw.separator.inks) in
+    let line : ℕ = i * raw.rows + y in
+    let cell = λ (n : ℕ). amount_in raw (n / width / raw.rows) (n / width % raw.rows) (n % width) in
+    get_or-take width (drop (line * width) (amounts_in raw)) x 0 column
+    ∙ get_or-drop (line * width) (amounts_in raw) x 0
+    ∙ counted cell 0 (inks * raw.rows * width) (line * width + x) (inside inks raw.rows width i y x ink row column)
+    ∙ ap cell (zero-add (line * width + x))
+    ∙ ap (λ n. amount_in raw (n / raw.rows) (n % raw.rows) ((line * width + x) % width)) (div-mul-add line width x column)
+    ∙ ap (λ n. amount_in raw (line / raw.rows) (line % raw.rows) n) (mod-mul-add line width x column)
+    ∙ ap (λ n. amount_in raw n (line % raw.rows) x) (div-mul-add i raw.rows y row)
+    ∙ ap (λ n. amount_in raw i n x) (mod-mul-add i raw.rows y row)

@@ -1,0 +1,5 @@
+pub mod Cells
+pub mod Pixels
+pub mod GatheredTile
+pub mod LinePuts
+pub mod InkSets

@@ -1,0 +1,20 @@
+-- What is kept of a line, and where.
+use Rattle.std.specs.Prelude.{ℕ, ◌+◌, ◌≤◌, List, slice_index}
+use Rattle.base_definitions.specs.Limits.{most_columns}
+use Rattle.pwg_definitions.specs.Header.{line_bytes, row_of}
+use Rattle.ink_separation.specs.declared.separator.Separator.{Separator}
+
+-- how many bytes of a line are kept: those of its pixels up to the window's right edge
+abbrev pub kept_bytes : Separator → ℕ
+kept_bytes s = line_bytes (s.window.left + s.window.width) (row_of s.kind).bits_per_pixel
+
+-- the sizes that the window of a separator and its rows may have
+pub record IsSize (s : Separator) (rows : ℕ) : Type 0 where
+  pub some_columns : 1 ≤ s.window.width
+  pub most_columns : s.window.width ≤ most_columns
+  pub some_rows : 1 ≤ rows
+  pub most_rows : rows ≤ 256
+
+-- no row has the line of a later one
+abbrev pub AreEarlier : List ℕ → Type 0
+AreEarlier index = (y : ℕ) → slice_index index y ≤ y
