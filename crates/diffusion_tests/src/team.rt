@@ -167,14 +167,14 @@ fn tiles_that_are_held_back_change_nothing(rt: HostRuntime) {
 #[test]
 fn an_errand_is_done_once_beside_the_workers(rt: HostRuntime) {
     for workers in [1, 2, 4] {
-        let mut calls = 0u32;
-        let mut line = [0u8; 16];
+        // how often the errand was done, and bytes that it fills
+        let mut bytes = [0u8; 17];
         let mut errand = || {
-            calls = calls.saturating_add(1);
-            line.fill(7);
+            bytes[1..].fill(7);
+            bytes[0] = bytes[0].saturating_add(1);
         };
         let wrong = wrong_beside(&rt, rt.alloc(), &LEVEL, workers, &mut errand);
-        let right = wrong == Some(0) && calls == 1 && line == [7; 16];
-        assert!(rt; right, "{wrong:?} after {calls} by {workers}");
+        let right = wrong == Some(0) && bytes[0] == 1 && bytes[1..] == [7; 16];
+        assert!(rt; right, "{wrong:?} after {} by {workers}", bytes[0]);
     }
 }

@@ -244,6 +244,30 @@ fn wrong_in<R: Threads + Sync, G: Gate + Sync>(
     wrong_of(alloc, case, &planes, &bottom)
 }
 
+// Diffuses a window of one slab while the caller has an errand, and gives the top of the rows below it.
+fn slab_beside<R: Threads + Sync, F: FnMut()>(
+    team: &Team<'_, R, OpenGate>,
+    alloc: Global,
+    case: &Case,
+    top: TopEdges,
+    planes: &mut Planes,
+    errand: &mut F,
+) -> Option<TopEdges>
+    requires top { IsTopOf planes.old.width planes.old.inks top }
+    requires errand { F.pre errand.old }
+    ensures { IfSome result (IsTopOf planes.old.width planes.old.inks) }
+{
+    let rows = amounts(alloc, case, 0, case.height())?;
+    let fits = rows.rows() <= 300 && ABOVE + rows.rows() <= planes.rows();
+    if !fits || rows.width() != planes.width() || rows.inks() != planes.inks() {
+        return None;
+    }
+    match diffuse_beside(team, alloc, &rows, case.kernel, top, planes, ABOVE, errand) {
+        Ok((bottom, ())) => Some(bottom),
+        Err(_) => None,
+    }
+}
+
 /// How many dots and bottom errors of a window of one slab are wrong, where this many workers diffuse it and the caller
 /// has an errand.
 pub(crate) fn wrong_beside<R: Threads + Sync, F: FnMut()>(
@@ -262,22 +286,7 @@ pub(crate) fn wrong_beside<R: Threads + Sync, F: FnMut()>(
     };
     let mut planes = spotted(alloc, case.width, case.height(), case.inks)?;
     let top = top_of(alloc, case.width, case.inks, case.error)?;
-    let rows = amounts(alloc, case, 0, case.height())?;
-    let fits = rows.rows() <= 300 && ABOVE + rows.rows() <= planes.rows();
-    if !fits || rows.width() != planes.width() || rows.inks() != planes.inks() {
-        return None;
-    }
-    let answer = diffuse_beside(
-        &team,
-        alloc,
-        &rows,
-        case.kernel,
-        top,
-        &mut planes,
-        ABOVE,
-        errand,
-    );
-    let (bottom, ()) = answer.ok()?;
+    let bottom = slab_beside(&team, alloc, case, top, &mut planes, errand)?;
     wrong_of(alloc, case, &planes, &bottom)
 }
 

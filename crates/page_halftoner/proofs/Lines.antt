@@ -2,6 +2,7 @@
 use Rattle.std.proofs.Common.{◌≡◌, ◌⊎◌, ℕ, ℤ, ◌%◌, ◌+◌, ◌-◌, ◌<◌, ◌≤◌, Bool, false, List, [], ◌∷◌, ◌++◌, Some}
 use Rattle.std.proofs.Common.{slice_get, length, get_or, refl}
 use Rattle.std.proofs.Common.{sym, ◌∙◌, ap, arith, inl, inr, subst, append_assoc, length-append, replicate, suc, zero, pos}
+use Rattle.std.proofs.lemmas.Bool.{cases_lt}
 use Rattle.std.proofs.lemmas.List.{append-nil, get_or_at}
 use Rattle.std.proofs.lemmas.Option.{slice_get_within}
 use Rattle.diffusion_definitions.specs.Diffusion.{Errors, Plane, Table, errors, no_top, on}
@@ -21,23 +22,16 @@ use Rattle.wavefront_team.specs.Slabs.{DiffusesSlab}
 use Rattle.tile_border.specs.Tops.{edges_of}
 use Rattle.tile_edges.specs.Tops.{IsBelow, top_of}
 use Rattle.ink_separation.specs.Separated.{HasLine, Separates}
-use Rattle.page_halftoner.specs.Halftones.{EndsWith, Halftoning, IsUpTo, StandsFor, held, plane_of, rows_done, window}
+use Rattle.page_halftoner.specs.Halftones.{Diffusing, EndsWith, Filling, GoesOn, Halftoning, HoldsRows, IsFull, IsSameRows, IsUpTo, PutsLines, StandsFor}
+use Rattle.page_halftoner.specs.Halftones.{filled, held, joined, plane_of, rows_done, window, window_filled}
+use Rattle.separation_definitions.specs.declared.window.Window.{Window}
+use Rattle.diffusion_kernel.specs.declared.tables.Kernel.{Kernel}
 use Rattle.page_halftoner.proofs.SlabSteps.{row_more, slab_more}
 use Rattle.page_definitions.specs.Dots.{HasDots, halftone}
 
--- the halftoning after a line
-abbrev pub after : Halftoning → ℕ → DotTable → List (List (List ℤ)) → AmountTable → Bool → Halftoning
-after h diffused planes top slab failed = record {
-  profile = h.profile;
-  form = h.form;
-  kernel = h.kernel;
-  count = h.count + 1;
-  diffused = diffused;
-  planes = planes;
-  top = top;
-  slab = slab;
-  failed = failed;
-}
+-- what is filled after a line
+abbrev pub after : Filling → AmountTable → Filling
+after f slab = record { profile = f.profile; form = f.form; count = f.count + 1; first = f.first; slab = slab }
 
 -- a line and those that follow it, after the lines so far
 behind : (lines : List (List ℕ)) (line : List ℕ) (more : List (List ℕ)) → (lines ++ line ∷ []) ++ more ≡ lines ++ (line ∷ more)
@@ -62,10 +56,11 @@ line_holds form p wanted =
     fits Cmyk8 left width across bytes inside is = omega arith
 
 -- A line in a margin changes no row.
-pub in_margin : (h : Halftoning) (line : List ℕ) (lines : List (List ℕ))
-    → (h.count < (window h).top) ⊎ ((window h).top + (window h).height ≤ h.count)
-    → StandsFor h lines → StandsFor (after h h.diffused h.planes h.top h.slab h.failed) (lines ++ line ∷ [])
-in_margin h line lines margin s =
+pub in_margin : (f : Filling) (line : List ℕ)
+    → (f.count < (window_filled f).top) ⊎ ((window_filled f).top + (window_filled f).height ≤ f.count)
+    → PutsLines f (after f f.slab) (line ∷ [])
+in_margin f line margin d lines s =
+    let h : Halftoning = joined f d in
     let rows_same : rows_done (window h) h.count ≡ rows_done (window h) (h.count + 1) = elim margin [
       | inl above ↦ omega arith
       | inr below ↦ omega arith
@@ -83,23 +78,22 @@ in_margin h line lines margin s =
       blank = s.blank;
     }
 
--- What is known where a line is the next row of the window and was put after the held rows.
-pub record IsNextRow (h : Halftoning) (line : List ℕ) (y : ℕ) (slab : AmountTable) : Type 0 where
-  pub place : (window h).top + y ≡ h.count
-  pub inside : y < (window h).height
-  pub puts : Separates h.profile h.form.kind line (window h) (y - h.diffused) h.slab slab
-  pub from : h.diffused ≤ y
-  pub room : y < h.diffused + h.slab.rows
-  pub few : h.slab.rows ≤ 256
-  pub wide : h.slab.width ≡ (window h).width
-  pub inks : h.slab.inks ≡ length (inks_of h.profile.inks)
+-- What is known where a line is the next row of the window and was put after the filled rows.
+pub record IsNextRow (f : Filling) (line : List ℕ) (y : ℕ) (slab : AmountTable) : Type 0 where
+  pub place : (window_filled f).top + y ≡ f.count
+  pub inside : y < (window_filled f).height
+  pub puts : Separates f.profile f.form.kind line (window_filled f) (y - f.first) f.slab slab
+  pub from : f.first ≤ y
+  pub room : y < f.first + f.slab.rows
+  pub few : f.slab.rows ≤ 256
 
 -- Then it is held too.
-held_more : (h : Halftoning) (line : List ℕ) (lines more : List (List ℕ)) (y i : ℕ) (ink : Ink) (slab : AmountTable)
-    → IsNextRow h line y slab → StandsFor h lines
-    → slice_get (inks_of h.profile.inks) i ≡ Some ink
-    → IsUpTo (table_of h.kernel) (plane_of h ink ((lines ++ line ∷ []) ++ more)) i h.diffused (y - h.diffused + 1) h.planes h.top slab
-held_more h line lines more y i ink slab next s is =
+held_more : (f : Filling) (d : Diffusing) (line : List ℕ) (lines more : List (List ℕ)) (y i : ℕ) (ink : Ink) (slab : AmountTable)
+    → IsNextRow f line y slab → StandsFor (joined f d) lines
+    → slice_get (inks_of f.profile.inks) i ≡ Some ink
+    → IsUpTo (table_of d.kernel) (plane_of (joined f d) ink ((lines ++ line ∷ []) ++ more)) i f.first (y - f.first + 1) d.planes d.top slab
+held_more f d line lines more y i ink slab next s is =
+    let h : Halftoning = joined f d in
     let n : ℕ = y - h.diffused in
     let ls : List (List ℕ) = lines ++ (line ∷ more) in
     let held_is : held h ≡ n = omega (arith, next.place, next.inside, next.from) in
@@ -115,11 +109,11 @@ held_more h line lines more y i ink slab next s is =
     ∙ ap (λ l. amount_of h.profile h.form.kind (pixel_at h.form.kind l ((window h).left + x)) ink) (sym line_at)
     ∙ ap (λ m. (plane_of h ink ls).amount m x) (sym row)) (λ r x other low. next.puts.others i r x other low))
 
--- A row is held in a slab that is not full.
-pub in_slab : (h : Halftoning) (line : List ℕ) (lines : List (List ℕ)) (y : ℕ) (slab : AmountTable)
-    → IsNextRow h line y slab → StandsFor h lines
-    → StandsFor (after h h.diffused h.planes h.top slab h.failed) (lines ++ line ∷ [])
-in_slab h line lines y slab next s =
+-- A row is put into the slab.
+pub in_slab : (f : Filling) (line : List ℕ) (y : ℕ) (slab : AmountTable)
+    → IsNextRow f line y slab → PutsLines f (after f slab) (line ∷ [])
+in_slab f line y slab next d lines s =
+    let h : Halftoning = joined f d in
     let held_is : y - h.diffused + 1 ≡ rows_done (window h) (h.count + 1) - h.diffused =
     omega (arith, next.place, next.inside, next.from) in
     record {
@@ -127,48 +121,61 @@ in_slab h line lines y slab next s =
       inks = λ i ink more is.
           let R : ℕ → Type 0 = λ n. IsUpTo (table_of h.kernel)
           (plane_of h ink ((lines ++ line ∷ []) ++ more)) i h.diffused n h.planes h.top slab in
-          subst R held_is (held_more h line lines more y i ink slab next s is);
+          subst R held_is (held_more f d line lines more y i ink slab next s is);
       few = omega (arith, held_is, next.room, next.from, next.few);
       blank = s.blank;
     }
 
--- What is known where this row fills the slab, and it is diffused.
-pub record IsFull (h : Halftoning) (y : ℕ) (rows : AmountTable) (top bottom : List (List (List ℤ))) (planes : DotTable) : Type 0 where
-  pub top_is : top ≡ h.top
-  pub full : y + 1 ≡ h.diffused + rows.rows
-  pub some : 1 ≤ rows.rows
-  pub whole : h.diffused + rows.rows < (window h).height → rows.rows % 32 ≡ 0
-  pub tall : h.planes.rows ≡ (window h).height
-  pub done : DiffusesSlab (table_of h.kernel) rows top bottom h.diffused h.planes planes
+-- What is known where a slab is full, and is diffused.
+pub record IsDone (f next : Filling) (d done : Diffusing) : Type 0 where
+  pub full : IsFull f
+  pub rows : HoldsRows f
+  pub tall : d.planes.rows ≡ (window_filled f).height
+  pub goes_on : GoesOn f next
+  pub kernel : done.kernel ≡ d.kernel
+  pub diffused : DiffusesSlab (table_of d.kernel) f.slab d.top done.top f.first d.planes done.planes
+
+-- a filling that went on
+went_on : (f next : Filling) → GoesOn f next → next
+    ≡ record { profile = f.profile; form = f.form; count = f.count; first = f.first + f.slab.rows; slab = next.slab }
+went_on f next goes =
+    let Made : Printer → PageForm → ℕ → ℕ → Type 0 = λ p form count first.
+    next ≡ record { profile = p; form = form; count = count; first = first; slab = next.slab } in
+    let F : ℕ → Type 0 = λ first. Made f.profile f.form f.count first in
+    let C : ℕ → Type 0 = λ count. Made f.profile f.form count next.first in
+    let G : PageForm → Type 0 = λ form. Made f.profile form next.count next.first in
+    let P : Printer → Type 0 = λ p. Made p next.form next.count next.first in
+    subst F goes.first (subst C goes.count (subst G goes.form (subst P goes.profile refl)))
 
 -- Then no row is held.
-pub slab_full : (h : Halftoning) (line : List ℕ) (lines : List (List ℕ))
-    (y : ℕ) (rows rows' : AmountTable) (top bottom : List (List (List ℤ))) (planes : DotTable) (failed : Bool)
-    → IsNextRow h line y rows → IsFull h y rows top bottom planes → StandsFor h lines
-    → StandsFor (after h (y + 1) planes bottom rows' failed) (lines ++ line ∷ [])
-slab_full h line lines y rows rows' top bottom planes failed next all s =
-    let none : 0 ≡ rows_done (window h) (h.count + 1) - (y + 1) = omega (arith, next.place, next.inside) in
-    record {
-      count = count_more lines line h.count s.count;
+pub slab_full : (f next : Filling) (d done : Diffusing) → IsDone f next d done
+    → (lines : List (List ℕ)) → StandsFor (joined f d) lines → StandsFor (joined next done) lines
+slab_full f next d done all lines s =
+    let h : Halftoning = joined f d in
+    let w : Window = window h in
+    let n : ℕ = f.first + f.slab.rows in
+    let low : n ≤ w.height = omega (arith, all.full) in
+    let held_is : held h ≡ f.slab.rows = omega (arith, all.full) in
+    let none : 0 ≡ rows_done w h.count - n = omega (arith, all.full) in
+    let K : Kernel → Type 0 = λ k. StandsFor (joined next (record { kernel = k; planes = done.planes; top = done.top; failed = done.failed })) lines in
+    let F : Filling → Type 0 = λ g.
+    StandsFor (joined g (record { kernel = d.kernel; planes = done.planes; top = done.top; failed = done.failed })) lines in
+    subst K (sym all.kernel) (subst F (sym (went_on f next all.goes_on)) (record {
+      count = s.count;
       inks = λ i ink more is.
-          let p : Plane = plane_of h ink ((lines ++ line ∷ []) ++ more) in
-          let full : y - h.diffused + 1 ≡ rows.rows = omega (arith, all.full, next.from) in
-          let P : ℕ → Type 0 = λ n. IsUpTo (table_of h.kernel) p i h.diffused n h.planes h.top rows in
-          let T : List (List (List ℤ)) → Type 0 = λ edges. IsUpTo (table_of h.kernel) p i h.diffused rows.rows h.planes edges rows in
-          let up = subst T (sym all.top_is) (subst P full (held_more h line lines more y i ink rows next s is)) in
-          let now = slab_more (table_of h.kernel) p i h.diffused rows rows' top bottom h.planes planes all.done up
-          (omega (arith, next.puts.size.inks, next.inks, slice_get_within (inks_of h.profile.inks) i ink is))
-          (next.puts.size.width ∙ next.wide) all.some
-          (omega (arith, all.full, next.inside)) all.tall all.whole in
-          let D : ℕ → Type 0 = λ n. IsUpTo (table_of h.kernel) p i n 0 planes bottom rows' in
-          let R : ℕ → Type 0 = λ n. IsUpTo (table_of h.kernel) p i (y + 1) n planes bottom rows' in
-          subst R none (subst D (sym all.full) now);
+          let p : Plane = plane_of h ink (lines ++ more) in
+          let P : ℕ → Type 0 = λ m. IsUpTo (table_of h.kernel) p i h.diffused m h.planes h.top h.slab in
+          let up = subst P held_is (s.inks i ink more is) in
+          let now = slab_more (table_of h.kernel) p i h.diffused f.slab next.slab h.top done.top h.planes done.planes all.diffused up
+          (omega (arith, all.rows.inks, slice_get_within (inks_of h.profile.inks) i ink is))
+          all.rows.width all.rows.some low all.tall all.rows.whole in
+          let R : ℕ → Type 0 = λ m. IsUpTo (table_of h.kernel) p i n m done.planes done.top next.slab in
+          subst R none now;
       few = omega (arith, none);
-      blank = λ i r x low inside.
-          let size : planes.rows ≡ h.planes.rows = all.done.size.rows in
-          all.done.others i r x (omega (arith, size)) (inr (omega (arith, all.full)))
-          ∙ s.blank i r x (omega (arith, next.from)) (omega (arith, size));
-    }
+      blank = λ i r x below inside.
+          let size : done.planes.rows ≡ h.planes.rows = all.diffused.size.rows in
+          all.diffused.others i r x (omega (arith, size)) (inr below) ∙ s.blank i r x (omega arith) (omega (arith, size));
+    }))
 
 -- Before the first line no row is diffused or held.
 pub at_top : (h : Halftoning) → h.count ≡ 0 → h.diffused ≡ 0
@@ -201,17 +208,27 @@ at_top h none first zeros blank =
 
 -- ---- the last row
 
--- A line that is not the next row of the window, or fills the slab, leaves no row held.
-pub none_held : (h : Halftoning) (line : List ℕ) → held h ≡ 0 → EndsWith h line
-none_held h line none = record { last = λ n some. absurd (omega (arith, none, some)) }
+-- A line in a margin leaves no row of the slab filled.
+pub none_filled : (f : Filling) (line : List ℕ)
+    → (f.count < (window_filled f).top) ⊎ ((window_filled f).top + (window_filled f).height ≤ f.count)
+    → HoldsRows f → (IsFull f → ⊥) → EndsWith (after f f.slab) line
+none_filled f line margin rows room = record {
+  last = λ n some. absurd (elim margin [
+    | inl above ↦ omega (arith, some)
+    | inr below ↦ elim (cases_lt f.first (window_filled f).height) [
+      | inl less ↦ room (omega (arith, rows.inside less, rows.room))
+      | inr all ↦ omega (arith, some)
+    ]
+  ]);
+}
 
 -- A line that is the next row is the last one then.
-pub ends_with : (h : Halftoning) (line : List ℕ) (y : ℕ) (slab : AmountTable) → IsNextRow h line y slab
-    → EndsWith (after h h.diffused h.planes h.top slab h.failed) line
-ends_with h line y slab next = record {
+pub ends_with : (f : Filling) (line : List ℕ) (y : ℕ) (slab : AmountTable) → IsNextRow f line y slab
+    → EndsWith (after f slab) line
+ends_with f line y slab next = record {
   last = λ n some.
-      let here : y - h.diffused ≡ n = omega (arith, some, next.place, next.inside, next.from) in
-      let Q : ℕ → Type 0 = λ m. HasLine h.profile h.form.kind line (window h) m slab in
+      let here : y - f.first ≡ n = omega (arith, some, next.place, next.inside, next.from) in
+      let Q : ℕ → Type 0 = λ m. HasLine f.profile f.form.kind line (window_filled f) m slab in
       subst Q here next.puts.row;
 }
 
@@ -226,6 +243,19 @@ repeats_more lines n line =
     once_more : (m : ℕ) → replicate m line ++ line ∷ [] ≡ replicate (suc m) line
     once_more zero = refl
     once_more (suc m) = ap (λ (ls : List (List ℕ)). line ∷ ls) (once_more m)
+
+-- the same rows of the same page have the same window
+pub same_window : (f g : Filling) → IsSameRows f g → window_filled g ≡ window_filled f
+same_window f g same = ap (λ form. window_of form g.profile) same.form ∙ ap (λ p. window_of f.form p) same.profile
+
+-- After the last line each row of the window is before a slab that is not full.
+pub all_diffused : (f : Filling) → HoldsRows f → (IsFull f → ⊥) → f.count ≡ f.form.height → f.first ≡ (window_filled f).height
+all_diffused f rows room count =
+    let all : rows_done (window_filled f) f.count ≡ (window_filled f).height = omega (arith, count) in
+    elim (cases_lt f.first (window_filled f).height) [
+      | inl less ↦ absurd (room (omega (arith, all, rows.inside less, rows.room)))
+      | inr done ↦ omega (arith, all, rows.from)
+    ]
 
 -- After the last line of the page each row of the window is diffused.
 pub whole_page : (h : Halftoning) (lines : List (List ℕ)) → StandsFor h lines → h.diffused ≡ (window h).height

@@ -1,9 +1,9 @@
 -- Pages that are halftoned line by line.
-use Rattle.std.specs.Prelude.{◌≡◌, ℕ, ℤ, ◌+◌, ◌-◌, ◌<◌, ◌≤◌, Bool, false, List, ◌++◌, Some, length, min, slice_get}
+use Rattle.std.specs.Prelude.{◌≡◌, ℕ, ℤ, ◌%◌, ◌+◌, ◌-◌, ◌<◌, ◌≤◌, Bool, false, List, ◌++◌, Some, length, min, slice_get}
 use Rattle.diffusion_definitions.specs.Diffusion.{Plane, Table, errors, no_top, on}
 use Rattle.diffusion_kernel.specs.Tables.{table_of}
 use Rattle.diffusion_kernel.specs.declared.tables.Kernel.{Kernel}
-use Rattle.dot_planes.specs.Tables.{AmountTable, DotTable, amount, dot}
+use Rattle.dot_planes.specs.Tables.{AmountTable, DotTable, HasSizeAs, amount, dot}
 use Rattle.printer_definitions.specs.Inks.{inks_of}
 use Rattle.printer_definitions.specs.declared.inks.Ink.{Ink}
 use Rattle.printer_definitions.specs.Printer.{Printer}
@@ -28,6 +28,37 @@ pub record Halftoning : Type 0 where
   pub top : List (List (List ℤ))
   pub slab : AmountTable
   pub failed : Bool
+
+-- The rows of a page that are being filled: its profile and form, how many lines have come, the row of the window where
+-- the slab begins, and its amounts.
+pub record Filling : Type 0 where
+  pub profile : Printer
+  pub form : PageForm
+  pub count : ℕ
+  pub first : ℕ
+  pub slab : AmountTable
+
+-- The rows of a page that are diffused: the kernel, the dots so far, the bottom edges of the last diffused rows, and
+-- whether memory ran out.
+pub record Diffusing : Type 0 where
+  pub kernel : Kernel
+  pub planes : DotTable
+  pub top : List (List (List ℤ))
+  pub failed : Bool
+
+-- a page of which the rows before a slab are diffused
+abbrev pub joined : Filling → Diffusing → Halftoning
+joined f d = record {
+  profile = f.profile;
+  form = f.form;
+  kernel = d.kernel;
+  count = f.count;
+  diffused = f.first;
+  planes = d.planes;
+  top = d.top;
+  slab = f.slab;
+  failed = d.failed;
+}
 
 abbrev pub window : Halftoning → Window
 window h = window_of h.form h.profile
@@ -63,9 +94,66 @@ pub record StandsFor (h : Halftoning) (lines : List (List ℕ)) : Type 0 where
   pub few : held h ≤ 256
   pub blank : (i y x : ℕ) → h.diffused ≤ y → y < h.planes.rows → dot h.planes i y x ≡ false
 
--- The last row that is held, where one is held, has the amounts of a line.
-pub record EndsWith (h : Halftoning) (line : List ℕ) : Type 0 where
-  pub last : (n : ℕ) → held h ≡ n + 1 → HasLine h.profile h.form.kind line (window h) n h.slab
+-- the window of the page whose rows are filled
+abbrev pub window_filled : Filling → Window
+window_filled f = window_of f.form f.profile
+
+-- how many rows of the slab are filled
+abbrev pub filled : Filling → ℕ
+filled f = rows_done (window_filled f) f.count - f.first
+
+-- all of them are
+abbrev pub IsFull : Filling → Type 0
+IsFull f = rows_done (window_filled f) f.count ≡ f.first + f.slab.rows
+
+-- A slab of a page's window: as wide as that, in the printer's inks, with whole bands of rows, at most 256, or those that
+-- are left. The rows that have come are before the slab, or in it.
+pub record HoldsRows (f : Filling) : Type 0 where
+  pub width : f.slab.width ≡ (window_filled f).width
+  pub inks : f.slab.inks ≡ length (inks_of f.profile.inks)
+  pub some : 1 ≤ f.slab.rows
+  pub most : f.slab.rows ≤ 256
+  pub inside : f.first < (window_filled f).height → f.first + f.slab.rows ≤ (window_filled f).height
+  pub whole : f.first + f.slab.rows < (window_filled f).height → f.slab.rows % 32 ≡ 0
+  pub from : f.first ≤ rows_done (window_filled f) f.count
+  pub room : rows_done (window_filled f) f.count ≤ f.first + f.slab.rows
+
+-- The last row that is filled, where one is, has the amounts of a line.
+pub record EndsWith (f : Filling) (line : List ℕ) : Type 0 where
+  pub last : (n : ℕ) → filled f ≡ n + 1 → HasLine f.profile f.form.kind line (window_filled f) n f.slab
+
+-- the same page, and the same rows of it
+pub record IsSameRows (old new : Filling) : Type 0 where
+  pub profile : new.profile ≡ old.profile
+  pub form : new.form ≡ old.form
+  pub first : new.first ≡ old.first
+  pub size : HasSizeAs old.slab new.slab
+
+-- Lines that are the next of a page were put after its lines so far, whatever its rows before the slab are diffused to.
+abbrev pub PutsLines : Filling → Filling → List (List ℕ) → Type 0
+PutsLines old new next = (d : Diffusing) (lines : List (List ℕ)) → StandsFor (joined old d) lines → StandsFor (joined new d) (lines ++ next)
+
+-- The rows below a full slab are to be filled, in the same or in another slab.
+pub record GoesOn (old new : Filling) : Type 0 where
+  pub profile : new.profile ≡ old.profile
+  pub form : new.form ≡ old.form
+  pub count : new.count ≡ old.count
+  pub first : new.first ≡ old.first + old.slab.rows
+  pub rows : HoldsRows new
+
+-- A slab that may take the place of the one that is being filled, once that is full.
+pub record IsSpare (f : Filling) (spare : AmountTable) : Type 0 where
+  pub width : spare.width ≡ f.slab.width
+  pub inks : spare.inks ≡ f.slab.inks
+  pub some : 1 ≤ spare.rows
+  pub most : spare.rows ≤ 256
+  pub rows : f.first + f.slab.rows < (window_filled f).height → spare.rows ≡ f.slab.rows
+
+-- Planes for the window of a page of this form, in a printer's inks.
+pub record HasRoom (form : PageForm) (p : Printer) (t : DotTable) : Type 0 where
+  pub width : t.width ≡ (window_of form p).width
+  pub rows : t.rows ≡ (window_of form p).height
+  pub inks : t.inks ≡ length (inks_of p.inks)
 
 -- the same printer, form and kernel
 pub record IsSamePage (old new : Halftoning) : Type 0 where

@@ -4,15 +4,17 @@ use Rattle.dot_planes.specs.Tables.{AmountTable}
 use Rattle.tile_border.specs.Tops.{IsTopOf, edges_of}
 use Rattle.tile_edges.specs.Tops.{top_of}
 
--- room for the first rows of a window: whole bands, at most 256 rows, or all where there are fewer; the errors above
--- them are 0
-pub record IsFirstSlab (width height inks : ℕ) (slab : AmountTable) (top : List (List (List ℤ))) : Type 0 where
+-- room for the first rows of a window: whole bands, at most 256 rows, or all where there are fewer
+pub record IsFirstSlab (width height inks : ℕ) (slab : AmountTable) : Type 0 where
   pub width_is : slab.width ≡ width
   pub some : 1 ≤ slab.rows
   pub most : slab.rows ≤ 256
   pub inside : slab.rows ≤ height
   pub bands : slab.rows < height → slab.rows % 32 ≡ 0
   pub inks_are : slab.inks ≡ inks
+
+-- the top of the first rows of a window: the errors above them are 0
+pub record IsFirstTop (width inks : ℕ) (top : List (List (List ℤ))) : Type 0 where
   pub is_top : IsTopOf width inks top
   pub zeros : (i t n : ℕ) → top_of (edges_of top i) t n ≡ pos 0
 

@@ -2,48 +2,34 @@
 ghost use Rattle.diffusion_kernel.specs.Tables.{table_of};
 ghost use Rattle.dot_planes.specs.Tables.{dot};
 ghost use Rattle.page_definitions.specs.Dots.{HasDots, halftone};
-ghost use Rattle.page_halftoner.specs.Halftones.{EndsWith, IsSamePage, StandsFor, held};
+ghost use Rattle.page_halftoner.specs.Halftones.{IsSamePage, StandsFor};
 ghost use Rattle.printer_profile.specs.Validity.{check};
 ghost use Rattle.pwg_definitions.specs.Header.{IsWanted};
 ghost use Rattle.separation_definitions.specs.Windows.{wanted_by};
-ghost use Rattle.std.specs.Prelude.{IfNone, IfOk, IfSome, IsErr, IsOk, List, OnErr, OnOk, [], false, length};
-ghost use Rattle.std.specs.Prelude.{replicate, true, ℕ, ◌++◌, ◌+◌, ◌<◌, ◌∷◌, ◌≡◌, ◌≤◌, ◌⊎◌, ◌^◌};
+ghost use Rattle.std.specs.Prelude.{IfOk, IsErr, IsOk, List, OnErr, OnOk, [], false, length};
+ghost use Rattle.std.specs.Prelude.{replicate, true, ℕ, ◌++◌, ◌+◌, ◌<◌, ◌≡◌, ◌≤◌};
 
-use crate::slabs::{first_slab, next_slab, put_line};
+use crate::diffuser::Diffuser;
+use crate::filler::Filler;
 use base_definitions::Memory;
 use diffusion_kernel::Kernel;
-use dot_planes::{InkRows, Planes};
-use ink_separation::Separator;
+use dot_planes::Planes;
 use printer_profile::{PageForm, Profile};
-use separation_definitions::Window;
 use std::alloc::Global;
 use std::marker::Model;
 use std::thread::Threads;
-use tile_border::TopEdges;
-use wavefront_team::{Gate, Team, diffuse};
+use wavefront_team::{Gate, Team};
 
 /// A page that is halftoned line by line. Contracts see the profile, the form, the kernel, the number of lines so
 /// far, which lists of lines it stands for, and whether a call answered `Memory`.
 ///
 /// It keeps no lines; beside the planes of dots it keeps the amounts of one slab: at most 256 rows of the window in
-/// whole bands, or those that are left. When the slab is full it is diffused, below the errors of the slab above.
+/// whole bands, or those that are left. When the slab is full it is diffused, below the errors of the slab above. Who
+/// reads lines while slabs are diffused takes the two parts instead: a `Filler` and a `Diffuser`.
 #[derive(Drop)]
 pub struct Halftoner {
-    alloc: Global,
-    profile: Profile,
-    form: PageForm,
-    kernel: Kernel,
-    /// The separator of the profile's inks, for the window of the page.
-    separator: Separator,
-    /// How many lines of the page have come, those in the margins too.
-    count: u32,
-    /// How many rows of the window are diffused.
-    diffused: u32,
-    /// Room for the next rows, of which the first ones hold amounts.
-    slab: InkRows,
-    /// The errors above these rows; `None` once a call has answered `Memory`.
-    top: Option<TopEdges>,
-    planes: Planes,
+    filler: Filler,
+    diffuser: Diffuser,
 }
 
 impl Model for Halftoner {
@@ -56,19 +42,6 @@ impl Model for Halftoner {
     ghost view = { halftoning };
 
     ghost invariant = { IsReady };
-}
-
-// The row of the window that a line of the page is; `None` in a margin.
-fn row_of_line(window: Window, line: u32) -> Option<u32>
-    requires { window.top + window.height < 2 ^ 32 }
-    ensures row { IfSome result (λ y. (window.top + y ≡ line) × (y < window.height)) }
-    ensures margin { IfNone result ((line < window.top) ⊎ (window.top + window.height ≤ line)) }
-{
-    if line < window.top || window.top + window.height <= line {
-        None
-    } else {
-        Some(line - window.top)
-    }
 }
 
 impl Halftoner {
@@ -88,22 +61,9 @@ impl Halftoner {
         ensures stands { IfOk result (λ h. StandsFor h []) }
         ensures working { IfOk result (λ h. h.failed ≡ false) }
     {
-        let window = p.window(f);
-        let inks = p.inks.count();
-        let (slab, top) = first_slab(alloc, window.width, window.height, inks, workers)?;
-        let planes = Planes::make(alloc, window.width, window.height, inks)?;
-        Ok(Halftoner {
-            alloc,
-            profile: *p,
-            form: f,
-            kernel: k,
-            separator: Separator::make(p, f.kind, window),
-            count: 0,
-            diffused: 0,
-            slab,
-            top: Some(top),
-            planes,
-        })
+        let filler = Filler::begin(alloc, p, f, workers)?;
+        let diffuser = Diffuser::begin(alloc, p, f, k)?;
+        Ok(Halftoner { filler, diffuser })
     }
 
     /// Takes a line of the page that occurs `repeats` times in a row. When a slab is full, the team diffuses it.
@@ -124,11 +84,12 @@ impl Halftoner {
         ensures failed { OnErr result (self.new.failed ≡ true) }
         ensures for_good { self.old.failed ≡ true → IsErr result }
     {
-        if self.top.is_none() {
+        if self.diffuser.has_failed() {
             return Err(Memory);
         }
-        for repeat in 0..repeats {
-            self.next_line(team, line, 0 < repeat)?;
+        let mut left = repeats;
+        while 0 < left {
+            left -= self.put(team, line, left)?;
         }
         Ok(())
     }
@@ -141,54 +102,37 @@ impl Halftoner {
             → HasDots self.profile (halftone (record { form = self.form; lines = lines })
             self.profile (table_of self.kernel)) result.width result.rows result.inks (dot result) }
     {
-        self.planes
+        self.diffuser.finish()
     }
 
-    // Takes a line once. `again`: it is the line before, too.
-    fn next_line<R: Threads + Sync, G: Gate + Sync>(
+    // Takes a line as often as the slab has room, at least once, and diffuses the slab if it is full then. The answer is
+    // how often it was taken.
+    fn put<R: Threads + Sync, G: Gate + Sync>(
         &mut self,
         team: &Team<'_, R, G>,
         line: &[u8],
-        again: bool,
-    ) -> Result<(), Memory>
+        repeats: u32,
+    ) -> Result<u32, Memory>
         requires line { length line.now ≡ self.old.form.bytes_per_line }
-        requires count { self.old.count < self.old.form.height }
-        requires again { again ≡ true → EndsWith self.old line.now }
+        requires some { 0 < repeats }
+        requires repeats { self.old.count + repeats ≤ self.old.form.height }
+        requires working { self.old.failed ≡ false }
         ensures page { IsSamePage self.old self.new }
-        ensures count { OnOk result (self.new.count ≡ self.old.count + 1) }
-        ensures last { OnOk result (EndsWith self.new line.now) }
-        ensures stands { (lines : List (List ℕ))
-            → StandsFor self.old lines → OnOk result (StandsFor self.new (lines ++ line.now ∷ [])) }
-        ensures working { OnOk result (self.new.failed ≡ self.old.failed) }
+        ensures some { IfOk result (λ taken. 1 ≤ taken) }
+        ensures most { IfOk result (λ taken. taken ≤ repeats) }
+        ensures count { IfOk result (λ taken. self.new.count ≡ self.old.count + taken) }
+        ensures stands { IfOk result (λ taken. (lines : List (List ℕ))
+            → StandsFor self.old lines → StandsFor self.new (lines ++ replicate taken line.now)) }
+        ensures working { OnOk result (self.new.failed ≡ false) }
         ensures failed { OnErr result (self.new.failed ≡ true) }
     {
-        let window = self.separator.window();
-        let Some(y) = row_of_line(window, self.count) else {
-            self.count += 1;
-            return Ok(());
-        };
-        let row = y - self.diffused;
-        put_line(&self.separator, line, again, row, &mut self.slab);
-        if y + 1 < self.diffused + self.slab.rows() {
-            self.count += 1;
-            return Ok(());
+        let taken = self.filler.put(line, repeats);
+        if self.filler.is_full() {
+            let mut none = || {};
+            let (slab, first) = (self.filler.slab(), self.filler.first());
+            self.diffuser.diffuse_beside(team, slab, first, &mut none)?;
+            self.filler.go_on();
         }
-        let Some(top) = self.top.take() else {
-            return Err(Memory);
-        };
-        let bottom = diffuse(
-            team,
-            self.alloc,
-            &self.slab,
-            self.kernel,
-            top,
-            &mut self.planes,
-            self.diffused,
-        )?;
-        self.top = Some(bottom);
-        self.diffused = y + 1;
-        self.count += 1;
-        next_slab(&mut self.slab, window.height - self.diffused);
-        Ok(())
+        Ok(taken)
     }
 }

@@ -11,9 +11,13 @@
 //! (`for_good`).
 #![tactic(auto)]
 
+mod diffuser;
+mod filler;
 mod halftoner;
 mod slabs;
 
+pub use diffuser::Diffuser;
+pub use filler::Filler;
 pub use halftoner::Halftoner;
 
 #[cfg(test)]

@@ -3,7 +3,7 @@ ghost use Rattle.base_definitions.specs.Limits.{most_columns};
 ghost use Rattle.dot_planes.specs.Tables.{HasSizeAs, IsSize};
 ghost use Rattle.ink_separation.specs.Separated.{HasLine, Separates};
 ghost use Rattle.ink_separation.specs.Separators.{IsSeparatorOf};
-ghost use Rattle.page_halftoner.specs.Slabs.{IsFirstSlab, IsNextSlab};
+ghost use Rattle.page_halftoner.specs.Slabs.{IsFirstSlab, IsFirstTop, IsNextSlab};
 ghost use Rattle.printer_definitions.specs.Inks.{inks_of};
 ghost use Rattle.printer_definitions.specs.Printer.{Printer};
 ghost use Rattle.pwg_definitions.specs.Header.{line_bytes, row_of};
@@ -16,15 +16,17 @@ use dot_planes::InkRows;
 use ink_separation::Separator;
 use std::alloc::Global;
 use tile_border::TopEdges;
+use tile_shape::Shape;
 
-// The most bands of 32 rows that are diffused together.
+// The most bands of 32 rows that are held.
 const MOST_BANDS: u32 = 8;
 
 // About as many amounts as the second cache of a processor holds.
 const NEAR_AMOUNTS: u32 = 524_288;
 
 // How many rows of a window are diffused together, while as many are left. For each worker there are as many bands as
-// have their amounts still in its processor's cache when it comes to them, at least one.
+// have their amounts still in its processor's cache when it comes to them, at least one. Several workers diffuse half of
+// the bands that are held, while the caller fills the other half.
 fn slab_rows(width: u32, height: u32, inks: u8, workers: u8) -> u32
     requires size { IsSize width height inks }
     requires some_workers { 1 ≤ workers }
@@ -35,25 +37,42 @@ fn slab_rows(width: u32, height: u32, inks: u8, workers: u8) -> u32
 {
     let near = NEAR_AMOUNTS / (32 * width * u32::from(inks));
     let bands = u32::from(workers) * near.max(1);
-    height.min(32 * bands.min(MOST_BANDS))
+    let most = if workers == 1 {
+        MOST_BANDS
+    } else {
+        MOST_BANDS / 2
+    };
+    height.min(32 * bands.min(most))
 }
 
-/// Room for the first rows of a window, with work for this many workers; the errors above them are 0.
+/// Room for the first rows of a window, with work for this many workers.
 pub(crate) fn first_slab(
     alloc: Global,
     width: u32,
     height: u32,
     inks: u8,
     workers: u8,
-) -> Result<(InkRows, TopEdges), Memory>
+) -> Result<InkRows, Memory>
     requires size { IsSize width height inks }
     requires workers { 1 ≤ workers }
-    ensures { IfOk result (λ first. IsFirstSlab width height inks first.0 first.1) }
+    ensures { IfOk result (IsFirstSlab width height inks) }
 {
     let rows = slab_rows(width, height, inks, workers);
     let slab = InkRows::make(alloc, width, rows, inks)?;
-    let top = TopEdges::zero(alloc, slab.shape().columns(), inks)?;
-    Ok((slab, top))
+    Ok(slab)
+}
+
+/// The errors above the first rows of a window: all are 0.
+pub(crate) fn first_top(alloc: Global, width: u32, inks: u8) -> Result<TopEdges, Memory>
+    requires some_columns { 1 ≤ width }
+    requires most_columns { width ≤ most_columns }
+    requires some_inks { 1 ≤ inks }
+    requires most_inks { inks ≤ 4 }
+    ensures { IfOk result (IsFirstTop width inks) }
+{
+    let across = Shape { width, height: 1 };
+    let top = TopEdges::zero(alloc, across.columns(), inks)?;
+    Ok(top)
 }
 
 /// Room for the next rows, where `left` are left.

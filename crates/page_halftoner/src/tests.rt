@@ -11,19 +11,20 @@ fn first_rows(alloc: Global, width: u32, height: u32, inks: u8, workers: u8) -> 
     if inks < 1 || 4 < inks || workers < 1 {
         return None;
     }
-    let (slab, _top) = first_slab(alloc, width, height, inks, workers).ok()?;
+    let slab = first_slab(alloc, width, height, inks, workers).ok()?;
     Some(slab.rows())
 }
 
 #[test]
 fn each_worker_has_the_bands_that_fit_its_cache(rt: HostRuntime) {
     // columns and rows of a window, its inks, workers, and rows of its first slab
-    const CASES: [(u32, u32, u8, u8, u32); 7] = [
+    const CASES: [(u32, u32, u8, u8, u32); 8] = [
         (1, 257, 1, 1, 256),
+        (1, 257, 1, 2, 128),
         (2976, 4209, 1, 1, 160),
         (2886, 4089, 4, 1, 32),
         (2886, 4089, 4, 2, 64),
-        (2886, 4089, 4, 64, 256),
+        (2886, 4089, 4, 64, 128),
         (8191, 15840, 4, 1, 32),
         (8191, 20, 4, 1, 20),
     ];

@@ -1,16 +1,9 @@
-use Rattle.std.proofs.Common.{◌≡◌, ◌+◌, ◌*◌, ◌/◌, ◌%◌, ℕ, ℤ, List, get_or, pos, ap, arith, ◌∙◌}
-use Rattle.tile_border.specs.Tops.{columns_across}
-use Rattle.tile_shape.specs.Geometry.{columns_of}
-use Rattle.tile_shape.specs.declared.tiles.Shape.{Shape}
-use Rattle.wavefront_team.proofs.Tops.{edge_at}
+use Rattle.std.proofs.Common.{◌%◌, ap, arith, ◌∙◌}
 use Rattle.page_halftoner.proofs.slabs.first_slab.Goals as goal
 
 pub returns : goal.returns
 returns c =
     let slab = c.in_ok-slab.ensures in
-    let top = c.in_ok-top.ensures in
-    let columns : c.columns.result ≡ columns_across c.args.width =
-    c.columns.ensures ∙ ap (λ (s : Shape). columns_of s) c.shape.ensures.is ∙ ap columns_across slab.width in
     record {
       width_is = slab.width;
       some = omega (arith, slab.rows, c.slab_rows-rows.ensures.some);
@@ -18,12 +11,4 @@ returns c =
       inside = omega (arith, slab.rows, c.slab_rows-rows.ensures.inside);
       bands = λ more. ap (λ n. n % 32) slab.rows ∙ c.slab_rows-rows.ensures.bands (omega (arith, slab.rows, more));
       inks_are = slab.inks;
-      is_top = record {
-        columns = top.has.columns ∙ columns;
-        edge_inks = λ column inside. top.has.edge_inks column (omega (arith, inside, columns));
-      };
-      zeros = λ i t n.
-          let u : ℕ = n + 56 + 2 * t in
-          let m : ℕ = 64 * t + u % 64 in
-          ap (λ (xs : List ℤ). get_or xs m (pos 0)) (edge_at c.in_ok-top.top i (u / 64)) ∙ (top.zeros (u / 64)).at i m;
     }

@@ -1,11 +1,10 @@
-use Rattle.std.proofs.Common.{◌≡◌, ◌∙◌, ap, arith, inl, inr, sym, subst}
-use Rattle.std.proofs.lemmas.Bool.{cases_lt}
+use Rattle.std.proofs.Common.{◌≡◌, ◌∙◌, ap, arith, false, sym, subst}
 use Rattle.diffusion_kernel.specs.Tables.{table_of}
-use Rattle.dot_planes.specs.Tables.{dot}
+use Rattle.dot_planes.specs.Tables.{DotTable, dot}
 use Rattle.page_definitions.specs.Dots.{HasDots, halftone}
-use Rattle.page_halftoner.specs.Halftones.{Halftoning, StandsFor, rows_done, window}
+use Rattle.page_halftoner.specs.Halftones.{Halftoning, StandsFor}
 use Rattle.page_halftoner.specs.Kept.{halftoning}
-use Rattle.page_halftoner.proofs.Lines.{whole_page}
+use Rattle.page_halftoner.proofs.Lines.{all_diffused, whole_page}
 use Rattle.page_halftoner.proofs.halftoner.Halftoner.finish.Goals as goal
 
 pub returns : goal.returns
@@ -15,13 +14,13 @@ returns c = λ lines stands.
     let Q : Halftoning → Type 0 = λ g. StandsFor g lines in
     let count : h.count ≡ h.form.height = ap (λ (g : Halftoning). g.count) c.self.view_is
     ∙ c.requires.count ∙ ap (λ (g : Halftoning). g.form.height) (sym c.self.view_is) in
-    let all : rows_done (window h) h.count ≡ (window h).height = omega (arith, count) in
-    let diffused : h.diffused ≡ (window h).height = elim (cases_lt h.diffused (window h).height) [
-      | inl less ↦ absurd (omega (arith, all, v.room, v.slab_in less))
-      | inr all_done ↦ omega (arith, all, v.from)
-    ] in
-    let dots = whole_page h lines (subst Q (sym c.self.view_is) stands) diffused v.planes_width v.planes_rows v.planes_inks in
+    let working : h.failed ≡ false = ap (λ (g : Halftoning). g.failed) c.self.view_is ∙ c.requires.working in
+    let dots = whole_page h lines (subst Q (sym c.self.view_is) stands)
+    (all_diffused c.self.inside.filler v.rows (v.room working) count) v.planes.width v.planes.rows v.planes.inks in
+    let P : DotTable → Type 0 =
+    λ t. HasDots h.profile (halftone (record { form = h.form; lines = lines })
+    h.profile (table_of h.kernel)) t.width t.rows t.inks (dot t) in
     let R : Halftoning → Type 0 =
     λ g. HasDots g.profile (halftone (record { form = g.form; lines = lines })
-    g.profile (table_of g.kernel)) h.planes.width h.planes.rows h.planes.inks (dot h.planes) in
-    subst R c.self.view_is dots
+    g.profile (table_of g.kernel)) c.finish.result.width c.finish.result.rows c.finish.result.inks (dot c.finish.result) in
+    subst R c.self.view_is (subst P (sym c.finish.ensures) dots)

@@ -1,0 +1,121 @@
+//! The rows of a page that are diffused, slab by slab.
+ghost use Rattle.diffusion_kernel.specs.Tables.{table_of};
+ghost use Rattle.dot_planes.specs.Tables.{HasSizeOf, dot};
+ghost use Rattle.page_halftoner.specs.Halftones.{HasRoom};
+ghost use Rattle.printer_profile.specs.Validity.{check};
+ghost use Rattle.pwg_definitions.specs.Header.{IsWanted};
+ghost use Rattle.separation_definitions.specs.Windows.{wanted_by};
+ghost use Rattle.std.specs.Prelude.{IfOk, IsErr, IsOk, OnErr, OnOk, false, length, pos, true, ℕ, ◌+◌, ◌≡◌, ◌≤◌};
+ghost use Rattle.tile_border.specs.Tops.{edges_of};
+ghost use Rattle.tile_edges.specs.Tops.{top_of};
+ghost use Rattle.wavefront_team.specs.Slabs.{DiffusesSlab};
+
+use crate::slabs::first_top;
+use base_definitions::Memory;
+use diffusion_kernel::Kernel;
+use dot_planes::{InkRows, Planes};
+use printer_profile::{PageForm, Profile};
+use std::alloc::Global;
+use std::marker::Model;
+use std::thread::Threads;
+use tile_border::TopEdges;
+use wavefront_team::{Gate, Team, diffuse_beside};
+
+/// The dots of a page's window so far. Contracts see the kernel, the planes, the bottom edges of the last diffused rows,
+/// and whether a call answered `Memory`.
+#[derive(Drop)]
+pub struct Diffuser {
+    alloc: Global,
+    kernel: Kernel,
+    /// The errors above the next rows; `None` once a call has answered `Memory`.
+    top: Option<TopEdges>,
+    planes: Planes,
+}
+
+impl Model for Diffuser {
+    ghost use Rattle.page_halftoner.specs.Halftones.{Diffusing};
+
+    ghost Value = { Diffusing };
+
+    ghost use Rattle.page_halftoner.specs.Kept.{HasTop, diffusing};
+
+    ghost view = { diffusing };
+
+    ghost invariant = { HasTop };
+}
+
+impl Diffuser {
+    /// Begins the window of a page, and takes the memory of its dots and of the errors above it.
+    pub fn begin(
+        alloc: Global,
+        p: &Profile,
+        f: PageForm,
+        k: Kernel,
+    ) -> Result<Diffuser, Memory>
+        requires checked { IsOk (check p.now) }
+        requires wanted { IsWanted (wanted_by p.now) f }
+        ensures kernel { IfOk result (λ d. d.kernel ≡ k) }
+        ensures room { IfOk result (λ d. HasRoom f p.now d.planes) }
+        ensures blank { IfOk result (λ d. (i y x : ℕ) → dot d.planes i y x ≡ false) }
+        ensures top { IfOk result (λ d. (i t n : ℕ) → top_of (edges_of d.top i) t n ≡ pos 0) }
+        ensures working { IfOk result (λ d. d.failed ≡ false) }
+    {
+        let window = p.window(f);
+        let inks = p.inks.count();
+        let top = first_top(alloc, window.width, inks)?;
+        let planes = Planes::make(alloc, window.width, window.height, inks)?;
+        Ok(Diffuser {
+            alloc,
+            kernel: k,
+            top: Some(top),
+            planes,
+        })
+    }
+
+    /// Whether a call has answered `Memory`.
+    pub fn has_failed(&self) -> bool
+        ensures { result ≡ self.now.failed }
+    {
+        self.top.is_none()
+    }
+
+    /// Diffuses the slab that begins at row `first` by the team, and does the errand beside its workers
+    /// (`wavefront_team::diffuse_beside`). `Memory` comes before the errand is begun, and at each later call.
+    pub fn diffuse_beside<R: Threads + Sync, G: Gate + Sync, F: FnMut() -> A, A>(
+        &mut self,
+        team: &Team<'_, R, G>,
+        slab: &InkRows,
+        first: u32,
+        errand: &mut F,
+    ) -> Result<A, Memory>
+        requires width { slab.now.width ≡ self.old.planes.width }
+        requires inks { slab.now.inks ≡ self.old.planes.inks }
+        requires rows { first + slab.now.rows ≤ self.old.planes.rows }
+        requires errand { F.pre errand.old }
+        ensures kernel { self.new.kernel ≡ self.old.kernel }
+        ensures size { HasSizeOf self.old.planes self.new.planes }
+        ensures slab { IfOk result (λ done. DiffusesSlab (table_of self.old.kernel) slab.now
+            self.old.top self.new.top first self.old.planes self.new.planes) }
+        ensures errand { IfOk result (λ done. F.step errand.old done errand.new) }
+        ensures working { OnOk result (self.new.failed ≡ false) }
+        ensures failed { OnErr result (self.new.failed ≡ true) }
+        ensures not_begun { OnErr result (errand.new ≡ errand.old) }
+        ensures for_good { self.old.failed ≡ true → IsErr result }
+    {
+        let Some(top) = self.top.take() else {
+            return Err(Memory);
+        };
+        let (alloc, kernel) = (self.alloc, self.kernel);
+        let out = &mut self.planes;
+        let (bottom, done) = diffuse_beside(team, alloc, slab, kernel, top, out, first, errand)?;
+        self.top = Some(bottom);
+        Ok(done)
+    }
+
+    /// The dots.
+    pub fn finish(self) -> Planes
+        ensures { result ≡ self.planes }
+    {
+        self.planes
+    }
+}
