@@ -13,5 +13,6 @@ pub mod LaidBytes
 pub mod LaidRows
 pub mod PutLaid
 pub mod Words
+pub mod WordCounts
 pub mod BandRows
 pub mod PutBands
