@@ -13,6 +13,7 @@ pub mod LaidBytes
 pub mod LaidRows
 pub mod PutLaid
 pub mod Words
+pub mod WordCounts
 pub mod BandRows
 pub mod PutBands
 pub mod GatheredRows

@@ -4,7 +4,7 @@ ghost use Rattle.dot_planes.specs.Tiles.{PutsTileRow};
 ghost use Rattle.base_definitions.specs.Packed.{packed};
 ghost use Rattle.base_definitions.specs.Limits.{most_columns};
 ghost use Rattle.std.specs.List.{count_by, sum_by};
-ghost use Rattle.std.specs.Prelude.{IfOk, count_ones, false, length, map, ℕ, ◌*◌, ◌+◌, ◌<◌, ◌≡◌, ◌≤◌};
+ghost use Rattle.std.specs.Prelude.{IfOk, count_ones, false, length, map, ℕ, ◌%◌, ◌*◌, ◌+◌, ◌<◌, ◌≡◌, ◌≤◌};
 ghost use Rattle.base_definitions.specs.Counting.{count_from};
 
 mod bands;
@@ -168,15 +168,54 @@ fn row_len(width: u32) -> usize
     (width as usize + 7) / 8
 }
 
-// The number of dots in a packed row.
+// The number of dots in a packed row: in words of eight bytes, and in the bytes after them.
 #[inline]
 fn count_row(row: &[u8]) -> u32
     requires { length row.now ≤ 1024 }
     ensures is { result ≡ sum_by count_ones row.now }
     ensures most { result ≤ 8192 }
 {
+    let (words, rest) = row.split_at(row.len() / 8 * 8);
+    count_words(words) + count_bytes(rest)
+}
+
+// The number of dots in whole words of eight bytes.
+#[inline]
+fn count_words(bytes: &[u8]) -> u32
+    requires whole { length bytes.now % 8 ≡ 0 }
+    requires most { length bytes.now ≤ 1024 }
+    ensures is { result ≡ sum_by count_ones bytes.now }
+    ensures most { result ≤ 8 * length bytes.now }
+{
     let mut dots = 0;
-    for byte in row {
+    'words: for i in 0..bytes.len() / 8 {
+        dots += count_word(&bytes[8 * i..8 * i + 8]);
+    }
+    dots
+}
+
+// The number of dots in eight bytes.
+#[inline]
+fn count_word(word: &[u8]) -> u32
+    requires { length word.now ≡ 8 }
+    ensures is { result ≡ sum_by count_ones word.now }
+    ensures most { result ≤ 64 }
+{
+    let bytes = [
+        word[0], word[1], word[2], word[3], word[4], word[5], word[6], word[7],
+    ];
+    u64::from_le_bytes(bytes).count_ones()
+}
+
+// The number of dots in a few bytes.
+#[inline]
+fn count_bytes(bytes: &[u8]) -> u32
+    requires { length bytes.now ≤ 1024 }
+    ensures is { result ≡ sum_by count_ones bytes.now }
+    ensures most { result ≤ 8 * length bytes.now }
+{
+    let mut dots = 0;
+    for byte in bytes {
         dots += byte.count_ones();
     }
     dots

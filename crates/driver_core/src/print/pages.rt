@@ -34,7 +34,8 @@ pub fn stream_answer(stop: StreamStop) -> Answer
 }
 
 /// Prints the pages of the input, each once it is read to its last line and every meter has room for it. The team
-/// diffuses each slab. `pages` becomes how many were written whole. `Err` is the answer where printing stops.
+/// diffuses each slab and codes each page. `pages` becomes how many were written whole. `Err` is the answer where
+/// printing stops.
 pub fn print_pages<R: Threads + Sync, S: Source, K: Sink, G: Gate + Sync>(
     team: &Team<'_, R, G>,
     alloc: Global,
@@ -66,7 +67,7 @@ pub fn print_pages<R: Threads + Sync, S: Source, K: Sink, G: Gate + Sync>(
             Err(stop) => return Err(stream_answer(stop)),
         };
         charge(number, &count_dots(profile.inks, &page.planes), meters)?;
-        match write_by_way(alloc, profile, job, page.form, &page.planes, out) {
+        match write_by_way(team, alloc, profile, job, page.form, &page.planes, out) {
             Err(WriteStop::Write) => return Err(Answer::Write { page: number }),
             Err(WriteStop::Memory) => return Err(Answer::Memory),
             Ok(_) => *pages = number,

@@ -20,11 +20,14 @@ use job_words::Job;
 use page_writer::{PageForm, PageSum, Planes, WriteStop, write_healed, write_page, write_shingled};
 use printer_profile::Profile;
 use std::alloc::Global;
+use std::thread::Threads;
+use wavefront_team::Team;
 use weave_base::Sink;
 
 /// Writes the job of a page whose dots are in planes: in shingled passes where the job asks for them, around its dead
-/// nozzles where it names some, else in interleaved passes.
-pub fn write_by_way<K: Sink>(
+/// nozzles where it names some, else in interleaved passes. The team's workers code it.
+pub fn write_by_way<R: Threads + Sync, G, K: Sink>(
+    team: &Team<'_, R, G>,
     alloc: Global,
     profile: &Profile,
     job: &Job,
@@ -57,10 +60,10 @@ pub fn write_by_way<K: Sink>(
 {
     prove!(profile.nozzles <= 255);
     if job.shingle {
-        write_shingled(alloc, profile, form, planes, out)
+        write_shingled(team, alloc, profile, form, planes, out)
     } else if job.dead.is_empty() {
-        write_page(alloc, profile, form, planes, out)
+        write_page(team, alloc, profile, form, planes, out)
     } else {
-        write_healed(alloc, profile, form, planes, &job.dead, out)
+        write_healed(team, alloc, profile, form, planes, &job.dead, out)
     }
 }

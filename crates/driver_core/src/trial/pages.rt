@@ -43,7 +43,8 @@ struct Written {
 }
 
 // Prints a page into memory and executes its job. It gives the size of the job.
-fn try_page(
+fn try_page<R: Threads + Sync, G>(
+    team: &Team<'_, R, G>,
     alloc: Global,
     profile: &Profile,
     job: &Job,
@@ -65,7 +66,7 @@ fn try_page(
     ensures err { IfErr result (λ a. a ≡ answer.Memory) }
 {
     bytes.clear();
-    let Ok(sum) = write_by_way(alloc, profile, job, page.form, &page.planes, bytes) else {
+    let Ok(sum) = write_by_way(team, alloc, profile, job, page.form, &page.planes, bytes) else {
         return Err(Answer::Memory);
     };
     match counter.execute_page(bytes.bytes()) {
@@ -126,7 +127,7 @@ fn try_stream<R: Threads + Sync, G: Gate + Sync>(
             Ok(None) => return Ok(totals(number - 1, written, counter)),
             Err(stop) => return Err(stream_answer(stop)),
         };
-        let sum = try_page(alloc, profile, job, &page, &mut bytes, counter)?;
+        let sum = try_page(team, alloc, profile, job, &page, &mut bytes, counter)?;
         written.bytes += sum.bytes;
         written.rasters += u64::from(sum.rasters);
     }

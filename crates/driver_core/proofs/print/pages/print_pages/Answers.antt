@@ -48,22 +48,22 @@ returns-in-Ok-None-clause-outcome g c =
     c.pages.invariant.stream.0 c.pages.invariant.whole c.pages.invariant.stream.1 end.0 end.1 c.read_page.ensures.used
 
 pub write_by_way-requires-clause-wanted : goal.write_by_way-requires-clause-wanted
-write_by_way-requires-clause-wanted g c =
+write_by_way-requires-clause-wanted g c κs within =
     let read = rw c.in-Ok-Some.field-0-is at c.in-Ok-Some.ensures.page in
     page-wanted (wanted_by c.args.profile.now) read.reads.bytes read.page c.in-Ok-Some.page.form read.form_is read.reads.is
 
 pub write_by_way-requires-clause-width : goal.write_by_way-requires-clause-width
-write_by_way-requires-clause-width g c =
+write_by_way-requires-clause-width g c κs within =
     let read = rw c.in-Ok-Some.field-0-is at c.in-Ok-Some.ensures.page in
     read.dots.width_is ∙ ap (λ (f : PageForm). (window_of f c.args.profile.now).width) (sym read.form_is)
 
 pub write_by_way-requires-clause-rows : goal.write_by_way-requires-clause-rows
-write_by_way-requires-clause-rows g c =
+write_by_way-requires-clause-rows g c κs within =
     let read = rw c.in-Ok-Some.field-0-is at c.in-Ok-Some.ensures.page in
     read.dots.rows_is ∙ ap (λ (f : PageForm). (window_of f c.args.profile.now).height) (sym read.form_is)
 
 pub write_by_way-requires-clause-inks : goal.write_by_way-requires-clause-inks
-write_by_way-requires-clause-inks g c =
+write_by_way-requires-clause-inks g c κs within =
     let read = rw c.in-Ok-Some.field-0-is at c.in-Ok-Some.ensures.page in
     read.dots.inks_is
 

@@ -18,7 +18,7 @@ use Rattle.driver_core.proofs.print.writing.write_by_way.Goals as goal
 -- ---- shingled passes
 
 pub write_shingled-requires-clause-fits : goal.write_shingled-requires-clause-fits
-write_shingled-requires-clause-fits g c =
+write_shingled-requires-clause-fits g c κs within =
     let p : Printer = c.args.profile.now in
     subst (λ way. CanGo way p) (way-shingled c.args.job.now c.if-job.true) c.requires.way
 
@@ -95,14 +95,14 @@ returns-then-is_empty-clause-prints g c = λ h shows.
 -- ---- around dead nozzles
 
 pub write_healed-requires-clause-rising : goal.write_healed-requires-clause-rising
-write_healed-requires-clause-rising g c =
+write_healed-requires-clause-rising g c κs within =
     let p : Printer = c.args.profile.now in
     let way : way_of c.args.job.now ≡ Healed c.args.job.now.dead.items =
     way-healed c.args.job.now c.if-job.false (some_dead c.args.job.now.dead.items c.is_empty.result c.is_empty.ensures c.if-is_empty.false) in
     rw c.deref.ensures.0 (subst (λ way. CanGo way p) way c.requires.way).0
 
 pub write_healed-requires-clause-nozzles : goal.write_healed-requires-clause-nozzles
-write_healed-requires-clause-nozzles g c =
+write_healed-requires-clause-nozzles g c κs within =
     let p : Printer = c.args.profile.now in
     let way : way_of c.args.job.now ≡ Healed c.args.job.now.dead.items =
     way-healed c.args.job.now c.if-job.false (some_dead c.args.job.now.dead.items c.is_empty.result c.is_empty.ensures c.if-is_empty.false) in

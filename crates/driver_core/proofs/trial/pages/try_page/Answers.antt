@@ -7,7 +7,7 @@ use Rattle.driver_core.specs.Runs.Fitting.{way_of}
 use Rattle.driver_core.proofs.trial.pages.try_page.Goals as goal
 
 pub execute_page-requires-clause-page : goal.execute_page-requires-clause-page
-execute_page-requires-clause-page c =
+execute_page-requires-clause-page g c =
     let p : Printer = c.args.profile.now in
     let h : Halftone = c.requires.shown.0 in
     let whole : List ℕ = halftone_bytes_by (way_of c.args.job.now) p h (c.args.page.now.form.height * row_units p) in
@@ -22,7 +22,7 @@ execute_page-requires-clause-page c =
     }
 
 pub returns-in-Ok-execute_page-clause-ok : goal.returns-in-Ok-execute_page-clause-ok
-returns-in-Ok-execute_page-clause-ok c = λ h shows.
+returns-in-Ok-execute_page-clause-ok g c = λ h shows.
     let p : Printer = c.args.profile.now in
     let whole : List ℕ = halftone_bytes_by (way_of c.args.job.now) p h (c.args.page.now.form.height * row_units p) in
     let bytes : c.bytes.result.now ≡ whole =

@@ -30,7 +30,7 @@ returns-in-Err-read_page-clause-err g c =
     c.in-Err-read_page.ensures.read c.stream_answer-in-Err-read_page.ensures
 
 pub try_page-requires-clause-wanted : goal.try_page-requires-clause-wanted
-try_page-requires-clause-wanted g c =
+try_page-requires-clause-wanted g c κs within =
     let read = rw c.in-Ok-Some.field-0-is at c.in-Ok-Some.ensures.page in
     page-wanted (wanted_by c.args.profile.now) read.reads.bytes read.page c.in-Ok-Some.page.form read.form_is read.reads.is
 
