@@ -5,8 +5,8 @@
 //! what was read and written (`Outcome`), and the error sink got its line (`Told`). The shelf is unchanged where the
 //! profile is built in (`unasked`) and where a word is refused (`refused_unasked`).
 //!
-//! A run prepares a command and performs it: `prepare` reads the words, sets the caps and finds the profile, `perform`
-//! does the command over input, output and meters. `print_one` prints one stream by a checked profile; it is what
+//! A run prepares a command and performs it: `prepare` reads the words, sets the caps, finds the profile, and checks that
+//! its head can go over pages as the words ask; `perform` does the command over input, output and meters. `print_one` prints one stream by a checked profile; it is what
 //! `perform` calls for `print`, and what a spool calls for each of its jobs.
 //!
 //! Each command has a module, and its outcome, promises and proofs stand together: `print` in `Printing`, `dots` in

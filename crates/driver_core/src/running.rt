@@ -53,7 +53,8 @@ pub fn tell<E: Sink>(answer: &Answer, err: &mut E)
 
 /// Runs a command line. `print` prints the pages of the input (PWG Raster, PWG 5102.4) as a job of ESC/P2 commands on
 /// `out`; `dots` writes the sheets of the job in the input as images there; `list` writes its commands as lines of
-/// text, and `profile` a profile's text.
+/// text, and `profile` a profile's text; `trial` makes pages, prints them into memory, runs the job of each, and writes
+/// a line of what it counted.
 ///
 /// The answer is the exit status: 0 done, 1 a word is refused, 2 the profile is refused, 3 the input is refused, 4 a
 /// read of the input or of the shelf failed, 5 a write failed, 6 a page goes past the cap of a meter, 7 memory ran

@@ -3,7 +3,7 @@
 //! `run_spool` promises `SpoolPromises`. There is an answer whose cause holds for what was read, written and counted
 //! (`outcome`); its status is returned; the error sink got a line for each job that ran and then that of the answer
 //! (`told`); and a valid run ends with 0 or 7 where nothing outside fails and no page goes past a cap (`valid`). Each job
-//! that ran has what `driver_core::print_one` promises, from where the job before it left the output and the meters
+//! that ran has the outcome that `driver_core::print_one` promises, from where the job before it left the output and the meters
 //! (`PrintsJobs`). Of each sender these are its first files, in order and numbered from 1 (`PrintsFirst`); on 0 and 9,
 //! and on 7 where a job ran, they are all of them (`PrintsEvery`).
 //!

@@ -114,7 +114,7 @@ first_pages : (want : Wanted) (pages others : List Page)
 first_pages want [] others are = tt
 first_pages want (page ∷ pages) others are = (are.0, first_pages want pages others are.1)
 
--- pages that a text begins with have no more rasters than passes
+-- pages that a text begins with keep to the way of the head
 passes_of : (way : Way) (p : Printer) (k : Table) (bytes : List ℕ) (pages : List Page) (most number : ℕ)
     → CanPrintBy way p → ((rest : List ℕ) → stream (wanted_by p) (bytes ++ rest)
     ≡ with_pages pages (pages_from (wanted_by p) most number rest)) → KeepTo way p k pages

@@ -21,7 +21,7 @@ use Rattle.driver_core.specs.Outside.{HasRisen, Meters, Outside}
 use Rattle.driver_core.specs.Printing.Pages.{BeginsStream, IsStream, ReadsStream, TakesPages, job_bytes}
 
 -- All pages of the input were printed: it is a stream with a clean end, and was read to this end; the job of its
--- pages was written, prints them, and has no more rasters of an ink than the head takes passes over a page.
+-- pages was written, prints them, and keeps to the way of the head.
 pub record PrintsAll (way : Way) (p : Printer) (k : Table) (input out : Outside) : Type 0 where
   pub pages : List Page
   pub reads : ReadsStream p input.before input.now pages
@@ -31,7 +31,7 @@ pub record PrintsAll (way : Way) (p : Printer) (k : Table) (input out : Outside)
   pub passes : KeepTo way p k pages
 
 -- The input is a stream of some pages that ends with this fault, and the job of these pages was written: those before
--- the named page, none where page 0, the sync word, is named. They have no more rasters than passes.
+-- the named page, none where page 0, the sync word, is named. They keep to the way of the head.
 pub record MeetsFault (way : Way) (p : Printer) (k : Table) (input out : Outside) (page line : ℕ) (cause : InputCause) : Type 0 where
   pub pages : List Page
   pub told : IsStream p input.before pages (Fault page line cause)
@@ -39,14 +39,14 @@ pub record MeetsFault (way : Way) (p : Printer) (k : Table) (input out : Outside
   pub writes : Appends out.before out.now (job_bytes way p k pages)
   pub passes : KeepTo way p k pages
 
--- The job of some first pages of what was read was written, with no more rasters than passes.
+-- The job of some first pages of what was read was written, and keeps to the way of the head.
 pub record PrintsSome (way : Way) (p : Printer) (k : Table) (input out : Outside) : Type 0 where
   pub pages : List Page
   pub taken : TakesPages p input.before input.now pages
   pub writes : Appends out.before out.now (job_bytes way p k pages)
   pub passes : KeepTo way p k pages
 
--- The job of all whole pages of what was read was written, with no more rasters than passes, and what was read has no
+-- The job of all whole pages of what was read was written and keeps to the way of the head, and what was read has no
 -- fault but one that more bytes could mend.
 pub record PrintsTaken (way : Way) (p : Printer) (k : Table) (input out : Outside) : Type 0 where
   pub pages : List Page
@@ -55,7 +55,7 @@ pub record PrintsTaken (way : Way) (p : Printer) (k : Table) (input out : Outsid
   pub passes : KeepTo way p k pages
 
 -- The jobs of the pages before this one were written, and a proper prefix of its own. All of them are the first pages
--- of what was read, and have no more rasters than passes.
+-- of what was read, and keep to the way of the head.
 pub record StopsInPage (way : Way) (p : Printer) (k : Table) (input out : Outside) (number : ℕ) : Type 0 where
   pub pages : List Page
   pub page : Page
@@ -79,7 +79,7 @@ pub record CountsOneMore (p : Printer) (k : Table) (meters : Meters) (pages othe
   pub pages_counted : CountsPages p k meters (pages ++ page ∷ [])
 
 -- This page was read whole, and the first meter without room for its dots has this total and this cap. The job of the
--- pages before it was written, with no more rasters than passes, and these were counted.
+-- pages before it was written and keeps to the way of the head, and these were counted.
 pub record GoesOver (way : Way) (p : Printer) (k : Table) (input out : Outside) (meters : Meters) (number total dots cap : ℕ) : Type 0 where
   pub pages : List Page
   pub page : Page
