@@ -1,5 +1,5 @@
 -- One more line of a page.
-use Rattle.std.proofs.Common.{◌≡◌, ◌⊎◌, ℕ, ℤ, ◌%◌, ◌+◌, ◌-◌, ◌<◌, ◌≤◌, Bool, false, List, [], ◌∷◌, ◌++◌, Some}
+use Rattle.std.proofs.Common.{◌≡◌, ◌⊎◌, ℕ, ◌+◌, ◌-◌, ◌<◌, ◌≤◌, false, List, [], ◌∷◌, ◌++◌, Some}
 use Rattle.std.proofs.Common.{slice_get, length, get_or, refl}
 use Rattle.std.proofs.Common.{sym, ◌∙◌, ap, arith, inl, inr, subst, append_assoc, length-append, replicate, suc, zero, pos}
 use Rattle.std.proofs.lemmas.Bool.{cases_lt}
@@ -8,7 +8,7 @@ use Rattle.std.proofs.lemmas.Option.{slice_get_within}
 use Rattle.diffusion_definitions.specs.Diffusion.{Errors, Plane, Table, errors, no_top, on}
 use Rattle.diffusion_laws.proofs.Solve.{errors_top}
 use Rattle.diffusion_kernel.specs.Tables.{table_of}
-use Rattle.dot_planes.specs.Tables.{AmountTable, DotTable, dot}
+use Rattle.dot_planes.specs.Tables.{AmountTable, dot}
 use Rattle.printer_definitions.specs.Inks.{inks_of}
 use Rattle.printer_definitions.specs.declared.inks.Ink.{Ink}
 use Rattle.printer_definitions.specs.Printer.{Printer}
@@ -23,7 +23,7 @@ use Rattle.tile_border.specs.Tops.{edges_of}
 use Rattle.tile_edges.specs.Tops.{IsBelow, top_of}
 use Rattle.ink_separation.specs.Separated.{HasLine, Separates}
 use Rattle.page_halftoner.specs.Halftones.{Diffusing, EndsWith, Filling, GoesOn, Halftoning, HoldsRows, IsFull, IsSameRows, IsUpTo, PutsLines, StandsFor}
-use Rattle.page_halftoner.specs.Halftones.{filled, held, joined, plane_of, rows_done, window, window_filled}
+use Rattle.page_halftoner.specs.Halftones.{held, joined, plane_of, rows_done, window, window_filled}
 use Rattle.separation_definitions.specs.declared.window.Window.{Window}
 use Rattle.diffusion_kernel.specs.declared.tables.Kernel.{Kernel}
 use Rattle.page_halftoner.proofs.SlabSteps.{row_more, slab_more}

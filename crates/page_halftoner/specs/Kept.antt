@@ -1,6 +1,5 @@
 -- The invariants of a halftoner and of its parts.
-use Rattle.std.specs.Prelude.{◌≡◌, ℤ, ◌%◌, ◌+◌, ◌<◌, ◌≤◌, Bool, true, false, IsOk, List, [], Option, Some, None, length}
-use Rattle.printer_definitions.specs.Inks.{inks_of}
+use Rattle.std.specs.Prelude.{◌≡◌, ℤ, ◌≤◌, Bool, true, false, IsOk, List, [], Option, Some, None}
 use Rattle.printer_profile.specs.Validity.{check}
 use Rattle.pwg_definitions.specs.Header.{IsWanted}
 use Rattle.separation_definitions.specs.Windows.{wanted_by, window_of}

@@ -46,12 +46,7 @@ impl Model for Diffuser {
 
 impl Diffuser {
     /// Begins the window of a page, and takes the memory of its dots and of the errors above it.
-    pub fn begin(
-        alloc: Global,
-        p: &Profile,
-        f: PageForm,
-        k: Kernel,
-    ) -> Result<Diffuser, Memory>
+    pub fn begin(alloc: Global, p: &Profile, f: PageForm, k: Kernel) -> Result<Diffuser, Memory>
         requires checked { IsOk (check p.now) }
         requires wanted { IsWanted (wanted_by p.now) f }
         ensures kernel { IfOk result (λ d. d.kernel ≡ k) }

@@ -8,7 +8,7 @@ use Rattle.separation_definitions.specs.declared.window.Window.{Window}
 use Rattle.page_halftoner.specs.Halftones.{EndsWith, Filling, IsFull, PutsLines, filled}
 use Rattle.page_halftoner.specs.Kept.{IsFilling, filling, window_in}
 use Rattle.page_halftoner.specs.declared.filler.Filler.TheInside.{Inside}
-use Rattle.page_halftoner.proofs.Lines.{IsNextRow, after, ends_with, in_margin, in_slab, none_filled}
+use Rattle.page_halftoner.proofs.Lines.{IsNextRow, after, ends_with, in_margin, in_slab}
 use Rattle.page_halftoner.proofs.filler.Filler.put_once.Goals as goal
 
 -- The line is the next row.

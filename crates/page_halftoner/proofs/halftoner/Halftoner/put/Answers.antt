@@ -1,4 +1,4 @@
-use Rattle.std.proofs.Common.{◌++◌, ◌∙◌, List, ℕ, ap, replicate, subst, sym}
+use Rattle.std.proofs.Common.{◌++◌, ◌∙◌, ℕ, ap, replicate, subst, sym}
 use Rattle.diffusion_kernel.specs.Tables.{table_of}
 use Rattle.dot_planes.specs.Tables.{AmountTable}
 use Rattle.separation_definitions.specs.declared.window.Window.{Window}
