@@ -1,4 +1,4 @@
-use Rattle.std.proofs.Common.{ℕ, ◌≡◌, ◌+◌, ◌-◌, ◌*◌, ◌<◌, ◌≤◌, List, ap, arith, drop, get_or, length, length-drop, length-take, take, ◌∙◌}
+use Rattle.std.proofs.Common.{ℕ, ◌≡◌, ◌+◌, ◌-◌, List, ap, arith, drop, get_or, length-drop, length-take, take, ◌∙◌}
 use Rattle.std.proofs.lemmas.List.{get_or-drop, get_or-take}
 use Rattle.raw_rows.proofs.Parts.{part_kept, part_put}
 use Rattle.raw_rows.proofs.kept.RawRows.copy_row.Goals as goal
