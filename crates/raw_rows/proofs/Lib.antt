@@ -3,3 +3,4 @@ pub mod Pixels
 pub mod GatheredTile
 pub mod LinePuts
 pub mod InkSets
+pub mod Parts

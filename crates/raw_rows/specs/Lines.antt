@@ -1,7 +1,9 @@
 -- What is kept of a line, and where.
-use Rattle.std.specs.Prelude.{ℕ, ◌+◌, ◌≤◌, List, slice_index}
+use Rattle.std.specs.Prelude.{ℕ, ◌+◌, ◌*◌, ◌/◌, ◌%◌, ◌≤◌, List, slice_index}
 use Rattle.base_definitions.specs.Limits.{most_columns}
 use Rattle.pwg_definitions.specs.Header.{line_bytes, row_of}
+use Rattle.pwg_definitions.specs.declared.pages.Kind.{Kind}
+use Rattle.pwg_definitions.specs.declared.pages.Kind.TheVariants.{Gray8, Black8, Rgb8, Black1, Cmyk8}
 use Rattle.ink_separation.specs.declared.separator.Separator.{Separator}
 
 -- how many bytes of a line are kept: those of its pixels up to the window's right edge
@@ -18,3 +20,19 @@ pub record IsSize (s : Separator) (rows : ℕ) : Type 0 where
 -- no row has the line of a later one
 abbrev pub AreEarlier : List ℕ → Type 0
 AreEarlier index = (y : ℕ) → slice_index index y ≤ y
+
+-- the byte of a line where a pixel begins
+abbrev pub first_byte : Kind → ℕ → ℕ
+first_byte Gray8 x = x
+first_byte Black8 x = x
+first_byte Rgb8 x = 3 * x
+first_byte Black1 x = x / 8
+first_byte Cmyk8 x = 4 * x
+
+-- how many pixels before it begin in that byte
+abbrev pub pixels_before : Kind → ℕ → ℕ
+pixels_before Gray8 x = 0
+pixels_before Black8 x = 0
+pixels_before Rgb8 x = 0
+pixels_before Black1 x = x % 8
+pixels_before Cmyk8 x = 0

@@ -9,6 +9,15 @@ use dot_planes::{TileAmounts, TileRows};
 use tile_shape::{Place, Shape};
 
 impl RawRows {
+    // Sets a tile row by row, as far as the rows go.
+    fn gather_cut(&self, place: Place, out: &mut TileAmounts)
+        ensures { HasTile (table_of self.now) place out.new.inks }
+    {
+        for r in 0..32 {
+            self.gather_row(place, r, out);
+        }
+    }
+
     // Sets row r of a tile in every ink, as far as the rows go.
     fn gather_row(&self, place: Place, r: usize, out: &mut TileAmounts)
         requires { r < 32 }
@@ -48,8 +57,10 @@ impl TileRows for RawRows {
     }
 
     fn gather(&self, place: Place, out: &mut TileAmounts) {
-        for r in 0..32 {
-            self.gather_row(place, r, out);
+        if self.has_all(place) {
+            self.gather_whole(place, out);
+        } else {
+            self.gather_cut(place, out);
         }
     }
 }

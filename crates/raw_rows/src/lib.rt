@@ -9,5 +9,6 @@
 mod gathering;
 mod kept;
 mod lines;
+mod whole;
 
 pub use kept::RawRows;

@@ -43,8 +43,9 @@ fn line_of(bytes: &[u8], len: usize, n: usize) -> &[u8]
     &bytes[n * len..n * len + len]
 }
 
-// Puts bytes from an index on.
-fn put(out: &mut [u8], at: usize, bytes: &[u8])
+/// Puts bytes from an index on.
+#[inline(always)]
+pub(crate) fn put(out: &mut [u8], at: usize, bytes: &[u8])
     requires { at + length bytes.now ≤ length out.old }
     ensures there { (k : ℕ) → k < length bytes.now → slice_index out.new (at + k) ≡ slice_index bytes.now k }
     ensures others { (k : ℕ) → (k < at) ⊎ (at + length bytes.now ≤ k) → slice_index out.new k ≡ slice_index out.old k }
