@@ -1,4 +1,4 @@
-use Rattle.std.proofs.Common.{◌≡◌, ◌∙◌, ap, arith, false, sym, subst}
+use Rattle.std.proofs.Common.{◌≡◌, ◌∙◌, ap, false, sym, subst}
 use Rattle.diffusion_kernel.specs.Tables.{table_of}
 use Rattle.dot_planes.specs.Tables.{DotTable, dot}
 use Rattle.page_definitions.specs.Dots.{HasDots, halftone}
