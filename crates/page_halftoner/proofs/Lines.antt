@@ -8,7 +8,10 @@ use Rattle.std.proofs.lemmas.Option.{slice_get_within}
 use Rattle.diffusion_definitions.specs.Diffusion.{Errors, Plane, Table, errors, no_top, on}
 use Rattle.diffusion_laws.proofs.Solve.{errors_top}
 use Rattle.diffusion_kernel.specs.Tables.{table_of}
-use Rattle.dot_planes.specs.Tables.{AmountTable, dot}
+use Rattle.dot_planes.specs.Tables.{AmountTable, HasSizeAs, dot}
+use Rattle.ink_separation.specs.declared.separator.Separator.{Separator}
+use Rattle.raw_rows.specs.Raw.{table_of as amounts_of}
+use Rattle.raw_rows.specs.declared.kept.RawRows.{RawRows}
 use Rattle.printer_definitions.specs.Inks.{inks_of}
 use Rattle.printer_definitions.specs.declared.inks.Ink.{Ink}
 use Rattle.printer_definitions.specs.Printer.{Printer}
@@ -21,7 +24,8 @@ use Rattle.separation_definitions.specs.Windows.{wanted_by, window_of}
 use Rattle.wavefront_team.specs.Slabs.{DiffusesSlab}
 use Rattle.tile_border.specs.Tops.{edges_of}
 use Rattle.tile_edges.specs.Tops.{IsBelow, top_of}
-use Rattle.ink_separation.specs.Separated.{HasLine, Separates}
+use Rattle.ink_separation.specs.Separated.{HasLine}
+use Rattle.page_halftoner.specs.Slabs.{TakesLine}
 use Rattle.page_halftoner.specs.Halftones.{Diffusing, EndsWith, Filling, GoesOn, Halftoning, HoldsRows, IsFull, IsSameRows, IsUpTo, PutsLines, StandsFor}
 use Rattle.page_halftoner.specs.Halftones.{held, joined, plane_of, rows_done, window, window_filled}
 use Rattle.separation_definitions.specs.declared.window.Window.{Window}
@@ -82,10 +86,10 @@ in_margin f line margin d lines s =
 pub record IsNextRow (f : Filling) (line : List ℕ) (y : ℕ) (slab : AmountTable) : Type 0 where
   pub place : (window_filled f).top + y ≡ f.count
   pub inside : y < (window_filled f).height
-  pub puts : Separates f.profile f.form.kind line (window_filled f) (y - f.first) f.slab slab
+  pub takes : TakesLine f.profile f.form.kind line (window_filled f) (y - f.first) f.slab slab
   pub from : f.first ≤ y
   pub room : y < f.first + f.slab.rows
-  pub few : f.slab.rows ≤ 256
+  pub rows : HoldsRows f
 
 -- Then it is held too.
 held_more : (f : Filling) (d : Diffusing) (line : List ℕ) (lines more : List (List ℕ)) (y i : ℕ) (ink : Ink) (slab : AmountTable)
@@ -104,10 +108,12 @@ held_more f d line lines more y i ink slab next s is =
     let up = subst P held_is (s.inks i ink (line ∷ more) is) in
     let Q : List (List ℕ) → Type 0 = λ all. IsUpTo (table_of h.kernel) (plane_of h ink all) i h.diffused (n + 1) h.planes h.top slab in
     subst Q (sym (behind lines line more)) (row_more
-    (table_of h.kernel) (plane_of h ink ls) i h.diffused n h.planes h.top h.slab slab up (omega (arith, next.from, next.room))
-    (λ x across. next.puts.row.are i ink is x across
+    (table_of h.kernel) (plane_of h ink ls) i h.diffused n h.planes h.top h.slab slab up
+    (λ x across. next.takes.row.are i ink is x across
     ∙ ap (λ l. amount_of h.profile h.form.kind (pixel_at h.form.kind l ((window h).left + x)) ink) (sym line_at)
-    ∙ ap (λ m. (plane_of h ink ls).amount m x) (sym row)) (λ r x other low. next.puts.others i r x other low))
+    ∙ ap (λ m. (plane_of h ink ls).amount m x) (sym row)) (λ r x low across. next.takes.above.same i r x
+    (omega (arith, next.rows.inks, slice_get_within (inks_of f.profile.inks) i ink is)) low (omega (arith, next.from, next.room))
+    (omega (arith, next.rows.width, across))))
 
 -- A row is put into the slab.
 pub in_slab : (f : Filling) (line : List ℕ) (y : ℕ) (slab : AmountTable)
@@ -122,7 +128,7 @@ in_slab f line y slab next d lines s =
           let R : ℕ → Type 0 = λ n. IsUpTo (table_of h.kernel)
           (plane_of h ink ((lines ++ line ∷ []) ++ more)) i h.diffused n h.planes h.top slab in
           subst R held_is (held_more f d line lines more y i ink slab next s is);
-      few = omega (arith, held_is, next.room, next.from, next.few);
+      few = omega (arith, held_is, next.room, next.from, next.rows.most);
       blank = s.blank;
     }
 
@@ -229,7 +235,7 @@ ends_with f line y slab next = record {
   last = λ n some.
       let here : y - f.first ≡ n = omega (arith, some, next.place, next.inside, next.from) in
       let Q : ℕ → Type 0 = λ m. HasLine f.profile f.form.kind line (window_filled f) m slab in
-      subst Q here next.puts.row;
+      subst Q here next.takes.row;
 }
 
 -- a line once more after its repeats
@@ -271,4 +277,12 @@ whole_page h lines s all wide tall inks = record {
       let Q : List (List ℕ) → Type 0 = λ ls. dot h.planes i y x
       ≡ on (table_of h.kernel) (plane_of h ink ls) (errors (table_of h.kernel) (plane_of h ink ls) no_top) y x in
       subst Q (append-nil lines) (up.dots y x (omega (arith, all)) inside);
+}
+
+-- raw rows of one separator, as many, have tables of one size
+pub same_size : (old new : RawRows) → new.rows ≡ old.rows → new.separator ≡ old.separator → HasSizeAs (amounts_of old) (amounts_of new)
+same_size old new rows separator = record {
+  width = ap (λ (s : Separator). s.window.width) separator;
+  rows = rows;
+  inks = ap (λ (s : Separator). length (inks_of s.inks)) separator;
 }

@@ -1,5 +1,5 @@
 -- A plane, slab by slab.
-use Rattle.std.proofs.Common.{◌≡◌, ◌≢◌, ℕ, ℤ, ◌%◌, ◌+◌, ◌-◌, ◌*◌, ◌<◌, ◌≤◌, List, [], ◌∷◌, ltb, ◌&&◌, sym, refl, ◌∙◌}
+use Rattle.std.proofs.Common.{◌≡◌, ℕ, ℤ, ◌%◌, ◌+◌, ◌-◌, ◌*◌, ◌<◌, ◌≤◌, List, [], ◌∷◌, ltb, ◌&&◌, sym, refl, ◌∙◌}
 use Rattle.std.proofs.Common.{ap, arith, inl, inr}
 use Rattle.std.proofs.lemmas.Bool.{cases_eq, cases_lt}
 use Rattle.diffusion_definitions.specs.Diffusion.{Errors, Plane, Solves, Table, cut, error_of, errors, five, inside}
@@ -46,15 +46,15 @@ same_dots k p q e y x same low across =
 
 -- A row is put after the held rows.
 pub row_more : (k : Table) (p : Plane) (i d n : ℕ) (planes : DotTable) (top : List (List (List ℤ))) (old new : AmountTable)
-    → IsUpTo k p i d n planes top old → n < old.rows
+    → IsUpTo k p i d n planes top old
     → ((x : ℕ) → x < p.width → amount new i n x ≡ p.amount (d + n) x)
-    → ((r x : ℕ) → r ≢ n → r < old.rows → amount new i r x ≡ amount old i r x) → IsUpTo k p i d (n + 1) planes top new
-row_more k p i d n planes top old new up low are others = record {
+    → ((r x : ℕ) → r < n → x < p.width → amount new i r x ≡ amount old i r x) → IsUpTo k p i d (n + 1) planes top new
+row_more k p i d n planes top old new up are above = record {
   dots = up.dots;
   errors_are = up.errors_are;
   amounts = λ y x below across. elim (cases_eq y n) [
     | inl here ↦ ap (λ m. amount new i m x) here ∙ are x across ∙ ap (λ m. p.amount (d + m) x) (sym here)
-    | inr other ↦ others y x other (omega arith) ∙ up.amounts y x (omega arith) across
+    | inr other ↦ above y x (omega arith) across ∙ up.amounts y x (omega arith) across
   ];
 }
 

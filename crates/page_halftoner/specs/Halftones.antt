@@ -14,6 +14,8 @@ use Rattle.separation_definitions.specs.declared.window.Window.{Window}
 use Rattle.tile_border.specs.Tops.{edges_of}
 use Rattle.tile_edges.specs.Tops.{IsBelow}
 use Rattle.ink_separation.specs.Separated.{HasLine}
+use Rattle.ink_separation.specs.Separators.{IsSeparatorOf}
+use Rattle.raw_rows.specs.declared.kept.RawRows.{RawRows}
 
 -- A page that is being halftoned: its profile, form and kernel, how many lines have come, how many rows of the window
 -- are diffused, the dots so far, the bottom edges of the last diffused rows, the amounts of the rows after them, and
@@ -142,11 +144,8 @@ pub record GoesOn (old new : Filling) : Type 0 where
   pub rows : HoldsRows new
 
 -- A slab that may take the place of the one that is being filled, once that is full.
-pub record IsSpare (f : Filling) (spare : AmountTable) : Type 0 where
-  pub width : spare.width ≡ f.slab.width
-  pub inks : spare.inks ≡ f.slab.inks
-  pub some : 1 ≤ spare.rows
-  pub most : spare.rows ≤ 256
+pub record IsSpare (f : Filling) (spare : RawRows) : Type 0 where
+  pub separator : IsSeparatorOf f.profile f.form.kind (window_filled f) spare.separator
   pub rows : f.first + f.slab.rows < (window_filled f).height → spare.rows ≡ f.slab.rows
 
 -- Planes for the window of a page of this form, in a printer's inks.

@@ -6,6 +6,7 @@ use Rattle.separation_definitions.specs.Windows.{wanted_by, window_of}
 use Rattle.separation_definitions.specs.declared.window.Window.{Window}
 use Rattle.tile_border.specs.Tops.{IsTopOf}
 use Rattle.ink_separation.specs.Separators.{IsSeparatorOf}
+use Rattle.raw_rows.specs.Raw.{table_of as amounts_of}
 use Rattle.page_halftoner.specs.Halftones.{Diffusing, Filling, Halftoning, HasRoom, HoldsRows, IsFull, joined}
 use Rattle.page_halftoner.specs.declared.diffuser.Diffuser.TheInside.{Inside as DiffuserInside}
 use Rattle.page_halftoner.specs.declared.filler.Filler.TheInside.{Inside}
@@ -29,16 +30,17 @@ pub record HasTop (d : DiffuserInside) : Type 0 where
   pub top_is : (top : List (List (List ℤ))) → d.top ≡ Some top → IsTopOf d.planes.width d.planes.inks top
 
 abbrev pub filling : Inside → Filling
-filling h = record { profile = h.profile; form = h.form; count = h.count; first = h.first; slab = h.slab }
+filling h = record { profile = h.profile; form = h.form; count = h.count; first = h.first; slab = amounts_of h.slab }
 
 abbrev pub window_in : Inside → Window
 window_in h = window_of h.form h.profile
 
--- The profile passes its checks, the printer takes the page, and the separator is of both.
+-- The profile passes its checks, the printer takes the page, and the slab's separator is of both.
 pub record IsFilling (h : Inside) : Type 0 where
   pub checked : IsOk (check h.profile)
   pub wanted : IsWanted (wanted_by h.profile) h.form
-  pub separator : IsSeparatorOf h.profile h.form.kind (window_in h) h.separator
+  pub window_is : h.window ≡ window_in h
+  pub separator : IsSeparatorOf h.profile h.form.kind (window_in h) h.slab.separator
   pub few : h.count ≤ h.form.height
   pub rows : HoldsRows (filling h)
 

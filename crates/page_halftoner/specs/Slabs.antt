@@ -1,6 +1,11 @@
 -- The rows of a page that are held until they are diffused.
 use Rattle.std.specs.Prelude.{◌≡◌, ℕ, ℤ, pos, ◌%◌, ◌<◌, ◌≤◌, List, min}
-use Rattle.dot_planes.specs.Tables.{AmountTable}
+use Rattle.dot_planes.specs.Tables.{AmountTable, HasSizeAs}
+use Rattle.ink_separation.specs.Separated.{HasLine}
+use Rattle.printer_definitions.specs.Printer.{Printer}
+use Rattle.pwg_definitions.specs.declared.pages.Kind.{Kind}
+use Rattle.raw_rows.specs.Raw.{KeepsAbove}
+use Rattle.separation_definitions.specs.declared.window.Window.{Window}
 use Rattle.tile_border.specs.Tops.{IsTopOf, edges_of}
 use Rattle.tile_edges.specs.Tops.{top_of}
 
@@ -25,3 +30,9 @@ pub record IsNextSlab (left : ℕ) (old new : AmountTable) : Type 0 where
   pub some : 1 ≤ old.rows → 1 ≤ new.rows
   pub most : new.rows ≤ old.rows
   pub rows : 0 < left → new.rows ≡ min left old.rows
+
+-- Row y has the amounts of a line, and the rows above it are unchanged.
+pub record TakesLine (p : Printer) (kind : Kind) (line : List ℕ) (w : Window) (y : ℕ) (old new : AmountTable) : Type 0 where
+  pub size : HasSizeAs old new
+  pub row : HasLine p kind line w y new
+  pub above : KeepsAbove old new y

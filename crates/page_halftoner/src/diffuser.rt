@@ -13,7 +13,7 @@ ghost use Rattle.wavefront_team.specs.Slabs.{DiffusesSlab};
 use crate::slabs::first_top;
 use base_definitions::Memory;
 use diffusion_kernel::Kernel;
-use dot_planes::{InkRows, Planes};
+use dot_planes::{Planes, TileRows};
 use printer_profile::{PageForm, Profile};
 use std::alloc::Global;
 use std::marker::Model;
@@ -76,20 +76,20 @@ impl Diffuser {
 
     /// Diffuses the slab that begins at row `first` by the team, and does the errand beside its workers
     /// (`wavefront_team::diffuse_beside`). `Memory` comes before the errand is begun, and at each later call.
-    pub fn diffuse_beside<R: Threads + Sync, G: Gate + Sync, F: FnMut() -> A, A>(
-        &mut self,
-        team: &Team<'_, R, G>,
-        slab: &InkRows,
-        first: u32,
-        errand: &mut F,
-    ) -> Result<A, Memory>
-        requires width { slab.now.width ≡ self.old.planes.width }
-        requires inks { slab.now.inks ≡ self.old.planes.inks }
-        requires rows { first + slab.now.rows ≤ self.old.planes.rows }
+    pub fn diffuse_beside<
+        R: Threads + Sync,
+        G: Gate + Sync,
+        A: TileRows + Sync,
+        F: FnMut() -> E,
+        E,
+    >(&mut self, team: &Team<'_, R, G>, slab: &A, first: u32, errand: &mut F) -> Result<E, Memory>
+        requires width { (A.table slab.now).width ≡ self.old.planes.width }
+        requires inks { (A.table slab.now).inks ≡ self.old.planes.inks }
+        requires rows { first + (A.table slab.now).rows ≤ self.old.planes.rows }
         requires errand { F.pre errand.old }
         ensures kernel { self.new.kernel ≡ self.old.kernel }
         ensures size { HasSizeOf self.old.planes self.new.planes }
-        ensures slab { IfOk result (λ done. DiffusesSlab (table_of self.old.kernel) slab.now
+        ensures slab { IfOk result (λ done. DiffusesSlab (table_of self.old.kernel) (A.table slab.now)
             self.old.top self.new.top first self.old.planes self.new.planes) }
         ensures errand { IfOk result (λ done. F.step errand.old done errand.new) }
         ensures working { OnOk result (self.new.failed ≡ false) }

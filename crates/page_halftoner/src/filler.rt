@@ -1,17 +1,18 @@
-//! The rows of a page that are filled with amounts as its lines come.
+//! The rows of a page that are filled as its lines come.
 ghost use Rattle.page_halftoner.specs.Halftones.{EndsWith, GoesOn, HoldsRows, IsFull, IsSameRows, IsSpare};
 ghost use Rattle.page_halftoner.specs.Halftones.{PutsLines};
 ghost use Rattle.printer_profile.specs.Validity.{check};
 ghost use Rattle.pwg_definitions.specs.Header.{IsWanted};
+ghost use Rattle.raw_rows.specs.Raw.{table_of as amounts_of};
 ghost use Rattle.separation_definitions.specs.Windows.{wanted_by, window_of};
 ghost use Rattle.std.specs.Prelude.{[], IfNone, IfOk, IfSome, IsOk, IsTrue, length, replicate, true, ◌↔◌};
 ghost use Rattle.std.specs.Prelude.{◌%◌, ◌+◌, ◌<◌, ◌∷◌, ◌≡◌, ◌≤◌, ◌⊎◌, ◌^◌};
 
 use crate::slabs::{first_slab, next_slab, put_line};
 use base_definitions::Memory;
-use dot_planes::InkRows;
 use ink_separation::Separator;
 use printer_profile::{PageForm, Profile};
+use raw_rows::RawRows;
 use separation_definitions::Window;
 use std::alloc::Global;
 use std::marker::Model;
@@ -23,14 +24,13 @@ use std::mem::swap;
 pub struct Filler {
     profile: Profile,
     form: PageForm,
-    /// The separator of the profile's inks, for the window of the page.
-    separator: Separator,
+    window: Window,
     /// How many lines of the page have come, those in the margins too.
     count: u32,
     /// The row of the window where the slab begins.
     first: u32,
-    /// Room for the next rows, of which the first ones hold amounts.
-    slab: InkRows,
+    /// Room for the next rows, of which the first ones have lines.
+    slab: RawRows,
 }
 
 impl Model for Filler {
@@ -69,11 +69,11 @@ impl Filler {
         ensures rows { IfOk result HoldsRows }
     {
         let window = p.window(f);
-        let slab = first_slab(alloc, window.width, window.height, p.inks.count(), workers)?;
+        let slab = first_slab(alloc, Separator::make(p, f.kind, window), workers)?;
         Ok(Filler {
             profile: *p,
             form: f,
-            separator: Separator::make(p, f.kind, window),
+            window,
             count: 0,
             first: 0,
             slab,
@@ -95,8 +95,8 @@ impl Filler {
     }
 
     /// The slab.
-    pub fn slab(&self) -> &InkRows
-        ensures { result.now ≡ self.now.slab }
+    pub fn slab(&self) -> &RawRows
+        ensures { amounts_of result.now ≡ self.now.slab }
     {
         &self.slab
     }
@@ -106,7 +106,7 @@ impl Filler {
         ensures full { IsTrue result ↔ IsFull self.now }
         ensures rows { HoldsRows self.now }
     {
-        let window = self.separator.window();
+        let window = self.window;
         let rows = self.count.saturating_sub(window.top).min(window.height);
         rows - self.first == self.slab.rows()
     }
@@ -142,12 +142,12 @@ impl Filler {
         ensures last { EndsWith self.new line.now }
         ensures lines { PutsLines self.old self.new (line.now ∷ []) }
     {
-        let Some(y) = row_of_line(self.separator.window(), self.count) else {
+        let Some(y) = row_of_line(self.window, self.count) else {
             self.count += 1;
             return;
         };
         let row = y - self.first;
-        put_line(&self.separator, line, again, row, &mut self.slab);
+        put_line(line, again, row, &mut self.slab);
         self.count += 1;
     }
 
@@ -157,31 +157,31 @@ impl Filler {
         ensures { GoesOn self.old self.new }
     {
         self.first += self.slab.rows();
-        next_slab(&mut self.slab, self.separator.window().height - self.first);
+        next_slab(&mut self.slab, self.window.height - self.first);
     }
 
     /// Room for a further slab of as many rows, where these are to be filled while this many workers diffuse the one
     /// before; `None` for one worker.
-    pub fn spare(&self, alloc: Global, workers: u8) -> Result<Option<InkRows>, Memory>
+    pub fn spare(&self, alloc: Global, workers: u8) -> Result<Option<RawRows>, Memory>
         ensures { IfOk result (λ o. IfSome o (IsSpare self.now)) }
     {
         if workers == 1 {
             return Ok(None);
         }
-        let (width, rows, inks) = (self.slab.width(), self.slab.rows(), self.slab.inks());
-        Ok(Some(InkRows::make(alloc, width, rows, inks)?))
+        let separator = Separator::make(&self.profile, self.form.kind, self.window);
+        Ok(Some(RawRows::make(alloc, separator, self.slab.rows())?))
     }
 
     /// Goes on to the rows below a full slab, in the spare one, and leaves the full one in its place.
-    pub fn swap(&mut self, spare: &mut InkRows)
+    pub fn swap(&mut self, spare: &mut RawRows)
         requires full { IsFull self.old }
         requires spare { IsSpare self.old spare.old }
         ensures next { GoesOn self.old self.new }
-        ensures slab { spare.new ≡ self.old.slab }
+        ensures slab { amounts_of spare.new ≡ self.old.slab }
         ensures spare { IsSpare self.new spare.new }
     {
         self.first += self.slab.rows();
         swap(&mut self.slab, spare);
-        next_slab(&mut self.slab, self.separator.window().height - self.first);
+        next_slab(&mut self.slab, self.window.height - self.first);
     }
 }

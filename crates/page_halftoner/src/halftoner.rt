@@ -23,8 +23,8 @@ use wavefront_team::{Gate, Team};
 /// A page that is halftoned line by line. Contracts see the profile, the form, the kernel, the number of lines so
 /// far, which lists of lines it stands for, and whether a call answered `Memory`.
 ///
-/// It keeps no lines; beside the planes of dots it keeps the amounts of one slab: at most 256 rows of the window in
-/// whole bands, or those that are left. When the slab is full it is diffused, below the errors of the slab above. Who
+/// Beside the planes of dots it keeps the lines of one slab: at most 256 rows of the window in whole bands, or those that
+/// are left. When the slab is full it is diffused, below the errors of the slab above. Who
 /// reads lines while slabs are diffused takes the two parts instead: a `Filler` and a `Diffuser`.
 #[derive(Drop)]
 pub struct Halftoner {

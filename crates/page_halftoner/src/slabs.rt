@@ -1,19 +1,20 @@
 //! The rows that wait for diffusion.
 ghost use Rattle.base_definitions.specs.Limits.{most_columns};
-ghost use Rattle.dot_planes.specs.Tables.{HasSizeAs, IsSize};
-ghost use Rattle.ink_separation.specs.Separated.{HasLine, Separates};
+ghost use Rattle.dot_planes.specs.Tables.{IsSize};
+ghost use Rattle.ink_separation.specs.Separated.{HasLine};
 ghost use Rattle.ink_separation.specs.Separators.{IsSeparatorOf};
-ghost use Rattle.page_halftoner.specs.Slabs.{IsFirstSlab, IsFirstTop, IsNextSlab};
+ghost use Rattle.page_halftoner.specs.Slabs.{IsFirstSlab, IsFirstTop, IsNextSlab, TakesLine};
 ghost use Rattle.printer_definitions.specs.Inks.{inks_of};
 ghost use Rattle.printer_definitions.specs.Printer.{Printer};
-ghost use Rattle.pwg_definitions.specs.Header.{line_bytes, row_of};
 ghost use Rattle.pwg_definitions.specs.declared.pages.Kind.{Kind};
+ghost use Rattle.raw_rows.specs.Lines.{kept_bytes};
+ghost use Rattle.raw_rows.specs.Raw.{table_of as amounts_of};
 ghost use Rattle.separation_definitions.specs.declared.window.Window.{Window};
 ghost use Rattle.std.specs.Prelude.{IfOk, length, true, ℕ, ◌%◌, ◌+◌, ◌<◌, ◌≡◌, ◌≤◌};
 
 use base_definitions::Memory;
-use dot_planes::InkRows;
 use ink_separation::Separator;
+use raw_rows::RawRows;
 use std::alloc::Global;
 use tile_border::TopEdges;
 use tile_shape::Shape;
@@ -24,10 +25,10 @@ const MOST_BANDS: u32 = 8;
 // About as many amounts as the second cache of a processor holds.
 const NEAR_AMOUNTS: u32 = 524_288;
 
-// How many rows of a window are diffused together, while as many are left. For each worker there are as many bands as
-// have their amounts still in its processor's cache when it comes to them, at least one. Several workers diffuse half of
-// the bands that are held, while the caller fills the other half.
-fn slab_rows(width: u32, height: u32, inks: u8, workers: u8) -> u32
+/// How many rows of a window are diffused together, while as many are left. For each worker there are as many bands as
+/// have their amounts still in its processor's cache when it comes to them, at least one. Several workers diffuse half of
+/// the bands that are held, while the caller fills the other half.
+pub(crate) fn slab_rows(width: u32, height: u32, inks: u8, workers: u8) -> u32
     requires size { IsSize width height inks }
     requires some_workers { 1 ≤ workers }
     ensures some { 1 ≤ result }
@@ -45,20 +46,26 @@ fn slab_rows(width: u32, height: u32, inks: u8, workers: u8) -> u32
     height.min(32 * bands.min(most))
 }
 
-/// Room for the first rows of a window, with work for this many workers.
+/// Room for the first rows of a separator's window, with work for this many workers.
 pub(crate) fn first_slab(
     alloc: Global,
-    width: u32,
-    height: u32,
-    inks: u8,
+    separator: Separator,
     workers: u8,
-) -> Result<InkRows, Memory>
-    requires size { IsSize width height inks }
+) -> Result<RawRows, Memory>
+    requires size { let w = separator.window in IsSize w.width w.height (length (inks_of separator.inks)) }
     requires workers { 1 ≤ workers }
-    ensures { IfOk result (IsFirstSlab width height inks) }
+    ensures separator { IfOk result (λ slab. slab.separator ≡ separator) }
+    ensures slab { let w = separator.window in
+        IfOk result (λ slab. IsFirstSlab w.width w.height (length (inks_of separator.inks)) (amounts_of slab)) }
 {
-    let rows = slab_rows(width, height, inks, workers);
-    let slab = InkRows::make(alloc, width, rows, inks)?;
+    let window = separator.window();
+    let rows = slab_rows(
+        window.width,
+        window.height,
+        separator.inks().count(),
+        workers,
+    );
+    let slab = RawRows::make(alloc, separator, rows)?;
     Ok(slab)
 }
 
@@ -76,30 +83,28 @@ pub(crate) fn first_top(alloc: Global, width: u32, inks: u8) -> Result<TopEdges,
 }
 
 /// Room for the next rows, where `left` are left.
-pub(crate) fn next_slab(slab: &mut InkRows, left: u32)
-    ensures { IsNextSlab left slab.old slab.new }
+pub(crate) fn next_slab(slab: &mut RawRows, left: u32)
+    ensures rows { IsNextSlab left (amounts_of slab.old) (amounts_of slab.new) }
+    ensures separator { slab.new.separator ≡ slab.old.separator }
 {
     if 0 < left && left < slab.rows() {
         slab.shorten(left);
     }
 }
 
-/// Puts the amounts of a line of a page into row y of a slab. `again`: the row above has them, too.
-pub(crate) fn put_line(separator: &Separator, line: &[u8], again: bool, y: u32, slab: &mut InkRows)
-    requires wide { separator.now.window.width ≤ most_columns }
-    requires line { let s = separator.now in
-        line_bytes (s.window.left + s.window.width) (row_of s.kind).bits_per_pixel ≤ length line.now }
-    requires width { slab.old.width ≡ separator.now.window.width }
-    requires inks { slab.old.inks ≡ length (inks_of separator.now.inks) }
+/// Gives row y of a slab a line of a page. `again`: the row above has it, too.
+pub(crate) fn put_line(line: &[u8], again: bool, y: u32, slab: &mut RawRows)
+    requires line { kept_bytes slab.old.separator ≤ length line.now }
     requires y { y < slab.old.rows }
-    ensures size { HasSizeAs slab.old slab.new }
-    ensures separated { (p : Printer) (kind : Kind) (w : Window) → IsSeparatorOf p kind w separator.now
-        → (again ≡ true → (n : ℕ) → y ≡ n + 1 → HasLine p kind line.now w n slab.old)
-        → Separates p kind line.now w y slab.old slab.new }
+    ensures rows { slab.new.rows ≡ slab.old.rows }
+    ensures separator { slab.new.separator ≡ slab.old.separator }
+    ensures takes { (p : Printer) (kind : Kind) (w : Window) → IsSeparatorOf p kind w slab.old.separator
+        → (again ≡ true → (n : ℕ) → y ≡ n + 1 → HasLine p kind line.now w n (amounts_of slab.old))
+        → TakesLine p kind line.now w y (amounts_of slab.old) (amounts_of slab.new) }
 {
     if again && 0 < y {
-        slab.copy_row(y - 1, y);
+        slab.repeat_line(y);
     } else {
-        separator.separate(line, y, slab);
+        slab.put_line(y, line);
     }
 }

@@ -1,18 +1,16 @@
 //! How high slabs are.
-use crate::slabs::first_slab;
+use crate::slabs::slab_rows;
 use base_definitions::{MOST_COLUMNS, MOST_ROWS};
-use std::alloc::Global;
 
 // How many rows the first slab of a window has.
-fn first_rows(alloc: Global, width: u32, height: u32, inks: u8, workers: u8) -> Option<u32> {
+fn first_rows(width: u32, height: u32, inks: u8, workers: u8) -> Option<u32> {
     if width < 1 || MOST_COLUMNS < width || height < 1 || MOST_ROWS < height {
         return None;
     }
     if inks < 1 || 4 < inks || workers < 1 {
         return None;
     }
-    let slab = first_slab(alloc, width, height, inks, workers).ok()?;
-    Some(slab.rows())
+    Some(slab_rows(width, height, inks, workers))
 }
 
 #[test]
@@ -29,7 +27,7 @@ fn each_worker_has_the_bands_that_fit_its_cache(rt: HostRuntime) {
         (8191, 20, 4, 1, 20),
     ];
     for (width, height, inks, workers, want) in CASES {
-        let rows = first_rows(rt.alloc(), width, height, inks, workers);
+        let rows = first_rows(width, height, inks, workers);
         assert!(rt; rows == Some(want), "{width} by {height}: {rows:?}");
     }
 }

@@ -1,14 +1,19 @@
-use Rattle.std.proofs.Common.{◌%◌, ap, arith, ◌∙◌}
+use Rattle.std.proofs.Common.{◌≡◌, ◌%◌, ap, arith, length, ◌∙◌}
+use Rattle.ink_separation.specs.declared.separator.Separator.{Separator}
+use Rattle.printer_definitions.specs.Inks.{inks_of}
+use Rattle.separation_definitions.specs.declared.window.Window.{Window}
 use Rattle.page_halftoner.proofs.slabs.first_slab.Goals as goal
 
-pub returns : goal.returns
-returns c =
+pub returns-clause-slab : goal.returns-clause-slab
+returns-clause-slab c =
     let slab = c.in_ok-slab.ensures in
+    let rows = c.slab_rows-rows.ensures in
+    let tall : c.window-window.result.height ≡ c.args.separator.window.height = ap (λ (w : Window). w.height) c.window-window.ensures in
     record {
-      width_is = slab.width;
-      some = omega (arith, slab.rows, c.slab_rows-rows.ensures.some);
-      most = omega (arith, slab.rows, c.slab_rows-rows.ensures.most);
-      inside = omega (arith, slab.rows, c.slab_rows-rows.ensures.inside);
-      bands = λ more. ap (λ n. n % 32) slab.rows ∙ c.slab_rows-rows.ensures.bands (omega (arith, slab.rows, more));
-      inks_are = slab.inks;
+      width_is = ap (λ (s : Separator). s.window.width) slab.separator;
+      some = omega (arith, slab.rows, rows.some);
+      most = omega (arith, slab.rows, rows.most);
+      inside = omega (arith, slab.rows, tall, rows.inside);
+      bands = λ more. ap (λ n. n % 32) slab.rows ∙ rows.bands (omega (arith, slab.rows, tall, more));
+      inks_are = ap (λ (s : Separator). length (inks_of s.inks)) slab.separator;
     }
