@@ -261,7 +261,7 @@ part_first {page} {last} {mid} {a} {b} {d} {one} n end within done part =
     let Q : ℕ → Type 0 = λ k. AppendsPart a d (sent_bytes page last 0 k) in
     subst Q whole (part_join n (end - (mid + n)) done (subst P there part))
 
--- ---- the bounds of a group's pieces
+-- ---- the bounds of a batch's pieces
 
 pub bound_above : (run : Run) (k : ℕ) → run.first ≤ run.count → run.first ≤ bound_of run k
 bound_above run k low = omega arith

@@ -13,7 +13,7 @@ use Rattle.page_writer.specs.declared.coded.Piece.{Piece}
 use Rattle.page_writer.specs.declared.coded.Run.{Run}
 use Rattle.page_writer.specs.declared.coded.Sent.{Sent}
 use Rattle.page_writer.specs.declared.cut.Cut.{Cut}
-use Rattle.page_writer.specs.declared.room.Groups.{Groups}
+use Rattle.page_writer.specs.declared.room.Batches.{Batches}
 use Rattle.printer_definitions.specs.Printer.{Printer}
 
 -- each of a list, by its place
@@ -89,9 +89,9 @@ pub record CodesPiece (page : HeadPage) (before after : Piece) : Type 0 where
   pub room : AllRoomy page after.strokes.items
   pub coded : AreCoded page before.first before.end after.strokes.items
 
--- ---- groups of pieces
+-- ---- batches of pieces
 
--- where the strokes of piece k of a group begin, and those of the piece before it end
+-- where the strokes of piece k of a batch begin, and those of the piece before it end
 abbrev pub bound_of : Run → ℕ → ℕ
 bound_of run k = min (run.first + k * run.each) run.count
 
@@ -101,18 +101,18 @@ pub record IsRoomy (page : HeadPage) (each : ℕ) (own : HeadPage) (piece : Piec
   pub many : length piece.strokes.items ≡ each
   pub room : AllRoomy page piece.strokes.items
 
--- Piece k of a group has its strokes to code.
+-- Piece k of a batch has its strokes to code.
 pub record IsAssigned (page : HeadPage) (run : Run) (k : ℕ) (own : HeadPage) (piece : Piece) : Type 0 where
   pub roomy : IsRoomy page run.each own piece
   pub first_is : piece.first ≡ bound_of run k
   pub end_is : piece.end ≡ bound_of run (k + 1)
 
--- Piece k of a group is coded.
+-- Piece k of a batch is coded.
 pub record IsFilled (page : HeadPage) (run : Run) (k : ℕ) (own : HeadPage) (piece : Piece) : Type 0 where
   pub roomy : IsRoomy page run.each own piece
   pub coded : AreCoded page (bound_of run k) (bound_of run (k + 1)) piece.strokes.items
 
--- Groups are cut into two pieces or more, of a stroke or more each, and the code of two groups of strokes of `most`
+-- Batches are cut into two pieces or more, of a stroke or more each, and the code of two batches of strokes of `most`
 -- bytes takes 8 MB at most.
 pub record IsCut (most : ℕ) (cut : Cut) : Type 0 where
   pub some : 2 ≤ cut.pieces
@@ -120,12 +120,12 @@ pub record IsCut (most : ℕ) (cut : Cut) : Type 0 where
   pub each : 1 ≤ cut.each
   pub room : 2 * (cut.pieces * cut.each * most) ≤ 8388608
 
--- Two groups of pieces of a page have room for their code.
-pub record HaveRoom {S : Type 0} (page_of : S → HeadPage) (page : HeadPage) (groups : Groups S) : Type 0 where
-  pub each_some : 1 ≤ groups.each
-  pub ahead_some : 1 ≤ length groups.ahead.items
-  pub ahead_few : length groups.ahead.items ≤ 64
-  pub behind_some : 1 ≤ length groups.behind.items
-  pub behind_few : length groups.behind.items ≤ 64
-  pub ahead : Each (λ k coder. IsRoomy page groups.each (page_of coder.page.now) coder.piece) groups.ahead.items
-  pub behind : Each (λ k coder. IsRoomy page groups.each (page_of coder.page.now) coder.piece) groups.behind.items
+-- Two batches of pieces of a page have room for their code.
+pub record HaveRoom {S : Type 0} (page_of : S → HeadPage) (page : HeadPage) (batches : Batches S) : Type 0 where
+  pub each_some : 1 ≤ batches.each
+  pub ahead_some : 1 ≤ length batches.ahead.items
+  pub ahead_few : length batches.ahead.items ≤ 64
+  pub behind_some : 1 ≤ length batches.behind.items
+  pub behind_few : length batches.behind.items ≤ 64
+  pub ahead : Each (λ k coder. IsRoomy page batches.each (page_of coder.page.now) coder.piece) batches.ahead.items
+  pub behind : Each (λ k coder. IsRoomy page batches.each (page_of coder.page.now) coder.piece) batches.behind.items

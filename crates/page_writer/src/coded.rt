@@ -24,7 +24,7 @@ pub(crate) struct Sent {
     pub(crate) last: u32,
 }
 
-/// The strokes of a group of pieces: `each` for a piece, from `first` on, but none from `count` on.
+/// The strokes of a batch of pieces: `each` for a piece, from `first` on, but none from `count` on.
 #[derive(Clone, Copy)]
 pub(crate) struct Run {
     pub(crate) first: u32,

@@ -1,6 +1,6 @@
 //! How the strokes of a page are cut into pieces.
 
-/// How a group is cut: into how many pieces, and of how many strokes each.
+/// How a batch is cut: into how many pieces, and of how many strokes each.
 #[derive(Clone, Copy)]
 pub(crate) struct Cut {
     pub(crate) pieces: u32,

@@ -7,8 +7,8 @@
 //! (`part`), and the sink's count of faults rose (`write`). On `Memory` nothing was written (`memory`): all memory is
 //! taken before the first byte.
 //!
-//! With several workers the strokes are cut into pieces of consecutive strokes. A group of pieces is coded by all
-//! workers while the caller sends the group above it. The step down to a stroke depends on which strokes above it have
+//! With several workers the strokes are cut into pieces of consecutive strokes. A batch of pieces is coded by all
+//! workers while the caller sends the batch above it. The step down to a stroke depends on which strokes above it have
 //! a dot, so a stroke is coded behind seven bytes of room, into which the caller puts the step. The bytes are the same
 //! for any number of workers; that several work at once is not claimed.
 //!
@@ -28,12 +28,12 @@
 //! one call of `put_all`, and so are the commands before the strokes and those after them, is left to tests.
 #![tactic(auto)]
 
+mod batches;
 mod blank;
 mod coded;
 mod coder;
 mod coding;
 mod cut;
-mod groups;
 mod halves;
 mod head;
 mod healed;

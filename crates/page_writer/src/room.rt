@@ -1,4 +1,4 @@
-//! Room for the code of two groups of pieces, which is taken before the first byte.
+//! Room for the code of two batches of pieces, which is taken before the first byte.
 ghost use Rattle.page_writer.specs.Pieces.{Each, HaveRoom, IsCut, IsRoomy};
 ghost use Rattle.page_writer.specs.Sums.{most_of_pass};
 ghost use Rattle.std.specs.Prelude.{IfOk, IfSome, length, vec_capacity, ◌*◌, ◌/◌, ◌<◌, ◌≡◌, ◌≤◌};
@@ -13,11 +13,11 @@ use std::alloc::Global;
 /// The most bytes of room for the code of pieces.
 const MOST_ROOM: u64 = 8 << 20;
 
-/// A group has a worker's piece for each of so many strokes of the page at least.
+/// How many strokes a page has at least for each worker that codes them.
 const LEAST_STROKES: u32 = 4;
 
-/// In how many groups the strokes of a page are coded, where there is room.
-const GROUPS: u64 = 8;
+/// In how many batches the strokes of a page are coded, where there is room.
+const BATCHES: u64 = 8;
 
 /// How so many strokes are cut for these workers, where a stroke takes so many bytes at most. `None` says that one
 /// worker does as well: there are few strokes, or no room for two of them at once.
@@ -33,7 +33,7 @@ pub(crate) fn cut(workers: u8, count: u32, most: u64) -> Option<Cut>
     if pieces < 2 {
         return None;
     }
-    let wanted = u64::from(count) / (GROUPS * pieces);
+    let wanted = u64::from(count) / (BATCHES * pieces);
     let each = wanted.max(1).min(room / pieces);
     Some(Cut {
         pieces: pieces as u32,
@@ -41,9 +41,9 @@ pub(crate) fn cut(workers: u8, count: u32, most: u64) -> Option<Cut>
     })
 }
 
-/// Room for the code of two groups, of `each` strokes for a piece.
+/// Room for the code of two batches, of `each` strokes for a piece.
 #[derive(Drop)]
-pub(crate) struct Groups<'a, S> {
+pub(crate) struct Batches<'a, S> {
     pub(crate) each: u32,
     pub(crate) ahead: Vec<Coder<'a, S>>,
     pub(crate) behind: Vec<Coder<'a, S>>,
@@ -70,7 +70,7 @@ fn make_piece(alloc: Global, each: u32, most: usize) -> Result<Piece, Memory>
     })
 }
 
-// A coder for each piece of a group.
+// A coder for each piece of a batch.
 fn make_coders<'a, S: Strokes>(
     alloc: Global,
     page: &'a S,
@@ -92,21 +92,21 @@ fn make_coders<'a, S: Strokes>(
     Ok(coders)
 }
 
-impl<'a, S: Strokes> Groups<'a, S> {
-    /// Room for two groups that are cut in this way, of strokes of so many bytes at most.
+impl<'a, S: Strokes> Batches<'a, S> {
+    /// Room for two batches that are cut in this way, of strokes of so many bytes at most.
     pub(crate) fn make(
         alloc: Global,
         page: &'a S,
         cut: Cut,
         most: usize,
-    ) -> Result<Groups<'a, S>, Memory>
+    ) -> Result<Batches<'a, S>, Memory>
         requires cut { IsCut most cut }
         requires most { most_of_pass (S.page page.now).p (S.page page.now).t.width ≤ most }
         ensures { IfOk result (HaveRoom (λ it. S.page it) (S.page page.now)) }
     {
         let ahead = make_coders(alloc, page, cut, most)?;
         let behind = make_coders(alloc, page, cut, most)?;
-        Ok(Groups {
+        Ok(Batches {
             each: cut.each,
             ahead,
             behind,

@@ -15,12 +15,12 @@ ghost use Rattle.std.specs.Prelude.{vec_capacity, vec_len, ◌*◌, ◌+◌, ◌
 ghost use Rattle.weave_base.specs.Causes.{HasCause, Rose};
 ghost use Rattle.weave_base.specs.Parts.{AppendsPart};
 
-use crate::groups::put_groups;
+use crate::batches::put_batches;
 use crate::head::Head;
 use crate::numbers::sheet_of;
 use crate::page_strokes::{PageStrokes, Strokes};
 use crate::prologue::{append_end, append_prologue};
-use crate::room::{Groups, cut};
+use crate::room::{Batches, cut};
 use crate::stroke::put_stroke;
 use crate::sums::{PageSum, most_of_pass};
 use base_definitions::Memory;
@@ -88,17 +88,17 @@ fn put_strokes<H: Head, K: Sink>(
     Ok(sum)
 }
 
-/// Writes the strokes of a page, each in one write: coded by all workers where there is room for their groups, else by
+/// Writes the strokes of a page, each in one write: coded by all workers where there is room for their batches, else by
 /// the caller alone.
 fn put_by_all<R: Threads + Sync, H: Head + Sync, K: Sink>(
     threads: &R,
     page: &PageStrokes<'_, H>,
-    groups: Option<Groups<'_, PageStrokes<'_, H>>>,
+    batches: Option<Batches<'_, PageStrokes<'_, H>>>,
     out: &mut Vec<u8>,
     k: &mut K,
 ) -> Result<PageSum, Failed>
     requires suits { Suits page.now.p.now (H.strokes page.now.head.now) page.now.planes.now }
-    requires groups { IfSome groups (HaveRoom
+    requires batches { IfSome batches (HaveRoom
         (λ it. record { p = it.p.now; head = H.strokes it.head.now; t = it.planes.now })
         (record { p = page.now.p.now; head = H.strokes page.now.head.now; t = page.now.planes.now })) }
     requires step { 7 ≤ vec_capacity out.old }
@@ -120,12 +120,12 @@ fn put_by_all<R: Threads + Sync, H: Head + Sync, K: Sink>(
         ≤ (H.strokes page.now.head.now).count * most_of_pass_of page.now.p.now page.now.planes.now.width) }
     ensures capacity { vec_capacity out.old ≤ vec_capacity out.new }
 {
-    let Some(groups) = groups else {
+    let Some(batches) = batches else {
         let mut row = [0u8; 1024];
         let len = (page.planes.width() as usize + 7) / 8;
         return put_strokes(page.p, page.planes, page.head, &mut row[..len], out, k);
     };
-    let sent = put_groups(threads, page, groups, out, k)?;
+    let sent = put_batches(threads, page, batches, out, k)?;
     Ok(PageSum {
         bytes: sent.bytes,
         rasters: sent.rasters,
@@ -136,7 +136,7 @@ fn put_by_all<R: Threads + Sync, H: Head + Sync, K: Sink>(
 fn put_page<R: Threads + Sync, H: Head + Sync, K: Sink>(
     threads: &R,
     page: &PageStrokes<'_, H>,
-    groups: Option<Groups<'_, PageStrokes<'_, H>>>,
+    batches: Option<Batches<'_, PageStrokes<'_, H>>>,
     f: PageForm,
     out: &mut Vec<u8>,
     k: &mut K,
@@ -144,7 +144,7 @@ fn put_page<R: Threads + Sync, H: Head + Sync, K: Sink>(
     requires suits { Suits page.now.p.now (H.strokes page.now.head.now) page.now.planes.now }
     requires wanted { IsWanted (wanted_by page.now.p.now) f }
     requires rows { page.now.planes.now.rows ≡ (window_of f page.now.p.now).height }
-    requires groups { IfSome groups (HaveRoom
+    requires batches { IfSome batches (HaveRoom
         (λ it. record { p = it.p.now; head = H.strokes it.head.now; t = it.planes.now })
         (record { p = page.now.p.now; head = H.strokes page.now.head.now; t = page.now.planes.now })) }
     requires empty { out.old.items ≡ [] }
@@ -164,7 +164,7 @@ fn put_page<R: Threads + Sync, H: Head + Sync, K: Sink>(
 {
     append_prologue(sheet_of(page.p, f, page.head.above()), out);
     put_all(k, out)?;
-    let strokes = put_by_all(threads, page, groups, out, k)?;
+    let strokes = put_by_all(threads, page, batches, out, k)?;
     out.clear();
     append_end(out);
     put_all(k, out)?;
@@ -174,24 +174,24 @@ fn put_page<R: Threads + Sync, H: Head + Sync, K: Sink>(
     })
 }
 
-// Room for the groups of these workers. `None` says that the caller codes alone: one worker does as well, or there is
+// Room for the batches of these workers. `None` says that the caller codes alone: one worker does as well, or there is
 // no memory for more.
-fn groups_of<'a, H: Head>(
+fn batches_of<'a, H: Head>(
     alloc: Global,
     workers: u8,
     page: &'a PageStrokes<'a, H>,
     most: u64,
-) -> Option<Groups<'a, PageStrokes<'a, H>>>
+) -> Option<Batches<'a, PageStrokes<'a, H>>>
     requires workers { workers ≤ 64 }
     requires some { 1 ≤ most }
     requires most { most_of_pass_of page.now.p.now page.now.planes.now.width ≤ most }
-    ensures groups { IfSome result (HaveRoom
+    ensures batches { IfSome result (HaveRoom
         (λ it. record { p = it.p.now; head = H.strokes it.head.now; t = it.planes.now })
         (record { p = page.now.p.now; head = H.strokes page.now.head.now; t = page.now.planes.now })) }
 {
     let cut = cut(workers, page.count(), most)?;
-    match Groups::make(alloc, page, cut, most as usize) {
-        Ok(groups) => Some(groups),
+    match Batches::make(alloc, page, cut, most as usize) {
+        Ok(batches) => Some(batches),
         Err(Memory) => None,
     }
 }
@@ -201,8 +201,8 @@ fn groups_of<'a, H: Head>(
 /// Manual, graphics commands). Rows of rasters are coded.
 ///
 /// The team's workers code the strokes; the caller alone writes. It takes its memory before the first byte: the room for
-/// one stroke, and for several workers that of two groups of strokes, which is 8 MB at most. Without memory for the
-/// groups the caller codes alone. A stroke is one call of `put_all`; so are the commands before the strokes and those
+/// one stroke, and for several workers that of two batches of strokes, which is 8 MB at most. Without memory for the
+/// batches the caller codes alone. A stroke is one call of `put_all`; so are the commands before the strokes and those
 /// after them. On `Write` the sink took a proper prefix of the bytes.
 pub fn write_strokes<R: Threads + Sync, G, H: Head + Sync, K: Sink>(
     team: &Team<'_, R, G>,
@@ -234,8 +234,8 @@ pub fn write_strokes<R: Threads + Sync, G, H: Head + Sync, K: Sink>(
         return Err(WriteStop::Memory);
     };
     let page = PageStrokes { p, planes, head };
-    let groups = groups_of(alloc, team.workers, &page, most);
-    match put_page(team.threads, &page, groups, f, &mut out, k) {
+    let batches = batches_of(alloc, team.workers, &page, most);
+    match put_page(team.threads, &page, batches, f, &mut out, k) {
         Ok(sum) => Ok(sum),
         Err(Failed) => Err(WriteStop::Write),
     }

@@ -1,14 +1,14 @@
 use Rattle.std.proofs.Common.{◌≡◌, ◌-◌, ◌≤◌, length, vec_capacity}
 use Rattle.page_writer.specs.Pieces.{Each, IsFilled, IsRoomy, Sends, bound_of}
-use Rattle.page_writer.proofs.groups.put_group.Given as goal
+use Rattle.page_writer.proofs.batches.put_batch.Given as goal
 
 abbrev pub invariant-pieces : goal.invariant-pieces
 invariant-pieces g l = record {
-  run : l.group.run ≡ l.fn.group.run;
-  many : length l.group.coders.items ≡ length l.fn.group.coders.items;
+  run : l.batch.run ≡ l.fn.batch.run;
+  many : length l.batch.coders.items ≡ length l.fn.batch.coders.items;
   pieces : Each (λ k coder. IsRoomy (g.S.Strokes.page l.page) l.run.each (g.S.Strokes.page coder.page.now) coder.piece
       × (l.i ≤ k → IsFilled (g.S.Strokes.page l.page) l.run k (g.S.Strokes.page coder.page.now) coder.piece))
-      l.group.coders.items;
+      l.batch.coders.items;
   sent : Sends (g.S.Strokes.page l.page) l.last l.run.first (bound_of l.run l.i - l.run.first)
       (g.K.Sink.held l.fn.k) (g.K.Sink.held l.k) l.sent;
   step : vec_capacity l.fn.step ≤ vec_capacity l.step;

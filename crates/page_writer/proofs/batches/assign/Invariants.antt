@@ -1,7 +1,7 @@
 use Rattle.std.proofs.Common.{◌≡◌, ◌<◌, length}
 use Rattle.page_writer.specs.Heads.{HeadPage}
 use Rattle.page_writer.specs.Pieces.{Each, IsAssigned, IsRoomy}
-use Rattle.page_writer.proofs.groups.assign.Given as goal
+use Rattle.page_writer.proofs.batches.assign.Given as goal
 
 abbrev pub invariant-pieces : goal.invariant-pieces
 invariant-pieces g l = record {

@@ -1,9 +1,9 @@
 use Rattle.std.proofs.Common.{◌≡◌, ◌+◌, ◌-◌, ◌≤◌, length, vec_capacity}
 use Rattle.page_writer.specs.Pieces.{Each, IsFilled, IsRoomy, Sends, bound_of}
-use Rattle.page_writer.proofs.groups.put_groups.Given as goal
+use Rattle.page_writer.proofs.batches.put_batches.Given as goal
 
-abbrev pub invariant-groups : goal.invariant-groups
-invariant-groups g l = record {
+abbrev pub invariant-batches : goal.invariant-batches
+invariant-batches g l = record {
   each : 1 ≤ l.each;
   count : l.count ≡ (g.S.Strokes.page l.page).head.count;
   ahead_each : l.ahead.run.each ≡ l.each;
@@ -26,5 +26,5 @@ invariant-groups g l = record {
   later : g.K.Sink.faults l.fn.k ≤ g.K.Sink.faults l.k;
 }
 
-abbrev pub decreases-groups : goal.decreases-groups
-decreases-groups g l = l.count - l.behind.run.first + (l.count - l.ahead.run.first)
+abbrev pub decreases-batches : goal.decreases-batches
+decreases-batches g l = l.count - l.behind.run.first + (l.count - l.ahead.run.first)

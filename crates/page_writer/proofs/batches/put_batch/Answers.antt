@@ -5,21 +5,21 @@ use Rattle.page_writer.specs.Pieces.{Sends, bound_of}
 use Rattle.page_writer.specs.declared.coded.Run.{Run}
 use Rattle.page_writer.specs.declared.coded.Sent.{Sent}
 use Rattle.page_writer.proofs.Pieces.{bound_above, bound_rises, each_at, each_step, part_piece, sends_piece, sent_fits}
-use Rattle.page_writer.proofs.groups.put_group.Goals as goal
+use Rattle.page_writer.proofs.batches.put_batch.Goals as goal
 
 pub returns-in_err-one-clause-part : goal.returns-in_err-one-clause-part
 returns-in_err-one-clause-part g c =
-    let run : Run = c.args.group.now.run in
+    let run : Run = c.args.batch.now.run in
     let i : ℕ = c.pieces.i in
-    on_err_anyway _ (part_piece (bound_of run i) (bound_of run (i + 1)) (bound_of run (length c.args.group.now.coders.items))
+    on_err_anyway _ (part_piece (bound_of run i) (bound_of run (i + 1)) (bound_of run (length c.args.batch.now.coders.items))
     c.bound.ensures c.bound-in-pieces.ensures (bound_above run i c.requires.first) (bound_rises run i (i + 1) (omega arith))
-    (bound_rises run (i + 1) (length c.args.group.now.coders.items)
+    (bound_rises run (i + 1) (length c.args.batch.now.coders.items)
     (omega (arith, c.pieces-test.true, c.len-i-end.ensures, c.pieces.invariant.many)))
     c.pieces.invariant.sent c.in_err-one.ensures.part)
 
 pub and_then-sent-requires-clause-bytes : goal.and_then-sent-requires-clause-bytes
 and_then-sent-requires-clause-bytes g c =
-    let run : Run = c.args.group.now.run in
+    let run : Run = c.args.batch.now.run in
     let i : ℕ = c.pieces.i in
     let rises : bound_of run i ≤ bound_of run (i + 1) = bound_rises run i (i + 1) (omega arith) in
     let above : run.first ≤ bound_of run i = bound_above run i c.requires.first in
@@ -31,7 +31,7 @@ and_then-sent-requires-clause-bytes g c =
 pub pieces-preserved : goal.pieces-preserved
 pieces-preserved g c =
     let page : HeadPage = g.S.Strokes.page c.args.page.now in
-    let run : Run = c.args.group.now.run in
+    let run : Run = c.args.batch.now.run in
     let i : ℕ = c.pieces.i in
     let here = (each_at _ i c.index_mut.result.now c.pieces.invariant.pieces (omega arith) c.index_mut.ensures.value).0 in
     record {

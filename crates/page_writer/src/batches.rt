@@ -1,4 +1,4 @@
-//! Groups of pieces: one is coded by the workers while the caller sends the one before.
+//! Batches of pieces: one is coded by the workers while the caller sends the one before.
 ghost use denote.Param.Send.{IsSync};
 ghost use Rattle.page_writer.specs.Heads.{HeadPage, IsPage};
 ghost use Rattle.page_writer.specs.Pieces.{AllRoomy, AreCoded, Each, HaveRoom, IsAssigned, IsFilled, IsRoomy, Sends};
@@ -11,7 +11,7 @@ ghost use Rattle.weave_base.specs.Parts.{AppendsPart};
 use crate::coded::{Piece, Run, Sent};
 use crate::coder::Coder;
 use crate::page_strokes::Strokes;
-use crate::room::Groups;
+use crate::room::Batches;
 use crate::sending::put_coded_strokes;
 use std::mem;
 use std::thread::Threads;
@@ -72,7 +72,7 @@ fn put_piece<S: Strokes, K: Sink>(
 
 /// Pieces of a page, and which strokes they have.
 #[derive(Drop)]
-pub(crate) struct Group<'a, S> {
+pub(crate) struct Batch<'a, S> {
     pub(crate) run: Run,
     pub(crate) coders: Vec<Coder<'a, S>>,
 }
@@ -92,36 +92,36 @@ fn assign<S: Strokes>(run: Run, coders: &mut Vec<Coder<'_, S>>)
     }
 }
 
-// Sends the strokes of a group whose pieces are coded. The head is on row `last`.
-fn put_group<S: Strokes, K: Sink>(
+// Sends the strokes of a batch whose pieces are coded. The head is on row `last`.
+fn put_batch<S: Strokes, K: Sink>(
     page: &S,
-    group: &mut Group<'_, S>,
+    batch: &mut Batch<'_, S>,
     last: u32,
     step: &mut Vec<u8>,
     k: &mut K,
 ) -> Result<Sent, Failed>
     requires page { IsPage (S.page page.now) }
-    requires few { length group.old.coders.items ≤ 64 }
-    requires low { group.old.run.count ≤ (S.page page.now).head.count }
-    requires first { group.old.run.first ≤ group.old.run.count }
-    requires filled { Each (λ k coder. IsFilled (S.page page.now) group.old.run k (S.page coder.page.now) coder.piece)
-        group.old.coders.items }
+    requires few { length batch.old.coders.items ≤ 64 }
+    requires low { batch.old.run.count ≤ (S.page page.now).head.count }
+    requires first { batch.old.run.first ≤ batch.old.run.count }
+    requires filled { Each (λ k coder. IsFilled (S.page page.now) batch.old.run k (S.page coder.page.now) coder.piece)
+        batch.old.coders.items }
     requires step { 7 ≤ vec_capacity step.old }
-    ensures ok { IfOk result (Sends (S.page page.now) last group.old.run.first
-        (bound_of group.old.run (length group.old.coders.items) - group.old.run.first) (K.held k.old) (K.held k.new)) }
+    ensures ok { IfOk result (Sends (S.page page.now) last batch.old.run.first
+        (bound_of batch.old.run (length batch.old.coders.items) - batch.old.run.first) (K.held k.old) (K.held k.new)) }
     ensures part { OnErr result (AppendsPart (K.held k.old) (K.held k.new) (sent_bytes (S.page page.now) last
-        group.old.run.first (bound_of group.old.run (length group.old.coders.items) - group.old.run.first))) }
+        batch.old.run.first (bound_of batch.old.run (length batch.old.coders.items) - batch.old.run.first))) }
     ensures cause { HasCause (K.faults k.old) (K.faults k.new) result }
-    ensures run { group.new.run ≡ group.old.run }
-    ensures many { length group.new.coders.items ≡ length group.old.coders.items }
-    ensures room { OnOk result (Each (λ k coder. IsRoomy (S.page page.now) group.old.run.each (S.page coder.page.now) coder.piece)
-        group.new.coders.items) }
+    ensures run { batch.new.run ≡ batch.old.run }
+    ensures many { length batch.new.coders.items ≡ length batch.old.coders.items }
+    ensures room { OnOk result (Each (λ k coder. IsRoomy (S.page page.now) batch.old.run.each (S.page coder.page.now) coder.piece)
+        batch.new.coders.items) }
     ensures step { vec_capacity step.old ≤ vec_capacity step.new }
 {
-    let run = group.run;
+    let run = batch.run;
     let mut sent = Sent::nothing(last);
-    'pieces: for i in 0..group.coders.len() {
-        let piece = &mut group.coders[i].piece;
+    'pieces: for i in 0..batch.coders.len() {
+        let piece = &mut batch.coders[i].piece;
         let one = put_piece(
             page,
             run.bound(i),
@@ -136,13 +136,13 @@ fn put_group<S: Strokes, K: Sink>(
     Ok(sent)
 }
 
-// Codes the strokes of the group ahead by all workers, while the caller sends those of the group behind, whose pieces
+// Codes the strokes of the batch ahead by all workers, while the caller sends those of the batch behind, whose pieces
 // are coded. The head is on row `last`.
 fn code_beside<R: Threads + Sync, S: Strokes + Sync, K: Sink>(
     threads: &R,
     page: &S,
-    ahead: &mut Group<'_, S>,
-    behind: &mut Group<'_, S>,
+    ahead: &mut Batch<'_, S>,
+    behind: &mut Batch<'_, S>,
     last: u32,
     step: &mut Vec<u8>,
     k: &mut K,
@@ -193,20 +193,20 @@ fn code_beside<R: Threads + Sync, S: Strokes + Sync, K: Sink>(
             × OnOk result (Each (λ k coder. IsRoomy (S.page page.entry.now) behind.entry.now.run.each
             (S.page coder.page.now) coder.piece) behind.exit.now.coders.items)
             × (vec_capacity step.entry.now ≤ vec_capacity step.exit.now) }
-    { put_group(page, behind, last, step, k) };
+    { put_batch(page, behind, last, step, k) };
     run_beside(threads, ahead.coders.as_mut_slice(), &mut errand)
 }
 
-/// Sends the strokes of a page, which the workers code in groups while the caller sends.
-pub(crate) fn put_groups<R: Threads + Sync, S: Strokes + Sync, K: Sink>(
+/// Sends the strokes of a page, which the workers code in batches while the caller sends.
+pub(crate) fn put_batches<R: Threads + Sync, S: Strokes + Sync, K: Sink>(
     threads: &R,
     page: &S,
-    groups: Groups<'_, S>,
+    batches: Batches<'_, S>,
     step: &mut Vec<u8>,
     k: &mut K,
 ) -> Result<Sent, Failed>
     requires page { IsPage (S.page page.now) }
-    requires groups { HaveRoom (λ it. S.page it) (S.page page.now) groups }
+    requires batches { HaveRoom (λ it. S.page it) (S.page page.now) batches }
     requires step { 7 ≤ vec_capacity step.old }
     ensures ok { IfOk result (Sends (S.page page.now) 0 0 (S.page page.now).head.count (K.held k.old) (K.held k.new)) }
     ensures part { OnErr result (AppendsPart (K.held k.old) (K.held k.new)
@@ -214,11 +214,11 @@ pub(crate) fn put_groups<R: Threads + Sync, S: Strokes + Sync, K: Sink>(
     ensures cause { HasCause (K.faults k.old) (K.faults k.new) result }
     ensures step { vec_capacity step.old ≤ vec_capacity step.new }
 {
-    let Groups {
+    let Batches {
         each,
         ahead: coders,
         behind: others,
-    } = groups;
+    } = batches;
     let count = page.count();
     let run = Run {
         first: 0,
@@ -230,13 +230,13 @@ pub(crate) fn put_groups<R: Threads + Sync, S: Strokes + Sync, K: Sink>(
         each,
         count: 0,
     };
-    let mut ahead = Group { run, coders };
-    let mut behind = Group {
+    let mut ahead = Batch { run, coders };
+    let mut behind = Batch {
         run: none,
         coders: others,
     };
     let mut sent = Sent::nothing(0);
-    'groups: while behind.run.first < count {
+    'batches: while behind.run.first < count {
         let one = code_beside(threads, page, &mut ahead, &mut behind, sent.last, step, k)?;
         sent = sent.and_then(one);
         behind.run = ahead.run.behind(ahead.coders.len());

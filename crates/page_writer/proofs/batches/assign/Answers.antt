@@ -1,6 +1,6 @@
 use Rattle.std.proofs.Common.{◌∙◌, arith, length-set}
 use Rattle.page_writer.proofs.Pieces.{each_at, each_step}
-use Rattle.page_writer.proofs.groups.assign.Goals as goal
+use Rattle.page_writer.proofs.batches.assign.Goals as goal
 
 pub pieces-preserved : goal.pieces-preserved
 pieces-preserved g c = record {

@@ -4,7 +4,7 @@ use Rattle.page_writer.specs.Heads.{HeadPage}
 use Rattle.page_writer.specs.Pieces.{Each, IsAssigned, IsFilled}
 use Rattle.page_writer.specs.declared.coder.Coder.{Coder}
 use Rattle.page_writer.proofs.Pieces.{filled_of, ready_of}
-use Rattle.page_writer.proofs.groups.code_beside.Goals as goal
+use Rattle.page_writer.proofs.batches.code_beside.Goals as goal
 
 pub run_beside-requires-clause-shares : goal.run_beside-requires-clause-shares
 run_beside-requires-clause-shares g c κs within =
