@@ -25,7 +25,7 @@ use Rattle.pwg_stream.specs.declared.stops.StreamStop.TheVariants as stop
 use Rattle.pwg_stream.specs.Groups.{TakesPart}
 use Rattle.pwg_stream.specs.Reading.{form_in, group_of, lines_left_in, text_of}
 use Rattle.pwg_stream.specs.Stops.{line_stop}
-use Rattle.pwg_stream.specs.Taken.{MoreMayMend, TakesAllPages, TakesNoGroup, TakesNoPage}
+use Rattle.pwg_stream.specs.Taken.{MoreMayMend, TakesAllPages, TakesFewer, TakesNoGroup, TakesNoPage}
 use Rattle.pwg_stream.proofs.Grouping.{IsFed}
 use Rattle.pwg_stream.proofs.Prefixes.{no_page}
 use Rattle.buffered_bytes.specs.Text.{text_behind}
@@ -41,6 +41,17 @@ kept_taken (Some xs) (Some ys) unread kept = sym kept
 -- where all bytes are used, the text is what the source has left
 none_unread : (left : Option (List ℕ)) (unread : List ℕ) → unread ≡ [] → text_behind unread left ≡ left
 none_unread left unread none = ap (λ bs. text_behind bs left) none ∙ prepend_known-nil left
+
+-- what is not used is all that was taken
+pub takes_fewer : (many : ℕ) (before left : Option (List ℕ)) (unread : List ℕ) → Keeps before (text_behind unread left)
+    → length unread < many → TakesFewer many before left
+takes_fewer many before left unread kept few = record { bytes = unread; taken = kept_taken before left unread kept; short = few }
+
+-- the same of a reader that had no bytes yet
+pub takes_fewer_from_left : (many : ℕ) (before left : Option (List ℕ)) (unread : List ℕ) → unread ≡ []
+    → TakesFewer many (text_behind unread before) left → TakesFewer many before left
+takes_fewer_from_left many before left unread none takes =
+    let P : Option (List ℕ) → Type 0 = λ text. TakesFewer many text left in subst P (none_unread before unread none) takes
 
 none_of : (bytes : List ℕ) → length bytes < 1 → bytes ≡ []
 none_of [] few = refl

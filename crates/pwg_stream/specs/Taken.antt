@@ -25,6 +25,12 @@ pub record TakesAllPages (want : Wanted) (before left : Option (List ℕ)) (page
   pub are : (stream want bytes).pages ≡ pages
   pub end : MoreMayMend (stream want bytes).end ⊎ (length bytes < 4)
 
+-- Fewer bytes than this many were taken.
+pub record TakesFewer (many : ℕ) (before left : Option (List ℕ)) : Type 0 where
+  pub bytes : List ℕ
+  pub taken : Consumes before left bytes
+  pub short : length bytes < many
+
 -- The bytes that were taken after this many pages have no further whole page, and an end that more bytes could mend.
 pub record TakesNoPage (want : Wanted) (pages : ℕ) (before left : Option (List ℕ)) : Type 0 where
   pub bytes : List ℕ

@@ -1,7 +1,7 @@
 //! Reading the header of a page (PWG 5102.4, section 4.3).
 ghost use Rattle.pwg_stream.specs.Pages.{GivesHeader};
 ghost use Rattle.pwg_stream.specs.Stops.{OnInput};
-ghost use Rattle.pwg_stream.specs.Taken.{TakesNoPage};
+ghost use Rattle.pwg_stream.specs.Taken.{TakesFewer, TakesNoPage};
 ghost use Rattle.buffered_bytes.specs.Text.{UsesSome, text_behind};
 ghost use Rattle.pwg_stream.specs.declared.stops.StreamStop.TheVariants as stop;
 ghost use Rattle.std.specs.Io.KnownBytes.{IsAtEnd};
@@ -62,6 +62,8 @@ pub fn read_page_header<S: Source>(
     ensures read { IsErrOf result stop.Read → Rose (S.faults s.old) (S.faults s.new) }
     ensures taken { IsErrOf result stop.Read
         → TakesNoPage want pages (text_behind unread.old (S.left s.old)) (S.left s.new) }
+    ensures short { IsErrOf result stop.Read
+        → TakesFewer header_length (text_behind unread.old (S.left s.old)) (S.left s.new) }
     ensures memory { IsErrOf result stop.Memory → ⊥ }
     ensures used { UsesSome (text_behind unread.old (S.left s.old)) (text_behind unread.new (S.left s.new)) }
     ensures later { S.faults s.old ≤ S.faults s.new }

@@ -1,7 +1,7 @@
 //! A reader of the pages of a stream.
 ghost use Rattle.pwg_lines.specs.Reading.{IsAnew, form_of as form_of_lines, lines_left_of as lines_left_of_lines};
 ghost use Rattle.base_definitions.specs.Limits.{most_columns, most_rows};
-ghost use Rattle.pwg_definitions.specs.Limits.{most_pages};
+ghost use Rattle.pwg_definitions.specs.Limits.{header_length, most_pages};
 ghost use Rattle.pwg_stream.specs.Stops.{line_stop};
 ghost use Rattle.std.specs.Option.{ForSome};
 ghost use Rattle.std.specs.Prelude.{None, ◌+◌, ◌≡◌, ◌≤◌};
@@ -47,7 +47,7 @@ impl PageReader {
     ghost use Rattle.pwg_stream.specs.Reading.{BeginsPage, GivesLines, HasLineFault, form_of, has_ended, line_of};
     ghost use Rattle.pwg_stream.specs.Reading.{lines_left_of, page_of, stop_of, text_of};
     ghost use Rattle.pwg_stream.specs.Stops.{OnInput};
-    ghost use Rattle.pwg_stream.specs.Taken.{TakesAllPages, TakesNoGroup, TakesNoPage};
+    ghost use Rattle.pwg_stream.specs.Taken.{TakesAllPages, TakesFewer, TakesNoGroup, TakesNoPage};
     ghost use Rattle.buffered_bytes.specs.Text.{UsesSome};
     ghost use Rattle.pwg_stream.specs.declared.stops.StreamStop.{StreamStop};
     ghost use Rattle.pwg_stream.specs.declared.stops.StreamStop.TheVariants as stop;
@@ -73,6 +73,7 @@ impl PageReader {
         ensures read { IsErrOf result stop.Read → Rose (S.faults s.old) (S.faults s.new) }
         ensures taken { IsErrOf result stop.Read → (want : Wanted)
             → TakesAllPages want (S.left s.old) (S.left s.new) [] }
+        ensures short { IsErrOf result stop.Read → TakesFewer (length sync_word) (S.left s.old) (S.left s.new) }
         ensures used { OnErr result (UsesSome (S.left s.old) (S.left s.new)) }
         ensures later { S.faults s.old ≤ S.faults s.new }
     {
@@ -117,6 +118,8 @@ impl PageReader {
         ensures read { stop_of self.old ≡ None → IsErrOf result stop.Read → Rose (S.faults s.old) (S.faults s.new) }
         ensures taken { stop_of self.old ≡ None → IsErrOf result stop.Read
             → TakesNoPage want (page_of self.old) (text_of self.old (S.left s.old)) (S.left s.new) }
+        ensures short { stop_of self.old ≡ None → IsErrOf result stop.Read
+            → TakesFewer header_length (text_of self.old (S.left s.old)) (S.left s.new) }
 
         ensures used { UsesSome (text_of self.old (S.left s.old)) (text_of self.new (S.left s.new)) }
         ensures later { S.faults s.old ≤ S.faults s.new }
@@ -178,6 +181,8 @@ impl PageReader {
         ensures read { IsErrOf result stop.Read → Rose (S.faults s.old) (S.faults s.new) }
         ensures taken { IsErrOf result stop.Read
             → TakesNoPage want (page_of self.old) (text_of self.old (S.left s.old)) (S.left s.new) }
+        ensures short { IsErrOf result stop.Read
+            → TakesFewer header_length (text_of self.old (S.left s.old)) (S.left s.new) }
         ensures used { UsesSome (text_of self.old (S.left s.old)) (text_of self.new (S.left s.new)) }
         ensures later { S.faults s.old ≤ S.faults s.new }
         ensures none_left { IfOk result (λ o. IfNone o (lines_left_of self.new ≡ lines_left_of self.old)) }

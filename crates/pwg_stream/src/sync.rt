@@ -1,10 +1,10 @@
 //! Reading the sync word (PWG 5102.4, section 4.1).
 ghost use Rattle.pwg_stream.specs.Stops.{OnInput};
-ghost use Rattle.pwg_stream.specs.Taken.{TakesAllPages};
+ghost use Rattle.pwg_stream.specs.Taken.{TakesAllPages, TakesFewer};
 ghost use Rattle.buffered_bytes.specs.Text.{UsesSome, text_behind};
 ghost use Rattle.pwg_stream.specs.declared.stops.StreamStop.TheVariants as stop;
 ghost use Rattle.std.specs.Io.KnownBytes.{Consumes};
-ghost use Rattle.std.specs.Prelude.{IfSome, IsErrOf, OnOk, [], ◌≡◌, ◌≤◌};
+ghost use Rattle.std.specs.Prelude.{IfSome, IsErrOf, OnOk, [], length, ◌≡◌, ◌≤◌};
 ghost use Rattle.pwg_definitions.specs.Stream.StreamEnd.{Fault};
 ghost use Rattle.pwg_definitions.specs.Stream.{stream, sync_word};
 ghost use Rattle.pwg_definitions.specs.declared.pages.Wanted.{Wanted};
@@ -25,6 +25,8 @@ pub fn read_sync<S: Source>(unread: &mut Unread, s: &mut S) -> Result<(), Stream
     ensures read { IsErrOf result stop.Read → Rose (S.faults s.old) (S.faults s.new) }
     ensures taken { IsErrOf result stop.Read → (want : Wanted)
         → TakesAllPages want (text_behind unread.old (S.left s.old)) (S.left s.new) [] }
+    ensures short { IsErrOf result stop.Read → TakesFewer (length sync_word)
+        (text_behind unread.old (S.left s.old)) (S.left s.new) }
     ensures memory { IsErrOf result stop.Memory → ⊥ }
     ensures used { UsesSome (text_behind unread.old (S.left s.old)) (text_behind unread.new (S.left s.new)) }
     ensures later { S.faults s.old ≤ S.faults s.new }

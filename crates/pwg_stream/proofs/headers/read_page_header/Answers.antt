@@ -3,7 +3,7 @@ use Rattle.std.proofs.KnownBytes.{Keeps-trans}
 use Rattle.pwg_definitions.specs.Limits.{header_length}
 use Rattle.pwg_definitions.specs.Header.{check, header_of}
 use Rattle.pwg_stream.proofs.Prefixes.{bad_header, cut_header, good_header, too_many, uses-none}
-use Rattle.pwg_stream.proofs.Taken.{takes_none, takes_short_header}
+use Rattle.pwg_stream.proofs.Taken.{takes_fewer, takes_none, takes_short_header}
 use Rattle.pwg_stream.proofs.headers.read_page_header.Goals as goal
 
 pub returns-then-pages-eq-MOST_PAGES-clause-input : goal.returns-then-pages-eq-MOST_PAGES-clause-input
@@ -57,4 +57,13 @@ pub returns-in_err-fill-2-clause-taken : goal.returns-in_err-fill-2-clause-taken
 returns-in_err-fill-2-clause-taken g c = λ _.
     takes_short_header c.args.want c.args.pages _ _ c.fill-2.new.self
     (Keeps-trans _ _ _ c.fill.ensures.text c.fill-2.ensures.text) (omega (arith, c.requires, c.if-pages-eq-MOST_PAGES.false))
+    c.in_err-fill-2.ensures.short
+
+pub returns-in_err-fill-clause-short : goal.returns-in_err-fill-clause-short
+returns-in_err-fill-clause-short g c = λ _.
+    takes_fewer _ _ _ c.fill.new.self c.fill.ensures.text (omega (arith, c.in_err-fill.ensures.short))
+
+pub returns-in_err-fill-2-clause-short : goal.returns-in_err-fill-2-clause-short
+returns-in_err-fill-2-clause-short g c = λ _.
+    takes_fewer _ _ _ c.fill-2.new.self (Keeps-trans _ _ _ c.fill.ensures.text c.fill-2.ensures.text)
     c.in_err-fill-2.ensures.short

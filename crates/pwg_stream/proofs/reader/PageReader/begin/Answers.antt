@@ -2,7 +2,7 @@ use Rattle.std.proofs.Common.{◌≡◌, List, ℕ, [], Option, None, Some, Err,
 use Rattle.std.proofs.lemmas.Result.{err_from_is_err_and}
 use Rattle.weave_base.proofs.Parting.{on_err_anyway}
 use Rattle.buffered_bytes.specs.Text.{UsesSome, text_behind}
-use Rattle.pwg_stream.proofs.Taken.{same_error, takes_from_left}
+use Rattle.pwg_stream.proofs.Taken.{same_error, takes_fewer_from_left, takes_from_left}
 use Rattle.pwg_stream.proofs.reader.PageReader.begin.Goals as goal
 
 uses_left : (before now : Option (List ℕ)) (unread unread' : List ℕ) → unread ≡ []
@@ -23,3 +23,8 @@ pub returns-in_err-read_sync-clause-taken : goal.returns-in_err-read_sync-clause
 returns-in_err-read_sync-clause-taken g c = λ is.
     let error = err_from_is_err_and c.from_residual-in_err-read_sync.result c.from_residual-in_err-read_sync.ensures.1 in
     takes_from_left _ _ _ c.in_ok-unread.ensures (c.in_err-read_sync.ensures.taken (ap Err (sym error.2 ∙ same_error (sym error.1 ∙ is))))
+
+pub returns-in_err-read_sync-clause-short : goal.returns-in_err-read_sync-clause-short
+returns-in_err-read_sync-clause-short g c = λ is.
+    let error = err_from_is_err_and c.from_residual-in_err-read_sync.result c.from_residual-in_err-read_sync.ensures.1 in
+    takes_fewer_from_left _ _ _ _ c.in_ok-unread.ensures (c.in_err-read_sync.ensures.short (ap Err (sym error.2 ∙ same_error (sym error.1 ∙ is))))
