@@ -1,10 +1,14 @@
--- A page that is read and halftoned, group by group.
-use Rattle.std.proofs.Common.{◌≡◌, ℕ, ◌+◌, ◌<◌, ◌≤◌, List, [], ◌++◌, replicate, Option, None, false, refl, ◌∙◌, subst, arith}
+-- A page that is read and halftoned, group by group and slab by slab.
+use Rattle.std.proofs.Common.{◌≡◌, ℕ, ◌+◌, ◌-◌, ◌<◌, ◌≤◌, List, [], ◌++◌, length, replicate, Option, None, false, refl, ◌∙◌, ap}
+use Rattle.std.proofs.Common.{append-nil, append_assoc, arith, subst, sym}
+use Rattle.std.proofs.lemmas.List.{replicate-append-replicate}
 use Rattle.diffusion_kernel.specs.Tables.{table_of}
 use Rattle.diffusion_kernel.specs.declared.tables.Kernel.{Kernel}
-use Rattle.dot_planes.specs.Tables.{DotTable, dot}
+use Rattle.dot_planes.specs.Tables.{dot}
 use Rattle.page_definitions.specs.Dots.{HasDots, halftone}
-use Rattle.page_halftoner.specs.Halftones.{Halftoning, IsSamePage, StandsFor}
+use Rattle.page_halftoner.proofs.Lines.{IsDone, all_diffused, slab_full, whole_page}
+use Rattle.page_halftoner.specs.Halftones.{Diffusing, Filling, HasRoom, HoldsRows, IsFull, IsSameRows, PutsLines, StandsFor, joined}
+use Rattle.printer_definitions.specs.Inks.{inks_of}
 use Rattle.printer_definitions.specs.Printer.{Printer}
 use Rattle.pwg_definitions.specs.Header.{IsWanted, header_of}
 use Rattle.pwg_definitions.specs.declared.pages.PageForm.{PageForm}
@@ -12,76 +16,121 @@ use Rattle.pwg_definitions.specs.declared.pages.Wanted.{Wanted}
 use Rattle.pwg_laws.proofs.HeaderLaws.{check-wanted}
 use Rattle.pwg_stream.specs.declared.reader.PageReader.{PageReader}
 use Rattle.pwg_stream.specs.Reading.{BeginsPage, GivesLines, has_ended, line_of, lines_left_of, stop_of}
-use Rattle.separation_definitions.specs.Windows.{wanted_by}
+use Rattle.separation_definitions.specs.Windows.{wanted_by, window_of}
+use Rattle.separation_definitions.specs.declared.window.Window.{Window}
 use Rattle.halftone_reader.specs.Reading.{ReadsHalftone}
-use Rattle.halftone_reader.proofs.PageSteps.{PageSoFar, page_begin, page_end, page_step}
+use Rattle.halftone_reader.specs.SoFar.{Begun, HalftonedSoFar, PageSoFar}
+use Rattle.halftone_reader.proofs.PageSteps.{page_begin, page_end, page_step}
 
 -- a page that begins is one that the printer takes
 pub begun-wanted : (want : Wanted) (old now : PageReader) (before left : Option (List ℕ)) (form : PageForm)
     → BeginsPage want old now before left form → IsWanted want form
 begun-wanted want old now before left form begins = check-wanted want (header_of begins.header.header) form begins.header.accepted
 
--- What was read so far is a prefix of a page, and the halftoning stands for its lines.
-pub record HalftonedSoFar (profile : Printer) (kernel : Kernel)
-    (form : PageForm) (old now : PageReader) (before left : Option (List ℕ)) (h : Halftoning) : Type 0 where
-  pub lines : List (List ℕ)
-  pub page : PageSoFar (wanted_by profile) old now before left (record { form = form; lines = lines })
-  pub stands : StandsFor h lines
-  pub count : h.count + lines_left_of now ≡ form.height
-  pub profile_is : h.profile ≡ profile
-  pub form_is : h.form ≡ form
-  pub kernel_is : h.kernel ≡ kernel
-
-pub halftone_begin : (profile : Printer)
-    (kernel : Kernel) (form : PageForm) (old now : PageReader) (before left : Option (List ℕ)) (h : Halftoning)
-    → BeginsPage (wanted_by profile) old now before left form → has_ended old ≡ false → stop_of now ≡ None
-    → (h.profile ≡ profile) × (h.form ≡ form) × (h.kernel ≡ kernel)
-    → h.count ≡ 0 → StandsFor h [] → HalftonedSoFar profile kernel form old now before left h
-halftone_begin profile kernel form old now before left h begins unended going same none stands = record {
+pub so_far_begin : (b : Begun) (now : PageReader) (left : Option (List ℕ)) (f : Filling) (d : Diffusing)
+    → BeginsPage (wanted_by b.profile) b.reader now b.before left b.form → has_ended b.reader ≡ false → stop_of now ≡ None
+    → (f.profile ≡ b.profile) × (f.form ≡ b.form) → d.kernel ≡ b.kernel
+    → f.count ≡ 0 → StandsFor (joined f d) [] → HalftonedSoFar b now left f d
+so_far_begin b now left f d begins unended going same kernel none stands = record {
   lines = [];
-  page = page_begin (wanted_by profile) old now before left form begins unended going;
+  pending = 0;
+  page = page_begin (wanted_by b.profile) b.reader now b.before left b.form begins unended going;
   stands = stands;
   count = omega (arith, none, begins.lines);
   profile_is = same.0;
   form_is = same.1;
-  kernel_is = same.2;
+  kernel_is = kernel;
 }
 
--- one more group
-pub halftone_step : (profile : Printer) (kernel : Kernel) (form : PageForm)
-    (old now next : PageReader) (before left left' : Option (List ℕ)) (h h' : Halftoning) (repeats : ℕ)
-    → HalftonedSoFar profile kernel form old now before left h
-    → 0 < lines_left_of now → GivesLines now next left left' repeats → stop_of next ≡ None
-    → IsSamePage h h' → h'.count ≡ h.count + repeats
-    → ((lines : List (List ℕ)) → StandsFor h lines → StandsFor h' (lines ++ replicate repeats (line_of next)))
-    → HalftonedSoFar profile kernel form old next before left' h'
-halftone_step profile kernel form old now next before left left' h h' repeats so_far some gives going same count stands = record {
-  lines = so_far.lines ++ replicate repeats (line_of next);
-  page = page_step (wanted_by profile) old now next before left left'
-      (record { form = form; lines = so_far.lines }) repeats so_far.page some gives going;
-  stands = stands so_far.lines so_far.stands;
-  count = omega (arith, so_far.count, count, gives.fall);
-  profile_is = same.profile ∙ so_far.profile_is;
-  form_is = same.form ∙ so_far.form_is;
-  kernel_is = same.kernel ∙ so_far.kernel_is;
+-- Some of the pending repeats are placed.
+pub so_far_placed : (b : Begun) (now : PageReader) (left : Option (List ℕ)) (f g : Filling) (d : Diffusing) (placed : ℕ)
+    → (so_far : HalftonedSoFar b now left f d) → placed ≤ so_far.pending → IsSameRows f g → g.count ≡ f.count + placed
+    → PutsLines f g (replicate placed (line_of now)) → HalftonedSoFar b now left g d
+so_far_placed b now left f g d placed so_far most same count puts =
+    let line : List ℕ = line_of now in
+    let rest : ℕ = so_far.pending - placed in
+    let all : placed + rest ≡ so_far.pending = omega arith in
+    let P : List (List ℕ) → Type 0 = λ lines.
+    PageSoFar (wanted_by b.profile) b.reader now b.before left (record { form = b.form; lines = lines }) in
+    record {
+      lines = so_far.lines ++ replicate placed line;
+      pending = rest;
+      page = subst P (sym (append_assoc so_far.lines (replicate placed line) (replicate rest line)
+          ∙ ap (λ (ls : List (List ℕ)). so_far.lines ++ ls)
+          (replicate-append-replicate placed rest line ∙ ap (λ n. replicate n line) all))) so_far.page;
+      stands = puts d so_far.lines so_far.stands;
+      count = omega (arith, so_far.count, count, all);
+      profile_is = same.profile ∙ so_far.profile_is;
+      form_is = same.form ∙ so_far.form_is;
+      kernel_is = so_far.kernel_is;
+    }
+
+-- One more group is read, once all repeats of the one before are placed.
+pub so_far_group : (b : Begun) (now next : PageReader) (left left' : Option (List ℕ)) (f : Filling) (d : Diffusing) (repeats : ℕ)
+    → (so_far : HalftonedSoFar b now left f d) → so_far.pending ≡ 0 → 0 < lines_left_of now
+    → GivesLines now next left left' repeats → stop_of next ≡ None
+    → (after : HalftonedSoFar b next left' f d) × (after.pending ≡ repeats)
+so_far_group b now next left left' f d repeats so_far none some gives going =
+    let P : List (List ℕ) → Type 0 = λ lines.
+    PageSoFar (wanted_by b.profile) b.reader now b.before left (record { form = b.form; lines = lines }) in
+    let placed : so_far.lines ++ replicate so_far.pending (line_of now) ≡ so_far.lines =
+    ap (λ n. so_far.lines ++ replicate n (line_of now)) none ∙ append-nil so_far.lines in (
+      record {
+        lines = so_far.lines;
+        pending = repeats;
+        page = page_step (wanted_by b.profile) b.reader now next b.before left left'
+            (record { form = b.form; lines = so_far.lines }) repeats (subst P placed so_far.page) some gives going;
+        stands = so_far.stands;
+        count = omega (arith, so_far.count, none, gives.fall);
+        profile_is = so_far.profile_is;
+        form_is = so_far.form_is;
+        kernel_is = so_far.kernel_is;
+      },
+      refl,
+    )
+
+-- A full slab is diffused.
+pub so_far_diffused : (b : Begun) (now : PageReader) (left : Option (List ℕ)) (f next : Filling) (d done : Diffusing)
+    → IsDone f next d done → HalftonedSoFar b now left f d → HalftonedSoFar b now left next done
+so_far_diffused b now left f next d done all so_far = record {
+  lines = so_far.lines;
+  pending = so_far.pending;
+  page = so_far.page;
+  stands = slab_full f next d done all so_far.lines so_far.stands;
+  count = omega (arith, so_far.count, all.goes_on.count);
+  profile_is = all.goes_on.profile ∙ so_far.profile_is;
+  form_is = all.goes_on.form ∙ so_far.form_is;
+  kernel_is = all.kernel ∙ so_far.kernel_is;
 }
 
--- the last line was read
-pub halftone_end : (profile : Printer) (kernel : Kernel)
-    (form : PageForm) (old now : PageReader) (before left : Option (List ℕ)) (h : Halftoning) (planes : DotTable)
-    → HalftonedSoFar profile kernel form old now before left h → lines_left_of now ≤ 0
-    → ((lines : List (List ℕ)) → StandsFor h lines
-    → HasDots h.profile (halftone (record { form = h.form; lines = lines })
-    h.profile (table_of h.kernel)) planes.width planes.rows planes.inks (dot planes))
-    → ReadsHalftone profile (table_of kernel) old now before left form planes
-halftone_end profile kernel form old now before left h planes so_far none dots =
+-- The last line was read, and all rows are diffused.
+pub so_far_end : (b : Begun) (now : PageReader) (left : Option (List ℕ)) (f : Filling) (d : Diffusing)
+    → HalftonedSoFar b now left f d → HoldsRows f → (IsFull f → ⊥) → f.count ≡ f.form.height
+    → HasRoom b.form b.profile d.planes
+    → ReadsHalftone b.profile (table_of b.kernel) b.reader now b.before left b.form d.planes
+so_far_end b now left f d so_far rows room all planes =
+    let form : PageForm = b.form in
+    let height : f.form.height ≡ form.height = ap (λ (g : PageForm). g.height) so_far.form_is in
+    let none : so_far.pending ≡ 0 = omega (arith, so_far.count, all, height) in
+    let last : lines_left_of now ≤ 0 = omega (arith, so_far.count, all, height) in
+    let P : List (List ℕ) → Type 0 = λ lines.
+    PageSoFar (wanted_by b.profile) b.reader now b.before left (record { form = b.form; lines = lines }) in
+    let placed : so_far.lines ++ replicate so_far.pending (line_of now) ≡ so_far.lines =
+    ap (λ n. so_far.lines ++ replicate n (line_of now)) none ∙ append-nil so_far.lines in
+    let window_is : window_of f.form f.profile ≡ window_of b.form b.profile =
+    ap (λ g. window_of g f.profile) so_far.form_is ∙ ap (λ p. window_of b.form p) so_far.profile_is in
+    let dots = whole_page (joined f d) so_far.lines so_far.stands (all_diffused f rows room all)
+    (planes.width ∙ ap (λ (w : Window). w.width) (sym window_is))
+    (planes.rows ∙ ap (λ (w : Window). w.height) (sym window_is))
+    (planes.inks ∙ ap (λ (p : Printer). length (inks_of p.inks)) (sym so_far.profile_is)) in
     let Has : Printer → PageForm → Kernel → Type 0 =
-    λ q f k. HasDots q (halftone (record { form = f; lines = so_far.lines }) q (table_of k))
-    planes.width planes.rows planes.inks (dot planes) in
+    λ q g k. HasDots q (halftone (record { form = g; lines = so_far.lines }) q (table_of k))
+    d.planes.width d.planes.rows d.planes.inks (dot d.planes) in
     record {
       page = record { form = form; lines = so_far.lines };
-      reads = page_end (wanted_by profile) old now before left (record { form = form; lines = so_far.lines }) so_far.page none;
+      reads = page_end (wanted_by b.profile) b.reader now b.before left (record { form = form; lines = so_far.lines })
+          (subst P placed so_far.page) last;
       form_is = refl;
-      dots = subst (λ q. Has q form kernel) so_far.profile_is (subst (λ f. Has h.profile f kernel) so_far.form_is
-          (subst (λ k. Has h.profile h.form k) so_far.kernel_is (dots so_far.lines so_far.stands)));
+      dots = subst (λ q. Has q b.form b.kernel) so_far.profile_is (subst (λ g. Has f.profile g b.kernel) so_far.form_is
+          (subst (λ k. Has f.profile f.form k) so_far.kernel_is dots));
     }

@@ -1,3 +1,4 @@
 pub mod Lines
 pub mod PageSteps
 pub mod HalftoneSteps
+pub mod SlabReads

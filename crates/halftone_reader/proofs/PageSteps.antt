@@ -14,13 +14,13 @@ use Rattle.pwg_definitions.specs.declared.pages.Wanted.{Wanted}
 use Rattle.pwg_definitions.specs.Header.{check, header_of, line_units, row_of}
 use Rattle.pwg_definitions.specs.Groups.{group_at}
 use Rattle.pwg_definitions.specs.Groups.GroupRead.{Group, Part}
-use Rattle.pwg_definitions.specs.Stream.{LinesRead, Page, PageRead, Stream, lines_at, page_at, page_behind}
+use Rattle.pwg_definitions.specs.Stream.{Page, PageRead, Stream, page_at, page_behind}
 use Rattle.pwg_definitions.specs.Stream.{page_of as page_of_lines, pages_from, with_lines, with_page}
 use Rattle.pwg_definitions.specs.Stream.StreamEnd.{Fault}
 use Rattle.pwg_definitions.specs.Stream.LinesRead.{Stop}
 use Rattle.pwg_definitions.specs.Stream.PageRead.{Whole, Broken}
 use Rattle.pwg_stream.specs.declared.reader.PageReader.{PageReader}
-use Rattle.pwg_stream.specs.Reading.{BeginsPage, GivesLines, HasLineFault, form_of, has_ended, line_of}
+use Rattle.pwg_stream.specs.Reading.{BeginsPage, GivesLines, HasLineFault, has_ended, line_of}
 use Rattle.pwg_stream.specs.Reading.{lines_left_of, lines_of, page_of, stop_of, text_of}
 use Rattle.pwg_stream.specs.Stops.{OnInput}
 use Rattle.pwg_stream.specs.Taken.{MoreMayMend, TakesNoGroup, TakesNoPage}
@@ -28,27 +28,9 @@ use Rattle.buffered_bytes.specs.Text.{UsesSome}
 use Rattle.pwg_stream.specs.declared.stops.StreamStop.{StreamStop}
 use Rattle.pwg_stream.specs.declared.stops.StreamStop.TheVariants as stop
 use Rattle.halftone_reader.specs.Reading.{ReadsPage}
+use Rattle.halftone_reader.specs.SoFar.{EndsSo, PageSoFar, rest_of}
 use Rattle.pwg_laws.proofs.PageSpelling.{lines_at-read}
 use Rattle.halftone_reader.proofs.Lines.{lines_at-enough, lines_at-none, white-unit, with-both, with-none}
-
--- what the rest of a page with this many lines left is read as
-abbrev pub rest_of : PageForm → ℕ → ℕ → List ℕ → LinesRead
-rest_of form most left bytes = let row = row_of form.kind in lines_at row (line_units row form.width) form.height most left bytes
-
--- The header and the groups that were read so far are a prefix of a page: its form, and these lines.
-pub record PageSoFar (want : Wanted) (old now : PageReader) (before left : Option (List ℕ)) (page : Page) : Type 0 where
-  pub bytes : List ℕ
-  pub used : Consumes (text_of old before) (text_of now left) bytes
-  pub some : 1 ≤ length bytes
-  pub most : ℕ
-  pub enough : lines_left_of now ≤ most
-  pub is : (rest : List ℕ) → page_at want (bytes ++ rest)
-      ≡ page_of_lines page.form (with_lines page.lines (rest_of page.form most (lines_left_of now) rest))
-  pub form_is : form_of now ≡ Some page.form
-  pub number : page_of now ≡ page_of old + 1
-  pub last : page_of now ≤ 9999
-  pub unended : has_ended now ≡ has_ended old
-  pub going : stop_of now ≡ None
 
 page_at-header : (want : Wanted) (header rest : List ℕ) (form : PageForm) → length header ≡ 1796 → check want (header_of header) ≡ Ok form
     → page_at want (header ++ rest) ≡ page_of_lines form (with_lines [] (rest_of form form.height form.height rest))
@@ -140,11 +122,6 @@ page_end want old now before left page so_far none = record {
 
 -- ---- the next page of a stream
 
--- what follows is no page, and this is the stream's fault
-abbrev pub EndsSo : Wanted → PageReader → Option (List ℕ) → ℕ → ℕ → InputCause → Type 0
-EndsSo want old before number line why = IfSome (text_of old before) (λ text.
-    pages_from want (9999 - page_of old) (page_of old + 1) text ≡ record { pages = []; end = Fault number line why })
-
 pub pages-read : (want : Wanted) (most page : ℕ) (bytes : List ℕ) (read : PageRead) → 1 ≤ length bytes → page_at want bytes ≡ read
     → pages_from want (suc most) page bytes ≡ elim read [
       | Whole p rest ↦ with_page p (pages_from want most (page + 1) rest)
@@ -220,22 +197,28 @@ page_cut want old now before left left' page so_far some takes =
         (ap (λ k. group_at row (line_units row page.form.width) k takes.bytes) (sym el) ∙ takes.part page.form so_far.form_is)
         ∙ ap (λ k. Stop (page.form.height - k + 1) cause.Truncated) (sym el)
 
-pub fault_in_page : (T : Type 0) (want : Wanted) (old now : PageReader)
+pub fault_in_page : (T U : Type 0) (want : Wanted) (old now : PageReader)
     (before left : Option (List ℕ)) (page : Page) (stop : StreamStop) → PageSoFar want old now before left page
-    → OnInput {T = T} (Err stop) (HasLineFault now left) → OnInput {T = T} (Err stop) (EndsSo want old before)
-fault_in_page T want old now before left page (stop.Input number line why) so_far bad =
+    → OnInput {T = U} (Err stop) (HasLineFault now left) → OnInput {T = T} (Err stop) (EndsSo want old before)
+fault_in_page T U want old now before left page (stop.Input number line why) so_far bad =
     page_fault want old now before left page number line why so_far bad
-fault_in_page T want old now before left page stop.Read so_far bad = tt
-fault_in_page T want old now before left page stop.Memory so_far bad = tt
+fault_in_page T U want old now before left page stop.Read so_far bad = tt
+fault_in_page T U want old now before left page stop.Memory so_far bad = tt
 
 -- it is a fault of the page after those that were begun before
-pub place_in_page : (T : Type 0) (want : Wanted) (old now : PageReader)
+pub place_in_page : (T U : Type 0) (want : Wanted) (old now : PageReader)
     (before left : Option (List ℕ)) (page : Page) (stop : StreamStop) → PageSoFar want old now before left page
-    → OnInput {T = T} (Err stop) (HasLineFault now left)
+    → OnInput {T = U} (Err stop) (HasLineFault now left)
     → OnInput {T = T} (Err stop) (λ number line why. number ≡ page_of old + 1)
-place_in_page T want old now before left page (stop.Input number line why) so_far bad = bad.page_is ∙ so_far.number
-place_in_page T want old now before left page stop.Read so_far bad = tt
-place_in_page T want old now before left page stop.Memory so_far bad = tt
+place_in_page T U want old now before left page (stop.Input number line why) so_far bad = bad.page_is ∙ so_far.number
+place_in_page T U want old now before left page stop.Read so_far bad = tt
+place_in_page T U want old now before left page stop.Memory so_far bad = tt
+
+-- the same stop in place of another value
+pub same_input : (T U : Type 0) (stop : StreamStop) (P : ℕ → ℕ → InputCause → Type 0) → OnInput {T = U} (Err stop) P → OnInput {T = T} (Err stop) P
+same_input T U (stop.Input number line why) P is = is
+same_input T U stop.Read P is = tt
+same_input T U stop.Memory P is = tt
 
 -- what was used
 pub uses_more : (a b c : Option (List ℕ)) (bytes : List ℕ) → Consumes a b bytes → UsesSome b c → UsesSome a c

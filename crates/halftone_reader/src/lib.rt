@@ -9,5 +9,6 @@
 #![tactic(auto)]
 
 mod pages;
+mod slabs;
 
 pub use pages::{HalftonedPage, read_page};

@@ -15,9 +15,10 @@ ghost use Rattle.std.specs.Io.KnownBytes.{IsAtEnd};
 ghost use Rattle.std.specs.Prelude.{IfNone, IfOk, IfSome, IsErrOf, IsOk, [], false, ◌+◌, ◌-◌, ◌≡◌, ◌≤◌};
 ghost use Rattle.weave_base.specs.Causes.{Rose};
 
+use crate::slabs::{fill, next_slab};
 use diffusion_kernel::Kernel;
 use dot_planes::Planes;
-use page_halftoner::Halftoner;
+use page_halftoner::{Diffuser, Filler};
 use printer_profile::Profile;
 use pwg_definitions::PageForm;
 use pwg_stream::{PageReader, StreamStop};
@@ -33,8 +34,8 @@ pub struct HalftonedPage {
     pub planes: Planes,
 }
 
-/// Reads the next page with all its lines and halftones each line as it comes; the team diffuses its slabs. `None` at
-/// the end of the stream.
+/// Reads the next page with all its lines and halftones it; the team diffuses its slabs. While several workers diffuse
+/// a slab, the caller reads the lines of the next one. `None` at the end of the stream.
 pub fn read_page<R: Threads + Sync, S: Source, G: Gate + Sync>(
     team: &Team<'_, R, G>,
     alloc: Global,
@@ -65,11 +66,13 @@ pub fn read_page<R: Threads + Sync, S: Source, G: Gate + Sync>(
     let Some(form) = reader.next_page(s, profile.wanted())? else {
         return Ok(None);
     };
-    let mut halftoner = Halftoner::begin(alloc, profile, form, kernel, team.workers)?;
-    'groups: while reader.lines_left() > 0 {
-        let repeats = reader.next_line(s)?;
-        halftoner.lines(team, reader.line(), repeats)?;
+    let mut filler = Filler::begin(alloc, profile, form, team.workers)?;
+    let mut diffuser = Diffuser::begin(alloc, profile, form, kernel)?;
+    let mut spare = filler.spare(alloc, team.workers)?;
+    fill(&mut filler, reader, s)?;
+    'slabs: while filler.is_full() {
+        next_slab(team, &mut filler, &mut diffuser, &mut spare, reader, s)?;
     }
-    let planes = halftoner.finish();
+    let planes = diffuser.finish();
     Ok(Some(HalftonedPage { form, planes }))
 }

@@ -1,12 +1,18 @@
-use Rattle.std.proofs.Common.{◌≡◌, ap, arith, sym, ◌∙◌, Err, Option}
+use Rattle.std.proofs.Common.{◌≡◌, ap, arith, false, inl, inr, subst, sym, true, ◌∙◌, Err, Option}
 use Rattle.std.proofs.lemmas.Result.{err_from_is_err_and}
-use Rattle.pwg_definitions.specs.declared.pages.PageForm.{PageForm}
+use Rattle.diffusion_kernel.specs.Tables.{table_of}
+use Rattle.dot_planes.specs.Tables.{DotTable}
+use Rattle.page_halftoner.proofs.Lines.{at_top}
+use Rattle.page_halftoner.specs.Halftones.{Diffusing, Filling, IsFull, joined}
 use Rattle.separation_definitions.specs.Windows.{wanted_by}
+use Rattle.halftone_reader.specs.Reading.{ReadsHalftone}
+use Rattle.halftone_reader.specs.SoFar.{Begun, HalftonedSoFar}
 use Rattle.halftone_reader.specs.declared.pages.HalftonedPage.{HalftonedPage}
-use Rattle.halftone_reader.proofs.PageSteps.{fault_in_page, page_cut, place_in_page, uses_more}
+use Rattle.halftone_reader.proofs.PageSteps.{same_input}
 use Rattle.pwg_stream.proofs.Taken.{same_error}
 use Rattle.pwg_stream.specs.declared.stops.StreamStop.TheVariants as stop
-use Rattle.halftone_reader.proofs.HalftoneSteps.{begun-wanted, halftone_begin, halftone_end, halftone_step}
+use Rattle.halftone_reader.proofs.HalftoneSteps.{begun-wanted, so_far_begin, so_far_end}
+use Rattle.halftone_reader.proofs.SlabReads.{room_still, spare_still}
 use Rattle.halftone_reader.proofs.pages.read_page.Goals as goal
 
 pub begin-requires-clause-wanted : goal.begin-requires-clause-wanted
@@ -14,61 +20,10 @@ begin-requires-clause-wanted g c =
     let begins = rw (c.in-Some.is, c.wanted.ensures) at c.in_ok-form.ensures.page in
     begun-wanted (wanted_by c.args.profile.now) c.args.reader.now c.next_page.new.self _ _ c.in-Some.form begins
 
-pub groups-init : goal.groups-init
-groups-init g c =
+pub begin-requires-2-clause-wanted : goal.begin-requires-2-clause-wanted
+begin-requires-2-clause-wanted g c =
     let begins = rw (c.in-Some.is, c.wanted.ensures) at c.in_ok-form.ensures.page in
-    record {
-      page = halftone_begin c.args.profile.now
-          c.args.kernel c.in-Some.form c.args.reader.now c.next_page.new.self _ _ c.in_ok-halftoner.halftoner
-          begins c.requires.unended c.in_ok-form.ensures.going
-          c.in_ok-halftoner.ensures.page c.in_ok-halftoner.ensures.count c.in_ok-halftoner.ensures.stands;
-      working = c.in_ok-halftoner.ensures.working;
-      later = c.next_page.ensures.later;
-    }
-
-pub returns-in_err-repeats-clause-input : goal.returns-in_err-repeats-clause-input
-returns-in_err-repeats-clause-input g c =
-    let error = err_from_is_err_and c.from_residual-in_err-repeats.result c.from_residual-in_err-repeats.ensures.1 in
-    rw (error.1, error.2) (fault_in_page (Option HalftonedPage)
-    (wanted_by c.args.profile.now) c.args.reader.now c.groups.reader _ _ _ c.in_err-repeats.field-0.0
-    c.groups.invariant.page.page (c.in_err-repeats.ensures.input c.groups.invariant.page.page.going))
-
-pub returns-in_err-repeats-clause-place : goal.returns-in_err-repeats-clause-place
-returns-in_err-repeats-clause-place g c =
-    let error = err_from_is_err_and c.from_residual-in_err-repeats.result c.from_residual-in_err-repeats.ensures.1 in
-    rw (error.1, error.2) (place_in_page (Option HalftonedPage)
-    (wanted_by c.args.profile.now) c.args.reader.now c.groups.reader _ _ _ c.in_err-repeats.field-0.0
-    c.groups.invariant.page.page (c.in_err-repeats.ensures.input c.groups.invariant.page.page.going))
-
-pub returns-in_err-repeats-clause-used : goal.returns-in_err-repeats-clause-used
-returns-in_err-repeats-clause-used g c = uses_more _ _ _ _ c.groups.invariant.page.page.used c.next_line.ensures.used
-
-pub lines-requires-clause-line : goal.lines-requires-clause-line
-lines-requires-clause-line g c κs within =
-    c.line.ensures.sized c.in-Some.form (c.in_ok-repeats.ensures.lines.form_is ∙ c.groups.invariant.page.page.form_is)
-    ∙ ap (λ (f : PageForm). f.bytes_per_line) (sym c.groups.invariant.page.form_is)
-
-pub groups-preserved : goal.groups-preserved
-groups-preserved g c =
-    let gives = c.in_ok-repeats.ensures.lines in
-    record {
-      page = halftone_step c.args.profile.now c.args.kernel c.in-Some.form c.args.reader.now
-          c.groups.reader c.next_line.new.self _ _ _ c.groups.halftoner c.lines.new.self c.in_ok-repeats.repeats
-          c.groups.invariant.page (omega (arith, c.groups-test.true, c.lines_left.ensures)) gives c.in_ok-repeats.ensures.going
-          c.in_ok-lines.ensures.page c.in_ok-lines.ensures.count
-          (λ lines stands. rw c.line.ensures.line at c.in_ok-lines.ensures.stands lines stands);
-      working = c.in_ok-lines.ensures.working;
-      later = omega (arith, c.groups.invariant.later, c.next_line.ensures.later);
-    }
-
-pub returns-in_err-lines-clause-used : goal.returns-in_err-lines-clause-used
-returns-in_err-lines-clause-used g c = uses_more _ _ _ _ c.groups.invariant.page.page.used c.next_line.ensures.used
-
-pub returns-clause-page : goal.returns-clause-page
-returns-clause-page g c =
-    halftone_end c.args.profile.now
-    c.args.kernel c.in-Some.form c.args.reader.now c.groups.reader _ _ c.groups.halftoner c.finish-planes.result
-    c.groups.invariant.page (omega (arith, c.groups-test.false, c.lines_left.ensures)) c.finish-planes.ensures
+    begun-wanted (wanted_by c.args.profile.now) c.args.reader.now c.next_page.new.self _ _ c.in-Some.form begins
 
 pub returns-in_err-form-clause-taken : goal.returns-in_err-form-clause-taken
 returns-in_err-form-clause-taken g c = λ is.
@@ -76,15 +31,211 @@ returns-in_err-form-clause-taken g c = λ is.
     rw c.wanted.ensures at
     (c.in_err-form.ensures.taken c.requires.between.going (ap Err (sym error.2 ∙ same_error (sym error.1 ∙ is))))
 
-pub returns-in_err-repeats-clause-taken : goal.returns-in_err-repeats-clause-taken
-returns-in_err-repeats-clause-taken g c = λ is.
-    let error = err_from_is_err_and c.from_residual-in_err-repeats.result c.from_residual-in_err-repeats.ensures.1 in
-    page_cut (wanted_by c.args.profile.now) c.args.reader.now c.groups.reader _ _ _ _ c.groups.invariant.page.page
-    (omega (arith, c.groups-test.true, c.lines_left.ensures))
-    (c.in_err-repeats.ensures.taken c.groups.invariant.page.page.going
-    (ap Err (sym error.2 ∙ same_error (sym error.1 ∙ is))))
-
-pub returns-in_err-lines-clause-taken : goal.returns-in_err-lines-clause-taken
-returns-in_err-lines-clause-taken g c = λ is.
-    let error = err_from_is_err_and c.from_residual-in_err-lines.result c.from_residual-in_err-lines.ensures.1 in
+pub returns-in_err-spare-clause-taken : goal.returns-in_err-spare-clause-taken
+returns-in_err-spare-clause-taken g c = λ is.
+    let error = err_from_is_err_and c.from_residual-in_err-spare.result c.from_residual-in_err-spare.ensures.1 in
     absurd (let never : stop.Memory ≡ stop.Read = sym error.2 ∙ same_error (sym error.1 ∙ is) in cc)
+
+pub returns-in_err-fill-clause-input : goal.returns-in_err-fill-clause-input
+returns-in_err-fill-clause-input g c =
+    let begins = rw (c.in-Some.is, c.wanted.ensures) at c.in_ok-form.ensures.page in
+    let b : Begun = record {
+      profile = c.args.profile.now;
+      kernel = c.args.kernel;
+      form = c.in-Some.form;
+      reader = c.args.reader.now;
+      before = g.S.Source.left c.args.s.now;
+    } in
+    let f : Filling = c.in_ok-filler.filler in
+    let d : Diffusing = c.in_ok-diffuser.diffuser in
+    let start : HalftonedSoFar b c.next_page.new.self (g.S.Source.left c.next_page.new.s) f d = so_far_begin
+    b c.next_page.new.self (g.S.Source.left c.next_page.new.s) f d begins c.requires.unended c.in_ok-form.ensures.going
+    c.in_ok-filler.ensures.page c.in_ok-diffuser.ensures.kernel c.in_ok-filler.ensures.none.0
+    (at_top (joined f d) c.in_ok-filler.ensures.none.0 c.in_ok-filler.ensures.none.1 c.in_ok-diffuser.ensures.top
+    c.in_ok-diffuser.ensures.blank) in
+    let error = err_from_is_err_and c.from_residual-in_err-fill.result c.from_residual-in_err-fill.ensures.1 in
+    rw (error.1, error.2) (same_input (Option HalftonedPage) (Unit {0}) c.in_err-fill.field-0.0 _ ((c.in_err-fill.ensures.fills.reads d).input b start))
+
+pub returns-in_err-fill-clause-place : goal.returns-in_err-fill-clause-place
+returns-in_err-fill-clause-place g c =
+    let begins = rw (c.in-Some.is, c.wanted.ensures) at c.in_ok-form.ensures.page in
+    let b : Begun = record {
+      profile = c.args.profile.now;
+      kernel = c.args.kernel;
+      form = c.in-Some.form;
+      reader = c.args.reader.now;
+      before = g.S.Source.left c.args.s.now;
+    } in
+    let f : Filling = c.in_ok-filler.filler in
+    let d : Diffusing = c.in_ok-diffuser.diffuser in
+    let start : HalftonedSoFar b c.next_page.new.self (g.S.Source.left c.next_page.new.s) f d = so_far_begin
+    b c.next_page.new.self (g.S.Source.left c.next_page.new.s) f d begins c.requires.unended c.in_ok-form.ensures.going
+    c.in_ok-filler.ensures.page c.in_ok-diffuser.ensures.kernel c.in_ok-filler.ensures.none.0
+    (at_top (joined f d) c.in_ok-filler.ensures.none.0 c.in_ok-filler.ensures.none.1 c.in_ok-diffuser.ensures.top
+    c.in_ok-diffuser.ensures.blank) in
+    let error = err_from_is_err_and c.from_residual-in_err-fill.result c.from_residual-in_err-fill.ensures.1 in
+    rw (error.1, error.2) (same_input (Option HalftonedPage) (Unit {0}) c.in_err-fill.field-0.0 _ ((c.in_err-fill.ensures.fills.reads d).place b start))
+
+pub returns-in_err-fill-clause-read : goal.returns-in_err-fill-clause-read
+returns-in_err-fill-clause-read g c = λ is.
+    let error = err_from_is_err_and c.from_residual-in_err-fill.result c.from_residual-in_err-fill.ensures.1 in
+    let rose = c.in_err-fill.ensures.read (ap Err (sym error.2 ∙ same_error (sym error.1 ∙ is))) in
+    omega (arith, rose, c.next_page.ensures.later)
+
+pub returns-in_err-fill-clause-taken : goal.returns-in_err-fill-clause-taken
+returns-in_err-fill-clause-taken g c = λ is.
+    let begins = rw (c.in-Some.is, c.wanted.ensures) at c.in_ok-form.ensures.page in
+    let b : Begun = record {
+      profile = c.args.profile.now;
+      kernel = c.args.kernel;
+      form = c.in-Some.form;
+      reader = c.args.reader.now;
+      before = g.S.Source.left c.args.s.now;
+    } in
+    let f : Filling = c.in_ok-filler.filler in
+    let d : Diffusing = c.in_ok-diffuser.diffuser in
+    let start : HalftonedSoFar b c.next_page.new.self (g.S.Source.left c.next_page.new.s) f d = so_far_begin
+    b c.next_page.new.self (g.S.Source.left c.next_page.new.s) f d begins c.requires.unended c.in_ok-form.ensures.going
+    c.in_ok-filler.ensures.page c.in_ok-diffuser.ensures.kernel c.in_ok-filler.ensures.none.0
+    (at_top (joined f d) c.in_ok-filler.ensures.none.0 c.in_ok-filler.ensures.none.1 c.in_ok-diffuser.ensures.top
+    c.in_ok-diffuser.ensures.blank) in
+    let error = err_from_is_err_and c.from_residual-in_err-fill.result c.from_residual-in_err-fill.ensures.1 in
+    (c.in_err-fill.ensures.fills.reads d).taken b start (ap Err (sym error.2 ∙ same_error (sym error.1 ∙ is)))
+
+pub returns-in_err-fill-clause-used : goal.returns-in_err-fill-clause-used
+returns-in_err-fill-clause-used g c =
+    let begins = rw (c.in-Some.is, c.wanted.ensures) at c.in_ok-form.ensures.page in
+    let b : Begun = record {
+      profile = c.args.profile.now;
+      kernel = c.args.kernel;
+      form = c.in-Some.form;
+      reader = c.args.reader.now;
+      before = g.S.Source.left c.args.s.now;
+    } in
+    let f : Filling = c.in_ok-filler.filler in
+    let d : Diffusing = c.in_ok-diffuser.diffuser in
+    let start : HalftonedSoFar b c.next_page.new.self (g.S.Source.left c.next_page.new.s) f d = so_far_begin
+    b c.next_page.new.self (g.S.Source.left c.next_page.new.s) f d begins c.requires.unended c.in_ok-form.ensures.going
+    c.in_ok-filler.ensures.page c.in_ok-diffuser.ensures.kernel c.in_ok-filler.ensures.none.0
+    (at_top (joined f d) c.in_ok-filler.ensures.none.0 c.in_ok-filler.ensures.none.1 c.in_ok-diffuser.ensures.top
+    c.in_ok-diffuser.ensures.blank) in
+    (c.in_err-fill.ensures.fills.reads d).used b start
+
+pub slabs-init : goal.slabs-init
+slabs-init g c =
+    let begins = rw (c.in-Some.is, c.wanted.ensures) at c.in_ok-form.ensures.page in
+    let b : Begun = record {
+      profile = c.args.profile.now;
+      kernel = c.args.kernel;
+      form = c.in-Some.form;
+      reader = c.args.reader.now;
+      before = g.S.Source.left c.args.s.now;
+    } in
+    let f : Filling = c.in_ok-filler.filler in
+    let d : Diffusing = c.in_ok-diffuser.diffuser in
+    let start : HalftonedSoFar b c.next_page.new.self (g.S.Source.left c.next_page.new.s) f d = so_far_begin
+    b c.next_page.new.self (g.S.Source.left c.next_page.new.s) f d begins c.requires.unended c.in_ok-form.ensures.going
+    c.in_ok-filler.ensures.page c.in_ok-diffuser.ensures.kernel c.in_ok-filler.ensures.none.0
+    (at_top (joined f d) c.in_ok-filler.ensures.none.0 c.in_ok-filler.ensures.none.1 c.in_ok-diffuser.ensures.top
+    c.in_ok-diffuser.ensures.blank) in
+    let fills = c.in_ok-fill.ensures.fills in
+    record {
+      page = (fills.reads d).more b start;
+      done = fills.done;
+      room = c.in_ok-diffuser.ensures.room;
+      spare = spare_still f c.fill.new.filler fills.same c.in_ok-spare.spare c.in_ok-spare.ensures;
+      later = omega (arith, c.next_page.ensures.later, c.fill.ensures.later);
+    }
+
+pub returns-in_err-next_slab-clause-input : goal.returns-in_err-next_slab-clause-input
+returns-in_err-next_slab-clause-input g c =
+    let b : Begun = record {
+      profile = c.args.profile.now;
+      kernel = c.args.kernel;
+      form = c.in-Some.form;
+      reader = c.args.reader.now;
+      before = g.S.Source.left c.args.s.now;
+    } in
+    let error = err_from_is_err_and c.from_residual-in_err-next_slab.result c.from_residual-in_err-next_slab.ensures.1 in
+    rw (error.1, error.2) (same_input (Option HalftonedPage) (Unit {0}) c.in_err-next_slab.field-0.0 _ (c.in_err-next_slab.ensures.reads.input b c.slabs.invariant.page))
+
+pub returns-in_err-next_slab-clause-place : goal.returns-in_err-next_slab-clause-place
+returns-in_err-next_slab-clause-place g c =
+    let b : Begun = record {
+      profile = c.args.profile.now;
+      kernel = c.args.kernel;
+      form = c.in-Some.form;
+      reader = c.args.reader.now;
+      before = g.S.Source.left c.args.s.now;
+    } in
+    let error = err_from_is_err_and c.from_residual-in_err-next_slab.result c.from_residual-in_err-next_slab.ensures.1 in
+    rw (error.1, error.2) (same_input (Option HalftonedPage) (Unit {0}) c.in_err-next_slab.field-0.0 _ (c.in_err-next_slab.ensures.reads.place b c.slabs.invariant.page))
+
+pub returns-in_err-next_slab-clause-read : goal.returns-in_err-next_slab-clause-read
+returns-in_err-next_slab-clause-read g c = λ is.
+    let error = err_from_is_err_and c.from_residual-in_err-next_slab.result c.from_residual-in_err-next_slab.ensures.1 in
+    let rose = c.in_err-next_slab.ensures.read (ap Err (sym error.2 ∙ same_error (sym error.1 ∙ is))) in
+    omega (arith, rose, c.slabs.invariant.later)
+
+pub returns-in_err-next_slab-clause-taken : goal.returns-in_err-next_slab-clause-taken
+returns-in_err-next_slab-clause-taken g c = λ is.
+    let b : Begun = record {
+      profile = c.args.profile.now;
+      kernel = c.args.kernel;
+      form = c.in-Some.form;
+      reader = c.args.reader.now;
+      before = g.S.Source.left c.args.s.now;
+    } in
+    let error = err_from_is_err_and c.from_residual-in_err-next_slab.result c.from_residual-in_err-next_slab.ensures.1 in
+    c.in_err-next_slab.ensures.reads.taken b c.slabs.invariant.page (ap Err (sym error.2 ∙ same_error (sym error.1 ∙ is)))
+
+pub returns-in_err-next_slab-clause-used : goal.returns-in_err-next_slab-clause-used
+returns-in_err-next_slab-clause-used g c =
+    let b : Begun = record {
+      profile = c.args.profile.now;
+      kernel = c.args.kernel;
+      form = c.in-Some.form;
+      reader = c.args.reader.now;
+      before = g.S.Source.left c.args.s.now;
+    } in
+    c.in_err-next_slab.ensures.reads.used b c.slabs.invariant.page
+
+pub slabs-preserved : goal.slabs-preserved
+slabs-preserved g c =
+    let b : Begun = record {
+      profile = c.args.profile.now;
+      kernel = c.args.kernel;
+      form = c.in-Some.form;
+      reader = c.args.reader.now;
+      before = g.S.Source.left c.args.s.now;
+    } in
+    let v = c.slabs.invariant in
+    let next = c.in_ok-next_slab.ensures in
+    record {
+      page = next.reads.more b v.page;
+      done = next.done;
+      room = room_still b.form b.profile c.slabs.diffuser.planes c.next_slab.new.diffuser.planes next.size v.room;
+      spare = next.spare;
+      later = omega (arith, v.later, c.next_slab.ensures.later);
+    }
+
+pub returns-clause-page : goal.returns-clause-page
+returns-clause-page g c =
+    let b : Begun = record {
+      profile = c.args.profile.now;
+      kernel = c.args.kernel;
+      form = c.in-Some.form;
+      reader = c.args.reader.now;
+      before = g.S.Source.left c.args.s.now;
+    } in
+    let v = c.slabs.invariant in
+    let whole : IsFull c.slabs.filler → ⊥ = λ full.
+    let never : true ≡ false = sym (c.is_full.ensures.full.1 full) ∙ c.slabs-test.false in cc in
+    let all : c.slabs.filler.count ≡ c.slabs.filler.form.height = elim v.done [
+      | inl full ↦ absurd (whole full)
+      | inr is ↦ is
+    ] in
+    let P : DotTable → Type 0 = λ planes. ReadsHalftone b.profile (table_of b.kernel) b.reader c.slabs.reader b.before
+    (g.S.Source.left c.slabs.s) b.form planes in
+    subst P (sym c.finish-planes.ensures) (so_far_end b c.slabs.reader (g.S.Source.left c.slabs.s) c.slabs.filler c.slabs.diffuser
+    v.page c.is_full.ensures.rows whole all v.room)

@@ -1,14 +1,22 @@
-use Rattle.std.proofs.Common.{◌≡◌, ◌≤◌, false}
-use Rattle.pwg_stream.specs.Reading.{lines_left_of}
-use Rattle.halftone_reader.proofs.HalftoneSteps.{HalftonedSoFar}
+use Rattle.std.proofs.Common.{◌≡◌, ◌⊎◌, ◌-◌, ◌≤◌, IfSome}
+use Rattle.page_halftoner.specs.Halftones.{HasRoom, IsFull, IsSpare, window_filled}
+use Rattle.halftone_reader.specs.SoFar.{HalftonedSoFar}
 use Rattle.halftone_reader.proofs.pages.read_page.Given as goal
 
-abbrev pub invariant-groups : goal.invariant-groups
-invariant-groups g l = record {
-  page : HalftonedSoFar l.fn.profile l.fn.kernel l.form l.fn.reader l.reader (g.S.Source.left l.fn.s) (g.S.Source.left l.s) l.halftoner;
-  working : l.halftoner.failed ≡ false;
+abbrev pub invariant-slabs : goal.invariant-slabs
+invariant-slabs g l = record {
+  page : HalftonedSoFar (record {
+    profile = l.fn.profile;
+    kernel = l.fn.kernel;
+    form = l.form;
+    reader = l.fn.reader;
+    before = g.S.Source.left l.fn.s;
+  }) l.reader (g.S.Source.left l.s) l.filler l.diffuser;
+  done : IsFull l.filler ⊎ (l.filler.count ≡ l.filler.form.height);
+  room : HasRoom l.form l.fn.profile l.diffuser.planes;
+  spare : IfSome l.spare (IsSpare l.filler);
   later : g.S.Source.faults l.fn.s ≤ g.S.Source.faults l.s;
 }
 
-abbrev pub decreases-groups : goal.decreases-groups
-decreases-groups g l = lines_left_of l.reader
+abbrev pub decreases-slabs : goal.decreases-slabs
+decreases-slabs g l = (window_filled l.filler).height - l.filler.first
