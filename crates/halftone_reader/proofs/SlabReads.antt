@@ -1,7 +1,9 @@
 -- Lines that are read into slabs.
 use Rattle.std.proofs.Common.{◌≡◌, ◌⊎◌, ℕ, ◌+◌, ◌-◌, ◌<◌, arith, subst, List, ◌++◌, replicate, Option, None, Some, IfSome, Result, Ok, Err, IsErrOf, ap, sym, ◌∙◌}
 use Rattle.buffered_bytes.specs.Text.{UsesSome}
-use Rattle.dot_planes.specs.Tables.{AmountTable, DotTable, HasSizeOf}
+use Rattle.dot_planes.specs.Tables.{DotTable, HasSizeOf}
+use Rattle.ink_separation.specs.Separators.{IsSeparatorOf}
+use Rattle.raw_rows.specs.declared.kept.RawRows.{RawRows}
 use Rattle.page_halftoner.specs.Halftones.{Diffusing, Filling, HasRoom, HoldsRows, IsFull, IsSameRows, IsSpare, window_filled}
 use Rattle.printer_definitions.specs.Printer.{Printer}
 use Rattle.pwg_definitions.specs.declared.pages.PageForm.{PageForm}
@@ -128,13 +130,13 @@ rows_fall f g rows full first same =
     omega (arith, full, first, some, form, profile)
 
 -- A spare slab is spare still where lines were put.
-pub spare_still : (f g : Filling) → IsSameRows f g → (o : Option AmountTable) → IfSome o (IsSpare f) → IfSome o (IsSpare g)
+pub spare_still : (f g : Filling) → IsSameRows f g → (o : Option RawRows) → IfSome o (IsSpare f) → IfSome o (IsSpare g)
 spare_still f g same None is = tt
 spare_still f g same (Some t) is = record {
-  width = is.width ∙ sym same.size.width;
-  inks = is.inks ∙ sym same.size.inks;
-  some = is.some;
-  most = is.most;
+  separator =
+      let P : Printer → Type 0 = λ p. IsSeparatorOf p f.form.kind (window_of f.form p) t.separator in
+      let F : PageForm → Type 0 = λ form. IsSeparatorOf g.profile form.kind (window_of form g.profile) t.separator in
+      subst F (sym same.form) (subst P (sym same.profile) is.separator);
   rows = λ more.
       let form = ap (λ (m : PageForm). (window_of m g.profile).height) same.form in
       let profile = ap (λ (p : Printer). (window_of f.form p).height) same.profile in

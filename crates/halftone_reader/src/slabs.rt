@@ -7,9 +7,9 @@ ghost use Rattle.pwg_stream.specs.Reading.{lines_left_of};
 ghost use Rattle.std.specs.Prelude.{IfSome, IsErrOf, OnOk, ◌+◌, ◌≡◌, ◌≤◌, ◌⊎◌};
 ghost use Rattle.weave_base.specs.Causes.{Rose};
 
-use dot_planes::InkRows;
 use page_halftoner::{Diffuser, Filler};
 use pwg_stream::{PageReader, StreamStop};
+use raw_rows::RawRows;
 use std::thread::Threads;
 use wavefront_team::{Gate, Team};
 use weave_base::Source;
@@ -41,7 +41,7 @@ pub(crate) fn next_slab<R: Threads + Sync, S: Source, G: Gate + Sync>(
     team: &Team<'_, R, G>,
     filler: &mut Filler,
     diffuser: &mut Diffuser,
-    spare: &mut Option<InkRows>,
+    spare: &mut Option<RawRows>,
     reader: &mut PageReader,
     s: &mut S,
 ) -> Result<(), StreamStop>
@@ -99,7 +99,7 @@ fn read_beside<R: Threads + Sync, S: Source, G: Gate + Sync>(
     team: &Team<'_, R, G>,
     filler: &mut Filler,
     diffuser: &mut Diffuser,
-    spare: &mut InkRows,
+    spare: &mut RawRows,
     reader: &mut PageReader,
     s: &mut S,
 ) -> Result<(), StreamStop>

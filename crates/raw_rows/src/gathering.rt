@@ -1,8 +1,14 @@
 //! Tiles gathered from raw lines.
 ghost use Rattle.dot_planes.specs.Gathered.{HasTile, shape_of};
+ghost use Rattle.ink_separation.specs.Separated.{KeepsBefore, tile_amount};
+ghost use Rattle.ink_separation.specs.Separators.{printer_in};
+ghost use Rattle.printer_definitions.specs.Inks.{inks_of};
+ghost use Rattle.printer_definitions.specs.declared.inks.Ink.{Ink};
+ghost use Rattle.pwg_definitions.specs.Header.{line_bytes, row_of};
 ghost use Rattle.raw_rows.specs.Gathering.{GathersRow};
 ghost use Rattle.raw_rows.specs.Raw.{table_of};
-ghost use Rattle.std.specs.Prelude.{◌<◌, ◌≡◌, ◌≤◌};
+ghost use Rattle.separation_definitions.specs.Amounts.{amount as amount_of, pixel_at};
+ghost use Rattle.std.specs.Prelude.{Some, length, slice_get, ℕ, ◌+◌, ◌<◌, ◌≡◌, ◌≤◌};
 
 use crate::kept::RawRows;
 use dot_planes::{TileAmounts, TileRows};
@@ -36,8 +42,34 @@ impl RawRows {
         if from < to {
             let first = window.left as usize + start + from - 2 * r;
             let line = self.line(y as u32);
-            self.separator
-                .separate_into(line, first, to - from, 64 * r + from, out);
+            self.separate_part(line, first, to - from, 64 * r + from, out);
+        }
+    }
+
+    // Sets the amounts of `many` pixels of a line from pixel `first` on, in each ink of a tile from index `at` on. It is
+    // inlined so that a whole row of a tile has loops of known length.
+    #[inline(always)]
+    fn separate_part(
+        &self,
+        line: &[u8],
+        first: usize,
+        many: usize,
+        at: usize,
+        out: &mut TileAmounts,
+    )
+        requires many { many ≤ 64 }
+        requires pixels { let s = self.now.separator in
+            line_bytes (first + many) (row_of s.kind).bits_per_pixel ≤ length line.now }
+        requires at { at + many ≤ 2048 }
+        ensures put { let s = self.now.separator in
+            (i : ℕ) (ink : Ink) → slice_get (inks_of s.inks) i ≡ Some ink → (k : ℕ) → k < many
+            → tile_amount out.new.inks i (at + k) ≡ amount_of (printer_in s) s.kind (pixel_at s.kind line.now (first + k)) ink }
+        ensures before { KeepsBefore at out.old.inks out.new.inks }
+    {
+        if many == 64 {
+            self.separator.separate_into(line, first, 64, at, out);
+        } else {
+            self.separator.separate_into(line, first, many, at, out);
         }
     }
 }

@@ -3,6 +3,7 @@ use Rattle.diffusion_kernel.specs.Tables.{table_of}
 use Rattle.dot_planes.specs.Tables.{AmountTable}
 use Rattle.page_halftoner.proofs.Lines.{IsDone}
 use Rattle.page_halftoner.specs.Halftones.{Diffusing, Filling}
+use Rattle.raw_rows.specs.Raw.{table_of as amounts_of}
 use Rattle.wavefront_team.specs.Slabs.{DiffusesSlab}
 use Rattle.halftone_reader.proofs.SlabReads.{reads_diffused}
 use Rattle.halftone_reader.proofs.slabs.read_beside.Goals as goal
@@ -14,7 +15,7 @@ returns-clause-reads g c =
     let done : Diffusing = c.diffuse_beside.new.self in
     let told = c.in_ok-diffuse_beside.ensures in
     let S : AmountTable → Type 0 = λ slab. DiffusesSlab (table_of d.kernel) slab d.top done.top f.first d.planes done.planes in
-    let F : ℕ → Type 0 = λ first. DiffusesSlab (table_of d.kernel) c.swap.new.spare d.top done.top first d.planes done.planes in
+    let F : ℕ → Type 0 = λ first. DiffusesSlab (table_of d.kernel) (amounts_of c.swap.new.spare) d.top done.top first d.planes done.planes in
     let all : IsDone f c.swap.new.self d done = record {
       full = c.requires.full;
       rows = c.requires.rows;

@@ -14,4 +14,4 @@ returns-then-from-to c =
       omega (arith, c.saturating_sub-from.ensures, at),
       omega (arith, c.saturating_sub.ensures, c.min-to.ensures, width, at, across, in_tile),
     ))
-    c.separate_into.ensures.put c.separate_into.ensures.before
+    c.separate_part.ensures.put c.separate_part.ensures.before
