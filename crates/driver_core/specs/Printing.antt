@@ -3,4 +3,5 @@ pub mod Pages
 pub mod Outcome
 pub mod One
 pub mod Charging
+pub mod Counting
 pub mod Promises

@@ -1,6 +1,8 @@
 //! The command `print`.
 
 mod charging;
+mod counting;
+mod ink_count;
 mod one;
 mod pages;
 mod writing;

@@ -13,6 +13,8 @@ use pwg_definitions::Kind;
 use std::alloc::Global;
 use std::process::Abort;
 use std::test::Fail;
+use std::thread::Threads;
+use wavefront_team::{OpenGate, Team};
 use weave_base::MemSink;
 
 /// A head, and how many rows a black window of eight columns under it has.
@@ -59,8 +61,8 @@ fn is_taken(p: &Profile, f: PageForm) -> bool
 }
 
 /// Writes a black window with dead nozzles to a sink whose write of this number fails.
-fn write(
-    rt: &impl Abort,
+fn write<R: Abort + Threads + Sync>(
+    rt: &R,
     alloc: Global,
     work: Work,
     dead: &[u8],
@@ -87,7 +89,12 @@ fn write(
     let window = p.window(f);
     let planes = black_planes(alloc, window.width, window.height)?;
     let mut sink = MemSink::make(alloc, 2000, Vec::new(alloc), vec![in alloc; fails]?)?;
-    let answer = write_healed(alloc, &p, f, &planes, dead, &mut sink);
+    let team = Team {
+        threads: rt,
+        workers: 1,
+        gate: &OpenGate,
+    };
+    let answer = write_healed(&team, alloc, &p, f, &planes, dead, &mut sink);
     let bytes = sink.bytes();
     Ok((answer, bytes.len(), TINY_HEALED_JOB.starts_with(bytes)))
 }
@@ -125,8 +132,8 @@ fn rows_of_a_dead_nozzle_are_made_up(rt: HostRuntime) -> Result<(), Fail> {
 }
 
 /// Writes a black window with dead nozzles, and compares how long its job is and how many rasters it has.
-fn sum_of(
-    rt: &impl Abort,
+fn sum_of<R: Abort + Threads + Sync>(
+    rt: &R,
     alloc: Global,
     work: (u8, u8, u32),
     dead: &[u8],

@@ -1,4 +1,4 @@
-//! Tests of the writer of pages, and of the interleaved and the shingled passes and the strokes of heads with dead nozzles
+//! Tests of the writer of pages, by one worker and by several, and of the interleaved and the shingled passes and the strokes of heads with dead nozzles
 //! that it writes.
 #![tactic(auto)]
 
@@ -14,5 +14,7 @@ mod shingled;
 mod shingling;
 #[cfg(test)]
 mod weaving;
+#[cfg(test)]
+mod workers;
 #[cfg(test)]
 mod writing;

@@ -13,6 +13,8 @@ use shingle_plan::shingle_fits;
 use std::alloc::Global;
 use std::process::Abort;
 use std::test::Fail;
+use std::thread::Threads;
+use wavefront_team::{OpenGate, Team};
 use weave_base::MemSink;
 
 /// A head, and the columns and rows of a black window under it.
@@ -60,7 +62,12 @@ fn is_taken(p: &Profile, f: PageForm) -> bool
 }
 
 /// Writes a black window to a sink whose write of this number fails.
-fn write(rt: &impl Abort, alloc: Global, work: Work, fails: u32) -> Result<Outcome, Fail> {
+fn write<R: Abort + Threads + Sync>(
+    rt: &R,
+    alloc: Global,
+    work: Work,
+    fails: u32,
+) -> Result<Outcome, Fail> {
     let top = u16::from(work.nozzles.max(1) - 1) * u16::from(work.pitch);
     let p = Profile {
         nozzles: work.nozzles,
@@ -80,7 +87,12 @@ fn write(rt: &impl Abort, alloc: Global, work: Work, fails: u32) -> Result<Outco
     let window = p.window(f);
     let planes = black_planes(alloc, window.width, window.height)?;
     let mut sink = MemSink::make(alloc, 2000, Vec::new(alloc), vec![in alloc; fails]?)?;
-    let answer = write_shingled(alloc, &p, f, &planes, &mut sink);
+    let team = Team {
+        threads: rt,
+        workers: 1,
+        gate: &OpenGate,
+    };
+    let answer = write_shingled(&team, alloc, &p, f, &planes, &mut sink);
     let bytes = sink.bytes();
     Ok((answer, bytes.len(), TINY_SHINGLED_JOB.starts_with(bytes)))
 }

@@ -10,6 +10,8 @@ use pwg_definitions::Kind;
 use std::alloc::Global;
 use std::process::Abort;
 use std::test::Fail;
+use std::thread::Threads;
+use wavefront_team::{OpenGate, Team};
 use weave_base::MemSink;
 
 /// Eight columns and six rows, of which two are inside the margins.
@@ -38,14 +40,24 @@ fn black_planes(alloc: Global) -> Result<Planes, Memory>
 }
 
 /// Writes the planes to a sink whose write of this number fails.
-fn write(rt: &impl Abort, alloc: Global, planes: &Planes, fails: u32) -> Result<Outcome, Fail>
+fn write<R: Abort + Threads + Sync>(
+    rt: &R,
+    alloc: Global,
+    planes: &Planes,
+    fails: u32,
+) -> Result<Outcome, Fail>
     requires width { planes.now.width ≡ 8 }
     requires rows { planes.now.rows ≡ 2 }
     requires inks { planes.now.inks ≡ 1 }
 {
     assert_eq!(rt; TINY.check(), Ok(()));
     let mut sink = MemSink::make(alloc, 100, Vec::new(alloc), vec![in alloc; fails]?)?;
-    let answer = write_page(alloc, &TINY, FORM, planes, &mut sink);
+    let team = Team {
+        threads: rt,
+        workers: 1,
+        gate: &OpenGate,
+    };
+    let answer = write_page(&team, alloc, &TINY, FORM, planes, &mut sink);
     let bytes = sink.bytes();
     Ok((answer, bytes.len(), TINY_JOB.starts_with(bytes)))
 }

@@ -9,10 +9,11 @@ ghost use Rattle.printer_profile.specs.Validity.{check};
 ghost use Rattle.std.specs.Prelude.{IsOk, ◌≡◌, ◌≤◌};
 
 use crate::print::charging::charge;
+use crate::print::counting::count_inks;
 use crate::print::writing::write_by_way;
 use driver_answer::Answer;
 use halftone_reader::read_page;
-use ink_meter::{Meter, count_dots};
+use ink_meter::Meter;
 use job_words::Job;
 use page_writer::WriteStop;
 use printer_profile::Profile;
@@ -34,8 +35,8 @@ pub fn stream_answer(stop: StreamStop) -> Answer
 }
 
 /// Prints the pages of the input, each once it is read to its last line and every meter has room for it. The team
-/// diffuses each slab and codes each page. `pages` becomes how many were written whole. `Err` is the answer where
-/// printing stops.
+/// diffuses each slab, counts the dots and codes each page. `pages` becomes how many were written whole. `Err` is the
+/// answer where printing stops.
 pub fn print_pages<R: Threads + Sync, S: Source, K: Sink, G: Gate + Sync>(
     team: &Team<'_, R, G>,
     alloc: Global,
@@ -66,7 +67,11 @@ pub fn print_pages<R: Threads + Sync, S: Source, K: Sink, G: Gate + Sync>(
             Ok(None) => return Ok(()),
             Err(stop) => return Err(stream_answer(stop)),
         };
-        charge(number, &count_dots(profile.inks, &page.planes), meters)?;
+        charge(
+            number,
+            &count_inks(team, profile.inks, &page.planes),
+            meters,
+        )?;
         match write_by_way(team, alloc, profile, job, page.form, &page.planes, out) {
             Err(WriteStop::Write) => return Err(Answer::Write { page: number }),
             Err(WriteStop::Memory) => return Err(Answer::Memory),

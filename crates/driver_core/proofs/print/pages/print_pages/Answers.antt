@@ -76,8 +76,8 @@ returns-in-Err-Write-clause-outcome g c =
     let page = halftoned.page in
     let read = metered_read way p k c.pages.reader c.read_page.new.reader c.pages.number
     page c.pages.invariant.stream halftoned.reads (rw c.in-Ok-Some.field-0-is at c.in-Ok-Some.ensures.between) in
-    let are = c.count_dots.ensures.dots p (halftone page p k) (ap (λ (q : Printer). q.inks) (sym c.profile.view_is)) halftoned.dots ∙ page_dots-is p k page in
-    let counts = one_counted p k _ _ _ _ page c.count_dots.result are read.1 c.in_ok-charge.ensures.room c.in_ok-charge.ensures.counted in
+    let are = c.count_inks.ensures.dots p (halftone page p k) (ap (λ (q : Printer). q.inks) (sym c.profile.view_is)) halftoned.dots ∙ page_dots-is p k page in
+    let counts = one_counted p k _ _ _ _ page c.count_inks.result are read.1 c.in_ok-charge.ensures.room c.in_ok-charge.ensures.counted in
     let part = rw (page-bytes-is way p k page c.in-Ok-Some.page.form halftoned.form_is) at
     (c.in-Err-Write.ensures.part (halftone page p k) halftoned.dots (ap Err c.in-Err-Write.field-0-is)) in
     page_not_written way p k c.read_page.new.reader c.pages.number c.pages.pages
@@ -93,9 +93,9 @@ returns-in-Err-Memory-clause-outcome g c =
     let halftoned = rw c.in-Ok-Some.field-0-is at c.in-Ok-Some.ensures.page in
     let read = metered_read way p k c.pages.reader c.read_page.new.reader c.pages.number
     halftoned.page c.pages.invariant.stream halftoned.reads (rw c.in-Ok-Some.field-0-is at c.in-Ok-Some.ensures.between) in
-    let are = c.count_dots.ensures.dots p (halftone halftoned.page p k) (ap (λ (q : Printer). q.inks) (sym c.profile.view_is)) halftoned.dots ∙ page_dots-is p k halftoned.page in
+    let are = c.count_inks.ensures.dots p (halftone halftoned.page p k) (ap (λ (q : Printer). q.inks) (sym c.profile.view_is)) halftoned.dots ∙ page_dots-is p k halftoned.page in
     let counts = one_counted p k _ _ _
-    _ halftoned.page c.count_dots.result are read.1 c.in_ok-charge.ensures.room c.in_ok-charge.ensures.counted in
+    _ halftoned.page c.count_inks.result are read.1 c.in_ok-charge.ensures.room c.in_ok-charge.ensures.counted in
     page_without_room way p k c.read_page.new.reader c.pages.number c.pages.pages
     (g.S.Source.faults c.args.input.now) (g.S.Source.faults c.read_page.new.s)
     (g.K.Sink.faults c.args.out.now) (g.K.Sink.faults c.write_by_way.new.out) halftoned.page
@@ -111,8 +111,8 @@ pages-preserved g c =
     let page = halftoned.page in
     let read = metered_read way p k c.pages.reader c.read_page.new.reader c.pages.number
     page c.pages.invariant.stream halftoned.reads (rw c.in-Ok-Some.field-0-is at c.in-Ok-Some.ensures.between) in
-    let are = c.count_dots.ensures.dots p (halftone page p k) (ap (λ (q : Printer). q.inks) (sym c.profile.view_is)) halftoned.dots ∙ page_dots-is p k page in
-    let counts = one_counted p k _ _ _ _ page c.count_dots.result are read.1 c.in_ok-charge.ensures.room c.in_ok-charge.ensures.counted in
+    let are = c.count_inks.ensures.dots p (halftone page p k) (ap (λ (q : Printer). q.inks) (sym c.profile.view_is)) halftoned.dots ∙ page_dots-is p k page in
+    let counts = one_counted p k _ _ _ _ page c.count_inks.result are read.1 c.in_ok-charge.ensures.room c.in_ok-charge.ensures.counted in
     record {
       stream = metered_written way p k c.read_page.new.reader c.pages.number page read.0 counts
           (rw (page-bytes-is way p k page c.in-Ok-Some.page.form halftoned.form_is) at (c.in-Ok-write_by_way.ensures.ok (halftone page p k) halftoned.dots));
@@ -130,10 +130,10 @@ returns-in_err-charge-clause-outcome g c =
     let page = halftoned.page in
     let read = metered_read way p k c.pages.reader c.read_page.new.reader c.pages.number
     page c.pages.invariant.stream halftoned.reads (rw c.in-Ok-Some.field-0-is at c.in-Ok-Some.ensures.between) in
-    let are = c.count_dots.ensures.dots p (halftone page p k) (ap (λ (q : Printer). q.inks) (sym c.profile.view_is)) halftoned.dots ∙ page_dots-is p k page in
+    let are = c.count_inks.ensures.dots p (halftone page p k) (ap (λ (q : Printer). q.inks) (sym c.profile.view_is)) halftoned.dots ∙ page_dots-is p k page in
     let error = err_from_is_err_and c.from_residual.result c.from_residual.ensures.1 in
     rw (error.1, error.2) (page_over way p k c.read_page.new.reader c.pages.number c.pages.pages
     (g.S.Source.faults c.args.input.now) (g.S.Source.faults c.read_page.new.s) (g.K.Sink.faults c.args.out.now)
-    (g.K.Sink.faults c.pages.out) page c.count_dots.result c.in_err-charge.field-0.0
+    (g.K.Sink.faults c.pages.out) page c.count_inks.result c.in_err-charge.field-0.0
     (can_go c.args.profile.now (way_of c.args.job.now)
     (subst (λ (p : Printer). p.nozzles ≤ 255) c.profile.view_is (omega (arith, c.if-prove.false))) c.requires.checked c.requires.way) read.0 c.pages.invariant.whole read.1 are c.in_err-charge.ensures.over c.in_err-charge.ensures.kept)
