@@ -18,6 +18,17 @@ pub struct Answer {
 }
 
 impl Answer {
+    /// A status, what is written and the error line. Its pages do not count, and no bytes of input mend it.
+    pub fn of(alloc: Global, status: u8, out: &[u8], line: &str) -> Result<Answer, AllocError> {
+        Ok(Answer {
+            status,
+            out: out.to_vec(alloc)?,
+            ends: Vec::new(alloc),
+            line: String::from_str(alloc, line)?,
+            mends: false,
+        })
+    }
+
     /// The same where a read fails behind the input: what was read stands, and a fault that was read comes first.
     pub fn unread(self, alloc: Global) -> Result<Answer, AllocError> {
         if !self.mends {

@@ -13,6 +13,8 @@ mod inputs;
 #[cfg(test)]
 mod machine;
 #[cfg(test)]
+mod passes;
+#[cfg(test)]
 mod plain_head;
 #[cfg(test)]
 mod plain_stream;

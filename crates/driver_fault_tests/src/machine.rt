@@ -1,6 +1,6 @@
 //! Jobs that break two rules of the machine at once: the first of a command's refusals counts.
 use crate::answers::Answer;
-use crate::runs::{BY_BYTES, Command, leaves};
+use crate::runs::{BY_BYTES, Command, leaves, words_leave};
 use std::alloc::{AllocError, Global};
 use std::process::Abort;
 use std::test::Fail;
@@ -120,13 +120,8 @@ fn refuses<R: Abort + Threads + Sync>(
     alloc: Global,
     (parts, at, cause): Case,
 ) -> Result<(), Fail> {
-    let wanted = Answer {
-        status: 8,
-        out: Vec::new(alloc),
-        ends: Vec::new(alloc),
-        line: format!(in alloc; "job: offset {at}: {cause}\n")?,
-        mends: false,
-    };
+    let line = format!(in alloc; "job: offset {at}: {cause}\n")?;
+    let wanted = Answer::of(alloc, 8, b"", &line)?;
     let job = joined(alloc, parts)?;
     leaves(rt, alloc, Command::Dots, &job, BY_BYTES, &wanted)
 }
@@ -138,6 +133,69 @@ fn the_machine_refuses_in_its_order(rt: HostRuntime) -> Result<(), Fail> {
     }
     for case in OTHERS {
         refuses(&rt, rt.alloc(), case)?;
+    }
+    Ok(())
+}
+
+// The commands before the first raster of a black page of six rows.
+const PROLOGUE: &[u8] =
+    b"\x1B@\x1B(G\x01\x00\x01\x1B(U\x01\x00\x05\x1B(i\x01\x00\x00\x1BU\x01\x1B(C\x02\x00\x0C\x00\
+    \x1B(c\x04\x00\x00\x00\x0C\x00\x1B(V\x02\x00\x00\x00";
+
+// A row of eight dots by one nozzle, and one without a dot.
+const ROW: &[u8] = b"\x1B.\x00\x0A\x0A\x01\x08\x00\xFF";
+
+const BLANK_ROW: &[u8] = b"\x1B.\x00\x0A\x0A\x01\x08\x00\x00";
+
+const TWO_ROWS: &[u8] = b"\x1B.\x00\x0A\x0A\x02\x08\x00\xFF\xFF";
+
+// Down to the bottom margin.
+const TO_MARGIN: &[u8] = b"\x1B(V\x02\x00\x0C\x00";
+
+// A job, by its parts, and the status and the error line that playing it on the printer `tiny1` leaves.
+type Played = (&'static [&'static [u8]], u8, &'static str);
+
+const PLAYED: [Played; 11] = [
+    (&[ROW], 8, "job: offset 0: NotGraphics\n"),
+    (&[GRAPHICS, ROW], 8, "job: offset 6: NoUnit\n"),
+    (&[GRAPHICS, UNIT, ROW], 8, "job: offset 12: NoMargins\n"),
+    (&[PROLOGUE, TWO_ROWS], 8, "job: offset 46: Rows\n"),
+    (
+        &[
+            PROLOGUE,
+            b"\x1B(V\x02\x00\x04\x00",
+            b"\x1B(V\x02\x00\x02\x00",
+        ],
+        8,
+        "job: offset 53: Backward\n",
+    ),
+    (&[PROLOGUE, ROW, b"\x1B@"], 8, "job: offset 55: Backward\n"),
+    (
+        &[PROLOGUE, b"\x1B$\x01\x00", ROW],
+        8,
+        "job: offset 50: OffGrid\n",
+    ),
+    (
+        &[PROLOGUE, b"\x1B(v\x02\x00\x0D\x00"],
+        8,
+        "job: offset 46: OffSheet\n",
+    ),
+    (&[PROLOGUE, TO_MARGIN, ROW], 8, "job: offset 53: OffSheet\n"),
+    (&[PROLOGUE, TO_MARGIN, BLANK_ROW], 0, ""),
+    (
+        &[PROLOGUE, ROW, RETURN, ROW],
+        8,
+        "job: offset 56: Overprint\n",
+    ),
+];
+
+#[test]
+fn a_head_of_one_nozzle_refuses_each_bad_place(rt: HostRuntime) -> Result<(), Fail> {
+    let (alloc, words) = (rt.alloc(), ["dots", "profile=tiny1"]);
+    for (parts, status, line) in PLAYED {
+        let job = joined(alloc, parts)?;
+        let wanted = Answer::of(alloc, status, b"", line)?;
+        words_leave(&rt, alloc, &words, &job, BY_BYTES, &wanted)?;
     }
     Ok(())
 }

@@ -1,6 +1,6 @@
 //! Gates that workers enter with their tiles.
-use crate::fixture::{hashes_to, leaves, one_page};
-use driver_core::{Gate, OpenGate, Place};
+use crate::fixture::{hashes_to, one_page};
+use driver_core::{Gate, Place};
 use driver_fixtures::{Left, no_files, plain, roomy, run_with};
 use std::alloc::Global;
 use std::sync::atomic::{AtomicU64, Ordering};
@@ -56,9 +56,8 @@ fn two_tiles_are_inside_the_gate_at_once(rt: HostRuntime) -> Result<(), Fail> {
         came: AtomicU64::new(0),
         met: AtomicU64::new(0),
     };
-    let by_two = print_through(&rt, alloc, "workers=2", page.clone()?, &gate)?;
-    let alone = print_through(&rt, alloc, "workers=1", page, &OpenGate)?;
-    leaves(&rt, &by_two, (0, alone.out.bytes(), b""));
+    let by_two = print_through(&rt, alloc, "workers=2", page, &gate)?;
+    hashes_to(&rt, &by_two, 3192, 0xDFF3_6ADB_6A87_5A1D);
     assert_eq!(rt; gate.met.load(Ordering::SeqCst), 2);
     Ok(())
 }

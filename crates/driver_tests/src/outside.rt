@@ -114,15 +114,19 @@ fn a_sink_of_short_writes_gets_the_job(rt: HostRuntime) -> Result<(), Fail> {
     Ok(())
 }
 
-// What a run over the first page without its last byte leaves, with room for this much of an error line.
-fn left_deaf<R: Threads + Sync>(rt: &R, alloc: Global, room: usize) -> Result<Left, Fail> {
-    let bytes = two_pages(alloc)?;
-    let mut input = plain(alloc, prefix(&bytes, GREY_STREAM - 1).to_vec(alloc)?);
-    let (mut out, mut err) = (roomy(alloc)?, sink(alloc, room)?);
+// What these words leave with this sink for the error line.
+fn left_with<R: Threads + Sync>(
+    rt: &R,
+    alloc: Global,
+    texts: &[&str],
+    mut input: MemSource,
+    mut err: MemSink,
+) -> Result<Left, Fail> {
+    let mut out = roomy(alloc)?;
     let status = run(
         rt,
         alloc,
-        &words(alloc, &PRINT)?,
+        &words(alloc, texts)?,
         &mut input,
         &mut out,
         &mut err,
@@ -131,6 +135,13 @@ fn left_deaf<R: Threads + Sync>(rt: &R, alloc: Global, room: usize) -> Result<Le
         &mut Vec::new(alloc),
     );
     Ok(Left { status, out, err })
+}
+
+// What a run over the first page without its last byte leaves, with room for this much of an error line.
+fn left_deaf<R: Threads + Sync>(rt: &R, alloc: Global, room: usize) -> Result<Left, Fail> {
+    let bytes = two_pages(alloc)?;
+    let input = plain(alloc, prefix(&bytes, GREY_STREAM - 1).to_vec(alloc)?);
+    left_with(rt, alloc, &PRINT, input, sink(alloc, room)?)
 }
 
 #[test]
@@ -143,5 +154,16 @@ fn a_deaf_error_sink_leaves_the_status(rt: HostRuntime) -> Result<(), Fail> {
     for (room, line) in CASES {
         leaves(&rt, &left_deaf(&rt, rt.alloc(), room)?, (3, b"", line));
     }
+    Ok(())
+}
+
+#[test]
+fn an_error_sink_that_fails_its_first_call_leaves_the_status(rt: HostRuntime) -> Result<(), Fail> {
+    let alloc = rt.alloc();
+    let one = vec![in alloc; 1]?;
+    let input = MemSource::make(b"RaS".to_vec(alloc)?, one.clone()?, Vec::new(alloc));
+    let err = MemSink::make(alloc, 100, one.clone()?, one)?;
+    let left = left_with(&rt, alloc, &["print", "profile=tiny"], input, err)?;
+    leaves(&rt, &left, (3, b"", b""));
     Ok(())
 }

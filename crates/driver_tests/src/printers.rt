@@ -5,8 +5,8 @@ use std::test::Fail;
 // The text of the simplest printer.
 const PLAIN: &[u8] = b"escp2-profile 1\nhdpi=360\nvdpi=360\nnozzles=1\npitch=1\ninks=k\n";
 
-// Three columns of one line, below a top margin of one row.
-const MOVED_JOB: [u8; 63] = [
+/// The job of three columns of one line, below a top margin of one row.
+pub const MOVED_JOB: [u8; 63] = [
     0x1B, 0x40, 0x1B, 0x28, 0x47, 1, 0, 1, 0x1B, 0x28, 0x55, 1, 0, 5, 0x1B, 0x28, 0x69, 1, 0, 0,
     0x1B, 0x55, 1, 0x1B, 0x28, 0x43, 2, 0, 4, 0, 0x1B, 0x28, 0x63, 4, 0, 2, 0, 4, 0, 0x1B, 0x28,
     0x56, 2, 0, 0, 0, 0x1B, 0x72, 0, 0x0D, 0x1B, 0x2E, 1, 10, 10, 1, 3, 0, 0, 0xE0, 0x0C, 0x1B,
@@ -74,6 +74,7 @@ const BY_TEXT: Case = Case {
     ..BY_NAME
 };
 
+// An independent program that follows the definitions gives the same jobs.
 #[test]
 fn each_value_of_a_printer_has_its_place_in_the_job(rt: HostRuntime) -> Result<(), Fail> {
     const CASES: [Case; 5] = [

@@ -1,8 +1,8 @@
 //! Words and profiles that are refused, and profiles that are shown.
 use crate::fixture::{
-    Case, GREY, GivenPage, NO_PAGE, Output, Refusal, leaves, left_by, refuses_all, run_bytes,
-    stream_of, try_all,
+    Case, GREY, GivenPage, NO_PAGE, Output, Refusal, leaves, refuses_all, run_bytes, try_all,
 };
+use crate::printers::MOVED_JOB;
 use driver_fixtures::{no_files, plain, roomy, run_over, sink};
 use std::alloc::Global;
 use std::test::Fail;
@@ -268,24 +268,44 @@ const CUT_PAGE: GivenPage = GivenPage {
     ..GREY
 };
 
+const CUT_WHOLE: &[u8] =
+    b"escp2-profile 2\nhdpi=360\nvdpi=360\nnozzles=1\npitch=1\ninks=k\nblack_start=0\nlimit_k=255\nlimit_c=255\n\
+    limit_m=255\nlimit_y=255\nleft=1\nright=0\ntop=1\nbottom=0\n\
+    curve_k=0,16,32,48,64,80,96,112,128,144,160,176,192,208,224,240,256\n\
+    curve_c=0,16,32,48,64,80,96,112,128,144,160,176,192,208,224,240,256\n\
+    curve_m=0,16,32,48,64,80,96,112,128,144,160,176,192,208,224,240,256\n\
+    curve_y=0,16,32,48,64,80,96,112,128,144,160,176,192,208,224,240,256\n";
+
 #[test]
 fn a_version_1_text_migrates(rt: HostRuntime) -> Result<(), Fail> {
     const PRINTED: Case = Case {
         words: &["print", "profile=m1.txt"],
         file: &[CUT],
         pages: &[CUT_PAGE],
+        out: Output::Parts(&[&MOVED_JOB]),
         ..NO_PAGE
     };
-    let alloc = rt.alloc();
-    let shown = run_bytes(&rt, alloc, SHOWN.words, &[CUT], Vec::new(alloc))?;
-    let text = shown.out.bytes();
-    assert!(rt; text.starts_with(b"escp2-profile 2\n"));
-    let stream = stream_of(alloc, &[CUT_PAGE])?;
-    let migrated = run_bytes(&rt, alloc, PRINTED.words, &[text], stream)?;
-    let job = left_by(&rt, alloc, &PRINTED)?;
-    assert_eq!(rt; (migrated.all(), job.out.bytes().len()), (job.all(), 63));
-    Ok(())
+    const CASES: [Case; 3] = [
+        Case {
+            file: &[CUT],
+            out: Output::Parts(&[CUT_WHOLE]),
+            ..SHOWN
+        },
+        PRINTED,
+        Case {
+            file: &[CUT_WHOLE],
+            ..PRINTED
+        },
+    ];
+    try_all(&rt, rt.alloc(), &CASES)
 }
+
+// A sheet of one row without a dot.
+const BLANK_JOB: [u8; 49] = [
+    0x1B, 0x40, 0x1B, 0x28, 0x47, 1, 0, 1, 0x1B, 0x28, 0x55, 1, 0, 5, 0x1B, 0x28, 0x69, 1, 0, 0,
+    0x1B, 0x55, 1, 0x1B, 0x28, 0x43, 2, 0, 2, 0, 0x1B, 0x28, 0x63, 4, 0, 0, 0, 2, 0, 0x1B, 0x28,
+    0x56, 2, 0, 0, 0, 0x0C, 0x1B, 0x40,
+];
 
 #[test]
 fn a_tone_below_the_threshold_leaves_a_blank_page(rt: HostRuntime) -> Result<(), Fail> {
@@ -296,15 +316,14 @@ fn a_tone_below_the_threshold_leaves_a_blank_page(rt: HostRuntime) -> Result<(),
         body: &[0, 0, 0],
         ..GREY
     };
-    const PRINTED: Case = Case {
+    const CASES: [Case; 1] = [Case {
         words: &["print", "profile=m1.txt"],
         file: &[HALF],
         pages: &[BLACK_PIXEL],
+        out: Output::Parts(&[&BLANK_JOB]),
         ..NO_PAGE
-    };
-    let left = left_by(&rt, rt.alloc(), &PRINTED)?;
-    assert_eq!(rt; (left.status, left.out.bytes().len()), (0, 49));
-    Ok(())
+    }];
+    try_all(&rt, rt.alloc(), &CASES)
 }
 
 // The text of a profile followed by a comment, of this many bytes in all.

@@ -201,6 +201,7 @@ fn every_cut_in_the_second_page_gives_the_job(rt: HostRuntime) -> Result<(), Fai
     Ok(())
 }
 
+// An independent program that follows the definitions gives the same job.
 #[test]
 fn a_stream_byte_by_byte_gives_the_job(rt: HostRuntime) -> Result<(), Fail> {
     let alloc = rt.alloc();
@@ -253,6 +254,7 @@ const WIDE_BODY: [u8; 129] = [
     0, 127, 0, 127, 0, 127, 0, 126, 0,
 ];
 
+// An independent program that follows the definitions gives the same job.
 #[test]
 fn a_page_of_the_greatest_width_is_printed(rt: HostRuntime) -> Result<(), Fail> {
     const CASES: [Case; 2] = [

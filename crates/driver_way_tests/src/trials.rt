@@ -326,7 +326,19 @@ macro_rules! a4 {
     };
 }
 
-const LARGE: [Case; 6] = [
+const LARGE: [Case; 8] = [
+    Case {
+        words: a4!("workers=1"),
+        status: 0,
+        out: PLAIN,
+        line: b"",
+    },
+    Case {
+        words: a4!("workers=4"),
+        status: 0,
+        out: PLAIN,
+        line: b"",
+    },
     Case {
         words: a4!("workers=1"),
         status: 0,

@@ -1,0 +1,101 @@
+//! A black page that is printed in two passes: every prefix of it, every failing read and every failing write.
+use crate::answers::Answer;
+use crate::runs::{BY_BYTES, Calls, call_behind, words_leave};
+use driver_fixtures::{BLACK_BODY, add_page, begin, prefix};
+use known_jobs::TINY_JOB;
+use pwg_header::Kind;
+use std::alloc::{AllocError, Global};
+use std::process::Abort;
+use std::test::Fail;
+use std::thread::Threads;
+
+// The bytes of a stream of one black page.
+const STREAM: usize = 1803;
+
+// A stream of two black pages.
+fn two_pages(alloc: Global) -> Result<Vec<u8>, AllocError> {
+    let mut bytes = begin(alloc)?;
+    add_page(&mut bytes, Kind::Gray8, (8, 6), &BLACK_BODY)?;
+    add_page(&mut bytes, Kind::Gray8, (8, 6), &BLACK_BODY)?;
+    Ok(bytes)
+}
+
+// The status, the output and the error line that a run leaves.
+type Wanted = (u8, &'static [u8], &'static str);
+
+// Asserts what printing by the printer `tiny` leaves.
+fn prints<R: Abort + Threads + Sync>(
+    rt: &R,
+    alloc: Global,
+    bytes: &[u8],
+    calls: Calls,
+    (status, out, line): Wanted,
+) -> Result<(), Fail> {
+    let wanted = Answer::of(alloc, status, out, line)?;
+    words_leave(rt, alloc, &["print", "profile=tiny"], bytes, calls, &wanted)
+}
+
+// What the first bytes of the stream leave.
+fn answer_to_prefix(count: usize) -> Wanted {
+    match count {
+        0..=3 => (3, b"", "input: page 0 line 0: BadSync\n"),
+        4 => (0, b"", ""),
+        5..=1799 => (3, b"", "input: page 1 line 0: Truncated\n"),
+        1800..=1802 => (3, b"", "input: page 1 line 1: Truncated\n"),
+        _ => (0, &TINY_JOB, ""),
+    }
+}
+
+#[test]
+fn every_prefix_of_a_woven_page_has_its_answer(rt: HostRuntime) -> Result<(), Fail> {
+    let whole = two_pages(rt.alloc())?;
+    for count in 0..STREAM + 1 {
+        let bytes = prefix(&whole, count);
+        prints(&rt, rt.alloc(), bytes, BY_BYTES, answer_to_prefix(count))?;
+    }
+    Ok(())
+}
+
+// What the stream leaves where the read behind so many bytes fails.
+fn answer_to_read(taken: usize) -> Wanted {
+    let out: &'static [u8] = if taken < STREAM { b"" } else { &TINY_JOB };
+    (4, out, "read failed\n")
+}
+
+// Asserts what a stream leaves where the read behind so many bytes fails.
+fn try_read<R: Abort + Threads + Sync>(
+    rt: &R,
+    alloc: Global,
+    bytes: &[u8],
+    taken: usize,
+) -> Result<(), Fail> {
+    let calls = Calls {
+        failing_read: call_behind(taken),
+        ..BY_BYTES
+    };
+    prints(rt, alloc, bytes, calls, answer_to_read(taken))
+}
+
+#[test]
+fn every_failing_read_of_a_woven_page_is_status_four(rt: HostRuntime) -> Result<(), Fail> {
+    let whole = two_pages(rt.alloc())?;
+    for taken in 0..STREAM + 1 {
+        try_read(&rt, rt.alloc(), prefix(&whole, STREAM), taken)?;
+    }
+    // the first byte of a second page
+    try_read(&rt, rt.alloc(), &whole, STREAM)
+}
+
+#[test]
+fn every_failing_write_of_a_woven_page_leaves_its_prefix(rt: HostRuntime) -> Result<(), Fail> {
+    let whole = two_pages(rt.alloc())?;
+    for written in 0..TINY_JOB.len() {
+        let calls = Calls {
+            failing_write: call_behind(written),
+            ..BY_BYTES
+        };
+        let wanted = (5, prefix(&TINY_JOB, written), "write failed: page 1\n");
+        prints(&rt, rt.alloc(), prefix(&whole, STREAM), calls, wanted)?;
+    }
+    Ok(())
+}
