@@ -9,8 +9,6 @@ mod halftoner;
 #[cfg(test)]
 mod lengths;
 #[cfg(test)]
-mod raw_rows;
-#[cfg(test)]
 mod reader;
 #[cfg(test)]
 mod separator;
