@@ -22,11 +22,11 @@ use tile_shape::Shape;
 // The most bands of 32 rows that are held.
 const MOST_BANDS: u32 = 8;
 
-// About as many amounts as the second cache of a processor holds.
+// About as many amounts as have their lines in the second cache of a processor.
 const NEAR_AMOUNTS: u32 = 524_288;
 
 /// How many rows of a window are diffused together, while as many are left. For each worker there are as many bands as
-/// have their amounts still in its processor's cache when it comes to them, at least one. Several workers diffuse half of
+/// have their lines still in its processor's cache when it comes to them, at least one. Several workers diffuse half of
 /// the bands that are held, while the caller fills the other half.
 pub(crate) fn slab_rows(width: u32, height: u32, inks: u8, workers: u8) -> u32
     requires size { IsSize width height inks }
