@@ -9,6 +9,11 @@
 //! count and leave no dots. `finish`, once as many lines have come as the page has, gives planes that have exactly the
 //! dots of the page's halftone (`HasDots`). After `lines` has answered `Memory`, each later call of it does too
 //! (`for_good`).
+//!
+//! Its two parts serve who reads lines while slabs are diffused. A `Filler` takes lines into a slab until that is full
+//! (`full`), and then goes on to the rows below it, in the same slab or in a spare one; what it says of the lines holds
+//! whatever the rows before the slab are diffused to (`PutsLines`). A `Diffuser` has the dots of the rows before it, and
+//! diffuses a full slab beside an errand of the caller.
 #![tactic(auto)]
 
 mod diffuser;
