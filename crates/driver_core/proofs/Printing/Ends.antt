@@ -40,7 +40,7 @@ use Rattle.driver_core.specs.Printing.Charging.{RefusesPage}
 use Rattle.driver_core.specs.Outside.{Meters, Outside}
 use Rattle.driver_core.specs.Printing.Pages.{BeginsStream, IsStream, TakesPages, job_bytes}
 use Rattle.driver_core.specs.Printing.Outcome.{CountsPages, PrintedOutcome, PrintsSome, PrintsTaken, stream_answer}
-use Rattle.halftone_reader.proofs.PageSteps.{EndsSo}
+use Rattle.halftone_reader.specs.SoFar.{EndsSo}
 use Rattle.driver_core.proofs.Printing.Counting.{none_counted}
 use Rattle.driver_core.proofs.Printing.StreamSteps.{StreamRead, StreamSoFar, with_pages, pages-first}
 

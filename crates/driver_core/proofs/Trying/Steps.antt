@@ -28,7 +28,7 @@ use Rattle.driver_core.specs.Trying.Outcome.{stream_read}
 use Rattle.driver_core.proofs.Printing.Ends.{stream_ends, stream_faults}
 use Rattle.diffusion_kernel.specs.Tables.{table_of}
 use Rattle.driver_answer.specs.declared.answer.Answer.{Answer}
-use Rattle.halftone_reader.proofs.PageSteps.{EndsSo}
+use Rattle.halftone_reader.specs.SoFar.{EndsSo}
 use Rattle.job_words.specs.declared.reading.Job.{Job}
 use Rattle.pwg_definitions.specs.declared.pages.Wanted.{Wanted}
 use Rattle.pwg_definitions.specs.Stream.StreamEnd.{Done, Fault}
