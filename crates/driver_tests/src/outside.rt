@@ -160,9 +160,8 @@ fn a_deaf_error_sink_leaves_the_status(rt: HostRuntime) -> Result<(), Fail> {
 #[test]
 fn an_error_sink_that_fails_its_first_call_leaves_the_status(rt: HostRuntime) -> Result<(), Fail> {
     let alloc = rt.alloc();
-    let one = vec![in alloc; 1]?;
-    let input = MemSource::make(b"RaS".to_vec(alloc)?, one.clone()?, Vec::new(alloc));
-    let err = MemSink::make(alloc, 100, one.clone()?, one)?;
+    let input = MemSource::make(b"RaS".to_vec(alloc)?, vec![in alloc; 1]?, Vec::new(alloc));
+    let err = MemSink::make(alloc, 100, vec![in alloc; 1]?, vec![in alloc; 1]?)?;
     let left = left_with(&rt, alloc, &["print", "profile=tiny"], input, err)?;
     leaves(&rt, &left, (3, b"", b""));
     Ok(())
