@@ -2,44 +2,46 @@
 """Draws which stroke of a head fires which row and column, as an SVG: the jobs side by side, each stroke a picture of
 the window's dots of its own, those that it fires filled.
 
-    strokes.py COLUMNS ROWS JOB .. > FILE.svg
+    strokes.py COLUMNS ROWS JOB LISTING JOB LISTING .. > FILE.svg
 
-COLUMNS and ROWS are those of the window. The jobs are of one ink and begin with a page; what is drawn is read from
-their commands, as `page.py` reads them.
+COLUMNS and ROWS are those of the window. The jobs are of one ink and begin with a page. The strokes of a job are those
+of its listing, which `list` writes: where each raster begins, how many rows it has, and how far the head goes down. The
+dots of the rows are read from the job at these places.
 """
-import struct
 import sys
 
-from page import commands, read_row
+from page import read_row
+
+# bytes of a raster before its rows
+HEADER = 8
 
 DOT, GAP, BETWEEN, LEFT, TOP = 8, 12, 40, 60, 40
 INK, PAPER, LINE, TEXT = "#1f2933", "#fdf6e3", "#d0c8b0", "#52606d"
 
 
-def strokes(job):
+def strokes(job, listing):
     """The strokes of the first sheet: the dots of each, as columns and rows of the window."""
     y, found = 0, []
-    steps = commands(job)
-    name, numbers, at = next(steps)
-    while name != "\f":
-        send = None
-        if name == "(v":
-            y += struct.unpack("<H", numbers)[0] * 5
-        elif name == ".":
-            dots, send = stroke(job, at, numbers, y)
-            found.append(dots)
-        name, numbers, at = steps.send(send)
+    for line in listing:
+        offset, name, *numbers = line.split()
+        if name == "EJECT":
+            break
+        if name == "DOWNBY":
+            y += int(numbers[0]) * 5
+        elif name == "RASTER":
+            found.append(stroke(job, int(offset) + HEADER, [int(number) for number in numbers], y))
     return shifted(found)
 
 
 def stroke(job, at, numbers, y):
-    """The dots of a raster by column and row, and where it ends; rows are as far apart as columns."""
-    columns, dots = numbers[4] + 256 * numbers[5], []
-    for nozzle in range(numbers[3]):
+    """The dots of a raster whose rows begin at a place, by column and row; rows are as far apart as columns."""
+    _, down, across, nozzles, columns, _ = numbers
+    dots = []
+    for nozzle in range(nozzles):
         row, at = read_row(job, at, (columns + 7) // 8)
-        place = (y + nozzle * numbers[1]) // numbers[2]
+        place = (y + nozzle * down) // across
         dots += [(x, place) for x in range(columns) if row[x // 8] & 128 >> x % 8]
-    return dots, at
+    return dots
 
 
 def shifted(found):
@@ -64,8 +66,8 @@ def panel(left, dots, columns, rows):
 def draw(columns, rows, jobs):
     left, out = LEFT, [text(LEFT - 8, TOP - 8, "end", "stroke")]
     out += [text(LEFT - 8, TOP + row * DOT + 8, "end", f"row {row}") for row in range(0, rows, 2)]
-    for job in jobs:
-        for number, dots in enumerate(strokes(job)):
+    for job, listing in jobs:
+        for number, dots in enumerate(strokes(job, listing)):
             out.append(text(left + columns * DOT // 2, TOP - 8, "middle", number))
             out += panel(left, dots, columns, rows)
             left += columns * DOT + GAP
@@ -78,13 +80,13 @@ def draw(columns, rows, jobs):
 
 def main(words):
     jobs = []
-    for name in words[2:]:
-        with open(name, "rb") as file:
-            jobs.append(file.read())
+    for name, listed in zip(words[2::2], words[3::2]):
+        with open(name, "rb") as job, open(listed) as listing:
+            jobs.append((job.read(), listing.readlines()))
     print(draw(int(words[0]), int(words[1]), jobs))
 
 
 if __name__ == "__main__":
-    if len(sys.argv) < 4:
+    if len(sys.argv) < 5 or len(sys.argv) % 2 == 0:
         sys.exit(__doc__)
     main(sys.argv[1:])
