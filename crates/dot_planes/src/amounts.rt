@@ -19,6 +19,9 @@ impl TileAmounts {
     }
 }
 
+/// Room for the bytes of a tile's pixels as they were read: at most 256 of each of its 32 rows.
+pub type TileBytes = [u8; 8192];
+
 /// Rows of amounts of inks, from which tiles are gathered. Contracts see a table of amounts, and not how these are kept.
 pub trait TileRows {
     ghost use Rattle.dot_planes.specs.Gathered.{HasTile, shape_of};
@@ -38,8 +41,9 @@ pub trait TileRows {
     fn inks(&self) -> u8
         ensures { result ≡ (table self.now).inks };
 
-    /// Sets a tile's amounts in every ink, wherever the window has a pixel of it. All else may become anything.
-    fn gather(&self, place: Place, out: &mut TileAmounts)
+    /// Sets a tile's amounts in every ink, wherever the window has a pixel of it. All else, and the bytes, may become
+    /// anything.
+    fn gather(&self, place: Place, bytes: &mut TileBytes, out: &mut TileAmounts)
         ensures tile { HasTile (table self.now) place out.new.inks }
         ensures few { (table self.now).inks ≤ 4 };
 }

@@ -3,7 +3,7 @@ ghost use Rattle.dot_planes.specs.Gathered.{GathersRow, HasInks, HasPixels, IsWh
 ghost use Rattle.dot_planes.specs.Tables.{amount};
 ghost use Rattle.std.specs.Prelude.{length, slice_index, true, ℕ, ◌*◌, ◌+◌, ◌-◌, ◌<◌, ◌≡◌, ◌≤◌, ◌⊎◌};
 
-use crate::amounts::{TileAmounts, TileRows};
+use crate::amounts::{TileAmounts, TileBytes, TileRows};
 use crate::ink_rows::InkRows;
 use tile_shape::{Place, Shape};
 
@@ -109,7 +109,8 @@ impl TileRows for InkRows {
         self.inks
     }
 
-    fn gather(&self, place: Place, out: &mut TileAmounts) {
+    fn gather(&self, place: Place, bytes: &mut TileBytes, out: &mut TileAmounts) {
+        let _ = bytes;
         for ink in 0..self.inks {
             self.gather_ink(ink, place, &mut out.inks[usize::from(ink)]);
         }

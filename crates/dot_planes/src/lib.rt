@@ -26,7 +26,7 @@ mod seen;
 mod tile_rows;
 mod tiles;
 
-pub use amounts::{TileAmounts, TileRows};
+pub use amounts::{TileAmounts, TileBytes, TileRows};
 pub use bit_rows::has_dot;
 pub use ink_rows::InkRows;
 pub use planes::Planes;

@@ -66,7 +66,7 @@ pub fn read_page<R: Threads + Sync, S: Source, G: Gate + Sync>(
     let Some(form) = reader.next_page(s, profile.wanted())? else {
         return Ok(None);
     };
-    let mut filler = Filler::begin(alloc, profile, form, team.workers)?;
+    let mut filler = Filler::begin(alloc, profile, form)?;
     let mut diffuser = Diffuser::begin(alloc, profile, form, kernel)?;
     let mut spare = filler.spare(alloc, team.workers)?;
     fill(&mut filler, reader, s)?;

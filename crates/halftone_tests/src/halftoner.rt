@@ -79,7 +79,7 @@ fn planes_of<R: Threads + Sync>(
     if p.check().is_err() || !is_taken(p, f) || f.bytes_per_line > LONGEST as u32 {
         return None;
     }
-    let mut h = Halftoner::begin(alloc, p, f, kernel, workers).ok()?;
+    let mut h = Halftoner::begin(alloc, p, f, kernel).ok()?;
     let team = Team {
         threads: rt,
         workers,
@@ -162,7 +162,7 @@ fn rows_with_dots<R: Threads + Sync>(rt: &R, alloc: Global, height: u32) -> Opti
     if p.check().is_err() || !is_taken(&p, f) || f.bytes_per_line != 1 || f.height != height {
         return None;
     }
-    let mut h = Halftoner::begin(alloc, &p, f, Kernel::Floyd, 1).ok()?;
+    let mut h = Halftoner::begin(alloc, &p, f, Kernel::Floyd).ok()?;
     let team = Team {
         threads: rt,
         workers: 1,

@@ -59,17 +59,16 @@ fn row_of_line(window: Window, line: u32) -> Option<u32>
 }
 
 impl Filler {
-    /// Begins the rows of a page whose slabs have work for this many workers, and takes the memory of one slab.
-    pub fn begin(alloc: Global, p: &Profile, f: PageForm, workers: u8) -> Result<Filler, Memory>
+    /// Begins the rows of a page, and takes the memory of one slab.
+    pub fn begin(alloc: Global, p: &Profile, f: PageForm) -> Result<Filler, Memory>
         requires checked { IsOk (check p.now) }
         requires wanted { IsWanted (wanted_by p.now) f }
-        requires some_workers { 1 ≤ workers }
         ensures page { IfOk result (λ h. (h.profile ≡ p.now) × (h.form ≡ f)) }
         ensures none { IfOk result (λ h. (h.count ≡ 0) × (h.first ≡ 0)) }
         ensures rows { IfOk result HoldsRows }
     {
         let window = p.window(f);
-        let slab = first_slab(alloc, Separator::make(p, f.kind, window), workers)?;
+        let slab = first_slab(alloc, Separator::make(p, f.kind, window))?;
         Ok(Filler {
             profile: *p,
             form: f,

@@ -45,23 +45,16 @@ impl Model for Halftoner {
 }
 
 impl Halftoner {
-    /// Begins a page whose slabs have work for this many workers, and takes the memory that the page itself needs.
-    pub fn begin(
-        alloc: Global,
-        p: &Profile,
-        f: PageForm,
-        k: Kernel,
-        workers: u8,
-    ) -> Result<Halftoner, Memory>
+    /// Begins a page, and takes the memory that the page itself needs.
+    pub fn begin(alloc: Global, p: &Profile, f: PageForm, k: Kernel) -> Result<Halftoner, Memory>
         requires checked { IsOk (check p.now) }
         requires wanted { IsWanted (wanted_by p.now) f }
-        requires some_workers { 1 ≤ workers }
         ensures page { IfOk result (λ h. (h.profile ≡ p.now) × (h.form ≡ f) × (h.kernel ≡ k)) }
         ensures count { IfOk result (λ h. h.count ≡ 0) }
         ensures stands { IfOk result (λ h. StandsFor h []) }
         ensures working { IfOk result (λ h. h.failed ≡ false) }
     {
-        let filler = Filler::begin(alloc, p, f, workers)?;
+        let filler = Filler::begin(alloc, p, f)?;
         let diffuser = Diffuser::begin(alloc, p, f, k)?;
         Ok(Halftoner { filler, diffuser })
     }

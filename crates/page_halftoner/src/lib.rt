@@ -24,6 +24,3 @@ mod slabs;
 pub use diffuser::Diffuser;
 pub use filler::Filler;
 pub use halftoner::Halftoner;
-
-#[cfg(test)]
-mod tests;

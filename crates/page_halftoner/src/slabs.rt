@@ -19,52 +19,17 @@ use std::alloc::Global;
 use tile_border::TopEdges;
 use tile_shape::Shape;
 
-// The most bands of 32 rows that are held.
-const MOST_BANDS: u32 = 8;
+// How many rows of a window are diffused together, while as many are left.
+const SLAB_ROWS: u32 = 256;
 
-// About as many amounts as have their lines in the second cache of a processor.
-const NEAR_AMOUNTS: u32 = 524_288;
-
-/// How many rows of a window are diffused together, while as many are left. For each worker there are as many bands as
-/// have their lines still in its processor's cache when it comes to them, at least one. Several workers diffuse half of
-/// the bands that are held, while the caller fills the other half.
-pub(crate) fn slab_rows(width: u32, height: u32, inks: u8, workers: u8) -> u32
-    requires size { IsSize width height inks }
-    requires some_workers { 1 ≤ workers }
-    ensures some { 1 ≤ result }
-    ensures most { result ≤ 256 }
-    ensures inside { result ≤ height }
-    ensures bands { result < height → result % 32 ≡ 0 }
-{
-    let near = NEAR_AMOUNTS / (32 * width * u32::from(inks));
-    let bands = u32::from(workers) * near.max(1);
-    let most = if workers == 1 {
-        MOST_BANDS
-    } else {
-        MOST_BANDS / 2
-    };
-    height.min(32 * bands.min(most))
-}
-
-/// Room for the first rows of a separator's window, with work for this many workers.
-pub(crate) fn first_slab(
-    alloc: Global,
-    separator: Separator,
-    workers: u8,
-) -> Result<RawRows, Memory>
-    requires size { let w = separator.window in IsSize w.width w.height (length (inks_of separator.inks)) }
-    requires workers { 1 ≤ workers }
+/// Room for the first rows of a separator's window.
+pub(crate) fn first_slab(alloc: Global, separator: Separator) -> Result<RawRows, Memory>
+    requires { let w = separator.window in IsSize w.width w.height (length (inks_of separator.inks)) }
     ensures separator { IfOk result (λ slab. slab.separator ≡ separator) }
     ensures slab { let w = separator.window in
         IfOk result (λ slab. IsFirstSlab w.width w.height (length (inks_of separator.inks)) (amounts_of slab)) }
 {
-    let window = separator.window();
-    let rows = slab_rows(
-        window.width,
-        window.height,
-        separator.inks().count(),
-        workers,
-    );
+    let rows = separator.window().height.min(SLAB_ROWS);
     let slab = RawRows::make(alloc, separator, rows)?;
     Ok(slab)
 }

@@ -17,7 +17,7 @@ const MOST_ROOM: u64 = 8 << 20;
 const LEAST_STROKES: u32 = 4;
 
 /// In how many batches the strokes of a page are coded, where there is room.
-const BATCHES: u64 = 8;
+const BATCHES: u64 = 4;
 
 /// How so many strokes are cut for these workers, where a stroke takes so many bytes at most. `None` says that one
 /// worker does as well: there are few strokes, or no room for two of them at once.

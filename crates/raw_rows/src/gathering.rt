@@ -11,7 +11,7 @@ ghost use Rattle.separation_definitions.specs.Amounts.{amount as amount_of, pixe
 ghost use Rattle.std.specs.Prelude.{Some, length, slice_get, ℕ, ◌+◌, ◌<◌, ◌≡◌, ◌≤◌};
 
 use crate::kept::RawRows;
-use dot_planes::{TileAmounts, TileRows};
+use dot_planes::{TileAmounts, TileBytes, TileRows};
 use tile_shape::{Place, Shape};
 
 impl RawRows {
@@ -88,9 +88,9 @@ impl TileRows for RawRows {
         self.separator.inks().count()
     }
 
-    fn gather(&self, place: Place, out: &mut TileAmounts) {
+    fn gather(&self, place: Place, bytes: &mut TileBytes, out: &mut TileAmounts) {
         if self.has_all(place) {
-            self.gather_whole(place, out);
+            self.gather_whole(place, bytes, out);
         } else {
             self.gather_cut(place, out);
         }

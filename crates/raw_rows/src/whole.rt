@@ -8,12 +8,9 @@ ghost use Rattle.std.specs.Prelude.{true, ◌+◌, ◌<◌, ◌≡◌, ◌≤◌
 
 use crate::kept::RawRows;
 use crate::lines::put;
-use dot_planes::TileAmounts;
+use dot_planes::{TileAmounts, TileBytes};
 use pwg_definitions::Kind;
 use tile_shape::Place;
-
-// The bytes of a tile's pixels, 256 for each row.
-type TileBytes = [u8; 8192];
 
 // Where 64 pixels of a line stand.
 #[derive(Clone, Copy)]
@@ -94,17 +91,15 @@ impl RawRows {
         put(bytes, 256 * r, &line[part.first..part.first + part.many]);
     }
 
-    // The bytes of a tile. The loop does nothing but copy, so that many of its reads are on their way at once: other
-    // processors' caches may hold the lines.
-    fn tile_bytes(&self, place: Place) -> TileBytes
+    // Copies the bytes of a tile. The loop does nothing but copy, so that many of its reads are on their way at once:
+    // other processors' caches may hold the lines.
+    fn copy_rows(&self, place: Place, bytes: &mut TileBytes)
         requires { IsWhole self.now place }
-        ensures { HasParts self.now place 32 result }
+        ensures { HasParts self.now place 32 bytes.new }
     {
-        let mut bytes = [0; 8192];
         for r in 0..32 {
-            self.copy_row(place, r, &mut bytes);
+            self.copy_row(place, r, bytes);
         }
-        bytes
     }
 
     // Sets row r of a tile in every ink from the tile's bytes.
@@ -121,13 +116,13 @@ impl RawRows {
     }
 
     /// Gathers a tile that has all its pixels: first its bytes, then its amounts.
-    pub(crate) fn gather_whole(&self, place: Place, out: &mut TileAmounts)
+    pub(crate) fn gather_whole(&self, place: Place, bytes: &mut TileBytes, out: &mut TileAmounts)
         requires { IsWhole self.now place }
         ensures { HasTile (table_of self.now) place out.new.inks }
     {
-        let bytes = self.tile_bytes(place);
+        self.copy_rows(place, bytes);
         for r in 0..32 {
-            self.separate_row(&bytes, place, r, out);
+            self.separate_row(bytes, place, r, out);
         }
     }
 }

@@ -20,7 +20,8 @@ use Rattle.board_steps.specs.Content.{cell_of, content_of}
 use Rattle.board_steps.specs.Rule.{setting_of}
 use Rattle.board_steps.specs.declared.rule.Slab.{Slab}
 use Rattle.tile_board.specs.Slabs.{amounts_of, number_in, shape_of, top_edges}
-use Rattle.tile_board.specs.Tasks.{IsTaskOf, handed}
+use Rattle.tile_border.specs.Given.{handed}
+use Rattle.tile_board.specs.Tasks.{IsTaskOf}
 use Rattle.board_core.proofs.Numbers.{place_is, same_parts}
 use Rattle.tile_board.proofs.Numbers.{IsSource}
 

@@ -18,7 +18,8 @@ use Rattle.board_steps.specs.declared.rule.View.{View}
 use Rattle.tile_board.specs.Hand.{hand_at, hand_of, held_number}
 use Rattle.tile_board.specs.Room.{GivesEdge, comes, emptied, gave_view}
 use Rattle.tile_board.specs.Slabs.{amounts_of, number_in, shape_of, top_edges}
-use Rattle.tile_board.specs.Tasks.{IsDoneOf, gave}
+use Rattle.tile_border.specs.Given.{gave}
+use Rattle.tile_board.specs.Tasks.{IsDoneOf}
 use Rattle.tile_board.proofs.Handed.{content-is, gives}
 use Rattle.tile_board.proofs.Hands.{Hand}
 use Rattle.board_core.proofs.Numbers.{number_below}

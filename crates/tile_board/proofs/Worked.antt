@@ -12,7 +12,8 @@ use Rattle.tile_content.proofs.Given.{worked-done}
 use Rattle.tile_board.specs.declared.kinds.Board.{Board}
 use Rattle.tile_board.specs.Board.{slab}
 use Rattle.tile_board.specs.Slabs.{amounts_of, top_edges}
-use Rattle.tile_board.specs.Tasks.{IsDoneOf, IsTaskOf, gave, handed}
+use Rattle.tile_border.specs.Given.{gave, handed}
+use Rattle.tile_board.specs.Tasks.{IsDoneOf, IsTaskOf}
 
 pub worked : {A : Type 0} {G : Ghosts A} (b : Board A G) (task : Task) (done : Done) → IsTaskOf (slab b) task → done.place ≡ task.place
     → HasInks (G.table b.rows.now).inks (gave done)

@@ -1,19 +1,12 @@
 -- Tiles as they are handed out, and as they come back.
 use Rattle.tile_shape.specs.Geometry.{IsTile}
-use Rattle.tile_border.specs.Works.{Border, HasInks}
+use Rattle.tile_border.specs.Given.{gave, handed}
+use Rattle.tile_border.specs.Works.{HasInks}
 use Rattle.tile_border.specs.declared.task.Task.{Task}
 use Rattle.tile_border.specs.declared.task.Done.{Done}
 use Rattle.tile_content.specs.Tiles.{AreDone, AreReady}
 use Rattle.board_steps.specs.declared.rule.Slab.{Slab}
 use Rattle.tile_board.specs.Slabs.{amounts_of, shape_of, top_edges}
-
--- the edges that a task has, and the dots that it is to fill
-abbrev pub handed : Task → Border
-handed t = record { side = t.left; band = t.above; corner = t.corner; bits = t.dots.bits }
-
--- the edges and the dots of a tile that was worked
-abbrev pub gave : Done → Border
-gave d = record { side = d.right; band = d.bottom; corner = d.corner; bits = d.dots.bits }
 
 -- A tile of the slab, with the edges that row-by-row diffusion hands it, in each ink.
 pub record IsTaskOf (b : Slab) (t : Task) : Type 0 where

@@ -11,7 +11,7 @@ use crate::kinds::{Board, Claim, Pass};
 use crate::room::{DOTS, slot_of};
 use board_steps::{Cell, cut, look, post, take, unite};
 use dot_planes::TileRows;
-use tile_border::{Done, Task};
+use tile_border::{Done, Task, TileRoom, work_in};
 use tile_shape::{Dir, Needs, Place};
 
 impl Pass {
@@ -66,7 +66,16 @@ impl<'a, A: TileRows> Board<'a, A> {
         ensures place { result.place ≡ task.place }
         ensures done { IsDoneOf (slab self.now) result }
     {
-        tile_border::work(task, self.rows, self.kernel)
+        self.work_in(task, &mut TileRoom::make())
+    }
+
+    /// Diffuses a tile as `work` does, in room that it is lent.
+    pub fn work_in(&self, task: Task, room: &mut TileRoom) -> Done
+        requires { IsTaskOf (slab self.now) task }
+        ensures place { result.place ≡ task.place }
+        ensures done { IsDoneOf (slab self.now) result }
+    {
+        work_in(task, self.rows, self.kernel, room)
     }
 
     /// Takes back what the tile that a pass holds gives: sends its edges to the tiles that receive them, and keeps its

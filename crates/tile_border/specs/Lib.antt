@@ -1,4 +1,5 @@
 pub mod Inks
 pub mod Works
+pub mod Given
 pub mod Tops
 pub mod Worked

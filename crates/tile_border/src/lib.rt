@@ -19,7 +19,9 @@ pub mod laws;
 mod task;
 mod tops;
 mod wholes;
+mod working;
 
 pub use edges::{BottomEdge, CornerEdge, Edge, RightEdge};
-pub use task::{Done, Task, work};
+pub use task::{Done, Task};
 pub use tops::TopEdges;
+pub use working::{TileRoom, work, work_in};

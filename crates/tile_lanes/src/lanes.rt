@@ -91,7 +91,7 @@ fn diffuse_steps(
     }
 }
 
-/// Diffuses one ink of a tile, as `diffuse_tile` says.
+/// Diffuses one ink of a tile, as `diffuse_tile` says. The field may hold any errors.
 #[inline(always)]
 pub(crate) fn diffuse_lanes(
     kernel: Kernel,
@@ -102,24 +102,26 @@ pub(crate) fn diffuse_lanes(
     band: &mut [i16; 128],
     corner: &mut [i16; 12],
     bits: &mut [u8; 256],
+    field: &mut [u16; 3502],
 )
     requires side_fits { EachInRange side.old }
     requires band_fits { EachInRange band.old }
     requires corner_fits { EachInRange corner.old }
+    requires field { HeldInRange field.old }
     ensures side_fits { EachInRange side.new }
     ensures band_fits { EachInRange band.new }
     ensures corner_fits { EachInRange corner.new }
+    ensures field { HeldInRange field.new }
     ensures done { (amount : ℕ → ℕ → ℕ) → HasPixels shape amount place tile.now
         → DiffusesInk (table_of kernel) (plane_with shape amount) place
         side.old band.old corner.old side.new band.new corner.new bits.new }
 {
     let pace = Pace::of(kernel);
-    let mut field = [0u16; 3502];
-    put_above(pace, &mut field, band);
-    put_corner(pace, &mut field, corner);
-    put_left(pace, &mut field, side);
-    diffuse_steps(kernel, shape, place, tile, &mut field, bits);
-    take_right(pace, &field, side);
-    take_bottom(pace, &field, band);
-    take_lower_corner(pace, &field, corner);
+    put_above(pace, field, band);
+    put_corner(pace, field, corner);
+    put_left(pace, field, side);
+    diffuse_steps(kernel, shape, place, tile, field, bits);
+    take_right(pace, field, side);
+    take_bottom(pace, field, band);
+    take_lower_corner(pace, field, corner);
 }

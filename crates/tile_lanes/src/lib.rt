@@ -7,7 +7,9 @@
 //! `corner_fits`). The contract fixes no order of pixels.
 #![tactic(auto)]
 
+mod field;
 mod lanes;
 mod tile;
 
+pub use field::Field;
 pub use tile::diffuse_tile;

@@ -6,6 +6,7 @@ ghost use Rattle.std.specs.Prelude.{ℕ};
 ghost use Rattle.tile_lanes.specs.Done.{DiffusesInk, plane_with};
 ghost use Rattle.tile_shape.specs.Geometry.{IsTile};
 
+use crate::field::Field;
 use crate::lanes::diffuse_lanes;
 use diffusion_kernel::Kernel;
 use tile_shape::{Place, Shape};
@@ -20,6 +21,8 @@ use tile_shape::{Place, Shape};
 ///
 /// `dots` becomes 32 rows of 64 dots, eight a byte, the first in the highest bit; where the window has no pixel there
 /// is no dot.
+///
+/// `field` is room, of any content.
 pub fn diffuse_tile(
     kernel: Kernel,
     shape: Shape,
@@ -29,6 +32,7 @@ pub fn diffuse_tile(
     band: &mut [i16; 128],
     corner: &mut [i16; 12],
     dots: &mut [u8; 256],
+    field: &mut Field,
 )
     requires tile { IsTile shape place }
     requires side_fits { EachInRange side.old }
@@ -52,6 +56,7 @@ pub fn diffuse_tile(
             band,
             corner,
             dots,
+            &mut field.held,
         ),
         Kernel::Jarvis => diffuse_lanes(
             Kernel::Jarvis,
@@ -62,6 +67,7 @@ pub fn diffuse_tile(
             band,
             corner,
             dots,
+            &mut field.held,
         ),
         Kernel::Stucki => diffuse_lanes(
             Kernel::Stucki,
@@ -72,6 +78,7 @@ pub fn diffuse_tile(
             band,
             corner,
             dots,
+            &mut field.held,
         ),
     }
 }

@@ -183,7 +183,7 @@ fn diffused(kernel: Kernel, place: Place, rows: &InkRows, handed: Edges) -> Give
     let mut edges = handed;
     let mut dots = [255u8; 256];
     let mut amounts = TileAmounts::zero();
-    rows.gather(place, &mut amounts);
+    rows.gather(place, &mut [0; 8192], &mut amounts);
     diffuse_tile(
         kernel,
         rows.shape(),
@@ -193,6 +193,7 @@ fn diffused(kernel: Kernel, place: Place, rows: &InkRows, handed: Edges) -> Give
         &mut edges.band,
         &mut edges.corner,
         &mut dots,
+        &mut tile_lanes::Field::make(),
     );
     Given { edges, dots }
 }

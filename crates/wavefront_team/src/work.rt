@@ -10,7 +10,7 @@ ghost use Rattle.wavefront_team.specs.Passes.{HasAll, HasPosted, HasPostedAll, d
 use crate::gate::Gate;
 use dot_planes::TileRows;
 use tile_board::{Board, Claim, Pass};
-use tile_border::Task;
+use tile_border::{Task, TileRoom};
 use tile_shape::{Place, Shape};
 
 /// Works the tile that a pass holds, once the gate lets it in, and posts it.
@@ -19,6 +19,7 @@ pub(crate) fn work_held<G: Gate, A: TileRows>(
     gate: &G,
     pass: &mut Pass,
     task: Task,
+    room: &mut TileRoom,
 )
     requires pass { IsPassOf board.now pass.old }
     requires held { holding pass.old ≡ Some task.place }
@@ -27,7 +28,7 @@ pub(crate) fn work_held<G: Gate, A: TileRows>(
     ensures view { view pass.new ≡ posted_view (view pass.old) (number_in (slab board.now) task.place) }
 {
     gate.enter(task.place);
-    let done = board.work(task);
+    let done = board.work_in(task, room);
     board.post(pass, done);
 }
 
@@ -45,8 +46,9 @@ pub(crate) fn work_rest<G: Gate, A: TileRows>(
     ensures pass { IsPassOf board.now pass.new }
     ensures all { HasPostedAll (desk board.now) pass.new }
 {
+    let mut room = TileRoom::make();
     for j in 0..shape.bands() {
-        work_band(board, shape, gate, pass, j);
+        work_band(board, shape, gate, pass, j, &mut room);
     }
 }
 
@@ -57,6 +59,7 @@ fn work_band<G: Gate, A: TileRows>(
     gate: &G,
     pass: &mut Pass,
     j: u32,
+    room: &mut TileRoom,
 )
     requires pass { HasAll (desk board.now) pass.old }
     requires shape { shape ≡ shape_of (slab board.now) }
@@ -68,7 +71,7 @@ fn work_band<G: Gate, A: TileRows>(
 {
     for c in 0..shape.columns() {
         match board.claim(pass, Place { c, j }) {
-            Claim::Got(task) => work_held(board, gate, pass, task),
+            Claim::Got(task) => work_held(board, gate, pass, task, room),
             Claim::NotReady { .. } => unreachable!(),
             Claim::Gone { .. } => {}
         }

@@ -12,6 +12,7 @@ use dot_planes::TileRows;
 use std::alloc::Global;
 use std::thread::yield_now;
 use tile_board::{Board, Claim, Pass};
+use tile_border::TileRoom;
 use tile_shape::{Place, Shape};
 
 // A worker that gets no tile in this many claims leaves the rest to the caller.
@@ -53,8 +54,9 @@ impl Worker {
         requires sizes { IsShape shape }
         ensures { IsWorkerOf (desk board.now) self.new.pass }
     {
+        let mut room = TileRoom::make();
         for _ in 0..shape.bands() * shape.columns() {
-            if !self.work_next(board, shape, gate) {
+            if !self.work_next(board, shape, gate, &mut room) {
                 return;
             }
         }
@@ -66,6 +68,7 @@ impl Worker {
         board: &Board<'_, A>,
         shape: Shape,
         gate: &G,
+        room: &mut TileRoom,
     ) -> bool
         requires worker { IsWorkerOf (desk board.now) self.old.pass }
         requires shape { shape ≡ shape_of (slab board.now) }
@@ -78,7 +81,7 @@ impl Worker {
             };
             match board.claim(&mut self.pass, place) {
                 Claim::Got(task) => {
-                    work_held(board, gate, &mut self.pass, task);
+                    work_held(board, gate, &mut self.pass, task, room);
                     self.go_on(shape);
                     return true;
                 }

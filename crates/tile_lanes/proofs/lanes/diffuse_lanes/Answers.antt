@@ -1,12 +1,9 @@
 use Rattle.std.proofs.Common.{subst, sym}
 use Rattle.tile_lanes.specs.Lanes.{IsFilled, SolvesTile}
 use Rattle.tile_lanes.specs.Paces.{end_of}
-use Rattle.tile_lanes.proofs.LaneTile.{all_bits, bottom_of, corner_of, loaded_above, loaded_left, right_of, zeros_held}
+use Rattle.tile_lanes.proofs.LaneTile.{all_bits, bottom_of, corner_of, loaded_above, loaded_left, right_of}
 use Rattle.tile_lanes.proofs.RowTile.{dots_done}
 use Rattle.tile_lanes.proofs.lanes.diffuse_lanes.Goals as goal
-
-pub put_above-requires-clause-field : goal.put_above-requires-clause-field
-put_above-requires-clause-field c = zeros_held 3502
 
 pub returns-clause-done : goal.returns-clause-done
 returns-clause-done c = λ f has e s ready.

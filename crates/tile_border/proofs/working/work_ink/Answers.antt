@@ -1,6 +1,6 @@
 use Rattle.std.proofs.Common.{arith}
 use Rattle.tile_border.proofs.InkSteps.{diffuses, read_fits, room_for, works_ink}
-use Rattle.tile_border.proofs.task.work_ink.Goals as goal
+use Rattle.tile_border.proofs.working.work_ink.Goals as goal
 
 pub diffuse_tile-requires-clause-side_fits : goal.diffuse_tile-requires-clause-side_fits
 diffuse_tile-requires-clause-side_fits g c =

@@ -1,7 +1,7 @@
 use Rattle.std.proofs.Common.{ℕ, ◌<◌, ◌≤◌}
 use Rattle.dot_planes.specs.Tables.{AmountTable}
 use Rattle.tile_border.specs.Works.{Border, HasInks, IsWholeInk, SameInk, Works}
-use Rattle.tile_border.proofs.task.work.Given as goal
+use Rattle.tile_border.proofs.working.work_inks.Given as goal
 
 abbrev pub invariant-loop-ink : goal.invariant-loop-ink
 invariant-loop-ink g l =

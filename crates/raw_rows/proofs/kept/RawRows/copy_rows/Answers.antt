@@ -1,6 +1,6 @@
 use Rattle.std.proofs.Common.{arith}
 use Rattle.raw_rows.proofs.Parts.{parts_more}
-use Rattle.raw_rows.proofs.kept.RawRows.tile_bytes.Goals as goal
+use Rattle.raw_rows.proofs.kept.RawRows.copy_rows.Goals as goal
 
 pub loop-r-init : goal.loop-r-init
 loop-r-init c = λ r low. absurd (omega arith)

@@ -1,5 +1,5 @@
 use Rattle.tile_border.proofs.InkSteps.{done_more, rest_more, whole_more}
-use Rattle.tile_border.proofs.task.work.Goals as goal
+use Rattle.tile_border.proofs.working.work_inks.Goals as goal
 
 pub loop-ink-preserved : goal.loop-ink-preserved
 loop-ink-preserved g c = record {
