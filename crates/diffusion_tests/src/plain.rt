@@ -1,11 +1,11 @@
 //! The plain program against counts and rows that are known from elsewhere.
 use diffusion_kernel::Kernel;
-use plain_diffusion::{Above, Definition, Fill};
+use plain_diffusion::{Above, Amounts, Definition};
 use std::alloc::Global;
 
 // How many dots a window of one amount has by Floyd and Steinberg, and which its first four pixels have.
 fn dots_of(alloc: Global, amount: u8, width: u32, height: u32) -> Option<(u32, [bool; 4])> {
-    let (fill, above) = (Fill::All(amount), Above::Edges(0));
+    let (fill, above) = (Amounts::All(amount), Above::Edges(0));
     let known = Definition::make(alloc, Kernel::Floyd, fill, above, width, height)?;
     let mut count = 0u32;
     for y in 0..height {
@@ -38,7 +38,7 @@ fn four_halves_give_every_other_dot(rt: HostRuntime) {
 fn what_is_out_of_range_is_refused(rt: HostRuntime) {
     const CASES: [(i16, u32, u32); 4] = [(-2041, 1, 1), (2040, 1, 1), (0, 65536, 1), (0, 1, 65536)];
     for (error, width, height) in CASES {
-        let (kernel, fill) = (Kernel::Floyd, Fill::All(0));
+        let (kernel, fill) = (Kernel::Floyd, Amounts::All(0));
         let known = Definition::make(rt.alloc(), kernel, fill, Above::Edges(error), width, height);
         assert!(rt; known.is_none(), "{width} by {height} below {error}");
     }

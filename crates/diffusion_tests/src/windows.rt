@@ -5,7 +5,7 @@ ghost use Rattle.tile_border.specs.Tops.{IsTopOf};
 
 use diffusion_kernel::Kernel;
 use dot_planes::{InkRows, Planes};
-use plain_diffusion::{Above, Definition, Fill, amount_at};
+use plain_diffusion::{Above, Amounts, Definition, amount_at};
 use std::alloc::Global;
 use std::process::Abort;
 use std::thread::Threads;
@@ -39,10 +39,10 @@ impl Case {
         height
     }
 
-    fn fill(&self, ink: u8) -> Fill {
+    fn fill(&self, ink: u8) -> Amounts {
         match self.all {
-            Some(amount) => Fill::All(amount),
-            None => Fill::Mixed(ink),
+            Some(amount) => Amounts::All(amount),
+            None => Amounts::Mixed(ink),
         }
     }
 }

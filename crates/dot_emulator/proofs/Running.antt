@@ -27,7 +27,7 @@ use Rattle.dot_emulator.specs.Steps.{AreStepsOf}
 use Rattle.printer_definitions.specs.Inks.{ink_place}
 use Rattle.printer_definitions.specs.declared.inks.Ink.{Ink}
 use Rattle.printer_definitions.specs.declared.inks.Ink.TheVariants.{Black, Cyan, Magenta, Yellow}
-use Rattle.dot_emulator.specs.Sheets.{HasDots, HasPlaces, IsOnGrid}
+use Rattle.dot_emulator.specs.Sheets.{HoldsDots, HasPlaces, IsOnGrid}
 use Rattle.dot_emulator.proofs.OnGrid.{all-append, fired-on-grid, wider}
 use Rattle.dot_emulator.specs.States.{IsStep, is_plain, machine_of}
 
@@ -110,8 +110,8 @@ pub plain-shows : (p : Printer) (m : Machine) (command : Command) (rows : List �
 plain-shows p m command rows None e none shows = no-dots p m command rows e shows
 plain-shows p m command rows (Some t) e none shows =
     let stays : IsKept p m command rows = kept p m command rows e shows.0 none in
-    let D : List Dot → Type 0 = λ dots. HasDots (column_step p) (row_step p) (after p m command rows).columns dots t in
-    let C : ℕ → Type 0 = λ columns. HasDots (column_step p) (row_step p) columns m.dots t in
+    let D : List Dot → Type 0 = λ dots. HoldsDots (column_step p) (row_step p) (after p m command rows).columns dots t in
+    let C : ℕ → Type 0 = λ columns. HoldsDots (column_step p) (row_step p) columns m.dots t in
     (ap (λ (ds : List Dot). nat_lt 0 (length ds)) stays.dots ∙ shows.0, subst D (sym stays.dots) (subst C (sym stays.columns) shows.1))
 
 -- ---- the current planes
@@ -193,7 +193,7 @@ laid-shows p m header r rows planes new height placed fits above shows is end_fi
     let t : DotTable = laid.table in
     let S : Option DotTable → Type 0 = λ o. ShowsDots p m' o in
     let dots_are : m'.dots ≡ m.dots ++ fired g r rows = ap (λ (ds : List Dot). m.dots ++ ds) (placed.fires rows) in
-    let D : List Dot → Type 0 = λ ds. HasDots (column_step p) (row_step p) m'.columns ds t in
+    let D : List Dot → Type 0 = λ ds. HoldsDots (column_step p) (row_step p) m'.columns ds t in
     let height_is : t.rows ≡ height = ap (λ (o : Option DotTable). rows_or n o) (sym laid.is) ∙ new_rows in
     let P : ℕ → Type 0 = λ n. AllByRecursion (IsOnGrid (column_step p) (row_step p) m'.columns n) (m.dots ++ fired g r rows) in
     let n_is : r.header.n ≡ header.n = ap (λ (h : RasterHead). h.n) placed.header_is in
@@ -220,7 +220,7 @@ blank-shows p m header r rows planes placed none shows = by_planes planes shows
     by_planes : (o : Option DotTable) → ShowsDots p m o → ShowsDots p (after p m (c.Raster header) rows) o
     by_planes None nothing = dots_are ∙ nothing
     by_planes (Some t) has =
-        let D : List Dot → Type 0 = λ ds. HasDots (column_step p) (row_step p) (after p m (c.Raster header) rows).columns ds t in (
+        let D : List Dot → Type 0 = λ ds. HoldsDots (column_step p) (row_step p) (after p m (c.Raster header) rows).columns ds t in (
           ap (λ (ds : List Dot). nat_lt 0 (length ds)) dots_are ∙ has.0,
           subst D (sym dots_are) (record {
             places = has.1.places;
@@ -262,15 +262,15 @@ places-taken g dots (Some o) t four taken have =
     subst P (sym taken) have
 
 has-taken : (p : Printer) (m : Machine) (old : Option DotTable) (t : DotTable)
-    → t.inks ≡ 4 → AreTaken old t → ShowsDots p m old → HasDots (column_step p) (row_step p) m.columns m.dots t
+    → t.inks ≡ 4 → AreTaken old t → ShowsDots p m old → HoldsDots (column_step p) (row_step p) m.columns m.dots t
 has-taken p m None t four taken shows =
-    let P : List Dot → Type 0 = λ ds. HasDots (column_step p) (row_step p) m.columns ds t in
+    let P : List Dot → Type 0 = λ ds. HoldsDots (column_step p) (row_step p) m.columns ds t in
     subst P (sym shows) (record {
       places = λ ink y x low. taken (ink_place ink) y x (in-four t ink four) low (omega arith);
       inside = tt;
     })
 has-taken p m (Some o) t four taken shows =
-    let P : DotTable → Type 0 = λ s. HasDots (column_step p) (row_step p) m.columns m.dots s in
+    let P : DotTable → Type 0 = λ s. HoldsDots (column_step p) (row_step p) m.columns m.dots s in
     subst P (sym taken) shows.1
 
 -- ---- a sheet is given

@@ -1,3 +1,4 @@
+pub mod Bounds
 pub mod Sheets
 pub mod Margins
 pub mod Pages

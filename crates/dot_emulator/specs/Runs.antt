@@ -1,5 +1,5 @@
 -- What the emulator stands for, and what it answers.
-use Rattle.std.specs.Prelude.{◌≡◌, ℕ, true, false, List, [], ◌∷◌, ◌++◌, Option, Some, None, Result, Ok, Err}
+use Rattle.std.specs.Prelude.{◌≡◌, ℕ, true, List, [], ◌∷◌, ◌++◌, Option, Some, None, Result, Ok, Err}
 use Rattle.printer_definitions.specs.Printer.{Printer, column_step, row_step}
 use Rattle.escp2_definitions.specs.Commands.{last_column}
 use Rattle.escp2_definitions.specs.declared.command.Command.{Command}
@@ -9,7 +9,7 @@ use Rattle.dot_emulator.specs.declared.emulator.Emulator.{Emulator}
 use Rattle.dot_emulator.specs.declared.emulator.EmuStop.{EmuStop}
 use Rattle.dot_emulator.specs.declared.emulator.EmuStop.TheVariants.{Refused, Memory}
 use Rattle.dot_emulator.specs.declared.sheet.Sheet.{Sheet}
-use Rattle.dot_emulator.specs.Sheets.{HasDots, HasPlaces, IsBlankFrom}
+use Rattle.dot_emulator.specs.Sheets.{HoldsDots, HasPlaces, IsBlankFrom}
 use Rattle.dot_emulator.specs.Firing.{Grid, fired}
 use Rattle.dot_emulator.specs.declared.firing.Raster.{Raster}
 use Rattle.base_definitions.specs.declared.answers.Memory.{Memory as MemoryOut}
@@ -20,12 +20,12 @@ use Rattle.dot_emulator.specs.Steps.{AreStepsOf}
 pub record IsSheet (p : Printer) (s : PrintedSheet) (sheet : Sheet) : Type 0 where
   pub rows : sheet.rows ≡ s.rows
   pub columns : sheet.columns ≡ s.columns
-  pub dots : HasDots (column_step p) (row_step p) s.columns s.dots sheet.planes
+  pub dots : HoldsDots (column_step p) (row_step p) s.columns s.dots sheet.planes
 
 -- the planes have the dots of the current sheet; there are no planes before its first dot
 abbrev pub ShowsDots : Printer → Machine → Option DotTable → Type 0
 ShowsDots p m None = m.dots ≡ []
-ShowsDots p m (Some t) = (has_dots m ≡ true) × HasDots (column_step p) (row_step p) m.columns m.dots t
+ShowsDots p m (Some t) = (has_dots m ≡ true) × HoldsDots (column_step p) (row_step p) m.columns m.dots t
 
 -- The emulator stands for this state of the machine, on this printer.
 pub record Shows (p : Printer) (e : Emulator) (m : Machine) : Type 0 where

@@ -32,6 +32,6 @@ HasPlaces column row dots t =
 
 -- The table has the dots of a list: each place has a dot exactly where the list has one, and each dot of the list has
 -- a place.
-pub record HasDots (column row columns : ℕ) (dots : List Dot) (t : DotTable) : Type 0 where
+pub record HoldsDots (column row columns : ℕ) (dots : List Dot) (t : DotTable) : Type 0 where
   pub places : HasPlaces column row dots t
   pub inside : AllByRecursion (IsOnGrid column row columns t.rows) dots

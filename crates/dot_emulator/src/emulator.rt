@@ -65,7 +65,7 @@ impl Emulator {
     ghost use Rattle.dot_emulator.specs.Firing.{Grid, IsAbove, HasRows, PlanesHave, Stands};
     ghost use Rattle.dot_emulator.specs.Places.{IsPlaced};
     ghost use Rattle.dot_emulator.specs.Runs.{LaidIn, Runs, Shows, Taken, TakesPlanes};
-    ghost use Rattle.dot_emulator.specs.Sheets.{HasPlaces, IsBlankFrom};
+    ghost use Rattle.dot_emulator.specs.Sheets.{IsBlankFrom};
     ghost use Rattle.dot_emulator.specs.Steps.{AreStepsOf};
     ghost use Rattle.dot_emulator.specs.States.{is_plain, machine_of};
     ghost use Rattle.escp2_definitions.specs.Machine.{Dot, Machine, has_dots};

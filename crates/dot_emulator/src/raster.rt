@@ -1,7 +1,6 @@
 //! Why a raster is refused before its dots are looked at.
 ghost use Rattle.dot_emulator.specs.States.{early_fault, machine_of};
 ghost use Rattle.escp2_definitions.specs.Commands.{last_column};
-ghost use Rattle.printer_definitions.specs.Printer.{column_step, nozzle_step, row_step};
 ghost use Rattle.separation_definitions.specs.CanPrint.{CanPrint};
 ghost use Rattle.std.specs.Prelude.{[], ◌%◌, ◌*◌, ◌/◌, ◌<◌, ◌≡◌, ◌≤◌};
 

@@ -1,4 +1,5 @@
 //! The state of a printer, except the dots of its sheet.
+ghost use Rattle.dot_emulator.specs.Bounds.{farthest_across, longest_page};
 ghost use Rattle.dot_emulator.specs.Margins.{bottom_or, top_of};
 ghost use Rattle.escp2_definitions.specs.Commands.{last_column};
 ghost use Rattle.escp2_definitions.specs.Machine.{bottom_margin, page_length, start, top_margin, units};
@@ -27,10 +28,10 @@ pub(crate) struct State {
     pub(crate) across: u32,
     /// How many columns the sheet has so far.
     pub(crate) columns: u32,
-    ghost page_most: { unwrap_or page 0 ≤ 79200 },
-    ghost down_most: { down ≤ 79200 },
-    ghost top_most: { top_of margins ≤ 79200 },
-    ghost across_most: { across ≤ 20000000 },
+    ghost page_most: { unwrap_or page 0 ≤ longest_page },
+    ghost down_most: { down ≤ longest_page },
+    ghost top_most: { top_of margins ≤ longest_page },
+    ghost across_most: { across ≤ farthest_across },
     ghost columns_most: { columns ≤ last_column },
     ghost columns_some: { 1 ≤ columns },
     ghost unit_some: { 1 ≤ unwrap_or unit 1 },
@@ -89,7 +90,7 @@ impl State {
     pub(crate) fn bottom(&self) -> u32
         ensures is { result ≡ bottom_margin (machine_of self.now []) }
         ensures on_page { result ≤ unwrap_or self.now.page 0 }
-        ensures most { result ≤ 79200 }
+        ensures most { result ≤ longest_page }
     {
         match self.margins {
             Some(margins) => margins.bottom,

@@ -2,17 +2,19 @@
 //!
 //! `run` promises `AllPromises`: the record `Promises`, whatever the command, and a record for each command. The README
 //! lists their fields. The first, `answered`, says that there is an answer: its status is returned, its cause holds for
-//! what was read and written (`Outcome`), and the error sink got its line (`Told`). The shelf is unchanged where the
-//! profile is built in (`unasked`) and where a word is refused (`refused_unasked`).
+//! what was read and written (`Outcome`), and the error sink got its line, or a proper prefix of it after a failed
+//! write (`Told`). The shelf is unchanged where the profile is built in (`unasked`) and where a word is refused
+//! (`refused_unasked`).
 //!
-//! A run prepares a command and performs it: `prepare` reads the words, sets the caps, finds the profile, and checks that
-//! its head can go over pages as the words ask; `perform` does the command over input, output and meters. `print_one` prints one stream by a checked profile; it is what
-//! `perform` calls for `print`, and what a spool calls for each of its jobs.
+//! A run prepares a command and performs it: `prepare` reads the words, sets the caps, finds the profile, and checks
+//! that its head can go over pages as the words ask; `perform` does the command over input, output and meters.
+//! `print_one` prints one stream by a checked profile; it is what `perform` calls for `print`, and what a spool calls
+//! for each of its jobs.
 //!
 //! Each command has a module, and its outcome, promises and proofs stand together: `print` in `Printing`, `dots` in
 //! `Playing`, `list` in `Listing`, `profile` in `Showing`, `trial` in `Trying`, and what they have in common in `Runs`.
-//! A command ends in an `Answer`, as `PrintOutcome`, `PlayOutcome`, `ListOutcome`, `ShowOutcome` and `TrialOutcome` say.
-//! `PrintOutcome` has the headline: on `Done` the job of all pages was written, and it prints them (`PrintsAll`).
+//! A command ends in an `Answer`, as `PrintOutcome`, `PlayOutcome`, `ListOutcome`, `ShowOutcome` and `TrialOutcome`
+//! say. `PrintOutcome` has the headline: on `Done` the job of all pages was written, and it prints them (`PrintsAll`).
 //! `PrintedOutcome` says besides how many pages were written whole. `charge` counts a page on each meter where all have
 //! room, else on none.
 //!

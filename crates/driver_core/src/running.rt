@@ -56,12 +56,14 @@ pub fn tell<E: Sink>(answer: &Answer, err: &mut E)
 /// text, and `profile` a profile's text; `trial` makes pages, prints them into memory, runs the job of each, and writes
 /// a line of what it counted.
 ///
-/// The answer is the exit status: 0 done, 1 a word is refused, 2 the profile is refused, 3 the input is refused, 4 a
-/// read of the input or of the shelf failed, 5 a write failed, 6 a page goes past the cap of a meter, 7 memory ran
-/// out, 8 the job is refused. Each but 0 writes one line to `err`.
+/// The answer is the exit status: 0 done, 1 a word is refused, 2 the profile is refused, 3 the printer refuses the
+/// input or the pages that `trial` makes, 4 a read of the input or of the shelf failed, 5 a write failed, 6 a page goes
+/// past the cap of a meter, 7 memory ran out, 8 the job is refused. Each but 0 writes one line to `err`, as much of it
+/// as `err` takes.
 ///
 /// The word `cap=n` sets the cap of each meter once the words are accepted. The meters are asked for room for a page
-/// after its last line was read and before its first byte is written; where all have room, all count its dots.
+/// after its last line was read and before its first byte is written; where all have room, all count its dots. Only
+/// `print` sets caps and counts.
 ///
 /// The word `workers=n` sets how many threads diffuse each slab of up to 256 rows; each enters the gate after it claims
 /// a tile and before it works it.

@@ -1,5 +1,5 @@
 //! What the program says about itself.
-use weave_base::Words;
+use program_words::ProgramTexts;
 
 const HELP: &str = "\
 jinthbao - prints PWG Raster pages as ESC/P2 jobs, and shows what such jobs print
@@ -55,14 +55,8 @@ What each CAUSE means, and what helps, stands in the manual pages (man jinthbao)
 
 const VERSION: &str = "jinthbao 0.1.0\n";
 
-/// The text that the first word asks for, if it is one of `--help` and `--version`.
-pub fn text_of(words: &Words) -> Option<&'static str> {
-    if words.is_empty() {
-        return None;
-    }
-    match words.get(0) {
-        "--help" => Some(HELP),
-        "--version" => Some(VERSION),
-        _ => None,
-    }
-}
+/// What `--help` and `--version` ask for.
+pub const TEXTS: ProgramTexts = ProgramTexts {
+    help: HELP,
+    version: VERSION,
+};

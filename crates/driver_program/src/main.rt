@@ -5,18 +5,17 @@
 //! `docs/USING.md` test it.
 #![tactic(auto)]
 
-mod command_line;
 mod help;
 
-use command_line::read_words;
-use driver_core::{Answer, OpenGate, run, tell};
-use help::text_of;
+use driver_core::{Answer, OpenGate, UsageCause, UsageFault, run, tell};
+use help::TEXTS;
 use ink_meter::{DotMeter, Meter, can_settle, settle};
+use program_words::{NoWords, Words, read_words, text_of};
 use std::alloc::Global;
 use std::io::Write;
 use std::process::ExitCode;
 use std::thread::Threads;
-use weave_base::{DirShelf, StdSink, StdSource, Words, put_all};
+use weave_base::{DirShelf, StdSink, StdSource, put_all};
 
 // How much memory is taken and given back at the start. The C library then keeps up to twice as much of what a run gives
 // back, where it would else hand the memory of each slab's tiles to the system and ask for it again.
@@ -41,7 +40,7 @@ fn run_words<R: Threads + Sync>(rt: &HostRuntime, threads: &R, words: &Words) ->
     let mut input = StdSource::make(rt.stdin());
     let mut out = StdSink::make(rt.stdout());
     let mut err = StdSink::make(rt.stderr());
-    let Some(text) = text_of(words) else {
+    let Some(text) = text_of(words, TEXTS) else {
         let mut shelf = DirShelf::make(rt);
         let mut meters: Vec<Box<dyn Meter>> = Vec::new(rt.alloc());
         // memory runs out before anything is written
@@ -77,8 +76,13 @@ fn main(rt: HostRuntime) -> ExitCode {
     match read_words(&rt) {
         Ok(words) => ExitCode::from(run_words(&rt, &rt, &words)),
         // memory runs out before anything is written
-        Err(Answer::Memory) => ExitCode::from(Answer::Memory.status()),
-        Err(answer) => {
+        Err(NoWords::Memory) => ExitCode::from(Answer::Memory.status()),
+        Err(NoWords::NoText) => {
+            let fault = UsageFault {
+                word: 0,
+                cause: UsageCause::BadValue,
+            };
+            let answer = Answer::Usage(fault);
             tell(&answer, &mut StdSink::make(rt.stderr()));
             ExitCode::from(answer.status())
         }

@@ -5,4 +5,4 @@
 mod table;
 
 pub use escp2_definitions::{Command, RasterHead};
-pub use table::{MOST_COLUMNS, in_table};
+pub use table::{MOST_UNITS, RASTER_COLUMNS, in_table};

@@ -4,8 +4,11 @@ ghost use Rattle.std.specs.Prelude.{◌≡◌};
 
 use crate::Command;
 
-/// The most columns of a raster.
-pub const MOST_COLUMNS: u16 = 8191;
+/// The most columns of a raster: as many as a page may have.
+pub const RASTER_COLUMNS: u16 = 8191;
+
+/// The most units of a length or a position of a sheet: a number of 15 bits.
+pub const MOST_UNITS: u16 = 32_767;
 
 /// Whether the command's numbers are in the ranges of the command table (ESC/P Reference Manual, graphics commands; the
 /// ranges are this project's own). A command without numbers always is. The rows of a raster are not tested.
@@ -18,12 +21,12 @@ pub fn in_table(c: &Command) -> bool
         Command::Unit { m } => m >= 1,
         Command::MicroWeave { n } => n == 0,
         Command::OneWay { n } => n <= 1,
-        Command::Length { n } => 1 <= n && n <= 32_767,
-        Command::Margins { top, bottom } => top < bottom && bottom <= 32_767,
-        Command::DownTo { n } | Command::DownBy { n } | Command::Across { n } => n <= 32_767,
+        Command::Length { n } => 1 <= n && n <= MOST_UNITS,
+        Command::Margins { top, bottom } => top < bottom && bottom <= MOST_UNITS,
+        Command::DownTo { n } | Command::DownBy { n } | Command::Across { n } => n <= MOST_UNITS,
         Command::Raster { head: header } => {
             let is_stepped = header.v >= 1 && header.h >= 1;
-            let is_sized = header.m >= 1 && 1 <= header.n && header.n <= MOST_COLUMNS;
+            let is_sized = header.m >= 1 && 1 <= header.n && header.n <= RASTER_COLUMNS;
             header.c <= 1 && is_stepped && is_sized
         }
     }

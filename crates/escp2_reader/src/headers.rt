@@ -5,7 +5,7 @@ ghost use Rattle.std.specs.Prelude.{◌∷◌, ◌≡◌};
 
 use crate::sized::after_paren;
 use crate::{Command, JobCause, RasterHead};
-use escp2_commands::MOST_COLUMNS;
+use escp2_commands::{MOST_UNITS, RASTER_COLUMNS};
 use printer_definitions::Ink;
 
 /// What the gathered bytes of a command are.
@@ -95,7 +95,7 @@ fn across(bytes: &[u8]) -> HeaderState
         return HeaderState::Part;
     };
     let n = u16::from_le_bytes([low, high]);
-    if n > 32_767 {
+    if n > MOST_UNITS {
         return bad_value(2);
     }
     HeaderState::Whole(Command::Across { n })
@@ -147,7 +147,7 @@ fn raster(bytes: &[u8]) -> HeaderState
         return HeaderState::Part;
     };
     let n = u16::from_le_bytes([*low, *high]);
-    if !is_in(1, MOST_COLUMNS, n) {
+    if !is_in(1, RASTER_COLUMNS, n) {
         return bad_value(6);
     }
     HeaderState::Rows(RasterHead {

@@ -22,7 +22,7 @@ use std::mem;
 type HeaderBytes = ArrayVec<u8, 9>;
 
 // The most bytes of a raster's rows: 255 rows of 8,191 columns.
-const MOST_ROWS: usize = 261_120;
+const MOST_ROW_BYTES: usize = 261_120;
 
 /// What a call of `JobReader::feed` found.
 #[derive(Clone, Copy, Debug, PartialEq, Eq)]
@@ -93,7 +93,7 @@ impl JobReader {
         ensures is_open { IfOk result (λ reader. is_failed_of reader ≡ false) }
         ensures none { IfOk result (λ reader. rows_of reader ≡ []) }
     {
-        match Vec::with_capacity(alloc, MOST_ROWS) {
+        match Vec::with_capacity(alloc, MOST_ROW_BYTES) {
             Ok(rows) => Ok(JobReader {
                 begin: 0,
                 next: 0,

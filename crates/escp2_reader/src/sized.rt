@@ -5,6 +5,7 @@ ghost use Rattle.std.specs.Prelude.{◌∷◌, ◌≡◌};
 
 use crate::headers::{HeaderState, bad_value, is_in, unknown};
 use crate::{Command, JobCause};
+use escp2_commands::MOST_UNITS;
 
 // What the two bytes of a command's length are.
 #[derive(Clone, Copy)]
@@ -105,7 +106,7 @@ fn page_length(bytes: &[u8]) -> HeaderState
         LengthState::Wrong(place) => bad_length(place),
         LengthState::Right([low, high, ..]) => {
             let n = u16::from_le_bytes([*low, *high]);
-            if !is_in(1, 32_767, n) {
+            if !is_in(1, MOST_UNITS, n) {
                 return bad_value(5);
             }
             HeaderState::Whole(Command::Length { n })
@@ -122,7 +123,7 @@ fn down_to(bytes: &[u8]) -> HeaderState
         LengthState::Wrong(place) => bad_length(place),
         LengthState::Right([low, high, ..]) => {
             let n = u16::from_le_bytes([*low, *high]);
-            if n > 32_767 {
+            if n > MOST_UNITS {
                 return bad_value(5);
             }
             HeaderState::Whole(Command::DownTo { n })
@@ -139,7 +140,7 @@ fn down_by(bytes: &[u8]) -> HeaderState
         LengthState::Wrong(place) => bad_length(place),
         LengthState::Right([low, high, ..]) => {
             let n = u16::from_le_bytes([*low, *high]);
-            if n > 32_767 {
+            if n > MOST_UNITS {
                 return bad_value(5);
             }
             HeaderState::Whole(Command::DownBy { n })
@@ -160,14 +161,14 @@ fn margins(bytes: &[u8]) -> HeaderState
         return HeaderState::Part;
     };
     let top = u16::from_le_bytes([*low, *high]);
-    if top > 32_767 {
+    if top > MOST_UNITS {
         return bad_value(5);
     }
     let [low, high, ..] = rest else {
         return HeaderState::Part;
     };
     let bottom = u16::from_le_bytes([*low, *high]);
-    if !is_in(top + 1, 32_767, bottom) {
+    if !is_in(top + 1, MOST_UNITS, bottom) {
         return bad_value(7);
     }
     HeaderState::Whole(Command::Margins { top, bottom })

@@ -1,6 +1,6 @@
 //! A meter that counts and does nothing else.
-ghost use Rattle.ink_meter.specs.Accounts.{Account, HasRoom, added, all_inks, capped};
-ghost use Rattle.std.specs.Prelude.{IsTrue, ◌-◌, ◌<◌, ◌^◌, ◌↔◌, ◌≡◌};
+ghost use Rattle.ink_meter.specs.Accounts.{Account, all_inks};
+ghost use Rattle.std.specs.Prelude.{◌-◌, ◌<◌, ◌^◌, ◌≡◌};
 
 use crate::Meter;
 use printer_definitions::InkCounts;

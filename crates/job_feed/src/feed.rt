@@ -1,10 +1,9 @@
 //! Reading the commands of a job from a source.
-ghost use Rattle.escp2_reader.specs.Reading.{StandsFor, begin_of, fed_of, is_failed_of, rows_of};
+ghost use Rattle.escp2_reader.specs.Reading.{StandsFor, begin_of, fed_of, is_failed_of};
 ghost use Rattle.job_feed.specs.declared.feed.FeedStop.TheVariants as FeedStop;
 ghost use Rattle.escp2_definitions.specs.declared.stops.JobStop.TheVariants as JobStop;
 ghost use Rattle.std.specs.Prelude.{IfErr, IfNone, IfOk, IfSome, IsErrOf, IsOk, List, None, [], false, length, take};
 ghost use Rattle.std.specs.Prelude.{ℕ, ◌<◌, ◌≡◌, ◌≤◌, ◌^◌};
-ghost use Rattle.weave_base.specs.Causes.{Rose};
 
 use buffered_bytes::Unread;
 use escp2_definitions::{Command, JobStop};

@@ -16,7 +16,7 @@ pub record ListsAll (most : ℕ) (input out : Outside) : Type 0 where
   pub takes : TakesJob most input.before input.now entries
   pub writes : Appends out.before out.now (listing entries)
 
--- The job is refused at this offset, and the commands before it are listed.
+-- The job, if the source reports its bytes, is refused at this offset; the commands before that are listed.
 pub record ListsToStop (most : ℕ) (input out : Outside) (offset : ℕ) (cause : JobStop) : Type 0 where
   pub entries : List Entry
   pub meets : MeetsStop most input.before entries offset cause
@@ -28,7 +28,7 @@ pub record ListsTaken (most : ℕ) (input out : Outside) : Type 0 where
   pub takes : TakesAllCommands most input.before input.now entries
   pub writes : Appends out.before out.now (listing entries)
 
--- A proper prefix of the listing of what was taken was written.
+-- A proper prefix of the listing of some first commands of what was taken was written.
 pub record ListsPart (most : ℕ) (input out : Outside) : Type 0 where
   pub entries : List Entry
   pub takes : TakesCommands most input.before input.now entries

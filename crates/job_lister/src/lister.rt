@@ -7,7 +7,7 @@ ghost use Rattle.job_lister.specs.Listing.{line_of};
 ghost use Rattle.buffered_bytes.specs.Outside.{outside_of};
 ghost use Rattle.weave_base.specs.Causes.{HasCause};
 ghost use Rattle.weave_base.specs.Parts.{AppendsPart};
-ghost use Rattle.std.specs.Prelude.{OnErr, OnOk, length, true, ◌<◌, ◌≡◌, ◌≤◌, ◌^◌};
+ghost use Rattle.std.specs.Prelude.{OnErr, OnOk, length, true, ◌<◌, ◌≡◌, ◌^◌};
 
 use crate::line::{Line, push_line};
 use buffered_bytes::Gathered;

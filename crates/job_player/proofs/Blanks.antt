@@ -1,13 +1,11 @@
 -- Sheets on which no dot was fired.
-use Rattle.std.proofs.Common.{◌≡◌, ℕ, suc, zero, ◌<◌, ◌≤◌, Bool, false, List, [], ◌∷◌, Option, Some, None, Ok, refl, sym, ◌∙◌, ap, subst, arith, length, nat_lt}
+use Rattle.std.proofs.Common.{◌≡◌, ℕ, suc, zero, ◌<◌, Bool, false, List, [], ◌∷◌, Some, refl, sym, ◌∙◌, ap, arith, length, nat_lt}
 use Rattle.std.specs.List.{list_any}
 use Rattle.std.proofs.lemmas.Bool.{ltb-false}
-use Rattle.dot_emulator.specs.declared.emulator.EmuStop.{EmuStop}
-use Rattle.dot_emulator.specs.declared.emulator.Emulator.{Emulator}
 use Rattle.dot_emulator.specs.declared.sheet.Sheet.{Sheet}
 use Rattle.dot_emulator.specs.Runs.{IsGiven, IsSheet}
 use Rattle.dot_emulator.specs.Sheets.{IsBlankFrom, dot_at}
-use Rattle.dot_planes.specs.Tables.{DotTable, dot}
+use Rattle.dot_planes.specs.Tables.{dot}
 use Rattle.escp2_definitions.specs.declared.command.Command.{Command}
 use Rattle.escp2_definitions.specs.declared.command.Command.TheVariants as c
 use Rattle.escp2_definitions.specs.Machine.{Dot, Machine, Sheet as PrintedSheet, given, has_dots, is_at}

@@ -4,7 +4,7 @@ ghost use Rattle.job_player.specs.Stops.{emu_stop};
 ghost use Rattle.job_player.specs.declared.player.PlayStop.TheVariants as PlayStop;
 ghost use Rattle.buffered_bytes.specs.Outside.{outside_of};
 ghost use Rattle.printer_profile.specs.Validity.{check};
-ghost use Rattle.std.specs.Prelude.{IsOk, ◌<◌, ◌≡◌, ◌≤◌, ◌^◌};
+ghost use Rattle.std.specs.Prelude.{IsOk, ◌<◌, ◌≡◌, ◌^◌};
 
 use crate::sheets::write_sheet;
 use dot_emulator::{EmuStop, Emulator};

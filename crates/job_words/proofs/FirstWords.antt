@@ -1,20 +1,11 @@
 -- The words after the command, and the first of them that passes a test.
-use Rattle.std.proofs.Common.{◌≡◌, ℕ, zero, suc, ◌<◌, ◌≤◌, ◌+◌, ◌-◌, Bool, true, false, ◌||◌, cond, ltb, List, [], ◌∷◌, ◌++◌, length, take, drop}
+use Rattle.std.proofs.Common.{◌≡◌, ℕ, zero, suc, ◌<◌, ◌≤◌, ◌+◌, ◌-◌, Bool, true, false, ◌||◌, cond, List, [], ◌∷◌, ◌++◌, length, take, drop}
 use Rattle.std.proofs.Common.{Some, None, slice_get, add-one, length-drop, refl, ap, sym, ◌∙◌, arith}
-use Rattle.std.specs.List.{find, list_any, position_from, position_or_len}
+use Rattle.std.specs.List.{find, list_any, position_from}
 use Rattle.std.proofs.lemmas.Bool.Decides.{nat_tests}
 use Rattle.std.proofs.lemmas.List.{take_all, take_more}
 use Rattle.std.proofs.lemmas.List.Folds.{list_any-append}
 use Rattle.std.proofs.lemmas.Option.{get_or_from_slice_get, slice_get_within}
-use Rattle.key_values.specs.Pairs.{is_equals_sign, is_key_value, key_of}
-use Rattle.key_values.proofs.Cuts.{some_place}
-
--- a word without a `=` is its key
-pub whole_key : (word : List ℕ) → is_key_value word ≡ false → word ≡ key_of word
-whole_key word h =
-    let outside : ltb (position_or_len is_equals_sign word) (length word) ≡ false = sym (some_place is_equals_sign word) ∙ h in
-    let past : length word ≤ position_or_len is_equals_sign word = grind (arith, nat_tests) in
-    sym (take_all _ word past)
 
 -- the words after the command are counted from 1
 pub behind : (words : List (List ℕ)) (k : ℕ) → slice_get (drop 1 words) k ≡ slice_get words (k + 1)
@@ -35,7 +26,7 @@ taken xs k x here =
 
 -- ---- whether a word passes
 
-none_more : {X : Type 0} (p : X → Bool) (xs : List X) (k : ℕ) (x : X) → slice_get xs k ≡ Some x
+pub none_more : {X : Type 0} (p : X → Bool) (xs : List X) (k : ℕ) (x : X) → slice_get xs k ≡ Some x
     → list_any p (take k xs) ≡ false → p x ≡ false → list_any p (take (k + 1) xs) ≡ false
 none_more p xs k x here none fails = rw (taken xs k x here, list_any-append, none, fails) refl
 
@@ -68,11 +59,11 @@ pub find_none : {X : Type 0} (p : X → Bool) (xs : List X) → list_any p xs �
 find_none p [] h = refl
 find_none p (x ∷ xs) h = grind (arith, nat_tests, find_none p xs)
 
-position_none : {X : Type 0} (p : X → Bool) (n : ℕ) (xs : List X) → list_any p xs ≡ false → position_from p n xs ≡ None
+pub position_none : {X : Type 0} (p : X → Bool) (n : ℕ) (xs : List X) → list_any p xs ≡ false → position_from p n xs ≡ None
 position_none p n [] h = refl
 position_none p n (x ∷ xs) h = grind (arith, nat_tests, position_none p (n + 1) xs)
 
-find_at : {X : Type 0} (p : X → Bool) (xs : List X) (k : ℕ) (x : X) → slice_get xs k ≡ Some x
+pub find_at : {X : Type 0} (p : X → Bool) (xs : List X) (k : ℕ) (x : X) → slice_get xs k ≡ Some x
     → list_any p (take k xs) ≡ false → p x ≡ true → find p xs ≡ Some x
 find_at p [] k x here none passes = cc
 find_at p (y ∷ xs) zero x here none passes =
@@ -84,7 +75,7 @@ find_at p (y ∷ xs) (suc k) x here none passes = by_test (p y) none (find_at p 
   by_test true none later = cc
   by_test false none later = later none passes
 
-position_at : {X : Type 0} (p : X → Bool) (n : ℕ) (xs : List X) (k : ℕ) (x : X) → slice_get xs k ≡ Some x
+pub position_at : {X : Type 0} (p : X → Bool) (n : ℕ) (xs : List X) (k : ℕ) (x : X) → slice_get xs k ≡ Some x
     → list_any p (take k xs) ≡ false → p x ≡ true → position_from p n xs ≡ Some (n + k)
 position_at p n [] k x here none passes = cc
 position_at p n (y ∷ xs) zero x here none passes =

@@ -4,8 +4,8 @@ use Rattle.job_words.specs.Table.{list_command, most_key, pages_key, print_comma
 use Rattle.job_words.specs.Table.{seed_key, shingle_key, trial_command, width_key, workers_key}
 use Rattle.job_words.specs.declared.table.Verb.{Verb}
 use Rattle.job_words.specs.declared.table.Verb.TheVariants as verb
-use Rattle.job_words.specs.declared.keys.Key.{Key}
-use Rattle.job_words.specs.declared.keys.Key.TheVariants as key
+use Rattle.job_words.specs.declared.keys.JobKey.{JobKey}
+use Rattle.job_words.specs.declared.keys.JobKey.TheVariants as key
 
 -- the row of a command
 abbrev pub command_row : Verb → CommandRow
@@ -16,7 +16,7 @@ command_row verb.Profile = profile_command
 command_row verb.Trial = trial_command
 
 -- the row of a key
-abbrev pub key_row : Key → KeyRow
+abbrev pub key_row : JobKey → KeyRow
 key_row key.Profile = profile_key
 key_row key.Kernel = kernel_key
 key_row key.Workers = workers_key

@@ -2,37 +2,16 @@
 ghost use Rattle.job_words.specs.Meaning.{asks_for_shingles, excludes as excludes_of, given, given_profile_word};
 ghost use Rattle.job_words.specs.Meaning.{gives as gives_of};
 ghost use Rattle.job_words.specs.Rows.{key_row};
-ghost use Rattle.key_values.specs.Pairs.{key_of as key_in, value_of as value_in};
 ghost use Rattle.std.specs.List.{list_any};
 ghost use Rattle.std.specs.Option.{option_map};
 ghost use Rattle.std.specs.Prelude.{drop, length, take, unwrap_or, ◌-◌, ◌≡◌, ◌≤◌};
 
-use crate::keys::Key;
-use key_values::cut_word;
+use crate::keys::JobKey;
+use key_values::{key_of, value_of};
 use weave_base::Words;
 
-// The key of a word; the whole word where it has none.
-fn key_of(word: &str) -> &str
-    ensures { result.now ≡ key_in word.now }
-{
-    match cut_word(word) {
-        Some((key, _)) => key,
-        None => word,
-    }
-}
-
-/// The value of a word; empty where it has none.
-pub fn value_of(word: &str) -> &str
-    ensures { result.now ≡ value_in word.now }
-{
-    match cut_word(word) {
-        Some((_, value)) => value,
-        None => "",
-    }
-}
-
 // Whether a word gives this key.
-fn gives(key: Key, word: &str) -> bool
+fn gives(key: JobKey, word: &str) -> bool
     ensures { result ≡ gives_of (key_row key) word.now }
 {
     key_of(word) == key.name()
@@ -42,18 +21,19 @@ fn gives(key: Key, word: &str) -> bool
 fn is_shingled(word: &str) -> bool
     ensures { result ≡ asks_for_shingles word.now }
 {
-    gives(Key::Shingle, word) && value_of(word) == "1"
+    gives(JobKey::Shingle, word) && value_of(word) == "1"
 }
 
 // Whether two words exclude each other.
 fn excludes(word: &str, other: &str) -> bool
     ensures { result ≡ excludes_of word.now other.now }
 {
-    is_shingled(word) && gives(Key::Dead, other) || gives(Key::Dead, word) && is_shingled(other)
+    is_shingled(word) && gives(JobKey::Dead, other)
+        || gives(JobKey::Dead, word) && is_shingled(other)
 }
 
 /// Whether a word between the command and this place gives the key.
-pub fn is_given_before(place: u32, words: &Words, key: Key) -> bool
+pub fn is_given_before(place: u32, words: &Words, key: JobKey) -> bool
     requires some { 1 ≤ place }
     requires within { place ≤ length words.now }
     ensures { result ≡ list_any (gives_of (key_row key)) (take (place - 1) (drop 1 words.now)) }
@@ -85,7 +65,7 @@ pub fn profile_word(words: &Words) -> u32
     ensures { result ≡ unwrap_or (given_profile_word (drop 1 words.now)) 0 }
 {
     for i in 1..words.len() {
-        if gives(Key::Profile, words.get(i)) {
+        if gives(JobKey::Profile, words.get(i)) {
             return i + 1;
         }
     }
@@ -93,7 +73,7 @@ pub fn profile_word(words: &Words) -> u32
 }
 
 /// The value that the words after the command give the key.
-pub fn value_given(words: &Words, key: Key) -> Option<&str>
+pub fn value_given(words: &Words, key: JobKey) -> Option<&str>
     ensures { option_map (λ value. value.now) result ≡ given (key_row key) (drop 1 words.now) }
 {
     for i in 1..words.len() {

@@ -9,7 +9,7 @@ use crate::values::{
 
 /// A key of some command.
 #[derive(Clone, Copy)]
-pub enum Key {
+pub enum JobKey {
     Profile,
     Kernel,
     Workers,
@@ -24,25 +24,25 @@ pub enum Key {
     Kind,
 }
 
-impl Key {
+impl JobKey {
     ghost use Rattle.job_words.specs.Rows.{key_row};
 
     pub fn name(self) -> &'static str
         ensures { result.now ≡ (key_row self).name }
     {
         match self {
-            Key::Profile => "profile",
-            Key::Kernel => "kernel",
-            Key::Workers => "workers",
-            Key::Cap => "cap",
-            Key::Most => "most",
-            Key::Shingle => "shingle",
-            Key::Dead => "dead",
-            Key::Seed => "seed",
-            Key::Pages => "pages",
-            Key::Width => "width",
-            Key::Height => "height",
-            Key::Kind => "kind",
+            JobKey::Profile => "profile",
+            JobKey::Kernel => "kernel",
+            JobKey::Workers => "workers",
+            JobKey::Cap => "cap",
+            JobKey::Most => "most",
+            JobKey::Shingle => "shingle",
+            JobKey::Dead => "dead",
+            JobKey::Seed => "seed",
+            JobKey::Pages => "pages",
+            JobKey::Width => "width",
+            JobKey::Height => "height",
+            JobKey::Kind => "kind",
         }
     }
 
@@ -51,18 +51,18 @@ impl Key {
         ensures { result ≡ (key_row self).takes value.now }
     {
         match self {
-            Key::Profile => is_profile_name(value),
-            Key::Kernel => kernel_named(value).is_some(),
-            Key::Workers => worker_count(value).is_some(),
-            Key::Cap => cap_value(value).is_some(),
-            Key::Most => most_value(value).is_some(),
-            Key::Shingle => shingle_value(value).is_some(),
-            Key::Dead => dead_value(value).is_some(),
-            Key::Seed => seed_value(value).is_some(),
-            Key::Pages => page_count(value).is_some(),
-            Key::Width => width_value(value).is_some(),
-            Key::Height => height_value(value).is_some(),
-            Key::Kind => kind_named(value).is_some(),
+            JobKey::Profile => is_profile_name(value),
+            JobKey::Kernel => kernel_named(value).is_some(),
+            JobKey::Workers => worker_count(value).is_some(),
+            JobKey::Cap => cap_value(value).is_some(),
+            JobKey::Most => most_value(value).is_some(),
+            JobKey::Shingle => shingle_value(value).is_some(),
+            JobKey::Dead => dead_value(value).is_some(),
+            JobKey::Seed => seed_value(value).is_some(),
+            JobKey::Pages => page_count(value).is_some(),
+            JobKey::Width => width_value(value).is_some(),
+            JobKey::Height => height_value(value).is_some(),
+            JobKey::Kind => kind_named(value).is_some(),
         }
     }
 }

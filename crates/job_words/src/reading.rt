@@ -8,8 +8,8 @@ ghost use Rattle.std.specs.Prelude.{IfErr, OnOk, [], drop, length, slice_get, ta
 ghost use Rattle.std.specs.Prelude.{◌-◌, ◌≡◌, ◌≤◌};
 
 use crate::dead_lists::{DeadNozzles, dead_value};
-use crate::earlier::{is_excluded_before, is_given_before, profile_word, value_given, value_of};
-use crate::keys::Key;
+use crate::earlier::{is_excluded_before, is_given_before, profile_word, value_given};
+use crate::keys::JobKey;
 use crate::table::Verb;
 use crate::usage::{UsageCause, UsageFault};
 use crate::values::{
@@ -17,9 +17,17 @@ use crate::values::{
     seed_value, shingle_value, width_value, worker_count,
 };
 use diffusion_kernel::Kernel;
-use key_values::cut_word;
+use key_values::{cut_word, value_of};
 use pwg_definitions::Kind;
 use weave_base::Words;
+
+/// The profile where no word gives one.
+pub const DEFAULT_PROFILE: &str = "p360cmyk";
+
+/// Pixels across and lines down a made page where no word gives them.
+const DEFAULT_WIDTH: u32 = 256;
+
+const DEFAULT_HEIGHT: u32 = 300;
 
 /// What a command line asks for.
 #[derive(Clone, Debug, PartialEq, Eq, Drop)]
@@ -94,7 +102,7 @@ fn check_words(verb: Verb, words: &Words) -> Result<(), UsageFault>
 fn dead_given(words: &Words) -> DeadNozzles
     ensures { result.items ≡ unwrap_or (given_as dead_key dead_of (drop 1 words.now)) [] }
 {
-    value_given(words, Key::Dead)
+    value_given(words, JobKey::Dead)
         .and_then(dead_value)
         .unwrap_or_default()
 }
@@ -106,33 +114,33 @@ fn job_given(verb: Verb, words: &Words) -> Job
     Job {
         verb,
         profile_word: profile_word(words),
-        kernel: value_given(words, Key::Kernel)
+        kernel: value_given(words, JobKey::Kernel)
             .and_then(kernel_named)
             .unwrap_or(Kernel::Floyd),
-        workers: value_given(words, Key::Workers)
+        workers: value_given(words, JobKey::Workers)
             .and_then(worker_count)
             .unwrap_or(1),
-        cap: value_given(words, Key::Cap).and_then(cap_value),
-        most: value_given(words, Key::Most)
+        cap: value_given(words, JobKey::Cap).and_then(cap_value),
+        most: value_given(words, JobKey::Most)
             .and_then(most_value)
             .unwrap_or(GREATEST_MOST),
-        shingle: value_given(words, Key::Shingle)
+        shingle: value_given(words, JobKey::Shingle)
             .and_then(shingle_value)
             .unwrap_or(false),
         dead: dead_given(words),
-        seed: value_given(words, Key::Seed)
+        seed: value_given(words, JobKey::Seed)
             .and_then(seed_value)
             .unwrap_or(1),
-        pages: value_given(words, Key::Pages)
+        pages: value_given(words, JobKey::Pages)
             .and_then(page_count)
             .unwrap_or(1),
-        width: value_given(words, Key::Width)
+        width: value_given(words, JobKey::Width)
             .and_then(width_value)
-            .unwrap_or(256),
-        height: value_given(words, Key::Height)
+            .unwrap_or(DEFAULT_WIDTH),
+        height: value_given(words, JobKey::Height)
             .and_then(height_value)
-            .unwrap_or(300),
-        kind: value_given(words, Key::Kind)
+            .unwrap_or(DEFAULT_HEIGHT),
+        kind: value_given(words, JobKey::Kind)
             .and_then(kind_named)
             .unwrap_or(Kind::Gray8),
     }
@@ -166,7 +174,7 @@ pub fn profile_name<'a>(words: &'a Words, job: &Job) -> &'a str
     ensures { result.now ≡ profile_named words.now }
 {
     if job.profile_word == 0 {
-        return "p360cmyk";
+        return DEFAULT_PROFILE;
     }
     value_of(words.get(job.profile_word - 1))
 }

@@ -1,7 +1,7 @@
 //! The commands, and the keys that each of them takes.
 ghost use Rattle.std.specs.Prelude.{◌≡◌};
 
-use crate::keys::Key;
+use crate::keys::JobKey;
 
 /// A command.
 #[derive(Clone, Copy, Debug, PartialEq, Eq)]
@@ -38,24 +38,24 @@ impl Verb {
     }
 
     // The command's key of this name.
-    pub(crate) fn key(self, name: &str) -> Option<Key>
+    pub(crate) fn key(self, name: &str) -> Option<JobKey>
         ensures { option_map key_row result ≡ key_named (command_row self).keys name.now }
     {
         match (self, name) {
             (Verb::Print | Verb::Dots | Verb::Profile | Verb::Trial, "profile") => Some(
-                Key::Profile,
+                JobKey::Profile,
             ),
-            (Verb::Print | Verb::Trial, "kernel") => Some(Key::Kernel),
-            (Verb::Print | Verb::Trial, "workers") => Some(Key::Workers),
-            (Verb::Print, "cap") => Some(Key::Cap),
-            (Verb::Dots | Verb::List, "most") => Some(Key::Most),
-            (Verb::Print | Verb::Trial, "shingle") => Some(Key::Shingle),
-            (Verb::Print | Verb::Trial, "dead") => Some(Key::Dead),
-            (Verb::Trial, "seed") => Some(Key::Seed),
-            (Verb::Trial, "pages") => Some(Key::Pages),
-            (Verb::Trial, "width") => Some(Key::Width),
-            (Verb::Trial, "height") => Some(Key::Height),
-            (Verb::Trial, "kind") => Some(Key::Kind),
+            (Verb::Print | Verb::Trial, "kernel") => Some(JobKey::Kernel),
+            (Verb::Print | Verb::Trial, "workers") => Some(JobKey::Workers),
+            (Verb::Print, "cap") => Some(JobKey::Cap),
+            (Verb::Dots | Verb::List, "most") => Some(JobKey::Most),
+            (Verb::Print | Verb::Trial, "shingle") => Some(JobKey::Shingle),
+            (Verb::Print | Verb::Trial, "dead") => Some(JobKey::Dead),
+            (Verb::Trial, "seed") => Some(JobKey::Seed),
+            (Verb::Trial, "pages") => Some(JobKey::Pages),
+            (Verb::Trial, "width") => Some(JobKey::Width),
+            (Verb::Trial, "height") => Some(JobKey::Height),
+            (Verb::Trial, "kind") => Some(JobKey::Kind),
             _ => None,
         }
     }

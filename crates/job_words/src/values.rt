@@ -12,11 +12,20 @@ use pwg_definitions::{Kind, MOST_COLUMNS, MOST_ROWS};
 /// The most bytes of a job that are read: 16 GiB.
 pub const GREATEST_MOST: u64 = 17_179_869_184;
 
+/// The most bytes of a name, which may be that of a file.
+pub const MOST_NAME: usize = 255;
+
+/// The most workers of a team.
+const MOST_WORKERS: u64 = 64;
+
+/// The most pages of a trial.
+const MOST_PAGES: u64 = 16;
+
 /// Whether a text may be a profile's name: 1 to 255 bytes.
 pub fn is_profile_name(text: &str) -> bool
     ensures { result ≡ (nat_le 1 (length text.now) && nat_le (length text.now) 255) }
 {
-    1 <= text.len() && text.len() <= 255
+    1 <= text.len() && text.len() <= MOST_NAME
 }
 
 /// The kernel of a name.
@@ -49,7 +58,7 @@ pub fn most_value(text: &str) -> Option<u64>
 pub fn worker_count(text: &str) -> Option<u8>
     ensures { result ≡ workers_of text.now }
 {
-    let number = number_within(1, 64, text.as_bytes())?;
+    let number = number_within(1, MOST_WORKERS, text.as_bytes())?;
     Some(number as u8)
 }
 
@@ -76,7 +85,7 @@ pub fn seed_value(text: &str) -> Option<u32>
 pub fn page_count(text: &str) -> Option<u8>
     ensures { result ≡ pages_of text.now }
 {
-    let number = number_within(1, 16, text.as_bytes())?;
+    let number = number_within(1, MOST_PAGES, text.as_bytes())?;
     Some(number as u8)
 }
 

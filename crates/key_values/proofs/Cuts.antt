@@ -55,3 +55,10 @@ no_value word h =
     let outside : ltb (position_or_len is_equals_sign word) (length word) ≡ false = sym (some_place is_equals_sign word) ∙ h in
     let past : length word ≤ position_or_len is_equals_sign word = grind (arith, nat_tests) in
     sym (drop_of_length-le word (omega arith))
+
+-- a word without a `=` is its key
+pub whole_key : (word : List ℕ) → is_key_value word ≡ false → word ≡ key_of word
+whole_key word h =
+    let outside : ltb (position_or_len is_equals_sign word) (length word) ≡ false = sym (some_place is_equals_sign word) ∙ h in
+    let past : length word ≤ position_or_len is_equals_sign word = grind (arith, nat_tests) in
+    sym (take_all _ word past)

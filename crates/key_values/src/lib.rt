@@ -8,4 +8,4 @@ mod pairs;
 
 pub use laws::written_number_is_read;
 pub use numbers::number_within;
-pub use pairs::{cut_at, cut_word};
+pub use pairs::{cut_at, cut_word, key_of, value_of};

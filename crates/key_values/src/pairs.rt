@@ -1,5 +1,5 @@
 //! Texts cut in two.
-ghost use Rattle.key_values.specs.Pairs.{IsCut, is_key_value, key_of, value_of};
+ghost use Rattle.key_values.specs.Pairs.{IsCut, is_key_value, key_of as key_in, value_of as value_in};
 ghost use Rattle.std.specs.List.{position};
 ghost use Rattle.std.specs.Option.{option_map};
 ghost use Rattle.std.specs.Prelude.{MatchOption, false, true, ◌==◌, ◌≡◌};
@@ -24,7 +24,27 @@ pub fn cut_at(byte: u8, text: &[u8]) -> Option<(&[u8], &[u8])>
 /// The key and the value of a word, cut at its first `=`; `None` where it has none.
 pub fn cut_word(word: &str) -> Option<(&str, &str)>
     ensures { MatchOption result (is_key_value word.now ≡ false) (λ parts. (is_key_value word.now ≡ true)
-        × (parts.0.now ≡ key_of word.now) × (parts.1.now ≡ value_of word.now)) }
+        × (parts.0.now ≡ key_in word.now) × (parts.1.now ≡ value_in word.now)) }
 {
     word.split_once('=')
+}
+
+/// The key of a word; the whole word where it has none.
+pub fn key_of(word: &str) -> &str
+    ensures { result.now ≡ key_in word.now }
+{
+    match cut_word(word) {
+        Some((key, _)) => key,
+        None => word,
+    }
+}
+
+/// The value of a word; empty where it has none.
+pub fn value_of(word: &str) -> &str
+    ensures { result.now ≡ value_in word.now }
+{
+    match cut_word(word) {
+        Some((_, value)) => value,
+        None => "",
+    }
 }

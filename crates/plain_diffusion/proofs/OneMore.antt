@@ -1,5 +1,5 @@
 -- One pixel more.
-use Rattle.std.proofs.Common.{◌≡◌, ◌≢◌, ℕ, ℤ, pos, negsuc, suc, zero, ◌+◌, ◌-◌, ◌*◌, ◌<◌, ◌≤◌, ◌+ℤ◌, ◌≤ℤ◌, ◌&&◌, Bool, true, false, List, [], ◌∷◌, ◌++◌}
+use Rattle.std.proofs.Common.{◌≡◌, ℕ, ℤ, pos, ◌+◌, ◌-◌, ◌*◌, ◌<◌, ◌≤◌, ◌+ℤ◌, ◌&&◌, Bool, true, false, List, [], ◌∷◌, ◌++◌}
 use Rattle.std.proofs.Common.{get_or, length, length-append, inl, inr, sym, ◌∙◌, ap, arith, refl, subst}
 use Rattle.std.proofs.Math.Nat.{mul-le-mul_right}
 use Rattle.std.proofs.lemmas.Bool.{and_from, cases_eq, cases_lt, lt-ltb}
@@ -15,7 +15,7 @@ use Rattle.diffusion_laws.proofs.Places.{taken_from}
 use Rattle.diffusion_laws.proofs.Solve.{errors_solve}
 use Rattle.plain_diffusion.specs.Fills.{above_of, amount_of}
 use Rattle.plain_diffusion.specs.Known.{AreDots, AreErrors, GivesInRange, errors_of, given_of, plane_of}
-use Rattle.plain_diffusion.specs.declared.fills.Window.{Window}
+use Rattle.plain_diffusion.specs.declared.fills.InkWindow.{InkWindow}
 use Rattle.plain_diffusion.proofs.Places.{row_more}
 
 -- ---- tables
@@ -33,7 +33,7 @@ few_shares Stucki = record { right = refl; below = refl; below2 = refl; some = o
 
 -- ---- what the pixel at column x and row y has to show
 
-pub value_is : (w : Window) (y x : ℕ) (g : ℤ) → g ≡ given_of w y x
+pub value_is : (w : InkWindow) (y x : ℕ) (g : ℤ) → g ≡ given_of w y x
     → value_at (table_of w.kernel) (plane_of w) (errors_of w) y x
     ≡ pos (16 * amount_of w.fill x y) +ℤ int_div_euclid g (pos (divisor (table_of w.kernel)))
 value_is w y x g is =
@@ -43,14 +43,14 @@ value_is w y x g is =
     ∙ ap (λ z. pos (16 * amount_of w.fill x y) +ℤ int_div_euclid z (pos (divisor k))) (sym is)
 
 -- the same error by another number
-fits_as : (w : Window) (t n m : ℕ) → n ≡ m → InRange (errors_of w t n) → InRange (errors_of w t m)
+fits_as : (w : InkWindow) (t n m : ℕ) → n ≡ m → InRange (errors_of w t n) → InRange (errors_of w t m)
 fits_as w t n m same fits = let P : ℕ → Type 0 = λ k. InRange (errors_of w t k) in subst P same fits
 
-two_fit : (w : Window) (t x : ℕ) → ((i : ℕ) → i < 2 → InRange (errors_of w t (x + 3 - i)))
+two_fit : (w : InkWindow) (t x : ℕ) → ((i : ℕ) → i < 2 → InRange (errors_of w t (x + 3 - i)))
     → EachInRange (errors_of w t (x + 3) ∷ errors_of w t (x + 2) ∷ [])
 two_fit w t x fits = two_in _ _ (fits_as w t _ _ (omega arith) (fits 0 (omega arith))) (fits_as w t _ _ (omega arith) (fits 1 (omega arith)))
 
-five_fit : (w : Window) (t x : ℕ) → ((i : ℕ) → i < 5 → InRange (errors_of w t (x + 6 - i))) → EachInRange (five (errors_of w t) (x + 2))
+five_fit : (w : InkWindow) (t x : ℕ) → ((i : ℕ) → i < 5 → InRange (errors_of w t (x + 6 - i))) → EachInRange (five (errors_of w t) (x + 2))
 five_fit w t x fits = five_in _ _ _ _ _
     (fits_as w t (x + 6 - 4) (x + 2) (omega arith) (fits 4 (omega arith)))
     (fits_as w t (x + 6 - 3) (x + 2 + 1) (omega arith) (fits 3 (omega arith)))
@@ -58,7 +58,7 @@ five_fit w t x fits = five_in _ _ _ _ _
     (fits_as w t (x + 6 - 1) (x + 2 + 3) (omega arith) (fits 1 (omega arith)))
     (fits_as w t (x + 6 - 0) (x + 2 + 4) (omega arith) (fits 0 (omega arith)))
 
-pub carried_fits : (w : Window) (y x : ℕ) (g : ℤ) → g ≡ given_of w y x → GivesInRange w y x
+pub carried_fits : (w : InkWindow) (y x : ℕ) (g : ℤ) → g ≡ given_of w y x → GivesInRange w y x
     → InRange (int_div_euclid g (pos (divisor (table_of w.kernel))))
 unfolding value
 carried_fits w y x g is fits =
@@ -116,7 +116,7 @@ fits_more es v all fits i = elim (cases_lt i (length es)) [
   ]
 ]
 
-pub errors_more : (w : Window) (es : List ℤ) (y x : ℕ) (v : ℤ) → AreErrors w es → length es ≡ y * w.width + x
+pub errors_more : (w : InkWindow) (es : List ℤ) (y x : ℕ) (v : ℤ) → AreErrors w es → length es ≡ y * w.width + x
     → y < w.height → x < w.width → v ≡ error_of (value_at (table_of w.kernel) (plane_of w) (errors_of w) y x) → InRange v
     → AreErrors w (es ++ v ∷ [])
 errors_more w es y x v known len low wide is fits =
@@ -134,7 +134,7 @@ errors_more w es y x v known len low wide is fits =
           r c column (omega (arith, len, length-append es (v ∷ []))) row;
     }
 
-pub dots_more : (w : Window) (ds : List Bool) (y x : ℕ) (v : Bool) → AreDots w ds → length ds ≡ y * w.width + x
+pub dots_more : (w : InkWindow) (ds : List Bool) (y x : ℕ) (v : Bool) → AreDots w ds → length ds ≡ y * w.width + x
     → y < w.height → x < w.width → v ≡ is_dot (value_at (table_of w.kernel) (plane_of w) (errors_of w) y x)
     → AreDots w (ds ++ v ∷ [])
 dots_more w ds y x v known len low wide is =

@@ -3,8 +3,8 @@ use Rattle.std.specs.Prelude.{ℕ, ℤ, pos, ◌+◌, ◌*◌, ◌/◌, ◌%◌,
 use Rattle.diffusion_definitions.specs.Diffusion.{InRange}
 use Rattle.plain_diffusion.specs.declared.fills.Above.{Above}
 use Rattle.plain_diffusion.specs.declared.fills.Above.TheVariants.{Edges, Mixed}
-use Rattle.plain_diffusion.specs.declared.fills.Fill.{Fill}
-use Rattle.plain_diffusion.specs.declared.fills.Fill.TheVariants as fill
+use Rattle.plain_diffusion.specs.declared.fills.Amounts.{Amounts}
+use Rattle.plain_diffusion.specs.declared.fills.Amounts.TheVariants as fill
 
 -- a hash of a seed and a place, of 32 bits
 unfoldable pub hash : ℕ → ℕ → ℕ → ℕ
@@ -13,7 +13,7 @@ hash seed x y =
     (bit_xor n (n / 2 ^ 15) * 668265263) % 2 ^ 32
 
 -- the amount at column x and row y
-abbrev pub amount_of : Fill → ℕ → ℕ → ℕ
+abbrev pub amount_of : Amounts → ℕ → ℕ → ℕ
 amount_of (fill.Mixed seed) x y = hash seed x y / 2 ^ 24
 amount_of (fill.All amount) x y = amount
 

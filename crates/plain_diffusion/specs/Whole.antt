@@ -2,9 +2,9 @@
 use Rattle.std.specs.Prelude.{◌≡◌, ◌*◌, ◌≤◌, length}
 use Rattle.plain_diffusion.specs.Known.{AreDots, AreErrors}
 use Rattle.plain_diffusion.specs.declared.definition.Definition.TheInside.{Inside}
-use Rattle.plain_diffusion.specs.declared.fills.Window.{Window}
+use Rattle.plain_diffusion.specs.declared.fills.InkWindow.{InkWindow}
 
-abbrev pub window_of : Inside → Window
+abbrev pub window_of : Inside → InkWindow
 window_of d = d.window
 
 -- All errors and dots are known.

@@ -5,7 +5,7 @@ ghost use Rattle.plain_diffusion.specs.Fills.{AboveInRange};
 ghost use Rattle.plain_diffusion.specs.Known.{IsIndex, IsOutside, errors_of, plane_of};
 ghost use Rattle.std.specs.Prelude.{IfNone, IfSome, IsTrue, false, negsuc, pos, ℕ, ◌+ℤ◌, ◌≡◌, ◌≤ℤ◌, ◌≤◌};
 
-use crate::fills::{Above, Fill, Window, error_above};
+use crate::fills::{Above, Amounts, InkWindow, error_above};
 use crate::pixels::diffuse_row;
 use diffusion_kernel::Kernel;
 use std::alloc::Global;
@@ -14,15 +14,15 @@ use std::marker::Model;
 /// The errors and dots of one ink of a window. Contracts see the window.
 #[derive(Drop)]
 pub struct Definition {
-    window: Window,
+    window: InkWindow,
     errors: Vec<i16>,
     dots: Vec<bool>,
 }
 
 impl Model for Definition {
-    ghost use Rattle.plain_diffusion.specs.declared.fills.Window.{Window};
+    ghost use Rattle.plain_diffusion.specs.declared.fills.InkWindow.{InkWindow};
 
-    ghost Value = { Window };
+    ghost Value = { InkWindow };
 
     ghost use Rattle.plain_diffusion.specs.Whole.{IsWhole, window_of};
 
@@ -40,7 +40,7 @@ const LEAST_ERROR: i16 = -2040;
 const MOST_ERROR: i16 = 2039;
 
 // The number of a pixel, by row and then column.
-fn index_of(window: &Window, x: i64, y: i64) -> Option<usize>
+fn index_of(window: &InkWindow, x: i64, y: i64) -> Option<usize>
     requires width { window.now.width ≤ 65535 }
     requires height { window.now.height ≤ 65535 }
     ensures inside { IfSome result (IsIndex window.now x y) }
@@ -68,7 +68,7 @@ impl Definition {
     pub fn make(
         alloc: Global,
         kernel: Kernel,
-        fill: Fill,
+        fill: Amounts,
         above: Above,
         width: u32,
         height: u32,
@@ -84,7 +84,7 @@ impl Definition {
         if MOST < width || MOST < height || !is_in_range(above) {
             return None;
         }
-        let window = Window {
+        let window = InkWindow {
             kernel,
             fill,
             above,

@@ -8,7 +8,7 @@ use diffusion_kernel::Kernel;
 
 /// The amounts of a window.
 #[derive(Clone, Copy, Debug, PartialEq, Eq)]
-pub enum Fill {
+pub enum Amounts {
     /// By a hash of the pixel's place and of a seed, such as the ink's number.
     Mixed(u8),
     /// One amount for all pixels.
@@ -26,21 +26,21 @@ pub enum Above {
 
 /// An ink of a window, and what it is diffused by.
 #[derive(Clone, Copy, Debug, PartialEq, Eq)]
-pub struct Window {
+pub struct InkWindow {
     pub kernel: Kernel,
-    pub fill: Fill,
+    pub fill: Amounts,
     pub above: Above,
     pub width: u32,
     pub height: u32,
 }
 
 /// The amount at column x and row y.
-pub fn amount_at(fill: Fill, x: u32, y: u32) -> u8
+pub fn amount_at(fill: Amounts, x: u32, y: u32) -> u8
     ensures { result ≡ amount_of fill x y }
 {
     match fill {
-        Fill::Mixed(seed) => (mixed(seed, x, y) >> 24) as u8,
-        Fill::All(amount) => amount,
+        Amounts::Mixed(seed) => (mixed(seed, x, y) >> 24) as u8,
+        Amounts::All(amount) => amount,
     }
 }
 

@@ -13,4 +13,4 @@ mod pixels;
 mod shares;
 
 pub use definition::Definition;
-pub use fills::{Above, Fill, Window, amount_at};
+pub use fills::{Above, Amounts, InkWindow, amount_at};

@@ -6,12 +6,12 @@ ghost use Rattle.plain_diffusion.specs.Known.{AreDots, AreErrors, GivesInRange, 
 ghost use Rattle.plain_diffusion.specs.Known.{plane_of};
 ghost use Rattle.std.specs.Prelude.{IfSome, [], length, negsuc, pos, ℕ, ◌*ℤ◌, ◌*◌, ◌++◌, ◌+◌, ◌-◌, ◌<◌, ◌∷◌, ◌≡◌, ◌≤ℤ◌, ◌≤◌};
 
-use crate::fills::{Window, amount_at, error_above};
+use crate::fills::{InkWindow, amount_at, error_above};
 use crate::shares::{mean, shares_of};
 use diffusion_kernel::Dot;
 
 // The error at column x and row y, beside the window too.
-fn pixel_error(window: &Window, errors: &[i16], x: usize, y: usize) -> i16
+fn pixel_error(window: &InkWindow, errors: &[i16], x: usize, y: usize) -> i16
     requires known { AreErrors window.now errors.now }
     requires reached { x < window.now.width → y * window.now.width + x < length errors.now }
     requires row { y < window.now.height }
@@ -26,7 +26,7 @@ fn pixel_error(window: &Window, errors: &[i16], x: usize, y: usize) -> i16
 }
 
 // The error at column n - 4 and row t - 2, above or beside the window too.
-fn error_at(window: &Window, errors: &[i16], t: usize, n: usize) -> i16
+fn error_at(window: &InkWindow, errors: &[i16], t: usize, n: usize) -> i16
     requires known { AreErrors window.now errors.now }
     requires width { window.now.width ≤ 65535 }
     requires reached { IsReached window.now (length errors.now) t n }
@@ -53,7 +53,7 @@ fn part(share: u8, error: i16) -> i32
 }
 
 // What a row of errors gives to a pixel, in parts: its errors from column n - 4 on to the left, each times a share.
-fn row_parts(shares: &[u8], window: &Window, errors: &[i16], t: usize, n: usize) -> i32
+fn row_parts(shares: &[u8], window: &InkWindow, errors: &[i16], t: usize, n: usize) -> i32
     requires few { length shares.now ≤ 5 }
     requires near { n < 131072 }
     requires room { length shares.now ≤ n }
@@ -72,7 +72,7 @@ fn row_parts(shares: &[u8], window: &Window, errors: &[i16], t: usize, n: usize)
 }
 
 // What the errors near the pixel at column x and row y give to it, in parts.
-fn given(window: &Window, errors: &[i16], x: u32, y: u32) -> i32
+fn given(window: &InkWindow, errors: &[i16], x: u32, y: u32) -> i32
     requires known { AreErrors window.now errors.now }
     requires x { x < window.now.width }
     requires width { window.now.width ≤ 65535 }
@@ -91,7 +91,7 @@ fn given(window: &Window, errors: &[i16], x: u32, y: u32) -> i32
 }
 
 // What the pixel at column x and row y has to show, in sixteenths of an amount.
-fn value_at(window: &Window, errors: &[i16], x: u32, y: u32) -> i32
+fn value_at(window: &InkWindow, errors: &[i16], x: u32, y: u32) -> i32
     requires known { AreErrors window.now errors.now }
     requires x { x < window.now.width }
     requires width { window.now.width ≤ 65535 }
@@ -139,7 +139,7 @@ fn push_dot(errors: &mut Vec<i16>, dots: &mut Vec<bool>, dot: Dot) -> Option<()>
 
 /// Diffuses row y. `None` where there is no memory.
 pub(crate) fn diffuse_row(
-    window: &Window,
+    window: &InkWindow,
     y: u32,
     errors: &mut Vec<i16>,
     dots: &mut Vec<bool>,

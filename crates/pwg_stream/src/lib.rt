@@ -5,16 +5,17 @@
 //! nothing of its bytes where the source does not say what it holds. The reader does not hold the source: each call
 //! borrows one, and is meant to borrow the same one.
 //!
-//! - `begin` uses the sync word.
+//! - `begin` uses the sync word, or the text is no stream of pages, and ends with this fault of page 0.
 //! - `next_page`, where no line of the page before is left: either the next 1,796 bytes were a header that is accepted,
 //!   and the page has its form, the next number up to 9,999, and all its lines left; or the text is at its end; or the
 //!   stream has no further page, and ends with this fault.
 //! - `next_line`, where a line of the page is left: either the next bytes were a group of this page, whatever follows;
-//!   or the last lines of the page, read from the text, stop at this line with this cause.
+//!   or the last lines of the page, read from the text, stop at this line with this cause. `line` is then the line of
+//!   the group, and `lines_left` says how many are left.
 //! - For each of the three: bytes that are used are a prefix of the text, and nothing is lost where the call stops
-//!   (`used`). `Read` comes only where the source's count of faults rose, which never falls (`read`, `later`), and where
-//!   what was taken does not hold the whole of what the call was to give, and no fault but one that more bytes could mend
-//!   (`taken`, `short`): so a fault that was read is answered before a later failed read.
+//!   (`used`). `Read` comes first only where the source's count of faults rose, which never falls (`read`, `later`),
+//!   and where what was taken does not hold the whole of what the call was to give, and no fault but one that more
+//!   bytes could mend (`taken`, `short`): so a fault that was read is answered before a later failed read.
 //! - A stop is answered again by each later call, with nothing read and nothing changed (`stop`, `again`), and so is
 //!   the end (`end`, `end_again`).
 //!

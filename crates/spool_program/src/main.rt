@@ -4,19 +4,18 @@
 //! It has no contract, since `main` may promise nothing about the outside. Its stored run tests it.
 #![tactic(auto)]
 
-mod command_line;
 mod help;
 
-use command_line::read_words;
 use driver_core::OpenGate;
-use help::text_of;
+use help::TEXTS;
 use ink_meter::{DotMeter, Meter, can_settle, settle};
-use spool_core::{SpoolAnswer, run_spool, tell};
+use program_words::{NoWords, Words, read_words, text_of};
+use spool_core::{SpoolAnswer, SpoolCause, SpoolFault, run_spool, tell};
 use std::io::Write;
 use std::process::ExitCode;
 use std::sync::Wait;
 use std::thread::Threads;
-use weave_base::{DirShelf, StdSink, Words, put_all};
+use weave_base::{DirShelf, StdSink, put_all};
 
 // Writes a text instead of a run, and gives the exit status.
 fn show<W: Write>(text: &str, out: &mut StdSink<W>) -> u8 {
@@ -29,7 +28,7 @@ fn show<W: Write>(text: &str, out: &mut StdSink<W>) -> u8 {
 // Runs the words, or writes the text that the first of them asks for.
 fn run_words<R: Threads + Wait + Sync>(rt: &HostRuntime, threads: &R, words: &Words) -> u8 {
     let mut out = StdSink::make(rt.stdout());
-    if let Some(text) = text_of(words) {
+    if let Some(text) = text_of(words, TEXTS) {
         return show(text, &mut out);
     }
     let mut err = StdSink::make(rt.stderr());
@@ -62,8 +61,13 @@ fn main(rt: HostRuntime) -> ExitCode {
     match read_words(&rt) {
         Ok(words) => ExitCode::from(run_words(&rt, &rt, &words)),
         // memory runs out before anything is written
-        Err(SpoolAnswer::Memory) => ExitCode::from(SpoolAnswer::Memory.status()),
-        Err(answer) => {
+        Err(NoWords::Memory) => ExitCode::from(SpoolAnswer::Memory.status()),
+        Err(NoWords::NoText) => {
+            let fault = SpoolFault {
+                word: 0,
+                cause: SpoolCause::BadValue,
+            };
+            let answer = SpoolAnswer::Usage(fault);
             tell(&[], &answer, &mut StdSink::make(rt.stderr()));
             ExitCode::from(answer.status())
         }

@@ -1,19 +1,13 @@
 -- The first of some words that passes a test, and how many of them pass it.
-use Rattle.std.proofs.Common.{◌≡◌, ℕ, zero, suc, ◌≤◌, ◌+◌, Bool, true, false, ◌||◌, cond, List, [], ◌∷◌, length, take}
+use Rattle.std.proofs.Common.{◌≡◌, ℕ, zero, suc, ◌≤◌, ◌+◌, Bool, true, false, cond, List, [], ◌∷◌, length, take}
 use Rattle.std.proofs.Common.{Some, None, slice_get, refl, ap, sym, subst, ◌∙◌, arith}
 use Rattle.std.specs.List.{count_by, filter, find, list_any, position_from}
-use Rattle.std.proofs.lemmas.Bool.Decides.{nat_tests}
 use Rattle.std.proofs.lemmas.List.{length-take-le, take_all}
-use Rattle.std.proofs.lemmas.List.Folds.{list_any-append}
 use Rattle.std.proofs.lemmas.List.Sums.{count_by-le-length, count_by_more_no, count_by_more_yes, sum_by-cons}
 use Rattle.std.proofs.lemmas.Option.{get_or_from_slice_get, slice_get_within}
-use Rattle.job_words.proofs.FirstWords.{find_none, taken}
+use Rattle.job_words.proofs.FirstWords.{find_none, position_at, position_none}
 
 -- ---- the first
-
-pub none_more : {X : Type 0} (p : X → Bool) (xs : List X) (k : ℕ) (x : X) → slice_get xs k ≡ Some x
-    → list_any p (take k xs) ≡ false → p x ≡ false → list_any p (take (k + 1) xs) ≡ false
-none_more p xs k x here none fails = rw (taken xs k x here, list_any-append, none, fails) refl
 
 none_at_all : {X : Type 0} (p : X → Bool) (xs : List X) (k : ℕ) → length xs ≤ k → list_any p (take k xs) ≡ false
     → list_any p xs ≡ false
@@ -23,38 +17,9 @@ pub no_first : {X : Type 0} (p : X → Bool) (xs : List X) (k : ℕ) → length 
     → find p xs ≡ None
 no_first p xs k all none = find_none p xs (none_at_all p xs k all none)
 
-position_none : {X : Type 0} (p : X → Bool) (n : ℕ) (xs : List X) → list_any p xs ≡ false → position_from p n xs ≡ None
-position_none p n [] h = refl
-position_none p n (x ∷ xs) h = grind (arith, nat_tests, position_none p (n + 1) xs)
-
 pub no_place : {X : Type 0} (p : X → Bool) (xs : List X) (k : ℕ) → length xs ≤ k → list_any p (take k xs) ≡ false
     → position_from p 1 xs ≡ None
 no_place p xs k all none = position_none p 1 xs (none_at_all p xs k all none)
-
-pub find_at : {X : Type 0} (p : X → Bool) (xs : List X) (k : ℕ) (x : X) → slice_get xs k ≡ Some x
-    → list_any p (take k xs) ≡ false → p x ≡ true → find p xs ≡ Some x
-find_at p [] k x here none passes = cc
-find_at p (y ∷ xs) zero x here none passes =
-    let same : y ≡ x = cc in
-    rw (same, passes) refl
-find_at p (y ∷ xs) (suc k) x here none passes = by_test (p y) none (find_at p xs k x here) where
-  by_test : (test : Bool) → (test || list_any p (take k xs)) ≡ false
-      → (list_any p (take k xs) ≡ false → p x ≡ true → find p xs ≡ Some x) → cond test (Some y) (find p xs) ≡ Some x
-  by_test true none later = cc
-  by_test false none later = later none passes
-
-position_at : {X : Type 0} (p : X → Bool) (n : ℕ) (xs : List X) (k : ℕ) (x : X) → slice_get xs k ≡ Some x
-    → list_any p (take k xs) ≡ false → p x ≡ true → position_from p n xs ≡ Some (n + k)
-position_at p n [] k x here none passes = cc
-position_at p n (y ∷ xs) zero x here none passes =
-    let same : y ≡ x = cc in
-    rw (same, passes) (ap Some (omega arith))
-position_at p n (y ∷ xs) (suc k) x here none passes = by_test (p y) none (position_at p (n + 1) xs k x here) where
-  by_test : (test : Bool) → (test || list_any p (take k xs)) ≡ false
-      → (list_any p (take k xs) ≡ false → p x ≡ true → position_from p (n + 1) xs ≡ Some (n + 1 + k))
-      → cond test (Some n) (position_from p (n + 1) xs) ≡ Some (n + suc k)
-  by_test true none later = cc
-  by_test false none later = later none passes ∙ ap Some (omega arith)
 
 pub place_at : {X : Type 0} (p : X → Bool) (xs : List X) (k : ℕ) (x : X) → slice_get xs k ≡ Some x
     → list_any p (take k xs) ≡ false → p x ≡ true → position_from p 1 xs ≡ Some (k + 1)

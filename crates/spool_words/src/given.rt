@@ -1,44 +1,23 @@
 //! What words give.
 ghost use Rattle.job_words.specs.Meaning.{given, gives as gives_of};
-ghost use Rattle.key_values.specs.Pairs.{key_of as key_in, value_of as value_in};
 ghost use Rattle.spool_words.specs.Meaning.{given_profile_word};
 ghost use Rattle.spool_words.specs.Rows.{key_row};
 ghost use Rattle.std.specs.Option.{option_map};
 ghost use Rattle.std.specs.Prelude.{count_by, length, take, unwrap_or, ◌≡◌, ◌≤◌};
 
-use crate::keys::Key;
-use key_values::cut_word;
+use crate::keys::SpoolKey;
+use key_values::{key_of, value_of};
 use weave_base::Words;
 
-// The key of a word; the whole word where it has none.
-fn key_of(word: &str) -> &str
-    ensures { result.now ≡ key_in word.now }
-{
-    match cut_word(word) {
-        Some((key, _)) => key,
-        None => word,
-    }
-}
-
-/// The value of a word; empty where it has none.
-pub fn value_of(word: &str) -> &str
-    ensures { result.now ≡ value_in word.now }
-{
-    match cut_word(word) {
-        Some((_, value)) => value,
-        None => "",
-    }
-}
-
 /// Whether a word gives this key.
-pub fn gives(key: Key, word: &str) -> bool
+pub fn gives(key: SpoolKey, word: &str) -> bool
     ensures { result ≡ gives_of (key_row key).row word.now }
 {
     key_of(word) == key.name()
 }
 
 /// How many words before this place give the key.
-pub fn count_before(place: u32, words: &Words, key: Key) -> u32
+pub fn count_before(place: u32, words: &Words, key: SpoolKey) -> u32
     requires { place ≤ length words.now }
     ensures { result ≡ count_by (gives_of (key_row key).row) (take place words.now) }
 {
@@ -56,7 +35,7 @@ pub fn profile_word(words: &Words) -> u32
     ensures { result ≡ unwrap_or (given_profile_word words.now) 0 }
 {
     for i in 0..words.len() {
-        if gives(Key::Profile, words.get(i)) {
+        if gives(SpoolKey::Profile, words.get(i)) {
             return i + 1;
         }
     }
@@ -64,7 +43,7 @@ pub fn profile_word(words: &Words) -> u32
 }
 
 /// The value that the words give the key.
-pub fn value_given(words: &Words, key: Key) -> Option<&str>
+pub fn value_given(words: &Words, key: SpoolKey) -> Option<&str>
     ensures { option_map (λ value. value.now) result ≡ given (key_row key).row words.now }
 {
     for i in 0..words.len() {

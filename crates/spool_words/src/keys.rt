@@ -2,31 +2,35 @@
 ghost use Rattle.std.specs.Prelude.{◌≡◌};
 
 use crate::faults::SpoolCause;
-use crate::values::{is_name, kernel_named, lists_names, worker_count};
+use crate::values::{is_name, lists_names};
+use job_words::{kernel_named, worker_count};
+
+/// The most senders of a run.
+const MOST_SENDERS: u32 = 8;
 
 /// A key of the spool.
 #[derive(Clone, Copy)]
-pub enum Key {
+pub enum SpoolKey {
     Profile,
     Kernel,
     Workers,
     Send,
 }
 
-impl Key {
+impl SpoolKey {
     ghost use Rattle.spool_words.specs.Keys.{key_named};
     ghost use Rattle.spool_words.specs.Rows.{key_row};
     ghost use Rattle.std.specs.Option.{option_map};
 
     /// The key of this name.
-    pub fn named(name: &str) -> Option<Key>
+    pub fn named(name: &str) -> Option<SpoolKey>
         ensures { option_map key_row result ≡ key_named name.now }
     {
         match name {
-            "profile" => Some(Key::Profile),
-            "kernel" => Some(Key::Kernel),
-            "workers" => Some(Key::Workers),
-            "send" => Some(Key::Send),
+            "profile" => Some(SpoolKey::Profile),
+            "kernel" => Some(SpoolKey::Kernel),
+            "workers" => Some(SpoolKey::Workers),
+            "send" => Some(SpoolKey::Send),
             _ => None,
         }
     }
@@ -35,10 +39,10 @@ impl Key {
         ensures { result.now ≡ (key_row self).row.name }
     {
         match self {
-            Key::Profile => "profile",
-            Key::Kernel => "kernel",
-            Key::Workers => "workers",
-            Key::Send => "send",
+            SpoolKey::Profile => "profile",
+            SpoolKey::Kernel => "kernel",
+            SpoolKey::Workers => "workers",
+            SpoolKey::Send => "send",
         }
     }
 
@@ -47,7 +51,7 @@ impl Key {
         ensures { result ≡ (key_row self).most }
     {
         match self {
-            Key::Send => 8,
+            SpoolKey::Send => MOST_SENDERS,
             _ => 1,
         }
     }
@@ -57,7 +61,7 @@ impl Key {
         ensures { result ≡ (key_row self).excess }
     {
         match self {
-            Key::Send => SpoolCause::BadValue,
+            SpoolKey::Send => SpoolCause::BadValue,
             _ => SpoolCause::RepeatedKey,
         }
     }
@@ -67,10 +71,10 @@ impl Key {
         ensures { result ≡ (key_row self).row.takes value.now }
     {
         match self {
-            Key::Profile => is_name(value),
-            Key::Kernel => kernel_named(value).is_some(),
-            Key::Workers => worker_count(value).is_some(),
-            Key::Send => lists_names(value),
+            SpoolKey::Profile => is_name(value),
+            SpoolKey::Kernel => kernel_named(value).is_some(),
+            SpoolKey::Workers => worker_count(value).is_some(),
+            SpoolKey::Send => lists_names(value),
         }
     }
 }

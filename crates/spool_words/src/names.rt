@@ -6,9 +6,10 @@ ghost use Rattle.spool_words.specs.Meaning.{names_from, sender_count, spool_mean
 ghost use Rattle.std.specs.Option.{option_map};
 ghost use Rattle.std.specs.Prelude.{Ok, Some, filter, length, slice_get, ◌-◌, ◌≡◌, ◌≤◌};
 
-use crate::given::{gives, value_of};
-use crate::keys::Key;
+use crate::given::gives;
+use crate::keys::SpoolKey;
 use crate::reading::SpoolRequest;
+use key_values::value_of;
 use weave_base::Words;
 
 // The value of the word of this sender, counted from 1.
@@ -20,7 +21,7 @@ fn sent_by(words: &Words, sender: u8) -> &str
     let mut senders = 0;
     for i in 0..words.len() {
         let word = words.get(i);
-        if gives(Key::Send, word) {
+        if gives(SpoolKey::Send, word) {
             senders += 1;
             if senders == sender {
                 return value_of(word);

@@ -4,11 +4,11 @@ ghost use Rattle.spool_words.specs.Meaning.{word_fault};
 ghost use Rattle.std.specs.Prelude.{IfErr, Ok, OnOk, Some, [], length, slice_get, take, ◌≡◌, ◌≤◌};
 
 use crate::faults::{SpoolCause, SpoolFault};
-use crate::given::{count_before, profile_word, value_given, value_of};
-use crate::keys::Key;
-use crate::values::{kernel_named, worker_count};
+use crate::given::{count_before, profile_word, value_given};
+use crate::keys::SpoolKey;
 use diffusion_kernel::Kernel;
-use key_values::cut_word;
+use job_words::{DEFAULT_PROFILE, kernel_named, worker_count};
+use key_values::{cut_word, value_of};
 use weave_base::Words;
 
 /// What the words of the spool ask for, besides the names of files.
@@ -33,7 +33,7 @@ fn refusal(words: &Words, place: u32, word: &str) -> Option<SpoolCause>
     let Some((name, value)) = cut_word(word) else {
         return Some(SpoolCause::NotKeyValue);
     };
-    let Some(key) = Key::named(name) else {
+    let Some(key) = SpoolKey::named(name) else {
         return Some(SpoolCause::UnknownKey);
     };
     if count_before(place, words, key) >= key.most() {
@@ -65,10 +65,10 @@ fn request_given(words: &Words, senders: u8) -> SpoolRequest
 {
     SpoolRequest {
         profile_word: profile_word(words),
-        kernel: value_given(words, Key::Kernel)
+        kernel: value_given(words, SpoolKey::Kernel)
             .and_then(kernel_named)
             .unwrap_or(Kernel::Floyd),
-        workers: value_given(words, Key::Workers)
+        workers: value_given(words, SpoolKey::Workers)
             .and_then(worker_count)
             .unwrap_or(1),
         senders,
@@ -83,7 +83,7 @@ pub fn read_spool_words(words: &Words) -> Result<SpoolRequest, SpoolFault>
     ensures { result ≡ spool_meaning words.now }
 {
     check_words(words)?;
-    let senders = count_before(words.len(), words, Key::Send);
+    let senders = count_before(words.len(), words, SpoolKey::Send);
     if senders == 0 {
         return Err(SpoolFault {
             word: words.len() + 1,
@@ -100,7 +100,7 @@ pub fn profile_name<'a>(words: &'a Words, request: &SpoolRequest) -> &'a str
     ensures { result.now ≡ profile_named words.now }
 {
     if request.profile_word == 0 {
-        return "p360cmyk";
+        return DEFAULT_PROFILE;
     }
     value_of(words.get(request.profile_word - 1))
 }

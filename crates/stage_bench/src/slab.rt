@@ -4,7 +4,7 @@ ghost use Rattle.std.specs.Prelude.{IfSome};
 
 use diffusion_kernel::Kernel;
 use dot_planes::{InkRows, Planes};
-use plain_diffusion::{Above, Definition, Fill};
+use plain_diffusion::{Above, Amounts, Definition};
 use std::alloc::Global;
 use std::thread::Threads;
 use std::time::Instant;
@@ -63,7 +63,7 @@ fn diffuse_plainly(alloc: Global, kernel: Kernel, inks: u8) -> Option<()> {
         Definition::make(
             alloc,
             kernel,
-            Fill::Mixed(ink),
+            Amounts::Mixed(ink),
             Above::Edges(0),
             WIDTH,
             ROWS,

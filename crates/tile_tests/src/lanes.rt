@@ -7,7 +7,7 @@ ghost use Rattle.tile_shape.specs.Geometry.{IsTile};
 use crate::checks::same;
 use diffusion_kernel::Kernel;
 use dot_planes::{InkRows, TileAmounts, TileRows};
-use plain_diffusion::{Above, Definition, Fill, amount_at};
+use plain_diffusion::{Above, Amounts, Definition, amount_at};
 use std::alloc::Global;
 use std::test::Fail;
 use tile_lanes::diffuse_tile;
@@ -313,7 +313,7 @@ fn is_right(known: &Definition, kernel: Kernel, place: Place, rows: &InkRows) ->
         && has_dots(known, place, &given.dots)
 }
 
-fn set_amounts(rows: &mut InkRows, fill: Fill) {
+fn set_amounts(rows: &mut InkRows, fill: Amounts) {
     for y in 0..rows.rows() {
         for x in 0..rows.width() {
             if x < rows.width() && y < rows.rows() && rows.inks() > 0 {
@@ -324,7 +324,13 @@ fn set_amounts(rows: &mut InkRows, fill: Fill) {
 }
 
 // How many tiles of a window are wrong, or `None` where there is no memory.
-fn wrong_tiles(alloc: Global, kernel: Kernel, fill: Fill, width: u32, height: u32) -> Option<u32> {
+fn wrong_tiles(
+    alloc: Global,
+    kernel: Kernel,
+    fill: Amounts,
+    width: u32,
+    height: u32,
+) -> Option<u32> {
     if width < 1 || width > 200 || height < 1 || height > 70 {
         return None;
     }
@@ -349,7 +355,7 @@ fn tiles_of_every_cut_have_the_errors_and_dots_of_the_rule(rt: HostRuntime) {
     for kernel in [Kernel::Floyd, Kernel::Jarvis, Kernel::Stucki] {
         for width in [1, 2, 63, 64, 65, 130, 200] {
             for height in [1, 31, 32, 33, 70] {
-                let wrong = wrong_tiles(rt.alloc(), kernel, Fill::Mixed(0), width, height);
+                let wrong = wrong_tiles(rt.alloc(), kernel, Amounts::Mixed(0), width, height);
                 assert!(rt; wrong == Some(0), "{kernel:?} at {width} by {height}");
             }
         }
@@ -360,7 +366,7 @@ fn tiles_of_every_cut_have_the_errors_and_dots_of_the_rule(rt: HostRuntime) {
 fn even_amounts_have_the_errors_and_dots_of_the_rule(rt: HostRuntime) {
     for kernel in [Kernel::Floyd, Kernel::Jarvis, Kernel::Stucki] {
         for amount in [0, 127, 128, 255] {
-            let wrong = wrong_tiles(rt.alloc(), kernel, Fill::All(amount), 199, 69);
+            let wrong = wrong_tiles(rt.alloc(), kernel, Amounts::All(amount), 199, 69);
             assert!(rt; wrong == Some(0), "{kernel:?} of {amount}");
         }
     }
@@ -398,7 +404,7 @@ fn the_least_and_greatest_errors_have_the_errors_and_dots_of_the_rule(
     rt: HostRuntime,
 ) -> Result<(), Fail> {
     let mut rows = InkRows::make(rt.alloc(), 150, 40, 1)?;
-    for fill in [Fill::Mixed(0), Fill::All(0), Fill::All(255)] {
+    for fill in [Amounts::Mixed(0), Amounts::All(0), Amounts::All(255)] {
         set_amounts(&mut rows, fill);
         for kernel in [Kernel::Floyd, Kernel::Jarvis, Kernel::Stucki] {
             for (c, j, error) in EXTREMES {
@@ -413,7 +419,7 @@ fn the_least_and_greatest_errors_have_the_errors_and_dots_of_the_rule(
 #[test]
 fn four_halves_give_every_other_dot(rt: HostRuntime) -> Result<(), Fail> {
     let mut rows = InkRows::make(rt.alloc(), 4, 1, 1)?;
-    set_amounts(&mut rows, Fill::All(128));
+    set_amounts(&mut rows, Amounts::All(128));
     let place = Place { c: 0, j: 0 };
     assert!(rt; is_tile(&rows, place));
     let given = diffused(Kernel::Floyd, place, &rows, no_edges());

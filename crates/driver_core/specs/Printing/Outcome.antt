@@ -1,4 +1,4 @@
--- The outcomes of printing the pages of a stream: what was read and written, by why it stopped.
+-- The outcomes of printing the pages of a stream: what was read, written and counted, by why it stopped.
 use Rattle.std.specs.Prelude.{◌≡◌, ℕ, ◌+◌, ◌-◌, ◌⊎◌, List, [], ◌∷◌, ◌++◌, length, Option}
 use Rattle.std.specs.Io.KnownBytes.{Appends}
 use Rattle.diffusion_definitions.specs.Diffusion.{Table}
@@ -30,8 +30,9 @@ pub record PrintsAll (way : Way) (p : Printer) (k : Table) (input out : Outside)
   pub prints : Prints p k pages (job_bytes way p k pages)
   pub passes : KeepTo way p k pages
 
--- The input is a stream of some pages that ends with this fault, and the job of these pages was written: those before
--- the named page, none where page 0, the sync word, is named. They keep to the way of the head.
+-- The input, if the source reports its bytes, is a stream of some pages that ends with this fault. The job of these
+-- pages was written: those before the named page, none where page 0, the sync word, is named. They keep to the way of
+-- the head.
 pub record MeetsFault (way : Way) (p : Printer) (k : Table) (input out : Outside) (page line : ℕ) (cause : InputCause) : Type 0 where
   pub pages : List Page
   pub told : IsStream p input.before pages (Fault page line cause)
@@ -54,8 +55,8 @@ pub record PrintsTaken (way : Way) (p : Printer) (k : Table) (input out : Outsid
   pub writes : Appends out.before out.now (job_bytes way p k pages)
   pub passes : KeepTo way p k pages
 
--- The jobs of the pages before this one were written, and a proper prefix of its own. All of them are the first pages
--- of what was read, and keep to the way of the head.
+-- The job of the pages before this one was written, and a proper prefix of its own. All of them are the first pages of
+-- what was read, and keep to the way of the head.
 pub record StopsInPage (way : Way) (p : Printer) (k : Table) (input out : Outside) (number : ℕ) : Type 0 where
   pub pages : List Page
   pub page : Page
@@ -79,7 +80,8 @@ pub record CountsOneMore (p : Printer) (k : Table) (meters : Meters) (pages othe
   pub pages_counted : CountsPages p k meters (pages ++ page ∷ [])
 
 -- This page was read whole, and the first meter without room for its dots has this total and this cap. The job of the
--- pages before it was written and keeps to the way of the head, and these were counted.
+-- pages before it was written and keeps to the way of the head, and these were counted. The input, if the source
+-- reports its bytes, begins with all of them.
 pub record GoesOver (way : Way) (p : Printer) (k : Table) (input out : Outside) (meters : Meters) (number total dots cap : ℕ) : Type 0 where
   pub pages : List Page
   pub page : Page
@@ -123,7 +125,7 @@ pages_written way p k input out meters (answer.Usage fault) does = 0
 pages_written way p k input out meters (answer.Profile line cause) does = 0
 pages_written way p k input out meters (answer.Job offset cause) does = 0
 
--- the same, where so many pages were written whole
+-- the outcome where so many pages were written whole
 abbrev pub PrintedOutcome : Way → Printer → Table → Outside → Outside → Meters → ℕ → Answer → Type 0
 PrintedOutcome way p k input out meters pages a =
     (does : PrintOutcome way p k input out meters a) × (pages_written way p k input out meters a does ≡ pages)

@@ -10,7 +10,7 @@ ghost use Rattle.tile_shape.specs.declared.tiles.Place.{Place};
 use super::{finish, level_rows, same};
 use diffusion_kernel::Kernel;
 use dot_planes::InkRows;
-use plain_diffusion::{Above, Definition, Fill, amount_at};
+use plain_diffusion::{Above, Amounts, Definition, amount_at};
 use std::alloc::Global;
 use tile_board::{Board, Claim, Closed, Pass};
 use tile_border::{Task, TopEdges};
@@ -41,7 +41,12 @@ fn set_row(rows: &mut InkRows, i: u8, first: u32, y: u32)
 {
     for x in 0..rows.width() {
         if i < rows.inks() && y < rows.rows() && x < rows.width() {
-            rows.set(i, x, y, amount_at(Fill::Mixed(i), x, first.wrapping_add(y)));
+            rows.set(
+                i,
+                x,
+                y,
+                amount_at(Amounts::Mixed(i), x, first.wrapping_add(y)),
+            );
         }
     }
 }
@@ -187,7 +192,7 @@ fn wrong_dots(closed: &Closed, shape: Shape, known: &Definition, i: u8, first: u
 
 // An ink of a window below errors 0.
 fn definition(alloc: Global, kernel: Kernel, i: u8, width: u32, height: u32) -> Option<Definition> {
-    let (fill, above) = (Fill::Mixed(i), Above::Edges(0));
+    let (fill, above) = (Amounts::Mixed(i), Above::Edges(0));
     Definition::make(alloc, kernel, fill, above, width, height)
 }
 

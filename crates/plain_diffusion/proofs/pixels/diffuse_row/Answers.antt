@@ -3,14 +3,14 @@ use Rattle.std.proofs.lemmas.Int.{ints}
 use Rattle.diffusion_definitions.specs.Diffusion.{error_of, is_dot, value_at}
 use Rattle.diffusion_kernel.specs.Tables.{table_of}
 use Rattle.plain_diffusion.specs.Known.{AreDots, AreErrors, errors_of, plane_of}
-use Rattle.plain_diffusion.specs.declared.fills.Window.{Window}
+use Rattle.plain_diffusion.specs.declared.fills.InkWindow.{InkWindow}
 use Rattle.plain_diffusion.proofs.OneMore.{dots_more, errors_more}
 use Rattle.plain_diffusion.proofs.pixels.diffuse_row.Goals as goal
 
 pub loop-x-preserved : goal.loop-x-preserved
 loop-x-preserved c =
     let v = c.loop-x.invariant in
-    let w : Window = c.args.window.now in
+    let w : InkWindow = c.args.window.now in
     let dot = c.dot_of-dot in
     let low = c.value_at.ensures.low in
     let high = c.value_at.ensures.high in

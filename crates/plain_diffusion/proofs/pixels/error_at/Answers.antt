@@ -1,7 +1,7 @@
 use Rattle.std.proofs.Common.{◌≡◌, ℤ, arith, sym, ◌∙◌, to_z, of_z, w16}
 use Rattle.std.proofs.lemmas.Int.{ints}
 use Rattle.diffusion_definitions.specs.Diffusion.{InRange}
-use Rattle.plain_diffusion.proofs.Places.{left_is, moved, top_is}
+use Rattle.plain_diffusion.proofs.Places.{left_is, top_is}
 use Rattle.plain_diffusion.proofs.pixels.error_at.Goals as goal
 
 pub returns-then-t-lt2-clause-is : goal.returns-then-t-lt2-clause-is

@@ -1,4 +1,4 @@
-use Rattle.std.proofs.Common.{◌≡◌, ◌+◌, ◌-◌, ◌<◌, ℕ, ℤ, List, ap, arith, length, ◌∙◌}
+use Rattle.std.proofs.Common.{◌≡◌, ◌+◌, ◌-◌, ℕ, ap, arith, length, ◌∙◌}
 use Rattle.std.proofs.lemmas.Int.{ints}
 use Rattle.diffusion_definitions.specs.Diffusion.{Errors, Table, weighted_from}
 use Rattle.diffusion_kernel.specs.Tables.{table_of}

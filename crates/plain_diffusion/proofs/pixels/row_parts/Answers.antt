@@ -1,4 +1,4 @@
-use Rattle.std.proofs.Common.{◌≡◌, ◌+ℤ◌, ◌*ℤ◌, ◌-◌, ◌<◌, ℕ, ℤ, ap, arith, get_or, inl, inr, length, pos, subst, sym, ◌∙◌, to_z, of_z, w16, w32}
+use Rattle.std.proofs.Common.{◌≡◌, ◌*ℤ◌, ◌-◌, ◌<◌, ℕ, ℤ, ap, arith, get_or, inl, inr, length, pos, subst, sym, ◌∙◌, to_z, of_z, w16, w32}
 use Rattle.std.proofs.lemmas.Bool.{cases_eq}
 use Rattle.std.proofs.lemmas.Int.{ints}
 use Rattle.diffusion_definitions.specs.Diffusion.{InRange}

@@ -1,7 +1,8 @@
 use Rattle.std.proofs.Common.{sym, ap, ◌∙◌, arith, unwrap_or}
 use Rattle.job_words.specs.Meaning.{gives}
 use Rattle.job_words.specs.Table.{profile_key}
-use Rattle.spool_words.proofs.FirstWords.{no_place, none_more, place_at}
+use Rattle.job_words.proofs.FirstWords.{none_more}
+use Rattle.spool_words.proofs.FirstWords.{no_place, place_at}
 use Rattle.spool_words.proofs.given.profile_word.Goals as goal
 
 pub returns-then-gives : goal.returns-then-gives

@@ -3,7 +3,8 @@ use Rattle.std.specs.Option.{option_map}
 use Rattle.key_values.specs.Pairs.{value_of}
 use Rattle.job_words.specs.Meaning.{gives}
 use Rattle.spool_words.specs.Rows.{key_row}
-use Rattle.spool_words.proofs.FirstWords.{find_at, no_first, none_more}
+use Rattle.job_words.proofs.FirstWords.{find_at, none_more}
+use Rattle.spool_words.proofs.FirstWords.{no_first}
 use Rattle.spool_words.proofs.given.value_given.Goals as goal
 
 pub returns-then-gives : goal.returns-then-gives

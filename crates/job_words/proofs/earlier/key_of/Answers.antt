@@ -1,5 +1,0 @@
-use Rattle.job_words.proofs.FirstWords.{whole_key}
-use Rattle.job_words.proofs.earlier.key_of.Goals as goal
-
-pub returns-in-None : goal.returns-in-None
-returns-in-None c = whole_key c.args.word.now c.in-None.ensures
