@@ -183,7 +183,7 @@ def ppd_choices(profile):
         ppd_option("ColorModel", "Color Mode", models, 10),
         ppd_option("cupsPrintQuality", "Print Quality", [(name, text, "") for name, text in QUALITIES], 20),
         ppd_option("Kernel", "Error Diffusion", [(name, text, "") for name, text in KERNELS], 20),
-        ppd_option("Workers", "Threads of Diffusion", [(str(count), str(count), "") for count in WORKERS], 20),
+        ppd_option("Workers", "Threads", [(str(count), str(count), "") for count in WORKERS], 20),
         ppd_custom_option("Cap", "Most Dots of a Job", "No Limit", "Dots", 20),
         ppd_passes(profile)])
 

@@ -20,12 +20,13 @@ dots     reads a job from standard input, runs it on the profile's printer, and 
 list     reads a job from standard input, and writes a line for each command
 profile  writes the text of a profile to standard output, with all keys: a text of version 1 as one of version 2
 trial    makes pages of drawn lines, prints them into memory, runs the job on the profile's printer, and writes a line
-         of what it counted: pages, sheets, bytes, rasters, and the dots of each ink; it reads nothing
+         of what it counted: pages, sheets, bytes, rasters, and the dots of each ink; it reads no input
 
 profile=NAME    tiny1, tiny, p360k, p360cmyk, p720cmyk, or a file of the current folder
                 (default p360cmyk)
 kernel=NAME     fs (Floyd and Steinberg), jjn (Jarvis, Judice and Ninke) or stucki (default fs)
-workers=NUMBER  1 to 64 (default 1): so many threads diffuse each slab of up to 256 rows; the job is the same for each number
+workers=NUMBER  1 to 64 (default 1): so many threads halftone a page and code its rows, and one of them reads and
+                writes; the job is the same for each number
 cap=NUMBER      the most dots that the job may print, all inks together (default: no limit): a kiosk's quota,
                 or what is left in a label desk's cartridge; a page that would go past it is not printed,
                 and ends the job
@@ -53,7 +54,7 @@ exit status and line on standard error:
 What each CAUSE means, and what helps, stands in the manual pages (man jinthbao) and in docs/USING.md.
 ";
 
-const VERSION: &str = "jinthbao 0.1.0\n";
+const VERSION: &str = "jinthbao 1.0.0\n";
 
 /// What `--help` and `--version` ask for.
 pub const TEXTS: ProgramTexts = ProgramTexts {

@@ -16,7 +16,8 @@ are the work of a print server such as CUPS.
 profile=NAME    tiny1, tiny, p360k, p360cmyk, p720cmyk, or a file of the current folder
                 (default p360cmyk)
 kernel=NAME     fs (Floyd and Steinberg), jjn (Jarvis, Judice and Ninke) or stucki (default fs)
-workers=NUMBER  1 to 64 (default 1): so many threads diffuse each slab of rows; the jobs are the same for each number
+workers=NUMBER  1 to 64 (default 1): so many threads halftone a page and code its rows, and one of them reads and
+                writes; the jobs are the same for each number
 
 Standard error gets a line for each job that ran, in order:
 
@@ -34,9 +35,11 @@ exit status and last line on standard error:
                                      a write failed; later jobs were not printed
 7  out of memory                     memory ran out, before all jobs or in one of them
 9  jobs failed: N                    all jobs ran, and so many ended in status 3 or 6
+
+What each CAUSE means stands in the manual pages (man jinthbao-spool) and in docs/USING.md.
 ";
 
-const VERSION: &str = "jinthbao spool 0.1.0\n";
+const VERSION: &str = "jinthbao spool 1.0.0\n";
 
 /// What `--help` and `--version` ask for.
 pub const TEXTS: ProgramTexts = ProgramTexts {
