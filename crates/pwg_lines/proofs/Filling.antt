@@ -2,7 +2,7 @@
 use Rattle.std.proofs.Common.{◌≡◌, ℕ, zero, suc, ◌+◌, ◌-◌, ◌*◌, ◌<◌, ◌≤◌, get_or, List, [], ◌∷◌, ◌++◌, length, take, drop, replicate, refl}
 use Rattle.std.proofs.Common.{sym, ◌∙◌, ap, arith, append_assoc, length-append, length-drop}
 use Rattle.std.proofs.lemmas.List.{drop_at, length-replicate, length-take-le, take-take, take_at}
-use Rattle.std.proofs.lemmas.Slice.{take-put_mid}
+use Rattle.std.proofs.lemmas.Slice.{drop-put_mid, take-put_mid}
 use borrow.Rule.Slice.PartMut.{post_of, put_mid}
 use Rattle.std.proofs.Math.Nat.{mul-le-mul_right}
 use Rattle.std.proofs.Math.Seq.{take-add, take-append_seam}
@@ -71,16 +71,34 @@ unit_grows filled read old new others within within' e = (
     parted = sym (take-add filled (read + length others) new) ∙ e ∙ ap (λ bs. bs ++ others) (take-add filled read old)
         ∙ append_assoc (take filled old) (take read (drop filled old)) others
 
--- a unit whose last bytes are put after the first, and then all the copies of it
-pub units_filled : (filled read count total : ℕ) (line others new first copied : List ℕ) (k k' : ℕ)
+-- the copies of a unit that ends in these bytes
+units_sized : (filled read count : ℕ) (line others : List ℕ) → filled + read ≤ length line
+    → length (copies count (take read (drop filled line) ++ others)) ≡ count * (read + length others)
+units_sized filled read count line others within =
+    length-copies count (take read (drop filled line) ++ others)
+    ∙ ap (λ n. count * n) (length-append (take read (drop filled line)) others
+    ∙ ap (λ n. n + length others) (length-take-le read (drop filled line) (omega (arith, length-drop filled line))))
+
+-- A unit whose last bytes are put after the first, and then all the copies of it.
+record PutsUnits (filled read count : ℕ) (line others first copied : List ℕ) : Type 0 where
+  within : filled ≤ length first
+  read_within : filled + read ≤ length line
+  filled_are : take filled first ≡ take filled line
+  copied_is : copied ≡ copies count (take read (drop filled line) ++ others)
+  sized : length copied ≡ count * (read + length others)
+
+units_put : (filled read count total : ℕ) (line others new first copied : List ℕ) (k : ℕ)
     → 1 ≤ count → filled + count * (read + length others) ≤ length line → total ≡ count * (read + length others)
     → new ≡ others → first ≡ put_mid (filled + read) k line new
     → copied ≡ copies count (take (read + length others) (take total (drop filled first)))
-    → take (filled + count * (read + length others)) (put_mid filled k' first copied)
-    ≡ take filled line ++ copies count (take read (drop filled line) ++ others)
-units_filled filled read count total line others new first copied k k' some fits total_is new_is first_is is =
-    take-put_mid filled k' first copied (filled + count * (read + length others)) (ap (λ n. filled + n) (sym sized)) in_first
-    ∙ ap (λ bs. bs ++ copied) grown.0 ∙ ap (λ bs. take filled line ++ bs) copied_is
+    → PutsUnits filled read count line others first copied
+units_put filled read count total line others new first copied k some fits total_is new_is first_is is = record {
+  within = in_first;
+  read_within = in_line;
+  filled_are = grown.0;
+  copied_is = are;
+  sized = ap length are ∙ units_sized filled read count line others in_line;
+}
   where
     unit : ℕ
     unit = read + length others
@@ -107,13 +125,39 @@ units_filled filled read count total line others new first copied k k' some fits
     grown = unit_grows filled read line first others in_line in_first
         (ap (take (filled + unit)) (sym put) ∙ take-put_mid (filled + read) k line others (filled + unit) (omega arith) in_line)
 
-    copied_is : copied ≡ copies count (take read (drop filled line) ++ others)
-    copied_is = is ∙ ap (copies count) (take-take unit total (drop filled first) (omega (arith, one_fits, total_is)) ∙ grown.1)
+    are : copied ≡ copies count (take read (drop filled line) ++ others)
+    are = is ∙ ap (copies count) (take-take unit total (drop filled first) (omega (arith, one_fits, total_is)) ∙ grown.1)
 
-    sized : length copied ≡ count * unit
-    sized = ap length copied_is ∙ length-copies count (take read (drop filled line) ++ others)
-        ∙ ap (λ n. count * n) (length-append (take read (drop filled line)) others
-        ∙ ap (λ n. n + length others) (length-take-le read (drop filled line) (omega (arith, in_line, length-drop filled line))))
+-- the copies stand after the filled bytes
+pub units_filled : (filled read count total : ℕ) (line others new first copied : List ℕ) (k k' : ℕ)
+    → 1 ≤ count → filled + count * (read + length others) ≤ length line → total ≡ count * (read + length others)
+    → new ≡ others → first ≡ put_mid (filled + read) k line new
+    → copied ≡ copies count (take (read + length others) (take total (drop filled first)))
+    → take (filled + count * (read + length others)) (put_mid filled k' first copied)
+    ≡ take filled line ++ copies count (take read (drop filled line) ++ others)
+units_filled filled read count total line others new first copied k k' some fits total_is new_is first_is is =
+    let put : PutsUnits filled read count line others first copied =
+    units_put filled read count total line others new first copied k some fits total_is new_is first_is is in
+    take-put_mid filled k' first copied (filled + count * (read + length others)) (ap (λ n. filled + n) (sym put.sized)) put.within
+    ∙ ap (λ bs. bs ++ copied) put.filled_are ∙ ap (λ bs. take filled line ++ bs) put.copied_is
+
+-- and the bytes behind them are unchanged
+pub units_behind : (filled read count total : ℕ) (line others new first copied : List ℕ) (k k' : ℕ)
+    → 1 ≤ count → filled + count * (read + length others) ≤ length line → total ≡ count * (read + length others)
+    → new ≡ others → first ≡ put_mid (filled + read) k line new
+    → copied ≡ copies count (take (read + length others) (take total (drop filled first)))
+    → k ≡ length others → k' ≡ count * (read + length others)
+    → drop (filled + count * (read + length others)) (put_mid filled k' first copied)
+    ≡ drop (filled + count * (read + length others)) line
+units_behind filled read count total line others new first copied k k' some fits total_is new_is first_is is k_is k'_is =
+    let put : PutsUnits filled read count line others first copied =
+    units_put filled read count total line others new first copied k some fits total_is new_is first_is is in
+    let n : ℕ = filled + count * (read + length others) in
+    let one_fits : read + length others ≤ count * (read + length others) =
+    omega (arith, mul-le-mul_right (read + length others) some) in
+    drop-put_mid filled k' first copied n (omega (arith, k'_is)) put.within (put.sized ∙ sym k'_is)
+    ∙ ap (drop n) first_is
+    ∙ drop-put_mid (filled + read) k line new n (omega (arith, one_fits, k_is)) put.read_within (ap length new_is ∙ sym k_is)
 
 -- copies of a unit of one byte
 pub byte_filled : (filled read count : ℕ) (line others new : List ℕ) (k : ℕ) → read ≡ 0 → 1 ≤ length others → length others < 2
@@ -133,3 +177,18 @@ byte_filled filled read count line (b ∷ []) new k none some one fits is =
     ∙ ap (λ bs. take filled line ++ bs) (new_is ∙ sym (copies-one_byte count b))
     ∙ ap (λ n. take filled line ++ copies count (take n (drop filled line) ++ (b ∷ []))) (sym none)
 byte_filled filled read count line (b ∷ b' ∷ others) new k none some one fits is = absurd (omega arith)
+
+-- the bytes behind copies of a unit of one byte are unchanged
+pub byte_behind : (filled read count : ℕ) (line others new : List ℕ) (k : ℕ) → read ≡ 0 → 1 ≤ length others → length others < 2
+    → filled + count * (read + length others) ≤ length line
+    → new ≡ replicate (length (take (filled + count - filled) (drop filled line))) (get_or others 0 0) → k ≡ count
+    → drop (filled + count * (read + length others)) (put_mid filled k line new)
+    ≡ drop (filled + count * (read + length others)) line
+byte_behind filled read count line others new k none some one fits is k_is =
+    let unit_is : read + length others ≡ 1 = omega (arith, none, some, one) in
+    let count_is : count * (read + length others) ≡ count = ap (λ n. count * n) unit_is ∙ omega arith in
+    let sized : length (take (filled + count - filled) (drop filled line)) ≡ count =
+    ap (λ n. length (take n (drop filled line))) (let e : filled + count - filled ≡ count = omega arith in e)
+    ∙ length-take-le count (drop filled line) (omega (arith, length-drop filled line, count_is)) in
+    drop-put_mid filled k line new (filled + count * (read + length others)) (omega (arith, count_is, k_is)) (omega arith)
+    (ap length is ∙ length-replicate _ _ ∙ sized ∙ sym k_is)

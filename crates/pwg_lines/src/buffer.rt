@@ -11,12 +11,14 @@ pub fn fill_bytes(line: &mut [u8], filled: usize, bytes: &[u8])
 }
 
 /// Puts `count` copies of a unit after the filled bytes. The unit's first `read` bytes are there already, and
-/// `others` are the rest of it.
+/// `others` are the rest of it. The bytes behind the copies are unchanged.
 pub fn fill_units(line: &mut [u8], filled: usize, read: usize, others: &[u8], count: usize)
     requires some { 1 ≤ count }
     requires fits { filled + count * (read + length others.now) ≤ length line.old }
-    ensures { take (filled + count * (read + length others.now)) line.new
+    ensures filled { take (filled + count * (read + length others.now)) line.new
         ≡ take filled line.old ++ copies count (take read (drop filled line.old) ++ others.now) }
+    ensures behind { drop (filled + count * (read + length others.now)) line.new
+        ≡ drop (filled + count * (read + length others.now)) line.old }
 {
     if let (0, [byte]) = (read, others) {
         line[filled..filled + count].fill(*byte);

@@ -47,7 +47,7 @@ returns-clause-takes c =
     ap (λ k. take (c.args.self.now.filled + c.args.units * k) new) (sym unit)
     ∙ written-front _ _ _ _ _
     (λ bs. take c.args.self.now.filled bs ++ copies c.args.units (take c.args.read (drop c.args.self.now.filled bs) ++ others)) sized
-    c.deref_mut-2.ensures.value c.fill_units.ensures in
+    c.deref_mut-2.ensures.value c.fill_units.ensures.filled in
     record {
       form = refl;
       lines_left = refl;

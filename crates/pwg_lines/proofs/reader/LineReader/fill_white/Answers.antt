@@ -26,7 +26,7 @@ returns c =
           (in_state c.args.self.now.line.items c.args.self.now.filled sofar c.requires so_far)
           (ap (λ k. take k (written c.args.self.now.line.len c.args.self.now.line.items c.fill_units.new.line)) whole
           ∙ written-front _ _ _ _ _ (λ bs. take c.args.self.now.filled bs ++ copies c.args.self.now.left c.white-white.result.now) sized
-          c.deref_mut.ensures.value c.fill_units.ensures
+          c.deref_mut.ensures.value c.fill_units.ensures.filled
           ∙ ap (λ bs. take c.args.self.now.filled c.args.self.now.line.items ++ copies c.args.self.now.left bs)
           c.white-white.ensures.value);
     }
