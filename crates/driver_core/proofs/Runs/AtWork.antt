@@ -1,14 +1,20 @@
 -- A command at work.
-use Rattle.std.proofs.Common.{◌≡◌, ℕ, ◌⊎◌, List, Ok, inl, inr, ◌∙◌, ap}
+use Rattle.std.proofs.Common.{◌≡◌, ℕ, ◌⊎◌, List, None, Result, Ok, inl, inr, sym, ◌∙◌, ap, subst, arith}
 use Rattle.driver_answer.specs.Answers.{status_of}
 use Rattle.driver_answer.specs.declared.answer.Answer.{Answer}
+use Rattle.driver_answer.specs.Stops.{profile_answer}
+use Rattle.job_profile.specs.declared.stops.ProfileStop.{ProfileStop}
+use Rattle.job_profile.specs.declared.stops.ProfileStop.TheVariants as profile
 use Rattle.job_words.specs.declared.reading.Job.{Job}
 use Rattle.job_words.specs.declared.table.Verb.TheVariants as verb
 use Rattle.job_words.specs.declared.table.Verb.{Verb}
+use Rattle.job_words.specs.declared.usage.UsageFault.{UsageFault}
+use Rattle.job_words.specs.Meaning.{job_meaning, profile_named}
 use Rattle.printer_definitions.specs.Printer.{Printer}
+use Rattle.printer_profile.specs.Profiles.{built_in}
 use Rattle.driver_core.specs.Outside.{HasFailed, Outsides}
 use Rattle.driver_core.specs.Runs.Asking.{AsksFor}
-use Rattle.driver_core.specs.Runs.Outcome.{Outcome, VerbOutcome, metered}
+use Rattle.driver_core.specs.Runs.Outcome.{LineOutcome, ListsJob, NoProfile, Outcome, ProfileStopped, VerbOutcome, WithProfile, metered}
 use Rattle.driver_core.proofs.Runs.Asked.{HasProfile, NoShelf, has_profile}
 use Rattle.driver_core.proofs.Runs.Asked.HasProfile.{HasNone, Does}
 use Rattle.driver_core.proofs.Runs.Asked.NoShelf.{ShelfFailed, ShelfFull}
@@ -55,3 +61,26 @@ calm_work words command job p o a s is calm other asks outcome = by_case (has_pr
     by_case (HasNone (ShelfFailed e failed none) untouched uncounted) = absurd (calm failed)
     by_case (HasNone (ShelfFull e) untouched uncounted) = inl (is ∙ ap status_of e)
     by_case (Does does) = inr does
+
+-- where a command reads nothing, the status is 4 only where the shelf failed, which is asked for what is not built in
+pub of_shelf : (words : List (List ℕ)) (command : Verb) (job : Job) (o : Outsides) (a : Answer) (s : ℕ)
+    → (command ≡ verb.List → ⊥) → ((p : Printer) → VerbOutcome command job p o (metered job o.meters) a → s ≡ 4 → ⊥)
+    → Outcome words o a → s ≡ status_of a → job_meaning words ≡ Ok job → job.verb ≡ command → s ≡ 4
+    → HasFailed o.shelf × (built_in (profile_named words) ≡ None)
+of_shelf words command job o a s other never outcome is means command_is four =
+    let L : Result Job UsageFault → Type 0 = λ r. LineOutcome r (profile_named words) o a in
+    by_case (subst L means outcome)
+  where
+    by_stop : (why : ProfileStop) → ProfileStopped job (profile_named words) o.shelf why
+        → s ≡ status_of (profile_answer why) → HasFailed o.shelf × (built_in (profile_named words) ≡ None)
+    by_stop (profile.Refused line cause) stopped e = absurd (omega arith)
+    by_stop profile.Failed stopped e = stopped
+    by_stop profile.Memory stopped e = absurd (omega arith)
+
+    by_case : ListsJob job o a ⊎ (NoProfile (profile_named words) job o a ⊎ WithProfile (profile_named words) job o a)
+        → HasFailed o.shelf × (built_in (profile_named words) ≡ None)
+    by_case (inl lists) = absurd (other (sym command_is ∙ lists.command_is))
+    by_case (inr (inl none)) = by_stop none.why none.stopped (is ∙ ap status_of none.answered)
+    by_case (inr (inr has)) =
+        let V : Verb → Type 0 = λ v. VerbOutcome v job has.p o (metered job o.meters) a in
+        absurd (never has.p (subst V command_is has.outcome) four)

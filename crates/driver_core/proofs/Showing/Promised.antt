@@ -1,5 +1,5 @@
 -- The promises of a run for the command `profile`.
-use Rattle.std.proofs.Common.{◌≡◌, ℕ, ◌⊎◌, List, Result, Ok, inl, inr, sym, ◌∙◌, ap, subst, arith}
+use Rattle.std.proofs.Common.{◌≡◌, ℕ, ◌⊎◌, List, None, Result, Ok, inl, inr, sym, ◌∙◌, ap, subst, arith}
 use Rattle.std.specs.Io.KnownBytes.{Appends, Keeps}
 use Rattle.driver_answer.specs.Answers.{status_of}
 use Rattle.driver_answer.specs.declared.answer.Answer.TheVariants as answer
@@ -10,6 +10,7 @@ use Rattle.job_words.specs.declared.table.Verb.{Verb}
 use Rattle.job_words.specs.declared.usage.UsageFault.{UsageFault}
 use Rattle.job_words.specs.Meaning.{job_meaning, profile_named}
 use Rattle.printer_definitions.specs.Printer.{Printer}
+use Rattle.printer_profile.specs.Profiles.{built_in}
 use Rattle.printer_profile.specs.Text.{profile_text_of}
 use Rattle.weave_base.specs.Parts.{AppendsPart}
 use Rattle.driver_core.specs.Outside.{HasFailed, HasRisen, IsCalm, Outside, Outsides}
@@ -20,7 +21,7 @@ use Rattle.driver_core.specs.Showing.Outcome.{ShowOutcome}
 use Rattle.driver_core.specs.Showing.Promises.{ProfilePromises}
 use Rattle.driver_core.proofs.Runs.Asked.{HasProfile, has_profile, told_line}
 use Rattle.driver_core.proofs.Runs.Asked.HasProfile.{HasNone, Does}
-use Rattle.driver_core.proofs.Runs.AtWork.{at_work, calm_work, profile_is_none}
+use Rattle.driver_core.proofs.Runs.AtWork.{at_work, calm_work, of_shelf, profile_is_none}
 use Rattle.driver_core.proofs.Runs.Statuses.{is_done, is_memory, is_read, is_write}
 
 show_done : (p : Printer) (out : Outside) (s : ℕ) (a : Answer) → ShowOutcome p out a → s ≡ status_of a → s ≡ 0
@@ -34,9 +35,12 @@ show_part p out s a does e five =
     let stops : ShowOutcome p out (answer.Write at.0) = subst (ShowOutcome p out) at.1 does in
     (stops.2, stops.1, at.1 ∙ ap answer.Write stops.0)
 
+show_read : (p : Printer) (out : Outside) (s : ℕ) (a : Answer) → ShowOutcome p out a → s ≡ status_of a → s ≡ 4 → ⊥
+show_read p out s a does e four = subst (ShowOutcome p out) (is_read a (sym four ∙ e)) does
+
 show_none : (p : Printer) (out : Outside) (s : ℕ) (a : Answer) → ShowOutcome p out a → s ≡ status_of a → (s ≡ 4) ⊎ (s ≡ 7)
     → Keeps out.before out.now
-show_none p out s a does e (inl four) = absurd (let never : ShowOutcome p out answer.Read = subst (ShowOutcome p out) (is_read a (sym four ∙ e)) does in never)
+show_none p out s a does e (inl four) = absurd (show_read p out s a does e four)
 show_none p out s a does e (inr seven) = subst (ShowOutcome p out) (is_memory a (sym seven ∙ e)) does
 
 show_calm : (p : Printer) (out : Outside) (s : ℕ) (a : Answer) → ShowOutcome p out a → s ≡ status_of a → IsCalm out → (s ≡ 0) ⊎ (s ≡ 7)
@@ -99,6 +103,11 @@ unread_profile words job o a outcome means command_is =
         let V : Verb → Type 0 = λ v. VerbOutcome v job has.p o (metered job o.meters) a in
         (subst V command_is has.outcome).0
 
+shelf_profile : (words : List (List ℕ)) (job : Job) (o : Outsides) (a : Answer) (s : ℕ) → Outcome words o a → s ≡ status_of a
+    → job_meaning words ≡ Ok job → job.verb ≡ verb.Profile → s ≡ 4 → HasFailed o.shelf × (built_in (profile_named words) ≡ None)
+shelf_profile words job o a s outcome is =
+    of_shelf words verb.Profile job o a s profile_is_none (λ p does four. show_read p o.out s a does.2 is four) outcome is
+
 pub profile_promises : (words : List (List ℕ)) (o : Outsides) (err : Outside) (a : Answer) (s : ℕ)
     → Outcome words o a → Told err a → s ≡ status_of a → ProfilePromises words o err s
 profile_promises words o err a s outcome told is = record {
@@ -107,4 +116,5 @@ profile_promises words o err a s outcome told is = record {
   part_shown = λ job p asks five. show_five words o err a s job p outcome told is asks five;
   none_shown = λ job p asks which. show_stopped words o a s job p outcome is asks which;
   unread = λ job means command_is. unread_profile words job o a outcome means command_is;
+  shown_of_shelf = λ job means command_is four. shelf_profile words job o a s outcome is means command_is four;
 }

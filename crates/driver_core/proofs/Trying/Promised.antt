@@ -1,32 +1,30 @@
 -- The promises of a run for the command `trial`.
-use Rattle.std.proofs.Common.{◌≡◌, ℕ, ◌⊎◌, List, [], Result, Ok, inl, inr, sym, ◌∙◌, ap, subst, arith}
+use Rattle.std.proofs.Common.{◌≡◌, ℕ, ◌⊎◌, List, [], None, Result, Ok, inl, inr, sym, ◌∙◌, ap, subst, arith}
 use Rattle.std.specs.Io.KnownBytes.{Appends, Keeps}
 use Rattle.driver_answer.specs.Answers.{status_of}
 use Rattle.driver_answer.specs.declared.answer.Answer.TheVariants as answer
 use Rattle.driver_answer.specs.declared.answer.Answer.{Answer}
-use Rattle.driver_answer.specs.Stops.{profile_answer}
-use Rattle.job_profile.specs.declared.stops.ProfileStop.TheVariants as profile
-use Rattle.job_profile.specs.declared.stops.ProfileStop.{ProfileStop}
 use Rattle.job_words.specs.declared.reading.Job.{Job}
 use Rattle.job_words.specs.declared.table.Verb.TheVariants as verb
 use Rattle.job_words.specs.declared.table.Verb.{Verb}
 use Rattle.job_words.specs.declared.usage.UsageFault.{UsageFault}
 use Rattle.job_words.specs.Meaning.{job_meaning, profile_named}
 use Rattle.printer_definitions.specs.Printer.{Printer}
+use Rattle.printer_profile.specs.Profiles.{built_in}
 use Rattle.pwg_definitions.specs.declared.faults.InputCause.{InputCause}
 use Rattle.pwg_definitions.specs.Stream.{StreamEnd}
 use Rattle.pwg_definitions.specs.Stream.StreamEnd.{Done, Fault}
 use Rattle.weave_base.specs.Parts.{AppendsPart}
 use Rattle.driver_core.specs.Outside.{HasFailed, HasRisen, IsCalm, Outside, Outsides}
 use Rattle.driver_core.specs.Runs.Asking.{AsksFor}
-use Rattle.driver_core.specs.Runs.Outcome.{LineOutcome, ListsJob, NoProfile, Outcome, ProfileStopped, Tells, Told, VerbOutcome}
+use Rattle.driver_core.specs.Runs.Outcome.{LineOutcome, ListsJob, NoProfile, Outcome, Tells, Told, VerbOutcome}
 use Rattle.driver_core.specs.Runs.Outcome.{WithProfile, metered}
 use Rattle.driver_core.specs.Trying.Outcome.{RefusesMade, TakesMade, TrialOutcome, job_summary}
 use Rattle.driver_core.specs.Trying.Promises.{TrialPromises}
 use Rattle.driver_core.proofs.Runs.Asked.{HasProfile, has_profile, told_line}
 use Rattle.driver_core.proofs.Runs.Asked.HasProfile.{HasNone, Does}
 use Rattle.driver_core.proofs.Runs.Asked.NoShelf.{ShelfFailed, ShelfFull}
-use Rattle.driver_core.proofs.Runs.AtWork.{at_work, calm_work, trial_is_none}
+use Rattle.driver_core.proofs.Runs.AtWork.{at_work, calm_work, of_shelf, trial_is_none}
 use Rattle.driver_core.proofs.Runs.Statuses.{is_done, is_input, is_memory, is_read, is_write}
 
 -- ---- what a trial came to, by the status
@@ -166,24 +164,9 @@ unread_trial words job o a outcome means command_is =
         (subst V command_is has.outcome).0
 
 shelf_trial : (words : List (List ℕ)) (job : Job) (o : Outsides) (a : Answer) (s : ℕ) → Outcome words o a → s ≡ status_of a
-    → job_meaning words ≡ Ok job → job.verb ≡ verb.Trial → s ≡ 4 → HasFailed o.shelf
-shelf_trial words job o a s outcome is means command_is four =
-    let L : Result Job UsageFault → Type 0 = λ r. LineOutcome r (profile_named words) o a in
-    by_case (subst L means outcome)
-  where
-    by_stop : (why : ProfileStop) → ProfileStopped job (profile_named words) o.shelf why
-        → s ≡ status_of (profile_answer why) → HasFailed o.shelf
-    by_stop (profile.Refused line cause) stopped e = absurd (omega arith)
-    by_stop profile.Failed stopped e = stopped.0
-    by_stop profile.Memory stopped e = absurd (omega arith)
-
-    by_case : ListsJob job o a ⊎ (NoProfile (profile_named words) job o a ⊎ WithProfile (profile_named words) job o a)
-        → HasFailed o.shelf
-    by_case (inl lists) = absurd (trial_is_none (sym command_is ∙ lists.command_is))
-    by_case (inr (inl none)) = by_stop none.why none.stopped (is ∙ ap status_of none.answered)
-    by_case (inr (inr has)) =
-        let V : Verb → Type 0 = λ v. VerbOutcome v job has.p o (metered job o.meters) a in
-        absurd (trial_read job has.p o.out s a (subst V command_is has.outcome).2 is four)
+    → job_meaning words ≡ Ok job → job.verb ≡ verb.Trial → s ≡ 4 → HasFailed o.shelf × (built_in (profile_named words) ≡ None)
+shelf_trial words job o a s outcome is =
+    of_shelf words verb.Trial job o a s trial_is_none (λ p does four. trial_read job p o.out s a does.2 is four) outcome is
 
 pub trial_promises : (words : List (List ℕ)) (o : Outsides) (err : Outside) (a : Answer) (s : ℕ)
     → Outcome words o a → Told err a → s ≡ status_of a → TrialPromises words o err s

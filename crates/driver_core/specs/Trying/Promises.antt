@@ -1,5 +1,5 @@
 -- What a run promises of the command `trial`.
-use Rattle.std.specs.Prelude.{◌≡◌, ℕ, ◌⊎◌, List, Ok}
+use Rattle.std.specs.Prelude.{◌≡◌, ℕ, ◌⊎◌, List, None, Ok}
 use Rattle.std.specs.Io.KnownBytes.{Appends, Keeps}
 use Rattle.driver_answer.specs.declared.answer.Answer.TheVariants as answer
 use Rattle.driver_core.specs.Outside.{HasFailed, IsCalm, Outside, Outsides}
@@ -8,8 +8,9 @@ use Rattle.driver_core.specs.Runs.Outcome.{Tells}
 use Rattle.driver_core.specs.Trying.Outcome.{RefusesMade, TakesMade, job_summary}
 use Rattle.job_words.specs.declared.reading.Job.{Job}
 use Rattle.job_words.specs.declared.table.Verb.TheVariants as verb
-use Rattle.job_words.specs.Meaning.{job_meaning}
+use Rattle.job_words.specs.Meaning.{job_meaning, profile_named}
 use Rattle.printer_definitions.specs.Printer.{Printer}
+use Rattle.printer_profile.specs.Profiles.{built_in}
 use Rattle.pwg_definitions.specs.declared.faults.InputCause.{InputCause}
 use Rattle.weave_base.specs.Parts.{AppendsPart}
 
@@ -33,6 +34,7 @@ pub record TrialPromises (words : List (List ℕ)) (o : Outsides) (err : Outside
   pub refused_trial : (job : Job) (p : Printer) (page line : ℕ) (cause : InputCause)
       → AsksFor words o.shelf.told verb.Trial job (Ok p) → RefusesMade job p page line cause
       → (HasFailed o.shelf → ⊥) → (status ≡ 3) ⊎ (status ≡ 7)
-  -- A trial uses nothing of the input; 4 comes of the shelf alone.
+  -- A trial uses nothing of the input; 4 comes of the shelf alone, which is asked for what is not built in.
   pub untried : (job : Job) → job_meaning words ≡ Ok job → job.verb ≡ verb.Trial → Keeps o.input.before o.input.now
-  pub of_shelf : (job : Job) → job_meaning words ≡ Ok job → job.verb ≡ verb.Trial → status ≡ 4 → HasFailed o.shelf
+  pub of_shelf : (job : Job) → job_meaning words ≡ Ok job → job.verb ≡ verb.Trial → status ≡ 4
+      → HasFailed o.shelf × (built_in (profile_named words) ≡ None)
