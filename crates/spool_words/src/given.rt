@@ -5,19 +5,19 @@ ghost use Rattle.spool_words.specs.Rows.{key_row};
 ghost use Rattle.std.specs.Option.{option_map};
 ghost use Rattle.std.specs.Prelude.{count_by, length, take, unwrap_or, ◌≡◌, ◌≤◌};
 
-use crate::keys::SpoolKey;
+use crate::keys::KeyName;
 use key_values::{key_of, value_of};
 use weave_base::Words;
 
 /// Whether a word gives this key.
-pub fn gives(key: SpoolKey, word: &str) -> bool
+pub fn gives(key: KeyName, word: &str) -> bool
     ensures { result ≡ gives_of (key_row key).row word.now }
 {
     key_of(word) == key.name()
 }
 
 /// How many words before this place give the key.
-pub fn count_before(place: u32, words: &Words, key: SpoolKey) -> u32
+pub fn count_before(place: u32, words: &Words, key: KeyName) -> u32
     requires { place ≤ length words.now }
     ensures { result ≡ count_by (gives_of (key_row key).row) (take place words.now) }
 {
@@ -35,7 +35,7 @@ pub fn profile_word(words: &Words) -> u32
     ensures { result ≡ unwrap_or (given_profile_word words.now) 0 }
 {
     for i in 0..words.len() {
-        if gives(SpoolKey::Profile, words.get(i)) {
+        if gives(KeyName::Profile, words.get(i)) {
             return i + 1;
         }
     }
@@ -43,7 +43,7 @@ pub fn profile_word(words: &Words) -> u32
 }
 
 /// The value that the words give the key.
-pub fn value_given(words: &Words, key: SpoolKey) -> Option<&str>
+pub fn value_given(words: &Words, key: KeyName) -> Option<&str>
     ensures { option_map (λ value. value.now) result ≡ given (key_row key).row words.now }
 {
     for i in 0..words.len() {

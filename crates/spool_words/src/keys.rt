@@ -2,35 +2,34 @@
 ghost use Rattle.std.specs.Prelude.{◌≡◌};
 
 use crate::faults::SpoolCause;
-use crate::values::{is_name, lists_names};
-use job_words::{kernel_named, worker_count};
+use crate::values::{is_name, kernel_named, lists_names, worker_count};
 
 /// The most senders of a run.
 const MOST_SENDERS: u32 = 8;
 
 /// A key of the spool.
 #[derive(Clone, Copy)]
-pub enum SpoolKey {
+pub enum KeyName {
     Profile,
     Kernel,
     Workers,
     Send,
 }
 
-impl SpoolKey {
+impl KeyName {
     ghost use Rattle.spool_words.specs.Keys.{key_named};
     ghost use Rattle.spool_words.specs.Rows.{key_row};
     ghost use Rattle.std.specs.Option.{option_map};
 
     /// The key of this name.
-    pub fn named(name: &str) -> Option<SpoolKey>
+    pub fn named(name: &str) -> Option<KeyName>
         ensures { option_map key_row result ≡ key_named name.now }
     {
         match name {
-            "profile" => Some(SpoolKey::Profile),
-            "kernel" => Some(SpoolKey::Kernel),
-            "workers" => Some(SpoolKey::Workers),
-            "send" => Some(SpoolKey::Send),
+            "profile" => Some(KeyName::Profile),
+            "kernel" => Some(KeyName::Kernel),
+            "workers" => Some(KeyName::Workers),
+            "send" => Some(KeyName::Send),
             _ => None,
         }
     }
@@ -39,10 +38,10 @@ impl SpoolKey {
         ensures { result.now ≡ (key_row self).row.name }
     {
         match self {
-            SpoolKey::Profile => "profile",
-            SpoolKey::Kernel => "kernel",
-            SpoolKey::Workers => "workers",
-            SpoolKey::Send => "send",
+            KeyName::Profile => "profile",
+            KeyName::Kernel => "kernel",
+            KeyName::Workers => "workers",
+            KeyName::Send => "send",
         }
     }
 
@@ -51,7 +50,7 @@ impl SpoolKey {
         ensures { result ≡ (key_row self).most }
     {
         match self {
-            SpoolKey::Send => MOST_SENDERS,
+            KeyName::Send => MOST_SENDERS,
             _ => 1,
         }
     }
@@ -61,7 +60,7 @@ impl SpoolKey {
         ensures { result ≡ (key_row self).excess }
     {
         match self {
-            SpoolKey::Send => SpoolCause::BadValue,
+            KeyName::Send => SpoolCause::BadValue,
             _ => SpoolCause::RepeatedKey,
         }
     }
@@ -71,10 +70,10 @@ impl SpoolKey {
         ensures { result ≡ (key_row self).row.takes value.now }
     {
         match self {
-            SpoolKey::Profile => is_name(value),
-            SpoolKey::Kernel => kernel_named(value).is_some(),
-            SpoolKey::Workers => worker_count(value).is_some(),
-            SpoolKey::Send => lists_names(value),
+            KeyName::Profile => is_name(value),
+            KeyName::Kernel => kernel_named(value).is_some(),
+            KeyName::Workers => worker_count(value).is_some(),
+            KeyName::Send => lists_names(value),
         }
     }
 }

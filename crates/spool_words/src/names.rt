@@ -7,7 +7,7 @@ ghost use Rattle.std.specs.Option.{option_map};
 ghost use Rattle.std.specs.Prelude.{Ok, Some, filter, length, slice_get, ◌-◌, ◌≡◌, ◌≤◌};
 
 use crate::given::gives;
-use crate::keys::SpoolKey;
+use crate::keys::KeyName;
 use crate::reading::SpoolRequest;
 use key_values::value_of;
 use weave_base::Words;
@@ -21,7 +21,7 @@ fn sent_by(words: &Words, sender: u8) -> &str
     let mut senders = 0;
     for i in 0..words.len() {
         let word = words.get(i);
-        if gives(SpoolKey::Send, word) {
+        if gives(KeyName::Send, word) {
             senders += 1;
             if senders == sender {
                 return value_of(word);

@@ -5,9 +5,10 @@ ghost use Rattle.std.specs.Prelude.{IfErr, Ok, OnOk, Some, [], length, slice_get
 
 use crate::faults::{SpoolCause, SpoolFault};
 use crate::given::{count_before, profile_word, value_given};
-use crate::keys::SpoolKey;
+use crate::keys::KeyName;
+use crate::values::{kernel_named, worker_count};
 use diffusion_kernel::Kernel;
-use job_words::{DEFAULT_PROFILE, kernel_named, worker_count};
+use job_words::DEFAULT_PROFILE;
 use key_values::{cut_word, value_of};
 use weave_base::Words;
 
@@ -33,7 +34,7 @@ fn refusal(words: &Words, place: u32, word: &str) -> Option<SpoolCause>
     let Some((name, value)) = cut_word(word) else {
         return Some(SpoolCause::NotKeyValue);
     };
-    let Some(key) = SpoolKey::named(name) else {
+    let Some(key) = KeyName::named(name) else {
         return Some(SpoolCause::UnknownKey);
     };
     if count_before(place, words, key) >= key.most() {
@@ -65,10 +66,10 @@ fn request_given(words: &Words, senders: u8) -> SpoolRequest
 {
     SpoolRequest {
         profile_word: profile_word(words),
-        kernel: value_given(words, SpoolKey::Kernel)
+        kernel: value_given(words, KeyName::Kernel)
             .and_then(kernel_named)
             .unwrap_or(Kernel::Floyd),
-        workers: value_given(words, SpoolKey::Workers)
+        workers: value_given(words, KeyName::Workers)
             .and_then(worker_count)
             .unwrap_or(1),
         senders,
@@ -83,7 +84,7 @@ pub fn read_spool_words(words: &Words) -> Result<SpoolRequest, SpoolFault>
     ensures { result ≡ spool_meaning words.now }
 {
     check_words(words)?;
-    let senders = count_before(words.len(), words, SpoolKey::Send);
+    let senders = count_before(words.len(), words, KeyName::Send);
     if senders == 0 {
         return Err(SpoolFault {
             word: words.len() + 1,

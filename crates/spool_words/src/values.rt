@@ -1,8 +1,11 @@
 //! The values of keys.
+ghost use Rattle.job_words.specs.Values.{kernel_named as kernel_of, worker_count as workers_of};
 ghost use Rattle.spool_words.specs.Names.{are_names as are_names_of, is_name as is_name_of, names_in};
 ghost use Rattle.std.specs.Prelude.{◌≡◌};
 
+use diffusion_kernel::Kernel;
 use job_words::MOST_NAME;
+use key_values::number_within;
 
 /// The most names of one sender.
 const MOST_NAMES: usize = 64;
@@ -19,4 +22,24 @@ pub fn lists_names(text: &str) -> bool
     ensures { result ≡ are_names_of (names_in text.now) }
 {
     text.split(',').count() <= MOST_NAMES && text.split(',').all(is_name)
+}
+
+/// The kernel of a name.
+pub fn kernel_named(text: &str) -> Option<Kernel>
+    ensures { result ≡ kernel_of text.now }
+{
+    match text {
+        "fs" => Some(Kernel::Floyd),
+        "jjn" => Some(Kernel::Jarvis),
+        "stucki" => Some(Kernel::Stucki),
+        _ => None,
+    }
+}
+
+/// How many workers: 1 to 64.
+pub fn worker_count(text: &str) -> Option<u8>
+    ensures { result ≡ workers_of text.now }
+{
+    let number = number_within(1, 64, text.as_bytes())?;
+    Some(number as u8)
 }
