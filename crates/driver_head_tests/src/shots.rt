@@ -1,8 +1,8 @@
 //! What the nozzles of a head fire in a job of one ink and eight columns, at 360 dots an inch.
 use std::alloc::{AllocError, Global};
 
-/// A row of dots that a nozzle fired: the row of the paper from 0, the nozzle, and the dots, the leftmost in the highest
-/// bit.
+/// A row of dots that a nozzle fired: the row of the paper from 0, the nozzle, and the dots, the leftmost in the
+/// highest bit.
 #[derive(Clone, Copy, Debug, PartialEq, Eq)]
 pub struct Shot {
     pub row: usize,

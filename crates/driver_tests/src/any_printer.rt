@@ -14,7 +14,8 @@ pub struct Printer {
     pub black_start: u8,
     /// Of black, cyan, magenta and yellow.
     pub limits: (u8, u8, u8, u8),
-    /// The tone curves of black, cyan, magenta and yellow; those of none are straight, and its text has no keys of them.
+    /// The tone curves of black, cyan, magenta and yellow; those of none are straight, and its text has no keys of
+    /// them.
     pub curves: Option<[[u16; 17]; 4]>,
     pub left: u16,
     pub right: u16,

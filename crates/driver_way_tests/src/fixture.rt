@@ -59,8 +59,8 @@ pub fn try_all<R: Abort + Threads + Sync>(
     Ok(())
 }
 
-/// Asserts what each case leaves that reads nothing: the first read of its input fails. The file `mine` is the profile of
-/// a head of three inks.
+/// Asserts what each case leaves that reads nothing: the first read of its input fails. The file `mine` is the profile
+/// of a head of three inks.
 pub fn try_unread<R: Abort + Threads + Sync>(
     rt: &R,
     alloc: Global,

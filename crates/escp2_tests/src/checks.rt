@@ -56,8 +56,8 @@ pub fn sink(alloc: Global, room: usize, piece: u32, fails: u32) -> Result<MemSin
     Ok(MemSink::make(alloc, room, takes, vec![in alloc; fails]?)?)
 }
 
-/// A source of these bytes, whose calls give at most so many bytes each, and whose call of this number fails; none fails
-/// for 0.
+/// A source of these bytes, whose calls give at most so many bytes each, and whose call of this number fails; none
+/// fails for 0.
 pub fn source(alloc: Global, bytes: &[u8], piece: u32, fails: u32) -> Result<MemSource, Fail> {
     let held = Vec::from_slice(alloc, bytes)?;
     let pieces = vec![in alloc; piece.max(1)]?;

@@ -1,5 +1,5 @@
-//! Tests of what is made of a page's pixels: amounts of inks worked by hand, whole lines against a plain loop, small pages
-//! against the definitions, and pages of a stream.
+//! Tests of what is made of a page's pixels: amounts of inks worked by hand, whole lines against a plain loop, small
+//! pages against the definitions, and pages of a stream.
 #![tactic(auto)]
 
 #[cfg(test)]

@@ -14,8 +14,8 @@ pub(crate) const HALVED: Profile = Profile {
     ..TINY1
 };
 
-// The amounts of black at `width` pixels of a line from pixel `left` on. `None` where the line has fewer, or there is no
-// memory.
+// The amounts of black at `width` pixels of a line from pixel `left` on. `None` where the line has fewer, or there is
+// no memory.
 fn blacks(
     alloc: Global,
     p: &Profile,

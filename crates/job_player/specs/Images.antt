@@ -1,6 +1,6 @@
--- The bytes of an image (raw PBM, of kind P4, of the Netpbm formats): `P4`, the columns and the rows in decimal, and the
--- rows from the top. A row begins with a byte of its own, its first pixel is the byte's highest bit, 1 is black, and
--- spare bits are 0.
+-- The bytes of an image (raw PBM, of kind P4, of the Netpbm formats): `P4`, the columns and the rows in decimal, and
+-- the rows from the top. A row begins with a byte of its own, its first pixel is the byte's highest bit, 1 is black,
+-- and spare bits are 0.
 use Rattle.std.specs.Prelude.{ℕ, List, ◌++◌, codes, decimal, map}
 use Rattle.std.specs.List.{flat_map}
 use Rattle.base_definitions.specs.Packed.{packed}

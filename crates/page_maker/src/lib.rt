@@ -10,8 +10,8 @@
 //!
 //! `made_stream_is_read`: whoever wants the resolution and the form of the pages reads back exactly the pages that were
 //! made. `a_made_header_is_refused`: whoever refuses their header finds its fault at page 1, line 0; and
-//! `a_made_header_is_checked_by_its_size`: at the wanted resolution that fault is `Width` or `Height`. The check computes
-//! what is made from seed 0 (`seed_zero_is_worked`).
+//! `a_made_header_is_checked_by_its_size`: at the wanted resolution that fault is `Width` or `Height`. The check
+//! computes what is made from seed 0 (`seed_zero_is_worked`).
 #![tactic(auto)]
 
 mod draws;

@@ -1,5 +1,5 @@
-//! Tests of the writer of pages, by one worker and by several, and of the interleaved and the shingled passes and the strokes of heads with dead nozzles
-//! that it writes.
+//! Tests of the writer of pages, by one worker and by several, and of the interleaved and the shingled passes and the
+//! strokes of heads with dead nozzles that it writes.
 #![tactic(auto)]
 
 #[cfg(test)]

@@ -224,7 +224,8 @@ fn add_required(drawn: &mut Drawn, first: usize) -> Result<(), AllocError> {
     Ok(())
 }
 
-// Appends up to seven lines with any keys. Of four values three are one of the first three, so that lines are often good.
+// Appends up to seven lines with any keys. Of four values three are one of the first three, so that lines are often
+// good.
 fn add_lines(drawn: &mut Drawn, draws: &mut Draws) -> Result<(), AllocError> {
     for _ in 0..draws.below(8) {
         let place = draws.below(18);

@@ -133,9 +133,9 @@ fn work<R: Threads + Wait + Sync, K: Sink, F: Shelf, G: Gate + Sync>(
 }
 
 /// Runs the spool: the words name a profile, a kernel, a number of workers, and for each of up to eight senders its
-/// files; the files are page streams (PWG Raster, PWG 5102.4), and each is a job. All files are read from the shelf, the
-/// senders submit them, and the printer prints each as the driver's `print` does, one after another, as ESC/P2 commands
-/// on `out`. A sender's jobs are printed in its order; which sender's is printed first is left open.
+/// files; the files are page streams (PWG Raster, PWG 5102.4), and each is a job. All files are read from the shelf,
+/// the senders submit them, and the printer prints each as the driver's `print` does, one after another, as ESC/P2
+/// commands on `out`. A sender's jobs are printed in its order; which sender's is printed first is left open.
 ///
 /// The status of the report is the exit status: 0 every job was printed, 1 a word is refused, 2 the profile is refused,
 /// 3 a file is absent or too long, 4 a read of the shelf failed, 5 a write failed, 7 memory ran out, 9 all jobs ran,

@@ -1,5 +1,5 @@
-//! The spool as a program: words from the command line, files and profiles from the current folder, the jobs to standard
-//! output, the report to standard error, and the status as the exit code.
+//! The spool as a program: words from the command line, files and profiles from the current folder, the jobs to
+//! standard output, the report to standard error, and the status as the exit code.
 //!
 //! It has no contract, since `main` may promise nothing about the outside. Its stored run tests it.
 #![tactic(auto)]

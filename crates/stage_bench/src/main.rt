@@ -3,8 +3,8 @@
 //!     stage_bench STAGE [profile=NAME] [kernel=NAME] [workers=NUMBER] < page.pwg
 //!
 //! `read` reads the lines of the first page, and `separate` also separates their inks. `slabs` halftones the page in
-//! slabs as the driver does, by this many workers. `read` and `separate` print the number of lines, `slabs` the number of
-//! dots.
+//! slabs as the driver does, by this many workers. `read` and `separate` print the number of lines, `slabs` the number
+//! of dots.
 //!
 //! `slab-team` diffuses a slab of 2976 by 256 pseudo-random amounts in the profile's inks by this many workers, and
 //! prints the fewest nanoseconds of twenty runs; `slab-plain` does so by the plain program. `separate-gray`,

@@ -27,8 +27,8 @@ pub struct Printed {
 }
 
 /// Prints the pages of one stream (PWG Raster, PWG 5102.4) by a profile, as `run` does once its words and its profile
-/// are accepted: `job` says by which kernel, with how many workers, and in which way the head goes over a page; its other
-/// words are not looked at. A page is written once it is read to its last line and every meter has room for it.
+/// are accepted: `job` says by which kernel, with how many workers, and in which way the head goes over a page; its
+/// other words are not looked at. A page is written once it is read to its last line and every meter has room for it.
 ///
 /// The answer is never `Usage`, `Profile` or `Job`. Where memory runs out it is `Memory`.
 pub fn print_one<R: Threads + Sync, S: Source, K: Sink, G: Gate + Sync>(
