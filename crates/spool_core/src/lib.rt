@@ -2,10 +2,11 @@
 //!
 //! `run_spool` promises `SpoolPromises`. There is an answer whose cause holds for what was read, written and counted
 //! (`outcome`); its status is returned; the error sink got a line for each job that ran and then that of the answer
-//! (`told`); and a valid run ends with 0 or 7 where nothing outside fails and no page goes past a cap (`valid`). Each job
-//! that ran has the outcome that `driver_core::print_one` promises, from where the job before it left the output and the
-//! meters (`PrintsJobs`). Of each sender these are its first files, in order and numbered from 1 (`PrintsFirst`); on 0
-//! and 9, and on 7 where a job ran, they are all of them (`PrintsEvery`).
+//! (`told`); and a valid run ends with 0 or 7 where nothing outside fails and no page goes past a cap (`valid`), as
+//! none does where each meter has room for all pages of all files (`roomy`). Each job that ran has the outcome that
+//! `driver_core::print_one` promises, from where the job before it left the output and the meters (`PrintsJobs`). Of
+//! each sender these are its first files, in order and numbered from 1 (`PrintsFirst`); on 0 and 9, and on 7 where a
+//! job ran, they are all of them (`PrintsEvery`).
 //!
 //! `prepare` reads the words, the profile and all files. `Desk::make` takes the memory for the queue and the report,
 //! `send_all` lets each sender submit, on a thread of its own where one can be started, and `print_jobs` takes and prints
