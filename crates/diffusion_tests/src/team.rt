@@ -136,6 +136,21 @@ fn two_tiles_inside_the_gate_give_the_known_dots(rt: HostRuntime) {
 }
 
 #[test]
+fn each_kernel_gives_the_known_dots(rt: HostRuntime) {
+    for (kernel, dots, hash) in [
+        (Kernel::Floyd, 5478, 0x2A21_B4D5_2C4F_EE94),
+        (Kernel::Jarvis, 5462, 0x5D01_39B5_D3AF_00D3),
+        (Kernel::Stucki, 5463, 0x7FC7_7ACE_F554_46DD),
+    ] {
+        let case = Case { kernel, ..LEVEL };
+        let Some(rows) = rows_of(&rt, rt.alloc(), &case, 3, &OpenGate) else {
+            panic!(rt; "memory");
+        };
+        assert_eq!(rt; measured(rows.as_slice()), (1750, dots, hash));
+    }
+}
+
+#[test]
 fn each_tile_enters_the_gate_once(rt: HostRuntime) {
     for workers in [1, 2, 8] {
         let gate = CountingGate {

@@ -1,8 +1,9 @@
-//! A black page that is printed in two passes: every prefix of it, every failing read and every failing write.
+//! A black page that is printed in two passes: every prefix of it and of its job, every failing read and every failing
+//! write.
 use crate::answers::Answer;
 use crate::runs::{BY_BYTES, Calls, call_behind, words_leave};
 use driver_fixtures::{BLACK_BODY, add_page, begin, prefix};
-use known_jobs::TINY_JOB;
+use known_jobs::{TINY_IMAGES, TINY_JOB};
 use pwg_header::Kind;
 use std::alloc::{AllocError, Global};
 use std::process::Abort;
@@ -96,6 +97,48 @@ fn every_failing_write_of_a_woven_page_leaves_its_prefix(rt: HostRuntime) -> Res
         };
         let wanted = (5, prefix(&TINY_JOB, written), "write failed: page 1\n");
         prints(&rt, rt.alloc(), prefix(&whole, STREAM), calls, wanted)?;
+    }
+    Ok(())
+}
+
+// The bytes of the page's job.
+const JOB: usize = 92;
+
+// Where the commands of the page's job begin, and where it ends.
+const BEGINS: [usize; 18] = [
+    0, 2, 8, 14, 20, 23, 30, 39, 46, 49, 50, 64, 71, 74, 75, 89, 90, 92,
+];
+
+// What playing the first bytes of the job leaves. The sheet is ejected at 89.
+fn answer_to_part(alloc: Global, count: usize) -> Result<Answer, AllocError> {
+    let out: &[u8] = if count < 90 { b"" } else { TINY_IMAGES };
+    let mut last = 0;
+    for begin in BEGINS {
+        if begin <= count {
+            last = begin;
+        }
+    }
+    if last == count {
+        return Answer::of(alloc, 0, out, "");
+    }
+    let line = format!(in alloc; "job: offset {last}: Cut\n")?;
+    Answer::of(alloc, 8, out, &line)
+}
+
+#[test]
+fn every_prefix_of_its_job_has_its_answer(rt: HostRuntime) -> Result<(), Fail> {
+    let alloc = rt.alloc();
+    for count in 0..JOB + 1 {
+        let wanted = answer_to_part(alloc, count)?;
+        let bytes = prefix(&TINY_JOB, count);
+        words_leave(
+            &rt,
+            alloc,
+            &["dots", "profile=tiny"],
+            bytes,
+            BY_BYTES,
+            &wanted,
+        )?;
     }
     Ok(())
 }

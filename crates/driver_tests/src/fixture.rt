@@ -167,6 +167,20 @@ pub fn hashes_to<R: Abort>(rt: &R, left: &Left, length: usize, hash: u64) {
     );
 }
 
+/// Asserts the length and the hash of the images of a job that the simplest printer plays.
+pub fn plays_to<R: Abort + Threads + Sync>(
+    rt: &R,
+    alloc: Global,
+    job: &Left,
+    length: usize,
+    hash: u64,
+) -> Result<(), Fail> {
+    let bytes = job.out.bytes().to_vec(alloc)?;
+    let left = run_bytes(rt, alloc, &["dots", "profile=tiny1"], &[], bytes)?;
+    hashes_to(rt, &left, length, hash);
+    Ok(())
+}
+
 // Asserts what a case leaves.
 fn try_case<R: Abort + Threads + Sync>(rt: &R, alloc: Global, case: &Case) -> Result<(), Fail> {
     let left = left_by(rt, alloc, case)?;

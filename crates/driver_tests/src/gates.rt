@@ -1,5 +1,5 @@
 //! Gates that workers enter with their tiles.
-use crate::fixture::{hashes_to, one_page};
+use crate::fixture::{hashes_to, one_page, plays_to};
 use driver_core::{Gate, Place};
 use driver_fixtures::{Left, no_files, plain, roomy, run_with};
 use std::alloc::Global;
@@ -115,6 +115,7 @@ fn errors_cross_the_slab_at_row_256(rt: HostRuntime) -> Result<(), Fail> {
         let gate = CountingGate::make();
         let left = print_through(&rt, alloc, workers, page, &gate)?;
         hashes_to(&rt, &left, 1855, 0xB1BB_344A_C3B2_09A4);
+        plays_to(&rt, alloc, &left, 1064, 0x6523_246F_CB57_0EA5)?;
         assert_eq!(rt; gate.counts(), ([2, 1, 1, 1, 1, 1, 1, 1], 0), "{workers}");
     }
     Ok(())

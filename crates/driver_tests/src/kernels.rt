@@ -1,5 +1,5 @@
 //! Pages for which each kernel sets other dots.
-use crate::fixture::{hashes_to, one_page, run_bytes};
+use crate::fixture::{hash_of, hashes_to, one_page, plays_to, run_bytes};
 use std::alloc::{AllocError, Global};
 use std::process::Abort;
 use std::test::Fail;
@@ -56,20 +56,21 @@ fn drawn_page(alloc: Global, seed: u32, width: u32, height: u32) -> Result<Vec<u
     one_page(alloc, width, height, &body)
 }
 
-// A kernel's word, and the length and the hash of its job.
-type Hashed = (&'static str, usize, u64);
+// A kernel's word, the length and the hash of its job, and the hash of the job's images.
+type Hashed = (&'static str, usize, u64, u64);
 
-// Asserts the length and the hash of a page's job by a kernel and several numbers of workers.
+// Asserts the length and the hash of a page's job by a kernel and several numbers of workers, and those of its images.
 fn prints_alike<R: Abort + Threads + Sync>(
     rt: &R,
     alloc: Global,
     page: &Vec<u8>,
-    (kernel, length, hash): Hashed,
+    (kernel, length, hash, images): Hashed,
 ) -> Result<(), Fail> {
     for workers in ["workers=1", "workers=2", "workers=64"] {
         let words = ["print", "profile=tiny1", kernel, workers];
         let left = run_bytes(rt, alloc, &words, &[], page.clone()?)?;
         hashes_to(rt, &left, length, hash);
+        plays_to(rt, alloc, &left, 7040, images)?;
     }
     Ok(())
 }
@@ -91,9 +92,24 @@ fn try_kernels<R: Abort + Threads + Sync>(
 #[test]
 fn tiles_give_the_row_by_row_page(rt: HostRuntime) -> Result<(), Fail> {
     const CASES: [Hashed; 3] = [
-        ("kernel=fs", 3192, 0xDFF3_6ADB_6A87_5A1D),
-        ("kernel=jjn", 3094, 0xCD4D_5F62_59C9_C274),
-        ("kernel=stucki", 3192, 0xCA80_08C8_6316_7BFA),
+        (
+            "kernel=fs",
+            3192,
+            0xDFF3_6ADB_6A87_5A1D,
+            0xE2B8_C381_F3B4_4E48,
+        ),
+        (
+            "kernel=jjn",
+            3094,
+            0xCD4D_5F62_59C9_C274,
+            0x5CBE_E0DB_842C_4FC7,
+        ),
+        (
+            "kernel=stucki",
+            3192,
+            0xCA80_08C8_6316_7BFA,
+            0xC2AD_322E_E446_90D1,
+        ),
     ];
     let page = one_page(rt.alloc(), 200, 70, &[0x45, 0x7F, 0x9B, 0x47, 0x9B])?;
     try_kernels(&rt, rt.alloc(), &page, &CASES)
@@ -102,10 +118,26 @@ fn tiles_give_the_row_by_row_page(rt: HostRuntime) -> Result<(), Fail> {
 #[test]
 fn worker_counts_give_equal_bytes(rt: HostRuntime) -> Result<(), Fail> {
     const CASES: [Hashed; 3] = [
-        ("kernel=fs", 3192, 0x4F0D_D824_B9F7_8FE3),
-        ("kernel=jjn", 3192, 0xACAF_F7A9_B719_D5D8),
-        ("kernel=stucki", 3191, 0xE4E0_B452_6337_5667),
+        (
+            "kernel=fs",
+            3192,
+            0x4F0D_D824_B9F7_8FE3,
+            0xFE38_3952_E6FA_EC6E,
+        ),
+        (
+            "kernel=jjn",
+            3192,
+            0xACAF_F7A9_B719_D5D8,
+            0x5F21_B0DA_BFD1_4FA7,
+        ),
+        (
+            "kernel=stucki",
+            3191,
+            0xE4E0_B452_6337_5667,
+            0xCBE3_2DB7_A504_C77C,
+        ),
     ];
     let page = drawn_page(rt.alloc(), 7, 200, 70)?;
+    assert_eq!(rt; (page.len(), hash_of(&page)), (4343, 0x77FB_E70E_4D6D_6154));
     try_kernels(&rt, rt.alloc(), &page, &CASES)
 }

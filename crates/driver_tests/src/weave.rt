@@ -4,7 +4,7 @@ use crate::fixture::{
     Case, GREY, GivenPage, NO_PAGE, Output, PRINT, hashes_to, leaves, run_bytes, try_all,
 };
 use crate::machine::execute;
-use driver_fixtures::{BLACK_BODY, add_header, begin};
+use driver_fixtures::{BLACK_BODY, add_header, begin, no_files, plain, run_over, sink};
 use known_jobs::TINY_JOB;
 use pwg_header::Kind;
 use std::alloc::Global;
@@ -204,6 +204,11 @@ fn a_black_a4_takes_277_rasters(rt: HostRuntime) -> Result<(), Fail> {
         fired(alloc, left.out.bytes())?,
         (1, 277, [11_800_854, 0, 0, 0])
     );
+    let job = plain(alloc, left.out.bytes().to_vec(alloc)?);
+    let room = sink(alloc, 6_077_848)?;
+    let words = ["dots", "profile=p360cmyk"];
+    let images = run_over(&rt, alloc, &words, job, room, no_files(alloc))?;
+    hashes_to(&rt, &images, 6_077_848, 0xB9F9_D3F8_92E0_C969);
     Ok(())
 }
 

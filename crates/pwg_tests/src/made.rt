@@ -111,6 +111,24 @@ fn each_kind_is_made(rt: HostRuntime) -> Result<(), Fail> {
     Ok(())
 }
 
+// The FNV-1a hash of 64 bits.
+fn hash_of(bytes: &[u8]) -> u64 {
+    let mut hash: u64 = 0xCBF2_9CE4_8422_2325;
+    for byte in bytes {
+        hash = (hash ^ u64::from(*byte)).wrapping_mul(0x100_0000_01B3);
+    }
+    hash
+}
+
+#[test]
+fn a_grey_page_of_seed_seven_is_made(rt: HostRuntime) -> Result<(), Fail> {
+    let mut out = Vec::new(rt.alloc());
+    make_pages(7, 1, 200, 70, Kind::Gray8, 360, 360, &mut out)?;
+    let got = (out.len(), hash_of(out.as_slice()));
+    same(&rt, "the stream", &got, &(4343, 0x77FB_E70E_4D6D_6154));
+    Ok(())
+}
+
 // Reads the stream as pages, whose forms are to be the made one, and appends the groups of all. It gives the number of
 // pages.
 fn read_pages(

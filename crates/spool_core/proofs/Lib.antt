@@ -4,4 +4,5 @@ pub mod Reading
 pub mod Works
 pub mod Jobs
 pub mod Runs
+pub mod Rooms
 pub mod Valid

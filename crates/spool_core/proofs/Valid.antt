@@ -5,16 +5,10 @@ use Rattle.std.proofs.lemmas.List.{get_or-append-add, get_or_append_left, get_or
 use Rattle.std.proofs.lemmas.List.Elements.{All-append, All-from_get_or, All-get_or, All-head, All-nil, All-tail}
 use Rattle.std.proofs.lemmas.List.Sums.{sum_by-cons}
 use Rattle.diffusion_definitions.specs.Diffusion.{Table}
-use Rattle.driver_answer.specs.Answers.{status_of}
-use Rattle.driver_answer.specs.declared.answer.Answer.{Answer}
-use Rattle.driver_answer.specs.declared.answer.Answer.TheVariants as print
+use Rattle.diffusion_kernel.specs.Tables.{table_of}
 use Rattle.driver_core.specs.Outside.{HasFailed, IsCalm, Outside}
-use Rattle.driver_core.specs.Printing.Pages.{IsStream}
 use Rattle.job_profile.specs.Named.{IsJobProfile, Refusal, job_profile}
 use Rattle.printer_definitions.specs.Printer.{Printer}
-use Rattle.pwg_definitions.specs.Stream.{stream}
-use Rattle.pwg_definitions.specs.Stream.{Stream as Pages}
-use Rattle.pwg_definitions.specs.Stream.StreamEnd.{Done, Fault}
 use Rattle.spool_queue.proofs.Sent.{was_sent}
 use Rattle.spool_queue.specs.Jobs.{AreSent, Stream, sent_by}
 use Rattle.spool_queue.specs.declared.job.SpoolJob.{SpoolJob}
@@ -24,15 +18,16 @@ use Rattle.spool_words.specs.declared.reading.SpoolRequest.{SpoolRequest}
 use Rattle.weave_base.specs.Shelf.{NamedText, text_named}
 use Rattle.spool_core.specs.Answers.{Tells, spool_status, spool_text}
 use Rattle.spool_core.specs.Files.{AreFiles, FilesOutcome, HasStreams, IsFile, IsRefusedFile, RefusesFile, bytes_in, joined, most_next}
-use Rattle.spool_core.specs.Outcome.{PrintingOutcome, ProfileOutcome, RequestOutcome, SpoolOutcome, SpoolOutside, WithFiles, WithoutFiles, is_refused}
-use Rattle.spool_core.specs.Printed.{Between, PrintsJobs, PrintsStream}
-use Rattle.spool_core.specs.Promises.{IsValidSpool, IsValidStream, SpoolPromises}
+use Rattle.spool_core.specs.Outcome.{PrintingOutcome, ProfileOutcome, RequestOutcome, SpoolOutcome, SpoolOutside, WithFiles, WithoutFiles, at_call, at_return, is_refused}
+use Rattle.spool_core.specs.Printed.{Between, PrintsEvery, PrintsJobs}
+use Rattle.spool_core.specs.Promises.{HasRoomFor, IsValidSpool, IsValidStream, SpoolPromises, dots_of_streams, stream_dots}
 use Rattle.spool_core.specs.declared.answer.SpoolAnswer.{SpoolAnswer}
 use Rattle.spool_core.specs.declared.answer.SpoolAnswer.TheVariants as answer
 use Rattle.spool_core.specs.declared.files.FileCause.{FileCause}
 use Rattle.spool_core.specs.declared.files.FileCause.TheVariants as cause
 use Rattle.spool_core.specs.declared.report.Ran.{Ran}
 use Rattle.spool_core.proofs.Lists.{cut_at, flat_map-append}
+use Rattle.spool_core.proofs.Rooms.{jobs_as_sent, none_over, not_three, of_jobs, streams_as_told}
 
 -- ---- what a shelf says has one meaning
 
@@ -144,21 +139,6 @@ jobs_valid P sent jobs d are all = All-from_get_or (λ (x : SpoolJob). P x.strea
 
 -- ---- no job is refused
 
-not_three : (p : Printer) (k : Table) (bytes : Stream) (pages : ℕ) (a : Answer) (x y : Between) → IsValidStream p bytes
-    → PrintsStream p k bytes pages a x y → status_of a ≢ 3
-not_three p k bytes pages (print.Input page line why) x y valid prints three =
-    let ended : IsStream p (Some bytes) prints.printed.0.0.pages (Fault page line why) =
-    subst (λ (b : Option (List ℕ)). IsStream p b prints.printed.0.0.pages (Fault page line why)) prints.stream_is prints.printed.0.0.told in
-    let never : Done ≡ Fault page line why = ap (λ (s : Pages). s.end) (sym valid.1 ∙ ended) in absurd cc
-not_three p k bytes pages print.Done x y valid prints three = absurd (omega arith)
-not_three p k bytes pages print.Read x y valid prints three = absurd (omega arith)
-not_three p k bytes pages (print.Write page) x y valid prints three = absurd (omega arith)
-not_three p k bytes pages (print.OverCap page total dots cap) x y valid prints three = absurd (omega arith)
-not_three p k bytes pages print.Memory x y valid prints three = absurd (omega arith)
-not_three p k bytes pages (print.Usage fault) x y valid prints three = absurd (omega arith)
-not_three p k bytes pages (print.Profile line why) x y valid prints three = absurd (omega arith)
-not_three p k bytes pages (print.Job offset why) x y valid prints three = absurd (omega arith)
-
 not_counted : (s : ℕ) → s ≢ 3 → s ≢ 6 → ((s == 3) || (s == 6)) ≡ false
 not_counted s three six = rw (ne_eqb s 3 three, ne_eqb s 6 six)
 
@@ -182,7 +162,11 @@ abbrev IsFine : SpoolAnswer → Type 0
 IsFine a = (spool_status a ≡ 0) ⊎ (spool_status a ≡ 7)
 
 module _ (words : List (List ℕ)) (o : SpoolOutside) (done : List Ran) (valid : IsValidSpool words o) (files : List NamedText)
-    (is : o.shelf.told ≡ Some files) (calm : HasFailed o.shelf → ⊥) (calm_out : IsCalm o.out) (fine : All (λ (ran : Ran). ran.status ≢ 6) done) where
+    (is : o.shelf.told ≡ Some files) (calm : HasFailed o.shelf → ⊥) (calm_out : IsCalm o.out)
+    (fine : (p : Printer) (k : Table) (sent : List (List Stream)) → p ≡ valid.p → k ≡ table_of valid.request.kernel
+    → joined sent ≡ joined valid.sent → (every : PrintsEvery p k sent done (at_call o.out o.meters) (at_return o.out o.meters))
+    → All (λ (x : SpoolJob). IsValidStream p x.stream) every.jobs → All (λ (ran : Ran). (ran.status ≢ 5) × (ran.status ≢ 7)) done
+    → All (λ (ran : Ran). ran.status ≢ 6) done) where
   by_profile : (a : SpoolAnswer) → ProfileOutcome (profile_named words) o.shelf a → IsFine a
   by_profile (answer.Profile line why) h =
       let never = one_profile o.shelf.told files (profile_named words) _ _ is h valid.profile in absurd cc
@@ -205,11 +189,11 @@ module _ (words : List (List ℕ)) (o : SpoolOutside) (done : List Ran) (valid :
   by_files (answer.Failed count) h = absurd h
 
   by_printing : (p : Printer) (k : Table) (sent : List (List Stream)) (a : SpoolAnswer) → p ≡ valid.p
-      → AreFiles o.shelf.told (names_of words) sent → PrintingOutcome p k sent o.out o.meters done a → IsFine a
-  by_printing p k sent answer.Done same are h = inl refl
-  by_printing p k sent answer.Memory same are h = inr refl
-  by_printing p k sent (answer.Write sender job page) same are h = absurd (calm_out h.0)
-  by_printing p k sent (answer.Failed count) same are h =
+      → k ≡ table_of valid.request.kernel → AreFiles o.shelf.told (names_of words) sent → PrintingOutcome p k sent o.out o.meters done a → IsFine a
+  by_printing p k sent answer.Done same kernel are h = inl refl
+  by_printing p k sent answer.Memory same kernel are h = inr refl
+  by_printing p k sent (answer.Write sender job page) same kernel are h = absurd (calm_out h.0)
+  by_printing p k sent (answer.Failed count) same kernel are h =
       let streams : joined valid.sent ≡ joined sent =
       same_streams o.shelf.told files is 0 0 (joined (names_of words)) (joined valid.sent) (joined sent) valid.files.streams are.streams in
       let P : Stream → Type 0 = IsValidStream valid.p in
@@ -217,12 +201,12 @@ module _ (words : List (List ℕ)) (o : SpoolOutside) (done : List Ran) (valid :
       let Q : Stream → Type 0 = IsValidStream p in
       let all' : All Q (joined sent) = subst (λ (q : Printer). All (IsValidStream q) (joined sent)) (sym same) all in
       let jobs = jobs_valid Q sent h.0.jobs (record { sender = 0; number = 0; stream = [] }) h.0.are all' in
-      let none = none_counted p k h.0.jobs done _ _ h.0.prints jobs fine in
+      let none = none_counted p k h.0.jobs done _ _ h.0.prints jobs (fine p k sent same kernel (sym streams) h.0 jobs h.1) in
       absurd (omega (arith, h.2, h.3))
-  by_printing p k sent (answer.Usage fault) same are h = absurd h
-  by_printing p k sent (answer.Profile line why) same are h = absurd h
-  by_printing p k sent (answer.File sender job why) same are h = absurd h
-  by_printing p k sent answer.Read same are h = absurd h
+  by_printing p k sent (answer.Usage fault) same kernel are h = absurd h
+  by_printing p k sent (answer.Profile line why) same kernel are h = absurd h
+  by_printing p k sent (answer.File sender job why) same kernel are h = absurd h
+  by_printing p k sent answer.Read same kernel are h = absurd h
 
   pub valid_run : (a : SpoolAnswer) → SpoolOutcome words o done a → IsFine a
   valid_run a outcome =
@@ -232,7 +216,20 @@ module _ (words : List (List ℕ)) (o : SpoolOutside) (done : List Ran) (valid :
       (⊎_elim (λ (h : WithoutFiles words o done a). by_files a h.stopped)
       (λ (h : WithFiles words valid.request o done a).
       let same : Ok h.p ≡ Ok valid.p = one_profile o.shelf.told files (profile_named words) (Ok h.p) (Ok valid.p) is h.profile valid.profile in
-      by_printing h.p _ h.sent a (cc) h.files h.printed)) by_request
+      by_printing h.p _ h.sent a (cc) refl h.files h.printed)) by_request
+
+-- where the meters have room for all streams, no job goes past a cap
+roomy_jobs : {done : List Ran} {o : SpoolOutside} (q p : Printer) (l k : Table) (streams : List Stream) (sent : List (List Stream))
+    → p ≡ q → k ≡ l → joined sent ≡ streams → (every : PrintsEvery p k sent done (at_call o.out o.meters) (at_return o.out o.meters))
+    → All (λ (x : SpoolJob). IsValidStream p x.stream) every.jobs → All (λ (ran : Ran). (ran.status ≢ 5) × (ran.status ≢ 7)) done
+    → All (HasRoomFor (dots_of_streams q l streams)) o.meters.before → All (λ (ran : Ran). ran.status ≢ 6) done
+roomy_jobs {done} {o} q p l k streams sent same kernel order every jobs plain room =
+    let dots : dots_of_streams q l streams ≡ of_jobs (stream_dots p k) every.jobs =
+    ap (λ ss. dots_of_streams q l ss) (sym order) ∙ ap (λ t. dots_of_streams q t (joined sent)) (sym kernel)
+    ∙ ap (λ r. dots_of_streams r k (joined sent)) (sym same) ∙ streams_as_told p k (joined sent)
+    ∙ sym (jobs_as_sent (stream_dots p k) sent every.jobs every.are) in
+    none_over p k every.jobs done (at_call o.out o.meters) (at_return o.out o.meters) every.prints jobs plain
+    (subst (λ n. All (HasRoomFor n) o.meters.before) dots room)
 
 -- what a run promises, by its answer
 pub promised : {words : List (List ℕ)} {o : SpoolOutside} {err : Outside} {status : ℕ} {done : List Ran} (a : SpoolAnswer) → SpoolOutcome words o done a
@@ -245,5 +242,8 @@ promised {words} {o} {err} {status} {done} a outcome is told =
       status_is = is;
       told = told;
       valid = λ valid shelf calm calm_out fine.
-          subst P (sym is) (valid_run words o done valid shelf.0 shelf.1 calm calm_out fine a outcome);
+          subst P (sym is) (valid_run words o done valid shelf.0 shelf.1 calm calm_out (λ p k sent same kernel order every jobs plain. fine) a outcome);
+      roomy = λ valid shelf calm calm_out room.
+          subst P (sym is) (valid_run words o done valid shelf.0 shelf.1 calm calm_out (λ p k sent same kernel order every jobs plain.
+          roomy_jobs valid.p p (table_of valid.request.kernel) k (joined valid.sent) sent same kernel order every jobs plain room) a outcome);
     }

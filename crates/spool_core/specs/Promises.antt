@@ -1,13 +1,17 @@
 -- What a run of the spool promises, by its words, the outside, the error sink and its report.
-use Rattle.std.specs.Prelude.{◌≡◌, ◌≢◌, ℕ, ◌⊎◌, List, All, Some, Ok}
+use Rattle.std.specs.Prelude.{◌≡◌, ◌≢◌, ℕ, ◌+◌, ◌≤◌, ◌⊎◌, List, [], ◌∷◌, All, Some, Ok}
+use Rattle.diffusion_definitions.specs.Diffusion.{Table}
+use Rattle.diffusion_kernel.specs.Tables.{table_of}
 use Rattle.driver_core.specs.Outside.{HasFailed, IsCalm, Outside}
+use Rattle.driver_core.specs.Trying.Summary.{dots_of_pages}
+use Rattle.ink_meter.specs.Accounts.{Account, all_inks}
 use Rattle.job_profile.specs.Named.{IsJobProfile}
 use Rattle.printer_definitions.specs.Printer.{Printer}
 use Rattle.pwg_definitions.specs.Stream.{Page, stream}
 use Rattle.pwg_definitions.specs.Stream.StreamEnd.{Done}
 use Rattle.separation_definitions.specs.Windows.{wanted_by}
 use Rattle.spool_core.specs.Answers.{Tells, spool_status, spool_text}
-use Rattle.spool_core.specs.Files.{AreFiles}
+use Rattle.spool_core.specs.Files.{AreFiles, joined}
 use Rattle.spool_core.specs.Outcome.{SpoolOutcome, SpoolOutside}
 use Rattle.spool_core.specs.declared.answer.SpoolAnswer.{SpoolAnswer}
 use Rattle.spool_core.specs.declared.report.Ran.{Ran}
@@ -30,6 +34,19 @@ pub record IsValidSpool (words : List (List ℕ)) (o : SpoolOutside) : Type 0 wh
   pub files : AreFiles o.shelf.told (names_of words) sent
   pub streams : All (All (IsValidStream p)) sent
 
+-- the dots of all inks that the pages of a stream ask for
+abbrev pub stream_dots : Printer → Table → Stream → ℕ
+stream_dots p k bytes = all_inks (dots_of_pages p k (stream (wanted_by p) bytes).pages)
+
+-- those of all streams
+abbrev pub dots_of_streams : Printer → Table → List Stream → ℕ
+dots_of_streams p k [] = 0
+dots_of_streams p k (bytes ∷ streams) = stream_dots p k bytes + dots_of_streams p k streams
+
+-- the meter has room for so many dots
+abbrev pub HasRoomFor : ℕ → Account → Type 0
+HasRoomFor dots a = all_inks a.totals + dots ≤ a.cap
+
 pub record SpoolPromises (words : List (List ℕ)) (o : SpoolOutside) (err : Outside) (status : ℕ) (done : List Ran) : Type 0 where
   pub answer : SpoolAnswer
   -- what the answer means
@@ -40,3 +57,6 @@ pub record SpoolPromises (words : List (List ℕ)) (o : SpoolOutside) (err : Out
   -- a valid run prints every job, unless something outside fails, a page goes past a cap, or memory runs out
   pub valid : IsValidSpool words o → ((files : List NamedText) × (o.shelf.told ≡ Some files)) → (HasFailed o.shelf → ⊥) → IsCalm o.out
       → All (λ ran. ran.status ≢ 6) done → (status ≡ 0) ⊎ (status ≡ 7)
+  -- the same where each meter has room for all pages of all streams, in whatever order the jobs come
+  pub roomy : (v : IsValidSpool words o) → ((files : List NamedText) × (o.shelf.told ≡ Some files)) → (HasFailed o.shelf → ⊥) → IsCalm o.out
+      → All (HasRoomFor (dots_of_streams v.p (table_of v.request.kernel) (joined v.sent))) o.meters.before → (status ≡ 0) ⊎ (status ≡ 7)

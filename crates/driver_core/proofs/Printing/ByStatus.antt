@@ -97,7 +97,7 @@ has_no_room accounts n over first room =
     omega (arith, has, first.full)
 
 -- a page that goes past a cap is not among pages that are admitted
-never_over : (way : Way) (p : Printer) (k : Table) (input out : Outside) (meters : Meters) (bytes : List ℕ) (pages : List Page)
+pub never_over : (way : Way) (p : Printer) (k : Table) (input out : Outside) (meters : Meters) (bytes : List ℕ) (pages : List Page)
     (end : StreamEnd) (number total dots cap : ℕ) → GoesOver way p k input out meters number total dots cap
     → input.before ≡ Some bytes → stream (wanted_by p) bytes ≡ record { pages = pages; end = end } → Admitted p k pages meters.before → ⊥
 never_over way p k input out meters bytes pages end number total dots cap over told is admitted =

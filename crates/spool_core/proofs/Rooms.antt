@@ -1,0 +1,205 @@
+-- Meters that have room for the pages of all streams: no job goes past a cap.
+use Rattle.std.proofs.Common.{◌≡◌, ◌≢◌, ℕ, zero, suc, ◌+◌, ◌<◌, ◌≤◌, List, [], ◌∷◌, ◌++◌, length, map, sym, refl, ◌∙◌, ap, subst, arith, All, Option, Some}
+use Rattle.std.proofs.lemmas.List.Elements.{All-cons, All-head, All-map, All-nil, All-tail, All-weaker}
+use mathlib.Core.Logic.{dite}
+use native.Mathlib.Decide.{ℕ_discrete, dec_le}
+use Rattle.diffusion_definitions.specs.Diffusion.{Table}
+use Rattle.driver_answer.specs.Answers.{status_of}
+use Rattle.driver_answer.specs.declared.answer.Answer.{Answer}
+use Rattle.driver_answer.specs.declared.answer.Answer.TheVariants as print
+use Rattle.driver_core.specs.Printing.Pages.{IsStream}
+use Rattle.driver_core.specs.Trying.Summary.{dots_of_pages}
+use Rattle.driver_core.proofs.Printing.ByStatus.{never_over}
+use Rattle.ink_meter.specs.Accounts.{Account, HasRoom, added, all_inks}
+use Rattle.ink_meter.specs.Counts.{Admitted, counted, page_dots}
+use Rattle.page_definitions.specs.Ways.Way.{Woven}
+use Rattle.printer_definitions.specs.Printer.{Printer}
+use Rattle.pwg_definitions.specs.Stream.{Page, stream}
+use Rattle.pwg_definitions.specs.Stream.{Stream as Pages}
+use Rattle.pwg_definitions.specs.Stream.StreamEnd.{Done, Fault}
+use Rattle.separation_definitions.specs.Windows.{wanted_by}
+use Rattle.spool_queue.proofs.Lists.{jobs_of_else, jobs_of_here}
+use Rattle.spool_queue.specs.Jobs.{AreSent, Stream, jobs_of, numbered, sent_by}
+use Rattle.spool_queue.specs.declared.job.SpoolJob.{SpoolJob}
+use Rattle.spool_core.specs.Files.{joined}
+use Rattle.spool_core.specs.Printed.{Between, PrintsJob, PrintsJobs, PrintsStream, meters_from, out_from}
+use Rattle.spool_core.specs.Promises.{HasRoomFor, IsValidStream, dots_of_streams, stream_dots}
+use Rattle.spool_core.specs.declared.report.Ran.{Ran}
+
+-- ---- jobs come to what the streams come to that were sent
+
+none_above : (lists : List (List Stream)) (s : ℕ) → length lists < s → sent_by lists s ≡ []
+none_above lists zero lt = absurd (omega arith)
+none_above [] (suc s) lt = refl
+none_above (list ∷ lists) (suc zero) lt = absurd (omega arith)
+none_above (list ∷ lists) (suc (suc s)) lt = none_above lists (suc s) (omega arith)
+
+known_sender : (n : ℕ) (x : SpoolJob) (xs : List SpoolJob) → ((s : ℕ) → n ≤ s → jobs_of s (x ∷ xs) ≡ []) → x.sender < n
+known_sender n x xs h = dite (dec_le n x.sender)
+    (λ le. let l : suc (length (jobs_of x.sender xs)) ≡ 0 = ap length (sym (jobs_of_here x.sender x xs refl) ∙ h x.sender le) in absurd (omega arith))
+    (λ no_le. omega arith)
+
+module _ (f : Stream → ℕ) where
+  abbrev pub of_jobs : List SpoolJob → ℕ
+  of_jobs [] = 0
+  of_jobs (x ∷ xs) = f x.stream + of_jobs xs
+
+  abbrev pub of_streams : List Stream → ℕ
+  of_streams [] = 0
+  of_streams (s ∷ ss) = f s + of_streams ss
+
+  of_streams-append : (xs ys : List Stream) → of_streams (xs ++ ys) ≡ of_streams xs + of_streams ys
+  of_streams-append [] ys = omega arith
+  of_streams-append (x ∷ xs) ys = let more = of_streams-append xs ys in omega arith
+
+  -- those of the senders below n
+  abbrev below : ℕ → List SpoolJob → ℕ
+  below zero xs = 0
+  below (suc n) xs = of_jobs (jobs_of n xs) + below n xs
+
+  below_empty : (n : ℕ) → below n [] ≡ 0
+  below_empty zero = refl
+  below_empty (suc n) = let b = below_empty n in omega arith
+
+  below_else : (n : ℕ) (x : SpoolJob) (xs : List SpoolJob) → n ≤ x.sender → below n (x ∷ xs) ≡ below n xs
+  below_else zero x xs h = refl
+  below_else (suc n) x xs h =
+      let a : of_jobs (jobs_of n (x ∷ xs)) ≡ of_jobs (jobs_of n xs) = ap (λ l. of_jobs l) (jobs_of_else n x xs (λ e. omega arith)) in
+      let b = below_else n x xs (omega arith) in
+      omega arith
+
+  below_here : (n : ℕ) (x : SpoolJob) (xs : List SpoolJob) → x.sender < n → below n (x ∷ xs) ≡ f x.stream + below n xs
+  below_here zero x xs h = absurd (omega arith)
+  below_here (suc n) x xs h = dite (ℕ_discrete x.sender n)
+      (λ e.
+      let a : of_jobs (jobs_of n (x ∷ xs)) ≡ f x.stream + of_jobs (jobs_of n xs) = ap (λ l. of_jobs l) (jobs_of_here n x xs e) in
+      let b = below_else n x xs (omega arith) in
+      omega arith)
+      (λ ne.
+      let a : of_jobs (jobs_of n (x ∷ xs)) ≡ of_jobs (jobs_of n xs) = ap (λ l. of_jobs l) (jobs_of_else n x xs ne) in
+      let b = below_here n x xs (omega arith) in
+      omega arith)
+
+  all_below : (n : ℕ) (xs : List SpoolJob) → ((s : ℕ) → n ≤ s → jobs_of s xs ≡ []) → below n xs ≡ of_jobs xs
+  all_below n [] h = below_empty n
+  all_below n (x ∷ xs) h =
+      let lt = known_sender n x xs h in
+      let b = below_here n x xs lt in
+      let r = all_below n xs (λ s le. sym (jobs_of_else s x xs (λ e. omega arith)) ∙ h s le) in
+      omega arith
+
+  numbered_jobs : (s n : ℕ) (bs : List Stream) → of_jobs (numbered s n bs) ≡ of_streams bs
+  numbered_jobs s n [] = refl
+  numbered_jobs s n (b ∷ bs) = ap (λ m. f b + m) (numbered_jobs s (suc n) bs)
+
+  -- what the senders below n sent
+  abbrev sent_below : (ℕ → List Stream) → ℕ → ℕ
+  sent_below g zero = 0
+  sent_below g (suc n) = of_streams (g n) + sent_below g n
+
+  below_sent : (g : ℕ → List Stream) (n : ℕ) (xs : List SpoolJob) → AreSent g xs → below n xs ≡ sent_below g n
+  below_sent g zero xs h = refl
+  below_sent g (suc n) xs h =
+      let a : of_jobs (jobs_of n xs) ≡ of_streams (g n) = ap (λ l. of_jobs l) (h n) ∙ numbered_jobs n 1 (g n) in
+      let b = below_sent g n xs h in
+      omega arith
+
+  sent_below-first : (list : List Stream) (lists : List (List Stream)) (n : ℕ)
+      → sent_below (sent_by (list ∷ lists)) (suc (suc n)) ≡ of_streams list + sent_below (sent_by lists) (suc n)
+  sent_below-first list lists zero = omega arith
+  sent_below-first list lists (suc n) = let b = sent_below-first list lists n in omega arith
+
+  sent_below-all : (lists : List (List Stream)) → sent_below (sent_by lists) (suc (length lists)) ≡ of_streams (joined lists)
+  sent_below-all [] = refl
+  sent_below-all (list ∷ lists) =
+      sent_below-first list lists (length lists) ∙ ap (λ n. of_streams list + n) (sent_below-all lists)
+      ∙ sym (of_streams-append list (joined lists))
+
+  pub jobs_as_sent : (lists : List (List Stream)) (xs : List SpoolJob) → AreSent (sent_by lists) xs → of_jobs xs ≡ of_streams (joined lists)
+  jobs_as_sent lists xs h =
+      sym (all_below (suc (length lists)) xs (λ s le. h s ∙ ap (numbered s 1) (none_above lists s (omega arith))))
+      ∙ below_sent (sent_by lists) (suc (length lists)) xs h ∙ sent_below-all lists
+
+pub streams_as_told : (p : Printer) (k : Table) (streams : List Stream) → dots_of_streams p k streams ≡ of_streams (stream_dots p k) streams
+streams_as_told p k [] = refl
+streams_as_told p k (s ∷ streams) = ap (λ n. stream_dots p k s + n) (streams_as_told p k streams)
+
+-- ---- meters that have room for pages and more admit the pages, and have room for the rest
+
+page_room : (p : Printer) (k : Table) (pages : List Page) (more : ℕ) (accounts : List Account)
+    → All (HasRoomFor (all_inks (dots_of_pages p k pages) + more)) accounts
+    → Admitted p k pages accounts × All (HasRoomFor more) (counted p k pages accounts)
+page_room p k [] more accounts room =
+    (tt, All-weaker (HasRoomFor (all_inks (dots_of_pages p k []) + more)) (HasRoomFor more) (λ a h. omega (arith, h)) accounts room)
+page_room p k (page ∷ pages) more accounts room =
+    let dots = page_dots page p k in
+    let P : Account → Type 0 = HasRoomFor (all_inks (dots_of_pages p k (page ∷ pages)) + more) in
+    let Q : Account → Type 0 = HasRoomFor (all_inks (dots_of_pages p k pages) + more) in
+    let one : All (HasRoom dots) accounts = All-weaker P (HasRoom dots) (λ a h. omega (arith, h)) accounts room in
+    let others = page_room p k pages more (map (added dots) accounts)
+    (All-map Q (added dots) accounts (All-weaker P (λ a. Q (added dots a)) (λ a h. omega (arith, h)) accounts room)) in
+    ((one, others.0), others.1)
+
+-- ---- the jobs
+
+pub not_three : (p : Printer) (k : Table) (bytes : Stream) (pages : ℕ) (a : Answer) (x y : Between) → IsValidStream p bytes
+    → PrintsStream p k bytes pages a x y → status_of a ≢ 3
+not_three p k bytes pages (print.Input page line why) x y valid prints three =
+    let ended : IsStream p (Some bytes) prints.printed.0.0.pages (Fault page line why) =
+    subst (λ (b : Option (List ℕ)). IsStream p b prints.printed.0.0.pages (Fault page line why)) prints.stream_is prints.printed.0.0.told in
+    let never : Done ≡ Fault page line why = ap (λ (s : Pages). s.end) (sym valid.1 ∙ ended) in absurd cc
+not_three p k bytes pages print.Done x y valid prints three = absurd (omega arith)
+not_three p k bytes pages print.Read x y valid prints three = absurd (omega arith)
+not_three p k bytes pages (print.Write page) x y valid prints three = absurd (omega arith)
+not_three p k bytes pages (print.OverCap page total dots cap) x y valid prints three = absurd (omega arith)
+not_three p k bytes pages print.Memory x y valid prints three = absurd (omega arith)
+not_three p k bytes pages (print.Usage fault) x y valid prints three = absurd (omega arith)
+not_three p k bytes pages (print.Profile line why) x y valid prints three = absurd (omega arith)
+not_three p k bytes pages (print.Job offset why) x y valid prints three = absurd (omega arith)
+
+-- a job of a valid stream for which the meters have room is printed, where no write failed and memory sufficed
+job_fits : (p : Printer) (k : Table) (job : SpoolJob) (ran : Ran) (a b : Between) (more : ℕ) → PrintsJob p k job ran a b
+    → IsValidStream p job.stream → ran.status ≢ 5 → ran.status ≢ 7 → All (HasRoomFor (stream_dots p k job.stream + more)) a.accounts
+    → (ran.status ≡ 0) × All (HasRoomFor more) b.accounts
+job_fits p k job ran a b more one valid five seven room =
+    by_answer one.answer one.prints one.status_is (page_room p k (stream (wanted_by p) job.stream).pages more a.accounts room)
+  where
+    by_answer : (x : Answer) → PrintsStream p k job.stream ran.pages x a b → ran.status ≡ status_of x
+        → Admitted p k (stream (wanted_by p) job.stream).pages a.accounts
+        × All (HasRoomFor more) (counted p k (stream (wanted_by p) job.stream).pages a.accounts)
+        → (ran.status ≡ 0) × All (HasRoomFor more) b.accounts
+    by_answer print.Done prints is fits =
+        let all = prints.printed.0.0 in
+        let told : IsStream p (Some job.stream) all.pages Done =
+        subst (λ (o : Option (List ℕ)). IsStream p o all.pages Done) prints.stream_is all.told in
+        let same : (stream (wanted_by p) job.stream).pages ≡ all.pages = ap (λ (s : Pages). s.pages) told in
+        let left : b.accounts ≡ counted p k (stream (wanted_by p) job.stream).pages a.accounts =
+        prints.printed.0.1.counts ∙ ap (λ pages. counted p k pages a.accounts) (sym same) in
+        (is, subst (All (HasRoomFor more)) (sym left) fits.1)
+    by_answer (print.OverCap page total dots cap) prints is fits =
+        let admitted : Admitted p k valid.0 a.accounts =
+        subst (λ pages. Admitted p k pages a.accounts) (ap (λ (s : Pages). s.pages) valid.1) fits.0 in
+        absurd (never_over Woven p k prints.input (out_from a b) (meters_from a b) job.stream valid.0 Done page total dots cap
+        prints.printed.0 prints.stream_is valid.1 admitted)
+    by_answer (print.Input page line why) prints is fits =
+        absurd (not_three p k job.stream ran.pages (print.Input page line why) a b valid prints refl)
+    by_answer print.Read prints is fits = absurd (prints.calm prints.printed.0.0)
+    by_answer (print.Write page) prints is fits = absurd (five is)
+    by_answer print.Memory prints is fits = absurd (seven is)
+    by_answer (print.Usage fault) prints is fits = absurd prints.printed.0
+    by_answer (print.Profile line why) prints is fits = absurd prints.printed.0
+    by_answer (print.Job offset why) prints is fits = absurd prints.printed.0
+
+pub none_over : (p : Printer) (k : Table) (jobs : List SpoolJob) (done : List Ran) (a b : Between) → PrintsJobs p k jobs done a b
+    → All (λ (x : SpoolJob). IsValidStream p x.stream) jobs → All (λ (ran : Ran). (ran.status ≢ 5) × (ran.status ≢ 7)) done
+    → All (HasRoomFor (of_jobs (stream_dots p k) jobs)) a.accounts → All (λ (ran : Ran). ran.status ≢ 6) done
+none_over p k [] [] a b are valid plain room = All-nil (λ (ran : Ran). ran.status ≢ 6)
+none_over p k [] (ran ∷ done) a b are valid plain room = absurd are
+none_over p k (job ∷ jobs) [] a b are valid plain room = absurd are
+none_over p k (job ∷ jobs) (ran ∷ done) a b are valid plain room =
+    let P : SpoolJob → Type 0 = λ x. IsValidStream p x.stream in
+    let Q : Ran → Type 0 = λ r. (r.status ≢ 5) × (r.status ≢ 7) in
+    let fine = All-head Q ran done plain in
+    let one = job_fits p k job ran a are.0 (of_jobs (stream_dots p k) jobs) are.1 (All-head P job jobs valid) fine.0 fine.1 room in
+    All-cons (λ (r : Ran). r.status ≢ 6) ran done (λ six. omega (arith, one.0))
+    (none_over p k jobs done are.0 b are.2 (All-tail P job jobs valid) (All-tail Q ran done plain) one.1)
