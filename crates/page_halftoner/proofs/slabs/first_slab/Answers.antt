@@ -8,7 +8,7 @@ pub returns-clause-slab : goal.returns-clause-slab
 returns-clause-slab c =
     let slab = c.in_ok-slab.ensures in
     let rows = c.min-rows.ensures in
-    let tall : c.window-window.result.height ≡ c.args.separator.window.height = ap (λ (w : Window). w.height) c.window-window.ensures in
+    let tall : c.window.result.height ≡ c.args.separator.window.height = ap (λ (w : Window). w.height) c.window.ensures in
     record {
       width_is = ap (λ (s : Separator). s.window.width) slab.separator;
       some = omega (arith, slab.rows, rows, tall, c.requires.some_rows);
