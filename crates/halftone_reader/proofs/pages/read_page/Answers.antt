@@ -4,6 +4,7 @@ use Rattle.diffusion_kernel.specs.Tables.{table_of}
 use Rattle.dot_planes.specs.Tables.{DotTable}
 use Rattle.page_halftoner.proofs.Lines.{at_top}
 use Rattle.page_halftoner.specs.Halftones.{Diffusing, Filling, IsFull, joined}
+use Rattle.pwg_definitions.specs.declared.pages.PageForm.{PageForm}
 use Rattle.separation_definitions.specs.Windows.{wanted_by}
 use Rattle.halftone_reader.specs.Reading.{ReadsHalftone}
 use Rattle.halftone_reader.specs.SoFar.{Begun, HalftonedSoFar}
@@ -239,3 +240,15 @@ returns-clause-page g c =
     (g.S.Source.left c.slabs.s) b.form planes in
     subst P (sym c.finish-planes.ensures) (so_far_end b c.slabs.reader (g.S.Source.left c.slabs.s) c.slabs.filler c.slabs.diffuser
     v.page c.is_full.ensures.rows whole all v.room)
+
+pub returns-clause-between : goal.returns-clause-between
+returns-clause-between g c =
+    let v = c.slabs.invariant in
+    let whole : IsFull c.slabs.filler → ⊥ = λ full.
+    let never : true ≡ false = sym (c.is_full.ensures.full.1 full) ∙ c.slabs-test.false in cc in
+    let all : c.slabs.filler.count ≡ c.slabs.filler.form.height = elim v.done [
+      | inl full ↦ absurd (whole full)
+      | inr is ↦ is
+    ] in
+    let height : c.slabs.filler.form.height ≡ c.in-Some.form.height = ap (λ (f : PageForm). f.height) v.page.form_is in
+    record { whole = omega (arith, v.page.count, all, height); going = v.page.page.going }
