@@ -219,11 +219,11 @@ module _ (words : List (List ℕ)) (o : SpoolOutside) (done : List Ran) (valid :
       by_printing h.p _ h.sent a (cc) refl h.files h.printed)) by_request
 
 -- where the meters have room for all streams, no job goes past a cap
-roomy_jobs : {done : List Ran} {o : SpoolOutside} (q p : Printer) (l k : Table) (streams : List Stream) (sent : List (List Stream))
+roomy_jobs : {done : List Ran} (o : SpoolOutside) (q p : Printer) (l k : Table) (streams : List Stream) (sent : List (List Stream))
     → p ≡ q → k ≡ l → joined sent ≡ streams → (every : PrintsEvery p k sent done (at_call o.out o.meters) (at_return o.out o.meters))
     → All (λ (x : SpoolJob). IsValidStream p x.stream) every.jobs → All (λ (ran : Ran). (ran.status ≢ 5) × (ran.status ≢ 7)) done
     → All (HasRoomFor (dots_of_streams q l streams)) o.meters.before → All (λ (ran : Ran). ran.status ≢ 6) done
-roomy_jobs {done} {o} q p l k streams sent same kernel order every jobs plain room =
+roomy_jobs {done} o q p l k streams sent same kernel order every jobs plain room =
     let dots : dots_of_streams q l streams ≡ of_jobs (stream_dots p k) every.jobs =
     ap (λ ss. dots_of_streams q l ss) (sym order) ∙ ap (λ t. dots_of_streams q t (joined sent)) (sym kernel)
     ∙ ap (λ r. dots_of_streams r k (joined sent)) (sym same) ∙ streams_as_told p k (joined sent)
@@ -245,5 +245,5 @@ promised {words} {o} {err} {status} {done} a outcome is told =
           subst P (sym is) (valid_run words o done valid shelf.0 shelf.1 calm calm_out (λ p k sent same kernel order every jobs plain. fine) a outcome);
       roomy = λ valid shelf calm calm_out room.
           subst P (sym is) (valid_run words o done valid shelf.0 shelf.1 calm calm_out (λ p k sent same kernel order every jobs plain.
-          roomy_jobs valid.p p (table_of valid.request.kernel) k (joined valid.sent) sent same kernel order every jobs plain room) a outcome);
+          roomy_jobs o valid.p p (table_of valid.request.kernel) k (joined valid.sent) sent same kernel order every jobs plain room) a outcome);
     }
