@@ -11,21 +11,10 @@ use driver_core::{Answer, OpenGate, UsageCause, UsageFault, run, tell};
 use help::TEXTS;
 use ink_meter::{DotMeter, Meter, can_settle, settle};
 use program_words::{NoWords, Words, read_words, text_of};
-use std::alloc::Global;
 use std::io::Write;
 use std::process::ExitCode;
 use std::thread::Threads;
 use weave_base::{DirShelf, StdSink, StdSource, put_all};
-
-// How much memory is taken and given back at the start. The C library then keeps up to twice as much of what a run gives
-// back, where it would else hand the memory of each slab's tiles to the system and ask for it again.
-const KEPT_MEMORY: usize = 8 << 20;
-
-// Has the C library keep memory for further use. A run does the same without it, more slowly.
-fn keep_memory(alloc: Global) {
-    let room: Result<Vec<u8>, _> = Vec::with_capacity(alloc, KEPT_MEMORY);
-    drop(room);
-}
 
 // Writes a text instead of a run.
 fn show<W: Write>(text: &str, out: &mut StdSink<W>) -> Answer {
@@ -72,7 +61,6 @@ fn run_words<R: Threads + Sync>(rt: &HostRuntime, threads: &R, words: &Words) ->
 }
 
 fn main(rt: HostRuntime) -> ExitCode {
-    keep_memory(rt.alloc());
     match read_words(&rt) {
         Ok(words) => ExitCode::from(run_words(&rt, &rt, &words)),
         // memory runs out before anything is written
