@@ -37,6 +37,7 @@ returns c =
       none_taken = c.in_ok-spool.ensures.taken;
       count_is = counted;
       few = omega (arith, c.count_streams-count.ensures.most);
+      queue_room = omega (arith, c.in_ok-spool.ensures.room);
       none_ended = c.in-Ok-with_capacity.ensures.items;
       ended_room = omega (arith, c.in-Ok-with_capacity.ensures.capacity, c.len-senders.ensures, c.len-2.ensures);
       none_done = c.in-Ok-with_capacity-2.ensures.items;
