@@ -1,5 +1,5 @@
 //! Pages for which each kernel sets other dots.
-use crate::fixture::{hash_of, hashes_to, one_page, plays_to, run_bytes};
+use crate::fixture::{hashes_to, one_page, plays_to, run_bytes};
 use std::alloc::{AllocError, Global};
 use std::process::Abort;
 use std::test::Fail;
@@ -138,6 +138,5 @@ fn worker_counts_give_equal_bytes(rt: HostRuntime) -> Result<(), Fail> {
         ),
     ];
     let page = drawn_page(rt.alloc(), 7, 200, 70)?;
-    assert_eq!(rt; (page.len(), hash_of(&page)), (4343, 0x77FB_E70E_4D6D_6154));
     try_kernels(&rt, rt.alloc(), &page, &CASES)
 }
