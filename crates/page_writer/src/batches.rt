@@ -1,10 +1,9 @@
 //! Batches of pieces: one is coded by the workers while the caller sends the one before.
-ghost use denote.Param.Send.{IsSync};
 ghost use Rattle.page_writer.specs.Heads.{HeadPage, IsPage};
 ghost use Rattle.page_writer.specs.Pieces.{AllRoomy, AreCoded, Each, HaveRoom, IsAssigned, IsFilled, IsRoomy, Sends};
 ghost use Rattle.page_writer.specs.Pieces.{bound_of, sent_bytes};
 ghost use Rattle.std.specs.Prelude.{IfOk, OnErr, OnOk, length, vec_capacity};
-ghost use Rattle.std.specs.Prelude.{◌+◌, ◌-◌, ◌<◌, ◌^◌, ◌≡◌, ◌≤◌};
+ghost use Rattle.std.specs.Prelude.{◌+◌, ◌-◌, ◌≡◌, ◌≤◌};
 ghost use Rattle.weave_base.specs.Causes.{HasCause};
 ghost use Rattle.weave_base.specs.Parts.{AppendsPart};
 

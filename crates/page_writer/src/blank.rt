@@ -2,8 +2,11 @@
 ghost use Rattle.std.specs.List.{list_all};
 ghost use Rattle.std.specs.Prelude.{replicate, ◌==◌, ◌≡◌, ◌≤◌};
 
+/// The bytes of the widest row, which has 8191 columns.
+pub(crate) const WIDEST_ROW: usize = 1024;
+
 /// The widest row, without dots.
-static BLANK: [u8; 1024] = [0; 1024];
+static BLANK: [u8; WIDEST_ROW] = [0; WIDEST_ROW];
 
 /// The first `len` bytes of a row without dots.
 #[inline]

@@ -3,6 +3,7 @@ ghost use Rattle.page_writer.specs.Heads.{IsPage};
 ghost use Rattle.page_writer.specs.Pieces.{AllRoomy, AreCoded, HasRoom, IsCoded};
 ghost use Rattle.std.specs.Prelude.{length, vec_capacity, vec_len, ◌+◌, ◌<◌, ◌≡◌, ◌≤◌};
 
+use crate::blank::WIDEST_ROW;
 use crate::coded::Coded;
 use crate::page_strokes::Strokes;
 
@@ -44,7 +45,7 @@ pub(crate) fn code_strokes<S: Strokes>(page: &S, first: u32, end: u32, strokes: 
     ensures coded { AreCoded (S.page page.now) first end strokes.new }
     ensures room { AllRoomy (S.page page.now) strokes.new }
 {
-    let mut row = [0u8; 1024];
+    let mut row = [0u8; WIDEST_ROW];
     'strokes: for stroke in first..end {
         code_stroke(
             page,

@@ -17,12 +17,13 @@
 //! the planes have; and they give one sheet with exactly the halftone's dots (`prints`), with at most one raster of an
 //! ink for each pass (`passes`).
 //!
-//! `write_shingled` writes the shingled passes of `shingle_plan::ShinglePlan` for a head that can shingle, with the same
-//! clauses over their bytes; and no row of their rasters has dots both at even and at odd columns (`columns`).
+//! `write_shingled` writes the shingled passes of `shingle_plan::ShinglePlan` for a head that can shingle, with the
+//! same clauses over their bytes; and no row of their rasters has dots both at even and at odd columns (`columns`).
 //!
-//! `write_healed` writes the strokes of `dead_nozzles::StrokePlan` for a head with dead nozzles, with the same clauses over
-//! their bytes; and no row of their rasters has a dot where its nozzle is dead (`spared`). There is at most one raster of
-//! an ink for each pass and for each row that is made up. Its plan's memory is taken before the first byte too.
+//! `write_healed` writes the strokes of `dead_nozzles::StrokePlan` for a head with dead nozzles, with the same clauses
+//! over their bytes; and no row of their rasters has a dot where its nozzle is dead (`spared`). There is at most one
+//! raster of an ink for each pass and for each row that is made up. Its plan's memory is taken before the first byte
+//! too.
 //!
 //! `short` bounds the bytes: at most 49 + passes * (7 + inks * (12 + 2 * nozzles * bytes of a row)). That a stroke is
 //! one call of `put_all`, and so are the commands before the strokes and those after them, is left to tests.

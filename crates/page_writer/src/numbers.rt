@@ -10,6 +10,12 @@ ghost use Rattle.std.specs.Prelude.{◌*◌, ◌+◌, ◌-◌, ◌≡◌, ◌≤
 use escp2_writer::RasterHead;
 use printer_profile::{PageForm, Profile};
 
+/// How many units of a sheet an inch has, each of 5/3600 inch.
+const SHEET_UNITS: u16 = 720;
+
+/// How many units of a raster's header an inch has.
+const HEADER_UNITS: u16 = 3600;
+
 /// Places on a sheet, from its top, in units of 5/3600 inch.
 #[derive(Clone, Copy)]
 pub struct Sheet {
@@ -27,7 +33,7 @@ pub fn row_units(p: &Profile) -> u16
     ensures is { result ≡ row_units_of p.now }
     ensures most { result ≤ 2 }
 {
-    720 / p.vdpi
+    SHEET_UNITS / p.vdpi
 }
 
 /// The header of rasters of this many columns, with coded rows.
@@ -37,8 +43,8 @@ pub fn raster_header(p: &Profile, width: u16) -> RasterHead
 {
     RasterHead {
         c: 1,
-        v: (u32::from(p.pitch) * 3600 / u32::from(p.vdpi)) as u8,
-        h: (3600 / p.hdpi) as u8,
+        v: (u32::from(p.pitch) * u32::from(HEADER_UNITS) / u32::from(p.vdpi)) as u8,
+        h: (HEADER_UNITS / p.hdpi) as u8,
         m: p.nozzles,
         n: width,
     }

@@ -14,7 +14,7 @@ ghost use Rattle.printer_profile.specs.Validity.{check};
 ghost use Rattle.pwg_definitions.specs.Header.{IsWanted};
 ghost use Rattle.separation_definitions.specs.Windows.{wanted_by, window_of};
 ghost use Rattle.std.specs.Io.KnownBytes.{Appends, Keeps};
-ghost use Rattle.std.specs.Prelude.{IfOk, IsErrOf, IsOk, OnOk, length, ◌*◌, ◌+◌, ◌≡◌, ◌≤◌};
+ghost use Rattle.std.specs.Prelude.{IfOk, IsErrOf, IsOk, OnOk, length, ◌*◌, ◌≡◌, ◌≤◌};
 ghost use Rattle.weave_base.specs.Causes.{Rose};
 ghost use Rattle.weave_base.specs.Parts.{AppendsPart};
 ghost use Rattle.weave_definitions.specs.Weave.{pass_count};

@@ -7,6 +7,12 @@ ghost use Rattle.std.specs.Prelude.{[], vec_capacity, vec_len, ◌++◌, ◌+◌
 use crate::numbers::Sheet;
 use escp2_writer::{Command, append_header};
 
+/// The bytes of the commands before the passes.
+pub(crate) const PROLOGUE: u64 = 46;
+
+/// The bytes of the commands after the passes.
+pub(crate) const END: u64 = 3;
+
 /// Appends the commands before the passes, 46 bytes.
 pub fn append_prologue(sheet: Sheet, out: &mut Vec<u8>)
     requires { vec_len out.old + 46 ≤ vec_capacity out.old }

@@ -1,7 +1,7 @@
 //! Room for the code of two batches of pieces, which is taken before the first byte.
 ghost use Rattle.page_writer.specs.Pieces.{Each, HaveRoom, IsCut, IsRoomy};
 ghost use Rattle.page_writer.specs.Sums.{most_of_pass};
-ghost use Rattle.std.specs.Prelude.{IfOk, IfSome, length, vec_capacity, ◌*◌, ◌/◌, ◌<◌, ◌≡◌, ◌≤◌};
+ghost use Rattle.std.specs.Prelude.{IfOk, IfSome, length, vec_capacity, ◌≡◌, ◌≤◌};
 
 use crate::coded::{Coded, Piece};
 use crate::coder::Coder;

@@ -1,9 +1,7 @@
 //! Coded strokes are sent, each in one write.
-ghost use Rattle.page_definitions.specs.PageBytes.{page_coding};
 ghost use Rattle.page_writer.specs.Heads.{IsPage};
 ghost use Rattle.page_writer.specs.Pieces.{AllRoomy, AreCoded, HasRoom, IsCoded, Sends, sent_both, sent_bytes};
-ghost use Rattle.page_writer.specs.Sums.{most_of_pass};
-ghost use Rattle.std.specs.Prelude.{IfOk, OnErr, drop, length, vec_capacity, vec_len, ◌++◌};
+ghost use Rattle.std.specs.Prelude.{IfOk, OnErr, drop, length, vec_capacity, ◌++◌};
 ghost use Rattle.std.specs.Prelude.{◌+◌, ◌-◌, ◌<◌, ◌^◌, ◌≡◌, ◌≤◌};
 ghost use Rattle.weave_base.specs.Causes.{HasCause};
 ghost use Rattle.weave_base.specs.Parts.{AppendsPart};

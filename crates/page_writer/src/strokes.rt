@@ -16,13 +16,14 @@ ghost use Rattle.weave_base.specs.Causes.{HasCause, Rose};
 ghost use Rattle.weave_base.specs.Parts.{AppendsPart};
 
 use crate::batches::put_batches;
+use crate::blank::WIDEST_ROW;
 use crate::head::Head;
 use crate::numbers::sheet_of;
 use crate::page_strokes::{PageStrokes, Strokes};
-use crate::prologue::{append_end, append_prologue};
+use crate::prologue::{PROLOGUE, append_end, append_prologue};
 use crate::room::{Batches, cut};
 use crate::stroke::put_stroke;
-use crate::sums::{PageSum, most_of_pass};
+use crate::sums::{FRAME, PageSum, most_of_pass};
 use base_definitions::Memory;
 use dot_planes::Planes;
 use printer_profile::{PageForm, Profile};
@@ -121,7 +122,7 @@ fn put_by_all<R: Threads + Sync, H: Head + Sync, K: Sink>(
     ensures capacity { vec_capacity out.old ≤ vec_capacity out.new }
 {
     let Some(batches) = batches else {
-        let mut row = [0u8; 1024];
+        let mut row = [0u8; WIDEST_ROW];
         let len = (page.planes.width() as usize + 7) / 8;
         return put_strokes(page.p, page.planes, page.head, &mut row[..len], out, k);
     };
@@ -169,7 +170,7 @@ fn put_page<R: Threads + Sync, H: Head + Sync, K: Sink>(
     append_end(out);
     put_all(k, out)?;
     Ok(PageSum {
-        bytes: 49 + strokes.bytes,
+        bytes: FRAME + strokes.bytes,
         rasters: strokes.rasters,
     })
 }
@@ -200,10 +201,10 @@ fn batches_of<'a, H: Head>(
 /// rasters: graphics mode and the sheet, then the strokes that have a dot, and the end of the sheet (ESC/P Reference
 /// Manual, graphics commands). Rows of rasters are coded.
 ///
-/// The team's workers code the strokes; the caller alone writes. It takes its memory before the first byte: the room for
-/// one stroke, and for several workers that of two batches of strokes, which is 8 MB at most. Without memory for the
-/// batches the caller codes alone. A stroke is one call of `put_all`; so are the commands before the strokes and those
-/// after them. On `Write` the sink took a proper prefix of the bytes.
+/// The team's workers code the strokes; the caller alone writes. It takes its memory before the first byte: the room
+/// for one stroke, and for several workers that of two batches of strokes, which is 8 MB at most. Without memory for
+/// the batches the caller codes alone. A stroke is one call of `put_all`; so are the commands before the strokes and
+/// those after them. On `Write` the sink took a proper prefix of the bytes.
 pub fn write_strokes<R: Threads + Sync, G, H: Head + Sync, K: Sink>(
     team: &Team<'_, R, G>,
     alloc: Global,
@@ -229,7 +230,7 @@ pub fn write_strokes<R: Threads + Sync, G, H: Head + Sync, K: Sink>(
     ensures memory { IsErrOf result stop.Memory → Keeps (K.held k.old) (K.held k.new) }
     ensures later { K.faults k.old ≤ K.faults k.new }
 {
-    let most = most_of_pass(p, planes.width()).max(46);
+    let most = most_of_pass(p, planes.width()).max(PROLOGUE);
     let Ok(mut out) = Vec::with_capacity(alloc, most as usize) else {
         return Err(WriteStop::Memory);
     };

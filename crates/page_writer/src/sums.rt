@@ -1,12 +1,19 @@
 //! The size of a page's job.
 ghost use Rattle.page_writer.specs.Sums.{most_of_page, most_of_pass as most_of_pass_of};
-ghost use Rattle.printer_definitions.specs.Inks.{inks_of};
 ghost use Rattle.base_definitions.specs.Limits.{most_columns, most_rows};
 ghost use Rattle.separation_definitions.specs.CanPrint.{CanPrint};
-ghost use Rattle.std.specs.Prelude.{length, ◌*◌, ◌+◌, ◌/◌, ◌≡◌, ◌≤◌};
+ghost use Rattle.std.specs.Prelude.{◌*◌, ◌+◌, ◌/◌, ◌≡◌, ◌≤◌};
 
+use crate::coding::STEP;
+use crate::prologue::{END, PROLOGUE};
 use printer_profile::{Profile, Window};
 use weave_plan::Plan;
+
+/// The bytes of a page's job before and after its strokes.
+pub(crate) const FRAME: u64 = PROLOGUE + END;
+
+/// The bytes of an ink in a stroke before its rows: its colour, the return to the left margin, and a raster's head.
+const INK_HEAD: u64 = 12;
 
 /// The size of what was written of a page.
 #[derive(Clone, Copy, Debug, PartialEq, Eq)]
@@ -24,7 +31,7 @@ fn most_of_ink(nozzles: u8, width: u32) -> u64
     ensures is { result ≡ 12 + 2 * nozzles * ((width + 7) / 8) }
     ensures most { result ≤ 522252 }
 {
-    12 + 2 * u64::from(nozzles) * ((u64::from(width) + 7) / 8)
+    INK_HEAD + 2 * u64::from(nozzles) * ((u64::from(width) + 7) / 8)
 }
 
 /// The most bytes of a pass over this many columns: a step down, and each of its inks.
@@ -33,7 +40,7 @@ pub(crate) fn most_of_pass(p: &Profile, width: u32) -> u64
     ensures is { result ≡ most_of_pass_of p.now width }
     ensures most { result ≤ 2089015 }
 {
-    7 + u64::from(p.inks.count()) * most_of_ink(p.nozzles, width)
+    STEP as u64 + u64::from(p.inks.count()) * most_of_ink(p.nozzles, width)
 }
 
 /// The most bytes that `write_page` writes of a page with this window: 49 and, for each pass of the head, 7 and, for
@@ -46,5 +53,5 @@ pub fn most_bytes(p: &Profile, w: Window) -> u64
     ensures { result ≡ most_of_page p.now w.width w.height }
 {
     let plan = Plan::make(p.nozzles, p.pitch, w.height);
-    49 + u64::from(plan.passes()) * most_of_pass(p, w.width)
+    FRAME + u64::from(plan.passes()) * most_of_pass(p, w.width)
 }
