@@ -71,7 +71,7 @@ impl Emulator {
     ghost use Rattle.escp2_definitions.specs.Machine.{Dot, Machine, has_dots};
     ghost use Rattle.escp2_definitions.specs.declared.command.Command.TheVariants as c;
     ghost use Rattle.printer_definitions.specs.Printer.{Printer};
-    ghost use Rattle.std.specs.Prelude.{IfOk, List, OnErr, OnOk, None, ℕ, ◌*◌};
+    ghost use Rattle.std.specs.Prelude.{IfOk, List, OnErr, OnOk, None, ℕ};
     ghost use Rattle.std.specs.Prelude.{◌+◌, ◌/◌, ◌≤◌, unwrap_or};
 
     /// A printer whose profile passes its checks, at the start of a job. `make` takes no memory; `run` does, for the

@@ -2,7 +2,7 @@
 ghost use Rattle.dot_emulator.specs.States.{early_fault, machine_of};
 ghost use Rattle.escp2_definitions.specs.Commands.{last_column};
 ghost use Rattle.separation_definitions.specs.CanPrint.{CanPrint};
-ghost use Rattle.std.specs.Prelude.{[], ◌%◌, ◌*◌, ◌/◌, ◌<◌, ◌≡◌, ◌≤◌};
+ghost use Rattle.std.specs.Prelude.{[], ◌*◌, ◌/◌, ◌≡◌, ◌≤◌};
 
 use crate::firing::Raster;
 use crate::state::State;

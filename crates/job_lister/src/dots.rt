@@ -4,7 +4,7 @@ ghost use Rattle.base_definitions.specs.Packed.{bits};
 ghost use Rattle.escp2_definitions.specs.declared.command.Command.TheVariants as command;
 ghost use Rattle.job_lister.specs.Listing.{dot_count};
 ghost use Rattle.std.specs.List.{sum_by};
-ghost use Rattle.std.specs.Prelude.{count_by, count_ones, length, take, true, ◌*◌, ◌/◌, ◌%◌, ◌≡◌, ◌≤◌};
+ghost use Rattle.std.specs.Prelude.{count_by, count_ones, length, take, true, ◌*◌, ◌≡◌, ◌≤◌};
 
 use escp2_definitions::RasterHead;
 

@@ -2,7 +2,6 @@
 ghost use Rattle.job_profile.specs.declared.stops.ProfileCause.TheVariants as cause;
 ghost use Rattle.job_profile.specs.declared.stops.ProfileStop.TheVariants as stop;
 ghost use Rattle.std.specs.Prelude.{◌≡◌};
-ghost use Rattle.weave_base.specs.declared.shelf.ShelfStop.TheVariants as shelf;
 
 use dead_nozzles::DeadFault;
 use printer_profile::{ProfileFault, TextCause, TextFault};
@@ -21,8 +20,8 @@ pub enum ProfileCause {
     Check(ProfileFault),
     /// A list of dead nozzles does not fit its head. `find_profile` does not answer it.
     Dead(DeadFault),
-    /// Its passes cannot be shingled, since half of its nozzles, rounded down, is 0 or has a common divisor with the pitch;
-    /// `gcd` is their greatest. `find_profile` does not answer it.
+    /// Its passes cannot be shingled, since half of its nozzles, rounded down, is 0 or has a common divisor with the
+    /// pitch; `gcd` is their greatest. `find_profile` does not answer it.
     NoShingle { half: u8, gcd: u8 },
 }
 
