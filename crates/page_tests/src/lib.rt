@@ -15,6 +15,8 @@ mod shingling;
 #[cfg(test)]
 mod weaving;
 #[cfg(test)]
+mod windows;
+#[cfg(test)]
 mod workers;
 #[cfg(test)]
 mod writing;

@@ -1,12 +1,8 @@
 //! Pages of shingled passes: one worked by hand, heads of many sizes by the lengths of their jobs, and sinks that fail.
-ghost use Rattle.pwg_definitions.specs.Header.{IsWanted};
-ghost use Rattle.separation_definitions.specs.Windows.{wanted_by};
-ghost use Rattle.std.specs.Prelude.{IfOk, IsTrue, ◌≡◌, ◌≤◌};
-
 use crate::checks::same;
-use base_definitions::Memory;
+use crate::windows::{Outcome, black_planes, is_taken};
 use known_jobs::TINY_SHINGLED_JOB;
-use page_writer::{PageForm, PageSum, Planes, WriteStop, write_shingled};
+use page_writer::{PageForm, PageSum, WriteStop, write_shingled};
 use printer_profile::{Profile, TINY1};
 use pwg_definitions::Kind;
 use shingle_plan::shingle_fits;
@@ -24,41 +20,6 @@ struct Work {
     pitch: u8,
     width: u32,
     rows: u32,
-}
-
-/// What writing a page answers, how many bytes the sink has then, and whether they begin the worked job.
-type Outcome = (Result<PageSum, WriteStop>, usize, bool);
-
-/// The planes of a black window of one ink.
-fn black_planes(alloc: Global, width: u32, rows: u32) -> Result<Planes, Memory>
-    requires some_columns { 1 ≤ width }
-    requires most_columns { width ≤ 8191 }
-    requires some_rows { 1 ≤ rows }
-    requires most_rows { rows ≤ 15840 }
-    ensures width { IfOk result (λ t. t.width ≡ width) }
-    ensures rows { IfOk result (λ t. t.rows ≡ rows) }
-    ensures inks { IfOk result (λ t. t.inks ≡ 1) }
-{
-    let mut planes = Planes::make(alloc, width, rows, 1)?;
-    'rows: for y in 0..rows {
-        'columns: for x in 0..width {
-            planes.turn_on(0, x, y);
-        }
-    }
-    Ok(planes)
-}
-
-/// Whether the printer takes a grey page.
-fn is_taken(p: &Profile, f: PageForm) -> bool
-    ensures { IsTrue result → IsWanted (wanted_by p.now) f }
-{
-    let wanted = p.wanted();
-    wanted.least_width <= f.width
-        && f.width <= wanted.most_width
-        && wanted.least_height <= f.height
-        && f.height <= wanted.most_height
-        && f.kind == Kind::Gray8
-        && f.bytes_per_line == f.width
 }
 
 /// Writes a black window to a sink whose write of this number fails.

@@ -1,8 +1,7 @@
 //! Pages that several workers code: the same bytes as by one, and the same writes where a sink fails.
-ghost use Rattle.pwg_definitions.specs.Header.{IsWanted};
-ghost use Rattle.separation_definitions.specs.Windows.{wanted_by};
-ghost use Rattle.std.specs.Prelude.{IfOk, IsTrue, ◌≡◌, ◌≤◌};
+ghost use Rattle.std.specs.Prelude.{IfOk, ◌≡◌, ◌≤◌};
 
+use crate::windows::is_taken;
 use base_definitions::Memory;
 use dead_nozzles::check_dead;
 use page_writer::{PageForm, PageSum, Planes, WriteStop, write_healed, write_page, write_shingled};
@@ -66,19 +65,6 @@ fn planes_of(alloc: Global, case: &Case, width: u32, rows: u32) -> Result<Planes
         }
     }
     Ok(planes)
-}
-
-/// Whether the printer takes a grey page.
-fn is_taken(p: &Profile, f: PageForm) -> bool
-    ensures { IsTrue result → IsWanted (wanted_by p.now) f }
-{
-    let wanted = p.wanted();
-    wanted.least_width <= f.width
-        && f.width <= wanted.most_width
-        && wanted.least_height <= f.height
-        && f.height <= wanted.most_height
-        && f.kind == Kind::Gray8
-        && f.bytes_per_line == f.width
 }
 
 /// Writes the page of a case by so many workers to a sink whose write of this number fails.
