@@ -1,6 +1,17 @@
-//! Comparisons of what a call gave with what was wanted.
+//! What pages are read for, and comparisons of what a call gave with what was wanted.
+use pwg_header::Wanted;
 use std::fmt::Debug;
 use std::process::Abort;
+
+/// What a printer without margins wants, at 360 dots an inch.
+pub const WANT: Wanted = Wanted {
+    hdpi: 360,
+    vdpi: 360,
+    least_width: 1,
+    most_width: 8191,
+    least_height: 1,
+    most_height: 7920,
+};
 
 /// Stops the test where a call did not give what was wanted.
 pub fn same<T: PartialEq + Debug>(rt: &impl Abort, at: &str, got: &T, want: &T) {

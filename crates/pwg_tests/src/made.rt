@@ -1,22 +1,13 @@
 //! Made streams, appended and read as a source. What is expected was computed by a program that is not of this
 //! repository.
-use crate::checks::{same, same_bytes};
+use crate::checks::{WANT, same, same_bytes};
 use page_maker::{PageMaker, made_form, make_pages};
-use pwg_header::{HEADER_LEN, Kind, Wanted, write_header};
+use pwg_header::{HEADER_LEN, Kind, write_header};
 use pwg_stream::PageReader;
 use std::alloc::Global;
 use std::process::Abort;
 use std::test::Fail;
 use weave_base::Source;
-
-const WANT: Wanted = Wanted {
-    hdpi: 360,
-    vdpi: 360,
-    least_width: 1,
-    most_width: 8191,
-    least_height: 1,
-    most_height: 7920,
-};
 
 // A made stream: what it is made from, its length in bytes, its checksum, and the checksum of its groups, each its
 // repeats and the bytes of its line.

@@ -1,21 +1,12 @@
 //! Streams read whole and in pieces, and where they stop.
-use crate::checks::{same, same_bytes};
+use crate::checks::{WANT, same, same_bytes};
 use pwg_definitions::{HeaderFault, InputCause, LineFault};
-use pwg_header::{HEADER_LEN, Kind, PageForm, Wanted, write_header};
+use pwg_header::{HEADER_LEN, Kind, PageForm, write_header};
 use pwg_stream::{PageReader, StreamStop};
 use std::alloc::Global;
 use std::process::Abort;
 use std::test::Fail;
 use weave_base::MemSource;
-
-const WANT: Wanted = Wanted {
-    hdpi: 360,
-    vdpi: 360,
-    least_width: 1,
-    most_width: 8191,
-    least_height: 1,
-    most_height: 7920,
-};
 
 // A page's kind, width, height, and the bytes of a line.
 macro_rules! form {
