@@ -1,7 +1,6 @@
 //! Random texts of both versions, against a plain reader of drawn lines.
 use printer_profile::{TextCause, TextFault, read};
 use std::alloc::{AllocError, Global};
-use std::process::Abort;
 use std::test::Fail;
 
 /// What a key takes.

@@ -1,6 +1,6 @@
 //! Meters alone and together, with a kind of meter that the driver does not know.
-ghost use Rattle.ink_meter.specs.Accounts.{Account, HasRoom, added, all_inks, capped};
-ghost use Rattle.std.specs.Prelude.{IsTrue, ◌+◌, ◌<◌, ◌^◌, ◌↔◌, ◌≡◌};
+ghost use Rattle.ink_meter.specs.Accounts.{Account};
+ghost use Rattle.std.specs.Prelude.{◌+◌, ◌<◌, ◌^◌, ◌≡◌};
 
 use crate::checks::same;
 use ink_meter::{DotMeter, InkCounts, Meter, OverCap, add_all, admit, can_settle, cap_all, settle};

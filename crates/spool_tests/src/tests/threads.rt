@@ -1,5 +1,4 @@
 //! The queue between threads.
-ghost use Rattle.base_definitions.specs.Counting.{count_from};
 ghost use Rattle.spool_queue.specs.Passes.{AreAllPasses, sent_of, senders_of, taken_of};
 ghost use Rattle.spool_tests.specs.Team.{CanSend};
 ghost use Rattle.std.specs.Arc.{arc_value};
