@@ -34,6 +34,7 @@ pub record IsPrepared (words : List (List ℕ)) (told : Option (List NamedText))
   pub request : SpoolRequest
   pub means : spool_meaning words ≡ Ok request
   pub kernel_is : prepared.job.kernel ≡ request.kernel
+  pub workers_is : prepared.job.workers ≡ request.workers
   pub profile_is : IsJobProfile told (profile_named words) (Ok prepared.profile)
   pub files : AreFiles told (names_of words) (sent_in prepared)
   pub can : CanPrint prepared.job prepared.profile

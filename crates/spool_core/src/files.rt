@@ -3,7 +3,7 @@ ghost use Rattle.driver_core.specs.Outside.{texts_of};
 ghost use Rattle.spool_core.specs.Files.{AreFiles, FilesOutcome, HasStreams, IsFile, StopsAtFile};
 ghost use Rattle.spool_core.specs.Files.{StopsAtName, bytes_in, most_files, most_next as most_next_of};
 ghost use Rattle.spool_words.specs.Meaning.{names_from, names_of, spool_meaning};
-ghost use Rattle.std.specs.Prelude.{IfErr, IfOk, Ok, length, map, ◌+◌, ◌≡◌, ◌≤◌};
+ghost use Rattle.std.specs.Prelude.{IfErr, IfOk, Ok, map, ◌+◌, ◌≡◌, ◌≤◌};
 
 use crate::answer::SpoolAnswer;
 use spool_queue::StreamBytes;

@@ -3,8 +3,8 @@
 //! `run_spool` promises `SpoolPromises`. There is an answer whose cause holds for what was read, written and counted
 //! (`outcome`); its status is returned; the error sink got a line for each job that ran and then that of the answer, or
 //! a proper prefix of these lines after a failed write (`told`); and a valid run, on a shelf that reports its files,
-//! ends with 0 or 7 where nothing outside fails and no page goes past a cap (`valid`), as none does where each meter has
-//! room for all pages of all files (`roomy`). The shelf is unchanged where a word is refused (`refused_unasked`).
+//! ends with 0 or 7 where nothing outside fails and no page goes past a cap (`valid`), as none does where each meter
+//! has room for all pages of all files (`roomy`). The shelf is unchanged where a word is refused (`refused_unasked`).
 //!
 //! On 1 to 4, and on 7 where no job ran, nothing was written and no meter counted (`PrintsNone`). Each job that ran has
 //! the outcome that `driver_core::print_one` promises, from where the job before it left the output and the meters

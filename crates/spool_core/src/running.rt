@@ -6,9 +6,8 @@ ghost use Rattle.spool_core.specs.Outcome.{PrintingOutcome, SpoolOutcome};
 ghost use Rattle.spool_core.specs.Prepared.{AreFew, CanPrint, sent_in};
 ghost use Rattle.spool_core.specs.Senders.{lists_in};
 ghost use Rattle.spool_core.specs.Promises.{SpoolPromises};
-ghost use Rattle.spool_queue.specs.Jobs.{Stream};
 ghost use Rattle.spool_words.specs.Meaning.{spool_meaning};
-ghost use Rattle.std.specs.Prelude.{IsErr, List, ◌≡◌};
+ghost use Rattle.std.specs.Prelude.{IsErr, ◌≡◌};
 
 use crate::answer::SpoolAnswer;
 use crate::desks::Desk;

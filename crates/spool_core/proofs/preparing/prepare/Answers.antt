@@ -45,6 +45,7 @@ returns-clause-prepared g c =
       request = c.in_ok-request.request;
       means = sym c.in_ok-request.ensures;
       kernel_is = c.job_of.ensures.kernel;
+      workers_is = workers;
       profile_is = subst (λ (name : List ℕ). IsJobProfile told name (Ok c.in_ok-profile.profile)) c.profile_name.ensures c.in_ok-profile.ensures.found;
       files = files;
       can = record {
