@@ -1,5 +1,5 @@
 -- What writing a page comes to, by its way.
-use Rattle.std.proofs.Common.{◌≡◌, ℕ, ◌+◌, ◌-◌, ◌*◌, ◌/◌, ◌==◌, ◌<◌, ◌≤◌, ◌^◌, Bool, true, false, if◌then◌else◌, List, [], ◌∷◌, length, Result, Ok, Err, IfOk}
+use Rattle.std.proofs.Common.{◌≡◌, ℕ, ◌+◌, ◌-◌, ◌*◌, ◌==◌, ◌<◌, ◌≤◌, ◌^◌, Bool, true, false, if◌then◌else◌, List, [], ◌∷◌, length, Result, Ok, Err, IfOk}
 use Rattle.std.proofs.Common.{OnErr, IfErr, refl, sym, ◌∙◌, ap, arith, subst}
 use Rattle.std.specs.Int.{IsGcd}
 use Rattle.std.proofs.lemmas.Bool.{eqb-true}
@@ -15,7 +15,7 @@ use Rattle.page_definitions.specs.Healed.{healed, healed_bytes, healed_passes, w
 use Rattle.page_definitions.specs.PageBytes.{halftone_bytes, page_coding, weave}
 use Rattle.page_definitions.specs.Shingled.{shingled, shingled_bytes}
 use Rattle.page_definitions.specs.Strokes.{Fires, Spoken, Strokes, page_commands, strokes_bytes}
-use Rattle.page_definitions.specs.Ways.{CanGo, Way, halftone_bytes_by}
+use Rattle.page_definitions.specs.Ways.{Way, halftone_bytes_by}
 use Rattle.page_definitions.specs.Ways.Way.{Healed, Shingled, Woven}
 use Rattle.page_laws.proofs.Headline.{page-coded}
 use Rattle.page_laws.proofs.Healing.{healed-fires}

@@ -1,5 +1,5 @@
 -- The outcome of a run where there is a profile.
-use Rattle.std.proofs.Common.{◌≡◌, ℕ, List, Result, Ok, inl, inr, refl, sym, ap, ◌∙◌, subst}
+use Rattle.std.proofs.Common.{◌≡◌, ℕ, List, Result, Ok, inl, inr, sym, ap, ◌∙◌, subst}
 use Rattle.std.specs.Io.KnownBytes.{Keeps}
 use Rattle.diffusion_kernel.specs.Tables.{table_of}
 use Rattle.driver_answer.specs.declared.answer.Answer.{Answer}
@@ -16,11 +16,7 @@ use Rattle.driver_core.specs.Listing.Outcome.{ListOutcome}
 use Rattle.driver_core.specs.Outside.{Outsides}
 use Rattle.driver_core.specs.Playing.Outcome.{PlayOutcome}
 use Rattle.driver_core.specs.Printing.Outcome.{PrintOutcome}
-use Rattle.driver_answer.specs.declared.answer.Answer.TheVariants as answer
-use Rattle.job_profile.specs.Named.{IsJobProfile}
-use Rattle.job_profile.specs.declared.stops.ProfileCause.{ProfileCause}
-use Rattle.job_profile.specs.declared.stops.ProfileStop.TheVariants as stop
-use Rattle.driver_core.specs.Runs.Fitting.{IsProfileOf, RefusesWay, way_of}
+use Rattle.driver_core.specs.Runs.Fitting.{IsProfileOf, way_of}
 use Rattle.driver_core.specs.Runs.Outcome.{LacksProfile, LineOutcome, Outcome, VerbOutcome, metered}
 use Rattle.driver_core.specs.Showing.Outcome.{ShowOutcome}
 use Rattle.driver_core.specs.Trying.Outcome.{TrialOutcome}

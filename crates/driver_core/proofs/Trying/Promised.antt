@@ -1,5 +1,5 @@
 -- The promises of a run for the command `trial`.
-use Rattle.std.proofs.Common.{◌≡◌, ℕ, ◌⊎◌, List, [], None, Result, Ok, inl, inr, sym, ◌∙◌, ap, subst, arith}
+use Rattle.std.proofs.Common.{◌≡◌, ℕ, ◌⊎◌, List, None, Result, Ok, inl, inr, sym, ◌∙◌, ap, subst, arith}
 use Rattle.std.specs.Io.KnownBytes.{Appends, Keeps}
 use Rattle.driver_answer.specs.Answers.{status_of}
 use Rattle.driver_answer.specs.declared.answer.Answer.TheVariants as answer
@@ -23,7 +23,6 @@ use Rattle.driver_core.specs.Trying.Outcome.{RefusesMade, TakesMade, TrialOutcom
 use Rattle.driver_core.specs.Trying.Promises.{TrialPromises}
 use Rattle.driver_core.proofs.Runs.Asked.{HasProfile, has_profile, told_line}
 use Rattle.driver_core.proofs.Runs.Asked.HasProfile.{HasNone, Does}
-use Rattle.driver_core.proofs.Runs.Asked.NoShelf.{ShelfFailed, ShelfFull}
 use Rattle.driver_core.proofs.Runs.AtWork.{at_work, calm_work, of_shelf, trial_is_none}
 use Rattle.driver_core.proofs.Runs.Statuses.{is_done, is_input, is_memory, is_read, is_write}
 

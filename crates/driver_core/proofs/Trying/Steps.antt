@@ -1,12 +1,12 @@
 -- A made stream whose pages are printed and executed one after another.
-use Rattle.std.proofs.Common.{◌≡◌, ℕ, suc, ◌+◌, ◌-◌, ◌*◌, ◌<◌, ◌≤◌, ◌^◌, false, List, [], ◌∷◌, ◌++◌, length, Option, None, Some, refl, sym, ◌∙◌, ap}
-use Rattle.std.proofs.Common.{Err, IsErrOf, subst, arith, append-nil, length-append}
+use Rattle.std.proofs.Common.{◌≡◌, ℕ, ◌+◌, ◌-◌, ◌*◌, ◌<◌, ◌≤◌, ◌^◌, false, List, [], ◌∷◌, ◌++◌, length, Option, None, Some, refl, sym, ◌∙◌, ap}
+use Rattle.std.proofs.Common.{Err, IsErrOf, subst, arith, length-append}
 use Rattle.std.specs.Io.KnownBytes.{Consumes, IsAtEnd}
 use Rattle.diffusion_definitions.specs.Diffusion.{Table}
 use Rattle.ink_meter.specs.Accounts.{together}
 use Rattle.ink_meter.specs.Counts.{ink_dots, page_dots}
 use Rattle.ink_meter.proofs.Pages.{page_dots-is}
-use Rattle.job_player.specs.Counting.{CountsPage, IsBetweenPages, counts_of, sheets_of}
+use Rattle.job_player.specs.Counting.{IsBetweenPages, counts_of, sheets_of}
 use Rattle.job_player.specs.declared.counting.JobCounter.{JobCounter}
 use Rattle.page_definitions.specs.Dots.{dots_wanted, halftone}
 use Rattle.page_definitions.specs.Ways.{Way, page_bytes_by}

@@ -1,4 +1,4 @@
-use Rattle.std.proofs.Common.{◌≡◌, ◌≤◌, OnOk, IfErr, sym, subst, arith}
+use Rattle.std.proofs.Common.{◌≤◌, OnOk, IfErr, sym, subst, arith}
 use Rattle.page_definitions.specs.Ways.{CanGo, Way}
 use Rattle.printer_definitions.specs.Printer.{Printer}
 use Rattle.printer_profile.proofs.CheckedProfiles.{can_print}

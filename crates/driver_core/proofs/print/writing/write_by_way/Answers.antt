@@ -1,11 +1,9 @@
-use Rattle.std.proofs.Common.{◌≡◌, ℕ, ◌*◌, ◌≤◌, List, Ok, IsErrOf, OnOk, refl, sym, ap, subst, arith}
+use Rattle.std.proofs.Common.{◌≡◌, ℕ, ◌*◌, ◌≤◌, List, OnOk, sym, subst, arith}
 use Rattle.std.specs.Io.KnownBytes.{Appends}
-use Rattle.page_definitions.specs.Dots.{Halftone, dots_wanted}
+use Rattle.page_definitions.specs.Dots.{dots_wanted}
 use Rattle.page_definitions.specs.Printing.{GivesSheet}
 use Rattle.page_definitions.specs.Ways.{CanGo, Way, halftone_bytes_by}
 use Rattle.page_definitions.specs.Ways.Way.{Healed, Shingled, Woven}
-use Rattle.page_writer.specs.Shows.{Shows}
-use Rattle.page_writer.specs.declared.strokes.WriteStop.TheVariants as stop
 use Rattle.printer_definitions.specs.Printer.{Printer, row_units}
 use Rattle.std.specs.Prelude.{IfOk}
 use Rattle.weave_base.specs.Parts.{AppendsPart}

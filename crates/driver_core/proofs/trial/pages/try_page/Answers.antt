@@ -1,4 +1,4 @@
-use Rattle.std.proofs.Common.{◌≡◌, ℕ, ◌*◌, ◌++◌, List, [], sym, ◌∙◌, ap, subst}
+use Rattle.std.proofs.Common.{◌≡◌, ℕ, ◌*◌, ◌++◌, List, sym, ◌∙◌, ap, subst}
 use Rattle.page_definitions.specs.Dots.{Halftone, dots_wanted}
 use Rattle.page_definitions.specs.Printing.{GivesSheet}
 use Rattle.page_definitions.specs.Ways.{halftone_bytes_by}
