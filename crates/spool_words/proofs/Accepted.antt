@@ -1,7 +1,8 @@
 -- What is known of words that are accepted.
 use Rattle.std.proofs.Common.{◌≡◌, ℕ, ◌+◌, ◌<◌, ◌≤◌, Bool, true, false, ◌&&◌, eqb, leb, ltb, cond, if◌then◌else◌}
-use Rattle.std.proofs.Common.{List, [], ◌∷◌, ◌++◌, codes, length, map, Option, Some, None, Err, Ok, refl, ap, sym, ◌∙◌, subst, arith, append-nil, append_assoc}
-use Rattle.std.specs.List.{AllByRecursion, filter, list_all}
+use Rattle.std.proofs.Common.{List, [], ◌∷◌, ◌++◌, codes, length, map, Option, Some, None, Err, Ok, unwrap_or, refl, ap, sym, ◌∙◌, subst, arith, append-nil, append_assoc}
+use Rattle.std.specs.List.{AllByRecursion, count_by, filter, find, list_all}
+use Rattle.std.specs.Option.{option_map}
 use Rattle.std.proofs.lemmas.Bool.{leb-true, ltb-true}
 use Rattle.std.proofs.lemmas.Bool.Decides.{nat_tests}
 use Rattle.std.proofs.lemmas.List.{length-map}
@@ -11,14 +12,14 @@ use Rattle.std.proofs.lemmas.Slice.Eq.{bytes_eq-Decides}
 use Rattle.key_values.specs.Pairs.{is_key_value, key_of, value_of}
 use Rattle.job_words.specs.DeadLists.{is_comma}
 use Rattle.job_words.specs.Meaning.{given, gives}
-use Rattle.job_words.specs.Table.{workers_key}
+use Rattle.job_words.specs.Table.{profile_key, workers_key}
 use Rattle.job_words.proofs.Bounds.{given_between}
 use Rattle.spool_words.specs.declared.faults.SpoolCause.{SpoolCause}
 use Rattle.spool_words.specs.declared.faults.SpoolCause.TheVariants.{BadValue, NoSend, NotKeyValue}
 use Rattle.spool_words.specs.declared.faults.SpoolFault.{SpoolFault}
 use Rattle.spool_words.specs.declared.reading.SpoolRequest.{SpoolRequest}
-use Rattle.spool_words.specs.Keys.{SpoolKey, key_named, send_key, send_row}
-use Rattle.spool_words.specs.Meaning.{fault_at, faults_at, key_fault, names_of, refused, request_of, request_unless, sender_count}
+use Rattle.spool_words.specs.Keys.{SpoolKey, key_named, profile_row, send_key, send_row}
+use Rattle.spool_words.specs.Meaning.{fault_at, faults_at, key_fault, names_of, profile_named, refused, request_of, request_unless, sender_count}
 use Rattle.spool_words.specs.Meaning.{spool_meaning, value_fault, word_fault}
 use Rattle.spool_words.specs.Names.{are_names, is_name, names_in}
 use Rattle.spool_words.specs.Requests.{AreNames, IsName, IsWithinBounds}
@@ -119,6 +120,32 @@ names_on (word ∷ words) earlier none =
       by_test true same good later = (names_are (value_of word) (good_sender earlier word good same).1, later)
       by_test false same good later = later
 
+-- ---- the profile's name
+
+good_profile : (earlier : List (List ℕ)) (word : List ℕ) → word_fault earlier word ≡ None → gives profile_key word ≡ true
+    → IsName (value_of word)
+unfolding word_fault
+good_profile earlier word h named = by_test (is_key_value word) h where
+  by_test : (test : Bool) → (if test then key_fault earlier word (key_named (key_of word)) else Some NotKeyValue) ≡ None
+      → IsName (value_of word)
+  by_test true h =
+      let is : key_of word ≡ codes "profile" = (bytes_eq-Decides (key_of word) (codes "profile")).0 named in
+      let found : key_named (key_of word) ≡ Some profile_row = ap key_named is in
+      let taken = good_value profile_row (count_by (gives profile_key) earlier) (is_name (value_of word))
+      (ap (key_fault earlier word) (sym found) ∙ h) in
+      name_is (value_of word) taken.1
+  by_test false h = absurd cc
+
+profile_on : (words earlier : List (List ℕ)) → refused words earlier ≡ [] → IsName (profile_named words)
+profile_on [] earlier none = record { some = omega arith; most = omega arith }
+profile_on (word ∷ words) earlier none =
+    let first = first_good words earlier word none in
+    by_test (gives profile_key word) refl first.good (profile_on words (earlier ++ word ∷ []) first.later) where
+      by_test : (test : Bool) → gives profile_key word ≡ test → word_fault earlier word ≡ None → IsName (profile_named words)
+          → IsName (unwrap_or (option_map value_of (cond test (Some word) (find (gives profile_key) words))) (codes "p360cmyk"))
+      by_test true same good later = good_profile earlier word good same
+      by_test false same good later = later
+
 -- ---- the request
 
 pub record IsAccepted (words : List (List ℕ)) (request : SpoolRequest) : Type 0 where
@@ -154,3 +181,6 @@ within_bounds words request means =
       senders = length-map (filter (gives send_key) words) (λ word. names_in (value_of word)) ∙ length-filter (gives send_key) words;
       names = names_on words [] all.none_refused;
     })
+
+pub profile_is_named : (words : List (List ℕ)) (request : SpoolRequest) → spool_meaning words ≡ Ok request → IsName (profile_named words)
+profile_is_named words request means = profile_on words [] (words_accepted words request means).none_refused

@@ -6,7 +6,7 @@
 //! table of `specs/Keys.antt`; the keys that the spool shares with a command line are those of `job_words`.
 //!
 //! `laws`: a request has 1 to 64 workers and 1 to 8 senders, and its words list as many senders, each of 1 to 64 names
-//! of 1 to 255 bytes (`a_request_is_within_bounds`).
+//! of 1 to 255 bytes; the name of the profile has as many (`a_request_is_within_bounds`).
 #![tactic(auto)]
 
 pub mod examples;
