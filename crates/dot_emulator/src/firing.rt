@@ -44,7 +44,7 @@ fn plane_of(ink: Ink) -> u8
 
 // What was seen of the dots of a raster.
 #[derive(Clone, Copy)]
-struct Seen {
+struct RowsSeen {
     // There is a dot.
     some: bool,
     // One is at or below the bottom margin.
@@ -112,7 +112,7 @@ impl Raster {
 
     // What was seen, with the dots of one row more, at row y of the sheet.
     #[inline]
-    fn see(&self, seen: Seen, y: u32, row: &[u8], planes: &Option<Planes>) -> Seen
+    fn see(&self, seen: RowsSeen, y: u32, row: &[u8], planes: &Option<Planes>) -> RowsSeen
         requires row { length row.now ≡ row_bytes self.now.header }
         requires inks { inks_of planes.now ≡ 4 }
         requires width { width_of planes.now ≡ last_column }
@@ -123,7 +123,7 @@ impl Raster {
         ensures over { result.over ≡ (seen.over || (nat_lt y self.now.end
             && meets_in planes.now (ink_place self.now.ink) y self.now.x row.now self.now.header.n)) }
     {
-        Seen {
+        RowsSeen {
             some: seen.some || self.has_dot(row),
             below: seen.below || self.end <= y && self.has_dot(row),
             over: seen.over || y < self.end && self.is_over(y, row, planes),
@@ -139,7 +139,7 @@ impl Raster {
         ensures { (g : Grid) (dots : List Dot) → Stands g self.now → PlanesHave g dots planes.now
             → IsLooked g self.now rows.now dots result }
     {
-        let mut seen = Seen {
+        let mut seen = RowsSeen {
             some: false,
             below: false,
             over: false,

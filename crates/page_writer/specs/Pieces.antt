@@ -12,7 +12,7 @@ use Rattle.page_writer.specs.declared.coded.Coded.{Coded}
 use Rattle.page_writer.specs.declared.coded.Piece.{Piece}
 use Rattle.page_writer.specs.declared.coded.Run.{Run}
 use Rattle.page_writer.specs.declared.coded.Sent.{Sent}
-use Rattle.page_writer.specs.declared.cut.Cut.{Cut}
+use Rattle.page_writer.specs.declared.cut.BatchCut.{BatchCut}
 use Rattle.page_writer.specs.declared.room.Batches.{Batches}
 use Rattle.printer_definitions.specs.Printer.{Printer}
 
@@ -114,7 +114,7 @@ pub record IsFilled (page : HeadPage) (run : Run) (k : ℕ) (own : HeadPage) (pi
 
 -- Batches are cut into two pieces or more, of a stroke or more each, and the code of two batches of strokes of `most`
 -- bytes takes 8 MB at most.
-pub record IsCut (most : ℕ) (cut : Cut) : Type 0 where
+pub record IsCut (most : ℕ) (cut : BatchCut) : Type 0 where
   pub some : 2 ≤ cut.pieces
   pub few : cut.pieces ≤ 64
   pub each : 1 ≤ cut.each

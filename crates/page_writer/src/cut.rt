@@ -2,7 +2,7 @@
 
 /// How a batch is cut: into how many pieces, and of how many strokes each.
 #[derive(Clone, Copy)]
-pub(crate) struct Cut {
+pub(crate) struct BatchCut {
     pub(crate) pieces: u32,
     pub(crate) each: u32,
 }

@@ -18,7 +18,7 @@ const HEADER_UNITS: u16 = 3600;
 
 /// Places on a sheet, from its top, in units of 5/3600 inch.
 #[derive(Clone, Copy)]
-pub struct Sheet {
+pub struct SheetPlaces {
     /// The length of the sheet.
     pub length: u16,
     /// The first row that the first nozzle is on.
@@ -51,7 +51,7 @@ pub fn raster_header(p: &Profile, width: u16) -> RasterHead
 }
 
 /// The sheet of a page, over which the head begins `above` rows above the window.
-pub fn sheet_of(p: &Profile, f: PageForm, above: u32) -> Sheet
+pub fn sheet_of(p: &Profile, f: PageForm, above: u32) -> SheetPlaces
     requires can { CanPrint p.now }
     requires wanted { IsWanted (wanted_by p.now) f }
     requires room { above ≤ p.now.top }
@@ -62,7 +62,7 @@ pub fn sheet_of(p: &Profile, f: PageForm, above: u32) -> Sheet
 {
     let units = row_units(p);
     let height = f.height as u16;
-    Sheet {
+    SheetPlaces {
         length: height * units,
         top: (p.top - above as u16) * units,
         bottom: (height - p.bottom) * units,

@@ -4,7 +4,7 @@ ghost use Rattle.escp2_definitions.specs.declared.command.Command.TheVariants as
 ghost use Rattle.page_definitions.specs.Strokes.{bytes_of, say};
 ghost use Rattle.std.specs.Prelude.{[], vec_capacity, vec_len, ◌++◌, ◌+◌, ◌∷◌, ◌≡◌, ◌≤◌};
 
-use crate::numbers::Sheet;
+use crate::numbers::SheetPlaces;
 use escp2_writer::{Command, append_header};
 
 /// The bytes of the commands before the passes.
@@ -14,7 +14,7 @@ pub(crate) const PROLOGUE: u64 = 46;
 pub(crate) const END: u64 = 3;
 
 /// Appends the commands before the passes, 46 bytes.
-pub fn append_prologue(sheet: Sheet, out: &mut Vec<u8>)
+pub fn append_prologue(sheet: SheetPlaces, out: &mut Vec<u8>)
     requires { vec_len out.old + 46 ≤ vec_capacity out.old }
     ensures items { out.new.items ≡ out.old.items ++ bytes_of page_coding.code (
         say c.Init ∷ say c.Graphics ∷ say (c.Unit 5) ∷ say (c.MicroWeave 0) ∷ say (c.OneWay 1)

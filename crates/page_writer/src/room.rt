@@ -5,7 +5,7 @@ ghost use Rattle.std.specs.Prelude.{IfOk, IfSome, length, vec_capacity, ◌≡�
 
 use crate::coded::{Coded, Piece};
 use crate::coder::Coder;
-use crate::cut::Cut;
+use crate::cut::BatchCut;
 use crate::page_strokes::Strokes;
 use base_definitions::Memory;
 use std::alloc::Global;
@@ -21,7 +21,7 @@ const BATCHES: u64 = 4;
 
 /// How so many strokes are cut for these workers, where a stroke takes so many bytes at most. `None` says that one
 /// worker does as well: there are few strokes, or no room for two of them at once.
-pub(crate) fn cut(workers: u8, count: u32, most: u64) -> Option<Cut>
+pub(crate) fn cut(workers: u8, count: u32, most: u64) -> Option<BatchCut>
     requires most { 1 ≤ most }
     requires workers { workers ≤ 64 }
     ensures { IfSome result (IsCut most) }
@@ -35,7 +35,7 @@ pub(crate) fn cut(workers: u8, count: u32, most: u64) -> Option<Cut>
     }
     let wanted = u64::from(count) / (BATCHES * pieces);
     let each = wanted.max(1).min(room / pieces);
-    Some(Cut {
+    Some(BatchCut {
         pieces: pieces as u32,
         each: each as u32,
     })
@@ -74,7 +74,7 @@ fn make_piece(alloc: Global, each: u32, most: usize) -> Result<Piece, Memory>
 fn make_coders<'a, S: Strokes>(
     alloc: Global,
     page: &'a S,
-    cut: Cut,
+    cut: BatchCut,
     most: usize,
 ) -> Result<Vec<Coder<'a, S>>, Memory>
     requires { most_of_pass (S.page page.now).p (S.page page.now).t.width ≤ most }
@@ -97,7 +97,7 @@ impl<'a, S: Strokes> Batches<'a, S> {
     pub(crate) fn make(
         alloc: Global,
         page: &'a S,
-        cut: Cut,
+        cut: BatchCut,
         most: usize,
     ) -> Result<Batches<'a, S>, Memory>
         requires cut { IsCut most cut }

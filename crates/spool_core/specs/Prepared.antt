@@ -11,7 +11,7 @@ use Rattle.spool_words.specs.Meaning.{names_of, profile_named, spool_meaning}
 use Rattle.spool_words.specs.declared.reading.SpoolRequest.{SpoolRequest}
 use Rattle.weave_base.specs.Shelf.{NamedText}
 use Rattle.spool_core.specs.Files.{AreFiles}
-use Rattle.spool_core.specs.declared.preparing.Prepared.{Prepared}
+use Rattle.spool_core.specs.declared.preparing.PreparedSpool.{PreparedSpool}
 
 -- Pages of jobs can be printed by this profile, as a request asks: by its kernel, in interleaved passes.
 pub record CanPrint (job : Job) (p : Printer) : Type 0 where
@@ -26,11 +26,11 @@ pub record AreFew (sent : List (List Stream)) : Type 0 where
   pub most_jobs : All (λ list. length list ≤ 64) sent
 
 -- the streams that the senders are to send
-abbrev pub sent_in : Prepared → List (List Stream)
+abbrev pub sent_in : PreparedSpool → List (List Stream)
 sent_in prepared = map (λ list. list.items) prepared.lists.items
 
 -- This is what the words ask for, by the texts that the shelf tells of.
-pub record IsPrepared (words : List (List ℕ)) (told : Option (List NamedText)) (prepared : Prepared) : Type 0 where
+pub record IsPrepared (words : List (List ℕ)) (told : Option (List NamedText)) (prepared : PreparedSpool) : Type 0 where
   pub request : SpoolRequest
   pub means : spool_meaning words ≡ Ok request
   pub kernel_is : prepared.job.kernel ≡ request.kernel

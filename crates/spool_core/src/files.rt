@@ -27,7 +27,7 @@ pub enum FileCause {
 }
 
 // Where the files are read: after so many bytes, the file of this job.
-struct Place {
+struct FilePlace {
     taken: usize,
     sender: u8,
     job: u32,
@@ -46,7 +46,7 @@ fn read_file<F: Shelf>(
     alloc: Global,
     shelf: &mut F,
     name: &str,
-    place: Place,
+    place: FilePlace,
 ) -> Result<StreamBytes, SpoolAnswer>
     requires { place.taken ≤ most_files }
     ensures ok { IfOk result (IsFile (F.files shelf.old) place.taken name.now) }
@@ -55,7 +55,7 @@ fn read_file<F: Shelf>(
     ensures later { F.faults shelf.old ≤ F.faults shelf.new }
     ensures stay { F.files shelf.new ≡ F.files shelf.old }
 {
-    let Place { taken, sender, job } = place;
+    let FilePlace { taken, sender, job } = place;
     match shelf.read_text(alloc, name, most_next(taken))? {
         Found::Text(bytes) => Ok(StreamBytes::new(bytes)),
         Found::Absent => Err(SpoolAnswer::File {
@@ -95,7 +95,7 @@ fn read_sender<F: Shelf>(
 {
     let mut list = Vec::new(alloc);
     for i in 0..name_count(words, request, sender) {
-        let place = Place {
+        let place = FilePlace {
             taken: *taken,
             sender,
             job: i + 1,

@@ -21,7 +21,7 @@ use weave_base::Shelf;
 
 /// What words ask for: how to print, the profile, which passes its checks, and the streams of each sender.
 #[derive(Drop)]
-pub struct Prepared {
+pub struct PreparedSpool {
     pub job: Job,
     pub profile: Profile,
     pub lists: Vec<Vec<StreamBytes>>,
@@ -56,7 +56,7 @@ pub fn prepare<F: Shelf>(
     alloc: Global,
     words: &Words,
     shelf: &mut F,
-) -> Result<Prepared, SpoolAnswer>
+) -> Result<PreparedSpool, SpoolAnswer>
     ensures prepared { IfOk result (IsPrepared words.now (F.files shelf.old)) }
     // Where nothing was printed, this is the outcome of the run.
     ensures answered { IfErr result (λ a. (out : Outside) (meters : Meters) → PrintsNone out meters []
@@ -68,7 +68,7 @@ pub fn prepare<F: Shelf>(
     let request = read_spool_words(words)?;
     let profile = find_profile(alloc, shelf, profile_name(words, &request))?;
     let lists = read_files(alloc, words, &request, shelf)?;
-    Ok(Prepared {
+    Ok(PreparedSpool {
         job: job_of(&request),
         profile,
         lists,

@@ -11,7 +11,7 @@ ghost use Rattle.std.specs.Prelude.{IsErr, ◌≡◌};
 
 use crate::answer::SpoolAnswer;
 use crate::desks::Desk;
-use crate::preparing::{Prepared, prepare};
+use crate::preparing::{PreparedSpool, prepare};
 use crate::printing::{answer_for, print_jobs};
 use crate::report::{Ran, SpoolReport, tell};
 use crate::senders::send_all;
@@ -79,7 +79,7 @@ fn run_desk<R: Threads + Wait + Sync, K: Sink, G: Gate + Sync>(
 fn perform<R: Threads + Wait + Sync, K: Sink, G: Gate + Sync>(
     rt: &R,
     alloc: Global,
-    prepared: Prepared,
+    prepared: PreparedSpool,
     out: &mut K,
     gate: &G,
     meters: &mut Vec<Box<dyn Meter>>,
@@ -90,7 +90,7 @@ fn perform<R: Threads + Wait + Sync, K: Sink, G: Gate + Sync>(
         (outside_of K.held K.faults out.old out.new)
         (meters_of (λ meter. account meter) meters.old.items meters.new.items) result.done.items result.answer }
 {
-    let Prepared {
+    let PreparedSpool {
         job,
         profile,
         lists,
