@@ -178,17 +178,17 @@ byte_filled filled read count line (b ∷ []) new k none some one fits is =
     ∙ ap (λ n. take filled line ++ copies count (take n (drop filled line) ++ (b ∷ []))) (sym none)
 byte_filled filled read count line (b ∷ b' ∷ others) new k none some one fits is = absurd (omega arith)
 
--- the bytes behind copies of a unit of one byte are unchanged
-pub byte_behind : (filled read count : ℕ) (line others new : List ℕ) (k : ℕ) → read ≡ 0 → 1 ≤ length others → length others < 2
+-- the bytes behind copies of a unit of one byte are unchanged, where the copies end there
+pub byte_behind : (filled read count end : ℕ) (line others new : List ℕ) (k : ℕ) → read ≡ 0 → 1 ≤ length others → length others < 2
     → filled + count * (read + length others) ≤ length line
-    → new ≡ replicate (length (take (filled + count - filled) (drop filled line))) (get_or others 0 0) → k ≡ count
+    → new ≡ replicate (length (take (end - filled) (drop filled line))) (get_or others 0 0) → end ≡ filled + count → k ≡ end - filled
     → drop (filled + count * (read + length others)) (put_mid filled k line new)
     ≡ drop (filled + count * (read + length others)) line
-byte_behind filled read count line others new k none some one fits is k_is =
+byte_behind filled read count end line others new k none some one fits is end_is k_is =
     let unit_is : read + length others ≡ 1 = omega (arith, none, some, one) in
     let count_is : count * (read + length others) ≡ count = ap (λ n. count * n) unit_is ∙ omega arith in
-    let sized : length (take (filled + count - filled) (drop filled line)) ≡ count =
-    ap (λ n. length (take n (drop filled line))) (let e : filled + count - filled ≡ count = omega arith in e)
+    let sized : length (take (end - filled) (drop filled line)) ≡ count =
+    ap (λ n. length (take n (drop filled line))) (let e : end - filled ≡ count = omega arith in e)
     ∙ length-take-le count (drop filled line) (omega (arith, length-drop filled line, count_is)) in
     drop-put_mid filled k line new (filled + count * (read + length others)) (omega (arith, count_is, k_is)) (omega arith)
-    (ap length is ∙ length-replicate _ _ ∙ sized ∙ sym k_is)
+    (ap length is ∙ length-replicate _ _ ∙ sized ∙ (let e : count ≡ k = omega arith in e))

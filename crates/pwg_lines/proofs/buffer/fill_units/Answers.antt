@@ -10,9 +10,9 @@ returns-in-0-len1-clause-filled c =
 
 pub returns-in-0-len1-clause-behind : goal.returns-in-0-len1-clause-behind
 returns-in-0-len1-clause-behind c =
-    byte_behind c.args.filled c.args.read c.args.count c.args.line.now c.args.others.now c.fill.new.self _ c.in-0-len1.is-0
+    byte_behind c.args.filled c.args.read c.args.count _ c.args.line.now c.args.others.now c.fill.new.self _ c.in-0-len1.is-0
     c.in-0-len1.len_at_least
-    c.in-0-len1.len_below c.requires.fits (c.fill.ensures.after (λ y e. e)) (omega arith)
+    c.in-0-len1.len_below c.requires.fits (c.fill.ensures.after (λ y e. e)) (omega arith) (omega arith)
 
 pub returns-clause-filled : goal.returns-clause-filled
 returns-clause-filled c =
