@@ -5,7 +5,6 @@ ghost use Rattle.std.specs.Prelude.{◌≡◌};
 
 use diffusion_kernel::Kernel;
 use job_words::MOST_NAME;
-use key_values::number_within;
 
 /// The most names of one sender.
 const MOST_NAMES: usize = 64;
@@ -24,22 +23,18 @@ pub fn lists_names(text: &str) -> bool
     text.split(',').count() <= MOST_NAMES && text.split(',').all(is_name)
 }
 
+// `and_then` takes no function of another crate by its name, so those of `job_words` have one here.
+
 /// The kernel of a name.
 pub fn kernel_named(text: &str) -> Option<Kernel>
     ensures { result ≡ kernel_of text.now }
 {
-    match text {
-        "fs" => Some(Kernel::Floyd),
-        "jjn" => Some(Kernel::Jarvis),
-        "stucki" => Some(Kernel::Stucki),
-        _ => None,
-    }
+    job_words::kernel_named(text)
 }
 
 /// How many workers: 1 to 64.
 pub fn worker_count(text: &str) -> Option<u8>
     ensures { result ≡ workers_of text.now }
 {
-    let number = number_within(1, 64, text.as_bytes())?;
-    Some(number as u8)
+    job_words::worker_count(text)
 }
