@@ -1,5 +1,5 @@
 //! Two passes at one board, in turn and in two threads.
-ghost use Rattle.std.specs.Prelude.{IfSome, IsTrue, None, [], length, ◌≡◌, ◌≤◌, ℕ};
+ghost use Rattle.std.specs.Prelude.{IfSome, IsTrue, None, ◌≡◌, ◌≤◌, ℕ};
 ghost use Rattle.board_steps.specs.Rule.{times};
 ghost use Rattle.tile_board.specs.Board.{IsPassOf, slab, view};
 ghost use Rattle.tile_board.specs.Slabs.{number_in, shape_of};

@@ -1,6 +1,6 @@
 //! Tiles of two inks worked one by one.
 ghost use Rattle.diffusion_definitions.specs.Diffusion.{InRange};
-ghost use Rattle.std.specs.Prelude.{IfOk, length, ◌<◌, ◌≡◌};
+ghost use Rattle.std.specs.Prelude.{IfOk, ◌<◌, ◌≡◌};
 ghost use Rattle.tile_border.specs.Works.{HasInks};
 
 use crate::checks::same;

@@ -3,7 +3,6 @@ ghost use Rattle.std.specs.Prelude.{IsTrue};
 ghost use Rattle.tile_shape.specs.Geometry.{IsShape};
 
 use crate::checks::same;
-use std::process::Abort;
 use tile_shape::{Dir, Place, Shape};
 
 // A window of five columns and three bands.

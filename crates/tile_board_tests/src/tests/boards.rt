@@ -1,9 +1,8 @@
 //! Boards compared with the rule over a whole window, and the answers to a few claims.
-ghost use Rattle.std.specs.Prelude.{IfSome, IsTrue, None, length, ℕ, ◌≡◌, ◌≤◌};
+ghost use Rattle.std.specs.Prelude.{IfSome, None, length, ◌≡◌, ◌≤◌};
 ghost use Rattle.tile_board.specs.Board.{IsPassOf, slab, view};
-ghost use Rattle.tile_board.specs.Slabs.{amounts_of, number_in, shape_of};
+ghost use Rattle.tile_board.specs.Slabs.{shape_of};
 ghost use Rattle.tile_border.specs.Tops.{IsTopOf};
-ghost use Rattle.board_steps.specs.Rule.{times};
 ghost use Rattle.tile_shape.specs.Geometry.{IsShape, IsTile};
 ghost use Rattle.tile_shape.specs.declared.tiles.Place.{Place};
 
