@@ -34,8 +34,8 @@ module _ (B : Setting) (s : State Cell View) where
     -- it has no bits but the five, and an arrival bit only where a tile sends that edge
     pub few : slice_index s.words t < 32
     pub arrivals : (d : ℕ) → d < 3 → B.graph.from t d ≡ None → bit (bit_of d) t ≡ 0
-    -- Bit 8 is set exactly where a view lists the tile; then only one view does, and only once. Bit 16 is set exactly where
-    -- a view has posted the tile.
+    -- Bit 8 is set exactly where a view lists the tile; then only one view does, and only once. Bit 16 is set exactly
+    -- where a view has posted the tile.
     pub taken : bit 8 t ≡ 1 → SomeView (λ v. Lists v t)
     pub listed : SomeView (λ v. Lists v t) → bit 8 t ≡ 1
     pub posted : bit 16 t ≡ 1 → SomeView (λ v. times t v.mine ≡ 1)
@@ -50,15 +50,15 @@ module _ (B : Setting) (s : State Cell View) where
     -- where bit 8 is set, so are the arrival bits of all edges that come to the tile
     pub needs : (d q : ℕ) → bit 8 t ≡ 1 → B.graph.from t d ≡ Some q → bit (bit_of d) t ≡ 1
 
-  -- Of a slot that no tile receives: fresh until its tile is taken, out of the table until the tile is posted, and then back
-  -- with what the tile gives.
+  -- Of a slot that no tile receives: fresh until its tile is taken, out of the table until the tile is posted, and then
+  -- back with what the tile gives.
   pub record OwnClauses (t d : ℕ) : Type 0 where
     pub blank : bit 8 t ≡ 0 → home t d ≡ some (some (B.fresh t d))
     pub out : bit 8 t ≡ 1 → bit 16 t ≡ 0 → home t d ≡ some none
     pub gives : bit 16 t ≡ 1 → home t d ≡ some (some (B.content t d))
 
-  -- Of the slot of an edge that tile p receives: fresh until its own tile is taken, out of the table until the edge is sent,
-  -- in it with the edge until p is taken, out of it until p is posted, and then back with any value.
+  -- Of the slot of an edge that tile p receives: fresh until its own tile is taken, out of the table until the edge is
+  -- sent, in it with the edge until p is taken, out of it until p is posted, and then back with any value.
   pub record EdgeClauses (t d p : ℕ) : Type 0 where
     pub blank : bit 8 t ≡ 0 → home t d ≡ some (some (B.fresh t d))
     pub out : bit 8 t ≡ 1 → bit (bit_of d) p ≡ 0 → home t d ≡ some none

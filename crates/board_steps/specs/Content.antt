@@ -1,5 +1,5 @@
--- The values of a tile's slots: while the tile waits, blanks for what no other tile sends it, and what the tile gives once
--- it is posted.
+-- The values of a tile's slots: while the tile waits, blanks for what no other tile sends it, and what the tile gives
+-- once it is posted.
 use Rattle.std.specs.Prelude.{ℕ, ℤ, pos, zero, suc, List, Option, None, Some, replicate}
 use Rattle.board_core.specs.Numbers.{place_of}
 use Rattle.diffusion_kernel.specs.declared.tables.Kernel.{Kernel}

@@ -11,8 +11,8 @@ pub record Graph : Type 0 where
   pub next : ℕ → ℕ → Option ℕ
   pub from : ℕ → ℕ → Option ℕ
 
--- An edge has one receiver at most, which gets the edge of that direction from no other tile and is not the tile itself,
--- and there are three directions.
+-- An edge has one receiver at most, which gets the edge of that direction from no other tile and is not the tile
+-- itself, and there are three directions.
 pub record IsGraph (G : Graph) : Type 0 where
   pub there : (t d p : ℕ) → t < G.tiles → G.next t d ≡ Some p → (p < G.tiles) × (p ≢ t) × (d < 3) × (G.from p d ≡ Some t)
   pub back : (p d t : ℕ) → p < G.tiles → G.from p d ≡ Some t → (t < G.tiles) × (d < 3) × (G.next t d ≡ Some p)

@@ -1,6 +1,6 @@
 -- The rule of a board, over its words, its slots and the views of all passes; `Clauses` says the same in plain words.
--- A word has bits 1, 2 and 4 where the edges of directions 0 to 2 have arrived, 8 where the tile is taken, and 16 where it
--- is posted. Slot 4 t + d is for what tile t gives in the direction d, or for its dots where d is 3.
+-- A word has bits 1, 2 and 4 where the edges of directions 0 to 2 have arrived, 8 where the tile is taken, and 16
+-- where it is posted. Slot 4 t + d is for what tile t gives in the direction d, or for its dots where d is 3.
 use Rattle.std.specs.Prelude.{◌≡◌, ℕ, ◌+◌, ◌*◌, ◌/◌, ◌%◌, ◌<◌, ◌≤◌, ◌⊎◌, ◌==◌, ◌||◌, Bool, true, false, List, [], ◌∷◌, length, Option, Some}
 use Rattle.std.specs.Prelude.{None, slice_index}
 use mathlib.Core.Option.{some, none}
@@ -16,8 +16,8 @@ use Rattle.board_steps.specs.declared.rule.Cell.{Cell}
 use Rattle.board_steps.specs.Graph.{Graph, graph_of}
 use Rattle.board_steps.specs.Content.{content_of, fresh_of}
 
--- What a board is made for: its tiles, what each gives in each direction, the value of a slot until its tile is taken, and
--- what the tiles are diffused from.
+-- What a board is made for: its tiles, what each gives in each direction, the value of a slot until its tile is taken,
+-- and what the tiles are diffused from.
 pub record Setting : Type 0 where
   pub graph : Graph
   pub content : ℕ → ℕ → Cell
@@ -110,8 +110,8 @@ pub record Outer (blank x : Cell) (h : Home) (l p : ℕ) : Type 0 where
   pub out : l ≡ 1 → p ≡ 0 → h ≡ some none
   pub done : p ≡ 1 → h ≡ some (some x)
 
--- The slot of an edge that a tile receives, by how often its own tile is listed (l) and the edge sent (s), and how often the
--- receiver is listed (m) and posted (q).
+-- The slot of an edge that a tile receives, by how often its own tile is listed (l) and the edge sent (s), and how
+-- often the receiver is listed (m) and posted (q).
 pub record Inner (blank x : Cell) (h : Home) (l s m q : ℕ) : Type 0 where
   pub fresh : l ≡ 0 → h ≡ some (some blank)
   pub out : l ≡ 1 → s ≡ 0 → h ≡ some none

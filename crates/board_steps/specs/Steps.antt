@@ -47,7 +47,8 @@ pub record KnewIn (G : Graph) (v : View) (p word : ℕ) : Type 0 where
   pub posted : posts p v ≤ word / 16 % 2
   pub seen : (w : ℕ) → v.seen ≡ Some (p, w) → Within w word
 
--- What the pass learns of tile p by its word. A pass that has all parts finds bit 8 exactly where it lists the tile itself.
+-- What the pass learns of tile p by its word. A pass that has all parts finds bit 8 exactly where it lists the tile
+-- itself.
 pub record FoundIn (G : Graph) (v : View) (p word : ℕ) : Type 0 where
   pub knew : KnewIn G v p word
   pub alone : v.parts ≡ 256 → word / 8 % 2 ≡ lists p v
@@ -114,8 +115,8 @@ Took b = TookIn (setting_of b)
 
 -- ---- send
 
--- The pass holds a tile whose edge in the direction d goes to tile `to`. It has not sent it, and the first slot that it has
--- is that of the edge, with the edge.
+-- The pass holds a tile whose edge in the direction d goes to tile `to`. It has not sent it, and the first slot that it
+-- has is that of the edge, with the edge.
 pub record MaySend (B : Setting) (m : Me Cell View) (d to : ℕ) : Type 0 where
   pub from : ℕ
   pub inside : from < B.graph.tiles
@@ -147,8 +148,8 @@ abbrev pub own_slot : (ℕ → ℕ → Cell) → ℕ → ℕ → Option ℕ → 
 own_slot content t d None = (4 * t + d, content t d) ∷ []
 own_slot content t d (Some p) = []
 
--- The slots that go back to the table when tile t is posted: that of its dots, those of the edges that came to it, with any
--- values, and those of its edges that no tile receives.
+-- The slots that go back to the table when tile t is posted: that of its dots, those of the edges that came to it, with
+-- any values, and those of its edges that no tile receives.
 abbrev pub to_post_in : Setting → (ℕ → ℕ → Cell) → ℕ → List (ℕ × Cell)
 to_post_in B left t =
     (4 * t + 3, B.content t 3)

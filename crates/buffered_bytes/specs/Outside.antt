@@ -9,7 +9,8 @@ pub record Outside : Type 0 where
   pub faults_before : ℕ
   pub faults_now : ℕ
 
--- the outside of a source or a sink, by its bytes and its count of faults, and by what it is at the call and at the return
+-- the outside of a source or a sink, by its bytes and its count of faults, and by what it is at the call and at the
+-- return
 abbrev pub outside_of : {A : Type 0} → (A → Option (List ℕ)) → (A → ℕ) → A → A → Outside
 outside_of bytes faults old new = record {
   before = bytes old;

@@ -10,7 +10,7 @@ use Rattle.weave_definitions.specs.Weave.{pass_count}
 use Rattle.weave_definitions.proofs.Rounds.{Inverse, inverse}
 use Rattle.weave_definitions.proofs.Rows.{Counts, StandsOn, pass-low, place-only, row_under as weave_row}
 use Rattle.dead_nozzles.specs.Dead.{has}
-use Rattle.dead_nozzles.specs.Strokes.{Head, Shot, Stroke, firings_of, head_rows, is_fired, regular_strokes, row_under, shot, stroke_at}
+use Rattle.dead_nozzles.specs.Strokes.{Head, Shot, HeadStroke, firings_of, head_rows, is_fired, regular_strokes, row_under, shot, stroke_at}
 use Rattle.dead_nozzles.proofs.Lists.{One, Nowhere, Tells, both-true, count-cons, count-flat, sum-map, sum-tells}
 
 -- how often a row is fired
@@ -206,11 +206,11 @@ pub regular-tells : (h : Head) (y : ℕ) → 1 ≤ h.nozzles → 1 ≤ h.pitch �
     → One (InPass h y) (count y (firings_of (regular_strokes h))) 0 (pass_count h.nozzles h.pitch h.height)
     ⊎ Nowhere (InPass h y) (count y (firings_of (regular_strokes h))) 0 (pass_count h.nozzles h.pitch h.height)
 regular-tells h y some near gcd =
-    let pass : ℕ → Stroke = λ t. stroke_at h (λ row. true) (t * h.nozzles) in
+    let pass : ℕ → HeadStroke = λ t. stroke_at h (λ row. true) (t * h.nozzles) in
     let many : ℕ = pass_count h.nozzles h.pitch h.height in
     let parts : count y (firings_of (regular_strokes h)) ≡ sum_by (λ t. count y (pass t).shots) (count_from 0 many) =
-    count-flat (λ (s : Shot). s.row == y) (λ (s : Stroke). s.shots) (map pass (count_from 0 many))
-    ∙ sum-map (λ (s : Stroke). count y s.shots) pass (count_from 0 many) in
+    count-flat (λ (s : Shot). s.row == y) (λ (s : HeadStroke). s.shots) (map pass (count_from 0 many))
+    ∙ sum-map (λ (s : HeadStroke). count y s.shots) pass (count_from 0 many) in
     subst (λ n. One (InPass h y) n 0 (pass_count h.nozzles h.pitch h.height) ⊎ Nowhere (InPass h y) n 0 (pass_count h.nozzles h.pitch h.height)) (sym parts)
     (sum-tells (InPass h y) (λ t. count y (pass t).shots) 0 many (pass-tells h y near)
     (λ k l a b. (one-place h y k a.nozzle l b.nozzle some near gcd a.few b.few a.hits.over b.hits.over).0))

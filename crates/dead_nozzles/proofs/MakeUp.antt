@@ -8,7 +8,7 @@ use Rattle.std.specs.List.{AllByRecursion, filter}
 use Rattle.base_definitions.specs.Counting.{count_from}
 use Rattle.weave_definitions.specs.Weave.{nozzle_row, pass_count}
 use Rattle.dead_nozzles.specs.Dead.{first_live, has, least_live}
-use Rattle.dead_nozzles.specs.Strokes.{Head, IsHead, Shot, Stroke, all_strokes, firings_of, head_rows, insert, inserted, is_fired, left_by}
+use Rattle.dead_nozzles.specs.Strokes.{Head, IsHead, Shot, HeadStroke, all_strokes, firings_of, head_rows, insert, inserted, is_fired, left_by}
 use Rattle.dead_nozzles.specs.Strokes.{made_up, made_up_by, make_up_stroke, make_up_strokes, missing, regular_strokes}
 use Rattle.dead_nozzles.proofs.Lists.{Nowhere, all-filter, all-numbers, count-more, has-filter, has-inside, has-outside}
 use Rattle.dead_nozzles.proofs.Firing.{Hits, InPass, Over, count, is-fired, not-fired, one-place, over, pass-is, regular-tells, stroke-tells}
@@ -84,7 +84,7 @@ fires-each h j zero [] m low few y = refl
 fires-each h j zero (row ∷ rows) m low few y = absurd (omega (arith, few))
 fires-each h j (suc most) [] m low few y = refl
 fires-each h j (suc most) (row ∷ rows) m low few y =
-    let made : Stroke = make_up_stroke h j row (row ∷ rows) in
+    let made : HeadStroke = make_up_stroke h j row (row ∷ rows) in
     let left : List ℕ = left_by made.shots (row ∷ rows) in
     let later : count y (firings_of (made_up h j most left)) ≡ cond (has left y) 1 0 =
     fires-each h j most left m (all-filter (λ y. y < h.height) (λ row. not (is_fired made.shots row)) (row ∷ rows) low)
@@ -135,7 +135,7 @@ has-count many y = by_test (nat_lt y many) refl
 
 -- ---- all strokes
 
-count-insert : (y : ℕ) (s : Stroke) (ts : List Stroke) → count y (firings_of (insert s ts)) ≡ count y s.shots + count y (firings_of ts)
+count-insert : (y : ℕ) (s : HeadStroke) (ts : List HeadStroke) → count y (firings_of (insert s ts)) ≡ count y s.shots + count y (firings_of ts)
 count-insert y s [] = count-more (λ (s : Shot). s.row == y) s.shots []
 count-insert y s (t ∷ ts) = by_order (nat_le s.start t.start) (count-insert y s ts)
   where
@@ -150,7 +150,7 @@ count-insert y s (t ∷ ts) = by_order (nat_le s.start t.start) (count-insert y 
           later,
         )
 
-count-inserted : (y : ℕ) (ss ts : List Stroke) → count y (firings_of (inserted ss ts)) ≡ count y (firings_of ss) + count y (firings_of ts)
+count-inserted : (y : ℕ) (ss ts : List HeadStroke) → count y (firings_of (inserted ss ts)) ≡ count y (firings_of ss) + count y (firings_of ts)
 count-inserted y [] ts = omega arith
 count-inserted y (s ∷ ss) ts =
     omega (

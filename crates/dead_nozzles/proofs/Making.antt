@@ -7,7 +7,7 @@ use Rattle.std.specs.List.{AllByRecursion, filter}
 use Rattle.base_definitions.specs.Counting.{count_from}
 use Rattle.dead_nozzles.specs.Dead.{has}
 use Rattle.dead_nozzles.specs.Plans.{Owns, Takes, is_free, is_of, owned_row, owner}
-use Rattle.dead_nozzles.specs.Strokes.{Head, Stroke, head_rows, inserted, is_fired, left_by, made_up, make_up_stroke, row_under, stroke_at}
+use Rattle.dead_nozzles.specs.Strokes.{Head, HeadStroke, head_rows, inserted, is_fired, left_by, made_up, make_up_stroke, row_under, stroke_at}
 use Rattle.dead_nozzles.proofs.Lists.{all-append, all-map, all-mapped, both-true, has-filter, has-inside}
 use Rattle.dead_nozzles.proofs.Firing.{Over, one-over, over}
 use Rattle.dead_nozzles.proofs.MakeUp.{Maker, fewer, has-first, has-left, makes, reach}
@@ -87,7 +87,7 @@ of-kept h j start row old new k y other low apart =
     ]
 
 owns-kept : (h : Head) (j start row : ℕ) (old new : List (Option ℕ)) → MakesUp h j start row old new
-    → (d : Stroke) → Owns h old d → d.start < start → Owns h new d
+    → (d : HeadStroke) → Owns h old d → d.start < start → Owns h new d
 owns-kept h j start row old new k d own less i few = own i few ∙ by_row (row_under h d.start i) refl
   where
     by_row : (r : Option ℕ) → row_under h d.start i ≡ r → owned_row old d.start r ≡ owned_row new d.start r
@@ -179,12 +179,12 @@ next-stroke h j start row old new k owned = record { rows = rows; is = is; after
     after y e = (free-row h old row y (ap (λ ys. has ys y) here ∙ e)).after
 
     fired : (y : ℕ) → is_fired (make_up_stroke h j row (row ∷ free_from h old (row + 1))).shots y ≡ is_fired (stroke_at h (free old) start).shots y
-    fired y = ap (λ (s : Stroke). is_fired s.shots y) is
+    fired y = ap (λ (s : HeadStroke). is_fired s.shots y) is
 
     left : left_by (make_up_stroke h j row (row ∷ free_from h old (row + 1))).shots (row ∷ free_from h old (row + 1))
         ≡ free_from h new (row_at h j (start + 1))
     left =
-        let made : Stroke = make_up_stroke h j row (row ∷ free_from h old (row + 1)) in
+        let made : HeadStroke = make_up_stroke h j row (row ∷ free_from h old (row + 1)) in
         let gone : is_fired made.shots row ≡ true = makes h j row (row ∷ free_from h old (row + 1)) k.maker (has-first row (free_from h old (row + 1))) o.low in
         let next : row + 1 ≡ row_at h j (start + 1) = omega (arith, o.place) in
         ap (λ b. cond (not b) (row ∷ left_by made.shots (free_from h old (row + 1))) (left_by made.shots (free_from h old (row + 1)))) gone
@@ -219,10 +219,10 @@ scan-made h j start row old new starts k s = record {
   );
   starts_are = map-more s.done first start starts s.starts_are refl;
   own = all-append (Owns h new) s.done (first ∷ [])
-      (all-both (Owns h old) (λ (d : Stroke). d.start < start) (Owns h new) s.done (owns-kept h j start row old new k) s.own s.higher)
+      (all-both (Owns h old) (λ (d : HeadStroke). d.start < start) (Owns h new) s.done (owns-kept h j start row old new k) s.own s.higher)
       (made-owns h j start row old new k s.before, tt);
-  higher = all-append (λ (d : Stroke). d.start < start + 1) s.done (first ∷ [])
-      (all-map (λ (d : Stroke). d.start < start) (λ (d : Stroke). d.start < start + 1) s.done (λ d less. omega (arith, less)) s.higher)
+  higher = all-append (λ (d : HeadStroke). d.start < start + 1) s.done (first ∷ [])
+      (all-map (λ (d : HeadStroke). d.start < start) (λ (d : HeadStroke). d.start < start + 1) s.done (λ d less. omega (arith, less)) s.higher)
       (omega arith, tt);
   owned = owned;
   of_passes = λ t i y few e. of-kept h j start row old new k y (t * h.nozzles) (over h (t * h.nozzles) i y e).low (no-pass h j start row old new k t)
@@ -239,27 +239,27 @@ scan-made h j start row old new starts k s = record {
     n : IsNext h j start row old new (free_from h old (row + 1))
     n = next-stroke h j start row old new k s.owned
 
-    made : Stroke
+    made : HeadStroke
     made = make_up_stroke h j row (row ∷ free_from h old (row + 1))
 
-    first : Stroke
+    first : HeadStroke
     first = stroke_at h (free old) start
 
     more : s.most ≡ suc (s.most - 1)
     more = omega (arith, s.enough, ap length n.rows)
 
-    others : List Stroke
+    others : List HeadStroke
     others = inserted (made_up h j (s.most - 1) (left_by made.shots (row ∷ free_from h old (row + 1)))) (passes_from h s.next s.left)
 
-    below : AllByRecursion (λ (t : Stroke). made.start ≤ t.start) others
+    below : AllByRecursion (λ (t : HeadStroke). made.start ≤ t.start) others
     below =
         let later : List ℕ = left_by made.shots (row ∷ free_from h old (row + 1)) in
-        all-inserted (λ (t : Stroke). made.start ≤ t.start) (made_up h j (s.most - 1) later) (passes_from h s.next s.left)
-        (all-map (StartsAt h j later) (λ (t : Stroke). made.start ≤ t.start) (made_up h j (s.most - 1) later)
+        all-inserted (λ (t : HeadStroke). made.start ≤ t.start) (made_up h j (s.most - 1) later) (passes_from h s.next s.left)
+        (all-map (StartsAt h j later) (λ (t : HeadStroke). made.start ≤ t.start) (made_up h j (s.most - 1) later)
         (λ t at. let parts = both-true (has (row ∷ free_from h old (row + 1)) at.row) (not (is_fired made.shots at.row))
         (sym (has-left made.shots (row ∷ free_from h old (row + 1)) at.row) ∙ at.is) in
         omega (arith, n.after at.row parts.0, at.start, reach h j k.maker)) (made-starts h j (s.most - 1) later))
-        (all-mapped (λ (t : Stroke). made.start ≤ t.start) (λ t. stroke_at h (λ row. true) (t * h.nozzles)) s.next s.left
+        (all-mapped (λ (t : HeadStroke). made.start ≤ t.start) (λ t. stroke_at h (λ row. true) (t * h.nozzles)) s.next s.left
         (λ t from less. let lower : s.next * h.nozzles ≤ t * h.nozzles = mul-le-mul_right h.nozzles from in
         omega (arith, lower, s.above, o.place)))
 
@@ -270,7 +270,7 @@ scan-made h j start row old new starts k s = record {
               ∙ ap (λ b. b && not (is_fired first.shots y)) (s.owned y (omega (arith, before, o.place)) low)
           | inr here ↦ let same : y ≡ row = omega (arith, here, less, o.place) in
               let gone : is_fired made.shots row ≡ true = makes h j row (row ∷ rest) k.maker (has-first row rest) o.low in
-              let fired : is_fired first.shots y ≡ true = ap (λ (t : Stroke). is_fired t.shots y) (sym n.is) ∙ ap (is_fired made.shots) same ∙ gone in
+              let fired : is_fired first.shots y ≡ true = ap (λ (t : HeadStroke). is_fired t.shots y) (sym n.is) ∙ ap (is_fired made.shots) same ∙ gone in
               free-after h j start row old new k y low ∙ and_right (free old y) (not (is_fired first.shots y)) (ap not fired)
         ]
 

@@ -6,7 +6,7 @@ use Rattle.std.specs.List.{flat_map}
 use Rattle.base_definitions.specs.Counting.{count_from}
 use Rattle.dead_nozzles.specs.Dead.{has}
 use Rattle.dead_nozzles.specs.Plans.{row_of}
-use Rattle.dead_nozzles.specs.Strokes.{Head, Shot, Stroke, is_fired, row_under, shot, stroke_at}
+use Rattle.dead_nozzles.specs.Strokes.{Head, Shot, HeadStroke, is_fired, row_under, shot, stroke_at}
 use Rattle.dead_nozzles.proofs.Firing.{Hits, is-fired, not-fired, over, stroke-tells}
 
 -- the row under a nozzle, where the nozzle is live and the row is wanted
@@ -87,7 +87,7 @@ shots-same h wanted other start (i ∷ nozzles) same =
 pub stroke-same : (h : Head) (wanted other : ℕ → Bool) (start start' : ℕ) → start ≡ start' → ((y : ℕ) → y < h.height → wanted y ≡ other y)
     → stroke_at h wanted start ≡ stroke_at h other start'
 stroke-same h wanted other start start' e same =
-    ap (λ (shots : List Shot). let s : Stroke = record { start = start; shots = shots } in s) (shots-same h wanted other start (count_from 0 h.nozzles) same)
+    ap (λ (shots : List Shot). let s : HeadStroke = record { start = start; shots = shots } in s) (shots-same h wanted other start (count_from 0 h.nozzles) same)
     ∙ ap (stroke_at h other) e
 
 -- ---- which rows a stroke fires

@@ -10,7 +10,7 @@ use Rattle.base_definitions.specs.Counting.{count_from}
 use Rattle.weave_definitions.specs.Weave.{pass_count}
 use Rattle.dead_nozzles.specs.Dead.{has}
 use Rattle.dead_nozzles.specs.Plans.{Owns, is_free, is_of, owned_row, owner}
-use Rattle.dead_nozzles.specs.Strokes.{Head, Stroke, all_strokes, head_rows, insert, inserted, made_up}
+use Rattle.dead_nozzles.specs.Strokes.{Head, HeadStroke, all_strokes, head_rows, insert, inserted, made_up}
 use Rattle.dead_nozzles.specs.Strokes.{row_under, stroke_at}
 use Rattle.dead_nozzles.proofs.Lists.{all-append, all-map, both-true, has-filter, has-outside}
 use Rattle.dead_nozzles.proofs.Firing.{under}
@@ -22,12 +22,12 @@ use Rattle.dead_nozzles.proofs.Taking.{IsPass, OfPasses}
 -- ---- strokes among others
 
 -- a stroke that starts no lower than the others is the first
-pub insert-first : (s : Stroke) (ts : List Stroke) → AllByRecursion (λ (t : Stroke). s.start ≤ t.start) ts → insert s ts ≡ s ∷ ts
+pub insert-first : (s : HeadStroke) (ts : List HeadStroke) → AllByRecursion (λ (t : HeadStroke). s.start ≤ t.start) ts → insert s ts ≡ s ∷ ts
 insert-first s [] all = refl
 insert-first s (t ∷ ts) all = ap (λ b. cond b (s ∷ t ∷ ts) (t ∷ insert s ts)) (le-leb s.start t.start all.0)
 
 -- a stroke that starts above the others stays the first
-inserted-after : (t : Stroke) (ss ts : List Stroke) → AllByRecursion (λ (s : Stroke). t.start < s.start) ss → inserted ss (t ∷ ts) ≡ t ∷ inserted ss ts
+inserted-after : (t : HeadStroke) (ss ts : List HeadStroke) → AllByRecursion (λ (s : HeadStroke). t.start < s.start) ss → inserted ss (t ∷ ts) ≡ t ∷ inserted ss ts
 inserted-after t [] ts all = refl
 inserted-after t (s ∷ ss) ts all =
     ap (insert s) (inserted-after t ss ts all.1)
@@ -36,7 +36,7 @@ inserted-after t (s ∷ ss) ts all =
 -- ---- the rows that have no owner yet
 
 -- the passes from one on
-abbrev pub passes_from : Head → ℕ → ℕ → List Stroke
+abbrev pub passes_from : Head → ℕ → ℕ → List HeadStroke
 passes_from h first many = map (λ t. stroke_at h (λ row. true) (t * h.nozzles)) (count_from first many)
 
 -- the rows from one on without an owner
@@ -82,7 +82,7 @@ free-next h owners j start taken = elim (cases_lt (start + j * h.pitch) (head_ro
 -- The strokes that start above a row are done; the others are what the definition makes of the rows without an owner,
 -- and of the passes that are left.
 pub record Scan (h : Head) (j start : ℕ) (owners : List (Option ℕ)) (starts : List ℕ) : Type 0 where
-  pub done : List Stroke
+  pub done : List HeadStroke
   pub next : ℕ
   pub left : ℕ
   pub most : ℕ
@@ -92,9 +92,9 @@ pub record Scan (h : Head) (j start : ℕ) (owners : List (Option ℕ)) (starts 
   pub near : next * h.nozzles < start + h.nozzles
   pub all : all_strokes h ≡ done ++ inserted (made_up h j most (free_from h owners (row_at h j start))) (passes_from h next left)
   pub enough : length (free_from h owners (row_at h j start)) ≤ most
-  pub starts_are : starts ≡ map (λ (s : Stroke). s.start) done
+  pub starts_are : starts ≡ map (λ (s : HeadStroke). s.start) done
   pub own : AllByRecursion (Owns h owners) done
-  pub higher : AllByRecursion (λ (s : Stroke). s.start < start) done
+  pub higher : AllByRecursion (λ (s : HeadStroke). s.start < start) done
   pub owned : (row : ℕ) → row < row_at h j start → row < h.height → is_free (owner owners row) ≡ false
   pub of_passes : OfPasses h owners
   pub before : (row k : ℕ) → row < h.height → owner owners row ≡ Some k → (k < start) ⊎ IsPass h k
@@ -192,11 +192,11 @@ pass-owns h owners t of i few = stroke-row h (λ row. true) (t * h.nozzles) i fe
     by_row None e = refl
     by_row (Some y) e = ap (λ b. cond b (Some y) None) (whole (not (has h.dead i)) ∙ sym (of t i y few e))
 
-pub map-more : (xs : List Stroke) (s : Stroke) (start : ℕ) (starts : List ℕ) → starts ≡ map (λ (s : Stroke). s.start) xs → s.start ≡ start
-    → starts ++ start ∷ [] ≡ map (λ (s : Stroke). s.start) (xs ++ s ∷ [])
+pub map-more : (xs : List HeadStroke) (s : HeadStroke) (start : ℕ) (starts : List ℕ) → starts ≡ map (λ (s : HeadStroke). s.start) xs → s.start ≡ start
+    → starts ++ start ∷ [] ≡ map (λ (s : HeadStroke). s.start) (xs ++ s ∷ [])
 map-more xs s start starts e same =
-    ap (λ ys. ys ++ start ∷ []) e ∙ ap (λ n. map (λ (s : Stroke). s.start) xs ++ n ∷ []) (sym same)
-    ∙ sym (map-append (λ (s : Stroke). s.start) xs (s ∷ []))
+    ap (λ ys. ys ++ start ∷ []) e ∙ ap (λ n. map (λ (s : HeadStroke). s.start) xs ++ n ∷ []) (sym same)
+    ∙ sym (map-append (λ (s : HeadStroke). s.start) xs (s ∷ []))
 
 pub scan-pass : (h : Head) (j start : ℕ) (owners : List (Option ℕ)) (starts : List ℕ) (t : ℕ) → Maker h j → 1 ≤ h.nozzles
     → start < head_rows h + h.height → start ≡ t * h.nozzles → Scan h j start owners starts
@@ -218,8 +218,8 @@ scan-pass h j start owners starts t m some low e s = record {
   enough = omega (arith, s.enough, ap length same_rows);
   starts_are = map-more s.done first start starts s.starts_are (sym begins);
   own = all-append (Owns h owners) s.done (first ∷ []) s.own (pass-owns h owners s.next s.of_passes, tt);
-  higher = all-append (λ (d : Stroke). d.start < start + 1) s.done (first ∷ [])
-      (all-map (λ (d : Stroke). d.start < start) (λ (d : Stroke). d.start < start + 1) s.done (λ d less. omega (arith, less)) s.higher)
+  higher = all-append (λ (d : HeadStroke). d.start < start + 1) s.done (first ∷ [])
+      (all-map (λ (d : HeadStroke). d.start < start) (λ (d : HeadStroke). d.start < start + 1) s.done (λ d less. omega (arith, less)) s.higher)
       (omega (arith, begins), tt);
   owned = owned-next h owners j start taken s.owned;
   of_passes = s.of_passes;
@@ -238,7 +238,7 @@ scan-pass h j start owners starts t m some low e s = record {
     more : s.left ≡ suc (s.left - 1)
     more = omega (arith, s.passes, pass-counts h s.next some (omega (arith, begins, low)))
 
-    first : Stroke
+    first : HeadStroke
     first = stroke_at h (λ row. true) (s.next * h.nozzles)
 
     taken : (row : ℕ) → row_under h start j ≡ Some row → is_free (owner owners row) ≡ false
@@ -247,7 +247,7 @@ scan-pass h j start owners starts t m some low e s = record {
     same_rows : free_from h owners (row_at h j start) ≡ free_from h owners (row_at h j (start + 1))
     same_rows = free-next h owners j start taken
 
-    below : (k : Stroke) → StartsAt h j rows k → first.start < k.start
+    below : (k : HeadStroke) → StartsAt h j rows k → first.start < k.start
     below k at =
         let is : IsFreeRow h owners (row_at h j start) at.row = free-row h owners (row_at h j start) at.row at.is in
         elim (cases_eq (start + j * h.pitch) (head_rows h + at.row)) [
@@ -255,8 +255,8 @@ scan-pass h j start owners starts t m some low e s = record {
           | inr apart ↦ omega (arith, apart, is.after, begins, at.start, reach h j m)
         ]
 
-    later : AllByRecursion (λ (k : Stroke). first.start < k.start) (made_up h j s.most rows)
-    later = all-map (StartsAt h j rows) (λ (k : Stroke). first.start < k.start) (made_up h j s.most rows) below (made-starts h j s.most rows)
+    later : AllByRecursion (λ (k : HeadStroke). first.start < k.start) (made_up h j s.most rows)
+    later = all-map (StartsAt h j rows) (λ (k : HeadStroke). first.start < k.start) (made_up h j s.most rows) below (made-starts h j s.most rows)
 
 -- ---- nothing begins
 
@@ -278,7 +278,7 @@ scan-nothing h j start owners starts apart taken s =
       enough = omega (arith, s.enough, ap length same_rows);
       starts_are = s.starts_are;
       own = s.own;
-      higher = all-map (λ (d : Stroke). d.start < start) (λ (d : Stroke). d.start < start + 1) s.done (λ d less. omega (arith, less)) s.higher;
+      higher = all-map (λ (d : HeadStroke). d.start < start) (λ (d : HeadStroke). d.start < start + 1) s.done (λ d less. omega (arith, less)) s.higher;
       owned = owned-next h owners j start taken s.owned;
       of_passes = s.of_passes;
       before = λ row k low e. elim (s.before row k low e) [ inl less ↦ inl (omega (arith, less)) | inr is ↦ inr is ];

@@ -7,7 +7,7 @@ use Rattle.std.specs.List.{AllByRecursion}
 use Rattle.base_definitions.specs.Counting.{count_from}
 use Rattle.weave_definitions.specs.Weave.{pass_count}
 use Rattle.dead_nozzles.specs.Dead.{has}
-use Rattle.dead_nozzles.specs.Strokes.{AreLive, Head, IsHead, IsLiveShot, Shot, StartsRise, Stroke, all_strokes, firings_of, head_rows, insert, inserted}
+use Rattle.dead_nozzles.specs.Strokes.{AreLive, Head, IsHead, IsLiveShot, Shot, StartsRise, HeadStroke, all_strokes, firings_of, head_rows, insert, inserted}
 use Rattle.dead_nozzles.specs.Strokes.{is_fired, left_by, made_up, made_up_by, make_up_stroke, make_up_strokes, missing, regular_strokes, row_under, shot, stroke_at}
 use Rattle.dead_nozzles.proofs.Lists.{all-filter, all-flat, all-map, all-mapped, both-true, has-outside}
 use Rattle.dead_nozzles.proofs.Firing.{is-fired, over, regular-tells}
@@ -15,7 +15,7 @@ use Rattle.dead_nozzles.proofs.MakeUp.{AreLow, Maker, has-first, has-left, maker
 
 -- ---- strokes among strokes
 
-all-insert : (P : Stroke → Type 0) (s : Stroke) (ts : List Stroke) → P s → AllByRecursion P ts → AllByRecursion P (insert s ts)
+all-insert : (P : HeadStroke → Type 0) (s : HeadStroke) (ts : List HeadStroke) → P s → AllByRecursion P ts → AllByRecursion P (insert s ts)
 all-insert P s [] p all = (p, tt)
 all-insert P s (t ∷ ts) p all = by_order (nat_le s.start t.start) (all-insert P s ts p all.1)
   where
@@ -23,13 +23,13 @@ all-insert P s (t ∷ ts) p all = by_order (nat_le s.start t.start) (all-insert 
     by_order true later = (p, all)
     by_order false later = (all.0, later)
 
-pub all-inserted : (P : Stroke → Type 0) (ss ts : List Stroke) → AllByRecursion P ss → AllByRecursion P ts → AllByRecursion P (inserted ss ts)
+pub all-inserted : (P : HeadStroke → Type 0) (ss ts : List HeadStroke) → AllByRecursion P ss → AllByRecursion P ts → AllByRecursion P (inserted ss ts)
 all-inserted P [] ts more all = all
 all-inserted P (s ∷ ss) ts more all = all-insert P s (inserted ss ts) more.0 (all-inserted P ss ts more.1 all)
 
 -- ---- live nozzles
 
-abbrev IsLive : Head → Stroke → Type 0
+abbrev IsLive : Head → HeadStroke → Type 0
 IsLive h s = AllByRecursion (IsLiveShot h s.start) s.shots
 
 shot-live : (h : Head) (wanted : ℕ → Bool) (start i : ℕ) → i < h.nozzles → AllByRecursion (IsLiveShot h start) (shot h wanted i (row_under h start i))
@@ -73,7 +73,7 @@ all-live h is =
 
 -- ---- starts
 
-insert-rises : (s : Stroke) (ts : List Stroke) → StartsRise ts → AllByRecursion (λ (k : Stroke). k.start ≢ s.start) ts → StartsRise (insert s ts)
+insert-rises : (s : HeadStroke) (ts : List HeadStroke) → StartsRise ts → AllByRecursion (λ (k : HeadStroke). k.start ≢ s.start) ts → StartsRise (insert s ts)
 insert-rises s [] rises apart = (tt, tt)
 insert-rises s (t ∷ ts) rises apart = by_order (nat_le s.start t.start) (insert-rises s ts rises.1 apart.1) refl
   where
@@ -83,17 +83,17 @@ insert-rises s (t ∷ ts) rises apart = by_order (nat_le s.start t.start) (inser
         let less : s.start < t.start = omega (arith, most, apart.0) in (
           (
             less,
-            all-map (λ (k : Stroke). t.start < k.start) (λ (k : Stroke). s.start < k.start) ts
+            all-map (λ (k : HeadStroke). t.start < k.start) (λ (k : HeadStroke). s.start < k.start) ts
                 (λ k after. omega (arith, less, after)) rises.0,
           ),
           rises,
         )
     by_order false later e =
         let less : t.start < s.start = leb-false s.start t.start e in
-        (all-insert (λ (k : Stroke). t.start < k.start) s ts less rises.0, later)
+        (all-insert (λ (k : HeadStroke). t.start < k.start) s ts less rises.0, later)
 
 -- where a make-up stroke starts
-pub record StartsAt (h : Head) (j : ℕ) (rows : List ℕ) (k : Stroke) : Type 0 where
+pub record StartsAt (h : Head) (j : ℕ) (rows : List ℕ) (k : HeadStroke) : Type 0 where
   pub row : ℕ
   pub is : has rows row ≡ true
   pub start : k.start ≡ row + head_rows h - j * h.pitch
@@ -112,21 +112,21 @@ made-starts h j (suc most) (row ∷ rows) =
           (λ k s. record { row = s.row; is = (left-has shots (row ∷ rows) s.row s.is).0; start = s.start }) (made-starts h j most left),
     )
 
-made-rise : (h : Head) (j most : ℕ) (rows : List ℕ) (base : List Stroke) → Maker h j → AreLow h rows → StartsRise base
-    → ((y : ℕ) → has rows y ≡ true → AllByRecursion (λ (k : Stroke). k.start ≢ y + head_rows h - j * h.pitch) base)
+made-rise : (h : Head) (j most : ℕ) (rows : List ℕ) (base : List HeadStroke) → Maker h j → AreLow h rows → StartsRise base
+    → ((y : ℕ) → has rows y ≡ true → AllByRecursion (λ (k : HeadStroke). k.start ≢ y + head_rows h - j * h.pitch) base)
     → StartsRise (inserted (made_up h j most rows) base)
 made-rise h j zero rows base m low rises apart = rises
 made-rise h j (suc most) [] base m low rises apart = rises
 made-rise h j (suc most) (row ∷ rows) base m low rises apart =
-    let made : Stroke = make_up_stroke h j row (row ∷ rows) in
+    let made : HeadStroke = make_up_stroke h j row (row ∷ rows) in
     let left : List ℕ = left_by made.shots (row ∷ rows) in
-    let rest : List Stroke = made_up h j most left in
+    let rest : List HeadStroke = made_up h j most left in
     let made_row : is_fired made.shots row ≡ true = makes h j row (row ∷ rows) m (has-first row rows) low.0 in
     insert-rises made (inserted rest base)
     (made-rise h j most left base m (all-filter (λ y. y < h.height) (λ row. not (is_fired made.shots row)) (row ∷ rows) low) rises
     (λ y e. apart y (left-has made.shots (row ∷ rows) y e).0))
-    (all-inserted (λ (k : Stroke). k.start ≢ made.start) rest base
-    (all-map (StartsAt h j left) (λ (k : Stroke). k.start ≢ made.start) rest
+    (all-inserted (λ (k : HeadStroke). k.start ≢ made.start) rest base
+    (all-map (StartsAt h j left) (λ (k : HeadStroke). k.start ≢ made.start) rest
     (λ k s same. twice made.shots row s.row (let e : s.row ≡ row = omega (arith, same, s.start, reach h j m) in e) made_row
     (not-true (is_fired made.shots s.row) (left-has made.shots (row ∷ rows) s.row s.is).1))
     (made-starts h j most left))
@@ -138,7 +138,7 @@ made-rise h j (suc most) (row ∷ rows) base m low rises apart =
 regular-rise : (h : Head) (n many : ℕ) → 1 ≤ h.nozzles → StartsRise (map (λ t. stroke_at h (λ row. true) (t * h.nozzles)) (count_from n many))
 regular-rise h n zero some = tt
 regular-rise h n (suc many) some = (
-  all-mapped (λ (k : Stroke). n * h.nozzles < k.start) (λ t. stroke_at h (λ row. true) (t * h.nozzles)) (n + 1) many
+  all-mapped (λ (k : HeadStroke). n * h.nozzles < k.start) (λ t. stroke_at h (λ row. true) (t * h.nozzles)) (n + 1) many
       (λ t from below. let next : (n + 1) * h.nozzles ≤ t * h.nozzles = mul-le-mul_right h.nozzles from in
       let spread : (n + 1) * h.nozzles ≡ n * h.nozzles + h.nozzles = omega arith in omega (arith, next, spread, some)),
   regular-rise h (n + 1) many some,
@@ -146,7 +146,7 @@ regular-rise h n (suc many) some = (
 
 -- no pass starts where a missing row is made up
 regular-apart : (h : Head) (is : IsHead h) (y : ℕ) → has (missing h) y ≡ true
-    → AllByRecursion (λ (k : Stroke). k.start ≢ y + head_rows h - is.live * h.pitch) (regular_strokes h)
+    → AllByRecursion (λ (k : HeadStroke). k.start ≢ y + head_rows h - is.live * h.pitch) (regular_strokes h)
 regular-apart h is y e =
     let m : Maker h is.live = maker h is in
     let shots : List Shot = firings_of (regular_strokes h) in
@@ -155,7 +155,7 @@ regular-apart h is y e =
     let not_fired : is_fired shots y ≡ false = not-true (is_fired shots y) parts.1 in
     elim (regular-tells h y is.some_nozzles is.some_pitch is.coprime) [
       | inl one ↦ absurd (let fired : is_fired shots y ≡ true = is-fired y shots one.once in let b : true ≡ false = sym fired ∙ not_fired in cc)
-      | inr nowhere ↦ all-mapped (λ (k : Stroke). k.start ≢ y + head_rows h - is.live * h.pitch)
+      | inr nowhere ↦ all-mapped (λ (k : HeadStroke). k.start ≢ y + head_rows h - is.live * h.pitch)
           (λ t. stroke_at h (λ row. true) (t * h.nozzles)) 0 (pass_count h.nozzles h.pitch h.height)
           (λ t from below same. nowhere.none t from below (record {
             nozzle = is.live;

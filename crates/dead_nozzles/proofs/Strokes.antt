@@ -13,7 +13,7 @@ use Rattle.weave_definitions.specs.Weave.{pass_count}
 use Rattle.dead_nozzles.specs.Dead.{has, least_live}
 use Rattle.dead_nozzles.specs.Plans.{ArePassOwners, Begins, IsStrokePlan, IsWorn, Owns, is_free, owner, row_of, stroke_in}
 use Rattle.dead_nozzles.specs.Plans.Begins.{a_make_up, a_pass, nothing}
-use Rattle.dead_nozzles.specs.Strokes.{Head, IsHead, StartsRise, Stroke, all_strokes, firings_of, head_rows, insert, is_fired, inserted, left_by, made_up, made_up_by, make_up_stroke}
+use Rattle.dead_nozzles.specs.Strokes.{Head, IsHead, StartsRise, HeadStroke, all_strokes, firings_of, head_rows, insert, is_fired, inserted, left_by, made_up, made_up_by, make_up_stroke}
 use Rattle.dead_nozzles.specs.Strokes.{make_up_strokes, missing, regular_strokes, row_under, stroke_at}
 use Rattle.dead_nozzles.proofs.Firing.{Over, over}
 use Rattle.dead_nozzles.proofs.Lists.{all-has, all-map, all-mapped}
@@ -76,7 +76,7 @@ pub scan-end : (h : Head) (j start : ℕ) (owners : List (Option ℕ)) (starts :
 scan-end h j start owners starts is worn past s = record {
   head = is;
   worn = worn;
-  starts_are = s.starts_are ∙ ap (map (λ (d : Stroke). d.start)) (sym all);
+  starts_are = s.starts_are ∙ ap (map (λ (d : HeadStroke). d.start)) (sym all);
   rows = s.rows;
   own = subst (AllByRecursion (Owns h owners)) (sym all) s.own;
 }
@@ -100,7 +100,7 @@ scan-end h j start owners starts is worn past s = record {
 -- ---- which strokes they are
 
 -- A stroke in which live nozzles fire the rows under them that are wanted.
-pub record IsStrokeAt (h : Head) (s : Stroke) : Type 0 where
+pub record IsStrokeAt (h : Head) (s : HeadStroke) : Type 0 where
   pub wanted : ℕ → Bool
   pub start : ℕ
   pub is : s ≡ stroke_at h wanted start
@@ -122,11 +122,11 @@ all-are h is =
     (λ t from below. record { wanted = λ row. true; start = t * h.nozzles; is = refl }))
 
 -- the row of a nozzle is under it
-pub row-over : (h : Head) (s : Stroke) (i y : ℕ) → i < h.nozzles → IsStrokeAt h s → row_of s.shots i ≡ Some y → Over h s.start i y
+pub row-over : (h : Head) (s : HeadStroke) (i y : ℕ) → i < h.nozzles → IsStrokeAt h s → row_of s.shots i ≡ Some y → Over h s.start i y
 row-over h s i y few shape e =
-    subst (λ (s : Stroke). Over h s.start i y) (sym shape.is)
+    subst (λ (s : HeadStroke). Over h s.start i y) (sym shape.is)
     (by_row (row_under h shape.start i) refl
-    (sym (stroke-row h shape.wanted shape.start i few) ∙ ap (λ (s : Stroke). row_of s.shots i) (sym shape.is) ∙ e))
+    (sym (stroke-row h shape.wanted shape.start i few) ∙ ap (λ (s : HeadStroke). row_of s.shots i) (sym shape.is) ∙ e))
   where
     by_test : (row : ℕ) (b : Bool) → row_under h shape.start i ≡ Some row → cond b (Some row) None ≡ Some y → Over h shape.start i y
     by_test row true u same = over h shape.start i y (u ∙ same)
@@ -139,17 +139,17 @@ row-over h s i y few shape e =
 -- ---- how far down, and how many
 
 -- each stroke starts above the end of the window
-pub all-low : (h : Head) → IsHead h → AllByRecursion (λ (s : Stroke). s.start < head_rows h + h.height) (all_strokes h)
+pub all-low : (h : Head) → IsHead h → AllByRecursion (λ (s : HeadStroke). s.start < head_rows h + h.height) (all_strokes h)
 all-low h is =
-    all-inserted (λ (s : Stroke). s.start < head_rows h + h.height) (make_up_strokes h) (regular_strokes h)
-    (subst (λ o. AllByRecursion (λ (s : Stroke). s.start < head_rows h + h.height) (made_up_by h o)) (sym is.is_live)
-    (all-map (StartsAt h is.live (missing h)) (λ (s : Stroke). s.start < head_rows h + h.height) (made_up h is.live (length (missing h)) (missing h))
+    all-inserted (λ (s : HeadStroke). s.start < head_rows h + h.height) (make_up_strokes h) (regular_strokes h)
+    (subst (λ o. AllByRecursion (λ (s : HeadStroke). s.start < head_rows h + h.height) (made_up_by h o)) (sym is.is_live)
+    (all-map (StartsAt h is.live (missing h)) (λ (s : HeadStroke). s.start < head_rows h + h.height) (made_up h is.live (length (missing h)) (missing h))
     (λ s at. let low : at.row < h.height = all-has (λ y. y < h.height) (missing h) at.row (missing-low h) at.is in
     omega (arith, low, at.start)) (made-starts h is.live (length (missing h)) (missing h))))
-    (all-mapped (λ (s : Stroke). s.start < head_rows h + h.height) (λ t. stroke_at h (λ row. true) (t * h.nozzles)) 0
+    (all-mapped (λ (s : HeadStroke). s.start < head_rows h + h.height) (λ t. stroke_at h (λ row. true) (t * h.nozzles)) 0
     (pass_count h.nozzles h.pitch h.height) (λ t from below. pass-begins h t is.some_nozzles (omega (arith, below))))
 
-insert-len : (s : Stroke) (ts : List Stroke) → length (insert s ts) ≡ suc (length ts)
+insert-len : (s : HeadStroke) (ts : List HeadStroke) → length (insert s ts) ≡ suc (length ts)
 insert-len s [] = refl
 insert-len s (t ∷ ts) = by_order (nat_le s.start t.start) (insert-len s ts)
   where
@@ -157,7 +157,7 @@ insert-len s (t ∷ ts) = by_order (nat_le s.start t.start) (insert-len s ts)
     by_order true e = refl
     by_order false e = ap suc e
 
-inserted-len : (ss ts : List Stroke) → length (inserted ss ts) ≡ length ss + length ts
+inserted-len : (ss ts : List HeadStroke) → length (inserted ss ts) ≡ length ss + length ts
 inserted-len [] ts = omega arith
 inserted-len (s ∷ ss) ts = omega (arith, insert-len s (inserted ss ts), inserted-len ss ts)
 
@@ -204,11 +204,11 @@ pub start-in : (h : Head) (starts : List ℕ) (owners : List (Option ℕ)) (plac
     → get_or starts place 0 ≡ (stroke_in (all_strokes h) place).start
 start-in h starts owners place is low =
     ap (λ ns. get_or ns place 0) is.starts_are
-    ∙ get_or-map (λ (s : Stroke). s.start) (all_strokes h) place (record { start = 0; shots = [] }) 0 low
+    ∙ get_or-map (λ (s : HeadStroke). s.start) (all_strokes h) place (record { start = 0; shots = [] }) 0 low
 
 pub in-low : (h : Head) (place : ℕ) → IsHead h → place < length (all_strokes h) → (stroke_in (all_strokes h) place).start < head_rows h + h.height
 in-low h place is low =
-    All-from_recursion (λ (s : Stroke). s.start < head_rows h + h.height) (all_strokes h) (all-low h is) place (record { start = 0; shots = [] }) low
+    All-from_recursion (λ (s : HeadStroke). s.start < head_rows h + h.height) (all_strokes h) (all-low h is) place (record { start = 0; shots = [] }) low
 
 -- the row of a nozzle at a place, if it has one, is on the window
 pub in-over : (h : Head) (place i y : ℕ) → IsHead h → i < h.nozzles → row_of (stroke_in (all_strokes h) place).shots i ≡ Some y
@@ -217,24 +217,24 @@ in-over h place i y is few e =
     elim (cases_lt place (length (all_strokes h))) [
       | inl low ↦ row-over h (stroke_in (all_strokes h) place) i y few
           (All-from_recursion (IsStrokeAt h) (all_strokes h) (all-are h is) place (record { start = 0; shots = [] }) low) e
-      | inr past ↦ absurd (none (ap (λ (s : Stroke). row_of s.shots i) (sym (get_or_past (all_strokes h) place (record { start = 0; shots = [] }) past)) ∙ e))
+      | inr past ↦ absurd (none (ap (λ (s : HeadStroke). row_of s.shots i) (sym (get_or_past (all_strokes h) place (record { start = 0; shots = [] }) past)) ∙ e))
     ]
   where
     none : None ≡ Some y → ⊥
     none e = cc
 
 -- strokes further on start no higher
-pub in-rises : (strokes : List Stroke) (i j : ℕ) → StartsRise strokes → i ≤ j → j < length strokes → (stroke_in strokes i).start ≤ (stroke_in strokes j).start
+pub in-rises : (strokes : List HeadStroke) (i j : ℕ) → StartsRise strokes → i ≤ j → j < length strokes → (stroke_in strokes i).start ≤ (stroke_in strokes j).start
 in-rises [] i j rises le low = absurd (omega arith)
 in-rises (s ∷ strokes) zero zero rises le low = omega arith
 in-rises (s ∷ strokes) zero (suc j) rises le low =
     let less : s.start < (stroke_in strokes j).start =
-    All-from_recursion (λ (t : Stroke). s.start < t.start) strokes rises.0 j (record { start = 0; shots = [] }) (omega (arith, low)) in omega (arith, less)
+    All-from_recursion (λ (t : HeadStroke). s.start < t.start) strokes rises.0 j (record { start = 0; shots = [] }) (omega (arith, low)) in omega (arith, less)
 in-rises (s ∷ strokes) (suc i) zero rises le low = absurd (omega arith)
 in-rises (s ∷ strokes) (suc i) (suc j) rises le low = in-rises strokes i j rises.1 (omega (arith, le)) (omega (arith, low))
 
 -- each stroke at its place, one after another
-pub map-places : {B : Type 0} (f : Stroke → B) (strokes : List Stroke) (g : ℕ → Stroke) (n : ℕ)
+pub map-places : {B : Type 0} (f : HeadStroke → B) (strokes : List HeadStroke) (g : ℕ → HeadStroke) (n : ℕ)
     → ((k : ℕ) → k < length strokes → g (n + k) ≡ stroke_in strokes k) → map f strokes ≡ map (λ k. f (g k)) (count_from n (length strokes))
 map-places f [] g n same = refl
 map-places f (s ∷ strokes) g n same =
@@ -256,7 +256,7 @@ all-count h starts owners is =
     omega (
       arith,
       ap length is.starts_are,
-      length-map (all_strokes h) (λ (s : Stroke). s.start),
+      length-map (all_strokes h) (λ (s : HeadStroke). s.start),
       all-few h is.head,
       missing-few h,
       div-le_self passes h.nozzles,

@@ -2,7 +2,7 @@
 use Rattle.base_definitions.specs.Counting.{count_from}
 use Rattle.base_definitions.specs.Limits.{most_rows}
 use Rattle.dead_nozzles.specs.Dead.{has}
-use Rattle.dead_nozzles.specs.Strokes.{Head, IsHead, Shot, Stroke, all_strokes, is_fired, row_under, stroke_at}
+use Rattle.dead_nozzles.specs.Strokes.{Head, IsHead, Shot, HeadStroke, all_strokes, is_fired, row_under, stroke_at}
 use Rattle.std.specs.Prelude.{◌≡◌, ◌≢◌, ℕ, ◌*◌, ◌==◌, ◌<◌, ◌≤◌, Bool, true, false, cond, if◌then◌else◌}
 use Rattle.std.specs.Prelude.{List, [], ◌∷◌, length, map, slice_index_or, Option, Some, None}
 use Rattle.std.specs.List.{AllByRecursion, filter}
@@ -11,7 +11,7 @@ use Rattle.weave_definitions.specs.Weave.{nozzle_row}
 -- ---- a stroke of a list, and the row of a nozzle
 
 -- the stroke at a place of a list; past its end, one that fires nothing
-abbrev pub stroke_in : List Stroke → ℕ → Stroke
+abbrev pub stroke_in : List HeadStroke → ℕ → HeadStroke
 stroke_in strokes place = slice_index_or strokes place (record { start = 0; shots = [] })
 
 -- the row that a nozzle fires, if it fires one
@@ -46,7 +46,7 @@ owned_row owners start None = None
 owned_row owners start (Some row) = cond (is_of start (owner owners row)) (Some row) None
 
 -- Each nozzle fires in a stroke the row under it, where the stroke is the row's owner, and no other.
-abbrev pub Owns : Head → List (Option ℕ) → Stroke → Type 0
+abbrev pub Owns : Head → List (Option ℕ) → HeadStroke → Type 0
 Owns h owners stroke =
     (nozzle : ℕ) → nozzle < h.nozzles → row_of stroke.shots nozzle ≡ owned_row owners stroke.start (row_under h stroke.start nozzle)
 
@@ -68,7 +68,7 @@ pub record IsWorn (nozzles pitch height : ℕ) : Type 0 where
 pub record IsStrokePlan (h : Head) (starts : List ℕ) (owners : List (Option ℕ)) : Type 0 where
   pub head : IsHead h
   pub worn : IsWorn h.nozzles h.pitch h.height
-  pub starts_are : starts ≡ map (λ (s : Stroke). s.start) (all_strokes h)
+  pub starts_are : starts ≡ map (λ (s : HeadStroke). s.start) (all_strokes h)
   pub rows : length owners ≡ h.height
   pub own : AllByRecursion (Owns h owners) (all_strokes h)
 

@@ -4,8 +4,8 @@ use Rattle.dot_planes.specs.Tables.{DotTable, HasSizeOf, dot, row_dot}
 use Rattle.dot_planes.specs.Tiles.{IsTilePixel, tile_dot}
 use Rattle.dot_planes.specs.declared.tiles.TileDots.{TileDots}
 
--- Every ink has the pixels of band j, on or off, as its tiles have them, and all rows outside of the band are unchanged.
--- The tiles are listed by column, in a slab of `height` rows that begins at row `first`.
+-- Every ink has the pixels of band j, on or off, as its tiles have them, and all rows outside of the band are
+-- unchanged. The tiles are listed by column, in a slab of `height` rows that begins at row `first`.
 pub record PutsBand (old new : DotTable) (first height j : ℕ) (tiles : List TileDots) : Type 0 where
   pub size : HasSizeOf old new
   pub pixels : (i row offset c y x : ℕ) (d : TileDots) → i < old.inks
@@ -21,8 +21,8 @@ pub record PutsBandInk (old new : DotTable) (first rows i : ℕ) (tiles : List T
       → dot new i (first + row) x ≡ tile_dot (slice_index_or tiles c d).bits i row offset
   pub others : (k y x : ℕ) → y < old.rows → (k ≢ i) ⊎ ((y < first) ⊎ (first + rows ≤ y)) → dot new k y x ≡ dot old k y x
 
--- Row y of an ink has the dots of row r of a band, whose eight bytes of each tile stand side by side, and all other rows
--- are unchanged.
+-- Row y of an ink has the dots of row r of a band, whose eight bytes of each tile stand side by side, and all other
+-- rows are unchanged.
 pub record PutsBandRow (old new : DotTable) (i y r : ℕ) (wide : List ℕ) : Type 0 where
   pub size : HasSizeOf old new
   pub pixels : (x : ℕ) → x < old.width → dot new i y x ≡ row_dot wide (x + 2 * r)

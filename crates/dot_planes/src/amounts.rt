@@ -22,7 +22,8 @@ impl TileAmounts {
 /// Room for the bytes of a tile's pixels as they were read: at most 256 of each of its 32 rows.
 pub type TileBytes = [u8; 8192];
 
-/// Rows of amounts of inks, from which tiles are gathered. Contracts see a table of amounts, and not how these are kept.
+/// Rows of amounts of inks, from which tiles are gathered. Contracts see a table of amounts, and not how these are
+/// kept.
 pub trait TileRows {
     ghost use Rattle.dot_planes.specs.Gathered.{HasTile, shape_of};
     ghost use Rattle.dot_planes.specs.Tables.{AmountTable};

@@ -130,14 +130,14 @@ impl From<AllocError> for Stop {
 
 // The bytes that are not yet read, and the page and the line that they begin with.
 #[derive(Drop)]
-struct Unread<'a> {
+struct StreamLeft<'a> {
     rest: &'a [u8],
     page: u32,
     line: u32,
     alloc: Global,
 }
 
-impl<'a> Unread<'a> {
+impl<'a> StreamLeft<'a> {
     fn refuse<T>(&self, cause: &'static str) -> Result<T, Stop> {
         Err(Stop::Fault(StreamFault {
             page: self.page,
@@ -238,7 +238,7 @@ impl<'a> Unread<'a> {
 /// The pages of a stream, and where it stops.
 pub fn read_stream(alloc: Global, bytes: &[u8]) -> Result<PlainStream, AllocError> {
     let mut pages = Vec::new(alloc);
-    let mut unread = Unread {
+    let mut unread = StreamLeft {
         rest: bytes.get(4..).unwrap_or(&[]),
         page: 0,
         line: 0,

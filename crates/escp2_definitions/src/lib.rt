@@ -3,9 +3,9 @@
 //!
 //! The command table and the machine are this project's own profile after Epson's ESC/P Reference Manual.
 //! `specs/Commands.antt` has the table, the spellings and how bytes are read; `RowCode.antt` the code of rows, and
-//! `Least.antt` the shortest code of a row; `Written.antt` what a writer makes of a command; `Machine.antt` the machine;
-//! `JobEnds.antt` how a job ends. The types are declared here because the definitions mention them; `escp2_commands` and the crates that answer
-//! them re-export them.
+//! `Least.antt` the shortest code of a row; `Written.antt` what a writer makes of a command; `Machine.antt` the
+//! machine; `JobEnds.antt` how a job ends. The types are declared here because the definitions mention them;
+//! `escp2_commands` and the crates that answer them re-export them.
 #![tactic(auto)]
 
 mod command;

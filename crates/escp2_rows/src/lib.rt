@@ -1,6 +1,6 @@
 //! The code of raster rows (ESC/P Reference Manual, run length encoding of `ESC .`): rows read from pieces of any
-//! length, and the least code of a row, which is written. `escp2_laws` shows that this code is one of its row, and that no
-//! other is shorter.
+//! length, and the least code of a row, which is written. `escp2_laws` shows that this code is one of its row, and that
+//! no other is shorter.
 //!
 //! A `RowReader` stands for the bytes of rows that it has read (`StandsFor`), however they were cut into pieces. `feed`
 //! appends exactly what the bytes that it uses give, to a vector that has room for all that is left, and answers `More`

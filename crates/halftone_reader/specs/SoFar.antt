@@ -54,8 +54,8 @@ pub record Begun : Type 0 where
   pub reader : PageReader
   pub before : Option (List ℕ)
 
--- What was read so far is a prefix of the page, and the halftoning stands for its lines, but for the last repeats of the
--- last line, which are still to be placed.
+-- What was read so far is a prefix of the page, and the halftoning stands for its lines, but for the last repeats of
+-- the last line, which are still to be placed.
 pub record HalftonedSoFar (b : Begun) (now : PageReader) (left : Option (List ℕ)) (f : Filling) (d : Diffusing) : Type 0 where
   pub lines : List (List ℕ)
   pub pending : ℕ

@@ -14,8 +14,8 @@ use std::thread::Threads;
 use wavefront_team::{Gate, Team};
 use weave_base::Source;
 
-/// Reads lines of the page into the slab until it is full or the page has no more. Where the slab before had no room for
-/// the last repeats of a line, these come first.
+/// Reads lines of the page into the slab until it is full or the page has no more. Where the slab before had no room
+/// for the last repeats of a line, these come first.
 pub(crate) fn fill<S: Source>(
     filler: &mut Filler,
     reader: &mut PageReader,

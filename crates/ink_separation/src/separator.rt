@@ -29,8 +29,8 @@ use separation_definitions::Window;
 
 /// How the lines of a page are separated, made once for the page.
 ///
-/// Contracts see its inks, the darkness from which black takes over, the inks' limits and curves, the kind of its pixels
-/// and its window.
+/// Contracts see its inks, the darkness from which black takes over, the inks' limits and curves, the kind of its
+/// pixels and its window.
 #[derive(Drop)]
 pub struct Separator {
     pub(crate) kind: Kind,

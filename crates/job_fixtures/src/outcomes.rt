@@ -1,6 +1,6 @@
 //! What the commands for print jobs write, by the slow programs.
 use crate::machine::Machine;
-use crate::reader::{Name, Said, Stop, Unread};
+use crate::reader::{JobBytesLeft, Name, Said, Stop};
 use std::alloc::{AllocError, Global};
 
 /// What a command makes of a job, by a slow program.
@@ -35,7 +35,7 @@ fn add_line(alloc: Global, at: u64, said: &Said, out: &mut Vec<u8>) -> Result<()
 // The commands of a job up to a stop.
 fn read(alloc: Global, job: &[u8]) -> Result<Commands, AllocError> {
     let mut said = Vec::new(alloc);
-    let mut unread = Unread {
+    let mut unread = JobBytesLeft {
         rest: job,
         at: 0,
         alloc,

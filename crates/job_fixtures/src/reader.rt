@@ -76,13 +76,13 @@ impl Said {
 
 /// The unread bytes of a job, and the offset of the first.
 #[derive(Clone, Copy)]
-pub struct Unread<'a> {
+pub struct JobBytesLeft<'a> {
     pub rest: &'a [u8],
     pub at: u64,
     pub alloc: Global,
 }
 
-impl Unread<'_> {
+impl JobBytesLeft<'_> {
     fn byte(&mut self) -> Result<u8, Stop> {
         let Some((byte, rest)) = self.rest.split_first() else {
             return Err(Stop::Cut);

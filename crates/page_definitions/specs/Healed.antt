@@ -3,7 +3,7 @@ use Rattle.std.specs.Prelude.{◌≡◌, ℕ, ◌+◌, Bool, true, false, List, 
 use Rattle.base_definitions.specs.Counting.{count_from}
 use Rattle.dead_nozzles.specs.Dead.{has}
 use Rattle.dead_nozzles.specs.Plans.{row_of}
-use Rattle.dead_nozzles.specs.Strokes.{Head, Shot, Stroke as HeadStroke, all_strokes, missing}
+use Rattle.dead_nozzles.specs.Strokes.{Head, Shot, HeadStroke, all_strokes, missing}
 use Rattle.page_definitions.specs.Dots.{Halftone}
 use Rattle.page_definitions.specs.PageBytes.{fired_row, page_coding}
 use Rattle.page_definitions.specs.Strokes.{Stroke, Strokes, strokes_bytes}

@@ -108,8 +108,8 @@ filled f = rows_done (window_filled f) f.count - f.first
 abbrev pub IsFull : Filling → Type 0
 IsFull f = rows_done (window_filled f) f.count ≡ f.first + f.slab.rows
 
--- A slab of a page's window: as wide as that, in the printer's inks, with whole bands of rows, at most 256, or those that
--- are left. The rows that have come are before the slab, or in it.
+-- A slab of a page's window: as wide as that, in the printer's inks, with whole bands of rows, at most 256, or those
+-- that are left. The rows that have come are before the slab, or in it.
 pub record HoldsRows (f : Filling) : Type 0 where
   pub width : f.slab.width ≡ (window_filled f).width
   pub inks : f.slab.inks ≡ length (inks_of f.profile.inks)

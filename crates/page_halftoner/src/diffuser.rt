@@ -21,8 +21,8 @@ use std::thread::Threads;
 use tile_border::TopEdges;
 use wavefront_team::{Gate, Team, diffuse_beside};
 
-/// The dots of a page's window so far. Contracts see the kernel, the planes, the bottom edges of the last diffused rows,
-/// and whether a call answered `Memory`.
+/// The dots of a page's window so far. Contracts see the kernel, the planes, the bottom edges of the last diffused
+/// rows, and whether a call answered `Memory`.
 #[derive(Drop)]
 pub struct Diffuser {
     alloc: Global,

@@ -18,8 +18,8 @@ use std::alloc::Global;
 use std::marker::Model;
 use std::mem::swap;
 
-/// The slab of a page's window that is being filled. Contracts see the profile, the form, the number of lines so far, the
-/// row of the window where the slab begins, and its amounts.
+/// The slab of a page's window that is being filled. Contracts see the profile, the form, the number of lines so far,
+/// the row of the window where the slab begins, and its amounts.
 #[derive(Drop)]
 pub struct Filler {
     profile: Profile,
@@ -110,8 +110,8 @@ impl Filler {
         rows - self.first == self.slab.rows()
     }
 
-    /// Takes a line of the page that occurs `repeats` times in a row, until the slab is full. The answer is how often it
-    /// was taken.
+    /// Takes a line of the page that occurs `repeats` times in a row, until the slab is full. The answer is how often
+    /// it was taken.
     pub fn put(&mut self, line: &[u8], repeats: u32) -> u32
         requires line { length line.now ≡ self.old.form.bytes_per_line }
         requires repeats { self.old.count + repeats ≤ self.old.form.height }

@@ -23,9 +23,9 @@ use wavefront_team::{Gate, Team};
 /// A page that is halftoned line by line. Contracts see the profile, the form, the kernel, the number of lines so
 /// far, which lists of lines it stands for, and whether a call answered `Memory`.
 ///
-/// Beside the planes of dots it keeps the lines of one slab: at most 256 rows of the window in whole bands, or those that
-/// are left. When the slab is full it is diffused, below the errors of the slab above. Who
-/// reads lines while slabs are diffused takes the two parts instead: a `Filler` and a `Diffuser`.
+/// Beside the planes of dots it keeps the lines of one slab: at most 256 rows of the window in whole bands, or those
+/// that are left. When the slab is full it is diffused, below the errors of the slab above. Who reads lines while slabs
+/// are diffused takes the two parts instead: a `Filler` and a `Diffuser`.
 #[derive(Drop)]
 pub struct Halftoner {
     filler: Filler,
@@ -98,8 +98,8 @@ impl Halftoner {
         self.diffuser.finish()
     }
 
-    // Takes a line as often as the slab has room, at least once, and diffuses the slab if it is full then. The answer is
-    // how often it was taken.
+    // Takes a line as often as the slab has room, at least once, and diffuses the slab if it is full then. The answer
+    // is how often it was taken.
     fn put<R: Threads + Sync, G: Gate + Sync>(
         &mut self,
         team: &Team<'_, R, G>,

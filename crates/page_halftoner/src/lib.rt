@@ -12,8 +12,8 @@
 //!
 //! Its two parts serve who reads lines while slabs are diffused. A `Filler` takes lines into a slab until that is full
 //! (`full`), and then goes on to the rows below it, in the same slab or in a spare one; what it says of the lines holds
-//! whatever the rows before the slab are diffused to (`PutsLines`). A `Diffuser` has the dots of the rows before it, and
-//! diffuses a full slab beside an errand of the caller.
+//! whatever the rows before the slab are diffused to (`PutsLines`). A `Diffuser` has the dots of the rows before it,
+//! and diffuses a full slab beside an errand of the caller.
 #![tactic(auto)]
 
 mod diffuser;

@@ -13,7 +13,7 @@ use Rattle.base_definitions.specs.Counting.{count_from}
 use Rattle.base_definitions.specs.Packed.{at}
 use Rattle.dead_nozzles.specs.Dead.{checked, has}
 use Rattle.dead_nozzles.specs.Plans.{row_of}
-use Rattle.dead_nozzles.specs.Strokes.{Head, IsHead, Shot, StartsRise, Stroke as HeadStroke, all_strokes, firings_of, row_under, shot, stroke_at}
+use Rattle.dead_nozzles.specs.Strokes.{Head, IsHead, Shot, StartsRise, HeadStroke, all_strokes, firings_of, row_under, shot, stroke_at}
 use Rattle.dead_nozzles.proofs.Firing.{Over, over}
 use Rattle.dead_nozzles.proofs.MakeUp.{each-row}
 use Rattle.dead_nozzles.proofs.RowsOf.{stroke-row, wanted_row}

@@ -16,7 +16,7 @@ use Rattle.printer_definitions.specs.Printer.{Printer, row_units}
 use Rattle.weave_base.specs.Parts.{AppendsPart}
 use Rattle.weave_base.proofs.Parting.{part_behind, part_of_front}
 use Rattle.page_writer.specs.Heads.{HeadPage, IsPage, stroke_over}
-use Rattle.page_writer.specs.Pieces.{AllRoomy, AreCoded, CodesPiece, Each, IsAssigned, IsCoded, IsFilled, IsReady, Sends, bound_of, left_at, sent_both, sent_bytes, sent_commands, strokes_in}
+use Rattle.page_writer.specs.Pieces.{AllRoomy, AreCoded, CodesPiece, Each, IsAssigned, IsCoded, IsFilled, IsReady, SendsStrokes, bound_of, left_at, sent_both, sent_bytes, sent_commands, strokes_in}
 use Rattle.page_writer.specs.Sums.{most_of_pass, rasters_in}
 use Rattle.page_writer.specs.declared.coded.Coded.{Coded}
 use Rattle.page_writer.specs.declared.coded.Piece.{Piece}
@@ -140,7 +140,7 @@ bytes-join page last at m n there is =
 
 -- nothing is sent
 pub sends_none : (page : HeadPage) (last at : ℕ) (held : Option (List ℕ))
-    → Sends page last at 0 held held (record { bytes = 0; rasters = 0; last = last })
+    → SendsStrokes page last at 0 held held (record { bytes = 0; rasters = 0; last = last })
 sends_none page last at held = record {
   appends = Appends-nil held;
   bytes_are = refl;
@@ -152,8 +152,8 @@ sends_none page last at held = record {
 
 -- one part after another
 pub sends_join : {page : HeadPage} {last at m n : ℕ} {a b d : Option (List ℕ)} {one two : Sent}
-    → Sends page last at m a b one → Sends page one.last (at + m) n b d two
-    → Sends page last at (m + n) a d (sent_both one two)
+    → SendsStrokes page last at m a b one → SendsStrokes page one.last (at + m) n b d two
+    → SendsStrokes page last at (m + n) a d (sent_both one two)
 sends_join {page} {last} {at} {m} {n} {a} {b} {d} {one} {two} first second =
     let whole : sent_bytes page last at (m + n) ≡ sent_bytes page last at m ++ sent_bytes page one.last (at + m) n =
     bytes-join page last at m n one.last first.left in
@@ -185,7 +185,7 @@ sends_join {page} {last} {at} {m} {n} {a} {b} {d} {one} {two} first second =
 
 -- a part was sent whole, and a part behind it was not: of these and any after them
 pub part_join : {page : HeadPage} {last at m : ℕ} {a b d : Option (List ℕ)} {one : Sent} (n rest : ℕ)
-    → Sends page last at m a b one → AppendsPart b d (sent_bytes page one.last (at + m) n)
+    → SendsStrokes page last at m a b one → AppendsPart b d (sent_bytes page one.last (at + m) n)
     → AppendsPart a d (sent_bytes page last at (m + (n + rest)))
 part_join {page} {last} {at} {m} {a} {b} {d} {one} n rest first part =
     let there : ℕ = left_at page.p one.last (strokes_in page (at + m) n) in
@@ -202,18 +202,18 @@ part_join {page} {last} {at} {m} {a} {b} {d} {one} n rest first part =
 -- one part after another, of the strokes from `first` to before `end`
 pub sends_more : {page : HeadPage} {last first mid n end : ℕ} {a b d : Option (List ℕ)} {one two : Sent}
     → first ≤ mid → end ≡ mid + n
-    → Sends page last first (mid - first) a b one → Sends page one.last mid n b d two
-    → Sends page last first (end - first) a d (sent_both one two)
+    → SendsStrokes page last first (mid - first) a b one → SendsStrokes page one.last mid n b d two
+    → SendsStrokes page last first (end - first) a d (sent_both one two)
 sends_more {page} {last} {first} {mid} {n} {end} {a} {b} {d} {one} {two} low is done more =
     let there : mid ≡ first + (mid - first) = omega arith in
     let whole : mid - first + n ≡ end - first = omega arith in
-    let P : ℕ → Type 0 = λ k. Sends page one.last k n b d two in
-    let Q : ℕ → Type 0 = λ k. Sends page last first k a d (sent_both one two) in
+    let P : ℕ → Type 0 = λ k. SendsStrokes page one.last k n b d two in
+    let Q : ℕ → Type 0 = λ k. SendsStrokes page last first k a d (sent_both one two) in
     subst Q whole (sends_join done (subst P there more))
 
 pub part_more : {page : HeadPage} {last first mid : ℕ} {a b d : Option (List ℕ)} {one : Sent} (n end : ℕ)
     → first ≤ mid → mid + n ≤ end
-    → Sends page last first (mid - first) a b one → AppendsPart b d (sent_bytes page one.last mid n)
+    → SendsStrokes page last first (mid - first) a b one → AppendsPart b d (sent_bytes page one.last mid n)
     → AppendsPart a d (sent_bytes page last first (end - first))
 part_more {page} {last} {first} {mid} {a} {b} {d} {one} n end low within done part =
     let there : mid ≡ first + (mid - first) = omega arith in
@@ -225,16 +225,16 @@ part_more {page} {last} {first} {mid} {a} {b} {d} {one} n end low within done pa
 -- the same of a piece, whose bounds are these
 pub sends_piece : {page : HeadPage} {last first begin end : ℕ} {a b d : Option (List ℕ)} {one two : Sent} (mid stop : ℕ)
     → begin ≡ mid → end ≡ stop → first ≤ mid → mid ≤ stop
-    → Sends page last first (mid - first) a b one → Sends page one.last begin (end - begin) b d two
-    → Sends page last first (stop - first) a d (sent_both one two)
+    → SendsStrokes page last first (mid - first) a b one → SendsStrokes page one.last begin (end - begin) b d two
+    → SendsStrokes page last first (stop - first) a d (sent_both one two)
 sends_piece {page} {last} {first} {begin} {end} {a} {b} {d} {one} {two} mid stop begins ends low rises done more =
-    let P : ℕ → Type 0 = λ n. Sends page one.last n (end - n) b d two in
-    let Q : ℕ → Type 0 = λ n. Sends page one.last mid (n - mid) b d two in
+    let P : ℕ → Type 0 = λ n. SendsStrokes page one.last n (end - n) b d two in
+    let Q : ℕ → Type 0 = λ n. SendsStrokes page one.last mid (n - mid) b d two in
     sends_more low (omega arith) done (subst Q ends (subst P begins more))
 
 pub part_piece : {page : HeadPage} {last first begin end : ℕ} {a b d : Option (List ℕ)} {one : Sent} (mid stop whole : ℕ)
     → begin ≡ mid → end ≡ stop → first ≤ mid → mid ≤ stop → stop ≤ whole
-    → Sends page last first (mid - first) a b one → AppendsPart b d (sent_bytes page one.last begin (end - begin))
+    → SendsStrokes page last first (mid - first) a b one → AppendsPart b d (sent_bytes page one.last begin (end - begin))
     → AppendsPart a d (sent_bytes page last first (whole - first))
 part_piece {page} {last} {first} {begin} {end} {a} {b} {d} {one} mid stop whole begins ends low rises within done part =
     let P : ℕ → Type 0 = λ n. AppendsPart b d (sent_bytes page one.last n (end - n)) in
@@ -243,16 +243,16 @@ part_piece {page} {last} {first} {begin} {end} {a} {b} {d} {one} mid stop whole 
 
 -- the same of the first strokes of a page
 pub sends_first : {page : HeadPage} {last mid n end : ℕ} {a b d : Option (List ℕ)} {one two : Sent}
-    → end ≡ mid + n → Sends page last 0 mid a b one → Sends page one.last mid n b d two
-    → Sends page last 0 end a d (sent_both one two)
+    → end ≡ mid + n → SendsStrokes page last 0 mid a b one → SendsStrokes page one.last mid n b d two
+    → SendsStrokes page last 0 end a d (sent_both one two)
 sends_first {page} {last} {mid} {n} {end} {a} {b} {d} {one} {two} is done more =
     let there : mid ≡ 0 + mid = omega arith in
-    let P : ℕ → Type 0 = λ k. Sends page one.last k n b d two in
-    let Q : ℕ → Type 0 = λ k. Sends page last 0 k a d (sent_both one two) in
+    let P : ℕ → Type 0 = λ k. SendsStrokes page one.last k n b d two in
+    let Q : ℕ → Type 0 = λ k. SendsStrokes page last 0 k a d (sent_both one two) in
     subst Q (sym is) (sends_join done (subst P there more))
 
 pub part_first : {page : HeadPage} {last mid : ℕ} {a b d : Option (List ℕ)} {one : Sent} (n end : ℕ)
-    → mid + n ≤ end → Sends page last 0 mid a b one → AppendsPart b d (sent_bytes page one.last mid n)
+    → mid + n ≤ end → SendsStrokes page last 0 mid a b one → AppendsPart b d (sent_bytes page one.last mid n)
     → AppendsPart a d (sent_bytes page last 0 end)
 part_first {page} {last} {mid} {a} {b} {d} {one} n end within done part =
     let there : mid ≡ 0 + mid = omega arith in
@@ -305,7 +305,7 @@ filled_of {page} {own} {own'} {run} {k} {before} {after} has same codes =
 
 -- the bytes of some of the strokes fit a number
 pub sent_fits : {page : HeadPage} {last at m there begin n : ℕ} {a b d e : Option (List ℕ)} {one two : Sent}
-    → IsPage page → Sends page last at m a b one → Sends page there begin n d e two
+    → IsPage page → SendsStrokes page last at m a b one → SendsStrokes page there begin n d e two
     → m + n ≤ page.head.count → one.bytes + two.bytes < 2 ^ 52
 sent_fits {page} {last} {at} {m} {there} {begin} {n} {a} {b} {d} {e} {one} {two} is first_sent then_sent within =
     let most : ℕ = most_of_pass page.p page.t.width in
@@ -393,7 +393,7 @@ pub sends_coded : {page : HeadPage} {stroke : ℕ} {coded : Coded} (last row beg
     → length code ≡ vec_len coded.code
     → take (length code - begin) (drop begin code) ≡ sent_bytes page last stroke 1
     → Appends a b (take (length code - begin) (drop begin code))
-    → Sends page last stroke 1 a b (record { bytes = length code - begin; rasters = coded.rasters; last = row })
+    → SendsStrokes page last stroke 1 a b (record { bytes = length code - begin; rasters = coded.rasters; last = row })
 sends_coded {page} {stroke} {coded} last row begin {a} {b} code is some there long whole appended =
     let this : Stroke = stroke_over page.p page.head page.t stroke in
     let fire : fires page.p this ≡ true = sym is.inks.fire ∙ lt-ltb 0 coded.rasters (omega (arith, some)) in

@@ -40,7 +40,7 @@ abbrev pub sent_bytes : HeadPage → ℕ → ℕ → ℕ → List ℕ
 sent_bytes page last at count = bytes_of page_coding.code (sent_commands page last at count)
 
 -- So many strokes from one on are sent, where the head was on row `last`.
-pub record Sends (page : HeadPage) (last at count : ℕ) (old new : Option (List ℕ)) (sent : Sent) : Type 0 where
+pub record SendsStrokes (page : HeadPage) (last at count : ℕ) (old new : Option (List ℕ)) (sent : Sent) : Type 0 where
   pub appends : Appends old new (sent_bytes page last at count)
   pub bytes_are : sent.bytes ≡ length (sent_bytes page last at count)
   pub rasters_are : sent.rasters ≡ rasters_in (sent_commands page last at count)

@@ -1,6 +1,6 @@
 //! Batches of pieces: one is coded by the workers while the caller sends the one before.
 ghost use Rattle.page_writer.specs.Heads.{HeadPage, IsPage};
-ghost use Rattle.page_writer.specs.Pieces.{AllRoomy, AreCoded, Each, HaveRoom, IsAssigned, IsFilled, IsRoomy, Sends};
+ghost use Rattle.page_writer.specs.Pieces.{AllRoomy, AreCoded, Each, HaveRoom, IsAssigned, IsFilled, IsRoomy, SendsStrokes};
 ghost use Rattle.page_writer.specs.Pieces.{bound_of, sent_bytes};
 ghost use Rattle.std.specs.Prelude.{IfOk, OnErr, OnOk, length, vec_capacity};
 ghost use Rattle.std.specs.Prelude.{◌+◌, ◌-◌, ◌≡◌, ◌≤◌};
@@ -57,7 +57,7 @@ fn put_piece<S: Strokes, K: Sink>(
     requires coded { AreCoded (S.page page.now) first end piece.old.strokes.items }
     requires room { AllRoomy (S.page page.now) piece.old.strokes.items }
     requires step { 7 ≤ vec_capacity step.old }
-    ensures ok { IfOk result (Sends (S.page page.now) last first (end - first) (K.held k.old) (K.held k.new)) }
+    ensures ok { IfOk result (SendsStrokes (S.page page.now) last first (end - first) (K.held k.old) (K.held k.new)) }
     ensures part { OnErr result
         (AppendsPart (K.held k.old) (K.held k.new) (sent_bytes (S.page page.now) last first (end - first))) }
     ensures cause { HasCause (K.faults k.old) (K.faults k.new) result }
@@ -106,7 +106,7 @@ fn put_batch<S: Strokes, K: Sink>(
     requires filled { Each (λ k coder. IsFilled (S.page page.now) batch.old.run k (S.page coder.page.now) coder.piece)
         batch.old.coders.items }
     requires step { 7 ≤ vec_capacity step.old }
-    ensures ok { IfOk result (Sends (S.page page.now) last batch.old.run.first
+    ensures ok { IfOk result (SendsStrokes (S.page page.now) last batch.old.run.first
         (bound_of batch.old.run (length batch.old.coders.items) - batch.old.run.first) (K.held k.old) (K.held k.new)) }
     ensures part { OnErr result (AppendsPart (K.held k.old) (K.held k.new) (sent_bytes (S.page page.now) last
         batch.old.run.first (bound_of batch.old.run (length batch.old.coders.items) - batch.old.run.first))) }
@@ -157,7 +157,7 @@ fn code_beside<R: Threads + Sync, S: Strokes + Sync, K: Sink>(
     requires filled { Each (λ k coder. IsFilled (S.page page.now) behind.old.run k (S.page coder.page.now) coder.piece)
         behind.old.coders.items }
     requires step { 7 ≤ vec_capacity step.old }
-    ensures ok { IfOk result (Sends (S.page page.now) last behind.old.run.first
+    ensures ok { IfOk result (SendsStrokes (S.page page.now) last behind.old.run.first
         (bound_of behind.old.run (length behind.old.coders.items) - behind.old.run.first)
         (K.held k.old) (K.held k.new)) }
     ensures part { OnErr result (AppendsPart (K.held k.old) (K.held k.new) (sent_bytes (S.page page.now) last
@@ -180,7 +180,7 @@ fn code_beside<R: Threads + Sync, S: Strokes + Sync, K: Sink>(
             × Each (λ k coder. IsFilled (S.page page.now) behind.now.run k (S.page coder.page.now) coder.piece)
             behind.now.coders.items
             × (7 ≤ vec_capacity step.now) }
-        ensures { IfOk result (Sends (S.page page.entry.now) last behind.entry.now.run.first
+        ensures { IfOk result (SendsStrokes (S.page page.entry.now) last behind.entry.now.run.first
             (bound_of behind.entry.now.run (length behind.entry.now.coders.items) - behind.entry.now.run.first)
             (K.held k.entry.now) (K.held k.exit.now))
             × OnErr result (AppendsPart (K.held k.entry.now) (K.held k.exit.now) (sent_bytes (S.page page.entry.now) last
@@ -207,7 +207,7 @@ pub(crate) fn put_batches<R: Threads + Sync, S: Strokes + Sync, K: Sink>(
     requires page { IsPage (S.page page.now) }
     requires batches { HaveRoom (λ it. S.page it) (S.page page.now) batches }
     requires step { 7 ≤ vec_capacity step.old }
-    ensures ok { IfOk result (Sends (S.page page.now) 0 0 (S.page page.now).head.count (K.held k.old) (K.held k.new)) }
+    ensures ok { IfOk result (SendsStrokes (S.page page.now) 0 0 (S.page page.now).head.count (K.held k.old) (K.held k.new)) }
     ensures part { OnErr result (AppendsPart (K.held k.old) (K.held k.new)
         (sent_bytes (S.page page.now) 0 0 (S.page page.now).head.count)) }
     ensures cause { HasCause (K.faults k.old) (K.faults k.new) result }

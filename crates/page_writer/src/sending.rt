@@ -1,6 +1,6 @@
 //! Coded strokes are sent, each in one write.
 ghost use Rattle.page_writer.specs.Heads.{IsPage};
-ghost use Rattle.page_writer.specs.Pieces.{AllRoomy, AreCoded, HasRoom, IsCoded, Sends, sent_both, sent_bytes};
+ghost use Rattle.page_writer.specs.Pieces.{AllRoomy, AreCoded, HasRoom, IsCoded, SendsStrokes, sent_both, sent_bytes};
 ghost use Rattle.std.specs.Prelude.{IfOk, OnErr, drop, length, vec_capacity, ◌++◌};
 ghost use Rattle.std.specs.Prelude.{◌+◌, ◌-◌, ◌<◌, ◌^◌, ◌≡◌, ◌≤◌};
 ghost use Rattle.weave_base.specs.Causes.{HasCause};
@@ -64,7 +64,7 @@ fn put_coded<S: Strokes, K: Sink>(
     requires coded { IsCoded (S.page page.now) stroke coded.old }
     requires room { HasRoom (S.page page.now) coded.old }
     requires step { 7 ≤ vec_capacity step.old }
-    ensures ok { IfOk result (Sends (S.page page.now) last stroke 1 (K.held k.old) (K.held k.new)) }
+    ensures ok { IfOk result (SendsStrokes (S.page page.now) last stroke 1 (K.held k.old) (K.held k.new)) }
     ensures part { OnErr result
         (AppendsPart (K.held k.old) (K.held k.new) (sent_bytes (S.page page.now) last stroke 1)) }
     ensures cause { HasCause (K.faults k.old) (K.faults k.new) result }
@@ -106,7 +106,7 @@ pub(crate) fn put_coded_strokes<S: Strokes, K: Sink>(
     requires coded { AreCoded (S.page page.now) first end strokes.old }
     requires room { AllRoomy (S.page page.now) strokes.old }
     requires step { 7 ≤ vec_capacity step.old }
-    ensures ok { IfOk result (Sends (S.page page.now) last first (end - first) (K.held k.old) (K.held k.new)) }
+    ensures ok { IfOk result (SendsStrokes (S.page page.now) last first (end - first) (K.held k.old) (K.held k.new)) }
     ensures part { OnErr result
         (AppendsPart (K.held k.old) (K.held k.new) (sent_bytes (S.page page.now) last first (end - first))) }
     ensures cause { HasCause (K.faults k.old) (K.faults k.new) result }

@@ -31,8 +31,8 @@ pub fn printed_is_read(p: Profile)
     has_17_points(&p.curves[3]);
 }
 
-/// Two texts whose first lines are `escp2-profile 1` and `escp2-profile 2` and whose other lines are equal give the same
-/// answer; or the text of version 1 has an unknown key in a line with the key of a curve.
+/// Two texts whose first lines are `escp2-profile 1` and `escp2-profile 2` and whose other lines are equal give the
+/// same answer; or the text of version 1 has an unknown key in a line with the key of a curve.
 pub fn versions_agree()
     ensures { (a b : List ℕ) → VersionsAgree a b }
 {}

@@ -167,8 +167,8 @@ fn read_lines(version: Version, text: &[u8]) -> Result<Given, TextFault>
     Ok(given)
 }
 
-/// Reads a profile's text, of either version: its first line, and lines `key=value`. The answer is the profile, or the first refused
-/// line; where all lines are good, the first required key that is absent.
+/// Reads a profile's text, of either version: its first line, and lines `key=value`. The answer is the profile, or the
+/// first refused line; where all lines are good, the first required key that is absent.
 pub fn read(text: &[u8]) -> Result<Profile, TextFault>
     ensures { result ≡ profile_text text.now }
 {

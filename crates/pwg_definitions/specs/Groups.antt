@@ -1,5 +1,5 @@
--- The lines of a page (PWG 5102.4, section 4.4): packets, lines and groups of equal lines, spelled and read. A unit is a
--- pixel, or a byte with eight pixels of one bit.
+-- The lines of a page (PWG 5102.4, section 4.4): packets, lines and groups of equal lines, spelled and read. A unit is
+-- a pixel, or a byte with eight pixels of one bit.
 use Rattle.std.specs.Prelude.{◌≡◌, ℕ, zero, suc, ◌+◌, ◌-◌, ◌*◌, ◌<◌, ◌≤◌, ◌==◌, nat_lt, if◌then◌else◌, List, [], ◌∷◌, ◌++◌, length, take}
 use Rattle.std.specs.Prelude.{drop, slice_index}
 use Rattle.std.specs.List.{flat_map}

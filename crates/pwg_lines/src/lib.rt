@@ -12,9 +12,9 @@
 //! `begin` allocates one line. `restart` answers `Memory` only where the new line is longer than the old one, and then
 //! the reader is unchanged. `feed` takes no memory.
 //!
-//! `code_line` appends exactly the canonical group of a line, or answers `Memory` and appends nothing. It succeeds where
-//! the output has room for a byte and for two for each byte of the line. `fill_units` puts copies of a unit into a line.
-//! `canonical_spells`: this group is a spelling of the line.
+//! `code_line` appends exactly the canonical group of a line, or answers `Memory` and appends nothing. It succeeds
+//! where the output has room for a byte and for two for each byte of the line. `fill_units` puts copies of a unit into
+//! a line. `canonical_spells`: this group is a spelling of the line.
 #![tactic(auto)]
 
 mod answers;

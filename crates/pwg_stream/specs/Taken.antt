@@ -17,8 +17,8 @@ abbrev pub MoreMayMend : StreamEnd → Type 0
 MoreMayMend Done = Unit {0}
 MoreMayMend (Fault page line why) = why ≡ cause.Truncated
 
--- The bytes that were taken are a stream of exactly these pages. Its end is one that more bytes could mend, or there are
--- fewer than four bytes where the sync word is to stand.
+-- The bytes that were taken are a stream of exactly these pages. Its end is one that more bytes could mend, or there
+-- are fewer than four bytes where the sync word is to stand.
 pub record TakesAllPages (want : Wanted) (before left : Option (List ℕ)) (pages : List Page) : Type 0 where
   pub bytes : List ℕ
   pub taken : Consumes before left bytes

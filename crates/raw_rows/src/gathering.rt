@@ -46,8 +46,8 @@ impl RawRows {
         }
     }
 
-    // Sets the amounts of `many` pixels of a line from pixel `first` on, in each ink of a tile from index `at` on. It is
-    // inlined so that a whole row of a tile has loops of known length.
+    // Sets the amounts of `many` pixels of a line from pixel `first` on, in each ink of a tile from index `at` on. It
+    // is inlined so that a whole row of a tile has loops of known length.
     #[inline(always)]
     fn separate_part(
         &self,

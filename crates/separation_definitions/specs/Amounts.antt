@@ -96,7 +96,8 @@ cmyk_ink Cmyk pixel ink = own_ink pixel ink
 
 -- ---- amounts
 
--- the numbers of the pixel at x of a line: its bytes, or its one bit, the highest bit of a byte being the leftmost pixel
+-- the numbers of the pixel at x of a line: its bytes, or its one bit, the highest bit of a byte being the leftmost
+-- pixel
 abbrev pub pixel_at : Kind → List ℕ → ℕ → List ℕ
 pixel_at Gray8 line x = slice_index line x ∷ []
 pixel_at Black8 line x = slice_index line x ∷ []

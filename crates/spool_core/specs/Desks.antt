@@ -7,8 +7,8 @@ use Rattle.spool_core.specs.Senders.{CanSend, lists_in, senders_in}
 use Rattle.spool_core.specs.declared.desks.Desk.{Desk}
 use Rattle.spool_core.specs.declared.senders.Work.{Work}
 
--- All passes of the desk's spool are fresh, its senders are to send these lists, and there is room for all of them: in the
--- queue too, so that no sender waits for the printer.
+-- All passes of the desk's spool are fresh, its senders are to send these lists, and there is room for all of them, in
+-- the queue too.
 pub record IsDesk (sent : List (List Stream)) (desk : Desk) : Type 0 where
   pub works : All (λ (w : Work). CanSend desk.spool w.pass w.streams.items) desk.works.items
   pub order : senders_in desk.works.items ≡ count_from 1 (senders_of desk.printer)

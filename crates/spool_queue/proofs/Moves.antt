@@ -11,21 +11,21 @@ use Rattle.std.proofs.Math.Seq.{get_or-append_seam}
 use Rattle.crossbeam_queue.specs.Fifo.{Pushes, Pops, Forks, Merges, Learns}
 use Rattle.crossbeam_queue.proofs.Lists.{at_set}
 use Rattle.spool_queue.specs.declared.job.SpoolJob.{SpoolJob}
-use Rattle.spool_queue.specs.declared.rule.View.{View}
+use Rattle.spool_queue.specs.declared.rule.QueueView.{QueueView}
 use Rattle.spool_queue.specs.Jobs.{Stream, jobs_of, numbered, sent_by, count_sent}
 use Rattle.spool_queue.specs.Rule.{printer_view, sender_view, spent_view, FitsSender, FitsPrinter, HasEnded, FollowsRule, IsNext, IsSettled}
 use Rattle.spool_queue.proofs.Lists.{jobs_of-append, jobs_of_here, jobs_of_else, numbered_snoc, not_empty, next_number, put, put_here, put_else, at_last_or, length_sent}
 
-no_sender : (v : View) → v.sends ≡ false → v.sends ≡ true → ⊥
+no_sender : (v : QueueView) → v.sends ≡ false → v.sends ≡ true → ⊥
 no_sender v e p = true≢false (sym p ∙ e)
 
 -- all seats after one has changed: the changed one, and another
-after_set : (F : ℕ → View → Type 0) (views : List View) (i : ℕ) (w : View) → F i w → ((j : ℕ) (u : View) → j ≢ i → get_elem? views j ≡ some u → F j u)
-    → (j : ℕ) (u : View) → get_elem? (set views i w) j ≡ some u → F j u
-after_set F views i w mine others j u e = ⊎_elim (λ (t : (j ≡ i) × (w ≡ u)). subst (λ (y : ℕ × View). F y.0 y.1) (λ k. (sym t.0 k, t.1 k)) mine)
+after_set : (F : ℕ → QueueView → Type 0) (views : List QueueView) (i : ℕ) (w : QueueView) → F i w → ((j : ℕ) (u : QueueView) → j ≢ i → get_elem? views j ≡ some u → F j u)
+    → (j : ℕ) (u : QueueView) → get_elem? (set views i w) j ≡ some u → F j u
+after_set F views i w mine others j u e = ⊎_elim (λ (t : (j ≡ i) × (w ≡ u)). subst (λ (y : ℕ × QueueView). F y.0 y.1) (λ k. (sym t.0 k, t.1 k)) mine)
     (λ (t : (j ≢ i) × (get_elem? views j ≡ some u)). others j u t.0 t.1) (at_set views i j w u e)
 
-abbrev Printers : (ℕ → Option ℕ) → (ℕ → List Stream) → List SpoolJob → ℕ → ℕ → View → Type 0
+abbrev Printers : (ℕ → Option ℕ) → (ℕ → List Stream) → List SpoolJob → ℕ → ℕ → QueueView → Type 0
 Printers seat sent taken reader j u = u.prints ≡ true → FitsPrinter seat sent taken reader j u
 
 pub begins : FollowsRule [] (printer_view 0 [] [] ∷ [])
@@ -40,7 +40,7 @@ begins = record {
       (λ p. record { here = refl; taken_is = refl; nobody = (refl, refl); later = λ s h. (refl, refl); ended = λ k h. absurd (omega arith); within = omega arith })
       (λ j u other e. absurd (alone j u other e));
 } where
-  alone : (j : ℕ) (u : View) → j ≢ 0 → get_elem? (printer_view 0 [] [] ∷ []) j ≡ some u → ⊥
+  alone : (j : ℕ) (u : QueueView) → j ≢ 0 → get_elem? (printer_view 0 [] [] ∷ []) j ≡ some u → ⊥
   alone zero u other e = other refl
   alone (suc j) u other e = some-ne-none u (sym e)
 
@@ -55,10 +55,10 @@ pushed_here s xs items x e = ap (jobs_of s) (sym (append_assoc xs items (x ∷ [
 ended_still : (seat : ℕ → Option ℕ) (sent : ℕ → List Stream) (s : ℕ) (l : List Stream) (pass t : ℕ) (bs : List Stream) → seat s ≡ some pass → HasEnded seat sent t bs → HasEnded seat (put sent s l) t bs
 ended_still seat sent s l pass t bs at e = (e.0, put_else sent s l t (λ is. some-ne-none pass (sym at ∙ ap seat (sym is) ∙ e.0)) ∙ e.1)
 
-pub sends : (n pass : ℕ) (v : View) (x : SpoolJob) → v.sends ≡ true → x.sender ≡ v.sender → x.number ≡ suc (length v.sent) → Pushes FollowsRule n pass v x (λ w. w ≡ sender_view v.sender (v.sent ++ x.stream ∷ []))
+pub sends : (n pass : ℕ) (v : QueueView) (x : SpoolJob) → v.sends ≡ true → x.sender ≡ v.sender → x.number ≡ suc (length v.sent) → Pushes FollowsRule n pass v x (λ w. w ≡ sender_view v.sender (v.sent ++ x.stream ∷ []))
 sends n pass v x is who number items views room h at =
     let s : ℕ = v.sender in
-    let w : View = sender_view v.sender (v.sent ++ x.stream ∷ []) in
+    let w : QueueView = sender_view v.sender (v.sent ++ x.stream ∷ []) in
     let mine = h.senders pass v at is in
     let l : List Stream = v.sent ++ x.stream ∷ [] in
     let sent : ℕ → List Stream = put h.sent v.sender l in (
@@ -89,7 +89,7 @@ sends n pass v x is who number items views room h at =
     )
 
 -- ---- a pop
-is_next : (x : SpoolJob) (items : List SpoolJob) (views : List View) (h : FollowsRule (x ∷ items) views) (pass : ℕ) (v : View) → FitsPrinter h.seat h.sent h.taken h.reader pass v → IsNext v x
+is_next : (x : SpoolJob) (items : List SpoolJob) (views : List QueueView) (h : FollowsRule (x ∷ items) views) (pass : ℕ) (v : QueueView) → FitsPrinter h.seat h.sent h.taken h.reader pass v → IsNext v x
 is_next x items views h pass v f =
     let s : ℕ = x.sender in
     let each : jobs_of s h.taken ++ x ∷ jobs_of s items ≡ numbered s 1 (h.sent s) = ap (λ l. jobs_of s h.taken ++ l) (sym (jobs_of_here s x items refl)) ∙ sym (jobs_of-append s h.taken (x ∷ items)) ∙ h.each s in
@@ -101,9 +101,9 @@ is_next x items views h pass v f =
       dite (dec_le s v.senders) (λ le. le) (λ less. absurd (sends_some (f.later s (omega arith)).1)),
     )
 
-pub takes : (pass : ℕ) (v : View) → v.prints ≡ true → Pops FollowsRule pass v (λ x w. (w ≡ printer_view v.senders (v.taken ++ x ∷ []) v.ended) × IsNext v x)
+pub takes : (pass : ℕ) (v : QueueView) → v.prints ≡ true → Pops FollowsRule pass v (λ x w. (w ≡ printer_view v.senders (v.taken ++ x ∷ []) v.ended) × IsNext v x)
 takes pass v may x items views h at =
-    let w : View = printer_view v.senders (v.taken ++ x ∷ []) v.ended in
+    let w : QueueView = printer_view v.senders (v.taken ++ x ∷ []) v.ended in
     let f = h.printers pass v at may in
     let taken : List SpoolJob = h.taken ++ x ∷ [] in (
       w,
@@ -122,30 +122,30 @@ takes pass v may x items views h at =
     )
 
 -- ---- all senders have ended
-settled_sent : (items : List SpoolJob) (views : List View) (h : FollowsRule items views) (pass : ℕ) (v : View) → length v.ended ≡ v.senders → FitsPrinter h.seat h.sent h.taken h.reader pass v → (s : ℕ) → h.sent s ≡ sent_by v.ended s
+settled_sent : (items : List SpoolJob) (views : List QueueView) (h : FollowsRule items views) (pass : ℕ) (v : QueueView) → length v.ended ≡ v.senders → FitsPrinter h.seat h.sent h.taken h.reader pass v → (s : ℕ) → h.sent s ≡ sent_by v.ended s
 settled_sent items views h pass v all f zero = f.nobody.1
 settled_sent items views h pass v all f (suc k) = dite (dec_le (suc k) (length v.ended)) (λ lt. (f.ended k lt).1)
     (λ not_less. (f.later (suc k) (omega arith)).1 ∙ sym (get_or-eq_default v.ended [] (omega arith)))
 
-pub settles : (pass : ℕ) (v : View) → v.prints ≡ true → length v.ended ≡ v.senders → Learns FollowsRule pass v (IsSettled v)
+pub settles : (pass : ℕ) (v : QueueView) → v.prints ≡ true → length v.ended ≡ v.senders → Learns FollowsRule pass v (IsSettled v)
 settles pass v may all items views h at =
     let f = h.printers pass v at may in
     let sent = settled_sent items views h pass v all f in
     let each : (s : ℕ) → jobs_of s (v.taken ++ items) ≡ numbered s 1 (sent_by v.ended s) = λ s. ap (λ l. jobs_of s (l ++ items)) f.taken_is ∙ h.each s ∙ ap (numbered s 1) (sent s) in
     record { each = each; count = length_sent v.ended (v.taken ++ items) each (λ s lt. sym (sent s) ∙ (f.later s (omega arith)).1) }
 
-pub drains : (pass : ℕ) (v : View) → v.prints ≡ true → length v.ended ≡ v.senders → Pops FollowsRule pass v (λ x w. (w ≡ printer_view v.senders (v.taken ++ x ∷ []) v.ended) × (length (v.taken ++ x ∷ []) ≤ count_sent v.ended))
+pub drains : (pass : ℕ) (v : QueueView) → v.prints ≡ true → length v.ended ≡ v.senders → Pops FollowsRule pass v (λ x w. (w ≡ printer_view v.senders (v.taken ++ x ∷ []) v.ended) × (length (v.taken ++ x ∷ []) ≤ count_sent v.ended))
 drains pass v may all x items views h at =
     let t = takes pass v may x items views h at in
     let s : length (v.taken ++ x ∷ items) ≡ count_sent v.ended = (settles pass v may all (x ∷ items) views h at).count in
     (t.0, t.1, (t.2.0, let a = length-append v.taken (x ∷ items) in let b = length-append v.taken (x ∷ []) in let c : length (x ∷ items) ≡ suc (length items) = refl in let d : length (x ∷ []) ≡ 1 = refl in omega arith))
 
 -- ---- a new sender
-pub enrols : (pass : ℕ) (v : View) → v.prints ≡ true → Forks FollowsRule pass v (printer_view (suc v.senders) v.taken v.ended) (sender_view (suc v.senders) [])
+pub enrols : (pass : ℕ) (v : QueueView) → v.prints ≡ true → Forks FollowsRule pass v (printer_view (suc v.senders) v.taken v.ended) (sender_view (suc v.senders) [])
 enrols pass v may items views h at =
-    let l : View = printer_view (suc v.senders) v.taken v.ended in
-    let r : View = sender_view (suc v.senders) [] in
-    let vs : List View = set views pass l in
+    let l : QueueView = printer_view (suc v.senders) v.taken v.ended in
+    let r : QueueView = sender_view (suc v.senders) [] in
+    let vs : List QueueView = set views pass l in
     let f = h.printers pass v at may in
     let none_yet = f.later (suc v.senders) (omega arith) in
     let seat : ℕ → Option ℕ = put h.seat (suc v.senders) (some (length vs)) in
@@ -169,20 +169,20 @@ enrols pass v may items views h at =
       reader = h.reader;
       each = h.each;
       senders = λ j u e. ⊎_elim (λ o. old_senders j u o)
-          (λ (t : (j ≡ length vs) × (r ≡ u)). subst (λ (y : ℕ × View). FitsSender seat h.sent y.0 y.1) (λ i. (sym t.0 i, t.1 i)) (λ p. (put_here h.seat (suc v.senders) (some (length vs)) (suc v.senders) refl, sym none_yet.1))) (at_last_or vs r u j e);
+          (λ (t : (j ≡ length vs) × (r ≡ u)). subst (λ (y : ℕ × QueueView). FitsSender seat h.sent y.0 y.1) (λ i. (sym t.0 i, t.1 i)) (λ p. (put_here h.seat (suc v.senders) (some (length vs)) (suc v.senders) refl, sym none_yet.1))) (at_last_or vs r u j e);
       printers = λ j u e. ⊎_elim (λ o. old_printers j u o)
-          (λ (t : (j ≡ length vs) × (r ≡ u)) p. absurd (true≢false (sym (ap (λ (y : View). y.prints) t.1 ∙ p)))) (at_last_or vs r u j e);
+          (λ (t : (j ≡ length vs) × (r ≡ u)) p. absurd (true≢false (sym (ap (λ (y : QueueView). y.prints) t.1 ∙ p)))) (at_last_or vs r u j e);
     }
 
 -- ---- a sender ends
-pub ends : (pass : ℕ) (v : View) (other : ℕ) (u : View) → v.prints ≡ true → u ≡ sender_view (suc (length v.ended)) u.sent → Merges FollowsRule pass v other u (printer_view v.senders v.taken (v.ended ++ u.sent ∷ [])) spent_view
+pub ends : (pass : ℕ) (v : QueueView) (other : ℕ) (u : QueueView) → v.prints ≡ true → u ≡ sender_view (suc (length v.ended)) u.sent → Merges FollowsRule pass v other u (printer_view v.senders v.taken (v.ended ++ u.sent ∷ [])) spent_view
 ends pass v other u may is items views h at apart at' =
-    let both : View = printer_view v.senders v.taken (v.ended ++ u.sent ∷ []) in
-    let vs : List View = set views pass both in
+    let both : QueueView = printer_view v.senders v.taken (v.ended ++ u.sent ∷ []) in
+    let vs : List QueueView = set views pass both in
     let was : get_elem? views other ≡ some u = ⊎_elim (λ x. absurd (apart x.0)) (λ x. x.1) (at_set views pass other both u at') in
     let f = h.printers pass v at may in
-    let who : u.sender ≡ suc (length v.ended) = ap (λ (y : View). y.sender) is in
-    let theirs = h.senders other u was (ap (λ (y : View). y.sends) is) in
+    let who : u.sender ≡ suc (length v.ended) = ap (λ (y : QueueView). y.sender) is in
+    let theirs = h.senders other u was (ap (λ (y : QueueView). y.sends) is) in
     let their_seat : h.seat (suc (length v.ended)) ≡ some other = ap h.seat (sym who) ∙ theirs.0 in
     let known_one : suc (length v.ended) ≤ v.senders = dite (dec_le (suc (length v.ended)) v.senders) (λ le. le) (λ less. absurd (some-ne-none other (sym their_seat ∙ (f.later (suc (length v.ended)) (omega arith)).0))) in
     let seat : ℕ → Option ℕ = put h.seat (suc (length v.ended)) none in

@@ -5,7 +5,7 @@ use Rattle.std.proofs.lemmas.List.{map-append, length-map}
 use Rattle.std.proofs.lemmas.List.Elements.{All-append, All-cons, All-nil}
 use Rattle.spool_queue.specs.declared.job.SpoolJob.{SpoolJob}
 use Rattle.spool_queue.specs.declared.kinds.SendPass.{SendPass}
-use Rattle.spool_queue.specs.declared.rule.View.{View}
+use Rattle.spool_queue.specs.declared.rule.QueueView.{QueueView}
 use Rattle.base_definitions.specs.Counting.{count_from}
 use Rattle.spool_queue.specs.Jobs.{Stream, jobs_of, numbered, sent_by, count_sent, AreSent}
 use Rattle.spool_queue.specs.Rule.{printer_view, IsSettled}
@@ -25,15 +25,15 @@ first_counted x r k zero e = let l : suc (length (map sender_of r)) ≡ 0 = ap l
 first_counted x r k (suc j) e = (ap (head_or x.sender) e, (j, refl, ap tail_of e ∙ ap (λ n. count_from n j) (add-one k)))
 
 -- the view v has taken in all passes but those that are left
-pub record Gathering (F : SendPass → Type 0) (start : View) (all : List SendPass) (v : View) (left : List SendPass) : Type 0 where
+pub record Gathering (F : SendPass → Type 0) (start : QueueView) (all : List SendPass) (v : QueueView) (left : List SendPass) : Type 0 where
   pub role : v ≡ printer_view start.senders start.taken v.ended
   pub senders : All F left
   pub known : v.ended ++ map sent_of left ≡ sent_lists all
   pub order : (m : ℕ) × (start.senders ≡ length v.ended + m) × (map sender_of left ≡ count_from (suc (length v.ended)) m)
 
-pub gather_start : {F : SendPass → Type 0} {v : View} {all : List SendPass} → v ≡ printer_view v.senders v.taken [] → All F all → map sender_of all ≡ count_from 1 v.senders → Gathering F v all v all
+pub gather_start : {F : SendPass → Type 0} {v : QueueView} {all : List SendPass} → v ≡ printer_view v.senders v.taken [] → All F all → map sender_of all ≡ count_from 1 v.senders → Gathering F v all v all
 gather_start {v = v} {all = all} role senders order =
-    let none_known : v.ended ≡ [] = ap (λ (y : View). y.ended) role in
+    let none_known : v.ended ≡ [] = ap (λ (y : QueueView). y.ended) role in
     let none : length v.ended ≡ 0 = ap length none_known in
     record {
       role = role ∙ ap (printer_view v.senders v.taken) (sym none_known);
@@ -42,15 +42,15 @@ gather_start {v = v} {all = all} role senders order =
       order = (v.senders, omega arith, order ∙ ap (λ n. count_from (suc n) v.senders) (sym none));
     }
 
-pub gather_next : {F : SendPass → Type 0} {start : View} {all : List SendPass} {v : View} {x : SendPass} {left : List SendPass} → Gathering F start all v (x ∷ left) → x.sender ≡ suc (length v.ended)
+pub gather_next : {F : SendPass → Type 0} {start : QueueView} {all : List SendPass} {v : QueueView} {x : SendPass} {left : List SendPass} → Gathering F start all v (x ∷ left) → x.sender ≡ suc (length v.ended)
 gather_next {v = v} {x = x} {left = left} g = (first_counted x left (suc (length v.ended)) g.order.0 g.order.2).0
 
-pub gather_here : {F : SendPass → Type 0} {start : View} {all : List SendPass} {v : View} {x : SendPass} {left : List SendPass} → Gathering F start all v (x ∷ left) → F x
+pub gather_here : {F : SendPass → Type 0} {start : QueueView} {all : List SendPass} {v : QueueView} {x : SendPass} {left : List SendPass} → Gathering F start all v (x ∷ left) → F x
 gather_here {x = x} g = g.senders 0 x (omega arith)
 
-pub gather_step : {F : SendPass → Type 0} {start : View} {all : List SendPass} {v w : View} {x : SendPass} {left : List SendPass} → Gathering F start all v (x ∷ left) → w ≡ printer_view v.senders v.taken (v.ended ++ sent_of x ∷ []) → Gathering F start all w left
+pub gather_step : {F : SendPass → Type 0} {start : QueueView} {all : List SendPass} {v w : QueueView} {x : SendPass} {left : List SendPass} → Gathering F start all v (x ∷ left) → w ≡ printer_view v.senders v.taken (v.ended ++ sent_of x ∷ []) → Gathering F start all w left
 gather_step {v = v} {w = w} {x = x} {left = left} g e =
-    let is_known : w.ended ≡ v.ended ++ sent_of x ∷ [] = ap (λ (y : View). y.ended) e in
+    let is_known : w.ended ≡ v.ended ++ sent_of x ∷ [] = ap (λ (y : QueueView). y.ended) e in
     let count : length w.ended ≡ suc (length v.ended) = ap length is_known ∙ (let a = length-append v.ended (sent_of x ∷ []) in let b : length (sent_of x ∷ []) ≡ 1 = refl in omega arith) in
     let o = first_counted x left (suc (length v.ended)) g.order.0 g.order.2 in
     let m = g.order.1 in
@@ -62,20 +62,20 @@ gather_step {v = v} {w = w} {x = x} {left = left} g e =
       order = (o.1.0, omega arith, o.1.2 ∙ ap (λ n. count_from (suc n) o.1.0) (sym count));
     }
 
-pub gather_done : {F : SendPass → Type 0} {start : View} {all : List SendPass} {v : View} → Gathering F start all v [] → v ≡ printer_view start.senders start.taken (sent_lists all)
+pub gather_done : {F : SendPass → Type 0} {start : QueueView} {all : List SendPass} {v : QueueView} → Gathering F start all v [] → v ≡ printer_view start.senders start.taken (sent_lists all)
 gather_done {start = start} {v = v} g = g.role ∙ ap (printer_view start.senders start.taken) (sym (append-nil v.ended) ∙ g.known)
 
 -- a printer that finds nothing has taken all
-pub drained : {v : View} {lists : List (List Stream)} (before after items : List SpoolJob) → v.taken ≡ before ++ after → v.ended ≡ lists → length items ≡ 0 → IsSettled v items → AreSent (sent_by lists) (before ++ after)
+pub drained : {v : QueueView} {lists : List (List Stream)} (before after items : List SpoolJob) → v.taken ≡ before ++ after → v.ended ≡ lists → length items ≡ 0 → IsSettled v items → AreSent (sent_by lists) (before ++ after)
 drained {v = v} before after [] t k e all s = ap (jobs_of s) (sym t ∙ sym (append-nil v.taken)) ∙ all.each s ∙ ap (λ l. numbered s 1 (sent_by l s)) k
 drained before after (x ∷ items) t k e all s = absurd (omega arith)
 
 -- what the printer knows once it has all passes
-pub are_sent : {v : View} {n : ℕ} {taken : List SpoolJob} {lists : List (List Stream)} (items : List SpoolJob) → AreSent (sent_by v.ended) (v.taken ++ items) → v ≡ printer_view n taken lists → AreSent (sent_by lists) (taken ++ items)
-are_sent items each e s = ap (λ (y : View). jobs_of s (y.taken ++ items)) (sym e) ∙ each s ∙ ap (λ (y : View). numbered s 1 (sent_by y.ended s)) e
+pub are_sent : {v : QueueView} {n : ℕ} {taken : List SpoolJob} {lists : List (List Stream)} (items : List SpoolJob) → AreSent (sent_by v.ended) (v.taken ++ items) → v ≡ printer_view n taken lists → AreSent (sent_by lists) (taken ++ items)
+are_sent items each e s = ap (λ (y : QueueView). jobs_of s (y.taken ++ items)) (sym e) ∙ each s ∙ ap (λ (y : QueueView). numbered s 1 (sent_by y.ended s)) e
 
-pub counts_sent : {v : View} {n : ℕ} {taken : List SpoolJob} {lists : List (List Stream)} (items : List SpoolJob) → length (v.taken ++ items) ≡ count_sent v.ended → v ≡ printer_view n taken lists → length (taken ++ items) ≡ count_sent lists
-counts_sent items count e = ap (λ (y : View). length (y.taken ++ items)) (sym e) ∙ count ∙ ap (λ (y : View). count_sent y.ended) e
+pub counts_sent : {v : QueueView} {n : ℕ} {taken : List SpoolJob} {lists : List (List Stream)} (items : List SpoolJob) → length (v.taken ++ items) ≡ count_sent v.ended → v ≡ printer_view n taken lists → length (taken ++ items) ≡ count_sent lists
+counts_sent items count e = ap (λ (y : QueueView). length (y.taken ++ items)) (sym e) ∙ count ∙ ap (λ (y : QueueView). count_sent y.ended) e
 
 -- where the printer has taken as many jobs as were sent, the queue is empty
 pub taken_all : (lists : List (List Stream)) (taken rest : List SpoolJob) → AreSent (sent_by lists) (taken ++ rest) → length (taken ++ rest) ≡ count_sent lists → length taken ≡ count_sent lists → AreSent (sent_by lists) taken
@@ -83,7 +83,7 @@ taken_all lists taken [] each count all s = ap (jobs_of s) (sym (append-nil take
 taken_all lists taken (x ∷ rest) each count all s = let a = length-append taken (x ∷ rest) in absurd (omega arith)
 
 -- as many are left as the queue held
-pub has_room : {v : View} {before items : List SpoolJob} {n : ℕ} (w : View) (x : SpoolJob) (after : List SpoolJob) → IsSettled v items → length items ≡ n → v.taken ≡ before → w.taken ≡ before ++ after → w.ended ≡ v.ended → length (w.taken ++ x ∷ []) ≤ count_sent w.ended → length after < n
+pub has_room : {v : QueueView} {before items : List SpoolJob} {n : ℕ} (w : QueueView) (x : SpoolJob) (after : List SpoolJob) → IsSettled v items → length items ≡ n → v.taken ≡ before → w.taken ≡ before ++ after → w.ended ≡ v.ended → length (w.taken ++ x ∷ []) ≤ count_sent w.ended → length after < n
 has_room {v = v} {before = before} {items = items} w x after all e t t' k few =
     let a = length-append v.taken items in
     let b = length-append w.taken (x ∷ []) in

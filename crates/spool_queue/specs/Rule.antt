@@ -4,10 +4,10 @@ use mathlib.Core.Option.{Option, none, some}
 use lib.ListN.{get_elem?}
 use Rattle.spool_queue.specs.Jobs.{Stream, jobs_of, AreSent, sent_by, count_sent}
 use Rattle.spool_queue.specs.declared.job.SpoolJob.{SpoolJob}
-use Rattle.spool_queue.specs.declared.rule.View.{View}
+use Rattle.spool_queue.specs.declared.rule.QueueView.{QueueView}
 
 -- what the printer knows: how many senders there are, what it has taken, and what those sent whose passes are spent
-abbrev pub printer_view : ℕ → List SpoolJob → List (List Stream) → View
+abbrev pub printer_view : ℕ → List SpoolJob → List (List Stream) → QueueView
 printer_view senders taken ended = record {
   sends = false;
   sender = 0;
@@ -19,15 +19,15 @@ printer_view senders taken ended = record {
 }
 
 -- what a sender knows: who it is, and what it has sent
-abbrev pub sender_view : ℕ → List Stream → View
+abbrev pub sender_view : ℕ → List Stream → QueueView
 sender_view s sent = record { sends = true; sender = s; sent = sent; prints = false; taken = []; senders = 0; ended = [] }
 
 -- what a spent pass knows
-abbrev pub spent_view : View
+abbrev pub spent_view : QueueView
 spent_view = record { sends = false; sender = 0; sent = []; prints = false; taken = []; senders = 0; ended = [] }
 
 -- Each sender has one pass, which knows what the sender sent. `seat` gives the number of that pass.
-abbrev pub FitsSender : (ℕ → Option ℕ) → (ℕ → List Stream) → ℕ → View → Type 0
+abbrev pub FitsSender : (ℕ → Option ℕ) → (ℕ → List Stream) → ℕ → QueueView → Type 0
 FitsSender seat sent pass v = v.sends ≡ true → (seat v.sender ≡ some pass) × (v.sent ≡ sent v.sender)
 
 -- sender s has no pass, and sent these streams
@@ -36,7 +36,7 @@ HasEnded seat sent s streams = (seat s ≡ none) × (sent s ≡ streams)
 
 -- The printer is one pass, which knows what was taken. It knows of each number that is no sender, and of each sender
 -- whose pass is spent, what that sent.
-pub record FitsPrinter (seat : ℕ → Option ℕ) (sent : ℕ → List Stream) (taken : List SpoolJob) (reader pass : ℕ) (v : View)
+pub record FitsPrinter (seat : ℕ → Option ℕ) (sent : ℕ → List Stream) (taken : List SpoolJob) (reader pass : ℕ) (v : QueueView)
     : Type 0 where
   pub here : pass ≡ reader
   pub taken_is : v.taken ≡ taken
@@ -46,21 +46,21 @@ pub record FitsPrinter (seat : ℕ → Option ℕ) (sent : ℕ → List Stream) 
   pub within : length v.ended ≤ v.senders
 
 -- The rule: the jobs that were taken, and then those in the queue, are what the senders' passes have sent.
-pub record FollowsRule (items : List SpoolJob) (views : List View) : Type 0 where
+pub record FollowsRule (items : List SpoolJob) (views : List QueueView) : Type 0 where
   pub seat : ℕ → Option ℕ
   pub sent : ℕ → List Stream
   pub taken : List SpoolJob
   pub reader : ℕ
   pub each : AreSent sent (taken ++ items)
-  pub senders : (pass : ℕ) (v : View) → get_elem? views pass ≡ some v → FitsSender seat sent pass v
-  pub printers : (pass : ℕ) (v : View) → get_elem? views pass ≡ some v → v.prints ≡ true
+  pub senders : (pass : ℕ) (v : QueueView) → get_elem? views pass ≡ some v → FitsSender seat sent pass v
+  pub printers : (pass : ℕ) (v : QueueView) → get_elem? views pass ≡ some v → v.prints ≡ true
       → FitsPrinter seat sent taken reader pass v
 
 -- the job is of a sender of the spool, and the next of its jobs
-abbrev pub IsNext : View → SpoolJob → Type 0
+abbrev pub IsNext : QueueView → SpoolJob → Type 0
 IsNext v x = (x.number ≡ suc (length (jobs_of x.sender v.taken))) × (1 ≤ x.sender) × (x.sender ≤ v.senders)
 
 -- where all senders have ended: what was taken and what is left are what they sent, and as many
-pub record IsSettled (v : View) (items : List SpoolJob) : Type 0 where
+pub record IsSettled (v : QueueView) (items : List SpoolJob) : Type 0 where
   pub each : AreSent (sent_by v.ended) (v.taken ++ items)
   pub count : length (v.taken ++ items) ≡ count_sent v.ended

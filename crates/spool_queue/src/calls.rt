@@ -6,7 +6,7 @@ ghost use Rattle.spool_queue.specs.Rule.{IsNext, printer_view, sender_view};
 
 use crate::job::{SpoolJob, StreamBytes};
 use crate::kinds::{JobQueue, PrintPass, SendPass, Spool};
-use crate::rule::{Sends, Takes, View};
+use crate::rule::{QueueView, SendsJob, TakesJob};
 use crossbeam_queue::Pass;
 use std::sync::Wait;
 use std::thread::yield_now;
@@ -67,7 +67,7 @@ impl Spool {
 }
 
 // Pushes the sender's next job: tries until the queue has room.
-fn push<R: Wait>(rt: &R, queue: &JobQueue, pass: &mut Pass<SpoolJob, View>, mut job: SpoolJob)
+fn push<R: Wait>(rt: &R, queue: &JobQueue, pass: &mut Pass<SpoolJob, QueueView>, mut job: SpoolJob)
     requires pass { IsPassOf queue.now pass.old }
     requires role { view pass.old ≡ sender_view job.sender (view pass.old).sent }
     requires number { job.number ≡ suc (length (view pass.old).sent) }
@@ -75,7 +75,7 @@ fn push<R: Wait>(rt: &R, queue: &JobQueue, pass: &mut Pass<SpoolJob, View>, mut 
     ensures view { view pass.new ≡ sender_view job.sender ((view pass.old).sent ++ job.stream ∷ []) }
 {
     for _ in rt.forever() {
-        match queue.push_as::<Sends, R>(rt, pass, job) {
+        match queue.push_as::<SendsJob, R>(rt, pass, job) {
             Ok(()) => return,
             Err(refused) => job = refused,
         }
@@ -85,7 +85,7 @@ fn push<R: Wait>(rt: &R, queue: &JobQueue, pass: &mut Pass<SpoolJob, View>, mut 
 }
 
 // Pops for the printer: tries until there is a job.
-fn pop<R: Wait>(rt: &R, queue: &JobQueue, pass: &mut Pass<SpoolJob, View>) -> SpoolJob
+fn pop<R: Wait>(rt: &R, queue: &JobQueue, pass: &mut Pass<SpoolJob, QueueView>) -> SpoolJob
     requires pass { IsPassOf queue.now pass.old }
     requires role { view pass.old ≡ printer_view (view pass.old).senders (view pass.old).taken [] }
     ensures pass { IsPassOf queue.now pass.new }
@@ -93,7 +93,7 @@ fn pop<R: Wait>(rt: &R, queue: &JobQueue, pass: &mut Pass<SpoolJob, View>) -> Sp
     ensures next { IsNext (view pass.old) result }
 {
     for _ in rt.forever() {
-        if let Some(job) = queue.pop_as::<Takes, R>(rt, pass) {
+        if let Some(job) = queue.pop_as::<TakesJob, R>(rt, pass) {
             return job;
         }
         yield_now();

@@ -9,7 +9,7 @@ ghost use Rattle.spool_queue.specs.declared.job.SpoolJob.{SpoolJob};
 
 use crate::job::SpoolJob;
 use crate::kinds::{JobQueue, PrintPass, SendPass, Spool};
-use crate::rule::{Drains, Ends, Enrols, View};
+use crate::rule::{Drains, Ends, Enrols, QueueView};
 use base_definitions::Memory;
 use crossbeam_queue::Pass;
 use std::alloc::Global;
@@ -85,7 +85,7 @@ impl Spool {
 }
 
 // Gives the printer the passes of all senders: it then knows what they sent.
-fn gather(queue: &JobQueue, pass: &mut Pass<SpoolJob, View>, senders: Vec<SendPass>)
+fn gather(queue: &JobQueue, pass: &mut Pass<SpoolJob, QueueView>, senders: Vec<SendPass>)
     requires pass { IsPassOf queue.now pass.old }
     requires role { view pass.old ≡ printer_view (view pass.old).senders (view pass.old).taken [] }
     requires senders { All (λ p. IsPassOf queue.now p.pass) senders.items }
@@ -108,7 +108,7 @@ fn gather(queue: &JobQueue, pass: &mut Pass<SpoolJob, View>, senders: Vec<SendPa
 fn drain<R: Wait>(
     rt: &R,
     queue: &JobQueue,
-    pass: &mut Pass<SpoolJob, View>,
+    pass: &mut Pass<SpoolJob, QueueView>,
     mut rest: Vec<SpoolJob>,
 ) -> Vec<SpoolJob>
     requires pass { IsPassOf queue.now pass.old }

@@ -4,10 +4,10 @@ ghost use Rattle.crossbeam_queue.specs.Passes.{ruled_capacity, view};
 ghost use Rattle.spool_queue.specs.Rule.{printer_view, sender_view};
 
 use crate::job::SpoolJob;
-use crate::rule::{SpoolRule, View};
+use crate::rule::{QueueView, SpoolRule};
 use crossbeam_queue::{Pass, RuledArrayQueue};
 
-pub(crate) type JobQueue = RuledArrayQueue<SpoolJob, View, SpoolRule>;
+pub(crate) type JobQueue = RuledArrayQueue<SpoolJob, QueueView, SpoolRule>;
 
 /// A bounded queue of jobs from 1 to 8 senders to one printer. Its calls take it by `&`, so threads may share it.
 #[derive(Drop)]
@@ -21,7 +21,7 @@ pub struct Spool {
 /// The right to submit as one sender.
 #[derive(Drop)]
 pub struct SendPass {
-    pub(crate) pass: Pass<SpoolJob, View>,
+    pub(crate) pass: Pass<SpoolJob, QueueView>,
     pub(crate) sender: u8,
     // How many streams it has sent.
     pub(crate) sent: u32,
@@ -32,7 +32,7 @@ pub struct SendPass {
 /// The right to take.
 #[derive(Drop)]
 pub struct PrintPass {
-    pub(crate) pass: Pass<SpoolJob, View>,
+    pub(crate) pass: Pass<SpoolJob, QueueView>,
     // How many jobs it has taken.
     pub(crate) taken: u32,
     ghost role: { view pass ≡ printer_view (view pass).senders (view pass).taken [] },

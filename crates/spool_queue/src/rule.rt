@@ -4,7 +4,7 @@ use crossbeam_queue::protocol::{Join, Lesson, Outcome, Protocol, Split};
 use std::collections::LinkedList;
 
 /// What a pass knows. Only proofs see such a value; none is made.
-pub struct View {
+pub struct QueueView {
     /// It is the one pass of a sender.
     pub sends: bool,
     /// That sender, and the streams that it has sent.
@@ -23,7 +23,7 @@ pub struct View {
 /// The rule of the spool.
 pub struct SpoolRule;
 
-impl Protocol<SpoolJob, View> for SpoolRule {
+impl Protocol<SpoolJob, QueueView> for SpoolRule {
     ghost use Rattle.std.specs.Prelude.{[]};
     ghost use Rattle.spool_queue.specs.Rule.{FollowsRule, printer_view};
 
@@ -35,7 +35,7 @@ impl Protocol<SpoolJob, View> for SpoolRule {
 /// One more sender gets its pass.
 pub struct Enrols;
 
-impl Split<View> for Enrols {
+impl Split<QueueView> for Enrols {
     ghost use Rattle.std.specs.Prelude.{[], suc};
     ghost use Rattle.spool_queue.specs.Rule.{printer_view, sender_view};
 
@@ -47,7 +47,7 @@ impl Split<View> for Enrols {
 /// The next sender ends: the printer has its pass.
 pub struct Ends;
 
-impl Join<View> for Ends {
+impl Join<QueueView> for Ends {
     ghost use Rattle.std.specs.Prelude.{[], ◌++◌, ◌∷◌};
     ghost use Rattle.spool_queue.specs.Rule.{printer_view, spent_view};
 
@@ -57,37 +57,37 @@ impl Join<View> for Ends {
 }
 
 /// A sender pushes its next job.
-pub struct Sends;
+pub struct SendsJob;
 
-impl Outcome<SpoolJob, View> for Sends {
+impl Outcome<SpoolJob, QueueView> for SendsJob {
     ghost use Rattle.std.specs.Prelude.{[], ◌++◌, ◌≡◌, ◌∷◌};
     ghost use Rattle.spool_queue.specs.Rule.{sender_view};
 
     ghost then = { λ v x w. w ≡ sender_view v.sender (v.sent ++ x.stream ∷ []) };
 }
 
-impl Lesson<SpoolJob, View> for Sends {
+impl Lesson<SpoolJob, QueueView> for SendsJob {
     ghost fact = { λ v items. Unit {0} };
 }
 
 /// The printer takes a job.
-pub struct Takes;
+pub struct TakesJob;
 
-impl Outcome<SpoolJob, View> for Takes {
+impl Outcome<SpoolJob, QueueView> for TakesJob {
     ghost use Rattle.std.specs.Prelude.{[], ◌++◌, ◌≡◌, ◌∷◌};
     ghost use Rattle.spool_queue.specs.Rule.{IsNext, printer_view};
 
     ghost then = { λ v x w. (w ≡ printer_view v.senders (v.taken ++ x ∷ []) v.ended) × IsNext v x };
 }
 
-impl Lesson<SpoolJob, View> for Takes {
+impl Lesson<SpoolJob, QueueView> for TakesJob {
     ghost fact = { λ v items. Unit {0} };
 }
 
 /// The printer takes a job after all senders have ended.
 pub struct Drains;
 
-impl Outcome<SpoolJob, View> for Drains {
+impl Outcome<SpoolJob, QueueView> for Drains {
     ghost use Rattle.std.specs.Prelude.{[], length, ◌++◌, ◌≡◌, ◌≤◌, ◌∷◌};
     ghost use Rattle.spool_queue.specs.Jobs.{count_sent};
     ghost use Rattle.spool_queue.specs.Rule.{printer_view};
@@ -96,7 +96,7 @@ impl Outcome<SpoolJob, View> for Drains {
         × (length (v.taken ++ x ∷ []) ≤ count_sent v.ended) };
 }
 
-impl Lesson<SpoolJob, View> for Drains {
+impl Lesson<SpoolJob, QueueView> for Drains {
     ghost use Rattle.spool_queue.specs.Rule.{IsSettled};
 
     ghost fact = { IsSettled };

@@ -42,8 +42,8 @@ pub record Kept (v w : View) : Type 0 where
   pub board : w.board ≡ v.board
   pub looks : v.looks < w.looks
 
--- A claim that hands no tile out. The word that it found has every bit that the pass knew to be set, and is what the pass
--- has seen last.
+-- A claim that hands no tile out. The word that it found has every bit that the pass knew to be set, and is what the
+-- pass has seen last.
 pub record Refused (b : Slab) (v : View) (t : Place) (word : ℕ) (w : View) : Type 0 where
   pub kept : Kept v w
   pub held : w.held ≡ None

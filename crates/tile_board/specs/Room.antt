@@ -45,8 +45,8 @@ abbrev pub gave_view : View → ℕ → Option ℕ → View
 gave_view v d None = v
 gave_view v d (Some p) = sent_view v d
 
--- The edge in the direction d is put into its slot, which was the first. Where a tile receives it the slot goes back to the
--- table, and else it is moved after the others.
+-- The edge in the direction d is put into its slot, which was the first. Where a tile receives it the slot goes back to
+-- the table, and else it is moved after the others.
 pub record GivesEdge (b : Slab) (d t : ℕ) (m n : Me Cell View) : Type 0 where
   pub view : n.0 ≡ gave_view m.0 d ((setting_of b).graph.next t d)
   pub hand : n.1 ≡ rest m.1 ++ own_slot (setting_of b).content t d ((setting_of b).graph.next t d)

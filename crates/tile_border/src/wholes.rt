@@ -1,5 +1,5 @@
-//! The lengths of an ink of a tile's edges and dots. The types have them by construction; these functions do nothing, and
-//! state them in their contracts.
+//! The lengths of an ink of a tile's edges and dots. The types have them by construction; these functions do nothing,
+//! and state them in their contracts.
 ghost use Rattle.std.specs.Prelude.{[], length, slice_index, slice_index_or, ℕ, ◌<◌, ◌≡◌};
 ghost use Rattle.tile_border.specs.Works.{IsWholeInk};
 

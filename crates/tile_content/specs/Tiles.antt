@@ -26,8 +26,8 @@ AreDone k rows top p b = (i : ℕ) → i < rows.inks
     → IsDone (table_of k) (plane_of rows i) (errors_below k rows top i) p
     (errors_of b.side i) (errors_of b.band i) (errors_of b.corner i) (slice_index_or b.bits i [])
 
--- The edge that a tile is handed in a direction, in each ink: what `given` says of the tile that sends it, zeros where no
--- tile does, and the top's edges above the first band.
+-- The edge that a tile is handed in a direction, in each ink: what `given` says of the tile that sends it, zeros where
+-- no tile does, and the top's edges above the first band.
 pub record IsHandedTo (k : Kernel) (rows : AmountTable) (top : List (List (List ℤ))) (d : Dir) (p : Place)
     (edge : List (List ℤ)) : Type 0 where
   pub inks : length edge ≡ rows.inks

@@ -19,8 +19,8 @@ plane_with s amount = record { width = s.width; height = s.height; amount = amou
 abbrev pub plane_of : AmountTable → ℕ → Plane
 plane_of t ink = record { width = t.width; height = t.rows; amount = amount t ink }
 
--- The dots of a tile, 32 rows of 64, eight a byte and the first in the highest bit: each is that of its pixel, and there
--- is none left of column 0, beside the plane and below it.
+-- The dots of a tile, 32 rows of 64, eight a byte and the first in the highest bit: each is that of its pixel, and
+-- there is none left of column 0, beside the plane and below it.
 pub record HasDots (k : Table) (p : Plane) (e : Errors) (place : Place) (dots : List ℕ) : Type 0 where
   pub pixel : (row offset x y : ℕ) → IsAt place row offset x y → row_dot dots (64 * row + offset) ≡ on k p e y x
   pub left : (row offset : ℕ) → row < 32 → offset < 64 → 64 * place.c + offset < 2 * row → row_dot dots (64 * row + offset) ≡ false

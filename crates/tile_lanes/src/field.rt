@@ -1,8 +1,8 @@
 //! Room for the errors of a tile.
 ghost use Rattle.tile_lanes.specs.Held.{HeldInRange};
 
-/// Room for the errors of one ink of a tile while it is diffused: 103 groups of 34. Who diffuses many tiles keeps one for
-/// all of them, so that it is cleared once.
+/// Room for the errors of one ink of a tile while it is diffused: 103 groups of 34. Who diffuses many tiles keeps one
+/// for all of them, so that it is cleared once.
 #[derive(Drop)]
 pub struct Field {
     // Errors with 2040 added.

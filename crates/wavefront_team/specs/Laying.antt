@@ -13,8 +13,8 @@ pub record AreTilesOf (s : Shape) (tiles : List TileDots) : Type 0 where
   pub count : length tiles ≡ bands_of s * columns_of s
   pub places : (p : Place) (d : TileDots) → IsTile s p → (slice_index_or tiles (number_of s p) d).place ≡ p
 
--- The window begins at row `first` of the planes. Each pixel of its first n tiles is on or off in every ink as its tile has
--- it, and the rows above and below the window are unchanged.
+-- The window begins at row `first` of the planes. Each pixel of its first n tiles is on or off in every ink as its tile
+-- has it, and the rows above and below the window are unchanged.
 pub record LaysTiles (s : Shape) (first n : ℕ) (tiles : List TileDots) (old new : DotTable) : Type 0 where
   pub size : HasSizeOf old new
   pub pixels : (i row offset x y : ℕ) (p : Place) (d : TileDots) → i < old.inks → IsTile s p → number_of s p < n

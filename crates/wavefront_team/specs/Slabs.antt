@@ -13,8 +13,8 @@ pub record AreSlabErrors (k : Table) (rows : AmountTable) (top : List (List (Lis
   pub solves : Solves k (plane_of rows i) e
   pub below : IsBelow (edges_of top i) e
 
--- Rows `at` and on of the planes have the dots of a slab, and all others stay. `bottom` are the bottom edges of its last
--- band.
+-- Rows `at` and on of the planes have the dots of a slab, and all others stay. `bottom` are the bottom edges of its
+-- last band.
 pub record DiffusesSlab (k : Table) (rows : AmountTable) (top bottom : List (List (List ℤ))) (at : ℕ) (old new : DotTable) : Type 0 where
   pub size : HasSizeOf old new
   pub dots : (i : ℕ) (e : Errors) → AreSlabErrors k rows top i e → (y x : ℕ) → y < rows.rows → x < rows.width

@@ -52,8 +52,8 @@ pub fn diffuse<R: Threads + Sync, G: Gate + Sync, A: TileRows + Sync>(
     Ok(bottom)
 }
 
-/// Diffuses a slab as `diffuse` does, and does the errand on the caller's own thread: after all tiles, where there is one
-/// worker, else while the others work. Its answer stands beside the bottom edges.
+/// Diffuses a slab as `diffuse` does, and does the errand on the caller's own thread: after all tiles, where there is
+/// one worker, else while the others work. Its answer stands beside the bottom edges.
 ///
 /// On `Memory` the planes are unchanged and the errand is not begun.
 pub fn diffuse_beside<R: Threads + Sync, G: Gate + Sync, A: TileRows + Sync, F: FnMut() -> E, E>(
@@ -125,7 +125,8 @@ fn work_tiles<R: Threads + Sync, G: Gate + Sync, A: TileRows + Sync, F: FnMut() 
     Ok(done)
 }
 
-// Works tiles by as many workers, of which the last is the caller after its errand, and joins their passes to the first.
+// Works tiles by as many workers, of which the last is the caller after its errand, and joins their passes to the
+// first.
 fn work_shares<R: Threads + Sync, L: Lends + Copy + Send, A: TileRows, F: FnMut() -> E, E>(
     threads: &R,
     alloc: Global,

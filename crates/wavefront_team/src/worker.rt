@@ -18,7 +18,8 @@ use tile_shape::{Place, Shape};
 // A worker that gets no tile in this many claims leaves the rest to the caller.
 const MOST_CLAIMS: u32 = 16_777_216;
 
-// How many columns a worker's band may be ahead of the hindmost one, each band counted two columns behind the one above.
+// How many columns a worker's band may be ahead of the hindmost one, each band counted two columns behind the one
+// above.
 const MOST_AHEAD: u32 = 8;
 
 /// A worker: its pass, and which tile it claims next.
@@ -110,8 +111,8 @@ impl Worker {
         None
     }
 
-    // Turns to the next band. After a round of all bands it yields the processor: a worker whose tile the others need may
-    // share it.
+    // Turns to the next band. After a round of all bands it yields the processor: a worker whose tile the others need
+    // may share it.
     fn look_further(&mut self, shape: Shape)
         requires { IsShape shape }
         ensures { self.new.pass ≡ self.old.pass }

@@ -1,5 +1,6 @@
 -- Texts by their names, and what a read of one answers.
-use Rattle.std.specs.Prelude.{◌≡◌, ℕ, ◌<◌, ◌≤◌, Bool, true, false, List, length, find, Option, Some, None, Result, Ok, Err, vec_len}
+use Rattle.std.specs.Prelude.{◌≡◌, ℕ, ◌<◌, ◌≤◌, ◌==◌, Bool, true, false, not, ◌&&◌, List, [], ◌∷◌, length, find, Option, Some, None, Result, Ok, Err, vec_len}
+use Rattle.std.specs.List.{list_any}
 use Rattle.std.specs.Option.{option_map, IsSomeAnd}
 use Rattle.std.specs.Str.{bytes_eq}
 use Rattle.weave_base.specs.Causes.{Rose}
@@ -33,6 +34,11 @@ abbrev pub IsWithin : ℕ → Found → Type 0
 IsWithin most (found.Text text) = vec_len text ≤ most
 IsWithin most found.Absent = Unit {0}
 IsWithin most found.TooLong = Unit {0}
+
+-- whether a name may be that of a file of a folder: it is not empty, neither `.` nor `..`, and has no `/` (47)
+abbrev pub is_file_name : List ℕ → Bool
+is_file_name name =
+    not (length name == 0) && (not (bytes_eq name (46 ∷ [])) && (not (bytes_eq name (46 ∷ 46 ∷ [])) && not (list_any (λ b. b == 47) name)))
 
 -- whether the shelf failed
 abbrev pub is_failed : {T : Type 0} → Result T ShelfStop → Bool

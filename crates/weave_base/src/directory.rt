@@ -1,6 +1,6 @@
 //! The files of the current folder as a shelf, which does not say what it holds.
-ghost use Rattle.std.specs.Prelude.{IfOk, IsTrue, vec_len, ◌≤◌};
-ghost use Rattle.weave_base.specs.Shelf.{IsWithin};
+ghost use Rattle.std.specs.Prelude.{IfOk, IsTrue, vec_len, ◌≡◌, ◌≤◌};
+ghost use Rattle.weave_base.specs.Shelf.{IsWithin, is_file_name};
 
 use crate::{Found, Shelf, ShelfStop};
 use std::alloc::Global;
@@ -36,23 +36,25 @@ impl<R: Files> DirShelf<R> {
 }
 
 impl<R: Files> Shelf for DirShelf<R> {
-    ghost use Rattle.std.specs.Prelude.{IfOk, None, if◌then◌else◌, ◌≡◌};
+    ghost use Rattle.std.specs.Prelude.{IfOk, None, Ok, false, if◌then◌else◌, ◌≡◌};
     ghost use Rattle.weave_base.specs.Causes.{next_count};
-    ghost use Rattle.weave_base.specs.Shelf.{Finds, IsWithin, StopHasCause, is_failed};
+    ghost use Rattle.weave_base.specs.Shelf.{Finds, IsWithin, StopHasCause, is_failed, is_file_name};
+    ghost use Rattle.weave_base.specs.declared.shelf.Found.TheVariants as found;
 
     ghost files = { λ s. None };
 
     ghost faults = { λ s. s };
 
-    /// A name that is empty, `.` or `..` or has a `/` is absent, and the disk is not read. Any error of std is a fault,
-    /// but a file that is not found is absent, and `OutOfMemory` is `Memory`.
+    /// A name that is empty, `.` or `..` or has a `/` is absent. Any error of std is a fault, but a file that is not found
+    /// is absent, and `OutOfMemory` is `Memory`.
     fn read_text(&mut self, alloc: Global, name: &str, most: usize) -> Result<Found, ShelfStop>
         ensures within { IfOk result (IsWithin most) }
         ensures found { IfOk result (Finds None name.now most) }
         ensures cause { StopHasCause self.old self.new result }
+        ensures absent { is_file_name name.now ≡ false → result ≡ Ok found.Absent }
         ensures faults { self.new ≡ (if is_failed result then next_count self.old else self.old) }
     {
-        if !is_plain(name) {
+        if !is_file_name(name) {
             return Ok(Found::Absent);
         }
         match read_file(&self.rt, alloc, name, most) {
@@ -67,7 +69,9 @@ impl<R: Files> Shelf for DirShelf<R> {
 }
 
 // Whether a name may be that of a file of the folder.
-fn is_plain(name: &str) -> bool {
+fn is_file_name(name: &str) -> bool
+    ensures { result ≡ is_file_name name.now }
+{
     !name.is_empty() && name != "." && name != ".." && !name.as_bytes().contains(&b'/')
 }
 

@@ -1,7 +1,7 @@
 use Rattle.std.proofs.Common.{◌∙◌, ◌+◌, ◌-◌, ◌≤◌, ℕ, arith, length, length-set, subst, sym}
 use Rattle.weave_base.proofs.Parting.{on_err_anyway}
 use Rattle.page_writer.specs.Heads.{HeadPage}
-use Rattle.page_writer.specs.Pieces.{Sends, bound_of}
+use Rattle.page_writer.specs.Pieces.{SendsStrokes, bound_of}
 use Rattle.page_writer.specs.declared.coded.Run.{Run}
 use Rattle.page_writer.specs.declared.coded.Sent.{Sent}
 use Rattle.page_writer.proofs.Pieces.{bound_above, bound_rises, each_at, each_step, part_piece, sends_piece, sent_fits}
@@ -42,7 +42,7 @@ pieces-preserved g c =
             record { own_is = here.own_is; many = c.in_ok-one.ensures.many ∙ here.many; room = c.in_ok-one.ensures.room },
             λ low. absurd (omega (arith, low)),
           );
-      sent = let P : Sent → Type 0 = Sends page c.args.last run.first (bound_of run (i + 1) - run.first)
+      sent = let P : Sent → Type 0 = SendsStrokes page c.args.last run.first (bound_of run (i + 1) - run.first)
           (g.K.Sink.held c.args.k.now) (g.K.Sink.held c.put_piece.new.k) in
           subst P (sym c.and_then-sent.ensures) (sends_piece (bound_of run i) (bound_of run (i + 1))
           c.bound.ensures c.bound-in-pieces.ensures (bound_above run i c.requires.first)

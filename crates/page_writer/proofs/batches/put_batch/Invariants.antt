@@ -1,5 +1,5 @@
 use Rattle.std.proofs.Common.{◌≡◌, ◌-◌, ◌≤◌, length, vec_capacity}
-use Rattle.page_writer.specs.Pieces.{Each, IsFilled, IsRoomy, Sends, bound_of}
+use Rattle.page_writer.specs.Pieces.{Each, IsFilled, IsRoomy, SendsStrokes, bound_of}
 use Rattle.page_writer.proofs.batches.put_batch.Given as goal
 
 abbrev pub invariant-pieces : goal.invariant-pieces
@@ -9,7 +9,7 @@ invariant-pieces g l = record {
   pieces : Each (λ k coder. IsRoomy (g.S.Strokes.page l.page) l.run.each (g.S.Strokes.page coder.page.now) coder.piece
       × (l.i ≤ k → IsFilled (g.S.Strokes.page l.page) l.run k (g.S.Strokes.page coder.page.now) coder.piece))
       l.batch.coders.items;
-  sent : Sends (g.S.Strokes.page l.page) l.last l.run.first (bound_of l.run l.i - l.run.first)
+  sent : SendsStrokes (g.S.Strokes.page l.page) l.last l.run.first (bound_of l.run l.i - l.run.first)
       (g.K.Sink.held l.fn.k) (g.K.Sink.held l.k) l.sent;
   step : vec_capacity l.fn.step ≤ vec_capacity l.step;
   later : g.K.Sink.faults l.fn.k ≤ g.K.Sink.faults l.k;

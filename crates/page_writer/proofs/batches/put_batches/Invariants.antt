@@ -1,5 +1,5 @@
 use Rattle.std.proofs.Common.{◌≡◌, ◌+◌, ◌-◌, ◌≤◌, length, vec_capacity}
-use Rattle.page_writer.specs.Pieces.{Each, IsFilled, IsRoomy, Sends, bound_of}
+use Rattle.page_writer.specs.Pieces.{Each, IsFilled, IsRoomy, SendsStrokes, bound_of}
 use Rattle.page_writer.proofs.batches.put_batches.Given as goal
 
 abbrev pub invariant-batches : goal.invariant-batches
@@ -21,7 +21,7 @@ invariant-batches g l = record {
   filled : Each (λ k coder. IsFilled (g.S.Strokes.page l.page) l.behind.run k (g.S.Strokes.page coder.page.now) coder.piece)
       l.behind.coders.items;
   next : bound_of l.behind.run (length l.behind.coders.items) ≡ l.ahead.run.first;
-  sent : Sends (g.S.Strokes.page l.page) 0 0 l.behind.run.first (g.K.Sink.held l.fn.k) (g.K.Sink.held l.k) l.sent;
+  sent : SendsStrokes (g.S.Strokes.page l.page) 0 0 l.behind.run.first (g.K.Sink.held l.fn.k) (g.K.Sink.held l.k) l.sent;
   step : vec_capacity l.fn.step ≤ vec_capacity l.step;
   later : g.K.Sink.faults l.fn.k ≤ g.K.Sink.faults l.k;
 }

@@ -2,7 +2,7 @@ use Rattle.std.proofs.Common.{◌≡◌, ◌+◌, ◌-◌, arith, subst, sym}
 use Rattle.std.proofs.lemmas.List.{get_or-set_other}
 use Rattle.weave_base.proofs.Parting.{on_err_anyway}
 use Rattle.page_writer.specs.Heads.{HeadPage}
-use Rattle.page_writer.specs.Pieces.{IsCoded, Sends}
+use Rattle.page_writer.specs.Pieces.{IsCoded, SendsStrokes}
 use Rattle.page_writer.specs.declared.coded.Coded.{Coded}
 use Rattle.page_writer.specs.declared.coded.Sent.{Sent}
 use Rattle.page_writer.proofs.Pieces.{each_set, part_more, sends_more, sent_fits}
@@ -24,7 +24,7 @@ pub strokes-preserved : goal.strokes-preserved
 strokes-preserved g c =
     let page : HeadPage = g.S.Strokes.page c.args.page.now in
     record {
-      sent = let P : Sent → Type 0 = Sends page c.args.last c.args.first (c.strokes.stroke + 1 - c.args.first)
+      sent = let P : Sent → Type 0 = SendsStrokes page c.args.last c.args.first (c.strokes.stroke + 1 - c.args.first)
           (g.K.Sink.held c.args.k.now) (g.K.Sink.held c.put_coded.new.k) in
           subst P (sym c.and_then-sent.ensures) (sends_more (omega arith) (omega arith) c.strokes.invariant.sent c.in_ok-one.ensures.ok);
       coded = λ k d low high.

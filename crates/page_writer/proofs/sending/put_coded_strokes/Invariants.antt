@@ -1,11 +1,11 @@
 use Rattle.std.proofs.Common.{ℕ, ◌+◌, ◌-◌, ◌<◌, ◌≤◌, vec_capacity, slice_index_or}
-use Rattle.page_writer.specs.Pieces.{AllRoomy, IsCoded, Sends}
+use Rattle.page_writer.specs.Pieces.{AllRoomy, IsCoded, SendsStrokes}
 use Rattle.page_writer.specs.declared.coded.Coded.{Coded}
 use Rattle.page_writer.proofs.sending.put_coded_strokes.Given as goal
 
 abbrev pub invariant-strokes : goal.invariant-strokes
 invariant-strokes g l = record {
-  sent : Sends (g.S.Strokes.page l.page) l.last l.first (l.stroke - l.first)
+  sent : SendsStrokes (g.S.Strokes.page l.page) l.last l.first (l.stroke - l.first)
       (g.K.Sink.held l.fn.k) (g.K.Sink.held l.k) l.sent;
   coded : (k : ℕ) (d : Coded) → l.stroke ≤ l.first + k → l.first + k < l.end
       → IsCoded (g.S.Strokes.page l.page) (l.first + k) (slice_index_or l.strokes k d);
