@@ -3,10 +3,11 @@ use Rattle.std.specs.Prelude.{ℕ, ◌*◌, ◌/◌, slice_index}
 use Rattle.printer_definitions.specs.declared.inks.Ink.{Ink}
 use Rattle.printer_definitions.specs.declared.inks.Ink.TheVariants.{Black, Cyan, Magenta, Yellow}
 use Rattle.ink_separation.specs.declared.scales.Scale.{Scale}
-use Rattle.ink_separation.specs.declared.scales.Scale.TheVariants.{Straight, Table}
+use Rattle.ink_separation.specs.declared.scales.Scale.TheVariants.{Straight, Table, Whole}
 
 -- the amount of a number that is given
 abbrev pub scaled : Scale → ℕ → ℕ
+scaled Whole a = a
 scaled (Straight limit) a = a * limit / 255
 scaled (Table amounts) a = slice_index amounts a
 

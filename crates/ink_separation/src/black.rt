@@ -46,6 +46,9 @@ impl BlackScale {
     pub(crate) fn black_of(&self, common: &Values) -> Values
         ensures { (x : ℕ) → x < 64 → slice_index result x ≡ moved_to_black self.now (slice_index common.now x) }
     {
+        if self.least == 0 {
+            return *common;
+        }
         let mut black = [0; PIXELS];
         for x in 0..PIXELS {
             let above = u32::from(common[x].saturating_sub(self.least));

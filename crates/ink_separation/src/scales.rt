@@ -13,6 +13,8 @@ use printer_profile::{Profile, STRAIGHT_CURVE};
 /// How an ink's amounts are made of what pixels give to it.
 #[derive(Drop)]
 pub(crate) enum Scale {
+    /// As they are: the ink's curve is straight, and its limit is 255.
+    Whole,
     /// By this limit alone: the ink's curve is straight.
     Straight(u8),
     /// By a table of tones, scaled by the ink's limit.
@@ -49,6 +51,17 @@ fn table_of(p: &Profile, ink: u8, limit: u8) -> [u8; 256]
 }
 
 impl Scale {
+    // That of a limit alone.
+    fn of_limit(limit: u8) -> Scale
+        ensures { (a : ℕ) → scaled result a ≡ a * limit / 255 }
+    {
+        if limit == 255 {
+            Scale::Whole
+        } else {
+            Scale::Straight(limit)
+        }
+    }
+
     /// That of an ink, 0 to 3 for black, cyan, magenta and yellow.
     pub(crate) fn of(p: &Profile, ink: u8) -> Scale
         requires ink { ink < 4 }
@@ -58,7 +71,7 @@ impl Scale {
     {
         let limit = p.limits[usize::from(ink)];
         if is_straight(&p.curves[usize::from(ink)]) {
-            Scale::Straight(limit)
+            Scale::of_limit(limit)
         } else {
             Scale::Table(table_of(p, ink, limit))
         }
@@ -70,6 +83,7 @@ impl Scale {
         ensures { (x : ℕ) → x < 64 → slice_index result x ≡ scaled self.now (slice_index given.now x) }
     {
         match self {
+            Scale::Whole => *given,
             Scale::Straight(limit) => limited(given, *limit),
             Scale::Table(amounts) => looked_up(given, amounts),
         }
@@ -81,6 +95,7 @@ impl Scale {
         ensures { result ≡ scaled self.now a }
     {
         match self {
+            Scale::Whole => a,
             Scale::Straight(limit) => part(a, *limit),
             Scale::Table(amounts) => amounts[usize::from(a)],
         }
