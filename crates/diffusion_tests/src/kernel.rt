@@ -111,7 +111,7 @@ fn given(kernel: Kernel, place: usize, err: i16) -> Option<Dot> {
 
 #[test]
 fn each_place_gives_its_share(rt: HostRuntime) {
-    for (kernel, whole, shares) in TABLES {
+    for &(kernel, whole, shares) in &TABLES {
         for (place, share) in shares.iter().enumerate() {
             let right = given(kernel, place, whole)
                 == Some(Dot {
@@ -134,7 +134,7 @@ fn counted(kernel: Kernel) -> (usize, u64) {
 
 #[test]
 fn the_weights_are_all_shares(rt: HostRuntime) {
-    for (kernel, entries, whole) in [
+    for &(kernel, entries, whole) in &[
         (Kernel::Floyd, 4, 16),
         (Kernel::Jarvis, 12, 48),
         (Kernel::Stucki, 12, 42),

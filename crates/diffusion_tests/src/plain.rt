@@ -37,7 +37,7 @@ fn four_halves_give_every_other_dot(rt: HostRuntime) {
 #[test]
 fn what_is_out_of_range_is_refused(rt: HostRuntime) {
     const CASES: [(i16, u32, u32); 4] = [(-2041, 1, 1), (2040, 1, 1), (0, 65536, 1), (0, 1, 65536)];
-    for (error, width, height) in CASES {
+    for &(error, width, height) in &CASES {
         let (kernel, fill) = (Kernel::Floyd, Amounts::All(0));
         let known = Definition::make(rt.alloc(), kernel, fill, Above::Edges(error), width, height);
         assert!(rt; known.is_none(), "{width} by {height} below {error}");

@@ -7,7 +7,7 @@ const KERNELS: [Kernel; 3] = [Kernel::Floyd, Kernel::Jarvis, Kernel::Stucki];
 
 #[test]
 fn slabs_have_the_dots_of_the_whole_window(rt: HostRuntime) {
-    for kernel in KERNELS {
+    for &kernel in &KERNELS {
         for (width, inks) in [(1, 1), (2, 3), (63, 1), (66, 4), (130, 2), (200, 1)] {
             let case = Case {
                 kernel,
@@ -35,8 +35,8 @@ fn a_slab_has_the_dots_of_rows_one_after_another(rt: HostRuntime) {
         (191, &[7], 1),
         (199, &[70], 1),
     ];
-    for kernel in KERNELS {
-        for (width, slabs, inks) in SIZES {
+    for &kernel in &KERNELS {
+        for &(width, slabs, inks) in &SIZES {
             for all in [None, Some(0), Some(127), Some(128), Some(255)] {
                 let case = Case {
                     kernel,
@@ -55,9 +55,9 @@ fn a_slab_has_the_dots_of_rows_one_after_another(rt: HostRuntime) {
 #[test]
 fn slabs_below_extreme_errors_have_the_dots_and_bottom_edges_of_the_rule(rt: HostRuntime) {
     const HEIGHTS: [&[u32]; 5] = [&[1], &[31], &[32], &[33], &[64]];
-    for kernel in KERNELS {
+    for &kernel in &KERNELS {
         for width in [1, 63, 64, 65, 130] {
-            for slabs in HEIGHTS {
+            for &slabs in &HEIGHTS {
                 for error in [-2040, 0, 2039] {
                     let case = Case {
                         kernel,

@@ -27,7 +27,7 @@ const SMALL: Case = Case {
 
 #[test]
 fn any_number_of_workers_gives_the_dots_of_the_plain_program(rt: HostRuntime) {
-    for (kernel, width, inks) in [
+    for &(kernel, width, inks) in &[
         (Kernel::Floyd, 200, 1),
         (Kernel::Jarvis, 66, 4),
         (Kernel::Stucki, 1, 2),
@@ -109,7 +109,7 @@ fn measured(rows: &[u8]) -> (usize, u64, u64) {
 // How many of the known rows are among these of 25 bytes each.
 fn known_rows(rows: &[u8]) -> usize {
     let mut known = 0usize;
-    for (y, row) in KNOWN_ROWS {
+    for &(y, row) in &KNOWN_ROWS {
         let at = 25 * usize::from(y);
         if at + 25 <= rows.len() && rows[at..at + 25] == row[..] {
             known = known.wrapping_add(1);
@@ -137,7 +137,7 @@ fn two_tiles_inside_the_gate_give_the_known_dots(rt: HostRuntime) {
 
 #[test]
 fn each_kernel_gives_the_known_dots(rt: HostRuntime) {
-    for (kernel, dots, hash) in [
+    for &(kernel, dots, hash) in &[
         (Kernel::Floyd, 5478, 0x2A21_B4D5_2C4F_EE94),
         (Kernel::Jarvis, 5462, 0x5D01_39B5_D3AF_00D3),
         (Kernel::Stucki, 5463, 0x7FC7_7ACE_F554_46DD),

@@ -21,7 +21,7 @@ fn try_byte<R: Abort + Threads + Sync>(
         piece: 65_536,
         ..BY_BYTES
     };
-    for change in CHANGES {
+    for &change in &CHANGES {
         let mut bytes = whole.to_vec(alloc)?;
         if let Some(byte) = bytes.get_mut(place) {
             *byte ^= change;
@@ -55,7 +55,7 @@ fn a_changed_byte_has_its_answer(rt: HostRuntime) -> Result<(), Fail> {
         (Command::List, Input::TinyJob),
         (Command::List, Input::CodedJob),
     ];
-    for (command, input) in CASES {
+    for &(command, input) in &CASES {
         try_bytes(&rt, rt.alloc(), command, input)?;
     }
     Ok(())

@@ -128,10 +128,10 @@ fn refuses<R: Abort + Threads + Sync>(
 
 #[test]
 fn the_machine_refuses_in_its_order(rt: HostRuntime) -> Result<(), Fail> {
-    for case in RASTERS {
+    for &case in &RASTERS {
         refuses(&rt, rt.alloc(), case)?;
     }
-    for case in OTHERS {
+    for &case in &OTHERS {
         refuses(&rt, rt.alloc(), case)?;
     }
     Ok(())
@@ -192,7 +192,7 @@ const PLAYED: [Played; 11] = [
 #[test]
 fn a_head_of_one_nozzle_refuses_each_bad_place(rt: HostRuntime) -> Result<(), Fail> {
     let (alloc, words) = (rt.alloc(), ["dots", "profile=tiny1"]);
-    for (parts, status, line) in PLAYED {
+    for &(parts, status, line) in &PLAYED {
         let job = joined(alloc, parts)?;
         let wanted = Answer::of(alloc, status, b"", line)?;
         words_leave(&rt, alloc, &words, &job, BY_BYTES, &wanted)?;

@@ -113,7 +113,7 @@ const BEGINS: [usize; 18] = [
 fn answer_to_part(alloc: Global, count: usize) -> Result<Answer, AllocError> {
     let out: &[u8] = if count < 90 { b"" } else { TINY_IMAGES };
     let mut last = 0;
-    for begin in BEGINS {
+    for &begin in &BEGINS {
         if begin <= count {
             last = begin;
         }

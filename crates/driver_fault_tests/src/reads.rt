@@ -236,7 +236,7 @@ fn failing_sink_and_source_keep_what_was_done(rt: HostRuntime) -> Result<(), Fai
         (Command::Dots, Input::CodedJob, 1, 5),
         (Command::List, Input::CodedJob, 1, 5),
     ];
-    for case in CASES {
+    for &case in &CASES {
         try_both(&rt, rt.alloc(), case)?;
     }
     Ok(())

@@ -39,7 +39,7 @@ fn every_failing_write_leaves_its_prefix(rt: HostRuntime) -> Result<(), Fail> {
         (Command::List, Input::TinyJob),
         (Command::List, Input::CodedJob),
     ];
-    for (command, input) in CASES {
+    for &(command, input) in &CASES {
         try_writes(&rt, rt.alloc(), command, input)?;
     }
     Ok(())
@@ -95,7 +95,7 @@ fn try_text<R: Abort + Threads + Sync>(
 
 #[test]
 fn every_failing_write_of_a_text_leaves_its_prefix(rt: HostRuntime) -> Result<(), Fail> {
-    for (words, text) in LINES {
+    for &(words, text) in &LINES {
         try_text(&rt, rt.alloc(), words, text)?;
     }
     Ok(())

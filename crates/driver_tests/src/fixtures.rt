@@ -16,7 +16,7 @@ fn words_of(alloc: Global, given: usize) -> Result<u32, Memory> {
 #[test]
 fn a_command_line_has_at_most_nine_words(rt: HostRuntime) -> Result<(), Fail> {
     const CASES: [(usize, u32); 6] = [(0, 0), (1, 1), (8, 8), (9, 9), (10, 9), (11, 9)];
-    for (given, wanted) in CASES {
+    for &(given, wanted) in &CASES {
         assert_eq!(rt; words_of(rt.alloc(), given)?, wanted, "{given} words");
     }
     Ok(())
@@ -56,7 +56,7 @@ fn a_prefix_is_no_longer_than_its_bytes(rt: HostRuntime) -> Result<(), Fail> {
     const CASES: [(usize, usize); 4] = [(0, 0), (14, 14), (1803, 1803), (1804, 1803)];
     let mut bytes = begin(rt.alloc())?;
     add_page(&mut bytes, Kind::Gray8, (8, 6), &BLACK_BODY)?;
-    for (count, wanted) in CASES {
+    for &(count, wanted) in &CASES {
         assert_eq!(rt; prefix_length(&bytes, count), Some(wanted));
     }
     assert_eq!(rt; prefix(&bytes, 14), b"RaS2PwgRaster\0".as_slice());

@@ -108,7 +108,7 @@ fn large_heads_fire_each_dot_once(rt: HostRuntime) -> Result<(), Fail> {
         (3, 25, 30),
         (5, 51, 33),
     ];
-    for (nozzles, pitch, turn) in HEADS {
+    for &(nozzles, pitch, turn) in &HEADS {
         try_head(&rt, rt.alloc(), nozzles, pitch, turn)?;
     }
     Ok(())

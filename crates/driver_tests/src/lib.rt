@@ -23,9 +23,13 @@ mod heads;
 #[cfg(test)]
 mod job_bytes;
 #[cfg(test)]
+mod jobs;
+#[cfg(test)]
 mod kernels;
 #[cfg(test)]
 mod machine;
+#[cfg(test)]
+mod meters;
 #[cfg(test)]
 mod outside;
 #[cfg(test)]
@@ -44,5 +48,9 @@ mod printers;
 mod profiles;
 #[cfg(test)]
 mod runs;
+#[cfg(test)]
+mod small_heads;
+#[cfg(test)]
+mod ways;
 #[cfg(test)]
 mod weave;

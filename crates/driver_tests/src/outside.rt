@@ -151,7 +151,7 @@ fn a_deaf_error_sink_leaves_the_status(rt: HostRuntime) -> Result<(), Fail> {
         (5, b"input"),
         (100, b"input: page 1 line 2: Truncated\n"),
     ];
-    for (room, line) in CASES {
+    for &(room, line) in &CASES {
         leaves(&rt, &left_deaf(&rt, rt.alloc(), room)?, (3, b"", line));
     }
     Ok(())

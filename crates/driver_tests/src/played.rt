@@ -52,7 +52,7 @@ fn images_of(
     kernel: &Kernel,
 ) -> Result<Vec<u8>, Fail> {
     let mut images = Vec::new(alloc);
-    for ink in INKS {
+    for &ink in &INKS {
         let dots = wanted(alloc, printer, picture, kernel, ink)?;
         add_image(alloc, &dots, picture.height, printer.top, &mut images)?;
     }
@@ -112,7 +112,7 @@ fn plays_each_kind<R: Abort + Threads + Sync>(
     inks: InkSet,
 ) -> Result<(), Fail> {
     const KINDS: [(Kind, u64); 3] = [(Kind::Gray8, 7), (Kind::Black8, 8), (Kind::Rgb8, 9)];
-    for (kind, seed) in KINDS {
+    for &(kind, seed) in &KINDS {
         let picture = Picture::random(alloc, kind, (20, 23), seed)?;
         plays_its_dots(rt, alloc, &printer_of(inks), &picture)?;
     }

@@ -340,7 +340,7 @@ fn a_text_of_65537_bytes_is_too_long(rt: HostRuntime) -> Result<(), Fail> {
         (65_537, 2, b"", b"profile: line 0: TooLong\n"),
     ];
     let alloc = rt.alloc();
-    for (length, status, out, line) in CASES {
+    for &(length, status, out, line) in &CASES {
         let text = text_of(alloc, length)?;
         let left = run_bytes(&rt, alloc, SHOWN.words, &[&text], Vec::new(alloc))?;
         leaves(&rt, &left, (status, out, line));

@@ -28,7 +28,7 @@ fn each_line_has_place_name_and_numbers(rt: HostRuntime) {
         ),
         (u64::MAX, RASTER, ROWS, LONGEST),
     ];
-    for (place, command, rows, wanted) in CASES {
+    for &(place, command, rows, wanted) in &CASES {
         is_fit(&rt, &command, rows);
         let mut line = Line::new();
         push_line(place, &command, rows, &mut line);

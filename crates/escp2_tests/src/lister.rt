@@ -176,7 +176,7 @@ fn lists_prefixes(rt: &impl Abort, alloc: Global, part: Part) -> Result<(), Fail
 fn a_cut_or_a_failed_read_leaves_the_lines_of_all_whole_commands(
     rt: HostRuntime,
 ) -> Result<(), Fail> {
-    for part in PARTS {
+    for &part in &PARTS {
         lists_prefixes(&rt, rt.alloc(), part)?;
     }
     Ok(())

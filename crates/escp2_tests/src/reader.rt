@@ -153,7 +153,7 @@ fn list_names_each_reader_fault(rt: HostRuntime) -> Result<(), Fail> {
         // The high byte of a number shows that it is out of range at its low byte.
         (&[0x1B, 0x24, 0x00, 0x80, 0x0D], 4, 2, JobCause::BadValue),
     ];
-    for case in CASES {
+    for &case in &CASES {
         assert_fault(&rt, rt.alloc(), case)?;
     }
     Ok(())

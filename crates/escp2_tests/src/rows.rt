@@ -44,7 +44,7 @@ fn rows_have_their_codes(rt: HostRuntime) {
         (&[0; 128], &[0x81, 0x00]),
         (&[0; 129], &[0x81, 0x00, 0x00, 0x00]),
     ];
-    for (row, code) in CASES {
+    for &(row, code) in &CASES {
         assert!(rt; row.len() <= 1024);
         same_code(&rt, "a row", row, code);
     }
@@ -97,7 +97,7 @@ fn fill(row: &mut [u8], kinds: u32, first: u32) -> u32 {
 fn costs_are_those_of_every_packet(rt: HostRuntime) {
     const LENGTHS: [usize; 10] = [1, 2, 17, 18, 34, 128, 129, 147, 372, 1024];
     let mut seed = 1;
-    for len in LENGTHS {
+    for &len in &LENGTHS {
         for kinds in [1, 2, 3, 16, 256] {
             let mut row = [0; 1024];
             assert!(rt; len <= 1024);
@@ -222,7 +222,7 @@ fn control_bytes_are_refused(rt: HostRuntime) -> Result<(), Fail> {
         (&[0xFE, 7, 0x01, 8, 9], 3, 2, 3),
         (&[0x01, 7, 8, 0xFE, 9], 4, 3, 2),
     ];
-    for (code, used, at, given) in CASES {
+    for &(code, used, at, given) in &CASES {
         let state = RowState::Fault { at };
         let wanted = (RowFed { used, state }, given);
         same(&rt, "a fault", &feed_row(rt.alloc(), code)?, &wanted);

@@ -94,7 +94,7 @@ fn each_command_has_its_bytes(rt: HostRuntime) -> Result<(), Fail> {
         ),
         (RASTER, ROWS, RASTER_BYTES),
     ];
-    for (command, rows, bytes) in CASES {
+    for &(command, rows, bytes) in &CASES {
         let mut sink = sink(rt.alloc(), 16, 16, 0)?;
         puts(&rt, "a command", &mut sink, &command, rows, Ok(()), bytes);
     }

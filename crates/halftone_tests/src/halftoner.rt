@@ -126,7 +126,7 @@ const KINDS: [Kind; 5] = [
 
 // All small pages on a printer by a kernel.
 fn each_page<R: Abort + Threads + Sync>(rt: &R, alloc: Global, p: &Profile, kernel: Kernel) {
-    for kind in KINDS {
+    for &kind in &KINDS {
         for (width, height) in [(1, 5), (7, 256), (8, 257), (9, 515)] {
             let f = form(kind, width + 3, height + 3);
             let found = wrong_in(rt, alloc, p, f, kernel, 2);

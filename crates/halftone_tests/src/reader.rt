@@ -34,7 +34,7 @@ const NUMBERS: [(usize, u8); 14] = [
 fn stream(alloc: Global, lines: &[u8]) -> Result<MemSource, Fail> {
     let mut bytes = Vec::from_slice(alloc, b"RaS2PwgRaster")?;
     bytes.resize(1800, 0)?;
-    for (place, number) in NUMBERS {
+    for &(place, number) in &NUMBERS {
         if let Some(at) = bytes.get_mut(place) {
             *at = number;
         }

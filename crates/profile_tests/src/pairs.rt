@@ -17,7 +17,7 @@ fn numbers_are_digits_within_bounds(rt: HostRuntime) {
         (b"1x", None),
         (b"1000000000000000000000000000000000000001", None),
     ];
-    for (text, number) in UP_TO_64 {
+    for &(text, number) in &UP_TO_64 {
         assert!(rt; number_within(0, 64, text) == number, "{text:?}");
     }
 }
@@ -29,7 +29,7 @@ fn bounds_are_taken_and_what_is_past_them_is_not(rt: HostRuntime) {
         (0, u64::MAX, b"18446744073709551615", Some(u64::MAX)),
         (0, u64::MAX, b"18446744073709551616", None),
     ];
-    for (least, most, text, number) in TEXTS {
+    for &(least, most, text, number) in &TEXTS {
         assert!(rt; number_within(least, most, text) == number, "{text:?}");
     }
 }
@@ -41,7 +41,7 @@ fn the_first_equals_sign_cuts(rt: HostRuntime) {
         ("a=", Some(("a", ""))),
         ("a", None),
     ];
-    for (word, pair) in WORDS {
+    for &(word, pair) in &WORDS {
         assert_eq!(rt; cut_word(word), pair);
     }
     let cut = [cut_at(b'=', b"=").is_some(), cut_at(b'=', b"a").is_some()];

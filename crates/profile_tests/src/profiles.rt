@@ -243,7 +243,7 @@ fn keys_are_set_by_their_names(rt: HostRuntime) {
         ("Top", "6", Err(SetFault::UnknownKey)),
     ];
     let mut profile = GOOD;
-    for (key, value, answer) in LINES {
+    for &(key, value, answer) in &LINES {
         assert!(rt; profile.set(key, value) == answer, "{key}={value}");
     }
     let set = Profile {
@@ -299,7 +299,7 @@ const REFUSED: [(&[u8], u32, TextCause); 19] = [
 
 #[test]
 fn a_text_is_refused_at_its_first_fault(rt: HostRuntime) {
-    for (text, line, cause) in REFUSED {
+    for &(text, line, cause) in &REFUSED {
         assert_eq!(rt; read(text), Err(TextFault { line, cause }));
     }
 }
@@ -350,8 +350,8 @@ fn same_refusal(
 
 #[test]
 fn bad_curves_are_refused(rt: HostRuntime) -> Result<(), Fail> {
-    for rest in BAD_CURVES {
-        for key in CURVE_KEYS {
+    for &rest in &BAD_CURVES {
+        for &key in &CURVE_KEYS {
             let head = b"escp2-profile 2\n";
             same_refusal(&rt, rt.alloc(), head, key, rest, TextCause::BadValue)?;
         }
@@ -367,8 +367,8 @@ fn each_cause_comes_at_each_curve_key(rt: HostRuntime) -> Result<(), Fail> {
         (b"escp2-profile 2\n", b"s=0\n", TextCause::UnknownKey),
         (b"escp2-profile 1\n", b"=0\n", TextCause::UnknownKey),
     ];
-    for (head, rest, cause) in CAUSES {
-        for key in CURVE_KEYS {
+    for &(head, rest, cause) in &CAUSES {
+        for &key in &CURVE_KEYS {
             same_refusal(&rt, rt.alloc(), head, key, rest, cause)?;
         }
     }

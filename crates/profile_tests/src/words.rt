@@ -102,7 +102,7 @@ fn each_bad_word_has_its_cause(rt: HostRuntime) -> Result<(), Fail> {
             UsageCause::BadValue,
         ),
     ];
-    for (line, word, cause) in LINES {
+    for &(line, word, cause) in &LINES {
         same_fault(&rt, rt.alloc(), line, word, Some(cause))?;
     }
     Ok(())
@@ -152,7 +152,7 @@ fn shingled_passes_and_dead_nozzles_are_refused_at_the_later_word(
             UsageCause::BadValue,
         ),
     ];
-    for (line, word, cause) in LINES {
+    for &(line, word, cause) in &LINES {
         same_fault(&rt, rt.alloc(), line, word, Some(cause))?;
     }
     Ok(())
@@ -335,7 +335,7 @@ const VALUES: [(&str, Option<UsageCause>); 56] = [
 
 #[test]
 fn each_value_is_taken_or_refused_at_word_2(rt: HostRuntime) -> Result<(), Fail> {
-    for (word, cause) in VALUES {
+    for &(word, cause) in &VALUES {
         same_fault(&rt, rt.alloc(), &["print", word, "profile=c"], 2, cause)?;
     }
     Ok(())
@@ -343,7 +343,7 @@ fn each_value_is_taken_or_refused_at_word_2(rt: HostRuntime) -> Result<(), Fail>
 
 #[test]
 fn each_value_is_taken_or_refused_at_word_3(rt: HostRuntime) -> Result<(), Fail> {
-    for (word, cause) in VALUES {
+    for &(word, cause) in &VALUES {
         let number = if cause.is_none() { 4 } else { 3 };
         let cause = cause.unwrap_or(UsageCause::NotKeyValue);
         let line = ["print", "profile=c", word, "x"];
@@ -402,7 +402,7 @@ fn each_value_of_a_trial_is_taken_or_refused(rt: HostRuntime) -> Result<(), Fail
         ("most=1", Some(UsageCause::UnknownKey)),
         ("page=1", Some(UsageCause::UnknownKey)),
     ];
-    for (word, cause) in TRIAL_VALUES {
+    for &(word, cause) in &TRIAL_VALUES {
         same_fault(&rt, rt.alloc(), &["trial", word, "profile=c"], 2, cause)?;
     }
     Ok(())

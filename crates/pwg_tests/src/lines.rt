@@ -87,7 +87,7 @@ fn fill_white(rt: &impl Abort, reader: &mut LineReader, bytes: usize, white: u8)
 #[test]
 fn byte_128_fills_the_line_with_white(rt: HostRuntime) -> Result<(), Fail> {
     for width in [1, 7, 8, 9, 8191] {
-        for (kind, bits, white) in [
+        for &(kind, bits, white) in &[
             (Kind::Gray8, 8, 0xFF),
             (Kind::Black8, 8, 0x00),
             (Kind::Rgb8, 24, 0xFF),
@@ -129,7 +129,7 @@ fn lines_of_one_bit_are_whole_bytes_and_their_spare_bits_may_be_set(
         (9, &[0x00, 0x01, 0xFF], 2),
         (8191, MANY, 1024),
     ];
-    for (width, group, bytes) in CASES {
+    for &(width, group, bytes) in &CASES {
         let mut reader = reader_of(rt.alloc(), Kind::Black1, width, 1)?;
         feeds(
             &rt,
@@ -233,7 +233,7 @@ fn read_cut(alloc: Global, cut: usize) -> Result<Vec<u8>, Fail>
 fn read_bytes(alloc: Global) -> Result<Vec<u8>, Fail> {
     let mut reader = reader_of(alloc, Kind::Gray8, 4, 6)?;
     let mut read = Vec::new(alloc);
-    for byte in PAGE {
+    for &byte in &PAGE {
         feed_all(&mut reader, &[byte], &mut read)?;
     }
     Ok(read)

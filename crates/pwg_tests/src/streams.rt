@@ -370,7 +370,7 @@ fn a_stop_in_a_page_has_its_line(rt: HostRuntime) -> Result<(), Fail> {
             RUN,
         ),
     ];
-    for (page, line, cause) in CASES {
+    for &(page, line, cause) in &CASES {
         let stream = stream_of(rt.alloc(), &[page])?;
         ends(&rt, rt.alloc(), stream, fault(1, line, cause))?;
     }

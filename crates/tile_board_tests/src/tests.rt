@@ -312,7 +312,7 @@ fn known_rows(planes: &Planes) -> usize
     requires inks { planes.now.inks ≡ 1 }
 {
     let mut known = 0usize;
-    for (y, row) in KNOWN_ROWS {
+    for &(y, row) in &KNOWN_ROWS {
         if y < 70 && planes.row(0, y) == row.as_slice() {
             known = known.wrapping_add(1);
         }

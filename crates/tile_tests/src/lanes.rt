@@ -407,7 +407,7 @@ fn the_least_and_greatest_errors_have_the_errors_and_dots_of_the_rule(
     for fill in [Amounts::Mixed(0), Amounts::All(0), Amounts::All(255)] {
         set_amounts(&mut rows, fill);
         for kernel in [Kernel::Floyd, Kernel::Jarvis, Kernel::Stucki] {
-            for (c, j, error) in EXTREMES {
+            for &(c, j, error) in &EXTREMES {
                 let is_right = is_right_at(kernel, Place { c, j }, &rows, error);
                 assert!(rt; is_right, "{kernel:?} of {fill:?} at {c}, {j}");
             }

@@ -48,7 +48,7 @@ const SIZES: [(Shape, u32, u32); 5] = [
 
 #[test]
 fn windows_have_their_columns_and_bands(rt: HostRuntime) {
-    for (shape, columns, bands) in SIZES {
+    for &(shape, columns, bands) in &SIZES {
         assert!(rt; is_window(shape));
         let found = (shape.columns(), shape.bands());
         same(&rt, "a window", &found, &(columns, bands));
@@ -72,7 +72,7 @@ const PIXELS: [(Shape, u32, u32, Place); 11] = [
 
 #[test]
 fn a_tile_leans_left_by_two_pixels_a_row(rt: HostRuntime) {
-    for (shape, x, y, place) in PIXELS {
+    for &(shape, x, y, place) in &PIXELS {
         assert!(rt; is_window(shape) && x < shape.width && y < shape.height);
         same(&rt, "a pixel", &shape.tile_of(x, y), &place);
     }
@@ -112,7 +112,7 @@ const RECEIVERS: [(Shape, Place, Dir, Option<Place>); 8] = [
 
 #[test]
 fn a_tile_gives_its_edges_to_three_others_at_most(rt: HostRuntime) {
-    for (shape, place, dir, to) in RECEIVERS {
+    for &(shape, place, dir, to) in &RECEIVERS {
         assert!(rt; is_window(shape) && place.c < shape.columns() && place.j < shape.bands());
         same(&rt, "an edge", &shape.next(place, dir), &to);
     }

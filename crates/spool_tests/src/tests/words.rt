@@ -125,7 +125,7 @@ fn requests_are_read_with_their_names(rt: HostRuntime) -> Result<(), Fail> {
             "../c . \u{e9} ;",
         ),
     ];
-    for (line, wanted, profile, names) in LINES {
+    for &(line, wanted, profile, names) in &LINES {
         let words = words_of(rt.alloc(), line)?;
         let request = same_names(&rt, rt.alloc(), &words, profile, names)?;
         same(&rt, names, &request, &wanted);
@@ -320,7 +320,7 @@ fn names_have_no_more_than_255_bytes(rt: HostRuntime) -> Result<(), Fail> {
         ("profile=", 'x', 255, true),
         ("profile=", 'x', 256, false),
     ];
-    for (key, letter, count, is_taken) in WORDS {
+    for &(key, letter, count, is_taken) in &WORDS {
         let word = long_word(rt.alloc(), key, letter, count)?;
         let words = words_of(rt.alloc(), &["send=b", word.as_str()])?;
         assert!(rt;

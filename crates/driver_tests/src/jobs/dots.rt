@@ -1,5 +1,5 @@
 //! The command `dots`.
-use crate::fixture::{Case, KNOWN, Part, try_all};
+use crate::jobs::fixture::{Case, KNOWN, Part, try_all};
 use known_jobs::TINY_IMAGES;
 use std::test::Fail;
 

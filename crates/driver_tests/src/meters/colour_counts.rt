@@ -1,5 +1,5 @@
 //! Pages of colour, and the count of each ink.
-use crate::fixture::{counts, one_meter, run_metered};
+use crate::meters::fixture::{counts, one_meter, run_metered};
 use driver_fixtures::{add_page, begin, one_file, roomy};
 use pwg_header::Kind;
 use std::alloc::{AllocError, Global};
@@ -18,7 +18,7 @@ const BODIES: [&[u8]; 3] = [
 // A stream of these pages.
 fn colour_pages(alloc: Global) -> Result<Vec<u8>, AllocError> {
     let mut bytes = begin(alloc)?;
-    for body in BODIES {
+    for &body in &BODIES {
         add_page(&mut bytes, Kind::Rgb8, (4, 2), body)?;
     }
     Ok(bytes)

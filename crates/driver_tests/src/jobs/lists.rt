@@ -1,5 +1,5 @@
 //! The command `list`.
-use crate::fixture::{Case, KNOWN, Part, try_all};
+use crate::jobs::fixture::{Case, KNOWN, Part, try_all};
 use std::test::Fail;
 
 // The listing of the job for the printer `tiny`: its first two lines, and the others.

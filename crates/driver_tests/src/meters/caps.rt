@@ -1,5 +1,5 @@
 //! One meter, and the cap that a word sets on it.
-use crate::fixture::{black_pages, counts, one_meter, run_metered, runs_to, settled};
+use crate::meters::fixture::{black_pages, counts, one_meter, run_metered, runs_to, settled};
 use driver_fixtures::{add_page, begin, no_files, roomy};
 use ink_meter::{DotMeter, InkCounts, Meter};
 use known_jobs::TINY_JOB;

@@ -1,5 +1,5 @@
 //! Trials.
-use crate::fixture::{Case, try_unread};
+use crate::ways::fixture::{Case, try_unread};
 use driver_fixtures::{no_files, plain, run_over, sink};
 use std::alloc::Global;
 use std::process::Abort;

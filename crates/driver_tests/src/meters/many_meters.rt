@@ -1,6 +1,6 @@
 //! Several meters, and none.
-use crate::card::Card;
-use crate::fixture::{counts, one_meter, runs_to, settled};
+use crate::meters::card::Card;
+use crate::meters::fixture::{counts, one_meter, runs_to, settled};
 use ink_meter::{DotMeter, InkCounts, Meter};
 use known_jobs::TINY_JOB;
 use std::alloc::Global;

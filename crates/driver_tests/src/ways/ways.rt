@@ -1,5 +1,5 @@
 //! Pages by shingled passes, and around dead nozzles.
-use crate::fixture::{Case, black_page, try_all};
+use crate::ways::fixture::{Case, black_page, try_all};
 use driver_fixtures::{no_files, plain, roomy, run_over};
 use known_jobs::{TINY_HEALED_JOB, TINY_IMAGES, TINY_SHINGLED_JOB};
 use std::alloc::Global;

@@ -1,6 +1,6 @@
 //! Pseudo-random jobs, whole, cut and with a byte changed: the driver answers as the slow programs do.
-use crate::fixture::runs_to;
-use crate::random::{Random, random_job};
+use crate::jobs::fixture::runs_to;
+use crate::jobs::random::{Random, random_job};
 use job_fixtures::{PlainOutcome, listed, played};
 use std::alloc::Global;
 use std::process::Abort;

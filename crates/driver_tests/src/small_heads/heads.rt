@@ -1,5 +1,5 @@
 //! Each small head over black windows of eight columns.
-use crate::shots::{Shot, shots_of};
+use crate::small_heads::shots::{Shot, shots_of};
 use driver_fixtures::{add_page, begin, one_file, plain, roomy, run_over};
 use pwg_header::Kind;
 use std::alloc::Global;
