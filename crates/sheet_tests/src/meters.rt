@@ -78,7 +78,7 @@ impl Meter for Card {
     }
 }
 
-const fn counts(k: u64, c: u64, m: u64, y: u64) -> InkCounts {
+fn counts(k: u64, c: u64, m: u64, y: u64) -> InkCounts {
     InkCounts { k, c, m, y }
 }
 
@@ -91,13 +91,75 @@ fn count(meters: &mut Meters, n: &InkCounts) -> Result<(), OverCap> {
     Ok(())
 }
 
-// Dots, and the meter that has no room for them, if one has none.
-type Case = (InkCounts, Result<(), OverCap>);
+/// A kind of meter.
+#[derive(Clone, Copy)]
+enum Kind {
+    Dots,
+    Card,
+}
 
-// Counts dots in turn, each with the answer that is wanted.
-fn each(rt: &impl Abort, meters: &mut Meters, cases: &[Case]) {
-    for (n, wanted) in cases {
-        assert!(rt; count(meters, n) == *wanted, "at {n:?}");
+// A new meter of a kind, with this cap.
+fn meter_of(alloc: Global, kind: Kind, cap: u64) -> Result<Box<dyn Meter>, Fail> {
+    match kind {
+        Kind::Dots => {
+            let mut meter = DotMeter::make();
+            meter.set_cap(cap);
+            Ok(Box::new(alloc, meter)?)
+        }
+        Kind::Card => Ok(Box::new(alloc, Card::make(cap))?),
+    }
+}
+
+// New meters of these kinds, with these caps.
+fn meters_of(alloc: Global, kinds: &[(Kind, u64)]) -> Result<Meters, Fail> {
+    let mut meters: Meters = Vec::new(alloc);
+    for (kind, cap) in kinds {
+        meters.push(meter_of(alloc, *kind, *cap)?)?;
+    }
+    Ok(meters)
+}
+
+/// Dots of black, cyan, magenta and yellow.
+type Dots = [u64; 4];
+
+/// The meter without room, if one has none: its place, its total and its cap.
+type Report = Option<(usize, u64, u64)>;
+
+/// What is done with meters: dots are counted where each has room, or only tried, each with the report that is wanted,
+/// or all get a cap.
+#[derive(Clone, Copy)]
+enum Step {
+    Count(Dots, Report),
+    Admit(Dots, Report),
+    Cap(u64),
+}
+
+fn counts_of(dots: Dots) -> InkCounts {
+    let [k, c, m, y] = dots;
+    counts(k, c, m, y)
+}
+
+fn report_of(answer: Result<(), OverCap>) -> Report {
+    match answer {
+        Ok(()) => None,
+        Err(OverCap { index, total, cap }) => Some((index, total, cap)),
+    }
+}
+
+// Takes the steps in turn.
+fn each(rt: &impl Abort, meters: &mut Meters, steps: &[Step]) {
+    for step in steps {
+        match step {
+            Step::Count(dots, wanted) => {
+                let report = report_of(count(meters, &counts_of(*dots)));
+                assert!(rt; report == *wanted, "at {dots:?}");
+            }
+            Step::Admit(dots, wanted) => {
+                let report = report_of(admit(meters, &counts_of(*dots)));
+                assert!(rt; report == *wanted, "at {dots:?}");
+            }
+            Step::Cap(cap) => cap_all(meters, *cap),
+        }
     }
 }
 
@@ -111,22 +173,21 @@ fn settles(rt: &impl Abort, meters: Meters, wanted: Option<InkCounts>) {
     same(rt, "the sum", &sum, &wanted);
 }
 
-// The report of a meter without room.
-const fn over(index: usize, total: u64, cap: u64) -> Result<(), OverCap> {
-    Err(OverCap { index, total, cap })
+// Takes the steps with new meters, and settles them.
+fn try_steps(
+    rt: &impl Abort,
+    alloc: Global,
+    kinds: &[(Kind, u64)],
+    steps: &[Step],
+    wanted: Option<InkCounts>,
+) -> Result<(), Fail> {
+    let mut meters = meters_of(alloc, kinds)?;
+    each(rt, &mut meters, steps);
+    settles(rt, meters, wanted);
+    Ok(())
 }
 
 const MOST: u64 = 18_446_744_073_709_551_615;
-
-// A meter of the library and then one of its own kind, with these caps.
-fn two_meters(alloc: Global, first: u64, second: u64) -> Result<Meters, Fail> {
-    let mut meters: Meters = Vec::new(alloc);
-    let mut meter = DotMeter::make();
-    meter.set_cap(first);
-    meters.push(Box::new(alloc, meter)?)?;
-    meters.push(Box::new(alloc, Card::make(second))?)?;
-    Ok(meters)
-}
 
 #[test]
 fn a_new_meter_has_room_for_everything(rt: HostRuntime) {
@@ -144,86 +205,74 @@ fn a_new_meter_has_room_for_everything(rt: HostRuntime) {
 
 #[test]
 fn a_tie_is_room_and_one_dot_more_is_not(rt: HostRuntime) -> Result<(), Fail> {
-    let mut meters: Meters = Vec::new(rt.alloc());
-    meters.push(Box::new(rt.alloc(), DotMeter::make())?)?;
-    cap_all(&mut meters, 16);
-    each(&rt, &mut meters, &[(counts(1, 2, 3, 4), Ok(()))]);
-    same(&rt, "a tie", &admit(&meters, &counts(0, 0, 0, 6)), &Ok(()));
-    each(&rt, &mut meters, &[(counts(0, 7, 0, 0), over(0, 10, 16))]);
-    settles(&rt, meters, Some(counts(1, 2, 3, 4)));
-    Ok(())
+    const STEPS: [Step; 4] = [
+        Step::Cap(16),
+        Step::Count([1, 2, 3, 4], None),
+        Step::Admit([0, 0, 0, 6], None),
+        Step::Count([0, 7, 0, 0], Some((0, 10, 16))),
+    ];
+    let sum = Some(counts(1, 2, 3, 4));
+    try_steps(&rt, rt.alloc(), &[(Kind::Dots, MOST)], &STEPS, sum)
 }
 
 #[test]
 fn the_first_meter_without_room_is_named(rt: HostRuntime) -> Result<(), Fail> {
-    let cases = [
-        (counts(0, 1, 1, 1), Ok(())),
-        (counts(1, 0, 0, 0), over(2, 3, 3)),
-        (counts(13, 0, 0, 0), over(1, 3, 15)),
+    const KINDS: [(Kind, u64); 3] = [(Kind::Dots, MOST), (Kind::Card, 15), (Kind::Card, 3)];
+    const STEPS: [Step; 3] = [
+        Step::Count([0, 1, 1, 1], None),
+        Step::Count([1, 0, 0, 0], Some((2, 3, 3))),
+        Step::Count([13, 0, 0, 0], Some((1, 3, 15))),
     ];
-    let mut meters = two_meters(rt.alloc(), MOST, 15)?;
-    meters.push(Box::new(rt.alloc(), Card::make(3))?)?;
-    each(&rt, &mut meters, &cases);
-    settles(&rt, meters, Some(counts(0, 3, 3, 3)));
-    Ok(())
+    try_steps(&rt, rt.alloc(), &KINDS, &STEPS, Some(counts(0, 3, 3, 3)))
 }
 
 #[test]
 fn a_cap_below_what_was_counted_leaves_no_room(rt: HostRuntime) -> Result<(), Fail> {
-    let mut meters: Meters = Vec::new(rt.alloc());
-    meters.push(Box::new(rt.alloc(), Card::make(50))?)?;
-    meters.push(Box::new(rt.alloc(), DotMeter::make())?)?;
-    each(&rt, &mut meters, &[(counts(20, 5, 4, 3), Ok(()))]);
-    cap_all(&mut meters, 10);
-    each(&rt, &mut meters, &[(counts(0, 0, 0, 0), over(0, 32, 10))]);
-    settles(&rt, meters, Some(counts(40, 10, 8, 6)));
-    Ok(())
+    const KINDS: [(Kind, u64); 2] = [(Kind::Card, 50), (Kind::Dots, MOST)];
+    const STEPS: [Step; 3] = [
+        Step::Count([20, 5, 4, 3], None),
+        Step::Cap(10),
+        Step::Count([0, 0, 0, 0], Some((0, 32, 10))),
+    ];
+    try_steps(&rt, rt.alloc(), &KINDS, &STEPS, Some(counts(40, 10, 8, 6)))
 }
 
 #[test]
 fn totals_go_up_to_the_end_of_64_bits(rt: HostRuntime) -> Result<(), Fail> {
-    let cases = [
-        (counts(18_446_744_073_709_551_600, 0, 0, 0), Ok(())),
-        (counts(0, 5, 5, 5), Ok(())),
-        (counts(0, 0, 1, 0), over(0, MOST, MOST)),
+    const KINDS: [(Kind, u64); 2] = [(Kind::Dots, MOST), (Kind::Card, MOST)];
+    const STEPS: [Step; 3] = [
+        Step::Count([18_446_744_073_709_551_600, 0, 0, 0], None),
+        Step::Count([0, 5, 5, 5], None),
+        Step::Count([0, 0, 1, 0], Some((0, MOST, MOST))),
     ];
-    let mut meters = two_meters(rt.alloc(), MOST, MOST)?;
-    each(&rt, &mut meters, &cases);
-    settles(&rt, meters, None);
-    Ok(())
+    try_steps(&rt, rt.alloc(), &KINDS, &STEPS, None)
 }
 
 #[test]
 fn no_meter_refuses_nothing_and_counts_nothing(rt: HostRuntime) -> Result<(), Fail> {
-    let mut meters: Meters = Vec::new(rt.alloc());
-    cap_all(&mut meters, 0);
-    each(&rt, &mut meters, &[(counts(1, 1, 1, 1), Ok(()))]);
-    settles(&rt, meters, Some(counts(0, 0, 0, 0)));
-    Ok(())
+    const STEPS: [Step; 2] = [Step::Cap(0), Step::Count([1, 1, 1, 1], None)];
+    try_steps(&rt, rt.alloc(), &[], &STEPS, Some(counts(0, 0, 0, 0)))
 }
 
 // Counts ten dots and six on each of two meters with a cap of 16: then both totals are 16, and no dot more is admitted.
-fn both_reach_16(rt: &impl Abort, mut meters: Meters) {
-    let cases = [
-        (counts(1, 2, 3, 4), Ok(())),
-        (counts(0, 0, 0, 6), Ok(())),
-        (counts(1, 0, 0, 0), over(0, 16, 16)),
+fn both_reach_16(rt: &impl Abort, alloc: Global, kinds: &[(Kind, u64)]) -> Result<(), Fail> {
+    const STEPS: [Step; 4] = [
+        Step::Cap(16),
+        Step::Count([1, 2, 3, 4], None),
+        Step::Count([0, 0, 0, 6], None),
+        Step::Count([1, 0, 0, 0], Some((0, 16, 16))),
     ];
-    each(rt, &mut meters, &cases);
+    let mut meters = meters_of(alloc, kinds)?;
+    each(rt, &mut meters, &STEPS);
     for _ in 0..2 {
         let total = meters.pop().map(|meter| meter.total());
         same(rt, "a total", &total, &Some(counts(1, 2, 3, 10)));
     }
+    Ok(())
 }
 
 #[test]
 fn two_meters_both_count_up_to_their_cap(rt: HostRuntime) -> Result<(), Fail> {
-    let alloc = rt.alloc();
-    let mut meters: Meters = Vec::new(alloc);
-    meters.push(Box::new(alloc, DotMeter::make())?)?;
-    meters.push(Box::new(alloc, DotMeter::make())?)?;
-    cap_all(&mut meters, 16);
-    both_reach_16(&rt, meters);
-    both_reach_16(&rt, two_meters(alloc, 16, 16)?);
-    Ok(())
+    both_reach_16(&rt, rt.alloc(), &[(Kind::Dots, MOST), (Kind::Dots, MOST)])?;
+    both_reach_16(&rt, rt.alloc(), &[(Kind::Dots, 16), (Kind::Card, 16)])
 }
