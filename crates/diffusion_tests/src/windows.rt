@@ -10,7 +10,7 @@ use std::alloc::Global;
 use std::process::Abort;
 use std::thread::Threads;
 use tile_border::{BottomEdge, TopEdges};
-use wavefront_team::{Gate, OpenGate, Team, diffuse, diffuse_beside};
+use wavefront_team::{DotsSoFar, Gate, OpenGate, Team, diffuse, diffuse_beside};
 
 // Rows of the planes above the window.
 const ABOVE: u32 = 3;
@@ -244,26 +244,36 @@ fn wrong_in<R: Threads + Sync, G: Gate + Sync>(
     wrong_of(alloc, case, &planes, &bottom)
 }
 
-// Diffuses a window of one slab while the caller has an errand, and gives the top of the rows below it.
+// Diffuses a window of one slab while the caller has an errand, and gives its dots and the top of the rows below it.
 fn slab_beside<R: Threads + Sync, F: FnMut()>(
     team: &Team<'_, R, OpenGate>,
     alloc: Global,
     case: &Case,
     top: TopEdges,
-    planes: &mut Planes,
+    planes: Planes,
     errand: &mut F,
-) -> Option<TopEdges>
-    requires top { IsTopOf planes.old.width planes.old.inks top }
+) -> Option<(Planes, TopEdges)>
+    requires top { IsTopOf planes.width planes.inks top }
     requires errand { F.pre errand.old }
-    ensures { IfSome result (IsTopOf planes.old.width planes.old.inks) }
+    ensures { IfSome result (λ slab. IsTopOf planes.width planes.inks slab.1) }
 {
     let rows = amounts(alloc, case, 0, case.height())?;
     let fits = rows.rows() <= 300 && ABOVE + rows.rows() <= planes.rows();
     if !fits || rows.width() != planes.width() || rows.inks() != planes.inks() {
         return None;
     }
-    match diffuse_beside(team, alloc, &rows, case.kernel, top, planes, ABOVE, errand) {
-        Ok((bottom, ())) => Some(bottom),
+    let mut dots = DotsSoFar::of(planes);
+    match diffuse_beside(
+        team,
+        alloc,
+        &rows,
+        case.kernel,
+        top,
+        &mut dots,
+        ABOVE,
+        errand,
+    ) {
+        Ok((bottom, ())) => Some((dots.finish(), bottom)),
         Err(_) => None,
     }
 }
@@ -284,9 +294,9 @@ pub(crate) fn wrong_beside<R: Threads + Sync, F: FnMut()>(
         workers: workers.clamp(1, 64),
         gate: &OpenGate,
     };
-    let mut planes = spotted(alloc, case.width, case.height(), case.inks)?;
+    let planes = spotted(alloc, case.width, case.height(), case.inks)?;
     let top = top_of(alloc, case.width, case.inks, case.error)?;
-    let bottom = slab_beside(&team, alloc, case, top, &mut planes, errand)?;
+    let (planes, bottom) = slab_beside(&team, alloc, case, top, planes, errand)?;
     wrong_of(alloc, case, &planes, &bottom)
 }
 

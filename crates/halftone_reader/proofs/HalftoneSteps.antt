@@ -1,14 +1,14 @@
 -- A page that is read and halftoned, group by group and slab by slab.
-use Rattle.std.proofs.Common.{◌≡◌, ℕ, ◌+◌, ◌-◌, ◌<◌, ◌≤◌, List, [], ◌++◌, length, replicate, Option, None, false, refl, ◌∙◌, ap}
+use Rattle.std.proofs.Common.{◌≡◌, ℕ, ◌+◌, ◌-◌, ◌<◌, ◌≤◌, List, [], ◌++◌, replicate, Option, None, false, refl, ◌∙◌, ap}
 use Rattle.std.proofs.Common.{append-nil, append_assoc, arith, subst, sym}
 use Rattle.std.proofs.lemmas.List.{replicate-append-replicate}
 use Rattle.diffusion_kernel.specs.Tables.{table_of}
 use Rattle.diffusion_kernel.specs.declared.tables.Kernel.{Kernel}
-use Rattle.dot_planes.specs.Tables.{dot}
+use Rattle.dot_planes.specs.Tables.{DotTable, HasSizeOf, dot}
+use Rattle.wavefront_team.specs.SoFar.{dots_in}
 use Rattle.page_definitions.specs.Dots.{HasDots, halftone}
 use Rattle.page_halftoner.proofs.Lines.{IsDone, all_diffused, slab_full, whole_page}
 use Rattle.page_halftoner.specs.Halftones.{Diffusing, Filling, HasRoom, HoldsRows, IsFull, IsSameRows, PutsLines, StandsFor, joined}
-use Rattle.printer_definitions.specs.Inks.{inks_of}
 use Rattle.printer_definitions.specs.Printer.{Printer}
 use Rattle.pwg_definitions.specs.Header.{IsWanted, header_of}
 use Rattle.pwg_definitions.specs.declared.pages.PageForm.{PageForm}
@@ -16,8 +16,7 @@ use Rattle.pwg_definitions.specs.declared.pages.Wanted.{Wanted}
 use Rattle.pwg_laws.proofs.HeaderLaws.{check-wanted}
 use Rattle.pwg_stream.specs.declared.reader.PageReader.{PageReader}
 use Rattle.pwg_stream.specs.Reading.{BeginsPage, GivesLines, has_ended, line_of, lines_left_of, stop_of}
-use Rattle.separation_definitions.specs.Windows.{wanted_by, window_of}
-use Rattle.separation_definitions.specs.declared.window.Window.{Window}
+use Rattle.separation_definitions.specs.Windows.{wanted_by}
 use Rattle.halftone_reader.specs.Reading.{ReadsHalftone}
 use Rattle.halftone_reader.specs.SoFar.{Begun, HalftonedSoFar, PageSoFar}
 use Rattle.halftone_reader.proofs.PageSteps.{page_begin, page_end, page_step}
@@ -104,11 +103,12 @@ so_far_diffused b now left f next d done all so_far = record {
 }
 
 -- The last line was read, and all rows are diffused.
-pub so_far_end : (b : Begun) (now : PageReader) (left : Option (List ℕ)) (f : Filling) (d : Diffusing)
+pub so_far_end : (b : Begun) (now : PageReader) (left : Option (List ℕ)) (f : Filling) (d : Diffusing) (t : DotTable)
     → HalftonedSoFar b now left f d → HoldsRows f → (IsFull f → ⊥) → f.count ≡ f.form.height
-    → HasRoom b.form b.profile d.planes
-    → ReadsHalftone b.profile (table_of b.kernel) b.reader now b.before left b.form d.planes
-so_far_end b now left f d so_far rows room all planes =
+    → HasRoom b.form b.profile (dots_in d.dots) → HasSizeOf d.dots.planes t
+    → ((i y x : ℕ) → i < t.inks → y < t.rows → x < t.width → dot t i y x ≡ (dots_in d.dots).dot i y x)
+    → ReadsHalftone b.profile (table_of b.kernel) b.reader now b.before left b.form t
+so_far_end b now left f d t so_far rows full all room size same =
     let form : PageForm = b.form in
     let height : f.form.height ≡ form.height = ap (λ (g : PageForm). g.height) so_far.form_is in
     let none : so_far.pending ≡ 0 = omega (arith, so_far.count, all, height) in
@@ -117,15 +117,12 @@ so_far_end b now left f d so_far rows room all planes =
     PageSoFar (wanted_by b.profile) b.reader now b.before left (record { form = b.form; lines = lines }) in
     let placed : so_far.lines ++ replicate so_far.pending (line_of now) ≡ so_far.lines =
     ap (λ n. so_far.lines ++ replicate n (line_of now)) none ∙ append-nil so_far.lines in
-    let window_is : window_of f.form f.profile ≡ window_of b.form b.profile =
-    ap (λ g. window_of g f.profile) so_far.form_is ∙ ap (λ p. window_of b.form p) so_far.profile_is in
-    let dots = whole_page (joined f d) so_far.lines so_far.stands (all_diffused f rows room all)
-    (planes.width ∙ ap (λ (w : Window). w.width) (sym window_is))
-    (planes.rows ∙ ap (λ (w : Window). w.height) (sym window_is))
-    (planes.inks ∙ ap (λ (p : Printer). length (inks_of p.inks)) (sym so_far.profile_is)) in
+    let Room : Printer → PageForm → Type 0 = λ q g. HasRoom g q (dots_in d.dots) in
+    let here : Room f.profile f.form = subst (λ q. Room q f.form) (sym so_far.profile_is)
+    (subst (λ g. Room b.profile g) (sym so_far.form_is) room) in
+    let dots = whole_page (joined f d) so_far.lines t so_far.stands (all_diffused f rows full all) here size same in
     let Has : Printer → PageForm → Kernel → Type 0 =
-    λ q g k. HasDots q (halftone (record { form = g; lines = so_far.lines }) q (table_of k))
-    d.planes.width d.planes.rows d.planes.inks (dot d.planes) in
+    λ q g k. HasDots q (halftone (record { form = g; lines = so_far.lines }) q (table_of k)) t.width t.rows t.inks (dot t) in
     record {
       page = record { form = form; lines = so_far.lines };
       reads = page_end (wanted_by b.profile) b.reader now b.before left (record { form = form; lines = so_far.lines })

@@ -1,7 +1,7 @@
 -- Lines that are read into slabs.
 use Rattle.std.proofs.Common.{◌≡◌, ◌⊎◌, ℕ, ◌+◌, ◌-◌, ◌<◌, arith, subst, List, ◌++◌, replicate, Option, None, Some, IfSome, Result, Ok, Err, IsErrOf, ap, sym, ◌∙◌}
 use Rattle.buffered_bytes.specs.Text.{UsesSome}
-use Rattle.dot_planes.specs.Tables.{DotTable, HasSizeOf}
+use Rattle.wavefront_team.specs.Dots.{Dots, IsSameSize}
 use Rattle.ink_separation.specs.Separators.{IsSeparatorOf}
 use Rattle.raw_rows.specs.declared.kept.RawRows.{RawRows}
 use Rattle.page_halftoner.specs.Halftones.{Diffusing, Filling, HasRoom, HoldsRows, IsFull, IsSameRows, IsSpare, window_filled}
@@ -103,16 +103,16 @@ may_read_on b r left f d so_far = record {
   given = omega (arith, so_far.count, ap (λ (form : PageForm). form.height) so_far.form_is);
 }
 
--- Planes for the window of the page have room for the rows that are filled.
-pub room_in : (b : Begun) (r : PageReader) (left : Option (List ℕ)) (f : Filling) (d : Diffusing) (t : DotTable)
+-- Dots for the window of the page have room for the rows that are filled.
+pub room_in : (b : Begun) (r : PageReader) (left : Option (List ℕ)) (f : Filling) (d : Diffusing) (t : Dots)
     → HalftonedSoFar b r left f d → HasRoom b.form b.profile t → HasRoom f.form f.profile t
 room_in b r left f d t so_far room =
     let F : PageForm → Type 0 = λ form. HasRoom form f.profile t in
     let P : Printer → Type 0 = λ p. HasRoom b.form p t in
     subst F (sym so_far.form_is) (subst P (sym so_far.profile_is) room)
 
--- planes of the same size have the same room
-pub room_still : (form : PageForm) (p : Printer) (t u : DotTable) → HasSizeOf t u → HasRoom form p t → HasRoom form p u
+-- dots of the same size have the same room
+pub room_still : (form : PageForm) (p : Printer) (t u : Dots) → IsSameSize t u → HasRoom form p t → HasRoom form p u
 room_still form p t u size room = record {
   width = size.width ∙ room.width;
   rows = size.rows ∙ room.rows;

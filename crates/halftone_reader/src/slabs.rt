@@ -1,10 +1,11 @@
 //! Slabs of a page, filled by its lines.
-ghost use Rattle.dot_planes.specs.Tables.{HasSizeOf};
 ghost use Rattle.halftone_reader.specs.SoFar.{FillsSlab, MayReadOn, ReadsOn};
 ghost use Rattle.page_halftoner.specs.Halftones.{HasRoom, HoldsRows, IsFull, IsSpare};
 ghost use Rattle.pwg_stream.specs.declared.stops.StreamStop.TheVariants as stop;
 ghost use Rattle.pwg_stream.specs.Reading.{lines_left_of};
 ghost use Rattle.std.specs.Prelude.{IfSome, IsErrOf, OnOk, ◌+◌, ◌≡◌, ◌≤◌, ◌⊎◌};
+ghost use Rattle.wavefront_team.specs.Dots.{IsSameSize};
+ghost use Rattle.wavefront_team.specs.SoFar.{dots_in};
 ghost use Rattle.weave_base.specs.Causes.{Rose};
 
 use page_halftoner::{Diffuser, Filler};
@@ -47,7 +48,7 @@ pub(crate) fn next_slab<R: Threads + Sync, S: Source, G: Gate + Sync>(
 ) -> Result<(), StreamStop>
     requires full { IsFull filler.old }
     requires rows { HoldsRows filler.old }
-    requires room { HasRoom filler.old.form filler.old.profile diffuser.old.planes }
+    requires room { HasRoom filler.old.form filler.old.profile (dots_in diffuser.old.dots) }
     requires spare { IfSome spare.old (IsSpare filler.old) }
     requires lines { MayReadOn reader.old filler.old }
     ensures reads { ReadsOn reader.old reader.new (S.left s.old) (S.left s.new) filler.old filler.new
@@ -55,7 +56,7 @@ pub(crate) fn next_slab<R: Threads + Sync, S: Source, G: Gate + Sync>(
     ensures done { OnOk result (IsFull filler.new ⊎ (filler.new.count ≡ filler.new.form.height)) }
     ensures below { OnOk result (filler.new.first ≡ filler.old.first + filler.old.slab.rows) }
     ensures page { OnOk result ((filler.new.form ≡ filler.old.form) × (filler.new.profile ≡ filler.old.profile)) }
-    ensures size { HasSizeOf diffuser.old.planes diffuser.new.planes }
+    ensures size { IsSameSize (dots_in diffuser.old.dots) (dots_in diffuser.new.dots) }
     ensures spare { OnOk result (IfSome spare.new (IsSpare filler.new)) }
     ensures read { IsErrOf result stop.Read → Rose (S.faults s.old) (S.faults s.new) }
     ensures later { S.faults s.old ≤ S.faults s.new }
@@ -76,14 +77,14 @@ fn read_after<R: Threads + Sync, S: Source, G: Gate + Sync>(
 ) -> Result<(), StreamStop>
     requires full { IsFull filler.old }
     requires rows { HoldsRows filler.old }
-    requires room { HasRoom filler.old.form filler.old.profile diffuser.old.planes }
+    requires room { HasRoom filler.old.form filler.old.profile (dots_in diffuser.old.dots) }
     requires lines { MayReadOn reader.old filler.old }
     ensures reads { ReadsOn reader.old reader.new (S.left s.old) (S.left s.new) filler.old filler.new
         diffuser.old diffuser.new result }
     ensures done { OnOk result (IsFull filler.new ⊎ (filler.new.count ≡ filler.new.form.height)) }
     ensures below { OnOk result (filler.new.first ≡ filler.old.first + filler.old.slab.rows) }
     ensures page { OnOk result ((filler.new.form ≡ filler.old.form) × (filler.new.profile ≡ filler.old.profile)) }
-    ensures size { HasSizeOf diffuser.old.planes diffuser.new.planes }
+    ensures size { IsSameSize (dots_in diffuser.old.dots) (dots_in diffuser.new.dots) }
     ensures read { IsErrOf result stop.Read → Rose (S.faults s.old) (S.faults s.new) }
     ensures later { S.faults s.old ≤ S.faults s.new }
 {
@@ -105,7 +106,7 @@ fn read_beside<R: Threads + Sync, S: Source, G: Gate + Sync>(
 ) -> Result<(), StreamStop>
     requires full { IsFull filler.old }
     requires rows { HoldsRows filler.old }
-    requires room { HasRoom filler.old.form filler.old.profile diffuser.old.planes }
+    requires room { HasRoom filler.old.form filler.old.profile (dots_in diffuser.old.dots) }
     requires spare { IsSpare filler.old spare.old }
     requires lines { MayReadOn reader.old filler.old }
     ensures reads { ReadsOn reader.old reader.new (S.left s.old) (S.left s.new) filler.old filler.new
@@ -113,7 +114,7 @@ fn read_beside<R: Threads + Sync, S: Source, G: Gate + Sync>(
     ensures done { OnOk result (IsFull filler.new ⊎ (filler.new.count ≡ filler.new.form.height)) }
     ensures below { OnOk result (filler.new.first ≡ filler.old.first + filler.old.slab.rows) }
     ensures page { OnOk result ((filler.new.form ≡ filler.old.form) × (filler.new.profile ≡ filler.old.profile)) }
-    ensures size { HasSizeOf diffuser.old.planes diffuser.new.planes }
+    ensures size { IsSameSize (dots_in diffuser.old.dots) (dots_in diffuser.new.dots) }
     ensures spare { OnOk result (IsSpare filler.new spare.new) }
     ensures read { IsErrOf result stop.Read → Rose (S.faults s.old) (S.faults s.new) }
     ensures later { S.faults s.old ≤ S.faults s.new }

@@ -8,7 +8,8 @@ use Rattle.std.proofs.lemmas.Option.{slice_get_within}
 use Rattle.diffusion_definitions.specs.Diffusion.{Errors, Plane, Table, errors, no_top, on}
 use Rattle.diffusion_laws.proofs.Solve.{errors_top}
 use Rattle.diffusion_kernel.specs.Tables.{table_of}
-use Rattle.dot_planes.specs.Tables.{AmountTable, HasSizeAs, dot}
+use Rattle.dot_planes.specs.Tables.{AmountTable, DotTable, HasSizeAs, HasSizeOf, dot}
+use Rattle.wavefront_team.specs.SoFar.{dots_in}
 use Rattle.ink_separation.specs.declared.separator.Separator.{Separator}
 use Rattle.raw_rows.specs.Raw.{table_of as amounts_of}
 use Rattle.raw_rows.specs.declared.kept.RawRows.{RawRows}
@@ -26,7 +27,7 @@ use Rattle.tile_border.specs.Tops.{edges_of}
 use Rattle.tile_edges.specs.Tops.{IsBelow, top_of}
 use Rattle.ink_separation.specs.Separated.{HasLine}
 use Rattle.page_halftoner.specs.Slabs.{TakesLine}
-use Rattle.page_halftoner.specs.Halftones.{Diffusing, EndsWith, Filling, GoesOn, Halftoning, HoldsRows, IsFull, IsSameRows, IsUpTo, PutsLines, StandsFor}
+use Rattle.page_halftoner.specs.Halftones.{Diffusing, EndsWith, Filling, GoesOn, Halftoning, HasRoom, HoldsRows, IsFull, IsSameRows, IsUpTo, PutsLines, StandsFor}
 use Rattle.page_halftoner.specs.Halftones.{held, joined, plane_of, rows_done, window, window_filled}
 use Rattle.separation_definitions.specs.declared.window.Window.{Window}
 use Rattle.diffusion_kernel.specs.declared.tables.Kernel.{Kernel}
@@ -74,9 +75,9 @@ in_margin f line margin d lines s =
       count = count_more lines line h.count s.count;
       inks = λ i ink more is.
           let Q : List (List ℕ) → Type 0 =
-          λ ls. IsUpTo (table_of h.kernel) (plane_of h ink ls) i h.diffused (held h) h.planes h.top h.slab in
+          λ ls. IsUpTo (table_of h.kernel) (plane_of h ink ls) i h.diffused (held h) (dots_in h.dots) h.top h.slab in
           let R : ℕ → Type 0 = λ n. IsUpTo (table_of h.kernel)
-          (plane_of h ink ((lines ++ line ∷ []) ++ more)) i h.diffused n h.planes h.top h.slab in
+          (plane_of h ink ((lines ++ line ∷ []) ++ more)) i h.diffused n (dots_in h.dots) h.top h.slab in
           subst R held_same (subst Q (sym (behind lines line more)) (s.inks i ink (line ∷ more) is));
       few = omega (arith, s.few);
       blank = s.blank;
@@ -95,7 +96,7 @@ pub record IsNextRow (f : Filling) (line : List ℕ) (y : ℕ) (slab : AmountTab
 held_more : (f : Filling) (d : Diffusing) (line : List ℕ) (lines more : List (List ℕ)) (y i : ℕ) (ink : Ink) (slab : AmountTable)
     → IsNextRow f line y slab → StandsFor (joined f d) lines
     → slice_get (inks_of f.profile.inks) i ≡ Some ink
-    → IsUpTo (table_of d.kernel) (plane_of (joined f d) ink ((lines ++ line ∷ []) ++ more)) i f.first (y - f.first + 1) d.planes d.top slab
+    → IsUpTo (table_of d.kernel) (plane_of (joined f d) ink ((lines ++ line ∷ []) ++ more)) i f.first (y - f.first + 1) (dots_in d.dots) d.top slab
 held_more f d line lines more y i ink slab next s is =
     let h : Halftoning = joined f d in
     let n : ℕ = y - h.diffused in
@@ -104,11 +105,11 @@ held_more f d line lines more y i ink slab next s is =
     let row : h.diffused + n ≡ y = omega (arith, next.from) in
     let line_at : get_or ls ((window h).top + y) [] ≡ line =
     get_or_at lines line more [] ((window h).top + y) (omega (arith, s.count, next.place)) in
-    let P : ℕ → Type 0 = λ m. IsUpTo (table_of h.kernel) (plane_of h ink ls) i h.diffused m h.planes h.top h.slab in
+    let P : ℕ → Type 0 = λ m. IsUpTo (table_of h.kernel) (plane_of h ink ls) i h.diffused m (dots_in h.dots) h.top h.slab in
     let up = subst P held_is (s.inks i ink (line ∷ more) is) in
-    let Q : List (List ℕ) → Type 0 = λ all. IsUpTo (table_of h.kernel) (plane_of h ink all) i h.diffused (n + 1) h.planes h.top slab in
+    let Q : List (List ℕ) → Type 0 = λ all. IsUpTo (table_of h.kernel) (plane_of h ink all) i h.diffused (n + 1) (dots_in h.dots) h.top slab in
     subst Q (sym (behind lines line more)) (row_more
-    (table_of h.kernel) (plane_of h ink ls) i h.diffused n h.planes h.top h.slab slab up
+    (table_of h.kernel) (plane_of h ink ls) i h.diffused n (dots_in h.dots) h.top h.slab slab up
     (λ x across. next.takes.row.are i ink is x across
     ∙ ap (λ l. amount_of h.profile h.form.kind (pixel_at h.form.kind l ((window h).left + x)) ink) (sym line_at)
     ∙ ap (λ m. (plane_of h ink ls).amount m x) (sym row)) (λ r x low across. next.takes.above.same i r x
@@ -126,7 +127,7 @@ in_slab f line y slab next d lines s =
       count = count_more lines line h.count s.count;
       inks = λ i ink more is.
           let R : ℕ → Type 0 = λ n. IsUpTo (table_of h.kernel)
-          (plane_of h ink ((lines ++ line ∷ []) ++ more)) i h.diffused n h.planes h.top slab in
+          (plane_of h ink ((lines ++ line ∷ []) ++ more)) i h.diffused n (dots_in h.dots) h.top slab in
           subst R held_is (held_more f d line lines more y i ink slab next s is);
       few = omega (arith, held_is, next.room, next.from, next.rows.most);
       blank = s.blank;
@@ -136,10 +137,10 @@ in_slab f line y slab next d lines s =
 pub record IsDone (f next : Filling) (d done : Diffusing) : Type 0 where
   pub full : IsFull f
   pub rows : HoldsRows f
-  pub tall : d.planes.rows ≡ (window_filled f).height
+  pub tall : d.dots.planes.rows ≡ (window_filled f).height
   pub goes_on : GoesOn f next
   pub kernel : done.kernel ≡ d.kernel
-  pub diffused : DiffusesSlab (table_of d.kernel) f.slab d.top done.top f.first d.planes done.planes
+  pub diffused : DiffusesSlab (table_of d.kernel) f.slab d.top done.top f.first (dots_in d.dots) (dots_in done.dots)
 
 -- a filling that went on
 went_on : (f next : Filling) → GoesOn f next → next
@@ -163,29 +164,29 @@ slab_full f next d done all lines s =
     let low : n ≤ w.height = omega (arith, all.full) in
     let held_is : held h ≡ f.slab.rows = omega (arith, all.full) in
     let none : 0 ≡ rows_done w h.count - n = omega (arith, all.full) in
-    let K : Kernel → Type 0 = λ k. StandsFor (joined next (record { kernel = k; planes = done.planes; top = done.top; failed = done.failed })) lines in
+    let K : Kernel → Type 0 = λ k. StandsFor (joined next (record { kernel = k; dots = done.dots; top = done.top; failed = done.failed })) lines in
     let F : Filling → Type 0 = λ g.
-    StandsFor (joined g (record { kernel = d.kernel; planes = done.planes; top = done.top; failed = done.failed })) lines in
+    StandsFor (joined g (record { kernel = d.kernel; dots = done.dots; top = done.top; failed = done.failed })) lines in
     subst K (sym all.kernel) (subst F (sym (went_on f next all.goes_on)) (record {
       count = s.count;
       inks = λ i ink more is.
           let p : Plane = plane_of h ink (lines ++ more) in
-          let P : ℕ → Type 0 = λ m. IsUpTo (table_of h.kernel) p i h.diffused m h.planes h.top h.slab in
+          let P : ℕ → Type 0 = λ m. IsUpTo (table_of h.kernel) p i h.diffused m (dots_in h.dots) h.top h.slab in
           let up = subst P held_is (s.inks i ink more is) in
-          let now = slab_more (table_of h.kernel) p i h.diffused f.slab next.slab h.top done.top h.planes done.planes all.diffused up
+          let now = slab_more (table_of h.kernel) p i h.diffused f.slab next.slab h.top done.top (dots_in h.dots) (dots_in done.dots) all.diffused up
           (omega (arith, all.rows.inks, slice_get_within (inks_of h.profile.inks) i ink is))
           all.rows.width all.rows.some low all.tall all.rows.whole in
-          let R : ℕ → Type 0 = λ m. IsUpTo (table_of h.kernel) p i n m done.planes done.top next.slab in
+          let R : ℕ → Type 0 = λ m. IsUpTo (table_of h.kernel) p i n m (dots_in done.dots) done.top next.slab in
           subst R none now;
       few = omega (arith, none);
       blank = λ i r x below inside.
-          let size : done.planes.rows ≡ h.planes.rows = all.diffused.size.rows in
+          let size : done.dots.planes.rows ≡ h.dots.planes.rows = all.diffused.size.rows in
           all.diffused.others i r x (omega (arith, size)) (inr below) ∙ s.blank i r x (omega arith) (omega (arith, size));
     }))
 
 -- Before the first line no row is diffused or held.
 pub at_top : (h : Halftoning) → h.count ≡ 0 → h.diffused ≡ 0
-    → ((i t n : ℕ) → top_of (edges_of h.top i) t n ≡ pos 0) → ((i y x : ℕ) → dot h.planes i y x ≡ false)
+    → ((i t n : ℕ) → top_of (edges_of h.top i) t n ≡ pos 0) → ((i y x : ℕ) → (dots_in h.dots).dot i y x ≡ false)
     → StandsFor h []
 at_top h none first zeros blank =
     let held_none : 0 ≡ held h = omega (arith, none, first) in
@@ -195,13 +196,13 @@ at_top h none first zeros blank =
           let k : Table = table_of h.kernel in
           let p : Plane = plane_of h ink more in
           let top : Errors → Type 0 = λ e. IsBelow (edges_of h.top i) e in
-          let start : IsUpTo k p i 0 0 h.planes h.top h.slab = record {
+          let start : IsUpTo k p i 0 0 (dots_in h.dots) h.top h.slab = record {
             dots = λ y x low across. absurd (omega arith);
             errors_are = λ some t n two. above k p t n two ∙ sym (zeros i t n);
             amounts = λ y x low across. absurd (omega arith);
           } in
-          let D : ℕ → Type 0 = λ n. IsUpTo k p i n 0 h.planes h.top h.slab in
-          let R : ℕ → Type 0 = λ n. IsUpTo k p i h.diffused n h.planes h.top h.slab in
+          let D : ℕ → Type 0 = λ n. IsUpTo k p i n 0 (dots_in h.dots) h.top h.slab in
+          let R : ℕ → Type 0 = λ n. IsUpTo k p i h.diffused n (dots_in h.dots) h.top h.slab in
           subst R held_none (subst D (sym first) start);
       few = omega (arith, held_none);
       blank = λ i y x low inside. blank i y x;
@@ -263,20 +264,24 @@ all_diffused f rows room count =
       | inr done ↦ omega (arith, all, rows.from)
     ]
 
--- After the last line of the page each row of the window is diffused.
-pub whole_page : (h : Halftoning) (lines : List (List ℕ)) → StandsFor h lines → h.diffused ≡ (window h).height
-    → h.planes.width ≡ (window h).width → h.planes.rows ≡ (window h).height → h.planes.inks ≡ length (inks_of h.profile.inks)
+-- After the last line of the page each row of the window is diffused, and planes that have the dots so far have those of
+-- the halftone.
+pub whole_page : (h : Halftoning) (lines : List (List ℕ)) (t : DotTable) → StandsFor h lines → h.diffused ≡ (window h).height
+    → HasRoom h.form h.profile (dots_in h.dots) → HasSizeOf h.dots.planes t
+    → ((i y x : ℕ) → i < t.inks → y < t.rows → x < t.width → dot t i y x ≡ (dots_in h.dots).dot i y x)
     → HasDots h.profile (halftone (record { form = h.form; lines = lines })
-    h.profile (table_of h.kernel)) h.planes.width h.planes.rows h.planes.inks (dot h.planes)
-whole_page h lines s all wide tall inks = record {
-  width_is = wide;
-  rows_is = tall;
-  inks_is = inks;
+    h.profile (table_of h.kernel)) t.width t.rows t.inks (dot t)
+whole_page h lines t s all room size same = record {
+  width_is = size.width ∙ room.width;
+  rows_is = size.rows ∙ room.rows;
+  inks_is = size.inks ∙ room.inks;
   dots = λ i y x ink is low inside.
       let up = s.inks i ink [] is in
-      let Q : List (List ℕ) → Type 0 = λ ls. dot h.planes i y x
+      let Q : List (List ℕ) → Type 0 = λ ls. (dots_in h.dots).dot i y x
       ≡ on (table_of h.kernel) (plane_of h ink ls) (errors (table_of h.kernel) (plane_of h ink ls) no_top) y x in
-      subst Q (append-nil lines) (up.dots y x (omega (arith, all)) inside);
+      same i y x (omega (arith, size.inks, room.inks, slice_get_within (inks_of h.profile.inks) i ink is))
+      (omega (arith, size.rows, room.rows, low)) (omega (arith, size.width, room.width, inside))
+      ∙ subst Q (append-nil lines) (up.dots y x (omega (arith, all)) inside);
 }
 
 -- raw rows of one separator, as many, have tables of one size

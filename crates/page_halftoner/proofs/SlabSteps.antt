@@ -7,7 +7,8 @@ use Rattle.diffusion_definitions.specs.Diffusion.{is_dot, no_top, on, rest, valu
 use Rattle.diffusion_laws.proofs.Slab.{first_rows, slab}
 use Rattle.diffusion_laws.proofs.SlabDots.{first_dots, slab_dots}
 use Rattle.diffusion_laws.proofs.Solve.{errors_solve}
-use Rattle.dot_planes.specs.Tables.{AmountTable, DotTable, amount, dot}
+use Rattle.dot_planes.specs.Tables.{AmountTable, amount}
+use Rattle.wavefront_team.specs.Dots.{Dots}
 use Rattle.wavefront_team.specs.Slabs.{AreSlabErrors, DiffusesSlab}
 use Rattle.tile_border.specs.Tops.{edges_of}
 use Rattle.tile_edges.proofs.TopLaws.{bottoms_are_top}
@@ -45,7 +46,7 @@ same_dots k p q e y x same low across =
     ∙ ap (λ a. inside p y x && is_dot (v a)) (same.amounts y x low across)
 
 -- A row is put after the held rows.
-pub row_more : (k : Table) (p : Plane) (i d n : ℕ) (planes : DotTable) (top : List (List (List ℤ))) (old new : AmountTable)
+pub row_more : (k : Table) (p : Plane) (i d n : ℕ) (planes : Dots) (top : List (List (List ℤ))) (old new : AmountTable)
     → IsUpTo k p i d n planes top old
     → ((x : ℕ) → x < p.width → amount new i n x ≡ p.amount (d + n) x)
     → ((r x : ℕ) → r < n → x < p.width → amount new i r x ≡ amount old i r x) → IsUpTo k p i d (n + 1) planes top new
@@ -59,7 +60,7 @@ row_more k p i d n planes top old new up are above = record {
 }
 
 -- A slab is diffused: its rows are rows of the plane, below the errors of the rows before them.
-pub slab_more : (k : Table) (p : Plane) (i d : ℕ) (rows rows' : AmountTable) (top bottom : List (List (List ℤ))) (old new : DotTable)
+pub slab_more : (k : Table) (p : Plane) (i d : ℕ) (rows rows' : AmountTable) (top bottom : List (List (List ℤ))) (old new : Dots)
     → DiffusesSlab k rows top bottom d old new
     → IsUpTo k p i d rows.rows old top rows → i < rows.inks → rows.width ≡ p.width → 1 ≤ rows.rows
     → d + rows.rows ≤ p.height → old.rows ≡ p.height → (d + rows.rows < p.height → rows.rows % 32 ≡ 0)
@@ -84,7 +85,7 @@ slab_more k p i d rows rows' top bottom old new done up ink wide some low tall w
             let m : ℕ = y - d in
             let row : d + m ≡ y = omega arith in
             let few : m < h = omega arith in
-            ap (λ n. dot new i n x) (sym row) ∙ done.dots i g are m x few (omega (arith, wide))
+            ap (λ n. new.dot i n x) (sym row) ∙ done.dots i g are m x few (omega (arith, wide))
             ∙ same_dots k (cut h behind) q g m x same few across
             ∙ first_dots k behind f g h (omega arith) (λ a n less. ap (λ r. r n) (g_is a less)) m x few
             ∙ slab_dots k p e f d (λ a n. refl) m x

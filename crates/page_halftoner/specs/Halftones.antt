@@ -3,7 +3,7 @@ use Rattle.std.specs.Prelude.{◌≡◌, ℕ, ℤ, ◌%◌, ◌+◌, ◌-◌, �
 use Rattle.diffusion_definitions.specs.Diffusion.{Plane, Table, errors, no_top, on}
 use Rattle.diffusion_kernel.specs.Tables.{table_of}
 use Rattle.diffusion_kernel.specs.declared.tables.Kernel.{Kernel}
-use Rattle.dot_planes.specs.Tables.{AmountTable, DotTable, HasSizeAs, amount, dot}
+use Rattle.dot_planes.specs.Tables.{AmountTable, HasSizeAs, amount}
 use Rattle.printer_definitions.specs.Inks.{inks_of}
 use Rattle.printer_definitions.specs.declared.inks.Ink.{Ink}
 use Rattle.printer_definitions.specs.Printer.{Printer}
@@ -13,6 +13,8 @@ use Rattle.separation_definitions.specs.Windows.{window_of}
 use Rattle.separation_definitions.specs.declared.window.Window.{Window}
 use Rattle.tile_border.specs.Tops.{edges_of}
 use Rattle.tile_edges.specs.Tops.{IsBelow}
+use Rattle.wavefront_team.specs.Dots.{Dots}
+use Rattle.wavefront_team.specs.SoFar.{SoFar, dots_in}
 use Rattle.ink_separation.specs.Separated.{HasLine}
 use Rattle.ink_separation.specs.Separators.{IsSeparatorOf}
 use Rattle.raw_rows.specs.declared.kept.RawRows.{RawRows}
@@ -26,7 +28,7 @@ pub record Halftoning : Type 0 where
   pub kernel : Kernel
   pub count : ℕ
   pub diffused : ℕ
-  pub planes : DotTable
+  pub dots : SoFar
   pub top : List (List (List ℤ))
   pub slab : AmountTable
   pub failed : Bool
@@ -44,7 +46,7 @@ pub record Filling : Type 0 where
 -- whether memory ran out.
 pub record Diffusing : Type 0 where
   pub kernel : Kernel
-  pub planes : DotTable
+  pub dots : SoFar
   pub top : List (List (List ℤ))
   pub failed : Bool
 
@@ -56,7 +58,7 @@ joined f d = record {
   kernel = d.kernel;
   count = f.count;
   diffused = f.first;
-  planes = d.planes;
+  dots = d.dots;
   top = d.top;
   slab = f.slab;
   failed = d.failed;
@@ -78,10 +80,10 @@ abbrev pub plane_of : Halftoning → Ink → List (List ℕ) → Plane
 plane_of h ink lines = ink_plane (record { form = h.form; lines = lines }) h.profile ink
 
 -- An ink of a plane, of which the first rows are diffused and the next ones are held.
-pub record IsUpTo (k : Table) (p : Plane) (i diffused held : ℕ) (planes : DotTable)
+pub record IsUpTo (k : Table) (p : Plane) (i diffused held : ℕ) (t : Dots)
     (top : List (List (List ℤ))) (slab : AmountTable) : Type 0 where
   -- the dots of the diffused rows
-  pub dots : (y x : ℕ) → y < diffused → x < p.width → dot planes i y x ≡ on k p (errors k p no_top) y x
+  pub dots : (y x : ℕ) → y < diffused → x < p.width → t.dot i y x ≡ on k p (errors k p no_top) y x
   -- while rows are left, the top has the errors of the last two diffused rows, 0 above the first
   pub errors_are : diffused < p.height → IsBelow (edges_of top i) (λ t. errors k p no_top (diffused + t))
   -- the amounts of the held rows
@@ -92,9 +94,9 @@ pub record IsUpTo (k : Table) (p : Plane) (i diffused held : ℕ) (planes : DotT
 pub record StandsFor (h : Halftoning) (lines : List (List ℕ)) : Type 0 where
   pub count : length lines ≡ h.count
   pub inks : (i : ℕ) (ink : Ink) (more : List (List ℕ)) → slice_get (inks_of h.profile.inks) i ≡ Some ink
-      → IsUpTo (table_of h.kernel) (plane_of h ink (lines ++ more)) i h.diffused (held h) h.planes h.top h.slab
+      → IsUpTo (table_of h.kernel) (plane_of h ink (lines ++ more)) i h.diffused (held h) (dots_in h.dots) h.top h.slab
   pub few : held h ≤ 256
-  pub blank : (i y x : ℕ) → h.diffused ≤ y → y < h.planes.rows → dot h.planes i y x ≡ false
+  pub blank : (i y x : ℕ) → h.diffused ≤ y → y < h.dots.planes.rows → (dots_in h.dots).dot i y x ≡ false
 
 -- the window of the page whose rows are filled
 abbrev pub window_filled : Filling → Window
@@ -148,8 +150,8 @@ pub record IsSpare (f : Filling) (spare : RawRows) : Type 0 where
   pub separator : IsSeparatorOf f.profile f.form.kind (window_filled f) spare.separator
   pub rows : f.first + f.slab.rows < (window_filled f).height → spare.rows ≡ f.slab.rows
 
--- Planes for the window of a page of this form, in a printer's inks.
-pub record HasRoom (form : PageForm) (p : Printer) (t : DotTable) : Type 0 where
+-- Room for the dots of the window of a page of this form, in a printer's inks.
+pub record HasRoom (form : PageForm) (p : Printer) (t : Dots) : Type 0 where
   pub width : t.width ≡ (window_of form p).width
   pub rows : t.rows ≡ (window_of form p).height
   pub inks : t.inks ≡ length (inks_of p.inks)

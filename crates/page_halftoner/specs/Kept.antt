@@ -5,6 +5,7 @@ use Rattle.pwg_definitions.specs.Header.{IsWanted}
 use Rattle.separation_definitions.specs.Windows.{wanted_by, window_of}
 use Rattle.separation_definitions.specs.declared.window.Window.{Window}
 use Rattle.tile_border.specs.Tops.{IsTopOf}
+use Rattle.wavefront_team.specs.SoFar.{dots_in}
 use Rattle.ink_separation.specs.Separators.{IsSeparatorOf}
 use Rattle.raw_rows.specs.Raw.{table_of as amounts_of}
 use Rattle.page_halftoner.specs.Halftones.{Diffusing, Filling, Halftoning, HasRoom, HoldsRows, IsFull, joined}
@@ -23,11 +24,11 @@ is_missing None = true
 is_missing (Some top) = false
 
 abbrev pub diffusing : DiffuserInside → Diffusing
-diffusing d = record { kernel = d.kernel; planes = d.planes; top = edges_in d.top; failed = is_missing d.top }
+diffusing d = record { kernel = d.kernel; dots = d.dots; top = edges_in d.top; failed = is_missing d.top }
 
 -- the top, where there is one, is as wide as the planes, and has their inks
 pub record HasTop (d : DiffuserInside) : Type 0 where
-  pub top_is : (top : List (List (List ℤ))) → d.top ≡ Some top → IsTopOf d.planes.width d.planes.inks top
+  pub top_is : (top : List (List (List ℤ))) → d.top ≡ Some top → IsTopOf d.dots.planes.width d.dots.planes.inks top
 
 abbrev pub filling : Inside → Filling
 filling h = record { profile = h.profile; form = h.form; count = h.count; first = h.first; slab = amounts_of h.slab }
@@ -49,6 +50,6 @@ halftoning h = joined h.filler h.diffuser
 
 -- The planes are those of the window, and the slab is not full unless memory ran out.
 pub record IsReady (h : HalftonerInside) : Type 0 where
-  pub planes : HasRoom h.filler.form h.filler.profile h.diffuser.planes
+  pub planes : HasRoom h.filler.form h.filler.profile (dots_in h.diffuser.dots)
   pub rows : HoldsRows h.filler
   pub room : h.diffuser.failed ≡ false → IsFull h.filler → ⊥

@@ -5,10 +5,12 @@ ghost use Rattle.page_halftoner.specs.Halftones.{HasRoom};
 ghost use Rattle.printer_profile.specs.Validity.{check};
 ghost use Rattle.pwg_definitions.specs.Header.{IsWanted};
 ghost use Rattle.separation_definitions.specs.Windows.{wanted_by};
-ghost use Rattle.std.specs.Prelude.{IfOk, IsErr, IsOk, OnErr, OnOk, false, length, pos, true, ℕ, ◌+◌, ◌≡◌, ◌≤◌};
+ghost use Rattle.std.specs.Prelude.{IfOk, IsErr, IsOk, OnErr, OnOk, false, length, pos, true, ℕ, ◌+◌, ◌<◌, ◌≡◌, ◌≤◌};
 ghost use Rattle.tile_border.specs.Tops.{edges_of};
 ghost use Rattle.tile_edges.specs.Tops.{top_of};
+ghost use Rattle.wavefront_team.specs.Dots.{IsSameSize};
 ghost use Rattle.wavefront_team.specs.Slabs.{DiffusesSlab};
+ghost use Rattle.wavefront_team.specs.SoFar.{dots_in};
 
 use crate::slabs::first_top;
 use base_definitions::Memory;
@@ -19,9 +21,9 @@ use std::alloc::Global;
 use std::marker::Model;
 use std::thread::Threads;
 use tile_border::TopEdges;
-use wavefront_team::{Gate, Team, diffuse_beside};
+use wavefront_team::{DotsSoFar, Gate, Team, diffuse_beside};
 
-/// The dots of a page's window so far. Contracts see the kernel, the planes, the bottom edges of the last diffused
+/// The dots of a page's window so far. Contracts see the kernel, the dots, the bottom edges of the last diffused
 /// rows, and whether a call answered `Memory`.
 #[derive(Drop)]
 pub struct Diffuser {
@@ -29,7 +31,7 @@ pub struct Diffuser {
     kernel: Kernel,
     /// The errors above the next rows; `None` once a call has answered `Memory`.
     top: Option<TopEdges>,
-    planes: Planes,
+    dots: DotsSoFar,
 }
 
 impl Model for Diffuser {
@@ -50,8 +52,8 @@ impl Diffuser {
         requires checked { IsOk (check p.now) }
         requires wanted { IsWanted (wanted_by p.now) f }
         ensures kernel { IfOk result (λ d. d.kernel ≡ k) }
-        ensures room { IfOk result (λ d. HasRoom f p.now d.planes) }
-        ensures blank { IfOk result (λ d. (i y x : ℕ) → dot d.planes i y x ≡ false) }
+        ensures room { IfOk result (λ d. HasRoom f p.now (dots_in d.dots)) }
+        ensures blank { IfOk result (λ d. (i y x : ℕ) → (dots_in d.dots).dot i y x ≡ false) }
         ensures top { IfOk result (λ d. (i t n : ℕ) → top_of (edges_of d.top i) t n ≡ pos 0) }
         ensures working { IfOk result (λ d. d.failed ≡ false) }
     {
@@ -63,7 +65,7 @@ impl Diffuser {
             alloc,
             kernel: k,
             top: Some(top),
-            planes,
+            dots: DotsSoFar::of(planes),
         })
     }
 
@@ -83,14 +85,14 @@ impl Diffuser {
         F: FnMut() -> E,
         E,
     >(&mut self, team: &Team<'_, R, G>, slab: &A, first: u32, errand: &mut F) -> Result<E, Memory>
-        requires width { (A.table slab.now).width ≡ self.old.planes.width }
-        requires inks { (A.table slab.now).inks ≡ self.old.planes.inks }
-        requires rows { first + (A.table slab.now).rows ≤ self.old.planes.rows }
+        requires width { (A.table slab.now).width ≡ self.old.dots.planes.width }
+        requires inks { (A.table slab.now).inks ≡ self.old.dots.planes.inks }
+        requires rows { first + (A.table slab.now).rows ≤ self.old.dots.planes.rows }
         requires errand { F.pre errand.old }
         ensures kernel { self.new.kernel ≡ self.old.kernel }
-        ensures size { HasSizeOf self.old.planes self.new.planes }
+        ensures size { IsSameSize (dots_in self.old.dots) (dots_in self.new.dots) }
         ensures slab { IfOk result (λ done. DiffusesSlab (table_of self.old.kernel) (A.table slab.now)
-            self.old.top self.new.top first self.old.planes self.new.planes) }
+            self.old.top self.new.top first (dots_in self.old.dots) (dots_in self.new.dots)) }
         ensures errand { IfOk result (λ done. F.step errand.old done errand.new) }
         ensures working { OnOk result (self.new.failed ≡ false) }
         ensures failed { OnErr result (self.new.failed ≡ true) }
@@ -101,7 +103,7 @@ impl Diffuser {
             return Err(Memory);
         };
         let (alloc, kernel) = (self.alloc, self.kernel);
-        let out = &mut self.planes;
+        let out = &mut self.dots;
         let (bottom, done) = diffuse_beside(team, alloc, slab, kernel, top, out, first, errand)?;
         self.top = Some(bottom);
         Ok(done)
@@ -109,8 +111,10 @@ impl Diffuser {
 
     /// The dots.
     pub fn finish(self) -> Planes
-        ensures { result ≡ self.planes }
+        ensures size { HasSizeOf self.dots.planes result }
+        ensures dots { (i y x : ℕ) → i < result.inks → y < result.rows → x < result.width
+            → dot result i y x ≡ (dots_in self.dots).dot i y x }
     {
-        self.planes
+        self.dots.finish()
     }
 }

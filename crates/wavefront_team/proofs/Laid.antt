@@ -1,5 +1,5 @@
 -- The loop over the bands: each step puts the tiles of one more into the planes.
-use Rattle.std.proofs.Common.{◌≡◌, ℕ, ◌+◌, ◌*◌, ◌<◌, ◌≤◌, List, get_or, length, take, drop, inl, inr, refl, ◌∙◌, ap, arith, subst}
+use Rattle.std.proofs.Common.{◌≡◌, ℕ, ◌+◌, ◌*◌, ◌<◌, ◌≤◌, List, get_or, length, take, drop, inl, inr, refl, ◌∙◌, ap, arith}
 use Rattle.std.proofs.Math.Nat.{mul-le-mul_right}
 use Rattle.std.proofs.lemmas.Bool.{cases_lt}
 use Rattle.std.proofs.lemmas.List.{get_or-drop, get_or-take}
@@ -10,6 +10,7 @@ use Rattle.dot_planes.specs.Tiles.{tile_dot}
 use Rattle.dot_planes.specs.declared.tiles.TileDots.{TileDots}
 use Rattle.tile_shape.specs.Geometry.{bands_of, columns_of}
 use Rattle.tile_shape.specs.declared.tiles.Shape.{Shape}
+use Rattle.wavefront_team.specs.Dots.{dots_of}
 use Rattle.wavefront_team.specs.Laying.{AreTilesOf, LaysTiles}
 
 -- ---- the tiles of a band
@@ -27,7 +28,7 @@ part_at tiles first many c d inside = get_or-take many (drop first tiles) c d in
 
 -- ---- the loop
 
-pub lays_none : (s : Shape) (first : ℕ) (tiles : List TileDots) (t : DotTable) → LaysTiles s first (0 * columns_of s) tiles t t
+pub lays_none : (s : Shape) (first : ℕ) (tiles : List TileDots) (t : DotTable) → LaysTiles s first (0 * columns_of s) tiles (dots_of t) (dots_of t)
 lays_none s first tiles t = record {
   size = record { width = refl; rows = refl; inks = refl };
   pixels = λ i row offset x y p d ink tile low. absurd (omega arith);
@@ -36,8 +37,9 @@ lays_none s first tiles t = record {
 
 pub lays_more : (s : Shape) (at j first many : ℕ) (tiles : List TileDots) (old mid new : DotTable)
     → old.width ≡ s.width → at + s.height ≤ old.rows → first ≡ j * columns_of s → many ≡ columns_of s
-    → LaysTiles s at (j * columns_of s) tiles old mid
-    → PutsBand mid new at s.height j (take many (drop first tiles)) → LaysTiles s at ((j + 1) * columns_of s) tiles old new
+    → LaysTiles s at (j * columns_of s) tiles (dots_of old) (dots_of mid)
+    → PutsBand mid new at s.height j (take many (drop first tiles))
+    → LaysTiles s at ((j + 1) * columns_of s) tiles (dots_of old) (dots_of new)
 lays_more s at j first many tiles old mid new wide tall first_is many_is lays puts =
     let more : (j + 1) * columns_of s ≡ j * columns_of s + columns_of s = row_more (columns_of s) j in
     record {
@@ -79,12 +81,3 @@ lays_more s at j first many tiles old mid new wide tall first_is many_is lays pu
         | inr below ↦ inr (inr below)
       ]) ∙ lays.others i y x down beside;
     }
-
-pub lays_next : (s w : Shape) (at j first many : ℕ) (tiles : List TileDots) (old mid new : DotTable)
-    → s ≡ w → old.width ≡ w.width → at + w.height ≤ old.rows → first ≡ j * columns_of w → many ≡ columns_of w
-    → LaysTiles w at (j * columns_of w) tiles old mid
-    → PutsBand mid new at s.height j (take many (drop first tiles)) → LaysTiles w at ((j + 1) * columns_of w) tiles old new
-lays_next s w at j first many tiles old mid new same wide tall first_is many_is lays puts =
-    let P : ℕ → Type 0 = λ h. PutsBand mid new at h j (take many (drop first tiles)) in
-    lays_more w at j first many tiles old mid new wide tall first_is many_is lays
-    (subst P (ap (λ (r : Shape). r.height) same) puts)

@@ -4,3 +4,4 @@ pub mod Passes
 pub mod Laid
 pub mod Slab
 pub mod Shares
+pub mod SoFar

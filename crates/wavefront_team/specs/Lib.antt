@@ -1,4 +1,7 @@
+pub mod Dots
 pub mod Slabs
 pub mod Shares
 pub mod Passes
 pub mod Laying
+pub mod SoFar
+pub mod Waiting

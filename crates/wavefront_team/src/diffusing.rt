@@ -1,6 +1,8 @@
 //! The workers of a slab.
 ghost use Rattle.diffusion_kernel.specs.Tables.{table_of};
-ghost use Rattle.wavefront_team.specs.Slabs.{DiffusesSlab};
+ghost use Rattle.wavefront_team.specs.Dots.{IsSameDots, dots_of};
+ghost use Rattle.wavefront_team.specs.SoFar.{dots_in};
+ghost use Rattle.wavefront_team.specs.Slabs.{ClosesSlab, DiffusesSlab};
 ghost use Rattle.tile_border.specs.Tops.{IsTopOf};
 ghost use Rattle.std.specs.Prelude.{IfOk, OnErr, length, ◌+◌, ◌≡◌, ◌≤◌};
 ghost use Rattle.tile_board.specs.Board.{slab};
@@ -14,6 +16,7 @@ use crate::beside::run_beside;
 use crate::gate::{Gate, Team};
 use crate::laying::lay_tiles;
 use crate::share::{Lends, Lent, TileShare};
+use crate::so_far::DotsSoFar;
 use crate::work::work_rest;
 use crate::worker::Worker;
 use base_definitions::Memory;
@@ -21,7 +24,7 @@ use diffusion_kernel::Kernel;
 use dot_planes::{Planes, TileRows};
 use std::alloc::Global;
 use std::thread::Threads;
-use tile_board::{Board, Pass};
+use tile_board::{Board, Closed, Pass};
 use tile_border::TopEdges;
 use tile_shape::Shape;
 
@@ -44,43 +47,78 @@ pub fn diffuse<R: Threads + Sync, G: Gate + Sync, A: TileRows + Sync>(
     requires width { out.old.width ≡ (A.table rows.now).width }
     requires inks { out.old.inks ≡ (A.table rows.now).inks }
     requires at { at + (A.table rows.now).rows ≤ out.old.rows }
-    ensures slab { IfOk result (λ bottom. DiffusesSlab (table_of kernel) (A.table rows.now) top bottom at out.old out.new) }
+    ensures slab { IfOk result (λ bottom. DiffusesSlab (table_of kernel) (A.table rows.now) top bottom at
+        (dots_of out.old) (dots_of out.new)) }
     ensures unchanged { OnErr result (out.new ≡ out.old) }
 {
     let mut none = || {};
-    let (bottom, _) = diffuse_beside(team, alloc, rows, kernel, top, out, at, &mut none)?;
-    Ok(bottom)
+    let (closed, _) = close_slab(team, alloc, rows, kernel, top, &mut none)?;
+    lay_tiles(closed.dots.as_slice(), rows.shape(), out, at);
+    Ok(closed.bottom)
 }
 
 /// Diffuses a slab as `diffuse` does, and does the errand on the caller's own thread: after all tiles, where there is
 /// one worker, else while the others work. Its answer stands beside the bottom edges.
 ///
-/// On `Memory` the planes are unchanged and the errand is not begun.
+/// Several workers leave the slab's tiles waiting in `out`. The caller lays them while the next slab is diffused,
+/// before that one's errand.
+///
+/// On `Memory` the dots are unchanged and the errand is not begun.
 pub fn diffuse_beside<R: Threads + Sync, G: Gate + Sync, A: TileRows + Sync, F: FnMut() -> E, E>(
     team: &Team<'_, R, G>,
     alloc: Global,
     rows: &A,
     kernel: Kernel,
     top: TopEdges,
-    out: &mut Planes,
+    out: &mut DotsSoFar,
     at: u32,
     errand: &mut F,
 ) -> Result<(TopEdges, E), Memory>
     requires top { IsTopOf (A.table rows.now).width (A.table rows.now).inks top }
-    requires width { out.old.width ≡ (A.table rows.now).width }
-    requires inks { out.old.inks ≡ (A.table rows.now).inks }
-    requires at { at + (A.table rows.now).rows ≤ out.old.rows }
+    requires width { out.old.planes.width ≡ (A.table rows.now).width }
+    requires inks { out.old.planes.inks ≡ (A.table rows.now).inks }
+    requires at { at + (A.table rows.now).rows ≤ out.old.planes.rows }
     requires errand { F.pre errand.old }
-    ensures slab { IfOk result (λ answer. DiffusesSlab (table_of kernel) (A.table rows.now) top answer.0 at out.old out.new) }
+    ensures slab { IfOk result (λ answer. DiffusesSlab (table_of kernel) (A.table rows.now) top answer.0 at
+        (dots_in out.old) (dots_in out.new)) }
     ensures errand { IfOk result (λ answer. F.step errand.old answer.1 errand.new) }
     ensures unchanged { OnErr result (out.new ≡ out.old) }
     ensures not_begun { OnErr result (errand.new ≡ errand.old) }
 {
+    let mut both = || -> E
+        requires { F.pre errand.now }
+        ensures { IsSameDots (dots_in out.entry.now) (dots_in out.exit.now) × F.step errand.entry.now result errand.exit.now }
+    {
+        out.lay();
+        errand()
+    };
+    let (closed, done) = close_slab(team, alloc, rows, kernel, top, &mut both)?;
+    out.keep(closed.dots, rows.shape(), at);
+    if team.workers == 1 {
+        out.lay();
+    }
+    Ok((closed.bottom, done))
+}
+
+// Diffuses a slab by a team, and does the errand beside it.
+fn close_slab<R: Threads + Sync, G: Gate + Sync, A: TileRows + Sync, F: FnMut() -> E, E>(
+    team: &Team<'_, R, G>,
+    alloc: Global,
+    rows: &A,
+    kernel: Kernel,
+    top: TopEdges,
+    errand: &mut F,
+) -> Result<(Closed, E), Memory>
+    requires top { IsTopOf (A.table rows.now).width (A.table rows.now).inks top }
+    requires errand { F.pre errand.old }
+    ensures slab { IfOk result (λ answer. ClosesSlab (table_of kernel) (A.table rows.now) top answer.0.bottom
+        answer.0.dots.items) }
+    ensures errand { IfOk result (λ answer. F.step errand.old answer.1 errand.new) }
+    ensures not_begun { OnErr result (errand.new ≡ errand.old) }
+{
     let (board, mut pass) = Board::make(alloc, rows, kernel, top)?;
     let done = work_tiles(team, alloc, &board, rows.shape(), &mut pass, errand)?;
-    let closed = board.close(pass);
-    lay_tiles(closed.dots.as_slice(), rows, out, at);
-    Ok((closed.bottom, done))
+    Ok((board.close(pass), done))
 }
 
 // Works all tiles of a board by a team, and does the errand. One worker's errand comes last, so that it finds the slab

@@ -1,12 +1,10 @@
-use Rattle.std.proofs.Common.{◌≡◌, ap, arith, false, inl, inr, subst, sym, true, ◌∙◌, Err, Option}
+use Rattle.std.proofs.Common.{◌≡◌, ap, arith, false, inl, inr, sym, true, ◌∙◌, Err, Option}
 use Rattle.std.proofs.lemmas.Result.{err_from_is_err_and}
-use Rattle.diffusion_kernel.specs.Tables.{table_of}
-use Rattle.dot_planes.specs.Tables.{DotTable}
+use Rattle.wavefront_team.specs.SoFar.{dots_in}
 use Rattle.page_halftoner.proofs.Lines.{at_top}
 use Rattle.page_halftoner.specs.Halftones.{Diffusing, Filling, IsFull, joined}
 use Rattle.pwg_definitions.specs.declared.pages.PageForm.{PageForm}
 use Rattle.separation_definitions.specs.Windows.{wanted_by}
-use Rattle.halftone_reader.specs.Reading.{ReadsHalftone}
 use Rattle.halftone_reader.specs.SoFar.{Begun, HalftonedSoFar}
 use Rattle.halftone_reader.specs.declared.pages.HalftonedPage.{HalftonedPage}
 use Rattle.halftone_reader.proofs.PageSteps.{same_input}
@@ -215,7 +213,7 @@ slabs-preserved g c =
     record {
       page = next.reads.more b v.page;
       done = next.done;
-      room = room_still b.form b.profile c.slabs.diffuser.planes c.next_slab.new.diffuser.planes next.size v.room;
+      room = room_still b.form b.profile (dots_in c.slabs.diffuser.dots) (dots_in c.next_slab.new.diffuser.dots) next.size v.room;
       spare = next.spare;
       later = omega (arith, v.later, c.next_slab.ensures.later);
     }
@@ -236,10 +234,8 @@ returns-clause-page g c =
       | inl full ↦ absurd (whole full)
       | inr is ↦ is
     ] in
-    let P : DotTable → Type 0 = λ planes. ReadsHalftone b.profile (table_of b.kernel) b.reader c.slabs.reader b.before
-    (g.S.Source.left c.slabs.s) b.form planes in
-    subst P (sym c.finish-planes.ensures) (so_far_end b c.slabs.reader (g.S.Source.left c.slabs.s) c.slabs.filler c.slabs.diffuser
-    v.page c.is_full.ensures.rows whole all v.room)
+    so_far_end b c.slabs.reader (g.S.Source.left c.slabs.s) c.slabs.filler c.slabs.diffuser c.finish-planes.result
+    v.page c.is_full.ensures.rows whole all v.room c.finish-planes.ensures.size c.finish-planes.ensures.dots
 
 pub returns-clause-between : goal.returns-clause-between
 returns-clause-between g c =

@@ -1,6 +1,7 @@
 use Rattle.std.proofs.Common.{◌≡◌, ◌⊎◌, ◌-◌, ◌≤◌, IfSome}
 use Rattle.page_halftoner.specs.Halftones.{HasRoom, IsFull, IsSpare, window_filled}
 use Rattle.halftone_reader.specs.SoFar.{HalftonedSoFar}
+use Rattle.wavefront_team.specs.SoFar.{dots_in}
 use Rattle.halftone_reader.proofs.pages.read_page.Given as goal
 
 abbrev pub invariant-slabs : goal.invariant-slabs
@@ -13,7 +14,7 @@ invariant-slabs g l = record {
     before = g.S.Source.left l.fn.s;
   }) l.reader (g.S.Source.left l.s) l.filler l.diffuser;
   done : IsFull l.filler ⊎ (l.filler.count ≡ l.filler.form.height);
-  room : HasRoom l.form l.fn.profile l.diffuser.planes;
+  room : HasRoom l.form l.fn.profile (dots_in l.diffuser.dots);
   spare : IfSome l.spare (IsSpare l.filler);
   later : g.S.Source.faults l.fn.s ≤ g.S.Source.faults l.s;
 }

@@ -1,22 +1,30 @@
-use Rattle.std.proofs.Common.{List, length, subst, sym}
-use Rattle.dot_planes.specs.declared.tiles.TileDots.{TileDots}
-use Rattle.tile_board.specs.Board.{slab}
+use Rattle.std.proofs.Common.{length, rules, subst, sym}
+use Rattle.diffusion_kernel.specs.Tables.{table_of}
+use Rattle.dot_planes.specs.Tables.{AmountTable}
 use Rattle.tile_lanes.specs.Done.{window_of}
-use Rattle.wavefront_team.specs.Laying.{AreTilesOf, LaysTiles}
-use Rattle.wavefront_team.proofs.Slab.{slab_diffused, tiles_are}
+use Rattle.tile_shape.specs.declared.tiles.Shape.{Shape}
+use Rattle.wavefront_team.specs.Laying.{LaysTiles}
+use Rattle.wavefront_team.specs.SoFar.{SoFar, dots_in}
+use Rattle.wavefront_team.proofs.Slab.{laid_same, same_laid, slab_laid}
+use Rattle.wavefront_team.proofs.diffusing.diffuse_beside.Goals.{then-team-eq1, else-team-eq1}
 use Rattle.wavefront_team.proofs.diffusing.diffuse_beside.Goals as goal
-
-pub lay_tiles-requires-clause-tiles : goal.lay_tiles-requires-clause-tiles
-lay_tiles-requires-clause-tiles g c =
-    let A : List TileDots → Type 0 = λ tiles. AreTilesOf (window_of (g.A.TileRows.table c.args.rows.now)) tiles in
-    subst A (sym c.as_slice.ensures.value)
-    (tiles_are (slab c.in_ok-board.board) c.close-closed.result (g.A.TileRows.table c.args.rows.now) c.in_ok-board.ensures.amounts c.close-closed.ensures.closes)
 
 pub returns-clause-slab : goal.returns-clause-slab
 returns-clause-slab g c =
-    let L : List TileDots → Type 0 = λ tiles.
-    LaysTiles (window_of (g.A.TileRows.table c.args.rows.now)) c.args.at (length tiles) tiles c.args.out.now c.lay_tiles.new.out in
-    slab_diffused (slab c.in_ok-board.board) c.close-closed.result c.args.kernel (g.A.TileRows.table c.args.rows.now) c.args.top c.args.at
-    c.args.out.now c.lay_tiles.new.out
-    c.in_ok-board.ensures.amounts c.in_ok-board.ensures.kernel c.in_ok-board.ensures.top c.requires.inks c.close-closed.ensures.closes
-    (subst L c.as_slice.ensures.value c.lay_tiles.ensures)
+    let rows : AmountTable = g.A.TileRows.table c.args.rows.now in
+    let closed = c.in_ok-closed.closed in
+    let S : Shape → Type 0 = λ s.
+    LaysTiles s c.args.at (length closed.dots.items) closed.dots.items (dots_in c.args.out.now) (dots_in c.keep.new.self) in
+    let kept : S (window_of rows) = subst S c.shape.ensures.is
+    (laid_same c.shape.result c.args.at (length closed.dots.items) closed.dots.items (dots_in c.args.out.now) _
+    (dots_in c.keep.new.self) (search rules) c.keep.ensures) in
+    let L : SoFar → Type 0 = λ d.
+    LaysTiles (window_of rows) c.args.at (length closed.dots.items) closed.dots.items (dots_in c.args.out.now) (dots_in d) in
+    let laid : L c.if-team-eq1.out = elim c.if-team-eq1.branch [
+      | then-team-eq1 w ↦
+          subst L (sym w.out-is) (same_laid (window_of rows) c.args.at (length closed.dots.items) closed.dots.items
+          (dots_in c.args.out.now) (dots_in c.keep.new.self) _ c.requires.at kept w.lay.ensures)
+      | else-team-eq1 w ↦ subst L (sym w.out-is) kept
+    ] in
+    slab_laid (table_of c.args.kernel) rows c.args.top closed.bottom closed.dots.items c.args.at
+    (dots_in c.args.out.now) (dots_in c.if-team-eq1.out) c.requires.inks c.in_ok-closed.ensures.slab laid

@@ -1,6 +1,6 @@
 use Rattle.std.proofs.Common.{◌≡◌, ◌∙◌, ap, false, sym, subst}
 use Rattle.diffusion_kernel.specs.Tables.{table_of}
-use Rattle.dot_planes.specs.Tables.{DotTable, dot}
+use Rattle.dot_planes.specs.Tables.{dot}
 use Rattle.page_definitions.specs.Dots.{HasDots, halftone}
 use Rattle.page_halftoner.specs.Halftones.{Halftoning, StandsFor}
 use Rattle.page_halftoner.specs.Kept.{halftoning}
@@ -15,12 +15,9 @@ returns c = λ lines stands.
     let count : h.count ≡ h.form.height = ap (λ (g : Halftoning). g.count) c.self.view_is
     ∙ c.requires.count ∙ ap (λ (g : Halftoning). g.form.height) (sym c.self.view_is) in
     let working : h.failed ≡ false = ap (λ (g : Halftoning). g.failed) c.self.view_is ∙ c.requires.working in
-    let dots = whole_page h lines (subst Q (sym c.self.view_is) stands)
-    (all_diffused c.self.inside.filler v.rows (v.room working) count) v.planes.width v.planes.rows v.planes.inks in
-    let P : DotTable → Type 0 =
-    λ t. HasDots h.profile (halftone (record { form = h.form; lines = lines })
-    h.profile (table_of h.kernel)) t.width t.rows t.inks (dot t) in
+    let dots = whole_page h lines c.finish.result (subst Q (sym c.self.view_is) stands)
+    (all_diffused c.self.inside.filler v.rows (v.room working) count) v.planes c.finish.ensures.size c.finish.ensures.dots in
     let R : Halftoning → Type 0 =
     λ g. HasDots g.profile (halftone (record { form = g.form; lines = lines })
     g.profile (table_of g.kernel)) c.finish.result.width c.finish.result.rows c.finish.result.inks (dot c.finish.result) in
-    subst R c.self.view_is (subst P (sym c.finish.ensures) dots)
+    subst R c.self.view_is dots

@@ -4,6 +4,7 @@ use Rattle.dot_planes.specs.Tables.{AmountTable}
 use Rattle.raw_rows.specs.Raw.{table_of as amounts_of}
 use Rattle.separation_definitions.specs.declared.window.Window.{Window}
 use Rattle.wavefront_team.specs.Slabs.{DiffusesSlab}
+use Rattle.wavefront_team.specs.SoFar.{dots_in}
 use Rattle.page_halftoner.specs.Halftones.{Diffusing, Filling, Halftoning, StandsFor}
 use Rattle.page_halftoner.proofs.Lines.{IsDone, same_window, slab_full}
 use Rattle.page_halftoner.proofs.halftoner.Halftoner.put.Goals as goal
@@ -14,8 +15,8 @@ returns-in_ok-diffuse_beside-clause-stands g c = λ lines stands.
     let d : Diffusing = c.self.inside.diffuser in
     let done : Diffusing = c.diffuse_beside.new.self in
     let told = c.in_ok-diffuse_beside.ensures in
-    let S : AmountTable → Type 0 = λ slab. DiffusesSlab (table_of d.kernel) slab d.top done.top f.first d.planes done.planes in
-    let F : ℕ → Type 0 = λ first. DiffusesSlab (table_of d.kernel) (amounts_of c.slab-slab.result.now) d.top done.top first d.planes done.planes in
+    let S : AmountTable → Type 0 = λ slab. DiffusesSlab (table_of d.kernel) slab d.top done.top f.first (dots_in d.dots) (dots_in done.dots) in
+    let F : ℕ → Type 0 = λ first. DiffusesSlab (table_of d.kernel) (amounts_of c.slab-slab.result.now) d.top done.top first (dots_in d.dots) (dots_in done.dots) in
     let all : IsDone f c.go_on.new.self d done = record {
       full = c.is_full.ensures.full.0 c.if-is_full.true;
       rows = c.is_full.ensures.rows;
