@@ -6,7 +6,7 @@ ghost use Rattle.spool_queue.specs.Rule.{IsNext, printer_view, sender_view};
 
 use crate::job::{SpoolJob, StreamBytes};
 use crate::kinds::{JobQueue, PrintPass, SendPass, Spool};
-use crate::rule::{QueueView, SendsJob, TakesJob};
+use crate::rule::{PopsJob, QueueView, SendsJob};
 use crossbeam_queue::Pass;
 use std::sync::Wait;
 use std::thread::yield_now;
@@ -93,7 +93,7 @@ fn pop<R: Wait>(rt: &R, queue: &JobQueue, pass: &mut Pass<SpoolJob, QueueView>) 
     ensures next { IsNext (view pass.old) result }
 {
     for _ in rt.forever() {
-        if let Some(job) = queue.pop_as::<TakesJob, R>(rt, pass) {
+        if let Some(job) = queue.pop_as::<PopsJob, R>(rt, pass) {
             return job;
         }
         yield_now();

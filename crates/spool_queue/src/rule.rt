@@ -71,16 +71,16 @@ impl Lesson<SpoolJob, QueueView> for SendsJob {
 }
 
 /// The printer takes a job.
-pub struct TakesJob;
+pub struct PopsJob;
 
-impl Outcome<SpoolJob, QueueView> for TakesJob {
+impl Outcome<SpoolJob, QueueView> for PopsJob {
     ghost use Rattle.std.specs.Prelude.{[], ◌++◌, ◌≡◌, ◌∷◌};
     ghost use Rattle.spool_queue.specs.Rule.{IsNext, printer_view};
 
     ghost then = { λ v x w. (w ≡ printer_view v.senders (v.taken ++ x ∷ []) v.ended) × IsNext v x };
 }
 
-impl Lesson<SpoolJob, QueueView> for TakesJob {
+impl Lesson<SpoolJob, QueueView> for PopsJob {
     ghost fact = { λ v items. Unit {0} };
 }
 

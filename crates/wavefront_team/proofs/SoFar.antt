@@ -12,7 +12,7 @@ use Rattle.tile_shape.specs.declared.tiles.Place.{Place}
 use Rattle.tile_shape.specs.declared.tiles.Shape.{Shape}
 use Rattle.wavefront_team.specs.Dots.{IsSameDots, dots_of}
 use Rattle.wavefront_team.specs.Laying.{AreTilesOf, LaysTiles}
-use Rattle.wavefront_team.specs.SoFar.{Fits, bits_in, dot_so_far, dots_so_far, has_row, slab_dot}
+use Rattle.wavefront_team.specs.SoFar.{CanBeLaid, bits_in, dot_so_far, dots_so_far, has_row, slab_dot}
 use Rattle.wavefront_team.specs.declared.waiting.Waiting.{Waiting}
 use Rattle.wavefront_team.proofs.Numbers.{Stands, stands}
 
@@ -81,7 +81,7 @@ pixel_dot s tiles i row offset x y p d are tile place =
 -- ---- a slab that waits
 
 -- once it is laid the dots are the same
-pub waiting_laid : (t u : DotTable) (w : Waiting) → Fits t w
+pub waiting_laid : (t u : DotTable) (w : Waiting) → CanBeLaid t w
     → LaysTiles w.shape w.first (length w.tiles.items) w.tiles.items (dots_of t) (dots_of u)
     → IsSameDots (dots_so_far t (Some w)) (dots_so_far u None)
 waiting_laid t u w fits lays = record {
@@ -116,7 +116,7 @@ waiting_laid t u w fits lays = record {
         ]
 
 -- from when on it waits, its rows have its dots
-pub slab_waits : (t : DotTable) (w : Waiting) → Fits t w
+pub slab_waits : (t : DotTable) (w : Waiting) → CanBeLaid t w
     → LaysTiles w.shape w.first (length w.tiles.items) w.tiles.items (dots_so_far t None) (dots_so_far t (Some w))
 slab_waits t w fits = record {
   size = record { width = refl; rows = refl; inks = refl };

@@ -49,8 +49,8 @@ dots_so_far t waiting = record {
 abbrev pub dots_in : SoFar → Dots
 dots_in d = dots_so_far d.planes d.waiting
 
--- A slab that waits is one of the planes' rows, and has all its tiles.
-pub record Fits (t : DotTable) (w : Waiting) : Type 0 where
+-- A slab that waits can be laid into the planes: it has all its tiles, the planes' width, and rows of theirs.
+pub record CanBeLaid (t : DotTable) (w : Waiting) : Type 0 where
   pub shape : IsShape w.shape
   pub tiles : AreTilesOf w.shape w.tiles.items
   pub width : t.width ≡ w.shape.width

@@ -4,7 +4,7 @@ ghost use Rattle.std.specs.Prelude.{IfSome, None, length, ℕ, ◌+◌, ◌<◌,
 ghost use Rattle.tile_shape.specs.Geometry.{IsShape};
 ghost use Rattle.wavefront_team.specs.Dots.{IsSameDots};
 ghost use Rattle.wavefront_team.specs.Laying.{AreTilesOf, LaysTiles};
-ghost use Rattle.wavefront_team.specs.SoFar.{Fits, dots_in, dots_so_far};
+ghost use Rattle.wavefront_team.specs.SoFar.{CanBeLaid, dots_in, dots_so_far};
 
 use crate::laying::lay_tiles;
 use crate::waiting::Waiting;
@@ -34,7 +34,7 @@ impl Model for DotsSoFar {
 
 // Lays a slab that waits into the planes, if one does.
 fn lay_waiting(waiting: Option<Waiting>, planes: &mut Planes)
-    requires { IfSome waiting (Fits planes.old) }
+    requires { IfSome waiting (CanBeLaid planes.old) }
     ensures { IsSameDots (dots_so_far planes.old waiting) (dots_so_far planes.new None) }
 {
     if let Some(slab) = waiting {

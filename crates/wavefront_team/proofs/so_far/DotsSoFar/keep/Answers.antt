@@ -1,7 +1,7 @@
 use Rattle.std.proofs.Common.{◌≡◌, None, Option, Some, ap, arith, length, subst, ◌∙◌}
 use Rattle.dot_planes.specs.Tables.{DotTable}
 use Rattle.wavefront_team.specs.Dots.{IsSameDots}
-use Rattle.wavefront_team.specs.SoFar.{Fits, SoFar, dots_in, dots_so_far}
+use Rattle.wavefront_team.specs.SoFar.{CanBeLaid, SoFar, dots_in, dots_so_far}
 use Rattle.wavefront_team.specs.declared.waiting.Waiting.{Waiting}
 use Rattle.wavefront_team.proofs.Slab.{laid_same}
 use Rattle.wavefront_team.proofs.SoFar.{slab_waits}
@@ -14,7 +14,7 @@ returns c =
     let w : Waiting = record { shape = c.args.shape; first = c.args.first; tiles = c.args.tiles } in
     let width : t.width ≡ c.args.self.now.planes.width = ap (λ (d : SoFar). d.planes.width) c.self.view_is in
     let rows : t.rows ≡ c.args.self.now.planes.rows = ap (λ (d : SoFar). d.planes.rows) c.self.view_is in
-    let fits : Fits u w = record {
+    let fits : CanBeLaid u w = record {
       shape = c.requires.shape;
       tiles = c.requires.tiles;
       width = c.lay_waiting.ensures.size.width ∙ width ∙ c.requires.width;
