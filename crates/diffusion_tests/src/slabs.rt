@@ -1,5 +1,5 @@
 //! Slabs of a window, by one worker and by two.
-use crate::windows::{Case, is_right};
+use crate::windows::{Case, is_right, wrong_waiting};
 use diffusion_kernel::Kernel;
 use wavefront_team::OpenGate;
 
@@ -19,6 +19,22 @@ fn slabs_have_the_dots_of_the_whole_window(rt: HostRuntime) {
             };
             is_right(&rt, rt.alloc(), &case, 2, &OpenGate);
         }
+    }
+}
+
+#[test]
+fn slabs_that_wait_are_laid(rt: HostRuntime) {
+    for workers in [1, 2, 4] {
+        let case = Case {
+            kernel: Kernel::Jarvis,
+            all: None,
+            error: 0,
+            width: 130,
+            inks: 2,
+            slabs: &[64, 32, 39],
+        };
+        let wrong = wrong_waiting(&rt, rt.alloc(), &case, workers);
+        assert_eq!(rt; wrong, Some(0), "by {workers}");
     }
 }
 

@@ -1,5 +1,6 @@
 //! Windows that a team diffuses slab by slab, compared with the plain program.
 ghost use Rattle.diffusion_definitions.specs.Diffusion.{InRange};
+ghost use Rattle.dot_planes.specs.Tables.{HasSizeOf};
 ghost use Rattle.std.specs.Prelude.{IfSome, length, ◌≡◌};
 ghost use Rattle.tile_border.specs.Tops.{IsTopOf};
 
@@ -242,6 +243,83 @@ fn wrong_in<R: Threads + Sync, G: Gate + Sync>(
     let top = top_of(alloc, case.width, case.inks, case.error)?;
     let bottom = diffuse_slabs(team, alloc, case, top, &mut planes)?;
     wrong_of(alloc, case, &planes, &bottom)
+}
+
+// Diffuses rows of the window from row `first` on, whose dots may wait, and gives the top of the rows below them.
+// There is room for `room` rows.
+fn next_waiting<R: Threads + Sync>(
+    team: &Team<'_, R, OpenGate>,
+    alloc: Global,
+    case: &Case,
+    top: TopEdges,
+    first: u32,
+    height: u32,
+    room: u32,
+    dots: &mut DotsSoFar,
+) -> Option<TopEdges>
+    requires top { IsTopOf dots.old.planes.width dots.old.planes.inks top }
+    requires width { dots.old.planes.width ≡ case.now.width }
+    requires inks { dots.old.planes.inks ≡ case.now.inks }
+    requires room { dots.old.planes.rows ≡ room }
+    ensures size { HasSizeOf dots.old.planes dots.new.planes }
+    ensures top { IfSome result (IsTopOf dots.old.planes.width dots.old.planes.inks) }
+{
+    let rows = amounts(alloc, case, first, height)?;
+    let fits = first <= 300 && rows.rows() <= 300 && first + ABOVE + rows.rows() <= room;
+    if !fits || rows.width() != case.width || rows.inks() != case.inks {
+        return None;
+    }
+    let mut none = || {};
+    let at = first + ABOVE;
+    match diffuse_beside(team, alloc, &rows, case.kernel, top, dots, at, &mut none) {
+        Ok((bottom, ())) => Some(bottom),
+        Err(_) => None,
+    }
+}
+
+// Diffuses the slabs of a window one below another, of which the last may wait, and gives the top of the rows below.
+fn diffuse_waiting<R: Threads + Sync>(
+    team: &Team<'_, R, OpenGate>,
+    alloc: Global,
+    case: &Case,
+    top: TopEdges,
+    room: u32,
+    dots: &mut DotsSoFar,
+) -> Option<TopEdges>
+    requires top { IsTopOf dots.old.planes.width dots.old.planes.inks top }
+    requires width { dots.old.planes.width ≡ case.now.width }
+    requires inks { dots.old.planes.inks ≡ case.now.inks }
+    requires room { dots.old.planes.rows ≡ room }
+    ensures { IfSome result (IsTopOf dots.old.planes.width dots.old.planes.inks) }
+{
+    let mut top = top;
+    let mut first = 0u32;
+    'slabs: for rows in case.slabs {
+        top = next_waiting(team, alloc, case, top, first, *rows, room, dots)?;
+        first = first.wrapping_add(*rows);
+    }
+    Some(top)
+}
+
+/// How many dots and bottom errors of a window are wrong, where this many workers diffuse it and the tiles of a slab
+/// may wait while the next one is diffused.
+pub(crate) fn wrong_waiting<R: Threads + Sync>(
+    threads: &R,
+    alloc: Global,
+    case: &Case,
+    workers: u8,
+) -> Option<u32> {
+    let team = Team {
+        threads,
+        workers: workers.clamp(1, 64),
+        gate: &OpenGate,
+    };
+    let planes = spotted(alloc, case.width, case.height(), case.inks)?;
+    let room = planes.rows();
+    let top = top_of(alloc, case.width, case.inks, case.error)?;
+    let mut dots = DotsSoFar::of(planes);
+    let bottom = diffuse_waiting(&team, alloc, case, top, room, &mut dots)?;
+    wrong_of(alloc, case, &dots.finish(), &bottom)
 }
 
 // Diffuses a window of one slab while the caller has an errand, and gives its dots and the top of the rows below it.
