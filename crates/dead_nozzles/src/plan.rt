@@ -35,9 +35,9 @@ impl Model for StrokePlan {
 
 impl StrokePlan {
     /// A plan for a head of `nozzles` nozzles that are `pitch` rows apart, over a window of `height` rows: at most 22
-    /// inches, at 720 rows an inch. `dead` has the numbers of the dead nozzles in rising order, and passes `check_dead`.
-    /// The plan takes its memory here: 8 bytes for each row of the window, and 4 for each stroke in a list that grows by
-    /// doubling, so together at most a mebibyte (`small`).
+    /// inches, at 720 rows an inch. `dead` has the numbers of the dead nozzles in rising order, and passes
+    /// `check_dead`. The plan takes its memory here: 8 bytes for each row of the window, and 4 for each stroke in a
+    /// list that grows by doubling, so together at most a mebibyte (`small`).
     pub fn make(
         alloc: Global,
         nozzles: u8,

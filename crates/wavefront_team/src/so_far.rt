@@ -69,7 +69,8 @@ impl DotsSoFar {
 
     /// Lays the slab that waits, if one does.
     pub(crate) fn lay(&mut self)
-        ensures { IsSameDots (dots_in self.old) (dots_in self.new) }
+        ensures dots { IsSameDots (dots_in self.old) (dots_in self.new) }
+        ensures laid { self.new.waiting ≡ None }
     {
         lay_waiting(self.waiting.take(), &mut self.planes);
     }

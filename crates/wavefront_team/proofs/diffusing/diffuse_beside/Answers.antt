@@ -23,7 +23,7 @@ returns-clause-slab g c =
     let laid : L c.if-team-eq1.out = elim c.if-team-eq1.branch [
       | then-team-eq1 w ↦
           subst L (sym w.out-is) (same_laid (window_of rows) c.args.at (length closed.dots.items) closed.dots.items
-          (dots_in c.args.out.now) (dots_in c.keep.new.self) _ c.requires.at kept w.lay.ensures)
+          (dots_in c.args.out.now) (dots_in c.keep.new.self) _ c.requires.at kept w.lay.ensures.dots)
       | else-team-eq1 w ↦ subst L (sym w.out-is) kept
     ] in
     slab_laid (table_of c.args.kernel) rows c.args.top closed.bottom closed.dots.items c.args.at
