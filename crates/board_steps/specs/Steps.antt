@@ -157,10 +157,6 @@ to_post_in B left t =
     ++ (own_slot B.content t 0 (B.graph.next t 0) ++ (own_slot B.content t 1 (B.graph.next t 1)
     ++ (own_slot B.content t 2 (B.graph.next t 2) ++ [])))))
 
--- the same on the board of a slab
-abbrev pub to_post : Slab → (ℕ → ℕ → Cell) → ℕ → List (ℕ × Cell)
-to_post b = to_post_in (setting_of b)
-
 -- The pass holds tile t, has sent its edges, and has exactly these slots.
 pub record MayPost (B : Setting) (m : Me Cell View) (t : ℕ) : Type 0 where
   pub inside : t < B.graph.tiles

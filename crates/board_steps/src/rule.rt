@@ -9,17 +9,25 @@ use tile_border::{BottomEdge, CornerEdge, RightEdge, TopEdges};
 /// The value of a slot.
 #[derive(Drop)]
 pub enum Cell {
+    /// Nothing: a tile will send the edge, or it was taken out.
     Empty,
+    /// A tile's right edge.
     Right(RightEdge),
+    /// A tile's bottom edge.
     Bottom(BottomEdge),
+    /// A tile's corner edge.
     Corner(CornerEdge),
+    /// A tile's dots.
     Dots(TileBits),
 }
 
-/// What the tiles of a board are diffused from: the amounts, the kernel, and the errors above the first row.
+/// What the tiles of a board are diffused from.
 pub struct Slab {
+    /// The amounts.
     pub rows: Seen,
+    /// The kernel.
     pub kernel: Kernel,
+    /// The errors above the first row.
     pub top: Snapshot<TopEdges>,
 }
 

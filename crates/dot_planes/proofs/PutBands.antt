@@ -1,5 +1,5 @@
 -- Planes take the dots of a band of tiles, row by row and ink by ink.
-use Rattle.std.proofs.Common.{◌≡◌, ◌≢◌, ◌⊎◌, ℕ, ◌+◌, ◌-◌, ◌*◌, ◌<◌, ◌≤◌, false, List, length, get_or, map, min, sym, ◌∙◌, ap, arith, inl, inr, refl}
+use Rattle.std.proofs.Common.{◌≡◌, ◌≢◌, ◌⊎◌, ℕ, ◌+◌, ◌-◌, ◌*◌, ◌<◌, ◌≤◌, false, List, length, get_or, map, min, sym, ◌∙◌, ap, arith, inl, inr}
 use Rattle.std.proofs.lemmas.Bool.{cases_eq}
 use Rattle.base_definitions.specs.Counting.{count_from}
 use Rattle.dot_planes.specs.Bands.{HasTileRows, PutsBand, PutsBandInk, PutsBandRow}
@@ -31,13 +31,6 @@ puts_band_row old new i y r wide put p packed_row is = record {
 }
 
 -- ---- the rows of an ink
-
-pub no_band_rows : (t : DotTable) (first i : ℕ) (tiles : List TileDots) → PutsBandInk t t first 0 i tiles
-no_band_rows t first i tiles = record {
-  size = record { width = refl; rows = refl; inks = refl };
-  pixels = λ row offset c x d before inside in_row across. absurd (omega arith);
-  others = λ k y x low where_is. refl;
-}
 
 pub band_rows_more : (old mid new : DotTable) (first r i : ℕ) (tiles : List TileDots) (wide : List ℕ)
     → r < 32 → first + r < old.rows → old.width + 62 ≤ 64 * length tiles → HasTileRows wide tiles i r (length tiles)
@@ -73,35 +66,6 @@ pub record PutsBandInks (old new : DotTable) (first rows end : ℕ) (tiles : Lis
   pub pixels : (i row offset c x : ℕ) (d : TileDots) → i < end → row < rows → offset < 64 → x < old.width
       → x + 2 * row ≡ 64 * c + offset → dot new i (first + row) x ≡ tile_dot (get_or tiles c d).bits i row offset
   pub others : (i y x : ℕ) → y < old.rows → (end ≤ i) ⊎ ((y < first) ⊎ (first + rows ≤ y)) → dot new i y x ≡ dot old i y x
-
-pub no_band_inks : (t : DotTable) (first rows : ℕ) (tiles : List TileDots) → PutsBandInks t t first rows 0 tiles
-no_band_inks t first rows tiles = record {
-  size = record { width = refl; rows = refl; inks = refl };
-  pixels = λ i row offset c x d few before inside in_row across. absurd (omega arith);
-  others = λ i y x low where_is. refl;
-}
-
-pub band_inks_more : (old mid new : DotTable) (first rows n : ℕ) (tiles : List TileDots) → first + rows ≤ old.rows
-    → PutsBandInks old mid first rows n tiles → PutsBandInk mid new first rows n tiles → PutsBandInks old new first rows (n + 1) tiles
-band_inks_more old mid new first rows n tiles room before now = record {
-  size = same_size old mid new before.size now.size;
-  pixels = λ i row offset c x d upto down inside in_row across. elim (cases_eq i n) [
-    | inl here ↦
-        ap (λ k. dot new k (first + row) x) here
-        ∙ now.pixels row offset c x d down inside (omega (arith, before.size.width)) across
-        ∙ ap (λ k. tile_dot (get_or tiles c d).bits k row offset) (sym here)
-    | inr differs ↦
-        now.others i (first + row) x (omega (arith, before.size.rows)) (inl differs)
-        ∙ before.pixels i row offset c x d (omega arith) down inside in_row across
-  ];
-  others = λ i y x down where_is. now.others i y x (omega (arith, before.size.rows)) (elim where_is [
-    | inl later ↦ inl (omega arith)
-    | inr outside ↦ inr outside
-  ]) ∙ before.others i y x down (elim where_is [
-    | inl later ↦ inl (omega arith)
-    | inr outside ↦ inr outside
-  ]);
-}
 
 -- all inks
 pub all_band_inks : (old new : DotTable) (at height j rows end : ℕ) (tiles : List TileDots) → end ≡ old.inks

@@ -138,13 +138,6 @@ pub record PutsInks (old new : DotTable) (first height : ℕ) (p : Place) (end :
   pub others : (i y x : ℕ) → y < old.rows → (end ≤ i)
       ⊎ ((row offset : ℕ) → ¬ IsTilePixel old first height p row offset y x) → dot new i y x ≡ dot old i y x
 
-pub no_inks : (t : DotTable) (first height : ℕ) (p : Place) (bits : List (List ℕ)) → PutsInks t t first height p 0 bits
-no_inks t first height p bits = record {
-  size = record { width = refl; rows = refl; inks = refl };
-  pixels = λ i row offset y x before q. absurd (omega arith);
-  others = λ i y x low where_is. refl;
-}
-
 same_pixel : (t u : DotTable) (first height : ℕ) (p : Place) (row offset y x : ℕ)
     → u.width ≡ t.width → IsTilePixel t first height p row offset y x → IsTilePixel u first height p row offset y x
 same_pixel t u first height p row offset y x same q = record {

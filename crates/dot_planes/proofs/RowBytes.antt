@@ -63,10 +63,3 @@ blank_row len many n k bytes blank = elim (cases_lt k len) [
   | inl inside ↦ row_byte len n k bytes inside ∙ ap (λ (bs : List ℕ). get_or bs (n * len + k) 0) blank ∙ zero_at many (n * len + k)
   | inr past ↦ no_byte len n k bytes past
 ]
-
--- each byte of a row is a byte
-pub byte_fits : (len n k : ℕ) (bytes : List ℕ) → ((i : ℕ) → get_or bytes i 0 < 256) → get_or (row_at len bytes n) k 0 < 256
-byte_fits len n k bytes all = elim (cases_lt k len) [
-  | inl inside ↦ let here = all (n * len + k) in omega (arith, row_byte len n k bytes inside)
-  | inr past ↦ omega (arith, no_byte len n k bytes past)
-]

@@ -5,9 +5,9 @@
 //! bit; each row begins with a byte of its own, and its spare bits are 0.
 //!
 //! Each `make` gives a table without dots or amounts, or answers `Memory`; no other call takes memory. Each call that
-//! sets dots or amounts says what it sets and that everything else is unchanged: `turn_on` one dot, `put_row` a row,
-//! `lay` the first dots of a row from any column on, `put_tile` the pixels of a tile in a slab, `put_band` all dots of
-//! a band of its tiles at once, `put_part` a part of a row of amounts, `copy_row` a row of amounts in all inks.
+//! sets dots or amounts says what it sets and that everything else is unchanged: `turn_on` one dot, `lay` the first
+//! dots of a row from any column on, `put_tile` the pixels of a tile in a slab, `put_band` all dots of a band of its
+//! tiles at once, `put_part` a part of a row of amounts, `copy_row` a row of amounts in all inks.
 //!
 //! `TileBits` holds the dots of one tile, 256 bytes an ink, and `TileAmounts` its amounts, 2048 bytes an ink. `gather`
 //! of `TileRows`, as which `InkRows` are one kind of rows, sets them wherever the rows have a pixel of the tile. A

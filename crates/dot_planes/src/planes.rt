@@ -1,5 +1,5 @@
 //! Packed planes of dots.
-ghost use Rattle.dot_planes.specs.Tables.{IsPackedRow, IsSize, PutsRow, TurnsOn, dot, row_len as row_len_of};
+ghost use Rattle.dot_planes.specs.Tables.{IsSize, TurnsOn, dot, row_len as row_len_of};
 ghost use Rattle.dot_planes.specs.Tiles.{PutsTileRow};
 ghost use Rattle.base_definitions.specs.Packed.{packed};
 ghost use Rattle.base_definitions.specs.Limits.{most_columns};
@@ -130,18 +130,6 @@ impl Planes {
         let start = row_start(self.inks, self.rows, len, ink, at + (32 * place.j + r));
         let row = &mut self.bytes[start..start + len];
         put_dots(row, self.width as usize, place.c as usize, r as usize, dots);
-    }
-
-    /// Sets row y of an ink to these dots, packed. All other rows are unchanged.
-    pub fn put_row(&mut self, ink: u8, y: u32, row: &[u8])
-        requires ink { ink < self.old.inks }
-        requires y { y < self.old.rows }
-        requires row { IsPackedRow self.old.width row.now }
-        ensures { PutsRow self.old self.new ink y row.now }
-    {
-        let len = row_len(self.width);
-        let start = row_start(self.inks, self.rows, len, ink, y);
-        self.bytes[start..start + len].copy_from_slice(row);
     }
 
     /// The number of dots of an ink.

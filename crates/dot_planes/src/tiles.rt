@@ -59,6 +59,13 @@ impl TileBits {
         }
     }
 
+    /// Turns every dot off.
+    pub fn clear(&mut self)
+        ensures { self.new ≡ replicate (length self.old) (replicate 256 0) }
+    {
+        self.inks.fill([0; 256]);
+    }
+
     /// The number of inks.
     pub fn inks(&self) -> u8
         ensures is { result ≡ length self.now }

@@ -4,7 +4,7 @@ use Rattle.buffered_bytes.specs.Text.{UsesSome}
 use Rattle.wavefront_team.specs.Dots.{Dots, IsSameSize}
 use Rattle.ink_separation.specs.Separators.{IsSeparatorOf}
 use Rattle.raw_rows.specs.declared.kept.RawRows.{RawRows}
-use Rattle.page_halftoner.specs.Halftones.{Diffusing, Filling, HasRoom, HoldsRows, IsFull, IsSameRows, IsSpare, window_filled}
+use Rattle.page_halftoner.specs.Halftones.{Diffusing, Filling, HasRoom, IsFull, IsSameRows, IsSpare}
 use Rattle.printer_definitions.specs.Printer.{Printer}
 use Rattle.pwg_definitions.specs.declared.pages.PageForm.{PageForm}
 use Rattle.page_halftoner.proofs.Lines.{IsDone}
@@ -17,7 +17,7 @@ use Rattle.pwg_stream.specs.Reading.{HasLineFault, line_of, lines_left_of, stop_
 use Rattle.pwg_stream.specs.Stops.{OnInput}
 use Rattle.pwg_stream.specs.Taken.{TakesNoGroup}
 use Rattle.separation_definitions.specs.Windows.{wanted_by, window_of}
-use Rattle.halftone_reader.specs.SoFar.{Begun, FillsSlab, HalftonedSoFar, MayReadOn, ReadsOn}
+use Rattle.halftone_reader.specs.SoFar.{Begun, FillsSlab, HalftonedSoFar, ReadsOn}
 use Rattle.halftone_reader.proofs.HalftoneSteps.{so_far_diffused}
 use Rattle.halftone_reader.proofs.PageSteps.{fault_in_page, page_cut, place_in_page, uses_more}
 
@@ -84,33 +84,6 @@ reads_diffused T result r r' left left' f f' g d d' done fills =
       used = λ b so_far. reads.used b (so_far_diffused b r left f f' d d' done so_far);
     }
 
--- Memory ran out before a line was read.
-pub reads_none : (T : Type 0) (r : PageReader) (left : Option (List ℕ)) (f f' : Filling) (d d' : Diffusing)
-    → ReadsOn r r left left f f' d d' {T = T} (Err stop.Memory)
-reads_none T r left f f' d d' = record {
-  more = λ b so_far. tt;
-  input = λ b so_far. tt;
-  place = λ b so_far. tt;
-  taken = λ b so_far is. absurd (let never : stop.Memory ≡ stop.Read = same_error is in cc);
-  used = λ b so_far. record { bytes = so_far.page.bytes; is = so_far.page.used };
-}
-
--- A page that was read so far may be read on.
-pub may_read_on : (b : Begun) (r : PageReader) (left : Option (List ℕ)) (f : Filling) (d : Diffusing) → HalftonedSoFar b r left f d → MayReadOn r f
-may_read_on b r left f d so_far = record {
-  form_is = so_far.page.form_is ∙ ap Some (sym so_far.form_is);
-  going = so_far.page.going;
-  given = omega (arith, so_far.count, ap (λ (form : PageForm). form.height) so_far.form_is);
-}
-
--- Dots for the window of the page have room for the rows that are filled.
-pub room_in : (b : Begun) (r : PageReader) (left : Option (List ℕ)) (f : Filling) (d : Diffusing) (t : Dots)
-    → HalftonedSoFar b r left f d → HasRoom b.form b.profile t → HasRoom f.form f.profile t
-room_in b r left f d t so_far room =
-    let F : PageForm → Type 0 = λ form. HasRoom form f.profile t in
-    let P : Printer → Type 0 = λ p. HasRoom b.form p t in
-    subst F (sym so_far.form_is) (subst P (sym so_far.profile_is) room)
-
 -- dots of the same size have the same room
 pub room_still : (form : PageForm) (p : Printer) (t u : Dots) → IsSameSize t u → HasRoom form p t → HasRoom form p u
 room_still form p t u size room = record {
@@ -118,16 +91,6 @@ room_still form p t u size room = record {
   rows = size.rows ∙ room.rows;
   inks = size.inks ∙ room.inks;
 }
-
--- Where a slab was full, fewer rows are below the next one.
-pub rows_fall : (f g : Filling) → HoldsRows f → IsFull f → g.first ≡ f.first + f.slab.rows
-    → (g.form ≡ f.form) × (g.profile ≡ f.profile)
-    → (window_filled g).height - g.first < (window_filled f).height - f.first
-rows_fall f g rows full first same =
-    let form = ap (λ (m : PageForm). (window_of m g.profile).height) same.0 in
-    let profile = ap (λ (p : Printer). (window_of f.form p).height) same.1 in
-    let some = rows.some in
-    omega (arith, full, first, some, form, profile)
 
 -- A spare slab is spare still where lines were put.
 pub spare_still : (f g : Filling) → IsSameRows f g → (o : Option RawRows) → IfSome o (IsSpare f) → IfSome o (IsSpare g)

@@ -7,9 +7,9 @@
 //! has no further whole page, and no fault but one that more bytes could mend (`taken`). When memory may run out is
 //! left to tests.
 //!
-//! A page is read a slab ahead: while several workers diffuse the rows of a full slab, the caller reads the lines of
-//! the next one (`next_slab`), and what a group has left when the slab is full comes first in the one after. So a stop
-//! that the caller meets is answered once the workers have ended; which stop it is does not depend on them.
+//! A page is read a slab ahead, so that the caller can read the lines of the next slab (`next_slab`) while others
+//! diffuse a full one; what a group has left when the slab is full comes first in the one after. Which stop is answered
+//! does not depend on the workers.
 #![tactic(auto)]
 
 mod pages;

@@ -27,15 +27,17 @@ use std::thread::Threads;
 use wavefront_team::{Gate, Team};
 use weave_base::Source;
 
-/// A page that was read: its form, and the dots of its halftone inside the margins.
+/// A page that was read.
 #[derive(Drop)]
 pub struct HalftonedPage {
+    /// What its header says.
     pub form: PageForm,
+    /// The dots of its halftone, inside the margins.
     pub planes: Planes,
 }
 
-/// Reads the next page with all its lines and halftones it; the team diffuses its slabs. While several workers diffuse
-/// a slab, the caller reads the lines of the next one. `None` at the end of the stream.
+/// Reads the next page with all its lines and halftones it; the team diffuses its slabs. `None` at the end of the
+/// stream.
 pub fn read_page<R: Threads + Sync, S: Source, G: Gate + Sync>(
     team: &Team<'_, R, G>,
     alloc: Global,

@@ -144,9 +144,9 @@ fn small_pages_have_the_dots_of_the_definition(rt: HostRuntime) {
     each_page(&rt, alloc, &printer(InkSet::Cmyk), Kernel::Stucki);
 }
 
-// One worker diffuses a page of this width in slabs of 32 rows, two in slabs of 64.
+// A wide page of five bands, which are one slab.
 #[test]
-fn errors_cross_the_slabs_of_a_wide_page(rt: HostRuntime) {
+fn errors_cross_the_bands_of_a_wide_page(rt: HostRuntime) {
     let p = printer(InkSet::Cmyk);
     let f = form(Kind::Gray8, 3003, 133);
     for workers in [1, 2] {

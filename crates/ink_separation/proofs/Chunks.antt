@@ -1,6 +1,6 @@
 -- Pixels of a part of a line.
 use Rattle.std.proofs.Common.{◌≡◌, ℕ, ◌+◌, ◌*◌, ◌/◌, ◌%◌, ◌<◌, ◌≤◌, List, [], ◌∷◌, get_or, ◌∙◌, ◌-◌, ap, arith, drop}
-use Rattle.std.proofs.Common.{length, length-drop, length-take, take}
+use Rattle.std.proofs.Common.{length, take}
 use Rattle.std.proofs.lemmas.List.{get_or-drop, get_or-take}
 use Rattle.pwg_definitions.specs.declared.pages.Kind.{Kind}
 use Rattle.pwg_definitions.specs.declared.pages.Kind.TheVariants.{Gray8, Black8, Rgb8, Black1, Cmyk8}
@@ -16,10 +16,6 @@ cut_off line at = take (length line - at) (drop at line)
 pub cut_off-byte : (line : List ℕ) (at k : ℕ) → at + k < length line → get_or (cut_off line at) k 0 ≡ get_or line (at + k) 0
 cut_off-byte line at k inside =
     get_or-take (length line - at) (drop at line) k 0 (omega arith) ∙ get_or-drop at line k 0
-
-pub cut_off-len : (line : List ℕ) (at many : ℕ) → at + many ≤ length line → many ≤ length (cut_off line at)
-cut_off-len line at many inside =
-    omega (arith, length-take (length line - at) (drop at line), length-drop at line)
 
 -- a pixel of three bytes
 pub three_bytes : (line : List ℕ) (first many k : ℕ) → 3 * (first + many) ≤ length line → k < many

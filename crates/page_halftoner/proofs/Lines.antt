@@ -16,12 +16,9 @@ use Rattle.raw_rows.specs.declared.kept.RawRows.{RawRows}
 use Rattle.printer_definitions.specs.Inks.{inks_of}
 use Rattle.printer_definitions.specs.declared.inks.Ink.{Ink}
 use Rattle.printer_definitions.specs.Printer.{Printer}
-use Rattle.pwg_definitions.specs.Header.{IsWanted, line_bytes, row_of}
-use Rattle.pwg_definitions.specs.declared.pages.Kind.{Kind}
-use Rattle.pwg_definitions.specs.declared.pages.Kind.TheVariants.{Gray8, Black8, Rgb8, Black1, Cmyk8}
 use Rattle.pwg_definitions.specs.declared.pages.PageForm.{PageForm}
 use Rattle.separation_definitions.specs.Amounts.{amount as amount_of, pixel_at}
-use Rattle.separation_definitions.specs.Windows.{wanted_by, window_of}
+use Rattle.separation_definitions.specs.Windows.{window_of}
 use Rattle.wavefront_team.specs.Slabs.{DiffusesSlab}
 use Rattle.tile_border.specs.Tops.{edges_of}
 use Rattle.tile_edges.specs.Tops.{IsBelow, top_of}
@@ -44,21 +41,6 @@ behind lines line more = append_assoc lines (line ∷ []) more
 
 count_more : (lines : List (List ℕ)) (line : List ℕ) (n : ℕ) → length lines ≡ n → length (lines ++ line ∷ []) ≡ n + 1
 count_more lines line n e = omega (arith, length-append lines (line ∷ []))
-
--- A line of a page holds the pixels of its window.
-pub line_holds : (form : PageForm) (p : Printer) → IsWanted (wanted_by p) form
-    → line_bytes ((window_of form p).left + (window_of form p).width) (row_of form.kind).bits_per_pixel ≤ form.bytes_per_line
-line_holds form p wanted =
-    fits form.kind (window_of form p).left (window_of form p).width form.width form.bytes_per_line
-    (omega (arith, wanted.least_width)) wanted.bytes_per_line
-  where
-    fits : (kind : Kind) (left width across bytes : ℕ) → left + width ≤ across
-        → bytes ≡ line_bytes across (row_of kind).bits_per_pixel → line_bytes (left + width) (row_of kind).bits_per_pixel ≤ bytes
-    fits Gray8 left width across bytes inside is = omega arith
-    fits Black8 left width across bytes inside is = omega arith
-    fits Rgb8 left width across bytes inside is = omega arith
-    fits Black1 left width across bytes inside is = omega arith
-    fits Cmyk8 left width across bytes inside is = omega arith
 
 -- A line in a margin changes no row.
 pub in_margin : (f : Filling) (line : List ℕ)
@@ -214,20 +196,6 @@ at_top h none first zeros blank =
     above k p (suc (suc t)) n two = absurd (omega arith)
 
 -- ---- the last row
-
--- A line in a margin leaves no row of the slab filled.
-pub none_filled : (f : Filling) (line : List ℕ)
-    → (f.count < (window_filled f).top) ⊎ ((window_filled f).top + (window_filled f).height ≤ f.count)
-    → HoldsRows f → (IsFull f → ⊥) → EndsWith (after f f.slab) line
-none_filled f line margin rows room = record {
-  last = λ n some. absurd (elim margin [
-    | inl above ↦ omega (arith, some)
-    | inr below ↦ elim (cases_lt f.first (window_filled f).height) [
-      | inl less ↦ room (omega (arith, rows.inside less, rows.room))
-      | inr all ↦ omega (arith, some)
-    ]
-  ]);
-}
 
 -- A line that is the next row is the last one then.
 pub ends_with : (f : Filling) (line : List ℕ) (y : ℕ) (slab : AmountTable) → IsNextRow f line y slab

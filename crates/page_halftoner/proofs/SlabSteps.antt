@@ -95,7 +95,7 @@ slab_more k p i d rows rows' top bottom old new done up ink wide some low tall w
           let bands : h % 32 ≡ 0 = whole more in
           let end : 32 * (bands_of (window_of rows) - 1 + 1) ≡ h = omega (arith, bands, some) in
           let next = bottoms_are_top k q g (window_of rows) (edges_of bottom i) (bands_of (window_of rows) - 1) solves
-          (record { width = refl; height = refl }) (done.bottoms i g are) in
+          (record { width = refl; height = refl }) (done.bottom_is.bottoms i g are) in
           λ t n two.
           let place : d + h + t ≡ d + (h + t) = omega arith in
           let from : h + t ≡ 32 * (bands_of (window_of rows) - 1 + 1) + t = omega (arith, end) in

@@ -1,7 +1,6 @@
 -- Which errors the definition has above and beside a window, and which pixels are reached.
 use Rattle.std.proofs.Common.{◌≡◌, ◌⊎◌, ℕ, ℤ, pos, zero, suc, ◌+◌, ◌-◌, ◌*◌, ◌<◌, ◌≤◌, ◌+ℤ◌, ◌≤ℤ◌, ◌&&◌, Bool, false}
 use Rattle.std.proofs.Common.{inl, inr, sym, ◌∙◌, ap, arith}
-use Rattle.std.proofs.Math.Nat.{mul-le-mul_right}
 use Rattle.std.proofs.lemmas.Bool.{cases_lt, le-ltb, lt-ltb}
 use Rattle.std.proofs.lemmas.Int.{ints}
 use Rattle.std.specs.Prelude.{nat_lt}
@@ -9,7 +8,7 @@ use Rattle.diffusion_definitions.specs.Diffusion.{is_dot, on, value_at}
 use Rattle.diffusion_kernel.specs.Tables.{table_of}
 use Rattle.diffusion_laws.proofs.Solve.{errors_solve, errors_top}
 use Rattle.plain_diffusion.specs.Fills.{above_of}
-use Rattle.plain_diffusion.specs.Known.{IsOutside, IsReached, errors_of, plane_of}
+use Rattle.plain_diffusion.specs.Known.{IsOutside, errors_of, plane_of}
 use Rattle.plain_diffusion.specs.declared.fills.InkWindow.{InkWindow}
 
 pub row_more : (width y : ℕ) → (y + 1) * width ≡ y * width + width
@@ -71,21 +70,3 @@ outside_off w n t (inr below) =
           ∙ ap (λ b. b && dot) (le-ltb t w.height below))
       | inr right ↦ right_off w n t right
     ]
-
--- ---- pixels that are reached before the one at column x and row y
-
-pub reached_above : (w : InkWindow) (many y x t m : ℕ) → many ≡ y * w.width + x → y < w.height → t < y + 2 → IsReached w many t m
-reached_above w many y x t m is row above = (
-  omega arith,
-  λ two four inside.
-      let rows : (t - 2 + 1) * w.width ≤ y * w.width = mul-le-mul_right w.width (omega arith) in
-      omega (arith, rows, row_more w.width (t - 2)),
-)
-
-pub reached_left : (w : InkWindow) (many y x t m : ℕ) → many ≡ y * w.width + x → y < w.height → t ≡ y + 2 → m < x + 4 → IsReached w many t m
-reached_left w many y x t m is row here left = (
-  omega arith,
-  λ two four inside.
-      let same : (t - 2) * w.width ≡ y * w.width = ap (λ k. k * w.width) (omega arith) in
-      omega (arith, same),
-)

@@ -27,10 +27,15 @@ pub enum Above {
 /// An ink of a window, and what it is diffused by.
 #[derive(Clone, Copy, Debug, PartialEq, Eq)]
 pub struct InkWindow {
+    /// The kernel.
     pub kernel: Kernel,
+    /// The amounts.
     pub fill: Amounts,
+    /// The errors above the window.
     pub above: Above,
+    /// Columns, at most 65,535.
     pub width: u32,
+    /// Rows, at most 65,535.
     pub height: u32,
 }
 

@@ -110,7 +110,8 @@ impl RawRows {
         ensures { GathersRow (table_of self.now) place r out.old.inks out.new.inks }
     {
         let part = self.part_of(place, r);
-        let row = &bytes[256 * r..256 * r + part.many];
+        // All 256 bytes, of which a row may have fewer: bits are taken from sixteen bytes at a time.
+        let row = &bytes[256 * r..256 * r + 256];
         self.separator
             .separate_into(row, part.before, 64, 64 * r, out);
     }

@@ -1,7 +1,6 @@
 -- What a tile gives goes into its slots, and these go back to the table.
 use Rattle.std.proofs.Common.{◌≡◌, ℕ, zero, suc, ◌+◌, ◌*◌, ◌<◌, ◌||◌, ◌==◌, Bool, true, false, [], ◌∷◌, ◌++◌, Option, Some, None, refl, sym}
 use Rattle.std.proofs.Common.{◌∙◌, ap, subst, append_assoc, append-nil, eq-eqb}
-use Rattle.std.proofs.lemmas.Bool.{ne_eqb}
 use Rattle.atomic_table.specs.Table.{Me, rest, turned}
 use Rattle.tile_shape.specs.Geometry.{IsTile, bands_of, columns_of}
 use Rattle.tile_shape.specs.declared.tiles.Place.{Place}
@@ -73,18 +72,6 @@ all-sent b t v (suc (suc (suc d))) p to = absurd (cc)
 pub gave-held : (v : View) (d : ℕ) (o : Option ℕ) → (gave_view v d o).held ≡ v.held
 gave-held v d None = refl
 gave-held v d (Some p) = refl
-
-pub gave-parts : (v : View) (d : ℕ) (o : Option ℕ) → (gave_view v d o).parts ≡ v.parts
-gave-parts v d None = refl
-gave-parts v d (Some p) = refl
-
-pub gave-unsent : (v : View) (d e : ℕ) (o : Option ℕ) → (d ≡ e → ⊥) → has e v.sent ≡ false → has e (gave_view v d o).sent ≡ false
-gave-unsent v d e None other h = h
-gave-unsent v d e (Some p) other h = ap (λ b. (d == e) || b) h ∙ or-false (d == e) (ne_eqb d e other)
-  where
-    or-false : (b : Bool) → b ≡ false → (b || false) ≡ false
-    or-false true h = h
-    or-false false h = refl
 
 -- ---- the hand
 

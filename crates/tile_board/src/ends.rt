@@ -16,7 +16,7 @@ use crate::kinds::{Board, Closed, Pass};
 use base_definitions::Memory;
 use board_steps::{Cell, Slab, open};
 use diffusion_kernel::Kernel;
-use dot_planes::{Seen, TileBits, TileRows};
+use dot_planes::{Seen, TileBits, TileDots, TileRows};
 use std::alloc::Global;
 use std::snapshot::Snapshot;
 use tile_border::{BottomEdge, CornerEdge, RightEdge, TopEdges};
@@ -24,13 +24,14 @@ use tile_shape::Shape;
 
 impl<'a, A: TileRows> Board<'a, A> {
     /// A board of rows of amounts, which are diffused below `top`, and its first pass, which has 256 parts. The top
-    /// has a bottom edge for each column of tiles, in the inks of the rows. `Memory` where there is no room for all
-    /// that the board ever needs.
+    /// has a bottom edge for each column of tiles, in the inks of the rows. The memory of spare dots, of any tiles, is
+    /// used again. `Memory` where there is no room for all that the board ever needs.
     pub fn make(
         alloc: Global,
         rows: &'a A,
         kernel: Kernel,
         top: TopEdges,
+        spare: Vec<TileDots>,
     ) -> Result<(Board<'a, A>, Pass), Memory>
         requires { IsTopOf (A.table rows.now).width (A.table rows.now).inks top }
         ensures amounts { IfOk result (λ b. amounts_of (slab b.0) ≡ A.table rows.now) }
@@ -41,7 +42,7 @@ impl<'a, A: TileRows> Board<'a, A> {
         ensures holds { IfOk result (λ b. holding b.1 ≡ None) }
     {
         let tiles = count_tiles(rows.shape());
-        let slots = waiting_slots(alloc, rows.shape(), top.at(0).inks())?;
+        let slots = waiting_slots(alloc, rows.shape(), top.at(0).inks(), spare)?;
         let Ok(dots) = Vec::with_capacity(alloc, tiles) else {
             return Err(Memory);
         };
@@ -115,7 +116,12 @@ fn count_tiles(shape: Shape) -> usize
 }
 
 // The slots of all tiles of a window, by number, while they wait.
-fn waiting_slots(alloc: Global, shape: Shape, inks: u8) -> Result<Vec<Cell>, Memory>
+fn waiting_slots(
+    alloc: Global,
+    shape: Shape,
+    inks: u8,
+    mut spare: Vec<TileDots>,
+) -> Result<Vec<Cell>, Memory>
     requires shape { IsShape shape }
     requires some { 1 ≤ inks }
     requires most { inks ≤ 4 }
@@ -132,13 +138,28 @@ fn waiting_slots(alloc: Global, shape: Shape, inks: u8) -> Result<Vec<Cell>, Mem
         let right = right_slot(alloc, 0 < c, inks)?;
         let bottom = bottom_slot(alloc, c + 1 < columns, 0 < j, inks)?;
         let corner = corner_slot(alloc, 0 < j, inks)?;
-        let dots = TileBits::make(alloc, inks)?;
+        let dots = blank_dots(alloc, inks, &mut spare)?;
         slots.push_reserved(right);
         slots.push_reserved(bottom);
         slots.push_reserved(corner);
         slots.push_reserved(Cell::Dots(dots));
     }
     Ok(slots)
+}
+
+// The dots of a waiting tile, all off: spare ones, where these have its inks, and else new ones.
+fn blank_dots(alloc: Global, inks: u8, spare: &mut Vec<TileDots>) -> Result<TileBits, Memory>
+    requires some { 1 ≤ inks }
+    requires most { inks ≤ 4 }
+    ensures bytes { IfOk result (λ bits. bits ≡ replicate inks (replicate 256 0)) }
+{
+    if let Some(TileDots { mut bits, .. }) = spare.pop()
+        && bits.inks() == inks
+    {
+        bits.clear();
+        return Ok(bits);
+    }
+    TileBits::make(alloc, inks)
 }
 
 // The slot for the right edge of a waiting tile: empty where a tile at its left will send it one, and else errors 0.

@@ -2,8 +2,8 @@
 //! needs have come, and takes back what the tiles give. A `Pass` is one caller's place at a `Board`. No call waits for
 //! another.
 //!
-//! - `make` takes all the memory that the board ever needs, or answers `Memory`; no other call takes any. Its pass is
-//!   the first, with 256 parts, and has posted nothing.
+//! - `make` takes all the memory that the board ever needs, or answers `Memory`; no other call takes any. The memory of
+//!   spare dots is used again. Its pass is the first, with 256 parts, and has posted nothing.
 //! - `claim`: `Got` hands a tile out with the edges of row-by-row diffusion below the board's top, whatever other
 //!   passes do. `NotReady` comes only where an edge that the tile needs had not come, from a tile that the pass has
 //!   not posted itself. `Gone` comes only where the tile was taken; a pass with all 256 parts has posted it itself

@@ -231,7 +231,7 @@ fn diffuse<R: Threads + Sync>(
     let Ok(top) = TopEdges::zero(alloc, rows.shape().columns(), 1) else {
         return None;
     };
-    let Ok((board, mut p)) = Board::make(alloc, rows, Kernel::Floyd, top) else {
+    let Ok((board, mut p)) = Board::make(alloc, rows, Kernel::Floyd, top, Vec::new(alloc)) else {
         return None;
     };
     let shape = rows.shape();
@@ -257,7 +257,7 @@ fn diffuse_joining(alloc: Global) -> Option<Closed> {
     let Ok(top) = TopEdges::zero(alloc, rows.shape().columns(), 1) else {
         return None;
     };
-    let Ok((board, mut p)) = Board::make(alloc, &rows, Kernel::Floyd, top) else {
+    let Ok((board, mut p)) = Board::make(alloc, &rows, Kernel::Floyd, top, Vec::new(alloc)) else {
         return None;
     };
     let mut q = board.split(&mut p);

@@ -43,9 +43,6 @@ begins : (k : Kernel) (rows : AmountTable) (p : Place) (i : ℕ) (old mid new : 
 begins k rows p i old mid new same works = λ e solves ready.
     works e solves (ready_same p e same.side same.band same.corner ready)
 
-pub same_all : (i : ℕ) (b : Border) → SameInk i b b
-same_all i b = record { side = refl; band = refl; corner = refl; bits = refl }
-
 then_same : (i : ℕ) (old mid new : Border) → SameInk i old mid → SameInk i mid new → SameInk i old new
 then_same i old mid new a b = record {
   side = b.side ∙ a.side;
@@ -84,22 +81,6 @@ whole_more k rows p n mid new step now before i upto = elim (cases_eq i n) [
 ]
 
 -- ---- one ink is set
-
--- the edges with the errors of an ink set anew
-pub set_inks : (edge : List (List ℤ)) (n : ℕ) (errors : List ℤ) → AreInks edge → EachInRange errors → n < length edge
-    → AreInks (set edge n errors)
-set_inks edge n errors inks fits room = record {
-  some_inks = omega (arith, length-set edge n errors, inks.some_inks);
-  most_inks = omega (arith, length-set edge n errors, inks.most_inks);
-  in_range = λ i. elim (cases_eq i n) as (λ _. EachInRange (errors_of (set edge n errors) i)) [
-    | inl here ↦
-        let Q : List ℤ → Type 0 = λ es. EachInRange es in
-        subst Q (sym (ap (errors_of (set edge n errors)) here ∙ get_or-set_same edge n errors [] room)) fits
-    | inr other ↦
-        let Q : List ℤ → Type 0 = λ es. EachInRange es in
-        subst Q (sym (get_or-set_other edge n i errors [] other)) (inks.in_range i)
-  ];
-}
 
 -- the errors read of an ink
 pub read_fits : (edge : List (List ℤ)) (n : ℕ) (errors : List ℤ) → AreInks edge → n < length edge → errors ≡ get_or edge n errors

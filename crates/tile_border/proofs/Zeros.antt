@@ -1,5 +1,5 @@
 -- Edges of no errors.
-use Rattle.std.proofs.Common.{◌≡◌, ℕ, ℤ, pos, ◌+◌, ◌<◌, ◌≤◌, List, [], get_or, length, replicate, ap, arith, inl, inr, set, sym, ◌∙◌, subst}
+use Rattle.std.proofs.Common.{◌≡◌, ℕ, ℤ, pos, ◌<◌, ◌≤◌, List, [], get_or, length, replicate, ap, arith, inl, inr, set, sym, ◌∙◌, subst}
 use Rattle.std.proofs.Common.{get_or-set_other, get_or-set_same, to_z, of_z, w16}
 use Rattle.std.proofs.lemmas.Bool.{cases_eq, cases_lt}
 use Rattle.std.proofs.lemmas.Int.{ints}
@@ -32,11 +32,6 @@ zeros_are_inks edge some most z = record {
   in_range = λ ink n. let Q : ℤ → Type 0 = λ e. InRange e in subst Q (sym (z.at ink n)) zero_fits;
 }
 
-pub zero_inks : (inks len : ℕ) (edge : List (List ℤ)) → 1 ≤ inks → inks ≤ 4 → edge ≡ replicate inks (replicate len (pos 0)) → AreInks edge
-zero_inks inks len edge some most is =
-    let long : length edge ≡ inks = ap length is ∙ length-replicate inks (replicate len (pos 0)) in
-    zeros_are_inks edge (omega arith) (omega arith) (zeros inks len edge is)
-
 -- ---- errors in range
 
 -- an error in range is kept in 16 bits
@@ -57,16 +52,3 @@ set_fits errors at e room fits all n = let Q : ℤ → Type 0 = λ z. InRange z 
 
 pub even_kept : (len : ℕ) (e : ℤ) → InRange e → EachInRange (replicate len (to_z w16 (of_z w16 e)))
 even_kept len e fits = let Q : ℤ → Type 0 = λ z. EachInRange (replicate len z) in subst Q (sym (kept e fits)) (even_fits len e fits)
-
--- ---- inks that are cleared
-
-pub cleared_more : (edge : List (List ℤ)) (len ink i n : ℕ) → ink < length edge
-    → ((j m : ℕ) → j < ink → get_or (errors_of edge j) m (pos 0) ≡ pos 0)
-    → i < ink + 1 → get_or (errors_of (set edge ink (replicate len (pos 0))) i) n (pos 0) ≡ pos 0
-cleared_more edge len ink i n inside before below = elim (cases_eq i ink) [
-  | inl here ↦
-      ap (λ m. get_or (errors_of (set edge ink (replicate len (pos 0))) m) n (pos 0)) here
-      ∙ ap (λ (xs : List ℤ). get_or xs n (pos 0)) (get_or-set_same edge ink (replicate len (pos 0)) [] inside) ∙ some_zeros len n
-  | inr other ↦ ap (λ (xs : List ℤ). get_or xs n (pos 0)) (get_or-set_other edge ink i (replicate len (pos 0)) [] other)
-      ∙ before i n (omega arith)
-]

@@ -17,11 +17,6 @@ pub record AreInks (edge : List (List ℤ)) : Type 0 where
 pub record AreZeros (edge : List (List ℤ)) : Type 0 where
   pub at : (ink n : ℕ) → slice_index_or (errors_of edge ink) n (pos 0) ≡ pos 0
 
--- every error of each ink is 0
-pub record IsCleared (old new : List (List ℤ)) : Type 0 where
-  pub len : length new ≡ length old
-  pub zeros : (i n : ℕ) → i < length old → slice_index_or (errors_of new i) n (pos 0) ≡ pos 0
-
 -- Each ink has the ends of a bottom edge: the last six errors of both of its rows.
 pub record CutsEnds (edge old new : List (List ℤ)) : Type 0 where
   pub len : length new ≡ length old

@@ -1,7 +1,7 @@
 //! The edges of a tile, ink by ink.
 ghost use Rattle.diffusion_definitions.specs.Diffusion.{EachInRange};
 ghost use Rattle.std.specs.Prelude.{IfOk, length, pos, replicate, slice_set, ◌<◌, ◌≡◌, ◌≤◌};
-ghost use Rattle.tile_border.specs.Inks.{CutsEnds, IsCleared, errors_of};
+ghost use Rattle.tile_border.specs.Inks.{CutsEnds, errors_of};
 ghost use Rattle.tile_edges.specs.Tops.{IsCut};
 
 use base_definitions::Memory;
@@ -78,23 +78,6 @@ impl<const N: usize> Edge<N> {
         ensures { self.new ≡ slice_set self.old ink errors.now }
     {
         self.inks[usize::from(ink)] = *errors;
-    }
-
-    /// Sets every error to 0.
-    pub fn clear(&mut self)
-        ensures { IsCleared self.old self.new }
-    {
-        for ink in 0..self.inks() {
-            self.clear_ink(ink);
-        }
-    }
-
-    // Sets the errors of an ink to 0. All others stay.
-    fn clear_ink(&mut self, ink: u8)
-        requires { ink < length self.old }
-        ensures { self.new ≡ slice_set self.old ink (replicate N (pos 0)) }
-    {
-        self.inks[usize::from(ink)] = [0; N];
     }
 }
 

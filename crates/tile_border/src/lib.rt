@@ -1,10 +1,9 @@
 //! Tiles with their edges, in all inks: what a tile is handed, what it hands on, and the top edges of a board.
 //!
 //! - `RightEdge`, `BottomEdge`, `CornerEdge`: a list of errors for each ink, each error from -2040 to 2039. `zero` has
-//!   errors 0, `ink` gives the errors of an ink, `put` sets those of one ink and keeps all others, and `clear` sets all
-//!   to 0. `BottomEdge::ends` are the last six errors of an ink's two rows, and `cut_ends` puts them in a corner edge.
-//! - `TopEdges`: a bottom edge for each column of tiles. `zero`, `at`, `put` and `swap` make, give, set and exchange
-//!   them.
+//!   errors 0, `ink` gives the errors of an ink, and `put` sets those of one ink and keeps all others.
+//!   `BottomEdge::ends` are the last six errors of an ink's two rows, and `cut_ends` puts them in a corner edge.
+//! - `TopEdges`: a bottom edge for each column of tiles. `zero`, `at` and `put` make, give and set them.
 //! - `work`: take any errors that solve the rule for an ink. Where the three edges of the task hold these errors, so do
 //!   the three edges that it gives, and its dots are the rule's; this holds for each ink (`works`). It takes no memory:
 //!   the edges and dots that it gives use the allocations of the task. A `Done` has as many errors and bytes in each

@@ -6,7 +6,6 @@ use crate::edges::BottomEdge;
 use base_definitions::Memory;
 use std::alloc::Global;
 use std::marker::Model;
-use std::mem;
 
 /// The bottom edges above the first band of a board, one for each column of tiles. Contracts see a list by columns, and
 /// in each column a list of errors for each ink.
@@ -56,14 +55,5 @@ impl TopEdges {
         ensures { self.new ≡ slice_set self.old c e }
     {
         self.edges[c as usize] = e;
-    }
-
-    /// Exchanges the edge of a column for another. All others stay.
-    pub fn swap(&mut self, c: u32, e: &mut BottomEdge)
-        requires { c < length self.old }
-        ensures put { self.new ≡ slice_set self.old c e.old }
-        ensures taken { e.new ≡ slice_index_or self.old c [] }
-    {
-        mem::swap(&mut self.edges[c as usize], e);
     }
 }

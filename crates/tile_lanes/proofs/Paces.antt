@@ -10,10 +10,6 @@ pub delay_up : (pace : Pace) (a b : ℕ) → a ≤ b → delay_of pace a ≤ del
 delay_up Level a b h = omega arith
 delay_up Lagging a b h = h
 
-pub delay_most : (pace : Pace) (r : ℕ) → delay_of pace r ≤ r
-delay_most Level r = omega arith
-delay_most Lagging r = omega arith
-
 -- the rows of two halves are as far apart
 pub delay_plus : (pace : Pace) (a b : ℕ) → delay_of pace (a + b) ≡ delay_of pace a + delay_of pace b
 delay_plus Level a b = refl

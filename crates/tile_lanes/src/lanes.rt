@@ -67,6 +67,7 @@ fn diffuse_steps(
     shape: Shape,
     place: Place,
     tile: &[u8; 2048],
+    amounts: &mut [u8; 3072],
     field: &mut [u16; 3502],
     bits: &mut [u8; 256],
 )
@@ -80,18 +81,18 @@ fn diffuse_steps(
         → HasBits kernel (plane_with shape amount) e place.c place.j (end_of (pace_of kernel)) bits.new }
 {
     let pace = Pace::of(kernel);
-    let mut amounts = [0u8; 3072];
-    order_by_steps(pace, tile, &mut amounts);
+    order_by_steps(pace, tile, amounts);
     let whole = is_whole(shape, place);
     let mut dots = [0u16; 32];
     for step in 8..pace.end() {
-        diffuse_step(kernel, &amounts, field, &mut dots, step);
+        diffuse_step(kernel, amounts, field, &mut dots, step);
         clear_missing(whole, pace, shape, place, field, &mut dots, step);
         put_words(pace, bits, step, &dots);
     }
 }
 
-/// Diffuses one ink of a tile, as `diffuse_tile` says. The field may hold any errors.
+/// Diffuses one ink of a tile, as `diffuse_tile` says. The field may hold any errors, and the amounts are room for
+/// those of the tile by steps.
 #[inline(always)]
 pub(crate) fn diffuse_lanes(
     kernel: Kernel,
@@ -103,6 +104,7 @@ pub(crate) fn diffuse_lanes(
     corner: &mut [i16; 12],
     bits: &mut [u8; 256],
     field: &mut [u16; 3502],
+    amounts: &mut [u8; 3072],
 )
     requires side_fits { EachInRange side.old }
     requires band_fits { EachInRange band.old }
@@ -120,7 +122,7 @@ pub(crate) fn diffuse_lanes(
     put_above(pace, field, band);
     put_corner(pace, field, corner);
     put_left(pace, field, side);
-    diffuse_steps(kernel, shape, place, tile, field, bits);
+    diffuse_steps(kernel, shape, place, tile, amounts, field, bits);
     take_right(pace, field, side);
     take_bottom(pace, field, band);
     take_lower_corner(pace, field, corner);

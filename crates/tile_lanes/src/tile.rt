@@ -57,6 +57,7 @@ pub fn diffuse_tile(
             corner,
             dots,
             &mut field.held,
+            &mut field.amounts,
         ),
         Kernel::Jarvis => diffuse_lanes(
             Kernel::Jarvis,
@@ -68,6 +69,7 @@ pub fn diffuse_tile(
             corner,
             dots,
             &mut field.held,
+            &mut field.amounts,
         ),
         Kernel::Stucki => diffuse_lanes(
             Kernel::Stucki,
@@ -79,6 +81,7 @@ pub fn diffuse_tile(
             corner,
             dots,
             &mut field.held,
+            &mut field.amounts,
         ),
     }
 }

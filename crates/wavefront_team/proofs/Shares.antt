@@ -1,10 +1,9 @@
 -- Shares, one after another.
-use Rattle.std.proofs.Common.{◌≡◌, ℕ, ◌+◌, List, [], ◌∷◌, ◌++◌, get_or, take, drop, length, inl, inr, sym, ap, arith}
+use Rattle.std.proofs.Common.{◌≡◌, ◌+◌, List, [], ◌∷◌, ◌++◌, get_or, length, inl, inr, sym, ap, arith}
 use Rattle.std.proofs.Common.{subst, length-append, ◌∙◌}
 use Rattle.std.proofs.Math.ListN.{get_or-append}
 use Rattle.std.proofs.Math.Seq.{get_or-append_seam}
 use Rattle.std.proofs.lemmas.Bool.{cases_lt}
-use Rattle.std.proofs.lemmas.List.{take_at}
 use Rattle.wavefront_team.specs.Shares.{AllReady}
 
 -- one share more
@@ -29,9 +28,3 @@ pub last_ready : {W : Type 0} (P : W → Type 0) (xs ys : List W) (x : W) → ys
 last_ready P xs ys x are all =
     subst P (ap (λ zs. get_or zs (length xs) x) are ∙ get_or-append_seam xs x [] x)
     (all (length xs) x (omega (arith, ap length are, length-append xs (x ∷ []))))
-
--- shares that are written back to where they were lent from
-pub ready_back : {W : Type 0} (P : W → Type 0) (n : ℕ) (new given from : List W) → length new ≡ n → AllReady P new → given ≡ new
-    → AllReady P (take n (given ++ drop (length given) from))
-ready_back P n new given from long all same =
-    rw same (subst (AllReady P) (sym (take_at new (drop (length new) from) n long)) all)

@@ -107,8 +107,7 @@ slab_laid k rows top bottom tiles first old new inks closes lays = record {
       (omega (arith, number_below s here.p here.tile, closes.tiles_are.count)) pixel here.place
       ∙ closes.dots i e are here.p here.row here.offset x y d here.tile pixel here.place;
   others = lays.others;
-  is_top = closes.bottom_is.is_top;
-  bottoms = closes.bottom_is.bottoms;
+  bottom_is = closes.bottom_is;
 }
 
 -- dots that are the same as those that were laid

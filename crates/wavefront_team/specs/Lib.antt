@@ -4,4 +4,4 @@ pub mod Shares
 pub mod Passes
 pub mod Laying
 pub mod SoFar
-pub mod Waiting
+pub mod Inside

@@ -33,12 +33,10 @@ pub record ClosesSlab (k : Table) (rows : AmountTable) (top bottom : List (List 
       → tile_dot (slice_index_or tiles (number_of (window_of rows) p) d).bits i row offset ≡ on k (plane_of rows i) e y x
   pub bottom_is : HasBottom k rows top bottom
 
--- Rows `at` and on have the dots of a slab, and all others stay. `bottom` are the bottom edges of its last band.
+-- Rows `at` and on have the dots of a slab, and all others are unchanged. `bottom` are the bottom edges of its last band.
 pub record DiffusesSlab (k : Table) (rows : AmountTable) (top bottom : List (List (List ℤ))) (at : ℕ) (old new : Dots) : Type 0 where
   pub size : IsSameSize old new
   pub dots : (i : ℕ) (e : Errors) → AreSlabErrors k rows top i e → (y x : ℕ) → y < rows.rows → x < rows.width
       → new.dot i (at + y) x ≡ on k (plane_of rows i) e y x
   pub others : (i y x : ℕ) → y < old.rows → (y < at) ⊎ (at + rows.rows ≤ y) → new.dot i y x ≡ old.dot i y x
-  pub is_top : IsTopOf rows.width rows.inks bottom
-  pub bottoms : (i : ℕ) (e : Errors) → AreSlabErrors k rows top i e
-      → AreBottoms (window_of rows) e (bands_of (window_of rows) - 1) (edges_of bottom i)
+  pub bottom_is : HasBottom k rows top bottom

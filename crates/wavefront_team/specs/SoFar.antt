@@ -46,6 +46,7 @@ dots_so_far t waiting = record {
   dot = λ i y x. (nat_lt i t.inks && nat_lt x t.width) && dot_so_far t waiting i y x;
 }
 
+-- the dots of a page so far
 abbrev pub dots_in : SoFar → Dots
 dots_in d = dots_so_far d.planes d.waiting
 

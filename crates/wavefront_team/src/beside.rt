@@ -19,9 +19,8 @@ pub trait Share {
         ensures { does self.old self.new };
 }
 
-/// Does each share: the last one on the caller's thread, after the errand, each other in a thread of its own where
-/// one can be started. The caller starts all threads, then does its errand, and then works. So the errand runs on the
-/// caller's own thread, and neither it nor what it captures need cross one.
+/// Does each share and the errand, once. The errand runs on the caller's own thread, so neither it nor what it captures
+/// need cross one. In which thread a share is done, and what comes first, is not promised.
 #[cycle(workers)]
 pub fn run_beside<R: Threads + Sync, W: Share + Send, F: FnMut() -> A, A>(
     threads: &R,

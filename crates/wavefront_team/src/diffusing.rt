@@ -21,7 +21,7 @@ use crate::work::work_rest;
 use crate::worker::Worker;
 use base_definitions::Memory;
 use diffusion_kernel::Kernel;
-use dot_planes::{Planes, TileRows};
+use dot_planes::{Planes, TileDots, TileRows};
 use std::alloc::Global;
 use std::thread::Threads;
 use tile_board::{Board, Closed, Pass};
@@ -29,9 +29,8 @@ use tile_border::TopEdges;
 use tile_shape::Shape;
 
 /// Diffuses a slab below its top by a team's workers, and puts its dots into the planes from row `at` on. The answer is
-/// the bottom edges of its last band: the top of the rows below it, where its rows are whole bands of 32. One worker
-/// is the caller itself. More run in threads of their own where these can be started, and the caller works what they
-/// leave. Each tile enters the gate before it is worked.
+/// the bottom edges of its last band: the top of the rows below it, where its rows are whole bands of 32. That more
+/// than one thread works, and that each tile enters the gate just once, is tested.
 ///
 /// On `Memory` the planes are unchanged.
 pub fn diffuse<R: Threads + Sync, G: Gate + Sync, A: TileRows + Sync>(
@@ -52,16 +51,15 @@ pub fn diffuse<R: Threads + Sync, G: Gate + Sync, A: TileRows + Sync>(
     ensures unchanged { OnErr result (out.new ≡ out.old) }
 {
     let mut none = || {};
-    let (closed, _) = close_slab(team, alloc, rows, kernel, top, &mut none)?;
+    let spare = Vec::new(alloc);
+    let (closed, _) = close_slab(team, alloc, rows, kernel, top, spare, &mut none)?;
     lay_tiles(closed.dots.as_slice(), rows.shape(), out, at);
     Ok(closed.bottom)
 }
 
-/// Diffuses a slab as `diffuse` does, and does the errand on the caller's own thread: after all tiles, where there is
-/// one worker, else while the others work. Its answer stands beside the bottom edges.
-///
-/// Several workers leave the slab's tiles waiting in `out`. The caller lays them while the next slab is diffused,
-/// before that one's errand.
+/// Diffuses a slab as `diffuse` does, and does the errand once, on the caller's own thread. Its answer stands beside
+/// the bottom edges. When the errand is done, and whether tiles of the slab are left waiting in `out`, is not promised:
+/// contracts see the dots of tiles that wait as those of the planes.
 ///
 /// On `Memory` the dots are unchanged and the errand is not begun.
 pub fn diffuse_beside<R: Threads + Sync, G: Gate + Sync, A: TileRows + Sync, F: FnMut() -> E, E>(
@@ -85,6 +83,7 @@ pub fn diffuse_beside<R: Threads + Sync, G: Gate + Sync, A: TileRows + Sync, F: 
     ensures unchanged { OnErr result (out.new ≡ out.old) }
     ensures not_begun { OnErr result (errand.new ≡ errand.old) }
 {
+    let spare = out.take_spare(alloc);
     let mut both = || -> E
         requires { F.pre errand.now }
         ensures { IsSameDots (dots_in out.entry.now) (dots_in out.exit.now) × F.step errand.entry.now result errand.exit.now }
@@ -92,7 +91,7 @@ pub fn diffuse_beside<R: Threads + Sync, G: Gate + Sync, A: TileRows + Sync, F: 
         out.lay();
         errand()
     };
-    let (closed, done) = close_slab(team, alloc, rows, kernel, top, &mut both)?;
+    let (closed, done) = close_slab(team, alloc, rows, kernel, top, spare, &mut both)?;
     out.keep(closed.dots, rows.shape(), at);
     if team.workers == 1 {
         out.lay();
@@ -100,13 +99,14 @@ pub fn diffuse_beside<R: Threads + Sync, G: Gate + Sync, A: TileRows + Sync, F: 
     Ok((closed.bottom, done))
 }
 
-// Diffuses a slab by a team, and does the errand beside it.
+// Diffuses a slab by a team, and does the errand beside it. The memory of spare dots is used again.
 fn close_slab<R: Threads + Sync, G: Gate + Sync, A: TileRows + Sync, F: FnMut() -> E, E>(
     team: &Team<'_, R, G>,
     alloc: Global,
     rows: &A,
     kernel: Kernel,
     top: TopEdges,
+    spare: Vec<TileDots>,
     errand: &mut F,
 ) -> Result<(Closed, E), Memory>
     requires top { IsTopOf (A.table rows.now).width (A.table rows.now).inks top }
@@ -116,7 +116,7 @@ fn close_slab<R: Threads + Sync, G: Gate + Sync, A: TileRows + Sync, F: FnMut() 
     ensures errand { IfOk result (λ answer. F.step errand.old answer.1 errand.new) }
     ensures not_begun { OnErr result (errand.new ≡ errand.old) }
 {
-    let (board, mut pass) = Board::make(alloc, rows, kernel, top)?;
+    let (board, mut pass) = Board::make(alloc, rows, kernel, top, spare)?;
     let done = work_tiles(team, alloc, &board, rows.shape(), &mut pass, errand)?;
     Ok((board.close(pass), done))
 }

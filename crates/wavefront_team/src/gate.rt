@@ -18,11 +18,14 @@ impl Gate for OpenGate {
     }
 }
 
-/// What slabs are diffused by: 1 to 64 workers, what starts their threads, and the gate that they share.
+/// What slabs are diffused by.
 #[derive(Drop)]
 pub struct Team<'a, R, G> {
+    /// What starts threads.
     pub threads: &'a R,
+    /// How many work, the caller among them: 1 to 64.
     pub workers: u8,
+    /// What all of them share.
     pub gate: &'a G,
     pub ghost some: { 1 ≤ workers },
     pub ghost most: { workers ≤ 64 },

@@ -8,12 +8,12 @@
 //! ample memory is tested. `diffuse_beside` does the same, and the caller's errand beside the workers, just once
 //! (`errand`); on `Memory` it is not begun (`not_begun`). The errand runs on the caller's own thread.
 //!
-//! `diffuse_beside` puts the dots into a `DotsSoFar`. Where there are several workers, the tiles of a slab wait there,
-//! and the caller lays them while the next slab is diffused. Contracts see the dots of the tiles that wait as those of
-//! the page (`dots_in`), and `finish` gives planes that have them all.
+//! `diffuse_beside` puts the dots into a `DotsSoFar`, where the tiles of a slab may wait, so that the caller can lay
+//! them while others diffuse the next slab; when it lays them is not promised. Contracts see the dots of the tiles that
+//! wait as those of the page (`dots_in`), and `finish` gives planes that have them all.
 //!
-//! Every tile enters the gate before it is worked. Tests hold workers there: two tiles are inside at once, each enters
-//! once, and the dots are the same however long tiles are held back.
+//! Tests show that every tile enters the gate before it is worked. They hold workers there: two tiles are inside at
+//! once, each enters once, and the dots are the same however long tiles are held back.
 #![tactic(auto)]
 
 mod beside;

@@ -9,6 +9,7 @@ ghost use Rattle.wavefront_team.specs.SoFar.{CanBeLaid, dots_in, dots_so_far};
 use crate::laying::lay_tiles;
 use crate::waiting::Waiting;
 use dot_planes::{Planes, TileDots};
+use std::alloc::Global;
 use std::marker::Model;
 use tile_shape::Shape;
 
@@ -18,6 +19,8 @@ use tile_shape::Shape;
 pub struct DotsSoFar {
     planes: Planes,
     waiting: Option<Waiting>,
+    // Dots that are laid, whose memory the next slab may use again.
+    spare: Option<Vec<TileDots>>,
 }
 
 impl Model for DotsSoFar {
@@ -25,20 +28,24 @@ impl Model for DotsSoFar {
 
     ghost Value = { SoFar };
 
-    ghost use Rattle.wavefront_team.specs.Waiting.{AllFit, so_far};
+    ghost use Rattle.wavefront_team.specs.Inside.{AllFit, so_far};
 
     ghost view = { so_far };
 
     ghost invariant = { AllFit };
 }
 
-// Lays a slab that waits into the planes, if one does.
-fn lay_waiting(waiting: Option<Waiting>, planes: &mut Planes)
+// Lays a slab that waits into the planes, if one does, and gives its tiles' dots back.
+fn lay_waiting(waiting: Option<Waiting>, planes: &mut Planes) -> Option<Vec<TileDots>>
     requires { IfSome waiting (CanBeLaid planes.old) }
     ensures { IsSameDots (dots_so_far planes.old waiting) (dots_so_far planes.new None) }
 {
-    if let Some(slab) = waiting {
-        lay_tiles(slab.tiles.as_slice(), slab.shape, planes, slab.first);
+    match waiting {
+        Some(slab) => {
+            lay_tiles(slab.tiles.as_slice(), slab.shape, planes, slab.first);
+            Some(slab.tiles)
+        }
+        None => None,
     }
 }
 
@@ -50,6 +57,7 @@ impl DotsSoFar {
         DotsSoFar {
             planes,
             waiting: None,
+            spare: None,
         }
     }
 
@@ -62,8 +70,9 @@ impl DotsSoFar {
         let DotsSoFar {
             mut planes,
             waiting,
+            spare: _,
         } = self;
-        lay_waiting(waiting, &mut planes);
+        drop(lay_waiting(waiting, &mut planes));
         planes
     }
 
@@ -72,7 +81,19 @@ impl DotsSoFar {
         ensures dots { IsSameDots (dots_in self.old) (dots_in self.new) }
         ensures laid { self.new.waiting ≡ None }
     {
-        lay_waiting(self.waiting.take(), &mut self.planes);
+        if let Some(tiles) = lay_waiting(self.waiting.take(), &mut self.planes) {
+            self.spare = Some(tiles);
+        }
+    }
+
+    /// Takes the dots out whose memory may be used again.
+    pub(crate) fn take_spare(&mut self, alloc: Global) -> Vec<TileDots>
+        ensures { self.new ≡ self.old }
+    {
+        match self.spare.take() {
+            Some(tiles) => tiles,
+            None => Vec::new(alloc),
+        }
     }
 
     /// Keeps the tiles of a slab that begins at row `first`, so that they wait. A slab that waited before is laid.
@@ -83,7 +104,7 @@ impl DotsSoFar {
         requires rows { first + shape.height ≤ self.old.planes.rows }
         ensures { LaysTiles shape first (length tiles.items) tiles.items (dots_in self.old) (dots_in self.new) }
     {
-        lay_waiting(self.waiting.take(), &mut self.planes);
+        self.lay();
         self.waiting = Some(Waiting {
             shape,
             first,

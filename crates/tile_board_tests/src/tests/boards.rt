@@ -139,7 +139,7 @@ fn diffuse(
     requires { IsTopOf rows.now.width rows.now.inks top }
     ensures { IfSome result (λ closed. IsTopOf rows.now.width rows.now.inks closed.bottom) }
 {
-    let Ok((board, mut p)) = Board::make(alloc, rows, kernel, top) else {
+    let Ok((board, mut p)) = Board::make(alloc, rows, kernel, top, Vec::new(alloc)) else {
         return None;
     };
     let shape = rows.shape();
@@ -283,7 +283,7 @@ struct Told {
 fn tell(alloc: Global) -> Option<Told> {
     let rows = level_rows(alloc)?;
     let top = no_errors(alloc, &rows, 1)?;
-    let Ok((board, mut p)) = Board::make(alloc, &rows, Kernel::Floyd, top) else {
+    let Ok((board, mut p)) = Board::make(alloc, &rows, Kernel::Floyd, top, Vec::new(alloc)) else {
         return None;
     };
     let mut q = board.split(&mut p);
@@ -320,7 +320,7 @@ fn claims_carry_the_word_they_found(rt: HostRuntime) {
 fn words_before(alloc: Global, tiles: [u32; 4]) -> Option<[Option<u64>; 4]> {
     let rows = level_rows(alloc)?;
     let top = no_errors(alloc, &rows, 1)?;
-    let Ok((board, mut p)) = Board::make(alloc, &rows, Kernel::Floyd, top) else {
+    let Ok((board, mut p)) = Board::make(alloc, &rows, Kernel::Floyd, top, Vec::new(alloc)) else {
         return None;
     };
     let shape = rows.shape();

@@ -17,11 +17,11 @@ returns c =
     let r : ℕ = c.args.r in
     let e = c.part_of-part.ensures in
     let bytes : List ℕ = c.args.bytes.now in
-    let many : ℕ = 256 * r + c.part_of-part.result.many - 256 * r in
+    let many : ℕ = 256 * r + 256 - 256 * r in
     let part : List ℕ = take many (drop (256 * r) bytes) in
-    let is_many : many ≡ c.part_of-part.result.many = omega arith in
+    let is_many : many ≡ 256 = omega arith in
     let pixel = part_row raw p r bytes part (c.requires.bytes r c.requires.r) (λ n low.
-    get_or-take many (drop (256 * r) bytes) n 0 (omega (arith, is_many, e.many, low)) ∙ get_or-drop (256 * r) bytes n 0) in
+    get_or-take many (drop (256 * r) bytes) n 0 (omega (arith, is_many, e.many, e.most, low)) ∙ get_or-drop (256 * r) bytes n 0) in
     row_gathers raw p r 0 64 (first_pixel raw p r) (line_in raw (32 * p.j + r)) _ _
     (omega (arith, c.requires.whole.down, c.requires.r)) refl
     (omega (arith, c.requires.whole.left, c.requires.r))
