@@ -1,4 +1,5 @@
 //! Bytes that are gathered before they are written.
+ghost use Rattle.buffered_bytes.specs.declared.gathered.TheConstants.{MOST_GATHERED};
 ghost use Rattle.std.specs.Io.KnownBytes.{Appends};
 ghost use Rattle.std.specs.Prelude.{[], OnErr, OnOk, length, ◌++◌, ◌+◌, ◌≡◌, ◌≤◌};
 ghost use Rattle.weave_base.specs.Causes.{HasCause};
@@ -12,9 +13,9 @@ pub const MOST_GATHERED: usize = 8192;
 /// Bytes that are gathered before they are written, so that a sink gets few writes. It takes no memory.
 #[derive(Drop)]
 pub struct Gathered {
-    bytes: [u8; 8192],
+    bytes: [u8; MOST_GATHERED],
     len: usize,
-    ghost within: { len ≤ 8192 },
+    ghost within: { len ≤ MOST_GATHERED },
 }
 
 impl Gathered {
@@ -33,7 +34,7 @@ impl Gathered {
 
     /// Appends bytes for which there is room.
     pub fn push(&mut self, bytes: &[u8])
-        requires { self.old.len + length bytes.now ≤ 8192 }
+        requires { self.old.len + length bytes.now ≤ MOST_GATHERED }
         ensures is { gathered self.new ≡ gathered self.old ++ bytes.now }
         ensures len { self.new.len ≡ self.old.len + length bytes.now }
     {
@@ -44,9 +45,9 @@ impl Gathered {
 
     /// Makes room for `most` bytes: where there is less, it writes what is gathered.
     pub fn make_room<K: Sink>(&mut self, most: usize, k: &mut K) -> Result<(), Failed>
-        requires { most ≤ 8192 }
+        requires { most ≤ MOST_GATHERED }
         ensures ok { OnOk result (Passes (K.held k.old) (K.held k.new) (gathered self.old) (gathered self.new)) }
-        ensures room { OnOk result (self.new.len + most ≤ 8192) }
+        ensures room { OnOk result (self.new.len + most ≤ MOST_GATHERED) }
         ensures part { OnErr result (AppendsPart (K.held k.old) (K.held k.new) (gathered self.old)) }
         ensures cause { HasCause (K.faults k.old) (K.faults k.new) result }
     {
@@ -60,7 +61,7 @@ impl Gathered {
 
     /// Appends bytes. Where there is no room for them, it first writes what is gathered.
     pub fn write<K: Sink>(&mut self, bytes: &[u8], k: &mut K) -> Result<(), Failed>
-        requires { length bytes.now ≤ 8192 }
+        requires { length bytes.now ≤ MOST_GATHERED }
         ensures ok { OnOk result
             (Writes (K.held k.old) (K.held k.new) (gathered self.old) (gathered self.new) bytes.now) }
         ensures part { OnErr result (AppendsPart (K.held k.old) (K.held k.new) (gathered self.old)) }

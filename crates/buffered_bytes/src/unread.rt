@@ -1,5 +1,6 @@
 //! The bytes that were taken of a source and are not yet used.
 ghost use Rattle.buffered_bytes.specs.Text.{Grows, text_behind};
+ghost use Rattle.buffered_bytes.specs.declared.unread.TheConstants.{MOST_UNREAD};
 ghost use Rattle.std.specs.Io.KnownBytes.{IsAtEnd, Keeps};
 ghost use Rattle.std.specs.Prelude.{IfOk, List, OnErr, OnOk, [], drop, length, slice_index, take, vec_len, ℕ, ◌-◌, ◌<◌};
 ghost use Rattle.std.specs.Prelude.{◌≡◌, ◌≤◌};
@@ -25,7 +26,7 @@ impl Model for Unread {
 
     ghost view = { λ u. take (u.end - u.start) (drop u.start u.buffer.items) };
 
-    ghost invariant = { λ u. (u.start ≤ u.end) × (u.end ≤ 65536) × (vec_len u.buffer ≡ 65536) };
+    ghost invariant = { λ u. (u.start ≤ u.end) × (u.end ≤ MOST_UNREAD) × (vec_len u.buffer ≡ MOST_UNREAD) };
 }
 
 // The bytes of a buffer from one place to another.

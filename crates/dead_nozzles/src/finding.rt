@@ -2,7 +2,7 @@
 ghost use Rattle.dead_nozzles.specs.Plans.{ArePassOwners, Begins, IsStrokePlan};
 ghost use Rattle.dead_nozzles.specs.Strokes.{IsHead, head_rows};
 ghost use Rattle.dead_nozzles.specs.Dead.{least_live};
-ghost use Rattle.std.specs.Prelude.{IfOk, OnOk, Some, length, ◌+◌, ◌<◌, ◌≡◌, ◌≤◌, [], Bool};
+ghost use Rattle.std.specs.Prelude.{IfOk, Some, length, ◌+◌, ◌<◌, ◌≡◌};
 
 use crate::owners::take_rows;
 use crate::worn::WornHead;

@@ -52,7 +52,8 @@ impl StrokePlan {
         requires most_rows { height ≤ most_rows }
         requires rising { IsRising dead.now }
         requires checked { checked nozzles dead.now ≡ Ok tt }
-        ensures plan { IfOk result (λ plan. plan ≡ record { nozzles = nozzles; pitch = pitch; height = height; dead = dead.now }) }
+        ensures plan { IfOk result (λ plan.
+            plan ≡ record { nozzles = nozzles; pitch = pitch; height = height; dead = dead.now }) }
         ensures small { IfOk result (λ plan. 8 * height + 8 * length (all_strokes plan) ≤ 2 ^ 20) }
     {
         let head = WornHead::make(nozzles, pitch, height, dead);

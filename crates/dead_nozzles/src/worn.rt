@@ -33,7 +33,8 @@ impl Model for WornHead {
 
     ghost Value = { Head };
 
-    ghost view = { λ w. record { nozzles = w.nozzles; pitch = w.pitch; height = w.height; dead = listed w.dead w.nozzles } };
+    ghost view = { λ w.
+        record { nozzles = w.nozzles; pitch = w.pitch; height = w.height; dead = listed w.dead w.nozzles } };
 
     ghost invariant = { λ w. IsWorn w.nozzles w.pitch w.height };
 }

@@ -5,7 +5,7 @@ use Rattle.std.specs.List.{list_any}
 use Rattle.std.proofs.lemmas.Bool.{eqb-true, le-ltb, not-false, or_parts}
 use Rattle.printer_definitions.specs.Printer.{Printer, column_step, nozzle_step, row_step}
 use Rattle.escp2_definitions.specs.declared.command.RasterHead.{RasterHead}
-use Rattle.escp2_definitions.specs.declared.stops.EmuFault.TheVariants.{NotGraphics, Density, Rows, OffGrid, OffSheet, Overprint}
+use Rattle.escp2_definitions.specs.declared.stops.EmulatorFault.TheVariants.{NotGraphics, Density, Rows, OffGrid, OffSheet, Overprint}
 use Rattle.escp2_definitions.specs.Commands.{last_column}
 use Rattle.escp2_definitions.specs.Machine.{Machine, Refusal, bottom_margin, first_fault, from_top, is_off_grid, is_other_density}
 use Rattle.escp2_definitions.specs.Machine.{no_margins, no_unit, overprints, page_length, raster_dots, refuse, rows_dots}

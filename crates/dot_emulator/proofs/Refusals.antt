@@ -6,7 +6,7 @@ use Rattle.std.specs.List.{AllByRecursion}
 use Rattle.std.proofs.lemmas.Bool.{cases_lt, eqb-true, le-leb, lt-leb}
 use Rattle.std.proofs.Math.Nat.{div-mul-le_self, le-div_iff_mul-le, lt-div-mul-add, mod-eq-sub-div-mul, mul-le-mul_right}
 use Rattle.escp2_definitions.specs.Machine.{Refusal, first_fault, refuse}
-use Rattle.escp2_definitions.specs.declared.stops.EmuFault.{EmuFault}
+use Rattle.escp2_definitions.specs.declared.stops.EmulatorFault.{EmulatorFault}
 
 abbrev Holds : Refusal → Type 0
 Holds r = r.holds ≡ false
@@ -19,7 +19,7 @@ pub record NoneOf (tests : List Refusal) : Type 0 where
 some-is-none : {A : Type 0} {X : Type 0} (x : X) → Some x ≡ None → A
 some-is-none x e = cc
 
-none-at : (b : Bool) (fault : EmuFault) (tests : List Refusal)
+none-at : (b : Bool) (fault : EmulatorFault) (tests : List Refusal)
     → first_fault (refuse b fault ∷ tests) ≡ None → (first_fault tests ≡ None → NoneOf tests)
     → NoneOf (refuse b fault ∷ tests)
 none-at true fault tests none behind = some-is-none fault none

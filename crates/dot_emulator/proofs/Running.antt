@@ -9,7 +9,7 @@ use Rattle.escp2_definitions.specs.Commands.{last_column}
 use Rattle.escp2_definitions.specs.declared.command.RasterHead.{RasterHead}
 use Rattle.escp2_definitions.specs.declared.command.Command.{Command}
 use Rattle.escp2_definitions.specs.declared.command.Command.TheVariants as c
-use Rattle.escp2_definitions.specs.declared.stops.EmuFault.TheVariants.{Backward, NoUnit, OffSheet, Overprint}
+use Rattle.escp2_definitions.specs.declared.stops.EmulatorFault.TheVariants.{Backward, NoUnit, OffSheet, Overprint}
 use Rattle.escp2_definitions.specs.Machine.{Dot, Machine, after, bottom_margin, first_fault, given, has_dots}
 use Rattle.escp2_definitions.specs.Machine.{overprints, page_length, refusals, refuse}
 use Rattle.dot_planes.specs.Tables.{DotTable}

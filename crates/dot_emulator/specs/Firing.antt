@@ -2,8 +2,8 @@
 use Rattle.std.specs.Prelude.{◌≡◌, ℕ, ◌*◌, ◌≤◌, Bool, false, nat_le, nat_lt, List, [], ◌∷◌, length, Option, Some, None, Result, Ok, Err}
 use Rattle.std.specs.List.{list_any}
 use Rattle.escp2_definitions.specs.Commands.{row_bytes}
-use Rattle.escp2_definitions.specs.declared.stops.EmuFault.{EmuFault}
-use Rattle.escp2_definitions.specs.declared.stops.EmuFault.TheVariants.{OffSheet, Overprint}
+use Rattle.escp2_definitions.specs.declared.stops.EmulatorFault.{EmulatorFault}
+use Rattle.escp2_definitions.specs.declared.stops.EmulatorFault.TheVariants.{OffSheet, Overprint}
 use Rattle.escp2_definitions.specs.Machine.{Dot, first_fault, overprints, refuse, rows_dots}
 use Rattle.dot_planes.specs.Tables.{DotTable}
 use Rattle.dot_emulator.specs.declared.firing.Raster.{Raster}
@@ -42,13 +42,13 @@ PlanesHave g dots (Some t) = HasPlaces g.column g.row dots t
 
 -- why the dots of a raster are refused on a sheet with these dots: one is at or below the bottom margin, or where there
 -- is one already
-abbrev pub late_fault : Grid → Raster → List ℕ → List Dot → Option EmuFault
+abbrev pub late_fault : Grid → Raster → List ℕ → List Dot → Option EmulatorFault
 late_fault g r rows dots = first_fault (
     refuse (list_any (λ d. nat_le g.bottom d.y) (fired g r rows)) OffSheet
     ∷ refuse (overprints dots (fired g r rows)) Overprint
     ∷ [])
 
 -- the answer is whether the raster has a dot, or why its dots are refused
-abbrev pub IsLooked : Grid → Raster → List ℕ → List Dot → Result Bool EmuFault → Type 0
+abbrev pub IsLooked : Grid → Raster → List ℕ → List Dot → Result Bool EmulatorFault → Type 0
 IsLooked g r rows dots (Ok has_dots) = (late_fault g r rows dots ≡ None) × (has_dots ≡ nat_lt 0 (length (fired g r rows)))
 IsLooked g r rows dots (Err fault) = late_fault g r rows dots ≡ Some fault

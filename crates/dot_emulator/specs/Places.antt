@@ -4,8 +4,8 @@ use Rattle.std.specs.List.{list_any}
 use Rattle.printer_definitions.specs.Printer.{Printer, column_step, row_step}
 use Rattle.escp2_definitions.specs.declared.command.RasterHead.{RasterHead}
 use Rattle.escp2_definitions.specs.declared.command.Command.TheVariants as c
-use Rattle.escp2_definitions.specs.declared.stops.EmuFault.{EmuFault}
-use Rattle.escp2_definitions.specs.declared.stops.EmuFault.TheVariants.{OffSheet, Overprint}
+use Rattle.escp2_definitions.specs.declared.stops.EmulatorFault.{EmulatorFault}
+use Rattle.escp2_definitions.specs.declared.stops.EmulatorFault.TheVariants.{OffSheet, Overprint}
 use Rattle.escp2_definitions.specs.Machine.{Machine, Refusal, bottom_margin, first_fault, overprints, raster_dots, refusals, refuse}
 use Rattle.dot_emulator.specs.declared.firing.Raster.{Raster}
 use Rattle.dot_emulator.specs.Firing.{Grid, Stands, fired}
@@ -30,6 +30,6 @@ pub record Placed (p : Printer) (m : Machine) (header : RasterHead) (r : Raster)
   pub column : r.x ≡ m.across / column_step p
   pub on_page : r.end ≤ sheet_rows m.page (row_step p)
 
-abbrev pub IsPlaced : Printer → Machine → RasterHead → Result Raster EmuFault → Type 0
+abbrev pub IsPlaced : Printer → Machine → RasterHead → Result Raster EmulatorFault → Type 0
 IsPlaced p m header (Ok r) = Placed p m header r
 IsPlaced p m header (Err fault) = (rows : List ℕ) → first_fault (refusals p m (c.Raster header) rows) ≡ Some fault

@@ -6,8 +6,8 @@ use Rattle.escp2_definitions.specs.declared.command.Command.{Command}
 use Rattle.escp2_definitions.specs.Machine.{Dot, Machine, Sheet as PrintedSheet, after, first_fault, given, has_dots, refusals}
 use Rattle.dot_planes.specs.Tables.{DotTable}
 use Rattle.dot_emulator.specs.declared.emulator.Emulator.{Emulator}
-use Rattle.dot_emulator.specs.declared.emulator.EmuStop.{EmuStop}
-use Rattle.dot_emulator.specs.declared.emulator.EmuStop.TheVariants.{Refused, Memory}
+use Rattle.dot_emulator.specs.declared.emulator.EmulatorStop.{EmulatorStop}
+use Rattle.dot_emulator.specs.declared.emulator.EmulatorStop.TheVariants.{Refused, Memory}
 use Rattle.dot_emulator.specs.declared.sheet.Sheet.{Sheet}
 use Rattle.dot_emulator.specs.Sheets.{HoldsDots, HasPlaces, IsBlankFrom}
 use Rattle.dot_emulator.specs.Firing.{Grid, fired}
@@ -41,7 +41,7 @@ IsGiven p sheets (Some sheet) = (s : PrintedSheet) × (sheets ≡ s ∷ []) × I
 -- The outcome of a command for an emulator that stands for a machine: the machine's next state and the sheet that it
 -- gives, or the machine's first refusal, or `Memory` where there is no refusal. After a refusal and after `Memory`
 -- the emulator is unchanged.
-abbrev pub Runs : Printer → Machine → Command → List ℕ → Emulator → Emulator → Result (Option Sheet) EmuStop → Type 0
+abbrev pub Runs : Printer → Machine → Command → List ℕ → Emulator → Emulator → Result (Option Sheet) EmulatorStop → Type 0
 Runs p m command rows old new (Ok sheet) =
     (first_fault (refusals p m command rows) ≡ None) × IsGiven p (given p m command) sheet × Shows p new (after p m command rows)
 Runs p m command rows old new (Err (Refused fault)) = (first_fault (refusals p m command rows) ≡ Some fault) × (new ≡ old)

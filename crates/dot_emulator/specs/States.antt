@@ -5,8 +5,8 @@ use Rattle.escp2_definitions.specs.Machine.{no_margins, no_unit, refusals, refus
 use Rattle.escp2_definitions.specs.declared.command.Command.{Command}
 use Rattle.escp2_definitions.specs.declared.command.Command.TheVariants as c
 use Rattle.escp2_definitions.specs.declared.command.RasterHead.{RasterHead}
-use Rattle.escp2_definitions.specs.declared.stops.EmuFault.{EmuFault}
-use Rattle.escp2_definitions.specs.declared.stops.EmuFault.TheVariants.{NotGraphics, Density, Rows, OffGrid}
+use Rattle.escp2_definitions.specs.declared.stops.EmulatorFault.{EmulatorFault}
+use Rattle.escp2_definitions.specs.declared.stops.EmulatorFault.TheVariants.{NotGraphics, Density, Rows, OffGrid}
 use Rattle.printer_definitions.specs.Printer.{Printer}
 use Rattle.dot_emulator.specs.Margins.{margins_of}
 use Rattle.dot_emulator.specs.declared.state.State.{State}
@@ -26,7 +26,7 @@ machine_of s dots = record {
 }
 
 -- A step of the machine that fires no dots: why it is refused, or the state after it.
-abbrev pub IsStep : Printer → Machine → Command → Result State EmuFault → Type 0
+abbrev pub IsStep : Printer → Machine → Command → Result State EmulatorFault → Type 0
 IsStep p m command (Ok s) =
     (rows : List ℕ) → (first_fault (refusals p m command rows) ≡ None)
     × (machine_of s (after p m command rows).dots ≡ after p m command rows)
@@ -39,7 +39,7 @@ is_plain c.Eject = false
 is_plain other = true
 
 -- why a raster is refused, whatever its dots
-abbrev pub early_fault : Printer → Machine → RasterHead → Option EmuFault
+abbrev pub early_fault : Printer → Machine → RasterHead → Option EmulatorFault
 early_fault p m header = first_fault (
     refuse (not m.graphics) NotGraphics ∷ no_unit m ∷ no_margins m
     ∷ refuse (is_other_density p header) Density

@@ -4,13 +4,13 @@ ghost use Rattle.escp2_definitions.specs.Machine.{start};
 ghost use Rattle.printer_profile.specs.Validity.{check};
 ghost use Rattle.dot_emulator.specs.Current.{HasHeight, IsBlankPast, inks_of, rows_or, width_of};
 ghost use Rattle.dot_emulator.specs.Pages.{sheet_rows};
-ghost use Rattle.dot_emulator.specs.declared.emulator.EmuStop.TheVariants as stop;
+ghost use Rattle.dot_emulator.specs.declared.emulator.EmulatorStop.TheVariants as stop;
 ghost use Rattle.std.specs.Prelude.{IsOk, length, true, ◌≡◌};
 
 use crate::firing::Raster;
 use crate::raster::Steps;
 use crate::state::State;
-use crate::{Command, EmuFault, RasterHead, Sheet};
+use crate::{Command, EmulatorFault, RasterHead, Sheet};
 use base_definitions::Memory;
 use dot_planes::Planes;
 use printer_profile::{Profile, checked_can_print};
@@ -19,26 +19,26 @@ use std::alloc::Global;
 
 /// Why the emulator does not run a command.
 #[derive(Clone, Copy, Debug, PartialEq, Eq)]
-pub enum EmuStop {
+pub enum EmulatorStop {
     /// The printer refuses the command.
-    Refused(EmuFault),
+    Refused(EmulatorFault),
     /// Memory for the dots of a sheet ran out.
     Memory,
 }
 
-impl From<EmuFault> for EmuStop {
+impl From<EmulatorFault> for EmulatorStop {
     ghost from_gives = { λ fault e. e ≡ stop.Refused fault };
 
-    fn from(fault: EmuFault) -> EmuStop {
-        EmuStop::Refused(fault)
+    fn from(fault: EmulatorFault) -> EmulatorStop {
+        EmulatorStop::Refused(fault)
     }
 }
 
-impl From<Memory> for EmuStop {
+impl From<Memory> for EmulatorStop {
     ghost from_gives = { λ _ e. e ≡ stop.Memory };
 
-    fn from(_memory: Memory) -> EmuStop {
-        EmuStop::Memory
+    fn from(_memory: Memory) -> EmulatorStop {
+        EmulatorStop::Memory
     }
 }
 
@@ -94,8 +94,8 @@ impl Emulator {
     /// commands.
     ///
     /// The answer is the sheet at an eject, else `Ok(None)`. After an `Err` the emulator is unchanged.
-    /// `EmuStop::Memory` can come at the first dot of a sheet, and at the eject of a blank one.
-    pub fn run(&mut self, command: &Command, rows: &[u8]) -> Result<Option<Sheet>, EmuStop>
+    /// `EmulatorStop::Memory` can come at the first dot of a sheet, and at the eject of a blank one.
+    pub fn run(&mut self, command: &Command, rows: &[u8]) -> Result<Option<Sheet>, EmulatorStop>
         requires in_range { in_table command.now ≡ true }
         requires rows_fit { length rows.now ≡ rows_len command.now }
         ensures { (p : Printer) (m : Machine)
@@ -125,7 +125,7 @@ impl Emulator {
     }
 
     // A command that fires no dots and gives no sheet.
-    fn set(&mut self, command: Command) -> Result<Option<Sheet>, EmuStop>
+    fn set(&mut self, command: Command) -> Result<Option<Sheet>, EmulatorStop>
         requires plain { is_plain command ≡ true }
         requires in_range { in_table command ≡ true }
         ensures { (p : Printer) (m : Machine) (rows : List ℕ)
@@ -154,7 +154,7 @@ impl Emulator {
         (self.state.page_length() + self.steps.row - 1) / self.steps.row
     }
 
-    fn eject(&mut self) -> Result<Option<Sheet>, EmuStop>
+    fn eject(&mut self) -> Result<Option<Sheet>, EmulatorStop>
         ensures { (p : Printer) (m : Machine) (rows : List ℕ)
             → Shows p self.old m → Runs p m c.Eject rows self.old self.new result }
     {
@@ -169,7 +169,7 @@ impl Emulator {
         Ok(Some(sheet))
     }
 
-    fn fire(&mut self, header: RasterHead, rows: &[u8]) -> Result<Option<Sheet>, EmuStop>
+    fn fire(&mut self, header: RasterHead, rows: &[u8]) -> Result<Option<Sheet>, EmulatorStop>
         requires in_range { in_table (c.Raster header) ≡ true }
         requires rows_fit { length rows.now ≡ rows_len (c.Raster header) }
         ensures { (p : Printer) (m : Machine)
@@ -187,7 +187,7 @@ impl Emulator {
     }
 
     // Where on the sheet a raster is, or why it is refused whatever its dots.
-    fn place(&self, header: RasterHead) -> Result<Raster, EmuFault>
+    fn place(&self, header: RasterHead) -> Result<Raster, EmulatorFault>
         requires { header.n ≤ last_column }
         ensures placed { (p : Printer) (dots : List Dot)
             → AreStepsOf p self.now.steps → IsPlaced p (machine_of self.now.state dots) header result }

@@ -7,7 +7,7 @@ ghost use Rattle.printer_definitions.specs.Inks.{ink_place};
 ghost use Rattle.base_definitions.specs.Limits.{most_rows};
 ghost use Rattle.std.specs.Prelude.{drop, length, nat_le, nat_lt, take, ◌&&◌, ◌*◌, ◌+◌, ◌<◌, ◌||◌, ◌≡◌, ◌≤◌};
 
-use crate::{EmuFault, RasterHead};
+use crate::{EmulatorFault, RasterHead};
 use dot_planes::{Planes, has_dot};
 use printer_definitions::Ink;
 
@@ -131,7 +131,7 @@ impl Raster {
     }
 
     /// Looks at its dots, over the planes of the sheet so far: whether it has a dot, or why its dots are refused.
-    pub(crate) fn look(&self, rows: &[u8], planes: &Option<Planes>) -> Result<bool, EmuFault>
+    pub(crate) fn look(&self, rows: &[u8], planes: &Option<Planes>) -> Result<bool, EmulatorFault>
         requires rows { HasRows self.now rows.now }
         requires inks { inks_of planes.now ≡ 4 }
         requires width { width_of planes.now ≡ last_column }
@@ -148,10 +148,10 @@ impl Raster {
             seen = self.see(seen, self.row_at(i), self.row(rows, i), planes);
         }
         if seen.below {
-            return Err(EmuFault::OffSheet);
+            return Err(EmulatorFault::OffSheet);
         }
         if seen.over {
-            return Err(EmuFault::Overprint);
+            return Err(EmulatorFault::Overprint);
         }
         Ok(seen.some)
     }

@@ -17,7 +17,7 @@ mod sheet;
 mod state;
 mod steps;
 
-pub use emulator::{EmuStop, Emulator};
+pub use emulator::{Emulator, EmulatorStop};
 pub use escp2_commands::{Command, RasterHead};
-pub use escp2_definitions::EmuFault;
+pub use escp2_definitions::EmulatorFault;
 pub use sheet::Sheet;

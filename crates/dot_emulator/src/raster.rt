@@ -6,7 +6,7 @@ ghost use Rattle.std.specs.Prelude.{[], ◌*◌, ◌/◌, ◌≡◌, ◌≤◌};
 
 use crate::firing::Raster;
 use crate::state::State;
-use crate::{EmuFault, RasterHead};
+use crate::{EmulatorFault, RasterHead};
 use printer_profile::Profile;
 use pwg_definitions::MOST_COLUMNS;
 
@@ -56,34 +56,34 @@ impl State {
     ghost use Rattle.printer_definitions.specs.Printer.{Printer};
 
     /// Why a raster is refused, whatever its dots.
-    pub(crate) fn refuses_raster(&self, steps: Steps, header: RasterHead) -> Option<EmuFault>
+    pub(crate) fn refuses_raster(&self, steps: Steps, header: RasterHead) -> Option<EmulatorFault>
         ensures is { (p : Printer) → AreStepsOf p steps → result ≡ early_fault p (machine_of self.now []) header }
         ensures page { result ≡ None → 1 ≤ unwrap_or self.now.page 0 }
         ensures column { result ≡ None → header.h ≡ steps.column }
     {
         if !self.graphics {
-            return Some(EmuFault::NotGraphics);
+            return Some(EmulatorFault::NotGraphics);
         }
         if self.unit.is_none() {
-            return Some(EmuFault::NoUnit);
+            return Some(EmulatorFault::NoUnit);
         }
         if self.margins.is_none() {
-            return Some(EmuFault::NoMargins);
+            return Some(EmulatorFault::NoMargins);
         }
         if u32::from(header.h) != steps.column || u32::from(header.v) != steps.nozzle {
-            return Some(EmuFault::Density);
+            return Some(EmulatorFault::Density);
         }
         if header.m != steps.nozzles {
-            return Some(EmuFault::Rows);
+            return Some(EmulatorFault::Rows);
         }
         if self.across % steps.column != 0 || (self.top() + self.down) % steps.row != 0 {
-            return Some(EmuFault::OffGrid);
+            return Some(EmulatorFault::OffGrid);
         }
         None
     }
 
     /// Where on the sheet a raster is, or why it is refused whatever its dots.
-    pub(crate) fn place(&self, steps: Steps, header: RasterHead) -> Result<Raster, EmuFault>
+    pub(crate) fn place(&self, steps: Steps, header: RasterHead) -> Result<Raster, EmulatorFault>
         requires { header.n ≤ last_column }
         ensures placed { (p : Printer) (dots : List Dot)
             → AreStepsOf p steps → IsPlaced p (machine_of self.now dots) header result }
@@ -97,7 +97,7 @@ impl State {
         }
         let x = self.across / steps.column;
         if x + u32::from(header.n) > MOST_COLUMNS {
-            return Err(EmuFault::OffSheet);
+            return Err(EmulatorFault::OffSheet);
         }
         Ok(Raster {
             header,

@@ -1,8 +1,8 @@
 //! The state of a printer, except the dots of its sheet.
-ghost use Rattle.dot_emulator.specs.Bounds.{farthest_across, longest_page};
+ghost use Rattle.dot_emulator.specs.Bounds.{farthest_across};
 ghost use Rattle.dot_emulator.specs.Margins.{bottom_or, top_of};
 ghost use Rattle.escp2_definitions.specs.Commands.{last_column};
-ghost use Rattle.escp2_definitions.specs.Machine.{bottom_margin, page_length, start, top_margin, units};
+ghost use Rattle.escp2_definitions.specs.Machine.{bottom_margin, longest_page, page_length, start, top_margin, units};
 ghost use Rattle.std.specs.Prelude.{[], unwrap_or, ◌*◌, ◌≡◌, ◌≤◌};
 
 use printer_definitions::Ink;

@@ -7,7 +7,7 @@ ghost use Rattle.printer_definitions.specs.Printer.{Printer};
 ghost use Rattle.std.specs.Prelude.{IfOk, List, Ok, OnOk, true, unwrap_or, ◌<◌, ◌≡◌, ◌≤◌};
 
 use crate::state::{Margins, State};
-use crate::{Command, EmuFault};
+use crate::{Command, EmulatorFault};
 use printer_definitions::Ink;
 
 /// The longest page, in 1/3600 inch: 22 inches.
@@ -15,12 +15,12 @@ const LONGEST_PAGE: u32 = 79_200;
 
 impl State {
     /// Starts again, if the sheet has no dots.
-    pub(crate) fn init(&self, has_dots: bool) -> Result<State, EmuFault>
+    pub(crate) fn init(&self, has_dots: bool) -> Result<State, EmulatorFault>
         ensures { (p : Printer) (dots : List Dot) → has_dots ≡ is_dotted (machine_of self.now dots)
             → IsStep p (machine_of self.now dots) c.Init result }
     {
         if has_dots {
-            return Err(EmuFault::Backward);
+            return Err(EmulatorFault::Backward);
         }
         Ok(State::start())
     }
@@ -44,19 +44,19 @@ impl State {
     }
 
     /// Sets the page's length.
-    pub(crate) fn set_length(&self, n: u16, has_dots: bool) -> Result<State, EmuFault>
+    pub(crate) fn set_length(&self, n: u16, has_dots: bool) -> Result<State, EmulatorFault>
         ensures { (p : Printer) (dots : List Dot) → has_dots ≡ is_dotted (machine_of self.now dots)
             → IsStep p (machine_of self.now dots) (c.Length n) result }
     {
         if self.unit.is_none() {
-            return Err(EmuFault::NoUnit);
+            return Err(EmulatorFault::NoUnit);
         }
         if has_dots {
-            return Err(EmuFault::Backward);
+            return Err(EmulatorFault::Backward);
         }
         let length = self.units(n);
         if length > LONGEST_PAGE {
-            return Err(EmuFault::OffSheet);
+            return Err(EmulatorFault::OffSheet);
         }
         let mut next = *self;
         next.page = Some(length);
@@ -72,26 +72,26 @@ impl State {
         top: u16,
         bottom: u16,
         has_dots: bool,
-    ) -> Result<State, EmuFault>
+    ) -> Result<State, EmulatorFault>
         requires { top < bottom }
         ensures { (p : Printer) (dots : List Dot) → has_dots ≡ is_dotted (machine_of self.now dots)
             → IsStep p (machine_of self.now dots) (c.Margins top bottom) result }
     {
         if self.unit.is_none() {
-            return Err(EmuFault::NoUnit);
+            return Err(EmulatorFault::NoUnit);
         }
         if self.page.is_none() {
-            return Err(EmuFault::NoMargins);
+            return Err(EmulatorFault::NoMargins);
         }
         if has_dots {
-            return Err(EmuFault::Backward);
+            return Err(EmulatorFault::Backward);
         }
         let margins = Margins {
             top: self.units(top),
             bottom: self.units(bottom),
         };
         if margins.bottom > self.page_length() {
-            return Err(EmuFault::OffSheet);
+            return Err(EmulatorFault::OffSheet);
         }
         let mut next = *self;
         next.margins = Some(margins);
@@ -101,21 +101,21 @@ impl State {
     }
 
     /// Moves down to a position from the top margin.
-    pub(crate) fn down_to(&self, n: u16) -> Result<State, EmuFault>
+    pub(crate) fn down_to(&self, n: u16) -> Result<State, EmulatorFault>
         ensures { (p : Printer) (dots : List Dot) → IsStep p (machine_of self.now dots) (c.DownTo n) result }
     {
         if self.unit.is_none() {
-            return Err(EmuFault::NoUnit);
+            return Err(EmulatorFault::NoUnit);
         }
         if self.margins.is_none() {
-            return Err(EmuFault::NoMargins);
+            return Err(EmulatorFault::NoMargins);
         }
         let down = self.units(n);
         if down < self.down {
-            return Err(EmuFault::Backward);
+            return Err(EmulatorFault::Backward);
         }
         if self.top() + down > self.page_length() {
-            return Err(EmuFault::OffSheet);
+            return Err(EmulatorFault::OffSheet);
         }
         let mut next = *self;
         next.down = down;
@@ -123,18 +123,18 @@ impl State {
     }
 
     /// Moves down.
-    pub(crate) fn down_by(&self, n: u16) -> Result<State, EmuFault>
+    pub(crate) fn down_by(&self, n: u16) -> Result<State, EmulatorFault>
         ensures { (p : Printer) (dots : List Dot) → IsStep p (machine_of self.now dots) (c.DownBy n) result }
     {
         if self.unit.is_none() {
-            return Err(EmuFault::NoUnit);
+            return Err(EmulatorFault::NoUnit);
         }
         if self.margins.is_none() {
-            return Err(EmuFault::NoMargins);
+            return Err(EmulatorFault::NoMargins);
         }
         let down = self.down + self.units(n);
         if self.top() + down > self.page_length() {
-            return Err(EmuFault::OffSheet);
+            return Err(EmulatorFault::OffSheet);
         }
         let mut next = *self;
         next.down = down;
@@ -142,11 +142,11 @@ impl State {
     }
 
     /// Moves to a position from the left margin.
-    pub(crate) fn across_to(&self, n: u16) -> Result<State, EmuFault>
+    pub(crate) fn across_to(&self, n: u16) -> Result<State, EmulatorFault>
         ensures { (p : Printer) (dots : List Dot) → IsStep p (machine_of self.now dots) (c.Across n) result }
     {
         if self.unit.is_none() {
-            return Err(EmuFault::NoUnit);
+            return Err(EmulatorFault::NoUnit);
         }
         let mut next = *self;
         next.across = self.units(n);
@@ -172,13 +172,13 @@ impl State {
     }
 
     /// Begins the next sheet.
-    pub(crate) fn eject(&self) -> Result<State, EmuFault>
+    pub(crate) fn eject(&self) -> Result<State, EmulatorFault>
         ensures step { (p : Printer) (dots : List Dot) → IsStep p (machine_of self.now dots) c.Eject result }
         ensures page { OnOk result (1 ≤ unwrap_or self.now.page 0) }
         ensures same { IfOk result (λ s. s.page ≡ self.now.page) }
     {
         if self.margins.is_none() {
-            return Err(EmuFault::NoMargins);
+            return Err(EmulatorFault::NoMargins);
         }
         let mut next = *self;
         next.down = 0;
@@ -188,7 +188,7 @@ impl State {
     }
 
     /// The state after a command that fires no dots and gives no sheet, or why it is refused.
-    pub(crate) fn after(&self, command: Command, has_dots: bool) -> Result<State, EmuFault>
+    pub(crate) fn after(&self, command: Command, has_dots: bool) -> Result<State, EmulatorFault>
         requires plain { is_plain command ≡ true }
         requires in_range { in_table command ≡ true }
         ensures { (p : Printer) (dots : List Dot) → has_dots ≡ is_dotted (machine_of self.now dots)

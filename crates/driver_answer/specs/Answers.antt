@@ -7,8 +7,8 @@ use Rattle.dead_nozzles.specs.declared.checking.DeadFault.{DeadFault}
 use Rattle.dead_nozzles.specs.declared.checking.DeadFault.TheVariants as dead
 use Rattle.driver_answer.specs.declared.answer.Answer.{Answer}
 use Rattle.driver_answer.specs.declared.answer.Answer.TheVariants as answer
-use Rattle.escp2_definitions.specs.declared.stops.EmuFault.{EmuFault}
-use Rattle.escp2_definitions.specs.declared.stops.EmuFault.TheVariants as machine
+use Rattle.escp2_definitions.specs.declared.stops.EmulatorFault.{EmulatorFault}
+use Rattle.escp2_definitions.specs.declared.stops.EmulatorFault.TheVariants as machine
 use Rattle.escp2_definitions.specs.declared.stops.JobCause.{JobCause}
 use Rattle.escp2_definitions.specs.declared.stops.JobCause.TheVariants as reader
 use Rattle.escp2_definitions.specs.declared.stops.JobStop.{JobStop}
@@ -121,7 +121,7 @@ reader_name reader.BadLength = codes "BadLength"
 reader_name reader.BadValue = codes "BadValue"
 reader_name reader.RunCode = codes "RunCode"
 
-abbrev pub machine_name : EmuFault → List ℕ
+abbrev pub machine_name : EmulatorFault → List ℕ
 machine_name machine.NotGraphics = codes "NotGraphics"
 machine_name machine.NoUnit = codes "NoUnit"
 machine_name machine.NoMargins = codes "NoMargins"

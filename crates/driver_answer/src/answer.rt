@@ -55,8 +55,11 @@ pub enum Answer {
     },
 }
 
-// Appends a number in decimal.
-fn push_number(n: u32, out: &mut ArrayString<160>)
+/// The error line of an answer, with its line feed: at most 160 bytes.
+pub type ErrorLine = ArrayString<160>;
+
+/// Appends a number in decimal.
+pub fn push_number(n: u32, out: &mut ErrorLine)
     requires { array_string_len out.old + 10 ≤ 160 }
     ensures bytes { out.new.bytes ≡ out.old.bytes ++ decimal n }
     ensures len { array_string_len out.new ≤ array_string_len out.old + 10 }
@@ -66,7 +69,7 @@ fn push_number(n: u32, out: &mut ArrayString<160>)
 }
 
 // Appends a number of 64 bits in decimal.
-fn push_wide(n: u64, out: &mut ArrayString<160>)
+fn push_wide(n: u64, out: &mut ErrorLine)
     requires { array_string_len out.old + 20 ≤ 160 }
     ensures bytes { out.new.bytes ≡ out.old.bytes ++ decimal n }
     ensures len { array_string_len out.new ≤ array_string_len out.old + 20 }
@@ -75,32 +78,33 @@ fn push_wide(n: u64, out: &mut ArrayString<160>)
     out.push_str(buffer.format(n));
 }
 
+// Appends a blank and a number.
+fn push_carried(n: u32, out: &mut ErrorLine)
+    requires { array_string_len out.old + 11 ≤ 160 }
+    ensures bytes { out.new.bytes ≡ out.old.bytes ++ (codes " " ++ decimal n) }
+    ensures len { array_string_len out.new ≤ array_string_len out.old + 11 }
+{
+    out.push_str(" ");
+    push_number(n, out);
+}
+
 // Appends a check's fault and the number that it carries, if any.
-fn push_check(fault: ProfileFault, out: &mut ArrayString<160>)
+fn push_check(fault: ProfileFault, out: &mut ErrorLine)
     requires { array_string_len out.old + 21 ≤ 160 }
     ensures bytes { out.new.bytes ≡ out.old.bytes ++ check_words fault }
     ensures len { array_string_len out.new ≤ array_string_len out.old + 21 }
 {
     out.push_str(check_name(fault));
     match fault {
-        ProfileFault::NotCoprime { gcd } => {
-            out.push_str(" ");
-            push_number(u32::from(gcd), out);
-        }
-        ProfileFault::TopMargin { needs } => {
-            out.push_str(" ");
-            push_number(needs, out);
-        }
-        ProfileFault::Curve { ink } => {
-            out.push_str(" ");
-            push_number(u32::from(ink), out);
-        }
+        ProfileFault::NotCoprime { gcd } => push_carried(u32::from(gcd), out),
+        ProfileFault::TopMargin { needs } => push_carried(needs, out),
+        ProfileFault::Curve { ink } => push_carried(u32::from(ink), out),
         _ => {}
     }
 }
 
 // Appends a text's fault, and the name of the missing key.
-fn push_text(cause: TextCause, out: &mut ArrayString<160>)
+fn push_text(cause: TextCause, out: &mut ErrorLine)
     requires { array_string_len out.old + 22 ≤ 160 }
     ensures bytes { out.new.bytes ≡ out.old.bytes ++ text_words cause }
     ensures len { array_string_len out.new ≤ array_string_len out.old + 22 }
@@ -112,18 +116,8 @@ fn push_text(cause: TextCause, out: &mut ArrayString<160>)
     }
 }
 
-// Appends a blank and a number of 8 bits.
-fn push_carried(n: u8, out: &mut ArrayString<160>)
-    requires { array_string_len out.old + 11 ≤ 160 }
-    ensures bytes { out.new.bytes ≡ out.old.bytes ++ (codes " " ++ decimal n) }
-    ensures len { array_string_len out.new ≤ array_string_len out.old + 11 }
-{
-    out.push_str(" ");
-    push_number(u32::from(n), out);
-}
-
 // Appends the fault of a list of dead nozzles, and the number that it carries.
-fn push_dead(fault: DeadFault, out: &mut ArrayString<160>)
+fn push_dead(fault: DeadFault, out: &mut ErrorLine)
     requires { array_string_len out.old + 23 ≤ 160 }
     ensures bytes { out.new.bytes ≡ out.old.bytes ++ dead_words fault }
     ensures len { array_string_len out.new ≤ array_string_len out.old + 23 }
@@ -131,27 +125,27 @@ fn push_dead(fault: DeadFault, out: &mut ArrayString<160>)
     match fault {
         DeadFault::NoSuchNozzle { nozzle } => {
             out.push_str("NoSuchNozzle");
-            push_carried(nozzle, out);
+            push_carried(u32::from(nozzle), out);
         }
         DeadFault::AllDead { nozzles } => {
             out.push_str("AllDead");
-            push_carried(nozzles, out);
+            push_carried(u32::from(nozzles), out);
         }
     }
 }
 
 // Appends that a head cannot shingle, with half its nozzles and their greatest common divisor with the pitch.
-fn push_shingle(half: u8, gcd: u8, out: &mut ArrayString<160>)
+fn push_shingle(half: u8, gcd: u8, out: &mut ErrorLine)
     requires { array_string_len out.old + 31 ≤ 160 }
     ensures bytes { out.new.bytes ≡ out.old.bytes ++ shingle_words half gcd }
     ensures len { array_string_len out.new ≤ array_string_len out.old + 31 }
 {
     out.push_str("NoShingle");
-    push_carried(half, out);
-    push_carried(gcd, out);
+    push_carried(u32::from(half), out);
+    push_carried(u32::from(gcd), out);
 }
 
-fn push_profile_cause(cause: ProfileCause, out: &mut ArrayString<160>)
+fn push_profile_cause(cause: ProfileCause, out: &mut ErrorLine)
     requires { array_string_len out.old + 31 ≤ 160 }
     ensures bytes { out.new.bytes ≡ out.old.bytes ++ profile_words cause }
     ensures len { array_string_len out.new ≤ array_string_len out.old + 31 }
@@ -166,7 +160,7 @@ fn push_profile_cause(cause: ProfileCause, out: &mut ArrayString<160>)
     }
 }
 
-fn push_usage(fault: UsageFault, out: &mut ArrayString<160>)
+fn push_usage(fault: UsageFault, out: &mut ErrorLine)
     requires { array_string_len out.old ≡ 0 }
     ensures { out.new.bytes ≡ out.old.bytes
         ++ (codes "usage: word " ++ decimal fault.word ++ codes ": " ++ usage_name_of fault.cause ++ codes "\n") }
@@ -178,7 +172,7 @@ fn push_usage(fault: UsageFault, out: &mut ArrayString<160>)
     out.push_str("\n");
 }
 
-fn push_profile(line: u32, cause: ProfileCause, out: &mut ArrayString<160>)
+fn push_profile(line: u32, cause: ProfileCause, out: &mut ErrorLine)
     requires { array_string_len out.old ≡ 0 }
     ensures { out.new.bytes ≡ out.old.bytes
         ++ (codes "profile: line " ++ decimal line ++ codes ": " ++ profile_words cause ++ codes "\n") }
@@ -190,7 +184,7 @@ fn push_profile(line: u32, cause: ProfileCause, out: &mut ArrayString<160>)
     out.push_str("\n");
 }
 
-fn push_input(page: u32, line: u32, cause: InputCause, out: &mut ArrayString<160>)
+fn push_input(page: u32, line: u32, cause: InputCause, out: &mut ErrorLine)
     requires { array_string_len out.old ≡ 0 }
     ensures { out.new.bytes ≡ out.old.bytes ++ (codes "input: page "
         ++ decimal page ++ codes " line " ++ decimal line ++ codes ": " ++ input_name_of cause ++ codes "\n") }
@@ -204,7 +198,7 @@ fn push_input(page: u32, line: u32, cause: InputCause, out: &mut ArrayString<160
     out.push_str("\n");
 }
 
-fn push_write(page: u32, out: &mut ArrayString<160>)
+fn push_write(page: u32, out: &mut ErrorLine)
     requires { array_string_len out.old ≡ 0 }
     ensures { out.new.bytes ≡ out.old.bytes ++ (codes "write failed: page " ++ decimal page ++ codes "\n") }
 {
@@ -213,7 +207,7 @@ fn push_write(page: u32, out: &mut ArrayString<160>)
     out.push_str("\n");
 }
 
-fn push_over_cap(page: u32, total: u64, dots: u64, cap: u64, out: &mut ArrayString<160>)
+fn push_over_cap(page: u32, total: u64, dots: u64, cap: u64, out: &mut ErrorLine)
     requires { array_string_len out.old ≡ 0 }
     ensures { out.new.bytes ≡ out.old.bytes ++ (codes "over cap: page " ++ decimal page ++ codes ": total "
         ++ decimal total ++ codes ", page " ++ decimal dots ++ codes ", cap " ++ decimal cap ++ codes "\n") }
@@ -229,7 +223,7 @@ fn push_over_cap(page: u32, total: u64, dots: u64, cap: u64, out: &mut ArrayStri
     out.push_str("\n");
 }
 
-fn push_job(offset: u64, cause: JobStop, out: &mut ArrayString<160>)
+fn push_job(offset: u64, cause: JobStop, out: &mut ErrorLine)
     requires { array_string_len out.old ≡ 0 }
     ensures { out.new.bytes ≡ out.old.bytes
         ++ (codes "job: offset " ++ decimal offset ++ codes ": " ++ job_name_of cause ++ codes "\n") }
@@ -262,7 +256,7 @@ impl Answer {
     }
 
     /// Writes the answer's error line, with its line end, into an empty text; nothing for `Done`.
-    pub fn text(&self, out: &mut ArrayString<160>)
+    pub fn text(&self, out: &mut ErrorLine)
         requires { out.old.bytes ≡ [] }
         ensures { out.new.bytes ≡ line_of self.now }
     {

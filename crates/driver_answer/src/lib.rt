@@ -9,8 +9,8 @@ mod answer;
 mod names;
 mod stops;
 
-pub use answer::Answer;
-pub use escp2_definitions::{EmuFault, JobCause, JobStop};
+pub use answer::{Answer, ErrorLine, push_number};
+pub use escp2_definitions::{EmulatorFault, JobCause, JobStop};
 pub use job_profile::{DeadFault, ProfileCause};
 pub use job_words::{UsageCause, UsageFault};
 pub use printer_profile::{ProfileFault, TextCause};

@@ -6,11 +6,12 @@ ghost use Rattle.driver_answer.specs.Answers.{reader_name as reader_name_of, tex
 ghost use Rattle.driver_answer.specs.Answers.{usage_name as usage_name_of};
 ghost use Rattle.std.specs.Prelude.{◌≡◌, ◌≤◌, length};
 
-use escp2_definitions::{EmuFault, JobCause, JobStop};
+use escp2_definitions::{EmulatorFault, JobCause, JobStop};
 use job_words::UsageCause;
 use printer_profile::{ProfileFault, TextCause};
 use pwg_definitions::{HeaderFault, InputCause, LineFault};
 
+/// The words of a refused word's cause.
 pub fn usage_name(cause: UsageCause) -> &'static str
     ensures name { result.now ≡ usage_name_of cause }
     ensures len { length result.now ≤ 16 }
@@ -52,6 +53,7 @@ fn line_name(fault: LineFault) -> &'static str
     }
 }
 
+/// The words of a refused input's cause.
 pub fn input_name(cause: InputCause) -> &'static str
     ensures name { result.now ≡ input_name_of cause }
     ensures len { length result.now ≤ 16 }
@@ -65,6 +67,7 @@ pub fn input_name(cause: InputCause) -> &'static str
     }
 }
 
+/// The words of a refused profile text's cause.
 pub fn text_name(cause: TextCause) -> &'static str
     ensures name { result.now ≡ text_name_of cause }
     ensures len { length result.now ≤ 11 }
@@ -80,6 +83,7 @@ pub fn text_name(cause: TextCause) -> &'static str
     }
 }
 
+/// The words of a profile's fault.
 pub fn check_name(fault: ProfileFault) -> &'static str
     ensures name { result.now ≡ check_name_of fault }
     ensures len { length result.now ≤ 10 }
@@ -108,23 +112,24 @@ fn reader_name(cause: JobCause) -> &'static str
     }
 }
 
-fn machine_name(fault: EmuFault) -> &'static str
+fn machine_name(fault: EmulatorFault) -> &'static str
     ensures name { result.now ≡ machine_name_of fault }
     ensures len { length result.now ≤ 16 }
 {
     match fault {
-        EmuFault::NotGraphics => "NotGraphics",
-        EmuFault::NoUnit => "NoUnit",
-        EmuFault::NoMargins => "NoMargins",
-        EmuFault::Density => "Density",
-        EmuFault::Rows => "Rows",
-        EmuFault::Backward => "Backward",
-        EmuFault::OffGrid => "OffGrid",
-        EmuFault::OffSheet => "OffSheet",
-        EmuFault::Overprint => "Overprint",
+        EmulatorFault::NotGraphics => "NotGraphics",
+        EmulatorFault::NoUnit => "NoUnit",
+        EmulatorFault::NoMargins => "NoMargins",
+        EmulatorFault::Density => "Density",
+        EmulatorFault::Rows => "Rows",
+        EmulatorFault::Backward => "Backward",
+        EmulatorFault::OffGrid => "OffGrid",
+        EmulatorFault::OffSheet => "OffSheet",
+        EmulatorFault::Overprint => "Overprint",
     }
 }
 
+/// The words of a refused job's cause.
 pub fn job_name(cause: JobStop) -> &'static str
     ensures name { result.now ≡ job_name_of cause }
     ensures len { length result.now ≤ 16 }

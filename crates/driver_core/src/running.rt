@@ -65,8 +65,8 @@ pub fn tell<E: Sink>(answer: &Answer, err: &mut E)
 /// after its last line was read and before its first byte is written; where all have room, all count its dots. Only
 /// `print` sets caps and counts.
 ///
-/// The word `workers=n` sets how many threads diffuse each slab of up to 256 rows; each enters the gate after it claims
-/// a tile and before it works it.
+/// The word `workers=n` sets how many threads diffuse each slab of up to 256 rows, count the dots of a page and code
+/// its strokes. Each enters the gate after it claims a tile and before it works it.
 pub fn run<R: Threads + Sync, S: Source, K: Sink, E: Sink, F: Shelf, G: Gate + Sync>(
     rt: &R,
     alloc: Global,

@@ -1,8 +1,9 @@
-//! The ranges of the command table.
-ghost use Rattle.escp2_definitions.specs.Commands.{in_table as in_table_of};
+//! The ranges of the command table, and the codes of inks.
+ghost use Rattle.escp2_definitions.specs.Commands.{colour_code as colour_code_of, in_table as in_table_of};
 ghost use Rattle.std.specs.Prelude.{◌≡◌};
 
 use crate::Command;
+use printer_definitions::Ink;
 
 /// The most columns of a raster: as many as a page may have.
 pub const RASTER_COLUMNS: u16 = 8191;
@@ -29,5 +30,17 @@ pub fn in_table(c: &Command) -> bool
             let is_sized = header.m >= 1 && 1 <= header.n && header.n <= RASTER_COLUMNS;
             header.c <= 1 && is_stepped && is_sized
         }
+    }
+}
+
+/// The code of an ink in `ESC r` (ESC/P Reference Manual, graphics commands).
+pub fn colour_code(ink: Ink) -> u8
+    ensures { result ≡ colour_code_of ink }
+{
+    match ink {
+        Ink::Black => 0,
+        Ink::Magenta => 1,
+        Ink::Cyan => 2,
+        Ink::Yellow => 4,
     }
 }

@@ -1,6 +1,6 @@
 -- The command table: what bytes spell a command, and which commands the bytes of a job are
 -- (ESC/P Reference Manual, graphics commands; the ranges are this project's own).
-use Rattle.std.specs.Prelude.{◌≡◌, ℕ, zero, suc, ◌+◌, ◌*◌, ◌/◌, ◌%◌, Bool, true, false, ◌==◌, nat_lt, nat_le, ◌&&◌, ◌||◌, if◌then◌else◌}
+use Rattle.std.specs.Prelude.{◌≡◌, ℕ, zero, suc, ◌+◌, ◌*◌, ◌/◌, ◌%◌, Bool, true, ◌==◌, nat_le, ◌&&◌, ◌||◌, if◌then◌else◌}
 use Rattle.std.specs.Prelude.{MatchBool, List, [], ◌∷◌, ◌++◌, length, drop}
 use Rattle.printer_definitions.specs.declared.inks.Ink.{Ink}
 use Rattle.printer_definitions.specs.declared.inks.Ink.TheVariants.{Black, Cyan, Magenta, Yellow}
@@ -30,17 +30,21 @@ is_off n = n == 0
 abbrev pub is_switch : ℕ → Bool
 is_switch n = nat_le n 1
 
+-- the most units of a length or a position: a number of 15 bits
+abbrev pub most_units : ℕ
+most_units = 32767
+
 -- a length is 1 to 32,767 units
 abbrev pub is_length : ℕ → Bool
-is_length n = is_between 1 32767 n
+is_length n = is_between 1 most_units n
 
 -- a position is at most 32,767 units
 abbrev pub is_position : ℕ → Bool
-is_position n = nat_le n 32767
+is_position n = nat_le n most_units
 
 -- a bottom margin is below its top margin
 abbrev pub is_bottom : ℕ → ℕ → Bool
-is_bottom top n = is_between (top + 1) 32767 n
+is_bottom top n = is_between (top + 1) most_units n
 
 -- the most columns of a sheet, and so of a raster's row
 abbrev pub last_column : ℕ

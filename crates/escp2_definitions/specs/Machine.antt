@@ -1,6 +1,6 @@
 -- The machine: what the commands of a job put on its sheets. Lengths and places are in 1/3600 inch.
-use Rattle.std.specs.Prelude.{ℕ, zero, suc, ◌+◌, ◌-◌, ◌*◌, ◌/◌, ◌%◌, ◌^◌, Bool, true, false, not, ◌==◌, nat_lt, nat_le, ◌&&◌, ◌||◌}
-use Rattle.std.specs.Prelude.{if◌then◌else◌, List, [], ◌∷◌, ◌++◌, length, take, drop, map, max, unwrap_or, is_none, Option, Some, None}
+use Rattle.std.specs.Prelude.{ℕ, zero, suc, ◌+◌, ◌-◌, ◌*◌, ◌/◌, ◌%◌, Bool, true, false, not, ◌==◌, nat_lt, nat_le, ◌&&◌, ◌||◌}
+use Rattle.std.specs.Prelude.{if◌then◌else◌, List, [], ◌∷◌, ◌++◌, length, take, drop, max, unwrap_or, is_none, Option, Some, None}
 use Rattle.base_definitions.specs.Packed.{bits}
 use Rattle.std.specs.List.{list_any}
 use Rattle.printer_definitions.specs.declared.inks.Ink.{Ink}
@@ -10,9 +10,9 @@ use Rattle.printer_definitions.specs.Printer.{Printer, column_step, row_step, no
 use Rattle.escp2_definitions.specs.declared.command.RasterHead.{RasterHead}
 use Rattle.escp2_definitions.specs.declared.command.Command.{Command}
 use Rattle.escp2_definitions.specs.declared.command.Command.TheVariants as c
-use Rattle.escp2_definitions.specs.declared.stops.EmuFault.{EmuFault}
-use Rattle.escp2_definitions.specs.declared.stops.EmuFault.TheVariants.{NotGraphics, NoUnit, NoMargins, Density, Rows, Backward, OffGrid}
-use Rattle.escp2_definitions.specs.declared.stops.EmuFault.TheVariants.{OffSheet, Overprint}
+use Rattle.escp2_definitions.specs.declared.stops.EmulatorFault.{EmulatorFault}
+use Rattle.escp2_definitions.specs.declared.stops.EmulatorFault.TheVariants.{NotGraphics, NoUnit, NoMargins, Density, Rows, Backward, OffGrid}
+use Rattle.escp2_definitions.specs.declared.stops.EmulatorFault.TheVariants.{OffSheet, Overprint}
 use Rattle.escp2_definitions.specs.Commands.{Entry, last_column, row_bytes}
 
 -- A dot of an ink, by its distance from the left margin and from the paper's top.
@@ -31,6 +31,10 @@ pub record Sheet : Type 0 where
 pub record PageMargins : Type 0 where
   pub top : ℕ
   pub bottom : ℕ
+
+-- the longest page: 22 inches
+abbrev pub longest_page : ℕ
+longest_page = 79200
 
 -- The state of the machine. The current sheet has these columns and dots.
 pub record Machine : Type 0 where
@@ -105,14 +109,14 @@ overprints old new = list_any (λ d. list_any (is_at d) old) new
 -- A test, and the fault where it holds.
 pub record Refusal : Type 0 where
   pub holds : Bool
-  pub fault : EmuFault
+  pub fault : EmulatorFault
 
 -- a refusal with this fault, where the test holds
-abbrev pub refuse : Bool → EmuFault → Refusal
+abbrev pub refuse : Bool → EmulatorFault → Refusal
 refuse holds fault = record { holds = holds; fault = fault }
 
 -- the first refusal that holds
-abbrev pub first_fault : List Refusal → Option EmuFault
+abbrev pub first_fault : List Refusal → Option EmulatorFault
 first_fault [] = None
 first_fault (refusal ∷ refusals) = if refusal.holds then Some refusal.fault else first_fault refusals
 
@@ -143,7 +147,7 @@ refusals p s c.Graphics rows = []
 refusals p s (c.Unit m) rows = []
 refusals p s (c.MicroWeave n) rows = []
 refusals p s (c.OneWay n) rows = []
-refusals p s (c.Length n) rows = no_unit s ∷ refuse (has_dots s) Backward ∷ refuse (nat_lt 79200 (units s n)) OffSheet ∷ []
+refusals p s (c.Length n) rows = no_unit s ∷ refuse (has_dots s) Backward ∷ refuse (nat_lt longest_page (units s n)) OffSheet ∷ []
 refusals p s (c.Margins top bottom) rows =
     no_unit s ∷ refuse (is_none s.page) NoMargins ∷ refuse (has_dots s) Backward
     ∷ refuse (nat_lt (page_length s) (units s bottom)) OffSheet ∷ []
@@ -196,7 +200,7 @@ given p s other = []
 -- The first command that was refused: the offset of its first byte, and why.
 pub record Refused : Type 0 where
   pub at : ℕ
-  pub fault : EmuFault
+  pub fault : EmulatorFault
 
 -- What a run gave: the sheets that were ejected, and the first refused command. A sheet that was not ejected does not
 -- count.

@@ -12,4 +12,4 @@ mod command;
 mod stops;
 
 pub use command::{Command, RasterHead};
-pub use stops::{EmuFault, JobCause, JobStop};
+pub use stops::{EmulatorFault, JobCause, JobStop};

@@ -16,7 +16,7 @@ pub enum JobCause {
 
 /// Why the machine refuses a command.
 #[derive(Clone, Copy, Debug, PartialEq, Eq, Error)]
-pub enum EmuFault {
+pub enum EmulatorFault {
     /// A raster outside graphics mode.
     #[error("a raster outside graphics mode")]
     NotGraphics,
@@ -54,7 +54,7 @@ pub enum JobStop {
     /// The bytes end inside a command.
     Cut,
     /// The machine refuses a command.
-    Machine(EmuFault),
+    Machine(EmulatorFault),
     /// The job is longer than the greatest length that is taken.
     TooLong,
 }

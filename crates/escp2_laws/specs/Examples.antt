@@ -3,7 +3,7 @@ use Rattle.std.specs.Prelude.{ℕ, List, [], ◌∷◌, ◌++◌, map, Option, S
 use Rattle.printer_definitions.specs.declared.inks.Ink.TheVariants.{Black}
 use Rattle.printer_definitions.specs.Printer.{Printer, tiny1}
 use Rattle.escp2_definitions.specs.declared.command.Command.{Command}
-use Rattle.escp2_definitions.specs.declared.stops.EmuFault.{EmuFault}
+use Rattle.escp2_definitions.specs.declared.stops.EmulatorFault.{EmulatorFault}
 use Rattle.escp2_definitions.specs.Commands.{Entry, ListEnd, commands}
 use Rattle.escp2_definitions.specs.Machine.{Dot, Refused, execute}
 
@@ -56,7 +56,7 @@ listing_overprinted = listing_prefix ++ black_from_left ++ last_row_black ++ 0x0
 abbrev pub graphics : List ℕ
 graphics = 0x1B ∷ 0x28 ∷ 0x47 ∷ 0x01 ∷ 0x00 ∷ 0x01 ∷ []
 
--- units of 1/3600, 5/3600 and 10/3600 inch; the last is a column
+-- a unit of 1/3600 inch
 abbrev pub unit_1 : List ℕ
 unit_1 = 0x1B ∷ 0x28 ∷ 0x55 ∷ 0x01 ∷ 0x00 ∷ 0x01 ∷ []
 
@@ -68,7 +68,7 @@ unit_5 = 0x1B ∷ 0x28 ∷ 0x55 ∷ 0x01 ∷ 0x00 ∷ 0x05 ∷ []
 abbrev pub unit_10 : List ℕ
 unit_10 = 0x1B ∷ 0x28 ∷ 0x55 ∷ 0x01 ∷ 0x00 ∷ 0x0A ∷ []
 
--- a length of 12 units, and margins 0 and 12
+-- a length of 12 units
 abbrev pub length_12 : List ℕ
 length_12 = 0x1B ∷ 0x28 ∷ 0x43 ∷ 0x02 ∷ 0x00 ∷ 0x0C ∷ 0x00 ∷ []
 
@@ -80,7 +80,7 @@ margins_12 = 0x1B ∷ 0x28 ∷ 0x63 ∷ 0x04 ∷ 0x00 ∷ 0x00 ∷ 0x00 ∷ 0x0C
 abbrev pub down_to_12 : List ℕ
 down_to_12 = 0x1B ∷ 0x28 ∷ 0x56 ∷ 0x02 ∷ 0x00 ∷ 0x0C ∷ 0x00 ∷ []
 
--- one plain row of eight dots, of eight columns without a dot, and of one dot
+-- one plain row of eight dots
 abbrev pub black_row : List ℕ
 black_row = 0x1B ∷ 0x2E ∷ 0x00 ∷ 0x0A ∷ 0x0A ∷ 0x01 ∷ 0x08 ∷ 0x00 ∷ 0xFF ∷ []
 
@@ -111,7 +111,7 @@ abbrev pub sheet_refusal : List ℕ → Option Refused
 sheet_refusal bytes = refusal (listing_prefix ++ bytes)
 
 -- a refusal at a place
-abbrev pub refused : ℕ → EmuFault → Option Refused
+abbrev pub refused : ℕ → EmulatorFault → Option Refused
 refused at fault = Some (record { at = at; fault = fault })
 
 -- a row of eight black dots from the left margin on

@@ -4,13 +4,13 @@ use Rattle.printer_definitions.specs.declared.inks.Ink.TheVariants.{Black}
 use Rattle.printer_definitions.specs.Printer.{tiny1}
 use Rattle.escp2_definitions.specs.declared.command.Command.{Command}
 use Rattle.escp2_definitions.specs.declared.command.Command.TheVariants as c
-use Rattle.escp2_definitions.specs.declared.stops.EmuFault.{EmuFault}
+use Rattle.escp2_definitions.specs.declared.stops.EmulatorFault.{EmulatorFault}
 use Rattle.escp2_definitions.specs.Commands.{Entry}
 use Rattle.escp2_definitions.specs.Machine.{Machine, Printed, execute, first_fault, refusals, start}
 use Rattle.escp2_laws.specs.Examples.{said}
 
 -- what a command is refused for in a state
-abbrev pub fault_of : Machine → Command → List ℕ → Option EmuFault
+abbrev pub fault_of : Machine → Command → List ℕ → Option EmulatorFault
 fault_of s command rows = first_fault (refusals tiny1 s command rows)
 
 -- graphics mode, without a unit
@@ -25,7 +25,7 @@ with_unit = record in_graphics { unit = Some 5 }
 abbrev pub on_sheet : Machine
 on_sheet = record with_unit { page = Some 60; margins = Some (record { top = 0; bottom = 60 }) }
 
--- the same, half a column from the left, and with a dot in the last column but one
+-- the same, half a column from the left
 abbrev pub off_column : Machine
 off_column = record on_sheet { across = 5 }
 

@@ -1,11 +1,12 @@
 -- Where a literal from before a row ends best, and what is known of a table that is filled from a place on.
-use Rattle.std.specs.Prelude.{◌≡◌, ℕ, zero, suc, ◌+◌, ◌<◌, ◌≤◌, ◌==◌, ◌&&◌, false, List, [], ◌∷◌, length, drop, slice_index}
+use Rattle.std.specs.Prelude.{◌≡◌, ℕ, zero, suc, ◌+◌, ◌<◌, ◌≤◌, false, List, [], ◌∷◌, length, drop, slice_index}
 use Rattle.escp2_definitions.specs.Least.{costs, equal_at}
 use Rattle.escp2_rows.specs.declared.costs.Filled.{Filled}
+use Rattle.escp2_rows.specs.Passing.{are_three, cost}
 
 -- the bytes of a literal up to this place, and what the row costs behind it
 abbrev pub upto : List ℕ → ℕ → ℕ
-upto row j = j + slice_index (costs (drop j row)) 0
+upto row j = j + cost (drop j row)
 
 -- Of the places of a row up to `most` this is one where a literal from before the row ends best, the nearest of them.
 pub record IsEnd (most : ℕ) (row : List ℕ) (end : ℕ) : Type 0 where
@@ -27,7 +28,7 @@ pub record IsFilled (row table : List ℕ) (filled : Filled) : Type 0 where
 
 -- two of the three bytes from a place on differ
 abbrev pub IsApart : List ℕ → ℕ → Type 0
-IsApart row i = ((slice_index row i == slice_index row (i + 1)) && (slice_index row (i + 1) == slice_index row (i + 2))) ≡ false
+IsApart row i = are_three row i ≡ false
 
 -- A literal goes on over this many bytes before a place: at none of them three equal bytes begin.
 pub record LiteralGoesOn (row : List ℕ) (filled : Filled) (count : ℕ) : Type 0 where

@@ -38,7 +38,7 @@ fn sixteen_same(row: &[u8], byte: u8) -> usize
 
 // At how many of the first sixteen places, from the front, no three equal bytes begin.
 #[inline(always)]
-fn sixteen_apart(row: &[u8]) -> usize
+fn places_before_three(row: &[u8]) -> usize
     requires { 18 ≤ length row.now }
     ensures few { result ≤ 16 }
     ensures apart { (i : ℕ) → i < result → are_three row.now i ≡ false }
@@ -125,9 +125,9 @@ fn next_triple(row: &[u8], from: usize) -> usize
 {
     let mut at = from;
     'sixteens: while at <= MOST_BYTES && row.len() - at >= 18 {
-        let apart = sixteen_apart(&row[at..]);
-        at += apart;
-        if apart < 16 {
+        let before = places_before_three(&row[at..]);
+        at += before;
+        if before < 16 {
             return at;
         }
     }

@@ -39,6 +39,7 @@ fn literal_most(row: &[u8], table: &[u16]) -> usize
     requires alone { equal_at row.now ≡ 1 }
     ensures { LongestSoFar row.now result }
 {
+    // A literal of n bytes costs n + 1 + table[n]; the first of the sixteen has count - 15 bytes.
     let least = table[0] + 14;
     let mut count = row.len().min(MOST_BYTES);
     'sixteens: while count > 15

@@ -1,28 +1,16 @@
 //! The bytes of commands, without the rows of rasters.
 ghost use Rattle.arrayvec.specs.ArrayVec.{array_vec_len};
-ghost use Rattle.escp2_definitions.specs.Commands.{colour_code as colour_code_of, command_bytes};
-ghost use Rattle.escp2_definitions.specs.Commands.{row_bytes as row_bytes_of, two_bytes};
+ghost use Rattle.escp2_definitions.specs.Commands.{command_bytes, row_bytes as row_bytes_of, two_bytes};
 ghost use Rattle.std.specs.Prelude.{[], length, ◌%◌, ◌++◌, ◌/◌, ◌∷◌, ◌≡◌, ◌≤◌};
 
 use crate::{Command, RasterHead};
 use arrayvec::ArrayVec;
-use weave_base::Ink;
+use escp2_commands::colour_code;
 
 /// The bytes of a command without the rows of a raster.
 pub type HeaderBytes = ArrayVec<u8, 9>;
 
 const ESC: u8 = 0x1B;
-
-fn colour_code(ink: Ink) -> u8
-    ensures { result ≡ colour_code_of ink }
-{
-    match ink {
-        Ink::Black => 0,
-        Ink::Magenta => 1,
-        Ink::Cyan => 2,
-        Ink::Yellow => 4,
-    }
-}
 
 // A number in two bytes, the low one first.
 fn two(n: u16) -> [u8; 2]

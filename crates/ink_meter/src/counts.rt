@@ -19,6 +19,7 @@ pub fn count_dots(inks: InkSet, planes: &Planes) -> InkCounts
         → HasDots p h planes.now.width planes.now.rows planes.now.inks (dot planes.now) → result ≡ halftone_dots p h }
     ensures most { all_inks result < 2 ^ 64 }
 {
+    // Read for its bound: the rows fit 32 bits.
     let _rows = planes.rows();
     match inks {
         InkSet::K => InkCounts {

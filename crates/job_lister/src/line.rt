@@ -1,6 +1,6 @@
 //! The line of a command.
 ghost use Rattle.arrayvec.specs.ArrayString.{array_string_len};
-ghost use Rattle.escp2_definitions.specs.Commands.{colour_code, in_table, rows_len};
+ghost use Rattle.escp2_definitions.specs.Commands.{in_table, rows_len};
 ghost use Rattle.escp2_definitions.specs.declared.command.Command.TheVariants as escp2_command;
 ghost use Rattle.job_lister.specs.Listing.{line_of, name_of as name_in, numbers, numbers_of};
 ghost use Rattle.std.specs.Prelude.{[], length, true, ◌+◌, ◌++◌, ◌≡◌, ◌≤◌};
@@ -8,8 +8,8 @@ ghost use Rattle.std.specs.Prelude.{[], length, true, ◌+◌, ◌++◌, ◌≡�
 use crate::dots::raster_dots;
 use crate::numbers::{push_numbers, push_place};
 use arrayvec::ArrayString;
+use escp2_commands::colour_code;
 use escp2_definitions::{Command, RasterHead};
-use printer_definitions::Ink;
 
 /// A line of the listing, with its line feed.
 pub type Line = ArrayString<128>;
@@ -33,17 +33,6 @@ fn name_of(command: &Command) -> &'static str
         Command::Eject => "EJECT",
         Command::Colour { .. } => "COLOUR",
         Command::Raster { .. } => "RASTER",
-    }
-}
-
-fn code_of(ink: Ink) -> u32
-    ensures { result ≡ colour_code ink }
-{
-    match ink {
-        Ink::Black => 0,
-        Ink::Magenta => 1,
-        Ink::Cyan => 2,
-        Ink::Yellow => 4,
     }
 }
 
@@ -81,7 +70,7 @@ fn push_numbers_of(command: &Command, rows: &[u8], out: &mut Line)
         Command::Margins { top, bottom } => {
             push_numbers(&[u32::from(*top), u32::from(*bottom)], out);
         }
-        Command::Colour { ink } => push_numbers(&[code_of(*ink)], out),
+        Command::Colour { ink } => push_numbers(&[u32::from(colour_code(*ink))], out),
         Command::Raster { head: header } => push_numbers(&raster_numbers(header, rows), out),
         Command::Init | Command::Graphics | Command::Return | Command::Eject => {}
     }

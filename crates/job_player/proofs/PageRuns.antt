@@ -7,7 +7,7 @@ use Rattle.dot_emulator.specs.declared.emulator.Emulator.{Emulator}
 use Rattle.dot_emulator.specs.declared.sheet.Sheet.{Sheet}
 use Rattle.dot_emulator.specs.Runs.{IsSheet, Runs, Shows}
 use Rattle.escp2_definitions.specs.declared.command.Command.{Command}
-use Rattle.escp2_definitions.specs.declared.stops.EmuFault.{EmuFault}
+use Rattle.escp2_definitions.specs.declared.stops.EmulatorFault.{EmulatorFault}
 use Rattle.escp2_definitions.specs.declared.stops.JobCause.{JobCause}
 use Rattle.escp2_definitions.specs.declared.stops.JobStop.TheVariants as job
 use Rattle.escp2_definitions.specs.Commands.{CommandList, Entry, ListEnd, command_at, commands, commands_from}
@@ -276,7 +276,7 @@ never_unheard p first dots old now bytes rest used (state.Fault offset cause) be
 
 -- and the printer refuses no command
 pub never_refused : (p : Printer) (first : Machine) (dots : List Dot) (old now : JobCounter) (bytes rest : List ℕ) (used : ℕ)
-    (command : Command) (rows : List ℕ) (fault : EmuFault) (so_far : CountsSoFar p first dots old now bytes rest)
+    (command : Command) (rows : List ℕ) (fault : EmulatorFault) (so_far : CountsSoFar p first dots old now bytes rest)
     → IsWhole (take used rest) command rows → GivesSheet p bytes dots → first.dots ≡ []
     → first_fault (refusals p so_far.m command rows) ≡ Some fault → ⊥
 never_refused p first dots old now bytes rest used command rows fault so_far whole gives blank some =

@@ -5,12 +5,12 @@ use Rattle.std.proofs.lemmas.List.Concat.{flat_map-append}
 use Rattle.std.specs.Io.KnownBytes.{Appends, Consumes}
 use Rattle.std.proofs.KnownBytes.{Appends-nil, Appends-trans, Consumes-nil}
 use Rattle.buffered_bytes.specs.Outside.{Outside}
-use Rattle.dot_emulator.specs.declared.emulator.EmuStop.{EmuStop}
-use Rattle.dot_emulator.specs.declared.emulator.EmuStop.TheVariants as emu
+use Rattle.dot_emulator.specs.declared.emulator.EmulatorStop.{EmulatorStop}
+use Rattle.dot_emulator.specs.declared.emulator.EmulatorStop.TheVariants as emu
 use Rattle.dot_emulator.specs.declared.emulator.Emulator.{Emulator}
 use Rattle.dot_emulator.specs.declared.sheet.Sheet.{Sheet}
 use Rattle.dot_emulator.specs.Runs.{IsSheet, Runs, Shows}
-use Rattle.escp2_definitions.specs.declared.stops.EmuFault.{EmuFault}
+use Rattle.escp2_definitions.specs.declared.stops.EmulatorFault.{EmulatorFault}
 use Rattle.escp2_definitions.specs.declared.stops.JobStop.TheVariants as job
 use Rattle.escp2_definitions.specs.Commands.{Entry}
 use Rattle.escp2_definitions.specs.JobEnds.{Stopped, job_end}
@@ -282,7 +282,7 @@ plays_some p most input out plays = record {
 
 -- the machine refuses a command
 pub plays_to_refusal : (p : Printer) (most : ℕ) (e e' : Emulator) (old new : JobFeed)
-    (before text left held now : Option (List ℕ)) (number f0 f1 g0 g1 : ℕ) (placed : PlacedCommand) (fault : EmuFault)
+    (before text left held now : Option (List ℕ)) (number f0 f1 g0 g1 : ℕ) (placed : PlacedCommand) (fault : EmulatorFault)
     (so_far : PlaysSoFar p e old before text held now number) → TakesCommand old new text (text_of new left) placed
     → Runs p so_far.runs.m placed.command (heard_of new) e e' (Err (emu.Refused fault)) → most_of new ≡ most
     → PlayOutcome p most (record { before = before; now = left; faults_before = f0; faults_now = f1 })
@@ -328,7 +328,7 @@ plays_nothing p most {left} {held} = record {
 
 -- the emulator does not run a command
 pub plays_to_emu_stop : {p : Printer} (most : ℕ) {e : Emulator} (e' : Emulator) (old new : JobFeed) {text : Option (List ℕ)} {number : ℕ}
-    (input out : Outside) (placed : PlacedCommand) (why : EmuStop) (answer : PlayStop)
+    (input out : Outside) (placed : PlacedCommand) (why : EmulatorStop) (answer : PlayStop)
     (so_far : PlaysSoFar p e old input.before text out.before out.now number)
     → TakesCommand old new text (text_of new input.now) placed
     → Runs p so_far.runs.m placed.command (heard_of new) e e' (Err why) → most_of old ≡ most → answer ≡ emu_stop placed.at why
@@ -337,7 +337,7 @@ plays_to_emu_stop {p} most {e} e' old new {text} {number} input out placed why a
     let P : PlayStop → Type 0 = λ stop. PlayOutcome p most input out (Err stop) in
     subst P (sym is) (by_stop why runs)
   where
-    by_stop : (why : EmuStop) → Runs p so_far.runs.m placed.command (heard_of new) e e' (Err why)
+    by_stop : (why : EmulatorStop) → Runs p so_far.runs.m placed.command (heard_of new) e e' (Err why)
         → PlayOutcome p most input out (Err (emu_stop placed.at why))
     by_stop (emu.Refused fault) runs = plays_to_refusal p most e e' old new input.before text input.now out.before out.now number
         input.faults_before input.faults_now out.faults_before out.faults_now placed fault so_far takes runs (takes.most ∙ most_is)

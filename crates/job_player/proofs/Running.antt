@@ -1,6 +1,6 @@
 -- The machine over the commands that a feed gave.
 use Rattle.std.proofs.Common.{◌≡◌, ℕ, List, [], ◌∷◌, ◌++◌, length, take, Option, None, Some, refl, sym, ◌∙◌, ap, append_assoc, append-nil}
-use Rattle.escp2_definitions.specs.declared.stops.EmuFault.{EmuFault}
+use Rattle.escp2_definitions.specs.declared.stops.EmulatorFault.{EmulatorFault}
 use Rattle.escp2_definitions.specs.declared.stops.JobStop.TheVariants as stop
 use Rattle.escp2_definitions.specs.Commands.{Entry, commands}
 use Rattle.escp2_definitions.specs.JobEnds.{Stopped, first_stop, job_end, list_stop, stopped}
@@ -30,7 +30,7 @@ accepted p m entry rest none = ap (λ o. elim o [
 ]) none
 
 -- a command that is refused
-pub refused : (p : Printer) (m : Machine) (entry : Entry) (rest : List Entry) (fault : EmuFault)
+pub refused : (p : Printer) (m : Machine) (entry : Entry) (rest : List Entry) (fault : EmulatorFault)
     → first_fault (refusals p m entry.command entry.rows) ≡ Some fault
     → execute_from p m (entry ∷ rest) ≡ record { sheets = []; refused = Some (record { at = entry.at; fault = fault }) }
 unfolding execute_from
@@ -78,7 +78,7 @@ stops_as_bytes p most bytes entries m sheets why so_far ends =
 
 -- a job of which a command is refused stops there, whatever follows
 pub stops_at_refusal : (p : Printer) (most : ℕ) (bytes : List ℕ)
-    (entries others : List Entry) (entry : Entry) (m : Machine) (sheets : List Sheet) (fault : EmuFault)
+    (entries others : List Entry) (entry : Entry) (m : Machine) (sheets : List Sheet) (fault : EmulatorFault)
     → Executes p entries m sheets → first_fault (refusals p m entry.command entry.rows) ≡ Some fault
     → (commands (take most bytes)).entries ≡ (entries ++ entry ∷ []) ++ others
     → ((execute p (commands (take most bytes)).entries).sheets ≡ sheets)

@@ -8,7 +8,7 @@ ghost use Rattle.printer_definitions.specs.Printer.{Printer, column_step, row_st
 ghost use Rattle.printer_profile.specs.Validity.{check};
 ghost use Rattle.std.specs.Prelude.{IsOk, List, OnOk, ◌+◌, ◌<◌, ◌≡◌, ◌≤◌, ◌^◌};
 
-use dot_emulator::{EmuStop, Emulator, Sheet};
+use dot_emulator::{Emulator, EmulatorStop, Sheet};
 use escp2_reader::{HeardState, JobReader};
 use ink_meter::{InkCounts, InkSet, count_dots};
 use printer_profile::Profile;
@@ -96,8 +96,8 @@ impl JobCounter {
             match self.emulator.run(&command, reader.rows()) {
                 Ok(None) => {}
                 Ok(Some(sheet)) => self.add(&sheet),
-                Err(EmuStop::Memory) => return Err(Memory),
-                Err(EmuStop::Refused(_)) => unreachable!(),
+                Err(EmulatorStop::Memory) => return Err(Memory),
+                Err(EmulatorStop::Refused(_)) => unreachable!(),
             }
         }
         Ok(())

@@ -12,7 +12,7 @@ use itoa::Buffer;
 use weave_base::{Failed, Sink};
 
 /// Writes the image of an ink of the sheet, a dot as a black pixel. Inks are 0 for black, 1 cyan, 2 magenta and 3
-/// yellow. It takes no memory, and writes many rows at once.
+/// yellow. It takes no memory.
 ///
 /// On `Err` a write of the sink failed, which the sink counts, and the sink took a proper prefix of the image.
 pub fn write_plane<K: Sink>(s: &Sheet, ink: u8, k: &mut K) -> Result<(), Failed>

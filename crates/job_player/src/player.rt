@@ -7,7 +7,7 @@ ghost use Rattle.printer_profile.specs.Validity.{check};
 ghost use Rattle.std.specs.Prelude.{IsOk, ◌<◌, ◌≡◌, ◌^◌};
 
 use crate::sheets::write_sheet;
-use dot_emulator::{EmuStop, Emulator};
+use dot_emulator::{Emulator, EmulatorStop};
 use escp2_definitions::JobStop;
 use job_feed::{FeedStop, JobFeed};
 use printer_profile::Profile;
@@ -69,15 +69,15 @@ pub fn play_job<S: Source, K: Sink>(
 }
 
 // Why playing stops at a command that the emulator does not run.
-fn refused_at(at: u64, stop: EmuStop) -> PlayStop
+fn refused_at(at: u64, stop: EmulatorStop) -> PlayStop
     ensures { result ≡ emu_stop at stop }
 {
     match stop {
-        EmuStop::Refused(fault) => PlayStop::Job {
+        EmulatorStop::Refused(fault) => PlayStop::Job {
             offset: at,
             cause: JobStop::Machine(fault),
         },
-        EmuStop::Memory => PlayStop::Memory,
+        EmulatorStop::Memory => PlayStop::Memory,
     }
 }
 

@@ -25,8 +25,7 @@ gives key word = is_text (key_of word) key.name
 abbrev pub asks_for_shingles : List ℕ → Bool
 asks_for_shingles word = gives shingle_key word && is_text (value_of word) (codes "1")
 
--- Whether two words exclude each other: one asks for shingled passes, and the other lists dead nozzles. No strokes
--- do both.
+-- Whether two words exclude each other: one asks for shingled passes, and the other lists dead nozzles.
 abbrev pub excludes : List ℕ → List ℕ → Bool
 excludes word other = (asks_for_shingles word && gives dead_key other) || (gives dead_key word && asks_for_shingles other)
 

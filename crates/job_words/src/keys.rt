@@ -27,6 +27,7 @@ pub enum JobKey {
 impl JobKey {
     ghost use Rattle.job_words.specs.Rows.{key_row};
 
+    /// The key as a word writes it.
     pub fn name(self) -> &'static str
         ensures { result.now ≡ (key_row self).name }
     {

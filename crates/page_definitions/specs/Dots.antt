@@ -1,8 +1,8 @@
 -- The dots that a page asks for.
-use Rattle.std.specs.Prelude.{◌≡◌, ◌<◌, count_by, length, slice_get, Some, ℕ, ◌+◌, ◌*◌, ◌/◌, Bool, if◌then◌else◌, List, [], ◌∷◌}
+use Rattle.std.specs.Prelude.{◌≡◌, ◌<◌, length, slice_get, Some, ℕ, ◌+◌, ◌*◌, ◌/◌, Bool, if◌then◌else◌, List, [], ◌∷◌}
 use Rattle.std.specs.List.{flat_map}
 use Rattle.printer_definitions.specs.declared.inks.Ink.{Ink}
-use Rattle.printer_definitions.specs.Inks.{inks_of, same_ink}
+use Rattle.printer_definitions.specs.Inks.{inks_of}
 use Rattle.printer_definitions.specs.Printer.{Printer}
 use Rattle.diffusion_definitions.specs.Diffusion.{Plane, Table, errors, no_top, on}
 use Rattle.escp2_definitions.specs.Machine.{Dot}

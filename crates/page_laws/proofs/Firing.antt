@@ -7,9 +7,9 @@ use Rattle.printer_definitions.specs.declared.inks.Ink.{Ink}
 use Rattle.printer_definitions.specs.Printer.{column_step, nozzle_step, row_step, row_units}
 use Rattle.escp2_definitions.specs.declared.command.RasterHead.{RasterHead}
 use Rattle.escp2_definitions.specs.declared.command.Command.TheVariants as c
-use Rattle.escp2_definitions.specs.declared.stops.EmuFault.{EmuFault}
-use Rattle.escp2_definitions.specs.declared.stops.EmuFault.TheVariants.{NotGraphics, NoUnit, NoMargins, Density, Rows, OffGrid}
-use Rattle.escp2_definitions.specs.declared.stops.EmuFault.TheVariants.{OffSheet, Overprint}
+use Rattle.escp2_definitions.specs.declared.stops.EmulatorFault.{EmulatorFault}
+use Rattle.escp2_definitions.specs.declared.stops.EmulatorFault.TheVariants.{NotGraphics, NoUnit, NoMargins, Density, Rows, OffGrid}
+use Rattle.escp2_definitions.specs.declared.stops.EmulatorFault.TheVariants.{OffSheet, Overprint}
 use Rattle.escp2_definitions.specs.Machine.{Dot, Machine, after, first_fault, is_off_grid, is_off_sheet, is_other_density}
 use Rattle.escp2_definitions.specs.Machine.{overprints, raster_dots, refusals, refuse, rows_dots}
 use Rattle.base_definitions.specs.Packed.{packed}
@@ -96,7 +96,7 @@ raster-accepted w stroke ink columns dots is lies once =
     ∙ on_sheet w.printer w.above w.halftone.height ink stroke.start bottom (stroke.rows ink) is.can (lies.on_window ink) bottom_is in
     let sheet : is_off_sheet w.printer s (header_of w) fired ≡ false = neither _ _ columns_fit rows_fit in
     let over : overprints dots fired ≡ false = ap (overprints dots) same ∙ not_twice dots wanted once in
-    let faults : Bool → Bool → Bool → Bool → Bool → Option EmuFault = λ density nozzles grid sheet over.
+    let faults : Bool → Bool → Bool → Bool → Bool → Option EmulatorFault = λ density nozzles grid sheet over.
     first_fault (refuse false NotGraphics ∷ refuse false NoUnit ∷ refuse false NoMargins ∷ refuse density Density ∷ refuse nozzles Rows
     ∷ refuse grid OffGrid ∷ refuse sheet OffSheet ∷ refuse over Overprint ∷ []) in
     ap (λ b. faults b (not (w.printer.nozzles == w.printer.nozzles))

@@ -3,8 +3,8 @@ use Rattle.std.proofs.Common.{◌≡◌, ℕ, ◌+◌, true, nat_lt, if◌then�
 use Rattle.std.proofs.lemmas.Bool.{lt-ltb}
 use Rattle.printer_definitions.specs.Printer.{Printer}
 use Rattle.escp2_definitions.specs.declared.command.Command.TheVariants as c
-use Rattle.escp2_definitions.specs.declared.stops.EmuFault.{EmuFault}
-use Rattle.escp2_definitions.specs.declared.stops.EmuFault.TheVariants.{Backward}
+use Rattle.escp2_definitions.specs.declared.stops.EmulatorFault.{EmulatorFault}
+use Rattle.escp2_definitions.specs.declared.stops.EmulatorFault.TheVariants.{Backward}
 use Rattle.escp2_definitions.specs.Commands.{Entry}
 use Rattle.escp2_definitions.specs.Machine.{Dot, Machine, Printed, after, execute_from, first_fault, given, refusals, with_sheets}
 use Rattle.escp2_definitions.specs.Written.{written}
@@ -13,7 +13,7 @@ use Rattle.page_definitions.specs.Strokes.{Spoken, say}
 use Rattle.page_laws.proofs.Running.{entries}
 
 -- what a command and those after it give, by why the command is refused
-abbrev outcome : Printer → Machine → Entry → List Entry → Option EmuFault → Printed
+abbrev outcome : Printer → Machine → Entry → List Entry → Option EmulatorFault → Printed
 outcome p m entry rest (Some fault) = record { sheets = []; refused = Some (record { at = entry.at; fault = fault }) }
 outcome p m entry rest None = with_sheets (given p m entry.command) (execute_from p (after p m entry.command entry.rows) rest)
 
@@ -23,7 +23,7 @@ head-accepted : (p : Printer) (m : Machine) (entry : Entry) (rest : List Entry) 
 unfolding execute_from
 head-accepted p m entry rest none = by_fault (first_fault (refusals p m entry.command entry.rows)) refl
   where
-    by_fault : (o : Option EmuFault) → first_fault (refusals p m entry.command entry.rows) ≡ o
+    by_fault : (o : Option EmulatorFault) → first_fault (refusals p m entry.command entry.rows) ≡ o
         → first_fault (refusals p m entry.command entry.rows) ≡ None
     by_fault None is = is
     by_fault (Some fault) is =

@@ -4,7 +4,7 @@ use Rattle.std.proofs.Common.{None, Some, refl, sym, ◌∙◌, ap, append-nil}
 use Rattle.printer_definitions.specs.declared.inks.Ink.{Ink}
 use Rattle.printer_definitions.specs.Printer.{Printer, row_units}
 use Rattle.escp2_definitions.specs.declared.command.Command.{Command}
-use Rattle.escp2_definitions.specs.declared.stops.EmuFault.{EmuFault}
+use Rattle.escp2_definitions.specs.declared.stops.EmulatorFault.{EmulatorFault}
 use Rattle.escp2_definitions.specs.Commands.{Entry}
 use Rattle.escp2_definitions.specs.Machine.{Dot, Machine, after, execute_from, first_fault, given, refusals, with_sheets}
 use Rattle.escp2_definitions.specs.Written.{Coding, IsCoding, written}
@@ -91,7 +91,7 @@ one-runs w s command rows job at accepted =
     let next : ℕ = at + length (written w.coding.code command rows) in
     let rest : List Entry = entries w.coding.code next job in (
       next,
-      ap (λ (found : Option EmuFault). elim found [
+      ap (λ (found : Option EmulatorFault). elim found [
         | Some fault ↦ record { sheets = []; refused = Some (record { at = at; fault = fault }) }
         | None ↦ with_sheets (given w.printer s command) (execute_from w.printer (after w.printer s command rows) rest)
       ]) accepted,

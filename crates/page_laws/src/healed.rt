@@ -18,7 +18,8 @@ ghost use Rattle.std.specs.Prelude.{List, Ok, [], ℕ, ◌*◌, ◌∷◌, ◌�
 
 /// The strokes of a head with dead nozzles print the halftone of their window, where a nozzle is live.
 pub fn healed_fires()
-    ensures { (dead : List ℕ) (p : Printer) (h : Halftone) → CanPrint p → checked p.nozzles dead ≡ Ok tt → Fires p h (healed dead p h) }
+    ensures { (dead : List ℕ) (p : Printer) (h : Halftone) → CanPrint p → checked p.nozzles dead ≡ Ok tt
+        → Fires p h (healed dead p h) }
 {}
 
 /// No row of a raster of these strokes has a dot where its nozzle is dead.

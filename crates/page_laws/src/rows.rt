@@ -16,5 +16,6 @@ pub fn rasters_have_rows()
     ensures { (p : Printer) (h : Halftone) (coding : Coding) (strokes : Strokes) (tall : ℕ) (test : ℕ → ℕ → ℕ → Bool)
         → CanPrint p → IsCoding coding → Sized p h tall → Fires p h strokes
         → AllByRecursion (StrokeRows (EachTwo test) p.nozzles) strokes.list
-        → RasterRows (EachTwo test) (commands (strokes_bytes coding p h.width h.height (tall * row_units p) strokes)).entries }
+        → RasterRows (EachTwo test)
+        (commands (strokes_bytes coding p h.width h.height (tall * row_units p) strokes)).entries }
 {}

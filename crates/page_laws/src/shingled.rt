@@ -30,7 +30,8 @@ pub fn shingled_rows_are_halves()
 
 /// Shingled passes take no more rasters of an ink than there are passes.
 pub fn shingles_have_passes()
-    ensures { (p : Printer) (h : Halftone) (tall : ℕ) → CanPrint p → Shingles p.nozzles p.pitch → Sized p h tall → (ink : Ink)
+    ensures { (p : Printer) (h : Halftone) (tall : ℕ) → CanPrint p → Shingles p.nozzles p.pitch → Sized p h tall
+        → (ink : Ink)
         → ink_rasters ink (commands (shingled_bytes p h (tall * row_units p))).entries
         ≤ shingle_count p.nozzles p.pitch h.height }
 {}

@@ -2,15 +2,13 @@
 #![tactic(auto)]
 
 ghost use Rattle.diffusion_definitions.specs.Diffusion.{Table};
-ghost use Rattle.page_definitions.specs.PageBytes.{page_bytes};
 ghost use Rattle.page_definitions.specs.Printing.{Prints};
 ghost use Rattle.page_definitions.specs.Ways.{CanGo, KeepTo, Way, page_bytes_by};
-ghost use Rattle.page_definitions.specs.Ways.Way.{Woven};
 ghost use Rattle.printer_definitions.specs.Printer.{Printer};
 ghost use Rattle.pwg_definitions.specs.Stream.{Page};
 ghost use Rattle.separation_definitions.specs.CanPrint.{ArePages, CanPrint};
 ghost use Rattle.std.specs.List.{flat_map};
-ghost use Rattle.std.specs.Prelude.{List, ◌≡◌};
+ghost use Rattle.std.specs.Prelude.{List};
 
 /// The bytes of pages that are printed in a way of which the head is capable, one after another, print the pages.
 pub fn pages_are_printed_by_ways()

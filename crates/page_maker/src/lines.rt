@@ -12,7 +12,7 @@ const MOST_UNIT: usize = 4;
 /// Fills a line of whole units, of 1 to 4 bytes each, with runs of drawn units.
 pub fn fill_line(draws: &mut Draws, unit: usize, line: &mut [u8])
     requires some { 1 ≤ unit }
-    requires few { unit ≤ 4 }
+    requires few { unit ≤ MOST_UNIT }
     requires whole { length line.old % unit ≡ 0 }
     ensures bytes { line.new
         ≡ (made_line unit (length line.old / unit) (length line.old / unit) draws.old.state).bytes }
@@ -31,7 +31,7 @@ pub fn fill_line(draws: &mut Draws, unit: usize, line: &mut [u8])
 // Puts a drawn unit after the filled bytes, `times` times.
 fn put_run(draws: &mut Draws, unit: usize, line: &mut [u8], filled: usize, times: usize)
     requires some { 1 ≤ times }
-    requires few { unit ≤ 4 }
+    requires few { unit ≤ MOST_UNIT }
     requires fits { filled + times * unit ≤ length line.old }
     ensures bytes { take (filled + times * unit) line.new
         ≡ take filled line.old ++ copies times (drawn unit draws.old.state) }

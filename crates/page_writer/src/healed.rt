@@ -36,7 +36,7 @@ use weave_base::Sink;
 /// numbers of `dead` are in rising order, and `check_dead` tests them.
 ///
 /// Its memory is the plan of the strokes and the room for their code, and is taken before the first byte. All else is
-/// as in `write_page`: the commands, the calls of `put_all`, and what a failed write leaves.
+/// as in `write_page`: the commands, and what a failed write leaves.
 pub fn write_healed<R: Threads + Sync, G, K: Sink>(
     team: &Team<'_, R, G>,
     alloc: Global,

@@ -33,8 +33,8 @@ use weave_plan::Plan;
 /// and the sheet, then the passes of the head over the page's window that have a dot, and the end of the sheet (ESC/P
 /// Reference Manual, graphics commands). Rows of rasters are coded.
 ///
-/// It takes its memory before the first byte, as `write_strokes` does. A pass is one call of `put_all`; so are the
-/// commands before the passes and those after them. On `Write` the sink took a proper prefix of the bytes.
+/// It takes its memory before the first byte, as `write_strokes` does. On `Write` the sink took a proper prefix of the
+/// bytes.
 pub fn write_page<R: Threads + Sync, G, K: Sink>(
     team: &Team<'_, R, G>,
     alloc: Global,

@@ -35,7 +35,7 @@ use weave_base::Sink;
 /// Writes the job of a page whose dots are in planes, each row of them in two passes of the head: its even columns in
 /// one, and its odd columns in the other. It gives the number of bytes and rasters. `shingle_fits` tests the head.
 ///
-/// All else is as in `write_page`: the commands, the memory, the calls of `put_all`, and what a failed write leaves.
+/// All else is as in `write_page`: the commands, the memory, and what a failed write leaves.
 pub fn write_shingled<R: Threads + Sync, G, K: Sink>(
     team: &Team<'_, R, G>,
     alloc: Global,

@@ -201,10 +201,8 @@ fn batches_of<'a, H: Head>(
 /// rasters: graphics mode and the sheet, then the strokes that have a dot, and the end of the sheet (ESC/P Reference
 /// Manual, graphics commands). Rows of rasters are coded.
 ///
-/// The team's workers code the strokes; the caller alone writes. It takes its memory before the first byte: the room
-/// for one stroke, and for several workers that of two batches of strokes, which is 8 MB at most. Without memory for
-/// the batches the caller codes alone. A stroke is one call of `put_all`; so are the commands before the strokes and
-/// those after them. On `Write` the sink took a proper prefix of the bytes.
+/// It takes its memory before the first byte: the room for one stroke, and for several workers that of two batches. On
+/// `Write` the sink took a proper prefix of the bytes.
 pub fn write_strokes<R: Threads + Sync, G, H: Head + Sync, K: Sink>(
     team: &Team<'_, R, G>,
     alloc: Global,

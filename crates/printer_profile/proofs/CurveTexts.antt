@@ -1,9 +1,10 @@
 -- The text of a curve, and the curve of a text.
-use Rattle.std.proofs.Common.{◌≡◌, ℕ, zero, suc, ◌+◌, ◌<◌, ◌≤◌, Bool, true, false, ◌&&◌, ltb, List, [], ◌∷◌, ◌++◌}
+use Rattle.std.proofs.Common.{◌≡◌, ℕ, zero, suc, ◌+◌, ◌<◌, ◌≤◌, true, false, ltb, List, [], ◌∷◌, ◌++◌}
 use Rattle.std.proofs.Common.{length, map, take, get_or, set, Some, IsTrue, refl, ap, sym, ◌∙◌, arith, append_assoc}
 use Rattle.std.specs.Char.{is_ascii_digit}
 use Rattle.std.specs.Fmt.{decimal}
 use Rattle.std.specs.List.{All, list_all, slice_split}
+use Rattle.std.proofs.lemmas.Bool.{and_parts}
 use Rattle.std.proofs.lemmas.Bool.Decides.{nat_tests}
 use Rattle.std.proofs.lemmas.Fmt.{digits_decimal}
 use Rattle.std.proofs.lemmas.List.{take_all, take_more}
@@ -13,26 +14,23 @@ use Rattle.key_values.proofs.Digits.{number_of_decimal, own}
 use Rattle.printer_profile.specs.Values.{curve_of_parts, curve_text, curve_written, is_comma, points_of}
 use Rattle.printer_profile.specs.Views.{has_points}
 
-and_true : (a b : Bool) → (a && b) ≡ true → (a ≡ true) × (b ≡ true)
-and_true a b h = (grind (arith, nat_tests), grind (arith, nat_tests))
-
 pub below_257 : (n : ℕ) → ltb n 257 ≡ true → n ≤ 256
 below_257 n h = grind (arith, nat_tests)
 
 pub each_has_points : (curves : List (List ℕ)) → IsTrue (list_all has_points curves)
     → (i : ℕ) → has_points (get_or curves i []) ≡ true
 each_has_points [] h i = refl
-each_has_points (curve ∷ curves) h zero = (and_true (has_points curve) (list_all has_points curves) h).0
+each_has_points (curve ∷ curves) h zero = (and_parts (has_points curve) (list_all has_points curves) h).0
 each_has_points (curve ∷ curves) h (suc i) =
-    each_has_points curves (and_true (has_points curve) (list_all has_points curves) h).1 i
+    each_has_points curves (and_parts (has_points curve) (list_all has_points curves) h).1 i
 
 pub points_kept : (curves : List (List ℕ)) (place : ℕ) (curve : List ℕ) → IsTrue (list_all has_points curves)
     → has_points curve ≡ true → IsTrue (list_all has_points (set curves place curve))
 points_kept [] place curve h good = h
 points_kept (other ∷ curves) zero curve h good =
-    rw (good, (and_true (has_points other) (list_all has_points curves) h).1) refl
+    rw (good, (and_parts (has_points other) (list_all has_points curves) h).1) refl
 points_kept (other ∷ curves) (suc place) curve h good =
-    let both = and_true (has_points other) (list_all has_points curves) h in
+    let both = and_parts (has_points other) (list_all has_points curves) h in
     rw (both.0, points_kept curves place curve both.1 good) refl
 
 pub each_of_four : (curves : List (List ℕ)) → length (get_or curves 0 []) ≡ 17 → length (get_or curves 1 []) ≡ 17
@@ -57,16 +55,16 @@ point_no_comma n h = digits_no_comma (decimal n) (digits_decimal own n (omega (a
 parts_read : (n : ℕ) (curve : List ℕ) → has_points (n ∷ curve) ≡ true
     → slice_split is_comma (curve_text (n ∷ curve)) ≡ map decimal (n ∷ curve)
 unfolding curve_text
-parts_read n [] h = slice_split_none is_comma (decimal n) (point_no_comma n (and_true (ltb n 257) true h).0)
+parts_read n [] h = slice_split_none is_comma (decimal n) (point_no_comma n (and_parts (ltb n 257) true h).0)
 parts_read n (m ∷ curve) h =
-    let both = and_true (ltb n 257) (has_points (m ∷ curve)) h in
+    let both = and_parts (ltb n 257) (has_points (m ∷ curve)) h in
     slice_split_at is_comma (decimal n) 44 (curve_text (m ∷ curve)) (point_no_comma n both.0) refl
     ∙ ap (λ parts. decimal n ∷ parts) (parts_read m curve both.1)
 
 points_read : (curve : List ℕ) → has_points curve ≡ true → points_of (map decimal curve) ≡ Some curve
 points_read [] h = refl
 points_read (n ∷ curve) h =
-    let both = and_true (ltb n 257) (has_points curve) h in
+    let both = and_parts (ltb n 257) (has_points curve) h in
     rw (number_of_decimal 0 256 n (omega arith) (below_257 n both.0) (omega arith), points_read curve both.1) refl
 
 same_length : (curve : List ℕ) → length (map decimal curve) ≡ length curve

@@ -2,13 +2,11 @@
 use Rattle.std.proofs.Common.{◌≡◌, ℕ, zero, suc, ◌+◌, ◌-◌, ◌<◌, ◌≤◌, Bool, true, false, not, ◌&&◌, eqb, ltb, List, [], ◌∷◌, length, get_or}
 use Rattle.std.proofs.Common.{Option, Some, None, Result, Ok, Err, cond, refl, sym, arith}
 use Rattle.std.specs.Prelude.{position}
+use Rattle.std.proofs.lemmas.Bool.{and_parts}
 use Rattle.std.proofs.lemmas.Bool.Decides.{nat_tests}
 use Rattle.printer_profile.specs.Validity.{curve_tests, first_fault, is_curve, is_rising}
 use Rattle.printer_profile.specs.declared.validity.ProfileFault.{ProfileFault}
 use Rattle.printer_profile.specs.declared.validity.ProfileFault.TheVariants as fault
-
-and_true : (a b : Bool) → (a && b) ≡ true → (a ≡ true) × (b ≡ true)
-and_true a b h = (grind (arith, nat_tests), grind (arith, nat_tests))
 
 -- a point and the next
 not_below : (a b : ℕ) (rest : Bool) → (not (ltb b a) && rest) ≡ true → a ≤ b
@@ -28,7 +26,7 @@ rises : (xs : List ℕ) (i : ℕ) → is_rising xs ≡ true → suc i < length x
 rises [] i h within = absurd (omega arith)
 rises (a ∷ []) i h within = absurd (omega arith)
 rises (a ∷ b ∷ xs) zero h within = not_below a b (is_rising (b ∷ xs)) h
-rises (a ∷ b ∷ xs) (suc i) h within = rises (b ∷ xs) i (and_true _ _ h).1 (omega arith)
+rises (a ∷ b ∷ xs) (suc i) h within = rises (b ∷ xs) i (and_parts _ _ h).1 (omega arith)
 
 falls : (xs : List ℕ) (i : ℕ) → suc i < length xs → get_or xs (suc i) 0 < get_or xs i 0 → is_rising xs ≡ false
 falls [] i within h = absurd (omega arith)
@@ -92,4 +90,4 @@ pub good_rises : (curve : List ℕ) (place : ℕ) → is_curve curve ≡ true �
     → get_or curve place 0 ≤ get_or curve (place + 1) 0
 good_rises curve place good within =
     let e : place + 1 ≡ suc place = omega arith in
-    rw e (rises curve place (and_true (eqb (get_or curve 0 0) 0) (is_rising curve) good).1 (omega arith))
+    rw e (rises curve place (and_parts (eqb (get_or curve 0 0) 0) (is_rising curve) good).1 (omega arith))

@@ -7,6 +7,7 @@ use Rattle.std.specs.List.{flat_map, list_all, slice_split}
 use Rattle.std.specs.Option.{option_map}
 use Rattle.std.specs.Prelude.{slice_index, slice_index_or, slice_set}
 use Rattle.std.specs.Str.Lines.{lines, lines_of_parts}
+use Rattle.std.proofs.lemmas.Bool.{and_parts}
 use Rattle.std.proofs.lemmas.Bool.Decides.{nat_tests}
 use Rattle.std.proofs.lemmas.Fmt.{digits_decimal}
 use Rattle.std.proofs.lemmas.List.Splits.{length-slice_split, slice_split-cons_no, slice_split-cons_yes}
@@ -39,9 +40,6 @@ printable b = ltb 31 b && ltb b 128
 AllPrintable : List ℕ → Type 0
 AllPrintable line = list_all printable line ≡ true
 
-and_true : (a b : Bool) → (a && b) ≡ true → (a ≡ true) × (b ≡ true)
-and_true a b h = (grind (arith, nat_tests), grind (arith, nat_tests))
-
 no_newline : (b : ℕ) → printable b ≡ true → eqb b 10 ≡ false
 unfolding printable
 no_newline b h = grind (arith, nat_tests)
@@ -49,15 +47,15 @@ no_newline b h = grind (arith, nat_tests)
 no_return : (line : List ℕ) (i : ℕ) → list_all printable line ≡ true → eqb (get_or line i 0) 13 ≡ false
 unfolding printable
 no_return [] i h = refl
-no_return (b ∷ line) zero h = let first = (and_true (printable b) (list_all printable line) h).0 in grind (arith, nat_tests, first)
-no_return (b ∷ line) (suc i) h = no_return line i (and_true (printable b) (list_all printable line) h).1
+no_return (b ∷ line) zero h = let first = (and_parts (printable b) (list_all printable line) h).0 in grind (arith, nat_tests, first)
+no_return (b ∷ line) (suc i) h = no_return line i (and_parts (printable b) (list_all printable line) h).1
 
 -- a printable line ends at its newline
 part_before : (line rest : List ℕ) → list_all printable line ≡ true
     → slice_split (λ b. eqb b 10) (line ++ 10 ∷ rest) ≡ line ∷ slice_split (λ b. eqb b 10) rest
 part_before [] rest h = slice_split-cons_yes (λ b. eqb b 10) 10 rest refl
 part_before (b ∷ line) rest h =
-    let both = and_true (printable b) (list_all printable line) h in
+    let both = and_parts (printable b) (list_all printable line) h in
     slice_split-cons_no (λ b. eqb b 10) b (line ++ 10 ∷ rest) (no_newline b both.0) ∙ rw (part_before line rest both.1) refl
 
 line_read : (line rest : List ℕ) → list_all printable line ≡ true → lines (line ++ 10 ∷ rest) ≡ line ∷ lines rest
@@ -154,7 +152,7 @@ printable_ascii b h = grind (arith, nat_tests)
 all_of : (p q : ℕ → Bool) → ((b : ℕ) → p b ≡ true → q b ≡ true) → (bytes : List ℕ) → list_all p bytes ≡ true → list_all q bytes ≡ true
 all_of p q more [] h = refl
 all_of p q more (b ∷ bytes) h =
-    let both = and_true (p b) (list_all p bytes) h in rw (more b both.0, all_of p q more bytes both.1) refl
+    let both = and_parts (p b) (list_all p bytes) h in rw (more b both.0, all_of p q more bytes both.1) refl
 
 decimal_printable : (most n : ℕ) → n ≤ most → most < 2 ^ 64 → list_all printable (decimal n) ≡ true
 decimal_printable most n small fits = all_of is_ascii_digit printable digit_printable _ (digits_decimal own n (omega arith))
@@ -166,9 +164,9 @@ digits_printable n small = decimal_printable 256 n (below_257 n small) (omega ar
 curve_printable : (curve : List ℕ) → has_points curve ≡ true → list_all printable (curve_text curve) ≡ true
 unfolding curve_text printable
 curve_printable [] h = refl
-curve_printable (n ∷ []) h = digits_printable n (and_true (ltb n 257) true h).0
+curve_printable (n ∷ []) h = digits_printable n (and_parts (ltb n 257) true h).0
 curve_printable (n ∷ m ∷ curve) h =
-    let both = and_true (ltb n 257) (has_points (m ∷ curve)) h in
+    let both = and_parts (ltb n 257) (has_points (m ∷ curve)) h in
     list_all-append printable (decimal n) (44 ∷ curve_text (m ∷ curve))
     ∙ rw (digits_printable n both.0, curve_printable (m ∷ curve) both.1) refl
 
@@ -254,7 +252,7 @@ keys_read : (p : Printer) → InRange p → (keys : List Key) (number : ℕ) (gi
 unfolding all_copied all_new
 keys_read p range [] number given new = lines_done Two number given [] refl
 keys_read p range (k ∷ keys) number given new =
-    let both = and_true (not (is_given given k)) (all_new p (copied p given k) keys) new in
+    let both = and_parts (not (is_given given k)) (all_new p (copied p given k) keys) new in
     ap (with_lines Two number given) (key_line_read p range k (flat_map (key_line p) keys))
     ∙ lines_more Two number given _ _ (key_read p range given k (not_true _ both.0))
     ∙ keys_read p range keys _ (copied p given k) both.1

@@ -18,7 +18,7 @@ use itoa::Buffer;
 const ROOM: usize = 2068;
 
 fn push_number(n: u16, out: &mut ArrayString<ROOM>)
-    requires { array_string_len out.old + 5 ≤ 2068 }
+    requires { array_string_len out.old + 5 ≤ ROOM }
     ensures bytes { out.new.bytes ≡ out.old.bytes ++ decimal n }
     ensures len { array_string_len out.new ≤ array_string_len out.old + 5 }
 {
@@ -28,7 +28,7 @@ fn push_number(n: u16, out: &mut ArrayString<ROOM>)
 
 // Appends the points with commas between.
 fn push_curve(curve: &[u16; 17], out: &mut ArrayString<ROOM>)
-    requires { array_string_len out.old + 101 ≤ 2068 }
+    requires { array_string_len out.old + 101 ≤ ROOM }
     ensures bytes { out.new.bytes ≡ out.old.bytes ++ curve_text curve.now }
     ensures len { array_string_len out.new ≤ array_string_len out.old + 101 }
 {
@@ -40,7 +40,7 @@ fn push_curve(curve: &[u16; 17], out: &mut ArrayString<ROOM>)
 }
 
 fn push_value(p: &Profile, key: Key, out: &mut ArrayString<ROOM>)
-    requires { array_string_len out.old + 101 ≤ 2068 }
+    requires { array_string_len out.old + 101 ≤ ROOM }
     ensures bytes { out.new.bytes ≡ out.old.bytes ++ (row_of key).text p.now }
     ensures len { array_string_len out.new ≤ array_string_len out.old + 101 }
 {
@@ -67,7 +67,7 @@ fn push_value(p: &Profile, key: Key, out: &mut ArrayString<ROOM>)
 }
 
 fn push_line(p: &Profile, key: Key, out: &mut ArrayString<ROOM>)
-    requires { array_string_len out.old + 114 ≤ 2068 }
+    requires { array_string_len out.old + 114 ≤ ROOM }
     ensures bytes { out.new.bytes ≡ out.old.bytes ++ key_line p.now key }
     ensures len { array_string_len out.new ≤ array_string_len out.old + 114 }
 {
@@ -92,7 +92,7 @@ impl Profile {
     /// Appends the profile's text of version 2, with every key: at most 2068 bytes. `read` gives the profile back.
     pub fn print(&self, out: &mut Vec<u8>) -> Result<(), Memory>
         ensures ok { OnOk result (out.new.items ≡ out.old.items ++ profile_text_of self.now) }
-        ensures len { length (profile_text_of self.now) ≤ 2068 }
+        ensures len { length (profile_text_of self.now) ≤ ROOM }
         ensures err { OnErr result (out.new.items ≡ out.old.items) }
         ensures full { OnErr result (vec_capacity out.old < vec_len out.old + length (profile_text_of self.now)) }
     {

@@ -1,7 +1,7 @@
 //! The status and the line of each answer.
 use arrayvec::ArrayString;
 use driver_answer::{
-    Answer, DeadFault, EmuFault, JobCause, JobStop, ProfileCause, ProfileFault, UsageCause,
+    Answer, DeadFault, EmulatorFault, JobCause, JobStop, ProfileCause, ProfileFault, UsageCause,
     UsageFault,
 };
 use pwg_definitions::{InputCause, LineFault};
@@ -89,7 +89,7 @@ const CASES: [(Answer, u8, &str); 16] = [
     (
         Answer::Job {
             offset: 65,
-            cause: JobStop::Machine(EmuFault::Overprint),
+            cause: JobStop::Machine(EmulatorFault::Overprint),
         },
         8,
         "job: offset 65: Overprint\n",

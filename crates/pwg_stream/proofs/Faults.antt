@@ -35,7 +35,7 @@ if_some : {T : Type 0} (P Q : T → Type 0) (o : Option T) → ((x : T) → P x 
 if_some P Q None f h = tt
 if_some P Q (Some x) f h = f x h
 
-same_form : (reader : LineReader) (form : PageForm) → Some (lines.form_of reader) ≡ Some form → lines.form_of reader ≡ form
+pub same_form : (reader : LineReader) (form : PageForm) → Some (lines.form_of reader) ≡ Some form → lines.form_of reader ≡ form
 same_form reader form e = cc
 
 -- the stop of a group is a fault at this line of the current page

@@ -9,7 +9,6 @@ use Rattle.std.proofs.lemmas.Bool.{lt-ltb}
 use Rattle.std.proofs.lemmas.Bool.Decides.{Decides-eqb}
 use Rattle.std.proofs.lemmas.Slice.Eq.{starts_is}
 use Rattle.pwg_definitions.specs.declared.faults.InputCause.TheVariants as cause
-use Rattle.pwg_definitions.specs.declared.pages.PageForm.{PageForm}
 use Rattle.pwg_definitions.specs.declared.pages.Wanted.{Wanted}
 use Rattle.pwg_definitions.specs.Limits.{header_length, most_pages}
 use Rattle.pwg_definitions.specs.Header.{check, header_of}
@@ -26,6 +25,7 @@ use Rattle.pwg_stream.specs.Groups.{TakesPart}
 use Rattle.pwg_stream.specs.Reading.{form_in, group_of, lines_left_in, text_of}
 use Rattle.pwg_stream.specs.Stops.{line_stop}
 use Rattle.pwg_stream.specs.Taken.{MoreMayMend, TakesAllPages, TakesFewer, TakesNoGroup, TakesNoPage}
+use Rattle.pwg_stream.proofs.Faults.{same_form}
 use Rattle.pwg_stream.proofs.Grouping.{IsFed}
 use Rattle.pwg_stream.proofs.Prefixes.{no_page}
 use Rattle.buffered_bytes.specs.Text.{text_behind}
@@ -155,9 +155,6 @@ same_error is = cc
 pub is_read : (page line : ℕ) (why : GroupStop) → line_stop page line why ≡ stop.Read → why ≡ fault.Read
 is_read page line fault.Read is = refl
 is_read page line (fault.Input why) is = absurd (let never : stop.Input page line why ≡ stop.Read = is in cc)
-
-same_form : (reader : LineReader) (form : PageForm) → Some (lines.form_of reader) ≡ Some form → lines.form_of reader ≡ form
-same_form reader form e = cc
 
 -- a part of a group is one of the current page
 pub takes_no_group : (reader : PageReader) (now : LineReader) (before left : Option (List ℕ)) → reader.lines ≡ Some now

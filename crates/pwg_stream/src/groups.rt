@@ -36,7 +36,8 @@ pub fn read_group<S: Source>(
     ensures input { OnNoGroup result (λ why. IfSome (text_behind unread.old (S.left s.old)) (λ text.
         IsNoGroup (next_group lines.old text) why ⊎ IsBadGroup (next_group lines.old text) why)) }
     ensures read { IsErrOf result stop.Read → Rose (S.faults s.old) (S.faults s.new) }
-    ensures part { IsErrOf result stop.Read → TakesPart lines.old (text_behind unread.old (S.left s.old)) (S.left s.new) }
+    ensures part { IsErrOf result stop.Read
+        → TakesPart lines.old (text_behind unread.old (S.left s.old)) (S.left s.new) }
     ensures used { UsesSome (text_behind unread.old (S.left s.old)) (text_behind unread.new (S.left s.new)) }
     ensures later { S.faults s.old ≤ S.faults s.new }
 {
@@ -51,12 +52,9 @@ pub fn read_group<S: Source>(
             Fill::More => {}
         }
         match unread.more(s) {
+            Ok(0) => return Err(GroupStop::Input(InputCause::Truncated)),
+            Ok(_) => {}
             Err(_) => return Err(GroupStop::Read),
-            Ok(count) => {
-                if count == 0 {
-                    return Err(GroupStop::Input(InputCause::Truncated));
-                }
-            }
         }
     }
     unreachable!()

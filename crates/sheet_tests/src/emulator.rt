@@ -1,6 +1,6 @@
 //! Commands on the small printer, with refusals and sheets worked by hand.
 use crate::machine::{Case, at_start, each, eject};
-use dot_emulator::{Command, EmuFault, Emulator, RasterHead};
+use dot_emulator::{Command, Emulator, EmulatorFault, RasterHead};
 use known_jobs::TINY_COMMANDS;
 use printer_definitions::Ink;
 use std::alloc::Global;
@@ -39,7 +39,7 @@ fn a_raster_fired_twice_is_overprint(rt: HostRuntime) {
     const CASES: [Case; 3] = [
         (FIRE, LAST_ROW, None),
         (Command::Return, &[], None),
-        (FIRE, LAST_ROW, Some(EmuFault::Overprint)),
+        (FIRE, LAST_ROW, Some(EmulatorFault::Overprint)),
     ];
     each(&rt, &mut on_page(&rt, rt.alloc()), &CASES);
 }
@@ -117,38 +117,50 @@ const OTHER: RasterHead = RasterHead { h: 11, ..TWO_ROWS };
 #[test]
 fn what_is_missing_is_refused_first(rt: HostRuntime) {
     const CASES: [Case; 17] = [
-        (FIRE, BLANK, Some(EmuFault::NotGraphics)),
+        (FIRE, BLANK, Some(EmulatorFault::NotGraphics)),
         (Command::Graphics, &[], None),
-        (FIRE, BLANK, Some(EmuFault::NoUnit)),
-        (Command::Length { n: 1 }, &[], Some(EmuFault::NoUnit)),
+        (FIRE, BLANK, Some(EmulatorFault::NoUnit)),
+        (Command::Length { n: 1 }, &[], Some(EmulatorFault::NoUnit)),
         (
             Command::Margins { top: 0, bottom: 1 },
             &[],
-            Some(EmuFault::NoUnit),
+            Some(EmulatorFault::NoUnit),
         ),
-        (Command::DownTo { n: 0 }, &[], Some(EmuFault::NoUnit)),
-        (Command::DownBy { n: 0 }, &[], Some(EmuFault::NoUnit)),
-        (Command::Across { n: 0 }, &[], Some(EmuFault::NoUnit)),
-        (Command::Eject, &[], Some(EmuFault::NoMargins)),
+        (Command::DownTo { n: 0 }, &[], Some(EmulatorFault::NoUnit)),
+        (Command::DownBy { n: 0 }, &[], Some(EmulatorFault::NoUnit)),
+        (Command::Across { n: 0 }, &[], Some(EmulatorFault::NoUnit)),
+        (Command::Eject, &[], Some(EmulatorFault::NoMargins)),
         (Command::Unit { m: 5 }, &[], None),
-        (Command::Length { n: 32_767 }, &[], Some(EmuFault::OffSheet)),
+        (
+            Command::Length { n: 32_767 },
+            &[],
+            Some(EmulatorFault::OffSheet),
+        ),
         (
             Command::Margins { top: 0, bottom: 1 },
             &[],
-            Some(EmuFault::NoMargins),
+            Some(EmulatorFault::NoMargins),
         ),
         (Command::Length { n: 12 }, &[], None),
         (
             Command::Margins { top: 0, bottom: 13 },
             &[],
-            Some(EmuFault::OffSheet),
+            Some(EmulatorFault::OffSheet),
         ),
-        (Command::DownTo { n: 99 }, &[], Some(EmuFault::NoMargins)),
-        (Command::DownBy { n: 99 }, &[], Some(EmuFault::NoMargins)),
+        (
+            Command::DownTo { n: 99 },
+            &[],
+            Some(EmulatorFault::NoMargins),
+        ),
+        (
+            Command::DownBy { n: 99 },
+            &[],
+            Some(EmulatorFault::NoMargins),
+        ),
         (
             Command::Raster { head: OTHER },
             &[0, 0],
-            Some(EmuFault::NoMargins),
+            Some(EmulatorFault::NoMargins),
         ),
     ];
     each(&rt, &mut at_start(&rt, rt.alloc()), &CASES);
@@ -166,21 +178,21 @@ fn the_numbers_of_a_raster_are_refused_in_their_order(rt: HostRuntime) {
         (
             Command::Raster { head: OTHER },
             &[0, 0],
-            Some(EmuFault::Density),
+            Some(EmulatorFault::Density),
         ),
         (
             Command::Raster { head: WIDER },
             &[0, 0],
-            Some(EmuFault::Density),
+            Some(EmulatorFault::Density),
         ),
         (
             Command::Raster { head: TWO_ROWS },
             &[0, 0],
-            Some(EmuFault::Rows),
+            Some(EmulatorFault::Rows),
         ),
-        (WIDEST, LONG, Some(EmuFault::OffGrid)),
+        (WIDEST, LONG, Some(EmulatorFault::OffGrid)),
         (Command::Across { n: 2 }, &[], None),
-        (WIDEST, LONG, Some(EmuFault::OffSheet)),
+        (WIDEST, LONG, Some(EmulatorFault::OffSheet)),
         (Command::Return, &[], None),
         (WIDEST, LONG, None),
         (Command::Return, &[], None),
@@ -191,7 +203,7 @@ fn the_numbers_of_a_raster_are_refused_in_their_order(rt: HostRuntime) {
     each(
         &rt,
         &mut emulator,
-        &[(FIRE, BLANK, Some(EmuFault::OffGrid))],
+        &[(FIRE, BLANK, Some(EmulatorFault::OffGrid))],
     );
 }
 
@@ -199,20 +211,28 @@ fn the_numbers_of_a_raster_are_refused_in_their_order(rt: HostRuntime) {
 fn a_sheet_with_dots_goes_on_downwards(rt: HostRuntime) {
     const CASES: [Case; 12] = [
         (FIRE, &[0x00, 0x80, 0x00], None),
-        (Command::Init, &[], Some(EmuFault::Backward)),
-        (Command::Length { n: 32_767 }, &[], Some(EmuFault::Backward)),
+        (Command::Init, &[], Some(EmulatorFault::Backward)),
+        (
+            Command::Length { n: 32_767 },
+            &[],
+            Some(EmulatorFault::Backward),
+        ),
         (
             Command::Margins { top: 0, bottom: 13 },
             &[],
-            Some(EmuFault::Backward),
+            Some(EmulatorFault::Backward),
         ),
         (Command::DownTo { n: 4 }, &[], None),
-        (Command::DownTo { n: 3 }, &[], Some(EmuFault::Backward)),
-        (Command::DownTo { n: 13 }, &[], Some(EmuFault::OffSheet)),
-        (Command::DownBy { n: 9 }, &[], Some(EmuFault::OffSheet)),
+        (Command::DownTo { n: 3 }, &[], Some(EmulatorFault::Backward)),
+        (
+            Command::DownTo { n: 13 },
+            &[],
+            Some(EmulatorFault::OffSheet),
+        ),
+        (Command::DownBy { n: 9 }, &[], Some(EmulatorFault::OffSheet)),
         (Command::Return, &[], None),
-        (FIRE, &[0x80, 0x00, 0x80], Some(EmuFault::OffSheet)),
-        (FIRE, &[0x80, 0x00, 0x00], Some(EmuFault::Overprint)),
+        (FIRE, &[0x80, 0x00, 0x80], Some(EmulatorFault::OffSheet)),
+        (FIRE, &[0x80, 0x00, 0x00], Some(EmulatorFault::Overprint)),
         (FIRE, &[0x40, 0x80, 0x00], None),
     ];
     each(&rt, &mut on_page(&rt, rt.alloc()), &CASES);

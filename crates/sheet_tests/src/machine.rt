@@ -3,7 +3,7 @@ ghost use Rattle.escp2_definitions.specs.Commands.{rows_len as rows_len_of};
 ghost use Rattle.std.specs.Prelude.{◌≡◌};
 
 use crate::checks::same;
-use dot_emulator::{Command, EmuFault, EmuStop, Emulator, Sheet};
+use dot_emulator::{Command, Emulator, EmulatorFault, EmulatorStop, Sheet};
 use escp2_commands::in_table;
 use printer_profile::TINY;
 use std::alloc::Global;
@@ -26,20 +26,20 @@ pub(crate) fn run(
     emulator: &mut Emulator,
     command: Command,
     rows: &[u8],
-) -> Result<Option<Sheet>, EmuStop> {
+) -> Result<Option<Sheet>, EmulatorStop> {
     assert!(rt; in_table(&command));
     assert_eq!(rt; rows.len(), rows_len(command));
     emulator.run(&command, rows)
 }
 
 /// A command, its rows, and why it is refused, if it is.
-pub(crate) type Case = (Command, &'static [u8], Option<EmuFault>);
+pub(crate) type Case = (Command, &'static [u8], Option<EmulatorFault>);
 
 /// Runs commands in turn, each with the answer that is wanted.
 pub(crate) fn each(rt: &impl Abort, emulator: &mut Emulator, cases: &[Case]) {
     for (command, rows, fault) in cases {
         let stop = run(rt, emulator, *command, rows).err();
-        assert!(rt; stop == fault.map(EmuStop::Refused), "at {command:?}");
+        assert!(rt; stop == fault.map(EmulatorStop::Refused), "at {command:?}");
     }
 }
 

@@ -1,6 +1,6 @@
 //! A job's sheet, and where a job stops.
 use crate::checks::same;
-use escp2_definitions::EmuFault;
+use escp2_definitions::EmulatorFault;
 use job_player::{JobStop, PlayStop, play_job};
 use known_jobs::{TINY_IMAGES, TINY_JOB};
 use printer_profile::TINY;
@@ -136,7 +136,7 @@ fn a_refused_command_comes_before_a_failed_read(rt: HostRuntime) -> Result<(), F
     job.extend_from_slice(&TINY_JOB[50..64])?;
     let refused = Err(PlayStop::Job {
         offset: 65,
-        cause: JobStop::Machine(EmuFault::Overprint),
+        cause: JobStop::Machine(EmulatorFault::Overprint),
     });
     plays_until(&rt, rt.alloc(), (job.as_slice(), 79), (READ, b""))?;
     plays_until(&rt, rt.alloc(), (job.as_slice(), 80), (refused, b""))

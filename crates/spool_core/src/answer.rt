@@ -5,9 +5,7 @@ ghost use Rattle.std.specs.Prelude.{[], codes, length, ◌+◌, ◌++◌, ◌≡
 ghost use Rattle.spool_core.specs.Answers.{file_name as file_name_of, usage_name as usage_name_of};
 
 use crate::files::FileCause;
-use arrayvec::ArrayString;
-use driver_answer::{Answer, ProfileCause};
-use itoa::Buffer;
+use driver_answer::{Answer, ErrorLine, ProfileCause, push_number};
 use spool_words::{SpoolCause, SpoolFault};
 
 /// How a run of the spool ended. Senders, their jobs and the pages of a job are counted from 1.
@@ -44,16 +42,6 @@ pub enum SpoolAnswer {
     },
 }
 
-/// Appends a number in decimal.
-pub fn push_number(n: u32, out: &mut ArrayString<160>)
-    requires { array_string_len out.old + 10 ≤ 160 }
-    ensures bytes { out.new.bytes ≡ out.old.bytes ++ decimal n }
-    ensures len { array_string_len out.new ≤ array_string_len out.old + 10 }
-{
-    let mut buffer = Buffer::new();
-    out.push_str(buffer.format(n));
-}
-
 fn usage_name(cause: SpoolCause) -> &'static str
     ensures name { result.now ≡ usage_name_of cause }
     ensures len { length result.now ≤ 16 }
@@ -77,7 +65,7 @@ fn file_name(cause: FileCause) -> &'static str
     }
 }
 
-fn push_usage(fault: SpoolFault, out: &mut ArrayString<160>)
+fn push_usage(fault: SpoolFault, out: &mut ErrorLine)
     requires { array_string_len out.old ≡ 0 }
     ensures { out.new.bytes ≡ out.old.bytes
         ++ (codes "usage: word " ++ decimal fault.word ++ codes ": " ++ usage_name_of fault.cause ++ codes "\n") }
@@ -89,7 +77,7 @@ fn push_usage(fault: SpoolFault, out: &mut ArrayString<160>)
     out.push_str("\n");
 }
 
-fn push_file(sender: u8, job: u32, cause: FileCause, out: &mut ArrayString<160>)
+fn push_file(sender: u8, job: u32, cause: FileCause, out: &mut ErrorLine)
     requires { array_string_len out.old ≡ 0 }
     ensures { out.new.bytes ≡ out.old.bytes ++ (codes "file: sender " ++ decimal sender ++ codes " job "
         ++ decimal job ++ codes ": " ++ file_name_of cause ++ codes "\n") }
@@ -103,7 +91,7 @@ fn push_file(sender: u8, job: u32, cause: FileCause, out: &mut ArrayString<160>)
     out.push_str("\n");
 }
 
-fn push_write(sender: u8, job: u32, page: u32, out: &mut ArrayString<160>)
+fn push_write(sender: u8, job: u32, page: u32, out: &mut ErrorLine)
     requires { array_string_len out.old ≡ 0 }
     ensures { out.new.bytes ≡ out.old.bytes ++ (codes "write failed: sender " ++ decimal sender ++ codes " job "
         ++ decimal job ++ codes " page " ++ decimal page ++ codes "\n") }
@@ -117,7 +105,7 @@ fn push_write(sender: u8, job: u32, page: u32, out: &mut ArrayString<160>)
     out.push_str("\n");
 }
 
-fn push_failed(count: u32, out: &mut ArrayString<160>)
+fn push_failed(count: u32, out: &mut ErrorLine)
     requires { array_string_len out.old ≡ 0 }
     ensures { out.new.bytes ≡ out.old.bytes ++ (codes "jobs failed: " ++ decimal count ++ codes "\n") }
 {
@@ -146,7 +134,7 @@ impl SpoolAnswer {
     }
 
     /// Writes the answer's line, with its line end, into an empty text; nothing for `Done`.
-    pub fn text(&self, out: &mut ArrayString<160>)
+    pub fn text(&self, out: &mut ErrorLine)
         requires { out.old.bytes ≡ [] }
         ensures { out.new.bytes ≡ spool_line self.now }
     {
@@ -155,9 +143,9 @@ impl SpoolAnswer {
             SpoolAnswer::Usage(fault) => push_usage(fault, out),
             SpoolAnswer::Profile { line, cause } => Answer::Profile { line, cause }.text(out),
             SpoolAnswer::File { sender, job, cause } => push_file(sender, job, cause, out),
-            SpoolAnswer::Read => out.push_str("read failed\n"),
+            SpoolAnswer::Read => Answer::Read.text(out),
             SpoolAnswer::Write { sender, job, page } => push_write(sender, job, page, out),
-            SpoolAnswer::Memory => out.push_str("out of memory\n"),
+            SpoolAnswer::Memory => Answer::Memory.text(out),
             SpoolAnswer::Failed { count } => push_failed(count, out),
         }
     }

@@ -34,4 +34,5 @@ pub use answer::SpoolAnswer;
 pub use files::{FileCause, MOST_FILE, MOST_FILES};
 pub use report::{Ran, SpoolReport, tell};
 pub use running::run_spool;
+pub use senders::{Work, send_all, submit_all};
 pub use spool_words::{SpoolCause, SpoolFault};

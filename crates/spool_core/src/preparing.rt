@@ -27,7 +27,7 @@ pub struct PreparedSpool {
     pub lists: Vec<Vec<StreamBytes>>,
 }
 
-// How a request asks to print: in interleaved passes, with no cap. Words of other commands have their defaults.
+// How a request asks to print: in interleaved passes, with no cap. No other word is looked at.
 fn job_of(request: &SpoolRequest) -> Job
     ensures kernel { result.kernel ≡ request.now.kernel }
     ensures workers { result.workers ≡ request.now.workers }

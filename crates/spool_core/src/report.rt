@@ -6,8 +6,9 @@ ghost use Rattle.std.specs.Prelude.{[], OnErr, OnOk, ◌≡◌, ◌≤◌};
 ghost use Rattle.weave_base.specs.Causes.{Rose};
 ghost use Rattle.weave_base.specs.Parts.{AppendsPart};
 
-use crate::answer::{SpoolAnswer, push_number};
+use crate::answer::SpoolAnswer;
 use arrayvec::ArrayString;
+use driver_answer::{ErrorLine, push_number};
 use weave_base::{Failed, Sink, put_all};
 
 /// A job that ran: its sender and its number, both counted from 1, how many of its pages were written whole, and the
@@ -28,7 +29,7 @@ pub struct SpoolReport {
 }
 
 // Writes the line of a job that ran into an empty text.
-fn push_ran(ran: &Ran, out: &mut ArrayString<160>)
+fn push_ran(ran: &Ran, out: &mut ErrorLine)
     requires { out.old.bytes ≡ [] }
     ensures { out.new.bytes ≡ report_line ran.now }
 {

@@ -37,8 +37,8 @@ pub fn assign(
     works
 }
 
-// Submits all streams, in order.
-fn submit_all<R: Wait>(rt: &R, spool: &Spool, work: Work) -> SendPass
+/// Submits all streams, in order.
+pub fn submit_all<R: Wait>(rt: &R, spool: &Spool, work: Work) -> SendPass
     requires { CanSend spool.now work.pass work.streams.items }
     ensures { HasSent spool.now result (sender_of work.pass) work.streams.items }
 {
@@ -50,7 +50,7 @@ fn submit_all<R: Wait>(rt: &R, spool: &Spool, work: Work) -> SendPass
 }
 
 /// Each sender submits all its streams, in a thread of its own where one can be started, and else in the caller's. It
-/// returns when all have. No sender waits where the queue has room for all jobs.
+/// returns when all have.
 #[cycle(senders)]
 pub fn send_all<R: Threads + Wait + Sync>(
     rt: &R,

@@ -118,6 +118,7 @@ fn drain<R: Wait>(
     requires room { (rest.items ≡ []) × (ruled_capacity queue.now ≤ vec_capacity rest) }
     ensures { AreSent (sent_by (view pass.old).ended) ((view pass.old).taken ++ result.items) }
 {
+    // Asked for what it teaches: all that was sent and not taken is in the queue, which has room for it.
     let _count = queue.len_as::<Drains, R>(rt, pass);
     for _ in rt.forever() {
         match queue.pop_as::<Drains, R>(rt, pass) {

@@ -29,14 +29,6 @@ impl StreamBytes {
     {
         self.bytes.as_slice()
     }
-
-    /// The bytes, handed on.
-    pub fn into_bytes(self) -> Vec<u8>
-        ensures { result.items ≡ self }
-    {
-        let StreamBytes { bytes } = self;
-        bytes
-    }
 }
 
 /// A stream to be printed, with who sent it.

@@ -1,6 +1,6 @@
 -- The names of one sender.
 use Rattle.std.proofs.Common.{◌≡◌, ℕ, zero, suc, ◌+◌, ◌-◌, ◌<◌, ◌≤◌, true, List, [], ◌∷◌, length, take, get_or, Option, Some, None, Ok}
-use Rattle.std.proofs.Common.{slice_get, unwrap_or, ap, sym, ◌∙◌, arith}
+use Rattle.std.proofs.Common.{IsSome, slice_get, ap, sym, refl, ◌∙◌, arith}
 use Rattle.std.specs.List.{AllByRecursion, count_by, filter}
 use Rattle.std.specs.Option.{option_map}
 use Rattle.std.proofs.lemmas.Option.{get_or_from_slice_get, slice_get-get_or, slice_get-map}
@@ -57,9 +57,12 @@ has_sender words request sender means within =
     let is : sender_count words ≡ request.senders = ap (λ (r : SpoolRequest). r.senders) (words_accepted words request means).request_is in
     omega (arith, is)
 
--- the name at a place, from what `nth` gave
-pub name_here : (names : List (List ℕ)) (k : ℕ) (found : Option (Bor (List ℕ))) (result default : Bor (List ℕ))
-    → k < length names → option_map (λ text. text.now) found ≡ slice_get names k → result ≡ unwrap_or found default
-    → slice_get names k ≡ Some (result.now)
-name_here names k None result default within is given = absurd (let some = slice_get-get_or names k [] within in cc)
-name_here names k (Some text) result default within is given = sym is ∙ ap (λ (b : Bor (List ℕ)). Some b.now) (sym given)
+-- `nth` gives the name at a place
+pub name_found : (names : List (List ℕ)) (k : ℕ) (found : Option (Bor (List ℕ)))
+    → k < length names → option_map (λ text. text.now) found ≡ slice_get names k → IsSome found
+name_found names k None within is = absurd (let some = slice_get-get_or names k [] within in cc)
+name_found names k (Some text) within is = refl
+
+pub name_here : (names : List (List ℕ)) (k : ℕ) (found : Option (Bor (List ℕ))) (result : Bor (List ℕ))
+    → option_map (λ text. text.now) found ≡ slice_get names k → found ≡ Some result → slice_get names k ≡ Some (result.now)
+name_here names k found result is given = sym is ∙ ap (option_map (λ (b : Bor (List ℕ)). b.now)) given

@@ -34,6 +34,7 @@ impl KeyName {
         }
     }
 
+    /// The key as a word writes it.
     pub fn name(self) -> &'static str
         ensures { result.now ≡ (key_row self).row.name }
     {

@@ -28,8 +28,7 @@ fn sent_by(words: &Words, sender: u8) -> &str
             }
         }
     }
-    // Not reached, since there are as many senders.
-    ""
+    unreachable!()
 }
 
 /// How many names a sender has, 1 to 64. Senders are counted from 1, in the order of their words. The request must be
@@ -60,5 +59,5 @@ pub fn name<'a>(words: &'a Words, request: &SpoolRequest, sender: u8, number: u3
     sent_by(words, sender)
         .split(',')
         .nth(number as usize - 1)
-        .unwrap_or("")
+        .unwrap()
 }

@@ -35,10 +35,19 @@ IsWithin most (found.Text text) = vec_len text ≤ most
 IsWithin most found.Absent = Unit {0}
 IsWithin most found.TooLong = Unit {0}
 
--- whether a name may be that of a file of a folder: it is not empty, neither `.` nor `..`, and has no `/` (47)
+-- a full stop
+abbrev pub dot : ℕ
+dot = 46
+
+-- a slash
+abbrev pub slash : ℕ
+slash = 47
+
+-- whether a name may be that of a file of a folder: it is not empty, neither `.` nor `..`, and has no `/`
 abbrev pub is_file_name : List ℕ → Bool
 is_file_name name =
-    not (length name == 0) && (not (bytes_eq name (46 ∷ [])) && (not (bytes_eq name (46 ∷ 46 ∷ [])) && not (list_any (λ b. b == 47) name)))
+    not (length name == 0) && (not (bytes_eq name (dot ∷ []))
+    && (not (bytes_eq name (dot ∷ dot ∷ [])) && not (list_any (λ b. b == slash) name)))
 
 -- whether the shelf failed
 abbrev pub is_failed : {T : Type 0} → Result T ShelfStop → Bool

@@ -1,5 +1,5 @@
 //! The files of the current folder as a shelf, which does not say what it holds.
-ghost use Rattle.std.specs.Prelude.{IfOk, IsTrue, vec_len, ◌≡◌, ◌≤◌};
+ghost use Rattle.std.specs.Prelude.{IfOk, ◌≡◌};
 ghost use Rattle.weave_base.specs.Shelf.{IsWithin, is_file_name};
 
 use crate::{Found, Shelf, ShelfStop};
@@ -45,8 +45,8 @@ impl<R: Files> Shelf for DirShelf<R> {
 
     ghost faults = { λ s. s };
 
-    /// A name that is empty, `.` or `..` or has a `/` is absent. Any error of std is a fault, but a file that is not found
-    /// is absent, and `OutOfMemory` is `Memory`.
+    /// A name that is empty, `.` or `..` or has a `/` is absent. Any error of std is a fault, but a file that is not
+    /// found is absent, and `OutOfMemory` is `Memory`.
     fn read_text(&mut self, alloc: Global, name: &str, most: usize) -> Result<Found, ShelfStop>
         ensures within { IfOk result (IsWithin most) }
         ensures found { IfOk result (Finds None name.now most) }

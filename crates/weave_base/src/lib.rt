@@ -13,9 +13,9 @@
 //!   they call std again, at most `MOST_INTERRUPTIONS` times in one call, and count only one more. No clause says how
 //!   often std is called, and tests show it.
 //! - `DirShelf` is the current folder, and does not say what it holds. Its contract says that a text is at most as long
-//!   as is asked for, and that exactly each `Failed` is counted. Tests show the rest: a name that is empty, `.`, `..`
-//!   or has a `/` is absent, so is a file that is not there, and a folder in the place of a file is `Failed`. A read of
-//!   at most `most` bytes takes at most `most` + 1 from the file.
+//!   as is asked for, that a name that is empty, `.`, `..` or has a `/` is absent, and that exactly each `Failed` is
+//!   counted. Tests show the rest: a file that is not there is absent, and a folder in the place of a file is `Failed`.
+//!   A read of at most `most` bytes takes at most `most` + 1 from the file.
 //!
 //! No clause says when memory runs out. A call that takes an allocator may answer `Memory`, and so may `Words::push`;
 //! its clauses say what then holds, and a test shows that it can succeed.

@@ -1,8 +1,8 @@
 //! Where bytes go.
 ghost use Rattle.std.specs.Io.{WritesAtMost};
 ghost use Rattle.std.specs.Io.KnownBytes.{Appends, WriteAppends};
-ghost use Rattle.std.specs.Prelude.{IfOk, List, OnErr, OnOk, Option, length, ℕ, ◌+◌, ◌<◌, ◌≤◌};
-ghost use Rattle.weave_base.specs.Causes.{HasCause, Rose};
+ghost use Rattle.std.specs.Prelude.{IfOk, List, OnErr, OnOk, Option, length, ℕ, ◌+◌, ◌<◌};
+ghost use Rattle.weave_base.specs.Causes.{HasCause};
 ghost use Rattle.weave_base.specs.Parts.{AppendsPart};
 
 use crate::Failed;

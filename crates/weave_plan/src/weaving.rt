@@ -86,7 +86,7 @@ impl Plan {
         }
     }
 
-    /// The pass and the nozzle that fire a row of the window, which no other pass and nozzle fire; in constant time.
+    /// The pass and the nozzle that fire a row of the window, which no other pass and nozzle fire.
     pub fn place_of(&self, row: u32) -> PassPlace
         requires { row < self.now.height }
         ensures pass { result.pass < pass_count self.now.nozzles self.now.pitch self.now.height }

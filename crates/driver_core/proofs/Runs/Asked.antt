@@ -36,7 +36,7 @@ pub data Asked (words : List (List ℕ)) (command : Verb) (job : Job) (r : Resul
 no_profile : (words : List (List ℕ)) (command : Verb)
     (job : Job) (r : Result Printer Refusal) (o : Outsides) (a : Answer) → AsksFor words o.shelf.told command job r
     → NoProfile (profile_named words) job o a → Asked words command job r o a
-no_profile words command job r o a asks none = by_stop none.why none.stopped none.answered
+no_profile words command job r o a asks none = by_stop none.lacks.why none.lacks.stopped none.lacks.answered
   where
     by_stop : (why : ProfileStop)
         → ProfileStopped job (profile_named words) o.shelf why → a ≡ profile_answer why → Asked words command job r o a

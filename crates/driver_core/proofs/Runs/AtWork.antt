@@ -80,7 +80,7 @@ of_shelf words command job o a s other never outcome is means command_is four =
     by_case : ListsJob job o a ⊎ (NoProfile (profile_named words) job o a ⊎ WithProfile (profile_named words) job o a)
         → HasFailed o.shelf × (built_in (profile_named words) ≡ None)
     by_case (inl lists) = absurd (other (sym command_is ∙ lists.command_is))
-    by_case (inr (inl none)) = by_stop none.why none.stopped (is ∙ ap status_of none.answered)
+    by_case (inr (inl none)) = by_stop none.lacks.why none.lacks.stopped (is ∙ ap status_of none.lacks.answered)
     by_case (inr (inr has)) =
         let V : Verb → Type 0 = λ v. VerbOutcome v job has.p o (metered job o.meters) a in
         absurd (never has.p (subst V command_is has.outcome) four)

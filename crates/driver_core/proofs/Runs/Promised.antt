@@ -95,7 +95,7 @@ usage_status words o a s outcome is one = by_meaning (job_meaning words) outcome
     by_meaning : (r : Result Job UsageFault) → LineOutcome r (profile_named words) o a → IsErr r
     by_meaning (Err fault) did = refl
     by_meaning (Ok job) (inl lists) = absurd (list_refuses_none job o a s lists is (inl one))
-    by_meaning (Ok job) (inr (inl none)) = absurd (by_stop none.why (is ∙ ap status_of none.answered))
+    by_meaning (Ok job) (inr (inl none)) = absurd (by_stop none.lacks.why (is ∙ ap status_of none.lacks.answered))
     by_meaning (Ok job) (inr (inr has)) =
         absurd (verb_refuses_none job.verb job has.p o (metered job o.meters) a s has.outcome is (inl one))
 
@@ -129,7 +129,7 @@ profile_status words o err a s outcome told is two = by_meaning (job_meaning wor
         × IsProfileOf job o.shelf.told (profile_named words) (Err (refused_at line cause)) × Tells err (answer.Profile line cause)
     by_meaning (Err fault) means did = absurd (let one : s ≡ 1 = is ∙ ap status_of did.0 in omega arith)
     by_meaning (Ok job) means (inl lists) = absurd (list_refuses_none job o a s lists is (inr (inl two)))
-    by_meaning (Ok job) means (inr (inl none)) = by_stop job means none.why none.stopped none.answered
+    by_meaning (Ok job) means (inr (inl none)) = by_stop job means none.lacks.why none.lacks.stopped none.lacks.answered
     by_meaning (Ok job) means (inr (inr has)) =
         absurd (verb_refuses_none job.verb job has.p o (metered job o.meters) a s has.outcome is (inr two))
 
@@ -183,7 +183,7 @@ read_status words o a s outcome is four = by_meaning (job_meaning words) outcome
         → HasRisen o.input ⊎ (HasFailed o.shelf × (built_in (profile_named words) ≡ None))
     by_meaning (Err fault) did = absurd (let one : s ≡ 1 = is ∙ ap status_of did.0 in omega arith)
     by_meaning (Ok job) (inl lists) = inl (list_read job.most o.input o.out s a lists.lists is four).0
-    by_meaning (Ok job) (inr (inl none)) = inr (by_stop job none.why none.stopped (is ∙ ap status_of none.answered))
+    by_meaning (Ok job) (inr (inl none)) = inr (by_stop job none.lacks.why none.lacks.stopped (is ∙ ap status_of none.lacks.answered))
     by_meaning (Ok job) (inr (inr has)) = inl (by_verb job.verb job has.p (metered job o.meters) has.outcome)
 
 write_status : (words : List (List ℕ)) (o : Outsides) (a : Answer) (s : ℕ) → Outcome words o a → s ≡ status_of a → s ≡ 5 → HasRisen o.out
@@ -204,7 +204,7 @@ write_status words o a s outcome is five = by_meaning (job_meaning words) outcom
     by_meaning : (r : Result Job UsageFault) → LineOutcome r (profile_named words) o a → HasRisen o.out
     by_meaning (Err fault) did = absurd (let one : s ≡ 1 = is ∙ ap status_of did.0 in omega arith)
     by_meaning (Ok job) (inl lists) = (list_part job.most o.input o.out s a lists.lists is five).1
-    by_meaning (Ok job) (inr (inl none)) = absurd (by_stop none.why (is ∙ ap status_of none.answered))
+    by_meaning (Ok job) (inr (inl none)) = absurd (by_stop none.lacks.why (is ∙ ap status_of none.lacks.answered))
     by_meaning (Ok job) (inr (inr has)) = by_verb job.verb job has.p (metered job o.meters) has.outcome
 
 -- 3 is the status of printing, and of trying
@@ -236,7 +236,7 @@ of_print_status words o a s outcome is three = by_meaning (job_meaning words) re
         → (job : Job) × (job_meaning words ≡ Ok job) × ((job.verb ≡ verb.Print) ⊎ (job.verb ≡ verb.Trial))
     by_meaning (Err fault) means did = absurd (let one : s ≡ 1 = is ∙ ap status_of did.0 in omega arith)
     by_meaning (Ok job) means (inl lists) = absurd (list_refuses_none job o a s lists is (inr (inr (inl three))))
-    by_meaning (Ok job) means (inr (inl none)) = absurd (by_stop none.why (is ∙ ap status_of none.answered))
+    by_meaning (Ok job) means (inr (inl none)) = absurd (by_stop none.lacks.why (is ∙ ap status_of none.lacks.answered))
     by_meaning (Ok job) means (inr (inr has)) = (job, means, by_verb job has.p job.verb refl has.outcome)
 
 -- 8 is the status of the commands that look at a job
@@ -273,7 +273,7 @@ of_job_status words o a s outcome is eight = by_meaning (job_meaning words) refl
         → (job : Job) × (job_meaning words ≡ Ok job) × ((job.verb ≡ verb.List) ⊎ (job.verb ≡ verb.Dots))
     by_meaning (Err fault) means did = absurd (let one : s ≡ 1 = is ∙ ap status_of did.0 in omega arith)
     by_meaning (Ok job) means (inl lists) = (job, means, inl lists.command_is)
-    by_meaning (Ok job) means (inr (inl none)) = absurd (by_stop none.why (is ∙ ap status_of none.answered))
+    by_meaning (Ok job) means (inr (inl none)) = absurd (by_stop none.lacks.why (is ∙ ap status_of none.lacks.answered))
     by_meaning (Ok job) means (inr (inr has)) = (job, means, by_verb job has.p job.verb refl has.outcome)
 
 -- ---- the line
@@ -354,7 +354,7 @@ over_status words o err a s outcome told is six = by_meaning (job_meaning words)
     by_meaning : (r : Result Job UsageFault) → job_meaning words ≡ r → LineOutcome r (profile_named words) o a → WentOver words o err
     by_meaning (Err fault) means did = absurd (let one : s ≡ 1 = is ∙ ap status_of did.0 in omega arith)
     by_meaning (Ok job) means (inl lists) = absurd (list_refuses_none job o a s lists is (inr (inr (inr six))))
-    by_meaning (Ok job) means (inr (inl none)) = absurd (by_stop none.why (is ∙ ap status_of none.answered))
+    by_meaning (Ok job) means (inr (inl none)) = absurd (by_stop none.lacks.why (is ∙ ap status_of none.lacks.answered))
     by_meaning (Ok job) means (inr (inr has)) = by_verb job has.p means has.is job.verb refl has.outcome
 
 -- ---- meters that count nothing

@@ -81,9 +81,7 @@ pub lacking : (words : List (List ℕ)) (job : Job) (o : Outsides) (a : Answer) 
 lacking words job o a means lacks unread unwritten is other =
     let L : Result Job UsageFault → Type 0 = λ r. LineOutcome r (profile_named words) o a in
     subst L means (inr (inl (record {
-      why = lacks.why;
-      stopped = lacks.stopped;
-      answered = lacks.answered;
+      lacks = lacks;
       untouched = (unread, unwritten);
       uncounted = is;
       needed = other;

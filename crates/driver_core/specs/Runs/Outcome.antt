@@ -60,9 +60,7 @@ pub record LacksProfile (job : Job) (name : List ℕ) (shelf : Texts) (a : Answe
 
 -- There is no profile, and this is the answer.
 pub record NoProfile (name : List ℕ) (job : Job) (o : Outsides) (a : Answer) : Type 0 where
-  pub why : ProfileStop
-  pub stopped : ProfileStopped job name o.shelf why
-  pub answered : a ≡ profile_answer why
+  pub lacks : LacksProfile job name o.shelf a
   pub untouched : Untouched o
   pub uncounted : o.meters.now ≡ (metered job o.meters).before
   pub needed : job.verb ≡ verb.List → ⊥

@@ -22,8 +22,8 @@ use Rattle.driver_core.specs.Trying.Outcome.{TrialOutcome}
 use Rattle.job_words.specs.Jobs.{IsWithinBounds}
 use Rattle.page_definitions.specs.Ways.{CanGo}
 
--- The words ask for this command, and this is its profile, by the texts that the shelf tells of; it passes its checks.
-pub record AsksFor (words : List (List ℕ)) (told : Option (List NamedText)) (command : Verb) (job : Job) (p : Printer) : Type 0 where
+-- The words ask for this command with a profile that passes its checks.
+pub record AsksWithProfile (words : List (List ℕ)) (told : Option (List NamedText)) (command : Verb) (job : Job) (p : Printer) : Type 0 where
   pub means : job_meaning words ≡ Ok job
   pub command_is : job.verb ≡ command
   pub profile_is : IsProfileOf job told (profile_named words) (Ok p)
@@ -32,11 +32,11 @@ pub record AsksFor (words : List (List ℕ)) (told : Option (List NamedText)) (c
 
 -- this command is what the words ask for
 abbrev pub IsPrepared : List (List ℕ) → Option (List NamedText) → Prepared → Type 0
-IsPrepared words told (prepared.Print job p) = AsksFor words told verb.Print job p
-IsPrepared words told (prepared.Dots job p) = AsksFor words told verb.Dots job p
+IsPrepared words told (prepared.Print job p) = AsksWithProfile words told verb.Print job p
+IsPrepared words told (prepared.Dots job p) = AsksWithProfile words told verb.Dots job p
 IsPrepared words told (prepared.List job) = (job_meaning words ≡ Ok job) × (job.verb ≡ verb.List)
-IsPrepared words told (prepared.Profile job p) = AsksFor words told verb.Profile job p
-IsPrepared words told (prepared.Trial job p) = AsksFor words told verb.Trial job p
+IsPrepared words told (prepared.Profile job p) = AsksWithProfile words told verb.Profile job p
+IsPrepared words told (prepared.Trial job p) = AsksWithProfile words told verb.Trial job p
 
 abbrev pub job_in : Prepared → Job
 job_in (prepared.Print job p) = job

@@ -27,6 +27,7 @@ pub fn count_inks<R: Threads + Sync, G>(
         → HasDots p h planes.now.width planes.now.rows planes.now.inks (dot planes.now) → result ≡ halftone_dots p h }
     ensures most { all_inks result < 2 ^ 64 }
 {
+    // Read for its bound: the rows fit 32 bits.
     let _rows = planes.rows();
     if team.workers < planes.inks() {
         return count_dots(inks, planes);

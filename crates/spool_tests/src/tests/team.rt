@@ -1,66 +1,14 @@
 //! A team of senders and a printer, proved: what the printer takes is what the senders were to send.
+ghost use Rattle.spool_core.specs.Senders.{CanSend};
 ghost use Rattle.spool_queue.specs.Jobs.{AreSent, count_sent, sent_by};
 ghost use Rattle.spool_queue.specs.Passes.{IsPrinterOf, sender_of, senders_of, taken_of};
-ghost use Rattle.spool_tests.specs.Team.{CanSend, HasSent, HaveSent};
 ghost use Rattle.base_definitions.specs.Counting.{count_from};
 ghost use Rattle.std.specs.Prelude.{All, [], length, map, vec_capacity, ◌<◌, ◌^◌, ◌≡◌, ◌≤◌};
-ghost use denote.Param.Send.{IsSync};
 
-use spool_queue::{PrintPass, SendPass, Spool, SpoolJob, StreamBytes};
+use spool_core::{Work, send_all};
+use spool_queue::{PrintPass, SendPass, Spool, SpoolJob};
 use std::sync::Wait;
-use std::thread::{Threads, join};
-
-/// A sender's pass, and what it is to send.
-#[derive(Drop)]
-pub(super) struct Work {
-    pub(super) pass: SendPass,
-    pub(super) streams: Vec<StreamBytes>,
-}
-
-/// Submits all streams, in order.
-pub(super) fn submit_all<R: Wait>(rt: &R, spool: &Spool, work: Work) -> SendPass
-    requires { CanSend spool.now work.pass work.streams.items }
-    ensures { HasSent spool.now result (sender_of work.pass) work.streams.items }
-{
-    let Work { mut pass, streams } = work;
-    for stream in streams {
-        spool.submit(rt, &mut pass, stream);
-    }
-    pass
-}
-
-/// Each sender submits all its streams, in a thread of its own where one can be started, and else in the caller's. It
-/// returns when all have. No sender waits where the queue has room for all jobs.
-#[cycle(senders)]
-pub(super) fn send_all<R: Threads + Wait + Sync>(
-    rt: &R,
-    spool: &Spool,
-    mut works: Vec<Work>,
-    ended: Vec<SendPass>,
-) -> Vec<SendPass>
-    requires works { All (λ w. CanSend spool.now w.pass w.streams.items) works.items }
-    requires room { (ended.items ≡ []) × (length works.items ≤ vec_capacity ended) }
-    ensures sent { HaveSent spool.now result.items (map (λ w. sender_of w.pass) works.items)
-        (map (λ w. w.streams.items) works.items) }
-    ensures room { vec_capacity result ≡ vec_capacity ended }
-{
-    let Some(last) = works.pop() else {
-        return ended;
-    };
-    let one = move || -> SendPass
-        requires { IsSync R.row × CanSend spool.now last.pass last.streams.items }
-        ensures { HasSent spool.entry.now result (sender_of last.pass) last.streams.items }
-    { submit_all(rt, spool, last) };
-    let others = move || -> Vec<SendPass>
-        requires { IsSync R.row × All (λ w. CanSend spool.now w.pass w.streams.items) works.items × (ended.items ≡ [])
-            × (length works.items ≤ vec_capacity ended) }
-        ensures { HaveSent spool.entry.now result.items (map (λ w. sender_of w.pass) works.items)
-            (map (λ w. w.streams.items) works.items) × (vec_capacity result ≡ vec_capacity ended) }
-    { send_all(rt, spool, works, ended) };
-    let (pass, mut passes) = join(rt, one, others);
-    passes.push_reserved(pass);
-    passes
-}
+use std::thread::Threads;
 
 /// Takes so many jobs.
 pub(super) fn take_all<R: Wait>(

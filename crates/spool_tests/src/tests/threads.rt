@@ -1,11 +1,12 @@
 //! The queue between threads.
+ghost use Rattle.spool_core.specs.Senders.{CanSend};
 ghost use Rattle.spool_queue.specs.Passes.{AreAllPasses, sent_of, senders_of, taken_of};
-ghost use Rattle.spool_tests.specs.Team.{CanSend};
 ghost use Rattle.std.specs.Arc.{arc_value};
 ghost use Rattle.std.specs.Prelude.{All, IfOk, [], length, ◌≡◌, ◌∷◌};
 
-use super::team::{Work, run_all, submit_all, take_all};
+use super::team::{run_all, take_all};
 use super::{Shown, same, same_jobs, shown, stream};
+use spool_core::{Work, submit_all};
 use spool_queue::{PrintPass, SendPass, Spool, SpoolJob, StreamBytes};
 use std::alloc::{AllocError, Global};
 use std::process::Abort;

@@ -16,26 +16,26 @@ by_place row from at apart i on less room few are (inr last) =
     three_apart row i (omega arith)
     (ap (are_three row) (let e : i ≡ at + (i - at) = omega arith in e) ∙ sym (three_on row at (i - at)) ∙ are (i - at) (omega arith))
 
-pub returns-then-apart-lt16-clause-few : goal.returns-then-apart-lt16-clause-few
-returns-then-apart-lt16-clause-few c i on less =
-    by_place c.args.row.now c.args.from c.sixteens.at c.sixteen_apart-apart.result i on less
-    (omega (arith, c.if-row-at-ge18.true, c.sixteen_apart-apart.ensures.few)) c.sixteens.invariant.few
-    (λ j few. ap (λ bs. are_three bs j) (sym (take_rest c.args.row.now c.sixteens.at)) ∙ c.sixteen_apart-apart.ensures.apart j few)
+pub returns-then-before-lt16-clause-few : goal.returns-then-before-lt16-clause-few
+returns-then-before-lt16-clause-few c i on less =
+    by_place c.args.row.now c.args.from c.sixteens.at c.places_before_three-before.result i on less
+    (omega (arith, c.if-row-at-ge18.true, c.places_before_three-before.ensures.few)) c.sixteens.invariant.few
+    (λ j few. ap (λ bs. are_three bs j) (sym (take_rest c.args.row.now c.sixteens.at)) ∙ c.places_before_three-before.ensures.apart j few)
     (cases_lt i c.sixteens.at)
 
-pub returns-then-apart-lt16-clause-three : goal.returns-then-apart-lt16-clause-three
-returns-then-apart-lt16-clause-three c near less =
-    three_many c.args.row.now (c.sixteens.at + c.sixteen_apart-apart.result) (omega (arith, c.if-row-at-ge18.true, c.if-apart-lt16.true))
-    (sym (three_on c.args.row.now c.sixteens.at c.sixteen_apart-apart.result)
-    ∙ ap (λ bs. are_three bs c.sixteen_apart-apart.result) (sym (take_rest c.args.row.now c.sixteens.at))
-    ∙ c.sixteen_apart-apart.ensures.three c.if-apart-lt16.true)
+pub returns-then-before-lt16-clause-three : goal.returns-then-before-lt16-clause-three
+returns-then-before-lt16-clause-three c near less =
+    three_many c.args.row.now (c.sixteens.at + c.places_before_three-before.result) (omega (arith, c.if-row-at-ge18.true, c.if-before-lt16.true))
+    (sym (three_on c.args.row.now c.sixteens.at c.places_before_three-before.result)
+    ∙ ap (λ bs. are_three bs c.places_before_three-before.result) (sym (take_rest c.args.row.now c.sixteens.at))
+    ∙ c.places_before_three-before.ensures.three c.if-before-lt16.true)
 
 pub sixteens-preserved : goal.sixteens-preserved
 sixteens-preserved c = record {
-  within = omega (arith, c.if-row-at-ge18.true, c.sixteen_apart-apart.ensures.few);
+  within = omega (arith, c.if-row-at-ge18.true, c.places_before_three-before.ensures.few);
   from = omega (arith, c.sixteens.invariant.from);
-  few = λ i on less. by_place c.args.row.now c.args.from c.sixteens.at c.sixteen_apart-apart.result i on less
-      (omega (arith, c.if-row-at-ge18.true, c.sixteen_apart-apart.ensures.few)) c.sixteens.invariant.few
-      (λ j few. ap (λ bs. are_three bs j) (sym (take_rest c.args.row.now c.sixteens.at)) ∙ c.sixteen_apart-apart.ensures.apart j few)
+  few = λ i on less. by_place c.args.row.now c.args.from c.sixteens.at c.places_before_three-before.result i on less
+      (omega (arith, c.if-row-at-ge18.true, c.places_before_three-before.ensures.few)) c.sixteens.invariant.few
+      (λ j few. ap (λ bs. are_three bs j) (sym (take_rest c.args.row.now c.sixteens.at)) ∙ c.places_before_three-before.ensures.apart j few)
       (cases_lt i c.sixteens.at);
 }

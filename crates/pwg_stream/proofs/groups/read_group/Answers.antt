@@ -34,8 +34,8 @@ returns-in-Err-clause-used g c =
     (text_fed (g.S.Source.left c.pieces.s) c.pieces.unread c.use_up.new.self c.feed-fed.result.used c.use_up.ensures)
     c.more.ensures.text
 
-pub returns-then-count-eq0-clause-used : goal.returns-then-count-eq0-clause-used
-returns-then-count-eq0-clause-used g c =
+pub returns-in-Ok-eq0-clause-used : goal.returns-in-Ok-eq0-clause-used
+returns-in-Ok-eq0-clause-used g c =
     uses_kept _ _ c.pieces.invariant.group
     (text_fed (g.S.Source.left c.pieces.s) c.pieces.unread c.use_up.new.self c.feed-fed.result.used c.use_up.ensures)
     c.more.ensures.text
@@ -49,7 +49,7 @@ pieces-preserved g c =
     let grown = c.in-Ok.ensures.grown in
     record {
       group = group_turn _ fed c.more.ensures.text
-          (omega (arith, grown.long, ap length grown.is, length-append c.use_up.new.self grown.chunk, c.if-count-eq0.false));
+          (omega (arith, grown.long, ap length grown.is, length-append c.use_up.new.self grown.chunk, c.in-Ok.field-0-test));
       later = omega (arith, c.pieces.invariant.later, c.more.ensures.cause.later);
     }
 

@@ -25,7 +25,7 @@ loop-i-preserved c =
           record { count = omega (arith, same, c.loop-i.invariant.count); fewer = omega (arith, w.senders-is, c.loop-i.invariant.fewer) }
     ]
 
-pub returns : goal.returns
-returns c =
+pub unreachable-requires : goal.unreachable-requires
+unreachable-requires c =
     let all = ap (count_by (gives send_key)) (take_all c.loop-i.i c.args.words.now (omega arith)) in
     absurd (omega (arith, all, c.loop-i.invariant.count, c.loop-i.invariant.fewer, c.requires.within))

@@ -3,13 +3,13 @@ use Rattle.printer_definitions.specs.Printer.{Printer}
 use Rattle.escp2_definitions.specs.declared.command.Command.{Command}
 use Rattle.escp2_definitions.specs.Machine.{Machine}
 use Rattle.dot_emulator.specs.declared.emulator.Emulator.{Emulator}
-use Rattle.dot_emulator.specs.declared.emulator.EmuStop.{EmuStop}
+use Rattle.dot_emulator.specs.declared.emulator.EmulatorStop.{EmulatorStop}
 use Rattle.dot_emulator.specs.declared.sheet.Sheet.{Sheet}
 use Rattle.dot_emulator.specs.Runs.{Runs}
 use Rattle.dot_emulator.proofs.emulator.Emulator.run.Goals as goal
 
 at_command : (p : Printer) (m : Machine) (command other : Command)
-    (rows : List ℕ) (old new : Emulator) (r : Result (Option Sheet) EmuStop) → command ≡ other
+    (rows : List ℕ) (old new : Emulator) (r : Result (Option Sheet) EmulatorStop) → command ≡ other
     → Runs p m other rows old new r → Runs p m command rows old new r
 at_command p m command other rows old new r is runs = let P : Command → Type 0 = λ k. Runs p m k rows old new r in subst P (sym is) runs
 

@@ -1,13 +1,13 @@
 use Rattle.std.proofs.Common.{◌≡◌, subst, sym, Result, Ok}
 use Rattle.printer_definitions.specs.Printer.{Printer}
 use Rattle.escp2_definitions.specs.declared.command.Command.{Command}
-use Rattle.escp2_definitions.specs.declared.stops.EmuFault.{EmuFault}
+use Rattle.escp2_definitions.specs.declared.stops.EmulatorFault.{EmulatorFault}
 use Rattle.escp2_definitions.specs.Machine.{Machine}
 use Rattle.dot_emulator.specs.declared.state.State.{State}
 use Rattle.dot_emulator.specs.States.{IsStep, machine_of}
 use Rattle.dot_emulator.proofs.state.State.after.Goals as goal
 
-at_command : (p : Printer) (m : Machine) (command other : Command) (r : Result State EmuFault)
+at_command : (p : Printer) (m : Machine) (command other : Command) (r : Result State EmulatorFault)
     → command ≡ other → IsStep p m other r → IsStep p m command r
 at_command p m command other r is step = let P : Command → Type 0 = λ k. IsStep p m k r in subst P (sym is) step
 

@@ -3,8 +3,8 @@ use Rattle.std.specs.Prelude.{All}
 use Rattle.std.proofs.lemmas.List.Elements.{All-cons, All-nil, All-head, All-tail}
 use Rattle.spool_queue.specs.Passes.{IsSenderOf, sent_of}
 use Rattle.spool_queue.specs.declared.kinds.SendPass.{SendPass}
-use Rattle.spool_tests.specs.declared.tests.team.Work.{Work}
-use Rattle.spool_tests.specs.Team.{CanSend}
+use Rattle.spool_core.specs.declared.senders.Work.{Work}
+use Rattle.spool_core.specs.Senders.{CanSend}
 use Rattle.spool_tests.proofs.tests.threads.all_of_two.Goals as goal
 
 pub run_all-requires-clause-works : goal.run_all-requires-clause-works

@@ -1,7 +1,7 @@
 use Rattle.std.proofs.Common.{refl, eq-eqb}
 use Rattle.std.proofs.lemmas.Bool.{ne_eqb}
 use Rattle.escp2_rows.proofs.Lanes.{ApartPlaces, apart_places}
-use Rattle.escp2_rows.proofs.literals.sixteen_apart.Goals as goal
+use Rattle.escp2_rows.proofs.literals.places_before_three.Goals as goal
 
 places : (c : goal.After-first_set) → ApartPlaces c.args.row.now c.first_set.result
 places c = apart_places _ _ _ c.requires (λ x. rw (eq-eqb x x refl) refl) (λ x y ne. rw (ne_eqb x y ne) refl) c.first_set.ensures
