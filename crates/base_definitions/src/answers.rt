@@ -1,5 +1,12 @@
 //! Answers that every layer gives.
+use std::alloc::AllocError;
 
 /// The allocator refused memory.
 #[derive(Clone, Copy, Debug, PartialEq, Eq)]
 pub struct Memory;
+
+impl From<AllocError> for Memory {
+    fn from(_: AllocError) -> Memory {
+        Memory
+    }
+}

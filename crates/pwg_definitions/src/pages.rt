@@ -17,7 +17,8 @@ pub enum Kind {
 }
 
 impl Kind {
-    ghost use Rattle.pwg_definitions.specs.Header.{row_of};
+    ghost use Rattle.pwg_definitions.specs.Header.{line_bytes, row_of};
+    ghost use Rattle.std.specs.Prelude.{◌<◌, ◌^◌};
 
     /// How many bytes the unit of a line has, which its packets repeat: a pixel of 1, 3 or 4 bytes, or eight pixels of
     /// one bit.
@@ -31,6 +32,19 @@ impl Kind {
             Kind::Gray8 | Kind::Black8 | Kind::Black1 => 1,
             Kind::Rgb8 => 3,
             Kind::Cmyk8 => 4,
+        }
+    }
+
+    /// How many bytes pixels of this kind take, without gaps.
+    pub fn line_bytes(self, pixels: usize) -> usize
+        requires { pixels < 2 ^ 33 }
+        ensures { result ≡ line_bytes pixels (row_of self).bits_per_pixel }
+    {
+        match self {
+            Kind::Gray8 | Kind::Black8 => pixels,
+            Kind::Rgb8 => 3 * pixels,
+            Kind::Black1 => pixels.div_ceil(8),
+            Kind::Cmyk8 => 4 * pixels,
         }
     }
 

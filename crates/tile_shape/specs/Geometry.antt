@@ -47,6 +47,12 @@ pub record IsIn (s : Shape) (p : Place) (x y : ℕ) : Type 0 where
   pub offset : ℕ
   pub place : IsAt p row offset x y
 
+-- the window has every pixel of a tile: the tile is not in the first column, whose rows but the first begin left of it
+pub record IsWhole (s : Shape) (p : Place) : Type 0 where
+  pub left : 1 ≤ p.c
+  pub right : 64 * p.c + 64 ≤ s.width
+  pub down : 32 * p.j + 32 ≤ s.height
+
 -- pixel (x, y) reads the error at (a, b): up to two pixels to the left in its own row, or up to two to
 -- either side one or two rows above
 abbrev pub Reads : ℕ → ℕ → ℕ → ℕ → Type 0

@@ -41,7 +41,7 @@ pub enum Dir {
 }
 
 impl Shape {
-    ghost use Rattle.tile_shape.specs.Geometry.{IsIn, IsNeeded, IsPixel, IsReceiver, IsShape, IsTile, bands_of};
+    ghost use Rattle.tile_shape.specs.Geometry.{IsIn, IsNeeded, IsPixel, IsReceiver, IsShape, IsTile, IsWhole, bands_of};
     ghost use Rattle.tile_shape.specs.Geometry.{columns_of};
     ghost use Rattle.std.specs.Prelude.{IfNone, IfSome, IsTrue, ◌↔◌, ◌≡◌};
 
@@ -74,6 +74,15 @@ impl Shape {
             c: (x + 2 * row) / 64,
             j: y / 32,
         }
+    }
+
+    /// Whether the window has every pixel of a tile.
+    pub fn has_all(&self, p: Place) -> bool
+        ensures { IsTrue result ↔ IsWhole self.now p }
+    {
+        p.c >= 1
+            && 64 * p.c as usize + 64 <= self.width as usize
+            && 32 * p.j as usize + 32 <= self.height as usize
     }
 
     /// The edges that a tile needs: those whose `next` it is.
