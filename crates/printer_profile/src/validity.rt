@@ -3,6 +3,7 @@ ghost use Rattle.printer_profile.specs.Validity.{curve_tests, first_fault, gcd_o
 ghost use Rattle.std.specs.Prelude.{◌≡◌, ◌<◌, not, position};
 
 use crate::fields::Profile;
+use base_definitions::greatest_common_divisor;
 use thiserror::Error;
 
 /// Why a profile makes no sense, in the order in which the checks are made.
@@ -30,19 +31,12 @@ pub enum ProfileFault {
     Curve { ink: u8 },
 }
 
-/// The greatest common divisor.
+/// The greatest common divisor, as the definition of a profile's faults has it.
 fn gcd(a: u8, b: u8) -> u8
     requires { 0 < a }
     ensures { result ≡ gcd_of a b }
 {
-    let mut divided = a;
-    let mut divisor = b;
-    'euclid: while divisor != 0 {
-        let remainder = divided % divisor;
-        divided = divisor;
-        divisor = remainder;
-    }
-    divided
+    greatest_common_divisor(a, b)
 }
 
 fn is_resolution(dpi: u16) -> bool

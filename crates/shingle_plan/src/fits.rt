@@ -1,7 +1,8 @@
 //! Which heads can shingle.
 ghost use Rattle.shingle_plan.specs.Fits.{Shingles};
-ghost use Rattle.std.specs.Int.{IsGcd};
 ghost use Rattle.std.specs.Prelude.{IsTrue, ◌↔◌};
+
+use base_definitions::greatest_common_divisor;
 
 /// Whether a head of `nozzles` nozzles that are `pitch` rows apart can shingle: half its nozzles and the pitch are at
 /// least 1 and have no common divisor above 1.
@@ -10,18 +11,4 @@ pub fn shingle_fits(nozzles: u8, pitch: u8) -> bool
 {
     let half = nozzles / 2;
     half >= 1 && pitch >= 1 && greatest_common_divisor(half, pitch) == 1
-}
-
-/// The greatest common divisor, by Euclid's algorithm; 0 of two zeros.
-pub fn greatest_common_divisor(first: u8, second: u8) -> u8
-    ensures { IsGcd first second result }
-{
-    let mut larger = first;
-    let mut smaller = second;
-    while smaller != 0 {
-        let rest = larger % smaller;
-        larger = smaller;
-        smaller = rest;
-    }
-    larger
 }

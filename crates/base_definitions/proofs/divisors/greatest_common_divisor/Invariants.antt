@@ -1,6 +1,6 @@
 use Rattle.std.proofs.Common.{ℕ}
 use Rattle.std.specs.Int.{IsGcd}
-use Rattle.shingle_plan.proofs.fits.greatest_common_divisor.Given as goal
+use Rattle.base_definitions.proofs.divisors.greatest_common_divisor.Given as goal
 
 abbrev pub invariant-loop-smaller : goal.invariant-loop-smaller
 invariant-loop-smaller l = (g : ℕ) → IsGcd l.larger l.smaller g → IsGcd l.fn.first l.fn.second g

@@ -1,6 +1,6 @@
 use Rattle.std.proofs.Common.{arith}
 use Rattle.std.proofs.lemmas.Nat.Gcd.{IsGcd-from_mod, IsGcd-from_zero}
-use Rattle.shingle_plan.proofs.fits.greatest_common_divisor.Goals as goal
+use Rattle.base_definitions.proofs.divisors.greatest_common_divisor.Goals as goal
 
 pub loop-smaller-preserved : goal.loop-smaller-preserved
 loop-smaller-preserved c g h = c.loop-smaller.invariant g (IsGcd-from_mod _ _ g h)
