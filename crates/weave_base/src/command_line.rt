@@ -37,9 +37,7 @@ impl Words {
         ensures ok { OnOk result (self.new ≡ self.old ++ w.now ∷ []) }
         ensures err { OnErr result (self.new ≡ self.old) }
     {
-        let Ok(word) = String::from_str(*self.words.allocator(), w) else {
-            return Err(Memory);
-        };
+        let word = String::from_str(*self.words.allocator(), w)?;
         match self.words.push(word) {
             Ok(()) => Ok(()),
             Err(_) => Err(Memory),

@@ -60,11 +60,8 @@ impl MemSink {
           fails = fails.items;
         }) }
     {
-        let Ok(bytes) = Vec::with_capacity(alloc, room) else {
-            return Err(Memory);
-        };
         Ok(MemSink {
-            bytes,
+            bytes: Vec::with_capacity(alloc, room)?,
             room,
             takes,
             fails,
