@@ -44,11 +44,8 @@ impl Unread {
     pub fn make(alloc: Global) -> Result<Unread, Memory>
         ensures { IfOk result (λ u. u ≡ []) }
     {
-        let Ok(buffer) = vec![in alloc; 0; MOST_UNREAD] else {
-            return Err(Memory);
-        };
         Ok(Unread {
-            buffer,
+            buffer: vec![in alloc; 0; MOST_UNREAD]?,
             start: 0,
             end: 0,
         })
