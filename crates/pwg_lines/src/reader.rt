@@ -53,9 +53,7 @@ impl LineReader {
         ensures anew { IfOk result (λ reader. StandsFor reader []) }
         ensures fresh { IfOk result IsAnew }
     {
-        let Ok(line) = vec![in alloc; 0; form.bytes_per_line as usize] else {
-            return Err(Memory);
-        };
+        let line = vec![in alloc; 0; form.bytes_per_line as usize]?;
         Ok(LineReader {
             form,
             lines_left: form.height,
@@ -82,9 +80,7 @@ impl LineReader {
         ensures err { OnErr result (IsSame self.old self.new) }
         ensures fits { form.bytes_per_line ≤ (form_of self.old).bytes_per_line → IsOk result }
     {
-        if self.line.resize(form.bytes_per_line as usize, 0).is_err() {
-            return Err(Memory);
-        }
+        self.line.resize(form.bytes_per_line as usize, 0)?;
         self.form = form;
         self.lines_left = form.height;
         self.repeats = 0;
