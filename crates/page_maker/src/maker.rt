@@ -54,12 +54,8 @@ impl PageMaker {
     {
         let pieces = Pieces::begin(alloc, seed, pages, form, hdpi, vdpi)?;
         let most = HEADER_LEN.max(1 + 2 * form.bytes_per_line as usize);
-        let Ok(mut piece) = Vec::with_capacity(alloc, most) else {
-            return Err(Memory);
-        };
-        if piece.extend_from_slice(b"RaS2").is_err() {
-            return Err(Memory);
-        }
+        let mut piece = Vec::with_capacity(alloc, most)?;
+        piece.extend_from_slice(b"RaS2")?;
         Ok(PageMaker {
             pieces,
             piece,

@@ -42,9 +42,7 @@ fn put_stream(mut pieces: Pieces, out: &mut Vec<u8>) -> Result<(), Memory>
     ensures ok { OnOk result (out.new.items ≡ out.old.items ++ sync_word ++ left_of pieces) }
     ensures part { (part : List ℕ) × (out.new.items ≡ out.old.items ++ part) }
 {
-    if out.extend_from_slice(b"RaS2").is_err() {
-        return Err(Memory);
-    }
+    out.extend_from_slice(b"RaS2")?;
     'pieces: while !pieces.is_done() {
         pieces.put_next(out)?;
     }

@@ -42,9 +42,7 @@ impl Pieces {
         ensures left { IfOk result (λ pieces. left_of pieces ≡ to_come form hdpi vdpi pages 0 seed) }
         ensures form { IfOk result (λ pieces. form_of pieces ≡ form) }
     {
-        let Ok(line) = vec![in alloc; 0; form.bytes_per_line as usize] else {
-            return Err(Memory);
-        };
+        let line = vec![in alloc; 0; form.bytes_per_line as usize]?;
         Ok(Pieces {
             form,
             hdpi,
@@ -96,9 +94,7 @@ impl Pieces {
     {
         let mut header = [0; HEADER_LEN];
         write_header(&self.form, self.hdpi, self.vdpi, &mut header);
-        if out.extend_from_slice(&header).is_err() {
-            return Err(Memory);
-        }
+        out.extend_from_slice(&header)?;
         self.pages -= 1;
         self.lines = self.form.height;
         Ok(())
