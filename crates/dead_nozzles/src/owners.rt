@@ -31,9 +31,7 @@ pub(crate) fn pass_owners(alloc: Global, head: &WornHead) -> Result<Vec<Option<u
     ensures { IfOk result (λ owners. ArePassOwners head.now owners.items) }
 {
     let plan = Plan::make(head.nozzles(), head.pitch(), head.height());
-    let Ok(mut owners) = Vec::with_capacity(alloc, head.height() as usize) else {
-        return Err(Memory);
-    };
+    let mut owners = Vec::with_capacity(alloc, head.height() as usize)?;
     'rows: for row in 0..head.height() {
         let owner = pass_owner(head, &plan, row);
         let Ok(()) = owners.push(owner) else {

@@ -13,7 +13,7 @@ pub rows-preserved : goal.rows-preserved
 rows-preserved c =
     let P : List (Option ℕ) → Type 0 = λ owners. (row : ℕ) → row < c.rows.row + 1 → IsPassOwner c.args.head.now row (owner owners row) in
     record {
-      rows = omega (arith, ap length c.in-Ok-push.ensures.items, length-append c.rows.owners.items (c.pass_owner-owner.result ∷ []), c.rows.invariant.rows);
-      each = subst P (sym c.in-Ok-push.ensures.items) (one-more c.args.head.now c.rows.owners.items c.rows.row c.pass_owner-owner.result c.rows.invariant.rows
+      rows = omega (arith, ap length c.in-Ok.ensures.items, length-append c.rows.owners.items (c.pass_owner-owner.result ∷ []), c.rows.invariant.rows);
+      each = subst P (sym c.in-Ok.ensures.items) (one-more c.args.head.now c.rows.owners.items c.rows.row c.pass_owner-owner.result c.rows.invariant.rows
           c.rows.invariant.each c.pass_owner-owner.ensures);
     }
