@@ -10,16 +10,10 @@ pub fn made_form(width: u32, height: u32, kind: Kind) -> PageForm
     requires { width ≤ most_columns }
     ensures { result ≡ made_form width height kind }
 {
-    let bytes_per_line = match kind {
-        Kind::Black1 => width.div_ceil(8),
-        Kind::Gray8 | Kind::Black8 => width,
-        Kind::Rgb8 => 3 * width,
-        Kind::Cmyk8 => 4 * width,
-    };
     PageForm {
         width,
         height,
         kind,
-        bytes_per_line,
+        bytes_per_line: kind.line_bytes(width as usize) as u32,
     }
 }
