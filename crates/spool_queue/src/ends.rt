@@ -31,15 +31,9 @@ impl Spool {
         ensures sent { IfOk result (λ r. All (λ pass. sent_of pass ≡ []) r.1.items) }
         ensures taken { IfOk result (λ r. taken_of r.2 ≡ []) }
     {
-        let Ok(rest) = Vec::with_capacity(alloc, room as usize) else {
-            return Err(Memory);
-        };
-        let Ok(mut passes) = Vec::with_capacity(alloc, usize::from(senders)) else {
-            return Err(Memory);
-        };
-        let Ok((queue, mut pass)) = JobQueue::ruled(alloc, room as usize) else {
-            return Err(Memory);
-        };
+        let rest = Vec::with_capacity(alloc, room as usize)?;
+        let mut passes = Vec::with_capacity(alloc, usize::from(senders))?;
+        let (queue, mut pass) = JobQueue::ruled(alloc, room as usize)?;
         for i in 0..senders {
             let next = queue.another::<Enrols>(&mut pass);
             passes.push_reserved(SendPass {
