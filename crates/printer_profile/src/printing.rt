@@ -98,9 +98,7 @@ impl Profile {
     {
         let mut text = ArrayString::new();
         push_text(self, &mut text);
-        match out.extend_from_slice(text.as_str().as_bytes()) {
-            Ok(()) => Ok(()),
-            Err(_) => Err(Memory),
-        }
+        out.extend_from_slice(text.as_str().as_bytes())?;
+        Ok(())
     }
 }
