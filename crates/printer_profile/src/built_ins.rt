@@ -2,7 +2,7 @@
 ghost use Rattle.printer_profile.specs.Profiles.{built_in as built_in_of};
 ghost use Rattle.std.specs.Prelude.{◌≡◌};
 
-use crate::fields::{Profile, STRAIGHT_CURVE};
+use crate::fields::{Profile, UNSAID};
 use printer_definitions::InkSet;
 
 /// `tiny1`: 360 dots an inch, one nozzle, black, no margins.
@@ -11,14 +11,7 @@ pub const TINY1: Profile = Profile {
     vdpi: 360,
     nozzles: 1,
     pitch: 1,
-    inks: InkSet::K,
-    black_start: 0,
-    limits: [255, 255, 255, 255],
-    curves: [STRAIGHT_CURVE; 4],
-    left: 0,
-    right: 0,
-    top: 0,
-    bottom: 0,
+    ..UNSAID
 };
 
 /// `tiny`: three nozzles two rows apart, and a top margin of four rows.
@@ -58,11 +51,11 @@ pub(crate) const P720CMYK: Profile = Profile {
     inks: InkSet::Cmyk,
     black_start: 64,
     limits: [255, 224, 224, 224],
-    curves: [STRAIGHT_CURVE; 4],
     left: 90,
     right: 90,
     top: 240,
     bottom: 120,
+    ..UNSAID
 };
 
 /// The built-in profile of a name.

@@ -54,6 +54,22 @@ pub const STRAIGHT_CURVE: [u16; 17] = [
     0, 16, 32, 48, 64, 80, 96, 112, 128, 144, 160, 176, 192, 208, 224, 240, 256,
 ];
 
+/// What a profile has where its text says nothing.
+pub(crate) const UNSAID: Profile = Profile {
+    hdpi: 0,
+    vdpi: 0,
+    nozzles: 0,
+    pitch: 0,
+    inks: InkSet::K,
+    black_start: 0,
+    limits: [255; 4],
+    curves: [STRAIGHT_CURVE; 4],
+    left: 0,
+    right: 0,
+    top: 0,
+    bottom: 0,
+};
+
 // The tone of an amount by a curve that does not fall.
 fn tone_on(curve: &[u16; 17], a: u8) -> u8
     requires { is_curve curve.now ≡ true }

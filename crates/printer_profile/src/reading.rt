@@ -6,11 +6,10 @@ ghost use Rattle.std.specs.Str.Lines.{lines};
 ghost use Rattle.std.specs.Char.{is_ascii};
 ghost use Rattle.std.specs.Prelude.{Some, ◌≡◌};
 
-use crate::fields::{Profile, STRAIGHT_CURVE};
+use crate::fields::{Profile, UNSAID};
 use crate::keys::{Key, Version};
 use crate::lines::first_line;
 use key_values::cut_at;
-use printer_definitions::InkSet;
 use thiserror::Error;
 
 /// Why a text is not a profile. Where a line has several causes, the first in the order of these variants counts.
@@ -71,20 +70,7 @@ impl Given {
         ensures { result ≡ nothing }
     {
         Given {
-            profile: Profile {
-                hdpi: 0,
-                vdpi: 0,
-                nozzles: 0,
-                pitch: 0,
-                inks: InkSet::K,
-                black_start: 0,
-                limits: [255, 255, 255, 255],
-                curves: [STRAIGHT_CURVE; 4],
-                left: 0,
-                right: 0,
-                top: 0,
-                bottom: 0,
-            },
+            profile: UNSAID,
             keys: [false; 18],
         }
     }
