@@ -93,15 +93,13 @@ impl JobReader {
         ensures is_open { IfOk result (λ reader. is_failed_of reader ≡ false) }
         ensures none { IfOk result (λ reader. rows_of reader ≡ []) }
     {
-        match Vec::with_capacity(alloc, MOST_ROW_BYTES) {
-            Ok(rows) => Ok(JobReader {
-                begin: 0,
-                next: 0,
-                rows,
-                stage: Stage::Header(HeaderBytes::new()),
-            }),
-            Err(_) => Err(Memory),
-        }
+        let rows = Vec::with_capacity(alloc, MOST_ROW_BYTES)?;
+        Ok(JobReader {
+            begin: 0,
+            next: 0,
+            rows,
+            stage: Stage::Header(HeaderBytes::new()),
+        })
     }
 
     /// Reads the next bytes of the job, of any number, up to the end of the command. It takes no memory. A fault is
