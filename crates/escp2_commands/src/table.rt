@@ -13,10 +13,10 @@ pub const MOST_UNITS: u16 = 32_767;
 
 /// Whether the command's numbers are in the ranges of the command table (ESC/P Reference Manual, graphics commands; the
 /// ranges are this project's own). A command without numbers always is. The rows of a raster are not tested.
-pub fn in_table(c: &Command) -> bool
-    ensures { result ≡ in_table_of c.now }
+pub fn in_table(command: &Command) -> bool
+    ensures { result ≡ in_table_of command.now }
 {
-    match *c {
+    match *command {
         Command::Init | Command::Graphics | Command::Return | Command::Eject => true,
         Command::Colour { .. } => true,
         Command::Unit { m } => m >= 1,
