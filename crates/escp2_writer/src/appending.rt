@@ -9,13 +9,14 @@ use escp2_rows::code_row;
 
 /// Appends the bytes of a command, for a raster without its rows. The vector has room for them, so that no memory is
 /// taken.
-pub fn append_header(c: &Command, out: &mut Vec<u8>)
-    requires { vec_len out.old + length (command_bytes c.now) ≤ vec_capacity out.old }
-    ensures items { out.new.items ≡ out.old.items ++ command_bytes c.now }
-    ensures len { vec_len out.new ≡ vec_len out.old + length (command_bytes c.now) }
+pub fn append_header(command: &Command, out: &mut Vec<u8>)
+    requires { vec_len out.old + length (command_bytes command.now) ≤ vec_capacity out.old }
+    ensures items { out.new.items ≡ out.old.items ++ command_bytes command.now }
+    ensures len { vec_len out.new ≡ vec_len out.old + length (command_bytes command.now) }
     ensures capacity { vec_capacity out.old ≤ vec_capacity out.new }
 {
-    out.extend_from_slice(header_bytes(c).as_slice()).unwrap();
+    out.extend_from_slice(header_bytes(command).as_slice())
+        .unwrap();
 }
 
 // Writes the code of a row after the first `begin` bytes, and gives its length.

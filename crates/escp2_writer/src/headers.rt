@@ -60,10 +60,10 @@ pub(crate) fn row_bytes(header: RasterHead) -> usize
 
 /// The bytes of a command (ESC/P Reference Manual, graphics commands), for a raster without its rows. This is the only
 /// place where commands are spelled.
-pub fn header_bytes(c: &Command) -> HeaderBytes
-    ensures { result.items ≡ command_bytes c.now }
+pub fn header_bytes(command: &Command) -> HeaderBytes
+    ensures { result.items ≡ command_bytes command.now }
 {
-    match *c {
+    match *command {
         Command::Init => escaped(b'@', &[]),
         Command::Graphics => sized(b'G', &[1]),
         Command::Unit { m } => sized(b'U', &[m]),

@@ -22,16 +22,16 @@ fn put_coded<K: Sink>(
     header: RasterHead,
     front: &[u8],
     rows: &[u8],
-    k: &mut K,
+    out: &mut K,
 ) -> Result<(), Failed>
     requires front { length front.now ≤ 8192 }
     requires narrow { row_bytes_of header ≤ 1024 }
     requires rows_fit { length rows.now ≡ header.m * row_bytes_of header }
-    ensures ok { OnOk result (Appends (K.held k.old) (K.held k.new)
+    ensures ok { OnOk result (Appends (K.held out.old) (K.held out.new)
         (front.now ++ flat_map least_row (rows_apart header.m (row_bytes_of header) rows.now))) }
-    ensures part { OnErr result (AppendsPart (K.held k.old) (K.held k.new)
+    ensures part { OnErr result (AppendsPart (K.held out.old) (K.held out.new)
         (front.now ++ flat_map least_row (rows_apart header.m (row_bytes_of header) rows.now))) }
-    ensures cause { HasCause (K.faults k.old) (K.faults k.new) result }
+    ensures cause { HasCause (K.faults out.old) (K.faults out.new) result }
 {
     let width = row_bytes(header);
     let mut bytes = Gathered::new();
@@ -41,10 +41,10 @@ fn put_coded<K: Sink>(
     'rows: for _ in 0..header.m {
         let (row, behind) = rest.split_at(width);
         let len = code_row(row, &mut code);
-        bytes.write(&code[..len], k)?;
+        bytes.write(&code[..len], out)?;
         rest = behind;
     }
-    bytes.put(k)
+    bytes.put(out)
 }
 
 /// Writes the command and then its rows: a raster's rows plain where its `c` is 0 and else coded, the top one first
@@ -52,27 +52,27 @@ fn put_coded<K: Sink>(
 ///
 /// `Err` comes where a write of the sink failed, which the sink counts; then the sink has taken a proper prefix of
 /// the bytes.
-pub fn put<K: Sink>(c: &Command, rows: &[u8], k: &mut K) -> Result<(), Failed>
-    requires in_range { in_table c.now ≡ true }
-    requires rows_fit { length rows.now ≡ rows_len c.now }
-    ensures ok { OnOk result (Appends (K.held k.old) (K.held k.new)
-        (written least_row c.now rows.now)) }
-    ensures part { OnErr result (AppendsPart (K.held k.old) (K.held k.new)
-        (written least_row c.now rows.now)) }
-    ensures cause { HasCause (K.faults k.old) (K.faults k.new) result }
-    ensures spelled { Spells c.now rows.now (written least_row c.now rows.now) }
+pub fn put<K: Sink>(command: &Command, rows: &[u8], out: &mut K) -> Result<(), Failed>
+    requires in_range { in_table command.now ≡ true }
+    requires rows_fit { length rows.now ≡ rows_len command.now }
+    ensures ok { OnOk result (Appends (K.held out.old) (K.held out.new)
+        (written least_row command.now rows.now)) }
+    ensures part { OnErr result (AppendsPart (K.held out.old) (K.held out.new)
+        (written least_row command.now rows.now)) }
+    ensures cause { HasCause (K.faults out.old) (K.faults out.new) result }
+    ensures spelled { Spells command.now rows.now (written least_row command.now rows.now) }
 {
-    let front = header_bytes(c);
-    match *c {
+    let front = header_bytes(command);
+    match *command {
         Command::Raster { head: header } if header.c != 0 => put_coded(
             header,
             front.as_slice(),
             rows,
-            k,
+            out,
         ),
         _ => {
-            put_all(k, front.as_slice())?;
-            put_all(k, rows)
+            put_all(out, front.as_slice())?;
+            put_all(out, rows)
         }
     }
 }

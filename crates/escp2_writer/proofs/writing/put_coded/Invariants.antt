@@ -7,9 +7,9 @@ use Rattle.escp2_writer.proofs.writing.put_coded.Given as goal
 
 abbrev pub invariant-rows : goal.invariant-rows
 invariant-rows g l = record {
-  so_far : PutsSoFar (g.K.Sink.held l.fn.k) (g.K.Sink.held l.k)
+  so_far : PutsSoFar (g.K.Sink.held l.fn.out) (g.K.Sink.held l.out)
       (l.fn.front ++ codes l.fn.header.m (row_bytes l.fn.header) l.fn.rows) (gathered l.bytes)
       (codes (l.fn.header.m - l.counter) (row_bytes l.fn.header) l.rest);
   left : length l.rest ≡ (l.fn.header.m - l.counter) * row_bytes l.fn.header;
-  later : g.K.Sink.faults l.fn.k ≤ g.K.Sink.faults l.k;
+  later : g.K.Sink.faults l.fn.out ≤ g.K.Sink.faults l.out;
 }
