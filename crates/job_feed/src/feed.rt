@@ -74,22 +74,22 @@ impl JobFeed {
     }
 
     /// The next command, or `None` at the end of the job. `rows` then has the rows of a raster.
-    pub fn next<S: Source>(&mut self, s: &mut S) -> Result<Option<PlacedCommand>, FeedStop>
+    pub fn next<S: Source>(&mut self, source: &mut S) -> Result<Option<PlacedCommand>, FeedStop>
         requires { IsBetween self.old }
         ensures command { IfOk result (λ o. IfSome o (λ placed.
-            TakesCommand self.old self.new (text_of self.old (S.left s.old))
-            (text_of self.new (S.left s.new)) placed)) }
+            TakesCommand self.old self.new (text_of self.old (S.left source.old))
+            (text_of self.new (S.left source.new)) placed)) }
         ensures end { IfOk result
-            (λ o. IfNone o (HasEnded (text_of self.old (S.left s.old)) (text_of self.new (S.left s.new)))) }
+            (λ o. IfNone o (HasEnded (text_of self.old (S.left source.old)) (text_of self.new (S.left source.new)))) }
         ensures stop { IfErr result
-            (IsStopped self.old (text_of self.old (S.left s.old)) (text_of self.new (S.left s.new)) (S.faults s.old)
-            (S.faults s.new)) }
+            (IsStopped self.old (text_of self.old (S.left source.old)) (text_of self.new (S.left source.new))
+            (S.faults source.old) (S.faults source.new)) }
         ensures all_used { IsErrOf result FeedStop.Read → unread_of self.new ≡ [] }
-        ensures later { S.faults s.old ≤ S.faults s.new }
+        ensures later { S.faults source.old ≤ S.faults source.new }
     {
         let at = self.fed;
         'pieces: loop {
-            self.unread.fill(s, 1)?;
+            self.unread.fill(source, 1)?;
             if self.unread.bytes().is_empty() {
                 return self.end();
             }
