@@ -76,14 +76,14 @@ impl Emulator {
 
     /// A printer whose profile passes its checks, at the start of a job. `make` takes no memory; `run` does, for the
     /// dots of a sheet.
-    pub fn make(alloc: Global, p: &Profile) -> Emulator
-        requires { IsOk (check p.now) }
-        ensures { Shows p.now result start }
+    pub fn make(alloc: Global, profile: &Profile) -> Emulator
+        requires { IsOk (check profile.now) }
+        ensures { Shows profile.now result start }
     {
-        checked_can_print(*p);
+        checked_can_print(*profile);
         Emulator {
             alloc,
-            steps: Steps::of(p),
+            steps: Steps::of(profile),
             state: State::start(),
             planes: None,
             spare: None,

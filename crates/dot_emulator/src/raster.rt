@@ -32,16 +32,16 @@ impl Steps {
     ghost use Rattle.dot_emulator.specs.Steps.{AreStepsOf};
 
     /// The steps of a printer.
-    pub(crate) fn of(p: &Profile) -> Steps
-        requires { CanPrint p.now }
-        ensures { AreStepsOf p.now result }
+    pub(crate) fn of(profile: &Profile) -> Steps
+        requires { CanPrint profile.now }
+        ensures { AreStepsOf profile.now result }
     {
         Steps {
-            column: 3600 / u32::from(p.hdpi),
-            row: 3600 / u32::from(p.vdpi),
-            nozzle: u32::from(p.pitch) * 3600 / u32::from(p.vdpi),
-            nozzles: p.nozzles,
-            pitch: p.pitch,
+            column: 3600 / u32::from(profile.hdpi),
+            row: 3600 / u32::from(profile.vdpi),
+            nozzle: u32::from(profile.pitch) * 3600 / u32::from(profile.vdpi),
+            nozzles: profile.nozzles,
+            pitch: profile.pitch,
         }
     }
 }
