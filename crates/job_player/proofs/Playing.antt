@@ -6,7 +6,7 @@ use Rattle.std.specs.Io.KnownBytes.{Appends, Consumes}
 use Rattle.std.proofs.KnownBytes.{Appends-nil, Appends-trans, Consumes-nil}
 use Rattle.buffered_bytes.specs.Outside.{Outside}
 use Rattle.dot_emulator.specs.declared.emulator.EmulatorStop.{EmulatorStop}
-use Rattle.dot_emulator.specs.declared.emulator.EmulatorStop.TheVariants as emu
+use Rattle.dot_emulator.specs.declared.emulator.EmulatorStop.TheVariants as emulator
 use Rattle.dot_emulator.specs.declared.emulator.Emulator.{Emulator}
 use Rattle.dot_emulator.specs.declared.sheet.Sheet.{Sheet}
 use Rattle.dot_emulator.specs.Runs.{IsSheet, Runs, Shows}
@@ -27,7 +27,7 @@ use Rattle.job_player.specs.declared.player.PlayStop.{PlayStop}
 use Rattle.job_player.specs.declared.player.PlayStop.TheVariants as stop
 use Rattle.job_player.specs.Outcome.{PlayOutcome, PlaysAll, PlaysSome, PlaysTaken, TakesSheets, counted, sheets_of}
 use Rattle.job_player.specs.Pictures.{images, sheet_images, table_images}
-use Rattle.job_player.specs.Stops.{emu_stop, feed_stop}
+use Rattle.job_player.specs.Stops.{emulator_stop, feed_stop}
 use Rattle.job_player.proofs.Images.{images_are}
 use Rattle.job_player.proofs.Running.{Executes, executes_more, executes_none, sheets_more, stops_as_bytes, stops_at_refusal}
 use Rattle.printer_definitions.specs.Printer.{Printer}
@@ -284,7 +284,7 @@ plays_some p most input out plays = record {
 pub plays_to_refusal : (p : Printer) (most : ℕ) (e e' : Emulator) (old new : JobFeed)
     (before text left held now : Option (List ℕ)) (number f0 f1 g0 g1 : ℕ) (placed : PlacedCommand) (fault : EmulatorFault)
     (so_far : PlaysSoFar p e old before text held now number) → TakesCommand old new text (text_of new left) placed
-    → Runs p so_far.runs.m placed.command (heard_of new) e e' (Err (emu.Refused fault)) → most_of new ≡ most
+    → Runs p so_far.runs.m placed.command (heard_of new) e e' (Err (emulator.Refused fault)) → most_of new ≡ most
     → PlayOutcome p most (record { before = before; now = left; faults_before = f0; faults_now = f1 })
     (record { before = held; now = now; faults_before = g0; faults_now = g1 })
     (Err (stop.Job placed.at (job.Machine fault)))
@@ -327,21 +327,21 @@ plays_nothing p most {left} {held} = record {
 }
 
 -- the emulator does not run a command
-pub plays_to_emu_stop : {p : Printer} (most : ℕ) {e : Emulator} (e' : Emulator) (old new : JobFeed) {text : Option (List ℕ)} {number : ℕ}
-    (input out : Outside) (placed : PlacedCommand) (why : EmulatorStop) (answer : PlayStop)
+pub plays_to_emulator_stop : {p : Printer} (most : ℕ) {e : Emulator} (e' : Emulator) (old new : JobFeed)
+    {text : Option (List ℕ)} {number : ℕ} (input out : Outside) (placed : PlacedCommand) (why : EmulatorStop) (answer : PlayStop)
     (so_far : PlaysSoFar p e old input.before text out.before out.now number)
     → TakesCommand old new text (text_of new input.now) placed
-    → Runs p so_far.runs.m placed.command (heard_of new) e e' (Err why) → most_of old ≡ most → answer ≡ emu_stop placed.at why
-    → PlayOutcome p most input out (Err answer)
-plays_to_emu_stop {p} most {e} e' old new {text} {number} input out placed why answer so_far takes runs most_is is =
+    → Runs p so_far.runs.m placed.command (heard_of new) e e' (Err why) → most_of old ≡ most
+    → answer ≡ emulator_stop placed.at why → PlayOutcome p most input out (Err answer)
+plays_to_emulator_stop {p} most {e} e' old new {text} {number} input out placed why answer so_far takes runs most_is is =
     let P : PlayStop → Type 0 = λ stop. PlayOutcome p most input out (Err stop) in
     subst P (sym is) (by_stop why runs)
   where
     by_stop : (why : EmulatorStop) → Runs p so_far.runs.m placed.command (heard_of new) e e' (Err why)
-        → PlayOutcome p most input out (Err (emu_stop placed.at why))
-    by_stop (emu.Refused fault) runs = plays_to_refusal p most e e' old new input.before text input.now out.before out.now number
+        → PlayOutcome p most input out (Err (emulator_stop placed.at why))
+    by_stop (emulator.Refused fault) runs = plays_to_refusal p most e e' old new input.before text input.now out.before out.now number
         input.faults_before input.faults_now out.faults_before out.faults_now placed fault so_far takes runs (takes.most ∙ most_is)
-    by_stop emu.Memory runs = plays_without_room p most e old new input.before text input.now out.before out.now number
+    by_stop emulator.Memory runs = plays_without_room p most e old new input.before text input.now out.before out.now number
         input.faults_before input.faults_now out.faults_before out.faults_now placed so_far takes most_is
 
 -- the feed stops

@@ -1,7 +1,7 @@
 -- Why playing a job stops, by why its parts stop.
 use Rattle.std.specs.Prelude.{ℕ}
 use Rattle.dot_emulator.specs.declared.emulator.EmulatorStop.{EmulatorStop}
-use Rattle.dot_emulator.specs.declared.emulator.EmulatorStop.TheVariants as emu
+use Rattle.dot_emulator.specs.declared.emulator.EmulatorStop.TheVariants as emulator
 use Rattle.escp2_definitions.specs.declared.stops.JobStop.TheVariants as job
 use Rattle.job_feed.specs.declared.feed.FeedStop.{FeedStop}
 use Rattle.job_feed.specs.declared.feed.FeedStop.TheVariants as feed
@@ -14,6 +14,6 @@ feed_stop (feed.Job offset cause) = stop.Job offset cause
 feed_stop feed.Read = stop.Read
 
 -- why it stops at a command that the emulator does not run
-abbrev pub emu_stop : ℕ → EmulatorStop → PlayStop
-emu_stop at (emu.Refused fault) = stop.Job at (job.Machine fault)
-emu_stop at emu.Memory = stop.Memory
+abbrev pub emulator_stop : ℕ → EmulatorStop → PlayStop
+emulator_stop at (emulator.Refused fault) = stop.Job at (job.Machine fault)
+emulator_stop at emulator.Memory = stop.Memory

@@ -15,19 +15,20 @@ use weave_base::{Failed, Sink};
 /// yellow. It takes no memory.
 ///
 /// On `Err` a write of the sink failed, which the sink counts, and the sink took a proper prefix of the image.
-pub fn write_plane<K: Sink>(s: &Sheet, ink: u8, k: &mut K) -> Result<(), Failed>
+pub fn write_plane<K: Sink>(sheet: &Sheet, ink: u8, out: &mut K) -> Result<(), Failed>
     requires { ink < 4 }
-    ensures ok { OnOk result (Appends (K.held k.old) (K.held k.new) (image s.now.columns s.now.rows s.now.planes ink)) }
+    ensures ok { OnOk result
+        (Appends (K.held out.old) (K.held out.new) (image sheet.now.columns sheet.now.rows sheet.now.planes ink)) }
     ensures part { OnErr result
-        (AppendsPart (K.held k.old) (K.held k.new) (image s.now.columns s.now.rows s.now.planes ink)) }
-    ensures cause { HasCause (K.faults k.old) (K.faults k.new) result }
+        (AppendsPart (K.held out.old) (K.held out.new) (image sheet.now.columns sheet.now.rows sheet.now.planes ink)) }
+    ensures cause { HasCause (K.faults out.old) (K.faults out.new) result }
 {
-    let mut bytes = header(s.columns, s.rows);
-    let len = (s.columns as usize + 7) / 8;
-    'rows: for y in 0..s.rows {
-        bytes.write(&s.planes.row(ink, y)[..len], k)?;
+    let mut bytes = header(sheet.columns, sheet.rows);
+    let len = (sheet.columns as usize + 7) / 8;
+    'rows: for y in 0..sheet.rows {
+        bytes.write(&sheet.planes.row(ink, y)[..len], out)?;
     }
-    bytes.put(k)
+    bytes.put(out)
 }
 
 /// The header of an image.

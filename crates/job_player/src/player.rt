@@ -1,6 +1,6 @@
 //! Playing a job.
 ghost use Rattle.job_player.specs.Outcome.{PlayOutcome};
-ghost use Rattle.job_player.specs.Stops.{emu_stop};
+ghost use Rattle.job_player.specs.Stops.{emulator_stop};
 ghost use Rattle.job_player.specs.declared.player.PlayStop.TheVariants as PlayStop;
 ghost use Rattle.buffered_bytes.specs.Outside.{outside_of};
 ghost use Rattle.printer_profile.specs.Validity.{check};
@@ -70,7 +70,7 @@ pub fn play_job<S: Source, K: Sink>(
 
 // Why playing stops at a command that the emulator does not run.
 fn refused_at(at: u64, stop: EmulatorStop) -> PlayStop
-    ensures { result ≡ emu_stop at stop }
+    ensures { result ≡ emulator_stop at stop }
 {
     match stop {
         EmulatorStop::Refused(fault) => PlayStop::Job {

@@ -8,7 +8,7 @@ use Rattle.job_player.proofs.image.write_plane.Goals as goal
 
 pub rows-init : goal.rows-init
 rows-init g c =
-    let s = c.args.s.now in
+    let s = c.args.sheet.now in
     let all : s.rows ≡ s.rows - 0 = omega arith in
     record {
       so_far = puts_begin _ _ _ _ _ c.header-bytes.ensures
@@ -18,12 +18,12 @@ rows-init g c =
 
 pub slice_bounds-write-end : goal.slice_bounds-write-end
 slice_bounds-write-end g c = sym (length-take-le _ c.row.result.now
-    (row-long c.args.s.now.planes c.args.ink c.rows.y c.args.s.now.columns c.row.result.now
-    (omega (arith, c.args.s.now.most, c.args.s.now.width)) c.row.ensures))
+    (row-long c.args.sheet.now.planes c.args.ink c.rows.y c.args.sheet.now.columns c.row.result.now
+    (omega (arith, c.args.sheet.now.most, c.args.sheet.now.width)) c.row.ensures))
 
 pub rows-preserved : goal.rows-preserved
 rows-preserved g c =
-    let s = c.args.s.now in
+    let s = c.args.sheet.now in
     let row = ap (take ((s.columns + 7) / 8)) c.row.ensures ∙ cut-row s.planes c.args.ink c.rows.y s.columns (omega (arith, s.most, s.width))
     (omega (arith, s.inks)) (omega (arith, s.height)) s.blank in
     record {
@@ -38,10 +38,10 @@ returns-in_err-write-clause-part g c = on_err_anyway _ (puts_part c.rows.invaria
 
 pub returns-clause-ok : goal.returns-clause-ok
 returns-clause-ok g c = two_ok c.put.result _ _ _ _ c.rows.invariant.so_far.gathers.sent _
-    (puts_end _ _ _ _ _ c.rows.invariant.so_far (rows-none c.args.s.now.columns
-    c.args.s.now.planes c.args.ink c.rows.y _ (omega arith))) c.rows.invariant.so_far.gathers.appends c.put.ensures.ok
+    (puts_end _ _ _ _ _ c.rows.invariant.so_far (rows-none c.args.sheet.now.columns
+    c.args.sheet.now.planes c.args.ink c.rows.y _ (omega arith))) c.rows.invariant.so_far.gathers.appends c.put.ensures.ok
 
 pub returns-clause-part : goal.returns-clause-part
 returns-clause-part g c = two_part c.put.result _ _ _ _ c.rows.invariant.so_far.gathers.sent _
-    (puts_end _ _ _ _ _ c.rows.invariant.so_far (rows-none c.args.s.now.columns
-    c.args.s.now.planes c.args.ink c.rows.y _ (omega arith))) c.rows.invariant.so_far.gathers.appends c.put.ensures.part
+    (puts_end _ _ _ _ _ c.rows.invariant.so_far (rows-none c.args.sheet.now.columns
+    c.args.sheet.now.planes c.args.ink c.rows.y _ (omega arith))) c.rows.invariant.so_far.gathers.appends c.put.ensures.part

@@ -3,7 +3,7 @@ use Rattle.std.proofs.lemmas.Result.{err_from_is_err_and}
 use Rattle.dot_emulator.specs.Runs.{Runs}
 use Rattle.job_player.proofs.Blanks.{given_blank}
 use Rattle.job_player.proofs.Playing.{gives_sheet, if_none, is_none, kept_back, plays_all, plays_more, plays_none, plays_nothing}
-use Rattle.job_player.proofs.Playing.{plays_to_emu_stop, plays_to_feed_stop, sheet_unwritten, sheet_written}
+use Rattle.job_player.proofs.Playing.{plays_to_emulator_stop, plays_to_feed_stop, sheet_unwritten, sheet_written}
 use Rattle.job_player.proofs.player.play_job.Goals as goal
 
 pub returns-in_err-feed : goal.returns-in_err-feed
@@ -54,7 +54,7 @@ returns-in-Err g c =
     let P : List ℕ → Type 0 = λ rows. Runs c.args.profile.now
     so_far.runs.m c.in-Some.placed.command rows c.commands.emulator c.run.new.self (Err c.in-Err.stop) in
     let runs = subst P c.rows.ensures (c.in-Err.ensures c.args.profile.now so_far.runs.m so_far.runs.shows) in
-    plays_to_emu_stop c.args.most c.run.new.self c.commands.feed c.next.new.self _ _ c.in-Some.placed
+    plays_to_emulator_stop c.args.most c.run.new.self c.commands.feed c.next.new.self _ _ c.in-Some.placed
     c.in-Err.stop c.refused_at.result so_far takes runs c.commands.invariant.most c.refused_at.ensures
 
 pub returns-in-Err-write_sheet : goal.returns-in-Err-write_sheet
