@@ -1,6 +1,6 @@
 //! The words of a command line.
 use std::{env, io};
-use weave_base::Words;
+use weave_base::{Memory, Words};
 
 /// Why there are no words.
 #[derive(Clone, Copy, Debug, PartialEq, Eq)]
@@ -14,28 +14,29 @@ pub enum NoWords {
 /// The most words of a command line.
 const MOST_WORDS: u32 = 0x7FFF_FFFF;
 
-// Why the system does not give the command line.
-fn refusal(error: &io::Error) -> NoWords {
-    match error.kind() {
-        io::ErrorKind::OutOfMemory => NoWords::Memory,
-        _ => NoWords::NoText,
+impl From<io::Error> for NoWords {
+    fn from(error: io::Error) -> NoWords {
+        match error.kind() {
+            io::ErrorKind::OutOfMemory => NoWords::Memory,
+            _ => NoWords::NoText,
+        }
+    }
+}
+
+impl From<Memory> for NoWords {
+    fn from(_memory: Memory) -> NoWords {
+        NoWords::Memory
     }
 }
 
 /// The words after the program's name, at most the first 2,147,483,647.
 pub fn read_words(rt: &HostRuntime) -> Result<Words, NoWords> {
-    let line = match env::args(rt) {
-        Ok(line) => line,
-        Err(error) => return Err(refusal(&error)),
-    };
     let mut words = Words::make(rt.alloc());
-    for word in line.skip(1) {
+    for word in env::args(rt)?.skip(1) {
         if words.len() == MOST_WORDS {
             break;
         }
-        if words.push(&word).is_err() {
-            return Err(NoWords::Memory);
-        }
+        words.push(&word)?;
     }
     Ok(words)
 }
