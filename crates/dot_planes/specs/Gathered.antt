@@ -1,5 +1,5 @@
 -- The amounts of a tile.
-use Rattle.std.specs.Prelude.{◌≡◌, ℕ, ◌+◌, ◌*◌, ◌<◌, ◌≤◌, List, [], slice_index, slice_index_or}
+use Rattle.std.specs.Prelude.{◌≡◌, ℕ, ◌+◌, ◌*◌, ◌<◌, List, [], slice_index, slice_index_or}
 use Rattle.tile_shape.specs.Geometry.{IsAt, IsPixel}
 use Rattle.tile_shape.specs.declared.tiles.Place.{Place}
 use Rattle.tile_shape.specs.declared.tiles.Shape.{Shape}
@@ -31,9 +31,3 @@ HasTile t p inks = HasInks t p t.inks inks
 pub record GathersRow (s : Shape) (amount : ℕ → ℕ → ℕ) (p : Place) (r : ℕ) (old new : List ℕ) : Type 0 where
   pub pixel : (offset x y : ℕ) → IsPixel s x y → IsAt p r offset x y → slice_index new (64 * r + offset) ≡ amount y x
   pub above : (m : ℕ) → m < 64 * r → slice_index new m ≡ slice_index old m
-
--- The window has all pixels of a tile.
-pub record IsWhole (s : Shape) (p : Place) : Type 0 where
-  pub left : 1 ≤ p.c
-  pub right : 64 * p.c + 64 ≤ s.width
-  pub down : 32 * p.j + 32 ≤ s.height

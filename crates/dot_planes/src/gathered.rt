@@ -1,7 +1,8 @@
 //! The amounts of a tile, gathered from rows of amounts.
-ghost use Rattle.dot_planes.specs.Gathered.{GathersRow, HasInks, HasPixels, IsWhole, shape_of};
+ghost use Rattle.dot_planes.specs.Gathered.{GathersRow, HasInks, HasPixels, shape_of};
 ghost use Rattle.dot_planes.specs.Tables.{amount};
-ghost use Rattle.std.specs.Prelude.{length, slice_index, true, ℕ, ◌*◌, ◌+◌, ◌-◌, ◌<◌, ◌≡◌, ◌≤◌, ◌⊎◌};
+ghost use Rattle.tile_shape.specs.Geometry.{IsWhole};
+ghost use Rattle.std.specs.Prelude.{length, slice_index, ℕ, ◌*◌, ◌+◌, ◌-◌, ◌<◌, ◌≡◌, ◌≤◌, ◌⊎◌};
 
 use crate::amounts::{TileAmounts, TileBytes, TileRows};
 use crate::ink_rows::InkRows;
@@ -39,20 +40,11 @@ impl InkRows {
         requires { ink < self.now.inks }
         ensures { HasPixels (shape_of self.now) (amount self.now ink) place tile.new }
     {
-        if self.has_all(place) {
+        if self.shape().has_all(place) {
             self.gather_whole(ink, place, tile);
         } else {
             self.gather_cut(ink, place, tile);
         }
-    }
-
-    // Whether the rows have all pixels of a tile.
-    fn has_all(&self, place: Place) -> bool
-        ensures { result ≡ true → IsWhole (shape_of self.now) place }
-    {
-        place.c >= 1
-            && 64 * place.c as usize + 64 <= self.width() as usize
-            && 32 * place.j as usize + 32 <= self.rows() as usize
     }
 
     // Sets the amounts of a tile that has all its pixels.

@@ -40,15 +40,13 @@ impl InkRows {
         ensures none { IfOk result (λ t. (i y x : ℕ) → amount t i y x ≡ 0) }
     {
         let len = width as usize * rows as usize * usize::from(inks);
-        match vec![in alloc; 0; len] {
-            Ok(bytes) => Ok(InkRows {
-                width,
-                rows,
-                inks,
-                bytes,
-            }),
-            Err(_) => Err(Memory),
-        }
+        let bytes = vec![in alloc; 0; len]?;
+        Ok(InkRows {
+            width,
+            rows,
+            inks,
+            bytes,
+        })
     }
 
     /// Leaves room for fewer rows. The contract does not say what amounts they have then.

@@ -51,15 +51,13 @@ impl Planes {
         ensures blank { IfOk result (λ t. (i y x : ℕ) → dot t i y x ≡ false) }
     {
         let len = row_len(width) * rows as usize * usize::from(inks);
-        match vec![in alloc; 0; len] {
-            Ok(bytes) => Ok(Planes {
-                width,
-                rows,
-                inks,
-                bytes,
-            }),
-            Err(_) => Err(Memory),
-        }
+        let bytes = vec![in alloc; 0; len]?;
+        Ok(Planes {
+            width,
+            rows,
+            inks,
+            bytes,
+        })
     }
 
     /// Columns.

@@ -53,10 +53,8 @@ impl TileBits {
         ensures blank { IfOk result IsBlank }
         ensures bytes { IfOk result (λ b. b ≡ replicate inks (replicate 256 0)) }
     {
-        match vec![in alloc; [0; 256]; usize::from(inks)] {
-            Ok(inks) => Ok(TileBits { inks }),
-            Err(_) => Err(Memory),
-        }
+        let inks = vec![in alloc; [0; 256]; usize::from(inks)]?;
+        Ok(TileBits { inks })
     }
 
     /// Turns every dot off.

@@ -5,9 +5,9 @@ use Rattle.dot_planes.proofs.PackedRows.{no_bit}
 use Rattle.dot_planes.proofs.RowBytes.{blank_row}
 use Rattle.dot_planes.proofs.planes.Planes.make.Goals as goal
 
-pub returns-in-Ok-clause-blank : goal.returns-in-Ok-clause-blank
+pub returns-clause-blank : goal.returns-clause-blank
 unfolding dot
-returns-in-Ok-clause-blank c = λ i y x.
+returns-clause-blank c = λ i y x.
     ap (λ b. bit_at b (x % 8)) (blank_row (row_len c.args.width) _
-    (i * c.args.rows + y) (x / 8) c.in-Ok.bytes.items (c.in-Ok.ensures.items_if_clones_equal (λ _ e. e)))
+    (i * c.args.rows + y) (x / 8) c.in_ok-bytes.bytes.items (c.in_ok-bytes.ensures.items_if_clones_equal (λ _ e. e)))
     ∙ no_bit (x % 8)
