@@ -56,8 +56,7 @@ pub fn diffuse_tile(
             band,
             corner,
             dots,
-            &mut field.held,
-            &mut field.amounts,
+            field,
         ),
         Kernel::Jarvis => diffuse_lanes(
             Kernel::Jarvis,
@@ -68,8 +67,7 @@ pub fn diffuse_tile(
             band,
             corner,
             dots,
-            &mut field.held,
-            &mut field.amounts,
+            field,
         ),
         Kernel::Stucki => diffuse_lanes(
             Kernel::Stucki,
@@ -80,8 +78,7 @@ pub fn diffuse_tile(
             band,
             corner,
             dots,
-            &mut field.held,
-            &mut field.amounts,
+            field,
         ),
     }
 }

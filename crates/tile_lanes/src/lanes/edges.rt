@@ -5,6 +5,7 @@ ghost use Rattle.tile_lanes.specs.Held.{HeldInRange, error_held};
 ghost use Rattle.tile_lanes.specs.Paces.{cell_of};
 
 use super::pace::Pace;
+use crate::field::{Held, NO_ERROR};
 
 // An error with 2040 added.
 #[inline(always)]
@@ -13,7 +14,7 @@ fn hold(error: i16) -> u16
     ensures most { result ≤ 4079 }
     ensures is { error_held result ≡ error }
 {
-    (error + 2040) as u16
+    (error + NO_ERROR as i16) as u16
 }
 
 // An error without the 2040 that was added.
@@ -23,12 +24,12 @@ fn release(held: u16) -> i16
     ensures in_range { InRange result }
     ensures is { result ≡ error_held held }
 {
-    held as i16 - 2040
+    held as i16 - NO_ERROR as i16
 }
 
 /// Puts the errors above the tile.
 #[inline(always)]
-pub(crate) fn put_above(pace: Pace, field: &mut [u16; 3502], above: &[i16; 128])
+pub(crate) fn put_above(pace: Pace, field: &mut Held, above: &[i16; 128])
     requires field { HeldInRange field.old }
     requires above { EachInRange above.now }
     ensures in_range { HeldInRange field.new }
@@ -44,7 +45,7 @@ pub(crate) fn put_above(pace: Pace, field: &mut [u16; 3502], above: &[i16; 128])
 
 /// Puts the corner edge, left of those.
 #[inline(always)]
-pub(crate) fn put_corner(pace: Pace, field: &mut [u16; 3502], corner: &[i16; 12])
+pub(crate) fn put_corner(pace: Pace, field: &mut Held, corner: &[i16; 12])
     requires field { HeldInRange field.old }
     requires corner { EachInRange corner.now }
     ensures in_range { HeldInRange field.new }
@@ -60,7 +61,7 @@ pub(crate) fn put_corner(pace: Pace, field: &mut [u16; 3502], corner: &[i16; 12]
 
 /// Puts the left edge.
 #[inline(always)]
-pub(crate) fn put_left(pace: Pace, field: &mut [u16; 3502], left: &[i16; 192])
+pub(crate) fn put_left(pace: Pace, field: &mut Held, left: &[i16; 192])
     requires field { HeldInRange field.old }
     requires left { EachInRange left.now }
     ensures in_range { HeldInRange field.new }
@@ -78,7 +79,7 @@ pub(crate) fn put_left(pace: Pace, field: &mut [u16; 3502], left: &[i16; 192])
 
 /// Takes the right edge.
 #[inline(always)]
-pub(crate) fn take_right(pace: Pace, field: &[u16; 3502], right: &mut [i16; 192])
+pub(crate) fn take_right(pace: Pace, field: &Held, right: &mut [i16; 192])
     requires field { HeldInRange field.now }
     ensures in_range { EachInRange right.new }
     ensures there { (n : ℕ) → n < 192 → slice_index_or right.new n (pos 0)
@@ -93,7 +94,7 @@ pub(crate) fn take_right(pace: Pace, field: &[u16; 3502], right: &mut [i16; 192]
 
 /// Takes the bottom edge.
 #[inline(always)]
-pub(crate) fn take_bottom(pace: Pace, field: &[u16; 3502], bottom: &mut [i16; 128])
+pub(crate) fn take_bottom(pace: Pace, field: &Held, bottom: &mut [i16; 128])
     requires field { HeldInRange field.now }
     ensures in_range { EachInRange bottom.new }
     ensures there { (n : ℕ) → n < 128 → slice_index_or bottom.new n (pos 0)
@@ -108,7 +109,7 @@ pub(crate) fn take_bottom(pace: Pace, field: &[u16; 3502], bottom: &mut [i16; 12
 
 /// Takes the corner edge: the last six errors of both rows of the bottom edge.
 #[inline(always)]
-pub(crate) fn take_lower_corner(pace: Pace, field: &[u16; 3502], corner: &mut [i16; 12])
+pub(crate) fn take_lower_corner(pace: Pace, field: &Held, corner: &mut [i16; 12])
     requires field { HeldInRange field.now }
     ensures in_range { EachInRange corner.new }
     ensures there { (n : ℕ) → n < 12 → slice_index_or corner.new n (pos 0)
