@@ -44,9 +44,7 @@ impl<const N: usize> Edge<N> {
         requires most { inks ≤ 4 }
         ensures { IfOk result (λ edge. edge ≡ replicate inks (replicate N (pos 0))) }
     {
-        let Ok(mut zeros) = Vec::with_capacity(alloc, usize::from(inks)) else {
-            return Err(Memory);
-        };
+        let mut zeros = Vec::with_capacity(alloc, usize::from(inks))?;
         for _ in 0..inks {
             zeros.push_reserved([0; N]);
         }

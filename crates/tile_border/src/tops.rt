@@ -31,12 +31,9 @@ impl TopEdges {
         requires most { inks ≤ 4 }
         ensures { IfOk result (λ top. IsZeroTop columns inks top) }
     {
-        let mut edges = Vec::new(alloc);
+        let mut edges = Vec::with_capacity(alloc, columns as usize)?;
         for _ in 0..columns {
-            let edge = BottomEdge::zero(alloc, inks)?;
-            let Ok(()) = edges.push(edge) else {
-                return Err(Memory);
-            };
+            edges.push_reserved(BottomEdge::zero(alloc, inks)?);
         }
         Ok(TopEdges { edges })
     }
