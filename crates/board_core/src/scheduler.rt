@@ -53,14 +53,12 @@ impl Core {
         ensures { IfOk result (λ core. core ≡ start shape) }
     {
         let count = shape.columns() as usize * shape.bands() as usize;
-        match vec![in alloc; FRESH; count] {
-            Ok(tiles) => Ok(Core {
-                shape,
-                tiles,
-                begun: 0,
-            }),
-            Err(_) => Err(Memory),
-        }
+        let tiles = vec![in alloc; FRESH; count]?;
+        Ok(Core {
+            shape,
+            tiles,
+            begun: 0,
+        })
     }
 
     /// Accepts one event, or refuses it and leaves the tiles unchanged.
