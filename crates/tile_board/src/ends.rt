@@ -43,12 +43,8 @@ impl<'a, A: TileRows> Board<'a, A> {
     {
         let tiles = count_tiles(rows.shape());
         let slots = waiting_slots(alloc, rows.shape(), top.at(0).inks(), spare)?;
-        let Ok(dots) = Vec::with_capacity(alloc, tiles) else {
-            return Err(Memory);
-        };
-        let Ok(words) = vec![in alloc; 0u64; tiles] else {
-            return Err(Memory);
-        };
+        let dots = Vec::with_capacity(alloc, tiles)?;
+        let words = vec![in alloc; 0u64; tiles]?;
         let slab = Slab {
             rows: Seen::of(rows),
             kernel,
@@ -130,9 +126,7 @@ fn waiting_slots(
 {
     let tiles = count_tiles(shape);
     let columns = shape.columns() as usize;
-    let Ok(mut slots) = Vec::with_capacity(alloc, 4 * tiles) else {
-        return Err(Memory);
-    };
+    let mut slots = Vec::with_capacity(alloc, 4 * tiles)?;
     for n in 0..tiles {
         let (c, j) = (n % columns, n / columns);
         let right = right_slot(alloc, 0 < c, inks)?;

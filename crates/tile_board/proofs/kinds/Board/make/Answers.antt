@@ -35,8 +35,8 @@ invariant_of-board g c =
       some = let a : words ≡ all = tiles in let h : 0 < all = more in omega arith;
       topped = (c.requires.columns ∙ sym columns, λ n low. c.requires.edge_inks n (omega arith));
       room = (
-        c.in-Ok.ensures.items,
+        c.in_ok-dots.ensures.items,
         let a : words ≡ all = tiles in let h : c.count_tiles-tiles.result ≡ all = counted in
-            let k = c.in-Ok.ensures.capacity in omega arith,
+            let k = c.in_ok-dots.ensures.capacity in omega arith,
       );
     }
