@@ -207,9 +207,7 @@ fn shares_of<L: Lends + Copy, A: TileRows>(
         (λ shares. AllReady (λ share. IsShareOf (desk board.now) (L.desk share.lent) share.worker.pass) shares.items) }
     ensures rest { IfOk result (λ shares. IsRest (desk board.now) (length shares.items) pass.new) }
 {
-    let Ok(mut shares) = Vec::with_capacity(alloc, usize::from(count)) else {
-        return Err(Memory);
-    };
+    let mut shares = Vec::with_capacity(alloc, usize::from(count))?;
     for _ in 0..count {
         let worker = Worker::make(alloc, board.split(pass), shape)?;
         shares.push_reserved(TileShare { lent, worker });

@@ -38,14 +38,12 @@ impl Worker {
         requires { IsShape shape }
         ensures { IfOk result (λ w. w.pass ≡ pass) }
     {
-        match vec![in alloc; 0; shape.bands() as usize] {
-            Ok(next_columns) => Ok(Worker {
-                pass,
-                next_columns,
-                band: 0,
-            }),
-            Err(_) => Err(Memory),
-        }
+        let next_columns = vec![in alloc; 0; shape.bands() as usize]?;
+        Ok(Worker {
+            pass,
+            next_columns,
+            band: 0,
+        })
     }
 
     /// Works tiles until all are gone, or it has claimed long in vain.
