@@ -115,9 +115,7 @@ pub(crate) fn take_lower_corner(pace: Pace, field: &Held, corner: &mut [i16; 12]
     ensures there { (n : ℕ) → n < 12 → slice_index_or corner.new n (pos 0)
         ≡ error_held (slice_index field.now (cell_of pace (32 + n / 6) (64 + n % 6))) }
 {
-    for t in 0..2 {
-        for i in 0..6 {
-            corner[6 * t + i] = release(field[pace.cell(32 + t, 64 + i)]);
-        }
+    for n in 0..12 {
+        corner[n] = release(field[pace.cell(32 + n / 6, 64 + n % 6)]);
     }
 }
