@@ -4,3 +4,4 @@ pub mod GatheredTile
 pub mod LinePuts
 pub mod InkSets
 pub mod Parts
+pub mod RepeatedRow
