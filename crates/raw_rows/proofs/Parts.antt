@@ -8,9 +8,11 @@ use Rattle.pwg_definitions.specs.declared.pages.Kind.TheVariants.{Gray8, Black8,
 use Rattle.separation_definitions.specs.Amounts.{pixel_at}
 use Rattle.tile_shape.specs.declared.tiles.Place.{Place}
 use Rattle.ink_separation.proofs.Chunks.{fewer_bytes}
-use Rattle.raw_rows.specs.Gathering.{HasPart, HasParts, IsWhole, PutsPart, part_bytes, first_pixel}
+use Rattle.raw_rows.specs.Gathering.{HasPart, HasParts, PutsPart, part_bytes, first_pixel}
 use Rattle.raw_rows.specs.Lines.{first_byte, kept_bytes, pixels_before}
-use Rattle.raw_rows.specs.Raw.{line_in}
+use Rattle.raw_rows.specs.Raw.{line_in, table_of}
+use Rattle.dot_planes.specs.Gathered.{shape_of}
+use Rattle.tile_shape.specs.Geometry.{IsWhole}
 use Rattle.raw_rows.specs.declared.kept.RawRows.{RawRows}
 
 -- 64 pixels need no more than 256 bytes
@@ -79,7 +81,7 @@ parts_more raw p n old new has puts few r low = elim (cases_eq r n) [
 ]
 
 -- the part of a row that the window has is inside of what is kept of its line
-pub part_kept : (raw : RawRows) (p : Place) (r : ℕ) → IsWhole raw p → r < 32
+pub part_kept : (raw : RawRows) (p : Place) (r : ℕ) → IsWhole (shape_of (table_of raw)) p → r < 32
     → first_byte raw.separator.kind (first_pixel raw p r) + part_bytes raw (first_pixel raw p r) ≤ kept_bytes raw.separator
 part_kept raw p r whole few =
     let s = raw.separator in

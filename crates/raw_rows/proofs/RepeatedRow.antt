@@ -10,9 +10,9 @@ use Rattle.printer_definitions.specs.Inks.{inks_of}
 use Rattle.printer_definitions.specs.declared.inks.Ink.{Ink}
 use Rattle.printer_definitions.specs.declared.inks.Ink.TheVariants.{Black}
 use Rattle.separation_definitions.specs.Amounts.{amount as amount_of, pixel_at}
-use Rattle.tile_shape.specs.Geometry.{IsAt, IsPixel}
+use Rattle.tile_shape.specs.Geometry.{IsAt, IsPixel, IsWhole}
 use Rattle.tile_shape.specs.declared.tiles.Place.{Place}
-use Rattle.raw_rows.specs.Gathering.{GathersRow, HasRows, IsWhole, MovesRow, RepeatsAbove, first_pixel}
+use Rattle.raw_rows.specs.Gathering.{GathersRow, HasRows, MovesRow, RepeatsAbove, first_pixel}
 use Rattle.raw_rows.specs.Raw.{ink_at, line_in, table_of}
 use Rattle.raw_rows.specs.declared.kept.RawRows.{RawRows}
 use Rattle.raw_rows.proofs.Cells.{amount_is}
@@ -27,7 +27,7 @@ same_line raw i y q x ink row other column is =
     ∙ sym (amount_is raw i q x ink other column)
 
 -- the formula at an offset of a row is an amount of the table
-row_cell : (raw : RawRows) (p : Place) (r i o x y : ℕ) → IsWhole raw p → r < 32 → i < length (inks_of raw.separator.inks)
+row_cell : (raw : RawRows) (p : Place) (r i o x y : ℕ) → IsWhole (shape_of (table_of raw)) p → r < 32 → i < length (inks_of raw.separator.inks)
     → IsPixel (shape_of (table_of raw)) x y → IsAt p r o x y
     → amount_of (printer_in raw.separator) raw.separator.kind
     (pixel_at raw.separator.kind (line_in raw (32 * p.j + r)) (first_pixel raw p r + o)) (ink_at raw.separator.inks i)
@@ -61,7 +61,7 @@ above_cell raw p r i o x y inks again has ink late pixel at =
     (ap (λ n. line_in raw n) at.down ∙ again.line ∙ ap (λ n. line_in raw n) up))
 
 -- a row that has the line of the row above it: its first two amounts, and those of the row above
-pub repeat_gathers : (raw : RawRows) (p : Place) (r n : ℕ) (old mid new : List (List ℕ)) → IsWhole raw p → r < 32 → RepeatsAbove raw p r
+pub repeat_gathers : (raw : RawRows) (p : Place) (r n : ℕ) (old mid new : List (List ℕ)) → IsWhole (shape_of (table_of raw)) p → r < 32 → RepeatsAbove raw p r
     → HasRows (table_of raw) p r old
     → ((i : ℕ) (ink : Ink) → slice_get (inks_of raw.separator.inks) i ≡ Some ink → (k : ℕ) → k < 2
     → tile_amount mid i (64 * r + k) ≡ amount_of (printer_in raw.separator) raw.separator.kind

@@ -17,12 +17,6 @@ pub record GathersRow (t : AmountTable) (p : Place) (r : ℕ) (old new : List (L
 pub record HasRows (t : AmountTable) (p : Place) (n : ℕ) (inks : List (List ℕ)) : Type 0 where
   pub ink : (i : ℕ) → i < t.inks → HasOne (shape_of t) (amount t i) p n (slice_index_or inks i [])
 
--- The rows have all pixels of a tile.
-pub record IsWhole (raw : RawRows) (p : Place) : Type 0 where
-  pub left : 1 ≤ p.c
-  pub right : 64 * p.c + 64 ≤ raw.separator.window.width
-  pub down : 32 * p.j + 32 ≤ raw.rows
-
 -- the pixel of a line with which row r of a tile begins
 abbrev pub first_pixel : RawRows → Place → ℕ → ℕ
 first_pixel raw p r = raw.separator.window.left + 64 * p.c - 2 * r

@@ -89,7 +89,7 @@ impl TileRows for RawRows {
     }
 
     fn gather(&self, place: Place, bytes: &mut TileBytes, out: &mut TileAmounts) {
-        if self.has_all(place) {
+        if self.shape().has_all(place) {
             self.gather_whole(place, bytes, out);
         } else {
             self.gather_cut(place, out);

@@ -15,7 +15,6 @@ ghost use Rattle.std.specs.Prelude.{IfOk, length, slice_index, ℕ, ◌*◌, ◌
 use crate::kept::RawRows;
 use base_definitions::Memory;
 use ink_separation::Separator;
-use pwg_definitions::Kind;
 use std::alloc::Global;
 
 // How many bytes of a line are kept.
@@ -24,13 +23,9 @@ fn bytes_of(separator: &Separator) -> usize
     ensures few { result < 68719476736 }
 {
     let window = separator.window();
-    let pixels = window.left as usize + window.width as usize;
-    match separator.kind() {
-        Kind::Gray8 | Kind::Black8 => pixels,
-        Kind::Rgb8 => 3 * pixels,
-        Kind::Black1 => pixels.div_ceil(8),
-        Kind::Cmyk8 => 4 * pixels,
-    }
+    separator
+        .kind()
+        .line_bytes(window.left as usize + window.width as usize)
 }
 
 // Line n of lines of `len` bytes each.
@@ -61,16 +56,14 @@ impl RawRows {
         ensures separator { IfOk result (λ raw. raw.separator ≡ separator) }
     {
         let len = bytes_of(&separator);
-        match vec![in alloc; 0; rows as usize * len] {
-            Ok(bytes) => Ok(RawRows {
-                separator,
-                rows,
-                len,
-                bytes,
-                index: [0; 256],
-            }),
-            Err(_) => Err(Memory),
-        }
+        let bytes = vec![in alloc; 0; rows as usize * len]?;
+        Ok(RawRows {
+            separator,
+            rows,
+            len,
+            bytes,
+            index: [0; 256],
+        })
     }
 
     /// Leaves room for fewer rows. The contract does not say what amounts they have then.

@@ -1,10 +1,11 @@
 //! Tiles that have all their pixels.
-ghost use Rattle.dot_planes.specs.Gathered.{HasTile};
+ghost use Rattle.dot_planes.specs.Gathered.{HasTile, shape_of};
 ghost use Rattle.pwg_definitions.specs.Header.{line_bytes, row_of};
-ghost use Rattle.raw_rows.specs.Gathering.{GathersRow, HasParts, HasRows, IsWhole, MovesRow, PutsPart, RepeatsAbove};
+ghost use Rattle.raw_rows.specs.Gathering.{GathersRow, HasParts, HasRows, MovesRow, PutsPart, RepeatsAbove};
 ghost use Rattle.raw_rows.specs.Gathering.{first_pixel, part_bytes};
 ghost use Rattle.raw_rows.specs.Lines.{first_byte, pixels_before};
 ghost use Rattle.raw_rows.specs.Raw.{table_of};
+ghost use Rattle.tile_shape.specs.Geometry.{IsWhole};
 ghost use Rattle.std.specs.Prelude.{length, slice_index, true, ℕ, ◌*◌, ◌+◌, ◌-◌, ◌<◌, ◌≡◌, ◌≤◌};
 
 use crate::kept::RawRows;
@@ -83,20 +84,11 @@ fn move_ink_row(r: usize, amounts: &mut [u8])
 }
 
 impl RawRows {
-    /// Whether the rows have all pixels of a tile.
-    pub(crate) fn has_all(&self, place: Place) -> bool
-        ensures { result ≡ true → IsWhole self.now place }
-    {
-        place.c >= 1
-            && 64 * place.c as usize + 64 <= self.separator.window().width as usize
-            && 32 * place.j as usize + 32 <= self.rows as usize
-    }
-
     // Where row r of a tile stands in its line.
     #[inline(always)]
     fn part_of(&self, place: Place, r: usize) -> Part
         requires r { r < 32 }
-        requires whole { IsWhole self.now place }
+        requires whole { IsWhole (shape_of (table_of self.now)) place }
         ensures first { result.first ≡ first_byte self.now.separator.kind (first_pixel self.now place r) }
         ensures before { result.before ≡ pixels_before self.now.separator.kind (first_pixel self.now place r) }
         ensures many { result.many ≡ part_bytes self.now (first_pixel self.now place r) }
@@ -110,7 +102,7 @@ impl RawRows {
     #[inline(always)]
     fn copy_row(&self, place: Place, r: usize, bytes: &mut TileBytes)
         requires r { r < 32 }
-        requires whole { IsWhole self.now place }
+        requires whole { IsWhole (shape_of (table_of self.now)) place }
         ensures { PutsPart self.now place r bytes.old bytes.new }
     {
         let line = self.line((32 * place.j as usize + r) as u32);
@@ -121,7 +113,7 @@ impl RawRows {
     // Copies the bytes of a tile. The loop does nothing but copy, so that many of its reads are on their way at once:
     // other processors' caches may hold the lines.
     fn copy_rows(&self, place: Place, bytes: &mut TileBytes)
-        requires { IsWhole self.now place }
+        requires { IsWhole (shape_of (table_of self.now)) place }
         ensures { HasParts self.now place 32 bytes.new }
     {
         for r in 0..32 {
@@ -132,7 +124,7 @@ impl RawRows {
     // Sets row r of a tile in every ink from the tile's bytes.
     fn separate_row(&self, bytes: &TileBytes, place: Place, r: usize, out: &mut TileAmounts)
         requires r { r < 32 }
-        requires whole { IsWhole self.now place }
+        requires whole { IsWhole (shape_of (table_of self.now)) place }
         requires bytes { HasParts self.now place 32 bytes.now }
         ensures { GathersRow (table_of self.now) place r out.old.inks out.new.inks }
     {
@@ -146,7 +138,7 @@ impl RawRows {
     // Whether row r of a tile has the line of the row above it in the tile.
     fn repeats(&self, place: Place, r: usize) -> bool
         requires r { r < 32 }
-        requires whole { IsWhole self.now place }
+        requires whole { IsWhole (shape_of (table_of self.now)) place }
         ensures { result ≡ true → RepeatsAbove self.now place r }
     {
         let y = 32 * place.j as usize + r;
@@ -157,7 +149,7 @@ impl RawRows {
     // are new.
     fn repeat_row(&self, bytes: &TileBytes, place: Place, r: usize, out: &mut TileAmounts)
         requires r { r < 32 }
-        requires whole { IsWhole self.now place }
+        requires whole { IsWhole (shape_of (table_of self.now)) place }
         requires bytes { HasParts self.now place 32 bytes.now }
         requires again { RepeatsAbove self.now place r }
         requires above { HasRows (table_of self.now) place r out.old.inks }
@@ -172,7 +164,7 @@ impl RawRows {
 
     /// Gathers a tile that has all its pixels: first its bytes, then its amounts.
     pub(crate) fn gather_whole(&self, place: Place, bytes: &mut TileBytes, out: &mut TileAmounts)
-        requires { IsWhole self.now place }
+        requires { IsWhole (shape_of (table_of self.now)) place }
         ensures { HasTile (table_of self.now) place out.new.inks }
     {
         self.copy_rows(place, bytes);

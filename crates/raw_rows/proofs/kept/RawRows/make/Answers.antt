@@ -6,6 +6,6 @@ pub invariant_of-result : goal.invariant_of-result
 invariant_of-result c = record {
   size = c.requires;
   long = c.bytes_of-len.ensures.is;
-  room = omega (arith, c.in-Ok.ensures.len);
+  room = omega (arith, c.in_ok-bytes.ensures.len);
   earlier = λ y. omega (arith, zero_at 256 y);
 }
