@@ -4,4 +4,3 @@ pub mod GatheredTile
 pub mod LinePuts
 pub mod InkSets
 pub mod Parts
-pub mod RepeatedRow

@@ -1,8 +1,7 @@
 -- Rows of a tile in every ink.
-use Rattle.std.specs.Prelude.{ℕ, ◌≡◌, ◌+◌, ◌-◌, ◌*◌, ◌<◌, ◌≤◌, List, [], length, slice_index, slice_index_or}
+use Rattle.std.specs.Prelude.{ℕ, ◌≡◌, ◌+◌, ◌-◌, ◌*◌, ◌<◌, ◌≤◌, List, [], slice_index, slice_index_or}
 use Rattle.dot_planes.specs.Gathered.{GathersRow as GathersOne, HasRows as HasOne, shape_of}
 use Rattle.dot_planes.specs.Tables.{AmountTable, amount}
-use Rattle.ink_separation.specs.Separated.{KeepsBefore, tile_amount}
 use Rattle.pwg_definitions.specs.Header.{line_bytes, row_of}
 use Rattle.tile_shape.specs.declared.tiles.Place.{Place}
 use Rattle.raw_rows.specs.Lines.{first_byte, pixels_before}
@@ -39,15 +38,3 @@ HasParts raw p n bytes = (r : ℕ) → r < n → HasPart raw p r bytes
 pub record PutsPart (raw : RawRows) (p : Place) (r : ℕ) (old new : List ℕ) : Type 0 where
   pub part : HasPart raw p r new
   pub above : (n : ℕ) → n < 256 * r → slice_index new n ≡ slice_index old n
-
--- Row r of a tile is not its first, and has the line of the row above it.
-pub record RepeatsAbove (raw : RawRows) (p : Place) (r : ℕ) : Type 0 where
-  pub some : 1 ≤ r
-  pub line : line_in raw (32 * p.j + r) ≡ line_in raw (32 * p.j + r - 1)
-
--- In the first n inks, row r of a tile has the amounts of the row above it from its third on, and all before them are
--- unchanged.
-pub record MovesRow (r n : ℕ) (old new : List (List ℕ)) : Type 0 where
-  pub long : length new ≡ length old
-  pub moved : (i : ℕ) → i < n → (k : ℕ) → k < 62 → tile_amount new i (64 * r + 2 + k) ≡ tile_amount old i (64 * r - 64 + k)
-  pub before : KeepsBefore (64 * r + 2) old new

@@ -1,12 +1,11 @@
 //! Tiles that have all their pixels.
 ghost use Rattle.dot_planes.specs.Gathered.{HasTile, shape_of};
 ghost use Rattle.pwg_definitions.specs.Header.{line_bytes, row_of};
-ghost use Rattle.raw_rows.specs.Gathering.{GathersRow, HasParts, HasRows, MovesRow, PutsPart, RepeatsAbove};
-ghost use Rattle.raw_rows.specs.Gathering.{first_pixel, part_bytes};
+ghost use Rattle.raw_rows.specs.Gathering.{GathersRow, HasParts, PutsPart, first_pixel, part_bytes};
 ghost use Rattle.raw_rows.specs.Lines.{first_byte, pixels_before};
 ghost use Rattle.raw_rows.specs.Raw.{table_of};
 ghost use Rattle.tile_shape.specs.Geometry.{IsWhole};
-ghost use Rattle.std.specs.Prelude.{length, slice_index, true, ℕ, ◌*◌, ◌+◌, ◌-◌, ◌<◌, ◌≡◌, ◌≤◌};
+ghost use Rattle.std.specs.Prelude.{◌+◌, ◌<◌, ◌≡◌, ◌≤◌};
 
 use crate::kept::RawRows;
 use crate::lines::put;
@@ -55,32 +54,6 @@ fn part_at(kind: Kind, x: usize) -> Part
             before: 0,
         },
     }
-}
-
-// Gives the first inks in row r of a tile the amounts of the row above it, two places further right.
-fn move_row(r: usize, inks: u8, out: &mut TileAmounts)
-    requires some { 1 ≤ r }
-    requires r { r < 32 }
-    requires inks { inks ≤ 4 }
-    ensures { MovesRow r inks out.old.inks out.new.inks }
-{
-    for i in 0..inks {
-        move_ink_row(r, &mut out.inks[usize::from(i)]);
-    }
-}
-
-// The same in one ink.
-#[inline(always)]
-fn move_ink_row(r: usize, amounts: &mut [u8])
-    requires some { 1 ≤ r }
-    requires r { r < 32 }
-    requires amounts { length amounts.old ≡ 2048 }
-    ensures len { length amounts.new ≡ 2048 }
-    ensures moved { (k : ℕ) → k < 62 → slice_index amounts.new (64 * r + 2 + k) ≡ slice_index amounts.old (64 * r - 64 + k) }
-    ensures before { (n : ℕ) → n < 64 * r + 2 → slice_index amounts.new n ≡ slice_index amounts.old n }
-{
-    let first = 64 * r;
-    amounts.copy_within(first - 64..first - 2, first + 2);
 }
 
 impl RawRows {
@@ -135,33 +108,6 @@ impl RawRows {
             .separate_into(row, part.before, 64, 64 * r, out);
     }
 
-    // Whether row r of a tile has the line of the row above it in the tile.
-    fn repeats(&self, place: Place, r: usize) -> bool
-        requires r { r < 32 }
-        requires whole { IsWhole (shape_of (table_of self.now)) place }
-        ensures { result ≡ true → RepeatsAbove self.now place r }
-    {
-        let y = 32 * place.j as usize + r;
-        r > 0 && self.index[y] == self.index[y - 1]
-    }
-
-    // Sets row r of a tile that has the line of the row above it, whose amounts are there: only its first two pixels
-    // are new.
-    fn repeat_row(&self, bytes: &TileBytes, place: Place, r: usize, out: &mut TileAmounts)
-        requires r { r < 32 }
-        requires whole { IsWhole (shape_of (table_of self.now)) place }
-        requires bytes { HasParts self.now place 32 bytes.now }
-        requires again { RepeatsAbove self.now place r }
-        requires above { HasRows (table_of self.now) place r out.old.inks }
-        ensures { GathersRow (table_of self.now) place r out.old.inks out.new.inks }
-    {
-        let part = self.part_of(place, r);
-        let row = &bytes[256 * r..256 * r + 256];
-        self.separator
-            .separate_into(row, part.before, 2, 64 * r, out);
-        move_row(r, self.separator.inks().count(), out);
-    }
-
     /// Gathers a tile that has all its pixels: first its bytes, then its amounts.
     pub(crate) fn gather_whole(&self, place: Place, bytes: &mut TileBytes, out: &mut TileAmounts)
         requires { IsWhole (shape_of (table_of self.now)) place }
@@ -169,11 +115,7 @@ impl RawRows {
     {
         self.copy_rows(place, bytes);
         for r in 0..32 {
-            if self.repeats(place, r) {
-                self.repeat_row(bytes, place, r, out);
-            } else {
-                self.separate_row(bytes, place, r, out);
-            }
+            self.separate_row(bytes, place, r, out);
         }
     }
 }
