@@ -1,10 +1,10 @@
 //! Groups fed whole, in two pieces and byte by byte, and groups written.
 ghost use Rattle.base_definitions.specs.Limits.{most_columns, most_rows};
-ghost use Rattle.pwg_definitions.specs.Header.{line_bytes, row_of};
 ghost use Rattle.std.specs.Prelude.{IfOk, length, ◌≡◌, ◌≤◌};
 
 use crate::checks::{same, same_bytes};
-use pwg_lines::{Fed, Fill, Kind, LineFault, LineReader, PageForm, code_line};
+use page_maker::made_form;
+use pwg_lines::{Fed, Fill, Kind, LineFault, LineReader, code_line};
 use std::alloc::Global;
 use std::process::Abort;
 use std::test::Fail;
@@ -20,27 +20,6 @@ fn feeds(rt: &impl Abort, reader: &mut LineReader, pieces: &[(&[u8], usize, Fill
     }
 }
 
-// The form of a page.
-fn form(kind: Kind, width: u32, height: u32) -> PageForm
-    requires { width ≤ most_columns }
-    ensures width { result.width ≡ width }
-    ensures height { result.height ≡ height }
-    ensures bytes { result.bytes_per_line ≡ line_bytes width (row_of result.kind).bits_per_pixel }
-{
-    let bytes_per_line = match kind {
-        Kind::Gray8 | Kind::Black8 => width,
-        Kind::Rgb8 => 3 * width,
-        Kind::Black1 => (width + 7) / 8,
-        Kind::Cmyk8 => 4 * width,
-    };
-    PageForm {
-        width,
-        height,
-        kind,
-        bytes_per_line,
-    }
-}
-
 // A reader of a page of this kind.
 fn reader_of(alloc: Global, kind: Kind, width: u32, height: u32) -> Result<LineReader, Fail>
     requires narrowest { 1 ≤ width }
@@ -48,7 +27,7 @@ fn reader_of(alloc: Global, kind: Kind, width: u32, height: u32) -> Result<LineR
     requires lowest { 1 ≤ height }
     requires tallest { height ≤ most_rows }
 {
-    Ok(LineReader::begin(alloc, form(kind, width, height))?)
+    Ok(LineReader::begin(alloc, made_form(width, height, kind))?)
 }
 
 #[test]
@@ -56,7 +35,7 @@ fn a_reader_begins_another_page_in_the_middle_of_a_group(rt: HostRuntime) -> Res
     const GROUP: [u8; 5] = [0x01, 0x01, 0x05, 0x06, 0x07];
     let mut reader = reader_of(rt.alloc(), Kind::Gray8, 4, 1)?;
     feeds(&rt, &mut reader, &[(&[0x00, 0x01], 2, Fill::More)]);
-    reader.restart(form(Kind::Rgb8, 2, 2))?;
+    reader.restart(made_form(2, 2, Kind::Rgb8))?;
     same(&rt, "the lines left", &reader.lines_left(), &2);
     feeds(&rt, &mut reader, &[(&GROUP, 5, Fill::Line { repeats: 2 })]);
     same_bytes(&rt, "the line", reader.line(), &[5, 6, 7, 5, 6, 7]);
@@ -65,12 +44,7 @@ fn a_reader_begins_another_page_in_the_middle_of_a_group(rt: HostRuntime) -> Res
 
 // Whether each of these bytes is this one.
 fn all_are(bytes: &[u8], wanted: u8) -> bool {
-    for byte in bytes {
-        if *byte != wanted {
-            return false;
-        }
-    }
-    true
+    bytes.iter().all(|byte| *byte == wanted)
 }
 
 // Feeds a white line of this many bytes to a reader of one line.
