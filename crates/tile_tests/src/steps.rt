@@ -17,9 +17,7 @@ use tile_border::{BottomEdge, CornerEdge, RightEdge, TopEdges};
 fn waiting_slots(alloc: Global) -> Result<Vec<Cell>, Memory>
     ensures { IfOk result (λ v. v.items ≡ fresh_slots (fresh_in (record { width = 1; height = 1 }) 1) 1) }
 {
-    let Ok(mut slots) = Vec::with_capacity(alloc, 4) else {
-        return Err(Memory);
-    };
+    let mut slots = Vec::with_capacity(alloc, 4)?;
     let right = RightEdge::zero(alloc, 1)?;
     let bottom = BottomEdge::zero(alloc, 1)?;
     let corner = CornerEdge::zero(alloc, 1)?;
