@@ -130,6 +130,15 @@ fn top_of(alloc: Global, width: u32, inks: u8, error: i16) -> Option<TopEdges>
     Some(top)
 }
 
+// A team of this many workers, or of the nearest number that it may have.
+fn team_of<'a, R, G>(threads: &'a R, workers: u8, gate: &'a G) -> Team<'a, R, G> {
+    Team {
+        threads,
+        workers: workers.clamp(1, 64),
+        gate,
+    }
+}
+
 // Diffuses rows of the window from row `first` on, and gives the top of the rows below them.
 fn next_slab<R: Threads + Sync, G: Gate + Sync>(
     team: &Team<'_, R, G>,
@@ -245,9 +254,9 @@ fn wrong_in<R: Threads + Sync, G: Gate + Sync>(
     wrong_of(alloc, case, &planes, &bottom)
 }
 
-// Diffuses rows of the window from row `first` on, whose dots may wait, and gives the top of the rows below them.
-// There is room for `room` rows.
-fn next_waiting<R: Threads + Sync>(
+// Diffuses rows of the window from row `first` on, whose dots may wait, while the caller has an errand, and gives the
+// top of the rows below them. There is room for `room` rows.
+fn next_beside<R: Threads + Sync, F: FnMut()>(
     team: &Team<'_, R, OpenGate>,
     alloc: Global,
     case: &Case,
@@ -256,11 +265,13 @@ fn next_waiting<R: Threads + Sync>(
     height: u32,
     room: u32,
     dots: &mut DotsSoFar,
+    errand: &mut F,
 ) -> Option<TopEdges>
     requires top { IsTopOf dots.old.planes.width dots.old.planes.inks top }
     requires width { dots.old.planes.width ≡ case.now.width }
     requires inks { dots.old.planes.inks ≡ case.now.inks }
     requires room { dots.old.planes.rows ≡ room }
+    requires errand { F.pre errand.old }
     ensures size { HasSizeOf dots.old.planes dots.new.planes }
     ensures top { IfSome result (IsTopOf dots.old.planes.width dots.old.planes.inks) }
 {
@@ -269,9 +280,8 @@ fn next_waiting<R: Threads + Sync>(
     if !fits || rows.width() != case.width || rows.inks() != case.inks {
         return None;
     }
-    let mut none = || {};
     let at = first + ABOVE;
-    match diffuse_beside(team, alloc, &rows, case.kernel, top, dots, at, &mut none) {
+    match diffuse_beside(team, alloc, &rows, case.kernel, top, dots, at, errand) {
         Ok((bottom, ())) => Some(bottom),
         Err(_) => None,
     }
@@ -295,7 +305,8 @@ fn diffuse_waiting<R: Threads + Sync>(
     let mut top = top;
     let mut first = 0u32;
     'slabs: for rows in case.slabs {
-        top = next_waiting(team, alloc, case, top, first, *rows, room, dots)?;
+        let mut none = || {};
+        top = next_beside(team, alloc, case, top, first, *rows, room, dots, &mut none)?;
         first = first.wrapping_add(*rows);
     }
     Some(top)
@@ -309,51 +320,13 @@ pub(crate) fn wrong_waiting<R: Threads + Sync>(
     case: &Case,
     workers: u8,
 ) -> Option<u32> {
-    let team = Team {
-        threads,
-        workers: workers.clamp(1, 64),
-        gate: &OpenGate,
-    };
+    let team = team_of(threads, workers, &OpenGate);
     let planes = spotted(alloc, case.width, case.height(), case.inks)?;
     let room = planes.rows();
     let top = top_of(alloc, case.width, case.inks, case.error)?;
     let mut dots = DotsSoFar::of(planes);
     let bottom = diffuse_waiting(&team, alloc, case, top, room, &mut dots)?;
     wrong_of(alloc, case, &dots.finish(), &bottom)
-}
-
-// Diffuses a window of one slab while the caller has an errand, and gives its dots and the top of the rows below it.
-fn slab_beside<R: Threads + Sync, F: FnMut()>(
-    team: &Team<'_, R, OpenGate>,
-    alloc: Global,
-    case: &Case,
-    top: TopEdges,
-    planes: Planes,
-    errand: &mut F,
-) -> Option<(Planes, TopEdges)>
-    requires top { IsTopOf planes.width planes.inks top }
-    requires errand { F.pre errand.old }
-    ensures { IfSome result (λ slab. IsTopOf planes.width planes.inks slab.1) }
-{
-    let rows = amounts(alloc, case, 0, case.height())?;
-    let fits = rows.rows() <= 300 && ABOVE + rows.rows() <= planes.rows();
-    if !fits || rows.width() != planes.width() || rows.inks() != planes.inks() {
-        return None;
-    }
-    let mut dots = DotsSoFar::of(planes);
-    match diffuse_beside(
-        team,
-        alloc,
-        &rows,
-        case.kernel,
-        top,
-        &mut dots,
-        ABOVE,
-        errand,
-    ) {
-        Ok((bottom, ())) => Some((dots.finish(), bottom)),
-        Err(_) => None,
-    }
 }
 
 /// How many dots and bottom errors of a window of one slab are wrong, where this many workers diffuse it and the caller
@@ -367,15 +340,13 @@ pub(crate) fn wrong_beside<R: Threads + Sync, F: FnMut()>(
 ) -> Option<u32>
     requires { F.pre errand.old }
 {
-    let team = Team {
-        threads,
-        workers: workers.clamp(1, 64),
-        gate: &OpenGate,
-    };
+    let team = team_of(threads, workers, &OpenGate);
     let planes = spotted(alloc, case.width, case.height(), case.inks)?;
+    let (height, room) = (case.height(), planes.rows());
     let top = top_of(alloc, case.width, case.inks, case.error)?;
-    let (planes, bottom) = slab_beside(&team, alloc, case, top, planes, errand)?;
-    wrong_of(alloc, case, &planes, &bottom)
+    let mut dots = DotsSoFar::of(planes);
+    let bottom = next_beside(&team, alloc, case, top, 0, height, room, &mut dots, errand)?;
+    wrong_of(alloc, case, &dots.finish(), &bottom)
 }
 
 /// The rows of a window of one ink, one after another, as this many workers diffuse it.
@@ -386,11 +357,7 @@ pub(crate) fn rows_of<R: Threads + Sync, G: Gate + Sync>(
     workers: u8,
     gate: &G,
 ) -> Option<Vec<u8>> {
-    let team = Team {
-        threads,
-        workers: workers.clamp(1, 64),
-        gate,
-    };
+    let team = team_of(threads, workers, gate);
     let mut planes = spotted(alloc, case.width, case.height(), case.inks)?;
     let top = top_of(alloc, case.width, case.inks, case.error)?;
     let _bottom = diffuse_slabs(&team, alloc, case, top, &mut planes)?;
@@ -412,11 +379,7 @@ pub(crate) fn is_right<R: Abort + Threads + Sync, G: Gate + Sync>(
     workers: u8,
     gate: &G,
 ) {
-    let team = Team {
-        threads: rt,
-        workers: workers.clamp(1, 64),
-        gate,
-    };
+    let team = team_of(rt, workers, gate);
     let wrong = wrong_in(&team, alloc, case);
     assert_eq!(rt; wrong, Some(0), "{case:?} by {workers}");
 }
