@@ -1,6 +1,6 @@
 //! Groups fed whole, in two pieces and byte by byte, and groups written.
 ghost use Rattle.base_definitions.specs.Limits.{most_columns, most_rows};
-ghost use Rattle.std.specs.Prelude.{IfOk, length, ◌≡◌, ◌≤◌};
+ghost use Rattle.std.specs.Prelude.{IfOk, length, ◌≤◌};
 
 use crate::checks::{same, same_bytes};
 use page_maker::made_form;
