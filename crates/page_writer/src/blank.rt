@@ -1,6 +1,11 @@
 //! Rows without dots.
+ghost use Rattle.base_definitions.specs.Limits.{most_columns};
+ghost use Rattle.base_definitions.specs.Packed.{packed};
+ghost use Rattle.page_writer.specs.Passes.{plane_row as plane_row_of};
 ghost use Rattle.std.specs.List.{list_all};
-ghost use Rattle.std.specs.Prelude.{replicate, ◌==◌, ◌≡◌, ◌≤◌};
+ghost use Rattle.std.specs.Prelude.{IfSome, replicate, ◌<◌, ◌==◌, ◌≡◌, ◌≤◌};
+
+use dot_planes::Planes;
 
 /// The bytes of the widest row, which has 8191 columns.
 pub(crate) const WIDEST_ROW: usize = 1024;
@@ -15,6 +20,20 @@ pub fn blank_row(len: usize) -> &'static [u8]
     ensures { result.now ≡ replicate len 0 }
 {
     &BLANK[..len]
+}
+
+/// The packed row of an ink in its plane; the blank row for `None`.
+#[inline]
+pub(crate) fn plane_row(planes: &Planes, place: u8, row: Option<u32>) -> &[u8]
+    requires place { place < planes.now.inks }
+    requires row { IfSome row (λ y. y < planes.now.rows) }
+    requires width { planes.now.width ≤ most_columns }
+    ensures { result.now ≡ packed (plane_row_of planes.now place row) }
+{
+    match row {
+        Some(y) => planes.row(place, y),
+        None => blank_row((planes.width() as usize + 7) / 8),
+    }
 }
 
 /// Whether a packed row has no dot: its greatest byte is 0. The loop never ends early, so that it runs over many

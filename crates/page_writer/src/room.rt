@@ -54,13 +54,9 @@ fn make_piece(alloc: Global, each: u32, most: usize) -> Result<Piece, Memory>
     ensures many { IfOk result (λ piece. length piece.strokes.items ≡ each) }
     ensures room { IfOk result (λ piece. Each (λ k coded. most ≤ vec_capacity coded.code) piece.strokes.items) }
 {
-    let Ok(mut strokes) = Vec::with_capacity(alloc, each as usize) else {
-        return Err(Memory);
-    };
+    let mut strokes = Vec::with_capacity(alloc, each as usize)?;
     'strokes: for _ in 0..each {
-        let Ok(code) = Vec::with_capacity(alloc, most) else {
-            return Err(Memory);
-        };
+        let code = Vec::with_capacity(alloc, most)?;
         strokes.push_reserved(Coded { code, rasters: 0 });
     }
     Ok(Piece {
@@ -82,9 +78,7 @@ fn make_coders<'a, S: Strokes>(
     ensures room { IfOk result (λ coders.
         Each (λ k coder. IsRoomy (S.page page.now) cut.each (S.page coder.page.now) coder.piece) coders.items) }
 {
-    let Ok(mut coders) = Vec::with_capacity(alloc, cut.pieces as usize) else {
-        return Err(Memory);
-    };
+    let mut coders = Vec::with_capacity(alloc, cut.pieces as usize)?;
     'pieces: for _ in 0..cut.pieces {
         let piece = make_piece(alloc, cut.each, most)?;
         coders.push_reserved(Coder { page, piece });

@@ -1,5 +1,5 @@
 //! The strokes of a head with dead nozzles as strokes.
-use crate::blank::blank_row;
+use crate::blank::plane_row;
 use crate::head::Head;
 use dead_nozzles::StrokePlan;
 use dot_planes::Planes;
@@ -30,9 +30,6 @@ impl Head for StrokePlan {
         nozzle: u8,
         _room: &mut [u8],
     ) -> Option<&'a [u8]> {
-        match self.row(stroke, nozzle) {
-            Some(y) => Some(planes.row(place, y)),
-            None => Some(blank_row((planes.width() as usize + 7) / 8)),
-        }
+        Some(plane_row(planes, place, self.row(stroke, nozzle)))
     }
 }
