@@ -1,7 +1,8 @@
 //! Jobs that break two rules of the machine at once: the first of a command's refusals counts.
 use crate::answers::Answer;
 use crate::runs::{BY_BYTES, Command, leaves, words_leave};
-use std::alloc::{AllocError, Global};
+use driver_fixtures::joined;
+use std::alloc::Global;
 use std::process::Abort;
 use std::test::Fail;
 use std::thread::Threads;
@@ -104,15 +105,6 @@ const OTHERS: [Case; 10] = [
     (&[DOT, b"\x1BA"], 0, "NotGraphics"),
     (&[SHEET, DOT, b"\x1B@\x1B"], 39, "Backward"),
 ];
-
-// The parts of a job, one after another.
-fn joined(alloc: Global, parts: &[&[u8]]) -> Result<Vec<u8>, AllocError> {
-    let mut job = Vec::new(alloc);
-    for part in parts {
-        job.extend_from_slice(part)?;
-    }
-    Ok(job)
-}
 
 // Asserts that a job is refused before it ejects a sheet.
 fn refuses<R: Abort + Threads + Sync>(

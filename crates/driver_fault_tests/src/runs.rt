@@ -53,6 +53,21 @@ pub struct Calls {
     pub failing_write: u32,
 }
 
+impl Calls {
+    // A source of these bytes.
+    fn source(self, alloc: Global, bytes: &[u8]) -> Result<MemSource, AllocError> {
+        let pieces = vec![in alloc; self.piece.max(1)]?;
+        let fails = vec![in alloc; self.failing_read]?;
+        Ok(MemSource::make(bytes.to_vec(alloc)?, pieces, fails))
+    }
+
+    // A sink.
+    fn sink(self, alloc: Global) -> Result<MemSink, Fail> {
+        let (pieces, fails) = (vec![in alloc; 1]?, vec![in alloc; self.failing_write]?);
+        Ok(MemSink::make(alloc, 70_000, pieces, fails)?)
+    }
+}
+
 /// The number of the call behind so many.
 pub fn call_behind(calls: usize) -> u32 {
     u32::try_from(calls).unwrap_or(0).saturating_add(1)
@@ -74,17 +89,7 @@ pub fn words_leave<R: Abort + Threads + Sync>(
     calls: Calls,
     wanted: &Answer,
 ) -> Result<(), Fail> {
-    let input = MemSource::make(
-        bytes.to_vec(alloc)?,
-        vec![in alloc; calls.piece.max(1)]?,
-        vec![in alloc; calls.failing_read]?,
-    );
-    let out = MemSink::make(
-        alloc,
-        70_000,
-        vec![in alloc; 1]?,
-        vec![in alloc; calls.failing_write]?,
-    )?;
+    let (input, out) = (calls.source(alloc, bytes)?, calls.sink(alloc)?);
     let shelf = one_file(alloc, "four.txt", FOUR)?;
     let left = run_over(rt, alloc, words, input, out, shelf)?;
     let wanted = (wanted.status, wanted.out.as_slice(), wanted.line.as_bytes());

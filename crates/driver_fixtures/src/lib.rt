@@ -7,4 +7,4 @@ mod streams;
 
 pub use outsides::{no_files, one_file, plain, roomy, sink, words};
 pub use runs::{Left, run_over, run_with};
-pub use streams::{BLACK_BODY, add_header, add_page, begin, prefix};
+pub use streams::{BLACK_BODY, add_header, add_page, begin, black_pages, joined, prefix};

@@ -35,12 +35,11 @@ pub fn no_files(alloc: Global) -> MemShelf {
 
 /// A shelf of one file.
 pub fn one_file(alloc: Global, name: &str, text: &[u8]) -> Result<MemShelf, Memory> {
-    let mut files = Vec::new(alloc);
-    let (Ok(name), Ok(bytes)) = (String::from_str(alloc, name), text.to_vec(alloc)) else {
-        return Err(Memory);
+    let file = ShelfFile {
+        name: String::from_str(alloc, name)?,
+        bytes: text.to_vec(alloc)?,
     };
-    match files.push(ShelfFile { name, bytes }) {
-        Ok(()) => Ok(MemShelf::make(files, Vec::new(alloc))),
-        Err(_) => Err(Memory),
-    }
+    let mut files = Vec::with_capacity(alloc, 1)?;
+    files.push_reserved(file);
+    Ok(MemShelf::make(files, Vec::new(alloc)))
 }

@@ -33,18 +33,11 @@ pub fn add_header(
     (hdpi, vdpi): (u32, u32),
     (width, height): (u32, u32),
 ) -> Result<(), AllocError> {
-    let bits: u32 = match kind {
-        Kind::Black1 => 1,
-        Kind::Gray8 | Kind::Black8 => 8,
-        Kind::Rgb8 => 24,
-        Kind::Cmyk8 => 32,
-    };
-    let bytes_per_line = width.wrapping_mul(bits).wrapping_add(7) / 8;
     let form = PageForm {
         width,
         height,
         kind,
-        bytes_per_line,
+        bytes_per_line: u32::try_from(kind.line_bytes(width as usize)).unwrap_or(u32::MAX),
     };
     let mut header = [0; 1796];
     write_header(&form, hdpi, vdpi, &mut header);
@@ -60,4 +53,22 @@ pub fn add_page(
 ) -> Result<(), AllocError> {
     add_header(bytes, kind, (360, 360), size)?;
     bytes.extend_from_slice(body)
+}
+
+/// A stream of so many black pages.
+pub fn black_pages(alloc: Global, count: u32) -> Result<Vec<u8>, AllocError> {
+    let mut bytes = begin(alloc)?;
+    for _ in 0..count {
+        add_page(&mut bytes, Kind::Gray8, (8, 6), &BLACK_BODY)?;
+    }
+    Ok(bytes)
+}
+
+/// Parts, one after another.
+pub fn joined(alloc: Global, parts: &[&[u8]]) -> Result<Vec<u8>, AllocError> {
+    let mut whole = Vec::new(alloc);
+    for part in parts {
+        whole.extend_from_slice(part)?;
+    }
+    Ok(whole)
 }

@@ -1,5 +1,5 @@
 //! Runs in memory without a meter, as rows of tables.
-use driver_fixtures::{Left, add_page, begin, no_files, one_file, plain, roomy, run_over};
+use driver_fixtures::{Left, add_page, begin, joined, no_files, one_file, plain, roomy, run_over};
 use pwg_header::Kind;
 use std::alloc::{AllocError, Global};
 use std::process::Abort;
@@ -97,15 +97,6 @@ pub fn stream_of(alloc: Global, pages: &[GivenPage]) -> Result<Vec<u8>, AllocErr
         add_page(&mut bytes, page.kind, page.size, page.body)?;
     }
     Ok(bytes)
-}
-
-/// Parts, one after another.
-pub fn joined(alloc: Global, parts: &[&[u8]]) -> Result<Vec<u8>, AllocError> {
-    let mut whole = Vec::new(alloc);
-    for part in parts {
-        whole.extend_from_slice(part)?;
-    }
-    Ok(whole)
 }
 
 /// A stream of one page of grey for a printer of 360 dots an inch.

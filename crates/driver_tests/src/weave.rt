@@ -8,7 +8,9 @@ use driver_fixtures::{BLACK_BODY, add_header, begin, no_files, plain, run_over, 
 use known_jobs::TINY_JOB;
 use pwg_header::Kind;
 use std::alloc::Global;
+use std::process::Abort;
 use std::test::Fail;
+use std::thread::Threads;
 use weave_base::InkSet;
 
 // The words of runs on a printer of three nozzles.
@@ -192,6 +194,21 @@ fn fired(alloc: Global, job: &[u8]) -> Result<(u32, u32, [i64; 4]), Fail> {
     ))
 }
 
+// Asserts the hash of the images of a job of an A4 page.
+fn plays_a4<R: Abort + Threads + Sync>(
+    rt: &R,
+    alloc: Global,
+    job: &[u8],
+    hash: u64,
+) -> Result<(), Fail> {
+    let job = plain(alloc, job.to_vec(alloc)?);
+    let room = sink(alloc, 6_077_848)?;
+    let words = ["dots", "profile=p360cmyk"];
+    let images = run_over(rt, alloc, &words, job, room, no_files(alloc))?;
+    hashes_to(rt, &images, 6_077_848, hash);
+    Ok(())
+}
+
 #[test]
 fn a_black_a4_takes_277_rasters(rt: HostRuntime) -> Result<(), Fail> {
     let alloc = rt.alloc();
@@ -204,12 +221,7 @@ fn a_black_a4_takes_277_rasters(rt: HostRuntime) -> Result<(), Fail> {
         fired(alloc, left.out.bytes())?,
         (1, 277, [11_800_854, 0, 0, 0])
     );
-    let job = plain(alloc, left.out.bytes().to_vec(alloc)?);
-    let room = sink(alloc, 6_077_848)?;
-    let words = ["dots", "profile=p360cmyk"];
-    let images = run_over(&rt, alloc, &words, job, room, no_files(alloc))?;
-    hashes_to(&rt, &images, 6_077_848, 0xB9F9_D3F8_92E0_C969);
-    Ok(())
+    plays_a4(&rt, alloc, left.out.bytes(), 0xB9F9_D3F8_92E0_C969)
 }
 
 // The job of a white A4 page.

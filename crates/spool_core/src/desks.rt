@@ -48,15 +48,9 @@ impl Desk {
         let senders = lists.len() as u8;
         let count = count_streams(&lists);
         let (spool, passes, printer) = Spool::make(alloc, senders, count)?;
-        let Ok(works) = Vec::with_capacity(alloc, lists.len()) else {
-            return Err(Memory);
-        };
-        let Ok(ended) = Vec::with_capacity(alloc, lists.len()) else {
-            return Err(Memory);
-        };
-        let Ok(done) = Vec::with_capacity(alloc, count as usize) else {
-            return Err(Memory);
-        };
+        let works = Vec::with_capacity(alloc, lists.len())?;
+        let ended = Vec::with_capacity(alloc, lists.len())?;
+        let done = Vec::with_capacity(alloc, count as usize)?;
         Ok(Desk {
             spool,
             works: assign(passes, lists, works),

@@ -1,5 +1,5 @@
 //! Runs in memory over jobs.
-use driver_fixtures::{no_files, run_over, sink};
+use driver_fixtures::{joined, no_files, run_over, sink};
 use known_jobs::TINY_JOB;
 use std::alloc::{AllocError, Global};
 use std::process::Abort;
@@ -68,15 +68,6 @@ fn job_of(alloc: Global, parts: &[Part]) -> Result<Vec<u8>, AllocError> {
         job.extend_from_slice(bytes_of(*part))?;
     }
     Ok(job)
-}
-
-// Parts of an output, one after another.
-fn joined(alloc: Global, parts: &[&[u8]]) -> Result<Vec<u8>, AllocError> {
-    let mut whole = Vec::new(alloc);
-    for part in parts {
-        whole.extend_from_slice(part)?;
-    }
-    Ok(whole)
 }
 
 // Asserts what a case leaves.

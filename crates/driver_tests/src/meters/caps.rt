@@ -1,6 +1,6 @@
 //! One meter, and the cap that a word sets on it.
-use crate::meters::fixture::{black_pages, counts, one_meter, run_metered, runs_to, settled};
-use driver_fixtures::{add_page, begin, no_files, roomy};
+use crate::meters::fixture::{counts, one_meter, run_metered, runs_to, settled};
+use driver_fixtures::{add_page, begin, black_pages, no_files, roomy};
 use ink_meter::{DotMeter, InkCounts, Meter};
 use known_jobs::TINY_JOB;
 use pwg_header::Kind;

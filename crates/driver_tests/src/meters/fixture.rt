@@ -1,22 +1,12 @@
 //! Runs in memory that count black pages on meters.
 use driver_core::{OpenGate, run};
-use driver_fixtures::{BLACK_BODY, Left, add_page, begin, no_files, plain, roomy, words};
+use driver_fixtures::{Left, black_pages, no_files, plain, roomy, words};
 use ink_meter::{DotMeter, InkCounts, Meter, can_settle, settle};
-use pwg_header::Kind;
-use std::alloc::{AllocError, Global};
+use std::alloc::Global;
 use std::process::Abort;
 use std::test::Fail;
 use std::thread::Threads;
 use weave_base::{MemShelf, MemSink, Memory};
-
-/// A stream of `count` black pages.
-pub fn black_pages(alloc: Global, count: u32) -> Result<Vec<u8>, AllocError> {
-    let mut bytes = begin(alloc)?;
-    for _ in 0..count {
-        add_page(&mut bytes, Kind::Gray8, (8, 6), &BLACK_BODY)?;
-    }
-    Ok(bytes)
-}
 
 /// One meter that has counted nothing.
 pub fn one_meter(alloc: Global) -> Result<Vec<Box<dyn Meter>>, Fail> {

@@ -2,10 +2,11 @@
 use crate::small_heads::shots::{Shot, shots_of};
 use driver_fixtures::{add_page, begin, one_file, plain, roomy, run_over};
 use pwg_header::Kind;
-use std::alloc::Global;
+use std::alloc::{AllocError, Global};
 use std::process::Abort;
 use std::test::Fail;
 use std::thread::Threads;
+use weave_base::{MemShelf, MemSource};
 
 // A head and a window: how many nozzles, how many rows they stand apart, and the rows of the window.
 #[derive(Clone, Copy, Debug)]
@@ -30,6 +31,26 @@ fn divisor(a: u32, b: u32) -> u32 {
         .unwrap_or(0)
 }
 
+// A shelf with the profile of the head.
+fn shelf_of(alloc: Global, work: Work) -> Result<MemShelf, Fail> {
+    let text = format!(in alloc;
+        "escp2-profile 1\nhdpi=360\nvdpi=360\nnozzles={}\npitch={}\ninks=k\ntop={}\n",
+        work.nozzles,
+        work.pitch,
+        work.top()
+    )?;
+    Ok(one_file(alloc, "mine", text.as_bytes())?)
+}
+
+// A stream of one black page with the window.
+fn page_of(alloc: Global, work: Work) -> Result<MemSource, AllocError> {
+    let height = work.rows.wrapping_add(work.top());
+    let lines = u8::try_from(height.saturating_sub(1)).unwrap_or(255);
+    let mut page = begin(alloc)?;
+    add_page(&mut page, Kind::Gray8, (8, height), &[lines, 7, 0])?;
+    Ok(plain(alloc, page))
+}
+
 // The job of a black page by these words after `print profile=mine`.
 fn job_of<R: Abort + Threads + Sync>(
     rt: &R,
@@ -37,24 +58,9 @@ fn job_of<R: Abort + Threads + Sync>(
     work: Work,
     word: &str,
 ) -> Result<Vec<u8>, Fail> {
-    let height = work.rows.wrapping_add(work.top());
-    let text = format!(in alloc;
-        "escp2-profile 1\nhdpi=360\nvdpi=360\nnozzles={}\npitch={}\ninks=k\ntop={}\n",
-        work.nozzles,
-        work.pitch,
-        work.top()
-    )?;
-    let mut page = begin(alloc)?;
-    let lines = u8::try_from(height.saturating_sub(1)).unwrap_or(255);
-    add_page(&mut page, Kind::Gray8, (8, height), &[lines, 7, 0])?;
-    let left = run_over(
-        rt,
-        alloc,
-        &["print", "profile=mine", word],
-        plain(alloc, page),
-        roomy(alloc)?,
-        one_file(alloc, "mine", text.as_bytes())?,
-    )?;
+    let (page, shelf) = (page_of(alloc, work)?, shelf_of(alloc, work)?);
+    let words = ["print", "profile=mine", word];
+    let left = run_over(rt, alloc, &words, page, roomy(alloc)?, shelf)?;
     assert!(rt; left.status == 0, "{work:?} {word}");
     Ok(left.out.bytes().to_vec(alloc)?)
 }

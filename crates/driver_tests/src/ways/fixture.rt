@@ -1,11 +1,11 @@
 //! Runs in memory, as rows of tables.
-use driver_fixtures::{add_page, begin, no_files, one_file, plain, roomy, run_over};
-use pwg_header::Kind;
-use std::alloc::{AllocError, Global};
+use crate::fixture::{leaves, run_bytes};
+use driver_fixtures::{black_pages, one_file, roomy, run_over};
+use std::alloc::Global;
 use std::process::Abort;
 use std::test::Fail;
 use std::thread::Threads;
-use weave_base::{MemShelf, MemSource};
+use weave_base::MemSource;
 
 /// A run over a black page of eight columns and six rows: its words, at most nine, and the status, the output and the
 /// error line that it leaves.
@@ -17,29 +17,9 @@ pub struct Case {
     pub line: &'static [u8],
 }
 
-/// A stream of one black page.
-pub fn black_page(alloc: Global) -> Result<Vec<u8>, AllocError> {
-    let mut bytes = begin(alloc)?;
-    add_page(&mut bytes, Kind::Gray8, (8, 6), &[5, 7, 0])?;
-    Ok(bytes)
-}
-
 // A head of three inks.
 const MINE: &[u8] =
     b"escp2-profile 1\nhdpi=360\nvdpi=360\nnozzles=15\npitch=4\ninks=cmy\nleft=45\nright=45\ntop=60\nbottom=60\n";
-
-// Asserts what a run over these bytes leaves.
-fn leaves<R: Abort + Threads + Sync>(
-    rt: &R,
-    alloc: Global,
-    input: MemSource,
-    shelf: MemShelf,
-    case: &Case,
-) -> Result<(), Fail> {
-    let left = run_over(rt, alloc, case.words, input, roomy(alloc)?, shelf)?;
-    assert_eq!(rt; left.all(), (case.status, case.out, case.line));
-    Ok(())
-}
 
 /// Asserts what each case leaves.
 pub fn try_all<R: Abort + Threads + Sync>(
@@ -48,13 +28,8 @@ pub fn try_all<R: Abort + Threads + Sync>(
     cases: &[Case],
 ) -> Result<(), Fail> {
     for case in cases {
-        leaves(
-            rt,
-            alloc,
-            plain(alloc, black_page(alloc)?),
-            no_files(alloc),
-            case,
-        )?;
+        let left = run_bytes(rt, alloc, case.words, &[], black_pages(alloc, 1)?)?;
+        leaves(rt, &left, (case.status, case.out, case.line));
     }
     Ok(())
 }
@@ -68,7 +43,9 @@ pub fn try_unread<R: Abort + Threads + Sync>(
 ) -> Result<(), Fail> {
     for case in cases {
         let input = MemSource::make(Vec::new(alloc), Vec::new(alloc), vec![in alloc; 1]?);
-        leaves(rt, alloc, input, one_file(alloc, "mine", MINE)?, case)?;
+        let shelf = one_file(alloc, "mine", MINE)?;
+        let left = run_over(rt, alloc, case.words, input, roomy(alloc)?, shelf)?;
+        leaves(rt, &left, (case.status, case.out, case.line));
     }
     Ok(())
 }

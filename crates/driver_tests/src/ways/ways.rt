@@ -1,6 +1,7 @@
 //! Pages by shingled passes, and around dead nozzles.
-use crate::ways::fixture::{Case, black_page, try_all};
-use driver_fixtures::{no_files, plain, roomy, run_over};
+use crate::fixture::{leaves, run_bytes};
+use crate::ways::fixture::{Case, try_all};
+use driver_fixtures::black_pages;
 use known_jobs::{TINY_HEALED_JOB, TINY_IMAGES, TINY_SHINGLED_JOB};
 use std::alloc::Global;
 use std::process::Abort;
@@ -27,12 +28,10 @@ fn shows_tiny<R: Abort + Threads + Sync>(
     alloc: Global,
     words: &[&str],
 ) -> Result<(), Fail> {
-    let page = plain(alloc, black_page(alloc)?);
-    let job = run_over(rt, alloc, words, page, roomy(alloc)?, no_files(alloc))?;
-    let bytes = plain(alloc, job.out.bytes().to_vec(alloc)?);
-    let dots = ["dots", "profile=tiny"];
-    let left = run_over(rt, alloc, &dots, bytes, roomy(alloc)?, no_files(alloc))?;
-    assert_eq!(rt; left.all(), (0, TINY_IMAGES, b"".as_slice()));
+    let job = run_bytes(rt, alloc, words, &[], black_pages(alloc, 1)?)?;
+    let bytes = job.out.bytes().to_vec(alloc)?;
+    let left = run_bytes(rt, alloc, &["dots", "profile=tiny"], &[], bytes)?;
+    leaves(rt, &left, (0, TINY_IMAGES, b""));
     Ok(())
 }
 

@@ -2,10 +2,9 @@
 use super::same;
 use super::words::words_of;
 use driver_core::OpenGate;
-use driver_fixtures::{BLACK_BODY, add_page, begin, roomy};
+use driver_fixtures::{black_pages, roomy};
 use ink_meter::{DotMeter, Meter, can_settle, settle};
 use known_jobs::TINY_JOB;
-use pwg_header::Kind;
 use spool_core::{Ran, SpoolReport, run_spool};
 use std::alloc::{AllocError, Global};
 use std::process::Abort;
@@ -15,15 +14,12 @@ use std::thread::Threads;
 use weave_base::{MemShelf, MemSink, ShelfFile};
 
 // A stream of so many black pages; no byte where there is none.
-fn black_pages(alloc: Global, count: u32) -> Result<Vec<u8>, AllocError> {
-    if count == 0 {
-        return Ok(Vec::new(alloc));
+fn stream_of(alloc: Global, pages: u32) -> Result<Vec<u8>, AllocError> {
+    if pages == 0 {
+        Ok(Vec::new(alloc))
+    } else {
+        black_pages(alloc, pages)
     }
-    let mut bytes = begin(alloc)?;
-    for _ in 0..count {
-        add_page(&mut bytes, Kind::Gray8, (8, 6), &BLACK_BODY)?;
-    }
-    Ok(bytes)
 }
 
 // A shelf of streams by their names, each of so many black pages. The listed reads fail.
@@ -32,7 +28,7 @@ fn shelf_of(alloc: Global, files: &[(&str, u32)], fails: &[u32]) -> Result<MemSh
     for (name, pages) in files {
         shelf.push(ShelfFile {
             name: String::from_str(alloc, name)?,
-            bytes: black_pages(alloc, *pages)?,
+            bytes: stream_of(alloc, *pages)?,
         })?;
     }
     Ok(MemShelf::make(shelf, fails.to_vec(alloc)?))
@@ -163,6 +159,44 @@ fn slow_sink(alloc: Global, fails: &[u32]) -> Result<MemSink, Fail> {
     Ok(MemSink::make(alloc, 1_000, vec![in alloc; 1]?, fails.to_vec(alloc)?)?)
 }
 
+// What the run of a case leaves.
+fn left_by<R: Threads + Wait + Sync>(rt: &R, alloc: Global, case: &Case) -> Result<Left, Fail> {
+    let shelf = shelf_of(alloc, case.files, case.failing_reads)?;
+    let out = slow_sink(alloc, case.failing_writes)?;
+    run_words(rt, alloc, case.words, shelf, out, case.cap)
+}
+
+// Stops the test where the jobs of a sender are others.
+fn same_senders(
+    rt: &impl Abort,
+    alloc: Global,
+    at: &str,
+    done: &[Ran],
+    senders: &[&[(u32, u8, u32)]],
+) -> Result<(), Fail> {
+    let mut sender = 0u8;
+    for wanted in senders {
+        sender = sender.wrapping_add(1);
+        same(rt, at, &jobs_of(alloc, done, sender)?.as_slice(), wanted);
+    }
+    Ok(())
+}
+
+// Stops the test where a run writes something else: its output and its lines.
+fn same_texts(
+    rt: &impl Abort,
+    alloc: Global,
+    at: &str,
+    left: &Left,
+    case: &Case,
+) -> Result<(), Fail> {
+    let lines = lines_of(alloc, &left.report.done, case.line)?;
+    same(rt, at, &left.err.bytes(), &lines.as_bytes());
+    let jobs = tiny_jobs(alloc, case.pages)?;
+    same(rt, at, &left.out.bytes(), &jobs.as_slice());
+    Ok(())
+}
+
 // Stops the test where a run leaves something else.
 fn try_case<R: Abort + Threads + Wait + Sync>(
     rt: &R,
@@ -170,27 +204,11 @@ fn try_case<R: Abort + Threads + Wait + Sync>(
     at: &str,
     case: &Case,
 ) -> Result<(), Fail> {
-    let shelf = shelf_of(alloc, case.files, case.failing_reads)?;
-    let out = slow_sink(alloc, case.failing_writes)?;
-    let left = run_words(rt, alloc, case.words, shelf, out, case.cap)?;
-    let done = left.report.done.as_slice();
-    same(
-        rt,
-        at,
-        &(left.report.status, left.black),
-        &(case.status, Some(case.black)),
-    );
-    let mut sender = 0u8;
-    for wanted in case.senders {
-        sender = sender.wrapping_add(1);
-        let jobs = jobs_of(alloc, done, sender)?;
-        same(rt, at, &jobs.as_slice(), wanted);
-    }
-    let lines = lines_of(alloc, done, case.line)?;
-    same(rt, at, &left.err.bytes(), &lines.as_bytes());
-    let jobs = tiny_jobs(alloc, case.pages)?;
-    same(rt, at, &left.out.bytes(), &jobs.as_slice());
-    Ok(())
+    let left = left_by(rt, alloc, case)?;
+    let counted = (left.report.status, left.black);
+    same(rt, at, &counted, &(case.status, Some(case.black)));
+    same_senders(rt, alloc, at, &left.report.done, case.senders)?;
+    same_texts(rt, alloc, at, &left, case)
 }
 
 #[test]

@@ -38,8 +38,8 @@ returns c =
       count_is = counted;
       few = omega (arith, c.count_streams-count.ensures.most);
       queue_room = omega (arith, c.in_ok-spool.ensures.room);
-      none_ended = c.in-Ok-with_capacity.ensures.items;
-      ended_room = omega (arith, c.in-Ok-with_capacity.ensures.capacity, c.len-senders.ensures, c.len-2.ensures);
-      none_done = c.in-Ok-with_capacity-2.ensures.items;
-      done_room = omega (arith, c.in-Ok-with_capacity-2.ensures.capacity);
+      none_ended = c.in_ok-ended.ensures.items;
+      ended_room = omega (arith, c.in_ok-ended.ensures.capacity, c.len-senders.ensures, c.len-2.ensures);
+      none_done = c.in_ok-done.ensures.items;
+      done_room = omega (arith, c.in_ok-done.ensures.capacity);
     }
