@@ -1,4 +1,6 @@
 //! A page's dots by the definitions, dot by dot, as directly as possible.
+ghost use Rattle.std.specs.Prelude.{◌≤◌};
+
 use diffusion_kernel::Kernel;
 use dot_planes::Planes;
 use printer_definitions::Ink;
@@ -182,21 +184,26 @@ fn given(kernel: Kernel, errors: &[i32], width: u32, x: u32, y: u32) -> i32 {
     }
 }
 
-// How many places of the window have a dot where there should be none, or none where there should be one.
+// How many places of the window have a dot where there should be none, or none where there should be one. Each line of
+// the page stands this many times.
 pub(crate) fn wrong_dots(
     p: &Profile,
     f: PageForm,
     kernel: Kernel,
+    copies: u32,
     planes: &Planes,
     i: u8,
     ink: Ink,
-) -> u32 {
+) -> u32
+    requires { 1 ≤ copies }
+{
     let mut errors = [0i32; KEPT];
     let mut wrong = 0u32;
     let width = planes.width();
     for y in 0..planes.rows() {
         for x in 0..width {
-            let amount = amount_at(p, f.kind, ink, x.wrapping_add(2), y.wrapping_add(1));
+            let line = y.wrapping_add(1) / copies;
+            let amount = amount_at(p, f.kind, ink, x.wrapping_add(2), line);
             let value = amount
                 .wrapping_mul(16)
                 .wrapping_add(given(kernel, &errors, width, x, y));

@@ -4,7 +4,6 @@ ghost use Rattle.separation_definitions.specs.Windows.{wanted_by};
 ghost use Rattle.std.specs.Prelude.{IsTrue, ◌≤◌};
 
 use crate::definition::{CURVES, LIMITS, byte_at, wrong_dots};
-use crate::lengths::line_bytes;
 use diffusion_kernel::Kernel;
 use dot_planes::Planes;
 use page_halftoner::Halftoner;
@@ -24,7 +23,7 @@ fn is_taken(p: &Profile, f: PageForm) -> bool
         && f.width <= wanted.most_width
         && wanted.least_height <= f.height
         && f.height <= wanted.most_height
-        && f.bytes_per_line as usize == line_bytes(f.kind, f.width)
+        && f.bytes_per_line as usize == f.kind.line_bytes(f.width as usize)
 }
 
 // A printer with these inks, and with limits, curves and margins.
@@ -47,7 +46,7 @@ fn form(kind: Kind, width: u32, height: u32) -> PageForm {
         width,
         height,
         kind,
-        bytes_per_line: u32::try_from(line_bytes(kind, width)).unwrap_or(0),
+        bytes_per_line: u32::try_from(kind.line_bytes(width as usize)).unwrap_or(0),
     }
 }
 
@@ -65,16 +64,18 @@ fn line_at(kind: Kind, y: u32) -> [u8; LONGEST] {
     line
 }
 
-// The dots of a page, by this many workers.
+// The dots of a page each of whose lines stands this many times, by this many workers.
 fn planes_of<R: Threads + Sync>(
     rt: &R,
     alloc: Global,
     p: &Profile,
     f: PageForm,
     kernel: Kernel,
+    copies: u32,
     workers: u8,
 ) -> Option<Planes>
-    requires { (1 ≤ workers) × (workers ≤ 64) }
+    requires workers { (1 ≤ workers) × (workers ≤ 64) }
+    requires copies { 1 ≤ copies }
 {
     if p.check().is_err() || !is_taken(p, f) || f.bytes_per_line > LONGEST as u32 {
         return None;
@@ -85,32 +86,37 @@ fn planes_of<R: Threads + Sync>(
         workers,
         gate: &OpenGate,
     };
-    for y in 0..f.height {
-        let line = line_at(f.kind, y);
+    let mut y = 0;
+    while y < f.height {
+        let line = line_at(f.kind, y / copies);
         let line = &line[..f.bytes_per_line as usize];
-        match h.lines(&team, line, 1) {
+        let repeats = copies.min(f.height - y);
+        match h.lines(&team, line, repeats) {
             Ok(()) => {}
             Err(_) => return None,
         }
+        y += repeats;
     }
     Some(h.finish())
 }
 
-// A page's inks, columns and rows, and how many dots in all inks are not those of the definition.
+// The inks, columns and rows of such a page, and how many dots in all inks are not those of the definition.
 fn wrong_in<R: Threads + Sync>(
     rt: &R,
     alloc: Global,
     p: &Profile,
     f: PageForm,
     kernel: Kernel,
+    copies: u32,
     workers: u8,
 ) -> Option<(u8, u32, u32, u32)>
-    requires { (1 ≤ workers) × (workers ≤ 64) }
+    requires workers { (1 ≤ workers) × (workers ≤ 64) }
+    requires copies { 1 ≤ copies }
 {
-    let planes = planes_of(rt, alloc, p, f, kernel, workers)?;
+    let planes = planes_of(rt, alloc, p, f, kernel, copies, workers)?;
     let mut wrong = 0u32;
     for i in 0..p.inks.count() {
-        let more = wrong_dots(p, f, kernel, &planes, i, p.inks.at(i));
+        let more = wrong_dots(p, f, kernel, copies, &planes, i, p.inks.at(i));
         wrong = wrong.saturating_add(more);
     }
     Some((planes.inks(), planes.width(), planes.rows(), wrong))
@@ -129,7 +135,7 @@ fn each_page<R: Abort + Threads + Sync>(rt: &R, alloc: Global, p: &Profile, kern
     for &kind in &KINDS {
         for (width, height) in [(1, 5), (7, 256), (8, 257), (9, 515)] {
             let f = form(kind, width + 3, height + 3);
-            let found = wrong_in(rt, alloc, p, f, kernel, 2);
+            let found = wrong_in(rt, alloc, p, f, kernel, 1, 2);
             let want = Some((p.inks.count(), width, height, 0));
             assert!(rt; found == want, "{kind:?} at {width} by {height}: {found:?}");
         }
@@ -150,8 +156,24 @@ fn errors_cross_the_bands_of_a_wide_page(rt: HostRuntime) {
     let p = printer(InkSet::Cmyk);
     let f = form(Kind::Gray8, 3003, 133);
     for workers in [1, 2] {
-        let found = wrong_in(&rt, rt.alloc(), &p, f, Kernel::Floyd, workers);
+        let found = wrong_in(&rt, rt.alloc(), &p, f, Kernel::Floyd, 1, workers);
         assert!(rt; found == Some((4, 3000, 130, 0)), "by {workers}: {found:?}");
+    }
+}
+
+// Tiles that have all their pixels, in which rows have the line of the row above them.
+#[test]
+fn lines_that_stand_more_than_once(rt: HostRuntime) {
+    let p = printer(InkSet::Cmyk);
+    for &kind in &KINDS {
+        for copies in [2, 3, 40] {
+            let f = form(kind, 203, 73);
+            let found = wrong_in(&rt, rt.alloc(), &p, f, Kernel::Floyd, copies, 2);
+            assert!(rt;
+                found == Some((4, 200, 70, 0)),
+                "{kind:?} by {copies}: {found:?}"
+            );
+        }
     }
 }
 

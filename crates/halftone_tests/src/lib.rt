@@ -7,8 +7,6 @@ mod definition;
 #[cfg(test)]
 mod halftoner;
 #[cfg(test)]
-mod lengths;
-#[cfg(test)]
 mod reader;
 #[cfg(test)]
 mod separator;

@@ -1,6 +1,5 @@
 //! Cells of the table of inks, worked by hand.
 use crate::definition::HALF;
-use crate::lengths::line_bytes;
 use crate::whole_lines::HALVED;
 use dot_planes::InkRows;
 use ink_separation::amounts;
@@ -85,7 +84,7 @@ fn amounts_of(alloc: Global, cell: &Cell) -> Option<[u8; 4]> {
         limits: cell.limits,
         ..printer(cell.curves)
     };
-    if profile.check().is_err() || line_bytes(cell.kind, 1) > cell.pixel.len() {
+    if profile.check().is_err() || cell.kind.line_bytes(1) > cell.pixel.len() {
         return None;
     }
     let mut rows = InkRows::make(alloc, 1, 1, cell.inks.count()).ok()?;

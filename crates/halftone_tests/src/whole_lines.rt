@@ -1,6 +1,5 @@
 //! Whole lines, compared with a plain loop over their pixels.
 use crate::definition::HALF;
-use crate::lengths::line_bytes;
 use dot_planes::InkRows;
 use ink_separation::amounts;
 use printer_profile::{Profile, STRAIGHT_CURVE, TINY1};
@@ -31,7 +30,7 @@ fn blacks(
         height: 1,
     };
     let across = window.left + window.width;
-    if p.check().is_err() || width < 1 || line_bytes(kind, across) > line.len() {
+    if p.check().is_err() || width < 1 || kind.line_bytes(across as usize) > line.len() {
         return None;
     }
     let mut rows = InkRows::make(alloc, window.width, 1, p.inks.count()).ok()?;

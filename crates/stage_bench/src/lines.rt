@@ -1,16 +1,13 @@
 //! The lines of a page, each taken as far as the stage.
 ghost use Rattle.printer_profile.specs.Validity.{check};
-ghost use Rattle.pwg_definitions.specs.Header.{line_bytes as line_bytes_of, row_of};
-ghost use Rattle.std.specs.Prelude.{IsOk, ◌<◌, ◌≡◌, ◌^◌};
+ghost use Rattle.std.specs.Prelude.{IsOk};
 
 use crate::stages::Stage;
-use dot_planes::InkRows;
+use dot_planes::TileAmounts;
 use ink_separation::Separator;
 use printer_profile::Profile;
-use pwg_definitions::{Kind, MOST_COLUMNS, PageForm};
+use pwg_definitions::PageForm;
 use separation_definitions::Window;
-use std::alloc::Global;
-use weave_base::Memory;
 
 /// The form of a page, and its window.
 #[derive(Clone, Copy)]
@@ -27,24 +24,22 @@ pub struct Lines {
     separator: Separator,
     // How many lines there were.
     lines: u64,
-    // The amounts of the current line.
-    row: InkRows,
+    // The amounts of the current line's pixels.
+    amounts: TileAmounts,
 }
 
 impl Lines {
     /// No lines yet, for a printer with this profile.
-    pub fn make(alloc: Global, stage: Stage, page: Page, profile: &Profile) -> Result<Lines, Memory>
+    pub fn make(stage: Stage, page: Page, profile: &Profile) -> Lines
         requires checked { IsOk (check profile.now) }
     {
-        let width = page.window.width.clamp(1, MOST_COLUMNS);
-        let row = InkRows::make(alloc, width, 1, profile.inks.count())?;
-        Ok(Lines {
+        Lines {
             stage,
             page,
             separator: Separator::make(profile, page.form.kind, page.window),
             lines: 0,
-            row,
-        })
+            amounts: TileAmounts::zero(),
+        }
     }
 
     /// Takes a line this many times.
@@ -63,7 +58,7 @@ impl Lines {
         if self.stage == Stage::Read || !printed {
             return;
         }
-        separate(&self.separator, line, &mut self.row);
+        separate(&self.separator, line, &mut self.amounts);
     }
 
     /// How many lines there were.
@@ -72,26 +67,16 @@ impl Lines {
     }
 }
 
-// How many bytes pixels of a kind take.
-fn line_bytes(kind: Kind, pixels: usize) -> usize
-    requires { pixels < 2 ^ 33 }
-    ensures { result ≡ line_bytes_of pixels (row_of kind).bits_per_pixel }
-{
-    match kind {
-        Kind::Gray8 | Kind::Black8 => pixels,
-        Kind::Rgb8 => 3 * pixels,
-        Kind::Black1 => (pixels + 7) / 8,
-        Kind::Cmyk8 => 4 * pixels,
+/// Separates a line 64 pixels at a time, as a whole tile takes its rows. Skips it unless it has the window's pixels.
+pub fn separate(separator: &Separator, line: &[u8], amounts: &mut TileAmounts) {
+    let left = separator.window().left as usize;
+    let width = separator.window().width as usize;
+    if separator.kind().line_bytes(left + width) > line.len() {
+        return;
     }
-}
-
-/// Separates a line into the amounts of a row. Skips it unless the row has the window's width and the printer's inks.
-pub fn separate(separator: &Separator, line: &[u8], row: &mut InkRows) {
-    let window = separator.window();
-    let pixels = window.left as usize + window.width as usize;
-    let inside = line_bytes(separator.kind(), pixels) <= line.len();
-    let fits = row.width() == window.width && row.inks() == separator.inks().count();
-    if inside && fits && window.width <= MOST_COLUMNS && row.rows() > 0 {
-        separator.separate(line, 0, row);
+    let whole = width / 64;
+    for n in 0..whole {
+        separator.separate_into(line, left + 64 * n, 64, 64 * (n % 32), amounts);
     }
+    separator.separate_into(line, left + 64 * whole, width % 64, 0, amounts);
 }

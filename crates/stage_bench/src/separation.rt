@@ -3,7 +3,7 @@ ghost use Rattle.printer_profile.specs.Validity.{check};
 ghost use Rattle.std.specs.Prelude.{IsOk};
 
 use crate::lines::separate;
-use dot_planes::InkRows;
+use dot_planes::TileAmounts;
 use ink_separation::Separator;
 use printer_profile::Profile;
 use pwg_definitions::Kind;
@@ -47,20 +47,20 @@ pub fn time_separation(rt: &HostRuntime, profile: &Profile, kind: Kind) -> Optio
 {
     let separator = Separator::make(profile, kind, WINDOW);
     let line = mixed_bytes(rt.alloc())?;
-    let mut row = InkRows::make(rt.alloc(), WINDOW.width, 1, profile.inks.count()).ok()?;
+    let mut amounts = TileAmounts::zero();
     let mut least = u128::MAX;
     for _ in 0..RUNS {
         let start = Instant::now(rt).ok()?;
-        separate_lines(&separator, &line, &mut row);
+        separate_lines(&separator, &line, &mut amounts);
         least = least.min(start.elapsed(rt).ok()?.as_nanos());
     }
     Some(least)
 }
 
 // Separates the line as often as in a run.
-fn separate_lines(separator: &Separator, line: &[u8], row: &mut InkRows) {
+fn separate_lines(separator: &Separator, line: &[u8], amounts: &mut TileAmounts) {
     for _ in 0..LINES {
-        separate(separator, line, row);
+        separate(separator, line, amounts);
     }
 }
 

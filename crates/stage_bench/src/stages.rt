@@ -64,12 +64,11 @@ pub fn run_stage<R: Threads + Sync, S: Source>(
             Some(page) => Ok(count_dots(&page.planes)),
         };
     }
-    take_lines(alloc, stage, profile, &mut reader, input)
+    take_lines(stage, profile, &mut reader, input)
 }
 
 // Reads the next page line by line, and takes each line as far as the stage.
 fn take_lines<S: Source>(
-    alloc: Global,
     stage: Stage,
     profile: &Profile,
     reader: &mut PageReader,
@@ -81,7 +80,7 @@ fn take_lines<S: Source>(
     let Some(page) = next_page(profile, reader, input)? else {
         return Ok(0);
     };
-    let mut lines = Lines::make(alloc, stage, page, profile)?;
+    let mut lines = Lines::make(stage, page, profile);
     for _ in 0..MOST_ROWS {
         if reader.lines_left() == 0 {
             break;
