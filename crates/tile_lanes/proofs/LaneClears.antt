@@ -4,14 +4,10 @@ use Rattle.std.proofs.Common.{inr}
 use Rattle.std.proofs.Common.{List, get_or, min, set, length, get_or-set_same, get_or-set_other}
 use Rattle.std.proofs.lemmas.Bool.{both_ways, cases_eq, cases_lt}
 use Rattle.diffusion_definitions.specs.Diffusion.{Plane}
-use Rattle.tile_lanes.specs.Lanes.{AreCleared, IsCleared}
-use Rattle.tile_lanes.specs.Done.{plane_with}
+use Rattle.tile_lanes.specs.Lanes.{AreCleared, IsCleared, IsWhole}
 use Rattle.tile_lanes.specs.Paces.{delay_of}
 use Rattle.tile_lanes.specs.Rows.{is_place}
 use Rattle.tile_lanes.specs.declared.lanes.pace.Pace.{Pace}
-use Rattle.tile_shape.specs.Geometry.{IsWhole}
-use Rattle.tile_shape.specs.declared.tiles.Place.{Place}
-use Rattle.tile_shape.specs.declared.tiles.Shape.{Shape}
 
 pub none_cleared : (step first : ℕ) (xs dots : List ℕ) → AreCleared step first first xs dots xs dots
 none_cleared step first xs dots = record {
@@ -101,17 +97,11 @@ both_cleared pace c j step first end {last} order most entered outside is_up is_
     in_last : (r o : ℕ) → r < 32 → o + delay_of pace r + 8 ≡ step → r < last
     in_last r o row at = entered r row (omega arith)
 
--- A tile of which the window has every pixel has one at each place.
-each_place : (s : Shape) (amount : ℕ → ℕ → ℕ) (place : Place) → IsWhole s place → (r o : ℕ) → r < 32 → o < 64
-    → is_place (plane_with s amount) place.j r (64 * place.c + o) ≡ true
-each_place s amount place whole r o row small = search (arith, whole.left, whole.right, whole.down)
-
--- So it has nothing to clear.
-pub none_missing : (pace : Pace) (s : Shape) (amount : ℕ → ℕ → ℕ) (place : Place) (step : ℕ) (xs dots : List ℕ) → IsWhole s place
-    → IsCleared pace (plane_with s amount) place.c place.j step xs dots xs dots
-none_missing pace s amount place step xs dots whole = record {
-  none = λ r o row small at gone. absurd (both_ways _ gone (each_place s amount place whole r o row small));
-  no_dot = λ r o row small at gone. absurd (both_ways _ gone (each_place s amount place whole r o row small));
+-- Where each place has a pixel, nothing is to be cleared.
+pub none_missing : (pace : Pace) (p : Plane) (c j step : ℕ) (xs dots : List ℕ) → IsWhole p c j → IsCleared pace p c j step xs dots xs dots
+none_missing pace p c j step xs dots whole = record {
+  none = λ r o row small at gone. absurd (both_ways _ gone (whole.at r o row small));
+  no_dot = λ r o row small at gone. absurd (both_ways _ gone (whole.at r o row small));
   pixel = λ r o row small at there. refl;
   dot = λ r o row small at there. refl;
   left = λ r row beside. refl;

@@ -28,6 +28,10 @@ pub record SolvesTile (kernel : Kernel) (s : Shape) (place : Place) (tile : List
   pub has : HasPixels s amount place tile
   pub solves : Solves (table_of kernel) (plane_with s amount) e
 
+-- The tile has all its pixels.
+pub record IsWhole (p : Plane) (c j : ℕ) : Type 0 where
+  pub at : (r o : ℕ) → r < 32 → o < 64 → is_place p j r (64 * c + o) ≡ true
+
 -- The n rows of a step from row `first` on have the errors and dots of their pixels, where they are in the tile. The
 -- errors left of it and all else are as they were. A step gives a row one more dot, as the lowest bit.
 pub record IsStep (kernel : Kernel) (amounts : List ℕ) (step first n : ℕ) (old old_dots new new_dots : List ℕ) : Type 0 where

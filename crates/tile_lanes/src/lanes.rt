@@ -8,9 +8,8 @@ ghost use Rattle.dot_planes.specs.Gathered.{HasPixels};
 ghost use Rattle.std.specs.Prelude.{true, ℕ, ◌<◌, ◌≡◌, ◌≤◌};
 ghost use Rattle.tile_lanes.specs.Done.{DiffusesInk, plane_with};
 ghost use Rattle.tile_lanes.specs.Held.{HeldInRange};
-ghost use Rattle.tile_lanes.specs.Lanes.{HasBits, IsCleared, IsFilled, SolvesTile};
+ghost use Rattle.tile_lanes.specs.Lanes.{HasBits, IsCleared, IsFilled, IsWhole, SolvesTile};
 ghost use Rattle.tile_lanes.specs.Paces.{end_of, pace_of};
-ghost use Rattle.tile_shape.specs.Geometry.{IsWhole};
 
 mod edges;
 mod pace;
@@ -20,7 +19,6 @@ mod step;
 mod transpose;
 mod value;
 
-use crate::field::{Field, Held, Steps};
 use diffusion_kernel::Kernel;
 use edges::{put_above, put_corner, put_left, take_bottom, take_lower_corner, take_right};
 use pace::Pace;
@@ -29,6 +27,15 @@ use squares::order_by_steps;
 use step::{clear_step, diffuse_step};
 use tile_shape::{Place, Shape};
 
+// Whether the tile has all its pixels.
+fn is_whole(shape: Shape, place: Place) -> bool
+    ensures { (amount : ℕ → ℕ → ℕ) → result ≡ true → IsWhole (plane_with shape amount) place.c place.j }
+{
+    place.c >= 1
+        && 64 * place.c as usize + 64 <= shape.width as usize
+        && 32 * place.j as usize + 32 <= shape.height as usize
+}
+
 // Clears the errors and dots of a step where the window has no pixel. A whole tile has none to clear.
 #[inline(always)]
 fn clear_missing(
@@ -36,11 +43,11 @@ fn clear_missing(
     pace: Pace,
     shape: Shape,
     place: Place,
-    field: &mut Held,
+    field: &mut [u16; 3502],
     dots: &mut [u16; 32],
     step: usize,
 )
-    requires whole { whole ≡ true → IsWhole shape place }
+    requires whole { (amount : ℕ → ℕ → ℕ) → whole ≡ true → IsWhole (plane_with shape amount) place.c place.j }
     requires low { 8 ≤ step }
     requires high { step < 103 }
     requires in_range { HeldInRange field.old }
@@ -60,8 +67,8 @@ fn diffuse_steps(
     shape: Shape,
     place: Place,
     tile: &[u8; 2048],
-    amounts: &mut Steps,
-    field: &mut Held,
+    amounts: &mut [u8; 3072],
+    field: &mut [u16; 3502],
     bits: &mut [u8; 256],
 )
     requires { HeldInRange field.old }
@@ -75,7 +82,7 @@ fn diffuse_steps(
 {
     let pace = Pace::of(kernel);
     order_by_steps(pace, tile, amounts);
-    let whole = shape.has_all(place);
+    let whole = is_whole(shape, place);
     let mut dots = [0u16; 32];
     for step in 8..pace.end() {
         diffuse_step(kernel, amounts, field, &mut dots, step);
@@ -84,7 +91,8 @@ fn diffuse_steps(
     }
 }
 
-/// Diffuses one ink of a tile, as `diffuse_tile` says.
+/// Diffuses one ink of a tile, as `diffuse_tile` says. The field may hold any errors, and the amounts are room for
+/// those of the tile by steps.
 #[inline(always)]
 pub(crate) fn diffuse_lanes(
     kernel: Kernel,
@@ -95,32 +103,27 @@ pub(crate) fn diffuse_lanes(
     band: &mut [i16; 128],
     corner: &mut [i16; 12],
     bits: &mut [u8; 256],
-    field: &mut Field,
+    field: &mut [u16; 3502],
+    amounts: &mut [u8; 3072],
 )
     requires side_fits { EachInRange side.old }
     requires band_fits { EachInRange band.old }
     requires corner_fits { EachInRange corner.old }
+    requires field { HeldInRange field.old }
     ensures side_fits { EachInRange side.new }
     ensures band_fits { EachInRange band.new }
     ensures corner_fits { EachInRange corner.new }
+    ensures field { HeldInRange field.new }
     ensures done { (amount : ℕ → ℕ → ℕ) → HasPixels shape amount place tile.now
         → DiffusesInk (table_of kernel) (plane_with shape amount) place
         side.old band.old corner.old side.new band.new corner.new bits.new }
 {
     let pace = Pace::of(kernel);
-    put_above(pace, &mut field.held, band);
-    put_corner(pace, &mut field.held, corner);
-    put_left(pace, &mut field.held, side);
-    diffuse_steps(
-        kernel,
-        shape,
-        place,
-        tile,
-        &mut field.amounts,
-        &mut field.held,
-        bits,
-    );
-    take_right(pace, &field.held, side);
-    take_bottom(pace, &field.held, band);
-    take_lower_corner(pace, &field.held, corner);
+    put_above(pace, field, band);
+    put_corner(pace, field, corner);
+    put_left(pace, field, side);
+    diffuse_steps(kernel, shape, place, tile, amounts, field, bits);
+    take_right(pace, field, side);
+    take_bottom(pace, field, band);
+    take_lower_corner(pace, field, corner);
 }

@@ -56,7 +56,8 @@ pub fn diffuse_tile(
             band,
             corner,
             dots,
-            field,
+            &mut field.held,
+            &mut field.amounts,
         ),
         Kernel::Jarvis => diffuse_lanes(
             Kernel::Jarvis,
@@ -67,7 +68,8 @@ pub fn diffuse_tile(
             band,
             corner,
             dots,
-            field,
+            &mut field.held,
+            &mut field.amounts,
         ),
         Kernel::Stucki => diffuse_lanes(
             Kernel::Stucki,
@@ -78,7 +80,8 @@ pub fn diffuse_tile(
             band,
             corner,
             dots,
-            field,
+            &mut field.held,
+            &mut field.amounts,
         ),
     }
 }

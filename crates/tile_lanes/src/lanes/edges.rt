@@ -5,7 +5,6 @@ ghost use Rattle.tile_lanes.specs.Held.{HeldInRange, error_held};
 ghost use Rattle.tile_lanes.specs.Paces.{cell_of};
 
 use super::pace::Pace;
-use crate::field::{Held, NO_ERROR};
 
 // An error with 2040 added.
 #[inline(always)]
@@ -14,7 +13,7 @@ fn hold(error: i16) -> u16
     ensures most { result ≤ 4079 }
     ensures is { error_held result ≡ error }
 {
-    (error + NO_ERROR as i16) as u16
+    (error + 2040) as u16
 }
 
 // An error without the 2040 that was added.
@@ -24,12 +23,12 @@ fn release(held: u16) -> i16
     ensures in_range { InRange result }
     ensures is { result ≡ error_held held }
 {
-    held as i16 - NO_ERROR as i16
+    held as i16 - 2040
 }
 
 /// Puts the errors above the tile.
 #[inline(always)]
-pub(crate) fn put_above(pace: Pace, field: &mut Held, above: &[i16; 128])
+pub(crate) fn put_above(pace: Pace, field: &mut [u16; 3502], above: &[i16; 128])
     requires field { HeldInRange field.old }
     requires above { EachInRange above.now }
     ensures in_range { HeldInRange field.new }
@@ -45,7 +44,7 @@ pub(crate) fn put_above(pace: Pace, field: &mut Held, above: &[i16; 128])
 
 /// Puts the corner edge, left of those.
 #[inline(always)]
-pub(crate) fn put_corner(pace: Pace, field: &mut Held, corner: &[i16; 12])
+pub(crate) fn put_corner(pace: Pace, field: &mut [u16; 3502], corner: &[i16; 12])
     requires field { HeldInRange field.old }
     requires corner { EachInRange corner.now }
     ensures in_range { HeldInRange field.new }
@@ -61,7 +60,7 @@ pub(crate) fn put_corner(pace: Pace, field: &mut Held, corner: &[i16; 12])
 
 /// Puts the left edge.
 #[inline(always)]
-pub(crate) fn put_left(pace: Pace, field: &mut Held, left: &[i16; 192])
+pub(crate) fn put_left(pace: Pace, field: &mut [u16; 3502], left: &[i16; 192])
     requires field { HeldInRange field.old }
     requires left { EachInRange left.now }
     ensures in_range { HeldInRange field.new }
@@ -79,7 +78,7 @@ pub(crate) fn put_left(pace: Pace, field: &mut Held, left: &[i16; 192])
 
 /// Takes the right edge.
 #[inline(always)]
-pub(crate) fn take_right(pace: Pace, field: &Held, right: &mut [i16; 192])
+pub(crate) fn take_right(pace: Pace, field: &[u16; 3502], right: &mut [i16; 192])
     requires field { HeldInRange field.now }
     ensures in_range { EachInRange right.new }
     ensures there { (n : ℕ) → n < 192 → slice_index_or right.new n (pos 0)
@@ -94,7 +93,7 @@ pub(crate) fn take_right(pace: Pace, field: &Held, right: &mut [i16; 192])
 
 /// Takes the bottom edge.
 #[inline(always)]
-pub(crate) fn take_bottom(pace: Pace, field: &Held, bottom: &mut [i16; 128])
+pub(crate) fn take_bottom(pace: Pace, field: &[u16; 3502], bottom: &mut [i16; 128])
     requires field { HeldInRange field.now }
     ensures in_range { EachInRange bottom.new }
     ensures there { (n : ℕ) → n < 128 → slice_index_or bottom.new n (pos 0)
@@ -109,13 +108,15 @@ pub(crate) fn take_bottom(pace: Pace, field: &Held, bottom: &mut [i16; 128])
 
 /// Takes the corner edge: the last six errors of both rows of the bottom edge.
 #[inline(always)]
-pub(crate) fn take_lower_corner(pace: Pace, field: &Held, corner: &mut [i16; 12])
+pub(crate) fn take_lower_corner(pace: Pace, field: &[u16; 3502], corner: &mut [i16; 12])
     requires field { HeldInRange field.now }
     ensures in_range { EachInRange corner.new }
     ensures there { (n : ℕ) → n < 12 → slice_index_or corner.new n (pos 0)
         ≡ error_held (slice_index field.now (cell_of pace (32 + n / 6) (64 + n % 6))) }
 {
-    for n in 0..12 {
-        corner[n] = release(field[pace.cell(32 + n / 6, 64 + n % 6)]);
+    for t in 0..2 {
+        for i in 0..6 {
+            corner[6 * t + i] = release(field[pace.cell(32 + t, 64 + i)]);
+        }
     }
 }

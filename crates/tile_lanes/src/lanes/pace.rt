@@ -2,7 +2,6 @@
 ghost use Rattle.std.specs.Prelude.{◌+◌, ◌<◌, ◌≡◌, ◌≤◌};
 ghost use Rattle.tile_lanes.specs.Paces.{cell_of, delay_of, end_of, pace_of, squares_of};
 
-use crate::field::GROUP;
 use diffusion_kernel::Kernel;
 
 /// How the rows of a tile go in step.
@@ -78,6 +77,6 @@ impl Pace {
             Pace::Level => l + 2,
             Pace::Lagging => l + p,
         };
-        GROUP * group + p
+        34 * group + p
     }
 }

@@ -5,7 +5,6 @@ ghost use Rattle.tile_lanes.specs.Paces.{delay_of, squares_of};
 ghost use Rattle.tile_lanes.specs.Square.{HasHalf, HasRows, IsPutInto, IsSquare};
 ghost use lib.Lanes.{chunk, put_chunk};
 
-use crate::field::Steps;
 use crate::lanes::pace::Pace;
 use crate::lanes::transpose::transposed;
 use std::simd::prelude::*;
@@ -49,7 +48,7 @@ fn square_of(pace: Pace, tile: &[u8; 2048], first: usize, step: usize) -> [u8x16
 
 // Puts sixteen steps of sixteen rows.
 #[inline(always)]
-fn put_square(amounts: &mut Steps, first: usize, step: usize, columns: &[u8x16; 16])
+fn put_square(amounts: &mut [u8; 3072], first: usize, step: usize, columns: &[u8x16; 16])
     requires first { first ≤ 16 }
     requires step { step ≤ 80 }
     requires columns { IsSquare columns.now }
@@ -62,7 +61,7 @@ fn put_square(amounts: &mut Steps, first: usize, step: usize, columns: &[u8x16; 
 
 // Puts the amounts of sixteen rows by steps. The last square begins where it ends with the last step.
 #[inline(always)]
-fn order_half(pace: Pace, tile: &[u8; 2048], first: usize, amounts: &mut Steps)
+fn order_half(pace: Pace, tile: &[u8; 2048], first: usize, amounts: &mut [u8; 3072])
     requires { first ≤ 16 }
     ensures { HasHalf pace tile.now first (squares_of pace) amounts.old amounts.new }
 {
@@ -76,7 +75,7 @@ fn order_half(pace: Pace, tile: &[u8; 2048], first: usize, amounts: &mut Steps)
 /// Puts the amounts of a tile, 64 of each row, by steps, 32 in each, one of each row.
 // Not inlined: its callers, which are inlined for each kernel, would be too large for that.
 #[inline(never)]
-pub(crate) fn order_by_steps(pace: Pace, tile: &[u8; 2048], amounts: &mut Steps)
+pub(crate) fn order_by_steps(pace: Pace, tile: &[u8; 2048], amounts: &mut [u8; 3072])
     ensures { HasSteps pace tile.now amounts.new }
 {
     order_half(pace, tile, 0, amounts);

@@ -8,14 +8,13 @@ ghost use Rattle.tile_lanes.specs.Rows.{is_place};
 
 use super::pace::Pace;
 use super::value::{Around, held_error, held_value, shows_dot};
-use crate::field::{GROUP, Held, NO_ERROR, Steps};
 use diffusion_kernel::Kernel;
 use tile_shape::{Place, Shape};
 
 // The errors near the pixel whose own stands at a place of the field. Where rows are level, the one two places to the
 // right in the row above is not there yet, and another stands for it.
 #[inline(always)]
-fn around(pace: Pace, field: &Held, at: usize) -> Around
+fn around(pace: Pace, field: &[u16; 3502], at: usize) -> Around
     requires low { 274 ≤ at }
     requires high { at < 3502 }
     requires in_range { HeldInRange field.now }
@@ -26,32 +25,32 @@ fn around(pace: Pace, field: &Held, at: usize) -> Around
 {
     match pace {
         Pace::Level => Around {
-            left: field[at - GROUP],
-            left2: field[at - 2 * GROUP],
-            up_left2: field[at - (4 * GROUP + 1)],
-            up_left: field[at - (3 * GROUP + 1)],
-            up: field[at - (2 * GROUP + 1)],
-            up_right: field[at - (GROUP + 1)],
-            up_right2: field[at - (GROUP + 1)],
-            top_left2: field[at - (6 * GROUP + 2)],
-            top_left: field[at - (5 * GROUP + 2)],
-            top: field[at - (4 * GROUP + 2)],
-            top_right: field[at - (3 * GROUP + 2)],
-            top_right2: field[at - (2 * GROUP + 2)],
+            left: field[at - 34],
+            left2: field[at - 68],
+            up_left2: field[at - 137],
+            up_left: field[at - 103],
+            up: field[at - 69],
+            up_right: field[at - 35],
+            up_right2: field[at - 35],
+            top_left2: field[at - 206],
+            top_left: field[at - 172],
+            top: field[at - 138],
+            top_right: field[at - 104],
+            top_right2: field[at - 70],
         },
         Pace::Lagging => Around {
-            left: field[at - GROUP],
-            left2: field[at - 2 * GROUP],
-            up_left2: field[at - (5 * GROUP + 1)],
-            up_left: field[at - (4 * GROUP + 1)],
-            up: field[at - (3 * GROUP + 1)],
-            up_right: field[at - (2 * GROUP + 1)],
-            up_right2: field[at - (GROUP + 1)],
-            top_left2: field[at - (8 * GROUP + 2)],
-            top_left: field[at - (7 * GROUP + 2)],
-            top: field[at - (6 * GROUP + 2)],
-            top_right: field[at - (5 * GROUP + 2)],
-            top_right2: field[at - (4 * GROUP + 2)],
+            left: field[at - 34],
+            left2: field[at - 68],
+            up_left2: field[at - 171],
+            up_left: field[at - 137],
+            up: field[at - 103],
+            up_right: field[at - 69],
+            up_right2: field[at - 35],
+            top_left2: field[at - 274],
+            top_left: field[at - 240],
+            top: field[at - 206],
+            top_right: field[at - 172],
+            top_right2: field[at - 138],
         },
     }
 }
@@ -81,8 +80,8 @@ fn entered(all: bool, step: usize, delay: usize, error: u16, before: u16) -> u16
 fn diffuse_rows(
     all: bool,
     kernel: Kernel,
-    amounts: &Steps,
-    field: &mut Held,
+    amounts: &[u8; 3072],
+    field: &mut [u16; 3502],
     dots: &mut [u16; 32],
     step: usize,
     first: usize,
@@ -98,7 +97,7 @@ fn diffuse_rows(
     let pace = Pace::of(kernel);
     for i in 0..16 {
         let r = first + i;
-        let at = GROUP * step + 2 + r;
+        let at = 34 * step + 2 + r;
         let near = around(pace, field, at);
         let value = held_value(kernel, amounts[32 * (step - 8) + r], near);
         field[at] = entered(all, step, pace.delay(r), held_error(value), field[at]);
@@ -110,8 +109,8 @@ fn diffuse_rows(
 #[inline(always)]
 fn diffuse_half(
     kernel: Kernel,
-    amounts: &Steps,
-    field: &mut Held,
+    amounts: &[u8; 3072],
+    field: &mut [u16; 3502],
     dots: &mut [u16; 32],
     step: usize,
     first: usize,
@@ -136,8 +135,8 @@ fn diffuse_half(
 #[inline(always)]
 pub(crate) fn diffuse_step(
     kernel: Kernel,
-    amounts: &Steps,
-    field: &mut Held,
+    amounts: &[u8; 3072],
+    field: &mut [u16; 3502],
     dots: &mut [u16; 32],
     step: usize,
 )
@@ -188,7 +187,7 @@ fn span_of(pace: Pace, shape: Shape, place: Place, step: usize) -> Span
 }
 
 // Clears the errors and dots of rows of a step.
-fn clear_rows(field: &mut Held, dots: &mut [u16; 32], step: usize, first: usize, end: usize)
+fn clear_rows(field: &mut [u16; 3502], dots: &mut [u16; 32], step: usize, first: usize, end: usize)
     requires high { step < 103 }
     requires order { first ≤ end }
     requires most { end ≤ 32 }
@@ -197,7 +196,7 @@ fn clear_rows(field: &mut Held, dots: &mut [u16; 32], step: usize, first: usize,
     ensures cleared { AreCleared step first end field.old dots.old field.new dots.new }
 {
     for r in first..end {
-        field[GROUP * step + 2 + r] = NO_ERROR;
+        field[34 * step + 2 + r] = 2040;
         dots[r] -= dots[r] % 2;
     }
 }
@@ -222,7 +221,7 @@ pub(crate) fn clear_step(
     pace: Pace,
     shape: Shape,
     place: Place,
-    field: &mut Held,
+    field: &mut [u16; 3502],
     dots: &mut [u16; 32],
     step: usize,
 )

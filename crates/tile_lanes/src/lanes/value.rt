@@ -7,9 +7,6 @@ ghost use Rattle.tile_lanes.specs.Held.{IsHeld, error_held, same_of, up1_of, up2
 
 use diffusion_kernel::Kernel;
 
-// The least value, with 2040 added, that shows a dot.
-const DOT: u16 = 4080;
-
 /// The errors near a pixel: of its own row, of the row above it (`up`) and of the one above that (`top`).
 #[derive(Clone, Copy)]
 pub(crate) struct Around {
@@ -94,7 +91,7 @@ pub(crate) fn held_error(value: u16) -> u16
     ensures most { result ≤ 4079 }
     ensures error { error_held result ≡ error_of (error_held value) }
 {
-    if value >= DOT { value - DOT } else { value }
+    if value >= 4080 { value - 4080 } else { value }
 }
 
 /// Whether a value shows a dot.
@@ -102,5 +99,5 @@ pub(crate) fn held_error(value: u16) -> u16
 pub(crate) fn shows_dot(value: u16) -> bool
     ensures { result ≡ is_dot (error_held value) }
 {
-    value >= DOT
+    value >= 4080
 }
