@@ -9,11 +9,12 @@ ghost use Rattle.shingle_plan.specs.Shingles.{half};
 ghost use Rattle.std.specs.Int.{IsGcd};
 ghost use Rattle.std.specs.Prelude.{IfErr, IsOk, OnErr, OnOk, ℕ, ◌≡◌};
 
+use base_definitions::greatest_common_divisor;
 use dead_nozzles::check_dead;
 use job_profile::ProfileCause;
 use job_words::Job;
 use printer_profile::Profile;
-use shingle_plan::{greatest_common_divisor, shingle_fits};
+use shingle_plan::shingle_fits;
 
 // Whether a head of these nozzles can shingle.
 fn check_shingles(nozzles: u8, pitch: u8) -> Result<(), ProfileCause>

@@ -12,7 +12,6 @@ mod fits;
 mod laws;
 mod plan;
 
-pub use base_definitions::greatest_common_divisor;
 pub use fits::shingle_fits;
 pub use laws::{
     each_row_is_fired_twice, five_nozzles_are_worked, three_nozzles_are_worked,
