@@ -44,36 +44,38 @@ pub fn read_page<R: Threads + Sync, S: Source, G: Gate + Sync>(
     reader: &mut PageReader,
     profile: &Profile,
     kernel: Kernel,
-    s: &mut S,
+    source: &mut S,
 ) -> Result<Option<HalftonedPage>, StreamStop>
     requires checked { IsOk (check profile.now) }
     requires between { IsBetween reader.old }
     requires unended { has_ended reader.old ≡ false }
     ensures page { IfOk result (λ o. IfSome o (λ page.
-        ReadsHalftone profile.now (table_of kernel) reader.old reader.new (S.left s.old) (S.left s.new)
+        ReadsHalftone profile.now (table_of kernel) reader.old reader.new (S.left source.old) (S.left source.new)
         page.form page.planes)) }
     ensures none { IfOk result
-        (λ o. IfNone o (IsAtEnd (text_of reader.old (S.left s.old)) × IsAtEnd (text_of reader.new (S.left s.new)))) }
+        (λ o. IfNone o (IsAtEnd (text_of reader.old (S.left source.old))
+        × IsAtEnd (text_of reader.new (S.left source.new)))) }
     ensures between { IfOk result (λ o. IfSome o (λ page. IsBetween reader.new)) }
-    ensures input { OnInput result (λ number line cause. IfSome (text_of reader.old (S.left s.old)) (λ text.
+    ensures input { OnInput result (λ number line cause. IfSome (text_of reader.old (S.left source.old)) (λ text.
         pages_from (wanted_by profile.now) (most_pages - page_of reader.old) (page_of reader.old + 1) text
         ≡ record { pages = []; end = Fault number line cause })) }
     ensures place { OnInput result (λ number line cause. number ≡ page_of reader.old + 1) }
-    ensures read { IsErrOf result stop.Read → Rose (S.faults s.old) (S.faults s.new) }
+    ensures read { IsErrOf result stop.Read → Rose (S.faults source.old) (S.faults source.new) }
     ensures taken { IsErrOf result stop.Read
-        → TakesNoPage (wanted_by profile.now) (page_of reader.old) (text_of reader.old (S.left s.old)) (S.left s.new) }
-    ensures used { UsesSome (text_of reader.old (S.left s.old)) (text_of reader.new (S.left s.new)) }
-    ensures later { S.faults s.old ≤ S.faults s.new }
+        → TakesNoPage (wanted_by profile.now) (page_of reader.old)
+        (text_of reader.old (S.left source.old)) (S.left source.new) }
+    ensures used { UsesSome (text_of reader.old (S.left source.old)) (text_of reader.new (S.left source.new)) }
+    ensures later { S.faults source.old ≤ S.faults source.new }
 {
-    let Some(form) = reader.next_page(s, profile.wanted())? else {
+    let Some(form) = reader.next_page(source, profile.wanted())? else {
         return Ok(None);
     };
     let mut filler = Filler::begin(alloc, profile, form)?;
     let mut diffuser = Diffuser::begin(alloc, profile, form, kernel)?;
     let mut spare = filler.spare(alloc, team.workers)?;
-    fill(&mut filler, reader, s)?;
+    fill(&mut filler, reader, source)?;
     'slabs: while filler.is_full() {
-        next_slab(team, &mut filler, &mut diffuser, &mut spare, reader, s)?;
+        next_slab(team, &mut filler, &mut diffuser, &mut spare, reader, source)?;
     }
     let planes = diffuser.finish();
     Ok(Some(HalftonedPage { form, planes }))

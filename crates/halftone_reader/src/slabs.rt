@@ -20,17 +20,18 @@ use weave_base::Source;
 pub(crate) fn fill<S: Source>(
     filler: &mut Filler,
     reader: &mut PageReader,
-    s: &mut S,
+    source: &mut S,
 ) -> Result<(), StreamStop>
     requires { MayReadOn reader.old filler.old }
-    ensures fills { FillsSlab reader.old reader.new (S.left s.old) (S.left s.new) filler.old filler.new result }
-    ensures read { IsErrOf result stop.Read → Rose (S.faults s.old) (S.faults s.new) }
-    ensures later { S.faults s.old ≤ S.faults s.new }
+    ensures fills { FillsSlab reader.old reader.new (S.left source.old) (S.left source.new)
+        filler.old filler.new result }
+    ensures read { IsErrOf result stop.Read → Rose (S.faults source.old) (S.faults source.new) }
+    ensures later { S.faults source.old ≤ S.faults source.new }
 {
     let pending = filler.lines_left() - reader.lines_left();
     filler.put(reader.line(), pending);
     'groups: while !filler.is_full() && 0 < reader.lines_left() {
-        let repeats = reader.next_line(s)?;
+        let repeats = reader.next_line(source)?;
         filler.put(reader.line(), repeats);
     }
     Ok(())
@@ -44,26 +45,26 @@ pub(crate) fn next_slab<R: Threads + Sync, S: Source, G: Gate + Sync>(
     diffuser: &mut Diffuser,
     spare: &mut Option<RawRows>,
     reader: &mut PageReader,
-    s: &mut S,
+    source: &mut S,
 ) -> Result<(), StreamStop>
     requires full { IsFull filler.old }
     requires rows { HoldsRows filler.old }
     requires room { HasRoom filler.old.form filler.old.profile (dots_in diffuser.old.dots) }
     requires spare { IfSome spare.old (IsSpare filler.old) }
     requires lines { MayReadOn reader.old filler.old }
-    ensures reads { ReadsOn reader.old reader.new (S.left s.old) (S.left s.new) filler.old filler.new
+    ensures reads { ReadsOn reader.old reader.new (S.left source.old) (S.left source.new) filler.old filler.new
         diffuser.old diffuser.new result }
     ensures done { OnOk result (IsFull filler.new ⊎ (filler.new.count ≡ filler.new.form.height)) }
     ensures below { OnOk result (filler.new.first ≡ filler.old.first + filler.old.slab.rows) }
     ensures page { OnOk result ((filler.new.form ≡ filler.old.form) × (filler.new.profile ≡ filler.old.profile)) }
     ensures size { IsSameSize (dots_in diffuser.old.dots) (dots_in diffuser.new.dots) }
     ensures spare { OnOk result (IfSome spare.new (IsSpare filler.new)) }
-    ensures read { IsErrOf result stop.Read → Rose (S.faults s.old) (S.faults s.new) }
-    ensures later { S.faults s.old ≤ S.faults s.new }
+    ensures read { IsErrOf result stop.Read → Rose (S.faults source.old) (S.faults source.new) }
+    ensures later { S.faults source.old ≤ S.faults source.new }
 {
     match spare {
-        None => read_after(team, filler, diffuser, reader, s),
-        Some(slab) => read_beside(team, filler, diffuser, slab, reader, s),
+        None => read_after(team, filler, diffuser, reader, source),
+        Some(slab) => read_beside(team, filler, diffuser, slab, reader, source),
     }
 }
 
@@ -73,26 +74,26 @@ fn read_after<R: Threads + Sync, S: Source, G: Gate + Sync>(
     filler: &mut Filler,
     diffuser: &mut Diffuser,
     reader: &mut PageReader,
-    s: &mut S,
+    source: &mut S,
 ) -> Result<(), StreamStop>
     requires full { IsFull filler.old }
     requires rows { HoldsRows filler.old }
     requires room { HasRoom filler.old.form filler.old.profile (dots_in diffuser.old.dots) }
     requires lines { MayReadOn reader.old filler.old }
-    ensures reads { ReadsOn reader.old reader.new (S.left s.old) (S.left s.new) filler.old filler.new
+    ensures reads { ReadsOn reader.old reader.new (S.left source.old) (S.left source.new) filler.old filler.new
         diffuser.old diffuser.new result }
     ensures done { OnOk result (IsFull filler.new ⊎ (filler.new.count ≡ filler.new.form.height)) }
     ensures below { OnOk result (filler.new.first ≡ filler.old.first + filler.old.slab.rows) }
     ensures page { OnOk result ((filler.new.form ≡ filler.old.form) × (filler.new.profile ≡ filler.old.profile)) }
     ensures size { IsSameSize (dots_in diffuser.old.dots) (dots_in diffuser.new.dots) }
-    ensures read { IsErrOf result stop.Read → Rose (S.faults s.old) (S.faults s.new) }
-    ensures later { S.faults s.old ≤ S.faults s.new }
+    ensures read { IsErrOf result stop.Read → Rose (S.faults source.old) (S.faults source.new) }
+    ensures later { S.faults source.old ≤ S.faults source.new }
 {
     let mut none = || {};
     let (slab, first) = (filler.slab(), filler.first());
     diffuser.diffuse_beside(team, slab, first, &mut none)?;
     filler.go_on();
-    fill(filler, reader, s)
+    fill(filler, reader, source)
 }
 
 // Diffuses the full slab by the team, and reads lines of the page into the spare one meanwhile.
@@ -102,31 +103,31 @@ fn read_beside<R: Threads + Sync, S: Source, G: Gate + Sync>(
     diffuser: &mut Diffuser,
     spare: &mut RawRows,
     reader: &mut PageReader,
-    s: &mut S,
+    source: &mut S,
 ) -> Result<(), StreamStop>
     requires full { IsFull filler.old }
     requires rows { HoldsRows filler.old }
     requires room { HasRoom filler.old.form filler.old.profile (dots_in diffuser.old.dots) }
     requires spare { IsSpare filler.old spare.old }
     requires lines { MayReadOn reader.old filler.old }
-    ensures reads { ReadsOn reader.old reader.new (S.left s.old) (S.left s.new) filler.old filler.new
+    ensures reads { ReadsOn reader.old reader.new (S.left source.old) (S.left source.new) filler.old filler.new
         diffuser.old diffuser.new result }
     ensures done { OnOk result (IsFull filler.new ⊎ (filler.new.count ≡ filler.new.form.height)) }
     ensures below { OnOk result (filler.new.first ≡ filler.old.first + filler.old.slab.rows) }
     ensures page { OnOk result ((filler.new.form ≡ filler.old.form) × (filler.new.profile ≡ filler.old.profile)) }
     ensures size { IsSameSize (dots_in diffuser.old.dots) (dots_in diffuser.new.dots) }
     ensures spare { OnOk result (IsSpare filler.new spare.new) }
-    ensures read { IsErrOf result stop.Read → Rose (S.faults s.old) (S.faults s.new) }
-    ensures later { S.faults s.old ≤ S.faults s.new }
+    ensures read { IsErrOf result stop.Read → Rose (S.faults source.old) (S.faults source.new) }
+    ensures later { S.faults source.old ≤ S.faults source.new }
 {
     let first = filler.first();
     filler.swap(spare);
     let mut errand = || -> Result<(), StreamStop>
         requires { MayReadOn reader.now filler.now }
-        ensures { FillsSlab reader.entry.now reader.exit.now (S.left s.entry.now) (S.left s.exit.now)
+        ensures { FillsSlab reader.entry.now reader.exit.now (S.left source.entry.now) (S.left source.exit.now)
             filler.entry.now filler.exit.now result
-            × (IsErrOf result stop.Read → Rose (S.faults s.entry.now) (S.faults s.exit.now))
-            × (S.faults s.entry.now ≤ S.faults s.exit.now) }
-    { fill(filler, reader, s) };
+            × (IsErrOf result stop.Read → Rose (S.faults source.entry.now) (S.faults source.exit.now))
+            × (S.faults source.entry.now ≤ S.faults source.exit.now) }
+    { fill(filler, reader, source) };
     diffuser.diffuse_beside(team, spare, first, &mut errand)?
 }

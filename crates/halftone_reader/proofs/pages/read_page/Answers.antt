@@ -43,7 +43,7 @@ returns-in_err-fill-clause-input g c =
       kernel = c.args.kernel;
       form = c.in-Some.form;
       reader = c.args.reader.now;
-      before = g.S.Source.left c.args.s.now;
+      before = g.S.Source.left c.args.source.now;
     } in
     let f : Filling = c.in_ok-filler.filler in
     let d : Diffusing = c.in_ok-diffuser.diffuser in
@@ -63,7 +63,7 @@ returns-in_err-fill-clause-place g c =
       kernel = c.args.kernel;
       form = c.in-Some.form;
       reader = c.args.reader.now;
-      before = g.S.Source.left c.args.s.now;
+      before = g.S.Source.left c.args.source.now;
     } in
     let f : Filling = c.in_ok-filler.filler in
     let d : Diffusing = c.in_ok-diffuser.diffuser in
@@ -89,7 +89,7 @@ returns-in_err-fill-clause-taken g c = λ is.
       kernel = c.args.kernel;
       form = c.in-Some.form;
       reader = c.args.reader.now;
-      before = g.S.Source.left c.args.s.now;
+      before = g.S.Source.left c.args.source.now;
     } in
     let f : Filling = c.in_ok-filler.filler in
     let d : Diffusing = c.in_ok-diffuser.diffuser in
@@ -109,7 +109,7 @@ returns-in_err-fill-clause-used g c =
       kernel = c.args.kernel;
       form = c.in-Some.form;
       reader = c.args.reader.now;
-      before = g.S.Source.left c.args.s.now;
+      before = g.S.Source.left c.args.source.now;
     } in
     let f : Filling = c.in_ok-filler.filler in
     let d : Diffusing = c.in_ok-diffuser.diffuser in
@@ -128,7 +128,7 @@ slabs-init g c =
       kernel = c.args.kernel;
       form = c.in-Some.form;
       reader = c.args.reader.now;
-      before = g.S.Source.left c.args.s.now;
+      before = g.S.Source.left c.args.source.now;
     } in
     let f : Filling = c.in_ok-filler.filler in
     let d : Diffusing = c.in_ok-diffuser.diffuser in
@@ -153,7 +153,7 @@ returns-in_err-next_slab-clause-input g c =
       kernel = c.args.kernel;
       form = c.in-Some.form;
       reader = c.args.reader.now;
-      before = g.S.Source.left c.args.s.now;
+      before = g.S.Source.left c.args.source.now;
     } in
     let error = err_from_is_err_and c.from_residual-in_err-next_slab.result c.from_residual-in_err-next_slab.ensures.1 in
     rw (error.1, error.2) (same_input (Option HalftonedPage) (Unit {0}) c.in_err-next_slab.field-0.0 _ (c.in_err-next_slab.ensures.reads.input b c.slabs.invariant.page))
@@ -165,7 +165,7 @@ returns-in_err-next_slab-clause-place g c =
       kernel = c.args.kernel;
       form = c.in-Some.form;
       reader = c.args.reader.now;
-      before = g.S.Source.left c.args.s.now;
+      before = g.S.Source.left c.args.source.now;
     } in
     let error = err_from_is_err_and c.from_residual-in_err-next_slab.result c.from_residual-in_err-next_slab.ensures.1 in
     rw (error.1, error.2) (same_input (Option HalftonedPage) (Unit {0}) c.in_err-next_slab.field-0.0 _ (c.in_err-next_slab.ensures.reads.place b c.slabs.invariant.page))
@@ -183,7 +183,7 @@ returns-in_err-next_slab-clause-taken g c = λ is.
       kernel = c.args.kernel;
       form = c.in-Some.form;
       reader = c.args.reader.now;
-      before = g.S.Source.left c.args.s.now;
+      before = g.S.Source.left c.args.source.now;
     } in
     let error = err_from_is_err_and c.from_residual-in_err-next_slab.result c.from_residual-in_err-next_slab.ensures.1 in
     c.in_err-next_slab.ensures.reads.taken b c.slabs.invariant.page (ap Err (sym error.2 ∙ same_error (sym error.1 ∙ is)))
@@ -195,7 +195,7 @@ returns-in_err-next_slab-clause-used g c =
       kernel = c.args.kernel;
       form = c.in-Some.form;
       reader = c.args.reader.now;
-      before = g.S.Source.left c.args.s.now;
+      before = g.S.Source.left c.args.source.now;
     } in
     c.in_err-next_slab.ensures.reads.used b c.slabs.invariant.page
 
@@ -206,7 +206,7 @@ slabs-preserved g c =
       kernel = c.args.kernel;
       form = c.in-Some.form;
       reader = c.args.reader.now;
-      before = g.S.Source.left c.args.s.now;
+      before = g.S.Source.left c.args.source.now;
     } in
     let v = c.slabs.invariant in
     let next = c.in_ok-next_slab.ensures in
@@ -225,7 +225,7 @@ returns-clause-page g c =
       kernel = c.args.kernel;
       form = c.in-Some.form;
       reader = c.args.reader.now;
-      before = g.S.Source.left c.args.s.now;
+      before = g.S.Source.left c.args.source.now;
     } in
     let v = c.slabs.invariant in
     let whole : IsFull c.slabs.filler → ⊥ = λ full.
@@ -234,7 +234,7 @@ returns-clause-page g c =
       | inl full ↦ absurd (whole full)
       | inr is ↦ is
     ] in
-    so_far_end b c.slabs.reader (g.S.Source.left c.slabs.s) c.slabs.filler c.slabs.diffuser c.finish-planes.result
+    so_far_end b c.slabs.reader (g.S.Source.left c.slabs.source) c.slabs.filler c.slabs.diffuser c.finish-planes.result
     v.page c.is_full.ensures.rows whole all v.room c.finish-planes.ensures.size c.finish-planes.ensures.dots
 
 pub returns-clause-between : goal.returns-clause-between

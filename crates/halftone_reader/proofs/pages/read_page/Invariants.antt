@@ -11,12 +11,12 @@ invariant-slabs g l = record {
     kernel = l.fn.kernel;
     form = l.form;
     reader = l.fn.reader;
-    before = g.S.Source.left l.fn.s;
-  }) l.reader (g.S.Source.left l.s) l.filler l.diffuser;
+    before = g.S.Source.left l.fn.source;
+  }) l.reader (g.S.Source.left l.source) l.filler l.diffuser;
   done : IsFull l.filler ⊎ (l.filler.count ≡ l.filler.form.height);
   room : HasRoom l.form l.fn.profile (dots_in l.diffuser.dots);
   spare : IfSome l.spare (IsSpare l.filler);
-  later : g.S.Source.faults l.fn.s ≤ g.S.Source.faults l.s;
+  later : g.S.Source.faults l.fn.source ≤ g.S.Source.faults l.source;
 }
 
 abbrev pub decreases-slabs : goal.decreases-slabs

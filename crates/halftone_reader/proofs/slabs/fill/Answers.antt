@@ -28,7 +28,7 @@ groups-init g c =
       later = omega arith;
       more = λ b d so_far.
           let same : f.form.height ≡ b.form.height = ap (λ (form : PageForm). form.height) so_far.form_is in
-          so_far_placed b c.args.reader.now (g.S.Source.left c.args.s.now) f h d c.put.result so_far
+          so_far_placed b c.args.reader.now (g.S.Source.left c.args.source.now) f h d c.put.result so_far
           (omega (arith, told.most, c.lines_left.ensures, c.lines_left-2.ensures, so_far.count, same))
           told.page told.count (subst L c.line.ensures.line told.lines);
     }

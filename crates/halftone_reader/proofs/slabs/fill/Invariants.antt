@@ -11,10 +11,10 @@ invariant-groups g l = record {
   going : stop_of l.reader ≡ None;
   given : l.filler.count + lines_left_of l.reader ≤ l.filler.form.height;
   placed : IsFull l.filler ⊎ (l.filler.count + lines_left_of l.reader ≡ l.filler.form.height);
-  later : g.S.Source.faults l.fn.s ≤ g.S.Source.faults l.s;
+  later : g.S.Source.faults l.fn.source ≤ g.S.Source.faults l.source;
   more : (b : Begun) (d : Diffusing)
-      → HalftonedSoFar b l.fn.reader (g.S.Source.left l.fn.s) l.fn.filler d
-      → HalftonedSoFar b l.reader (g.S.Source.left l.s) l.filler d;
+      → HalftonedSoFar b l.fn.reader (g.S.Source.left l.fn.source) l.fn.filler d
+      → HalftonedSoFar b l.reader (g.S.Source.left l.source) l.filler d;
 }
 
 abbrev pub decreases-groups : goal.decreases-groups

@@ -42,7 +42,7 @@ pub returns-in-Ok-None-clause-outcome : goal.returns-in-Ok-None-clause-outcome
 returns-in-Ok-None-clause-outcome g c =
     let end = rw c.in-Ok-None.field-0-is at c.in-Ok-None.ensures.none in
     stream_done (way_of c.args.job.now) c.args.profile.now (table_of c.args.job.now.kernel) c.pages.reader c.read_page.new.reader c.pages.number c.pages.pages
-    (g.S.Source.faults c.args.input.now) (g.S.Source.faults c.read_page.new.s) (g.K.Sink.faults c.args.out.now)
+    (g.S.Source.faults c.args.input.now) (g.S.Source.faults c.read_page.new.source) (g.K.Sink.faults c.args.out.now)
     (g.K.Sink.faults c.pages.out) (can_go c.args.profile.now (way_of c.args.job.now)
     (subst (λ (p : Printer). p.nozzles ≤ 255) c.profile.view_is (omega (arith, c.if-prove.false))) c.requires.checked c.requires.way)
     c.pages.invariant.stream.0 c.pages.invariant.whole c.pages.invariant.stream.1 end.0 end.1 c.read_page.ensures.used
@@ -81,7 +81,7 @@ returns-in-Err-Write-clause-outcome g c =
     let part = rw (page-bytes-is way p k page c.in-Ok-Some.page.form halftoned.form_is) at
     (c.in-Err-Write.ensures.part (halftone page p k) halftoned.dots (ap Err c.in-Err-Write.field-0-is)) in
     page_not_written way p k c.read_page.new.reader c.pages.number c.pages.pages
-    (g.S.Source.faults c.args.input.now) (g.S.Source.faults c.read_page.new.s) page
+    (g.S.Source.faults c.args.input.now) (g.S.Source.faults c.read_page.new.source) page
     (can_go c.args.profile.now (way_of c.args.job.now)
     (subst (λ (p : Printer). p.nozzles ≤ 255) c.profile.view_is (omega (arith, c.if-prove.false))) c.requires.checked c.requires.way) read.0 c.pages.invariant.whole counts part c.pages.invariant.written_later (c.in-Err-Write.ensures.write (ap Err c.in-Err-Write.field-0-is))
 
@@ -97,7 +97,7 @@ returns-in-Err-Memory-clause-outcome g c =
     let counts = one_counted p k _ _ _
     _ halftoned.page c.count_inks.result are read.1 c.in_ok-charge.ensures.room c.in_ok-charge.ensures.counted in
     page_without_room way p k c.read_page.new.reader c.pages.number c.pages.pages
-    (g.S.Source.faults c.args.input.now) (g.S.Source.faults c.read_page.new.s)
+    (g.S.Source.faults c.args.input.now) (g.S.Source.faults c.read_page.new.source)
     (g.K.Sink.faults c.args.out.now) (g.K.Sink.faults c.write_by_way.new.out) halftoned.page
     (can_go c.args.profile.now (way_of c.args.job.now)
     (subst (λ (p : Printer). p.nozzles ≤ 255) c.profile.view_is (omega (arith, c.if-prove.false))) c.requires.checked c.requires.way) read.0 c.pages.invariant.whole counts (c.in-Err-Memory.ensures.memory (ap Err c.in-Err-Memory.field-0-is))
@@ -133,7 +133,7 @@ returns-in_err-charge-clause-outcome g c =
     let are = c.count_inks.ensures.dots p (halftone page p k) (ap (λ (q : Printer). q.inks) (sym c.profile.view_is)) halftoned.dots ∙ page_dots-is p k page in
     let error = err_from_is_err_and c.from_residual.result c.from_residual.ensures.1 in
     rw (error.1, error.2) (page_over way p k c.read_page.new.reader c.pages.number c.pages.pages
-    (g.S.Source.faults c.args.input.now) (g.S.Source.faults c.read_page.new.s) (g.K.Sink.faults c.args.out.now)
+    (g.S.Source.faults c.args.input.now) (g.S.Source.faults c.read_page.new.source) (g.K.Sink.faults c.args.out.now)
     (g.K.Sink.faults c.pages.out) page c.count_inks.result c.in_err-charge.field-0.0
     (can_go c.args.profile.now (way_of c.args.job.now)
     (subst (λ (p : Printer). p.nozzles ≤ 255) c.profile.view_is (omega (arith, c.if-prove.false))) c.requires.checked c.requires.way) read.0 c.pages.invariant.whole read.1 are c.in_err-charge.ensures.over c.in_err-charge.ensures.kept)

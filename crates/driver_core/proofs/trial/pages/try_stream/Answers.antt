@@ -52,6 +52,6 @@ pages-preserved g c =
     (ap (λ (f : PageForm). f.height * row_units p) read.form_is)
     (c.in_ok-sum.ensures.ok (halftone read.page p (table_of c.args.job.now.kernel)) read.dots) in
     let P : ℕ → Type 0 = λ n. TriedSoFar (way_of c.args.job.now) p (table_of c.args.job.now.kernel) (Some c.args.maker.now)
-    (Some c.read_page.new.s) c.read_page.new.reader (c.pages.number + 1)
+    (Some c.read_page.new.source) c.read_page.new.reader (c.pages.number + 1)
     (record { bytes = c.pages.written.bytes + c.in_ok-sum.sum.bytes; rasters = c.pages.written.rasters + n }) c.try_page.new.counter in
     record { tried = subst P (sym c.from.ensures) tried }
