@@ -18,12 +18,12 @@ use wavefront_team::run_beside;
 use weave_base::{Failed, Sink};
 
 impl Run {
-    /// Where the strokes of piece `k` begin, and those of the piece before it end.
-    pub(crate) fn bound(&self, k: usize) -> u32
-        requires { k ≤ 64 }
-        ensures { result ≡ bound_of self.now k }
+    /// Where the strokes of a piece begin, and those of the piece before it end.
+    pub(crate) fn bound(&self, piece: usize) -> u32
+        requires { piece ≤ 64 }
+        ensures { result ≡ bound_of self.now piece }
     {
-        let begin = u64::from(self.first) + k as u64 * u64::from(self.each);
+        let begin = u64::from(self.first) + piece as u64 * u64::from(self.each);
         begin.min(u64::from(self.count)) as u32
     }
 
@@ -48,7 +48,7 @@ fn put_piece<S: Strokes, K: Sink>(
     piece: &mut Piece,
     last: u32,
     step: &mut Vec<u8>,
-    k: &mut K,
+    sink: &mut K,
 ) -> Result<Sent, Failed>
     requires page { IsPage (S.page page.now) }
     requires rising { first ≤ end }
@@ -57,16 +57,17 @@ fn put_piece<S: Strokes, K: Sink>(
     requires coded { AreCoded (S.page page.now) first end piece.old.strokes.items }
     requires room { AllRoomy (S.page page.now) piece.old.strokes.items }
     requires step { 7 ≤ vec_capacity step.old }
-    ensures ok { IfOk result (SendsStrokes (S.page page.now) last first (end - first) (K.held k.old) (K.held k.new)) }
+    ensures ok { IfOk result (SendsStrokes (S.page page.now) last first (end - first)
+        (K.held sink.old) (K.held sink.new)) }
     ensures part { OnErr result
-        (AppendsPart (K.held k.old) (K.held k.new) (sent_bytes (S.page page.now) last first (end - first))) }
-    ensures cause { HasCause (K.faults k.old) (K.faults k.new) result }
+        (AppendsPart (K.held sink.old) (K.held sink.new) (sent_bytes (S.page page.now) last first (end - first))) }
+    ensures cause { HasCause (K.faults sink.old) (K.faults sink.new) result }
     ensures many { length piece.new.strokes.items ≡ length piece.old.strokes.items }
     ensures room { AllRoomy (S.page page.now) piece.new.strokes.items }
     ensures step { vec_capacity step.old ≤ vec_capacity step.new }
 {
     let strokes = piece.strokes.as_mut_slice();
-    put_coded_strokes(page, first, end, strokes, last, step, k)
+    put_coded_strokes(page, first, end, strokes, last, step, sink)
 }
 
 /// Pieces of a page, and which strokes they have.
@@ -97,7 +98,7 @@ fn put_batch<S: Strokes, K: Sink>(
     batch: &mut Batch<'_, S>,
     last: u32,
     step: &mut Vec<u8>,
-    k: &mut K,
+    sink: &mut K,
 ) -> Result<Sent, Failed>
     requires page { IsPage (S.page page.now) }
     requires few { length batch.old.coders.items ≤ 64 }
@@ -107,10 +108,11 @@ fn put_batch<S: Strokes, K: Sink>(
         batch.old.coders.items }
     requires step { 7 ≤ vec_capacity step.old }
     ensures ok { IfOk result (SendsStrokes (S.page page.now) last batch.old.run.first
-        (bound_of batch.old.run (length batch.old.coders.items) - batch.old.run.first) (K.held k.old) (K.held k.new)) }
-    ensures part { OnErr result (AppendsPart (K.held k.old) (K.held k.new) (sent_bytes (S.page page.now) last
+        (bound_of batch.old.run (length batch.old.coders.items) - batch.old.run.first)
+        (K.held sink.old) (K.held sink.new)) }
+    ensures part { OnErr result (AppendsPart (K.held sink.old) (K.held sink.new) (sent_bytes (S.page page.now) last
         batch.old.run.first (bound_of batch.old.run (length batch.old.coders.items) - batch.old.run.first))) }
-    ensures cause { HasCause (K.faults k.old) (K.faults k.new) result }
+    ensures cause { HasCause (K.faults sink.old) (K.faults sink.new) result }
     ensures run { batch.new.run ≡ batch.old.run }
     ensures many { length batch.new.coders.items ≡ length batch.old.coders.items }
     ensures room { OnOk result (Each (λ k coder. IsRoomy (S.page page.now) batch.old.run.each (S.page coder.page.now) coder.piece)
@@ -128,7 +130,7 @@ fn put_batch<S: Strokes, K: Sink>(
             piece,
             sent.last,
             step,
-            k,
+            sink,
         )?;
         sent = sent.and_then(one);
     }
@@ -144,7 +146,7 @@ fn code_beside<R: Threads + Sync, S: Strokes + Sync, K: Sink>(
     behind: &mut Batch<'_, S>,
     last: u32,
     step: &mut Vec<u8>,
-    k: &mut K,
+    sink: &mut K,
 ) -> Result<Sent, Failed>
     requires page { IsPage (S.page page.now) }
     requires ahead_few { length ahead.old.coders.items ≤ 64 }
@@ -159,10 +161,10 @@ fn code_beside<R: Threads + Sync, S: Strokes + Sync, K: Sink>(
     requires step { 7 ≤ vec_capacity step.old }
     ensures ok { IfOk result (SendsStrokes (S.page page.now) last behind.old.run.first
         (bound_of behind.old.run (length behind.old.coders.items) - behind.old.run.first)
-        (K.held k.old) (K.held k.new)) }
-    ensures part { OnErr result (AppendsPart (K.held k.old) (K.held k.new) (sent_bytes (S.page page.now) last
+        (K.held sink.old) (K.held sink.new)) }
+    ensures part { OnErr result (AppendsPart (K.held sink.old) (K.held sink.new) (sent_bytes (S.page page.now) last
         behind.old.run.first (bound_of behind.old.run (length behind.old.coders.items) - behind.old.run.first))) }
-    ensures cause { HasCause (K.faults k.old) (K.faults k.new) result }
+    ensures cause { HasCause (K.faults sink.old) (K.faults sink.new) result }
     ensures run { behind.new.run ≡ behind.old.run }
     ensures many { length behind.new.coders.items ≡ length behind.old.coders.items }
     ensures room { OnOk result (Each (λ k coder. IsRoomy (S.page page.now) behind.old.run.each (S.page coder.page.now)
@@ -182,17 +184,17 @@ fn code_beside<R: Threads + Sync, S: Strokes + Sync, K: Sink>(
             × (7 ≤ vec_capacity step.now) }
         ensures { IfOk result (SendsStrokes (S.page page.entry.now) last behind.entry.now.run.first
             (bound_of behind.entry.now.run (length behind.entry.now.coders.items) - behind.entry.now.run.first)
-            (K.held k.entry.now) (K.held k.exit.now))
-            × OnErr result (AppendsPart (K.held k.entry.now) (K.held k.exit.now) (sent_bytes (S.page page.entry.now) last
-            behind.entry.now.run.first
+            (K.held sink.entry.now) (K.held sink.exit.now))
+            × OnErr result (AppendsPart (K.held sink.entry.now) (K.held sink.exit.now) (sent_bytes
+            (S.page page.entry.now) last behind.entry.now.run.first
             (bound_of behind.entry.now.run (length behind.entry.now.coders.items) - behind.entry.now.run.first)))
-            × HasCause (K.faults k.entry.now) (K.faults k.exit.now) result
+            × HasCause (K.faults sink.entry.now) (K.faults sink.exit.now) result
             × (behind.exit.now.run ≡ behind.entry.now.run)
             × (length behind.exit.now.coders.items ≡ length behind.entry.now.coders.items)
             × OnOk result (Each (λ k coder. IsRoomy (S.page page.entry.now) behind.entry.now.run.each
             (S.page coder.page.now) coder.piece) behind.exit.now.coders.items)
             × (vec_capacity step.entry.now ≤ vec_capacity step.exit.now) }
-    { put_batch(page, behind, last, step, k) };
+    { put_batch(page, behind, last, step, sink) };
     run_beside(threads, ahead.coders.as_mut_slice(), &mut errand)
 }
 
@@ -202,15 +204,16 @@ pub(crate) fn put_batches<R: Threads + Sync, S: Strokes + Sync, K: Sink>(
     page: &S,
     batches: Batches<'_, S>,
     step: &mut Vec<u8>,
-    k: &mut K,
+    sink: &mut K,
 ) -> Result<Sent, Failed>
     requires page { IsPage (S.page page.now) }
     requires batches { HaveRoom (λ it. S.page it) (S.page page.now) batches }
     requires step { 7 ≤ vec_capacity step.old }
-    ensures ok { IfOk result (SendsStrokes (S.page page.now) 0 0 (S.page page.now).head.count (K.held k.old) (K.held k.new)) }
-    ensures part { OnErr result (AppendsPart (K.held k.old) (K.held k.new)
+    ensures ok { IfOk result (SendsStrokes (S.page page.now) 0 0 (S.page page.now).head.count
+        (K.held sink.old) (K.held sink.new)) }
+    ensures part { OnErr result (AppendsPart (K.held sink.old) (K.held sink.new)
         (sent_bytes (S.page page.now) 0 0 (S.page page.now).head.count)) }
-    ensures cause { HasCause (K.faults k.old) (K.faults k.new) result }
+    ensures cause { HasCause (K.faults sink.old) (K.faults sink.new) result }
     ensures step { vec_capacity step.old ≤ vec_capacity step.new }
 {
     let Batches {
@@ -236,7 +239,15 @@ pub(crate) fn put_batches<R: Threads + Sync, S: Strokes + Sync, K: Sink>(
     };
     let mut sent = Sent::nothing(0);
     'batches: while behind.run.first < count {
-        let one = code_beside(threads, page, &mut ahead, &mut behind, sent.last, step, k)?;
+        let one = code_beside(
+            threads,
+            page,
+            &mut ahead,
+            &mut behind,
+            sent.last,
+            step,
+            sink,
+        )?;
         sent = sent.and_then(one);
         behind.run = ahead.run.behind(ahead.coders.len());
         mem::swap(&mut ahead, &mut behind);

@@ -40,56 +40,58 @@ use weave_base::Sink;
 pub fn write_healed<R: Threads + Sync, G, K: Sink>(
     team: &Team<'_, R, G>,
     alloc: Global,
-    p: &Profile,
-    f: PageForm,
+    profile: &Profile,
+    form: PageForm,
     planes: &Planes,
     dead: &[u8],
-    k: &mut K,
+    sink: &mut K,
 ) -> Result<PageSum, WriteStop>
-    requires checked { IsOk (check p.now) }
+    requires checked { IsOk (check profile.now) }
     requires rising { IsRising dead.now }
-    requires nozzles { checked_dead p.now.nozzles dead.now ≡ Ok tt }
-    requires wanted { IsWanted (wanted_by p.now) f }
-    requires width { planes.now.width ≡ (window_of f p.now).width }
-    requires rows { planes.now.rows ≡ (window_of f p.now).height }
-    requires inks { planes.now.inks ≡ length (inks_of p.now.inks) }
+    requires nozzles { checked_dead profile.now.nozzles dead.now ≡ Ok tt }
+    requires wanted { IsWanted (wanted_by profile.now) form }
+    requires width { planes.now.width ≡ (window_of form profile.now).width }
+    requires rows { planes.now.rows ≡ (window_of form profile.now).height }
+    requires inks { planes.now.inks ≡ length (inks_of profile.now.inks) }
 
     // of each halftone whose dots are in the planes
-    ensures ok { (h : Halftone) → Shows p.now planes.now h → OnOk result
-        (Appends (K.held k.old) (K.held k.new)
-        (healed_bytes dead.now p.now h (f.height * row_units_of p.now))) }
-    ensures sum { (h : Halftone) → Shows p.now planes.now h → IfOk result
-        (SumsHealed dead.now p.now h (f.height * row_units_of p.now)) }
-    ensures part { (h : Halftone) → Shows p.now planes.now h → IsErrOf result stop.Write
-        → AppendsPart (K.held k.old) (K.held k.new)
-        (healed_bytes dead.now p.now h (f.height * row_units_of p.now)) }
+    ensures ok { (h : Halftone) → Shows profile.now planes.now h → OnOk result
+        (Appends (K.held sink.old) (K.held sink.new)
+        (healed_bytes dead.now profile.now h (form.height * row_units_of profile.now))) }
+    ensures sum { (h : Halftone) → Shows profile.now planes.now h → IfOk result
+        (SumsHealed dead.now profile.now h (form.height * row_units_of profile.now)) }
+    ensures part { (h : Halftone) → Shows profile.now planes.now h → IsErrOf result stop.Write
+        → AppendsPart (K.held sink.old) (K.held sink.new)
+        (healed_bytes dead.now profile.now h (form.height * row_units_of profile.now)) }
 
     // what those bytes mean: one sheet with the halftone's dots, at most one raster of an ink for each pass and for
     // each row that is made up, and no dot in a row of a raster whose nozzle is dead
-    ensures prints { (h : Halftone) → Shows p.now planes.now h → GivesSheet p.now
-        (healed_bytes dead.now p.now h (f.height * row_units_of p.now))
-        (dots_wanted p.now h) }
-    ensures passes { (h : Halftone) → Shows p.now planes.now h → (ink : Ink)
+    ensures prints { (h : Halftone) → Shows profile.now planes.now h → GivesSheet profile.now
+        (healed_bytes dead.now profile.now h (form.height * row_units_of profile.now))
+        (dots_wanted profile.now h) }
+    ensures passes { (h : Halftone) → Shows profile.now planes.now h → (ink : Ink)
         → ink_rasters ink
-        (commands (healed_bytes dead.now p.now h (f.height * row_units_of p.now))).entries
-        ≤ healed_passes dead.now p.now planes.now.rows }
-    ensures spared { (h : Halftone) → Shows p.now planes.now h → RasterRows (IsSpared dead.now)
-        (commands (healed_bytes dead.now p.now h (f.height * row_units_of p.now))).entries }
+        (commands (healed_bytes dead.now profile.now h (form.height * row_units_of profile.now))).entries
+        ≤ healed_passes dead.now profile.now planes.now.rows }
+    ensures spared { (h : Halftone) → Shows profile.now planes.now h → RasterRows (IsSpared dead.now)
+        (commands (healed_bytes dead.now profile.now h (form.height * row_units_of profile.now))).entries }
 
     // at every answer
-    ensures few { (h : Halftone) → Shows p.now planes.now h
-        → AppendsAtMost (healed_passes dead.now p.now planes.now.rows)
-        (K.held k.old) (K.held k.new) }
+    ensures few { (h : Halftone) → Shows profile.now planes.now h
+        → AppendsAtMost (healed_passes dead.now profile.now planes.now.rows)
+        (K.held sink.old) (K.held sink.new) }
 
     // by the page's form and the dead nozzles alone
-    ensures short { IfOk result (λ sum. sum.bytes ≤ most_of_healed dead.now p.now planes.now.width planes.now.rows) }
-    ensures write { IsErrOf result stop.Write → Rose (K.faults k.old) (K.faults k.new) }
-    ensures memory { IsErrOf result stop.Memory → Keeps (K.held k.old) (K.held k.new) }
-    ensures later { K.faults k.old ≤ K.faults k.new }
+    ensures short { IfOk result (λ sum. sum.bytes
+        ≤ most_of_healed dead.now profile.now planes.now.width planes.now.rows) }
+    ensures write { IsErrOf result stop.Write → Rose (K.faults sink.old) (K.faults sink.new) }
+    ensures memory { IsErrOf result stop.Memory → Keeps (K.held sink.old) (K.held sink.new) }
+    ensures later { K.faults sink.old ≤ K.faults sink.new }
 {
-    checked_can_print(*p);
-    let Ok(plan) = StrokePlan::make(alloc, p.nozzles, p.pitch, planes.rows(), dead) else {
+    checked_can_print(*profile);
+    let Ok(plan) = StrokePlan::make(alloc, profile.nozzles, profile.pitch, planes.rows(), dead)
+    else {
         return Err(WriteStop::Memory);
     };
-    write_strokes(team, alloc, p, f, planes, &plan, k)
+    write_strokes(team, alloc, profile, form, planes, &plan, sink)
 }

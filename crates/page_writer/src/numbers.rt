@@ -28,43 +28,43 @@ pub struct SheetPlaces {
 }
 
 /// The height of a row of dots in units.
-pub fn row_units(p: &Profile) -> u16
-    requires { CanPrint p.now }
-    ensures is { result ≡ row_units_of p.now }
+pub fn row_units(profile: &Profile) -> u16
+    requires { CanPrint profile.now }
+    ensures is { result ≡ row_units_of profile.now }
     ensures most { result ≤ 2 }
 {
-    SHEET_UNITS / p.vdpi
+    SHEET_UNITS / profile.vdpi
 }
 
 /// The header of rasters of this many columns, with coded rows.
-pub fn raster_header(p: &Profile, width: u16) -> RasterHead
-    requires { CanPrint p.now }
-    ensures { result ≡ raster_header_of p.now width page_coding.c }
+pub fn raster_header(profile: &Profile, width: u16) -> RasterHead
+    requires { CanPrint profile.now }
+    ensures { result ≡ raster_header_of profile.now width page_coding.c }
 {
     RasterHead {
         c: 1,
-        v: (u32::from(p.pitch) * u32::from(HEADER_UNITS) / u32::from(p.vdpi)) as u8,
-        h: (HEADER_UNITS / p.hdpi) as u8,
-        m: p.nozzles,
+        v: (u32::from(profile.pitch) * u32::from(HEADER_UNITS) / u32::from(profile.vdpi)) as u8,
+        h: (HEADER_UNITS / profile.hdpi) as u8,
+        m: profile.nozzles,
         n: width,
     }
 }
 
 /// The sheet of a page, over which the head begins `above` rows above the window.
-pub fn sheet_of(p: &Profile, f: PageForm, above: u32) -> SheetPlaces
-    requires can { CanPrint p.now }
-    requires wanted { IsWanted (wanted_by p.now) f }
-    requires room { above ≤ p.now.top }
-    ensures length { result.length ≡ f.height * row_units_of p.now }
-    ensures top { result.top ≡ (p.now.top - above) * row_units_of p.now }
+pub fn sheet_of(profile: &Profile, form: PageForm, above: u32) -> SheetPlaces
+    requires can { CanPrint profile.now }
+    requires wanted { IsWanted (wanted_by profile.now) form }
+    requires room { above ≤ profile.now.top }
+    ensures length { result.length ≡ form.height * row_units_of profile.now }
+    ensures top { result.top ≡ (profile.now.top - above) * row_units_of profile.now }
     ensures bottom { result.bottom ≡
-        (p.now.top + (window_of f p.now).height) * row_units_of p.now }
+        (profile.now.top + (window_of form profile.now).height) * row_units_of profile.now }
 {
-    let units = row_units(p);
-    let height = f.height as u16;
+    let units = row_units(profile);
+    let height = form.height as u16;
     SheetPlaces {
         length: height * units,
-        top: (p.top - above as u16) * units,
-        bottom: (height - p.bottom) * units,
+        top: (profile.top - above as u16) * units,
+        bottom: (height - profile.bottom) * units,
     }
 }

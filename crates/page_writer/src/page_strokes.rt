@@ -59,13 +59,13 @@ pub(crate) trait Strokes {
 /// The strokes of a head of a printer over planes.
 #[derive(Drop)]
 pub(crate) struct PageStrokes<'a, H> {
-    pub(crate) p: &'a Profile,
+    pub(crate) profile: &'a Profile,
     pub(crate) planes: &'a Planes,
     pub(crate) head: &'a H,
 }
 
 impl<'a, H: Head> Strokes for PageStrokes<'a, H> {
-    ghost page = { λ page. record { p = page.p.now; head = H.strokes page.head.now; t = page.planes.now } };
+    ghost page = { λ page. record { p = page.profile.now; head = H.strokes page.head.now; t = page.planes.now } };
 
     fn count(&self) -> u32 {
         self.head.count()
@@ -78,7 +78,7 @@ impl<'a, H: Head> Strokes for PageStrokes<'a, H> {
     fn append(&self, stroke: u32, room: &mut [u8], out: &mut Vec<u8>) -> u32 {
         let len = (self.planes.width() as usize + 7) / 8;
         append_inks(
-            self.p,
+            self.profile,
             self.planes,
             self.head,
             stroke,
@@ -88,6 +88,9 @@ impl<'a, H: Head> Strokes for PageStrokes<'a, H> {
     }
 
     fn append_step(&self, row: u32, last: u32, out: &mut Vec<u8>) {
-        append_step(row.saturating_sub(last) as u16 * row_units(self.p), out);
+        append_step(
+            row.saturating_sub(last) as u16 * row_units(self.profile),
+            out,
+        );
     }
 }

@@ -57,17 +57,17 @@ fn put_coded<S: Strokes, K: Sink>(
     coded: &mut Coded,
     last: u32,
     step: &mut Vec<u8>,
-    k: &mut K,
+    sink: &mut K,
 ) -> Result<Sent, Failed>
     requires page { IsPage (S.page page.now) }
     requires stroke { stroke < (S.page page.now).head.count }
     requires coded { IsCoded (S.page page.now) stroke coded.old }
     requires room { HasRoom (S.page page.now) coded.old }
     requires step { 7 ≤ vec_capacity step.old }
-    ensures ok { IfOk result (SendsStrokes (S.page page.now) last stroke 1 (K.held k.old) (K.held k.new)) }
+    ensures ok { IfOk result (SendsStrokes (S.page page.now) last stroke 1 (K.held sink.old) (K.held sink.new)) }
     ensures part { OnErr result
-        (AppendsPart (K.held k.old) (K.held k.new) (sent_bytes (S.page page.now) last stroke 1)) }
-    ensures cause { HasCause (K.faults k.old) (K.faults k.new) result }
+        (AppendsPart (K.held sink.old) (K.held sink.new) (sent_bytes (S.page page.now) last stroke 1)) }
+    ensures cause { HasCause (K.faults sink.old) (K.faults sink.new) result }
     ensures room { HasRoom (S.page page.now) coded.new }
     ensures step { vec_capacity step.old ≤ vec_capacity step.new }
 {
@@ -80,7 +80,7 @@ fn put_coded<S: Strokes, K: Sink>(
     let rasters = coded.rasters;
     let code = coded.code.as_mut_slice();
     let begin = put_step(step, code);
-    put_all(k, &code[begin..])?;
+    put_all(sink, &code[begin..])?;
     Ok(Sent {
         bytes: (code.len() - begin) as u64,
         rasters,
@@ -97,7 +97,7 @@ pub(crate) fn put_coded_strokes<S: Strokes, K: Sink>(
     strokes: &mut [Coded],
     last: u32,
     step: &mut Vec<u8>,
-    k: &mut K,
+    sink: &mut K,
 ) -> Result<Sent, Failed>
     requires page { IsPage (S.page page.now) }
     requires rising { first ≤ end }
@@ -106,17 +106,18 @@ pub(crate) fn put_coded_strokes<S: Strokes, K: Sink>(
     requires coded { AreCoded (S.page page.now) first end strokes.old }
     requires room { AllRoomy (S.page page.now) strokes.old }
     requires step { 7 ≤ vec_capacity step.old }
-    ensures ok { IfOk result (SendsStrokes (S.page page.now) last first (end - first) (K.held k.old) (K.held k.new)) }
+    ensures ok { IfOk result (SendsStrokes (S.page page.now) last first (end - first)
+        (K.held sink.old) (K.held sink.new)) }
     ensures part { OnErr result
-        (AppendsPart (K.held k.old) (K.held k.new) (sent_bytes (S.page page.now) last first (end - first))) }
-    ensures cause { HasCause (K.faults k.old) (K.faults k.new) result }
+        (AppendsPart (K.held sink.old) (K.held sink.new) (sent_bytes (S.page page.now) last first (end - first))) }
+    ensures cause { HasCause (K.faults sink.old) (K.faults sink.new) result }
     ensures room { AllRoomy (S.page page.now) strokes.new }
     ensures step { vec_capacity step.old ≤ vec_capacity step.new }
 {
     let mut sent = Sent::nothing(last);
     'strokes: for stroke in first..end {
         let coded = &mut strokes[(stroke - first) as usize];
-        let one = put_coded(page, stroke, coded, sent.last, step, k)?;
+        let one = put_coded(page, stroke, coded, sent.last, step, sink)?;
         sent = sent.and_then(one);
     }
     Ok(sent)

@@ -39,52 +39,52 @@ use weave_base::Sink;
 pub fn write_shingled<R: Threads + Sync, G, K: Sink>(
     team: &Team<'_, R, G>,
     alloc: Global,
-    p: &Profile,
-    f: PageForm,
+    profile: &Profile,
+    form: PageForm,
     planes: &Planes,
-    k: &mut K,
+    sink: &mut K,
 ) -> Result<PageSum, WriteStop>
-    requires checked { IsOk (check p.now) }
-    requires fits { Shingles p.now.nozzles p.now.pitch }
-    requires wanted { IsWanted (wanted_by p.now) f }
-    requires width { planes.now.width ≡ (window_of f p.now).width }
-    requires rows { planes.now.rows ≡ (window_of f p.now).height }
-    requires inks { planes.now.inks ≡ length (inks_of p.now.inks) }
+    requires checked { IsOk (check profile.now) }
+    requires fits { Shingles profile.now.nozzles profile.now.pitch }
+    requires wanted { IsWanted (wanted_by profile.now) form }
+    requires width { planes.now.width ≡ (window_of form profile.now).width }
+    requires rows { planes.now.rows ≡ (window_of form profile.now).height }
+    requires inks { planes.now.inks ≡ length (inks_of profile.now.inks) }
 
     // of each halftone whose dots are in the planes
-    ensures ok { (h : Halftone) → Shows p.now planes.now h → OnOk result
-        (Appends (K.held k.old) (K.held k.new)
-        (shingled_bytes p.now h (f.height * row_units_of p.now))) }
-    ensures sum { (h : Halftone) → Shows p.now planes.now h → IfOk result
-        (SumsShingled p.now h (f.height * row_units_of p.now)) }
-    ensures part { (h : Halftone) → Shows p.now planes.now h → IsErrOf result stop.Write
-        → AppendsPart (K.held k.old) (K.held k.new)
-        (shingled_bytes p.now h (f.height * row_units_of p.now)) }
+    ensures ok { (h : Halftone) → Shows profile.now planes.now h → OnOk result
+        (Appends (K.held sink.old) (K.held sink.new)
+        (shingled_bytes profile.now h (form.height * row_units_of profile.now))) }
+    ensures sum { (h : Halftone) → Shows profile.now planes.now h → IfOk result
+        (SumsShingled profile.now h (form.height * row_units_of profile.now)) }
+    ensures part { (h : Halftone) → Shows profile.now planes.now h → IsErrOf result stop.Write
+        → AppendsPart (K.held sink.old) (K.held sink.new)
+        (shingled_bytes profile.now h (form.height * row_units_of profile.now)) }
 
     // what those bytes mean: one sheet with the halftone's dots, at most one raster of an ink for each pass, and no
     // row of a raster with dots both at even and at odd columns
-    ensures prints { (h : Halftone) → Shows p.now planes.now h → GivesSheet p.now
-        (shingled_bytes p.now h (f.height * row_units_of p.now))
-        (dots_wanted p.now h) }
-    ensures passes { (h : Halftone) → Shows p.now planes.now h → (ink : Ink)
+    ensures prints { (h : Halftone) → Shows profile.now planes.now h → GivesSheet profile.now
+        (shingled_bytes profile.now h (form.height * row_units_of profile.now))
+        (dots_wanted profile.now h) }
+    ensures passes { (h : Halftone) → Shows profile.now planes.now h → (ink : Ink)
         → ink_rasters ink
-        (commands (shingled_bytes p.now h (f.height * row_units_of p.now))).entries
-        ≤ shingle_count p.now.nozzles p.now.pitch planes.now.rows }
-    ensures columns { (h : Halftone) → Shows p.now planes.now h → RasterRows FiresHalf
-        (commands (shingled_bytes p.now h (f.height * row_units_of p.now))).entries }
+        (commands (shingled_bytes profile.now h (form.height * row_units_of profile.now))).entries
+        ≤ shingle_count profile.now.nozzles profile.now.pitch planes.now.rows }
+    ensures columns { (h : Halftone) → Shows profile.now planes.now h → RasterRows FiresHalf
+        (commands (shingled_bytes profile.now h (form.height * row_units_of profile.now))).entries }
 
     // at every answer
-    ensures few { (h : Halftone) → Shows p.now planes.now h
-        → AppendsAtMost (shingle_count p.now.nozzles p.now.pitch planes.now.rows)
-        (K.held k.old) (K.held k.new) }
+    ensures few { (h : Halftone) → Shows profile.now planes.now h
+        → AppendsAtMost (shingle_count profile.now.nozzles profile.now.pitch planes.now.rows)
+        (K.held sink.old) (K.held sink.new) }
 
     // by the page's form alone
-    ensures short { IfOk result (λ sum. sum.bytes ≤ most_of_shingles p.now planes.now.width planes.now.rows) }
-    ensures write { IsErrOf result stop.Write → Rose (K.faults k.old) (K.faults k.new) }
-    ensures memory { IsErrOf result stop.Memory → Keeps (K.held k.old) (K.held k.new) }
-    ensures later { K.faults k.old ≤ K.faults k.new }
+    ensures short { IfOk result (λ sum. sum.bytes ≤ most_of_shingles profile.now planes.now.width planes.now.rows) }
+    ensures write { IsErrOf result stop.Write → Rose (K.faults sink.old) (K.faults sink.new) }
+    ensures memory { IsErrOf result stop.Memory → Keeps (K.held sink.old) (K.held sink.new) }
+    ensures later { K.faults sink.old ≤ K.faults sink.new }
 {
-    checked_can_print(*p);
-    let plan = ShinglePlan::make(p.nozzles, p.pitch, planes.rows());
-    write_strokes(team, alloc, p, f, planes, &plan, k)
+    checked_can_print(*profile);
+    let plan = ShinglePlan::make(profile.nozzles, profile.pitch, planes.rows());
+    write_strokes(team, alloc, profile, form, planes, &plan, sink)
 }

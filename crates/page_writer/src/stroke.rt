@@ -35,29 +35,29 @@ pub(crate) fn append_step(units: u16, out: &mut Vec<u8>)
 
 /// Appends what the inks fire in a stroke, and gives the number of their rasters.
 pub(crate) fn append_inks<H: Head>(
-    p: &Profile,
+    profile: &Profile,
     planes: &Planes,
     head: &H,
     stroke: u32,
     room: &mut [u8],
     out: &mut Vec<u8>,
 ) -> u32
-    requires suits { Suits p.now (H.strokes head.now) planes.now }
+    requires suits { Suits profile.now (H.strokes head.now) planes.now }
     requires stroke { stroke < (H.strokes head.now).count }
     requires room { length room.old ≡ (planes.now.width + 7) / 8 }
-    requires space { vec_len out.old + planes.now.inks * (12 + 2 * p.now.nozzles * ((planes.now.width + 7) / 8)) ≤
-        vec_capacity out.old }
-    ensures inks { IsStroke p.now planes.now.width
-        (stroke_over p.now (H.strokes head.now) planes.now stroke) out.old.items out.new.items result }
+    requires space { vec_len out.old + planes.now.inks * (12 + 2 * profile.now.nozzles * ((planes.now.width + 7) / 8))
+        ≤ vec_capacity out.old }
+    ensures inks { IsStroke profile.now planes.now.width
+        (stroke_over profile.now (H.strokes head.now) planes.now stroke) out.old.items out.new.items result }
     ensures few { result ≤ planes.now.inks }
     ensures most { vec_len out.new ≤
-        vec_len out.old + planes.now.inks * (12 + 2 * p.now.nozzles * ((planes.now.width + 7) / 8)) }
+        vec_len out.old + planes.now.inks * (12 + 2 * profile.now.nozzles * ((planes.now.width + 7) / 8)) }
     ensures capacity { vec_capacity out.old ≤ vec_capacity out.new }
 {
-    let header = raster_header(p, planes.width() as u16);
+    let header = raster_header(profile, planes.width() as u16);
     let mut rasters = 0u32;
     'inks: for place in 0..planes.inks() {
-        let ink = p.inks.at(place);
+        let ink = profile.inks.at(place);
         rasters += append_ink(head, planes, header, place, ink, stroke, room, out);
     }
     rasters
@@ -65,39 +65,39 @@ pub(crate) fn append_inks<H: Head>(
 
 /// Writes a whole stroke, or nothing where no ink has a dot in it. The head is `down` rows above the stroke.
 pub fn put_stroke<H: Head, K: Sink>(
-    p: &Profile,
+    profile: &Profile,
     planes: &Planes,
     head: &H,
     stroke: u32,
     down: u32,
     room: &mut [u8],
     out: &mut Vec<u8>,
-    k: &mut K,
+    sink: &mut K,
 ) -> Result<PageSum, Failed>
-    requires suits { Suits p.now (H.strokes head.now) planes.now }
+    requires suits { Suits profile.now (H.strokes head.now) planes.now }
     requires stroke { stroke < (H.strokes head.now).count }
-    requires down { down * row_units_of p.now ≤ most_rows }
+    requires down { down * row_units_of profile.now ≤ most_rows }
     requires room { length room.old ≡ (planes.now.width + 7) / 8 }
-    requires space { most_of_pass p.now planes.now.width ≤ vec_capacity out.old }
-    ensures ok { OnOk result (Appends (K.held k.old) (K.held k.new) (stroke_bytes p.now planes.now.width
-        (stroke_over p.now (H.strokes head.now) planes.now stroke) down)) }
-    ensures sum { IfOk result (IsStrokeSum p.now planes.now.width
-        (stroke_over p.now (H.strokes head.now) planes.now stroke) down) }
-    ensures part { OnErr result (AppendsPart (K.held k.old) (K.held k.new)
-        (stroke_bytes p.now planes.now.width
-        (stroke_over p.now (H.strokes head.now) planes.now stroke) down)) }
-    ensures cause { HasCause (K.faults k.old) (K.faults k.new) result }
+    requires space { most_of_pass profile.now planes.now.width ≤ vec_capacity out.old }
+    ensures ok { OnOk result (Appends (K.held sink.old) (K.held sink.new) (stroke_bytes profile.now planes.now.width
+        (stroke_over profile.now (H.strokes head.now) planes.now stroke) down)) }
+    ensures sum { IfOk result (IsStrokeSum profile.now planes.now.width
+        (stroke_over profile.now (H.strokes head.now) planes.now stroke) down) }
+    ensures part { OnErr result (AppendsPart (K.held sink.old) (K.held sink.new)
+        (stroke_bytes profile.now planes.now.width
+        (stroke_over profile.now (H.strokes head.now) planes.now stroke) down)) }
+    ensures cause { HasCause (K.faults sink.old) (K.faults sink.new) result }
     ensures few { IfOk result (λ sum. sum.rasters ≤ 4) }
-    ensures short { IfOk result (λ sum. sum.bytes ≤ most_of_pass p.now planes.now.width) }
+    ensures short { IfOk result (λ sum. sum.bytes ≤ most_of_pass profile.now planes.now.width) }
     ensures capacity { vec_capacity out.old ≤ vec_capacity out.new }
 {
     out.clear();
-    append_step(down as u16 * row_units(p), out);
-    let rasters = append_inks(p, planes, head, stroke, room, out);
+    append_step(down as u16 * row_units(profile), out);
+    let rasters = append_inks(profile, planes, head, stroke, room, out);
     if rasters == 0 {
         return Ok(PageSum { bytes: 0, rasters });
     }
-    put_all(k, out)?;
+    put_all(sink, out)?;
     Ok(PageSum {
         bytes: out.len() as u64,
         rasters,

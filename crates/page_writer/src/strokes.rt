@@ -50,27 +50,28 @@ fn head_after(last: u32, begin: u32, rasters: u32) -> u32
 
 /// Writes the strokes of a head, each in one write.
 fn put_strokes<H: Head, K: Sink>(
-    p: &Profile,
+    profile: &Profile,
     planes: &Planes,
     head: &H,
     room: &mut [u8],
     out: &mut Vec<u8>,
-    k: &mut K,
+    sink: &mut K,
 ) -> Result<PageSum, Failed>
-    requires suits { Suits p.now (H.strokes head.now) planes.now }
+    requires suits { Suits profile.now (H.strokes head.now) planes.now }
     requires room { length room.old ≡ (planes.now.width + 7) / 8 }
-    requires space { most_of_pass_of p.now planes.now.width ≤ vec_capacity out.old }
-    ensures ok { OnOk result (Appends (K.held k.old) (K.held k.new) (bytes_of page_coding.code (fired_strokes
-        p.now planes.now.width (strokes_over p.now (H.strokes head.now) planes.now)))) }
+    requires space { most_of_pass_of profile.now planes.now.width ≤ vec_capacity out.old }
+    ensures ok { OnOk result (Appends (K.held sink.old) (K.held sink.new) (bytes_of page_coding.code (fired_strokes
+        profile.now planes.now.width (strokes_over profile.now (H.strokes head.now) planes.now)))) }
     ensures bytes { IfOk result (λ sum. sum.bytes ≡ length (bytes_of page_coding.code (fired_strokes
-        p.now planes.now.width (strokes_over p.now (H.strokes head.now) planes.now)))) }
+        profile.now planes.now.width (strokes_over profile.now (H.strokes head.now) planes.now)))) }
     ensures rasters { IfOk result (λ sum. sum.rasters ≡ rasters_in (fired_strokes
-        p.now planes.now.width (strokes_over p.now (H.strokes head.now) planes.now))) }
-    ensures part { OnErr result (AppendsPart (K.held k.old) (K.held k.new) (bytes_of page_coding.code (fired_strokes
-        p.now planes.now.width (strokes_over p.now (H.strokes head.now) planes.now)))) }
-    ensures cause { HasCause (K.faults k.old) (K.faults k.new) result }
+        profile.now planes.now.width (strokes_over profile.now (H.strokes head.now) planes.now))) }
+    ensures part { OnErr result (AppendsPart (K.held sink.old) (K.held sink.new)
+        (bytes_of page_coding.code (fired_strokes profile.now planes.now.width
+        (strokes_over profile.now (H.strokes head.now) planes.now)))) }
+    ensures cause { HasCause (K.faults sink.old) (K.faults sink.new) result }
     ensures most { IfOk result (λ sum. sum.bytes
-        ≤ (H.strokes head.now).count * most_of_pass_of p.now planes.now.width) }
+        ≤ (H.strokes head.now).count * most_of_pass_of profile.now planes.now.width) }
     ensures capacity { vec_capacity out.old ≤ vec_capacity out.new }
 {
     let mut sum = PageSum {
@@ -81,7 +82,7 @@ fn put_strokes<H: Head, K: Sink>(
     'strokes: for stroke in 0..head.count() {
         let begin = head.start(stroke);
         let down = begin - last;
-        let done = put_stroke(p, planes, head, stroke, down, room, out, k)?;
+        let done = put_stroke(profile, planes, head, stroke, down, room, out, sink)?;
         last = head_after(last, begin, done.rasters);
         sum.bytes += done.bytes;
         sum.rasters += done.rasters;
@@ -96,37 +97,44 @@ fn put_by_all<R: Threads + Sync, H: Head + Sync, K: Sink>(
     page: &PageStrokes<'_, H>,
     batches: Option<Batches<'_, PageStrokes<'_, H>>>,
     out: &mut Vec<u8>,
-    k: &mut K,
+    sink: &mut K,
 ) -> Result<PageSum, Failed>
-    requires suits { Suits page.now.p.now (H.strokes page.now.head.now) page.now.planes.now }
+    requires suits { Suits page.now.profile.now (H.strokes page.now.head.now) page.now.planes.now }
     requires batches { IfSome batches (HaveRoom
-        (λ it. record { p = it.p.now; head = H.strokes it.head.now; t = it.planes.now })
-        (record { p = page.now.p.now; head = H.strokes page.now.head.now; t = page.now.planes.now })) }
+        (λ it. record { p = it.profile.now; head = H.strokes it.head.now; t = it.planes.now })
+        (record { p = page.now.profile.now; head = H.strokes page.now.head.now; t = page.now.planes.now })) }
     requires step { 7 ≤ vec_capacity out.old }
-    requires space { most_of_pass_of page.now.p.now page.now.planes.now.width ≤ vec_capacity out.old }
-    ensures ok { OnOk result (Appends (K.held k.old) (K.held k.new) (bytes_of page_coding.code (fired_strokes
-        page.now.p.now page.now.planes.now.width
-        (strokes_over page.now.p.now (H.strokes page.now.head.now) page.now.planes.now)))) }
+    requires space { most_of_pass_of page.now.profile.now page.now.planes.now.width ≤ vec_capacity out.old }
+    ensures ok { OnOk result (Appends (K.held sink.old) (K.held sink.new) (bytes_of page_coding.code (fired_strokes
+        page.now.profile.now page.now.planes.now.width
+        (strokes_over page.now.profile.now (H.strokes page.now.head.now) page.now.planes.now)))) }
     ensures bytes { IfOk result (λ sum. sum.bytes ≡ length (bytes_of page_coding.code (fired_strokes
-        page.now.p.now page.now.planes.now.width
-        (strokes_over page.now.p.now (H.strokes page.now.head.now) page.now.planes.now)))) }
+        page.now.profile.now page.now.planes.now.width
+        (strokes_over page.now.profile.now (H.strokes page.now.head.now) page.now.planes.now)))) }
     ensures rasters { IfOk result (λ sum. sum.rasters ≡ rasters_in (fired_strokes
-        page.now.p.now page.now.planes.now.width
-        (strokes_over page.now.p.now (H.strokes page.now.head.now) page.now.planes.now))) }
-    ensures part { OnErr result (AppendsPart (K.held k.old) (K.held k.new) (bytes_of page_coding.code (fired_strokes
-        page.now.p.now page.now.planes.now.width
-        (strokes_over page.now.p.now (H.strokes page.now.head.now) page.now.planes.now)))) }
-    ensures cause { HasCause (K.faults k.old) (K.faults k.new) result }
+        page.now.profile.now page.now.planes.now.width
+        (strokes_over page.now.profile.now (H.strokes page.now.head.now) page.now.planes.now))) }
+    ensures part { OnErr result (AppendsPart (K.held sink.old) (K.held sink.new)
+        (bytes_of page_coding.code (fired_strokes page.now.profile.now page.now.planes.now.width
+        (strokes_over page.now.profile.now (H.strokes page.now.head.now) page.now.planes.now)))) }
+    ensures cause { HasCause (K.faults sink.old) (K.faults sink.new) result }
     ensures most { IfOk result (λ sum. sum.bytes
-        ≤ (H.strokes page.now.head.now).count * most_of_pass_of page.now.p.now page.now.planes.now.width) }
+        ≤ (H.strokes page.now.head.now).count * most_of_pass_of page.now.profile.now page.now.planes.now.width) }
     ensures capacity { vec_capacity out.old ≤ vec_capacity out.new }
 {
     let Some(batches) = batches else {
         let mut row = [0u8; WIDEST_ROW];
         let len = (page.planes.width() as usize + 7) / 8;
-        return put_strokes(page.p, page.planes, page.head, &mut row[..len], out, k);
+        return put_strokes(
+            page.profile,
+            page.planes,
+            page.head,
+            &mut row[..len],
+            out,
+            sink,
+        );
     };
-    let sent = put_batches(threads, page, batches, out, k)?;
+    let sent = put_batches(threads, page, batches, out, sink)?;
     Ok(PageSum {
         bytes: sent.bytes,
         rasters: sent.rasters,
@@ -138,37 +146,37 @@ fn put_page<R: Threads + Sync, H: Head + Sync, K: Sink>(
     threads: &R,
     page: &PageStrokes<'_, H>,
     batches: Option<Batches<'_, PageStrokes<'_, H>>>,
-    f: PageForm,
+    form: PageForm,
     out: &mut Vec<u8>,
-    k: &mut K,
+    sink: &mut K,
 ) -> Result<PageSum, Failed>
-    requires suits { Suits page.now.p.now (H.strokes page.now.head.now) page.now.planes.now }
-    requires wanted { IsWanted (wanted_by page.now.p.now) f }
-    requires rows { page.now.planes.now.rows ≡ (window_of f page.now.p.now).height }
+    requires suits { Suits page.now.profile.now (H.strokes page.now.head.now) page.now.planes.now }
+    requires wanted { IsWanted (wanted_by page.now.profile.now) form }
+    requires rows { page.now.planes.now.rows ≡ (window_of form page.now.profile.now).height }
     requires batches { IfSome batches (HaveRoom
-        (λ it. record { p = it.p.now; head = H.strokes it.head.now; t = it.planes.now })
-        (record { p = page.now.p.now; head = H.strokes page.now.head.now; t = page.now.planes.now })) }
+        (λ it. record { p = it.profile.now; head = H.strokes it.head.now; t = it.planes.now })
+        (record { p = page.now.profile.now; head = H.strokes page.now.head.now; t = page.now.planes.now })) }
     requires empty { out.old.items ≡ [] }
     requires none { vec_len out.old ≡ 0 }
     requires prologue { 46 ≤ vec_capacity out.old }
-    requires space { most_of_pass_of page.now.p.now page.now.planes.now.width ≤ vec_capacity out.old }
-    ensures ok { OnOk result (Appends (K.held k.old) (K.held k.new) (head_bytes page.now.p.now (H.strokes page.now.head.now)
-        page.now.planes.now (f.height * row_units_of page.now.p.now))) }
-    ensures sum { IfOk result (SumsStrokes page.now.p.now page.now.planes.now.width page.now.planes.now.rows
-        (f.height * row_units_of page.now.p.now)
-        (strokes_over page.now.p.now (H.strokes page.now.head.now) page.now.planes.now)) }
-    ensures part { OnErr result (AppendsPart (K.held k.old) (K.held k.new) (head_bytes page.now.p.now
-        (H.strokes page.now.head.now) page.now.planes.now (f.height * row_units_of page.now.p.now))) }
-    ensures cause { HasCause (K.faults k.old) (K.faults k.new) result }
+    requires space { most_of_pass_of page.now.profile.now page.now.planes.now.width ≤ vec_capacity out.old }
+    ensures ok { OnOk result (Appends (K.held sink.old) (K.held sink.new) (head_bytes page.now.profile.now
+        (H.strokes page.now.head.now) page.now.planes.now (form.height * row_units_of page.now.profile.now))) }
+    ensures sum { IfOk result (SumsStrokes page.now.profile.now page.now.planes.now.width page.now.planes.now.rows
+        (form.height * row_units_of page.now.profile.now)
+        (strokes_over page.now.profile.now (H.strokes page.now.head.now) page.now.planes.now)) }
+    ensures part { OnErr result (AppendsPart (K.held sink.old) (K.held sink.new) (head_bytes page.now.profile.now
+        (H.strokes page.now.head.now) page.now.planes.now (form.height * row_units_of page.now.profile.now))) }
+    ensures cause { HasCause (K.faults sink.old) (K.faults sink.new) result }
     ensures short { IfOk result (λ sum. sum.bytes
-        ≤ 49 + (H.strokes page.now.head.now).count * most_of_pass_of page.now.p.now page.now.planes.now.width) }
+        ≤ 49 + (H.strokes page.now.head.now).count * most_of_pass_of page.now.profile.now page.now.planes.now.width) }
 {
-    append_prologue(sheet_of(page.p, f, page.head.above()), out);
-    put_all(k, out)?;
-    let strokes = put_by_all(threads, page, batches, out, k)?;
+    append_prologue(sheet_of(page.profile, form, page.head.above()), out);
+    put_all(sink, out)?;
+    let strokes = put_by_all(threads, page, batches, out, sink)?;
     out.clear();
     append_end(out);
-    put_all(k, out)?;
+    put_all(sink, out)?;
     Ok(PageSum {
         bytes: FRAME + strokes.bytes,
         rasters: strokes.rasters,
@@ -185,10 +193,10 @@ fn batches_of<'a, H: Head>(
 ) -> Option<Batches<'a, PageStrokes<'a, H>>>
     requires workers { workers ≤ 64 }
     requires some { 1 ≤ most }
-    requires most { most_of_pass_of page.now.p.now page.now.planes.now.width ≤ most }
+    requires most { most_of_pass_of page.now.profile.now page.now.planes.now.width ≤ most }
     ensures batches { IfSome result (HaveRoom
-        (λ it. record { p = it.p.now; head = H.strokes it.head.now; t = it.planes.now })
-        (record { p = page.now.p.now; head = H.strokes page.now.head.now; t = page.now.planes.now })) }
+        (λ it. record { p = it.profile.now; head = H.strokes it.head.now; t = it.planes.now })
+        (record { p = page.now.profile.now; head = H.strokes page.now.head.now; t = page.now.planes.now })) }
 {
     let cut = cut(workers, page.count(), most)?;
     match Batches::make(alloc, page, cut, most as usize) {
@@ -206,35 +214,39 @@ fn batches_of<'a, H: Head>(
 pub fn write_strokes<R: Threads + Sync, G, H: Head + Sync, K: Sink>(
     team: &Team<'_, R, G>,
     alloc: Global,
-    p: &Profile,
-    f: PageForm,
+    profile: &Profile,
+    form: PageForm,
     planes: &Planes,
     head: &H,
-    k: &mut K,
+    sink: &mut K,
 ) -> Result<PageSum, WriteStop>
-    requires suits { Suits p.now (H.strokes head.now) planes.now }
-    requires wanted { IsWanted (wanted_by p.now) f }
-    requires rows { planes.now.rows ≡ (window_of f p.now).height }
-    ensures ok { OnOk result (Appends (K.held k.old) (K.held k.new) (head_bytes p.now (H.strokes head.now)
-        planes.now (f.height * row_units_of p.now))) }
-    ensures sum { IfOk result (SumsStrokes p.now planes.now.width planes.now.rows
-        (f.height * row_units_of p.now)
-        (strokes_over p.now (H.strokes head.now) planes.now)) }
-    ensures part { IsErrOf result stop.Write → AppendsPart (K.held k.old) (K.held k.new) (head_bytes
-        p.now (H.strokes head.now) planes.now (f.height * row_units_of p.now)) }
+    requires suits { Suits profile.now (H.strokes head.now) planes.now }
+    requires wanted { IsWanted (wanted_by profile.now) form }
+    requires rows { planes.now.rows ≡ (window_of form profile.now).height }
+    ensures ok { OnOk result (Appends (K.held sink.old) (K.held sink.new) (head_bytes profile.now (H.strokes head.now)
+        planes.now (form.height * row_units_of profile.now))) }
+    ensures sum { IfOk result (SumsStrokes profile.now planes.now.width planes.now.rows
+        (form.height * row_units_of profile.now)
+        (strokes_over profile.now (H.strokes head.now) planes.now)) }
+    ensures part { IsErrOf result stop.Write → AppendsPart (K.held sink.old) (K.held sink.new) (head_bytes
+        profile.now (H.strokes head.now) planes.now (form.height * row_units_of profile.now)) }
     ensures short { IfOk result (λ sum. sum.bytes
-        ≤ 49 + (H.strokes head.now).count * most_of_pass_of p.now planes.now.width) }
-    ensures write { IsErrOf result stop.Write → Rose (K.faults k.old) (K.faults k.new) }
-    ensures memory { IsErrOf result stop.Memory → Keeps (K.held k.old) (K.held k.new) }
-    ensures later { K.faults k.old ≤ K.faults k.new }
+        ≤ 49 + (H.strokes head.now).count * most_of_pass_of profile.now planes.now.width) }
+    ensures write { IsErrOf result stop.Write → Rose (K.faults sink.old) (K.faults sink.new) }
+    ensures memory { IsErrOf result stop.Memory → Keeps (K.held sink.old) (K.held sink.new) }
+    ensures later { K.faults sink.old ≤ K.faults sink.new }
 {
-    let most = most_of_pass(p, planes.width()).max(PROLOGUE);
+    let most = most_of_pass(profile, planes.width()).max(PROLOGUE);
     let Ok(mut out) = Vec::with_capacity(alloc, most as usize) else {
         return Err(WriteStop::Memory);
     };
-    let page = PageStrokes { p, planes, head };
+    let page = PageStrokes {
+        profile,
+        planes,
+        head,
+    };
     let batches = batches_of(alloc, team.workers, &page, most);
-    match put_page(team.threads, &page, batches, f, &mut out, k) {
+    match put_page(team.threads, &page, batches, form, &mut out, sink) {
         Ok(sum) => Ok(sum),
         Err(Failed) => Err(WriteStop::Write),
     }

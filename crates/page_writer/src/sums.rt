@@ -35,23 +35,23 @@ fn most_of_ink(nozzles: u8, width: u32) -> u64
 }
 
 /// The most bytes of a pass over this many columns: a step down, and each of its inks.
-pub(crate) fn most_of_pass(p: &Profile, width: u32) -> u64
+pub(crate) fn most_of_pass(profile: &Profile, width: u32) -> u64
     requires { width ≤ most_columns }
-    ensures is { result ≡ most_of_pass_of p.now width }
+    ensures is { result ≡ most_of_pass_of profile.now width }
     ensures most { result ≤ 2089015 }
 {
-    STEP as u64 + u64::from(p.inks.count()) * most_of_ink(p.nozzles, width)
+    STEP as u64 + u64::from(profile.inks.count()) * most_of_ink(profile.nozzles, width)
 }
 
 /// The most bytes that `write_page` writes of a page with this window: 49 and, for each pass of the head, 7 and, for
 /// each ink, 12 and twice the bytes of a row for each nozzle.
-pub fn most_bytes(p: &Profile, w: Window) -> u64
-    requires can { CanPrint p.now }
-    requires width { w.width ≤ most_columns }
-    requires some_rows { 1 ≤ w.height }
-    requires most_rows { w.height ≤ most_rows }
-    ensures { result ≡ most_of_page p.now w.width w.height }
+pub fn most_bytes(profile: &Profile, window: Window) -> u64
+    requires can { CanPrint profile.now }
+    requires width { window.width ≤ most_columns }
+    requires some_rows { 1 ≤ window.height }
+    requires most_rows { window.height ≤ most_rows }
+    ensures { result ≡ most_of_page profile.now window.width window.height }
 {
-    let plan = Plan::make(p.nozzles, p.pitch, w.height);
-    FRAME + u64::from(plan.passes()) * most_of_pass(p, w.width)
+    let plan = Plan::make(profile.nozzles, profile.pitch, window.height);
+    FRAME + u64::from(plan.passes()) * most_of_pass(profile, window.width)
 }

@@ -43,7 +43,7 @@ pieces-preserved g c =
             λ low. absurd (omega (arith, low)),
           );
       sent = let P : Sent → Type 0 = SendsStrokes page c.args.last run.first (bound_of run (i + 1) - run.first)
-          (g.K.Sink.held c.args.k.now) (g.K.Sink.held c.put_piece.new.k) in
+          (g.K.Sink.held c.args.sink.now) (g.K.Sink.held c.put_piece.new.sink) in
           subst P (sym c.and_then-sent.ensures) (sends_piece (bound_of run i) (bound_of run (i + 1))
           c.bound.ensures c.bound-in-pieces.ensures (bound_above run i c.requires.first)
           (bound_rises run i (i + 1) (omega arith)) c.pieces.invariant.sent c.in_ok-one.ensures.ok);

@@ -10,7 +10,7 @@ invariant-pieces g l = record {
       × (l.i ≤ k → IsFilled (g.S.Strokes.page l.page) l.run k (g.S.Strokes.page coder.page.now) coder.piece))
       l.batch.coders.items;
   sent : SendsStrokes (g.S.Strokes.page l.page) l.last l.run.first (bound_of l.run l.i - l.run.first)
-      (g.K.Sink.held l.fn.k) (g.K.Sink.held l.k) l.sent;
+      (g.K.Sink.held l.fn.sink) (g.K.Sink.held l.sink) l.sent;
   step : vec_capacity l.fn.step ≤ vec_capacity l.step;
-  later : g.K.Sink.faults l.fn.k ≤ g.K.Sink.faults l.k;
+  later : g.K.Sink.faults l.fn.sink ≤ g.K.Sink.faults l.sink;
 }

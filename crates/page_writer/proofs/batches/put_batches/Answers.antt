@@ -96,7 +96,7 @@ batches-preserved g c =
           let Q : Run → Type 0 = λ r. Each (λ k coder. IsFilled page r k (g.S.Strokes.page coder.page.now) coder.piece) c.swap.new.y.coders.items in
           subst Q (sym here_is) (subst P (sym here_coders) c.in_ok-one.ensures.ahead_filled);
       next = ap (λ r. bound_of r (length c.swap.new.y.coders.items)) here_is ∙ ap (bound_of run) here_many ∙ sym next_is;
-      sent = let P : Sent → Type 0 = SendsStrokes page 0 0 c.swap.new.y.run.first (g.K.Sink.held c.args.k.now) (g.K.Sink.held c.code_beside.new.k) in
+      sent = let P : Sent → Type 0 = SendsStrokes page 0 0 c.swap.new.y.run.first (g.K.Sink.held c.args.sink.now) (g.K.Sink.held c.code_beside.new.sink) in
           subst P (sym c.and_then-sent.ensures) (sends_first
           (omega (arith, ap (λ (r : Run). r.first) here_is, c.batches.invariant.next, above)) c.batches.invariant.sent c.in_ok-one.ensures.ok);
       step = omega (arith, c.batches.invariant.step, c.in_ok-one.ensures.step);

@@ -21,9 +21,9 @@ invariant-batches g l = record {
   filled : Each (λ k coder. IsFilled (g.S.Strokes.page l.page) l.behind.run k (g.S.Strokes.page coder.page.now) coder.piece)
       l.behind.coders.items;
   next : bound_of l.behind.run (length l.behind.coders.items) ≡ l.ahead.run.first;
-  sent : SendsStrokes (g.S.Strokes.page l.page) 0 0 l.behind.run.first (g.K.Sink.held l.fn.k) (g.K.Sink.held l.k) l.sent;
+  sent : SendsStrokes (g.S.Strokes.page l.page) 0 0 l.behind.run.first (g.K.Sink.held l.fn.sink) (g.K.Sink.held l.sink) l.sent;
   step : vec_capacity l.fn.step ≤ vec_capacity l.step;
-  later : g.K.Sink.faults l.fn.k ≤ g.K.Sink.faults l.k;
+  later : g.K.Sink.faults l.fn.sink ≤ g.K.Sink.faults l.sink;
 }
 
 abbrev pub decreases-batches : goal.decreases-batches

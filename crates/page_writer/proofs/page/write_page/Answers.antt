@@ -33,57 +33,57 @@ can_print q p same can checked =
 
 pub write_strokes-requires-clause-suits : goal.write_strokes-requires-clause-suits
 write_strokes-requires-clause-suits g c κs within =
-    let p : Printer = c.args.p.now in
+    let p : Printer = c.args.profile.now in
     let t : DotTable = c.args.planes.now in
     let same : c.make-plan.result ≡ record { nozzles = p.nozzles; pitch = p.pitch; height = t.rows } =
-    plan_is _ _ _ _ _ c.p.view_is c.make-plan.ensures c.rows.ensures in
+    plan_is _ _ _ _ _ c.profile.view_is c.make-plan.ensures c.rows.ensures in
     let P : Weaving → Type 0 = λ plan. Suits p (pass_strokes plan) t in
-    subst P (sym same) (passes_suit p t c.args.f (can_print _ _ c.p.view_is c.checked_can_print.ensures c.requires.checked)
+    subst P (sym same) (passes_suit p t c.args.form (can_print _ _ c.profile.view_is c.checked_can_print.ensures c.requires.checked)
     c.requires.wanted c.requires.width c.requires.rows c.requires.inks)
 
 pub returns-clause-ok : goal.returns-clause-ok
 returns-clause-ok g c = λ h shows.
-    let p : Printer = c.args.p.now in
+    let p : Printer = c.args.profile.now in
     let t : DotTable = c.args.planes.now in
-    let len : ℕ = c.args.f.height * row_units p in
+    let len : ℕ = c.args.form.height * row_units p in
     let same : c.make-plan.result ≡ record { nozzles = p.nozzles; pitch = p.pitch; height = t.rows } =
-    plan_is _ _ _ _ _ c.p.view_is c.make-plan.ensures c.rows.ensures in
+    plan_is _ _ _ _ _ c.profile.view_is c.make-plan.ensures c.rows.ensures in
     let bytes : head_bytes p (pass_strokes c.make-plan.result) t len ≡ halftone_bytes p h len =
     ap (λ (plan : Weaving). head_bytes p (pass_strokes plan) t len) same ∙ bytes_are p t h len shows in
-    let P : List ℕ → Type 0 = λ bs. OnOk c.write_strokes.result (Appends (g.K.Sink.held c.args.k.now) (g.K.Sink.held c.write_strokes.new.k) bs) in
+    let P : List ℕ → Type 0 = λ bs. OnOk c.write_strokes.result (Appends (g.K.Sink.held c.args.sink.now) (g.K.Sink.held c.write_strokes.new.sink) bs) in
     subst P bytes c.write_strokes.ensures.ok
 
 pub returns-clause-part : goal.returns-clause-part
 returns-clause-part g c = λ h shows failed.
-    let p : Printer = c.args.p.now in
+    let p : Printer = c.args.profile.now in
     let t : DotTable = c.args.planes.now in
-    let len : ℕ = c.args.f.height * row_units p in
+    let len : ℕ = c.args.form.height * row_units p in
     let same : c.make-plan.result ≡ record { nozzles = p.nozzles; pitch = p.pitch; height = t.rows } =
-    plan_is _ _ _ _ _ c.p.view_is c.make-plan.ensures c.rows.ensures in
+    plan_is _ _ _ _ _ c.profile.view_is c.make-plan.ensures c.rows.ensures in
     let bytes : head_bytes p (pass_strokes c.make-plan.result) t len ≡ halftone_bytes p h len =
     ap (λ (plan : Weaving). head_bytes p (pass_strokes plan) t len) same ∙ bytes_are p t h len shows in
-    let P : List ℕ → Type 0 = AppendsPart (g.K.Sink.held c.args.k.now) (g.K.Sink.held c.write_strokes.new.k) in
+    let P : List ℕ → Type 0 = AppendsPart (g.K.Sink.held c.args.sink.now) (g.K.Sink.held c.write_strokes.new.sink) in
     subst P bytes (c.write_strokes.ensures.part failed)
 
 pub returns-clause-sum : goal.returns-clause-sum
 returns-clause-sum g c = λ h shows.
-    let p : Printer = c.args.p.now in
+    let p : Printer = c.args.profile.now in
     let t : DotTable = c.args.planes.now in
-    let len : ℕ = c.args.f.height * row_units p in
+    let len : ℕ = c.args.form.height * row_units p in
     let same : c.make-plan.result ≡ record { nozzles = p.nozzles; pitch = p.pitch; height = t.rows } =
-    plan_is _ _ _ _ _ c.p.view_is c.make-plan.ensures c.rows.ensures in
+    plan_is _ _ _ _ _ c.profile.view_is c.make-plan.ensures c.rows.ensures in
     IfOk-weaker c.write_strokes.result _ _ (λ sum is.
     let P : Weaving → Type 0 = λ plan. SumsStrokes p t.width t.rows len (strokes_over p (pass_strokes plan) t) sum in
     sums_are p t h len sum shows (subst P same is)) c.write_strokes.ensures.sum
 
 pub returns-clause-prints : goal.returns-clause-prints
 returns-clause-prints g c = λ h shows.
-    halftone_prints _ c.args.planes.now h c.args.f (can_print _ _ c.p.view_is c.checked_can_print.ensures c.requires.checked)
+    halftone_prints _ c.args.planes.now h c.args.form (can_print _ _ c.profile.view_is c.checked_can_print.ensures c.requires.checked)
     c.requires.wanted c.requires.width c.requires.rows shows
 
 pub returns-clause-passes : goal.returns-clause-passes
 returns-clause-passes g c = λ h shows ink.
-    halftone_passes _ c.args.planes.now h c.args.f (can_print _ _ c.p.view_is c.checked_can_print.ensures c.requires.checked)
+    halftone_passes _ c.args.planes.now h c.args.form (can_print _ _ c.profile.view_is c.checked_can_print.ensures c.requires.checked)
     c.requires.wanted c.requires.width c.requires.rows shows ink
 
 pub returns-clause-few : goal.returns-clause-few

@@ -13,7 +13,7 @@ returns-in_err-put_all-clause-part g c =
     coded-bytes c.args.last c.start-row.result c.put_step-begin.result _ _ code c.requires.coded c.if-coded-eq0.false
     c.start-row.ensures c.clear.ensures.items (c.deref.ensures.value ∙ c.append_step.ensures.items)
     (c.put_step-begin.ensures.bytes ∙ ap (λ bs. c.deref.result.now ++ drop 7 bs) c.as_mut_slice-code.ensures.value) in
-    let P : List ℕ → Type 0 = AppendsPart (g.K.Sink.held c.args.k.now) (g.K.Sink.held c.put_all.new.k) in
+    let P : List ℕ → Type 0 = AppendsPart (g.K.Sink.held c.args.sink.now) (g.K.Sink.held c.put_all.new.k) in
     on_err_anyway _ (subst P whole c.in_err-put_all.ensures.part)
 
 pub returns-clause-ok : goal.returns-clause-ok

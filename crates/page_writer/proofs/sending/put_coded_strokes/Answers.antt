@@ -25,7 +25,7 @@ strokes-preserved g c =
     let page : HeadPage = g.S.Strokes.page c.args.page.now in
     record {
       sent = let P : Sent → Type 0 = SendsStrokes page c.args.last c.args.first (c.strokes.stroke + 1 - c.args.first)
-          (g.K.Sink.held c.args.k.now) (g.K.Sink.held c.put_coded.new.k) in
+          (g.K.Sink.held c.args.sink.now) (g.K.Sink.held c.put_coded.new.sink) in
           subst P (sym c.and_then-sent.ensures) (sends_more (omega arith) (omega arith) c.strokes.invariant.sent c.in_ok-one.ensures.ok);
       coded = λ k d low high.
           let other : k ≡ c.strokes.stroke - c.args.first → ⊥ = omega arith in

@@ -14,8 +14,8 @@ inks-init g c =
     record {
       so_far = inks_begin _ _ _ _;
       few = omega arith;
-      space = omega (arith, c.requires.space, ap (λ n. n * (12 + 2 * c.args.p.now.nozzles * ((c.args.planes.now.width + 7) / 8))) all);
-      most = omega (arith, ap (λ n. n * (12 + 2 * c.args.p.now.nozzles * ((c.args.planes.now.width + 7) / 8))) all);
+      space = omega (arith, c.requires.space, ap (λ n. n * (12 + 2 * c.args.profile.now.nozzles * ((c.args.planes.now.width + 7) / 8))) all);
+      most = omega (arith, ap (λ n. n * (12 + 2 * c.args.profile.now.nozzles * ((c.args.planes.now.width + 7) / 8))) all);
       capacity = omega arith;
     }
 
@@ -25,7 +25,7 @@ append_ink-rasters-requires-clause-space g c =
     omega (arith, c.inks-test.true, c.inks-place-end.ensures) in
     omega (
       arith,
-      ink_most c.args.p.now _ _ _ c.raster_header-header.ensures c.width.ensures,
+      ink_most c.args.profile.now _ _ _ c.raster_header-header.ensures c.width.ensures,
       inks_room_one _ _ _ _ _ left c.inks.invariant.space,
     )
 
@@ -34,25 +34,25 @@ inks-preserved g c =
     let left : c.args.planes.now.inks - c.inks.place ≡ suc (c.args.planes.now.inks - (c.inks.place + 1)) =
     omega (arith, c.inks-test.true, c.inks-place-end.ensures) in
     let taken : vec_len c.append_ink-rasters.new.out
-    ≤ vec_len c.inks.out + (12 + 2 * c.args.p.now.nozzles * ((c.args.planes.now.width + 7) / 8)) =
+    ≤ vec_len c.inks.out + (12 + 2 * c.args.profile.now.nozzles * ((c.args.planes.now.width + 7) / 8)) =
     omega (
       arith,
       c.append_ink-rasters.ensures.most,
-      ink_most c.args.p.now _ _ _ c.raster_header-header.ensures c.width.ensures,
+      ink_most c.args.profile.now _ _ _ c.raster_header-header.ensures c.width.ensures,
     ) in
-    let ink : slice_get (inks_of c.args.p.now.inks) c.inks.place ≡ Some c.at-ink.result =
-    ap (λ (p : Printer). slice_get (inks_of p.inks) c.inks.place) (sym c.p.view_is) ∙ c.at-ink.ensures in
+    let ink : slice_get (inks_of c.args.profile.now.inks) c.inks.place ≡ Some c.at-ink.result =
+    ap (λ (p : Printer). slice_get (inks_of p.inks) c.inks.place) (sym c.profile.view_is) ∙ c.at-ink.ensures in
     record {
       so_far = inks_step c.raster_header-header.result c.at-ink.result
           (stroke_rows (g.H.Head.strokes c.args.head.now) c.args.planes.now c.args.stroke c.inks.place)
           c.inks.invariant.so_far ink
-          (c.raster_header-header.ensures ∙ ap (λ n. raster_header c.args.p.now n page_coding.c) c.width.ensures)
+          (c.raster_header-header.ensures ∙ ap (λ n. raster_header c.args.profile.now n page_coding.c) c.width.ensures)
           (ap (stroke_rows (g.H.Head.strokes c.args.head.now) c.args.planes.now c.args.stroke)
-          (place_is c.args.p.now.inks c.inks.place c.at-ink.result ink))
+          (place_is c.args.profile.now.inks c.inks.place c.at-ink.result ink))
           c.append_ink-rasters.ensures.items c.append_ink-rasters.ensures.rasters;
       few = omega (arith, c.inks.invariant.few, c.append_ink-rasters.ensures.few);
       space = let space : vec_len c.append_ink-rasters.new.out + (c.args.planes.now.inks - (c.inks.place + 1))
-          * (12 + 2 * c.args.p.now.nozzles * ((c.args.planes.now.width + 7) / 8)) ≤ vec_capacity c.inks.out =
+          * (12 + 2 * c.args.profile.now.nozzles * ((c.args.planes.now.width + 7) / 8)) ≤ vec_capacity c.inks.out =
           inks_room_more _ _ _ _ left c.inks.invariant.space taken in omega (arith, space, c.append_ink-rasters.ensures.capacity);
       most = inks_room_more _ _ _ _ left c.inks.invariant.most taken;
       capacity = omega (arith, c.inks.invariant.capacity, c.append_ink-rasters.ensures.capacity);

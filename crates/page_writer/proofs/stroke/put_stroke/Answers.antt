@@ -21,26 +21,26 @@ returns-then-rasters-eq0-clause-sum g c = record {
 
 pub returns-in_err-put_all-clause-part : goal.returns-in_err-put_all-clause-part
 returns-in_err-put_all-clause-part g c =
-    let stroke : Stroke = stroke_over c.args.p.now (g.H.Head.strokes c.args.head.now) c.args.planes.now c.args.stroke in
-    let whole : c.append_inks-rasters.new.out.items ≡ stroke_bytes c.args.p.now c.args.planes.now.width stroke c.args.down =
+    let stroke : Stroke = stroke_over c.args.profile.now (g.H.Head.strokes c.args.head.now) c.args.planes.now c.args.stroke in
+    let whole : c.append_inks-rasters.new.out.items ≡ stroke_bytes c.args.profile.now c.args.planes.now.width stroke c.args.down =
     stroke_fires c.args.down c.clear.ensures.items c.append_step.ensures.items (ap (λ n. c.args.down * n)
     c.row_units.ensures.is) c.append_inks-rasters.ensures.inks c.if-rasters-eq0.false in
-    let P : List ℕ → Type 0 = AppendsPart (g.K.Sink.held c.args.k.now) (g.K.Sink.held c.put_all.new.k) in
+    let P : List ℕ → Type 0 = AppendsPart (g.K.Sink.held c.args.sink.now) (g.K.Sink.held c.put_all.new.k) in
     on_err_anyway _ (subst P (c.deref.ensures.value ∙ whole) c.in_err-put_all.ensures.part)
 
 pub returns-clause-ok : goal.returns-clause-ok
 returns-clause-ok g c =
-    let stroke : Stroke = stroke_over c.args.p.now (g.H.Head.strokes c.args.head.now) c.args.planes.now c.args.stroke in
-    let whole : c.append_inks-rasters.new.out.items ≡ stroke_bytes c.args.p.now c.args.planes.now.width stroke c.args.down =
+    let stroke : Stroke = stroke_over c.args.profile.now (g.H.Head.strokes c.args.head.now) c.args.planes.now c.args.stroke in
+    let whole : c.append_inks-rasters.new.out.items ≡ stroke_bytes c.args.profile.now c.args.planes.now.width stroke c.args.down =
     stroke_fires c.args.down c.clear.ensures.items c.append_step.ensures.items (ap (λ n. c.args.down * n)
     c.row_units.ensures.is) c.append_inks-rasters.ensures.inks c.if-rasters-eq0.false in
-    let P : List ℕ → Type 0 = Appends (g.K.Sink.held c.args.k.now) (g.K.Sink.held c.put_all.new.k) in
+    let P : List ℕ → Type 0 = Appends (g.K.Sink.held c.args.sink.now) (g.K.Sink.held c.put_all.new.k) in
     subst P (c.deref.ensures.value ∙ whole) c.in_ok-put_all.ensures.ok
 
 pub returns-clause-sum : goal.returns-clause-sum
 returns-clause-sum g c =
-    let stroke : Stroke = stroke_over c.args.p.now (g.H.Head.strokes c.args.head.now) c.args.planes.now c.args.stroke in
-    let whole : c.append_inks-rasters.new.out.items ≡ stroke_bytes c.args.p.now c.args.planes.now.width stroke c.args.down =
+    let stroke : Stroke = stroke_over c.args.profile.now (g.H.Head.strokes c.args.head.now) c.args.planes.now c.args.stroke in
+    let whole : c.append_inks-rasters.new.out.items ≡ stroke_bytes c.args.profile.now c.args.planes.now.width stroke c.args.down =
     stroke_fires c.args.down c.clear.ensures.items c.append_step.ensures.items (ap (λ n. c.args.down * n)
     c.row_units.ensures.is) c.append_inks-rasters.ensures.inks c.if-rasters-eq0.false in
     record {

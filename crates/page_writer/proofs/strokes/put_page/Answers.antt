@@ -11,9 +11,9 @@ use Rattle.page_writer.proofs.strokes.put_page.Goals as goal
 
 pub returns-in_err-put_all-clause-part : goal.returns-in_err-put_all-clause-part
 returns-in_err-put_all-clause-part g c =
-    let p : Printer = c.args.page.now.p.now in
+    let p : Printer = c.args.page.now.profile.now in
     let strokes : Strokes = strokes_over p (g.H.Head.strokes c.args.page.now.head.now) c.args.page.now.planes.now in
-    let whole = page_is p c.args.page.now.planes.now.width c.args.page.now.planes.now.rows (c.args.f.height * row_units p) strokes _ _ _
+    let whole = page_is p c.args.page.now.planes.now.width c.args.page.now.planes.now.rows (c.args.form.height * row_units p) strokes _ _ _
     c.sheet_of.ensures.length (c.sheet_of.ensures.top ∙ ap (λ n. (p.top - n) * row_units p) c.above.ensures)
     (c.sheet_of.ensures.bottom ∙ ap (λ n. (p.top + n) * row_units p) (sym c.requires.rows)) in
     on_err_anyway _ (first_part _ _ _ _ _ whole
@@ -21,9 +21,9 @@ returns-in_err-put_all-clause-part g c =
 
 pub returns-in_err-strokes-clause-part : goal.returns-in_err-strokes-clause-part
 returns-in_err-strokes-clause-part g c =
-    let p : Printer = c.args.page.now.p.now in
+    let p : Printer = c.args.page.now.profile.now in
     let strokes : Strokes = strokes_over p (g.H.Head.strokes c.args.page.now.head.now) c.args.page.now.planes.now in
-    let whole = page_is p c.args.page.now.planes.now.width c.args.page.now.planes.now.rows (c.args.f.height * row_units p) strokes _ _ _
+    let whole = page_is p c.args.page.now.planes.now.width c.args.page.now.planes.now.rows (c.args.form.height * row_units p) strokes _ _ _
     c.sheet_of.ensures.length (c.sheet_of.ensures.top ∙ ap (λ n. (p.top - n) * row_units p) c.above.ensures)
     (c.sheet_of.ensures.bottom ∙ ap (λ n. (p.top + n) * row_units p) (sym c.requires.rows)) in
     let begun = appends_alone _ _ _ c.deref.ensures.value c.requires.empty c.append_prologue.ensures.items
@@ -32,9 +32,9 @@ returns-in_err-strokes-clause-part g c =
 
 pub returns-in_err-put_all-2-clause-part : goal.returns-in_err-put_all-2-clause-part
 returns-in_err-put_all-2-clause-part g c =
-    let p : Printer = c.args.page.now.p.now in
+    let p : Printer = c.args.page.now.profile.now in
     let strokes : Strokes = strokes_over p (g.H.Head.strokes c.args.page.now.head.now) c.args.page.now.planes.now in
-    let whole = page_is p c.args.page.now.planes.now.width c.args.page.now.planes.now.rows (c.args.f.height * row_units p) strokes _ _ _
+    let whole = page_is p c.args.page.now.planes.now.width c.args.page.now.planes.now.rows (c.args.form.height * row_units p) strokes _ _ _
     c.sheet_of.ensures.length (c.sheet_of.ensures.top ∙ ap (λ n. (p.top - n) * row_units p) c.above.ensures)
     (c.sheet_of.ensures.bottom ∙ ap (λ n. (p.top + n) * row_units p) (sym c.requires.rows)) in
     let begun = appends_alone _ _ _ c.deref.ensures.value c.requires.empty c.append_prologue.ensures.items
@@ -44,28 +44,28 @@ returns-in_err-put_all-2-clause-part g c =
 
 pub returns-clause-ok : goal.returns-clause-ok
 returns-clause-ok g c =
-    let p : Printer = c.args.page.now.p.now in
+    let p : Printer = c.args.page.now.profile.now in
     let strokes : Strokes = strokes_over p (g.H.Head.strokes c.args.page.now.head.now) c.args.page.now.planes.now in
-    let whole = page_is p c.args.page.now.planes.now.width c.args.page.now.planes.now.rows (c.args.f.height * row_units p) strokes _ _ _
+    let whole = page_is p c.args.page.now.planes.now.width c.args.page.now.planes.now.rows (c.args.form.height * row_units p) strokes _ _ _
     c.sheet_of.ensures.length (c.sheet_of.ensures.top ∙ ap (λ n. (p.top - n) * row_units p) c.above.ensures)
     (c.sheet_of.ensures.bottom ∙ ap (λ n. (p.top + n) * row_units p) (sym c.requires.rows)) in
     let begun = appends_alone _ _ _ c.deref.ensures.value c.requires.empty c.append_prologue.ensures.items
     c.in_ok-put_all.ensures.ok in
     let held = g.K.Sink.held in
-    all_appended (held c.args.k.now) (held c.put_all.new.k) (held c.put_by_all.new.k) (held c.put_all-2.new.k) _ _ _ whole begun c.in_ok-strokes.ensures.ok
+    all_appended (held c.args.sink.now) (held c.put_all.new.k) (held c.put_by_all.new.sink) (held c.put_all-2.new.k) _ _ _ whole begun c.in_ok-strokes.ensures.ok
     (appends_alone _ _ _ c.deref-2.ensures.value c.clear.ensures.items c.append_end.ensures.items c.in_ok-put_all-2.ensures.ok)
 
 pub returns-clause-sum : goal.returns-clause-sum
 returns-clause-sum g c =
-    let p : Printer = c.args.page.now.p.now in
+    let p : Printer = c.args.page.now.profile.now in
     let strokes : Strokes = strokes_over p (g.H.Head.strokes c.args.page.now.head.now) c.args.page.now.planes.now in
-    let whole = page_is p c.args.page.now.planes.now.width c.args.page.now.planes.now.rows (c.args.f.height * row_units p) strokes _ _ _
+    let whole = page_is p c.args.page.now.planes.now.width c.args.page.now.planes.now.rows (c.args.form.height * row_units p) strokes _ _ _
     c.sheet_of.ensures.length (c.sheet_of.ensures.top ∙ ap (λ n. (p.top - n) * row_units p) c.above.ensures)
     (c.sheet_of.ensures.bottom ∙ ap (λ n. (p.top + n) * row_units p) (sym c.requires.rows)) in
-    page_sums p c.args.page.now.planes.now.width c.args.page.now.planes.now.rows (c.args.f.height * row_units p) strokes _ _ _ _ _ whole c.in_ok-strokes.ensures.bytes refl c.in_ok-strokes.ensures.rasters
+    page_sums p c.args.page.now.planes.now.width c.args.page.now.planes.now.rows (c.args.form.height * row_units p) strokes _ _ _ _ _ whole c.in_ok-strokes.ensures.bytes refl c.in_ok-strokes.ensures.rasters
 
 pub overflow_add-result : goal.overflow_add-result
 overflow_add-result g c =
     let fit = strokes_fit _ (g.H.Head.strokes c.args.page.now.head.now).count _ c.in_ok-strokes.ensures.most c.requires.suits.few
-    (pass_short c.args.page.now.p.now c.args.page.now.planes.now.width c.requires.suits.can c.requires.suits.over.columns) in
+    (pass_short c.args.page.now.profile.now c.args.page.now.planes.now.width c.requires.suits.can c.requires.suits.over.columns) in
     omega (arith, fit)

@@ -12,7 +12,7 @@ strokes-init g c =
     let head : HeadStrokes = g.H.Head.strokes c.args.head.now in
     let all : head.count - 0 ≡ head.count = omega arith in
     record {
-      so_far = strokes_begin (g.K.Sink.held c.args.k.now) _ _ _ _ _ all;
+      so_far = strokes_begin (g.K.Sink.held c.args.sink.now) _ _ _ _ _ all;
       stands = λ next le low. omega arith;
       bytes = omega arith;
       rasters = omega arith;
@@ -29,7 +29,7 @@ overflow_sub-down g c =
 pub put_stroke-requires-clause-down : goal.put_stroke-requires-clause-down
 put_stroke-requires-clause-down g c =
     let head : HeadStrokes = g.H.Head.strokes c.args.head.now in
-    let units : ℕ = row_units c.args.p.now in
+    let units : ℕ = row_units c.args.profile.now in
     let low : c.strokes.stroke < head.count = omega (arith, c.strokes-test.true, c.count-stroke-end.ensures) in
     let begin : c.start-begin.result * units ≤ 15840 =
     omega (arith, ap (λ n. n * units) c.start-begin.ensures, c.requires.suits.low c.strokes.stroke low) in
@@ -50,7 +50,7 @@ overflow_add-sum g c =
     let most = strokes_most _ _ _ _ c.strokes.invariant.bytes c.in_ok-done.ensures.short in
     let all = strokes_few _ _ head.count _ most (omega (arith, low)) in
     let fit = strokes_fit _ head.count _ all c.requires.suits.few
-    (pass_short c.args.p.now c.args.planes.now.width c.requires.suits.can c.requires.suits.over.columns) in
+    (pass_short c.args.profile.now c.args.planes.now.width c.requires.suits.can c.requires.suits.over.columns) in
     omega (arith, fit)
 
 pub strokes-preserved : goal.strokes-preserved

@@ -24,7 +24,7 @@ pub returns-then-job-clause-ok : goal.returns-then-job-clause-ok
 returns-then-job-clause-ok g c = λ h shows.
     let p : Printer = c.args.profile.now in
     let P : Way → Type 0 = λ way. OnOk c.write_shingled.result
-    (Appends (g.K.Sink.held c.args.out.now) (g.K.Sink.held c.write_shingled.new.k) (halftone_bytes_by way p h (c.args.form.height * row_units p))) in
+    (Appends (g.K.Sink.held c.args.out.now) (g.K.Sink.held c.write_shingled.new.sink) (halftone_bytes_by way p h (c.args.form.height * row_units p))) in
     subst P (sym (way-shingled c.args.job.now c.if-job.true)) (c.write_shingled.ensures.ok h shows)
 
 pub returns-then-job-clause-sum : goal.returns-then-job-clause-sum
@@ -43,7 +43,7 @@ pub returns-then-job-clause-part : goal.returns-then-job-clause-part
 returns-then-job-clause-part g c = λ h shows failed.
     let p : Printer = c.args.profile.now in
     let P : Way → Type 0 = λ way.
-    AppendsPart (g.K.Sink.held c.args.out.now) (g.K.Sink.held c.write_shingled.new.k) (halftone_bytes_by way p h (c.args.form.height * row_units p)) in
+    AppendsPart (g.K.Sink.held c.args.out.now) (g.K.Sink.held c.write_shingled.new.sink) (halftone_bytes_by way p h (c.args.form.height * row_units p)) in
     subst P (sym (way-shingled c.args.job.now c.if-job.true)) (c.write_shingled.ensures.part h shows failed)
 
 pub returns-then-job-clause-prints : goal.returns-then-job-clause-prints
@@ -58,7 +58,7 @@ pub returns-then-is_empty-clause-ok : goal.returns-then-is_empty-clause-ok
 returns-then-is_empty-clause-ok g c = λ h shows.
     let p : Printer = c.args.profile.now in
     let P : Way → Type 0 = λ way. OnOk c.write_page.result
-    (Appends (g.K.Sink.held c.args.out.now) (g.K.Sink.held c.write_page.new.k) (halftone_bytes_by way p h (c.args.form.height * row_units p))) in
+    (Appends (g.K.Sink.held c.args.out.now) (g.K.Sink.held c.write_page.new.sink) (halftone_bytes_by way p h (c.args.form.height * row_units p))) in
     subst P (sym (way-woven c.args.job.now c.if-job.false (none_dead c.args.job.now.dead.items c.is_empty.result c.is_empty.ensures c.if-is_empty.true)))
     (c.write_page.ensures.ok h shows)
 
@@ -79,7 +79,7 @@ pub returns-then-is_empty-clause-part : goal.returns-then-is_empty-clause-part
 returns-then-is_empty-clause-part g c = λ h shows failed.
     let p : Printer = c.args.profile.now in
     let P : Way → Type 0 = λ way.
-    AppendsPart (g.K.Sink.held c.args.out.now) (g.K.Sink.held c.write_page.new.k) (halftone_bytes_by way p h (c.args.form.height * row_units p)) in
+    AppendsPart (g.K.Sink.held c.args.out.now) (g.K.Sink.held c.write_page.new.sink) (halftone_bytes_by way p h (c.args.form.height * row_units p)) in
     subst P (sym (way-woven c.args.job.now c.if-job.false (none_dead c.args.job.now.dead.items c.is_empty.result c.is_empty.ensures c.if-is_empty.true)))
     (c.write_page.ensures.part h shows failed)
 
@@ -111,7 +111,7 @@ returns-else-is_empty-clause-ok g c = λ h shows.
     let p : Printer = c.args.profile.now in
     let ok = rw c.deref.ensures.0 at (c.write_healed.ensures.ok h shows) in
     let P : Way → Type 0 = λ way. OnOk c.write_healed.result
-    (Appends (g.K.Sink.held c.args.out.now) (g.K.Sink.held c.write_healed.new.k) (halftone_bytes_by way p h (c.args.form.height * row_units p))) in
+    (Appends (g.K.Sink.held c.args.out.now) (g.K.Sink.held c.write_healed.new.sink) (halftone_bytes_by way p h (c.args.form.height * row_units p))) in
     subst P (sym (way-healed c.args.job.now c.if-job.false (some_dead c.args.job.now.dead.items c.is_empty.result c.is_empty.ensures c.if-is_empty.false))) ok
 
 pub returns-else-is_empty-clause-sum : goal.returns-else-is_empty-clause-sum
@@ -134,7 +134,7 @@ returns-else-is_empty-clause-part g c = λ h shows failed.
     let p : Printer = c.args.profile.now in
     let part = rw c.deref.ensures.0 at (c.write_healed.ensures.part h shows failed) in
     let P : Way → Type 0 = λ way.
-    AppendsPart (g.K.Sink.held c.args.out.now) (g.K.Sink.held c.write_healed.new.k) (halftone_bytes_by way p h (c.args.form.height * row_units p)) in
+    AppendsPart (g.K.Sink.held c.args.out.now) (g.K.Sink.held c.write_healed.new.sink) (halftone_bytes_by way p h (c.args.form.height * row_units p)) in
     subst P (sym (way-healed c.args.job.now c.if-job.false (some_dead c.args.job.now.dead.items c.is_empty.result c.is_empty.ensures c.if-is_empty.false))) part
 
 pub returns-else-is_empty-clause-prints : goal.returns-else-is_empty-clause-prints
