@@ -39,11 +39,11 @@ impl DotMeter {
 }
 
 // The dots of all inks.
-fn all_dots(n: &InkCounts) -> u128
-    ensures sum { result ≡ all_inks n.now }
+fn all_dots(dots: &InkCounts) -> u128
+    ensures sum { result ≡ all_inks dots.now }
     ensures bound { result < 2 ^ 66 }
 {
-    [n.k, n.c, n.m, n.y]
+    [dots.k, dots.c, dots.m, dots.y]
         .iter()
         .map(|&count| u128::from(count))
         .sum()
@@ -52,15 +52,15 @@ fn all_dots(n: &InkCounts) -> u128
 impl Meter for DotMeter {
     ghost account = { λ meter. meter };
 
-    fn room(&self, n: &InkCounts) -> bool {
-        all_dots(&self.totals) + all_dots(n) <= u128::from(self.cap)
+    fn room(&self, dots: &InkCounts) -> bool {
+        all_dots(&self.totals) + all_dots(dots) <= u128::from(self.cap)
     }
 
-    fn add(&mut self, n: &InkCounts) {
-        self.totals.k += n.k;
-        self.totals.c += n.c;
-        self.totals.m += n.m;
-        self.totals.y += n.y;
+    fn add(&mut self, dots: &InkCounts) {
+        self.totals.k += dots.k;
+        self.totals.c += dots.c;
+        self.totals.m += dots.m;
+        self.totals.y += dots.y;
     }
 
     fn set_cap(&mut self, cap: u64) {

@@ -10,13 +10,13 @@ pub trait Meter: Drop {
     ghost account: { Self → Account };
 
     /// Whether the cap lets these dots be counted too. Reaching the cap exactly is allowed.
-    fn room(&self, n: &InkCounts) -> bool
-        ensures { IsTrue result ↔ HasRoom n.now (account self.now) };
+    fn room(&self, dots: &InkCounts) -> bool
+        ensures { IsTrue result ↔ HasRoom dots.now (account self.now) };
 
     /// Counts these dots.
-    fn add(&mut self, n: &InkCounts)
-        requires { HasRoom n.now (account self.old) }
-        ensures { account self.new ≡ added n.now (account self.old) };
+    fn add(&mut self, dots: &InkCounts)
+        requires { HasRoom dots.now (account self.old) }
+        ensures { account self.new ≡ added dots.now (account self.old) };
 
     /// Sets the cap. It may be below the total: then there is no room even for 0 dots.
     fn set_cap(&mut self, cap: u64)

@@ -26,10 +26,10 @@ pub struct OverCap {
 
 // Whether a meter has room for these dots.
 #[inline]
-fn has_room(meter: &Box<dyn Meter>, n: &InkCounts) -> bool
-    ensures { IsTrue result ↔ HasRoom n.now (account meter.now) }
+fn has_room(meter: &Box<dyn Meter>, dots: &InkCounts) -> bool
+    ensures { IsTrue result ↔ HasRoom dots.now (account meter.now) }
 {
-    meter.room(n)
+    meter.room(dots)
 }
 
 // The dots that a meter has counted.
@@ -56,12 +56,12 @@ fn over_cap(index: usize, meter: &Box<dyn Meter>) -> OverCap
 }
 
 /// Asks each meter for room for these dots, and changes none. `Err` names the first meter without room.
-pub fn admit(meters: &[Box<dyn Meter>], n: &InkCounts) -> Result<(), OverCap>
-    ensures room { OnOk result (All (HasRoom n.now) (map (λ meter. account meter) meters.now)) }
-    ensures over { IfErr result (IsFirstOver (map (λ meter. account meter) meters.now) n.now) }
+pub fn admit(meters: &[Box<dyn Meter>], dots: &InkCounts) -> Result<(), OverCap>
+    ensures room { OnOk result (All (HasRoom dots.now) (map (λ meter. account meter) meters.now)) }
+    ensures over { IfErr result (IsFirstOver (map (λ meter. account meter) meters.now) dots.now) }
 {
     for (index, meter) in meters.iter().enumerate() {
-        if !has_room(meter, n) {
+        if !has_room(meter, dots) {
             return Err(over_cap(index, meter));
         }
     }
@@ -70,11 +70,11 @@ pub fn admit(meters: &[Box<dyn Meter>], n: &InkCounts) -> Result<(), OverCap>
 
 // Counts these dots on one meter.
 #[inline]
-fn add_one(meter: &mut Box<dyn Meter>, n: &InkCounts)
-    requires { HasRoom n.now (account meter.old) }
-    ensures { account meter.new ≡ added n.now (account meter.old) }
+fn add_one(meter: &mut Box<dyn Meter>, dots: &InkCounts)
+    requires { HasRoom dots.now (account meter.old) }
+    ensures { account meter.new ≡ added dots.now (account meter.old) }
 {
-    meter.add(n);
+    meter.add(dots);
 }
 
 // Sets the cap of one meter.
@@ -86,13 +86,13 @@ fn cap_one(meter: &mut Box<dyn Meter>, cap: u64)
 }
 
 /// Counts these dots on each meter, all of which have room for them (`admit`).
-pub fn add_all(meters: &mut Vec<Box<dyn Meter>>, n: &InkCounts)
-    requires { All (HasRoom n.now) (map (λ meter. account meter) meters.old.items) }
+pub fn add_all(meters: &mut Vec<Box<dyn Meter>>, dots: &InkCounts)
+    requires { All (HasRoom dots.now) (map (λ meter. account meter) meters.old.items) }
     ensures { map (λ meter. account meter) meters.new.items
-        ≡ map (added n.now) (map (λ meter. account meter) meters.old.items) }
+        ≡ map (added dots.now) (map (λ meter. account meter) meters.old.items) }
 {
     for i in 0..meters.len() {
-        add_one(&mut meters[i], n);
+        add_one(&mut meters[i], dots);
     }
 }
 

@@ -45,17 +45,20 @@ impl Card {
 impl Meter for Card {
     ghost account = { λ card. card };
 
-    fn room(&self, n: &InkCounts) -> bool {
+    fn room(&self, dots: &InkCounts) -> bool {
         let (c, m, y) = self.colours;
         let spent = u128::from(self.black + c + m + y);
-        let wanted = u128::from(n.k) + u128::from(n.c) + u128::from(n.m) + u128::from(n.y);
+        let wanted = u128::from(dots.k)
+            + u128::from(dots.c)
+            + u128::from(dots.m)
+            + u128::from(dots.y);
         spent + wanted <= u128::from(self.cap)
     }
 
-    fn add(&mut self, n: &InkCounts) {
+    fn add(&mut self, dots: &InkCounts) {
         let (c, m, y) = self.colours;
-        self.black += n.k;
-        self.colours = (c + n.c, m + n.m, y + n.y);
+        self.black += dots.k;
+        self.colours = (c + dots.c, m + dots.m, y + dots.y);
         self.entries = self.entries.saturating_add(1);
     }
 
@@ -85,9 +88,9 @@ fn counts(k: u64, c: u64, m: u64, y: u64) -> InkCounts {
 type Meters = Vec<Box<dyn Meter>>;
 
 // Counts these dots where each meter has room.
-fn count(meters: &mut Meters, n: &InkCounts) -> Result<(), OverCap> {
-    admit(meters, n)?;
-    add_all(meters, n);
+fn count(meters: &mut Meters, dots: &InkCounts) -> Result<(), OverCap> {
+    admit(meters, dots)?;
+    add_all(meters, dots);
     Ok(())
 }
 

@@ -6,5 +6,5 @@ use Rattle.ink_meter.proofs.meters.add_all.Given as goal
 abbrev pub invariant-loop-i : goal.invariant-loop-i
 invariant-loop-i g l = record {
   same : length l.meters.items ≡ length l.fn.meters.items;
-  counted : ChangesSoFar (λ m. (goal.Meter-dyn g (m.vtable, m.value)).account m.value) (added l.n) l.fn.meters.items l.meters.items l.i;
+  counted : ChangesSoFar (λ m. (goal.Meter-dyn g (m.vtable, m.value)).account m.value) (added l.dots) l.fn.meters.items l.meters.items l.i;
 }

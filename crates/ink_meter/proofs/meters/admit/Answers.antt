@@ -18,12 +18,12 @@ returns-then-not-has_room-clause-over g c = record {
 
 pub loop-index-preserved : goal.loop-index-preserved
 loop-index-preserved g c =
-    meets_more (HasRoom c.args.n.now) (λ m. (goal.Meter-dyn g (m.vtable, m.value)).account m.value)
+    meets_more (HasRoom c.args.dots.now) (λ m. (goal.Meter-dyn g (m.vtable, m.value)).account m.value)
     c.args.meters.now c.loop-index.index c.index-meters-index.result (omega arith) c.index-meters-index.is
     (grind arith) c.loop-index.invariant
 
 pub returns-clause-room : goal.returns-clause-room
 returns-clause-room g c =
-    subst (All (HasRoom c.args.n.now)) (take_all c.loop-index.index
+    subst (All (HasRoom c.args.dots.now)) (take_all c.loop-index.index
     (map (λ m. (goal.Meter-dyn g (m.vtable, m.value)).account m.value) c.args.meters.now)
     (omega (arith, length-map c.args.meters.now (λ m. (goal.Meter-dyn g (m.vtable, m.value)).account m.value)))) c.loop-index.invariant
