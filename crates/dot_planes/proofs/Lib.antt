@@ -1,9 +1,11 @@
 pub mod Bits
 pub mod RowBytes
 pub mod Writes
+pub mod Reached
 pub mod PutAmounts
 pub mod PackedRows
 pub mod PutDots
+pub mod PlaneWrites
 pub mod Bytes
 pub mod TileBytes
 pub mod RowsOfTiles

@@ -1,15 +1,15 @@
 -- Dots of packed planes are written.
 use Rattle.std.proofs.Common.{◌≡◌, ◌≢◌, ◌⊎◌, ℕ, ◌+◌, ◌-◌, ◌*◌, ◌/◌, ◌%◌, ◌^◌, ◌==◌, ◌<◌, ◌≤◌, true, false, List, length, get_or, set, sym}
-use Rattle.std.proofs.Common.{◌∙◌, ap, arith, inl, inr, refl, subst, bit_or, get_or-set_other, get_or-set_same}
-use Rattle.std.proofs.lemmas.Bool.{cases_eq, cases_lt}
+use Rattle.std.proofs.Common.{[], cond, ◌∙◌, ap, arith, inl, inr, refl, subst, bit_or, get_or-set_other, get_or-set_same}
+use Rattle.std.proofs.lemmas.Bool.{cases_eq, cases_lt, le-ltb, lt-ltb}
 use Rattle.std.proofs.lemmas.List.{get_or_past}
 use Rattle.std.proofs.lemmas.Nat.Bits.{bit_at_set_other, bit_at_set_same}
 use Rattle.std.specs.Int.{w8}
 use borrow.Rule.Slice.PartMut.{put_mid}
 use Rattle.base_definitions.specs.Packed.{bit_at}
 use Rattle.dot_planes.specs.Tables.{DotTable, IsPackedRow, PutsRow, TurnsOn, dot, row_at, row_dot, row_len}
-use Rattle.dot_planes.proofs.PackedRows.{dot_of_packed, packed-len}
-use Rattle.dot_planes.proofs.RowBytes.{apart, bytes_inside, no_byte, row_byte, row_inside, row_kept, rows_differ}
+use Rattle.dot_planes.proofs.PackedRows.{dot_of_packed, no_bit, packed-len}
+use Rattle.dot_planes.proofs.RowBytes.{apart, bytes_inside, no_byte, row_byte, row_inside_across, row_kept, rows_differ_across}
 use Rattle.dot_planes.proofs.Writes.{put_inside, put_len, put_outside}
 
 -- the same table with other bytes
@@ -19,6 +19,16 @@ with_bytes t bytes = record { width = t.width; rows = t.rows; inks = t.inks; byt
 -- no row of bytes has a dot past the width
 abbrev pub IsSpare : DotTable → List ℕ → Type 0
 IsSpare t bytes = (n x : ℕ) → n < t.inks * t.rows → t.width ≤ x → row_dot (row_at (row_len t.width) bytes n) x ≡ false
+
+-- the dots of an ink that the planes have, and of one that they do not have
+pub dot-in : (t : DotTable) (i y x : ℕ) → i < t.inks → dot t i y x ≡ row_dot (row_at (row_len t.width) t.bytes (y * t.inks + i)) x
+unfolding dot
+dot-in t i y x low = ap (λ b. row_dot (cond b (row_at (row_len t.width) t.bytes (y * t.inks + i)) []) x) (lt-ltb i t.inks low)
+
+pub dot-out : (t : DotTable) (i y x : ℕ) → t.inks ≤ i → dot t i y x ≡ false
+unfolding dot
+dot-out t i y x high =
+    ap (λ b. row_dot (cond b (row_at (row_len t.width) t.bytes (y * t.inks + i)) []) x) (le-ltb i t.inks high) ∙ no_bit (x % 8)
 
 -- rows with the same bytes have the same dots
 same_dots : (row row' : List ℕ) → ((k : ℕ) → get_or row k 0 ≡ get_or row' k 0) → (x : ℕ) → row_dot row x ≡ row_dot row' x
@@ -36,20 +46,20 @@ pub record IsRowPut (t : DotTable) (i y a k : ℕ) (row new : List ℕ) : Type 0
   pub ink : i < t.inks
   pub down : y < t.rows
   pub packed_row : IsPackedRow t.width row
-  pub first : a ≡ (i * t.rows + y) * row_len t.width
+  pub first : a ≡ (y * t.inks + i) * row_len t.width
   pub many : k ≡ row_len t.width
 
 room : (t : DotTable) (i y a k : ℕ) (row new : List ℕ) → IsRowPut t i y a k row new → a + k ≤ length t.bytes
 room t i y a k row new p = omega (
   arith,
-  bytes_inside (row_len t.width) (t.inks * t.rows) (i * t.rows + y) (row_inside t.inks t.rows i y p.ink p.down),
+  bytes_inside (row_len t.width) (t.inks * t.rows) (y * t.inks + i) (row_inside_across t.inks t.rows i y p.ink p.down),
 )
 
 row_is : (t : DotTable) (i y a k : ℕ) (row new : List ℕ) → IsRowPut t i y a k row new
-    → (j : ℕ) → get_or (row_at (row_len t.width) new (i * t.rows + y)) j 0 ≡ get_or row j 0
+    → (j : ℕ) → get_or (row_at (row_len t.width) new (y * t.inks + i)) j 0 ≡ get_or row j 0
 row_is t i y a k row new p j =
     let len : ℕ = row_len t.width in
-    let n : ℕ = i * t.rows + y in
+    let n : ℕ = y * t.inks + i in
     let row_length : length row ≡ len = packed_row-len t.width row p.packed_row in
     let room_is : a + k ≤ length t.bytes = room t i y a k row new p in
     elim (cases_lt j len) [
@@ -62,10 +72,10 @@ row_is t i y a k row new p j =
     ]
 
 rows_kept : (t : DotTable) (i y a k : ℕ) (row new : List ℕ) → IsRowPut t i y a k row new
-    → (m : ℕ) → m ≢ i * t.rows + y → (x : ℕ) → row_dot (row_at (row_len t.width) new m) x ≡ row_dot (row_at (row_len t.width) t.bytes m) x
+    → (m : ℕ) → m ≢ y * t.inks + i → (x : ℕ) → row_dot (row_at (row_len t.width) new m) x ≡ row_dot (row_at (row_len t.width) t.bytes m) x
 rows_kept t i y a k row new p m other =
     let len : ℕ = row_len t.width in
-    let n : ℕ = i * t.rows + y in
+    let n : ℕ = y * t.inks + i in
     let row_length : length row ≡ k = packed_row-len t.width row p.packed_row ∙ sym p.many in
     let room_is : a + k ≤ length t.bytes = room t i y a k row new p in
     let outside : (b : ℕ) → (b < n * len) ⊎ (n * len + len ≤ b) → get_or new b 0 ≡ get_or t.bytes b 0 = λ b where_is.
@@ -75,17 +85,23 @@ rows_kept t i y a k row new p m other =
 
 pub puts_row : (t old : DotTable) (i y a k : ℕ) (row new : List ℕ)
     → t ≡ old → IsRowPut t i y a k row new → PutsRow old (with_bytes t new) i y row
-unfolding dot
 puts_row t old i y a k row new same p =
     let Q : DotTable → Type 0 = λ o. PutsRow o (with_bytes t new) i y row in
     subst Q same (record {
       size = record { width = refl; rows = refl; inks = refl };
-      row = λ dots wide is x. same_dots _ row (row_is t i y a k row new p) x ∙ dot_of_packed dots row x is;
-      others = λ j r other low x. rows_kept t i y a k row new p (j * t.rows + r) (rows_differ t.rows i y j r p.down low other) x;
+      row = λ dots wide is x.
+          dot-in (with_bytes t new) i y x p.ink ∙ same_dots _ row (row_is t i y a k row new p) x ∙ dot_of_packed dots row x is;
+      others = λ j r other low x. elim (cases_lt j t.inks) [
+        | inl inside ↦
+            dot-in (with_bytes t new) j r x inside
+            ∙ rows_kept t i y a k row new p (r * t.inks + j) (rows_differ_across t.inks i y j r p.ink inside other) x
+            ∙ sym (dot-in t j r x inside)
+        | inr past ↦ dot-out (with_bytes t new) j r x past ∙ sym (dot-out t j r x past)
+      ];
     })
 
 pub row_put-spare : (t : DotTable) (i y a k : ℕ) (row new : List ℕ) → IsSpare t t.bytes → IsRowPut t i y a k row new → IsSpare t new
-row_put-spare t i y a k row new spare p m x below past = elim (cases_eq m (i * t.rows + y)) [
+row_put-spare t i y a k row new spare p m x below past = elim (cases_eq m (y * t.inks + i)) [
   | inl here ↦
       ap (λ n. row_dot (row_at (row_len t.width) new n) x) here
       ∙ same_dots _ row (row_is t i y a k row new p) x
@@ -103,7 +119,7 @@ pub record IsDotPut (t : DotTable) (i y x place : ℕ) (new : List ℕ) : Type 0
   pub ink : i < t.inks
   pub down : y < t.rows
   pub across : x < t.width
-  pub place_is : place ≡ (i * t.rows + y) * row_len t.width + x / 8
+  pub place_is : place ≡ (y * t.inks + i) * row_len t.width + x / 8
 
 -- a byte after a dot of it was turned on
 set_same : (b k : ℕ) → k < 8 → bit_at (bit_or b (1 * 2 ^ (7 - k) % 2 ^ 8)) k ≡ true
@@ -116,16 +132,16 @@ inside_row : (t : DotTable) (i y x place : ℕ) (new : List ℕ) → IsDotPut t 
 inside_row t i y x place new p = omega (arith, p.across)
 
 on_is : (t : DotTable) (i y x place : ℕ) (new : List ℕ) → IsDotPut t i y x place new
-    → row_dot (row_at (row_len t.width) new (i * t.rows + y)) x ≡ true
+    → row_dot (row_at (row_len t.width) new (y * t.inks + i)) x ≡ true
 on_is t i y x place new p =
     let len : ℕ = row_len t.width in
-    let n : ℕ = i * t.rows + y in
+    let n : ℕ = y * t.inks + i in
     let inside : x / 8 < len = inside_row t i y x place new p in
     let room_is : place < length t.bytes = omega (
       arith,
       p.len,
       p.place_is,
-      bytes_inside len (t.inks * t.rows) n (row_inside t.inks t.rows i y p.ink p.down),
+      bytes_inside len (t.inks * t.rows) n (row_inside_across t.inks t.rows i y p.ink p.down),
     ) in
     let low : x % 8 < 8 = omega arith in
     ap (λ b. bit_at b (x % 8)) (
@@ -136,18 +152,18 @@ on_is t i y x place new p =
     ∙ set_same (get_or t.bytes place 0) (x % 8) low
 
 dots_kept : (t : DotTable) (i y x place : ℕ) (new : List ℕ) → IsDotPut t i y x place new
-    → (m c : ℕ) → (m ≢ i * t.rows + y) ⊎ (c ≢ x)
+    → (m c : ℕ) → (m ≢ y * t.inks + i) ⊎ (c ≢ x)
     → row_dot (row_at (row_len t.width) new m) c ≡ row_dot (row_at (row_len t.width) t.bytes m) c
 dots_kept t i y x place new p m c other =
     let len : ℕ = row_len t.width in
-    let n : ℕ = i * t.rows + y in
+    let n : ℕ = y * t.inks + i in
     let put : ℕ = bit_or (get_or t.bytes place 0) (1 * 2 ^ (7 - x % 8) % 2 ^ 8) in
     let room_is : place < length t.bytes = omega (
       arith,
       p.len,
       p.place_is,
       inside_row t i y x place new p,
-      bytes_inside len (t.inks * t.rows) n (row_inside t.inks t.rows i y p.ink p.down),
+      bytes_inside len (t.inks * t.rows) n (row_inside_across t.inks t.rows i y p.ink p.down),
     ) in
     elim (cases_lt (c / 8) len) [
       | inl inside ↦ elim (cases_eq (m * len + c / 8) place) [
@@ -182,19 +198,24 @@ dots_kept t i y x place new p m c other =
 
 pub turns_on : (t old : DotTable) (i y x place : ℕ) (new : List ℕ)
     → t ≡ old → IsDotPut t i y x place new → TurnsOn old (with_bytes t new) i y x
-unfolding dot
 turns_on t old i y x place new same p =
     let Q : DotTable → Type 0 = λ o. TurnsOn o (with_bytes t new) i y x in
     subst Q same (record {
       size = record { width = refl; rows = refl; inks = refl };
-      on = on_is t i y x place new p;
-      others = λ j r c other low. dots_kept t i y x place new p (j * t.rows + r) c (elim other [
-        | inl ink_differs ↦ inl (rows_differ t.rows i y j r p.down low (inl ink_differs))
-        | inr rest ↦ elim rest [
-          | inl row_differs ↦ inl (rows_differ t.rows i y j r p.down low (inr row_differs))
-          | inr column_differs ↦ inr column_differs
-        ]
-      ]);
+      on = dot-in (with_bytes t new) i y x p.ink ∙ on_is t i y x place new p;
+      others = λ j r c other low. elim (cases_lt j t.inks) [
+        | inl inside ↦
+            dot-in (with_bytes t new) j r c inside
+            ∙ dots_kept t i y x place new p (r * t.inks + j) c (elim other [
+              | inl ink_differs ↦ inl (rows_differ_across t.inks i y j r p.ink inside (inl ink_differs))
+              | inr rest ↦ elim rest [
+                | inl row_differs ↦ inl (rows_differ_across t.inks i y j r p.ink inside (inr row_differs))
+                | inr column_differs ↦ inr column_differs
+              ]
+            ])
+            ∙ sym (dot-in t j r c inside)
+        | inr past ↦ dot-out (with_bytes t new) j r c past ∙ sym (dot-out t j r c past)
+      ];
     })
 
 pub dot_put-spare : (t : DotTable) (i y x place : ℕ) (new : List ℕ) → IsSpare t t.bytes → IsDotPut t i y x place new → IsSpare t new

@@ -24,6 +24,14 @@ rows_differ rows ink y i r low low' (inr rows_are) = elim (cases_lt i ink) [
   ]
 ]
 
+-- The same where row 0 of each ink comes first, then row 1 of each.
+pub row_inside_across : (inks rows ink y : ℕ) → ink < inks → y < rows → y * inks + ink < inks * rows
+row_inside_across inks rows ink y i r = omega (arith, row_inside rows inks y ink r i)
+
+pub rows_differ_across : (inks ink y i r : ℕ) → ink < inks → i < inks → (i ≢ ink) ⊎ (r ≢ y) → r * inks + i ≢ y * inks + ink
+rows_differ_across inks ink y i r low low' (inl inks_are) = rows_differ inks y ink r i low low' (inr inks_are)
+rows_differ_across inks ink y i r low low' (inr rows_are) = rows_differ inks y ink r i low low' (inl rows_are)
+
 -- the bytes of a row are inside of the bytes of all rows
 pub bytes_inside : (len many n : ℕ) → n < many → n * len + len ≤ many * len
 bytes_inside len many n below = grind arith

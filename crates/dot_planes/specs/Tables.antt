@@ -1,12 +1,14 @@
 -- Tables of dots and of amounts: ink by ink in the order of a printer's set, row by row, from the left.
 use Rattle.base_definitions.specs.Limits.{most_columns, most_rows}
-use Rattle.std.specs.Prelude.{◌≡◌, ℕ, ◌+◌, ◌*◌, ◌/◌, ◌%◌, ◌<◌, ◌≤◌, ◌⊎◌, ◌≢◌, Bool, true, List, length, take, drop, slice_index}
+use Rattle.std.specs.Prelude.{◌≡◌, ℕ, ◌+◌, ◌*◌, ◌/◌, ◌%◌, ◌<◌, ◌≤◌, ◌⊎◌, ◌≢◌, Bool, true, if◌then◌else◌, nat_lt}
+use Rattle.std.specs.Prelude.{List, [], length, take, drop, slice_index}
 use Rattle.base_definitions.specs.Packed.{bit_at}
 use Rattle.base_definitions.specs.Packed.{at, packed}
 
 -- ---- dots
 
--- Dots of inks, eight a byte, the first in its highest bit. Each row begins with a byte of its own.
+-- Dots of inks, eight a byte, the first in its highest bit. Each row begins with a byte of its own. Row 0 of each ink
+-- comes first, then row 1 of each.
 pub record DotTable : Type 0 where
   pub width : ℕ
   pub rows : ℕ
@@ -21,9 +23,9 @@ row_len width = (width + 7) / 8
 abbrev pub row_at : ℕ → List ℕ → ℕ → List ℕ
 row_at len bytes n = take len (drop (n * len) bytes)
 
--- row y of an ink, packed
+-- row y of an ink, packed; past the last ink there is none
 abbrev pub packed_row : DotTable → ℕ → ℕ → List ℕ
-packed_row t ink y = row_at (row_len t.width) t.bytes (ink * t.rows + y)
+packed_row t ink y = if nat_lt ink t.inks then row_at (row_len t.width) t.bytes (y * t.inks + ink) else []
 
 -- the dot at a place of a packed row; past its end there is none
 abbrev pub row_dot : List ℕ → ℕ → Bool

@@ -1,7 +1,11 @@
 //! Where the rows of inks begin in a table's bytes.
 ghost use Rattle.dot_planes.specs.Tables.{row_at};
 ghost use Rattle.base_definitions.specs.Limits.{most_columns, most_rows};
-ghost use Rattle.std.specs.Prelude.{length, slice_index, ◌*◌, ◌+◌, ◌<◌, ◌≡◌, ◌≤◌, ℕ};
+ghost use Rattle.std.specs.Prelude.{length, replicate, slice_index, vec_capacity, ℕ, ◌*◌, ◌++◌, ◌+◌, ◌-◌, ◌<◌, ◌≡◌};
+ghost use Rattle.std.specs.Prelude.{◌≤◌};
+
+// As many bytes as the longest row of dots has.
+const BLANK: [u8; 1024] = [0; 1024];
 
 /// The index of the first byte of row y of an ink, in a table of `inks` inks with `rows` rows of `len` bytes each.
 #[inline]
@@ -17,6 +21,20 @@ pub(crate) fn row_start(inks: u8, rows: u32, len: usize, ink: u8, y: u32) -> usi
     (usize::from(ink) * rows as usize + y as usize) * len
 }
 
+/// The same where row 0 of each ink comes first, then row 1 of each.
+#[inline]
+pub(crate) fn row_start_across(inks: u8, rows: u32, len: usize, ink: u8, y: u32) -> usize
+    requires inks { inks ≤ 4 }
+    requires rows { rows ≤ most_rows }
+    requires len { len ≤ most_columns }
+    requires ink { ink < inks }
+    requires y { y < rows }
+    ensures is { result ≡ (y * inks + ink) * len }
+    ensures inside { result + len ≤ inks * rows * len }
+{
+    (y as usize * usize::from(inks) + usize::from(ink)) * len
+}
+
 /// The row of `len` bytes that begins at an index.
 #[inline]
 pub(crate) fn row_of(bytes: &[u8], len: usize, start: usize) -> &[u8]
@@ -26,6 +44,35 @@ pub(crate) fn row_of(bytes: &[u8], len: usize, start: usize) -> &[u8]
     ensures bytes { (k : ℕ) → slice_index result.now k < 256 }
 {
     &bytes[start..start + len]
+}
+
+/// The row of `len` bytes that begins at an index, or a blank one where the bytes end before it.
+#[inline]
+pub(crate) fn row_or_blank(bytes: &[u8], len: usize, start: usize) -> &[u8]
+    requires most { len ≤ 1024 }
+    requires whole { start < length bytes.now → start + len ≤ length bytes.now }
+    ensures row { (n more : ℕ) → start ≡ n * len → start + len ≤ length bytes.now + more
+        → result.now ≡ row_at len (bytes.now ++ replicate more 0) n }
+    ensures len { length result.now ≡ len }
+    ensures bytes { (k : ℕ) → slice_index result.now k < 256 }
+{
+    if start < bytes.len() {
+        row_of(bytes, len, start)
+    } else {
+        &BLANK[..len]
+    }
+}
+
+/// Fills bytes up to an index with 0, if they end before it. They have room, so that no memory is taken.
+#[inline]
+pub(crate) fn reach(bytes: &mut Vec<u8>, end: usize)
+    requires { end ≤ vec_capacity bytes.old }
+    ensures items { bytes.new.items ≡ bytes.old.items ++ replicate (end - length bytes.old.items) 0 }
+    ensures capacity { vec_capacity bytes.old ≤ vec_capacity bytes.new }
+{
+    if bytes.len() < end {
+        bytes.resize(end, 0).unwrap();
+    }
 }
 
 /// A byte is below 256.

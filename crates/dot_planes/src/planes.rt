@@ -1,16 +1,16 @@
 //! Packed planes of dots.
-ghost use Rattle.dot_planes.specs.Tables.{IsSize, TurnsOn, dot, row_len as row_len_of};
+ghost use Rattle.dot_planes.specs.Tables.{IsSize, TurnsOn, dot, packed_row, row_dot, row_len as row_len_of};
 ghost use Rattle.dot_planes.specs.Tiles.{PutsTileRow};
 ghost use Rattle.base_definitions.specs.Packed.{packed};
 ghost use Rattle.base_definitions.specs.Limits.{most_columns};
 ghost use Rattle.std.specs.List.{count_by, sum_by};
-ghost use Rattle.std.specs.Prelude.{IfOk, count_ones, false, length, map, ℕ, ◌%◌, ◌*◌, ◌+◌, ◌<◌, ◌≡◌, ◌≤◌};
+ghost use Rattle.std.specs.Prelude.{IfOk, count_ones, false, length, map, slice_index, ℕ, ◌%◌, ◌*◌, ◌+◌, ◌<◌, ◌≡◌, ◌≤◌};
 ghost use Rattle.base_definitions.specs.Counting.{count_from};
 
 mod bands;
 mod laying;
 
-use crate::places::{row_of, row_start};
+use crate::places::{reach, row_or_blank, row_start_across};
 use crate::tile_rows::put_dots;
 use base_definitions::Memory;
 use std::alloc::Global;
@@ -19,8 +19,9 @@ use tile_shape::Place;
 
 /// The dots of a window, ink by ink in the order of the printer's set. Contracts see a table of dots.
 ///
-/// A plane is packed: eight dots a byte, the first in its highest bit, rows of (width + 7) / 8 bytes one after
-/// another, and spare bits of 0.
+/// A row is packed: eight dots a byte, the first in its highest bit, (width + 7) / 8 bytes, and spare bits of 0. Row 0 of
+/// each ink comes first, then row 1 of each. There is room for all rows, but only those up to the last one that was
+/// written are there; the rest are blank, and their memory is untouched.
 #[derive(Drop)]
 pub struct Planes {
     width: u32,
@@ -51,7 +52,7 @@ impl Planes {
         ensures blank { IfOk result (λ t. (i y x : ℕ) → dot t i y x ≡ false) }
     {
         let len = row_len(width) * rows as usize * usize::from(inks);
-        let bytes = vec![in alloc; 0; len]?;
+        let bytes = Vec::with_capacity(alloc, len)?;
         Ok(Planes {
             width,
             rows,
@@ -87,9 +88,22 @@ impl Planes {
         requires y { y < self.now.rows }
         ensures { result.now ≡ packed (map (dot self.now ink y) (count_from 0 self.now.width)) }
     {
+        self.bytes_of_row(ink, y)
+    }
+
+    // The same by its bytes.
+    pub(crate) fn bytes_of_row(&self, ink: u8, y: u32) -> &[u8]
+        requires ink { ink < self.now.inks }
+        requires y { y < self.now.rows }
+        ensures is { result.now ≡ packed_row self.now ink y }
+        ensures spare { (x : ℕ) → self.now.width ≤ x → row_dot result.now x ≡ false }
+        ensures len { length result.now ≡ row_len_of self.now.width }
+        ensures most { self.now.width ≤ most_columns }
+        ensures bytes { (k : ℕ) → slice_index result.now k < 256 }
+    {
         let len = row_len(self.width);
-        let start = row_start(self.inks, self.rows, len, ink, y);
-        row_of(&self.bytes, len, start)
+        let start = row_start_across(self.inks, self.rows, len, ink, y);
+        row_or_blank(&self.bytes, len, start)
     }
 
     /// Whether an ink has a dot in row y at column x.
@@ -99,8 +113,7 @@ impl Planes {
         requires y { y < self.now.rows }
         ensures { result ≡ dot self.now ink y x }
     {
-        let start = row_start(self.inks, self.rows, row_len(self.width), ink, y);
-        self.bytes[start + x as usize / 8] >> (7 - x % 8) & 1 == 1
+        self.bytes_of_row(ink, y)[x as usize / 8] >> (7 - x % 8) & 1 == 1
     }
 
     /// Turns on the dot of an ink in row y at column x, which may be on already. All other dots are unchanged.
@@ -110,7 +123,9 @@ impl Planes {
         requires y { y < self.old.rows }
         ensures { TurnsOn self.old self.new ink y x }
     {
-        let start = row_start(self.inks, self.rows, row_len(self.width), ink, y);
+        let len = row_len(self.width);
+        let start = row_start_across(self.inks, self.rows, len, ink, y);
+        reach(&mut self.bytes, start + len);
         self.bytes[start + x as usize / 8] |= 1 << (7 - x % 8);
     }
 
@@ -125,7 +140,8 @@ impl Planes {
         ensures { PutsTileRow self.old self.new ink (at + (32 * place.j + r)) place.c r dots.now }
     {
         let len = row_len(self.width);
-        let start = row_start(self.inks, self.rows, len, ink, at + (32 * place.j + r));
+        let start = row_start_across(self.inks, self.rows, len, ink, at + (32 * place.j + r));
+        reach(&mut self.bytes, start + len);
         let row = &mut self.bytes[start..start + len];
         put_dots(row, self.width as usize, place.c as usize, r as usize, dots);
     }

@@ -7,7 +7,7 @@ ghost use Rattle.tile_shape.specs.Geometry.{columns_of};
 
 use super::{Planes, row_len};
 use crate::band_rows::{put_side_by_side, put_wide};
-use crate::places::row_start;
+use crate::places::{reach, row_start_across};
 use crate::tiles::TileDots;
 
 impl Planes {
@@ -54,7 +54,8 @@ impl Planes {
         ensures { PutsBandRow self.old self.new ink y r wide.now }
     {
         let len = row_len(self.width);
-        let start = row_start(self.inks, self.rows, len, ink, y);
+        let start = row_start_across(self.inks, self.rows, len, ink, y);
+        reach(&mut self.bytes, start + len);
         let row = &mut self.bytes[start..start + len];
         put_wide(row, self.width as usize, r as usize, wide);
     }

@@ -5,7 +5,7 @@ ghost use Rattle.std.specs.Prelude.{length, ◌+◌, ◌<◌, ◌≡◌, ◌≤�
 
 use super::{Planes, row_len};
 use crate::bit_rows::{lay_row, row_meets};
-use crate::places::{row_of, row_start};
+use crate::places::{reach, row_start_across};
 
 impl Planes {
     /// Whether one of the first `dots` dots of a packed row is on where an ink has a dot in row y, with the row's
@@ -17,10 +17,7 @@ impl Planes {
         requires row { length row.now ≡ row_len_of dots }
         ensures { result ≡ meets_of self.now ink y x row.now dots }
     {
-        let len = row_len(self.width);
-        let start = row_start(self.inks, self.rows, len, ink, y);
-        let other = row_of(&self.bytes, len, start);
-        row_meets(other, x as usize, row, dots as usize)
+        row_meets(self.bytes_of_row(ink, y), x as usize, row, dots as usize)
     }
 
     /// Turns on the first `dots` dots of a packed row in row y of an ink, from column x on. Bits past these dots are
@@ -33,7 +30,8 @@ impl Planes {
         ensures { Lays self.old self.new ink y x row.now dots }
     {
         let len = row_len(self.width);
-        let start = row_start(self.inks, self.rows, len, ink, y);
+        let start = row_start_across(self.inks, self.rows, len, ink, y);
+        reach(&mut self.bytes, start + len);
         let over = &mut self.bytes[start..start + len];
         lay_row(over, x as usize, row, dots as usize);
     }

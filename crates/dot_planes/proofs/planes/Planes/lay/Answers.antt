@@ -1,89 +1,80 @@
-use Rattle.std.proofs.Common.{◌≡◌, ◌+◌, ◌-◌, ◌*◌, ◌++◌, ◌||◌, ℕ, List, refl, ap, arith, drop, length, length-drop, length-take, take, ◌∙◌}
-use borrow.Rule.Slice.PartMut.{put_mid}
+use Rattle.std.proofs.Common.{◌≡◌, ◌+◌, ◌-◌, ◌*◌, ◌||◌, ℕ, List, ap, arith, drop, length, length-drop, length-take, sym, take, ◌∙◌}
+use Rattle.dot_planes.specs.Planes.{all_bytes, table_of}
 use Rattle.dot_planes.specs.Laying.{laid_dot}
-use Rattle.dot_planes.specs.Tables.{DotTable, row_at, row_dot, row_len}
-use Rattle.dot_planes.proofs.PutDots.{IsRowPut, bytes_kept, row_put-spare}
+use Rattle.dot_planes.specs.Tables.{DotTable, IsPackedRow, row_at, row_dot, row_len}
+use Rattle.dot_planes.proofs.PlaneWrites.{IsReached, end-there, place_of, row-before, row-put, row-table, with_row}
 use Rattle.dot_planes.proofs.PutLaid.{IsLaidOver, laid-packed, lays}
-use Rattle.dot_planes.proofs.RowBytes.{row_inside}
-use Rattle.dot_planes.proofs.Writes.{put_items}
+use Rattle.dot_planes.proofs.RowBytes.{row_inside_across}
 use Rattle.dot_planes.proofs.planes.Planes.lay.Goals as goal
 
--- the planes before
-abbrev before : goal.After-self-1 → DotTable
-before c = record { width = c.self.inside.width; rows = c.self.inside.rows; inks = c.self.inside.inks; bytes = c.self.inside.bytes.items }
+abbrev end : goal.After-self-1 → ℕ
+end c = c.row_start_across-start.result + c.row_len-len.result
 
 abbrev many : goal.After-self-1 → ℕ
-many c = c.row_start-start.result + c.row_len-len.result - c.row_start-start.result
+many c = c.row_start_across-start.result + c.row_len-len.result - c.row_start_across-start.result
 
-abbrev bytes_now : goal.After-self-1 → List ℕ
-bytes_now c =
-    let put : List ℕ = put_mid c.row_start-start.result (many c) c.deref_mut.result.now c.lay_row.new.over in
-    take c.self.inside.bytes.len (put ++ drop (length put) c.self.inside.bytes.items)
+is_reached : (c : goal.After-self-1) → IsReached c.self.inside c.reach.new.bytes c.args.ink c.args.y c.row_start_across-start.result (end c)
+is_reached c =
+    let inks : c.self.inside.inks ≡ c.args.self.now.inks = ap (λ (t : DotTable). t.inks) c.self.view_is in
+    let rows : c.self.inside.rows ≡ c.args.self.now.rows = ap (λ (t : DotTable). t.rows) c.self.view_is in
+    record {
+      before = c.self.invariant;
+      ink = omega (arith, inks);
+      down = omega (arith, rows);
+      start_is = c.row_start_across-start.ensures.is
+          ∙ ap (λ l. (c.args.y * c.self.inside.inks + c.args.ink) * l) c.row_len-len.ensures.is;
+      end_is = ap (λ l. c.row_start_across-start.result + l) c.row_len-len.ensures.is;
+      items = c.reach.ensures.items;
+      capacity = c.reach.ensures.capacity;
+    }
 
--- the row that is laid over
-row_is : (c : goal.After-self-1) → take (many c) (drop c.row_start-start.result c.deref_mut.result.now)
-    ≡ row_at (row_len c.self.inside.width) c.self.inside.bytes.items (c.args.ink * c.self.inside.rows + c.args.y)
-row_is c =
-    let len : c.row_len-len.result ≡ row_len c.self.inside.width = c.row_len-len.ensures.is in
-    let start : c.row_start-start.result ≡ (c.args.ink * c.self.inside.rows + c.args.y) * row_len c.self.inside.width =
-    c.row_start-start.ensures.is ∙ ap (λ l. (c.args.ink * c.self.inside.rows + c.args.y) * l) len in
-    let long : many c ≡ row_len c.self.inside.width = omega (arith, len) in
-    ap (λ (bytes : List ℕ). take (many c) (drop c.row_start-start.result bytes)) c.deref_mut.ensures.value
-    ∙ ap (λ k. take k (drop c.row_start-start.result c.self.inside.bytes.items)) long
-    ∙ ap (λ k. take (row_len c.self.inside.width) (drop k c.self.inside.bytes.items)) start
+many_is : (c : goal.After-self-1) → many c ≡ row_len c.self.inside.width
+many_is c = omega (arith, c.row_len-len.ensures.is)
 
-is_laid : (c : goal.After-self-1) → IsLaidOver (before c) c.args.ink c.args.y c.args.x c.args.row.now c.args.dots c.lay_row.new.over
+-- the row before, and its length
+before_is : (c : goal.After-self-1) → take (many c) (drop c.row_start_across-start.result c.deref_mut.result.now)
+    ≡ row_at (row_len c.self.inside.width) (all_bytes c.self.inside) (place_of c.self.inside c.args.ink c.args.y)
+before_is c = row-before _ _ _ _ _ _ (many c) c.deref_mut.result.now (is_reached c) c.deref_mut.ensures.value (many_is c)
+
+len_before : (c : goal.After-self-1)
+    → length (take (many c) (drop c.row_start_across-start.result c.deref_mut.result.now)) ≡ row_len c.self.inside.width
+len_before c =
+    let there = end-there _ _ _ _ _ _ (is_reached c) in
+    omega (
+      arith,
+      length-take (many c) (drop c.row_start_across-start.result c.deref_mut.result.now),
+      length-drop c.row_start_across-start.result c.deref_mut.result.now,
+      ap length c.deref_mut.ensures.value,
+      c.row_len-len.ensures.is,
+      there,
+    )
+
+is_laid : (c : goal.After-self-1)
+    → IsLaidOver (table_of c.self.inside) c.args.ink c.args.y c.args.x c.args.row.now c.args.dots c.lay_row.new.over
 is_laid c = record {
   inside = let width : c.self.inside.width ≡ c.args.self.now.width = ap (λ (t : DotTable). t.width) c.self.view_is in omega (arith, width);
   is = λ d. c.lay_row.ensures.dots d
-      ∙ ap (λ (bytes : List ℕ). row_dot bytes d || laid_dot c.args.row.now c.args.dots c.args.x d) (row_is c);
+      ∙ ap (λ (bytes : List ℕ). row_dot bytes d || laid_dot c.args.row.now c.args.dots c.args.x d) (before_is c);
 }
 
-over_len : (c : goal.After-self-1) → length c.lay_row.new.over ≡ c.row_len-len.result
-over_len c =
-    let all = ap (λ l. c.self.inside.inks * c.self.inside.rows * l) c.row_len-len.ensures.is in
-    omega (
-      arith,
-      c.lay_row.ensures.len,
-      length-take (many c) (drop c.row_start-start.result c.deref_mut.result.now),
-      length-drop c.row_start-start.result c.deref_mut.result.now,
-      c.deref_mut.ensures.len,
-      c.self.invariant.len,
-      all,
-      c.self.inside.bytes.ok.0,
-    )
+new_len : (c : goal.After-self-1) → length c.lay_row.new.over ≡ row_len c.self.inside.width
+new_len c = c.lay_row.ensures.len ∙ len_before c
 
--- the planes with the row's bytes
-is_put : (c : goal.After-self-1)
-    → IsRowPut (before c) c.args.ink c.args.y c.row_start-start.result (many c) c.lay_row.new.over (bytes_now c)
-is_put c =
-    let view = c.self.view_is in
-    let inks : c.self.inside.inks ≡ c.args.self.now.inks = ap (λ (t : DotTable). t.inks) view in
-    let rows : c.self.inside.rows ≡ c.args.self.now.rows = ap (λ (t : DotTable). t.rows) view in
-    let len : c.row_len-len.result ≡ row_len c.self.inside.width = c.row_len-len.ensures.is in
-    let all = ap (λ l. c.self.inside.inks * c.self.inside.rows * l) len in
-    record {
-      is = put_items c.row_start-start.result _ c.self.inside.bytes.len _ _ _ _ c.deref_mut.ensures.value refl
-          (omega (arith, c.self.inside.bytes.ok.0))
-          (omega (arith, c.self.invariant.len, all, c.self.inside.bytes.ok.0)) (omega (arith, over_len c));
-      len = c.self.invariant.len;
-      ink = omega (arith, inks);
-      down = omega (arith, rows);
-      packed_row = laid-packed (before c) c.args.ink c.args.y c.args.x c.args.row.now c.args.dots c.lay_row.new.over
-          (is_laid c) (over_len c ∙ len) c.lay_row.ensures.bytes
-          (λ d. c.self.invariant.spare (c.args.ink * c.self.inside.rows + c.args.y) d (row_inside c.self.inside.inks
-          c.self.inside.rows c.args.ink c.args.y (omega (arith, inks)) (omega (arith, rows))));
-      first = c.row_start-start.ensures.is ∙ ap (λ l. (c.args.ink * c.self.inside.rows + c.args.y) * l) len;
-      many = omega (arith, len);
-    }
+put_is_packed : (c : goal.After-self-1) → IsPackedRow c.self.inside.width c.lay_row.new.over
+put_is_packed c =
+    let it = is_reached c in
+    laid-packed (table_of c.self.inside) c.args.ink c.args.y c.args.x c.args.row.now c.args.dots c.lay_row.new.over
+    (is_laid c) (new_len c) c.lay_row.ensures.bytes
+    (λ d. c.self.invariant.spare (place_of c.self.inside c.args.ink c.args.y) d
+    (row_inside_across c.self.inside.inks c.self.inside.rows c.args.ink c.args.y it.ink it.down))
 
 pub returns : goal.returns
 returns c = lays _ _ c.args.ink c.args.y c.args.x c.args.row.now c.args.dots _ _ c.lay_row.new.over
-    (bytes_now c) c.self.view_is (is_put c) (is_laid c)
+    (all_bytes (with_row c.self.inside c.reach.new.bytes c.row_start_across-start.result (many c) c.deref_mut.result.now c.lay_row.new.over))
+    c.self.view_is
+    (row-put _ _ _ _ _ _ (many c) c.deref_mut.result.now c.lay_row.new.over (is_reached c) c.deref_mut.ensures.value (many_is c)
+    (new_len c ∙ sym (many_is c)) (put_is_packed c)) (is_laid c)
 
 pub invariant_of-self : goal.invariant_of-self
-invariant_of-self c = record {
-  size = c.self.invariant.size;
-  len = bytes_kept _ c.args.ink c.args.y _ _ c.lay_row.new.over (bytes_now c) (is_put c) ∙ c.self.invariant.len;
-  spare = row_put-spare _ c.args.ink c.args.y _ _ c.lay_row.new.over (bytes_now c) c.self.invariant.spare (is_put c);
-}
+invariant_of-self c = row-table _ _ _ _ _ _ (many c) c.deref_mut.result.now c.lay_row.new.over (is_reached c) c.deref_mut.ensures.value (many_is c)
+    (new_len c ∙ sym (many_is c)) (put_is_packed c)

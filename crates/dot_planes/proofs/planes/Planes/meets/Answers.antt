@@ -1,18 +1,12 @@
-use Rattle.std.proofs.Common.{◌≡◌, ◌+◌, ◌*◌, ℕ, ap, ◌∙◌, List}
-use Rattle.dot_planes.specs.Laying.{meets}
-use Rattle.dot_planes.specs.Tables.{DotTable, row_at, row_len}
-use Rattle.dot_planes.proofs.PutLaid.{meets-same}
+use Rattle.std.proofs.Common.{◌+◌, ◌&&◌, ℕ, List, ap, ◌∙◌}
+use Rattle.std.specs.List.{list_any}
+use Rattle.base_definitions.specs.Counting.{count_from}
+use Rattle.dot_planes.specs.Tables.{dot, row_dot}
 use Rattle.dot_planes.proofs.planes.Planes.meets.Goals as goal
 
 pub returns : goal.returns
+unfolding dot
 returns c =
-    let width : ℕ = c.self.inside.width in
-    let n : ℕ = c.args.ink * c.self.inside.rows + c.args.y in
-    let t : DotTable = record { width = width; rows = c.self.inside.rows; inks = c.self.inside.inks; bytes = c.self.inside.bytes.items } in
-    let is : c.row_of-other.result.now ≡ row_at (row_len width) c.self.inside.bytes.items n =
-    c.row_of-other.ensures.row n (c.row_start-start.ensures.is)
-    ∙ ap (λ l. row_at l c.deref.result.now n) c.row_len-len.ensures.is
-    ∙ ap (λ (bytes : List ℕ). row_at (row_len width) bytes n) c.deref.ensures.value in
     c.row_meets.ensures
-    ∙ meets-same t c.args.ink c.args.y c.args.x c.args.row.now c.args.dots c.row_of-other.result.now is
-    ∙ ap (λ (s : DotTable). meets s c.args.ink c.args.y c.args.x c.args.row.now c.args.dots) c.self.view_is
+    ∙ ap (λ (other : List ℕ). list_any (λ k. row_dot c.args.row.now k && row_dot other (c.args.x + k)) (count_from 0 c.args.dots))
+    c.bytes_of_row.ensures.is

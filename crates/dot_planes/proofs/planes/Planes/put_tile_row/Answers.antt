@@ -1,114 +1,92 @@
-use Rattle.std.proofs.Common.{◌≡◌, ◌+◌, ◌-◌, ◌*◌, ◌++◌, ◌<◌, ℕ, List, ap, arith, drop, length, length-drop}
-use Rattle.std.proofs.Common.{length-take, refl, subst, sym, take, ◌∙◌}
-use borrow.Rule.Slice.PartMut.{put_mid}
+use Rattle.std.proofs.Common.{◌≡◌, ◌+◌, ◌-◌, ◌*◌, ℕ, List, ap, arith, drop, length, length-drop, length-take, refl, subst, sym, take, ◌∙◌}
+use Rattle.dot_planes.specs.Planes.{all_bytes, table_of}
 use Rattle.dot_planes.specs.Tables.{DotTable, IsPackedRow, dot, row_at, row_dot, row_len}
 use Rattle.dot_planes.specs.Tiles.{PutsTileRow}
-use Rattle.dot_planes.proofs.PutDots.{IsRowPut, bytes_kept, puts_row, row_put-spare}
+use Rattle.dot_planes.proofs.PlaneWrites.{IsReached, end-there, place_of, row-before, row-put, row-table, with_row}
+use Rattle.dot_planes.proofs.PutDots.{dot-in, puts_row}
 use Rattle.dot_planes.proofs.PutTiles.{puts_tile_row, taken_packed}
-use Rattle.dot_planes.proofs.RowBytes.{bytes_inside, row_inside}
-use Rattle.dot_planes.proofs.Writes.{put_items}
+use Rattle.dot_planes.proofs.RowBytes.{row_inside_across}
 use Rattle.dot_planes.proofs.planes.Planes.put_tile_row.Goals as goal
 
-abbrev table : goal.After-self-1 → DotTable
-table c = record { width = c.self.inside.width; rows = c.self.inside.rows; inks = c.self.inside.inks; bytes = c.self.inside.bytes.items }
-
--- the row of the planes, and how many rows come before it
+-- the row of the planes
 abbrev y_of : goal.After-self-1 → ℕ
 y_of c = c.args.at + (32 * c.args.place.j + c.args.r)
 
-abbrev n_of : goal.After-self-1 → ℕ
-n_of c = c.args.ink * c.self.inside.rows + y_of c
+abbrev end : goal.After-self-1 → ℕ
+end c = c.row_start_across-start.result + c.row_len-len.result
 
-abbrev many_of : goal.After-self-1 → ℕ
-many_of c = c.row_start-start.result + c.row_len-len.result - c.row_start-start.result
+abbrev many : goal.After-self-1 → ℕ
+many c = c.row_start_across-start.result + c.row_len-len.result - c.row_start_across-start.result
 
--- the row before, and after
-abbrev row_before : goal.After-self-1 → List ℕ
-row_before c = take (many_of c) (drop c.row_start-start.result c.deref_mut.result.now)
+is_reached : (c : goal.After-self-1) → IsReached c.self.inside c.reach.new.bytes c.args.ink (y_of c) c.row_start_across-start.result (end c)
+is_reached c =
+    let inks : c.self.inside.inks ≡ c.args.self.now.inks = ap (λ (t : DotTable). t.inks) c.self.view_is in
+    let rows : c.self.inside.rows ≡ c.args.self.now.rows = ap (λ (t : DotTable). t.rows) c.self.view_is in
+    record {
+      before = c.self.invariant;
+      ink = omega (arith, inks);
+      down = omega (arith, rows);
+      start_is = c.row_start_across-start.ensures.is
+          ∙ ap (λ l. ((y_of c) * c.self.inside.inks + c.args.ink) * l) c.row_len-len.ensures.is;
+      end_is = ap (λ l. c.row_start_across-start.result + l) c.row_len-len.ensures.is;
+      items = c.reach.ensures.items;
+      capacity = c.reach.ensures.capacity;
+    }
 
-abbrev bytes_now : goal.After-self-1 → List ℕ
-bytes_now c =
-    let put : List ℕ = put_mid c.row_start-start.result (many_of c) c.deref_mut.result.now c.put_dots.new.row in
-    take c.self.inside.bytes.len (put ++ drop (length put) c.self.inside.bytes.items)
-
-many_is : (c : goal.After-self-1) → many_of c ≡ row_len c.self.inside.width
+many_is : (c : goal.After-self-1) → many c ≡ row_len c.self.inside.width
 many_is c = omega (arith, c.row_len-len.ensures.is)
 
-first_is : (c : goal.After-self-1) → c.row_start-start.result ≡ n_of c * row_len c.self.inside.width
-first_is c = c.row_start-start.ensures.is ∙ ap (λ l. n_of c * l) c.row_len-len.ensures.is
+-- the row before, and its length
+before_is : (c : goal.After-self-1) → take (many c) (drop c.row_start_across-start.result c.deref_mut.result.now)
+    ≡ row_at (row_len c.self.inside.width) (all_bytes c.self.inside) (place_of c.self.inside c.args.ink (y_of c))
+before_is c = row-before _ _ _ _ _ _ (many c) c.deref_mut.result.now (is_reached c) c.deref_mut.ensures.value (many_is c)
 
-before_is : (c : goal.After-self-1) → row_before c ≡ row_at (row_len c.self.inside.width) c.self.inside.bytes.items (n_of c)
-before_is c =
-    ap (λ m. take m (drop c.row_start-start.result c.deref_mut.result.now)) (many_is c)
-    ∙ ap (λ s. take (row_len c.self.inside.width) (drop s c.deref_mut.result.now)) (first_is c)
-    ∙ ap (λ (bytes : List ℕ). row_at (row_len c.self.inside.width) bytes (n_of c)) c.deref_mut.ensures.value
-
-ink_inside : (c : goal.After-self-1) → c.args.ink < c.self.inside.inks
-ink_inside c = let inks : c.self.inside.inks ≡ c.args.self.now.inks = ap (λ (t : DotTable). t.inks) c.self.view_is in
-    omega (arith, c.requires.ink)
-
-row_inside_is : (c : goal.After-self-1) → y_of c < c.self.inside.rows
-row_inside_is c = let rows : c.self.inside.rows ≡ c.args.self.now.rows =
-    ap (λ (t : DotTable). t.rows) c.self.view_is in omega (arith, c.requires.row)
-
-len_before : (c : goal.After-self-1) → length (row_before c) ≡ row_len c.self.inside.width
+len_before : (c : goal.After-self-1)
+    → length (take (many c) (drop c.row_start_across-start.result c.deref_mut.result.now)) ≡ row_len c.self.inside.width
 len_before c =
-    let n_inside : n_of c < c.self.inside.inks * c.self.inside.rows =
-    row_inside c.self.inside.inks c.self.inside.rows c.args.ink (y_of c) (ink_inside c) (row_inside_is c) in
+    let there = end-there _ _ _ _ _ _ (is_reached c) in
     omega (
       arith,
-      ap length (before_is c),
-      length-take (row_len c.self.inside.width) (drop (n_of c * row_len c.self.inside.width) c.self.inside.bytes.items),
-      length-drop (n_of c * row_len c.self.inside.width) c.self.inside.bytes.items,
-      c.self.invariant.len,
-      bytes_inside (row_len c.self.inside.width) (c.self.inside.inks * c.self.inside.rows) (n_of c) n_inside,
+      length-take (many c) (drop c.row_start_across-start.result c.deref_mut.result.now),
+      length-drop c.row_start_across-start.result c.deref_mut.result.now,
+      ap length c.deref_mut.ensures.value,
+      c.row_len-len.ensures.is,
+      there,
     )
+
+abbrev row_before : goal.After-self-1 → List ℕ
+row_before c = take (many c) (drop c.row_start_across-start.result c.deref_mut.result.now)
 
 put_is_packed : (c : goal.After-self-1) → IsPackedRow c.self.inside.width c.put_dots.new.row
 put_is_packed c =
-    let n_inside : n_of c < c.self.inside.inks * c.self.inside.rows =
-    row_inside c.self.inside.inks c.self.inside.rows c.args.ink (y_of c) (ink_inside c) (row_inside_is c) in
+    let it = is_reached c in
     taken_packed c.self.inside.width c.args.place.c c.args.r c.args.dots.now
     (row_before c) c.put_dots.new.row (len_before c) c.put_dots.ensures.bytes
-    (λ x past. ap (λ (row : List ℕ). row_dot row x) (before_is c) ∙ c.self.invariant.spare (n_of c) x n_inside past)
+    (λ x past. ap (λ (row : List ℕ). row_dot row x) (before_is c)
+    ∙ c.self.invariant.spare (place_of c.self.inside c.args.ink (y_of c)) x
+    (row_inside_across c.self.inside.inks c.self.inside.rows c.args.ink (y_of c) it.ink it.down) past)
     c.put_dots.ensures.dots
 
--- the planes with the row
-is_put : (c : goal.After-self-1)
-    → IsRowPut (table c) c.args.ink (y_of c) c.row_start-start.result (many_of c) c.put_dots.new.row (bytes_now c)
-is_put c =
-    let new_len : length c.put_dots.new.row ≡ row_len c.self.inside.width = c.put_dots.ensures.dots.len ∙ len_before c in
-    let all = ap (λ l. c.self.inside.inks * c.self.inside.rows * l) c.row_len-len.ensures.is in
-    record {
-      is = put_items c.row_start-start.result _ c.self.inside.bytes.len _ _ _ _ c.deref_mut.ensures.value refl
-          (omega (arith, c.self.inside.bytes.ok.0))
-          (omega (arith, c.self.invariant.len, all, c.self.inside.bytes.ok.0, c.row_start-start.ensures.inside))
-          (omega (arith, new_len, many_is c));
-      len = c.self.invariant.len;
-      ink = ink_inside c;
-      down = row_inside_is c;
-      packed_row = put_is_packed c;
-      first = first_is c;
-      many = many_is c;
-    }
+new_len : (c : goal.After-self-1) → length c.put_dots.new.row ≡ many c
+new_len c = c.put_dots.ensures.dots.len ∙ len_before c ∙ sym (many_is c)
 
-dot_before : (c : goal.After-self-1) (x : ℕ) → dot (table c) c.args.ink (y_of c) x ≡ row_dot (row_before c) x
-unfolding dot
-dot_before c x = ap (λ (row : List ℕ). row_dot row x) (sym (before_is c))
+dot_before : (c : goal.After-self-1) (x : ℕ) → dot (table_of c.self.inside) c.args.ink (y_of c) x ≡ row_dot (row_before c) x
+dot_before c x =
+    let it = is_reached c in
+    dot-in (table_of c.self.inside) c.args.ink (y_of c) x it.ink ∙ ap (λ (row : List ℕ). row_dot row x) (sym (before_is c))
 
 pub returns : goal.returns
 returns c =
-    let t : DotTable = table c in
-    let new : DotTable = record { width = t.width; rows = t.rows; inks = t.inks; bytes = bytes_now c } in
+    let t : DotTable = table_of c.self.inside in
+    let new : DotTable = table_of (with_row c.self.inside c.reach.new.bytes c.row_start_across-start.result (many c) c.deref_mut.result.now c.put_dots.new.row) in
     let Q : DotTable → Type 0 = λ old. PutsTileRow old new c.args.ink (y_of c) c.args.place.c c.args.r c.args.dots.now in
     subst Q c.self.view_is (puts_tile_row t new c.args.ink
     (y_of c) c.args.place.c c.args.r c.args.dots.now (row_before c) c.put_dots.new.row
-    (puts_row t t c.args.ink (y_of c) _ _ c.put_dots.new.row (bytes_now c) refl (is_put c))
+    (puts_row t t c.args.ink (y_of c) _ _ c.put_dots.new.row new.bytes refl
+    (row-put _ _ _ _ _ _ (many c) c.deref_mut.result.now c.put_dots.new.row (is_reached c) c.deref_mut.ensures.value (many_is c)
+    (new_len c) (put_is_packed c)))
     (put_is_packed c) (dot_before c) c.put_dots.ensures.dots)
 
 pub invariant_of-self : goal.invariant_of-self
-invariant_of-self c = record {
-  size = c.self.invariant.size;
-  len = bytes_kept _ c.args.ink (y_of c) _ _ c.put_dots.new.row (bytes_now c) (is_put c) ∙ c.self.invariant.len;
-  spare = row_put-spare _ c.args.ink (y_of c) _ _ c.put_dots.new.row (bytes_now c) c.self.invariant.spare (is_put c);
-}
+invariant_of-self c = row-table _ _ _ _ _ _ (many c) c.deref_mut.result.now c.put_dots.new.row (is_reached c) c.deref_mut.ensures.value (many_is c)
+    (new_len c) (put_is_packed c)

@@ -1,47 +1,47 @@
-use Rattle.std.proofs.Common.{◌≡◌, ◌+◌, ◌*◌, ◌/◌, ◌%◌, ◌-◌, ◌^◌, ◌<◌, ℕ, List, ap, arith, bit_or, get_or, length, length-set, set, ◌∙◌}
+use Rattle.std.proofs.Common.{◌≡◌, ◌+◌, ◌*◌, ◌/◌, ◌%◌, ◌-◌, ◌^◌, ◌<◌, ℕ, ap, arith, bit_or, get_or, ◌∙◌}
 use Rattle.std.proofs.lemmas.List.{get_or_read}
-use Rattle.dot_planes.specs.Tables.{DotTable, row_len}
-use Rattle.dot_planes.proofs.PutDots.{IsDotPut, dot_put-spare, turns_on}
+use Rattle.dot_planes.specs.Planes.{all_bytes}
+use Rattle.dot_planes.specs.Tables.{DotTable}
+use Rattle.dot_planes.proofs.PutDots.{turns_on}
+use Rattle.dot_planes.proofs.PlaneWrites.{IsReached, dot-put, dot-table, end-there, with_dot}
 use Rattle.dot_planes.proofs.planes.Planes.turn_on.Goals as goal
 
-abbrev bytes_now : goal.After-self-1 → List ℕ
-bytes_now c = set c.self.inside.bytes.items
-    (c.row_start-start.result + c.args.x / 8) (bit_or c.index_mut.result.now (1 * 2 ^ (7 - c.args.x % 8) % 256))
+abbrev end : goal.After-self-1 → ℕ
+end c = c.row_start_across-start.result + c.row_len-len.result
 
--- the planes with the dot
-is_put : (c : goal.After-self-1) → IsDotPut (record {
-  width = c.self.inside.width;
-  rows = c.self.inside.rows;
-  inks = c.self.inside.inks;
-  bytes = c.self.inside.bytes.items;
-})
-    c.args.ink c.args.y c.args.x (c.row_start-start.result + c.args.x / 8) (bytes_now c)
-is_put c =
-    let view = c.self.view_is in
-    let inks : c.self.inside.inks ≡ c.args.self.now.inks = ap (λ (t : DotTable). t.inks) view in
-    let rows : c.self.inside.rows ≡ c.args.self.now.rows = ap (λ (t : DotTable). t.rows) view in
-    let width : c.self.inside.width ≡ c.args.self.now.width = ap (λ (t : DotTable). t.width) view in
-    let len : c.row_len.result ≡ row_len c.self.inside.width = c.row_len.ensures.is in
-    let place : ℕ = c.row_start-start.result + c.args.x / 8 in
-    let room : place < length c.self.inside.bytes.items =
-    omega (arith, width, c.self.invariant.len, ap (λ l. c.self.inside.inks * c.self.inside.rows * l) len) in
-    let old : c.index_mut.result.now ≡ get_or c.self.inside.bytes.items place 0 =
-    get_or_read c.self.inside.bytes.items place c.index_mut.result.now room c.index_mut.ensures.value 0 in
+is_reached : (c : goal.After-self-1) → IsReached c.self.inside c.reach.new.bytes c.args.ink c.args.y c.row_start_across-start.result (end c)
+is_reached c =
+    let inks : c.self.inside.inks ≡ c.args.self.now.inks = ap (λ (t : DotTable). t.inks) c.self.view_is in
+    let rows : c.self.inside.rows ≡ c.args.self.now.rows = ap (λ (t : DotTable). t.rows) c.self.view_is in
     record {
-      is = ap (λ b. set c.self.inside.bytes.items place (bit_or b (1 * 2 ^ (7 - c.args.x % 8) % 256))) old;
-      len = c.self.invariant.len;
+      before = c.self.invariant;
       ink = omega (arith, inks);
       down = omega (arith, rows);
-      across = omega (arith, width);
-      place_is = ap (λ m. m + c.args.x / 8) (c.row_start-start.ensures.is ∙ ap (λ l. (c.args.ink * c.self.inside.rows + c.args.y) * l) len);
+      start_is = c.row_start_across-start.ensures.is
+          ∙ ap (λ l. (c.args.y * c.self.inside.inks + c.args.ink) * l) c.row_len-len.ensures.is;
+      end_is = ap (λ l. c.row_start_across-start.result + l) c.row_len-len.ensures.is;
+      items = c.reach.ensures.items;
+      capacity = c.reach.ensures.capacity;
     }
 
+abbrev byte : goal.After-self-1 → ℕ
+byte c = bit_or c.index_mut.result.now (1 * 2 ^ (7 - c.args.x % 8) % 256)
+
+across : (c : goal.After-self-1) → c.args.x < c.self.inside.width
+across c = let width : c.self.inside.width ≡ c.args.self.now.width = ap (λ (t : DotTable). t.width) c.self.view_is in omega (arith, width)
+
+byte_is : (c : goal.After-self-1)
+    → byte c ≡ bit_or (get_or c.reach.new.bytes.items (c.row_start_across-start.result + c.args.x / 8) 0) (1 * 2 ^ (7 - c.args.x % 8) % 256)
+byte_is c =
+    let there = end-there _ _ _ _ _ _ (is_reached c) in
+    ap (λ b. bit_or b (1 * 2 ^ (7 - c.args.x % 8) % 256))
+    (get_or_read c.reach.new.bytes.items (c.row_start_across-start.result + c.args.x / 8) c.index_mut.result.now
+    (omega (arith, there, across c, c.row_len-len.ensures.is)) c.index_mut.ensures.value 0)
+
 pub returns : goal.returns
-returns c = turns_on _ _ c.args.ink c.args.y c.args.x _ (bytes_now c) c.self.view_is (is_put c)
+returns c = turns_on _ _ c.args.ink c.args.y c.args.x _
+    (all_bytes (with_dot c.self.inside c.reach.new.bytes (c.row_start_across-start.result + c.args.x / 8) (byte c))) c.self.view_is
+    (dot-put _ _ _ _ _ _ _ (byte c) (is_reached c) (across c) (byte_is c))
 
 pub invariant_of-self : goal.invariant_of-self
-invariant_of-self c = record {
-  size = c.self.invariant.size;
-  len = length-set c.self.inside.bytes.items _ _ ∙ c.self.invariant.len;
-  spare = dot_put-spare _ c.args.ink c.args.y c.args.x _ (bytes_now c) c.self.invariant.spare (is_put c);
-}
+invariant_of-self c = dot-table _ _ _ _ _ _ _ (byte c) (is_reached c) (across c) (byte_is c)
