@@ -1,4 +1,5 @@
--- Tables of dots and of amounts: ink by ink in the order of a printer's set, row by row, from the left.
+-- Tables of dots, row by row and ink by ink, and of amounts, ink by ink and row by row, from the left. Inks are in the
+-- order of a printer's set.
 use Rattle.base_definitions.specs.Limits.{most_columns, most_rows}
 use Rattle.std.specs.Prelude.{◌≡◌, ℕ, ◌+◌, ◌*◌, ◌/◌, ◌%◌, ◌<◌, ◌≤◌, ◌⊎◌, ◌≢◌, Bool, true, if◌then◌else◌, nat_lt}
 use Rattle.std.specs.Prelude.{List, [], length, take, drop, slice_index}

@@ -47,11 +47,16 @@ pub record IsIn (s : Shape) (p : Place) (x y : ℕ) : Type 0 where
   pub offset : ℕ
   pub place : IsAt p row offset x y
 
--- the window has every pixel of a tile: the tile is not in the first column, whose rows but the first begin left of it
+-- the window has the pixel at an offset of a row of a tile
+pub record HasPixelAt (s : Shape) (p : Place) (row offset : ℕ) : Type 0 where
+  pub x : ℕ
+  pub y : ℕ
+  pub place : IsAt p row offset x y
+  pub pixel : IsPixel s x y
+
+-- the window has every pixel of a tile
 pub record IsWhole (s : Shape) (p : Place) : Type 0 where
-  pub left : 1 ≤ p.c
-  pub right : 64 * p.c + 64 ≤ s.width
-  pub down : 32 * p.j + 32 ≤ s.height
+  pub at : (row offset : ℕ) → row < 32 → offset < 64 → HasPixelAt s p row offset
 
 -- pixel (x, y) reads the error at (a, b): up to two pixels to the left in its own row, or up to two to
 -- either side one or two rows above

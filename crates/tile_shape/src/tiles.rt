@@ -77,6 +77,7 @@ impl Shape {
     }
 
     /// Whether the window has every pixel of a tile.
+    #[tactic(auto, using(crate::proofs::Wholes::inside_of, crate::proofs::Wholes::whole_of))]
     pub fn has_all(&self, p: Place) -> bool
         ensures { IsTrue result ↔ IsWhole self.now p }
     {
