@@ -2,5 +2,6 @@ pub mod Cells
 pub mod Pixels
 pub mod GatheredTile
 pub mod LinePuts
+pub mod Numbers
 pub mod InkSets
 pub mod Parts

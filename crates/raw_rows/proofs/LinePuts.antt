@@ -1,6 +1,6 @@
 -- Rows that get a line, and those that keep theirs.
-use Rattle.std.proofs.Common.{ℕ, ◌≡◌, ◌+◌, ◌*◌, ◌<◌, ◌≤◌, List, Some, ap, arith, get_or, length, set, slice_get, subst, sym, ◌∙◌}
-use Rattle.std.proofs.Common.{get_or-set_other, get_or-set_same}
+use Rattle.std.proofs.Common.{ℕ, ◌≡◌, ◌+◌, ◌-◌, ◌*◌, ◌<◌, ◌≤◌, ◌++◌, List, Some, ap, arith, get_or, length, length-take, slice_get, subst, sym, take, ◌∙◌}
+use Rattle.std.proofs.lemmas.List.{get_or-append_right, get_or-take, get_or_append_left}
 use Rattle.std.proofs.lemmas.Option.{get_or_from_slice_get, slice_get_within}
 use Rattle.dot_planes.specs.Tables.{amount, row_at}
 use Rattle.dot_planes.proofs.RowBytes.{bytes_inside, row_byte}
@@ -88,19 +88,21 @@ has_line raw y line p kind w is row bytes = record {
 
 -- ---- the bytes of lines
 
--- the line at a row's own place, once it is put there
-pub own_line : (len y : ℕ) (index bytes line : List ℕ) → y < length index
-    → ((k : ℕ) → k < len → get_or bytes (y * len + k) 0 ≡ get_or line k 0)
-    → (k : ℕ) → k < len → get_or (row_at len bytes (get_or (set index y y) y 0)) k 0 ≡ get_or line k 0
-own_line len y index bytes line room put k low =
-    ap (λ n. get_or (row_at len bytes n) k 0) (get_or-set_same index y y 0 room) ∙ row_byte len y k bytes low ∙ put k low
+-- the line that is put behind others
+pub last_line : (len n k : ℕ) (old line : List ℕ) → n * len ≤ length old → k < len
+    → get_or (row_at len (take (n * len) old ++ take len line) n) k 0 ≡ get_or line k 0
+last_line len n k old line many low =
+    let part : List ℕ = take len line in
+    let behind : n * len + k - n * len ≡ k = omega arith in
+    row_byte len n k (take (n * len) old ++ part) low
+    ∙ get_or-append_right (take (n * len) old) part (n * len) (n * len + k) 0 (omega (arith, length-take (n * len) old)) (omega arith)
+    ∙ ap (λ m. get_or part m 0) behind ∙ get_or-take len line k 0 low
 
--- a line above a place that is written
-pub kept_line : (len y r v : ℕ) (index old new : List ℕ) → r < y → get_or index r 0 ≤ r
-    → ((i : ℕ) → i < y * len → get_or new i 0 ≡ get_or old i 0) → (k : ℕ) → k < len
-    → get_or (row_at len new (get_or (set index y v) r 0)) k 0 ≡ get_or (row_at len old (get_or index r 0)) k 0
-kept_line len y r v index old new above early same k low =
-    let n : ℕ = get_or index r 0 in
-    let before = bytes_inside len y n (omega arith) in
-    ap (λ m. get_or (row_at len new m) k 0) (get_or-set_other index y r v 0 (omega arith))
-    ∙ row_byte len n k new low ∙ same (n * len + k) (omega (arith, before)) ∙ sym (row_byte len n k old low)
+-- a line before it
+pub kept_line : (len n m k : ℕ) (old line : List ℕ) → n * len ≤ length old → m < n → k < len
+    → get_or (row_at len (take (n * len) old ++ line) m) k 0 ≡ get_or (row_at len old m) k 0
+kept_line len n m k old line many before low =
+    let inside = bytes_inside len n m before in
+    row_byte len m k (take (n * len) old ++ line) low
+    ∙ get_or_append_left (take (n * len) old) line 0 (m * len + k) (omega (arith, inside, length-take (n * len) old))
+    ∙ get_or-take (n * len) old (m * len + k) 0 (omega (arith, inside)) ∙ sym (row_byte len m k old low)

@@ -1,5 +1,5 @@
 -- Rows of a tile in every ink.
-use Rattle.std.specs.Prelude.{ℕ, ◌≡◌, ◌+◌, ◌-◌, ◌*◌, ◌<◌, ◌≤◌, List, [], slice_index, slice_index_or}
+use Rattle.std.specs.Prelude.{ℕ, ◌≡◌, ◌+◌, ◌-◌, ◌*◌, ◌<◌, List, [], slice_index, slice_index_or}
 use Rattle.dot_planes.specs.Gathered.{GathersRow as GathersOne, HasRows as HasOne, shape_of}
 use Rattle.dot_planes.specs.Tables.{AmountTable, amount}
 use Rattle.pwg_definitions.specs.Header.{line_bytes, row_of}

@@ -1,5 +1,5 @@
 -- What is kept of a line, and where.
-use Rattle.std.specs.Prelude.{ℕ, ◌+◌, ◌*◌, ◌/◌, ◌%◌, ◌≤◌, List, slice_index}
+use Rattle.std.specs.Prelude.{ℕ, ◌+◌, ◌*◌, ◌/◌, ◌%◌, ◌<◌, ◌≤◌, List, slice_index}
 use Rattle.base_definitions.specs.Limits.{most_columns}
 use Rattle.pwg_definitions.specs.Header.{line_bytes, row_of}
 use Rattle.pwg_definitions.specs.declared.pages.Kind.{Kind}
@@ -17,9 +17,17 @@ pub record IsSize (s : Separator) (rows : ℕ) : Type 0 where
   pub some_rows : 1 ≤ rows
   pub most_rows : rows ≤ 256
 
--- no row has the line of a later one
+-- the number of a row's line is no more than that of the row
 abbrev pub AreEarlier : List ℕ → Type 0
 AreEarlier index = (y : ℕ) → slice_index index y ≤ y
+
+-- no row has an earlier line than a row above it
+abbrev pub AreInOrder : List ℕ → Type 0
+AreInOrder index = (r y : ℕ) → r ≤ y → y < 256 → slice_index index r ≤ slice_index index y
+
+-- each row's line ends where so many bytes do, or before
+abbrev pub AreThere : List ℕ → ℕ → ℕ → Type 0
+AreThere index len bytes = (y : ℕ) → slice_index index y * len + len ≤ bytes
 
 -- the byte of a line where a pixel begins
 abbrev pub first_byte : Kind → ℕ → ℕ

@@ -1,10 +1,11 @@
 //! Rows of raw lines, as they are kept.
-ghost use Rattle.raw_rows.specs.Lines.{AreEarlier, IsSize, kept_bytes};
-ghost use Rattle.std.specs.Prelude.{vec_len, ◌*◌, ◌≡◌, ◌≤◌};
+ghost use Rattle.raw_rows.specs.Lines.{AreEarlier, AreInOrder, AreThere, IsSize, kept_bytes};
+ghost use Rattle.std.specs.Prelude.{vec_capacity, vec_len, ◌*◌, ◌≡◌, ◌≤◌};
 
 use ink_separation::Separator;
 
-/// Rows of a slab by their lines. Line y begins at `len` y, and is the line of the rows whose index is y.
+/// Rows of a slab by their lines. Line n begins at `len` n, and is the line of the rows whose index is n. Lines stand in
+/// the order of the rows, each once, and there is room for one of each row.
 #[derive(Drop)]
 pub struct RawRows {
     pub(crate) separator: Separator,
@@ -14,6 +15,8 @@ pub struct RawRows {
     pub(crate) index: [u16; 256],
     ghost size: { IsSize separator rows },
     ghost long: { len ≡ kept_bytes separator },
-    ghost room: { rows * len ≤ vec_len bytes },
+    ghost room: { rows * len ≤ vec_capacity bytes },
+    ghost there: { AreThere index len (vec_len bytes) },
     ghost earlier: { AreEarlier index },
+    ghost in_order: { AreInOrder index },
 }

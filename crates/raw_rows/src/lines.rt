@@ -10,7 +10,7 @@ ghost use Rattle.pwg_definitions.specs.declared.pages.Kind.{Kind};
 ghost use Rattle.raw_rows.specs.Lines.{IsSize, kept_bytes};
 ghost use Rattle.raw_rows.specs.Raw.{KeepsAbove, Repeats, line_in, table_of};
 ghost use Rattle.separation_definitions.specs.declared.window.Window.{Window};
-ghost use Rattle.std.specs.Prelude.{IfOk, length, slice_index, ℕ, ◌*◌, ◌+◌, ◌<◌, ◌≡◌, ◌≤◌, ◌⊎◌};
+ghost use Rattle.std.specs.Prelude.{IfOk, length, slice_index, take, vec_capacity, vec_len, ℕ, ◌*◌, ◌+◌, ◌++◌, ◌<◌, ◌≡◌, ◌≤◌, ◌⊎◌};
 
 use crate::kept::RawRows;
 use base_definitions::Memory;
@@ -48,15 +48,42 @@ pub(crate) fn put(out: &mut [u8], at: usize, bytes: &[u8])
     out[at..at + bytes.len()].copy_from_slice(bytes);
 }
 
+// Puts a line at `at`, in place of what stands from there on. It takes no memory: there is room.
+fn put_last(bytes: &mut Vec<u8>, at: usize, line: &[u8])
+    requires at { at ≤ vec_len bytes.old }
+    requires room { at + length line.now ≤ vec_capacity bytes.old }
+    ensures items { bytes.new.items ≡ take at bytes.old.items ++ line.now }
+    ensures len { vec_len bytes.new ≡ at + length line.now }
+    ensures capacity { vec_capacity bytes.old ≤ vec_capacity bytes.new }
+{
+    bytes.truncate(at);
+    let Ok(()) = bytes.extend_from_slice(line) else {
+        unreachable!()
+    };
+}
+
+// Gives the rows from y on line n.
+fn number_from(index: &mut [u16; 256], y: usize, n: u16)
+    requires { y < 256 }
+    ensures above { (r : ℕ) → r < y → slice_index index.new r ≡ slice_index index.old r }
+    ensures others { (r : ℕ) → y ≤ r → r < 256 → slice_index index.new r ≡ n }
+    ensures many { length index.new ≡ 256 }
+{
+    index[y..].fill(n);
+}
+
 impl RawRows {
-    /// Room for 1 to 256 rows, of 1 to 8,191 columns. The contract does not say what amounts they have at first.
+    /// Room for 1 to 256 rows, of 1 to 8,191 columns. It takes the memory for all lines, and touches that of one. The
+    /// contract does not say what amounts the rows have at first.
     pub fn make(alloc: Global, separator: Separator, rows: u32) -> Result<RawRows, Memory>
         requires { IsSize separator rows }
         ensures rows { IfOk result (λ raw. raw.rows ≡ rows) }
         ensures separator { IfOk result (λ raw. raw.separator ≡ separator) }
     {
         let len = bytes_of(&separator);
-        let bytes = vec![in alloc; 0; rows as usize * len]?;
+        let mut bytes = Vec::with_capacity(alloc, rows as usize * len)?;
+        // All rows have one line at first. The memory of each other is touched only when it comes.
+        bytes.resize(len, 0)?;
         Ok(RawRows {
             separator,
             rows,
@@ -93,9 +120,10 @@ impl RawRows {
             → HasLine p kind line.now w y (table_of self.new) }
         ensures above { KeepsAbove (table_of self.old) (table_of self.new) y }
     {
-        let at = y as usize * self.len;
-        put(&mut self.bytes, at, &line[..self.len]);
-        self.index[y as usize] = y as u16;
+        let n = self.next_line(y as usize);
+        let at = n as usize * self.len;
+        put_last(&mut self.bytes, at, &line[..self.len]);
+        number_from(&mut self.index, y as usize, n);
     }
 
     /// Gives row y the line of the row above it. The rows above it keep their amounts; those below it may get any.
@@ -107,6 +135,16 @@ impl RawRows {
         ensures line { Repeats (table_of self.old) (table_of self.new) y }
     {
         self.index[y as usize] = self.index[y as usize - 1];
+    }
+
+    // The number of a line that is put for row y: it stands behind those of the rows above.
+    fn next_line(&self, y: usize) -> u16
+        requires { y < 256 }
+        ensures above { (r : ℕ) → r < y → slice_index self.now.index r < result }
+        ensures most { result ≤ y }
+        ensures behind { result * self.now.len ≤ vec_len self.now.bytes }
+    {
+        if y == 0 { 0 } else { self.index[y - 1] + 1 }
     }
 
     // The line of row y.

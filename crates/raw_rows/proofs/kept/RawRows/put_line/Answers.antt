@@ -1,26 +1,51 @@
-use Rattle.std.proofs.Common.{ℕ, ◌+◌, ◌*◌, ◌<◌, List, ap, arith, drop, get_or, inl, length, length-take, refl, take, ◌∙◌}
-use Rattle.std.proofs.lemmas.List.{get_or-take, take_at}
-use Rattle.raw_rows.proofs.LinePuts.{has_line, keeps, kept_line, own_line}
+use Rattle.std.proofs.Common.{ℕ, List, ap, arith, get_or, length-take, refl, take, ◌∙◌}
+use Rattle.dot_planes.specs.Tables.{row_at}
+use Rattle.raw_rows.proofs.LinePuts.{has_line, keeps, kept_line, last_line}
+use Rattle.raw_rows.proofs.Numbers.{IsPut, still_earlier, still_in_order, still_there}
 use Rattle.raw_rows.proofs.kept.RawRows.put_line.Goals as goal
+
+pub invariant_of-self : goal.invariant_of-self
+invariant_of-self c =
+    let raw = c.args.self.now in
+    let y : ℕ = c.args.y in
+    let n : ℕ = c.next_line-n.result in
+    let index : List ℕ = c.number_from.new.index in
+    let line : List ℕ = c.args.line.now in
+    let put : IsPut raw.index index y n = record {
+      above = c.number_from.ensures.above;
+      others = c.number_from.ensures.others;
+      behind = c.next_line-n.ensures.above;
+      many = c.number_from.ensures.many;
+    } in
+    record {
+      size = raw.size;
+      long = raw.long;
+      room = omega (arith, raw.room, c.put_last.ensures.capacity);
+      there = λ r. omega (arith, still_there raw.index index y n raw.len put r, c.put_last.ensures.len, length-take raw.len line, raw.long, c.requires.line);
+      earlier = still_earlier raw.index index y n put raw.earlier c.next_line-n.ensures.most;
+      in_order = still_in_order raw.index index y n put (omega (arith, c.requires.y, raw.size.most_rows)) raw.in_order;
+    }
 
 pub returns-clause-line : goal.returns-clause-line
 returns-clause-line c = λ p kind w is.
     let raw = c.args.self.now in
-    let out : List ℕ = c.put.new.out in
+    let n : ℕ = c.next_line-n.result in
     let line : List ℕ = c.args.line.now in
-    let same = take_at out (drop (length out) raw.bytes.items) raw.bytes.len (omega (arith, c.put.auto.out, c.deref_mut.ensures.len)) in
+    let bytes : List ℕ = c.put_last.new.bytes.items in
+    let here = c.number_from.ensures.others c.args.y (omega arith) (omega (arith, c.requires.y, raw.size.most_rows)) in
     has_line _ c.args.y line p kind w is c.requires.y (λ k low.
-    own_line raw.len c.args.y raw.index _ line (omega (arith, c.requires.y, raw.size.most_rows)) (λ n few.
-    let inside : n < length (take raw.len line) = omega (arith, length-take raw.len line, raw.long, c.requires.line, few) in
-    ap (λ (bs : List ℕ). get_or bs (c.args.y * raw.len + n) 0) same ∙ c.put.ensures.there n inside
-    ∙ get_or-take raw.len line n 0 few) k (omega (arith, raw.long, low)))
+    ap (λ m. get_or (row_at raw.len bytes m) k 0) here
+    ∙ ap (λ (bs : List ℕ). get_or (row_at raw.len bs n) k 0) c.put_last.ensures.items
+    ∙ last_line raw.len n k raw.bytes.items line (omega (arith, c.next_line-n.ensures.behind)) (omega (arith, raw.long, low)))
 
 pub returns-clause-above : goal.returns-clause-above
 returns-clause-above c =
     let raw = c.args.self.now in
-    let out : List ℕ = c.put.new.out in
-    let same = take_at out (drop (length out) raw.bytes.items) raw.bytes.len (omega (arith, c.put.auto.out, c.deref_mut.ensures.len)) in
+    let n : ℕ = c.next_line-n.result in
+    let bytes : List ℕ = c.put_last.new.bytes.items in
     keeps _ _ c.args.y (record { separator = refl; rows = refl }) (λ r above k low.
-    kept_line raw.len c.args.y r _ raw.index raw.bytes.items _ above (raw.earlier r) (λ i before.
-    ap (λ (bs : List ℕ). get_or bs i 0) same ∙ c.put.ensures.others i (inl before)
-    ∙ ap (λ (bs : List ℕ). get_or bs i 0) c.deref_mut.ensures.value) k (omega (arith, raw.long, low)))
+    let m : ℕ = get_or raw.index r 0 in
+    ap (λ i. get_or (row_at raw.len bytes i) k 0) (c.number_from.ensures.above r above)
+    ∙ ap (λ (bs : List ℕ). get_or (row_at raw.len bs m) k 0) c.put_last.ensures.items
+    ∙ kept_line raw.len n m k raw.bytes.items (take raw.len c.args.line.now) (omega (arith, c.next_line-n.ensures.behind))
+    (c.next_line-n.ensures.above r above) (omega (arith, raw.long, low)))
