@@ -13,6 +13,7 @@ use Rattle.raw_rows.specs.Lines.{first_byte, kept_bytes, pixels_before}
 use Rattle.raw_rows.specs.Raw.{line_in, table_of}
 use Rattle.dot_planes.specs.Gathered.{shape_of}
 use Rattle.tile_shape.specs.Geometry.{IsWhole}
+use Rattle.tile_shape.proofs.Wholes.{inside_of}
 use Rattle.raw_rows.specs.declared.kept.RawRows.{RawRows}
 
 -- 64 pixels need no more than 256 bytes
@@ -86,7 +87,7 @@ pub part_kept : (raw : RawRows) (p : Place) (r : ℕ) → IsWhole (shape_of (tab
 part_kept raw p r whole few =
     let s = raw.separator in
     let x : ℕ = first_pixel raw p r in
-    let fewer = fewer_bytes s.kind (x + 64) (s.window.left + s.window.width) (omega (arith, whole.left, whole.right)) in
+    let fewer = fewer_bytes s.kind (x + 64) (s.window.left + s.window.width) (let inside = inside_of _ _ whole in omega (arith, inside.left, inside.right)) in
     omega (arith, part_inside s.kind x, fewer)
 
 -- the pixels of a part, as it is copied

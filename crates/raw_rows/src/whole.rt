@@ -59,6 +59,7 @@ fn part_at(kind: Kind, x: usize) -> Part
 impl RawRows {
     // Where row r of a tile stands in its line.
     #[inline(always)]
+    #[tactic(auto, using(tile_shape::proofs::Wholes::inside_of))]
     fn part_of(&self, place: Place, r: usize) -> Part
         requires r { r < 32 }
         requires whole { IsWhole (shape_of (table_of self.now)) place }
@@ -73,6 +74,7 @@ impl RawRows {
 
     // Copies the bytes of row r of a tile.
     #[inline(always)]
+    #[tactic(auto, using(tile_shape::proofs::Wholes::inside_of))]
     fn copy_row(&self, place: Place, r: usize, bytes: &mut TileBytes)
         requires r { r < 32 }
         requires whole { IsWhole (shape_of (table_of self.now)) place }

@@ -3,6 +3,7 @@ use Rattle.std.proofs.lemmas.List.{get_or-drop, get_or-take}
 use Rattle.ink_separation.specs.Separated.{tile_amount}
 use Rattle.ink_separation.specs.Separators.{printer_in}
 use Rattle.separation_definitions.specs.Amounts.{amount as amount_of, pixel_at}
+use Rattle.tile_shape.proofs.Wholes.{inside_of}
 use Rattle.raw_rows.specs.Gathering.{first_pixel}
 use Rattle.raw_rows.specs.Raw.{line_in}
 use Rattle.raw_rows.proofs.GatheredTile.{row_gathers}
@@ -16,6 +17,7 @@ returns c =
     let p = c.args.place in
     let r : ℕ = c.args.r in
     let e = c.part_of-part.ensures in
+    let inside = inside_of _ _ c.requires.whole in
     let bytes : List ℕ = c.args.bytes.now in
     let many : ℕ = 256 * r + 256 - 256 * r in
     let part : List ℕ = take many (drop (256 * r) bytes) in
@@ -23,8 +25,8 @@ returns c =
     let pixel = part_row raw p r bytes part (c.requires.bytes r c.requires.r) (λ n low.
     get_or-take many (drop (256 * r) bytes) n 0 (omega (arith, is_many, e.many, e.most, low)) ∙ get_or-drop (256 * r) bytes n 0) in
     row_gathers raw p r 0 64 (first_pixel raw p r) (line_in raw (32 * p.j + r)) _ _
-    (omega (arith, c.requires.whole.down, c.requires.r)) refl
-    (omega (arith, c.requires.whole.left, c.requires.r))
+    (omega (arith, inside.down, c.requires.r)) refl
+    (omega (arith, inside.left, c.requires.r))
     (λ o x in_tile across at. (omega arith, in_tile))
     (λ i ink has k low.
     let place : 64 * r + 0 + k ≡ 64 * r + k = omega arith in
