@@ -1,6 +1,7 @@
 use Rattle.std.proofs.Common.{arith, ap, subst, ◌∙◌, ℕ, List, Err}
 use Rattle.std.proofs.lemmas.Result.{err_from_is_err_and}
 use Rattle.dot_emulator.specs.Runs.{Runs}
+use Rattle.job_feed.proofs.Jobs.{some_bytes}
 use Rattle.job_player.proofs.Blanks.{given_blank}
 use Rattle.job_player.proofs.Playing.{gives_sheet, if_none, is_none, kept_back, plays_all, plays_more, plays_none, plays_nothing}
 use Rattle.job_player.proofs.Playing.{plays_to_emulator_stop, plays_to_feed_stop, sheet_unwritten, sheet_written}
@@ -106,3 +107,8 @@ commands-preserved-then-is_blank g c =
       later = omega (arith, c.commands.invariant.later, c.next.ensures.later);
       out_later = omega (arith, c.commands.invariant.out_later, c.write_sheet.ensures.cause.later);
     }
+
+pub commands-smaller : goal.commands-smaller
+commands-smaller g c =
+    let takes = rw c.in-Some.is at c.in_ok-placed.ensures.command in
+    omega (arith, takes.behind, takes.within, takes.most, some_bytes takes.bytes _ _ takes.whole)
