@@ -1,2 +1,3 @@
-pub mod Pairs
+pub mod Lists
 pub mod Numbers
+pub mod Pairs

@@ -8,10 +8,11 @@ use Rattle.std.proofs.lemmas.Bool.Decides.{nat_tests}
 use Rattle.std.proofs.lemmas.List.{get_or-set_same, length-set, take_all, take_more, take-set-le}
 use Rattle.std.proofs.lemmas.List.Splits.{length-slice_split, slice_split_first, slice_split_none}
 use Rattle.key_values.proofs.Cuts.{some_place}
+use Rattle.key_values.specs.Lists.{is_comma}
 use Rattle.key_values.specs.Numbers.{number_within}
-use Rattle.printer_profile.specs.Values.{curve_written, is_comma, points_of}
+use Rattle.printer_profile.specs.Values.{curve_written, points_of}
 use Rattle.printer_profile.specs.Views.{has_points}
-use Rattle.printer_profile.proofs.CurveTexts.{digits_no_comma}
+use Rattle.key_values.proofs.Lists.{digits_no_comma}
 use Rattle.printer_profile.proofs.LineParts.{one_part}
 
 -- the points in front, and those of so many parts

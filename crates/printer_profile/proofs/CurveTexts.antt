@@ -1,17 +1,14 @@
 -- The text of a curve, and the curve of a text.
-use Rattle.std.proofs.Common.{◌≡◌, ℕ, zero, suc, ◌+◌, ◌<◌, ◌≤◌, true, false, ltb, List, [], ◌∷◌, ◌++◌}
+use Rattle.std.proofs.Common.{◌≡◌, ℕ, zero, suc, ◌+◌, ◌<◌, ◌≤◌, true, ltb, List, [], ◌∷◌, ◌++◌}
 use Rattle.std.proofs.Common.{length, map, take, get_or, set, Some, IsTrue, refl, ap, sym, ◌∙◌, arith, append_assoc}
-use Rattle.std.specs.Char.{is_ascii_digit}
 use Rattle.std.specs.Fmt.{decimal}
-use Rattle.std.specs.List.{All, list_all, slice_split}
-use Rattle.std.proofs.lemmas.Bool.{and_parts}
+use Rattle.std.specs.List.{AllByRecursion, list_all}
+use Rattle.std.proofs.lemmas.Bool.{and_parts, ltb-true}
 use Rattle.std.proofs.lemmas.Bool.Decides.{nat_tests}
-use Rattle.std.proofs.lemmas.Fmt.{digits_decimal}
 use Rattle.std.proofs.lemmas.List.{take_all, take_more}
-use Rattle.std.proofs.lemmas.List.Sums.{AllPass-from_list_all}
-use Rattle.std.proofs.lemmas.List.Splits.{slice_split_at, slice_split_none}
-use Rattle.key_values.proofs.Digits.{number_of_decimal, own}
-use Rattle.printer_profile.specs.Values.{curve_of_parts, curve_text, curve_written, is_comma, points_of}
+use Rattle.key_values.specs.Lists.{list_text}
+use Rattle.key_values.proofs.Lists.{numbers_read, parts_written}
+use Rattle.printer_profile.specs.Values.{curve_of_parts, curve_text, curve_written, points_of}
 use Rattle.printer_profile.specs.Views.{has_points}
 
 pub below_257 : (n : ℕ) → ltb n 257 ≡ true → n ≤ 256
@@ -43,29 +40,11 @@ each_of_four curves a b c d (suc (suc (suc (suc i)))) within = absurd (omega ari
 
 -- ---- printed and read back
 
-no_comma : (b : ℕ) → is_ascii_digit b ≡ true → is_comma b ≡ false
-no_comma b h = grind (arith, nat_tests)
-
-pub digits_no_comma : (bytes : List ℕ) → list_all is_ascii_digit bytes ≡ true → All (λ b. is_comma b ≡ false) bytes
-digits_no_comma bytes h = λ i e m. no_comma _ (AllPass-from_list_all is_ascii_digit bytes h i e m)
-
-point_no_comma : (n : ℕ) → ltb n 257 ≡ true → All (λ b. is_comma b ≡ false) (decimal n)
-point_no_comma n h = digits_no_comma (decimal n) (digits_decimal own n (omega (arith, below_257 n h)))
-
-parts_read : (n : ℕ) (curve : List ℕ) → has_points (n ∷ curve) ≡ true
-    → slice_split is_comma (curve_text (n ∷ curve)) ≡ map decimal (n ∷ curve)
-unfolding curve_text
-parts_read n [] h = slice_split_none is_comma (decimal n) (point_no_comma n (and_parts (ltb n 257) true h).0)
-parts_read n (m ∷ curve) h =
-    let both = and_parts (ltb n 257) (has_points (m ∷ curve)) h in
-    slice_split_at is_comma (decimal n) 44 (curve_text (m ∷ curve)) (point_no_comma n both.0) refl
-    ∙ ap (λ parts. decimal n ∷ parts) (parts_read m curve both.1)
-
-points_read : (curve : List ℕ) → has_points curve ≡ true → points_of (map decimal curve) ≡ Some curve
-points_read [] h = refl
-points_read (n ∷ curve) h =
+all_below : (curve : List ℕ) → has_points curve ≡ true → AllByRecursion (λ point. point < 257) curve
+all_below [] h = tt
+all_below (n ∷ curve) h =
     let both = and_parts (ltb n 257) (has_points curve) h in
-    rw (number_of_decimal 0 256 n (omega arith) (below_257 n both.0) (omega arith), points_read curve both.1) refl
+    (ltb-true n 257 both.0, all_below curve both.1)
 
 same_length : (curve : List ℕ) → length (map decimal curve) ≡ length curve
 same_length [] = refl
@@ -78,19 +57,20 @@ pub curve_read : (curve : List ℕ) → length curve ≡ 17 → has_points curve
 unfolding curve_written
 curve_read [] long h = absurd (omega arith)
 curve_read (n ∷ curve) long h =
-    ap curve_of_parts (parts_read n curve h)
+    let small = all_below (n ∷ curve) h in
+    ap curve_of_parts (parts_written 257 n curve (omega arith) small)
     ∙ of_17 (map decimal (n ∷ curve)) (same_length (n ∷ curve) ∙ long)
-    ∙ points_read (n ∷ curve) h
+    ∙ numbers_read 256 257 (n ∷ curve) refl (omega arith) small
 
 -- ---- printed point by point
 
 pub curve_first : (curve : List ℕ) → 0 < length curve → curve_text (take 1 curve) ≡ decimal (get_or curve 0 0)
-unfolding curve_text
+unfolding list_text
 curve_first [] some = absurd (omega arith)
 curve_first (n ∷ curve) some = refl
 
 one_more : (xs : List ℕ) (n : ℕ) → 0 < length xs → curve_text (xs ++ n ∷ []) ≡ curve_text xs ++ (44 ∷ decimal n)
-unfolding curve_text
+unfolding list_text
 one_more [] n some = absurd (omega arith)
 one_more (a ∷ []) n some = refl
 one_more (a ∷ b ∷ xs) n some =

@@ -21,6 +21,7 @@ use Rattle.printer_profile.specs.Keys.{all_keys, row_of}
 use Rattle.printer_profile.specs.Text.{head_of, is_given, key_line, nothing, profile_given, profile_text}
 use Rattle.printer_profile.specs.Text.{profile_text_of, with_key, with_line, with_lines}
 use Rattle.key_values.specs.Numbers.{number_within}
+use Rattle.key_values.specs.Lists.{list_text}
 use Rattle.printer_profile.specs.Values.{curve_text, curve_written, ink_set_name, ink_set_named}
 use Rattle.printer_profile.specs.Views.{has_points}
 use Rattle.printer_profile.specs.declared.keys.Version.TheVariants.{Two}
@@ -162,7 +163,7 @@ digits_printable : (n : ℕ) → ltb n 257 ≡ true → list_all printable (deci
 digits_printable n small = decimal_printable 256 n (below_257 n small) (omega arith)
 
 curve_printable : (curve : List ℕ) → has_points curve ≡ true → list_all printable (curve_text curve) ≡ true
-unfolding curve_text printable
+unfolding list_text printable
 curve_printable [] h = refl
 curve_printable (n ∷ []) h = digits_printable n (and_parts (ltb n 257) true h).0
 curve_printable (n ∷ m ∷ curve) h =

@@ -4,8 +4,7 @@ use Rattle.std.specs.Prelude.{slice_set, Option, Some, None, Result, Ok, Err}
 use Rattle.std.specs.Fmt.{decimal}
 use Rattle.std.specs.Option.{option_map}
 use Rattle.std.specs.Str.{bytes_eq}
-use Rattle.printer_definitions.specs.declared.inks.InkSet.TheVariants.{K}
-use Rattle.printer_definitions.specs.Printer.{Printer, straight_curve}
+use Rattle.printer_definitions.specs.Printer.{Printer, tiny1}
 use Rattle.printer_profile.specs.declared.keys.Key.{Key}
 use Rattle.printer_profile.specs.declared.keys.Key.TheVariants as key
 use Rattle.printer_profile.specs.declared.keys.Version.{Version}
@@ -115,21 +114,13 @@ name_of (Some key) = (row_of key).name
 abbrev pub name_at : ℕ → List ℕ
 name_at place = name_of (key_at place)
 
--- the profile before any key is set: the defaults, and 0 and `k` where there is no default
+-- the profile before any key is set: the defaults, which are the values of `tiny1`, and 0 and `k` where there is none
 abbrev pub unset : Printer
-unset = record {
+unset = record tiny1 {
   hdpi = 0;
   vdpi = 0;
   nozzles = 0;
   pitch = 0;
-  inks = K;
-  black_start = 0;
-  limits = 255 ∷ 255 ∷ 255 ∷ 255 ∷ [];
-  curves = straight_curve ∷ straight_curve ∷ straight_curve ∷ straight_curve ∷ [];
-  left = 0;
-  right = 0;
-  top = 0;
-  bottom = 0;
 }
 
 -- the profile with the new value, where the key takes it

@@ -2,7 +2,7 @@
 use Rattle.std.specs.Prelude.{ℕ, List, [], ◌∷◌, codes, find, Option}
 use Rattle.std.specs.Option.{option_map}
 use Rattle.std.specs.Str.{bytes_eq}
-use Rattle.printer_definitions.specs.Printer.{Printer, straight_curve, tiny1}
+use Rattle.printer_definitions.specs.Printer.{Printer, tiny1}
 use Rattle.printer_definitions.specs.declared.inks.InkSet.TheVariants.{Cmyk}
 
 -- A profile with a name.
@@ -39,7 +39,7 @@ p360cmyk = record tiny1 {
 }
 
 abbrev pub p720cmyk : Printer
-p720cmyk = record {
+p720cmyk = record tiny1 {
   hdpi = 720;
   vdpi = 720;
   nozzles = 31;
@@ -47,7 +47,6 @@ p720cmyk = record {
   inks = Cmyk;
   black_start = 64;
   limits = 255 ∷ 224 ∷ 224 ∷ 224 ∷ [];
-  curves = straight_curve ∷ straight_curve ∷ straight_curve ∷ straight_curve ∷ [];
   left = 90;
   right = 90;
   top = 240;

@@ -1,6 +1,7 @@
 use Rattle.std.proofs.Common.{◌≡◌, ℕ, ◌≤◌, ◌-◌, get_or, length, take}
 use Rattle.std.specs.List.{slice_split}
-use Rattle.printer_profile.specs.Values.{curve_written, is_comma}
+use Rattle.key_values.specs.Lists.{is_comma}
+use Rattle.printer_profile.specs.Values.{curve_written}
 use Rattle.printer_profile.proofs.CurveParts.{with_front}
 use Rattle.printer_profile.proofs.values.curve_of.Given as goal
 
