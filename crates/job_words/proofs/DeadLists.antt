@@ -6,8 +6,9 @@ use Rattle.std.specs.Option.{option_and_then, option_map}
 use Rattle.std.specs.Str.Parse.{digits_value}
 use Rattle.std.proofs.lemmas.Bool.Decides.{nat_tests}
 use Rattle.std.proofs.lemmas.List.{at_drop_more, at_drop_all}
+use Rattle.key_values.specs.Lists.{is_comma, with_number}
 use Rattle.key_values.specs.Numbers.{is_number, number_within}
-use Rattle.job_words.specs.DeadLists.{dead_value, if_rising, is_comma, is_rising, nozzles_of, with_number}
+use Rattle.job_words.specs.DeadLists.{dead_value, if_rising, is_rising, nozzles_of}
 
 -- the same, each number from the least that may follow to 254
 abbrev pub after : (ℕ → Option (List ℕ)) → Option ℕ → Option (List ℕ)

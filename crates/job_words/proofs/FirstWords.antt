@@ -3,7 +3,7 @@ use Rattle.std.proofs.Common.{◌≡◌, ℕ, zero, suc, ◌<◌, ◌≤◌, ◌
 use Rattle.std.proofs.Common.{Some, None, slice_get, add-one, length-drop, refl, ap, sym, ◌∙◌, arith}
 use Rattle.std.specs.List.{find, list_any, position_from}
 use Rattle.std.proofs.lemmas.Bool.Decides.{nat_tests}
-use Rattle.std.proofs.lemmas.List.{take_all, take_more}
+use Rattle.std.proofs.lemmas.List.{drop_more, length-take-le, take_all, take_more}
 use Rattle.std.proofs.lemmas.List.Folds.{list_any-append}
 use Rattle.std.proofs.lemmas.Option.{get_or_from_slice_get, slice_get_within}
 
@@ -23,6 +23,19 @@ pub taken : {X : Type 0} (xs : List X) (k : ℕ) (x : X) → slice_get xs k ≡ 
 taken xs k x here =
     take_more xs k x (slice_get_within xs k x here)
     ∙ ap (λ y. take k xs ++ y ∷ []) (get_or_from_slice_get xs k x x here)
+
+-- a word, in the list from it on
+pub left : (words : List (List ℕ)) (count : ℕ) (word : List ℕ)
+    → slice_get words count ≡ Some word → drop count words ≡ word ∷ drop (count + 1) words
+left words count word here =
+    drop_more words count [] (slice_get_within words count word here)
+    ∙ ap (λ w. w ∷ drop (count + 1) words) (get_or_from_slice_get words count word [] here)
+
+pub count_taken : (words : List (List ℕ)) (count : ℕ) (word : List ℕ)
+    → slice_get words count ≡ Some word → length (take count words) ≡ count
+count_taken words count word here =
+    let within : count < length words = slice_get_within words count word here in
+    length-take-le count words (omega arith)
 
 -- ---- whether a word passes
 
@@ -87,6 +100,31 @@ position_at p n (y ∷ xs) (suc k) x here none passes = by_test (p y) none (posi
       → cond test (Some n) (position_from p (n + 1) xs) ≡ Some (n + suc k)
   by_test true none later = cc
   by_test false none later = later none passes ∙ ap Some (omega arith)
+
+-- the first that passes is at its place
+pub placed : {X : Type 0} (p : X → Bool) (k : ℕ) (xs : List X) (n : ℕ)
+    → position_from p k xs ≡ Some n → (k ≤ n) × (n - k < length xs) × (find p xs ≡ slice_get xs (n - k))
+placed p k [] n h = cc
+placed p k (x ∷ xs) n h = by_test (p x) h (placed p (k + 1) xs n) where
+  by_test : (test : Bool) → cond test (Some k) (position_from p (k + 1) xs) ≡ Some n → (position_from p (k + 1) xs
+      ≡ Some n → (k + 1 ≤ n) × (n - (k + 1) < length xs) × (find p xs ≡ slice_get xs (n - (k + 1))))
+      → (k ≤ n) × (n - k < length (x ∷ xs)) × (cond test (Some x) (find p xs) ≡ slice_get (x ∷ xs) (n - k))
+  by_test true is later =
+      let here : k ≡ n = cc in
+      let first : n - k ≡ 0 = omega arith in
+      (omega arith, omega arith, rw first refl)
+  by_test false is later =
+      let at = later is in
+      let next : n - k ≡ suc (n - (k + 1)) = omega arith in
+      (omega arith, omega arith, rw next at.2)
+
+pub unplaced : {X : Type 0} (p : X → Bool) (k : ℕ) (xs : List X) → position_from p k xs ≡ None → find p xs ≡ None
+unplaced p k [] h = refl
+unplaced p k (x ∷ xs) h = by_test (p x) h (unplaced p (k + 1) xs) where
+  by_test : (test : Bool) → cond test (Some k) (position_from p (k + 1) xs) ≡ None
+      → (position_from p (k + 1) xs ≡ None → find p xs ≡ None) → cond test (Some x) (find p xs) ≡ None
+  by_test true is later = cc
+  by_test false is later = later is
 
 none_at_all : (p : List ℕ → Bool) (words : List (List ℕ)) (i : ℕ) → length words ≤ i
     → list_any p (take (i - 1) (drop 1 words)) ≡ false → list_any p (drop 1 words) ≡ false

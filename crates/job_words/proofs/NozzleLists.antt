@@ -1,20 +1,16 @@
 -- The numbers of a list of dead nozzles.
 use Rattle.std.proofs.Common.{◌≡◌, ℕ, ◌+◌, ◌-◌, ◌<◌, ◌≤◌, Bool, true, false, ◌&&◌, if◌then◌else◌, nat_lt, List, [], ◌∷◌}
-use Rattle.std.proofs.Common.{length, map, Option, Some, None, Ok, unwrap_or, refl, ap, ◌∙◌, subst, arith}
-use Rattle.std.specs.Char.{is_ascii_digit}
-use Rattle.std.specs.Fmt.{decimal}
-use Rattle.std.specs.List.{All, AllByRecursion, list_all, slice_split}
+use Rattle.std.proofs.Common.{length, Option, Some, None, Ok, unwrap_or, refl, ap, ◌∙◌, subst, arith}
+use Rattle.std.specs.List.{AllByRecursion, list_all, slice_split}
 use Rattle.std.specs.Option.{option_and_then}
 use Rattle.std.proofs.lemmas.Bool.{ltb-true, lt-ltb}
 use Rattle.std.proofs.lemmas.Bool.Decides.{nat_tests}
-use Rattle.std.proofs.lemmas.Fmt.{digits_decimal}
-use Rattle.std.proofs.lemmas.List.Sums.{AllPass-from_list_all}
-use Rattle.std.proofs.lemmas.List.Splits.{slice_split_at, slice_split_none}
 use Rattle.dead_nozzles.specs.Dead.{IsRising}
+use Rattle.key_values.specs.Lists.{is_comma, with_number}
 use Rattle.key_values.specs.Numbers.{number_within}
-use Rattle.key_values.proofs.Digits.{number_of_decimal, own}
+use Rattle.key_values.proofs.Lists.{numbers_read, parts_written}
 use Rattle.job_words.specs.declared.reading.Job.{Job}
-use Rattle.job_words.specs.DeadLists.{dead_text, dead_value, if_rising, is_comma, is_rising, nozzles_of, with_number}
+use Rattle.job_words.specs.DeadLists.{dead_text, dead_value, if_rising, is_rising, nozzles_of}
 use Rattle.job_words.specs.Jobs.{AreNozzles}
 use Rattle.job_words.specs.Meaning.{given, job_meaning}
 use Rattle.job_words.specs.Table.{dead_key}
@@ -93,25 +89,6 @@ nozzles_of_job words job means =
 
 -- ---- what is written
 
-no_comma : (b : ℕ) → is_ascii_digit b ≡ true → is_comma b ≡ false
-no_comma b h = grind (arith, nat_tests)
-
-number_no_comma : (n : ℕ) → n < 255 → All (λ b. is_comma b ≡ false) (decimal n)
-number_no_comma n small = λ i e m. no_comma _ (AllPass-from_list_all is_ascii_digit (decimal n) (digits_decimal own n (omega (arith, small))) i e m)
-
-parts_written : (n : ℕ) (others : List ℕ) → AllByRecursion (λ number. number < 255) (n ∷ others)
-    → slice_split is_comma (dead_text (n ∷ others)) ≡ map decimal (n ∷ others)
-unfolding dead_text
-parts_written n [] small = slice_split_none is_comma (decimal n) (number_no_comma n small.0)
-parts_written n (m ∷ others) small =
-    slice_split_at is_comma (decimal n) 44 (dead_text (m ∷ others)) (number_no_comma n small.0) refl
-    ∙ ap (λ parts. decimal n ∷ parts) (parts_written m others small.1)
-
-numbers_read : (numbers : List ℕ) → AllByRecursion (λ number. number < 255) numbers → nozzles_of (map decimal numbers) ≡ Some numbers
-numbers_read [] small = refl
-numbers_read (n ∷ others) small =
-    rw (number_of_decimal 0 254 n (omega arith) (omega (arith, small.0)) (omega arith), numbers_read others small.1) refl
-
 all_pass : (n : ℕ) (others : List ℕ) → AllByRecursion (λ other. n < other) others → list_all (λ other. nat_lt n other) others ≡ true
 all_pass n [] all = refl
 all_pass n (m ∷ others) all = rw (lt-ltb n m all.0, all_pass n others all.1) refl
@@ -125,6 +102,6 @@ pub written_is_read : (numbers : List ℕ) → 1 ≤ length numbers → IsRising
 unfolding dead_value
 written_is_read [] some rising small = absurd (omega arith)
 written_is_read (n ∷ others) some rising small =
-    ap (λ parts. option_and_then if_rising (nozzles_of parts)) (parts_written n others small)
-    ∙ ap (option_and_then if_rising) (numbers_read (n ∷ others) small)
+    ap (λ parts. option_and_then if_rising (nozzles_of parts)) (parts_written 255 n others (omega arith) small)
+    ∙ ap (option_and_then if_rising) (numbers_read 254 255 (n ∷ others) refl (omega arith) small)
     ∙ rw (rising_passes (n ∷ others) rising) refl

@@ -1,7 +1,6 @@
 -- The profile of a job.
-use Rattle.std.proofs.Common.{◌≡◌, ℕ, ◌<◌, ◌≤◌, ◌+◌, ◌-◌, Bool, true, false, cond, List, [], ◌∷◌, length, drop, codes, Option, Some, None}
-use Rattle.std.proofs.Common.{Ok, unwrap_or, slice_get, suc, length-drop, refl, ap, sym, ◌∙◌, arith}
-use Rattle.std.specs.List.{find, position_from}
+use Rattle.std.proofs.Common.{◌≡◌, ℕ, ◌<◌, ◌+◌, ◌-◌, List, [], ◌∷◌, length, drop, codes, Option, Some, None}
+use Rattle.std.proofs.Common.{Ok, unwrap_or, slice_get, length-drop, refl, ap, sym, ◌∙◌, arith}
 use Rattle.std.specs.Option.{option_map}
 use Rattle.job_words.specs.declared.usage.UsageFault.{UsageFault}
 use Rattle.job_words.specs.Table.{CommandRow, command_named, profile_key}
@@ -9,7 +8,7 @@ use Rattle.key_values.specs.Pairs.{value_of}
 use Rattle.job_words.specs.Meaning.{gives, given, refused, given_profile_word, job_of, job_unless}
 use Rattle.job_words.specs.Meaning.{command_meaning, job_meaning, profile_named}
 use Rattle.job_words.specs.declared.reading.Job.{Job}
-use Rattle.job_words.proofs.FirstWords.{behind}
+use Rattle.job_words.proofs.FirstWords.{behind, placed, unplaced}
 
 -- a job has the number of the profile's word
 job_number : (words : List (List ℕ)) (job : Job)
@@ -26,31 +25,6 @@ job_number (name ∷ words) job h = by_command (command_named name) h where
       → command_meaning words command ≡ Ok job → unwrap_or (given_profile_word words) 0 ≡ job.profile_word
   by_command None is = cc
   by_command (Some command) is = by_faults command (refused command.keys words []) is
-
--- the first that passes is at its place
-placed : {X : Type 0} (p : X → Bool) (k : ℕ) (xs : List X) (n : ℕ)
-    → position_from p k xs ≡ Some n → (k ≤ n) × (n - k < length xs) × (find p xs ≡ slice_get xs (n - k))
-placed p k [] n h = cc
-placed p k (x ∷ xs) n h = by_test (p x) h (placed p (k + 1) xs n) where
-  by_test : (test : Bool) → cond test (Some k) (position_from p (k + 1) xs) ≡ Some n → (position_from p (k + 1) xs
-      ≡ Some n → (k + 1 ≤ n) × (n - (k + 1) < length xs) × (find p xs ≡ slice_get xs (n - (k + 1))))
-      → (k ≤ n) × (n - k < length (x ∷ xs)) × (cond test (Some x) (find p xs) ≡ slice_get (x ∷ xs) (n - k))
-  by_test true is later =
-      let here : k ≡ n = cc in
-      let first : n - k ≡ 0 = omega arith in
-      (omega arith, omega arith, rw first refl)
-  by_test false is later =
-      let at = later is in
-      let next : n - k ≡ suc (n - (k + 1)) = omega arith in
-      (omega arith, omega arith, rw next at.2)
-
-unplaced : {X : Type 0} (p : X → Bool) (k : ℕ) (xs : List X) → position_from p k xs ≡ None → find p xs ≡ None
-unplaced p k [] h = refl
-unplaced p k (x ∷ xs) h = by_test (p x) h (unplaced p (k + 1) xs) where
-  by_test : (test : Bool) → cond test (Some k) (position_from p (k + 1) xs) ≡ None
-      → (position_from p (k + 1) xs ≡ None → find p xs ≡ None) → cond test (Some x) (find p xs) ≡ None
-  by_test true is later = cc
-  by_test false is later = later is
 
 -- the two cases of a job's profile
 pub default_profile : (words : List (List ℕ)) (job : Job)

@@ -1,26 +1,11 @@
 -- The words of a command line, one after the other.
-use Rattle.std.proofs.Common.{◌≡◌, ℕ, ◌<◌, ◌≤◌, ◌+◌, List, [], ◌∷◌, ◌++◌, length, take, drop, Option, Some, None}
-use Rattle.std.proofs.Common.{slice_get, refl, ap, ◌∙◌, arith}
+use Rattle.std.proofs.Common.{◌≡◌, ℕ, ◌≤◌, ◌+◌, List, [], ◌++◌, length, take, drop, Option, Some, None}
+use Rattle.std.proofs.Common.{slice_get, refl, ◌∙◌}
 use Rattle.std.proofs.Math.ListN.{drop_of_length-le}
-use Rattle.std.proofs.lemmas.List.{drop_more, length-take-le}
-use Rattle.std.proofs.lemmas.Option.{get_or_from_slice_get, slice_get_within}
 use Rattle.job_words.specs.declared.usage.UsageCause.{UsageCause}
 use Rattle.job_words.specs.Table.{KeyRow}
 use Rattle.job_words.specs.Meaning.{refused, word_fault, faults_at, fault_at}
-use Rattle.job_words.proofs.FirstWords.{taken}
-
--- a word, in the list from it on
-left : (words : List (List ℕ)) (count : ℕ) (word : List ℕ)
-    → slice_get words count ≡ Some word → drop count words ≡ word ∷ drop (count + 1) words
-left words count word here =
-    drop_more words count [] (slice_get_within words count word here)
-    ∙ ap (λ w. w ∷ drop (count + 1) words) (get_or_from_slice_get words count word [] here)
-
-count_taken : (words : List (List ℕ)) (count : ℕ) (word : List ℕ)
-    → slice_get words count ≡ Some word → length (take count words) ≡ count
-count_taken words count word here =
-    let within : count < length words = slice_get_within words count word here in
-    length-take-le count words (omega arith)
+use Rattle.job_words.proofs.FirstWords.{count_taken, left, taken}
 
 -- the first of the words after the command are accepted
 abbrev pub AreAccepted : List KeyRow → List (List ℕ) → ℕ → Type 0

@@ -1,23 +1,12 @@
 -- Lists of dead nozzles: numbers in rising order, with commas between.
-use Rattle.std.specs.Prelude.{ℕ, ◌==◌, Bool, true, ◌&&◌, nat_lt, if◌then◌else◌, List, [], ◌∷◌, map, Option, Some, None}
-use Rattle.std.specs.Fmt.{decimal}
-use Rattle.std.specs.List.{join_with_byte, list_all, slice_split}
-use Rattle.std.specs.Option.{option_and_then, option_map}
-use Rattle.key_values.specs.Numbers.{number_within}
-
--- whether a byte is a comma
-abbrev pub is_comma : ℕ → Bool
-is_comma byte = byte == 44
-
--- the numbers with one more in front
-abbrev pub with_number : Option ℕ → Option (List ℕ) → Option (List ℕ)
-with_number None numbers = None
-with_number (Some number) numbers = option_map (λ others. number ∷ others) numbers
+use Rattle.std.specs.Prelude.{ℕ, Bool, true, ◌&&◌, nat_lt, if◌then◌else◌, List, [], ◌∷◌, Option, Some, None}
+use Rattle.std.specs.List.{list_all, slice_split}
+use Rattle.std.specs.Option.{option_and_then}
+use Rattle.key_values.specs.Lists.{is_comma, list_text, numbers_within}
 
 -- the nozzles that texts write, if each is a number from 0 to 254
 abbrev pub nozzles_of : List (List ℕ) → Option (List ℕ)
-nozzles_of [] = Some []
-nozzles_of (text ∷ texts) = with_number (number_within 0 254 text) (nozzles_of texts)
+nozzles_of texts = numbers_within 0 254 texts
 
 -- whether each number is below all after it
 abbrev pub is_rising : List ℕ → Bool
@@ -33,5 +22,5 @@ unfoldable pub dead_value : List ℕ → Option (List ℕ)
 dead_value text = option_and_then if_rising (nozzles_of (slice_split is_comma text))
 
 -- the text of a list of dead nozzles
-unfoldable pub dead_text : List ℕ → List ℕ
-dead_text numbers = join_with_byte 44 (map decimal numbers)
+abbrev pub dead_text : List ℕ → List ℕ
+dead_text numbers = list_text numbers

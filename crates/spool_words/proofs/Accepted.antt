@@ -10,7 +10,7 @@ use Rattle.std.proofs.lemmas.List.Splits.{length-slice_split}
 use Rattle.std.proofs.lemmas.List.Sums.{length-filter, sum_by_push}
 use Rattle.std.proofs.lemmas.Slice.Eq.{bytes_eq-Decides}
 use Rattle.key_values.specs.Pairs.{is_key_value, key_of, value_of}
-use Rattle.job_words.specs.DeadLists.{is_comma}
+use Rattle.key_values.specs.Lists.{is_comma}
 use Rattle.job_words.specs.Meaning.{given, gives}
 use Rattle.job_words.specs.Table.{profile_key, workers_key}
 use Rattle.job_words.proofs.Bounds.{given_between}

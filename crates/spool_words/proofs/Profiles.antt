@@ -1,44 +1,19 @@
 -- The profile that words ask for.
-use Rattle.std.proofs.Common.{◌≡◌, ℕ, ◌<◌, ◌≤◌, ◌+◌, ◌-◌, Bool, true, false, cond, List, [], ◌∷◌, length, codes, Option, Some, None}
-use Rattle.std.proofs.Common.{Ok, unwrap_or, slice_get, suc, refl, ap, sym, ◌∙◌, arith}
-use Rattle.std.specs.List.{find, position_from}
+use Rattle.std.proofs.Common.{◌≡◌, ℕ, ◌<◌, ◌-◌, List, length, codes, Option, Some, None}
+use Rattle.std.proofs.Common.{Ok, unwrap_or, slice_get, refl, ap, sym, ◌∙◌, arith}
 use Rattle.std.specs.Option.{option_map}
 use Rattle.key_values.specs.Pairs.{value_of}
 use Rattle.job_words.specs.Meaning.{given, gives}
 use Rattle.job_words.specs.Table.{profile_key}
 use Rattle.spool_words.specs.declared.reading.SpoolRequest.{SpoolRequest}
 use Rattle.spool_words.specs.Meaning.{given_profile_word, profile_named, spool_meaning}
+use Rattle.job_words.proofs.FirstWords.{placed, unplaced}
 use Rattle.spool_words.proofs.Accepted.{words_accepted}
 
 -- a request has the number of the profile's word
 request_number : (words : List (List ℕ)) (request : SpoolRequest) → spool_meaning words ≡ Ok request
     → unwrap_or (given_profile_word words) 0 ≡ request.profile_word
 request_number words request h = ap (λ (r : SpoolRequest). r.profile_word) (words_accepted words request h).request_is
-
--- the first that passes is at its place
-placed : {X : Type 0} (p : X → Bool) (k : ℕ) (xs : List X) (n : ℕ)
-    → position_from p k xs ≡ Some n → (k ≤ n) × (n - k < length xs) × (find p xs ≡ slice_get xs (n - k))
-placed p k [] n h = cc
-placed p k (x ∷ xs) n h = by_test (p x) h (placed p (k + 1) xs n) where
-  by_test : (test : Bool) → cond test (Some k) (position_from p (k + 1) xs) ≡ Some n → (position_from p (k + 1) xs
-      ≡ Some n → (k + 1 ≤ n) × (n - (k + 1) < length xs) × (find p xs ≡ slice_get xs (n - (k + 1))))
-      → (k ≤ n) × (n - k < length (x ∷ xs)) × (cond test (Some x) (find p xs) ≡ slice_get (x ∷ xs) (n - k))
-  by_test true is later =
-      let here : k ≡ n = cc in
-      let first : n - k ≡ 0 = omega arith in
-      (omega arith, omega arith, rw first refl)
-  by_test false is later =
-      let at = later is in
-      let next : n - k ≡ suc (n - (k + 1)) = omega arith in
-      (omega arith, omega arith, rw next at.2)
-
-unplaced : {X : Type 0} (p : X → Bool) (k : ℕ) (xs : List X) → position_from p k xs ≡ None → find p xs ≡ None
-unplaced p k [] h = refl
-unplaced p k (x ∷ xs) h = by_test (p x) h (unplaced p (k + 1) xs) where
-  by_test : (test : Bool) → cond test (Some k) (position_from p (k + 1) xs) ≡ None
-      → (position_from p (k + 1) xs ≡ None → find p xs ≡ None) → cond test (Some x) (find p xs) ≡ None
-  by_test true is later = cc
-  by_test false is later = later is
 
 -- the two cases of a request's profile
 pub default_profile : (words : List (List ℕ)) (request : SpoolRequest)

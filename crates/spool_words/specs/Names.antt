@@ -1,7 +1,7 @@
 -- The names of files that a word lists.
 use Rattle.std.specs.Prelude.{ℕ, Bool, nat_le, ◌&&◌, List, length}
 use Rattle.std.specs.List.{list_all, slice_split}
-use Rattle.job_words.specs.DeadLists.{is_comma}
+use Rattle.key_values.specs.Lists.{is_comma}
 
 -- the names in a text: what stands between its commas; a text without a comma is one name
 abbrev pub names_in : List ℕ → List (List ℕ)

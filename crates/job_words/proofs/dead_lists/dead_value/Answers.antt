@@ -4,7 +4,7 @@ use Rattle.std.proofs.lemmas.Iterator.Splits.{YieldsList-from_str_split}
 use Rattle.std.proofs.lemmas.List.{length_push}
 use Rattle.std.specs.List.{slice_split}
 use Rattle.std.specs.Option.{option_map}
-use Rattle.job_words.specs.DeadLists.{is_comma}
+use Rattle.key_values.specs.Lists.{is_comma}
 use Rattle.job_words.proofs.Bounds.{number_between}
 use Rattle.job_words.proofs.DeadLists.{all_numbers, bad_number, dead_start, good_number, with_front}
 use Rattle.job_words.proofs.dead_lists.dead_value.Goals as goal

@@ -1,6 +1,7 @@
 use Rattle.std.proofs.Common.{◌≡◌, ◌≤◌, drop, length}
 use Rattle.std.specs.List.{slice_split}
-use Rattle.job_words.specs.DeadLists.{dead_value, is_comma}
+use Rattle.key_values.specs.Lists.{is_comma}
+use Rattle.job_words.specs.DeadLists.{dead_value}
 use Rattle.job_words.proofs.DeadLists.{with_front}
 use Rattle.job_words.proofs.dead_lists.dead_value.Given as goal
 
