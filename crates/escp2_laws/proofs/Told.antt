@@ -98,6 +98,15 @@ pub wrong-byte : (read : List ℕ → Heard) (before : List ℕ) (n : ℕ) (rest
 wrong-byte read before n rest place cause there wrong =
     record { front = n ∷ []; rest = rest; is = refl; least = omega (arith, there); most = omega (arith, there); told = wrong }
 
+-- a fault that the second of two bytes shows
+wrong-two : (read : List ℕ → Heard) (before : List ℕ) (low high : ℕ) (rest : List ℕ) (place : ℕ) (cause : JobCause)
+    → place < length before + 2 → length before ≤ place → ((more : List ℕ) → read (low ∷ high ∷ more) ≡ Wrong place cause)
+    → Told read before (low ∷ high ∷ rest) (read (low ∷ high ∷ rest))
+wrong-two read before low high rest place cause least most wrong =
+    let P : Heard → Type 0 = Told read before (low ∷ high ∷ rest) in
+    subst P (sym (wrong rest))
+    (record { front = low ∷ high ∷ []; rest = rest; is = refl; least = least; most = omega arith; told = wrong })
+
 -- a number of one byte
 pub told-number : (in_range : ℕ → Bool) (at : ℕ) (next : ℕ → List ℕ → Heard) (before bytes : List ℕ) → at ≡ length before
     → ((n : ℕ) → in_range n ≡ true → (rest : List ℕ) → Told (next n) (before ++ n ∷ []) rest (next n rest))
@@ -145,16 +154,7 @@ told-wide in_range at next before (low ∷ high ∷ rest) there after = by_test 
     by_test false e =
         let wrong : (more : List ℕ) → wide_number in_range at next (low ∷ high ∷ more) ≡ Wrong at BadValue =
         λ more. ap (λ b. if b then next n more else Wrong at BadValue) e in
-        let P : Heard → Type 0 = Told (wide_number in_range at next) before (low ∷ high ∷ rest) in
-        subst P (sym (wrong rest))
-        (record {
-          front = low ∷ high ∷ [];
-          rest = rest;
-          is = refl;
-          least = omega (arith, there);
-          most = omega (arith, there);
-          told = wrong;
-        })
+        wrong-two (wide_number in_range at next) before low high rest at BadValue (omega (arith, there)) (omega (arith, there)) wrong
 
 -- ---- lengths
 
@@ -184,16 +184,7 @@ told-sized len next before (low ∷ bytes) there after = by_low (low == len) ref
         let wrong : (more : List ℕ) → sized len next (low ∷ high ∷ more) ≡ Wrong 4 BadLength =
         λ more. ap (λ b. if b then (if high == 0 then next more else Wrong 4 BadLength) else Wrong 3 BadLength) e
         ∙ ap (λ b. if b then next more else Wrong 4 BadLength) not_zero in
-        let P : Heard → Type 0 = Told (sized len next) before (low ∷ high ∷ rest) in
-        subst P (sym (wrong rest))
-        (record {
-          front = low ∷ high ∷ [];
-          rest = rest;
-          is = refl;
-          least = omega (arith, there);
-          most = omega (arith, there);
-          told = wrong;
-        })
+        wrong-two (sized len next) before low high rest 4 BadLength (omega (arith, there)) (omega (arith, there)) wrong
 
     by_low : (b : Bool) → (low == len) ≡ b → (bytes : List ℕ) → Told (sized len next) before (low ∷ bytes) (sized len next (low ∷ bytes))
     by_low true e [] =
