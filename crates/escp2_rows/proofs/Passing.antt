@@ -219,45 +219,49 @@ Weak row e n = upto row e ≤ upto row n
 abbrev Strong : List ℕ → ℕ → ℕ → Type 0
 Strong row e n = upto row e < upto row n
 
--- a literal at a place goes on up to here
-literal_at : (row : List ℕ) (n : ℕ) → n < length row → equal_at (drop n row) ≡ 1 → ByLiteral (drop n row)
-literal_at row n less alone = literal_is_least (drop n row) (omega (arith, length-drop n row)) alone
+-- Where a literal at a place ends that costs least.
+record LiteralFrom (row : List ℕ) (n : ℕ) : Type 0 where
+  end : ℕ
+  after : n < end
+  near : end ≤ n + 128
+  within : end ≤ length row
+  is : fewest (drop n row) ≡ 1 + (end - n) + fewest (drop end row)
+
+literal_from : (row : List ℕ) (n : ℕ) → n < length row → equal_at (drop n row) ≡ 1 → LiteralFrom row n
+literal_from row n less alone =
+    let lit : ByLiteral (drop n row) = literal_is_least (drop n row) (omega (arith, length-drop n row)) alone in
+    record {
+      end = n + lit.count;
+      after = omega (arith, lit.some);
+      near = omega (arith, lit.few);
+      within = omega (arith, lit.within, length-drop n row);
+      is = omega (arith, lit.is, ap fewest (drop-drop lit.count n row));
+    }
 
 single_weak : (row : List ℕ) (n e : ℕ) → n < e → e ≤ length row → equal_at (drop n row) ≡ 1 → ((k : ℕ) → n < k → k ≤ e → Weak row e k) → Weak row e n
-single_weak row n e less within alone later =
-    let lit : ByLiteral (drop n row) = literal_at row n (omega arith) alone in
-    let there : fewest (drop lit.count (drop n row)) ≡ fewest (drop (n + lit.count) row) = ap fewest (drop-drop lit.count n row) in
-    by_place lit there (cases_lt e (n + lit.count))
+single_weak row n e less within alone later = by_end (literal_from row n (omega arith) alone)
   where
-    by_place : (lit : ByLiteral (drop n row)) → fewest (drop lit.count (drop n row)) ≡ fewest (drop (n + lit.count) row)
-        → (e < n + lit.count) ⊎ (n + lit.count ≤ e) → Weak row e n
-    by_place lit there (inl far) =
-        omega (
-          arith,
-          lit.is,
-          there,
-          literal_between row e (n + lit.count) far (omega (arith, lit.few, less)) (omega (arith, lit.within, length-drop n row, less, within)),
-        )
-    by_place lit there (inr near) = omega (arith, lit.is, there, later (n + lit.count) (omega (arith, lit.some)) near)
+    by_end : LiteralFrom row n → Weak row e n
+    by_end lit = elim (cases_lt e lit.end) [
+      | inl far ↦ omega (arith, lit.is, lit.after, literal_between row e lit.end far (omega (arith, lit.near, less)) lit.within)
+      | inr near ↦ omega (arith, lit.is, lit.after, later lit.end lit.after near)
+    ]
 
 single_strong : (row : List ℕ) (n e : ℕ) → n < e → e ≤ length row → equal_at (drop n row) ≡ 1 → IsStop (drop e row)
     → ((k : ℕ) → n < k → k ≤ e → Weak row e k) → Strong row e n
-single_strong row n e less within alone stop later =
-    let lit : ByLiteral (drop n row) = literal_at row n (omega arith) alone in
-    let there : fewest (drop lit.count (drop n row)) ≡ fewest (drop (n + lit.count) row) = ap fewest (drop-drop lit.count n row) in
-    by_place lit there (cases_lt e (n + lit.count))
+single_strong row n e less within alone stop later = by_end (literal_from row n (omega arith) alone)
   where
-    by_place : (lit : ByLiteral (drop n row)) → fewest (drop lit.count (drop n row)) ≡ fewest (drop (n + lit.count) row)
-        → (e < n + lit.count) ⊎ (n + lit.count ≤ e) → Strong row e n
-    by_place lit there (inl far) =
-        omega (
-          arith,
-          lit.is,
-          there,
-          stop.less (n + lit.count - e) (omega arith) (omega (arith, lit.few, less)) (omega (arith, lit.within, length-drop n row, length-drop e row, less, within)),
-          cost_behind row e (n + lit.count) (omega arith),
-        )
-    by_place lit there (inr near) = omega (arith, lit.is, there, later (n + lit.count) (omega (arith, lit.some)) near)
+    by_end : LiteralFrom row n → Strong row e n
+    by_end lit = elim (cases_lt e lit.end) [
+      | inl far ↦ omega (
+        arith,
+        lit.is,
+        lit.after,
+        stop.less (lit.end - e) (omega arith) (omega (arith, lit.near, less)) (omega (arith, lit.within, length-drop e row)),
+        cost_behind row e lit.end (omega arith),
+      )
+      | inr near ↦ omega (arith, lit.is, lit.after, later lit.end lit.after near)
+    ]
 
 -- a run of two or three
 run_at : (row : List ℕ) (n s : ℕ) → equal_at (drop n row) ≡ s → 2 ≤ s → fewest (drop n row) ≡ 2 + fewest (drop (n + s) row)
