@@ -9,9 +9,10 @@ use Rattle.base_definitions.specs.Counting.{count_from}
 use Rattle.weave_definitions.specs.Weave.{pass_count}
 use Rattle.weave_definitions.proofs.Rounds.{Inverse, inverse}
 use Rattle.weave_definitions.proofs.Rows.{Counts, StandsOn, pass-low, place-only, row_under as weave_row}
+use Rattle.weave_definitions.proofs.Firings.{count-flat}
 use Rattle.dead_nozzles.specs.Dead.{has}
 use Rattle.dead_nozzles.specs.Strokes.{Head, Shot, HeadStroke, firings_of, head_rows, is_fired, regular_strokes, row_under, shot, stroke_at}
-use Rattle.dead_nozzles.proofs.Lists.{One, Nowhere, Tells, both-true, count-cons, count-flat, sum-map, sum-tells}
+use Rattle.dead_nozzles.proofs.Lists.{One, Nowhere, Tells, both-true, count-cons, sum-map, sum-tells}
 
 -- how often a row is fired
 abbrev pub count : ℕ → List Shot → ℕ

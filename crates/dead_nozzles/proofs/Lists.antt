@@ -9,15 +9,6 @@ use Rattle.dead_nozzles.specs.Dead.{has}
 
 -- ---- sums
 
--- a list that is put together has as many as its parts
-pub count-flat : {X Y : Type 0} (test : Y → Bool) (f : X → List Y) (xs : List X)
-    → count_by test (flat_map f xs) ≡ sum_by (λ x. count_by test (f x)) xs
-count-flat test f [] = refl
-count-flat test f (x ∷ xs) =
-    sum_by-append (λ y. cond (test y) 1 0) (f x) (flat_map f xs)
-    ∙ ap (λ n. count_by test (f x) + n) (count-flat test f xs)
-    ∙ sym (sum_by-cons (λ x. count_by test (f x)) x xs)
-
 pub sum-map : {X Y : Type 0} (g : Y → ℕ) (f : X → Y) (xs : List X) → sum_by g (map f xs) ≡ sum_by (λ x. g (f x)) xs
 sum-map g f [] = refl
 sum-map g f (x ∷ xs) =

@@ -80,14 +80,6 @@ count-append test xs ys = sum_by-append (λ x. cond (test x) 1 0) xs ys
 pub count-cons : {X : Type 0} (test : X → Bool) (x : X) (xs : List X) → count_by test (x ∷ xs) ≡ cond (test x) 1 0 + count_by test xs
 count-cons test x xs = sum_by-cons (λ x. cond (test x) 1 0) x xs
 
--- a list that is put together has as many as its parts
-pub count-flat : {X Y : Type 0} (test : Y → Bool) (f : X → List Y) (xs : List X)
-    → count_by test (flat_map f xs) ≡ sum_by (λ x. count_by test (f x)) xs
-count-flat test f [] = refl
-count-flat test f (x ∷ xs) =
-    count-append test (f x) (flat_map f xs)
-    ∙ ap (λ n. count_by test (f x) + n) (count-flat test f xs) ∙ sym (sum_by-cons (λ x. count_by test (f x)) x xs)
-
 -- lists that are put together hold as much as their parts
 pub flat-most : {X Y : Type 0} (test : Y → Bool) (f : X → List Y) (g : X → ℕ) (xs : List X) → ((x : X) → count_by test (f x) ≤ g x)
     → count_by test (flat_map f xs) ≤ sum_by g xs

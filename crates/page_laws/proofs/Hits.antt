@@ -11,7 +11,8 @@ use Rattle.page_definitions.specs.Dots.{Halftone, dots_wanted, place_of}
 use Rattle.page_definitions.specs.Exact.{Exactly}
 use Rattle.page_definitions.specs.Strokes.{IsOnWindow, IsWhole, Stroke, Strokes, fired, row_fired, rows_fired, stroke_fired}
 use Rattle.separation_definitions.specs.CanPrint.{CanPrint}
-use Rattle.page_laws.proofs.Counts.{count-append, count-flat, each-of, sum-none, sum-plus, sum-same}
+use Rattle.weave_definitions.proofs.Firings.{count-flat}
+use Rattle.page_laws.proofs.Counts.{count-append, each-of, sum-none, sum-plus, sum-same}
 use Rattle.page_laws.proofs.Fired.{AllWide, on_window-first, on_window-next}
 use Rattle.page_laws.proofs.Once.{exactly, wanted-once}
 use Rattle.page_laws.proofs.Totals.{row-total, total, total-none, total-plus, total-same, wanted-total}

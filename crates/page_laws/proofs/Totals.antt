@@ -12,7 +12,8 @@ use Rattle.base_definitions.specs.Packed.{at}
 use Rattle.page_definitions.specs.Dots.{Halftone, dots_wanted, ink_wanted, pixel_dots, place_of, row_wanted}
 use Rattle.page_definitions.specs.Strokes.{row_fired}
 use Rattle.base_definitions.specs.Counting.{count_from}
-use Rattle.page_laws.proofs.Counts.{count-append, count-cons, count-flat, each-from, each-of, if-none, if-plus}
+use Rattle.weave_definitions.proofs.Firings.{count-flat}
+use Rattle.page_laws.proofs.Counts.{count-append, count-cons, each-from, each-of, if-none, if-plus}
 use Rattle.page_laws.proofs.Counts.{sum-none, sum-one, sum-plus, sum-same}
 
 -- ---- sums over a window

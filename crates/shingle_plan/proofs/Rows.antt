@@ -2,9 +2,10 @@
 -- nozzles is.
 use Rattle.std.proofs.Common.{◌≡◌, ℕ, ◌+◌, ◌-◌, ◌*◌, ◌<◌, ◌≤◌, Bool, true, false, cond, ◌&&◌, ◌==◌, inl, inr, nat_lt, nat_le}
 use Rattle.std.proofs.Common.{if◌then◌else◌, Option, None, Some, refl, sym, ◌∙◌, ap, arith}
-use Rattle.std.proofs.lemmas.Bool.{and_from, cases_eq, eq-eqb, eqb-true, false_from_ne_true, le-leb, leb-true, lt-ltb, ltb-true}
+use Rattle.std.proofs.lemmas.Bool.{and_from, cases_eq, false_from_ne_true, le-leb, leb-true, lt-ltb, ltb-true}
 use Rattle.std.specs.List.{count_by}
 use Rattle.weave_definitions.specs.Weave.{Firing, firing, nozzle_row}
+use Rattle.weave_definitions.proofs.Firings.{count-firing}
 use Rattle.weave_definitions.proofs.Rows.{row_under, stands_on}
 use Rattle.shingle_plan.specs.Shingles.{Shingle, fires_even, half, rows_above, shingle, shingle_row}
 
@@ -48,20 +49,6 @@ row_of n pitch height t i y s =
     ∙ ap Some same
 
 -- ---- how often one firing is on a row
-
-count-firing : (t i y : ℕ) (row : Option ℕ) → record {
-  hit : row ≡ Some y → count_by (λ (f : Firing). f.row == y) (firing t i row) ≡ 1;
-  miss : (row ≡ Some y → ⊥) → count_by (λ (f : Firing). f.row == y) (firing t i row) ≡ 0;
-}
-count-firing t i y None = record { hit = λ e. cc; miss = λ e. refl }
-count-firing t i y (Some row) = record {
-  hit = λ e. let same : row ≡ y = cc in ap (λ b. 0 + cond b 1 0) (eq-eqb row y same) ∙ omega arith;
-  miss = λ apart. by_test (row == y) refl apart;
-}
-  where
-    by_test : (b : Bool) → (row == y) ≡ b → (Some row ≡ Some y → ⊥) → 0 + cond b 1 0 ≡ 0
-    by_test true e apart = absurd (apart (ap Some (eqb-true row y e)))
-    by_test false e apart = omega arith
 
 -- only firings on row y pass the test
 abbrev pub IsOnly : (Shingle → Bool) → ℕ → Type 0

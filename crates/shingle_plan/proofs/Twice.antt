@@ -1,45 +1,25 @@
 -- The list of firings has each row of the window exactly twice. Each half of the head is a weave by half the nozzles:
 -- over the window as it is for the lower half, and for the upper half with as many rows above it as that is ahead.
-use Rattle.std.proofs.Common.{◌≡◌, ℕ, zero, suc, ◌+◌, ◌-◌, ◌*◌, ◌/◌, ◌<◌, ◌≤◌, Bool, true, false, cond, not, ◌&&◌, ◌==◌, nat_lt, nat_le}
+use Rattle.std.proofs.Common.{◌≡◌, ℕ, zero, suc, ◌+◌, ◌-◌, ◌*◌, ◌/◌, ◌<◌, ◌≤◌, Bool, true, false, not, ◌&&◌, ◌==◌, nat_lt, nat_le}
 use Rattle.std.proofs.Common.{if◌then◌else◌, List, [], ◌∷◌, refl, sym, ◌∙◌, ap, arith, zero-add}
 use Rattle.std.proofs.lemmas.Bool.{and_from, and_left, and_parts, and_right, eq-eqb, eqb-true, false_from_ne_true, le-leb, le-ltb, lt-leb, lt-ltb}
 use Rattle.std.proofs.lemmas.Bool.{ltb-false, ltb-true, not_from_false}
-use Rattle.std.proofs.lemmas.List.Sums.{sum_by-append}
+use Rattle.std.proofs.lemmas.List.Sums.{sum_by-cons}
 use Rattle.std.proofs.lemmas.Nat.{div-add-mod'}
 use Rattle.std.specs.List.{count_by, flat_map, sum_by}
 use Rattle.base_definitions.specs.Counting.{count_from}
 use Rattle.weave_definitions.specs.Weave.{Firing, firing, nozzle_row, pass_count, passes}
-use Rattle.weave_definitions.proofs.Firings.{each_row as each_weave_row}
+use Rattle.weave_definitions.proofs.Firings.{count-flat, each_row as each_weave_row, sum-none, sum-same}
 use Rattle.shingle_plan.specs.Fits.{Shingles}
 use Rattle.shingle_plan.specs.Shingles.{FiresEachRowTwice, Shingle, fires_even, half, rows_above, shingle, shingle_count, shingle_row, shingles}
 use Rattle.shingle_plan.proofs.Rows.{IsOnly, count-miss, lands, meets, times, weave_times}
 
 -- ---- sums
 
-sum-cons : {X : Type 0} (g : X → ℕ) (x : X) (xs : List X) → sum_by g (x ∷ xs) ≡ g x + sum_by g xs
-sum-cons g x xs =
-    let apart : sum_by g (x ∷ xs) ≡ sum_by g (x ∷ []) + sum_by g xs = sum_by-append g (x ∷ []) xs in
-    let single : sum_by g (x ∷ []) ≡ g x = zero-add _ in
-    apart ∙ ap (λ n. n + sum_by g xs) single
-
-sum-same : (g h : ℕ → ℕ) (xs : List ℕ) → ((x : ℕ) → g x ≡ h x) → sum_by g xs ≡ sum_by h xs
-sum-same g h [] same = refl
-sum-same g h (x ∷ xs) same = omega (arith, sum-cons g x xs, sum-cons h x xs, same x, sum-same g h xs same)
-
 sum-plus : (f g h : ℕ → ℕ) (xs : List ℕ) → ((x : ℕ) → f x ≡ g x + h x) → sum_by f xs ≡ sum_by g xs + sum_by h xs
 sum-plus f g h [] same = refl
 sum-plus f g h (x ∷ xs) same =
-    omega (arith, sum-cons f x xs, sum-cons g x xs, sum-cons h x xs, same x, sum-plus f g h xs same)
-
-sum-none : (g : ℕ → ℕ) (n many : ℕ) → ((k : ℕ) → n ≤ k → k < n + many → g k ≡ 0) → sum_by g (count_from n many) ≡ 0
-sum-none g n zero none = refl
-sum-none g n (suc many) none =
-    omega (
-      arith,
-      sum-cons g n (count_from (n + 1) many),
-      none n (omega arith) (omega arith),
-      sum-none g (n + 1) many (λ k from below. none k (omega arith) (omega arith)),
-    )
+    omega (arith, sum_by-cons f x xs, sum_by-cons g x xs, sum_by-cons h x xs, same x, sum-plus f g h xs same)
 
 -- two sums over as many numbers, term by term
 sum-along : (g h : ℕ → ℕ) (from to many : ℕ) → ((k : ℕ) → k < many → g (from + k) ≡ h (to + k))
@@ -51,8 +31,8 @@ sum-along g h from to (suc many) same =
     let first : g from ≡ h to = ap g here ∙ same 0 (omega arith) ∙ ap h there in
     omega (
       arith,
-      sum-cons g from (count_from (from + 1) many),
-      sum-cons h to (count_from (to + 1) many),
+      sum_by-cons g from (count_from (from + 1) many),
+      sum_by-cons h to (count_from (to + 1) many),
       first,
       sum-along g h (from + 1) (to + 1) many next,
     )
@@ -75,20 +55,11 @@ sum-split g from (suc k) m (suc all) e =
     let start : from + 1 + k ≡ from + suc k = omega arith in
     omega (
       arith,
-      sum-cons g from (count_from (from + 1) all),
-      sum-cons g from (count_from (from + 1) k),
+      sum_by-cons g from (count_from (from + 1) all),
+      sum_by-cons g from (count_from (from + 1) k),
       sum-split g (from + 1) k m all (omega (arith, e)),
       ap (λ v. sum_by g (count_from v m)) start,
     )
-
--- a list that is put together has as many as its parts
-count-flat : {X Y : Type 0} (test : Y → Bool) (f : X → List Y) (xs : List X)
-    → count_by test (flat_map f xs) ≡ sum_by (λ x. count_by test (f x)) xs
-count-flat test f [] = refl
-count-flat test f (x ∷ xs) =
-    sum_by-append (λ y. cond (test y) 1 0) (f x) (flat_map f xs)
-    ∙ ap (λ n. count_by test (f x) + n) (count-flat test f xs)
-    ∙ sym (sum-cons (λ x. count_by test (f x)) x xs)
 
 -- ---- nozzle by nozzle in each of some passes
 

@@ -1,9 +1,9 @@
 -- The list of firings has each row of the window exactly once.
 use Rattle.std.proofs.Common.{◌≡◌, ◌≢◌, ℕ, zero, suc, ◌+◌, ◌-◌, ◌*◌, ◌/◌, ◌%◌, ◌<◌, ◌≤◌, Bool, true, false, cond, ◌==◌, inl, inr, nat_lt}
-use Rattle.std.proofs.Common.{if◌then◌else◌, List, [], ◌∷◌, Option, None, Some, refl, sym, ◌∙◌, ap, arith, zero-add}
+use Rattle.std.proofs.Common.{if◌then◌else◌, List, [], ◌∷◌, Option, None, Some, refl, sym, ◌∙◌, ap, arith}
 use Rattle.std.proofs.lemmas.Bool.{cases_eq, eq-eqb, eqb-true, ltb-false, ltb-true}
 use Rattle.std.proofs.lemmas.Nat.{mod_below}
-use Rattle.std.proofs.lemmas.List.Sums.{sum_by-append}
+use Rattle.std.proofs.lemmas.List.Sums.{sum_by-append, sum_by-cons}
 use Rattle.std.specs.Int.{IsGcd}
 use Rattle.std.specs.List.{count_by, flat_map, sum_by}
 use Rattle.base_definitions.specs.Counting.{count_from}
@@ -14,31 +14,25 @@ use Rattle.weave_definitions.proofs.Rows.{Counts, StandsOn, pass-low, place-fire
 
 -- ---- sums and counts
 
-sum-cons : {X : Type 0} (g : X → ℕ) (x : X) (xs : List X) → sum_by g (x ∷ xs) ≡ g x + sum_by g xs
-sum-cons g x xs =
-    let apart : sum_by g (x ∷ xs) ≡ sum_by g (x ∷ []) + sum_by g xs = sum_by-append g (x ∷ []) xs in
-    let single : sum_by g (x ∷ []) ≡ g x = zero-add _ in
-    apart ∙ ap (λ n. n + sum_by g xs) single
-
-sum-same : (g h : ℕ → ℕ) (xs : List ℕ) → ((x : ℕ) → g x ≡ h x) → sum_by g xs ≡ sum_by h xs
+pub sum-same : (g h : ℕ → ℕ) (xs : List ℕ) → ((x : ℕ) → g x ≡ h x) → sum_by g xs ≡ sum_by h xs
 sum-same g h [] same = refl
-sum-same g h (x ∷ xs) same = omega (arith, sum-cons g x xs, sum-cons h x xs, same x, sum-same g h xs same)
+sum-same g h (x ∷ xs) same = omega (arith, sum_by-cons g x xs, sum_by-cons h x xs, same x, sum-same g h xs same)
 
 -- a list that is put together has as many as its parts
-count-flat : {X Y : Type 0} (test : Y → Bool) (f : X → List Y) (xs : List X)
+pub count-flat : {X Y : Type 0} (test : Y → Bool) (f : X → List Y) (xs : List X)
     → count_by test (flat_map f xs) ≡ sum_by (λ x. count_by test (f x)) xs
 count-flat test f [] = refl
 count-flat test f (x ∷ xs) =
     sum_by-append (λ y. cond (test y) 1 0) (f x) (flat_map f xs)
     ∙ ap (λ n. count_by test (f x) + n) (count-flat test f xs)
-    ∙ sym (sum-cons (λ x. count_by test (f x)) x xs)
+    ∙ sym (sum_by-cons (λ x. count_by test (f x)) x xs)
 
-sum-none : (g : ℕ → ℕ) (n many : ℕ) → ((k : ℕ) → n ≤ k → k < n + many → g k ≡ 0) → sum_by g (count_from n many) ≡ 0
+pub sum-none : (g : ℕ → ℕ) (n many : ℕ) → ((k : ℕ) → n ≤ k → k < n + many → g k ≡ 0) → sum_by g (count_from n many) ≡ 0
 sum-none g n zero none = refl
 sum-none g n (suc many) none =
     omega (
       arith,
-      sum-cons g n (count_from (n + 1) many),
+      sum_by-cons g n (count_from (n + 1) many),
       none n (omega arith) (omega arith),
       sum-none g (n + 1) many (λ k from below. none k (omega arith) (omega arith)),
     )
@@ -50,13 +44,13 @@ sum-one g one n (suc many) from below others =
     elim (cases_eq n one) [
       | inl e ↦ omega (
         arith,
-        sum-cons g n (count_from (n + 1) many),
+        sum_by-cons g n (count_from (n + 1) many),
         ap g e,
         sum-none g (n + 1) many (λ k after inside. others k (omega arith) (λ same. omega (arith, same, e, after))),
       )
       | inr apart ↦ omega (
         arith,
-        sum-cons g n (count_from (n + 1) many),
+        sum_by-cons g n (count_from (n + 1) many),
         others n (omega arith) apart,
         sum-one g one (n + 1) many (omega (arith, apart)) (omega arith) (λ k inside. others k (omega arith)),
       )
@@ -64,7 +58,8 @@ sum-one g one n (suc many) from below others =
 
 -- ---- one nozzle in one pass
 
-count-firing : (t i y : ℕ) (row : Option ℕ) → record {
+-- how often one firing is on a row
+pub count-firing : (t i y : ℕ) (row : Option ℕ) → record {
   hit : row ≡ Some y → count_by (λ (f : Firing). f.row == y) (firing t i row) ≡ 1;
   miss : (row ≡ Some y → ⊥) → count_by (λ (f : Firing). f.row == y) (firing t i row) ≡ 0;
 }
