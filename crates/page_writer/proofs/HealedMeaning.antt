@@ -1,5 +1,5 @@
 -- What the bytes of a page of a head with dead nozzles mean.
-use Rattle.std.proofs.Common.{◌≡◌, ℕ, ◌+◌, ◌*◌, ◌≤◌, List, Option, None, Some, Ok, Err, length, refl, sym, ◌∙◌, ap, arith}
+use Rattle.std.proofs.Common.{◌≡◌, ℕ, ◌+◌, ◌*◌, ◌≤◌, List, Option, None, Some, Ok, Err, length, refl, ap, arith}
 use Rattle.std.specs.Io.KnownBytes.{Keeps}
 use Rattle.std.proofs.Math.Nat.{mul-le-mul_right}
 use Rattle.dead_nozzles.specs.Dead.{checked}
@@ -13,45 +13,31 @@ use Rattle.page_definitions.specs.PageBytes.{page_coding}
 use Rattle.page_definitions.specs.Printing.{GivesSheet}
 use Rattle.page_definitions.specs.RasterRows.{RasterRows}
 use Rattle.page_definitions.specs.Strokes.{bytes_of}
-use Rattle.page_laws.specs.Sized.{Sized}
 use Rattle.page_laws.proofs.Headline.{page-coded}
-use Rattle.page_laws.proofs.Healing.{healed-fires, healed-rasters, healed-spared, worn-is}
-use Rattle.page_laws.proofs.Numbers.{form-sized}
+use Rattle.page_laws.proofs.Healing.{healed-fires, healed-rasters, healed-spared}
 use Rattle.page_laws.proofs.Printed.{strokes-print}
 use Rattle.printer_definitions.specs.declared.inks.Ink.{Ink}
 use Rattle.printer_definitions.specs.Printer.{Printer, row_units}
 use Rattle.pwg_definitions.specs.declared.pages.PageForm.{PageForm}
-use Rattle.pwg_definitions.specs.Header.{IsWanted}
 use Rattle.separation_definitions.specs.CanPrint.{CanPrint}
-use Rattle.separation_definitions.specs.Windows.{wanted_by, window_of}
 use Rattle.page_writer.specs.AtMost.{AppendsAtMost}
-use Rattle.page_writer.specs.Heads.{strokes_over}
-use Rattle.page_writer.specs.Healed.{SumsHealed, most_of_healed}
+use Rattle.page_writer.specs.Healed.{most_of_healed}
 use Rattle.page_writer.specs.Shows.{Shows}
 use Rattle.page_writer.specs.StrokeBytes.{head_bytes}
-use Rattle.page_writer.specs.Sums.{SumsStrokes, most_of_pass, rasters_in}
+use Rattle.page_writer.specs.Sums.{most_of_pass}
 use Rattle.page_writer.specs.declared.strokes.WriteStop.TheVariants as stop
-use Rattle.page_writer.specs.declared.sums.PageSum.{PageSum}
 use Rattle.page_writer.proofs.AtMost.{appends_at_most}
 use Rattle.page_writer.proofs.HealedOver.{healed-same, healed_of, strokes_few}
+use Rattle.page_writer.proofs.Written.{IsShown, sized}
 
--- ---- bytes and sums of a halftone
+-- ---- the bytes of a halftone
 
 -- the bytes of the strokes over planes are those of the halftone that the planes show
 pub healed_bytes_are : (dead : List ℕ) (p : Printer) (t : DotTable) (h : Halftone) (len : ℕ) → CanPrint p → checked p.nozzles dead ≡ Ok tt → Shows p t h
     → head_bytes p (healed_of dead p t) t len ≡ healed_bytes dead p h len
 unfolding healed_bytes
 healed_bytes_are dead p t h len can good shows =
-    ap (bytes_of page_coding.code) (healed-same dead p t h len (worn-is dead p h.height can good) shows)
-
--- and so are their sums
-pub healed_sums_are : (dead : List ℕ) (p : Printer) (t : DotTable) (h : Halftone) (len : ℕ) (sum : PageSum) → CanPrint p
-    → checked p.nozzles dead ≡ Ok tt → Shows p t h
-    → SumsStrokes p t.width t.rows len (strokes_over p (healed_of dead p t) t) sum → SumsHealed dead p h len sum
-healed_sums_are dead p t h len sum can good shows is = record {
-  bytes_are = is.bytes_are ∙ ap length (healed_bytes_are dead p t h len can good shows);
-  rasters_are = is.rasters_are ∙ ap rasters_in (healed-same dead p t h len (worn-is dead p h.height can good) shows);
-}
+    ap (bytes_of page_coding.code) (healed-same dead p t h len can good shows)
 
 -- no more bytes than those of so many strokes
 pub healed_short : (dead : List ℕ) (p : Printer) (width rows bytes : ℕ) → CanPrint p → checked p.nozzles dead ≡ Ok tt
@@ -75,38 +61,24 @@ none_appended most old whole few =
 
 -- ---- what they mean
 
--- A halftone of planes over a page's window, by a head with dead nozzles.
-pub record IsHealed (dead : List ℕ) (p : Printer) (t : DotTable) (h : Halftone) (f : PageForm) : Type 0 where
-  pub can : CanPrint p
-  pub good : checked p.nozzles dead ≡ Ok tt
-  pub wanted : IsWanted (wanted_by p) f
-  pub width : t.width ≡ (window_of f p).width
-  pub rows : t.rows ≡ (window_of f p).height
-  pub shows : Shows p t h
-
--- its size
-sized : (dead : List ℕ) (p : Printer) (t : DotTable) (h : Halftone) (f : PageForm) → IsHealed dead p t h f → Sized p h f.height
-sized dead p t h f is =
-    form-sized p h f is.can is.wanted (sym is.shows.width_is ∙ is.width) (sym is.shows.rows_is ∙ is.rows)
-
--- Its bytes give one sheet with its dots.
-pub healed_prints : (dead : List ℕ) (p : Printer) (t : DotTable) (h : Halftone) (f : PageForm) → IsHealed dead p t h f
+-- The bytes of a halftone give one sheet with its dots.
+pub healed_prints : (dead : List ℕ) (p : Printer) (t : DotTable) (h : Halftone) (f : PageForm) → checked p.nozzles dead ≡ Ok tt → IsShown p t h f
     → GivesSheet p (healed_bytes dead p h (f.height * row_units p)) (dots_wanted p h)
 unfolding healed_bytes
-healed_prints dead p t h f is =
-    strokes-print p h page_coding (healed dead p h) f.height is.can page-coded (sized dead p t h f is) (healed-fires dead p h is.can is.good)
+healed_prints dead p t h f good is =
+    strokes-print p h page_coding (healed dead p h) f.height is.can page-coded (sized p t h f is) (healed-fires dead p h is.can good)
 
 -- They have no more rasters of an ink than passes and missing rows.
-pub healed_rasters : (dead : List ℕ) (p : Printer) (t : DotTable) (h : Halftone) (f : PageForm) → IsHealed dead p t h f → (ink : Ink)
+pub healed_rasters : (dead : List ℕ) (p : Printer) (t : DotTable) (h : Halftone) (f : PageForm) → checked p.nozzles dead ≡ Ok tt → IsShown p t h f → (ink : Ink)
     → ink_rasters ink (commands (healed_bytes dead p h (f.height * row_units p))).entries ≤ healed_passes dead p t.rows
-healed_rasters dead p t h f is ink =
+healed_rasters dead p t h f good is ink =
     omega (
       arith,
-      healed-rasters dead p h f.height is.can is.good (sized dead p t h f is) ink,
+      healed-rasters dead p h f.height is.can good (sized p t h f is) ink,
       ap (healed_passes dead p) is.shows.rows_is,
     )
 
 -- No row of a raster has a dot where its nozzle is dead.
-pub healed_spared : (dead : List ℕ) (p : Printer) (t : DotTable) (h : Halftone) (f : PageForm) → IsHealed dead p t h f
+pub healed_spared : (dead : List ℕ) (p : Printer) (t : DotTable) (h : Halftone) (f : PageForm) → checked p.nozzles dead ≡ Ok tt → IsShown p t h f
     → RasterRows (IsSpared dead) (commands (healed_bytes dead p h (f.height * row_units p))).entries
-healed_spared dead p t h f is = healed-spared dead p h f.height is.can is.good (sized dead p t h f is)
+healed_spared dead p t h f good is = healed-spared dead p h f.height is.can good (sized p t h f is)

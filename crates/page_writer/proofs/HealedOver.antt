@@ -1,24 +1,21 @@
 -- The strokes of a head with dead nozzles as strokes over planes.
-use Rattle.std.proofs.Common.{◌≡◌, ℕ, ◌+◌, ◌-◌, ◌*◌, ◌<◌, ◌≤◌, List, [], ◌∷◌, ◌++◌, length, map, filter, Some, Ok}
+use Rattle.std.proofs.Common.{◌≡◌, ℕ, ◌+◌, ◌-◌, ◌*◌, ◌<◌, ◌≤◌, List, length, Some, Ok}
 use Rattle.std.proofs.Common.{refl, sym, ◌∙◌, ap, arith}
 use Rattle.std.specs.Prelude.{slice_get}
 use Rattle.std.proofs.Math.Nat.{div-le_self, mul-le-mul_left, mul-le-mul_right}
-use Rattle.base_definitions.specs.Counting.{count_from}
 use Rattle.base_definitions.specs.Limits.{most_rows}
 use Rattle.dead_nozzles.specs.Dead.{checked}
 use Rattle.dead_nozzles.specs.Plans.{row_of, stroke_in}
-use Rattle.dead_nozzles.specs.Strokes.{Head, IsHead, all_strokes}
+use Rattle.dead_nozzles.specs.Strokes.{Head, HeadStroke, IsHead, all_strokes}
 use Rattle.dead_nozzles.proofs.Starts.{all-rise}
 use Rattle.dead_nozzles.proofs.Strokes.{all-few, in-low, in-over, in-rises, map-places, missing-few}
-use Rattle.dot_planes.specs.Tables.{DotTable, dot}
-use Rattle.escp2_definitions.specs.declared.command.Command.TheVariants as c
+use Rattle.dot_planes.specs.Tables.{DotTable}
 use Rattle.page_definitions.specs.Dots.{Halftone}
 use Rattle.page_definitions.specs.Healed.{healed_passes, healed_stroke, shot_rows, worn_head}
 use Rattle.page_definitions.specs.PageBytes.{fired_row, page_coding}
-use Rattle.page_definitions.specs.Strokes.{Spoken, Stroke, fires, page_commands, prologue, say, strokes_commands}
-use Rattle.page_laws.specs.Sized.{Sized}
+use Rattle.page_definitions.specs.Strokes.{page_commands}
 use Rattle.page_laws.proofs.Healing.{worn-is}
-use Rattle.page_laws.proofs.Numbers.{form-sized, row_units-some}
+use Rattle.page_laws.proofs.Numbers.{row_units-some}
 use Rattle.printer_definitions.specs.declared.inks.Ink.{Ink}
 use Rattle.printer_definitions.specs.Inks.{inks_of}
 use Rattle.printer_definitions.specs.Printer.{Printer, head_rows, row_units}
@@ -26,11 +23,10 @@ use Rattle.pwg_definitions.specs.declared.pages.PageForm.{PageForm}
 use Rattle.pwg_definitions.specs.Header.{IsWanted}
 use Rattle.separation_definitions.specs.CanPrint.{CanPrint}
 use Rattle.separation_definitions.specs.Windows.{wanted_by, window_of}
-use Rattle.page_writer.specs.Heads.{HeadStrokes, Suits, place_in, stroke_over, stroke_rows, strokes_over}
+use Rattle.page_writer.specs.Heads.{HeadStrokes, Suits, stroke_rows, strokes_over}
 use Rattle.page_writer.specs.Healed.{healed_commands, healed_plane_row, healed_strokes}
 use Rattle.page_writer.specs.Shows.{Shows}
-use Rattle.page_writer.proofs.Inks.{place_is}
-use Rattle.page_writer.proofs.PassesOver.{IsSame, each-ink, map-counted, plane_row-is, plane_row-len, same-strokes}
+use Rattle.page_writer.proofs.OverPlanes.{IsOnSheet, map-counted, on_sheet, page-same, plane_row-is, plane_row-len, same-places}
 
 -- the strokes of a printer's head with dead nozzles, over planes
 abbrev pub healed_of : List ℕ → Printer → DotTable → HeadStrokes
@@ -78,23 +74,20 @@ pub healed_suit : (dead : List ℕ) (p : Printer) (t : DotTable) (f : PageForm)
     → t.rows ≡ (window_of f p).height → t.inks ≡ length (inks_of p.inks) → Suits p (healed_of dead p t) t
 healed_suit dead p t f can good wanted width rows inks =
     let head : Head = worn_head dead p t.rows in
-    let h : Halftone = record { width = t.width; height = t.rows; dot = λ ink y x. dot t 0 y x } in
-    let size : Sized p h f.height = form-sized p h f can wanted width rows in
-    let less : (p.top + t.rows) * row_units p ≤ f.height * row_units p = mul-le-mul_right (row_units p) size.low in
-    let sheet : (p.top + t.rows) * row_units p ≤ most_rows = omega (arith, less, size.short) in
+    let on : IsOnSheet p t = on_sheet p t f can wanted width rows in
     record {
       can = can;
       over = record {
         rows = refl;
-        columns = size.most_width;
+        columns = on.columns;
         wide = λ stroke place nozzle. plane_row-len t place (row_of (stroke_in (all_strokes head) stroke).shots nozzle);
       };
       inks = inks;
       nozzles = refl;
       room = can.head_room;
-      few = omega (arith, strokes_count dead p t.rows can good sheet);
+      few = omega (arith, strokes_count dead p t.rows can good on.sheet);
       rising = λ i j le low. in-rises (all_strokes head) i j (all-rise head (worn-is dead p t.rows can good)) le low;
-      low = λ stroke low. stroke_begins dead p t.rows stroke can good sheet low;
+      low = λ stroke low. stroke_begins dead p t.rows stroke can good on.sheet low;
     }
 
 -- ---- the commands of the strokes
@@ -110,33 +103,19 @@ rows-are dead p t h place stroke ink head shows is =
     (λ y e. (in-over (worn_head dead p h.height) stroke i y head (omega (arith, low)) e).low)
     ∙ ap (λ n. healed_plane_row t (worn_head dead p n) stroke place i) (sym shows.rows_is))
 
--- a stroke over planes, and the same stroke over the halftone that they show
-stroke-same : (dead : List ℕ) (p : Printer) (t : DotTable) (h : Halftone) (stroke : ℕ) → IsHead (worn_head dead p h.height) → Shows p t h
-    → IsSame (inks_of p.inks) (stroke_over p (healed_of dead p t) t stroke)
-    (healed_stroke p h (stroke_in (all_strokes (worn_head dead p h.height)) stroke))
-stroke-same dead p t h stroke head shows = record {
-  start = ap (λ n. (stroke_in (all_strokes (worn_head dead p n)) stroke).start) shows.rows_is;
-  rows = each-ink (λ ink. stroke_rows (healed_of dead p t) t stroke (place_in (inks_of p.inks) ink)
-      ≡ shot_rows p h (stroke_in (all_strokes (worn_head dead p h.height)) stroke).shots ink)
-      (inks_of p.inks)
-      (λ place ink is. ap (stroke_rows (healed_of dead p t) t stroke) (place_is p.inks place ink is)
-      ∙ sym (rows-are dead p t h place stroke ink head shows is));
-}
-
 -- The strokes over planes have the commands of the halftone that the planes show.
-pub healed-same : (dead : List ℕ) (p : Printer) (t : DotTable) (h : Halftone) (len : ℕ) → IsHead (worn_head dead p h.height) → Shows p t h
+pub healed-same : (dead : List ℕ) (p : Printer) (t : DotTable) (h : Halftone) (len : ℕ) → CanPrint p → checked p.nozzles dead ≡ Ok tt → Shows p t h
     → page_commands p t.width t.rows page_coding.c len (strokes_over p (healed_of dead p t) t) ≡ healed_commands dead p h len
-healed-same dead p t h len head shows =
-    let stroke : ℕ → Stroke = stroke_over p (healed_of dead p t) t in
-    let end : List Spoken = say c.Eject ∷ say c.Init ∷ [] in
-    let strokes = all_strokes (worn_head dead p h.height) in
-    ap (λ n. page_commands p n t.rows page_coding.c len (strokes_over p (healed_of dead p t) t)) shows.width_is
-    ∙ ap (λ n. page_commands p h.width n page_coding.c len (strokes_over p (healed_of dead p t) t)) shows.rows_is
-    ∙ ap (λ js. prologue p (head_rows p) h.height len ++ (js ++ end))
-    (ap (λ n. strokes_commands p h.width page_coding.c 0
-    (filter (fires p) (map stroke (count_from 0 (length (all_strokes (worn_head dead p n))))))) shows.rows_is
-    ∙ same-strokes p h.width page_coding.c stroke (λ k. healed_stroke p h (stroke_in strokes k)) 0 0 (length strokes)
-    (λ k. stroke-same dead p t h k head shows)
-    ∙ ap (λ ss. strokes_commands p h.width page_coding.c 0 (filter (fires p) ss))
+healed-same dead p t h len can good shows =
+    let head : IsHead (worn_head dead p h.height) = worn-is dead p h.height can good in
+    let strokes : List HeadStroke = all_strokes (worn_head dead p h.height) in
+    page-same p t h len (healed_of dead p t) (length strokes) (λ k. healed_stroke p h (stroke_in strokes k)) shows
+    (ap (λ n. length (all_strokes (worn_head dead p n))) shows.rows_is)
+    (λ k. record {
+      start = ap (λ n. (stroke_in (all_strokes (worn_head dead p n)) k).start) shows.rows_is;
+      rows = same-places p t (healed_of dead p t) k (λ ink. shot_rows p h (stroke_in strokes k).shots ink)
+          (λ place ink is. rows-are dead p t h place k ink head shows is);
+    })
+    ∙ ap (λ list. page_commands p h.width h.height page_coding.c len (record { above = head_rows p; list = list }))
     (sym (map-places (healed_stroke p h) strokes (stroke_in strokes) 0
-    (λ k low. ap (stroke_in strokes) (let same : 0 + k ≡ k = omega arith in same)))))
+    (λ k low. ap (stroke_in strokes) (let same : 0 + k ≡ k = omega arith in same))))

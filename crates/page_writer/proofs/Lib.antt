@@ -5,6 +5,8 @@ pub mod Inks
 pub mod StrokeBytes
 pub mod InTurn
 pub mod Whole
+pub mod OverPlanes
+pub mod Written
 pub mod PassesOver
 pub mod Meaning
 pub mod AtMost

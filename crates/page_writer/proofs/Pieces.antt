@@ -27,21 +27,6 @@ use Rattle.page_writer.proofs.InTurn.{strokes_fit}
 
 -- ---- facts of each of a list
 
--- a fact of each, where one of them changes
-pub each_set : {W : Type 0} (P : ℕ → W → Type 0) (list : List W) (i : ℕ) (x : W)
-    → Each P list → P i x → Each P (slice_set list i x)
-each_set {W} P list i x all here = record { at = λ k d low. by_place k d (omega (arith, low, length-set list i x)) (nat_eq k i) refl }
-  where
-    by_place : (k : ℕ) (d : W) → k < length list → (b : Bool) → nat_eq k i ≡ b → P k (slice_index_or (slice_set list i x) k d)
-    by_place k d low true e =
-        let same : k ≡ i = eqb-true k i e in
-        let Q : ℕ → Type 0 = λ n. P n (slice_index_or (slice_set list i x) n d) in
-        let R : W → Type 0 = P i in
-        subst Q (sym same) (subst R (sym (get_or-set_same list i x d (omega (arith, same, low)))) here)
-    by_place k d low false e =
-        let R : W → Type 0 = P k in
-        subst R (sym (get_or-set_other list i k x d (eqb-false k i e))) (all.at k d low)
-
 -- a fact of each that goes on as another one, where one of them changes
 pub each_step : {W : Type 0} (P Q : ℕ → W → Type 0) (list : List W) (i : ℕ) (x : W)
     → Each P list → ((k : ℕ) (w : W) → (k ≡ i → ⊥) → P k w → Q k w) → Q i x → Each Q (slice_set list i x)
@@ -57,6 +42,11 @@ each_step {W} P Q list i x all others here =
     by_place k d low false e =
         let R : W → Type 0 = Q k in
         subst R (sym (get_or-set_other list i k x d (eqb-false k i e))) (others k (slice_index_or list k d) (eqb-false k i e) (all.at k d low))
+
+-- a fact of each, where one of them changes
+pub each_set : {W : Type 0} (P : ℕ → W → Type 0) (list : List W) (i : ℕ) (x : W)
+    → Each P list → P i x → Each P (slice_set list i x)
+each_set P list i x all here = each_step P P list i x all (λ k w apart is. is) here
 
 -- a fact of one of them
 pub each_at : {W : Type 0} (P : ℕ → W → Type 0) {list : List W} (i : ℕ) (x : W)

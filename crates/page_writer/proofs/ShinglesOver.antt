@@ -1,19 +1,16 @@
 -- The shingled passes of a head as strokes over planes.
-use Rattle.std.proofs.Common.{◌≡◌, ℕ, ◌+◌, ◌-◌, ◌*◌, ◌/◌, ◌<◌, ◌≤◌, List, [], ◌∷◌, ◌++◌, length, map, filter, Option, Some}
+use Rattle.std.proofs.Common.{◌≡◌, ℕ, ◌+◌, ◌-◌, ◌*◌, ◌/◌, ◌<◌, ◌≤◌, length, Option, Some}
 use Rattle.std.proofs.Common.{refl, sym, ◌∙◌, ap, arith}
 use Rattle.std.specs.Prelude.{slice_get}
 use Rattle.std.proofs.Math.Nat.{div-le_self, div-mul-le_self, mul-le-mul_left, mul-le-mul_right}
-use Rattle.base_definitions.specs.Counting.{count_from}
 use Rattle.base_definitions.specs.Limits.{most_rows}
-use Rattle.dot_planes.specs.Tables.{DotTable, dot}
-use Rattle.escp2_definitions.specs.declared.command.Command.TheVariants as c
+use Rattle.dot_planes.specs.Tables.{DotTable}
 use Rattle.page_definitions.specs.Dots.{Halftone}
 use Rattle.page_definitions.specs.PageBytes.{page_coding}
 use Rattle.page_definitions.specs.Shingled.{every_other, shingled_row, shingled_stroke}
-use Rattle.page_definitions.specs.Strokes.{Spoken, Stroke, fires, page_commands, prologue, say, strokes_commands}
-use Rattle.page_laws.specs.Sized.{Sized}
+use Rattle.page_definitions.specs.Strokes.{page_commands}
 use Rattle.page_laws.proofs.Halves.{other-len}
-use Rattle.page_laws.proofs.Numbers.{form-sized, row_units-some}
+use Rattle.page_laws.proofs.Numbers.{row_units-some}
 use Rattle.page_laws.proofs.Shingling.{above-room}
 use Rattle.printer_definitions.specs.declared.inks.Ink.{Ink}
 use Rattle.printer_definitions.specs.Inks.{inks_of}
@@ -25,19 +22,18 @@ use Rattle.separation_definitions.specs.Windows.{wanted_by, window_of}
 use Rattle.shingle_plan.specs.Fits.{Shingles, Shingling}
 use Rattle.shingle_plan.specs.Shingles.{fires_even, half, rows_above, shingle_count, shingle_row}
 use Rattle.shingle_plan.proofs.Rows.{lands}
-use Rattle.page_writer.specs.Heads.{HeadStrokes, Suits, place_in, stroke_over, stroke_rows, strokes_over}
+use Rattle.page_writer.specs.Heads.{HeadStrokes, Suits, stroke_rows, strokes_over}
 use Rattle.page_writer.specs.Passes.{plane_row}
 use Rattle.page_writer.specs.Shingles.{shingle_strokes, shingled_commands, shingled_plane_row}
 use Rattle.page_writer.specs.Shows.{Shows}
-use Rattle.page_writer.proofs.Inks.{place_is}
-use Rattle.page_writer.proofs.PassesOver.{IsSame, each-ink, map-counted, plane_row-is, plane_row-len, same-strokes}
+use Rattle.page_writer.proofs.OverPlanes.{IsOnSheet, map-counted, on_sheet, page-same, plane_row-is, plane_row-len, same-places}
 
--- the plan of a printer over planes, and its passes
-abbrev pub plan_of : Printer → DotTable → Shingling
-plan_of p t = record { nozzles = p.nozzles; pitch = p.pitch; height = t.rows }
+-- the plan of a printer over so many rows, and its passes over planes
+abbrev pub plan_of : Printer → ℕ → Shingling
+plan_of p rows = record { nozzles = p.nozzles; pitch = p.pitch; height = rows }
 
 abbrev pub shingles_of : Printer → DotTable → HeadStrokes
-shingles_of p t = shingle_strokes (plan_of p t)
+shingles_of p t = shingle_strokes (plan_of p t.rows)
 
 -- ---- a head of the printer
 
@@ -81,19 +77,16 @@ pub shingles_suit : (p : Printer) (t : DotTable) (f : PageForm)
     → CanPrint p → Shingles p.nozzles p.pitch → IsWanted (wanted_by p) f → t.width ≡ (window_of f p).width
     → t.rows ≡ (window_of f p).height → t.inks ≡ length (inks_of p.inks) → Suits p (shingles_of p t) t
 shingles_suit p t f can fits wanted width rows inks =
-    let h : Halftone = record { width = t.width; height = t.rows; dot = λ ink y x. dot t 0 y x } in
-    let size : Sized p h f.height = form-sized p h f can wanted width rows in
-    let less : (p.top + t.rows) * row_units p ≤ f.height * row_units p = mul-le-mul_right (row_units p) size.low in
-    let sheet : (p.top + t.rows) * row_units p ≤ most_rows = omega (arith, less, size.short) in
+    let on : IsOnSheet p t = on_sheet p t f can wanted width rows in
     record {
       can = can;
-      over = record { rows = refl; columns = size.most_width; wide = shingled-len t (plan_of p t) };
+      over = record { rows = refl; columns = on.columns; wide = shingled-len t (plan_of p t.rows) };
       inks = inks;
       nozzles = refl;
       room = above-room p can fits;
-      few = omega (arith, passes_few p t.rows can fits sheet);
+      few = omega (arith, passes_few p t.rows can fits on.sheet);
       rising = λ i j le low. mul-le-mul_right (half p.nozzles) le;
-      low = λ pass low. pass_begins p t.rows pass can fits sheet low;
+      low = λ pass low. pass_begins p t.rows pass can fits on.sheet low;
     }
 
 -- ---- the commands of the passes
@@ -103,33 +96,20 @@ rows-are : (p : Printer) (t : DotTable) (h : Halftone) (place pass : ℕ) (ink :
     → slice_get (inks_of p.inks) place ≡ Some ink
     → (shingled_stroke p h pass).rows ink ≡ stroke_rows (shingles_of p t) t pass place
 rows-are p t h place pass ink shows is =
-    map-counted (shingled_row p h pass ink) (shingled_plane_row t (plan_of p t) pass place) 0 p.nozzles
+    map-counted (shingled_row p h pass ink) (shingled_plane_row t (plan_of p t.rows) pass place) 0 p.nozzles
     (λ i low. ap (every_other (fires_even p.nozzles i))
     (plane_row-is p t h place ink shows is (shingle_row p.nozzles p.pitch h.height pass i)
     (λ y e. (lands p.nozzles p.pitch h.height pass i y e).low)
     ∙ ap (λ n. plane_row t place (shingle_row p.nozzles p.pitch n pass i)) (sym shows.rows_is)))
 
--- a pass over planes, and the same pass over the halftone that they show
-pass-same : (p : Printer) (t : DotTable) (h : Halftone) (pass : ℕ)
-    → Shows p t h → IsSame (inks_of p.inks) (stroke_over p (shingles_of p t) t pass) (shingled_stroke p h pass)
-pass-same p t h pass shows = record {
-  start = refl;
-  rows = each-ink (λ ink. stroke_rows (shingles_of p t) t pass (place_in (inks_of p.inks) ink) ≡ (shingled_stroke p h pass).rows ink)
-      (inks_of p.inks)
-      (λ place ink is. ap (stroke_rows (shingles_of p t) t pass) (place_is p.inks place ink is)
-      ∙ sym (rows-are p t h place pass ink shows is));
-}
-
 -- The passes over planes have the commands of the halftone that the planes show.
 pub shingles-same : (p : Printer) (t : DotTable) (h : Halftone) (len : ℕ) → Shows p t h
     → page_commands p t.width t.rows page_coding.c len (strokes_over p (shingles_of p t) t) ≡ shingled_commands p h len
 shingles-same p t h len shows =
-    let stroke : ℕ → Stroke = stroke_over p (shingles_of p t) t in
-    let end : List Spoken = say c.Eject ∷ say c.Init ∷ [] in
-    let count : ℕ → ℕ = shingle_count p.nozzles p.pitch in
-    ap (λ n. page_commands p n t.rows page_coding.c len (strokes_over p (shingles_of p t) t)) shows.width_is
-    ∙ ap (λ n. page_commands p h.width n page_coding.c len (strokes_over p (shingles_of p t) t)) shows.rows_is
-    ∙ ap (λ js. prologue p (rows_above p.nozzles p.pitch) h.height len ++ (js ++ end))
-    (ap (λ n. strokes_commands p h.width page_coding.c 0 (filter (fires p) (map stroke (count_from 0 (count n))))) shows.rows_is
-    ∙ same-strokes p h.width page_coding.c stroke (shingled_stroke p h) 0 0 (count h.height)
-    (λ pass. pass-same p t h pass shows))
+    page-same p t h len (shingles_of p t) (shingle_count p.nozzles p.pitch h.height) (shingled_stroke p h) shows
+    (ap (shingle_count p.nozzles p.pitch) shows.rows_is)
+    (λ pass. record {
+      start = refl;
+      rows = same-places p t (shingles_of p t) pass (λ ink. (shingled_stroke p h pass).rows ink)
+          (λ place ink is. rows-are p t h place pass ink shows is);
+    })

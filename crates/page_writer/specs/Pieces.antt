@@ -1,5 +1,5 @@
 -- The strokes of a page that are coded in pieces, and what is sent of them.
-use Rattle.std.specs.Prelude.{◌≡◌, ℕ, ◌+◌, ◌*◌, ◌<◌, ◌≤◌, if◌then◌else◌, List, [], ◌∷◌, length, map, filter, min}
+use Rattle.std.specs.Prelude.{◌≡◌, ℕ, ◌+◌, ◌-◌, ◌*◌, ◌<◌, ◌≤◌, if◌then◌else◌, List, [], ◌∷◌, length, map, filter, min}
 use Rattle.std.specs.Prelude.{slice_index_or, Option, vec_capacity, vec_len}
 use Rattle.std.specs.Io.KnownBytes.{Appends}
 use Rattle.base_definitions.specs.Counting.{count_from}
@@ -94,6 +94,14 @@ pub record CodesPiece (page : HeadPage) (before after : Piece) : Type 0 where
 -- where the strokes of piece k of a batch begin, and those of the piece before it end
 abbrev pub bound_of : Run → ℕ → ℕ
 bound_of run k = min (run.first + k * run.each) run.count
+
+-- what the strokes of so many pieces of a batch send, where the head is on row `last`
+abbrev pub batch_bytes : HeadPage → ℕ → Run → ℕ → List ℕ
+batch_bytes page last run pieces = sent_bytes page last run.first (bound_of run pieces - run.first)
+
+-- They are sent.
+abbrev pub SendsBatch : HeadPage → ℕ → Run → ℕ → Option (List ℕ) → Option (List ℕ) → Sent → Type 0
+SendsBatch page last run pieces old new = SendsStrokes page last run.first (bound_of run pieces - run.first) old new
 
 -- A piece of this page has room for so many strokes.
 pub record IsRoomy (page : HeadPage) (each : ℕ) (own : HeadPage) (piece : Piece) : Type 0 where

@@ -1,7 +1,7 @@
 //! Batches of pieces: one is coded by the workers while the caller sends the one before.
 ghost use Rattle.page_writer.specs.Heads.{HeadPage, IsPage};
-ghost use Rattle.page_writer.specs.Pieces.{AllRoomy, AreCoded, Each, HaveRoom, IsAssigned, IsFilled, IsRoomy, SendsStrokes};
-ghost use Rattle.page_writer.specs.Pieces.{bound_of, sent_bytes};
+ghost use Rattle.page_writer.specs.Pieces.{AllRoomy, AreCoded, Each, HaveRoom, IsAssigned, IsFilled, IsRoomy, SendsBatch};
+ghost use Rattle.page_writer.specs.Pieces.{SendsStrokes, batch_bytes, bound_of, sent_bytes};
 ghost use Rattle.std.specs.Prelude.{IfOk, OnErr, OnOk, length, vec_capacity};
 ghost use Rattle.std.specs.Prelude.{◌+◌, ◌-◌, ◌≡◌, ◌≤◌};
 ghost use Rattle.weave_base.specs.Causes.{HasCause};
@@ -107,11 +107,10 @@ fn put_batch<S: Strokes, K: Sink>(
     requires filled { Each (λ k coder. IsFilled (S.page page.now) batch.old.run k (S.page coder.page.now) coder.piece)
         batch.old.coders.items }
     requires step { 7 ≤ vec_capacity step.old }
-    ensures ok { IfOk result (SendsStrokes (S.page page.now) last batch.old.run.first
-        (bound_of batch.old.run (length batch.old.coders.items) - batch.old.run.first)
+    ensures ok { IfOk result (SendsBatch (S.page page.now) last batch.old.run (length batch.old.coders.items)
         (K.held sink.old) (K.held sink.new)) }
-    ensures part { OnErr result (AppendsPart (K.held sink.old) (K.held sink.new) (sent_bytes (S.page page.now) last
-        batch.old.run.first (bound_of batch.old.run (length batch.old.coders.items) - batch.old.run.first))) }
+    ensures part { OnErr result (AppendsPart (K.held sink.old) (K.held sink.new)
+        (batch_bytes (S.page page.now) last batch.old.run (length batch.old.coders.items))) }
     ensures cause { HasCause (K.faults sink.old) (K.faults sink.new) result }
     ensures run { batch.new.run ≡ batch.old.run }
     ensures many { length batch.new.coders.items ≡ length batch.old.coders.items }
@@ -159,11 +158,10 @@ fn code_beside<R: Threads + Sync, S: Strokes + Sync, K: Sink>(
     requires filled { Each (λ k coder. IsFilled (S.page page.now) behind.old.run k (S.page coder.page.now) coder.piece)
         behind.old.coders.items }
     requires step { 7 ≤ vec_capacity step.old }
-    ensures ok { IfOk result (SendsStrokes (S.page page.now) last behind.old.run.first
-        (bound_of behind.old.run (length behind.old.coders.items) - behind.old.run.first)
+    ensures ok { IfOk result (SendsBatch (S.page page.now) last behind.old.run (length behind.old.coders.items)
         (K.held sink.old) (K.held sink.new)) }
-    ensures part { OnErr result (AppendsPart (K.held sink.old) (K.held sink.new) (sent_bytes (S.page page.now) last
-        behind.old.run.first (bound_of behind.old.run (length behind.old.coders.items) - behind.old.run.first))) }
+    ensures part { OnErr result (AppendsPart (K.held sink.old) (K.held sink.new)
+        (batch_bytes (S.page page.now) last behind.old.run (length behind.old.coders.items))) }
     ensures cause { HasCause (K.faults sink.old) (K.faults sink.new) result }
     ensures run { behind.new.run ≡ behind.old.run }
     ensures many { length behind.new.coders.items ≡ length behind.old.coders.items }
@@ -182,12 +180,10 @@ fn code_beside<R: Threads + Sync, S: Strokes + Sync, K: Sink>(
             × Each (λ k coder. IsFilled (S.page page.now) behind.now.run k (S.page coder.page.now) coder.piece)
             behind.now.coders.items
             × (7 ≤ vec_capacity step.now) }
-        ensures { IfOk result (SendsStrokes (S.page page.entry.now) last behind.entry.now.run.first
-            (bound_of behind.entry.now.run (length behind.entry.now.coders.items) - behind.entry.now.run.first)
-            (K.held sink.entry.now) (K.held sink.exit.now))
-            × OnErr result (AppendsPart (K.held sink.entry.now) (K.held sink.exit.now) (sent_bytes
-            (S.page page.entry.now) last behind.entry.now.run.first
-            (bound_of behind.entry.now.run (length behind.entry.now.coders.items) - behind.entry.now.run.first)))
+        ensures { IfOk result (SendsBatch (S.page page.entry.now) last behind.entry.now.run
+            (length behind.entry.now.coders.items) (K.held sink.entry.now) (K.held sink.exit.now))
+            × OnErr result (AppendsPart (K.held sink.entry.now) (K.held sink.exit.now)
+            (batch_bytes (S.page page.entry.now) last behind.entry.now.run (length behind.entry.now.coders.items)))
             × HasCause (K.faults sink.entry.now) (K.faults sink.exit.now) result
             × (behind.exit.now.run ≡ behind.entry.now.run)
             × (length behind.exit.now.coders.items ≡ length behind.entry.now.coders.items)

@@ -1,117 +1,62 @@
-use Rattle.std.proofs.Common.{◌≡◌, ℕ, ◌*◌, List, subst, sym, ◌∙◌, ap}
-use Rattle.std.specs.Io.KnownBytes.{Appends}
-use Rattle.std.specs.Prelude.{IsOk, OnOk}
-use Rattle.std.proofs.lemmas.Result.{IfOk-weaker}
-use Rattle.dot_planes.specs.Tables.{DotTable}
-use Rattle.page_definitions.specs.Shingled.{shingled_bytes}
+use Rattle.std.proofs.Common.{ℕ, ◌*◌, subst, sym}
 use Rattle.printer_definitions.specs.Printer.{Printer, row_units}
-use Rattle.printer_profile.specs.Validity.{check}
-use Rattle.separation_definitions.specs.CanPrint.{CanPrint}
-use Rattle.weave_base.specs.Parts.{AppendsPart}
-use Rattle.shingle_plan.specs.Fits.{Shingles, Shingling}
-use Rattle.page_writer.specs.Heads.{Suits, strokes_over}
+use Rattle.shingle_plan.specs.Fits.{Shingles}
 use Rattle.page_writer.specs.Shingles.{shingle_strokes}
-use Rattle.page_writer.specs.StrokeBytes.{head_bytes}
-use Rattle.page_writer.specs.Sums.{SumsStrokes}
 use Rattle.page_writer.proofs.AtMost.{appends_at_most}
-use Rattle.page_writer.proofs.ShingledMeaning.{shingled_bytes_are, shingled_columns, shingled_prints, shingled_rasters, shingled_sums_are}
-use Rattle.page_writer.proofs.ShinglesOver.{shingles_suit}
+use Rattle.page_writer.proofs.ShingledMeaning.{shingled_bytes_are, shingled_columns, shingled_prints, shingled_rasters}
+use Rattle.page_writer.proofs.ShinglesOver.{plan_of, shingles-same, shingles_suit}
+use Rattle.page_writer.proofs.Written.{can_print, made_is, made_suits, shown_by, written, written_part, written_sum}
 use Rattle.page_writer.proofs.shingled.write_shingled.Goals as goal
-
--- the plan that is made is that of the printer
-plan_is : (q p : Printer) (plan : Shingling) (n rows : ℕ) → q ≡ p → plan ≡ record { nozzles = q.nozzles; pitch = q.pitch; height = n } → n ≡ rows
-    → plan ≡ record { nozzles = p.nozzles; pitch = p.pitch; height = rows }
-plan_is q p plan n rows same made rows_are =
-    made ∙ ap (λ (p : Printer). record { nozzles = p.nozzles; pitch = p.pitch; height = n }) same
-    ∙ ap (λ n. record { nozzles = p.nozzles; pitch = p.pitch; height = n }) rows_are
-
--- a printer that passes its checks can print
-can_print : (q p : Printer) → q ≡ p → (IsOk (check q) → CanPrint q) → IsOk (check p) → CanPrint p
-can_print q p same can checked =
-    let P : Printer → Type 0 = λ p. IsOk (check p) in
-    subst CanPrint same (can (subst P (sym same) checked))
 
 pub write_strokes-requires-clause-suits : goal.write_strokes-requires-clause-suits
 write_strokes-requires-clause-suits g c κs within =
-    let p : Printer = c.args.profile.now in
-    let t : DotTable = c.args.planes.now in
-    let same : c.make-plan.result ≡ record { nozzles = p.nozzles; pitch = p.pitch; height = t.rows } =
-    plan_is _ _ _ _ _ c.profile.view_is c.make-plan.ensures c.rows.ensures in
-    let P : Shingling → Type 0 = λ plan. Suits p (shingle_strokes plan) t in
-    subst P (sym same) (shingles_suit p t c.args.form (can_print _ _ c.profile.view_is c.checked_can_print.ensures c.requires.checked)
+    made_suits shingle_strokes c.args.profile.now c.args.planes.now (made_is plan_of c.profile.view_is c.make-plan.ensures c.rows.ensures)
+    (shingles_suit c.args.profile.now c.args.planes.now c.args.form (can_print c.profile.view_is c.checked_can_print.ensures c.requires.checked)
     c.requires.fits c.requires.wanted c.requires.width c.requires.rows c.requires.inks)
-
-pub returns-clause-ok : goal.returns-clause-ok
-returns-clause-ok g c = λ h shows.
-    let p : Printer = c.args.profile.now in
-    let t : DotTable = c.args.planes.now in
-    let len : ℕ = c.args.form.height * row_units p in
-    let same : c.make-plan.result ≡ record { nozzles = p.nozzles; pitch = p.pitch; height = t.rows } =
-    plan_is _ _ _ _ _ c.profile.view_is c.make-plan.ensures c.rows.ensures in
-    let bytes : head_bytes p (shingle_strokes c.make-plan.result) t len ≡ shingled_bytes p h len =
-    ap (λ (plan : Shingling). head_bytes p (shingle_strokes plan) t len) same ∙ shingled_bytes_are p t h len shows in
-    let P : List ℕ → Type 0 = λ bs. OnOk c.write_strokes.result (Appends (g.K.Sink.held c.args.sink.now) (g.K.Sink.held c.write_strokes.new.sink) bs) in
-    subst P bytes c.write_strokes.ensures.ok
-
-pub returns-clause-part : goal.returns-clause-part
-returns-clause-part g c = λ h shows failed.
-    let p : Printer = c.args.profile.now in
-    let t : DotTable = c.args.planes.now in
-    let len : ℕ = c.args.form.height * row_units p in
-    let same : c.make-plan.result ≡ record { nozzles = p.nozzles; pitch = p.pitch; height = t.rows } =
-    plan_is _ _ _ _ _ c.profile.view_is c.make-plan.ensures c.rows.ensures in
-    let bytes : head_bytes p (shingle_strokes c.make-plan.result) t len ≡ shingled_bytes p h len =
-    ap (λ (plan : Shingling). head_bytes p (shingle_strokes plan) t len) same ∙ shingled_bytes_are p t h len shows in
-    let P : List ℕ → Type 0 = AppendsPart (g.K.Sink.held c.args.sink.now) (g.K.Sink.held c.write_strokes.new.sink) in
-    subst P bytes (c.write_strokes.ensures.part failed)
-
-pub returns-clause-sum : goal.returns-clause-sum
-returns-clause-sum g c = λ h shows.
-    let p : Printer = c.args.profile.now in
-    let t : DotTable = c.args.planes.now in
-    let len : ℕ = c.args.form.height * row_units p in
-    let same : c.make-plan.result ≡ record { nozzles = p.nozzles; pitch = p.pitch; height = t.rows } =
-    plan_is _ _ _ _ _ c.profile.view_is c.make-plan.ensures c.rows.ensures in
-    IfOk-weaker c.write_strokes.result _ _ (λ sum is.
-    let P : Shingling → Type 0 = λ plan. SumsStrokes p t.width t.rows len (strokes_over p (shingle_strokes plan) t) sum in
-    shingled_sums_are p t h len sum shows (subst P same is)) c.write_strokes.ensures.sum
 
 pub make-plan-requires-clause-fits : goal.make-plan-requires-clause-fits
 make-plan-requires-clause-fits g c =
     let P : Printer → Type 0 = λ p. Shingles p.nozzles p.pitch in subst P (sym c.profile.view_is) c.requires.fits
 
+pub returns-clause-ok : goal.returns-clause-ok
+returns-clause-ok g c = λ h shows.
+    let p : Printer = c.args.profile.now in
+    let len : ℕ = c.args.form.height * row_units p in
+    written shingle_strokes p c.args.planes.now len c.write_strokes.result
+    (g.K.Sink.held c.args.sink.now) (g.K.Sink.held c.write_strokes.new.sink)
+    (made_is plan_of c.profile.view_is c.make-plan.ensures c.rows.ensures)
+    (shingled_bytes_are p c.args.planes.now h len shows) c.write_strokes.ensures.ok
+
+pub returns-clause-part : goal.returns-clause-part
+returns-clause-part g c = λ h shows failed.
+    let p : Printer = c.args.profile.now in
+    let len : ℕ = c.args.form.height * row_units p in
+    written_part shingle_strokes p c.args.planes.now len
+    (made_is plan_of c.profile.view_is c.make-plan.ensures c.rows.ensures)
+    (shingled_bytes_are p c.args.planes.now h len shows) (c.write_strokes.ensures.part failed)
+
+pub returns-clause-sum : goal.returns-clause-sum
+returns-clause-sum g c = λ h shows.
+    let p : Printer = c.args.profile.now in
+    let len : ℕ = c.args.form.height * row_units p in
+    written_sum shingle_strokes p c.args.planes.now len c.write_strokes.result
+    (made_is plan_of c.profile.view_is c.make-plan.ensures c.rows.ensures)
+    (shingled_bytes_are p c.args.planes.now h len shows) (shingles-same p c.args.planes.now h len shows) c.write_strokes.ensures.sum
+
 pub returns-clause-prints : goal.returns-clause-prints
 returns-clause-prints g c = λ h shows.
-    shingled_prints _ c.args.planes.now h c.args.form (record {
-      can = can_print _ _ c.profile.view_is c.checked_can_print.ensures c.requires.checked;
-      fits = c.requires.fits;
-      wanted = c.requires.wanted;
-      width = c.requires.width;
-      rows = c.requires.rows;
-      shows = shows;
-    })
+    shingled_prints _ _ h c.args.form c.requires.fits (shown_by c.profile.view_is c.checked_can_print.ensures c.requires.checked
+    c.requires.wanted c.requires.width c.requires.rows shows)
 
 pub returns-clause-passes : goal.returns-clause-passes
-returns-clause-passes g c = λ h shows ink.
-    shingled_rasters _ c.args.planes.now h c.args.form (record {
-      can = can_print _ _ c.profile.view_is c.checked_can_print.ensures c.requires.checked;
-      fits = c.requires.fits;
-      wanted = c.requires.wanted;
-      width = c.requires.width;
-      rows = c.requires.rows;
-      shows = shows;
-    }) ink
+returns-clause-passes g c = λ h shows.
+    shingled_rasters _ _ h c.args.form c.requires.fits (shown_by c.profile.view_is c.checked_can_print.ensures c.requires.checked
+    c.requires.wanted c.requires.width c.requires.rows shows)
 
 pub returns-clause-columns : goal.returns-clause-columns
 returns-clause-columns g c = λ h shows.
-    shingled_columns _ c.args.planes.now h c.args.form (record {
-      can = can_print _ _ c.profile.view_is c.checked_can_print.ensures c.requires.checked;
-      fits = c.requires.fits;
-      wanted = c.requires.wanted;
-      width = c.requires.width;
-      rows = c.requires.rows;
-      shows = shows;
-    })
+    shingled_columns _ _ h c.args.form c.requires.fits (shown_by c.profile.view_is c.checked_can_print.ensures c.requires.checked
+    c.requires.wanted c.requires.width c.requires.rows shows)
 
 pub returns-clause-few : goal.returns-clause-few
 returns-clause-few g c = λ h shows.

@@ -6,7 +6,7 @@ use Rattle.shingle_plan.specs.Shingles.{fires_even}
 use Rattle.page_writer.specs.Passes.{plane_row}
 use Rattle.page_writer.proofs.Dotless.{packed-blank}
 use Rattle.page_writer.proofs.EveryOther.{other-blank}
-use Rattle.page_writer.proofs.PassesOver.{plane_row-len}
+use Rattle.page_writer.proofs.OverPlanes.{plane_row-len}
 use Rattle.page_writer.proofs.shingles.ShinglePlanHead.fired_row.Goals as goal
 
 pub put_every_other-requires : goal.put_every_other-requires
