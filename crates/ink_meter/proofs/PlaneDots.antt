@@ -1,10 +1,11 @@
 -- The dots of planes, ink by ink.
-use Rattle.std.proofs.Common.{◌≡◌, ℕ, suc, zero, ◌+◌, ◌*◌, ◌≤◌, Bool, false, Some, length, slice_get, get_or, All}
+use Rattle.std.proofs.Common.{◌≡◌, ℕ, ◌*◌, ◌≤◌, Bool, false, Some, slice_get, get_or, All}
 use Rattle.std.proofs.Common.{arith, subst, refl, ap, sym, ◌∙◌, sum_by, count_by}
 use Rattle.std.specs.List.{list_any}
 use Rattle.std.proofs.lemmas.List.Elements.{All-from_get_or}
 use Rattle.std.proofs.lemmas.List.Sums.{count_by-le-length, sum_by-le}
 use Rattle.page_definitions.specs.Dots.{Halftone, HasDots, dots_wanted}
+use Rattle.page_laws.proofs.Passes.{count_from-len}
 use Rattle.page_laws.proofs.Planes.{other-counts, plane-counts}
 use Rattle.ink_meter.specs.Counts.{dots_of, halftone_dots}
 use Rattle.printer_definitions.specs.declared.inks.Ink.{Ink}
@@ -15,28 +16,26 @@ use Rattle.printer_definitions.specs.Inks.{inks_of, same_ink}
 use Rattle.printer_definitions.specs.Printer.{Printer}
 use Rattle.printer_definitions.specs.declared.inks.InkCounts.{InkCounts}
 use Rattle.base_definitions.specs.Counting.{count_from}
-
-length-count_from : (a n : ℕ) → length (count_from a n) ≡ n
-length-count_from a zero = refl
-length-count_from a (suc n) = omega (arith, length-count_from (a + 1) n)
+use Rattle.base_definitions.specs.Limits.{most_columns}
 
 -- the dots of a plane in a table of dots
 abbrev pub plane : (ℕ → ℕ → ℕ → Bool) → ℕ → ℕ → ℕ → ℕ
 plane dot width rows i = sum_by (λ y. count_by (λ x. dot i y x) (count_from 0 width)) (count_from 0 rows)
 
-pub plane-most : (dot : ℕ → ℕ → ℕ → Bool) (width rows i : ℕ) → width ≤ 8191 → plane dot width rows i ≤ rows * 8191
+-- they are no more than so many rows of the most columns have
+pub plane-most : (dot : ℕ → ℕ → ℕ → Bool) (width rows i : ℕ) → width ≤ most_columns → plane dot width rows i ≤ rows * most_columns
 plane-most dot width rows i narrow =
     let row : ℕ → ℕ = λ y. count_by (λ x. dot i y x) (count_from 0 width) in
-    let each : All (λ y. row y ≤ 8191) (count_from 0 rows) =
-    All-from_get_or (λ y. row y ≤ 8191) (count_from 0 rows) 0
+    let each : All (λ y. row y ≤ most_columns) (count_from 0 rows) =
+    All-from_get_or (λ y. row y ≤ most_columns) (count_from 0 rows) 0
     (λ n h. omega (
       arith,
       narrow,
       count_by-le-length
           (λ x. dot i (get_or (count_from 0 rows) n 0) x) (count_from 0 width),
-      length-count_from 0 width,
+      count_from-len 0 width,
     )) in
-    subst (λ n. sum_by row (count_from 0 rows) ≤ n * 8191) (length-count_from 0 rows) (sum_by-le row 8191 (count_from 0 rows) each)
+    subst (λ n. sum_by row (count_from 0 rows) ≤ n * most_columns) (count_from-len 0 rows) (sum_by-le row most_columns (count_from 0 rows) each)
 
 -- the ink at a place of the set has the dots of the plane at that place
 ink_here : (p : Printer) (h : Halftone) (width rows inks : ℕ) (dot : ℕ
