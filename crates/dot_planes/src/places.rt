@@ -4,8 +4,11 @@ ghost use Rattle.base_definitions.specs.Limits.{most_columns, most_rows};
 ghost use Rattle.std.specs.Prelude.{length, replicate, slice_index, vec_capacity, ℕ, ◌*◌, ◌++◌, ◌+◌, ◌-◌, ◌<◌, ◌≡◌};
 ghost use Rattle.std.specs.Prelude.{◌≤◌};
 
-// As many bytes as the longest row of dots has.
-const BLANK: [u8; 1024] = [0; 1024];
+// The bytes of the widest row of dots, which has 8,191 columns.
+const WIDEST_ROW: usize = 1024;
+
+// The widest row, without dots.
+const BLANK: [u8; WIDEST_ROW] = [0; WIDEST_ROW];
 
 /// The index of the first byte of row y of an ink, in a table of `inks` inks with `rows` rows of `len` bytes each.
 #[inline]

@@ -1,80 +1,38 @@
-use Rattle.std.proofs.Common.{◌≡◌, ◌+◌, ◌-◌, ◌*◌, ◌||◌, ℕ, List, ap, arith, drop, length, length-drop, length-take, sym, take, ◌∙◌}
+use Rattle.std.proofs.Common.{◌≡◌, ◌+◌, ◌-◌, ◌||◌, ℕ, List, ap, arith, ◌∙◌}
 use Rattle.dot_planes.specs.Planes.{all_bytes, table_of}
 use Rattle.dot_planes.specs.Laying.{laid_dot}
-use Rattle.dot_planes.specs.Tables.{DotTable, IsPackedRow, row_at, row_dot, row_len}
-use Rattle.dot_planes.proofs.PlaneWrites.{IsReached, end-there, place_of, row-before, row-put, row-table, with_row}
+use Rattle.dot_planes.specs.Tables.{DotTable, IsPackedRow, row_dot}
+use Rattle.dot_planes.proofs.PlaneWrites.{IsRowThere, is-reached, row-before, row-before-len, row-before-spare, row-put, row-table, row-there, with_row}
 use Rattle.dot_planes.proofs.PutLaid.{IsLaidOver, laid-packed, lays}
-use Rattle.dot_planes.proofs.RowBytes.{row_inside_across}
 use Rattle.dot_planes.proofs.planes.Planes.lay.Goals as goal
-
-abbrev end : goal.After-self-1 → ℕ
-end c = c.row_start_across-start.result + c.row_len-len.result
 
 abbrev many : goal.After-self-1 → ℕ
 many c = c.row_start_across-start.result + c.row_len-len.result - c.row_start_across-start.result
 
-is_reached : (c : goal.After-self-1) → IsReached c.self.inside c.reach.new.bytes c.args.ink c.args.y c.row_start_across-start.result (end c)
-is_reached c =
-    let inks : c.self.inside.inks ≡ c.args.self.now.inks = ap (λ (t : DotTable). t.inks) c.self.view_is in
-    let rows : c.self.inside.rows ≡ c.args.self.now.rows = ap (λ (t : DotTable). t.rows) c.self.view_is in
-    record {
-      before = c.self.invariant;
-      ink = omega (arith, inks);
-      down = omega (arith, rows);
-      start_is = c.row_start_across-start.ensures.is
-          ∙ ap (λ l. (c.args.y * c.self.inside.inks + c.args.ink) * l) c.row_len-len.ensures.is;
-      end_is = ap (λ l. c.row_start_across-start.result + l) c.row_len-len.ensures.is;
-      items = c.reach.ensures.items;
-      capacity = c.reach.ensures.capacity;
-    }
-
-many_is : (c : goal.After-self-1) → many c ≡ row_len c.self.inside.width
-many_is c = omega (arith, c.row_len-len.ensures.is)
-
--- the row before, and its length
-before_is : (c : goal.After-self-1) → take (many c) (drop c.row_start_across-start.result c.deref_mut.result.now)
-    ≡ row_at (row_len c.self.inside.width) (all_bytes c.self.inside) (place_of c.self.inside c.args.ink c.args.y)
-before_is c = row-before _ _ _ _ _ _ (many c) c.deref_mut.result.now (is_reached c) c.deref_mut.ensures.value (many_is c)
-
-len_before : (c : goal.After-self-1)
-    → length (take (many c) (drop c.row_start_across-start.result c.deref_mut.result.now)) ≡ row_len c.self.inside.width
-len_before c =
-    let there = end-there _ _ _ _ _ _ (is_reached c) in
-    omega (
-      arith,
-      length-take (many c) (drop c.row_start_across-start.result c.deref_mut.result.now),
-      length-drop c.row_start_across-start.result c.deref_mut.result.now,
-      ap length c.deref_mut.ensures.value,
-      c.row_len-len.ensures.is,
-      there,
-    )
+is_there : (c : goal.After-self-1)
+    → IsRowThere c.self.inside c.reach.new.bytes c.args.ink c.args.y c.row_start_across-start.result (many c) c.deref_mut.result.now
+is_there c = row-there _ _ c.args.ink c.args.y _ _ _
+    (is-reached _ _ _ c.args.ink c.args.y _ _ c.self.invariant c.self.view_is c.requires.ink c.requires.y
+    c.row_start_across-start.ensures.is c.row_len-len.ensures.is c.reach.ensures.items c.reach.ensures.capacity) c.deref_mut.ensures.value
 
 is_laid : (c : goal.After-self-1)
     → IsLaidOver (table_of c.self.inside) c.args.ink c.args.y c.args.x c.args.row.now c.args.dots c.lay_row.new.over
 is_laid c = record {
   inside = let width : c.self.inside.width ≡ c.args.self.now.width = ap (λ (t : DotTable). t.width) c.self.view_is in omega (arith, width);
   is = λ d. c.lay_row.ensures.dots d
-      ∙ ap (λ (bytes : List ℕ). row_dot bytes d || laid_dot c.args.row.now c.args.dots c.args.x d) (before_is c);
+      ∙ ap (λ (bytes : List ℕ). row_dot bytes d || laid_dot c.args.row.now c.args.dots c.args.x d) (row-before _ _ c.args.ink c.args.y _ _ _ (is_there c));
 }
 
-new_len : (c : goal.After-self-1) → length c.lay_row.new.over ≡ row_len c.self.inside.width
-new_len c = c.lay_row.ensures.len ∙ len_before c
-
 put_is_packed : (c : goal.After-self-1) → IsPackedRow c.self.inside.width c.lay_row.new.over
-put_is_packed c =
-    let it = is_reached c in
-    laid-packed (table_of c.self.inside) c.args.ink c.args.y c.args.x c.args.row.now c.args.dots c.lay_row.new.over
-    (is_laid c) (new_len c) c.lay_row.ensures.bytes
-    (λ d. c.self.invariant.spare (place_of c.self.inside c.args.ink c.args.y) d
-    (row_inside_across c.self.inside.inks c.self.inside.rows c.args.ink c.args.y it.ink it.down))
+put_is_packed c = laid-packed (table_of c.self.inside) c.args.ink c.args.y c.args.x c.args.row.now c.args.dots c.lay_row.new.over
+    (is_laid c) (c.lay_row.ensures.len ∙ row-before-len _ _ c.args.ink c.args.y _ _ _ (is_there c)) c.lay_row.ensures.bytes
+    (row-before-spare _ _ c.args.ink c.args.y _ _ _ (is_there c))
 
 pub returns : goal.returns
 returns c = lays _ _ c.args.ink c.args.y c.args.x c.args.row.now c.args.dots _ _ c.lay_row.new.over
     (all_bytes (with_row c.self.inside c.reach.new.bytes c.row_start_across-start.result (many c) c.deref_mut.result.now c.lay_row.new.over))
     c.self.view_is
-    (row-put _ _ _ _ _ _ (many c) c.deref_mut.result.now c.lay_row.new.over (is_reached c) c.deref_mut.ensures.value (many_is c)
-    (new_len c ∙ sym (many_is c)) (put_is_packed c)) (is_laid c)
+    (row-put _ _ _ _ _ _ _ c.lay_row.new.over (is_there c) (put_is_packed c)) (is_laid c)
 
 pub invariant_of-self : goal.invariant_of-self
-invariant_of-self c = row-table _ _ _ _ _ _ (many c) c.deref_mut.result.now c.lay_row.new.over (is_reached c) c.deref_mut.ensures.value (many_is c)
-    (new_len c ∙ sym (many_is c)) (put_is_packed c)
+invariant_of-self c = row-table _ _ _ _ _ _ _ c.lay_row.new.over (is_there c) (put_is_packed c)

@@ -1,28 +1,17 @@
-use Rattle.std.proofs.Common.{◌≡◌, ◌+◌, ◌*◌, ◌/◌, ◌%◌, ◌-◌, ◌^◌, ◌<◌, ℕ, ap, arith, bit_or, get_or, ◌∙◌}
+use Rattle.std.proofs.Common.{◌≡◌, ◌+◌, ◌*◌, ◌/◌, ◌%◌, ◌-◌, ◌^◌, ◌<◌, ℕ, ap, arith, bit_or, get_or}
 use Rattle.std.proofs.lemmas.List.{get_or_read}
 use Rattle.dot_planes.specs.Planes.{all_bytes}
 use Rattle.dot_planes.specs.Tables.{DotTable}
 use Rattle.dot_planes.proofs.PutDots.{turns_on}
-use Rattle.dot_planes.proofs.PlaneWrites.{IsReached, dot-put, dot-table, end-there, with_dot}
+use Rattle.dot_planes.proofs.PlaneWrites.{IsReached, dot-put, dot-table, end-there, is-reached, with_dot}
 use Rattle.dot_planes.proofs.planes.Planes.turn_on.Goals as goal
 
 abbrev end : goal.After-self-1 → ℕ
 end c = c.row_start_across-start.result + c.row_len-len.result
 
 is_reached : (c : goal.After-self-1) → IsReached c.self.inside c.reach.new.bytes c.args.ink c.args.y c.row_start_across-start.result (end c)
-is_reached c =
-    let inks : c.self.inside.inks ≡ c.args.self.now.inks = ap (λ (t : DotTable). t.inks) c.self.view_is in
-    let rows : c.self.inside.rows ≡ c.args.self.now.rows = ap (λ (t : DotTable). t.rows) c.self.view_is in
-    record {
-      before = c.self.invariant;
-      ink = omega (arith, inks);
-      down = omega (arith, rows);
-      start_is = c.row_start_across-start.ensures.is
-          ∙ ap (λ l. (c.args.y * c.self.inside.inks + c.args.ink) * l) c.row_len-len.ensures.is;
-      end_is = ap (λ l. c.row_start_across-start.result + l) c.row_len-len.ensures.is;
-      items = c.reach.ensures.items;
-      capacity = c.reach.ensures.capacity;
-    }
+is_reached c = is-reached _ _ _ c.args.ink c.args.y _ _ c.self.invariant c.self.view_is c.requires.ink c.requires.y
+    c.row_start_across-start.ensures.is c.row_len-len.ensures.is c.reach.ensures.items c.reach.ensures.capacity
 
 abbrev byte : goal.After-self-1 → ℕ
 byte c = bit_or c.index_mut.result.now (1 * 2 ^ (7 - c.args.x % 8) % 256)
