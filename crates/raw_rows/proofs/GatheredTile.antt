@@ -14,16 +14,16 @@ use Rattle.raw_rows.specs.declared.kept.RawRows.{RawRows}
 use Rattle.raw_rows.proofs.Cells.{amount_is}
 use Rattle.dot_planes.proofs.GatheredRows.{no_rows, row_more}
 use Rattle.tile_shape.specs.declared.tiles.Place.{Place}
-use Rattle.raw_rows.specs.Gathering.{GathersRow, HasRows}
+use Rattle.raw_rows.specs.Gathering.{GathersInks, HasInkRows}
 
-pub none_yet : (t : AmountTable) (p : Place) (inks : List (List ℕ)) → HasRows t p 0 inks
+pub none_yet : (t : AmountTable) (p : Place) (inks : List (List ℕ)) → HasInkRows t p 0 inks
 none_yet t p inks = record { ink = λ i low. no_rows _ _ _ _ }
 
-pub one_more : (t : AmountTable) (p : Place) (n : ℕ) (old new : List (List ℕ)) → HasRows t p n old → GathersRow t p n old new
-    → HasRows t p (n + 1) new
+pub one_more : (t : AmountTable) (p : Place) (n : ℕ) (old new : List (List ℕ)) → HasInkRows t p n old → GathersInks t p n old new
+    → HasInkRows t p (n + 1) new
 one_more t p n old new has gathers = record { ink = λ i low. row_more _ _ _ _ _ _ (has.ink i low) (gathers.ink i low) }
 
-pub all_rows : (t : AmountTable) (p : Place) (inks : List (List ℕ)) → HasRows t p 32 inks → HasTile t p inks
+pub all_rows : (t : AmountTable) (p : Place) (inks : List (List ℕ)) → HasInkRows t p 32 inks → HasTile t p inks
 all_rows t p inks has = record { ink = has.ink }
 
 -- A row of a tile that is separated as far as the rows go.
@@ -33,7 +33,7 @@ pub row_gathers : (raw : RawRows) (p : Place) (r from to first : ℕ) (line : Li
     → ((i : ℕ) (ink : Ink) → slice_get (inks_of raw.separator.inks) i ≡ Some ink → (k : ℕ) → k < to - from
     → tile_amount new i (64 * r + from + k)
     ≡ amount_of (printer_in raw.separator) raw.separator.kind (pixel_at raw.separator.kind line (first + k)) ink)
-    → KeepsBefore (64 * r + from) old new → GathersRow (table_of raw) p r old new
+    → KeepsBefore (64 * r + from) old new → GathersInks (table_of raw) p r old new
 row_gathers raw p r from to first line old new row is_line is_first inside put before = record {
   ink = λ i low. record {
     pixel = λ offset x y pixel at.

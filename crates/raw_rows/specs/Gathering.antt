@@ -1,6 +1,6 @@
 -- Rows of a tile in every ink.
 use Rattle.std.specs.Prelude.{ℕ, ◌≡◌, ◌+◌, ◌-◌, ◌*◌, ◌<◌, List, [], slice_index, slice_index_or}
-use Rattle.dot_planes.specs.Gathered.{GathersRow as GathersOne, HasRows as HasOne, shape_of}
+use Rattle.dot_planes.specs.Gathered.{GathersRow, HasRows, shape_of}
 use Rattle.dot_planes.specs.Tables.{AmountTable, amount}
 use Rattle.pwg_definitions.specs.Header.{line_bytes, row_of}
 use Rattle.tile_shape.specs.declared.tiles.Place.{Place}
@@ -9,12 +9,12 @@ use Rattle.raw_rows.specs.Raw.{line_in}
 use Rattle.raw_rows.specs.declared.kept.RawRows.{RawRows}
 
 -- Row r of a tile is gathered in every ink, and the rows above it are unchanged.
-pub record GathersRow (t : AmountTable) (p : Place) (r : ℕ) (old new : List (List ℕ)) : Type 0 where
-  pub ink : (i : ℕ) → i < t.inks → GathersOne (shape_of t) (amount t i) p r (slice_index_or old i []) (slice_index_or new i [])
+pub record GathersInks (t : AmountTable) (p : Place) (r : ℕ) (old new : List (List ℕ)) : Type 0 where
+  pub ink : (i : ℕ) → i < t.inks → GathersRow (shape_of t) (amount t i) p r (slice_index_or old i []) (slice_index_or new i [])
 
 -- The first n rows of a tile have their amounts in every ink.
-pub record HasRows (t : AmountTable) (p : Place) (n : ℕ) (inks : List (List ℕ)) : Type 0 where
-  pub ink : (i : ℕ) → i < t.inks → HasOne (shape_of t) (amount t i) p n (slice_index_or inks i [])
+pub record HasInkRows (t : AmountTable) (p : Place) (n : ℕ) (inks : List (List ℕ)) : Type 0 where
+  pub ink : (i : ℕ) → i < t.inks → HasRows (shape_of t) (amount t i) p n (slice_index_or inks i [])
 
 -- the pixel of a line with which row r of a tile begins
 abbrev pub first_pixel : RawRows → Place → ℕ → ℕ

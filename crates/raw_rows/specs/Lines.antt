@@ -11,7 +11,7 @@ abbrev pub kept_bytes : Separator → ℕ
 kept_bytes s = line_bytes (s.window.left + s.window.width) (row_of s.kind).bits_per_pixel
 
 -- the sizes that the window of a separator and its rows may have
-pub record IsSize (s : Separator) (rows : ℕ) : Type 0 where
+pub record IsSlabSize (s : Separator) (rows : ℕ) : Type 0 where
   pub some_columns : 1 ≤ s.window.width
   pub most_columns : s.window.width ≤ most_columns
   pub some_rows : 1 ≤ rows

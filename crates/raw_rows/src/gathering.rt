@@ -5,7 +5,7 @@ ghost use Rattle.ink_separation.specs.Separators.{printer_in};
 ghost use Rattle.printer_definitions.specs.Inks.{inks_of};
 ghost use Rattle.printer_definitions.specs.declared.inks.Ink.{Ink};
 ghost use Rattle.pwg_definitions.specs.Header.{line_bytes, row_of};
-ghost use Rattle.raw_rows.specs.Gathering.{GathersRow};
+ghost use Rattle.raw_rows.specs.Gathering.{GathersInks};
 ghost use Rattle.raw_rows.specs.Raw.{table_of};
 ghost use Rattle.separation_definitions.specs.Amounts.{amount as amount_of, pixel_at};
 ghost use Rattle.std.specs.Prelude.{Some, length, slice_get, ℕ, ◌+◌, ◌<◌, ◌≡◌, ◌≤◌};
@@ -27,7 +27,7 @@ impl RawRows {
     // Sets row r of a tile in every ink, as far as the rows go.
     fn gather_row(&self, place: Place, r: usize, out: &mut TileAmounts)
         requires { r < 32 }
-        ensures { GathersRow (table_of self.now) place r out.old.inks out.new.inks }
+        ensures { GathersInks (table_of self.now) place r out.old.inks out.new.inks }
     {
         let y = 32 * place.j as usize + r;
         if self.rows as usize <= y {

@@ -1,5 +1,5 @@
 //! Rows of raw lines, as they are kept.
-ghost use Rattle.raw_rows.specs.Lines.{AreEarlier, AreInOrder, AreThere, IsSize, kept_bytes};
+ghost use Rattle.raw_rows.specs.Lines.{AreEarlier, AreInOrder, AreThere, IsSlabSize, kept_bytes};
 ghost use Rattle.std.specs.Prelude.{vec_capacity, vec_len, ◌*◌, ◌≡◌, ◌≤◌};
 
 use ink_separation::Separator;
@@ -13,7 +13,7 @@ pub struct RawRows {
     pub(crate) len: usize,
     pub(crate) bytes: Vec<u8>,
     pub(crate) index: [u16; 256],
-    ghost size: { IsSize separator rows },
+    ghost size: { IsSlabSize separator rows },
     ghost long: { len ≡ kept_bytes separator },
     ghost room: { rows * len ≤ vec_capacity bytes },
     ghost there: { AreThere index len (vec_len bytes) },

@@ -7,7 +7,7 @@ ghost use Rattle.printer_definitions.specs.Inks.{inks_of};
 ghost use Rattle.printer_definitions.specs.Printer.{Printer};
 ghost use Rattle.pwg_definitions.specs.Header.{line_bytes, row_of};
 ghost use Rattle.pwg_definitions.specs.declared.pages.Kind.{Kind};
-ghost use Rattle.raw_rows.specs.Lines.{IsSize, kept_bytes};
+ghost use Rattle.raw_rows.specs.Lines.{IsSlabSize, kept_bytes};
 ghost use Rattle.raw_rows.specs.Raw.{KeepsAbove, Repeats, line_in, table_of};
 ghost use Rattle.separation_definitions.specs.declared.window.Window.{Window};
 ghost use Rattle.std.specs.Prelude.{IfOk, length, slice_index, take, vec_capacity, vec_len, ℕ, ◌*◌, ◌+◌, ◌++◌, ◌<◌, ◌≡◌, ◌≤◌, ◌⊎◌};
@@ -57,9 +57,7 @@ fn put_last(bytes: &mut Vec<u8>, at: usize, line: &[u8])
     ensures capacity { vec_capacity bytes.old ≤ vec_capacity bytes.new }
 {
     bytes.truncate(at);
-    let Ok(()) = bytes.extend_from_slice(line) else {
-        unreachable!()
-    };
+    bytes.extend_from_slice(line).unwrap();
 }
 
 // Gives the rows from y on line n.
@@ -76,7 +74,7 @@ impl RawRows {
     /// Room for 1 to 256 rows, of 1 to 8,191 columns. It takes the memory for all lines, and touches that of one. The
     /// contract does not say what amounts the rows have at first.
     pub fn make(alloc: Global, separator: Separator, rows: u32) -> Result<RawRows, Memory>
-        requires { IsSize separator rows }
+        requires { IsSlabSize separator rows }
         ensures rows { IfOk result (λ raw. raw.rows ≡ rows) }
         ensures separator { IfOk result (λ raw. raw.separator ≡ separator) }
     {

@@ -1,7 +1,7 @@
 //! Tiles that have all their pixels.
 ghost use Rattle.dot_planes.specs.Gathered.{HasTile, shape_of};
 ghost use Rattle.pwg_definitions.specs.Header.{line_bytes, row_of};
-ghost use Rattle.raw_rows.specs.Gathering.{GathersRow, HasParts, PutsPart, first_pixel, part_bytes};
+ghost use Rattle.raw_rows.specs.Gathering.{GathersInks, HasParts, PutsPart, first_pixel, part_bytes};
 ghost use Rattle.raw_rows.specs.Lines.{first_byte, pixels_before};
 ghost use Rattle.raw_rows.specs.Raw.{table_of};
 ghost use Rattle.tile_shape.specs.Geometry.{IsWhole};
@@ -101,10 +101,10 @@ impl RawRows {
         requires r { r < 32 }
         requires whole { IsWhole (shape_of (table_of self.now)) place }
         requires bytes { HasParts self.now place 32 bytes.now }
-        ensures { GathersRow (table_of self.now) place r out.old.inks out.new.inks }
+        ensures { GathersInks (table_of self.now) place r out.old.inks out.new.inks }
     {
         let part = self.part_of(place, r);
-        // All 256 bytes, of which a row may have fewer: bits are taken from sixteen bytes at a time.
+        // All 256 bytes, though a row may have fewer: pixels of one bit are read sixteen bytes at a time.
         let row = &bytes[256 * r..256 * r + 256];
         self.separator
             .separate_into(row, part.before, 64, 64 * r, out);
