@@ -1,10 +1,14 @@
 -- Lines that are read into slabs.
-use Rattle.std.proofs.Common.{◌≡◌, ◌⊎◌, ℕ, ◌+◌, ◌-◌, ◌<◌, arith, subst, List, ◌++◌, replicate, Option, None, Some, IfSome, Result, Ok, Err, IsErrOf, ap, sym, ◌∙◌}
+use Rattle.std.proofs.Common.{◌≡◌, ◌⊎◌, ℕ, ◌<◌, arith, subst, List, ◌++◌, replicate, Option, None, Some, IfSome, Result, Ok, Err, IsErrOf, ap, sym, ◌∙◌}
 use Rattle.buffered_bytes.specs.Text.{UsesSome}
+use Rattle.diffusion_kernel.specs.Tables.{table_of}
+use Rattle.dot_planes.specs.Tables.{AmountTable}
 use Rattle.wavefront_team.specs.Dots.{Dots, IsSameSize}
+use Rattle.wavefront_team.specs.Slabs.{DiffusesSlab}
+use Rattle.wavefront_team.specs.SoFar.{dots_in}
 use Rattle.ink_separation.specs.Separators.{IsSeparatorOf}
 use Rattle.raw_rows.specs.declared.kept.RawRows.{RawRows}
-use Rattle.page_halftoner.specs.Halftones.{Diffusing, Filling, HasRoom, IsFull, IsSameRows, IsSpare}
+use Rattle.page_halftoner.specs.Halftones.{Diffusing, Filling, GoesOn, HasRoom, HoldsRows, IsFull, IsSameRows, IsSpare}
 use Rattle.printer_definitions.specs.Printer.{Printer}
 use Rattle.pwg_definitions.specs.declared.pages.PageForm.{PageForm}
 use Rattle.page_halftoner.proofs.Lines.{IsDone}
@@ -70,6 +74,23 @@ fills_err T U r k r' left mid left' f g e same more some going input taken used 
   same = same;
   done = tt;
 }
+
+-- A full slab was diffused by its amounts from its first row on, and the rows below it begun.
+pub slab_done : (f f' : Filling) (d d' : Diffusing) (slab : AmountTable) (first : ℕ)
+    → IsFull f → HoldsRows f → HasRoom f.form f.profile (dots_in d.dots) → GoesOn f f' → d'.kernel ≡ d.kernel
+    → slab ≡ f.slab → first ≡ f.first
+    → DiffusesSlab (table_of d.kernel) slab d.top d'.top first (dots_in d.dots) (dots_in d'.dots) → IsDone f f' d d'
+slab_done f f' d d' slab first full rows room goes_on kernel slab_is first_is diffused =
+    let S : AmountTable → Type 0 = λ s. DiffusesSlab (table_of d.kernel) s d.top d'.top f.first (dots_in d.dots) (dots_in d'.dots) in
+    let F : ℕ → Type 0 = λ n. DiffusesSlab (table_of d.kernel) slab d.top d'.top n (dots_in d.dots) (dots_in d'.dots) in
+    record {
+      full = full;
+      rows = rows;
+      tall = room.rows;
+      goes_on = goes_on;
+      kernel = kernel;
+      diffused = subst S slab_is (subst F first_is diffused);
+    }
 
 -- A full slab was diffused, and the next one filled.
 pub reads_diffused : (T : Type 0) (result : Result T StreamStop) (r r' : PageReader) (left left' : Option (List ℕ)) (f f' g : Filling) (d d' : Diffusing)

@@ -54,6 +54,9 @@ pub record Begun : Type 0 where
   pub reader : PageReader
   pub before : Option (List ℕ)
 
+abbrev pub begun : Printer → Kernel → PageForm → PageReader → Option (List ℕ) → Begun
+begun p k form reader before = record { profile = p; kernel = k; form = form; reader = reader; before = before }
+
 -- What was read so far is a prefix of the page, and the halftoning stands for its lines, but for the last repeats of
 -- the last line, which are still to be placed.
 pub record HalftonedSoFar (b : Begun) (now : PageReader) (left : Option (List ℕ)) (f : Filling) (d : Diffusing) : Type 0 where

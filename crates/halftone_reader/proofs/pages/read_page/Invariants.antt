@@ -1,18 +1,13 @@
 use Rattle.std.proofs.Common.{◌≡◌, ◌⊎◌, ◌-◌, ◌≤◌, IfSome}
 use Rattle.page_halftoner.specs.Halftones.{HasRoom, IsFull, IsSpare, window_filled}
-use Rattle.halftone_reader.specs.SoFar.{HalftonedSoFar}
+use Rattle.halftone_reader.specs.SoFar.{HalftonedSoFar, begun}
 use Rattle.wavefront_team.specs.SoFar.{dots_in}
 use Rattle.halftone_reader.proofs.pages.read_page.Given as goal
 
 abbrev pub invariant-slabs : goal.invariant-slabs
 invariant-slabs g l = record {
-  page : HalftonedSoFar (record {
-    profile = l.fn.profile;
-    kernel = l.fn.kernel;
-    form = l.form;
-    reader = l.fn.reader;
-    before = g.S.Source.left l.fn.source;
-  }) l.reader (g.S.Source.left l.source) l.filler l.diffuser;
+  page : HalftonedSoFar (begun l.fn.profile l.fn.kernel l.form l.fn.reader (g.S.Source.left l.fn.source))
+      l.reader (g.S.Source.left l.source) l.filler l.diffuser;
   done : IsFull l.filler ⊎ (l.filler.count ≡ l.filler.form.height);
   room : HasRoom l.form l.fn.profile (dots_in l.diffuser.dots);
   spare : IfSome l.spare (IsSpare l.filler);

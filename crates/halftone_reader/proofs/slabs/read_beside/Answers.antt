@@ -1,28 +1,11 @@
-use Rattle.std.proofs.Common.{ℕ, rules, subst}
-use Rattle.diffusion_kernel.specs.Tables.{table_of}
-use Rattle.dot_planes.specs.Tables.{AmountTable}
-use Rattle.page_halftoner.proofs.Lines.{IsDone}
-use Rattle.page_halftoner.specs.Halftones.{Diffusing, Filling}
-use Rattle.raw_rows.specs.Raw.{table_of as amounts_of}
-use Rattle.wavefront_team.specs.Slabs.{DiffusesSlab}
-use Rattle.wavefront_team.specs.SoFar.{dots_in}
-use Rattle.halftone_reader.proofs.SlabReads.{reads_diffused}
+use Rattle.std.proofs.Common.{rules}
+use Rattle.halftone_reader.proofs.SlabReads.{reads_diffused, slab_done}
 use Rattle.halftone_reader.proofs.slabs.read_beside.Goals as goal
 
 pub returns-clause-reads : goal.returns-clause-reads
 returns-clause-reads g c =
-    let f : Filling = c.args.filler.now in
-    let d : Diffusing = c.args.diffuser.now in
-    let done : Diffusing = c.diffuse_beside.new.self in
     let told = c.in_ok-diffuse_beside.ensures in
-    let S : AmountTable → Type 0 = λ slab. DiffusesSlab (table_of d.kernel) slab d.top done.top f.first (dots_in d.dots) (dots_in done.dots) in
-    let F : ℕ → Type 0 = λ first. DiffusesSlab (table_of d.kernel) (amounts_of c.swap.new.spare) d.top done.top first (dots_in d.dots) (dots_in done.dots) in
-    let all : IsDone f c.swap.new.self d done = record {
-      full = c.requires.full;
-      rows = c.requires.rows;
-      tall = c.requires.room.rows;
-      goes_on = c.swap.ensures.next;
-      kernel = told.kernel;
-      diffused = subst S c.swap.ensures.slab (subst F c.first-first.ensures told.slab);
-    } in
-    reads_diffused _ c.in_ok-diffuse_beside.field-0 c.args.reader.now _ _ _ f c.swap.new.self _ d done all (search rules)
+    let done = slab_done c.args.filler.now c.swap.new.self c.args.diffuser.now c.diffuse_beside.new.self _ _ c.requires.full
+    c.requires.rows c.requires.room c.swap.ensures.next told.kernel c.swap.ensures.slab c.first-first.ensures told.slab in
+    reads_diffused _ c.in_ok-diffuse_beside.field-0 c.args.reader.now _ _ _ c.args.filler.now c.swap.new.self _ c.args.diffuser.now
+    c.diffuse_beside.new.self done (search rules)
