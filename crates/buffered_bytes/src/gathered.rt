@@ -49,6 +49,7 @@ impl Gathered {
         ensures ok { OnOk result (Passes (K.held k.old) (K.held k.new) (gathered self.old) (gathered self.new)) }
         ensures room { OnOk result (self.new.len + most ≤ MOST_GATHERED) }
         ensures part { OnErr result (AppendsPart (K.held k.old) (K.held k.new) (gathered self.old)) }
+        ensures kept { OnErr result (gathered self.new ≡ gathered self.old) }
         ensures cause { HasCause (K.faults k.old) (K.faults k.new) result }
     {
         if most <= MOST_GATHERED - self.len {
@@ -65,6 +66,7 @@ impl Gathered {
         ensures ok { OnOk result
             (Writes (K.held k.old) (K.held k.new) (gathered self.old) (gathered self.new) bytes.now) }
         ensures part { OnErr result (AppendsPart (K.held k.old) (K.held k.new) (gathered self.old)) }
+        ensures kept { OnErr result (gathered self.new ≡ gathered self.old) }
         ensures cause { HasCause (K.faults k.old) (K.faults k.new) result }
     {
         self.make_room(bytes.len(), k)?;

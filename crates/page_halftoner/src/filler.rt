@@ -5,7 +5,7 @@ ghost use Rattle.printer_profile.specs.Validity.{check};
 ghost use Rattle.pwg_definitions.specs.Header.{IsWanted};
 ghost use Rattle.raw_rows.specs.Raw.{table_of as amounts_of};
 ghost use Rattle.separation_definitions.specs.Windows.{wanted_by, window_of};
-ghost use Rattle.std.specs.Prelude.{[], IfNone, IfOk, IfSome, IsOk, IsTrue, length, replicate, true, ◌↔◌};
+ghost use Rattle.std.specs.Prelude.{[], IfNone, IfOk, IfSome, IsOk, IsTrue, None, length, replicate, true, ◌↔◌};
 ghost use Rattle.std.specs.Prelude.{◌%◌, ◌+◌, ◌<◌, ◌∷◌, ◌≡◌, ◌≤◌, ◌⊎◌, ◌^◌};
 
 use crate::slabs::{first_slab, next_slab, put_line};
@@ -162,7 +162,8 @@ impl Filler {
     /// Room for a further slab of as many rows, where these are to be filled while this many workers diffuse the one
     /// before; `None` for one worker.
     pub fn spare(&self, alloc: Global, workers: u8) -> Result<Option<RawRows>, Memory>
-        ensures { IfOk result (λ o. IfSome o (IsSpare self.now)) }
+        ensures spare { IfOk result (λ o. IfSome o (IsSpare self.now)) }
+        ensures none { IfOk result (λ o. (o ≡ None) ↔ (workers ≡ 1)) }
     {
         if workers == 1 {
             return Ok(None);

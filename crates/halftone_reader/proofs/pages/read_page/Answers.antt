@@ -84,7 +84,7 @@ slabs-init g c =
       page = (fills.reads _).more _ (started g (goal.at.slabs-init g c).After-fill);
       done = fills.done;
       room = c.in_ok-diffuser.ensures.room;
-      spare = spare_still c.in_ok-filler.filler c.fill.new.filler fills.same c.in_ok-spare.spare c.in_ok-spare.ensures;
+      spare = spare_still c.in_ok-filler.filler c.fill.new.filler fills.same c.in_ok-spare.spare c.in_ok-spare.ensures.spare;
       later = omega (arith, c.next_page.ensures.later, c.fill.ensures.later);
     }
 
