@@ -1,5 +1,5 @@
 -- The promises of a run for the command `trial`.
-use Rattle.std.proofs.Common.{◌≡◌, ℕ, ◌⊎◌, List, None, Result, Ok, inl, inr, sym, ◌∙◌, ap, subst, arith}
+use Rattle.std.proofs.Common.{◌≡◌, ℕ, ◌⊎◌, List, None, Result, Ok, Err, inl, inr, sym, ◌∙◌, ap, subst, arith, length}
 use Rattle.std.specs.Io.KnownBytes.{Appends, Keeps}
 use Rattle.driver_answer.specs.Answers.{status_of}
 use Rattle.driver_answer.specs.declared.answer.Answer.TheVariants as answer
@@ -11,15 +11,17 @@ use Rattle.job_words.specs.declared.usage.UsageFault.{UsageFault}
 use Rattle.job_words.specs.Meaning.{job_meaning, profile_named}
 use Rattle.printer_definitions.specs.Printer.{Printer}
 use Rattle.printer_profile.specs.Profiles.{built_in}
+use Rattle.page_maker.proofs.Spelled.{length-made_pages}
+use Rattle.pwg_definitions.specs.declared.faults.HeaderFault.{HeaderFault}
 use Rattle.pwg_definitions.specs.declared.faults.InputCause.{InputCause}
-use Rattle.pwg_definitions.specs.Stream.{StreamEnd}
-use Rattle.pwg_definitions.specs.Stream.StreamEnd.{Done, Fault}
+use Rattle.pwg_definitions.specs.declared.faults.InputCause.TheVariants as cause
+use Rattle.pwg_definitions.specs.declared.pages.PageForm.{PageForm}
 use Rattle.weave_base.specs.Parts.{AppendsPart}
 use Rattle.driver_core.specs.Outside.{HasFailed, HasRisen, IsCalm, Outside, Outsides}
 use Rattle.driver_core.specs.Runs.Asking.{AsksFor}
 use Rattle.driver_core.specs.Runs.Outcome.{LineOutcome, ListsJob, NoProfile, Outcome, Tells, Told, VerbOutcome}
 use Rattle.driver_core.specs.Runs.Outcome.{WithProfile, metered}
-use Rattle.driver_core.specs.Trying.Outcome.{RefusesMade, TakesMade, TrialOutcome, job_summary}
+use Rattle.driver_core.specs.Trying.Outcome.{IsMadeFault, RefusesMade, TakesMade, TrialOutcome, job_form, job_pages, job_summary, made_check}
 use Rattle.driver_core.specs.Trying.Promises.{TrialPromises}
 use Rattle.driver_core.proofs.Runs.Asked.{HasProfile, has_profile, told_line}
 use Rattle.driver_core.proofs.Runs.Asked.HasProfile.{HasNone, Does}
@@ -40,12 +42,17 @@ trial_part job p out s a does e five =
     (stops.3, stops.2, at.1 ∙ ap answer.Write stops.0)
 
 trial_refused : (job : Job) (p : Printer) (out : Outside) (s : ℕ) (a : Answer) → TrialOutcome job p out a → s ≡ status_of a → s ≡ 3
-    → (page line : ℕ) × (cause : InputCause) × RefusesMade job p page line cause × Keeps out.before out.now
-    × (a ≡ answer.Input page line cause)
+    → (why : HeaderFault) × RefusesMade job p why × Keeps out.before out.now × (a ≡ answer.Input 1 0 (cause.Header why))
 trial_refused job p out s a does e three =
     let at = is_input a (sym three ∙ e) in
     let met : TrialOutcome job p out (answer.Input at.0 at.1 at.2) = subst (TrialOutcome job p out) at.3 does in
-    (at.0, at.1, at.2, met.0, met.1, at.3)
+    let fault = met.0 in (
+      fault.0,
+      fault.1,
+      met.1,
+      at.3 ∙ ap (λ n. answer.Input n at.1 at.2) fault.2
+          ∙ ap (λ n. answer.Input 1 n at.2) fault.3 ∙ ap (answer.Input 1 0) fault.4,
+    )
 
 pub trial_read : (job : Job) (p : Printer) (out : Outside) (s : ℕ) (a : Answer) → TrialOutcome job p out a → s ≡ status_of a → s ≡ 4 → ⊥
 trial_read job p out s a does e four =
@@ -53,19 +60,20 @@ trial_read job p out s a does e four =
 
 trial_none : (job : Job) (p : Printer) (out : Outside) (s : ℕ) (a : Answer) → TrialOutcome job p out a → s ≡ status_of a
     → (s ≡ 3) ⊎ (s ≡ 4) ⊎ (s ≡ 7) → Keeps out.before out.now
-trial_none job p out s a does e (inl three) = (trial_refused job p out s a does e three).4
+trial_none job p out s a does e (inl three) = (trial_refused job p out s a does e three).2
 trial_none job p out s a does e (inr (inl four)) = absurd (trial_read job p out s a does e four)
 trial_none job p out s a does e (inr (inr seven)) = subst (TrialOutcome job p out) (is_memory a (sym seven ∙ e)) does
 
 -- made pages are not both taken and refused
-never_both : (end : StreamEnd) (page line : ℕ) (cause : InputCause) → end ≡ Done → end ≡ Fault page line cause → ⊥
-never_both end page line cause taken refused = let differ : Done ≡ Fault page line cause = sym taken ∙ refused in cc
+never_both : (job : Job) (p : Printer) (why : HeaderFault) → TakesMade job p → RefusesMade job p why → ⊥
+never_both job p why takes refuses =
+    let differ : ◌≡◌ {A = Result PageForm HeaderFault} (Ok (job_form job)) (Err why) = sym takes ∙ refuses in cc
 
 trial_calm : (job : Job) (p : Printer) (out : Outside) (s : ℕ) (a : Answer) → TrialOutcome job p out a → s ≡ status_of a
     → TakesMade job p → IsCalm out → (s ≡ 0) ⊎ (s ≡ 7)
 trial_calm job p out s answer.Done does e takes calm = inl e
-trial_calm job p out s (answer.Input page line cause) does e takes calm =
-    absurd (never_both _ page line cause takes does.0)
+trial_calm job p out s (answer.Input page line found) does e takes calm =
+    absurd (never_both job p does.0.0 takes does.0.1)
 trial_calm job p out s (answer.Write page) does e takes calm = absurd (calm does.2)
 trial_calm job p out s answer.Memory does e takes calm = inr e
 trial_calm job p out s (answer.Usage fault) does e takes calm = absurd does
@@ -74,26 +82,27 @@ trial_calm job p out s answer.Read does e takes calm = absurd does
 trial_calm job p out s (answer.OverCap page total dots cap) does e takes calm = absurd does
 trial_calm job p out s (answer.Job offset cause) does e takes calm = absurd does
 
-trial_bad : (job : Job) (p : Printer) (out : Outside) (s : ℕ) (a : Answer) (page line : ℕ) (cause : InputCause)
-    → TrialOutcome job p out a → s ≡ status_of a → RefusesMade job p page line cause → (s ≡ 3) ⊎ (s ≡ 7)
-trial_bad job p out s answer.Done page line cause does e refuses = absurd (never_both _ page line cause does.0 refuses)
-trial_bad job p out s (answer.Input page' line' cause') page line cause does e refuses = inl e
-trial_bad job p out s (answer.Write page') page line cause does e refuses = absurd (never_both _ page line cause does.1 refuses)
-trial_bad job p out s answer.Memory page line cause does e refuses = inr e
-trial_bad job p out s (answer.Usage fault) page line cause does e refuses = absurd does
-trial_bad job p out s (answer.Profile line' cause') page line cause does e refuses = absurd does
-trial_bad job p out s answer.Read page line cause does e refuses = absurd does
-trial_bad job p out s (answer.OverCap page' total dots cap) page line cause does e refuses = absurd does
-trial_bad job p out s (answer.Job offset cause') page line cause does e refuses = absurd does
+trial_bad : (job : Job) (p : Printer) (out : Outside) (s : ℕ) (a : Answer) (why : HeaderFault)
+    → TrialOutcome job p out a → s ≡ status_of a → RefusesMade job p why → (s ≡ 3) ⊎ (s ≡ 7)
+trial_bad job p out s answer.Done why does e refuses = absurd (never_both job p why does.0 refuses)
+trial_bad job p out s (answer.Input page line found) why does e refuses = inl e
+trial_bad job p out s (answer.Write page) why does e refuses = absurd (never_both job p why does.1 refuses)
+trial_bad job p out s answer.Memory why does e refuses = inr e
+trial_bad job p out s (answer.Usage fault) why does e refuses = absurd does
+trial_bad job p out s (answer.Profile line found) why does e refuses = absurd does
+trial_bad job p out s answer.Read why does e refuses = absurd does
+trial_bad job p out s (answer.OverCap page total dots cap) why does e refuses = absurd does
+trial_bad job p out s (answer.Job offset found) why does e refuses = absurd does
 
 -- ---- of a run
 
 try_zero : (words : List (List ℕ)) (o : Outsides) (a : Answer) (s : ℕ) (job : Job) (p : Printer)
     → Outcome words o a → s ≡ status_of a → AsksFor words o.shelf.told verb.Trial job (Ok p) → s ≡ 0
-    → TakesMade job p × Appends o.out.before o.out.now (job_summary job p)
+    → TakesMade job p × Appends o.out.before o.out.now (job_summary job p) × (length (job_pages job) ≡ job.pages)
 try_zero words o a s job p outcome is asks zero =
     let does = at_work words verb.Trial job p o a s is (λ e. omega arith) (λ e. omega arith) trial_is_none asks outcome in
-    trial_done job p o.out s a does.2 is zero
+    let done = trial_done job p o.out s a does.2 is zero in
+    (done.0, done.1, length-made_pages job.seed job.pages (job_form job))
 
 try_five : (words : List (List ℕ)) (o : Outsides) (err : Outside) (a : Answer) (s : ℕ) (job : Job) (p : Printer)
     → Outcome words o a → Told err a → s ≡ status_of a → AsksFor words o.shelf.told verb.Trial job (Ok p) → s ≡ 5
@@ -106,17 +115,12 @@ try_five words o err a s job p outcome told is asks five =
 
 try_three : (words : List (List ℕ)) (o : Outsides) (err : Outside) (a : Answer) (s : ℕ) (job : Job) (p : Printer)
     → Outcome words o a → Told err a → s ≡ status_of a → AsksFor words o.shelf.told verb.Trial job (Ok p) → s ≡ 3
-    → (page line : ℕ) × (cause : InputCause) × RefusesMade job p page line cause × Tells err (answer.Input page line cause)
+    → (why : HeaderFault) × RefusesMade job p why × Tells err (answer.Input 1 0 (cause.Header why))
 try_three words o err a s job p outcome told is asks three =
     let does = at_work words verb.Trial job p o a s is (λ e. omega arith) (λ e. omega arith) trial_is_none asks outcome in
     let refused = trial_refused job p o.out s a does.2 is three in
-    let T : Answer → Type 0 = λ b. Told err b in (
-      refused.0,
-      refused.1,
-      refused.2,
-      refused.3,
-      told_line err (answer.Input refused.0 refused.1 refused.2) (subst T refused.5 told),
-    )
+    let T : Answer → Type 0 = λ b. Told err b in
+    (refused.0, refused.1, told_line err (answer.Input 1 0 (cause.Header refused.0)) (subst T refused.3 told))
 
 try_none : (words : List (List ℕ)) (o : Outsides) (a : Answer) (s : ℕ) (job : Job) (p : Printer)
     → Outcome words o a → s ≡ status_of a → AsksFor words o.shelf.told verb.Trial job (Ok p)
@@ -137,15 +141,15 @@ try_valid words o a s job p outcome is asks takes calm calm_out =
     by_case (inl seven) = inr seven
     by_case (inr does) = trial_calm job p o.out s a does.2 is takes calm_out
 
-try_refused : (words : List (List ℕ)) (o : Outsides) (a : Answer) (s : ℕ) (job : Job) (p : Printer) (page line : ℕ) (cause : InputCause)
-    → Outcome words o a → s ≡ status_of a → AsksFor words o.shelf.told verb.Trial job (Ok p) → RefusesMade job p page line cause
+try_refused : (words : List (List ℕ)) (o : Outsides) (a : Answer) (s : ℕ) (job : Job) (p : Printer) (why : HeaderFault)
+    → Outcome words o a → s ≡ status_of a → AsksFor words o.shelf.told verb.Trial job (Ok p) → RefusesMade job p why
     → (HasFailed o.shelf → ⊥) → (s ≡ 3) ⊎ (s ≡ 7)
-try_refused words o a s job p page line cause outcome is asks refuses calm =
+try_refused words o a s job p why outcome is asks refuses calm =
     by_case (calm_work words verb.Trial job p o a s is calm trial_is_none asks outcome)
   where
     by_case : (s ≡ 7) ⊎ VerbOutcome verb.Trial job p o (metered job o.meters) a → (s ≡ 3) ⊎ (s ≡ 7)
     by_case (inl seven) = inr seven
-    by_case (inr does) = trial_bad job p o.out s a page line cause does.2 is refuses
+    by_case (inr does) = trial_bad job p o.out s a why does.2 is refuses
 
 -- a trial reads nothing, and its status is 4 where the shelf failed alone
 unread_trial : (words : List (List ℕ)) (job : Job) (o : Outsides) (a : Answer)
@@ -175,7 +179,7 @@ trial_promises words o err a s outcome told is = record {
   refused_made = λ job p asks three. try_three words o err a s job p outcome told is asks three;
   none_tried = λ job p asks which. try_none words o a s job p outcome is asks which;
   valid_trial = λ job p asks takes calm calm_out. try_valid words o a s job p outcome is asks takes calm calm_out;
-  refused_trial = λ job p page line cause asks refuses calm. try_refused words o a s job p page line cause outcome is asks refuses calm;
+  refused_trial = λ job p why asks refuses calm. try_refused words o a s job p why outcome is asks refuses calm;
   untried = λ job means command_is. unread_trial words job o a outcome means command_is;
   of_shelf = λ job means command_is four. shelf_trial words job o a s outcome is means command_is four;
 }

@@ -24,7 +24,6 @@ use Rattle.driver_core.specs.declared.trial.pages.Written.{Written}
 use Rattle.driver_core.specs.declared.trial.summary.Totals.{Totals}
 use Rattle.driver_core.specs.Printing.Outcome.{stream_answer}
 use Rattle.driver_core.specs.Runs.Fitting.{way_of}
-use Rattle.driver_core.specs.Trying.Outcome.{stream_read}
 use Rattle.driver_core.proofs.Printing.Ends.{stream_ends, stream_faults}
 use Rattle.diffusion_kernel.specs.Tables.{table_of}
 use Rattle.driver_answer.specs.declared.answer.Answer.{Answer}
@@ -37,7 +36,7 @@ use Rattle.pwg_stream.specs.declared.stops.StreamStop.TheVariants as stop
 use Rattle.pwg_stream.specs.Stops.{OnInput}
 use Rattle.weave_base.specs.Causes.{Rose}
 use Rattle.driver_core.specs.Printing.Pages.{job_bytes}
-use Rattle.driver_core.specs.Trying.Pages.{StopsTrying, TriesAll, TriesPage}
+use Rattle.driver_core.specs.Trying.Pages.{StopsTrying, TriesAll, TriesPage, stream_read}
 use Rattle.driver_core.specs.Trying.Summary.{dots_of_pages, rasters_of, rasters_of_pages, stream_made, totals_of}
 use Rattle.driver_core.proofs.Printing.StreamSteps.{StreamRead, StreamSoFar, begun, job-append, read_on, written_on}
 

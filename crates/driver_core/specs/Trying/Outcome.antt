@@ -1,46 +1,62 @@
 -- The outcome of a trial.
-use Rattle.std.specs.Prelude.{◌≡◌, ℕ, List}
+use Rattle.std.specs.Prelude.{◌≡◌, ℕ, List, Result, Ok, Err}
 use Rattle.std.specs.Io.KnownBytes.{Appends, Keeps}
 use Rattle.diffusion_kernel.specs.Tables.{table_of}
 use Rattle.driver_answer.specs.declared.answer.Answer.{Answer}
 use Rattle.driver_answer.specs.declared.answer.Answer.TheVariants as answer
 use Rattle.driver_core.specs.Outside.{HasRisen, Outside}
 use Rattle.driver_core.specs.Runs.Fitting.{way_of}
-use Rattle.driver_core.specs.Trying.Summary.{stream_made, summary}
+use Rattle.driver_core.specs.Trying.Summary.{summary}
 use Rattle.job_words.specs.declared.reading.Job.{Job}
+use Rattle.page_maker.specs.Made.{made_form, made_pages}
 use Rattle.printer_definitions.specs.Printer.{Printer}
+use Rattle.pwg_definitions.specs.declared.faults.HeaderFault.{HeaderFault}
 use Rattle.pwg_definitions.specs.declared.faults.InputCause.{InputCause}
-use Rattle.pwg_definitions.specs.Stream.{Stream, stream}
-use Rattle.pwg_definitions.specs.Stream.StreamEnd.{Done, Fault}
+use Rattle.pwg_definitions.specs.declared.faults.InputCause.TheVariants as cause
+use Rattle.pwg_definitions.specs.declared.pages.PageForm.{PageForm}
+use Rattle.pwg_definitions.specs.Header.{check, header_bytes, header_of}
+use Rattle.pwg_definitions.specs.Stream.{Page}
 use Rattle.separation_definitions.specs.Windows.{wanted_by}
 use Rattle.weave_base.specs.Parts.{AppendsPart}
 
--- what a printer reads of the stream that is made for it; `page_maker` has the laws that it is the made pages, or a
--- refusal of the first one's header
-abbrev pub stream_read : Job → Printer → Stream
-stream_read job p = stream (wanted_by p) (stream_made job p)
+-- the form of the pages that a job has made
+abbrev pub job_form : Job → PageForm
+job_form job = made_form job.width job.height job.kind
+
+-- the pages that a job has made
+abbrev pub job_pages : Job → List Page
+job_pages job = made_pages job.seed job.pages (job_form job)
 
 -- the summary of the pages that a job has made
 abbrev pub job_summary : Job → Printer → List ℕ
-job_summary job p = summary (way_of job) p (table_of job.kernel) (stream_read job p).pages
+job_summary job p = summary (way_of job) p (table_of job.kernel) (job_pages job)
+
+-- what a printer's check says of the header of the made pages, which have the printer's resolution
+abbrev pub made_check : Job → Printer → Result PageForm HeaderFault
+made_check job p = check (wanted_by p) (header_of (header_bytes (job_form job) p.hdpi p.vdpi))
 
 -- The printer takes the made pages.
 abbrev pub TakesMade : Job → Printer → Type 0
-TakesMade job p = (stream_read job p).end ≡ Done
+TakesMade job p = made_check job p ≡ Ok (job_form job)
 
--- The printer refuses the made pages, at this page and line and for this cause.
-abbrev pub RefusesMade : Job → Printer → ℕ → ℕ → InputCause → Type 0
-RefusesMade job p page line cause = (stream_read job p).end ≡ Fault page line cause
+-- The printer refuses the header of the made pages for this reason.
+abbrev pub RefusesMade : Job → Printer → HeaderFault → Type 0
+RefusesMade job p why = made_check job p ≡ Err why
+
+-- This is the fault of the made stream: the header of its first page, which stands before that page's first line.
+abbrev pub IsMadeFault : Job → Printer → ℕ → ℕ → InputCause → Type 0
+IsMadeFault job p page line found =
+    (why : HeaderFault) × RefusesMade job p why × (page ≡ 1) × (line ≡ 0) × (found ≡ cause.Header why)
 
 -- What was tried and written, by the answer. Nothing is read. A failed write is in no page.
 abbrev pub TrialOutcome : Job → Printer → Outside → Answer → Type 0
 TrialOutcome job p out answer.Done = TakesMade job p × Appends out.before out.now (job_summary job p)
-TrialOutcome job p out (answer.Input page line cause) = RefusesMade job p page line cause × Keeps out.before out.now
+TrialOutcome job p out (answer.Input page line found) = IsMadeFault job p page line found × Keeps out.before out.now
 TrialOutcome job p out (answer.Write page) =
     (page ≡ 0) × TakesMade job p × HasRisen out × AppendsPart out.before out.now (job_summary job p)
 TrialOutcome job p out answer.Memory = Keeps out.before out.now
 TrialOutcome job p out answer.Read = ⊥
 TrialOutcome job p out (answer.Usage fault) = ⊥
-TrialOutcome job p out (answer.Profile line cause) = ⊥
+TrialOutcome job p out (answer.Profile line why) = ⊥
 TrialOutcome job p out (answer.OverCap page total dots cap) = ⊥
-TrialOutcome job p out (answer.Job offset cause) = ⊥
+TrialOutcome job p out (answer.Job offset why) = ⊥

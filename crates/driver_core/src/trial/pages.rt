@@ -28,7 +28,7 @@ use job_player::JobCounter;
 use job_words::Job;
 use page_maker::{PageMaker, made_form};
 use page_writer::PageSum;
-use printer_profile::Profile;
+use printer_profile::{Profile, checked_can_print};
 use pwg_stream::{MOST_PAGES, PageReader};
 use std::alloc::Global;
 use std::thread::Threads;
@@ -148,6 +148,7 @@ pub fn try_pages<R: Threads + Sync, K: Sink, G: Gate + Sync>(
     ensures { TrialOutcome job.now profile.now
         (outside_of K.held K.faults out.old out.new) (answer_of result) }
 {
+    checked_can_print(*profile);
     let (hdpi, vdpi) = (u32::from(profile.hdpi), u32::from(profile.vdpi));
     let form = made_form(job.width, job.height, job.kind);
     let Ok(mut maker) = PageMaker::make(alloc, job.seed, job.pages, form, hdpi, vdpi) else {
