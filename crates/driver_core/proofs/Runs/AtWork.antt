@@ -1,5 +1,6 @@
 -- A command at work.
 use Rattle.std.proofs.Common.{◌≡◌, ℕ, ◌⊎◌, List, None, Result, Ok, inl, inr, sym, ◌∙◌, ap, subst, arith}
+use Rattle.std.specs.Io.KnownBytes.{Keeps}
 use Rattle.driver_answer.specs.Answers.{status_of}
 use Rattle.driver_answer.specs.declared.answer.Answer.{Answer}
 use Rattle.driver_answer.specs.Stops.{profile_answer}
@@ -62,14 +63,29 @@ calm_work words command job p o a s is calm other asks outcome = by_case (has_pr
     by_case (HasNone (ShelfFull e) untouched uncounted) = inl (is ∙ ap status_of e)
     by_case (Does does) = inr does
 
+-- a command that is not the listing of a job has no profile, or did its work
+found : (words : List (List ℕ)) (command : Verb) (job : Job) (o : Outsides) (a : Answer)
+    → (command ≡ verb.List → ⊥) → Outcome words o a → job_meaning words ≡ Ok job → job.verb ≡ command
+    → NoProfile (profile_named words) job o a ⊎ ((p : Printer) × VerbOutcome command job p o (metered job o.meters) a)
+found words command job o a other outcome means command_is =
+    let L : Result Job UsageFault → Type 0 = λ r. LineOutcome r (profile_named words) o a in
+    by_case (subst L means outcome)
+  where
+    by_case : ListsJob job o a ⊎ (NoProfile (profile_named words) job o a ⊎ WithProfile (profile_named words) job o a)
+        → NoProfile (profile_named words) job o a ⊎ ((p : Printer) × VerbOutcome command job p o (metered job o.meters) a)
+    by_case (inl lists) = absurd (other (sym command_is ∙ lists.command_is))
+    by_case (inr (inl none)) = inl none
+    by_case (inr (inr has)) =
+        let V : Verb → Type 0 = λ v. VerbOutcome v job has.p o (metered job o.meters) a in
+        inr (has.p, subst V command_is has.outcome)
+
 -- where a command reads nothing, the status is 4 only where the shelf failed, which is asked for what is not built in
 pub of_shelf : (words : List (List ℕ)) (command : Verb) (job : Job) (o : Outsides) (a : Answer) (s : ℕ)
     → (command ≡ verb.List → ⊥) → ((p : Printer) → VerbOutcome command job p o (metered job o.meters) a → s ≡ 4 → ⊥)
     → Outcome words o a → s ≡ status_of a → job_meaning words ≡ Ok job → job.verb ≡ command → s ≡ 4
     → HasFailed o.shelf × (built_in (profile_named words) ≡ None)
 of_shelf words command job o a s other never outcome is means command_is four =
-    let L : Result Job UsageFault → Type 0 = λ r. LineOutcome r (profile_named words) o a in
-    by_case (subst L means outcome)
+    by_case (found words command job o a other outcome means command_is)
   where
     by_stop : (why : ProfileStop) → ProfileStopped job (profile_named words) o.shelf why
         → s ≡ status_of (profile_answer why) → HasFailed o.shelf × (built_in (profile_named words) ≡ None)
@@ -77,10 +93,19 @@ of_shelf words command job o a s other never outcome is means command_is four =
     by_stop profile.Failed stopped e = stopped
     by_stop profile.Memory stopped e = absurd (omega arith)
 
-    by_case : ListsJob job o a ⊎ (NoProfile (profile_named words) job o a ⊎ WithProfile (profile_named words) job o a)
+    by_case : NoProfile (profile_named words) job o a ⊎ ((p : Printer) × VerbOutcome command job p o (metered job o.meters) a)
         → HasFailed o.shelf × (built_in (profile_named words) ≡ None)
-    by_case (inl lists) = absurd (other (sym command_is ∙ lists.command_is))
-    by_case (inr (inl none)) = by_stop none.lacks.why none.lacks.stopped (is ∙ ap status_of none.lacks.answered)
-    by_case (inr (inr has)) =
-        let V : Verb → Type 0 = λ v. VerbOutcome v job has.p o (metered job o.meters) a in
-        absurd (never has.p (subst V command_is has.outcome) four)
+    by_case (inl none) = by_stop none.lacks.why none.lacks.stopped (is ∙ ap status_of none.lacks.answered)
+    by_case (inr does) = absurd (never does.0 does.1 four)
+
+-- the input is unread where the command reads none of it
+pub unread_work : (words : List (List ℕ)) (command : Verb) (job : Job) (o : Outsides) (a : Answer) → (command ≡ verb.List → ⊥)
+    → ((p : Printer) → VerbOutcome command job p o (metered job o.meters) a → Keeps o.input.before o.input.now)
+    → Outcome words o a → job_meaning words ≡ Ok job → job.verb ≡ command → Keeps o.input.before o.input.now
+unread_work words command job o a other reads_none outcome means command_is =
+    by_case (found words command job o a other outcome means command_is)
+  where
+    by_case : NoProfile (profile_named words) job o a ⊎ ((p : Printer) × VerbOutcome command job p o (metered job o.meters) a)
+        → Keeps o.input.before o.input.now
+    by_case (inl none) = none.untouched.0
+    by_case (inr does) = reads_none does.0 does.1

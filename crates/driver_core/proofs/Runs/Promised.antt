@@ -81,21 +81,23 @@ list_refuses_none job o a s lists is which = by_status (list_status job o a s li
     by_status : (s ≡ 0) ⊎ (s ≡ 4) ⊎ (s ≡ 5) ⊎ (s ≡ 7) ⊎ (s ≡ 8) → (s ≡ 1) ⊎ (s ≡ 2) ⊎ (s ≡ 3) ⊎ (s ≡ 6) → ⊥
     by_status at which = omega (arith, at, which)
 
+-- and that a run without a profile does not give
+no_profile : (why : ProfileStop) (s : ℕ) → s ≡ status_of (profile_answer why)
+    → (s ≡ 1) ⊎ (s ≡ 3) ⊎ (s ≡ 5) ⊎ (s ≡ 6) ⊎ (s ≡ 8) → ⊥
+no_profile (profile.Refused line cause) s is which = omega (arith, which)
+no_profile profile.Failed s is which = omega (arith, which)
+no_profile profile.Memory s is which = omega (arith, which)
+
 -- ---- words and profiles
 
 usage_status : (words : List (List ℕ)) (o : Outsides) (a : Answer) (s : ℕ)
     → Outcome words o a → s ≡ status_of a → (s ≡ 1) → IsErr (job_meaning words)
 usage_status words o a s outcome is one = by_meaning (job_meaning words) outcome
   where
-    by_stop : (why : ProfileStop) → s ≡ status_of (profile_answer why) → ⊥
-    by_stop (profile.Refused line cause) e = omega arith
-    by_stop profile.Failed e = omega arith
-    by_stop profile.Memory e = omega arith
-
     by_meaning : (r : Result Job UsageFault) → LineOutcome r (profile_named words) o a → IsErr r
     by_meaning (Err fault) did = refl
     by_meaning (Ok job) (inl lists) = absurd (list_refuses_none job o a s lists is (inl one))
-    by_meaning (Ok job) (inr (inl none)) = absurd (by_stop none.lacks.why (is ∙ ap status_of none.lacks.answered))
+    by_meaning (Ok job) (inr (inl none)) = absurd (no_profile none.lacks.why s (is ∙ ap status_of none.lacks.answered) (inl one))
     by_meaning (Ok job) (inr (inr has)) =
         absurd (verb_refuses_none job.verb job has.p o (metered job o.meters) a s has.outcome is (inl one))
 
@@ -189,11 +191,6 @@ read_status words o a s outcome is four = by_meaning (job_meaning words) outcome
 write_status : (words : List (List ℕ)) (o : Outsides) (a : Answer) (s : ℕ) → Outcome words o a → s ≡ status_of a → s ≡ 5 → HasRisen o.out
 write_status words o a s outcome is five = by_meaning (job_meaning words) outcome
   where
-    by_stop : (why : ProfileStop) → s ≡ status_of (profile_answer why) → ⊥
-    by_stop (profile.Refused line cause) e = omega arith
-    by_stop profile.Failed e = omega arith
-    by_stop profile.Memory e = omega arith
-
     by_verb : (v : Verb) (job : Job) (p : Printer) (meters : Meters) → VerbOutcome v job p o meters a → HasRisen o.out
     by_verb verb.Print job p meters does = (print_part (way_of job) p (table_of job.kernel) o.input o.out meters s a does is five).3
     by_verb verb.Dots job p meters does = (play_part p job.most o.input o.out s a does.1 is five).2
@@ -204,7 +201,7 @@ write_status words o a s outcome is five = by_meaning (job_meaning words) outcom
     by_meaning : (r : Result Job UsageFault) → LineOutcome r (profile_named words) o a → HasRisen o.out
     by_meaning (Err fault) did = absurd (let one : s ≡ 1 = is ∙ ap status_of did.0 in omega arith)
     by_meaning (Ok job) (inl lists) = (list_part job.most o.input o.out s a lists.lists is five).1
-    by_meaning (Ok job) (inr (inl none)) = absurd (by_stop none.lacks.why (is ∙ ap status_of none.lacks.answered))
+    by_meaning (Ok job) (inr (inl none)) = absurd (no_profile none.lacks.why s (is ∙ ap status_of none.lacks.answered) (inr (inr (inl five))))
     by_meaning (Ok job) (inr (inr has)) = by_verb job.verb job has.p (metered job o.meters) has.outcome
 
 -- 3 is the status of printing, and of trying
@@ -212,11 +209,6 @@ of_print_status : (words : List (List ℕ)) (o : Outsides) (a : Answer) (s : ℕ
     → (job : Job) × (job_meaning words ≡ Ok job) × ((job.verb ≡ verb.Print) ⊎ (job.verb ≡ verb.Trial))
 of_print_status words o a s outcome is three = by_meaning (job_meaning words) refl outcome
   where
-    by_stop : (why : ProfileStop) → s ≡ status_of (profile_answer why) → ⊥
-    by_stop (profile.Refused line cause) e = omega arith
-    by_stop profile.Failed e = omega arith
-    by_stop profile.Memory e = omega arith
-
     plays_none : (job : Job) (p : Printer) → PlayOutcome p job.most o.input o.out a → ⊥
     plays_none job p does =
         let at = is_input a (sym three ∙ is) in subst (PlayOutcome p job.most o.input o.out) at.3 does
@@ -236,7 +228,7 @@ of_print_status words o a s outcome is three = by_meaning (job_meaning words) re
         → (job : Job) × (job_meaning words ≡ Ok job) × ((job.verb ≡ verb.Print) ⊎ (job.verb ≡ verb.Trial))
     by_meaning (Err fault) means did = absurd (let one : s ≡ 1 = is ∙ ap status_of did.0 in omega arith)
     by_meaning (Ok job) means (inl lists) = absurd (list_refuses_none job o a s lists is (inr (inr (inl three))))
-    by_meaning (Ok job) means (inr (inl none)) = absurd (by_stop none.lacks.why (is ∙ ap status_of none.lacks.answered))
+    by_meaning (Ok job) means (inr (inl none)) = absurd (no_profile none.lacks.why s (is ∙ ap status_of none.lacks.answered) (inr (inl three)))
     by_meaning (Ok job) means (inr (inr has)) = (job, means, by_verb job has.p job.verb refl has.outcome)
 
 -- 8 is the status of the commands that look at a job
@@ -244,11 +236,6 @@ of_job_status : (words : List (List ℕ)) (o : Outsides) (a : Answer) (s : ℕ) 
     → (job : Job) × (job_meaning words ≡ Ok job) × ((job.verb ≡ verb.List) ⊎ (job.verb ≡ verb.Dots))
 of_job_status words o a s outcome is eight = by_meaning (job_meaning words) refl outcome
   where
-    by_stop : (why : ProfileStop) → s ≡ status_of (profile_answer why) → ⊥
-    by_stop (profile.Refused line cause) e = omega arith
-    by_stop profile.Failed e = omega arith
-    by_stop profile.Memory e = omega arith
-
     print_plays_none : (job : Job) (p : Printer)
         → PrintOutcome (way_of job) p (table_of job.kernel) o.input o.out (metered job o.meters) a → ⊥
     print_plays_none job p does =
@@ -273,7 +260,7 @@ of_job_status words o a s outcome is eight = by_meaning (job_meaning words) refl
         → (job : Job) × (job_meaning words ≡ Ok job) × ((job.verb ≡ verb.List) ⊎ (job.verb ≡ verb.Dots))
     by_meaning (Err fault) means did = absurd (let one : s ≡ 1 = is ∙ ap status_of did.0 in omega arith)
     by_meaning (Ok job) means (inl lists) = (job, means, inl lists.command_is)
-    by_meaning (Ok job) means (inr (inl none)) = absurd (by_stop none.lacks.why (is ∙ ap status_of none.lacks.answered))
+    by_meaning (Ok job) means (inr (inl none)) = absurd (no_profile none.lacks.why s (is ∙ ap status_of none.lacks.answered) (inr (inr (inr (inr eight)))))
     by_meaning (Ok job) means (inr (inr has)) = (job, means, by_verb job has.p job.verb refl has.outcome)
 
 -- ---- the line
@@ -310,11 +297,6 @@ pub over_status : (words : List (List ℕ)) (o : Outsides) (err : Outside) (a : 
     → Outcome words o a → Told err a → s ≡ status_of a → s ≡ 6 → WentOver words o err
 over_status words o err a s outcome told is six = by_meaning (job_meaning words) refl outcome
   where
-    by_stop : (why : ProfileStop) → s ≡ status_of (profile_answer why) → ⊥
-    by_stop (profile.Refused line cause) e = omega arith
-    by_stop profile.Failed e = omega arith
-    by_stop profile.Memory e = omega arith
-
     plays_under : (p : Printer) (job : Job) → PlayOutcome p job.most o.input o.out a → ⊥
     plays_under p job does =
         let at = is_over_cap a (sym six ∙ is) in subst (PlayOutcome p job.most o.input o.out) at.4 does
@@ -354,7 +336,7 @@ over_status words o err a s outcome told is six = by_meaning (job_meaning words)
     by_meaning : (r : Result Job UsageFault) → job_meaning words ≡ r → LineOutcome r (profile_named words) o a → WentOver words o err
     by_meaning (Err fault) means did = absurd (let one : s ≡ 1 = is ∙ ap status_of did.0 in omega arith)
     by_meaning (Ok job) means (inl lists) = absurd (list_refuses_none job o a s lists is (inr (inr (inr six))))
-    by_meaning (Ok job) means (inr (inl none)) = absurd (by_stop none.lacks.why (is ∙ ap status_of none.lacks.answered))
+    by_meaning (Ok job) means (inr (inl none)) = absurd (no_profile none.lacks.why s (is ∙ ap status_of none.lacks.answered) (inr (inr (inr (inl six)))))
     by_meaning (Ok job) means (inr (inr has)) = by_verb job has.p means has.is job.verb refl has.outcome
 
 -- ---- meters that count nothing

@@ -1,13 +1,11 @@
 -- The promises of a run for the command `profile`.
-use Rattle.std.proofs.Common.{◌≡◌, ℕ, ◌⊎◌, List, None, Result, Ok, inl, inr, sym, ◌∙◌, ap, subst, arith}
+use Rattle.std.proofs.Common.{◌≡◌, ℕ, ◌⊎◌, List, None, Ok, inl, inr, sym, ◌∙◌, ap, subst, arith}
 use Rattle.std.specs.Io.KnownBytes.{Appends, Keeps}
 use Rattle.driver_answer.specs.Answers.{status_of}
 use Rattle.driver_answer.specs.declared.answer.Answer.TheVariants as answer
 use Rattle.driver_answer.specs.declared.answer.Answer.{Answer}
 use Rattle.job_words.specs.declared.reading.Job.{Job}
 use Rattle.job_words.specs.declared.table.Verb.TheVariants as verb
-use Rattle.job_words.specs.declared.table.Verb.{Verb}
-use Rattle.job_words.specs.declared.usage.UsageFault.{UsageFault}
 use Rattle.job_words.specs.Meaning.{job_meaning, profile_named}
 use Rattle.printer_definitions.specs.Printer.{Printer}
 use Rattle.printer_profile.specs.Profiles.{built_in}
@@ -15,13 +13,12 @@ use Rattle.printer_profile.specs.Text.{profile_text_of}
 use Rattle.weave_base.specs.Parts.{AppendsPart}
 use Rattle.driver_core.specs.Outside.{HasFailed, HasRisen, IsCalm, Outside, Outsides}
 use Rattle.driver_core.specs.Runs.Asking.{AsksFor}
-use Rattle.driver_core.specs.Runs.Outcome.{LineOutcome, ListsJob, NoProfile, Outcome, Tells, Told, VerbOutcome}
-use Rattle.driver_core.specs.Runs.Outcome.{WithProfile, metered}
+use Rattle.driver_core.specs.Runs.Outcome.{Outcome, Tells, Told, VerbOutcome, metered}
 use Rattle.driver_core.specs.Showing.Outcome.{ShowOutcome}
 use Rattle.driver_core.specs.Showing.Promises.{ProfilePromises}
 use Rattle.driver_core.proofs.Runs.Asked.{HasProfile, has_profile, told_line}
 use Rattle.driver_core.proofs.Runs.Asked.HasProfile.{HasNone, Does}
-use Rattle.driver_core.proofs.Runs.AtWork.{at_work, calm_work, of_shelf, profile_is_none}
+use Rattle.driver_core.proofs.Runs.AtWork.{at_work, calm_work, of_shelf, profile_is_none, unread_work}
 use Rattle.driver_core.proofs.Runs.Statuses.{is_done, is_memory, is_read, is_write}
 
 show_done : (p : Printer) (out : Outside) (s : ℕ) (a : Answer) → ShowOutcome p out a → s ≡ status_of a → s ≡ 0
@@ -89,20 +86,6 @@ show_stopped words o a s job p outcome is asks which = by_case (has_profile word
     by_case (HasNone none untouched uncounted) = untouched.1
     by_case (Does does) = show_none p o.out s a does.2 is which
 
-unread_profile : (words : List (List ℕ)) (job : Job) (o : Outsides) (a : Answer)
-    → Outcome words o a → job_meaning words ≡ Ok job → job.verb ≡ verb.Profile → Keeps o.input.before o.input.now
-unread_profile words job o a outcome means command_is =
-    let L : Result Job UsageFault → Type 0 = λ r. LineOutcome r (profile_named words) o a in
-    by_case (subst L means outcome)
-  where
-    by_case : ListsJob job o a ⊎ (NoProfile (profile_named words) job o a ⊎ WithProfile (profile_named words) job o a)
-        → Keeps o.input.before o.input.now
-    by_case (inl lists) = absurd (profile_is_none (sym command_is ∙ lists.command_is))
-    by_case (inr (inl none)) = none.untouched.0
-    by_case (inr (inr has)) =
-        let V : Verb → Type 0 = λ v. VerbOutcome v job has.p o (metered job o.meters) a in
-        (subst V command_is has.outcome).0
-
 shelf_profile : (words : List (List ℕ)) (job : Job) (o : Outsides) (a : Answer) (s : ℕ) → Outcome words o a → s ≡ status_of a
     → job_meaning words ≡ Ok job → job.verb ≡ verb.Profile → s ≡ 4 → HasFailed o.shelf × (built_in (profile_named words) ≡ None)
 shelf_profile words job o a s outcome is =
@@ -115,6 +98,6 @@ profile_promises words o err a s outcome told is = record {
   shown = λ job p asks zero. show_zero words o a s job p outcome is asks zero;
   part_shown = λ job p asks five. show_five words o err a s job p outcome told is asks five;
   none_shown = λ job p asks which. show_stopped words o a s job p outcome is asks which;
-  unread = λ job means command_is. unread_profile words job o a outcome means command_is;
+  unread = λ job means command_is. unread_work words verb.Profile job o a profile_is_none (λ p does. does.0) outcome means command_is;
   shown_of_shelf = λ job means command_is four. shelf_profile words job o a s outcome is means command_is four;
 }

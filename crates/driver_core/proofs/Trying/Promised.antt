@@ -6,8 +6,6 @@ use Rattle.driver_answer.specs.declared.answer.Answer.TheVariants as answer
 use Rattle.driver_answer.specs.declared.answer.Answer.{Answer}
 use Rattle.job_words.specs.declared.reading.Job.{Job}
 use Rattle.job_words.specs.declared.table.Verb.TheVariants as verb
-use Rattle.job_words.specs.declared.table.Verb.{Verb}
-use Rattle.job_words.specs.declared.usage.UsageFault.{UsageFault}
 use Rattle.job_words.specs.Meaning.{job_meaning, profile_named}
 use Rattle.printer_definitions.specs.Printer.{Printer}
 use Rattle.printer_profile.specs.Profiles.{built_in}
@@ -19,13 +17,12 @@ use Rattle.pwg_definitions.specs.declared.pages.PageForm.{PageForm}
 use Rattle.weave_base.specs.Parts.{AppendsPart}
 use Rattle.driver_core.specs.Outside.{HasFailed, HasRisen, IsCalm, Outside, Outsides}
 use Rattle.driver_core.specs.Runs.Asking.{AsksFor}
-use Rattle.driver_core.specs.Runs.Outcome.{LineOutcome, ListsJob, NoProfile, Outcome, Tells, Told, VerbOutcome}
-use Rattle.driver_core.specs.Runs.Outcome.{WithProfile, metered}
-use Rattle.driver_core.specs.Trying.Outcome.{IsMadeFault, RefusesMade, TakesMade, TrialOutcome, job_form, job_pages, job_summary, made_check}
+use Rattle.driver_core.specs.Runs.Outcome.{Outcome, Tells, Told, VerbOutcome, metered}
+use Rattle.driver_core.specs.Trying.Outcome.{RefusesMade, TakesMade, TrialOutcome, job_form, job_pages, job_summary}
 use Rattle.driver_core.specs.Trying.Promises.{TrialPromises}
 use Rattle.driver_core.proofs.Runs.Asked.{HasProfile, has_profile, told_line}
 use Rattle.driver_core.proofs.Runs.Asked.HasProfile.{HasNone, Does}
-use Rattle.driver_core.proofs.Runs.AtWork.{at_work, calm_work, of_shelf, trial_is_none}
+use Rattle.driver_core.proofs.Runs.AtWork.{at_work, calm_work, of_shelf, trial_is_none, unread_work}
 use Rattle.driver_core.proofs.Runs.Statuses.{is_done, is_input, is_memory, is_read, is_write}
 
 -- ---- what a trial came to, by the status
@@ -151,21 +148,7 @@ try_refused words o a s job p why outcome is asks refuses calm =
     by_case (inl seven) = inr seven
     by_case (inr does) = trial_bad job p o.out s a why does.2 is refuses
 
--- a trial reads nothing, and its status is 4 where the shelf failed alone
-unread_trial : (words : List (List ℕ)) (job : Job) (o : Outsides) (a : Answer)
-    → Outcome words o a → job_meaning words ≡ Ok job → job.verb ≡ verb.Trial → Keeps o.input.before o.input.now
-unread_trial words job o a outcome means command_is =
-    let L : Result Job UsageFault → Type 0 = λ r. LineOutcome r (profile_named words) o a in
-    by_case (subst L means outcome)
-  where
-    by_case : ListsJob job o a ⊎ (NoProfile (profile_named words) job o a ⊎ WithProfile (profile_named words) job o a)
-        → Keeps o.input.before o.input.now
-    by_case (inl lists) = absurd (trial_is_none (sym command_is ∙ lists.command_is))
-    by_case (inr (inl none)) = none.untouched.0
-    by_case (inr (inr has)) =
-        let V : Verb → Type 0 = λ v. VerbOutcome v job has.p o (metered job o.meters) a in
-        (subst V command_is has.outcome).0
-
+-- the status is 4 where the shelf failed alone
 shelf_trial : (words : List (List ℕ)) (job : Job) (o : Outsides) (a : Answer) (s : ℕ) → Outcome words o a → s ≡ status_of a
     → job_meaning words ≡ Ok job → job.verb ≡ verb.Trial → s ≡ 4 → HasFailed o.shelf × (built_in (profile_named words) ≡ None)
 shelf_trial words job o a s outcome is =
@@ -180,6 +163,6 @@ trial_promises words o err a s outcome told is = record {
   none_tried = λ job p asks which. try_none words o a s job p outcome is asks which;
   valid_trial = λ job p asks takes calm calm_out. try_valid words o a s job p outcome is asks takes calm calm_out;
   refused_trial = λ job p why asks refuses calm. try_refused words o a s job p why outcome is asks refuses calm;
-  untried = λ job means command_is. unread_trial words job o a outcome means command_is;
+  untried = λ job means command_is. unread_work words verb.Trial job o a trial_is_none (λ p does. does.0) outcome means command_is;
   of_shelf = λ job means command_is four. shelf_trial words job o a s outcome is means command_is four;
 }
