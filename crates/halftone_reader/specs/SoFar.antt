@@ -54,6 +54,7 @@ pub record Begun : Type 0 where
   pub reader : PageReader
   pub before : Option (List ℕ)
 
+-- the page that begins with this form, where this was left of the input
 abbrev pub begun : Printer → Kernel → PageForm → PageReader → Option (List ℕ) → Begun
 begun p k form reader before = record { profile = p; kernel = k; form = form; reader = reader; before = before }
 
