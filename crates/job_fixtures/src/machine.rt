@@ -107,8 +107,26 @@ impl Machine {
         Ok(())
     }
 
-    fn raster_fault(&self, said: &Said, dots: &[Dot]) -> Option<&'static str> {
+    // Whether one of these dots is at or below the bottom margin.
+    fn is_below(&self, dots: &[Dot]) -> bool {
         let (_, bottom) = self.margins.unwrap_or((0, 0));
+        let mut is_below = false;
+        for dot in dots {
+            is_below |= dot.y >= bottom;
+        }
+        is_below
+    }
+
+    // Whether one of these dots was fired before.
+    fn is_fired(&self, dots: &[Dot]) -> bool {
+        let mut is_fired = false;
+        for dot in dots {
+            is_fired |= self.dots.contains(dot);
+        }
+        is_fired
+    }
+
+    fn raster_fault(&self, said: &Said, dots: &[Dot]) -> Option<&'static str> {
         let end = self.across.div_euclid(STEP).wrapping_add(said.number(4));
         let tests = [
             (!self.graphics, "NotGraphics"),
@@ -123,11 +141,8 @@ impl Machine {
                 self.across.rem_euclid(STEP) != 0 || self.from_top().rem_euclid(STEP) != 0,
                 "OffGrid",
             ),
-            (
-                end > 8191 || dots.iter().any(|dot| dot.y >= bottom),
-                "OffSheet",
-            ),
-            (dots.iter().any(|dot| self.dots.contains(dot)), "Overprint"),
+            (end > 8191 || self.is_below(dots), "OffSheet"),
+            (self.is_fired(dots), "Overprint"),
         ];
         first_of(&tests)
     }

@@ -14,12 +14,16 @@ pub struct PlainOutcome {
     pub stop: Option<(u64, &'static str)>,
 }
 
-// Commands, each with its place in the job, and the stop behind them.
-type Commands = (Vec<(u64, Said)>, Option<(u64, &'static str)>);
+// The commands of a job, and the stop behind them.
+#[derive(Drop)]
+struct Commands {
+    said: Vec<Said>,
+    stop: Option<(u64, &'static str)>,
+}
 
 // Appends the line of a command.
-fn add_line(alloc: Global, at: u64, said: &Said, out: &mut Vec<u8>) -> Result<(), AllocError> {
-    let start = format!(in alloc; "{} {}", at, said.name.word())?;
+fn add_line(alloc: Global, said: &Said, out: &mut Vec<u8>) -> Result<(), AllocError> {
+    let start = format!(in alloc; "{} {}", said.at, said.name.word())?;
     out.extend_from_slice(start.as_bytes())?;
     for number in said.numbers.iter() {
         let number = format!(in alloc; " {}", number)?;
@@ -35,50 +39,51 @@ fn add_line(alloc: Global, at: u64, said: &Said, out: &mut Vec<u8>) -> Result<()
 // The commands of a job up to a stop.
 fn read(alloc: Global, job: &[u8]) -> Result<Commands, AllocError> {
     let mut said = Vec::new(alloc);
+    let mut stop = None;
     let mut unread = JobBytesLeft {
         rest: job,
         at: 0,
+        last: 0,
         alloc,
     };
     for _ in 0..job.len() {
-        if unread.rest.is_empty() {
-            return Ok((said, None));
+        if unread.rest.is_empty() || stop.is_some() {
+            break;
         }
-        let at = unread.at;
         match unread.command() {
-            Ok(command) => said.push((at, command))?,
-            Err(Stop::Cut) => return Ok((said, Some((at, "Cut")))),
-            Err(Stop::Fault { at, cause }) => return Ok((said, Some((at, cause)))),
+            Ok(command) => said.push(command)?,
+            Err(Stop::Cut) => stop = Some((unread.last, "Cut")),
+            Err(Stop::Fault { at, cause }) => stop = Some((at, cause)),
             Err(Stop::Memory) => return Err(AllocError),
         }
     }
-    Ok((said, None))
+    Ok(Commands { said, stop })
 }
 
 /// The listing of a job, a line for each command.
 pub fn listed(alloc: Global, job: &[u8]) -> Result<PlainOutcome, AllocError> {
-    let (commands, stop) = read(alloc, job)?;
+    let commands = read(alloc, job)?;
     let mut out = Vec::new(alloc);
-    for (at, said) in commands.iter() {
-        add_line(alloc, *at, said, &mut out)?;
+    for said in commands.said.iter() {
+        add_line(alloc, said, &mut out)?;
     }
     Ok(PlainOutcome {
         out,
         ends: Vec::new(alloc),
-        stop,
+        stop: commands.stop,
     })
 }
 
 /// The images of the sheets that a job ejects on the printer `tiny`.
 pub fn played(alloc: Global, job: &[u8]) -> Result<PlainOutcome, AllocError> {
-    let (commands, stop) = read(alloc, job)?;
+    let commands = read(alloc, job)?;
     let mut machine = Machine::start(alloc);
-    let mut out = Vec::new(alloc);
-    let mut ends = Vec::new(alloc);
-    for (at, said) in commands.iter() {
+    let (mut out, mut ends) = (Vec::new(alloc), Vec::new(alloc));
+    let mut stop = commands.stop;
+    for said in commands.said.iter() {
         if let Some(fault) = machine.run(said, &mut out)? {
-            let stop = Some((*at, fault));
-            return Ok(PlainOutcome { out, ends, stop });
+            stop = Some((said.at, fault));
+            break;
         }
         if said.name == Name::Eject {
             ends.push(out.len())?;

@@ -2,7 +2,7 @@
 use std::alloc::{AllocError, Global};
 
 /// Why bytes are not a command.
-#[derive(Clone, Copy, Debug, PartialEq, Eq)]
+#[derive(Clone, Copy)]
 pub enum Stop {
     /// The job ends inside a command.
     Cut,
@@ -19,7 +19,7 @@ impl From<AllocError> for Stop {
 }
 
 /// The name of a command, as it is listed.
-#[derive(Clone, Copy, Debug, PartialEq, Eq)]
+#[derive(Clone, Copy, PartialEq, Eq)]
 pub enum Name {
     Init,
     Graphics,
@@ -59,9 +59,10 @@ impl Name {
     }
 }
 
-/// A command, its numbers in their order, and the rows of a raster.
+/// A command, the offset of its first byte in the job, its numbers in their order, and the rows of a raster.
 #[derive(Drop)]
 pub struct Said {
+    pub at: u64,
     pub name: Name,
     pub numbers: Vec<u16>,
     pub rows: Vec<u8>,
@@ -74,11 +75,12 @@ impl Said {
     }
 }
 
-/// The unread bytes of a job, and the offset of the first.
+/// The unread bytes of a job, and the offsets of the first of them and of the last command.
 #[derive(Clone, Copy)]
 pub struct JobBytesLeft<'a> {
     pub rest: &'a [u8],
     pub at: u64,
+    pub last: u64,
     pub alloc: Global,
 }
 
@@ -102,6 +104,7 @@ impl JobBytesLeft<'_> {
 
     fn said(&self, name: Name, numbers: &[u16]) -> Result<Said, Stop> {
         Ok(Said {
+            at: self.last,
             name,
             numbers: numbers.to_vec(self.alloc)?,
             rows: Vec::new(self.alloc),
@@ -128,18 +131,24 @@ impl JobBytesLeft<'_> {
         Ok(number)
     }
 
+    // A byte of a length.
+    fn length_byte(&mut self, wanted: u8) -> Result<(), Stop> {
+        if self.byte()? == wanted {
+            Ok(())
+        } else {
+            self.refuse(0, "BadLength")
+        }
+    }
+
     // The two bytes of a length.
     fn length(&mut self, length: u8) -> Result<(), Stop> {
-        for wanted in [length, 0] {
-            if self.byte()? != wanted {
-                return self.refuse(0, "BadLength");
-            }
-        }
-        Ok(())
+        self.length_byte(length)?;
+        self.length_byte(0)
     }
 
     /// The next command.
     pub fn command(&mut self) -> Result<Said, Stop> {
+        self.last = self.at;
         match self.byte()? {
             0x1B => self.escape(),
             0x0D => self.said(Name::Return, &[]),
@@ -232,29 +241,33 @@ impl JobBytesLeft<'_> {
         Ok(())
     }
 
+    // Appends a packet, of which the row takes at most `left` bytes, and gives their number.
+    fn packet(&mut self, left: usize, rows: &mut Vec<u8>) -> Result<usize, Stop> {
+        let control = usize::from(self.byte()?);
+        let count = match control {
+            0..=127 => control + 1,
+            128 => usize::MAX,
+            _ => 257 - control,
+        };
+        if count > left {
+            return self.refuse(0, "RunCode");
+        }
+        if control < 128 {
+            self.copy(count, rows)?;
+        } else {
+            let byte = self.byte()?;
+            rows.resize(rows.len().saturating_add(count), byte)?;
+        }
+        Ok(count)
+    }
+
     // Appends a row of `width` bytes, by its packets.
     fn coded_row(&mut self, width: usize, rows: &mut Vec<u8>) -> Result<(), Stop> {
         let mut left = width;
         for _ in 0..width {
-            if left == 0 {
-                return Ok(());
+            if left > 0 {
+                left = left.saturating_sub(self.packet(left, rows)?);
             }
-            let control = usize::from(self.byte()?);
-            let count = if control < 128 {
-                control + 1
-            } else {
-                257 - control
-            };
-            if control == 128 || count > left {
-                return self.refuse(0, "RunCode");
-            }
-            if control < 128 {
-                self.copy(count, rows)?;
-            } else {
-                let byte = self.byte()?;
-                rows.resize(rows.len().saturating_add(count), byte)?;
-            }
-            left -= count;
         }
         Ok(())
     }
