@@ -18,8 +18,6 @@ mod lines;
 mod separation;
 mod slab;
 mod stages;
-#[cfg(test)]
-mod tests;
 
 use job_profile::find_profile;
 use job_words::{Words, profile_name, read_words};

@@ -16,7 +16,7 @@ use wavefront_team::{OpenGate, Team};
 use weave_base::Source;
 
 /// How far a page is taken.
-#[derive(Clone, Copy, Debug, PartialEq, Eq)]
+#[derive(Clone, Copy, PartialEq, Eq)]
 pub enum Stage {
     /// Its lines are read.
     Read,
