@@ -14,7 +14,8 @@ use Rattle.spool_queue.specs.declared.job.SpoolJob.{SpoolJob}
 use Rattle.spool_queue.specs.declared.rule.QueueView.{QueueView}
 use Rattle.spool_queue.specs.Jobs.{Stream, jobs_of, numbered, sent_by, count_sent}
 use Rattle.spool_queue.specs.Rule.{printer_view, sender_view, spent_view, FitsSender, FitsPrinter, HasEnded, FollowsRule, IsNext, IsSettled}
-use Rattle.spool_queue.proofs.Lists.{jobs_of-append, jobs_of_here, jobs_of_else, numbered_snoc, not_empty, next_number, put, put_here, put_else, at_last_or, length_sent}
+use Rattle.spool_queue.proofs.Lists.{jobs_of-append, jobs_of_here, jobs_of_else, numbered_snoc, not_empty, next_number, put, put_here, put_else, at_last_or}
+use Rattle.spool_queue.proofs.Sums.{length_sent}
 
 no_sender : (v : QueueView) → v.sends ≡ false → v.sends ≡ true → ⊥
 no_sender v e p = true≢false (sym p ∙ e)
@@ -132,7 +133,7 @@ settles pass v may all items views h at =
     let f = h.printers pass v at may in
     let sent = settled_sent items views h pass v all f in
     let each : (s : ℕ) → jobs_of s (v.taken ++ items) ≡ numbered s 1 (sent_by v.ended s) = λ s. ap (λ l. jobs_of s (l ++ items)) f.taken_is ∙ h.each s ∙ ap (numbered s 1) (sent s) in
-    record { each = each; count = length_sent v.ended (v.taken ++ items) each (λ s lt. sym (sent s) ∙ (f.later s (omega arith)).1) }
+    record { each = each; count = length_sent v.ended (v.taken ++ items) each }
 
 pub drains : (pass : ℕ) (v : QueueView) → v.prints ≡ true → length v.ended ≡ v.senders → Pops FollowsRule pass v (λ x w. (w ≡ printer_view v.senders (v.taken ++ x ∷ []) v.ended) × (length (v.taken ++ x ∷ []) ≤ count_sent v.ended))
 drains pass v may all x items views h at =

@@ -1,8 +1,8 @@
-use Rattle.std.proofs.Common.{◌<◌, length, [], ◌∷◌, ◌++◌, rules, ap, sym, refl, ◌∙◌, arith, append-nil, append_assoc}
+use Rattle.std.proofs.Common.{◌<◌, length, ap, sym, refl, ◌∙◌, arith}
 use Rattle.crossbeam_queue.specs.Passes.{view}
-use Rattle.spool_queue.specs.Rule.{printer_view}
 use Rattle.spool_queue.proofs.Moves.{settles, drains}
 use Rattle.spool_queue.proofs.Passes.{drained, has_room}
+use Rattle.spool_queue.proofs.Steps.{none_drained, one_drained}
 use Rattle.spool_queue.proofs.ends.drain.Goals as goal
 
 pub len_as-count-requires-clause-rule : goal.len_as-count-requires-clause-rule
@@ -27,20 +27,15 @@ push_reserved-requires g c =
 
 pub loop-init : goal.loop-init
 loop-init g c = record {
-  pass = search rules;
-  role = c.len_as-count.ensures.queue.1 ∙ c.requires.role
-      ∙ ap (λ l. printer_view (view c.args.pass.now).senders l (view c.args.pass.now).ended) (sym (append-nil (view c.args.pass.now).taken) ∙ ap (λ l. (view c.args.pass.now).taken ++ l) (sym c.requires.room.0));
+  pass = (c.len_as-count.ensures.queue.0.0 ∙ c.requires.pass.0, c.len_as-count.ensures.queue.0.2 ∙ c.requires.pass.1);
+  role = none_drained c.len_as-count.ensures.queue.1 c.requires.role c.requires.room.0;
   room = refl;
 }
 
 pub loop-preserved : goal.loop-preserved
 loop-preserved g c = record {
-  pass = search rules;
-  role = let role = c.loop.invariant.role in
-      let x = c.in-Some-pop_as.job in
-      c.in-Some-pop_as.ensures.rule.0 ∙ (λ i. printer_view (role i).senders ((role i).taken ++ x ∷ []) (role i).ended)
-      ∙ ap (λ l. printer_view (view c.args.pass.now).senders l (view c.args.pass.now).ended)
-      (append_assoc (view c.args.pass.now).taken c.loop.rest.items (x ∷ []) ∙ ap (λ l. (view c.args.pass.now).taken ++ l) (sym c.push_reserved.ensures.items));
+  pass = (c.pop_as.ensures.queue.0 ∙ c.loop.invariant.pass.0, c.pop_as.ensures.queue.2 ∙ c.loop.invariant.pass.1);
+  role = one_drained (view c.args.pass.now) c.in-Some-pop_as.job c.loop.rest.items c.loop.invariant.role c.in-Some-pop_as.ensures.rule.0 c.push_reserved.ensures.items;
   room = c.push_reserved.ensures.capacity ∙ c.loop.invariant.room;
 }
 
