@@ -40,7 +40,7 @@ pub all_ran : (p : Printer) (k : Table) (sent : List (List Stream)) (jobs : List
     (a : SpoolAnswer) → AreSent (sent_by sent) jobs → PrintsJobs p k jobs done (at_call out meters) (at_return out meters)
     → All (λ ran. ran.status ≢ 5) done → SumsUp done a → PrintingOutcome p k sent out meters done a
 all_ran p k sent jobs out meters done answer.Done are prints fine sums = (record { jobs = jobs; are = are; prints = prints }, sums)
-all_ran p k sent jobs out meters done (answer.Failed count) are prints fine sums = (record { jobs = jobs; are = are; prints = prints }, sums.0, sums.1, sums.2)
+all_ran p k sent jobs out meters done (answer.Failed count) are prints fine sums = (record { jobs = jobs; are = are; prints = prints }, sums)
 all_ran p k sent jobs out meters done answer.Memory are prints fine sums = inr (record { jobs = jobs; are = are; prints = prints }, fine, sums)
 all_ran p k sent jobs out meters done (answer.Usage fault) are prints fine sums = absurd sums
 all_ran p k sent jobs out meters done (answer.Profile line cause) are prints fine sums = absurd sums

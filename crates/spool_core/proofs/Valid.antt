@@ -10,6 +10,7 @@ use Rattle.driver_core.specs.Outside.{HasFailed, IsCalm, Outside}
 use Rattle.job_profile.specs.Named.{IsJobProfile, Refusal, job_profile}
 use Rattle.printer_definitions.specs.Printer.{Printer}
 use Rattle.spool_queue.proofs.Sent.{was_sent}
+use Rattle.spool_queue.proofs.Sums.{jobs_as_sent, of_jobs}
 use Rattle.spool_queue.specs.Jobs.{AreSent, Stream, sent_by}
 use Rattle.spool_queue.specs.declared.job.SpoolJob.{SpoolJob}
 use Rattle.spool_words.specs.Meaning.{names_of, profile_named}
@@ -27,7 +28,7 @@ use Rattle.spool_core.specs.declared.files.FileCause.{FileCause}
 use Rattle.spool_core.specs.declared.files.FileCause.TheVariants as cause
 use Rattle.spool_core.specs.declared.report.Ran.{Ran}
 use Rattle.spool_core.proofs.Lists.{cut_at, flat_map-append}
-use Rattle.spool_core.proofs.Rooms.{jobs_as_sent, none_over, not_three, of_jobs, streams_as_told}
+use Rattle.spool_core.proofs.Rooms.{none_over, not_three, streams_as_told}
 
 -- ---- what a shelf says has one meaning
 
@@ -201,8 +202,8 @@ module _ (words : List (List ℕ)) (o : SpoolOutside) (done : List Ran) (valid :
       let Q : Stream → Type 0 = IsValidStream p in
       let all' : All Q (joined sent) = subst (λ (q : Printer). All (IsValidStream q) (joined sent)) (sym same) all in
       let jobs = jobs_valid Q sent h.0.jobs (record { sender = 0; number = 0; stream = [] }) h.0.are all' in
-      let none = none_counted p k h.0.jobs done _ _ h.0.prints jobs (fine p k sent same kernel (sym streams) h.0 jobs h.1) in
-      absurd (omega (arith, h.2, h.3))
+      let none = none_counted p k h.0.jobs done _ _ h.0.prints jobs (fine p k sent same kernel (sym streams) h.0 jobs h.1.0) in
+      absurd (omega (arith, h.1.1, h.1.2))
   by_printing p k sent (answer.Usage fault) same kernel are h = absurd h
   by_printing p k sent (answer.Profile line why) same kernel are h = absurd h
   by_printing p k sent (answer.File sender job why) same kernel are h = absurd h

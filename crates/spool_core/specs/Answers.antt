@@ -4,7 +4,8 @@ use Rattle.std.specs.Fmt.{decimal}
 use Rattle.std.specs.List.{flat_map}
 use Rattle.std.specs.Io.KnownBytes.{Appends}
 use Rattle.buffered_bytes.specs.Outside.{HasRisen, Outside}
-use Rattle.driver_answer.specs.Answers.{profile_words}
+use Rattle.driver_answer.specs.Answers.{line_of}
+use Rattle.driver_answer.specs.declared.answer.Answer.TheVariants as print
 use Rattle.spool_core.specs.declared.answer.SpoolAnswer.{SpoolAnswer}
 use Rattle.spool_core.specs.declared.answer.SpoolAnswer.TheVariants as answer
 use Rattle.spool_core.specs.declared.files.FileCause.{FileCause}
@@ -36,17 +37,17 @@ abbrev pub file_name : FileCause → List ℕ
 file_name file.Absent = codes "Absent"
 file_name file.TooLong = codes "TooLong"
 
--- the line of an answer; none where every job was printed
+-- the line of an answer, that of `print` where it has the same answer; none where every job was printed
 abbrev pub spool_line : SpoolAnswer → List ℕ
 spool_line answer.Done = []
 spool_line (answer.Usage fault) = codes "usage: word " ++ decimal fault.word ++ codes ": " ++ usage_name fault.cause ++ codes "\n"
-spool_line (answer.Profile line cause) = codes "profile: line " ++ decimal line ++ codes ": " ++ profile_words cause ++ codes "\n"
+spool_line (answer.Profile line cause) = line_of (print.Profile line cause)
 spool_line (answer.File sender job cause) =
     codes "file: sender " ++ decimal sender ++ codes " job " ++ decimal job ++ codes ": " ++ file_name cause ++ codes "\n"
-spool_line answer.Read = codes "read failed\n"
+spool_line answer.Read = line_of print.Read
 spool_line (answer.Write sender job page) =
     codes "write failed: sender " ++ decimal sender ++ codes " job " ++ decimal job ++ codes " page " ++ decimal page ++ codes "\n"
-spool_line answer.Memory = codes "out of memory\n"
+spool_line answer.Memory = line_of print.Memory
 spool_line (answer.Failed count) = codes "jobs failed: " ++ decimal count ++ codes "\n"
 
 -- the line of a job that ran

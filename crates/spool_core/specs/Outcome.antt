@@ -71,18 +71,16 @@ SumsUp done other = ⊥
 -- The answer after all files were read: what was printed of them.
 abbrev pub PrintingOutcome : Printer → Table → List (List Stream) → Outside → Meters → List Ran → SpoolAnswer → Type 0
 PrintingOutcome p k sent out meters done answer.Done =
-    PrintsEvery p k sent done (at_call out meters) (at_return out meters) × All (λ ran. ran.status ≡ 0) done
+    PrintsEvery p k sent done (at_call out meters) (at_return out meters) × SumsUp done answer.Done
 PrintingOutcome p k sent out meters done (answer.Failed count) =
-    PrintsEvery p k sent done (at_call out meters) (at_return out meters)
-    × All (λ ran. (ran.status ≢ 5) × (ran.status ≢ 7)) done
-    × (1 ≤ count) × (count ≡ count_by is_refused done)
+    PrintsEvery p k sent done (at_call out meters) (at_return out meters) × SumsUp done (answer.Failed count)
 PrintingOutcome p k sent out meters done (answer.Write sender job page) =
     HasRisen out × PrintsFirst p k sent done (at_call out meters) (at_return out meters)
     × StopsAtWrite done sender job page
 PrintingOutcome p k sent out meters done answer.Memory =
     PrintsNone out meters done
     ⊎ (PrintsEvery p k sent done (at_call out meters) (at_return out meters) × All (λ ran. ran.status ≢ 5) done
-    × (1 ≤ count_by (λ (ran : Ran). ran.status == 7) done))
+    × SumsUp done answer.Memory)
 PrintingOutcome p k sent out meters done (answer.Usage fault) = ⊥
 PrintingOutcome p k sent out meters done (answer.Profile line cause) = ⊥
 PrintingOutcome p k sent out meters done (answer.File sender job cause) = ⊥

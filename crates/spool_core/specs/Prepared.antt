@@ -14,7 +14,7 @@ use Rattle.spool_core.specs.Files.{AreFiles}
 use Rattle.spool_core.specs.declared.preparing.PreparedSpool.{PreparedSpool}
 
 -- Pages of jobs can be printed by this profile, as a request asks: by its kernel, in interleaved passes.
-pub record CanPrint (job : Job) (p : Printer) : Type 0 where
+pub record CanPrintWoven (job : Job) (p : Printer) : Type 0 where
   pub can : CanBePrinted job p
   pub way_is : way_of job ≡ Woven
 
@@ -37,5 +37,5 @@ pub record IsPrepared (words : List (List ℕ)) (told : Option (List NamedText))
   pub workers_is : prepared.job.workers ≡ request.workers
   pub profile_is : IsJobProfile told (profile_named words) (Ok prepared.profile)
   pub files : AreFiles told (names_of words) (sent_in prepared)
-  pub can : CanPrint prepared.job prepared.profile
+  pub can : CanPrintWoven prepared.job prepared.profile
   pub few : AreFew (sent_in prepared)

@@ -10,7 +10,7 @@ use base_definitions::Memory;
 use spool_queue::{PrintPass, SendPass, Spool, StreamBytes};
 use std::alloc::Global;
 
-/// All that senders and a printer need to print some jobs, but the printer.
+/// All that it takes to send some jobs, and to take them.
 #[derive(Drop)]
 pub struct Desk {
     pub spool: Spool,

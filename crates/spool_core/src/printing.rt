@@ -1,7 +1,7 @@
 //! The printer: it takes jobs from the spool, and prints each.
 ghost use Rattle.diffusion_kernel.specs.Tables.{table_of};
 ghost use Rattle.spool_core.specs.Outcome.{HasPlainStatus, SumsUp, WriteStopped};
-ghost use Rattle.spool_core.specs.Prepared.{CanPrint};
+ghost use Rattle.spool_core.specs.Prepared.{CanPrintWoven};
 ghost use Rattle.spool_core.specs.Printed.{AreDone, PrintsStream, between};
 ghost use Rattle.spool_queue.specs.Passes.{IsPrinterOf, senders_of, taken_of};
 ghost use Rattle.std.specs.Prelude.{All, IfErr, OnErr, OnOk, [], length, map, vec_capacity, ◌<◌, ◌^◌, ◌≡◌, ◌≢◌, ◌≤◌};
@@ -32,7 +32,7 @@ fn print_stream<R: Threads + Sync, K: Sink, G: Gate + Sync>(
     gate: &G,
     meters: &mut Vec<Box<dyn Meter>>,
 ) -> Printed
-    requires { CanPrint job.now profile.now }
+    requires { CanPrintWoven job.now profile.now }
     ensures prints { PrintsStream profile.now (table_of job.now.kernel) stream result.pages result.answer
         (between (K.held out.old) (K.faults out.old) (map (λ meter. account meter) meters.old.items))
         (between (K.held out.new) (K.faults out.new) (map (λ meter. account meter) meters.new.items)) }
@@ -57,7 +57,7 @@ pub fn print_jobs<R: Threads + Wait + Sync, K: Sink, G: Gate + Sync>(
     meters: &mut Vec<Box<dyn Meter>>,
     done: &mut Vec<Ran>,
 ) -> Result<(), SpoolAnswer>
-    requires can { CanPrint job.now profile.now }
+    requires can { CanPrintWoven job.now profile.now }
     requires pass { IsPrinterOf spool.now printer.old }
     requires none_taken { taken_of printer.old ≡ [] }
     requires count { count < 2 ^ 31 }
@@ -97,6 +97,13 @@ pub fn print_jobs<R: Threads + Wait + Sync, K: Sink, G: Gate + Sync>(
     Ok(())
 }
 
+// Statuses of jobs (`Answer::status`).
+const INPUT_REFUSED: u8 = 3;
+
+const OVER_CAP: u8 = 6;
+
+const OUT_OF_MEMORY: u8 = 7;
+
 // The answer where all jobs ran, and no write failed: `Memory` where it ran out in one of them; else how many were
 // refused, if any were.
 fn sum_up(done: &[Ran]) -> SpoolAnswer
@@ -104,12 +111,12 @@ fn sum_up(done: &[Ran]) -> SpoolAnswer
     requires plain { All HasPlainStatus done.now }
     ensures { SumsUp done.now result }
 {
-    if done.iter().any(|ran| ran.status == 7) {
+    if done.iter().any(|ran| ran.status == OUT_OF_MEMORY) {
         return SpoolAnswer::Memory;
     }
     let count = done
         .iter()
-        .filter(|ran| ran.status == 3 || ran.status == 6)
+        .filter(|ran| ran.status == INPUT_REFUSED || ran.status == OVER_CAP)
         .count() as u32;
     if count == 0 {
         SpoolAnswer::Done

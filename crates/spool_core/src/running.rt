@@ -3,7 +3,7 @@ ghost use Rattle.diffusion_kernel.specs.Tables.{table_of};
 ghost use Rattle.driver_core.specs.Outside.{meters_of, outside_of, texts_of};
 ghost use Rattle.spool_core.specs.Desks.{IsDesk};
 ghost use Rattle.spool_core.specs.Outcome.{PrintingOutcome, SpoolOutcome};
-ghost use Rattle.spool_core.specs.Prepared.{AreFew, CanPrint, sent_in};
+ghost use Rattle.spool_core.specs.Prepared.{AreFew, CanPrintWoven, sent_in};
 ghost use Rattle.spool_core.specs.Senders.{lists_in};
 ghost use Rattle.spool_core.specs.Promises.{SpoolPromises};
 ghost use Rattle.spool_words.specs.Meaning.{spool_meaning};
@@ -42,7 +42,7 @@ fn run_desk<R: Threads + Wait + Sync, K: Sink, G: Gate + Sync>(
     gate: &G,
     meters: &mut Vec<Box<dyn Meter>>,
 ) -> Finished
-    requires can { CanPrint job.now profile.now }
+    requires can { CanPrintWoven job.now profile.now }
     requires desk { IsDesk (lists_in desk.works.items) desk }
     ensures { PrintingOutcome profile.now (table_of job.now.kernel) (lists_in desk.works.items)
         (outside_of K.held K.faults out.old out.new)
@@ -84,7 +84,7 @@ fn perform<R: Threads + Wait + Sync, K: Sink, G: Gate + Sync>(
     gate: &G,
     meters: &mut Vec<Box<dyn Meter>>,
 ) -> Finished
-    requires can { CanPrint prepared.job prepared.profile }
+    requires can { CanPrintWoven prepared.job prepared.profile }
     requires few { AreFew (sent_in prepared) }
     ensures { PrintingOutcome prepared.profile (table_of prepared.job.kernel) (sent_in prepared)
         (outside_of K.held K.faults out.old out.new)
