@@ -5,6 +5,6 @@ mod outsides;
 mod runs;
 mod streams;
 
-pub use outsides::{no_files, one_file, plain, roomy, sink, words};
+pub use outsides::{failing_shelf, no_files, one_file, plain, roomy, sink, source, words};
 pub use runs::{Left, run_over, run_with};
 pub use streams::{BLACK_BODY, add_header, add_page, begin, black_pages, joined, prefix};

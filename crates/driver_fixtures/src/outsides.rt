@@ -1,5 +1,5 @@
 //! Words, and what a run reads and writes, in memory.
-use std::alloc::Global;
+use std::alloc::{AllocError, Global};
 use weave_base::{MemShelf, MemSink, MemSource, Memory, ShelfFile, Words};
 
 /// The words of a command line, at most nine of them.
@@ -18,6 +18,18 @@ pub fn plain(alloc: Global, bytes: Vec<u8>) -> MemSource {
     MemSource::make(bytes, Vec::new(alloc), Vec::new(alloc))
 }
 
+/// A source whose reads give at most `piece` bytes each, and of which read `failing`, counted from 1, fails; none where
+/// it is 0.
+pub fn source(
+    alloc: Global,
+    bytes: Vec<u8>,
+    piece: u32,
+    failing: u32,
+) -> Result<MemSource, AllocError> {
+    let pieces = vec![in alloc; piece.max(1)]?;
+    Ok(MemSource::make(bytes, pieces, vec![in alloc; failing]?))
+}
+
 /// A sink with room for so many bytes, which fails only when it is full.
 pub fn sink(alloc: Global, room: usize) -> Result<MemSink, Memory> {
     MemSink::make(alloc, room, Vec::new(alloc), Vec::new(alloc))
@@ -31,6 +43,11 @@ pub fn roomy(alloc: Global) -> Result<MemSink, Memory> {
 /// A shelf without a file.
 pub fn no_files(alloc: Global) -> MemShelf {
     MemShelf::make(Vec::new(alloc), Vec::new(alloc))
+}
+
+/// A shelf whose first read fails.
+pub fn failing_shelf(alloc: Global) -> Result<MemShelf, AllocError> {
+    Ok(MemShelf::make(Vec::new(alloc), vec![in alloc; 1]?))
 }
 
 /// A shelf of one file.
