@@ -2,9 +2,8 @@
 //! write.
 use crate::answers::Answer;
 use crate::runs::{BY_BYTES, Calls, call_behind, words_leave};
-use driver_fixtures::{BLACK_BODY, add_page, begin, prefix};
+use driver_fixtures::{black_pages, prefix};
 use known_jobs::{TINY_IMAGES, TINY_JOB};
-use pwg_header::Kind;
 use std::alloc::{AllocError, Global};
 use std::process::Abort;
 use std::test::Fail;
@@ -12,14 +11,6 @@ use std::thread::Threads;
 
 // The bytes of a stream of one black page.
 const STREAM: usize = 1803;
-
-// A stream of two black pages.
-fn two_pages(alloc: Global) -> Result<Vec<u8>, AllocError> {
-    let mut bytes = begin(alloc)?;
-    add_page(&mut bytes, Kind::Gray8, (8, 6), &BLACK_BODY)?;
-    add_page(&mut bytes, Kind::Gray8, (8, 6), &BLACK_BODY)?;
-    Ok(bytes)
-}
 
 // The status, the output and the error line that a run leaves.
 type Wanted = (u8, &'static [u8], &'static str);
@@ -49,7 +40,7 @@ fn answer_to_prefix(count: usize) -> Wanted {
 
 #[test]
 fn every_prefix_of_a_woven_page_has_its_answer(rt: HostRuntime) -> Result<(), Fail> {
-    let whole = two_pages(rt.alloc())?;
+    let whole = black_pages(rt.alloc(), 2)?;
     for count in 0..STREAM + 1 {
         let bytes = prefix(&whole, count);
         prints(&rt, rt.alloc(), bytes, BY_BYTES, answer_to_prefix(count))?;
@@ -79,7 +70,7 @@ fn try_read<R: Abort + Threads + Sync>(
 
 #[test]
 fn every_failing_read_of_a_woven_page_is_status_four(rt: HostRuntime) -> Result<(), Fail> {
-    let whole = two_pages(rt.alloc())?;
+    let whole = black_pages(rt.alloc(), 2)?;
     for taken in 0..STREAM + 1 {
         try_read(&rt, rt.alloc(), prefix(&whole, STREAM), taken)?;
     }
@@ -89,7 +80,7 @@ fn every_failing_read_of_a_woven_page_is_status_four(rt: HostRuntime) -> Result<
 
 #[test]
 fn every_failing_write_of_a_woven_page_leaves_its_prefix(rt: HostRuntime) -> Result<(), Fail> {
-    let whole = two_pages(rt.alloc())?;
+    let whole = black_pages(rt.alloc(), 2)?;
     for written in 0..TINY_JOB.len() {
         let calls = Calls {
             failing_write: call_behind(written),

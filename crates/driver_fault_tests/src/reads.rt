@@ -7,21 +7,14 @@ use std::process::Abort;
 use std::test::Fail;
 use std::thread::Threads;
 
-// A run whose reads fail.
-#[derive(Clone, Copy)]
-struct Case {
-    command: Command,
-    input: Input,
-    // A byte of the input that is changed, by its place.
-    change: Option<(usize, u8)>,
-    // The most bytes of a read.
-    piece: u32,
-}
+// A run whose reads fail: a command, its input, a byte of the input that is changed, by its place, and the most bytes of
+// a read.
+type Case = (Command, Input, Option<(usize, u8)>, u32);
 
 // The bytes of a case.
-fn bytes_of(alloc: Global, case: &Case) -> Result<Vec<u8>, Fail> {
-    let mut bytes = case.input.bytes(alloc)?;
-    if let Some((place, byte)) = case.change {
+fn bytes_of(alloc: Global, (_, input, change, _): Case) -> Result<Vec<u8>, Fail> {
+    let mut bytes = input.bytes(alloc)?;
+    if let Some((place, byte)) = change {
         if let Some(changed) = bytes.get_mut(place) {
             *changed = byte;
         }
@@ -34,24 +27,25 @@ fn bytes_of(alloc: Global, case: &Case) -> Result<Vec<u8>, Fail> {
 fn try_read<R: Abort + Threads + Sync>(
     rt: &R,
     alloc: Global,
-    case: &Case,
+    (command, _, _, piece): Case,
     bytes: &[u8],
     pieces: usize,
 ) -> Result<(), Fail> {
-    let taken = prefix(bytes, pieces.wrapping_mul(case.piece as usize));
-    let wanted = case.command.answer(alloc, taken)?.unread(alloc)?;
+    let taken = prefix(bytes, pieces.wrapping_mul(piece as usize));
+    let wanted = command.answer(alloc, taken)?.unread(alloc)?;
     let calls = Calls {
-        piece: case.piece,
+        piece,
         failing_read: call_behind(pieces),
         ..BY_BYTES
     };
-    leaves(rt, alloc, case.command, bytes, calls, &wanted)
+    leaves(rt, alloc, command, bytes, calls, &wanted)
 }
 
 // Asserts what each failing read leaves, the one at the end included.
-fn try_reads<R: Abort + Threads + Sync>(rt: &R, alloc: Global, case: &Case) -> Result<(), Fail> {
+fn try_reads<R: Abort + Threads + Sync>(rt: &R, alloc: Global, case: Case) -> Result<(), Fail> {
     let bytes = bytes_of(alloc, case)?;
-    let pieces = bytes.len().div_ceil(case.piece.max(1) as usize);
+    let (_, _, _, piece) = case;
+    let pieces = bytes.len().div_ceil(piece.max(1) as usize);
     for read in 0..pieces.saturating_add(1) {
         try_read(rt, alloc, case, &bytes, read)?;
     }
@@ -61,134 +55,70 @@ fn try_reads<R: Abort + Threads + Sync>(rt: &R, alloc: Global, case: &Case) -> R
 // Asserts what the failing reads of each case leave.
 fn try_all<R: Abort + Threads + Sync>(rt: &R, alloc: Global, cases: &[Case]) -> Result<(), Fail> {
     for case in cases {
-        try_reads(rt, alloc, case)?;
+        try_reads(rt, alloc, *case)?;
     }
     Ok(())
 }
 
-// The colour pages are printed, a byte a read.
-const PRINTED: Case = Case {
-    command: Command::PrintColours,
-    input: Input::ColourPages,
-    change: None,
-    piece: 1,
-};
-
 #[test]
 fn every_failing_read_is_status_four(rt: HostRuntime) -> Result<(), Fail> {
     const CASES: [Case; 5] = [
-        PRINTED,
+        (Command::PrintColours, Input::ColourPages, None, 1),
         // the second page ends after its first group, and a third begins
-        Case {
-            change: Some((3614, 2)),
-            piece: 11,
-            ..PRINTED
-        },
-        Case {
-            piece: 7,
-            ..PRINTED
-        },
-        Case {
-            piece: 1000,
-            ..PRINTED
-        },
-        Case {
-            command: Command::PrintBlack,
-            piece: 65_536,
-            ..PRINTED
-        },
+        (
+            Command::PrintColours,
+            Input::ColourPages,
+            Some((3614, 2)),
+            11,
+        ),
+        (Command::PrintColours, Input::ColourPages, None, 7),
+        (Command::PrintColours, Input::ColourPages, None, 1000),
+        (Command::PrintBlack, Input::ColourPages, None, 65_536),
     ];
     try_all(&rt, rt.alloc(), &CASES)
 }
 
+// A byte of the colour pages that is changed, by its place, and the most bytes of a read.
+type Fault = (usize, u8, u32);
+
 #[test]
 fn a_fault_that_was_read_comes_before_a_failing_read(rt: HostRuntime) -> Result<(), Fail> {
-    const CASES: [Case; 7] = [
+    const FAULTS: [Fault; 7] = [
         // no sync word: three bytes could still be mended
-        Case {
-            change: Some((1, b'b')),
-            ..PRINTED
-        },
+        (1, b'b', 1),
         // three literal pixels where two are left
-        Case {
-            change: Some((1805, 0xFE)),
-            piece: 5,
-            ..PRINTED
-        },
+        (1805, 0xFE, 5),
         // the header of the second page
-        Case {
-            change: Some((1818, b'p')),
-            piece: 7,
-            ..PRINTED
-        },
+        (1818, b'p', 7),
         // two lines where one is left, on the second page
-        Case {
-            change: Some((3619, 1)),
-            piece: 13,
-            ..PRINTED
-        },
-        Case {
-            change: Some((3619, 1)),
-            piece: 1000,
-            ..PRINTED
-        },
-        Case {
-            change: Some((3619, 1)),
-            piece: 65_536,
-            ..PRINTED
-        },
+        (3619, 1, 13),
+        (3619, 1, 1000),
+        (3619, 1, 65_536),
         // a run past its line, on the second page
-        Case {
-            change: Some((3615, 9)),
-            piece: 19,
-            ..PRINTED
-        },
+        (3615, 9, 19),
     ];
-    try_all(&rt, rt.alloc(), &CASES)
+    for &(place, byte, piece) in &FAULTS {
+        let change = Some((place, byte));
+        let case = (Command::PrintColours, Input::ColourPages, change, piece);
+        try_reads(&rt, rt.alloc(), case)?;
+    }
+    Ok(())
 }
 
 #[test]
 fn every_failing_read_of_a_job_is_status_four(rt: HostRuntime) -> Result<(), Fail> {
-    const PLAYED: Case = Case {
-        command: Command::Dots,
-        input: Input::CodedJob,
-        change: None,
-        piece: 1,
-    };
-    const LISTED: Case = Case {
-        command: Command::List,
-        ..PLAYED
-    };
     const CASES: [Case; 9] = [
-        PLAYED,
-        Case { piece: 7, ..PLAYED },
-        Case {
-            input: Input::TinyJob,
-            ..PLAYED
-        },
-        LISTED,
-        Case { piece: 7, ..LISTED },
-        Case {
-            input: Input::TinyJob,
-            ..LISTED
-        },
+        (Command::Dots, Input::CodedJob, None, 1),
+        (Command::Dots, Input::CodedJob, None, 7),
+        (Command::Dots, Input::TinyJob, None, 1),
+        (Command::List, Input::CodedJob, None, 1),
+        (Command::List, Input::CodedJob, None, 7),
+        (Command::List, Input::TinyJob, None, 1),
         // a byte that begins no command, on the second sheet
-        Case {
-            change: Some((105, 0x0E)),
-            piece: 3,
-            ..PLAYED
-        },
-        Case {
-            change: Some((105, 0x0E)),
-            piece: 3,
-            ..LISTED
-        },
+        (Command::Dots, Input::CodedJob, Some((105, 0x0E)), 3),
+        (Command::List, Input::CodedJob, Some((105, 0x0E)), 3),
         // a raster of two rows
-        Case {
-            change: Some((42, 2)),
-            piece: 2,
-            ..PLAYED
-        },
+        (Command::Dots, Input::CodedJob, Some((42, 2)), 2),
     ];
     try_all(&rt, rt.alloc(), &CASES)
 }

@@ -1,6 +1,6 @@
 //! Runs in memory, against what they are to leave.
 use crate::answers::{Answer, printed, shown, told};
-use driver_fixtures::{one_file, run_over};
+use driver_fixtures::{one_file, run_over, source};
 use std::alloc::{AllocError, Global};
 use std::process::Abort;
 use std::test::Fail;
@@ -56,9 +56,7 @@ pub struct Calls {
 impl Calls {
     // A source of these bytes.
     fn source(self, alloc: Global, bytes: &[u8]) -> Result<MemSource, AllocError> {
-        let pieces = vec![in alloc; self.piece.max(1)]?;
-        let fails = vec![in alloc; self.failing_read]?;
-        Ok(MemSource::make(bytes.to_vec(alloc)?, pieces, fails))
+        source(alloc, bytes.to_vec(alloc)?, self.piece, self.failing_read)
     }
 
     // A sink.

@@ -1,11 +1,16 @@
-//! Runs in memory without a meter, as rows of tables.
-use driver_fixtures::{Left, add_page, begin, joined, no_files, one_file, plain, roomy, run_over};
+//! Runs in memory, as rows of tables.
+use driver_core::{OpenGate, run};
+use driver_fixtures::{
+    Left, add_page, begin, failing_shelf, joined, no_files, one_file, plain, roomy, run_over,
+    source, words,
+};
+use ink_meter::Meter;
 use pwg_header::Kind;
 use std::alloc::{AllocError, Global};
 use std::process::Abort;
 use std::test::Fail;
 use std::thread::Threads;
-use weave_base::{MemShelf, MemSource};
+use weave_base::{MemShelf, MemSink, MemSource, Memory};
 
 /// Two lines of grey on a page of four columns; the second line has two dots.
 pub const GREY_BODY: [u8; 8] = [0, 3, 0xD1, 0, 2, 0x9F, 0, 0xA3];
@@ -24,79 +29,31 @@ pub const GREY_STREAM: usize = 1808;
 /// The words of most runs.
 pub const PRINT: [&str; 2] = ["print", "profile=tiny1"];
 
-/// A page of a stream, for a printer of 360 dots an inch.
-#[derive(Clone, Copy)]
-pub struct GivenPage {
-    pub kind: Kind,
-    pub size: (u32, u32),
-    pub body: &'static [u8],
-}
+/// The words of runs on a printer of three nozzles.
+pub const TINY: [&str; 2] = ["print", "profile=tiny"];
 
-/// The page of grey.
-pub const GREY_PAGE: GivenPage = GivenPage {
-    kind: Kind::Gray8,
-    size: (4, 2),
-    body: &GREY_BODY,
-};
+/// The status, the parts of the output and the error line that a run leaves.
+pub type Wanted = (u8, &'static [&'static [u8]], &'static [u8]);
 
-/// A page of grey whose size and body are given where it is used.
-pub const GREY: GivenPage = GivenPage {
-    kind: Kind::Gray8,
-    size: (0, 0),
-    body: &[],
-};
+/// A page for a printer of 360 dots an inch, by its kind, its size and its body, and what a run leaves of it.
+pub type PageRow = (Kind, (u32, u32), &'static [u8], Wanted);
 
-/// What a run writes: these parts one after another, or bytes of this length and this hash.
-#[derive(Clone, Copy)]
-pub enum Output {
-    Parts(&'static [&'static [u8]]),
-    Hash { length: usize, hash: u64 },
-}
+/// Words, an input, and what they leave of it.
+pub type BytesRow = (&'static [&'static str], &'static [u8], Wanted);
 
-/// A run: what it is given, and what it leaves.
-#[derive(Clone, Copy)]
-pub struct Case {
-    pub words: &'static [&'static str],
-    /// The parts of the text of the file `m1.txt`; without a part there is no file.
-    pub file: &'static [&'static [u8]],
-    pub pages: &'static [GivenPage],
-    /// The bytes of the stream that are changed, by their places.
-    pub changes: &'static [(usize, u8)],
-    /// After how many bytes the stream is cut.
-    pub most: usize,
-    pub status: u8,
-    pub out: Output,
-    pub line: &'static [u8],
-}
+/// The parts of a profile's text, and what showing it leaves.
+pub type TextRow = (&'static [&'static [u8]], Wanted);
 
-/// The simplest printer prints a stream without a page.
-pub const NO_PAGE: Case = Case {
-    words: &PRINT,
-    file: &[],
-    pages: &[],
-    changes: &[],
-    most: usize::MAX,
-    status: 0,
-    out: Output::Parts(&[]),
-    line: b"",
-};
+/// Words that are refused before anything outside is asked: the words, the status and the error line.
+pub type Refusal = (&'static [&'static str], u8, &'static [u8]);
 
-// Writes these bytes at their places.
-fn change(bytes: &mut Vec<u8>, changes: &[(usize, u8)]) {
+/// Writes these bytes at their places.
+pub fn change(bytes: &mut Vec<u8>, changes: &[(usize, u8)]) {
     for (at, byte) in changes {
         if let Some(changed) = bytes.get_mut(*at) {
             *changed = *byte;
         }
     }
-}
-
-/// A stream of these pages.
-pub fn stream_of(alloc: Global, pages: &[GivenPage]) -> Result<Vec<u8>, AllocError> {
-    let mut bytes = begin(alloc)?;
-    for page in pages {
-        add_page(&mut bytes, page.kind, page.size, page.body)?;
-    }
-    Ok(bytes)
 }
 
 /// A stream of one page of grey for a printer of 360 dots an inch.
@@ -113,35 +70,43 @@ pub fn one_page(
 
 /// A stream of two pages of grey.
 pub fn two_pages(alloc: Global) -> Result<Vec<u8>, AllocError> {
-    stream_of(alloc, &[GREY_PAGE, GREY_PAGE])
+    let mut bytes = one_page(alloc, 4, 2, &GREY_BODY)?;
+    add_page(&mut bytes, Kind::Gray8, (4, 2), &GREY_BODY)?;
+    Ok(bytes)
 }
 
-// A shelf with the file of these parts, if there is one.
-fn shelf_of(alloc: Global, file: &[&[u8]]) -> Result<MemShelf, Fail> {
-    if file.is_empty() {
-        return Ok(no_files(alloc));
-    }
-    Ok(one_file(alloc, "m1.txt", &joined(alloc, file)?)?)
+/// A shelf whose file `m1.txt` has this text.
+pub fn text_shelf(alloc: Global, text: &[u8]) -> Result<MemShelf, Fail> {
+    Ok(one_file(alloc, "m1.txt", text)?)
 }
 
-/// Runs words over these bytes, and a shelf with the file of these parts, if there is one.
+/// Runs these words with meters and a gate that is always open.
+pub fn run_metered<R: Threads + Sync>(
+    rt: &R,
+    alloc: Global,
+    texts: &[&str],
+    mut input: MemSource,
+    mut out: MemSink,
+    mut err: MemSink,
+    mut shelf: MemShelf,
+    meters: &mut Vec<Box<dyn Meter>>,
+) -> Result<Left, Memory> {
+    let words = words(alloc, texts)?;
+    let status = run(
+        rt, alloc, &words, &mut input, &mut out, &mut err, &mut shelf, &OpenGate, meters,
+    );
+    Ok(Left { status, out, err })
+}
+
+/// Runs words over these bytes and a shelf.
 pub fn run_bytes<R: Threads + Sync>(
     rt: &R,
     alloc: Global,
     words: &[&str],
-    file: &[&[u8]],
     bytes: Vec<u8>,
-) -> Result<Left, Fail> {
-    let (input, shelf) = (plain(alloc, bytes), shelf_of(alloc, file)?);
-    Ok(run_over(rt, alloc, words, input, roomy(alloc)?, shelf)?)
-}
-
-/// What a case leaves.
-pub fn left_by<R: Threads + Sync>(rt: &R, alloc: Global, case: &Case) -> Result<Left, Fail> {
-    let mut bytes = stream_of(alloc, case.pages)?;
-    change(&mut bytes, case.changes);
-    bytes.truncate(case.most);
-    run_bytes(rt, alloc, case.words, case.file, bytes)
+    shelf: MemShelf,
+) -> Result<Left, Memory> {
+    run_over(rt, alloc, words, plain(alloc, bytes), roomy(alloc)?, shelf)
 }
 
 /// Asserts the status, the output and the error line that a run left.
@@ -149,7 +114,18 @@ pub fn leaves<R: Abort>(rt: &R, left: &Left, wanted: (u8, &[u8], &[u8])) {
     assert_eq!(rt; left.all(), wanted);
 }
 
-/// Asserts the status and the error line that a run left, and the length and the hash of its output.
+/// Asserts the same, with the output by its parts.
+pub fn leaves_parts<R: Abort>(
+    rt: &R,
+    alloc: Global,
+    left: &Left,
+    (status, parts, line): Wanted,
+) -> Result<(), Fail> {
+    leaves(rt, left, (status, &joined(alloc, parts)?, line));
+    Ok(())
+}
+
+/// Asserts that a run succeeded, and the length and the hash of its output.
 pub fn hashes_to<R: Abort>(rt: &R, left: &Left, length: usize, hash: u64) {
     let (status, out, line) = left.all();
     assert_eq!(rt;
@@ -167,58 +143,97 @@ pub fn plays_to<R: Abort + Threads + Sync>(
     hash: u64,
 ) -> Result<(), Fail> {
     let bytes = job.out.bytes().to_vec(alloc)?;
-    let left = run_bytes(rt, alloc, &["dots", "profile=tiny1"], &[], bytes)?;
+    let words = ["dots", "profile=tiny1"];
+    let left = run_bytes(rt, alloc, &words, bytes, no_files(alloc))?;
     hashes_to(rt, &left, length, hash);
     Ok(())
 }
 
-// Asserts what a case leaves.
-fn try_case<R: Abort + Threads + Sync>(rt: &R, alloc: Global, case: &Case) -> Result<(), Fail> {
-    let left = left_by(rt, alloc, case)?;
-    match case.out {
-        Output::Parts(parts) => {
-            leaves(rt, &left, (case.status, &joined(alloc, parts)?, case.line));
-        }
-        Output::Hash { length, hash } => hashes_to(rt, &left, length, hash),
-    }
-    Ok(())
-}
-
-/// Asserts what each case leaves.
-pub fn try_all<R: Abort + Threads + Sync>(
+// Prints a page by a profile's text, where words name it.
+fn print_page<R: Threads + Sync>(
     rt: &R,
     alloc: Global,
-    cases: &[Case],
+    words: &[&str],
+    text: &[&[u8]],
+    (kind, size, body): (Kind, (u32, u32), &[u8]),
+) -> Result<Left, Fail> {
+    let mut bytes = begin(alloc)?;
+    add_page(&mut bytes, kind, size, body)?;
+    let shelf = text_shelf(alloc, &joined(alloc, text)?)?;
+    Ok(run_bytes(rt, alloc, words, bytes, shelf)?)
+}
+
+/// Asserts what words leave of each page. The file `m1.txt` has these parts.
+pub fn try_pages<R: Abort + Threads + Sync>(
+    rt: &R,
+    alloc: Global,
+    words: &[&str],
+    text: &[&[u8]],
+    rows: &[PageRow],
 ) -> Result<(), Fail> {
-    for case in cases {
-        try_case(rt, alloc, case)?;
+    for (kind, size, body, wanted) in rows {
+        let left = print_page(rt, alloc, words, text, (*kind, *size, body))?;
+        leaves_parts(rt, alloc, &left, *wanted)?;
     }
     Ok(())
 }
 
-/// The FNV-1a hash of 64 bits.
-pub fn hash_of(bytes: &[u8]) -> u64 {
-    let mut hash: u64 = 0xCBF2_9CE4_8422_2325;
-    for byte in bytes {
-        hash = (hash ^ u64::from(*byte)).wrapping_mul(0x100_0000_01B3);
+/// Asserts what each of these words leave of their input.
+pub fn try_bytes<R: Abort + Threads + Sync>(
+    rt: &R,
+    alloc: Global,
+    rows: &[BytesRow],
+) -> Result<(), Fail> {
+    for (words, bytes, wanted) in rows {
+        let left = run_bytes(rt, alloc, words, bytes.to_vec(alloc)?, no_files(alloc))?;
+        leaves_parts(rt, alloc, &left, *wanted)?;
     }
-    hash
+    Ok(())
 }
 
-/// Words that are refused before anything outside is asked: the words, the status and the error line.
-pub type Refusal = (&'static [&'static str], u8, &'static [u8]);
+/// Shows the profile whose text has these parts.
+pub fn show<R: Threads + Sync>(rt: &R, alloc: Global, text: &[&[u8]]) -> Result<Left, Fail> {
+    let shelf = text_shelf(alloc, &joined(alloc, text)?)?;
+    let words = ["profile", "profile=m1.txt"];
+    Ok(run_bytes(rt, alloc, &words, Vec::new(alloc), shelf)?)
+}
 
-/// Asserts the answer to words over an input and a shelf whose first calls fail.
+/// Asserts what showing each profile leaves.
+pub fn try_texts<R: Abort + Threads + Sync>(
+    rt: &R,
+    alloc: Global,
+    rows: &[TextRow],
+) -> Result<(), Fail> {
+    for (text, wanted) in rows {
+        leaves_parts(rt, alloc, &show(rt, alloc, text)?, *wanted)?;
+    }
+    Ok(())
+}
+
+// What words leave over an input and a shelf whose first calls fail.
+fn refused<R: Threads + Sync>(rt: &R, alloc: Global, words: &[&str]) -> Result<Left, Fail> {
+    let input = source(alloc, Vec::new(alloc), 1, 1)?;
+    let shelf = failing_shelf(alloc)?;
+    Ok(run_over(rt, alloc, words, input, roomy(alloc)?, shelf)?)
+}
+
+/// Asserts the answer to each of these words.
 pub fn refuses_all<R: Abort + Threads + Sync>(
     rt: &R,
     alloc: Global,
     refusals: &[Refusal],
 ) -> Result<(), Fail> {
     for (words, status, line) in refusals {
-        let input = MemSource::make(Vec::new(alloc), Vec::new(alloc), vec![in alloc; 1]?);
-        let shelf = MemShelf::make(Vec::new(alloc), vec![in alloc; 1]?);
-        let left = run_over(rt, alloc, words, input, roomy(alloc)?, shelf)?;
-        leaves(rt, &left, (*status, b"", line));
+        leaves(rt, &refused(rt, alloc, words)?, (*status, b"", line));
     }
     Ok(())
+}
+
+// The FNV-1a hash of 64 bits.
+fn hash_of(bytes: &[u8]) -> u64 {
+    let mut hash: u64 = 0xCBF2_9CE4_8422_2325;
+    for byte in bytes {
+        hash = (hash ^ u64::from(*byte)).wrapping_mul(0x100_0000_01B3);
+    }
+    hash
 }

@@ -9,14 +9,14 @@ use std::test::Fail;
 use std::thread::Threads;
 use weave_base::InkSet;
 
-// Whether no number above 1 divides both.
-fn is_coprime(nozzles: u8, pitch: u8) -> bool {
-    for divisor in 2..pitch.saturating_add(1) {
-        if nozzles.checked_rem(divisor) == Some(0) && pitch.checked_rem(divisor) == Some(0) {
-            return false;
-        }
+/// Whether no number above 1 divides both.
+pub fn is_coprime(nozzles: u32, pitch: u32) -> bool {
+    let mut is_coprime = true;
+    for divisor in 2..=pitch {
+        is_coprime &= nozzles.checked_rem(divisor) != Some(0)
+            || pitch.checked_rem(divisor) != Some(0);
     }
-    true
+    is_coprime
 }
 
 // One of these, in turn.
@@ -76,7 +76,7 @@ fn try_head<R: Abort + Threads + Sync>(
 // Prints a picture by each head of this many nozzles.
 fn try_pitches<R: Abort + Threads + Sync>(rt: &R, alloc: Global, nozzles: u8) -> Result<(), Fail> {
     for pitch in 1..10u8 {
-        if is_coprime(nozzles, pitch) {
+        if is_coprime(u32::from(nozzles), u32::from(pitch)) {
             let turn = u16::from(nozzles) * 11 + u16::from(pitch) * 7;
             try_head(rt, alloc, nozzles, pitch, turn)?;
         }

@@ -1,5 +1,6 @@
 //! Pages for which each kernel sets other dots.
 use crate::fixture::{hashes_to, one_page, plays_to, run_bytes};
+use driver_fixtures::no_files;
 use std::alloc::{AllocError, Global};
 use std::process::Abort;
 use std::test::Fail;
@@ -68,7 +69,7 @@ fn prints_alike<R: Abort + Threads + Sync>(
 ) -> Result<(), Fail> {
     for workers in ["workers=1", "workers=2", "workers=64"] {
         let words = ["print", "profile=tiny1", kernel, workers];
-        let left = run_bytes(rt, alloc, &words, &[], page.clone()?)?;
+        let left = run_bytes(rt, alloc, &words, page.clone()?, no_files(alloc))?;
         hashes_to(rt, &left, length, hash);
         plays_to(rt, alloc, &left, 7040, images)?;
     }

@@ -13,8 +13,6 @@ mod colours;
 #[cfg(test)]
 mod fixture;
 #[cfg(test)]
-mod fixtures;
-#[cfg(test)]
 mod gates;
 #[cfg(test)]
 mod grid;

@@ -3,6 +3,5 @@
 //! The pages are few and plain, so that their dots are counted by hand.
 mod caps;
 mod card;
-mod colour_counts;
 mod fixture;
 mod many_meters;

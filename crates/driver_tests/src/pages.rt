@@ -1,7 +1,7 @@
 //! Pages of each kind of pixel, for each set of inks with each kernel: the job fires exactly the dots that a page
 //! asks for.
 use crate::any_printer::{PLAINEST, Printer};
-use crate::fixture::{leaves, run_bytes};
+use crate::fixture::{leaves, run_bytes, text_shelf};
 use crate::pictures::{Picture, print_picture, prints_its_dots};
 use crate::plain::KERNELS;
 use driver_fixtures::begin;
@@ -103,20 +103,30 @@ fn pixels_of_one_bit_are_printed_behind_any_left_margin(rt: HostRuntime) -> Resu
     Ok(())
 }
 
-#[test]
-fn a_stream_of_five_kinds_is_printed_page_by_page(rt: HostRuntime) -> Result<(), Fail> {
-    let alloc = rt.alloc();
-    let printer = printer_of(InkSet::Cmyk);
+// A page of each kind on a printer of four inks: their stream, and their jobs one after another.
+fn five_kinds<R: Threads + Sync>(
+    rt: &R,
+    alloc: Global,
+    printer: &Printer,
+) -> Result<(Vec<u8>, Vec<u8>), Fail> {
     let (mut stream, mut jobs) = (begin(alloc)?, Vec::new(alloc));
     for (kind, seed) in KINDS.into_iter().zip(21u64..26) {
         let picture = Picture::random(alloc, kind, (9, 6), seed)?;
         picture.add_to(&mut stream, (360, 360))?;
-        let left = print_picture(&rt, alloc, &printer, &picture, &KERNELS[0])?;
+        let left = print_picture(rt, alloc, printer, &picture, &KERNELS[0])?;
         jobs.extend_from_slice(left.out.bytes())?;
     }
-    let text = printer.text(alloc)?;
+    Ok((stream, jobs))
+}
+
+#[test]
+fn a_stream_of_five_kinds_is_printed_page_by_page(rt: HostRuntime) -> Result<(), Fail> {
+    let printer = printer_of(InkSet::Cmyk);
+    let (stream, jobs) = five_kinds(&rt, rt.alloc(), &printer)?;
+    let text = printer.text(rt.alloc())?;
+    let shelf = text_shelf(rt.alloc(), text.as_bytes())?;
     let words = ["print", "profile=m1.txt"];
-    let left = run_bytes(&rt, alloc, &words, &[text.as_bytes()], stream)?;
+    let left = run_bytes(&rt, rt.alloc(), &words, stream, shelf)?;
     leaves(&rt, &left, (0, &jobs, b""));
     Ok(())
 }

@@ -1,6 +1,6 @@
 //! Pages that are printed and then played: the images have the dots that the page asks for.
 use crate::any_printer::{PLAINEST, Printer};
-use crate::fixture::{leaves, run_bytes};
+use crate::fixture::{leaves, run_bytes, text_shelf};
 use crate::grid::Grid;
 use crate::pictures::{Picture, print_picture};
 use crate::plain::{INKS, KERNELS, Kernel, wanted};
@@ -68,11 +68,12 @@ fn played<R: Abort + Threads + Sync>(
     kernel: &Kernel,
 ) -> Result<Left, Fail> {
     let job = print_picture(rt, alloc, printer, picture, kernel)?;
-    assert_eq!(rt; job.status, 0);
+    assert!(rt; job.status == 0);
     let text = printer.text(alloc)?;
     let job = job.out.bytes().to_vec(alloc)?;
+    let shelf = text_shelf(alloc, text.as_bytes())?;
     let words = ["dots", "profile=m1.txt"];
-    run_bytes(rt, alloc, &words, &[text.as_bytes()], job)
+    Ok(run_bytes(rt, alloc, &words, job, shelf)?)
 }
 
 // Asserts that the images of a printed picture have the dots that it asks for, with each kernel.

@@ -1,6 +1,12 @@
 //! Pages printed on printers of one nozzle that differ from the simplest in one value.
-use crate::fixture::{Case, GREY, GivenPage, NO_PAGE, Output, leaves, left_by, try_all};
+use crate::fixture::{
+    PRINT, PageRow, hashes_to, leaves, one_page, run_bytes, text_shelf, try_pages,
+};
+use driver_fixtures::{Left, joined};
+use pwg_header::Kind;
+use std::alloc::Global;
 use std::test::Fail;
+use std::thread::Threads;
 
 // The text of the simplest printer.
 const PLAIN: &[u8] = b"escp2-profile 1\nhdpi=360\nvdpi=360\nnozzles=1\npitch=1\ninks=k\n";
@@ -13,119 +19,71 @@ pub const MOVED_JOB: [u8; 63] = [
     0x40,
 ];
 
-// A printer with margins of one column and one row prints a stream.
-const BY_MARGINS: Case = Case {
-    words: &["print", "profile=m1.txt"],
-    file: &[PLAIN, b"left=1\ntop=1\n"],
-    ..NO_PAGE
-};
+// The words that take a printer by its text.
+const BY_TEXT: [&str; 2] = ["print", "profile=m1.txt"];
 
 #[test]
 fn margins_cut_the_window_and_move_it_down(rt: HostRuntime) -> Result<(), Fail> {
-    const CASES: [Case; 3] = [
-        Case {
-            pages: &[GivenPage {
-                size: (4, 2),
-                body: &[1, 3, 0],
-                ..GREY
-            }],
-            out: Output::Parts(&[&MOVED_JOB]),
-            ..BY_MARGINS
-        },
-        // a page that is all margin is too small
-        Case {
-            pages: &[GivenPage {
-                size: (1, 2),
-                body: &[1, 0, 0],
-                ..GREY
-            }],
-            status: 3,
-            line: b"input: page 1 line 0: Width\n",
-            ..BY_MARGINS
-        },
-        Case {
-            pages: &[GivenPage {
-                size: (4, 1),
-                body: &[0, 3, 0],
-                ..GREY
-            }],
-            status: 3,
-            line: b"input: page 1 line 0: Height\n",
-            ..BY_MARGINS
-        },
+    // the last two are all margin
+    const ROWS: [PageRow; 3] = [
+        (Kind::Gray8, (4, 2), &[1, 3, 0], (0, &[&MOVED_JOB], b"")),
+        (
+            Kind::Gray8,
+            (1, 2),
+            &[1, 0, 0],
+            (3, &[], b"input: page 1 line 0: Width\n"),
+        ),
+        (
+            Kind::Gray8,
+            (4, 1),
+            &[0, 3, 0],
+            (3, &[], b"input: page 1 line 0: Height\n"),
+        ),
     ];
-    try_all(&rt, rt.alloc(), &CASES)
+    let text: [&[u8]; 2] = [PLAIN, b"left=1\ntop=1\n"];
+    try_pages(&rt, rt.alloc(), &BY_TEXT, &text, &ROWS)
 }
 
-// The simplest printer by its name prints a black page of four columns and four lines.
-const BY_NAME: Case = Case {
-    pages: &[GivenPage {
-        size: (4, 4),
-        body: &[3, 3, 0],
-        ..GREY
-    }],
-    ..NO_PAGE
-};
+// Prints a black page of four columns and four lines by the simplest printer with these lines after its text.
+fn print_by<R: Threads + Sync>(
+    rt: &R,
+    alloc: Global,
+    words: &[&str],
+    more: &[u8],
+) -> Result<Left, Fail> {
+    let shelf = text_shelf(alloc, &joined(alloc, &[PLAIN, more])?)?;
+    let page = one_page(alloc, 4, 4, &[3, 3, 0])?;
+    Ok(run_bytes(rt, alloc, words, page, shelf)?)
+}
 
-// The simplest printer by its text prints the same page.
-const BY_TEXT: Case = Case {
-    words: &["print", "profile=m1.txt"],
-    file: &[PLAIN],
-    ..BY_NAME
-};
+// Lines of a printer's text, and the length and the hash of the job of that page.
+type Hashed = (&'static [u8], usize, u64);
 
 // An independent program that follows the definitions gives the same jobs.
 #[test]
 fn each_value_of_a_printer_has_its_place_in_the_job(rt: HostRuntime) -> Result<(), Fail> {
-    const CASES: [Case; 5] = [
-        Case {
-            file: &[PLAIN, b"limit_k=100\n"],
-            out: Output::Hash {
-                length: 126,
-                hash: 0x6594_EA5F_2FF0_8DD3,
-            },
-            ..BY_TEXT
-        },
-        Case {
-            file: &[PLAIN, b"limit_c=0\nblack_start=254\n"],
-            out: Output::Hash {
-                length: 126,
-                hash: 0x66A0_C51A_A1F1_A483,
-            },
-            ..BY_TEXT
-        },
-        Case {
-            file: &[PLAIN, b"left=1\nright=1\ntop=1\nbottom=1\n"],
-            out: Output::Hash {
-                length: 84,
-                hash: 0x4F37_0471_C79E_BA4F,
-            },
-            ..BY_TEXT
-        },
-        Case {
-            file: &[PLAIN, b"right=2\n"],
-            out: Output::Hash {
-                length: 126,
-                hash: 0x855B_58AB_4087_2013,
-            },
-            ..BY_TEXT
-        },
-        Case {
-            file: &[PLAIN, b"limit_k=0\n"],
-            out: Output::Hash {
-                length: 49,
-                hash: 0xA9DE_C6EE_CBE2_92C6,
-            },
-            ..BY_TEXT
-        },
+    const ROWS: [Hashed; 5] = [
+        (b"limit_k=100\n", 126, 0x6594_EA5F_2FF0_8DD3),
+        (b"limit_c=0\nblack_start=254\n", 126, 0x66A0_C51A_A1F1_A483),
+        (
+            b"left=1\nright=1\ntop=1\nbottom=1\n",
+            84,
+            0x4F37_0471_C79E_BA4F,
+        ),
+        (b"right=2\n", 126, 0x855B_58AB_4087_2013),
+        (b"limit_k=0\n", 49, 0xA9DE_C6EE_CBE2_92C6),
     ];
-    try_all(&rt, rt.alloc(), &CASES)
+    for &(more, length, hash) in &ROWS {
+        let left = print_by(&rt, rt.alloc(), &BY_TEXT, more)?;
+        hashes_to(&rt, &left, length, hash);
+    }
+    Ok(())
 }
 
 #[test]
 fn a_page_can_be_printed_by_a_text_or_by_its_name(rt: HostRuntime) -> Result<(), Fail> {
-    let by_text = left_by(&rt, rt.alloc(), &BY_TEXT)?;
-    let by_name = left_by(&rt, rt.alloc(), &BY_NAME)?;
+    let by_text = print_by(&rt, rt.alloc(), &BY_TEXT, b"")?;
+    let by_name = print_by(&rt, rt.alloc(), &PRINT, b"")?;
     leaves(&rt, &by_text, (0, by_name.out.bytes(), b""));
     Ok(())
 }

@@ -1,16 +1,17 @@
 //! Words and profiles that are refused, and profiles that are shown.
 use crate::fixture::{
-    Case, GREY, GivenPage, NO_PAGE, Output, Refusal, leaves, refuses_all, run_bytes, try_all,
+    BytesRow, PageRow, Refusal, TextRow, leaves, refuses_all, show, try_bytes, try_pages, try_texts,
 };
 use crate::printers::MOVED_JOB;
-use driver_fixtures::{no_files, plain, roomy, run_over, sink};
+use driver_fixtures::{Left, failing_shelf, plain, run_over, sink};
+use pwg_header::Kind;
 use std::alloc::Global;
 use std::test::Fail;
-use weave_base::MemShelf;
+use std::thread::Threads;
 
 #[test]
 fn each_bad_word_has_its_cause(rt: HostRuntime) -> Result<(), Fail> {
-    const CASES: [Refusal; 12] = [
+    const CASES: [Refusal; 13] = [
         (&[], 1, b"usage: word 1: NoCommand\n"),
         (&["plot"], 1, b"usage: word 1: UnknownCommand\n"),
         (&["Print"], 1, b"usage: word 1: UnknownCommand\n"),
@@ -31,11 +32,13 @@ fn each_bad_word_has_its_cause(rt: HostRuntime) -> Result<(), Fail> {
         (&["print", "x"], 1, b"usage: word 2: NotKeyValue\n"),
         (&["print", "most=1"], 1, b"usage: word 2: UnknownKey\n"),
         (&["profile", "kernel=fs"], 1, b"usage: word 2: UnknownKey\n"),
+        (&["list", "profile=tiny"], 1, b"usage: word 2: UnknownKey\n"),
     ];
     refuses_all(&rt, rt.alloc(), &CASES)
 }
 
-const TINY: &[u8] =
+/// The canonical text of the printer `tiny`.
+pub const TINY_TEXT: &[u8] =
     b"escp2-profile 2\nhdpi=360\nvdpi=360\nnozzles=3\npitch=2\ninks=k\nblack_start=0\nlimit_k=255\nlimit_c=255\n\
     limit_m=255\nlimit_y=255\nleft=0\nright=0\ntop=4\nbottom=0\n\
     curve_k=0,16,32,48,64,80,96,112,128,144,160,176,192,208,224,240,256\n\
@@ -43,34 +46,34 @@ const TINY: &[u8] =
     curve_m=0,16,32,48,64,80,96,112,128,144,160,176,192,208,224,240,256\n\
     curve_y=0,16,32,48,64,80,96,112,128,144,160,176,192,208,224,240,256\n";
 
-#[test]
-fn profile_prints_its_canonical_text(rt: HostRuntime) -> Result<(), Fail> {
-    const CASES: [Case; 2] = [
-        Case {
-            words: &["profile", "profile=tiny"],
-            most: 0,
-            out: Output::Parts(&[TINY]),
-            ..NO_PAGE
-        },
-        Case {
-            words: &["profile", "profile=none.txt"],
-            most: 0,
-            status: 2,
-            line: b"profile: line 0: Absent\n",
-            ..NO_PAGE
-        },
-    ];
-    assert_eq!(rt; TINY.len(), 423);
-    try_all(&rt, rt.alloc(), &CASES)
+// Shows a profile, of which so many bytes are written. The first read of the shelf fails.
+fn show_built_in<R: Threads + Sync>(rt: &R, alloc: Global, room: usize) -> Result<Left, Fail> {
+    let (input, out) = (plain(alloc, Vec::new(alloc)), sink(alloc, room)?);
+    let words = ["profile", "profile=tiny"];
+    Ok(run_over(rt, alloc, &words, input, out, failing_shelf(alloc)?)?)
 }
 
 #[test]
-fn a_shelf_is_not_asked_for_a_profile_that_is_built_in(rt: HostRuntime) -> Result<(), Fail> {
-    let alloc = rt.alloc();
-    let failing = MemShelf::make(Vec::new(alloc), vec![in alloc; 1]?);
-    let (input, words) = (plain(alloc, Vec::new(alloc)), ["profile", "profile=tiny"]);
-    let left = run_over(&rt, alloc, &words, input, roomy(alloc)?, failing)?;
-    leaves(&rt, &left, (0, TINY, b""));
+fn profile_prints_its_canonical_text(rt: HostRuntime) -> Result<(), Fail> {
+    const ABSENT: [BytesRow; 1] = [(
+        &["profile", "profile=none.txt"],
+        b"",
+        (2, &[], b"profile: line 0: Absent\n"),
+    )];
+    assert!(rt; TINY_TEXT.len() == 423);
+    let left = show_built_in(&rt, rt.alloc(), 423)?;
+    leaves(&rt, &left, (0, TINY_TEXT, b""));
+    try_bytes(&rt, rt.alloc(), &ABSENT)
+}
+
+#[test]
+fn a_failing_sink_is_no_page(rt: HostRuntime) -> Result<(), Fail> {
+    let left = show_built_in(&rt, rt.alloc(), 150)?;
+    leaves(
+        &rt,
+        &left,
+        (5, &TINY_TEXT[..150], b"write failed: page 0\n"),
+    );
     Ok(())
 }
 
@@ -82,32 +85,6 @@ fn a_failing_shelf_is_a_failed_read(rt: HostRuntime) -> Result<(), Fail> {
     ];
     refuses_all(&rt, rt.alloc(), &CASES)
 }
-
-#[test]
-fn a_failing_sink_is_no_page(rt: HostRuntime) -> Result<(), Fail> {
-    let alloc = rt.alloc();
-    let (input, words) = (plain(alloc, Vec::new(alloc)), ["profile", "profile=tiny"]);
-    let left = run_over(
-        &rt,
-        alloc,
-        &words,
-        input,
-        sink(alloc, 150)?,
-        no_files(alloc),
-    )?;
-    leaves(&rt, &left, (5, &TINY[..150], b"write failed: page 0\n"));
-    Ok(())
-}
-
-// A profile's text is shown.
-const SHOWN: Case = Case {
-    words: &["profile", "profile=m1.txt"],
-    most: 0,
-    ..NO_PAGE
-};
-
-// A profile's text is refused.
-const REFUSED: Case = Case { status: 2, ..SHOWN };
 
 const JUST_ENOUGH: &[u8] =
     b"escp2-profile 1\nhdpi=360\nvdpi=720\nnozzles=31\npitch=8\ninks=k\ntop=240\n";
@@ -126,147 +103,112 @@ const JUST_ENOUGH_2: &[u8] =
 
 #[test]
 fn a_profile_with_just_enough_margin_is_shown_whole(rt: HostRuntime) -> Result<(), Fail> {
-    const CASES: [Case; 2] = [
-        Case {
-            file: &[JUST_ENOUGH],
-            out: Output::Parts(&[JUST_ENOUGH_WHOLE]),
-            ..SHOWN
-        },
-        Case {
-            file: &[JUST_ENOUGH_WHOLE],
-            out: Output::Parts(&[JUST_ENOUGH_WHOLE]),
-            ..SHOWN
-        },
+    const ROWS: [TextRow; 2] = [
+        (&[JUST_ENOUGH], (0, &[JUST_ENOUGH_WHOLE], b"")),
+        (&[JUST_ENOUGH_WHOLE], (0, &[JUST_ENOUGH_WHOLE], b"")),
     ];
-    try_all(&rt, rt.alloc(), &CASES)
+    try_texts(&rt, rt.alloc(), &ROWS)
 }
 
 #[test]
 fn profile_checks_name_gcd_margin_and_step(rt: HostRuntime) -> Result<(), Fail> {
-    const CASES: [Case; 9] = [
-        Case {
-            file: &[
+    const ROWS: [TextRow; 9] = [
+        (
+            &[
                 JUST_ENOUGH_2,
                 b"curve_k=0,16,8,256,256,256,256,256,256,256,256,256,256,256,256,256,256\n",
             ],
-            line: b"profile: line 0: Curve 0\n",
-            ..REFUSED
-        },
-        Case {
-            file: &[
+            (2, &[], b"profile: line 0: Curve 0\n"),
+        ),
+        (
+            &[
                 JUST_ENOUGH_2,
                 b"curve_y=1,1,1,1,1,1,1,1,1,1,1,1,1,1,1,1,1\n",
             ],
-            line: b"profile: line 0: Curve 3\n",
-            ..REFUSED
-        },
-        Case {
-            file: &[b"escp2-profile 1\nvdpi=720\nnozzles=32\npitch=8\ninks=k\ntop=300\nhdpi=360\n"],
-            line: b"profile: line 0: NotCoprime 8\n",
-            ..REFUSED
-        },
-        Case {
-            file: &[b"escp2-profile 1\nvdpi=720\nnozzles=31\npitch=8\ninks=k\ntop=239\nhdpi=360\n"],
-            line: b"profile: line 0: TopMargin 240\n",
-            ..REFUSED
-        },
-        Case {
-            file: &[b"escp2-profile 1\nvdpi=360\nnozzles=1\npitch=26\ninks=k\nhdpi=360\n"],
-            line: b"profile: line 0: RowStep\n",
-            ..REFUSED
-        },
-        Case {
-            file: &[b"escp2-profile 1\nvdpi=360\nnozzles=0\npitch=26\ninks=k\nhdpi=360\n"],
-            line: b"profile: line 0: Nozzles\n",
-            ..REFUSED
-        },
-        Case {
-            file: &[b"escp2-profile 1\nvdpi=360\nnozzles=1\npitch=0\ninks=k\nhdpi=360\n"],
-            line: b"profile: line 0: Pitch\n",
-            ..REFUSED
-        },
-        Case {
-            file: &[b"escp2-profile 1\nvdpi=300\nnozzles=0\npitch=0\ninks=k\nhdpi=360\n"],
-            line: b"profile: line 0: Resolution\n",
-            ..REFUSED
-        },
-        Case {
-            file: &[
-                b"escp2-profile 1\nvdpi=360\nnozzles=1\npitch=1\ninks=k\nhdpi=720\nblack_start=255",
-            ],
-            line: b"profile: line 0: BlackStart\n",
-            ..REFUSED
-        },
+            (2, &[], b"profile: line 0: Curve 3\n"),
+        ),
+        (
+            &[b"escp2-profile 1\nvdpi=720\nnozzles=32\npitch=8\ninks=k\ntop=300\nhdpi=360\n"],
+            (2, &[], b"profile: line 0: NotCoprime 8\n"),
+        ),
+        (
+            &[b"escp2-profile 1\nvdpi=720\nnozzles=31\npitch=8\ninks=k\ntop=239\nhdpi=360\n"],
+            (2, &[], b"profile: line 0: TopMargin 240\n"),
+        ),
+        (
+            &[b"escp2-profile 1\nvdpi=360\nnozzles=1\npitch=26\ninks=k\nhdpi=360\n"],
+            (2, &[], b"profile: line 0: RowStep\n"),
+        ),
+        (
+            &[b"escp2-profile 1\nvdpi=360\nnozzles=0\npitch=26\ninks=k\nhdpi=360\n"],
+            (2, &[], b"profile: line 0: Nozzles\n"),
+        ),
+        (
+            &[b"escp2-profile 1\nvdpi=360\nnozzles=1\npitch=0\ninks=k\nhdpi=360\n"],
+            (2, &[], b"profile: line 0: Pitch\n"),
+        ),
+        (
+            &[b"escp2-profile 1\nvdpi=300\nnozzles=0\npitch=0\ninks=k\nhdpi=360\n"],
+            (2, &[], b"profile: line 0: Resolution\n"),
+        ),
+        (
+            &[b"escp2-profile 1\nvdpi=360\nnozzles=1\npitch=1\ninks=k\nhdpi=720\nblack_start=255"],
+            (2, &[], b"profile: line 0: BlackStart\n"),
+        ),
     ];
-    try_all(&rt, rt.alloc(), &CASES)
+    try_texts(&rt, rt.alloc(), &ROWS)
 }
 
 #[test]
 fn a_bad_text_is_refused_at_its_line(rt: HostRuntime) -> Result<(), Fail> {
-    const CASES: [Case; 10] = [
-        Case {
-            file: &[JUST_ENOUGH_2, b"curve_k=0,16\n"],
-            line: b"profile: line 8: BadValue\n",
-            ..REFUSED
-        },
-        Case {
-            file: &[JUST_ENOUGH, b"curve_k=0,16\n"],
-            line: b"profile: line 8: UnknownKey\n",
-            ..REFUSED
-        },
-        Case {
-            file: &[b""],
-            line: b"profile: line 1: BadHead\n",
-            ..REFUSED
-        },
-        Case {
-            file: &[b"escp2-profile 3\n"],
-            line: b"profile: line 1: BadHead\n",
-            ..REFUSED
-        },
-        Case {
-            file: &[b"escp2-profile 1\n#\xFF\nh\xFF=1\n"],
-            line: b"profile: line 3: NotAscii\n",
-            ..REFUSED
-        },
-        Case {
-            file: &[b"escp2-profile 1\n\nhdpi\n"],
-            line: b"profile: line 3: NoEquals\n",
-            ..REFUSED
-        },
-        Case {
-            file: &[b"escp2-profile 1\r\ndpi=1\r\n"],
-            line: b"profile: line 2: UnknownKey\n",
-            ..REFUSED
-        },
-        Case {
-            file: &[b"escp2-profile 1\ntop=1\ntop=x\n"],
-            line: b"profile: line 3: RepeatedKey\n",
-            ..REFUSED
-        },
-        Case {
-            file: &[b"escp2-profile 1\ntop= 1\n"],
-            line: b"profile: line 2: BadValue\n",
-            ..REFUSED
-        },
-        Case {
-            file: &[b"escp2-profile 1\nhdpi=360\nvdpi=360\n"],
-            line: b"profile: line 0: Missing nozzles\n",
-            ..REFUSED
-        },
+    const ROWS: [TextRow; 10] = [
+        (
+            &[JUST_ENOUGH_2, b"curve_k=0,16\n"],
+            (2, &[], b"profile: line 8: BadValue\n"),
+        ),
+        (
+            &[JUST_ENOUGH, b"curve_k=0,16\n"],
+            (2, &[], b"profile: line 8: UnknownKey\n"),
+        ),
+        (&[b""], (2, &[], b"profile: line 1: BadHead\n")),
+        (
+            &[b"escp2-profile 3\n"],
+            (2, &[], b"profile: line 1: BadHead\n"),
+        ),
+        (
+            &[b"escp2-profile 1\n#\xFF\nh\xFF=1\n"],
+            (2, &[], b"profile: line 3: NotAscii\n"),
+        ),
+        (
+            &[b"escp2-profile 1\n\nhdpi\n"],
+            (2, &[], b"profile: line 3: NoEquals\n"),
+        ),
+        (
+            &[b"escp2-profile 1\r\ndpi=1\r\n"],
+            (2, &[], b"profile: line 2: UnknownKey\n"),
+        ),
+        (
+            &[b"escp2-profile 1\ntop=1\ntop=x\n"],
+            (2, &[], b"profile: line 3: RepeatedKey\n"),
+        ),
+        (
+            &[b"escp2-profile 1\ntop= 1\n"],
+            (2, &[], b"profile: line 2: BadValue\n"),
+        ),
+        (
+            &[b"escp2-profile 1\nhdpi=360\nvdpi=360\n"],
+            (2, &[], b"profile: line 0: Missing nozzles\n"),
+        ),
     ];
-    try_all(&rt, rt.alloc(), &CASES)
+    try_texts(&rt, rt.alloc(), &ROWS)
 }
+
+// The words that take a printer by its text.
+const BY_TEXT: [&str; 2] = ["print", "profile=m1.txt"];
 
 // A printer of one nozzle and black, whose margins cut one pixel off at the left and at the top.
 const CUT: &[u8] =
     b"escp2-profile 1\nhdpi=360\nvdpi=360\nnozzles=1\npitch=1\ninks=k\nleft=1\ntop=1\n";
-
-const CUT_PAGE: GivenPage = GivenPage {
-    size: (4, 2),
-    body: &[1, 3, 0],
-    ..GREY
-};
 
 const CUT_WHOLE: &[u8] =
     b"escp2-profile 2\nhdpi=360\nvdpi=360\nnozzles=1\npitch=1\ninks=k\nblack_start=0\nlimit_k=255\nlimit_c=255\n\
@@ -278,26 +220,13 @@ const CUT_WHOLE: &[u8] =
 
 #[test]
 fn a_version_1_text_migrates(rt: HostRuntime) -> Result<(), Fail> {
-    const PRINTED: Case = Case {
-        words: &["print", "profile=m1.txt"],
-        file: &[CUT],
-        pages: &[CUT_PAGE],
-        out: Output::Parts(&[&MOVED_JOB]),
-        ..NO_PAGE
-    };
-    const CASES: [Case; 3] = [
-        Case {
-            file: &[CUT],
-            out: Output::Parts(&[CUT_WHOLE]),
-            ..SHOWN
-        },
-        PRINTED,
-        Case {
-            file: &[CUT_WHOLE],
-            ..PRINTED
-        },
-    ];
-    try_all(&rt, rt.alloc(), &CASES)
+    const SHOWN: [TextRow; 1] = [(&[CUT], (0, &[CUT_WHOLE], b""))];
+    const PRINTED: [PageRow; 1] = [(Kind::Gray8, (4, 2), &[1, 3, 0], (0, &[&MOVED_JOB], b""))];
+    try_texts(&rt, rt.alloc(), &SHOWN)?;
+    for text in [CUT, CUT_WHOLE] {
+        try_pages(&rt, rt.alloc(), &BY_TEXT, &[text], &PRINTED)?;
+    }
+    Ok(())
 }
 
 // A sheet of one row without a dot.
@@ -311,19 +240,8 @@ const BLANK_JOB: [u8; 49] = [
 fn a_tone_below_the_threshold_leaves_a_blank_page(rt: HostRuntime) -> Result<(), Fail> {
     const HALF: &[u8] = b"escp2-profile 2\nhdpi=360\nvdpi=360\nnozzles=1\npitch=1\ninks=k\n\
         curve_k=0,8,16,24,32,40,48,56,64,72,80,88,96,104,112,120,128\n";
-    const BLACK_PIXEL: GivenPage = GivenPage {
-        size: (1, 1),
-        body: &[0, 0, 0],
-        ..GREY
-    };
-    const CASES: [Case; 1] = [Case {
-        words: &["print", "profile=m1.txt"],
-        file: &[HALF],
-        pages: &[BLACK_PIXEL],
-        out: Output::Parts(&[&BLANK_JOB]),
-        ..NO_PAGE
-    }];
-    try_all(&rt, rt.alloc(), &CASES)
+    const ROWS: [PageRow; 1] = [(Kind::Gray8, (1, 1), &[0, 0, 0], (0, &[&BLANK_JOB], b""))];
+    try_pages(&rt, rt.alloc(), &BY_TEXT, &[HALF], &ROWS)
 }
 
 // The text of a profile followed by a comment, of this many bytes in all.
@@ -339,10 +257,9 @@ fn a_text_of_65537_bytes_is_too_long(rt: HostRuntime) -> Result<(), Fail> {
         (65_536, 0, JUST_ENOUGH_WHOLE, b""),
         (65_537, 2, b"", b"profile: line 0: TooLong\n"),
     ];
-    let alloc = rt.alloc();
     for &(length, status, out, line) in &CASES {
-        let text = text_of(alloc, length)?;
-        let left = run_bytes(&rt, alloc, SHOWN.words, &[&text], Vec::new(alloc))?;
+        let text = text_of(rt.alloc(), length)?;
+        let left = show(&rt, rt.alloc(), &[&text])?;
         leaves(&rt, &left, (status, out, line));
     }
     Ok(())

@@ -1,135 +1,83 @@
 //! Streams of pages, whole and refused.
 use crate::fixture::{
-    Case, GREY, GREY_BODY, GREY_JOB, GREY_PAGE, GREY_STREAM, GivenPage, NO_PAGE, Output, PRINT,
-    hashes_to, leaves, one_page, run_bytes, try_all, two_pages,
+    GREY_BODY, GREY_JOB, GREY_STREAM, PRINT, PageRow, TINY, Wanted, change, hashes_to, leaves,
+    leaves_parts, one_page, run_bytes, try_pages, two_pages,
 };
-use driver_fixtures::{no_files, prefix, roomy, run_over};
+use driver_fixtures::{Left, add_page, no_files, prefix, roomy, run_over, source};
+use pwg_header::Kind;
 use std::alloc::Global;
 use std::process::Abort;
 use std::test::Fail;
 use std::thread::Threads;
-use weave_base::{MemSource, Memory};
-
-// A stream that is refused.
-const REFUSED: Case = Case {
-    status: 3,
-    ..NO_PAGE
-};
 
 #[test]
 fn the_first_path_prints_one_grey_page(rt: HostRuntime) -> Result<(), Fail> {
-    const CASES: [Case; 1] = [Case {
-        pages: &[GREY_PAGE],
-        out: Output::Parts(&[&GREY_JOB]),
-        ..NO_PAGE
-    }];
-    try_all(&rt, rt.alloc(), &CASES)
+    const ROWS: [PageRow; 1] = [(Kind::Gray8, (4, 2), &GREY_BODY, (0, &[&GREY_JOB], b""))];
+    try_pages(&rt, rt.alloc(), &PRINT, &[], &ROWS)
 }
 
 #[test]
 fn a_run_past_its_line_is_refused_at_its_byte(rt: HostRuntime) -> Result<(), Fail> {
-    const SIZED: GivenPage = GivenPage {
-        size: (8, 6),
-        ..GREY
-    };
-    const CASES: [Case; 5] = [
-        Case {
-            pages: &[GivenPage {
-                body: &[0, 8, 0],
-                ..SIZED
-            }],
-            line: b"input: page 1 line 1: RunPastLine\n",
-            ..REFUSED
-        },
-        Case {
-            words: &["print", "profile=tiny"],
-            pages: &[GivenPage {
-                body: &[0, 8],
-                ..SIZED
-            }],
-            line: b"input: page 1 line 1: RunPastLine\n",
-            ..REFUSED
-        },
-        Case {
-            pages: &[GivenPage {
-                body: &[0, 8],
-                ..SIZED
-            }],
-            line: b"input: page 1 line 1: RunPastLine\n",
-            ..REFUSED
-        },
-        Case {
-            pages: &[GivenPage {
-                body: &[2, 7, 0, 1, 0xF9],
-                ..SIZED
-            }],
-            line: b"input: page 1 line 4: Truncated\n",
-            ..REFUSED
-        },
-        Case {
-            pages: &[GivenPage {
-                body: &[2, 7, 0, 1, 0xF8],
-                ..SIZED
-            }],
-            line: b"input: page 1 line 4: RunPastLine\n",
-            ..REFUSED
-        },
+    const PAST: Wanted = (3, &[], b"input: page 1 line 1: RunPastLine\n");
+    const ROWS: [PageRow; 4] = [
+        (Kind::Gray8, (8, 6), &[0, 8, 0], PAST),
+        (Kind::Gray8, (8, 6), &[0, 8], PAST),
+        (
+            Kind::Gray8,
+            (8, 6),
+            &[2, 7, 0, 1, 0xF9],
+            (3, &[], b"input: page 1 line 4: Truncated\n"),
+        ),
+        (
+            Kind::Gray8,
+            (8, 6),
+            &[2, 7, 0, 1, 0xF8],
+            (3, &[], b"input: page 1 line 4: RunPastLine\n"),
+        ),
     ];
-    try_all(&rt, rt.alloc(), &CASES)
+    try_pages(&rt, rt.alloc(), &PRINT, &[], &ROWS)?;
+    try_pages(&rt, rt.alloc(), &TINY, &[], &ROWS)
 }
 
 #[test]
 fn a_group_past_the_page_is_refused_at_its_count(rt: HostRuntime) -> Result<(), Fail> {
-    const SIZED: GivenPage = GivenPage {
-        size: (8, 255),
-        ..GREY
-    };
-    const PAST: Case = Case {
-        line: b"input: page 1 line 1: GroupPastPage\n",
-        ..REFUSED
-    };
-    const CASES: [Case; 2] = [
-        Case {
-            pages: &[GivenPage {
-                body: &[0xFF, 7, 0],
-                ..SIZED
-            }],
-            ..PAST
-        },
-        Case {
-            pages: &[GivenPage {
-                body: &[0xFF],
-                ..SIZED
-            }],
-            ..PAST
-        },
+    const PAST: Wanted = (3, &[], b"input: page 1 line 1: GroupPastPage\n");
+    const ROWS: [PageRow; 2] = [
+        (Kind::Gray8, (8, 255), &[0xFF, 7, 0], PAST),
+        (Kind::Gray8, (8, 255), &[0xFF], PAST),
     ];
-    try_all(&rt, rt.alloc(), &CASES)
+    try_pages(&rt, rt.alloc(), &PRINT, &[], &ROWS)
 }
 
 // A byte of the header of a page of grey that is changed, and the error line.
-type HeaderCase = (usize, u8, &'static [u8]);
+type HeaderRow = (usize, u8, &'static [u8]);
+
+// Prints a page of grey with one byte of its stream changed.
+fn print_changed<R: Threads + Sync>(
+    rt: &R,
+    alloc: Global,
+    change_of: (usize, u8),
+) -> Result<Left, Fail> {
+    let mut bytes = one_page(alloc, 4, 2, &GREY_BODY)?;
+    change(&mut bytes, &[change_of]);
+    Ok(run_bytes(rt, alloc, &PRINT, bytes, no_files(alloc))?)
+}
 
 // Asserts that a stream of a page of grey with one byte changed is refused.
 fn try_headers<R: Abort + Threads + Sync>(
     rt: &R,
     alloc: Global,
-    cases: &[HeaderCase],
+    rows: &[HeaderRow],
 ) -> Result<(), Fail> {
-    for (at, byte, line) in cases {
-        let mut bytes = one_page(alloc, 4, 2, &GREY_BODY)?;
-        if let Some(changed) = bytes.get_mut(*at) {
-            *changed = *byte;
-        }
-        let left = run_bytes(rt, alloc, &PRINT, &[], bytes)?;
-        leaves(rt, &left, (3, b"", line));
+    for (at, byte, line) in rows {
+        leaves(rt, &print_changed(rt, alloc, (*at, *byte))?, (3, b"", line));
     }
     Ok(())
 }
 
 #[test]
 fn a_refused_header_is_named_by_its_cause(rt: HostRuntime) -> Result<(), Fail> {
-    const CASES: [HeaderCase; 12] = [
+    const CASES: [HeaderRow; 12] = [
         (4, b'p', b"input: page 1 line 0: NotPwg\n"),
         (13, 1, b"input: page 1 line 0: NotPwg\n"),
         (283, 0, b"input: page 1 line 0: Resolution\n"),
@@ -149,65 +97,29 @@ fn a_refused_header_is_named_by_its_cause(rt: HostRuntime) -> Result<(), Fail> {
 
 #[test]
 fn a_fault_of_the_second_page_keeps_the_first(rt: HostRuntime) -> Result<(), Fail> {
-    const CASES: [Case; 1] = [Case {
-        pages: &[
-            GREY_PAGE,
-            GivenPage {
-                body: &[0, 3, 0, 0, 4],
-                ..GREY_PAGE
-            },
-        ],
-        out: Output::Parts(&[&GREY_JOB]),
-        line: b"input: page 2 line 2: RunPastLine\n",
-        ..REFUSED
-    }];
-    try_all(&rt, rt.alloc(), &CASES)
-}
-
-// Whether two pages of grey are printed where the first read gives this many bytes and the second the rest.
-fn prints_both<R: Threads + Sync>(rt: &R, alloc: Global, first: u32) -> Result<bool, Memory> {
-    let (Ok(bytes), Ok(pieces)) = (two_pages(alloc), vec![in alloc; first.max(1), 65_536]) else {
-        return Err(Memory);
-    };
-    let input = MemSource::make(bytes, pieces, Vec::new(alloc));
-    let left = run_over(rt, alloc, &PRINT, input, roomy(alloc)?, no_files(alloc))?;
-    let (one, two) = left.out.bytes().split_at(left.out.bytes().len() / 2);
-    Ok(left.status == 0 && one == GREY_JOB.as_slice() && two == GREY_JOB.as_slice())
-}
-
-// Asserts that each of these cuts leaves the job of two pages of grey unchanged.
-fn try_cuts<R: Abort + Threads + Sync>(
-    rt: &R,
-    alloc: Global,
-    from: u32,
-    to: u32,
-) -> Result<(), Memory> {
-    for first in from..to {
-        assert!(rt; prints_both(rt, alloc, first)?, "cut at {first}");
-    }
-    Ok(())
-}
-
-#[test]
-fn every_cut_in_the_first_page_gives_the_job(rt: HostRuntime) -> Result<(), Fail> {
-    try_cuts(&rt, rt.alloc(), 1, 1808)?;
-    Ok(())
-}
-
-#[test]
-fn every_cut_in_the_second_page_gives_the_job(rt: HostRuntime) -> Result<(), Fail> {
-    assert_eq!(rt; two_pages(rt.alloc())?.len(), 3612);
-    try_cuts(&rt, rt.alloc(), 1808, 3613)?;
-    Ok(())
-}
-
-// An independent program that follows the definitions gives the same job.
-#[test]
-fn a_stream_byte_by_byte_gives_the_job(rt: HostRuntime) -> Result<(), Fail> {
     let alloc = rt.alloc();
-    let input = MemSource::make(two_pages(alloc)?, vec![in alloc; 1]?, Vec::new(alloc));
-    let left = run_over(&rt, alloc, &PRINT, input, roomy(alloc)?, no_files(alloc))?;
-    hashes_to(&rt, &left, 140, 0xA4B8_6246_BB4F_0371);
+    let mut bytes = one_page(alloc, 4, 2, &GREY_BODY)?;
+    add_page(&mut bytes, Kind::Gray8, (4, 2), &[0, 3, 0, 0, 4])?;
+    let left = run_bytes(&rt, alloc, &PRINT, bytes, no_files(alloc))?;
+    let line = b"input: page 2 line 2: RunPastLine\n";
+    leaves(&rt, &left, (3, &GREY_JOB, line));
+    Ok(())
+}
+
+// Prints two pages of grey, where a read gives at most so many bytes.
+fn print_pieces<R: Threads + Sync>(rt: &R, alloc: Global, piece: u32) -> Result<Left, Fail> {
+    let input = source(alloc, two_pages(alloc)?, piece, 0)?;
+    Ok(run_over(rt, alloc, &PRINT, input, roomy(alloc)?, no_files(alloc))?)
+}
+
+// Reads that end in the sync word, in a header, in a body and between the pages.
+#[test]
+fn pieces_of_a_stream_give_the_job(rt: HostRuntime) -> Result<(), Fail> {
+    const PIECES: [u32; 8] = [1, 3, 4, 1799, 1800, 1807, 1808, 1809];
+    for &piece in &PIECES {
+        let left = print_pieces(&rt, rt.alloc(), piece)?;
+        leaves_parts(&rt, rt.alloc(), &left, (0, &[&GREY_JOB, &GREY_JOB], b""))?;
+    }
     Ok(())
 }
 
@@ -231,7 +143,7 @@ fn try_prefixes<R: Abort + Threads + Sync>(
 ) -> Result<(), Fail> {
     for count in 0..GREY_STREAM + 1 {
         let bytes = prefix(whole, count).to_vec(alloc)?;
-        let left = run_bytes(rt, alloc, &PRINT, &[], bytes)?;
+        let left = run_bytes(rt, alloc, &PRINT, bytes, no_files(alloc))?;
         leaves(rt, &left, answer_to_prefix(count));
     }
     Ok(())
@@ -240,7 +152,7 @@ fn try_prefixes<R: Abort + Threads + Sync>(
 #[test]
 fn every_prefix_of_a_stream_has_its_answer(rt: HostRuntime) -> Result<(), Fail> {
     let whole = one_page(rt.alloc(), 4, 2, &GREY_BODY)?;
-    assert_eq!(rt; whole.len(), GREY_STREAM);
+    assert!(rt; whole.len() == GREY_STREAM);
     try_prefixes(&rt, rt.alloc(), &whole)
 }
 
@@ -257,28 +169,14 @@ const WIDE_BODY: [u8; 129] = [
 // An independent program that follows the definitions gives the same job.
 #[test]
 fn a_page_of_the_greatest_width_is_printed(rt: HostRuntime) -> Result<(), Fail> {
-    const CASES: [Case; 2] = [
-        Case {
-            pages: &[GivenPage {
-                size: (8191, 1),
-                body: &WIDE_BODY,
-                ..GREY
-            }],
-            out: Output::Hash {
-                length: 79,
-                hash: 0x1276_6F55_193F_5370,
-            },
-            ..NO_PAGE
-        },
-        Case {
-            pages: &[GivenPage {
-                size: (8192, 1),
-                body: &WIDE_BODY,
-                ..GREY
-            }],
-            line: b"input: page 1 line 0: Width\n",
-            ..REFUSED
-        },
-    ];
-    try_all(&rt, rt.alloc(), &CASES)
+    const WIDER: [PageRow; 1] = [(
+        Kind::Gray8,
+        (8192, 1),
+        &WIDE_BODY,
+        (3, &[], b"input: page 1 line 0: Width\n"),
+    )];
+    let page = one_page(rt.alloc(), 8191, 1, &WIDE_BODY)?;
+    let left = run_bytes(&rt, rt.alloc(), &PRINT, page, no_files(rt.alloc()))?;
+    hashes_to(&rt, &left, 79, 0x1276_6F55_193F_5370);
+    try_pages(&rt, rt.alloc(), &PRINT, &[], &WIDER)
 }

@@ -1,10 +1,13 @@
 //! Pages printed by heads of several nozzles, and a run without a word for the profile.
 use crate::any_printer::{PLAINEST, Printer};
 use crate::fixture::{
-    Case, GREY, GivenPage, NO_PAGE, Output, PRINT, hashes_to, leaves, run_bytes, try_all,
+    BytesRow, PRINT, PageRow, TINY, Wanted, change, hashes_to, leaves, leaves_parts, run_bytes,
+    try_bytes, try_pages,
 };
 use crate::machine::execute;
-use driver_fixtures::{BLACK_BODY, add_header, begin, no_files, plain, run_over, sink};
+use driver_fixtures::{
+    BLACK_BODY, Left, add_header, begin, black_pages, no_files, plain, run_over, sink,
+};
 use known_jobs::TINY_JOB;
 use pwg_header::Kind;
 use std::alloc::Global;
@@ -13,78 +16,30 @@ use std::test::Fail;
 use std::thread::Threads;
 use weave_base::InkSet;
 
-// The words of runs on a printer of three nozzles.
-const TINY: [&str; 2] = ["print", "profile=tiny"];
-
-// A black page.
-const BLACK_PAGE: GivenPage = GivenPage {
-    size: (8, 6),
-    body: &BLACK_BODY,
-    ..GREY
-};
-
 #[test]
 fn tiny_prints_ninety_two_bytes(rt: HostRuntime) -> Result<(), Fail> {
-    const GREY_CASE: Case = Case {
-        words: &TINY,
-        pages: &[BLACK_PAGE],
-        out: Output::Parts(&[&TINY_JOB]),
-        ..NO_PAGE
-    };
-    // The same page of one bit a pixel.
-    const CASES: [Case; 2] = [
-        GREY_CASE,
-        Case {
-            pages: &[GivenPage {
-                kind: Kind::Black1,
-                body: &[5, 0, 0xFF],
-                ..BLACK_PAGE
-            }],
-            ..GREY_CASE
-        },
-    ];
-    try_all(&rt, rt.alloc(), &CASES)
+    const ROWS: [PageRow; 1] = [(Kind::Gray8, (8, 6), &BLACK_BODY, (0, &[&TINY_JOB], b""))];
+    try_pages(&rt, rt.alloc(), &TINY, &[], &ROWS)
 }
 
 #[test]
 fn a_stream_without_a_page_prints_nothing(rt: HostRuntime) -> Result<(), Fail> {
-    const CASES: [Case; 2] = [
-        Case {
-            words: &TINY,
-            ..NO_PAGE
-        },
-        Case {
-            words: &PRINT,
-            ..NO_PAGE
-        },
+    const ROWS: [BytesRow; 2] = [
+        (&TINY, b"RaS2", (0, &[], b"")),
+        (&PRINT, b"RaS2", (0, &[], b"")),
     ];
-    try_all(&rt, rt.alloc(), &CASES)
+    try_bytes(&rt, rt.alloc(), &ROWS)
 }
 
 #[test]
 fn a_short_input_is_bad_sync(rt: HostRuntime) -> Result<(), Fail> {
-    const BAD_SYNC: Case = Case {
-        words: &["print"],
-        status: 3,
-        line: b"input: page 0 line 0: BadSync\n",
-        ..NO_PAGE
-    };
-    // no byte, `Ra` and `RaS3`
-    const CASES: [Case; 3] = [
-        Case {
-            most: 0,
-            ..BAD_SYNC
-        },
-        Case {
-            most: 2,
-            ..BAD_SYNC
-        },
-        Case {
-            changes: &[(3, b'3')],
-            ..BAD_SYNC
-        },
+    const BAD_SYNC: Wanted = (3, &[], b"input: page 0 line 0: BadSync\n");
+    const ROWS: [BytesRow; 3] = [
+        (&["print"], b"", BAD_SYNC),
+        (&["print"], b"Ra", BAD_SYNC),
+        (&["print"], b"RaS3", BAD_SYNC),
     ];
-    try_all(&rt, rt.alloc(), &CASES)
+    try_bytes(&rt, rt.alloc(), &ROWS)
 }
 
 // Three rasters of one dot.
@@ -99,56 +54,36 @@ const THREE_RASTERS: [u8; 105] = [
 
 #[test]
 fn one_nozzle_prints_three_rasters(rt: HostRuntime) -> Result<(), Fail> {
-    const CASES: [Case; 1] = [Case {
-        pages: &[GivenPage {
-            size: (1, 3),
-            body: &[2, 0, 0],
-            ..GREY
-        }],
-        out: Output::Parts(&[&THREE_RASTERS]),
-        ..NO_PAGE
-    }];
-    try_all(&rt, rt.alloc(), &CASES)
+    const ROWS: [PageRow; 1] = [(Kind::Gray8, (1, 3), &[2, 0, 0], (0, &[&THREE_RASTERS], b""))];
+    try_pages(&rt, rt.alloc(), &PRINT, &[], &ROWS)
 }
 
 #[test]
 fn a_cut_third_header_leaves_two_pages(rt: HostRuntime) -> Result<(), Fail> {
-    const CASES: [Case; 1] = [Case {
-        words: &TINY,
-        pages: &[BLACK_PAGE, BLACK_PAGE, BLACK_PAGE],
-        most: 5397,
-        status: 3,
-        out: Output::Parts(&[&TINY_JOB, &TINY_JOB]),
-        line: b"input: page 3 line 0: Truncated\n",
-        ..NO_PAGE
-    }];
-    try_all(&rt, rt.alloc(), &CASES)
+    const WANTED: Wanted = (
+        3,
+        &[&TINY_JOB, &TINY_JOB],
+        b"input: page 3 line 0: Truncated\n",
+    );
+    let mut bytes = black_pages(rt.alloc(), 3)?;
+    bytes.truncate(5397);
+    let left = run_bytes(&rt, rt.alloc(), &TINY, bytes, no_files(rt.alloc()))?;
+    leaves_parts(&rt, rt.alloc(), &left, WANTED)
 }
 
 #[test]
 fn sixteen_bits_and_a_short_page_are_refused(rt: HostRuntime) -> Result<(), Fail> {
-    const CASES: [Case; 2] = [
-        Case {
-            words: &TINY,
-            pages: &[BLACK_PAGE],
-            changes: &[(391, 16), (395, 16), (399, 16)],
-            status: 3,
-            line: b"input: page 1 line 0: Kind\n",
-            ..NO_PAGE
-        },
-        Case {
-            words: &TINY,
-            pages: &[GivenPage {
-                size: (8, 4),
-                body: &[3, 7, 0],
-                ..GREY
-            }],
-            status: 3,
-            line: b"input: page 1 line 0: Height\n",
-            ..NO_PAGE
-        },
-    ];
-    try_all(&rt, rt.alloc(), &CASES)
+    const SHORT: [PageRow; 1] = [(
+        Kind::Gray8,
+        (8, 4),
+        &[3, 7, 0],
+        (3, &[], b"input: page 1 line 0: Height\n"),
+    )];
+    let mut bytes = black_pages(rt.alloc(), 1)?;
+    change(&mut bytes, &[(391, 16), (395, 16), (399, 16)]);
+    let left = run_bytes(&rt, rt.alloc(), &TINY, bytes, no_files(rt.alloc()))?;
+    leaves(&rt, &left, (3, b"", b"input: page 1 line 0: Kind\n"));
+    try_pages(&rt, rt.alloc(), &TINY, &[], &SHORT)
 }
 
 // The built-in printer of that name.
@@ -209,19 +144,20 @@ fn plays_a4<R: Abort + Threads + Sync>(
     Ok(())
 }
 
+// Prints an A4 page, all of one byte.
+fn print_a4<R: Threads + Sync>(rt: &R, alloc: Global, byte: u8) -> Result<Left, Fail> {
+    let words = ["print", "profile=p360cmyk", "workers=4"];
+    Ok(run_bytes(rt, alloc, &words, a4(alloc, byte)?, no_files(alloc))?)
+}
+
 #[test]
 fn a_black_a4_takes_277_rasters(rt: HostRuntime) -> Result<(), Fail> {
-    let alloc = rt.alloc();
-    let bytes = a4(alloc, 0)?;
-    assert_eq!(rt; bytes.len(), 3449);
-    let words = ["print", "profile=p360cmyk", "workers=4"];
-    let left = run_bytes(&rt, alloc, &words, &[], bytes)?;
+    assert!(rt; a4(rt.alloc(), 0)?.len() == 3449);
+    let left = print_a4(&rt, rt.alloc(), 0)?;
     hashes_to(&rt, &left, 38_413, 0xAC5A_E1A3_CCA8_296C);
-    assert_eq!(rt;
-        fired(alloc, left.out.bytes())?,
-        (1, 277, [11_800_854, 0, 0, 0])
-    );
-    plays_a4(&rt, alloc, left.out.bytes(), 0xB9F9_D3F8_92E0_C969)
+    let found = fired(rt.alloc(), left.out.bytes())?;
+    assert!(rt; found == (1, 277, [11_800_854, 0, 0, 0]), "{found:?}");
+    plays_a4(&rt, rt.alloc(), left.out.bytes(), 0xB9F9_D3F8_92E0_C969)
 }
 
 // The job of a white A4 page.
@@ -233,9 +169,7 @@ const WHITE_A4: [u8; 49] = [
 
 #[test]
 fn a_white_a4_is_forty_nine_bytes(rt: HostRuntime) -> Result<(), Fail> {
-    let bytes = a4(rt.alloc(), 0xFF)?;
-    let words = ["print", "profile=p360cmyk"];
-    let left = run_bytes(&rt, rt.alloc(), &words, &[], bytes)?;
+    let left = print_a4(&rt, rt.alloc(), 0xFF)?;
     leaves(&rt, &left, (0, &WHITE_A4, b""));
     Ok(())
 }

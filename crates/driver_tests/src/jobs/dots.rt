@@ -1,116 +1,88 @@
 //! The command `dots`.
-use crate::jobs::fixture::{Case, KNOWN, Part, try_all};
+use crate::fixture::Wanted;
+use crate::jobs::fixture::{JobRow, Part, ROOMY, try_jobs};
 use known_jobs::TINY_IMAGES;
 use std::test::Fail;
 
-// The job is played on its printer.
-const PLAYED: Case = Case {
-    words: &["dots", "profile=tiny"],
-    job: &KNOWN,
-    reads: (92, 0),
-    room: 4096,
-    status: 0,
-    out: &[TINY_IMAGES],
-    line: b"",
-};
+// Playing on the printer `tiny`, whose known job has one sheet.
+const DOTS: [&str; 2] = ["dots", "profile=tiny"];
 
-// The job stops before its first sheet is ejected.
-const STOPPED: Case = Case {
-    status: 8,
-    out: &[],
-    ..PLAYED
-};
+const KNOWN: Part = Part::Known(0, 92);
+
+const PLAYED: Wanted = (0, &[TINY_IMAGES], b"");
 
 #[test]
 fn dots_gives_four_images_of_a_sheet(rt: HostRuntime) -> Result<(), Fail> {
-    const CASES: [Case; 3] = [
-        Case {
-            reads: (1, 0),
-            ..PLAYED
-        },
-        Case {
-            reads: (50, 0),
-            ..PLAYED
-        },
-        PLAYED,
+    const ROWS: [JobRow; 3] = [
+        (&DOTS, &[KNOWN], (1, 0), ROOMY, PLAYED),
+        (&DOTS, &[KNOWN], (50, 0), ROOMY, PLAYED),
+        (&DOTS, &[KNOWN], (92, 0), ROOMY, PLAYED),
     ];
-    try_all(&rt, rt.alloc(), &CASES)
+    try_jobs(&rt, rt.alloc(), &ROWS)
 }
 
 #[test]
 fn a_raster_fired_twice_is_overprint(rt: HostRuntime) -> Result<(), Fail> {
-    const CASES: [Case; 1] = [Case {
-        job: &[
-            Part::Known(0, 64),
-            Part::Bytes(&[0x0D]),
-            Part::Known(50, 64),
-        ],
-        line: b"job: offset 65: Overprint\n",
-        ..STOPPED
-    }];
-    try_all(&rt, rt.alloc(), &CASES)
+    const TWICE: [Part; 3] = [
+        Part::Known(0, 64),
+        Part::Bytes(&[0x0D]),
+        Part::Known(50, 64),
+    ];
+    const WANTED: Wanted = (8, &[], b"job: offset 65: Overprint\n");
+    try_jobs(&rt, rt.alloc(), &[(&DOTS, &TWICE, (92, 0), ROOMY, WANTED)])
 }
 
 #[test]
 fn another_profile_is_density(rt: HostRuntime) -> Result<(), Fail> {
-    const CASES: [Case; 1] = [Case {
-        words: &["dots", "profile=tiny1"],
-        line: b"job: offset 50: Density\n",
-        ..STOPPED
-    }];
-    try_all(&rt, rt.alloc(), &CASES)
+    const ROWS: [JobRow; 1] = [(
+        &["dots", "profile=tiny1"],
+        &[KNOWN],
+        (92, 0),
+        ROOMY,
+        (8, &[], b"job: offset 50: Density\n"),
+    )];
+    try_jobs(&rt, rt.alloc(), &ROWS)
 }
 
 #[test]
 fn sheets_before_a_stop_are_written(rt: HostRuntime) -> Result<(), Fail> {
-    const CUT: Case = Case {
-        job: &[Part::Known(0, 92), Part::Known(0, 60)],
-        ..PLAYED
-    };
-    const CASES: [Case; 3] = [
-        Case {
-            reads: (33, 0),
-            status: 8,
-            line: b"job: offset 142: Cut\n",
-            ..CUT
-        },
-        Case {
-            reads: (50, 3),
-            status: 4,
-            line: b"read failed\n",
-            ..CUT
-        },
-        Case {
-            words: &["dots", "profile=tiny", "most=91"],
-            reads: (50, 0),
-            status: 8,
-            line: b"job: offset 91: TooLong\n",
-            ..PLAYED
-        },
+    const CUT: [Part; 2] = [KNOWN, Part::Known(0, 60)];
+    const ROWS: [JobRow; 5] = [
+        (
+            &DOTS,
+            &CUT,
+            (33, 0),
+            ROOMY,
+            (8, &[TINY_IMAGES], b"job: offset 142: Cut\n"),
+        ),
+        (
+            &DOTS,
+            &CUT,
+            (50, 3),
+            ROOMY,
+            (4, &[TINY_IMAGES], b"read failed\n"),
+        ),
+        (
+            &["dots", "profile=tiny", "most=91"],
+            &[KNOWN],
+            (50, 0),
+            ROOMY,
+            (8, &[TINY_IMAGES], b"job: offset 91: TooLong\n"),
+        ),
+        // a full sink
+        (
+            &DOTS,
+            &[KNOWN, KNOWN],
+            (92, 0),
+            60,
+            (
+                5,
+                &[TINY_IMAGES, b"P4\n8 6\n\x00"],
+                b"write failed: page 2\n",
+            ),
+        ),
+        // a job without a sheet
+        (&DOTS, &[Part::Known(0, 50)], (92, 0), 64, (0, &[], b"")),
     ];
-    try_all(&rt, rt.alloc(), &CASES)
-}
-
-#[test]
-fn a_full_sink_names_the_sheet(rt: HostRuntime) -> Result<(), Fail> {
-    const CASES: [Case; 1] = [Case {
-        job: &[Part::Known(0, 92), Part::Known(0, 92)],
-        room: 60,
-        status: 5,
-        out: &[TINY_IMAGES, b"P4\n8 6\n\x00"],
-        line: b"write failed: page 2\n",
-        ..PLAYED
-    }];
-    try_all(&rt, rt.alloc(), &CASES)
-}
-
-#[test]
-fn a_job_without_a_sheet_gives_nothing(rt: HostRuntime) -> Result<(), Fail> {
-    const CASES: [Case; 1] = [Case {
-        job: &[Part::Known(0, 50)],
-        room: 64,
-        out: &[],
-        ..PLAYED
-    }];
-    try_all(&rt, rt.alloc(), &CASES)
+    try_jobs(&rt, rt.alloc(), &ROWS)
 }

@@ -1,31 +1,14 @@
-//! Runs in memory over jobs.
-use driver_fixtures::{joined, no_files, run_over, sink};
+//! Runs in memory over print jobs.
+use crate::fixture::{Wanted, leaves_parts};
+use driver_fixtures::{Left, no_files, run_over, sink, source};
 use known_jobs::TINY_JOB;
 use std::alloc::{AllocError, Global};
 use std::process::Abort;
 use std::test::Fail;
 use std::thread::Threads;
-use weave_base::MemSource;
 
-/// Runs these words over this job, with room for so many bytes of output, and asserts the status, the output and the
-/// error line. `reads` has the most bytes of a read, and the number of a read that fails.
-pub fn runs_to<R: Abort + Threads + Sync>(
-    rt: &R,
-    alloc: Global,
-    texts: &[&str],
-    job: &[u8],
-    reads: (u32, u32),
-    room: usize,
-    wanted: (u8, &[u8], &[u8]),
-) -> Result<(), Fail> {
-    let (piece, fails) = reads;
-    let pieces = vec![in alloc; piece.max(1)]?;
-    let input = MemSource::make(job.to_vec(alloc)?, pieces, vec![in alloc; fails]?);
-    let out = sink(alloc, room)?;
-    let left = run_over(rt, alloc, texts, input, out, no_files(alloc))?;
-    assert_eq!(rt; left.all(), wanted);
-    Ok(())
-}
+/// Room for the output of a small job.
+pub const ROOMY: usize = 4096;
 
 /// A part of a job: the bytes of the known job from one place up to another, or other bytes.
 #[derive(Clone, Copy)]
@@ -34,24 +17,15 @@ pub enum Part {
     Bytes(&'static [u8]),
 }
 
-/// The known job.
-pub const KNOWN: [Part; 1] = [Part::Known(0, 92)];
-
-/// A run over a job: what it is given, and what it leaves.
-#[derive(Clone, Copy)]
-pub struct Case {
-    /// At most nine words.
-    pub words: &'static [&'static str],
-    /// The parts of the job, one after another.
-    pub job: &'static [Part],
-    /// The most bytes of a read, and the number of a read that fails, counted from 1.
-    pub reads: (u32, u32),
-    pub room: usize,
-    pub status: u8,
-    /// The parts of the output.
-    pub out: &'static [&'static [u8]],
-    pub line: &'static [u8],
-}
+/// A run over a job: at most nine words, the parts of the job, the most bytes of a read and the number of a read that
+/// fails, counted from 1, the room for its output, and what it leaves.
+pub type JobRow = (
+    &'static [&'static str],
+    &'static [Part],
+    (u32, u32),
+    usize,
+    Wanted,
+);
 
 // The bytes of a part of a job.
 fn bytes_of(part: Part) -> &'static [u8] {
@@ -70,21 +44,28 @@ fn job_of(alloc: Global, parts: &[Part]) -> Result<Vec<u8>, AllocError> {
     Ok(job)
 }
 
-// Asserts what a case leaves.
-fn try_case<R: Abort + Threads + Sync>(rt: &R, alloc: Global, case: &Case) -> Result<(), Fail> {
-    let (job, out) = (job_of(alloc, case.job)?, joined(alloc, case.out)?);
-    let wanted = (case.status, out.as_slice(), case.line);
-    runs_to(rt, alloc, case.words, &job, case.reads, case.room, wanted)
-}
-
-/// Asserts what each case leaves.
-pub fn try_all<R: Abort + Threads + Sync>(
+/// Runs these words over this job.
+pub fn run_job<R: Threads + Sync>(
     rt: &R,
     alloc: Global,
-    cases: &[Case],
+    words: &[&str],
+    job: Vec<u8>,
+    (piece, failing): (u32, u32),
+    room: usize,
+) -> Result<Left, Fail> {
+    let input = source(alloc, job, piece, failing)?;
+    Ok(run_over(rt, alloc, words, input, sink(alloc, room)?, no_files(alloc))?)
+}
+
+/// Asserts what each run leaves.
+pub fn try_jobs<R: Abort + Threads + Sync>(
+    rt: &R,
+    alloc: Global,
+    rows: &[JobRow],
 ) -> Result<(), Fail> {
-    for case in cases {
-        try_case(rt, alloc, case)?;
+    for (words, parts, reads, room, wanted) in rows {
+        let left = run_job(rt, alloc, words, job_of(alloc, parts)?, *reads, *room)?;
+        leaves_parts(rt, alloc, &left, *wanted)?;
     }
     Ok(())
 }

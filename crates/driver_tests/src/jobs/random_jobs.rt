@@ -1,5 +1,6 @@
 //! Pseudo-random jobs, whole, cut and with a byte changed: the driver answers as the slow programs do.
-use crate::jobs::fixture::runs_to;
+use crate::fixture::leaves;
+use crate::jobs::fixture::run_job;
 use crate::jobs::random::{Random, random_job};
 use job_fixtures::{PlainOutcome, listed, played};
 use std::alloc::Global;
@@ -20,8 +21,9 @@ fn has_outcome<R: Abort + Threads + Sync>(
         Some((at, cause)) => (8, format!(in alloc; "job: offset {at}: {cause}\n")?),
         None => (0, String::new(alloc)),
     };
-    let wanted = (status, plain.out.as_slice(), line.as_bytes());
-    runs_to(rt, alloc, words, job, (piece, 0), 70_000, wanted)
+    let left = run_job(rt, alloc, words, job.to_vec(alloc)?, (piece, 0), 70_000)?;
+    leaves(rt, &left, (status, &plain.out, line.as_bytes()));
+    Ok(())
 }
 
 // Asserts that the driver lists and plays a job, read in pieces of some length, as the slow programs do.

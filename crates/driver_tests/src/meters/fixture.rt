@@ -1,12 +1,15 @@
-//! Runs in memory that count black pages on meters.
-use driver_core::{OpenGate, run};
-use driver_fixtures::{Left, black_pages, no_files, plain, roomy, words};
+//! Runs that count pages on meters.
+use crate::fixture::{Wanted, leaves_parts, run_metered};
+use driver_fixtures::{Left, black_pages, no_files, plain, roomy, sink};
 use ink_meter::{DotMeter, InkCounts, Meter, can_settle, settle};
 use std::alloc::Global;
 use std::process::Abort;
 use std::test::Fail;
 use std::thread::Threads;
-use weave_base::{MemShelf, MemSink, Memory};
+use weave_base::MemShelf;
+
+/// Room for all that a test prints.
+pub const ROOMY: usize = 4096;
 
 /// One meter that has counted nothing.
 pub fn one_meter(alloc: Global) -> Result<Vec<Box<dyn Meter>>, Fail> {
@@ -15,44 +18,43 @@ pub fn one_meter(alloc: Global) -> Result<Vec<Box<dyn Meter>>, Fail> {
     Ok(meters)
 }
 
-/// Runs these words over these bytes.
-pub fn run_metered<R: Threads + Sync>(
+/// Runs these words over these bytes, with room for so many bytes of output.
+pub fn run_bytes_metered<R: Threads + Sync>(
     rt: &R,
     alloc: Global,
-    texts: &[&str],
+    words: &[&str],
     bytes: Vec<u8>,
-    mut out: MemSink,
-    mut shelf: MemShelf,
+    room: usize,
+    shelf: MemShelf,
     meters: &mut Vec<Box<dyn Meter>>,
-) -> Result<Left, Memory> {
-    let words = words(alloc, texts)?;
-    let mut input = plain(alloc, bytes);
-    let mut err = roomy(alloc)?;
-    let status = run(
-        rt, alloc, &words, &mut input, &mut out, &mut err, &mut shelf, &OpenGate, meters,
-    );
-    Ok(Left { status, out, err })
+) -> Result<Left, Fail> {
+    let (out, err) = (sink(alloc, room)?, roomy(alloc)?);
+    let input = plain(alloc, bytes);
+    Ok(run_metered(rt, alloc, words, input, out, err, shelf, meters)?)
 }
 
-/// Runs these words over so many black pages, with no file on the shelf, and asserts the status, the output and the
-/// error line.
+/// Runs these words over so many black pages, with no file on the shelf, and asserts what they leave.
 pub fn runs_to<R: Abort + Threads + Sync>(
     rt: &R,
     alloc: Global,
-    texts: &[&str],
-    pages: u32,
+    words: &[&str],
+    (pages, room): (u32, usize),
     meters: &mut Vec<Box<dyn Meter>>,
-    wanted: (u8, &[u8], &[u8]),
+    wanted: Wanted,
 ) -> Result<(), Fail> {
-    let (bytes, out) = (black_pages(alloc, pages)?, roomy(alloc)?);
-    let left = run_metered(rt, alloc, texts, bytes, out, no_files(alloc), meters)?;
-    assert_eq!(rt; left.all(), wanted);
-    Ok(())
+    let bytes = black_pages(alloc, pages)?;
+    let left = run_bytes_metered(rt, alloc, words, bytes, room, no_files(alloc), meters)?;
+    leaves_parts(rt, alloc, &left, wanted)
 }
 
 /// Four counts.
 pub fn counts(k: u64, c: u64, m: u64, y: u64) -> InkCounts {
     InkCounts { k, c, m, y }
+}
+
+/// The cap and the counts of the last meter, which is taken away.
+pub fn last(meters: &mut Vec<Box<dyn Meter>>) -> Option<(u64, InkCounts)> {
+    meters.pop().map(|meter| (meter.cap(), meter.total()))
 }
 
 /// The sum of what the meters counted, where it fits.

@@ -1,4 +1,5 @@
 //! Each small head over black windows of eight columns.
+use crate::heads::is_coprime;
 use crate::small_heads::shots::{Shot, shots_of};
 use driver_fixtures::{add_page, begin, one_file, plain, roomy, run_over};
 use pwg_header::Kind;
@@ -21,14 +22,6 @@ impl Work {
     fn top(self) -> u32 {
         self.nozzles.saturating_sub(1).wrapping_mul(self.pitch)
     }
-}
-
-// The greatest number by which both can be divided.
-fn divisor(a: u32, b: u32) -> u32 {
-    (1..=b)
-        .rev()
-        .find(|d| { a.checked_rem(*d) == Some(0) && b.checked_rem(*d) == Some(0) })
-        .unwrap_or(0)
 }
 
 // A shelf with the profile of the head.
@@ -65,26 +58,39 @@ fn job_of<R: Abort + Threads + Sync>(
     Ok(left.out.bytes().to_vec(alloc)?)
 }
 
-// Whether these shots fire each row of the window with each of the dots once, by live nozzles, and nothing else.
-fn are_once(shots: &[Shot], work: Work, dots: &[u8], dead: &[u32]) -> bool {
-    let rows = work.top()..work.top().wrapping_add(work.rows);
-    let mut once = shots.len() == dots.len().wrapping_mul(work.rows as usize);
-    for row in rows {
-        for wanted in dots {
-            let found = shots
-                .iter()
-                .filter(|shot| shot.row == row as usize && shot.dots == *wanted)
-                .count();
-            once &= found == 1;
+// How many of these shots fire these dots in a row.
+fn shots_in(shots: &[Shot], row: usize, dots: u8) -> usize {
+    let mut count: usize = 0;
+    for shot in shots {
+        if shot.row == row && shot.dots == dots {
+            count = count.saturating_add(1);
         }
     }
-    once && !shots
-        .iter()
-        .any(|shot| dead.iter().any(|n| *n as usize == shot.nozzle))
+    count
+}
+
+// Whether one of these nozzles fired.
+fn has_fired(shots: &[Shot], dead: &[usize]) -> bool {
+    let mut has_fired = false;
+    for shot in shots {
+        has_fired |= dead.contains(&shot.nozzle);
+    }
+    has_fired
+}
+
+// Whether these shots fire each row of the window with each of the dots once, by live nozzles, and nothing else.
+fn are_once(shots: &[Shot], work: Work, dots: &[u8], dead: &[usize]) -> bool {
+    let mut once = shots.len() == dots.len().wrapping_mul(work.rows as usize);
+    for row in work.top()..work.top().wrapping_add(work.rows) {
+        for wanted in dots {
+            once &= shots_in(shots, row as usize, *wanted) == 1;
+        }
+    }
+    once && !has_fired(shots, dead)
 }
 
 // The word that lists dead nozzles; a word that changes nothing where there is none.
-fn dead_word(alloc: Global, dead: &[u32]) -> Result<String, Fail> {
+fn dead_word(alloc: Global, dead: &[usize]) -> Result<String, Fail> {
     let mut word = String::new(alloc);
     for nozzle in dead {
         let next = format!(in alloc; "{}{}", if word.is_empty() { "dead=" } else { "," }, nozzle)?;
@@ -97,9 +103,9 @@ fn dead_word(alloc: Global, dead: &[u32]) -> Result<String, Fail> {
 }
 
 // The dead nozzles of a set, which is a sum of powers of two.
-fn dead_of(alloc: Global, nozzles: u32, set: u32) -> Result<Vec<u32>, Fail> {
+fn dead_of(alloc: Global, nozzles: u32, set: u32) -> Result<Vec<usize>, Fail> {
     let mut dead = Vec::new(alloc);
-    for (nozzle, power) in (0..nozzles).zip([1u32, 2, 4, 8, 16, 32]) {
+    for (nozzle, power) in (0..nozzles as usize).zip([1u32, 2, 4, 8, 16, 32]) {
         if set & power != 0 {
             dead.push(nozzle)?;
         }
@@ -146,7 +152,7 @@ fn try_sets<R: Abort + Threads + Sync>(
 fn every_set_of_dead_nozzles_of_small_heads_is_made_up(rt: HostRuntime) -> Result<(), Fail> {
     for (nozzles, sets) in (1..=6).zip([2u32, 4, 8, 16, 32, 64]) {
         for pitch in 1..=6 {
-            if divisor(nozzles, pitch) == 1 {
+            if is_coprime(nozzles, pitch) {
                 try_sets(&rt, rt.alloc(), (nozzles, pitch), sets)?;
             }
         }
@@ -180,7 +186,7 @@ fn try_shingles<R: Abort + Threads + Sync>(
 fn small_heads_shingle_each_row(rt: HostRuntime) -> Result<(), Fail> {
     for nozzles in 2..=12 {
         for pitch in 1..=12 {
-            if divisor(nozzles, pitch) == 1 && divisor(nozzles / 2, pitch) == 1 {
+            if is_coprime(nozzles, pitch) && is_coprime(nozzles / 2, pitch) {
                 try_shingles(&rt, rt.alloc(), (nozzles, pitch))?;
             }
         }

@@ -3,7 +3,7 @@ use std::alloc::{AllocError, Global};
 
 /// A row of dots that a nozzle fired: the row of the paper from 0, the nozzle, and the dots, the leftmost in the
 /// highest bit.
-#[derive(Clone, Copy, Debug, PartialEq, Eq)]
+#[derive(Clone, Copy)]
 pub struct Shot {
     pub row: usize,
     pub nozzle: usize,

@@ -1,11 +1,10 @@
 //! Runs in memory, as rows of tables.
 use crate::fixture::{leaves, run_bytes};
-use driver_fixtures::{black_pages, one_file, roomy, run_over};
+use driver_fixtures::{Left, black_pages, no_files, one_file, roomy, run_over, source};
 use std::alloc::Global;
 use std::process::Abort;
 use std::test::Fail;
 use std::thread::Threads;
-use weave_base::MemSource;
 
 /// A run over a black page of eight columns and six rows: its words, at most nine, and the status, the output and the
 /// error line that it leaves.
@@ -28,23 +27,33 @@ pub fn try_all<R: Abort + Threads + Sync>(
     cases: &[Case],
 ) -> Result<(), Fail> {
     for case in cases {
-        let left = run_bytes(rt, alloc, case.words, &[], black_pages(alloc, 1)?)?;
+        let left = run_bytes(
+            rt,
+            alloc,
+            case.words,
+            black_pages(alloc, 1)?,
+            no_files(alloc),
+        )?;
         leaves(rt, &left, (case.status, case.out, case.line));
     }
     Ok(())
 }
 
-/// Asserts what each case leaves that reads nothing: the first read of its input fails. The file `mine` is the profile
-/// of a head of three inks.
+// Runs words that read nothing: the first read of the input fails.
+fn run_unread<R: Threads + Sync>(rt: &R, alloc: Global, words: &[&str]) -> Result<Left, Fail> {
+    let input = source(alloc, Vec::new(alloc), 1, 1)?;
+    let shelf = one_file(alloc, "mine", MINE)?;
+    Ok(run_over(rt, alloc, words, input, roomy(alloc)?, shelf)?)
+}
+
+/// Asserts what each case leaves that reads nothing. The file `mine` is the profile of a head of three inks.
 pub fn try_unread<R: Abort + Threads + Sync>(
     rt: &R,
     alloc: Global,
     cases: &[Case],
 ) -> Result<(), Fail> {
     for case in cases {
-        let input = MemSource::make(Vec::new(alloc), Vec::new(alloc), vec![in alloc; 1]?);
-        let shelf = one_file(alloc, "mine", MINE)?;
-        let left = run_over(rt, alloc, case.words, input, roomy(alloc)?, shelf)?;
+        let left = run_unread(rt, alloc, case.words)?;
         leaves(rt, &left, (case.status, case.out, case.line));
     }
     Ok(())

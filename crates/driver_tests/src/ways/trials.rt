@@ -1,10 +1,6 @@
 //! Trials.
 use crate::ways::fixture::{Case, try_unread};
-use driver_fixtures::{no_files, plain, run_over, sink};
-use std::alloc::Global;
-use std::process::Abort;
 use std::test::Fail;
-use std::thread::Threads;
 
 const SEED_ZERO: [Case; 1] = [Case {
     words: &["trial", "profile=tiny1", "seed=0", "width=4", "height=2"],
@@ -380,33 +376,4 @@ const LARGE: [Case; 8] = [
 #[test]
 fn trial_gives_one_line_for_every_worker_count(rt: HostRuntime) -> Result<(), Fail> {
     try_unread(&rt, rt.alloc(), &LARGE)
-}
-
-// What a trial leaves whose line has room for so many bytes.
-fn leaves_part<R: Abort + Threads + Sync>(rt: &R, alloc: Global, room: usize) -> Result<(), Fail> {
-    let words = ["trial", "profile=tiny1", "seed=0", "width=4", "height=2"];
-    let input = plain(alloc, Vec::new(alloc));
-    let left = run_over(
-        rt,
-        alloc,
-        &words,
-        input,
-        sink(alloc, room)?,
-        no_files(alloc),
-    )?;
-    let line = b"pages=1 sheets=1 bytes=70 rasters=1 k=2 c=0 m=0 y=0\n";
-    let written = line.get(..room).unwrap_or(&[]);
-    assert_eq!(rt;
-        left.all(),
-        (5, written, b"write failed: page 0\n".as_slice())
-    );
-    Ok(())
-}
-
-#[test]
-fn a_failed_write_leaves_a_part_of_the_line(rt: HostRuntime) -> Result<(), Fail> {
-    for room in 0..52 {
-        leaves_part(&rt, rt.alloc(), room)?;
-    }
-    Ok(())
 }

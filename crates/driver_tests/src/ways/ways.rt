@@ -1,7 +1,7 @@
 //! Pages by shingled passes, and around dead nozzles.
 use crate::fixture::{leaves, run_bytes};
 use crate::ways::fixture::{Case, try_all};
-use driver_fixtures::black_pages;
+use driver_fixtures::{black_pages, no_files};
 use known_jobs::{TINY_HEALED_JOB, TINY_IMAGES, TINY_SHINGLED_JOB};
 use std::alloc::Global;
 use std::process::Abort;
@@ -28,9 +28,10 @@ fn shows_tiny<R: Abort + Threads + Sync>(
     alloc: Global,
     words: &[&str],
 ) -> Result<(), Fail> {
-    let job = run_bytes(rt, alloc, words, &[], black_pages(alloc, 1)?)?;
+    let job = run_bytes(rt, alloc, words, black_pages(alloc, 1)?, no_files(alloc))?;
     let bytes = job.out.bytes().to_vec(alloc)?;
-    let left = run_bytes(rt, alloc, &["dots", "profile=tiny"], &[], bytes)?;
+    let words = ["dots", "profile=tiny"];
+    let left = run_bytes(rt, alloc, &words, bytes, no_files(alloc))?;
     leaves(rt, &left, (0, TINY_IMAGES, b""));
     Ok(())
 }
