@@ -17,11 +17,14 @@ use std::sync::Wait;
 use std::thread::Threads;
 use weave_base::{DirShelf, StdSink, put_all};
 
+// The exit status of a write that failed, in whatever job (`SpoolAnswer::Write`).
+const WRITE_FAILED: u8 = 5;
+
 // Writes a text instead of a run, and gives the exit status.
 fn show<W: Write>(text: &str, out: &mut StdSink<W>) -> u8 {
     match put_all(out, text.as_bytes()) {
-        Ok(()) => 0,
-        Err(_) => 5,
+        Ok(()) => SpoolAnswer::Done.status(),
+        Err(_) => WRITE_FAILED,
     }
 }
 
