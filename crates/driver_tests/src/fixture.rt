@@ -229,8 +229,8 @@ pub fn refuses_all<R: Abort + Threads + Sync>(
     Ok(())
 }
 
-// The FNV-1a hash of 64 bits.
-fn hash_of(bytes: &[u8]) -> u64 {
+/// The FNV-1a hash of 64 bits.
+pub fn hash_of(bytes: &[u8]) -> u64 {
     let mut hash: u64 = 0xCBF2_9CE4_8422_2325;
     for byte in bytes {
         hash = (hash ^ u64::from(*byte)).wrapping_mul(0x100_0000_01B3);

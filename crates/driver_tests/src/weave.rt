@@ -1,8 +1,8 @@
 //! Pages printed by heads of several nozzles, and a run without a word for the profile.
 use crate::any_printer::{PLAINEST, Printer};
 use crate::fixture::{
-    BytesRow, PRINT, PageRow, TINY, Wanted, change, hashes_to, leaves, leaves_parts, run_bytes,
-    try_bytes, try_pages,
+    BytesRow, PRINT, PageRow, TINY, Wanted, change, hash_of, hashes_to, leaves, leaves_parts,
+    run_bytes, try_bytes, try_pages,
 };
 use crate::machine::execute;
 use driver_fixtures::{
@@ -58,17 +58,23 @@ fn one_nozzle_prints_three_rasters(rt: HostRuntime) -> Result<(), Fail> {
     try_pages(&rt, rt.alloc(), &PRINT, &[], &ROWS)
 }
 
+// Prints two black pages and a cut header of a third.
+fn print_cut<R: Threads + Sync>(rt: &R, alloc: Global, words: &[&str]) -> Result<Left, Fail> {
+    let mut bytes = black_pages(alloc, 3)?;
+    bytes.truncate(5397);
+    Ok(run_bytes(rt, alloc, words, bytes, no_files(alloc))?)
+}
+
 #[test]
 fn a_cut_third_header_leaves_two_pages(rt: HostRuntime) -> Result<(), Fail> {
-    const WANTED: Wanted = (
-        3,
-        &[&TINY_JOB, &TINY_JOB],
-        b"input: page 3 line 0: Truncated\n",
-    );
-    let mut bytes = black_pages(rt.alloc(), 3)?;
-    bytes.truncate(5397);
-    let left = run_bytes(&rt, rt.alloc(), &TINY, bytes, no_files(rt.alloc()))?;
-    leaves_parts(&rt, rt.alloc(), &left, WANTED)
+    const LINE: &[u8] = b"input: page 3 line 0: Truncated\n";
+    let left = print_cut(&rt, rt.alloc(), &TINY)?;
+    leaves_parts(&rt, rt.alloc(), &left, (3, &[&TINY_JOB, &TINY_JOB], LINE))?;
+    let left = print_cut(&rt, rt.alloc(), &PRINT)?;
+    let (status, out, line) = left.all();
+    let found = (status, line, out.len(), hash_of(out));
+    assert!(rt; found == (3, LINE, 336, 0x1F14_3BBC_B886_76ED), "{found:?}");
+    Ok(())
 }
 
 #[test]

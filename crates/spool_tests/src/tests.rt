@@ -62,3 +62,22 @@ fn the_queue_keeps_its_order_on_one_thread(rt: HostRuntime) -> Result<(), Fail> 
     );
     Ok(())
 }
+
+#[test]
+fn jobs_of_two_senders_are_left_as_they_came(rt: HostRuntime) -> Result<(), Fail> {
+    let alloc = rt.alloc();
+    let Ok((spool, mut senders, printer)) = Spool::make(alloc, 2, 3) else {
+        panic!(rt; "memory");
+    };
+    spool.submit(&rt, &mut senders[1], stream(alloc, 7)?);
+    spool.submit(&rt, &mut senders[0], stream(alloc, 8)?);
+    spool.submit(&rt, &mut senders[1], stream(alloc, 9)?);
+    let rest = spool.finish(&rt, senders, printer);
+    same_jobs(
+        &rt,
+        "finish",
+        rest.as_slice(),
+        &[(2, 1, Some(7)), (1, 1, Some(8)), (2, 2, Some(9))],
+    );
+    Ok(())
+}
