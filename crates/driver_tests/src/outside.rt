@@ -1,7 +1,7 @@
 //! Runs whose reads or writes fail, in the pages of a stream. `driver_fault_tests` has every call that can fail.
 use crate::fixture::{
-    GREY_BODY, GREY_JOB, GREY_STREAM, PRINT, Wanted, leaves, leaves_parts, one_page, run_metered,
-    two_pages,
+    GREY_BODY, GREY_JOB, GREY_STREAM, PRINT, TINY, Wanted, leaves, leaves_parts, one_page,
+    run_metered, two_pages,
 };
 use driver_fixtures::{Left, no_files, plain, prefix, roomy, run_over, sink, source};
 use std::alloc::Global;
@@ -66,26 +66,41 @@ fn deaf_sink(alloc: Global, room: usize, failing: u32) -> Result<MemSink, Fail> 
     Ok(MemSink::make(alloc, room, Vec::new(alloc), fails)?)
 }
 
-// What a run over a page of grey without its last byte leaves, with this sink for the error line.
-fn left_deaf<R: Threads + Sync>(rt: &R, alloc: Global, err: MemSink) -> Result<Left, Fail> {
-    let page = one_page(alloc, 4, 2, &GREY_BODY)?;
-    let input = plain(alloc, prefix(&page, GREY_STREAM - 1).to_vec(alloc)?);
+// What a run over these bytes leaves, with this sink for the error line.
+fn left_deaf<R: Threads + Sync>(
+    rt: &R,
+    alloc: Global,
+    words: &[&str],
+    bytes: &[u8],
+    err: MemSink,
+) -> Result<Left, Fail> {
+    let input = plain(alloc, bytes.to_vec(alloc)?);
     let (out, shelf) = (roomy(alloc)?, no_files(alloc));
     let none = &mut Vec::new(alloc);
-    Ok(run_metered(rt, alloc, &PRINT, input, out, err, shelf, none)?)
+    Ok(run_metered(rt, alloc, words, input, out, err, shelf, none)?)
 }
 
 #[test]
 fn a_deaf_error_sink_leaves_the_status(rt: HostRuntime) -> Result<(), Fail> {
-    const ROWS: [(usize, u32, &[u8]); 4] = [
-        (0, 0, b""),
-        (5, 0, b"input"),
-        (100, 0, b"input: page 1 line 2: Truncated\n"),
-        (100, 1, b""),
+    const ROWS: [(usize, &[u8]); 3] = [
+        (0, b""),
+        (5, b"input"),
+        (100, b"input: page 1 line 2: Truncated\n"),
     ];
-    for &(room, failing, line) in &ROWS {
-        let err = deaf_sink(rt.alloc(), room, failing)?;
-        leaves(&rt, &left_deaf(&rt, rt.alloc(), err)?, (3, b"", line));
+    let page = one_page(rt.alloc(), 4, 2, &GREY_BODY)?;
+    let cut = prefix(&page, GREY_STREAM - 1);
+    for &(room, line) in &ROWS {
+        let err = deaf_sink(rt.alloc(), room, 0)?;
+        let left = left_deaf(&rt, rt.alloc(), &PRINT, cut, err)?;
+        leaves(&rt, &left, (3, b"", line));
     }
+    Ok(())
+}
+
+#[test]
+fn an_error_sink_that_fails_its_first_call_leaves_the_status(rt: HostRuntime) -> Result<(), Fail> {
+    let err = deaf_sink(rt.alloc(), 100, 1)?;
+    let left = left_deaf(&rt, rt.alloc(), &TINY, b"RaS", err)?;
+    leaves(&rt, &left, (3, b"", b""));
     Ok(())
 }

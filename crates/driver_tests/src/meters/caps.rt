@@ -1,7 +1,7 @@
 //! One meter, and the cap that a word sets on it.
-use crate::fixture::{Wanted, leaves};
+use crate::fixture::{Wanted, leaves, run_metered};
 use crate::meters::fixture::{ROOMY, counts, last, one_meter, run_bytes_metered, runs_to};
-use driver_fixtures::{Left, add_page, begin, one_file};
+use driver_fixtures::{Left, add_page, begin, black_pages, no_files, one_file, plain, roomy};
 use ink_meter::{DotMeter, InkCounts, Meter};
 use known_jobs::TINY_JOB;
 use pwg_header::Kind;
@@ -9,6 +9,7 @@ use std::alloc::{AllocError, Global};
 use std::process::Abort;
 use std::test::Fail;
 use std::thread::Threads;
+use weave_base::MemSink;
 
 // A run over black pages with one meter: its words, how many pages, the room for its output, what it leaves, and the
 // meter's cap and its count of black after it.
@@ -66,14 +67,15 @@ fn the_cap_stops_the_second_page(rt: HostRuntime) -> Result<(), Fail> {
 
 #[test]
 fn a_failed_write_counts_the_page_begun(rt: HostRuntime) -> Result<(), Fail> {
-    const ROWS: [CapRow; 1] = [(
-        &["print", "profile=tiny", "cap=32"],
-        (2, 92),
-        (5, &[&TINY_JOB], b"write failed: page 2\n"),
-        32,
-        32,
-    )];
-    try_caps(&rt, rt.alloc(), &ROWS)
+    const WORDS: [&str; 3] = ["print", "profile=tiny", "cap=32"];
+    let alloc = rt.alloc();
+    let out = MemSink::make(alloc, ROOMY, vec![in alloc; 1]?, vec![in alloc; 93]?)?;
+    let (input, err) = (plain(alloc, black_pages(alloc, 2)?), roomy(alloc)?);
+    let (shelf, mut meters) = (no_files(alloc), one_meter(alloc)?);
+    let left = run_metered(&rt, alloc, &WORDS, input, out, err, shelf, &mut meters)?;
+    leaves(&rt, &left, (5, &TINY_JOB, b"write failed: page 2\n"));
+    assert!(rt; last(&mut meters) == Some((32, counts(32, 0, 0, 0))));
+    Ok(())
 }
 
 #[test]
