@@ -51,7 +51,7 @@ impl Spool {
         number
     }
 
-    /// Takes the job at the front of the queue. While the queue is empty it tries again, so it may wait for a `submit`.
+    /// Takes a job, its sender's next one. While the queue is empty it tries again, so it may wait for a `submit`.
     pub fn take<R: Wait>(&self, rt: &R, pass: &mut PrintPass) -> SpoolJob
         requires pass { IsPrinterOf self.now pass.old }
         requires few { length (taken_of pass.old) < 2 ^ 31 }

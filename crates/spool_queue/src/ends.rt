@@ -61,7 +61,7 @@ impl Spool {
         self.queue.learn_as::<Drains>(&mut pass);
     }
 
-    /// The jobs that were not taken, in the order of the queue.
+    /// The jobs that were not taken, those of each sender in its order.
     pub fn finish<R: Wait>(
         self,
         rt: &R,

@@ -9,7 +9,8 @@
 //!
 //! - `make` takes all the memory that the spool ever needs, or answers `Memory`; no other call takes any.
 //! - `submit` gives the job's number and appends the stream to the pass's list. It tries again while the queue is full.
-//! - `take` gives the front of the queue and appends it to the pass's list. It tries again while the queue is empty.
+//! - `take` gives a job, its sender's next one, and appends it to the pass's list. It tries again while the queue is
+//!   empty.
 //! - `finish`, with all passes: the jobs that were not taken. `settle`, where others still share the spool: what was
 //!   taken is the first of what was sent, and all of it where it is as many.
 //!
