@@ -1,9 +1,7 @@
 -- The bits of one word.
-use Rattle.std.proofs.Common.{◌≡◌, ℕ, zero, suc, ◌+◌, ◌*◌, ◌/◌, ◌%◌, ◌<◌, ◌≤◌, ◌&&◌, ◌||◌, Bool, true, false, eqb, refl, sym, ap, ◌∙◌}
+use Rattle.std.proofs.Common.{◌≡◌, ℕ, zero, suc, ◌+◌, ◌*◌, ◌/◌, ◌%◌, ◌<◌, ◌≤◌, ◌||◌, Bool, true, false, eqb, refl, sym, ap, ◌∙◌}
 use Rattle.std.proofs.Common.{arith, bit_or}
-use Rattle.std.proofs.lemmas.Bool.{eqb-true}
-use mathlib.Core.Logic.{dite}
-use native.Mathlib.Decide.{ℕ_discrete}
+use Rattle.std.proofs.lemmas.Bool.{agree_below, agree_below_at, eqb-true}
 use Rattle.board_steps.specs.Rule.{Within}
 use Rattle.board_steps.specs.Steps.{bit_of}
 
@@ -37,23 +35,8 @@ module _ (a b c t p x : ℕ) (h : Bits a b c t p x) where
 
 -- ---- a word below 32 is one of 32
 
-abbrev every : ℕ → (ℕ → Bool) → Bool
-every zero f = true
-every (suc n) f = f n && every n f
-
-and-left : (a b : Bool) → (a && b) ≡ true → a ≡ true
-and-left true b e = refl
-and-left false b e = e
-
-and-right : (a b : Bool) → (a && b) ≡ true → b ≡ true
-and-right true b e = e
-and-right false b e = absurd (cc)
-
-each : (n : ℕ) (f : ℕ → Bool) → every n f ≡ true → (x : ℕ) → x < n → f x ≡ true
-each zero f e x near = absurd (omega arith)
-each (suc n) f e x near = dite (ℕ_discrete x n)
-    (λ (same : x ≡ n). ap f same ∙ and-left (f n) (every n f) e)
-    (λ other. each n f (and-right (f n) (every n f) e) x (omega arith))
+abbrev below_32 : (ℕ → Bool) → Bool
+below_32 test = agree_below test (λ x. true) 32
 
 -- one of two numbers, where it is not the other
 or-other : (a b c d : ℕ) → (eqb a b || eqb c d) ≡ true → ¬ (a ≡ b) → c ≡ d
@@ -67,8 +50,8 @@ or-other a b c d e n = step (eqb a b) refl
 abbrev adds : ℕ → ℕ → Bool
 adds b x = eqb (x / b % 2) 1 || eqb (bit_or x b) (x + b)
 
-added : (b : ℕ) → every 32 (adds b) ≡ true → (x : ℕ) → x < 32 → x / b % 2 ≡ 0 → bit_or x b ≡ x + b
-added b all x near clear = or-other (x / b % 2) 1 (bit_or x b) (x + b) (each 32 (adds b) all x near) (λ e. omega arith)
+added : (b : ℕ) → below_32 (adds b) ≡ true → (x : ℕ) → x < 32 → x / b % 2 ≡ 0 → bit_or x b ≡ x + b
+added b all x near clear = or-other (x / b % 2) 1 (bit_or x b) (x + b) (agree_below_at (adds b) (λ x. true) 32 x all near) (λ e. omega arith)
 
 -- a fetch-or leaves a bit that is set
 abbrev stays : ℕ → Bool
@@ -79,7 +62,7 @@ or_taken a b c p x h = added 8 refl x (small a b c 0 p x h) (bit_t a b c 0 p x h
 
 pub or_taken_again : (a b c p x : ℕ) → Bits a b c 1 p x → bit_or x 8 ≡ x
 or_taken_again a b c p x h = let e = bit_t a b c 1 p x h in
-    or-other (x / 8 % 2) 0 (bit_or x 8) x (each 32 stays refl x (small a b c 1 p x h)) (λ z. omega arith)
+    or-other (x / 8 % 2) 0 (bit_or x 8) x (agree_below_at stays (λ x. true) 32 x refl (small a b c 1 p x h)) (λ z. omega arith)
 
 pub or_posted : (a b c t x : ℕ) → Bits a b c t 0 x → bit_or x 16 ≡ x + 16
 or_posted a b c t x h = added 16 refl x (small a b c t 0 x h) (bit_p a b c t 0 x h)

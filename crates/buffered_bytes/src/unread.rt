@@ -69,32 +69,32 @@ impl Unread {
     }
 
     /// Reads once, appends what came, and gives its length: 0 only at the end of the source.
-    pub fn more<S: Source>(&mut self, s: &mut S) -> Result<usize, Failed>
+    pub fn more<S: Source>(&mut self, source: &mut S) -> Result<usize, Failed>
         requires { length self.old < MOST_UNREAD }
         ensures grown { IfOk result (Grows self.old self.new) }
-        ensures end { IfOk result (λ count. count ≡ 0 → IsAtEnd (S.left s.new)) }
+        ensures end { IfOk result (λ count. count ≡ 0 → IsAtEnd (S.left source.new)) }
         ensures same { OnErr result (self.new ≡ self.old) }
-        ensures text { Keeps (text_behind self.old (S.left s.old)) (text_behind self.new (S.left s.new)) }
-        ensures cause { HasCause (S.faults s.old) (S.faults s.new) result }
+        ensures text { Keeps (text_behind self.old (S.left source.old)) (text_behind self.new (S.left source.new)) }
+        ensures cause { HasCause (S.faults source.old) (S.faults source.new) result }
     {
         self.buffer.copy_within(self.start..self.end, 0);
         self.end -= self.start;
         self.start = 0;
-        let count = s.read(&mut self.buffer[self.end..])?;
+        let count = source.read(&mut self.buffer[self.end..])?;
         self.end += count;
         Ok(count)
     }
 
     /// Reads until there are `need` bytes or more, or the source is at its end.
-    pub fn fill<S: Source>(&mut self, s: &mut S, need: usize) -> Result<(), Failed>
+    pub fn fill<S: Source>(&mut self, source: &mut S, need: usize) -> Result<(), Failed>
         requires { need ≤ MOST_UNREAD }
-        ensures end { OnOk result (length self.new < need → IsAtEnd (S.left s.new)) }
+        ensures end { OnOk result (length self.new < need → IsAtEnd (S.left source.new)) }
         ensures short { OnErr result (length self.new < need) }
-        ensures text { Keeps (text_behind self.old (S.left s.old)) (text_behind self.new (S.left s.new)) }
-        ensures cause { HasCause (S.faults s.old) (S.faults s.new) result }
+        ensures text { Keeps (text_behind self.old (S.left source.old)) (text_behind self.new (S.left source.new)) }
+        ensures cause { HasCause (S.faults source.old) (S.faults source.new) result }
     {
         'reads: while self.bytes().len() < need {
-            if self.more(s)? == 0 {
+            if self.more(source)? == 0 {
                 return Ok(());
             }
         }

@@ -9,8 +9,8 @@ use crate::worn::WornHead;
 use base_definitions::Memory;
 use std::alloc::Global;
 
-/// Whether a stroke starts here: a pass, or a make-up stroke where the nozzle that makes up is over a row that no
-/// stroke fires yet. A make-up stroke takes its rows.
+// Whether a stroke starts here: a pass, or a make-up stroke where the nozzle that makes up is over a row that no
+// stroke fires yet. A make-up stroke takes its rows.
 fn begins(head: &WornHead, maker: u8, start: u32, owners: &mut [Option<u32>]) -> bool
     requires start { start < head_rows head.now + head.now.height }
     requires maker { maker < head.now.nozzles }

@@ -9,7 +9,7 @@ use base_definitions::Memory;
 use std::alloc::Global;
 use weave_plan::Plan;
 
-/// The start of the pass that fires a row, or `None` where the nozzle that is over it there is dead.
+// The start of the pass that fires a row, or `None` where the nozzle that is over it there is dead.
 fn pass_owner(head: &WornHead, plan: &Plan, row: u32) -> Option<u32>
     requires row { row < head.now.height }
     requires plan { plan.now ≡ record { nozzles = head.now.nozzles; pitch = head.now.pitch; height = head.now.height } }
@@ -41,7 +41,7 @@ pub(crate) fn pass_owners(alloc: Global, head: &WornHead) -> Result<Vec<Option<u
     Ok(owners)
 }
 
-/// The row under a live nozzle of a stroke.
+// The row under a live nozzle of a stroke.
 fn live_row(head: &WornHead, start: u32, nozzle: u8) -> Option<u32>
     requires start { start < head_rows head.now + head.now.height }
     requires nozzle { nozzle < head.now.nozzles }
@@ -54,7 +54,7 @@ fn live_row(head: &WornHead, start: u32, nozzle: u8) -> Option<u32>
     }
 }
 
-/// Gives a row to the stroke that starts here, if no stroke fires it yet.
+// Gives a row to the stroke that starts here, if no stroke fires it yet.
 fn take_row(row: u32, start: u32, owners: &mut [Option<u32>])
     requires { row < length owners.old }
     ensures { owners.new ≡ slice_set owners.old row (taken start (owner owners.old row)) }

@@ -7,7 +7,7 @@ ghost use Rattle.std.specs.Prelude.{Ok, Some, false, slice_index_or, true, ℕ, 
 
 use std::marker::Model;
 
-/// The nozzles of a list, by a table that says of each number whether it is in the list.
+// The nozzles of a list, by a table that says of each number whether it is in the list.
 fn table_of(dead: &[u8]) -> [bool; 256]
     ensures { (nozzle : ℕ) → nozzle < 256 → slice_index_or result nozzle false ≡ has dead.now nozzle }
 {

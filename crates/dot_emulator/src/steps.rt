@@ -10,7 +10,7 @@ use crate::state::{Margins, State};
 use crate::{Command, EmulatorFault};
 use printer_definitions::Ink;
 
-/// The longest page, in 1/3600 inch: 22 inches.
+// The longest page, in 1/3600 inch: 22 inches.
 const LONGEST_PAGE: u32 = 79_200;
 
 impl State {

@@ -9,7 +9,8 @@ use Rattle.base_definitions.specs.Packed.{bit_at}
 use Rattle.base_definitions.specs.Packed.{at, packed, packed_byte, packed_bytes, worth}
 use Rattle.base_definitions.specs.Counting.{count_from}
 use Rattle.dot_planes.specs.Tables.{row_dot, row_len}
-use Rattle.dot_planes.proofs.Bits.{byte_of, byte_of-bits, byte_of-says}
+use Rattle.base_definitions.proofs.Bytes.{byte_of}
+use Rattle.dot_planes.proofs.Bits.{byte_of-bits, byte_of-says}
 
 -- ---- numbers in a row
 

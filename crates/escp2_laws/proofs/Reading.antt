@@ -1,6 +1,7 @@
 -- What is spelled is read.
 use Rattle.std.proofs.Common.{◌≡◌, ℕ, ◌+◌, ◌*◌, ◌/◌, ◌%◌, Bool, true, false, List, [], ◌∷◌, ◌++◌, length, refl, sym, ◌∙◌, ap, arith, subst}
 use Rattle.std.proofs.Common.{◌&&◌, if◌then◌else◌, ◌==◌, append-nil}
+use Rattle.std.proofs.lemmas.Bool.{and_parts}
 use Rattle.std.specs.Prelude.{MatchBool}
 use Rattle.printer_definitions.specs.declared.inks.Ink.TheVariants.{Black, Cyan, Magenta, Yellow}
 use Rattle.escp2_definitions.specs.declared.stops.JobCause.TheVariants.{BadValue}
@@ -38,17 +39,6 @@ wide-reads in_range at n next rest ok =
     ap (λ k. if in_range k then next k rest else Wrong at BadValue) (two_bytes-is n)
     ∙ ap (λ b. if b then next n rest else Wrong at BadValue) ok
 
--- the first of two tests that hold
-pub and-left : (a b : Bool) → a && b ≡ true → a ≡ true
-and-left true b e = refl
-and-left false b e = e
-
--- the second of two tests that hold
-pub and-right : (a b : Bool) → a && b ≡ true → b ≡ true
-and-right true b e = e
-and-right false true e = refl
-and-right false false e = e
-
 -- ---- rasters
 
 -- rows in either form are read
@@ -72,20 +62,20 @@ raster-reads : (header : RasterHead) (rows text rest : List ℕ)
     → raster_at (header.c ∷ header.v ∷ header.h ∷ header.m ∷ (two_bytes header.n ++ (text ++ rest)))
     ≡ One (c.Raster header) rows (8 + length text)
 raster-reads header rows text rest ok fits is =
-    let with_m : (is_switch header.c && is_some header.v && is_some header.h && is_some header.m) ≡ true = and-left _ _ ok in
-    let with_h : (is_switch header.c && is_some header.v && is_some header.h) ≡ true = and-left _ _ with_m in
-    let with_v : (is_switch header.c && is_some header.v) ≡ true = and-left _ _ with_h in
+    let with_m : (is_switch header.c && is_some header.v && is_some header.h && is_some header.m) ≡ true = (and_parts _ _ ok).0 in
+    let with_h : (is_switch header.c && is_some header.v && is_some header.h) ≡ true = (and_parts _ _ with_m).0 in
+    let with_v : (is_switch header.c && is_some header.v) ≡ true = (and_parts _ _ with_h).0 in
     let of_n : ℕ → ℕ → ℕ → ℕ → ℕ → List ℕ → Heard = λ c v h m n. raster_rows (record { c = c; v = v; h = h; m = m; n = n }) in
     let of_m : ℕ → ℕ → ℕ → ℕ → List ℕ → Heard = λ c v h m. wide_number is_width 6 (of_n c v h m) in
     let of_h : ℕ → ℕ → ℕ → List ℕ → Heard = λ c v h. number is_some 5 (of_m c v h) in
     let of_v : ℕ → ℕ → List ℕ → Heard = λ c v. number is_some 4 (of_h c v) in
     let of_c : ℕ → List ℕ → Heard = λ c. number is_some 3 (of_v c) in
     let after_m : List ℕ = two_bytes header.n ++ (text ++ rest) in
-    number-reads is_switch 2 header.c of_c (header.v ∷ header.h ∷ header.m ∷ after_m) (and-left _ _ with_v)
-    ∙ number-reads is_some 3 header.v (of_v header.c) (header.h ∷ header.m ∷ after_m) (and-right _ _ with_v)
-    ∙ number-reads is_some 4 header.h (of_h header.c header.v) (header.m ∷ after_m) (and-right _ _ with_h)
-    ∙ number-reads is_some 5 header.m (of_m header.c header.v header.h) after_m (and-right _ _ with_m)
-    ∙ wide-reads is_width 6 header.n (of_n header.c header.v header.h header.m) (text ++ rest) (and-right _ _ ok)
+    number-reads is_switch 2 header.c of_c (header.v ∷ header.h ∷ header.m ∷ after_m) (and_parts _ _ with_v).0
+    ∙ number-reads is_some 3 header.v (of_v header.c) (header.h ∷ header.m ∷ after_m) (and_parts _ _ with_v).1
+    ∙ number-reads is_some 4 header.h (of_h header.c header.v) (header.m ∷ after_m) (and_parts _ _ with_h).1
+    ∙ number-reads is_some 5 header.m (of_m header.c header.v header.h) after_m (and_parts _ _ with_m).1
+    ∙ wide-reads is_width 6 header.n (of_n header.c header.v header.h header.m) (text ++ rest) (and_parts _ _ ok).1
     ∙ by_form (header.c == 0) header rows text rest fits is
 
 -- ---- commands
@@ -125,8 +115,8 @@ by_command (c.Length n) rows text rest s e =
 by_command (c.Margins top bottom) rows text rest s e =
     plain (c.Margins top bottom) rows text rest s.rows_fit (sym e ∙ s.rows_are) (λ more.
     wide-reads is_position 5 top (λ top. wide_number (is_bottom top) 7 (λ bottom. whole (c.Margins top bottom) 9))
-    (two_bytes bottom ++ more) (and-left _ _ s.in_range)
-    ∙ wide-reads (is_bottom top) 7 bottom (λ bottom. whole (c.Margins top bottom) 9) more (and-right _ _ s.in_range))
+    (two_bytes bottom ++ more) (and_parts _ _ s.in_range).0
+    ∙ wide-reads (is_bottom top) 7 bottom (λ bottom. whole (c.Margins top bottom) 9) more (and_parts _ _ s.in_range).1)
 by_command (c.DownTo n) rows text rest s e =
     plain (c.DownTo n) rows text rest s.rows_fit (sym e ∙ s.rows_are)
     (λ more. wide-reads is_position 5 n (λ n. whole (c.DownTo n) 7) more s.in_range)

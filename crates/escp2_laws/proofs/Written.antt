@@ -1,6 +1,7 @@
 -- What is written of a command spells it.
 use Rattle.std.proofs.Common.{◌≡◌, ℕ, zero, suc, ◌+◌, ◌*◌, ◌≤◌, Bool, true, false, ◌==◌, if◌then◌else◌, List, length, take, drop, refl, sym}
 use Rattle.std.proofs.Common.{◌∙◌, arith, length-drop, ◌⊎◌, inl, inr, eq-eqb, leb-true}
+use Rattle.std.proofs.lemmas.Bool.{and_parts}
 use Rattle.std.specs.Prelude.{MatchBool}
 use Rattle.std.specs.List.{flat_map}
 use Rattle.std.proofs.lemmas.List.{length-take-le, take-append-drop}
@@ -13,7 +14,7 @@ use Rattle.escp2_definitions.specs.Written.{Coding, IsCoding, rows_apart, writte
 use Rattle.escp2_definitions.specs.Least.{least_row}
 use Rattle.escp2_laws.specs.Coded.{HasCoding}
 use Rattle.escp2_laws.proofs.Least.{least-codes}
-use Rattle.escp2_laws.proofs.Reading.{and-left, no_rows}
+use Rattle.escp2_laws.proofs.Reading.{no_rows}
 
 -- ---- rows one by one
 
@@ -76,6 +77,6 @@ switch-is (suc (suc k)) ok = absurd (let high : suc (suc k) ≤ 1 = leb-true (su
 pub least-spells : (command : Command) (rows : List ℕ) → in_table command ≡ true → length rows ≡ rows_len command
     → Spells command rows (written least_row command rows)
 least-spells (c.Raster header) rows ok fits =
-    let coded : is_switch header.c ≡ true = and-left _ _ (and-left _ _ (and-left _ _ (and-left _ _ ok))) in
+    let coded : is_switch header.c ≡ true = (and_parts _ _ (and_parts _ _ (and_parts _ _ (and_parts _ _ ok).0).0).0).0 in
     written-spells (record { c = header.c; code = least_row }) (c.Raster header) rows (switch-is header.c coded) refl ok fits
 least-spells other rows ok fits = record { in_range = ok; rows_fit = fits; text = rows; rows_are = refl; spelled = refl }

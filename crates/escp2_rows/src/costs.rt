@@ -13,7 +13,7 @@ pub type CostTable = ArrayVec<u16, 1025>;
 /// The most bytes of a packet.
 pub const MOST_BYTES: usize = 128;
 
-/// How many bytes from the front on are equal, by how many are from the second byte on.
+// How many bytes from the front on are equal, by how many are from the second byte on.
 fn equal_from(row: &[u8], behind: usize) -> usize
     requires some { 0 < length row.now }
     requires behind { behind ≡ equal_at (drop 1 row.now) }
@@ -37,7 +37,7 @@ fn equal_two(row: &[u8]) -> usize
     if row[0] == row[1] { 2 } else { 1 }
 }
 
-/// The cost of the place where a literal from before the row ends best, where it is not too far away.
+// The cost of the place where a literal from before the row ends best, where it is not too far away.
 fn best_near(behind: &[u16], literal: usize, best: u16) -> u16
     requires some { 0 < length behind.now }
     requires few { literal ≤ 128 }
@@ -50,18 +50,18 @@ fn best_near(behind: &[u16], literal: usize, best: u16) -> u16
     best
 }
 
-/// How a row begins that costs least.
+// How a row begins that costs least.
 #[derive(Clone, Copy)]
 struct Front {
-    /// The cost of the row.
+    // The cost of the row.
     cost: u16,
-    /// How many bytes from the row's front on a literal from before the row ends best.
+    // How many bytes from the row's front on a literal from before the row ends best.
     literal: usize,
-    /// The cost of the row behind them.
+    // The cost of the row behind them.
     best: u16,
 }
 
-/// How a row begins that costs least, by the costs from its second byte on.
+// How a row begins that costs least, by the costs from its second byte on.
 fn front_of(row: &[u8], behind: &[u16], equal: usize, literal: usize, best: u16) -> Front
     requires some { 0 < length row.now }
     requires most { length row.now ≤ 1024 }

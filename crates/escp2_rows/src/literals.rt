@@ -165,14 +165,14 @@ fn behind_pairs(row: &[u8], from: usize) -> usize
     at
 }
 
-/// What the bytes tell of a literal that comes to a run of three or more.
+// What the bytes tell of a literal that comes to a run of three or more.
 #[derive(Clone, Copy)]
 enum Behind {
-    /// It ends before the run.
+    // It ends before the run.
     Ends,
-    /// It goes on up to this place.
+    // It goes on up to this place.
     Goes(usize),
-    /// They do not tell it.
+    // They do not tell it.
     Unknown,
 }
 

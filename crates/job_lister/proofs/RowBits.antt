@@ -1,45 +1,33 @@
 -- How many of the first bits of a row are 1.
 use Rattle.std.proofs.Common.{◌≡◌, ℕ, zero, suc, ◌+◌, ◌-◌, ◌*◌, ◌/◌, ◌^◌, ◌<◌, ◌≤◌, Bool, true, ◌&&◌, eqb, cond, List, [], ◌∷◌}
 use Rattle.std.proofs.Common.{◌++◌, length, take, get_or, count_by, count_ones, sum_by, refl, sym, ◌∙◌, ap, arith, inl, inr}
-use Rattle.std.proofs.lemmas.Bool.{cases_lt, eqb-true}
+use Rattle.std.proofs.lemmas.Bool.{agree_below, agree_below_at, eqb-true}
 use Rattle.std.proofs.lemmas.List.{take-append-le}
 use Rattle.std.proofs.lemmas.List.Sums.{sum_by-append, sum_by-cons, sum_by_more}
 use Rattle.std.proofs.Math.Seq.{take-append-add}
 use lib.Count.{ones, ones_in}
 use Rattle.base_definitions.specs.Packed.{bits, byte_bits}
 use Rattle.escp2_laws.proofs.Grammar.{AreBytes}
-use Rattle.escp2_laws.proofs.Reading.{and-left, and-right}
 
 abbrev pub on_count : List Bool → ℕ
 on_count row = count_by (λ on. on) row
 
 -- ---- one byte
 
--- a test of all numbers below one
-all_below : (ℕ → Bool) → ℕ → Bool
-all_below test zero = true
-all_below test (suc n) = test n && all_below test n
-
-all_below-at : (test : ℕ → Bool) (n m : ℕ) → all_below test n ≡ true → m < n → test m ≡ true
-unfolding all_below
-all_below-at test zero m e below = absurd (omega arith)
-all_below-at test (suc n) m e below = elim (cases_lt m n) [
-  | inl less ↦ all_below-at test n m (and-right (test n) (all_below test n) e) less
-  | inr not_less ↦ let here : m ≡ n = omega arith in ap test here ∙ and-left (test n) (all_below test n) e
-]
-
 -- the first r bits of a byte are as many as the bits of what is left when the others are shifted out
 test_first : ℕ → ℕ → Bool
 test_first r byte = eqb (on_count (take r (byte_bits byte))) (count_ones (byte / 2 ^ (8 - r)))
 
-all_first : all_below (λ r. all_below (test_first r) 256) 9 ≡ true
-unfolding all_below test_first ones ones_in
+-- those of each byte are
+all_first : agree_below (λ r. agree_below (test_first r) (λ byte. true) 256) (λ r. true) 9 ≡ true
+unfolding test_first ones ones_in
 all_first = refl
 
 pub first_bits : (r byte : ℕ) → r ≤ 8 → byte < 256 → on_count (take r (byte_bits byte)) ≡ count_ones (byte / 2 ^ (8 - r))
 unfolding test_first
 first_bits r byte few low =
-    eqb-true _ _ (all_below-at (test_first r) 256 byte (all_below-at (λ r. all_below (test_first r) 256) 9 r all_first (omega arith)) low)
+    let of_r = agree_below_at (λ r. agree_below (test_first r) (λ byte. true) 256) (λ r. true) 9 r all_first (omega arith) in
+    eqb-true _ _ (agree_below_at (test_first r) (λ byte. true) 256 byte of_r low)
 
 -- ---- a row
 

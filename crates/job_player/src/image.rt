@@ -31,7 +31,7 @@ pub fn write_plane<K: Sink>(sheet: &Sheet, ink: u8, out: &mut K) -> Result<(), F
     bytes.put(out)
 }
 
-/// The header of an image.
+// The header of an image.
 fn header(columns: u32, rows: u32) -> Gathered
     ensures { gathered result ≡ image_header columns rows }
 {

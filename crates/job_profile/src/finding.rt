@@ -13,7 +13,7 @@ use printer_profile::{Profile, built_in, read};
 use std::alloc::Global;
 use weave_base::{Found, Shelf};
 
-/// The most bytes of a profile's text.
+// The most bytes of a profile's text.
 const MOST_TEXT: usize = 65536;
 
 // The profile of a text.

@@ -24,7 +24,7 @@ use weave_base::Words;
 /// The profile where no word gives one.
 pub const DEFAULT_PROFILE: &str = "p360cmyk";
 
-/// Pixels across and lines down a made page where no word gives them.
+// Pixels across and lines down a made page where no word gives them.
 const DEFAULT_WIDTH: u32 = 256;
 
 const DEFAULT_HEIGHT: u32 = 300;

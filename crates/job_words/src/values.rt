@@ -15,10 +15,10 @@ pub const GREATEST_MOST: u64 = 17_179_869_184;
 /// The most bytes of a name, which may be that of a file.
 pub const MOST_NAME: usize = 255;
 
-/// The most workers of a team.
+// The most workers of a team.
 const MOST_WORKERS: u64 = 64;
 
-/// The most pages of a trial.
+// The most pages of a trial.
 const MOST_PAGES: u64 = 16;
 
 /// Whether a text may be a profile's name: 1 to 255 bytes.

@@ -2,13 +2,8 @@
 use Rattle.std.proofs.Common.{◌≡◌, ℕ, zero, suc, ◌+◌, ◌*◌, ◌/◌, ◌≤◌, Bool, true, false, ◌&&◌, List, [], ◌∷◌, ◌++◌}
 use Rattle.std.proofs.Common.{length, take, drop, refl, sym, ◌∙◌, ap, arith}
 use Rattle.std.proofs.lemmas.List.{take_all}
-use Rattle.base_definitions.specs.Packed.{bits, byte_bits}
-use Rattle.base_definitions.specs.Packed.{at, packed, packed_bytes, worth}
-use Rattle.escp2_laws.proofs.Reading.{and-left, and-right}
-
--- the byte of eight bits
-abbrev pub worths : Bool → Bool → Bool → Bool → Bool → Bool → Bool → Bool → ℕ
-worths a b d e f g h i = worth a 128 + worth b 64 + worth d 32 + worth e 16 + worth f 8 + worth g 4 + worth h 2 + worth i 1
+use Rattle.base_definitions.specs.Packed.{at, bits, byte_bits, packed, packed_bytes}
+use Rattle.base_definitions.proofs.Bytes.{byte_of, each_byte, each_byte-at}
 
 -- whether two rows are equal
 same_bits : List Bool → List Bool → Bool
@@ -33,45 +28,26 @@ same_bits-is (true ∷ xs) (false ∷ ys) e = cc
 same_bits-is (false ∷ xs) (true ∷ ys) e = cc
 same_bits-is (false ∷ xs) (false ∷ ys) e = ap (λ zs. false ∷ zs) (same_bits-is xs ys e)
 
--- a test of both truth values
-abbrev pub both : (Bool → Bool) → Bool
-both test = test true && test false
-
--- a test that both truth values pass
-pub both-at : (test : Bool → Bool) → both test ≡ true → (b : Bool) → test b ≡ true
-both-at test e true = and-left (test true) (test false) e
-both-at test e false = and-right (test true) (test false) e
-
 -- whether the bits of a packed byte are taken out again
 test_byte : Bool → Bool → Bool → Bool → Bool → Bool → Bool → Bool → Bool
-test_byte a b d e f g h i = same_bits (byte_bits (worths a b d e f g h i)) (a ∷ b ∷ d ∷ e ∷ f ∷ g ∷ h ∷ i ∷ [])
+test_byte a b d e f g h i = same_bits (byte_bits (byte_of a b d e f g h i)) (a ∷ b ∷ d ∷ e ∷ f ∷ g ∷ h ∷ i ∷ [])
 
 -- those of each byte are
-all_bytes : both (λ a. both (λ b. both (λ d. both (λ e. both (λ f. both (λ g. both (λ h. both (λ i. test_byte a b d e f g h i)))))))) ≡ true
+all_bytes : each_byte test_byte ≡ true
 unfolding test_byte same_bits
 all_bytes = refl
 
 -- the bits of a packed byte
-pub byte_bits-worths : (a b d e f g h i : Bool) → byte_bits (worths a b d e f g h i) ≡ a ∷ b ∷ d ∷ e ∷ f ∷ g ∷ h ∷ i ∷ []
+pub byte_bits-of : (a b d e f g h i : Bool) → byte_bits (byte_of a b d e f g h i) ≡ a ∷ b ∷ d ∷ e ∷ f ∷ g ∷ h ∷ i ∷ []
 unfolding test_byte
-byte_bits-worths a b d e f g h i =
-    let from_h : Bool → Bool = λ x. both (λ z. test_byte a b d e f g x z) in
-    let from_g : Bool → Bool = λ x. both (λ y. both (λ z. test_byte a b d e f x y z)) in
-    let from_f : Bool → Bool = λ x. both (λ w. both (λ y. both (λ z. test_byte a b d e x w y z))) in
-    let from_e : Bool → Bool = λ x. both (λ v. both (λ w. both (λ y. both (λ z. test_byte a b d x v w y z)))) in
-    let from_d : Bool → Bool = λ x. both (λ u. both (λ v. both (λ w. both (λ y. both (λ z. test_byte a b x u v w y z))))) in
-    let from_b : Bool → Bool = λ x. both (λ t. both (λ u. both (λ v. both (λ w. both (λ y. both (λ z. test_byte a x t u v w y z)))))) in
-    let from_a : Bool → Bool = λ x. both
-    (λ s. both (λ t. both (λ u. both (λ v. both (λ w. both (λ y. both (λ z. test_byte x s t u v w y z))))))) in
-    same_bits-is _ _ (both-at (test_byte a b d e f g h) (both-at from_h (both-at from_g (both-at from_f
-    (both-at from_e (both-at from_d (both-at from_b (both-at from_a all_bytes a) b) d) e) f) g) h) i)
+byte_bits-of a b d e f g h i = same_bits-is _ _ (each_byte-at test_byte all_bytes a b d e f g h i)
 
 -- the first byte of a row, as it is taken out
 front : (n : ℕ) (row : List Bool) → take (length row) (bits (packed_bytes (suc n) row))
     ≡ take (length row) (at row 0 ∷ at row 1
     ∷ at row 2 ∷ at row 3 ∷ at row 4 ∷ at row 5 ∷ at row 6 ∷ at row 7 ∷ bits (packed_bytes n (drop 8 row)))
 front n row = ap (λ bs. take (length row) (bs ++ bits (packed_bytes n (drop 8 row))))
-    (byte_bits-worths (at row 0) (at row 1) (at row 2) (at row 3) (at row 4) (at row 5) (at row 6) (at row 7))
+    (byte_bits-of (at row 0) (at row 1) (at row 2) (at row 3) (at row 4) (at row 5) (at row 6) (at row 7))
 
 -- the packed bytes hold the row, followed by blanks
 pub bits-packed_bytes : (n : ℕ) (row : List Bool) → length row ≤ n * 8 → take (length row) (bits (packed_bytes n row)) ≡ row

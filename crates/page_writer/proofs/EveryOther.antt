@@ -5,9 +5,9 @@ use Rattle.std.specs.Int.Bits.{bit_and}
 use Rattle.std.proofs.lemmas.Bool.{eqb-true}
 use Rattle.std.proofs.lemmas.List.{drop-drop, drop_all, take_all}
 use Rattle.base_definitions.specs.Packed.{at, packed, packed_byte, packed_bytes, worth}
+use Rattle.base_definitions.proofs.Bytes.{both, both-at, byte_of, each_byte, each_byte-at}
 use Rattle.page_definitions.specs.Shingled.{every_other}
 use Rattle.page_laws.proofs.Halves.{at-other, kept, other-len}
-use Rattle.page_laws.proofs.Packing.{both, both-at, worths}
 
 -- the bits at even places of a byte, counted from its highest bit, or those at odd places
 abbrev pub mask : Bool → ℕ
@@ -18,34 +18,22 @@ mask even = cond even 170 85
 -- whether a mask keeps every other bit of a byte
 test_mask : Bool → Bool → Bool → Bool → Bool → Bool → Bool → Bool → Bool → Bool
 test_mask k a b d e f g h i =
-    bit_and (worths a b d e f g h i) (mask k)
-    == worths (kept k 0 && a) (kept k 1 && b) (kept k 2 && d)
+    bit_and (byte_of a b d e f g h i) (mask k)
+    == byte_of (kept k 0 && a) (kept k 1 && b) (kept k 2 && d)
     (kept k 3 && e) (kept k 4 && f) (kept k 5 && g) (kept k 6 && h) (kept k 7 && i)
 
 -- both masks do, of each byte
-all_masked : both (λ k. both (λ a. both (λ b. both (λ d. both (λ e. both (λ f. both (λ g. both (λ h. both (λ i.
-    test_mask k a b d e f g h i))))))))) ≡ true
+all_masked : both (λ k. each_byte (test_mask k)) ≡ true
 unfolding test_mask
 all_masked = refl
 
 -- a masked byte
-masked-worths : (k a b d e f g h i : Bool) → bit_and (worths a b d e f g h i) (mask k)
-    ≡ worths (kept k 0 && a) (kept k 1 && b) (kept k 2 && d)
+masked-byte : (k a b d e f g h i : Bool) → bit_and (byte_of a b d e f g h i) (mask k)
+    ≡ byte_of (kept k 0 && a) (kept k 1 && b) (kept k 2 && d)
     (kept k 3 && e) (kept k 4 && f) (kept k 5 && g) (kept k 6 && h) (kept k 7 && i)
 unfolding test_mask
-masked-worths k a b d e f g h i =
-    let from_h : Bool → Bool = λ x. both (λ z. test_mask k a b d e f g x z) in
-    let from_g : Bool → Bool = λ x. both (λ y. both (λ z. test_mask k a b d e f x y z)) in
-    let from_f : Bool → Bool = λ x. both (λ w. both (λ y. both (λ z. test_mask k a b d e x w y z))) in
-    let from_e : Bool → Bool = λ x. both (λ v. both (λ w. both (λ y. both (λ z. test_mask k a b d x v w y z)))) in
-    let from_d : Bool → Bool = λ x. both (λ u. both (λ v. both (λ w. both (λ y. both (λ z. test_mask k a b x u v w y z))))) in
-    let from_b : Bool → Bool = λ x. both (λ t. both (λ u. both (λ v. both (λ w. both (λ y. both (λ z. test_mask k a x t u v w y z)))))) in
-    let from_a : Bool → Bool = λ x. both
-    (λ s. both (λ t. both (λ u. both (λ v. both (λ w. both (λ y. both (λ z. test_mask k x s t u v w y z))))))) in
-    let from_k : Bool → Bool = λ x. both
-    (λ r. both (λ s. both (λ t. both (λ u. both (λ v. both (λ w. both (λ y. both (λ z. test_mask x r s t u v w y z)))))))) in
-    eqb-true _ _ (both-at (test_mask k a b d e f g h) (both-at from_h (both-at from_g (both-at from_f
-    (both-at from_e (both-at from_d (both-at from_b (both-at from_a (both-at from_k all_masked k) a) b) d) e) f) g) h) i)
+masked-byte k a b d e f g h i =
+    eqb-true _ _ (each_byte-at (test_mask k) (both-at (λ k. each_byte (test_mask k)) all_masked k) a b d e f g h i)
 
 -- the first byte of every other dot of a row
 other-byte : (k : Bool) (row : List Bool) → packed_byte (every_other k row) ≡ bit_and (packed_byte row) (mask k)
@@ -60,7 +48,7 @@ other-byte k row =
       ap (λ b. worth b 4) (at-other k row 5),
       ap (λ b. worth b 2) (at-other k row 6),
       ap (λ b. worth b 1) (at-other k row 7),
-      masked-worths k (at row 0) (at row 1) (at row 2) (at row 3) (at row 4) (at row 5) (at row 6) (at row 7),
+      masked-byte k (at row 0) (at row 1) (at row 2) (at row 3) (at row 4) (at row 5) (at row 6) (at row 7),
     )
 
 -- ---- a row

@@ -10,7 +10,7 @@ use dot_planes::Planes;
 /// The bytes of the widest row, which has 8191 columns.
 pub(crate) const WIDEST_ROW: usize = 1024;
 
-/// The widest row, without dots.
+// The widest row, without dots.
 static BLANK: [u8; WIDEST_ROW] = [0; WIDEST_ROW];
 
 /// The first `len` bytes of a row without dots.

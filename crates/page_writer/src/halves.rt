@@ -3,10 +3,10 @@ ghost use Rattle.base_definitions.specs.Packed.{packed};
 ghost use Rattle.page_definitions.specs.Shingled.{every_other};
 ghost use Rattle.std.specs.Prelude.{Bool, List, length, ◌≡◌};
 
-/// The bits of a byte whose places are even, counted from its highest bit.
+// The bits of a byte whose places are even, counted from its highest bit.
 const EVEN: u8 = 0b1010_1010;
 
-/// The bits of a byte whose places are odd.
+// The bits of a byte whose places are odd.
 const ODD: u8 = 0b0101_0101;
 
 /// Puts a packed row into the room without its odd columns, or without its even ones.

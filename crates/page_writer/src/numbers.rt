@@ -10,10 +10,10 @@ ghost use Rattle.std.specs.Prelude.{◌*◌, ◌+◌, ◌-◌, ◌≡◌, ◌≤
 use escp2_writer::RasterHead;
 use printer_profile::{PageForm, Profile};
 
-/// How many units of a sheet an inch has, each of 5/3600 inch.
+// How many units of a sheet an inch has, each of 5/3600 inch.
 const SHEET_UNITS: u16 = 720;
 
-/// How many units of a raster's header an inch has.
+// How many units of a raster's header an inch has.
 const HEADER_UNITS: u16 = 3600;
 
 /// Places on a sheet, from its top, in units of 5/3600 inch.

@@ -10,13 +10,13 @@ use crate::page_strokes::Strokes;
 use base_definitions::Memory;
 use std::alloc::Global;
 
-/// The most bytes of room for the code of pieces.
+// The most bytes of room for the code of pieces.
 const MOST_ROOM: u64 = 8 << 20;
 
-/// How many strokes a page has at least for each worker that codes them.
+// How many strokes a page has at least for each worker that codes them.
 const LEAST_STROKES: u32 = 4;
 
-/// In how many batches the strokes of a page are coded, where there is room.
+// In how many batches the strokes of a page are coded, where there is room.
 const BATCHES: u64 = 4;
 
 /// How so many strokes are cut for these workers, where a stroke takes so many bytes at most. `None` says that one

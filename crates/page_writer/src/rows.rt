@@ -11,7 +11,7 @@ use crate::head::Head;
 use dot_planes::Planes;
 use escp2_writer::append_row;
 
-/// Whether the row that a nozzle fires has no dot.
+// Whether the row that a nozzle fires has no dot.
 #[inline]
 fn fires_blank<H: Head>(
     head: &H,

@@ -41,14 +41,14 @@ pub enum WriteStop {
     Memory,
 }
 
-/// Where the head is after a stroke: where the stroke begins if it fired, else where it was.
+// Where the head is after a stroke: where the stroke begins if it fired, else where it was.
 fn head_after(last: u32, begin: u32, rasters: u32) -> u32
     ensures { result ≡ (if nat_lt 0 rasters then begin else last) }
 {
     if rasters > 0 { begin } else { last }
 }
 
-/// Writes the strokes of a head, each in one write.
+// Writes the strokes of a head, each in one write.
 fn put_strokes<H: Head, K: Sink>(
     profile: &Profile,
     planes: &Planes,
@@ -90,8 +90,8 @@ fn put_strokes<H: Head, K: Sink>(
     Ok(sum)
 }
 
-/// Writes the strokes of a page, each in one write: coded by all workers where there is room for their batches, else by
-/// the caller alone.
+// Writes the strokes of a page, each in one write: coded by all workers where there is room for their batches, else by
+// the caller alone.
 fn put_by_all<R: Threads + Sync, H: Head + Sync, K: Sink>(
     threads: &R,
     page: &PageStrokes<'_, H>,
@@ -141,7 +141,7 @@ fn put_by_all<R: Threads + Sync, H: Head + Sync, K: Sink>(
     })
 }
 
-/// Writes a page whose room is reserved: its prologue, its strokes, and its end.
+// Writes a page whose room is reserved: its prologue, its strokes, and its end.
 fn put_page<R: Threads + Sync, H: Head + Sync, K: Sink>(
     threads: &R,
     page: &PageStrokes<'_, H>,

@@ -12,7 +12,7 @@ use weave_plan::Plan;
 /// The bytes of a page's job before and after its strokes.
 pub(crate) const FRAME: u64 = PROLOGUE + END;
 
-/// The bytes of an ink in a stroke before its rows: its colour, the return to the left margin, and a raster's head.
+// The bytes of an ink in a stroke before its rows: its colour, the return to the left margin, and a raster's head.
 const INK_HEAD: u64 = 12;
 
 /// The size of what was written of a page.
@@ -24,8 +24,8 @@ pub struct PageSum {
     pub rasters: u32,
 }
 
-/// The most bytes of an ink in a pass: its colour, the return to the left margin, and a raster whose coded rows are
-/// twice as long as the rows.
+// The most bytes of an ink in a pass: its colour, the return to the left margin, and a raster whose coded rows are
+// twice as long as the rows.
 fn most_of_ink(nozzles: u8, width: u32) -> u64
     requires { width ≤ most_columns }
     ensures is { result ≡ 12 + 2 * nozzles * ((width + 7) / 8) }

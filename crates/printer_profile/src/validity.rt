@@ -31,7 +31,7 @@ pub enum ProfileFault {
     Curve { ink: u8 },
 }
 
-/// The greatest common divisor, as the definition of a profile's faults has it.
+// The greatest common divisor, as the definition of a profile's faults has it.
 fn gcd(a: u8, b: u8) -> u8
     requires { 0 < a }
     ensures { result ≡ gcd_of a b }

@@ -24,7 +24,7 @@ pub fn byte_of(text: &[u8]) -> Option<u8>
     Some(number as u8)
 }
 
-/// A point of a curve: a number from 0 to 256.
+// A point of a curve: a number from 0 to 256.
 fn point_of(text: &[u8]) -> Option<u16>
     ensures point { result ≡ number_of 0 256 text.now }
     ensures most { IfSome result (λ point. point ≤ 256) }

@@ -11,7 +11,7 @@ pub enum NoWords {
     Memory,
 }
 
-/// The most words of a command line.
+// The most words of a command line.
 const MOST_WORDS: u32 = 0x7FFF_FFFF;
 
 impl From<io::Error> for NoWords {

@@ -24,22 +24,22 @@ pub enum GroupStop {
 pub fn read_group<S: Source>(
     unread: &mut Unread,
     lines: &mut LineReader,
-    s: &mut S,
+    source: &mut S,
 ) -> Result<u32, GroupStop>
     requires { IsAnew lines.old }
     ensures form { form_of lines.new ≡ form_of lines.old }
     ensures line { IfOk result
-        (GivesLine lines.old lines.new (text_behind unread.old (S.left s.old))
-        (text_behind unread.new (S.left s.new))) }
+        (GivesLine lines.old lines.new (text_behind unread.old (S.left source.old))
+        (text_behind unread.new (S.left source.new))) }
     ensures fresh { OnOk result (IsAnew lines.new) }
     ensures lines { OnErr result (lines_left_of lines.new ≡ lines_left_of lines.old) }
-    ensures input { OnNoGroup result (λ why. IfSome (text_behind unread.old (S.left s.old)) (λ text.
+    ensures input { OnNoGroup result (λ why. IfSome (text_behind unread.old (S.left source.old)) (λ text.
         IsNoGroup (next_group lines.old text) why ⊎ IsBadGroup (next_group lines.old text) why)) }
-    ensures read { IsErrOf result stop.Read → Rose (S.faults s.old) (S.faults s.new) }
+    ensures read { IsErrOf result stop.Read → Rose (S.faults source.old) (S.faults source.new) }
     ensures part { IsErrOf result stop.Read
-        → TakesPart lines.old (text_behind unread.old (S.left s.old)) (S.left s.new) }
-    ensures used { UsesSome (text_behind unread.old (S.left s.old)) (text_behind unread.new (S.left s.new)) }
-    ensures later { S.faults s.old ≤ S.faults s.new }
+        → TakesPart lines.old (text_behind unread.old (S.left source.old)) (S.left source.new) }
+    ensures used { UsesSome (text_behind unread.old (S.left source.old)) (text_behind unread.new (S.left source.new)) }
+    ensures later { S.faults source.old ≤ S.faults source.new }
 {
     // a group has a count, and at most two bytes for each byte of its line
     let most = 2 * lines.line().len() as u128 + 1;
@@ -51,7 +51,7 @@ pub fn read_group<S: Source>(
             Fill::Fault(fault) => return Err(GroupStop::Input(InputCause::Line(fault))),
             Fill::More => {}
         }
-        match unread.more(s) {
+        match unread.more(source) {
             Ok(0) => return Err(GroupStop::Input(InputCause::Truncated)),
             Ok(_) => {}
             Err(_) => return Err(GroupStop::Read),

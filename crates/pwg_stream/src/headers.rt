@@ -44,38 +44,38 @@ fn first_header(bytes: &[u8]) -> Option<&[u8; HEADER_LEN]>
 /// Reads the header of the next page, after `pages` pages. `None`: the text is at its end.
 pub fn read_page_header<S: Source>(
     unread: &mut Unread,
-    s: &mut S,
+    source: &mut S,
     pages: u32,
     want: Wanted,
 ) -> Result<Option<PageForm>, StreamStop>
     requires { pages ≤ most_pages }
     ensures form { IfOk result
-        (λ o. IfSome o (GivesHeader want (text_behind unread.old (S.left s.old))
-        (text_behind unread.new (S.left s.new)))) }
+        (λ o. IfSome o (GivesHeader want (text_behind unread.old (S.left source.old))
+        (text_behind unread.new (S.left source.new)))) }
     ensures number { IfOk result (λ o. IsSome o → pages < most_pages) }
     ensures none { IfOk result
-        (λ o. IfNone o (IsAtEnd (text_behind unread.old (S.left s.old))
-        × IsAtEnd (text_behind unread.new (S.left s.new)))) }
-    ensures input { OnInput result (λ page line cause. IfSome (text_behind unread.old (S.left s.old)) (λ text.
+        (λ o. IfNone o (IsAtEnd (text_behind unread.old (S.left source.old))
+        × IsAtEnd (text_behind unread.new (S.left source.new)))) }
+    ensures input { OnInput result (λ page line cause. IfSome (text_behind unread.old (S.left source.old)) (λ text.
         pages_from want (most_pages - pages) (pages + 1) text ≡ record { pages = []; end = Fault page line cause })) }
     ensures place { OnInput result (λ page line cause. (page ≡ pages + 1) × (line ≡ 0)) }
-    ensures read { IsErrOf result stop.Read → Rose (S.faults s.old) (S.faults s.new) }
+    ensures read { IsErrOf result stop.Read → Rose (S.faults source.old) (S.faults source.new) }
     ensures taken { IsErrOf result stop.Read
-        → TakesNoPage want pages (text_behind unread.old (S.left s.old)) (S.left s.new) }
+        → TakesNoPage want pages (text_behind unread.old (S.left source.old)) (S.left source.new) }
     ensures short { IsErrOf result stop.Read
-        → TakesFewer header_length (text_behind unread.old (S.left s.old)) (S.left s.new) }
+        → TakesFewer header_length (text_behind unread.old (S.left source.old)) (S.left source.new) }
     ensures memory { IsErrOf result stop.Memory → ⊥ }
-    ensures used { UsesSome (text_behind unread.old (S.left s.old)) (text_behind unread.new (S.left s.new)) }
-    ensures later { S.faults s.old ≤ S.faults s.new }
+    ensures used { UsesSome (text_behind unread.old (S.left source.old)) (text_behind unread.new (S.left source.new)) }
+    ensures later { S.faults source.old ≤ S.faults source.new }
 {
-    unread.fill(s, 1)?;
-    if unread.bytes().len() == 0 {
+    unread.fill(source, 1)?;
+    if unread.bytes().is_empty() {
         return Ok(None);
     }
     if pages == MOST_PAGES {
         return refuse(pages + 1, InputCause::TooManyPages);
     }
-    unread.fill(s, HEADER_LEN)?;
+    unread.fill(source, HEADER_LEN)?;
     let checked = match first_header(unread.bytes()) {
         None => return refuse(pages + 1, InputCause::Truncated),
         Some(header) => check(&read_header(header), want),

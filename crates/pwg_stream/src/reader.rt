@@ -62,23 +62,25 @@ impl PageReader {
     ghost use Rattle.weave_base.specs.Causes.{Rose};
 
     /// A reader of the source's pages. It allocates its buffer, and reads the sync word.
-    pub fn begin<S: Source>(alloc: Global, s: &mut S) -> Result<PageReader, StreamStop>
-        ensures sync { IfOk result (λ reader. Consumes (S.left s.old) (text_of reader (S.left s.new)) sync_word) }
+    pub fn begin<S: Source>(alloc: Global, source: &mut S) -> Result<PageReader, StreamStop>
+        ensures sync { IfOk result
+            (λ reader. Consumes (S.left source.old) (text_of reader (S.left source.new)) sync_word) }
         ensures none { IfOk result (λ reader. (page_of reader ≡ 0) × (lines_left_of reader ≡ 0)
             × (has_ended reader ≡ false)) }
         ensures going { IfOk result (λ reader. stop_of reader ≡ None) }
-        ensures input { OnInput result (λ page line cause. IfSome (S.left s.old) (λ bytes.
+        ensures input { OnInput result (λ page line cause. IfSome (S.left source.old) (λ bytes.
             (want : Wanted) → stream want bytes ≡ record { pages = []; end = Fault page line cause })) }
         ensures place { OnInput result (λ page line cause. (page ≡ 0) × (line ≡ 0)) }
-        ensures read { IsErrOf result stop.Read → Rose (S.faults s.old) (S.faults s.new) }
+        ensures read { IsErrOf result stop.Read → Rose (S.faults source.old) (S.faults source.new) }
         ensures taken { IsErrOf result stop.Read → (want : Wanted)
-            → TakesAllPages want (S.left s.old) (S.left s.new) [] }
-        ensures short { IsErrOf result stop.Read → TakesFewer (length sync_word) (S.left s.old) (S.left s.new) }
-        ensures used { OnErr result (UsesSome (S.left s.old) (S.left s.new)) }
-        ensures later { S.faults s.old ≤ S.faults s.new }
+            → TakesAllPages want (S.left source.old) (S.left source.new) [] }
+        ensures short { IsErrOf result stop.Read
+            → TakesFewer (length sync_word) (S.left source.old) (S.left source.new) }
+        ensures used { OnErr result (UsesSome (S.left source.old) (S.left source.new)) }
+        ensures later { S.faults source.old ≤ S.faults source.new }
     {
         let mut unread = Unread::make(alloc)?;
-        read_sync(&mut unread, s)?;
+        read_sync(&mut unread, source)?;
         Ok(PageReader {
             alloc,
             unread,
@@ -94,7 +96,7 @@ impl PageReader {
     /// given.
     pub fn next_page<S: Source>(
         &mut self,
-        s: &mut S,
+        source: &mut S,
         want: Wanted,
     ) -> Result<Option<PageForm>, StreamStop>
         requires whole { lines_left_of self.old ≡ 0 }
@@ -103,26 +105,28 @@ impl PageReader {
         requires lowest { 1 ≤ want.least_height }
         requires tallest { want.most_height ≤ most_rows }
 
-        ensures page { IfOk result (λ o. IfSome o (BeginsPage want self.old self.new (S.left s.old) (S.left s.new))) }
+        ensures page { IfOk result
+            (λ o. IfSome o (BeginsPage want self.old self.new (S.left source.old) (S.left source.new))) }
         ensures none { has_ended self.old ≡ false
-            → IfOk result (λ o. IfNone o (IsAtEnd (text_of self.old (S.left s.old))
-            × IsAtEnd (text_of self.new (S.left s.new)))) }
+            → IfOk result (λ o. IfNone o (IsAtEnd (text_of self.old (S.left source.old))
+            × IsAtEnd (text_of self.new (S.left source.new)))) }
         ensures input { stop_of self.old ≡ None
-            → OnInput result (λ page line cause. IfSome (text_of self.old (S.left s.old)) (λ text.
+            → OnInput result (λ page line cause. IfSome (text_of self.old (S.left source.old)) (λ text.
             pages_from want (most_pages - page_of self.old) (page_of self.old + 1) text ≡ record {
               pages = [];
               end = Fault page line cause;
             })) }
         ensures place { stop_of self.old ≡ None
             → OnInput result (λ page line cause. (page ≡ page_of self.old + 1) × (line ≡ 0)) }
-        ensures read { stop_of self.old ≡ None → IsErrOf result stop.Read → Rose (S.faults s.old) (S.faults s.new) }
+        ensures read { stop_of self.old ≡ None → IsErrOf result stop.Read
+            → Rose (S.faults source.old) (S.faults source.new) }
         ensures taken { stop_of self.old ≡ None → IsErrOf result stop.Read
-            → TakesNoPage want (page_of self.old) (text_of self.old (S.left s.old)) (S.left s.new) }
+            → TakesNoPage want (page_of self.old) (text_of self.old (S.left source.old)) (S.left source.new) }
         ensures short { stop_of self.old ≡ None → IsErrOf result stop.Read
-            → TakesFewer header_length (text_of self.old (S.left s.old)) (S.left s.new) }
+            → TakesFewer header_length (text_of self.old (S.left source.old)) (S.left source.new) }
 
-        ensures used { UsesSome (text_of self.old (S.left s.old)) (text_of self.new (S.left s.new)) }
-        ensures later { S.faults s.old ≤ S.faults s.new }
+        ensures used { UsesSome (text_of self.old (S.left source.old)) (text_of self.new (S.left source.new)) }
+        ensures later { S.faults source.old ≤ S.faults source.new }
 
         // Where no page was begun, no line is left.
         ensures none_left { IfOk result (λ o. IfNone o (lines_left_of self.new ≡ 0)) }
@@ -132,10 +136,10 @@ impl PageReader {
         ensures going { OnOk result (stop_of self.new ≡ None) }
         ensures stop { IfErr result (λ stop. stop_of self.new ≡ Some stop) }
         ensures again { (stop : StreamStop) → stop_of self.old ≡ Some stop → (result ≡ Err stop) × (self.new ≡ self.old)
-            × (s.new ≡ s.old) }
+            × (source.new ≡ source.old) }
         ensures end { IfOk result (λ o. IfNone o (has_ended self.new ≡ true)) }
         ensures end_again { has_ended self.old ≡ true → stop_of self.old ≡ None → (result ≡ Ok None)
-            × (self.new ≡ self.old) × (s.new ≡ s.old) }
+            × (self.new ≡ self.old) × (source.new ≡ source.old) }
     {
         if let Some(stop) = self.stop {
             return Err(stop);
@@ -143,7 +147,7 @@ impl PageReader {
         if self.at_end {
             return Ok(None);
         }
-        match self.begin_page(s, want) {
+        match self.begin_page(source, want) {
             Err(stop) => {
                 self.stop = Some(stop);
                 Err(stop)
@@ -159,7 +163,7 @@ impl PageReader {
     // Begins the next page, where one follows.
     fn begin_page<S: Source>(
         &mut self,
-        s: &mut S,
+        source: &mut S,
         want: Wanted,
     ) -> Result<Option<PageForm>, StreamStop>
         requires going { stop_of self.old ≡ None }
@@ -168,27 +172,29 @@ impl PageReader {
         requires widest { want.most_width ≤ most_columns }
         requires lowest { 1 ≤ want.least_height }
         requires tallest { want.most_height ≤ most_rows }
-        ensures page { IfOk result (λ o. IfSome o (BeginsPage want self.old self.new (S.left s.old) (S.left s.new))) }
+        ensures page { IfOk result
+            (λ o. IfSome o (BeginsPage want self.old self.new (S.left source.old) (S.left source.new))) }
         ensures none { IfOk result
-            (λ o. IfNone o (IsAtEnd (text_of self.old (S.left s.old)) × IsAtEnd (text_of self.new (S.left s.new)))) }
+            (λ o. IfNone o (IsAtEnd (text_of self.old (S.left source.old))
+            × IsAtEnd (text_of self.new (S.left source.new)))) }
         ensures going { stop_of self.new ≡ None }
-        ensures input { OnInput result (λ page line cause. IfSome (text_of self.old (S.left s.old)) (λ text.
+        ensures input { OnInput result (λ page line cause. IfSome (text_of self.old (S.left source.old)) (λ text.
             pages_from want (most_pages - page_of self.old) (page_of self.old + 1) text ≡ record {
               pages = [];
               end = Fault page line cause;
             })) }
         ensures place { OnInput result (λ page line cause. (page ≡ page_of self.old + 1) × (line ≡ 0)) }
-        ensures read { IsErrOf result stop.Read → Rose (S.faults s.old) (S.faults s.new) }
+        ensures read { IsErrOf result stop.Read → Rose (S.faults source.old) (S.faults source.new) }
         ensures taken { IsErrOf result stop.Read
-            → TakesNoPage want (page_of self.old) (text_of self.old (S.left s.old)) (S.left s.new) }
+            → TakesNoPage want (page_of self.old) (text_of self.old (S.left source.old)) (S.left source.new) }
         ensures short { IsErrOf result stop.Read
-            → TakesFewer header_length (text_of self.old (S.left s.old)) (S.left s.new) }
-        ensures used { UsesSome (text_of self.old (S.left s.old)) (text_of self.new (S.left s.new)) }
-        ensures later { S.faults s.old ≤ S.faults s.new }
+            → TakesFewer header_length (text_of self.old (S.left source.old)) (S.left source.new) }
+        ensures used { UsesSome (text_of self.old (S.left source.old)) (text_of self.new (S.left source.new)) }
+        ensures later { S.faults source.old ≤ S.faults source.new }
         ensures none_left { IfOk result (λ o. IfNone o (lines_left_of self.new ≡ lines_left_of self.old)) }
         ensures left { OnErr result (lines_left_of self.new ≡ lines_left_of self.old) }
     {
-        match read_page_header(&mut self.unread, s, self.page, want)? {
+        match read_page_header(&mut self.unread, source, self.page, want)? {
             None => Ok(None),
             Some(form) => {
                 self.begin_lines(form)?;
@@ -225,32 +231,33 @@ impl PageReader {
     /// Reads the next group of the page's lines, and gives its repeats, 1 to 256; `line` is its line.
     ///
     /// It answers `StreamStop::Memory` only where an earlier call did.
-    pub fn next_line<S: Source>(&mut self, s: &mut S) -> Result<u32, StreamStop>
+    pub fn next_line<S: Source>(&mut self, source: &mut S) -> Result<u32, StreamStop>
         requires { 0 < lines_left_of self.old }
 
-        ensures lines { IfOk result (GivesLines self.old self.new (S.left s.old) (S.left s.new)) }
-        ensures input { stop_of self.old ≡ None → OnInput result (HasLineFault self.old (S.left s.old)) }
-        ensures read { stop_of self.old ≡ None → IsErrOf result stop.Read → Rose (S.faults s.old) (S.faults s.new) }
+        ensures lines { IfOk result (GivesLines self.old self.new (S.left source.old) (S.left source.new)) }
+        ensures input { stop_of self.old ≡ None → OnInput result (HasLineFault self.old (S.left source.old)) }
+        ensures read { stop_of self.old ≡ None → IsErrOf result stop.Read
+            → Rose (S.faults source.old) (S.faults source.new) }
         ensures taken { stop_of self.old ≡ None → IsErrOf result stop.Read
-            → TakesNoGroup self.old (S.left s.old) (S.left s.new) }
+            → TakesNoGroup self.old (S.left source.old) (S.left source.new) }
         ensures memory { stop_of self.old ≡ None → IsErrOf result stop.Memory → ⊥ }
 
-        ensures used { UsesSome (text_of self.old (S.left s.old)) (text_of self.new (S.left s.new)) }
-        ensures later { S.faults s.old ≤ S.faults s.new }
+        ensures used { UsesSome (text_of self.old (S.left source.old)) (text_of self.new (S.left source.new)) }
+        ensures later { S.faults source.old ≤ S.faults source.new }
         ensures left { OnErr result (lines_left_of self.new ≡ lines_left_of self.old) }
 
         // A stop is answered again by each later call.
         ensures going { OnOk result (stop_of self.new ≡ None) }
         ensures stop { IfErr result (λ stop. stop_of self.new ≡ Some stop) }
         ensures again { (stop : StreamStop) → stop_of self.old ≡ Some stop → (result ≡ Err stop) × (self.new ≡ self.old)
-            × (s.new ≡ s.old) }
+            × (source.new ≡ source.old) }
     {
         if let Some(stop) = self.stop {
             return Err(stop);
         }
         match &mut self.lines {
             None => unreachable!(),
-            Some(lines) => match read_group(&mut self.unread, lines, s) {
+            Some(lines) => match read_group(&mut self.unread, lines, source) {
                 Ok(repeats) => {
                     self.given += repeats;
                     Ok(repeats)

@@ -16,22 +16,22 @@ use pwg_definitions::InputCause;
 use weave_base::Source;
 
 /// Reads the sync word.
-pub fn read_sync<S: Source>(unread: &mut Unread, s: &mut S) -> Result<(), StreamStop>
+pub fn read_sync<S: Source>(unread: &mut Unread, source: &mut S) -> Result<(), StreamStop>
     ensures ok { OnOk result
-        (Consumes (text_behind unread.old (S.left s.old)) (text_behind unread.new (S.left s.new)) sync_word) }
-    ensures input { OnInput result (λ page line cause. IfSome (text_behind unread.old (S.left s.old)) (λ text.
+        (Consumes (text_behind unread.old (S.left source.old)) (text_behind unread.new (S.left source.new)) sync_word) }
+    ensures input { OnInput result (λ page line cause. IfSome (text_behind unread.old (S.left source.old)) (λ text.
         (want : Wanted) → stream want text ≡ record { pages = []; end = Fault page line cause })) }
     ensures place { OnInput result (λ page line cause. (page ≡ 0) × (line ≡ 0)) }
-    ensures read { IsErrOf result stop.Read → Rose (S.faults s.old) (S.faults s.new) }
+    ensures read { IsErrOf result stop.Read → Rose (S.faults source.old) (S.faults source.new) }
     ensures taken { IsErrOf result stop.Read → (want : Wanted)
-        → TakesAllPages want (text_behind unread.old (S.left s.old)) (S.left s.new) [] }
+        → TakesAllPages want (text_behind unread.old (S.left source.old)) (S.left source.new) [] }
     ensures short { IsErrOf result stop.Read → TakesFewer (length sync_word)
-        (text_behind unread.old (S.left s.old)) (S.left s.new) }
+        (text_behind unread.old (S.left source.old)) (S.left source.new) }
     ensures memory { IsErrOf result stop.Memory → ⊥ }
-    ensures used { UsesSome (text_behind unread.old (S.left s.old)) (text_behind unread.new (S.left s.new)) }
-    ensures later { S.faults s.old ≤ S.faults s.new }
+    ensures used { UsesSome (text_behind unread.old (S.left source.old)) (text_behind unread.new (S.left source.new)) }
+    ensures later { S.faults source.old ≤ S.faults source.new }
 {
-    unread.fill(s, 4)?;
+    unread.fill(source, 4)?;
     if !unread.bytes().starts_with(b"RaS2") {
         return Err(StreamStop::Input {
             page: 0,

@@ -4,7 +4,7 @@ ghost use Rattle.std.specs.Prelude.{◌≡◌};
 use crate::faults::SpoolCause;
 use crate::values::{is_name, kernel_named, lists_names, worker_count};
 
-/// The most senders of a run.
+// The most senders of a run.
 const MOST_SENDERS: u32 = 8;
 
 /// A key of the spool.

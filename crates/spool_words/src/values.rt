@@ -6,7 +6,7 @@ ghost use Rattle.std.specs.Prelude.{◌≡◌};
 use diffusion_kernel::Kernel;
 use job_words::MOST_NAME;
 
-/// The most names of one sender.
+// The most names of one sender.
 const MOST_NAMES: usize = 64;
 
 /// Whether a text may be the name of a profile or of a file: 1 to 255 bytes.

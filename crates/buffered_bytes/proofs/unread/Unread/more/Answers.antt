@@ -35,7 +35,7 @@ returns-clause-text g c =
     (omega (arith, c.self.invariant)) (omega (arith, c.self.invariant, u.buffer.ok)) c.copy_within.ensures.items c.deref_mut.ensures.value
     c.in_ok-count.ensures.bound.0
     (with_items_is c.copy_within.new.self filled (search (rules, places))) in
-    let P : List ℕ → Type 0 = λ bytes. Keeps (text_behind c.args.self.now (g.S.Source.left c.args.s.now))
+    let P : List ℕ → Type 0 = λ bytes. Keeps (text_behind c.args.self.now (g.S.Source.left c.args.source.now))
     (text_behind bytes (g.S.Source.left c.read.new.self)) in
-    subst P (sym view) (text_grown (g.S.Source.left c.args.s.now) (g.S.Source.left c.read.new.self) c.args.self.now
+    subst P (sym view) (text_grown (g.S.Source.left c.args.source.now) (g.S.Source.left c.read.new.self) c.args.self.now
     (take count c.read.new.buf) c.in_ok-count.ensures.bytes.0)
