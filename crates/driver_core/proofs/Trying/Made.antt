@@ -1,12 +1,11 @@
 -- What a printer reads of the stream that is made for it: the made pages, or a refusal of their header.
-use Rattle.std.proofs.Common.{◌≡◌, ℕ, ◌*◌, ◌<◌, ◌≤◌, ◌^◌, ◌⊎◌, Bool, true, false, if◌then◌else◌, List, [], Result, Ok, Err, IsOk, inl, inr, refl, sym, ◌∙◌, ap, subst, arith}
+use Rattle.std.proofs.Common.{◌≡◌, ℕ, ◌<◌, ◌≤◌, ◌^◌, ◌⊎◌, Bool, true, false, if◌then◌else◌, [], Ok, Err, IsOk, inl, inr, refl, sym, ◌∙◌, ap, subst, arith}
 use Rattle.std.specs.Io.KnownBytes.{Keeps}
 use Rattle.diffusion_kernel.specs.Tables.{table_of}
 use Rattle.driver_answer.specs.declared.answer.Answer.{Answer}
 use Rattle.driver_answer.specs.declared.answer.Answer.TheVariants as answer
 use Rattle.job_words.specs.declared.reading.Job.{Job}
 use Rattle.job_words.specs.Jobs.{IsWithinBounds}
-use Rattle.page_maker.specs.Made.{made_pages}
 use Rattle.page_maker.proofs.Checked.{check-made}
 use Rattle.page_maker.proofs.Spelled.{stream-made, stream-refused}
 use Rattle.printer_definitions.specs.Printer.{Printer}
@@ -20,7 +19,7 @@ use Rattle.pwg_definitions.specs.declared.pages.Kind.TheVariants as kinds
 use Rattle.pwg_definitions.specs.declared.pages.PageForm.{PageForm}
 use Rattle.pwg_definitions.specs.declared.pages.Wanted.{Wanted}
 use Rattle.pwg_definitions.specs.Header.{check, header_bytes, header_of, is_outside, line_bytes, row_of}
-use Rattle.pwg_definitions.specs.Stream.{Stream, StreamEnd}
+use Rattle.pwg_definitions.specs.Stream.{Stream}
 use Rattle.pwg_definitions.specs.Stream.StreamEnd.{Done, Fault}
 use Rattle.pwg_laws.proofs.HeaderLaws.{check-wanted}
 use Rattle.separation_definitions.specs.CanPrint.{CanPrint}

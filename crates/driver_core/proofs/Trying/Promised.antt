@@ -11,7 +11,6 @@ use Rattle.printer_definitions.specs.Printer.{Printer}
 use Rattle.printer_profile.specs.Profiles.{built_in}
 use Rattle.page_maker.proofs.Spelled.{length-made_pages}
 use Rattle.pwg_definitions.specs.declared.faults.HeaderFault.{HeaderFault}
-use Rattle.pwg_definitions.specs.declared.faults.InputCause.{InputCause}
 use Rattle.pwg_definitions.specs.declared.faults.InputCause.TheVariants as cause
 use Rattle.pwg_definitions.specs.declared.pages.PageForm.{PageForm}
 use Rattle.weave_base.specs.Parts.{AppendsPart}
