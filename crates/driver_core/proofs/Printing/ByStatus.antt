@@ -23,7 +23,7 @@ use Rattle.driver_core.specs.Outside.{HasRisen, IsCalm, Meters, Outside}
 use Rattle.driver_core.specs.Printing.Outcome.{CountsOneMore, CountsPages, GoesOver, MeetsFault, PrintOutcome}
 use Rattle.driver_core.specs.Printing.Outcome.{PrintsAll, PrintsSome, PrintsTaken, StopsInPage}
 use Rattle.driver_core.specs.Printing.Pages.{BeginsStream, IsStream}
-use Rattle.driver_core.proofs.Runs.Nothing.{appends_none, consumes_none}
+use Rattle.driver_core.proofs.Runs.Nothing.{appends_none, consumes_none, no_pages-print}
 use Rattle.driver_core.proofs.Runs.Statuses.{is_done, is_input, is_memory, is_over_cap, is_read, is_write}
 
 -- ---- what printing came to, by the status
@@ -188,6 +188,7 @@ prints_untaken way p k input out meters unread unwritten uncounted = (
     pages = [];
     taken = record { bytes = []; taken = consumes_none input.before input.now unread; are = refl; end = inr (omega arith) };
     writes = appends_none out.before out.now unwritten;
+    prints = no_pages-print way p k;
     passes = tt;
   },
   record { admitted = tt; counts = uncounted },
@@ -207,6 +208,7 @@ prints_none way p k input out meters unread unwritten uncounted = (
       are = refl;
     };
     writes = appends_none out.before out.now unwritten;
+    prints = no_pages-print way p k;
     passes = tt;
   },
   record { admitted = tt; counts = uncounted },

@@ -11,6 +11,7 @@ use Rattle.ink_meter.specs.Accounts.{Account, IsFirstOver, all_inks}
 use Rattle.ink_meter.specs.declared.meters.OverCap.{OverCap}
 use Rattle.page_definitions.specs.Dots.{halftone}
 use Rattle.page_definitions.specs.Ways.{CanGo, KeepTo, Way, halftone_bytes_by, page_bytes_by}
+use Rattle.page_definitions.specs.Printing.{Prints}
 use Rattle.page_laws.proofs.WaysKept.{ways-keep, ways-print}
 use Rattle.ink_meter.specs.Counts.{page_dots}
 use Rattle.printer_definitions.specs.Printer.{Printer, row_units}
@@ -42,6 +43,7 @@ use Rattle.driver_core.specs.Printing.Pages.{BeginsStream, IsStream, TakesPages,
 use Rattle.driver_core.specs.Printing.Outcome.{CountsPages, PrintedOutcome, PrintsSome, PrintsTaken, stream_answer}
 use Rattle.halftone_reader.specs.SoFar.{EndsSo}
 use Rattle.driver_core.proofs.Printing.Counting.{none_counted}
+use Rattle.driver_core.proofs.Runs.Nothing.{no_pages-print}
 use Rattle.driver_core.proofs.Printing.StreamSteps.{StreamRead, StreamSoFar, with_pages, pages-first}
 
 -- a printer whose head can go this way
@@ -107,21 +109,42 @@ appends_kept (Some x) None d bytes grown kept = absurd grown
 appends_kept (Some x) (Some y) None bytes grown kept = absurd kept
 appends_kept (Some x) (Some y) (Some z) bytes grown kept = kept ∙ grown
 
--- ---- the passes of pages
+-- ---- what pages print, and in which passes
 
 first_pages : (want : Wanted) (pages others : List Page)
     → AllByRecursion (IsPage want) (pages ++ others) → AllByRecursion (IsPage want) pages
 first_pages want [] others are = tt
 first_pages want (page ∷ pages) others are = (are.0, first_pages want pages others are.1)
 
--- pages that a text begins with keep to the way of the head
+-- what a text begins with are pages
+read_pages : (want : Wanted) (bytes : List ℕ) (pages : List Page) (most number : ℕ)
+    → ((rest : List ℕ) → stream want (bytes ++ rest) ≡ with_pages pages (pages_from want most number rest))
+    → AllByRecursion (IsPage want) pages
+read_pages want bytes pages most number is =
+    let P : List Page → Type 0 = AllByRecursion (IsPage want) in
+    first_pages want pages (pages_from want most number []).pages
+    (subst P (ap (λ (s : Stream). s.pages) (is [])) (stream-pages want (bytes ++ [])))
+
+-- the job of these pages prints them
+prints_of : (way : Way) (p : Printer) (k : Table) (bytes : List ℕ) (pages : List Page) (most number : ℕ)
+    → CanPrintBy way p → ((rest : List ℕ) → stream (wanted_by p) (bytes ++ rest)
+    ≡ with_pages pages (pages_from (wanted_by p) most number rest)) → Prints p k pages (job_bytes way p k pages)
+prints_of way p k bytes pages most number can is =
+    ways-print way p k pages can.can can.go (read_pages (wanted_by p) bytes pages most number is)
+
+-- the same for the pages before the last
+first_prints : (way : Way) (p : Printer) (k : Table) (bytes : List ℕ) (pages others : List Page) (most number : ℕ)
+    → CanPrintBy way p → ((rest : List ℕ) → stream (wanted_by p) (bytes ++ rest)
+    ≡ with_pages (pages ++ others) (pages_from (wanted_by p) most number rest)) → Prints p k pages (job_bytes way p k pages)
+first_prints way p k bytes pages others most number can is = ways-print way p k pages can.can can.go
+    (first_pages (wanted_by p) pages others (read_pages (wanted_by p) bytes (pages ++ others) most number is))
+
+-- they keep to the way of the head
 passes_of : (way : Way) (p : Printer) (k : Table) (bytes : List ℕ) (pages : List Page) (most number : ℕ)
     → CanPrintBy way p → ((rest : List ℕ) → stream (wanted_by p) (bytes ++ rest)
     ≡ with_pages pages (pages_from (wanted_by p) most number rest)) → KeepTo way p k pages
 passes_of way p k bytes pages most number can is =
-    let P : List Page → Type 0 = AllByRecursion (IsPage (wanted_by p)) in
-    ways-keep way p k pages can.can can.go (first_pages (wanted_by p) pages (pages_from (wanted_by p) most number []).pages
-    (subst P (ap (λ (s : Stream). s.pages) (is [])) (stream-pages (wanted_by p) (bytes ++ []))))
+    ways-keep way p k pages can.can can.go (read_pages (wanted_by p) bytes pages most number is)
 
 -- the same for the pages before the last
 first_passes : (way : Way) (p : Printer) (k : Table) (pages others : List Page) → KeepTo way p k (pages ++ others) → KeepTo way p k pages
@@ -160,6 +183,7 @@ none_printed way p k before left held accounts f0 f1 g0 g1 more = (
     pages = [];
     taken = record { bytes = more.bytes; taken = more.is; others = (stream (wanted_by p) more.bytes).pages; are = refl };
     writes = Appends-nil held;
+    prints = no_pages-print way p k;
     passes = tt;
   },
   none_counted p k accounts,
@@ -178,6 +202,7 @@ some_printed way p k before left left' held now meters old new number pages f0 f
     pages = so_far.done;
     taken = taken_pages p before (text_of old left) left' new.unread so_far.bytes so_far.done _ _ so_far.used so_far.is more;
     writes = so_far.written;
+    prints = prints_of way p k so_far.bytes so_far.done _ _ can so_far.is;
     passes = passes_of way p k so_far.bytes so_far.done _ _ can so_far.is;
   },
   counts,
@@ -214,6 +239,7 @@ all_printed way p k before left left' held now meters old number pages f0 f2 g0 
     pages = so_far.done;
     taken = all_taken way p k before left left' held now old number so_far none;
     writes = so_far.written;
+    prints = prints_of way p k so_far.bytes so_far.done _ _ can so_far.is;
     passes = passes_of way p k so_far.bytes so_far.done _ _ can so_far.is;
   },
   counts,
@@ -242,6 +268,7 @@ without_sync way p k before left held accounts f0 f1 g0 g1 (stop.Input page line
       told = some before bad;
       stand = omega (arith, place.0);
       writes = Appends-nil held;
+      prints = no_pages-print way p k;
       passes = tt;
     },
     none_counted p k accounts,
@@ -257,7 +284,13 @@ without_sync way p k before left held accounts f0 f1 g0 g1 (stop.Input page line
 without_sync way p k before left held accounts f0 f1 g0 g1 stop.Read bad place cause_is taken more = (
   (
     cause_is refl,
-    record { pages = []; taken = taken refl (wanted_by p); writes = Appends-nil held; passes = tt },
+    record {
+      pages = [];
+      taken = taken refl (wanted_by p);
+      writes = Appends-nil held;
+      prints = no_pages-print way p k;
+      passes = tt;
+    },
     none_counted p k accounts,
   ),
   refl,
@@ -345,6 +378,7 @@ in_page T way p k before left left' held now meters old new number pages f0 f1 f
           told = stream_faults so_far page line cause bad;
           stand = omega (arith, place, so_far.many);
           writes = so_far.written;
+          prints = prints_of way p k so_far.bytes so_far.done _ _ can so_far.is;
           passes = passes_of way p k so_far.bytes so_far.done _ _ can so_far.is;
         },
         counts,
@@ -424,6 +458,7 @@ page_not_written way p k {before} {left} {held} {now} {now'} {meters} reader num
       number_is = read.next;
       between = now;
       whole = read.written;
+      prints = first_prints way p k read.bytes read.done (page ∷ []) _ _ can read.is;
       part = part;
       passes = passes_of way p k read.bytes (read.done ++ page ∷ []) _ _ can read.is;
     },
@@ -452,6 +487,7 @@ page_without_room way p k {before} {left} {held} {now} {now'} {meters} reader nu
             are = all.are ∙ append_assoc read.done (page ∷ []) all.others;
           };
           writes = appends_kept held now now' (job_bytes way p k read.done) read.written kept;
+          prints = first_prints way p k read.bytes read.done (page ∷ []) _ _ can read.is;
           passes = first_passes way p k read.done (page ∷ [])
               (passes_of way p k read.bytes (read.done ++ page ∷ []) _ _ can read.is);
         },
@@ -501,6 +537,7 @@ page_over way p k {before} {left} {held} {now} {first} {last} {next} reader numb
         told = begins p before (text_of reader left) read.bytes (read.done ++ page ∷ []) _ _ read.used read.is;
         number_is = read.next;
         writes = read.written;
+        prints = first_prints way p k read.bytes read.done (page ∷ []) _ _ can read.is;
         passes = first_passes way p k read.done (page ∷ [])
             (passes_of way p k read.bytes (read.done ++ page ∷ []) _ _ can read.is);
         pages_counted = record { admitted = counts.admitted; counts = kept ∙ counts.counts };

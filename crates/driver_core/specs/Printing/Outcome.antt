@@ -31,32 +31,35 @@ pub record PrintsAll (way : Way) (p : Printer) (k : Table) (input out : Outside)
   pub passes : KeepTo way p k pages
 
 -- The input, if the source reports its bytes, is a stream of some pages that ends with this fault. The job of these
--- pages was written: those before the named page, none where page 0, the sync word, is named. They keep to the way of
--- the head.
+-- pages was written: those before the named page, none where page 0, the sync word, is named. It prints them, and keeps
+-- to the way of the head.
 pub record MeetsFault (way : Way) (p : Printer) (k : Table) (input out : Outside) (page line : ℕ) (cause : InputCause) : Type 0 where
   pub pages : List Page
   pub told : IsStream p input.before pages (Fault page line cause)
   pub stand : length pages ≡ page - 1
   pub writes : Appends out.before out.now (job_bytes way p k pages)
+  pub prints : Prints p k pages (job_bytes way p k pages)
   pub passes : KeepTo way p k pages
 
--- The job of some first pages of what was read was written, and keeps to the way of the head.
+-- The job of some first pages of what was read was written, prints them, and keeps to the way of the head.
 pub record PrintsSome (way : Way) (p : Printer) (k : Table) (input out : Outside) : Type 0 where
   pub pages : List Page
   pub taken : TakesPages p input.before input.now pages
   pub writes : Appends out.before out.now (job_bytes way p k pages)
+  pub prints : Prints p k pages (job_bytes way p k pages)
   pub passes : KeepTo way p k pages
 
--- The job of all whole pages of what was read was written and keeps to the way of the head, and what was read has no
--- fault but one that more bytes could mend.
+-- The job of all whole pages of what was read was written, prints them, and keeps to the way of the head. What was read
+-- has no fault but one that more bytes could mend.
 pub record PrintsTaken (way : Way) (p : Printer) (k : Table) (input out : Outside) : Type 0 where
   pub pages : List Page
   pub taken : TakesAllPages (wanted_by p) input.before input.now pages
   pub writes : Appends out.before out.now (job_bytes way p k pages)
+  pub prints : Prints p k pages (job_bytes way p k pages)
   pub passes : KeepTo way p k pages
 
--- The job of the pages before this one was written, and a proper prefix of its own. All of them are the first pages of
--- what was read, and keep to the way of the head.
+-- The job of the pages before this one was written, which prints them, and a proper prefix of its own. All of them are
+-- the first pages of what was read, and keep to the way of the head.
 pub record StopsInPage (way : Way) (p : Printer) (k : Table) (input out : Outside) (number : ℕ) : Type 0 where
   pub pages : List Page
   pub page : Page
@@ -64,6 +67,7 @@ pub record StopsInPage (way : Way) (p : Printer) (k : Table) (input out : Outsid
   pub number_is : number ≡ length pages + 1
   pub between : Option (List ℕ)
   pub whole : Appends out.before between (job_bytes way p k pages)
+  pub prints : Prints p k pages (job_bytes way p k pages)
   pub part : AppendsPart between out.now (page_bytes_by way page p k)
   pub passes : KeepTo way p k (pages ++ page ∷ [])
 
@@ -80,8 +84,8 @@ pub record CountsOneMore (p : Printer) (k : Table) (meters : Meters) (pages othe
   pub pages_counted : CountsPages p k meters (pages ++ page ∷ [])
 
 -- This page was read whole, and the first meter without room for its dots has this total and this cap. The job of the
--- pages before it was written and keeps to the way of the head, and these were counted. The input, if the source
--- reports its bytes, begins with all of them.
+-- pages before it was written, prints them, and keeps to the way of the head, and these were counted. The input, if the
+-- source reports its bytes, begins with all of them.
 pub record GoesOver (way : Way) (p : Printer) (k : Table) (input out : Outside) (meters : Meters) (number total dots cap : ℕ) : Type 0 where
   pub pages : List Page
   pub page : Page
@@ -89,6 +93,7 @@ pub record GoesOver (way : Way) (p : Printer) (k : Table) (input out : Outside) 
   pub told : BeginsStream p input.before (pages ++ page ∷ [])
   pub number_is : number ≡ length pages + 1
   pub writes : Appends out.before out.now (job_bytes way p k pages)
+  pub prints : Prints p k pages (job_bytes way p k pages)
   pub passes : KeepTo way p k pages
   pub pages_counted : CountsPages p k meters pages
   pub index : ℕ
