@@ -3,31 +3,6 @@ use std::sync::atomic::{AtomicU64, Ordering};
 use tile_shape::Place;
 use wavefront_team::Gate;
 
-// How many turns a tile waits for another at most.
-const TURNS: u32 = 100_000_000;
-
-/// Holds two tiles, of which neither needs the other, until both have entered.
-#[derive(Drop)]
-pub(crate) struct MeetingGate {
-    pub(crate) came: AtomicU64,
-    pub(crate) met: AtomicU64,
-}
-
-impl Gate for MeetingGate {
-    fn enter(&self, p: Place) {
-        if p != (Place { c: 2, j: 0 }) && p != (Place { c: 0, j: 1 }) {
-            return;
-        }
-        self.came.fetch_add(1, Ordering::SeqCst);
-        for _ in 0..TURNS {
-            if self.came.load(Ordering::SeqCst) == 2 {
-                self.met.fetch_add(1, Ordering::SeqCst);
-                return;
-            }
-        }
-    }
-}
-
 /// Counts how often each tile of five columns and three bands enters, in four bits each.
 #[derive(Drop)]
 pub(crate) struct CountingGate {

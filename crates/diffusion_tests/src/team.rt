@@ -1,7 +1,8 @@
 //! Teams of several sizes, and workers that gates watch or hold back.
-use crate::gates::{CountingGate, HoldingGate, MeetingGate};
+use crate::gates::{CountingGate, HoldingGate};
 use crate::windows::{Case, is_right, rows_of, wrong_beside};
 use diffusion_kernel::Kernel;
+use slab_fixtures::{LEVEL_SLAB, Measure, MeetingGate, known_rows, measured};
 use std::sync::atomic::{AtomicU64, Ordering};
 use wavefront_team::OpenGate;
 
@@ -48,105 +49,38 @@ fn any_number_of_workers_gives_the_dots_of_the_plain_program(rt: HostRuntime) {
 
 #[test]
 fn two_tiles_are_inside_the_gate_at_once(rt: HostRuntime) {
-    let gate = MeetingGate {
-        came: AtomicU64::new(0),
-        met: AtomicU64::new(0),
-    };
+    let gate = MeetingGate::make();
     is_right(&rt, rt.alloc(), &LEVEL, 2, &gate);
-    assert_eq!(rt; gate.met.load(Ordering::SeqCst), 2);
-}
-
-// Rows of the dots of the level slab by Floyd and Steinberg's kernel, as an independent program computed them.
-const KNOWN_ROWS: [(u8, [u8; 25]); 5] = [
-    (
-        0,
-        [
-            0x49, 0x24, 0x92, 0x49, 0x24, 0x92, 0x49, 0x24, 0x92, 0x49, 0x24, 0x92, 0x49, 0x24,
-            0x92, 0x49, 0x24, 0x92, 0x49, 0x24, 0x92, 0x49, 0x24, 0x92, 0x49,
-        ],
-    ),
-    (
-        1,
-        [
-            0x54, 0xAA, 0x55, 0x2A, 0x95, 0x4A, 0xA5, 0x52, 0xA9, 0x54, 0xAA, 0x55, 0x2A, 0x95,
-            0x4A, 0xA5, 0x52, 0xA9, 0x54, 0xAA, 0x55, 0x2A, 0x95, 0x4A, 0xA4,
-        ],
-    ),
-    (
-        2,
-        [
-            0x4A, 0x92, 0xA4, 0xA4, 0xA9, 0x29, 0x2A, 0x4A, 0x4A, 0x92, 0x92, 0xA4, 0xA4, 0xA9,
-            0x29, 0x2A, 0x4A, 0x4A, 0x92, 0x92, 0xA4, 0xA4, 0xA9, 0x29, 0x2A,
-        ],
-    ),
-    (
-        3,
-        [
-            0x24, 0xA9, 0x12, 0x92, 0x44, 0xA4, 0x91, 0x29, 0x24, 0x4A, 0x49, 0x12, 0x92, 0x44,
-            0xA4, 0x91, 0x29, 0x24, 0x4A, 0x49, 0x12, 0x92, 0x44, 0xA4, 0x92,
-        ],
-    ),
-    (
-        69,
-        [
-            0x24, 0xA8, 0xA5, 0x29, 0x24, 0x92, 0x52, 0x49, 0x29, 0x2A, 0x54, 0x8A, 0x4A, 0x45,
-            0x52, 0x4A, 0x95, 0x54, 0x92, 0xA5, 0x2A, 0xA2, 0x54, 0x95, 0x55,
-        ],
-    ),
-];
-
-// How many bytes and dots rows have, and the hash FNV-1a of all of them.
-fn measured(rows: &[u8]) -> (usize, u64, u64) {
-    let mut dots = 0u64;
-    let mut hash = 0xCBF2_9CE4_8422_2325u64;
-    for byte in rows {
-        dots = dots.wrapping_add(u64::from(byte.count_ones()));
-        hash = (hash ^ u64::from(*byte)).wrapping_mul(0x100_0000_01B3);
-    }
-    (rows.len(), dots, hash)
-}
-
-// How many of the known rows are among these of 25 bytes each.
-fn known_rows(rows: &[u8]) -> usize {
-    let mut known = 0usize;
-    for &(y, row) in &KNOWN_ROWS {
-        let at = 25 * usize::from(y);
-        if at + 25 <= rows.len() && rows[at..at + 25] == row[..] {
-            known = known.wrapping_add(1);
-        }
-    }
-    known
+    assert_eq!(rt; gate.met(), 2);
 }
 
 #[test]
 fn two_tiles_inside_the_gate_give_the_known_dots(rt: HostRuntime) {
-    let gate = MeetingGate {
-        came: AtomicU64::new(0),
-        met: AtomicU64::new(0),
-    };
+    let gate = MeetingGate::make();
     let Some(rows) = rows_of(&rt, rt.alloc(), &LEVEL, 2, &gate) else {
         panic!(rt; "memory");
     };
     let found = (
         measured(rows.as_slice()),
         known_rows(rows.as_slice()),
-        gate.met.load(Ordering::SeqCst),
+        gate.met(),
     );
-    assert_eq!(rt; found, ((1750, 5478, 0x2A21_B4D5_2C4F_EE94), 5, 2));
+    assert_eq!(rt; found, (LEVEL_SLAB, 5, 2));
 }
 
 #[test]
 fn each_kernel_gives_the_known_dots(rt: HostRuntime) {
-    for &(kernel, dots, hash) in &[
-        (Kernel::Floyd, 5478, 0x2A21_B4D5_2C4F_EE94),
-        (Kernel::Jarvis, 5462, 0x5D01_39B5_D3AF_00D3),
-        (Kernel::Stucki, 5463, 0x7FC7_7ACE_F554_46DD),
-    ] {
+    const ROWS: [(Kernel, Measure); 3] = [
+        (Kernel::Floyd, LEVEL_SLAB),
+        (Kernel::Jarvis, (1750, 5462, 0x5D01_39B5_D3AF_00D3)),
+        (Kernel::Stucki, (1750, 5463, 0x7FC7_7ACE_F554_46DD)),
+    ];
+    for &(kernel, wanted) in &ROWS {
         let case = Case { kernel, ..LEVEL };
         let Some(rows) = rows_of(&rt, rt.alloc(), &case, 3, &OpenGate) else {
             panic!(rt; "memory");
         };
-        assert_eq!(rt; measured(rows.as_slice()), (1750, dots, hash));
+        assert_eq!(rt; measured(rows.as_slice()), wanted);
     }
 }
 

@@ -4,6 +4,7 @@ use driver_fixtures::{
     Left, add_page, begin, failing_shelf, joined, no_files, one_file, plain, roomy, run_over,
     source, words,
 };
+use fnv_hash::hash_of;
 use ink_meter::Meter;
 use pwg_header::Kind;
 use std::alloc::{AllocError, Global};
@@ -227,13 +228,4 @@ pub fn refuses_all<R: Abort + Threads + Sync>(
         leaves(rt, &refused(rt, alloc, words)?, (*status, b"", line));
     }
     Ok(())
-}
-
-/// The FNV-1a hash of 64 bits.
-pub fn hash_of(bytes: &[u8]) -> u64 {
-    let mut hash: u64 = 0xCBF2_9CE4_8422_2325;
-    for byte in bytes {
-        hash = (hash ^ u64::from(*byte)).wrapping_mul(0x100_0000_01B3);
-    }
-    hash
 }

@@ -2,6 +2,7 @@
 use crate::fixture::{hashes_to, one_page, plays_to};
 use driver_core::{Gate, Place};
 use driver_fixtures::{Left, no_files, plain, roomy, run_with};
+use slab_fixtures::MeetingGate;
 use std::alloc::Global;
 use std::sync::atomic::{AtomicU64, Ordering};
 use std::test::Fail;
@@ -22,43 +23,15 @@ fn print_through<R: Threads + Sync, G: Gate + Sync>(
     Ok(Left { status, out, err })
 }
 
-// How often a tile waits for another.
-const TURNS: u32 = 100_000_000;
-
-// A gate that holds two independent tiles until both have come.
-#[derive(Drop)]
-struct MeetingGate {
-    came: AtomicU64,
-    met: AtomicU64,
-}
-
-impl Gate for MeetingGate {
-    fn enter(&self, p: Place) {
-        if p != (Place { c: 2, j: 0 }) && p != (Place { c: 0, j: 1 }) {
-            return;
-        }
-        self.came.fetch_add(1, Ordering::SeqCst);
-        for _ in 0..TURNS {
-            if self.came.load(Ordering::SeqCst) == 2 {
-                self.met.fetch_add(1, Ordering::SeqCst);
-                return;
-            }
-        }
-    }
-}
-
 #[test]
 fn two_tiles_are_inside_the_gate_at_once(rt: HostRuntime) -> Result<(), Fail> {
     let alloc = rt.alloc();
     // the whole page in one grey
     let page = one_page(alloc, 200, 70, &[0x45, 0x7F, 0x9B, 0x47, 0x9B])?;
-    let gate = MeetingGate {
-        came: AtomicU64::new(0),
-        met: AtomicU64::new(0),
-    };
+    let gate = MeetingGate::make();
     let by_two = print_through(&rt, alloc, "workers=2", page, &gate)?;
     hashes_to(&rt, &by_two, 3192, 0xDFF3_6ADB_6A87_5A1D);
-    assert!(rt; gate.met.load(Ordering::SeqCst) == 2);
+    assert!(rt; gate.met() == 2);
     Ok(())
 }
 

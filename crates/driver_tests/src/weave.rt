@@ -1,13 +1,14 @@
 //! Pages printed by heads of several nozzles, and a run without a word for the profile.
 use crate::any_printer::{PLAINEST, Printer};
 use crate::fixture::{
-    BytesRow, PRINT, PageRow, TINY, Wanted, change, hash_of, hashes_to, leaves, leaves_parts,
-    run_bytes, try_bytes, try_pages,
+    BytesRow, PRINT, PageRow, TINY, Wanted, change, hashes_to, leaves, leaves_parts, run_bytes,
+    try_bytes, try_pages,
 };
 use crate::machine::execute;
 use driver_fixtures::{
     BLACK_BODY, Left, add_header, begin, black_pages, no_files, plain, run_over, sink,
 };
+use fnv_hash::hash_of;
 use known_jobs::TINY_JOB;
 use pwg_header::Kind;
 use std::alloc::Global;
@@ -113,10 +114,14 @@ fn add_line(bytes: &mut Vec<u8>, byte: u8) -> Result<(), Fail> {
     Ok(())
 }
 
-// An A4 page of red, green and blue at 360 dots an inch, all of one byte.
+// The place of the last byte of Duplex in the header of a stream's first page (PWG 5102.4, section 4.3).
+const DUPLEX: usize = 279;
+
+// An A4 page of red, green and blue at 360 dots an inch, all of one byte, to be printed on both sides.
 fn a4(alloc: Global, byte: u8) -> Result<Vec<u8>, Fail> {
     let mut bytes = begin(alloc)?;
     add_header(&mut bytes, Kind::Rgb8, (360, 360), (2976, 4209))?;
+    change(&mut bytes, &[(DUPLEX, 1)]);
     for group in 0..17 {
         bytes.push(if group < 16 { 255 } else { 112 })?;
         add_line(&mut bytes, byte)?;
@@ -150,16 +155,23 @@ fn plays_a4<R: Abort + Threads + Sync>(
     Ok(())
 }
 
-// Prints an A4 page, all of one byte.
-fn print_a4<R: Threads + Sync>(rt: &R, alloc: Global, byte: u8) -> Result<Left, Fail> {
+// Prints an A4 page, all of one byte, whose stream has this hash.
+fn print_a4<R: Abort + Threads + Sync>(
+    rt: &R,
+    alloc: Global,
+    byte: u8,
+    hash: u64,
+) -> Result<Left, Fail> {
     let words = ["print", "profile=p360cmyk", "workers=4"];
-    Ok(run_bytes(rt, alloc, &words, a4(alloc, byte)?, no_files(alloc))?)
+    let page = a4(alloc, byte)?;
+    let found = (page.len(), hash_of(&page));
+    assert!(rt; found == (3449, hash), "{found:?}");
+    Ok(run_bytes(rt, alloc, &words, page, no_files(alloc))?)
 }
 
 #[test]
 fn a_black_a4_takes_277_rasters(rt: HostRuntime) -> Result<(), Fail> {
-    assert!(rt; a4(rt.alloc(), 0)?.len() == 3449);
-    let left = print_a4(&rt, rt.alloc(), 0)?;
+    let left = print_a4(&rt, rt.alloc(), 0, 0x81C3_9434_9E4F_387E)?;
     hashes_to(&rt, &left, 38_413, 0xAC5A_E1A3_CCA8_296C);
     let found = fired(rt.alloc(), left.out.bytes())?;
     assert!(rt; found == (1, 277, [11_800_854, 0, 0, 0]), "{found:?}");
@@ -175,7 +187,7 @@ const WHITE_A4: [u8; 49] = [
 
 #[test]
 fn a_white_a4_is_forty_nine_bytes(rt: HostRuntime) -> Result<(), Fail> {
-    let left = print_a4(&rt, rt.alloc(), 0xFF)?;
+    let left = print_a4(&rt, rt.alloc(), 0xFF, 0x8657_F188_D501_119E)?;
     leaves(&rt, &left, (0, &WHITE_A4, b""));
     Ok(())
 }

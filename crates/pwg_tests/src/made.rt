@@ -1,6 +1,7 @@
 //! Made streams, appended and read as a source. What is expected was computed by a program that is not of this
 //! repository.
 use crate::checks::{WANT, same, same_bytes};
+use fnv_hash::hash_of;
 use page_maker::{PageMaker, made_form, make_pages};
 use pwg_header::{HEADER_LEN, Kind, write_header};
 use pwg_stream::PageReader;
@@ -100,15 +101,6 @@ fn each_kind_is_made(rt: HostRuntime) -> Result<(), Fail> {
         same(&rt, "a stream", &got, &(made.length, made.sum));
     }
     Ok(())
-}
-
-// The FNV-1a hash of 64 bits.
-fn hash_of(bytes: &[u8]) -> u64 {
-    let mut hash: u64 = 0xCBF2_9CE4_8422_2325;
-    for byte in bytes {
-        hash = (hash ^ u64::from(*byte)).wrapping_mul(0x100_0000_01B3);
-    }
-    hash
 }
 
 #[test]

@@ -11,6 +11,7 @@ mod boards;
 
 use diffusion_kernel::Kernel;
 use dot_planes::{InkRows, Planes, TileDots};
+use slab_fixtures::{LEVEL_SLAB, known_rows, measured};
 use std::alloc::Global;
 use std::fmt::Debug;
 use std::process::Abort;
@@ -18,51 +19,6 @@ use std::thread::{Threads, for_each_mut};
 use tile_board::{Board, Claim, Closed, Pass};
 use tile_border::TopEdges;
 use tile_shape::{Place, Shape};
-
-// Rows of the dots by Floyd and Steinberg's kernel, where every amount of 200 columns and 70 rows is 100, as an
-// independent program computed them.
-const KNOWN_ROWS: [(u32, [u8; 25]); 5] = [
-    (
-        0,
-        [
-            0x49, 0x24, 0x92, 0x49, 0x24, 0x92, 0x49, 0x24, 0x92, 0x49, 0x24, 0x92, 0x49, 0x24,
-            0x92, 0x49, 0x24, 0x92, 0x49, 0x24, 0x92, 0x49, 0x24, 0x92, 0x49,
-        ],
-    ),
-    (
-        1,
-        [
-            0x54, 0xAA, 0x55, 0x2A, 0x95, 0x4A, 0xA5, 0x52, 0xA9, 0x54, 0xAA, 0x55, 0x2A, 0x95,
-            0x4A, 0xA5, 0x52, 0xA9, 0x54, 0xAA, 0x55, 0x2A, 0x95, 0x4A, 0xA4,
-        ],
-    ),
-    (
-        2,
-        [
-            0x4A, 0x92, 0xA4, 0xA4, 0xA9, 0x29, 0x2A, 0x4A, 0x4A, 0x92, 0x92, 0xA4, 0xA4, 0xA9,
-            0x29, 0x2A, 0x4A, 0x4A, 0x92, 0x92, 0xA4, 0xA4, 0xA9, 0x29, 0x2A,
-        ],
-    ),
-    (
-        3,
-        [
-            0x24, 0xA9, 0x12, 0x92, 0x44, 0xA4, 0x91, 0x29, 0x24, 0x4A, 0x49, 0x12, 0x92, 0x44,
-            0xA4, 0x91, 0x29, 0x24, 0x4A, 0x49, 0x12, 0x92, 0x44, 0xA4, 0x92,
-        ],
-    ),
-    (
-        69,
-        [
-            0x24, 0xA8, 0xA5, 0x29, 0x24, 0x92, 0x52, 0x49, 0x29, 0x2A, 0x54, 0x8A, 0x4A, 0x45,
-            0x52, 0x4A, 0x95, 0x54, 0x92, 0xA5, 0x2A, 0xA2, 0x54, 0x95, 0x55,
-        ],
-    ),
-];
-
-// How many dots there are, and the hash FNV-1a of all rows.
-const KNOWN_COUNT: u64 = 5478;
-
-const KNOWN_HASH: u64 = 0x2A21_B4D5_2C4F_EE94;
 
 // 200 columns and 70 rows of amount 100, in one ink.
 fn level_rows(alloc: Global) -> Option<InkRows>
@@ -292,32 +248,16 @@ fn laid(alloc: Global, tiles: &[TileDots]) -> Option<Planes>
     Some(planes)
 }
 
-// The hash FNV-1a of all rows of the one ink.
-fn hash_of(planes: &Planes) -> u64
+// The rows of the one ink, one after another.
+fn rows_of(alloc: Global, planes: &Planes) -> Option<Vec<u8>>
     requires rows { planes.now.rows ≡ 70 }
     requires inks { planes.now.inks ≡ 1 }
 {
-    let mut hash = 0xCBF2_9CE4_8422_2325u64;
+    let mut rows = Vec::new(alloc);
     for y in 0..70 {
-        for byte in planes.row(0, y) {
-            hash = (hash ^ u64::from(*byte)).wrapping_mul(0x100_0000_01B3);
-        }
+        rows.extend_from_slice(planes.row(0, y)).ok()?;
     }
-    hash
-}
-
-// How many of the known rows the planes have.
-fn known_rows(planes: &Planes) -> usize
-    requires rows { planes.now.rows ≡ 70 }
-    requires inks { planes.now.inks ≡ 1 }
-{
-    let mut known = 0usize;
-    for &(y, row) in &KNOWN_ROWS {
-        if y < 70 && planes.row(0, y) == row.as_slice() {
-            known = known.wrapping_add(1);
-        }
-    }
-    known
+    Some(rows)
 }
 
 // Stops the test where a call did not give what was wanted.
@@ -333,10 +273,13 @@ fn has_known_dots(rt: &impl Abort, alloc: Global, closed: Option<Closed>) {
     let Some(planes) = laid(alloc, closed.dots.as_slice()) else {
         panic!(rt; "memory");
     };
-    let sizes = (closed.dots.len(), planes.count(0));
-    same(rt, "the tiles and dots", &sizes, &(15, KNOWN_COUNT));
-    let found = (known_rows(&planes), hash_of(&planes));
-    same(rt, "the known rows", &found, &(5, KNOWN_HASH));
+    let Some(rows) = rows_of(alloc, &planes) else {
+        panic!(rt; "memory");
+    };
+    let found = (measured(&rows), known_rows(&rows));
+    same(rt, "the dots", &found, &(LEVEL_SLAB, 5));
+    let counted = (closed.dots.len(), planes.count(0));
+    same(rt, "the tiles and dots", &counted, &(15, LEVEL_SLAB.1));
 }
 
 #[test]
