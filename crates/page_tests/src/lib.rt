@@ -9,13 +9,13 @@ mod healed;
 #[cfg(test)]
 mod making_up;
 #[cfg(test)]
+mod pages;
+#[cfg(test)]
 mod shingled;
 #[cfg(test)]
 mod shingling;
 #[cfg(test)]
 mod weaving;
-#[cfg(test)]
-mod windows;
 #[cfg(test)]
 mod workers;
 #[cfg(test)]

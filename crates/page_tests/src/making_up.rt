@@ -22,7 +22,7 @@ fn what_is_wrong_is_told(rt: HostRuntime) {
     same(&rt, "all and more", &check_dead(3, &[0, 1, 2, 3]), &outside);
 }
 
-/// The starts of the strokes, and the rows under their nozzles, stroke by stroke.
+// The starts of the strokes, and the rows under their nozzles, stroke by stroke.
 fn all_rows(
     alloc: Global,
     plan: &StrokePlan,
@@ -73,7 +73,7 @@ fn the_first_nozzle_makes_up_for_the_last(rt: HostRuntime) -> Result<(), Fail> {
     Ok(())
 }
 
-/// How many strokes and nozzles fire a row, and the last of these nozzles.
+// How many strokes and nozzles fire a row, and the last of these nozzles.
 fn fired(plan: &StrokePlan, nozzles: u8, row: u32) -> (u64, u8)
     requires { nozzles ≡ plan.now.nozzles }
 {
@@ -90,7 +90,7 @@ fn fired(plan: &StrokePlan, nozzles: u8, row: u32) -> (u64, u8)
     (found, last)
 }
 
-/// Finds each row of a window once, at a nozzle that is not dead.
+// Finds each row of a window once, at a nozzle that is not dead.
 fn count_each_row(
     rt: &impl Abort,
     alloc: Global,

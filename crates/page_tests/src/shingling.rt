@@ -41,7 +41,7 @@ fn heads_fit_by_half_their_nozzles(rt: HostRuntime) {
     }
 }
 
-/// How many passes and nozzles fire the even columns of a row, and how many its odd ones.
+// How many passes and nozzles fire the even columns of a row, and how many its odd ones.
 fn fired(plan: &ShinglePlan, nozzles: u8, row: u32) -> (u64, u64)
     requires { nozzles ≡ plan.now.nozzles }
 {
@@ -61,7 +61,7 @@ fn fired(plan: &ShinglePlan, nozzles: u8, row: u32) -> (u64, u64)
     (even, odd)
 }
 
-/// How many passes and nozzles fire a row.
+// How many passes and nozzles fire a row.
 fn all_fired(plan: &ShinglePlan, nozzles: u8) -> u64
     requires { nozzles ≡ plan.now.nozzles }
 {
@@ -76,7 +76,7 @@ fn all_fired(plan: &ShinglePlan, nozzles: u8) -> u64
     found
 }
 
-/// Finds each row of a window twice, at its even columns and at its odd ones, and no other row.
+// Finds each row of a window twice, at its even columns and at its odd ones, and no other row.
 fn count_each_row(rt: &impl Abort, nozzles: u8, pitch: u8, height: u32)
     requires fits { Shingles nozzles pitch }
     requires some_rows { 1 ≤ height }

@@ -9,7 +9,7 @@ use std::process::Abort;
 use std::test::Fail;
 use weave_plan::{PassPlace, Plan};
 
-/// The rows under the nozzles of a head, pass by pass.
+// The rows under the nozzles of a head, pass by pass.
 fn all_rows(alloc: Global, plan: &Plan, nozzles: u8) -> Result<Vec<Option<u32>>, Fail>
     requires { nozzles ≡ plan.now.nozzles }
 {
@@ -22,7 +22,7 @@ fn all_rows(alloc: Global, plan: &Plan, nozzles: u8) -> Result<Vec<Option<u32>>,
     Ok(rows)
 }
 
-/// The pass and the nozzle of each of the first rows of a window.
+// The pass and the nozzle of each of the first rows of a window.
 fn all_places(alloc: Global, plan: &Plan, rows: u32) -> Result<Vec<(u32, u8)>, Fail>
     requires { rows ≤ plan.now.height }
 {
@@ -78,7 +78,7 @@ fn the_plan_fires_rows_zero_and_one(rt: HostRuntime) -> Result<(), Fail> {
     Ok(())
 }
 
-/// How many passes and nozzles fire a row, and the last of them.
+// How many passes and nozzles fire a row, and the last of them.
 fn seek(plan: &Plan, nozzles: u8, row: u32) -> (u64, PassPlace)
     requires { nozzles ≡ plan.now.nozzles }
 {
@@ -95,7 +95,7 @@ fn seek(plan: &Plan, nozzles: u8, row: u32) -> (u64, PassPlace)
     (found, place)
 }
 
-/// Searches all passes and nozzles for each row of a window, and finds it once, where the plan says.
+// Searches all passes and nozzles for each row of a window, and finds it once, where the plan says.
 fn seek_each_row(rt: &impl Abort, nozzles: u8, pitch: u8, height: u32)
     requires some_nozzles { 1 ≤ nozzles }
     requires some_pitch { 1 ≤ pitch }
