@@ -43,7 +43,7 @@ struct Left {
     black: Option<u64>,
 }
 
-// Runs these words, at most nine, with one meter of this cap.
+// Runs these words, at most twelve, with one meter of this cap.
 fn run_words<R: Threads + Wait + Sync>(
     rt: &R,
     alloc: Global,
@@ -104,15 +104,6 @@ fn jobs_of(alloc: Global, done: &[Ran], sender: u8) -> Result<Vec<(u32, u8, u32)
         }
     }
     Ok(jobs)
-}
-
-// The job of a black page, so many times.
-fn tiny_jobs(alloc: Global, count: usize) -> Result<Vec<u8>, Fail> {
-    let mut bytes = Vec::new(alloc);
-    for _ in 0..count {
-        bytes.extend_from_slice(&TINY_JOB)?;
-    }
-    Ok(bytes)
 }
 
 // A run and what it leaves: the status, for each sender the number, the status and the pages of its jobs, how many jobs
@@ -192,7 +183,7 @@ fn same_texts(
 ) -> Result<(), Fail> {
     let lines = lines_of(alloc, &left.report.done, case.line)?;
     same(rt, at, &left.err.bytes(), &lines.as_bytes());
-    let jobs = tiny_jobs(alloc, case.pages)?;
+    let jobs = TINY_JOB.repeat(alloc, case.pages)?;
     same(rt, at, &left.out.bytes(), &jobs.as_slice());
     Ok(())
 }
@@ -407,18 +398,6 @@ fn the_spool_stops_at_a_failed_write(rt: HostRuntime) -> Result<(), Fail> {
     Ok(())
 }
 
-// The word of a sender that sends a file so many times.
-fn send_word(alloc: Global, name: &str, count: u32) -> Result<String, Fail> {
-    let mut word = String::from_str(alloc, "send=")?;
-    for i in 0..count {
-        if i > 0 {
-            word.push(',')?;
-        }
-        word.push_str(name)?;
-    }
-    Ok(word)
-}
-
 // Runs eight senders of so many jobs each, every one with a stream of so many black pages, by 64 workers. Stops the
 // test where one of them is not there, not in its order, or ends otherwise.
 fn run_eight<R: Abort + Threads + Wait + Sync>(
@@ -427,7 +406,8 @@ fn run_eight<R: Abort + Threads + Wait + Sync>(
     (count, pages): (u32, u32),
     (status, job_status): (u8, u8),
 ) -> Result<(), Fail> {
-    let word = send_word(alloc, "a", count)?;
+    let others = ",a".repeat(alloc, count.saturating_sub(1) as usize)?;
+    let word = format!(in alloc; "send=a{others}")?;
     let send = word.as_str();
     let texts = [
         "profile=tiny",

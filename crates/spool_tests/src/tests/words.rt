@@ -301,27 +301,19 @@ fn a_sender_has_no_more_than_64_names(rt: HostRuntime) -> Result<(), Fail> {
     Ok(())
 }
 
-// A word whose value is this letter so many times.
-fn long_word(alloc: Global, key: &str, letter: char, count: u32) -> Result<String, Fail> {
-    let mut word = String::from_str(alloc, key)?;
-    for _ in 0..count {
-        word.push(letter)?;
-    }
-    Ok(word)
-}
-
 #[test]
 fn names_have_no_more_than_255_bytes(rt: HostRuntime) -> Result<(), Fail> {
-    const WORDS: [(&str, char, u32, bool); 6] = [
-        ("send=a,", 'x', 255, true),
-        ("send=a,", 'x', 256, false),
-        ("send=", '\u{e9}', 127, true),
-        ("send=", '\u{e9}', 128, false),
-        ("profile=", 'x', 255, true),
-        ("profile=", 'x', 256, false),
+    const WORDS: [(&str, &str, usize, bool); 6] = [
+        ("send=a,", "x", 255, true),
+        ("send=a,", "x", 256, false),
+        ("send=", "\u{e9}", 127, true),
+        ("send=", "\u{e9}", 128, false),
+        ("profile=", "x", 255, true),
+        ("profile=", "x", 256, false),
     ];
     for &(key, letter, count, is_taken) in &WORDS {
-        let word = long_word(rt.alloc(), key, letter, count)?;
+        let name = letter.repeat(rt.alloc(), count)?;
+        let word = format!(in rt.alloc(); "{key}{name}")?;
         let words = words_of(rt.alloc(), &["send=b", word.as_str()])?;
         assert!(rt;
             read_spool_words(&words).is_ok() == is_taken,
