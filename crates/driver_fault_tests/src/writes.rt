@@ -2,6 +2,7 @@
 use crate::answers::Answer;
 use crate::inputs::Input;
 use crate::runs::{BY_BYTES, Calls, Command, call_behind, leaves, words_leave};
+use known_jobs::TINY_TEXT;
 use std::alloc::Global;
 use std::process::Abort;
 use std::test::Fail;
@@ -45,29 +46,20 @@ fn every_failing_write_leaves_its_prefix(rt: HostRuntime) -> Result<(), Fail> {
     Ok(())
 }
 
-// The canonical text of the printer `tiny`.
-const TINY: &str =
-    "escp2-profile 2\nhdpi=360\nvdpi=360\nnozzles=3\npitch=2\ninks=k\nblack_start=0\n\
-    limit_k=255\nlimit_c=255\nlimit_m=255\nlimit_y=255\nleft=0\nright=0\ntop=4\nbottom=0\n\
-    curve_k=0,16,32,48,64,80,96,112,128,144,160,176,192,208,224,240,256\n\
-    curve_c=0,16,32,48,64,80,96,112,128,144,160,176,192,208,224,240,256\n\
-    curve_m=0,16,32,48,64,80,96,112,128,144,160,176,192,208,224,240,256\n\
-    curve_y=0,16,32,48,64,80,96,112,128,144,160,176,192,208,224,240,256\n";
-
 // Words that read no input, and what they write.
-const LINES: [(&[&str], &str); 2] = [
+const LINES: [(&[&str], &[u8]); 2] = [
     (
         &["trial", "profile=tiny1", "seed=0", "width=4", "height=2"],
-        "pages=1 sheets=1 bytes=70 rasters=1 k=2 c=0 m=0 y=0\n",
+        b"pages=1 sheets=1 bytes=70 rasters=1 k=2 c=0 m=0 y=0\n",
     ),
-    (&["profile", "profile=tiny"], TINY),
+    (&["profile", "profile=tiny"], TINY_TEXT),
 ];
 
 // What words that write this text and read nothing leave where a write fails after so many bytes.
-fn cut(alloc: Global, text: &str, written: usize) -> Result<Answer, Fail> {
+fn cut(alloc: Global, text: &[u8], written: usize) -> Result<Answer, Fail> {
     let whole = Answer {
         status: 0,
-        out: text.as_bytes().to_vec(alloc)?,
+        out: text.to_vec(alloc)?,
         ends: Vec::new(alloc),
         line: String::new(alloc),
         mends: true,
@@ -80,7 +72,7 @@ fn try_text<R: Abort + Threads + Sync>(
     rt: &R,
     alloc: Global,
     words: &[&str],
-    text: &str,
+    text: &[u8],
 ) -> Result<(), Fail> {
     for written in 0..text.len().saturating_add(1) {
         let calls = Calls {

@@ -2,6 +2,5 @@
 //!
 //! The pages are few and plain, so that their dots are counted by hand.
 mod caps;
-mod card;
 mod fixture;
 mod many_meters;

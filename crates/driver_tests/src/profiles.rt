@@ -4,6 +4,7 @@ use crate::fixture::{
 };
 use crate::printers::MOVED_JOB;
 use driver_fixtures::{Left, failing_shelf, plain, run_over, sink};
+use known_jobs::TINY_TEXT;
 use pwg_header::Kind;
 use std::alloc::Global;
 use std::test::Fail;
@@ -36,15 +37,6 @@ fn each_bad_word_has_its_cause(rt: HostRuntime) -> Result<(), Fail> {
     ];
     refuses_all(&rt, rt.alloc(), &CASES)
 }
-
-/// The canonical text of the printer `tiny`.
-pub const TINY_TEXT: &[u8] =
-    b"escp2-profile 2\nhdpi=360\nvdpi=360\nnozzles=3\npitch=2\ninks=k\nblack_start=0\nlimit_k=255\nlimit_c=255\n\
-    limit_m=255\nlimit_y=255\nleft=0\nright=0\ntop=4\nbottom=0\n\
-    curve_k=0,16,32,48,64,80,96,112,128,144,160,176,192,208,224,240,256\n\
-    curve_c=0,16,32,48,64,80,96,112,128,144,160,176,192,208,224,240,256\n\
-    curve_m=0,16,32,48,64,80,96,112,128,144,160,176,192,208,224,240,256\n\
-    curve_y=0,16,32,48,64,80,96,112,128,144,160,176,192,208,224,240,256\n";
 
 // Shows a profile, of which so many bytes are written. The first read of the shelf fails.
 fn show_built_in<R: Threads + Sync>(rt: &R, alloc: Global, room: usize) -> Result<Left, Fail> {

@@ -1,5 +1,6 @@
-//! Print jobs of one page that were worked out by hand: the plain one as bytes, as commands and as the images of its
-//! sheet, the others as bytes. They are for the tests of the crates that read, run and write jobs.
+//! Print jobs of one page on the printer `tiny`, and that printer's text. They were worked out by hand: the plain job as
+//! bytes, as commands and as the images of its sheet, the others as bytes. They are for the tests of the crates that
+//! read, run and write jobs, and of those that read and write profiles.
 #![tactic(auto)]
 
 use escp2_definitions::{Command, RasterHead};
@@ -88,3 +89,12 @@ pub const TINY_IMAGES: &[u8] = b"P4\n8 6\n\x00\x00\x00\x00\xFF\xFF\
     P4\n8 6\n\x00\x00\x00\x00\x00\x00\
     P4\n8 6\n\x00\x00\x00\x00\x00\x00\
     P4\n8 6\n\x00\x00\x00\x00\x00\x00";
+
+/// The canonical text of the printer `tiny`.
+pub const TINY_TEXT: &[u8] =
+    b"escp2-profile 2\nhdpi=360\nvdpi=360\nnozzles=3\npitch=2\ninks=k\nblack_start=0\nlimit_k=255\nlimit_c=255\n\
+    limit_m=255\nlimit_y=255\nleft=0\nright=0\ntop=4\nbottom=0\n\
+    curve_k=0,16,32,48,64,80,96,112,128,144,160,176,192,208,224,240,256\n\
+    curve_c=0,16,32,48,64,80,96,112,128,144,160,176,192,208,224,240,256\n\
+    curve_m=0,16,32,48,64,80,96,112,128,144,160,176,192,208,224,240,256\n\
+    curve_y=0,16,32,48,64,80,96,112,128,144,160,176,192,208,224,240,256\n";

@@ -1,4 +1,5 @@
 //! Profiles by their names, their checks and their texts.
+use known_jobs::TINY_TEXT;
 use printer_profile::{
     InkSet, PageForm, Profile, ProfileFault, STRAIGHT_CURVE, SetFault, TextCause, TextFault,
     Window, built_in, read,
@@ -8,7 +9,9 @@ use std::alloc::Global;
 use std::process::Abort;
 use std::test::Fail;
 
-/// The built-in profile `p720cmyk`.
+const STRAIGHT: [[u16; 17]; 4] = [STRAIGHT_CURVE; 4];
+
+// The built-in profile `p720cmyk`.
 const GOOD: Profile = Profile {
     hdpi: 720,
     vdpi: 720,
@@ -17,7 +20,7 @@ const GOOD: Profile = Profile {
     inks: InkSet::Cmyk,
     black_start: 64,
     limits: [255, 224, 224, 224],
-    curves: [STRAIGHT_CURVE; 4],
+    curves: STRAIGHT,
     left: 90,
     right: 90,
     top: 240,
@@ -27,11 +30,11 @@ const GOOD: Profile = Profile {
 const HALF: [u16; 17] = [
     0, 8, 16, 24, 32, 40, 48, 56, 64, 72, 80, 88, 96, 104, 112, 120, 128,
 ];
-/// All of the ink from the amount 16 on.
+// All of the ink from the amount 16 on.
 const FULL: [u16; 17] = [
     0, 256, 256, 256, 256, 256, 256, 256, 256, 256, 256, 256, 256, 256, 256, 256, 256,
 ];
-/// Flat from the amount 16 to 32, and from 48 on.
+// Flat from the amount 16 to 32, and from 48 on.
 const STEPS: [u16; 17] = [
     0, 10, 10, 20, 20, 20, 20, 20, 20, 20, 20, 20, 20, 20, 20, 20, 20,
 ];
@@ -44,86 +47,99 @@ const ONES: [u16; 17] = [1; 17];
 
 const LAST_FALLS: [u16; 17] = [1, 1, 1, 1, 1, 1, 1, 1, 1, 1, 1, 1, 1, 1, 1, 1, 0];
 
-const CHECKS: [(Profile, Result<(), ProfileFault>); 14] = [
-    (GOOD, Ok(())),
-    (Profile { hdpi: 300, ..GOOD }, Err(ProfileFault::Resolution)),
-    (Profile { vdpi: 0, ..GOOD }, Err(ProfileFault::Resolution)),
-    (Profile { nozzles: 0, ..GOOD }, Err(ProfileFault::Nozzles)),
-    (Profile { pitch: 0, ..GOOD }, Err(ProfileFault::Pitch)),
+// The resolutions of a profile, its nozzles and pitch, the start of its black, and its top margin.
+type Numbers = ((u16, u16), (u8, u8), u8, u16);
+
+const GOOD_NUMBERS: Numbers = ((720, 720), (31, 8), 64, 240);
+
+const CHECKS: [(Numbers, [[u16; 17]; 4], Result<(), ProfileFault>); 14] = [
+    (GOOD_NUMBERS, STRAIGHT, Ok(())),
     (
-        Profile {
-            nozzles: 32,
-            top: 300,
-            ..GOOD
-        },
+        ((300, 720), (31, 8), 64, 240),
+        STRAIGHT,
+        Err(ProfileFault::Resolution),
+    ),
+    (
+        ((720, 0), (31, 8), 64, 240),
+        STRAIGHT,
+        Err(ProfileFault::Resolution),
+    ),
+    (
+        ((720, 720), (0, 8), 64, 240),
+        STRAIGHT,
+        Err(ProfileFault::Nozzles),
+    ),
+    (
+        ((720, 720), (31, 0), 64, 240),
+        STRAIGHT,
+        Err(ProfileFault::Pitch),
+    ),
+    (
+        ((720, 720), (32, 8), 64, 300),
+        STRAIGHT,
         Err(ProfileFault::NotCoprime { gcd: 8 }),
     ),
     (
-        Profile {
-            vdpi: 360,
-            nozzles: 1,
-            pitch: 26,
-            ..GOOD
-        },
+        ((720, 360), (1, 26), 64, 240),
+        STRAIGHT,
         Err(ProfileFault::RowStep),
     ),
     (
-        Profile { top: 239, ..GOOD },
+        ((720, 720), (31, 8), 64, 239),
+        STRAIGHT,
         Err(ProfileFault::TopMargin { needs: 240 }),
     ),
     (
-        Profile {
-            black_start: 255,
-            ..GOOD
-        },
+        ((720, 720), (31, 8), 255, 240),
+        STRAIGHT,
         Err(ProfileFault::BlackStart),
     ),
+    (GOOD_NUMBERS, [HALF, FULL, STEPS, [0; 17]], Ok(())),
     (
-        Profile {
-            curves: [HALF, FULL, STEPS, [0; 17]],
-            ..GOOD
-        },
-        Ok(()),
-    ),
-    (
-        Profile {
-            curves: [ONES, STRAIGHT_CURVE, STRAIGHT_CURVE, STRAIGHT_CURVE],
-            ..GOOD
-        },
+        GOOD_NUMBERS,
+        [ONES, STRAIGHT_CURVE, STRAIGHT_CURVE, STRAIGHT_CURVE],
         Err(ProfileFault::Curve { ink: 0 }),
     ),
     (
-        Profile {
-            curves: [STRAIGHT_CURVE, FALLS, STRAIGHT_CURVE, ONES],
-            ..GOOD
-        },
+        GOOD_NUMBERS,
+        [STRAIGHT_CURVE, FALLS, STRAIGHT_CURVE, ONES],
         Err(ProfileFault::Curve { ink: 1 }),
     ),
     (
-        Profile {
-            curves: [STRAIGHT_CURVE, HALF, FULL, FALLS],
-            ..GOOD
-        },
+        GOOD_NUMBERS,
+        [STRAIGHT_CURVE, HALF, FULL, FALLS],
         Err(ProfileFault::Curve { ink: 3 }),
     ),
     (
-        Profile {
-            black_start: 255,
-            curves: [ONES; 4],
-            ..GOOD
-        },
+        ((720, 720), (31, 8), 255, 240),
+        [ONES; 4],
         Err(ProfileFault::BlackStart),
     ),
 ];
 
-#[test]
-fn profile_checks_name_gcd_margin_and_step(rt: HostRuntime) {
-    for (profile, answer) in &CHECKS {
-        assert_eq!(rt; profile.check(), *answer);
+// The good profile with these numbers and curves.
+fn profile_of(numbers: Numbers, curves: [[u16; 17]; 4]) -> Profile {
+    let ((hdpi, vdpi), (nozzles, pitch), black_start, top) = numbers;
+    Profile {
+        hdpi,
+        vdpi,
+        nozzles,
+        pitch,
+        black_start,
+        curves,
+        top,
+        ..GOOD
     }
 }
 
-/// The tone of an amount of black, and of an amount of yellow, if the profile has them.
+#[test]
+fn profile_checks_name_gcd_margin_and_step(rt: HostRuntime) {
+    for &(numbers, curves, answer) in &CHECKS {
+        assert_eq!(rt; profile_of(numbers, curves).check(), answer);
+    }
+}
+
+// The tone of an amount of black, and of an amount of yellow, if the profile has them.
 fn tones(profile: &Profile, a: u8) -> Option<[u8; 2]> {
     match profile.check() {
         Ok(()) => Some([profile.tone(0, a), profile.tone(3, a)]),
@@ -131,7 +147,7 @@ fn tones(profile: &Profile, a: u8) -> Option<[u8; 2]> {
     }
 }
 
-/// Profiles with the half curve, the full one and the one with flat parts for black, and the straight one for yellow.
+// Profiles with the half curve, the full one and the one with flat parts for black, and the straight one for yellow.
 const HALVED: Profile = Profile {
     curves: [HALF, FULL, FULL, STRAIGHT_CURVE],
     ..GOOD
@@ -147,7 +163,7 @@ const STEPPED: Profile = Profile {
     ..GOOD
 };
 
-/// Stops the test where amounts do not have these tones of black.
+// Stops the test where amounts do not have these tones of black.
 fn same_tones(rt: &impl Abort, profile: &Profile, cases: &[(u8, u8)]) {
     for (a, tone) in cases {
         assert!(rt; tones(profile, *a) == Some([*tone, *a]), "{a}");
@@ -201,21 +217,13 @@ const TINY_1: &[u8] =
     b"escp2-profile 1\nhdpi=360\nvdpi=360\nnozzles=3\npitch=2\ninks=k\nblack_start=0\nlimit_k=255\nlimit_c=255\n\
     limit_m=255\nlimit_y=255\nleft=0\nright=0\ntop=4\nbottom=0\n";
 
-const TINY: &[u8] =
-    b"escp2-profile 2\nhdpi=360\nvdpi=360\nnozzles=3\npitch=2\ninks=k\nblack_start=0\nlimit_k=255\nlimit_c=255\n\
-    limit_m=255\nlimit_y=255\nleft=0\nright=0\ntop=4\nbottom=0\n\
-    curve_k=0,16,32,48,64,80,96,112,128,144,160,176,192,208,224,240,256\n\
-    curve_c=0,16,32,48,64,80,96,112,128,144,160,176,192,208,224,240,256\n\
-    curve_m=0,16,32,48,64,80,96,112,128,144,160,176,192,208,224,240,256\n\
-    curve_y=0,16,32,48,64,80,96,112,128,144,160,176,192,208,224,240,256\n";
-
 #[test]
 fn profile_prints_its_canonical_text(rt: HostRuntime) -> Result<(), Fail> {
     let mut out = vec![in rt.alloc(); b'!']?;
     let tiny = built_in("tiny").ok_or("tiny")?;
     let printed = tiny.print(&mut out);
     let (prefix, text) = out.as_slice().split_at(1);
-    let is_appended = prefix == b"!".as_slice() && text == TINY;
+    let is_appended = prefix == b"!".as_slice() && text == TINY_TEXT;
     assert!(rt; printed == Ok(()) && is_appended && read(text) == Ok(tiny));
     Ok(())
 }
@@ -224,7 +232,7 @@ fn profile_prints_its_canonical_text(rt: HostRuntime) -> Result<(), Fail> {
 fn a_version_1_text_migrates(rt: HostRuntime) -> Result<(), Fail> {
     let mut out = Vec::new(rt.alloc());
     let printed = read(TINY_1)?.print(&mut out);
-    assert!(rt; printed == Ok(()) && out.as_slice() == TINY);
+    assert!(rt; printed == Ok(()) && out.as_slice() == TINY_TEXT);
     Ok(())
 }
 
@@ -311,8 +319,8 @@ fn a_text_may_leave_out_what_has_a_default(rt: HostRuntime) {
     assert_eq!(rt; read(text).ok(), built_in("tiny1"));
 }
 
-/// What follows the name of a curve's key in a refused line: another count of numbers, and values that are no numbers
-/// from 0 to 256.
+// What follows the name of a curve's key in a refused line: another count of numbers, and values that are no numbers
+// from 0 to 256.
 const BAD_CURVES: [&[u8]; 11] = [
     b"=0,16,32,48,64,80,96,112,128,144,160,176,192,208,224,240\n",
     b"=0,16,32,48,64,80,96,112,128,144,160,176,192,208,224,240,256,256\n",
@@ -329,7 +337,7 @@ const BAD_CURVES: [&[u8]; 11] = [
 
 const CURVE_KEYS: [&[u8]; 4] = [b"curve_k", b"curve_c", b"curve_m", b"curve_y"];
 
-/// Stops the test where a text of two lines, of which the second begins with the name of a key, is not refused there.
+// Stops the test where a text of two lines, of which the second begins with the name of a key, is not refused there.
 fn same_refusal(
     rt: &impl Abort,
     alloc: Global,

@@ -10,7 +10,7 @@ const TINY1_TEXT: &[u8] = b"escp2-profile 1\nhdpi=360\nvdpi=360\nnozzles=1\npitc
 
 type Found = Result<Profile, ProfileStop>;
 
-/// A shelf with one file, whose first call fails where that is asked for.
+// A shelf with one file, whose first call fails where that is asked for.
 fn shelf(alloc: Global, name: &str, bytes: Vec<u8>, fails: bool) -> Result<MemShelf, Fail> {
     let mut files = Vec::new(alloc);
     files.push(ShelfFile {
@@ -24,13 +24,13 @@ fn shelf(alloc: Global, name: &str, bytes: Vec<u8>, fails: bool) -> Result<MemSh
     Ok(MemShelf::make(files, calls))
 }
 
-/// What is found for the name `own` where the shelf has this text.
+// What is found for the name `own` where the shelf has this text.
 fn own(alloc: Global, text: Vec<u8>) -> Result<Found, Fail> {
     let mut shelf = shelf(alloc, "own", text, false)?;
     Ok(find_profile(alloc, &mut shelf, "own"))
 }
 
-/// Stops the test where a profile is not found as it should be.
+// Stops the test where a profile is not found as it should be.
 fn same(rt: &impl Abort, at: &str, found: &Found, wanted: &Found) {
     assert!(rt; *found == *wanted, "{at}: {found:?}");
 }

@@ -3,8 +3,8 @@ use printer_profile::{TextCause, TextFault, read};
 use std::alloc::{AllocError, Global};
 use std::test::Fail;
 
-/// What a key takes.
-#[derive(Clone, Copy)]
+// What a key takes.
+#[derive(Clone, Copy, PartialEq)]
 enum Sort {
     Wide,
     Byte,
@@ -12,7 +12,7 @@ enum Sort {
     Curve,
 }
 
-/// The keys in the order of the table. The first five are required, the last four are those of version 2.
+// The keys in the order of the table. The first five are required, the last four are those of version 2.
 const KEYS: [(&str, Sort); 18] = [
     ("hdpi", Sort::Wide),
     ("vdpi", Sort::Wide),
@@ -34,112 +34,51 @@ const KEYS: [(&str, Sort); 18] = [
     ("curve_y", Sort::Curve),
 ];
 
-/// A text of a value, and which sorts of keys take it.
-struct Value {
-    text: &'static str,
-    wide: bool,
-    byte: bool,
-    inks: bool,
-    curve: bool,
-}
+// A text of a value, and the sort of keys that take it, if there is one. Keys of wide numbers take bytes too.
+type Value = (&'static str, Option<Sort>);
 
-/// A text that no key takes.
-const NOTHING: Value = Value {
-    text: "",
-    wide: false,
-    byte: false,
-    inks: false,
-    curve: false,
-};
+const NUMBER: Value = ("0", Some(Sort::Byte));
 
-const NUMBER: Value = Value {
-    text: "0",
-    wide: true,
-    byte: true,
-    ..NOTHING
-};
+const INKS: Value = ("k", Some(Sort::Inks));
 
-const INKS: Value = Value {
-    text: "k",
-    inks: true,
-    ..NOTHING
-};
-
-const CURVE: Value = Value {
-    text: "0,16,32,48,64,80,96,112,128,144,160,176,192,208,224,240,256",
-    curve: true,
-    ..NOTHING
-};
-
-/// The first three are one for each sort of key.
+// The first three are one for each sort of key.
 const VALUES: [Value; 16] = [
     NUMBER,
     INKS,
-    CURVE,
-    Value {
-        text: "255",
-        ..NUMBER
-    },
-    Value {
-        text: "256",
-        byte: false,
-        ..NUMBER
-    },
-    Value {
-        text: "65535",
-        byte: false,
-        ..NUMBER
-    },
-    Value {
-        text: "cmyk",
-        ..INKS
-    },
-    Value {
-        text: "9,9,0,256,1,2,3,4,5,6,7,8,9,10,11,12,13",
-        ..CURVE
-    },
-    NOTHING,
-    Value {
-        text: "65536",
-        ..NOTHING
-    },
-    Value {
-        text: "01",
-        ..NOTHING
-    },
-    Value {
-        text: "-1",
-        ..NOTHING
-    },
-    Value {
-        text: "CMY",
-        ..NOTHING
-    },
-    Value {
-        text: "0,16,32,48,64,80,96,112,128,144,160,176,192,208,224,240",
-        ..NOTHING
-    },
-    Value {
-        text: "0,16,32,48,64,80,96,112,128,144,160,176,192,208,224,240,257",
-        ..NOTHING
-    },
-    Value {
-        text: "0,16,32,48,64,80,96,112,128,144,160,176,192,208,224,240,256,",
-        ..NOTHING
-    },
+    (
+        "0,16,32,48,64,80,96,112,128,144,160,176,192,208,224,240,256",
+        Some(Sort::Curve),
+    ),
+    ("255", Some(Sort::Byte)),
+    ("256", Some(Sort::Wide)),
+    ("65535", Some(Sort::Wide)),
+    ("cmyk", Some(Sort::Inks)),
+    ("9,9,0,256,1,2,3,4,5,6,7,8,9,10,11,12,13", Some(Sort::Curve)),
+    ("", None),
+    ("65536", None),
+    ("01", None),
+    ("-1", None),
+    ("CMY", None),
+    (
+        "0,16,32,48,64,80,96,112,128,144,160,176,192,208,224,240",
+        None,
+    ),
+    (
+        "0,16,32,48,64,80,96,112,128,144,160,176,192,208,224,240,257",
+        None,
+    ),
+    (
+        "0,16,32,48,64,80,96,112,128,144,160,176,192,208,224,240,256,",
+        None,
+    ),
 ];
 
-// Whether a key of this sort takes a value.
-fn takes(sort: Sort, value: &Value) -> bool {
-    match sort {
-        Sort::Wide => value.wide,
-        Sort::Byte => value.byte,
-        Sort::Inks => value.inks,
-        Sort::Curve => value.curve,
-    }
+// Whether a key of this sort takes a value that keys of that sort take.
+fn takes(sort: Sort, taken_by: Option<Sort>) -> bool {
+    taken_by == Some(sort) || sort == Sort::Wide && taken_by == Some(Sort::Byte)
 }
 
-/// A linear congruential generator.
+// A linear congruential generator.
 #[derive(Drop)]
 struct Draws {
     state: u32,
@@ -156,7 +95,7 @@ impl Draws {
     }
 }
 
-/// A text that is drawn line by line, the keys that it has, and its first fault.
+// A text that is drawn line by line, the keys that it has, and its first fault.
 #[derive(Drop)]
 struct Drawn {
     version: usize,
@@ -196,12 +135,12 @@ fn cause(version: usize, place: usize, seen: bool, taken: bool) -> Option<TextCa
 }
 
 // Appends a line with the key of a place and a value.
-fn add_line(drawn: &mut Drawn, place: usize, value: &Value) -> Result<(), AllocError> {
+fn add_line(drawn: &mut Drawn, place: usize, (text, taken_by): Value) -> Result<(), AllocError> {
     drawn.line = drawn.line.saturating_add(1);
     let (Some((name, sort)), Some(seen)) = (KEYS.get(place), drawn.seen.get_mut(place)) else {
         return Ok(());
     };
-    let why = cause(drawn.version, place, *seen, takes(*sort, value));
+    let why = cause(drawn.version, place, *seen, takes(*sort, taken_by));
     *seen = true;
     if let (None, Some(cause)) = (drawn.fault, why) {
         drawn.fault = Some(TextFault {
@@ -211,14 +150,14 @@ fn add_line(drawn: &mut Drawn, place: usize, value: &Value) -> Result<(), AllocE
     }
     drawn.text.extend_from_slice(name.as_bytes())?;
     drawn.text.extend_from_slice(b"=")?;
-    drawn.text.extend_from_slice(value.text.as_bytes())?;
+    drawn.text.extend_from_slice(text.as_bytes())?;
     drawn.text.extend_from_slice(b"\n")
 }
 
 // Appends the required keys from a place on.
 fn add_required(drawn: &mut Drawn, first: usize) -> Result<(), AllocError> {
     for place in first..5 {
-        add_line(drawn, place, if place == 4 { &INKS } else { &NUMBER })?;
+        add_line(drawn, place, if place == 4 { INKS } else { NUMBER })?;
     }
     Ok(())
 }
@@ -230,7 +169,7 @@ fn add_lines(drawn: &mut Drawn, draws: &mut Draws) -> Result<(), AllocError> {
         let place = draws.below(18);
         let most = if draws.below(4) == 0 { 16 } else { 3 };
         if let Some(value) = VALUES.get(draws.below(most)) {
-            add_line(drawn, place, value)?;
+            add_line(drawn, place, *value)?;
         }
     }
     Ok(())

@@ -6,7 +6,7 @@ use std::alloc::Global;
 use std::process::Abort;
 use std::test::Fail;
 
-/// The words of a line, of which there are at most twelve.
+// The words of a line, of which there are at most twelve.
 fn words_of(alloc: Global, line: &[&str]) -> Result<Words, Fail> {
     let mut words = Words::make(alloc);
     for word in line {
@@ -17,7 +17,7 @@ fn words_of(alloc: Global, line: &[&str]) -> Result<Words, Fail> {
     Ok(words)
 }
 
-/// Stops the test where a line is not refused at this word for this cause, or, without a cause, is refused.
+// Stops the test where a line is not refused at this word for this cause, or, without a cause, is refused.
 fn same_fault(
     rt: &impl Abort,
     alloc: Global,
@@ -31,49 +31,78 @@ fn same_fault(
     Ok(())
 }
 
-/// A job as a constant, with the name of its profile.
-#[derive(Drop)]
-struct Wanted {
-    verb: Verb,
-    profile_word: u32,
-    kernel: Kernel,
-    workers: u8,
-    cap: Option<u64>,
-    most: u64,
-    shingle: bool,
-    dead: &'static [u8],
-    seed: u32,
-    pages: u8,
-    width: u32,
-    height: u32,
-    kind: Kind,
-    name: &'static str,
+// What a line says of a job.
+#[derive(Clone, Copy)]
+enum Said {
+    /// The place of the word that names a profile, and the name.
+    Profile(u32, &'static str),
+    Kernel(Kernel),
+    Workers(u8),
+    Cap(u64),
+    Most(u64),
+    Shingle,
+    Dead(&'static [u8]),
+    /// The seed, the pages, their width and height, and their kind.
+    Made(u32, u8, u32, u32, Kind),
 }
 
-fn job_of(wanted: &Wanted) -> Result<Job, Fail> {
-    Ok(Job {
-        verb: wanted.verb,
-        profile_word: wanted.profile_word,
-        kernel: wanted.kernel,
-        workers: wanted.workers,
-        cap: wanted.cap,
-        most: wanted.most,
-        shingle: wanted.shingle,
-        dead: DeadNozzles::try_from(wanted.dead)?,
-        seed: wanted.seed,
-        pages: wanted.pages,
-        width: wanted.width,
-        height: wanted.height,
-        kind: wanted.kind,
-    })
+// What a verb means without further words.
+fn plain_job(verb: Verb) -> Job {
+    Job {
+        verb,
+        profile_word: 0,
+        kernel: Kernel::Floyd,
+        workers: 1,
+        cap: None,
+        most: 17_179_869_184,
+        shingle: false,
+        dead: DeadNozzles::new(),
+        seed: 1,
+        pages: 1,
+        width: 256,
+        height: 300,
+        kind: Kind::Gray8,
+    }
 }
 
-/// Stops the test where a line is not read as this job with a profile of this name.
-fn same_job(rt: &impl Abort, alloc: Global, line: &[&str], wanted: &Wanted) -> Result<(), Fail> {
+// The job of a verb of which this is said.
+fn job_of(verb: Verb, said: &[Said]) -> Result<Job, Fail> {
+    let mut job = plain_job(verb);
+    for &part in said {
+        match part {
+            Said::Profile(word, _) => job.profile_word = word,
+            Said::Kernel(kernel) => job.kernel = kernel,
+            Said::Workers(workers) => job.workers = workers,
+            Said::Cap(cap) => job.cap = Some(cap),
+            Said::Most(most) => job.most = most,
+            Said::Shingle => job.shingle = true,
+            Said::Dead(dead) => job.dead = DeadNozzles::try_from(dead)?,
+            Said::Made(seed, pages, width, height, kind) => {
+                (job.seed, job.pages, job.kind) = (seed, pages, kind);
+                (job.width, job.height) = (width, height);
+            }
+        }
+    }
+    Ok(job)
+}
+
+// The name of the profile of a job of which this is said.
+fn name_of(said: &[Said]) -> &'static str {
+    match said.first() {
+        Some(Said::Profile(_, name)) => name,
+        _ => "p360cmyk",
+    }
+}
+
+// A line, its verb, and what else it says: of the profile first.
+type Line = (&'static [&'static str], Verb, &'static [Said]);
+
+// Stops the test where a line is not read as its job with a profile of its name.
+fn same_job(rt: &impl Abort, alloc: Global, (line, verb, said): Line) -> Result<(), Fail> {
     let words = words_of(alloc, line)?;
     let job = read_words(&words)?;
     assert!(rt;
-        job == job_of(wanted)? && profile_name(&words, &job) == wanted.name,
+        job == job_of(verb, said)? && profile_name(&words, &job) == name_of(said),
         "{line:?}"
     );
     Ok(())
@@ -158,88 +187,33 @@ fn shingled_passes_and_dead_nozzles_are_refused_at_the_later_word(
     Ok(())
 }
 
-/// What `print` means without further words.
-const PRINT: Wanted = Wanted {
-    verb: Verb::Print,
-    profile_word: 0,
-    kernel: Kernel::Floyd,
-    workers: 1,
-    cap: None,
-    most: 17_179_869_184,
-    shingle: false,
-    dead: &[],
-    seed: 1,
-    pages: 1,
-    width: 256,
-    height: 300,
-    kind: Kind::Gray8,
-    name: "p360cmyk",
-};
-
 #[test]
 fn a_line_is_read_as_a_job(rt: HostRuntime) -> Result<(), Fail> {
-    const LINES: [(&[&str], Wanted); 9] = [
+    const LINES: [Line; 9] = [
         (
             &["print", "profile=a=b", "kernel=stucki", "workers=64"],
-            Wanted {
-                profile_word: 2,
-                kernel: Kernel::Stucki,
-                workers: 64,
-                name: "a=b",
-                ..PRINT
-            },
+            Verb::Print,
+            &[
+                Said::Profile(2, "a=b"),
+                Said::Kernel(Kernel::Stucki),
+                Said::Workers(64),
+            ],
         ),
-        (
-            &["profile"],
-            Wanted {
-                verb: Verb::Profile,
-                ..PRINT
-            },
-        ),
-        (
-            &["dots", "most=10"],
-            Wanted {
-                verb: Verb::Dots,
-                most: 10,
-                ..PRINT
-            },
-        ),
-        (
-            &["list", "most=10"],
-            Wanted {
-                verb: Verb::List,
-                most: 10,
-                ..PRINT
-            },
-        ),
+        (&["profile"], Verb::Profile, &[]),
+        (&["dots", "most=10"], Verb::Dots, &[Said::Most(10)]),
+        (&["list", "most=10"], Verb::List, &[Said::Most(10)]),
         (
             &["print", "cap=18446744073709551615"],
-            Wanted {
-                cap: Some(18_446_744_073_709_551_615),
-                ..PRINT
-            },
+            Verb::Print,
+            &[Said::Cap(18_446_744_073_709_551_615)],
         ),
-        (
-            &["print", "shingle=1"],
-            Wanted {
-                shingle: true,
-                ..PRINT
-            },
-        ),
+        (&["print", "shingle=1"], Verb::Print, &[Said::Shingle]),
         (
             &["print", "shingle=0", "dead=0,7,254"],
-            Wanted {
-                dead: &[0, 7, 254],
-                ..PRINT
-            },
+            Verb::Print,
+            &[Said::Dead(&[0, 7, 254])],
         ),
-        (
-            &["trial"],
-            Wanted {
-                verb: Verb::Trial,
-                ..PRINT
-            },
-        ),
+        (&["trial"], Verb::Trial, &[]),
         (
             &[
                 "trial",
@@ -251,22 +225,16 @@ fn a_line_is_read_as_a_job(rt: HostRuntime) -> Result<(), Fail> {
                 "dead=2",
                 "profile=c",
             ],
-            Wanted {
-                verb: Verb::Trial,
-                profile_word: 8,
-                dead: &[2],
-                seed: 0,
-                pages: 16,
-                width: 8191,
-                height: 15_840,
-                kind: Kind::Cmyk8,
-                name: "c",
-                ..PRINT
-            },
+            Verb::Trial,
+            &[
+                Said::Profile(8, "c"),
+                Said::Dead(&[2]),
+                Said::Made(0, 16, 8191, 15_840, Kind::Cmyk8),
+            ],
         ),
     ];
-    for (line, wanted) in &LINES {
-        same_job(&rt, rt.alloc(), line, wanted)?;
+    for &line in &LINES {
+        same_job(&rt, rt.alloc(), line)?;
     }
     Ok(())
 }
@@ -408,7 +376,7 @@ fn each_value_of_a_trial_is_taken_or_refused(rt: HostRuntime) -> Result<(), Fail
     Ok(())
 }
 
-/// The word that lists the first nozzles, with commas between.
+// The word that lists the first nozzles, with commas between.
 fn first_nozzles(alloc: Global, count: u32) -> Result<String, Fail> {
     let mut word = String::from_str(alloc, "dead=0")?;
     for nozzle in 1..count {

@@ -7,15 +7,20 @@ use std::alloc::Global;
 use std::process::Abort;
 use std::test::Fail;
 
-const HEADER: RasterHead = RasterHead {
-    c: 0,
-    v: 20,
-    h: 10,
-    m: 3,
-    n: 8,
-};
+// The head of a raster without compression: how far its dots are apart, down and across, its rows and its columns.
+macro_rules! head {
+    ($down:literal, $across:literal, $rows:literal, $columns:literal) => {
+        RasterHead {
+            c: 0,
+            v: $down,
+            h: $across,
+            m: $rows,
+            n: $columns,
+        }
+    };
+}
 
-/// Runs the commands before a page of six rows of dots, without margins.
+// Runs the commands before a page of six rows of dots, without margins.
 fn begin_page(rt: &impl Abort, emulator: &mut Emulator) {
     for i in 0..7 {
         each(rt, emulator, &[(TINY_COMMANDS[i], &[], None)]);
@@ -28,7 +33,9 @@ fn on_page(rt: &impl Abort, alloc: Global) -> Emulator {
     emulator
 }
 
-const FIRE: Command = Command::Raster { head: HEADER };
+const FIRE: Command = Command::Raster {
+    head: head!(20, 10, 3, 8),
+};
 
 const LAST_ROW: &[u8] = &[0x00, 0x00, 0xFF];
 
@@ -60,8 +67,8 @@ fn a_sheet_has_its_dots_and_the_next_is_blank(rt: HostRuntime) -> Result<(), Fai
 
 #[test]
 fn dots_begin_at_across_and_blank_rasters_widen_the_sheet(rt: HostRuntime) -> Result<(), Fail> {
-    const NARROW: RasterHead = RasterHead { n: 5, ..HEADER };
-    const WIDE: RasterHead = RasterHead { n: 6, ..HEADER };
+    const NARROW: RasterHead = head!(20, 10, 3, 5);
+    const WIDE: RasterHead = head!(20, 10, 3, 6);
     const CASES: [Case; 3] = [
         (Command::Across { n: 4 }, &[], None),
         (Command::Raster { head: NARROW }, &[0xAF, 0x07, 0x00], None),
@@ -110,9 +117,9 @@ fn each_ink_has_a_plane(rt: HostRuntime) -> Result<(), Fail> {
     eject(&rt, &mut emulator, [6, 8, 1, 1], &dots)
 }
 
-const TWO_ROWS: RasterHead = RasterHead { m: 2, ..HEADER };
+const TWO_ROWS: RasterHead = head!(20, 10, 2, 8);
 
-const OTHER: RasterHead = RasterHead { h: 11, ..TWO_ROWS };
+const OTHER: RasterHead = head!(20, 11, 2, 8);
 
 #[test]
 fn what_is_missing_is_refused_first(rt: HostRuntime) {
@@ -168,9 +175,9 @@ fn what_is_missing_is_refused_first(rt: HostRuntime) {
 
 #[test]
 fn the_numbers_of_a_raster_are_refused_in_their_order(rt: HostRuntime) {
-    const WIDER: RasterHead = RasterHead { v: 10, ..TWO_ROWS };
+    const WIDER: RasterHead = head!(10, 10, 2, 8);
     const WIDEST: Command = Command::Raster {
-        head: RasterHead { n: 8191, ..HEADER },
+        head: head!(20, 10, 3, 8191),
     };
     const LONG: &[u8] = &[0; 3072];
     const CASES: [Case; 11] = [

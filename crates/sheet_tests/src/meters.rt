@@ -1,89 +1,10 @@
 //! Meters alone and together, with a kind of meter that the driver does not know.
-ghost use Rattle.ink_meter.specs.Accounts.{Account};
-ghost use Rattle.std.specs.Prelude.{◌+◌, ◌<◌, ◌^◌, ◌≡◌};
-
 use crate::checks::same;
-use ink_meter::{DotMeter, InkCounts, Meter, OverCap, add_all, admit, can_settle, cap_all, settle};
+use ink_meter::{DotMeter, InkCounts, Meter, OverCap, add_all, admit, cap_all};
+use meter_fixtures::{Card, counts, settled};
 use std::alloc::Global;
-use std::marker::Model;
 use std::process::Abort;
 use std::test::Fail;
-
-// A meter that keeps black apart from the colours, and counts how often it was changed.
-#[derive(Drop)]
-struct Card {
-    black: u64,
-    colours: (u64, u64, u64),
-    cap: u64,
-    entries: u32,
-}
-
-impl Model for Card {
-    ghost Value = { Account };
-
-    ghost view = { λ card. record {
-      totals = record { k = card.black; c = card.colours.0; m = card.colours.1; y = card.colours.2 };
-      cap = card.cap;
-    } };
-
-    ghost invariant = { λ card. card.black + card.colours.0 + card.colours.1 + card.colours.2 < 2 ^ 64 };
-}
-
-impl Card {
-    fn make(cap: u64) -> Card
-        ensures { result ≡ record { totals = record { k = 0; c = 0; m = 0; y = 0 }; cap = cap } }
-    {
-        Card {
-            black: 0,
-            colours: (0, 0, 0),
-            cap,
-            entries: 0,
-        }
-    }
-}
-
-impl Meter for Card {
-    ghost account = { λ card. card };
-
-    fn room(&self, dots: &InkCounts) -> bool {
-        let (c, m, y) = self.colours;
-        let spent = u128::from(self.black + c + m + y);
-        let wanted = u128::from(dots.k)
-            + u128::from(dots.c)
-            + u128::from(dots.m)
-            + u128::from(dots.y);
-        spent + wanted <= u128::from(self.cap)
-    }
-
-    fn add(&mut self, dots: &InkCounts) {
-        let (c, m, y) = self.colours;
-        self.black += dots.k;
-        self.colours = (c + dots.c, m + dots.m, y + dots.y);
-        self.entries = self.entries.saturating_add(1);
-    }
-
-    fn set_cap(&mut self, cap: u64) {
-        self.cap = cap;
-    }
-
-    fn total(&self) -> InkCounts {
-        let (c, m, y) = self.colours;
-        InkCounts {
-            k: self.black,
-            c,
-            m,
-            y,
-        }
-    }
-
-    fn cap(&self) -> u64 {
-        self.cap
-    }
-}
-
-fn counts(k: u64, c: u64, m: u64, y: u64) -> InkCounts {
-    InkCounts { k, c, m, y }
-}
 
 type Meters = Vec<Box<dyn Meter>>;
 
@@ -94,7 +15,7 @@ fn count(meters: &mut Meters, dots: &InkCounts) -> Result<(), OverCap> {
     Ok(())
 }
 
-/// A kind of meter.
+// A kind of meter.
 #[derive(Clone, Copy)]
 enum Kind {
     Dots,
@@ -122,14 +43,14 @@ fn meters_of(alloc: Global, kinds: &[(Kind, u64)]) -> Result<Meters, Fail> {
     Ok(meters)
 }
 
-/// Dots of black, cyan, magenta and yellow.
+// Dots of black, cyan, magenta and yellow.
 type Dots = [u64; 4];
 
-/// The meter without room, if one has none: its place, its total and its cap.
+// The meter without room, if one has none: its place, its total and its cap.
 type Report = Option<(usize, u64, u64)>;
 
-/// What is done with meters: dots are counted where each has room, or only tried, each with the report that is wanted,
-/// or all get a cap.
+// What is done with meters: dots are counted where each has room, or only tried, each with the report that is wanted,
+// or all get a cap.
 #[derive(Clone, Copy)]
 enum Step {
     Count(Dots, Report),
@@ -166,17 +87,7 @@ fn each(rt: &impl Abort, meters: &mut Meters, steps: &[Step]) {
     }
 }
 
-// Settles the meters, whose sum is to be this; `None` where it does not fit.
-fn settles(rt: &impl Abort, meters: Meters, wanted: Option<InkCounts>) {
-    let sum = if can_settle(&meters) {
-        Some(settle(meters))
-    } else {
-        None
-    };
-    same(rt, "the sum", &sum, &wanted);
-}
-
-// Takes the steps with new meters, and settles them.
+// Takes the steps with new meters, and settles them: their sum is to be this; `None` where it does not fit.
 fn try_steps(
     rt: &impl Abort,
     alloc: Global,
@@ -186,7 +97,7 @@ fn try_steps(
 ) -> Result<(), Fail> {
     let mut meters = meters_of(alloc, kinds)?;
     each(rt, &mut meters, steps);
-    settles(rt, meters, wanted);
+    same(rt, "the sum", &settled(meters), &wanted);
     Ok(())
 }
 

@@ -1,9 +1,10 @@
 //! One meter, and the cap that a word sets on it.
 use crate::fixture::{Wanted, leaves, run_metered};
-use crate::meters::fixture::{ROOMY, counts, last, one_meter, run_bytes_metered, runs_to};
+use crate::meters::fixture::{ROOMY, last, one_meter, run_bytes_metered, runs_to};
 use driver_fixtures::{Left, add_page, begin, black_pages, no_files, one_file, plain, roomy};
 use ink_meter::{DotMeter, InkCounts, Meter};
 use known_jobs::TINY_JOB;
+use meter_fixtures::counts;
 use pwg_header::Kind;
 use std::alloc::{AllocError, Global};
 use std::process::Abort;

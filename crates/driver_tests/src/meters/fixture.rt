@@ -1,7 +1,7 @@
 //! Runs that count pages on meters.
 use crate::fixture::{Wanted, leaves_parts, run_metered};
 use driver_fixtures::{Left, black_pages, no_files, plain, roomy, sink};
-use ink_meter::{DotMeter, InkCounts, Meter, can_settle, settle};
+use ink_meter::{DotMeter, InkCounts, Meter};
 use std::alloc::Global;
 use std::process::Abort;
 use std::test::Fail;
@@ -47,21 +47,7 @@ pub fn runs_to<R: Abort + Threads + Sync>(
     leaves_parts(rt, alloc, &left, wanted)
 }
 
-/// Four counts.
-pub fn counts(k: u64, c: u64, m: u64, y: u64) -> InkCounts {
-    InkCounts { k, c, m, y }
-}
-
 /// The cap and the counts of the last meter, which is taken away.
 pub fn last(meters: &mut Vec<Box<dyn Meter>>) -> Option<(u64, InkCounts)> {
     meters.pop().map(|meter| (meter.cap(), meter.total()))
-}
-
-/// The sum of what the meters counted, where it fits.
-pub fn settled(meters: Vec<Box<dyn Meter>>) -> Option<InkCounts> {
-    if can_settle(&meters) {
-        Some(settle(meters))
-    } else {
-        None
-    }
 }

@@ -1,10 +1,9 @@
 //! Several meters, and none.
 use crate::fixture::{TINY, Wanted};
-use crate::meters::card::Card;
-use crate::meters::fixture::{ROOMY, counts, last, one_meter, runs_to, settled};
-use crate::profiles::TINY_TEXT;
+use crate::meters::fixture::{ROOMY, last, one_meter, runs_to};
 use ink_meter::{DotMeter, Meter};
-use known_jobs::TINY_JOB;
+use known_jobs::{TINY_JOB, TINY_TEXT};
+use meter_fixtures::{Card, counts, settled};
 use std::alloc::Global;
 use std::process::Abort;
 use std::test::Fail;

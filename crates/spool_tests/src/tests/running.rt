@@ -3,8 +3,9 @@ use super::same;
 use super::words::words_of;
 use driver_core::OpenGate;
 use driver_fixtures::{black_pages, roomy};
-use ink_meter::{DotMeter, Meter, can_settle, settle};
+use ink_meter::{DotMeter, InkCounts, Meter};
 use known_jobs::TINY_JOB;
+use meter_fixtures::{counts, settled};
 use spool_core::{Ran, SpoolReport, run_spool};
 use std::alloc::{AllocError, Global};
 use std::process::Abort;
@@ -40,7 +41,7 @@ struct Left {
     report: SpoolReport,
     out: MemSink,
     err: MemSink,
-    black: Option<u64>,
+    counted: Option<InkCounts>,
 }
 
 // Runs these words, at most twelve, with one meter of this cap.
@@ -68,16 +69,12 @@ fn run_words<R: Threads + Wait + Sync>(
         &OpenGate,
         &mut meters,
     );
-    let black = if can_settle(&meters) {
-        Some(settle(meters).k)
-    } else {
-        None
-    };
+    let counted = settled(meters);
     Ok(Left {
         report,
         out,
         err,
-        black,
+        counted,
     })
 }
 
@@ -196,8 +193,9 @@ fn try_case<R: Abort + Threads + Wait + Sync>(
     case: &Case,
 ) -> Result<(), Fail> {
     let left = left_by(rt, alloc, case)?;
-    let counted = (left.report.status, left.black);
-    same(rt, at, &counted, &(case.status, Some(case.black)));
+    let counted = (left.report.status, left.counted);
+    let black = Some(counts(case.black, 0, 0, 0));
+    same(rt, at, &counted, &(case.status, black));
     same_senders(rt, alloc, at, &left.report.done, case.senders)?;
     same_texts(rt, alloc, at, &left, case)
 }
