@@ -32,7 +32,7 @@ cap=NUMBER      the most dots that the job may print, all inks together (default
                 and ends the job
 shingle=1       each row is fired in two passes, one on its even columns and one on its odd ones (default 0: in one)
 dead=NUMBER,..  nozzles that do not fire, counted from 0, in rising order; others fire their rows in further strokes
-seed=NUMBER     of 32 bits (default 1): the same seed makes the same pages
+seed=NUMBER     0 to 4294967295 (default 1): the same seed makes the same pages
 pages=NUMBER    1 to 16 (default 1)
 width=NUMBER    1 to 8191 pixels (default 256), height=NUMBER 1 to 15840 (default 300)
 kind=NAME       gray, black, rgb, black1 or cmyk (default gray)
