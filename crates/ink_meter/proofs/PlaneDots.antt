@@ -1,5 +1,5 @@
 -- The dots of planes, ink by ink.
-use Rattle.std.proofs.Common.{◌≡◌, ℕ, ◌*◌, ◌≤◌, Bool, false, Some, slice_get, get_or, All}
+use Rattle.std.proofs.Common.{◌≡◌, ℕ, ◌*◌, ◌^◌, ◌<◌, ◌≤◌, Bool, false, Some, slice_get, get_or, All}
 use Rattle.std.proofs.Common.{arith, subst, refl, ap, sym, ◌∙◌, sum_by, count_by}
 use Rattle.std.specs.List.{list_any}
 use Rattle.std.proofs.lemmas.List.Elements.{All-from_get_or}
@@ -7,6 +7,7 @@ use Rattle.std.proofs.lemmas.List.Sums.{count_by-le-length, sum_by-le}
 use Rattle.page_definitions.specs.Dots.{Halftone, HasDots, dots_wanted}
 use Rattle.page_laws.proofs.Passes.{count_from-len}
 use Rattle.page_laws.proofs.Planes.{other-counts, plane-counts}
+use Rattle.ink_meter.specs.Accounts.{all_inks}
 use Rattle.ink_meter.specs.Counts.{dots_of, halftone_dots}
 use Rattle.printer_definitions.specs.declared.inks.Ink.{Ink}
 use Rattle.printer_definitions.specs.declared.inks.Ink.TheVariants.{Black, Cyan, Magenta, Yellow}
@@ -77,3 +78,27 @@ four_dots p h width rows inks dot k c m y has is black cyan magenta yellow =
     (ink_here p h width rows inks dot Cmyk 1 Cyan c has is refl cyan)
     (ink_here p h width rows inks dot Cmyk 2 Magenta m has is refl magenta)
     (ink_here p h width rows inks dot Cmyk 3 Yellow y has is refl yellow)
+
+-- the dots of planes whose rows fit 32 bits fit 64 bits
+pub colour-most : (dot : ℕ → ℕ → ℕ → Bool) (width rows : ℕ) {c m y : ℕ} → width ≤ most_columns → rows < 2 ^ 32
+    → c ≡ plane dot width rows 0 → m ≡ plane dot width rows 1 → y ≡ plane dot width rows 2
+    → all_inks (record { k = 0; c = c; m = m; y = y }) < 2 ^ 64
+colour-most dot width rows narrow few cyan magenta yellow =
+    omega (
+      arith,
+      plane-most dot width rows 0 narrow,
+      plane-most dot width rows 1 narrow,
+      plane-most dot width rows 2 narrow,
+    )
+
+pub four-most : (dot : ℕ → ℕ → ℕ → Bool) (width rows : ℕ) {k c m y : ℕ} → width ≤ most_columns → rows < 2 ^ 32
+    → k ≡ plane dot width rows 0 → c ≡ plane dot width rows 1 → m ≡ plane dot width rows 2 → y ≡ plane dot width rows 3
+    → all_inks (record { k = k; c = c; m = m; y = y }) < 2 ^ 64
+four-most dot width rows narrow few black cyan magenta yellow =
+    omega (
+      arith,
+      plane-most dot width rows 0 narrow,
+      plane-most dot width rows 1 narrow,
+      plane-most dot width rows 2 narrow,
+      plane-most dot width rows 3 narrow,
+    )

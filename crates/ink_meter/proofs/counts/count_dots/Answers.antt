@@ -1,6 +1,6 @@
 use Rattle.std.proofs.Common.{◌∙◌, arith}
 use Rattle.dot_planes.specs.Tables.{dot}
-use Rattle.ink_meter.proofs.PlaneDots.{black_dots, colour_dots, four_dots, plane-most}
+use Rattle.ink_meter.proofs.PlaneDots.{black_dots, colour-most, colour_dots, four-most, four_dots}
 use Rattle.ink_meter.proofs.counts.count_dots.Goals as goal
 
 pub returns-in-K-clause-dots : goal.returns-in-K-clause-dots
@@ -14,16 +14,8 @@ returns-in-Cmy-clause-dots c p h is has =
 pub returns-in-Cmy-clause-most : goal.returns-in-Cmy-clause-most
 returns-in-Cmy-clause-most c =
     let t = c.args.planes.now in
-    omega (
-      arith,
-      c.rows-rows.ensures,
-      c.count-in-Cmy.ensures,
-      c.count-in-Cmy-2.ensures,
-      c.count-in-Cmy-3.ensures,
-      plane-most (dot t) t.width t.rows 0 c.requires.width,
-      plane-most (dot t) t.width t.rows 1 c.requires.width,
-      plane-most (dot t) t.width t.rows 2 c.requires.width,
-    )
+    colour-most (dot t) t.width t.rows c.requires.width (omega (arith, c.rows-rows.ensures))
+    c.count-in-Cmy.ensures c.count-in-Cmy-2.ensures c.count-in-Cmy-3.ensures
 
 pub returns-in-Cmyk-clause-dots : goal.returns-in-Cmyk-clause-dots
 returns-in-Cmyk-clause-dots c p h is has =
@@ -33,15 +25,5 @@ returns-in-Cmyk-clause-dots c p h is has =
 pub returns-in-Cmyk-clause-most : goal.returns-in-Cmyk-clause-most
 returns-in-Cmyk-clause-most c =
     let t = c.args.planes.now in
-    omega (
-      arith,
-      c.rows-rows.ensures,
-      c.count-in-Cmyk.ensures,
-      c.count-in-Cmyk-2.ensures,
-      c.count-in-Cmyk-3.ensures,
-      c.count-in-Cmyk-4.ensures,
-      plane-most (dot t) t.width t.rows 0 c.requires.width,
-      plane-most (dot t) t.width t.rows 1 c.requires.width,
-      plane-most (dot t) t.width t.rows 2 c.requires.width,
-      plane-most (dot t) t.width t.rows 3 c.requires.width,
-    )
+    four-most (dot t) t.width t.rows c.requires.width (omega (arith, c.rows-rows.ensures))
+    c.count-in-Cmyk.ensures c.count-in-Cmyk-2.ensures c.count-in-Cmyk-3.ensures c.count-in-Cmyk-4.ensures
