@@ -86,16 +86,16 @@ looked-lists v at x p = refl
 
 -- ---- what a look and a take tell, of the board's slab and the tile's number
 
-pub told-at : (b : Slab) (t : Place) (at word : ℕ) (m n : Me Cell View) → at ≡ number_in b t → m.0.board ≡ b → Looked m.0.board at m word n
+pub told-at : {b : Slab} (t : Place) {at word : ℕ} {m n : Me Cell View} → at ≡ number_in b t → m.0.board ≡ b → Looked m.0.board at m word n
     → LookedIn (setting_of b) (number_in b t) m word n
-told-at b t at word m n is board told =
+told-at {b} t {at} {word} {m} {n} is board told =
     let Of : Slab → Type 0 = λ s. Looked s at m word n in
     let At : ℕ → Type 0 = λ k. LookedIn (setting_of b) k m word n in
     subst At is (subst Of board told)
 
-pub took-at : (b : Slab) (t : Place) (at word : ℕ) (m n : Me Cell View) → at ≡ number_in b t → m.0.board ≡ b → Took m.0.board at m word n
+pub took-at : {b : Slab} (t : Place) {at word : ℕ} {m n : Me Cell View} → at ≡ number_in b t → m.0.board ≡ b → Took m.0.board at m word n
     → TookIn (setting_of b) (number_in b t) m word n
-took-at b t at word m n is board told =
+took-at {b} t {at} {word} {m} {n} is board told =
     let Of : Slab → Type 0 = λ s. Took s at m word n in
     let At : ℕ → Type 0 = λ k. TookIn (setting_of b) k m word n in
     subst At is (subst Of board told)

@@ -44,8 +44,8 @@ pub none-there : {A : Type 0} {G : Ghosts A} (b : Board A G) (s : Shape) (d : Di
 none-there b s d p is none = let Q : Shape → Type 0 = λ t. (to : Place) → IsTile t to → IsReceiver d p to → ⊥ in
     subst Q (shape-is b s is) none
 
-pub needs-of : {A : Type 0} {G : Ghosts A} (b : Board A G) (s : Shape) (p : Place) (needs : Needs) → s ≡ window_of (G.table b.rows.now) → (IsTrue needs.left ↔ IsNeeded s Right p)
+pub needs-of : {A : Type 0} {G : Ghosts A} (b : Board A G) {s : Shape} {p : Place} {needs : Needs} → s ≡ window_of (G.table b.rows.now) → (IsTrue needs.left ↔ IsNeeded s Right p)
     → (IsTrue needs.above ↔ IsNeeded s Bottom p) → (IsTrue needs.corner ↔ IsNeeded s Corner p) → NeedsOf (shape_of (slab b)) p needs
-needs-of b s p needs is left above corner =
+needs-of b {s} {p} {needs} is left above corner =
     let Q : Shape → Type 0 = λ t. NeedsOf t p needs in
     subst Q (shape-is b s is) (record { left = left; above = above; corner = corner })
