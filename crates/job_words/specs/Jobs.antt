@@ -1,6 +1,7 @@
 -- What the values of a job keep to.
 use Rattle.std.specs.Prelude.{◌≡◌, ℕ, ◌<◌, ◌≤◌, List, [], length, true}
 use Rattle.std.specs.List.{AllByRecursion}
+use Rattle.base_definitions.specs.Limits.{most_columns, most_rows}
 use Rattle.dead_nozzles.specs.Dead.{IsRising}
 use Rattle.job_words.specs.Values.{greatest_most}
 use Rattle.job_words.specs.declared.reading.Job.{Job}
@@ -14,9 +15,9 @@ pub record IsWithinBounds (job : Job) : Type 0 where
   pub some_pages : 1 ≤ job.pages
   pub most_pages : job.pages ≤ 16
   pub some_width : 1 ≤ job.width
-  pub most_width : job.width ≤ 8191
+  pub most_width : job.width ≤ most_columns
   pub some_height : 1 ≤ job.height
-  pub most_height : job.height ≤ 15840
+  pub most_height : job.height ≤ most_rows
 
 -- numbers in rising order, each of them from 0 to 254, so that there are at most 255
 pub record AreNozzles (numbers : List ℕ) : Type 0 where

@@ -2,6 +2,7 @@
 use Rattle.std.specs.Prelude.{ℕ, Bool, true, false, nat_eq, if◌then◌else◌, List, [], ◌∷◌, codes, find, Option, Some, None}
 use Rattle.std.specs.Cmp.Lexicographic.{pointwise}
 use Rattle.std.specs.Option.{option_map}
+use Rattle.base_definitions.specs.Limits.{most_columns, most_rows}
 use Rattle.key_values.specs.Numbers.{number_within}
 use Rattle.diffusion_kernel.specs.declared.tables.Kernel.{Kernel}
 use Rattle.diffusion_kernel.specs.declared.tables.Kernel.TheVariants.{Floyd, Jarvis, Stucki}
@@ -50,10 +51,10 @@ page_count text = number_within 1 16 text
 
 -- the size of a made page, in pixels
 abbrev pub width_value : List ℕ → Option ℕ
-width_value text = number_within 1 8191 text
+width_value text = number_within 1 most_columns text
 
 abbrev pub height_value : List ℕ → Option ℕ
-height_value text = number_within 1 15840 text
+height_value text = number_within 1 most_rows text
 
 -- the kinds of made pages, and their names
 pub record KindName : Type 0 where
