@@ -7,7 +7,7 @@ use std::alloc::Global;
 use std::process::Abort;
 use std::test::Fail;
 
-// The head of a raster without compression: how far its dots are apart, down and across, its rows and its columns.
+// The head of a raster of plain rows: the steps from row to row and from column to column, and how many of both it has.
 macro_rules! head {
     ($down:literal, $across:literal, $rows:literal, $columns:literal) => {
         RasterHead {
