@@ -103,11 +103,13 @@ pub record HasSheet (p : Printer) (e : Emulator)
   pub is : IsSheet p printed sheet
 
 pub gives_sheet : {p : Printer} {e e' : Emulator} {old new : JobFeed}
-    {before text : Option (List ℕ)} (left : Option (List ℕ)) {held now : Option (List ℕ)} {number : ℕ} (placed : PlacedCommand) (sheet : Sheet)
+    {before text : Option (List ℕ)} (left : Option (List ℕ)) {held now : Option (List ℕ)} {number : ℕ} (placed : PlacedCommand)
+    (rows : List ℕ) (some : Option Sheet) (sheet : Sheet)
     (so_far : PlaysSoFar p e old before text held now number) → TakesCommand old new text (text_of new left) placed
-    → Runs p so_far.runs.m placed.command (heard_of new) e e' (Ok (Some sheet))
+    → ((m : Machine) → Shows p e m → Runs p m placed.command rows e e' (Ok some)) → rows ≡ heard_of new → some ≡ Some sheet
     → HasSheet p e' new before (text_of new left) held now number sheet
-gives_sheet {p} {e} {e'} {old} {new} {before} {text} left placed sheet so_far takes runs =
+gives_sheet {p} {e} {e'} {old} {new} {before} {text} left placed rows some sheet so_far takes runs_on heard is =
+    let runs = rw is at (rw heard at (runs_on so_far.runs.m so_far.runs.shows)) in
     let all = ran p e e' old new before text left placed so_far.sheets (Some sheet) so_far.runs takes runs in
     let gives = runs.1 in
     let P : List PrintedSheet → Type 0 = λ more. RunsSoFar p e' new before (text_of new left) (so_far.sheets ++ more) in

@@ -62,9 +62,8 @@ pub returns-in-Err-write_sheet : goal.returns-in-Err-write_sheet
 returns-in-Err-write_sheet g c =
     let so_far = c.commands.invariant.so_far in
     let takes = rw c.in-Some.is at c.in_ok-placed.ensures.command in
-    let runs = rw c.in-Some-given.is at
-    (rw c.rows.ensures at (c.in-Ok.ensures c.args.profile.now so_far.runs.m so_far.runs.shows)) in
-    let has = gives_sheet _ c.in-Some.placed c.in-Some-given.sheet so_far takes runs in
+    let has = gives_sheet _ c.in-Some.placed _ _ c.in-Some-given.sheet so_far takes
+    (c.in-Ok.ensures c.args.profile.now) c.rows.ensures c.in-Some-given.is in
     sheet_unwritten c.args.most c.next.new.self c.in-Some-given.sheet
     has c.in-Err-write_sheet.ensures.part c.saturating_add-sheets.ensures (takes.most ∙ c.commands.invariant.most)
     c.commands.invariant.out_later c.in-Err-write_sheet.ensures.cause.failed
@@ -73,9 +72,8 @@ pub commands-preserved : goal.commands-preserved
 commands-preserved g c =
     let so_far = c.commands.invariant.so_far in
     let takes = rw c.in-Some.is at c.in_ok-placed.ensures.command in
-    let runs = rw c.in-Some-given.is at
-    (rw c.rows.ensures at (c.in-Ok.ensures c.args.profile.now so_far.runs.m so_far.runs.shows)) in
-    let has = gives_sheet _ c.in-Some.placed c.in-Some-given.sheet so_far takes runs in
+    let has = gives_sheet _ c.in-Some.placed _ _ c.in-Some-given.sheet so_far takes
+    (c.in-Ok.ensures c.args.profile.now) c.rows.ensures c.in-Some-given.is in
     record {
       so_far = sheet_written c.in-Some-given.sheet has c.in-Ok-write_sheet.ensures.ok c.saturating_add-sheets.ensures;
       between = takes.between;
@@ -96,9 +94,8 @@ pub commands-preserved-then-is_blank : goal.commands-preserved-then-is_blank
 commands-preserved-then-is_blank g c =
     let so_far = c.commands.invariant.so_far in
     let takes = rw c.in-Some.is at c.in_ok-placed.ensures.command in
-    let runs = rw c.in-Some-given.is at
-    (rw c.rows.ensures at (c.in-Ok.ensures c.args.profile.now so_far.runs.m so_far.runs.shows)) in
-    let has = gives_sheet _ c.in-Some.placed c.in-Some-given.sheet so_far takes runs in
+    let has = gives_sheet _ c.in-Some.placed _ _ c.in-Some-given.sheet so_far takes
+    (c.in-Ok.ensures c.args.profile.now) c.rows.ensures c.in-Some-given.is in
     record {
       so_far = kept_back (sheet_written c.in-Some-given.sheet has c.in-Ok-write_sheet.ensures.ok c.saturating_add-sheets.ensures)
           (c.keep.ensures c.args.profile.now);
