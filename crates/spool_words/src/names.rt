@@ -9,6 +9,7 @@ ghost use Rattle.std.specs.Prelude.{Ok, Some, filter, length, slice_get, ◌-◌
 use crate::given::gives;
 use crate::keys::KeyName;
 use crate::reading::SpoolRequest;
+use crate::values::count_names;
 use key_values::value_of;
 use weave_base::Words;
 
@@ -42,7 +43,7 @@ pub fn name_count(words: &Words, request: &SpoolRequest, sender: u8) -> u32
     ensures most { result ≤ 64 }
 {
     prove!(sender <= request.senders);
-    sent_by(words, sender).split(',').count() as u32
+    count_names(sent_by(words, sender)) as u32
 }
 
 /// The name of this number that a sender has, of 1 to 255 bytes: any but a comma. Senders and their names are counted

@@ -1,7 +1,7 @@
 //! The values of keys.
 ghost use Rattle.job_words.specs.Values.{kernel_named as kernel_of, worker_count as workers_of};
 ghost use Rattle.spool_words.specs.Names.{are_names as are_names_of, is_name as is_name_of, names_in};
-ghost use Rattle.std.specs.Prelude.{◌≡◌};
+ghost use Rattle.std.specs.Prelude.{length, ◌≡◌, ◌≤◌};
 
 use diffusion_kernel::Kernel;
 use job_words::MOST_NAME;
@@ -16,11 +16,19 @@ pub fn is_name(text: &str) -> bool
     1 <= text.len() && text.len() <= MOST_NAME
 }
 
+/// How many names a text lists, with commas between.
+pub fn count_names(text: &str) -> usize
+    ensures count { result ≡ length (names_in text.now) }
+    ensures least { 1 ≤ result }
+{
+    text.split(',').count()
+}
+
 /// Whether a text lists 1 to 64 names, with commas between.
 pub fn lists_names(text: &str) -> bool
     ensures { result ≡ are_names_of (names_in text.now) }
 {
-    text.split(',').count() <= MOST_NAMES && text.split(',').all(is_name)
+    count_names(text) <= MOST_NAMES && text.split(',').all(is_name)
 }
 
 // `and_then` takes no function of another crate by its name, so those of `job_words` have one here.
