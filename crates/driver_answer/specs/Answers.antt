@@ -138,10 +138,14 @@ job_name job.Cut = codes "Cut"
 job_name (job.Machine fault) = machine_name fault
 job_name job.TooLong = codes "TooLong"
 
+-- the line of a refused word, by its number and the name of the cause
+abbrev pub usage_line : ℕ → List ℕ → List ℕ
+usage_line word name = codes "usage: word " ++ decimal word ++ codes ": " ++ name ++ codes "\n"
+
 -- The error line of an answer; a run that did all its work has none.
 abbrev pub line_of : Answer → List ℕ
 line_of answer.Done = []
-line_of (answer.Usage fault) = codes "usage: word " ++ decimal fault.word ++ codes ": " ++ usage_name fault.cause ++ codes "\n"
+line_of (answer.Usage fault) = usage_line fault.word (usage_name fault.cause)
 line_of (answer.Profile line cause) = codes "profile: line " ++ decimal line ++ codes ": " ++ profile_words cause ++ codes "\n"
 line_of (answer.Input page line cause) =
     codes "input: page " ++ decimal page ++ codes " line " ++ decimal line ++ codes ": " ++ input_name cause ++ codes "\n"

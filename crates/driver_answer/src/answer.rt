@@ -1,10 +1,10 @@
 //! The answers of a run.
 ghost use Rattle.driver_answer.specs.Answers.{check_words, dead_words, input_name as input_name_of};
 ghost use Rattle.driver_answer.specs.Answers.{job_name as job_name_of, profile_words, shingle_words, text_words};
-ghost use Rattle.driver_answer.specs.Answers.{usage_name as usage_name_of};
+ghost use Rattle.driver_answer.specs.Answers.{usage_line};
 ghost use Rattle.arrayvec.specs.ArrayString.{array_string_len};
 ghost use Rattle.std.specs.Fmt.{decimal};
-ghost use Rattle.std.specs.Prelude.{codes, ◌+◌, ◌++◌, ◌≡◌, ◌≤◌, []};
+ghost use Rattle.std.specs.Prelude.{codes, length, ◌+◌, ◌++◌, ◌≡◌, ◌≤◌, []};
 
 use crate::names::{check_name, input_name, job_name, text_name, usage_name};
 use arrayvec::ArrayString;
@@ -160,15 +160,16 @@ fn push_profile_cause(cause: ProfileCause, out: &mut ErrorLine)
     }
 }
 
-fn push_usage(fault: UsageFault, out: &mut ErrorLine)
-    requires { array_string_len out.old ≡ 0 }
-    ensures { out.new.bytes ≡ out.old.bytes
-        ++ (codes "usage: word " ++ decimal fault.word ++ codes ": " ++ usage_name_of fault.cause ++ codes "\n") }
+/// Writes the line of a refused word, by its number and the name of the cause, into an empty text.
+pub fn push_usage(word: u32, name: &str, out: &mut ErrorLine)
+    requires empty { array_string_len out.old ≡ 0 }
+    requires short { length name.now ≤ 16 }
+    ensures { out.new.bytes ≡ out.old.bytes ++ usage_line word name.now }
 {
     out.push_str("usage: word ");
-    push_number(fault.word, out);
+    push_number(word, out);
     out.push_str(": ");
-    out.push_str(usage_name(fault.cause));
+    out.push_str(name);
     out.push_str("\n");
 }
 
@@ -262,7 +263,7 @@ impl Answer {
     {
         match *self {
             Answer::Done => {}
-            Answer::Usage(fault) => push_usage(fault, out),
+            Answer::Usage(fault) => push_usage(fault.word, usage_name(fault.cause), out),
             Answer::Profile { line, cause } => push_profile(line, cause, out),
             Answer::Input { page, line, cause } => push_input(page, line, cause, out),
             Answer::Read => out.push_str("read failed\n"),

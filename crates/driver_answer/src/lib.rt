@@ -9,7 +9,7 @@ mod answer;
 mod names;
 mod stops;
 
-pub use answer::{Answer, ErrorLine, push_number};
+pub use answer::{Answer, ErrorLine, push_number, push_usage};
 pub use escp2_definitions::{EmulatorFault, JobCause, JobStop};
 pub use job_profile::{DeadFault, ProfileCause};
 pub use job_words::{UsageCause, UsageFault};
