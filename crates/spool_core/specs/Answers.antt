@@ -4,7 +4,7 @@ use Rattle.std.specs.Fmt.{decimal}
 use Rattle.std.specs.List.{flat_map}
 use Rattle.std.specs.Io.KnownBytes.{Appends}
 use Rattle.buffered_bytes.specs.Outside.{HasRisen, Outside}
-use Rattle.driver_answer.specs.Answers.{line_of}
+use Rattle.driver_answer.specs.Answers.{line_of, usage_line}
 use Rattle.driver_answer.specs.declared.answer.Answer.TheVariants as print
 use Rattle.spool_core.specs.declared.answer.SpoolAnswer.{SpoolAnswer}
 use Rattle.spool_core.specs.declared.answer.SpoolAnswer.TheVariants as answer
@@ -40,7 +40,7 @@ file_name file.TooLong = codes "TooLong"
 -- the line of an answer, that of `print` where it has the same answer; none where every job was printed
 abbrev pub spool_line : SpoolAnswer → List ℕ
 spool_line answer.Done = []
-spool_line (answer.Usage fault) = codes "usage: word " ++ decimal fault.word ++ codes ": " ++ usage_name fault.cause ++ codes "\n"
+spool_line (answer.Usage fault) = usage_line fault.word (usage_name fault.cause)
 spool_line (answer.Profile line cause) = line_of (print.Profile line cause)
 spool_line (answer.File sender job cause) =
     codes "file: sender " ++ decimal sender ++ codes " job " ++ decimal job ++ codes ": " ++ file_name cause ++ codes "\n"

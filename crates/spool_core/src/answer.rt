@@ -5,7 +5,7 @@ ghost use Rattle.std.specs.Prelude.{[], codes, length, ◌+◌, ◌++◌, ◌≡
 ghost use Rattle.spool_core.specs.Answers.{file_name as file_name_of, usage_name as usage_name_of};
 
 use crate::files::FileCause;
-use driver_answer::{Answer, ErrorLine, ProfileCause, push_number};
+use driver_answer::{Answer, ErrorLine, ProfileCause, push_number, push_usage};
 use spool_words::{SpoolCause, SpoolFault};
 
 /// How a run of the spool ended. Senders, their jobs and the pages of a job are counted from 1.
@@ -63,18 +63,6 @@ fn file_name(cause: FileCause) -> &'static str
         FileCause::Absent => "Absent",
         FileCause::TooLong => "TooLong",
     }
-}
-
-fn push_usage(fault: SpoolFault, out: &mut ErrorLine)
-    requires { array_string_len out.old ≡ 0 }
-    ensures { out.new.bytes ≡ out.old.bytes
-        ++ (codes "usage: word " ++ decimal fault.word ++ codes ": " ++ usage_name_of fault.cause ++ codes "\n") }
-{
-    out.push_str("usage: word ");
-    push_number(fault.word, out);
-    out.push_str(": ");
-    out.push_str(usage_name(fault.cause));
-    out.push_str("\n");
 }
 
 fn push_file(sender: u8, job: u32, cause: FileCause, out: &mut ErrorLine)
@@ -140,7 +128,7 @@ impl SpoolAnswer {
     {
         match *self {
             SpoolAnswer::Done => {}
-            SpoolAnswer::Usage(fault) => push_usage(fault, out),
+            SpoolAnswer::Usage(fault) => push_usage(fault.word, usage_name(fault.cause), out),
             SpoolAnswer::Profile { line, cause } => Answer::Profile { line, cause }.text(out),
             SpoolAnswer::File { sender, job, cause } => push_file(sender, job, cause, out),
             SpoolAnswer::Read => Answer::Read.text(out),
