@@ -69,7 +69,7 @@ pub fn read_page_header<S: Source>(
     ensures later { S.faults source.old ≤ S.faults source.new }
 {
     unread.fill(source, 1)?;
-    if unread.bytes().is_empty() {
+    if unread.bytes().len() == 0 {
         return Ok(None);
     }
     if pages == MOST_PAGES {
