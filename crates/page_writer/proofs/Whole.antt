@@ -10,7 +10,9 @@ use Rattle.page_laws.proofs.Printed.{bytes-append}
 use Rattle.printer_definitions.specs.Printer.{Printer, row_units}
 use Rattle.weave_base.specs.Parts.{AppendsPart}
 use Rattle.weave_base.proofs.Parting.{part_behind, part_of_front}
-use Rattle.page_writer.specs.StrokeBytes.{fired_strokes}
+use Rattle.dot_planes.specs.Tables.{DotTable}
+use Rattle.page_writer.specs.Heads.{HeadStrokes, strokes_over}
+use Rattle.page_writer.specs.StrokeBytes.{fired_strokes, head_bytes}
 use Rattle.page_writer.specs.Sums.{SumsStrokes, rasters_in}
 use Rattle.page_writer.specs.declared.sums.PageSum.{PageSum}
 use Rattle.page_writer.proofs.Inks.{rasters-append}
@@ -36,18 +38,20 @@ abbrev pub end_bytes : List ℕ
 end_bytes = bytes_of page_coding.code (say c.Eject ∷ say c.Init ∷ [])
 
 -- the bytes of a page are those of its parts, where the sheet's numbers are these
-pub page_is : (p : Printer) (width height len : ℕ) (strokes : Strokes) (length top bottom : ℕ)
-    → length ≡ len → top ≡ (p.top - strokes.above) * row_units p → bottom ≡ (p.top + height) * row_units p
-    → strokes_bytes page_coding p width height len strokes
-    ≡ begin_bytes length top bottom ++ (fired_bytes p width strokes ++ end_bytes)
-page_is p width height len strokes length top bottom length_is top_is bottom_is =
-    let first : List Spoken = prologue p strokes.above height len in
-    let rest : List ℕ = fired_bytes p width strokes ++ end_bytes in
-    bytes-append page_coding.code first (fired_strokes p width strokes ++ end_commands)
-    ∙ ap (λ bs. bytes_of page_coding.code first ++ bs) (bytes-append page_coding.code (fired_strokes p width strokes) end_commands)
+pub page_is : (p : Printer) (head : HeadStrokes) (t : DotTable) {len length top bottom above height : ℕ}
+    → length ≡ len → top ≡ (p.top - above) * row_units p → above ≡ head.above
+    → bottom ≡ (p.top + height) * row_units p → t.rows ≡ height
+    → head_bytes p head t len ≡ begin_bytes length top bottom ++ (fired_bytes p t.width (strokes_over p head t) ++ end_bytes)
+page_is p head t {len} {length} {top} {bottom} length_is top_is above_is bottom_is height_is =
+    let fired : List Spoken = fired_strokes p t.width (strokes_over p head t) in
+    let first : List Spoken = prologue p head.above t.rows len in
+    let rest : List ℕ = bytes_of page_coding.code fired ++ end_bytes in
+    bytes-append page_coding.code first (fired ++ end_commands)
+    ∙ ap (λ bs. bytes_of page_coding.code first ++ bs) (bytes-append page_coding.code fired end_commands)
     ∙ sym (ap (λ n. begin_bytes n top bottom ++ rest) length_is
-    ∙ ap (λ n. begin_bytes len n bottom ++ rest) top_is
-    ∙ ap (λ n. begin_bytes len ((p.top - strokes.above) * row_units p) n ++ rest) bottom_is)
+    ∙ ap (λ n. begin_bytes len n bottom ++ rest) (top_is ∙ ap (λ n. (p.top - n) * row_units p) above_is)
+    ∙ ap (λ n. begin_bytes len ((p.top - head.above) * row_units p) n ++ rest)
+    (bottom_is ∙ ap (λ n. (p.top + n) * row_units p) (sym height_is)))
 
 -- ---- what a page leaves in a sink
 

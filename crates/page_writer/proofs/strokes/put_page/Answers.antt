@@ -1,8 +1,5 @@
-use Rattle.std.proofs.Common.{◌-◌, ◌+◌, ◌*◌, refl, sym, ap, ◌∙◌, arith}
-use Rattle.page_definitions.specs.Strokes.{Strokes}
-use Rattle.printer_definitions.specs.Printer.{Printer, row_units}
+use Rattle.std.proofs.Common.{refl, arith}
 use Rattle.weave_base.proofs.Parting.{on_err_anyway}
-use Rattle.page_writer.specs.Heads.{strokes_over}
 use Rattle.page_writer.proofs.Inks.{pass_short}
 use Rattle.page_writer.proofs.InTurn.{strokes_fit}
 use Rattle.page_writer.proofs.Whole.{all_appended, appends_alone, first_part, last_part, middle_part}
@@ -11,32 +8,23 @@ use Rattle.page_writer.proofs.strokes.put_page.Goals as goal
 
 pub returns-in_err-put_all-clause-part : goal.returns-in_err-put_all-clause-part
 returns-in_err-put_all-clause-part g c =
-    let p : Printer = c.args.page.now.profile.now in
-    let strokes : Strokes = strokes_over p (g.H.Head.strokes c.args.page.now.head.now) c.args.page.now.planes.now in
-    let whole = page_is p c.args.page.now.planes.now.width c.args.page.now.planes.now.rows (c.args.form.height * row_units p) strokes _ _ _
-    c.sheet_of.ensures.length (c.sheet_of.ensures.top ∙ ap (λ n. (p.top - n) * row_units p) c.above.ensures)
-    (c.sheet_of.ensures.bottom ∙ ap (λ n. (p.top + n) * row_units p) (sym c.requires.rows)) in
+    let whole = page_is c.args.page.now.profile.now (g.H.Head.strokes c.args.page.now.head.now) c.args.page.now.planes.now
+    c.sheet_of.ensures.length c.sheet_of.ensures.top c.above.ensures c.sheet_of.ensures.bottom c.requires.rows in
     on_err_anyway _ (first_part _ _ _ _ _ whole
     (part_alone c.deref.ensures.value c.requires.empty c.append_prologue.ensures.items c.in_err-put_all.ensures.part))
 
 pub returns-in_err-strokes-clause-part : goal.returns-in_err-strokes-clause-part
 returns-in_err-strokes-clause-part g c =
-    let p : Printer = c.args.page.now.profile.now in
-    let strokes : Strokes = strokes_over p (g.H.Head.strokes c.args.page.now.head.now) c.args.page.now.planes.now in
-    let whole = page_is p c.args.page.now.planes.now.width c.args.page.now.planes.now.rows (c.args.form.height * row_units p) strokes _ _ _
-    c.sheet_of.ensures.length (c.sheet_of.ensures.top ∙ ap (λ n. (p.top - n) * row_units p) c.above.ensures)
-    (c.sheet_of.ensures.bottom ∙ ap (λ n. (p.top + n) * row_units p) (sym c.requires.rows)) in
+    let whole = page_is c.args.page.now.profile.now (g.H.Head.strokes c.args.page.now.head.now) c.args.page.now.planes.now
+    c.sheet_of.ensures.length c.sheet_of.ensures.top c.above.ensures c.sheet_of.ensures.bottom c.requires.rows in
     let begun = appends_alone _ _ _ c.deref.ensures.value c.requires.empty c.append_prologue.ensures.items
     c.in_ok-put_all.ensures.ok in
     on_err_anyway _ (middle_part _ _ whole begun c.in_err-strokes.ensures.part)
 
 pub returns-in_err-put_all-2-clause-part : goal.returns-in_err-put_all-2-clause-part
 returns-in_err-put_all-2-clause-part g c =
-    let p : Printer = c.args.page.now.profile.now in
-    let strokes : Strokes = strokes_over p (g.H.Head.strokes c.args.page.now.head.now) c.args.page.now.planes.now in
-    let whole = page_is p c.args.page.now.planes.now.width c.args.page.now.planes.now.rows (c.args.form.height * row_units p) strokes _ _ _
-    c.sheet_of.ensures.length (c.sheet_of.ensures.top ∙ ap (λ n. (p.top - n) * row_units p) c.above.ensures)
-    (c.sheet_of.ensures.bottom ∙ ap (λ n. (p.top + n) * row_units p) (sym c.requires.rows)) in
+    let whole = page_is c.args.page.now.profile.now (g.H.Head.strokes c.args.page.now.head.now) c.args.page.now.planes.now
+    c.sheet_of.ensures.length c.sheet_of.ensures.top c.above.ensures c.sheet_of.ensures.bottom c.requires.rows in
     let begun = appends_alone _ _ _ c.deref.ensures.value c.requires.empty c.append_prologue.ensures.items
     c.in_ok-put_all.ensures.ok in
     on_err_anyway _ (last_part _ _ _ whole begun c.in_ok-strokes.ensures.ok
@@ -44,11 +32,8 @@ returns-in_err-put_all-2-clause-part g c =
 
 pub returns-clause-ok : goal.returns-clause-ok
 returns-clause-ok g c =
-    let p : Printer = c.args.page.now.profile.now in
-    let strokes : Strokes = strokes_over p (g.H.Head.strokes c.args.page.now.head.now) c.args.page.now.planes.now in
-    let whole = page_is p c.args.page.now.planes.now.width c.args.page.now.planes.now.rows (c.args.form.height * row_units p) strokes _ _ _
-    c.sheet_of.ensures.length (c.sheet_of.ensures.top ∙ ap (λ n. (p.top - n) * row_units p) c.above.ensures)
-    (c.sheet_of.ensures.bottom ∙ ap (λ n. (p.top + n) * row_units p) (sym c.requires.rows)) in
+    let whole = page_is c.args.page.now.profile.now (g.H.Head.strokes c.args.page.now.head.now) c.args.page.now.planes.now
+    c.sheet_of.ensures.length c.sheet_of.ensures.top c.above.ensures c.sheet_of.ensures.bottom c.requires.rows in
     let begun = appends_alone _ _ _ c.deref.ensures.value c.requires.empty c.append_prologue.ensures.items
     c.in_ok-put_all.ensures.ok in
     let held = g.K.Sink.held in
@@ -57,12 +42,9 @@ returns-clause-ok g c =
 
 pub returns-clause-sum : goal.returns-clause-sum
 returns-clause-sum g c =
-    let p : Printer = c.args.page.now.profile.now in
-    let strokes : Strokes = strokes_over p (g.H.Head.strokes c.args.page.now.head.now) c.args.page.now.planes.now in
-    let whole = page_is p c.args.page.now.planes.now.width c.args.page.now.planes.now.rows (c.args.form.height * row_units p) strokes _ _ _
-    c.sheet_of.ensures.length (c.sheet_of.ensures.top ∙ ap (λ n. (p.top - n) * row_units p) c.above.ensures)
-    (c.sheet_of.ensures.bottom ∙ ap (λ n. (p.top + n) * row_units p) (sym c.requires.rows)) in
-    page_sums p c.args.page.now.planes.now.width c.args.page.now.planes.now.rows (c.args.form.height * row_units p) strokes _ _ _ _ _ whole c.in_ok-strokes.ensures.bytes refl c.in_ok-strokes.ensures.rasters
+    let whole = page_is c.args.page.now.profile.now (g.H.Head.strokes c.args.page.now.head.now) c.args.page.now.planes.now
+    c.sheet_of.ensures.length c.sheet_of.ensures.top c.above.ensures c.sheet_of.ensures.bottom c.requires.rows in
+    page_sums _ _ _ _ _ _ _ _ _ _ whole c.in_ok-strokes.ensures.bytes refl c.in_ok-strokes.ensures.rasters
 
 pub overflow_add-result : goal.overflow_add-result
 overflow_add-result g c =
