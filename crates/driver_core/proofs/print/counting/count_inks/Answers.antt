@@ -1,7 +1,7 @@
 use Rattle.std.proofs.Common.{◌≡◌, ℕ, ◌∙◌, arith, ap}
 use Rattle.dot_planes.specs.Tables.{DotTable, dot}
 use Rattle.driver_core.specs.Printing.Counting.{CountsInk, plane_dots}
-use Rattle.ink_meter.proofs.PlaneDots.{colour_dots, four_dots, plane-most}
+use Rattle.ink_meter.proofs.PlaneDots.{colour-most, colour_dots, four-most, four_dots}
 use Rattle.driver_core.proofs.print.counting.count_inks.Goals as goal
 
 -- the dots that are counted are those of the ink at this place
@@ -20,16 +20,10 @@ pub returns-in-Cmy-clause-most : goal.returns-in-Cmy-clause-most
 returns-in-Cmy-clause-most g c =
     let t : DotTable = c.args.planes.now in
     let each = c.run_beside.ensures.shares.each in
-    omega (
-      arith,
-      c.rows-rows.ensures,
-      counted (each 0 c.index-counts-0.result (omega arith)) c.of.ensures.planes c.of.ensures.place,
-      counted (each 1 c.index-counts-1.result (omega arith)) c.of-in-Cmy.ensures.planes c.of-in-Cmy.ensures.place,
-      counted (each 2 c.index-counts-2.result (omega arith)) c.of-in-Cmy-2.ensures.planes c.of-in-Cmy-2.ensures.place,
-      plane-most (dot t) t.width t.rows 0 c.requires.width,
-      plane-most (dot t) t.width t.rows 1 c.requires.width,
-      plane-most (dot t) t.width t.rows 2 c.requires.width,
-    )
+    colour-most (dot t) t.width t.rows c.requires.width (omega (arith, c.rows-rows.ensures))
+    (counted (each 0 c.index-counts-0.result (omega arith)) c.of.ensures.planes c.of.ensures.place)
+    (counted (each 1 c.index-counts-1.result (omega arith)) c.of-in-Cmy.ensures.planes c.of-in-Cmy.ensures.place)
+    (counted (each 2 c.index-counts-2.result (omega arith)) c.of-in-Cmy-2.ensures.planes c.of-in-Cmy-2.ensures.place)
 
 pub returns-in-Cmyk-clause-dots : goal.returns-in-Cmyk-clause-dots
 returns-in-Cmyk-clause-dots g c = λ p h is has.
@@ -44,15 +38,8 @@ pub returns-in-Cmyk-clause-most : goal.returns-in-Cmyk-clause-most
 returns-in-Cmyk-clause-most g c =
     let t : DotTable = c.args.planes.now in
     let each = c.run_beside-in-Cmyk.ensures.shares.each in
-    omega (
-      arith,
-      c.rows-rows.ensures,
-      counted (each 0 c.index-counts-0-in-Cmyk.result (omega arith)) c.of-in-Cmyk.ensures.planes c.of-in-Cmyk.ensures.place,
-      counted (each 1 c.index-counts-1-in-Cmyk.result (omega arith)) c.of-in-Cmyk-2.ensures.planes c.of-in-Cmyk-2.ensures.place,
-      counted (each 2 c.index-counts-2-in-Cmyk.result (omega arith)) c.of-in-Cmyk-3.ensures.planes c.of-in-Cmyk-3.ensures.place,
-      counted (each 3 c.index-counts-3.result (omega arith)) c.of-in-Cmyk-4.ensures.planes c.of-in-Cmyk-4.ensures.place,
-      plane-most (dot t) t.width t.rows 0 c.requires.width,
-      plane-most (dot t) t.width t.rows 1 c.requires.width,
-      plane-most (dot t) t.width t.rows 2 c.requires.width,
-      plane-most (dot t) t.width t.rows 3 c.requires.width,
-    )
+    four-most (dot t) t.width t.rows c.requires.width (omega (arith, c.rows-rows.ensures))
+    (counted (each 0 c.index-counts-0-in-Cmyk.result (omega arith)) c.of-in-Cmyk.ensures.planes c.of-in-Cmyk.ensures.place)
+    (counted (each 1 c.index-counts-1-in-Cmyk.result (omega arith)) c.of-in-Cmyk-2.ensures.planes c.of-in-Cmyk-2.ensures.place)
+    (counted (each 2 c.index-counts-2-in-Cmyk.result (omega arith)) c.of-in-Cmyk-3.ensures.planes c.of-in-Cmyk-3.ensures.place)
+    (counted (each 3 c.index-counts-3.result (omega arith)) c.of-in-Cmyk-4.ensures.planes c.of-in-Cmyk-4.ensures.place)
