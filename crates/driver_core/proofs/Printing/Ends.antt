@@ -7,6 +7,7 @@ use Rattle.std.proofs.KnownBytes.{Appends-nil, Consumes-nil, Consumes-trans}
 use Rattle.diffusion_definitions.specs.Diffusion.{Table}
 use Rattle.driver_answer.specs.declared.answer.Answer.{Answer}
 use Rattle.driver_answer.specs.declared.answer.Answer.TheVariants as answer
+use Rattle.dot_planes.specs.Tables.{DotTable}
 use Rattle.ink_meter.specs.Accounts.{Account, IsFirstOver, all_inks}
 use Rattle.ink_meter.specs.declared.meters.OverCap.{OverCap}
 use Rattle.page_definitions.specs.Dots.{halftone}
@@ -41,6 +42,7 @@ use Rattle.driver_core.specs.Printing.Charging.{RefusesPage}
 use Rattle.driver_core.specs.Outside.{Meters, Outside}
 use Rattle.driver_core.specs.Printing.Pages.{BeginsStream, IsStream, TakesPages, job_bytes}
 use Rattle.driver_core.specs.Printing.Outcome.{CountsPages, PrintedOutcome, PrintsSome, PrintsTaken, stream_answer}
+use Rattle.halftone_reader.specs.Reading.{ReadsHalftone}
 use Rattle.halftone_reader.specs.SoFar.{EndsSo}
 use Rattle.driver_core.proofs.Printing.Counting.{none_counted}
 use Rattle.driver_core.proofs.Runs.Nothing.{no_pages-print}
@@ -52,8 +54,8 @@ pub record CanPrintBy (way : Way) (p : Printer) : Type 0 where
   pub go : CanGo way p
 
 -- the printer of a profile that passes its checks
-pub can_go : (p : Printer) (way : Way) → p.nozzles ≤ 255 → IsOk (check p) → CanGo way p → CanPrintBy way p
-can_go p way few checked go = record { can = can_print p few checked; go = go }
+pub can_go : {p q : Printer} (way : Way) → q ≡ p → q.nozzles ≤ 255 → IsOk (check p) → CanGo way p → CanPrintBy way p
+can_go {p} way same few checked go = record { can = can_print p (subst (λ (r : Printer). r.nozzles ≤ 255) same few) checked; go = go }
 
 -- ---- pages are pages
 
@@ -252,7 +254,8 @@ full_before : (way : Way) (p : Printer) (k : Table) (input out : Outside) (meter
 full_before way p k input out meters pages printed = ((printed.0, inl printed.1), printed.2)
 
 -- the stream does not begin as one
-without_sync : (way : Way) (p : Printer) (k : Table) (before left held : Option (List ℕ)) (accounts : List Account) (f0 f1 g0 g1 : ℕ) (why : StreamStop)
+pub no_sync : (way : Way) (p : Printer) (k : Table) {before left : Option (List ℕ)} (held : Option (List ℕ))
+    (accounts : List Account) {f0 f1 : ℕ} (g0 g1 : ℕ) (why : StreamStop)
     → OnInput {T = PageReader} (Err why) (λ page line cause. IfSome before (λ bytes. (want : Wanted)
     → stream want bytes ≡ record { pages = []; end = Fault page line cause }))
     → OnInput {T = PageReader} (Err why) (λ page line cause. (page ≡ 0) × (line ≡ 0))
@@ -261,7 +264,7 @@ without_sync : (way : Way) (p : Printer) (k : Table) (before left held : Option 
     → PrintedOutcome way p k (record { before = before; now = left; faults_before = f0; faults_now = f1 })
     (record { before = held; now = held; faults_before = g0; faults_now = g1 })
     (record { before = accounts; now = accounts }) 0 (stream_answer why)
-without_sync way p k before left held accounts f0 f1 g0 g1 (stop.Input page line cause) bad place cause_is taken more = (
+no_sync way p k {before} {left} held accounts {f0} {f1} g0 g1 (stop.Input page line cause) bad place cause_is taken more = (
   (
     record {
       pages = [];
@@ -281,7 +284,7 @@ without_sync way p k before left held accounts f0 f1 g0 g1 (stop.Input page line
         → IsStream p o [] (Fault page line cause)
     some None h = tt
     some (Some bytes) h = h (wanted_by p)
-without_sync way p k before left held accounts f0 f1 g0 g1 stop.Read bad place cause_is taken more = (
+no_sync way p k {before} {left} held accounts {f0} {f1} g0 g1 stop.Read bad place cause_is taken more = (
   (
     cause_is refl,
     record {
@@ -295,25 +298,8 @@ without_sync way p k before left held accounts f0 f1 g0 g1 stop.Read bad place c
   ),
   refl,
 )
-without_sync way p k before left held accounts f0 f1 g0 g1 stop.Memory bad place cause_is taken more =
+no_sync way p k {before} {left} held accounts {f0} {f1} g0 g1 stop.Memory bad place cause_is taken more =
     full_before way p k _ _ _ 0 (none_printed way p k before left held accounts f0 f1 g0 g1 more)
-
-pub no_sync : (way : Way) (p : Printer) (k : Table) {before left : Option (List ℕ)} (held : Option (List ℕ))
-    (accounts : List Account) {f0 f1 : ℕ} (g0 g1 : ℕ) (why : StreamStop) (a : Answer)
-    → OnInput {T = PageReader} (Err why) (λ page line cause. IfSome before (λ bytes. (want : Wanted)
-    → stream want bytes ≡ record { pages = []; end = Fault page line cause }))
-    → OnInput {T = PageReader} (Err why) (λ page line cause. (page ≡ 0) × (line ≡ 0))
-    → (IsErrOf {T = PageReader} (Err why) stop.Read → Rose f0 f1)
-    → (IsErrOf {T = PageReader} (Err why) stop.Read → (want : Wanted) → TakesAllPages want before left [])
-    → UsesSome before left → a ≡ stream_answer why
-    → PrintedOutcome way p k (record { before = before; now = left; faults_before = f0; faults_now = f1 })
-    (record { before = held; now = held; faults_before = g0; faults_now = g1 })
-    (record { before = accounts; now = accounts }) 0 a
-no_sync way p k {before} {left} held accounts {f0} {f1} g0 g1 why a bad place cause_is taken more is =
-    subst (PrintedOutcome way p k (record { before = before; now = left; faults_before = f0; faults_now = f1 })
-    (record { before = held; now = held; faults_before = g0; faults_now = g1 })
-    (record { before = accounts; now = accounts }) 0) (sym is)
-    (without_sync way p k before left held accounts f0 f1 g0 g1 why bad place cause_is taken more)
 
 -- the pages that were read are all, where the text is at its end
 pages-none : (want : Wanted) (most number : ℕ) → pages_from want most number [] ≡ record { pages = []; end = Done }
@@ -359,9 +345,9 @@ stream_faults {p = p} {before = before} {left = left} {old = old} so_far page li
         ∙ ap (with_pages so_far.done) h
         ∙ ap (λ ps. record { pages = ps; end = Fault page line cause }) (append-nil so_far.done)
 
--- the same in a page
-in_page : (T : Type 0) (way : Way) (p : Printer) (k : Table) (before left left' held now : Option (List ℕ))
-    (meters : Meters) (old new : PageReader) (number pages f0 f1 f2 g0 g1 : ℕ) (why : StreamStop)
+-- the stream stops in its next page
+pub page_stopped : (T : Type 0) (way : Way) (p : Printer) (k : Table) {before left held now : Option (List ℕ)}
+    (left' : Option (List ℕ)) {meters : Meters} (old new : PageReader) (number pages : ℕ) {f0 f1 f2 : ℕ} (g0 g1 : ℕ) (why : StreamStop)
     → CanPrintBy way p → (so_far : StreamSoFar way p k before left held now old number) → pages + 1 ≡ number
     → CountsPages p k meters so_far.done → OnInput {T = T} (Err why) (EndsSo (wanted_by p) old left)
     → OnInput {T = T} (Err why) (λ page line cause. page ≡ page_of old + 1)
@@ -370,7 +356,7 @@ in_page : (T : Type 0) (way : Way) (p : Printer) (k : Table) (before left left' 
     → UsesSome (text_of old left) (text_of new left')
     → PrintedOutcome way p k (record { before = before; now = left'; faults_before = f0; faults_now = f2 })
     (record { before = held; now = now; faults_before = g0; faults_now = g1 }) meters pages (stream_answer why)
-in_page T way p k before left left' held now meters old new number pages f0 f1 f2 g0 g1
+page_stopped T way p k {before} {left} {held} {now} left' {meters} old new number pages {f0} {f1} {f2} g0 g1
     (stop.Input page line cause) can so_far next counts bad place later cause_is taken more = (
       (
         record {
@@ -385,29 +371,12 @@ in_page T way p k before left left' held now meters old new number pages f0 f1 f
       ),
       omega (arith, next, so_far.next),
     )
-in_page T way p k before left left' held now meters old new number pages f0 f1 f2 g0 g1 stop.Read can so_far next counts bad place later cause_is taken more =
+page_stopped T way p k {before} {left} {held} {now} left' {meters} old new number pages {f0} {f1} {f2} g0 g1 stop.Read can so_far next counts bad place later cause_is taken more =
     let all = all_printed way p k before left left' held now meters old number pages f0 f2 g0 g1 can so_far next counts (taken refl) in
     ((rose_from f0 f1 f2 later (cause_is refl), all.0, all.1), all.2)
-in_page T way p k before left left' held now meters old new number pages f0 f1 f2 g0 g1 stop.Memory can so_far next counts bad place later cause_is taken more =
+page_stopped T way p k {before} {left} {held} {now} left' {meters} old new number pages {f0} {f1} {f2} g0 g1 stop.Memory can so_far next counts bad place later cause_is taken more =
     full_before way p k _ _ _ pages
     (some_printed way p k before left left' held now meters old new number pages f0 f2 g0 g1 can so_far next counts more)
-
--- the stream stops in its next page
-pub page_stopped : (T : Type 0) (way : Way) (p : Printer) (k : Table) {before left held now : Option (List ℕ)}
-    (left' : Option (List ℕ)) {meters : Meters} (old new : PageReader) (number pages : ℕ) {f0 f1 f2 : ℕ} (g0 g1 : ℕ) (why : StreamStop) (a : Answer)
-    → CanPrintBy way p → (so_far : StreamSoFar way p k before left held now old number) → pages + 1 ≡ number
-    → CountsPages p k meters so_far.done → OnInput {T = T} (Err why) (EndsSo (wanted_by p) old left)
-    → OnInput {T = T} (Err why) (λ page line cause. page ≡ page_of old + 1)
-    → f0 ≤ f1 → (IsErrOf {T = T} (Err why) stop.Read → Rose f1 f2)
-    → (IsErrOf {T = T} (Err why) stop.Read → TakesNoPage (wanted_by p) (page_of old) (text_of old left) left')
-    → UsesSome (text_of old left) (text_of new left')
-    → a ≡ stream_answer why
-    → PrintedOutcome way p k (record { before = before; now = left'; faults_before = f0; faults_now = f2 })
-    (record { before = held; now = now; faults_before = g0; faults_now = g1 }) meters pages a
-page_stopped T way p k {before} {left} {held} {now} left' {meters} old new number pages {f0} {f1} {f2} g0 g1 why a can so_far next counts bad place later cause_is taken more is =
-    subst (PrintedOutcome way p k (record { before = before; now = left'; faults_before = f0; faults_now = f2 })
-    (record { before = held; now = now; faults_before = g0; faults_now = g1 }) meters pages) (sym is)
-    (in_page T way p k before left left' held now meters old new number pages f0 f1 f2 g0 g1 why can so_far next counts bad place later cause_is taken more)
 
 -- the stream ended
 pub stream_done : (way : Way) (p : Printer) (k : Table)
@@ -441,13 +410,13 @@ stream_done way p k {before} {left} {left'} {held} {now} {meters} old new number
     )
 
 -- a page was read, and a part of its job written
-pub page_not_written : (way : Way) (p : Printer) (k : Table) {before left held now now' : Option (List ℕ)}
+pub page_not_written : {way : Way} {p : Printer} {k : Table} {before left held now now' : Option (List ℕ)}
     {meters : Meters} (reader : PageReader) (number pages f0 f2 : ℕ) {g0 g1 g2 : ℕ} (page : Page)
     → CanPrintBy way p → (read : StreamRead way p k before left held now reader number page) → pages + 1 ≡ number
     → CountsPages p k meters (read.done ++ page ∷ []) → AppendsPart now now' (page_bytes_by way page p k) → g0 ≤ g1 → Rose g1 g2
     → PrintedOutcome way p k (record { before = before; now = left; faults_before = f0; faults_now = f2 })
     (record { before = held; now = now'; faults_before = g0; faults_now = g2 }) meters pages (answer.Write number)
-page_not_written way p k {before} {left} {held} {now} {now'} {meters} reader number pages f0 f2 {g0} {g1} {g2} page can read next counts part later rose = (
+page_not_written {way} {p} {k} {before} {left} {held} {now} {now'} {meters} reader number pages f0 f2 {g0} {g1} {g2} page can read next counts part later rose = (
   (
     rose_from g0 g1 g2 later rose,
     record {
@@ -468,13 +437,13 @@ page_not_written way p k {before} {left} {held} {now} {now'} {meters} reader num
 )
 
 -- a page was read, and nothing of its job was written
-pub page_without_room : (way : Way) (p : Printer) (k : Table) {before left held now now' : Option (List ℕ)}
+pub page_without_room : {way : Way} {p : Printer} {k : Table} {before left held now now' : Option (List ℕ)}
     {meters : Meters} (reader : PageReader) (number pages f0 f2 g0 g2 : ℕ) (page : Page)
     → CanPrintBy way p → (read : StreamRead way p k before left held now reader number page) → pages + 1 ≡ number
     → CountsPages p k meters (read.done ++ page ∷ []) → Keeps now now'
     → PrintedOutcome way p k (record { before = before; now = left; faults_before = f0; faults_now = f2 })
     (record { before = held; now = now'; faults_before = g0; faults_now = g2 }) meters pages answer.Memory
-page_without_room way p k {before} {left} {held} {now} {now'} {meters} reader number pages f0 f2 g0 g2 page can read next counts kept =
+page_without_room {way} {p} {k} {before} {left} {held} {now} {now'} {meters} reader number pages f0 f2 g0 g2 page can read next counts kept =
     let all = taken_pages p before (text_of reader left) left reader.unread read.bytes (read.done ++ page ∷ [])
     _ _ read.used read.is (record { bytes = []; is = Consumes-nil (text_of reader left) }) in (
       (
@@ -509,7 +478,7 @@ begins p (Some xs) (Some ys) bytes pages most number uses is = (
 )
 
 -- a page was read, and goes past a cap
-pub page_over : (way : Way) (p : Printer) (k : Table) {before left held now : Option (List ℕ)} {first last next : List Account}
+pub page_over : {way : Way} {p : Printer} {k : Table} {before left held now : Option (List ℕ)} {first last next : List Account}
     (reader : PageReader) (number pages f0 f2 g0 g1 : ℕ) (page : Page) (n : InkCounts) (a : Answer)
     → CanPrintBy way p → (read : StreamRead way p k before left held now reader number page) → pages + 1 ≡ number
     → CountsPages p k (record { before = first; now = last }) read.done
@@ -517,7 +486,7 @@ pub page_over : (way : Way) (p : Printer) (k : Table) {before left held now : Op
     → PrintedOutcome way p k (record { before = before; now = left; faults_before = f0; faults_now = f2 })
     (record { before = held; now = now; faults_before = g0; faults_now = g1 })
     (record { before = first; now = next }) pages a
-page_over way p k {before} {left} {held} {now} {first} {last} {next} reader number pages f0 f2 g0 g1 page n a can read so_many counts are refuses kept =
+page_over {way} {p} {k} {before} {left} {held} {now} {first} {last} {next} reader number pages f0 f2 g0 g1 page n a can read so_many counts are refuses kept =
     let S : Answer → Type 0 = λ b. PrintedOutcome way p k (record {
       before = before;
       now = left;
@@ -549,7 +518,9 @@ page_over way p k {before} {left} {held} {now} {first} {last} {next} reader numb
     )
 
 -- the bytes of a page are those of its halftone
-pub page-bytes-is : (way : Way) (p : Printer) (k : Table) (page : Page) (form : PageForm)
-    → form ≡ page.form → halftone_bytes_by way p (halftone page p k) (form.height * row_units p) ≡ page_bytes_by way page p k
+pub page-bytes-is : (way : Way) {p : Printer} {k : Table} {old new : PageReader} {before now : Option (List ℕ)}
+    {form : PageForm} {t : DotTable} (halftoned : ReadsHalftone p k old new before now form t)
+    → halftone_bytes_by way p (halftone halftoned.page p k) (form.height * row_units p) ≡ page_bytes_by way halftoned.page p k
 unfolding page_bytes_by
-page-bytes-is way p k page form e = ap (λ (f : PageForm). halftone_bytes_by way p (halftone page p k) (f.height * row_units p)) e
+page-bytes-is way {p} {k} halftoned =
+    ap (λ (f : PageForm). halftone_bytes_by way p (halftone halftoned.page p k) (f.height * row_units p)) halftoned.form_is

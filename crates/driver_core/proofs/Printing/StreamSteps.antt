@@ -1,24 +1,29 @@
 -- A stream that is read page by page, and printed.
 use Rattle.std.proofs.Common.{◌≡◌, ℕ, suc, ◌+◌, ◌-◌, ◌≤◌, false, List, [], ◌∷◌, ◌++◌, length, Option, refl, sym, ◌∙◌, ap}
-use Rattle.std.proofs.Common.{subst, arith, append_assoc, append-nil, length-append}
+use Rattle.std.proofs.Common.{subst, arith, append_assoc, append-nil, length-append, All, map}
 use Rattle.std.specs.Io.KnownBytes.{Appends, Consumes}
 use Rattle.std.proofs.KnownBytes.{Appends-nil, Appends-trans, Consumes-trans}
 use Rattle.diffusion_definitions.specs.Diffusion.{Table}
+use Rattle.dot_planes.specs.Tables.{DotTable, dot}
+use Rattle.page_definitions.specs.Dots.{Halftone, HasDots}
 use Rattle.page_definitions.specs.Ways.{Way, page_bytes_by}
 use Rattle.printer_definitions.specs.Printer.{Printer}
+use Rattle.printer_definitions.specs.declared.inks.InkCounts.{InkCounts}
 use Rattle.separation_definitions.specs.Windows.{wanted_by}
 use Rattle.pwg_definitions.specs.declared.faults.InputCause.TheVariants as cause
+use Rattle.pwg_definitions.specs.declared.pages.PageForm.{PageForm}
 use Rattle.pwg_definitions.specs.declared.pages.Wanted.{Wanted}
 use Rattle.pwg_definitions.specs.Stream.{Page, Stream, page_at, pages_from, stream, sync_word, with_page}
 use Rattle.pwg_definitions.specs.Stream.PageRead.{Whole, Broken}
 use Rattle.pwg_stream.specs.declared.reader.PageReader.{PageReader}
 use Rattle.pwg_stream.specs.Reading.{has_ended, page_of, text_of}
-use Rattle.ink_meter.specs.Accounts.{Account}
+use Rattle.ink_meter.specs.Accounts.{Account, HasRoom, added}
+use Rattle.ink_meter.specs.Counts.{halftone_dots}
 use Rattle.driver_core.specs.Outside.{Meters}
 use Rattle.driver_core.specs.Printing.Pages.{job_bytes}
 use Rattle.driver_core.specs.Printing.Outcome.{CountsPages}
-use Rattle.driver_core.proofs.Printing.Counting.{none_counted}
-use Rattle.halftone_reader.specs.Reading.{IsBetween, ReadsPage}
+use Rattle.driver_core.proofs.Printing.Counting.{dots_counted, none_counted, one_counted}
+use Rattle.halftone_reader.specs.Reading.{IsBetween, ReadsHalftone, ReadsPage}
 use Rattle.halftone_reader.proofs.PageSteps.{pages-read}
 
 -- the stream with these pages before it
@@ -200,6 +205,20 @@ pub metered_read : (way : Way) (p : Printer) (k : Table) {before left left' held
 unfolding stream_read
 metered_read way p k {before} {left} {left'} {held} {now} {meters} old new number page so_far reads between =
     (stream_read way p k before left left' held now old new number page so_far.0 reads between, so_far.1)
+
+-- and the dots that are counted of its planes have room
+pub page_counted : {way : Way} {p q : Printer} {k : Table} {before left left' held now : Option (List ℕ)} {first last next : List Account}
+    (old new : PageReader) (number : ℕ) {form : PageForm} {t : DotTable} (n : InkCounts)
+    → MeteredSoFar way p k before left held now (record { before = first; now = last }) old number
+    → (halftoned : ReadsHalftone p k old new left left' form t) → IsBetween new → q ≡ p
+    → ((p : Printer) (h : Halftone) → p.inks ≡ q.inks → HasDots p h t.width t.rows t.inks (dot t) → n ≡ halftone_dots p h)
+    → All (HasRoom n) last → next ≡ map (added n) last
+    → (read : StreamRead way p k before left' held now new number halftoned.page)
+    × CountsPages p k (record { before = first; now = next }) (read.done ++ halftoned.page ∷ [])
+page_counted {way} {p} {q} {k} {t = t} old new number n so_far halftoned between same counts room is =
+    let read = metered_read way p k old new number halftoned.page so_far halftoned.reads between in
+    let are = dots_counted k t halftoned.page n same halftoned.dots counts in
+    (read.0, one_counted p k _ _ _ _ halftoned.page n are read.1 room is)
 
 pub metered_written : (way : Way) (p : Printer) (k : Table) {before left held now now' : Option (List ℕ)} {meters : Meters}
     (reader : PageReader) (number : ℕ) (page : Page) → (read : StreamRead way p k before left held now reader number page)

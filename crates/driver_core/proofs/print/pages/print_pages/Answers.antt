@@ -1,23 +1,21 @@
-use Rattle.std.proofs.Common.{Err, Option, arith, ap, subst, sym, ◌∙◌, ◌≤◌}
+use Rattle.std.proofs.Common.{Err, Option, arith, ap, sym, ◌∙◌}
 use Rattle.std.proofs.lemmas.Result.{err_from_is_err_and}
 use Rattle.diffusion_kernel.specs.Tables.{table_of}
 use Rattle.halftone_reader.specs.declared.pages.HalftonedPage.{HalftonedPage}
-use Rattle.page_definitions.specs.Dots.{halftone}
-use Rattle.ink_meter.proofs.Pages.{page_dots-is}
-use Rattle.printer_definitions.specs.Printer.{Printer}
 use Rattle.pwg_definitions.specs.declared.pages.PageForm.{PageForm}
 use Rattle.separation_definitions.specs.Windows.{wanted_by, window_of}
 use Rattle.driver_core.specs.Runs.Fitting.{way_of}
 use Rattle.driver_core.proofs.Printing.Ends.{can_go, no_sync, page_over, page-bytes-is, page-wanted, page_not_written}
 use Rattle.driver_core.proofs.Printing.Ends.{page_stopped, page_without_room, stream_done}
-use Rattle.driver_core.proofs.Printing.Counting.{one_counted}
-use Rattle.driver_core.proofs.Printing.StreamSteps.{metered_begin, metered_read, metered_written}
+use Rattle.driver_core.proofs.Printing.Counting.{dots_counted}
+use Rattle.driver_core.proofs.Printing.StreamSteps.{metered_begin, metered_read, metered_written, page_counted}
 use Rattle.driver_core.proofs.print.pages.print_pages.Goals as goal
 
 pub returns-in-Err-clause-outcome : goal.returns-in-Err-clause-outcome
 returns-in-Err-clause-outcome g c =
-    no_sync (way_of c.args.job.now) c.args.profile.now (table_of c.args.job.now.kernel) _ _ _ _ c.in-Err.stop c.stream_answer.result
-    c.in-Err.ensures.input c.in-Err.ensures.place c.in-Err.ensures.read c.in-Err.ensures.taken c.in-Err.ensures.used c.stream_answer.ensures
+    rw c.stream_answer.ensures
+    (no_sync (way_of c.args.job.now) c.args.profile.now (table_of c.args.job.now.kernel) _ _ _ _ c.in-Err.stop
+    c.in-Err.ensures.input c.in-Err.ensures.place c.in-Err.ensures.read c.in-Err.ensures.taken c.in-Err.ensures.used)
 
 pub pages-init : goal.pages-init
 pages-init g c = record {
@@ -30,21 +28,20 @@ pages-init g c = record {
 
 pub returns-in-Err-read_page-clause-outcome : goal.returns-in-Err-read_page-clause-outcome
 returns-in-Err-read_page-clause-outcome g c =
-    page_stopped (Option HalftonedPage) (way_of c.args.job.now) c.args.profile.now (table_of c.args.job.now.kernel)
+    rw c.stream_answer-in-Err-read_page.ensures
+    (page_stopped (Option HalftonedPage) (way_of c.args.job.now) c.args.profile.now (table_of c.args.job.now.kernel)
     _ c.pages.reader c.read_page.new.reader c.pages.number c.pages.pages _ _ c.in-Err-read_page.stop
-    c.stream_answer-in-Err-read_page.result (can_go c.args.profile.now (way_of c.args.job.now)
-    (subst (λ (p : Printer). p.nozzles ≤ 255) c.profile.view_is (omega (arith, c.if-prove.false))) c.requires.checked c.requires.way)
+    (can_go (way_of c.args.job.now) c.profile.view_is (omega (arith, c.if-prove.false)) c.requires.checked c.requires.way)
     c.pages.invariant.stream.0 c.pages.invariant.whole c.pages.invariant.stream.1
-    c.in-Err-read_page.ensures.input c.in-Err-read_page.ensures.place c.pages.invariant.read_later c.in-Err-read_page.ensures.read c.in-Err-read_page.ensures.taken c.read_page.ensures.used
-    c.stream_answer-in-Err-read_page.ensures
+    c.in-Err-read_page.ensures.input c.in-Err-read_page.ensures.place c.pages.invariant.read_later
+    c.in-Err-read_page.ensures.read c.in-Err-read_page.ensures.taken c.read_page.ensures.used)
 
 pub returns-in-Ok-None-clause-outcome : goal.returns-in-Ok-None-clause-outcome
 returns-in-Ok-None-clause-outcome g c =
     let end = rw c.in-Ok-None.field-0-is at c.in-Ok-None.ensures.none in
     stream_done (way_of c.args.job.now) c.args.profile.now (table_of c.args.job.now.kernel) c.pages.reader c.read_page.new.reader c.pages.number c.pages.pages
     (g.S.Source.faults c.args.input.now) (g.S.Source.faults c.read_page.new.source) (g.K.Sink.faults c.args.out.now)
-    (g.K.Sink.faults c.pages.out) (can_go c.args.profile.now (way_of c.args.job.now)
-    (subst (λ (p : Printer). p.nozzles ≤ 255) c.profile.view_is (omega (arith, c.if-prove.false))) c.requires.checked c.requires.way)
+    (g.K.Sink.faults c.pages.out) (can_go (way_of c.args.job.now) c.profile.view_is (omega (arith, c.if-prove.false)) c.requires.checked c.requires.way)
     c.pages.invariant.stream.0 c.pages.invariant.whole c.pages.invariant.stream.1 end.0 end.1 c.read_page.ensures.used
 
 pub write_by_way-requires-clause-wanted : goal.write_by_way-requires-clause-wanted
@@ -69,53 +66,40 @@ write_by_way-requires-clause-inks g c κs within =
 
 pub returns-in-Err-Write-clause-outcome : goal.returns-in-Err-Write-clause-outcome
 returns-in-Err-Write-clause-outcome g c =
-    let p = c.args.profile.now in
-    let k = table_of c.args.job.now.kernel in
-    let way = way_of c.args.job.now in
     let halftoned = rw c.in-Ok-Some.field-0-is at c.in-Ok-Some.ensures.page in
-    let page = halftoned.page in
-    let read = metered_read way p k c.pages.reader c.read_page.new.reader c.pages.number
-    page c.pages.invariant.stream halftoned.reads (rw c.in-Ok-Some.field-0-is at c.in-Ok-Some.ensures.between) in
-    let are = c.count_inks.ensures.dots p (halftone page p k) (ap (λ (q : Printer). q.inks) (sym c.profile.view_is)) halftoned.dots ∙ page_dots-is p k page in
-    let counts = one_counted p k _ _ _ _ page c.count_inks.result are read.1 c.in_ok-charge.ensures.room c.in_ok-charge.ensures.counted in
-    let part = rw (page-bytes-is way p k page c.in-Ok-Some.page.form halftoned.form_is) at
-    (c.in-Err-Write.ensures.part (halftone page p k) halftoned.dots (ap Err c.in-Err-Write.field-0-is)) in
-    page_not_written way p k c.read_page.new.reader c.pages.number c.pages.pages
-    (g.S.Source.faults c.args.input.now) (g.S.Source.faults c.read_page.new.source) page
-    (can_go c.args.profile.now (way_of c.args.job.now)
-    (subst (λ (p : Printer). p.nozzles ≤ 255) c.profile.view_is (omega (arith, c.if-prove.false))) c.requires.checked c.requires.way) read.0 c.pages.invariant.whole counts part c.pages.invariant.written_later (c.in-Err-Write.ensures.write (ap Err c.in-Err-Write.field-0-is))
+    let counted = page_counted c.pages.reader c.read_page.new.reader c.pages.number c.count_inks.result c.pages.invariant.stream halftoned
+    (rw c.in-Ok-Some.field-0-is at c.in-Ok-Some.ensures.between) c.profile.view_is c.count_inks.ensures.dots
+    c.in_ok-charge.ensures.room c.in_ok-charge.ensures.counted in
+    let part = rw (page-bytes-is (way_of c.args.job.now) halftoned) at
+    (c.in-Err-Write.ensures.part _ halftoned.dots (ap Err c.in-Err-Write.field-0-is)) in
+    page_not_written c.read_page.new.reader c.pages.number c.pages.pages
+    (g.S.Source.faults c.args.input.now) (g.S.Source.faults c.read_page.new.source) halftoned.page
+    (can_go (way_of c.args.job.now) c.profile.view_is (omega (arith, c.if-prove.false)) c.requires.checked c.requires.way)
+    counted.0 c.pages.invariant.whole counted.1 part c.pages.invariant.written_later
+    (c.in-Err-Write.ensures.write (ap Err c.in-Err-Write.field-0-is))
 
 pub returns-in-Err-Memory-clause-outcome : goal.returns-in-Err-Memory-clause-outcome
 returns-in-Err-Memory-clause-outcome g c =
-    let p = c.args.profile.now in
-    let k = table_of c.args.job.now.kernel in
-    let way = way_of c.args.job.now in
     let halftoned = rw c.in-Ok-Some.field-0-is at c.in-Ok-Some.ensures.page in
-    let read = metered_read way p k c.pages.reader c.read_page.new.reader c.pages.number
-    halftoned.page c.pages.invariant.stream halftoned.reads (rw c.in-Ok-Some.field-0-is at c.in-Ok-Some.ensures.between) in
-    let are = c.count_inks.ensures.dots p (halftone halftoned.page p k) (ap (λ (q : Printer). q.inks) (sym c.profile.view_is)) halftoned.dots ∙ page_dots-is p k halftoned.page in
-    let counts = one_counted p k _ _ _
-    _ halftoned.page c.count_inks.result are read.1 c.in_ok-charge.ensures.room c.in_ok-charge.ensures.counted in
-    page_without_room way p k c.read_page.new.reader c.pages.number c.pages.pages
+    let counted = page_counted c.pages.reader c.read_page.new.reader c.pages.number c.count_inks.result c.pages.invariant.stream halftoned
+    (rw c.in-Ok-Some.field-0-is at c.in-Ok-Some.ensures.between) c.profile.view_is c.count_inks.ensures.dots
+    c.in_ok-charge.ensures.room c.in_ok-charge.ensures.counted in
+    page_without_room c.read_page.new.reader c.pages.number c.pages.pages
     (g.S.Source.faults c.args.input.now) (g.S.Source.faults c.read_page.new.source)
     (g.K.Sink.faults c.args.out.now) (g.K.Sink.faults c.write_by_way.new.out) halftoned.page
-    (can_go c.args.profile.now (way_of c.args.job.now)
-    (subst (λ (p : Printer). p.nozzles ≤ 255) c.profile.view_is (omega (arith, c.if-prove.false))) c.requires.checked c.requires.way) read.0 c.pages.invariant.whole counts (c.in-Err-Memory.ensures.memory (ap Err c.in-Err-Memory.field-0-is))
+    (can_go (way_of c.args.job.now) c.profile.view_is (omega (arith, c.if-prove.false)) c.requires.checked c.requires.way)
+    counted.0 c.pages.invariant.whole counted.1 (c.in-Err-Memory.ensures.memory (ap Err c.in-Err-Memory.field-0-is))
 
 pub pages-preserved : goal.pages-preserved
 pages-preserved g c =
-    let p = c.args.profile.now in
-    let k = table_of c.args.job.now.kernel in
-    let way = way_of c.args.job.now in
     let halftoned = rw c.in-Ok-Some.field-0-is at c.in-Ok-Some.ensures.page in
-    let page = halftoned.page in
-    let read = metered_read way p k c.pages.reader c.read_page.new.reader c.pages.number
-    page c.pages.invariant.stream halftoned.reads (rw c.in-Ok-Some.field-0-is at c.in-Ok-Some.ensures.between) in
-    let are = c.count_inks.ensures.dots p (halftone page p k) (ap (λ (q : Printer). q.inks) (sym c.profile.view_is)) halftoned.dots ∙ page_dots-is p k page in
-    let counts = one_counted p k _ _ _ _ page c.count_inks.result are read.1 c.in_ok-charge.ensures.room c.in_ok-charge.ensures.counted in
+    let counted = page_counted c.pages.reader c.read_page.new.reader c.pages.number c.count_inks.result c.pages.invariant.stream halftoned
+    (rw c.in-Ok-Some.field-0-is at c.in-Ok-Some.ensures.between) c.profile.view_is c.count_inks.ensures.dots
+    c.in_ok-charge.ensures.room c.in_ok-charge.ensures.counted in
     record {
-      stream = metered_written way p k c.read_page.new.reader c.pages.number page read.0 counts
-          (rw (page-bytes-is way p k page c.in-Ok-Some.page.form halftoned.form_is) at (c.in-Ok-write_by_way.ensures.ok (halftone page p k) halftoned.dots));
+      stream = metered_written (way_of c.args.job.now) c.args.profile.now (table_of c.args.job.now.kernel)
+          c.read_page.new.reader c.pages.number halftoned.page counted.0 counted.1
+          (rw (page-bytes-is (way_of c.args.job.now) halftoned) at (c.in-Ok-write_by_way.ensures.ok _ halftoned.dots));
       whole = omega arith;
       read_later = omega (arith, c.pages.invariant.read_later, c.read_page.ensures.later);
       written_later = omega (arith, c.pages.invariant.written_later, c.write_by_way.ensures.later);
@@ -123,17 +107,14 @@ pages-preserved g c =
 
 pub returns-in_err-charge-clause-outcome : goal.returns-in_err-charge-clause-outcome
 returns-in_err-charge-clause-outcome g c =
-    let p = c.args.profile.now in
     let k = table_of c.args.job.now.kernel in
-    let way = way_of c.args.job.now in
     let halftoned = rw c.in-Ok-Some.field-0-is at c.in-Ok-Some.ensures.page in
-    let page = halftoned.page in
-    let read = metered_read way p k c.pages.reader c.read_page.new.reader c.pages.number
-    page c.pages.invariant.stream halftoned.reads (rw c.in-Ok-Some.field-0-is at c.in-Ok-Some.ensures.between) in
-    let are = c.count_inks.ensures.dots p (halftone page p k) (ap (λ (q : Printer). q.inks) (sym c.profile.view_is)) halftoned.dots ∙ page_dots-is p k page in
+    let read = metered_read (way_of c.args.job.now) c.args.profile.now k c.pages.reader c.read_page.new.reader c.pages.number
+    halftoned.page c.pages.invariant.stream halftoned.reads (rw c.in-Ok-Some.field-0-is at c.in-Ok-Some.ensures.between) in
+    let are = dots_counted k _ halftoned.page c.count_inks.result c.profile.view_is halftoned.dots c.count_inks.ensures.dots in
     let error = err_from_is_err_and c.from_residual.result c.from_residual.ensures.1 in
-    rw (error.1, error.2) (page_over way p k c.read_page.new.reader c.pages.number c.pages.pages
+    rw (error.1, error.2) (page_over c.read_page.new.reader c.pages.number c.pages.pages
     (g.S.Source.faults c.args.input.now) (g.S.Source.faults c.read_page.new.source) (g.K.Sink.faults c.args.out.now)
-    (g.K.Sink.faults c.pages.out) page c.count_inks.result c.in_err-charge.field-0.0
-    (can_go c.args.profile.now (way_of c.args.job.now)
-    (subst (λ (p : Printer). p.nozzles ≤ 255) c.profile.view_is (omega (arith, c.if-prove.false))) c.requires.checked c.requires.way) read.0 c.pages.invariant.whole read.1 are c.in_err-charge.ensures.over c.in_err-charge.ensures.kept)
+    (g.K.Sink.faults c.pages.out) halftoned.page c.count_inks.result c.in_err-charge.field-0.0
+    (can_go (way_of c.args.job.now) c.profile.view_is (omega (arith, c.if-prove.false)) c.requires.checked c.requires.way)
+    read.0 c.pages.invariant.whole read.1 are c.in_err-charge.ensures.over c.in_err-charge.ensures.kept)

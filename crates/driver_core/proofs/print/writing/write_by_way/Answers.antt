@@ -1,4 +1,4 @@
-use Rattle.std.proofs.Common.{◌≡◌, ℕ, ◌*◌, ◌≤◌, List, OnOk, sym, subst, arith}
+use Rattle.std.proofs.Common.{◌≡◌, ℕ, ◌*◌, List, OnOk, sym, subst, arith}
 use Rattle.std.specs.Io.KnownBytes.{Appends}
 use Rattle.page_definitions.specs.Dots.{dots_wanted}
 use Rattle.page_definitions.specs.Printing.{GivesSheet}
@@ -31,7 +31,7 @@ pub returns-then-job-clause-sum : goal.returns-then-job-clause-sum
 returns-then-job-clause-sum g c = λ h shows.
     let p : Printer = c.args.profile.now in
     let way : way_of c.args.job.now ≡ Shingled = way-shingled c.args.job.now c.if-job.true in
-    let can = can_go p Shingled (subst (λ (p : Printer). p.nozzles ≤ 255) c.profile.view_is (omega (arith, c.if-prove.false)))
+    let can = can_go Shingled c.profile.view_is (omega (arith, c.if-prove.false))
     c.requires.checked (subst (λ way. CanGo way p) way c.requires.way) in
     let is : IsOfPage Shingled p c.args.planes.now h c.args.form =
     record { can = can; wanted = c.requires.wanted; width = c.requires.width; rows = c.requires.rows; shows = shows } in
@@ -67,7 +67,7 @@ returns-then-is_empty-clause-sum g c = λ h shows.
     let p : Printer = c.args.profile.now in
     let way : way_of c.args.job.now ≡ Woven =
     way-woven c.args.job.now c.if-job.false (none_dead c.args.job.now.dead.items c.is_empty.result c.is_empty.ensures c.if-is_empty.true) in
-    let can = can_go p Woven (subst (λ (p : Printer). p.nozzles ≤ 255) c.profile.view_is (omega (arith, c.if-prove.false)))
+    let can = can_go Woven c.profile.view_is (omega (arith, c.if-prove.false))
     c.requires.checked (subst (λ way. CanGo way p) way c.requires.way) in
     let is : IsOfPage Woven p c.args.planes.now h c.args.form =
     record { can = can; wanted = c.requires.wanted; width = c.requires.width; rows = c.requires.rows; shows = shows } in
@@ -120,7 +120,7 @@ returns-else-is_empty-clause-sum g c = λ h shows.
     let dead : List ℕ = c.args.job.now.dead.items in
     let way : way_of c.args.job.now ≡ Healed dead =
     way-healed c.args.job.now c.if-job.false (some_dead dead c.is_empty.result c.is_empty.ensures c.if-is_empty.false) in
-    let can = can_go p (Healed dead) (subst (λ (p : Printer). p.nozzles ≤ 255) c.profile.view_is (omega (arith, c.if-prove.false)))
+    let can = can_go (Healed dead) c.profile.view_is (omega (arith, c.if-prove.false))
     c.requires.checked (subst (λ way. CanGo way p) way c.requires.way) in
     let is : IsOfPage (Healed dead) p c.args.planes.now h c.args.form =
     record { can = can; wanted = c.requires.wanted; width = c.requires.width; rows = c.requires.rows; shows = shows } in
