@@ -1,5 +1,8 @@
-use Rattle.std.proofs.Common.{refl, arith}
+use Rattle.std.proofs.Common.{◌*◌, refl, arith}
+use Rattle.page_definitions.specs.Strokes.{Strokes}
+use Rattle.printer_definitions.specs.Printer.{Printer, row_units}
 use Rattle.weave_base.proofs.Parting.{on_err_anyway}
+use Rattle.page_writer.specs.Heads.{strokes_over}
 use Rattle.page_writer.proofs.Inks.{pass_short}
 use Rattle.page_writer.proofs.InTurn.{strokes_fit}
 use Rattle.page_writer.proofs.Whole.{all_appended, appends_alone, first_part, last_part, middle_part}
@@ -42,9 +45,12 @@ returns-clause-ok g c =
 
 pub returns-clause-sum : goal.returns-clause-sum
 returns-clause-sum g c =
-    let whole = page_is c.args.page.now.profile.now (g.H.Head.strokes c.args.page.now.head.now) c.args.page.now.planes.now
+    let p : Printer = c.args.page.now.profile.now in
+    let strokes : Strokes = strokes_over p (g.H.Head.strokes c.args.page.now.head.now) c.args.page.now.planes.now in
+    let whole = page_is p (g.H.Head.strokes c.args.page.now.head.now) c.args.page.now.planes.now
     c.sheet_of.ensures.length c.sheet_of.ensures.top c.above.ensures c.sheet_of.ensures.bottom c.requires.rows in
-    page_sums _ _ _ _ _ _ _ _ _ _ whole c.in_ok-strokes.ensures.bytes refl c.in_ok-strokes.ensures.rasters
+    page_sums p c.args.page.now.planes.now.width c.args.page.now.planes.now.rows (c.args.form.height * row_units p) strokes _ _ _ _ _
+    whole c.in_ok-strokes.ensures.bytes refl c.in_ok-strokes.ensures.rasters
 
 pub overflow_add-result : goal.overflow_add-result
 overflow_add-result g c =
