@@ -39,10 +39,10 @@ returns-in_err-spare-clause-taken g c = λ is.
 -- no line of the page has come
 started : (g : _) (c : After-fill g)
     → HalftonedSoFar (begun c.args.profile.now c.args.kernel c.in-Some.form c.args.reader.now (g.S.Source.left c.args.source.now))
-    c.next_page.new.self (g.S.Source.left c.next_page.new.s) c.in_ok-filler.filler c.in_ok-diffuser.diffuser
+    c.next_page.new.self (g.S.Source.left c.next_page.new.source) c.in_ok-filler.filler c.in_ok-diffuser.diffuser
 started g c =
     let begins = rw (c.in-Some.is, c.wanted.ensures) at c.in_ok-form.ensures.page in
-    so_far_begin _ c.next_page.new.self (g.S.Source.left c.next_page.new.s) c.in_ok-filler.filler c.in_ok-diffuser.diffuser begins
+    so_far_begin _ c.next_page.new.self (g.S.Source.left c.next_page.new.source) c.in_ok-filler.filler c.in_ok-diffuser.diffuser begins
     c.requires.unended c.in_ok-form.ensures.going c.in_ok-filler.ensures.page c.in_ok-diffuser.ensures.kernel c.in_ok-filler.ensures.none.0
     (at_top (joined c.in_ok-filler.filler c.in_ok-diffuser.diffuser) c.in_ok-filler.ensures.none.0 c.in_ok-filler.ensures.none.1
     c.in_ok-diffuser.ensures.top c.in_ok-diffuser.ensures.blank)

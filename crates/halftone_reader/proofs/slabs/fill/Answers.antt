@@ -79,7 +79,7 @@ groups-preserved g c =
           let next = so_far_group b c.groups.reader c.next_line.new.self _ _ f d c.in_ok-repeats.repeats here
           (omega (arith, here.count, same, all)) (omega (arith, c.if-lines_left-gt0.true, c.lines_left-in-groups.ensures))
           gives c.in_ok-repeats.ensures.going in
-          so_far_placed b c.next_line.new.self (g.S.Source.left c.next_line.new.s) f h d c.put-in-groups.result next.0
+          so_far_placed b c.next_line.new.self (g.S.Source.left c.next_line.new.source) f h d c.put-in-groups.result next.0
           (omega (arith, told.most, next.1)) told.page told.count (subst L c.line-in-groups.ensures.line told.lines);
     }
 
