@@ -215,7 +215,7 @@ pub page_counted : {way : Way} {p q : Printer} {k : Table} {before left left' he
     → All (HasRoom n) last → next ≡ map (added n) last
     → (read : StreamRead way p k before left' held now new number halftoned.page)
     × CountsPages p k (record { before = first; now = next }) (read.done ++ halftoned.page ∷ [])
-page_counted {way} {p} {q} {k} {t = t} old new number n so_far halftoned between same counts room is =
+page_counted {way} {p} {q} {k} old new number {t = t} n so_far halftoned between same counts room is =
     let read = metered_read way p k old new number halftoned.page so_far halftoned.reads between in
     let are = dots_counted k t halftoned.page n same halftoned.dots counts in
     (read.0, one_counted p k _ _ _ _ halftoned.page n are read.1 room is)
