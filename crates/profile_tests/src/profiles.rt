@@ -9,8 +9,6 @@ use std::alloc::Global;
 use std::process::Abort;
 use std::test::Fail;
 
-const STRAIGHT: [[u16; 17]; 4] = [STRAIGHT_CURVE; 4];
-
 // The built-in profile `p720cmyk`.
 const GOOD: Profile = Profile {
     hdpi: 720,
@@ -20,7 +18,7 @@ const GOOD: Profile = Profile {
     inks: InkSet::Cmyk,
     black_start: 64,
     limits: [255, 224, 224, 224],
-    curves: STRAIGHT,
+    curves: [STRAIGHT_CURVE; 4],
     left: 90,
     right: 90,
     top: 240,
@@ -47,95 +45,82 @@ const ONES: [u16; 17] = [1; 17];
 
 const LAST_FALLS: [u16; 17] = [1, 1, 1, 1, 1, 1, 1, 1, 1, 1, 1, 1, 1, 1, 1, 1, 0];
 
-// The resolutions of a profile, its nozzles and pitch, the start of its black, and its top margin.
-type Numbers = ((u16, u16), (u8, u8), u8, u16);
-
-const GOOD_NUMBERS: Numbers = ((720, 720), (31, 8), 64, 240);
-
-const CHECKS: [(Numbers, [[u16; 17]; 4], Result<(), ProfileFault>); 14] = [
-    (GOOD_NUMBERS, STRAIGHT, Ok(())),
+const CHECKS: [(Profile, Result<(), ProfileFault>); 14] = [
+    (GOOD, Ok(())),
+    (Profile { hdpi: 300, ..GOOD }, Err(ProfileFault::Resolution)),
+    (Profile { vdpi: 0, ..GOOD }, Err(ProfileFault::Resolution)),
+    (Profile { nozzles: 0, ..GOOD }, Err(ProfileFault::Nozzles)),
+    (Profile { pitch: 0, ..GOOD }, Err(ProfileFault::Pitch)),
     (
-        ((300, 720), (31, 8), 64, 240),
-        STRAIGHT,
-        Err(ProfileFault::Resolution),
-    ),
-    (
-        ((720, 0), (31, 8), 64, 240),
-        STRAIGHT,
-        Err(ProfileFault::Resolution),
-    ),
-    (
-        ((720, 720), (0, 8), 64, 240),
-        STRAIGHT,
-        Err(ProfileFault::Nozzles),
-    ),
-    (
-        ((720, 720), (31, 0), 64, 240),
-        STRAIGHT,
-        Err(ProfileFault::Pitch),
-    ),
-    (
-        ((720, 720), (32, 8), 64, 300),
-        STRAIGHT,
+        Profile {
+            nozzles: 32,
+            top: 300,
+            ..GOOD
+        },
         Err(ProfileFault::NotCoprime { gcd: 8 }),
     ),
     (
-        ((720, 360), (1, 26), 64, 240),
-        STRAIGHT,
+        Profile {
+            vdpi: 360,
+            nozzles: 1,
+            pitch: 26,
+            ..GOOD
+        },
         Err(ProfileFault::RowStep),
     ),
     (
-        ((720, 720), (31, 8), 64, 239),
-        STRAIGHT,
+        Profile { top: 239, ..GOOD },
         Err(ProfileFault::TopMargin { needs: 240 }),
     ),
     (
-        ((720, 720), (31, 8), 255, 240),
-        STRAIGHT,
+        Profile {
+            black_start: 255,
+            ..GOOD
+        },
         Err(ProfileFault::BlackStart),
     ),
-    (GOOD_NUMBERS, [HALF, FULL, STEPS, [0; 17]], Ok(())),
     (
-        GOOD_NUMBERS,
-        [ONES, STRAIGHT_CURVE, STRAIGHT_CURVE, STRAIGHT_CURVE],
+        Profile {
+            curves: [HALF, FULL, STEPS, [0; 17]],
+            ..GOOD
+        },
+        Ok(()),
+    ),
+    (
+        Profile {
+            curves: [ONES, STRAIGHT_CURVE, STRAIGHT_CURVE, STRAIGHT_CURVE],
+            ..GOOD
+        },
         Err(ProfileFault::Curve { ink: 0 }),
     ),
     (
-        GOOD_NUMBERS,
-        [STRAIGHT_CURVE, FALLS, STRAIGHT_CURVE, ONES],
+        Profile {
+            curves: [STRAIGHT_CURVE, FALLS, STRAIGHT_CURVE, ONES],
+            ..GOOD
+        },
         Err(ProfileFault::Curve { ink: 1 }),
     ),
     (
-        GOOD_NUMBERS,
-        [STRAIGHT_CURVE, HALF, FULL, FALLS],
+        Profile {
+            curves: [STRAIGHT_CURVE, HALF, FULL, FALLS],
+            ..GOOD
+        },
         Err(ProfileFault::Curve { ink: 3 }),
     ),
     (
-        ((720, 720), (31, 8), 255, 240),
-        [ONES; 4],
+        Profile {
+            black_start: 255,
+            curves: [ONES; 4],
+            ..GOOD
+        },
         Err(ProfileFault::BlackStart),
     ),
 ];
 
-// The good profile with these numbers and curves.
-fn profile_of(numbers: Numbers, curves: [[u16; 17]; 4]) -> Profile {
-    let ((hdpi, vdpi), (nozzles, pitch), black_start, top) = numbers;
-    Profile {
-        hdpi,
-        vdpi,
-        nozzles,
-        pitch,
-        black_start,
-        curves,
-        top,
-        ..GOOD
-    }
-}
-
 #[test]
 fn profile_checks_name_gcd_margin_and_step(rt: HostRuntime) {
-    for &(numbers, curves, answer) in &CHECKS {
-        assert_eq!(rt; profile_of(numbers, curves).check(), answer);
+    for (profile, answer) in &CHECKS {
+        assert_eq!(rt; profile.check(), *answer);
     }
 }
 
