@@ -1,7 +1,6 @@
 //! Pages of windows under a head, and what writing them gives.
 ghost use Rattle.base_definitions.specs.Limits.{most_columns, most_rows};
 ghost use Rattle.dead_nozzles.specs.Dead.{IsRising};
-ghost use Rattle.printer_definitions.specs.declared.inks.InkSet.{InkSet};
 ghost use Rattle.pwg_definitions.specs.Header.{IsWanted};
 ghost use Rattle.separation_definitions.specs.Windows.{wanted_by};
 ghost use Rattle.std.specs.Prelude.{IfOk, IsTrue, ◌≡◌, ◌≤◌};
@@ -75,18 +74,6 @@ fn planes_of(alloc: Global, dots: Dots, width: u32, rows: u32) -> Result<Planes,
     Ok(planes)
 }
 
-// The simplest printer with a head of so many nozzles, which are so many rows apart.
-fn printer_of(nozzles: u8, pitch: u8) -> Profile
-    ensures { result.inks ≡ InkSet.K }
-{
-    Profile {
-        nozzles,
-        pitch,
-        top: u16::from(nozzles.max(1) - 1) * u16::from(pitch),
-        ..TINY1
-    }
-}
-
 // Whether the printer takes a grey page.
 fn is_taken(p: &Profile, f: PageForm) -> bool
     ensures { IsTrue result → IsWanted (wanted_by p.now) f }
@@ -113,10 +100,16 @@ pub fn write<R: Abort + Threads + Sync>(
     requires { IsRising dead.now }
 {
     let (way, (nozzles, pitch), (width, rows), dots) = page;
-    let p = printer_of(nozzles, pitch);
+    let top = u16::from(nozzles.max(1) - 1) * u16::from(pitch);
+    let p = Profile {
+        nozzles,
+        pitch,
+        top,
+        ..TINY1
+    };
     let f = PageForm {
         width,
-        height: rows.saturating_add(u32::from(p.top)),
+        height: rows.saturating_add(u32::from(top)),
         kind: Kind::Gray8,
         bytes_per_line: width,
     };
@@ -133,11 +126,11 @@ pub fn write<R: Abort + Threads + Sync>(
     let answer = match way {
         Way::Plain => write_page(&team, alloc, &p, f, &planes, &mut sink),
         Way::Shingled => {
-            assert!(rt; shingle_fits(p.nozzles, p.pitch));
+            assert!(rt; shingle_fits(nozzles, pitch));
             write_shingled(&team, alloc, &p, f, &planes, &mut sink)
         }
         Way::Healed => {
-            assert!(rt; check_dead(p.nozzles, dead) == Ok(()));
+            assert!(rt; check_dead(nozzles, dead) == Ok(()));
             write_healed(&team, alloc, &p, f, &planes, dead, &mut sink)
         }
     };
