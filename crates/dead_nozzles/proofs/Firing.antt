@@ -8,7 +8,7 @@ use Rattle.std.specs.List.{count_by, sum_by}
 use Rattle.base_definitions.specs.Counting.{count_from}
 use Rattle.weave_definitions.specs.Weave.{pass_count}
 use Rattle.weave_definitions.proofs.Rounds.{Inverse, inverse}
-use Rattle.weave_definitions.proofs.Rows.{Counts, StandsOn, pass-low, place-only, row_under as weave_row}
+use Rattle.weave_definitions.proofs.Rows.{Counts, StandsOn, own-counts, pass-low, place-only, row_under as weave_row}
 use Rattle.weave_definitions.proofs.Firings.{count-flat}
 use Rattle.dead_nozzles.specs.Dead.{has}
 use Rattle.dead_nozzles.specs.Strokes.{Head, Shot, HeadStroke, firings_of, head_rows, is_fired, regular_strokes, row_under, shot, stroke_at}
@@ -181,13 +181,7 @@ one-place h y t i t' i' some near gcd few few' a b =
     let n : ℕ = h.nozzles in
     let found : Inverse h.nozzles h.pitch = inverse h.nozzles h.pitch some near gcd in
     let first : ℕ = (h.nozzles - 1) * h.pitch in
-    let counts : Counts h.nozzles h.pitch h.nozzles h.pitch found.number first = record {
-      round_is = refl;
-      step_is = refl;
-      first_is = refl;
-      some = some;
-      inverse_is = found.is;
-    } in
+    let counts : Counts n h.pitch n h.pitch found.number first = own-counts n h.pitch some found in
     let one = place-only h.nozzles h.pitch h.height y h.nozzles h.pitch found.number first t i counts few
     (weave_row h.nozzles h.pitch h.height t i y (stands h y t i a)) in
     let other = place-only h.nozzles h.pitch h.height y h.nozzles h.pitch found.number first t' i' counts few'

@@ -10,7 +10,7 @@ use Rattle.base_definitions.specs.Counting.{count_from}
 use Rattle.weave_definitions.specs.Weave.{Firing, firing, nozzle_row, pass_count, passes}
 use Rattle.weave_definitions.specs.Weave.{FiresEachRowOnce}
 use Rattle.weave_definitions.proofs.Rounds.{Inverse, inverse}
-use Rattle.weave_definitions.proofs.Rows.{Counts, StandsOn, pass-low, place-fires, place-only, stands_on}
+use Rattle.weave_definitions.proofs.Rows.{Counts, StandsOn, own-counts, pass-low, place-fires, place-only, stands_on}
 
 -- ---- sums and counts
 
@@ -100,13 +100,7 @@ unfolding row_count pass_rows
 low-row n pitch height y some near gcd low =
     let found : Inverse n pitch = inverse n pitch some near gcd in
     let first : ℕ = (n - 1) * pitch in
-    let counts : Counts n pitch n pitch found.number first = record {
-      round_is = refl;
-      step_is = refl;
-      first_is = refl;
-      some = some;
-      inverse_is = found.is;
-    } in
+    let counts : Counts n pitch n pitch found.number first = own-counts n pitch some found in
     let i : ℕ = (y + first) * found.number % n in
     let t : ℕ = (y + first - i * pitch) / n in
     let hit : nozzle_row n pitch height t i ≡ Some y = place-fires n pitch height y n pitch found.number first counts low in

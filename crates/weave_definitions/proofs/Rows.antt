@@ -5,6 +5,7 @@ use Rattle.std.proofs.Math.Nat.{mod-eq_of_lt, mul-add-mod_self_right, mul-div_ca
 use Rattle.std.proofs.lemmas.Bool.{and_from, cases_lt, le-leb, leb-true, lt-ltb, ltb-true}
 use Rattle.std.proofs.lemmas.Nat.{div-add-mod', le-div, mod_below, mul-mod_first, mul-mod_second}
 use Rattle.weave_definitions.specs.Weave.{nozzle_row, pass_count}
+use Rattle.weave_definitions.proofs.Rounds.{Inverse}
 
 -- ---- the row under a nozzle
 
@@ -110,6 +111,16 @@ pub record Counts (n pitch round step times first : ℕ) : Type 0 where
   pub first_is : first ≡ (n - 1) * pitch
   pub some : 1 ≤ round
   pub inverse_is : times * step % round ≡ 1 % round
+
+-- those of the head itself
+pub own-counts : (n pitch : ℕ) → 1 ≤ n → (found : Inverse n pitch) → Counts n pitch n pitch found.number ((n - 1) * pitch)
+own-counts n pitch some found = record {
+  round_is = refl;
+  step_is = refl;
+  first_is = refl;
+  some = some;
+  inverse_is = found.is;
+}
 
 -- the same sum of a pass and a nozzle, in either's names
 same-sum : (n pitch round step times first t i : ℕ) → Counts n pitch round step times first → t * round + i * step ≡ t * n + i * pitch
