@@ -2,7 +2,7 @@
 ghost use Rattle.printer_profile.specs.Validity.{check};
 ghost use Rattle.std.specs.Prelude.{IsOk};
 
-use crate::stages::Stage;
+use crate::stages::PageStage;
 use dot_planes::TileAmounts;
 use ink_separation::Separator;
 use printer_profile::Profile;
@@ -19,7 +19,7 @@ pub struct Page {
 /// What was made of the lines so far.
 #[derive(Drop)]
 pub struct Lines {
-    stage: Stage,
+    stage: PageStage,
     page: Page,
     separator: Separator,
     // How many lines there were.
@@ -30,7 +30,7 @@ pub struct Lines {
 
 impl Lines {
     /// No lines yet, for a printer with this profile.
-    pub fn make(stage: Stage, page: Page, profile: &Profile) -> Lines
+    pub fn make(stage: PageStage, page: Page, profile: &Profile) -> Lines
         requires checked { IsOk (check profile.now) }
     {
         Lines {
@@ -55,7 +55,7 @@ impl Lines {
         let top = u64::from(window.top);
         let printed = top <= self.lines && self.lines - top < u64::from(window.height);
         self.lines = self.lines.saturating_add(1);
-        if self.stage == Stage::Read || !printed {
+        if self.stage == PageStage::Read || !printed {
             return;
         }
         separate(&self.separator, line, &mut self.amounts);

@@ -17,7 +17,7 @@ use weave_base::Source;
 
 /// How far a page is taken.
 #[derive(Clone, Copy, PartialEq, Eq)]
-pub enum Stage {
+pub enum PageStage {
     /// Its lines are read.
     Read,
     /// Its inks are separated, too.
@@ -27,11 +27,11 @@ pub enum Stage {
 }
 
 /// The stage of a name.
-pub fn stage_named(name: &str) -> Option<Stage> {
+pub fn stage_named(name: &str) -> Option<PageStage> {
     match name {
-        "read" => Some(Stage::Read),
-        "separate" => Some(Stage::Separate),
-        "slabs" => Some(Stage::Slabs),
+        "read" => Some(PageStage::Read),
+        "separate" => Some(PageStage::Separate),
+        "slabs" => Some(PageStage::Slabs),
         _ => None,
     }
 }
@@ -41,7 +41,7 @@ pub fn stage_named(name: &str) -> Option<Stage> {
 pub fn run_stage<R: Threads + Sync, S: Source>(
     rt: &R,
     alloc: Global,
-    stage: Stage,
+    stage: PageStage,
     profile: &Profile,
     kernel: Kernel,
     workers: u8,
@@ -52,7 +52,7 @@ pub fn run_stage<R: Threads + Sync, S: Source>(
     requires most_workers { workers ≤ 64 }
 {
     let mut reader = PageReader::begin(alloc, input)?;
-    if stage == Stage::Slabs {
+    if stage == PageStage::Slabs {
         let team = Team {
             threads: rt,
             workers,
@@ -69,7 +69,7 @@ pub fn run_stage<R: Threads + Sync, S: Source>(
 
 // Reads the next page line by line, and takes each line as far as the stage.
 fn take_lines<S: Source>(
-    stage: Stage,
+    stage: PageStage,
     profile: &Profile,
     reader: &mut PageReader,
     input: &mut S,
