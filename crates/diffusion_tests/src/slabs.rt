@@ -9,14 +9,7 @@ const KERNELS: [Kernel; 3] = [Kernel::Floyd, Kernel::Jarvis, Kernel::Stucki];
 fn slabs_have_the_dots_of_the_whole_window(rt: HostRuntime) {
     for &kernel in &KERNELS {
         for (width, inks) in [(1, 1), (2, 3), (63, 1), (66, 4), (130, 2), (200, 1)] {
-            let case = Case {
-                kernel,
-                all: None,
-                error: 0,
-                width,
-                inks,
-                slabs: &[64, 32, 39],
-            };
+            let case = Case::mixed(kernel, width, inks, &[64, 32, 39]);
             is_right(&rt, rt.alloc(), &case, 2, &OpenGate);
         }
     }
@@ -25,14 +18,7 @@ fn slabs_have_the_dots_of_the_whole_window(rt: HostRuntime) {
 #[test]
 fn slabs_that_wait_are_laid(rt: HostRuntime) {
     for workers in [1, 2, 4] {
-        let case = Case {
-            kernel: Kernel::Jarvis,
-            all: None,
-            error: 0,
-            width: 130,
-            inks: 2,
-            slabs: &[64, 32, 39],
-        };
+        let case = Case::mixed(Kernel::Jarvis, 130, 2, &[64, 32, 39]);
         let wrong = wrong_waiting(&rt, rt.alloc(), &case, workers);
         assert_eq!(rt; wrong, Some(0), "by {workers}");
     }
@@ -55,12 +41,8 @@ fn a_slab_has_the_dots_of_rows_one_after_another(rt: HostRuntime) {
         for &(width, slabs, inks) in &SIZES {
             for all in [None, Some(0), Some(127), Some(128), Some(255)] {
                 let case = Case {
-                    kernel,
                     all,
-                    error: 0,
-                    width,
-                    inks,
-                    slabs,
+                    ..Case::mixed(kernel, width, inks, slabs)
                 };
                 is_right(&rt, rt.alloc(), &case, 1, &OpenGate);
             }
@@ -76,12 +58,8 @@ fn slabs_below_extreme_errors_have_the_dots_and_bottom_edges_of_the_rule(rt: Hos
             for &slabs in &HEIGHTS {
                 for error in [-2040, 0, 2039] {
                     let case = Case {
-                        kernel,
-                        all: None,
                         error,
-                        width,
-                        inks: 1,
-                        slabs,
+                        ..Case::mixed(kernel, width, 1, slabs)
                     };
                     is_right(&rt, rt.alloc(), &case, 1, &OpenGate);
                 }
@@ -93,12 +71,8 @@ fn slabs_below_extreme_errors_have_the_dots_and_bottom_edges_of_the_rule(rt: Hos
 #[test]
 fn errors_cross_the_border_of_slabs_at_row_256(rt: HostRuntime) {
     let case = Case {
-        kernel: Kernel::Floyd,
         all: Some(0x64),
-        error: 0,
-        width: 1,
-        inks: 1,
-        slabs: &[256, 1],
+        ..Case::mixed(Kernel::Floyd, 1, 1, &[256, 1])
     };
     is_right(&rt, rt.alloc(), &case, 1, &OpenGate);
 }

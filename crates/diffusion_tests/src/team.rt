@@ -18,12 +18,10 @@ const LEVEL: Case = Case {
 
 // A small slab.
 const SMALL: Case = Case {
-    kernel: Kernel::Floyd,
     all: None,
-    error: 0,
     width: 130,
-    inks: 1,
     slabs: &[40],
+    ..LEVEL
 };
 
 #[test]
@@ -33,14 +31,7 @@ fn any_number_of_workers_gives_the_dots_of_the_plain_program(rt: HostRuntime) {
         (Kernel::Jarvis, 66, 4),
         (Kernel::Stucki, 1, 2),
     ] {
-        let case = Case {
-            kernel,
-            all: None,
-            error: 0,
-            width,
-            inks,
-            slabs: &[64, 39],
-        };
+        let case = Case::mixed(kernel, width, inks, &[64, 39]);
         for workers in [1, 2, 8, 64] {
             is_right(&rt, rt.alloc(), &case, workers, &OpenGate);
         }

@@ -32,6 +32,18 @@ pub(crate) struct Case {
 }
 
 impl Case {
+    /// A window of pseudo-random amounts below errors of 0.
+    pub(crate) fn mixed(kernel: Kernel, width: u32, inks: u8, slabs: &'static [u32]) -> Case {
+        Case {
+            kernel,
+            all: None,
+            error: 0,
+            width,
+            inks,
+            slabs,
+        }
+    }
+
     fn height(&self) -> u32 {
         let mut height = 0u32;
         for rows in self.slabs {

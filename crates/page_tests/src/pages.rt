@@ -1,9 +1,10 @@
 //! Pages of windows under a head, and what writing them gives.
 ghost use Rattle.base_definitions.specs.Limits.{most_columns, most_rows};
 ghost use Rattle.dead_nozzles.specs.Dead.{IsRising};
+ghost use Rattle.printer_definitions.specs.Inks.{inks_of};
 ghost use Rattle.pwg_definitions.specs.Header.{IsWanted};
 ghost use Rattle.separation_definitions.specs.Windows.{wanted_by};
-ghost use Rattle.std.specs.Prelude.{IfOk, IsTrue, ◌≡◌, ◌≤◌};
+ghost use Rattle.std.specs.Prelude.{IfOk, IsTrue, length, ◌≡◌, ◌≤◌};
 
 use crate::checks::same;
 use base_definitions::Memory;
@@ -74,6 +75,29 @@ fn planes_of(alloc: Global, dots: Dots, width: u32, rows: u32) -> Result<Planes,
     Ok(planes)
 }
 
+// A printer with this head, and the least top margin that it can have.
+fn printer_of((nozzles, pitch): (u8, u8)) -> Profile
+    ensures rows { result.vdpi ≡ 360 }
+    ensures inks { length (inks_of result.inks) ≡ 1 }
+{
+    Profile {
+        nozzles,
+        pitch,
+        top: u16::from(nozzles.max(1) - 1) * u16::from(pitch),
+        ..TINY1
+    }
+}
+
+// A grey page with a window of this size.
+fn form_of(p: &Profile, (width, rows): (u32, u32)) -> PageForm {
+    PageForm {
+        width,
+        height: rows.saturating_add(u32::from(p.top)),
+        kind: Kind::Gray8,
+        bytes_per_line: width,
+    }
+}
+
 // Whether the printer takes a grey page.
 fn is_taken(p: &Profile, f: PageForm) -> bool
     ensures { IsTrue result → IsWanted (wanted_by p.now) f }
@@ -99,20 +123,9 @@ pub fn write<R: Abort + Threads + Sync>(
 ) -> Result<(Result<PageSum, WriteStop>, MemSink), Fail>
     requires { IsRising dead.now }
 {
-    let (way, (nozzles, pitch), (width, rows), dots) = page;
-    let top = u16::from(nozzles.max(1) - 1) * u16::from(pitch);
-    let p = Profile {
-        nozzles,
-        pitch,
-        top,
-        ..TINY1
-    };
-    let f = PageForm {
-        width,
-        height: rows.saturating_add(u32::from(top)),
-        kind: Kind::Gray8,
-        bytes_per_line: width,
-    };
+    let (way, head, size, dots) = page;
+    let p = printer_of(head);
+    let f = form_of(&p, size);
     assert!(rt; p.check() == Ok(()));
     assert!(rt; is_taken(&p, f));
     let window = p.window(f);
@@ -126,11 +139,11 @@ pub fn write<R: Abort + Threads + Sync>(
     let answer = match way {
         Way::Plain => write_page(&team, alloc, &p, f, &planes, &mut sink),
         Way::Shingled => {
-            assert!(rt; shingle_fits(nozzles, pitch));
+            assert!(rt; shingle_fits(p.nozzles, p.pitch));
             write_shingled(&team, alloc, &p, f, &planes, &mut sink)
         }
         Way::Healed => {
-            assert!(rt; check_dead(nozzles, dead) == Ok(()));
+            assert!(rt; check_dead(p.nozzles, dead) == Ok(()));
             write_healed(&team, alloc, &p, f, &planes, dead, &mut sink)
         }
     };
