@@ -4,7 +4,7 @@ use driver_fixtures::{
     Left, add_page, begin, failing_shelf, joined, no_files, one_file, plain, roomy, run_over,
     source, words,
 };
-use fnv_hash::hash_of;
+use hash_fixtures::hash_of;
 use ink_meter::Meter;
 use pwg_header::Kind;
 use std::alloc::{AllocError, Global};

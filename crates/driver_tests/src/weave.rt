@@ -8,7 +8,7 @@ use crate::machine::execute;
 use driver_fixtures::{
     BLACK_BODY, Left, add_header, begin, black_pages, no_files, plain, run_over, sink,
 };
-use fnv_hash::hash_of;
+use hash_fixtures::hash_of;
 use known_jobs::TINY_JOB;
 use pwg_header::Kind;
 use std::alloc::Global;

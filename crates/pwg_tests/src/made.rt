@@ -1,7 +1,7 @@
 //! Made streams, appended and read as a source. What is expected was computed by a program that is not of this
 //! repository.
 use crate::checks::{WANT, same, same_bytes};
-use fnv_hash::hash_of;
+use hash_fixtures::hash_of;
 use page_maker::{PageMaker, made_form, make_pages};
 use pwg_header::{HEADER_LEN, Kind, write_header};
 use pwg_stream::PageReader;

@@ -1,5 +1,5 @@
 //! The dots of a slab of 200 columns and 70 rows, in one ink, where every amount is 100 and every error above it 0.
-use fnv_hash::hash_of;
+use hash_fixtures::hash_of;
 
 /// How many bytes rows of dots have, how many dots, and the hash of all of them.
 pub type Measure = (usize, u64, u64);
